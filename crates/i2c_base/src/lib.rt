@@ -1,0 +1,39 @@
+//! The words of the bus that every other crate uses: addresses, messages and transfers, what a target
+//! sees and answers, the parts of a board, and the entries of the journal.
+//!
+//! Its public contract: `Addr` holds exactly the addresses that a target may have, and a `Transfer`
+//! only what fits its limits. Definitions: `specs/`, a file for each subject.
+//! Standards: UM10204, sections 3.1.10 and 3.1.12; Linux's i2c-protocol and i2c-topology.
+#![tactic(auto)]
+
+mod addr;
+mod board;
+mod bytes;
+mod caller;
+mod entry;
+mod errno;
+mod event;
+mod flags;
+mod ids;
+mod memory;
+mod port;
+mod reply;
+mod rules;
+mod transfer;
+mod tree;
+
+pub use addr::Addr;
+pub use board::{DeviceKind, DeviceSpec, Idle, LockMode, MuxKind, MuxSpec, RootSpec, Run, Size};
+pub use bytes::{ByteList, Bytes};
+pub use caller::Caller;
+pub use entry::{End, Entry, Purpose};
+pub use errno::Errno;
+pub use event::{Answer, Event, Target};
+pub use flags::MsgFlags;
+pub use ids::{DevId, LockId, MuxId, Node, SegId};
+pub use memory::NoMemory;
+pub use port::{Phase, PortCall};
+pub use reply::{Cut, Reply};
+pub use rules::{Item, RuleBroken};
+pub use transfer::{Kind, Msg, TooLong, Transfer};
+pub use tree::{Grant, Way};

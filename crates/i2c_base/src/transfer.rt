@@ -1,0 +1,241 @@
+ghost use Rattle.std.specs.Prelude.{◌≡◌, ◌+◌, ◌^◌, ◌<◌, ◌≤◌, ◌↔◌, [], ◌∷◌, ◌++◌, length, sum_by, IsTrue, IsOk, OnOk, OnErr};
+ghost use Rattle.arrayvec.specs.ArrayVec.{array_vec_len};
+ghost use Rattle.i2c_base.specs.Transfer.{HasRoom, size_of, counted_read};
+
+use crate::{Addr, MsgFlags};
+use arrayvec::ArrayVec;
+use bitflags::Flags;
+use std::marker::Model;
+
+/// Whether a transfer is a call of SMBus or a plain one of I2C.
+#[derive(Clone, Copy, Debug, PartialEq, Eq, Hash)]
+pub enum Kind {
+    Smbus,
+    Plain,
+}
+
+/// A message: one start, the address byte, and its data. Its bytes stand in its transfer.
+#[derive(Clone, Copy, Debug, Default, PartialEq, Eq)]
+pub struct Msg {
+    pub addr: Addr,
+    pub flags: MsgFlags,
+    /// How many bytes are written or read. A counted read asks for so many beside those that it counts.
+    pub len: u16,
+}
+
+impl Msg {
+    ghost use Rattle.i2c_base.specs.Transfer.{is_read, is_counted};
+
+    /// It is a read.
+    pub fn is_read(&self) -> bool
+        ensures { result ≡ is_read self.now }
+    {
+        self.flags.contains(MsgFlags::READ)
+    }
+
+    /// It is a read whose first byte says how many more come.
+    pub fn is_counted(&self) -> bool
+        ensures { result ≡ is_counted self.now }
+    {
+        self.flags.contains(MsgFlags::RECV_LEN)
+    }
+}
+
+/// The message would pass a limit of its transfer.
+#[derive(Clone, Copy, Debug, PartialEq, Eq, Hash)]
+pub struct TooLong;
+
+/// Messages up to one stop, on one bus, joined by repeated starts. A contract sees its parts as plain lists.
+///
+/// It has at most 42 messages and 4,096 bytes, and each message at most 512 (the limits of Linux's
+/// `I2C_RDWR`, and of the buffers here). A counted read stands for 258 bytes.
+#[derive(Debug, Drop)]
+pub struct Transfer {
+    bus: u16,
+    kind: Kind,
+    force: bool,
+    msgs: ArrayVec<Msg, 42>,
+    out: ArrayVec<u8, 4096>,
+}
+
+impl Model for Transfer {
+    ghost use Rattle.i2c_base.specs.Transfer.{TransferView, IsTransfer};
+
+    ghost Value = { TransferView };
+
+    ghost view = { λ t. record { bus = t.bus; kind = t.kind; force = t.force; msgs = t.msgs.items; out = t.out.items } };
+
+    ghost invariant = { λ t. IsTransfer t.msgs.items t.out.items };
+}
+
+impl Transfer {
+    ghost use Rattle.i2c_base.specs.Transfer.{HasRoom, IsTransfer, with_message, written, plain_read, counted_read, COUNTED_SIZE};
+
+    /// The most messages of a transfer.
+    pub const MOST_MESSAGES: usize = 42;
+
+    /// The most bytes of a transfer.
+    pub const MOST_BYTES: usize = 4096;
+
+    /// The most bytes of a message.
+    pub const MOST_LENGTH: usize = 512;
+
+    /// A transfer with no message yet. With `force` it goes to devices that a driver is bound to as well.
+    pub fn new(bus: u16, kind: Kind, force: bool) -> Self
+        ensures { result ≡ record { bus = bus; kind = kind; force = force; msgs = []; out = [] } }
+    {
+        Transfer {
+            bus,
+            kind,
+            force,
+            msgs: ArrayVec::new(),
+            out: ArrayVec::new(),
+        }
+    }
+
+    /// Adds a write of these bytes. It is too long where 42 messages are there, where it has more than 512
+    /// bytes, or where the sum would pass 4,096; the transfer is then as it was.
+    #[tactic(auto, using(crate::proofs::TransferLemmas::written_size))]
+    pub fn add_write(&mut self, addr: Addr, bytes: &[u8]) -> Result<(), TooLong>
+        ensures fits { IsOk result ↔ HasRoom self.old.msgs (length bytes.now) (length bytes.now) }
+        ensures ok { OnOk result (self.new ≡ with_message self.old (written addr (length bytes.now)) bytes.now) }
+        ensures err { OnErr result (self.new ≡ self.old) }
+    {
+        if !has_room(self.msgs.as_slice(), bytes.len(), bytes.len()) {
+            return Err(TooLong);
+        }
+        let len = bytes.len() as u16;
+        append(
+            &mut self.msgs,
+            &mut self.out,
+            Msg {
+                addr,
+                flags: MsgFlags::empty(),
+                len,
+            },
+            bytes,
+        );
+        Ok(())
+    }
+
+    /// Adds a read of `len` bytes. It is too long where it has none, and else as a write is.
+    #[tactic(auto, using(crate::proofs::TransferLemmas::written_size))]
+    pub fn add_read(&mut self, addr: Addr, len: u16) -> Result<(), TooLong>
+        ensures fits { IsOk result ↔ ((0 < len) × HasRoom self.old.msgs len len) }
+        ensures ok { OnOk result (self.new ≡ with_message self.old (plain_read addr len) []) }
+        ensures err { OnErr result (self.new ≡ self.old) }
+    {
+        if len == 0 || !has_room(self.msgs.as_slice(), len as usize, len as usize) {
+            return Err(TooLong);
+        }
+        append(
+            &mut self.msgs,
+            &mut self.out,
+            Msg {
+                addr,
+                flags: MsgFlags::READ,
+                len,
+            },
+            &[],
+        );
+        Ok(())
+    }
+
+    /// Adds a counted read: the target's first byte says how many more come, and with `extra` one more follows
+    /// (SMBus 3.2, Block Read). It stands for 258 bytes, and is too long as a write of these is.
+    #[tactic(auto, using(crate::proofs::TransferLemmas::written_size))]
+    pub fn add_counted(&mut self, addr: Addr, extra: bool) -> Result<(), TooLong>
+        ensures fits { IsOk result ↔ HasRoom self.old.msgs COUNTED_SIZE COUNTED_SIZE }
+        ensures ok { OnOk result (self.new ≡ with_message self.old (counted_read addr extra) []) }
+        ensures err { OnErr result (self.new ≡ self.old) }
+    {
+        if !has_room(self.msgs.as_slice(), COUNTED_SIZE, COUNTED_SIZE) {
+            return Err(TooLong);
+        }
+        let msg = counted(addr, extra);
+        append(&mut self.msgs, &mut self.out, msg, &[]);
+        Ok(())
+    }
+
+    pub fn bus(&self) -> u16
+        ensures { result ≡ self.now.bus }
+    {
+        self.bus
+    }
+
+    pub fn kind(&self) -> Kind
+        ensures { result ≡ self.now.kind }
+    {
+        self.kind
+    }
+
+    pub fn force(&self) -> bool
+        ensures { result ≡ self.now.force }
+    {
+        self.force
+    }
+
+    /// Its messages, in order.
+    pub fn msgs(&self) -> &[Msg]
+        ensures value { result.now ≡ self.now.msgs }
+        ensures kept { IsTransfer self.now.msgs self.now.out }
+    {
+        self.msgs.as_slice()
+    }
+
+    /// The bytes of its writes, one after the other.
+    pub fn out(&self) -> &[u8]
+        ensures value { result.now ≡ self.now.out }
+        ensures kept { IsTransfer self.now.msgs self.now.out }
+    {
+        self.out.as_slice()
+    }
+}
+
+/// How many bytes a counted read stands for.
+const COUNTED_SIZE: usize = 258;
+
+// How many bytes a message stands for in the sum of its transfer.
+fn size(msg: &Msg) -> usize
+    ensures value { result ≡ size_of msg.now }
+    ensures small { result < 2 ^ 16 }
+{
+    if msg.is_counted() {
+        COUNTED_SIZE
+    } else {
+        msg.len as usize
+    }
+}
+
+// Whether one more message of this length and size is within the limits.
+fn has_room(msgs: &[Msg], len: usize, size_more: usize) -> bool
+    requires { sum_by size_of msgs.now ≤ 4096 }
+    ensures { IsTrue result ↔ HasRoom msgs.now len size_more }
+{
+    let sum: usize = msgs.iter().map(size).sum();
+    msgs.len() < Transfer::MOST_MESSAGES
+        && len <= Transfer::MOST_LENGTH
+        && size_more <= Transfer::MOST_BYTES - sum
+}
+
+// A counted read, which asks for one more byte with `extra`.
+fn counted(addr: Addr, extra: bool) -> Msg
+    ensures { result ≡ counted_read addr extra }
+{
+    Msg {
+        addr,
+        flags: MsgFlags::READ.union(MsgFlags::RECV_LEN),
+        len: if extra { 2 } else { 1 },
+    }
+}
+
+// Puts a message and its bytes at the end.
+fn append(msgs: &mut ArrayVec<Msg, 42>, out: &mut ArrayVec<u8, 4096>, msg: Msg, bytes: &[u8])
+    requires count { array_vec_len msgs.old < 42 }
+    requires room { array_vec_len out.old + length bytes.now ≤ 4096 }
+    ensures msgs { msgs.new.items ≡ msgs.old.items ++ msg ∷ [] }
+    ensures out { out.new.items ≡ out.old.items ++ bytes.now }
+{
+    msgs.push(msg);
+    let _ = out.try_extend_from_slice(bytes);
+}

@@ -1,0 +1,20 @@
+use crate::{DevId, MuxId};
+
+/// To whom an address on a bus leads.
+#[derive(Clone, Copy, Debug, PartialEq, Eq, Hash)]
+pub enum Grant {
+    Named(DevId),
+    Nobody,
+    /// Another has it: a mux chip on the way, something below, or a bound device.
+    Busy,
+}
+
+/// Whether the muxes over a bus let a message through.
+#[derive(Clone, Copy, Debug, PartialEq, Eq, Hash)]
+pub enum Way {
+    Clear,
+    /// This mux is absent: its chip acknowledges nothing.
+    NoAck(MuxId),
+    /// This arbitrator stays with its other controller.
+    Held(MuxId),
+}

@@ -1,0 +1,5 @@
+pub use Rattle.i2c_spec.specs.Board
+pub use Rattle.i2c_spec.specs.Plain
+pub use Rattle.i2c_spec.specs.Tree
+pub use Rattle.i2c_spec.specs.Grant
+pub use Rattle.i2c_spec.specs.Rules

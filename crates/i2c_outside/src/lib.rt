@@ -1,0 +1,21 @@
+//! What the program is handed: a shelf of files, a sink for its output, and a rig with a port for each root bus.
+//!
+//! Its public contract: a call fails only where its object's own count of faults rose in that call, and where an
+//! object tells what it holds, a call that succeeds does what its trait says: a port acts on the world of its root.
+//! Definitions: `specs/Causes.antt`, and `World`, `Phases` of the crates below.
+#![tactic(auto)]
+
+mod failed;
+mod gate;
+mod port;
+mod rig;
+mod shelf;
+mod sink;
+
+pub use failed::{Failed, ReadFail, RigFail};
+pub use gate::{Gate, OpenGate, Point};
+pub use i2c_base::{Phase, PortCall};
+pub use port::Port;
+pub use rig::Rig;
+pub use shelf::Shelf;
+pub use sink::Sink;

@@ -1,0 +1,64 @@
+-- Every device of a board, whatever its kind, as one type of states with one table. A further kind of device adds
+-- a case, a line of each function below, and the file of its table.
+use Rattle.std.specs.Prelude.{◌≡◌, ℕ, true, false, List}
+use Rattle.i2c_base.specs.declared.board.DeviceKind.{DeviceKind}
+use Rattle.i2c_base.specs.declared.board.DeviceKind.TheVariants as kind
+use Rattle.i2c_base.specs.declared.event.Event.{Event}
+use Rattle.i2c_base.specs.declared.event.Event.TheVariants as event
+use Rattle.i2c_base.specs.declared.event.Answer.{Answer}
+use Rattle.i2c_base.specs.declared.event.Answer.TheVariants as answer
+use Rattle.i2c_base.specs.Board.{DeviceView, RunView}
+use Rattle.i2c_base.specs.Table.{Table}
+use Rattle.i2c_spec.specs.Regs.{RegsView, regs_after, regs_answer, regs_sends, regs_opening}
+
+pub data TargetState : Type 0 where
+  Regs : (x : RegsView) → TargetState
+  -- a device of a kind whose table isn't here yet: it acknowledges nothing
+  Silent : TargetState
+
+abbrev pub silent_answer : Event → Answer
+silent_answer (event.Start reading) = answer.Nack
+silent_answer (event.Put byte) = answer.Nack
+silent_answer (event.Get ack) = answer.Byte 255
+silent_answer event.Other = answer.Nothing
+silent_answer event.Stop = answer.Nothing
+
+abbrev pub state_after : TargetState → Event → TargetState
+state_after (Regs x) e = Regs (regs_after x e)
+state_after Silent e = Silent
+
+abbrev pub state_answer : TargetState → Event → Answer
+state_answer (Regs x) e = regs_answer x e
+state_answer Silent e = silent_answer e
+
+abbrev pub state_sends : TargetState → ℕ
+state_sends (Regs x) = regs_sends x x.phase
+state_sends Silent = 255
+
+abbrev pub state_hold : TargetState → ℕ
+state_hold (Regs x) = x.hold
+state_hold Silent = 0
+
+abbrev pub state_table : Table TargetState
+state_table = record { after = state_after; answer = state_answer; sends = state_sends; hold = state_hold }
+
+-- a device as it is opened
+abbrev pub state_of : DeviceKind → List RunView → TargetState
+state_of (kind.Regs hold) set = Regs (regs_opening hold set)
+state_of (kind.Eeprom size fill busy wp) set = Silent
+state_of (kind.Lm75 raw) set = Silent
+state_of (kind.Smbus width flip) set = Silent
+
+abbrev pub opening_state : DeviceView → TargetState
+opening_state d = state_of d.kind d.set
+
+-- a state is quiet where starts for others and stops leave it as it is
+pub record IsQuiet {X : Type 0} (t : Table X) (x : X) : Type 0 where
+  pub other : t.after x event.Other ≡ x
+  pub stop : t.after x event.Stop ≡ x
+
+-- what a table promises: after a stop a target is quiet, and a byte that is read is the one that it sends
+pub record IsFairTable {X : Type 0} (t : Table X) : Type 0 where
+  pub stops : (x : X) → IsQuiet t (t.after x event.Stop)
+  pub sends : (x : X) → t.answer x (event.Get true) ≡ answer.Byte (t.sends x)
+  pub sends_last : (x : X) → t.answer x (event.Get false) ≡ answer.Byte (t.sends x)

@@ -1,0 +1,20 @@
+//! What the bus means: the board's tree, the grant of an address, the targets, the world of a root, one
+//! message, and the flat world in which every transfer happens alone.
+//!
+//! The definitions stand in `specs/`, a file for each subject, over plain records and lists.
+#![tactic(auto)]
+
+ghost use Rattle.std.specs.Prelude.{◌≡◌, [], ◌∷◌, true};
+ghost use Rattle.i2c_spec.specs.Tree.{hops};
+ghost use Rattle.i2c_spec.specs.Grant.{grant_of, way_of};
+ghost use Rattle.i2c_spec.specs.Rules.{IsFirstBroken};
+ghost use Rattle.i2c_spec.specs.Plain.{IsPlainBoard};
+ghost use Rattle.i2c_spec.specs.World.{World, openings, after};
+ghost use Rattle.i2c_spec.specs.Flat.{flat};
+ghost use Rattle.i2c_spec.specs.History.{history};
+ghost use Rattle.i2c_spec.specs.Cost.{cost_of};
+ghost use Rattle.i2c_spec.specs.Fair.{IsFairCaller};
+
+pub fn probe()
+    ensures { true ≡ true }
+{}
