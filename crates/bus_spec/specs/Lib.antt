@@ -8,6 +8,8 @@ pub mod Past
 pub mod Stepwise
 pub mod Legal
 pub mod Schedule
+pub mod Play
+pub mod Rows
 pub use Rattle.i2c_spec.specs.Tree
 pub use Rattle.i2c_spec.specs.Grant
 pub use Rattle.i2c_spec.specs.World

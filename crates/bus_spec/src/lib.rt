@@ -4,10 +4,12 @@
 //! The definitions stand in `specs/`, a file for each subject. A journal's past is read newest entry first.
 #![tactic(auto)]
 
-ghost use Rattle.std.specs.Prelude.{◌≡◌, true};
-ghost use Rattle.bus_spec.specs.Legal.{IsLegal};
-ghost use Rattle.bus_spec.specs.Schedule.{Follows};
+mod rows;
 
-pub fn probe()
-    ensures { true ≡ true }
-{}
+pub use rows::{
+    a_failed_close_fails_its_transfer, a_failed_deselect_is_mended_by_a_close,
+    a_failed_way_marks_both_muxes, a_gpio_mux_is_switched_by_its_line,
+    a_held_arbitrator_is_given_up_after_eight_polls, a_mux_locked_read_lets_another_in,
+    a_parent_locked_read_lets_nobody_in, a_read_takes_the_wires_once,
+    an_absent_inner_mux_settles_at_its_select, an_arbitrator_is_found_free_at_the_eighth_poll,
+};

@@ -1,0 +1,164 @@
+-- What a walk keeps, whatever its steps give: at each message its path is open and its locks are held, and at each
+-- lock that is freed nothing stays open there unmarked. It knows nothing of callers, worlds and journals.
+use Rattle.std.specs.Prelude.{◌≡◌, ℕ, zero, suc, ◌<◌, Bool, true, false, not, ◌&&◌, ◌⊎◌, List, [], ◌∷◌, Option, Some, None}
+use Rattle.std.specs.List.{AllByRecursion}
+use Rattle.i2c_base.specs.declared.ids.LockId.{LockId}
+use Rattle.i2c_base.specs.declared.ids.LockId.TheVariants as lock
+use Rattle.i2c_base.specs.declared.board.MuxKind.{MuxKind}
+use Rattle.i2c_base.specs.declared.entry.End.{End}
+use Rattle.i2c_base.specs.declared.entry.End.TheVariants as end
+use Rattle.i2c_base.specs.declared.tree.Grant.TheVariants as grant
+use Rattle.i2c_base.specs.Board.{BoardView}
+use Rattle.i2c_spec.specs.Tree.{Hop, hops, buses, root_of, home_of_mux, is_absent, is_held, IsAmongHops}
+use Rattle.i2c_spec.specs.Grant.{grant_of}
+use Rattle.i2c_spec.specs.Messages.{MessageView}
+use Rattle.bus_spec.specs.Walk.{Mark, Job, Call, Select, Clear, Act, Take, Free, Send, Shift, Settle, ActOutcome, Passed, Sent, Lined, Note, Ask, MarkOf, WalkTree, Ends, Look, Then, job_bus, first_byte, is_arbitrator}
+use Rattle.bus_spec.specs.Slots.{Slots, At, MuxSlot, Clean, Selected, Marked, Polled, Found, mark_in, with_slot, after_job}
+use Rattle.bus_spec.specs.Stepwise.{IsBelow}
+
+-- a lock is among these
+abbrev pub InLocks : LockId → List LockId → Type 0
+InLocks l [] = ⊥
+InLocks l (k ∷ ks) = (l ≡ k) ⊎ InLocks l ks
+
+-- a select of this mux is acknowledged, and goes through
+abbrev pub answers : BoardView → ℕ → Bool
+answers b m = not (is_absent b m) && not (is_held b m)
+
+-- nothing is open on the bus, but what may be under a mark
+abbrev pub IsShut : MuxSlot → Type 0
+IsShut Clean = Unit {0}
+IsShut (Marked m) = Unit {0}
+IsShut (Selected h) = ⊥
+IsShut (Polled h more) = ⊥
+IsShut (Found h) = ⊥
+
+-- what a taken lock may find on its bus
+pub record IsRest (b : BoardView) (p : ℕ) (s : At) : Type 0 where
+  pub shut : IsShut s.slot
+  pub home : (m : ℕ) → s.slot ≡ Marked m → home_of_mux b m ≡ p
+
+-- the bus of a mux lock has this slot when it is taken
+abbrev pub taken_slots : LockId → At → Slots → Slots
+taken_slots (lock.Mux p) s v = with_slot v p s.slot
+taken_slots (lock.Bus r) s v = v
+
+abbrev pub RestOf : BoardView → LockId → At → Type 0
+RestOf b (lock.Mux p) s = IsRest b p s
+RestOf b (lock.Bus r) s = Unit {0}
+
+abbrev pub LeavesShut : LockId → Slots → Type 0
+LeavesShut (lock.Mux p) v = IsShut (v p).slot
+LeavesShut (lock.Bus r) v = Unit {0}
+
+-- what a step may give: a select goes through only where its mux answers, and is refused only where it doesn't; an
+-- arbitrator that answers is found free at the last poll
+abbrev pub CanSelect : BoardView → Hop → ℕ → End → List ℕ → Type 0
+CanSelect b h zero end.Ok bytes = answers b h.mux ≡ true
+CanSelect b h (suc zero) end.Ok bytes = (first_byte bytes ≡ 0) ⊎ (answers b h.mux ≡ false)
+CanSelect b h (suc (suc left)) end.Ok bytes = Unit {0}
+CanSelect b h left end.Nack bytes = answers b h.mux ≡ false
+CanSelect b h left end.Slow bytes = answers b h.mux ≡ false
+CanSelect b h left end.Refused bytes = answers b h.mux ≡ false
+CanSelect b h left end.Proto bytes = answers b h.mux ≡ false
+CanSelect b h left (end.Cut q) bytes = Unit {0}
+
+abbrev pub CanSend : BoardView → Job → ℕ → ActOutcome → Type 0
+CanSend b (Select h) left (Sent e bytes) = CanSelect b h left e bytes
+CanSend b (Call bus messages) left (Sent e bytes) = Unit {0}
+CanSend b (Clear on mux kind) left (Sent e bytes) = Unit {0}
+CanSend b job left (Lined failed) = ⊥
+CanSend b job left Passed = ⊥
+
+-- a gpio mux answers always
+abbrev pub CanShift : BoardView → Job → ActOutcome → Type 0
+CanShift b job (Lined failed) = Unit {0}
+CanShift b job (Sent e bytes) = ⊥
+CanShift b job Passed = ⊥
+
+-- what a job finds on its own bus: a select finds it clean, or its arbitrator asked so far; a close finds its mux
+-- selected, or marked
+abbrev pub FindsPoll : Hop → ℕ → MuxSlot → Type 0
+FindsPoll h zero s = s ≡ Found h
+FindsPoll h (suc left) s = (s ≡ Polled h left) ⊎ ((left ≡ 7) × (s ≡ Clean))
+
+abbrev pub FindsSelect : Bool → Hop → ℕ → MuxSlot → Type 0
+FindsSelect true h left s = FindsPoll h left s
+FindsSelect false h left s = (left ≡ 0) × (s ≡ Clean)
+
+abbrev pub FindsOpen : ℕ → MuxSlot → Type 0
+FindsOpen m (Selected h) = h.mux ≡ m
+FindsOpen m (Marked k) = k ≡ m
+FindsOpen m Clean = ⊥
+FindsOpen m (Polled h more) = ⊥
+FindsOpen m (Found h) = ⊥
+
+abbrev pub Finds : BoardView → Job → ℕ → Slots → Type 0
+Finds b (Call bus messages) left v = Unit {0}
+Finds b (Select h) left v = FindsSelect (is_arbitrator h.kind) h left (v h.on).slot × IsAmongHops h (hops b h.bus)
+Finds b (Clear on mux kind) left v = FindsOpen mux (v on).slot × (home_of_mux b mux ≡ on)
+
+-- the lock of the job's own bus is held, and its own mark is the first
+abbrev pub HeadsMarks : ℕ → ℕ → List Mark → Type 0
+HeadsMarks on mux [] = ⊥
+HeadsMarks on mux (m ∷ ms) = (m.on ≡ on) × (m.mux ≡ mux)
+
+abbrev pub Owns : Job → List Mark → List LockId → Type 0
+Owns (Call bus messages) marks held = Unit {0}
+Owns (Select h) marks held = InLocks (lock.Mux h.on) held × HeadsMarks h.on h.mux marks
+Owns (Clear on mux kind) marks held = InLocks (lock.Mux on) held × HeadsMarks on mux marks
+
+-- a mark on a bus forgets nothing that may be open there
+abbrev pub IsOfMux : ℕ → MuxSlot → Type 0
+IsOfMux m Clean = Unit {0}
+IsOfMux m (Selected h) = h.mux ≡ m
+IsOfMux m (Marked k) = k ≡ m
+IsOfMux m (Polled h more) = h.mux ≡ m
+IsOfMux m (Found h) = h.mux ≡ m
+
+pub record MayMark (b : BoardView) (held : List LockId) (v : Slots) (m : Mark) : Type 0 where
+  pub locked : InLocks (lock.Mux m.on) held
+  pub at_home : home_of_mux b m.mux ≡ m.on
+  pub forgets : IsOfMux m.mux (v m.on).slot
+
+abbrev pub MayFail : BoardView → List Mark → List LockId → Slots → Type 0
+MayFail b marks held v = AllByRecursion (MayMark b held v) marks
+
+-- the caller's messages go to addresses that aren't busy
+abbrev pub IsGranted : BoardView → Job → Type 0
+IsGranted b (Call bus messages) =
+    (bus < buses b) × ((force : Bool) × AllByRecursion (λ m. grant_of b bus m.addr force ≡ grant.Busy → ⊥) messages)
+IsGranted b (Select h) = Unit {0}
+IsGranted b (Clear on mux kind) = Unit {0}
+
+-- a message may be sent
+pub record MaySend (b : BoardView) (job : Job) (left : ℕ) (marks : List Mark) (held : List LockId) (v : Slots) : Type 0 where
+  -- every mux over its bus is selected, and its lock is held; so is the root's
+  pub reached : (g : Hop) → IsAmongHops g (hops b (job_bus job)) → ((v g.on).slot ≡ Selected g) × InLocks (lock.Mux g.on) held
+  pub rooted : InLocks (lock.Bus (root_of b (job_bus job))) held
+  pub finds : Finds b job left v
+  pub owns : Owns job marks held
+  pub may_fail : MayFail b marks held v
+
+-- a line step needs no way, but the root's lock as well
+pub record MayShift (b : BoardView) (job : Job) (marks : List Mark) (held : List LockId) (v : Slots) : Type 0 where
+  pub rooted : InLocks (lock.Bus (root_of b (job_bus job))) held
+  pub finds : Finds b job zero v
+  pub owns : Owns job marks held
+  pub may_fail : MayFail b marks held v
+
+-- a walk runs from these locks and this knowledge, whatever its steps give
+abbrev pub Runs : BoardView → List LockId → Slots → WalkTree → Type 0
+Runs b held v Ends = held ≡ []
+Runs b held v (Look (MarkOf p) next) = InLocks (lock.Mux p) held × Runs b held v (next (mark_in (v p).slot))
+Runs b held v (Then (Take l) note next) =
+    IsBelow b l held × ((s : At) → RestOf b l s → Runs b (l ∷ held) (taken_slots l s v) (next Passed))
+Runs b held v (Then (Free l) note next) =
+    (rest : List LockId) × (held ≡ l ∷ rest) × LeavesShut l v × Runs b rest v (next Passed)
+Runs b held v (Then (Send job left) note next) =
+    MaySend b job left note.marks held v
+    × ((out : ActOutcome) → CanSend b job left out → Runs b held (after_job job left note.marks out v) (next out))
+Runs b held v (Then (Shift job) note next) =
+    MayShift b job note.marks held v
+    × ((out : ActOutcome) → CanShift b job out → Runs b held (after_job job zero note.marks out v) (next out))
+Runs b held v (Then (Settle verdict) note next) = Runs b held v (next Passed)

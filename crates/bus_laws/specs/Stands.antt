@@ -1,0 +1,32 @@
+-- What every stepwise past keeps: the walks of all callers run from what they know, what they know is so, and the
+-- worlds are as the journal tells. It is kept by one step.
+use Rattle.std.specs.Prelude.{◌≡◌, ℕ, List, [], ◌∷◌, Option, Some, None}
+use Rattle.i2c_base.specs.declared.ids.LockId.{LockId}
+use Rattle.i2c_base.specs.declared.ids.LockId.TheVariants as lock
+use Rattle.i2c_base.specs.Board.{BoardView}
+use Rattle.bus_spec.specs.Walk.{WalkTree}
+use Rattle.bus_spec.specs.Slots.{Slots}
+use Rattle.bus_spec.specs.Past.{Now}
+use Rattle.bus_laws.specs.Runs.{Runs, InLocks, IsRest}
+use Rattle.bus_laws.specs.Told.{WorldTold}
+
+-- a caller knows of each bus whose lock it holds what the journal tells
+pub record CallerStands (b : BoardView) (held : List LockId) (walk : WalkTree) (slots : Slots) : Type 0 where
+  pub view : Slots
+  pub runs : Runs b held view walk
+  pub agree : (p : ℕ) → InLocks (lock.Mux p) held → view p ≡ slots p
+
+-- no lock twice
+abbrev pub IsOnce : List LockId → Type 0
+IsOnce [] = Unit {0}
+IsOnce (l ∷ ls) = (InLocks l ls → ⊥) × IsOnce ls
+
+pub record Stands (b : BoardView) (n : Now) : Type 0 where
+  pub callers : (c : ℕ) → CallerStands b (n.held c) (n.walk c) n.slot
+  -- whoever counts a lock among its own has it, and the other way
+  pub holds : (c : ℕ) (l : LockId) → InLocks l (n.held c) → n.holder l ≡ Some c
+  pub has : (c : ℕ) (l : LockId) → n.holder l ≡ Some c → InLocks l (n.held c)
+  pub once : (c : ℕ) → IsOnce (n.held c)
+  -- a bus whose lock nobody has is shut
+  pub shut : (p : ℕ) → n.holder (lock.Mux p) ≡ None → IsRest b p (n.slot p)
+  pub told : WorldTold b n.slot n.worlds

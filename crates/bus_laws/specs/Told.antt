@@ -1,0 +1,46 @@
+-- What a journal tells of the worlds: which channels are open. It knows nothing of walks and callers.
+use Rattle.std.specs.Prelude.{◌≡◌, ℕ, ◌≤◌, ◌==◌, Bool, true, false, ◌⊎◌, List, [], ◌∷◌, length, Option, Some, None, slice_get, All}
+use Rattle.i2c_base.specs.declared.board.MuxKind.{MuxKind}
+use Rattle.i2c_base.specs.Board.{BoardView}
+use Rattle.i2c_spec.specs.Tree.{Hop, hops, root_of, home_of_mux, is_absent, of_mux, IsAmongHops}
+use Rattle.i2c_spec.specs.Chips.{ChipView, is_open, is_free, chip_opening}
+use Rattle.i2c_spec.specs.World.{World}
+use Rattle.bus_spec.specs.Slots.{Slots, MuxSlot, Clean, Selected, Marked, Polled, Found}
+
+-- the state of a mux's chip: that in the world of its root
+abbrev pub chip_in : BoardView → (ℕ → World) → ℕ → Option ChipView
+chip_in b ws m = slice_get (ws (root_of b (home_of_mux b m))).chips m
+
+-- an open channel is that of the selected mux, or of the marked one
+abbrev pub Explains : MuxSlot → ℕ → ℕ → Type 0
+Explains (Selected h) m c = (h.mux ≡ m) × (h.channel ≡ c)
+Explains (Marked k) m c = k ≡ m
+Explains Clean m c = ⊥
+Explains (Polled h more) m c = ⊥
+Explains (Found h) m c = ⊥
+
+-- a chip between two messages: of the kind that the board says, with no byte that waits; an arbitrator is found with
+-- its other controller at most as often as the board says
+pub record IsChipOf (b : BoardView) (m : ℕ) (x : ChipView) : Type 0 where
+  pub kind : of_mux (λ s. Some s.kind) None b m ≡ Some x.kind
+  pub foreign : of_mux (λ s. s.foreign) 0 b m ≡ x.foreign
+  pub left : x.left ≤ x.foreign
+  pub waiting : x.waiting ≡ None
+
+pub record WorldTold (b : BoardView) (v : Slots) (ws : ℕ → World) : Type 0 where
+  pub board : (r : ℕ) → (ws r).board ≡ b
+  pub root : (r : ℕ) → (ws r).root ≡ r
+  pub count : (r : ℕ) → length (ws r).chips ≡ length b.muxes
+  pub chips : (m : ℕ) (x : ChipView) → chip_in b ws m ≡ Some x → IsChipOf b m x
+  -- a selected channel is open
+  pub opened : (p : ℕ) (h : Hop) → (v p).slot ≡ Selected h
+      → (x : ChipView) × (chip_in b ws h.mux ≡ Some x) × (is_open x h.channel ≡ true) × (h.on ≡ p) × (home_of_mux b h.mux ≡ p) × (is_absent b h.mux ≡ false)
+  -- a mark is of a mux on its bus
+  pub marked : (p m : ℕ) → (v p).slot ≡ Marked m → home_of_mux b m ≡ p
+  -- an arbitrator that is asked is found taken at most so many times more, or is held for good; one that was found free is free
+  pub polled : (p : ℕ) (h : Hop) (n : ℕ) (x : ChipView) → (v p).slot ≡ Polled h n → chip_in b ws h.mux ≡ Some x
+      → (x.left ≤ n) ⊎ (x.foreign ≡ 8)
+  pub found : (p : ℕ) (h : Hop) (x : ChipView) → (v p).slot ≡ Found h → chip_in b ws h.mux ≡ Some x → is_free x ≡ true
+  -- and no other channel is open
+  pub only : (m c : ℕ) (x : ChipView) → chip_in b ws m ≡ Some x → is_open x c ≡ true → Explains (v (home_of_mux b m)).slot m c
+  pub absent : (m c : ℕ) (x : ChipView) → is_absent b m ≡ true → chip_in b ws m ≡ Some x → is_open x c ≡ false

@@ -1,0 +1,13 @@
+//! The laws of the bus: what every journal keeps whose entries might each come where they did. None of them speaks
+//! of code. Each stands on a public function with an empty body, whose contract is the law.
+//!
+//! Definitions: `specs/`, and those of `i2c_spec` and `bus_spec`. The inductions stand in `proofs/` by subject.
+#![tactic(auto)]
+
+ghost use Rattle.std.specs.Prelude.{◌≡◌, true};
+ghost use Rattle.bus_laws.specs.Runs.{Runs};
+ghost use Rattle.bus_laws.specs.Stands.{Stands};
+
+pub fn probe()
+    ensures { true ≡ true }
+{}

@@ -1,0 +1,63 @@
+//! Worked examples, computed by the checker itself: each function has an empty body, and its clause is the journal
+//! that small scripts make on a small board.
+ghost use Rattle.std.specs.Prelude.{◌≡◌, ◌++◌, [], ◌∷◌, Some, replicate, true};
+ghost use Rattle.bus_spec.specs.Play.{played, transfers_of, none_fails, fails_at};
+ghost use Rattle.bus_spec.specs.Rows as row;
+
+/// A register read on a root bus: the lock, two messages, the settle, the lock.
+pub fn a_read_takes_the_wires_once()
+    ensures { played row.one_device (transfers_of ((row.read 0 0x20 5 ∷ []) ∷ [])) none_fails (replicate 8 0) ≡ row.one_read }
+{}
+
+/// Behind a parent-locked mux the whole chain is held from the select to the deselect.
+pub fn a_parent_locked_read_lets_nobody_in()
+    ensures { played row.parent_locked (transfers_of ((row.read 1 0x30 0 ∷ []) ∷ (row.read 0 0x20 5 ∷ []) ∷ [])) none_fails
+        (replicate 4 0 ++ replicate 4 1 ++ replicate 4 0 ++ replicate 4 1) ≡ row.parent_locked_journal }
+{}
+
+/// Behind a mux-locked mux the root's lock is free between the select and the message.
+pub fn a_mux_locked_read_lets_another_in()
+    ensures { played row.mux_locked (transfers_of ((row.read 1 0x30 0 ∷ []) ∷ (row.read 0 0x20 5 ∷ []) ∷ [])) none_fails
+        (replicate 4 0 ++ replicate 4 1 ++ replicate 9 0) ≡ row.mux_locked_journal }
+{}
+
+/// Nobody acknowledges the select of an absent inner mux, and the outer one is closed on the way back.
+pub fn an_absent_inner_mux_settles_at_its_select()
+    ensures { played row.absent_inner (transfers_of ((row.read 9 0x20 0 ∷ []) ∷ [])) none_fails (replicate 12 0)
+        ≡ row.absent_inner_journal }
+{}
+
+/// Eight polls are enough for an arbitrator that is found taken seven times.
+pub fn an_arbitrator_is_found_free_at_the_eighth_poll()
+    ensures { played (row.arbitrator 7) (transfers_of ((row.read 1 0x20 5 ∷ []) ∷ [])) none_fails (replicate 20 0)
+        ≡ row.arbitrator_journal }
+{}
+
+/// An arbitrator that stays with its other controller is given up after eight polls.
+pub fn a_held_arbitrator_is_given_up_after_eight_polls()
+    ensures { played (row.arbitrator 8) (transfers_of ((row.read 1 0x20 5 ∷ []) ∷ [])) none_fails (replicate 20 0)
+        ≡ row.held_journal }
+{}
+
+/// A gpio mux is switched by its line, which needs no message.
+pub fn a_gpio_mux_is_switched_by_its_line()
+    ensures { played row.gpio (transfers_of ((row.read 2 0x20 5 ∷ []) ∷ [])) none_fails (replicate 12 0) ≡ row.gpio_journal }
+{}
+
+/// A deselect that fails changes no reply, and the next transfer closes the mux first.
+pub fn a_failed_deselect_is_mended_by_a_close()
+    ensures { played row.parent_locked (transfers_of ((row.read 1 0x30 0 ∷ row.read 2 0x31 0 ∷ []) ∷ [])) (fails_at 0 10)
+        (replicate 20 0) ≡ row.failed_deselect_journal }
+{}
+
+/// A close that fails too keeps the mark, and its transfer fails on the way.
+pub fn a_failed_close_fails_its_transfer()
+    ensures { played row.parent_locked (transfers_of ((row.read 1 0x30 0 ∷ row.read 2 0x31 0 ∷ []) ∷ [])) row.fails_twice
+        (replicate 20 0) ≡ row.failed_close_journal }
+{}
+
+/// A select that fails marks its own mux and the one whose select it is on the way of.
+pub fn a_failed_way_marks_both_muxes()
+    ensures { played row.absent_outer (transfers_of ((row.read 9 0x20 0 ∷ row.read 9 0x20 0 ∷ []) ∷ [])) (fails_at 0 0)
+        (replicate 20 0) ≡ row.two_marks_journal }
+{}
