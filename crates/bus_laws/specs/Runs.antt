@@ -10,8 +10,9 @@ use Rattle.i2c_base.specs.declared.entry.End.TheVariants as end
 use Rattle.i2c_base.specs.declared.tree.Grant.TheVariants as grant
 use Rattle.i2c_base.specs.Board.{BoardView}
 use Rattle.i2c_spec.specs.Tree.{Hop, hops, buses, root_of, home_of_mux, is_absent, is_held, IsAmongHops}
-use Rattle.i2c_spec.specs.Grant.{grant_of}
-use Rattle.i2c_spec.specs.Messages.{MessageView}
+use Rattle.i2c_base.specs.Transfer.{TransferView}
+use Rattle.i2c_spec.specs.Messages.{MessageView, messages_of}
+use Rattle.i2c_spec.specs.Flat.{refusal}
 use Rattle.bus_spec.specs.Walk.{Mark, Job, Call, Select, Clear, Act, Take, Free, Send, Shift, Settle, ActOutcome, Passed, Sent, Lined, Note, Ask, MarkOf, WalkTree, Ends, Look, Then, job_bus, first_byte, is_arbitrator}
 use Rattle.bus_spec.specs.Slots.{Slots, At, MuxSlot, Clean, Selected, Marked, Polled, Found, mark_in, with_slot, after_job}
 use Rattle.bus_spec.specs.Stepwise.{IsBelow}
@@ -53,10 +54,13 @@ LeavesShut (lock.Bus r) v = Unit {0}
 
 -- what a step may give: a select goes through only where its mux answers, and is refused only where it doesn't; an
 -- arbitrator that answers is found free at the last poll
+abbrev pub CanGoThrough : BoardView → Hop → ℕ → List ℕ → Type 0
+CanGoThrough b h zero bytes = answers b h.mux ≡ true
+CanGoThrough b h (suc zero) bytes = (first_byte bytes ≡ 0) ⊎ (answers b h.mux ≡ false)
+CanGoThrough b h (suc (suc left)) bytes = Unit {0}
+
 abbrev pub CanSelect : BoardView → Hop → ℕ → End → List ℕ → Type 0
-CanSelect b h zero end.Ok bytes = answers b h.mux ≡ true
-CanSelect b h (suc zero) end.Ok bytes = (first_byte bytes ≡ 0) ⊎ (answers b h.mux ≡ false)
-CanSelect b h (suc (suc left)) end.Ok bytes = Unit {0}
+CanSelect b h left end.Ok bytes = CanGoThrough b h left bytes
 CanSelect b h left end.Nack bytes = answers b h.mux ≡ false
 CanSelect b h left end.Slow bytes = answers b h.mux ≡ false
 CanSelect b h left end.Refused bytes = answers b h.mux ≡ false
@@ -98,10 +102,13 @@ Finds b (Call bus messages) left v = Unit {0}
 Finds b (Select h) left v = FindsSelect (is_arbitrator h.kind) h left (v h.on).slot × IsAmongHops h (hops b h.bus)
 Finds b (Clear on mux kind) left v = FindsOpen mux (v on).slot × (home_of_mux b mux ≡ on)
 
--- the lock of the job's own bus is held, and its own mark is the first
+-- the lock of the job's own bus is held, and its own mark is the first, and the only one on that bus
+abbrev pub IsUnmarked : ℕ → List Mark → Type 0
+IsUnmarked p ms = AllByRecursion (λ m. p ≡ m.on → ⊥) ms
+
 abbrev pub HeadsMarks : ℕ → ℕ → List Mark → Type 0
 HeadsMarks on mux [] = ⊥
-HeadsMarks on mux (m ∷ ms) = (m.on ≡ on) × (m.mux ≡ mux)
+HeadsMarks on mux (m ∷ ms) = (m.on ≡ on) × (m.mux ≡ mux) × IsUnmarked on ms
 
 abbrev pub Owns : Job → List Mark → List LockId → Type 0
 Owns (Call bus messages) marks held = Unit {0}
@@ -124,21 +131,26 @@ pub record MayMark (b : BoardView) (held : List LockId) (v : Slots) (m : Mark) :
 abbrev pub MayFail : BoardView → List Mark → List LockId → Slots → Type 0
 MayFail b marks held v = AllByRecursion (MayMark b held v) marks
 
--- the caller's messages go to addresses that aren't busy
-abbrev pub IsGranted : BoardView → Job → Type 0
-IsGranted b (Call bus messages) =
-    (bus < buses b) × ((force : Bool) × AllByRecursion (λ m. grant_of b bus m.addr force ≡ grant.Busy → ⊥) messages)
-IsGranted b (Select h) = Unit {0}
-IsGranted b (Clear on mux kind) = Unit {0}
+-- the caller's messages are those of its transfer, which isn't refused
+pub record IsCall (b : BoardView) (whose : TransferView) (bus : ℕ) (messages : List MessageView) : Type 0 where
+  pub same_bus : bus ≡ whose.bus
+  pub same_messages : messages ≡ messages_of whose
+  pub not_refused : refusal b whose ≡ None
+
+abbrev pub IsGranted : BoardView → TransferView → Job → Type 0
+IsGranted b whose (Call bus messages) = IsCall b whose bus messages
+IsGranted b whose (Select h) = Unit {0}
+IsGranted b whose (Clear on mux kind) = Unit {0}
 
 -- a message may be sent
-pub record MaySend (b : BoardView) (job : Job) (left : ℕ) (marks : List Mark) (held : List LockId) (v : Slots) : Type 0 where
+pub record MaySend (b : BoardView) (whose : TransferView) (job : Job) (left : ℕ) (marks : List Mark) (held : List LockId) (v : Slots) : Type 0 where
   -- every mux over its bus is selected, and its lock is held; so is the root's
   pub reached : (g : Hop) → IsAmongHops g (hops b (job_bus job)) → ((v g.on).slot ≡ Selected g) × InLocks (lock.Mux g.on) held
   pub rooted : InLocks (lock.Bus (root_of b (job_bus job))) held
   pub finds : Finds b job left v
   pub owns : Owns job marks held
   pub may_fail : MayFail b marks held v
+  pub granted : IsGranted b whose job
 
 -- a line step needs no way, but the root's lock as well
 pub record MayShift (b : BoardView) (job : Job) (marks : List Mark) (held : List LockId) (v : Slots) : Type 0 where
@@ -147,18 +159,18 @@ pub record MayShift (b : BoardView) (job : Job) (marks : List Mark) (held : List
   pub owns : Owns job marks held
   pub may_fail : MayFail b marks held v
 
--- a walk runs from these locks and this knowledge, whatever its steps give
-abbrev pub Runs : BoardView → List LockId → Slots → WalkTree → Type 0
-Runs b held v Ends = held ≡ []
-Runs b held v (Look (MarkOf p) next) = InLocks (lock.Mux p) held × Runs b held v (next (mark_in (v p).slot))
-Runs b held v (Then (Take l) note next) =
-    IsBelow b l held × ((s : At) → RestOf b l s → Runs b (l ∷ held) (taken_slots l s v) (next Passed))
-Runs b held v (Then (Free l) note next) =
-    (rest : List LockId) × (held ≡ l ∷ rest) × LeavesShut l v × Runs b rest v (next Passed)
-Runs b held v (Then (Send job left) note next) =
-    MaySend b job left note.marks held v
-    × ((out : ActOutcome) → CanSend b job left out → Runs b held (after_job job left note.marks out v) (next out))
-Runs b held v (Then (Shift job) note next) =
+-- the walk of a transfer runs from these locks and this knowledge, whatever its steps give
+abbrev pub Runs : BoardView → TransferView → List LockId → Slots → WalkTree → Type 0
+Runs b whose held v Ends = held ≡ []
+Runs b whose held v (Look (MarkOf p) next) = InLocks (lock.Mux p) held × Runs b whose held v (next (mark_in (v p).slot))
+Runs b whose held v (Then (Take l) note next) =
+    IsBelow b l held × ((s : At) → RestOf b l s → Runs b whose (l ∷ held) (taken_slots l s v) (next Passed))
+Runs b whose held v (Then (Free l) note next) =
+    (rest : List LockId) × (held ≡ l ∷ rest) × LeavesShut l v × Runs b whose rest v (next Passed)
+Runs b whose held v (Then (Send job left) note next) =
+    MaySend b whose job left note.marks held v
+    × ((out : ActOutcome) → CanSend b job left out → Runs b whose held (after_job job left note.marks out v) (next out))
+Runs b whose held v (Then (Shift job) note next) =
     MayShift b job note.marks held v
-    × ((out : ActOutcome) → CanShift b job out → Runs b held (after_job job zero note.marks out v) (next out))
-Runs b held v (Then (Settle verdict) note next) = Runs b held v (next Passed)
+    × ((out : ActOutcome) → CanShift b job out → Runs b whose held (after_job job zero note.marks out v) (next out))
+Runs b whose held v (Then (Settle verdict) note next) = Runs b whose held v (next Passed)

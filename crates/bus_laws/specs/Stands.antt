@@ -4,6 +4,7 @@ use Rattle.std.specs.Prelude.{◌≡◌, ℕ, List, [], ◌∷◌, Option, Some,
 use Rattle.i2c_base.specs.declared.ids.LockId.{LockId}
 use Rattle.i2c_base.specs.declared.ids.LockId.TheVariants as lock
 use Rattle.i2c_base.specs.Board.{BoardView}
+use Rattle.i2c_base.specs.Transfer.{TransferView}
 use Rattle.bus_spec.specs.Walk.{WalkTree}
 use Rattle.bus_spec.specs.Slots.{Slots}
 use Rattle.bus_spec.specs.Past.{Now}
@@ -12,8 +13,9 @@ use Rattle.bus_laws.specs.Told.{WorldTold}
 
 -- a caller knows of each bus whose lock it holds what the journal tells
 pub record CallerStands (b : BoardView) (held : List LockId) (walk : WalkTree) (slots : Slots) : Type 0 where
+  pub whose : TransferView
   pub view : Slots
-  pub runs : Runs b held view walk
+  pub runs : Runs b whose held view walk
   pub agree : (p : ℕ) → InLocks (lock.Mux p) held → view p ≡ slots p
 
 -- no lock twice

@@ -4,10 +4,6 @@
 //! Definitions: `specs/`, and those of `i2c_spec` and `bus_spec`. The inductions stand in `proofs/` by subject.
 #![tactic(auto)]
 
-ghost use Rattle.std.specs.Prelude.{◌≡◌, true};
-ghost use Rattle.bus_laws.specs.Runs.{Runs};
-ghost use Rattle.bus_laws.specs.Stands.{Stands};
+mod walks;
 
-pub fn probe()
-    ensures { true ≡ true }
-{}
+pub use walks::each_walk_keeps_its_path_open;

@@ -188,58 +188,50 @@ goes (Select h) left (Lined failed) = Over
 goes (Select h) left Passed = Over
 goes (Clear on mux kind) left out = Over
 
--- what came of a job whose last message or line step had this outcome. A poll that was the last one found the
--- arbitrator taken
-abbrev pub sent_outcome : End → JobOutcome
-sent_outcome end.Ok = Good
-sent_outcome end.Nack = Refused
-sent_outcome end.Slow = Refused
-sent_outcome end.Refused = Refused
-sent_outcome end.Proto = Refused
-sent_outcome (end.Cut q) = Failed
+-- what came of a job whose last message or line step had this outcome: `ok` where the message went through. A poll
+-- that was the last one, though it went through, found the arbitrator taken
+abbrev pub sent_outcome : JobOutcome → End → JobOutcome
+sent_outcome ok end.Ok = ok
+sent_outcome ok end.Nack = Refused
+sent_outcome ok end.Slow = Refused
+sent_outcome ok end.Refused = Refused
+sent_outcome ok end.Proto = Refused
+sent_outcome ok (end.Cut q) = Failed
 
-abbrev pub polled_outcome : End → JobOutcome
-polled_outcome end.Ok = Refused
-polled_outcome end.Nack = Refused
-polled_outcome end.Slow = Refused
-polled_outcome end.Refused = Refused
-polled_outcome end.Proto = Refused
-polled_outcome (end.Cut q) = Failed
+abbrev pub ok_outcome : ℕ → JobOutcome
+ok_outcome zero = Good
+ok_outcome (suc left) = Refused
 
-abbrev pub select_outcome : ℕ → End → JobOutcome
-select_outcome zero e = sent_outcome e
-select_outcome (suc left) e = polled_outcome e
-
-abbrev pub end_outcome : Job → ℕ → End → JobOutcome
-end_outcome (Call bus messages) left e = sent_outcome e
-end_outcome (Select h) left e = select_outcome left e
-end_outcome (Clear on mux kind) left e = sent_outcome e
+abbrev pub good_outcome : Job → ℕ → JobOutcome
+good_outcome (Call bus messages) left = Good
+good_outcome (Select h) left = ok_outcome left
+good_outcome (Clear on mux kind) left = Good
 
 abbrev pub job_outcome : Job → ℕ → ActOutcome → JobOutcome
-job_outcome job left (Sent e bytes) = end_outcome job left e
+job_outcome job left (Sent e bytes) = sent_outcome (good_outcome job left) e
 job_outcome job left (Lined failed) = if failed then Failed else Good
 job_outcome job left Passed = Good
 
 -- the error that a message or line step decides
-abbrev pub polled_errno : End → Option Errno
-polled_errno end.Ok = Some errno.Etimedout
-polled_errno end.Nack = errno_of end.Nack
-polled_errno end.Slow = errno_of end.Slow
-polled_errno end.Refused = errno_of end.Refused
-polled_errno end.Proto = errno_of end.Proto
-polled_errno (end.Cut q) = errno_of (end.Cut q)
+abbrev pub ok_errno : ℕ → Option Errno
+ok_errno zero = None
+ok_errno (suc left) = Some errno.Etimedout
 
-abbrev pub select_errno : ℕ → End → Option Errno
-select_errno zero e = errno_of e
-select_errno (suc left) e = polled_errno e
+abbrev pub good_errno : Job → ℕ → Option Errno
+good_errno (Call bus messages) left = None
+good_errno (Select h) left = ok_errno left
+good_errno (Clear on mux kind) left = None
 
-abbrev pub end_errno : Job → ℕ → End → Option Errno
-end_errno (Call bus messages) left e = errno_of e
-end_errno (Select h) left e = select_errno left e
-end_errno (Clear on mux kind) left e = errno_of e
+abbrev pub sent_errno : Option Errno → End → Option Errno
+sent_errno ok end.Ok = ok
+sent_errno ok end.Nack = errno_of end.Nack
+sent_errno ok end.Slow = errno_of end.Slow
+sent_errno ok end.Refused = errno_of end.Refused
+sent_errno ok end.Proto = errno_of end.Proto
+sent_errno ok (end.Cut q) = errno_of (end.Cut q)
 
 abbrev pub verdict_of : Job → ℕ → ActOutcome → Option Errno
-verdict_of job left (Sent e bytes) = end_errno job left e
+verdict_of job left (Sent e bytes) = sent_errno (good_errno job left) e
 verdict_of job left (Lined failed) = if failed then Some errno.Eremoteio else None
 verdict_of job left Passed = None
 

@@ -1,0 +1,98 @@
+-- What does a job at the end of some hops, and what it needs and leaves. `ls` are the locks of these hops that are
+-- held, `floor` the least rank among the held ones.
+use Rattle.std.proofs.Common.{◌≡◌, ℕ, zero, suc, ◌+◌, ◌<◌, ◌≤◌, Bool, true, false, List, [], ◌∷◌, length, Option, Some, None, refl, ◌⊎◌}
+use Rattle.std.specs.List.{AllByRecursion}
+use Rattle.i2c_base.specs.declared.ids.LockId.{LockId}
+use Rattle.i2c_base.specs.declared.ids.LockId.TheVariants as lock
+use Rattle.i2c_base.specs.Board.{BoardView}
+use Rattle.i2c_base.specs.Transfer.{TransferView}
+use Rattle.i2c_spec.specs.Tree.{Hop, hops, root_of, locks_of, home_of_mux, Crosses, IsAmongHops}
+use Rattle.bus_spec.specs.Walk.{Mark, Job, Call, Select, Clear, JobOutcome, Good, Refused, Unsent, Failed, Note, WalkTree, job_bus, is_line, is_gpio}
+use Rattle.bus_spec.specs.Slots.{Slots, At, Clean, Selected, with_slot, set_marks}
+use Rattle.bus_spec.specs.Grammar.{Doer}
+use Rattle.bus_spec.specs.Readings.{rank}
+use Rattle.bus_laws.specs.Runs.{InLocks, answers, IsRest, FindsOpen, Owns, MayFail, IsGranted, Runs}
+
+-- a hop lets a job through: a line always does, a chip where it answers
+abbrev pub Responds : BoardView → Hop → Type 0
+Responds b h = (is_gpio h.kind ≡ true) ⊎ (answers b h.mux ≡ true)
+
+abbrev pub AllRespond : BoardView → List Hop → Type 0
+AllRespond b [] = Unit {0}
+AllRespond b (h ∷ hs) = Responds b h × AllRespond b hs
+
+-- what a job leaves off its path
+abbrev pub job_after : Job → List Mark → JobOutcome → Slots → Slots
+job_after (Call bus messages) marks o v = v
+job_after (Select h) marks Good v = with_slot v h.on (Selected h)
+job_after (Select h) marks Refused v = with_slot v h.on Clean
+job_after (Select h) marks Unsent v = v
+job_after (Select h) marks Failed v = set_marks marks v
+job_after (Clear on mux kind) marks Good v = with_slot v on Clean
+job_after (Clear on mux kind) marks Refused v = with_slot v on Clean
+job_after (Clear on mux kind) marks Unsent v = v
+job_after (Clear on mux kind) marks Failed v = set_marks marks v
+
+-- a select that was sent was answered as its mux answers
+abbrev pub SelectAnswers : BoardView → Job → Bool → Type 0
+SelectAnswers b (Select h) t = answers b h.mux ≡ t
+SelectAnswers b (Call bus messages) t = Unit {0}
+SelectAnswers b (Clear on mux kind) t = Unit {0}
+
+-- which outcomes a job can have: a line isn't refused; what is sent found its way, what is unsent didn't
+abbrev pub CanJob : BoardView → List Hop → Job → JobOutcome → Type 0
+CanJob b hs job Good = (is_line job ≡ true) ⊎ (AllRespond b hs × SelectAnswers b job true)
+CanJob b hs job Refused = (is_line job ≡ false) × AllRespond b hs × SelectAnswers b job false
+CanJob b hs job Unsent = (is_line job ≡ false) × (AllRespond b hs → ⊥)
+CanJob b hs job Failed = Unit {0}
+
+-- the job's own bus is none of those that the hops stand on
+abbrev pub OwnsOff : Job → List Hop → Type 0
+OwnsOff (Call bus messages) hs = Unit {0}
+OwnsOff (Select h) hs = Crosses h.on hs → ⊥
+OwnsOff (Clear on mux kind) hs = Crosses on hs → ⊥
+
+abbrev pub CallUnmarked : Job → List Mark → Type 0
+CallUnmarked (Call bus messages) marks = marks ≡ []
+CallUnmarked (Select h) marks = Unit {0}
+CallUnmarked (Clear on mux kind) marks = Unit {0}
+
+-- what a job finds on its own bus before its first step
+abbrev pub FindsFirst : BoardView → Job → Slots → Type 0
+FindsFirst b (Call bus messages) v = Unit {0}
+FindsFirst b (Select h) v = ((v h.on).slot ≡ Clean) × IsAmongHops h (hops b h.bus)
+FindsFirst b (Clear on mux kind) v = FindsOpen mux (v on).slot × (home_of_mux b mux ≡ on)
+
+-- a hop over the job's bus is behind the walk already: selected, its lock held, and none of the hops before it
+pub record IsPassed (held : List LockId) (v : Slots) (hs : List Hop) (g : Hop) : Type 0 where
+  pub selected : (v g.on).slot ≡ Selected g
+  pub locked : InLocks (lock.Mux g.on) held
+  pub off : Crosses g.on hs → ⊥
+
+pub record Before (b : BoardView) (whose : TransferView) (root : ℕ) (hs : List Hop) (ls : List LockId) (floor : ℕ) (job : Job) (marks : List Mark) (held : List LockId) (v : Slots) : Type 0 where
+  pub locks : (l : LockId) → InLocks l ls → InLocks l held
+  pub ranks : (l : LockId) → InLocks l held → floor ≤ rank b l
+  pub rest : (p : ℕ) → InLocks (lock.Mux p) ls → IsRest b p (v p)
+  pub finds : FindsFirst b job v
+  pub owns : Owns job marks held
+  pub owns_off : OwnsOff job hs
+  pub way : (g : Hop) → IsAmongHops g (hops b (job_bus job)) → IsAmongHops g hs ⊎ IsPassed held v hs g
+  pub same_root : root_of b (job_bus job) ≡ root
+  pub may_fail : MayFail b marks held v
+  pub marks_off : AllByRecursion (λ (m : Mark). Crosses m.on hs → ⊥) marks
+  pub call_unmarked : CallUnmarked job marks
+  pub granted : IsGranted b whose job
+  pub line_rooted : is_line job ≡ true → InLocks (lock.Bus root) (locks_of root hs)
+
+pub record After (b : BoardView) (hs : List Hop) (ls : List LockId) (job : Job) (marks : List Mark) (v : Slots) (o : JobOutcome) (w : Slots) : Type 0 where
+  pub off : (p : ℕ) → (Crosses p hs → ⊥) → w p ≡ job_after job marks o v p
+  pub rest : (p : ℕ) → InLocks (lock.Mux p) ls → IsRest b p (w p)
+  pub can : CanJob b hs job o
+
+-- whatever goes on runs from what the job leaves, so the job and what goes on run
+abbrev pub DoerRuns : BoardView → TransferView → ℕ → List Hop → List LockId → ℕ → Doer → Type 0
+DoerRuns b whose root hs ls floor on =
+    (job : Job) (note : Note) (k : JobOutcome → WalkTree) (held : List LockId) (v : Slots)
+    → Before b whose root hs ls floor job note.marks held v
+    → ((o : JobOutcome) (w : Slots) → After b hs ls job note.marks v o w → Runs b whose held w (k o))
+    → Runs b whose held v (on job note k)

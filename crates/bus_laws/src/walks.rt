@@ -1,0 +1,17 @@
+ghost use Rattle.i2c_base.specs.Board.{BoardView};
+ghost use Rattle.i2c_base.specs.Transfer.{TransferView};
+ghost use Rattle.i2c_spec.specs.TreeFacts.{IsTree};
+ghost use Rattle.bus_spec.specs.Slots.{Slots};
+ghost use Rattle.bus_spec.specs.Grammar.{walk_for};
+ghost use Rattle.bus_laws.specs.Lines.{LinesAreLocked};
+ghost use Rattle.bus_laws.specs.Runs.{Runs};
+ghost use Rattle.std.specs.Prelude.{[]};
+
+/// The tree law: the whole walk of a transfer runs, whatever its steps give and whatever is known of the buses.
+///
+/// It takes its locks in falling rank and frees them in reverse. At each message every mux over its bus is selected
+/// and its lock held, and so is the root's lock. A failure marks, of the muxes whose locks are held, all that may be
+/// open. At a lock that is freed nothing is open there but what is marked.
+pub fn each_walk_keeps_its_path_open()
+    ensures { (b : BoardView) (t : TransferView) → IsTree b → LinesAreLocked b → (v : Slots) → Runs b t [] v (walk_for b t) }
+{}
