@@ -1,7 +1,12 @@
--- The tree law: slots, what a doer keeps, the pieces of the grammar, and the induction over the path.
+-- The tree law: slots, what a doer keeps, the base of the grammar, the path, one mux, and the induction over hops.
 pub mod TreeSlots
 pub mod TreeDoers
 pub mod TreeBase
 pub mod TreePath
 pub mod TreeBehind
 pub mod TreeLaw
+-- The world law: events given to a list, what conversations keep, who is joined, what a message does to the chips.
+pub mod WorldFeed
+pub mod TalkLaws
+pub mod WorldReach
+pub mod WorldHears
