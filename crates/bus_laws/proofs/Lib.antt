@@ -10,3 +10,4 @@ pub mod WorldFeed
 pub mod TalkLaws
 pub mod WorldReach
 pub mod WorldHears
+pub mod WorldControl
