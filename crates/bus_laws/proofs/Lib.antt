@@ -11,3 +11,4 @@ pub mod TalkLaws
 pub mod WorldReach
 pub mod WorldHears
 pub mod WorldControl
+pub mod ChipLaws

@@ -27,20 +27,23 @@ pub record IsChipOf (b : BoardView) (m : ℕ) (x : ChipView) : Type 0 where
   pub left : x.left ≤ x.foreign
   pub waiting : x.waiting ≡ None
 
+-- what is known of the buses is so, of the chips as they stand: `chips` gives the state of each mux's chip
+pub record ChipsTold (b : BoardView) (v : Slots) (chips : ℕ → Option ChipView) : Type 0 where
+  pub kept : (m : ℕ) (x : ChipView) → chips m ≡ Some x → IsChipOf b m x
+  -- a selected channel is open
+  pub opened : (p : ℕ) (h : Hop) → (v p).slot ≡ Selected h
+    → (x : ChipView) × (chips h.mux ≡ Some x) × (is_open x h.channel ≡ true) × (home_of_mux b h.mux ≡ p) × (is_absent b h.mux ≡ false)
+  -- an arbitrator that is asked is found taken at most so many times more, or is held for good; one that was found free is free
+  pub polled : (p : ℕ) (h : Hop) (n : ℕ) (x : ChipView) → (v p).slot ≡ Polled h n → chips h.mux ≡ Some x → (x.left ≤ n) ⊎ (x.foreign ≡ 8)
+  pub found : (p : ℕ) (h : Hop) (x : ChipView) → (v p).slot ≡ Found h → chips h.mux ≡ Some x → is_free x ≡ true
+  pub asked : (p : ℕ) (h : Hop) (n : ℕ) → (v p).slot ≡ Polled h n → home_of_mux b h.mux ≡ p
+  pub free : (p : ℕ) (h : Hop) → (v p).slot ≡ Found h → home_of_mux b h.mux ≡ p
+  -- and no other channel is open
+  pub only : (m c : ℕ) (x : ChipView) → chips m ≡ Some x → is_open x c ≡ true → Explains (v (home_of_mux b m)).slot m c
+  pub absent : (m c : ℕ) (x : ChipView) → is_absent b m ≡ true → chips m ≡ Some x → is_open x c ≡ false
+
 pub record WorldTold (b : BoardView) (v : Slots) (ws : ℕ → World) : Type 0 where
   pub board : (r : ℕ) → (ws r).board ≡ b
   pub root : (r : ℕ) → (ws r).root ≡ r
   pub count : (r : ℕ) → length (ws r).chips ≡ length b.muxes
-  pub chips : (m : ℕ) (x : ChipView) → chip_in b ws m ≡ Some x → IsChipOf b m x
-  -- a selected channel is open
-  pub opened : (p : ℕ) (h : Hop) → (v p).slot ≡ Selected h
-      → (x : ChipView) × (chip_in b ws h.mux ≡ Some x) × (is_open x h.channel ≡ true) × (h.on ≡ p) × (home_of_mux b h.mux ≡ p) × (is_absent b h.mux ≡ false)
-  -- a mark is of a mux on its bus
-  pub marked : (p m : ℕ) → (v p).slot ≡ Marked m → home_of_mux b m ≡ p
-  -- an arbitrator that is asked is found taken at most so many times more, or is held for good; one that was found free is free
-  pub polled : (p : ℕ) (h : Hop) (n : ℕ) (x : ChipView) → (v p).slot ≡ Polled h n → chip_in b ws h.mux ≡ Some x
-      → (x.left ≤ n) ⊎ (x.foreign ≡ 8)
-  pub found : (p : ℕ) (h : Hop) (x : ChipView) → (v p).slot ≡ Found h → chip_in b ws h.mux ≡ Some x → is_free x ≡ true
-  -- and no other channel is open
-  pub only : (m c : ℕ) (x : ChipView) → chip_in b ws m ≡ Some x → is_open x c ≡ true → Explains (v (home_of_mux b m)).slot m c
-  pub absent : (m c : ℕ) (x : ChipView) → is_absent b m ≡ true → chip_in b ws m ≡ Some x → is_open x c ≡ false
+  pub told : ChipsTold b v (chip_in b ws)
