@@ -84,7 +84,7 @@ module _ (b : BoardView) (whose : TransferView) (bus : ℕ) (ms : List MessageVi
   pub call_runs : MaySend b whose (Call bus ms) zero note.marks held v → (left : ℕ) → Runs b whose held v (messages left (Call bus ms) note k)
   call_runs may zero = call_last may
   call_runs may (suc left) = (
-    record { reached = may.reached; rooted = may.rooted; finds = tt; owns = tt; may_fail = may.may_fail; granted = may.granted },
+    record { reached = may.reached; rooted = may.rooted; finds = tt; owns = tt; may_fail = may.may_fail; granted = may.granted; by_message = refl },
     λ out can. go-runs b whose held v (Call bus ms) left note k out (goes (Call bus ms) left out)
         (call_runs may left) (call_last may) (call_over (suc left) out can),
   )
@@ -159,6 +159,7 @@ module _ (b : BoardView) (whose : TransferView) (tree : IsTree b) (root : ℕ) (
         owns = owns;
         may_fail = fail_own b held h.on h.mux v first note.marks same owns.1 own fail;
         granted = tt;
+        by_message = no_line;
       }
 
   select_good : (v : Slots) → IsSameOff h.on v first → answers b h.mux ≡ true → Runs b whose held (with_slot v h.on (Selected h)) (k Good)

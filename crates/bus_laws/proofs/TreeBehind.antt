@@ -16,7 +16,7 @@ use Rattle.i2c_spec.specs.TreeFacts.{IsTree, IsHop}
 use Rattle.bus_spec.specs.Walk.{Mark, Job, Call, Select, Clear, JobOutcome, Good, Refused, Unsent, Failed, Note, WalkTree, Look, MarkOf, job_bus, is_line, is_gpio}
 use Rattle.bus_spec.specs.Slots.{Slots, At, MuxSlot, Clean, Selected, Marked, Polled, Found, mark_in, with_slot, set_marks}
 use Rattle.bus_spec.specs.Grammar.{Doer, aside, with_mark, if_sent, if_good, kind_of, closing, opened, chosen, behind}
-use Rattle.bus_laws.specs.Runs.{InLocks, answers, IsShut, IsRest, FindsOpen, IsUnmarked, IsOfMux, MayMark, MayFail, Owns, IsGranted, Runs}
+use Rattle.bus_laws.specs.Runs.{InLocks, answers, IsShut, IsRest, IsMuxOf, FindsOpen, IsUnmarked, IsOfMux, MayMark, MayFail, Owns, IsGranted, Runs}
 use Rattle.bus_laws.specs.Lines.{LinesAreLocked}
 use Rattle.bus_laws.proofs.TreeSlots.{with_slot-same, with_slot-other, set_marks-other, set_marks-along, set_marks-head, shut_clean, marked_slot}
 use Rattle.bus_laws.proofs.TreeDoers.{Responds, AllRespond, CanJob, job_after, OwnsOff, FindsFirst, CallUnmarked, IsPassed, Before, After, DoerRuns}
@@ -35,13 +35,15 @@ rest_clean b p x e =
     record {
       shut = subst (λ (s : MuxSlot). IsShut s) (sym e) tt;
       home = λ m f. absurd (let g : Clean ≡ Marked m = sym e ∙ f in cc);
+      known = λ m f. absurd (let g : Clean ≡ Marked m = sym e ∙ f in cc);
     }
 
-rest_marked : (b : BoardView) (p m : ℕ) (x : At) → x.slot ≡ Marked m → home_of_mux b m ≡ p → IsRest b p x
-rest_marked b p m x e home =
+rest_marked : (b : BoardView) (p m : ℕ) (x : At) → x.slot ≡ Marked m → home_of_mux b m ≡ p → IsMuxOf b m (kind_of b m) → IsRest b p x
+rest_marked b p m x e home known =
     record {
       shut = subst (λ (s : MuxSlot). IsShut s) (sym e) tt;
       home = λ n f. subst (λ (i : ℕ). home_of_mux b i ≡ p) (let g : Marked m ≡ Marked n = sym e ∙ f in cc) home;
+      known = λ n f. subst (λ (i : ℕ). IsMuxOf b i (kind_of b i)) (let g : Marked m ≡ Marked n = sym e ∙ f in cc) known;
     }
 
 slot_of : (x y : At) (s : MuxSlot) → x ≡ y → y.slot ≡ s → x.slot ≡ s
@@ -81,6 +83,9 @@ module _ (b : BoardView) (whose : TransferView) (tree : IsTree b) (lines : Lines
   own_root : is_gpio h.kind ≡ true → InLocks (lock.Bus root) (locks_of root hs)
   own_root gpio =
       line_root h.mux is_hop.home (ap is_gpio (told_kind (slice_get b.muxes h.mux) h.kind is_hop.kind) ∙ gpio)
+
+  own_known : IsMuxOf b h.mux (kind_of b h.mux)
+  own_known = is_hop.kind ∙ ap Some (sym (told_kind (slice_get b.muxes h.mux) h.kind is_hop.kind))
 
   own_held : InLocks (lock.Mux h.on) held
   own_held = before.locks (lock.Mux h.on) (inl refl)
@@ -148,7 +153,7 @@ module _ (b : BoardView) (whose : TransferView) (tree : IsTree b) (lines : Lines
       absurd (elim way [ inl gpio ↦ (let f : true ≡ false = sym gpio ∙ c.0 in cc) | inr all ↦ c.1 all ])
   clear_rest Failed x y way c e =
       rest_marked b h.on h.mux (y h.on)
-      (slot_of (y h.on) (record { slot = Marked h.mux }) (Marked h.mux) (e ∙ set_marks-head (record { on = h.on; mux = h.mux }) [] x) refl) is_hop.home
+      (slot_of (y h.on) (record { slot = Marked h.mux }) (Marked h.mux) (e ∙ set_marks-head (record { on = h.on; mux = h.mux }) [] x) refl) is_hop.home own_known
 
   same_lock : (p : ℕ) → lock.Mux p ≡ lock.Mux h.on → h.on ≡ p
   same_lock p e = cc
@@ -172,7 +177,7 @@ module _ (b : BoardView) (whose : TransferView) (tree : IsTree b) (lines : Lines
       → Before b whose root hs (sub_locks root h hs) floor (Clear h.on h.mux h.kind) (aside h).marks held x
   clear_before x rest selected =
       control_before x (Clear h.on h.mux h.kind) (record { on = h.on; mux = h.mux }) [] rest refl off_on
-      (subst (λ (s : MuxSlot). FindsOpen h.mux s) (sym selected) refl, is_hop.home) refl is_hop.home
+      (subst (λ (s : MuxSlot). FindsOpen h.mux s) (sym selected) refl, is_hop.home, is_hop.kind) refl is_hop.home
       (subst (λ (s : MuxSlot). IsOfMux h.mux s) (sym selected) refl)
       (own_held, (refl, refl, tt)) tt tt tt tt own_root
 
@@ -245,10 +250,10 @@ module _ (b : BoardView) (whose : TransferView) (tree : IsTree b) (lines : Lines
         can = can;
       })
 
-  failed_after : (u w : Slots) (m : Mark) → Like u → m.on ≡ h.on → home_of_mux b m.mux ≡ h.on
+  failed_after : (u w : Slots) (m : Mark) → Like u → m.on ≡ h.on → home_of_mux b m.mux ≡ h.on → IsMuxOf b m.mux (kind_of b m.mux)
       → ((p : ℕ) → (Crosses p hs → ⊥) → w p ≡ set_marks (m ∷ note.marks) u p) → ((p : ℕ) → InLocks (lock.Mux p) (sub_locks root h hs) → IsRest b p (w p))
       → Runs b whose held w (k Failed)
-  failed_after u w m like on_bus home marked rest =
+  failed_after u w m like on_bus home known marked rest =
       goes_on Failed w (record {
         off = λ p off. marked p (off_tail p off)
             ∙ with_slot-other (set_marks note.marks u) m.on p (Marked m.mux) (λ e. not_on p off (e ∙ on_bus))
@@ -256,7 +261,7 @@ module _ (b : BoardView) (whose : TransferView) (tree : IsTree b) (lines : Lines
             ∙ sym (job_after-failed job note.marks v p before.call_unmarked);
         rest = λ p i. elim i [
           | inl e ↦ subst (λ (q : ℕ). IsRest b q (w q)) (same_lock p e)
-              (rest_marked b h.on m.mux (w h.on) (slot_of (w h.on) (record { slot = Marked m.mux }) (Marked m.mux) (own_marked h.on (sym on_bus)) refl) home)
+              (rest_marked b h.on m.mux (w h.on) (slot_of (w h.on) (record { slot = Marked m.mux }) (Marked m.mux) (own_marked h.on (sym on_bus)) refl) home known)
           | inr more ↦ rest p more
         ];
         can = tt;
@@ -292,7 +297,7 @@ module _ (b : BoardView) (whose : TransferView) (tree : IsTree b) (lines : Lines
       (rest_clean b h.on (w h.on) (slot_of (w h.on) (u h.on) Clean (after.off h.on off_on) clean))
       (no_line, λ all. after.can.1 all.1)
   chosen_done u like clean Failed w after =
-      failed_after u w own_mark like refl is_hop.home (λ p off. after.off p off) after.rest
+      failed_after u w own_mark like refl is_hop.home own_known (λ p off. after.off p off) after.rest
 
   chosen-runs : (u : Slots) → Like u → (u h.on).slot ≡ Clean → Runs b whose held u (chosen h on job note k)
   chosen-runs u like clean =
@@ -310,7 +315,7 @@ module _ (b : BoardView) (whose : TransferView) (tree : IsTree b) (lines : Lines
   close_before m marked =
       let home : home_of_mux b m ≡ h.on = (before.rest h.on (inl refl)).home m marked in
       control_before v (Clear h.on m (kind_of b m)) (close_mark m) note.marks (λ p i. before.rest p (inr i)) refl off_on
-      (subst (λ (s : MuxSlot). FindsOpen m s) (sym marked) refl, home) refl home
+      (subst (λ (s : MuxSlot). FindsOpen m s) (sym marked) refl, home, (before.rest h.on (inl refl)).known m marked) refl home
       (subst (λ (s : MuxSlot). IsOfMux m s) (sym marked) refl)
       (own_held, (refl, refl, own_unmarked)) tt tt before.may_fail marks_off (λ l. line_root m home l)
 
@@ -333,7 +338,7 @@ module _ (b : BoardView) (whose : TransferView) (tree : IsTree b) (lines : Lines
       (subst (λ (x : At). IsRest b h.on x) (sym (after.off h.on off_on)) (before.rest h.on (inl refl)))
       (no_line, λ all. after.can.1 all.1)
   closed m marked Failed w after =
-      failed_after v w (close_mark m) like_now refl ((before.rest h.on (inl refl)).home m marked) (λ p off. after.off p off) after.rest
+      failed_after v w (close_mark m) like_now refl ((before.rest h.on (inl refl)).home m marked) ((before.rest h.on (inl refl)).known m marked) (λ p off. after.off p off) after.rest
 
   closing-runs : (mark : Option ℕ) → mark_in (v h.on).slot ≡ mark → Runs b whose held v (closing b h on note k (chosen h on job note k) mark)
   closing-runs None e = chosen-runs v like_now (shut_clean (v h.on).slot (before.rest h.on (inl refl)).shut e)

@@ -11,7 +11,7 @@ use Rattle.bus_spec.specs.Walk.{Mark, Job, Call, Select, Clear, JobOutcome, Good
 use Rattle.bus_spec.specs.Slots.{Slots, At, Clean, Selected, with_slot, set_marks}
 use Rattle.bus_spec.specs.Grammar.{Doer}
 use Rattle.bus_spec.specs.Readings.{rank}
-use Rattle.bus_laws.specs.Runs.{InLocks, answers, IsRest, FindsOpen, Owns, MayFail, IsGranted, Runs}
+use Rattle.bus_laws.specs.Runs.{InLocks, answers, IsRest, IsMuxOf, FindsOpen, Owns, MayFail, IsGranted, Runs}
 
 -- a hop lets a job through: a line always does, a chip where it answers
 abbrev pub Responds : BoardView → Hop → Type 0
@@ -61,7 +61,7 @@ CallUnmarked (Clear on mux kind) marks = Unit {0}
 abbrev pub FindsFirst : BoardView → Job → Slots → Type 0
 FindsFirst b (Call bus messages) v = Unit {0}
 FindsFirst b (Select h) v = ((v h.on).slot ≡ Clean) × IsAmongHops h (hops b h.bus)
-FindsFirst b (Clear on mux kind) v = FindsOpen mux (v on).slot × (home_of_mux b mux ≡ on)
+FindsFirst b (Clear on mux kind) v = FindsOpen mux (v on).slot × (home_of_mux b mux ≡ on) × IsMuxOf b mux kind
 
 -- a hop over the job's bus is behind the walk already: selected, its lock held, and none of the hops before it
 pub record IsPassed (held : List LockId) (v : Slots) (hs : List Hop) (g : Hop) : Type 0 where

@@ -64,7 +64,7 @@ job_after-failed (Clear on mux kind) marks v p un = refl
 pub finds_along : (b : BoardView) (job : Job) (v w : Slots) → ((p : ℕ) → OwnIs job p → v p ≡ w p) → FindsFirst b job v → FindsFirst b job w
 finds_along b (Call bus ms) v w same f = tt
 finds_along b (Select h) v w same f = (subst (λ (x : At). x.slot ≡ Clean) (same h.on refl) f.0, f.1)
-finds_along b (Clear on mux kind) v w same f = (subst (λ (x : At). FindsOpen mux x.slot) (same on refl) f.0, f.1)
+finds_along b (Clear on mux kind) v w same f = (subst (λ (x : At). FindsOpen mux x.slot) (same on refl) f.0, f.1, f.2)
 
 pub fail_along : (b : BoardView) (held : List LockId) (hs : List Hop) (v w : Slots) (ms : List Mark)
     → ((p : ℕ) → (Crosses p hs → ⊥) → v p ≡ w p) → AllByRecursion (λ (m : Mark). Crosses m.on hs → ⊥) ms
@@ -185,6 +185,7 @@ module _ (b : BoardView) (whose : TransferView) (root : ℕ) (hs : List Hop) (ls
   line_runs all job note k held v l before goes_on =
       subst (λ (t : Bool). Runs b whose held v (cond t (Then (Shift job) note (over job zero note k)) (messages (more_of job) job note k))) (sym l) (
         record {
+          by_line = l;
           rooted = subst (λ (r : ℕ). InLocks (lock.Bus r) held) (sym before.same_root) (before.locks (lock.Bus root) (all (lock.Bus root) (before.line_rooted l)));
           finds = line_finds b job v l before.finds;
           owns = before.owns;
@@ -224,6 +225,7 @@ root_runs b whose tree root floor (Call bus ms) note k held v l before goes_on =
       owns = tt;
       may_fail = before.may_fail;
       granted = before.granted;
+      by_message = refl;
     })
     (length ms - 1)
 root_runs b whose tree root floor (Select h) note k held v l before goes_on =
@@ -241,6 +243,7 @@ root_runs b whose tree root floor (Clear on mux kind) note k held v l before goe
       owns = before.owns;
       may_fail = before.may_fail;
       granted = tt;
+      by_message = l;
     })
 
 -- a job on the bus itself, by its kind

@@ -9,12 +9,13 @@ use Rattle.i2c_base.specs.declared.entry.End.{End}
 use Rattle.i2c_base.specs.declared.entry.End.TheVariants as end
 use Rattle.i2c_base.specs.declared.tree.Grant.TheVariants as grant
 use Rattle.i2c_base.specs.Board.{BoardView}
-use Rattle.i2c_spec.specs.Tree.{Hop, hops, buses, root_of, home_of_mux, is_absent, is_held, IsAmongHops}
+use Rattle.i2c_spec.specs.Tree.{Hop, hops, buses, root_of, home_of_mux, is_absent, is_held, of_mux, IsAmongHops}
 use Rattle.i2c_base.specs.Transfer.{TransferView}
 use Rattle.i2c_spec.specs.Messages.{MessageView, messages_of}
 use Rattle.i2c_spec.specs.Flat.{refusal}
-use Rattle.bus_spec.specs.Walk.{Mark, Job, Call, Select, Clear, Act, Take, Free, Send, Shift, Settle, ActOutcome, Passed, Sent, Lined, Note, Ask, MarkOf, WalkTree, Ends, Look, Then, job_bus, first_byte, is_arbitrator}
+use Rattle.bus_spec.specs.Walk.{Mark, Job, Call, Select, Clear, Act, Take, Free, Send, Shift, Settle, ActOutcome, Passed, Sent, Lined, Note, Ask, MarkOf, WalkTree, Ends, Look, Then, job_bus, first_byte, is_arbitrator, is_line}
 use Rattle.bus_spec.specs.Slots.{Slots, At, MuxSlot, Clean, Selected, Marked, Polled, Found, mark_in, with_slot, after_job}
+use Rattle.bus_spec.specs.Grammar.{kind_of}
 use Rattle.bus_spec.specs.Stepwise.{IsBelow}
 
 -- a lock is among these
@@ -34,10 +35,15 @@ IsShut (Selected h) = ⊥
 IsShut (Polled h more) = ⊥
 IsShut (Found h) = ⊥
 
+-- the board has a mux of this number, of this kind
+abbrev pub IsMuxOf : BoardView → ℕ → MuxKind → Type 0
+IsMuxOf b m kind = of_mux (λ x. Some x.kind) None b m ≡ Some kind
+
 -- what a taken lock may find on its bus
 pub record IsRest (b : BoardView) (p : ℕ) (s : At) : Type 0 where
   pub shut : IsShut s.slot
   pub home : (m : ℕ) → s.slot ≡ Marked m → home_of_mux b m ≡ p
+  pub known : (m : ℕ) → s.slot ≡ Marked m → IsMuxOf b m (kind_of b m)
 
 -- the bus of a mux lock has this slot when it is taken
 abbrev pub taken_slots : LockId → At → Slots → Slots
@@ -100,7 +106,7 @@ FindsOpen m (Found h) = ⊥
 abbrev pub Finds : BoardView → Job → ℕ → Slots → Type 0
 Finds b (Call bus messages) left v = Unit {0}
 Finds b (Select h) left v = FindsSelect (is_arbitrator h.kind) h left (v h.on).slot × IsAmongHops h (hops b h.bus)
-Finds b (Clear on mux kind) left v = FindsOpen mux (v on).slot × (home_of_mux b mux ≡ on)
+Finds b (Clear on mux kind) left v = FindsOpen mux (v on).slot × (home_of_mux b mux ≡ on) × IsMuxOf b mux kind
 
 -- the lock of the job's own bus is held, and its own mark is the first, and the only one on that bus
 abbrev pub IsUnmarked : ℕ → List Mark → Type 0
@@ -151,9 +157,11 @@ pub record MaySend (b : BoardView) (whose : TransferView) (job : Job) (left : �
   pub owns : Owns job marks held
   pub may_fail : MayFail b marks held v
   pub granted : IsGranted b whose job
+  pub by_message : is_line job ≡ false
 
 -- a line step needs no way, but the root's lock as well
 pub record MayShift (b : BoardView) (job : Job) (marks : List Mark) (held : List LockId) (v : Slots) : Type 0 where
+  pub by_line : is_line job ≡ true
   pub rooted : InLocks (lock.Bus (root_of b (job_bus job))) held
   pub finds : Finds b job zero v
   pub owns : Owns job marks held
