@@ -12,3 +12,4 @@ pub mod WorldReach
 pub mod WorldHears
 pub mod WorldControl
 pub mod ChipLaws
+pub mod WorldSlots
