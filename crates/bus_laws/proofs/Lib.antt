@@ -13,3 +13,5 @@ pub mod WorldHears
 pub mod WorldControl
 pub mod ChipLaws
 pub mod WorldSlots
+pub mod BoardFacts
+pub mod WorldLaw

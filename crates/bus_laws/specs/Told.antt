@@ -46,4 +46,6 @@ pub record WorldTold (b : BoardView) (v : Slots) (ws : ℕ → World) : Type 0 w
   pub board : (r : ℕ) → (ws r).board ≡ b
   pub root : (r : ℕ) → (ws r).root ≡ r
   pub count : (r : ℕ) → length (ws r).chips ≡ length b.muxes
+  -- no byte waits in a chip, nor in one of another root
+  pub rest : (r i : ℕ) (x : ChipView) → slice_get (ws r).chips i ≡ Some x → x.waiting ≡ None
   pub told : ChipsTold b v (chip_in b ws)
