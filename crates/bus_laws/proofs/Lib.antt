@@ -15,3 +15,4 @@ pub mod ChipLaws
 pub mod WorldSlots
 pub mod BoardFacts
 pub mod WorldLaw
+pub mod WorldJobs

@@ -132,6 +132,9 @@ look x = looked x.kind x
 abbrev pub IsEarlyCut : End → Type 0
 IsEarlyCut e = (e ≡ end.Cut 0) ⊎ (e ≡ end.Cut 1)
 
+abbrev pub Quiet : List ChipView → Talked → Type 0
+Quiet cs t = (t.now.chips ≡ cs) × ((t.end ≡ end.Nack) ⊎ IsEarlyCut t.end)
+
 abbrev pub Writes : List ChipView → ℕ → ℕ → Talked → Type 0
 Writes cs m byte t =
     ((t.now.chips ≡ cs) × IsEarlyCut t.end) ⊎ (Changes cs t.now.chips m (taken_byte byte) × ((t.end ≡ end.Ok) ⊎ (t.end ≡ end.Cut 2)))
@@ -189,6 +192,12 @@ module _ (b : BoardView) (tree : IsTree b) (r s : ℕ) (cs : List ChipView) (ds 
                 (told (say world_listener (record { calls = call.Start a message.reading ∷ []; bytes = []; now = begun message.reading }) call.Stop) end.Nack)
                 (record { same = begun_stopped message.reading; early = inr (inr refl) })
                 (record { same = begun_stopped message.reading; early = inl refl })))))
+
+  pub absent-talk : (limit : ℕ) (message : MessageView) (cut : Option ℕ) → message.addr ≡ a → has_chip b m ≡ false
+      → Quiet cs (talk world_listener limit (world_of b r cs ds hs busy) message true cut)
+  absent-talk limit message cut to absent =
+      let q : IsQuiet (talk world_listener limit (world_of b r cs ds hs busy) message true cut) = absent_talk limit message cut to absent in
+      (q.same, q.early)
 
   -- PRESENT: the chip listens alone
   module _ (present : has_chip b m ≡ true) where

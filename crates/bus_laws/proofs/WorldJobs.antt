@@ -1,0 +1,178 @@
+-- Selects and closes by message: what they leave of what is known, and what they may give.
+use Rattle.std.proofs.Common.{◌≡◌, ℕ, zero, suc, ◌+◌, ◌-◌, ◌<◌, ◌≤◌, Bool, true, false, cond, not, ◌&&◌, ◌||◌, List, [], ◌∷◌, length, Option, Some, None, eqb, ltb, refl, sym, ◌∙◌, ap, subst, ◌⊎◌, inl, inr, arith}
+use Rattle.std.specs.Prelude.{slice_get, bit_and}
+use Rattle.std.specs.Option.{option_map}
+use Rattle.std.proofs.lemmas.Bool.{eqb-true, eqb-false, eq-eqb}
+use Rattle.std.proofs.lemmas.Bool.Decides.{eqb_tells}
+use Rattle.i2c_base.specs.declared.entry.End.{End}
+use Rattle.i2c_base.specs.declared.entry.End.TheVariants as end
+use Rattle.i2c_base.specs.declared.board.MuxKind.{MuxKind}
+use Rattle.i2c_base.specs.declared.board.MuxKind.TheVariants.{Pca9548, Pca9546, Pca9544, Pca9541, Gpio}
+use Rattle.i2c_base.specs.declared.board.MuxSpec.{MuxSpec}
+use Rattle.i2c_base.specs.declared.ids.LockId.{LockId}
+use Rattle.i2c_base.specs.Board.{BoardView}
+use Rattle.i2c_spec.specs.Tree.{Hop, hops, root_of, home_of_mux, addr_of_mux, is_absent, is_held, of_mux, IsAmongHops}
+use Rattle.i2c_spec.specs.TreeFacts.{IsTree, IsHop}
+use Rattle.i2c_spec.specs.Plain.{IsPlainBoard}
+use Rattle.i2c_spec.specs.Chips.{ChipView, is_open, is_free, is_foreign, chip_sends, select_value, close_value, looked}
+use Rattle.i2c_spec.specs.Messages.{MessageView, write_byte, read_byte}
+use Rattle.i2c_spec.specs.Conversation.{TalkTold, world_listener, talk}
+use Rattle.i2c_spec.specs.World.{World, has_chip}
+use Rattle.i2c_spec.specs.History.{changed_at}
+use Rattle.bus_spec.specs.Walk.{Mark, Job, Select, Clear, ActOutcome, Sent, first_byte, is_gpio, is_arbitrator, chip_address}
+use Rattle.bus_spec.specs.Slots.{Slots, At, MuxSlot, Clean, Selected, Marked, Polled, Found, with_slot, set_marks, polled_slot, after_job}
+use Rattle.bus_laws.specs.Runs.{answers, CanSelect, CanGoThrough, IsMuxOf, IsOfMux, FindsOpen, FindsPoll, FindsSelect, HeadsMarks, MayFail}
+use Rattle.bus_laws.specs.Told.{chip_in, IsChipOf, Explains, ChipsTold, WorldTold}
+use Rattle.bus_laws.proofs.TreeSlots.{with_slot-same, with_slot-other, set_marks-head}
+use Rattle.bus_laws.proofs.WorldReach.{world_of}
+use Rattle.bus_laws.proofs.WorldControl.{NoneWaits, Changes, Quiet, absent-talk, Writes, Reads, IsEarlyCut, taken_byte, look, write-talk, read-talk}
+use Rattle.bus_laws.proofs.ChipLaws.{HasChannel, OpensOne, select_opens, close_opens, SameSort, taken_sort, looked_sort}
+use Rattle.bus_laws.proofs.WorldSlots.{explains_mark, MarksOnly, set_marks-only, told-marks, Turns, SlotTold, told-turned}
+use Rattle.bus_laws.proofs.BoardFacts.{mux_at, get_within, get_same_length, has_address_of, has_chip-is, not_held, foreign_few, held-is, foreign-is, has_channel, answers-is, absent_silent, held_silent}
+use Rattle.bus_laws.proofs.WorldLaw.{world-is, along_here, joined_here, talk_framed, replaced-chip, same_changes, still_none, world_replaced}
+
+-- equal chips are told alike
+told_equal : (b : BoardView) (v : Slots) (old new : ℕ → Option ChipView) → ((m : ℕ) → new m ≡ old m) → ChipsTold b v old → ChipsTold b v new
+told_equal b v old new same told =
+    record {
+      kept = λ m x e. told.kept m x (sym (same m) ∙ e);
+      opened = λ p h e. (let o = told.opened p h e in (o.0, same h.mux ∙ o.1, o.2, o.3, o.4));
+      polled = λ p h n x e at. told.polled p h n x e (sym (same h.mux) ∙ at);
+      found = λ p h x e at. told.found p h x e (sym (same h.mux) ∙ at);
+      asked = told.asked;
+      free = told.free;
+      only = λ m c x at opens. told.only m c x (sym (same m) ∙ at) opens;
+      absent = λ m c x gone at. told.absent m c x gone (sym (same m) ∙ at) }
+
+each_same : (o : Option ChipView) (t : Bool) → option_map (λ (x : ChipView). cond t x x) o ≡ o
+each_same None t = refl
+each_same (Some x) true = refl
+each_same (Some x) false = refl
+
+module _ (b : BoardView) (tree : IsTree b) (plain : IsPlainBoard b) (v : Slots) (ws : ℕ → World) (world : WorldTold b v ws)
+    (p m : ℕ) (kind : MuxKind) (known : IsMuxOf b m kind) (line : is_gpio kind ≡ false) (home : home_of_mux b m ≡ p)
+    (reached : (g : Hop) → IsAmongHops g (hops b p) → (v g.on).slot ≡ Selected g)
+    (held : List LockId) (marks : List Mark) (fail : MayFail b marks held v) (heads : HeadsMarks p m marks) (own : IsOfMux m (v p).slot)
+    (limit : ℕ) (cut : Option ℕ) where
+
+  spec : MuxSpec
+  spec = (mux_at b m kind known).0
+
+  spec-at : slice_get b.muxes m ≡ Some spec
+  unfolding spec
+  spec-at = (mux_at b m kind known).1
+
+  chip : (x : ChipView) × (slice_get (ws (root_of b p)).chips m ≡ Some x)
+  chip = get_same_length (ws (root_of b p)).chips b.muxes m spec (world.count (root_of b p)) spec-at
+
+  root_home : root_of b (home_of_mux b m) ≡ root_of b p
+  root_home = ap (λ (i : ℕ). root_of b i) home
+
+  chip-told : chip_in b ws m ≡ Some chip.0
+  chip-told = ap (λ (i : ℕ). slice_get (ws i).chips m) root_home ∙ chip.1
+
+  own_home : IsOfMux m (v (home_of_mux b m)).slot
+  own_home = subst (λ (i : ℕ). IsOfMux m (v i).slot) (sym home) own
+
+  chip-of : IsChipOf b m chip.0
+  chip-of = world.told.kept m chip.0 chip-told
+
+  kind-of : (x : ChipView) → chip_in b ws m ≡ Some x → x.kind ≡ kind
+  kind-of x e = (let f : Some x.kind ≡ Some kind = sym (world.told.kept m x e).kind ∙ known in cc)
+
+  addr-is : addr_of_mux b m ≡ Some (chip_address b m)
+  addr-is = has_address_of b plain m kind known line
+
+  there-is : has_chip b m ≡ not (is_absent b m)
+  there-is = has_chip-is b m (chip_address b m) addr-is
+
+  abbrev sent : MessageView → TalkTold World
+  sent message = talk world_listener limit (ws (root_of b p)) message true cut
+
+  framed : (message : MessageView) → ((sent message).now.board ≡ b) × ((sent message).now.root ≡ root_of b p) × (length (sent message).now.chips ≡ length b.muxes)
+  framed message = talk_framed b (root_of b p) limit (ws (root_of b p)) message true cut (world.board (root_of b p), world.root (root_of b p), world.count (root_of b p))
+
+  quiet : (message : MessageView) → message.addr ≡ chip_address b m → is_absent b m ≡ true → Quiet (ws (root_of b p)).chips (sent message)
+  quiet message to gone =
+      subst (λ (u : World). Quiet (ws (root_of b p)).chips (talk world_listener limit u message true cut)) (sym (world-is b tree plain v ws world p reached))
+        (absent-talk b tree (root_of b p) p (ws (root_of b p)).chips (ws (root_of b p)).devices (ws (root_of b p)).hearing (ws (root_of b p)).busy
+          (along_here b tree plain v ws world p reached) m (chip_address b m) chip.0 addr-is home
+          (joined_here b tree plain v ws world p reached) chip.1 (world.rest (root_of b p)) limit message cut to (there-is ∙ ap not gone))
+
+  writes : (byte : ℕ) → is_absent b m ≡ false → Writes (ws (root_of b p)).chips m byte (sent (write_byte (chip_address b m) byte))
+  writes byte here =
+      subst (λ (u : World). Writes (ws (root_of b p)).chips m byte (talk world_listener limit u (write_byte (chip_address b m) byte) true cut)) (sym (world-is b tree plain v ws world p reached))
+        (write-talk b tree (root_of b p) p (ws (root_of b p)).chips (ws (root_of b p)).devices (ws (root_of b p)).hearing (ws (root_of b p)).busy
+          (along_here b tree plain v ws world p reached) m (chip_address b m) chip.0 addr-is home
+          (joined_here b tree plain v ws world p reached) chip.1 (world.rest (root_of b p)) (there-is ∙ ap not here) limit byte cut)
+
+  reads : is_absent b m ≡ false → Reads (ws (root_of b p)).chips m (chip_sends chip.0.kind chip.0) (sent (read_byte (chip_address b m)))
+  reads here =
+      subst (λ (u : World). Reads (ws (root_of b p)).chips m (chip_sends chip.0.kind chip.0) (talk world_listener limit u (read_byte (chip_address b m)) true cut)) (sym (world-is b tree plain v ws world p reached))
+        (read-talk b tree (root_of b p) p (ws (root_of b p)).chips (ws (root_of b p)).devices (ws (root_of b p)).hearing (ws (root_of b p)).busy
+          (along_here b tree plain v ws world p reached) m (chip_address b m) chip.0 addr-is home
+          (joined_here b tree plain v ws world p reached) chip.1 (world.rest (root_of b p)) (there-is ∙ ap not here) limit cut)
+
+  -- one chip changed, and the slot of its bus
+  turn : (message : MessageView) (u : Slots) (s : MuxSlot) (f : ChipView → ChipView) → Changes (ws (root_of b p)).chips (sent message).now.chips m f
+      → ((x : ChipView) → SameSort x (f x)) → (u p).slot ≡ s → ((q : ℕ) → (q ≡ p → ⊥) → u q ≡ v q) → SlotTold b (chip_in b ws) m f s
+      → WorldTold b u (changed_at ws (root_of b p) (sent message).now)
+  turn message u s f changes sort here others slot =
+      world_replaced b v u ws (root_of b p) (sent message).now world (framed message)
+        (still_none (ws (root_of b p)).chips (sent message).now.chips m f changes (λ x e. sort x) (world.rest (root_of b p)))
+        (told-turned b v u (chip_in b ws) (chip_in b (changed_at ws (root_of b p) (sent message).now)) m f s
+          (replaced-chip b ws (root_of b p) (sent message).now m f root_home changes)
+          (ap (λ (i : ℕ). (u i).slot) home ∙ here) (λ q ne. others q (λ e. ne (e ∙ sym home))) own_home (λ x e. sort x) slot world.told)
+
+  -- nothing changed but marks
+  mark_only : (message : MessageView) → (sent message).now.chips ≡ (ws (root_of b p)).chips
+      → WorldTold b (set_marks marks v) (changed_at ws (root_of b p) (sent message).now)
+  mark_only message same =
+      world_replaced b v (set_marks marks v) ws (root_of b p) (sent message).now world (framed message)
+        (λ i x e. world.rest (root_of b p) i x (ap (λ (xs : List ChipView). slice_get xs i) (sym same) ∙ e))
+        (told_equal b (set_marks marks v) (chip_in b ws) (chip_in b (changed_at ws (root_of b p) (sent message).now))
+          (λ i. replaced-chip b ws (root_of b p) (sent message).now m (λ x. x) root_home (same_changes (ws (root_of b p)).chips (sent message).now.chips m same) i
+            ∙ each_same (chip_in b ws i) (eqb i m))
+          (told-marks b v (set_marks marks v) (chip_in b ws) (set_marks-only b held v marks fail) world.told))
+
+  own_marked : (set_marks marks v (home_of_mux b m)).slot ≡ Marked m
+  own_marked = by_head marks heads
+    where
+      by_head : (ms : List Mark) → HeadsMarks p m ms → (set_marks ms v (home_of_mux b m)).slot ≡ Marked m
+      by_head [] h = absurd h
+      by_head (x ∷ xs) h =
+          ap (λ (i : ℕ). (set_marks (x ∷ xs) v i).slot) (home ∙ sym h.0)
+            ∙ ap (λ (y : At). y.slot) (set_marks-head x xs v) ∙ ap Marked h.1
+
+  -- a chip changed, and its mux is marked: whatever it is now, the mark tells of it
+  marked_turn : (message : MessageView) (f : ChipView → ChipView) → Changes (ws (root_of b p)).chips (sent message).now.chips m f
+      → ((x : ChipView) → SameSort x (f x)) → is_absent b m ≡ false
+      → WorldTold b (set_marks marks v) (changed_at ws (root_of b p) (sent message).now)
+  marked_turn message f changes sort here =
+      world_replaced b v (set_marks marks v) ws (root_of b p) (sent message).now world (framed message)
+        (still_none (ws (root_of b p)).chips (sent message).now.chips m f changes (λ x e. sort x) (world.rest (root_of b p)))
+        (told-turned b (set_marks marks v) (set_marks marks v) (chip_in b ws) (chip_in b (changed_at ws (root_of b p) (sent message).now)) m f (Marked m)
+          (replaced-chip b ws (root_of b p) (sent message).now m f root_home changes)
+          own_marked (λ q ne. refl)
+          (subst (λ (s : MuxSlot). IsOfMux m s) (sym own_marked) refl) (λ x e. sort x)
+          (record {
+            opened = λ h e. absurd (let g : Marked m ≡ Selected h = e in cc);
+            polled = λ h n e. absurd (let g : Marked m ≡ Polled h n = e in cc);
+            found = λ h e. absurd (let g : Marked m ≡ Found h = e in cc);
+            only = λ c x at opens. refl;
+            absent = λ c x gone at. absurd (let g : true ≡ false = sym gone ∙ here in cc) })
+          (told-marks b v (set_marks marks v) (chip_in b ws) (set_marks-only b held v marks fail) world.told))
+
+  -- nobody acknowledged: the mux is absent, and nothing is open on its bus
+  nack_clean : (message : MessageView) → is_absent b m ≡ true → (sent message).now.chips ≡ (ws (root_of b p)).chips
+      → WorldTold b (with_slot v p Clean) (changed_at ws (root_of b p) (sent message).now)
+  nack_clean message gone same =
+      turn message (with_slot v p Clean) Clean (λ x. x) (same_changes (ws (root_of b p)).chips (sent message).now.chips m same)
+        (λ x. record { kind = refl; foreign = refl; left = λ h. h; waiting = λ e. e })
+        (ap (λ (y : At). y.slot) (with_slot-same v p Clean)) (λ q ne. with_slot-other v p q Clean ne)
+        (record {
+          opened = λ h e. absurd (let g : Clean ≡ Selected h = e in cc);
+          polled = λ h n e. absurd (let g : Clean ≡ Polled h n = e in cc);
+          found = λ h e. absurd (let g : Clean ≡ Found h = e in cc);
+          only = λ c x at opens. absurd (let g : false ≡ true = sym (world.told.absent m c x gone at) ∙ opens in cc);
+          absent = λ c x e at. world.told.absent m c x gone at })
