@@ -14,7 +14,7 @@ use Rattle.i2c_base.specs.Board.{BoardView}
 use Rattle.i2c_spec.specs.Tree.{Hop, hops, root_of, home_of_mux, addr_of_mux, is_absent, is_held, of_mux, IsAmongHops}
 use Rattle.i2c_spec.specs.TreeFacts.{IsTree, IsHop}
 use Rattle.i2c_spec.specs.Plain.{IsPlainBoard}
-use Rattle.i2c_spec.specs.Chips.{ChipView, is_open, is_free, is_foreign, chip_sends, select_value, close_value, looked}
+use Rattle.i2c_spec.specs.Chips.{ChipView, is_open, is_free, is_foreign, chip_sends, select_value, close_value, taken, looked}
 use Rattle.i2c_spec.specs.Messages.{MessageView, write_byte, read_byte}
 use Rattle.i2c_spec.specs.Conversation.{TalkTold, world_listener, talk}
 use Rattle.i2c_spec.specs.World.{World, has_chip}
@@ -25,7 +25,7 @@ use Rattle.bus_laws.specs.Runs.{answers, CanSelect, CanGoThrough, IsMuxOf, IsOfM
 use Rattle.bus_laws.specs.Told.{chip_in, IsChipOf, Explains, ChipsTold, WorldTold}
 use Rattle.bus_laws.proofs.TreeSlots.{with_slot-same, with_slot-other, set_marks-head}
 use Rattle.bus_laws.proofs.WorldReach.{world_of}
-use Rattle.bus_laws.proofs.WorldControl.{NoneWaits, Changes, Quiet, absent-talk, Writes, Reads, IsEarlyCut, taken_byte, look, write-talk, read-talk}
+use Rattle.bus_laws.proofs.WorldControl.{put_byte, NoneWaits, Changes, Quiet, absent-talk, Writes, Reads, IsEarlyCut, taken_byte, look, write-talk, read-talk}
 use Rattle.bus_laws.proofs.ChipLaws.{HasChannel, OpensOne, select_opens, close_opens, SameSort, taken_sort, looked_sort}
 use Rattle.bus_laws.proofs.WorldSlots.{explains_mark, MarksOnly, set_marks-only, told-marks, Turns, SlotTold, told-turned}
 use Rattle.bus_laws.proofs.BoardFacts.{mux_at, get_within, get_same_length, has_address_of, has_chip-is, not_held, foreign_few, held-is, foreign-is, has_channel, answers-is, absent_silent, held_silent}
@@ -113,16 +113,22 @@ module _ (b : BoardView) (tree : IsTree b) (plain : IsPlainBoard b) (v : Slots) 
           (along_here b tree plain v ws world p reached) m (chip_address b m) chip.0 addr-is home
           (joined_here b tree plain v ws world p reached) chip.1 (world.rest (root_of b p)) (there-is ∙ ap not here) limit cut)
 
+  in_world : (x : ChipView) → slice_get (ws (root_of b p)).chips m ≡ Some x → chip_in b ws m ≡ Some x
+  in_world x e = ap (λ (i : ℕ). slice_get (ws i).chips m) root_home ∙ e
+
+  no_line : (x : ChipView) → chip_in b ws m ≡ Some x → is_gpio x.kind ≡ false
+  no_line x e = ap is_gpio (kind-of x e) ∙ line
+
   -- one chip changed, and the slot of its bus
   turn : (message : MessageView) (u : Slots) (s : MuxSlot) (f : ChipView → ChipView) → Changes (ws (root_of b p)).chips (sent message).now.chips m f
-      → ((x : ChipView) → SameSort x (f x)) → (u p).slot ≡ s → ((q : ℕ) → (q ≡ p → ⊥) → u q ≡ v q) → SlotTold b (chip_in b ws) m f s
+      → ((x : ChipView) → chip_in b ws m ≡ Some x → SameSort x (f x)) → (u p).slot ≡ s → ((q : ℕ) → (q ≡ p → ⊥) → u q ≡ v q) → SlotTold b (chip_in b ws) m f s
       → WorldTold b u (changed_at ws (root_of b p) (sent message).now)
   turn message u s f changes sort here others slot =
       world_replaced b v u ws (root_of b p) (sent message).now world (framed message)
-        (still_none (ws (root_of b p)).chips (sent message).now.chips m f changes (λ x e. sort x) (world.rest (root_of b p)))
+        (still_none (ws (root_of b p)).chips (sent message).now.chips m f changes (λ x e. sort x (in_world x e)) (world.rest (root_of b p)))
         (told-turned b v u (chip_in b ws) (chip_in b (changed_at ws (root_of b p) (sent message).now)) m f s
           (replaced-chip b ws (root_of b p) (sent message).now m f root_home changes)
-          (ap (λ (i : ℕ). (u i).slot) home ∙ here) (λ q ne. others q (λ e. ne (e ∙ sym home))) own_home (λ x e. sort x) slot world.told)
+          (ap (λ (i : ℕ). (u i).slot) home ∙ here) (λ q ne. others q (λ e. ne (e ∙ sym home))) own_home sort slot world.told)
 
   -- nothing changed but marks
   mark_only : (message : MessageView) → (sent message).now.chips ≡ (ws (root_of b p)).chips
@@ -146,15 +152,15 @@ module _ (b : BoardView) (tree : IsTree b) (plain : IsPlainBoard b) (v : Slots) 
 
   -- a chip changed, and its mux is marked: whatever it is now, the mark tells of it
   marked_turn : (message : MessageView) (f : ChipView → ChipView) → Changes (ws (root_of b p)).chips (sent message).now.chips m f
-      → ((x : ChipView) → SameSort x (f x)) → is_absent b m ≡ false
+      → ((x : ChipView) → chip_in b ws m ≡ Some x → SameSort x (f x)) → is_absent b m ≡ false
       → WorldTold b (set_marks marks v) (changed_at ws (root_of b p) (sent message).now)
   marked_turn message f changes sort here =
       world_replaced b v (set_marks marks v) ws (root_of b p) (sent message).now world (framed message)
-        (still_none (ws (root_of b p)).chips (sent message).now.chips m f changes (λ x e. sort x) (world.rest (root_of b p)))
+        (still_none (ws (root_of b p)).chips (sent message).now.chips m f changes (λ x e. sort x (in_world x e)) (world.rest (root_of b p)))
         (told-turned b (set_marks marks v) (set_marks marks v) (chip_in b ws) (chip_in b (changed_at ws (root_of b p) (sent message).now)) m f (Marked m)
           (replaced-chip b ws (root_of b p) (sent message).now m f root_home changes)
           own_marked (λ q ne. refl)
-          (subst (λ (s : MuxSlot). IsOfMux m s) (sym own_marked) refl) (λ x e. sort x)
+          (subst (λ (s : MuxSlot). IsOfMux m s) (sym own_marked) refl) sort
           (record {
             opened = λ h e. absurd (let g : Marked m ≡ Selected h = e in cc);
             polled = λ h n e. absurd (let g : Marked m ≡ Polled h n = e in cc);
@@ -168,7 +174,7 @@ module _ (b : BoardView) (tree : IsTree b) (plain : IsPlainBoard b) (v : Slots) 
       → WorldTold b (with_slot v p Clean) (changed_at ws (root_of b p) (sent message).now)
   nack_clean message gone same =
       turn message (with_slot v p Clean) Clean (λ x. x) (same_changes (ws (root_of b p)).chips (sent message).now.chips m same)
-        (λ x. record { kind = refl; foreign = refl; left = λ h. h; waiting = λ e. e })
+        (λ x at. record { kind = refl; foreign = refl; left = λ h. h; waiting = λ e. e })
         (ap (λ (y : At). y.slot) (with_slot-same v p Clean)) (λ q ne. with_slot-other v p q Clean ne)
         (record {
           opened = λ h e. absurd (let g : Clean ≡ Selected h = e in cc);
@@ -176,3 +182,121 @@ module _ (b : BoardView) (tree : IsTree b) (plain : IsPlainBoard b) (v : Slots) 
           found = λ h e. absurd (let g : Clean ≡ Found h = e in cc);
           only = λ c x at opens. absurd (let g : false ≡ true = sym (world.told.absent m c x gone at) ∙ opens in cc);
           absent = λ c x e at. world.told.absent m c x gone at })
+
+  -- THE CLOSE
+  close_done : (message : MessageView) → Changes (ws (root_of b p)).chips (sent message).now.chips m (taken_byte close_value)
+      → WorldTold b (with_slot v p Clean) (changed_at ws (root_of b p) (sent message).now)
+  close_done message changes =
+      turn message (with_slot v p Clean) Clean (taken_byte close_value) changes
+        (λ x at. taken_sort x.kind x close_value (no_line x at))
+        (ap (λ (y : At). y.slot) (with_slot-same v p Clean)) (λ q ne. with_slot-other v p q Clean ne)
+        (record {
+          opened = λ h e. absurd (let g : Clean ≡ Selected h = e in cc);
+          polled = λ h n e. absurd (let g : Clean ≡ Polled h n = e in cc);
+          found = λ h e. absurd (let g : Clean ≡ Found h = e in cc);
+          only = λ c x at opens. absurd (let g : false ≡ true = sym (close_opens x.kind x c refl (no_line x at)) ∙ opens in cc);
+          absent = λ c x e at. close_opens x.kind x c refl (no_line x at) })
+
+  abbrev close_message : MessageView
+  close_message = write_byte (chip_address b m) close_value
+
+  abbrev Closed : End → List ℕ → Type 0
+  Closed e bytes = WorldTold b (after_job (Clear p m kind) zero marks (Sent e bytes) v) (changed_at ws (root_of b p) (sent close_message).now)
+
+  close_by : (t : Bool) → is_absent b m ≡ t → (bytes : List ℕ) → Closed (sent close_message).end bytes
+  close_by true gone bytes =
+      let q = quiet close_message refl gone in
+      elim q.1 [
+        inl e ↦ subst (λ (x : End). Closed x bytes) (sym e) (nack_clean close_message gone q.0)
+      | inr early ↦ elim early [
+          inl e ↦ subst (λ (x : End). Closed x bytes) (sym e) (mark_only close_message q.0)
+        | inr e ↦ subst (λ (x : End). Closed x bytes) (sym e) (mark_only close_message q.0) ] ]
+  close_by false here bytes =
+      elim (writes close_value here) [
+        inl cut_off ↦ elim cut_off.1 [
+          inl e ↦ subst (λ (x : End). Closed x bytes) (sym e) (mark_only close_message cut_off.0)
+        | inr e ↦ subst (λ (x : End). Closed x bytes) (sym e) (mark_only close_message cut_off.0) ]
+      | inr through ↦ elim through.1 [
+          inl e ↦ subst (λ (x : End). Closed x bytes) (sym e) (close_done close_message through.0)
+        | inr e ↦ subst (λ (x : End). Closed x bytes) (sym e)
+            (marked_turn close_message (taken_byte close_value) through.0 (λ x at. taken_sort x.kind x close_value (no_line x at)) here) ] ]
+
+  pub close-told : (bytes : List ℕ) → Closed (sent close_message).end bytes
+  close-told bytes = close_by (is_absent b m) refl bytes
+
+  -- THE SELECT
+  module _ (h : Hop) (same_on : h.on ≡ p) (same_mux : h.mux ≡ m) (same_kind : h.kind ≡ kind) (has : HasChannel kind h.channel) where
+
+    slot_here : (s : MuxSlot) → (with_slot v h.on s p).slot ≡ s
+    slot_here s = ap (λ (i : ℕ). (with_slot v h.on s i).slot) (sym same_on) ∙ ap (λ (y : At). y.slot) (with_slot-same v h.on s)
+
+    slot_there : (s : MuxSlot) (q : ℕ) → (q ≡ p → ⊥) → with_slot v h.on s q ≡ v q
+    slot_there s q ne = with_slot-other v h.on q s (λ e. ne (e ∙ same_on))
+
+    nack_here : (message : MessageView) → is_absent b m ≡ true → (sent message).now.chips ≡ (ws (root_of b p)).chips
+        → WorldTold b (with_slot v h.on Clean) (changed_at ws (root_of b p) (sent message).now)
+    nack_here message gone same =
+        subst (λ (i : ℕ). WorldTold b (with_slot v i Clean) (changed_at ws (root_of b p) (sent message).now)) (sym same_on) (nack_clean message gone same)
+
+    -- the write
+    abbrev value : ℕ
+    value = select_value kind h.channel
+
+    abbrev select_message : MessageView
+    select_message = write_byte (chip_address b m) (select_value h.kind h.channel)
+
+    same_value : select_value h.kind h.channel ≡ value
+    same_value = ap (λ (k : MuxKind). select_value k h.channel) same_kind
+
+    select_done : ((x : ChipView) → chip_in b ws m ≡ Some x → is_arbitrator kind ≡ true → is_free x ≡ true) → is_absent b m ≡ false
+        → Changes (ws (root_of b p)).chips (sent select_message).now.chips m (taken_byte (select_value h.kind h.channel))
+        → WorldTold b (with_slot v h.on (Selected h)) (changed_at ws (root_of b p) (sent select_message).now)
+    select_done free here changes =
+        turn select_message (with_slot v h.on (Selected h)) (Selected h) (taken_byte (select_value h.kind h.channel)) changes
+          (λ x at. taken_sort x.kind x (select_value h.kind h.channel) (no_line x at))
+          (slot_here (Selected h)) (slot_there (Selected h))
+          (record {
+            opened = λ g e. (let f : h ≡ g = (let e2 : Selected h ≡ Selected g = e in cc) in
+              (ap (λ (i : Hop). i.mux) (sym f) ∙ same_mux, chip.0, chip-told,
+               subst (λ (i : Hop). is_open (taken_byte (select_value h.kind h.channel) chip.0) i.channel ≡ true) f (opens chip.0 chip-told).opened, here));
+            polled = λ g n e. absurd (let f : Selected h ≡ Polled g n = e in cc);
+            found = λ g e. absurd (let f : Selected h ≡ Found g = e in cc);
+            only = λ c x at open_now. (same_mux, (opens x at).only c open_now);
+            absent = λ c x gone at. absurd (let f : true ≡ false = sym gone ∙ here in cc) })
+      where
+        opens : (x : ChipView) → chip_in b ws m ≡ Some x → OpensOne (taken_byte (select_value h.kind h.channel) x) h.channel
+        opens x at =
+            subst (λ (n : ℕ). OpensOne (taken_byte n x) h.channel) (sym same_value)
+              (subst (λ (k : MuxKind). OpensOne (taken k (put_byte value x) value) h.channel) (sym (kind-of x at))
+                (select_opens kind x h.channel (kind-of x at) line has (free x at)))
+
+    abbrev Chosen : End → List ℕ → Type 0
+    Chosen e bytes = WorldTold b (after_job (Select h) zero marks (Sent e bytes) v) (changed_at ws (root_of b p) (sent select_message).now)
+
+    answers_here : is_absent b m ≡ false → is_held b m ≡ false → answers b h.mux ≡ true
+    answers_here here free = ap (answers b) same_mux ∙ answers-is b m here free
+
+    select_by : ((x : ChipView) → chip_in b ws m ≡ Some x → is_arbitrator kind ≡ true → is_free x ≡ true) → is_held b m ≡ false
+        → (t : Bool) → is_absent b m ≡ t → (bytes : List ℕ) → Chosen (sent select_message).end bytes × CanSelect b h zero (sent select_message).end bytes
+    select_by free held_not true gone bytes =
+        let q = quiet select_message refl gone in
+        let silent : answers b h.mux ≡ false = ap (answers b) same_mux ∙ absent_silent b m gone in
+        elim q.1 [
+          inl e ↦ subst (λ (x : End). Chosen x bytes × CanSelect b h zero x bytes) (sym e) (nack_here select_message gone q.0, silent)
+        | inr early ↦ elim early [
+            inl e ↦ subst (λ (x : End). Chosen x bytes × CanSelect b h zero x bytes) (sym e) (mark_only select_message q.0, tt)
+          | inr e ↦ subst (λ (x : End). Chosen x bytes × CanSelect b h zero x bytes) (sym e) (mark_only select_message q.0, tt) ] ]
+    select_by free held_not false here bytes =
+        elim (writes (select_value h.kind h.channel) here) [
+          inl cut_off ↦ elim cut_off.1 [
+            inl e ↦ subst (λ (x : End). Chosen x bytes × CanSelect b h zero x bytes) (sym e) (mark_only select_message cut_off.0, tt)
+          | inr e ↦ subst (λ (x : End). Chosen x bytes × CanSelect b h zero x bytes) (sym e) (mark_only select_message cut_off.0, tt) ]
+        | inr through ↦ elim through.1 [
+            inl e ↦ subst (λ (x : End). Chosen x bytes × CanSelect b h zero x bytes) (sym e) (select_done free here through.0, answers_here here held_not)
+          | inr e ↦ subst (λ (x : End). Chosen x bytes × CanSelect b h zero x bytes) (sym e)
+              (marked_turn select_message (taken_byte (select_value h.kind h.channel)) through.0
+                (λ x at. taken_sort x.kind x (select_value h.kind h.channel) (no_line x at)) here, tt) ] ]
+
+    pub select-told : ((x : ChipView) → chip_in b ws m ≡ Some x → is_arbitrator kind ≡ true → is_free x ≡ true) → is_held b m ≡ false
+        → (bytes : List ℕ) → Chosen (sent select_message).end bytes × CanSelect b h zero (sent select_message).end bytes
+    select-told free held_not bytes = select_by free held_not (is_absent b m) refl bytes
