@@ -114,7 +114,7 @@ given_one b r cs ds busy m e i x =
     | inr h ↦ ap (λ (o : Option Event). given chip_table o x) ((to_one b r cs ds busy m e).else (0 + i) (λ q. h.1 (sym (zero-add i) ∙ q)))
         ∙ sym (ap (λ (t : Bool). cond t (chip_after x e) x) h.0) ]
 
-looked_opens : (k : MuxKind) (x : ChipView) (c : ℕ) → is_open (looked k x) c ≡ is_open x c
+pub looked_opens : (k : MuxKind) (x : ChipView) (c : ℕ) → is_open (looked k x) c ≡ is_open x c
 looked_opens Pca9541 x c = by_foreign (eqb x.foreign 8)
   where
     by_foreign : (t : Bool) → is_open (cond t x (record x { left = x.left - 1 })) c ≡ is_open x c

@@ -2,7 +2,7 @@
 use Rattle.std.proofs.Common.{◌≡◌, ℕ, zero, suc, ◌+◌, ◌-◌, ◌<◌, ◌≤◌, Bool, true, false, cond, not, ◌&&◌, ◌||◌, List, [], ◌∷◌, length, Option, Some, None, eqb, ltb, refl, sym, ◌∙◌, ap, subst, ◌⊎◌, inl, inr, arith}
 use Rattle.std.specs.Prelude.{slice_get, bit_and}
 use Rattle.std.specs.Option.{option_map}
-use Rattle.std.proofs.lemmas.Bool.{eqb-true, eqb-false, eq-eqb}
+use Rattle.std.proofs.lemmas.Bool.{eqb-true, eqb-false, eq-eqb, cases_lt, ltb-true, ltb-false}
 use Rattle.std.proofs.lemmas.Bool.Decides.{eqb_tells}
 use Rattle.i2c_base.specs.declared.entry.End.{End}
 use Rattle.i2c_base.specs.declared.entry.End.TheVariants as end
@@ -25,7 +25,7 @@ use Rattle.bus_laws.specs.Runs.{answers, CanSelect, CanGoThrough, IsMuxOf, IsOfM
 use Rattle.bus_laws.specs.Told.{chip_in, IsChipOf, Explains, ChipsTold, WorldTold}
 use Rattle.bus_laws.proofs.TreeSlots.{with_slot-same, with_slot-other, set_marks-head}
 use Rattle.bus_laws.proofs.WorldReach.{world_of}
-use Rattle.bus_laws.proofs.WorldControl.{put_byte, NoneWaits, Changes, Quiet, absent-talk, Writes, Reads, IsEarlyCut, taken_byte, look, write-talk, read-talk}
+use Rattle.bus_laws.proofs.WorldControl.{looked_opens, put_byte, NoneWaits, Changes, Quiet, absent-talk, Writes, Reads, IsEarlyCut, taken_byte, look, write-talk, read-talk}
 use Rattle.bus_laws.proofs.ChipLaws.{HasChannel, OpensOne, select_opens, close_opens, SameSort, taken_sort, looked_sort}
 use Rattle.bus_laws.proofs.WorldSlots.{explains_mark, MarksOnly, set_marks-only, told-marks, Turns, SlotTold, told-turned}
 use Rattle.bus_laws.proofs.BoardFacts.{mux_at, get_within, get_same_length, has_address_of, has_chip-is, not_held, foreign_few, held-is, foreign-is, has_channel, answers-is, absent_silent, held_silent}
@@ -48,6 +48,47 @@ each_same : (o : Option ChipView) (t : Bool) → option_map (λ (x : ChipView). 
 each_same None t = refl
 each_same (Some x) true = refl
 each_same (Some x) false = refl
+
+arbitrator_kind : (k : MuxKind) → is_arbitrator k ≡ true → k ≡ Pca9541
+arbitrator_kind Pca9541 e = refl
+arbitrator_kind Pca9548 e = absurd (let f : false ≡ true = e in cc)
+arbitrator_kind Pca9546 e = absurd (let f : false ≡ true = e in cc)
+arbitrator_kind Pca9544 e = absurd (let f : false ≡ true = e in cc)
+arbitrator_kind Gpio e = absurd (let f : false ≡ true = e in cc)
+
+-- a look at an arbitrator that is found taken finds it once less, or it is held; one that is found free is free
+look_left : (x : ChipView) (k : ℕ) → x.kind ≡ Pca9541 → (x.left ≤ suc k) ⊎ (x.foreign ≡ 8) → ((look x).left ≤ k) ⊎ ((look x).foreign ≡ 8)
+look_left x k kind few =
+    subst (λ (y : ChipView). (y.left ≤ k) ⊎ (y.foreign ≡ 8)) (sym (ap (λ (j : MuxKind). looked j x) kind)) (by_foreign (eqb_tells x.foreign 8))
+  where
+    by_foreign : ((eqb x.foreign 8 ≡ true) × (x.foreign ≡ 8)) ⊎ ((eqb x.foreign 8 ≡ false) × (x.foreign ≡ 8 → ⊥))
+        → ((cond (eqb x.foreign 8) x (record x { left = x.left - 1 })).left ≤ k) ⊎ ((cond (eqb x.foreign 8) x (record x { left = x.left - 1 })).foreign ≡ 8)
+    by_foreign (inl held) = inr (ap (λ (t : Bool). (cond t x (record x { left = x.left - 1 })).foreign) held.0 ∙ held.1)
+    by_foreign (inr not_held) =
+        inl (subst (λ (t : Bool). (cond t x (record x { left = x.left - 1 })).left ≤ k) (sym not_held.0)
+          (elim few [ inl l ↦ (let at : x.left ≤ suc k = l in omega arith) | inr f ↦ absurd (not_held.1 f) ]))
+
+look_free : (x : ChipView) → x.kind ≡ Pca9541 → is_foreign x ≡ false → is_free (look x) ≡ true
+look_free x kind free =
+    subst (λ (y : ChipView). is_free y ≡ true) (sym (ap (λ (j : MuxKind). looked j x) kind)) (by_foreign (eqb x.foreign 8) (ltb 0 x.left) refl refl free)
+  where
+    by_foreign : (t u : Bool) → eqb x.foreign 8 ≡ t → ltb 0 x.left ≡ u → (eqb x.foreign 8 || ltb 0 x.left) ≡ false
+        → is_free (cond (eqb x.foreign 8) x (record x { left = x.left - 1 })) ≡ true
+    by_foreign true u e f or_is = absurd (let g : true ≡ false = sym (ap (λ (s : Bool). s || ltb 0 x.left) e) ∙ or_is in cc)
+    by_foreign false true e f or_is = absurd (let g : true ≡ false = sym (ap (λ (s : Bool). s || ltb 0 x.left) e ∙ f) ∙ or_is in cc)
+    by_foreign false false e f or_is =
+        ap (λ (s : Bool). is_free (cond s x (record x { left = x.left - 1 }))) e
+          ∙ ap (λ (s : Bool). not s && eqb (x.left - 1) 0) e
+          ∙ eq-eqb (x.left - 1) 0 (let none : x.left ≤ 0 = ltb-false 0 x.left f in omega arith)
+
+held_or_left : (x : ChipView) → is_foreign x ≡ true → (x.left ≤ 0) ⊎ (x.foreign ≡ 8) → x.foreign ≡ 8
+held_or_left x foreign few =
+    elim (eqb_tells x.foreign 8) [
+      inl h ↦ h.1
+    | inr h ↦ elim few [
+        inl l ↦ absurd (let some : 0 < x.left = ltb-true 0 x.left (sym (ap (λ (s : Bool). s || ltb 0 x.left) h.0) ∙ foreign) in
+                        let none : x.left ≤ 0 = l in omega arith)
+      | inr f ↦ f ] ]
 
 module _ (b : BoardView) (tree : IsTree b) (plain : IsPlainBoard b) (v : Slots) (ws : ℕ → World) (world : WorldTold b v ws)
     (p m : ℕ) (kind : MuxKind) (known : IsMuxOf b m kind) (line : is_gpio kind ≡ false) (home : home_of_mux b m ≡ p)
@@ -300,3 +341,128 @@ module _ (b : BoardView) (tree : IsTree b) (plain : IsPlainBoard b) (v : Slots) 
     pub select-told : ((x : ChipView) → chip_in b ws m ≡ Some x → is_arbitrator kind ≡ true → is_free x ≡ true) → is_held b m ≡ false
         → (bytes : List ℕ) → Chosen (sent select_message).end bytes × CanSelect b h zero (sent select_message).end bytes
     select-told free held_not bytes = select_by free held_not (is_absent b m) refl bytes
+
+    -- a poll
+    module _ (arb : is_arbitrator kind ≡ true) (n : ℕ) (finds : FindsPoll h (suc n) (v h.on).slot) where
+
+      abbrev poll_message : MessageView
+      poll_message = read_byte (chip_address b m)
+
+      arb-kind : (x : ChipView) → chip_in b ws m ≡ Some x → x.kind ≡ Pca9541
+      arb-kind x at = kind-of x at ∙ arbitrator_kind kind arb
+
+      few_left : (x : ChipView) → chip_in b ws m ≡ Some x → (x.left ≤ n) ⊎ (x.foreign ≡ 8)
+      few_left x at =
+          elim finds [
+            inl polled ↦ world.told.polled h.on h n x polled (ap (λ (i : ℕ). chip_in b ws i) same_mux ∙ at)
+          | inr first ↦ (let kept : IsChipOf b m x = world.told.kept m x at in
+                         let most : of_mux (λ y. y.foreign) 0 b m ≤ 8 = foreign_few b plain m kind known in
+                         elim (eqb_tells x.foreign 8) [
+                           inl e ↦ inr e.1
+                         | inr ne ↦ inl (less x.left x.foreign n kept.left (subst (λ (i : ℕ). i ≤ 8) kept.foreign most) ne.1 first.0) ]) ]
+        where
+          less : (l f k : ℕ) → l ≤ f → f ≤ 8 → (f ≡ 8 → ⊥) → k ≡ 7 → l ≤ k
+          less l f k lf f8 ne k7 = elim (cases_lt f 8) [ inl below ↦ omega arith | inr above ↦ absurd (ne (omega arith)) ]
+
+      -- nothing is open while it is asked
+      shut_now : (c : ℕ) (x : ChipView) → chip_in b ws m ≡ Some x → is_open (look x) c ≡ true → ⊥
+      shut_now c x at opens =
+          let explained : Explains (v h.on).slot m c =
+            subst (λ (i : ℕ). Explains (v i).slot m c) (home ∙ sym same_on) (world.told.only m c x at (sym (looked_opens x.kind x c) ∙ opens)) in
+          elim finds [
+            inl polled ↦ subst (λ (s : MuxSlot). Explains s m c) polled explained
+          | inr first ↦ subst (λ (s : MuxSlot). Explains s m c) first.1 explained ]
+
+      poll_turn : (s : MuxSlot) → is_absent b m ≡ false → Changes (ws (root_of b p)).chips (sent poll_message).now.chips m look → SlotTold b (chip_in b ws) m look s
+          → WorldTold b (with_slot v h.on s) (changed_at ws (root_of b p) (sent poll_message).now)
+      poll_turn s here changes slot =
+          turn poll_message (with_slot v h.on s) s look changes (λ x at. looked_sort x.kind x) (slot_here s) (slot_there s) slot
+
+      polled_slot-told : (k : ℕ) → n ≡ suc k → is_absent b m ≡ false → SlotTold b (chip_in b ws) m look (Polled h k)
+      polled_slot-told k at_k here =
+          record {
+            opened = λ g e. absurd (let f : Polled h k ≡ Selected g = e in cc);
+            polled = λ g j e. (let f : (h ≡ g) × (k ≡ j) = (let e2 : Polled h k ≡ Polled g j = e in (cc, cc)) in
+              (ap (λ (i : Hop). i.mux) (sym f.0) ∙ same_mux,
+               λ x at. subst (λ (i : ℕ). ((look x).left ≤ i) ⊎ ((look x).foreign ≡ 8)) f.1
+                 (look_left x k (arb-kind x at) (subst (λ (i : ℕ). (x.left ≤ i) ⊎ (x.foreign ≡ 8)) at_k (few_left x at)))));
+            found = λ g e. absurd (let f : Polled h k ≡ Found g = e in cc);
+            only = λ c x at opens. absurd (shut_now c x at opens);
+            absent = λ c x gone at. absurd (let f : true ≡ false = sym gone ∙ here in cc) }
+
+      found_slot-told : is_foreign chip.0 ≡ false → is_absent b m ≡ false → SlotTold b (chip_in b ws) m look (Found h)
+      found_slot-told free here =
+          record {
+            opened = λ g e. absurd (let f : Found h ≡ Selected g = e in cc);
+            polled = λ g j e. absurd (let f : Found h ≡ Polled g j = e in cc);
+            found = λ g e. (let f : h ≡ g = (let e2 : Found h ≡ Found g = e in cc) in
+              (ap (λ (i : Hop). i.mux) (sym f) ∙ same_mux,
+               λ x at. (let same : chip.0 ≡ x = (let e3 : Some chip.0 ≡ Some x = sym chip-told ∙ at in cc) in
+                        subst (λ (y : ChipView). is_free (look y) ≡ true) same (look_free chip.0 (arb-kind chip.0 chip-told) free))));
+            only = λ c x at opens. absurd (shut_now c x at opens);
+            absent = λ c x gone at. absurd (let f : true ≡ false = sym gone ∙ here in cc) }
+
+      clean_slot-told : is_absent b m ≡ false → SlotTold b (chip_in b ws) m look Clean
+      clean_slot-told here =
+          record {
+            opened = λ g e. absurd (let f : Clean ≡ Selected g = e in cc);
+            polled = λ g j e. absurd (let f : Clean ≡ Polled g j = e in cc);
+            found = λ g e. absurd (let f : Clean ≡ Found g = e in cc);
+            only = λ c x at opens. absurd (shut_now c x at opens);
+            absent = λ c x gone at. absurd (let f : true ≡ false = sym gone ∙ here in cc) }
+
+      abbrev Asked : End → List ℕ → Type 0
+      Asked e bytes =
+          WorldTold b (after_job (Select h) (suc n) marks (Sent e bytes) v) (changed_at ws (root_of b p) (sent poll_message).now) × CanSelect b h (suc n) e bytes
+
+      -- what the chip sends says whether it is taken
+      sends_is : (t : Bool) → is_foreign chip.0 ≡ t → bit_and (chip_sends chip.0.kind chip.0) 255 ≡ cond t 1 0
+      sends_is t e =
+          ap (λ (k : MuxKind). bit_and (chip_sends k chip.0) 255) (arb-kind chip.0 chip-told)
+            ∙ ap (λ (u : Bool). bit_and (cond u 1 0) 255) e ∙ by_test t
+        where
+          by_test : (u : Bool) → bit_and (cond u 1 0) 255 ≡ cond u 1 0
+          by_test true = refl
+          by_test false = refl
+
+      held_now : chip.0.foreign ≡ 8 → answers b h.mux ≡ false
+      held_now e =
+          ap (answers b) same_mux
+            ∙ held_silent b m (held-is b m spec spec-at ∙ eq-eqb spec.foreign 8 (sym (foreign-is b m spec spec-at) ∙ chip-of.foreign ∙ e))
+
+      through_by : is_absent b m ≡ false → Changes (ws (root_of b p)).chips (sent poll_message).now.chips m look
+          → (k : ℕ) → n ≡ k → (t : Bool) → is_foreign chip.0 ≡ t
+          → WorldTold b (with_slot v h.on (polled_slot h k (cond t 1 0 ∷ []))) (changed_at ws (root_of b p) (sent poll_message).now) × CanGoThrough b h (suc k) (cond t 1 0 ∷ [])
+      through_by here changes zero at_k true foreign =
+          (poll_turn Clean here changes (clean_slot-told here),
+           inr (held_now (held_or_left chip.0 foreign (subst (λ (i : ℕ). (chip.0.left ≤ i) ⊎ (chip.0.foreign ≡ 8)) at_k (few_left chip.0 chip-told)))))
+      through_by here changes (suc k) at_k true foreign =
+          (poll_turn (Polled h k) here changes (polled_slot-told k at_k here), tt)
+      through_by here changes zero at_k false foreign =
+          (poll_turn (Found h) here changes (found_slot-told foreign here), inl refl)
+      through_by here changes (suc k) at_k false foreign =
+          (poll_turn (Found h) here changes (found_slot-told foreign here), tt)
+
+      poll_by : (t : Bool) → is_absent b m ≡ t → Asked (sent poll_message).end (sent poll_message).bytes
+      poll_by true gone =
+          let q = quiet poll_message refl gone in
+          let silent : answers b h.mux ≡ false = ap (answers b) same_mux ∙ absent_silent b m gone in
+          elim q.1 [
+            inl e ↦ subst (λ (x : End). Asked x (sent poll_message).bytes) (sym e) (nack_here poll_message gone q.0, silent)
+          | inr early ↦ elim early [
+              inl e ↦ subst (λ (x : End). Asked x (sent poll_message).bytes) (sym e) (mark_only poll_message q.0, tt)
+            | inr e ↦ subst (λ (x : End). Asked x (sent poll_message).bytes) (sym e) (mark_only poll_message q.0, tt) ] ]
+      poll_by false here =
+          elim (reads here) [
+            inl cut_off ↦ elim cut_off.1 [
+              inl e ↦ subst (λ (x : End). Asked x (sent poll_message).bytes) (sym e) (mark_only poll_message cut_off.0, tt)
+            | inr e ↦ subst (λ (x : End). Asked x (sent poll_message).bytes) (sym e) (mark_only poll_message cut_off.0, tt) ]
+          | inr through ↦ elim through.1 [
+              inl ok ↦ subst (λ (x : End). Asked x (sent poll_message).bytes) (sym ok.0)
+                (subst (λ (xs : List ℕ). Asked end.Ok xs) (sym (ok.1 ∙ ap (λ (i : ℕ). i ∷ []) (sends_is (is_foreign chip.0) refl)))
+                  (through_by here through.0 n refl (is_foreign chip.0) refl))
+            | inr e ↦ subst (λ (x : End). Asked x (sent poll_message).bytes) (sym e)
+                (marked_turn poll_message look through.0 (λ x at. looked_sort x.kind x) here, tt) ] ]
+
+      pub poll-told : Asked (sent poll_message).end (sent poll_message).bytes
+      poll-told = poll_by (is_absent b m) refl
