@@ -16,3 +16,4 @@ pub mod WorldSlots
 pub mod BoardFacts
 pub mod WorldLaw
 pub mod WorldJobs
+pub mod WorldCalls

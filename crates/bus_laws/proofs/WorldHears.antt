@@ -21,10 +21,10 @@ use Rattle.i2c_spec.specs.World.{World, is_joined, has_chip, joins_chip, joins_d
 use Rattle.bus_laws.proofs.WorldFeed.{hears, heard-none, heard-one, unheard, some_answer-append, some_answer-at}
 use Rattle.bus_laws.proofs.WorldReach.{world_of, and_left, and_right, start_heard, other_state, address_is}
 
-swap_along : (b : BoardView) (s t : ℕ) → IsAlong b s t → IsAlong b t s
+pub swap_along : (b : BoardView) (s t : ℕ) → IsAlong b s t → IsAlong b t s
 swap_along b s t a = elim a [ inl x ↦ inr x | inr x ↦ inl x ]
 
-device_address : (a : ℕ) (o : Option DeviceView) → unwrap_or (option_map (λ (d : DeviceView). eqb d.addr a) o) false ≡ true
+pub device_address : (a : ℕ) (o : Option DeviceView) → unwrap_or (option_map (λ (d : DeviceView). eqb d.addr a) o) false ≡ true
     → unwrap_or (option_map (λ (d : DeviceView). Some d.addr) o) None ≡ Some a
 device_address a None e = absurd (let f : false ≡ true = e in cc)
 device_address a (Some d) e = ap Some (eqb-true d.addr a e)
@@ -62,14 +62,14 @@ module _ (b : BoardView) (tree : IsTree b) (r s : ℕ) (cs : List ChipView) (ds 
     (along : (u : ℕ) → is_joined (world_of b r cs ds hs busy) u ≡ true → IsAlong b s u) where
 
   -- a chip that hears is joined, has the address, and stands along the message's bus
-  chip_along : (a n : ℕ) (reading : Bool) (x : ChipView) → hears chip_table (chip_start (world_of b r cs ds hs busy) a reading n) x ≡ true
+  pub chip_along : (a n : ℕ) (reading : Bool) (x : ChipView) → hears chip_table (chip_start (world_of b r cs ds hs busy) a reading n) x ≡ true
       → (addr_of b (node.Chip n) ≡ Some a) × IsAlong b s (home_of b (node.Chip n))
   chip_along a n reading x h =
       let w : World = world_of b r cs ds hs busy in
       let f = start_heard chip_table x (joins_chip w n) (has_address a (addr_of_mux b n)) reading refl h in
       (address_is a (addr_of_mux b n) f.1, along (home_of_mux b n) (and_right (has_chip b n) (is_joined w (home_of_mux b n)) f.0))
 
-  device_along : (a n : ℕ) (reading : Bool) (x : TargetState) → hears state_table (device_start (world_of b r cs ds hs busy) a reading n) x ≡ true
+  pub device_along : (a n : ℕ) (reading : Bool) (x : TargetState) → hears state_table (device_start (world_of b r cs ds hs busy) a reading n) x ≡ true
       → (addr_of b (node.Device n) ≡ Some a) × IsAlong b s (home_of b (node.Device n))
   device_along a n reading x h =
       let w : World = world_of b r cs ds hs busy in
