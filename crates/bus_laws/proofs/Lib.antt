@@ -17,3 +17,4 @@ pub mod BoardFacts
 pub mod WorldLaw
 pub mod WorldJobs
 pub mod WorldCalls
+pub mod WorldSends

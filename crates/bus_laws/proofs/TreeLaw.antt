@@ -240,9 +240,9 @@ inner_runs b whose tree lines root (h ∷ hs) s at rooted =
         (behind-runs b whose tree lines root h hs s (ground (h ∷ hs)) (part h.parent (locks_of root hs) (inner b root hs)) at rooted sub job note k held v l before goes_on)
 
 -- the whole walk of a transfer
-walk_by-runs : (b : BoardView) (t : TransferView) → IsTree b → LinesAreLocked b → (v : Slots) (r : Option Errno) → refusal b t ≡ r → Runs b t [] v (walk_by b t r)
-walk_by-runs b t tree lines v (Some e) refused = refl
-walk_by-runs b t tree lines v None refused =
+walk_by-runs : (b : BoardView) (t : TransferView) → IsTree b → LinesAreLocked b → 0 < length t.msgs → (v : Slots) (r : Option Errno) → refusal b t ≡ r → Runs b t [] v (walk_by b t r)
+walk_by-runs b t tree lines some v (Some e) refused = refl
+walk_by-runs b t tree lines some v None refused =
     locked_runs b t tree (root_of b t.bus) (hops b t.bus) t.bus (inner b (root_of b t.bus) (hops b t.bus)) refl
     (inner_runs b t tree lines (root_of b t.bus) (hops b t.bus) t.bus refl refl)
     (Call t.bus (messages_of t)) plain (λ o. Ends) [] v
@@ -258,10 +258,10 @@ walk_by-runs b t tree lines v None refused =
       may_fail = tt;
       marks_off = tt;
       call_unmarked = refl;
-      granted = record { same_bus = refl; same_messages = refl; not_refused = refused };
+      granted = record { same_bus = refl; same_messages = refl; not_refused = refused; some_message = some };
       line_rooted = λ l. absurd (let f : false ≡ true = l in cc);
     })
     (λ o w after. refl)
 
-pub walk-runs : (b : BoardView) (t : TransferView) → IsTree b → LinesAreLocked b → (v : Slots) → Runs b t [] v (walk_for b t)
-walk-runs b t tree lines v = walk_by-runs b t tree lines v (refusal b t) refl
+pub walk-runs : (b : BoardView) (t : TransferView) → IsTree b → LinesAreLocked b → 0 < length t.msgs → (v : Slots) → Runs b t [] v (walk_for b t)
+walk-runs b t tree lines some v = walk_by-runs b t tree lines some v (refusal b t) refl

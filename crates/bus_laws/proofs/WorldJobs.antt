@@ -32,7 +32,7 @@ use Rattle.bus_laws.proofs.BoardFacts.{mux_at, get_within, get_same_length, has_
 use Rattle.bus_laws.proofs.WorldLaw.{world-is, along_here, joined_here, talk_framed, replaced-chip, same_changes, still_none, world_replaced}
 
 -- equal chips are told alike
-told_equal : (b : BoardView) (v : Slots) (old new : ℕ → Option ChipView) → ((m : ℕ) → new m ≡ old m) → ChipsTold b v old → ChipsTold b v new
+pub told_equal : (b : BoardView) (v : Slots) (old new : ℕ → Option ChipView) → ((m : ℕ) → new m ≡ old m) → ChipsTold b v old → ChipsTold b v new
 told_equal b v old new same told =
     record {
       kept = λ m x e. told.kept m x (sym (same m) ∙ e);

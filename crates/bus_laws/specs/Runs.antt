@@ -1,6 +1,6 @@
 -- What a walk keeps, whatever its steps give: at each message its path is open and its locks are held, and at each
 -- lock that is freed nothing stays open there unmarked. It knows nothing of callers, worlds and journals.
-use Rattle.std.specs.Prelude.{◌≡◌, ℕ, zero, suc, ◌<◌, Bool, true, false, not, ◌&&◌, ◌⊎◌, List, [], ◌∷◌, Option, Some, None}
+use Rattle.std.specs.Prelude.{◌≡◌, ℕ, zero, suc, ◌<◌, Bool, true, false, not, ◌&&◌, ◌⊎◌, List, [], ◌∷◌, length, Option, Some, None}
 use Rattle.std.specs.List.{AllByRecursion}
 use Rattle.i2c_base.specs.declared.ids.LockId.{LockId}
 use Rattle.i2c_base.specs.declared.ids.LockId.TheVariants as lock
@@ -142,6 +142,7 @@ pub record IsCall (b : BoardView) (whose : TransferView) (bus : ℕ) (messages :
   pub same_bus : bus ≡ whose.bus
   pub same_messages : messages ≡ messages_of whose
   pub not_refused : refusal b whose ≡ None
+  pub some_message : 0 < length whose.msgs
 
 abbrev pub IsGranted : BoardView → TransferView → Job → Type 0
 IsGranted b whose (Call bus messages) = IsCall b whose bus messages

@@ -5,7 +5,7 @@ ghost use Rattle.bus_spec.specs.Slots.{Slots};
 ghost use Rattle.bus_spec.specs.Grammar.{walk_for};
 ghost use Rattle.bus_laws.specs.Lines.{LinesAreLocked};
 ghost use Rattle.bus_laws.specs.Runs.{Runs};
-ghost use Rattle.std.specs.Prelude.{[]};
+ghost use Rattle.std.specs.Prelude.{◌<◌, [], length};
 
 /// The tree law: the whole walk of a transfer runs, whatever its steps give and whatever is known of the buses.
 ///
@@ -13,5 +13,5 @@ ghost use Rattle.std.specs.Prelude.{[]};
 /// and its lock held, and so is the root's lock. A failure marks, of the muxes whose locks are held, all that may be
 /// open. At a lock that is freed nothing is open there but what is marked.
 pub fn each_walk_keeps_its_path_open()
-    ensures { (b : BoardView) (t : TransferView) → IsTree b → LinesAreLocked b → (v : Slots) → Runs b t [] v (walk_for b t) }
+    ensures { (b : BoardView) (t : TransferView) → IsTree b → LinesAreLocked b → 0 < length t.msgs → (v : Slots) → Runs b t [] v (walk_for b t) }
 {}
