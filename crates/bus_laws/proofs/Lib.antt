@@ -18,3 +18,4 @@ pub mod WorldLaw
 pub mod WorldJobs
 pub mod WorldCalls
 pub mod WorldSends
+pub mod WorldLines

@@ -40,7 +40,7 @@ use Rattle.bus_laws.proofs.WorldSlots.{explains_mark, MarksOnly, set_marks-only,
 use Rattle.bus_laws.proofs.BoardFacts.{mux_at, get_within, get_same_length, has_address_of, has_chip-is, not_held, foreign_few, held-is, foreign-is, has_channel, answers-is, absent_silent, held_silent}
 
 -- a world is its parts
-whole : (b : BoardView) (r : ℕ) (w : World) → w.board ≡ b → w.root ≡ r → w ≡ world_of b r w.chips w.devices w.hearing w.busy
+pub whole : (b : BoardView) (r : ℕ) (w : World) → w.board ≡ b → w.root ≡ r → w ≡ world_of b r w.chips w.devices w.hearing w.busy
 whole b r w eb er =
     ap (λ (x : BoardView). world_of x w.root w.chips w.devices w.hearing w.busy) eb
       ∙ ap (λ (i : ℕ). world_of b i w.chips w.devices w.hearing w.busy) er
@@ -82,10 +82,10 @@ module _ (b : BoardView) (tree : IsTree b) (plain : IsPlainBoard b) (v : Slots) 
       ap (λ (t : Bool). t && list_all (opens_hop (ws (root_of b s)).chips) (hops b s)) (eq-eqb (root_of b s) (root_of b s) refl) ∙ path_open
 
 -- WORLDS: every call keeps the board, the root and the number of chips
-abbrev IsFramed : BoardView → ℕ → World → Type 0
+abbrev pub IsFramed : BoardView → ℕ → World → Type 0
 IsFramed b r w = (w.board ≡ b) × (w.root ≡ r) × (length w.chips ≡ length b.muxes)
 
-later_framed : (b : BoardView) (r : ℕ) (u : World) (c : PortCall) → IsLater c → IsFramed b r u → IsFramed b r (after u c)
+pub later_framed : (b : BoardView) (r : ℕ) (u : World) (c : PortCall) → IsLater c → IsFramed b r u → IsFramed b r (after u c)
 later_framed b r u (call.Start a reading) l f = absurd l
 later_framed b r u (call.Line m level) l f = absurd l
 later_framed b r u (call.Put byte) l f = (f.0, f.1, length-feed chip_table (to_chips u (event.Put byte)) 0 u.chips ∙ f.2)

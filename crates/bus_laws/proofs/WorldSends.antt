@@ -96,11 +96,11 @@ own_poll h zero s f = subst (λ (x : MuxSlot). IsOfMux h.mux x) (sym f) refl
 own_poll h (suc left) s f =
     elim f [ inl p ↦ subst (λ (x : MuxSlot). IsOfMux h.mux x) (sym p) refl | inr c ↦ subst (λ (x : MuxSlot). IsOfMux h.mux x) (sym c.1) tt ]
 
-own_select : (t : Bool) (h : Hop) (left : ℕ) (s : MuxSlot) → FindsSelect t h left s → IsOfMux h.mux s
+pub own_select : (t : Bool) (h : Hop) (left : ℕ) (s : MuxSlot) → FindsSelect t h left s → IsOfMux h.mux s
 own_select true h left s f = own_poll h left s f
 own_select false h left s f = subst (λ (x : MuxSlot). IsOfMux h.mux x) (sym f.1) tt
 
-own_open : (m : ℕ) (s : MuxSlot) → FindsOpen m s → IsOfMux m s
+pub own_open : (m : ℕ) (s : MuxSlot) → FindsOpen m s → IsOfMux m s
 own_open m (Selected h) f = f
 own_open m (Marked k) f = f
 own_open m Clean f = absurd f
