@@ -19,3 +19,5 @@ pub mod WorldJobs
 pub mod WorldCalls
 pub mod WorldSends
 pub mod WorldLines
+-- What every stepwise past keeps: one caller and the others, and one step.
+pub mod StandsFacts

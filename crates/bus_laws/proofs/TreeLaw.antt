@@ -58,9 +58,9 @@ taken_rest b (lock.Mux q) s v got at_rest rest p i =
           (elim i [ inl e ↦ absurd (h.1 (let f : lock.Mux p ≡ lock.Mux q = e in cc)) | inr more ↦ rest p more ])
     ]
 
-leaves_shut : (b : BoardView) (l : LockId) (w : Slots) → ((p : ℕ) → l ≡ lock.Mux p → IsRest b p (w p)) → LeavesShut l w
+leaves_shut : (b : BoardView) (l : LockId) (w : Slots) → ((p : ℕ) → l ≡ lock.Mux p → IsRest b p (w p)) → LeavesShut b l w
 leaves_shut b (lock.Bus r) w rest = tt
-leaves_shut b (lock.Mux p) w rest = (rest p refl).shut
+leaves_shut b (lock.Mux p) w rest = rest p refl
 
 more_owns : (l : LockId) (j : Job) (marks : List Mark) (held : List LockId) → Owns j marks held → Owns j marks (l ∷ held)
 more_owns l (Call bus ms) marks held o = tt

@@ -54,9 +54,9 @@ abbrev pub RestOf : BoardView → LockId → At → Type 0
 RestOf b (lock.Mux p) s = IsRest b p s
 RestOf b (lock.Bus r) s = Unit {0}
 
-abbrev pub LeavesShut : LockId → Slots → Type 0
-LeavesShut (lock.Mux p) v = IsShut (v p).slot
-LeavesShut (lock.Bus r) v = Unit {0}
+abbrev pub LeavesShut : BoardView → LockId → Slots → Type 0
+LeavesShut b (lock.Mux p) v = IsRest b p (v p)
+LeavesShut b (lock.Bus r) v = Unit {0}
 
 -- what a step may give: a select goes through only where its mux answers, and is refused only where it doesn't; an
 -- arbitrator that answers is found free at the last poll
@@ -175,7 +175,7 @@ Runs b whose held v (Look (MarkOf p) next) = InLocks (lock.Mux p) held × Runs b
 Runs b whose held v (Then (Take l) note next) =
     IsBelow b l held × ((s : At) → RestOf b l s → Runs b whose (l ∷ held) (taken_slots l s v) (next Passed))
 Runs b whose held v (Then (Free l) note next) =
-    (rest : List LockId) × (held ≡ l ∷ rest) × LeavesShut l v × Runs b whose rest v (next Passed)
+    (rest : List LockId) × (held ≡ l ∷ rest) × LeavesShut b l v × Runs b whose rest v (next Passed)
 Runs b whose held v (Then (Send job left) note next) =
     MaySend b whose job left note.marks held v
     × ((out : ActOutcome) → CanSend b job left out → Runs b whose held (after_job job left note.marks out v) (next out))

@@ -1,0 +1,65 @@
+-- One caller and the others: what a step of a walk does to the locks and to what is known of the buses.
+use Rattle.std.proofs.Common.{◌≡◌, ℕ, zero, suc, ◌<◌, Bool, true, false, cond, List, [], ◌∷◌, length, Option, Some, None, eqb, refl, sym, ◌∙◌, ap, subst, ◌⊎◌, inl, inr}
+use Rattle.std.specs.List.{AllByRecursion}
+use Rattle.std.proofs.lemmas.Bool.{eq-eqb, eqb-true}
+use Rattle.std.proofs.lemmas.Bool.Decides.{eqb_tells}
+use Rattle.i2c_base.specs.declared.ids.LockId.{LockId}
+use Rattle.i2c_base.specs.declared.ids.LockId.TheVariants as lock
+use Rattle.i2c_base.specs.declared.entry.End.{End}
+use Rattle.i2c_base.specs.declared.entry.End.TheVariants as end
+use Rattle.i2c_base.specs.Board.{BoardView}
+use Rattle.i2c_base.specs.Transfer.{TransferView}
+use Rattle.i2c_spec.specs.Tree.{Hop, hops, IsAmongHops}
+use Rattle.i2c_spec.specs.TreeFacts.{IsTree}
+use Rattle.i2c_spec.specs.History.{Asks, changed_at}
+use Rattle.bus_spec.specs.Walk.{Mark, Job, Call, Select, Clear, Act, Take, Free, Send, Shift, Settle, ActOutcome, Passed, Sent, Lined, Note, Ask, MarkOf, WalkTree, Ends, Look, Then, job_bus, is_arbitrator}
+use Rattle.bus_spec.specs.Slots.{Slots, At, MuxSlot, Clean, Selected, Marked, Polled, Found, mark_in, with_slot, set_marks, after_job, after_select, after_clear, select_slot}
+use Rattle.bus_spec.specs.Grammar.{walk_for, seen, is_over, first_act}
+use Rattle.bus_spec.specs.Readings.{is_lock}
+use Rattle.bus_spec.specs.Past.{Now, begun, current}
+use Rattle.bus_laws.specs.Runs.{InLocks, IsUnmarked, IsOfMux, FindsOpen, FindsSelect, Finds, HeadsMarks, MayMark, MayFail, Owns, MaySend, MayShift, Runs}
+use Rattle.bus_laws.specs.Lines.{LinesAreLocked}
+use Rattle.bus_laws.specs.Stands.{CallerStands, Stands, IsOnce}
+use Rattle.bus_laws.proofs.TreeSlots.{with_slot-same, with_slot-other, with_slot-along, set_marks-other, set_marks-along}
+use Rattle.bus_laws.proofs.TreeLaw.{walk-runs}
+
+-- each asked transfer has a message
+abbrev pub SomeMessages : Asks → Type 0
+SomeMessages asks = (c : ℕ) (rs : List _) (t : TransferView) → asks c rs ≡ Some t → 0 < length t.msgs
+
+-- the looks in front of a walk change nothing where what is looked at is known
+pub runs_seen : (b : BoardView) (whose : TransferView) (held : List LockId) (view slots : Slots) → ((p : ℕ) → InLocks (lock.Mux p) held → view p ≡ slots p)
+    → (w : WalkTree) → Runs b whose held view w → Runs b whose held view (seen slots w)
+runs_seen b whose held view slots agree Ends runs = runs
+runs_seen b whose held view slots agree (Look (MarkOf p) next) runs =
+    runs_seen b whose held view slots agree (next (mark_in (slots p).slot))
+      (subst (λ (x : At). Runs b whose held view (next (mark_in x.slot))) (agree p runs.0) runs.1)
+runs_seen b whose held view slots agree (Then act note next) runs = runs
+
+over_ends : (w : WalkTree) → is_over w ≡ true → w ≡ Ends
+over_ends Ends e = refl
+over_ends (Look ask next) e = absurd (let f : false ≡ true = e in cc)
+over_ends (Then act note next) e = absurd (let f : false ≡ true = e in cc)
+
+-- what a caller does next runs, from what is known
+pub current-stands : (b : BoardView) → IsTree b → LinesAreLocked b → (asks : Asks) → SomeMessages asks → (n : Now) (c : ℕ) → Stands b n
+    → CallerStands b (n.held c) (current b asks n c) n.slot
+current-stands b tree lines asks some n c stands = by_over (is_over (n.walk c)) refl
+  where
+    now : CallerStands b (n.held c) (n.walk c) n.slot
+    now = stands.callers c
+    begin : n.held c ≡ [] → (o : Option TransferView) → asks c (n.settled c) ≡ o → CallerStands b (n.held c) (seen n.slot (begun b o)) n.slot
+    begin empty None e = record { whose = now.whose; view = n.slot; runs = empty; agree = λ p i. refl }
+    begin empty (Some t) e =
+        record {
+          whose = t;
+          view = n.slot;
+          runs = subst (λ (held : List LockId). Runs b t held n.slot (seen n.slot (walk_for b t))) (sym empty)
+            (runs_seen b t [] n.slot n.slot (λ p i. refl) (walk_for b t) (walk-runs b t tree lines (some c (n.settled c) t e) n.slot));
+          agree = λ p i. refl }
+    by_over : (t : Bool) → is_over (n.walk c) ≡ t
+        → CallerStands b (n.held c) (seen n.slot (cond t (begun b (asks c (n.settled c))) (n.walk c))) n.slot
+    by_over true e =
+        begin (subst (λ (w : WalkTree). Runs b now.whose (n.held c) now.view w) (over_ends (n.walk c) e) now.runs) (asks c (n.settled c)) refl
+    by_over false e =
+        record { whose = now.whose; view = now.view; runs = runs_seen b now.whose (n.held c) now.view n.slot now.agree (n.walk c) now.runs; agree = now.agree }
