@@ -1,0 +1,2 @@
+pub mod HopLemmas
+pub mod PlainLemmas
