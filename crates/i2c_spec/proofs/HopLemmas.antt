@@ -1,13 +1,14 @@
 -- The hops over a bus, found by going over the muxes from the last one of the board back: a mux is crossed where
 -- its channels begin at or before the bus, and passed where they begin behind it.
-use Rattle.std.proofs.Common.{◌≡◌, ℕ, ◌+◌, ◌-◌, ◌*◌, ◌<◌, ◌≤◌, nat_le, Bool, true, false, cond, List, [], ◌∷◌, ◌++◌, length, map, reverse, take, get_or, refl, sym, ap, ◌∙◌, arith, rules}
+use Rattle.std.proofs.Common.{◌≡◌, ℕ, suc, slice_get, Some, ◌+◌, ◌-◌, ◌*◌, ◌<◌, ◌≤◌, nat_le, Bool, true, false, cond, List, [], ◌∷◌, ◌++◌, length, map, reverse, take, get_or, refl, sym, ap, ◌∙◌, arith, rules}
 use Rattle.std.specs.List.{All, sum_by}
 use Rattle.std.proofs.lemmas.List.{take_more, reverse-append}
 use Rattle.std.proofs.lemmas.List.Sums.{sum_by-cons}
 use Rattle.std.proofs.lemmas.List.Sorted.{sum_by-IsPermutation, IsPermutation-reverse}
+use Rattle.std.proofs.lemmas.Option.{same_Some}
 use Rattle.std.proofs.lemmas.Bool.Decides.{nat_tests}
 use Rattle.i2c_base.specs.declared.board.MuxSpec.{MuxSpec}
-use Rattle.i2c_spec.specs.Tree.{Hop, buses_of, hop_at, hops_of, put_if}
+use Rattle.i2c_spec.specs.Tree.{Hop, end_of, buses_of, hop_at, hops_of, put_if}
 
 -- the first n elements, gone over from the last one back
 pub reverse_back : {X : Type 0} → (xs : List X) (n : ℕ) (d : X) → 0 < n → n ≤ length xs
@@ -34,5 +35,13 @@ pub hops_of-pass : (roots : ℕ) (m : MuxSpec) (before : List MuxSpec) (s : ℕ)
     → hops_of roots (m ∷ before) s ≡ hops_of roots before s
 hops_of-pass roots m before s h =
     let e : nat_le (buses_of roots before) s ≡ false = search (rules, nat_tests) in rw e
+
+-- the bus at the end of hops is the one that the last of them stands on
+pub end_of_last : (s : ℕ) (hs : List Hop) (h : Hop) → slice_get hs (length hs - 1) ≡ Some h → end_of s hs ≡ h.on
+end_of_last s [] h e = cc
+end_of_last s (x ∷ []) h e = ap (λ (g : Hop). g.on) (same_Some x h e)
+end_of_last s (x ∷ y ∷ rest) h e =
+    let n : length (x ∷ y ∷ rest) - 1 ≡ suc (length (y ∷ rest) - 1) = omega arith in
+    end_of_last x.on (y ∷ rest) h (ap (λ k. slice_get (x ∷ y ∷ rest) k) (sym n) ∙ e)
 
 pub ruleset hop_steps = (reverse_back, buses_of-cons, buses_of-reverse, hops_of-cross, hops_of-pass)

@@ -6,6 +6,7 @@
 
 mod hop;
 mod layout;
+mod tree;
 
 pub use hop::Hop;
 pub use layout::Layout;
