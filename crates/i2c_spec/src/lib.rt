@@ -4,6 +4,7 @@
 //! The definitions stand in `specs/`, a file for each subject, over plain records and lists.
 #![tactic(auto)]
 
+mod grant;
 mod hop;
 mod layout;
 mod tree;
