@@ -55,7 +55,9 @@ impl Layout<'_> {
         requires { IsPlainBoard (board_of self.now) }
         ensures { result ≡ some_bound (board_of self.now) addr (is_on_path (board_of self.now) seg) }
     {
-        self.devices.iter().any(|device| device.bound && device.addr == addr && self.is_on_path(seg, device.bus))
+        self.devices.iter().any(|device| device.bound
+            && device.addr == addr
+            && self.is_on_path(seg, device.bus))
     }
 
     /// The first device on the path with this address.

@@ -7,10 +7,8 @@
 mod grant;
 mod hop;
 mod layout;
+mod topology;
 mod tree;
-
-pub use hop::Hop;
-pub use layout::Layout;
 
 ghost use Rattle.std.specs.Prelude.{◌≡◌, [], ◌∷◌, true};
 ghost use Rattle.i2c_spec.specs.Tree.{hops};
@@ -22,6 +20,9 @@ ghost use Rattle.i2c_spec.specs.Flat.{flat};
 ghost use Rattle.i2c_spec.specs.History.{history};
 ghost use Rattle.i2c_spec.specs.Cost.{cost_of};
 ghost use Rattle.i2c_spec.specs.Fair.{IsFairCaller};
+
+pub use hop::Hop;
+pub use layout::Layout;
 
 pub fn probe()
     ensures { true ≡ true }

@@ -90,10 +90,11 @@ impl Layout<'_> {
     fn is_held(&self, mux: MuxId) -> bool
         ensures { result ≡ is_held (board_of self.now) mux }
     {
-        self.mux(mux).is_some_and(|spec| spec.foreign == FOREIGN_FOR_GOOD)
+        self.mux(mux)
+            .is_some_and(|spec| spec.foreign == FOREIGN_FOR_GOOD)
     }
 
-    fn mux(&self, mux: MuxId) -> Option<&MuxSpec>
+    pub(crate) fn mux(&self, mux: MuxId) -> Option<&MuxSpec>
         ensures { option_copied result ≡ slice_get self.now.muxes.now mux }
     {
         self.muxes.get(usize::from(mux.0))
