@@ -7,6 +7,8 @@
 mod grant;
 mod hop;
 mod layout;
+#[cfg(test)]
+mod tests;
 mod topology;
 mod tree;
 
