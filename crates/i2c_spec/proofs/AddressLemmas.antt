@@ -1,16 +1,15 @@
 -- An address stands on no two targets of which one's bus lies on the other's path: the rule over pairs of items
 -- says so of numbers, and each target is one of the items. The one induction goes over the hops of a bus.
-use Rattle.std.proofs.Common.{◌≡◌, ℕ, zero, suc, ◌+◌, ◌-◌, ◌<◌, ◌≤◌, ◌⊎◌, inl, inr, ◌==◌, eqb, nat_lt, Bool, true, false, ◌||◌, ◌&&◌, List, [], ◌∷◌, length, Option, Some, None, option_map, slice_get, refl, sym, ap, ◌∙◌, subst, arith, rules}
+use Rattle.std.proofs.Common.{◌≡◌, ℕ, zero, suc, ◌+◌, ◌-◌, ◌<◌, inl, inr, ◌==◌, nat_lt, Bool, true, false, ◌||◌, List, [], ◌∷◌, length, Option, Some, None, option_map, slice_get, refl, sym, ap, ◌∙◌, arith, rules}
 use Rattle.std.specs.List.{list_any}
 use Rattle.std.specs.Option.{unwrap_or}
 use Rattle.std.proofs.lemmas.Bool.{cases_order, eq-eqb, false≢true}
 use Rattle.std.proofs.lemmas.Bool.Decides.{nat_tests}
-use Rattle.std.proofs.lemmas.Option.{slice_get_within, none-some, same_Some}
 use Rattle.i2c_base.specs.declared.ids.Node.{Node}
 use Rattle.i2c_base.specs.declared.ids.Node.TheVariants.{Device, Chip}
 use Rattle.i2c_base.specs.Board.{BoardView}
-use Rattle.i2c_spec.specs.Tree.{Hop, hops, of_mux, of_device, is_below, is_on_path, is_along, Crosses, IsOver, IsAlong}
-use Rattle.i2c_spec.specs.Rules.{items, home_at, addr_at, is_same_address, clashes, NoPair}
+use Rattle.i2c_spec.specs.Tree.{Hop, hops, is_below, is_on_path, is_along, Crosses, IsOver, IsAlong}
+use Rattle.i2c_spec.specs.Rules.{items, home_at, addr_at, clashes, NoPair}
 use Rattle.i2c_spec.specs.TreeFacts.{home_of, addr_of}
 
 or_true : (x : Bool) → (x || true) ≡ true

@@ -1,8 +1,7 @@
 -- The refusal of a board from what a search found, a lemma for each rule; and the last mux of a list that is
 -- filtered from its front. No induction of its own.
-use Rattle.std.proofs.Common.{◌≡◌, ℕ, ◌+◌, ◌-◌, ◌<◌, nat_lt, Bool, true, false, cond, not, List, [], ◌∷◌, ◌++◌, length, reverse, take, get_or, Option, Some, None, is_some, option_map, slice_get, refl, sym, ap, ◌∙◌, arith, rules}
+use Rattle.std.proofs.Common.{◌≡◌, ℕ, ◌+◌, ◌-◌, ◌<◌, nat_lt, Bool, true, false, cond, not, List, [], ◌∷◌, ◌++◌, length, reverse, take, get_or, Some, is_some, option_map, slice_get, refl, sym, ap, ◌∙◌, arith, rules}
 use Rattle.std.specs.List.{All, filter}
-use Rattle.std.specs.Option.{unwrap_or}
 use borrow.Author.Count.{below_more}
 use Rattle.std.proofs.lemmas.List.{reverse-append, length-reverse, append-nil, get_or-reverse}
 use Rattle.std.proofs.lemmas.List.Elements.{filter_more, All-nil, All-filter, All-get_or}
@@ -40,15 +39,7 @@ is_some_last_mux (h ∷ hs) =
     let test : nat_lt 0 (length (h ∷ hs)) ≡ true = search (rules, nat_tests) in
     ap (λ o. is_some (option_map (λ (g : Hop). g.mux) o)) first ∙ sym test
 
-Some_unwrap : (o : Option ℕ) (d : ℕ) → is_some o ≡ true → o ≡ Some (unwrap_or o d)
-Some_unwrap (Some x) d e = refl
-Some_unwrap None d e = cc
-
--- where hops are, the last mux of them is the one that is found
-pub last_mux_found : (hs : List Hop) (d : ℕ) → nat_lt 0 (length hs) ≡ true → last_mux hs ≡ Some (unwrap_or (last_mux hs) d)
-last_mux_found hs d some = Some_unwrap (last_mux hs) d (is_some_last_mux hs ∙ some)
-
--- and it is a mux of the board where all of them are
+-- the last mux is one of the board where all of them are
 pub last_mux_within : (n : ℕ) (hs : List Hop) (i : ℕ) → All (λ h. h.mux < n) hs → last_mux hs ≡ Some i → i < n
 last_mux_within n [] i all e = absurd (none-some i e)
 last_mux_within n (h ∷ hs) i all e =
@@ -78,12 +69,10 @@ locked_over_within b j =
     ]
 
 -- rule 3 is the first that is broken: mux j is the first parent-locked one with a mux-locked one over it
-pub TellsBroken_third : (b : BoardView) (j d : ℕ)
+pub TellsBroken_third : (b : BoardView) (i j : ℕ)
     → NoPair (clashes b) (items b) → NoneOf (is_too_deep b) (length b.muxes) → IsFirstOne (is_locked_under b) (length b.muxes) j
-    → TellsBroken b (record { rule = 3; first = item.Mux (unwrap_or (last_mux (locked_over b j)) d); second = item.Mux j })
-TellsBroken_third b j d addresses depths one =
-    let i = unwrap_or (last_mux (locked_over b j)) d in
-    let found = last_mux_found (locked_over b j) d one.broken in
+    → last_mux (locked_over b j) ≡ Some i → TellsBroken b (record { rule = 3; first = item.Mux i; second = item.Mux j })
+TellsBroken_third b i j addresses depths one found =
     let below = last_mux_within (length b.muxes) (locked_over b j) i (locked_over_within b j) found in (
       i,
       j,

@@ -17,8 +17,10 @@ impl Layout<'_> {
         requires { IsPlainBoard (board_of self.now) }
         ensures { result ≡ grant_of (board_of self.now) seg addr force }
     {
-        let used_below = self.chip_below(seg, addr) || self.device_below(seg, addr);
-        if self.chip_on_path(seg, addr) || used_below {
+        if self.chip_on_path(seg, addr)
+            || self.chip_below(seg, addr)
+            || self.device_below(seg, addr)
+        {
             return Grant::Busy;
         }
         if !force && self.bound_on_path(seg, addr) {

@@ -1,7 +1,8 @@
 //! What the bus means: the board's tree, the grant of an address, the targets, the world of a root, one
 //! message, and the flat world in which every transfer happens alone.
 //!
-//! The definitions stand in `specs/`, a file for each subject, over plain records and lists.
+//! The definitions stand in `specs/`, a file for each subject, over plain records and lists. `Layout` computes
+//! those of the tree, the grant and the topology rules over a board's parts.
 #![tactic(auto)]
 
 mod grant;

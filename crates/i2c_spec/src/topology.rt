@@ -28,6 +28,7 @@ impl Layout<'_> {
     ghost use Rattle.i2c_spec.specs.Searches.{breaks, NoneAfter, IsFirstAfter};
 
     /// The first topology rule that the board breaks, with the two items at fault; none where it is accepted.
+    #[tactic(auto, using(crate::proofs::RuleLemmas::is_some_last_mux))]
     pub fn first_broken(&self) -> Option<RuleBroken>
         requires { IsPlainBoard (board_of self.now) }
         ensures accepted { IfNone result (MeetsRules (board_of self.now)) }
@@ -44,7 +45,7 @@ impl Layout<'_> {
             return Some(twice(2, mux));
         }
         if let Some(mux) = self.first_mux(MuxRule::Lock) {
-            let over = self.mux_locked_over(mux).unwrap_or(mux);
+            let over = self.mux_locked_over(mux).unwrap();
             return Some(RuleBroken {
                 rule: 3,
                 first: Item::Mux(over),
