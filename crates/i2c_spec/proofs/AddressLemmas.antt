@@ -9,8 +9,10 @@ use Rattle.i2c_base.specs.declared.ids.Node.{Node}
 use Rattle.i2c_base.specs.declared.ids.Node.TheVariants.{Device, Chip}
 use Rattle.i2c_base.specs.Board.{BoardView}
 use Rattle.i2c_spec.specs.Tree.{Hop, hops, is_below, is_on_path, is_along, Crosses, IsOver, IsAlong}
-use Rattle.i2c_spec.specs.Rules.{items, home_at, addr_at, clashes, NoPair}
-use Rattle.i2c_spec.specs.TreeFacts.{home_of, addr_of}
+use Rattle.i2c_spec.specs.Rules.{items, home_at, addr_at, clashes, NoPair, MeetsRules}
+use Rattle.i2c_spec.specs.TreeFacts.{home_of, addr_of, IsTree}
+use Rattle.i2c_spec.specs.Plain.{IsPlainBoard}
+use Rattle.i2c_spec.proofs.TreeLemmas.{tree_leads, tree_tail, tree_apart, tree_hop, tree_channel, tree_root_over, tree_root_is, tree_root_same, tree_root_hops}
 
 or_true : (x : Bool) → (x || true) ≡ true
 or_true true = refl
@@ -99,3 +101,18 @@ tree_addresses b rule x y a of_x of_y along =
           let clash = clashes_from b (place_of b y) (place_of b x) a (home_of b y) (home_of b x) other.addr one.addr other.home one.home both.1 in
           absurd (false≢true (sym (rule (place_of b y) (place_of b x) behind one.within) ∙ clash))
     ]
+
+-- an accepted board is a tree
+pub tree_of : (b : BoardView) → IsPlainBoard b → MeetsRules b → IsTree b
+tree_of b plain rules' = record {
+  leads = tree_leads b plain.planted;
+  tail = tree_tail b plain.planted;
+  apart = tree_apart b plain.planted;
+  hop = tree_hop b plain.planted;
+  channel = tree_channel b plain.planted;
+  root_over = tree_root_over b plain.planted;
+  root_is = tree_root_is b plain.planted;
+  root_same = tree_root_same b plain.planted;
+  root_hops = tree_root_hops b plain.planted;
+  addresses = tree_addresses b rules'.addresses;
+}

@@ -7,6 +7,7 @@
 
 mod grant;
 mod hop;
+mod laws;
 mod layout;
 #[cfg(test)]
 mod tests;
@@ -25,6 +26,7 @@ ghost use Rattle.i2c_spec.specs.Cost.{cost_of};
 ghost use Rattle.i2c_spec.specs.Fair.{IsFairCaller};
 
 pub use hop::Hop;
+pub use laws::an_accepted_board_is_a_tree;
 pub use layout::Layout;
 
 pub fn probe()
