@@ -3,3 +3,5 @@ pub use Rattle.i2c_spec.specs.Plain
 pub use Rattle.i2c_spec.specs.Tree
 pub use Rattle.i2c_spec.specs.Grant
 pub use Rattle.i2c_spec.specs.Rules
+pub use Rattle.i2c_spec.specs.Flat
+pub use Rattle.i2c_spec.specs.Layouts

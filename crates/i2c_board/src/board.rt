@@ -3,6 +3,7 @@ ghost use Rattle.i2c_base.specs.declared.board.RootSpec.{RootSpec};
 ghost use Rattle.i2c_base.specs.declared.board.MuxSpec.{MuxSpec};
 
 use i2c_base::{DeviceSpec, MuxSpec, RootSpec};
+use i2c_spec::Layout;
 use std::marker::Model;
 
 /// A board: root buses, the muxes that hang below them, and the devices on their buses. A contract sees its
@@ -30,6 +31,7 @@ impl Model for Board {
 }
 
 impl Board {
+    ghost use Rattle.i2c_spec.specs.Layouts.{board_of};
     ghost use Rattle.i2c_spec.specs.Plain.{IsPlainBoard};
 
     /// The board of these parts, which fit each other.
@@ -67,5 +69,17 @@ impl Board {
         ensures plain { IsPlainBoard self.now }
     {
         self.devices.as_slice()
+    }
+
+    /// Its parts, borrowed.
+    pub fn layout(&self) -> Layout<'_>
+        ensures value { board_of result ≡ self.now }
+        ensures plain { IsPlainBoard self.now }
+    {
+        Layout {
+            roots: self.roots(),
+            muxes: self.muxes(),
+            devices: self.devices(),
+        }
     }
 }

@@ -6,6 +6,9 @@
 
 mod accepted;
 mod board;
+#[cfg(test)]
+mod tests;
+mod tree;
 
 pub use accepted::Accepted;
 pub use board::Board;

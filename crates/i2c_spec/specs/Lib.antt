@@ -3,8 +3,10 @@
 pub mod Tree
 pub mod TreeFacts
 pub mod Plain
+pub mod Layouts
 pub mod Grant
 pub mod Rules
+pub mod Searches
 pub mod Regs
 pub mod Chips
 pub mod Targets

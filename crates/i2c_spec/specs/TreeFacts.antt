@@ -27,9 +27,9 @@ pub record IsTree (b : BoardView) : Type 0 where
   -- the first hop over a bus leads to it, from a bus before it, and the hops behind are those over that bus
   pub leads : (s : ℕ) (h : Hop) (hs : List Hop) → hops b s ≡ h ∷ hs → (h.bus ≡ s) × (h.on < s)
   pub tail : (s : ℕ) (h : Hop) (hs : List Hop) → hops b s ≡ h ∷ hs → hops b h.on ≡ hs
-  -- the hops over a bus stand on different buses, and each is what the board says of its mux
+  -- the hops over a bus stand on different buses, and each is what the board says of its mux, for a bus that is there
   pub apart : (s : ℕ) → IsApart (hops b s)
-  pub hop : (s : ℕ) (h : Hop) → IsAmongHops h (hops b s) → IsHop b h
+  pub hop : (s : ℕ) (h : Hop) → s < buses b → IsAmongHops h (hops b s) → IsHop b h
   -- a mux and a channel lead to one bus
   pub channel : (s t : ℕ) (g h : Hop) → IsAmongHops g (hops b s) → IsAmongHops h (hops b t)
       → g.mux ≡ h.mux → g.channel ≡ h.channel → g ≡ h

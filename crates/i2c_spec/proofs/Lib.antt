@@ -1,0 +1,5 @@
+pub mod HopLemmas
+pub mod PlainLemmas
+pub mod RuleLemmas
+pub mod TreeLemmas
+pub mod AddressLemmas
