@@ -12,7 +12,7 @@ use Rattle.i2c_spec.specs.Tree.{Hop, hops, is_below, is_on_path, is_along, Cross
 use Rattle.i2c_spec.specs.Rules.{items, home_at, addr_at, clashes, NoPair, MeetsRules}
 use Rattle.i2c_spec.specs.TreeFacts.{home_of, addr_of, IsTree}
 use Rattle.i2c_spec.specs.Plain.{IsPlainBoard}
-use Rattle.i2c_spec.proofs.TreeLemmas.{tree_leads, tree_tail, tree_apart, tree_hop, tree_channel, tree_root_over, tree_root_is, tree_root_same, tree_root_hops}
+use Rattle.i2c_spec.proofs.TreeLemmas.{tree_leads, tree_tail, tree_apart, tree_hop, tree_within, tree_channel, tree_root_over, tree_root_is, tree_root_same, tree_root_hops}
 
 or_true : (x : Bool) → (x || true) ≡ true
 or_true true = refl
@@ -109,6 +109,7 @@ tree_of b plain rules' = record {
   tail = tree_tail b plain.planted;
   apart = tree_apart b plain.planted;
   hop = tree_hop b plain.planted;
+  within = tree_within b plain.planted;
   channel = tree_channel b plain.planted;
   root_over = tree_root_over b plain.planted;
   root_is = tree_root_is b plain.planted;

@@ -7,7 +7,7 @@ use Rattle.std.proofs.lemmas.Option.{slice_get_within, same_Some}
 use Rattle.i2c_base.specs.declared.board.MuxKind.{MuxKind}
 use Rattle.i2c_base.specs.declared.board.MuxSpec.{MuxSpec}
 use Rattle.i2c_base.specs.Board.{BoardView}
-use Rattle.i2c_spec.specs.Tree.{Hop, hops, buses, buses_of, hop_at, hops_of, end_of, root_of, is_parent, Crosses, IsAmongHops, IsApart, IsOver}
+use Rattle.i2c_spec.specs.Tree.{of_mux, Hop, hops, buses, buses_of, hop_at, hops_of, end_of, root_of, is_parent, Crosses, IsAmongHops, IsApart, IsOver}
 use Rattle.i2c_spec.specs.Plain.{IsPlanted}
 use Rattle.i2c_spec.specs.TreeFacts.{IsHop}
 use Rattle.i2c_spec.proofs.HopLemmas.{buses_of-cons, buses_of-reverse, hops_of-cross, hops_of-pass}
@@ -196,8 +196,8 @@ module _ (b : BoardView) (planted : IsPlanted (length b.roots) (reverse b.muxes)
   pub tree_apart : (s : ℕ) → IsApart (hops b s)
   tree_apart s = apart_of (length b.roots) (reverse b.muxes) s planted
 
-  pub tree_hop : (s : ℕ) (h : Hop) → s < buses b → IsAmongHops h (hops b s) → IsHop b h
-  tree_hop s h there among =
+  pub tree_hop : (s : ℕ) (h : Hop) → IsAmongHops h (hops b s) → IsHop b h
+  tree_hop s h among =
       let is = hop_in s h among in
       let found = is.at in
       record {
@@ -205,8 +205,13 @@ module _ (b : BoardView) (planted : IsPlanted (length b.roots) (reverse b.muxes)
         home = rw found is.on;
         parent = rw found (ap Some is.parent);
         kind = rw found (ap Some is.kind);
-        channel = rw found (is.bound there);
       }
+
+  pub tree_within : (s : ℕ) (h : Hop) → s < buses b → IsAmongHops h (hops b s) → h.channel < of_mux (λ m. m.channels) 0 b h.mux
+  tree_within s h there among =
+      let is = hop_in s h among in
+      let found = is.at in
+      rw found (is.bound there)
 
   pub tree_channel : (s t : ℕ) (g h : Hop) → IsAmongHops g (hops b s) → IsAmongHops h (hops b t)
       → g.mux ≡ h.mux → g.channel ≡ h.channel → g ≡ h

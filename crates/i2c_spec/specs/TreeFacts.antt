@@ -21,15 +21,16 @@ pub record IsHop (b : BoardView) (h : Hop) : Type 0 where
   pub home : home_of_mux b h.mux ≡ h.on
   pub parent : of_mux (λ m. Some (is_parent m.lock)) None b h.mux ≡ Some h.parent
   pub kind : of_mux (λ m. Some m.kind) None b h.mux ≡ Some h.kind
-  pub channel : h.channel < of_mux (λ m. m.channels) 0 b h.mux
 
 pub record IsTree (b : BoardView) : Type 0 where
   -- the first hop over a bus leads to it, from a bus before it, and the hops behind are those over that bus
   pub leads : (s : ℕ) (h : Hop) (hs : List Hop) → hops b s ≡ h ∷ hs → (h.bus ≡ s) × (h.on < s)
   pub tail : (s : ℕ) (h : Hop) (hs : List Hop) → hops b s ≡ h ∷ hs → hops b h.on ≡ hs
-  -- the hops over a bus stand on different buses, and each is what the board says of its mux, for a bus that is there
+  -- the hops over a bus stand on different buses, and each is what the board says of its mux; over a bus that is there
+  -- each has a channel of its mux
   pub apart : (s : ℕ) → IsApart (hops b s)
-  pub hop : (s : ℕ) (h : Hop) → s < buses b → IsAmongHops h (hops b s) → IsHop b h
+  pub hop : (s : ℕ) (h : Hop) → IsAmongHops h (hops b s) → IsHop b h
+  pub within : (s : ℕ) (h : Hop) → s < buses b → IsAmongHops h (hops b s) → h.channel < of_mux (λ m. m.channels) 0 b h.mux
   -- a mux and a channel lead to one bus
   pub channel : (s t : ℕ) (g h : Hop) → IsAmongHops g (hops b s) → IsAmongHops h (hops b t)
       → g.mux ≡ h.mux → g.channel ≡ h.channel → g ≡ h
