@@ -11,6 +11,7 @@ mod port;
 mod rig;
 mod shelf;
 mod sink;
+mod vec_sink;
 
 pub use failed::{Failed, ReadFail, RigFail};
 pub use gate::{Gate, OpenGate, Point};
@@ -19,3 +20,4 @@ pub use port::Port;
 pub use rig::Rig;
 pub use shelf::Shelf;
 pub use sink::Sink;
+pub use vec_sink::VecSink;
