@@ -7,6 +7,7 @@
 
 mod failed;
 mod gate;
+mod map_shelf;
 mod port;
 mod rig;
 mod shelf;
@@ -16,6 +17,7 @@ mod vec_sink;
 pub use failed::{Failed, ReadFail, RigFail};
 pub use gate::{Gate, OpenGate, Point};
 pub use i2c_base::{Phase, PortCall};
+pub use map_shelf::MapShelf;
 pub use port::Port;
 pub use rig::Rig;
 pub use shelf::Shelf;
