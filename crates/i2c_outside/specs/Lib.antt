@@ -1,4 +1,5 @@
 pub mod Causes
+pub mod Devices
 pub mod LineCalls
 pub mod Registers
 pub mod Shelves

@@ -5,6 +5,7 @@
 //! Definitions: `specs/Causes.antt`, and `World`, `Phases` of the crates below.
 #![tactic(auto)]
 
+mod device;
 mod failed;
 mod gate;
 mod map_shelf;
@@ -15,6 +16,7 @@ mod shelf;
 mod sink;
 mod vec_sink;
 
+pub use device::DeviceState;
 pub use failed::{Failed, ReadFail, RigFail};
 pub use gate::{Gate, OpenGate, Point};
 pub use i2c_base::{Phase, PortCall};
