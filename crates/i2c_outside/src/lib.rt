@@ -14,6 +14,7 @@ mod registers;
 mod rig;
 mod shelf;
 mod sink;
+mod site;
 mod vec_sink;
 
 pub use device::DeviceState;
