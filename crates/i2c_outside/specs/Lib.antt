@@ -1,5 +1,6 @@
 pub mod Causes
 pub mod Devices
+pub mod FirstPorts
 pub mod LineCalls
 pub mod Registers
 pub mod Shelves

@@ -7,6 +7,7 @@
 
 mod device;
 mod failed;
+mod first_port;
 mod gate;
 mod map_shelf;
 mod port;
@@ -19,6 +20,7 @@ mod vec_sink;
 
 pub use device::DeviceState;
 pub use failed::{Failed, ReadFail, RigFail};
+pub use first_port::FirstPort;
 pub use gate::{Gate, OpenGate, Point};
 pub use i2c_base::{Phase, PortCall};
 pub use map_shelf::MapShelf;
