@@ -1,3 +1,4 @@
+pub mod OpeningLemmas
 pub mod PortLemmas
 pub mod RootLemmas
 pub mod SiteLemmas

@@ -1,10 +1,10 @@
 -- What contracts see of the port of a root without a mux.
-use Rattle.std.specs.Prelude.{◌≡◌, ℕ, ◌≤◌, Bool, true, false, List, length}
+use Rattle.std.specs.Prelude.{◌≡◌, ℕ, ◌≤◌, Bool, true, false, List, [], length}
 use Rattle.i2c_base.specs.declared.port.Phase.{Phase}
 use Rattle.i2c_base.specs.declared.port.Phase.TheVariants.{Idle, Writing, PutRefused, Reading, LastRead, Unanswered, Slow}
 use Rattle.i2c_base.specs.declared.port.PortCall.{PortCall}
 use Rattle.i2c_base.specs.Board.{BoardView}
-use Rattle.i2c_spec.specs.World.{World}
+use Rattle.i2c_spec.specs.World.{World, opening_world}
 use Rattle.i2c_outside.specs.Sites.{AreOfRoot}
 use Rattle.i2c_outside.specs.declared.site.Site.{Site}
 
@@ -28,3 +28,7 @@ pub record IsFirstPort (b : BoardView) (root : ℕ) (ss : List Site) (capacity :
   pub of_root : AreOfRoot b root ss
   pub count : length ss ≡ length b.devices
   pub room : 2000000 ≤ capacity
+
+-- a port as it is opened
+abbrev pub opening_port : BoardView → ℕ → PortView
+opening_port b root = record { world = opening_world b root; log = []; phase = Idle }

@@ -10,11 +10,11 @@ use Rattle.i2c_base.specs.declared.event.Answer.{Answer}
 use Rattle.i2c_base.specs.declared.event.Answer.TheVariants.{Slow, Ack, Nack}
 use Rattle.i2c_base.specs.declared.port.PortCall.{PortCall}
 use Rattle.i2c_base.specs.declared.port.PortCall.TheVariants as call
-use Rattle.i2c_base.specs.Board.{BoardView}
+use Rattle.i2c_base.specs.Board.{BoardView, DeviceView}
 use Rattle.i2c_spec.specs.Tree.{of_device}
 use Rattle.i2c_spec.specs.Targets.{TargetState}
 use Rattle.i2c_spec.specs.World.{World, given, start_event, stop_event, has_heard, byte_of}
-use Rattle.i2c_outside.specs.Devices.{target_state, device_table, device_answer}
+use Rattle.i2c_outside.specs.Devices.{target_state, device_table, device_answer, device_opening}
 use Rattle.i2c_outside.specs.declared.site.Site.{Site}
 
 abbrev pub state_of : Site → TargetState
@@ -94,3 +94,7 @@ world_of b root busy ss = record { board = b; root = root; chips = []; devices =
 pub record AreOfRoot (b : BoardView) (root : ℕ) (ss : List Site) : Type 0 where
   pub muxes : b.muxes ≡ []
   pub sites : AreSites b root 0 ss
+
+-- a device as the port of a root has it at the opening
+abbrev pub site_opening : ℕ → DeviceView → Site
+site_opening root d = record { addr = d.addr; joined = d.bus == root; heard = false; device = device_opening d }

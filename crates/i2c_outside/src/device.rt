@@ -2,7 +2,7 @@ ghost use Rattle.std.specs.Prelude.{◌≡◌, IsTrue};
 ghost use Rattle.i2c_spec.specs.Plain.{IsPlainDevice};
 ghost use Rattle.i2c_spec.specs.Targets.{opening_state};
 ghost use Rattle.i2c_outside.specs.Registers.{is_regs};
-ghost use Rattle.i2c_outside.specs.Devices.{target_state, device_table};
+ghost use Rattle.i2c_outside.specs.Devices.{target_state, device_table, device_opening};
 
 use crate::Regs;
 use i2c_base::{Answer, DeviceSpec, Event, Target};
@@ -18,7 +18,8 @@ impl DeviceState {
     pub fn open(spec: &DeviceSpec) -> Self
         requires plain { IsPlainDevice spec.now }
         requires regs { IsTrue (is_regs spec.now.kind) }
-        ensures { target_state result ≡ opening_state spec.now }
+        ensures state { target_state result ≡ opening_state spec.now }
+        ensures value { result ≡ device_opening spec.now }
     {
         DeviceState::Regs(Regs::open(spec))
     }

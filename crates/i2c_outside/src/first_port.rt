@@ -1,12 +1,16 @@
-ghost use Rattle.std.specs.Prelude.{◌≡◌, ◌<◌, ◌++◌, [], ◌∷◌, ℕ, Bool, true, map, vec_len, vec_capacity};
+ghost use Rattle.std.specs.Prelude.{◌≡◌, ◌<◌, ◌++◌, [], ◌∷◌, ℕ, Bool, true, map, length, slice_get, vec_len, vec_capacity, IfOk, IsSome};
+ghost use Rattle.std.specs.Option.{option_map};
 ghost use Rattle.i2c_base.specs.Phases.{phase_started, phase_put, phase_got};
 ghost use Rattle.i2c_spec.specs.World.{is_ack, is_slow};
+ghost use Rattle.i2c_outside.specs.Devices.{IsFirstBoard, target_state};
+ghost use Rattle.i2c_outside.specs.FirstPorts.{opening_port};
 ghost use Rattle.i2c_outside.specs.Sites.{site_after, someone, anded};
 
-use crate::site::{Site, Together, pass_all};
-use crate::{Failed, Port};
+use crate::site::{Site, Together, open_sites, pass_all};
+use crate::{DeviceState, Failed, Port};
 use i2c_base::{Addr, Answer, MuxId, Phase, PortCall, SegId};
 use i2c_board::Accepted;
+use std::alloc::{AllocError, Global};
 use std::marker::Model;
 use std::snapshot::Snapshot;
 
@@ -30,6 +34,40 @@ impl Model for FirstPort {
     ghost view = { λ p. record { world = world_of p.board.value p.root (is_busy p.phase) p.sites.items; log = p.log.items; phase = p.phase } };
 
     ghost invariant = { λ p. IsFirstPort p.board.value p.root p.sites.items (vec_capacity p.log) };
+}
+
+/// How many calls a port has room for.
+const CALLS: usize = 2_000_000;
+
+impl FirstPort {
+    /// The port of this root, in the root's opening world.
+    pub(crate) fn open(alloc: Global, board: &Accepted, root: SegId) -> Result<Self, AllocError>
+        requires { IsFirstBoard board.now }
+        ensures { IfOk result (λ p. p ≡ opening_port board.now root) }
+    {
+        Ok(FirstPort {
+            board: Snapshot::of(board),
+            root,
+            sites: open_sites(alloc, board.board().devices(), root)?,
+            log: Vec::with_capacity(alloc, CALLS)?,
+            phase: Phase::Idle,
+        })
+    }
+
+    /// The device of this number, as the port has it.
+    pub(crate) fn device(&self, number: usize) -> Option<DeviceState>
+        ensures value { option_map target_state result ≡ slice_get self.now.world.devices number }
+        ensures has { number < length self.now.world.board.devices → IsSome result }
+    {
+        Some(self.sites.get(number)?.device.copied())
+    }
+
+    /// The calls that were made on it.
+    pub(crate) fn into_log(self) -> Vec<PortCall>
+        ensures { result.items ≡ self.log }
+    {
+        self.log
+    }
 }
 
 impl Port for FirstPort {

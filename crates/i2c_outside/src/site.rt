@@ -1,9 +1,12 @@
-ghost use Rattle.std.specs.Prelude.{◌≡◌, map, bit_and, ◌||◌};
-ghost use Rattle.i2c_spec.specs.World.{is_ack, is_slow, byte_of};
-ghost use Rattle.i2c_outside.specs.Sites.{event_of, answer_of, site_after, someone, anded, hears, passes, and_with, start_answer};
+ghost use Rattle.std.specs.Prelude.{◌≡◌, map, ◌||◌, All, IfOk, IsTrue};
+ghost use Rattle.i2c_spec.specs.Plain.{IsPlainDevice};
+ghost use Rattle.i2c_outside.specs.Registers.{is_regs};
+ghost use Rattle.i2c_spec.specs.World.{is_ack, is_slow};
+ghost use Rattle.i2c_outside.specs.Sites.{event_of, answer_of, site_after, someone, anded, hears, passes, and_with, start_answer, site_opening};
 
 use crate::DeviceState;
-use i2c_base::{Addr, Answer, Event, PortCall, Target};
+use i2c_base::{Addr, Answer, DeviceSpec, Event, PortCall, SegId, Target};
+use std::alloc::{AllocError, Global};
 
 /// A device of the board, as the port of one root has it.
 #[derive(Drop)]
@@ -17,6 +20,20 @@ pub struct Site {
 }
 
 impl Site {
+    /// The device as it is opened, as the port of this root has it.
+    fn open(spec: &DeviceSpec, root: SegId) -> Self
+        requires plain { IsPlainDevice spec.now }
+        requires regs { IsTrue (is_regs spec.now.kind) }
+        ensures { result ≡ site_opening root spec.now }
+    {
+        Site {
+            addr: spec.addr,
+            joined: spec.bus == root,
+            heard: false,
+            device: DeviceState::open(spec),
+        }
+    }
+
     /// Gives the device what it sees of a call.
     fn pass(&mut self, call: &PortCall) -> Option<Answer>
         ensures answer { result ≡ answer_of call.now self.old }
@@ -52,6 +69,19 @@ impl Site {
             _ => None,
         }
     }
+}
+
+/// The devices of a board as they are opened, as the port of this root has them.
+pub fn open_sites(alloc: Global, specs: &[DeviceSpec], root: SegId) -> Result<Vec<Site>, AllocError>
+    requires plain { All IsPlainDevice specs.now }
+    requires regs { All (λ d. IsTrue (is_regs d.kind)) specs.now }
+    ensures { IfOk result (λ sites. sites.items ≡ map (site_opening root) specs.now) }
+{
+    let mut sites = Vec::with_capacity(alloc, specs.len())?;
+    for spec in specs {
+        sites.push(Site::open(spec, root))?;
+    }
+    Ok(sites)
 }
 
 /// Who acknowledges a start, or holds the clock, has heard it.
