@@ -19,10 +19,10 @@ use Rattle.i2c_outside.specs.FirstPorts.{IsFirstPort}
 abbrev pub AreFrom : BoardView → ℕ → List DeviceView → Type 0
 AreFrom b k ds = (i : ℕ) → slice_get b.devices (k + i) ≡ slice_get ds i
 
-here : (b : BoardView) (k : ℕ) (d : DeviceView) (ds : List DeviceView) → AreFrom b k (d ∷ ds) → slice_get b.devices k ≡ Some d
+pub here : (b : BoardView) (k : ℕ) (d : DeviceView) (ds : List DeviceView) → AreFrom b k (d ∷ ds) → slice_get b.devices k ≡ Some d
 here b k d ds from = rw add-zero at (from 0)
 
-next : (b : BoardView) (k : ℕ) (d : DeviceView) (ds : List DeviceView) → AreFrom b k (d ∷ ds) → AreFrom b (k + 1) ds
+pub next : (b : BoardView) (k : ℕ) (d : DeviceView) (ds : List DeviceView) → AreFrom b k (d ∷ ds) → AreFrom b (k + 1) ds
 next b k d ds from i = let e : k + 1 + i ≡ k + suc i = omega arith in rw e (from (suc i))
 
 site_is : (b : BoardView) (root k : ℕ) (d : DeviceView) → slice_get b.devices k ≡ Some d → IsSite b root k (site_opening root d)

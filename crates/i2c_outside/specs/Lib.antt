@@ -1,6 +1,7 @@
 pub mod Causes
 pub mod Devices
 pub mod FirstPorts
+pub mod FirstRigs
 pub mod LineCalls
 pub mod Registers
 pub mod Shelves

@@ -13,6 +13,7 @@ mod map_shelf;
 mod port;
 mod registers;
 mod rig;
+mod room;
 mod shelf;
 mod sink;
 mod site;
