@@ -1,20 +1,21 @@
 -- The devices that a rig keeps are those that the worlds leave. The induction goes over the devices, the first being
 -- number k.
-use Rattle.std.proofs.Common.{◌≡◌, ℕ, zero, suc, ◌+◌, ◌<◌, ◌≤◌, List, [], ◌∷◌, ◌++◌, length, map, get_or, Option, Some, None, refl, sym, ◌∙◌, ap, arith, inl, inr, add-zero, zero-add}
+use Rattle.std.proofs.Common.{◌≡◌, ℕ, zero, suc, ◌+◌, ◌<◌, ◌≤◌, List, [], ◌∷◌, ◌++◌, length, map, get_or, Option, Some, None, refl, sym, ◌∙◌, ap, arith, inl, inr, add-zero, zero-add, add-one}
 use Rattle.std.specs.Prelude.{All, IsSome, slice_get, slice_index, unwrap_or, option_to_list}
 use Rattle.std.specs.Option.{option_map_or}
 use Rattle.std.specs.List.{range_with_len}
-use Rattle.std.proofs.lemmas.List.{length-map}
-use Rattle.std.proofs.lemmas.List.Elements.{All-head, All-tail, All-get_or}
-use Rattle.std.proofs.lemmas.List.FromFn.{length-range_with_len}
+use Rattle.std.proofs.lemmas.List.{length-map, map-append}
+use Rattle.std.proofs.lemmas.List.Elements.{All-head, All-tail, All-get_or, All-map}
+use Rattle.std.proofs.lemmas.List.FromFn.{length-range_with_len, length-map-range_with_len}
 use Rattle.std.proofs.lemmas.Option.{slice_get-get_or, slice_get_cases}
 use Rattle.i2c_base.specs.Board.{BoardView, DeviceView}
 use Rattle.i2c_spec.specs.Plain.{IsPlainBoard}
 use Rattle.i2c_spec.specs.Tree.{buses, of_device, root_of}
 use Rattle.i2c_spec.specs.Targets.{TargetState, Silent}
-use Rattle.i2c_spec.specs.World.{World, AreWorldsOf, device_in, devices_of}
+use Rattle.i2c_spec.specs.World.{World, AreWorldsOf, device_in, devices_of, opening_world, openings}
 use Rattle.i2c_outside.specs.Devices.{target_state, IsFirstBoard}
 use Rattle.i2c_outside.specs.declared.device.DeviceState.{DeviceState}
+use Rattle.i2c_outside.specs.FirstPorts.{PortView, opening_port}
 use Rattle.i2c_outside.specs.FirstRigs.{device_of, state_at, states_from, IsThere}
 use Rattle.i2c_outside.proofs.OpeningLemmas.{AreFrom, here, next}
 
@@ -80,3 +81,34 @@ devices-kept b homes old new ws first plain are none of kept there =
     let at_home : (i : ℕ) → i < length b.devices → IsThere ws (slice_index (map (λ d. d.bus) b.devices) i) i =
     λ i h. rw (← are) (there i (rw are (rw length-map h))) in
     kept ∙ rw (none, are) (kept-devices b ws first.muxes plain of at_home)
+
+-- one root more
+range_more : (a n : ℕ) → range_with_len a (n + 1) ≡ range_with_len a n ++ (a + n) ∷ []
+range_more a zero = rw add-zero refl
+range_more a (suc n) =
+    let one : suc n + 1 ≡ suc (suc n) = omega arith in
+    let same : n + 1 ≡ suc n = omega arith in
+    let rest : range_with_len (a + 1) (suc n) ≡ range_with_len (a + 1) n ++ (a + 1 + n) ∷ [] = rw same at (range_more (a + 1) n) in
+    let last : a + suc n ≡ a + 1 + n = omega arith in
+    rw (one, last) (ap (λ xs. a ∷ xs) rest)
+
+pub map-more : {X : Type 0} (f : ℕ → X) (n : ℕ) → map f (range_with_len 0 (n + 1)) ≡ map f (range_with_len 0 n) ++ f n ∷ []
+map-more f n = rw (range_more 0 n, map-append f (range_with_len 0 n) ((0 + n) ∷ []), zero-add) refl
+
+-- what a plug gives
+all_opened : (b : BoardView) (P : PortView → Type 0) → ((r : ℕ) → P (opening_port b r)) → (rs : List ℕ) → All P (map (opening_port b) rs)
+all_opened b P each rs = All-map P (opening_port b) rs (λ k d h. each (get_or rs k d))
+
+worlds_of : (b : BoardView) (rs : List ℕ) → map (λ p. p.world) (map (opening_port b) rs) ≡ map (opening_world b) rs
+worlds_of b [] = refl
+worlds_of b (r ∷ rs) = ap (λ ws. opening_world b r ∷ ws) (worlds_of b rs)
+
+module _ (b : BoardView) (ps : List PortView) (are : ps ≡ map (opening_port b) (range_with_len 0 (length b.roots))) where
+  pub opened-count : length ps ≡ length b.roots
+  opened-count = ap length are ∙ length-map-range_with_len (opening_port b) 0 (length b.roots)
+
+  pub opened-all : (P : PortView → Type 0) → ((r : ℕ) → P (opening_port b r)) → All P ps
+  opened-all P each = rw are (all_opened b P each (range_with_len 0 (length b.roots)))
+
+  pub opened-worlds : map (λ p. p.world) ps ≡ openings b
+  opened-worlds = rw are (worlds_of b (range_with_len 0 (length b.roots)))

@@ -8,6 +8,7 @@
 mod device;
 mod failed;
 mod first_port;
+mod first_rig;
 mod gate;
 mod map_shelf;
 mod port;
@@ -22,6 +23,7 @@ mod vec_sink;
 pub use device::DeviceState;
 pub use failed::{Failed, ReadFail, RigFail};
 pub use first_port::FirstPort;
+pub use first_rig::FirstRig;
 pub use gate::{Gate, OpenGate, Point};
 pub use i2c_base::{Phase, PortCall};
 pub use map_shelf::MapShelf;
