@@ -7,6 +7,7 @@
 
 mod device;
 mod failed;
+mod file_shelf;
 mod first_port;
 mod first_rig;
 mod gate;
@@ -18,10 +19,12 @@ mod room;
 mod shelf;
 mod sink;
 mod site;
+mod stdout_sink;
 mod vec_sink;
 
 pub use device::DeviceState;
 pub use failed::{Failed, ReadFail, RigFail};
+pub use file_shelf::FileShelf;
 pub use first_port::FirstPort;
 pub use first_rig::FirstRig;
 pub use gate::{Gate, OpenGate, Point};
@@ -32,4 +35,8 @@ pub use registers::Regs;
 pub use rig::Rig;
 pub use shelf::Shelf;
 pub use sink::Sink;
+pub use stdout_sink::StdoutSink;
 pub use vec_sink::VecSink;
+
+#[cfg(test)]
+mod tests;

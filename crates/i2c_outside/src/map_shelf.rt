@@ -3,15 +3,10 @@ ghost use Rattle.i2c_outside.specs.Causes.{Rose, counted};
 ghost use Rattle.i2c_outside.specs.Shelves.{held, is_refused};
 ghost use Rattle.i2c_outside.specs.Sinks.{is_listed};
 
+use crate::shelf::{LARGEST, PLACES};
 use crate::{ReadFail, Shelf};
 use std::alloc::Global;
 use std::collections::BTreeMap;
-
-/// The places of a command line.
-const PLACES: usize = 16;
-
-/// The most bytes that a file may have: 2^28.
-const LARGEST: usize = 1 << 28;
 
 /// A shelf in memory: the words of a command line, the files by name, and the numbers of the reads that fail.
 #[derive(Drop)]

@@ -49,6 +49,13 @@ impl VecSink {
         self.bytes.as_slice()
     }
 
+    /// How many faults were counted.
+    pub fn faults(&self) -> u64
+        ensures { result ≡ self.now.faults }
+    {
+        self.faults
+    }
+
     /// The next write is to fail, whatever its piece.
     fn is_told_to_fail(&self) -> bool
         ensures { result ≡ is_listed self.now.fails self.now.writes }
