@@ -1,17 +1,16 @@
 -- The port of a root without a mux as it is opened. The inductions go over the devices, the first being number k.
-use Rattle.std.proofs.Common.{◌≡◌, ℕ, zero, suc, ◌+◌, ◌≤◌, ◌==◌, Bool, true, false, List, [], ◌∷◌, length, map, Option, Some, refl, sym, ◌∙◌, ap, arith, add-zero, zero-add}
+use Rattle.std.proofs.Common.{◌≡◌, ℕ, suc, ◌+◌, ◌≤◌, Bool, false, List, [], ◌∷◌, map, Some, refl, arith, add-zero, zero-add}
 use Rattle.std.specs.Prelude.{All, IsTrue, slice_get}
 use Rattle.std.proofs.lemmas.List.{length-map}
 use Rattle.std.proofs.lemmas.List.Elements.{All-head, All-tail}
 use Rattle.i2c_base.specs.declared.board.DeviceKind.{DeviceKind}
 use Rattle.i2c_base.specs.declared.board.DeviceKind.TheVariants as kind
 use Rattle.i2c_base.specs.Board.{BoardView, DeviceView}
-use Rattle.i2c_spec.specs.Tree.{of_device}
 use Rattle.i2c_spec.specs.Targets.{opening_state}
 use Rattle.i2c_spec.specs.World.{opening_world}
-use Rattle.i2c_outside.specs.Registers.{is_regs, hold_of}
+use Rattle.i2c_outside.specs.Registers.{is_regs}
 use Rattle.i2c_outside.specs.Devices.{target_state, device_opening, IsFirstBoard}
-use Rattle.i2c_outside.specs.Sites.{state_of, hearing_of, site_opening, world_of, IsSite, AreSites, AreOfRoot}
+use Rattle.i2c_outside.specs.Sites.{state_of, hearing_of, site_opening, world_of, IsSite, AreSites}
 use Rattle.i2c_outside.specs.declared.site.Site.{Site}
 use Rattle.i2c_outside.specs.FirstPorts.{IsFirstPort}
 

@@ -1,6 +1,6 @@
 -- The world of a root of a board without a mux, a lemma for each call: what each device is given depends on itself
 -- alone. The inductions go over the devices, the first being number k.
-use Rattle.std.proofs.Common.{◌≡◌, ℕ, ◌+◌, ◌<◌, ◌≤◌, ◌==◌, Bool, true, false, ◌||◌, ◌&&◌, List, [], ◌∷◌, map, Option, Some, None, refl, sym, ◌∙◌, ap, arith, if◌then◌else◌, bit_and}
+use Rattle.std.proofs.Common.{◌≡◌, ℕ, ◌+◌, ◌<◌, ◌≤◌, ◌==◌, Bool, true, false, ◌||◌, List, [], ◌∷◌, map, Option, Some, None, refl, sym, ◌∙◌, ap, arith, if◌then◌else◌}
 use Rattle.std.specs.Prelude.{◌≢◌}
 use Rattle.std.specs.List.{list_any}
 use Rattle.std.specs.Option.{option_map}
@@ -14,14 +14,14 @@ use Rattle.i2c_base.specs.declared.event.Answer.{Answer}
 use Rattle.i2c_base.specs.declared.port.PortCall.{PortCall}
 use Rattle.i2c_base.specs.declared.port.PortCall.TheVariants as call
 use Rattle.i2c_base.specs.Board.{BoardView}
-use Rattle.i2c_spec.specs.Tree.{hops, root_of, of_device}
+use Rattle.i2c_spec.specs.Tree.{of_device}
 use Rattle.i2c_spec.specs.Targets.{state_table}
-use Rattle.i2c_spec.specs.World.{World, after, answer, answers, answer_with, feed, given, hearers, heard_of, some_answer, and_of, takes, gives, is_joined, is_device, is_ack, is_slow, start_event, stop_event, device_start, joins_device, to_devices, has_heard}
+use Rattle.i2c_spec.specs.World.{after, answer, answers, answer_with, feed, given, heard_of, some_answer, and_of, takes, gives, is_joined, is_device, is_ack, is_slow, stop_event, device_start, joins_device, to_devices}
 use Rattle.i2c_outside.specs.declared.device.DeviceState.{DeviceState}
 use Rattle.i2c_outside.specs.declared.device.DeviceState.TheVariants.{Regs}
 use Rattle.i2c_outside.specs.declared.site.Site.{Site}
 use Rattle.i2c_outside.specs.Devices.{target_state, device_table, device_answer}
-use Rattle.i2c_outside.specs.Sites.{state_of, event_of, if_heard, answer_of, hears, heard_after, site_after, passes, someone, and_with, anded, start_answer, hearing_of, IsSite, AreSites, AreOfRoot, world_of}
+use Rattle.i2c_outside.specs.Sites.{state_of, event_of, if_heard, answer_of, hears, heard_after, site_after, passes, someone, and_with, anded, start_answer, hearing_of, AreSites, AreOfRoot, world_of}
 
 -- what the devices are given by number is what each is given by itself
 abbrev pub Agrees : (ℕ → Option Event) → PortCall → ℕ → List Site → Type 0

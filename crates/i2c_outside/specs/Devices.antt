@@ -4,7 +4,7 @@ use Rattle.i2c_base.specs.declared.event.Event.{Event}
 use Rattle.i2c_base.specs.declared.event.Answer.{Answer}
 use Rattle.i2c_base.specs.Table.{Table}
 use Rattle.i2c_base.specs.Board.{BoardView, DeviceView}
-use Rattle.i2c_spec.specs.Regs.{regs_after, regs_answer, regs_sends, regs_opening}
+use Rattle.i2c_spec.specs.Regs.{regs_after, regs_answer, regs_opening}
 use Rattle.i2c_spec.specs.Targets.{TargetState}
 use Rattle.i2c_spec.specs.Targets as target
 use Rattle.i2c_outside.specs.Registers.{hold_of, is_regs}

@@ -1,4 +1,3 @@
-use Rattle.std.proofs.Common.{◌≡◌, ap, sym, ◌∙◌}
 use Rattle.i2c_outside.specs.FirstPorts.{opening_port}
 use Rattle.i2c_outside.proofs.RigLemmas.{map-more}
 use Rattle.i2c_outside.proofs.first_rig.open_ports.Goals as goal

@@ -1,6 +1,5 @@
-use Rattle.std.proofs.Common.{◌≡◌, ◌≤◌, ◌∙◌, ap, arith, vec_capacity}
+use Rattle.std.proofs.Common.{◌≤◌, ◌∙◌, ap, arith, vec_capacity}
 use Rattle.i2c_outside.proofs.OpeningLemmas.{port-opened, world-opened}
-use Rattle.i2c_outside.specs.FirstPorts.{PortView}
 use Rattle.i2c_outside.proofs.first_port.FirstPort.open.Goals as goal
 
 pub invariant_of-result : goal.invariant_of-result

@@ -1,4 +1,4 @@
-use Rattle.std.proofs.Common.{◌≡◌, length, [], refl, arith}
+use Rattle.std.proofs.Common.{◌≡◌, [], refl, arith}
 use Rattle.i2c_base.specs.declared.port.Phase.{Phase}
 use Rattle.i2c_outside.proofs.RigLemmas.{opened-count, opened-all, opened-worlds}
 use Rattle.i2c_outside.proofs.first_rig.FirstRigRig.plug.Goals as goal
