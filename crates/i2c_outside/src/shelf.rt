@@ -4,6 +4,12 @@ ghost use Rattle.i2c_outside.specs.Causes.{Rose};
 use crate::ReadFail;
 use std::alloc::Global;
 
+/// How many places a command line has.
+pub(crate) const PLACES: usize = 16;
+
+/// The most bytes that a file of a shelf has: 2^28.
+pub(crate) const LARGEST: usize = 1 << 28;
+
 /// The files that a command line names, each read by its place among the words.
 pub trait Shelf {
     /// It tells what it holds.

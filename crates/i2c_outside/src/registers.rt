@@ -1,0 +1,180 @@
+ghost use Rattle.std.specs.Prelude.{◌≡◌, ℕ, ◌+◌, ◌≤◌, All, IsTrue, length};
+ghost use Rattle.i2c_spec.specs.Plain.{IsPlainDevice, IsPlainRun};
+ghost use Rattle.i2c_spec.specs.Regs.{regs_table, regs_opening, regs_after, regs_answer, regs_sends, write_run, write_runs};
+ghost use Rattle.i2c_base.specs.declared.event.Event.TheVariants as event;
+ghost use Rattle.i2c_outside.specs.Registers.{hold_of, is_regs};
+
+use i2c_base::{Answer, DeviceKind, DeviceSpec, Event, Run, Target};
+use std::marker::Model;
+
+/// What a register device awaits of the message in progress.
+#[derive(Clone, Copy, Debug, PartialEq, Eq, Hash)]
+enum Awaits {
+    /// A start with its address.
+    Start,
+    /// The pointer: the first byte of a write.
+    Pointer,
+    /// A byte for the register at the pointer.
+    Byte,
+    /// That the register at the pointer is read.
+    Get,
+}
+
+/// How many registers there are.
+const REGISTERS: usize = 256;
+
+/// A controller looks so often at a clock that is held.
+const LOOKS: u8 = 64;
+
+/// The register device: 256 registers behind a pointer, which the first byte of a write sets and which moves on
+/// after each byte that is written or read, from the last register to the first.
+#[derive(Debug, Drop)]
+pub struct Regs {
+    awaits: Awaits,
+    pointer: u8,
+    memory: [u8; REGISTERS],
+    hold: u8,
+}
+
+impl Model for Regs {
+    ghost use Rattle.i2c_spec.specs.Regs.{RegsView};
+
+    ghost Value = { RegsView };
+
+    ghost use Rattle.i2c_outside.specs.Registers.{phase_of};
+
+    ghost view = { λ r. record { phase = phase_of r.awaits; pointer = r.pointer; memory = r.memory; hold = r.hold } };
+}
+
+impl Regs {
+    /// The device as its board says that it is opened: every register 0 but for those that are set.
+    pub fn open(spec: &DeviceSpec) -> Self
+        requires plain { IsPlainDevice spec.now }
+        requires regs { IsTrue (is_regs spec.now.kind) }
+        ensures { result ≡ regs_opening (hold_of spec.now.kind) spec.now.set }
+    {
+        let hold = match spec.kind {
+            DeviceKind::Regs { hold } => hold,
+            _ => 0,
+        };
+        let mut memory = [0; REGISTERS];
+        write_runs(&mut memory, &spec.set);
+        Regs {
+            awaits: Awaits::Start,
+            pointer: 0,
+            memory,
+            hold,
+        }
+    }
+
+    /// The byte that the next read would give.
+    pub fn sends(&self) -> u8
+        ensures { result ≡ regs_sends self.now self.now.phase }
+    {
+        match self.awaits {
+            Awaits::Get => self.memory[usize::from(self.pointer)],
+            _ => 255,
+        }
+    }
+
+    /// For how many looks it holds the clock at its address (UM10204 section 3.1.9).
+    pub fn hold(&self) -> u8
+        ensures { result ≡ self.now.hold }
+    {
+        self.hold
+    }
+
+    /// A device in the same state.
+    pub fn copied(&self) -> Self
+        ensures { result ≡ self.now }
+    {
+        Regs {
+            awaits: self.awaits,
+            pointer: self.pointer,
+            memory: self.memory,
+            hold: self.hold,
+        }
+    }
+
+    fn begin(&mut self, reading: bool) -> Answer
+        ensures answer { result ≡ regs_answer self.old (event.Start reading) }
+        ensures after { self.new ≡ regs_after self.old (event.Start reading) }
+    {
+        if self.hold > LOOKS {
+            self.awaits = Awaits::Start;
+            return Answer::Slow;
+        }
+        self.awaits = if reading {
+            Awaits::Get
+        } else {
+            Awaits::Pointer
+        };
+        Answer::Ack
+    }
+
+    fn put(&mut self, byte: u8) -> Answer
+        ensures answer { result ≡ regs_answer self.old (event.Put byte) }
+        ensures after { self.new ≡ regs_after self.old (event.Put byte) }
+    {
+        match self.awaits {
+            Awaits::Pointer => {
+                self.pointer = byte;
+                self.awaits = Awaits::Byte;
+                Answer::Ack
+            }
+            Awaits::Byte => {
+                self.memory[usize::from(self.pointer)] = byte;
+                self.pointer = self.pointer.wrapping_add(1);
+                Answer::Ack
+            }
+            Awaits::Start | Awaits::Get => Answer::Nack,
+        }
+    }
+
+    fn get(&mut self, ack: bool) -> Answer
+        ensures answer { result ≡ regs_answer self.old (event.Get ack) }
+        ensures after { self.new ≡ regs_after self.old (event.Get ack) }
+    {
+        let byte = self.sends();
+        if matches!(&self.awaits, Awaits::Get) {
+            self.pointer = self.pointer.wrapping_add(1);
+            self.awaits = if ack { Awaits::Get } else { Awaits::Start };
+        }
+        Answer::Byte(byte)
+    }
+}
+
+/// Writes these runs, one after the other.
+fn write_runs(memory: &mut [u8], runs: &[Run])
+    requires { All (IsPlainRun (length memory.old)) runs.now }
+    ensures { memory.new ≡ write_runs memory.old runs.now }
+{
+    for run in runs {
+        write_run(memory, run);
+    }
+}
+
+/// Writes the bytes of a run at its place.
+fn write_run(memory: &mut [u8], run: &Run)
+    requires { run.now.start + length run.now.bytes ≤ length memory.old }
+    ensures { memory.new ≡ write_run memory.old run.now }
+{
+    let start = usize::from(run.start);
+    memory[start..start + run.bytes.len()].copy_from_slice(&run.bytes);
+}
+
+impl Target for Regs {
+    ghost table = { regs_table };
+
+    fn on(&mut self, event: Event) -> Answer {
+        match event {
+            Event::Start { reading } => self.begin(reading),
+            Event::Put(byte) => self.put(byte),
+            Event::Get { ack } => self.get(ack),
+            Event::Other | Event::Stop => {
+                self.awaits = Awaits::Start;
+                Answer::Nothing
+            }
+        }
+    }
+}
