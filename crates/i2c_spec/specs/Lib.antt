@@ -8,6 +8,7 @@ pub mod Rules
 pub mod Regs
 pub mod Chips
 pub mod Targets
+pub mod PlainStates
 pub mod World
 pub mod Messages
 pub mod Conversation
