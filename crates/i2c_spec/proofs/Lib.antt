@@ -1,1 +1,3 @@
+pub mod HopLemmas
+pub mod PlainLemmas
 pub mod TargetLemmas

@@ -3,6 +3,7 @@
 pub mod Tree
 pub mod TreeFacts
 pub mod Plain
+pub mod Layouts
 pub mod Grant
 pub mod Rules
 pub mod Regs

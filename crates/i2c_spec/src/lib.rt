@@ -4,6 +4,12 @@
 //! The definitions stand in `specs/`, a file for each subject, over plain records and lists.
 #![tactic(auto)]
 
+mod hop;
+mod layout;
+
+pub use hop::Hop;
+pub use layout::Layout;
+
 ghost use Rattle.std.specs.Prelude.{◌≡◌, [], ◌∷◌, true};
 ghost use Rattle.i2c_spec.specs.Tree.{hops};
 ghost use Rattle.i2c_spec.specs.Grant.{grant_of, way_of};

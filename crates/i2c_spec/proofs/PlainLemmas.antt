@@ -1,0 +1,29 @@
+-- What the limits of a board say of the numbers of its buses. No induction of its own: the sum over the muxes is
+-- bounded by the library.
+use Rattle.std.proofs.Common.{◌≡◌, ℕ, ◌+◌, ◌*◌, ◌^◌, ◌<◌, ◌≤◌, List, [], ◌∷◌, length, refl, arith}
+use Rattle.std.specs.List.{All, sum_by}
+use Rattle.std.proofs.lemmas.List.Sums.{sum_by-le}
+use Rattle.std.proofs.lemmas.List.Elements.{All-weaker}
+use Rattle.i2c_base.specs.declared.board.MuxKind.{MuxKind}
+use Rattle.i2c_base.specs.declared.board.MuxKind.TheVariants.{Pca9548, Pca9546, Pca9544, Pca9541, Gpio}
+use Rattle.i2c_base.specs.declared.board.MuxSpec.{MuxSpec}
+use Rattle.i2c_base.specs.Board.{BoardView}
+use Rattle.i2c_spec.specs.Tree.{buses, buses_of}
+use Rattle.i2c_spec.specs.Plain.{IsPlainBoard, IsPlainMux, FitsChannels}
+
+-- no mux has more than 8 channels
+channels_le : (kind : MuxKind) (n : ℕ) → FitsChannels kind n → n ≤ 8
+channels_le Pca9548 n h = omega arith
+channels_le Pca9546 n h = omega arith
+channels_le Pca9544 n h = omega arith
+channels_le Pca9541 n h = omega arith
+channels_le Gpio n h = omega arith
+
+All_channels_le : (ms : List MuxSpec) → All IsPlainMux ms → All (λ m. m.channels ≤ 8) ms
+All_channels_le ms h =
+    All-weaker IsPlainMux (λ m. m.channels ≤ 8) (λ m plain. channels_le m.kind m.channels plain.channels) ms h
+
+-- 8 roots, and 32 muxes of 8 channels
+pub buses_le : (b : BoardView) → IsPlainBoard b → buses b ≤ 264
+buses_le b plain =
+    omega (arith, plain.most_roots, plain.most_muxes, sum_by-le (λ (m : MuxSpec). m.channels) 8 b.muxes (All_channels_le b.muxes plain.muxes))
