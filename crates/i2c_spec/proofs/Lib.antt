@@ -1,3 +1,4 @@
 pub mod HopLemmas
+pub mod JointLemmas
 pub mod PlainLemmas
 pub mod TargetLemmas

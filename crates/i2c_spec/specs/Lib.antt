@@ -11,6 +11,7 @@ pub mod Chips
 pub mod Targets
 pub mod PlainStates
 pub mod World
+pub mod Joints
 pub mod Messages
 pub mod Conversation
 pub mod Flat

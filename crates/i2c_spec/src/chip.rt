@@ -37,14 +37,14 @@ impl PlainChip {
     }
 
     /// This channel is open.
-    pub fn is_open(&self, channel: u8) -> bool
+    pub fn is_open(&self, channel: u16) -> bool
         ensures { result ≡ is_open self.now channel }
     {
         match self.kind {
             MuxKind::Pca9548 | MuxKind::Pca9546 => has_bit(self.control, channel),
-            MuxKind::Pca9544 => has_bit(self.control, 2) && self.control % 4 == channel,
+            MuxKind::Pca9544 => has_bit(self.control, 2) && u16::from(self.control % 4) == channel,
             MuxKind::Pca9541 => self.control == 1 && channel == 0,
-            MuxKind::Gpio => u16::from(self.control) == u16::from(channel) + 1,
+            MuxKind::Gpio => u32::from(self.control) == u32::from(channel) + 1,
         }
     }
 
@@ -142,7 +142,7 @@ const FOR_GOOD: u8 = 8;
 
 // Bit i of a byte.
 #[tactic(auto, using(crate::proofs::TargetLemmas::bit_of_high))]
-fn has_bit(byte: u8, i: u8) -> bool
+fn has_bit(byte: u8, i: u16) -> bool
     ensures { result ≡ bit_of byte i }
 {
     if i >= 8 {

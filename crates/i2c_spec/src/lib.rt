@@ -23,13 +23,16 @@ ghost use Rattle.i2c_spec.specs.Fair.{IsFairCaller};
 
 mod chip;
 mod fair_targets;
+mod joint;
 mod regs;
 mod state;
+mod world;
 
 pub use chip::PlainChip;
 pub use fair_targets::{chips_are_fair, openings_are_quiet, regs_are_fair, states_are_fair};
 pub use regs::{PlainPhase, PlainRegs};
 pub use state::PlainState;
+pub use world::PlainWorld;
 
 pub fn probe()
     ensures { true ≡ true }
