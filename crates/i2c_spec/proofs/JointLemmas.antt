@@ -3,7 +3,7 @@
 use Rattle.std.proofs.Common.{◌≡◌, ℕ, ◌+◌, ◌-◌, ◌<◌, ◌≤◌, Bool, true, false, cond, List, [], ◌∷◌, ◌++◌, length, map, take, drop, get_or, set, Option, Some, None, refl, sym, ap, ◌∙◌, subst, append_assoc, arith}
 use Rattle.std.proofs.Math.Seq.{set-append_seam, get_or-append_seam}
 use Rattle.std.specs.List.{range_with_len}
-use Rattle.std.proofs.lemmas.List.FromFn.{get_or-map-range_with_len}
+use Rattle.std.proofs.lemmas.List.FromFn.{get_or-map-range_with_len, map-range_with_len_more}
 use Rattle.std.proofs.lemmas.List.{take_more, at_drop_more, length-take-le}
 use Rattle.i2c_base.specs.declared.event.Event.{Event}
 use Rattle.i2c_base.specs.declared.event.Answer.{Answer}
@@ -116,3 +116,7 @@ feed_listed t f events xs e = feed_same t f (event_at events) 0 xs (listed f eve
 pub answers_listed : {X : Type 0} (t : Table X) (f : ℕ → Option Event) (events : List (Option Event)) (xs : List X)
     → events ≡ map f (range_with_len 0 (length xs)) → answers t (event_at events) 0 xs ≡ answers t f 0 xs
 answers_listed t f events xs e = answers_same t f (event_at events) 0 xs (listed f events (length xs) e)
+
+-- the events of one number more
+pub listed_more : (f : ℕ → Option Event) (n : ℕ) → map f (range_with_len 0 (n + 1)) ≡ map f (range_with_len 0 n) ++ f n ∷ []
+listed_more f n = map-range_with_len_more f 0 n n (omega arith)

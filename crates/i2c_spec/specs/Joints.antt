@@ -5,7 +5,12 @@ use Rattle.i2c_base.specs.declared.ids.Node.TheVariants as node
 use Rattle.i2c_base.specs.declared.event.Event.{Event}
 use Rattle.i2c_base.specs.declared.event.Answer.{Answer}
 use Rattle.i2c_base.specs.declared.event.Answer.TheVariants as answer
-use Rattle.i2c_spec.specs.World.{has_heard, is_ack, is_slow, some_answer, and_of}
+use Rattle.i2c_base.specs.declared.event.Event.TheVariants as event
+use Rattle.i2c_base.specs.declared.port.PortCall.{PortCall}
+use Rattle.i2c_base.specs.declared.port.PortCall.TheVariants as call
+use Rattle.i2c_spec.specs.Chips.{chip_table}
+use Rattle.i2c_spec.specs.Targets.{state_table}
+use Rattle.i2c_spec.specs.World.{World, has_heard, is_ack, is_slow, some_answer, and_of, answers, feed, chip_start, device_start, to_chips, to_devices, stop_event, joins_chip, joins_device, is_chip, is_device}
 use Rattle.i2c_spec.specs.declared.joint.Joint.{Joint}
 
 -- the numbers of those who have heard
@@ -36,3 +41,34 @@ answer_by chips devices =
     if chips.slow || devices.slow then answer.Slow
     else if chips.acknowledged || devices.acknowledged then answer.Ack
     else answer.Nack
+
+-- the event that a call on the port is for a chip, and for a device
+abbrev pub chip_event : World → PortCall → ℕ → Option Event
+chip_event w (call.Start a reading) m = chip_start w a reading m
+chip_event w (call.Put byte) m = to_chips w (event.Put byte) m
+chip_event w (call.Get ack) m = to_chips w (event.Get ack) m
+chip_event w call.Stop m = stop_event (joins_chip w m)
+chip_event w call.Fault m = stop_event (joins_chip w m)
+chip_event w (call.Line mux level) m = None
+
+abbrev pub device_event : World → PortCall → ℕ → Option Event
+device_event w (call.Start a reading) d = device_start w a reading d
+device_event w (call.Put byte) d = to_devices w (event.Put byte) d
+device_event w (call.Get ack) d = to_devices w (event.Get ack) d
+device_event w call.Stop d = stop_event (joins_device w d)
+device_event w call.Fault d = stop_event (joins_device w d)
+device_event w (call.Line mux level) d = None
+
+-- the answers of all, and the world with what the call leaves of each
+abbrev pub chips_told : World → PortCall → Joint
+chips_told w c = joint_of (answers chip_table (chip_event w c) 0 w.chips)
+
+abbrev pub devices_told : World → PortCall → Joint
+devices_told w c = joint_of (answers state_table (device_event w c) 0 w.devices)
+
+abbrev pub fed : World → PortCall → World
+fed w c = record w { chips = feed chip_table (chip_event w c) 0 w.chips; devices = feed state_table (device_event w c) 0 w.devices }
+
+abbrev pub is_node : Node → Node → Bool
+is_node (node.Chip m) n = is_chip m n
+is_node (node.Device d) n = is_device d n
