@@ -7,9 +7,6 @@
 mod hop;
 mod layout;
 
-pub use hop::Hop;
-pub use layout::Layout;
-
 ghost use Rattle.std.specs.Prelude.{◌≡◌, [], ◌∷◌, true};
 ghost use Rattle.i2c_spec.specs.Tree.{hops};
 ghost use Rattle.i2c_spec.specs.Grant.{grant_of, way_of};
@@ -20,6 +17,9 @@ ghost use Rattle.i2c_spec.specs.Flat.{flat};
 ghost use Rattle.i2c_spec.specs.History.{history};
 ghost use Rattle.i2c_spec.specs.Cost.{cost_of};
 ghost use Rattle.i2c_spec.specs.Fair.{IsFairCaller};
+
+pub use hop::Hop;
+pub use layout::Layout;
 
 mod chip;
 mod fair_targets;
@@ -32,7 +32,7 @@ pub use chip::PlainChip;
 pub use fair_targets::{chips_are_fair, openings_are_quiet, regs_are_fair, states_are_fair};
 pub use regs::{PlainPhase, PlainRegs};
 pub use state::PlainState;
-pub use world::PlainWorld;
+pub use world::{PlainWorld, open_devices};
 
 pub fn probe()
     ensures { true ≡ true }
