@@ -1,5 +1,6 @@
 pub mod HopLemmas
 pub mod JointLemmas
 pub mod PlainLemmas
+pub mod TalkLemmas
 pub mod TargetLemmas
 pub mod WorldLemmas

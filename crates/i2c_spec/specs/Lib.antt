@@ -14,6 +14,7 @@ pub mod World
 pub mod Joints
 pub mod Messages
 pub mod Conversation
+pub mod PlainTalks
 pub mod Flat
 pub mod History
 pub mod Cost
