@@ -1,14 +1,14 @@
 -- What the limits of a board say of the numbers of its buses. No induction of its own: the sum over the muxes is
 -- bounded by the library.
-use Rattle.std.proofs.Common.{◌≡◌, ℕ, ◌+◌, ◌*◌, ◌^◌, ◌<◌, ◌≤◌, List, [], ◌∷◌, length, refl, arith}
-use Rattle.std.specs.List.{All, sum_by}
+use Rattle.std.proofs.Common.{ℕ, ◌≤◌, List, arith}
+use Rattle.std.specs.List.{All}
 use Rattle.std.proofs.lemmas.List.Sums.{sum_by-le}
 use Rattle.std.proofs.lemmas.List.Elements.{All-weaker}
 use Rattle.i2c_base.specs.declared.board.MuxKind.{MuxKind}
 use Rattle.i2c_base.specs.declared.board.MuxKind.TheVariants.{Pca9548, Pca9546, Pca9544, Pca9541, Gpio}
 use Rattle.i2c_base.specs.declared.board.MuxSpec.{MuxSpec}
 use Rattle.i2c_base.specs.Board.{BoardView}
-use Rattle.i2c_spec.specs.Tree.{buses, buses_of}
+use Rattle.i2c_spec.specs.Tree.{buses}
 use Rattle.i2c_spec.specs.Plain.{IsPlainBoard, IsPlainMux, FitsChannels}
 
 -- no mux has more than 8 channels

@@ -6,6 +6,7 @@ pub mod Plain
 pub mod Layouts
 pub mod Grant
 pub mod Rules
+pub mod Searches
 pub mod Regs
 pub mod Chips
 pub mod Targets

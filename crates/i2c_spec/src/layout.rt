@@ -59,7 +59,7 @@ impl Layout<'_> {
 }
 
 /// The mux is parent-locked.
-fn is_parent(lock: LockMode) -> bool
+pub(crate) fn is_parent(lock: LockMode) -> bool
     ensures { result ≡ spec.is_parent lock }
 {
     matches!(lock, LockMode::Parent)

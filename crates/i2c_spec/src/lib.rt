@@ -4,8 +4,13 @@
 //! The definitions stand in `specs/`, a file for each subject, over plain records and lists.
 #![tactic(auto)]
 
+mod grant;
 mod hop;
 mod layout;
+#[cfg(test)]
+mod tests;
+mod topology;
+mod tree;
 
 ghost use Rattle.std.specs.Prelude.{◌≡◌, [], ◌∷◌, true};
 ghost use Rattle.i2c_spec.specs.Tree.{hops};

@@ -1,6 +1,6 @@
 ghost use Rattle.std.specs.Prelude.{◌≡◌, ℕ, ◌+◌, ◌<◌, ◌≤◌, ◌++◌, List, All, length, map, vec_len, IfOk, if◌then◌else◌, ◌==◌, false};
 ghost use Rattle.std.specs.List.{range_with_len, list_all, list_any};
-ghost use Rattle.i2c_spec.specs.Tree.{end_of, addr_of_mux, of_device};
+ghost use Rattle.i2c_spec.specs.Tree.{addr_of_mux, of_device};
 ghost use Rattle.i2c_spec.specs.Grant.{has_address};
 ghost use Rattle.i2c_spec.specs.Plain.{IsPlainBoard, IsPlainDevice};
 ghost use Rattle.i2c_spec.specs.Chips.{chip_opening};
@@ -81,7 +81,7 @@ impl<'b> PlainWorld<'b> {
         ensures { result ≡ world.is_joined self.now seg }
     {
         let hops = self.layout.hops(seg);
-        end_of(seg, hops.as_slice()) == self.root
+        self.layout.root(seg) == self.root
             && opens_all(self.chips.as_slice(), hops.as_slice())
     }
 
@@ -335,17 +335,6 @@ pub fn open_devices(alloc: Global, devices: &[DeviceSpec]) -> Result<Vec<PlainSt
         states.push(PlainState::open(device))?;
     }
     Ok(states)
-}
-
-// The bus at the end of these hops.
-fn end_of(seg: SegId, hops: &[Hop]) -> SegId
-    ensures { result ≡ end_of seg hops.now }
-{
-    let mut at = seg;
-    for hop in hops {
-        at = hop.on;
-    }
-    at
 }
 
 // Each of these hops is open.

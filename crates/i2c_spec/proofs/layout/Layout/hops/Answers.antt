@@ -1,4 +1,4 @@
-use Rattle.std.proofs.Common.{◌≡◌, ℕ, ◌≤◌, length, take, ap, sym, ◌∙◌, refl, arith}
+use Rattle.std.proofs.Common.{length, sym, ◌∙◌, refl, arith}
 use Rattle.std.proofs.lemmas.List.{take_all}
 use Rattle.i2c_spec.specs.Layouts.{board_of}
 use Rattle.i2c_spec.proofs.HopLemmas.{buses_of-reverse}

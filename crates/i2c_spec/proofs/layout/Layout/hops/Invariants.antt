@@ -1,5 +1,4 @@
 use Rattle.std.proofs.Common.{◌≡◌, ◌+◌, ◌≤◌, ◌++◌, length, take, reverse}
-use Rattle.std.specs.List.{All}
 use Rattle.i2c_spec.specs.Tree.{buses_of, hops_of}
 use Rattle.i2c_spec.proofs.layout.Layout.hops.Given as goal
 

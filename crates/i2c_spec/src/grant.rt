@@ -1,0 +1,85 @@
+ghost use Rattle.std.specs.Prelude.{◌≡◌, ◌==◌, ◌&&◌, option_map};
+ghost use Rattle.std.specs.List.{position_from};
+ghost use Rattle.i2c_spec.specs.Grant as spec;
+
+use crate::Layout;
+use i2c_base::{Addr, DevId, Grant, SegId};
+
+impl Layout<'_> {
+    ghost use Rattle.i2c_spec.specs.Layouts.{board_of};
+    ghost use Rattle.i2c_spec.specs.Plain.{IsPlainBoard};
+    ghost use Rattle.i2c_spec.specs.Tree.{is_below, is_on_path};
+    ghost use Rattle.i2c_spec.specs.Grant.{grant_of, some_chip, some_device, some_bound};
+
+    /// To whom an address on a bus leads. It is busy where a mux chip on the path has it, or a chip or device
+    /// below the bus, or, unless forced, a bound device on the path.
+    pub fn grant(&self, seg: SegId, addr: Addr, force: bool) -> Grant
+        requires { IsPlainBoard (board_of self.now) }
+        ensures { result ≡ grant_of (board_of self.now) seg addr force }
+    {
+        let used_below = self.chip_below(seg, addr) || self.device_below(seg, addr);
+        if self.chip_on_path(seg, addr) || used_below {
+            return Grant::Busy;
+        }
+        if !force && self.bound_on_path(seg, addr) {
+            return Grant::Busy;
+        }
+        match self.device_on_path(seg, addr) {
+            Some(device) => Grant::Named(device),
+            None => Grant::Nobody,
+        }
+    }
+
+    fn chip_on_path(&self, seg: SegId, addr: Addr) -> bool
+        requires { IsPlainBoard (board_of self.now) }
+        ensures { result ≡ some_chip (board_of self.now) addr (is_on_path (board_of self.now) seg) }
+    {
+        self.muxes.iter().any(|mux| has_address(addr, mux.addr) && self.is_on_path(seg, mux.bus))
+    }
+
+    fn chip_below(&self, seg: SegId, addr: Addr) -> bool
+        requires { IsPlainBoard (board_of self.now) }
+        ensures { result ≡ some_chip (board_of self.now) addr (λ u. is_below (board_of self.now) u seg) }
+    {
+        self.muxes.iter().any(|mux| has_address(addr, mux.addr) && self.is_below(mux.bus, seg))
+    }
+
+    fn device_below(&self, seg: SegId, addr: Addr) -> bool
+        requires { IsPlainBoard (board_of self.now) }
+        ensures { result ≡ some_device (board_of self.now) addr (λ u. is_below (board_of self.now) u seg) }
+    {
+        self.devices.iter().any(|device| device.addr == addr && self.is_below(device.bus, seg))
+    }
+
+    fn bound_on_path(&self, seg: SegId, addr: Addr) -> bool
+        requires { IsPlainBoard (board_of self.now) }
+        ensures { result ≡ some_bound (board_of self.now) addr (is_on_path (board_of self.now) seg) }
+    {
+        self.devices.iter().any(|device| device.bound
+            && device.addr == addr
+            && self.is_on_path(seg, device.bus))
+    }
+
+    /// The first device on the path with this address.
+    fn device_on_path(&self, seg: SegId, addr: Addr) -> Option<DevId>
+        requires { IsPlainBoard (board_of self.now) }
+        ensures { result ≡ position_from (λ d. (d.addr == addr) && is_on_path (board_of self.now) seg d.bus) 0 self.now.devices.now }
+    {
+        for (place, device) in self.devices.iter().enumerate() {
+            if device.addr == addr && self.is_on_path(seg, device.bus) {
+                return Some(DevId(place as u16));
+            }
+        }
+        None
+    }
+}
+
+/// Whether an item with this address, or none, has `addr`.
+fn has_address(addr: Addr, of: Option<Addr>) -> bool
+    ensures { result ≡ spec.has_address addr of }
+{
+    match of {
+        Some(own) => own == addr,
+        None => false,
+    }
+}

@@ -1,0 +1,227 @@
+ghost use Rattle.std.specs.Prelude.{◌≡◌, ◌<◌, IfNone, IfSome, length};
+ghost use Rattle.i2c_spec.specs.Rules as spec;
+
+use crate::Layout;
+use crate::layout::is_parent;
+use i2c_base::{Addr, DevId, Idle, Item, MuxId, MuxKind, RuleBroken, SegId};
+
+/// No bus has more muxes over it (Linux i2c-topology warns of deep trees).
+const MOST_DEPTH: usize = 4;
+
+/// The topology rules over single muxes.
+#[derive(Clone, Copy, Debug)]
+enum MuxRule {
+    /// Rule 2: no bus is deeper than 4.
+    Depth,
+    /// Rule 3: no parent-locked mux stands below a mux-locked one.
+    Lock,
+    /// Rule 4: gpio muxes and arbitrators are parent-locked.
+    Parent,
+    /// Rule 5: every mux disconnects when idle.
+    Idle,
+}
+
+impl Layout<'_> {
+    ghost use Rattle.i2c_spec.specs.Layouts.{board_of};
+    ghost use Rattle.i2c_spec.specs.Plain.{IsPlainBoard};
+    ghost use Rattle.i2c_spec.specs.Rules.{MeetsRules, TellsBroken, NoPair, NoneOf, IsFirstPair, IsFirstOne, items, item_at, home_at, addr_at, clashes, locked_over, last_mux};
+    ghost use Rattle.i2c_spec.specs.Searches.{breaks, NoneAfter, IsFirstAfter};
+
+    /// The first topology rule that the board breaks, with the two items at fault; none where it is accepted.
+    pub fn first_broken(&self) -> Option<RuleBroken>
+        requires { IsPlainBoard (board_of self.now) }
+        ensures accepted { IfNone result (MeetsRules (board_of self.now)) }
+        ensures broken { IfSome result (λ r. TellsBroken (board_of self.now) r) }
+    {
+        if let Some((first, second)) = self.first_clash() {
+            return Some(RuleBroken {
+                rule: 1,
+                first: self.item(first),
+                second: self.item(second),
+            });
+        }
+        if let Some(mux) = self.first_mux(MuxRule::Depth) {
+            return Some(twice(2, mux));
+        }
+        if let Some(mux) = self.first_mux(MuxRule::Lock) {
+            let over = self.mux_locked_over(mux).unwrap_or(mux);
+            return Some(RuleBroken {
+                rule: 3,
+                first: Item::Mux(over),
+                second: Item::Mux(mux),
+            });
+        }
+        if let Some(mux) = self.first_mux(MuxRule::Parent) {
+            return Some(twice(4, mux));
+        }
+        let mux = self.first_mux(MuxRule::Idle)?;
+        Some(twice(5, mux))
+    }
+
+    /// The first two items, muxes before devices, that have one address although one's bus is on the path of
+    /// the other's.
+    fn first_clash(&self) -> Option<(usize, usize)>
+        requires { IsPlainBoard (board_of self.now) }
+        ensures none { IfNone result (NoPair (clashes (board_of self.now)) (items (board_of self.now))) }
+        ensures some { IfSome result (λ pair. IsFirstPair (clashes (board_of self.now)) (items (board_of self.now)) pair.0 pair.1) }
+    {
+        for one in 0..self.items() {
+            if let Some(other) = self.first_clash_with(one) {
+                return Some((one, other));
+            }
+        }
+        None
+    }
+
+    fn first_clash_with(&self, one: usize) -> Option<usize>
+        requires plain { IsPlainBoard (board_of self.now) }
+        requires there { one < items (board_of self.now) }
+        ensures none { IfNone result (NoneAfter (clashes (board_of self.now) one) one (items (board_of self.now))) }
+        ensures some { IfSome result (λ other. IsFirstAfter (clashes (board_of self.now) one) one (items (board_of self.now)) other) }
+    {
+        for other in one + 1..self.items() {
+            if self.clashes(one, other) {
+                return Some(other);
+            }
+        }
+        None
+    }
+
+    fn clashes(&self, one: usize, other: usize) -> bool
+        requires { IsPlainBoard (board_of self.now) }
+        ensures { result ≡ clashes (board_of self.now) one other }
+    {
+        is_same_address(self.addr(one), self.addr(other))
+            && self.is_along(self.home(one), self.home(other))
+    }
+
+    fn items(&self) -> usize
+        requires { IsPlainBoard (board_of self.now) }
+        ensures { result ≡ items (board_of self.now) }
+    {
+        self.muxes.len() + self.devices.len()
+    }
+
+    fn item(&self, place: usize) -> Item
+        requires plain { IsPlainBoard (board_of self.now) }
+        requires there { place < items (board_of self.now) }
+        ensures { result ≡ item_at (board_of self.now) place }
+    {
+        if place < self.muxes.len() {
+            Item::Mux(MuxId(place as u16))
+        } else {
+            Item::Device(DevId((place - self.muxes.len()) as u16))
+        }
+    }
+
+    fn home(&self, place: usize) -> SegId
+        ensures { result ≡ home_at (board_of self.now) place }
+    {
+        if place < self.muxes.len() {
+            self.muxes.get(place).map_or(SegId(0), |mux| mux.bus)
+        } else {
+            self.devices
+                .get(place - self.muxes.len())
+                .map_or(SegId(0), |device| device.bus)
+        }
+    }
+
+    fn addr(&self, place: usize) -> Option<Addr>
+        ensures { result ≡ addr_at (board_of self.now) place }
+    {
+        if place < self.muxes.len() {
+            self.muxes.get(place)?.addr
+        } else {
+            Some(self.devices.get(place - self.muxes.len())?.addr)
+        }
+    }
+
+    fn first_mux(&self, rule: MuxRule) -> Option<MuxId>
+        requires { IsPlainBoard (board_of self.now) }
+        ensures none { IfNone result (NoneOf (breaks rule (board_of self.now)) (length self.now.muxes.now)) }
+        ensures some { IfSome result (λ mux. IsFirstOne (breaks rule (board_of self.now)) (length self.now.muxes.now) mux) }
+    {
+        for place in 0..self.muxes.len() as u16 {
+            if self.breaks(rule, MuxId(place)) {
+                return Some(MuxId(place));
+            }
+        }
+        None
+    }
+
+    #[tactic(auto, using(crate::proofs::RuleLemmas::is_some_last_mux))]
+    fn breaks(&self, rule: MuxRule, mux: MuxId) -> bool
+        requires { IsPlainBoard (board_of self.now) }
+        ensures { result ≡ breaks rule (board_of self.now) mux }
+    {
+        match rule {
+            MuxRule::Depth => self.is_too_deep(mux),
+            MuxRule::Lock => self.mux_locked_over(mux).is_some(),
+            MuxRule::Parent => self
+                .mux(mux)
+                .is_some_and(|spec| wants_parent(spec.kind) && !is_parent(spec.lock)),
+            MuxRule::Idle => self.mux(mux).is_some_and(|spec| stays(spec.idle)),
+        }
+    }
+
+    fn is_too_deep(&self, mux: MuxId) -> bool
+        requires { IsPlainBoard (board_of self.now) }
+        ensures { result ≡ spec.is_too_deep (board_of self.now) mux }
+    {
+        let home = self.mux(mux).map_or(SegId(0), |spec| spec.bus);
+        self.depth(home) >= MOST_DEPTH
+    }
+
+    /// The mux-locked mux nearest the root over a parent-locked one.
+    #[tactic(auto, using(crate::proofs::RuleLemmas::last_mux_more_yes, crate::proofs::RuleLemmas::last_mux_more_no))]
+    fn mux_locked_over(&self, mux: MuxId) -> Option<MuxId>
+        requires { IsPlainBoard (board_of self.now) }
+        ensures { result ≡ last_mux (locked_over (board_of self.now) mux) }
+    {
+        let spec = self.mux(mux)?;
+        if !is_parent(spec.lock) {
+            return None;
+        }
+        let mut nearest_root = None;
+        for hop in self.hops(spec.bus).iter() {
+            if !hop.parent {
+                nearest_root = Some(hop.mux);
+            }
+        }
+        nearest_root
+    }
+}
+
+/// The rule's one mux at fault, named twice.
+fn twice(rule: u8, mux: MuxId) -> RuleBroken
+    ensures { result ≡ record { rule = rule; first = Item.Mux mux; second = Item.Mux mux } }
+{
+    RuleBroken {
+        rule,
+        first: Item::Mux(mux),
+        second: Item::Mux(mux),
+    }
+}
+
+fn is_same_address(one: Option<Addr>, other: Option<Addr>) -> bool
+    ensures { result ≡ spec.is_same_address one other }
+{
+    match (one, other) {
+        (Some(one), Some(other)) => one == other,
+        _ => false,
+    }
+}
+
+/// Whether a mux of this kind has to be parent-locked.
+fn wants_parent(kind: MuxKind) -> bool
+    ensures { result ≡ spec.wants_parent kind }
+{
+    matches!(kind, MuxKind::Pca9541 | MuxKind::Gpio)
+}
+
+/// Whether a mux stays as it is when idle.
+fn stays(idle: Idle) -> bool
+    ensures { result ≡ spec.stays idle }
+{
+    matches!(idle, Idle::AsIs)
+}

@@ -1,0 +1,125 @@
+ghost use Rattle.std.specs.Prelude.{◌≡◌, slice_get, option_copied};
+
+use crate::{Hop, Layout};
+use arrayvec::ArrayVec;
+use i2c_base::{MuxId, MuxSpec, SegId, Way};
+
+/// An arbitrator that is so often found with its other controller stays there.
+const FOREIGN_FOR_GOOD: u8 = 8;
+
+impl Layout<'_> {
+    ghost use Rattle.i2c_spec.specs.Layouts.{board_of};
+    ghost use Rattle.i2c_spec.specs.Plain.{IsPlainBoard};
+    ghost use Rattle.i2c_spec.specs.Tree.{over, path, depth, root_of, is_below, is_on_path, is_along, is_absent, is_held};
+    ghost use Rattle.i2c_spec.specs.Grant.{way_of};
+
+    /// The mux over a bus, none for a root.
+    pub fn over(&self, seg: SegId) -> Option<Hop>
+        requires { IsPlainBoard (board_of self.now) }
+        ensures { result ≡ over (board_of self.now) seg }
+    {
+        self.hops(seg).first().copied()
+    }
+
+    /// The buses from the root to a bus, the bus included.
+    pub fn path(&self, seg: SegId) -> ArrayVec<SegId, 33>
+        requires { IsPlainBoard (board_of self.now) }
+        ensures { result.items ≡ path (board_of self.now) seg }
+    {
+        let mut path = ArrayVec::new();
+        path.push(seg);
+        for hop in self.hops(seg).iter() {
+            path.push(hop.on);
+        }
+        path.reverse();
+        path
+    }
+
+    /// How many muxes are over a bus.
+    pub fn depth(&self, seg: SegId) -> usize
+        requires { IsPlainBoard (board_of self.now) }
+        ensures { result ≡ depth (board_of self.now) seg }
+    {
+        self.hops(seg).len()
+    }
+
+    /// The root that a bus hangs from.
+    #[tactic(auto, using(crate::proofs::HopLemmas::end_of_last))]
+    pub fn root(&self, seg: SegId) -> SegId
+        requires { IsPlainBoard (board_of self.now) }
+        ensures { result ≡ root_of (board_of self.now) seg }
+    {
+        match self.hops(seg).last() {
+            Some(hop) => hop.on,
+            None => seg,
+        }
+    }
+
+    /// Whether `high` is strictly over `low`.
+    pub fn is_below(&self, low: SegId, high: SegId) -> bool
+        requires { IsPlainBoard (board_of self.now) }
+        ensures { result ≡ is_below (board_of self.now) low high }
+    {
+        self.hops(low).iter().any(|hop| hop.on == high)
+    }
+
+    /// Whether `high` is on the path of `low`.
+    pub fn is_on_path(&self, low: SegId, high: SegId) -> bool
+        requires { IsPlainBoard (board_of self.now) }
+        ensures { result ≡ is_on_path (board_of self.now) low high }
+    {
+        high == low || self.is_below(low, high)
+    }
+
+    /// Whether one of the two is on the path of the other.
+    pub fn is_along(&self, one: SegId, other: SegId) -> bool
+        requires { IsPlainBoard (board_of self.now) }
+        ensures { result ≡ is_along (board_of self.now) one other }
+    {
+        self.is_on_path(one, other) || self.is_on_path(other, one)
+    }
+
+    /// Whether a mux's chip is absent, or there is no such mux.
+    fn is_absent(&self, mux: MuxId) -> bool
+        ensures { result ≡ is_absent (board_of self.now) mux }
+    {
+        self.mux(mux).is_none_or(|spec| spec.absent)
+    }
+
+    /// Whether a mux is an arbitrator that stays with its other controller.
+    fn is_held(&self, mux: MuxId) -> bool
+        ensures { result ≡ is_held (board_of self.now) mux }
+    {
+        self.mux(mux)
+            .is_some_and(|spec| spec.foreign == FOREIGN_FOR_GOOD)
+    }
+
+    pub(crate) fn mux(&self, mux: MuxId) -> Option<&MuxSpec>
+        ensures { option_copied result ≡ slice_get self.now.muxes.now mux }
+    {
+        self.muxes.get(usize::from(mux.0))
+    }
+
+    /// Whether the muxes over a bus let a message through, looked at from the root: not past a mux whose chip
+    /// is absent, nor past an arbitrator that stays with its other controller.
+    #[tactic(auto, using(crate::proofs::HopLemmas::reverse_back))]
+    pub fn way(&self, seg: SegId) -> Way
+        requires { IsPlainBoard (board_of self.now) }
+        ensures { result ≡ way_of (board_of self.now) seg }
+    {
+        let hops = self.hops(seg);
+        let mut left = hops.len();
+        while left > 0 {
+            left -= 1;
+            let hop = &hops[left];
+            let mux = hop.mux;
+            if self.is_absent(mux) {
+                return Way::NoAck(mux);
+            }
+            if self.is_held(mux) {
+                return Way::Held(mux);
+            }
+        }
+        Way::Clear
+    }
+}
