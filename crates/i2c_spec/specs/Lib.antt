@@ -17,6 +17,7 @@ pub mod Messages
 pub mod Conversation
 pub mod PlainTalks
 pub mod Flat
+pub mod FlatStates
 pub mod History
 pub mod Cost
 pub mod Fair

@@ -1,4 +1,4 @@
-ghost use Rattle.std.specs.Prelude.{◌≡◌, ℕ, ◌+◌, ◌<◌, ◌≤◌, List, [], ◌∷◌, length, map, Option};
+ghost use Rattle.std.specs.Prelude.{◌≡◌, ℕ, ◌+◌, ◌<◌, ◌≤◌, List, [], ◌∷◌, length, map, Option, if◌then◌else◌};
 ghost use Rattle.std.specs.List.{range_with_len};
 ghost use Rattle.i2c_base.specs.declared.event.Event.{Event};
 ghost use Rattle.i2c_base.specs.declared.event.Answer.{Answer};
@@ -75,12 +75,19 @@ fn add(joint: &mut Joint, number: u16, answer: Answer)
     }
 }
 
-// The byte that a target puts on the wire, which is all ones where it sends none.
-fn sent(answer: Answer) -> u8
+/// The byte that a target puts on the wire, which is all ones where it sends none.
+pub fn sent(answer: Answer) -> u8
     ensures { result ≡ byte_of answer }
 {
     match answer {
         Answer::Byte(byte) => byte,
         Answer::Ack | Answer::Nack | Answer::Slow | Answer::Nothing => 0xff,
     }
+}
+
+/// An event, where the condition holds.
+pub fn when(condition: bool, event: Event) -> Option<Event>
+    ensures { result ≡ (if condition then Some event else None) }
+{
+    if condition { Some(event) } else { None }
 }

@@ -29,21 +29,25 @@ pub use layout::Layout;
 mod chip;
 mod conversation;
 mod fair_targets;
+mod flat_states;
 mod joint;
 mod listen;
 mod message;
 mod regs;
 mod said;
+mod site;
 mod state;
 mod world;
 
 pub use chip::PlainChip;
 pub use conversation::talk;
 pub use fair_targets::{chips_are_fair, openings_are_quiet, regs_are_fair, states_are_fair};
+pub use flat_states::PlainFlat;
 pub use listen::{Listen, Wires};
 pub use message::PlainMessage;
 pub use regs::{PlainPhase, PlainRegs};
 pub use said::PlainSaid;
+pub use site::PlainSite;
 pub use state::PlainState;
 pub use world::{PlainWorld, open_devices};
 

@@ -1,6 +1,8 @@
-ghost use Rattle.std.specs.Prelude.{◌≡◌, ◌+◌, ◌≤◌, ◌++◌, All, length, take, drop, replicate};
+ghost use Rattle.std.specs.Prelude.{◌≡◌, ◌+◌, ◌≤◌, ◌++◌, All, length, take, drop, replicate, if◌then◌else◌};
 ghost use Rattle.i2c_spec.specs.Plain.{IsPlainRun};
-ghost use Rattle.i2c_spec.specs.Regs.{write_run, write_runs};
+ghost use Rattle.i2c_spec.specs.Regs as phase;
+ghost use Rattle.i2c_spec.specs.Regs.{write_run, write_runs, regs_put, regs_get, is_too_long, begun as regs_begun};
+ghost use Rattle.i2c_spec.specs.PlainStates.{phase_of};
 
 use i2c_base::{Answer, Event, Run, Target};
 use std::marker::Model;
@@ -36,7 +38,7 @@ impl Model for PlainRegs {
 }
 
 impl PlainRegs {
-    ghost use Rattle.i2c_spec.specs.Regs.{regs_sends, regs_opening};
+    ghost use Rattle.i2c_spec.specs.Regs.{regs_answer, regs_sends, regs_opening};
 
     /// The device as it is opened: every register is 0 but for those that `set` names. It holds the clock at
     /// its address for `hold` looks.
@@ -52,6 +54,27 @@ impl PlainRegs {
         }
     }
 
+    /// What it would answer to this event.
+    pub fn answer(&self, event: Event) -> Answer
+        ensures { result ≡ regs_answer self.now event }
+    {
+        match event {
+            Event::Start { .. } => {
+                if self.hold > MOST_LOOKS {
+                    Answer::Slow
+                } else {
+                    Answer::Ack
+                }
+            }
+            Event::Put(_) => match self.phase {
+                PlainPhase::Pointer | PlainPhase::Data => Answer::Ack,
+                PlainPhase::Idle | PlainPhase::Read => Answer::Nack,
+            },
+            Event::Get { .. } => Answer::Byte(self.sends()),
+            Event::Other | Event::Stop => Answer::Nothing,
+        }
+    }
+
     /// The byte that the next read of a byte would give.
     pub fn sends(&self) -> u8
         ensures { result ≡ regs_sends self.now self.now.phase }
@@ -59,6 +82,38 @@ impl PlainRegs {
         match self.phase {
             PlainPhase::Read => self.memory[self.pointer as usize],
             PlainPhase::Idle | PlainPhase::Pointer | PlainPhase::Data => 0xff,
+        }
+    }
+
+    // A byte is put: the pointer, then the register there.
+    fn put(&mut self, byte: u8)
+        ensures { self.new ≡ regs_put self.old self.old.phase byte }
+    {
+        match self.phase {
+            PlainPhase::Pointer => {
+                self.pointer = byte;
+                self.phase = PlainPhase::Data;
+            }
+            PlainPhase::Data => {
+                self.memory[self.pointer as usize] = byte;
+                self.pointer = self.pointer.wrapping_add(1);
+            }
+            PlainPhase::Idle | PlainPhase::Read => {}
+        }
+    }
+
+    // A byte is read, and the pointer moves on.
+    fn get(&mut self, ack: bool)
+        ensures { self.new ≡ regs_get self.old self.old.phase ack }
+    {
+        match self.phase {
+            PlainPhase::Read => {
+                self.pointer = self.pointer.wrapping_add(1);
+                if !ack {
+                    self.phase = PlainPhase::Idle;
+                }
+            }
+            PlainPhase::Idle | PlainPhase::Pointer | PlainPhase::Data => {}
         }
     }
 
@@ -76,49 +131,27 @@ impl Target for PlainRegs {
     ghost table = { regs_table };
 
     fn on(&mut self, event: Event) -> Answer {
+        let answer = self.answer(event);
         match event {
-            Event::Start { reading } => {
-                if self.hold > MOST_LOOKS {
-                    self.phase = PlainPhase::Idle;
-                    Answer::Slow
-                } else {
-                    self.phase = if reading {
-                        PlainPhase::Read
-                    } else {
-                        PlainPhase::Pointer
-                    };
-                    Answer::Ack
-                }
-            }
-            Event::Put(byte) => match self.phase {
-                PlainPhase::Pointer => {
-                    self.pointer = byte;
-                    self.phase = PlainPhase::Data;
-                    Answer::Ack
-                }
-                PlainPhase::Data => {
-                    self.memory[self.pointer as usize] = byte;
-                    self.pointer = self.pointer.wrapping_add(1);
-                    Answer::Ack
-                }
-                PlainPhase::Idle | PlainPhase::Read => Answer::Nack,
-            },
-            Event::Get { ack } => match self.phase {
-                PlainPhase::Read => {
-                    let byte = self.memory[self.pointer as usize];
-                    self.pointer = self.pointer.wrapping_add(1);
-                    if !ack {
-                        self.phase = PlainPhase::Idle;
-                    }
-                    Answer::Byte(byte)
-                }
-                PlainPhase::Idle | PlainPhase::Pointer | PlainPhase::Data => Answer::Byte(0xff),
-            },
-            Event::Other | Event::Stop => {
-                self.phase = PlainPhase::Idle;
-                Answer::Nothing
-            }
+            Event::Start { reading } => self.phase = begun(self.hold, reading),
+            Event::Put(byte) => self.put(byte),
+            Event::Get { ack } => self.get(ack),
+            Event::Other | Event::Stop => self.phase = PlainPhase::Idle,
         }
+        answer
+    }
+}
+
+// The phase after a start with its address.
+fn begun(hold: u8, reading: bool) -> PlainPhase
+    ensures { phase_of result ≡ (if is_too_long hold then phase.Idle else regs_begun reading) }
+{
+    if hold > MOST_LOOKS {
+        PlainPhase::Idle
+    } else if reading {
+        PlainPhase::Read
+    } else {
+        PlainPhase::Pointer
     }
 }
 

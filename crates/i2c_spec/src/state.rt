@@ -31,7 +31,7 @@ impl Model for PlainState {
 }
 
 impl PlainState {
-    ghost use Rattle.i2c_spec.specs.Targets.{state_sends, state_hold};
+    ghost use Rattle.i2c_spec.specs.Targets.{state_answer, state_sends, state_hold};
 
     /// The device as it is opened.
     pub fn open(device: &DeviceSpec) -> Self
@@ -47,6 +47,16 @@ impl PlainState {
                 PlainKind::Silent,
         };
         PlainState { kind }
+    }
+
+    /// What it would answer to this event.
+    pub fn answer(&self, event: Event) -> Answer
+        ensures { result ≡ state_answer self.now event }
+    {
+        match &self.kind {
+            PlainKind::Regs(regs) => regs.answer(event),
+            PlainKind::Silent => silent_answer(event),
+        }
     }
 
     /// The byte that the next read of a byte would give.

@@ -12,7 +12,7 @@ ghost use Rattle.i2c_base.specs.declared.port.PortCall.TheVariants as call;
 ghost use Rattle.i2c_base.specs.declared.event.Event.TheVariants as event;
 ghost use Rattle.i2c_base.specs.declared.ids.Node.TheVariants as node;
 
-use crate::joint::{Joint, tell};
+use crate::joint::{Joint, tell, when};
 use crate::{Hop, Layout, PlainChip, PlainState};
 use arrayvec::ArrayVec;
 use i2c_base::{Addr, Answer, DevId, DeviceSpec, Event, MuxId, MuxSpec, Node, PortCall, SegId};
@@ -311,12 +311,6 @@ fn start_event(joined: bool, addressed: bool, reading: bool) -> Option<Event>
     } else {
         Some(Event::Other)
     }
-}
-
-fn when(condition: bool, event: Event) -> Option<Event>
-    ensures { result ≡ (if condition then Some event else None) }
-{
-    if condition { Some(event) } else { None }
 }
 
 fn open_chips(alloc: Global, muxes: &[MuxSpec]) -> Result<Vec<PlainChip>, AllocError>
