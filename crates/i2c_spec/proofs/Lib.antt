@@ -1,7 +1,9 @@
+pub mod FitLemmas
 pub mod HopLemmas
 pub mod JointLemmas
 pub mod PlainLemmas
 pub mod RuleLemmas
 pub mod TalkLemmas
 pub mod TargetLemmas
+pub mod TransferTalkLemmas
 pub mod WorldLemmas

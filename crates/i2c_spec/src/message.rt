@@ -2,7 +2,7 @@ use i2c_base::Addr;
 use std::marker::Model;
 
 /// A message with its bytes, as it goes over the wires. A contract sees the record of these parts.
-#[derive(Debug)]
+#[derive(Debug, Drop)]
 pub struct PlainMessage<'a> {
     pub addr: Addr,
     pub reading: bool,

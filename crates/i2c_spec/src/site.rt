@@ -9,7 +9,7 @@ use std::alloc::AllocError;
 use std::marker::Model;
 
 /// Where a transfer is sent: a bus of a board, forced or not. A contract sees the record of these parts.
-#[derive(Debug)]
+#[derive(Debug, Drop)]
 pub struct PlainSite<'b> {
     layout: Layout<'b>,
     bus: SegId,
