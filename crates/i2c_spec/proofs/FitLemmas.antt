@@ -1,6 +1,6 @@
 -- How many bytes the reads of a transfer give: within the sizes of its messages. The inductions go over the bytes
 -- of a message, and over the messages.
-use Rattle.std.proofs.Common.{◌≡◌, ℕ, zero, suc, ◌+◌, ◌-◌, ◌<◌, ◌≤◌, Bool, true, false, cond, eqb, nat_lt, ◌||◌, List, [], ◌∷◌, ◌++◌, length, take, drop, Option, refl, sym, ap, ◌∙◌, arith, length-append}
+use Rattle.std.proofs.Common.{◌≡◌, ℕ, zero, suc, ◌+◌, ◌-◌, ◌<◌, ◌≤◌, Bool, true, false, cond, eqb, nat_lt, ◌||◌, List, [], ◌∷◌, ◌++◌, length, take, drop, Option, refl, ap, arith, length-append}
 use Rattle.std.specs.Prelude.{All}
 use Rattle.std.specs.List.{sum_by}
 use Rattle.std.proofs.lemmas.List.Sums.{sum_by-cons}
@@ -55,7 +55,7 @@ module _ {W : Type 0} (l : Listener W) (cut : Option ℕ) where
   by_count : (last : Bool) (limit len count : ℕ) (s t : Said W) (n : ℕ) → length s.bytes ≡ 0 → 2 ≤ n → limit + len ≤ n → 1 ≤ len
       → (b : Bool) → (b ≡ false → count ≤ limit)
       → length (cond b (call_then l cut (with_byte s count) (call.Get false) (λ u. ended l cut true (with_byte u (l.gives t.now)) end.Proto))
-          (gets l cut last (count + len - 1) (with_byte s count))).bytes ≤ n
+      (gets l cut last (count + len - 1) (with_byte s count))).bytes ≤ n
   by_count last limit len count s t n none two room some true small = one_more_fits count s t n none two
   by_count last limit len count s t n none two room some false small = good_fits last limit len count s n none room some (small refl)
 

@@ -1,9 +1,9 @@
 -- A message whose next call fails, in the middle of its bytes.
-use Rattle.std.proofs.Common.{◌≡◌, ℕ, ◌<◌, Bool, true, cond, List, [], ◌∷◌, length, drop, get_or, Option, refl, ap, ◌∙◌, arith}
+use Rattle.std.proofs.Common.{◌≡◌, ℕ, ◌<◌, Bool, true, cond, List, length, drop, Option, ap, ◌∙◌}
 use Rattle.std.proofs.lemmas.List.{at_drop_more}
 use Rattle.i2c_base.specs.declared.port.PortCall.TheVariants as call
 use Rattle.i2c_base.specs.declared.entry.End.TheVariants as end
-use Rattle.i2c_spec.specs.Conversation.{Listener, Said, TalkTold, is_at, say, told, puts, with_byte, ended}
+use Rattle.i2c_spec.specs.Conversation.{Listener, Said, TalkTold, is_at, say, told, puts}
 
 -- the first of some bytes isn't put
 cut_first : {W : Type 0} (l : Listener W) (b : Bool) (t : Said W) (other : TalkTold W) → b ≡ true

@@ -1,5 +1,5 @@
 -- One message more of a transfer: message i stands before those that are left.
-use Rattle.std.proofs.Common.{◌≡◌, ℕ, ◌+◌, ◌<◌, ◌≤◌, Bool, true, false, cond, eqb, List, [], ◌∷◌, length, take, drop, get_or, Option, refl, sym, ap, ◌∙◌, subst, arith, length-drop}
+use Rattle.std.proofs.Common.{◌≡◌, ℕ, ◌+◌, ◌<◌, ◌≤◌, Bool, true, false, cond, eqb, List, [], ◌∷◌, length, take, drop, get_or, Option, refl, sym, ap, ◌∙◌, arith, length-drop}
 use Rattle.std.specs.List.{sum_by}
 use Rattle.std.proofs.lemmas.List.Sums.{sum_by-cons}
 use Rattle.std.proofs.lemmas.List.{at_drop_more}
@@ -8,7 +8,7 @@ use Rattle.i2c_base.specs.declared.transfer.Msg.{Msg}
 use Rattle.i2c_base.specs.declared.entry.End.{End}
 use Rattle.i2c_base.specs.Transfer.{written_of}
 use Rattle.i2c_spec.specs.Messages.{MessageView, message_with, messages_from}
-use Rattle.i2c_spec.specs.Conversation.{Listener, TalkTold, AllTold, talk, talk_all, is_empty, is_good}
+use Rattle.i2c_spec.specs.Conversation.{Listener, AllTold, talk, talk_all, is_empty, is_good}
 use Rattle.i2c_spec.specs.PlainTalks.{all_with, all_of}
 
 -- a message is the last one where none follows

@@ -1,5 +1,5 @@
 -- What the plain program of a message has told so far, and what it tells in the end.
-use Rattle.std.specs.Prelude.{ℕ, List, [], ◌∷◌, ◌++◌}
+use Rattle.std.specs.Prelude.{ℕ, List}
 use Rattle.i2c_base.specs.declared.port.PortCall.{PortCall}
 use Rattle.i2c_base.specs.declared.entry.End.{End}
 use Rattle.i2c_spec.specs.Messages.{MessageView}

@@ -61,7 +61,12 @@ impl PlainFlat {
     }
 
     /// A start goes out, which leads to the device `granted`, or to nobody.
-    pub fn start(&mut self, granted: Option<u16>, addr: Addr, reading: bool) -> Result<Answer, AllocError>
+    pub fn start(
+        &mut self,
+        granted: Option<u16>,
+        addr: Addr,
+        reading: bool,
+    ) -> Result<Answer, AllocError>
         ensures answer { IfOk result (λ a. a ≡ flat.acknowledged (flat.answer_of self.old.states granted (event.Start reading))) }
         ensures after { (f : ℕ → Option ℕ) → f addr ≡ granted
             → OnOk result (self.new ≡ flat.flat_after f self.old (call.Start addr reading)) }

@@ -11,18 +11,33 @@ use i2c_base::{Bytes, Cut, End, Errno, Grant, Kind, Msg, Reply, SegId, Transfer,
 use std::alloc::{AllocError, Global};
 
 /// One transfer in the flat world, on devices in these states: its reply, and the devices that it leaves.
-pub fn flat(alloc: Global, layout: Layout<'_>, states: Vec<PlainState>, transfer: &Transfer, cut: Cut) -> Result<(Reply, Vec<PlainState>), AllocError>
+pub fn flat(
+    alloc: Global,
+    layout: Layout<'_>,
+    states: Vec<PlainState>,
+    transfer: &Transfer,
+    cut: Cut,
+) -> Result<(Reply, Vec<PlainState>), AllocError>
     requires plain { IsPlainBoard (board_of layout) }
     requires room { length states.items ≤ 128 }
-    ensures { IfOk result (λ told. record { reply = told.0; states = told.1.items }
+    ensures told { IfOk result (λ told. record { reply = told.0; states = told.1.items }
         ≡ spec.flat (board_of layout.entry) states.items transfer.now cut) }
+    ensures room { IfOk result (λ told. length told.1.items ≤ 128) }
 {
     if let Some(errno) = barred(&layout, transfer, cut) {
         return Ok((Reply::Err(errno), states));
     }
     let site = PlainSite::new(layout, SegId(transfer.bus()), transfer.force());
     let mut now = PlainFlat::idle(alloc, states);
-    let (got, end) = talk_all(alloc, &site, &mut now, BLOCK_LIMIT, transfer.msgs(), transfer.out(), cut)?;
+    let (got, end) = talk_all(
+        alloc,
+        &site,
+        &mut now,
+        BLOCK_LIMIT,
+        transfer.msgs(),
+        transfer.out(),
+        cut,
+    )?;
     let reply = match errno_of(end) {
         Some(errno) => Reply::Err(errno),
         None => done_with(transfer, got.as_slice()),
@@ -60,7 +75,9 @@ fn refusal(layout: &Layout<'_>, transfer: &Transfer) -> Option<Errno>
     if transfer.bus() >= layout.buses() {
         return Some(Errno::Enodev);
     }
-    if matches!(transfer.kind(), Kind::Plain) && is_smbus_only(layout, layout.root(SegId(transfer.bus()))) {
+    if matches!(transfer.kind(), Kind::Plain)
+        && is_smbus_only(layout, layout.root(SegId(transfer.bus())))
+    {
         return Some(Errno::Eopnotsupp);
     }
     if is_any_busy(layout, transfer) {
@@ -86,7 +103,10 @@ fn is_any_busy(layout: &Layout<'_>, transfer: &Transfer) -> bool
 {
     let bus = SegId(transfer.bus());
     let force = transfer.force();
-    transfer.msgs().iter().any(|msg| is_busy(layout.grant(bus, msg.addr, force)))
+    transfer
+        .msgs()
+        .iter()
+        .any(|msg| is_busy(layout.grant(bus, msg.addr, force)))
 }
 
 fn is_busy(grant: Grant) -> bool

@@ -39,6 +39,8 @@ mod said;
 mod site;
 mod state;
 mod transfers;
+#[cfg(test)]
+mod wire_tests;
 mod world;
 
 pub use chip::PlainChip;

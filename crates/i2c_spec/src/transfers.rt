@@ -11,7 +11,15 @@ use std::alloc::{AllocError, Global};
 
 /// The messages of a transfer, one after the other, until one doesn't go through: what the reads gave, and how
 /// the last message ended. `out` has the bytes of its writes.
-pub fn talk_all<W, L: Listen<W>>(alloc: Global, listener: &L, now: &mut W, limit: u8, msgs: &[Msg], out: &[u8], cut: Cut) -> Result<(Vec<u8>, End), AllocError>
+pub fn talk_all<W, L: Listen<W>>(
+    alloc: Global,
+    listener: &L,
+    now: &mut W,
+    limit: u8,
+    msgs: &[Msg],
+    out: &[u8],
+    cut: Cut,
+) -> Result<(Vec<u8>, End), AllocError>
     requires written { length out.now ≡ sum_by written_of msgs.now }
     requires each { All IsMessage msgs.now }
     ensures told { IfOk result (λ r. record { bytes = r.0.items; now = now.new; end = r.1 }
@@ -22,7 +30,15 @@ pub fn talk_all<W, L: Listen<W>>(alloc: Global, listener: &L, now: &mut W, limit
     Ok((got, end))
 }
 
-fn talk_each<W, L: Listen<W>>(alloc: Global, listener: &L, now: &mut W, limit: u8, msgs: &[Msg], out: &[u8], cut: Cut) -> Result<(Vec<u8>, End), AllocError>
+fn talk_each<W, L: Listen<W>>(
+    alloc: Global,
+    listener: &L,
+    now: &mut W,
+    limit: u8,
+    msgs: &[Msg],
+    out: &[u8],
+    cut: Cut,
+) -> Result<(Vec<u8>, End), AllocError>
     requires { length out.now ≡ sum_by written_of msgs.now }
     ensures told { IfOk result (λ r. record { bytes = r.0.items; now = now.new; end = r.1 }
         ≡ spec.talk_all (L.listener listener.now) limit now.old (messages_from msgs.now out.now) 0 (cut_in cut) []) }
@@ -34,7 +50,16 @@ fn talk_each<W, L: Listen<W>>(alloc: Global, listener: &L, now: &mut W, limit: u
         rest = after;
         let message = message_of(msg, bytes);
         let last = i + 1 == msgs.len();
-        let end = send(alloc, listener, now, limit, &message, last, cut_in(cut, i), &mut got)?;
+        let end = send(
+            alloc,
+            listener,
+            now,
+            limit,
+            &message,
+            last,
+            cut_in(cut, i),
+            &mut got,
+        )?;
         if !is_good(end) {
             return Ok((got, end));
         }
@@ -43,7 +68,16 @@ fn talk_each<W, L: Listen<W>>(alloc: Global, listener: &L, now: &mut W, limit: u
 }
 
 // One message of a transfer. What it reads is put at the end.
-fn send<W, L: Listen<W>>(alloc: Global, listener: &L, now: &mut W, limit: u8, message: &PlainMessage<'_>, last: bool, cut: Option<u16>, got: &mut Vec<u8>) -> Result<End, AllocError>
+fn send<W, L: Listen<W>>(
+    alloc: Global,
+    listener: &L,
+    now: &mut W,
+    limit: u8,
+    message: &PlainMessage<'_>,
+    last: bool,
+    cut: Option<u16>,
+    got: &mut Vec<u8>,
+) -> Result<End, AllocError>
     ensures { IfOk result (λ e. all_with got.new.items now.new e
         ≡ all_of got.old.items message.now (spec.talk (L.listener listener.now) limit now.old message.now last cut)) }
 {
@@ -90,12 +124,6 @@ fn cut_in(cut: Cut, i: usize) -> Option<u16>
 {
     match cut {
         Cut::No | Cut::Way => None,
-        Cut::At { msg, call } => {
-            if msg as usize == i {
-                Some(call)
-            } else {
-                None
-            }
-        }
+        Cut::At { msg, call } => { if msg as usize == i { Some(call) } else { None } }
     }
 }

@@ -81,8 +81,7 @@ impl<'b> PlainWorld<'b> {
         ensures { result ≡ world.is_joined self.now seg }
     {
         let hops = self.layout.hops(seg);
-        self.layout.root(seg) == self.root
-            && opens_all(self.chips.as_slice(), hops.as_slice())
+        self.layout.root(seg) == self.root && opens_all(self.chips.as_slice(), hops.as_slice())
     }
 
     /// A start goes out. What it is answered, as a port answers it.

@@ -1,9 +1,8 @@
-use Rattle.std.proofs.Common.{◌≡◌, ℕ, ◌+◌, ◌<◌, length, take, drop, List, true, false, refl, sym, ap, ◌∙◌, arith}
+use Rattle.std.proofs.Common.{◌≡◌, ◌+◌, ◌<◌, length, drop, refl, sym, ap, ◌∙◌, arith}
 use Rattle.i2c_base.specs.Transfer.{written_of}
 use Rattle.i2c_spec.specs.Flat.{cut_in}
-use Rattle.i2c_spec.specs.Messages.{message_with, messages_from}
+use Rattle.i2c_spec.specs.Messages.{messages_from}
 use Rattle.i2c_spec.specs.Conversation as spec
-use Rattle.i2c_spec.specs.PlainTalks.{all_with}
 use Rattle.i2c_spec.proofs.TransferTalkLemmas.{went_through, ended_early, cut_out, as_told, left_to_write}
 use Rattle.i2c_spec.proofs.transfers.talk_each.Goals as goal
 

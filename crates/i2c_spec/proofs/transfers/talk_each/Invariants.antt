@@ -1,4 +1,4 @@
-use Rattle.std.proofs.Common.{◌≡◌, List, [], length, drop}
+use Rattle.std.proofs.Common.{◌≡◌, [], length, drop}
 use Rattle.std.specs.Prelude.{sum_by}
 use Rattle.i2c_base.specs.Transfer.{written_of}
 use Rattle.i2c_spec.specs.Conversation as spec

@@ -1,4 +1,4 @@
-use Rattle.std.proofs.Common.{◌≡◌, ◌<◌, bit_and, ap, ◌∙◌}
+use Rattle.std.proofs.Common.{◌<◌, bit_and, ap, ◌∙◌}
 use Rattle.i2c_base.specs.declared.port.PortCall.TheVariants as call
 use Rattle.i2c_spec.specs.declared.joint.Joint.{Joint}
 use Rattle.i2c_spec.specs.Joints.{chips_told, devices_told}
