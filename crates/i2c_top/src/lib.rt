@@ -1,0 +1,11 @@
+//! The top of the program: the words of the command line to the bytes of the output.
+#![tactic(auto)]
+
+mod journal;
+mod line;
+mod report;
+mod text;
+
+pub use journal::Journal;
+pub use line::entry_text;
+pub use report::report_text;
