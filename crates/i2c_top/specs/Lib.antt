@@ -1,3 +1,5 @@
--- The line of a journal's entry, and the report.
+-- The line of a journal's entry, the report, and how a call of the program ends.
 pub mod Lines
 pub mod Report
+pub mod Status
+pub mod Written

@@ -3,9 +3,14 @@
 
 mod journal;
 mod line;
+mod message;
+mod refusal;
 mod report;
+mod status;
 mod text;
+mod write;
 
 pub use journal::Journal;
 pub use line::entry_text;
 pub use report::report_text;
+pub use status::{BoardRefusal, Status};
