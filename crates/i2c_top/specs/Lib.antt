@@ -1,5 +1,6 @@
 -- The line of a journal's entry, the report, and how a call of the program ends.
 pub mod Lines
+pub mod Numbers
 pub mod Report
 pub mod Status
 pub mod Written

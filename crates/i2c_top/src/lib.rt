@@ -4,6 +4,7 @@
 mod journal;
 mod line;
 mod message;
+mod number;
 mod refusal;
 mod report;
 mod status;
