@@ -1,4 +1,5 @@
 -- The line of a journal's entry, the report, and how a call of the program ends.
+pub mod Commands
 pub mod Fronts
 pub mod Lines
 pub mod Numbers

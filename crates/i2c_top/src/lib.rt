@@ -1,6 +1,7 @@
 //! The top of the program: the words of the command line to the bytes of the output.
 #![tactic(auto)]
 
+mod command;
 mod front;
 mod journal;
 mod line;

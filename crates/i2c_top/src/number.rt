@@ -1,4 +1,4 @@
-ghost use Rattle.std.specs.Prelude.{◌≡◌, ◌<◌, ◌≤◌, ◌&&◌, drop, length};
+ghost use Rattle.std.specs.Prelude.{◌≡◌, ◌<◌, ◌≤◌, ◌&&◌, drop, length, IfSome};
 ghost use Rattle.i2c_top.specs.Numbers.{decimal_digit, hexadecimal_digit, digit_of, base_of, digits_on, within, number_of, number_in, is_hexadecimal, is_decimal};
 
 /// The largest number of a script.
@@ -87,7 +87,8 @@ fn number(word: &[u8]) -> Option<u32>
 
 /// The number in a word, where it is from `low` to `high`: decimal, or `0x` and hexadecimal digits.
 pub fn number_in(word: &[u8], low: u16, high: u16) -> Option<u16>
-    ensures { result ≡ number_in low high word.now }
+    ensures value { result ≡ number_in low high word.now }
+    ensures high { IfSome result (λ n. n ≤ high) }
 {
     let number = number(word)?;
     if u32::from(low) <= number && number <= u32::from(high) {
