@@ -17,8 +17,8 @@ pub digits_past : (hexadecimal : Bool) (n : ℕ) (bs : List ℕ) → 65535 < n �
 digits_past hexadecimal n [] h = past_range n h
 digits_past hexadecimal n (b ∷ bs) h =
     elim (digit_of hexadecimal b) as (λ o. within 0 65535 (option_and_then (λ d. digits_on hexadecimal (n * base_of hexadecimal + d) bs) o) ≡ None) [
-      None ↦ refl
-    | Some d ↦ digits_past hexadecimal (n * base_of hexadecimal + d) bs (grows hexadecimal n d h)
+      | None ↦ refl
+      | Some d ↦ digits_past hexadecimal (n * base_of hexadecimal + d) bs (grows hexadecimal n d h)
     ]
 
 digits_step : (hexadecimal : Bool) (n : ℕ) (xs : List ℕ) (i : ℕ) (o : Option ℕ) → i < length xs → o ≡ digit_of hexadecimal (get_or xs i 0)

@@ -18,8 +18,8 @@ first_at_feed c bs e = ap (λ f. cond (f || (eqb c 13 && begins_feed bs)) [] (c 
 pub lines_first : (b : ℕ) (bs : List ℕ) → lines_of (b ∷ bs) ≡ first_line (b ∷ bs) ∷ lines_of (behind_line (b ∷ bs))
 lines_first b [] =
     (elim (eqb b 10) as (λ f. (r : Bool) → cond f ([] ∷ []) (cond (r && false) [] ((b ∷ []) ∷ [])) ≡ cond (f || (r && false)) [] (b ∷ []) ∷ lines_of (cond f [] [])) [
-      true ↦ λ r. refl
-    | false ↦ elim [ true ↦ refl | false ↦ refl ]
+      | true ↦ λ r. refl
+      | false ↦ elim [ true ↦ refl | false ↦ refl ]
     ]) (eqb b 13)
 lines_first b (c ∷ bs) =
     onto_step (eqb b 10) (eqb b 13) (eqb c 10) b (c ∷ bs) (lines_of (c ∷ bs)) (first_line (c ∷ bs)) (behind_line (c ∷ bs)) refl (lines_first c bs) (first_at_feed c bs)
@@ -29,16 +29,16 @@ line_take : (xs : List ℕ) → take (line_len xs) xs ≡ first_line xs
 line_take [] = refl
 line_take (b ∷ bs) =
     elim (ends_line (b ∷ bs)) as (λ s. take (cond s 0 (line_len bs + 1)) (b ∷ bs) ≡ cond s [] (b ∷ first_line bs)) [
-      true ↦ refl
-    | false ↦ rw add-one (ap (λ ys. b ∷ ys) (line_take bs))
+      | true ↦ refl
+      | false ↦ rw add-one (ap (λ ys. b ∷ ys) (line_take bs))
     ]
 
 line_drop : (xs : List ℕ) → drop (skip_len xs) xs ≡ behind_line xs
 line_drop [] = refl
 line_drop (b ∷ bs) =
     elim (eqb b 10) as (λ s. drop (cond s 1 (skip_len bs + 1)) (b ∷ bs) ≡ cond s bs (behind_line bs)) [
-      true ↦ refl
-    | false ↦ rw add-one (line_drop bs)
+      | true ↦ refl
+      | false ↦ rw add-one (line_drop bs)
     ]
 
 skip_some : (b : ℕ) (bs : List ℕ) → 0 < skip_len (b ∷ bs)
@@ -71,10 +71,10 @@ pub words_first : (xs : List ℕ) → begins_word xs ≡ true → words_of xs �
 words_first [] e = cc
 words_first (b ∷ bs) e =
     (elim (is_blank b) as (λ s. not s ≡ true
-        → cond s (words_of bs) (cond (begins_word bs) (onto_first b (words_of bs)) ((b ∷ []) ∷ words_of bs))
-        ≡ take (cond s 0 (word_len bs + 1)) (b ∷ bs) ∷ words_of (drop (cond s 0 (word_len bs + 1)) (b ∷ bs))) [
-      true ↦ λ h. cc
-    | false ↦ λ h. glued (begins_word bs) b (word_len bs) bs (words_of bs) (words_first bs) (none_len bs) refl
+    → cond s (words_of bs) (cond (begins_word bs) (onto_first b (words_of bs)) ((b ∷ []) ∷ words_of bs))
+    ≡ take (cond s 0 (word_len bs + 1)) (b ∷ bs) ∷ words_of (drop (cond s 0 (word_len bs + 1)) (b ∷ bs))) [
+      | true ↦ λ h. cc
+      | false ↦ λ h. glued (begins_word bs) b (word_len bs) bs (words_of bs) (words_first bs) (none_len bs) refl
     ]) e
 
 pub some_len : (xs : List ℕ) → begins_word xs ≡ true → 0 < word_len xs

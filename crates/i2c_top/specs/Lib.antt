@@ -4,5 +4,7 @@ pub mod Fronts
 pub mod Lines
 pub mod Numbers
 pub mod Report
+pub mod Scripts
+pub mod ScriptSteps
 pub mod Status
 pub mod Written

@@ -9,6 +9,7 @@ mod message;
 mod number;
 mod refusal;
 mod report;
+mod script;
 mod status;
 mod text;
 mod write;

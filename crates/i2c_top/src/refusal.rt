@@ -7,7 +7,8 @@ use crate::{BoardRefusal, Status};
 use i2c_base::NoMemory;
 use std::alloc::Global;
 
-const USAGE: &[u8] = b"usage: i2cbus run BOARD SCRIPT... | replay BOARD SCHEDULE SCRIPT... | check BOARD | gen SEED ROOTS LINES\n";
+const USAGE: &[u8] =
+    b"usage: i2cbus run BOARD SCRIPT... | replay BOARD SCHEDULE SCRIPT... | check BOARD | gen SEED ROOTS LINES\n";
 
 fn push_board(out: &mut Vec<u8>, why: BoardRefusal) -> Result<(), NoMemory>
     ensures { OnOk result (out.new.items ≡ out.old.items ++ board_text why) }
@@ -33,12 +34,7 @@ fn push_around(
 }
 
 // A text between two others.
-fn push_between(
-    out: &mut Vec<u8>,
-    before: &[u8],
-    text: &[u8],
-    after: &[u8],
-) -> Result<(), NoMemory>
+fn push_between(out: &mut Vec<u8>, before: &[u8], text: &[u8], after: &[u8]) -> Result<(), NoMemory>
     ensures { OnOk result (out.new.items ≡ out.old.items ++ (before.now ++ (text.now ++ after.now))) }
 {
     push_bytes(out, before)?;

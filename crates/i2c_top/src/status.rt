@@ -20,11 +20,7 @@ pub enum Status {
     Usage,
     Board(BoardRefusal),
     /// The first line of a script, from 1, that the grammar doesn't have, and its refused word, from 0.
-    Script {
-        caller: u8,
-        line: u32,
-        word: u16,
-    },
+    Script { caller: u8, line: u32, word: u16 },
     /// The scripts' cost, which is above the limit.
     Cost(u64),
     /// The file that is named at this place of the words was not read.
