@@ -124,7 +124,7 @@ pub fn send_message<P: Port>(port: &mut P, message: &Message<'_>, last: bool) ->
     requires short_write { length message.now.bytes.now ≤ 512 }
     requires room { IsTrue P.tells → length (P.log port.old) + 515 ≤ 2000000 }
     ensures phase { MayStart (P.phase port.new) }
-    ensures log { IsTrue P.tells → length (P.log port.new) ≤ length (P.log port.old) + 515 }
+    ensures log { IsTrue P.tells → length (P.log port.new) ≤ length (P.log port.old) + message.now.len + length message.now.bytes.now + 2 }
     ensures later { P.faults port.old ≤ P.faults port.new }
 {
     match port.start(message.addr, message.reading) {

@@ -97,3 +97,18 @@ pub fn number_in(word: &[u8], low: u16, high: u16) -> Option<u16>
         None
     }
 }
+
+/// The decimal number in a word, where it is at most `high`.
+pub fn decimal(word: &[u8], high: u16) -> Option<u16>
+    ensures high { IfSome result (λ n. n ≤ high) }
+{
+    if !is_decimal(word) {
+        return None;
+    }
+    let number = value(false, word)?;
+    if number <= u32::from(high) {
+        Some(number as u16)
+    } else {
+        None
+    }
+}

@@ -7,7 +7,7 @@ use crate::{BoardRefusal, Status};
 use i2c_base::NoMemory;
 use std::alloc::Global;
 
-const USAGE: &[u8] =
+pub const USAGE: &[u8] =
     b"usage: i2cbus run BOARD SCRIPT... | replay BOARD SCHEDULE SCRIPT... | check BOARD | gen SEED ROOTS LINES\n";
 
 fn push_board(out: &mut Vec<u8>, why: BoardRefusal) -> Result<(), NoMemory>
