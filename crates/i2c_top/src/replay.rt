@@ -32,6 +32,8 @@ fn read_file<S: Shelf>(
     requires low { place ≤ 15 }
     requires named { slice_get (S.words shelf.old) place ≡ Some name.now }
     ensures told { IfErr result (λ e. e ≢ status.Write) }
+    ensures usage { IfErr result (λ e. e ≢ status.Usage) }
+    ensures rig { IfErr result (λ e. e ≢ status.Rig) }
     ensures words { S.words shelf.new ≡ S.words shelf.old }
     ensures small { IfOk result (λ v. length v.items ≤ 2 ^ 28) }
     ensures cause { (i : ℕ) → result ≡ Err (status.Read i) → (i ≡ place) × Rose (S.faults shelf.old place) (S.faults shelf.new place) }
@@ -47,7 +49,9 @@ fn read_file<S: Shelf>(
 
 // The board of a text.
 fn board_of(alloc: Global, text: &[u8]) -> Result<Accepted, Status>
-    ensures { IfErr result (λ e. e ≢ status.Write) }
+    ensures told { IfErr result (λ e. e ≢ status.Write) }
+    ensures usage { IfErr result (λ e. e ≢ status.Usage) }
+    ensures rig { IfErr result (λ e. e ≢ status.Rig) }
 {
     let Some(plain) = read_plain(text) else {
         return Err(Status::Board(BoardRefusal::Plain));
@@ -61,7 +65,9 @@ fn board_of(alloc: Global, text: &[u8]) -> Result<Accepted, Status>
 // The commands of a script's text.
 fn commands_of(alloc: Global, text: &[u8]) -> Result<Vec<Command>, Status>
     requires { length text.now ≤ 2 ^ 28 }
-    ensures { IfErr result (λ e. e ≢ status.Write) }
+    ensures told { IfErr result (λ e. e ≢ status.Write) }
+    ensures usage { IfErr result (λ e. e ≢ status.Usage) }
+    ensures rig { IfErr result (λ e. e ≢ status.Rig) }
 {
     match read_script(alloc, text) {
         Ok(commands) => Ok(commands),
@@ -81,7 +87,9 @@ fn is_white(byte: u8) -> bool {
 
 // The schedule has no word.
 fn check_schedule(text: &[u8]) -> Result<(), Status>
-    ensures { IfErr result (λ e. e ≢ status.Write) }
+    ensures told { IfErr result (λ e. e ≢ status.Write) }
+    ensures usage { IfErr result (λ e. e ≢ status.Usage) }
+    ensures rig { IfErr result (λ e. e ≢ status.Rig) }
 {
     if text.iter().all(|byte| is_white(*byte)) {
         Ok(())
@@ -102,7 +110,9 @@ fn report_of<S: Shelf, R: Rig>(
     requires board { slice_get (S.words shelf.old) 1 ≡ Some board.now }
     requires schedule { slice_get (S.words shelf.old) 2 ≡ Some schedule.now }
     requires script { slice_get (S.words shelf.old) 3 ≡ Some script.now }
-    ensures { IfErr result (λ e. e ≢ status.Write) }
+    ensures told { IfErr result (λ e. e ≢ status.Write) }
+    ensures usage { IfErr result (λ e. e ≢ status.Usage) }
+    ensures rig { result ≡ Err status.Rig → Rose (R.faults rig.old) (R.faults rig.new) }
 {
     let text = read_file(alloc, shelf, BOARD, board)?;
     let accepted = board_of(alloc, text.as_slice())?;
@@ -125,7 +135,8 @@ fn name_at<'a>(place: u8, board: &'a str, schedule: &'a str, script: &'a str) ->
 // Writes the line of a refusal.
 fn refuse<K: Sink>(alloc: Global, refusal: Status, name: &[u8], sink: &mut K) -> Status
     requires { refusal ≢ status.Write }
-    ensures { result ≡ status.Write → Rose (K.faults sink.old) (K.faults sink.new) }
+    ensures write { result ≡ status.Write → Rose (K.faults sink.old) (K.faults sink.new) }
+    ensures same { result ≢ status.Write → result ≢ status.Memory → result ≡ refusal }
 {
     match refusal_line(alloc, refusal, name) {
         Ok(text) => {
@@ -158,6 +169,8 @@ pub fn replay_call<S: Shelf, K: Sink, R: Rig>(
     requires some { 1 ≤ length scripts.now }
     requires most { length scripts.now ≤ 8 }
     ensures write { result ≡ status.Write → Rose (K.faults sink.old) (K.faults sink.new) }
+    ensures rig { result ≡ status.Rig → Rose (R.faults rig.old) (R.faults rig.new) }
+    ensures usage { result ≡ status.Usage → length scripts.now ≢ 1 }
 {
     if scripts.len() != 1 {
         return refuse(alloc, Status::Usage, b"", sink);

@@ -86,6 +86,7 @@ pub fn run_commands<R: Rig>(
 ) -> Result<Vec<u8>, Status>
     ensures rig { result ≡ Err status.Rig → Rose (R.faults rig.old) (R.faults rig.new) }
     ensures told { IfErr result (λ e. e ≢ status.Write) }
+    ensures usage { IfErr result (λ e. e ≢ status.Usage) }
     ensures later { R.faults rig.old ≤ R.faults rig.new }
 {
     let ports = match rig.plug(alloc, board) {
