@@ -25,3 +25,6 @@ pub use program::top;
 pub use replay::replay_call;
 pub use report::report_text;
 pub use status::{BoardRefusal, Status};
+
+#[cfg(test)]
+mod tests;
