@@ -1,5 +1,5 @@
 -- The first line and the first word of a text. The inductions go over its bytes.
-use Rattle.std.proofs.Common.{◌≡◌, ℕ, ◌+◌, ◌<◌, Bool, true, false, List, [], ◌∷◌, ◌++◌, length, take, drop, refl, sym, ap, ◌∙◌, arith, cond, eqb, ◌&&◌, ◌||◌, not}
+use Rattle.std.proofs.Common.{◌≡◌, ℕ, ◌+◌, ◌<◌, Bool, true, false, List, [], ◌∷◌, length, take, drop, refl, sym, ap, ◌∙◌, arith, cond, eqb, ◌&&◌, ◌||◌, not}
 use Rattle.std.proofs.Common.{add-one, get_or}
 use Rattle.std.proofs.lemmas.List.{drop_more}
 use Rattle.i2c_top.specs.Fronts.{is_blank, begins_word, onto_first, words_of, word_len, lines_of, first_line, behind_line, begins_feed, ends_line, line_len, skip_len}

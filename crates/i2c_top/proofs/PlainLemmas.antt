@@ -1,8 +1,8 @@
 -- A board in the plain form is a board.
-use Rattle.std.proofs.Common.{◌≡◌, ℕ, ◌<◌, ◌≤◌, false, List, [], ◌∷◌, refl, arith}
+use Rattle.std.proofs.Common.{◌≡◌, ℕ, ◌<◌, false, List, [], ◌∷◌, refl, arith}
 use Rattle.std.specs.Prelude.{All}
 use Rattle.std.proofs.lemmas.List.Elements.{All-cons}
-use Rattle.i2c_base.specs.Board.{BoardView, DeviceView}
+use Rattle.i2c_base.specs.Board.{DeviceView}
 use Rattle.i2c_base.specs.declared.board.RootSpec.{RootSpec}
 use Rattle.i2c_base.specs.declared.board.MuxSpec.{MuxSpec}
 use Rattle.i2c_spec.specs.Plain.{IsPlainBoard, IsPlainDevice, IsPlainRun}

@@ -1,5 +1,5 @@
 -- A line of a script, behind the commands before it.
-use Rattle.std.proofs.Common.{◌≡◌, ℕ, ◌+◌, List, [], ◌∷◌, ◌++◌, length, Option, Some, None, Result, Ok, Err, refl, sym, ap, ◌∙◌, append_assoc, length-append, arith, subst}
+use Rattle.std.proofs.Common.{◌≡◌, ℕ, ◌+◌, List, [], ◌∷◌, ◌++◌, length, Option, Some, None, Result, Ok, Err, refl, sym, ap, ◌∙◌, append_assoc, length-append, subst}
 use Rattle.i2c_top.specs.Fronts.{lines_of}
 use Rattle.i2c_top.specs.Commands.{CommandView, line_read, FaultIs}
 use Rattle.i2c_top.specs.Scripts.{Place, lines_read, behind_commands, behind_line_read, ScriptFaultIs, fault_at}

@@ -1,7 +1,7 @@
 -- The lines of a script. The grammar in force has one line: `i2cget -y BUS ADDR REG`.
-use Rattle.std.specs.Prelude.{⊤, ◌≡◌, ℕ, ◌+◌, ◌<◌, ◌≤◌, ◌==◌, nat_lt, nat_le, Bool, true, false, not, List, [], ◌∷◌, ◌++◌, length, take, slice_index_or, Option, Some, None, Result, Ok, Err, if◌then◌else◌, codes}
+use Rattle.std.specs.Prelude.{⊤, ◌≡◌, ℕ, ◌≤◌, ◌==◌, nat_lt, nat_le, Bool, false, not, List, [], ◌∷◌, ◌++◌, length, take, slice_index_or, Option, Some, None, Result, Ok, Err, if◌then◌else◌, codes}
 use Rattle.std.specs.Str.{bytes_eq}
-use Rattle.i2c_top.specs.Fronts.{words_of, joined_words, lines_of}
+use Rattle.i2c_top.specs.Fronts.{words_of, joined_words}
 use Rattle.i2c_top.specs.Numbers.{number_in}
 use Rattle.i2c_top.specs.declared.command.Get.{Get}
 use Rattle.i2c_top.specs.declared.command.LineFault.{LineFault}

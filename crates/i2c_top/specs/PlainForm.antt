@@ -2,8 +2,6 @@
 use Rattle.std.specs.Prelude.{ℕ, false, List, [], ◌∷◌, ◌++◌, codes}
 use Rattle.std.specs.Fmt.{decimal}
 use Rattle.i2c_base.specs.Board.{BoardView, DeviceView, RunView}
-use Rattle.i2c_base.specs.declared.board.RootSpec.{RootSpec}
-use Rattle.i2c_base.specs.declared.board.DeviceKind.{DeviceKind}
 use Rattle.i2c_base.specs.declared.board.DeviceKind.TheVariants as kind
 use Rattle.i2c_top.specs.Lines.{two_digits}
 

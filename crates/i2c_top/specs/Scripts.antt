@@ -1,9 +1,8 @@
 -- A script: the commands of its lines, in order, or the first line that isn't in the grammar.
-use Rattle.std.specs.Prelude.{⊤, ◌≡◌, ℕ, ◌+◌, ◌-◌, ◌*◌, false, List, [], ◌∷◌, ◌++◌, map, length, codes, slice_get, Option, Some, None, Result, Ok, Err}
+use Rattle.std.specs.Prelude.{⊤, ◌≡◌, ℕ, ◌+◌, ◌-◌, ◌*◌, false, List, [], ◌∷◌, ◌++◌, length, codes, slice_get, Option, Some, None, Result, Ok, Err}
 use Rattle.std.specs.Option.{option_map}
-use Rattle.i2c_base.specs.Board.{BoardView}
 use Rattle.i2c_base.specs.Script.{ScriptView}
-use Rattle.i2c_base.specs.Transfer.{TransferView, with_message, written, plain_read}
+use Rattle.i2c_base.specs.Transfer.{TransferView, written, plain_read}
 use Rattle.i2c_base.specs.declared.transfer.Kind.TheVariants.{Smbus}
 use Rattle.i2c_base.specs.declared.reply.Reply.{Reply}
 use Rattle.i2c_base.specs.declared.reply.Reply.TheVariants as reply

@@ -1,6 +1,5 @@
 use Rattle.std.proofs.Common.{◌≡◌, ◌+◌, ◌≤◌, IsTrue, length, nat_lt}
 use Rattle.i2c_base.specs.Phases.{phase_got}
-use Rattle.i2c_base.specs.declared.port.Phase.TheVariants.{Reading}
 use Rattle.i2c_top.proofs.message.get_all.Given as goal
 
 abbrev pub invariant-loop-count : goal.invariant-loop-count
