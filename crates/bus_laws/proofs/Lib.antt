@@ -21,3 +21,5 @@ pub mod WorldSends
 pub mod WorldLines
 -- What every stepwise past keeps: one caller and the others, and one step.
 pub mod StandsFacts
+pub mod StandsStep
+pub mod StandsEntries
