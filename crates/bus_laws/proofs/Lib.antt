@@ -6,6 +6,7 @@ pub mod TreePath
 pub mod TreeBehind
 pub mod TreeLaw
 -- The world law: events given to a list, what conversations keep, who is joined, what a message does to the chips.
+pub mod LineFacts
 pub mod WorldFeed
 pub mod TalkLaws
 pub mod WorldReach
@@ -23,3 +24,4 @@ pub mod WorldLines
 pub mod StandsFacts
 pub mod StandsStep
 pub mod StandsEntries
+pub mod StandsOpening
