@@ -25,3 +25,5 @@ pub mod StandsFacts
 pub mod StandsStep
 pub mod StandsEntries
 pub mod StandsOpening
+-- The induction over the entries, and what it gives.
+pub mod PastLaws

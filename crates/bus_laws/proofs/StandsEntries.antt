@@ -24,11 +24,12 @@ use Rattle.bus_spec.specs.Stepwise.{May}
 use Rattle.bus_laws.specs.Runs.{InLocks, IsRest, RestOf, LeavesShut, taken_slots, CanSend, CanShift, MaySend, MayShift, Runs}
 use Rattle.bus_laws.specs.Told.{WorldTold}
 use Rattle.bus_laws.specs.Lines.{LinesAreLocked}
+use Rattle.bus_laws.specs.Reach.{AsksForMessages}
 use Rattle.bus_laws.specs.Stands.{CallerStands, StandsIn, Stands, IsOnce}
 use Rattle.bus_laws.proofs.TreeSlots.{with_slot-same, with_slot-other}
 use Rattle.bus_laws.proofs.WorldSends.{told-send}
 use Rattle.bus_laws.proofs.WorldLines.{told-shift}
-use Rattle.bus_laws.proofs.StandsFacts.{SomeMessages, current-stands}
+use Rattle.bus_laws.proofs.StandsFacts.{current-stands}
 use Rattle.bus_laws.proofs.StandsStep.{lock_tells, at_same, at_other, job_off, job_same, send_known, shift_known, Turn, turned, apart_of}
 
 -- a walk whose first step is known
@@ -54,7 +55,7 @@ abbrev lock_slot : LockId → Slots → At
 lock_slot (lock.Mux p) v = v p
 lock_slot (lock.Bus r) v = v 0
 
-module _ (b : BoardView) (tree : IsTree b) (plain : IsPlainBoard b) (lines : LinesAreLocked b) (asks : Asks) (some : SomeMessages asks)
+module _ (b : BoardView) (tree : IsTree b) (plain : IsPlainBoard b) (lines : LinesAreLocked b) (asks : Asks) (some : AsksForMessages asks)
     (n : Now) (stands : Stands b n) (c : ℕ) where
   cur : CallerStands b (n.held c) (current b asks n c) n.slot
   cur = current-stands b tree lines asks some n c stands
@@ -302,7 +303,7 @@ module _ (b : BoardView) (tree : IsTree b) (plain : IsPlainBoard b) (lines : Lin
           (subst (λ (ms : List Mark). MayShift b job ms (n.held c) cur.view) (sym same_marks) runs.0)
 
 -- one more entry, whichever it is
-pub step-stands : (b : BoardView) → IsTree b → IsPlainBoard b → LinesAreLocked b → (asks : Asks) → SomeMessages asks → (callers : ℕ) (n : Now) → Stands b n
+pub step-stands : (b : BoardView) → IsTree b → IsPlainBoard b → LinesAreLocked b → (asks : Asks) → AsksForMessages asks → (callers : ℕ) (n : Now) → Stands b n
     → (e : Entry) → May b callers asks n e → Stands b (step b asks n e)
 step-stands b tree plain lines asks some callers n stands (entry.Take c l) may =
     take_kept b tree plain lines asks some n stands c l may.2 may.3

@@ -2,3 +2,4 @@ pub mod Runs
 pub mod Lines
 pub mod Told
 pub mod Stands
+pub mod Reach

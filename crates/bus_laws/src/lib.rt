@@ -4,6 +4,10 @@
 //! Definitions: `specs/`, and those of `i2c_spec` and `bus_spec`. The inductions stand in `proofs/` by subject.
 #![tactic(auto)]
 
+mod journals;
 mod walks;
 
+pub use journals::{
+    an_open_mux_is_selected_or_marked, each_journal_keeps_its_locks, each_message_finds_its_path_open,
+};
 pub use walks::each_walk_keeps_its_path_open;
