@@ -27,3 +27,4 @@ pub mod StandsEntries
 pub mod StandsOpening
 -- The induction over the entries, and what it gives.
 pub mod PastLaws
+pub mod PortLaws

@@ -5,7 +5,7 @@ ghost use Rattle.i2c_spec.specs.Plain.{IsPlainBoard};
 ghost use Rattle.i2c_spec.specs.Rules.{MeetsRules};
 ghost use Rattle.i2c_spec.specs.History.{Asks};
 ghost use Rattle.bus_spec.specs.Stepwise.{IsStepwise};
-ghost use Rattle.bus_spec.specs.Legal.{KeepsLocks};
+ghost use Rattle.bus_spec.specs.Legal.{KeepsLocks, KeepsPorts};
 ghost use Rattle.bus_laws.specs.Reach.{AsksForMessages, KeepsClosed, KeepsPathsOpen};
 
 use i2c_spec::an_accepted_board_is_a_tree;
@@ -34,3 +34,9 @@ pub fn each_message_finds_its_path_open()
 {
     an_accepted_board_is_a_tree();
 }
+
+/// The port rule: the bytes and the end of each message are those of its conversation with the world of its root where
+/// it stands, and that world is the opening one after the calls that the entries before tell.
+pub fn each_journal_tells_its_ports()
+    ensures { (b : BoardView) (callers : ℕ) (asks : Asks) (past : List Entry) → IsStepwise b callers asks past → KeepsPorts b asks past }
+{}

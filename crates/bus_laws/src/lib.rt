@@ -8,6 +8,7 @@ mod journals;
 mod walks;
 
 pub use journals::{
-    an_open_mux_is_selected_or_marked, each_journal_keeps_its_locks, each_message_finds_its_path_open,
+    an_open_mux_is_selected_or_marked, each_journal_keeps_its_locks, each_journal_tells_its_ports,
+    each_message_finds_its_path_open,
 };
 pub use walks::each_walk_keeps_its_path_open;
