@@ -3,3 +3,4 @@ pub mod Lines
 pub mod Told
 pub mod Stands
 pub mod Reach
+pub mod Settles
