@@ -7,6 +7,8 @@
 mod holding;
 mod paths;
 mod rows;
+#[cfg(test)]
+mod tests;
 
 pub use holding::holder_of;
 pub use paths::a_job_stands_between_its_locks;
