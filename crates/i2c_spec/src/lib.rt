@@ -2,46 +2,33 @@
 //! message, and the flat world in which every transfer happens alone.
 //!
 //! The definitions stand in `specs/`, a file for each subject, over plain records and lists. `Layout` computes
-//! those of the tree, the grant and the topology rules over a board's parts.
+//! those of the tree, the grant and the topology rules over a board's parts, `PlainWorld` the wires of a root, `talk` the
+//! conversation of one message, and `flat` a transfer in the flat world: slow programs, each equal to its definition.
 #![tactic(auto)]
 
-mod grant;
-mod hop;
-mod laws;
-mod layout;
 #[cfg(test)]
-mod tests;
-mod topology;
-mod tree;
-
-ghost use Rattle.std.specs.Prelude.{◌≡◌, [], ◌∷◌, true};
-ghost use Rattle.i2c_spec.specs.Tree.{hops};
-ghost use Rattle.i2c_spec.specs.Grant.{grant_of, way_of};
-ghost use Rattle.i2c_spec.specs.Rules.{IsFirstBroken};
-ghost use Rattle.i2c_spec.specs.Plain.{IsPlainBoard};
-ghost use Rattle.i2c_spec.specs.World.{World, openings, after};
-ghost use Rattle.i2c_spec.specs.Flat.{flat};
-ghost use Rattle.i2c_spec.specs.History.{history};
-ghost use Rattle.i2c_spec.specs.Cost.{cost_of};
-ghost use Rattle.i2c_spec.specs.Fair.{IsFairCaller};
-
-pub use hop::Hop;
-pub use laws::an_accepted_board_is_a_tree;
-pub use layout::Layout;
-
+mod boards;
 mod chip;
 mod conversation;
 mod fair_targets;
 mod flat_states;
 mod flat_world;
+mod grant;
+mod hop;
 mod joint;
+mod laws;
+mod layout;
 mod listen;
 mod message;
 mod regs;
 mod said;
 mod site;
 mod state;
+#[cfg(test)]
+mod tests;
+mod topology;
 mod transfers;
+mod tree;
 #[cfg(test)]
 mod wire_tests;
 mod world;
@@ -51,6 +38,9 @@ pub use conversation::talk;
 pub use fair_targets::{chips_are_fair, openings_are_quiet, regs_are_fair, states_are_fair};
 pub use flat_states::PlainFlat;
 pub use flat_world::flat;
+pub use hop::Hop;
+pub use laws::an_accepted_board_is_a_tree;
+pub use layout::Layout;
 pub use listen::{Listen, Wires};
 pub use message::PlainMessage;
 pub use regs::{PlainPhase, PlainRegs};

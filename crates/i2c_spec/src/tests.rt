@@ -1,92 +1,20 @@
 //! The grants, the ways and the broken rules of worked boards. The kinds of the devices play no part in them.
 
-ghost use Rattle.std.specs.Prelude.{◌≡◌, ◌<◌, ◌≤◌};
+ghost use Rattle.std.specs.Prelude.{◌≡◌, ◌<◌, ◌≤◌, All};
 ghost use Rattle.i2c_spec.specs.Layouts.{board_of};
-ghost use Rattle.i2c_spec.specs.Plain.{IsPlainBoard, IsPlainDevice, IsPlainMux};
+ghost use Rattle.i2c_spec.specs.Plain.{IsPlainBoard};
 
 use crate::Layout;
-use i2c_base::{
-    Addr, DevId, DeviceKind, DeviceSpec, Grant, Idle, Item, LockMode, MuxId, MuxKind, MuxSpec,
-    RootSpec, RuleBroken, SegId, Way,
-};
-use std::alloc::Global;
+use crate::boards::{ROOT, address, arbitrator, blank_regs, small_switch, switch};
+use i2c_base::{DevId, Grant, Item, LockMode, MuxId, RuleBroken, SegId, Way};
 use std::process::Abort;
 use std::test::Fail;
-
-const ROOT: RootSpec = RootSpec { smbus_only: false };
-
-fn device(rt: &impl Abort, alloc: Global, bus: u16, addr: u8, bound: bool) -> DeviceSpec
-    ensures plain { IsPlainDevice result }
-    ensures home { result.bus ≡ bus }
-{
-    DeviceSpec {
-        bus: SegId(bus),
-        addr: Addr::new(addr).expect(rt, "an address"),
-        bound,
-        kind: DeviceKind::Regs { hold: 0 },
-        set: Vec::new(alloc),
-    }
-}
-
-/// A switch of eight channels.
-fn switch(rt: &impl Abort, lock: LockMode) -> MuxSpec
-    ensures plain { IsPlainMux result }
-    ensures home { result.bus ≡ 0 }
-    ensures channels { result.channels ≡ 8 }
-{
-    MuxSpec {
-        bus: SegId(0),
-        kind: MuxKind::Pca9548,
-        addr: Some(Addr::new(0x70).expect(rt, "an address")),
-        channels: 8,
-        lock,
-        absent: false,
-        foreign: 0,
-        idle: Idle::Disconnect,
-    }
-}
-
-/// A switch of four channels on the first channel of the other.
-fn inner_switch(rt: &impl Abort, lock: LockMode, absent: bool) -> MuxSpec
-    ensures plain { IsPlainMux result }
-    ensures home { result.bus ≡ 1 }
-    ensures channels { result.channels ≡ 4 }
-{
-    MuxSpec {
-        bus: SegId(1),
-        kind: MuxKind::Pca9546,
-        addr: Some(Addr::new(0x71).expect(rt, "an address")),
-        channels: 4,
-        lock,
-        absent,
-        foreign: 0,
-        idle: Idle::Disconnect,
-    }
-}
-
-fn arbitrator(rt: &impl Abort, foreign: u8) -> MuxSpec
-    requires { foreign ≤ 8 }
-    ensures plain { IsPlainMux result }
-    ensures home { result.bus ≡ 0 }
-    ensures channels { result.channels ≡ 1 }
-{
-    MuxSpec {
-        bus: SegId(0),
-        kind: MuxKind::Pca9541,
-        addr: Some(Addr::new(0x72).expect(rt, "an address")),
-        channels: 1,
-        lock: LockMode::Parent,
-        absent: false,
-        foreign,
-        idle: Idle::Disconnect,
-    }
-}
 
 fn check_grants(rt: &impl Abort, board: Layout, cases: &[(u16, u8, bool, Grant)])
     requires { IsPlainBoard (board_of board) }
 {
     for (bus, addr, force, grant) in cases.iter().copied() {
-        let addr = Addr::new(addr).expect(rt, "an address");
+        let addr = address(rt, addr);
         assert_eq!(rt;
             board.grant(SegId(bus), addr, force),
             grant,
@@ -106,7 +34,7 @@ fn check_ways(rt: &impl Abort, board: Layout, cases: &[(u16, Way)])
 #[test]
 fn an_address_leads_to_the_device_on_the_path(rt: HostRuntime) {
     let alloc = rt.alloc();
-    let devices = [device(&rt, alloc, 0, 0x20, false)];
+    let devices = [blank_regs(&rt, alloc, 0, 0x20, false, 0)];
     let board = Layout {
         roots: &[ROOT],
         muxes: &[],
@@ -126,10 +54,10 @@ fn an_address_leads_to_the_device_on_the_path(rt: HostRuntime) {
 fn an_address_used_below_is_busy(rt: HostRuntime) {
     let alloc = rt.alloc();
     for lock in [LockMode::Mux, LockMode::Parent] {
-        let muxes = [switch(&rt, lock)];
+        let muxes = [switch(&rt, lock, false)];
         let devices = [
-            device(&rt, alloc, 0, 0x20, false),
-            device(&rt, alloc, 1, 0x30, false),
+            blank_regs(&rt, alloc, 0, 0x20, false, 0),
+            blank_regs(&rt, alloc, 1, 0x30, false, 0),
         ];
         let board = Layout {
             roots: &[ROOT],
@@ -155,11 +83,11 @@ fn an_address_used_below_is_busy(rt: HostRuntime) {
 #[test]
 fn only_a_forced_transfer_reaches_a_bound_device(rt: HostRuntime) {
     let alloc = rt.alloc();
-    let muxes = [switch(&rt, LockMode::Parent)];
+    let muxes = [switch(&rt, LockMode::Parent, false)];
     let devices = [
-        device(&rt, alloc, 0, 0x20, false),
-        device(&rt, alloc, 0, 0x50, true),
-        device(&rt, alloc, 1, 0x48, false),
+        blank_regs(&rt, alloc, 0, 0x20, false, 0),
+        blank_regs(&rt, alloc, 0, 0x50, true, 0),
+        blank_regs(&rt, alloc, 1, 0x48, false, 0),
     ];
     let board = Layout {
         roots: &[ROOT],
@@ -183,10 +111,10 @@ fn only_a_forced_transfer_reaches_a_bound_device(rt: HostRuntime) {
 #[test]
 fn an_address_may_stand_on_two_channels(rt: HostRuntime) {
     let alloc = rt.alloc();
-    let muxes = [switch(&rt, LockMode::Parent)];
+    let muxes = [switch(&rt, LockMode::Parent, false)];
     let devices = [
-        device(&rt, alloc, 1, 0x50, false),
-        device(&rt, alloc, 4, 0x50, false),
+        blank_regs(&rt, alloc, 1, 0x50, false, 0),
+        blank_regs(&rt, alloc, 4, 0x50, false, 0),
     ];
     let board = Layout {
         roots: &[ROOT],
@@ -210,13 +138,13 @@ fn an_address_may_stand_on_two_channels(rt: HostRuntime) {
 #[test]
 fn every_channel_of_a_user_board_has_its_own_devices(rt: HostRuntime) -> Result<(), Fail> {
     let alloc = rt.alloc();
-    let muxes = [switch(&rt, LockMode::Parent)];
+    let muxes = [switch(&rt, LockMode::Parent, false)];
     let mut devices = Vec::new(alloc);
     for bus in 2..10 {
-        devices.push(device(&rt, alloc, bus, 0x48, true))?;
+        devices.push(blank_regs(&rt, alloc, bus, 0x48, true, 0))?;
     }
     for bus in 2..10 {
-        devices.push(device(&rt, alloc, bus, 0x50, true))?;
+        devices.push(blank_regs(&rt, alloc, bus, 0x50, true, 0))?;
     }
     let board = Layout {
         roots: &[ROOT, ROOT],
@@ -243,12 +171,12 @@ fn every_channel_of_a_user_board_has_its_own_devices(rt: HostRuntime) -> Result<
 fn an_absent_mux_acknowledges_nothing(rt: HostRuntime) {
     let alloc = rt.alloc();
     let muxes = [
-        switch(&rt, LockMode::Parent),
-        inner_switch(&rt, LockMode::Parent, true),
+        switch(&rt, LockMode::Parent, false),
+        small_switch(&rt, 1, 0x71, LockMode::Parent, true),
     ];
     let devices = [
-        device(&rt, alloc, 0, 0x20, false),
-        device(&rt, alloc, 1, 0x30, false),
+        blank_regs(&rt, alloc, 0, 0x20, false, 0),
+        blank_regs(&rt, alloc, 1, 0x30, false, 0),
     ];
     let board = Layout {
         roots: &[ROOT],
@@ -269,11 +197,31 @@ fn an_absent_mux_acknowledges_nothing(rt: HostRuntime) {
 }
 
 #[test]
+fn the_mux_nearest_the_root_bars_the_way(rt: HostRuntime) {
+    let alloc = rt.alloc();
+    let devices = [blank_regs(&rt, alloc, 0, 0x20, false, 0)];
+    for (absent, way) in [(true, Way::NoAck(MuxId(0))), (false, Way::Clear)] {
+        let muxes = [
+            switch(&rt, LockMode::Parent, absent),
+            small_switch(&rt, 1, 0x71, LockMode::Parent, false),
+        ];
+        let board = Layout {
+            roots: &[ROOT],
+            muxes: &muxes,
+            devices: &devices,
+        };
+        assert_eq!(rt; board.first_broken(), None);
+        check_grants(&rt, board, &[(9, 0x20, false, Grant::Named(DevId(0)))]);
+        check_ways(&rt, board, &[(0, Way::Clear), (9, way)]);
+    }
+}
+
+#[test]
 fn an_arbitrator_may_stay_with_its_other_controller(rt: HostRuntime) {
     let alloc = rt.alloc();
     for (foreign, way) in [(7, Way::Clear), (8, Way::Held(MuxId(0)))] {
         let muxes = [arbitrator(&rt, foreign)];
-        let devices = [device(&rt, alloc, 1, 0x20, false)];
+        let devices = [blank_regs(&rt, alloc, 1, 0x20, false, 0)];
         let board = Layout {
             roots: &[ROOT],
             muxes: &muxes,
@@ -287,11 +235,11 @@ fn an_arbitrator_may_stay_with_its_other_controller(rt: HostRuntime) {
 #[test]
 fn the_same_address_twice_is_refused(rt: HostRuntime) {
     let alloc = rt.alloc();
-    let muxes = [switch(&rt, LockMode::Parent)];
+    let muxes = [switch(&rt, LockMode::Parent, false)];
     let devices = [
-        device(&rt, alloc, 1, 0x50, false),
-        device(&rt, alloc, 4, 0x50, false),
-        device(&rt, alloc, 0, 0x50, false),
+        blank_regs(&rt, alloc, 1, 0x50, false, 0),
+        blank_regs(&rt, alloc, 4, 0x50, false, 0),
+        blank_regs(&rt, alloc, 0, 0x50, false, 0),
     ];
     let board = Layout {
         roots: &[ROOT],
@@ -318,10 +266,13 @@ fn a_parent_locked_mux_below_a_mux_locked_one_is_refused(rt: HostRuntime) {
         (LockMode::Mux, LockMode::Parent, Some(broken)),
         (LockMode::Parent, LockMode::Mux, None),
     ] {
-        let muxes = [switch(&rt, outer), inner_switch(&rt, inner, false)];
+        let muxes = [
+            switch(&rt, outer, false),
+            small_switch(&rt, 1, 0x71, inner, false),
+        ];
         let devices = [
-            device(&rt, alloc, 0, 0x20, false),
-            device(&rt, alloc, 1, 0x30, false),
+            blank_regs(&rt, alloc, 0, 0x20, false, 0),
+            blank_regs(&rt, alloc, 1, 0x30, false, 0),
         ];
         let board = Layout {
             roots: &[ROOT],
