@@ -21,3 +21,5 @@ pub mod WorldSends
 pub mod WorldLines
 -- What every stepwise past keeps: one caller and the others, and one step.
 pub mod StandsFacts
+-- The devices law: one message over two listeners, and over a root's world and the flat world.
+pub mod DevicesTalk

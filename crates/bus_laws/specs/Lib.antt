@@ -2,3 +2,5 @@ pub mod Runs
 pub mod Lines
 pub mod Told
 pub mod Stands
+-- The devices of a root's world and of the flat world.
+pub mod Alike
