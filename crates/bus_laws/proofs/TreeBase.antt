@@ -12,7 +12,7 @@ use Rattle.i2c_base.specs.declared.board.MuxKind.{MuxKind}
 use Rattle.i2c_base.specs.declared.board.MuxKind.TheVariants.{Pca9548, Pca9546, Pca9544, Pca9541, Gpio}
 use Rattle.i2c_base.specs.Board.{BoardView}
 use Rattle.i2c_base.specs.Transfer.{TransferView}
-use Rattle.i2c_spec.specs.Tree.{Hop, hops, root_of, Crosses, IsAmongHops, home_of_mux}
+use Rattle.i2c_spec.specs.Tree.{Hop, hops, root_of, Crosses, IsAmongHops, home_of_mux, buses}
 use Rattle.i2c_spec.specs.TreeFacts.{IsTree}
 use Rattle.i2c_spec.specs.Messages.{MessageView}
 use Rattle.bus_spec.specs.Walk.{Mark, Job, Call, Select, Clear, Act, Send, Shift, Settle, ActOutcome, Passed, Sent, Lined, JobOutcome, Good, Refused, Unsent, Failed, Note, WalkTree, Then, Go, On, Last, Over, goes, on_if_more, first_byte, job_bus, job_outcome, sent_outcome, verdict_of, decides, is_line, is_gpio, is_arbitrator, more_of}
@@ -146,7 +146,7 @@ slot_at v on s = ap (λ (x : At). x.slot) (with_slot-same v on s)
 module _ (b : BoardView) (whose : TransferView) (tree : IsTree b) (root : ℕ) (h : Hop) (note : Note) (k : JobOutcome → WalkTree) (held : List LockId) (first : Slots)
     (reached : (g : Hop) → IsAmongHops g (hops b h.on) → ((first g.on).slot ≡ Selected g) × InLocks (lock.Mux g.on) held)
     (rooted : InLocks (lock.Bus (root_of b h.on)) held)
-    (owns : Owns (Select h) note.marks held) (among : IsAmongHops h (hops b h.bus))
+    (owns : Owns (Select h) note.marks held) (among : IsAmongHops h (hops b h.bus)) (there : h.bus < buses b)
     (fail : MayFail b note.marks held first) (no_line : is_gpio h.kind ≡ false)
     (goes_on : (o : JobOutcome) (w : Slots) → After b [] (lock.Bus root ∷ []) (Select h) note.marks first o w → Runs b whose held w (k o)) where
   select_may : (v : Slots) (left : ℕ) → IsSameOff h.on v first → IsOfMux h.mux (v h.on).slot
@@ -155,7 +155,7 @@ module _ (b : BoardView) (whose : TransferView) (tree : IsTree b) (root : ℕ) (
       record {
         reached = λ g a. (ap (λ (x : At). x.slot) (same g.on (own_apart b tree h.on g a)) ∙ (reached g a).0, (reached g a).1);
         rooted = rooted;
-        finds = (finds, among);
+        finds = (finds, among, there);
         owns = owns;
         may_fail = fail_own b held h.on h.mux v first note.marks same owns.1 own fail;
         granted = tt;

@@ -11,7 +11,7 @@ use Rattle.i2c_base.specs.declared.board.MuxKind.TheVariants.{Pca9548}
 use Rattle.i2c_base.specs.declared.board.MuxSpec.{MuxSpec}
 use Rattle.i2c_base.specs.Board.{BoardView}
 use Rattle.i2c_base.specs.Transfer.{TransferView}
-use Rattle.i2c_spec.specs.Tree.{Hop, hops, root_of, locks_of, home_of_mux, Crosses, IsAmongHops}
+use Rattle.i2c_spec.specs.Tree.{Hop, hops, buses, root_of, locks_of, home_of_mux, Crosses, IsAmongHops}
 use Rattle.i2c_spec.specs.TreeFacts.{IsTree, IsHop}
 use Rattle.bus_spec.specs.Walk.{Mark, Job, Call, Select, Clear, JobOutcome, Good, Refused, Unsent, Failed, Note, WalkTree, Look, MarkOf, job_bus, is_line, is_gpio}
 use Rattle.bus_spec.specs.Slots.{Slots, At, MuxSlot, Clean, Selected, Marked, Polled, Found, mark_in, with_slot, set_marks}
@@ -50,7 +50,7 @@ slot_of : (x y : At) (s : MuxSlot) → x ≡ y → y.slot ≡ s → x.slot ≡ s
 slot_of x y s e f = ap (λ (z : At). z.slot) e ∙ f
 
 module _ (b : BoardView) (whose : TransferView) (tree : IsTree b) (lines : LinesAreLocked b) (root : ℕ) (h : Hop) (hs : List Hop) (s floor : ℕ) (on : Doer)
-    (at : hops b s ≡ h ∷ hs) (rooted : root_of b s ≡ root)
+    (at : hops b s ≡ h ∷ hs) (there : s < buses b) (rooted : root_of b s ≡ root)
     (sub : DoerRuns b whose root hs (sub_locks root h hs) floor on)
     (job : Job) (note : Note) (k : JobOutcome → WalkTree) (held : List LockId) (v : Slots)
     (no_line : is_line job ≡ false)
@@ -70,6 +70,9 @@ module _ (b : BoardView) (whose : TransferView) (tree : IsTree b) (lines : Lines
 
   among_own : IsAmongHops h (hops b h.bus)
   among_own = subst (λ (i : ℕ). IsAmongHops h (hops b i)) (sym (tree.leads s h hs at).0) among
+
+  bus_there : h.bus < buses b
+  bus_there = subst (λ (i : ℕ). i < buses b) (sym (tree.leads s h hs at).0) there
 
   root_on : root_of b h.on ≡ root
   root_on = tree.root_same s h among ∙ rooted
@@ -272,7 +275,7 @@ module _ (b : BoardView) (whose : TransferView) (tree : IsTree b) (lines : Lines
 
   select_before : (u : Slots) → Like u → (u h.on).slot ≡ Clean → Before b whose root hs (sub_locks root h hs) floor (Select h) (own_mark ∷ note.marks) held u
   select_before u like clean =
-      control_before u (Select h) own_mark note.marks like.rest refl off_on (clean, among_own) refl is_hop.home
+      control_before u (Select h) own_mark note.marks like.rest refl off_on (clean, among_own, bus_there) refl is_hop.home
       (subst (λ (s : MuxSlot). IsOfMux h.mux s) (sym clean) tt)
       (own_held, (refl, refl, own_unmarked)) tt tt (fail_at u like) marks_off own_root
 

@@ -6,7 +6,7 @@ use Rattle.i2c_base.specs.declared.ids.LockId.{LockId}
 use Rattle.i2c_base.specs.declared.ids.LockId.TheVariants as lock
 use Rattle.i2c_base.specs.Board.{BoardView}
 use Rattle.i2c_base.specs.Transfer.{TransferView}
-use Rattle.i2c_spec.specs.Tree.{Hop, hops, root_of, locks_of, home_of_mux, Crosses, IsAmongHops}
+use Rattle.i2c_spec.specs.Tree.{Hop, hops, buses, root_of, locks_of, home_of_mux, Crosses, IsAmongHops}
 use Rattle.bus_spec.specs.Walk.{Mark, Job, Call, Select, Clear, JobOutcome, Good, Refused, Unsent, Failed, Note, WalkTree, job_bus, is_line, is_gpio}
 use Rattle.bus_spec.specs.Slots.{Slots, At, Clean, Selected, with_slot, set_marks}
 use Rattle.bus_spec.specs.Grammar.{Doer}
@@ -60,7 +60,7 @@ CallUnmarked (Clear on mux kind) marks = Unit {0}
 -- what a job finds on its own bus before its first step
 abbrev pub FindsFirst : BoardView → Job → Slots → Type 0
 FindsFirst b (Call bus messages) v = Unit {0}
-FindsFirst b (Select h) v = ((v h.on).slot ≡ Clean) × IsAmongHops h (hops b h.bus)
+FindsFirst b (Select h) v = ((v h.on).slot ≡ Clean) × IsAmongHops h (hops b h.bus) × (h.bus < buses b)
 FindsFirst b (Clear on mux kind) v = FindsOpen mux (v on).slot × (home_of_mux b mux ≡ on) × IsMuxOf b mux kind
 
 -- a hop over the job's bus is behind the walk already: selected, its lock held, and none of the hops before it

@@ -1,16 +1,20 @@
 -- The tree law: the whole walk of a transfer runs. The inductions go over the locks, and over the hops.
-use Rattle.std.proofs.Common.{◌≡◌, ℕ, zero, suc, ◌+◌, ◌<◌, ◌≤◌, Bool, true, false, cond, List, [], ◌∷◌, length, Option, Some, None, eqb, refl, sym, ◌∙◌, ap, subst, ◌⊎◌, inl, inr, arith, add-one}
-use Rattle.std.specs.List.{AllByRecursion}
+use Rattle.std.proofs.Common.{◌≡◌, ℕ, zero, suc, ◌+◌, ◌<◌, ◌≤◌, Bool, true, false, cond, not, ◌&&◌, List, [], ◌∷◌, length, Option, Some, None, eqb, ltb, refl, sym, ◌∙◌, ap, subst, ◌⊎◌, inl, inr, arith, add-one}
+use Rattle.std.specs.List.{AllByRecursion, list_any}
+use Rattle.std.proofs.lemmas.Bool.{ltb-true}
 use Rattle.std.proofs.lemmas.Bool.Decides.{eqb_tells}
 use Rattle.i2c_base.specs.declared.ids.LockId.{LockId}
 use Rattle.i2c_base.specs.declared.ids.LockId.TheVariants as lock
 use Rattle.i2c_base.specs.declared.errno.Errno.{Errno}
+use Rattle.i2c_base.specs.declared.errno.Errno.TheVariants as errno
+use Rattle.i2c_base.specs.declared.transfer.Msg.{Msg}
 use Rattle.i2c_base.specs.Board.{BoardView}
 use Rattle.i2c_base.specs.Transfer.{TransferView}
-use Rattle.i2c_spec.specs.Tree.{Hop, hops, root_of, locks_of, depth, Crosses, IsAmongHops}
+use Rattle.i2c_spec.specs.Tree.{Hop, hops, buses, root_of, locks_of, depth, Crosses, IsAmongHops}
 use Rattle.i2c_spec.specs.TreeFacts.{IsTree}
 use Rattle.i2c_spec.specs.Messages.{messages_of}
-use Rattle.i2c_spec.specs.Flat.{refusal}
+use Rattle.i2c_spec.specs.Flat.{refusal, is_plain, is_smbus_only}
+use Rattle.i2c_spec.specs.Grant.{grant_of, is_busy}
 use Rattle.bus_spec.specs.Walk.{Mark, Job, Call, Select, Clear, JobOutcome, Note, WalkTree, Ends, Then, Take, Free, Passed, is_line, job_bus}
 use Rattle.bus_spec.specs.Slots.{Slots, At, MuxSlot, with_slot}
 use Rattle.bus_spec.specs.Grammar.{Doer, plain, locked, part, inner, full, behind, at_bus, walk_by, walk_for}
@@ -214,15 +218,15 @@ part_runs b whose tree root hs s on at sub true = sub
 part_runs b whose tree root hs s on at sub false = locked_runs b whose tree root hs s on at sub
 
 -- the induction over the hops
-inner_runs : (b : BoardView) (whose : TransferView) → IsTree b → LinesAreLocked b → (root : ℕ) (hs : List Hop) (s : ℕ) → hops b s ≡ hs → root_of b s ≡ root
+inner_runs : (b : BoardView) (whose : TransferView) → IsTree b → LinesAreLocked b → (root : ℕ) (hs : List Hop) (s : ℕ) → hops b s ≡ hs → s < buses b → root_of b s ≡ root
     → DoerRuns b whose root hs (locks_of root hs) (ground hs) (inner b root hs)
-inner_runs b whose tree lines root [] s at rooted =
+inner_runs b whose tree lines root [] s at there rooted =
     λ job note k held v before goes_on. bus_runs b whose tree root 0 job note k held v (is_line job) refl before goes_on
-inner_runs b whose tree lines root (h ∷ hs) s at rooted =
+inner_runs b whose tree lines root (h ∷ hs) s at there rooted =
     λ job note k held v before goes_on.
     by_line job note k held v before goes_on (is_line job) refl
     (part_runs b whose tree root hs h.on (inner b root hs) (tree.tail s h hs at)
-    (inner_runs b whose tree lines root hs h.on (tree.tail s h hs at)
+    (inner_runs b whose tree lines root hs h.on (tree.tail s h hs at) (let before : h.on < s = (tree.leads s h hs at).1 in omega (arith, before, there))
     (tree.root_same s h (subst (λ (xs : List Hop). IsAmongHops h xs) (sym at) (inl refl)) ∙ rooted))
     h.parent)
   where
@@ -237,14 +241,26 @@ inner_runs b whose tree lines root (h ∷ hs) s at rooted =
         (line_runs b whose root (h ∷ hs) (locks_of root (h ∷ hs)) (ground (h ∷ hs)) (λ p i. locks_cross root (h ∷ hs) p i) (λ x i. i) job note k held v l before goes_on)
     by_line job note k held v before goes_on false l sub =
         subst (λ (t : Bool). Runs b whose held v (cond t (at_bus job note k) (behind b h (part h.parent (locks_of root hs) (inner b root hs)) job note k))) (sym l)
-        (behind-runs b whose tree lines root h hs s (ground (h ∷ hs)) (part h.parent (locks_of root hs) (inner b root hs)) at rooted sub job note k held v l before goes_on)
+        (behind-runs b whose tree lines root h hs s (ground (h ∷ hs)) (part h.parent (locks_of root hs) (inner b root hs)) at there rooted sub job note k held v l before goes_on)
+
+-- a transfer that isn't refused stands on a bus that is there, and names no busy address
+not_refused : (x y z : Bool) → cond (not x) (Some errno.Enodev) (cond y (Some errno.Eopnotsupp) (cond z (Some errno.Ebusy) None)) ≡ None → (x ≡ true) × (z ≡ false)
+not_refused true false false e = (refl, refl)
+not_refused true false true e = absurd (let f : Some errno.Ebusy ≡ None = e in cc)
+not_refused true true z e = absurd (let f : Some errno.Eopnotsupp ≡ None = e in cc)
+not_refused false y z e = absurd (let f : Some errno.Enodev ≡ None = e in cc)
+
+pub refusal-none : (b : BoardView) (t : TransferView) → refusal b t ≡ None
+    → (ltb t.bus (buses b) ≡ true) × (list_any (λ (m : Msg). is_busy (grant_of b t.bus m.addr t.force)) t.msgs ≡ false)
+refusal-none b t e =
+    not_refused (ltb t.bus (buses b)) (is_plain t.kind && is_smbus_only b (root_of b t.bus)) (list_any (λ (m : Msg). is_busy (grant_of b t.bus m.addr t.force)) t.msgs) e
 
 -- the whole walk of a transfer
 walk_by-runs : (b : BoardView) (t : TransferView) → IsTree b → LinesAreLocked b → 0 < length t.msgs → (v : Slots) (r : Option Errno) → refusal b t ≡ r → Runs b t [] v (walk_by b t r)
 walk_by-runs b t tree lines some v (Some e) refused = refl
 walk_by-runs b t tree lines some v None refused =
     locked_runs b t tree (root_of b t.bus) (hops b t.bus) t.bus (inner b (root_of b t.bus) (hops b t.bus)) refl
-    (inner_runs b t tree lines (root_of b t.bus) (hops b t.bus) t.bus refl refl)
+    (inner_runs b t tree lines (root_of b t.bus) (hops b t.bus) t.bus refl (ltb-true t.bus (buses b) (refusal-none b t refused).0) refl)
     (Call t.bus (messages_of t)) plain (λ o. Ends) [] v
     (record {
       locks = λ l i. i;

@@ -63,7 +63,7 @@ job_after-failed (Clear on mux kind) marks v p un = refl
 -- what a job finds on its own bus, and what its marks forget, moves along equal knowledge
 pub finds_along : (b : BoardView) (job : Job) (v w : Slots) → ((p : ℕ) → OwnIs job p → v p ≡ w p) → FindsFirst b job v → FindsFirst b job w
 finds_along b (Call bus ms) v w same f = tt
-finds_along b (Select h) v w same f = (subst (λ (x : At). x.slot ≡ Clean) (same h.on refl) f.0, f.1)
+finds_along b (Select h) v w same f = (subst (λ (x : At). x.slot ≡ Clean) (same h.on refl) f.0, f.1, f.2)
 finds_along b (Clear on mux kind) v w same f = (subst (λ (x : At). FindsOpen mux x.slot) (same on refl) f.0, f.1, f.2)
 
 pub fail_along : (b : BoardView) (held : List LockId) (hs : List Hop) (v w : Slots) (ms : List Mark)
@@ -139,7 +139,7 @@ gpio_asks_nothing Pca9541 e = (let f : false ≡ true = e in cc)
 line_finds : (b : BoardView) (job : Job) (v : Slots) → is_line job ≡ true → FindsFirst b job v → Finds b job zero v
 line_finds b (Call bus ms) v l f = tt
 line_finds b (Select h) v l f =
-    (subst (λ (t : Bool). FindsSelect t h zero (v h.on).slot) (sym (gpio_asks_nothing h.kind l)) (refl, f.0), f.1)
+    (subst (λ (t : Bool). FindsSelect t h zero (v h.on).slot) (sym (gpio_asks_nothing h.kind l)) (refl, f.0), f.1, f.2)
 line_finds b (Clear on mux kind) v l f = f
 
 module _ (b : BoardView) (whose : TransferView) (root : ℕ) (hs : List Hop) (ls : List LockId) (floor : ℕ)
@@ -232,7 +232,7 @@ root_runs b whose tree root floor (Select h) note k held v l before goes_on =
     select_runs b whose tree root h note k held v
     (arrived b whose root floor (Select h) note.marks held v before)
     (bus_held b whose root floor (Select h) note.marks held v before)
-    before.owns before.finds.1 before.may_fail l goes_on
+    before.owns before.finds.1 before.finds.2 before.may_fail l goes_on
     (is_arbitrator h.kind) refl (own_shut h (v h.on).slot before.finds.0) before.finds.0
 root_runs b whose tree root floor (Clear on mux kind) note k held v l before goes_on =
     clear_runs b whose root on mux kind note k held v l goes_on

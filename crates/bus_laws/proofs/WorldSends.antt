@@ -30,22 +30,11 @@ use Rattle.bus_laws.specs.Runs.{CanSend, IsMuxOf, IsOfMux, FindsOpen, FindsPoll,
 use Rattle.bus_laws.specs.Told.{chip_in, ChipsTold, WorldTold}
 use Rattle.bus_laws.proofs.ChipLaws.{HasChannel}
 use Rattle.bus_laws.proofs.BoardFacts.{mux_at, get_same_length, not_held, held-is, foreign-is, has_channel}
+use Rattle.bus_laws.proofs.TreeLaw.{refusal-none}
 use Rattle.bus_laws.proofs.WorldReach.{and_left}
 use Rattle.bus_laws.proofs.WorldLaw.{world-is, along_here, talk_framed, world_replaced}
 use Rattle.bus_laws.proofs.WorldJobs.{told_equal, close-told, select-told, poll-told}
 use Rattle.bus_laws.proofs.WorldCalls.{call-chips}
-
--- a transfer that isn't refused names no busy address
-not_refused : (x y z : Bool) → cond (not x) (Some errno.Enodev) (cond y (Some errno.Eopnotsupp) (cond z (Some errno.Ebusy) None)) ≡ None → (x ≡ true) × (z ≡ false)
-not_refused true false false e = (refl, refl)
-not_refused true false true e = absurd (let f : Some errno.Ebusy ≡ None = e in cc)
-not_refused true true z e = absurd (let f : Some errno.Eopnotsupp ≡ None = e in cc)
-not_refused false y z e = absurd (let f : Some errno.Enodev ≡ None = e in cc)
-
-pub refusal-none : (b : BoardView) (t : TransferView) → refusal b t ≡ None
-    → (ltb t.bus (buses b) ≡ true) × (list_any (λ (m : Msg). is_busy (grant_of b t.bus m.addr t.force)) t.msgs ≡ false)
-refusal-none b t e =
-    not_refused (ltb t.bus (buses b)) (is_plain t.kind && is_smbus_only b (root_of b t.bus)) (list_any (λ (m : Msg). is_busy (grant_of b t.bus m.addr t.force)) t.msgs) e
 
 busy_is : (g : Grant) → g ≡ grant.Busy → is_busy g ≡ true
 busy_is g e = ap is_busy e
@@ -159,7 +148,7 @@ module _ (b : BoardView) (tree : IsTree b) (plain : IsPlainBoard b) (v : Slots) 
       let hop : IsHop b h = tree.hop h.bus h may.finds.1 in
       let finds : FindsSelect t h zero (v h.on).slot = subst (λ (u : Bool). FindsSelect u h zero (v h.on).slot) arb may.finds.0 in
       select-told b tree plain v ws world h.on h.mux h.kind hop.kind may.by_message hop.home (λ g a. (may.reached g a).0) held marks may.may_fail may.owns.1
-        (own_select t h zero (v h.on).slot finds) limit cut h refl refl refl (has_channel b plain h hop)
+        (own_select t h zero (v h.on).slot finds) limit cut h refl refl refl (has_channel b plain h hop (tree.within h.bus h may.finds.2 may.finds.1))
         (λ x at is_arb. world.told.found h.on h x (write_free h t finds (sym arb ∙ is_arb)) at)
         (write_not_held h t arb finds hop)
         (sent_of (Select h) zero).bytes
@@ -167,7 +156,7 @@ module _ (b : BoardView) (tree : IsTree b) (plain : IsPlainBoard b) (v : Slots) 
       let hop : IsHop b h = tree.hop h.bus h may.finds.1 in
       let finds : FindsPoll h (suc n) (v h.on).slot = subst (λ (u : Bool). FindsSelect u h (suc n) (v h.on).slot) arb may.finds.0 in
       poll-told b tree plain v ws world h.on h.mux h.kind hop.kind may.by_message hop.home (λ g a. (may.reached g a).0) held marks may.may_fail may.owns.1
-        (own_poll h (suc n) (v h.on).slot finds) limit cut h refl refl refl (has_channel b plain h hop) arb n finds
+        (own_poll h (suc n) (v h.on).slot finds) limit cut h refl refl refl (has_channel b plain h hop (tree.within h.bus h may.finds.2 may.finds.1)) arb n finds
   select_kept h (suc n) false arb may =
       absurd (let f : FindsSelect false h (suc n) (v h.on).slot = subst (λ (u : Bool). FindsSelect u h (suc n) (v h.on).slot) arb may.finds.0 in
               let g : suc n ≡ 0 = f.0 in omega arith)

@@ -105,7 +105,7 @@ FindsOpen m (Found h) = ⊥
 
 abbrev pub Finds : BoardView → Job → ℕ → Slots → Type 0
 Finds b (Call bus messages) left v = Unit {0}
-Finds b (Select h) left v = FindsSelect (is_arbitrator h.kind) h left (v h.on).slot × IsAmongHops h (hops b h.bus)
+Finds b (Select h) left v = FindsSelect (is_arbitrator h.kind) h left (v h.on).slot × IsAmongHops h (hops b h.bus) × (h.bus < buses b)
 Finds b (Clear on mux kind) left v = FindsOpen mux (v on).slot × (home_of_mux b mux ≡ on) × IsMuxOf b mux kind
 
 -- the lock of the job's own bus is held, and its own mark is the first, and the only one on that bus

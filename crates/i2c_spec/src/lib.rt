@@ -29,6 +29,33 @@ pub use hop::Hop;
 pub use laws::an_accepted_board_is_a_tree;
 pub use layout::Layout;
 
-pub fn probe()
-    ensures { true ≡ true }
-{}
+mod chip;
+mod conversation;
+mod fair_targets;
+mod flat_states;
+mod flat_world;
+mod joint;
+mod listen;
+mod message;
+mod regs;
+mod said;
+mod site;
+mod state;
+mod transfers;
+#[cfg(test)]
+mod wire_tests;
+mod world;
+
+pub use chip::PlainChip;
+pub use conversation::talk;
+pub use fair_targets::{chips_are_fair, openings_are_quiet, regs_are_fair, states_are_fair};
+pub use flat_states::PlainFlat;
+pub use flat_world::flat;
+pub use listen::{Listen, Wires};
+pub use message::PlainMessage;
+pub use regs::{PlainPhase, PlainRegs};
+pub use said::PlainSaid;
+pub use site::PlainSite;
+pub use state::PlainState;
+pub use transfers::talk_all;
+pub use world::{PlainWorld, open_devices};

@@ -1,0 +1,28 @@
+//! What the tables of the targets promise: laws, each on a function that does nothing.
+
+ghost use Rattle.i2c_base.specs.Board.{DeviceView};
+ghost use Rattle.i2c_base.specs.declared.board.MuxSpec.{MuxSpec};
+ghost use Rattle.i2c_spec.specs.Regs.{regs_table};
+ghost use Rattle.i2c_spec.specs.Chips.{chip_table, chip_opening};
+ghost use Rattle.i2c_spec.specs.Targets.{IsFairTable, IsQuiet, state_table, opening_state};
+
+/// After a stop the register device stays as it is until its next start, and it sends what it says.
+pub fn regs_are_fair()
+    ensures { IsFairTable regs_table }
+{}
+
+/// After a stop a mux chip stays as it is until its next start, and it sends what it says.
+pub fn chips_are_fair()
+    ensures { IsFairTable chip_table }
+{}
+
+/// After a stop a device stays as it is until its next start, and it sends what it says.
+pub fn states_are_fair()
+    ensures { IsFairTable state_table }
+{}
+
+/// Every target is opened so that starts for others and stops leave it as it is.
+pub fn openings_are_quiet()
+    ensures devices { (d : DeviceView) → IsQuiet state_table (opening_state d) }
+    ensures chips { (m : MuxSpec) → IsQuiet chip_table (chip_opening m) }
+{}

@@ -1,0 +1,154 @@
+ghost use Rattle.std.specs.Prelude.{◌≡◌, ◌≤◌, ◌==◌, [], Bool, length, IfOk};
+ghost use Rattle.std.specs.List.{list_any};
+ghost use Rattle.i2c_base.specs.Transfer.{is_read};
+ghost use Rattle.i2c_spec.specs.Flat as spec;
+ghost use Rattle.i2c_spec.specs.Grant.{grant_of, is_busy};
+ghost use Rattle.i2c_spec.specs.Layouts.{board_of};
+ghost use Rattle.i2c_spec.specs.Plain.{IsPlainBoard};
+
+use crate::{Layout, PlainFlat, PlainSite, PlainState, talk_all};
+use i2c_base::{Bytes, Cut, End, Errno, Grant, Kind, Msg, Reply, SegId, Transfer, Way};
+use std::alloc::{AllocError, Global};
+
+/// One transfer in the flat world, on devices in these states: its reply, and the devices that it leaves.
+pub fn flat(
+    alloc: Global,
+    layout: Layout<'_>,
+    states: Vec<PlainState>,
+    transfer: &Transfer,
+    cut: Cut,
+) -> Result<(Reply, Vec<PlainState>), AllocError>
+    requires plain { IsPlainBoard (board_of layout) }
+    requires room { length states.items ≤ 128 }
+    ensures told { IfOk result (λ told. record { reply = told.0; states = told.1.items }
+        ≡ spec.flat (board_of layout.entry) states.items transfer.now cut) }
+    ensures room { IfOk result (λ told. length told.1.items ≤ 128) }
+{
+    if let Some(errno) = barred(&layout, transfer, cut) {
+        return Ok((Reply::Err(errno), states));
+    }
+    let site = PlainSite::new(layout, SegId(transfer.bus()), transfer.force());
+    let mut now = PlainFlat::idle(alloc, states);
+    let (got, end) = talk_all(
+        alloc,
+        &site,
+        &mut now,
+        BLOCK_LIMIT,
+        transfer.msgs(),
+        transfer.out(),
+        cut,
+    )?;
+    let reply = match errno_of(end) {
+        Some(errno) => Reply::Err(errno),
+        None => done_with(transfer, got.as_slice()),
+    };
+    Ok((reply, now.into_states()))
+}
+
+// SMBus 2.0 has 32 bytes to a block.
+const BLOCK_LIMIT: u8 = 32;
+
+// Why no message of a transfer is sent: it is refused, a port call failed on the way, or the way is barred.
+fn barred(layout: &Layout<'_>, transfer: &Transfer, cut: Cut) -> Option<Errno>
+    requires { IsPlainBoard (board_of layout.now) }
+    ensures { result ≡ spec.barred (board_of layout.now) transfer.now cut }
+{
+    if let Some(errno) = refusal(layout, transfer) {
+        return Some(errno);
+    }
+    if matches!(cut, Cut::Way) {
+        return Some(Errno::Eremoteio);
+    }
+    match layout.way(SegId(transfer.bus())) {
+        Way::Clear => None,
+        Way::NoAck(_) => Some(Errno::Enxio),
+        Way::Held(_) => Some(Errno::Etimedout),
+    }
+}
+
+// A transfer is refused without any step on the bus where the board lacks its bus, where it is plain and its root
+// offers SMBus calls alone, or where the address of one of its messages is busy.
+fn refusal(layout: &Layout<'_>, transfer: &Transfer) -> Option<Errno>
+    requires { IsPlainBoard (board_of layout.now) }
+    ensures { result ≡ spec.refusal (board_of layout.now) transfer.now }
+{
+    if transfer.bus() >= layout.buses() {
+        return Some(Errno::Enodev);
+    }
+    if matches!(transfer.kind(), Kind::Plain)
+        && is_smbus_only(layout, layout.root(SegId(transfer.bus())))
+    {
+        return Some(Errno::Eopnotsupp);
+    }
+    if is_any_busy(layout, transfer) {
+        return Some(Errno::Ebusy);
+    }
+    None
+}
+
+// The root offers SMBus calls alone.
+fn is_smbus_only(layout: &Layout<'_>, root: SegId) -> bool
+    ensures { result ≡ spec.is_smbus_only (board_of layout.now) root }
+{
+    match layout.roots.get(root.0 as usize) {
+        Some(spec) => spec.smbus_only,
+        None => false,
+    }
+}
+
+// The address of one of the messages is busy.
+fn is_any_busy(layout: &Layout<'_>, transfer: &Transfer) -> bool
+    requires { IsPlainBoard (board_of layout.now) }
+    ensures { result ≡ list_any (λ m. is_busy (grant_of (board_of layout.now) transfer.now.bus m.addr transfer.now.force)) transfer.now.msgs }
+{
+    let bus = SegId(transfer.bus());
+    let force = transfer.force();
+    transfer
+        .msgs()
+        .iter()
+        .any(|msg| is_busy(layout.grant(bus, msg.addr, force)))
+}
+
+fn is_busy(grant: Grant) -> bool
+    ensures { result ≡ is_busy grant }
+{
+    match grant {
+        Grant::Busy => true,
+        Grant::Named(_) | Grant::Nobody => false,
+    }
+}
+
+// How a message that ended early makes its transfer fail.
+fn errno_of(end: End) -> Option<Errno>
+    ensures { result ≡ spec.errno_of end }
+{
+    match end {
+        End::Ok => None,
+        End::Nack => Some(Errno::Enxio),
+        End::Slow => Some(Errno::Etimedout),
+        End::Refused => Some(Errno::Eio),
+        End::Proto => Some(Errno::Eproto),
+        End::Cut(_) => Some(Errno::Eremoteio),
+    }
+}
+
+// A transfer that went through: what its reads gave, where one of its messages reads.
+fn done_with(transfer: &Transfer, got: &[u8]) -> Reply
+    requires { length got.now ≤ 4096 }
+    ensures { result ≡ spec.done_with transfer.now got.now }
+{
+    if reads(transfer) {
+        let mut bytes = Bytes::new();
+        bytes.extend(got);
+        Reply::Read(bytes)
+    } else {
+        Reply::Done
+    }
+}
+
+// One of its messages reads.
+fn reads(transfer: &Transfer) -> bool
+    ensures { result ≡ list_any is_read transfer.now.msgs }
+{
+    transfer.msgs().iter().any(Msg::is_read)
+}

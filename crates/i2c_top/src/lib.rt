@@ -1,0 +1,30 @@
+//! The top of the program: the words of the command line to the bytes of the output.
+#![tactic(auto)]
+
+mod command;
+mod front;
+mod journal;
+mod line;
+mod message;
+mod number;
+mod plain;
+mod program;
+mod refusal;
+mod replay;
+mod report;
+mod run;
+mod script;
+mod status;
+mod steps;
+mod text;
+mod write;
+
+pub use journal::Journal;
+pub use line::entry_text;
+pub use program::top;
+pub use replay::replay_call;
+pub use report::report_text;
+pub use status::{BoardRefusal, Status};
+
+#[cfg(test)]
+mod tests;

@@ -1,0 +1,270 @@
+ghost use Rattle.std.specs.Prelude.{◌≡◌, ◌++◌, OnOk, IfOk};
+ghost use Rattle.std.specs.Fmt.{decimal};
+ghost use Rattle.i2c_top.specs.Lines.{lock_text, purpose_text, direction_text, node_text, heard_text, end_text, errno_text, reply_text, cut_text, data_text, part_text, place_text, result_text, level_text, entry_line};
+
+use crate::text::{push_bytes, push_decimal, push_hex, push_joined, push_spaced};
+use i2c_base::{
+    Addr, Cut, End, Entry, Errno, LockId, MuxId, NoMemory, Node, Purpose, Reply, SegId,
+};
+use std::alloc::Global;
+
+/// The name of an error, as Linux's fault-codes has it.
+pub fn errno_name<'a>(errno: Errno) -> &'a [u8]
+    ensures { result.now ≡ errno_text errno }
+{
+    match errno {
+        Errno::Eio => b"EIO",
+        Errno::Enxio => b"ENXIO",
+        Errno::Ebadf => b"EBADF",
+        Errno::Ebusy => b"EBUSY",
+        Errno::Enodev => b"ENODEV",
+        Errno::Einval => b"EINVAL",
+        Errno::Eproto => b"EPROTO",
+        Errno::Ebadmsg => b"EBADMSG",
+        Errno::Eopnotsupp => b"EOPNOTSUPP",
+        Errno::Etimedout => b"ETIMEDOUT",
+        Errno::Eremoteio => b"EREMOTEIO",
+    }
+}
+
+fn push_lock(alloc: Global, out: &mut Vec<u8>, lock: LockId) -> Result<(), NoMemory>
+    ensures { OnOk result (out.new.items ≡ out.old.items ++ lock_text lock) }
+{
+    match lock {
+        LockId::Bus(root) => {
+            push_bytes(out, b"buslock ")?;
+            push_decimal(alloc, out, u64::from(root.0))
+        }
+        LockId::Mux(bus) => {
+            push_bytes(out, b"muxlock ")?;
+            push_decimal(alloc, out, u64::from(bus.0))
+        }
+    }
+}
+
+fn push_purpose(alloc: Global, out: &mut Vec<u8>, purpose: Purpose) -> Result<(), NoMemory>
+    ensures { OnOk result (out.new.items ≡ out.old.items ++ purpose_text purpose) }
+{
+    match purpose {
+        Purpose::Call => push_bytes(out, b"call"),
+        Purpose::Control(mux) => {
+            push_bytes(out, b"mux ")?;
+            push_decimal(alloc, out, u64::from(mux.0))
+        }
+    }
+}
+
+fn push_direction(out: &mut Vec<u8>, reading: bool) -> Result<(), NoMemory>
+    ensures { OnOk result (out.new.items ≡ out.old.items ++ direction_text reading) }
+{
+    push_bytes(out, if reading { b"r" } else { b"w" })
+}
+
+fn push_node(alloc: Global, out: &mut Vec<u8>, node: Node) -> Result<(), NoMemory>
+    ensures { OnOk result (out.new.items ≡ out.old.items ++ node_text node) }
+{
+    match node {
+        Node::Device(device) => {
+            push_bytes(out, b"d")?;
+            push_decimal(alloc, out, u64::from(device.0))
+        }
+        Node::Chip(mux) => {
+            push_bytes(out, b"m")?;
+            push_decimal(alloc, out, u64::from(mux.0))
+        }
+    }
+}
+
+fn push_heard(alloc: Global, out: &mut Vec<u8>, heard: Option<Node>) -> Result<(), NoMemory>
+    ensures { OnOk result (out.new.items ≡ out.old.items ++ heard_text heard) }
+{
+    match heard {
+        None => push_bytes(out, b"none"),
+        Some(node) => push_node(alloc, out, node),
+    }
+}
+
+fn push_end(alloc: Global, out: &mut Vec<u8>, end: End) -> Result<(), NoMemory>
+    ensures { OnOk result (out.new.items ≡ out.old.items ++ end_text end) }
+{
+    match end {
+        End::Ok => push_bytes(out, b"ok"),
+        End::Nack => push_bytes(out, b"nack"),
+        End::Slow => push_bytes(out, b"slow"),
+        End::Refused => push_bytes(out, b"refused"),
+        End::Proto => push_bytes(out, b"proto"),
+        End::Cut(calls) => {
+            push_bytes(out, b"cut ")?;
+            push_decimal(alloc, out, u64::from(calls))
+        }
+    }
+}
+
+fn push_reply(out: &mut Vec<u8>, reply: &Reply) -> Result<(), NoMemory>
+    ensures { OnOk result (out.new.items ≡ out.old.items ++ reply_text reply.now) }
+{
+    match reply {
+        Reply::Done => push_bytes(out, b"done"),
+        Reply::Read(bytes) => {
+            push_bytes(out, b"read")?;
+            push_spaced(out, bytes.as_slice())
+        }
+        Reply::Err(errno) => push_bytes(out, errno_name(*errno)),
+    }
+}
+
+fn push_cut(alloc: Global, out: &mut Vec<u8>, cut: Cut) -> Result<(), NoMemory>
+    ensures { OnOk result (out.new.items ≡ out.old.items ++ cut_text cut) }
+{
+    match cut {
+        Cut::No => Ok(()),
+        Cut::Way => push_bytes(out, b" cut way"),
+        Cut::At { msg, call } => {
+            push_bytes(out, b" cut ")?;
+            push_decimal(alloc, out, u64::from(msg))?;
+            push_bytes(out, b".")?;
+            push_decimal(alloc, out, u64::from(call))
+        }
+    }
+}
+
+// The front of an entry's line: its word, its caller and a further word.
+fn push_front(
+    alloc: Global,
+    out: &mut Vec<u8>,
+    word: &[u8],
+    caller: u8,
+    next: &[u8],
+) -> Result<(), NoMemory>
+    ensures { OnOk result (out.new.items ≡ out.old.items ++ (word.now ++ (decimal caller ++ next.now))) }
+{
+    push_bytes(out, word)?;
+    push_decimal(alloc, out, u64::from(caller))?;
+    push_bytes(out, next)
+}
+
+// The front of a message's line.
+fn push_place(alloc: Global, out: &mut Vec<u8>, caller: u8, bus: SegId) -> Result<(), NoMemory>
+    ensures { OnOk result (out.new.items ≡ out.old.items ++ place_text caller bus) }
+{
+    push_front(alloc, out, b"msg ", caller, b" bus ")?;
+    push_decimal(alloc, out, u64::from(bus.0))?;
+    push_bytes(out, b" ")
+}
+
+// The direction, the address and the bytes of a message.
+fn push_data(out: &mut Vec<u8>, addr: Addr, reading: bool, bytes: &[u8]) -> Result<(), NoMemory>
+    ensures { OnOk result (out.new.items ≡ out.old.items ++ data_text addr reading bytes.now) }
+{
+    push_direction(out, reading)?;
+    push_bytes(out, b" 0x")?;
+    push_hex(out, addr.get())?;
+    push_bytes(out, b" [")?;
+    push_joined(out, bytes)?;
+    push_bytes(out, b"] ")
+}
+
+// Which message of how many, and why it is sent.
+fn push_part(
+    alloc: Global,
+    out: &mut Vec<u8>,
+    purpose: Purpose,
+    part: u8,
+    parts: u8,
+) -> Result<(), NoMemory>
+    ensures { OnOk result (out.new.items ≡ out.old.items ++ part_text purpose part parts) }
+{
+    push_purpose(alloc, out, purpose)?;
+    push_bytes(out, b" ")?;
+    push_decimal(alloc, out, u64::from(part))?;
+    push_bytes(out, b"/")?;
+    push_decimal(alloc, out, u64::from(parts))?;
+    push_bytes(out, b" ")
+}
+
+// Who heard a message, and how it ended.
+fn push_result(
+    alloc: Global,
+    out: &mut Vec<u8>,
+    heard: Option<Node>,
+    end: End,
+) -> Result<(), NoMemory>
+    ensures { OnOk result (out.new.items ≡ out.old.items ++ result_text heard end) }
+{
+    push_bytes(out, b"heard ")?;
+    push_heard(alloc, out, heard)?;
+    push_bytes(out, b" ")?;
+    push_end(alloc, out, end)
+}
+
+fn push_level(
+    alloc: Global,
+    out: &mut Vec<u8>,
+    mux: MuxId,
+    level: u8,
+    failed: bool,
+) -> Result<(), NoMemory>
+    ensures { OnOk result (out.new.items ≡ out.old.items ++ level_text mux level failed) }
+{
+    push_decimal(alloc, out, u64::from(mux.0))?;
+    push_bytes(out, b" level ")?;
+    push_decimal(alloc, out, u64::from(level))?;
+    push_bytes(out, b" ")?;
+    push_bytes(out, if failed { b"cut" } else { b"ok" })
+}
+
+// The line of an entry, without its end.
+fn push_entry(alloc: Global, out: &mut Vec<u8>, entry: &Entry) -> Result<(), NoMemory>
+    ensures { OnOk result (out.new.items ≡ out.old.items ++ entry_line entry.now) }
+{
+    match entry {
+        Entry::Take { caller, lock } => {
+            push_front(alloc, out, b"take ", *caller, b" ")?;
+            push_lock(alloc, out, *lock)
+        }
+        Entry::Free { caller, lock } => {
+            push_front(alloc, out, b"free ", *caller, b" ")?;
+            push_lock(alloc, out, *lock)
+        }
+        Entry::Message {
+            caller,
+            bus,
+            purpose,
+            part,
+            parts,
+            addr,
+            reading,
+            bytes,
+            heard,
+            end,
+        } => {
+            push_place(alloc, out, *caller, *bus)?;
+            push_part(alloc, out, *purpose, *part, *parts)?;
+            push_data(out, *addr, *reading, bytes.as_slice())?;
+            push_result(alloc, out, *heard, *end)
+        }
+        Entry::Line {
+            caller,
+            mux,
+            level,
+            failed,
+        } => {
+            push_front(alloc, out, b"line ", *caller, b" mux ")?;
+            push_level(alloc, out, *mux, *level, *failed)
+        }
+        Entry::Settle { caller, reply, cut } => {
+            push_front(alloc, out, b"settle ", *caller, b" ")?;
+            push_reply(out, reply)?;
+            push_cut(alloc, out, *cut)
+        }
+    }
+}
+
+/// The line of an entry, without its end.
+pub fn entry_text(alloc: Global, entry: &Entry) -> Result<Vec<u8>, NoMemory>
+    ensures { IfOk result (λ text. text.items ≡ entry_line entry.now) }
+{
+    let mut out = Vec::new(alloc);
+    push_entry(alloc, &mut out, entry)?;
+    Ok(out)
+}

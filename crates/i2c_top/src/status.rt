@@ -1,0 +1,77 @@
+ghost use Rattle.std.specs.Prelude.{◌≡◌};
+ghost use Rattle.i2c_top.specs.Status.{code_of};
+ghost use Rattle.i2c_top.specs.declared.status.Status.TheVariants.{Memory as NoRoomToRun};
+
+use i2c_base::NoMemory;
+use std::alloc::{AllocError, AllocFailed};
+
+/// Why a board was refused.
+#[derive(Clone, Copy, Debug, PartialEq, Eq, Hash)]
+pub enum BoardRefusal {
+    /// Its text is not in the plain form.
+    Plain,
+}
+
+/// How a call of the program ended.
+#[derive(Clone, Copy, Debug, PartialEq, Eq, Hash)]
+pub enum Status {
+    Ok,
+    /// The words are none of the forms.
+    Usage,
+    Board(BoardRefusal),
+    /// The first line of a script, from 1, that the grammar doesn't have, and its refused word, from 0.
+    Script { caller: u8, line: u32, word: u16 },
+    /// The scripts' cost, which is above the limit.
+    Cost(u64),
+    /// The file that is named at this place of the words was not read.
+    Read(u8),
+    Write,
+    Memory,
+    Rig,
+    /// The first word of the schedule, from 0, that is no caller's number.
+    Schedule(u32),
+}
+
+impl Status {
+    /// The exit status of the program.
+    pub fn code(&self) -> u8
+        ensures { result ≡ code_of self.now }
+    {
+        match self {
+            Status::Ok => 0,
+            Status::Usage => 2,
+            Status::Board(_) => 3,
+            Status::Script { .. } => 4,
+            Status::Cost(_) => 4,
+            Status::Read(_) => 5,
+            Status::Write => 6,
+            Status::Memory => 7,
+            Status::Rig => 8,
+            Status::Schedule(_) => 9,
+        }
+    }
+}
+
+impl From<NoMemory> for Status {
+    ghost from_gives = { λ _ e. e ≡ NoRoomToRun };
+
+    fn from(_error: NoMemory) -> Self {
+        Status::Memory
+    }
+}
+
+impl From<AllocError> for Status {
+    ghost from_gives = { λ _ e. e ≡ NoRoomToRun };
+
+    fn from(_error: AllocError) -> Self {
+        Status::Memory
+    }
+}
+
+impl<T: Drop> From<AllocFailed<T>> for Status {
+    ghost from_gives = { λ _ e. e ≡ NoRoomToRun };
+
+    fn from(_error: AllocFailed<T>) -> Self {
+        Status::Memory
+    }
+}

@@ -1,0 +1,30 @@
+ghost use Rattle.std.specs.Prelude.{◌≡◌, ◌≤◌, ◌++◌, ℕ, length, take, drop, true, false, IsTrue};
+ghost use Rattle.i2c_outside.specs.Causes.{Rose};
+ghost use Rattle.i2c_top.specs.Written.{HasFront};
+
+use i2c_outside::Sink;
+
+// What stands behind the first bytes of a text.
+fn rest(text: &[u8], done: usize) -> &[u8]
+    requires { done ≤ length text.now }
+    ensures { result.now ≡ drop done text.now }
+{
+    &text[done..]
+}
+
+/// Writes a text piece by piece until all of it is out, and says whether it is. Else its front was written.
+pub fn write_all<K: Sink>(sink: &mut K, text: &[u8]) -> bool
+    ensures cause { result ≡ false → Rose (K.faults sink.old) (K.faults sink.new) }
+    ensures later { K.faults sink.old ≤ K.faults sink.new }
+    ensures whole { IsTrue K.tells → result ≡ true → K.bytes sink.new ≡ K.bytes sink.old ++ text.now }
+    ensures front { IsTrue K.tells → HasFront (K.bytes sink.old) text.now (K.bytes sink.new) }
+{
+    let mut done = 0usize;
+    while done < text.len() {
+        match sink.write(rest(text, done)) {
+            Ok(count) => done += count,
+            Err(_) => return false,
+        }
+    }
+    true
+}
