@@ -23,3 +23,6 @@ pub mod WorldLines
 pub mod StandsFacts
 -- The devices law: one message over two listeners, and over a root's world and the flat world.
 pub mod DevicesTalk
+pub mod DevicesStates
+pub mod DevicesHears
+pub mod DevicesSame
