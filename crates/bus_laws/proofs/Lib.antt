@@ -26,3 +26,4 @@ pub mod DevicesTalk
 pub mod DevicesStates
 pub mod DevicesHears
 pub mod DevicesSame
+pub mod DevicesGrant
