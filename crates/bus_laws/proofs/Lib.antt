@@ -27,3 +27,5 @@ pub mod DevicesStates
 pub mod DevicesHears
 pub mod DevicesSame
 pub mod DevicesGrant
+pub mod DevicesStops
+pub mod DevicesParts

@@ -1,5 +1,5 @@
 -- The devices of a root's world beside those of the flat world, and messages over both.
-use Rattle.std.specs.Prelude.{◌≡◌, ℕ, ◌+◌, ◌<◌, ◌==◌, Bool, true, false, ◌&&◌, List, [], ◌∷◌, ◌++◌, Option, Some, None, slice_get, if◌then◌else◌}
+use Rattle.std.specs.Prelude.{◌≡◌, ℕ, ◌+◌, ◌<◌, ◌==◌, Bool, true, false, ◌&&◌, ◌⊎◌, List, [], ◌∷◌, ◌++◌, Option, Some, None, slice_get, if◌then◌else◌}
 use Rattle.std.specs.List.{AllByRecursion}
 use Rattle.i2c_base.specs.declared.ids.Node.{Node}
 use Rattle.i2c_base.specs.declared.ids.Node.TheVariants as node
@@ -71,3 +71,13 @@ talk_more l limit m ends cut a =
     if is_good a.end
     then (let t : TalkTold _ = talk l limit a.now m ends cut in record { bytes = with_read a.bytes m t; now = t.now; end = t.end })
     else a
+
+-- what is said of a transfer grows by one message of a root's world
+pub record GrowsAlike (b : BoardView) (r : ℕ) (m : MessageView) (before : AllTold FlatListener) (t : TalkTold World) (all : AllTold FlatListener) : Type 0 where
+  pub bytes : all.bytes ≡ with_read before.bytes m t
+  pub end : all.end ≡ t.end
+  pub now : Same b r t.now all.now
+
+-- a transfer ends with a message that is its last, or that didn't go through
+abbrev pub EndsTransfer : Bool → End → Type 0
+EndsTransfer last e = (last ≡ true) ⊎ (is_good e ≡ false)
