@@ -13,7 +13,7 @@ use Rattle.i2c_base.specs.Board.{DeviceView, RunView}
 use Rattle.i2c_spec.specs.Regs.{RegsView, RegsPhase, Idle, Pointer, Data, Read, regs_sends, regs_put, regs_get, regs_opening, write_run, write_runs}
 use Rattle.i2c_spec.specs.Targets.{TargetState, Regs, Silent, state_table, state_after, state_answer, state_of, opening_state, IsQuiet, IsFairTable}
 use Rattle.i2c_spec.specs.World.{byte_of, has_heard, is_ack, is_slow}
-use Rattle.bus_laws.specs.Alike.{IsByte, HoldsBytes}
+use Rattle.bus_laws.specs.Alike.{IsByte, HoldsBytes, RunsHoldBytes}
 
 pub stopped_quiet : (x : TargetState) → IsQuiet state_table (state_after x event.Stop)
 stopped_quiet (Regs x) = record { other = refl; stop = refl }
@@ -122,9 +122,6 @@ append_bytes (x ∷ xs) ys hx hy = (hx.0, append_bytes xs ys hx.1 hy)
 zero_bytes : (n : ℕ) → AllByRecursion IsByte (replicate n 0)
 zero_bytes zero = tt
 zero_bytes (suc n) = (let f : 0 < 256 = omega arith in f, zero_bytes n)
-
-abbrev pub RunsHoldBytes : List RunView → Type 0
-RunsHoldBytes runs = AllByRecursion (λ (r : RunView). AllByRecursion IsByte r.bytes) runs
 
 runs_bytes : (runs : List RunView) (memory : List ℕ) → RunsHoldBytes runs → AllByRecursion IsByte memory → AllByRecursion IsByte (write_runs memory runs)
 runs_bytes [] memory all held = held

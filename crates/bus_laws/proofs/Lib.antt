@@ -29,3 +29,4 @@ pub mod DevicesSame
 pub mod DevicesGrant
 pub mod DevicesStops
 pub mod DevicesParts
+pub mod DevicesStay

@@ -6,7 +6,7 @@ use Rattle.i2c_base.specs.declared.ids.Node.TheVariants as node
 use Rattle.i2c_base.specs.declared.port.PortCall.{PortCall}
 use Rattle.i2c_base.specs.declared.entry.End.{End}
 use Rattle.i2c_base.specs.declared.entry.End.TheVariants as end
-use Rattle.i2c_base.specs.Board.{BoardView}
+use Rattle.i2c_base.specs.Board.{BoardView, RunView}
 use Rattle.i2c_spec.specs.Tree.{root_of, of_device}
 use Rattle.i2c_spec.specs.Targets.{TargetState, Regs, Silent, IsQuiet, state_table}
 use Rattle.i2c_spec.specs.Messages.{MessageView}
@@ -25,6 +25,13 @@ IsByte byte = byte < 256
 abbrev pub HoldsBytes : TargetState → Type 0
 HoldsBytes (Regs x) = AllByRecursion IsByte x.memory
 HoldsBytes Silent = Unit {0}
+
+-- what a board writes into its devices are bytes
+abbrev pub RunsHoldBytes : List RunView → Type 0
+RunsHoldBytes runs = AllByRecursion (λ r. AllByRecursion IsByte r.bytes) runs
+
+abbrev pub IsByteBoard : BoardView → Type 0
+IsByteBoard b = AllByRecursion (λ d. RunsHoldBytes d.set) b.devices
 
 -- who listens to the message in progress, as a world lists it
 abbrev pub listening : Option ℕ → List Node
@@ -49,6 +56,10 @@ pub record LeadsTo (w : World) (a : ℕ) (granted : Option ℕ) : Type 0 where
   pub joined : (d : ℕ) → granted ≡ Some d → joins_device w d ≡ true
   pub addressed : (d : ℕ) → granted ≡ Some d → of_device (λ x. x.addr == a) false w.board d ≡ true
   pub chips : (reading : Bool) → heard_of node.Chip (start_chips w a reading) ≡ []
+
+-- in this world no device has the address, as with the message that switches a mux
+abbrev pub IsControl : World → ℕ → Type 0
+IsControl w a = (d : ℕ) → joins_device w d ≡ true → of_device (λ x. x.addr == a) false w.board d ≡ true → ⊥
 
 -- one message over two listeners: the same calls, bytes and end, and related listeners
 pub record ToldAlike {W V : Type 0} (R : W → V → Type 0) (t : TalkTold W) (u : TalkTold V) : Type 0 where
