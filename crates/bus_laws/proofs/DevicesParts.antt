@@ -1,14 +1,17 @@
 -- The messages of a transfer, one after the other. The inductions go over the messages.
-use Rattle.std.proofs.Common.{◌≡◌, ℕ, zero, suc, ◌+◌, Bool, true, false, cond, ◌&&◌, List, [], ◌∷◌, ◌++◌, length, Option, Some, None, refl, sym, ◌∙◌, ap, subst, arith, add-zero, zero-add}
+use Rattle.std.proofs.Common.{◌≡◌, ℕ, zero, suc, ◌+◌, ◌<◌, Bool, true, false, cond, ◌&&◌, List, [], ◌∷◌, ◌++◌, length, Option, Some, None, refl, sym, ◌∙◌, ap, subst, arith, add-zero, zero-add, append-nil, inl, inr}
 use Rattle.std.specs.List.{AllByRecursion}
 use Rattle.i2c_base.specs.declared.entry.End.{End}
 use Rattle.i2c_base.specs.declared.entry.End.TheVariants as end
 use Rattle.i2c_base.specs.Board.{BoardView}
-use Rattle.i2c_spec.specs.Messages.{MessageView}
+use Rattle.i2c_base.specs.declared.reply.Cut.{Cut}
+use Rattle.i2c_base.specs.Transfer.{TransferView}
+use Rattle.i2c_spec.specs.Targets.{TargetState}
+use Rattle.i2c_spec.specs.Messages.{MessageView, messages_of}
 use Rattle.i2c_spec.specs.World.{World}
-use Rattle.i2c_spec.specs.Flat.{FlatListener, flat_listener}
+use Rattle.i2c_spec.specs.Flat.{FlatListener, idle, flat_listener, granted_on, block_limit, cut_in, flat_messages}
 use Rattle.i2c_spec.specs.Conversation.{Listener, world_listener, TalkTold, AllTold, talk, talk_all, is_empty, is_good, with_read}
-use Rattle.bus_laws.specs.Alike.{Same, LeadsTo, IsByte, ToldAlike, talk_part, talk_more, GrowsAlike}
+use Rattle.bus_laws.specs.Alike.{Same, LeadsTo, IsByte, ToldAlike, talk_part, talk_more, GrowsAlike, EndsTransfer}
 use Rattle.bus_laws.proofs.DevicesSame.{message-alike}
 
 and_true : (t : Bool) → (t && true) ≡ t
@@ -88,6 +91,48 @@ module _ {W : Type 0} (l : Listener W) (limit : ℕ) (cuts : ℕ → Option ℕ)
             ∙ ap (λ (g : Bool). talk_more l limit m ends (cuts (i + 1 + length xs))
                 (cond g (talk_part l limit t.now xs false (i + 1) cuts (with_read got x t)) (all_told got x t t.end))) (sym bad)
 
+  -- which cuts are told of other messages doesn't matter
+  pub part-cuts : (other : ℕ → Option ℕ) (w : W) (ms : List MessageView) (ends : Bool) (i : ℕ) (got : List ℕ) → ((j : ℕ) → j < length ms → cuts (i + j) ≡ other (i + j))
+      → talk_part l limit w ms ends i cuts got ≡ talk_part l limit w ms ends i other got
+  part-cuts other w [] ends i got same = refl
+  part-cuts other w (m ∷ ms) ends i got same =
+      ap (λ (c : Option ℕ). told_then got m (talk l limit w m (is_empty ms && ends) c) (λ t. talk_part l limit t.now ms ends (i + 1) cuts (with_read got m t)))
+          (ap cuts (sym (add-zero i)) ∙ same 0 (omega arith) ∙ ap other (add-zero i))
+        ∙ ap (λ (all : AllTold W). cond (is_good (talk l limit w m (is_empty ms && ends) (other i)).end) all
+            (all_told got m (talk l limit w m (is_empty ms && ends) (other i)) (talk l limit w m (is_empty ms && ends) (other i)).end))
+          (part-cuts other (talk l limit w m (is_empty ms && ends) (other i)).now ms ends (i + 1) (with_read got m (talk l limit w m (is_empty ms && ends) (other i)))
+            (λ j below. (let e : i + 1 + j ≡ i + suc j = omega arith in ap cuts e ∙ same (suc j) (omega arith) ∙ ap other (sym e))))
+
+  -- a message that doesn't go through is the last of its transfer, whatever would follow
+  pub part-stops : (w : W) (ms : List MessageView) (y : MessageView) (rest : List MessageView) (i : ℕ) (got : List ℕ) → is_good (talk_part l limit w ms false i cuts got).end ≡ false
+      → talk_all l limit w (ms ++ y ∷ rest) i cuts got ≡ talk_part l limit w ms false i cuts got
+  part-stops w [] y rest i got bad = absurd (let f : true ≡ false = bad in cc)
+  part-stops w (m ∷ ms) y rest i got bad =
+      ap (λ (last : Bool). told_then got m (talk l limit w m last (cuts i)) (λ t. talk_all l limit t.now (ms ++ y ∷ rest) (i + 1) cuts (with_read got m t))) (more_empty ms)
+        ∙ by (is_good (talk l limit w m false (cuts i)).end) refl
+            (part-stops (talk l limit w m false (cuts i)).now ms y rest (i + 1) (with_read got m (talk l limit w m false (cuts i))))
+            (sym (ap (λ (last : Bool). is_good (told_then got m (talk l limit w m last (cuts i)) (λ t. talk_part l limit t.now ms false (i + 1) cuts (with_read got m t))).end) (and_false (is_empty ms))) ∙ bad)
+        ∙ ap (λ (last : Bool). told_then got m (talk l limit w m last (cuts i)) (λ t. talk_part l limit t.now ms false (i + 1) cuts (with_read got m t))) (sym (and_false (is_empty ms)))
+    where
+      more_empty : (xs : List MessageView) → is_empty (xs ++ y ∷ rest) ≡ false
+      more_empty [] = refl
+      more_empty (x ∷ xs) = refl
+      by : (good : Bool) → is_good (talk l limit w m false (cuts i)).end ≡ good
+          → (is_good (talk_part l limit (talk l limit w m false (cuts i)).now ms false (i + 1) cuts (with_read got m (talk l limit w m false (cuts i)))).end ≡ false
+              → talk_all l limit (talk l limit w m false (cuts i)).now (ms ++ y ∷ rest) (i + 1) cuts (with_read got m (talk l limit w m false (cuts i)))
+                ≡ talk_part l limit (talk l limit w m false (cuts i)).now ms false (i + 1) cuts (with_read got m (talk l limit w m false (cuts i))))
+          → is_good (told_then got m (talk l limit w m false (cuts i)) (λ t. talk_part l limit t.now ms false (i + 1) cuts (with_read got m t))).end ≡ false
+          → told_then got m (talk l limit w m false (cuts i)) (λ t. talk_all l limit t.now (ms ++ y ∷ rest) (i + 1) cuts (with_read got m t))
+            ≡ told_then got m (talk l limit w m false (cuts i)) (λ t. talk_part l limit t.now ms false (i + 1) cuts (with_read got m t))
+      by true good same ill =
+          let t : TalkTold W = talk l limit w m false (cuts i) in
+          ap (λ (all : AllTold W). cond (is_good t.end) all (all_told got m t t.end))
+            (same (sym (ap (λ (g : Bool). is_good (cond g (talk_part l limit t.now ms false (i + 1) cuts (with_read got m t)) (all_told got m t t.end)).end) good) ∙ ill))
+      by false ended same ill =
+          let t : TalkTold W = talk l limit w m false (cuts i) in
+          ap (λ (g : Bool). cond g (talk_all l limit t.now (ms ++ y ∷ rest) (i + 1) cuts (with_read got m t)) (all_told got m t t.end)) ended
+            ∙ ap (λ (g : Bool). cond g (talk_part l limit t.now ms false (i + 1) cuts (with_read got m t)) (all_told got m t t.end)) (sym ended)
+
 grown : (b : BoardView) (r : ℕ) (m : MessageView) (granted : ℕ → Option ℕ) (limit : ℕ) (w : World) (ends : Bool) (cut : Option ℕ) (a : AllTold FlatListener) → is_good a.end ≡ true
     → Same b r w a.now → LeadsTo w m.addr (granted m.addr) → AllByRecursion IsByte m.bytes
     → GrowsAlike b r m a (talk world_listener limit w m ends cut) (talk_more (flat_listener granted) limit m ends cut a)
@@ -112,3 +157,25 @@ part-grows b r granted limit f ms cuts w m ends good same leads bytes =
     subst (λ (a : AllTold FlatListener). GrowsAlike b r m (talk_part (flat_listener granted) limit f ms false 0 cuts []) (talk world_listener limit w m ends (cuts (length ms))) a)
       (sym (part-more (flat_listener granted) limit cuts f ms m ends 0 [] ∙ ap (λ (n : ℕ). talk_more (flat_listener granted) limit m ends (cuts n) (talk_part (flat_listener granted) limit f ms false 0 cuts [])) (zero-add (length ms))))
       (grown b r m granted limit w ends (cuts (length ms)) (talk_part (flat_listener granted) limit f ms false 0 cuts []) good same leads bytes)
+
+-- the messages that were said, up to the one that ended the transfer, are the whole transfer in the flat world
+pub part-whole : (b : BoardView) (xs : List TargetState) (t : TransferView) (cut : Cut) (cuts : ℕ → Option ℕ) (ms rest : List MessageView)
+    → messages_of t ≡ ms ++ rest → ((j : ℕ) → j < length ms → cuts j ≡ cut_in cut j)
+    → EndsTransfer (is_empty rest) (talk_part (flat_listener (granted_on b t.bus t.force)) (block_limit b) (idle xs) ms (is_empty rest) 0 cuts []).end
+    → flat_messages b xs t cut ≡ talk_part (flat_listener (granted_on b t.bus t.force)) (block_limit b) (idle xs) ms (is_empty rest) 0 cuts []
+part-whole b xs t cut cuts ms rest all same over =
+    ap (λ (ys : List MessageView). talk_all l (block_limit b) (idle xs) ys 0 (cut_in cut) []) all ∙ by rest over
+      ∙ sym (part-cuts l (block_limit b) cuts (cut_in cut) (idle xs) ms (is_empty rest) 0 [] (λ j below. ap cuts (zero-add j) ∙ same j below ∙ ap (cut_in cut) (sym (zero-add j))))
+  where
+    l : Listener FlatListener
+    l = flat_listener (granted_on b t.bus t.force)
+    again : (ends : Bool) → talk_part l (block_limit b) (idle xs) ms ends 0 cuts [] ≡ talk_part l (block_limit b) (idle xs) ms ends 0 (cut_in cut) []
+    again ends = part-cuts l (block_limit b) cuts (cut_in cut) (idle xs) ms ends 0 [] (λ j below. ap cuts (zero-add j) ∙ same j below ∙ ap (cut_in cut) (sym (zero-add j)))
+    by : (ys : List MessageView) → EndsTransfer (is_empty ys) (talk_part l (block_limit b) (idle xs) ms (is_empty ys) 0 cuts []).end
+        → talk_all l (block_limit b) (idle xs) (ms ++ ys) 0 (cut_in cut) [] ≡ talk_part l (block_limit b) (idle xs) ms (is_empty ys) 0 (cut_in cut) []
+    by [] e =
+        ap (λ (zs : List MessageView). talk_all l (block_limit b) (idle xs) zs 0 (cut_in cut) []) (append-nil ms) ∙ sym (part-all l (block_limit b) (cut_in cut) (idle xs) ms 0 [])
+    by (y ∷ ys) e =
+        elim e [
+          inl last ↦ absurd (let f : false ≡ true = last in cc)
+        | inr bad ↦ part-stops l (block_limit b) (cut_in cut) (idle xs) ms y ys 0 [] (sym (ap (λ (a : AllTold FlatListener). is_good a.end) (again false)) ∙ bad) ]

@@ -28,7 +28,7 @@ use Rattle.bus_laws.proofs.WorldReach.{start_heard, other_state}
 use Rattle.bus_laws.proofs.WorldHears.{swap_along, device_address}
 use Rattle.bus_laws.proofs.DevicesStates.{opening-quiet, opening-bytes}
 use Rattle.bus_laws.proofs.DevicesHears.{fed-at, map-same, map-from}
-use Rattle.bus_laws.proofs.DevicesSame.{joined_of, is_it-some}
+use Rattle.bus_laws.proofs.DevicesSame.{joined_of, is_it-some, stop-same}
 use Rattle.bus_laws.proofs.DevicesStops.{world-settled}
 
 -- no device is among the chips that hear
@@ -148,6 +148,25 @@ control-same b r limit w xs m cut s control =
       joined = λ d e. absurd (let g : false ≡ true = e in cc);
       current = λ d e. absurd (let g : None ≡ Some d = e in cc);
     }
+
+-- so does a line step, also one that failed
+pub line-same : (b : BoardView) (r : ℕ) (w : World) (xs : List TargetState) (m level : ℕ) → Same b r w (idle xs) → Same b r (after w (call.Line m level)) (idle xs)
+line-same b r w xs m level s =
+    record {
+      board = s.board;
+      root = s.root;
+      states = s.states;
+      bytes = s.bytes;
+      quiet = s.quiet;
+      hearing = s.hearing;
+      joined = λ d e. absurd (let g : false ≡ true = e in cc);
+      current = s.current;
+    }
+
+pub fault-same : (b : BoardView) (r : ℕ) (w : World) (xs : List TargetState) → Same b r w (idle xs) → Same b r (after w call.Fault) (idle xs)
+fault-same b r w xs s =
+    subst (λ (ys : List TargetState). Same b r (after w call.Fault) (idle ys)) (feed-same state_table (to_named [] event.Stop) 0 xs (λ i x at. refl))
+      (stop-same b r w (idle xs) s (λ a. None))
 
 -- no device along its bus has the address of a mux chip there
 pub chip-control : (b : BoardView) (w : World) (s m a : ℕ) → w.board ≡ b → IsTree b → ((u : ℕ) → is_joined w u ≡ true → IsAlong b s u)
