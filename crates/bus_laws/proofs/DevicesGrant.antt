@@ -4,8 +4,7 @@ use Rattle.std.proofs.Common.{◌≡◌, ℕ, zero, suc, ◌+◌, Bool, true, fa
 use Rattle.std.specs.Prelude.{slice_get, unwrap_or}
 use Rattle.std.specs.List.{list_any, list_all, position_from}
 use Rattle.std.specs.Option.{option_map}
-use Rattle.std.proofs.lemmas.Bool.{eqb-true, eq-eqb, and_from}
-use Rattle.i2c_base.specs.declared.ids.Node.{Node}
+use Rattle.std.proofs.lemmas.Bool.{eqb-true, and_from}
 use Rattle.i2c_base.specs.declared.ids.Node.TheVariants as node
 use Rattle.i2c_base.specs.declared.tree.Grant.{Grant}
 use Rattle.i2c_base.specs.declared.tree.Grant.TheVariants as grant
@@ -24,20 +23,25 @@ crossed_along : (b : BoardView) → IsTree b → (hs : List Hop) (s u v : ℕ) �
 crossed_along b tree [] s u v at cu cv = absurd cu
 crossed_along b tree (h ∷ hs) s u v at cu cv =
     elim cu [
-      inl eu ↦ elim cv [
-        inl ev ↦ inl (inl (sym eu ∙ ev))
-      | inr mv ↦ inr (inr (subst (λ (xs : List Hop). Crosses v xs) (sym (tree.tail s h hs at) ∙ ap (λ (i : ℕ). hops b i) eu) mv)) ]
-    | inr mu ↦ elim cv [
-        inl ev ↦ inl (inr (subst (λ (xs : List Hop). Crosses u xs) (sym (tree.tail s h hs at) ∙ ap (λ (i : ℕ). hops b i) ev) mu))
-      | inr mv ↦ crossed_along b tree hs h.on u v (tree.tail s h hs at) mu mv ] ]
+      | inl eu ↦ elim cv [
+        | inl ev ↦ inl (inl (sym eu ∙ ev))
+        | inr mv ↦ inr (inr (subst (λ (xs : List Hop). Crosses v xs) (sym (tree.tail s h hs at) ∙ ap (λ (i : ℕ). hops b i) eu) mv))
+      ]
+      | inr mu ↦ elim cv [
+        | inl ev ↦ inl (inr (subst (λ (xs : List Hop). Crosses u xs) (sym (tree.tail s h hs at) ∙ ap (λ (i : ℕ). hops b i) ev) mu))
+        | inr mv ↦ crossed_along b tree hs h.on u v (tree.tail s h hs at) mu mv
+      ]
+    ]
 
 pub over_along : (b : BoardView) → IsTree b → (s u v : ℕ) → IsOver b u s → IsOver b v s → IsAlong b u v
 over_along b tree s u v ou ov =
     elim ou [
-      inl eu ↦ inr (subst (λ (i : ℕ). IsOver b v i) (sym eu) ov)
-    | inr cu ↦ elim ov [
-        inl ev ↦ inl (subst (λ (i : ℕ). IsOver b u i) (sym ev) (inr cu))
-      | inr cv ↦ crossed_along b tree (hops b s) s u v refl cu cv ] ]
+      | inl eu ↦ inr (subst (λ (i : ℕ). IsOver b v i) (sym eu) ov)
+      | inr cu ↦ elim ov [
+        | inl ev ↦ inl (subst (λ (i : ℕ). IsOver b u i) (sym ev) (inr cu))
+        | inr cv ↦ crossed_along b tree (hops b s) s u v refl cu cv
+      ]
+    ]
 
 -- the test of a path, read back
 any_crosses : (u : ℕ) (hs : List Hop) → list_any (λ (h : Hop). eqb h.on u) hs ≡ true → Crosses u hs
@@ -61,24 +65,25 @@ joined_crossed w tree [] s u at joined c = absurd c
 joined_crossed w tree (h ∷ hs) s u at joined c =
     let rooted : eqb (root_of w.board s) w.root ≡ true = and_left (eqb (root_of w.board s) w.root) (list_all (opens_hop w.chips) (hops w.board s)) joined in
     let all : list_all (opens_hop w.chips) (h ∷ hs) ≡ true =
-      ap (λ (xs : List Hop). list_all (opens_hop w.chips) xs) (sym at) ∙ and_right (eqb (root_of w.board s) w.root) (list_all (opens_hop w.chips) (hops w.board s)) joined in
+    ap (λ (xs : List Hop). list_all (opens_hop w.chips) xs) (sym at) ∙ and_right (eqb (root_of w.board s) w.root) (list_all (opens_hop w.chips) (hops w.board s)) joined in
     let same : root_of w.board h.on ≡ root_of w.board s = tree.root_same s h (subst (λ (xs : List Hop). IsAmongHops h xs) (sym at) (inl refl)) in
     let above : is_joined w h.on ≡ true =
-      and_from (eqb (root_of w.board h.on) w.root) (list_all (opens_hop w.chips) (hops w.board h.on)) (ap (λ (i : ℕ). eqb i w.root) same ∙ rooted)
-        (ap (λ (xs : List Hop). list_all (opens_hop w.chips) xs) (tree.tail s h hs at) ∙ and_right (opens_hop w.chips h) (list_all (opens_hop w.chips) hs) all) in
+    and_from (eqb (root_of w.board h.on) w.root) (list_all (opens_hop w.chips) (hops w.board h.on)) (ap (λ (i : ℕ). eqb i w.root) same ∙ rooted)
+    (ap (λ (xs : List Hop). list_all (opens_hop w.chips) xs) (tree.tail s h hs at) ∙ and_right (opens_hop w.chips h) (list_all (opens_hop w.chips) hs) all) in
     elim c [
-      inl e ↦ ap (λ (i : ℕ). is_joined w i) (sym e) ∙ above
-    | inr more ↦ joined_crossed w tree hs h.on u (tree.tail s h hs at) above more ]
+      | inl e ↦ ap (λ (i : ℕ). is_joined w i) (sym e) ∙ above
+      | inr more ↦ joined_crossed w tree hs h.on u (tree.tail s h hs at) above more
+    ]
 
 pub joined_over : (w : World) → IsTree w.board → (s u : ℕ) → is_joined w s ≡ true → IsOver w.board u s → is_joined w u ≡ true
 joined_over w tree s u joined over =
     elim over [
-      inl e ↦ ap (λ (i : ℕ). is_joined w i) e ∙ joined
-    | inr c ↦ joined_crossed w tree (hops w.board s) s u refl joined c ]
+      | inl e ↦ ap (λ (i : ℕ). is_joined w i) e ∙ joined
+      | inr c ↦ joined_crossed w tree (hops w.board s) s u refl joined c
+    ]
 
 -- the first place that passes a test is there and passes it; there is one where some place passes
 module _ {X : Type 0} (test : X → Bool) where
-
   pub position_at : (k : ℕ) (xs : List X) (n : ℕ) → position_from test k xs ≡ Some n → (i : ℕ) × (x : X) × (n ≡ k + i) × (slice_get xs i ≡ Some x) × (test x ≡ true)
   position_at k [] n e = absurd (let f : None ≡ Some n = e in cc)
   position_at k (x ∷ xs) n e = by (test x) refl (position_at (k + 1) xs n)
@@ -97,7 +102,7 @@ module _ {X : Type 0} (test : X → Bool) where
   position_some k [] i x at passes e = let f : None ≡ Some x = at in absurd cc
   position_some k (y ∷ ys) zero x at passes e =
       absurd (let same : y ≡ x = (let f : Some y ≡ Some x = at in cc) in
-              let here : Some k ≡ None = sym (ap (λ (t : Bool). cond t (Some k) (position_from test (k + 1) ys)) (ap test same ∙ passes)) ∙ e in cc)
+      let here : Some k ≡ None = sym (ap (λ (t : Bool). cond t (Some k) (position_from test (k + 1) ys)) (ap test same ∙ passes)) ∙ e in cc)
   position_some k (y ∷ ys) (suc i) x at passes e = by (test y) refl (position_some (k + 1) ys i x at passes)
     where
       by : (t : Bool) → test y ≡ t → (position_from test (k + 1) ys ≡ None → ⊥) → ⊥
@@ -121,16 +126,15 @@ device_there (Some x) test e = (x, refl, e)
 
 module _ (w : World) (tree : IsTree w.board) (s : ℕ) (along : (u : ℕ) → is_joined w u ≡ true → IsAlong w.board s u) (joined : is_joined w s ≡ true)
     (a : ℕ) (force : Bool) (not_busy : grant_of w.board s a force ≡ grant.Busy → ⊥) where
-
   abbrev fits : DeviceView → Bool
   fits d = eqb d.addr a && is_on_path w.board s d.bus
 
   granted-is : granted_on w.board s force a ≡ position_from fits 0 w.board.devices
   granted-is =
       ap (λ (g : Grant). named_of g)
-          (not_busy-names (some_chip w.board a (is_on_path w.board s)) (some_chip w.board a (λ u. is_below w.board u s) || some_device w.board a (λ u. is_below w.board u s))
-            (not force && some_bound w.board a (is_on_path w.board s)) (named_by (position_from fits 0 w.board.devices)) not_busy)
-        ∙ named_back (position_from fits 0 w.board.devices)
+      (not_busy-names (some_chip w.board a (is_on_path w.board s)) (some_chip w.board a (λ u. is_below w.board u s) || some_device w.board a (λ u. is_below w.board u s))
+      (not force && some_bound w.board a (is_on_path w.board s)) (named_by (position_from fits 0 w.board.devices)) not_busy)
+      ∙ named_back (position_from fits 0 w.board.devices)
 
   -- what is said of a device that is there
   bus_at : (d : ℕ) (x : DeviceView) → slice_get w.board.devices d ≡ Some x → of_device (λ (y : DeviceView). y.bus) 0 w.board d ≡ x.bus
@@ -149,13 +153,13 @@ module _ (w : World) (tree : IsTree w.board) (s : ℕ) (along : (u : ℕ) → is
   granted_joined d e =
       let r = granted_there d e in
       ap (λ (i : ℕ). is_joined w i) (bus_at d r.0 r.1)
-        ∙ joined_over w tree s r.0.bus joined (path_over w.board s r.0.bus (and_right (eqb r.0.addr a) (is_on_path w.board s r.0.bus) r.2))
+      ∙ joined_over w tree s r.0.bus joined (path_over w.board s r.0.bus (and_right (eqb r.0.addr a) (is_on_path w.board s r.0.bus) r.2))
 
   granted_addressed : (d : ℕ) → granted_on w.board s force a ≡ Some d → of_device (λ (x : DeviceView). eqb x.addr a) false w.board d ≡ true
   granted_addressed d e =
       let r = granted_there d e in
       ap (λ (o : Option DeviceView). unwrap_or (option_map (λ (x : DeviceView). eqb x.addr a) o) false) r.1
-        ∙ and_left (eqb r.0.addr a) (is_on_path w.board s r.0.bus) r.2
+      ∙ and_left (eqb r.0.addr a) (is_on_path w.board s r.0.bus) r.2
 
   -- a device on the path with the address is the one that is granted
   path_granted : (d : ℕ) (x : DeviceView) → slice_get w.board.devices d ≡ Some x → eqb x.addr a ≡ true → is_on_path w.board s x.bus ≡ true
@@ -168,12 +172,12 @@ module _ (w : World) (tree : IsTree w.board) (s : ℕ) (along : (u : ℕ) → is
       by (Some n) e =
           let r = granted_there n e in
           let along_each : IsAlong w.board r.0.bus x.bus =
-            over_along w.board tree s r.0.bus x.bus (path_over w.board s r.0.bus (and_right (eqb r.0.addr a) (is_on_path w.board s r.0.bus) r.2)) (path_over w.board s x.bus on) in
+          over_along w.board tree s r.0.bus x.bus (path_over w.board s r.0.bus (and_right (eqb r.0.addr a) (is_on_path w.board s r.0.bus) r.2)) (path_over w.board s x.bus on) in
           let homes : IsAlong w.board (home_of w.board (node.Device n)) (home_of w.board (node.Device d)) =
-            subst (λ (i : ℕ). IsAlong w.board i (home_of w.board (node.Device d))) (sym (bus_at n r.0 r.1))
-              (subst (λ (i : ℕ). IsAlong w.board r.0.bus i) (sym (bus_at d x at)) along_each) in
+          subst (λ (i : ℕ). IsAlong w.board i (home_of w.board (node.Device d))) (sym (bus_at n r.0 r.1))
+          (subst (λ (i : ℕ). IsAlong w.board r.0.bus i) (sym (bus_at d x at)) along_each) in
           let same : node.Device n ≡ node.Device d =
-            tree.addresses (node.Device n) (node.Device d) a (addr_at n r.0 r.1 (and_left (eqb r.0.addr a) (is_on_path w.board s r.0.bus) r.2)) (addr_at d x at addr) homes in
+          tree.addresses (node.Device n) (node.Device d) a (addr_at n r.0 r.1 (and_left (eqb r.0.addr a) (is_on_path w.board s r.0.bus) r.2)) (addr_at d x at addr) homes in
           e ∙ (let f : n ≡ d = cc in ap Some f)
 
   joined_granted : (d : ℕ) → joins_device w d ≡ true → of_device (λ (x : DeviceView). eqb x.addr a) false w.board d ≡ true → granted_on w.board s force a ≡ Some d
@@ -181,12 +185,13 @@ module _ (w : World) (tree : IsTree w.board) (s : ℕ) (along : (u : ℕ) → is
       let r = device_there (slice_get w.board.devices d) (λ (x : DeviceView). eqb x.addr a) t in
       let bus : of_device (λ (y : DeviceView). y.bus) 0 w.board d ≡ r.0.bus = bus_at d r.0 r.1 in
       elim (on_or_below w.board s (of_device (λ (y : DeviceView). y.bus) 0 w.board d) (along (of_device (λ (y : DeviceView). y.bus) 0 w.board d) j)) [
-        inl on ↦ path_granted d r.0 r.1 r.2 (ap (λ (i : ℕ). is_on_path w.board s i) (sym bus) ∙ on)
-      | inr below ↦ absurd (not_busy (busy_below w.board s a force
-          (ap (λ (z : Bool). some_chip w.board a (λ u. is_below w.board u s) || z)
-              (any_at (λ (x : DeviceView). eqb x.addr a && is_below w.board x.bus s) w.board.devices d r.0 r.1
-                (and_from (eqb r.0.addr a) (is_below w.board r.0.bus s) r.2 (ap (λ (i : ℕ). is_below w.board i s) (sym bus) ∙ below)))
-            ∙ or_true (some_chip w.board a (λ u. is_below w.board u s))))) ]
+        | inl on ↦ path_granted d r.0 r.1 r.2 (ap (λ (i : ℕ). is_on_path w.board s i) (sym bus) ∙ on)
+        | inr below ↦ absurd (not_busy (busy_below w.board s a force
+            (ap (λ (z : Bool). some_chip w.board a (λ u. is_below w.board u s) || z)
+            (any_at (λ (x : DeviceView). eqb x.addr a && is_below w.board x.bus s) w.board.devices d r.0 r.1
+            (and_from (eqb r.0.addr a) (is_below w.board r.0.bus s) r.2 (ap (λ (i : ℕ). is_below w.board i s) (sym bus) ∙ below)))
+            ∙ or_true (some_chip w.board a (λ u. is_below w.board u s)))))
+      ]
     where
       or_true : (p : Bool) → (p || true) ≡ true
       or_true true = refl
@@ -206,4 +211,4 @@ pub granted-leads : (b : BoardView) (w : World) (s a : ℕ) (force : Bool) → w
     → (grant_of b s a force ≡ grant.Busy → ⊥) → LeadsTo w a (granted_on b s force a)
 granted-leads b w s a force board =
     subst (λ (x : BoardView). IsTree x → ((u : ℕ) → is_joined w u ≡ true → IsAlong x s u) → is_joined w s ≡ true → (grant_of x s a force ≡ grant.Busy → ⊥) → LeadsTo w a (granted_on x s force a))
-      board (λ tree along joined free. granted_leads w tree s along joined a force free)
+    board (λ tree along joined free. granted_leads w tree s along joined a force free)

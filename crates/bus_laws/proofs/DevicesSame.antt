@@ -1,6 +1,6 @@
 -- A root's world and the flat world stay the same at the devices of the root: through a start, a byte, and a stop.
-use Rattle.std.proofs.Common.{◌≡◌, ℕ, zero, suc, ◌+◌, ◌<◌, Bool, true, false, cond, ◌&&◌, ◌||◌, List, [], ◌∷◌, ◌++◌, Option, Some, None, eqb, refl, sym, ◌∙◌, ap, subst}
-use Rattle.std.specs.Prelude.{slice_get, bit_and}
+use Rattle.std.proofs.Common.{◌≡◌, ℕ, ◌+◌, Bool, true, false, cond, ◌||◌, List, [], ◌∷◌, ◌++◌, Option, Some, None, eqb, refl, sym, ◌∙◌, ap, subst}
+use Rattle.std.specs.Prelude.{slice_get}
 use Rattle.std.specs.List.{AllByRecursion, list_any, list_all}
 use Rattle.std.specs.Option.{option_map, option_map_or}
 use Rattle.std.proofs.lemmas.Bool.{eqb-true, eq-eqb}
@@ -15,14 +15,14 @@ use Rattle.i2c_base.specs.declared.ids.Node.TheVariants as node
 use Rattle.i2c_base.specs.Board.{BoardView, DeviceView}
 use Rattle.i2c_spec.specs.Tree.{root_of, hops, of_device}
 use Rattle.i2c_spec.specs.Chips.{ChipView, chip_table}
-use Rattle.i2c_spec.specs.Targets.{TargetState, IsQuiet, state_table, state_after, state_answer}
+use Rattle.i2c_spec.specs.Targets.{TargetState, IsQuiet, state_table, state_answer}
 use Rattle.i2c_spec.specs.Messages.{MessageView}
 use Rattle.i2c_spec.specs.World.{World, opens_hop, joins_device, given, feed, answers, is_ack, is_slow, has_heard, start_event, device_start, start_chips, start_devices, heard_of, hearers, some_answer, answer as world_answer, is_chip, is_device, to_chips, to_devices, hearing_answers, takes, byte_of, and_of, gives, stop_event, after}
 use Rattle.i2c_spec.specs.Flat.{FlatListener, is_it, is_member, put_named, flat_start, to_current, to_named, answer_of, acknowledged, flat_after, flat_listener}
 use Rattle.i2c_spec.specs.Conversation.{world_listener, talk}
 use Rattle.bus_laws.specs.Alike.{IsOf, HoldsBytes, IsByte, listening, Same, LeadsTo, ToldAlike}
 use Rattle.bus_laws.proofs.TreeSlots.{eqb-apart}
-use Rattle.bus_laws.proofs.WorldFeed.{hears, feed-same, heard-none, unheard, some_answer-append, GivesOne}
+use Rattle.bus_laws.proofs.WorldFeed.{hears, feed-same, heard-none, unheard, some_answer-append}
 use Rattle.bus_laws.proofs.WorldReach.{and_left, start_heard, other_state}
 use Rattle.bus_laws.proofs.WorldControl.{started-chips}
 use Rattle.bus_laws.proofs.DevicesTalk.{IsFollowing, talk-alike}

@@ -1,5 +1,5 @@
 -- What the states of the devices keep: they are quiet after a stop, and hold bytes. The inductions go over memories.
-use Rattle.std.proofs.Common.{◌≡◌, ℕ, zero, suc, ◌+◌, ◌<◌, Bool, true, false, cond, List, [], ◌∷◌, ◌++◌, length, take, drop, replicate, set, get_or, refl, sym, ◌∙◌, ap, subst, arith, mod-eq_of_lt}
+use Rattle.std.proofs.Common.{◌≡◌, ℕ, zero, suc, ◌+◌, ◌<◌, Bool, true, false, List, [], ◌∷◌, ◌++◌, length, take, drop, replicate, set, get_or, refl, ◌∙◌, arith, mod-eq_of_lt}
 use Rattle.std.specs.List.{AllByRecursion}
 use Rattle.std.specs.Prelude.{bit_and}
 use Rattle.std.proofs.lemmas.Grind.{and_numeral}
@@ -10,7 +10,7 @@ use Rattle.i2c_base.specs.declared.event.Event.TheVariants as event
 use Rattle.i2c_base.specs.declared.event.Answer.{Answer}
 use Rattle.i2c_base.specs.declared.event.Answer.TheVariants as answer
 use Rattle.i2c_base.specs.Board.{DeviceView, RunView}
-use Rattle.i2c_spec.specs.Regs.{RegsView, RegsPhase, Idle, Pointer, Data, Read, regs_sends, regs_put, regs_get, regs_opening, write_run, write_runs}
+use Rattle.i2c_spec.specs.Regs.{RegsView, RegsPhase, Idle, Pointer, Data, Read, regs_sends, regs_put, regs_get, write_run, write_runs}
 use Rattle.i2c_spec.specs.Targets.{TargetState, Regs, Silent, state_table, state_after, state_answer, state_of, opening_state, IsQuiet, IsFairTable}
 use Rattle.i2c_spec.specs.World.{byte_of, has_heard, is_ack, is_slow}
 use Rattle.bus_laws.specs.Alike.{IsByte, HoldsBytes, RunsHoldBytes}

@@ -1,10 +1,10 @@
 -- Which devices a message leaves alone: all of them, where it is a control message that finds the root's devices quiet;
 -- and those of other roots. The inductions go over the list of those who hear.
-use Rattle.std.proofs.Common.{◌≡◌, ℕ, zero, suc, ◌+◌, Bool, true, false, cond, ◌&&◌, ◌||◌, List, [], ◌∷◌, ◌++◌, map, Option, Some, None, eqb, refl, sym, ◌∙◌, ap, subst, zero-add, inl}
+use Rattle.std.proofs.Common.{◌≡◌, ℕ, zero, suc, ◌+◌, Bool, true, false, cond, ◌||◌, List, [], ◌∷◌, ◌++◌, map, Option, Some, None, eqb, refl, sym, ◌∙◌, ap, subst, zero-add, inl}
 use Rattle.std.proofs.lemmas.Bool.{eqb-true}
 use Rattle.std.specs.Prelude.{slice_get}
-use Rattle.std.specs.List.{AllByRecursion, list_any, list_all}
-use Rattle.std.specs.Option.{option_map, option_map_or}
+use Rattle.std.specs.List.{AllByRecursion, list_any}
+use Rattle.std.specs.Option.{option_map}
 use Rattle.i2c_base.specs.declared.event.Event.{Event}
 use Rattle.i2c_base.specs.declared.event.Event.TheVariants as event
 use Rattle.i2c_base.specs.declared.event.Answer.{Answer}
@@ -18,17 +18,17 @@ use Rattle.i2c_spec.specs.Tree.{of_device, home_of_mux, addr_of_mux, IsAlong}
 use Rattle.i2c_spec.specs.TreeFacts.{IsTree}
 use Rattle.i2c_spec.specs.Targets.{TargetState, IsQuiet, state_table, opening_state}
 use Rattle.i2c_spec.specs.Messages.{MessageView}
-use Rattle.i2c_spec.specs.World.{World, is_joined, joins_device, given, feed, answers, answer_with, has_heard, start_event, device_start, start_chips, start_devices, heard_of, hearers, is_device, to_devices, stop_event, stopped, after, opening_world}
+use Rattle.i2c_spec.specs.World.{World, is_joined, joins_device, given, feed, answers, answer_with, has_heard, start_event, device_start, start_chips, start_devices, heard_of, hearers, is_device, to_devices, stop_event, after, opening_world}
 use Rattle.i2c_spec.specs.Flat.{FlatListener, idle, is_it, is_member, put_named, answer_of, flat_start, to_current, to_named, flat_after, flat_listener}
 use Rattle.i2c_spec.specs.Conversation.{world_listener, talk}
-use Rattle.bus_laws.specs.Alike.{IsOf, HoldsBytes, IsByteBoard, RunsHoldBytes, Same, IsControl}
+use Rattle.bus_laws.specs.Alike.{IsOf, HoldsBytes, IsByteBoard, RunsHoldBytes, Same, IsControl, IsUnnamed}
 use Rattle.bus_laws.proofs.TalkLaws.{IsLater, talk-keeps}
 use Rattle.bus_laws.proofs.WorldFeed.{hears, feed-same, heard-none}
 use Rattle.bus_laws.proofs.WorldReach.{start_heard, other_state}
 use Rattle.bus_laws.proofs.WorldHears.{swap_along, device_address}
 use Rattle.bus_laws.proofs.DevicesStates.{opening-quiet, opening-bytes}
-use Rattle.bus_laws.proofs.DevicesHears.{fed-at, map-same, map-from}
-use Rattle.bus_laws.proofs.DevicesSame.{joined_of, is_it-some, stop-same}
+use Rattle.bus_laws.proofs.DevicesHears.{fed-at, map-same}
+use Rattle.bus_laws.proofs.DevicesSame.{joined_of, stop-same}
 use Rattle.bus_laws.proofs.DevicesStops.{world-settled}
 
 -- no device is among the chips that hear
@@ -55,15 +55,18 @@ absent_unheard t f d k (x ∷ xs) none = by (f k) refl (absent_unheard t f d (k 
   where
     rest : List (ℕ × Answer)
     rest = answers t f (k + 1) xs
+
     named : (h : Bool) → eqb k d ≡ false → list_any (is_device d) (heard_of node.Device rest) ≡ false
         → list_any (is_device d) (cond h (node.Device k ∷ heard_of node.Device rest) (heard_of node.Device rest)) ≡ false
     named true other none_else = ap (λ (b : Bool). b || list_any (is_device d) (heard_of node.Device rest)) other ∙ none_else
     named false other none_else = none_else
+
     other_number : (e : Event) → f k ≡ Some e → (b : Bool) → eqb k d ≡ b → b ≡ false
     other_number e at false h = refl
     other_number e at true h =
         absurd (let same : k ≡ d = eqb-true k d h in
-                let g : None ≡ Some e = sym none ∙ ap f (sym same) ∙ at in cc)
+        let g : None ≡ Some e = sym none ∙ ap f (sym same) ∙ at in cc)
+
     by : (o : Option Event) → f k ≡ o → list_any (is_device d) (heard_of node.Device rest) ≡ false
         → list_any (is_device d) (heard_of node.Device (answer_with t o k x rest)) ≡ false
     by None at none_else = none_else
@@ -75,7 +78,6 @@ abbrev pub IsDeviceless : BoardView → ℕ → List TargetState → World → T
 IsDeviceless b r xs u = (u.board ≡ b) × (u.root ≡ r) × (u.devices ≡ xs) × ((d : ℕ) → list_any (is_device d) u.hearing ≡ false)
 
 module _ (b : BoardView) (r : ℕ) (xs : List TargetState) (quiet : (d : ℕ) (x : TargetState) → IsOf b r d → slice_get xs d ≡ Some x → IsQuiet state_table x) where
-
   quiet_at : (u : World) → u.board ≡ b → u.root ≡ r → u.devices ≡ xs → (d : ℕ) (x : TargetState) → joins_device u d ≡ true → slice_get u.devices d ≡ Some x → IsQuiet state_table x
   quiet_at u board root same d x joined at =
       quiet d x (joined_of b r u board root d joined) (ap (λ (ys : List TargetState). slice_get ys d) (sym same) ∙ at)
@@ -101,12 +103,11 @@ module _ (b : BoardView) (r : ℕ) (xs : List TargetState) (quiet : (d : ℕ) (x
   later_deviceless u call.Fault l f = (f.0, f.1, stopped_devices u f.0 f.1 f.2 ∙ f.2, λ d. refl)
 
   module _ (w : World) (board : w.board ≡ b) (root : w.root ≡ r) (same : w.devices ≡ xs) (a : ℕ) (control : IsControl w a) (reading : Bool) where
-
     started_devices : feed state_table (device_start w a reading) 0 w.devices ≡ w.devices
     started_devices =
         feed-same state_table (device_start w a reading) 0 w.devices
-          (λ i x at. by (0 + i) x (joins_device w (0 + i)) (of_device (λ (y : DeviceView). eqb y.addr a) false w.board (0 + i)) refl refl
-            (ap (λ (n : ℕ). slice_get w.devices n) (zero-add i) ∙ at))
+        (λ i x at. by (0 + i) x (joins_device w (0 + i)) (of_device (λ (y : DeviceView). eqb y.addr a) false w.board (0 + i)) refl refl
+        (ap (λ (n : ℕ). slice_get w.devices n) (zero-add i) ∙ at))
       where
         by : (d : ℕ) (x : TargetState) (j t : Bool) → joins_device w d ≡ j → of_device (λ (y : DeviceView). eqb y.addr a) false w.board d ≡ t → slice_get w.devices d ≡ Some x
             → given state_table (start_event j t reading) x ≡ x
@@ -117,8 +118,8 @@ module _ (b : BoardView) (r : ℕ) (xs : List TargetState) (quiet : (d : ℕ) (x
     none_hear : (d : ℕ) → list_any (is_device d) (hearers w a reading) ≡ false
     none_hear d =
         any_append (is_device d) (heard_of node.Chip (start_chips w a reading)) (heard_of node.Device (start_devices w a reading)) (no_device_named d (start_chips w a reading))
-          (ap (λ (ns : List Node). list_any (is_device d) ns)
-            (heard-none state_table node.Device (device_start w a reading) 0 w.devices (λ i x at. silent (0 + i) x (hears state_table (device_start w a reading (0 + i)) x) refl)))
+        (ap (λ (ns : List Node). list_any (is_device d) ns)
+        (heard-none state_table node.Device (device_start w a reading) 0 w.devices (λ i x at. silent (0 + i) x (hears state_table (device_start w a reading (0 + i)) x) refl)))
       where
         silent : (n : ℕ) (x : TargetState) (t : Bool) → hears state_table (device_start w a reading n) x ≡ t → t ≡ false
         silent n x false h = refl
@@ -130,8 +131,8 @@ module _ (b : BoardView) (r : ℕ) (xs : List TargetState) (quiet : (d : ℕ) (x
       → IsDeviceless b r xs (talk world_listener limit w m last cut).now
   control-deviceless limit w m last cut board root same control =
       talk-keeps world_listener (IsDeviceless b r xs) later_deviceless limit w m last cut
-        (board, root, stopped_devices w board root same ∙ same, λ d. refl)
-        (board, root, started_devices w board root same m.addr control m.reading ∙ same, none_hear w board root same m.addr control m.reading)
+      (board, root, stopped_devices w board root same ∙ same, λ d. refl)
+      (board, root, started_devices w board root same m.addr control m.reading ∙ same, none_hear w board root same m.addr control m.reading)
 
 -- between transfers a control message leaves the world and the flat world the same
 pub control-same : (b : BoardView) (r limit : ℕ) (w : World) (xs : List TargetState) (m : MessageView) (cut : Option ℕ) → Same b r w (idle xs) → IsControl w m.addr
@@ -166,19 +167,19 @@ line-same b r w xs m level s =
 pub fault-same : (b : BoardView) (r : ℕ) (w : World) (xs : List TargetState) → Same b r w (idle xs) → Same b r (after w call.Fault) (idle xs)
 fault-same b r w xs s =
     subst (λ (ys : List TargetState). Same b r (after w call.Fault) (idle ys)) (feed-same state_table (to_named [] event.Stop) 0 xs (λ i x at. refl))
-      (stop-same b r w (idle xs) s (λ a. None))
+    (stop-same b r w (idle xs) s (λ a. None))
 
 -- no device along its bus has the address of a mux chip there
 pub chip-control : (b : BoardView) (w : World) (s m a : ℕ) → w.board ≡ b → IsTree b → ((u : ℕ) → is_joined w u ≡ true → IsAlong b s u)
     → addr_of_mux b m ≡ Some a → home_of_mux b m ≡ s → IsControl w a
 chip-control b w s m a board =
     subst (λ (x : BoardView). IsTree x → ((u : ℕ) → is_joined w u ≡ true → IsAlong x s u) → addr_of_mux x m ≡ Some a → home_of_mux x m ≡ s → IsControl w a) board
-      (λ tree along addr home d j t.
-        (let same : node.Device d ≡ node.Chip m =
-           tree.addresses (node.Device d) (node.Chip m) a (device_address a (slice_get w.board.devices d) t) addr
-             (swap_along w.board (home_of_mux w.board m) (of_device (λ (y : DeviceView). y.bus) 0 w.board d)
-               (subst (λ (i : ℕ). IsAlong w.board i (of_device (λ (y : DeviceView). y.bus) 0 w.board d)) (sym home) (along (of_device (λ (y : DeviceView). y.bus) 0 w.board d) j))) in
-         absurd (cc)))
+    (λ tree along addr home d j t.
+    (let same : node.Device d ≡ node.Chip m =
+    tree.addresses (node.Device d) (node.Chip m) a (device_address a (slice_get w.board.devices d) t) addr
+    (swap_along w.board (home_of_mux w.board m) (of_device (λ (y : DeviceView). y.bus) 0 w.board d)
+    (subst (λ (i : ℕ). IsAlong w.board i (of_device (λ (y : DeviceView). y.bus) 0 w.board d)) (sym home) (along (of_device (λ (y : DeviceView). y.bus) 0 w.board d) j))) in
+    absurd (cc)))
 
 -- OTHER ROOTS
 -- a device of another root is no part of the world
@@ -186,7 +187,6 @@ abbrev pub IsElsewhere : BoardView → ℕ → ℕ → Option TargetState → Wo
 IsElsewhere b r d o u = (u.board ≡ b) × (u.root ≡ r) × (slice_get u.devices d ≡ o) × (list_any (is_device d) u.hearing ≡ false)
 
 module _ (b : BoardView) (r d : ℕ) (other : IsOf b r d → ⊥) (o : Option TargetState) where
-
   not_joined : (u : World) → u.board ≡ b → u.root ≡ r → joins_device u d ≡ false
   not_joined u board root = by (joins_device u d) refl
     where
@@ -214,19 +214,18 @@ module _ (b : BoardView) (r d : ℕ) (other : IsOf b r d → ⊥) (o : Option Ta
       → slice_get (talk world_listener limit w m last cut).now.devices d ≡ o
   talk-elsewhere limit w m last cut board root at =
       let none : device_start w m.addr m.reading d ≡ None =
-        ap (λ (j : Bool). start_event j (of_device (λ (y : DeviceView). eqb y.addr m.addr) false w.board d) m.reading) (not_joined w board root) in
+      ap (λ (j : Bool). start_event j (of_device (λ (y : DeviceView). eqb y.addr m.addr) false w.board d) m.reading) (not_joined w board root) in
       (talk-keeps world_listener (IsElsewhere b r d o) later_elsewhere limit w m last cut
-        (board, root, fed_nothing (λ n. stop_event (joins_device w n)) w.devices (ap (λ (j : Bool). stop_event j) (not_joined w board root)) ∙ at, refl)
-        (board, root, fed_nothing (device_start w m.addr m.reading) w.devices none ∙ at,
-          any_append (is_device d) (heard_of node.Chip (start_chips w m.addr m.reading)) (heard_of node.Device (start_devices w m.addr m.reading)) (no_device_named d (start_chips w m.addr m.reading))
-            (absent_unheard state_table (device_start w m.addr m.reading) d 0 w.devices none))).2
+      (board, root, fed_nothing (λ n. stop_event (joins_device w n)) w.devices (ap (λ (j : Bool). stop_event j) (not_joined w board root)) ∙ at, refl) (
+        board,
+        root,
+        fed_nothing (device_start w m.addr m.reading) w.devices none ∙ at,
+        any_append (is_device d) (heard_of node.Chip (start_chips w m.addr m.reading)) (heard_of node.Device (start_devices w m.addr m.reading)) (no_device_named d (start_chips w m.addr m.reading))
+            (absent_unheard state_table (device_start w m.addr m.reading) d 0 w.devices none),
+      )).2
 
 -- a device that isn't granted, and wasn't before, is no part of the message in the flat world
-abbrev pub IsUnnamed : ℕ → Option TargetState → FlatListener → Type 0
-IsUnnamed d o f = (is_member d f.named ≡ false) × (is_it f.current d ≡ false) × (slice_get f.states d ≡ o)
-
 module _ (d : ℕ) (o : Option TargetState) (granted : ℕ → Option ℕ) where
-
   flat_nothing : (f : ℕ → Option Event) (xs : List TargetState) → f d ≡ None → slice_get (feed state_table f 0 xs) d ≡ slice_get xs d
   flat_nothing f xs none =
       fed-at state_table f xs d ∙ map-same (slice_get xs d) (λ (x : TargetState). given state_table (f d) x) (λ x at. ap (λ (e : Option Event). given state_table e x) none)
@@ -251,12 +250,13 @@ module _ (d : ℕ) (o : Option TargetState) (granted : ℕ → Option ℕ) where
       → IsUnnamed d o (talk (flat_listener granted) limit f m last cut).now
   talk-unnamed limit f m last cut e u =
       talk-keeps (flat_listener granted) (IsUnnamed d o) later_unnamed limit f m last cut
-        (refl, refl, flat_nothing (to_named f.named event.Stop) f.states (ap (λ (t : Bool). cond t (Some event.Stop) None) u.0) ∙ u.2)
-        (still_unnamed (granted m.addr) f.named e u.0,
-          not_current (has_heard (answer_of f.states (granted m.addr) (event.Start m.reading))) (granted m.addr) e,
-          flat_nothing (flat_start (granted m.addr) f.named m.reading) f.states
+      (refl, refl, flat_nothing (to_named f.named event.Stop) f.states (ap (λ (t : Bool). cond t (Some event.Stop) None) u.0) ∙ u.2) (
+        still_unnamed (granted m.addr) f.named e u.0,
+        not_current (has_heard (answer_of f.states (granted m.addr) (event.Start m.reading))) (granted m.addr) e,
+        flat_nothing (flat_start (granted m.addr) f.named m.reading) f.states
             (ap (λ (i : Bool). cond i (Some (event.Start m.reading)) (cond (is_member d f.named) (Some event.Other) None)) e
-              ∙ ap (λ (n : Bool). cond n (Some event.Other) None) u.0) ∙ u.2)
+            ∙ ap (λ (n : Bool). cond n (Some event.Other) None) u.0) ∙ u.2,
+      )
 
 -- what other roots do leaves the two the same
 pub same-elsewhere : (b : BoardView) (r : ℕ) (w : World) (xs ys : List TargetState) → Same b r w (idle xs) → ((d : ℕ) → IsOf b r d → slice_get ys d ≡ slice_get xs d) → Same b r w (idle ys)
@@ -294,11 +294,11 @@ opening-same b r runs =
       root = refl;
       states = λ d own. refl;
       bytes = λ d x own at. (
-        let from = opened_from (slice_get b.devices d) x (sym (opened_at b.devices d) ∙ at) in
-        subst (λ (y : TargetState). HoldsBytes y) from.2 (opening-bytes from.0 (runs_at b.devices d from.0 runs from.1)));
+          let from = opened_from (slice_get b.devices d) x (sym (opened_at b.devices d) ∙ at) in
+          subst (λ (y : TargetState). HoldsBytes y) from.2 (opening-bytes from.0 (runs_at b.devices d from.0 runs from.1)));
       quiet = λ d x own e at. (
-        let from = opened_from (slice_get b.devices d) x (sym (opened_at b.devices d) ∙ at) in
-        subst (λ (y : TargetState). IsQuiet state_table y) from.2 (opening-quiet from.0));
+          let from = opened_from (slice_get b.devices d) x (sym (opened_at b.devices d) ∙ at) in
+          subst (λ (y : TargetState). IsQuiet state_table y) from.2 (opening-quiet from.0));
       hearing = refl;
       joined = λ d e. absurd (let g : false ≡ true = e in cc);
       current = λ d e. absurd (let g : None ≡ Some d = e in cc);

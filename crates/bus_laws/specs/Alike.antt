@@ -1,9 +1,8 @@
 -- The devices of a root's world beside those of the flat world, and messages over both.
-use Rattle.std.specs.Prelude.{◌≡◌, ℕ, ◌+◌, ◌<◌, ◌==◌, Bool, true, false, ◌&&◌, ◌⊎◌, List, [], ◌∷◌, ◌++◌, Option, Some, None, slice_get, if◌then◌else◌}
+use Rattle.std.specs.Prelude.{◌≡◌, ℕ, ◌+◌, ◌<◌, ◌==◌, Bool, true, false, ◌&&◌, ◌⊎◌, List, [], ◌∷◌, Option, Some, None, slice_get, if◌then◌else◌}
 use Rattle.std.specs.List.{AllByRecursion}
 use Rattle.i2c_base.specs.declared.ids.Node.{Node}
 use Rattle.i2c_base.specs.declared.ids.Node.TheVariants as node
-use Rattle.i2c_base.specs.declared.port.PortCall.{PortCall}
 use Rattle.i2c_base.specs.declared.entry.End.{End}
 use Rattle.i2c_base.specs.declared.entry.End.TheVariants as end
 use Rattle.i2c_base.specs.Board.{BoardView, RunView}
@@ -11,7 +10,7 @@ use Rattle.i2c_spec.specs.Tree.{root_of, of_device}
 use Rattle.i2c_spec.specs.Targets.{TargetState, Regs, Silent, IsQuiet, state_table}
 use Rattle.i2c_spec.specs.Messages.{MessageView}
 use Rattle.i2c_spec.specs.World.{World, joins_device, start_chips, heard_of}
-use Rattle.i2c_spec.specs.Flat.{FlatListener, is_member}
+use Rattle.i2c_spec.specs.Flat.{FlatListener, is_it, is_member}
 use Rattle.i2c_spec.specs.Conversation.{Listener, TalkTold, AllTold, talk, is_empty, is_good, with_read}
 
 -- device d stands on a bus of root r
@@ -92,3 +91,7 @@ pub record GrowsAlike (b : BoardView) (r : ℕ) (m : MessageView) (before : AllT
 -- a transfer ends with a message that is its last, or that didn't go through
 abbrev pub EndsTransfer : Bool → End → Type 0
 EndsTransfer last e = (last ≡ true) ⊎ (is_good e ≡ false)
+
+-- the transfer hasn't named this device, whose state is this one
+abbrev pub IsUnnamed : ℕ → Option TargetState → FlatListener → Type 0
+IsUnnamed d o f = (is_member d f.named ≡ false) × (is_it f.current d ≡ false) × (slice_get f.states d ≡ o)
