@@ -369,7 +369,7 @@ module _ (b : BoardView) (r : ℕ) (w : World) (f : FlatListener) (s : Same b r 
         current = λ d e. absurd (let g : None ≡ Some d = e in cc);
       }
 
-pub following-same : (b : BoardView) (r : ℕ) (granted : ℕ → Option ℕ) (w : World) (f : FlatListener) (c : PortCall) → IsFollowing c → Same b r w f
+pub following-same : (b : BoardView) (r : ℕ) (granted : ℕ → Option ℕ) (w : World) (f : FlatListener) (c : PortCall) → IsFollowing IsByte c → Same b r w f
     → Same b r (after w c) (flat_after granted f c)
 following-same b r granted w f (call.Start a reading) fit s = absurd fit
 following-same b r granted w f (call.Line m level) fit s = absurd fit
@@ -383,7 +383,7 @@ pub message-alike : (b : BoardView) (r : ℕ) (granted : ℕ → Option ℕ) (li
     → Same b r w f → LeadsTo w m.addr (granted m.addr) → AllByRecursion IsByte m.bytes
     → ToldAlike (Same b r) (talk world_listener limit w m last cut) (talk (flat_listener granted) limit f m last cut)
 message-alike b r granted limit w f m last cut s leads bytes =
-    talk-alike world_listener (flat_listener granted) (Same b r) (following-same b r granted)
+    talk-alike world_listener (flat_listener granted) (Same b r) IsByte (following-same b r granted)
     (λ u g byte same. takes-same b r u g same byte) (λ u g same. gives-same b r u g same) limit w f m last cut bytes
     (stop-same b r w f s granted) (start-same b r w f s granted m.addr m.reading leads)
     (start-answer b r w f s m.addr (granted m.addr) leads m.reading)

@@ -10,16 +10,16 @@ use Rattle.i2c_base.specs.declared.entry.End.{End}
 use Rattle.i2c_base.specs.declared.entry.End.TheVariants as end
 use Rattle.i2c_spec.specs.Messages.{MessageView}
 use Rattle.i2c_spec.specs.Conversation.{Listener, Said, TalkTold, is_at, silence, say, with_byte, told, call_then, ended, puts, gets, gets_counted, by_answer, talk}
-use Rattle.bus_laws.specs.Alike.{ToldAlike, IsByte}
+use Rattle.bus_laws.specs.Alike.{ToldAlike}
 
--- a call behind the start of a message, whose byte is one
-abbrev pub IsFollowing : PortCall → Type 0
-IsFollowing (call.Start a reading) = ⊥
-IsFollowing (call.Line m level) = ⊥
-IsFollowing (call.Put byte) = IsByte byte
-IsFollowing (call.Get ack) = Unit {0}
-IsFollowing call.Stop = Unit {0}
-IsFollowing call.Fault = Unit {0}
+-- a call behind the start of a message, whose byte fits
+abbrev pub IsFollowing : (ℕ → Type 0) → PortCall → Type 0
+IsFollowing Fits (call.Start a reading) = ⊥
+IsFollowing Fits (call.Line m level) = ⊥
+IsFollowing Fits (call.Put byte) = Fits byte
+IsFollowing Fits (call.Get ack) = Unit {0}
+IsFollowing Fits call.Stop = Unit {0}
+IsFollowing Fits call.Fault = Unit {0}
 
 -- what two messages have said so far
 record SaidAlike {W V : Type 0} (R : W → V → Type 0) (t : Said W) (u : Said V) : Type 0 where
@@ -27,11 +27,11 @@ record SaidAlike {W V : Type 0} (R : W → V → Type 0) (t : Said W) (u : Said 
   bytes : t.bytes ≡ u.bytes
   now : R t.now u.now
 
-module _ {W V : Type 0} (l : Listener W) (k : Listener V) (R : W → V → Type 0)
-    (keeps : (w : W) (v : V) (c : PortCall) → IsFollowing c → R w v → R (l.after w c) (k.after v c))
+module _ {W V : Type 0} (l : Listener W) (k : Listener V) (R : W → V → Type 0) (Fits : ℕ → Type 0)
+    (keeps : (w : W) (v : V) (c : PortCall) → IsFollowing Fits c → R w v → R (l.after w c) (k.after v c))
     (takes : (w : W) (v : V) (byte : ℕ) → R w v → l.takes w byte ≡ k.takes v byte)
     (gives : (w : W) (v : V) → R w v → l.gives w ≡ k.gives v) where
-  said : (t : Said W) (u : Said V) (c : PortCall) → IsFollowing c → SaidAlike R t u → SaidAlike R (say l t c) (say k u c)
+  said : (t : Said W) (u : Said V) (c : PortCall) → IsFollowing Fits c → SaidAlike R t u → SaidAlike R (say l t c) (say k u c)
   said t u c later s = record { calls = ap (λ (cs : List PortCall). c ∷ cs) s.calls; bytes = s.bytes; now = keeps t.now u.now c later s.now }
 
   byte_more : (t : Said W) (u : Said V) (x y : ℕ) → x ≡ y → SaidAlike R t u → SaidAlike R (with_byte t x) (with_byte u y)
@@ -51,7 +51,7 @@ module _ {W V : Type 0} (l : Listener W) (k : Listener V) (R : W → V → Type 
   cond_alike true false x y x2 y2 e hx hy = absurd (cc)
   cond_alike false true x y x2 y2 e hx hy = absurd (cc)
 
-  then_alike : (cut : Option ℕ) (t : Said W) (u : Said V) (c : PortCall) (next : Said W → TalkTold W) (then : Said V → TalkTold V) → IsFollowing c → SaidAlike R t u
+  then_alike : (cut : Option ℕ) (t : Said W) (u : Said V) (c : PortCall) (next : Said W → TalkTold W) (then : Said V → TalkTold V) → IsFollowing Fits c → SaidAlike R t u
       → ((s : Said W) (z : Said V) → SaidAlike R s z → ToldAlike R (next s) (then z)) → ToldAlike R (call_then l cut t c next) (call_then k cut u c then)
   then_alike cut t u c next then later s goes_on =
       let place : length t.calls ≡ length u.calls = ap (λ (cs : List PortCall). length cs) s.calls in
@@ -65,7 +65,7 @@ module _ {W V : Type 0} (l : Listener W) (k : Listener V) (R : W → V → Type 
       cond_alike stops stops (call_then l cut t call.Stop (λ x. told x e)) (told t e) (call_then k cut u call.Stop (λ x. told x e)) (told u e) refl
       (then_alike cut t u call.Stop (λ x. told x e) (λ x. told x e) tt s (λ x z h. told_said x z e e refl h)) (told_said t u e e refl s)
 
-  puts_alike : (cut : Option ℕ) (last : Bool) (bytes : List ℕ) (t : Said W) (u : Said V) → AllByRecursion IsByte bytes → SaidAlike R t u
+  puts_alike : (cut : Option ℕ) (last : Bool) (bytes : List ℕ) (t : Said W) (u : Said V) → AllByRecursion Fits bytes → SaidAlike R t u
       → ToldAlike R (puts l cut last bytes t) (puts k cut last bytes u)
   puts_alike cut last [] t u all s = ended_alike cut last t u end.Ok s
   puts_alike cut last (b ∷ bs) t u all s =
@@ -109,7 +109,7 @@ module _ {W V : Type 0} (l : Listener W) (k : Listener V) (R : W → V → Type 
       (gets_same cut last (l.gives t.now + len - 1) (k.gives u.now + len - 1) (with_byte x (l.gives t.now)) (with_byte z (k.gives u.now))
       (ap (λ (n : ℕ). n + len - 1) same) (byte_more x z (l.gives t.now) (k.gives u.now) same h)))
 
-  answer_alike : (cut : Option ℕ) (last : Bool) (limit : ℕ) (m : MessageView) (a : Answer) (t : Said W) (u : Said V) → AllByRecursion IsByte m.bytes → SaidAlike R t u
+  answer_alike : (cut : Option ℕ) (last : Bool) (limit : ℕ) (m : MessageView) (a : Answer) (t : Said W) (u : Said V) → AllByRecursion Fits m.bytes → SaidAlike R t u
       → ToldAlike R (by_answer l cut last limit m a t) (by_answer k cut last limit m a u)
   answer_alike cut last limit m answer.Ack t u all s =
       cond_alike m.reading m.reading
@@ -124,14 +124,14 @@ module _ {W V : Type 0} (l : Listener W) (k : Listener V) (R : W → V → Type 
   answer_alike cut last limit m (answer.Byte byte) t u all s = ended_alike cut true t u end.Nack s
   answer_alike cut last limit m answer.Nothing t u all s = ended_alike cut true t u end.Nack s
 
-  answers_alike : (cut : Option ℕ) (last : Bool) (limit : ℕ) (m : MessageView) (a g : Answer) (t : Said W) (u : Said V) → a ≡ g → AllByRecursion IsByte m.bytes → SaidAlike R t u
+  answers_alike : (cut : Option ℕ) (last : Bool) (limit : ℕ) (m : MessageView) (a g : Answer) (t : Said W) (u : Said V) → a ≡ g → AllByRecursion Fits m.bytes → SaidAlike R t u
       → ToldAlike R (by_answer l cut last limit m a t) (by_answer k cut last limit m g u)
   answers_alike cut last limit m a g t u e all s =
       subst (λ (x : Answer). ToldAlike R (by_answer l cut last limit m a t) (by_answer k cut last limit m x u)) e (answer_alike cut last limit m a t u all s)
 
   -- one message: where the listeners are related behind its start, and behind a fault in place of it, and answer the
   -- start alike, the same is said, and they are related in the end
-  pub talk-alike : (limit : ℕ) (w : W) (v : V) (m : MessageView) (last : Bool) (cut : Option ℕ) → AllByRecursion IsByte m.bytes
+  pub talk-alike : (limit : ℕ) (w : W) (v : V) (m : MessageView) (last : Bool) (cut : Option ℕ) → AllByRecursion Fits m.bytes
       → R (l.after w call.Fault) (k.after v call.Fault)
       → R (l.after w (call.Start m.addr m.reading)) (k.after v (call.Start m.addr m.reading))
       → l.answer w m.addr m.reading ≡ k.answer v m.addr m.reading

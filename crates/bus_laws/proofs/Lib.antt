@@ -30,3 +30,4 @@ pub mod DevicesGrant
 pub mod DevicesStops
 pub mod DevicesParts
 pub mod DevicesStay
+pub mod DevicesFlat
