@@ -44,7 +44,7 @@ bit_power a c e =
 pub bit_power-same : (c : ℕ) → bit_of (2 ^ c) c ≡ true
 bit_power-same c = ap (λ (n : ℕ). eqb (n % 2) 1) (div_self (pow_pos c))
 
-bit_zero : (c : ℕ) → bit_of 0 c ≡ false
+pub bit_zero : (c : ℕ) → bit_of 0 c ≡ false
 bit_zero c = ap (λ (n : ℕ). eqb (n % 2) 1) (zero-div (2 ^ c))
 
 -- which channels a kind of mux has

@@ -25,7 +25,7 @@ use Rattle.i2c_spec.specs.Messages.{MessageView, messages_of}
 use Rattle.i2c_spec.specs.World.{given, feed, has_heard, is_ack, byte_of}
 use Rattle.i2c_spec.specs.Flat.{FlatListener, FlatTold, idle, is_it, is_member, put_named, flat_start, to_current, to_named, answer_of, acknowledged, flat_after, flat_listener, granted_on, block_limit, cut_in, errno_of, or_done, barred, flat_by, flat_messages, flat}
 use Rattle.i2c_spec.specs.Conversation.{TalkTold, AllTold, talk, talk_all, is_empty, is_good, with_read}
-use Rattle.bus_laws.specs.Alike.{IsOf, ToldAlike, IsUnnamed}
+use Rattle.bus_laws.specs.Alike.{IsOf, ToldAlike, IsUnnamed, FlatSame}
 use Rattle.bus_laws.proofs.WorldReach.{and_right}
 use Rattle.bus_laws.proofs.DevicesTalk.{IsFollowing, talk-alike}
 use Rattle.bus_laws.proofs.DevicesHears.{fed-at}
@@ -197,11 +197,7 @@ module _ (b : BoardView) (r : ℕ) (granted : ℕ → Option ℕ) (granted_own :
       by false x y hx hy = hy
 
 -- ONE TRANSFER
--- the reply and the devices of the root that it leaves depend on the devices of its root alone
-pub record FlatSame (b : BoardView) (r : ℕ) (x y : FlatTold) : Type 0 where
-  pub reply : x.reply ≡ y.reply
-  pub states : (d : ℕ) → IsOf b r d → slice_get x.states d ≡ slice_get y.states d
-
+-- it depends on the devices of its root alone
 pub flat-same : (b : BoardView) → IsTree b → (xs ys : List TargetState) (t : TransferView) (cut : Cut)
     → ((d : ℕ) → IsOf b (root_of b t.bus) d → slice_get xs d ≡ slice_get ys d) → FlatSame b (root_of b t.bus) (flat b xs t cut) (flat b ys t cut)
 flat-same b tree xs ys t cut same = by (barred b t cut)

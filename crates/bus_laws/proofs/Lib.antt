@@ -6,6 +6,7 @@ pub mod TreePath
 pub mod TreeBehind
 pub mod TreeLaw
 -- The world law: events given to a list, what conversations keep, who is joined, what a message does to the chips.
+pub mod LineFacts
 pub mod WorldFeed
 pub mod TalkLaws
 pub mod WorldReach
@@ -21,6 +22,12 @@ pub mod WorldSends
 pub mod WorldLines
 -- What every stepwise past keeps: one caller and the others, and one step.
 pub mod StandsFacts
+pub mod StandsStep
+pub mod StandsEntries
+pub mod StandsOpening
+-- The induction over the entries, and what it gives.
+pub mod PastLaws
+pub mod PortLaws
 -- The devices law: one message over two listeners, and over a root's world and the flat world.
 pub mod DevicesTalk
 pub mod DevicesStates

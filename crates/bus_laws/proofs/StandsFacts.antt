@@ -19,13 +19,10 @@ use Rattle.bus_spec.specs.Readings.{is_lock}
 use Rattle.bus_spec.specs.Past.{Now, begun, current}
 use Rattle.bus_laws.specs.Runs.{InLocks, IsUnmarked, IsOfMux, FindsOpen, FindsSelect, Finds, HeadsMarks, MayMark, MayFail, Owns, MaySend, MayShift, Runs}
 use Rattle.bus_laws.specs.Lines.{LinesAreLocked}
+use Rattle.bus_laws.specs.Reach.{AsksForMessages}
 use Rattle.bus_laws.specs.Stands.{CallerStands, Stands, IsOnce}
 use Rattle.bus_laws.proofs.TreeSlots.{with_slot-same, with_slot-other, with_slot-along, set_marks-other, set_marks-along}
 use Rattle.bus_laws.proofs.TreeLaw.{walk-runs}
-
--- each asked transfer has a message
-abbrev pub SomeMessages : Asks → Type 0
-SomeMessages asks = (c : ℕ) (rs : List _) (t : TransferView) → asks c rs ≡ Some t → 0 < length t.msgs
 
 -- the looks in front of a walk change nothing where what is looked at is known
 pub runs_seen : (b : BoardView) (whose : TransferView) (held : List LockId) (view slots : Slots) → ((p : ℕ) → InLocks (lock.Mux p) held → view p ≡ slots p)
@@ -42,7 +39,7 @@ over_ends (Look ask next) e = absurd (let f : false ≡ true = e in cc)
 over_ends (Then act note next) e = absurd (let f : false ≡ true = e in cc)
 
 -- what a caller does next runs, from what is known
-pub current-stands : (b : BoardView) → IsTree b → LinesAreLocked b → (asks : Asks) → SomeMessages asks → (n : Now) (c : ℕ) → Stands b n
+pub current-stands : (b : BoardView) → IsTree b → LinesAreLocked b → (asks : Asks) → AsksForMessages asks → (n : Now) (c : ℕ) → Stands b n
     → CallerStands b (n.held c) (current b asks n c) n.slot
 current-stands b tree lines asks some n c stands = by_over (is_over (n.walk c)) refl
   where

@@ -10,7 +10,7 @@ use Rattle.i2c_spec.specs.Tree.{root_of, of_device}
 use Rattle.i2c_spec.specs.Targets.{TargetState, Regs, Silent, IsQuiet, state_table}
 use Rattle.i2c_spec.specs.Messages.{MessageView}
 use Rattle.i2c_spec.specs.World.{World, joins_device, start_chips, heard_of}
-use Rattle.i2c_spec.specs.Flat.{FlatListener, is_it, is_member}
+use Rattle.i2c_spec.specs.Flat.{FlatListener, FlatTold, is_it, is_member}
 use Rattle.i2c_spec.specs.Conversation.{Listener, TalkTold, AllTold, talk, is_empty, is_good, with_read}
 
 -- device d stands on a bus of root r
@@ -95,3 +95,8 @@ EndsTransfer last e = (last ≡ true) ⊎ (is_good e ≡ false)
 -- the transfer hasn't named this device, whose state is this one
 abbrev pub IsUnnamed : ℕ → Option TargetState → FlatListener → Type 0
 IsUnnamed d o f = (is_member d f.named ≡ false) × (is_it f.current d ≡ false) × (slice_get f.states d ≡ o)
+
+-- two transfers in the flat world have the same reply, and leave the same devices of a root
+pub record FlatSame (b : BoardView) (r : ℕ) (x y : FlatTold) : Type 0 where
+  pub reply : x.reply ≡ y.reply
+  pub states : (d : ℕ) → IsOf b r d → slice_get x.states d ≡ slice_get y.states d

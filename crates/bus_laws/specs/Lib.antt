@@ -2,5 +2,6 @@ pub mod Runs
 pub mod Lines
 pub mod Told
 pub mod Stands
+pub mod Reach
 -- The devices of a root's world and of the flat world.
 pub mod Alike

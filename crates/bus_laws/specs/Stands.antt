@@ -5,6 +5,7 @@ use Rattle.i2c_base.specs.declared.ids.LockId.{LockId}
 use Rattle.i2c_base.specs.declared.ids.LockId.TheVariants as lock
 use Rattle.i2c_base.specs.Board.{BoardView}
 use Rattle.i2c_base.specs.Transfer.{TransferView}
+use Rattle.i2c_spec.specs.World.{World}
 use Rattle.bus_spec.specs.Walk.{WalkTree}
 use Rattle.bus_spec.specs.Slots.{Slots}
 use Rattle.bus_spec.specs.Past.{Now}
@@ -23,12 +24,16 @@ abbrev pub IsOnce : List LockId → Type 0
 IsOnce [] = Unit {0}
 IsOnce (l ∷ ls) = (InLocks l ls → ⊥) × IsOnce ls
 
-pub record Stands (b : BoardView) (n : Now) : Type 0 where
-  pub callers : (c : ℕ) → CallerStands b (n.held c) (n.walk c) n.slot
+-- what is left of each walk, the locks of each caller, who has each lock, what is known of each bus, and the worlds
+pub record StandsIn (b : BoardView) (walk : ℕ → WalkTree) (held : ℕ → List LockId) (holder : LockId → Option ℕ) (slot : Slots) (worlds : ℕ → World) : Type 0 where
+  pub callers : (c : ℕ) → CallerStands b (held c) (walk c) slot
   -- whoever counts a lock among its own has it, and the other way
-  pub holds : (c : ℕ) (l : LockId) → InLocks l (n.held c) → n.holder l ≡ Some c
-  pub has : (c : ℕ) (l : LockId) → n.holder l ≡ Some c → InLocks l (n.held c)
-  pub once : (c : ℕ) → IsOnce (n.held c)
+  pub holds : (c : ℕ) (l : LockId) → InLocks l (held c) → holder l ≡ Some c
+  pub has : (c : ℕ) (l : LockId) → holder l ≡ Some c → InLocks l (held c)
+  pub once : (c : ℕ) → IsOnce (held c)
   -- a bus whose lock nobody has is shut
-  pub shut : (p : ℕ) → n.holder (lock.Mux p) ≡ None → IsRest b p (n.slot p)
-  pub told : WorldTold b n.slot n.worlds
+  pub shut : (p : ℕ) → holder (lock.Mux p) ≡ None → IsRest b p (slot p)
+  pub told : WorldTold b slot worlds
+
+abbrev pub Stands : BoardView → Now → Type 0
+Stands b n = StandsIn b n.walk n.held n.holder n.slot n.worlds

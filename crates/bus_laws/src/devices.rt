@@ -4,15 +4,15 @@ ghost use Rattle.i2c_base.specs.declared.reply.Cut.{Cut};
 ghost use Rattle.i2c_base.specs.declared.tree.Grant.TheVariants as grant;
 ghost use Rattle.i2c_base.specs.Board.{BoardView};
 ghost use Rattle.i2c_base.specs.Transfer.{TransferView};
-ghost use Rattle.i2c_spec.specs.Tree.{home_of_mux, addr_of_mux, IsAlong};
+ghost use Rattle.i2c_spec.specs.Tree.{root_of, home_of_mux, addr_of_mux, IsAlong};
 ghost use Rattle.i2c_spec.specs.TreeFacts.{IsTree};
 ghost use Rattle.i2c_spec.specs.Grant.{grant_of};
 ghost use Rattle.i2c_spec.specs.Targets.{TargetState, opening_state};
 ghost use Rattle.i2c_spec.specs.Messages.{MessageView, messages_of};
 ghost use Rattle.i2c_spec.specs.World.{World, is_joined, opening_world};
-ghost use Rattle.i2c_spec.specs.Flat.{FlatListener, idle, is_it, flat_listener, granted_on, block_limit, cut_in, flat_messages};
+ghost use Rattle.i2c_spec.specs.Flat.{FlatListener, idle, is_it, flat_listener, granted_on, block_limit, cut_in, flat_messages, flat};
 ghost use Rattle.i2c_spec.specs.Conversation.{world_listener, talk, is_empty, is_good};
-ghost use Rattle.bus_laws.specs.Alike.{IsOf, IsByte, IsByteBoard, Same, LeadsTo, IsControl, ToldAlike, GrowsAlike, EndsTransfer, IsUnnamed, talk_part};
+ghost use Rattle.bus_laws.specs.Alike.{IsOf, IsByte, IsByteBoard, Same, LeadsTo, IsControl, ToldAlike, GrowsAlike, EndsTransfer, IsUnnamed, FlatSame, talk_part};
 
 /// A root's world and the flat world are opened with the same devices.
 pub fn both_worlds_open_the_same()
@@ -81,4 +81,13 @@ pub fn a_message_leaves_other_devices()
         → w.board ≡ b → w.root ≡ r → slice_get w.devices d ≡ o → slice_get (talk world_listener limit w m last cut).now.devices d ≡ o }
     ensures flat { (d : ℕ) (o : Option TargetState) (granted : ℕ → Option ℕ) (limit : ℕ) (f : FlatListener) (m : MessageView) (last : Bool) (cut : Option ℕ)
         → is_it (granted m.addr) d ≡ false → IsUnnamed d o f → IsUnnamed d o (talk (flat_listener granted) limit f m last cut).now }
+{}
+
+/// A transfer in the flat world has to do with the devices of its root alone: its reply and what it leaves of them
+/// depend on nothing else, and the devices of other roots stay as they are.
+pub fn a_transfer_is_of_its_root_alone()
+    ensures same { (b : BoardView) → IsTree b → (xs ys : List TargetState) (t : TransferView) (cut : Cut)
+        → ((d : ℕ) → IsOf b (root_of b t.bus) d → slice_get xs d ≡ slice_get ys d) → FlatSame b (root_of b t.bus) (flat b xs t cut) (flat b ys t cut) }
+    ensures others { (b : BoardView) → IsTree b → (xs : List TargetState) (t : TransferView) (cut : Cut) (d : ℕ) → (IsOf b (root_of b t.bus) d → ⊥)
+        → slice_get (flat b xs t cut).states d ≡ slice_get xs d }
 {}

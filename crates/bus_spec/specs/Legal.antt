@@ -1,6 +1,6 @@
 -- What makes a journal legal: the rules of the bus over the whole of it, in the field's words. The journal is read as
 -- a past, the newest entry first.
-use Rattle.std.specs.Prelude.{◌≡◌, ℕ, zero, suc, ◌<◌, ◌==◌, Bool, true, false, ◌⊎◌, List, [], ◌∷◌, ◌++◌, reverse, Option, Some, None, slice_get, if◌then◌else◌}
+use Rattle.std.specs.Prelude.{◌≡◌, ℕ, zero, suc, ◌<◌, ◌==◌, Bool, true, false, ◌⊎◌, List, [], ◌∷◌, ◌++◌, Option, Some, None, slice_get, if◌then◌else◌}
 use Rattle.std.specs.List.{list_any, list_all, AllByRecursion}
 use Rattle.std.specs.Option.{option_map_or}
 use Rattle.i2c_base.specs.declared.ids.LockId.{LockId}
@@ -24,11 +24,11 @@ use Rattle.i2c_spec.specs.Targets.{TargetState, state_table}
 use Rattle.i2c_spec.specs.World.{World, opens_hop, after_all, opening_world, has_heard}
 use Rattle.i2c_spec.specs.Flat.{refusal}
 use Rattle.i2c_spec.specs.History.{Asks, History, history}
-use Rattle.bus_spec.specs.Walk.{Job, Call, Act, Take, Free, Send, Shift, Settle, ActOutcome, Passed, Sent, Lined, WalkTree, Ends, job_bus, job_purpose}
+use Rattle.bus_spec.specs.Walk.{Job, Act, Take, Free, Send, Shift, Settle, ActOutcome, Passed, Sent, Lined, WalkTree, Ends, job_bus, job_purpose}
 use Rattle.bus_spec.specs.Slots.{Slots}
 use Rattle.bus_spec.specs.Grammar.{walk_for, seen, first_act, rest_of}
 use Rattle.bus_spec.specs.Readings.{rank, caller_of, holder, replies, order, is_on_root, is_call_of, is_settle_of, last_cut, Everywhere}
-use Rattle.bus_spec.specs.Past.{Now, current, is_due, talk_of, now, world_at, calls_of}
+use Rattle.bus_spec.specs.Past.{current, is_due, talk_of, now, world_at, calls_of}
 use Rattle.bus_spec.specs.Stepwise.{HearsIn}
 
 -- LOCKS: a lock is taken only while nobody has it, in falling rank, and freed only by who has it (i2c-topology)

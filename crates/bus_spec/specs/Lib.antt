@@ -10,6 +10,8 @@ pub mod Legal
 pub mod Schedule
 pub mod Play
 pub mod Rows
+pub mod Lines
+pub mod Report
 pub use Rattle.i2c_spec.specs.Tree
 pub use Rattle.i2c_spec.specs.Grant
 pub use Rattle.i2c_spec.specs.World

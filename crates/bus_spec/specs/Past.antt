@@ -1,6 +1,6 @@
 -- Where everything stands after a past: one record, folded over the entries. What needs each other stands in it: the
 -- walks need what is known of each bus, that needs the walks, and the worlds need the messages of both.
-use Rattle.std.specs.Prelude.{ℕ, ◌==◌, Bool, true, false, ◌&&◌, List, [], ◌∷◌, ◌++◌, reverse, Option, Some, None, if◌then◌else◌}
+use Rattle.std.specs.Prelude.{ℕ, ◌==◌, Bool, true, false, List, [], ◌∷◌, ◌++◌, reverse, Option, Some, None, if◌then◌else◌}
 use Rattle.i2c_base.specs.declared.ids.LockId.{LockId}
 use Rattle.i2c_base.specs.declared.entry.Entry.{Entry}
 use Rattle.i2c_base.specs.declared.entry.Entry.TheVariants as entry
@@ -21,7 +21,7 @@ use Rattle.i2c_spec.specs.History.{Asks, changed_at}
 use Rattle.bus_spec.specs.Walk.{Job, Call, Select, Clear, Act, Take, Free, Send, Shift, Settle, ActOutcome, Passed, Sent, Lined, WalkTree, Ends, Note, Go, On, Last, Over, job_bus, message_of, is_last, goes, line_mux, line_level}
 use Rattle.bus_spec.specs.Slots.{Slots, all_clean, mark_in, after_job}
 use Rattle.bus_spec.specs.Grammar.{walk_for, seen, is_over, first_act, first_note, rest_of}
-use Rattle.bus_spec.specs.Readings.{is_lock, is_call, cut_told}
+use Rattle.bus_spec.specs.Readings.{is_lock, cut_told}
 
 pub record Now : Type 0 where
   -- what is left of each caller's walk; it has ended where none is under way

@@ -1,20 +1,16 @@
 -- The journal that callers make, step by step: the entry that a caller adds next is determined by where everything
 -- stands and by which calls of the ports fail. Worked rows are computed by it.
-use Rattle.std.specs.Prelude.{ℕ, zero, suc, ◌+◌, ◌==◌, Bool, true, false, List, [], ◌∷◌, length, Option, Some, None, if◌then◌else◌, slice_get, reverse}
+use Rattle.std.specs.Prelude.{ℕ, zero, suc, ◌+◌, ◌==◌, Bool, false, List, [], ◌∷◌, length, Option, Some, None, if◌then◌else◌, slice_get, reverse}
 use Rattle.std.specs.List.{range_with_len, find}
-use Rattle.std.specs.Option.{option_map}
-use Rattle.i2c_base.specs.declared.ids.LockId.{LockId}
 use Rattle.i2c_base.specs.declared.ids.Node.{Node}
 use Rattle.i2c_base.specs.declared.entry.Entry.{Entry}
 use Rattle.i2c_base.specs.declared.entry.Entry.TheVariants as entry
 use Rattle.i2c_base.specs.declared.entry.End.{End}
 use Rattle.i2c_base.specs.declared.entry.End.TheVariants as end
-use Rattle.i2c_base.specs.declared.reply.Reply.{Reply}
 use Rattle.i2c_base.specs.Board.{BoardView}
 use Rattle.i2c_base.specs.Transfer.{TransferView}
 use Rattle.i2c_spec.specs.Tree.{root_of}
 use Rattle.i2c_spec.specs.World.{World, hearers}
-use Rattle.i2c_spec.specs.Messages.{MessageView}
 use Rattle.i2c_spec.specs.Conversation.{TalkTold, talk, world_listener}
 use Rattle.i2c_spec.specs.Flat.{block_limit}
 use Rattle.i2c_spec.specs.History.{Asks}

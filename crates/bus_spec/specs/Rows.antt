@@ -1,5 +1,6 @@
 -- Worked examples: small boards, and the journals that come of small scripts on them.
 use Rattle.std.specs.Prelude.{ℕ, ◌==◌, ◌||◌, if◌then◌else◌, Bool, true, false, List, [], ◌∷◌, ◌++◌, Some, None, replicate}
+use Rattle.std.specs.List.{filter}
 use Rattle.i2c_base.specs.declared.board.RootSpec.{RootSpec}
 use Rattle.i2c_base.specs.declared.board.MuxSpec.{MuxSpec}
 use Rattle.i2c_base.specs.declared.board.MuxKind.{MuxKind}
@@ -15,14 +16,15 @@ use Rattle.i2c_base.specs.declared.entry.Entry.TheVariants as entry
 use Rattle.i2c_base.specs.declared.entry.End.TheVariants as end
 use Rattle.i2c_base.specs.declared.entry.Purpose.TheVariants as purpose
 use Rattle.i2c_base.specs.declared.errno.Errno.{Errno}
-use Rattle.i2c_base.specs.declared.errno.Errno.TheVariants.{Enxio, Ebusy, Etimedout, Eremoteio}
+use Rattle.i2c_base.specs.declared.errno.Errno.TheVariants.{Enxio, Etimedout, Eremoteio}
 use Rattle.i2c_base.specs.declared.reply.Reply.TheVariants as reply
 use Rattle.i2c_base.specs.declared.reply.Cut.{Cut}
 use Rattle.i2c_base.specs.declared.reply.Cut.TheVariants as cut
 use Rattle.i2c_base.specs.declared.transfer.Kind.TheVariants as transfer_kind
 use Rattle.i2c_base.specs.Board.{BoardView, DeviceView}
 use Rattle.i2c_base.specs.Transfer.{TransferView, written, plain_read}
-use Rattle.bus_spec.specs.Play.{Failing}
+use Rattle.bus_spec.specs.Readings.{is_settle_of}
+use Rattle.bus_spec.specs.Play.{Failing, played, transfers_of}
 
 abbrev pub one_root : List RootSpec
 one_root = (record { smbus_only = false }) ∷ []
@@ -189,3 +191,40 @@ two_marks_journal =
     ∷ fails 0 Eremoteio cut.Way ∷ free_bus 0 ∷ free_mux 0 0 ∷ free_mux 0 1
     ∷ take_mux 0 1 ∷ take_mux 0 0 ∷ take_bus 0 ∷ control_nack 0 0 0 0x70 ∷ control_nack 0 0 0 0x70
     ∷ fails 0 Enxio cut.No ∷ free_bus 0 ∷ free_mux 0 0 ∷ free_mux 0 1 ∷ []
+
+-- a plain transfer writes a byte to one device, and reads two from an address where nobody is; one byte is received (SMBus 3.2 section 6.5.3)
+abbrev pub write_and_read : ℕ → ℕ → ℕ → ℕ → TransferView
+write_and_read bus addr reg silent =
+    record { bus = bus; kind = transfer_kind.Plain; force = false; msgs = written addr 1 ∷ plain_read silent 2 ∷ []; out = reg ∷ [] }
+
+abbrev pub receive : ℕ → ℕ → TransferView
+receive bus addr = record { bus = bus; kind = transfer_kind.Smbus; force = false; msgs = plain_read addr 1 ∷ []; out = [] }
+
+-- A message that went through before one that nobody acknowledges has had its effect
+abbrev pub effect_journal : List Entry
+effect_journal =
+    take_bus 0 ∷ entry.Message 0 0 purpose.Call 1 2 0x20 false (5 ∷ []) (Some (Device 0)) end.Ok
+    ∷ entry.Message 0 0 purpose.Call 2 2 0x21 true [] None end.Nack ∷ fails 0 Enxio cut.No ∷ free_bus 0
+    ∷ take_bus 1 ∷ entry.Message 1 0 purpose.Call 1 1 0x20 true (0x7e ∷ []) (Some (Device 0)) end.Ok
+    ∷ entry.Settle 1 (reply.Read (0x7e ∷ [])) cut.No ∷ free_bus 1 ∷ []
+
+-- a read that went through
+abbrev pub gave : ℕ → ℕ → Entry
+gave c byte = entry.Settle c (reply.Read (byte ∷ [])) cut.No
+
+-- what a journal says of the settles of caller 0, and the bytes of the messages that switch muxes, each in order
+abbrev pub settles : List Entry → List Entry
+settles journal = filter (is_settle_of 0) journal
+
+abbrev pub switched : List Entry → List (List ℕ)
+switched [] = []
+switched (entry.Message c bus (purpose.Control m) part parts addr reading bytes heard e ∷ rest) = bytes ∷ switched rest
+switched (entry.Message c bus purpose.Call part parts addr reading bytes heard e ∷ rest) = switched rest
+switched (entry.Take c l ∷ rest) = switched rest
+switched (entry.Free c l ∷ rest) = switched rest
+switched (entry.Line c m level failed ∷ rest) = switched rest
+switched (entry.Settle c r at ∷ rest) = switched rest
+
+-- A register behind a parent-locked mux is read twice, and one call of the port fails
+abbrev pub two_reads : Failing → List Entry
+two_reads fails = played parent_locked (transfers_of ((read 1 0x30 0 ∷ read 1 0x30 0 ∷ []) ∷ [])) fails (replicate 20 0)

@@ -1,10 +1,9 @@
 -- What is known of the muxes on each bus.
-use Rattle.std.specs.Prelude.{ℕ, zero, suc, ◌==◌, Bool, true, false, List, [], ◌∷◌, Option, Some, None, if◌then◌else◌}
+use Rattle.std.specs.Prelude.{ℕ, zero, suc, ◌==◌, List, [], ◌∷◌, Option, Some, None, if◌then◌else◌}
 use Rattle.i2c_spec.specs.Tree.{Hop}
 use Rattle.i2c_spec.specs.History.{changed_at}
-use Rattle.i2c_base.specs.declared.entry.End.{End}
 use Rattle.i2c_base.specs.declared.entry.End.TheVariants as end
-use Rattle.bus_spec.specs.Walk.{Mark, Job, Call, Select, Clear, JobOutcome, Good, Refused, Unsent, Failed, ActOutcome, Passed, Sent, Lined, first_byte, job_outcome}
+use Rattle.bus_spec.specs.Walk.{Mark, Job, Call, Select, Clear, ActOutcome, Passed, Sent, Lined, first_byte}
 
 -- all are shut; one is selected; one may have been left open. An arbitrator that is being asked is shut: it may be
 -- found taken so many times more, or it was found free

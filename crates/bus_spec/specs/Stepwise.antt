@@ -1,6 +1,6 @@
 -- When one more entry may come after a past: a condition on where everything stands and on the entry alone. This is
 -- what a step of the core shows, and what a checker of journals tests.
-use Rattle.std.specs.Prelude.{◌≡◌, ℕ, zero, suc, ◌<◌, ◌==◌, Bool, true, false, ◌⊎◌, List, [], ◌∷◌, Option, Some, None}
+use Rattle.std.specs.Prelude.{◌≡◌, ℕ, zero, suc, ◌<◌, Bool, ◌⊎◌, List, [], ◌∷◌, Option, Some, None}
 use Rattle.i2c_base.specs.declared.ids.LockId.{LockId}
 use Rattle.i2c_base.specs.declared.ids.Node.{Node}
 use Rattle.i2c_base.specs.declared.entry.Entry.{Entry}
@@ -15,12 +15,11 @@ use Rattle.i2c_base.specs.Board.{BoardView}
 use Rattle.i2c_base.specs.Transfer.{TransferView}
 use Rattle.i2c_spec.specs.Tree.{root_of}
 use Rattle.i2c_spec.specs.World.{World, hearers}
-use Rattle.i2c_spec.specs.Conversation.{TalkTold}
 use Rattle.i2c_spec.specs.Flat.{or_done}
 use Rattle.i2c_spec.specs.History.{Asks}
 use Rattle.bus_spec.specs.Walk.{Job, Act, Take, Free, Send, Shift, Settle, job_bus, job_purpose, part_of, parts_of, message_of, line_mux, line_level}
 use Rattle.bus_spec.specs.Grammar.{first_act}
-use Rattle.bus_spec.specs.Readings.{rank, caller_of}
+use Rattle.bus_spec.specs.Readings.{rank}
 use Rattle.bus_spec.specs.Past.{Now, current, talk_of, now}
 
 -- the caller's next step is this one

@@ -1,6 +1,11 @@
 //! Worked examples, computed by the checker itself: each function has an empty body, and its clause is the journal
 //! that small scripts make on a small board.
-ghost use Rattle.std.specs.Prelude.{◌≡◌, ◌++◌, [], ◌∷◌, Some, replicate, true};
+ghost use Rattle.std.specs.Prelude.{◌≡◌, ◌++◌, [], ◌∷◌, Some, replicate, true, length, reverse, option_map};
+ghost use Rattle.i2c_base.specs.declared.errno.Errno.TheVariants.{Eremoteio};
+ghost use Rattle.i2c_base.specs.declared.reply.Reply.TheVariants as reply;
+ghost use Rattle.i2c_base.specs.declared.reply.Cut.TheVariants as cut;
+ghost use Rattle.i2c_spec.specs.History.{history};
+ghost use Rattle.bus_spec.specs.Readings.{order};
 ghost use Rattle.bus_spec.specs.Play.{played, transfers_of, none_fails, fails_at};
 ghost use Rattle.bus_spec.specs.Rows as row;
 
@@ -60,4 +65,37 @@ pub fn a_failed_close_fails_its_transfer()
 pub fn a_failed_way_marks_both_muxes()
     ensures { played row.absent_outer (transfers_of ((row.read 9 0x20 0 ∷ row.read 9 0x20 0 ∷ []) ∷ [])) (fails_at 0 0)
         (replicate 20 0) ≡ row.two_marks_journal }
+{}
+
+/// The effect of a message that went through stays where a later one of its transfer is not acknowledged.
+pub fn an_effect_before_a_failure_stays()
+    ensures { played row.one_device (transfers_of ((row.write_and_read 0 0x20 5 0x21 ∷ []) ∷ (row.receive 0 0x20 ∷ []) ∷ [])) none_fails
+        (replicate 4 0 ++ replicate 3 1) ≡ row.effect_journal }
+{}
+
+/// One failing call of a port fails at most the transfer under way; the next one closes a mux that may be open.
+///
+/// It fails on the way where the call is one of the select, in the message whose call it is, and not at all in the
+/// deselect.
+pub fn one_failing_call_fails_at_most_its_transfer()
+    ensures way { row.settles (row.two_reads (fails_at 0 1)) ≡ row.fails 0 Eremoteio cut.Way ∷ row.gave 0 0x11 ∷ [] }
+    ensures way_closed { row.switched (row.two_reads (fails_at 0 1)) ≡ [] ∷ (0 ∷ []) ∷ (1 ∷ []) ∷ (0 ∷ []) ∷ [] }
+    ensures message { row.settles (row.two_reads (fails_at 0 4)) ≡ row.fails 0 Eremoteio (cut.At 0 1) ∷ row.gave 0 0x11 ∷ [] }
+    ensures message_not_closed { row.switched (row.two_reads (fails_at 0 4)) ≡ (1 ∷ []) ∷ (0 ∷ []) ∷ (1 ∷ []) ∷ (0 ∷ []) ∷ [] }
+    ensures deselect { row.settles (row.two_reads (fails_at 0 9)) ≡ row.gave 0 0x11 ∷ row.gave 0 0x11 ∷ [] }
+    ensures deselect_closed { row.switched (row.two_reads (fails_at 0 9)) ≡ (1 ∷ []) ∷ [] ∷ (0 ∷ []) ∷ (1 ∷ []) ∷ (0 ∷ []) ∷ [] }
+{}
+
+/// A call that fails on the way of a deselect changes no reply.
+pub fn a_failed_way_of_a_deselect_keeps_the_reply()
+    ensures entries { length (played row.chain (transfers_of ((row.read 13 0x40 0 ∷ []) ∷ [])) (fails_at 0 18) (replicate 60 0)) ≡ 39 }
+    ensures reply { row.settles (played row.chain (transfers_of ((row.read 13 0x40 0 ∷ []) ∷ [])) (fails_at 0 18) (replicate 60 0)) ≡ row.gave 0 0x22 ∷ [] }
+{}
+
+/// In the flat world the same transfers, one at a time in the order of their settles, have the replies of the journal.
+pub fn a_mux_locked_journal_settles_as_the_flat_world()
+    ensures first { option_map (λ h. h.replies 0) (history row.mux_locked (transfers_of ((row.read 1 0x30 0 ∷ []) ∷ (row.read 0 0x20 5 ∷ []) ∷ []))
+        (order (reverse row.mux_locked_journal))) ≡ Some (reply.Read (0x11 ∷ []) ∷ []) }
+    ensures second { option_map (λ h. h.replies 1) (history row.mux_locked (transfers_of ((row.read 1 0x30 0 ∷ []) ∷ (row.read 0 0x20 5 ∷ []) ∷ []))
+        (order (reverse row.mux_locked_journal))) ≡ Some (reply.Read (0x7e ∷ []) ∷ []) }
 {}

@@ -1,5 +1,5 @@
 -- What contracts see of a transfer, and what fits one.
-use Rattle.std.specs.Prelude.{◌≡◌, ℕ, ◌+◌, ◌<◌, ◌≤◌, ◌==◌, Bool, true, false, not, ◌&&◌, List, [], ◌∷◌, ◌++◌, length, sum_by, All, if◌then◌else◌, bit_and, IsTrue}
+use Rattle.std.specs.Prelude.{◌≡◌, ℕ, ◌+◌, ◌<◌, ◌≤◌, ◌==◌, Bool, true, List, [], ◌∷◌, ◌++◌, length, sum_by, All, if◌then◌else◌, bit_and}
 use Rattle.i2c_base.specs.declared.transfer.Kind.{Kind}
 use Rattle.i2c_base.specs.declared.transfer.Msg.{Msg}
 

@@ -19,6 +19,8 @@ mod memory;
 mod port;
 mod reply;
 mod rules;
+#[cfg(test)]
+mod tests;
 mod transfer;
 mod tree;
 

@@ -5,7 +5,7 @@ use Rattle.i2c_base.specs.Board.{BoardView}
 use Rattle.i2c_spec.specs.Tree.{Hop, hops, end_of, over, buses, IsAmongHops}
 use Rattle.i2c_spec.specs.Plain.{IsPlainBoard}
 use Rattle.i2c_spec.proofs.PlainLemmas.{channels_of_mux_le}
-use Rattle.i2c_spec.proofs.TreeLemmas.{tree_hop, tree_root_is, tree_root_hops}
+use Rattle.i2c_spec.proofs.TreeLemmas.{tree_within, tree_root_is, tree_root_hops}
 
 none_from_over : (hs : List Hop) → slice_get hs 0 ≡ None → hs ≡ []
 none_from_over [] e = refl
@@ -27,5 +27,4 @@ over_root b s plain root = ap (λ (hs : List Hop). slice_get hs 0) (tree_root_ho
 -- a mux has 8 channels at most
 pub over_channel : (b : BoardView) (s : ℕ) (h : Hop) → IsPlainBoard b → s < buses b → over b s ≡ Some h → h.channel < 8
 over_channel b s h plain there e =
-    let is = tree_hop b plain.planted s h there (first_among (hops b s) h e) in
-    omega (arith, is.channel, channels_of_mux_le b h.mux plain)
+    omega (arith, tree_within b plain.planted s h there (first_among (hops b s) h e), channels_of_mux_le b h.mux plain)

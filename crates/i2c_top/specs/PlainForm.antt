@@ -3,7 +3,7 @@ use Rattle.std.specs.Prelude.{ℕ, false, List, [], ◌∷◌, ◌++◌, codes}
 use Rattle.std.specs.Fmt.{decimal}
 use Rattle.i2c_base.specs.Board.{BoardView, DeviceView, RunView}
 use Rattle.i2c_base.specs.declared.board.DeviceKind.TheVariants as kind
-use Rattle.i2c_top.specs.Lines.{two_digits}
+use Rattle.bus_spec.specs.Lines.{two_digits}
 
 -- the text, by its address, its register and the register's byte
 abbrev pub plain_text : ℕ → ℕ → ℕ → List ℕ

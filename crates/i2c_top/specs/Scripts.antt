@@ -8,7 +8,7 @@ use Rattle.i2c_base.specs.declared.reply.Reply.{Reply}
 use Rattle.i2c_base.specs.declared.reply.Reply.TheVariants as reply
 use Rattle.i2c_top.specs.Fronts.{lines_of}
 use Rattle.std.specs.List.{flat_map}
-use Rattle.i2c_top.specs.Lines.{errno_text, two_digits}
+use Rattle.bus_spec.specs.Lines.{errno_text, two_digits}
 use Rattle.i2c_top.specs.Commands.{CommandView, line_read}
 use Rattle.i2c_top.specs.declared.command.Get.{Get}
 use Rattle.i2c_top.specs.declared.command.LineFault.{LineFault}

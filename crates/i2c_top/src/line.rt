@@ -1,6 +1,6 @@
 ghost use Rattle.std.specs.Prelude.{◌≡◌, ◌++◌, OnOk, IfOk};
 ghost use Rattle.std.specs.Fmt.{decimal};
-ghost use Rattle.i2c_top.specs.Lines.{lock_text, purpose_text, direction_text, node_text, heard_text, end_text, errno_text, reply_text, cut_text, data_text, part_text, place_text, result_text, level_text, entry_line};
+ghost use Rattle.bus_spec.specs.Lines.{lock_text, purpose_text, direction_text, node_text, heard_text, end_text, errno_text, reply_text, cut_text, data_text, part_text, place_text, result_text, level_text, entry_line};
 
 use crate::text::{push_bytes, push_decimal, push_hex, push_joined, push_spaced};
 use i2c_base::{

@@ -1,7 +1,7 @@
 ghost use Rattle.std.specs.Prelude.{◌≡◌, ℕ, ◌+◌, ◌<◌, ◌≤◌, ◌++◌, [], ◌∷◌, map, length, codes, OnOk, IfOk};
 ghost use Rattle.std.specs.List.{flat_map};
 ghost use Rattle.std.specs.Fmt.{decimal};
-ghost use Rattle.i2c_top.specs.Report.{sections, ended_line, report_of};
+ghost use Rattle.bus_spec.specs.Report.{sections, ended_line, report_lines};
 
 use crate::Journal;
 use crate::line::entry_text;
@@ -56,7 +56,7 @@ pub fn report_text(
     callers: &[Vec<u8>],
     journal: &Journal,
 ) -> Result<Vec<u8>, NoMemory>
-    ensures { IfOk result (λ text. text.items ≡ report_of (map (λ v. v.items) callers.now) journal.now) }
+    ensures { IfOk result (λ text. text.items ≡ report_lines (map (λ v. v.items) callers.now) journal.now) }
 {
     let mut out = Vec::new(alloc);
     push_sections(alloc, &mut out, callers)?;

@@ -5,8 +5,7 @@ ghost use Rattle.i2c_top.specs.Steps.{IsPlaced};
 use crate::command::{Command, Get};
 use crate::message::{Message, Told, send_message};
 use i2c_base::{
-    Addr, ByteList, Bytes, Cut, DevId, End, Entry, Errno, LockId, NoMemory, Node, Purpose, Reply,
-    SegId,
+    Addr, ByteList, Bytes, Cut, End, Entry, Errno, LockId, NoMemory, Node, Purpose, Reply, SegId,
 };
 use i2c_board::{Accepted, Board, Grant};
 use i2c_outside::Port;
@@ -50,18 +49,12 @@ pub enum StepAnswer {
     Finished,
 }
 
-/// To whom an address leads on a bus of a board without a mux, for a transfer that isn't forced.
+// To whom an address leads on a bus, for a transfer that isn't forced; to nobody where the board has no such bus.
 fn grant(board: &Board, bus: u16, addr: Addr) -> Grant {
-    for (at, device) in board.devices().iter().enumerate() {
-        if device.bus.0 == bus && device.addr == addr {
-            return if device.bound {
-                Grant::Busy
-            } else {
-                Grant::Named(DevId(at as u16))
-            };
-        }
+    match board.seg(bus) {
+        None => Grant::Nobody,
+        Some(seg) => board.grant(seg, addr, false),
     }
-    Grant::Nobody
 }
 
 // Who heard a message, where someone did.

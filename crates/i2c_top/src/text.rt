@@ -1,6 +1,6 @@
 ghost use Rattle.std.specs.Prelude.{◌≡◌, ℕ, ◌<◌, ◌++◌, OnOk};
 ghost use Rattle.std.specs.Fmt.{decimal};
-ghost use Rattle.i2c_top.specs.Lines.{hex_digit, two_digits, joined, spaced, spaced_digits};
+ghost use Rattle.bus_spec.specs.Lines.{hex_digit, two_digits, joined, spaced, spaced_digits};
 
 use i2c_base::NoMemory;
 use std::alloc::Global;

@@ -1,6 +1,6 @@
 use Rattle.std.proofs.Common.{◌≡◌, ◌++◌, take}
 use Rattle.std.specs.List.{flat_map}
-use Rattle.i2c_top.specs.Report.{ended_line}
+use Rattle.bus_spec.specs.Report.{ended_line}
 use Rattle.i2c_top.proofs.report.push_lines.Given as goal
 
 abbrev pub invariant-loop-entry : goal.invariant-loop-entry

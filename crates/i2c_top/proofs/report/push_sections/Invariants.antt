@@ -1,5 +1,5 @@
 use Rattle.std.proofs.Common.{◌≡◌, ◌++◌, drop, map}
-use Rattle.i2c_top.specs.Report.{sections}
+use Rattle.bus_spec.specs.Report.{sections}
 use Rattle.i2c_top.proofs.report.push_sections.Given as goal
 
 abbrev pub invariant-loop-caller : goal.invariant-loop-caller

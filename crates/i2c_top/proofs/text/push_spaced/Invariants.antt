@@ -1,6 +1,6 @@
 use Rattle.std.proofs.Common.{◌≡◌, ◌++◌, take}
 use Rattle.std.specs.List.{flat_map}
-use Rattle.i2c_top.specs.Lines.{spaced_digits}
+use Rattle.bus_spec.specs.Lines.{spaced_digits}
 use Rattle.i2c_top.proofs.text.push_spaced.Given as goal
 
 abbrev pub invariant-loop-byte : goal.invariant-loop-byte

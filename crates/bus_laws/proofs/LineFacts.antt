@@ -1,0 +1,62 @@
+-- An accepted board's gpio muxes stand below parent-locked muxes alone, so a line step has the root's lock.
+use Rattle.std.proofs.Common.{◌≡◌, ℕ, zero, suc, ◌<◌, ◌≤◌, Bool, true, false, not, ◌&&◌, cond, List, [], ◌∷◌, length, filter, Option, Some, None, nat_lt, refl, sym, ◌∙◌, ap, subst, ◌⊎◌, inl, inr, arith}
+use Rattle.std.specs.Prelude.{slice_get, unwrap_or}
+use Rattle.std.specs.Option.{option_map}
+use Rattle.std.proofs.lemmas.Bool.{ltb-false}
+use Rattle.std.proofs.lemmas.Option.{slice_get_within}
+use Rattle.i2c_base.specs.declared.board.MuxKind.{MuxKind}
+use Rattle.i2c_base.specs.declared.board.MuxKind.TheVariants.{Pca9548, Pca9546, Pca9544, Pca9541, Gpio}
+use Rattle.i2c_base.specs.declared.board.MuxSpec.{MuxSpec}
+use Rattle.i2c_base.specs.Board.{BoardView}
+use Rattle.i2c_spec.specs.Tree.{Hop, hops, of_mux, is_parent, home_of_mux, IsAmongHops}
+use Rattle.i2c_spec.specs.Rules.{MeetsRules, wants_parent, locked_over, is_locked_under, is_wrongly_locked}
+use Rattle.bus_spec.specs.Walk.{is_gpio}
+use Rattle.bus_spec.specs.Grammar.{kind_of}
+use Rattle.bus_laws.specs.Lines.{LinesAreLocked}
+
+gpio_wants : (k : MuxKind) → is_gpio k ≡ true → wants_parent k ≡ true
+gpio_wants Gpio e = refl
+gpio_wants Pca9548 e = absurd (let f : false ≡ true = e in cc)
+gpio_wants Pca9546 e = absurd (let f : false ≡ true = e in cc)
+gpio_wants Pca9544 e = absurd (let f : false ≡ true = e in cc)
+gpio_wants Pca9541 e = absurd (let f : false ≡ true = e in cc)
+
+wanted : (p q : Bool) → p ≡ true → (p && not q) ≡ false → q ≡ true
+wanted true true e f = refl
+wanted true false e f = absurd (let g : true ≡ false = f in cc)
+wanted false q e f = absurd (let g : false ≡ true = e in cc)
+
+-- no mux-locked hop is kept, so none is there
+all_parents : (hs : List Hop) (g : Hop) → IsAmongHops g hs → nat_lt 0 (length (filter (λ (h : Hop). not h.parent) hs)) ≡ false → g.parent ≡ true
+all_parents [] g a none = absurd a
+all_parents (h ∷ hs) g a none = by_parent (λ more left. all_parents hs g more left) h.parent refl
+  where
+    by_parent : (IsAmongHops g hs → nat_lt 0 (length (filter (λ (x : Hop). not x.parent) hs)) ≡ false → g.parent ≡ true)
+        → (t : Bool) → h.parent ≡ t → g.parent ≡ true
+    by_parent later true e =
+        elim a [
+          | inl same ↦ ap (λ (x : Hop). x.parent) same ∙ e
+          | inr more ↦ later more
+              (sym (ap (λ (t : Bool). nat_lt 0 (length (cond (not t) (h ∷ filter (λ (x : Hop). not x.parent) hs) (filter (λ (x : Hop). not x.parent) hs)))) e) ∙ none)
+        ]
+    by_parent later false e =
+        let some : length (h ∷ filter (λ (x : Hop). not x.parent) hs) ≤ 0 = ltb-false 0 (length (h ∷ filter (λ (x : Hop). not x.parent) hs))
+          (sym (ap (λ (t : Bool). nat_lt 0 (length (cond (not t) (h ∷ filter (λ (x : Hop). not x.parent) hs) (filter (λ (x : Hop). not x.parent) hs)))) e) ∙ none) in
+        absurd (omega (arith, some))
+
+module _ (b : BoardView) (rules : MeetsRules b) (m : ℕ) (g : Hop) (among : IsAmongHops g (hops b (home_of_mux b m))) where
+  of_spec : (o : Option MuxSpec) → slice_get b.muxes m ≡ o → is_gpio (unwrap_or (option_map (λ (x : MuxSpec). x.kind) o) Pca9548) ≡ true → g.parent ≡ true
+  of_spec None at gpio = absurd (let f : false ≡ true = gpio in cc)
+  of_spec (Some s) at gpio =
+      let below : m < length b.muxes = slice_get_within b.muxes m s at in
+      let wrong : (wants_parent s.kind && not (is_parent s.lock)) ≡ false =
+        sym (ap (λ (o : Option MuxSpec). unwrap_or (option_map (λ (x : MuxSpec). wants_parent x.kind && not (is_parent x.lock)) o) false) at) ∙ rules.parents m below in
+      let parent : of_mux (λ x. is_parent x.lock) false b m ≡ true =
+        ap (λ (o : Option MuxSpec). unwrap_or (option_map (λ (x : MuxSpec). is_parent x.lock) o) false) at
+          ∙ wanted (wants_parent s.kind) (is_parent s.lock) (gpio_wants s.kind gpio) wrong in
+      all_parents (hops b (home_of_mux b m)) g among
+        (sym (ap (λ (t : Bool). nat_lt 0 (length (cond t (filter (λ (h : Hop). not h.parent) (hops b (of_mux (λ x. x.bus) 0 b m))) []))) parent) ∙ rules.locks m below)
+
+pub lines-locked : (b : BoardView) → MeetsRules b → LinesAreLocked b
+lines-locked b rules m g gpio among =
+    of_spec b rules m g among (slice_get b.muxes m) refl gpio

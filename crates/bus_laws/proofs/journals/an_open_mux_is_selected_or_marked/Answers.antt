@@ -1,0 +1,8 @@
+use Rattle.bus_laws.proofs.LineFacts.{lines-locked}
+use Rattle.bus_laws.proofs.PastLaws.{closed-kept}
+use Rattle.bus_laws.proofs.journals.an_open_mux_is_selected_or_marked.Goals as goal
+
+pub returns : goal.returns
+returns c =
+    λ b callers asks past plain rules some steps.
+    closed-kept b (c.an_accepted_board_is_a_tree.ensures b plain rules) plain (lines-locked b rules) asks some callers past steps

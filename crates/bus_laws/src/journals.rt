@@ -1,0 +1,42 @@
+ghost use Rattle.std.specs.Prelude.{ℕ, List};
+ghost use Rattle.i2c_base.specs.Board.{BoardView};
+ghost use Rattle.i2c_base.specs.declared.entry.Entry.{Entry};
+ghost use Rattle.i2c_spec.specs.Plain.{IsPlainBoard};
+ghost use Rattle.i2c_spec.specs.Rules.{MeetsRules};
+ghost use Rattle.i2c_spec.specs.History.{Asks};
+ghost use Rattle.bus_spec.specs.Stepwise.{IsStepwise};
+ghost use Rattle.bus_spec.specs.Legal.{KeepsLocks, KeepsPorts};
+ghost use Rattle.bus_laws.specs.Reach.{AsksForMessages, KeepsClosed, KeepsPathsOpen};
+
+use i2c_spec::an_accepted_board_is_a_tree;
+
+/// The lock rule: a lock is taken only while nobody has it, and in falling rank; and it is freed only by who has it
+/// (Linux i2c-topology).
+pub fn each_journal_keeps_its_locks()
+    ensures { (b : BoardView) (callers : ℕ) (asks : Asks) (past : List Entry) → IsPlainBoard b → MeetsRules b → AsksForMessages asks → IsStepwise b callers asks past → KeepsLocks b past }
+{
+    an_accepted_board_is_a_tree();
+}
+
+/// A mux is open only while the caller that has the lock of its bus has selected it, or while it is the mark of that
+/// lock. It may stay closed in either case.
+pub fn an_open_mux_is_selected_or_marked()
+    ensures { (b : BoardView) (callers : ℕ) (asks : Asks) (past : List Entry) → IsPlainBoard b → MeetsRules b → AsksForMessages asks → IsStepwise b callers asks past → KeepsClosed b asks past }
+{
+    an_accepted_board_is_a_tree();
+}
+
+/// At each message every mux over its bus has the channel of the path open, in the world of its root; and who has
+/// heard the message is exactly who hears its start in that world, but where the start itself failed (UM10204
+/// section 3.1.10).
+pub fn each_message_finds_its_path_open()
+    ensures { (b : BoardView) (callers : ℕ) (asks : Asks) (past : List Entry) → IsPlainBoard b → MeetsRules b → AsksForMessages asks → IsStepwise b callers asks past → KeepsPathsOpen b asks past }
+{
+    an_accepted_board_is_a_tree();
+}
+
+/// The port rule: the bytes and the end of each message are those of its conversation with the world of its root where
+/// it stands, and that world is the opening one after the calls that the entries before tell.
+pub fn each_journal_tells_its_ports()
+    ensures { (b : BoardView) (callers : ℕ) (asks : Asks) (past : List Entry) → IsStepwise b callers asks past → KeepsPorts b asks past }
+{}
