@@ -38,3 +38,5 @@ pub mod DevicesStops
 pub mod DevicesParts
 pub mod DevicesStay
 pub mod DevicesFlat
+pub mod DevicesReach
+pub mod WalkCalls

@@ -5,3 +5,4 @@ pub mod Stands
 pub mod Reach
 -- The devices of a root's world and of the flat world.
 pub mod Alike
+pub mod Calls
