@@ -40,3 +40,4 @@ pub mod DevicesStay
 pub mod DevicesFlat
 pub mod DevicesReach
 pub mod WalkCalls
+pub mod AskedLaws
