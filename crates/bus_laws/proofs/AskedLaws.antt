@@ -8,6 +8,7 @@ use Rattle.i2c_base.specs.declared.entry.Entry.TheVariants as entry
 use Rattle.i2c_base.specs.declared.entry.Purpose.{Purpose}
 use Rattle.i2c_base.specs.declared.reply.Reply.{Reply}
 use Rattle.i2c_base.specs.Board.{BoardView}
+use Rattle.i2c_base.specs.declared.transfer.Kind.TheVariants as transfer_kind
 use Rattle.i2c_base.specs.Transfer.{TransferView}
 use Rattle.i2c_spec.specs.Tree.{root_of}
 use Rattle.i2c_spec.specs.TreeFacts.{IsTree}
@@ -151,15 +152,18 @@ step_asked b asks some callers n all (entry.Message c bus purpose part parts add
     subst (λ (o : Option Act). AllAsked b asks (changed_at n.walk c (rest_of (current b asks n c) (Sent e bytes))) (sent_by b n c o (first_note (current b asks n c)) reading bytes e).settled) (sym may.4)
       (sent_asked b asks some n all c may.2 may.3 e bytes may.4)
 
--- THE INDUCTION
-nobody_asked : (b : BoardView) (asks : Asks) (t : TransferView) → AllAsked b asks (opening b).walk (opening b).settled
-nobody_asked b asks t c = record { whose = t; done = true; calls = tt; settles = refl; asked = λ f. absurd (let g : true ≡ false = f in cc) }
+-- THE INDUCTION. A transfer that nobody asks for: nobody is under way at the opening
+nobody : TransferView
+nobody = record { bus = 0; kind = transfer_kind.Plain; force = false; msgs = []; out = [] }
 
-pub past-asked : (b : BoardView) (asks : Asks) → AsksForMessages asks → TransferView → (callers : ℕ) (past : List Entry) → IsStepwise b callers asks past
+opening-asked : (b : BoardView) (asks : Asks) → AllAsked b asks (opening b).walk (opening b).settled
+opening-asked b asks c = record { whose = nobody; done = true; calls = tt; settles = refl; asked = λ f. absurd (let g : true ≡ false = f in cc) }
+
+pub past-asked : (b : BoardView) (asks : Asks) → AsksForMessages asks → (callers : ℕ) (past : List Entry) → IsStepwise b callers asks past
     → AllAsked b asks (now b asks past).walk (now b asks past).settled
-past-asked b asks some t callers [] steps = nobody_asked b asks t
-past-asked b asks some t callers (e ∷ past) steps =
-    step_asked b asks some callers (now b asks past) (past-asked b asks some t callers past steps.1) e steps.0
+past-asked b asks some callers [] steps = opening-asked b asks
+past-asked b asks some callers (e ∷ past) steps =
+    step_asked b asks some callers (now b asks past) (past-asked b asks some callers past steps.1) e steps.0
 
 -- the replies that are settled
 sent_settled : (b : BoardView) (n : Now) (c : ℕ) (o : Option Act) (note : Note) (reading : Bool) (bytes : List ℕ) (e : End) (d : ℕ)
@@ -199,7 +203,7 @@ settled-told b asks (entry.Settle k r cut ∷ past) c =
     other x y ne = elim (eqb_tells x y) [ inl h ↦ absurd (ne h.1) | inr h ↦ h.0 ]
 
 -- WHOM A MESSAGE REACHES
-module _ (b : BoardView) (tree : IsTree b) (plain : IsPlainBoard b) (lines : LinesAreLocked b) (asks : Asks) (some : AsksForMessages asks) (t : TransferView) (callers : ℕ) where
+module _ (b : BoardView) (tree : IsTree b) (plain : IsPlainBoard b) (lines : LinesAreLocked b) (asks : Asks) (some : AsksForMessages asks) (callers : ℕ) where
 
   -- whether a transfer is forced matters to its own messages alone
   by_force : (w : World) (x : Bool) (job : Job) (o : Option TransferView) (addr : ℕ) (reading : Bool) (heard : Option Node) (e : End)
@@ -246,7 +250,7 @@ module _ (b : BoardView) (tree : IsTree b) (plain : IsPlainBoard b) (lines : Lin
           × ((out : ActOutcome) → CanSend b job left out → Runs b cs.whose (n.held c) (after_job job left at.0.marks out cs.view) (at.1 out))
       runs = subst (λ (w : WalkTree). Runs b cs.whose (n.held c) cs.view w) at.2 cs.runs
       asked : IsAsked b asks c (current b asks n c) (n.settled c)
-      asked = current-asked b asks some n (past-asked b asks some t callers past steps) c
+      asked = current-asked b asks some n (past-asked b asks some callers past steps) c
       calls : CallsOf b asked.whose (Then (Send job left) at.0 at.1)
       calls = subst (λ (w : WalkTree). CallsOf b asked.whose w) at.2 asked.calls
       before : IsBefore asked.done job

@@ -5,6 +5,7 @@ pub mod TreeBase
 pub mod TreePath
 pub mod TreeBehind
 pub mod TreeLaw
+pub mod SettleLaw
 -- The world law: events given to a list, what conversations keep, who is joined, what a message does to the chips.
 pub mod LineFacts
 pub mod WorldFeed
@@ -38,6 +39,7 @@ pub mod DevicesStops
 pub mod DevicesParts
 pub mod DevicesStay
 pub mod DevicesFlat
+-- Whom each message of a journal reaches.
 pub mod DevicesReach
 pub mod WalkCalls
 pub mod AskedLaws

@@ -5,7 +5,8 @@ ghost use Rattle.bus_spec.specs.Slots.{Slots};
 ghost use Rattle.bus_spec.specs.Grammar.{walk_for};
 ghost use Rattle.bus_laws.specs.Lines.{LinesAreLocked};
 ghost use Rattle.bus_laws.specs.Runs.{Runs};
-ghost use Rattle.std.specs.Prelude.{◌<◌, [], length};
+ghost use Rattle.bus_laws.specs.Settles.{Settles};
+ghost use Rattle.std.specs.Prelude.{◌<◌, false, [], length};
 
 /// The tree law: the whole walk of a transfer runs, whatever its steps give and whatever is known of the buses.
 ///
@@ -14,4 +15,10 @@ ghost use Rattle.std.specs.Prelude.{◌<◌, [], length};
 /// open. At a lock that is freed nothing is open there but what is marked.
 pub fn each_walk_keeps_its_path_open()
     ensures { (b : BoardView) (t : TransferView) → IsTree b → LinesAreLocked b → 0 < length t.msgs → (v : Slots) → Runs b t [] v (walk_for b t) }
+{}
+
+/// Each walk settles exactly once, directly behind a message or a line step, or as its only step where the transfer is
+/// refused without one. The caller's messages come before it, each directly behind the one before.
+pub fn each_walk_settles_once()
+    ensures { (b : BoardView) (t : TransferView) → Settles false (walk_for b t) }
 {}

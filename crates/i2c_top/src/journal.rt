@@ -26,6 +26,7 @@ impl Journal {
         Journal { entries }
     }
 
+    /// Its entries, the oldest first.
     pub fn entries(&self) -> &[Entry]
         ensures { result.now ≡ self.now }
     {

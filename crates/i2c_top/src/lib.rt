@@ -1,4 +1,8 @@
 //! The top of the program: the words of the command line to the bytes of the output.
+//!
+//! `top` reads the words, `replay_call` reads the board, the script and the schedule, runs the script over a rig's
+//! ports, and writes the report, or the line of the first refusal. A `Status` tells how the call ended. The report
+//! is made whole before its first byte is written.
 #![tactic(auto)]
 
 mod command;

@@ -260,7 +260,7 @@ fn push_entry(alloc: Global, out: &mut Vec<u8>, entry: &Entry) -> Result<(), NoM
     }
 }
 
-/// The line of an entry, without its end.
+/// The line of an entry in the journal's text, without its line feed. It fails only for want of memory.
 pub fn entry_text(alloc: Global, entry: &Entry) -> Result<Vec<u8>, NoMemory>
     ensures { IfOk result (λ text. text.items ≡ entry_line entry.now) }
 {

@@ -18,6 +18,9 @@ fn is_name(word: &String) -> bool {
 }
 
 /// Does what the program does: `words` are the command line without the program's name, and the shelf's words.
+///
+/// `Usage` is told where the words are not `replay` and three names, a name being a word that isn't empty and
+/// doesn't begin with `-`. The other statuses are those of `replay_call`.
 pub fn top<H: Threads + Wait + Sync, S: Shelf, K: Sink, R: Rig, G: Gate + Sync>(
     _rt: &H,
     alloc: Global,

@@ -50,7 +50,8 @@ fn push_lines(alloc: Global, out: &mut Vec<u8>, entries: &[Entry]) -> Result<(),
     Ok(())
 }
 
-/// The report of a run: a section for each caller, given without its heading, and the journal's lines.
+/// The report of a run: a section for each caller, given without its heading, the journal's lines, and `end`. It
+/// fails only for want of memory.
 pub fn report_text(
     alloc: Global,
     callers: &[Vec<u8>],

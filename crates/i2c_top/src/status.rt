@@ -15,18 +15,23 @@ pub enum BoardRefusal {
 /// How a call of the program ended.
 #[derive(Clone, Copy, Debug, PartialEq, Eq, Hash)]
 pub enum Status {
+    /// The report was written whole.
     Ok,
     /// The words are none of the forms.
     Usage,
+    /// The board's text was refused.
     Board(BoardRefusal),
     /// The first line of a script, from 1, that the grammar doesn't have, and its refused word, from 0.
     Script { caller: u8, line: u32, word: u16 },
     /// The scripts' cost, which is above the limit.
     Cost(u64),
-    /// The file that is named at this place of the words was not read.
+    /// The file that is named at this place of the words was not read; only where the shelf counted a fault there.
     Read(u8),
+    /// The output failed, and counted a fault: what was written is a front of the text due.
     Write,
+    /// There was no memory, and nothing was written.
     Memory,
+    /// The rig was not plugged, and counted a fault.
     Rig,
     /// The first word of the schedule, from 0, that is no caller's number.
     Schedule(u32),

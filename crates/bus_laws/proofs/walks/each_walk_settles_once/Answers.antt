@@ -1,0 +1,5 @@
+use Rattle.bus_laws.proofs.SettleLaw.{walk-settles}
+use Rattle.bus_laws.proofs.walks.each_walk_settles_once.Goals as goal
+
+pub returns : goal.returns
+returns c = walk-settles
