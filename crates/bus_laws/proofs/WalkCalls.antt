@@ -10,13 +10,12 @@ use Rattle.i2c_spec.specs.Messages.{messages_of}
 use Rattle.i2c_spec.specs.Flat.{refusal}
 use Rattle.bus_spec.specs.Walk.{Job, Call, Select, Clear, Send, ActOutcome, JobOutcome, Good, Refused, Unsent, Failed, Note, WalkTree, Ends, Look, Then, Go, On, Last, Over, goes, job_outcome, verdict_of, decides, is_line, more_of}
 use Rattle.bus_spec.specs.Slots.{Slots, mark_in}
-use Rattle.bus_spec.specs.Grammar.{Doer, settled, over, by_go, messages, at_bus, locked, part, with_mark, aside, if_sent, if_good, kind_of, closing, opened, chosen, behind, inner, full, walk_by, walk_for, plain, seen}
+use Rattle.bus_spec.specs.Grammar.{Doer, settled, over, by_go, messages, at_bus, locked, part, with_mark, aside, if_sent, if_good, kind_of, closing, opened, chosen, behind, inner, walk_by, walk_for, plain, seen}
 use Rattle.bus_spec.specs.Walk as walk
-use Rattle.bus_laws.specs.Runs.{IsCall, IsGranted}
+use Rattle.bus_laws.specs.Runs.{IsGranted}
 use Rattle.bus_laws.specs.Calls.{CallsOf}
 
 module _ (b : BoardView) (t : TransferView) where
-
   -- what a doer keeps
   abbrev DoerCalls : Doer → Type 0
   DoerCalls on = (job : Job) (note : Note) (k : JobOutcome → WalkTree) → IsGranted b t job → ((o : JobOutcome) → CallsOf b t (k o)) → CallsOf b t (on job note k)
@@ -39,7 +38,7 @@ module _ (b : BoardView) (t : TransferView) where
   messages_calls (suc left) job note k granted hk = (
     granted,
     λ out. go_calls (goes job left out) (messages left job note k) (Then (Send job zero) note (over job zero note k)) (over job (suc left) note k out)
-      (messages_calls left job note k granted hk) (granted, over_calls job zero note k hk) (over_calls job (suc left) note k hk out),
+        (messages_calls left job note k granted hk) (granted, over_calls job zero note k hk) (over_calls job (suc left) note k hk out),
   )
 
   bus_calls : DoerCalls at_bus
@@ -73,10 +72,10 @@ module _ (b : BoardView) (t : TransferView) where
   chosen_calls : (h : Hop) (on : Doer) → DoerCalls on → DoerCalls (chosen h on)
   chosen_calls h on hon job note k granted hk =
       hon (Select h) (with_mark h.on h.mux note) (λ o. if_good o (opened h on job note k) k) tt
-        (λ o. good_calls o (opened h on job note k) k
-          (hon job note (λ out. on (Clear h.on h.mux h.kind) (aside h) (λ x. k out)) granted
-            (λ out. hon (Clear h.on h.mux h.kind) (aside h) (λ x. k out) tt (λ x. hk out)))
-          hk)
+      (λ o. good_calls o (opened h on job note k) k
+      (hon job note (λ out. on (Clear h.on h.mux h.kind) (aside h) (λ x. k out)) granted
+      (λ out. hon (Clear h.on h.mux h.kind) (aside h) (λ x. k out) tt (λ x. hk out)))
+      hk)
 
   closing_calls : (h : Hop) (on : Doer) (note : Note) (k : JobOutcome → WalkTree) (w : WalkTree) → DoerCalls on → ((o : JobOutcome) → CallsOf b t (k o)) → CallsOf b t w
       → (m : Option ℕ) → CallsOf b t (closing b h on note k w m)
@@ -105,7 +104,7 @@ walk-calls b t some = by (refusal b t) refl
     by (Some e) at = λ out. tt
     by None at =
         locked_calls b t (locks_of (root_of b t.bus) (hops b t.bus)) (inner b (root_of b t.bus) (hops b t.bus)) (inner_calls b t (root_of b t.bus) (hops b t.bus))
-          (Call t.bus (messages_of t)) plain (λ o. Ends) (record { same_bus = refl; same_messages = refl; not_refused = at; some_message = some }) (λ o. tt)
+        (Call t.bus (messages_of t)) plain (λ o. Ends) (record { same_bus = refl; same_messages = refl; not_refused = at; some_message = some }) (λ o. tt)
 
 -- the looks in front of a walk change nothing
 pub calls_seen : (b : BoardView) (t : TransferView) (slots : Slots) (w : WalkTree) → CallsOf b t w → CallsOf b t (seen slots w)

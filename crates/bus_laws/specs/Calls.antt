@@ -4,7 +4,7 @@ use Rattle.i2c_base.specs.declared.reply.Reply.{Reply}
 use Rattle.i2c_base.specs.Board.{BoardView}
 use Rattle.i2c_base.specs.Transfer.{TransferView}
 use Rattle.i2c_spec.specs.History.{Asks}
-use Rattle.bus_spec.specs.Walk.{Act, Take, Free, Send, Shift, Settle, ActOutcome, WalkTree, Ends, Look, Then}
+use Rattle.bus_spec.specs.Walk.{Take, Free, Send, Shift, Settle, ActOutcome, WalkTree, Ends, Look, Then}
 use Rattle.bus_laws.specs.Runs.{IsGranted}
 use Rattle.bus_laws.specs.Settles.{Settles}
 
