@@ -43,3 +43,4 @@ pub mod DevicesFlat
 pub mod DevicesReach
 pub mod WalkCalls
 pub mod AskedLaws
+pub mod DevicesPast
