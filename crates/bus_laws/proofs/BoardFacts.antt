@@ -114,7 +114,7 @@ has_channel b plain h hop below =
     let p : IsPlainMux s.0 = plain_mux b plain h.mux s.0 s.1 in
     let n : of_mux (λ x. x.channels) 0 b h.mux ≡ s.0.channels = ap (λ (o : Option MuxSpec). unwrap_or (option_map (λ (x : MuxSpec). x.channels) o) 0) s.1 in
     subst (λ (k : MuxKind). HasChannel k h.channel) s.2
-      (channel_of s.0.kind s.0.channels h.channel p.channels (subst (λ (i : ℕ). h.channel < i) n below))
+    (channel_of s.0.kind s.0.channels h.channel p.channels (subst (λ (i : ℕ). h.channel < i) n below))
 
 pub answers-is : (b : BoardView) (m : ℕ) → is_absent b m ≡ false → is_held b m ≡ false → answers b m ≡ true
 answers-is b m here free = ap (λ (t : Bool). not t && not (is_held b m)) here ∙ ap not free

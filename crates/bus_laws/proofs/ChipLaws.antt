@@ -18,9 +18,9 @@ power_above c d = ap (λ (n : ℕ). n / 2 ^ c) (pow-add 2 d c) ∙ shl-shr (2 ^ 
 power_below : (a d : ℕ) → 2 ^ a / 2 ^ (a + suc d) ≡ 0
 power_below a d =
     sym (shr-shr (2 ^ a) a (suc d))
-      ∙ ap (λ (n : ℕ). n / 2 ^ suc d) (div_self (pow_pos a))
-      ∙ ap (λ (n : ℕ). 1 / 2 ^ n) (let e : suc d ≡ 1 + d = omega arith in e)
-      ∙ sym (shr-shr 1 1 d) ∙ zero-div (2 ^ d)
+    ∙ ap (λ (n : ℕ). n / 2 ^ suc d) (div_self (pow_pos a))
+    ∙ ap (λ (n : ℕ). 1 / 2 ^ n) (let e : suc d ≡ 1 + d = omega arith in e)
+    ∙ sym (shr-shr 1 1 d) ∙ zero-div (2 ^ d)
 
 even_power : (d : ℕ) → 2 ^ suc d % 2 ≡ 0
 even_power d = ap (λ (n : ℕ). n % 2) (pow-suc 2 d) ∙ (let e : 2 ^ d * 2 % 2 ≡ 0 = omega arith in e)
@@ -28,18 +28,19 @@ even_power d = ap (λ (n : ℕ). n % 2) (pow-suc 2 d) ∙ (let e : 2 ^ d * 2 % 2
 pub bit_power : (a c : ℕ) → bit_of (2 ^ a) c ≡ true → a ≡ c
 bit_power a c e =
     elim (cases_lt a c) [
-      inl below ↦ absurd (
-        let d : c ≡ a + suc (c - a - 1) = omega arith in
-        let zero_bit : 2 ^ a / 2 ^ c ≡ 0 = ap (λ (n : ℕ). 2 ^ a / 2 ^ n) d ∙ power_below a (c - a - 1) in
-        let f : eqb 0 1 ≡ true = sym (ap (λ (n : ℕ). eqb (n % 2) 1) zero_bit) ∙ e in cc)
-    | inr above ↦ at_or_above (a - c) (let f : a ≡ (a - c) + c = omega arith in f) ]
+      | inl below ↦ absurd (
+          let d : c ≡ a + suc (c - a - 1) = omega arith in
+          let zero_bit : 2 ^ a / 2 ^ c ≡ 0 = ap (λ (n : ℕ). 2 ^ a / 2 ^ n) d ∙ power_below a (c - a - 1) in
+          let f : eqb 0 1 ≡ true = sym (ap (λ (n : ℕ). eqb (n % 2) 1) zero_bit) ∙ e in cc)
+      | inr above ↦ at_or_above (a - c) (let f : a ≡ (a - c) + c = omega arith in f)
+    ]
   where
     at_or_above : (d : ℕ) → a ≡ d + c → a ≡ c
     at_or_above zero f = omega arith
     at_or_above (suc d) f =
         absurd (
-          let bit : 2 ^ a / 2 ^ c ≡ 2 ^ suc d = ap (λ (n : ℕ). 2 ^ n / 2 ^ c) f ∙ power_above c (suc d) in
-          let g : eqb 0 1 ≡ true = sym (ap (λ (n : ℕ). eqb (n % 2) 1) bit ∙ ap (λ (n : ℕ). eqb n 1) (even_power d)) ∙ e in cc)
+        let bit : 2 ^ a / 2 ^ c ≡ 2 ^ suc d = ap (λ (n : ℕ). 2 ^ n / 2 ^ c) f ∙ power_above c (suc d) in
+        let g : eqb 0 1 ≡ true = sym (ap (λ (n : ℕ). eqb (n % 2) 1) bit ∙ ap (λ (n : ℕ). eqb n 1) (even_power d)) ∙ e in cc)
 
 pub bit_power-same : (c : ℕ) → bit_of (2 ^ c) c ≡ true
 bit_power-same c = ap (λ (n : ℕ). eqb (n % 2) 1) (div_self (pow_pos c))
@@ -67,7 +68,8 @@ opens_power : (k : MuxKind) (x : ChipView) (control channel : ℕ) → ((c : ℕ
 opens_power k x control channel is at =
     record {
       opened = is channel ∙ ap (λ (n : ℕ). bit_of n channel) at ∙ bit_power-same channel;
-      only = λ c e. bit_power channel c (ap (λ (n : ℕ). bit_of n c) (sym at) ∙ sym (is c) ∙ e) }
+      only = λ c e. bit_power channel c (ap (λ (n : ℕ). bit_of n c) (sym at) ∙ sym (is c) ∙ e);
+    }
 
 mux_bits : (c : ℕ) → c < 4 → (bit_of ((4 + c) % 8) 2 ≡ true) × ((4 + c) % 8 % 4 ≡ c)
 mux_bits c below = by_case c below
@@ -83,24 +85,26 @@ pub select_opens : (k : MuxKind) (x : ChipView) (channel : ℕ) → x.kind ≡ k
     → (is_arbitrator k ≡ true → is_free x ≡ true) → OpensOne (taken k (put_byte (select_value k channel) x) (select_value k channel)) channel
 select_opens Pca9548 x channel kind line has free =
     opens_power Pca9548 (taken Pca9548 (put_byte (2 ^ channel) x) (2 ^ channel)) (2 ^ channel % 256) channel
-      (λ c. ap (λ (j : MuxKind). opens j (2 ^ channel % 256) c) kind) (kept_power channel 8 has)
+    (λ c. ap (λ (j : MuxKind). opens j (2 ^ channel % 256) c) kind) (kept_power channel 8 has)
 select_opens Pca9546 x channel kind line has free =
     opens_power Pca9546 (taken Pca9546 (put_byte (2 ^ channel) x) (2 ^ channel)) (2 ^ channel % 16) channel
-      (λ c. ap (λ (j : MuxKind). opens j (2 ^ channel % 16) c) kind) (kept_power channel 4 has)
+    (λ c. ap (λ (j : MuxKind). opens j (2 ^ channel % 16) c) kind) (kept_power channel 4 has)
 select_opens Pca9544 x channel kind line has free =
     let bits = mux_bits channel has in
     record {
       opened = ap (λ (j : MuxKind). opens j ((4 + channel) % 8) channel) kind
-        ∙ ap (λ (t : Bool). t && eqb ((4 + channel) % 8 % 4) channel) bits.0 ∙ eq-eqb ((4 + channel) % 8 % 4) channel bits.1;
+          ∙ ap (λ (t : Bool). t && eqb ((4 + channel) % 8 % 4) channel) bits.0 ∙ eq-eqb ((4 + channel) % 8 % 4) channel bits.1;
       only = λ c e. sym bits.1 ∙ eqb-true ((4 + channel) % 8 % 4) c
-        (and_right (bit_of ((4 + channel) % 8) 2) (eqb ((4 + channel) % 8 % 4) c) (sym (ap (λ (j : MuxKind). opens j ((4 + channel) % 8) c) kind) ∙ e)) }
+          (and_right (bit_of ((4 + channel) % 8) 2) (eqb ((4 + channel) % 8 % 4) c) (sym (ap (λ (j : MuxKind). opens j ((4 + channel) % 8) c) kind) ∙ e));
+    }
 select_opens Pca9541 x channel kind line has free =
     let y : ChipView = record x { control = 1; waiting = None } in
     let is : taken Pca9541 (put_byte 1 x) 1 ≡ y = ap (λ (t : Bool). cond t y (record x { waiting = None })) (free refl) in
     subst (λ (z : ChipView). OpensOne z channel) (sym is)
-      (record {
-        opened = ap (λ (j : MuxKind). opens j 1 channel) kind ∙ eq-eqb channel 0 has;
-        only = λ c e. has ∙ sym (eqb-true c 0 (sym (ap (λ (j : MuxKind). opens j 1 c) kind) ∙ e)) })
+    (record {
+      opened = ap (λ (j : MuxKind). opens j 1 channel) kind ∙ eq-eqb channel 0 has;
+      only = λ c e. has ∙ sym (eqb-true c 0 (sym (ap (λ (j : MuxKind). opens j 1 c) kind) ∙ e));
+    })
 select_opens Gpio x channel kind line has free = absurd (let f : true ≡ false = line in cc)
 
 -- CLOSES: no channel is open
@@ -116,7 +120,8 @@ pub level_opens : (x : ChipView) (channel : ℕ) → x.kind ≡ Gpio → OpensOn
 level_opens x channel kind =
     record {
       opened = ap (λ (j : MuxKind). opens j (channel + 1) channel) kind ∙ eq-eqb (channel + 1) (channel + 1) refl;
-      only = λ c e. (let f : channel + 1 ≡ c + 1 = eqb-true (channel + 1) (c + 1) (sym (ap (λ (j : MuxKind). opens j (channel + 1) c) kind) ∙ e) in omega arith) }
+      only = λ c e. (let f : channel + 1 ≡ c + 1 = eqb-true (channel + 1) (c + 1) (sym (ap (λ (j : MuxKind). opens j (channel + 1) c) kind) ∙ e) in omega arith);
+    }
 
 pub level_closes : (x : ChipView) (c : ℕ) → x.kind ≡ Gpio → is_open (at_level x 0) c ≡ false
 level_closes x c kind = ap (λ (j : MuxKind). opens j 0 c) kind ∙ eqb-apart 0 (c + 1) (λ e. absurd (omega arith))

@@ -41,7 +41,7 @@ all_parents (h ∷ hs) g a none = by_parent (λ more left. all_parents hs g more
         ]
     by_parent later false e =
         let some : length (h ∷ filter (λ (x : Hop). not x.parent) hs) ≤ 0 = ltb-false 0 (length (h ∷ filter (λ (x : Hop). not x.parent) hs))
-          (sym (ap (λ (t : Bool). nat_lt 0 (length (cond (not t) (h ∷ filter (λ (x : Hop). not x.parent) hs) (filter (λ (x : Hop). not x.parent) hs)))) e) ∙ none) in
+        (sym (ap (λ (t : Bool). nat_lt 0 (length (cond (not t) (h ∷ filter (λ (x : Hop). not x.parent) hs) (filter (λ (x : Hop). not x.parent) hs)))) e) ∙ none) in
         absurd (omega (arith, some))
 
 module _ (b : BoardView) (rules : MeetsRules b) (m : ℕ) (g : Hop) (among : IsAmongHops g (hops b (home_of_mux b m))) where
@@ -50,12 +50,12 @@ module _ (b : BoardView) (rules : MeetsRules b) (m : ℕ) (g : Hop) (among : IsA
   of_spec (Some s) at gpio =
       let below : m < length b.muxes = slice_get_within b.muxes m s at in
       let wrong : (wants_parent s.kind && not (is_parent s.lock)) ≡ false =
-        sym (ap (λ (o : Option MuxSpec). unwrap_or (option_map (λ (x : MuxSpec). wants_parent x.kind && not (is_parent x.lock)) o) false) at) ∙ rules.parents m below in
+      sym (ap (λ (o : Option MuxSpec). unwrap_or (option_map (λ (x : MuxSpec). wants_parent x.kind && not (is_parent x.lock)) o) false) at) ∙ rules.parents m below in
       let parent : of_mux (λ x. is_parent x.lock) false b m ≡ true =
-        ap (λ (o : Option MuxSpec). unwrap_or (option_map (λ (x : MuxSpec). is_parent x.lock) o) false) at
-          ∙ wanted (wants_parent s.kind) (is_parent s.lock) (gpio_wants s.kind gpio) wrong in
+      ap (λ (o : Option MuxSpec). unwrap_or (option_map (λ (x : MuxSpec). is_parent x.lock) o) false) at
+      ∙ wanted (wants_parent s.kind) (is_parent s.lock) (gpio_wants s.kind gpio) wrong in
       all_parents (hops b (home_of_mux b m)) g among
-        (sym (ap (λ (t : Bool). nat_lt 0 (length (cond t (filter (λ (h : Hop). not h.parent) (hops b (of_mux (λ x. x.bus) 0 b m))) []))) parent) ∙ rules.locks m below)
+      (sym (ap (λ (t : Bool). nat_lt 0 (length (cond t (filter (λ (h : Hop). not h.parent) (hops b (of_mux (λ x. x.bus) 0 b m))) []))) parent) ∙ rules.locks m below)
 
 pub lines-locked : (b : BoardView) → MeetsRules b → LinesAreLocked b
 lines-locked b rules m g gpio among =

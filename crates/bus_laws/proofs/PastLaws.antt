@@ -91,7 +91,7 @@ module _ (b : BoardView) (tree : IsTree b) (plain : IsPlainBoard b) (lines : Lin
       let cur = current-stands b tree lines asks some (now b asks past) c stands in
       let at = first_is (current b asks (now b asks past) c) (Free l) may.2 in
       let runs : (rest : List LockId) × ((now b asks past).held c ≡ l ∷ rest) × LeavesShut b l cur.view × Runs b cur.whose rest cur.view (at.1 Passed) =
-        subst (λ (w : WalkTree). Runs b cur.whose ((now b asks past).held c) cur.view w) at.2 cur.runs in
+      subst (λ (w : WalkTree). Runs b cur.whose ((now b asks past).held c) cur.view w) at.2 cur.runs in
       sym (holder-told b asks past l) ∙ stands.holds c l (subst (λ (ls : List LockId). InLocks l ls) (sym runs.1) (inl refl))
   locks_at (entry.Message c bus purpose part parts addr reading bytes heard e) past stands may = tt
   locks_at (entry.Line c mux level failed) past stands may = tt
@@ -138,11 +138,11 @@ module _ (b : BoardView) (tree : IsTree b) (plain : IsPlainBoard b) (lines : Lin
       let cur = current-stands b tree lines asks some (now b asks past) c stands in
       let at = first_is (current b asks (now b asks past) c) (Send may.2 may.3) may.4 in
       let runs : MaySend b cur.whose may.2 may.3 at.0.marks ((now b asks past).held c) cur.view
-          × ((out : ActOutcome) → CanSend b may.2 may.3 out → Runs b cur.whose ((now b asks past).held c) (after_job may.2 may.3 at.0.marks out cur.view) (at.1 out)) =
-        subst (λ (w : WalkTree). Runs b cur.whose ((now b asks past).held c) cur.view w) at.2 cur.runs in
+      × ((out : ActOutcome) → CanSend b may.2 may.3 out → Runs b cur.whose ((now b asks past).held c) (after_job may.2 may.3 at.0.marks out cur.view) (at.1 out)) =
+      subst (λ (w : WalkTree). Runs b cur.whose ((now b asks past).held c) cur.view w) at.2 cur.runs in
       let sends = send_known b ((now b asks past).held c) cur.view (now b asks past).slot cur.agree cur.whose may.2 may.3 at.0.marks runs.0 in (
         subst (λ (s : ℕ). list_all (opens_hop (world_at b asks past (root_of b s)).chips) (hops b s) ≡ true) (sym may.5.on_bus)
-          (path_open b tree plain (now b asks past).slot (now b asks past).worlds stands.told (job_bus may.2) (λ g a. (sends.reached g a).0)),
+            (path_open b tree plain (now b asks past).slot (now b asks past).worlds stands.told (job_bus may.2) (λ g a. (sends.reached g a).0)),
         subst (λ (s : ℕ). HearsIn (world_at b asks past (root_of b s)) addr reading heard e) (sym may.5.on_bus) may.5.heard_told,
       )
 

@@ -112,8 +112,8 @@ module _ (job : Job) (note : Note) (k : JobOutcome → WalkTree) (done : Bool) (
       decided (note.forward && decides job (job_outcome job left out)) done (verdict_of job left out) (k (job_outcome job left out))
       (λ e. before (and_forward note.forward (decides job (job_outcome job left out)) e)) (starts (job_outcome job left out))
       (subst (λ (t : Bool). Settles t (k (job_outcome job left out)))
-        (sym (at_end note.forward (decides job (job_outcome job left out)) (is_settled job (job_outcome job left out)) done before same))
-        (goes_on (job_outcome job left out)))
+      (sym (at_end note.forward (decides job (job_outcome job left out)) (is_settled job (job_outcome job left out)) done before same))
+      (goes_on (job_outcome job left out)))
 
   is_before : (j : Job) → CallsForward note.forward j → IsBefore done j
   is_before (Call bus ms) f = before f
@@ -249,15 +249,15 @@ inner-settles b root [] = at_bus-settles
 inner-settles b root (h ∷ hs) =
     λ job note k done before forward starts goes_on.
     by_line job note k done (is_line job)
-      (at_bus-settles job note k done before forward starts goes_on)
-      (mux-settles b h (part h.parent (locks_of root hs) (inner b root hs)) (part-settles h.parent (locks_of root hs) (inner b root hs) (inner-settles b root hs))
-        job note k done before forward starts goes_on)
+    (at_bus-settles job note k done before forward starts goes_on)
+    (mux-settles b h (part h.parent (locks_of root hs) (inner b root hs)) (part-settles h.parent (locks_of root hs) (inner b root hs) (inner-settles b root hs))
+    job note k done before forward starts goes_on)
   where
     by_line : (job : Job) (note : Note) (k : JobOutcome → WalkTree) (done t : Bool)
         → NoSettle (at_bus job note k) × Settles done (at_bus job note k)
         → NoSettle (behind b h (part h.parent (locks_of root hs) (inner b root hs)) job note k) × Settles done (behind b h (part h.parent (locks_of root hs) (inner b root hs)) job note k)
         → NoSettle (cond t (at_bus job note k) (behind b h (part h.parent (locks_of root hs) (inner b root hs)) job note k))
-          × Settles done (cond t (at_bus job note k) (behind b h (part h.parent (locks_of root hs) (inner b root hs)) job note k))
+        × Settles done (cond t (at_bus job note k) (behind b h (part h.parent (locks_of root hs) (inner b root hs)) job note k))
     by_line job note k done true x y = x
     by_line job note k done false x y = y
 
@@ -269,4 +269,4 @@ walk-settles b t = by_refusal (refusal b t)
     by_refusal (Some e) = (refl, tt, refl)
     by_refusal None =
         (locked-settles (locks_of (root_of b t.bus) (hops b t.bus)) (inner b (root_of b t.bus) (hops b t.bus)) (inner-settles b (root_of b t.bus) (hops b t.bus))
-          (Call t.bus (messages_of t)) plain (λ o. Ends) false (λ e. refl) refl (λ o. tt) (λ o. refl)).1
+        (Call t.bus (messages_of t)) plain (λ o. Ends) false (λ e. refl) refl (λ o. tt) (λ o. refl)).1

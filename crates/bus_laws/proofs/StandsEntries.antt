@@ -93,7 +93,7 @@ module _ (b : BoardView) (tree : IsTree b) (plain : IsPlainBoard b) (lines : Lin
           runs = subst (λ (ls : List LockId). Runs b cur.whose ls (taken_slots l (lock_slot l n.slot) cur.view) (changed_at n.walk c (rest_of (current b asks n c) Passed) c))
               (sym (at_same n.held c (l ∷ n.held c)))
               (subst (λ (w : WalkTree). Runs b cur.whose (l ∷ n.held c) (taken_slots l (lock_slot l n.slot) cur.view) w)
-                (sym (left-is (Take l) at.0 at.1 Passed at.2)) (runs.1 (lock_slot l n.slot) (taken_rest l free)));
+              (sym (left-is (Take l) at.0 at.1 Passed at.2)) (runs.1 (lock_slot l n.slot) (taken_rest l free)));
           agree = λ p i. taken_agree l p (subst (λ (ls : List LockId). InLocks (lock.Mux p) ls) (at_same n.held c (l ∷ n.held c)) i);
         };
         walks = λ d ne. at_other n.walk c (rest_of (current b asks n c) Passed) d ne;
@@ -116,11 +116,14 @@ module _ (b : BoardView) (tree : IsTree b) (plain : IsPlainBoard b) (lines : Lin
     where
       at : (note : Note) × (next : ActOutcome → WalkTree) × (current b asks n c ≡ Then (Take l) note next)
       at = first_is (current b asks n c) (Take l) first
+
       runs : Runs b cur.whose (n.held c) cur.view (Then (Take l) at.0 at.1)
       runs = subst (λ (w : WalkTree). Runs b cur.whose (n.held c) cur.view w) at.2 cur.runs
+
       free_not_held : (d : ℕ) (k : LockId) → InLocks k (n.held d) → l ≡ k → ⊥
       free_not_held d k i e =
           let f : None ≡ Some d = sym free ∙ ap n.holder e ∙ stands.holds d k i in cc
+
       own_holds : (k : LockId) → InLocks k (l ∷ n.held c) → held_by n.holder l (Some c) k ≡ Some c
       own_holds k i =
           elim (lock_tells l k) [
@@ -128,6 +131,7 @@ module _ (b : BoardView) (tree : IsTree b) (plain : IsPlainBoard b) (lines : Lin
             | inr h ↦ held_by-other n.holder l (Some c) k h.1
                 ∙ elim i [ inl e ↦ absurd (h.1 (sym e)) | inr more ↦ stands.holds c k more ]
           ]
+
       own_has : (k : LockId) → held_by n.holder l (Some c) k ≡ Some c → InLocks k (l ∷ n.held c)
       own_has k e =
           elim (lock_tells l k) [
@@ -176,24 +180,32 @@ module _ (b : BoardView) (tree : IsTree b) (plain : IsPlainBoard b) (lines : Lin
     where
       at : (note : Note) × (next : ActOutcome → WalkTree) × (current b asks n c ≡ Then (Free l) note next)
       at = first_is (current b asks n c) (Free l) first
+
       runs : (rest : List LockId) × (n.held c ≡ l ∷ rest) × LeavesShut b l cur.view × Runs b cur.whose rest cur.view (at.1 Passed)
       runs = subst (λ (w : WalkTree). Runs b cur.whose (n.held c) cur.view w) at.2 cur.runs
+
       rest : List LockId
       rest = runs.0
+
       now-held : changed_at n.held c (without l (n.held c)) c ≡ rest
       now-held = at_same n.held c (without l (n.held c)) ∙ ap (λ (ls : List LockId). without l ls) runs.1 ∙ without-head l rest
+
       once : IsOnce (l ∷ rest)
       once = subst (λ (ls : List LockId). IsOnce ls) runs.1 (stands.once c)
+
       of_rest : (k : LockId) → InLocks k rest → InLocks k (n.held c)
       of_rest k i = subst (λ (ls : List LockId). InLocks k ls) (sym runs.1) (inr i)
+
       own_lock : InLocks l (n.held c)
       own_lock = subst (λ (ls : List LockId). InLocks l ls) (sym runs.1) (inl refl)
+
       not_head : (k : LockId) → (l ≡ k → ⊥) → InLocks k (l ∷ rest) → InLocks k rest
       not_head k ne i = elim i [ inl e ↦ absurd (ne (sym e)) | inr more ↦ more ]
+
       shut_now : (p : ℕ) → l ≡ lock.Mux p → IsRest b p (n.slot p)
       shut_now p e =
           subst (λ (x : At). IsRest b p x) (cur.agree p (subst (λ (x : LockId). InLocks x (n.held c)) e own_lock))
-            (subst (λ (x : LockId). LeavesShut b x cur.view) e runs.2)
+          (subst (λ (x : LockId). LeavesShut b x cur.view) e runs.2)
 
   -- A TRANSFER SETTLES, or a message or line step leaves the locks as they are
   kept_by : (walk2 : ℕ → WalkTree) (slot2 view2 : Slots) (worlds2 : ℕ → World)
@@ -233,7 +245,7 @@ module _ (b : BoardView) (tree : IsTree b) (plain : IsPlainBoard b) (lines : Lin
   settle_kept verdict r cut first =
       kept_by (rest_by Passed) n.slot cur.view n.worlds (λ d ne. at_other n.walk c (rest_of (current b asks n c) Passed) d ne)
       (subst (λ (w : WalkTree). Runs b cur.whose (n.held c) cur.view w) (sym (left-is (Settle verdict) at.0 at.1 Passed at.2))
-        (subst (λ (w : WalkTree). Runs b cur.whose (n.held c) cur.view w) at.2 cur.runs))
+      (subst (λ (w : WalkTree). Runs b cur.whose (n.held c) cur.view w) at.2 cur.runs))
       cur.agree (λ p off. refl) stands.told
     where
       at : (note : Note) × (next : ActOutcome → WalkTree) × (current b asks n c ≡ Then (Settle verdict) note next)
@@ -243,35 +255,41 @@ module _ (b : BoardView) (tree : IsTree b) (plain : IsPlainBoard b) (lines : Lin
   pub sent_kept : (job : Job) (left : ℕ) (e : End) (bytes : List ℕ) → first_act (current b asks n c) ≡ Some (Send job left)
       → bytes ≡ (talk_of b n job left e).bytes → e ≡ (talk_of b n job left e).end
       → StandsIn b (rest_by (Sent e bytes)) n.held n.holder (after_job job left (first_note (current b asks n c)).marks (Sent e bytes) n.slot)
-          (changed_at n.worlds (root_of b (job_bus job)) (talk_of b n job left e).now)
+      (changed_at n.worlds (root_of b (job_bus job)) (talk_of b n job left e).now)
   sent_kept job left e bytes first bytes_told end_told =
       kept_by (rest_by (Sent e bytes)) (after_job job left next_marks (Sent e bytes) n.slot) (after_job job left next_marks (Sent e bytes) cur.view)
       (changed_at n.worlds (root_of b (job_bus job)) (talk_of b n job left e).now)
       (λ d ne. at_other n.walk c (rest_of (current b asks n c) (Sent e bytes)) d ne)
       (subst (λ (w : WalkTree). Runs b cur.whose (n.held c) (after_job job left next_marks (Sent e bytes) cur.view) w) (sym (left-is (Send job left) at.0 at.1 (Sent e bytes) at.2))
-        (subst (λ (ms : List Mark). Runs b cur.whose (n.held c) (after_job job left ms (Sent e bytes) cur.view) (at.1 (Sent e bytes))) (sym same_marks)
-          (runs.1 (Sent e bytes) can)))
+      (subst (λ (ms : List Mark). Runs b cur.whose (n.held c) (after_job job left ms (Sent e bytes) cur.view) (at.1 (Sent e bytes))) (sym same_marks)
+      (runs.1 (Sent e bytes) can)))
       (λ p i. job_same job left next_marks (Sent e bytes) cur.view n.slot p (cur.agree p i))
       (λ p off. job_off b (n.held c) n.slot next_marks p may.may_fail off job left (Sent e bytes) n.slot may.owns)
       told
     where
       at : (note : Note) × (next : ActOutcome → WalkTree) × (current b asks n c ≡ Then (Send job left) note next)
       at = first_is (current b asks n c) (Send job left) first
+
       same_marks : next_marks ≡ at.0.marks
       same_marks = ap (λ (w : WalkTree). (first_note w).marks) at.2
+
       runs : MaySend b cur.whose job left at.0.marks (n.held c) cur.view
           × ((out : ActOutcome) → CanSend b job left out → Runs b cur.whose (n.held c) (after_job job left at.0.marks out cur.view) (at.1 out))
       runs = subst (λ (w : WalkTree). Runs b cur.whose (n.held c) cur.view w) at.2 cur.runs
+
       may : MaySend b cur.whose job left next_marks (n.held c) n.slot
       may = send_known b (n.held c) cur.view n.slot cur.agree cur.whose job left next_marks
           (subst (λ (ms : List Mark). MaySend b cur.whose job left ms (n.held c) cur.view) (sym same_marks) runs.0)
+
       both : WorldTold b (after_job job left next_marks (Sent (talk_of b n job left e).end (talk_of b n job left e).bytes) n.slot)
           (changed_at n.worlds (root_of b (job_bus job)) (talk_of b n job left e).now)
           × CanSend b job left (Sent (talk_of b n job left e).end (talk_of b n job left e).bytes)
       both = told-send b tree plain n.slot n.worlds stands.told cur.whose next_marks (n.held c) (block_limit b) (cut_of e) job left may
+
       told : WorldTold b (after_job job left next_marks (Sent e bytes) n.slot) (changed_at n.worlds (root_of b (job_bus job)) (talk_of b n job left e).now)
       told = subst (λ (x : End). WorldTold b (after_job job left next_marks (Sent x bytes) n.slot) (changed_at n.worlds (root_of b (job_bus job)) (talk_of b n job left e).now)) (sym end_told)
           (subst (λ (xs : List ℕ). WorldTold b (after_job job left next_marks (Sent (talk_of b n job left e).end xs) n.slot) (changed_at n.worlds (root_of b (job_bus job)) (talk_of b n job left e).now)) (sym bytes_told) both.0)
+
       can : CanSend b job left (Sent e bytes)
       can = subst (λ (x : End). CanSend b job left (Sent x bytes)) (sym end_told)
           (subst (λ (xs : List ℕ). CanSend b job left (Sent (talk_of b n job left e).end xs)) (sym bytes_told) both.1)
@@ -279,25 +297,28 @@ module _ (b : BoardView) (tree : IsTree b) (plain : IsPlainBoard b) (lines : Lin
   -- A LINE IS SWITCHED
   pub lined_kept : (job : Job) (failed : Bool) → first_act (current b asks n c) ≡ Some (Shift job)
       → StandsIn b (rest_by (Lined failed)) n.held n.holder (after_job job 0 (first_note (current b asks n c)).marks (Lined failed) n.slot)
-          (changed_at n.worlds (root_of b (job_bus job)) (after (n.worlds (root_of b (job_bus job))) (line_call job failed)))
+      (changed_at n.worlds (root_of b (job_bus job)) (after (n.worlds (root_of b (job_bus job))) (line_call job failed)))
   lined_kept job failed first =
       kept_by (rest_by (Lined failed)) (after_job job 0 next_marks (Lined failed) n.slot) (after_job job 0 next_marks (Lined failed) cur.view)
       (changed_at n.worlds (root_of b (job_bus job)) (after (n.worlds (root_of b (job_bus job))) (line_call job failed)))
       (λ d ne. at_other n.walk c (rest_of (current b asks n c) (Lined failed)) d ne)
       (subst (λ (w : WalkTree). Runs b cur.whose (n.held c) (after_job job 0 next_marks (Lined failed) cur.view) w) (sym (left-is (Shift job) at.0 at.1 (Lined failed) at.2))
-        (subst (λ (ms : List Mark). Runs b cur.whose (n.held c) (after_job job 0 ms (Lined failed) cur.view) (at.1 (Lined failed))) (sym same_marks)
-          (runs.1 (Lined failed) tt)))
+      (subst (λ (ms : List Mark). Runs b cur.whose (n.held c) (after_job job 0 ms (Lined failed) cur.view) (at.1 (Lined failed))) (sym same_marks)
+      (runs.1 (Lined failed) tt)))
       (λ p i. job_same job 0 next_marks (Lined failed) cur.view n.slot p (cur.agree p i))
       (λ p off. job_off b (n.held c) n.slot next_marks p may.may_fail off job 0 (Lined failed) n.slot may.owns)
       (told-shift b tree plain n.slot n.worlds stands.told job next_marks (n.held c) may failed)
     where
       at : (note : Note) × (next : ActOutcome → WalkTree) × (current b asks n c ≡ Then (Shift job) note next)
       at = first_is (current b asks n c) (Shift job) first
+
       same_marks : next_marks ≡ at.0.marks
       same_marks = ap (λ (w : WalkTree). (first_note w).marks) at.2
+
       runs : MayShift b job at.0.marks (n.held c) cur.view
           × ((out : ActOutcome) → CanShift b job out → Runs b cur.whose (n.held c) (after_job job 0 at.0.marks out cur.view) (at.1 out))
       runs = subst (λ (w : WalkTree). Runs b cur.whose (n.held c) cur.view w) at.2 cur.runs
+
       may : MayShift b job next_marks (n.held c) n.slot
       may = shift_known b (n.held c) cur.view n.slot cur.agree job next_marks
           (subst (λ (ms : List Mark). MayShift b job ms (n.held c) cur.view) (sym same_marks) runs.0)

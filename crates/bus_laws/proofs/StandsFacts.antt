@@ -30,7 +30,7 @@ pub runs_seen : (b : BoardView) (whose : TransferView) (held : List LockId) (vie
 runs_seen b whose held view slots agree Ends runs = runs
 runs_seen b whose held view slots agree (Look (MarkOf p) next) runs =
     runs_seen b whose held view slots agree (next (mark_in (slots p).slot))
-      (subst (λ (x : At). Runs b whose held view (next (mark_in x.slot))) (agree p runs.0) runs.1)
+    (subst (λ (x : At). Runs b whose held view (next (mark_in x.slot))) (agree p runs.0) runs.1)
 runs_seen b whose held view slots agree (Then act note next) runs = runs
 
 over_ends : (w : WalkTree) → is_over w ≡ true → w ≡ Ends
@@ -45,6 +45,7 @@ current-stands b tree lines asks some n c stands = by_over (is_over (n.walk c)) 
   where
     now : CallerStands b (n.held c) (n.walk c) n.slot
     now = stands.callers c
+
     begin : n.held c ≡ [] → (o : Option TransferView) → asks c (n.settled c) ≡ o → CallerStands b (n.held c) (seen n.slot (begun b o)) n.slot
     begin empty None e = record { whose = now.whose; view = n.slot; runs = empty; agree = λ p i. refl }
     begin empty (Some t) e =
@@ -52,8 +53,10 @@ current-stands b tree lines asks some n c stands = by_over (is_over (n.walk c)) 
           whose = t;
           view = n.slot;
           runs = subst (λ (held : List LockId). Runs b t held n.slot (seen n.slot (walk_for b t))) (sym empty)
-            (runs_seen b t [] n.slot n.slot (λ p i. refl) (walk_for b t) (walk-runs b t tree lines (some c (n.settled c) t e) n.slot));
-          agree = λ p i. refl }
+              (runs_seen b t [] n.slot n.slot (λ p i. refl) (walk_for b t) (walk-runs b t tree lines (some c (n.settled c) t e) n.slot));
+          agree = λ p i. refl;
+        }
+
     by_over : (t : Bool) → is_over (n.walk c) ≡ t
         → CallerStands b (n.held c) (seen n.slot (cond t (begun b (asks c (n.settled c))) (n.walk c))) n.slot
     by_over true e =

@@ -109,9 +109,10 @@ job_same (Clear on mux kind) left marks out v w p e = clear_same on marks out v 
 module _ (b : BoardView) (held : List LockId) (v w : Slots) (agree : (p : ℕ) → InLocks (lock.Mux p) held → v p ≡ w p) where
   fail_known : (ms : List Mark) → MayFail b ms held v → MayFail b ms held w
   fail_known [] fail = tt
-  fail_known (m ∷ ms) fail =
-    ( record { locked = fail.0.locked; at_home = fail.0.at_home; forgets = subst (λ (x : At). IsOfMux m.mux x.slot) (agree m.on fail.0.locked) fail.0.forgets }
-    , fail_known ms fail.1 )
+  fail_known (m ∷ ms) fail = (
+    record { locked = fail.0.locked; at_home = fail.0.at_home; forgets = subst (λ (x : At). IsOfMux m.mux x.slot) (agree m.on fail.0.locked) fail.0.forgets },
+    fail_known ms fail.1,
+  )
 
   finds_known : (job : Job) (left : ℕ) (marks : List Mark) → Owns job marks held → Finds b job left v → Finds b job left w
   finds_known (Call bus ms) left marks owns f = tt
@@ -165,12 +166,12 @@ module _ (b : BoardView) (walk : ℕ → WalkTree) (held : ℕ → List LockId) 
           | inl h ↦ subst (λ (i : ℕ). CallerStands b (held2 i) (walk2 i) slot2) (sym h.1) turn.own
           | inr h ↦ subst (λ (w : WalkTree). CallerStands b (held2 d) w slot2) (sym (turn.walks d h.1))
               (subst (λ (ls : List LockId). CallerStands b ls (walk d) slot2) (sym (turn.locks d h.1))
-                (record {
-                  whose = (old.callers d).whose;
-                  view = (old.callers d).view;
-                  runs = (old.callers d).runs;
-                  agree = λ p i. (old.callers d).agree p i ∙ sym (turn.slots d p h.1 i);
-                }))
+              (record {
+                whose = (old.callers d).whose;
+                view = (old.callers d).view;
+                runs = (old.callers d).runs;
+                agree = λ p i. (old.callers d).agree p i ∙ sym (turn.slots d p h.1 i);
+              }))
         ];
         holds = λ d l i. elim (eqb_tells d c) [
           | inl h ↦ turn.own_holds l (subst (λ (j : ℕ). InLocks l (held2 j)) h.1 i) ∙ ap Some (sym h.1)

@@ -43,8 +43,9 @@ pub crosses_any : (u : ℕ) (hs : List Hop) → Crosses u hs → list_any (λ (h
 crosses_any u [] c = absurd c
 crosses_any u (h ∷ hs) c =
     elim c [
-      inl e ↦ ap (λ (b : Bool). b || list_any (λ (g : Hop). eqb g.on u) hs) (eq-eqb h.on u e)
-    | inr more ↦ ap (λ (b : Bool). eqb h.on u || b) (crosses_any u hs more) ∙ or_true (eqb h.on u) ]
+      | inl e ↦ ap (λ (b : Bool). b || list_any (λ (g : Hop). eqb g.on u) hs) (eq-eqb h.on u e)
+      | inr more ↦ ap (λ (b : Bool). eqb h.on u || b) (crosses_any u hs more) ∙ or_true (eqb h.on u)
+    ]
   where
     or_true : (p : Bool) → (p || true) ≡ true
     or_true true = refl
@@ -53,8 +54,9 @@ crosses_any u (h ∷ hs) c =
 pub over_on_path : (b : BoardView) (s u : ℕ) → IsOver b u s → is_on_path b s u ≡ true
 over_on_path b s u over =
     elim over [
-      inl e ↦ ap (λ (t : Bool). t || is_below b s u) (eq-eqb u s e)
-    | inr c ↦ ap (λ (t : Bool). eqb u s || t) (crosses_any u (hops b s) c) ∙ or_true (eqb u s) ]
+      | inl e ↦ ap (λ (t : Bool). t || is_below b s u) (eq-eqb u s e)
+      | inr c ↦ ap (λ (t : Bool). eqb u s || t) (crosses_any u (hops b s) c) ∙ or_true (eqb u s)
+    ]
   where
     or_true : (p : Bool) → (p || true) ≡ true
     or_true true = refl
@@ -64,8 +66,9 @@ over_on_path b s u over =
 pub on_or_below : (b : BoardView) (s u : ℕ) → IsAlong b s u → (is_on_path b s u ≡ true) ⊎ (is_below b u s ≡ true)
 on_or_below b s u along =
     elim along [
-      inl s_over ↦ elim s_over [ inl e ↦ inl (over_on_path b s u (inl (sym e))) | inr c ↦ inr (crosses_any s (hops b u) c) ]
-    | inr u_over ↦ inl (over_on_path b s u u_over) ]
+      | inl s_over ↦ elim s_over [ inl e ↦ inl (over_on_path b s u (inl (sym e))) | inr c ↦ inr (crosses_any s (hops b u) c) ]
+      | inr u_over ↦ inl (over_on_path b s u u_over)
+    ]
 
 addressed : (a : ℕ) (o : Option MuxSpec) → unwrap_or (option_map (λ (m : MuxSpec). m.addr) o) None ≡ Some a → (m : MuxSpec) × (o ≡ Some m) × (m.addr ≡ Some a)
 addressed a None e = absurd (let f : None ≡ Some a = e in cc)
@@ -78,7 +81,7 @@ chip_test a m on e t =
 busy_path : (b : BoardView) (s a : ℕ) (force : Bool) → some_chip b a (is_on_path b s) ≡ true → grant_of b s a force ≡ grant.Busy
 busy_path b s a force e =
     ap (λ (t : Bool). cond t grant.Busy (cond (some_chip b a (λ u. is_below b u s) || some_device b a (λ u. is_below b u s)) grant.Busy
-      (cond (not force && some_bound b a (is_on_path b s)) grant.Busy (named_by (position_from (λ (d : DeviceView). eqb d.addr a && is_on_path b s d.bus) 0 b.devices))))) e
+    (cond (not force && some_bound b a (is_on_path b s)) grant.Busy (named_by (position_from (λ (d : DeviceView). eqb d.addr a && is_on_path b s d.bus) 0 b.devices))))) e
 
 either : (t : Bool) (x : Grant) → x ≡ grant.Busy → cond t grant.Busy x ≡ grant.Busy
 either true x e = refl
@@ -87,21 +90,22 @@ either false x e = e
 pub busy_below : (b : BoardView) (s a : ℕ) (force : Bool) → (some_chip b a (λ u. is_below b u s) || some_device b a (λ u. is_below b u s)) ≡ true → grant_of b s a force ≡ grant.Busy
 busy_below b s a force e =
     either (some_chip b a (is_on_path b s)) _
-      (ap (λ (t : Bool). cond t grant.Busy
-        (cond (not force && some_bound b a (is_on_path b s)) grant.Busy (named_by (position_from (λ (d : DeviceView). eqb d.addr a && is_on_path b s d.bus) 0 b.devices)))) e)
+    (ap (λ (t : Bool). cond t grant.Busy
+    (cond (not force && some_bound b a (is_on_path b s)) grant.Busy (named_by (position_from (λ (d : DeviceView). eqb d.addr a && is_on_path b s d.bus) 0 b.devices)))) e)
 
 pub busy_chip : (b : BoardView) (s a : ℕ) (force : Bool) (n : ℕ) → addr_of_mux b n ≡ Some a → IsAlong b s (home_of_mux b n) → grant_of b s a force ≡ grant.Busy
 busy_chip b s a force n addr along =
     let m = addressed a (slice_get b.muxes n) addr in
     let bus : home_of_mux b n ≡ m.0.bus = ap (λ (o : Option MuxSpec). unwrap_or (option_map (λ (x : MuxSpec). x.bus) o) 0) m.1 in
     elim (on_or_below b s (home_of_mux b n) along) [
-      inl on ↦ busy_path b s a force
-        (any_at (λ (x : MuxSpec). has_address a x.addr && is_on_path b s x.bus) b.muxes n m.0 m.1
+      | inl on ↦ busy_path b s a force
+          (any_at (λ (x : MuxSpec). has_address a x.addr && is_on_path b s x.bus) b.muxes n m.0 m.1
           (chip_test a m.0 (is_on_path b s) m.2 (ap (is_on_path b s) (sym bus) ∙ on)))
-    | inr below ↦ busy_below b s a force
-        (ap (λ (t : Bool). t || some_device b a (λ u. is_below b u s))
+      | inr below ↦ busy_below b s a force
+          (ap (λ (t : Bool). t || some_device b a (λ u. is_below b u s))
           (any_at (λ (x : MuxSpec). has_address a x.addr && is_below b x.bus s) b.muxes n m.0 m.1
-            (chip_test a m.0 (λ u. is_below b u s) m.2 (ap (λ u. is_below b u s) (sym bus) ∙ below)))) ]
+          (chip_test a m.0 (λ u. is_below b u s) m.2 (ap (λ u. is_below b u s) (sym bus) ∙ below))))
+    ]
 
 -- NO CHIP HEARS
 no_chip_named : (i : ℕ) (xs : List (ℕ × Answer)) → list_any (is_chip i) (heard_of node.Device xs) ≡ false
@@ -115,11 +119,10 @@ no_chip_named i (x ∷ xs) = by_heard (has_heard x.1) ∙ no_chip_named i xs
 module _ (b : BoardView) (tree : IsTree b) (r s : ℕ) (cs : List ChipView) (ds : List TargetState) (hs : List Node) (busy : Bool)
     (along : (u : ℕ) → is_joined (world_of b r cs ds hs busy) u ≡ true → IsAlong b s u)
     (a : ℕ) (force : Bool) (not_busy : grant_of b s a force ≡ grant.Busy → ⊥) (reading : Bool) where
-
   pub no_chip : heard_of node.Chip (start_chips (world_of b r cs ds hs busy) a reading) ≡ []
   no_chip =
       heard-none chip_table node.Chip (chip_start (world_of b r cs ds hs busy) a reading) 0 cs
-        (λ i x e. silent (0 + i) x (hears chip_table (chip_start (world_of b r cs ds hs busy) a reading (0 + i)) x) refl)
+      (λ i x e. silent (0 + i) x (hears chip_table (chip_start (world_of b r cs ds hs busy) a reading (0 + i)) x) refl)
     where
       silent : (n : ℕ) (x : ChipView) (t : Bool) → hears chip_table (chip_start (world_of b r cs ds hs busy) a reading n) x ≡ t → t ≡ false
       silent n x false h = refl
@@ -129,7 +132,7 @@ module _ (b : BoardView) (tree : IsTree b) (r s : ℕ) (cs : List ChipView) (ds 
   pub no_chip_hears : (i : ℕ) → list_any (is_chip i) (hearers (world_of b r cs ds hs busy) a reading) ≡ false
   no_chip_hears i =
       ap (λ (xs : List Node). list_any (is_chip i) (xs ++ heard_of node.Device (start_devices (world_of b r cs ds hs busy) a reading))) no_chip
-        ∙ no_chip_named i (start_devices (world_of b r cs ds hs busy) a reading)
+      ∙ no_chip_named i (start_devices (world_of b r cs ds hs busy) a reading)
 
 -- the chips stay, and none listens
 abbrev IsChipless : List ChipView → World → Type 0
@@ -142,7 +145,7 @@ sent_chips u e none =
 stopped_chips : (cs : List ChipView) (u : World) → NoneWaits cs → u.chips ≡ cs → feed chip_table (λ m. stop_event (joins_chip u m)) 0 u.chips ≡ u.chips
 stopped_chips cs u none same =
     feed-same chip_table (λ m. stop_event (joins_chip u m)) 0 u.chips
-      (λ i x at. stop_quiet (joins_chip u (0 + i)) x (none i x (ap (λ (xs : List ChipView). slice_get xs i) (sym same) ∙ at)))
+    (λ i x at. stop_quiet (joins_chip u (0 + i)) x (none i x (ap (λ (xs : List ChipView). slice_get xs i) (sym same) ∙ at)))
 
 later_chipless : (cs : List ChipView) → NoneWaits cs → (u : World) (c : PortCall) → IsLater c → IsChipless cs u → IsChipless cs (after u c)
 later_chipless cs none u (call.Start a reading) l f = absurd l
@@ -159,5 +162,5 @@ pub call-chips : (b : BoardView) (tree : IsTree b) (r s : ℕ) (cs : List ChipVi
     → (talk world_listener limit (world_of b r cs ds hs busy) m last cut).now.chips ≡ cs
 call-chips b tree r s cs ds hs busy along force limit m last cut not_busy none =
     (talk-keeps world_listener (IsChipless cs) (later_chipless cs none) limit (world_of b r cs ds hs busy) m last cut
-      (stopped_chips cs (world_of b r cs ds hs busy) none refl, λ i. refl)
-      (started-chips b r cs ds hs busy m.addr m.reading, no_chip_hears b tree r s cs ds hs busy along m.addr force not_busy m.reading)).0
+    (stopped_chips cs (world_of b r cs ds hs busy) none refl, λ i. refl)
+    (started-chips b r cs ds hs busy m.addr m.reading, no_chip_hears b tree r s cs ds hs busy along m.addr force not_busy m.reading)).0

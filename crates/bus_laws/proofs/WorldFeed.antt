@@ -26,7 +26,7 @@ feed-same t f k [] same = refl
 feed-same t f k (x ∷ xs) same =
     let head : given t (f k) x ≡ x = ap (λ (j : ℕ). given t (f j) x) (sym (add-zero k)) ∙ same 0 x refl in
     let tail : feed t f (k + 1) xs ≡ xs =
-      feed-same t f (k + 1) xs (λ i y e. ap (λ (j : ℕ). given t (f j) y) (let e2 : k + 1 + i ≡ k + suc i = omega arith in e2) ∙ same (suc i) y e) in
+    feed-same t f (k + 1) xs (λ i y e. ap (λ (j : ℕ). given t (f j) y) (let e2 : k + 1 + i ≡ k + suc i = omega arith in e2) ∙ same (suc i) y e) in
     cc
 
 -- whether the target at a place hears its event
@@ -46,8 +46,8 @@ heard-none t name f k [] none = refl
 heard-none t name f k (x ∷ xs) none =
     let here : hears t (f k) x ≡ false = ap (λ (j : ℕ). hears t (f j) x) (sym (add-zero k)) ∙ none 0 x refl in
     heard_step t name (f k) k x (answers t f (k + 1) xs)
-      ∙ ap (λ (b : Bool). cond b (name k ∷ heard_of name (answers t f (k + 1) xs)) (heard_of name (answers t f (k + 1) xs))) here
-      ∙ heard-none t name f (k + 1) xs (λ i y e. ap (λ (j : ℕ). hears t (f j) y) (let e2 : k + 1 + i ≡ k + suc i = omega arith in e2) ∙ none (suc i) y e)
+    ∙ ap (λ (b : Bool). cond b (name k ∷ heard_of name (answers t f (k + 1) xs)) (heard_of name (answers t f (k + 1) xs))) here
+    ∙ heard-none t name f (k + 1) xs (λ i y e. ap (λ (j : ℕ). hears t (f j) y) (let e2 : k + 1 + i ≡ k + suc i = omega arith in e2) ∙ none (suc i) y e)
 
 -- where only the target of one number may hear, the list has it or is empty
 pub heard-one : {X : Type 0} (t : Table X) (name : ℕ → Node) (f : ℕ → Option Event) (k : ℕ) (xs : List X) (m : ℕ)
@@ -59,23 +59,23 @@ heard-one t name f k (y ∷ ys) m only zero x e at =
     let same : y ≡ x = (let h : Some y ≡ Some x = e in cc) in
     let here : k ≡ m = sym (add-zero k) ∙ at in
     heard_step t name (f k) k y (answers t f (k + 1) ys)
-      ∙ ap (λ (rest : List Node). cond (hears t (f k) y) (name k ∷ rest) rest)
-          (heard-none t name f (k + 1) ys (λ j z ez. not_later j z ez (hears t (f (k + 1 + j)) z) refl))
-      ∙ ap (λ (j : ℕ). cond (hears t (f j) y) (name j ∷ []) []) here
-      ∙ ap (λ z. cond (hears t (f m) z) (name m ∷ []) []) same
+    ∙ ap (λ (rest : List Node). cond (hears t (f k) y) (name k ∷ rest) rest)
+    (heard-none t name f (k + 1) ys (λ j z ez. not_later j z ez (hears t (f (k + 1 + j)) z) refl))
+    ∙ ap (λ (j : ℕ). cond (hears t (f j) y) (name j ∷ []) []) here
+    ∙ ap (λ z. cond (hears t (f m) z) (name m ∷ []) []) same
   where
     not_later : (j : ℕ) (z : _) → slice_get ys j ≡ Some z → (b : Bool) → hears t (f (k + 1 + j)) z ≡ b → b ≡ false
     not_later j z ez false h = refl
     not_later j z ez true h =
         absurd (let far : k + suc j ≡ m = only (suc j) z ez (ap (λ (i : ℕ). hears t (f i) z) (let e2 : k + suc j ≡ k + 1 + j = omega arith in e2) ∙ h) in
-                let here : k ≡ m = sym (add-zero k) ∙ at in omega arith)
+        let here : k ≡ m = sym (add-zero k) ∙ at in omega arith)
 heard-one t name f k (y ∷ ys) m only (suc i) x e at =
     let early : hears t (f k) y ≡ false = not_here (hears t (f k) y) refl in
     heard_step t name (f k) k y (answers t f (k + 1) ys)
-      ∙ ap (λ (b : Bool). cond b (name k ∷ heard_of name (answers t f (k + 1) ys)) (heard_of name (answers t f (k + 1) ys))) early
-      ∙ heard-one t name f (k + 1) ys m
-          (λ j z ez h. (let e2 : k + 1 + j ≡ k + suc j = omega arith in e2 ∙ only (suc j) z ez (ap (λ (n : ℕ). hears t (f n) z) (sym e2) ∙ h)))
-          i x e (let e3 : k + 1 + i ≡ k + suc i = omega arith in e3 ∙ at)
+    ∙ ap (λ (b : Bool). cond b (name k ∷ heard_of name (answers t f (k + 1) ys)) (heard_of name (answers t f (k + 1) ys))) early
+    ∙ heard-one t name f (k + 1) ys m
+    (λ j z ez h. (let e2 : k + 1 + j ≡ k + suc j = omega arith in e2 ∙ only (suc j) z ez (ap (λ (n : ℕ). hears t (f n) z) (sym e2) ∙ h)))
+    i x e (let e3 : k + 1 + i ≡ k + suc i = omega arith in e3 ∙ at)
   where
     not_here : (b : Bool) → hears t (f k) y ≡ b → b ≡ false
     not_here false h = refl
@@ -91,7 +91,7 @@ pub answers-none : {X : Type 0} (t : Table X) (f : ℕ → Option Event) (k : �
 answers-none t f k [] none = refl
 answers-none t f k (x ∷ xs) none =
     ap (λ (o : Option Event). answer_with t o k x (answers t f (k + 1) xs)) (none k (omega arith))
-      ∙ answers-none t f (k + 1) xs (λ j le. none j (omega arith))
+    ∙ answers-none t f (k + 1) xs (λ j le. none j (omega arith))
 
 pub answers-one : {X : Type 0} (t : Table X) (f : ℕ → Option Event) (k : ℕ) (xs : List X) (m : ℕ) (e : Event) → GivesOne f m e
     → (i : ℕ) (x : X) → slice_get xs i ≡ Some x → k + i ≡ m → answers t f k xs ≡ (m, t.answer x e) ∷ []
@@ -100,11 +100,11 @@ answers-one t f k (y ∷ ys) m e one zero x at place =
     let here : k ≡ m = sym (add-zero k) ∙ place in
     let same : y ≡ x = (let h : Some y ≡ Some x = at in cc) in
     ap (λ (o : Option Event). answer_with t o k y (answers t f (k + 1) ys)) (ap f here ∙ one.at)
-      ∙ ap (λ (rest : List (ℕ × Answer)). (k, t.answer y e) ∷ rest) (answers-none t f (k + 1) ys (λ j le. one.else j (λ q. absurd (omega arith))))
-      ∙ ap (λ (j : ℕ). (j, t.answer y e) ∷ []) here ∙ ap (λ z. (m, t.answer z e) ∷ []) same
+    ∙ ap (λ (rest : List (ℕ × Answer)). (k, t.answer y e) ∷ rest) (answers-none t f (k + 1) ys (λ j le. one.else j (λ q. absurd (omega arith))))
+    ∙ ap (λ (j : ℕ). (j, t.answer y e) ∷ []) here ∙ ap (λ z. (m, t.answer z e) ∷ []) same
 answers-one t f k (y ∷ ys) m e one (suc i) x at place =
     ap (λ (o : Option Event). answer_with t o k y (answers t f (k + 1) ys)) (one.else k (λ q. absurd (omega arith)))
-      ∙ answers-one t f (k + 1) ys m e one i x at (let e3 : k + 1 + i ≡ k + suc i = omega arith in e3 ∙ place)
+    ∙ answers-one t f (k + 1) ys m e one i x at (let e3 : k + 1 + i ≡ k + suc i = omega arith in e3 ∙ place)
 
 -- what an answer says where nobody has heard, or one has
 pub unheard : (name : ℕ → Node) (test : Answer → Bool) → ((a : Answer) → has_heard a ≡ false → test a ≡ false) → (xs : List (ℕ × Answer))
@@ -136,18 +136,20 @@ some_answer-at t f test k (y ∷ ys) m e given_e zero x at place passes =
     let here : k ≡ m = sym (add-zero k) ∙ place in
     let same : y ≡ x = (let h : Some y ≡ Some x = at in cc) in
     ap (λ (o : Option Event). some_answer test (answer_with t o k y (answers t f (k + 1) ys))) (ap f here ∙ given_e)
-      ∙ ap (λ (b : Bool). b || some_answer test (answers t f (k + 1) ys)) (ap (λ z. test (t.answer z e)) same ∙ passes)
+    ∙ ap (λ (b : Bool). b || some_answer test (answers t f (k + 1) ys)) (ap (λ z. test (t.answer z e)) same ∙ passes)
 some_answer-at t f test k (y ∷ ys) m e given_e (suc i) x at place passes =
     more (f k) ∙ ap (λ (b : Bool). head (f k) || b)
-      (some_answer-at t f test (k + 1) ys m e given_e i x at (let e3 : k + 1 + i ≡ k + suc i = omega arith in e3 ∙ place) passes)
-      ∙ or_true (head (f k))
+    (some_answer-at t f test (k + 1) ys m e given_e i x at (let e3 : k + 1 + i ≡ k + suc i = omega arith in e3 ∙ place) passes)
+    ∙ or_true (head (f k))
   where
     head : Option Event → Bool
     head None = false
     head (Some g) = test (t.answer y g)
+
     more : (o : Option Event) → some_answer test (answer_with t o k y (answers t f (k + 1) ys)) ≡ (head o || some_answer test (answers t f (k + 1) ys))
     more None = refl
     more (Some g) = refl
+
     or_true : (p : Bool) → (p || true) ≡ true
     or_true true = refl
     or_true false = refl

@@ -60,7 +60,6 @@ chips_not_slow f k (x ∷ xs) = by_event (f k) ∙ chips_not_slow f (k + 1) xs
 
 module _ (b : BoardView) (tree : IsTree b) (r s : ℕ) (cs : List ChipView) (ds : List TargetState) (hs : List Node) (busy : Bool)
     (along : (u : ℕ) → is_joined (world_of b r cs ds hs busy) u ≡ true → IsAlong b s u) where
-
   -- a chip that hears is joined, has the address, and stands along the message's bus
   pub chip_along : (a n : ℕ) (reading : Bool) (x : ChipView) → hears chip_table (chip_start (world_of b r cs ds hs busy) a reading n) x ≡ true
       → (addr_of b (node.Chip n) ≡ Some a) × IsAlong b s (home_of b (node.Chip n))
@@ -78,7 +77,6 @@ module _ (b : BoardView) (tree : IsTree b) (r s : ℕ) (cs : List ChipView) (ds 
 
   module _ (m a : ℕ) (reading : Bool) (x : ChipView) (addr : addr_of_mux b m ≡ Some a) (home : home_of_mux b m ≡ s)
       (joined : is_joined (world_of b r cs ds hs busy) s ≡ true) (at : slice_get cs m ≡ Some x) where
-
     only_own : (n : ℕ) (name : Node) → addr_of b name ≡ Some a → IsAlong b s (home_of b name) → name ≡ node.Chip m
     only_own n name named on_path =
         tree.addresses name (node.Chip m) a named addr (subst (λ (i : ℕ). IsAlong b (home_of b name) i) (sym home) (swap_along b s (home_of b name) on_path))
@@ -90,36 +88,36 @@ module _ (b : BoardView) (tree : IsTree b) (r s : ℕ) (cs : List ChipView) (ds 
     own_hears : hears chip_table (chip_start (world_of b r cs ds hs busy) a reading m) x ≡ has_chip b m
     own_hears =
         ap (λ (j : Bool). hears chip_table (start_event (has_chip b m && j) (has_address a (addr_of_mux b m)) reading) x)
-            (ap (λ (i : ℕ). is_joined (world_of b r cs ds hs busy) i) home ∙ joined)
-          ∙ ap (λ (o : Option ℕ). hears chip_table (start_event (has_chip b m && true) (has_address a o) reading) x) addr
-          ∙ ap (λ (t : Bool). hears chip_table (start_event (has_chip b m && true) t reading) x) (eq-eqb a a refl)
-          ∙ chip_hears (has_chip b m)
+        (ap (λ (i : ℕ). is_joined (world_of b r cs ds hs busy) i) home ∙ joined)
+        ∙ ap (λ (o : Option ℕ). hears chip_table (start_event (has_chip b m && true) (has_address a o) reading) x) addr
+        ∙ ap (λ (t : Bool). hears chip_table (start_event (has_chip b m && true) t reading) x) (eq-eqb a a refl)
+        ∙ chip_hears (has_chip b m)
 
     pub control_chips : heard_of node.Chip (start_chips (world_of b r cs ds hs busy) a reading) ≡ cond (has_chip b m) (node.Chip m ∷ []) []
     control_chips =
         heard-one chip_table node.Chip (chip_start (world_of b r cs ds hs busy) a reading) 0 cs m
-          (λ i y e h. (let f = chip_along a (0 + i) reading y h in
-                       let same : node.Chip (0 + i) ≡ node.Chip m = only_own (0 + i) (node.Chip (0 + i)) f.0 f.1 in cc))
-          m x at (zero-add m)
+        (λ i y e h. (let f = chip_along a (0 + i) reading y h in
+        let same : node.Chip (0 + i) ≡ node.Chip m = only_own (0 + i) (node.Chip (0 + i)) f.0 f.1 in cc))
+        m x at (zero-add m)
         ∙ ap (λ (t : Bool). cond t (node.Chip m ∷ []) []) own_hears
 
     pub control_devices : heard_of node.Device (start_devices (world_of b r cs ds hs busy) a reading) ≡ []
     control_devices =
         heard-none state_table node.Device (device_start (world_of b r cs ds hs busy) a reading) 0 ds
-          (λ i y e. silent (0 + i) y (hears state_table (device_start (world_of b r cs ds hs busy) a reading (0 + i)) y) refl)
+        (λ i y e. silent (0 + i) y (hears state_table (device_start (world_of b r cs ds hs busy) a reading (0 + i)) y) refl)
       where
         silent : (n : ℕ) (y : TargetState) (t : Bool) → hears state_table (device_start (world_of b r cs ds hs busy) a reading n) y ≡ t → t ≡ false
         silent n y false h = refl
         silent n y true h =
             absurd (let f = device_along a n reading y h in
-                    let same : node.Device n ≡ node.Chip m = only_own n (node.Device n) f.0 f.1 in cc)
+            let same : node.Device n ≡ node.Chip m = only_own n (node.Device n) f.0 f.1 in cc)
 
     -- the chip hears where it is there, and nobody else does
     pub control_hearers : hearers (world_of b r cs ds hs busy) a reading ≡ cond (has_chip b m) (node.Chip m ∷ []) []
     control_hearers =
         ap (λ (xs : List Node). xs ++ heard_of node.Device (start_devices (world_of b r cs ds hs busy) a reading)) control_chips
-          ∙ ap (λ (ys : List Node). cond (has_chip b m) (node.Chip m ∷ []) [] ++ ys) control_devices
-          ∙ nothing_more (has_chip b m)
+        ∙ ap (λ (ys : List Node). cond (has_chip b m) (node.Chip m ∷ []) [] ++ ys) control_devices
+        ∙ nothing_more (has_chip b m)
       where
         nothing_more : (t : Bool) → cond t (node.Chip m ∷ []) [] ++ [] ≡ cond t (node.Chip m ∷ []) []
         nothing_more true = refl
@@ -128,9 +126,9 @@ module _ (b : BoardView) (tree : IsTree b) (r s : ℕ) (cs : List ChipView) (ds 
     no_slow : some_answer is_slow (start_chips (world_of b r cs ds hs busy) a reading ++ start_devices (world_of b r cs ds hs busy) a reading) ≡ false
     no_slow =
         some_answer-append is_slow (start_chips (world_of b r cs ds hs busy) a reading) (start_devices (world_of b r cs ds hs busy) a reading)
-          ∙ ap (λ (t : Bool). t || some_answer is_slow (start_devices (world_of b r cs ds hs busy) a reading))
-              (chips_not_slow (chip_start (world_of b r cs ds hs busy) a reading) 0 cs)
-          ∙ unheard node.Device is_slow slow_is_heard (start_devices (world_of b r cs ds hs busy) a reading) control_devices
+        ∙ ap (λ (t : Bool). t || some_answer is_slow (start_devices (world_of b r cs ds hs busy) a reading))
+        (chips_not_slow (chip_start (world_of b r cs ds hs busy) a reading) 0 cs)
+        ∙ unheard node.Device is_slow slow_is_heard (start_devices (world_of b r cs ds hs busy) a reading) control_devices
 
     some_ack : (c : Bool) → has_chip b m ≡ c → some_answer is_ack (start_chips (world_of b r cs ds hs busy) a reading) ≡ c
     some_ack true e =
@@ -139,26 +137,27 @@ module _ (b : BoardView) (tree : IsTree b) (r s : ℕ) (cs : List ChipView) (ds 
         given_start : chip_start (world_of b r cs ds hs busy) a reading m ≡ Some (event.Start reading)
         given_start =
             ap (λ (c : Bool). start_event (c && is_joined (world_of b r cs ds hs busy) (home_of_mux b m)) (has_address a (addr_of_mux b m)) reading) e
-              ∙ ap (λ (j : Bool). start_event j (has_address a (addr_of_mux b m)) reading) (ap (λ (i : ℕ). is_joined (world_of b r cs ds hs busy) i) home ∙ joined)
-              ∙ ap (λ (o : Option ℕ). start_event true (has_address a o) reading) addr
-              ∙ ap (λ (t : Bool). start_event true t reading) (eq-eqb a a refl)
+            ∙ ap (λ (j : Bool). start_event j (has_address a (addr_of_mux b m)) reading) (ap (λ (i : ℕ). is_joined (world_of b r cs ds hs busy) i) home ∙ joined)
+            ∙ ap (λ (o : Option ℕ). start_event true (has_address a o) reading) addr
+            ∙ ap (λ (t : Bool). start_event true t reading) (eq-eqb a a refl)
     some_ack false e =
         unheard node.Chip is_ack ack_is_heard (start_chips (world_of b r cs ds hs busy) a reading)
-          (control_chips ∙ ap (λ (t : Bool). cond t (node.Chip m ∷ []) []) e)
+        (control_chips ∙ ap (λ (t : Bool). cond t (node.Chip m ∷ []) []) e)
 
     -- and the start is acknowledged where it is there
     pub control_answer : world_answer (world_of b r cs ds hs busy) a reading ≡ cond (has_chip b m) answer.Ack answer.Nack
     control_answer =
         ap (λ (t : Bool). cond t answer.Slow (cond (some_answer is_ack (start_chips (world_of b r cs ds hs busy) a reading ++ start_devices (world_of b r cs ds hs busy) a reading)) answer.Ack answer.Nack)) no_slow
-          ∙ ap (λ (t : Bool). cond t answer.Ack answer.Nack) acked
+        ∙ ap (λ (t : Bool). cond t answer.Ack answer.Nack) acked
       where
         or_false : (t : Bool) → (t || false) ≡ t
         or_false true = refl
         or_false false = refl
+
         acked : some_answer is_ack (start_chips (world_of b r cs ds hs busy) a reading ++ start_devices (world_of b r cs ds hs busy) a reading) ≡ has_chip b m
         acked =
             some_answer-append is_ack (start_chips (world_of b r cs ds hs busy) a reading) (start_devices (world_of b r cs ds hs busy) a reading)
-              ∙ ap (λ (t : Bool). some_answer is_ack (start_chips (world_of b r cs ds hs busy) a reading) || t)
-                  (unheard node.Device is_ack ack_is_heard (start_devices (world_of b r cs ds hs busy) a reading) control_devices)
-              ∙ or_false (some_answer is_ack (start_chips (world_of b r cs ds hs busy) a reading))
-              ∙ some_ack (has_chip b m) refl
+            ∙ ap (λ (t : Bool). some_answer is_ack (start_chips (world_of b r cs ds hs busy) a reading) || t)
+            (unheard node.Device is_ack ack_is_heard (start_devices (world_of b r cs ds hs busy) a reading) control_devices)
+            ∙ or_false (some_answer is_ack (start_chips (world_of b r cs ds hs busy) a reading))
+            ∙ some_ack (has_chip b m) refl

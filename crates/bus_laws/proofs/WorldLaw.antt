@@ -43,11 +43,10 @@ use Rattle.bus_laws.proofs.BoardFacts.{mux_at, get_within, get_same_length, has_
 pub whole : (b : BoardView) (r : ℕ) (w : World) → w.board ≡ b → w.root ≡ r → w ≡ world_of b r w.chips w.devices w.hearing w.busy
 whole b r w eb er =
     ap (λ (x : BoardView). world_of x w.root w.chips w.devices w.hearing w.busy) eb
-      ∙ ap (λ (i : ℕ). world_of b i w.chips w.devices w.hearing w.busy) er
+    ∙ ap (λ (i : ℕ). world_of b i w.chips w.devices w.hearing w.busy) er
 
 module _ (b : BoardView) (tree : IsTree b) (plain : IsPlainBoard b) (v : Slots) (ws : ℕ → World) (world : WorldTold b v ws) (s : ℕ)
     (reached : (g : Hop) → IsAmongHops g (hops b s) → (v g.on).slot ≡ Selected g) where
-
   abbrev r : ℕ
   r = root_of b s
 
@@ -65,13 +64,13 @@ module _ (b : BoardView) (tree : IsTree b) (plain : IsPlainBoard b) (v : Slots) 
   pub along_here : (u : ℕ) → is_joined w u ≡ true → IsAlong b s u
   along_here u e =
       joined_along b tree v (root_of b s) s (ws (root_of b s)).chips refl reached only_here
-        (ws (root_of b s)).devices (ws (root_of b s)).hearing (ws (root_of b s)).busy u e
+      (ws (root_of b s)).devices (ws (root_of b s)).hearing (ws (root_of b s)).busy u e
 
   hop_open : (g : Hop) → IsAmongHops g (hops b s) → opens_hop (ws (root_of b s)).chips g ≡ true
   hop_open g a =
       let o = world.told.opened g.on g (reached g a) in
       let at : slice_get (ws (root_of b s)).chips g.mux ≡ Some o.0 =
-        ap (λ (i : ℕ). slice_get (ws i).chips g.mux) (sym (ap (λ (i : ℕ). root_of b i) o.3 ∙ tree.root_same s g a)) ∙ o.1 in
+      ap (λ (i : ℕ). slice_get (ws i).chips g.mux) (sym (ap (λ (i : ℕ). root_of b i) o.3 ∙ tree.root_same s g a)) ∙ o.1 in
       ap (λ (c : Option ChipView). option_map_or (λ (x : ChipView). is_open x g.channel) c false) at ∙ o.2
 
   pub path_open : list_all (opens_hop (ws (root_of b s)).chips) (hops b s) ≡ true
@@ -97,22 +96,24 @@ pub talk_framed : (b : BoardView) (r limit : ℕ) (u : World) (m : MessageView) 
     → IsFramed b r (talk world_listener limit u m last cut).now
 talk_framed b r limit u m last cut f =
     talk-keeps world_listener (IsFramed b r) (later_framed b r) limit u m last cut
-      (f.0, f.1, length-feed chip_table (λ i. stop_event (joins_chip u i)) 0 u.chips ∙ f.2)
-      (f.0, f.1, length-feed chip_table (chip_start u m.addr m.reading) 0 u.chips ∙ f.2)
+    (f.0, f.1, length-feed chip_table (λ i. stop_event (joins_chip u i)) 0 u.chips ∙ f.2)
+    (f.0, f.1, length-feed chip_table (chip_start u m.addr m.reading) 0 u.chips ∙ f.2)
 
 -- one world is replaced: the chips of other roots stay
 pub replaced-chip : (b : BoardView) (ws : ℕ → World) (r : ℕ) (new : World) (k : ℕ) (f : ChipView → ChipView) → root_of b (home_of_mux b k) ≡ r
     → Changes (ws r).chips new.chips k f → Turns (chip_in b ws) (chip_in b (changed_at ws r new)) k f
 replaced-chip b ws r new k f root changes m =
     elim (eqb_tells (root_of b (home_of_mux b m)) r) [
-      inl h ↦ ap (λ (t : Bool). slice_get (cond t new (ws (root_of b (home_of_mux b m)))).chips m) h.0
-        ∙ changes m
-        ∙ ap (λ (i : ℕ). option_map (λ (x : ChipView). cond (eqb m k) (f x) x) (slice_get (ws i).chips m)) (sym h.1)
-    | inr h ↦ ap (λ (t : Bool). slice_get (cond t new (ws (root_of b (home_of_mux b m)))).chips m) h.0
-        ∙ sym (as_it_was (slice_get (ws (root_of b (home_of_mux b m))).chips m) (other h.1)) ]
+      | inl h ↦ ap (λ (t : Bool). slice_get (cond t new (ws (root_of b (home_of_mux b m)))).chips m) h.0
+          ∙ changes m
+          ∙ ap (λ (i : ℕ). option_map (λ (x : ChipView). cond (eqb m k) (f x) x) (slice_get (ws i).chips m)) (sym h.1)
+      | inr h ↦ ap (λ (t : Bool). slice_get (cond t new (ws (root_of b (home_of_mux b m)))).chips m) h.0
+          ∙ sym (as_it_was (slice_get (ws (root_of b (home_of_mux b m))).chips m) (other h.1))
+    ]
   where
     other : (root_of b (home_of_mux b m) ≡ r → ⊥) → eqb m k ≡ false
     other ne = elim (eqb_tells m k) [ inl q ↦ absurd (ne (ap (λ (i : ℕ). root_of b (home_of_mux b i)) q.1 ∙ root)) | inr q ↦ q.0 ]
+
     as_it_was : (o : Option ChipView) → eqb m k ≡ false → option_map (λ (x : ChipView). cond (eqb m k) (f x) x) o ≡ o
     as_it_was None e = refl
     as_it_was (Some x) e = ap (λ (t : Bool). Some (cond t (f x) x)) e
@@ -135,10 +136,11 @@ still_none cs new k f changes sort none i y at = by_old (slice_get cs i) refl
     by_old None e = absurd (let g : None ≡ Some y = sym (changes i ∙ ap (λ (o : Option ChipView). option_map (λ (x : ChipView). cond (eqb i k) (f x) x) o) e) ∙ at in cc)
     by_old (Some x) e =
         let now : cond (eqb i k) (f x) x ≡ y =
-          (let g : Some (cond (eqb i k) (f x) x) ≡ Some y = sym (changes i ∙ ap (λ (o : Option ChipView). option_map (λ (x : ChipView). cond (eqb i k) (f x) x) o) e) ∙ at in cc) in
+        (let g : Some (cond (eqb i k) (f x) x) ≡ Some y = sym (changes i ∙ ap (λ (o : Option ChipView). option_map (λ (x : ChipView). cond (eqb i k) (f x) x) o) e) ∙ at in cc) in
         elim (eqb_tells i k) [
-          inl h ↦ ap (λ (z : ChipView). z.waiting) (sym (sym (ap (λ (t : Bool). cond t (f x) x) h.0) ∙ now)) ∙ (sort x (ap (λ (j : ℕ). slice_get cs j) (sym h.1) ∙ e)).waiting (none i x e)
-        | inr h ↦ ap (λ (z : ChipView). z.waiting) (sym (sym (ap (λ (t : Bool). cond t (f x) x) h.0) ∙ now)) ∙ none i x e ]
+          | inl h ↦ ap (λ (z : ChipView). z.waiting) (sym (sym (ap (λ (t : Bool). cond t (f x) x) h.0) ∙ now)) ∙ (sort x (ap (λ (j : ℕ). slice_get cs j) (sym h.1) ∙ e)).waiting (none i x e)
+          | inr h ↦ ap (λ (z : ChipView). z.waiting) (sym (sym (ap (λ (t : Bool). cond t (f x) x) h.0) ∙ now)) ∙ none i x e
+        ]
 
 -- the whole of it: one world is replaced by one whose chips are told
 pub world_replaced : (b : BoardView) (v u : Slots) (ws : ℕ → World) (r : ℕ) (new : World) → WorldTold b v ws → IsFramed b r new → NoneWaits new.chips
@@ -146,15 +148,20 @@ pub world_replaced : (b : BoardView) (v u : Slots) (ws : ℕ → World) (r : ℕ
 world_replaced b v u ws r new world framed none told =
     record {
       board = λ i. elim (eqb_tells i r) [
-        inl h ↦ ap (λ (t : Bool). (cond t new (ws i)).board) h.0 ∙ framed.0
-      | inr h ↦ ap (λ (t : Bool). (cond t new (ws i)).board) h.0 ∙ world.board i ];
+        | inl h ↦ ap (λ (t : Bool). (cond t new (ws i)).board) h.0 ∙ framed.0
+        | inr h ↦ ap (λ (t : Bool). (cond t new (ws i)).board) h.0 ∙ world.board i
+      ];
       root = λ i. elim (eqb_tells i r) [
-        inl h ↦ ap (λ (t : Bool). (cond t new (ws i)).root) h.0 ∙ framed.1 ∙ sym h.1
-      | inr h ↦ ap (λ (t : Bool). (cond t new (ws i)).root) h.0 ∙ world.root i ];
+        | inl h ↦ ap (λ (t : Bool). (cond t new (ws i)).root) h.0 ∙ framed.1 ∙ sym h.1
+        | inr h ↦ ap (λ (t : Bool). (cond t new (ws i)).root) h.0 ∙ world.root i
+      ];
       count = λ i. elim (eqb_tells i r) [
-        inl h ↦ ap (λ (t : Bool). length (cond t new (ws i)).chips) h.0 ∙ framed.2
-      | inr h ↦ ap (λ (t : Bool). length (cond t new (ws i)).chips) h.0 ∙ world.count i ];
+        | inl h ↦ ap (λ (t : Bool). length (cond t new (ws i)).chips) h.0 ∙ framed.2
+        | inr h ↦ ap (λ (t : Bool). length (cond t new (ws i)).chips) h.0 ∙ world.count i
+      ];
       rest = λ i j x at. elim (eqb_tells i r) [
-        inl h ↦ none j x (sym (ap (λ (t : Bool). slice_get (cond t new (ws i)).chips j) h.0) ∙ at)
-      | inr h ↦ world.rest i j x (sym (ap (λ (t : Bool). slice_get (cond t new (ws i)).chips j) h.0) ∙ at) ];
-      told = told }
+        | inl h ↦ none j x (sym (ap (λ (t : Bool). slice_get (cond t new (ws i)).chips j) h.0) ∙ at)
+        | inr h ↦ world.rest i j x (sym (ap (λ (t : Bool). slice_get (cond t new (ws i)).chips j) h.0) ∙ at)
+      ];
+      told = told;
+    }

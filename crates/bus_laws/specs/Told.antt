@@ -32,7 +32,7 @@ pub record ChipsTold (b : BoardView) (v : Slots) (chips : ℕ → Option ChipVie
   pub kept : (m : ℕ) (x : ChipView) → chips m ≡ Some x → IsChipOf b m x
   -- a selected channel is open
   pub opened : (p : ℕ) (h : Hop) → (v p).slot ≡ Selected h
-    → (x : ChipView) × (chips h.mux ≡ Some x) × (is_open x h.channel ≡ true) × (home_of_mux b h.mux ≡ p) × (is_absent b h.mux ≡ false)
+      → (x : ChipView) × (chips h.mux ≡ Some x) × (is_open x h.channel ≡ true) × (home_of_mux b h.mux ≡ p) × (is_absent b h.mux ≡ false)
   -- an arbitrator that is asked is found taken at most so many times more, or is held for good; one that was found free is free
   pub polled : (p : ℕ) (h : Hop) (n : ℕ) (x : ChipView) → (v p).slot ≡ Polled h n → chips h.mux ≡ Some x → (x.left ≤ n) ⊎ (x.foreign ≡ 8)
   pub found : (p : ℕ) (h : Hop) (x : ChipView) → (v p).slot ≡ Found h → chips h.mux ≡ Some x → is_free x ≡ true

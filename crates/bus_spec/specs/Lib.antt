@@ -7,6 +7,7 @@ pub mod Readings
 pub mod Past
 pub mod Stepwise
 pub mod Legal
+pub mod Paths
 pub mod Schedule
 pub mod Play
 pub mod Rows

@@ -4,8 +4,14 @@
 //! The definitions stand in `specs/`, a file for each subject. A journal's past is read newest entry first.
 #![tactic(auto)]
 
+mod holding;
+mod paths;
 mod rows;
+#[cfg(test)]
+mod tests;
 
+pub use holding::holder_of;
+pub use paths::a_job_stands_between_its_locks;
 pub use rows::{
     a_failed_close_fails_its_transfer, a_failed_deselect_is_mended_by_a_close,
     a_failed_way_marks_both_muxes, a_failed_way_of_a_deselect_keeps_the_reply,
