@@ -29,3 +29,18 @@ pub mod StandsOpening
 -- The induction over the entries, and what it gives.
 pub mod PastLaws
 pub mod PortLaws
+-- The devices law: one message over two listeners, and over a root's world and the flat world.
+pub mod DevicesTalk
+pub mod DevicesStates
+pub mod DevicesHears
+pub mod DevicesSame
+pub mod DevicesGrant
+pub mod DevicesStops
+pub mod DevicesParts
+pub mod DevicesStay
+pub mod DevicesFlat
+-- Whom each message of a journal reaches.
+pub mod DevicesReach
+pub mod WalkCalls
+pub mod AskedLaws
+pub mod DevicesPast

@@ -4,3 +4,6 @@ pub mod Told
 pub mod Stands
 pub mod Reach
 pub mod Settles
+-- The devices of a root's world and of the flat world.
+pub mod Alike
+pub mod Calls

@@ -4,11 +4,20 @@
 //! Definitions: `specs/`, and those of `i2c_spec` and `bus_spec`. The inductions stand in `proofs/` by subject.
 #![tactic(auto)]
 
+mod devices;
 mod journals;
+mod targets;
 mod walks;
 
+pub use devices::{
+    a_control_message_leaves_the_devices, a_message_is_heard_the_same,
+    a_message_leaves_other_devices, a_transfer_ends_in_a_stop, a_transfer_grows_by_one_message,
+    a_transfer_is_of_its_root_alone, an_address_leads_to_the_granted_device,
+    both_worlds_open_the_same, the_messages_that_were_sent_are_the_transfer,
+};
 pub use journals::{
     an_open_mux_is_selected_or_marked, each_journal_keeps_its_locks, each_journal_tells_its_ports,
     each_message_finds_its_path_open,
 };
+pub use targets::each_message_reaches_its_target;
 pub use walks::{each_walk_keeps_its_path_open, each_walk_settles_once};

@@ -1,0 +1,5 @@
+use Rattle.bus_laws.proofs.DevicesGrant.{granted-leads}
+use Rattle.bus_laws.proofs.devices.an_address_leads_to_the_granted_device.Goals as goal
+
+pub returns : goal.returns
+returns c = granted-leads

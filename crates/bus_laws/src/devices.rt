@@ -1,0 +1,93 @@
+ghost use Rattle.std.specs.Prelude.{◌≡◌, ℕ, ◌<◌, Bool, true, false, List, [], ◌∷◌, ◌++◌, length, map, Option, Some, slice_get};
+ghost use Rattle.std.specs.List.{AllByRecursion};
+ghost use Rattle.i2c_base.specs.declared.reply.Cut.{Cut};
+ghost use Rattle.i2c_base.specs.declared.tree.Grant.TheVariants as grant;
+ghost use Rattle.i2c_base.specs.Board.{BoardView};
+ghost use Rattle.i2c_base.specs.Transfer.{TransferView};
+ghost use Rattle.i2c_spec.specs.Tree.{root_of, home_of_mux, addr_of_mux, IsAlong};
+ghost use Rattle.i2c_spec.specs.TreeFacts.{IsTree};
+ghost use Rattle.i2c_spec.specs.Grant.{grant_of};
+ghost use Rattle.i2c_spec.specs.Targets.{TargetState, opening_state};
+ghost use Rattle.i2c_spec.specs.Messages.{MessageView, messages_of};
+ghost use Rattle.i2c_spec.specs.World.{World, is_joined, opening_world};
+ghost use Rattle.i2c_spec.specs.Flat.{FlatListener, idle, is_it, flat_listener, granted_on, block_limit, cut_in, flat_messages, flat};
+ghost use Rattle.i2c_spec.specs.Conversation.{world_listener, talk, is_empty, is_good};
+ghost use Rattle.bus_laws.specs.Alike.{IsOf, IsByte, IsByteBoard, Same, LeadsTo, IsControl, ToldAlike, GrowsAlike, EndsTransfer, IsUnnamed, FlatSame, talk_part};
+
+/// A root's world and the flat world are opened with the same devices.
+pub fn both_worlds_open_the_same()
+    ensures { (b : BoardView) (r : ℕ) → IsByteBoard b → Same b r (opening_world b r) (idle (map opening_state b.devices)) }
+{}
+
+/// On a joined bus an address that isn't busy leads to the device that the bus grants, and to nobody else.
+///
+/// All that is joined lies along the bus, and the path of the bus is open: what is then joined and has the address is
+/// granted, what is granted is joined and has it, and no mux chip hears it.
+pub fn an_address_leads_to_the_granted_device()
+    ensures { (b : BoardView) (w : World) (s a : ℕ) (force : Bool) → w.board ≡ b → IsTree b
+        → ((u : ℕ) → is_joined w u ≡ true → IsAlong b s u) → is_joined w s ≡ true
+        → (grant_of b s a force ≡ grant.Busy → ⊥) → LeadsTo w a (granted_on b s force a) }
+{}
+
+/// A message says the same in the world of its root as in the flat world: its calls, its bytes and its end.
+///
+/// The devices of the root are the same afterwards, and so is who listens, wherever a call of it may fail.
+pub fn a_message_is_heard_the_same()
+    ensures { (b : BoardView) (r : ℕ) (granted : ℕ → Option ℕ) (limit : ℕ) (w : World) (f : FlatListener) (m : MessageView) (last : Bool) (cut : Option ℕ)
+        → Same b r w f → LeadsTo w m.addr (granted m.addr) → AllByRecursion IsByte m.bytes
+        → ToldAlike (Same b r) (talk world_listener limit w m last cut) (talk (flat_listener granted) limit f m last cut) }
+{}
+
+/// A transfer in the flat world is told message by message, as its messages come in the world of its root.
+///
+/// Where those before it went through, one more adds what it read and how it ended.
+pub fn a_transfer_grows_by_one_message()
+    ensures { (b : BoardView) (r : ℕ) (granted : ℕ → Option ℕ) (limit : ℕ) (f : FlatListener) (ms : List MessageView) (cuts : ℕ → Option ℕ) (w : World) (m : MessageView) (ends : Bool)
+        → is_good (talk_part (flat_listener granted) limit f ms false 0 cuts []).end ≡ true
+        → Same b r w (talk_part (flat_listener granted) limit f ms false 0 cuts []).now
+        → LeadsTo w m.addr (granted m.addr) → AllByRecursion IsByte m.bytes
+        → GrowsAlike b r m (talk_part (flat_listener granted) limit f ms false 0 cuts []) (talk world_listener limit w m ends (cuts (length ms)))
+        (talk_part (flat_listener granted) limit f (ms ++ m ∷ []) ends 0 cuts []) }
+{}
+
+/// The messages up to the last one, or to the first that doesn't go through, are the whole transfer.
+pub fn the_messages_that_were_sent_are_the_transfer()
+    ensures { (b : BoardView) (xs : List TargetState) (t : TransferView) (cut : Cut) (cuts : ℕ → Option ℕ) (ms rest : List MessageView)
+        → messages_of t ≡ ms ++ rest → ((j : ℕ) → j < length ms → cuts j ≡ cut_in cut j)
+        → EndsTransfer (is_empty rest) (talk_part (flat_listener (granted_on b t.bus t.force)) (block_limit b) (idle xs) ms (is_empty rest) 0 cuts []).end
+        → flat_messages b xs t cut ≡ talk_part (flat_listener (granted_on b t.bus t.force)) (block_limit b) (idle xs) ms (is_empty rest) 0 cuts [] }
+{}
+
+/// A message that is the last of its transfer, or doesn't go through, ends in a stop: nobody listens any more.
+pub fn a_transfer_ends_in_a_stop()
+    ensures world { (limit : ℕ) (w : World) (m : MessageView) (last : Bool) (cut : Option ℕ) → EndsTransfer last (talk world_listener limit w m last cut).end
+        → ((talk world_listener limit w m last cut).now.hearing ≡ []) × ((talk world_listener limit w m last cut).now.busy ≡ false) }
+    ensures flat { (granted : ℕ → Option ℕ) (limit : ℕ) (f : FlatListener) (m : MessageView) (last : Bool) (cut : Option ℕ)
+        → EndsTransfer last (talk (flat_listener granted) limit f m last cut).end
+        → (talk (flat_listener granted) limit f m last cut).now ≡ idle (talk (flat_listener granted) limit f m last cut).now.states }
+{}
+
+/// A message that switches a mux is heard by no device, and leaves all devices of its root as they are between transfers.
+pub fn a_control_message_leaves_the_devices()
+    ensures unheard { (b : BoardView) (w : World) (s m a : ℕ) → w.board ≡ b → IsTree b → ((u : ℕ) → is_joined w u ≡ true → IsAlong b s u)
+        → addr_of_mux b m ≡ Some a → home_of_mux b m ≡ s → IsControl w a }
+    ensures same { (b : BoardView) (r limit : ℕ) (w : World) (xs : List TargetState) (m : MessageView) (cut : Option ℕ) → Same b r w (idle xs) → IsControl w m.addr
+        → Same b r (talk world_listener limit w m true cut).now (idle xs) }
+{}
+
+/// A message leaves alone the devices of other roots, and in the flat world those that it isn't granted.
+pub fn a_message_leaves_other_devices()
+    ensures world { (b : BoardView) (r d : ℕ) → (IsOf b r d → ⊥) → (o : Option TargetState) (limit : ℕ) (w : World) (m : MessageView) (last : Bool) (cut : Option ℕ)
+        → w.board ≡ b → w.root ≡ r → slice_get w.devices d ≡ o → slice_get (talk world_listener limit w m last cut).now.devices d ≡ o }
+    ensures flat { (d : ℕ) (o : Option TargetState) (granted : ℕ → Option ℕ) (limit : ℕ) (f : FlatListener) (m : MessageView) (last : Bool) (cut : Option ℕ)
+        → is_it (granted m.addr) d ≡ false → IsUnnamed d o f → IsUnnamed d o (talk (flat_listener granted) limit f m last cut).now }
+{}
+
+/// A transfer in the flat world has to do with the devices of its root alone: its reply and what it leaves of them
+/// depend on nothing else, and the devices of other roots stay as they are.
+pub fn a_transfer_is_of_its_root_alone()
+    ensures same { (b : BoardView) → IsTree b → (xs ys : List TargetState) (t : TransferView) (cut : Cut)
+        → ((d : ℕ) → IsOf b (root_of b t.bus) d → slice_get xs d ≡ slice_get ys d) → FlatSame b (root_of b t.bus) (flat b xs t cut) (flat b ys t cut) }
+    ensures others { (b : BoardView) → IsTree b → (xs : List TargetState) (t : TransferView) (cut : Cut) (d : ℕ) → (IsOf b (root_of b t.bus) d → ⊥)
+        → slice_get (flat b xs t cut).states d ≡ slice_get xs d }
+{}
