@@ -126,7 +126,7 @@ module _ (b : BoardView) (asks : Asks) (some : AsksForMessages asks) (n : Now) (
   lined_asked : (job : Job) (failed : Bool) → first_act (current b asks n c) ≡ Some (Shift job) → turns_to (Lined failed)
   lined_asked job failed first =
       turned_asked (rest_of (current b asks n c) (Lined failed)) n.settled (λ d ne. refl)
-      (own_asked (Shift job) first (Lined failed) ((calls_at (Shift job) first) (Lined failed)) ((settles_at (Shift job) first) failed))
+      (own_asked (Shift job) first (Lined failed) ((calls_at (Shift job) first) (Lined failed)) ((settles_at (Shift job) first) failed).1)
 
   settle_asked : (verdict : _) (r : Reply) → first_act (current b asks n c) ≡ Some (Settle verdict)
       → AllAsked b asks (changed_at n.walk c (rest_of (current b asks n c) Passed)) (changed_at n.settled c (n.settled c ++ r ∷ []))

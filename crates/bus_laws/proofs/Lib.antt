@@ -44,3 +44,5 @@ pub mod DevicesReach
 pub mod WalkCalls
 pub mod AskedLaws
 pub mod DevicesPast
+-- No other message stands inside a transfer.
+pub mod WholeLaw

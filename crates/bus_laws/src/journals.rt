@@ -5,7 +5,7 @@ ghost use Rattle.i2c_spec.specs.Plain.{IsPlainBoard};
 ghost use Rattle.i2c_spec.specs.Rules.{MeetsRules};
 ghost use Rattle.i2c_spec.specs.History.{Asks};
 ghost use Rattle.bus_spec.specs.Stepwise.{IsStepwise};
-ghost use Rattle.bus_spec.specs.Legal.{KeepsLocks, KeepsPorts};
+ghost use Rattle.bus_spec.specs.Legal.{KeepsLocks, KeepsPorts, KeepsWhole};
 ghost use Rattle.bus_laws.specs.Reach.{AsksForMessages, KeepsClosed, KeepsPathsOpen};
 
 use i2c_spec::an_accepted_board_is_a_tree;
@@ -40,3 +40,11 @@ pub fn each_message_finds_its_path_open()
 pub fn each_journal_tells_its_ports()
     ensures { (b : BoardView) (callers : ℕ) (asks : Asks) (past : List Entry) → IsStepwise b callers asks past → KeepsPorts b asks past }
 {}
+
+/// The whole rule: between two messages of one transfer no other message or line step of that root stands (UM10204
+/// section 3.1.10: messages joined by repeated starts are one transfer).
+pub fn no_message_stands_inside_a_transfer()
+    ensures { (b : BoardView) (callers : ℕ) (asks : Asks) (past : List Entry) → IsPlainBoard b → MeetsRules b → AsksForMessages asks → IsStepwise b callers asks past → KeepsWhole b past }
+{
+    an_accepted_board_is_a_tree();
+}
