@@ -46,3 +46,4 @@ pub mod AskedLaws
 pub mod DevicesPast
 -- No other message stands inside a transfer.
 pub mod WholeLaw
+pub mod PlacedLaw

@@ -294,3 +294,10 @@ walk-settles b t = by_refusal (refusal b t)
     by_refusal None =
         (locked-settles (locks_of (root_of b t.bus) (hops b t.bus)) (inner b (root_of b t.bus) (hops b t.bus)) (inner-settles b (root_of b t.bus) (hops b t.bus))
         (Call t.bus (messages_of t)) plain (λ o. Ends) false (λ e. refl) refl (λ o. tt) (λ o. refl)).1
+
+-- the walk of a transfer that steps on the bus begins with another step
+pub walk-starts : (b : BoardView) (t : TransferView) → refusal b t ≡ None → NoSettle (walk_for b t)
+walk-starts b t accepted =
+    subst (λ (r : Option Errno). NoSettle (walk_by b t r)) (sym accepted)
+    (locked-settles (locks_of (root_of b t.bus) (hops b t.bus)) (inner b (root_of b t.bus) (hops b t.bus)) (inner-settles b (root_of b t.bus) (hops b t.bus))
+    (Call t.bus (messages_of t)) plain (λ o. Ends) false (λ e. refl) refl (λ o. tt) (λ o. refl)).0

@@ -5,7 +5,7 @@ ghost use Rattle.i2c_spec.specs.Plain.{IsPlainBoard};
 ghost use Rattle.i2c_spec.specs.Rules.{MeetsRules};
 ghost use Rattle.i2c_spec.specs.History.{Asks};
 ghost use Rattle.bus_spec.specs.Stepwise.{IsStepwise};
-ghost use Rattle.bus_spec.specs.Legal.{KeepsLocks, KeepsPorts, KeepsWhole};
+ghost use Rattle.bus_spec.specs.Legal.{KeepsLocks, KeepsPorts, KeepsSettles, KeepsWhole};
 ghost use Rattle.bus_laws.specs.Reach.{AsksForMessages, KeepsClosed, KeepsPathsOpen};
 
 use i2c_spec::an_accepted_board_is_a_tree;
@@ -48,3 +48,9 @@ pub fn no_message_stands_inside_a_transfer()
 {
     an_accepted_board_is_a_tree();
 }
+
+/// Each settle tells the cut of its caller's last entry, and stands directly behind that message or line step where its
+/// transfer steps on the bus.
+pub fn each_settle_stands_where_it_is_decided()
+    ensures { (b : BoardView) (callers : ℕ) (asks : Asks) (past : List Entry) → AsksForMessages asks → IsStepwise b callers asks past → KeepsSettles b asks past }
+{}
