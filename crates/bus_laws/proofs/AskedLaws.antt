@@ -37,7 +37,7 @@ use Rattle.bus_laws.proofs.WalkCalls.{walk-calls, calls_seen}
 use Rattle.bus_laws.proofs.DevicesReach.{send-reaches}
 
 -- the looks in front of a walk change nothing
-settles_seen : (slots : Slots) (done : Bool) (w : WalkTree) → Settles done w → Settles done (seen slots w)
+pub settles_seen : (slots : Slots) (done : Bool) (w : WalkTree) → Settles done w → Settles done (seen slots w)
 settles_seen slots done Ends h = h
 settles_seen slots done (Look (MarkOf p) next) h = settles_seen slots done (next (mark_in (slots p).slot)) (h (mark_in (slots p).slot))
 settles_seen slots done (Then act note next) h = h

@@ -47,3 +47,4 @@ pub mod DevicesPast
 -- No other message stands inside a transfer.
 pub mod WholeLaw
 pub mod PlacedLaw
+pub mod WalksLaw

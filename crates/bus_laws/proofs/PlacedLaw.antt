@@ -37,7 +37,7 @@ starts_seen v Ends h = h
 starts_seen v (Look (MarkOf p) next) h = starts_seen v (next (mark_in (v p).slot)) (h (mark_in (v p).slot))
 starts_seen v (Then act note next) h = h
 
-no_settle : (w : WalkTree) (verdict : Option Errno) → NoSettle w → first_act w ≡ Some (Settle verdict) → ⊥
+pub no_settle : (w : WalkTree) (verdict : Option Errno) → NoSettle w → first_act w ≡ Some (Settle verdict) → ⊥
 no_settle Ends verdict h e = (let f : None ≡ Some (Settle verdict) = e in cc)
 no_settle (Look ask next) verdict h e = (let f : None ≡ Some (Settle verdict) = e in cc)
 no_settle (Then (Take l) note next) verdict h e = (let f : Some (Take l) ≡ Some (Settle verdict) = e in cc)
@@ -147,7 +147,7 @@ module _ (b : BoardView) (asks : Asks) (some : AsksForMessages asks) (callers : 
 
 module _ (b : BoardView) (asks : Asks) (some : AsksForMessages asks) (callers : ℕ) where
   -- THE INDUCTION
-  past-due : (past : List Entry) → IsStepwise b callers asks past → AreDue (now b asks past)
+  pub past-due : (past : List Entry) → IsStepwise b callers asks past → AreDue (now b asks past)
   past-due [] steps = λ c. inr tt
   past-due (e ∷ past) steps = step_due b asks some callers past steps.1 (past-due past steps.1) e steps.0
 

@@ -1,11 +1,12 @@
-ghost use Rattle.std.specs.Prelude.{ℕ, List};
+ghost use Rattle.std.specs.Prelude.{◌≡◌, ℕ, List, None};
 ghost use Rattle.i2c_base.specs.Board.{BoardView};
 ghost use Rattle.i2c_base.specs.declared.entry.Entry.{Entry};
 ghost use Rattle.i2c_spec.specs.Plain.{IsPlainBoard};
 ghost use Rattle.i2c_spec.specs.Rules.{MeetsRules};
 ghost use Rattle.i2c_spec.specs.History.{Asks};
+ghost use Rattle.bus_spec.specs.Past.{now};
 ghost use Rattle.bus_spec.specs.Stepwise.{IsStepwise};
-ghost use Rattle.bus_spec.specs.Legal.{KeepsLocks, KeepsPorts, KeepsSettles, KeepsWhole};
+ghost use Rattle.bus_spec.specs.Legal.{KeepsLocks, KeepsPorts, KeepsSettles, KeepsWalks, KeepsWhole};
 ghost use Rattle.bus_laws.specs.Reach.{AsksForMessages, KeepsClosed, KeepsPathsOpen};
 
 use i2c_spec::an_accepted_board_is_a_tree;
@@ -53,4 +54,10 @@ pub fn no_message_stands_inside_a_transfer()
 /// transfer steps on the bus.
 pub fn each_settle_stands_where_it_is_decided()
     ensures { (b : BoardView) (callers : ℕ) (asks : Asks) (past : List Entry) → AsksForMessages asks → IsStepwise b callers asks past → KeepsSettles b asks past }
+{}
+
+/// The walk rule: where no settle is due, the entries of each caller, in order, are its transfers' walks one after the
+/// other, the last one maybe under way.
+pub fn each_caller_walks_its_transfers()
+    ensures { (b : BoardView) (callers : ℕ) (asks : Asks) (past : List Entry) → AsksForMessages asks → IsStepwise b callers asks past → (now b asks past).due ≡ None → KeepsWalks b asks past }
 {}

@@ -16,7 +16,7 @@ pub use devices::{
     both_worlds_open_the_same, the_messages_that_were_sent_are_the_transfer,
 };
 pub use journals::{
-    an_open_mux_is_selected_or_marked, each_journal_keeps_its_locks, each_journal_tells_its_ports,
+    an_open_mux_is_selected_or_marked, each_caller_walks_its_transfers, each_journal_keeps_its_locks, each_journal_tells_its_ports,
     each_message_finds_its_path_open, each_settle_stands_where_it_is_decided, no_message_stands_inside_a_transfer,
 };
 pub use targets::each_message_reaches_its_target;
