@@ -48,3 +48,5 @@ pub mod DevicesPast
 pub mod WholeLaw
 pub mod PlacedLaw
 pub mod WalksLaw
+-- Some caller can always go on.
+pub mod ReadyLaw

@@ -7,3 +7,4 @@ pub mod Settles
 -- The devices of a root's world and of the flat world.
 pub mod Alike
 pub mod Calls
+pub mod Ready
