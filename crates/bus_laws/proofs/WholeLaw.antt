@@ -55,7 +55,7 @@ goes_on_from v x Ends act e = absurd (let f : None ≡ Some act = e in cc)
 goes_on_from v x (Look ask next) act e = absurd (let f : None ≡ Some act = e in cc)
 goes_on_from v x (Then a note next) act e = e
 
-some_is : {X : Type 0} (x y : X) → Some x ≡ Some y → x ≡ y
+pub some_is : {X : Type 0} (x y : X) → Some x ≡ Some y → x ≡ y
 some_is x y e = cc
 
 -- a message that went through, whatever may follow

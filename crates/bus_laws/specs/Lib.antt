@@ -8,3 +8,4 @@ pub mod Settles
 pub mod Alike
 pub mod Calls
 pub mod Ready
+pub mod Wrong

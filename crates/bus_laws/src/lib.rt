@@ -8,6 +8,7 @@ mod devices;
 mod journals;
 mod targets;
 mod walks;
+mod wrong;
 
 pub use devices::{
     a_control_message_leaves_the_devices, a_message_is_heard_the_same,
@@ -21,3 +22,13 @@ pub use journals::{
 };
 pub use targets::each_message_reaches_its_target;
 pub use walks::{each_walk_keeps_its_path_open, each_walk_settles_once};
+pub use wrong::{
+    a_closed_channel_lets_nothing_through,
+    a_lock_is_taken_by_one_caller,
+    a_marked_mux_is_closed_first,
+    a_mux_is_deselected,
+    a_settle_comes_at_once,
+    another_message_stands_outside,
+    locks_are_taken_towards_the_root,
+    nobody_steps_before_a_settle,
+};
