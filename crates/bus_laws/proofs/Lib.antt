@@ -48,5 +48,6 @@ pub mod DevicesPast
 pub mod WholeLaw
 pub mod PlacedLaw
 pub mod WalksLaw
+pub mod LegalLaw
 -- Some caller can always go on.
 pub mod ReadyLaw

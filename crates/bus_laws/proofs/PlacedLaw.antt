@@ -100,16 +100,16 @@ module _ (b : BoardView) (asks : Asks) (some : AsksForMessages asks) (callers : 
     -- of a message or a line step
     bus_step : (d : ℕ) (out : ActOutcome) → n.due ≡ None → IsDecided (rest_of (current b asks n d) out) → (c : ℕ)
         → (cond (is_due (first_act (changed_at n.walk d (rest_of (current b asks n d) out) d))) (Some d) None ≡ Some c)
-          ⊎ NoSettle (changed_at n.walk d (rest_of (current b asks n d) out) c)
+        ⊎ NoSettle (changed_at n.walk d (rest_of (current b asks n d) out) c)
     bus_step d out none decided c =
         elim (eqb_tells c d) [
           | inl h ↦ elim decided [
-              | inl quiet ↦ inr (subst (λ (i : ℕ). NoSettle (changed_at n.walk d (rest_of (current b asks n d) out) i)) (sym h.1)
-                  (subst (λ (w : WalkTree). NoSettle w) (sym (at_same n.walk d (rest_of (current b asks n d) out))) quiet))
-              | inr settle ↦ inl (
-                  ap (λ (w : WalkTree). cond (is_due (first_act w)) (Some d) None) (at_same n.walk d (rest_of (current b asks n d) out))
-                  ∙ ap (λ (o : Option Act). cond (is_due o) (Some d) None) settle.1 ∙ ap Some (sym h.1))
-            ]
+            | inl quiet ↦ inr (subst (λ (i : ℕ). NoSettle (changed_at n.walk d (rest_of (current b asks n d) out) i)) (sym h.1)
+                (subst (λ (w : WalkTree). NoSettle w) (sym (at_same n.walk d (rest_of (current b asks n d) out))) quiet))
+            | inr settle ↦ inl (
+                ap (λ (w : WalkTree). cond (is_due (first_act w)) (Some d) None) (at_same n.walk d (rest_of (current b asks n d) out))
+                ∙ ap (λ (o : Option Act). cond (is_due o) (Some d) None) settle.1 ∙ ap Some (sym h.1))
+          ]
           | inr h ↦ inr (subst (λ (w : WalkTree). NoSettle w) (sym (at_other n.walk d (rest_of (current b asks n d) out) c h.1))
               (not_due c n.due (n.walk c) none (due c)))
         ]
@@ -122,28 +122,28 @@ module _ (b : BoardView) (asks : Asks) (some : AsksForMessages asks) (callers : 
     step_due : (x : Entry) → May b callers asks n x → AreDue (step b asks n x)
     step_due (entry.Take d l) may = λ c.
         inr (quiet_step d Passed (λ i ne. not_due i n.due (n.walk i) may.1 (due i))
-          (let r = rest_settles d (Take l) may.2 in rest_is d (Take l) r.0 r.1 Passed NoSettle r.2 r.3.0) c)
+        (let r = rest_settles d (Take l) may.2 in rest_is d (Take l) r.0 r.1 Passed NoSettle r.2 r.3.0) c)
     step_due (entry.Free d l) may = λ c.
         inr (quiet_step d Passed (λ i ne. not_due i n.due (n.walk i) may.1 (due i))
-          (let r = rest_settles d (Free l) may.2 in rest_is d (Free l) r.0 r.1 Passed NoSettle r.2 r.3.0) c)
+        (let r = rest_settles d (Free l) may.2 in rest_is d (Free l) r.0 r.1 Passed NoSettle r.2 r.3.0) c)
     step_due (entry.Settle d x cut) may = λ c.
         inr (quiet_step d Passed (λ i ne. elim (due i) [
-            | inl mine ↦ absurd (elim may.1 [
-                | inl none ↦ (let f : None ≡ Some i = sym none ∙ mine in cc)
-                | inr theirs ↦ ne (let f : Some i ≡ Some d = sym mine ∙ theirs in cc)
-              ])
-            | inr h ↦ h
+          | inl mine ↦ absurd (elim may.1 [
+            | inl none ↦ (let f : None ≡ Some i = sym none ∙ mine in cc)
+            | inr theirs ↦ ne (let f : Some i ≡ Some d = sym mine ∙ theirs in cc)
           ])
-          (let r = rest_settles d (Settle may.2) may.3 in rest_is d (Settle may.2) r.0 r.1 Passed NoSettle r.2 r.3.1) c)
+          | inr h ↦ h
+        ])
+        (let r = rest_settles d (Settle may.2) may.3 in rest_is d (Settle may.2) r.0 r.1 Passed NoSettle r.2 r.3.1) c)
     step_due (entry.Line d mux level failed) may =
         subst (λ (o : Option Act). AreDue (with_due d (moved b asks n (lined_by b n o (first_note (current b asks n d)) failed) d (entry.Line d mux level failed) (Lined failed)))) (sym may.3)
-          (λ c. bus_step d (Lined failed) may.1
-            (let r = rest_settles d (Shift may.2) may.3 in rest_is d (Shift may.2) r.0 r.1 (Lined failed) IsDecided r.2 (r.3 failed).0) c)
+        (λ c. bus_step d (Lined failed) may.1
+        (let r = rest_settles d (Shift may.2) may.3 in rest_is d (Shift may.2) r.0 r.1 (Lined failed) IsDecided r.2 (r.3 failed).0) c)
     step_due (entry.Message d bus purpose part parts addr reading bytes heard e) may =
         subst (λ (o : Option Act). AreDue (with_due d (moved b asks n (sent_by b n d o (first_note (current b asks n d)) reading bytes e) d (entry.Message d bus purpose part parts addr reading bytes heard e) (Sent e bytes)))) (sym may.4)
-          (λ c. bus_step d (Sent e bytes) may.1
-            (let r = rest_settles d (Send may.2 may.3) may.4 in
-             rest_is d (Send may.2 may.3) r.0 r.1 (Sent e bytes) IsDecided r.2 (goes_decided may.2 may.3 (Sent e bytes) (r.1 (Sent e bytes)) (r.3.1 e bytes).0)) c)
+        (λ c. bus_step d (Sent e bytes) may.1
+        (let r = rest_settles d (Send may.2 may.3) may.4 in
+        rest_is d (Send may.2 may.3) r.0 r.1 (Sent e bytes) IsDecided r.2 (goes_decided may.2 may.3 (Sent e bytes) (r.1 (Sent e bytes)) (r.3.1 e bytes).0)) c)
 
 module _ (b : BoardView) (asks : Asks) (some : AsksForMessages asks) (callers : ℕ) where
   -- THE INDUCTION
@@ -211,11 +211,12 @@ module _ (b : BoardView) (asks : Asks) (some : AsksForMessages asks) (callers : 
       where
         never : NoSettle (current b asks (now b asks past) c) → IsDirectlyBehind c past
         never h = absurd (no_settle (current b asks (now b asks past) c) verdict h next)
+
         by_over : (t : Bool) → is_over ((now b asks past).walk c) ≡ t → IsDirectlyBehind c past
         by_over true over =
             never (starts_seen (now b asks past).slot (cond (is_over ((now b asks past).walk c)) (begun b (asks c ((now b asks past).settled c))) ((now b asks past).walk c))
-              (subst (λ (t : Bool). NoSettle (cond t (begun b (asks c ((now b asks past).settled c))) ((now b asks past).walk c))) (sym over)
-                (begins (asks c ((now b asks past).settled c)) refl accepted)))
+            (subst (λ (t : Bool). NoSettle (cond t (begun b (asks c ((now b asks past).settled c))) ((now b asks past).walk c))) (sym over)
+            (begins (asks c ((now b asks past).settled c)) refl accepted)))
         by_over false over =
             elim (past-due past steps c) [
               | inl due ↦ due_behind past c steps due

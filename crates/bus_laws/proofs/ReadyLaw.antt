@@ -81,7 +81,7 @@ module _ (b : BoardView) (tree : IsTree b) (plain : IsPlainBoard b) (lines : Lin
       let cur : CallerStands b (n.held d) (current b asks n d) n.slot = current-stands b tree lines asks some n d stands in
       let at = first_is (current b asks n d) (Take k) next in
       let runs : IsBelow b k (n.held d) × ((s : At) → RestOf b k s → Runs b cur.whose (k ∷ n.held d) (taken_slots k s cur.view) (at.1 Passed)) =
-        subst (λ (w : WalkTree). Runs b cur.whose (n.held d) cur.view w) at.2 cur.runs in
+      subst (λ (w : WalkTree). Runs b cur.whose (n.held d) cur.view w) at.2 cur.runs in
       below_each b k (n.held d) l runs.0 i
 
   -- THE INDUCTION: `fuel` is above the rank of what is waited for
@@ -99,15 +99,22 @@ module _ (b : BoardView) (tree : IsTree b) (plain : IsPlainBoard b) (lines : Lin
     where
       by_holder : ((d : ℕ) (a : Act) → d < callers → IsNext b asks n d a → ((l : LockId) → a ≡ Take l → rank b l < fuel) → (i : ℕ) × CanGoOn b callers asks past i)
           → (l : LockId) → act ≡ Take l → (o : Option ℕ) → n.holder l ≡ o → (i : ℕ) × CanGoOn b callers asks past i
-      by_holder later l e None none =
-          (c, record { known = known; act = act; next = next; free = λ k f.
-            subst (λ (x : LockId). holder past x ≡ None) (let g : Take l ≡ Take k = sym e ∙ f in cc) (sym (holder-told b asks past l) ∙ none) })
+      by_holder later l e None none = (
+        c,
+        record {
+          known = known;
+          act = act;
+          next = next;
+          free = λ k f.
+              subst (λ (x : LockId). holder past x ≡ None) (let g : Take l ≡ Take k = sym e ∙ f in cc) (sym (holder-told b asks past l) ∙ none);
+        },
+      )
       by_holder later l e (Some d) has =
           let i : InLocks l (n.held d) = stands.has d l has in
           let acts = holder_acts d l i in
           later d acts.0 (holders_known b callers asks past steps l d (sym (holder-told b asks past l) ∙ has)) acts.1
-            (λ k f. let below : rank b k < rank b l = lower d k l (subst (λ (a : Act). IsNext b asks n d a) f acts.1) i in
-                    let top : rank b l < suc fuel = above l e in omega (arith, below, top))
+          (λ k f. let below : rank b k < rank b l = lower d k l (subst (λ (a : Act). IsNext b asks n d a) f acts.1) i in
+          let top : rank b l < suc fuel = above l e in omega (arith, below, top))
 
   abbrev highest : Act → ℕ
   highest (Take l) = suc (rank b l)

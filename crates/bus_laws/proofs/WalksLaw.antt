@@ -87,10 +87,10 @@ module _ (b : BoardView) (asks : Asks) (c : ℕ) where
       elim way.so_far [
         | inl open_still ↦ absurd (let f : false ≡ true = open_still.1 in cc)
         | inr done ↦ (
-            done.0,
-            way.told ∙ ap (λ (xs : List Reply). rs ++ xs) done.1,
-            λ rest more. whole rs way.whose mine rest (mine ++ rest) done.0 way.asked way.led done.1 more refl
-          )
+          done.0,
+          way.told ∙ ap (λ (xs : List Reply). rs ++ xs) done.1,
+          λ rest more. whole rs way.whose mine rest (mine ++ rest) done.0 way.asked way.led done.1 more refl,
+        )
       ]
 
   -- one step more of a walk under way
@@ -111,8 +111,10 @@ module _ (b : BoardView) (asks : Asks) (c : ℕ) where
       behind act done first settles =
           let at = first_is (seen known w) act first in
           (at.0, at.1, at.2, subst (λ (x : WalkTree). Settles done x) at.2 (settles_seen known done w settles))
+
       onto : (x y : WalkTree) (done : Bool) (out : ActOutcome) → x ≡ y → Settles done (rest_of y out) → Settles done (rest_of x out)
       onto x y done out e h = subst (λ (z : WalkTree). Settles done (rest_of z out)) (sym e) h
+
       plain_more : (e : Entry) (xs : List Reply) → reply_at e ≡ [] → ((done : Bool) → Settles done w → Settles done (rest_of (seen known w) (outcome_of e)))
           → SettledSo w xs → SettledSo (rest_of (seen known w) (outcome_of e)) (xs ++ reply_at e)
       plain_more e xs no_reply goes so =
@@ -121,22 +123,23 @@ module _ (b : BoardView) (asks : Asks) (c : ℕ) where
             | inl still ↦ inl (same ∙ still.0, goes false still.1)
             | inr done ↦ inr (done.0, same ∙ done.1, goes true done.2)
           ]
+
       settles_more : (e : Entry) (act : Act) → first_act (seen known w) ≡ Some act → Does e act → SettledSo w (replies_in mine)
           → SettledSo (rest_of (seen known w) (outcome_of e)) (replies_in mine ++ reply_at e)
       settles_more (entry.Take d l) act first does so =
           plain_more (entry.Take d l) (replies_in mine) refl
-            (λ done h. let r = behind (Take l) done (first ∙ ap Some does) h in onto (seen known w) (Then (Take l) r.0 r.1) done Passed r.2 r.3.1) so
+          (λ done h. let r = behind (Take l) done (first ∙ ap Some does) h in onto (seen known w) (Then (Take l) r.0 r.1) done Passed r.2 r.3.1) so
       settles_more (entry.Free d l) act first does so =
           plain_more (entry.Free d l) (replies_in mine) refl
-            (λ done h. let r = behind (Free l) done (first ∙ ap Some does) h in onto (seen known w) (Then (Free l) r.0 r.1) done Passed r.2 r.3.1) so
+          (λ done h. let r = behind (Free l) done (first ∙ ap Some does) h in onto (seen known w) (Then (Free l) r.0 r.1) done Passed r.2 r.3.1) so
       settles_more (entry.Message d bus purpose part parts addr reading bytes heard e) act first does so =
           plain_more (entry.Message d bus purpose part parts addr reading bytes heard e) (replies_in mine) refl
-            (λ done h. let r = behind (Send does.0 does.1) done (first ∙ ap Some does.2) h in
-                       onto (seen known w) (Then (Send does.0 does.1) r.0 r.1) done (Sent e bytes) r.2 (r.3.1 e bytes).1) so
+          (λ done h. let r = behind (Send does.0 does.1) done (first ∙ ap Some does.2) h in
+          onto (seen known w) (Then (Send does.0 does.1) r.0 r.1) done (Sent e bytes) r.2 (r.3.1 e bytes).1) so
       settles_more (entry.Line d mux level failed) act first does so =
           plain_more (entry.Line d mux level failed) (replies_in mine) refl
-            (λ done h. let r = behind (Shift does.0) done (first ∙ ap Some does.1) h in
-                       onto (seen known w) (Then (Shift does.0) r.0 r.1) done (Lined failed) r.2 (r.3 failed).1) so
+          (λ done h. let r = behind (Shift does.0) done (first ∙ ap Some does.1) h in
+          onto (seen known w) (Then (Shift does.0) r.0 r.1) done (Lined failed) r.2 (r.3 failed).1) so
       settles_more (entry.Settle d x cut) act first does so =
           elim so [
             | inl still ↦ (let r = behind (Settle does.0) false (first ∙ ap Some does.1) still.1 in
@@ -158,6 +161,7 @@ module _ (b : BoardView) (asks : Asks) (c : ℕ) where
     where
       abbrev_one : Step
       abbrev_one = record { known = known; entry = e }
+
       -- the walk goes on
       goes_on : (rs : List Reply) (before mine : List Step) (u : WalkTree) → steps ≡ before ++ mine
           → ((rest : List Step) → AreWalks b (asks c) rs rest → AreWalks b (asks c) [] (before ++ rest)) → UnderWay rs mine u settled → first_act (seen known u) ≡ Some act
@@ -171,19 +175,22 @@ module _ (b : BoardView) (asks : Asks) (c : ℕ) where
             wholes = wholes;
             under_way = inr (one_more rs mine u settled known e act way first does);
           }
+
       -- the next one begins, after whole walks
       starts : (o : Option TransferView) → asks c settled ≡ o → ((rest : List Step) → AreWalks b (asks c) settled rest → AreWalks b (asks c) [] (steps ++ rest))
           → first_act (seen known (begun b o)) ≡ Some act
           → Walked (steps ++ record { known = known; entry = e } ∷ []) (rest_of (seen known (begun b o)) (outcome_of e)) (settled ++ reply_at e)
       starts None asked wholes first = absurd (let f : None ≡ Some act = first in cc)
       starts (Some t) asked wholes first = goes_on settled steps [] (walk_for b t) (sym (append-nil steps)) wholes (begins settled t asked) first
+
       over : w ≡ Ends → ((rest : List Step) → AreWalks b (asks c) settled rest → AreWalks b (asks c) [] (steps ++ rest))
           → Walked (steps ++ record { known = known; entry = e } ∷ []) (rest_of (seen known (cond (is_over w) (begun b (asks c settled)) w)) (outcome_of e)) (settled ++ reply_at e)
       over is wholes =
           subst (λ (t : Bool). Walked (steps ++ record { known = known; entry = e } ∷ []) (rest_of (seen known (cond t (begun b (asks c settled)) w)) (outcome_of e)) (settled ++ reply_at e))
-            (sym (ap is_over is))
-            (starts (asks c settled) refl wholes
-              (subst (λ (t : Bool). first_act (seen known (cond t (begun b (asks c settled)) w)) ≡ Some act) (ap is_over is) first))
+          (sym (ap is_over is))
+          (starts (asks c settled) refl wholes
+          (subst (λ (t : Bool). first_act (seen known (cond t (begun b (asks c settled)) w)) ≡ Some act) (ap is_over is) first))
+
       under : UnderWay walked.rs walked.mine w settled
           → Walked (steps ++ record { known = known; entry = e } ∷ []) (rest_of (seen known (cond (is_over w) (begun b (asks c settled)) w)) (outcome_of e)) (settled ++ reply_at e)
       under way = by_walk w refl
@@ -192,26 +199,27 @@ module _ (b : BoardView) (asks : Asks) (c : ℕ) where
           by_walk Ends is =
               let done = ended walked.rs walked.mine settled (subst (λ (x : WalkTree). UnderWay walked.rs walked.mine x settled) (sym is) way) in
               over (sym is) (λ rest more.
-                subst (λ (xs : List Step). AreWalks b (asks c) [] xs) (sym (ap (λ (xs : List Step). xs ++ rest) walked.parts ∙ append_assoc walked.before walked.mine rest))
-                  (walked.wholes (walked.mine ++ rest) (done.2 rest (subst (λ (rs : List Reply). AreWalks b (asks c) rs rest) done.1 more))))
+              subst (λ (xs : List Step). AreWalks b (asks c) [] xs) (sym (ap (λ (xs : List Step). xs ++ rest) walked.parts ∙ append_assoc walked.before walked.mine rest))
+              (walked.wholes (walked.mine ++ rest) (done.2 rest (subst (λ (rs : List Reply). AreWalks b (asks c) rs rest) done.1 more))))
           by_walk (Look ask next) is = not_over (sym (ap is_over is))
             where
               not_over : is_over w ≡ false → Walked (steps ++ record { known = known; entry = e } ∷ []) (rest_of (seen known (cond (is_over w) (begun b (asks c settled)) w)) (outcome_of e)) (settled ++ reply_at e)
               not_over off =
                   subst (λ (t : Bool). Walked (steps ++ record { known = known; entry = e } ∷ []) (rest_of (seen known (cond t (begun b (asks c settled)) w)) (outcome_of e)) (settled ++ reply_at e)) (sym off)
-                    (goes_on walked.rs walked.before walked.mine w walked.parts walked.wholes way
-                      (subst (λ (t : Bool). first_act (seen known (cond t (begun b (asks c settled)) w)) ≡ Some act) off first))
+                  (goes_on walked.rs walked.before walked.mine w walked.parts walked.wholes way
+                  (subst (λ (t : Bool). first_act (seen known (cond t (begun b (asks c settled)) w)) ≡ Some act) off first))
           by_walk (Then a note next) is =
               subst (λ (t : Bool). Walked (steps ++ record { known = known; entry = e } ∷ []) (rest_of (seen known (cond t (begun b (asks c settled)) w)) (outcome_of e)) (settled ++ reply_at e)) (ap is_over is)
-                (goes_on walked.rs walked.before walked.mine w walked.parts walked.wholes way
-                  (subst (λ (t : Bool). first_act (seen known (cond t (begun b (asks c settled)) w)) ≡ Some act) (sym (ap is_over is)) first))
+              (goes_on walked.rs walked.before walked.mine w walked.parts walked.wholes way
+              (subst (λ (t : Bool). first_act (seen known (cond t (begun b (asks c settled)) w)) ≡ Some act) (sym (ap is_over is)) first))
+
       by_way : ((walked.mine ≡ []) × (w ≡ Ends) × (settled ≡ walked.rs)) ⊎ UnderWay walked.rs walked.mine w settled
           → Walked (steps ++ record { known = known; entry = e } ∷ []) (rest_of (seen known (cond (is_over w) (begun b (asks c settled)) w)) (outcome_of e)) (settled ++ reply_at e)
       by_way way =
           elim way [
             | inl idle ↦ over idle.1 (λ rest more.
                 subst (λ (xs : List Step). AreWalks b (asks c) [] (xs ++ rest)) (sym (walked.parts ∙ ap (λ (xs : List Step). walked.before ++ xs) idle.0 ∙ append-nil walked.before))
-                  (walked.wholes rest (subst (λ (rs : List Reply). AreWalks b (asks c) rs rest) idle.2 more)))
+                (walked.wholes rest (subst (λ (rs : List Reply). AreWalks b (asks c) rs rest) idle.2 more)))
             | inr under_way ↦ under under_way
           ]
 
@@ -230,18 +238,18 @@ module _ (b : BoardView) (asks : Asks) (callers : ℕ) (c : ℕ) where
         → Walked b asks c (steps_in b asks c (e ∷ past)) (walk2 c) (settled2 c)
     own_step e act walk2 settled2 mine first does walk settled =
         subst (λ (t : Bool). Walked b asks c (cond t (steps_in b asks c past ++ record { known = n.slot; entry = e } ∷ []) (steps_in b asks c past)) (walk2 c) (settled2 c))
-          (sym (eq-eqb (caller_of e) c mine))
-          (subst (λ (w : WalkTree). Walked b asks c (steps_in b asks c past ++ record { known = n.slot; entry = e } ∷ []) w (settled2 c)) (sym walk)
-            (subst (λ (rs : List Reply). Walked b asks c (steps_in b asks c past ++ record { known = n.slot; entry = e } ∷ []) (rest_of (current b asks n c) (outcome_of e)) rs) (sym settled)
-              (walked_more b asks c (steps_in b asks c past) (n.walk c) (n.settled c) n.slot e act walked first does)))
+        (sym (eq-eqb (caller_of e) c mine))
+        (subst (λ (w : WalkTree). Walked b asks c (steps_in b asks c past ++ record { known = n.slot; entry = e } ∷ []) w (settled2 c)) (sym walk)
+        (subst (λ (rs : List Reply). Walked b asks c (steps_in b asks c past ++ record { known = n.slot; entry = e } ∷ []) (rest_of (current b asks n c) (outcome_of e)) rs) (sym settled)
+        (walked_more b asks c (steps_in b asks c past) (n.walk c) (n.settled c) n.slot e act walked first does)))
 
     other_step : (e : Entry) (walk2 : ℕ → WalkTree) (settled2 : ℕ → List Reply) → (caller_of e ≡ c → ⊥) → walk2 c ≡ n.walk c → settled2 c ≡ n.settled c
         → Walked b asks c (steps_in b asks c (e ∷ past)) (walk2 c) (settled2 c)
     other_step e walk2 settled2 theirs walk settled =
         subst (λ (t : Bool). Walked b asks c (cond t (steps_in b asks c past ++ record { known = n.slot; entry = e } ∷ []) (steps_in b asks c past)) (walk2 c) (settled2 c))
-          (sym (eqb-apart (caller_of e) c theirs))
-          (subst (λ (w : WalkTree). Walked b asks c (steps_in b asks c past) w (settled2 c)) (sym walk)
-            (subst (λ (rs : List Reply). Walked b asks c (steps_in b asks c past) (n.walk c) rs) (sym settled) walked))
+        (sym (eqb-apart (caller_of e) c theirs))
+        (subst (λ (w : WalkTree). Walked b asks c (steps_in b asks c past) w (settled2 c)) (sym walk)
+        (subst (λ (rs : List Reply). Walked b asks c (steps_in b asks c past) (n.walk c) rs) (sym settled) walked))
 
     -- one more entry, of caller d, whose next step it does
     turn : (e : Entry) (act : Act) (settled2 : ℕ → List Reply) → IsNext b asks n (caller_of e) act → Does e act
@@ -252,7 +260,7 @@ module _ (b : BoardView) (asks : Asks) (callers : ℕ) (c : ℕ) where
           | inl h ↦ own_step e act (changed_at n.walk (caller_of e) (rest_of (current b asks n (caller_of e)) (outcome_of e))) settled2 h.1
               (subst (λ (i : ℕ). IsNext b asks n i act) h.1 first) does
               (subst (λ (i : ℕ). changed_at n.walk i (rest_of (current b asks n i) (outcome_of e)) c ≡ rest_of (current b asks n c) (outcome_of e)) (sym h.1)
-                (at_same n.walk c (rest_of (current b asks n c) (outcome_of e))))
+              (at_same n.walk c (rest_of (current b asks n c) (outcome_of e))))
               (subst (λ (i : ℕ). settled2 i ≡ n.settled i ++ reply_at e) h.1 own)
           | inr h ↦ other_step e (changed_at n.walk (caller_of e) (rest_of (current b asks n (caller_of e)) (outcome_of e))) settled2 h.1
               (at_other n.walk (caller_of e) (rest_of (current b asks n (caller_of e)) (outcome_of e)) c (λ f. h.1 (sym f)))
@@ -264,14 +272,14 @@ module _ (b : BoardView) (asks : Asks) (callers : ℕ) (c : ℕ) where
     step_walked (entry.Free d l) may = turn (entry.Free d l) (Free l) n.settled may.2 refl (sym (append-nil (n.settled d))) (λ i ne. refl)
     step_walked (entry.Settle d r cut) may =
         turn (entry.Settle d r cut) (Settle may.2) (changed_at n.settled d (n.settled d ++ r ∷ [])) may.3 (may.2, refl)
-          (at_same n.settled d (n.settled d ++ r ∷ [])) (λ i ne. at_other n.settled d (n.settled d ++ r ∷ []) i ne)
+        (at_same n.settled d (n.settled d ++ r ∷ [])) (λ i ne. at_other n.settled d (n.settled d ++ r ∷ []) i ne)
     step_walked (entry.Line d mux level failed) may =
         subst (λ (o : Option Act). AreWalked (with_due d (moved b asks n (lined_by b n o (first_note (current b asks n d)) failed) d (entry.Line d mux level failed) (Lined failed))) (steps_in b asks c (entry.Line d mux level failed ∷ past))) (sym may.3)
-          (turn (entry.Line d mux level failed) (Shift may.2) n.settled may.3 (may.2, refl) (sym (append-nil (n.settled d))) (λ i ne. refl))
+        (turn (entry.Line d mux level failed) (Shift may.2) n.settled may.3 (may.2, refl) (sym (append-nil (n.settled d))) (λ i ne. refl))
     step_walked (entry.Message d bus purpose part parts addr reading bytes heard e) may =
         subst (λ (o : Option Act). AreWalked (with_due d (moved b asks n (sent_by b n d o (first_note (current b asks n d)) reading bytes e) d (entry.Message d bus purpose part parts addr reading bytes heard e) (Sent e bytes))) (steps_in b asks c (entry.Message d bus purpose part parts addr reading bytes heard e ∷ past))) (sym may.4)
-          (turn (entry.Message d bus purpose part parts addr reading bytes heard e) (Send may.2 may.3) n.settled may.4 (may.2, may.3, refl, may.5.on_bus, may.5.for_purpose)
-            (sym (append-nil (n.settled d))) (λ i ne. refl))
+        (turn (entry.Message d bus purpose part parts addr reading bytes heard e) (Send may.2 may.3) n.settled may.4 (may.2, may.3, refl, may.5.on_bus, may.5.for_purpose)
+        (sym (append-nil (n.settled d))) (λ i ne. refl))
 
   past-walked : (past : List Entry) → IsStepwise b callers asks past → AreWalked (now b asks past) (steps_in b asks c past)
   past-walked [] steps = record { rs = []; before = []; mine = []; parts = refl; wholes = λ rest more. more; under_way = inl (refl, refl, refl) }
@@ -281,15 +289,17 @@ module _ (b : BoardView) (asks : Asks) (callers : ℕ) (c : ℕ) where
   pub walks-of : AsksForMessages asks → (past : List Entry) → IsStepwise b callers asks past → (now b asks past).due ≡ None → AreWalks b (asks c) [] (steps_in b asks c past)
   walks-of some past steps none_due =
       subst (λ (xs : List Step). AreWalks b (asks c) [] xs) (sym walked.parts)
-        (walked.wholes walked.mine (elim walked.under_way [
-          | inl idle ↦ subst (λ (xs : List Step). AreWalks b (asks c) walked.rs xs) (sym idle.0) (none walked.rs)
-          | inr way ↦ front walked.rs way.whose walked.mine ((now b asks past).walk c) way.asked way.led (quiet (first_act ((now b asks past).walk c)) refl)
-        ]))
+      (walked.wholes walked.mine (elim walked.under_way [
+        | inl idle ↦ subst (λ (xs : List Step). AreWalks b (asks c) walked.rs xs) (sym idle.0) (none walked.rs)
+        | inr way ↦ front walked.rs way.whose walked.mine ((now b asks past).walk c) way.asked way.led (quiet (first_act ((now b asks past).walk c)) refl)
+      ]))
     where
       walked : AreWalked (now b asks past) (steps_in b asks c past)
       walked = past-walked past steps
+
       starts : NoSettle ((now b asks past).walk c)
       starts = elim (past-due b asks some callers past steps c) [ inl due ↦ absurd (let f : None ≡ Some c = sym none_due ∙ due in cc) | inr h ↦ h ]
+
       quiet : (o : Option Act) → first_act ((now b asks past).walk c) ≡ o → is_due o ≡ false
       quiet None e = refl
       quiet (Some (Take l)) e = refl

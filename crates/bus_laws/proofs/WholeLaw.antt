@@ -98,16 +98,16 @@ module _ (b : BoardView) (tree : IsTree b) (plain : IsPlainBoard b) (lines : Lin
     sent_rooted job left first =
         let at = first_is (current b asks n d) (Send job left) first in
         let runs : MaySend b cs.whose job left at.0.marks (n.held d) cs.view
-          × ((out : ActOutcome) → CanSend b job left out → Runs b cs.whose (n.held d) (after_job job left at.0.marks out cs.view) (at.1 out)) =
-          subst (λ (w : WalkTree). Runs b cs.whose (n.held d) cs.view w) at.2 cs.runs in
+        × ((out : ActOutcome) → CanSend b job left out → Runs b cs.whose (n.held d) (after_job job left at.0.marks out cs.view) (at.1 out)) =
+        subst (λ (w : WalkTree). Runs b cs.whose (n.held d) cs.view w) at.2 cs.runs in
         runs.0.rooted
 
     line_may : (job : Job) → IsNext b asks n d (Shift job) → (marks : List Mark) × MayShift b job marks (n.held d) cs.view
     line_may job first =
         let at = first_is (current b asks n d) (Shift job) first in
         let runs : MayShift b job at.0.marks (n.held d) cs.view
-          × ((out : ActOutcome) → CanShift b job out → Runs b cs.whose (n.held d) (after_job job 0 at.0.marks out cs.view) (at.1 out)) =
-          subst (λ (w : WalkTree). Runs b cs.whose (n.held d) cs.view w) at.2 cs.runs in
+        × ((out : ActOutcome) → CanShift b job out → Runs b cs.whose (n.held d) (after_job job 0 at.0.marks out cs.view) (at.1 out)) =
+        subst (λ (w : WalkTree). Runs b cs.whose (n.held d) cs.view w) at.2 cs.runs in
         (at.0.marks, runs.0)
 
     -- what follows a caller's message in its walk
@@ -131,14 +131,14 @@ module _ (b : BoardView) (tree : IsTree b) (plain : IsPlainBoard b) (lines : Lin
     other_caller r c d act e next no_call same =
         let mine = inside_next r c e in
         let is = some_is act (Send (Call (inside r c e).bus (inside r c e).messages) (inside r c e).left)
-          (sym next ∙ ap (λ (i : ℕ). first_act (current b asks n i)) (sym same) ∙ mine) in
+        (sym next ∙ ap (λ (i : ℕ). first_act (current b asks n i)) (sym same) ∙ mine) in
         no_call (inside r c e).bus (inside r c e).messages (inside r c e).left is (inside r c e).root
 
     stays_inside : (r c d : ℕ) (w : WalkTree) (held : ℕ → List LockId) → n.inside r ≡ Some c → (c ≡ d → ⊥) → ((i : ℕ) → (i ≡ d → ⊥) → held i ≡ n.held i)
         → IsInside b r (changed_at n.walk d w c) (held c)
     stays_inside r c d w held e ne same =
         subst (λ (ls : List LockId). IsInside b r (changed_at n.walk d w c) ls) (sym (same c ne))
-          (subst (λ (x : WalkTree). IsInside b r x (n.held c)) (sym (at_other n.walk d w c ne)) (inside r c e))
+        (subst (λ (x : WalkTree). IsInside b r x (n.held c)) (sym (at_other n.walk d w c ne)) (inside r c e))
 
     -- a message of d: its own root's inside is new
     module _ (d : ℕ) (job : Job) (left : ℕ) (e : End) (bytes : List ℕ) (next : IsNext b asks n d (Send job left)) where
@@ -152,9 +152,9 @@ module _ (b : BoardView) (tree : IsTree b) (plain : IsPlainBoard b) (lines : Lin
           → IsInside b r (changed_at n.walk d rest c) (n.held c)
       send_other r c at no_call =
           stays_inside r c d rest n.held at
-            (other_caller r c d (Send job left) at next
-              (λ bus ms l is root_is. no_call bus ms (let f : Send job left ≡ Send (Call bus ms) l = is in cc) root_is))
-            (λ i ne. refl)
+          (other_caller r c d (Send job left) at next
+          (λ bus ms l is root_is. no_call bus ms (let f : Send job left ≡ Send (Call bus ms) l = is in cc) root_is))
+          (λ i ne. refl)
 
     call_on : (d bus : ℕ) (ms : List MessageView) (left : ℕ) (e : End) (bytes : List ℕ) (next : IsNext b asks n d (Send (Call bus ms) (suc left)))
         → is_on (goes (Call bus ms) (suc left) (Sent e bytes)) ≡ true
@@ -167,7 +167,7 @@ module _ (b : BoardView) (tree : IsTree b) (plain : IsPlainBoard b) (lines : Lin
           sends = ap (λ (w : WalkTree). first_act w) (at_same n.walk d (rest_of (current b asks n d) (Sent e bytes)))
               ∙ call_goes d bus ms (suc left) e bytes next
               ∙ ap (λ (t : Bool). Some (cond t (Send (Call bus ms) left) (Settle (verdict_of (Call bus ms) (suc left) (Sent e bytes)))))
-                (goes_alike bus ms left (suc left) e bytes ∙ on);
+              (goes_alike bus ms left (suc left) e bytes ∙ on);
           root = refl;
           locked = sent_rooted d (Call bus ms) (suc left) next;
         }
@@ -189,7 +189,7 @@ module _ (b : BoardView) (tree : IsTree b) (plain : IsPlainBoard b) (lines : Lin
         by_on true on =
             let same : d ≡ c = some_is d c (sym (more_follow bus ms left (Sent e bytes) d (n.inside (root_of b bus)) ∙ ap (λ (t : Bool). cond t (Some d) None) on) ∙ is) in
             subst (λ (i : ℕ). IsInside b (root_of b bus) (changed_at n.walk d (rest_of (current b asks n d) (Sent e bytes)) i) (n.held i)) same
-              (call_on d bus ms left e bytes next on)
+            (call_on d bus ms left e bytes next on)
         by_on false off =
             absurd (let f : None ≡ Some c = sym (more_follow bus ms left (Sent e bytes) d (n.inside (root_of b bus)) ∙ ap (λ (t : Bool). cond t (Some d) None) off) ∙ is in cc)
 
@@ -200,8 +200,8 @@ module _ (b : BoardView) (tree : IsTree b) (plain : IsPlainBoard b) (lines : Lin
         elim (eqb_tells r (root_of b (job_bus job))) [
           | inl h ↦ subst (λ (i : ℕ). IsInside b i (changed_at n.walk d (rest_of (current b asks n d) (Sent e bytes)) c) (n.held c)) (sym h.1)
               (sent_root d job left e bytes next c
-                (sym (at_same n.inside (root_of b (job_bus job)) (inside_after job left (Sent e bytes) d (n.inside (root_of b (job_bus job)))))
-                  ∙ ap (λ (i : ℕ). changed_at n.inside (root_of b (job_bus job)) (inside_after job left (Sent e bytes) d (n.inside (root_of b (job_bus job)))) i) (sym h.1) ∙ is))
+              (sym (at_same n.inside (root_of b (job_bus job)) (inside_after job left (Sent e bytes) d (n.inside (root_of b (job_bus job)))))
+              ∙ ap (λ (i : ℕ). changed_at n.inside (root_of b (job_bus job)) (inside_after job left (Sent e bytes) d (n.inside (root_of b (job_bus job)))) i) (sym h.1) ∙ is))
           | inr h ↦ send_other d job left e bytes next r c
               (sym (at_other n.inside (root_of b (job_bus job)) (inside_after job left (Sent e bytes) d (n.inside (root_of b (job_bus job)))) r h.1) ∙ is)
               (λ bus ms f root_is. h.1 (sym root_is ∙ ap (λ (j : Job). root_of b (job_bus j)) (sym f)))
@@ -211,25 +211,25 @@ module _ (b : BoardView) (tree : IsTree b) (plain : IsPlainBoard b) (lines : Lin
     step_inside : (x : Entry) → May b callers asks n x → AreInside b (step b asks n x)
     step_inside (entry.Take d l) may = λ r c is.
         stays_inside r c d (rest_of (current b asks n d) Passed) (changed_at n.held d (l ∷ n.held d)) is
-          (other_caller r c d (Take l) is may.2 (λ bus ms left f root_is. let g : Take l ≡ Send (Call bus ms) left = f in cc))
-          (λ i ne. at_other n.held d (l ∷ n.held d) i ne)
+        (other_caller r c d (Take l) is may.2 (λ bus ms left f root_is. let g : Take l ≡ Send (Call bus ms) left = f in cc))
+        (λ i ne. at_other n.held d (l ∷ n.held d) i ne)
     step_inside (entry.Free d l) may = λ r c is.
         stays_inside r c d (rest_of (current b asks n d) Passed) (changed_at n.held d (without l (n.held d))) is
-          (other_caller r c d (Free l) is may.2 (λ bus ms left f root_is. let g : Free l ≡ Send (Call bus ms) left = f in cc))
-          (λ i ne. at_other n.held d (without l (n.held d)) i ne)
+        (other_caller r c d (Free l) is may.2 (λ bus ms left f root_is. let g : Free l ≡ Send (Call bus ms) left = f in cc))
+        (λ i ne. at_other n.held d (without l (n.held d)) i ne)
     step_inside (entry.Settle d x cut) may = λ r c is.
         stays_inside r c d (rest_of (current b asks n d) Passed) n.held is
-          (other_caller r c d (Settle may.2) is may.3 (λ bus ms left f root_is. let g : Settle may.2 ≡ Send (Call bus ms) left = f in cc))
-          (λ i ne. refl)
+        (other_caller r c d (Settle may.2) is may.3 (λ bus ms left f root_is. let g : Settle may.2 ≡ Send (Call bus ms) left = f in cc))
+        (λ i ne. refl)
     step_inside (entry.Line d mux level failed) may =
         subst (λ (o : Option Act). AreInside b (with_due d (moved b asks n (lined_by b n o (first_note (current b asks n d)) failed) d (entry.Line d mux level failed) (Lined failed)))) (sym may.3)
-          (λ r c is.
-            stays_inside r c d (rest_of (current b asks n d) (Lined failed)) n.held is
-              (other_caller r c d (Shift may.2) is may.3 (λ bus ms left f root_is. let g : Shift may.2 ≡ Send (Call bus ms) left = f in cc))
-              (λ i ne. refl))
+        (λ r c is.
+        stays_inside r c d (rest_of (current b asks n d) (Lined failed)) n.held is
+        (other_caller r c d (Shift may.2) is may.3 (λ bus ms left f root_is. let g : Shift may.2 ≡ Send (Call bus ms) left = f in cc))
+        (λ i ne. refl))
     step_inside (entry.Message d bus purpose part parts addr reading bytes heard e) may =
         subst (λ (o : Option Act). AreInside b (with_due d (moved b asks n (sent_by b n d o (first_note (current b asks n d)) reading bytes e) d (entry.Message d bus purpose part parts addr reading bytes heard e) (Sent e bytes)))) (sym may.4)
-          (λ r c is. sent_inside d may.2 may.3 e bytes may.4 r c is)
+        (λ r c is. sent_inside d may.2 may.3 e bytes may.4 r c is)
 
 -- THE INDUCTION
 pub past-inside : (b : BoardView) → IsTree b → IsPlainBoard b → LinesAreLocked b → (asks : Asks) → AsksForMessages asks → (callers : ℕ) (past : List Entry) → IsStepwise b callers asks past
@@ -271,22 +271,25 @@ module _ (b : BoardView) (tree : IsTree b) (plain : IsPlainBoard b) (lines : Lin
     where
       n : Now
       n = now b asks past
+
       settled_due : (left : ℕ) (v : _) → first_act (rest_of (current b asks n d) (Sent e bytes)) ≡ Some (Settle v) → new.due ≡ Some d
       settled_due left v first =
           due ∙ ap (λ (w : WalkTree). cond (is_due (first_act w)) (Some d) None) (at_same n.walk d (rest_of (current b asks n d) (Sent e bytes)))
-            ∙ ap (λ (o : Option Act). cond (is_due o) (Some d) None) first
+          ∙ ap (λ (o : Option Act). cond (is_due o) (Some d) None) first
+
       by_on : (more : ℕ) → IsNext b asks n d (Send (Call bus ms) (suc more)) → (t : Bool) → is_on (goes (Call bus ms) (suc more) (Sent e bytes)) ≡ t
           → new.inside ≡ changed_at n.inside (root_of b bus) (inside_after (Call bus ms) (suc more) (Sent e bytes) d (n.inside (root_of b bus))) → Between new d (root_of b bus)
       by_on more next true on inside =
           inl (ap (λ (f : ℕ → Option ℕ). f (root_of b bus)) inside
-            ∙ at_same n.inside (root_of b bus) (inside_after (Call bus ms) (suc more) (Sent e bytes) d (n.inside (root_of b bus)))
-            ∙ more_follow bus ms more (Sent e bytes) d (n.inside (root_of b bus))
-            ∙ ap (λ (t : Bool). cond t (Some d) None) on)
+          ∙ at_same n.inside (root_of b bus) (inside_after (Call bus ms) (suc more) (Sent e bytes) d (n.inside (root_of b bus)))
+          ∙ more_follow bus ms more (Sent e bytes) d (n.inside (root_of b bus))
+          ∙ ap (λ (t : Bool). cond t (Some d) None) on)
       by_on more next false off inside =
           inr (settled_due (suc more) (verdict_of (Call bus ms) (suc more) (Sent e bytes))
-            (call_goes b tree plain lines asks some callers past steps d bus ms (suc more) e bytes next
-              ∙ ap (λ (t : Bool). Some (cond t (Send (Call bus ms) more) (Settle (verdict_of (Call bus ms) (suc more) (Sent e bytes)))))
-                (goes_alike bus ms more (suc more) e bytes ∙ off)))
+          (call_goes b tree plain lines asks some callers past steps d bus ms (suc more) e bytes next
+          ∙ ap (λ (t : Bool). Some (cond t (Send (Call bus ms) more) (Settle (verdict_of (Call bus ms) (suc more) (Sent e bytes)))))
+          (goes_alike bus ms more (suc more) e bytes ∙ off)))
+
       by_left : (left : ℕ) → IsNext b asks n d (Send (Call bus ms) left)
           → new.inside ≡ changed_at n.inside (root_of b bus) (inside_after (Call bus ms) left (Sent e bytes) d (n.inside (root_of b bus))) → Between new d (root_of b bus)
       by_left zero next inside =
@@ -302,16 +305,17 @@ module _ (b : BoardView) (tree : IsTree b) (plain : IsPlainBoard b) (lines : Lin
     where
       n : Now
       n = now b asks past
+
       by_job : (job : Job) → IsNext b asks n d (Send job may.3) → bus ≡ job_bus job → is_call (job_purpose job) ≡ true
           → Between (step b asks n (entry.Message d bus purpose part parts addr reading bytes heard e)) d (root_of b bus)
       by_job (Select h) next on is = absurd (let f : false ≡ true = is in cc)
       by_job (Clear p mux kind) next on is = absurd (let f : false ≡ true = is in cc)
       by_job (Call s ms) next on is =
           subst (λ (i : ℕ). Between (step b asks n (entry.Message d bus purpose part parts addr reading bytes heard e)) d (root_of b i)) (sym on)
-            (subst (λ (o : Option Act). Between (with_due d (moved b asks n (sent_by b n d o (first_note (current b asks n d)) reading bytes e) d (entry.Message d bus purpose part parts addr reading bytes heard e) (Sent e bytes))) d (root_of b s)) (sym next)
-              (call_between past steps d s ms may.3 e bytes
-                (with_due d (moved b asks n (sent_by b n d (Some (Send (Call s ms) may.3)) (first_note (current b asks n d)) reading bytes e) d (entry.Message d bus purpose part parts addr reading bytes heard e) (Sent e bytes)))
-                next refl refl))
+          (subst (λ (o : Option Act). Between (with_due d (moved b asks n (sent_by b n d o (first_note (current b asks n d)) reading bytes e) d (entry.Message d bus purpose part parts addr reading bytes heard e) (Sent e bytes))) d (root_of b s)) (sym next)
+          (call_between past steps d s ms may.3 e bytes
+          (with_due d (moved b asks n (sent_by b n d (Some (Send (Call s ms) may.3)) (first_note (current b asks n d)) reading bytes e) d (entry.Message d bus purpose part parts addr reading bytes heard e) (Sent e bytes)))
+          next refl refl))
 
   -- one entry more between, which settles nothing of the caller
   module _ (past : List Entry) (steps : IsStepwise b callers asks past) (c r : ℕ) where
@@ -328,7 +332,7 @@ module _ (b : BoardView) (tree : IsTree b) (plain : IsPlainBoard b) (lines : Lin
         elim may.1 [
           | inl none ↦ (let f : None ≡ Some c = sym none ∙ due in cc)
           | inr mine ↦ (let same : d ≡ c = some_is d c (sym mine ∙ due) in
-                        let f : true ≡ false = sym (eq-eqb d c same) ∙ no_settle in cc)
+              let f : true ≡ false = sym (eq-eqb d c same) ∙ no_settle in cc)
         ]
 
     -- whose bus's root this is, and who sends there
@@ -338,11 +342,11 @@ module _ (b : BoardView) (tree : IsTree b) (plain : IsPlainBoard b) (lines : Lin
         let inside = past-inside b tree plain lines asks some callers past steps in
         let mine : InLocks (lock.Bus r) (here.held c) = (inside r c is).locked in
         let theirs : InLocks (lock.Bus r) (here.held d) =
-          subst (λ (i : ℕ). InLocks (lock.Bus i) (here.held d)) root_is (sent_rooted b tree plain lines asks some callers past steps d job left next) in
+        subst (λ (i : ℕ). InLocks (lock.Bus i) (here.held d)) root_is (sent_rooted b tree plain lines asks some callers past steps d job left next) in
         let same : d ≡ c = alone b tree plain lines asks some callers past steps c d (lock.Bus r) mine theirs in
         let act : Send job left ≡ Send (Call (inside r c is).bus (inside r c is).messages) (inside r c is).left =
-          some_is (Send job left) (Send (Call (inside r c is).bus (inside r c is).messages) (inside r c is).left)
-            (sym next ∙ ap (λ (i : ℕ). first_act (current b asks here i)) same ∙ inside_next b tree plain lines asks some callers past steps inside r c is) in
+        some_is (Send job left) (Send (Call (inside r c is).bus (inside r c is).messages) (inside r c is).left)
+        (sym next ∙ ap (λ (i : ℕ). first_act (current b asks here i)) same ∙ inside_next b tree plain lines asks some callers past steps inside r c is) in
         (same, subst (λ (j : Job). is_call (job_purpose j) ≡ true) (sym (let f : job ≡ Call (inside r c is).bus (inside r c is).messages = cc in f)) refl)
 
     line_root : (d : ℕ) (job : Job) → IsNext b asks here d (Shift job) → root_of b (home_of_mux b (line_mux job)) ≡ root_of b (job_bus job)
@@ -360,11 +364,11 @@ module _ (b : BoardView) (tree : IsTree b) (plain : IsPlainBoard b) (lines : Lin
         let inside = past-inside b tree plain lines asks some callers past steps in
         let mine : InLocks (lock.Bus r) (here.held c) = (inside r c is).locked in
         let theirs : InLocks (lock.Bus r) (here.held d) =
-          subst (λ (i : ℕ). InLocks (lock.Bus i) (here.held d)) root_is (line_may b tree plain lines asks some callers past steps d job next).1.rooted in
+        subst (λ (i : ℕ). InLocks (lock.Bus i) (here.held d)) root_is (line_may b tree plain lines asks some callers past steps d job next).1.rooted in
         let same : d ≡ c = alone b tree plain lines asks some callers past steps c d (lock.Bus r) mine theirs in
         let act : Shift job ≡ Send (Call (inside r c is).bus (inside r c is).messages) (inside r c is).left =
-          some_is (Shift job) (Send (Call (inside r c is).bus (inside r c is).messages) (inside r c is).left)
-            (sym next ∙ ap (λ (i : ℕ). first_act (current b asks here i)) same ∙ inside_next b tree plain lines asks some callers past steps inside r c is) in cc
+        some_is (Shift job) (Send (Call (inside r c is).bus (inside r c is).messages) (inside r c is).left)
+        (sym next ∙ ap (λ (i : ℕ). first_act (current b asks here i)) same ∙ inside_next b tree plain lines asks some callers past steps inside r c is) in cc
 
     one_between : (x : Entry) → May b callers asks here x → is_settle_of c x ≡ false → Between here c r
         → Between (step b asks here x) c r × IsOwn b r c x
@@ -377,30 +381,33 @@ module _ (b : BoardView) (tree : IsTree b) (plain : IsPlainBoard b) (lines : Lin
         own_message : (d bus : ℕ) (purpose : Purpose) → d ≡ c → is_call purpose ≡ true → root_of b bus ≡ r → ((eqb d c && is_call purpose) && eqb (root_of b bus) r) ≡ true
         own_message d bus purpose same call root_is =
             ap (λ (t : Bool). (t && is_call purpose) && eqb (root_of b bus) r) (eq-eqb d c same)
-              ∙ ap (λ (t : Bool). t && eqb (root_of b bus) r) call ∙ eq-eqb (root_of b bus) r root_is
+            ∙ ap (λ (t : Bool). t && eqb (root_of b bus) r) call ∙ eq-eqb (root_of b bus) r root_is
+
         inside_more : (x : Entry) → May b callers asks here x → here.inside r ≡ Some c → Between (step b asks here x) c r × IsOwn b r c x
         inside_more (entry.Take d l) may is = (inl is, λ f. absurd (let g : false ≡ true = f in cc))
         inside_more (entry.Free d l) may is = (inl is, λ f. absurd (let g : false ≡ true = f in cc))
         inside_more (entry.Settle d y cut) may is = (inl is, λ f. absurd (let g : false ≡ true = f in cc))
         inside_more (entry.Line d mux level failed) may is = (
           subst (λ (o : Option Act). Between (with_due d (moved b asks here (lined_by b here o (first_note (current b asks here d)) failed) d (entry.Line d mux level failed) (Lined failed))) c r) (sym may.3)
-            (inl is),
+              (inl is),
           λ f. absurd (no_line d may.2 is may.3
-            (sym (line_root d may.2 may.3) ∙ ap (λ (m : ℕ). root_of b (home_of_mux b m)) (sym may.4) ∙ eqb-true (root_of b (home_of_mux b mux)) r f)),
+              (sym (line_root d may.2 may.3) ∙ ap (λ (m : ℕ). root_of b (home_of_mux b m)) (sym may.4) ∙ eqb-true (root_of b (home_of_mux b mux)) r f)),
         )
         inside_more (entry.Message d bus purpose part parts addr reading bytes heard e) may is =
             elim (eqb_tells (root_of b bus) r) [
               | inl h ↦ (let own = own_call d may.2 may.3 is may.4 (ap (λ (i : ℕ). root_of b i) (sym may.5.on_bus) ∙ h.1) in
-                  let call : is_call purpose ≡ true = ap is_call may.5.for_purpose ∙ own.1 in
-                  (subst (λ (i : ℕ). Between (step b asks here (entry.Message d bus purpose part parts addr reading bytes heard e)) i r) own.0
-                     (subst (λ (i : ℕ). Between (step b asks here (entry.Message d bus purpose part parts addr reading bytes heard e)) d i) h.1
-                       (entry_between past steps d bus purpose part parts addr reading bytes heard e may call)),
-                   λ f. own_message d bus purpose own.0 call h.1))
-              | inr h ↦
-                  (subst (λ (o : Option Act). Between (with_due d (moved b asks here (sent_by b here d o (first_note (current b asks here d)) reading bytes e) d (entry.Message d bus purpose part parts addr reading bytes heard e) (Sent e bytes))) c r) (sym may.4)
-                     (inl (at_other here.inside (root_of b (job_bus may.2)) (inside_after may.2 may.3 (Sent e bytes) d (here.inside (root_of b (job_bus may.2)))) r
-                       (λ f. h.1 (ap (λ (i : ℕ). root_of b i) may.5.on_bus ∙ sym f)) ∙ is)),
-                   λ f. absurd (h.1 (eqb-true (root_of b bus) r f)))
+                  let call : is_call purpose ≡ true = ap is_call may.5.for_purpose ∙ own.1 in (
+                    subst (λ (i : ℕ). Between (step b asks here (entry.Message d bus purpose part parts addr reading bytes heard e)) i r) own.0
+                        (subst (λ (i : ℕ). Between (step b asks here (entry.Message d bus purpose part parts addr reading bytes heard e)) d i) h.1
+                        (entry_between past steps d bus purpose part parts addr reading bytes heard e may call)),
+                    λ f. own_message d bus purpose own.0 call h.1,
+                  ))
+              | inr h ↦ (
+                subst (λ (o : Option Act). Between (with_due d (moved b asks here (sent_by b here d o (first_note (current b asks here d)) reading bytes e) d (entry.Message d bus purpose part parts addr reading bytes heard e) (Sent e bytes))) c r) (sym may.4)
+                    (inl (at_other here.inside (root_of b (job_bus may.2)) (inside_after may.2 may.3 (Sent e bytes) d (here.inside (root_of b (job_bus may.2)))) r
+                    (λ f. h.1 (ap (λ (i : ℕ). root_of b i) may.5.on_bus ∙ sym f)) ∙ is)),
+                λ f. absurd (h.1 (eqb-true (root_of b bus) r f)),
+              )
             ]
 
   -- THE INDUCTION over the entries between
@@ -417,8 +424,8 @@ module _ (b : BoardView) (tree : IsTree b) (plain : IsPlainBoard b) (lines : Lin
           let outer = and_both (eqb d c && is_call purpose) (eqb (root_of b bus) r) call in
           let inner = and_both (eqb d c) (is_call purpose) outer.0 in
           subst (λ (i : ℕ). Between (now b asks (entry.Message d bus purpose part parts addr reading bytes heard e ∷ earlier)) i r) (eqb-true d c inner.0)
-            (subst (λ (i : ℕ). Between (now b asks (entry.Message d bus purpose part parts addr reading bytes heard e ∷ earlier)) d i) (eqb-true (root_of b bus) r outer.1)
-              (entry_between earlier steps.1 d bus purpose part parts addr reading bytes heard e steps.0 inner.1))
+          (subst (λ (i : ℕ). Between (now b asks (entry.Message d bus purpose part parts addr reading bytes heard e ∷ earlier)) d i) (eqb-true (root_of b bus) r outer.1)
+          (entry_between earlier steps.1 d bus purpose part parts addr reading bytes heard e steps.0 inner.1))
   walk_on c r x earlier call (e ∷ middle) steps none =
       let each = or_neither (is_settle_of c e) (list_any (is_settle_of c) middle) none in
       let before = walk_on c r x earlier call middle steps.1 each.1 in
@@ -429,6 +436,6 @@ module _ (b : BoardView) (tree : IsTree b) (plain : IsPlainBoard b) (lines : Lin
   whole-kept past steps =
       record {
         between = λ c r later middle earlier x y is call_x call_y none.
-          (walk_on c r x earlier call_x middle
+            (walk_on c r x earlier call_x middle
             (stepwise_front b callers asks later (y ∷ (middle ++ x ∷ earlier)) (subst (λ (es : List Entry). IsStepwise b callers asks es) is steps)).1 none).1;
       }

@@ -6,7 +6,7 @@ ghost use Rattle.i2c_spec.specs.Rules.{MeetsRules};
 ghost use Rattle.i2c_spec.specs.History.{Asks};
 ghost use Rattle.bus_spec.specs.Past.{now};
 ghost use Rattle.bus_spec.specs.Stepwise.{IsStepwise};
-ghost use Rattle.bus_spec.specs.Legal.{KeepsLocks, KeepsPorts, KeepsSettles, KeepsWalks, KeepsWhole};
+ghost use Rattle.bus_spec.specs.Legal.{IsLegal, KeepsLocks, KeepsPorts, KeepsReplies, KeepsSettles, KeepsWalks, KeepsWhole};
 ghost use Rattle.bus_laws.specs.Ready.{SomeCanGoOn};
 ghost use Rattle.bus_laws.specs.Reach.{AsksForMessages, KeepsClosed, KeepsPathsOpen};
 
@@ -67,6 +67,15 @@ pub fn each_caller_walks_its_transfers()
 /// the locks alone stop nobody for good.
 pub fn some_caller_can_go_on()
     ensures { (b : BoardView) (callers : ℕ) (asks : Asks) (past : List Entry) → IsPlainBoard b → MeetsRules b → AsksForMessages asks → IsStepwise b callers asks past → SomeCanGoOn b callers asks past }
+{
+    an_accepted_board_is_a_tree();
+}
+
+/// A journal each of whose entries might come where it did, and in which no settle is due, keeps every rule of a legal
+/// journal but the one on replies: with that one it is legal.
+pub fn a_journal_is_legal_where_its_replies_are()
+    ensures { (b : BoardView) (callers : ℕ) (asks : Asks) (past : List Entry) → IsPlainBoard b → MeetsRules b → AsksForMessages asks → IsStepwise b callers asks past
+        → (now b asks past).due ≡ None → KeepsReplies b asks past → IsLegal b callers asks past }
 {
     an_accepted_board_is_a_tree();
 }
