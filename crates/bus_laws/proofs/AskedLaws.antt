@@ -37,7 +37,7 @@ use Rattle.bus_laws.proofs.WalkCalls.{walk-calls, calls_seen}
 use Rattle.bus_laws.proofs.DevicesReach.{send-reaches}
 
 -- the looks in front of a walk change nothing
-settles_seen : (slots : Slots) (done : Bool) (w : WalkTree) → Settles done w → Settles done (seen slots w)
+pub settles_seen : (slots : Slots) (done : Bool) (w : WalkTree) → Settles done w → Settles done (seen slots w)
 settles_seen slots done Ends h = h
 settles_seen slots done (Look (MarkOf p) next) h = settles_seen slots done (next (mark_in (slots p).slot)) (h (mark_in (slots p).slot))
 settles_seen slots done (Then act note next) h = h
@@ -126,7 +126,7 @@ module _ (b : BoardView) (asks : Asks) (some : AsksForMessages asks) (n : Now) (
   lined_asked : (job : Job) (failed : Bool) → first_act (current b asks n c) ≡ Some (Shift job) → turns_to (Lined failed)
   lined_asked job failed first =
       turned_asked (rest_of (current b asks n c) (Lined failed)) n.settled (λ d ne. refl)
-      (own_asked (Shift job) first (Lined failed) ((calls_at (Shift job) first) (Lined failed)) ((settles_at (Shift job) first) failed))
+      (own_asked (Shift job) first (Lined failed) ((calls_at (Shift job) first) (Lined failed)) ((settles_at (Shift job) first) failed).1)
 
   settle_asked : (verdict : _) (r : Reply) → first_act (current b asks n c) ≡ Some (Settle verdict)
       → AllAsked b asks (changed_at n.walk c (rest_of (current b asks n c) Passed)) (changed_at n.settled c (n.settled c ++ r ∷ []))

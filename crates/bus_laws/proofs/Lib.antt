@@ -44,3 +44,10 @@ pub mod DevicesReach
 pub mod WalkCalls
 pub mod AskedLaws
 pub mod DevicesPast
+-- No other message stands inside a transfer.
+pub mod WholeLaw
+pub mod PlacedLaw
+pub mod WalksLaw
+pub mod LegalLaw
+-- Some caller can always go on.
+pub mod ReadyLaw

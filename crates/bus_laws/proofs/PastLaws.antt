@@ -65,7 +65,7 @@ holder-told b asks (entry.Line c mux level failed ∷ past) l =
     ∙ holder-told b asks past l
 holder-told b asks (entry.Settle c r cut ∷ past) l = holder-told b asks past l
 
-below_each : (b : BoardView) (l : LockId) (held : List LockId) (k : LockId) → IsBelow b l held → InLocks k held → rank b l < rank b k
+pub below_each : (b : BoardView) (l : LockId) (held : List LockId) (k : LockId) → IsBelow b l held → InLocks k held → rank b l < rank b k
 below_each b l [] k below i = absurd i
 below_each b l (j ∷ js) k below i =
     elim i [ inl e ↦ subst (λ (x : LockId). rank b l < rank b x) (sym e) below.0 | inr more ↦ below_each b l js k below.1 more ]

@@ -1,5 +1,5 @@
 -- Each walk settles once. The inductions go over the messages of a job, over the locks of a path, and over its hops.
-use Rattle.std.proofs.Common.{◌≡◌, ℕ, zero, suc, Bool, true, false, cond, ◌&&◌, ◌||◌, List, [], ◌∷◌, length, Option, Some, None, refl, sym, ◌∙◌, ap, subst}
+use Rattle.std.proofs.Common.{◌≡◌, ℕ, zero, suc, Bool, true, false, cond, ◌&&◌, ◌||◌, List, [], ◌∷◌, length, Option, Some, None, refl, sym, ◌∙◌, ap, subst, ◌⊎◌, inl, inr}
 use Rattle.i2c_base.specs.declared.ids.LockId.{LockId}
 use Rattle.i2c_base.specs.declared.errno.Errno.{Errno}
 use Rattle.i2c_base.specs.declared.entry.End.{End}
@@ -12,7 +12,7 @@ use Rattle.i2c_spec.specs.Flat.{refusal}
 use Rattle.bus_spec.specs.Walk.{Job, Call, Select, Clear, Act, Take, Free, Send, Shift, Settle, ActOutcome, Passed, Sent, Lined, JobOutcome, Good, Refused, Unsent, Failed, Note, WalkTree, Ends, Look, Then, Go, On, Last, Over, goes, job_outcome, verdict_of, decides, is_line, more_of, first_byte, on_if_more}
 use Rattle.bus_spec.specs.Grammar.{Doer, plain, settled, over, by_go, messages, at_bus, locked, part, with_mark, aside, if_sent, if_good, kind_of, closing, opened, chosen, behind, inner, walk_by, walk_for, first_act}
 use Rattle.bus_spec.specs.Past.{is_on}
-use Rattle.bus_laws.specs.Settles.{NoSettle, IsBefore, GoesOn, Settles}
+use Rattle.bus_laws.specs.Settles.{IsDecided, NoSettle, IsBefore, GoesOn, Settles}
 
 -- a job on the way to the caller's messages has settled their transfer, where it ended so
 abbrev is_settled : Job → JobOutcome → Bool
@@ -124,22 +124,50 @@ module _ (job : Job) (note : Note) (k : JobOutcome → WalkTree) (done : Bool) (
   first_message zero j = refl
   first_message (suc left) j = refl
 
-  -- a message that goes through is followed by the next one
-  goes_next : (j : Job) (left : ℕ) (e : End) (bytes : List ℕ) (w x : WalkTree)
-      → GoesOn j (suc left) (Sent e bytes) (by_go (goes j left (Sent e bytes)) (messages left j note k) w x)
-  goes_next (Call bus ms) left end.Ok bytes w x = λ e. first_message left (Call bus ms)
-  goes_next (Call bus ms) left end.Nack bytes w x = λ e. absurd (let f : false ≡ true = e in cc)
-  goes_next (Call bus ms) left end.Slow bytes w x = λ e. absurd (let f : false ≡ true = e in cc)
-  goes_next (Call bus ms) left end.Refused bytes w x = λ e. absurd (let f : false ≡ true = e in cc)
-  goes_next (Call bus ms) left end.Proto bytes w x = λ e. absurd (let f : false ≡ true = e in cc)
-  goes_next (Call bus ms) left (end.Cut q) bytes w x = λ e. absurd (let f : false ≡ true = e in cc)
-  goes_next (Select h) left e bytes w x = tt
-  goes_next (Clear on mux kind) left e bytes w x = tt
+  -- the end of a job settles, or nothing does before the next step
+  over_decided : (j : Job) (left : ℕ) (out : ActOutcome) → IsDecided (over j left note k out)
+  over_decided j left out =
+      either (note.forward && decides j (job_outcome j left out)) (verdict_of j left out) (k (job_outcome j left out)) (starts (job_outcome j left out))
+    where
+      either : (x : Bool) (verdict : Option Errno) (w : WalkTree) → NoSettle w → IsDecided (settled x verdict w)
+      either true verdict w h = inr (verdict, refl)
+      either false verdict w h = inl h
 
-  goes_nowhere : (j : Job) (out : ActOutcome) (w : WalkTree) → GoesOn j zero out w
-  goes_nowhere (Call bus ms) out w = tt
-  goes_nowhere (Select h) out w = tt
-  goes_nowhere (Clear on mux kind) out w = tt
+  over_first : (bus : ℕ) (ms : List MessageView) (left : ℕ) (out : ActOutcome) → note.forward ≡ true
+      → first_act (over (Call bus ms) left note k out) ≡ Some (Settle (verdict_of (Call bus ms) left out))
+  over_first bus ms left out on_way =
+      ap (λ (t : Bool). first_act (settled (t && true) (verdict_of (Call bus ms) left out) (k (job_outcome (Call bus ms) left out)))) on_way
+
+  messages_start : (left : ℕ) (j : Job) → NoSettle (messages left j note k)
+  messages_start zero j = tt
+  messages_start (suc left) j = tt
+
+  go_decided : (g : Go) (w x y : WalkTree) → NoSettle w → NoSettle x → IsDecided y → IsDecided (by_go g w x y)
+  go_decided On w x y hw hx hy = inl hw
+  go_decided Last w x y hw hx hy = inl hx
+  go_decided Over w x y hw hx hy = hy
+
+  -- what follows a message
+  goes_next : (j : Job) (left : ℕ) (e : End) (bytes : List ℕ) → CallsForward note.forward j
+      → GoesOn j (suc left) (Sent e bytes) (by_go (goes j left (Sent e bytes)) (messages left j note k) (messages zero j note k) (over j (suc left) note k (Sent e bytes)))
+  goes_next (Call bus ms) left end.Ok bytes f = first_message left (Call bus ms)
+  goes_next (Call bus ms) left end.Nack bytes f = over_first bus ms (suc left) (Sent end.Nack bytes) f
+  goes_next (Call bus ms) left end.Slow bytes f = over_first bus ms (suc left) (Sent end.Slow bytes) f
+  goes_next (Call bus ms) left end.Refused bytes f = over_first bus ms (suc left) (Sent end.Refused bytes) f
+  goes_next (Call bus ms) left end.Proto bytes f = over_first bus ms (suc left) (Sent end.Proto bytes) f
+  goes_next (Call bus ms) left (end.Cut q) bytes f = over_first bus ms (suc left) (Sent (end.Cut q) bytes) f
+  goes_next (Select h) left e bytes f =
+      go_decided (goes (Select h) left (Sent e bytes)) (messages left (Select h) note k) (messages zero (Select h) note k) (over (Select h) (suc left) note k (Sent e bytes))
+      (messages_start left (Select h)) tt (over_decided (Select h) (suc left) (Sent e bytes))
+  goes_next (Clear on mux kind) left e bytes f =
+      go_decided (goes (Clear on mux kind) left (Sent e bytes)) (messages left (Clear on mux kind) note k) (messages zero (Clear on mux kind) note k)
+      (over (Clear on mux kind) (suc left) note k (Sent e bytes))
+      (messages_start left (Clear on mux kind)) tt (over_decided (Clear on mux kind) (suc left) (Sent e bytes))
+
+  goes_over : (j : Job) (out : ActOutcome) → CallsForward note.forward j → GoesOn j zero out (over j zero note k out)
+  goes_over (Call bus ms) out f = over_first bus ms zero out f
+  goes_over (Select h) out f = over_decided (Select h) zero out
+  goes_over (Clear on mux kind) out f = over_decided (Clear on mux kind) zero out
 
   go_settles : (g : Go) (w x y : WalkTree) → Settles done w → Settles done x → Settles done y → Settles done (by_go g w x y)
   go_settles On w x y hw hx hy = hw
@@ -147,7 +175,7 @@ module _ (job : Job) (note : Note) (k : JobOutcome → WalkTree) (done : Bool) (
   go_settles Over w x y hw hx hy = hy
 
   last_settles : Settles done (messages zero job note k)
-  last_settles = (is_before job forward, λ e bytes. (goes_nowhere job (Sent e bytes) (over job zero note k (Sent e bytes)), over_settles zero (Sent e bytes) (sent_decides job zero e bytes)))
+  last_settles = (is_before job forward, λ e bytes. (goes_over job (Sent e bytes) forward, over_settles zero (Sent e bytes) (sent_decides job zero e bytes)))
 
   -- the induction over the messages that may follow
   messages_settle : (left : ℕ) → Settles done (messages left job note k)
@@ -155,20 +183,16 @@ module _ (job : Job) (note : Note) (k : JobOutcome → WalkTree) (done : Bool) (
   messages_settle (suc left) = (
     is_before job forward,
     λ e bytes. (
-      goes_next job left e bytes (messages zero job note k) (over job (suc left) note k (Sent e bytes)),
+      goes_next job left e bytes forward,
       go_settles (goes job left (Sent e bytes)) (messages left job note k) (messages zero job note k) (over job (suc left) note k (Sent e bytes))
           (messages_settle left) last_settles (over_settles (suc left) (Sent e bytes) (sent_decides job (suc left) e bytes)),
     ),
   )
 
-  messages_start : (left : ℕ) → NoSettle (messages left job note k)
-  messages_start zero = tt
-  messages_start (suc left) = tt
-
   bus_settles : (t : Bool) → NoSettle (cond t (Then (Shift job) note (over job zero note k)) (messages (more_of job) job note k))
       × Settles done (cond t (Then (Shift job) note (over job zero note k)) (messages (more_of job) job note k))
-  bus_settles true = (tt, λ failed. over_settles zero (Lined failed) (lined_decides job zero failed))
-  bus_settles false = (messages_start (more_of job), messages_settle (more_of job))
+  bus_settles true = (tt, λ failed. (over_decided job zero (Lined failed), over_settles zero (Lined failed) (lined_decides job zero failed)))
+  bus_settles false = (messages_start (more_of job) job, messages_settle (more_of job))
 
 at_bus-settles : DoerSettles at_bus
 at_bus-settles job note k done before forward starts goes_on = bus_settles job note k done before forward starts goes_on (is_line job)
@@ -270,3 +294,10 @@ walk-settles b t = by_refusal (refusal b t)
     by_refusal None =
         (locked-settles (locks_of (root_of b t.bus) (hops b t.bus)) (inner b (root_of b t.bus) (hops b t.bus)) (inner-settles b (root_of b t.bus) (hops b t.bus))
         (Call t.bus (messages_of t)) plain (λ o. Ends) false (λ e. refl) refl (λ o. tt) (λ o. refl)).1
+
+-- the walk of a transfer that steps on the bus begins with another step
+pub walk-starts : (b : BoardView) (t : TransferView) → refusal b t ≡ None → NoSettle (walk_for b t)
+walk-starts b t accepted =
+    subst (λ (r : Option Errno). NoSettle (walk_by b t r)) (sym accepted)
+    (locked-settles (locks_of (root_of b t.bus) (hops b t.bus)) (inner b (root_of b t.bus) (hops b t.bus)) (inner-settles b (root_of b t.bus) (hops b t.bus))
+    (Call t.bus (messages_of t)) plain (λ o. Ends) false (λ e. refl) refl (λ o. tt) (λ o. refl)).0

@@ -7,3 +7,5 @@ pub mod Settles
 -- The devices of a root's world and of the flat world.
 pub mod Alike
 pub mod Calls
+pub mod Ready
+pub mod Wrong

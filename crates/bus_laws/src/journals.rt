@@ -1,11 +1,13 @@
-ghost use Rattle.std.specs.Prelude.{ℕ, List};
+ghost use Rattle.std.specs.Prelude.{◌≡◌, ℕ, List, None};
 ghost use Rattle.i2c_base.specs.Board.{BoardView};
 ghost use Rattle.i2c_base.specs.declared.entry.Entry.{Entry};
 ghost use Rattle.i2c_spec.specs.Plain.{IsPlainBoard};
 ghost use Rattle.i2c_spec.specs.Rules.{MeetsRules};
 ghost use Rattle.i2c_spec.specs.History.{Asks};
+ghost use Rattle.bus_spec.specs.Past.{now};
 ghost use Rattle.bus_spec.specs.Stepwise.{IsStepwise};
-ghost use Rattle.bus_spec.specs.Legal.{KeepsLocks, KeepsPorts};
+ghost use Rattle.bus_spec.specs.Legal.{IsLegal, KeepsLocks, KeepsPorts, KeepsReplies, KeepsSettles, KeepsWalks, KeepsWhole};
+ghost use Rattle.bus_laws.specs.Ready.{SomeCanGoOn};
 ghost use Rattle.bus_laws.specs.Reach.{AsksForMessages, KeepsClosed, KeepsPathsOpen};
 
 use i2c_spec::an_accepted_board_is_a_tree;
@@ -40,3 +42,40 @@ pub fn each_message_finds_its_path_open()
 pub fn each_journal_tells_its_ports()
     ensures { (b : BoardView) (callers : ℕ) (asks : Asks) (past : List Entry) → IsStepwise b callers asks past → KeepsPorts b asks past }
 {}
+
+/// The whole rule: between two messages of one transfer no other message or line step of that root stands (UM10204
+/// section 3.1.10: messages joined by repeated starts are one transfer).
+pub fn no_message_stands_inside_a_transfer()
+    ensures { (b : BoardView) (callers : ℕ) (asks : Asks) (past : List Entry) → IsPlainBoard b → MeetsRules b → AsksForMessages asks → IsStepwise b callers asks past → KeepsWhole b past }
+{
+    an_accepted_board_is_a_tree();
+}
+
+/// Each settle tells the cut of its caller's last entry, and stands directly behind that message or line step where its
+/// transfer steps on the bus.
+pub fn each_settle_stands_where_it_is_decided()
+    ensures { (b : BoardView) (callers : ℕ) (asks : Asks) (past : List Entry) → AsksForMessages asks → IsStepwise b callers asks past → KeepsSettles b asks past }
+{}
+
+/// The walk rule: where no settle is due, the entries of each caller, in order, are its transfers' walks one after the
+/// other, the last one maybe under way.
+pub fn each_caller_walks_its_transfers()
+    ensures { (b : BoardView) (callers : ℕ) (asks : Asks) (past : List Entry) → AsksForMessages asks → IsStepwise b callers asks past → (now b asks past).due ≡ None → KeepsWalks b asks past }
+{}
+
+/// At each place of a journal all callers have finished, or some caller has a next step and waits for no lock with it:
+/// the locks alone stop nobody for good.
+pub fn some_caller_can_go_on()
+    ensures { (b : BoardView) (callers : ℕ) (asks : Asks) (past : List Entry) → IsPlainBoard b → MeetsRules b → AsksForMessages asks → IsStepwise b callers asks past → SomeCanGoOn b callers asks past }
+{
+    an_accepted_board_is_a_tree();
+}
+
+/// A journal each of whose entries might come where it did, and in which no settle is due, keeps every rule of a legal
+/// journal but the one on replies: with that one it is legal.
+pub fn a_journal_is_legal_where_its_replies_are()
+    ensures { (b : BoardView) (callers : ℕ) (asks : Asks) (past : List Entry) → IsPlainBoard b → MeetsRules b → AsksForMessages asks → IsStepwise b callers asks past
+        → (now b asks past).due ≡ None → KeepsReplies b asks past → IsLegal b callers asks past }
+{
+    an_accepted_board_is_a_tree();
+}

@@ -8,6 +8,7 @@ mod devices;
 mod journals;
 mod targets;
 mod walks;
+mod wrong;
 
 pub use devices::{
     a_control_message_leaves_the_devices, a_message_is_heard_the_same,
@@ -16,8 +17,15 @@ pub use devices::{
     both_worlds_open_the_same, the_messages_that_were_sent_are_the_transfer,
 };
 pub use journals::{
-    an_open_mux_is_selected_or_marked, each_journal_keeps_its_locks, each_journal_tells_its_ports,
-    each_message_finds_its_path_open,
+    a_journal_is_legal_where_its_replies_are, an_open_mux_is_selected_or_marked,
+    each_caller_walks_its_transfers, each_journal_keeps_its_locks, each_journal_tells_its_ports,
+    each_message_finds_its_path_open, each_settle_stands_where_it_is_decided,
+    no_message_stands_inside_a_transfer, some_caller_can_go_on,
 };
 pub use targets::each_message_reaches_its_target;
 pub use walks::{each_walk_keeps_its_path_open, each_walk_settles_once};
+pub use wrong::{
+    a_closed_channel_lets_nothing_through, a_lock_is_taken_by_one_caller,
+    a_marked_mux_is_closed_first, a_mux_is_deselected, a_settle_comes_at_once,
+    another_message_stands_outside, locks_are_taken_towards_the_root, nobody_steps_before_a_settle,
+};

@@ -1,0 +1,8 @@
+use Rattle.bus_laws.proofs.LineFacts.{lines-locked}
+use Rattle.bus_laws.proofs.WholeLaw.{whole-kept}
+use Rattle.bus_laws.proofs.journals.no_message_stands_inside_a_transfer.Goals as goal
+
+pub returns : goal.returns
+returns c =
+    λ b callers asks past plain rules some steps.
+    whole-kept b (c.an_accepted_board_is_a_tree.ensures b plain rules) plain (lines-locked b rules) asks some callers past steps

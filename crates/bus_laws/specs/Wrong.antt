@@ -1,0 +1,54 @@
+-- Journals that break a rule, each the newest entry first. The boards and entries are those of the worked examples.
+use Rattle.std.specs.Prelude.{ℕ, false, true, List, [], ◌∷◌, ◌++◌, Some, None, reverse, take}
+use Rattle.i2c_base.specs.declared.ids.Node.TheVariants.{Device}
+use Rattle.i2c_base.specs.declared.entry.Entry.{Entry}
+use Rattle.i2c_base.specs.declared.entry.Entry.TheVariants as entry
+use Rattle.i2c_base.specs.declared.entry.End.TheVariants as end
+use Rattle.i2c_base.specs.declared.entry.Purpose.TheVariants as purpose
+use Rattle.i2c_spec.specs.History.{Asks}
+use Rattle.bus_spec.specs.Play.{transfers_of}
+use Rattle.bus_spec.specs.Rows as row
+
+-- what the callers ask for: a register of the root's device; one behind the mux; two, one after the other
+abbrev pub one_asks : Asks
+one_asks = transfers_of ((row.read 0 0x20 5 ∷ []) ∷ [])
+
+abbrev pub deep_asks : Asks
+deep_asks = transfers_of ((row.read 1 0x30 0 ∷ []) ∷ [])
+
+abbrev pub two_asks : Asks
+two_asks = transfers_of ((row.read 1 0x30 0 ∷ row.read 2 0x31 0 ∷ []) ∷ [])
+
+-- the two messages of a register read
+abbrev pub asks_register : ℕ → ℕ → ℕ → ℕ → ℕ → Entry
+asks_register c bus addr reg d = entry.Message c bus purpose.Call 1 2 addr false (reg ∷ []) (Some (Device d)) end.Ok
+
+abbrev pub reads_byte : ℕ → ℕ → ℕ → ℕ → ℕ → Entry
+reads_byte c bus addr byte d = entry.Message c bus purpose.Call 2 2 addr true (byte ∷ []) (Some (Device d)) end.Ok
+
+abbrev pub towards_the_leaves : List Entry
+towards_the_leaves = row.take_mux 0 0 ∷ row.take_bus 0 ∷ []
+
+abbrev pub taken_twice : List Entry
+taken_twice = row.take_bus 1 ∷ row.take_bus 0 ∷ []
+
+abbrev pub another_inside : List Entry
+another_inside = reads_byte 0 0 0x20 0x7e 0 ∷ asks_register 1 0 0x20 5 0 ∷ asks_register 0 0 0x20 5 0 ∷ row.take_bus 0 ∷ []
+
+abbrev pub settled_late : List Entry
+settled_late = row.gave 0 0x7e ∷ row.free_bus 0 ∷ reads_byte 0 0 0x20 0x7e 0 ∷ asks_register 0 0 0x20 5 0 ∷ row.take_bus 0 ∷ []
+
+abbrev pub another_before_the_settle : List Entry
+another_before_the_settle = row.gave 0 0x7e ∷ row.take_mux 1 0 ∷ reads_byte 0 0 0x20 0x7e 0 ∷ asks_register 0 0 0x20 5 0 ∷ row.take_bus 0 ∷ []
+
+abbrev pub heard_on_a_closed_channel : List Entry
+heard_on_a_closed_channel = asks_register 0 1 0x30 0 1 ∷ row.take_bus 0 ∷ row.take_mux 0 0 ∷ []
+
+abbrev pub not_deselected : List Entry
+not_deselected =
+    row.free_bus 0 ∷ row.gave 0 0x11 ∷ reads_byte 0 1 0x30 0x11 1 ∷ asks_register 0 1 0x30 0 1
+    ∷ row.control 0 0 0 0x70 1 ∷ row.take_bus 0 ∷ row.take_mux 0 0 ∷ []
+
+-- a deselect failed, and the next transfer has taken its locks: no rule is broken yet
+abbrev pub behind_a_failed_deselect : List Entry
+behind_a_failed_deselect = reverse (take 11 row.failed_deselect_journal)

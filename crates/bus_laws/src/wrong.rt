@@ -1,0 +1,50 @@
+//! Journals that break a rule: that each is refused is computed by the checker.
+ghost use Rattle.std.specs.Prelude.{ℕ};
+ghost use Rattle.i2c_base.specs.declared.board.MuxKind.TheVariants.{Pca9548};
+ghost use Rattle.i2c_spec.specs.History.{Asks};
+ghost use Rattle.bus_spec.specs.Legal.{IsLegal};
+ghost use Rattle.bus_spec.specs.Rows as row;
+ghost use Rattle.bus_spec.specs.Past.{now};
+ghost use Rattle.bus_spec.specs.Stepwise.{IsNext, IsStepwise};
+ghost use Rattle.bus_spec.specs.Walk.{Clear, Send};
+ghost use Rattle.bus_laws.specs.Wrong as wrong;
+
+/// A lock is not taken towards the leaves: the mux's lock after the root's.
+pub fn locks_are_taken_towards_the_root()
+    ensures { (callers : ℕ) (asks : Asks) → IsLegal row.parent_locked callers asks wrong.towards_the_leaves → ⊥ }
+{}
+
+/// A lock that a caller has is not taken by another.
+pub fn a_lock_is_taken_by_one_caller()
+    ensures { (callers : ℕ) (asks : Asks) → IsLegal row.one_device callers asks wrong.taken_twice → ⊥ }
+{}
+
+/// Another caller's message does not stand between the two of a register read.
+pub fn another_message_stands_outside()
+    ensures { (callers : ℕ) (asks : Asks) → IsLegal row.one_device callers asks wrong.another_inside → ⊥ }
+{}
+
+/// A settle does not come a step late.
+pub fn a_settle_comes_at_once()
+    ensures { (callers : ℕ) → IsLegal row.one_device callers wrong.one_asks wrong.settled_late → ⊥ }
+{}
+
+/// No other caller's entry stands between a message and the settle that it decides.
+pub fn nobody_steps_before_a_settle()
+    ensures { (callers : ℕ) → IsLegal row.one_device callers wrong.one_asks wrong.another_before_the_settle → ⊥ }
+{}
+
+/// No message is heard behind a channel that is closed.
+pub fn a_closed_channel_lets_nothing_through()
+    ensures { (callers : ℕ) (asks : Asks) → IsLegal row.parent_locked callers asks wrong.heard_on_a_closed_channel → ⊥ }
+{}
+
+/// The root's lock is not freed before the mux is deselected.
+pub fn a_mux_is_deselected()
+    ensures { (callers : ℕ) → IsStepwise row.parent_locked callers wrong.deep_asks wrong.not_deselected → ⊥ }
+{}
+
+/// After a deselect that failed, the close of the marked mux comes next, and no select.
+pub fn a_marked_mux_is_closed_first()
+    ensures { IsNext row.parent_locked wrong.two_asks (now row.parent_locked wrong.two_asks wrong.behind_a_failed_deselect) 0 (Send (Clear 0 0 Pca9548) 0) }
+{}
