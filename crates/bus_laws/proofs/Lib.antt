@@ -49,5 +49,7 @@ pub mod WholeLaw
 pub mod PlacedLaw
 pub mod WalksLaw
 pub mod LegalLaw
+-- No walk has more steps than its cost.
+pub mod CostLaw
 -- Some caller can always go on.
 pub mod ReadyLaw

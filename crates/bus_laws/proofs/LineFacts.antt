@@ -21,7 +21,7 @@ gpio_wants Pca9546 e = absurd (let f : false ≡ true = e in cc)
 gpio_wants Pca9544 e = absurd (let f : false ≡ true = e in cc)
 gpio_wants Pca9541 e = absurd (let f : false ≡ true = e in cc)
 
-wanted : (p q : Bool) → p ≡ true → (p && not q) ≡ false → q ≡ true
+pub wanted : (p q : Bool) → p ≡ true → (p && not q) ≡ false → q ≡ true
 wanted true true e f = refl
 wanted true false e f = absurd (let g : true ≡ false = f in cc)
 wanted false q e f = absurd (let g : false ≡ true = e in cc)

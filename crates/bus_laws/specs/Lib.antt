@@ -9,3 +9,4 @@ pub mod Alike
 pub mod Calls
 pub mod Ready
 pub mod Wrong
+pub mod Costs

@@ -23,7 +23,9 @@ pub use journals::{
     no_message_stands_inside_a_transfer, some_caller_can_go_on,
 };
 pub use targets::each_message_reaches_its_target;
-pub use walks::{each_walk_keeps_its_path_open, each_walk_settles_once};
+pub use walks::{
+    each_walk_keeps_its_path_open, each_walk_keeps_to_its_cost, each_walk_settles_once,
+};
 pub use wrong::{
     a_closed_channel_lets_nothing_through, a_lock_is_taken_by_one_caller,
     a_marked_mux_is_closed_first, a_mux_is_deselected, a_settle_comes_at_once,

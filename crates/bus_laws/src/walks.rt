@@ -6,7 +6,13 @@ ghost use Rattle.bus_spec.specs.Grammar.{walk_for};
 ghost use Rattle.bus_laws.specs.Lines.{LinesAreLocked};
 ghost use Rattle.bus_laws.specs.Runs.{Runs};
 ghost use Rattle.bus_laws.specs.Settles.{Settles};
-ghost use Rattle.std.specs.Prelude.{◌<◌, false, [], length};
+ghost use Rattle.bus_laws.specs.Costs.{IsWithin};
+ghost use Rattle.i2c_spec.specs.Cost.{cost_of};
+ghost use Rattle.i2c_spec.specs.Rules.{MeetsRules};
+ghost use Rattle.i2c_spec.specs.Plain.{IsPlainBoard};
+ghost use Rattle.std.specs.Prelude.{◌-◌, ◌<◌, false, [], length};
+
+use i2c_spec::an_accepted_board_is_a_tree;
 
 /// The tree law: the whole walk of a transfer runs, whatever its steps give and whatever is known of the buses.
 ///
@@ -22,3 +28,10 @@ pub fn each_walk_keeps_its_path_open()
 pub fn each_walk_settles_once()
     ensures { (b : BoardView) (t : TransferView) → Settles false (walk_for b t) }
 {}
+
+/// No walk has more steps than its transfer's cost, with the settle counted as one.
+pub fn each_walk_keeps_to_its_cost()
+    ensures { (b : BoardView) (t : TransferView) → IsPlainBoard b → MeetsRules b → 0 < length t.msgs → IsWithin (walk_for b t) (cost_of b t - 1) }
+{
+    an_accepted_board_is_a_tree();
+}
