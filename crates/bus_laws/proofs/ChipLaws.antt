@@ -1,15 +1,15 @@
 -- What the chips do with the bytes that muxes are switched by: a select opens its channel alone, a close opens none.
-use Rattle.std.proofs.Common.{◌≡◌, ℕ, zero, suc, ◌+◌, ◌-◌, ◌*◌, ◌/◌, ◌%◌, ◌^◌, ◌<◌, ◌≤◌, Bool, true, false, cond, not, ◌&&◌, ◌||◌, Option, Some, None, eqb, ltb, refl, sym, ◌∙◌, ap, subst, ◌⊎◌, inl, inr, arith}
-use Rattle.std.proofs.lemmas.Bool.{eqb-true, eqb-false, eq-eqb, cases_lt}
+use Rattle.std.proofs.Common.{◌≡◌, ℕ, zero, suc, ◌+◌, ◌-◌, ◌*◌, ◌/◌, ◌%◌, ◌^◌, ◌<◌, ◌≤◌, Bool, true, false, cond, not, ◌&&◌, None, eqb, refl, sym, ◌∙◌, ap, subst, inl, inr, arith}
+use Rattle.std.proofs.lemmas.Bool.{eqb-true, eq-eqb, cases_lt}
 use Rattle.std.proofs.lemmas.Nat.{pow_pos, pow-add, shl-shr, shr-shr, one_shl}
 use Rattle.std.proofs.Math.Nat.{zero-div, div_self, pow-suc, one-mul}
 use Rattle.i2c_base.specs.declared.board.MuxKind.{MuxKind}
 use Rattle.i2c_base.specs.declared.board.MuxKind.TheVariants.{Pca9548, Pca9546, Pca9544, Pca9541, Gpio}
 use Rattle.i2c_spec.specs.Chips.{ChipView, bit_of, opens, is_open, is_free, taken, looked, select_value, close_value, at_level}
 use Rattle.bus_spec.specs.Walk.{is_gpio, is_arbitrator}
-use Rattle.bus_laws.proofs.WorldControl.{taken_byte, put_byte}
+use Rattle.bus_laws.proofs.WorldControl.{put_byte}
 use Rattle.bus_laws.proofs.TreeSlots.{eqb-apart}
-use Rattle.bus_laws.proofs.WorldReach.{and_left, and_right}
+use Rattle.bus_laws.proofs.WorldReach.{and_right}
 
 -- a power of two has one bit
 power_above : (c d : ℕ) → 2 ^ (d + c) / 2 ^ c ≡ 2 ^ d

@@ -1,5 +1,5 @@
 -- What is known where a message comes next in a stepwise past: of which transfer it is, and where its address leads.
-use Rattle.std.proofs.Common.{◌≡◌, ℕ, zero, suc, Bool, true, false, List, Option, Some, None, refl, sym, ◌∙◌, ap, subst}
+use Rattle.std.proofs.Common.{◌≡◌, ℕ, zero, suc, List, Some, subst}
 use Rattle.i2c_base.specs.declared.ids.LockId.TheVariants as lock
 use Rattle.i2c_base.specs.declared.entry.Entry.{Entry}
 use Rattle.i2c_base.specs.Board.{BoardView}
@@ -10,8 +10,8 @@ use Rattle.i2c_spec.specs.Plain.{IsPlainBoard}
 use Rattle.i2c_spec.specs.Messages.{MessageView}
 use Rattle.i2c_spec.specs.Flat.{granted_on}
 use Rattle.i2c_spec.specs.History.{Asks}
-use Rattle.bus_spec.specs.Walk.{Mark, Job, Call, Select, Clear, Act, Send, ActOutcome, Note, WalkTree, Then, job_bus, message_of, chip_address}
-use Rattle.bus_spec.specs.Slots.{Slots, after_job}
+use Rattle.bus_spec.specs.Walk.{Job, Call, Select, Clear, Send, ActOutcome, Note, WalkTree, Then, job_bus, message_of, chip_address}
+use Rattle.bus_spec.specs.Slots.{after_job}
 use Rattle.bus_spec.specs.Past.{Now, current, now}
 use Rattle.bus_spec.specs.Stepwise.{IsNext, IsStepwise}
 use Rattle.bus_laws.specs.Runs.{InLocks, IsCall, CanSend, MaySend, Runs}

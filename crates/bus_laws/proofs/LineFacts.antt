@@ -1,5 +1,5 @@
 -- An accepted board's gpio muxes stand below parent-locked muxes alone, so a line step has the root's lock.
-use Rattle.std.proofs.Common.{◌≡◌, ℕ, zero, suc, ◌<◌, ◌≤◌, Bool, true, false, not, ◌&&◌, cond, List, [], ◌∷◌, length, filter, Option, Some, None, nat_lt, refl, sym, ◌∙◌, ap, subst, ◌⊎◌, inl, inr, arith}
+use Rattle.std.proofs.Common.{◌≡◌, ℕ, ◌<◌, ◌≤◌, Bool, true, false, not, ◌&&◌, cond, List, [], ◌∷◌, length, filter, Option, Some, None, nat_lt, refl, sym, ◌∙◌, ap, inl, inr, arith}
 use Rattle.std.specs.Prelude.{slice_get, unwrap_or}
 use Rattle.std.specs.Option.{option_map}
 use Rattle.std.proofs.lemmas.Bool.{ltb-false}
@@ -9,9 +9,8 @@ use Rattle.i2c_base.specs.declared.board.MuxKind.TheVariants.{Pca9548, Pca9546, 
 use Rattle.i2c_base.specs.declared.board.MuxSpec.{MuxSpec}
 use Rattle.i2c_base.specs.Board.{BoardView}
 use Rattle.i2c_spec.specs.Tree.{Hop, hops, of_mux, is_parent, home_of_mux, IsAmongHops}
-use Rattle.i2c_spec.specs.Rules.{MeetsRules, wants_parent, locked_over, is_locked_under, is_wrongly_locked}
+use Rattle.i2c_spec.specs.Rules.{MeetsRules, wants_parent}
 use Rattle.bus_spec.specs.Walk.{is_gpio}
-use Rattle.bus_spec.specs.Grammar.{kind_of}
 use Rattle.bus_laws.specs.Lines.{LinesAreLocked}
 
 gpio_wants : (k : MuxKind) → is_gpio k ≡ true → wants_parent k ≡ true

@@ -1,6 +1,5 @@
 -- What every stepwise past keeps. The induction goes over its entries.
-use Rattle.std.proofs.Common.{◌≡◌, ℕ, zero, suc, ◌<◌, Bool, true, false, cond, List, [], ◌∷◌, length, Option, Some, None, refl, sym, ◌∙◌, ap, subst, ◌⊎◌, inl, inr}
-use Rattle.std.specs.Prelude.{slice_get}
+use Rattle.std.proofs.Common.{◌≡◌, ℕ, ◌<◌, Bool, true, false, cond, List, [], ◌∷◌, Option, Some, None, refl, sym, ◌∙◌, ap, subst, ◌⊎◌, inl, inr}
 use Rattle.std.specs.List.{list_all}
 use Rattle.i2c_base.specs.declared.ids.LockId.{LockId}
 use Rattle.i2c_base.specs.declared.ids.LockId.TheVariants as lock
@@ -10,14 +9,13 @@ use Rattle.i2c_base.specs.declared.entry.Entry.{Entry}
 use Rattle.i2c_base.specs.declared.entry.Entry.TheVariants as entry
 use Rattle.i2c_base.specs.Board.{BoardView}
 use Rattle.i2c_base.specs.Transfer.{TransferView}
-use Rattle.i2c_spec.specs.Tree.{Hop, hops, root_of, home_of_mux}
+use Rattle.i2c_spec.specs.Tree.{hops, root_of, home_of_mux}
 use Rattle.i2c_spec.specs.TreeFacts.{IsTree}
 use Rattle.i2c_spec.specs.Plain.{IsPlainBoard}
-use Rattle.i2c_spec.specs.Chips.{ChipView, is_open}
 use Rattle.i2c_spec.specs.World.{opens_hop}
 use Rattle.i2c_spec.specs.History.{Asks}
-use Rattle.bus_spec.specs.Walk.{Job, Act, Take, Free, Send, Shift, Settle, ActOutcome, Passed, Note, WalkTree, Then, job_bus}
-use Rattle.bus_spec.specs.Slots.{At, MuxSlot, Clean, Selected, Marked, Polled, Found, mark_in, after_job}
+use Rattle.bus_spec.specs.Walk.{Act, Take, Free, Send, Shift, Settle, ActOutcome, Passed, Note, WalkTree, job_bus}
+use Rattle.bus_spec.specs.Slots.{MuxSlot, Clean, Selected, Marked, Polled, Found, mark_in, after_job}
 use Rattle.bus_spec.specs.Grammar.{first_act, first_note}
 use Rattle.bus_spec.specs.Readings.{rank, holder, is_lock}
 use Rattle.bus_spec.specs.Past.{Now, current, now, world_at, sent_by, lined_by}
@@ -26,7 +24,7 @@ use Rattle.bus_spec.specs.Legal.{LocksAt, KeepsLocks}
 use Rattle.bus_laws.specs.Runs.{InLocks, IsShut, LeavesShut, CanSend, MaySend, Runs}
 use Rattle.bus_laws.specs.Told.{Explains}
 use Rattle.bus_laws.specs.Lines.{LinesAreLocked}
-use Rattle.bus_laws.specs.Stands.{CallerStands, Stands}
+use Rattle.bus_laws.specs.Stands.{Stands}
 use Rattle.bus_laws.specs.Reach.{AsksForMessages, IsSelectedBy, KeepsClosed, IsOpenAt, KeepsPathsOpen}
 use Rattle.bus_laws.proofs.WorldLaw.{path_open}
 use Rattle.bus_laws.proofs.StandsFacts.{current-stands}

@@ -3,22 +3,19 @@
 use Rattle.std.proofs.Common.{◌≡◌, ℕ, zero, suc, Bool, true, false, cond, List, [], ◌∷◌, Option, Some, None, eqb, refl, sym, ◌∙◌, ap, subst, ◌⊎◌, inl, inr}
 use Rattle.std.proofs.lemmas.Bool.{eq-eqb}
 use Rattle.std.proofs.lemmas.Bool.Decides.{eqb_tells}
-use Rattle.i2c_base.specs.declared.ids.LockId.{LockId}
 use Rattle.i2c_base.specs.declared.errno.Errno.{Errno}
-use Rattle.i2c_base.specs.declared.entry.End.{End}
 use Rattle.i2c_base.specs.declared.entry.Entry.{Entry}
 use Rattle.i2c_base.specs.declared.entry.Entry.TheVariants as entry
 use Rattle.i2c_base.specs.declared.reply.Reply.{Reply}
 use Rattle.i2c_base.specs.declared.reply.Cut.{Cut}
 use Rattle.i2c_base.specs.Board.{BoardView}
 use Rattle.i2c_base.specs.Transfer.{TransferView}
-use Rattle.i2c_spec.specs.Messages.{MessageView}
 use Rattle.i2c_spec.specs.Flat.{refusal}
 use Rattle.i2c_spec.specs.History.{Asks, changed_at}
 use Rattle.bus_spec.specs.Walk.{Job, Call, Select, Clear, Act, Take, Free, Send, Shift, Settle, ActOutcome, Passed, Sent, Lined, Note, MarkOf, WalkTree, Ends, Look, Then, goes, verdict_of}
 use Rattle.bus_spec.specs.Slots.{Slots, mark_in}
-use Rattle.bus_spec.specs.Grammar.{walk_for, seen, is_over, first_act, first_note, rest_of}
-use Rattle.bus_spec.specs.Readings.{replies, last_cut, cut_told, caller_of, Everywhere}
+use Rattle.bus_spec.specs.Grammar.{seen, is_over, first_act, first_note, rest_of}
+use Rattle.bus_spec.specs.Readings.{replies, last_cut, cut_told}
 use Rattle.bus_spec.specs.Past.{Now, begun, current, step, now, is_on, is_due, sent_by, lined_by, with_due, moved}
 use Rattle.bus_spec.specs.Stepwise.{IsNext, May, IsStepwise}
 use Rattle.bus_spec.specs.Legal.{IsDirectlyBehind, IsPlaced, SettleAt, KeepsSettles}
@@ -56,15 +53,21 @@ sends_next (Then (Shift j) note next) job left e = tt
 sends_next (Then (Settle v) note next) job left e = absurd (let f : Some (Settle v) ≡ Some (Send job left) = e in cc)
 
 -- behind a message a walk settles, or it doesn't before its next step
-goes_decided : (job : Job) (left : ℕ) (out : ActOutcome) (w : WalkTree) → GoesOn job left out w → IsDecided w
-goes_decided (Call bus ms) zero out w e = inr (verdict_of (Call bus ms) zero out, e)
-goes_decided (Call bus ms) (suc left) out w e = by_on (is_on (goes (Call bus ms) left out)) refl
+abbrev Decided : WalkTree → Type 0
+Decided w = NoSettle w ⊎ ((verdict : Option Errno) × (first_act w ≡ Some (Settle verdict)))
+
+decided_so : (note : Note) (job : Job) (left : ℕ) (out : ActOutcome) (w : WalkTree) → IsDecided note job left out w → Decided w
+decided_so note job left out w e = elim e [ inl quiet ↦ inl quiet | inr settle ↦ inr (verdict_of job left out, settle.2) ]
+
+goes_decided : (note : Note) (job : Job) (left : ℕ) (out : ActOutcome) (w : WalkTree) → GoesOn note job left out w → Decided w
+goes_decided note (Call bus ms) zero out w e = inr (verdict_of (Call bus ms) zero out, e)
+goes_decided note (Call bus ms) (suc left) out w e = by_on (is_on (goes (Call bus ms) left out)) refl
   where
-    by_on : (t : Bool) → is_on (goes (Call bus ms) left out) ≡ t → IsDecided w
+    by_on : (t : Bool) → is_on (goes (Call bus ms) left out) ≡ t → Decided w
     by_on true on = inl (sends_next w (Call bus ms) left (e ∙ ap (λ (t : Bool). Some (cond t (Send (Call bus ms) left) (Settle (verdict_of (Call bus ms) (suc left) out)))) on))
     by_on false off = inr (verdict_of (Call bus ms) (suc left) out, e ∙ ap (λ (t : Bool). Some (cond t (Send (Call bus ms) left) (Settle (verdict_of (Call bus ms) (suc left) out)))) off)
-goes_decided (Select h) left out w e = e
-goes_decided (Clear on mux kind) left out w e = e
+goes_decided note (Select h) left out w e = decided_so note (Select h) left out w e
+goes_decided note (Clear on mux kind) left out w e = decided_so note (Clear on mux kind) left out w e
 
 -- who would settle next is due
 abbrev pub AreDue : Now → Type 0
@@ -98,7 +101,7 @@ module _ (b : BoardView) (asks : Asks) (some : AsksForMessages asks) (callers : 
         ]
 
     -- of a message or a line step
-    bus_step : (d : ℕ) (out : ActOutcome) → n.due ≡ None → IsDecided (rest_of (current b asks n d) out) → (c : ℕ)
+    bus_step : (d : ℕ) (out : ActOutcome) → n.due ≡ None → Decided (rest_of (current b asks n d) out) → (c : ℕ)
         → (cond (is_due (first_act (changed_at n.walk d (rest_of (current b asks n d) out) d))) (Some d) None ≡ Some c)
         ⊎ NoSettle (changed_at n.walk d (rest_of (current b asks n d) out) c)
     bus_step d out none decided c =
@@ -138,12 +141,12 @@ module _ (b : BoardView) (asks : Asks) (some : AsksForMessages asks) (callers : 
     step_due (entry.Line d mux level failed) may =
         subst (λ (o : Option Act). AreDue (with_due d (moved b asks n (lined_by b n o (first_note (current b asks n d)) failed) d (entry.Line d mux level failed) (Lined failed)))) (sym may.3)
         (λ c. bus_step d (Lined failed) may.1
-        (let r = rest_settles d (Shift may.2) may.3 in rest_is d (Shift may.2) r.0 r.1 (Lined failed) IsDecided r.2 (r.3 failed).0) c)
+        (let r = rest_settles d (Shift may.2) may.3 in rest_is d (Shift may.2) r.0 r.1 (Lined failed) Decided r.2 (decided_so r.0 may.2 zero (Lined failed) (r.1 (Lined failed)) (r.3 failed).0)) c)
     step_due (entry.Message d bus purpose part parts addr reading bytes heard e) may =
         subst (λ (o : Option Act). AreDue (with_due d (moved b asks n (sent_by b n d o (first_note (current b asks n d)) reading bytes e) d (entry.Message d bus purpose part parts addr reading bytes heard e) (Sent e bytes)))) (sym may.4)
         (λ c. bus_step d (Sent e bytes) may.1
         (let r = rest_settles d (Send may.2 may.3) may.4 in
-        rest_is d (Send may.2 may.3) r.0 r.1 (Sent e bytes) IsDecided r.2 (goes_decided may.2 may.3 (Sent e bytes) (r.1 (Sent e bytes)) (r.3.1 e bytes).0)) c)
+        rest_is d (Send may.2 may.3) r.0 r.1 (Sent e bytes) Decided r.2 (goes_decided r.0 may.2 may.3 (Sent e bytes) (r.1 (Sent e bytes)) (r.3.1 e bytes).0)) c)
 
 module _ (b : BoardView) (asks : Asks) (some : AsksForMessages asks) (callers : ℕ) where
   -- THE INDUCTION

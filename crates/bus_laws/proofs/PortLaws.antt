@@ -1,5 +1,5 @@
 -- The world of each root is the opening one after the calls that the journal tells. The induction goes over the entries.
-use Rattle.std.proofs.Common.{◌≡◌, ℕ, zero, suc, Bool, true, false, cond, List, [], ◌∷◌, ◌++◌, reverse, Option, Some, None, refl, sym, ◌∙◌, ap, subst, ◌⊎◌, inl, inr}
+use Rattle.std.proofs.Common.{◌≡◌, ℕ, Bool, cond, List, [], ◌∷◌, ◌++◌, reverse, Option, Some, None, refl, sym, ◌∙◌, ap, subst, inl, inr}
 use Rattle.std.proofs.lemmas.List.{reverse-append}
 use Rattle.std.proofs.lemmas.Bool.Decides.{eqb_tells}
 use Rattle.i2c_base.specs.declared.port.PortCall.{PortCall}
@@ -13,10 +13,10 @@ use Rattle.i2c_spec.specs.World.{World, after, after_all, opening_world}
 use Rattle.i2c_spec.specs.Conversation.{world_listener, talk}
 use Rattle.i2c_spec.specs.Flat.{block_limit}
 use Rattle.i2c_spec.specs.History.{Asks, changed_at}
-use Rattle.bus_spec.specs.Walk.{Job, Act, Take, Free, Send, Shift, Settle, Note, job_bus, message_of, is_last}
+use Rattle.bus_spec.specs.Walk.{Act, Take, Free, Send, Shift, Settle, Note, job_bus, message_of, is_last}
 use Rattle.bus_spec.specs.Grammar.{first_act, first_note}
 use Rattle.bus_spec.specs.Readings.{Everywhere}
-use Rattle.bus_spec.specs.Past.{Now, current, now, talk_of, sent_by, lined_by, line_call, cut_of, world_at, calls_of}
+use Rattle.bus_spec.specs.Past.{Now, current, now, talk_of, sent_by, lined_by, line_call, cut_of}
 use Rattle.bus_spec.specs.Stepwise.{May, IsStepwise}
 use Rattle.bus_spec.specs.Legal.{PortAt, KeepsPorts}
 use Rattle.bus_laws.proofs.TalkLaws.{talk-tells}

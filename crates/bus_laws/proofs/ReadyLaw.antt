@@ -1,6 +1,6 @@
 -- Some caller can always go on: who waits for a lock waits for a caller that waits for none, or for a lock of a lower
 -- rank. The induction goes over the rank.
-use Rattle.std.proofs.Common.{◌≡◌, ℕ, zero, suc, ◌+◌, ◌<◌, ◌≤◌, Bool, true, false, cond, List, [], ◌∷◌, Option, Some, None, refl, sym, ◌∙◌, ap, subst, ◌⊎◌, inl, inr, arith}
+use Rattle.std.proofs.Common.{◌≡◌, ℕ, zero, suc, ◌<◌, ◌≤◌, Bool, true, false, cond, List, [], ◌∷◌, Option, Some, None, refl, sym, ◌∙◌, subst, ◌⊎◌, inl, inr, arith}
 use Rattle.std.proofs.lemmas.Bool.Decides.{eqb_tells}
 use Rattle.i2c_base.specs.declared.ids.LockId.{LockId}
 use Rattle.i2c_base.specs.declared.entry.Entry.{Entry}
@@ -9,7 +9,7 @@ use Rattle.i2c_base.specs.Board.{BoardView}
 use Rattle.i2c_spec.specs.TreeFacts.{IsTree}
 use Rattle.i2c_spec.specs.Plain.{IsPlainBoard}
 use Rattle.i2c_spec.specs.History.{Asks}
-use Rattle.bus_spec.specs.Walk.{Act, Take, Free, Send, Shift, Settle, Note, ActOutcome, Passed, MarkOf, WalkTree, Ends, Look, Then}
+use Rattle.bus_spec.specs.Walk.{Act, Take, Free, Send, Shift, Settle, Passed, MarkOf, WalkTree, Ends, Look, Then}
 use Rattle.bus_spec.specs.Slots.{Slots, At, mark_in}
 use Rattle.bus_spec.specs.Grammar.{seen, is_over, first_act}
 use Rattle.bus_spec.specs.Readings.{rank, holder, is_lock}

@@ -1,5 +1,5 @@
 -- Each walk settles once. The inductions go over the messages of a job, over the locks of a path, and over its hops.
-use Rattle.std.proofs.Common.{◌≡◌, ℕ, zero, suc, Bool, true, false, cond, ◌&&◌, ◌||◌, List, [], ◌∷◌, length, Option, Some, None, refl, sym, ◌∙◌, ap, subst, ◌⊎◌, inl, inr}
+use Rattle.std.proofs.Common.{◌≡◌, ℕ, zero, suc, Bool, true, false, cond, ◌&&◌, ◌||◌, List, [], ◌∷◌, Option, Some, None, refl, sym, ◌∙◌, ap, subst, inl, inr}
 use Rattle.i2c_base.specs.declared.ids.LockId.{LockId}
 use Rattle.i2c_base.specs.declared.errno.Errno.{Errno}
 use Rattle.i2c_base.specs.declared.entry.End.{End}
@@ -9,9 +9,8 @@ use Rattle.i2c_base.specs.Transfer.{TransferView}
 use Rattle.i2c_spec.specs.Tree.{Hop, hops, root_of, locks_of}
 use Rattle.i2c_spec.specs.Messages.{MessageView, messages_of}
 use Rattle.i2c_spec.specs.Flat.{refusal}
-use Rattle.bus_spec.specs.Walk.{Job, Call, Select, Clear, Act, Take, Free, Send, Shift, Settle, ActOutcome, Passed, Sent, Lined, JobOutcome, Good, Refused, Unsent, Failed, Note, WalkTree, Ends, Look, Then, Go, On, Last, Over, goes, job_outcome, verdict_of, decides, is_line, more_of, first_byte, on_if_more}
+use Rattle.bus_spec.specs.Walk.{Job, Call, Select, Clear, Free, Send, Shift, Settle, ActOutcome, Sent, Lined, JobOutcome, Good, Refused, Unsent, Failed, Note, WalkTree, Ends, Then, Go, On, Last, Over, goes, job_outcome, verdict_of, decides, is_line, more_of}
 use Rattle.bus_spec.specs.Grammar.{Doer, plain, settled, over, by_go, messages, at_bus, locked, part, with_mark, aside, if_sent, if_good, kind_of, closing, opened, chosen, behind, inner, walk_by, walk_for, first_act}
-use Rattle.bus_spec.specs.Past.{is_on}
 use Rattle.bus_laws.specs.Settles.{IsDecided, NoSettle, IsBefore, GoesOn, Settles}
 
 -- a job on the way to the caller's messages has settled their transfer, where it ended so
@@ -125,13 +124,24 @@ module _ (job : Job) (note : Note) (k : JobOutcome → WalkTree) (done : Bool) (
   first_message (suc left) j = refl
 
   -- the end of a job settles, or nothing does before the next step
-  over_decided : (j : Job) (left : ℕ) (out : ActOutcome) → IsDecided (over j left note k out)
+  over_decided : (j : Job) (left : ℕ) (out : ActOutcome) → IsDecided note j left out (over j left note k out)
   over_decided j left out =
-      either (note.forward && decides j (job_outcome j left out)) (verdict_of j left out) (k (job_outcome j left out)) (starts (job_outcome j left out))
+      either note.forward (decides j (job_outcome j left out)) refl refl
     where
-      either : (x : Bool) (verdict : Option Errno) (w : WalkTree) → NoSettle w → IsDecided (settled x verdict w)
-      either true verdict w h = inr (verdict, refl)
-      either false verdict w h = inl h
+      either : (x y : Bool) → note.forward ≡ x → decides j (job_outcome j left out) ≡ y → IsDecided note j left out (over j left note k out)
+      either true true f d =
+          inr (f, d, ap (λ (t : Bool). first_act (settled t (verdict_of j left out) (k (job_outcome j left out)))) (both note.forward (decides j (job_outcome j left out)) f d))
+        where
+          both : (x y : Bool) → x ≡ true → y ≡ true → (x && y) ≡ true
+          both x y p q = ap (λ (t : Bool). t && y) p ∙ q
+      either true false f d =
+          inl (subst (λ (t : Bool). NoSettle (settled t (verdict_of j left out) (k (job_outcome j left out)))) (sym (one note.forward (decides j (job_outcome j left out)) d)) (starts (job_outcome j left out)))
+        where
+          one : (x y : Bool) → y ≡ false → (x && y) ≡ false
+          one true y q = q
+          one false y q = refl
+      either false y f d =
+          inl (subst (λ (t : Bool). NoSettle (settled t (verdict_of j left out) (k (job_outcome j left out)))) (sym (ap (λ (t : Bool). t && decides j (job_outcome j left out)) f)) (starts (job_outcome j left out)))
 
   over_first : (bus : ℕ) (ms : List MessageView) (left : ℕ) (out : ActOutcome) → note.forward ≡ true
       → first_act (over (Call bus ms) left note k out) ≡ Some (Settle (verdict_of (Call bus ms) left out))
@@ -142,14 +152,14 @@ module _ (job : Job) (note : Note) (k : JobOutcome → WalkTree) (done : Bool) (
   messages_start zero j = tt
   messages_start (suc left) j = tt
 
-  go_decided : (g : Go) (w x y : WalkTree) → NoSettle w → NoSettle x → IsDecided y → IsDecided (by_go g w x y)
-  go_decided On w x y hw hx hy = inl hw
-  go_decided Last w x y hw hx hy = inl hx
-  go_decided Over w x y hw hx hy = hy
+  go_decided : (j : Job) (left : ℕ) (out : ActOutcome) (g : Go) (w x y : WalkTree) → NoSettle w → NoSettle x → IsDecided note j left out y → IsDecided note j left out (by_go g w x y)
+  go_decided j left out On w x y hw hx hy = inl hw
+  go_decided j left out Last w x y hw hx hy = inl hx
+  go_decided j left out Over w x y hw hx hy = hy
 
   -- what follows a message
   goes_next : (j : Job) (left : ℕ) (e : End) (bytes : List ℕ) → CallsForward note.forward j
-      → GoesOn j (suc left) (Sent e bytes) (by_go (goes j left (Sent e bytes)) (messages left j note k) (messages zero j note k) (over j (suc left) note k (Sent e bytes)))
+      → GoesOn note j (suc left) (Sent e bytes) (by_go (goes j left (Sent e bytes)) (messages left j note k) (messages zero j note k) (over j (suc left) note k (Sent e bytes)))
   goes_next (Call bus ms) left end.Ok bytes f = first_message left (Call bus ms)
   goes_next (Call bus ms) left end.Nack bytes f = over_first bus ms (suc left) (Sent end.Nack bytes) f
   goes_next (Call bus ms) left end.Slow bytes f = over_first bus ms (suc left) (Sent end.Slow bytes) f
@@ -157,14 +167,14 @@ module _ (job : Job) (note : Note) (k : JobOutcome → WalkTree) (done : Bool) (
   goes_next (Call bus ms) left end.Proto bytes f = over_first bus ms (suc left) (Sent end.Proto bytes) f
   goes_next (Call bus ms) left (end.Cut q) bytes f = over_first bus ms (suc left) (Sent (end.Cut q) bytes) f
   goes_next (Select h) left e bytes f =
-      go_decided (goes (Select h) left (Sent e bytes)) (messages left (Select h) note k) (messages zero (Select h) note k) (over (Select h) (suc left) note k (Sent e bytes))
+      go_decided (Select h) (suc left) (Sent e bytes) (goes (Select h) left (Sent e bytes)) (messages left (Select h) note k) (messages zero (Select h) note k) (over (Select h) (suc left) note k (Sent e bytes))
       (messages_start left (Select h)) tt (over_decided (Select h) (suc left) (Sent e bytes))
   goes_next (Clear on mux kind) left e bytes f =
-      go_decided (goes (Clear on mux kind) left (Sent e bytes)) (messages left (Clear on mux kind) note k) (messages zero (Clear on mux kind) note k)
+      go_decided (Clear on mux kind) (suc left) (Sent e bytes) (goes (Clear on mux kind) left (Sent e bytes)) (messages left (Clear on mux kind) note k) (messages zero (Clear on mux kind) note k)
       (over (Clear on mux kind) (suc left) note k (Sent e bytes))
       (messages_start left (Clear on mux kind)) tt (over_decided (Clear on mux kind) (suc left) (Sent e bytes))
 
-  goes_over : (j : Job) (out : ActOutcome) → CallsForward note.forward j → GoesOn j zero out (over j zero note k out)
+  goes_over : (j : Job) (out : ActOutcome) → CallsForward note.forward j → GoesOn note j zero out (over j zero note k out)
   goes_over (Call bus ms) out f = over_first bus ms zero out f
   goes_over (Select h) out f = over_decided (Select h) zero out
   goes_over (Clear on mux kind) out f = over_decided (Clear on mux kind) zero out

@@ -1,5 +1,5 @@
 -- One more entry keeps what stands, entry by entry.
-use Rattle.std.proofs.Common.{◌≡◌, ℕ, zero, suc, ◌<◌, Bool, true, false, cond, List, [], ◌∷◌, ◌++◌, length, Option, Some, None, eqb, refl, sym, ◌∙◌, ap, subst, ◌⊎◌, inl, inr}
+use Rattle.std.proofs.Common.{◌≡◌, ℕ, Bool, cond, List, ◌∷◌, Option, Some, None, refl, sym, ◌∙◌, ap, subst, inl, inr}
 use Rattle.std.proofs.lemmas.Bool.Decides.{eqb_tells}
 use Rattle.i2c_base.specs.declared.ids.LockId.{LockId}
 use Rattle.i2c_base.specs.declared.ids.LockId.TheVariants as lock
@@ -7,18 +7,15 @@ use Rattle.i2c_base.specs.declared.entry.End.{End}
 use Rattle.i2c_base.specs.declared.entry.Entry.{Entry}
 use Rattle.i2c_base.specs.declared.entry.Entry.TheVariants as entry
 use Rattle.i2c_base.specs.Board.{BoardView}
-use Rattle.i2c_base.specs.Transfer.{TransferView}
 use Rattle.i2c_spec.specs.Tree.{root_of}
 use Rattle.i2c_spec.specs.TreeFacts.{IsTree}
 use Rattle.i2c_spec.specs.Plain.{IsPlainBoard}
 use Rattle.i2c_spec.specs.World.{World, after}
-use Rattle.i2c_spec.specs.Conversation.{TalkTold}
 use Rattle.i2c_spec.specs.Flat.{block_limit}
 use Rattle.i2c_spec.specs.History.{Asks, changed_at}
 use Rattle.bus_spec.specs.Walk.{Mark, Job, Act, Take, Free, Send, Shift, Settle, ActOutcome, Passed, Sent, Lined, Note, WalkTree, Ends, Look, Then, job_bus}
 use Rattle.bus_spec.specs.Slots.{Slots, At, with_slot, after_job}
 use Rattle.bus_spec.specs.Grammar.{first_act, first_note, rest_of}
-use Rattle.bus_spec.specs.Readings.{is_lock}
 use Rattle.bus_spec.specs.Past.{Now, current, step, talk_of, held_by, without, line_call, cut_of, moved, with_due, sent_by, lined_by}
 use Rattle.bus_spec.specs.Stepwise.{May}
 use Rattle.bus_laws.specs.Runs.{InLocks, IsRest, RestOf, LeavesShut, taken_slots, CanSend, CanShift, MaySend, MayShift, Runs}
@@ -30,7 +27,7 @@ use Rattle.bus_laws.proofs.TreeSlots.{with_slot-same, with_slot-other}
 use Rattle.bus_laws.proofs.WorldSends.{told-send}
 use Rattle.bus_laws.proofs.WorldLines.{told-shift}
 use Rattle.bus_laws.proofs.StandsFacts.{current-stands}
-use Rattle.bus_laws.proofs.StandsStep.{lock_tells, at_same, at_other, job_off, job_same, send_known, shift_known, Turn, turned, apart_of}
+use Rattle.bus_laws.proofs.StandsStep.{lock_tells, at_same, at_other, job_off, job_same, send_known, shift_known, turned, apart_of}
 
 -- a walk whose first step is known
 pub first_is : (w : WalkTree) (act : Act) → first_act w ≡ Some act → (note : Note) × (next : ActOutcome → WalkTree) × (w ≡ Then act note next)

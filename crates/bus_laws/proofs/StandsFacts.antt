@@ -1,27 +1,19 @@
 -- One caller and the others: what a step of a walk does to the locks and to what is known of the buses.
-use Rattle.std.proofs.Common.{◌≡◌, ℕ, zero, suc, ◌<◌, Bool, true, false, cond, List, [], ◌∷◌, length, Option, Some, None, eqb, refl, sym, ◌∙◌, ap, subst, ◌⊎◌, inl, inr}
-use Rattle.std.specs.List.{AllByRecursion}
-use Rattle.std.proofs.lemmas.Bool.{eq-eqb, eqb-true}
-use Rattle.std.proofs.lemmas.Bool.Decides.{eqb_tells}
+use Rattle.std.proofs.Common.{◌≡◌, ℕ, Bool, true, false, cond, List, [], Option, Some, None, refl, sym, subst}
 use Rattle.i2c_base.specs.declared.ids.LockId.{LockId}
 use Rattle.i2c_base.specs.declared.ids.LockId.TheVariants as lock
-use Rattle.i2c_base.specs.declared.entry.End.{End}
-use Rattle.i2c_base.specs.declared.entry.End.TheVariants as end
 use Rattle.i2c_base.specs.Board.{BoardView}
 use Rattle.i2c_base.specs.Transfer.{TransferView}
-use Rattle.i2c_spec.specs.Tree.{Hop, hops, IsAmongHops}
 use Rattle.i2c_spec.specs.TreeFacts.{IsTree}
-use Rattle.i2c_spec.specs.History.{Asks, changed_at}
-use Rattle.bus_spec.specs.Walk.{Mark, Job, Call, Select, Clear, Act, Take, Free, Send, Shift, Settle, ActOutcome, Passed, Sent, Lined, Note, Ask, MarkOf, WalkTree, Ends, Look, Then, job_bus, is_arbitrator}
-use Rattle.bus_spec.specs.Slots.{Slots, At, MuxSlot, Clean, Selected, Marked, Polled, Found, mark_in, with_slot, set_marks, after_job, after_select, after_clear, select_slot}
-use Rattle.bus_spec.specs.Grammar.{walk_for, seen, is_over, first_act}
-use Rattle.bus_spec.specs.Readings.{is_lock}
+use Rattle.i2c_spec.specs.History.{Asks}
+use Rattle.bus_spec.specs.Walk.{MarkOf, WalkTree, Ends, Look, Then}
+use Rattle.bus_spec.specs.Slots.{Slots, At, mark_in}
+use Rattle.bus_spec.specs.Grammar.{walk_for, seen, is_over}
 use Rattle.bus_spec.specs.Past.{Now, begun, current}
-use Rattle.bus_laws.specs.Runs.{InLocks, IsUnmarked, IsOfMux, FindsOpen, FindsSelect, Finds, HeadsMarks, MayMark, MayFail, Owns, MaySend, MayShift, Runs}
+use Rattle.bus_laws.specs.Runs.{InLocks, Runs}
 use Rattle.bus_laws.specs.Lines.{LinesAreLocked}
 use Rattle.bus_laws.specs.Reach.{AsksForMessages}
-use Rattle.bus_laws.specs.Stands.{CallerStands, Stands, IsOnce}
-use Rattle.bus_laws.proofs.TreeSlots.{with_slot-same, with_slot-other, with_slot-along, set_marks-other, set_marks-along}
+use Rattle.bus_laws.specs.Stands.{CallerStands, Stands}
 use Rattle.bus_laws.proofs.TreeLaw.{walk-runs}
 
 -- the looks in front of a walk change nothing where what is looked at is known

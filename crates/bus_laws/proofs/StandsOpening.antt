@@ -1,5 +1,5 @@
 -- What stands at the opening: nobody has a lock, and every channel is closed.
-use Rattle.std.proofs.Common.{◌≡◌, ℕ, zero, suc, ◌+◌, Bool, true, false, not, ◌&&◌, List, [], ◌∷◌, length, map, Option, Some, None, eqb, refl, sym, ◌∙◌, ap, subst, arith, ◌⊎◌, inl, inr}
+use Rattle.std.proofs.Common.{◌≡◌, ℕ, ◌+◌, true, false, map, Option, Some, None, refl, sym, ◌∙◌, ap, subst, arith}
 use Rattle.std.specs.Prelude.{slice_get, unwrap_or}
 use Rattle.std.specs.Option.{option_map}
 use Rattle.std.proofs.lemmas.Option.{slice_get-map}
@@ -9,12 +9,11 @@ use Rattle.i2c_base.specs.declared.board.MuxKind.TheVariants.{Pca9548, Pca9546, 
 use Rattle.i2c_base.specs.declared.board.MuxSpec.{MuxSpec}
 use Rattle.i2c_base.specs.Board.{BoardView}
 use Rattle.i2c_base.specs.Transfer.{TransferView}
-use Rattle.i2c_spec.specs.Tree.{Hop, of_mux, root_of, home_of_mux}
 use Rattle.i2c_spec.specs.Chips.{ChipView, opens, is_open, chip_opening}
-use Rattle.i2c_spec.specs.World.{World, opening_world}
-use Rattle.bus_spec.specs.Slots.{MuxSlot, Clean, Selected, Marked, Polled, Found, all_clean}
+use Rattle.i2c_spec.specs.World.{opening_world}
+use Rattle.bus_spec.specs.Slots.{Clean, Selected, Marked, Polled, Found, all_clean}
 use Rattle.bus_spec.specs.Past.{opening}
-use Rattle.bus_laws.specs.Told.{chip_in, IsChipOf, ChipsTold, WorldTold}
+use Rattle.bus_laws.specs.Told.{IsChipOf, WorldTold}
 use Rattle.bus_laws.specs.Stands.{Stands}
 use Rattle.bus_laws.proofs.TreeSlots.{eqb-apart}
 use Rattle.bus_laws.proofs.ChipLaws.{bit_zero}

@@ -1,25 +1,21 @@
 -- One more entry keeps what stands: a step of one caller, and all the others as they were.
-use Rattle.std.proofs.Common.{◌≡◌, ℕ, zero, suc, ◌<◌, Bool, true, false, cond, List, [], ◌∷◌, length, Option, Some, None, eqb, refl, sym, ◌∙◌, ap, subst, ◌⊎◌, inl, inr}
-use Rattle.std.specs.List.{AllByRecursion}
+use Rattle.std.proofs.Common.{◌≡◌, ℕ, zero, Bool, true, false, cond, List, [], ◌∷◌, Option, Some, None, refl, sym, ◌∙◌, ap, subst, ◌⊎◌, inl, inr}
 use Rattle.std.proofs.lemmas.Bool.Decides.{eqb_tells}
 use Rattle.i2c_base.specs.declared.ids.LockId.{LockId}
 use Rattle.i2c_base.specs.declared.ids.LockId.TheVariants as lock
-use Rattle.i2c_base.specs.declared.entry.End.{End}
 use Rattle.i2c_base.specs.declared.entry.End.TheVariants as end
 use Rattle.i2c_base.specs.Board.{BoardView}
 use Rattle.i2c_base.specs.Transfer.{TransferView}
 use Rattle.i2c_spec.specs.Tree.{Hop}
 use Rattle.i2c_spec.specs.World.{World}
 use Rattle.i2c_spec.specs.History.{changed_at}
-use Rattle.bus_spec.specs.Walk.{Mark, Job, Call, Select, Clear, Act, ActOutcome, Passed, Sent, Lined, Note, WalkTree, Ends, Look, Then, job_bus, is_arbitrator}
+use Rattle.bus_spec.specs.Walk.{Mark, Job, Call, Select, Clear, ActOutcome, Passed, Sent, Lined, WalkTree, is_arbitrator}
 use Rattle.bus_spec.specs.Slots.{Slots, At, MuxSlot, Clean, Selected, with_slot, set_marks, after_job, after_select, after_clear, select_slot}
-use Rattle.bus_spec.specs.Grammar.{first_act, first_note, rest_of}
 use Rattle.bus_spec.specs.Readings.{is_lock}
-use Rattle.bus_spec.specs.Past.{held_by, without}
-use Rattle.bus_laws.specs.Runs.{InLocks, IsRest, IsOfMux, FindsOpen, FindsSelect, Finds, HeadsMarks, MayMark, MayFail, Owns, MaySend, MayShift, Runs}
+use Rattle.bus_laws.specs.Runs.{InLocks, IsRest, IsOfMux, FindsOpen, FindsSelect, Finds, MayFail, Owns, MaySend, MayShift}
 use Rattle.bus_laws.specs.Stands.{CallerStands, StandsIn, IsOnce}
 use Rattle.bus_laws.specs.Told.{WorldTold}
-use Rattle.bus_laws.proofs.TreeSlots.{with_slot-other, with_slot-along, set_marks-other, set_marks-along}
+use Rattle.bus_laws.proofs.TreeSlots.{with_slot-other, with_slot-along, set_marks-along}
 
 -- the test of two locks tells whether they are one
 pub lock_tells : (l k : LockId) → ((is_lock l k ≡ true) × (l ≡ k)) ⊎ ((is_lock l k ≡ false) × (l ≡ k → ⊥))

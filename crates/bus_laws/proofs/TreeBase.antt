@@ -1,7 +1,6 @@
 -- A job on the bus itself: one line step, or its messages. The induction goes over the messages that may follow.
-use Rattle.std.proofs.Common.{◌≡◌, ℕ, zero, suc, ◌<◌, ◌≤◌, Bool, true, false, cond, ◌&&◌, List, [], ◌∷◌, Option, Some, None, eqb, refl, sym, ◌∙◌, ap, subst, ◌⊎◌, inl, inr, arith}
-use Rattle.std.specs.List.{AllByRecursion}
-use Rattle.std.proofs.lemmas.Bool.{eqb-true, eqb-false, eq-eqb}
+use Rattle.std.proofs.Common.{◌≡◌, ℕ, zero, suc, ◌<◌, Bool, true, false, cond, ◌&&◌, List, [], ◌∷◌, Option, eqb, refl, sym, ◌∙◌, ap, subst, inl, inr, arith}
+use Rattle.std.proofs.lemmas.Bool.{eqb-false, eq-eqb}
 use Rattle.std.proofs.lemmas.Bool.Decides.{eqb_tells}
 use Rattle.i2c_base.specs.declared.ids.LockId.{LockId}
 use Rattle.i2c_base.specs.declared.ids.LockId.TheVariants as lock
@@ -9,18 +8,17 @@ use Rattle.i2c_base.specs.declared.entry.End.{End}
 use Rattle.i2c_base.specs.declared.entry.End.TheVariants as end
 use Rattle.i2c_base.specs.declared.errno.Errno.{Errno}
 use Rattle.i2c_base.specs.declared.board.MuxKind.{MuxKind}
-use Rattle.i2c_base.specs.declared.board.MuxKind.TheVariants.{Pca9548, Pca9546, Pca9544, Pca9541, Gpio}
 use Rattle.i2c_base.specs.Board.{BoardView}
 use Rattle.i2c_base.specs.Transfer.{TransferView}
-use Rattle.i2c_spec.specs.Tree.{Hop, hops, root_of, Crosses, IsAmongHops, home_of_mux, buses}
+use Rattle.i2c_spec.specs.Tree.{Hop, hops, root_of, Crosses, IsAmongHops, buses}
 use Rattle.i2c_spec.specs.TreeFacts.{IsTree}
 use Rattle.i2c_spec.specs.Messages.{MessageView}
-use Rattle.bus_spec.specs.Walk.{Mark, Job, Call, Select, Clear, Act, Send, Shift, Settle, ActOutcome, Passed, Sent, Lined, JobOutcome, Good, Refused, Unsent, Failed, Note, WalkTree, Then, Go, On, Last, Over, goes, on_if_more, first_byte, job_bus, job_outcome, sent_outcome, verdict_of, decides, is_line, is_gpio, is_arbitrator, more_of}
-use Rattle.bus_spec.specs.Slots.{Slots, At, MuxSlot, Clean, Selected, Marked, Polled, Found, with_slot, set_marks, after_job, after_select, polled_slot}
-use Rattle.bus_spec.specs.Grammar.{settled, over, by_go, messages, at_bus}
-use Rattle.bus_laws.specs.Runs.{InLocks, answers, CanSend, CanSelect, CanShift, Finds, FindsOpen, FindsSelect, FindsPoll, CanGoThrough, HeadsMarks, IsUnmarked, IsOfMux, MayMark, MayFail, Owns, MaySend, MayShift, Runs}
-use Rattle.bus_laws.proofs.TreeSlots.{eqb-apart, with_slot-same, with_slot-other, with_slot-along, set_marks-other, set_marks-along, set_marks-head}
-use Rattle.bus_laws.proofs.TreeDoers.{Before, After, IsPassed, CanJob, job_after, DoerRuns}
+use Rattle.bus_spec.specs.Walk.{Mark, Job, Call, Select, Clear, ActOutcome, Passed, Sent, Lined, JobOutcome, Good, Refused, Failed, Note, WalkTree, Go, On, Last, Over, goes, first_byte, job_outcome, sent_outcome, verdict_of, decides, is_gpio, is_arbitrator}
+use Rattle.bus_spec.specs.Slots.{Slots, At, MuxSlot, Clean, Selected, Marked, Polled, Found, with_slot, set_marks, after_job}
+use Rattle.bus_spec.specs.Grammar.{settled, over, by_go, messages}
+use Rattle.bus_laws.specs.Runs.{InLocks, answers, CanSend, CanSelect, FindsSelect, CanGoThrough, HeadsMarks, IsUnmarked, IsOfMux, MayFail, Owns, MaySend, Runs}
+use Rattle.bus_laws.proofs.TreeSlots.{with_slot-same, with_slot-other, set_marks-along}
+use Rattle.bus_laws.proofs.TreeDoers.{After, CanJob, job_after}
 
 -- a settle in between changes nothing
 pub settled-runs : (b : BoardView) (whose : TransferView) (held : List LockId) (v : Slots) (t : Bool) (e : Option Errno) (w : WalkTree)

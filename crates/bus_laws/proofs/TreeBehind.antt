@@ -1,6 +1,6 @@
 -- A job behind one mux: the close of a marked mux, the select, the job, the deselect. What does a job on the bus that
 -- the mux stands on is given, and runs.
-use Rattle.std.proofs.Common.{◌≡◌, ℕ, zero, suc, ◌+◌, ◌<◌, ◌≤◌, Bool, true, false, cond, List, [], ◌∷◌, length, Option, Some, None, refl, sym, ◌∙◌, ap, subst, ◌⊎◌, inl, inr, arith}
+use Rattle.std.proofs.Common.{◌≡◌, ℕ, ◌<◌, true, false, List, [], ◌∷◌, Option, Some, None, refl, sym, ◌∙◌, ap, subst, ◌⊎◌, inl, inr, arith}
 use Rattle.std.specs.Prelude.{unwrap_or, slice_get}
 use Rattle.std.specs.Option.{option_map}
 use Rattle.std.specs.List.{AllByRecursion}
@@ -13,15 +13,15 @@ use Rattle.i2c_base.specs.Board.{BoardView}
 use Rattle.i2c_base.specs.Transfer.{TransferView}
 use Rattle.i2c_spec.specs.Tree.{Hop, hops, buses, root_of, locks_of, home_of_mux, Crosses, IsAmongHops}
 use Rattle.i2c_spec.specs.TreeFacts.{IsTree, IsHop}
-use Rattle.bus_spec.specs.Walk.{Mark, Job, Call, Select, Clear, JobOutcome, Good, Refused, Unsent, Failed, Note, WalkTree, Look, MarkOf, job_bus, is_line, is_gpio}
-use Rattle.bus_spec.specs.Slots.{Slots, At, MuxSlot, Clean, Selected, Marked, Polled, Found, mark_in, with_slot, set_marks}
+use Rattle.bus_spec.specs.Walk.{Mark, Job, Select, Clear, JobOutcome, Good, Refused, Unsent, Failed, Note, WalkTree, job_bus, is_line, is_gpio}
+use Rattle.bus_spec.specs.Slots.{Slots, At, MuxSlot, Clean, Selected, Marked, mark_in, with_slot, set_marks}
 use Rattle.bus_spec.specs.Grammar.{Doer, aside, with_mark, if_sent, if_good, kind_of, closing, opened, chosen, behind}
-use Rattle.bus_laws.specs.Runs.{InLocks, answers, IsShut, IsRest, IsMuxOf, FindsOpen, IsUnmarked, IsOfMux, MayMark, MayFail, Owns, IsGranted, Runs}
+use Rattle.bus_laws.specs.Runs.{InLocks, IsShut, IsRest, IsMuxOf, FindsOpen, IsUnmarked, IsOfMux, MayFail, Owns, IsGranted, Runs}
 use Rattle.bus_laws.specs.Lines.{LinesAreLocked}
-use Rattle.bus_laws.proofs.TreeSlots.{with_slot-same, with_slot-other, set_marks-other, set_marks-along, set_marks-head, shut_clean, marked_slot}
+use Rattle.bus_laws.proofs.TreeSlots.{with_slot-same, with_slot-other, set_marks-along, set_marks-head, shut_clean, marked_slot}
 use Rattle.bus_laws.proofs.TreeDoers.{Responds, AllRespond, CanJob, job_after, OwnsOff, FindsFirst, CallUnmarked, IsPassed, Before, After, DoerRuns}
 use Rattle.bus_laws.proofs.TreeBase.{crosses_below}
-use Rattle.bus_laws.proofs.TreePath.{OwnIs, job_after-off, job_after-along, job_after-unsent, job_after-failed, finds_along, fail_along, unmarked_off, marks_tail, owns_off_tail, own_crosses, can_more, bus_among, locks_cross, sub_locks}
+use Rattle.bus_laws.proofs.TreePath.{job_after-off, job_after-along, job_after-unsent, job_after-failed, finds_along, fail_along, unmarked_off, marks_tail, owns_off_tail, own_crosses, can_more, bus_among, sub_locks}
 
 -- the kind that a board tells of a mux
 told_kind : (o : Option MuxSpec) (k : MuxKind) → unwrap_or (option_map (λ (m : MuxSpec). Some m.kind) o) None ≡ Some k

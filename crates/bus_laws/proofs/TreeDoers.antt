@@ -1,6 +1,6 @@
 -- What does a job at the end of some hops, and what it needs and leaves. `ls` are the locks of these hops that are
 -- held, `floor` the least rank among the held ones.
-use Rattle.std.proofs.Common.{◌≡◌, ℕ, zero, suc, ◌+◌, ◌<◌, ◌≤◌, Bool, true, false, List, [], ◌∷◌, length, Option, Some, None, refl, ◌⊎◌}
+use Rattle.std.proofs.Common.{◌≡◌, ℕ, ◌<◌, ◌≤◌, Bool, true, false, List, [], ◌∷◌, ◌⊎◌}
 use Rattle.std.specs.List.{AllByRecursion}
 use Rattle.i2c_base.specs.declared.ids.LockId.{LockId}
 use Rattle.i2c_base.specs.declared.ids.LockId.TheVariants as lock
@@ -8,7 +8,7 @@ use Rattle.i2c_base.specs.Board.{BoardView}
 use Rattle.i2c_base.specs.Transfer.{TransferView}
 use Rattle.i2c_spec.specs.Tree.{Hop, hops, buses, root_of, locks_of, home_of_mux, Crosses, IsAmongHops}
 use Rattle.bus_spec.specs.Walk.{Mark, Job, Call, Select, Clear, JobOutcome, Good, Refused, Unsent, Failed, Note, WalkTree, job_bus, is_line, is_gpio}
-use Rattle.bus_spec.specs.Slots.{Slots, At, Clean, Selected, with_slot, set_marks}
+use Rattle.bus_spec.specs.Slots.{Slots, Clean, Selected, with_slot, set_marks}
 use Rattle.bus_spec.specs.Grammar.{Doer}
 use Rattle.bus_spec.specs.Readings.{rank}
 use Rattle.bus_laws.specs.Runs.{InLocks, answers, IsRest, IsMuxOf, FindsOpen, Owns, MayFail, IsGranted, Runs}

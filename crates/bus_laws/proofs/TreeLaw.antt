@@ -1,6 +1,6 @@
 -- The tree law: the whole walk of a transfer runs. The inductions go over the locks, and over the hops.
-use Rattle.std.proofs.Common.{◌≡◌, ℕ, zero, suc, ◌+◌, ◌<◌, ◌≤◌, Bool, true, false, cond, not, ◌&&◌, List, [], ◌∷◌, length, Option, Some, None, eqb, ltb, refl, sym, ◌∙◌, ap, subst, ◌⊎◌, inl, inr, arith, add-one}
-use Rattle.std.specs.List.{AllByRecursion, list_any}
+use Rattle.std.proofs.Common.{◌≡◌, ℕ, suc, ◌+◌, ◌<◌, ◌≤◌, Bool, true, false, cond, not, ◌&&◌, List, [], ◌∷◌, length, Option, Some, None, ltb, refl, sym, ◌∙◌, ap, subst, ◌⊎◌, inl, inr, arith, add-one}
+use Rattle.std.specs.List.{list_any}
 use Rattle.std.proofs.lemmas.Bool.{ltb-true}
 use Rattle.std.proofs.lemmas.Bool.Decides.{eqb_tells}
 use Rattle.i2c_base.specs.declared.ids.LockId.{LockId}
@@ -10,21 +10,21 @@ use Rattle.i2c_base.specs.declared.errno.Errno.TheVariants as errno
 use Rattle.i2c_base.specs.declared.transfer.Msg.{Msg}
 use Rattle.i2c_base.specs.Board.{BoardView}
 use Rattle.i2c_base.specs.Transfer.{TransferView}
-use Rattle.i2c_spec.specs.Tree.{Hop, hops, buses, root_of, locks_of, depth, Crosses, IsAmongHops}
+use Rattle.i2c_spec.specs.Tree.{Hop, hops, buses, root_of, locks_of, Crosses, IsAmongHops}
 use Rattle.i2c_spec.specs.TreeFacts.{IsTree}
 use Rattle.i2c_spec.specs.Messages.{messages_of}
 use Rattle.i2c_spec.specs.Flat.{refusal, is_plain, is_smbus_only}
 use Rattle.i2c_spec.specs.Grant.{grant_of, is_busy}
-use Rattle.bus_spec.specs.Walk.{Mark, Job, Call, Select, Clear, JobOutcome, Note, WalkTree, Ends, Then, Take, Free, Passed, is_line, job_bus}
-use Rattle.bus_spec.specs.Slots.{Slots, At, MuxSlot, with_slot}
-use Rattle.bus_spec.specs.Grammar.{Doer, plain, locked, part, inner, full, behind, at_bus, walk_by, walk_for}
+use Rattle.bus_spec.specs.Walk.{Mark, Job, Call, Select, Clear, JobOutcome, Note, WalkTree, Ends, Then, Free, is_line}
+use Rattle.bus_spec.specs.Slots.{Slots, At, with_slot}
+use Rattle.bus_spec.specs.Grammar.{Doer, plain, locked, part, inner, behind, at_bus, walk_by, walk_for}
 use Rattle.bus_spec.specs.Readings.{rank}
 use Rattle.bus_spec.specs.Stepwise.{IsBelow}
-use Rattle.bus_laws.specs.Runs.{InLocks, IsShut, IsRest, RestOf, LeavesShut, taken_slots, Owns, MayMark, MayFail, IsCall, Runs}
+use Rattle.bus_laws.specs.Runs.{InLocks, IsRest, RestOf, LeavesShut, taken_slots, Owns, MayFail, Runs}
 use Rattle.bus_laws.specs.Lines.{LinesAreLocked}
 use Rattle.bus_laws.proofs.TreeSlots.{with_slot-same, with_slot-other}
-use Rattle.bus_laws.proofs.TreeDoers.{job_after, IsPassed, Before, After, DoerRuns}
-use Rattle.bus_laws.proofs.TreePath.{OwnIs, job_after-along, finds_along, fail_along, own_crosses, locks_cross, bus_runs, line_runs, ground, sub_locks}
+use Rattle.bus_laws.proofs.TreeDoers.{Before, After, DoerRuns}
+use Rattle.bus_laws.proofs.TreePath.{job_after-along, finds_along, fail_along, own_crosses, locks_cross, bus_runs, line_runs, ground, sub_locks}
 use Rattle.bus_laws.proofs.TreeBehind.{behind-runs}
 
 -- locks in falling rank, all below a floor; the floor that they leave

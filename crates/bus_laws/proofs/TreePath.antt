@@ -1,24 +1,21 @@
 -- A job at the end of a path of hops. The induction goes over the hops.
-use Rattle.std.proofs.Common.{◌≡◌, ℕ, zero, suc, ◌+◌, ◌-◌, ◌<◌, ◌≤◌, Bool, true, false, cond, ◌&&◌, List, [], ◌∷◌, length, Option, Some, None, eqb, refl, sym, ◌∙◌, ap, subst, ◌⊎◌, inl, inr, arith}
+use Rattle.std.proofs.Common.{◌≡◌, ℕ, zero, suc, ◌-◌, Bool, true, false, cond, List, [], ◌∷◌, length, refl, sym, ap, subst, inl, inr}
 use Rattle.std.specs.List.{AllByRecursion}
-use Rattle.std.proofs.lemmas.Bool.Decides.{eqb_tells}
 use Rattle.i2c_base.specs.declared.ids.LockId.{LockId}
 use Rattle.i2c_base.specs.declared.ids.LockId.TheVariants as lock
 use Rattle.i2c_base.specs.declared.board.MuxKind.{MuxKind}
 use Rattle.i2c_base.specs.declared.board.MuxKind.TheVariants.{Pca9548, Pca9546, Pca9544, Pca9541, Gpio}
 use Rattle.i2c_base.specs.Board.{BoardView}
 use Rattle.i2c_base.specs.Transfer.{TransferView}
-use Rattle.i2c_spec.specs.Tree.{Hop, hops, root_of, locks_of, home_of_mux, Crosses, IsAmongHops}
-use Rattle.i2c_spec.specs.TreeFacts.{IsTree, IsHop}
-use Rattle.bus_spec.specs.Walk.{Mark, Job, Call, Select, Clear, Act, Send, Shift, ActOutcome, Passed, Sent, Lined, JobOutcome, Good, Refused, Unsent, Failed, Note, WalkTree, Then, Look, job_bus, is_line, is_gpio, is_arbitrator, more_of}
-use Rattle.bus_spec.specs.Slots.{Slots, At, MuxSlot, Clean, Selected, Marked, Polled, Found, mark_in, with_slot, set_marks, after_job}
-use Rattle.bus_spec.specs.Grammar.{Doer, over, messages, at_bus, aside, with_mark, lost, if_sent, if_good, kind_of, closing, opened, chosen, behind}
-use Rattle.bus_spec.specs.Readings.{rank}
-use Rattle.bus_laws.specs.Runs.{InLocks, answers, IsShut, IsRest, CanShift, Finds, FindsOpen, FindsSelect, HeadsMarks, IsUnmarked, IsOfMux, MayMark, MayFail, Owns, MaySend, MayShift, IsGranted, Runs}
-use Rattle.bus_laws.specs.Lines.{LinesAreLocked}
-use Rattle.bus_laws.proofs.TreeSlots.{eqb-apart, with_slot-same, with_slot-other, with_slot-along, set_marks-other, set_marks-along, set_marks-head, shut_clean, marked_slot}
-use Rattle.bus_laws.proofs.TreeDoers.{Responds, AllRespond, SelectAnswers, CanJob, job_after, OwnsOff, FindsFirst, CallUnmarked, IsPassed, Before, After, DoerRuns}
-use Rattle.bus_laws.proofs.TreeBase.{over-runs, call_runs, select_runs, clear_runs, crosses_below, own_apart, among_crosses}
+use Rattle.i2c_spec.specs.Tree.{Hop, hops, root_of, locks_of, Crosses, IsAmongHops}
+use Rattle.i2c_spec.specs.TreeFacts.{IsTree}
+use Rattle.bus_spec.specs.Walk.{Mark, Job, Call, Select, Clear, Shift, ActOutcome, Passed, Sent, Lined, JobOutcome, Good, Refused, Unsent, Failed, Note, WalkTree, Then, job_bus, is_line, is_gpio, is_arbitrator, more_of}
+use Rattle.bus_spec.specs.Slots.{Slots, At, MuxSlot, Clean, Selected, with_slot, set_marks, after_job}
+use Rattle.bus_spec.specs.Grammar.{over, messages, at_bus}
+use Rattle.bus_laws.specs.Runs.{InLocks, IsRest, CanShift, Finds, FindsOpen, FindsSelect, IsUnmarked, IsOfMux, MayFail, Runs}
+use Rattle.bus_laws.proofs.TreeSlots.{with_slot-other, with_slot-along, set_marks-other, set_marks-along}
+use Rattle.bus_laws.proofs.TreeDoers.{Responds, CanJob, job_after, OwnsOff, FindsFirst, CallUnmarked, Before, After}
+use Rattle.bus_laws.proofs.TreeBase.{over-runs, call_runs, select_runs, clear_runs}
 
 -- a job's own bus; a call has none
 abbrev pub OwnIs : Job → ℕ → Type 0

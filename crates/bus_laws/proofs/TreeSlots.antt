@@ -1,10 +1,9 @@
 -- What a change at one bus leaves at the others. The inductions go over a list of marks.
-use Rattle.std.proofs.Common.{◌≡◌, ℕ, Bool, true, false, cond, List, [], ◌∷◌, Option, Some, None, eqb, refl, sym, ◌∙◌, ap, subst, ◌⊎◌, inl, inr}
+use Rattle.std.proofs.Common.{◌≡◌, ℕ, false, cond, List, [], ◌∷◌, Some, None, eqb, refl, sym, ◌∙◌, ap, inl, inr}
 use Rattle.std.proofs.lemmas.Bool.{eq-eqb}
 use Rattle.std.proofs.lemmas.Bool.Decides.{eqb_tells}
-use Rattle.i2c_spec.specs.Tree.{Hop, Crosses}
 use Rattle.bus_spec.specs.Walk.{Mark}
-use Rattle.bus_spec.specs.Slots.{Slots, At, MuxSlot, Clean, Selected, Marked, Polled, Found, with_slot, set_marks, mark_in}
+use Rattle.bus_spec.specs.Slots.{Slots, MuxSlot, Clean, Selected, Marked, Polled, Found, with_slot, set_marks, mark_in}
 use Rattle.bus_laws.specs.Runs.{IsShut, IsUnmarked}
 
 -- two different numbers fail the test

@@ -12,12 +12,12 @@ use Rattle.i2c_base.specs.declared.entry.Entry.{Entry}
 use Rattle.i2c_base.specs.declared.entry.Entry.TheVariants as entry
 use Rattle.i2c_base.specs.declared.entry.Purpose.{Purpose}
 use Rattle.i2c_base.specs.Board.{BoardView}
-use Rattle.i2c_spec.specs.Tree.{Hop, root_of, home_of_mux}
+use Rattle.i2c_spec.specs.Tree.{root_of, home_of_mux}
 use Rattle.i2c_spec.specs.TreeFacts.{IsTree}
 use Rattle.i2c_spec.specs.Plain.{IsPlainBoard}
 use Rattle.i2c_spec.specs.Messages.{MessageView}
 use Rattle.i2c_spec.specs.History.{Asks, changed_at}
-use Rattle.bus_spec.specs.Walk.{Mark, Job, Call, Select, Clear, Act, Take, Free, Send, Shift, Settle, ActOutcome, Passed, Sent, Lined, Note, WalkTree, Ends, Look, Then, goes, verdict_of, job_bus, job_purpose, line_mux}
+use Rattle.bus_spec.specs.Walk.{Mark, Job, Call, Select, Clear, Act, Take, Free, Send, Shift, Settle, ActOutcome, Passed, Sent, Lined, WalkTree, Ends, Look, Then, goes, verdict_of, job_bus, job_purpose, line_mux}
 use Rattle.bus_spec.specs.Slots.{Slots, after_job}
 use Rattle.bus_spec.specs.Grammar.{seen, is_over, first_act, first_note, rest_of}
 use Rattle.bus_spec.specs.Readings.{is_call, is_call_of, is_settle_of, is_on_root}
@@ -28,7 +28,7 @@ use Rattle.bus_laws.specs.Runs.{InLocks, CanSend, CanShift, MaySend, MayShift, R
 use Rattle.bus_laws.specs.Lines.{LinesAreLocked}
 use Rattle.bus_laws.specs.Stands.{CallerStands, Stands}
 use Rattle.bus_laws.specs.Reach.{AsksForMessages}
-use Rattle.bus_laws.specs.Settles.{Settles, GoesOn}
+use Rattle.bus_laws.specs.Settles.{Settles, CallGoesOn}
 use Rattle.bus_laws.specs.Calls.{IsAsked}
 use Rattle.bus_laws.proofs.TreeSlots.{eqb-apart}
 use Rattle.bus_laws.proofs.StandsFacts.{current-stands}
@@ -112,11 +112,11 @@ module _ (b : BoardView) (tree : IsTree b) (plain : IsPlainBoard b) (lines : Lin
 
     -- what follows a caller's message in its walk
     call_goes : (bus : ℕ) (ms : List MessageView) (left : ℕ) (e : End) (bytes : List ℕ) → IsNext b asks n d (Send (Call bus ms) left)
-        → GoesOn (Call bus ms) left (Sent e bytes) (rest_of (current b asks n d) (Sent e bytes))
+        → CallGoesOn bus ms left (Sent e bytes) (rest_of (current b asks n d) (Sent e bytes))
     call_goes bus ms left e bytes first =
         let at = first_is (current b asks n d) (Send (Call bus ms) left) first in
         let settles : Settles asked.done (Then (Send (Call bus ms) left) at.0 at.1) = subst (λ (w : WalkTree). Settles asked.done w) at.2 asked.settles in
-        subst (λ (w : WalkTree). GoesOn (Call bus ms) left (Sent e bytes) (rest_of w (Sent e bytes))) (sym at.2) (settles.1 e bytes).0
+        subst (λ (w : WalkTree). CallGoesOn bus ms left (Sent e bytes) (rest_of w (Sent e bytes))) (sym at.2) (settles.1 e bytes).0
 
   -- who is inside sends next
   module _ (inside : AreInside b n) where

@@ -1,9 +1,9 @@
 -- A caller's message leaves the chips alone: no chip along its bus has its address. The inductions go over lists.
-use Rattle.std.proofs.Common.{◌≡◌, ℕ, zero, suc, ◌+◌, Bool, true, false, cond, not, ◌&&◌, ◌||◌, List, [], ◌∷◌, ◌++◌, length, Option, Some, None, eqb, refl, sym, ◌∙◌, ap, subst, ◌⊎◌, inl, inr, zero-add}
+use Rattle.std.proofs.Common.{◌≡◌, ℕ, zero, suc, ◌+◌, Bool, true, false, cond, not, ◌&&◌, ◌||◌, List, [], ◌∷◌, ◌++◌, Option, Some, None, eqb, refl, sym, ◌∙◌, ap, ◌⊎◌, inl, inr}
 use Rattle.std.specs.Prelude.{slice_get, unwrap_or}
-use Rattle.std.specs.List.{list_any, list_all, position_from}
+use Rattle.std.specs.List.{list_any, position_from}
 use Rattle.std.specs.Option.{option_map}
-use Rattle.std.proofs.lemmas.Bool.{eqb-true, eq-eqb}
+use Rattle.std.proofs.lemmas.Bool.{eq-eqb}
 use Rattle.i2c_base.specs.declared.event.Event.{Event}
 use Rattle.i2c_base.specs.declared.event.Event.TheVariants as event
 use Rattle.i2c_base.specs.declared.event.Answer.{Answer}
@@ -15,14 +15,14 @@ use Rattle.i2c_base.specs.declared.board.MuxSpec.{MuxSpec}
 use Rattle.i2c_base.specs.declared.tree.Grant.{Grant}
 use Rattle.i2c_base.specs.declared.tree.Grant.TheVariants as grant
 use Rattle.i2c_base.specs.Board.{BoardView, DeviceView}
-use Rattle.i2c_spec.specs.Tree.{Hop, hops, home_of_mux, addr_of_mux, of_device, is_below, is_on_path, Crosses, IsOver, IsAlong}
-use Rattle.i2c_spec.specs.TreeFacts.{IsTree, home_of, addr_of}
+use Rattle.i2c_spec.specs.Tree.{Hop, hops, home_of_mux, addr_of_mux, is_below, is_on_path, Crosses, IsOver, IsAlong}
+use Rattle.i2c_spec.specs.TreeFacts.{IsTree}
 use Rattle.i2c_spec.specs.Grant.{has_address, some_chip, some_device, some_bound, named_by, grant_of}
 use Rattle.i2c_spec.specs.Chips.{ChipView, chip_table}
-use Rattle.i2c_spec.specs.Targets.{TargetState, state_table}
+use Rattle.i2c_spec.specs.Targets.{TargetState}
 use Rattle.i2c_spec.specs.Messages.{MessageView}
 use Rattle.i2c_spec.specs.Conversation.{world_listener, talk}
-use Rattle.i2c_spec.specs.World.{World, after, given, feed, is_joined, chip_start, device_start, start_chips, start_devices, joins_chip, stop_event, hearers, has_heard, heard_of, is_chip, to_chips}
+use Rattle.i2c_spec.specs.World.{World, after, given, feed, is_joined, chip_start, start_chips, start_devices, joins_chip, stop_event, hearers, has_heard, heard_of, is_chip, to_chips}
 use Rattle.bus_laws.proofs.WorldFeed.{hears, feed-same, heard-none}
 use Rattle.bus_laws.proofs.TalkLaws.{IsLater, talk-keeps}
 use Rattle.bus_laws.proofs.WorldReach.{world_of}

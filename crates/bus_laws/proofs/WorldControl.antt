@@ -1,16 +1,15 @@
 -- What a control message does to the chips of its root: its own chip takes the byte, or is looked at, and every other
 -- chip stays. No induction but those of `WorldFeed`.
-use Rattle.std.proofs.Common.{◌≡◌, ℕ, zero, suc, ◌+◌, ◌-◌, ◌≤◌, Bool, true, false, cond, not, ◌&&◌, ◌||◌, List, [], ◌∷◌, ◌++◌, length, Option, Some, None, eqb, refl, sym, ◌∙◌, ap, subst, ◌⊎◌, inl, inr, arith, zero-add}
+use Rattle.std.proofs.Common.{◌≡◌, ℕ, ◌+◌, ◌-◌, Bool, true, false, cond, ◌&&◌, ◌||◌, List, [], ◌∷◌, ◌++◌, Option, Some, None, eqb, refl, sym, ◌∙◌, ap, subst, ◌⊎◌, inl, inr, zero-add}
 use Rattle.std.specs.Prelude.{slice_get, bit_and}
-use Rattle.std.specs.List.{list_any, list_all}
+use Rattle.std.specs.List.{list_all}
 use Rattle.std.specs.Option.{option_map, option_map_or}
-use Rattle.std.proofs.lemmas.Bool.{eqb-true, eqb-false, eq-eqb}
+use Rattle.std.proofs.lemmas.Bool.{eq-eqb}
 use Rattle.std.proofs.lemmas.Bool.Decides.{eqb_tells}
 use Rattle.i2c_base.specs.declared.event.Event.{Event}
 use Rattle.i2c_base.specs.declared.event.Event.TheVariants as event
 use Rattle.i2c_base.specs.declared.event.Answer.{Answer}
 use Rattle.i2c_base.specs.declared.event.Answer.TheVariants as answer
-use Rattle.i2c_base.specs.declared.port.PortCall.{PortCall}
 use Rattle.i2c_base.specs.declared.port.PortCall.TheVariants as call
 use Rattle.i2c_base.specs.declared.entry.End.{End}
 use Rattle.i2c_base.specs.declared.entry.End.TheVariants as end
@@ -24,10 +23,10 @@ use Rattle.i2c_spec.specs.TreeFacts.{IsTree}
 use Rattle.i2c_spec.specs.Chips.{ChipView, chip_table, chip_after, chip_sends, is_open, looked, taken, stopped as chip_stopped}
 use Rattle.i2c_spec.specs.Targets.{TargetState, state_table}
 use Rattle.i2c_spec.specs.Messages.{MessageView, write_byte, read_byte}
-use Rattle.i2c_spec.specs.Conversation.{Listener, Said, TalkTold, world_listener, is_at, silence, say, with_byte, told, ended, puts, gets, by_answer, talk}
-use Rattle.i2c_spec.specs.World.{World, after, stopped, sent_on, given, feed, answers, opens_hop, is_joined, has_chip, joins_chip, joins_device, start_event, stop_event, chip_start, device_start, hearers, takes, gives, and_of, byte_of, some_answer, is_ack, is_chip, is_device, to_chips, to_devices, hearing_answers, answer as world_answer}
+use Rattle.i2c_spec.specs.Conversation.{Said, TalkTold, world_listener, is_at, silence, say, told, ended, puts, gets, by_answer, talk}
+use Rattle.i2c_spec.specs.World.{World, after, stopped, sent_on, given, feed, answers, opens_hop, is_joined, has_chip, joins_chip, start_event, stop_event, chip_start, device_start, hearers, takes, gives, and_of, some_answer, is_ack, to_chips, to_devices, answer as world_answer}
 use Rattle.bus_laws.proofs.WorldFeed.{feed-get, feed-same, GivesOne, answers-none, answers-one, some_answer-append, some_answer-at}
-use Rattle.bus_laws.proofs.WorldReach.{world_of, and_left, and_right}
+use Rattle.bus_laws.proofs.WorldReach.{world_of}
 use Rattle.bus_laws.proofs.WorldHears.{control_hearers, control_answer}
 
 abbrev Talked : Type 0

@@ -1,9 +1,8 @@
 -- Who hears a start: a control message its own chip alone, and a caller's message no chip. No induction; the lists are
 -- those of `WorldFeed`.
-use Rattle.std.proofs.Common.{◌≡◌, ℕ, zero, suc, ◌+◌, Bool, true, false, cond, not, ◌&&◌, ◌||◌, List, [], ◌∷◌, ◌++◌, length, Option, Some, None, eqb, refl, sym, ◌∙◌, ap, subst, ◌⊎◌, inl, inr, arith, zero-add}
-use Rattle.std.specs.Prelude.{slice_get, is_some, unwrap_or}
-use Rattle.std.specs.List.{list_any, list_all}
-use Rattle.std.specs.Option.{option_map, option_map_or}
+use Rattle.std.proofs.Common.{◌≡◌, ℕ, ◌+◌, Bool, true, false, cond, ◌&&◌, ◌||◌, List, [], ◌∷◌, ◌++◌, Option, Some, None, eqb, refl, sym, ◌∙◌, ap, subst, inl, inr, zero-add}
+use Rattle.std.specs.Prelude.{slice_get, unwrap_or}
+use Rattle.std.specs.Option.{option_map}
 use Rattle.std.proofs.lemmas.Bool.{eqb-true, eq-eqb}
 use Rattle.i2c_base.specs.declared.event.Event.{Event}
 use Rattle.i2c_base.specs.declared.event.Event.TheVariants as event
@@ -19,7 +18,7 @@ use Rattle.i2c_spec.specs.Chips.{ChipView, chip_table, chip_answer}
 use Rattle.i2c_spec.specs.Targets.{TargetState, state_table}
 use Rattle.i2c_spec.specs.World.{World, is_joined, has_chip, joins_chip, joins_device, start_event, chip_start, device_start, start_chips, start_devices, answers, answer_with, is_ack, is_slow, has_heard, heard_of, hearers, some_answer, answer as world_answer}
 use Rattle.bus_laws.proofs.WorldFeed.{hears, heard-none, heard-one, unheard, some_answer-append, some_answer-at}
-use Rattle.bus_laws.proofs.WorldReach.{world_of, and_left, and_right, start_heard, other_state, address_is}
+use Rattle.bus_laws.proofs.WorldReach.{world_of, and_right, start_heard, other_state, address_is}
 
 pub swap_along : (b : BoardView) (s t : ℕ) → IsAlong b s t → IsAlong b t s
 swap_along b s t a = elim a [ inl x ↦ inr x | inr x ↦ inl x ]

@@ -1,8 +1,8 @@
 -- Selects and closes by message: what they leave of what is known, and what they may give.
-use Rattle.std.proofs.Common.{◌≡◌, ℕ, zero, suc, ◌+◌, ◌-◌, ◌<◌, ◌≤◌, Bool, true, false, cond, not, ◌&&◌, ◌||◌, List, [], ◌∷◌, length, Option, Some, None, eqb, ltb, refl, sym, ◌∙◌, ap, subst, ◌⊎◌, inl, inr, arith}
+use Rattle.std.proofs.Common.{◌≡◌, ℕ, zero, suc, ◌-◌, ◌<◌, ◌≤◌, Bool, true, false, cond, not, ◌&&◌, ◌||◌, List, [], ◌∷◌, length, Option, Some, None, eqb, ltb, refl, sym, ◌∙◌, ap, subst, ◌⊎◌, inl, inr, arith}
 use Rattle.std.specs.Prelude.{slice_get, bit_and}
 use Rattle.std.specs.Option.{option_map}
-use Rattle.std.proofs.lemmas.Bool.{eqb-true, eqb-false, eq-eqb, cases_lt, ltb-true, ltb-false}
+use Rattle.std.proofs.lemmas.Bool.{eq-eqb, cases_lt, ltb-true, ltb-false}
 use Rattle.std.proofs.lemmas.Bool.Decides.{eqb_tells}
 use Rattle.i2c_base.specs.declared.entry.End.{End}
 use Rattle.i2c_base.specs.declared.entry.End.TheVariants as end
@@ -12,23 +12,22 @@ use Rattle.i2c_base.specs.declared.board.MuxSpec.{MuxSpec}
 use Rattle.i2c_base.specs.declared.ids.LockId.{LockId}
 use Rattle.i2c_base.specs.Board.{BoardView}
 use Rattle.i2c_spec.specs.Tree.{Hop, hops, root_of, home_of_mux, addr_of_mux, is_absent, is_held, of_mux, IsAmongHops}
-use Rattle.i2c_spec.specs.TreeFacts.{IsTree, IsHop}
+use Rattle.i2c_spec.specs.TreeFacts.{IsTree}
 use Rattle.i2c_spec.specs.Plain.{IsPlainBoard}
 use Rattle.i2c_spec.specs.Chips.{ChipView, is_open, is_free, is_foreign, chip_sends, select_value, close_value, taken, looked}
 use Rattle.i2c_spec.specs.Messages.{MessageView, write_byte, read_byte}
 use Rattle.i2c_spec.specs.Conversation.{TalkTold, world_listener, talk}
 use Rattle.i2c_spec.specs.World.{World, has_chip}
 use Rattle.i2c_spec.specs.History.{changed_at}
-use Rattle.bus_spec.specs.Walk.{Mark, Job, Select, Clear, ActOutcome, Sent, first_byte, is_gpio, is_arbitrator, chip_address}
+use Rattle.bus_spec.specs.Walk.{Mark, Select, Clear, Sent, is_gpio, is_arbitrator, chip_address}
 use Rattle.bus_spec.specs.Slots.{Slots, At, MuxSlot, Clean, Selected, Marked, Polled, Found, with_slot, set_marks, polled_slot, after_job}
-use Rattle.bus_laws.specs.Runs.{answers, CanSelect, CanGoThrough, IsMuxOf, IsOfMux, FindsOpen, FindsPoll, FindsSelect, HeadsMarks, MayFail}
+use Rattle.bus_laws.specs.Runs.{answers, CanSelect, CanGoThrough, IsMuxOf, IsOfMux, FindsPoll, HeadsMarks, MayFail}
 use Rattle.bus_laws.specs.Told.{chip_in, IsChipOf, Explains, ChipsTold, WorldTold}
 use Rattle.bus_laws.proofs.TreeSlots.{with_slot-same, with_slot-other, set_marks-head}
-use Rattle.bus_laws.proofs.WorldReach.{world_of}
-use Rattle.bus_laws.proofs.WorldControl.{looked_opens, put_byte, NoneWaits, Changes, Quiet, absent-talk, Writes, Reads, IsEarlyCut, taken_byte, look, write-talk, read-talk}
+use Rattle.bus_laws.proofs.WorldControl.{looked_opens, put_byte, Changes, Quiet, absent-talk, Writes, Reads, taken_byte, look, write-talk, read-talk}
 use Rattle.bus_laws.proofs.ChipLaws.{HasChannel, OpensOne, select_opens, close_opens, SameSort, taken_sort, looked_sort}
-use Rattle.bus_laws.proofs.WorldSlots.{explains_mark, MarksOnly, set_marks-only, told-marks, Turns, SlotTold, told-turned}
-use Rattle.bus_laws.proofs.BoardFacts.{mux_at, get_within, get_same_length, has_address_of, has_chip-is, not_held, foreign_few, held-is, foreign-is, has_channel, answers-is, absent_silent, held_silent}
+use Rattle.bus_laws.proofs.WorldSlots.{set_marks-only, told-marks, SlotTold, told-turned}
+use Rattle.bus_laws.proofs.BoardFacts.{mux_at, get_same_length, has_address_of, has_chip-is, not_held, foreign_few, held-is, foreign-is, answers-is, absent_silent, held_silent}
 use Rattle.bus_laws.proofs.WorldLaw.{world-is, along_here, joined_here, talk_framed, replaced-chip, same_changes, still_none, world_replaced}
 
 -- equal chips are told alike

@@ -1,43 +1,31 @@
 -- The world law: what is known of the buses stays so through a message or a line step of a walk, and the step gives
 -- what the tree law counts on.
-use Rattle.std.proofs.Common.{◌≡◌, ℕ, zero, suc, ◌+◌, ◌-◌, ◌<◌, ◌≤◌, Bool, true, false, cond, not, ◌&&◌, ◌||◌, List, [], ◌∷◌, length, Option, Some, None, eqb, ltb, refl, sym, ◌∙◌, ap, subst, ◌⊎◌, inl, inr, arith}
-use Rattle.std.specs.Prelude.{slice_get, bit_and}
+use Rattle.std.proofs.Common.{◌≡◌, ℕ, Bool, true, false, cond, ◌&&◌, List, length, Option, Some, None, eqb, refl, sym, ◌∙◌, ap, inl, inr}
+use Rattle.std.specs.Prelude.{slice_get}
 use Rattle.std.specs.List.{list_all}
 use Rattle.std.specs.Option.{option_map, option_map_or}
-use Rattle.std.proofs.lemmas.Bool.{eqb-true, eqb-false, eq-eqb}
+use Rattle.std.proofs.lemmas.Bool.{eq-eqb}
 use Rattle.std.proofs.lemmas.Bool.Decides.{eqb_tells}
 use Rattle.i2c_base.specs.declared.port.PortCall.{PortCall}
 use Rattle.i2c_base.specs.declared.port.PortCall.TheVariants as call
 use Rattle.i2c_base.specs.declared.event.Event.TheVariants as event
-use Rattle.i2c_base.specs.declared.entry.End.{End}
-use Rattle.i2c_base.specs.declared.entry.End.TheVariants as end
-use Rattle.i2c_base.specs.declared.board.MuxKind.{MuxKind}
-use Rattle.i2c_base.specs.declared.board.MuxKind.TheVariants.{Pca9548, Pca9546, Pca9544, Pca9541, Gpio}
-use Rattle.i2c_base.specs.declared.ids.LockId.{LockId}
-use Rattle.i2c_base.specs.declared.ids.Node.{Node}
 use Rattle.i2c_base.specs.Board.{BoardView}
-use Rattle.i2c_base.specs.Transfer.{TransferView}
-use Rattle.i2c_spec.specs.Tree.{Hop, hops, root_of, home_of_mux, addr_of_mux, is_absent, is_held, of_mux, IsAmongHops, IsAlong}
-use Rattle.i2c_spec.specs.TreeFacts.{IsTree, IsHop}
+use Rattle.i2c_spec.specs.Tree.{Hop, hops, root_of, home_of_mux, IsAmongHops, IsAlong}
+use Rattle.i2c_spec.specs.TreeFacts.{IsTree}
 use Rattle.i2c_spec.specs.Plain.{IsPlainBoard}
-use Rattle.i2c_spec.specs.Chips.{ChipView, chip_table, is_open, is_free, is_foreign, chip_sends, select_value, close_value, looked}
-use Rattle.i2c_spec.specs.Targets.{TargetState}
+use Rattle.i2c_spec.specs.Chips.{ChipView, chip_table, is_open}
 use Rattle.i2c_spec.specs.Messages.{MessageView}
-use Rattle.i2c_spec.specs.Conversation.{Listener, TalkTold, world_listener, talk}
-use Rattle.i2c_spec.specs.World.{World, after, opens_hop, is_joined, has_chip, joins_chip, chip_start, to_chips, stop_event}
+use Rattle.i2c_spec.specs.Conversation.{world_listener, talk}
+use Rattle.i2c_spec.specs.World.{World, after, opens_hop, is_joined, joins_chip, chip_start, to_chips, stop_event}
 use Rattle.i2c_spec.specs.History.{changed_at}
-use Rattle.bus_spec.specs.Walk.{Mark, Job, Call, Select, Clear, ActOutcome, Sent, first_byte, job_bus, is_line, is_gpio, is_arbitrator, chip_address, message_of, is_last}
-use Rattle.bus_spec.specs.Slots.{Slots, At, MuxSlot, Clean, Selected, Marked, Polled, Found, with_slot, set_marks, polled_slot, after_job}
-use Rattle.bus_laws.specs.Runs.{answers, CanSend, CanSelect, CanGoThrough, IsMuxOf, IsOfMux, FindsOpen, FindsSelect, HeadsMarks, MayFail, MaySend}
-use Rattle.bus_laws.specs.Told.{chip_in, IsChipOf, Explains, ChipsTold, WorldTold}
-use Rattle.bus_laws.proofs.TreeSlots.{with_slot-same, with_slot-other, set_marks-head}
+use Rattle.bus_spec.specs.Slots.{Slots, Selected}
+use Rattle.bus_laws.specs.Told.{chip_in, Explains, ChipsTold, WorldTold}
 use Rattle.bus_laws.proofs.WorldFeed.{length-feed}
 use Rattle.bus_laws.proofs.TalkLaws.{IsLater, talk-keeps}
 use Rattle.bus_laws.proofs.WorldReach.{world_of, all_of, joined_along}
-use Rattle.bus_laws.proofs.WorldControl.{NoneWaits, Changes, IsQuiet, absent_talk, Writes, Reads, IsEarlyCut, taken_byte, look, write-talk, read-talk}
-use Rattle.bus_laws.proofs.ChipLaws.{HasChannel, OpensOne, select_opens, close_opens, SameSort, taken_sort, looked_sort}
-use Rattle.bus_laws.proofs.WorldSlots.{explains_mark, MarksOnly, set_marks-only, told-marks, Turns, SlotTold, told-turned}
-use Rattle.bus_laws.proofs.BoardFacts.{mux_at, get_within, get_same_length, has_address_of, has_chip-is, not_held, foreign_few, held-is, foreign-is, has_channel, answers-is, absent_silent, held_silent}
+use Rattle.bus_laws.proofs.WorldControl.{NoneWaits, Changes}
+use Rattle.bus_laws.proofs.ChipLaws.{SameSort}
+use Rattle.bus_laws.proofs.WorldSlots.{Turns}
 
 -- a world is its parts
 pub whole : (b : BoardView) (r : ℕ) (w : World) → w.board ≡ b → w.root ≡ r → w ≡ world_of b r w.chips w.devices w.hearing w.busy

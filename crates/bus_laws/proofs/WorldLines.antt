@@ -1,5 +1,5 @@
 -- The world law for a line step: the line of a gpio mux opens one channel, or closes it.
-use Rattle.std.proofs.Common.{◌≡◌, ℕ, zero, suc, ◌+◌, ◌≤◌, Bool, true, false, cond, List, [], ◌∷◌, length, Option, Some, None, eqb, refl, sym, ◌∙◌, ap, subst, ◌⊎◌, inl, inr}
+use Rattle.std.proofs.Common.{◌≡◌, ℕ, zero, suc, ◌+◌, Bool, true, false, cond, List, [], ◌∷◌, length, Option, Some, None, eqb, refl, sym, ◌∙◌, ap, subst, inl, inr}
 use Rattle.std.specs.Prelude.{slice_get, slice_set, unwrap_or}
 use Rattle.std.specs.Option.{option_map, option_map_or}
 use Rattle.std.proofs.lemmas.Bool.Decides.{eqb_tells}
@@ -10,24 +10,23 @@ use Rattle.i2c_base.specs.declared.board.MuxKind.TheVariants.{Pca9548, Pca9546, 
 use Rattle.i2c_base.specs.declared.board.MuxSpec.{MuxSpec}
 use Rattle.i2c_base.specs.declared.ids.LockId.{LockId}
 use Rattle.i2c_base.specs.Board.{BoardView}
-use Rattle.i2c_spec.specs.Tree.{Hop, hops, root_of, home_of_mux, is_absent, IsAmongHops}
+use Rattle.i2c_spec.specs.Tree.{Hop, root_of, home_of_mux, is_absent}
 use Rattle.i2c_spec.specs.TreeFacts.{IsTree, IsHop}
 use Rattle.i2c_spec.specs.Plain.{IsPlainBoard, IsPlainMux, FitsChip}
-use Rattle.i2c_spec.specs.Chips.{ChipView, is_open, at_level, select_value, close_value}
+use Rattle.i2c_spec.specs.Chips.{ChipView, is_open, at_level, select_value}
 use Rattle.i2c_spec.specs.World.{World, after, set_level, stopped}
 use Rattle.i2c_spec.specs.History.{changed_at}
-use Rattle.bus_spec.specs.Walk.{Mark, Job, Call, Select, Clear, ActOutcome, Lined, job_bus, is_gpio, is_line}
-use Rattle.bus_spec.specs.Slots.{Slots, At, MuxSlot, Clean, Selected, Marked, Polled, Found, with_slot, set_marks, after_job}
+use Rattle.bus_spec.specs.Walk.{Mark, Job, Call, Select, Clear, Lined, job_bus, is_gpio}
+use Rattle.bus_spec.specs.Slots.{Slots, At, MuxSlot, Clean, Selected, Polled, Found, with_slot, set_marks, after_job}
 use Rattle.bus_spec.specs.Past.{line_call}
-use Rattle.bus_laws.specs.Runs.{IsMuxOf, IsOfMux, HeadsMarks, MayFail, MayShift}
-use Rattle.bus_laws.specs.Told.{chip_in, IsChipOf, ChipsTold, WorldTold}
+use Rattle.bus_laws.specs.Runs.{IsMuxOf, IsOfMux, MayFail, MayShift}
+use Rattle.bus_laws.specs.Told.{chip_in, WorldTold}
 use Rattle.bus_laws.proofs.TreeSlots.{with_slot-same, with_slot-other}
-use Rattle.bus_laws.proofs.WorldReach.{world_of}
-use Rattle.bus_laws.proofs.WorldControl.{NoneWaits, Changes, stopped-chips}
-use Rattle.bus_laws.proofs.ChipLaws.{OpensOne, level_opens, level_closes, SameSort}
+use Rattle.bus_laws.proofs.WorldControl.{Changes, stopped-chips}
+use Rattle.bus_laws.proofs.ChipLaws.{level_opens, level_closes, SameSort}
 use Rattle.bus_laws.proofs.WorldSlots.{set_marks-only, told-marks, SlotTold, told-turned}
 use Rattle.bus_laws.proofs.BoardFacts.{mux_at, get_same_length, plain_mux}
-use Rattle.bus_laws.proofs.WorldLaw.{whole, IsFramed, later_framed, replaced-chip, still_none, world_replaced}
+use Rattle.bus_laws.proofs.WorldLaw.{whole, replaced-chip, still_none, world_replaced}
 use Rattle.bus_laws.proofs.WorldJobs.{told_equal}
 use Rattle.bus_laws.proofs.WorldSends.{own_select, own_open, same_chip_in}
 

@@ -1,30 +1,23 @@
 -- Who is joined while a message is sent: only buses along the message's own. The induction goes over the hops of the
 -- bus that is joined.
-use Rattle.std.proofs.Common.{◌≡◌, ℕ, zero, suc, ◌+◌, ◌<◌, ◌≤◌, Bool, true, false, cond, not, ◌&&◌, ◌||◌, List, [], ◌∷◌, ◌++◌, length, Option, Some, None, eqb, refl, sym, ◌∙◌, ap, subst, ◌⊎◌, inl, inr, arith}
-use Rattle.std.specs.Prelude.{slice_get, is_some}
-use Rattle.std.specs.List.{list_any, list_all}
-use Rattle.std.specs.Option.{option_map, option_map_or}
-use Rattle.std.proofs.lemmas.Bool.{eqb-true, eq-eqb}
-use Rattle.i2c_base.specs.declared.event.Event.{Event}
+use Rattle.std.proofs.Common.{◌≡◌, ℕ, Bool, true, false, ◌&&◌, List, [], ◌∷◌, Option, Some, None, eqb, refl, sym, ◌∙◌, ap, subst, ◌⊎◌, inl, inr}
+use Rattle.std.specs.Prelude.{slice_get}
+use Rattle.std.specs.List.{list_all}
+use Rattle.std.specs.Option.{option_map_or}
+use Rattle.std.proofs.lemmas.Bool.{eqb-true}
 use Rattle.i2c_base.specs.declared.event.Event.TheVariants as event
-use Rattle.i2c_base.specs.declared.event.Answer.{Answer}
-use Rattle.i2c_base.specs.declared.event.Answer.TheVariants as answer
 use Rattle.i2c_base.specs.declared.ids.Node.{Node}
-use Rattle.i2c_base.specs.declared.ids.Node.TheVariants as node
-use Rattle.i2c_base.specs.declared.tree.Grant.{Grant}
-use Rattle.i2c_base.specs.declared.tree.Grant.TheVariants as grant
 use Rattle.i2c_base.specs.Board.{BoardView}
 use Rattle.i2c_base.specs.Table.{Table}
-use Rattle.i2c_spec.specs.Tree.{Hop, hops, root_of, home_of_mux, addr_of_mux, of_device, is_absent, is_below, is_on_path, end_of, Crosses, IsAmongHops, IsOver, IsAlong}
-use Rattle.i2c_spec.specs.TreeFacts.{IsTree, IsHop, home_of, addr_of}
-use Rattle.i2c_spec.specs.Grant.{has_address, some_chip, some_device, grant_of}
-use Rattle.i2c_spec.specs.Chips.{ChipView, chip_table, chip_answer, is_open}
-use Rattle.i2c_spec.specs.Targets.{TargetState, Regs, Silent, state_table, state_answer}
-use Rattle.i2c_spec.specs.World.{World, opens_hop, is_joined, has_chip, joins_chip, joins_device, start_event, chip_start, device_start, start_chips, start_devices, has_heard, heard_of, hearers}
-use Rattle.bus_spec.specs.Slots.{Slots, MuxSlot, Clean, Selected, Marked, Polled, Found}
+use Rattle.i2c_spec.specs.Tree.{Hop, hops, root_of, home_of_mux, end_of, Crosses, IsAmongHops, IsOver, IsAlong}
+use Rattle.i2c_spec.specs.TreeFacts.{IsTree}
+use Rattle.i2c_spec.specs.Grant.{has_address}
+use Rattle.i2c_spec.specs.Chips.{ChipView, is_open}
+use Rattle.i2c_spec.specs.Targets.{TargetState, Regs, Silent, state_answer}
+use Rattle.i2c_spec.specs.World.{World, opens_hop, is_joined, start_event, has_heard}
+use Rattle.bus_spec.specs.Slots.{Slots, MuxSlot, Selected}
 use Rattle.bus_laws.specs.Told.{Explains}
-use Rattle.bus_laws.proofs.TreeBase.{among_crosses}
-use Rattle.bus_laws.proofs.WorldFeed.{hears, heard-none, heard-one}
+use Rattle.bus_laws.proofs.WorldFeed.{hears}
 
 -- a world by its parts
 abbrev pub world_of : BoardView → ℕ → List ChipView → List TargetState → List Node → Bool → World

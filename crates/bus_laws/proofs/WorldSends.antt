@@ -1,34 +1,28 @@
 -- The world law for a message of a walk: the jobs together.
-use Rattle.std.proofs.Common.{◌≡◌, ℕ, zero, suc, ◌+◌, ◌-◌, ◌<◌, ◌≤◌, Bool, true, false, cond, not, ◌&&◌, ◌||◌, List, [], ◌∷◌, length, Option, Some, None, eqb, ltb, refl, sym, ◌∙◌, ap, subst, ◌⊎◌, inl, inr, arith}
-use Rattle.std.specs.Prelude.{slice_get, take, drop}
+use Rattle.std.proofs.Common.{◌≡◌, ℕ, zero, suc, ◌-◌, ◌<◌, Bool, true, false, cond, not, ◌||◌, List, [], ◌∷◌, length, Option, eqb, refl, sym, ◌∙◌, ap, subst, inl, inr, arith}
+use Rattle.std.specs.Prelude.{slice_get, drop}
 use Rattle.std.specs.List.{list_any}
-use Rattle.std.proofs.lemmas.Bool.{eqb-true, eqb-false, eq-eqb}
 use Rattle.std.proofs.lemmas.Bool.Decides.{eqb_tells}
-use Rattle.i2c_base.specs.declared.entry.End.{End}
 use Rattle.i2c_base.specs.declared.board.MuxKind.{MuxKind}
-use Rattle.i2c_base.specs.declared.errno.Errno.{Errno}
-use Rattle.i2c_base.specs.declared.errno.Errno.TheVariants as errno
 use Rattle.i2c_base.specs.declared.ids.LockId.{LockId}
 use Rattle.i2c_base.specs.declared.transfer.Msg.{Msg}
 use Rattle.i2c_base.specs.declared.tree.Grant.{Grant}
 use Rattle.i2c_base.specs.declared.tree.Grant.TheVariants as grant
 use Rattle.i2c_base.specs.Board.{BoardView}
 use Rattle.i2c_base.specs.Transfer.{TransferView, written_of}
-use Rattle.i2c_spec.specs.Tree.{Hop, hops, buses, root_of, home_of_mux, is_held, IsAmongHops}
+use Rattle.i2c_spec.specs.Tree.{Hop, root_of, home_of_mux, is_held}
 use Rattle.i2c_spec.specs.TreeFacts.{IsTree, IsHop}
 use Rattle.i2c_spec.specs.Plain.{IsPlainBoard}
 use Rattle.i2c_spec.specs.Grant.{grant_of, is_busy}
 use Rattle.i2c_spec.specs.Chips.{ChipView, is_free}
 use Rattle.i2c_spec.specs.Messages.{MessageView, messages_from, messages_of}
 use Rattle.i2c_spec.specs.Conversation.{TalkTold, world_listener, talk}
-use Rattle.i2c_spec.specs.Flat.{refusal, is_plain, is_smbus_only}
 use Rattle.i2c_spec.specs.World.{World}
 use Rattle.i2c_spec.specs.History.{changed_at}
-use Rattle.bus_spec.specs.Walk.{Mark, Job, Call, Select, Clear, ActOutcome, Sent, job_bus, is_gpio, is_arbitrator, message_of, nth_message, is_last}
-use Rattle.bus_spec.specs.Slots.{Slots, At, MuxSlot, Clean, Selected, Marked, Polled, Found, after_job}
-use Rattle.bus_laws.specs.Runs.{CanSend, IsMuxOf, IsOfMux, FindsOpen, FindsPoll, FindsSelect, IsCall, MaySend}
-use Rattle.bus_laws.specs.Told.{chip_in, ChipsTold, WorldTold}
-use Rattle.bus_laws.proofs.ChipLaws.{HasChannel}
+use Rattle.bus_spec.specs.Walk.{Mark, Job, Call, Select, Clear, Sent, job_bus, is_arbitrator, message_of, nth_message, is_last}
+use Rattle.bus_spec.specs.Slots.{Slots, MuxSlot, Clean, Selected, Marked, Polled, Found, after_job}
+use Rattle.bus_laws.specs.Runs.{CanSend, IsOfMux, FindsOpen, FindsPoll, FindsSelect, IsCall, MaySend}
+use Rattle.bus_laws.specs.Told.{chip_in, WorldTold}
 use Rattle.bus_laws.proofs.BoardFacts.{mux_at, get_same_length, not_held, held-is, foreign-is, has_channel}
 use Rattle.bus_laws.proofs.TreeLaw.{refusal-none}
 use Rattle.bus_laws.proofs.WorldReach.{and_left}

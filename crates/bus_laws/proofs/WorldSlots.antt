@@ -1,5 +1,5 @@
 -- How what is known of the chips moves along one step: marks alone, or one chip of one bus.
-use Rattle.std.proofs.Common.{◌≡◌, ℕ, zero, suc, ◌≤◌, Bool, true, false, cond, List, [], ◌∷◌, Option, Some, None, eqb, refl, sym, ◌∙◌, ap, subst, ◌⊎◌, inl, inr}
+use Rattle.std.proofs.Common.{◌≡◌, ℕ, ◌≤◌, Bool, true, false, cond, List, [], ◌∷◌, Option, Some, None, eqb, refl, sym, ◌∙◌, ap, subst, ◌⊎◌, inl, inr}
 use Rattle.std.specs.Option.{option_map}
 use Rattle.std.proofs.lemmas.Bool.{eq-eqb}
 use Rattle.std.proofs.lemmas.Bool.Decides.{eqb_tells}
@@ -8,10 +8,10 @@ use Rattle.i2c_base.specs.declared.ids.LockId.{LockId}
 use Rattle.i2c_spec.specs.Tree.{Hop, home_of_mux, is_absent}
 use Rattle.i2c_spec.specs.Chips.{ChipView, is_open, is_free}
 use Rattle.bus_spec.specs.Walk.{Mark}
-use Rattle.bus_spec.specs.Slots.{Slots, At, MuxSlot, Clean, Selected, Marked, Polled, Found, with_slot, set_marks}
-use Rattle.bus_laws.specs.Runs.{IsOfMux, MayMark, MayFail}
+use Rattle.bus_spec.specs.Slots.{Slots, At, MuxSlot, Clean, Selected, Marked, Polled, Found, set_marks}
+use Rattle.bus_laws.specs.Runs.{IsOfMux, MayFail}
 use Rattle.bus_laws.specs.Told.{IsChipOf, Explains, ChipsTold}
-use Rattle.bus_laws.proofs.TreeSlots.{with_slot-same, with_slot-other}
+use Rattle.bus_laws.proofs.TreeSlots.{with_slot-other}
 use Rattle.bus_laws.proofs.ChipLaws.{SameSort}
 
 -- whoever explains an open channel is the mux that the slot is of

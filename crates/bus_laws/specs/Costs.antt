@@ -1,5 +1,5 @@
 -- How many steps a walk has at most; a settle belongs to the step before it.
-use Rattle.std.specs.Prelude.{◌≡◌, ℕ, zero, suc, Bool, true, List, Option}
+use Rattle.std.specs.Prelude.{◌≡◌, ℕ, zero, suc, true, List, Option}
 use Rattle.i2c_spec.specs.Tree.{Hop, IsAmongHops}
 use Rattle.bus_spec.specs.Walk.{Take, Free, Send, Shift, Settle, ActOutcome, WalkTree, Ends, Look, Then, is_arbitrator}
 

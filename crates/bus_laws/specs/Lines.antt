@@ -1,8 +1,7 @@
 -- Line steps need the root's lock, and a gpio mux stands only below parent-locked ones.
 use Rattle.std.specs.Prelude.{◌≡◌, ℕ, true}
 use Rattle.i2c_base.specs.Board.{BoardView}
-use Rattle.i2c_base.specs.declared.board.MuxKind.TheVariants.{Pca9548}
-use Rattle.i2c_spec.specs.Tree.{Hop, hops, of_mux, home_of_mux, IsAmongHops}
+use Rattle.i2c_spec.specs.Tree.{Hop, hops, home_of_mux, IsAmongHops}
 use Rattle.bus_spec.specs.Walk.{is_gpio}
 use Rattle.bus_spec.specs.Grammar.{kind_of}
 

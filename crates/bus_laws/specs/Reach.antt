@@ -1,5 +1,5 @@
 -- What every journal keeps of the wires: which channels are open, and which are at a message.
-use Rattle.std.specs.Prelude.{◌≡◌, ℕ, ◌<◌, Bool, true, ◌⊎◌, List, Option, Some, None, length, slice_get}
+use Rattle.std.specs.Prelude.{◌≡◌, ℕ, ◌<◌, true, ◌⊎◌, List, Some, length, slice_get}
 use Rattle.std.specs.List.{list_all}
 use Rattle.i2c_base.specs.declared.ids.LockId.TheVariants as lock
 use Rattle.i2c_base.specs.declared.entry.Entry.{Entry}

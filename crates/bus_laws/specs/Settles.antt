@@ -1,9 +1,8 @@
 -- How often a walk settles, and where. It knows nothing of locks, buses and worlds.
-use Rattle.std.specs.Prelude.{◌≡◌, ℕ, zero, suc, Bool, true, false, ◌⊎◌, List, Option, Some, None, if◌then◌else◌}
-use Rattle.i2c_base.specs.declared.errno.Errno.{Errno}
+use Rattle.std.specs.Prelude.{◌≡◌, ℕ, zero, suc, Bool, true, false, ◌⊎◌, List, Option, Some, if◌then◌else◌}
 use Rattle.i2c_base.specs.declared.entry.End.{End}
 use Rattle.i2c_spec.specs.Messages.{MessageView}
-use Rattle.bus_spec.specs.Walk.{Job, Call, Select, Clear, Act, Take, Free, Send, Shift, Settle, ActOutcome, Passed, Sent, Lined, WalkTree, Ends, Look, Then, goes, verdict_of}
+use Rattle.bus_spec.specs.Walk.{Job, Call, Select, Clear, Take, Free, Send, Shift, Settle, ActOutcome, Passed, Sent, Lined, WalkTree, Ends, Look, Then, Note, goes, job_outcome, decides, verdict_of}
 use Rattle.bus_spec.specs.Grammar.{first_act}
 use Rattle.bus_spec.specs.Past.{is_on}
 
@@ -23,18 +22,24 @@ IsBefore done (Call bus messages) = done ≡ false
 IsBefore done (Select h) = Unit {0}
 IsBefore done (Clear on mux kind) = Unit {0}
 
--- behind a step a walk settles, or it doesn't before its next step
-abbrev pub IsDecided : WalkTree → Type 0
-IsDecided w = NoSettle w ⊎ ((verdict : Option Errno) × (first_act w ≡ Some (Settle verdict)))
+-- behind a step of a job a walk settles as that step decides, or it doesn't before its next step; only a job that is on
+-- the way to the caller's messages decides
+abbrev pub IsDecided : Note → Job → ℕ → ActOutcome → WalkTree → Type 0
+IsDecided note job left out w =
+    NoSettle w
+    ⊎ ((note.forward ≡ true) × (decides job (job_outcome job left out) ≡ true) × (first_act w ≡ Some (Settle (verdict_of job left out))))
 
 -- a caller's message that went through is followed by the next one, the last one and any other by the settle, with
 -- nothing between
-abbrev pub GoesOn : Job → ℕ → ActOutcome → WalkTree → Type 0
-GoesOn (Call bus messages) (suc left) out w =
+abbrev pub CallGoesOn : ℕ → List MessageView → ℕ → ActOutcome → WalkTree → Type 0
+CallGoesOn bus messages (suc left) out w =
     first_act w ≡ Some (if is_on (goes (Call bus messages) left out) then Send (Call bus messages) left else Settle (verdict_of (Call bus messages) (suc left) out))
-GoesOn (Call bus messages) zero out w = first_act w ≡ Some (Settle (verdict_of (Call bus messages) zero out))
-GoesOn (Select h) left out w = IsDecided w
-GoesOn (Clear on mux kind) left out w = IsDecided w
+CallGoesOn bus messages zero out w = first_act w ≡ Some (Settle (verdict_of (Call bus messages) zero out))
+
+abbrev pub GoesOn : Note → Job → ℕ → ActOutcome → WalkTree → Type 0
+GoesOn note (Call bus messages) left out w = CallGoesOn bus messages left out w
+GoesOn note (Select h) left out w = IsDecided note (Select h) left out w
+GoesOn note (Clear on mux kind) left out w = IsDecided note (Clear on mux kind) left out w
 
 -- a walk that has settled, or hasn't, settles once: directly behind a message or a line step, and before its end
 abbrev pub Settles : Bool → WalkTree → Type 0
@@ -44,6 +49,6 @@ Settles done (Then (Take l) note next) = NoSettle (next Passed) × Settles done 
 Settles done (Then (Free l) note next) = NoSettle (next Passed) × Settles done (next Passed)
 Settles done (Then (Send job left) note next) =
     IsBefore done job
-    × ((e : End) (bytes : List ℕ) → GoesOn job left (Sent e bytes) (next (Sent e bytes)) × Settles done (next (Sent e bytes)))
-Settles done (Then (Shift job) note next) = (failed : Bool) → IsDecided (next (Lined failed)) × Settles done (next (Lined failed))
+    × ((e : End) (bytes : List ℕ) → GoesOn note job left (Sent e bytes) (next (Sent e bytes)) × Settles done (next (Sent e bytes)))
+Settles done (Then (Shift job) note next) = (failed : Bool) → IsDecided note job zero (Lined failed) (next (Lined failed)) × Settles done (next (Lined failed))
 Settles done (Then (Settle verdict) note next) = (done ≡ false) × NoSettle (next Passed) × Settles true (next Passed)

@@ -1,9 +1,8 @@
 -- What a journal tells of the worlds: which channels are open. It knows nothing of walks and callers.
-use Rattle.std.specs.Prelude.{◌≡◌, ℕ, ◌≤◌, ◌==◌, Bool, true, false, ◌⊎◌, List, [], ◌∷◌, length, Option, Some, None, slice_get, All}
-use Rattle.i2c_base.specs.declared.board.MuxKind.{MuxKind}
+use Rattle.std.specs.Prelude.{◌≡◌, ℕ, ◌≤◌, true, false, ◌⊎◌, length, Option, Some, None, slice_get}
 use Rattle.i2c_base.specs.Board.{BoardView}
-use Rattle.i2c_spec.specs.Tree.{Hop, hops, root_of, home_of_mux, is_absent, of_mux, IsAmongHops}
-use Rattle.i2c_spec.specs.Chips.{ChipView, is_open, is_free, chip_opening}
+use Rattle.i2c_spec.specs.Tree.{Hop, root_of, home_of_mux, is_absent, of_mux}
+use Rattle.i2c_spec.specs.Chips.{ChipView, is_open, is_free}
 use Rattle.i2c_spec.specs.World.{World}
 use Rattle.bus_spec.specs.Slots.{Slots, MuxSlot, Clean, Selected, Marked, Polled, Found}
 

@@ -1,5 +1,5 @@
 -- Journals that break a rule, each the newest entry first. The boards and entries are those of the worked examples.
-use Rattle.std.specs.Prelude.{ℕ, false, true, List, [], ◌∷◌, ◌++◌, Some, None, reverse, take}
+use Rattle.std.specs.Prelude.{ℕ, false, true, List, [], ◌∷◌, Some, reverse, take}
 use Rattle.i2c_base.specs.declared.ids.Node.TheVariants.{Device}
 use Rattle.i2c_base.specs.declared.entry.Entry.{Entry}
 use Rattle.i2c_base.specs.declared.entry.Entry.TheVariants as entry

@@ -1,16 +1,7 @@
-use Rattle.std.proofs.Common.{◌≡◌, ℕ, ◌<◌, Bool, true, false, List, [], ◌∷◌, Option, Some, None, refl, sym, subst, arith, reverse, take}
+use Rattle.std.proofs.Common.{◌≡◌, Some}
 use Rattle.i2c_base.specs.declared.board.MuxKind.TheVariants.{Pca9548}
 use Rattle.i2c_base.specs.declared.ids.LockId.TheVariants as lock
-use Rattle.i2c_base.specs.declared.ids.Node.TheVariants.{Chip}
-use Rattle.i2c_base.specs.declared.entry.End.TheVariants as end
-use Rattle.i2c_base.specs.declared.entry.Purpose.TheVariants as purpose
-use Rattle.bus_spec.specs.Walk.{Job, Clear, Act, Send, Free}
-use Rattle.bus_spec.specs.Rows as row
-use Rattle.bus_spec.specs.Past.{now, talk_of}
-use Rattle.bus_spec.specs.Stepwise.{TellsMessage}
-use Rattle.bus_laws.specs.Wrong as wrong
-use Rattle.bus_laws.specs.Wrong.{asks_register, reads_byte}
-use Rattle.bus_laws.proofs.WholeLaw.{some_is}
+use Rattle.bus_spec.specs.Walk.{Clear, Send, Free}
 use Rattle.bus_laws.proofs.wrong.a_mux_is_deselected.Goals as goal
 
 pub returns : goal.returns
