@@ -26,7 +26,7 @@ use Rattle.bus_laws.proofs.WorldSends.{length-messages}
 use Rattle.bus_laws.proofs.WholeLaw.{some_is}
 
 -- more is enough where less is
-within_more : (w : WalkTree) (n m : ℕ) → n ≤ m → IsWithin w n → IsWithin w m
+pub within_more : (w : WalkTree) (n m : ℕ) → n ≤ m → IsWithin w n → IsWithin w m
 within_more Ends n m le h = tt
 within_more (Look ask next) n m le h = λ x. within_more (next x) n m le (h x)
 within_more (Then (Settle verdict) note next) n m le h = λ out. within_more (next out) n m le (h out)

@@ -51,5 +51,6 @@ pub mod WalksLaw
 pub mod LegalLaw
 -- No walk has more steps than its cost.
 pub mod CostLaw
+pub mod SpentLaw
 -- Some caller can always go on.
 pub mod ReadyLaw

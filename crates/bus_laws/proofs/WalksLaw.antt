@@ -34,14 +34,14 @@ leads_more w u (s ∷ steps) known e act leads first does =
     (leads.0, leads_more (rest_of (seen s.known w) (outcome_of s.entry)) u steps known e act leads.1 first does)
 
 -- the reply that an entry settles
-abbrev reply_at : Entry → List Reply
+abbrev pub reply_at : Entry → List Reply
 reply_at (entry.Take c l) = []
 reply_at (entry.Free c l) = []
 reply_at (entry.Message c bus purpose part parts addr reading bytes heard e) = []
 reply_at (entry.Line c mux level failed) = []
 reply_at (entry.Settle c r cut) = r ∷ []
 
-replies_first : (known : Slots) (e : Entry) (steps : List Step) → replies_in (record { known = known; entry = e } ∷ steps) ≡ reply_at e ++ replies_in steps
+pub replies_first : (known : Slots) (e : Entry) (steps : List Step) → replies_in (record { known = known; entry = e } ∷ steps) ≡ reply_at e ++ replies_in steps
 replies_first known (entry.Take c l) steps = refl
 replies_first known (entry.Free c l) steps = refl
 replies_first known (entry.Message c bus purpose part parts addr reading bytes heard e) steps = refl

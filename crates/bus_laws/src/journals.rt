@@ -7,6 +7,7 @@ ghost use Rattle.i2c_spec.specs.History.{Asks};
 ghost use Rattle.bus_spec.specs.Past.{now};
 ghost use Rattle.bus_spec.specs.Stepwise.{IsStepwise};
 ghost use Rattle.bus_spec.specs.Legal.{IsLegal, KeepsLocks, KeepsPorts, KeepsReplies, KeepsSettles, KeepsWalks, KeepsWhole};
+ghost use Rattle.bus_laws.specs.Costs.{KeepsCosts};
 ghost use Rattle.bus_laws.specs.Ready.{SomeCanGoOn};
 ghost use Rattle.bus_laws.specs.Reach.{AsksForMessages, KeepsClosed, KeepsPathsOpen};
 
@@ -76,6 +77,15 @@ pub fn some_caller_can_go_on()
 pub fn a_journal_is_legal_where_its_replies_are()
     ensures { (b : BoardView) (callers : ℕ) (asks : Asks) (past : List Entry) → IsPlainBoard b → MeetsRules b → AsksForMessages asks → IsStepwise b callers asks past
         → (now b asks past).due ≡ None → KeepsReplies b asks past → IsLegal b callers asks past }
+{
+    an_accepted_board_is_a_tree();
+}
+
+/// Where no settle is due, no caller has made more steps than the transfers cost that it has asked for: every journal
+/// ends.
+pub fn no_caller_exceeds_its_cost()
+    ensures { (b : BoardView) (callers : ℕ) (asks : Asks) (past : List Entry) → IsPlainBoard b → MeetsRules b → AsksForMessages asks → IsStepwise b callers asks past
+        → (now b asks past).due ≡ None → KeepsCosts b asks past }
 {
     an_accepted_board_is_a_tree();
 }
