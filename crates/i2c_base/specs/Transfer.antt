@@ -2,6 +2,7 @@
 use Rattle.std.specs.Prelude.{◌≡◌, ℕ, ◌+◌, ◌<◌, ◌≤◌, ◌==◌, Bool, true, List, [], ◌∷◌, ◌++◌, length, sum_by, All, if◌then◌else◌, bit_and}
 use Rattle.i2c_base.specs.declared.transfer.Kind.{Kind}
 use Rattle.i2c_base.specs.declared.transfer.Msg.{Msg}
+use Rattle.i2c_base.specs.Bytes.{AreBytes}
 
 pub record TransferView : Type 0 where
   pub bus : ℕ
@@ -54,6 +55,7 @@ pub record IsTransfer (msgs : List Msg) (out : List ℕ) : Type 0 where
   pub each : All IsMessage msgs
   pub size : sum_by size_of msgs ≤ 4096
   pub written : length out ≡ sum_by written_of msgs
+  pub bytes : AreBytes out
 
 -- one more message at the end, with its bytes
 abbrev pub with_message : TransferView → Msg → List ℕ → TransferView

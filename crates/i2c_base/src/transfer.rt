@@ -1,5 +1,6 @@
 ghost use Rattle.std.specs.Prelude.{◌≡◌, ◌+◌, ◌^◌, ◌<◌, ◌≤◌, ◌↔◌, [], ◌∷◌, ◌++◌, length, sum_by, IsTrue, IsOk, OnOk, OnErr};
 ghost use Rattle.arrayvec.specs.ArrayVec.{array_vec_len};
+ghost use Rattle.i2c_base.specs.Bytes.{AreBytes};
 ghost use Rattle.i2c_base.specs.Transfer.{HasRoom, size_of, counted_read};
 
 use crate::{Addr, MsgFlags};
@@ -235,6 +236,7 @@ fn append(msgs: &mut ArrayVec<Msg, 42>, out: &mut ArrayVec<u8, 4096>, msg: Msg, 
     requires room { array_vec_len out.old + length bytes.now ≤ 4096 }
     ensures msgs { msgs.new.items ≡ msgs.old.items ++ msg ∷ [] }
     ensures out { out.new.items ≡ out.old.items ++ bytes.now }
+    ensures bytes { AreBytes out.old.items → AreBytes out.new.items }
 {
     msgs.push(msg);
     let _ = out.try_extend_from_slice(bytes);

@@ -1,5 +1,5 @@
 -- What the type of a board keeps: the limits of a board file, and that its parts fit each other.
-use Rattle.std.specs.Prelude.{⊤, ◌≡◌, ℕ, ◌+◌, ◌<◌, ◌≤◌, Bool, true, false, List, [], ◌∷◌, length, reverse, Option, Some, None, IsSome, All}
+use Rattle.std.specs.Prelude.{⊤, ◌≡◌, ℕ, ◌+◌, ◌<◌, ◌≤◌, Bool, false, List, [], ◌∷◌, length, reverse, Option, None, IsSome, All}
 use Rattle.i2c_base.specs.declared.board.MuxKind.{MuxKind}
 use Rattle.i2c_base.specs.declared.board.MuxKind.TheVariants.{Pca9548, Pca9546, Pca9544, Pca9541, Gpio}
 use Rattle.i2c_base.specs.declared.board.DeviceKind.{DeviceKind}
@@ -8,6 +8,7 @@ use Rattle.i2c_base.specs.declared.board.Size.{Size}
 use Rattle.i2c_base.specs.declared.board.Size.TheVariants.{C02, C32, C256}
 use Rattle.i2c_base.specs.declared.board.MuxSpec.{MuxSpec}
 use Rattle.i2c_base.specs.Board.{BoardView, DeviceView, RunView}
+use Rattle.i2c_base.specs.Bytes.{AreBytes}
 use Rattle.i2c_spec.specs.Tree.{buses, buses_of}
 
 -- the kind fixes the number of channels, but for a gpio mux
@@ -57,10 +58,11 @@ FitsKind (kind.Lm75 raw) = ⊤
 FitsKind (kind.Regs hold) = hold ≤ 200
 FitsKind (kind.Smbus width flip) = width ≤ 2
 
--- a run has a byte, starts within the memory and doesn't pass its end; so a kind without memory has none
+-- a run has bytes, at least one, starts within the memory and doesn't pass its end; so a kind without memory has none
 pub record IsPlainRun (size : ℕ) (r : RunView) : Type 0 where
   pub some : 0 < length r.bytes
   pub within : r.start + length r.bytes ≤ size
+  pub bytes : AreBytes r.bytes
 
 pub record IsPlainDevice (d : DeviceView) : Type 0 where
   pub kind : FitsKind d.kind

@@ -1,13 +1,12 @@
 -- Which boards are accepted: the five topology rules (after the warnings of Linux i2c-topology), each a sentence
 -- over pairs of items or over single items. Items are the muxes in file order, then the devices.
-use Rattle.std.specs.Prelude.{◌≡◌, ℕ, ◌+◌, ◌-◌, ◌<◌, ◌≤◌, ◌==◌, nat_lt, nat_le, Bool, true, false, not, ◌&&◌, List, [], ◌∷◌, length, reverse, slice_get, Option, Some, None, if◌then◌else◌, unwrap_or}
+use Rattle.std.specs.Prelude.{◌≡◌, ℕ, ◌+◌, ◌-◌, ◌<◌, ◌≤◌, ◌==◌, nat_lt, nat_le, Bool, true, false, not, ◌&&◌, List, [], length, reverse, slice_get, Option, Some, None, if◌then◌else◌}
 use Rattle.std.specs.List.{filter}
 use Rattle.std.specs.Option.{option_map}
 use Rattle.i2c_base.specs.declared.board.MuxKind.{MuxKind}
 use Rattle.i2c_base.specs.declared.board.MuxKind.TheVariants.{Pca9548, Pca9546, Pca9544, Pca9541, Gpio}
 use Rattle.i2c_base.specs.declared.board.Idle.{Idle}
 use Rattle.i2c_base.specs.declared.board.Idle.TheVariants.{Disconnect, AsIs}
-use Rattle.i2c_base.specs.declared.board.LockMode.TheVariants as lock_mode
 use Rattle.i2c_base.specs.declared.rules.Item.{Item}
 use Rattle.i2c_base.specs.declared.rules.Item.TheVariants as item
 use Rattle.i2c_base.specs.declared.rules.RuleBroken.{RuleBroken}

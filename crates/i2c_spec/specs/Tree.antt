@@ -1,6 +1,6 @@
 -- The board as a tree of buses (Linux i2c-topology). Buses are numbered: the roots first, then each mux's
 -- channels, in the order of the board file.
-use Rattle.std.specs.Prelude.{◌≡◌, ℕ, ◌+◌, ◌-◌, ◌<◌, ◌==◌, nat_lt, nat_le, Bool, true, false, ◌||◌, ◌⊎◌, List, [], ◌∷◌, length, map, reverse, Option, None, unwrap_or, slice_get, if◌then◌else◌}
+use Rattle.std.specs.Prelude.{◌≡◌, ℕ, ◌+◌, ◌-◌, ◌==◌, nat_le, Bool, true, false, ◌||◌, ◌⊎◌, List, [], ◌∷◌, length, map, reverse, Option, None, unwrap_or, slice_get, if◌then◌else◌}
 use Rattle.std.specs.Option.{option_map}
 use Rattle.std.specs.List.{sum_by, list_any}
 use Rattle.i2c_base.specs.declared.board.LockMode.{LockMode}

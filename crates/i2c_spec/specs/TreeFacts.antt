@@ -1,6 +1,5 @@
 -- What the laws of the bus take of a board's tree, and nothing else of the board.
 use Rattle.std.specs.Prelude.{◌≡◌, ℕ, ◌<◌, List, [], ◌∷◌, Option, Some, None, length}
-use Rattle.i2c_base.specs.declared.board.MuxKind.TheVariants.{Gpio}
 use Rattle.i2c_base.specs.declared.ids.Node.{Node}
 use Rattle.i2c_base.specs.declared.ids.Node.TheVariants as node
 use Rattle.i2c_base.specs.Board.{BoardView}

@@ -27,8 +27,12 @@ mod state;
 #[cfg(test)]
 mod tests;
 mod topology;
+#[cfg(test)]
+mod transfer_tests;
 mod transfers;
 mod tree;
+#[cfg(test)]
+mod wire_cases;
 #[cfg(test)]
 mod wire_tests;
 mod world;
