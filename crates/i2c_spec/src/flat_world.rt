@@ -66,9 +66,9 @@ fn barred(layout: &Layout<'_>, transfer: &Transfer, cut: Cut) -> Option<Errno>
     }
 }
 
-// A transfer is refused without any step on the bus where the board lacks its bus, where it is plain and its root
-// offers SMBus calls alone, or where the address of one of its messages is busy.
-fn refusal(layout: &Layout<'_>, transfer: &Transfer) -> Option<Errno>
+/// Why a transfer is refused without any step on the bus: ENODEV where the board lacks its bus, EOPNOTSUPP where it is
+/// plain and its root offers SMBus calls alone, EBUSY where the address of one of its messages is busy; else none.
+pub fn refusal(layout: &Layout<'_>, transfer: &Transfer) -> Option<Errno>
     requires { IsPlainBoard (board_of layout.now) }
     ensures { result ≡ spec.refusal (board_of layout.now) transfer.now }
 {
@@ -118,8 +118,10 @@ fn is_busy(grant: Grant) -> bool
     }
 }
 
-// How a message that ended early makes its transfer fail.
-fn errno_of(end: End) -> Option<Errno>
+/// How a message that ended early makes its transfer fail: ENXIO where nobody acknowledged the address, ETIMEDOUT where
+/// the clock was held there too long, EIO where a byte was refused, EPROTO for a bad count, EREMOTEIO where the port
+/// failed (Linux fault-codes); none where it went through.
+pub fn errno_of(end: End) -> Option<Errno>
     ensures { result ≡ spec.errno_of end }
 {
     match end {
@@ -132,8 +134,8 @@ fn errno_of(end: End) -> Option<Errno>
     }
 }
 
-// A transfer that went through: what its reads gave, where one of its messages reads.
-fn done_with(transfer: &Transfer, got: &[u8]) -> Reply
+/// The reply of a transfer that went through: what its reads gave, where one of its messages reads, else Done.
+pub fn done_with(transfer: &Transfer, got: &[u8]) -> Reply
     requires { length got.now ≤ 4096 }
     ensures { result ≡ spec.done_with transfer.now got.now }
 {

@@ -41,7 +41,7 @@ pub use chip::PlainChip;
 pub use conversation::talk;
 pub use fair_targets::{chips_are_fair, openings_are_quiet, regs_are_fair, states_are_fair};
 pub use flat_states::PlainFlat;
-pub use flat_world::flat;
+pub use flat_world::{done_with, errno_of, flat, refusal};
 pub use hop::Hop;
 pub use laws::an_accepted_board_is_a_tree;
 pub use layout::Layout;
