@@ -6,6 +6,7 @@
 
 mod devices;
 mod journals;
+mod next;
 mod targets;
 mod walks;
 mod wrong;
@@ -22,6 +23,7 @@ pub use journals::{
     each_message_finds_its_path_open, each_settle_stands_where_it_is_decided,
     no_caller_exceeds_its_cost, no_message_stands_inside_a_transfer, some_caller_can_go_on,
 };
+pub use next::the_next_message_reaches_its_target;
 pub use targets::each_message_reaches_its_target;
 pub use walks::{
     each_walk_keeps_its_path_open, each_walk_keeps_to_its_cost, each_walk_settles_once,

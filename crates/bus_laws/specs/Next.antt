@@ -1,0 +1,38 @@
+-- What is known of a caller's next step before it is made.
+use Rattle.std.specs.Prelude.{◌≡◌, ℕ, Bool, List, Option, Some, None, is_some, slice_get, if◌then◌else◌}
+use Rattle.i2c_base.specs.declared.ids.Node.{Node}
+use Rattle.i2c_base.specs.declared.ids.Node.TheVariants as node
+use Rattle.i2c_base.specs.Board.{BoardView}
+use Rattle.i2c_base.specs.Transfer.{TransferView}
+use Rattle.i2c_spec.specs.Tree.{root_of}
+use Rattle.i2c_spec.specs.Messages.{MessageView, messages_of}
+use Rattle.i2c_spec.specs.World.{World, has_heard, hearers, answer}
+use Rattle.i2c_spec.specs.Flat.{refusal, granted_on}
+use Rattle.i2c_spec.specs.History.{Asks}
+use Rattle.bus_spec.specs.Walk.{Call, message_of}
+use Rattle.bus_spec.specs.Past.{Now}
+use Rattle.bus_spec.specs.Stepwise.{heard_list}
+use Rattle.bus_spec.specs.Legal.{starts}
+
+-- a device that is granted hears a start where it answers Ack or Slow to it (UM10204 section 3.1.6)
+abbrev pub heard_where : World → Bool → Option ℕ → Option Node
+heard_where w reading None = None
+heard_where w reading (Some d) = if starts (slice_get w.devices d) reading then Some (node.Device d) else None
+
+-- who hears the start of a caller's message: the device that its bus and address grant, or nobody
+abbrev pub who_hears : BoardView → World → ℕ → Bool → ℕ → Bool → Option Node
+who_hears b w bus force addr reading = heard_where w reading (granted_on b bus force addr)
+
+-- a caller's message that comes next is of the transfer that the caller asks for, and this is who will hear it
+pub record WillReach (b : BoardView) (asks : Asks) (n : Now) (c bus : ℕ) (messages : List MessageView) (left : ℕ) : Type 0 where
+  pub transfer : TransferView
+  pub asked : asks c (n.settled c) ≡ Some transfer
+  pub on_bus : transfer.bus ≡ bus
+  pub whole : messages_of transfer ≡ messages
+  pub not_refused : refusal b transfer ≡ None
+  -- in the world of its root, and nobody else does
+  pub heard : hearers (n.worlds (root_of b bus)) (message_of b (Call bus messages) left).addr (message_of b (Call bus messages) left).reading
+      ≡ heard_list (who_hears b (n.worlds (root_of b bus)) bus transfer.force (message_of b (Call bus messages) left).addr (message_of b (Call bus messages) left).reading)
+  -- the answer of the start tells whether somebody does
+  pub answered : has_heard (answer (n.worlds (root_of b bus)) (message_of b (Call bus messages) left).addr (message_of b (Call bus messages) left).reading)
+      ≡ is_some (who_hears b (n.worlds (root_of b bus)) bus transfer.force (message_of b (Call bus messages) left).addr (message_of b (Call bus messages) left).reading)
