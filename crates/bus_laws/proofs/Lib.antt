@@ -56,3 +56,4 @@ pub mod SpentLaw
 pub mod ReadyLaw
 -- What is known of the step that comes next.
 pub mod NextLaw
+pub mod NextEnds

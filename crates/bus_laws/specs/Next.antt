@@ -9,7 +9,7 @@ use Rattle.i2c_spec.specs.Messages.{MessageView, messages_of}
 use Rattle.i2c_spec.specs.World.{World, has_heard, hearers, answer}
 use Rattle.i2c_spec.specs.Flat.{refusal, granted_on}
 use Rattle.i2c_spec.specs.History.{Asks}
-use Rattle.bus_spec.specs.Walk.{Call, message_of}
+use Rattle.bus_spec.specs.Walk.{Call, Ends, message_of}
 use Rattle.bus_spec.specs.Past.{Now}
 use Rattle.bus_spec.specs.Stepwise.{heard_list}
 use Rattle.bus_spec.specs.Legal.{starts}
@@ -36,3 +36,7 @@ pub record WillReach (b : BoardView) (asks : Asks) (n : Now) (c bus : ℕ) (mess
   -- the answer of the start tells whether somebody does
   pub answered : has_heard (answer (n.worlds (root_of b bus)) (message_of b (Call bus messages) left).addr (message_of b (Call bus messages) left).reading)
       ≡ is_some (who_hears b (n.worlds (root_of b bus)) bus transfer.force (message_of b (Call bus messages) left).addr (message_of b (Call bus messages) left).reading)
+
+-- a caller's walk has ended, and it asks for nothing more
+abbrev pub IsDone : Asks → Now → ℕ → Type 0
+IsDone asks n c = (n.walk c ≡ Ends) × (asks c (n.settled c) ≡ None)
