@@ -57,3 +57,4 @@ pub mod ReadyLaw
 -- What is known of the step that comes next.
 pub mod NextLaw
 pub mod NextEnds
+pub mod NextCosts

@@ -24,8 +24,8 @@ pub use journals::{
     no_caller_exceeds_its_cost, no_message_stands_inside_a_transfer, some_caller_can_go_on,
 };
 pub use next::{
-    a_caller_with_no_walk_holds_nothing, a_finished_journal_is_complete, settled_is_replies,
-    the_next_message_reaches_its_target,
+    a_caller_steps_within_its_cost, a_caller_with_no_walk_holds_nothing,
+    a_finished_journal_is_complete, settled_is_replies, the_next_message_reaches_its_target,
 };
 pub use targets::each_message_reaches_its_target;
 pub use walks::{

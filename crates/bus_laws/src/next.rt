@@ -1,7 +1,8 @@
-ghost use Rattle.std.specs.Prelude.{◌≡◌, ℕ, ◌<◌, List, [], Some, None};
+ghost use Rattle.std.specs.Prelude.{◌≡◌, ℕ, ◌<◌, ◌≤◌, List, [], Some, None};
 ghost use Rattle.i2c_base.specs.declared.ids.LockId.{LockId};
 ghost use Rattle.i2c_base.specs.Board.{BoardView};
 ghost use Rattle.i2c_base.specs.declared.entry.Entry.{Entry};
+ghost use Rattle.i2c_base.specs.declared.reply.Reply.{Reply};
 ghost use Rattle.i2c_spec.specs.Plain.{IsPlainBoard};
 ghost use Rattle.i2c_spec.specs.Rules.{MeetsRules};
 ghost use Rattle.i2c_spec.specs.Messages.{MessageView};
@@ -12,7 +13,8 @@ ghost use Rattle.bus_spec.specs.Readings.{holder, replies};
 ghost use Rattle.bus_spec.specs.Stepwise.{IsNext, IsStepwise};
 ghost use Rattle.bus_spec.specs.Legal.{IsComplete};
 ghost use Rattle.bus_laws.specs.Reach.{AsksForMessages};
-ghost use Rattle.bus_laws.specs.Next.{IsDone, WillReach};
+ghost use Rattle.bus_laws.specs.Costs.{spent};
+ghost use Rattle.bus_laws.specs.Next.{CoversCosts, IsDone, KeepsFits, WillReach, steps_by};
 
 use i2c_spec::an_accepted_board_is_a_tree;
 
@@ -55,3 +57,17 @@ pub fn settled_is_replies()
     ensures settled { (b : BoardView) (asks : Asks) (past : List Entry) (c : ℕ) → (now b asks past).settled c ≡ replies past c }
     ensures held { (b : BoardView) (asks : Asks) (past : List Entry) (l : LockId) → (now b asks past).holder l ≡ holder past l }
 {}
+
+/// Where no settle is due, no caller has made more steps than its transfers cost: those that its replies are of, and
+/// the one under way.
+///
+/// A caller's own bound on the steps that it has left, which falls by each transfer's cost, is a bound on the steps of
+/// the whole journal. Here each reply has to fit its transfer.
+pub fn a_caller_steps_within_its_cost()
+    ensures spent { (b : BoardView) (callers : ℕ) (asks : Asks) (past : List Entry) → IsPlainBoard b → MeetsRules b → AsksForMessages asks → IsStepwise b callers asks past
+        → (now b asks past).due ≡ None → (c : ℕ) → steps_by past c ≤ spent b (asks c) [] (replies past c) }
+    ensures left { (b : BoardView) (callers : ℕ) (asks : Asks) (past : List Entry) → IsPlainBoard b → MeetsRules b → AsksForMessages asks → IsStepwise b callers asks past
+        → (now b asks past).due ≡ None → KeepsFits asks past → (c : ℕ) (left : List Reply → ℕ) → CoversCosts b (asks c) left → steps_by past c ≤ left [] }
+{
+    an_accepted_board_is_a_tree();
+}
