@@ -61,8 +61,8 @@ pub fn settled_is_replies()
 /// Where no settle is due, no caller has made more steps than its transfers cost: those that its replies are of, and
 /// the one under way.
 ///
-/// A caller's own bound on the steps that it has left, which falls by each transfer's cost, is a bound on the steps of
-/// the whole journal. Here each reply has to fit its transfer.
+/// Where each reply fits its transfer, they are at most what the caller's own bound says before the first reply, if
+/// that bound falls by each transfer's cost. A settle counts no step of its own.
 pub fn a_caller_steps_within_its_cost()
     ensures spent { (b : BoardView) (callers : ℕ) (asks : Asks) (past : List Entry) → IsPlainBoard b → MeetsRules b → AsksForMessages asks → IsStepwise b callers asks past
         → (now b asks past).due ≡ None → (c : ℕ) → steps_by past c ≤ spent b (asks c) [] (replies past c) }
