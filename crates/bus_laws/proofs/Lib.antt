@@ -54,3 +54,7 @@ pub mod CostLaw
 pub mod SpentLaw
 -- Some caller can always go on.
 pub mod ReadyLaw
+-- What is known of the step that comes next.
+pub mod NextLaw
+pub mod NextEnds
+pub mod NextCosts

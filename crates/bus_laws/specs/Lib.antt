@@ -10,3 +10,5 @@ pub mod Calls
 pub mod Ready
 pub mod Wrong
 pub mod Costs
+-- What is known of the step that comes next.
+pub mod Next

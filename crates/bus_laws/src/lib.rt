@@ -6,6 +6,7 @@
 
 mod devices;
 mod journals;
+mod next;
 mod targets;
 mod walks;
 mod wrong;
@@ -21,6 +22,10 @@ pub use journals::{
     each_caller_walks_its_transfers, each_journal_keeps_its_locks, each_journal_tells_its_ports,
     each_message_finds_its_path_open, each_settle_stands_where_it_is_decided,
     no_caller_exceeds_its_cost, no_message_stands_inside_a_transfer, some_caller_can_go_on,
+};
+pub use next::{
+    a_caller_steps_within_its_cost, a_caller_with_no_walk_holds_nothing,
+    a_finished_journal_is_complete, settled_is_replies, the_next_message_reaches_its_target,
 };
 pub use targets::each_message_reaches_its_target;
 pub use walks::{

@@ -1,0 +1,69 @@
+-- What is known of a caller's next step before it is made, and of the steps that it has made.
+use Rattle.std.specs.Prelude.{◌≡◌, ℕ, ◌+◌, ◌≤◌, ◌==◌, Bool, ◌&&◌, List, [], ◌∷◌, ◌++◌, Option, Some, None, is_some, slice_get, if◌then◌else◌}
+use Rattle.i2c_base.specs.declared.ids.Node.{Node}
+use Rattle.i2c_base.specs.declared.ids.Node.TheVariants as node
+use Rattle.i2c_base.specs.declared.entry.Entry.{Entry}
+use Rattle.i2c_base.specs.declared.entry.Entry.TheVariants as entry
+use Rattle.i2c_base.specs.declared.reply.Reply.{Reply}
+use Rattle.i2c_base.specs.Board.{BoardView}
+use Rattle.i2c_base.specs.Fitting.{Fits}
+use Rattle.i2c_base.specs.Transfer.{TransferView}
+use Rattle.i2c_spec.specs.Tree.{root_of}
+use Rattle.i2c_spec.specs.Messages.{MessageView, messages_of}
+use Rattle.i2c_spec.specs.World.{World, has_heard, hearers, answer}
+use Rattle.i2c_spec.specs.Flat.{refusal, granted_on}
+use Rattle.i2c_spec.specs.History.{Asks}
+use Rattle.i2c_spec.specs.Cost.{cost_of}
+use Rattle.bus_spec.specs.Walk.{Call, Ends, message_of}
+use Rattle.bus_spec.specs.Readings.{caller_of, replies, Everywhere}
+use Rattle.bus_spec.specs.Past.{Now}
+use Rattle.bus_spec.specs.Stepwise.{heard_list}
+use Rattle.bus_spec.specs.Legal.{starts}
+use Rattle.bus_laws.specs.Costs.{is_step}
+
+-- a device that is granted hears a start where it answers Ack or Slow to it (UM10204 section 3.1.6)
+abbrev pub heard_where : World → Bool → Option ℕ → Option Node
+heard_where w reading None = None
+heard_where w reading (Some d) = if starts (slice_get w.devices d) reading then Some (node.Device d) else None
+
+-- who hears the start of a caller's message: the device that its bus and address grant, or nobody
+abbrev pub who_hears : BoardView → World → ℕ → Bool → ℕ → Bool → Option Node
+who_hears b w bus force addr reading = heard_where w reading (granted_on b bus force addr)
+
+-- a caller's message that comes next is of the transfer that the caller asks for, and this is who will hear it
+pub record WillReach (b : BoardView) (asks : Asks) (n : Now) (c bus : ℕ) (messages : List MessageView) (left : ℕ) : Type 0 where
+  pub transfer : TransferView
+  pub asked : asks c (n.settled c) ≡ Some transfer
+  pub on_bus : transfer.bus ≡ bus
+  pub whole : messages_of transfer ≡ messages
+  pub not_refused : refusal b transfer ≡ None
+  -- in the world of its root, and nobody else does
+  pub heard : hearers (n.worlds (root_of b bus)) (message_of b (Call bus messages) left).addr (message_of b (Call bus messages) left).reading
+      ≡ heard_list (who_hears b (n.worlds (root_of b bus)) bus transfer.force (message_of b (Call bus messages) left).addr (message_of b (Call bus messages) left).reading)
+  -- the answer of the start tells whether somebody does
+  pub answered : has_heard (answer (n.worlds (root_of b bus)) (message_of b (Call bus messages) left).addr (message_of b (Call bus messages) left).reading)
+      ≡ is_some (who_hears b (n.worlds (root_of b bus)) bus transfer.force (message_of b (Call bus messages) left).addr (message_of b (Call bus messages) left).reading)
+
+-- a caller's walk has ended, and it asks for nothing more
+abbrev pub IsDone : Asks → Now → ℕ → Type 0
+IsDone asks n c = (n.walk c ≡ Ends) × (asks c (n.settled c) ≡ None)
+
+-- how many steps a caller has made; a settle belongs to the step before it
+abbrev pub steps_by : List Entry → ℕ → ℕ
+steps_by [] c = 0
+steps_by (e ∷ past) c = (if (caller_of e == c) && is_step e then 1 else 0) + steps_by past c
+
+-- each reply is one that the transfer may get which its caller asked for
+abbrev pub FitsAt : Asks → Entry → List Entry → Type 0
+FitsAt asks (entry.Settle c r cut) past = (t : TransferView) → asks c (replies past c) ≡ Some t → Fits t r
+FitsAt asks (entry.Take c l) past = Unit {0}
+FitsAt asks (entry.Free c l) past = Unit {0}
+FitsAt asks (entry.Message c bus purpose part parts addr reading bytes heard e) past = Unit {0}
+FitsAt asks (entry.Line c mux level failed) past = Unit {0}
+
+abbrev pub KeepsFits : Asks → List Entry → Type 0
+KeepsFits asks past = Everywhere (FitsAt asks) past
+
+-- a caller's own bound on the steps that it has left covers each transfer's cost, and falls by it with the reply
+abbrev pub CoversCosts : BoardView → (List Reply → Option TransferView) → (List Reply → ℕ) → Type 0
+CoversCosts b asks left = (rs : List Reply) (t : TransferView) (r : Reply) → asks rs ≡ Some t → Fits t r → left (rs ++ r ∷ []) + cost_of b t ≤ left rs
