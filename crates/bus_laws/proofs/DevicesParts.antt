@@ -1,9 +1,9 @@
 -- The messages of a transfer, one after the other. The inductions go over the messages.
 use Rattle.std.proofs.Common.{◌≡◌, ℕ, suc, ◌+◌, ◌<◌, Bool, true, false, cond, ◌&&◌, List, [], ◌∷◌, ◌++◌, length, Option, refl, sym, ◌∙◌, ap, subst, arith, add-zero, zero-add, append-nil, inl, inr}
-use Rattle.std.specs.List.{AllByRecursion}
 use Rattle.i2c_base.specs.declared.entry.End.{End}
 use Rattle.i2c_base.specs.declared.entry.End.TheVariants as end
 use Rattle.i2c_base.specs.Board.{BoardView}
+use Rattle.i2c_base.specs.Bytes.{AreBytes}
 use Rattle.i2c_base.specs.declared.reply.Cut.{Cut}
 use Rattle.i2c_base.specs.Transfer.{TransferView}
 use Rattle.i2c_spec.specs.Targets.{TargetState}
@@ -11,7 +11,7 @@ use Rattle.i2c_spec.specs.Messages.{MessageView, messages_of}
 use Rattle.i2c_spec.specs.World.{World}
 use Rattle.i2c_spec.specs.Flat.{FlatListener, idle, flat_listener, granted_on, block_limit, cut_in, flat_messages}
 use Rattle.i2c_spec.specs.Conversation.{Listener, world_listener, TalkTold, AllTold, talk, talk_all, is_empty, is_good, with_read}
-use Rattle.bus_laws.specs.Alike.{Same, LeadsTo, IsByte, ToldAlike, talk_part, talk_more, GrowsAlike, EndsTransfer}
+use Rattle.bus_laws.specs.Alike.{Same, LeadsTo, ToldAlike, talk_part, talk_more, GrowsAlike, EndsTransfer}
 use Rattle.bus_laws.proofs.DevicesSame.{message-alike}
 
 and_true : (t : Bool) → (t && true) ≡ t
@@ -134,7 +134,7 @@ module _ {W : Type 0} (l : Listener W) (limit : ℕ) (cuts : ℕ → Option ℕ)
           ∙ ap (λ (g : Bool). cond g (talk_part l limit t.now ms false (i + 1) cuts (with_read got m t)) (all_told got m t t.end)) (sym ended)
 
 grown : (b : BoardView) (r : ℕ) (m : MessageView) (granted : ℕ → Option ℕ) (limit : ℕ) (w : World) (ends : Bool) (cut : Option ℕ) (a : AllTold FlatListener) → is_good a.end ≡ true
-    → Same b r w a.now → LeadsTo w m.addr (granted m.addr) → AllByRecursion IsByte m.bytes
+    → Same b r w a.now → LeadsTo w m.addr (granted m.addr) → AreBytes m.bytes
     → GrowsAlike b r m a (talk world_listener limit w m ends cut) (talk_more (flat_listener granted) limit m ends cut a)
 grown b r m granted limit w ends cut a good same leads bytes =
     let t : TalkTold World = talk world_listener limit w m ends cut in
@@ -150,7 +150,7 @@ grown b r m granted limit w ends cut a good same leads bytes =
 pub part-grows : (b : BoardView) (r : ℕ) (granted : ℕ → Option ℕ) (limit : ℕ) (f : FlatListener) (ms : List MessageView) (cuts : ℕ → Option ℕ) (w : World) (m : MessageView) (ends : Bool)
     → is_good (talk_part (flat_listener granted) limit f ms false 0 cuts []).end ≡ true
     → Same b r w (talk_part (flat_listener granted) limit f ms false 0 cuts []).now
-    → LeadsTo w m.addr (granted m.addr) → AllByRecursion IsByte m.bytes
+    → LeadsTo w m.addr (granted m.addr) → AreBytes m.bytes
     → GrowsAlike b r m (talk_part (flat_listener granted) limit f ms false 0 cuts []) (talk world_listener limit w m ends (cuts (length ms)))
     (talk_part (flat_listener granted) limit f (ms ++ m ∷ []) ends 0 cuts [])
 part-grows b r granted limit f ms cuts w m ends good same leads bytes =
