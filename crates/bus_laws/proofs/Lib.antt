@@ -42,6 +42,7 @@ pub mod DevicesFlat
 -- Whom each message of a journal reaches.
 pub mod DevicesReach
 pub mod WalkCalls
+pub mod WalkFirst
 pub mod AskedLaws
 pub mod DevicesPast
 -- No other message stands inside a transfer.
