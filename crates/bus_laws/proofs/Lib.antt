@@ -49,6 +49,8 @@ pub mod DevicesPast
 pub mod WholeLaw
 pub mod PlacedLaw
 pub mod WalksLaw
+-- What a settle decides is what the flat world answers.
+pub mod VerdictLaw
 pub mod LegalLaw
 -- No walk has more steps than its cost.
 pub mod CostLaw
