@@ -47,6 +47,7 @@ pub mod AskedLaws
 pub mod DevicesPast
 -- No other message stands inside a transfer.
 pub mod WholeLaw
+pub mod FirstLaw
 pub mod PlacedLaw
 pub mod WalksLaw
 -- What a settle decides is what the flat world answers.

@@ -1,0 +1,225 @@
+-- A caller whose messages come next is inside already, or sends its first one, and has read nothing yet. The induction
+-- goes over the entries.
+use Rattle.std.proofs.Common.{◌≡◌, ℕ, Bool, true, false, cond, List, [], ◌∷◌, Option, Some, None, refl, sym, ◌∙◌, ap, subst, ◌⊎◌, inl, inr}
+use Rattle.std.proofs.lemmas.Bool.Decides.{eqb_tells}
+use Rattle.i2c_base.specs.declared.ids.LockId.TheVariants as lock
+use Rattle.i2c_base.specs.declared.entry.End.{End}
+use Rattle.i2c_base.specs.declared.entry.Entry.{Entry}
+use Rattle.i2c_base.specs.declared.entry.Entry.TheVariants as entry
+use Rattle.i2c_base.specs.declared.entry.Purpose.{Purpose}
+use Rattle.i2c_base.specs.Board.{BoardView}
+use Rattle.i2c_base.specs.Transfer.{TransferView}
+use Rattle.i2c_spec.specs.Tree.{root_of}
+use Rattle.i2c_spec.specs.TreeFacts.{IsTree}
+use Rattle.i2c_spec.specs.Plain.{IsPlainBoard}
+use Rattle.i2c_spec.specs.Messages.{MessageView}
+use Rattle.i2c_spec.specs.History.{Asks, changed_at}
+use Rattle.bus_spec.specs.Walk.{Job, Call, Select, Clear, Act, Take, Free, Send, Shift, Settle, ActOutcome, Passed, Sent, Lined, Note, WalkTree, Ends, Look, Then, job_bus, job_purpose, more_of}
+use Rattle.bus_spec.specs.Grammar.{walk_for, seen, is_over, first_act, first_note, rest_of}
+use Rattle.bus_spec.specs.Readings.{is_call}
+use Rattle.bus_spec.specs.Past.{Now, begun, current, step, now, is_due, inside_after, got_after, sent, sent_by, lined_by, with_due, moved, talk_of}
+use Rattle.bus_spec.specs.Stepwise.{IsNext, May, IsStepwise}
+use Rattle.bus_laws.specs.Runs.{InLocks}
+use Rattle.bus_laws.specs.Lines.{LinesAreLocked}
+use Rattle.bus_laws.specs.Reach.{AsksForMessages}
+use Rattle.bus_laws.specs.Settles.{Settles}
+use Rattle.bus_laws.specs.Calls.{IsAsked}
+use Rattle.bus_laws.proofs.StandsStep.{at_same, at_other}
+use Rattle.bus_laws.proofs.StandsEntries.{first_is}
+use Rattle.bus_laws.proofs.AskedLaws.{current-asked, past-asked}
+use Rattle.bus_laws.proofs.WalkFirst.{FirstCalls, settled-first, walk-first, first_seen}
+use Rattle.bus_laws.proofs.WholeLaw.{AreInside, IsInside, Between, past-inside, some_is, alone, sent_rooted, inside_next, other_caller, entry_between}
+
+-- a caller is inside, or its walk sends the first of its messages first; then it has read nothing, or its settle is due
+abbrev pub Stage : Now → ℕ → Type 0
+Stage n c = ((r : ℕ) × (n.inside r ≡ Some c)) ⊎ (FirstCalls (n.walk c) × ((n.got c ≡ []) ⊎ (n.due ≡ Some c)))
+
+-- behind a settle no message is sent
+settle_first : (w : WalkTree) (done : Bool) (verdict : _) → Settles done w → first_act w ≡ Some (Settle verdict) → FirstCalls w
+settle_first w done verdict h first =
+    let at = first_is w (Settle verdict) first in
+    let s : Settles done (Then (Settle verdict) at.0 at.1) = subst (λ (x : WalkTree). Settles done x) at.2 h in
+    subst (λ (x : WalkTree). FirstCalls x) (sym at.2) (settled-first (at.1 Passed) s.2)
+
+due_settles : (o : Option Act) → is_due o ≡ true → (verdict : _) × (o ≡ Some (Settle verdict))
+due_settles None e = absurd (let f : false ≡ true = e in cc)
+due_settles (Some (Settle verdict)) e = (verdict, refl)
+due_settles (Some (Take l)) e = absurd (let f : false ≡ true = e in cc)
+due_settles (Some (Free l)) e = absurd (let f : false ≡ true = e in cc)
+due_settles (Some (Send job left)) e = absurd (let f : false ≡ true = e in cc)
+due_settles (Some (Shift job)) e = absurd (let f : false ≡ true = e in cc)
+
+begun_first : (b : BoardView) (o : Option TransferView) → FirstCalls (begun b o)
+begun_first b None = tt
+begun_first b (Some t) = walk-first b t
+
+module _ (b : BoardView) (tree : IsTree b) (plain : IsPlainBoard b) (lines : LinesAreLocked b) (asks : Asks) (some : AsksForMessages asks) (callers : ℕ)
+    (past : List Entry) (steps : IsStepwise b callers asks past) where
+  abbrev n : Now
+  n = now b asks past
+
+  inside : AreInside b n
+  inside = past-inside b tree plain lines asks some callers past steps
+
+  asked : (d : ℕ) → IsAsked b asks d (current b asks n d) (n.settled d)
+  asked d = current-asked b asks some n (past-asked b asks some callers past steps) d
+
+  -- what is left of a walk settles as the whole
+  rest_settles : (d : ℕ) (act : Act) (first : IsNext b asks n d act)
+      → (note : Note) × (next : ActOutcome → WalkTree) × (current b asks n d ≡ Then act note next) × Settles (asked d).done (Then act note next)
+  rest_settles d act first =
+      let at = first_is (current b asks n d) act first in
+      (at.0, at.1, at.2, subst (λ (w : WalkTree). Settles (asked d).done w) at.2 (asked d).settles)
+
+  -- who does something else is not inside
+  pub not_inside : (d : ℕ) (act : Act) → IsNext b asks n d act → ((bus : ℕ) (ms : List MessageView) (left : ℕ) → act ≡ Send (Call bus ms) left → ⊥) → (r : ℕ) → n.inside r ≡ Some d → ⊥
+  not_inside d act next no_call r is =
+      other_caller b tree plain lines asks some callers past steps inside r d d act is next (λ bus ms left e root_is. no_call bus ms left e) refl
+
+  module _ (stage : (c : ℕ) → Stage n c) where
+    seen_first : (d : ℕ) → FirstCalls (n.walk d) → (t : Bool) → FirstCalls (seen n.slot (cond t (begun b (asks d (n.settled d))) (n.walk d)))
+    seen_first d f true = first_seen n.slot (begun b (asks d (n.settled d))) (begun_first b (asks d (n.settled d)))
+    seen_first d f false = first_seen n.slot (n.walk d) f
+
+    stage_next : (d : ℕ) → n.due ≡ None → ((r : ℕ) → n.inside r ≡ Some d → ⊥) → FirstCalls (current b asks n d) × (n.got d ≡ [])
+    stage_next d none outside =
+        elim (stage d) [
+          | inl i ↦ absurd (outside i.0 i.1)
+          | inr f ↦ (seen_first d f.0 (is_over (n.walk d)), elim f.1 [ inl e ↦ e | inr due ↦ absurd (let g : None ≡ Some d = sym none ∙ due in cc) ])
+        ]
+
+    -- a message of the caller's comes next
+    pub call_first : (d bus : ℕ) (ms : List MessageView) (left : ℕ) → n.due ≡ None → IsNext b asks n d (Send (Call bus ms) left)
+        → (n.inside (root_of b bus) ≡ Some d) ⊎ ((left ≡ more_of (Call bus ms)) × (n.got d ≡ []))
+    call_first d bus ms left none next =
+        elim (stage d) [
+          | inl i ↦ (let mine = inside i.0 d i.1 in
+              let act : Send (Call bus ms) left ≡ Send (Call mine.bus mine.messages) mine.left =
+              some_is (Send (Call bus ms) left) (Send (Call mine.bus mine.messages) mine.left) (sym next ∙ inside_next b tree plain lines asks some callers past steps inside i.0 d i.1) in
+              let same : bus ≡ mine.bus = (let f : Send (Call bus ms) left ≡ Send (Call mine.bus mine.messages) mine.left = act in cc) in
+              inl (ap (λ (k : ℕ). n.inside k) (ap (λ (s : ℕ). root_of b s) same ∙ mine.root) ∙ i.1))
+          | inr f ↦ inr (is_first f.0, elim f.1 [ inl e ↦ e | inr due ↦ absurd (let g : None ≡ Some d = sym none ∙ due in cc) ])
+        ]
+      where
+        is_first : FirstCalls (n.walk d) → left ≡ more_of (Call bus ms)
+        is_first f =
+            let at = first_is (current b asks n d) (Send (Call bus ms) left) next in
+            let firsts : FirstCalls (Then (Send (Call bus ms) left) at.0 at.1) = subst (λ (w : WalkTree). FirstCalls w) at.2 (seen_first d f (is_over (n.walk d))) in
+            firsts
+
+    -- ONE STEP of d
+    -- the others stay
+    others_stay : (d : ℕ) (m : Now) → ((c : ℕ) → (c ≡ d → ⊥) → m.walk c ≡ n.walk c) → ((c : ℕ) → (c ≡ d → ⊥) → m.got c ≡ n.got c)
+        → ((r c : ℕ) → (c ≡ d → ⊥) → n.inside r ≡ Some c → m.inside r ≡ Some c) → ((c : ℕ) → (c ≡ d → ⊥) → n.due ≡ Some c → ⊥) → Stage m d → (c : ℕ) → Stage m c
+    others_stay d m walks gots insides dues own c =
+        elim (eqb_tells c d) [
+          | inl h ↦ subst (λ (i : ℕ). Stage m i) (sym h.1) own
+          | inr h ↦ elim (stage c) [
+            | inl i ↦ inl (i.0, insides i.0 c h.1 i.1)
+            | inr f ↦ inr (subst (λ (w : WalkTree). FirstCalls w) (sym (walks c h.1)) f.0,
+              elim f.1 [ inl e ↦ inl (gots c h.1 ∙ e) | inr due ↦ absurd (dues c h.1 due) ])
+          ]
+        ]
+
+    none_due : n.due ≡ None → (d c : ℕ) → (c ≡ d → ⊥) → n.due ≡ Some c → ⊥
+    none_due none d c ne due = (let g : None ≡ Some c = sym none ∙ due in cc)
+
+    -- of a step that leaves the bytes that were read, and isn't a caller's message
+    own_stage : (d : ℕ) (m : Now) (act : Act) (out : ActOutcome) → n.due ≡ None → (next : IsNext b asks n d act) → ((bus : ℕ) (ms : List MessageView) (left : ℕ) → act ≡ Send (Call bus ms) left → ⊥)
+        → ((note : Note) (rest : ActOutcome → WalkTree) → FirstCalls (Then act note rest) → FirstCalls (rest out))
+        → m.walk d ≡ rest_of (current b asks n d) out → m.got d ≡ n.got d → Stage m d
+    own_stage d m act out none next no_call leads walk got =
+        let f = stage_next d none (λ r is. not_inside d act next no_call r is) in
+        let at = first_is (current b asks n d) act next in
+        inr (
+          subst (λ (w : WalkTree). FirstCalls w) (sym walk)
+              (subst (λ (w : WalkTree). FirstCalls (rest_of w out)) (sym at.2) (leads at.0 at.1 (subst (λ (w : WalkTree). FirstCalls w) at.2 f.0))),
+          inl (got ∙ f.1),
+        )
+
+    -- of a message
+    abbrev sent_now : ℕ → Job → ℕ → Bool → List ℕ → End → Entry → Now
+    sent_now d job left reading bytes e x =
+        with_due d (moved b asks n (sent b n d job left (first_note (current b asks n d)) reading bytes e (talk_of b n job left e)) d x (Sent e bytes))
+
+    sent_others : (d : ℕ) (job : Job) (left : ℕ) (reading : Bool) (bytes : List ℕ) (e : End) (x : Entry) → n.due ≡ None → IsNext b asks n d (Send job left)
+        → Stage (sent_now d job left reading bytes e x) d → (c : ℕ) → Stage (sent_now d job left reading bytes e x) c
+    sent_others d job left reading bytes e x none next own c =
+        others_stay d (sent_now d job left reading bytes e x) (λ i ne. at_other n.walk d (rest_of (current b asks n d) (Sent e bytes)) i ne)
+        (λ i ne. at_other n.got d (got_after job reading bytes (n.got d)) i ne)
+        (λ r i ne is. at_other n.inside (root_of b (job_bus job)) (inside_after job left (Sent e bytes) d (n.inside (root_of b (job_bus job)))) r
+        (λ same. ne (alone b tree plain lines asks some callers past steps d i (lock.Bus (root_of b (job_bus job)))
+        (sent_rooted b tree plain lines asks some callers past steps d job left next) (subst (λ (k : ℕ). InLocks (lock.Bus k) (n.held i)) same (inside r i is).locked))) ∙ is)
+        (none_due none d) own c
+
+    own_control : (d : ℕ) (job : Job) (left : ℕ) (reading : Bool) (bytes : List ℕ) (e : End) (x : Entry) → n.due ≡ None → IsNext b asks n d (Send job left)
+        → (is_call (job_purpose job) ≡ true → Stage (sent_now d job left reading bytes e x) d) → Stage (sent_now d job left reading bytes e x) d
+    own_control d (Call bus ms) left reading bytes e x none next own = own refl
+    own_control d (Select h) left reading bytes e x none next own =
+        own_stage d (sent_now d (Select h) left reading bytes e x) (Send (Select h) left) (Sent e bytes) none next
+        (λ bus ms k f. let g : Send (Select h) left ≡ Send (Call bus ms) k = f in cc) (λ note rest f. f e bytes)
+        (at_same n.walk d (rest_of (current b asks n d) (Sent e bytes))) (at_same n.got d (n.got d))
+    own_control d (Clear on mux kind) left reading bytes e x none next own =
+        own_stage d (sent_now d (Clear on mux kind) left reading bytes e x) (Send (Clear on mux kind) left) (Sent e bytes) none next
+        (λ bus ms k f. let g : Send (Clear on mux kind) left ≡ Send (Call bus ms) k = f in cc) (λ note rest f. f e bytes)
+        (at_same n.walk d (rest_of (current b asks n d) (Sent e bytes))) (at_same n.got d (n.got d))
+
+    step_stage : (x : Entry) → May b callers asks n x → (c : ℕ) → Stage (step b asks n x) c
+    step_stage (entry.Take d l) may =
+        others_stay d (step b asks n (entry.Take d l)) (λ i ne. at_other n.walk d (rest_of (current b asks n d) Passed) i ne) (λ i ne. refl) (λ r i ne is. is) (none_due may.1 d)
+        (own_stage d (step b asks n (entry.Take d l)) (Take l) Passed may.1 may.2 (λ bus ms left f. let g : Take l ≡ Send (Call bus ms) left = f in cc) (λ note rest f. f)
+        (at_same n.walk d (rest_of (current b asks n d) Passed)) refl)
+    step_stage (entry.Free d l) may =
+        others_stay d (step b asks n (entry.Free d l)) (λ i ne. at_other n.walk d (rest_of (current b asks n d) Passed) i ne) (λ i ne. refl) (λ r i ne is. is) (none_due may.1 d)
+        (own_stage d (step b asks n (entry.Free d l)) (Free l) Passed may.1 may.2 (λ bus ms left f. let g : Free l ≡ Send (Call bus ms) left = f in cc) (λ note rest f. f)
+        (at_same n.walk d (rest_of (current b asks n d) Passed)) refl)
+    step_stage (entry.Settle d r cut) may =
+        let s = rest_settles d (Settle may.2) may.3 in
+        others_stay d (step b asks n (entry.Settle d r cut)) (λ i ne. at_other n.walk d (rest_of (current b asks n d) Passed) i ne) (λ i ne. at_other n.got d [] i ne) (λ k i ne is. is)
+        (λ i ne due. elim may.1 [
+          | inl none ↦ (let f : None ≡ Some i = sym none ∙ due in cc)
+          | inr mine ↦ ne (some_is i d (sym due ∙ mine))
+        ])
+        (inr (
+          subst (λ (w : WalkTree). FirstCalls w) (sym (at_same n.walk d (rest_of (current b asks n d) Passed) ∙ ap (λ (w : WalkTree). rest_of w Passed) s.2)) (settled-first (s.1 Passed) s.3.2),
+          inl (at_same n.got d []),
+        ))
+    step_stage (entry.Line d mux level failed) may =
+        subst (λ (o : Option Act). (c : ℕ) → Stage (with_due d (moved b asks n (lined_by b n o (first_note (current b asks n d)) failed) d (entry.Line d mux level failed) (Lined failed))) c) (sym may.3)
+        (others_stay d (with_due d (moved b asks n (lined_by b n (Some (Shift may.2)) (first_note (current b asks n d)) failed) d (entry.Line d mux level failed) (Lined failed)))
+        (λ i ne. at_other n.walk d (rest_of (current b asks n d) (Lined failed)) i ne) (λ i ne. refl) (λ r i ne is. is) (none_due may.1 d)
+        (own_stage d (with_due d (moved b asks n (lined_by b n (Some (Shift may.2)) (first_note (current b asks n d)) failed) d (entry.Line d mux level failed) (Lined failed)))
+        (Shift may.2) (Lined failed) may.1 may.3 (λ bus ms left f. let g : Shift may.2 ≡ Send (Call bus ms) left = f in cc) (λ note rest f. f failed)
+        (at_same n.walk d (rest_of (current b asks n d) (Lined failed))) refl))
+    step_stage (entry.Message d bus purpose part parts addr reading bytes heard e) may =
+        subst (λ (o : Option Act). (c : ℕ) → Stage (with_due d (moved b asks n (sent_by b n d o (first_note (current b asks n d)) reading bytes e) d (entry.Message d bus purpose part parts addr reading bytes heard e) (Sent e bytes))) c) (sym may.4)
+        (sent_others d may.2 may.3 reading bytes e (entry.Message d bus purpose part parts addr reading bytes heard e) may.1 may.4
+        (own_control d may.2 may.3 reading bytes e (entry.Message d bus purpose part parts addr reading bytes heard e) may.1 may.4
+        (λ call. own_call (entry_between b tree plain lines asks some callers past steps d bus purpose part parts addr reading bytes heard e may (ap is_call may.5.for_purpose ∙ call)))))
+      where
+        rest_first : (t : Bool) → is_due (first_act (changed_at n.walk d (rest_of (current b asks n d) (Sent e bytes)) d)) ≡ t → cond t (Some d) None ≡ Some d
+            → FirstCalls (changed_at n.walk d (rest_of (current b asks n d) (Sent e bytes)) d)
+        rest_first false due same = absurd (let f : None ≡ Some d = same in cc)
+        rest_first true due same =
+            let v = due_settles (first_act (changed_at n.walk d (rest_of (current b asks n d) (Sent e bytes)) d)) due in
+            let s = rest_settles d (Send may.2 may.3) may.4 in
+            settle_first (changed_at n.walk d (rest_of (current b asks n d) (Sent e bytes)) d) (asked d).done v.0
+            (subst (λ (w : WalkTree). Settles (asked d).done w) (sym (at_same n.walk d (rest_of (current b asks n d) (Sent e bytes)) ∙ ap (λ (w : WalkTree). rest_of w (Sent e bytes)) s.2))
+            (s.3.1 e bytes).1) v.1
+
+        own_call : Between (step b asks n (entry.Message d bus purpose part parts addr reading bytes heard e)) d (root_of b bus) → Stage (sent_now d may.2 may.3 reading bytes e (entry.Message d bus purpose part parts addr reading bytes heard e)) d
+        own_call between =
+            let known : Between (sent_now d may.2 may.3 reading bytes e (entry.Message d bus purpose part parts addr reading bytes heard e)) d (root_of b bus) =
+            subst (λ (o : Option Act). Between (with_due d (moved b asks n (sent_by b n d o (first_note (current b asks n d)) reading bytes e) d (entry.Message d bus purpose part parts addr reading bytes heard e) (Sent e bytes))) d (root_of b bus))
+            may.4 between in
+            elim known [
+              | inl is ↦ inl (root_of b bus, is)
+              | inr due ↦ inr (rest_first (is_due (first_act (changed_at n.walk d (rest_of (current b asks n d) (Sent e bytes)) d))) refl due, inr due)
+            ]
+
+-- THE INDUCTION
+pub past-stage : (b : BoardView) → IsTree b → IsPlainBoard b → LinesAreLocked b → (asks : Asks) → AsksForMessages asks → (callers : ℕ) (past : List Entry) → IsStepwise b callers asks past
+    → (c : ℕ) → Stage (now b asks past) c
+past-stage b tree plain lines asks some callers [] steps = λ c. inr (tt, inl refl)
+past-stage b tree plain lines asks some callers (e ∷ past) steps =
+    step_stage b tree plain lines asks some callers past steps.1 (past-stage b tree plain lines asks some callers past steps.1) e steps.0
