@@ -13,6 +13,7 @@ use Rattle.i2c_spec.specs.Flat.{FlatListener, idle, flat_listener, granted_on, b
 use Rattle.i2c_spec.specs.Conversation.{Listener, world_listener, TalkTold, AllTold, talk, talk_all, is_empty, is_good, with_read}
 use Rattle.bus_laws.specs.Alike.{Same, LeadsTo, ToldAlike, talk_part, talk_more, GrowsAlike, EndsTransfer}
 use Rattle.bus_laws.proofs.DevicesSame.{message-alike}
+use Rattle.bus_laws.proofs.DevicesStops.{flat-settled}
 
 and_true : (t : Bool) → (t && true) ≡ t
 and_true true = refl
@@ -157,6 +158,19 @@ part-grows b r granted limit f ms cuts w m ends good same leads bytes =
     subst (λ (a : AllTold FlatListener). GrowsAlike b r m (talk_part (flat_listener granted) limit f ms false 0 cuts []) (talk world_listener limit w m ends (cuts (length ms))) a)
     (sym (part-more (flat_listener granted) limit cuts f ms m ends 0 [] ∙ ap (λ (n : ℕ). talk_more (flat_listener granted) limit m ends (cuts n) (talk_part (flat_listener granted) limit f ms false 0 cuts [])) (zero-add (length ms))))
     (grown b r m granted limit w ends (cuts (length ms)) (talk_part (flat_listener granted) limit f ms false 0 cuts []) good same leads bytes)
+
+-- behind the message that ends a transfer the flat world is idle
+pub part-idle : (granted : ℕ → Option ℕ) (limit : ℕ) (f : FlatListener) (ms : List MessageView) (cuts : ℕ → Option ℕ) (m : MessageView) (ends : Bool)
+    → is_good (talk_part (flat_listener granted) limit f ms false 0 cuts []).end ≡ true
+    → EndsTransfer ends (talk_part (flat_listener granted) limit f (ms ++ m ∷ []) ends 0 cuts []).end
+    → (talk_part (flat_listener granted) limit f (ms ++ m ∷ []) ends 0 cuts []).now ≡ idle (talk_part (flat_listener granted) limit f (ms ++ m ∷ []) ends 0 cuts []).now.states
+part-idle granted limit f ms cuts m ends good =
+    let a : AllTold FlatListener = talk_part (flat_listener granted) limit f ms false 0 cuts [] in
+    let u : TalkTold FlatListener = talk (flat_listener granted) limit a.now m ends (cuts (0 + length ms)) in
+    subst (λ (x : AllTold FlatListener). EndsTransfer ends x.end → x.now ≡ idle x.now.states)
+    (sym (part-more (flat_listener granted) limit cuts f ms m ends 0 []
+    ∙ ap (λ (g : Bool). cond g (record { bytes = with_read a.bytes m u; now = u.now; end = u.end }) a) good))
+    (λ over. flat-settled granted limit a.now m ends (cuts (0 + length ms)) over)
 
 -- the messages that were said, up to the one that ended the transfer, are the whole transfer in the flat world
 pub part-whole : (b : BoardView) (xs : List TargetState) (t : TransferView) (cut : Cut) (cuts : ℕ → Option ℕ) (ms rest : List MessageView)
