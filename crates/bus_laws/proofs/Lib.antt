@@ -39,6 +39,7 @@ pub mod DevicesStops
 pub mod DevicesParts
 pub mod DevicesStay
 pub mod DevicesFlat
+pub mod MessageFacts
 pub mod DevicesSaid
 -- Whom each message of a journal reaches.
 pub mod DevicesReach
