@@ -17,7 +17,7 @@ use Rattle.i2c_spec.specs.TreeFacts.{IsTree}
 use Rattle.i2c_spec.specs.Plain.{IsPlainBoard}
 use Rattle.i2c_spec.specs.Messages.{MessageView}
 use Rattle.i2c_spec.specs.History.{Asks, changed_at}
-use Rattle.bus_spec.specs.Walk.{Mark, Job, Call, Select, Clear, Act, Take, Free, Send, Shift, Settle, ActOutcome, Passed, Sent, Lined, WalkTree, Ends, Look, Then, goes, verdict_of, job_bus, job_purpose, line_mux}
+use Rattle.bus_spec.specs.Walk.{Mark, Job, Call, Select, Clear, Act, Take, Free, Send, Shift, Settle, ActOutcome, Passed, Sent, Lined, WalkTree, Ends, Look, Then, goes, verdict_of, job_bus, job_purpose, line_mux, is_line}
 use Rattle.bus_spec.specs.Slots.{Slots, after_job}
 use Rattle.bus_spec.specs.Grammar.{seen, is_over, first_act, first_note, rest_of}
 use Rattle.bus_spec.specs.Readings.{is_call, is_call_of, is_settle_of, is_on_root}
@@ -109,6 +109,9 @@ module _ (b : BoardView) (tree : IsTree b) (plain : IsPlainBoard b) (lines : Lin
         × ((out : ActOutcome) → CanShift b job out → Runs b cs.whose (n.held d) (after_job job 0 at.0.marks out cs.view) (at.1 out)) =
         subst (λ (w : WalkTree). Runs b cs.whose (n.held d) cs.view w) at.2 cs.runs in
         (at.0.marks, runs.0)
+
+    pub line_next : (job : Job) → IsNext b asks n d (Shift job) → is_line job ≡ true
+    line_next job first = (line_may job first).1.by_line
 
     -- what follows a caller's message in its walk
     pub call_goes : (bus : ℕ) (ms : List MessageView) (left : ℕ) (e : End) (bytes : List ℕ) → IsNext b asks n d (Send (Call bus ms) left)
