@@ -41,7 +41,7 @@ settle_first w done verdict h first =
     let s : Settles done (Then (Settle verdict) at.0 at.1) = subst (λ (x : WalkTree). Settles done x) at.2 h in
     subst (λ (x : WalkTree). FirstCalls x) (sym at.2) (settled-first (at.1 Passed) s.2)
 
-due_settles : (o : Option Act) → is_due o ≡ true → (verdict : _) × (o ≡ Some (Settle verdict))
+pub due_settles : (o : Option Act) → is_due o ≡ true → (verdict : _) × (o ≡ Some (Settle verdict))
 due_settles None e = absurd (let f : false ≡ true = e in cc)
 due_settles (Some (Settle verdict)) e = (verdict, refl)
 due_settles (Some (Take l)) e = absurd (let f : false ≡ true = e in cc)

@@ -54,6 +54,9 @@ pub mod PlacedLaw
 pub mod WalksLaw
 -- What a settle decides is what the flat world answers.
 pub mod VerdictLaw
+-- The devices and the replies of a whole past.
+pub mod DevicesStand
+pub mod DevicesLaw
 pub mod LegalLaw
 -- No walk has more steps than its cost.
 pub mod CostLaw

@@ -178,13 +178,9 @@ call-clear b t accepted passes part e = barred_by b t (message_cut purpose.Call 
     no_way (end.Cut q) = refl
 
 -- a refused transfer
-pub refused-bars : (b : BoardView) (t : TransferView) (cut : Cut) (e : Errno) → refusal b t ≡ Some e → Bars b t cut (Some e)
-refused-bars b t cut e refused =
-    record {
-      error = e;
-      verdict = refl;
-      barred = ap (λ (o : Option Errno). first_of o (first_of (cond (is_way_cut cut) (Some errno.Eremoteio) None) (way_errno (way_of b t.bus)))) refused;
-    }
+pub refused-barred : (b : BoardView) (t : TransferView) (cut : Cut) (e : Errno) → refusal b t ≡ Some e → barred b t cut ≡ Some e
+refused-barred b t cut e refused =
+    ap (λ (o : Option Errno). first_of o (first_of (cond (is_way_cut cut) (Some errno.Eremoteio) None) (way_errno (way_of b t.bus)))) refused
 
 -- then the flat world answers that error, and leaves its devices
 pub bars-flat : (b : BoardView) (xs : List TargetState) (t : TransferView) (cut : Cut) (e : Errno) → barred b t cut ≡ Some e
