@@ -9,7 +9,7 @@ ghost use Rattle.bus_spec.specs.Stepwise.{IsStepwise};
 ghost use Rattle.bus_spec.specs.Legal.{IsLegal, KeepsLocks, KeepsPorts, KeepsReplies, KeepsSettles, KeepsWalks, KeepsWhole};
 ghost use Rattle.bus_laws.specs.Costs.{KeepsCosts};
 ghost use Rattle.bus_laws.specs.Ready.{SomeCanGoOn};
-ghost use Rattle.bus_laws.specs.Reach.{AsksForMessages, KeepsClosed, KeepsPathsOpen};
+ghost use Rattle.bus_laws.specs.Reach.{AsksForMessages, AsksWithinLimits, KeepsClosed, KeepsPathsOpen};
 
 use i2c_spec::an_accepted_board_is_a_tree;
 
@@ -72,11 +72,19 @@ pub fn some_caller_can_go_on()
     an_accepted_board_is_a_tree();
 }
 
-/// A journal each of whose entries might come where it did, and in which no settle is due, keeps every rule of a legal
-/// journal but the one on replies: with that one it is legal.
-pub fn a_journal_is_legal_where_its_replies_are()
-    ensures { (b : BoardView) (callers : ℕ) (asks : Asks) (past : List Entry) → IsPlainBoard b → MeetsRules b → AsksForMessages asks → IsStepwise b callers asks past
-        → (now b asks past).due ≡ None → KeepsReplies b asks past → IsLegal b callers asks past }
+/// The reply rule: the replies of each caller are those of the flat world doing the transfers one at a time, in the
+/// order of the settles, each cut as its settle tells. So no caller sees another's transfer half done, nor a mux or a lock.
+pub fn each_reply_is_that_of_the_flat_world()
+    ensures { (b : BoardView) (callers : ℕ) (asks : Asks) (past : List Entry) → IsPlainBoard b → MeetsRules b → AsksForMessages asks → AsksWithinLimits asks
+        → IsStepwise b callers asks past → KeepsReplies b asks past }
+{
+    an_accepted_board_is_a_tree();
+}
+
+/// A journal each of whose entries might come where it did, and in which no settle is due, is legal.
+pub fn a_journal_is_legal()
+    ensures { (b : BoardView) (callers : ℕ) (asks : Asks) (past : List Entry) → IsPlainBoard b → MeetsRules b → AsksForMessages asks → AsksWithinLimits asks
+        → IsStepwise b callers asks past → (now b asks past).due ≡ None → IsLegal b callers asks past }
 {
     an_accepted_board_is_a_tree();
 }
