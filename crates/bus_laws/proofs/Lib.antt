@@ -57,6 +57,7 @@ pub mod VerdictLaw
 -- The devices and the replies of a whole past.
 pub mod DevicesStand
 pub mod DevicesLaw
+pub mod LeftLaw
 pub mod LegalLaw
 -- No walk has more steps than its cost.
 pub mod CostLaw
