@@ -3,8 +3,9 @@
 use Rattle.std.proofs.Common.{◌≡◌, ℕ, zero, suc, ◌+◌, ◌<◌, Bool, true, false, cond, ◌||◌, List, [], ◌∷◌, ◌++◌, length, map, take, Option, Some, None, refl, sym, ◌∙◌, ap, subst, arith, zero-add, add-zero}
 use Rattle.std.specs.Prelude.{slice_get, unwrap_or}
 use Rattle.std.specs.Option.{option_map, option_map_or, option_and_then}
-use Rattle.std.specs.List.{range_with_len}
+use Rattle.std.specs.List.{AllByRecursion, range_with_len}
 use Rattle.std.proofs.lemmas.List.{length-map}
+use Rattle.std.proofs.lemmas.List.Elements.{All-from_recursion}
 use Rattle.std.proofs.lemmas.Option.{slice_get_within}
 use Rattle.i2c_base.specs.declared.event.Event.{Event}
 use Rattle.i2c_base.specs.declared.event.Event.TheVariants as event
@@ -32,11 +33,13 @@ use Rattle.bus_spec.specs.Past.{Now, begun, now, world_at}
 use Rattle.bus_spec.specs.Stepwise.{IsStepwise}
 use Rattle.bus_laws.specs.Lines.{LinesAreLocked}
 use Rattle.bus_laws.specs.Reach.{AsksForMessages, AsksWithinLimits}
+use Rattle.bus_laws.specs.Stands.{Stands}
 use Rattle.bus_laws.specs.Alike.{IsOf, Same}
 use Rattle.bus_laws.specs.Left.{said_so_far, calls_behind, AreLeft, AreLeftInside, KeepsDevices, worlds_of, LeavesDevices}
 use Rattle.bus_laws.proofs.TalkLaws.{IsLater, talk-keeps}
 use Rattle.bus_laws.proofs.WorldFeed.{length-feed}
 use Rattle.bus_laws.proofs.BoardFacts.{get_within, get_same_length}
+use Rattle.bus_laws.proofs.PastLaws.{past-stands}
 use Rattle.bus_laws.proofs.AskedLaws.{settled-told}
 use Rattle.bus_laws.proofs.WholeLaw.{goes_on_from}
 use Rattle.bus_laws.proofs.FirstLaw.{call_count, past-stage}
@@ -113,6 +116,16 @@ get_numbers f k (suc n) zero below = ap (λ (j : ℕ). Some (f j)) (sym (add-zer
 get_numbers f k (suc n) (suc i) below =
     get_numbers f (k + 1) n i (omega (arith, below)) ∙ ap (λ (j : ℕ). Some (f j)) (let e : k + 1 + i ≡ k + suc i = omega arith in e)
 
+-- worlds of all roots, in order
+roots_are : (f : ℕ → World) → ((r : ℕ) → (f r).root ≡ r) → (k n : ℕ) → map (λ w. w.root) (map f (range_with_len k n)) ≡ range_with_len k n
+roots_are f root k zero = refl
+roots_are f root k (suc n) =
+    ap (λ (r : ℕ). r ∷ map (λ w. w.root) (map f (range_with_len (k + 1) n))) (root k) ∙ ap (λ (rs : List ℕ). k ∷ rs) (roots_are f root (k + 1) n)
+
+boards_are : (b : BoardView) (f : ℕ → World) → ((r : ℕ) → (f r).board ≡ b) → (k n : ℕ) → AllByRecursion (λ w. w.board ≡ b) (map f (range_with_len k n))
+boards_are b f board k zero = tt
+boards_are b f board k (suc n) = (board k, boards_are b f board (k + 1) n)
+
 -- a world that is the same as the flat world
 are_left : (b : BoardView) (r : ℕ) (w : World) (f : FlatListener) → Same b r w f → AreLeft b r w f
 are_left b r w f s = record { same = s.states; quiet = λ d x own e at. s.quiet d x own e (sym (s.states d own) ∙ at) }
@@ -124,6 +137,9 @@ module _ (b : BoardView) (tree : IsTree b) (plain : IsPlainBoard b) (lines : Lin
 
   w : StandsWith b asks past
   w = past-devices b tree plain lines asks some limits callers past steps
+
+  stands : Stands b n
+  stands = past-stands b tree plain lines asks some callers past steps
 
   -- who is inside has sent the messages that stand behind its last settle
   so_far : n.due ≡ None → (r c : ℕ) → (i : IsInsideWith b asks n w.stand.ahead r c) → take (calls_behind past c) (messages_of i.whose) ≡ i.said.before
@@ -203,6 +219,10 @@ module _ (b : BoardView) (tree : IsTree b) (plain : IsPlainBoard b) (lines : Lin
         record {
           told = w.history_is;
           defined = w.defined;
+          worlds = record {
+            roots = roots_are (world_at b asks past) stands.told.root 0 (length b.roots);
+            boards = All-from_recursion (λ u. u.board ≡ b) (worlds_of b asks past) (boards_are b (world_at b asks past) stands.told.board 0 (length b.roots));
+          };
           states = ap (λ (k : ℕ). map (λ d. device_in (worlds_of b asks past) (root_of b (of_device (λ x. x.bus) 0 b d)) d) (range_with_len 0 k))
               (sym (history_many b asks (order past) w.history_is w.defined))
               ∙ map_numbers (λ d. device_in (worlds_of b asks past) (root_of b (of_device (λ x. x.bus) 0 b d)) d) 0 w.history_is.states

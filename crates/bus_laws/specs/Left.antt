@@ -8,7 +8,7 @@ use Rattle.i2c_base.specs.Transfer.{TransferView}
 use Rattle.i2c_spec.specs.Tree.{root_of}
 use Rattle.i2c_spec.specs.Targets.{TargetState, IsQuiet, state_table}
 use Rattle.i2c_spec.specs.Messages.{MessageView, messages_of}
-use Rattle.i2c_spec.specs.World.{World, devices_of}
+use Rattle.i2c_spec.specs.World.{World, AreWorldsOf, devices_of}
 use Rattle.i2c_spec.specs.Flat.{FlatListener, idle, is_member, flat_listener, granted_on, block_limit}
 use Rattle.i2c_spec.specs.Conversation.{AllTold}
 use Rattle.i2c_spec.specs.History.{Asks, History, history}
@@ -54,8 +54,9 @@ pub record KeepsDevices (b : BoardView) (asks : Asks) (past : List Entry) : Type
 abbrev pub worlds_of : BoardView → Asks → List Entry → List World
 worlds_of b asks past = map (world_at b asks past) (range_with_len 0 (length b.roots))
 
--- the devices of all roots together are those of the flat world
+-- the devices of all roots' worlds together are those of the flat world
 pub record LeavesDevices (b : BoardView) (asks : Asks) (past : List Entry) : Type 0 where
   pub told : History
   pub defined : history b asks (order past) ≡ Some told
+  pub worlds : AreWorldsOf b (worlds_of b asks past)
   pub states : devices_of b (worlds_of b asks past) ≡ told.states
