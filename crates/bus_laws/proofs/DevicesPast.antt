@@ -163,9 +163,9 @@ module _ (b : BoardView) (tree : IsTree b) (plain : IsPlainBoard b) (lines : Lin
       decided_next a.0 (Select h) left (Sent e bytes) (a.1 (Sent e bytes)) (message_cut (purpose.Control h.mux) 1 e) verdict s.0 s.1
       (ap (λ (w : WalkTree). first_act w) (sym (rest_is (Send (Select h) left) a.0 a.1 (Sent e bytes) a.2)) ∙ settling)
       (λ forward decided ends. (
-          let way = (calls (Select h) left first).1 forward in
-          select-bars b tree asked.whose way.0 h way.1 (open-through b n.slot n.worlds stands.told h.on (λ g i. (m.reached g i).0)) left e bytes
-          (can_give (Select h) left first e bytes end_told bytes_told) decided ends))
+      let way = (calls (Select h) left first).1 forward in
+      select-bars b tree asked.whose way.0 h way.1 (open-through b n.slot n.worlds stands.told h.on (λ g i. (m.reached g i).0)) left e bytes
+      (can_give (Select h) left first e bytes end_told bytes_told) decided ends))
 
   pub clear-decides : (on mux : ℕ) (kind : _) (left : ℕ) (first : IsNext b asks n c (Send (Clear on mux kind) left)) (e : End) (bytes : List ℕ) (verdict : Option Errno)
       → first_act (rest_of (current b asks n c) (Sent e bytes)) ≡ Some (Settle verdict) → DecidesNext b asks n c (message_cut (purpose.Control mux) 1 e) verdict

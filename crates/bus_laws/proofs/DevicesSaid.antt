@@ -1,5 +1,5 @@
 -- A transfer under way: what is said of it in the flat world, and one message more.
-use Rattle.std.proofs.Common.{◌≡◌, ℕ, zero, suc, ◌+◌, ◌-◌, ◌<◌, Bool, true, false, cond, List, [], ◌∷◌, ◌++◌, length, Option, Some, None, eqb, refl, sym, ◌∙◌, ap, subst, ◌⊎◌, inl, inr, arith, zero-add}
+use Rattle.std.proofs.Common.{◌≡◌, ℕ, suc, ◌+◌, ◌-◌, ◌<◌, Bool, true, false, cond, List, [], ◌∷◌, ◌++◌, length, Option, Some, None, eqb, refl, sym, ◌∙◌, ap, subst, arith, zero-add}
 use Rattle.std.specs.Prelude.{slice_get}
 use Rattle.std.proofs.lemmas.Bool.{eq-eqb}
 use Rattle.std.proofs.lemmas.List.{append_assoc}
@@ -17,7 +17,7 @@ use Rattle.i2c_spec.specs.Targets.{TargetState}
 use Rattle.i2c_spec.specs.Messages.{MessageView, messages_of}
 use Rattle.i2c_spec.specs.World.{World}
 use Rattle.i2c_spec.specs.Flat.{FlatListener, FlatTold, idle, flat_listener, granted_on, block_limit, cut_in, errno_of, or_done, barred, flat_by, flat_messages, flat}
-use Rattle.i2c_spec.specs.Conversation.{Listener, TalkTold, AllTold, world_listener, talk, is_empty, is_good, with_read}
+use Rattle.i2c_spec.specs.Conversation.{Listener, TalkTold, AllTold, world_listener, talk, is_empty, is_good}
 use Rattle.bus_spec.specs.Walk.{Call, Sent, verdict_of}
 use Rattle.bus_spec.specs.Readings.{message_cut}
 use Rattle.bus_spec.specs.Past.{cut_of}

@@ -1,17 +1,13 @@
 -- What stands of the devices after a past: those that the settled transfers left in the flat world, those of the transfer
 -- whose settle is due, and what is said of each transfer under way. One step that is no message of a caller's keeps it.
-use Rattle.std.proofs.Common.{◌≡◌, ℕ, zero, Bool, true, false, cond, List, [], ◌∷◌, ◌++◌, Option, Some, None, refl, sym, ◌∙◌, ap, subst, ◌⊎◌, inl, inr}
+use Rattle.std.proofs.Common.{◌≡◌, ℕ, Bool, true, false, cond, List, Option, Some, None, refl, sym, ◌∙◌, ap, subst, inl, inr}
 use Rattle.std.specs.Prelude.{slice_get}
 use Rattle.std.proofs.lemmas.Bool.Decides.{eqb_tells}
 use Rattle.i2c_base.specs.declared.entry.End.{End}
 use Rattle.i2c_base.specs.declared.entry.Entry.{Entry}
-use Rattle.i2c_base.specs.declared.entry.Entry.TheVariants as entry
-use Rattle.i2c_base.specs.declared.entry.Purpose.{Purpose}
-use Rattle.i2c_base.specs.declared.entry.Purpose.TheVariants as purpose
 use Rattle.i2c_base.specs.declared.errno.Errno.{Errno}
 use Rattle.i2c_base.specs.declared.port.PortCall.TheVariants as call
 use Rattle.i2c_base.specs.declared.reply.Reply.{Reply}
-use Rattle.i2c_base.specs.declared.reply.Reply.TheVariants as reply
 use Rattle.i2c_base.specs.declared.reply.Cut.{Cut}
 use Rattle.i2c_base.specs.declared.reply.Cut.TheVariants as cut_at
 use Rattle.i2c_base.specs.Board.{BoardView}
@@ -25,19 +21,19 @@ use Rattle.i2c_spec.specs.World.{World, after}
 use Rattle.i2c_spec.specs.Conversation.{world_listener, talk}
 use Rattle.i2c_spec.specs.Flat.{FlatTold, idle, block_limit, flat}
 use Rattle.i2c_spec.specs.History.{Asks, History, changed_at}
-use Rattle.bus_spec.specs.Walk.{Job, Call, Select, Clear, Act, Take, Free, Send, Shift, Settle, ActOutcome, Passed, Sent, Lined, WalkTree, job_bus, job_purpose, is_last, message_of, line_mux, line_level}
+use Rattle.bus_spec.specs.Walk.{Job, Call, Act, Send, Shift, Settle, Passed, Sent, Lined, WalkTree, job_bus, job_purpose, is_last, message_of, line_mux, line_level}
 use Rattle.bus_spec.specs.Grammar.{first_act, first_note, rest_of}
-use Rattle.bus_spec.specs.Readings.{is_call, message_cut, cut_told}
-use Rattle.bus_spec.specs.Past.{Now, current, step, now, is_due, sent, sent_by, lined, lined_by, line_call, with_due, moved, talk_of, cut_of, inside_after, got_after}
-use Rattle.bus_spec.specs.Stepwise.{IsNext, May, IsStepwise, reply_by, TellsMessage}
+use Rattle.bus_spec.specs.Readings.{is_call, cut_told}
+use Rattle.bus_spec.specs.Past.{Now, current, now, is_due, sent, lined, line_call, with_due, moved, talk_of, cut_of, inside_after, got_after}
+use Rattle.bus_spec.specs.Stepwise.{IsNext, IsStepwise, reply_by}
 use Rattle.bus_laws.specs.Lines.{LinesAreLocked}
 use Rattle.bus_laws.specs.Reach.{AsksForMessages}
 use Rattle.bus_laws.specs.Alike.{IsOf, Same, IsControl}
 use Rattle.bus_laws.proofs.StandsStep.{at_same, at_other}
 use Rattle.bus_laws.proofs.WholeLaw.{some_is, own_call, no_line}
 use Rattle.bus_laws.proofs.FirstLaw.{due_settles, not_inside}
-use Rattle.bus_laws.proofs.VerdictLaw.{Bars, bars-flat}
-use Rattle.bus_laws.proofs.DevicesPast.{DecidesNext, select-next, clear-next, select-decides, clear-decides, line-decides}
+use Rattle.bus_laws.proofs.VerdictLaw.{bars-flat}
+use Rattle.bus_laws.proofs.DevicesPast.{DecidesNext, line-decides}
 use Rattle.bus_laws.proofs.DevicesStay.{control-same, line-same, fault-same}
 use Rattle.bus_laws.proofs.DevicesSaid.{IsSaid, said-elsewhere}
 

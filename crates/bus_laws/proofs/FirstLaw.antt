@@ -7,7 +7,6 @@ use Rattle.i2c_base.specs.declared.ids.LockId.TheVariants as lock
 use Rattle.i2c_base.specs.declared.entry.End.{End}
 use Rattle.i2c_base.specs.declared.entry.Entry.{Entry}
 use Rattle.i2c_base.specs.declared.entry.Entry.TheVariants as entry
-use Rattle.i2c_base.specs.declared.entry.Purpose.{Purpose}
 use Rattle.i2c_base.specs.Board.{BoardView}
 use Rattle.i2c_base.specs.Transfer.{TransferView}
 use Rattle.i2c_spec.specs.Tree.{root_of}
@@ -15,8 +14,8 @@ use Rattle.i2c_spec.specs.TreeFacts.{IsTree}
 use Rattle.i2c_spec.specs.Plain.{IsPlainBoard}
 use Rattle.i2c_spec.specs.Messages.{MessageView, messages_of}
 use Rattle.i2c_spec.specs.History.{Asks, changed_at}
-use Rattle.bus_spec.specs.Walk.{Job, Call, Select, Clear, Act, Take, Free, Send, Shift, Settle, ActOutcome, Passed, Sent, Lined, Note, WalkTree, Ends, Look, Then, goes, verdict_of, job_bus, job_purpose, more_of}
-use Rattle.bus_spec.specs.Grammar.{walk_for, seen, is_over, first_act, first_note, rest_of}
+use Rattle.bus_spec.specs.Walk.{Job, Call, Select, Clear, Act, Take, Free, Send, Shift, Settle, ActOutcome, Passed, Sent, Lined, Note, WalkTree, Then, goes, verdict_of, job_bus, job_purpose, more_of}
+use Rattle.bus_spec.specs.Grammar.{seen, is_over, first_act, first_note, rest_of}
 use Rattle.bus_spec.specs.Readings.{is_call}
 use Rattle.bus_spec.specs.Past.{Now, begun, current, step, now, is_on, is_due, inside_after, got_after, sent, sent_by, lined_by, with_due, moved, talk_of}
 use Rattle.bus_spec.specs.Stepwise.{IsNext, May, IsStepwise}
@@ -32,7 +31,7 @@ use Rattle.bus_laws.proofs.StandsEntries.{first_is}
 use Rattle.bus_laws.proofs.WorldSends.{length-messages}
 use Rattle.bus_laws.proofs.AskedLaws.{current-asked, past-asked}
 use Rattle.bus_laws.proofs.WalkFirst.{FirstCalls, settled-first, walk-first, first_seen}
-use Rattle.bus_laws.proofs.WholeLaw.{AreInside, IsInside, Between, past-inside, some_is, alone, sent_rooted, call_goes, inside_next, other_caller, entry_between}
+use Rattle.bus_laws.proofs.WholeLaw.{AreInside, Between, past-inside, some_is, alone, sent_rooted, call_goes, inside_next, other_caller, entry_between}
 
 -- so many messages stand before the one that comes next
 abbrev pub Counts : WalkTree → ℕ → Type 0
@@ -166,8 +165,10 @@ module _ (b : BoardView) (tree : IsTree b) (plain : IsPlainBoard b) (lines : Lin
           | inl h ↦ subst (λ (i : ℕ). Stage m (counts i) i) (sym h.1) own
           | inr h ↦ subst (λ (k : ℕ). Stage m k c) (sym (same c h.1)) (elim (stage c) [
             | inl i ↦ inl (i.0, insides i.0 c h.1 i.1, subst (λ (w : WalkTree). Counts w (sent_by_now c)) (sym (walks c h.1)) i.2)
-            | inr f ↦ inr (subst (λ (w : WalkTree). FirstCalls w) (sym (walks c h.1)) f.0,
-              elim f.1 [ inl e ↦ inl (gots c h.1 ∙ e.0, e.1) | inr due ↦ absurd (dues c h.1 due) ])
+            | inr f ↦ inr (
+              subst (λ (w : WalkTree). FirstCalls w) (sym (walks c h.1)) f.0,
+              elim f.1 [ inl e ↦ inl (gots c h.1 ∙ e.0, e.1) | inr due ↦ absurd (dues c h.1 due) ],
+            )
           ])
         ]
 
@@ -270,8 +271,8 @@ module _ (b : BoardView) (tree : IsTree b) (plain : IsPlainBoard b) (lines : Lin
         (own_control d may.2 may.3 reading bytes e (entry.Message d bus purpose part parts addr reading bytes heard e) (counts d)
         (λ no_call. count_control d (sent_by_now d) (is_call purpose) (ap is_call may.5.for_purpose ∙ no_call)) may.1 may.4
         (λ s ms job_is. (
-          let call : is_call purpose ≡ true = ap is_call may.5.for_purpose ∙ ap (λ (j : Job). is_call (job_purpose j)) job_is in
-          own_call s ms job_is call (entry_between b tree plain lines asks some callers past steps d bus purpose part parts addr reading bytes heard e may call)))))
+        let call : is_call purpose ≡ true = ap is_call may.5.for_purpose ∙ ap (λ (j : Job). is_call (job_purpose j)) job_is in
+        own_call s ms job_is call (entry_between b tree plain lines asks some callers past steps d bus purpose part parts addr reading bytes heard e may call)))))
       where
         counts : ℕ → ℕ
         counts c = cond (eqb d c && is_call purpose) (suc (sent_by_now c)) (sent_by_now c)
@@ -294,9 +295,12 @@ module _ (b : BoardView) (tree : IsTree b) (plain : IsPlainBoard b) (lines : Lin
             subst (λ (o : Option Act). Between (with_due d (moved b asks n (sent_by b n d o (first_note (current b asks n d)) reading bytes e) d (entry.Message d bus purpose part parts addr reading bytes heard e) (Sent e bytes))) d (root_of b bus))
             may.4 between in
             elim known [
-              | inl is ↦ inl (root_of b bus, is,
-                  subst (λ (w : WalkTree). Counts w (counts d)) (sym (at_same n.walk d (rest_of (current b asks n d) (Sent e bytes))))
-                  (rest_counts d s ms may.3 e bytes (counts d) (count_call d (sent_by_now d) (is_call purpose) call) may.1 (subst (λ (j : Job). IsNext b asks n d (Send j may.3)) job_is may.4)))
+              | inl is ↦ inl (
+                root_of b bus,
+                is,
+                subst (λ (w : WalkTree). Counts w (counts d)) (sym (at_same n.walk d (rest_of (current b asks n d) (Sent e bytes))))
+                    (rest_counts d s ms may.3 e bytes (counts d) (count_call d (sent_by_now d) (is_call purpose) call) may.1 (subst (λ (j : Job). IsNext b asks n d (Send j may.3)) job_is may.4)),
+              )
               | inr due ↦ inr (rest_first (is_due (first_act (changed_at n.walk d (rest_of (current b asks n d) (Sent e bytes)) d))) refl due, inr due)
             ]
 

@@ -1,13 +1,11 @@
 -- The devices that a journal leaves are those of its history. The inductions go over the messages of a transfer, over the
 -- transfers, and over the devices.
-use Rattle.std.proofs.Common.{◌≡◌, ℕ, zero, suc, ◌+◌, ◌<◌, Bool, true, false, cond, ◌||◌, List, [], ◌∷◌, ◌++◌, length, map, take, Option, Some, None, refl, sym, ◌∙◌, ap, subst, arith, zero-add, add-zero}
+use Rattle.std.proofs.Common.{◌≡◌, ℕ, zero, suc, ◌+◌, ◌<◌, Bool, true, false, cond, List, [], ◌∷◌, ◌++◌, length, map, take, Option, Some, None, refl, sym, ◌∙◌, ap, subst, arith, zero-add, add-zero}
 use Rattle.std.specs.Prelude.{slice_get, unwrap_or}
 use Rattle.std.specs.Option.{option_map, option_map_or, option_and_then}
 use Rattle.std.specs.List.{AllByRecursion, range_with_len}
 use Rattle.std.proofs.lemmas.List.{length-map}
 use Rattle.std.proofs.lemmas.List.Elements.{All-from_recursion}
-use Rattle.std.proofs.lemmas.Option.{slice_get_within}
-use Rattle.i2c_base.specs.declared.event.Event.{Event}
 use Rattle.i2c_base.specs.declared.event.Event.TheVariants as event
 use Rattle.i2c_base.specs.declared.entry.Entry.{Entry}
 use Rattle.i2c_base.specs.declared.errno.Errno.{Errno}
@@ -22,7 +20,7 @@ use Rattle.i2c_spec.specs.TreeFacts.{IsTree}
 use Rattle.i2c_spec.specs.Plain.{IsPlainBoard}
 use Rattle.i2c_spec.specs.Targets.{TargetState, Silent, state_table, opening_state}
 use Rattle.i2c_spec.specs.Messages.{MessageView, messages_of}
-use Rattle.i2c_spec.specs.World.{World, feed, device_in, devices_of}
+use Rattle.i2c_spec.specs.World.{World, device_in}
 use Rattle.i2c_spec.specs.Flat.{FlatListener, idle, flat_start, to_current, to_named, flat_after, flat_listener, granted_on, block_limit, cut_in, barred, flat_by, flat}
 use Rattle.i2c_spec.specs.Conversation.{TalkTold, AllTold, talk, talk_all, is_empty, is_good, with_read}
 use Rattle.i2c_spec.specs.History.{Asks, History, with_told, one_more, opening_history, history}
@@ -34,7 +32,7 @@ use Rattle.bus_spec.specs.Stepwise.{IsStepwise}
 use Rattle.bus_laws.specs.Lines.{LinesAreLocked}
 use Rattle.bus_laws.specs.Reach.{AsksForMessages, AsksWithinLimits}
 use Rattle.bus_laws.specs.Stands.{Stands}
-use Rattle.bus_laws.specs.Alike.{IsOf, Same}
+use Rattle.bus_laws.specs.Alike.{Same}
 use Rattle.bus_laws.specs.Left.{said_so_far, calls_behind, AreLeft, AreLeftInside, KeepsDevices, worlds_of, LeavesDevices}
 use Rattle.bus_laws.proofs.TalkLaws.{IsLater, talk-keeps}
 use Rattle.bus_laws.proofs.WorldFeed.{length-feed}
@@ -45,7 +43,7 @@ use Rattle.bus_laws.proofs.WholeLaw.{goes_on_from}
 use Rattle.bus_laws.proofs.FirstLaw.{call_count, past-stage}
 use Rattle.bus_laws.proofs.MessageFacts.{length-around}
 use Rattle.bus_laws.proofs.DevicesSaid.{IsSaid}
-use Rattle.bus_laws.proofs.DevicesStand.{IsDueWith, IsInsideWith, DevicesStand}
+use Rattle.bus_laws.proofs.DevicesStand.{IsInsideWith}
 use Rattle.bus_laws.proofs.DevicesLaw.{StandsWith, past-devices}
 
 -- HOW MANY devices there are doesn't change

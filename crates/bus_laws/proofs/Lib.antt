@@ -56,6 +56,7 @@ pub mod WalksLaw
 pub mod VerdictLaw
 -- The devices and the replies of a whole past.
 pub mod DevicesStand
+pub mod DevicesCalls
 pub mod DevicesLaw
 pub mod LeftLaw
 pub mod LegalLaw

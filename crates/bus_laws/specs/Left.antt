@@ -1,5 +1,5 @@
 -- The devices that a journal leaves.
-use Rattle.std.specs.Prelude.{◌≡◌, ℕ, suc, ◌==◌, false, ◌&&◌, List, [], ◌∷◌, length, map, take, Some, None, Option, slice_get, if◌then◌else◌}
+use Rattle.std.specs.Prelude.{◌≡◌, ℕ, suc, ◌==◌, false, ◌&&◌, List, [], ◌∷◌, length, map, take, Some, None, slice_get, if◌then◌else◌}
 use Rattle.std.specs.List.{range_with_len}
 use Rattle.i2c_base.specs.declared.entry.Entry.{Entry}
 use Rattle.i2c_base.specs.declared.entry.Entry.TheVariants as entry
