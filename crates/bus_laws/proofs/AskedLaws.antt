@@ -121,12 +121,12 @@ module _ (b : BoardView) (asks : Asks) (some : AsksForMessages asks) (n : Now) (
   sent_asked : (job : Job) (left : ℕ) (e : End) (bytes : List ℕ) → first_act (current b asks n c) ≡ Some (Send job left) → turns_to (Sent e bytes)
   sent_asked job left e bytes first =
       turned_asked (rest_of (current b asks n c) (Sent e bytes)) n.settled (λ d ne. refl)
-      (own_asked (Send job left) first (Sent e bytes) ((calls_at (Send job left) first).1 (Sent e bytes)) ((settles_at (Send job left) first).1 e bytes).1)
+      (own_asked (Send job left) first (Sent e bytes) ((calls_at (Send job left) first).2 (Sent e bytes)) ((settles_at (Send job left) first).1 e bytes).1)
 
   lined_asked : (job : Job) (failed : Bool) → first_act (current b asks n c) ≡ Some (Shift job) → turns_to (Lined failed)
   lined_asked job failed first =
       turned_asked (rest_of (current b asks n c) (Lined failed)) n.settled (λ d ne. refl)
-      (own_asked (Shift job) first (Lined failed) ((calls_at (Shift job) first) (Lined failed)) ((settles_at (Shift job) first) failed).1)
+      (own_asked (Shift job) first (Lined failed) ((calls_at (Shift job) first).1 (Lined failed)) ((settles_at (Shift job) first) failed).1)
 
   settle_asked : (verdict : _) (r : Reply) → first_act (current b asks n c) ≡ Some (Settle verdict)
       → AllAsked b asks (changed_at n.walk c (rest_of (current b asks n c) Passed)) (changed_at n.settled c (n.settled c ++ r ∷ []))

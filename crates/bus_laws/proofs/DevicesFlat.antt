@@ -20,10 +20,10 @@ use Rattle.i2c_spec.specs.TreeFacts.{IsTree}
 use Rattle.i2c_spec.specs.Grant.{some_chip, some_device, some_bound, named_by, named_of}
 use Rattle.i2c_spec.specs.Targets.{TargetState, state_table, state_answer}
 use Rattle.i2c_spec.specs.Messages.{MessageView, messages_of}
-use Rattle.i2c_spec.specs.World.{given, feed, has_heard, is_ack, byte_of}
-use Rattle.i2c_spec.specs.Flat.{FlatListener, idle, is_it, put_named, flat_start, to_current, to_named, answer_of, acknowledged, flat_after, flat_listener, granted_on, block_limit, cut_in, errno_of, or_done, barred, flat_by, flat_messages, flat}
+use Rattle.i2c_spec.specs.World.{World, given, feed, has_heard, is_ack, byte_of}
+use Rattle.i2c_spec.specs.Flat.{FlatListener, idle, is_it, is_member, put_named, flat_start, to_current, to_named, answer_of, acknowledged, flat_after, flat_listener, granted_on, block_limit, cut_in, errno_of, or_done, barred, flat_by, flat_messages, flat}
 use Rattle.i2c_spec.specs.Conversation.{TalkTold, AllTold, talk, talk_all, is_empty, is_good, with_read}
-use Rattle.bus_laws.specs.Alike.{IsOf, ToldAlike, IsUnnamed, FlatSame}
+use Rattle.bus_laws.specs.Alike.{IsOf, listening, Same, ToldAlike, talk_part, IsUnnamed, FlatSame}
 use Rattle.bus_laws.proofs.WorldReach.{and_right}
 use Rattle.bus_laws.proofs.DevicesTalk.{IsFollowing, talk-alike}
 use Rattle.bus_laws.proofs.DevicesHears.{fed-at}
@@ -71,6 +71,20 @@ pub record FlatAlike (b : BoardView) (r : ℕ) (f g : FlatListener) : Type 0 whe
   pub named : f.named ≡ g.named
   pub current : f.current ≡ g.current
   pub own : (d : ℕ) → f.current ≡ Some d → IsOf b r d
+
+-- a world is the same beside each of the two
+pub same-alike : (b : BoardView) (r : ℕ) (w : World) (f g : FlatListener) → Same b r w f → FlatAlike b r f g → Same b r w g
+same-alike b r w f g s alike =
+    record {
+      board = s.board;
+      root = s.root;
+      states = λ d own. s.states d own ∙ alike.states d own;
+      bytes = λ d x own at. s.bytes d x own (alike.states d own ∙ at);
+      quiet = λ d x own e at. s.quiet d x own (ap (λ (ds : List ℕ). is_member d ds) alike.named ∙ e) (alike.states d own ∙ at);
+      hearing = s.hearing ∙ ap listening alike.current;
+      joined = λ d e. s.joined d (ap (λ (ds : List ℕ). is_member d ds) alike.named ∙ e);
+      current = λ d e. ap (λ (ds : List ℕ). is_member d ds) (sym alike.named) ∙ s.current d (alike.current ∙ e);
+    }
 
 fed_alike : (x y : ℕ → Option Event) (xs ys : List TargetState) (d : ℕ) → slice_get xs d ≡ slice_get ys d → x d ≡ y d
     → slice_get (feed state_table x 0 xs) d ≡ slice_get (feed state_table y 0 ys) d
@@ -175,6 +189,22 @@ module _ (b : BoardView) (r : ℕ) (granted : ℕ → Option ℕ) (granted_own :
       (talk_all (flat_listener granted) limit u.now ms (i + 1) cuts (with_read more m u)) (record { bytes = with_read more m u; now = u.now; end = u.end })
       (ap (λ z. is_good z) alike.end)
       (flat_all-alike limit t.now u.now ms (i + 1) cuts (with_read got m t) (with_read more m u) read alike.now)
+      (record { bytes = read; end = alike.end; now = alike.now })
+
+  -- so many of them
+  pub flat_part-alike : (limit : ℕ) (f g : FlatListener) (ms : List MessageView) (ends : Bool) (i : ℕ) (cuts : ℕ → Option ℕ) (got more : List ℕ) → got ≡ more → FlatAlike b r f g
+      → AllAlike (talk_part (flat_listener granted) limit f ms ends i cuts got) (talk_part (flat_listener granted) limit g ms ends i cuts more)
+  flat_part-alike limit f g [] ends i cuts got more e s = record { bytes = e; end = refl; now = s }
+  flat_part-alike limit f g (m ∷ ms) ends i cuts got more e s =
+      let t : TalkTold FlatListener = talk (flat_listener granted) limit f m (is_empty ms && ends) (cuts i) in
+      let u : TalkTold FlatListener = talk (flat_listener granted) limit g m (is_empty ms && ends) (cuts i) in
+      let alike : ToldAlike (FlatAlike b r) t u = flat_talk-alike limit f g m (is_empty ms && ends) (cuts i) s in
+      let read : with_read got m t ≡ with_read more m u = read_alike m got more t u e alike.bytes in
+      cond_all (is_good t.end) (is_good u.end)
+      (talk_part (flat_listener granted) limit t.now ms ends (i + 1) cuts (with_read got m t)) (record { bytes = with_read got m t; now = t.now; end = t.end })
+      (talk_part (flat_listener granted) limit u.now ms ends (i + 1) cuts (with_read more m u)) (record { bytes = with_read more m u; now = u.now; end = u.end })
+      (ap (λ z. is_good z) alike.end)
+      (flat_part-alike limit t.now u.now ms ends (i + 1) cuts (with_read got m t) (with_read more m u) read alike.now)
       (record { bytes = read; end = alike.end; now = alike.now })
 
   -- a device that isn't the root's is left alone

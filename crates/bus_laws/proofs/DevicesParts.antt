@@ -1,9 +1,9 @@
 -- The messages of a transfer, one after the other. The inductions go over the messages.
 use Rattle.std.proofs.Common.{◌≡◌, ℕ, suc, ◌+◌, ◌<◌, Bool, true, false, cond, ◌&&◌, List, [], ◌∷◌, ◌++◌, length, Option, refl, sym, ◌∙◌, ap, subst, arith, add-zero, zero-add, append-nil, inl, inr}
-use Rattle.std.specs.List.{AllByRecursion}
 use Rattle.i2c_base.specs.declared.entry.End.{End}
 use Rattle.i2c_base.specs.declared.entry.End.TheVariants as end
 use Rattle.i2c_base.specs.Board.{BoardView}
+use Rattle.i2c_base.specs.Bytes.{AreBytes}
 use Rattle.i2c_base.specs.declared.reply.Cut.{Cut}
 use Rattle.i2c_base.specs.Transfer.{TransferView}
 use Rattle.i2c_spec.specs.Targets.{TargetState}
@@ -11,8 +11,9 @@ use Rattle.i2c_spec.specs.Messages.{MessageView, messages_of}
 use Rattle.i2c_spec.specs.World.{World}
 use Rattle.i2c_spec.specs.Flat.{FlatListener, idle, flat_listener, granted_on, block_limit, cut_in, flat_messages}
 use Rattle.i2c_spec.specs.Conversation.{Listener, world_listener, TalkTold, AllTold, talk, talk_all, is_empty, is_good, with_read}
-use Rattle.bus_laws.specs.Alike.{Same, LeadsTo, IsByte, ToldAlike, talk_part, talk_more, GrowsAlike, EndsTransfer}
+use Rattle.bus_laws.specs.Alike.{Same, LeadsTo, ToldAlike, talk_part, talk_more, GrowsAlike, EndsTransfer}
 use Rattle.bus_laws.proofs.DevicesSame.{message-alike}
+use Rattle.bus_laws.proofs.DevicesStops.{flat-settled}
 
 and_true : (t : Bool) → (t && true) ≡ t
 and_true true = refl
@@ -134,7 +135,7 @@ module _ {W : Type 0} (l : Listener W) (limit : ℕ) (cuts : ℕ → Option ℕ)
           ∙ ap (λ (g : Bool). cond g (talk_part l limit t.now ms false (i + 1) cuts (with_read got m t)) (all_told got m t t.end)) (sym ended)
 
 grown : (b : BoardView) (r : ℕ) (m : MessageView) (granted : ℕ → Option ℕ) (limit : ℕ) (w : World) (ends : Bool) (cut : Option ℕ) (a : AllTold FlatListener) → is_good a.end ≡ true
-    → Same b r w a.now → LeadsTo w m.addr (granted m.addr) → AllByRecursion IsByte m.bytes
+    → Same b r w a.now → LeadsTo w m.addr (granted m.addr) → AreBytes m.bytes
     → GrowsAlike b r m a (talk world_listener limit w m ends cut) (talk_more (flat_listener granted) limit m ends cut a)
 grown b r m granted limit w ends cut a good same leads bytes =
     let t : TalkTold World = talk world_listener limit w m ends cut in
@@ -150,13 +151,26 @@ grown b r m granted limit w ends cut a good same leads bytes =
 pub part-grows : (b : BoardView) (r : ℕ) (granted : ℕ → Option ℕ) (limit : ℕ) (f : FlatListener) (ms : List MessageView) (cuts : ℕ → Option ℕ) (w : World) (m : MessageView) (ends : Bool)
     → is_good (talk_part (flat_listener granted) limit f ms false 0 cuts []).end ≡ true
     → Same b r w (talk_part (flat_listener granted) limit f ms false 0 cuts []).now
-    → LeadsTo w m.addr (granted m.addr) → AllByRecursion IsByte m.bytes
+    → LeadsTo w m.addr (granted m.addr) → AreBytes m.bytes
     → GrowsAlike b r m (talk_part (flat_listener granted) limit f ms false 0 cuts []) (talk world_listener limit w m ends (cuts (length ms)))
     (talk_part (flat_listener granted) limit f (ms ++ m ∷ []) ends 0 cuts [])
 part-grows b r granted limit f ms cuts w m ends good same leads bytes =
     subst (λ (a : AllTold FlatListener). GrowsAlike b r m (talk_part (flat_listener granted) limit f ms false 0 cuts []) (talk world_listener limit w m ends (cuts (length ms))) a)
     (sym (part-more (flat_listener granted) limit cuts f ms m ends 0 [] ∙ ap (λ (n : ℕ). talk_more (flat_listener granted) limit m ends (cuts n) (talk_part (flat_listener granted) limit f ms false 0 cuts [])) (zero-add (length ms))))
     (grown b r m granted limit w ends (cuts (length ms)) (talk_part (flat_listener granted) limit f ms false 0 cuts []) good same leads bytes)
+
+-- behind the message that ends a transfer the flat world is idle
+pub part-idle : (granted : ℕ → Option ℕ) (limit : ℕ) (f : FlatListener) (ms : List MessageView) (cuts : ℕ → Option ℕ) (m : MessageView) (ends : Bool)
+    → is_good (talk_part (flat_listener granted) limit f ms false 0 cuts []).end ≡ true
+    → EndsTransfer ends (talk_part (flat_listener granted) limit f (ms ++ m ∷ []) ends 0 cuts []).end
+    → (talk_part (flat_listener granted) limit f (ms ++ m ∷ []) ends 0 cuts []).now ≡ idle (talk_part (flat_listener granted) limit f (ms ++ m ∷ []) ends 0 cuts []).now.states
+part-idle granted limit f ms cuts m ends good =
+    let a : AllTold FlatListener = talk_part (flat_listener granted) limit f ms false 0 cuts [] in
+    let u : TalkTold FlatListener = talk (flat_listener granted) limit a.now m ends (cuts (0 + length ms)) in
+    subst (λ (x : AllTold FlatListener). EndsTransfer ends x.end → x.now ≡ idle x.now.states)
+    (sym (part-more (flat_listener granted) limit cuts f ms m ends 0 []
+    ∙ ap (λ (g : Bool). cond g (record { bytes = with_read a.bytes m u; now = u.now; end = u.end }) a) good))
+    (λ over. flat-settled granted limit a.now m ends (cuts (0 + length ms)) over)
 
 -- the messages that were said, up to the one that ended the transfer, are the whole transfer in the flat world
 pub part-whole : (b : BoardView) (xs : List TargetState) (t : TransferView) (cut : Cut) (cuts : ℕ → Option ℕ) (ms rest : List MessageView)

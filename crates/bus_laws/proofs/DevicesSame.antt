@@ -1,9 +1,10 @@
 -- A root's world and the flat world stay the same at the devices of the root: through a start, a byte, and a stop.
 use Rattle.std.proofs.Common.{◌≡◌, ℕ, ◌+◌, Bool, true, false, cond, ◌||◌, List, [], ◌∷◌, ◌++◌, Option, Some, None, eqb, refl, sym, ◌∙◌, ap, subst}
 use Rattle.std.specs.Prelude.{slice_get}
-use Rattle.std.specs.List.{AllByRecursion, list_any, list_all}
+use Rattle.std.specs.List.{list_any, list_all}
 use Rattle.std.specs.Option.{option_map, option_map_or}
 use Rattle.std.proofs.lemmas.Bool.{eqb-true, eq-eqb}
+use Rattle.std.proofs.lemmas.List.Elements.{recursion_from_All}
 use Rattle.i2c_base.specs.declared.event.Event.{Event}
 use Rattle.i2c_base.specs.declared.event.Event.TheVariants as event
 use Rattle.i2c_base.specs.declared.event.Answer.{Answer}
@@ -13,6 +14,7 @@ use Rattle.i2c_base.specs.declared.port.PortCall.TheVariants as call
 use Rattle.i2c_base.specs.declared.ids.Node.{Node}
 use Rattle.i2c_base.specs.declared.ids.Node.TheVariants as node
 use Rattle.i2c_base.specs.Board.{BoardView, DeviceView}
+use Rattle.i2c_base.specs.Bytes.{IsByte, AreBytes}
 use Rattle.i2c_spec.specs.Tree.{root_of, hops, of_device}
 use Rattle.i2c_spec.specs.Chips.{ChipView, chip_table}
 use Rattle.i2c_spec.specs.Targets.{TargetState, IsQuiet, state_table, state_answer}
@@ -20,7 +22,7 @@ use Rattle.i2c_spec.specs.Messages.{MessageView}
 use Rattle.i2c_spec.specs.World.{World, opens_hop, joins_device, given, feed, answers, is_ack, is_slow, has_heard, start_event, device_start, start_chips, start_devices, heard_of, hearers, some_answer, answer as world_answer, is_chip, is_device, to_chips, to_devices, hearing_answers, takes, byte_of, and_of, gives, stop_event, after}
 use Rattle.i2c_spec.specs.Flat.{FlatListener, is_it, is_member, put_named, flat_start, to_current, to_named, answer_of, acknowledged, flat_after, flat_listener}
 use Rattle.i2c_spec.specs.Conversation.{world_listener, talk}
-use Rattle.bus_laws.specs.Alike.{IsOf, HoldsBytes, IsByte, listening, Same, LeadsTo, ToldAlike}
+use Rattle.bus_laws.specs.Alike.{IsOf, HoldsBytes, listening, Same, LeadsTo, ToldAlike}
 use Rattle.bus_laws.proofs.TreeSlots.{eqb-apart}
 use Rattle.bus_laws.proofs.WorldFeed.{hears, feed-same, heard-none, unheard, some_answer-append}
 use Rattle.bus_laws.proofs.WorldReach.{and_left, start_heard, other_state}
@@ -380,10 +382,10 @@ following-same b r granted w f call.Fault fit s = stop-same b r w f s granted
 
 -- one message says the same in the world of its root as in the flat world, and they stay the same
 pub message-alike : (b : BoardView) (r : ℕ) (granted : ℕ → Option ℕ) (limit : ℕ) (w : World) (f : FlatListener) (m : MessageView) (last : Bool) (cut : Option ℕ)
-    → Same b r w f → LeadsTo w m.addr (granted m.addr) → AllByRecursion IsByte m.bytes
+    → Same b r w f → LeadsTo w m.addr (granted m.addr) → AreBytes m.bytes
     → ToldAlike (Same b r) (talk world_listener limit w m last cut) (talk (flat_listener granted) limit f m last cut)
 message-alike b r granted limit w f m last cut s leads bytes =
     talk-alike world_listener (flat_listener granted) (Same b r) IsByte (following-same b r granted)
-    (λ u g byte same. takes-same b r u g same byte) (λ u g same. gives-same b r u g same) limit w f m last cut bytes
+    (λ u g byte same. takes-same b r u g same byte) (λ u g same. gives-same b r u g same) limit w f m last cut (recursion_from_All IsByte m.bytes bytes)
     (stop-same b r w f s granted) (start-same b r w f s granted m.addr m.reading leads)
     (start-answer b r w f s m.addr (granted m.addr) leads m.reading)

@@ -1,7 +1,8 @@
 -- What the states of the devices keep: they are quiet after a stop, and hold bytes. The inductions go over memories.
 use Rattle.std.proofs.Common.{◌≡◌, ℕ, zero, suc, ◌+◌, ◌<◌, Bool, true, false, List, [], ◌∷◌, ◌++◌, length, take, drop, replicate, set, get_or, refl, ◌∙◌, arith, mod-eq_of_lt}
-use Rattle.std.specs.List.{AllByRecursion}
+use Rattle.std.specs.List.{AllByRecursion, All}
 use Rattle.std.specs.Prelude.{bit_and}
+use Rattle.std.proofs.lemmas.List.Elements.{All-head, All-tail, recursion_from_All}
 use Rattle.std.proofs.lemmas.Grind.{and_numeral}
 use Rattle.i2c_base.specs.declared.board.DeviceKind.{DeviceKind}
 use Rattle.i2c_base.specs.declared.board.DeviceKind.TheVariants as kind
@@ -10,10 +11,12 @@ use Rattle.i2c_base.specs.declared.event.Event.TheVariants as event
 use Rattle.i2c_base.specs.declared.event.Answer.{Answer}
 use Rattle.i2c_base.specs.declared.event.Answer.TheVariants as answer
 use Rattle.i2c_base.specs.Board.{DeviceView, RunView}
+use Rattle.i2c_base.specs.Bytes.{IsByte}
+use Rattle.i2c_spec.specs.Plain.{IsPlainRun, IsPlainDevice, memory_of}
 use Rattle.i2c_spec.specs.Regs.{RegsView, RegsPhase, Idle, Pointer, Data, Read, regs_sends, regs_put, regs_get, write_run, write_runs}
 use Rattle.i2c_spec.specs.Targets.{TargetState, Regs, Silent, state_table, state_after, state_answer, state_of, opening_state, IsQuiet, IsFairTable}
 use Rattle.i2c_spec.specs.World.{byte_of, has_heard, is_ack, is_slow}
-use Rattle.bus_laws.specs.Alike.{IsByte, HoldsBytes, RunsHoldBytes}
+use Rattle.bus_laws.specs.Alike.{HoldsBytes}
 
 pub stopped_quiet : (x : TargetState) → IsQuiet state_table (state_after x event.Stop)
 stopped_quiet (Regs x) = record { other = refl; stop = refl }
@@ -123,6 +126,15 @@ zero_bytes : (n : ℕ) → AllByRecursion IsByte (replicate n 0)
 zero_bytes zero = tt
 zero_bytes (suc n) = (let f : 0 < 256 = omega arith in f, zero_bytes n)
 
+-- what a board writes into its devices
+abbrev RunsHoldBytes : List RunView → Type 0
+RunsHoldBytes runs = AllByRecursion (λ r. AllByRecursion IsByte r.bytes) runs
+
+plain_runs : (size : ℕ) (runs : List RunView) → All (IsPlainRun size) runs → RunsHoldBytes runs
+plain_runs size [] all = tt
+plain_runs size (r ∷ rs) all =
+    (recursion_from_All IsByte r.bytes (All-head (IsPlainRun size) r rs all).bytes, plain_runs size rs (All-tail (IsPlainRun size) r rs all))
+
 runs_bytes : (runs : List RunView) (memory : List ℕ) → RunsHoldBytes runs → AllByRecursion IsByte memory → AllByRecursion IsByte (write_runs memory runs)
 runs_bytes [] memory all held = held
 runs_bytes (r ∷ rs) memory all held =
@@ -136,5 +148,5 @@ opened_bytes (kind.Eeprom size fill busy wp) runs all = tt
 opened_bytes (kind.Lm75 raw) runs all = tt
 opened_bytes (kind.Smbus width flip) runs all = tt
 
-pub opening-bytes : (d : DeviceView) → RunsHoldBytes d.set → HoldsBytes (opening_state d)
-opening-bytes d all = opened_bytes d.kind d.set all
+pub opening-bytes : (d : DeviceView) → IsPlainDevice d → HoldsBytes (opening_state d)
+opening-bytes d plain = opened_bytes d.kind d.set (plain_runs (memory_of d.kind) d.set plain.runs)

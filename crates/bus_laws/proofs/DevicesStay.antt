@@ -3,7 +3,7 @@
 use Rattle.std.proofs.Common.{◌≡◌, ℕ, zero, suc, ◌+◌, Bool, true, false, cond, ◌||◌, List, [], ◌∷◌, ◌++◌, map, Option, Some, None, eqb, refl, sym, ◌∙◌, ap, subst, zero-add, inl}
 use Rattle.std.proofs.lemmas.Bool.{eqb-true}
 use Rattle.std.specs.Prelude.{slice_get}
-use Rattle.std.specs.List.{AllByRecursion, list_any}
+use Rattle.std.specs.List.{list_any}
 use Rattle.std.specs.Option.{option_map}
 use Rattle.i2c_base.specs.declared.event.Event.{Event}
 use Rattle.i2c_base.specs.declared.event.Event.TheVariants as event
@@ -16,16 +16,18 @@ use Rattle.i2c_base.specs.Board.{BoardView, DeviceView}
 use Rattle.i2c_base.specs.Table.{Table}
 use Rattle.i2c_spec.specs.Tree.{of_device, home_of_mux, addr_of_mux, IsAlong}
 use Rattle.i2c_spec.specs.TreeFacts.{IsTree}
+use Rattle.i2c_spec.specs.Plain.{IsPlainBoard, IsPlainDevice}
 use Rattle.i2c_spec.specs.Targets.{TargetState, IsQuiet, state_table, opening_state}
 use Rattle.i2c_spec.specs.Messages.{MessageView}
 use Rattle.i2c_spec.specs.World.{World, is_joined, joins_device, given, feed, answers, answer_with, has_heard, start_event, device_start, start_chips, start_devices, heard_of, hearers, is_device, to_devices, stop_event, after, opening_world}
 use Rattle.i2c_spec.specs.Flat.{FlatListener, idle, is_it, is_member, put_named, answer_of, flat_start, to_current, to_named, flat_after, flat_listener}
 use Rattle.i2c_spec.specs.Conversation.{world_listener, talk}
-use Rattle.bus_laws.specs.Alike.{IsOf, HoldsBytes, IsByteBoard, RunsHoldBytes, Same, IsControl, IsUnnamed}
+use Rattle.bus_laws.specs.Alike.{IsOf, HoldsBytes, Same, IsControl, IsUnnamed}
 use Rattle.bus_laws.proofs.TalkLaws.{IsLater, talk-keeps}
 use Rattle.bus_laws.proofs.WorldFeed.{hears, feed-same, heard-none}
 use Rattle.bus_laws.proofs.WorldReach.{start_heard, other_state}
 use Rattle.bus_laws.proofs.WorldHears.{swap_along, device_address}
+use Rattle.bus_laws.proofs.BoardFacts.{get_within}
 use Rattle.bus_laws.proofs.DevicesStates.{opening-quiet, opening-bytes}
 use Rattle.bus_laws.proofs.DevicesHears.{fed-at, map-same}
 use Rattle.bus_laws.proofs.DevicesSame.{joined_of, stop-same}
@@ -282,20 +284,20 @@ opened_from : (o : Option DeviceView) (x : TargetState) → option_map opening_s
 opened_from None x e = absurd (let f : None ≡ Some x = e in cc)
 opened_from (Some d) x e = (d, refl, let f : Some (opening_state d) ≡ Some x = e in let h : opening_state d ≡ x = cc in h)
 
-runs_at : (ds : List DeviceView) (i : ℕ) (d : DeviceView) → AllByRecursion (λ (x : DeviceView). RunsHoldBytes x.set) ds → slice_get ds i ≡ Some d → RunsHoldBytes d.set
-runs_at [] i d all e = absurd (let f : None ≡ Some d = e in cc)
-runs_at (y ∷ ys) zero d all e = subst (λ (x : DeviceView). RunsHoldBytes x.set) (let f : Some y ≡ Some d = e in let g : y ≡ d = cc in g) all.0
-runs_at (y ∷ ys) (suc i) d all e = runs_at ys i d all.1 e
+plain_at : (b : BoardView) → IsPlainBoard b → (i : ℕ) (d : DeviceView) → slice_get b.devices i ≡ Some d → IsPlainDevice d
+plain_at b plain i d e =
+    let r = get_within b.devices i d d e in
+    subst (λ (x : DeviceView). IsPlainDevice x) r.1 (plain.devices i d r.0)
 
-pub opening-same : (b : BoardView) (r : ℕ) → IsByteBoard b → Same b r (opening_world b r) (idle (map opening_state b.devices))
-opening-same b r runs =
+pub opening-same : (b : BoardView) (r : ℕ) → IsPlainBoard b → Same b r (opening_world b r) (idle (map opening_state b.devices))
+opening-same b r plain =
     record {
       board = refl;
       root = refl;
       states = λ d own. refl;
       bytes = λ d x own at. (
           let from = opened_from (slice_get b.devices d) x (sym (opened_at b.devices d) ∙ at) in
-          subst (λ (y : TargetState). HoldsBytes y) from.2 (opening-bytes from.0 (runs_at b.devices d from.0 runs from.1)));
+          subst (λ (y : TargetState). HoldsBytes y) from.2 (opening-bytes from.0 (plain_at b plain d from.0 from.1)));
       quiet = λ d x own e at. (
           let from = opened_from (slice_get b.devices d) x (sym (opened_at b.devices d) ∙ at) in
           subst (λ (y : TargetState). IsQuiet state_table y) from.2 (opening-quiet from.0));

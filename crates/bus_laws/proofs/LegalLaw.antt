@@ -1,4 +1,4 @@
--- A stepwise past in which no settle is due keeps every rule of a legal journal but the one on replies.
+-- A stepwise past in which no settle is due keeps every rule of a legal journal, with the one on replies.
 use Rattle.std.proofs.Common.{◌≡◌, ℕ, ◌<◌, List, [], ◌∷◌, None}
 use Rattle.i2c_base.specs.declared.entry.Entry.{Entry}
 use Rattle.i2c_base.specs.declared.entry.Entry.TheVariants as entry

@@ -39,15 +39,26 @@ pub mod DevicesStops
 pub mod DevicesParts
 pub mod DevicesStay
 pub mod DevicesFlat
+pub mod MessageFacts
+pub mod DevicesSaid
 -- Whom each message of a journal reaches.
 pub mod DevicesReach
 pub mod WalkCalls
+pub mod WalkFirst
 pub mod AskedLaws
 pub mod DevicesPast
 -- No other message stands inside a transfer.
 pub mod WholeLaw
+pub mod FirstLaw
 pub mod PlacedLaw
 pub mod WalksLaw
+-- What a settle decides is what the flat world answers.
+pub mod VerdictLaw
+-- The devices and the replies of a whole past.
+pub mod DevicesStand
+pub mod DevicesCalls
+pub mod DevicesLaw
+pub mod LeftLaw
 pub mod LegalLaw
 -- No walk has more steps than its cost.
 pub mod CostLaw

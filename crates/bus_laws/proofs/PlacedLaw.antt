@@ -29,7 +29,7 @@ use Rattle.bus_laws.proofs.SettleLaw.{walk-starts}
 use Rattle.bus_laws.proofs.AskedLaws.{current-asked, past-asked, settled-told}
 
 -- a walk that settles nothing next
-starts_seen : (v : Slots) (w : WalkTree) → NoSettle w → NoSettle (seen v w)
+pub starts_seen : (v : Slots) (w : WalkTree) → NoSettle w → NoSettle (seen v w)
 starts_seen v Ends h = h
 starts_seen v (Look (MarkOf p) next) h = starts_seen v (next (mark_in (v p).slot)) (h (mark_in (v p).slot))
 starts_seen v (Then act note next) h = h

@@ -11,7 +11,7 @@ use Rattle.i2c_spec.specs.Messages.{MessageView, messages_of}
 use Rattle.i2c_spec.specs.Flat.{refusal}
 use Rattle.bus_spec.specs.Walk.{Job, Call, Select, Clear, Free, Send, Shift, Settle, ActOutcome, Sent, Lined, JobOutcome, Good, Refused, Unsent, Failed, Note, WalkTree, Ends, Then, Go, On, Last, Over, goes, job_outcome, verdict_of, decides, is_line, more_of}
 use Rattle.bus_spec.specs.Grammar.{Doer, plain, settled, over, by_go, messages, at_bus, locked, part, with_mark, aside, if_sent, if_good, kind_of, closing, opened, chosen, behind, inner, walk_by, walk_for, first_act}
-use Rattle.bus_laws.specs.Settles.{IsDecided, NoSettle, IsBefore, GoesOn, Settles}
+use Rattle.bus_laws.specs.Settles.{EndsJob, IsDecided, NoSettle, IsBefore, GoesOn, Settles}
 
 -- a job on the way to the caller's messages has settled their transfer, where it ended so
 abbrev is_settled : Job → JobOutcome → Bool
@@ -124,13 +124,13 @@ module _ (job : Job) (note : Note) (k : JobOutcome → WalkTree) (done : Bool) (
   first_message (suc left) j = refl
 
   -- the end of a job settles, or nothing does before the next step
-  over_decided : (j : Job) (left : ℕ) (out : ActOutcome) → IsDecided note j left out (over j left note k out)
-  over_decided j left out =
+  over_decided : (j : Job) (left : ℕ) (out : ActOutcome) → EndsJob j left out → IsDecided note j left out (over j left note k out)
+  over_decided j left out ends =
       either note.forward (decides j (job_outcome j left out)) refl refl
     where
       either : (x y : Bool) → note.forward ≡ x → decides j (job_outcome j left out) ≡ y → IsDecided note j left out (over j left note k out)
       either true true f d =
-          inr (f, d, ap (λ (t : Bool). first_act (settled t (verdict_of j left out) (k (job_outcome j left out)))) (both note.forward (decides j (job_outcome j left out)) f d))
+          inr (f, d, ap (λ (t : Bool). first_act (settled t (verdict_of j left out) (k (job_outcome j left out)))) (both note.forward (decides j (job_outcome j left out)) f d), ends)
         where
           both : (x y : Bool) → x ≡ true → y ≡ true → (x && y) ≡ true
           both x y p q = ap (λ (t : Bool). t && y) p ∙ q
@@ -152,10 +152,10 @@ module _ (job : Job) (note : Note) (k : JobOutcome → WalkTree) (done : Bool) (
   messages_start zero j = tt
   messages_start (suc left) j = tt
 
-  go_decided : (j : Job) (left : ℕ) (out : ActOutcome) (g : Go) (w x y : WalkTree) → NoSettle w → NoSettle x → IsDecided note j left out y → IsDecided note j left out (by_go g w x y)
+  go_decided : (j : Job) (left : ℕ) (out : ActOutcome) (g : Go) (w x y : WalkTree) → NoSettle w → NoSettle x → (g ≡ Over → IsDecided note j left out y) → IsDecided note j left out (by_go g w x y)
   go_decided j left out On w x y hw hx hy = inl hw
   go_decided j left out Last w x y hw hx hy = inl hx
-  go_decided j left out Over w x y hw hx hy = hy
+  go_decided j left out Over w x y hw hx hy = hy refl
 
   -- what follows a message
   goes_next : (j : Job) (left : ℕ) (e : End) (bytes : List ℕ) → CallsForward note.forward j
@@ -168,16 +168,16 @@ module _ (job : Job) (note : Note) (k : JobOutcome → WalkTree) (done : Bool) (
   goes_next (Call bus ms) left (end.Cut q) bytes f = over_first bus ms (suc left) (Sent (end.Cut q) bytes) f
   goes_next (Select h) left e bytes f =
       go_decided (Select h) (suc left) (Sent e bytes) (goes (Select h) left (Sent e bytes)) (messages left (Select h) note k) (messages zero (Select h) note k) (over (Select h) (suc left) note k (Sent e bytes))
-      (messages_start left (Select h)) tt (over_decided (Select h) (suc left) (Sent e bytes))
+      (messages_start left (Select h)) tt (λ ends. over_decided (Select h) (suc left) (Sent e bytes) ends)
   goes_next (Clear on mux kind) left e bytes f =
       go_decided (Clear on mux kind) (suc left) (Sent e bytes) (goes (Clear on mux kind) left (Sent e bytes)) (messages left (Clear on mux kind) note k) (messages zero (Clear on mux kind) note k)
       (over (Clear on mux kind) (suc left) note k (Sent e bytes))
-      (messages_start left (Clear on mux kind)) tt (over_decided (Clear on mux kind) (suc left) (Sent e bytes))
+      (messages_start left (Clear on mux kind)) tt (λ ends. over_decided (Clear on mux kind) (suc left) (Sent e bytes) ends)
 
   goes_over : (j : Job) (out : ActOutcome) → CallsForward note.forward j → GoesOn note j zero out (over j zero note k out)
   goes_over (Call bus ms) out f = over_first bus ms zero out f
-  goes_over (Select h) out f = over_decided (Select h) zero out
-  goes_over (Clear on mux kind) out f = over_decided (Clear on mux kind) zero out
+  goes_over (Select h) out f = over_decided (Select h) zero out tt
+  goes_over (Clear on mux kind) out f = over_decided (Clear on mux kind) zero out tt
 
   go_settles : (g : Go) (w x y : WalkTree) → Settles done w → Settles done x → Settles done y → Settles done (by_go g w x y)
   go_settles On w x y hw hx hy = hw
@@ -201,7 +201,7 @@ module _ (job : Job) (note : Note) (k : JobOutcome → WalkTree) (done : Bool) (
 
   bus_settles : (t : Bool) → NoSettle (cond t (Then (Shift job) note (over job zero note k)) (messages (more_of job) job note k))
       × Settles done (cond t (Then (Shift job) note (over job zero note k)) (messages (more_of job) job note k))
-  bus_settles true = (tt, λ failed. (over_decided job zero (Lined failed), over_settles zero (Lined failed) (lined_decides job zero failed)))
+  bus_settles true = (tt, λ failed. (over_decided job zero (Lined failed) tt, over_settles zero (Lined failed) (lined_decides job zero failed)))
   bus_settles false = (messages_start (more_of job) job, messages_settle (more_of job))
 
 at_bus-settles : DoerSettles at_bus

@@ -1,5 +1,5 @@
 -- No caller makes more steps than its transfers cost. The inductions go over the steps of a walk, and over the walks.
-use Rattle.std.proofs.Common.{◌≡◌, ℕ, zero, suc, ◌+◌, ◌-◌, ◌<◌, ◌≤◌, Bool, true, false, cond, List, [], ◌∷◌, ◌++◌, length, Option, Some, None, refl, sym, ◌∙◌, ap, subst, arith, append_assoc}
+use Rattle.std.proofs.Common.{◌≡◌, ℕ, zero, suc, ◌+◌, ◌-◌, ◌<◌, ◌≤◌, cond, List, [], ◌∷◌, ◌++◌, length, Option, Some, None, refl, sym, ◌∙◌, ap, subst, arith, append_assoc}
 use Rattle.std.specs.Option.{option_map_or}
 use Rattle.i2c_base.specs.declared.entry.Entry.{Entry}
 use Rattle.i2c_base.specs.declared.entry.Entry.TheVariants as entry
@@ -10,16 +10,16 @@ use Rattle.i2c_spec.specs.TreeFacts.{IsTree}
 use Rattle.i2c_spec.specs.Rules.{MeetsRules}
 use Rattle.i2c_spec.specs.History.{Asks}
 use Rattle.i2c_spec.specs.Cost.{cost_of}
-use Rattle.bus_spec.specs.Walk.{Act, Take, Free, Send, Shift, Settle, ActOutcome, MarkOf, WalkTree, Ends, Look, Then}
+use Rattle.bus_spec.specs.Walk.{Act, Take, Free, Send, Shift, ActOutcome, MarkOf, WalkTree, Ends, Look, Then}
 use Rattle.bus_spec.specs.Slots.{Slots, mark_in}
 use Rattle.bus_spec.specs.Grammar.{walk_for, seen, first_act, rest_of}
 use Rattle.bus_spec.specs.Past.{now}
 use Rattle.bus_spec.specs.Stepwise.{IsStepwise}
-use Rattle.bus_spec.specs.Legal.{Step, Does, outcome_of, Leads, replies_in, AreWalks, none, whole, front, steps_in, KeepsWalks}
+use Rattle.bus_spec.specs.Legal.{Step, Does, outcome_of, Leads, replies_in, AreWalks, none, whole, front, steps_in}
 use Rattle.bus_laws.specs.Reach.{AsksForMessages}
 use Rattle.bus_laws.specs.Costs.{IsWithin, is_step, steps_made, cost_at, spent, KeepsCosts}
 use Rattle.bus_laws.proofs.StandsEntries.{first_is}
-use Rattle.bus_laws.proofs.CostLaw.{within_more, walk-within}
+use Rattle.bus_laws.proofs.CostLaw.{walk-within}
 use Rattle.bus_laws.proofs.WalksLaw.{reply_at, replies_first, walks-kept}
 
 within_seen : (v : Slots) (w : WalkTree) (n : ℕ) → IsWithin w n → IsWithin (seen v w) n

@@ -17,6 +17,7 @@ use Rattle.bus_spec.specs.Walk.{Mark, Job, Call, Select, Clear, ActOutcome, Pass
 use Rattle.bus_spec.specs.Slots.{Slots, At, MuxSlot, Clean, Selected, Marked, Polled, Found, with_slot, set_marks, after_job}
 use Rattle.bus_spec.specs.Grammar.{settled, over, by_go, messages}
 use Rattle.bus_laws.specs.Runs.{InLocks, answers, CanSend, CanSelect, FindsSelect, CanGoThrough, HeadsMarks, IsUnmarked, IsOfMux, MayFail, Owns, MaySend, Runs}
+use Rattle.bus_laws.proofs.BoardFacts.{absent_silent, held_silent}
 use Rattle.bus_laws.proofs.TreeSlots.{with_slot-same, with_slot-other, set_marks-along}
 use Rattle.bus_laws.proofs.TreeDoers.{After, CanJob, job_after}
 
@@ -188,10 +189,10 @@ module _ (b : BoardView) (whose : TransferView) (tree : IsTree b) (root : ℕ) (
   select_ends : (v : Slots) (left : ℕ) (e : End) (bytes : List ℕ) → IsSameOff h.on v first → (e ≡ end.Ok → ⊥) → CanSelect b h left e bytes
       → Runs b whose held (after_job (Select h) left note.marks (Sent e bytes) v) (over (Select h) left note k (Sent e bytes))
   select_ends v left end.Ok bytes same bad can = absurd (bad refl)
-  select_ends v left end.Nack bytes same bad can = over-runs b whose held (with_slot v h.on Clean) (Select h) left note k (Sent end.Nack bytes) (select_refused v same can)
-  select_ends v left end.Slow bytes same bad can = over-runs b whose held (with_slot v h.on Clean) (Select h) left note k (Sent end.Slow bytes) (select_refused v same can)
-  select_ends v left end.Refused bytes same bad can = over-runs b whose held (with_slot v h.on Clean) (Select h) left note k (Sent end.Refused bytes) (select_refused v same can)
-  select_ends v left end.Proto bytes same bad can = over-runs b whose held (with_slot v h.on Clean) (Select h) left note k (Sent end.Proto bytes) (select_refused v same can)
+  select_ends v left end.Nack bytes same bad can = over-runs b whose held (with_slot v h.on Clean) (Select h) left note k (Sent end.Nack bytes) (select_refused v same (absent_silent b h.mux can))
+  select_ends v left end.Slow bytes same bad can = absurd can
+  select_ends v left end.Refused bytes same bad can = absurd can
+  select_ends v left end.Proto bytes same bad can = absurd can
   select_ends v left (end.Cut q) bytes same bad can = over-runs b whose held (set_marks note.marks v) (Select h) left note k (Sent (end.Cut q) bytes) (select_failed v same)
 
   -- the write is the last message
@@ -226,7 +227,7 @@ module _ (b : BoardView) (whose : TransferView) (tree : IsTree b) (root : ℕ) (
       (by_go (cond t Last Over) (messages zero (Select h) note k) (messages zero (Select h) note k) (over (Select h) (suc zero) note k (Sent end.Ok bytes)))
   last_poll v bytes same arb can true e = polled_free v same arb
   last_poll v bytes same arb can false e =
-      let ans : answers b h.mux ≡ false = elim can [ inl z ↦ absurd (eqb-false (first_byte bytes) 0 e z) | inr a ↦ a ] in
+      let ans : answers b h.mux ≡ false = elim can [ inl z ↦ absurd (eqb-false (first_byte bytes) 0 e z) | inr a ↦ held_silent b h.mux a.1 ] in
       over-runs b whose held (with_slot v h.on Clean) (Select h) (suc zero) note k (Sent end.Ok bytes) (select_refused v same ans)
 
   more_polls : is_arbitrator h.kind ≡ true → (left : ℕ) (v : Slots) (bytes : List ℕ) → IsSameOff h.on v first

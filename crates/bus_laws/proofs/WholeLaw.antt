@@ -17,7 +17,7 @@ use Rattle.i2c_spec.specs.TreeFacts.{IsTree}
 use Rattle.i2c_spec.specs.Plain.{IsPlainBoard}
 use Rattle.i2c_spec.specs.Messages.{MessageView}
 use Rattle.i2c_spec.specs.History.{Asks, changed_at}
-use Rattle.bus_spec.specs.Walk.{Mark, Job, Call, Select, Clear, Act, Take, Free, Send, Shift, Settle, ActOutcome, Passed, Sent, Lined, WalkTree, Ends, Look, Then, goes, verdict_of, job_bus, job_purpose, line_mux}
+use Rattle.bus_spec.specs.Walk.{Mark, Job, Call, Select, Clear, Act, Take, Free, Send, Shift, Settle, ActOutcome, Passed, Sent, Lined, WalkTree, Ends, Look, Then, goes, verdict_of, job_bus, job_purpose, line_mux, is_line}
 use Rattle.bus_spec.specs.Slots.{Slots, after_job}
 use Rattle.bus_spec.specs.Grammar.{seen, is_over, first_act, first_note, rest_of}
 use Rattle.bus_spec.specs.Readings.{is_call, is_call_of, is_settle_of, is_on_root}
@@ -50,7 +50,7 @@ abbrev pub AreInside : BoardView → Now → Type 0
 AreInside b n = (r c : ℕ) → n.inside r ≡ Some c → IsInside b r (n.walk c) (n.held c)
 
 -- a walk under way goes on where it stands
-goes_on_from : (v : Slots) (x w : WalkTree) (act : Act) → first_act w ≡ Some act → first_act (seen v (cond (is_over w) x w)) ≡ Some act
+pub goes_on_from : (v : Slots) (x w : WalkTree) (act : Act) → first_act w ≡ Some act → first_act (seen v (cond (is_over w) x w)) ≡ Some act
 goes_on_from v x Ends act e = absurd (let f : None ≡ Some act = e in cc)
 goes_on_from v x (Look ask next) act e = absurd (let f : None ≡ Some act = e in cc)
 goes_on_from v x (Then a note next) act e = e
@@ -59,7 +59,7 @@ pub some_is : {X : Type 0} (x y : X) → Some x ≡ Some y → x ≡ y
 some_is x y e = cc
 
 -- a message that went through, whatever may follow
-goes_alike : (bus : ℕ) (ms : List MessageView) (left more : ℕ) (e : End) (bytes : List ℕ)
+pub goes_alike : (bus : ℕ) (ms : List MessageView) (left more : ℕ) (e : End) (bytes : List ℕ)
     → is_on (goes (Call bus ms) left (Sent e bytes)) ≡ is_on (goes (Call bus ms) more (Sent e bytes))
 goes_alike bus ms left more end.Ok bytes = refl
 goes_alike bus ms left more end.Nack bytes = refl
@@ -69,7 +69,7 @@ goes_alike bus ms left more end.Proto bytes = refl
 goes_alike bus ms left more (end.Cut q) bytes = refl
 
 -- who is inside behind a message that others follow
-more_follow : (bus : ℕ) (ms : List MessageView) (left : ℕ) (out : ActOutcome) (d : ℕ) (old : Option ℕ)
+pub more_follow : (bus : ℕ) (ms : List MessageView) (left : ℕ) (out : ActOutcome) (d : ℕ) (old : Option ℕ)
     → inside_after (Call bus ms) (suc left) out d old ≡ cond (is_on (goes (Call bus ms) (suc left) out)) (Some d) None
 more_follow bus ms left out d old =
     ap (λ (t : Bool). cond t None (cond (is_on (goes (Call bus ms) (suc left) out)) (Some d) None)) (eqb-apart (suc left) 0 (λ e. absurd (omega (arith, e))))
@@ -83,7 +83,7 @@ module _ (b : BoardView) (tree : IsTree b) (plain : IsPlainBoard b) (lines : Lin
   stands = past-stands b tree plain lines asks some callers past steps
 
   -- two callers don't hold one lock
-  alone : (c d : ℕ) (l : LockId) → InLocks l (n.held c) → InLocks l (n.held d) → d ≡ c
+  pub alone : (c d : ℕ) (l : LockId) → InLocks l (n.held c) → InLocks l (n.held d) → d ≡ c
   alone c d l i j = sym (some_is c d (sym (stands.holds c l i) ∙ stands.holds d l j))
 
   module _ (d : ℕ) where
@@ -94,7 +94,7 @@ module _ (b : BoardView) (tree : IsTree b) (plain : IsPlainBoard b) (lines : Lin
     asked = current-asked b asks some n (past-asked b asks some callers past steps) d
 
     -- the root's lock is held at each message and at each line step
-    sent_rooted : (job : Job) (left : ℕ) → IsNext b asks n d (Send job left) → InLocks (lock.Bus (root_of b (job_bus job))) (n.held d)
+    pub sent_rooted : (job : Job) (left : ℕ) → IsNext b asks n d (Send job left) → InLocks (lock.Bus (root_of b (job_bus job))) (n.held d)
     sent_rooted job left first =
         let at = first_is (current b asks n d) (Send job left) first in
         let runs : MaySend b cs.whose job left at.0.marks (n.held d) cs.view
@@ -110,8 +110,11 @@ module _ (b : BoardView) (tree : IsTree b) (plain : IsPlainBoard b) (lines : Lin
         subst (λ (w : WalkTree). Runs b cs.whose (n.held d) cs.view w) at.2 cs.runs in
         (at.0.marks, runs.0)
 
+    pub line_next : (job : Job) → IsNext b asks n d (Shift job) → is_line job ≡ true
+    line_next job first = (line_may job first).1.by_line
+
     -- what follows a caller's message in its walk
-    call_goes : (bus : ℕ) (ms : List MessageView) (left : ℕ) (e : End) (bytes : List ℕ) → IsNext b asks n d (Send (Call bus ms) left)
+    pub call_goes : (bus : ℕ) (ms : List MessageView) (left : ℕ) (e : End) (bytes : List ℕ) → IsNext b asks n d (Send (Call bus ms) left)
         → CallGoesOn bus ms left (Sent e bytes) (rest_of (current b asks n d) (Sent e bytes))
     call_goes bus ms left e bytes first =
         let at = first_is (current b asks n d) (Send (Call bus ms) left) first in
@@ -120,13 +123,13 @@ module _ (b : BoardView) (tree : IsTree b) (plain : IsPlainBoard b) (lines : Lin
 
   -- who is inside sends next
   module _ (inside : AreInside b n) where
-    inside_next : (r c : ℕ) (e : n.inside r ≡ Some c)
+    pub inside_next : (r c : ℕ) (e : n.inside r ≡ Some c)
         → IsNext b asks n c (Send (Call (inside r c e).bus (inside r c e).messages) (inside r c e).left)
     inside_next r c e =
         goes_on_from n.slot (begun b (asks c (n.settled c))) (n.walk c) (Send (Call (inside r c e).bus (inside r c e).messages) (inside r c e).left) (inside r c e).sends
 
     -- another step is another caller's
-    other_caller : (r c d : ℕ) (act : Act) → n.inside r ≡ Some c → IsNext b asks n d act
+    pub other_caller : (r c d : ℕ) (act : Act) → n.inside r ≡ Some c → IsNext b asks n d act
         → ((bus : ℕ) (ms : List MessageView) (left : ℕ) → act ≡ Send (Call bus ms) left → root_of b bus ≡ r → ⊥) → c ≡ d → ⊥
     other_caller r c d act e next no_call same =
         let mine = inside_next r c e in
@@ -239,7 +242,7 @@ past-inside b tree plain lines asks some callers (e ∷ past) steps =
     step_inside b tree plain lines asks some callers past steps.1 (past-inside b tree plain lines asks some callers past steps.1) e steps.0
 
 -- BETWEEN two messages of a caller: its transfer is inside, or its settle is due
-abbrev Between : Now → ℕ → ℕ → Type 0
+abbrev pub Between : Now → ℕ → ℕ → Type 0
 Between n c r = (n.inside r ≡ Some c) ⊎ (n.due ≡ Some c)
 
 -- entries of the root are messages of the caller's
@@ -297,7 +300,7 @@ module _ (b : BoardView) (tree : IsTree b) (plain : IsPlainBoard b) (lines : Lin
       by_left (suc more) next inside = by_on more next (is_on (goes (Call bus ms) (suc more) (Sent e bytes))) refl inside
 
   -- the same for the entry of such a message
-  entry_between : (past : List Entry) (steps : IsStepwise b callers asks past) (d bus : ℕ) (purpose : Purpose) (part parts addr : ℕ) (reading : Bool) (bytes : List ℕ) (heard : _) (e : End)
+  pub entry_between : (past : List Entry) (steps : IsStepwise b callers asks past) (d bus : ℕ) (purpose : Purpose) (part parts addr : ℕ) (reading : Bool) (bytes : List ℕ) (heard : _) (e : End)
       → May b callers asks (now b asks past) (entry.Message d bus purpose part parts addr reading bytes heard e) → is_call purpose ≡ true
       → Between (step b asks (now b asks past) (entry.Message d bus purpose part parts addr reading bytes heard e)) d (root_of b bus)
   entry_between past steps d bus purpose part parts addr reading bytes heard e may call =
@@ -336,7 +339,7 @@ module _ (b : BoardView) (tree : IsTree b) (plain : IsPlainBoard b) (lines : Lin
         ]
 
     -- whose bus's root this is, and who sends there
-    own_call : (d : ℕ) (job : Job) (left : ℕ) → here.inside r ≡ Some c → IsNext b asks here d (Send job left) → root_of b (job_bus job) ≡ r
+    pub own_call : (d : ℕ) (job : Job) (left : ℕ) → here.inside r ≡ Some c → IsNext b asks here d (Send job left) → root_of b (job_bus job) ≡ r
         → (d ≡ c) × (is_call (job_purpose job) ≡ true)
     own_call d job left is next root_is =
         let inside = past-inside b tree plain lines asks some callers past steps in
@@ -359,7 +362,7 @@ module _ (b : BoardView) (tree : IsTree b) (plain : IsPlainBoard b) (lines : Lin
         by_job (Clear on mux kind) may = ap (λ (i : ℕ). root_of b i) may.finds.1
 
     -- nobody switches a line of the root
-    no_line : (d : ℕ) (job : Job) → here.inside r ≡ Some c → IsNext b asks here d (Shift job) → root_of b (job_bus job) ≡ r → ⊥
+    pub no_line : (d : ℕ) (job : Job) → here.inside r ≡ Some c → IsNext b asks here d (Shift job) → root_of b (job_bus job) ≡ r → ⊥
     no_line d job is next root_is =
         let inside = past-inside b tree plain lines asks some callers past steps in
         let mine : InLocks (lock.Bus r) (here.held c) = (inside r c is).locked in

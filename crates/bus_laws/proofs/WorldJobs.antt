@@ -27,7 +27,7 @@ use Rattle.bus_laws.proofs.TreeSlots.{with_slot-same, with_slot-other, set_marks
 use Rattle.bus_laws.proofs.WorldControl.{looked_opens, put_byte, Changes, Quiet, absent-talk, Writes, Reads, taken_byte, look, write-talk, read-talk}
 use Rattle.bus_laws.proofs.ChipLaws.{HasChannel, OpensOne, select_opens, close_opens, SameSort, taken_sort, looked_sort}
 use Rattle.bus_laws.proofs.WorldSlots.{set_marks-only, told-marks, SlotTold, told-turned}
-use Rattle.bus_laws.proofs.BoardFacts.{mux_at, get_same_length, has_address_of, has_chip-is, not_held, foreign_few, held-is, foreign-is, answers-is, absent_silent, held_silent}
+use Rattle.bus_laws.proofs.BoardFacts.{mux_at, get_same_length, has_address_of, has_chip-is, not_held, foreign_few, held-is, foreign-is, answers-is}
 use Rattle.bus_laws.proofs.WorldLaw.{world-is, along_here, joined_here, talk_framed, replaced-chip, same_changes, still_none, world_replaced}
 
 -- equal chips are told alike
@@ -35,7 +35,7 @@ pub told_equal : (b : BoardView) (v : Slots) (old new : ℕ → Option ChipView)
 told_equal b v old new same told =
     record {
       kept = λ m x e. told.kept m x (sym (same m) ∙ e);
-      opened = λ p h e. (let o = told.opened p h e in (o.0, same h.mux ∙ o.1, o.2, o.3, o.4));
+      opened = λ p h e. (let o = told.opened p h e in (o.0, same h.mux ∙ o.1, o.2, o.3, o.4, o.5));
       polled = λ p h n x e at. told.polled p h n x e (sym (same h.mux) ∙ at);
       found = λ p h x e at. told.found p h x e (sym (same h.mux) ∙ at);
       asked = told.asked;
@@ -297,10 +297,10 @@ module _ (b : BoardView) (tree : IsTree b) (plain : IsPlainBoard b) (v : Slots) 
     same_value : select_value h.kind h.channel ≡ value
     same_value = ap (λ (k : MuxKind). select_value k h.channel) same_kind
 
-    select_done : ((x : ChipView) → chip_in b ws m ≡ Some x → is_arbitrator kind ≡ true → is_free x ≡ true) → is_absent b m ≡ false
+    select_done : ((x : ChipView) → chip_in b ws m ≡ Some x → is_arbitrator kind ≡ true → is_free x ≡ true) → is_absent b m ≡ false → is_held b m ≡ false
         → Changes (ws (root_of b p)).chips (sent select_message).now.chips m (taken_byte (select_value h.kind h.channel))
         → WorldTold b (with_slot v h.on (Selected h)) (changed_at ws (root_of b p) (sent select_message).now)
-    select_done free here changes =
+    select_done free here held_not changes =
         turn select_message (with_slot v h.on (Selected h)) (Selected h) (taken_byte (select_value h.kind h.channel)) changes
         (λ x at. taken_sort x.kind x (select_value h.kind h.channel) (no_line x at))
         (slot_here (Selected h)) (slot_there (Selected h))
@@ -311,6 +311,7 @@ module _ (b : BoardView) (tree : IsTree b) (plain : IsPlainBoard b) (v : Slots) 
             chip-told,
             subst (λ (i : Hop). is_open (taken_byte (select_value h.kind h.channel) chip.0) i.channel ≡ true) f (opens chip.0 chip-told).opened,
             here,
+            held_not,
           ));
           polled = λ g n e. absurd (let f : Selected h ≡ Polled g n = e in cc);
           found = λ g e. absurd (let f : Selected h ≡ Found g = e in cc);
@@ -334,7 +335,7 @@ module _ (b : BoardView) (tree : IsTree b) (plain : IsPlainBoard b) (v : Slots) 
         → (t : Bool) → is_absent b m ≡ t → (bytes : List ℕ) → Chosen (sent select_message).end bytes × CanSelect b h zero (sent select_message).end bytes
     select_by free held_not true gone bytes =
         let q = quiet select_message refl gone in
-        let silent : answers b h.mux ≡ false = ap (answers b) same_mux ∙ absent_silent b m gone in
+        let silent : is_absent b h.mux ≡ true = ap (is_absent b) same_mux ∙ gone in
         elim q.1 [
           | inl e ↦ subst (λ (x : End). Chosen x bytes × CanSelect b h zero x bytes) (sym e) (nack_here select_message gone q.0, silent)
           | inr early ↦ elim early [
@@ -349,7 +350,7 @@ module _ (b : BoardView) (tree : IsTree b) (plain : IsPlainBoard b) (v : Slots) 
             | inr e ↦ subst (λ (x : End). Chosen x bytes × CanSelect b h zero x bytes) (sym e) (mark_only select_message cut_off.0, tt)
           ]
           | inr through ↦ elim through.1 [
-            | inl e ↦ subst (λ (x : End). Chosen x bytes × CanSelect b h zero x bytes) (sym e) (select_done free here through.0, answers_here here held_not)
+            | inl e ↦ subst (λ (x : End). Chosen x bytes × CanSelect b h zero x bytes) (sym e) (select_done free here held_not through.0, answers_here here held_not)
             | inr e ↦ subst (λ (x : End). Chosen x bytes × CanSelect b h zero x bytes) (sym e) (
               marked_turn select_message (taken_byte (select_value h.kind h.channel)) through.0
                   (λ x at. taken_sort x.kind x (select_value h.kind h.channel) (no_line x at)) here,
@@ -452,17 +453,18 @@ module _ (b : BoardView) (tree : IsTree b) (plain : IsPlainBoard b) (v : Slots) 
           by_test true = refl
           by_test false = refl
 
-      held_now : chip.0.foreign ≡ 8 → answers b h.mux ≡ false
-      held_now e =
-          ap (answers b) same_mux
-          ∙ held_silent b m (held-is b m spec spec-at ∙ eq-eqb spec.foreign 8 (sym (foreign-is b m spec spec-at) ∙ chip-of.foreign ∙ e))
+      held_now : is_absent b m ≡ false → chip.0.foreign ≡ 8 → (is_absent b h.mux ≡ false) × (is_held b h.mux ≡ true)
+      held_now here e = (
+        ap (is_absent b) same_mux ∙ here,
+        ap (is_held b) same_mux ∙ held-is b m spec spec-at ∙ eq-eqb spec.foreign 8 (sym (foreign-is b m spec spec-at) ∙ chip-of.foreign ∙ e),
+      )
 
       through_by : is_absent b m ≡ false → Changes (ws (root_of b p)).chips (sent poll_message).now.chips m look
           → (k : ℕ) → n ≡ k → (t : Bool) → is_foreign chip.0 ≡ t
           → WorldTold b (with_slot v h.on (polled_slot h k (cond t 1 0 ∷ []))) (changed_at ws (root_of b p) (sent poll_message).now) × CanGoThrough b h (suc k) (cond t 1 0 ∷ [])
       through_by here changes zero at_k true foreign = (
         poll_turn Clean here changes (clean_slot-told here),
-        inr (held_now (held_or_left chip.0 foreign (subst (λ (i : ℕ). (chip.0.left ≤ i) ⊎ (chip.0.foreign ≡ 8)) at_k (few_left chip.0 chip-told)))),
+        inr (held_now here (held_or_left chip.0 foreign (subst (λ (i : ℕ). (chip.0.left ≤ i) ⊎ (chip.0.foreign ≡ 8)) at_k (few_left chip.0 chip-told)))),
       )
       through_by here changes (suc k) at_k true foreign =
           (poll_turn (Polled h k) here changes (polled_slot-told k at_k here), tt)
@@ -474,7 +476,7 @@ module _ (b : BoardView) (tree : IsTree b) (plain : IsPlainBoard b) (v : Slots) 
       poll_by : (t : Bool) → is_absent b m ≡ t → Asked (sent poll_message).end (sent poll_message).bytes
       poll_by true gone =
           let q = quiet poll_message refl gone in
-          let silent : answers b h.mux ≡ false = ap (answers b) same_mux ∙ absent_silent b m gone in
+          let silent : is_absent b h.mux ≡ true = ap (is_absent b) same_mux ∙ gone in
           elim q.1 [
             | inl e ↦ subst (λ (x : End). Asked x (sent poll_message).bytes) (sym e) (nack_here poll_message gone q.0, silent)
             | inr early ↦ elim early [

@@ -25,7 +25,7 @@ use Rattle.bus_laws.proofs.TreeSlots.{with_slot-same, with_slot-other}
 use Rattle.bus_laws.proofs.WorldControl.{Changes, stopped-chips}
 use Rattle.bus_laws.proofs.ChipLaws.{level_opens, level_closes, SameSort}
 use Rattle.bus_laws.proofs.WorldSlots.{set_marks-only, told-marks, SlotTold, told-turned}
-use Rattle.bus_laws.proofs.BoardFacts.{mux_at, get_same_length, plain_mux}
+use Rattle.bus_laws.proofs.BoardFacts.{mux_at, get_same_length, plain_mux, not_held}
 use Rattle.bus_laws.proofs.WorldLaw.{whole, replaced-chip, still_none, world_replaced}
 use Rattle.bus_laws.proofs.WorldJobs.{told_equal}
 use Rattle.bus_laws.proofs.WorldSends.{own_select, own_open, same_chip_in}
@@ -157,6 +157,7 @@ module _ (b : BoardView) (plain : IsPlainBoard b) (v : Slots) (ws : ℕ → Worl
           told,
           subst (λ (i : Hop). is_open (at_level chip.0 (h.channel + 1)) i.channel ≡ true) f (level_opens chip.0 h.channel (kind-of chip.0 told)).opened,
           gpio_here b plain m known,
+          not_held b plain m Gpio known refl,
         ));
         polled = λ g n e. absurd (let f : Selected h ≡ Polled g n = e in cc);
         found = λ g e. absurd (let f : Selected h ≡ Found g = e in cc);

@@ -5,7 +5,7 @@ use Rattle.std.proofs.lemmas.Bool.{eq-eqb}
 use Rattle.std.proofs.lemmas.Bool.Decides.{eqb_tells}
 use Rattle.i2c_base.specs.Board.{BoardView}
 use Rattle.i2c_base.specs.declared.ids.LockId.{LockId}
-use Rattle.i2c_spec.specs.Tree.{Hop, home_of_mux, is_absent}
+use Rattle.i2c_spec.specs.Tree.{Hop, home_of_mux, is_absent, is_held}
 use Rattle.i2c_spec.specs.Chips.{ChipView, is_open, is_free}
 use Rattle.bus_spec.specs.Walk.{Mark}
 use Rattle.bus_spec.specs.Slots.{Slots, At, MuxSlot, Clean, Selected, Marked, Polled, Found, set_marks}
@@ -91,7 +91,7 @@ turned (Some x) f y e = (x, refl, (let g : Some (f x) ≡ Some y = e in cc))
 -- what the changed chip has to do with what is known of its bus afterwards
 pub record SlotTold (b : BoardView) (old : ℕ → Option ChipView) (k : ℕ) (f : ChipView → ChipView) (s : MuxSlot) : Type 0 where
   pub opened : (h : Hop) → s ≡ Selected h
-      → (h.mux ≡ k) × (x : ChipView) × (old k ≡ Some x) × (is_open (f x) h.channel ≡ true) × (is_absent b k ≡ false)
+      → (h.mux ≡ k) × (x : ChipView) × (old k ≡ Some x) × (is_open (f x) h.channel ≡ true) × (is_absent b k ≡ false) × (is_held b k ≡ false)
   pub polled : (h : Hop) (n : ℕ) → s ≡ Polled h n → (h.mux ≡ k) × ((x : ChipView) → old k ≡ Some x → ((f x).left ≤ n) ⊎ ((f x).foreign ≡ 8))
   pub found : (h : Hop) → s ≡ Found h → (h.mux ≡ k) × ((x : ChipView) → old k ≡ Some x → is_free (f x) ≡ true)
   pub only : (c : ℕ) (x : ChipView) → old k ≡ Some x → is_open (f x) c ≡ true → Explains s k c
@@ -149,9 +149,10 @@ module _ (b : BoardView) (v w : Slots) (old new : ℕ → Option ChipView) (k : 
             o.3,
             ap (λ (i : ℕ). home_of_mux b i) o.0 ∙ sym q.1,
             subst (λ (i : ℕ). is_absent b i ≡ false) (sym o.0) o.4,
+            subst (λ (i : ℕ). is_held b i ≡ false) (sym o.0) o.5,
           ))
           | inr q ↦ (let o = told.opened p h (slot_same v w p (Selected h) (others p q.1) e) in
-              (o.0, new_other h.mux (other_mux p h o.3 q.1) ∙ o.1, o.2, o.3, o.4))
+              (o.0, new_other h.mux (other_mux p h o.3 q.1) ∙ o.1, o.2, o.3, o.4, o.5))
         ];
         polled = λ p h n y e at. elim (eqb_tells p (home_of_mux b k)) [
           | inl q ↦ (let o = slot.polled h n (at_home p (Polled h n) q.1 e) in

@@ -1,11 +1,12 @@
 -- The devices of a root's world beside those of the flat world, and messages over both.
-use Rattle.std.specs.Prelude.{◌≡◌, ℕ, ◌+◌, ◌<◌, ◌==◌, Bool, true, false, ◌&&◌, ◌⊎◌, List, [], ◌∷◌, Option, Some, None, slice_get, if◌then◌else◌}
+use Rattle.std.specs.Prelude.{◌≡◌, ℕ, ◌+◌, ◌==◌, Bool, true, false, ◌&&◌, ◌⊎◌, List, [], ◌∷◌, Option, Some, None, slice_get, if◌then◌else◌}
 use Rattle.std.specs.List.{AllByRecursion}
 use Rattle.i2c_base.specs.declared.ids.Node.{Node}
 use Rattle.i2c_base.specs.declared.ids.Node.TheVariants as node
 use Rattle.i2c_base.specs.declared.entry.End.{End}
 use Rattle.i2c_base.specs.declared.entry.End.TheVariants as end
-use Rattle.i2c_base.specs.Board.{BoardView, RunView}
+use Rattle.i2c_base.specs.Board.{BoardView}
+use Rattle.i2c_base.specs.Bytes.{IsByte}
 use Rattle.i2c_spec.specs.Tree.{root_of, of_device}
 use Rattle.i2c_spec.specs.Targets.{TargetState, Regs, Silent, IsQuiet, state_table}
 use Rattle.i2c_spec.specs.Messages.{MessageView}
@@ -18,19 +19,9 @@ abbrev pub IsOf : BoardView → ℕ → ℕ → Type 0
 IsOf b r d = root_of b (of_device (λ x. x.bus) 0 b d) ≡ r
 
 -- what a device holds are bytes: then the AND of one byte that is sent and the idle wires is that byte
-abbrev pub IsByte : ℕ → Type 0
-IsByte byte = byte < 256
-
 abbrev pub HoldsBytes : TargetState → Type 0
 HoldsBytes (Regs x) = AllByRecursion IsByte x.memory
 HoldsBytes Silent = Unit {0}
-
--- what a board writes into its devices are bytes
-abbrev pub RunsHoldBytes : List RunView → Type 0
-RunsHoldBytes runs = AllByRecursion (λ r. AllByRecursion IsByte r.bytes) runs
-
-abbrev pub IsByteBoard : BoardView → Type 0
-IsByteBoard b = AllByRecursion (λ d. RunsHoldBytes d.set) b.devices
 
 -- who listens to the message in progress, as a world lists it
 abbrev pub listening : Option ℕ → List Node

@@ -6,6 +6,7 @@ pub mod Reach
 pub mod Settles
 -- The devices of a root's world and of the flat world.
 pub mod Alike
+pub mod Left
 pub mod Calls
 pub mod Ready
 pub mod Wrong

@@ -6,7 +6,7 @@ use Rattle.i2c_base.specs.declared.entry.Entry.{Entry}
 use Rattle.i2c_base.specs.declared.entry.Entry.TheVariants as entry
 use Rattle.i2c_base.specs.declared.reply.Reply.{Reply}
 use Rattle.i2c_base.specs.Board.{BoardView}
-use Rattle.i2c_base.specs.Transfer.{TransferView}
+use Rattle.i2c_base.specs.Transfer.{TransferView, IsTransfer}
 use Rattle.i2c_spec.specs.Tree.{Hop, hops, root_of, home_of_mux}
 use Rattle.i2c_spec.specs.Chips.{ChipView, is_open}
 use Rattle.i2c_spec.specs.World.{opens_hop}
@@ -19,6 +19,10 @@ use Rattle.bus_spec.specs.Stepwise.{HearsIn}
 -- each transfer that a caller asks for has a message
 abbrev pub AsksForMessages : Asks → Type 0
 AsksForMessages asks = (c : ℕ) (rs : List Reply) (t : TransferView) → asks c rs ≡ Some t → 0 < length t.msgs
+
+-- and keeps the limits of the type of transfers
+abbrev pub AsksWithinLimits : Asks → Type 0
+AsksWithinLimits asks = (c : ℕ) (rs : List Reply) (t : TransferView) → asks c rs ≡ Some t → IsTransfer t.msgs t.out
 
 -- a channel is selected: by a caller that has the lock of the mux's bus, and hasn't closed it yet
 pub record IsSelectedBy (b : BoardView) (asks : Asks) (past : List Entry) (m c : ℕ) : Type 0 where

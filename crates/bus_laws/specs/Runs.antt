@@ -57,19 +57,19 @@ abbrev pub LeavesShut : BoardView → LockId → Slots → Type 0
 LeavesShut b (lock.Mux p) v = IsRest b p (v p)
 LeavesShut b (lock.Bus r) v = Unit {0}
 
--- what a step may give: a select goes through only where its mux answers, and is refused only where it doesn't; an
--- arbitrator that answers is found free at the last poll
+-- what a step may give: a select goes through only where its mux answers, and isn't acknowledged only where its chip is
+-- absent; an arbitrator is found taken at the last poll only where it is held
 abbrev pub CanGoThrough : BoardView → Hop → ℕ → List ℕ → Type 0
 CanGoThrough b h zero bytes = answers b h.mux ≡ true
-CanGoThrough b h (suc zero) bytes = (first_byte bytes ≡ 0) ⊎ (answers b h.mux ≡ false)
+CanGoThrough b h (suc zero) bytes = (first_byte bytes ≡ 0) ⊎ ((is_absent b h.mux ≡ false) × (is_held b h.mux ≡ true))
 CanGoThrough b h (suc (suc left)) bytes = Unit {0}
 
 abbrev pub CanSelect : BoardView → Hop → ℕ → End → List ℕ → Type 0
 CanSelect b h left end.Ok bytes = CanGoThrough b h left bytes
-CanSelect b h left end.Nack bytes = answers b h.mux ≡ false
-CanSelect b h left end.Slow bytes = answers b h.mux ≡ false
-CanSelect b h left end.Refused bytes = answers b h.mux ≡ false
-CanSelect b h left end.Proto bytes = answers b h.mux ≡ false
+CanSelect b h left end.Nack bytes = is_absent b h.mux ≡ true
+CanSelect b h left end.Slow bytes = ⊥
+CanSelect b h left end.Refused bytes = ⊥
+CanSelect b h left end.Proto bytes = ⊥
 CanSelect b h left (end.Cut q) bytes = Unit {0}
 
 abbrev pub CanSend : BoardView → Job → ℕ → ActOutcome → Type 0

@@ -2,7 +2,7 @@
 use Rattle.std.specs.Prelude.{◌≡◌, ℕ, zero, suc, Bool, true, false, ◌⊎◌, List, Option, Some, if◌then◌else◌}
 use Rattle.i2c_base.specs.declared.entry.End.{End}
 use Rattle.i2c_spec.specs.Messages.{MessageView}
-use Rattle.bus_spec.specs.Walk.{Job, Call, Select, Clear, Take, Free, Send, Shift, Settle, ActOutcome, Passed, Sent, Lined, WalkTree, Ends, Look, Then, Note, goes, job_outcome, decides, verdict_of}
+use Rattle.bus_spec.specs.Walk.{Job, Call, Select, Clear, Take, Free, Send, Shift, Settle, ActOutcome, Passed, Sent, Lined, WalkTree, Ends, Look, Then, Note, Over, goes, job_outcome, decides, verdict_of}
 use Rattle.bus_spec.specs.Grammar.{first_act}
 use Rattle.bus_spec.specs.Past.{is_on}
 
@@ -22,12 +22,18 @@ IsBefore done (Call bus messages) = done ≡ false
 IsBefore done (Select h) = Unit {0}
 IsBefore done (Clear on mux kind) = Unit {0}
 
+-- no further message of the job follows this one
+abbrev pub EndsJob : Job → ℕ → ActOutcome → Type 0
+EndsJob job zero out = Unit {0}
+EndsJob job (suc left) out = goes job left out ≡ Over
+
 -- behind a step of a job a walk settles as that step decides, or it doesn't before its next step; only a job that is on
 -- the way to the caller's messages decides
 abbrev pub IsDecided : Note → Job → ℕ → ActOutcome → WalkTree → Type 0
 IsDecided note job left out w =
     NoSettle w
-    ⊎ ((note.forward ≡ true) × (decides job (job_outcome job left out) ≡ true) × (first_act w ≡ Some (Settle (verdict_of job left out))))
+    ⊎ ((note.forward ≡ true) × (decides job (job_outcome job left out) ≡ true) × (first_act w ≡ Some (Settle (verdict_of job left out)))
+    × EndsJob job left out)
 
 -- a caller's message that went through is followed by the next one, the last one and any other by the settle, with
 -- nothing between

@@ -1,7 +1,7 @@
 -- What a journal tells of the worlds: which channels are open. It knows nothing of walks and callers.
 use Rattle.std.specs.Prelude.{◌≡◌, ℕ, ◌≤◌, true, false, ◌⊎◌, length, Option, Some, None, slice_get}
 use Rattle.i2c_base.specs.Board.{BoardView}
-use Rattle.i2c_spec.specs.Tree.{Hop, root_of, home_of_mux, is_absent, of_mux}
+use Rattle.i2c_spec.specs.Tree.{Hop, root_of, home_of_mux, is_absent, is_held, of_mux}
 use Rattle.i2c_spec.specs.Chips.{ChipView, is_open, is_free}
 use Rattle.i2c_spec.specs.World.{World}
 use Rattle.bus_spec.specs.Slots.{Slots, MuxSlot, Clean, Selected, Marked, Polled, Found}
@@ -29,9 +29,9 @@ pub record IsChipOf (b : BoardView) (m : ℕ) (x : ChipView) : Type 0 where
 -- what is known of the buses is so, of the chips as they stand: `chips` gives the state of each mux's chip
 pub record ChipsTold (b : BoardView) (v : Slots) (chips : ℕ → Option ChipView) : Type 0 where
   pub kept : (m : ℕ) (x : ChipView) → chips m ≡ Some x → IsChipOf b m x
-  -- a selected channel is open
+  -- a selected channel is open, and its mux is there and isn't held
   pub opened : (p : ℕ) (h : Hop) → (v p).slot ≡ Selected h
-      → (x : ChipView) × (chips h.mux ≡ Some x) × (is_open x h.channel ≡ true) × (home_of_mux b h.mux ≡ p) × (is_absent b h.mux ≡ false)
+      → (x : ChipView) × (chips h.mux ≡ Some x) × (is_open x h.channel ≡ true) × (home_of_mux b h.mux ≡ p) × (is_absent b h.mux ≡ false) × (is_held b h.mux ≡ false)
   -- an arbitrator that is asked is found taken at most so many times more, or is held for good; one that was found free is free
   pub polled : (p : ℕ) (h : Hop) (n : ℕ) (x : ChipView) → (v p).slot ≡ Polled h n → chips h.mux ≡ Some x → (x.left ≤ n) ⊎ (x.foreign ≡ 8)
   pub found : (p : ℕ) (h : Hop) (x : ChipView) → (v p).slot ≡ Found h → chips h.mux ≡ Some x → is_free x ≡ true

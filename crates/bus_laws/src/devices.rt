@@ -1,22 +1,23 @@
 ghost use Rattle.std.specs.Prelude.{◌≡◌, ℕ, ◌<◌, Bool, true, false, List, [], ◌∷◌, ◌++◌, length, map, Option, Some, slice_get};
-ghost use Rattle.std.specs.List.{AllByRecursion};
 ghost use Rattle.i2c_base.specs.declared.reply.Cut.{Cut};
 ghost use Rattle.i2c_base.specs.declared.tree.Grant.TheVariants as grant;
 ghost use Rattle.i2c_base.specs.Board.{BoardView};
+ghost use Rattle.i2c_base.specs.Bytes.{AreBytes};
 ghost use Rattle.i2c_base.specs.Transfer.{TransferView};
 ghost use Rattle.i2c_spec.specs.Tree.{root_of, home_of_mux, addr_of_mux, IsAlong};
 ghost use Rattle.i2c_spec.specs.TreeFacts.{IsTree};
 ghost use Rattle.i2c_spec.specs.Grant.{grant_of};
+ghost use Rattle.i2c_spec.specs.Plain.{IsPlainBoard};
 ghost use Rattle.i2c_spec.specs.Targets.{TargetState, opening_state};
 ghost use Rattle.i2c_spec.specs.Messages.{MessageView, messages_of};
 ghost use Rattle.i2c_spec.specs.World.{World, is_joined, opening_world};
 ghost use Rattle.i2c_spec.specs.Flat.{FlatListener, idle, is_it, flat_listener, granted_on, block_limit, cut_in, flat_messages, flat};
 ghost use Rattle.i2c_spec.specs.Conversation.{world_listener, talk, is_empty, is_good};
-ghost use Rattle.bus_laws.specs.Alike.{IsOf, IsByte, IsByteBoard, Same, LeadsTo, IsControl, ToldAlike, GrowsAlike, EndsTransfer, IsUnnamed, FlatSame, talk_part};
+ghost use Rattle.bus_laws.specs.Alike.{IsOf, Same, LeadsTo, IsControl, ToldAlike, GrowsAlike, EndsTransfer, IsUnnamed, FlatSame, talk_part};
 
 /// A root's world and the flat world are opened with the same devices.
 pub fn both_worlds_open_the_same()
-    ensures { (b : BoardView) (r : ℕ) → IsByteBoard b → Same b r (opening_world b r) (idle (map opening_state b.devices)) }
+    ensures { (b : BoardView) (r : ℕ) → IsPlainBoard b → Same b r (opening_world b r) (idle (map opening_state b.devices)) }
 {}
 
 /// On a joined bus an address that isn't busy leads to the device that the bus grants, and to nobody else.
@@ -34,7 +35,7 @@ pub fn an_address_leads_to_the_granted_device()
 /// The devices of the root are the same afterwards, and so is who listens, wherever a call of it may fail.
 pub fn a_message_is_heard_the_same()
     ensures { (b : BoardView) (r : ℕ) (granted : ℕ → Option ℕ) (limit : ℕ) (w : World) (f : FlatListener) (m : MessageView) (last : Bool) (cut : Option ℕ)
-        → Same b r w f → LeadsTo w m.addr (granted m.addr) → AllByRecursion IsByte m.bytes
+        → Same b r w f → LeadsTo w m.addr (granted m.addr) → AreBytes m.bytes
         → ToldAlike (Same b r) (talk world_listener limit w m last cut) (talk (flat_listener granted) limit f m last cut) }
 {}
 
@@ -45,7 +46,7 @@ pub fn a_transfer_grows_by_one_message()
     ensures { (b : BoardView) (r : ℕ) (granted : ℕ → Option ℕ) (limit : ℕ) (f : FlatListener) (ms : List MessageView) (cuts : ℕ → Option ℕ) (w : World) (m : MessageView) (ends : Bool)
         → is_good (talk_part (flat_listener granted) limit f ms false 0 cuts []).end ≡ true
         → Same b r w (talk_part (flat_listener granted) limit f ms false 0 cuts []).now
-        → LeadsTo w m.addr (granted m.addr) → AllByRecursion IsByte m.bytes
+        → LeadsTo w m.addr (granted m.addr) → AreBytes m.bytes
         → GrowsAlike b r m (talk_part (flat_listener granted) limit f ms false 0 cuts []) (talk world_listener limit w m ends (cuts (length ms)))
         (talk_part (flat_listener granted) limit f (ms ++ m ∷ []) ends 0 cuts []) }
 {}

@@ -1,0 +1,155 @@
+-- The caller's messages in a walk begin with the first one. The inductions go over the messages of a job, over locks, and
+-- over hops.
+use Rattle.std.proofs.Common.{◌≡◌, ℕ, zero, suc, Bool, true, false, cond, ◌&&◌, List, [], ◌∷◌, Option, Some, None, refl}
+use Rattle.i2c_base.specs.declared.ids.LockId.{LockId}
+use Rattle.i2c_base.specs.declared.errno.Errno.{Errno}
+use Rattle.i2c_base.specs.declared.entry.End.{End}
+use Rattle.i2c_base.specs.Board.{BoardView}
+use Rattle.i2c_base.specs.Transfer.{TransferView}
+use Rattle.i2c_spec.specs.Tree.{Hop, hops, root_of, locks_of}
+use Rattle.i2c_spec.specs.Messages.{MessageView, messages_of}
+use Rattle.i2c_spec.specs.Flat.{refusal}
+use Rattle.bus_spec.specs.Walk.{Job, Call, Select, Clear, Take, Free, Send, Shift, Settle, ActOutcome, Passed, Sent, Lined, JobOutcome, Good, Refused, Unsent, Failed, Note, MarkOf, WalkTree, Ends, Look, Then, Go, On, Last, Over, goes, job_outcome, verdict_of, decides, is_line, more_of}
+use Rattle.bus_spec.specs.Slots.{Slots, mark_in}
+use Rattle.bus_spec.specs.Grammar.{Doer, settled, over, by_go, messages, at_bus, locked, part, with_mark, aside, if_sent, if_good, kind_of, closing, opened, chosen, behind, inner, walk_by, walk_for, plain, seen}
+use Rattle.bus_laws.specs.Settles.{Settles}
+
+-- a walk that hasn't sent a message of its caller's sends the first one first
+abbrev pub FirstCalls : WalkTree → Type 0
+FirstCalls Ends = Unit {0}
+FirstCalls (Look ask next) = (m : Option ℕ) → FirstCalls (next m)
+FirstCalls (Then (Take l) note next) = FirstCalls (next Passed)
+FirstCalls (Then (Free l) note next) = FirstCalls (next Passed)
+FirstCalls (Then (Send (Call bus messages) left) note next) = left ≡ more_of (Call bus messages)
+FirstCalls (Then (Send (Select h) left) note next) = (e : End) (bytes : List ℕ) → FirstCalls (next (Sent e bytes))
+FirstCalls (Then (Send (Clear on mux kind) left) note next) = (e : End) (bytes : List ℕ) → FirstCalls (next (Sent e bytes))
+FirstCalls (Then (Shift job) note next) = (failed : Bool) → FirstCalls (next (Lined failed))
+FirstCalls (Then (Settle verdict) note next) = FirstCalls (next Passed)
+
+-- behind the settle none is sent
+pub settled-first : (w : WalkTree) → Settles true w → FirstCalls w
+settled-first Ends h = tt
+settled-first (Look ask next) h = λ m. settled-first (next m) (h m)
+settled-first (Then (Take l) note next) h = settled-first (next Passed) h.1
+settled-first (Then (Free l) note next) h = settled-first (next Passed) h.1
+settled-first (Then (Send (Call bus ms) left) note next) h = absurd (let f : true ≡ false = h.0 in cc)
+settled-first (Then (Send (Select g) left) note next) h = λ e bytes. settled-first (next (Sent e bytes)) (h.1 e bytes).1
+settled-first (Then (Send (Clear on mux kind) left) note next) h = λ e bytes. settled-first (next (Sent e bytes)) (h.1 e bytes).1
+settled-first (Then (Shift job) note next) h = λ failed. settled-first (next (Lined failed)) (h failed).1
+settled-first (Then (Settle verdict) note next) h = absurd (let f : true ≡ false = h.0 in cc)
+
+abbrev DoerFirst : Doer → Type 0
+DoerFirst on = (job : Job) (note : Note) (k : JobOutcome → WalkTree) → ((o : JobOutcome) → FirstCalls (k o)) → FirstCalls (on job note k)
+
+settled_first : (x : Bool) (verdict : Option Errno) (w : WalkTree) → FirstCalls w → FirstCalls (settled x verdict w)
+settled_first true verdict w h = h
+settled_first false verdict w h = h
+
+over_first : (job : Job) (left : ℕ) (note : Note) (k : JobOutcome → WalkTree) → ((o : JobOutcome) → FirstCalls (k o)) → (out : ActOutcome) → FirstCalls (over job left note k out)
+over_first job left note k hk out =
+    settled_first (note.forward && decides job (job_outcome job left out)) (verdict_of job left out) (k (job_outcome job left out)) (hk (job_outcome job left out))
+
+go_first : (g : Go) (x y z : WalkTree) → FirstCalls x → FirstCalls y → FirstCalls z → FirstCalls (by_go g x y z)
+go_first On x y z hx hy hz = hx
+go_first Last x y z hx hy hz = hy
+go_first Over x y z hx hy hz = hz
+
+-- a message to a mux's chip
+abbrev IsControlJob : Job → Type 0
+IsControlJob (Call bus messages) = ⊥
+IsControlJob (Select h) = Unit {0}
+IsControlJob (Clear on mux kind) = Unit {0}
+
+send_first : (job : Job) (left : ℕ) (note : Note) (next : ActOutcome → WalkTree) → IsControlJob job → ((out : ActOutcome) → FirstCalls (next out)) → FirstCalls (Then (Send job left) note next)
+send_first (Call bus ms) left note next control h = absurd control
+send_first (Select g) left note next control h = λ e bytes. h (Sent e bytes)
+send_first (Clear on mux kind) left note next control h = λ e bytes. h (Sent e bytes)
+
+messages_first : (left : ℕ) (job : Job) (note : Note) (k : JobOutcome → WalkTree) → IsControlJob job → ((o : JobOutcome) → FirstCalls (k o)) → FirstCalls (messages left job note k)
+messages_first zero job note k control hk = send_first job zero note (over job zero note k) control (over_first job zero note k hk)
+messages_first (suc left) job note k control hk =
+    send_first job (suc left) note
+    (λ out. by_go (goes job left out) (messages left job note k) (Then (Send job zero) note (over job zero note k)) (over job (suc left) note k out)) control
+    (λ out. go_first (goes job left out) (messages left job note k) (Then (Send job zero) note (over job zero note k)) (over job (suc left) note k out)
+    (messages_first left job note k control hk) (send_first job zero note (over job zero note k) control (over_first job zero note k hk)) (over_first job (suc left) note k hk out))
+
+call_first : (left : ℕ) (bus : ℕ) (ms : List MessageView) (note : Note) (k : JobOutcome → WalkTree) → left ≡ more_of (Call bus ms) → FirstCalls (messages left (Call bus ms) note k)
+call_first zero bus ms note k e = e
+call_first (suc left) bus ms note k e = e
+
+bus_first : DoerFirst at_bus
+bus_first (Call bus ms) note k hk = call_first (more_of (Call bus ms)) bus ms note k refl
+bus_first (Select h) note k hk = by (is_line (Select h))
+  where
+    by : (x : Bool) → FirstCalls (cond x (Then (Shift (Select h)) note (over (Select h) zero note k)) (messages (more_of (Select h)) (Select h) note k))
+    by true = λ failed. over_first (Select h) zero note k hk (Lined failed)
+    by false = messages_first (more_of (Select h)) (Select h) note k tt hk
+bus_first (Clear on mux kind) note k hk = by (is_line (Clear on mux kind))
+  where
+    by : (x : Bool) → FirstCalls (cond x (Then (Shift (Clear on mux kind)) note (over (Clear on mux kind) zero note k)) (messages (more_of (Clear on mux kind)) (Clear on mux kind) note k))
+    by true = λ failed. over_first (Clear on mux kind) zero note k hk (Lined failed)
+    by false = messages_first (more_of (Clear on mux kind)) (Clear on mux kind) note k tt hk
+
+locked_first : (ls : List LockId) (on : Doer) → DoerFirst on → DoerFirst (locked ls on)
+locked_first [] on hon job note k hk = hon job note k hk
+locked_first (l ∷ ls) on hon job note k hk = locked_first ls on hon job note (λ o. Then (Free l) plain (λ o2. k o)) (λ o. hk o)
+
+part_first : (parent : Bool) (ls : List LockId) (on : Doer) → DoerFirst on → DoerFirst (part parent ls on)
+part_first true ls on hon = hon
+part_first false ls on hon = locked_first ls on hon
+
+sent_first : (o : JobOutcome) (w : WalkTree) (k : JobOutcome → WalkTree) → FirstCalls w → ((x : JobOutcome) → FirstCalls (k x)) → FirstCalls (if_sent o w k)
+sent_first Good w k hw hk = hw
+sent_first Refused w k hw hk = hw
+sent_first Unsent w k hw hk = hk Unsent
+sent_first Failed w k hw hk = hk Failed
+
+good_first : (o : JobOutcome) (w : WalkTree) (k : JobOutcome → WalkTree) → FirstCalls w → ((x : JobOutcome) → FirstCalls (k x)) → FirstCalls (if_good o w k)
+good_first Good w k hw hk = hw
+good_first Refused w k hw hk = hk Unsent
+good_first Unsent w k hw hk = hk Unsent
+good_first Failed w k hw hk = hk Failed
+
+module _ (b : BoardView) where
+  chosen_first : (h : Hop) (on : Doer) → DoerFirst on → DoerFirst (chosen h on)
+  chosen_first h on hon job note k hk =
+      hon (Select h) (with_mark h.on h.mux note) (λ o. if_good o (opened h on job note k) k)
+      (λ o. good_first o (opened h on job note k) k
+      (hon job note (λ out. on (Clear h.on h.mux h.kind) (aside h) (λ x. k out))
+      (λ out. hon (Clear h.on h.mux h.kind) (aside h) (λ x. k out) (λ x. hk out)))
+      hk)
+
+  closing_first : (h : Hop) (on : Doer) (note : Note) (k : JobOutcome → WalkTree) (w : WalkTree) → DoerFirst on → ((o : JobOutcome) → FirstCalls (k o)) → FirstCalls w
+      → (m : Option ℕ) → FirstCalls (closing b h on note k w m)
+  closing_first h on note k w hon hk hw None = hw
+  closing_first h on note k w hon hk hw (Some m) =
+      hon (Clear h.on m (kind_of b m)) (with_mark h.on m note) (λ o. if_sent o w k) (λ o. sent_first o w k hw hk)
+
+  inner_first : (root : ℕ) (hs : List Hop) → DoerFirst (inner b root hs)
+  inner_first root [] job note k hk = bus_first job note k hk
+  inner_first root (h ∷ hs) job note k hk =
+      by (is_line job)
+      (closing_first h (part h.parent (locks_of root hs) (inner b root hs)) note k (chosen h (part h.parent (locks_of root hs) (inner b root hs)) job note k)
+      (part_first h.parent (locks_of root hs) (inner b root hs) (inner_first root hs)) hk
+      (chosen_first h (part h.parent (locks_of root hs) (inner b root hs)) (part_first h.parent (locks_of root hs) (inner b root hs) (inner_first root hs)) job note k hk))
+    where
+      by : (x : Bool) → FirstCalls (behind b h (part h.parent (locks_of root hs) (inner b root hs)) job note k)
+          → FirstCalls (cond x (at_bus job note k) (behind b h (part h.parent (locks_of root hs) (inner b root hs)) job note k))
+      by true more = bus_first job note k hk
+      by false more = more
+
+-- so does the walk of a transfer
+pub walk-first : (b : BoardView) (t : TransferView) → FirstCalls (walk_for b t)
+walk-first b t = by (refusal b t)
+  where
+    by : (o : Option Errno) → FirstCalls (walk_by b t o)
+    by (Some e) = tt
+    by None =
+        locked_first (locks_of (root_of b t.bus) (hops b t.bus)) (inner b (root_of b t.bus) (hops b t.bus)) (inner_first b (root_of b t.bus) (hops b t.bus))
+        (Call t.bus (messages_of t)) plain (λ o. Ends) (λ o. tt)
+
+-- the looks in front of a walk change nothing
+pub first_seen : (slots : Slots) (w : WalkTree) → FirstCalls w → FirstCalls (seen slots w)
+first_seen slots Ends h = tt
+first_seen slots (Look (MarkOf p) next) h = first_seen slots (next (mark_in (slots p).slot)) (h (mark_in (slots p).slot))
+first_seen slots (Then act note next) h = h
