@@ -52,6 +52,8 @@ pub mod WholeLaw
 pub mod FirstLaw
 pub mod PlacedLaw
 pub mod WalksLaw
+-- What the walks of a legal journal tell of each step.
+pub mod WrongWalks
 -- What a settle decides is what the flat world answers.
 pub mod VerdictLaw
 -- The devices and the replies of a whole past.

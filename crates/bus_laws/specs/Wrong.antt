@@ -1,5 +1,5 @@
 -- Journals that break a rule, each the newest entry first. The boards and entries are those of the worked examples.
-use Rattle.std.specs.Prelude.{ℕ, false, true, List, [], ◌∷◌, Some, reverse, take}
+use Rattle.std.specs.Prelude.{ℕ, false, true, List, [], ◌∷◌, ◌++◌, Some, reverse, take}
 use Rattle.i2c_base.specs.declared.ids.Node.TheVariants.{Device}
 use Rattle.i2c_base.specs.declared.entry.Entry.{Entry}
 use Rattle.i2c_base.specs.declared.entry.Entry.TheVariants as entry
@@ -52,3 +52,13 @@ not_deselected =
 -- a deselect failed, and the next transfer has taken its locks: no rule is broken yet
 abbrev pub behind_a_failed_deselect : List Entry
 behind_a_failed_deselect = reverse (take 11 row.failed_deselect_journal)
+
+-- then the marked mux is sent this byte: 0 is its close, and any other selects channels
+abbrev pub select_over_the_mark : ℕ → List Entry
+select_over_the_mark byte = row.control 0 0 0 0x70 byte ∷ behind_a_failed_deselect
+
+-- or the second channel is selected, and the transfer goes on, as if no mux were marked
+abbrev pub mark_forgotten : List Entry
+mark_forgotten =
+    reverse (row.control 0 0 0 0x70 2 ∷ row.nobody 0 2 0x31 ++ row.control 0 0 0 0x70 0 ∷ row.free_bus 0 ∷ row.free_mux 0 0 ∷ [])
+    ++ behind_a_failed_deselect

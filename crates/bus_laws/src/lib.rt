@@ -34,7 +34,8 @@ pub use walks::{
     each_walk_keeps_its_path_open, each_walk_keeps_to_its_cost, each_walk_settles_once,
 };
 pub use wrong::{
-    a_closed_channel_lets_nothing_through, a_lock_is_taken_by_one_caller,
+    a_closed_channel_lets_nothing_through, a_forgotten_mark, a_lock_is_taken_by_one_caller,
     a_marked_mux_is_closed_first, a_mux_is_deselected, a_settle_comes_at_once,
-    another_message_stands_outside, locks_are_taken_towards_the_root, nobody_steps_before_a_settle,
+    another_message_stands_outside, locks_are_taken_towards_the_root, no_select_before_the_close,
+    nobody_steps_before_a_settle,
 };

@@ -1,5 +1,5 @@
 //! Journals that break a rule: that each is refused is computed by the checker.
-ghost use Rattle.std.specs.Prelude.{ℕ};
+ghost use Rattle.std.specs.Prelude.{ℕ, ◌<◌};
 ghost use Rattle.i2c_base.specs.declared.board.MuxKind.TheVariants.{Pca9548};
 ghost use Rattle.i2c_spec.specs.History.{Asks};
 ghost use Rattle.bus_spec.specs.Legal.{IsLegal};
@@ -39,12 +39,25 @@ pub fn a_closed_channel_lets_nothing_through()
     ensures { (callers : ℕ) (asks : Asks) → IsLegal row.parent_locked callers asks wrong.heard_on_a_closed_channel → ⊥ }
 {}
 
-/// The root's lock is not freed before the mux is deselected.
+/// The root's lock is not freed before the mux is deselected (Linux i2c-topology): that is no step of the walk.
 pub fn a_mux_is_deselected()
-    ensures { (callers : ℕ) → IsStepwise row.parent_locked callers wrong.deep_asks wrong.not_deselected → ⊥ }
+    ensures legal { (callers : ℕ) → IsLegal row.parent_locked callers wrong.deep_asks wrong.not_deselected → ⊥ }
+    ensures stepwise { (callers : ℕ) → IsStepwise row.parent_locked callers wrong.deep_asks wrong.not_deselected → ⊥ }
 {}
 
 /// After a deselect that failed, the close of the marked mux comes next, and no select.
 pub fn a_marked_mux_is_closed_first()
     ensures { IsNext row.parent_locked wrong.two_asks (now row.parent_locked wrong.two_asks wrong.behind_a_failed_deselect) 0 (Send (Clear 0 0 Pca9548) 0) }
+{}
+
+/// After a deselect that failed, no channel of the marked mux is selected before its close: the next byte that the
+/// mux is sent is the one that closes it.
+pub fn no_select_before_the_close()
+    ensures { (callers byte : ℕ) → 0 < byte → IsLegal row.parent_locked callers wrong.two_asks (wrong.select_over_the_mark byte) → ⊥ }
+{}
+
+/// A mark that a failed deselect left is not forgotten: the next transfer does not go straight to its select and its
+/// messages.
+pub fn a_forgotten_mark()
+    ensures { (callers : ℕ) → IsLegal row.parent_locked callers wrong.two_asks wrong.mark_forgotten → ⊥ }
 {}
