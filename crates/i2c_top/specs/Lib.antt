@@ -4,6 +4,7 @@ pub mod Fronts
 pub mod Names
 pub mod Numbers
 pub mod PlainForm
+pub mod Schedules
 pub mod Scripts
 pub mod ScriptSteps
 pub mod Status

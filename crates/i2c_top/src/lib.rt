@@ -17,6 +17,7 @@ mod refusal;
 mod replay;
 mod report;
 mod run;
+mod schedule;
 mod script;
 mod status;
 mod steps;
