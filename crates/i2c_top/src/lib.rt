@@ -19,6 +19,7 @@ mod report;
 mod run;
 mod schedule;
 mod script;
+mod section;
 mod status;
 mod steps;
 mod text;

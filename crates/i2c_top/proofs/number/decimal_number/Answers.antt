@@ -1,4 +1,4 @@
-use Rattle.std.proofs.Common.{◌≡◌, true, sym, ◌∙◌}
+use Rattle.std.proofs.Common.{◌≡◌, true, ◌∙◌}
 use Rattle.i2c_top.specs.Numbers.{is_decimal}
 use Rattle.i2c_top.proofs.DecimalLemmas.{decimal_some, decimal_read, decimal_front}
 use Rattle.i2c_top.proofs.number.decimal_number.Goals as goal

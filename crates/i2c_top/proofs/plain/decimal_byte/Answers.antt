@@ -1,4 +1,4 @@
-use Rattle.std.proofs.Common.{◌≡◌, ◌≤◌, Option, Some, None, ℕ, arith}
+use Rattle.std.proofs.Common.{arith}
 use Rattle.i2c_top.proofs.PlainTextLemmas.{IsCut, comma_cuts}
 use Rattle.i2c_top.proofs.plain.decimal_byte.Goals as goal
 
