@@ -1,4 +1,5 @@
 -- How a call of the program ends, and the words, scripts and boards that it reads.
+pub mod Callers
 pub mod Commands
 pub mod Fronts
 pub mod Names
