@@ -105,7 +105,7 @@ impl Caller for Script {
     }
 }
 
-// A text for contracts, which takes no bytes.
+// A text as only contracts read it. A snapshot is of a whole value, so the text is copied for it, and the copy dropped.
 fn remembered(alloc: Global, text: &[u8]) -> Result<Snapshot<Vec<u8>>, AllocError>
     ensures { IfOk result (λ s. s.value.items ≡ text.now) }
 {
