@@ -1,9 +1,11 @@
 -- How a call of the program ends, and the words, scripts and boards that it reads.
+pub mod Callers
 pub mod Commands
 pub mod Fronts
 pub mod Names
 pub mod Numbers
 pub mod PlainForm
+pub mod Schedules
 pub mod Scripts
 pub mod ScriptSteps
 pub mod Status

@@ -1,14 +1,16 @@
 -- A script: the commands of its lines, in order, or the first line that isn't in the grammar.
-use Rattle.std.specs.Prelude.{⊤, ◌≡◌, ℕ, ◌+◌, ◌-◌, ◌*◌, false, List, [], ◌∷◌, ◌++◌, length, codes, slice_get, Option, Some, None, Result, Ok, Err}
+use Rattle.std.specs.Prelude.{⊤, ◌≡◌, ℕ, ◌+◌, false, List, [], ◌∷◌, ◌++◌, length, drop, codes, slice_get, Option, Some, None, Result, Ok, Err}
 use Rattle.std.specs.Option.{option_map}
+use Rattle.i2c_base.specs.Board.{BoardView}
 use Rattle.i2c_base.specs.Script.{ScriptView}
 use Rattle.i2c_base.specs.Transfer.{TransferView, written, plain_read}
 use Rattle.i2c_base.specs.declared.transfer.Kind.TheVariants.{Smbus}
 use Rattle.i2c_base.specs.declared.reply.Reply.{Reply}
 use Rattle.i2c_base.specs.declared.reply.Reply.TheVariants as reply
 use Rattle.i2c_top.specs.Fronts.{lines_of}
-use Rattle.std.specs.List.{flat_map}
+use Rattle.std.specs.List.{flat_map, sum_by}
 use Rattle.bus_spec.specs.Lines.{errno_text, two_digits}
+use Rattle.i2c_spec.specs.Cost.{cost_of}
 use Rattle.i2c_top.specs.Commands.{CommandView, line_read}
 use Rattle.i2c_top.specs.declared.command.Get.{Get}
 use Rattle.i2c_top.specs.declared.command.LineFault.{LineFault}
@@ -68,9 +70,12 @@ read_byte_of g =
 abbrev pub asked_by : ScriptView → List Reply → Option TransferView
 asked_by s taken = option_map (λ c. read_byte_of c.get) (slice_get (commands_of s.text) (length taken))
 
--- at most seven steps of a transfer that writes a byte and reads one: two locks, two messages, their bytes, and one
+-- what a command can take of steps, and all that have no reply yet
+abbrev pub cost_of_command : BoardView → CommandView → ℕ
+cost_of_command b c = cost_of b (read_byte_of c.get)
+
 abbrev pub left_of : ScriptView → List Reply → ℕ
-left_of s taken = 7 * (length (commands_of s.text) - length taken)
+left_of s taken = sum_by (cost_of_command s.board) (drop (length taken) (commands_of s.text))
 
 -- bytes as words `0x..` with a space between each two
 abbrev pub byte_word : ℕ → List ℕ

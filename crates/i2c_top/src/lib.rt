@@ -5,6 +5,7 @@
 //! is made whole before its first byte is written.
 #![tactic(auto)]
 
+mod caller;
 mod command;
 mod front;
 mod journal;
@@ -17,17 +18,21 @@ mod refusal;
 mod replay;
 mod report;
 mod run;
+mod schedule;
 mod script;
+mod section;
 mod status;
 mod steps;
 mod text;
 mod write;
 
+pub use caller::{Script, scripts_are_fair};
 pub use journal::Journal;
 pub use line::entry_text;
 pub use program::top;
 pub use replay::replay_call;
 pub use report::report_text;
+pub use script::ScriptFault;
 pub use status::{BoardRefusal, Status};
 
 #[cfg(test)]

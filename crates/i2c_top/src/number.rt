@@ -1,4 +1,5 @@
-ghost use Rattle.std.specs.Prelude.{◌≡◌, ◌<◌, ◌≤◌, ◌&&◌, drop, length, IfSome};
+ghost use Rattle.std.specs.Prelude.{◌≡◌, ℕ, ◌<◌, ◌≤◌, ◌&&◌, drop, length, Some, IfSome};
+ghost use Rattle.std.specs.Fmt.{decimal};
 ghost use Rattle.i2c_top.specs.Numbers.{decimal_digit, hexadecimal_digit, digit_of, base_of, digits_on, within, number_of, number_in, is_hexadecimal, is_decimal};
 
 /// The largest number of a script.
@@ -98,14 +99,25 @@ pub fn number_in(word: &[u8], low: u16, high: u16) -> Option<u16>
     }
 }
 
-/// The decimal number in a word, where it is at most `high`.
-pub fn decimal(word: &[u8], high: u16) -> Option<u16>
-    ensures high { IfSome result (λ n. n ≤ high) }
+// The number of which a word is the decimal text, where it is at most `LARGEST`.
+fn decimal_number(word: &[u8]) -> Option<u32>
+    ensures some { IfSome result (λ n. word.now ≡ decimal n) }
+    ensures again { (n : ℕ) → n ≤ 65535 → word.now ≡ decimal n → result ≡ Some n }
 {
-    if !is_decimal(word) {
-        return None;
+    if is_decimal(word) {
+        value(false, word)
+    } else {
+        None
     }
-    let number = value(false, word)?;
+}
+
+/// The number of which a word is the decimal text, where it is at most `high`.
+pub fn decimal(word: &[u8], high: u16) -> Option<u16>
+    ensures some { IfSome result (λ n. word.now ≡ decimal n) }
+    ensures high { IfSome result (λ n. n ≤ high) }
+    ensures again { (n : ℕ) → n ≤ high → word.now ≡ decimal n → result ≡ Some n }
+{
+    let number = decimal_number(word)?;
     if number <= u32::from(high) {
         Some(number as u16)
     } else {

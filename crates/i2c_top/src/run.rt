@@ -5,12 +5,11 @@ ghost use Rattle.i2c_top.specs.Steps.{IsPlaced};
 ghost use Rattle.i2c_top.specs.declared.status.Status.TheVariants as status;
 
 use crate::command::Command;
-use crate::line::errno_name;
 use crate::report::report_text;
+use crate::section::section;
 use crate::steps::{Parts, Seat, Stage, StepAnswer, step};
-use crate::text::{push_bytes, push_hex};
 use crate::{Journal, Status};
-use i2c_base::{NoMemory, Reply};
+use i2c_base::NoMemory;
 use i2c_board::Accepted;
 use i2c_outside::{Port, Rig, RigFail};
 use std::alloc::Global;
@@ -30,42 +29,6 @@ fn finish<P: Port>(parts: &mut Parts<'_, P>) -> Result<(), NoMemory>
         }
     }
     Ok(())
-}
-
-// The bytes of a reply as words, with single spaces.
-fn push_byte_words(out: &mut Vec<u8>, bytes: &[u8]) -> Result<(), NoMemory> {
-    for (at, byte) in bytes.iter().enumerate() {
-        push_bytes(out, if at == 0 { b"0x" } else { b" 0x" })?;
-        push_hex(out, *byte)?;
-    }
-    Ok(())
-}
-
-// What a command prints for its reply.
-fn push_answer(out: &mut Vec<u8>, reply: &Reply) -> Result<(), NoMemory> {
-    match reply {
-        Reply::Done => push_bytes(out, b"ok"),
-        Reply::Read(bytes) => push_byte_words(out, bytes.as_slice()),
-        Reply::Err(errno) => push_bytes(out, errno_name(*errno)),
-    }
-}
-
-// A command and its answer, each on a line.
-fn push_command(out: &mut Vec<u8>, command: &Command, reply: &Reply) -> Result<(), NoMemory> {
-    push_bytes(out, b"> ")?;
-    push_bytes(out, command.echo())?;
-    push_bytes(out, b"\n")?;
-    push_answer(out, reply)?;
-    push_bytes(out, b"\n")
-}
-
-// The section of a caller that has taken these replies, without its heading.
-fn section(alloc: Global, commands: &[Command], taken: &[Reply]) -> Result<Vec<u8>, NoMemory> {
-    let mut out = Vec::new(alloc);
-    for (command, reply) in commands.iter().zip(taken) {
-        push_command(&mut out, command, reply)?;
-    }
-    Ok(out)
 }
 
 // The report of a caller that has finished.

@@ -5,7 +5,7 @@ ghost use Rattle.i2c_top.specs.declared.script.ScriptFault.TheVariants.{Memory a
 
 use crate::command::{Command, LineFault, read_line};
 use crate::front::split_line;
-use std::alloc::{AllocFailed, Global};
+use std::alloc::{AllocError, AllocFailed, Global};
 
 /// Why a script was not read.
 #[derive(Clone, Copy, Debug, PartialEq, Eq, Hash)]
@@ -19,6 +19,14 @@ impl<T: Drop> From<AllocFailed<T>> for ScriptFault {
     ghost from_gives = { λ _ e. e ≡ NoRoomForScript };
 
     fn from(_error: AllocFailed<T>) -> Self {
+        ScriptFault::Memory
+    }
+}
+
+impl From<AllocError> for ScriptFault {
+    ghost from_gives = { λ _ e. e ≡ NoRoomForScript };
+
+    fn from(_error: AllocError) -> Self {
         ScriptFault::Memory
     }
 }

@@ -1,0 +1,49 @@
+-- The pieces of a board's text. The one induction goes over the digits in front of a comma.
+use Rattle.std.proofs.Common.{◌≡◌, ℕ, suc, ◌+◌, ◌<◌, false, cond, eqb, List, [], ◌∷◌, ◌++◌, length, take, drop, Option, Some, None, refl, sym, ap, ◌∙◌, add-one, arith}
+use Rattle.std.specs.Prelude.{MatchOption, IfSome, ◌≢◌}
+use Rattle.std.specs.Fmt.{decimal}
+use denote.Ref.{Bor}
+use Rattle.std.proofs.lemmas.List.{take_at, drop_at}
+use Rattle.std.proofs.lemmas.List.Prefix.{front_rest}
+use Rattle.std.proofs.lemmas.Bool.Decides.{nat_tests}
+use Rattle.bus_spec.specs.Lines.{two_digits}
+use Rattle.i2c_top.specs.PlainForm.{head_text, set_text, plain_text, comma_len}
+use Rattle.i2c_top.proofs.DecimalLemmas.{AreDigits, digits_of_decimal}
+
+-- what stands behind a front is one text
+pub front_same : (s p x rest : List ℕ) → s ≡ p ++ x → s ≡ p ++ rest → x ≡ rest
+front_same s p x rest e k = sym (front_rest s p x e) ∙ front_rest s p rest k
+
+pub behind_again : (s p : List ℕ) (r : Option (Bor (List ℕ))) → MatchOption r ((rest : List ℕ) → s ≢ p ++ rest) (λ x. s ≡ p ++ x.now)
+    → (rest : List ℕ) → s ≡ p ++ rest → MatchOption r ⊥ (λ x. x.now ≡ rest)
+behind_again s p None h rest e = h rest e
+behind_again s p (Some x) h rest e = front_same s p x.now rest h e
+
+pub behind_some : (s p : List ℕ) (r : Option (Bor (List ℕ))) → MatchOption r ((rest : List ℕ) → s ≢ p ++ rest) (λ x. s ≡ p ++ x.now) → IfSome r (λ x. s ≡ p ++ x.now)
+behind_some s p None h = tt
+behind_some s p (Some x) h = h
+
+-- no digit of a decimal text is a comma
+comma_at : (ds rest : List ℕ) → AreDigits ds → comma_len (ds ++ 44 ∷ rest) ≡ length ds
+comma_at [] rest h = refl
+comma_at (c ∷ cs) rest h =
+    let e : eqb c 44 ≡ false = grind (arith, nat_tests, h.0) in
+    ap (λ s. cond s 0 (comma_len (cs ++ 44 ∷ rest) + 1)) e ∙ rw add-one (ap (λ k. suc k) (comma_at cs rest h.1))
+
+pub record IsCut (word behind : List ℕ) (n : ℕ) (rest : List ℕ) : Type 0 where
+  pub word_is : word ≡ decimal n
+  pub behind_is : behind ≡ 44 ∷ rest
+
+pub comma_cuts : (text word behind : List ℕ) (n : ℕ) (rest : List ℕ) → n < 256 → word ≡ take (comma_len text) text → behind ≡ drop (comma_len text) text
+    → text ≡ decimal n ++ 44 ∷ rest → IsCut word behind n rest
+comma_cuts text word behind n rest h w b e =
+    let at : length (decimal n) ≡ comma_len text = sym (ap comma_len e ∙ comma_at (decimal n) rest (digits_of_decimal n (omega arith))) in
+    record {
+      word_is = w ∙ ap (take (comma_len text)) e ∙ take_at (decimal n) (44 ∷ rest) (comma_len text) at;
+      behind_is = b ∙ ap (drop (comma_len text)) e ∙ drop_at (decimal n) (44 ∷ rest) (comma_len text) at;
+    }
+
+pub whole_text : (text behind after : List ℕ) (number addr place byte : ℕ) → text ≡ head_text ++ behind → behind ≡ two_digits number ++ after → addr ≡ number
+    → after ≡ set_text place byte → text ≡ plain_text addr place byte
+whole_text text behind after number addr place byte t b a s =
+    t ∙ ap (λ x. head_text ++ x) (b ∙ ap (λ n. two_digits n ++ after) (sym a) ∙ ap (λ x. two_digits addr ++ x) s)

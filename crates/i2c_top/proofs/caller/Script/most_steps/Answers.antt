@@ -1,0 +1,20 @@
+use Rattle.std.proofs.Common.{◌≡◌, ◌*◌, ◌≤◌, [], length, ap, subst, arith}
+use Rattle.i2c_top.specs.Callers.{CallerView}
+use Rattle.i2c_top.specs.Scripts.{left_of}
+use Rattle.i2c_top.proofs.CommandLemmas.{commands_most}
+use Rattle.i2c_top.proofs.FairLemmas.{left_most}
+use Rattle.i2c_top.proofs.caller.Script.most_steps.Goals as goal
+
+pub overflow_cast-result : goal.overflow_cast-result
+overflow_cast-result c = omega (arith, commands_most c.self.inside.text.value.items, ap length c.self.invariant.whole)
+
+pub overflow_mul-result : goal.overflow_mul-result
+overflow_mul-result c = omega (arith, commands_most c.self.inside.text.value.items, ap length c.self.invariant.whole)
+
+pub returns-clause-left : goal.returns-clause-left
+returns-clause-left c =
+    subst (λ (v : CallerView). v.script.board.muxes ≡ [] → left_of v.script v.taken ≤ 7 * c.len.result) c.self.view_is
+    (λ e. omega (arith, left_most (record { board = c.self.inside.board.value; text = c.self.inside.text.value.items }) c.self.inside.taken.items e, ap length c.self.invariant.whole))
+
+pub returns-clause-small : goal.returns-clause-small
+returns-clause-small c = omega (arith, commands_most c.self.inside.text.value.items, ap length c.self.invariant.whole)
