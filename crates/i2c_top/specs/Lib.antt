@@ -10,4 +10,5 @@ pub mod Scripts
 pub mod ScriptSteps
 pub mod Status
 pub mod Steps
+pub mod Talks
 pub mod Written

@@ -1,12 +1,22 @@
-ghost use Rattle.std.specs.Prelude.{◌≡◌, ℕ, ◌+◌, ◌<◌, ◌≤◌, true, length, IsTrue};
-ghost use Rattle.i2c_base.specs.Phases.{MayStart, MayStop};
+ghost use Rattle.std.specs.Prelude.{◌≡◌, ℕ, ◌+◌, ◌<◌, ◌≤◌, true, false, List, [], None, length, IsTrue};
+ghost use Rattle.i2c_base.specs.Phases.{MayStart, MayStop, AnswersStart, phase_started};
 ghost use Rattle.i2c_base.specs.declared.port.Phase.{Phase};
+ghost use Rattle.i2c_base.specs.declared.port.PortCall.{PortCall};
+ghost use Rattle.i2c_base.specs.declared.entry.End.{End};
+ghost use Rattle.i2c_spec.specs.Conversation.{TalkTold, world_listener, ended, puts, gets, by_answer, talk};
+ghost use Rattle.i2c_spec.specs.World.{World, answer as answer_of, has_heard};
+ghost use Rattle.bus_spec.specs.Past.{cut_of};
+ghost use Rattle.bus_spec.specs.Legal.{start_failed};
+ghost use Rattle.i2c_outside.specs.Causes.{Rose};
+ghost use Rattle.i2c_top.specs.Talks.{TellsTalk, Reaches, data_len};
 
 use i2c_base::{Addr, Answer, ByteList, End};
 use i2c_outside::{Failed, Port};
+use std::marker::Model;
 
-/// A message with its bytes, as it goes over the wires.
-#[derive(Clone, Copy, Debug)]
+/// A message with its bytes, as it goes over the wires. A contract sees the record of these parts; it is not a counted
+/// read.
+#[derive(Debug, Drop)]
 pub struct Message<'a> {
     pub addr: Addr,
     pub reading: bool,
@@ -14,6 +24,15 @@ pub struct Message<'a> {
     pub len: u16,
     /// The bytes that it writes.
     pub bytes: &'a [u8],
+}
+
+impl<'a> Model for Message<'a> {
+    ghost use Rattle.std.specs.Prelude.{false};
+    ghost use Rattle.i2c_spec.specs.Messages.{MessageView};
+
+    ghost Value = { MessageView };
+
+    ghost view = { λ m. record { addr = m.addr; reading = m.reading; counted = false; len = m.len; bytes = m.bytes.now } };
 }
 
 /// What came of a message.
@@ -30,9 +49,18 @@ pub struct Told {
 fn stopped<P: Port>(port: &mut P, calls: u16, bytes: ByteList, end: End, heard: bool) -> Told
     requires phase { MayStop (P.phase port.old) }
     requires room { IsTrue P.tells → length (P.log port.old) < 2000000 }
+    requires not_cut { cut_of end ≡ None }
     ensures phase { P.phase port.new ≡ Phase.Idle }
     ensures log { IsTrue P.tells → length (P.log port.new) ≤ length (P.log port.old) + 1 }
     ensures later { P.faults port.old ≤ P.faults port.new }
+    ensures bytes { result.bytes ≡ bytes }
+    ensures heard { result.heard ≡ heard }
+    ensures good { result.end ≡ End.Ok → end ≡ End.Ok }
+    ensures place { (q : ℕ) → result.end ≡ End.Cut q → q ≡ calls }
+    ensures cause { (q : ℕ) → result.end ≡ End.Cut q → Rose (P.faults port.old) (P.faults port.new) }
+    ensures told { IsTrue P.tells → (whole : TalkTold World) (before : List PortCall)
+        → Reaches whole (λ s. ended world_listener (cut_of result.end) true s end) before calls bytes (P.world port.old) (P.log port.old)
+        → TellsTalk whole result.bytes result.end (P.world port.new) before (P.log port.new) }
 {
     let end = match port.stop() {
         Ok(()) => end,
@@ -49,6 +77,13 @@ fn through<P: Port>(port: &mut P, calls: u16, bytes: ByteList, last: bool) -> To
     ensures phase { MayStart (P.phase port.new) }
     ensures log { IsTrue P.tells → length (P.log port.new) ≤ length (P.log port.old) + 1 }
     ensures later { P.faults port.old ≤ P.faults port.new }
+    ensures bytes { result.bytes ≡ bytes }
+    ensures heard { result.heard ≡ true }
+    ensures place { (q : ℕ) → result.end ≡ End.Cut q → q ≡ calls }
+    ensures cause { (q : ℕ) → result.end ≡ End.Cut q → Rose (P.faults port.old) (P.faults port.new) }
+    ensures told { IsTrue P.tells → (whole : TalkTold World) (before : List PortCall)
+        → Reaches whole (λ s. ended world_listener (cut_of result.end) last s End.Ok) before calls bytes (P.world port.old) (P.log port.old)
+        → TellsTalk whole result.bytes result.end (P.world port.new) before (P.log port.new) }
 {
     if last {
         stopped(port, calls, bytes, End::Ok, true)
@@ -69,6 +104,14 @@ fn put_all<P: Port>(port: &mut P, bytes: &[u8], last: bool) -> Told
     ensures phase { MayStart (P.phase port.new) }
     ensures log { IsTrue P.tells → length (P.log port.new) ≤ length (P.log port.old) + length bytes.now + 1 }
     ensures later { P.faults port.old ≤ P.faults port.new }
+    ensures heard { result.heard ≡ true }
+    ensures whole { result.end ≡ End.Ok → result.bytes ≡ bytes.now }
+    ensures behind { (q : ℕ) → result.end ≡ End.Cut q → 1 ≤ q }
+    ensures place { (q : ℕ) → result.end ≡ End.Cut q → q ≤ length bytes.now + 1 }
+    ensures cause { (q : ℕ) → result.end ≡ End.Cut q → Rose (P.faults port.old) (P.faults port.new) }
+    ensures told { IsTrue P.tells → (whole : TalkTold World) (before : List PortCall)
+        → Reaches whole (puts world_listener (cut_of result.end) last bytes.now) before 1 [] (P.world port.old) (P.log port.old)
+        → TellsTalk whole result.bytes result.end (P.world port.new) before (P.log port.new) }
 {
     let mut sent = ByteList::new();
     let mut calls = 1u16;
@@ -98,6 +141,14 @@ fn get_all<P: Port>(port: &mut P, len: u16, last: bool) -> Told
     ensures phase { MayStart (P.phase port.new) }
     ensures log { IsTrue P.tells → length (P.log port.new) ≤ length (P.log port.old) + len + 1 }
     ensures later { P.faults port.old ≤ P.faults port.new }
+    ensures heard { result.heard ≡ true }
+    ensures whole { result.end ≡ End.Ok → length result.bytes ≡ len }
+    ensures behind { (q : ℕ) → result.end ≡ End.Cut q → 1 ≤ q }
+    ensures place { (q : ℕ) → result.end ≡ End.Cut q → q ≤ len + 1 }
+    ensures cause { (q : ℕ) → result.end ≡ End.Cut q → Rose (P.faults port.old) (P.faults port.new) }
+    ensures told { IsTrue P.tells → (whole : TalkTold World) (before : List PortCall)
+        → Reaches whole (gets world_listener (cut_of result.end) last len) before 1 [] (P.world port.old) (P.log port.old)
+        → TellsTalk whole result.bytes result.end (P.world port.new) before (P.log port.new) }
 {
     let mut got = ByteList::new();
     for count in 0..len {
@@ -115,17 +166,63 @@ fn get_all<P: Port>(port: &mut P, len: u16, last: bool) -> Told
     through(port, len + 1, got, last)
 }
 
+// What follows a start, by its answer.
+fn go_on<P: Port>(port: &mut P, message: &Message<'_>, last: bool, answer: Answer) -> Told
+    requires phase { P.phase port.old ≡ phase_started message.now.reading answer }
+    requires answers { AnswersStart answer }
+    requires some { message.now.reading ≡ true → 0 < message.now.len }
+    requires short_read { message.now.len ≤ 512 }
+    requires short_write { length message.now.bytes ≤ 512 }
+    requires room { IsTrue P.tells → length (P.log port.old) + 514 ≤ 2000000 }
+    ensures phase { MayStart (P.phase port.new) }
+    ensures log { IsTrue P.tells → length (P.log port.new) ≤ length (P.log port.old) + message.now.len + length message.now.bytes + 1 }
+    ensures later { P.faults port.old ≤ P.faults port.new }
+    ensures heard { result.heard ≡ has_heard answer }
+    ensures read { result.end ≡ End.Ok → message.now.reading ≡ true → length result.bytes ≡ message.now.len }
+    ensures written { result.end ≡ End.Ok → message.now.reading ≡ false → result.bytes ≡ message.now.bytes }
+    ensures behind { (q : ℕ) → result.end ≡ End.Cut q → 1 ≤ q }
+    ensures place { (q : ℕ) → result.end ≡ End.Cut q → q ≤ data_len message.now + 1 }
+    ensures cause { (q : ℕ) → result.end ≡ End.Cut q → Rose (P.faults port.old) (P.faults port.new) }
+    ensures told { IsTrue P.tells → (limit : ℕ) (whole : TalkTold World) (before : List PortCall)
+        → Reaches whole (by_answer world_listener (cut_of result.end) last limit message.now answer) before 1 [] (P.world port.old) (P.log port.old)
+        → TellsTalk whole result.bytes result.end (P.world port.new) before (P.log port.new) }
+{
+    match answer {
+        Answer::Ack => {
+            if message.reading {
+                get_all(port, message.len, last)
+            } else {
+                put_all(port, message.bytes, last)
+            }
+        }
+        Answer::Slow => stopped(port, 1, ByteList::new(), End::Slow, true),
+        _ => stopped(port, 1, ByteList::new(), End::Nack, false),
+    }
+}
+
 /// Sends one message: a start, its bytes, and a stop where it is the last of its transfer or ends early. A failed
-/// call on the port ends it there.
+/// call on the port ends it there, with the number of the calls before it.
 pub fn send_message<P: Port>(port: &mut P, message: &Message<'_>, last: bool) -> Told
     requires phase { MayStart (P.phase port.old) }
     requires some { message.now.reading ≡ true → 0 < message.now.len }
     requires short_read { message.now.len ≤ 512 }
-    requires short_write { length message.now.bytes.now ≤ 512 }
+    requires short_write { length message.now.bytes ≤ 512 }
     requires room { IsTrue P.tells → length (P.log port.old) + 515 ≤ 2000000 }
     ensures phase { MayStart (P.phase port.new) }
-    ensures log { IsTrue P.tells → length (P.log port.new) ≤ length (P.log port.old) + message.now.len + length message.now.bytes.now + 2 }
+    ensures log { IsTrue P.tells → length (P.log port.new) ≤ length (P.log port.old) + message.now.len + length message.now.bytes + 2 }
     ensures later { P.faults port.old ≤ P.faults port.new }
+
+    // Its calls, bytes and end are those of the conversation with the world, a failed call in its place.
+    ensures told { IsTrue P.tells → (limit : ℕ)
+        → TellsTalk (talk world_listener limit (P.world port.old) message.now last (cut_of result.end)) result.bytes result.end (P.world port.new) (P.log port.old) (P.log port.new) }
+    ensures heard { IsTrue P.tells → start_failed result.end ≡ false → result.heard ≡ has_heard (answer_of (P.world port.old) message.now.addr message.now.reading) }
+    ensures unheard { start_failed result.end ≡ true → result.heard ≡ false }
+
+    // Over any port: all bytes where it went through, and the place and cause of a failed call.
+    ensures read { result.end ≡ End.Ok → message.now.reading ≡ true → length result.bytes ≡ message.now.len }
+    ensures written { result.end ≡ End.Ok → message.now.reading ≡ false → result.bytes ≡ message.now.bytes }
+    ensures place { (q : ℕ) → result.end ≡ End.Cut q → q ≤ data_len message.now + 1 }
+    ensures cause { (q : ℕ) → result.end ≡ End.Cut q → Rose (P.faults port.old) (P.faults port.new) }
 {
     match port.start(message.addr, message.reading) {
         Err(Failed) => Told {
@@ -133,14 +230,6 @@ pub fn send_message<P: Port>(port: &mut P, message: &Message<'_>, last: bool) ->
             end: End::Cut(0),
             heard: false,
         },
-        Ok(Answer::Ack) => {
-            if message.reading {
-                get_all(port, message.len, last)
-            } else {
-                put_all(port, message.bytes, last)
-            }
-        }
-        Ok(Answer::Slow) => stopped(port, 1, ByteList::new(), End::Slow, true),
-        Ok(_) => stopped(port, 1, ByteList::new(), End::Nack, false),
+        Ok(answer) => go_on(port, message, last, answer),
     }
 }

@@ -194,7 +194,7 @@ fn send<P: Port>(
     requires ready { All (λ p. MayStart (P.phase p)) parts.old.ports.items }
     requires some { message.now.reading ≡ true → 0 < message.now.len }
     requires short_read { message.now.len ≤ 1 }
-    requires short_write { length message.now.bytes.now ≤ 1 }
+    requires short_write { length message.now.bytes ≤ 1 }
     requires room { IsTrue P.tells → All (λ p. length (P.log p) + 515 ≤ 2000000) parts.old.ports.items }
     ensures placed { OnOk result (IsPlaced (length parts.new.ports.items) parts.new.seat.stage) }
     ensures count { length parts.new.ports.items ≡ length parts.old.ports.items }

@@ -1,5 +1,9 @@
-use Rattle.std.proofs.Common.{◌≡◌, ◌+◌, ◌≤◌, IsTrue, length, nat_lt}
+use Rattle.std.proofs.Common.{◌≡◌, ℕ, ◌+◌, ◌-◌, ◌≤◌, List, [], Option, Some, IsTrue, length, nat_lt}
 use Rattle.i2c_base.specs.Phases.{phase_got}
+use Rattle.i2c_base.specs.declared.port.PortCall.{PortCall}
+use Rattle.i2c_spec.specs.World.{World}
+use Rattle.i2c_spec.specs.Conversation.{TalkTold, world_listener, gets}
+use Rattle.i2c_top.specs.Talks.{Reaches}
 use Rattle.i2c_top.proofs.message.get_all.Given as goal
 
 abbrev pub invariant-loop-count : goal.invariant-loop-count
@@ -9,4 +13,8 @@ invariant-loop-count g l =
       got : length l.got ≡ l.count;
       log : IsTrue g.P.Port.tells → length (g.P.Port.log l.port) ≤ length (g.P.Port.log l.initial.port) + l.count;
       later : g.P.Port.faults l.initial.port ≤ g.P.Port.faults l.port;
+      -- what was said and what is left are the whole, for each place of failure from here on
+      said : IsTrue g.P.Port.tells → (cut : Option ℕ) → ((k : ℕ) → cut ≡ Some k → l.count + 1 ≤ k) → (whole : TalkTold World) (before : List PortCall)
+          → Reaches whole (gets world_listener cut l.last l.len) before 1 [] (g.P.Port.world l.initial.port) (g.P.Port.log l.initial.port)
+          → Reaches whole (gets world_listener cut l.last (l.len - l.count)) before (l.count + 1) l.got (g.P.Port.world l.port) (g.P.Port.log l.port);
     }
