@@ -1,85 +1,93 @@
-ghost use Rattle.std.specs.Prelude.{◌≡◌, ℕ, ◌+◌, ◌<◌, ◌≤◌, ◌^◌, length, All, IsTrue, OnOk, Err, IfErr, ◌≢◌};
-ghost use Rattle.i2c_base.specs.Phases.{MayStart};
-ghost use Rattle.i2c_outside.specs.Causes.{Rose};
-ghost use Rattle.i2c_top.specs.Steps.{IsPlaced};
+ghost use Rattle.std.specs.Prelude.{◌≡◌, ◌≤◌, ◌⊎◌, [], ◌∷◌, false, None, Err, IfOk, OnOk, IfErr, IsTrue, All, length, map};
+ghost use Rattle.i2c_outside.specs.Causes.{Rose, counted};
+ghost use Rattle.i2c_base.specs.declared.port.Phase.{Phase};
+ghost use Rattle.i2c_spec.specs.World.{openings};
+ghost use Rattle.bus_spec.specs.Report.{report_lines};
+ghost use Rattle.i2c_top.specs.Callers.{opened, board_of};
+ghost use Rattle.i2c_top.specs.Scripts.{asked_by, left_of, commands_of, section_text};
+ghost use Rattle.i2c_top.specs.Views.{IsKept};
+ghost use Rattle.i2c_top.specs.declared.stage.Stage.TheVariants as stage;
+ghost use Rattle.i2c_top.specs.Runs.{HasRun};
 ghost use Rattle.i2c_top.specs.declared.status.Status.TheVariants as status;
 
-use crate::command::Command;
-use crate::report::report_text;
-use crate::section::section;
-use crate::steps::{Parts, Seat, Stage, StepAnswer, step};
-use crate::{Journal, Status};
-use i2c_base::NoMemory;
+use crate::finish::{finish, open, room};
+use crate::parts::Parts;
+use crate::{Journal, Script, Status, report_text, scripts_are_fair};
+use i2c_base::{Entry, NoMemory};
 use i2c_board::Accepted;
 use i2c_outside::{Port, Rig, RigFail};
 use std::alloc::Global;
 
-/// The most steps that a script of 1,000 commands takes: four of each, and one that finds the end.
-const MOST_STEPS: u32 = 4001;
-
-// Steps the caller until its script is used up.
-fn finish<P: Port>(parts: &mut Parts<'_, P>) -> Result<(), NoMemory>
-    requires placed { IsPlaced (length parts.old.ports.items) parts.old.seat.stage }
-    requires ready { All (λ p. MayStart (P.phase p)) parts.old.ports.items }
-    requires empty { IsTrue P.tells → All (λ p. length (P.log p) ≤ 0) parts.old.ports.items }
+// The core when the script is used up, or its ports alone where there was no memory.
+fn finished<'b, P: Port>(
+    alloc: Global,
+    board: &'b Accepted,
+    script: Script,
+    ports: Vec<P>,
+) -> Result<Parts<'b, P, Script>, Vec<P>>
+    requires flat { board.now.muxes ≡ [] }
+    requires opened { script ≡ opened board.now script.script.text }
+    requires count { length ports.items ≡ length board.now.roots }
+    requires idle { All (λ p. P.phase p ≡ Phase.Idle) ports.items }
+    requires empty { IsTrue P.tells → All (λ p. P.log p ≡ []) ports.items }
+    requires worlds { IsTrue P.tells → map P.world ports.items ≡ openings board.now }
+    ensures kept { IfOk result (λ parts. IsKept P.tells P.world P.log asked_by left_of board_of (λ c. c.script) (λ c. c.taken) parts stage.Over) }
+    ensures done { IfOk result (λ parts. asked_by parts.caller.script parts.caller.taken ≡ None) }
+    ensures script { IfOk result (λ parts. parts.caller.script ≡ script.script) }
+    ensures board { IfOk result (λ parts. parts.board.now ≡ board.now) }
 {
-    for _count in 0..MOST_STEPS {
-        if step(parts)? == StepAnswer::Finished {
-            break;
-        }
+    scripts_are_fair();
+    let limit = script.most_steps();
+    let Ok(journal) = room(alloc, limit) else {
+        return Err(ports);
+    };
+    let mut parts = open(board, ports, script, journal, limit);
+    match finish(&mut parts) {
+        Ok(()) => Ok(parts),
+        Err(NoMemory) => Err(parts.ports),
     }
-    Ok(())
 }
 
-// The report of a caller that has finished.
-fn report(alloc: Global, seat: &Seat, journal: &Journal) -> Result<Vec<u8>, NoMemory> {
-    let text = section(alloc, seat.commands.as_slice(), seat.taken.as_slice())?;
-    let mut sections = Vec::new(alloc);
-    sections.push(text)?;
-    report_text(alloc, sections.as_slice(), journal)
+// The report of one caller.
+fn report(alloc: Global, journal: Vec<Entry>, caller: &Script) -> Result<Vec<u8>, NoMemory>
+    ensures { IfOk result (λ text. text.items ≡ report_lines (section_text (commands_of caller.now.script.text) caller.now.taken ∷ []) journal.items) }
+{
+    let sections = [caller.text(alloc)?];
+    report_text(alloc, &sections, &Journal::new(journal))
 }
 
-/// Runs the commands of one caller over the ports of a rig, and gives the report. A rig that was plugged is
-/// unplugged, whatever came of it.
-pub fn run_commands<R: Rig>(
+/// Runs a script over the ports of a rig, and gives the report. A rig that was plugged is unplugged, whatever came of
+/// it. It answers `Rig` where the rig counted a fault in its one plug, and else fails only for want of memory.
+pub fn run_script<R: Rig>(
     alloc: Global,
     board: &Accepted,
-    commands: Vec<Command>,
+    script: Script,
     rig: &mut R,
 ) -> Result<Vec<u8>, Status>
+    requires flat { board.now.muxes ≡ [] }
+    requires opened { script ≡ opened board.now script.script.text }
+    ensures run { IsTrue R.tells → IsTrue R.P.tells → IfOk result (λ text. HasRun board.now (script.script.text ∷ []) text.items (R.logs rig.new) (R.states rig.new)) }
+    ensures failed { IfErr result (λ e. (e ≡ status.Rig) ⊎ (e ≡ status.Memory)) }
     ensures rig { result ≡ Err status.Rig → Rose (R.faults rig.old) (R.faults rig.new) }
-    ensures told { IfErr result (λ e. e ≢ status.Write) }
-    ensures usage { IfErr result (λ e. e ≢ status.Usage) }
     ensures later { R.faults rig.old ≤ R.faults rig.new }
+    ensures plugs { R.plugs rig.new ≡ counted (R.plugs rig.old) }
+    ensures unplugs { OnOk result (R.unplugs rig.new ≡ counted (R.unplugs rig.old)) }
+    ensures none { result ≡ Err status.Rig → R.unplugs rig.new ≡ R.unplugs rig.old }
+    ensures unplugged { R.plugged rig.new ≡ false }
 {
     let ports = match rig.plug(alloc, board) {
         Ok(ports) => ports,
         Err(RigFail::Failed) => return Err(Status::Rig),
         Err(RigFail::Memory) => return Err(Status::Memory),
     };
-    let mut parts = Parts {
-        board,
-        ports,
-        seat: Seat {
-            commands,
-            taken: Vec::new(alloc),
-            stage: Stage::Idle,
-        },
-        entries: Vec::new(alloc),
-    };
-    let ran = finish(&mut parts);
-    let Parts {
-        ports,
-        seat,
-        entries,
-        ..
-    } = parts;
-    rig.unplug(ports);
-    if ran.is_err() {
-        return Err(Status::Memory);
-    }
-    match report(alloc, &seat, &Journal::new(entries)) {
-        Ok(text) => Ok(text),
-        Err(NoMemory) => Err(Status::Memory),
+    match finished(alloc, board, script, ports) {
+        Ok(parts) => {
+            rig.unplug(parts.ports);
+            Ok(report(alloc, parts.journal, &parts.caller)?)
+        }
+        Err(ports) => {
+            rig.unplug(ports);
+            Err(Status::Memory)
+        }
     }
 }
