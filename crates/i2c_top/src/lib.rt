@@ -3,15 +3,23 @@
 //! `top` reads the words, `replay_call` reads the board, the script and the schedule, runs the script over a rig's
 //! ports, and writes the report, or the line of the first refusal. A `Status` tells how the call ended. The report
 //! is made whole before its first byte is written.
+//!
+//! Their contract: each status has its cause, in the order of refusals, and each cause its status; what was written and
+//! what was done to the rig are told for each. Definitions: `specs/Forms.antt` (the words), `specs/Replays.antt` (what
+//! the files say where a call ends with a status), `specs/Traces.antt` (what it does to the rig), `specs/Endings.antt`
+//! (the text that is due, and what came of its writing), `specs/Runs.antt` (a run and its report).
 #![tactic(auto)]
 
 mod caller;
 mod command;
+mod files;
+mod finish;
 mod front;
 mod journal;
 mod line;
 mod message;
 mod number;
+mod parts;
 mod plain;
 mod program;
 mod refusal;
@@ -21,6 +29,7 @@ mod run;
 mod schedule;
 mod script;
 mod section;
+mod stage;
 mod status;
 mod steps;
 mod text;
@@ -35,5 +44,11 @@ pub use report::report_text;
 pub use script::ScriptFault;
 pub use status::{BoardRefusal, Status};
 
+#[cfg(test)]
+mod refusal_tests;
+#[cfg(test)]
+mod rig_tests;
+#[cfg(test)]
+mod sink_tests;
 #[cfg(test)]
 mod tests;

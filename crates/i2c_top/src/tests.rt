@@ -1,120 +1,161 @@
-//! Rows of whole calls, over files, output and a rig in memory.
+//! Whole calls over files, output and a rig in memory: what the tests share, and the rows of a script and a schedule.
 
 ghost use Rattle.std.specs.Prelude.{◌≡◌, map, string_bytes, IfOk};
 
 use crate::{Status, top};
-use i2c_outside::{FirstRig, MapShelf, OpenGate, VecSink};
+use i2c_outside::{FirstRig, MapShelf, OpenGate, Rig, VecSink};
 use std::alloc::{AllocError, Global};
 use std::collections::BTreeMap;
+use std::sync::Wait;
 use std::test::Fail;
+use std::thread::Threads;
 
-const B1: &str =
+/// One root, and a register device at 0x20 whose register 5 holds 0x7e.
+pub(crate) const B1: &str =
     "version = 1\n[[root]]\n[[device]]\nbus = 0\nkind = \"regs\"\naddress = 0x20\nset = [[5, 0x7e]]\n";
 
-const ONE_READ: &str =
+/// The script of one register read, and its report.
+pub(crate) const READ: &str = "i2cget -y 0 0x20 5\n";
+
+pub(crate) const ONE_READ: &str =
     "caller 0\n> i2cget -y 0 0x20 5\n0x7e\njournal\ntake 0 buslock 0\nmsg 0 bus 0 call 1/2 w 0x20 [05] heard d0 ok\nmsg 0 bus 0 call 2/2 r 0x20 [7e] heard d0 ok\nsettle 0 read 7e\nfree 0 buslock 0\nend\n";
+
+const EMPTY: &str = "caller 0\njournal\nend\n";
 
 const NOBODY: &str =
     "caller 0\n> i2cget -y 0 0x21 5\nENXIO\njournal\ntake 0 buslock 0\nmsg 0 bus 0 call 1/2 w 0x21 [] heard none nack\nsettle 0 ENXIO\nfree 0 buslock 0\nend\n";
 
+const LOWEST: &str =
+    "caller 0\n> i2cget -y 0 0x08 5\nENXIO\njournal\ntake 0 buslock 0\nmsg 0 bus 0 call 1/2 w 0x08 [] heard none nack\nsettle 0 ENXIO\nfree 0 buslock 0\nend\n";
+
+const HIGHEST: &str =
+    "caller 0\n> i2cget -y 0 0x77 5\nENXIO\njournal\ntake 0 buslock 0\nmsg 0 bus 0 call 1/2 w 0x77 [] heard none nack\nsettle 0 ENXIO\nfree 0 buslock 0\nend\n";
+
 const NO_BUS: &str = "caller 0\n> i2cget -y 4 0x20 5\nENODEV\njournal\nsettle 0 ENODEV\nend\n";
 
-// The words `replay b s c`.
-fn words(alloc: Global) -> Result<Vec<String>, AllocError> {
-    let mut words = Vec::new(alloc);
-    for word in ["replay", "b", "s", "c"] {
-        words.push(String::from_str(alloc, word)?)?;
-    }
-    Ok(words)
-}
+/// A script of four commands, in all the ways in which lines end and words stand apart, and its report.
+const FOUR: &str =
+    "# four\r\ni2cget -y 0 0x20 5\r\n\n \t\r\n\ti2cget\t-y \t 0 32\t0x06 \n #\ni2cget -y 1 0x20 5\ni2cget -y 0 0x0020 0xfF";
 
-// The same words again.
-fn copied(alloc: Global, words: &[String]) -> Result<Vec<String>, AllocError>
-    ensures { IfOk result (λ v. map string_bytes v.items ≡ map string_bytes words.now) }
+const FOUR_READ: &str =
+    "caller 0\n> i2cget -y 0 0x20 5\n0x7e\n> i2cget -y 0 32 0x06\n0x00\n> i2cget -y 1 0x20 5\nENODEV\n> i2cget -y 0 0x0020 0xfF\n0x00\njournal\ntake 0 buslock 0\nmsg 0 bus 0 call 1/2 w 0x20 [05] heard d0 ok\nmsg 0 bus 0 call 2/2 r 0x20 [7e] heard d0 ok\nsettle 0 read 7e\nfree 0 buslock 0\ntake 0 buslock 0\nmsg 0 bus 0 call 1/2 w 0x20 [06] heard d0 ok\nmsg 0 bus 0 call 2/2 r 0x20 [00] heard d0 ok\nsettle 0 read 00\nfree 0 buslock 0\nsettle 0 ENODEV\ntake 0 buslock 0\nmsg 0 bus 0 call 1/2 w 0x20 [ff] heard d0 ok\nmsg 0 bus 0 call 2/2 r 0x20 [00] heard d0 ok\nsettle 0 read 00\nfree 0 buslock 0\nend\n";
+
+/// The words of a call, and the files of one register read.
+pub(crate) const REPLAY: [&str; 4] = ["replay", "b", "s", "c"];
+
+pub(crate) const FILES: [(&str, &str); 3] = [("b", B1), ("s", ""), ("c", READ)];
+
+/// How many bytes are room for each output of the tests.
+pub(crate) const ROOM: usize = 4096;
+
+// The words, each as a text of its own.
+fn texts(alloc: Global, words: &[&str]) -> Result<Vec<String>, AllocError>
+    ensures { IfOk result (λ v. map string_bytes v.items ≡ map (λ w. w.now) words.now) }
 {
-    let mut copy = Vec::new(alloc);
+    let mut texts = Vec::new(alloc);
     for word in words {
-        copy.push(String::from_str(alloc, word.as_str())?)?;
+        texts.push(String::from_str(alloc, *word)?)?;
     }
-    Ok(copy)
+    Ok(texts)
 }
 
-// The files b, s and c.
-fn files(
+// The files of these names and texts.
+fn files_of(
     alloc: Global,
-    board: &str,
-    schedule: &str,
-    script: &str,
+    files: &[(&str, &str)],
 ) -> Result<BTreeMap<String, Vec<u8>>, AllocError> {
-    let mut files = BTreeMap::new(alloc);
-    for (name, text) in [("b", board), ("s", schedule), ("c", script)] {
+    let mut map = BTreeMap::new(alloc);
+    for (name, text) in files {
         let bytes = Vec::from_slice(alloc, text.as_bytes())?;
-        files.insert(String::from_str(alloc, name)?, bytes)?;
+        map.insert(String::from_str(alloc, *name)?, bytes)?;
     }
-    Ok(files)
+    Ok(map)
+}
+
+/// Calls `top` with these words over these files, by name and text. The reads whose numbers stand in `fails` fail.
+/// It gives the status, and the shelf as the call left it.
+pub(crate) fn call<H: Threads + Wait + Sync, R: Rig>(
+    rt: &H,
+    alloc: Global,
+    words: &[&str],
+    files: &[(&str, &str)],
+    fails: &[u32],
+    sink: &mut VecSink,
+    rig: &mut R,
+) -> Result<(Status, MapShelf), AllocError> {
+    let given = texts(alloc, words)?;
+    let fails = Vec::from_slice(alloc, fails)?;
+    let mut shelf = MapShelf::new(texts(alloc, words)?, files_of(alloc, files)?, fails);
+    let status = top(
+        rt,
+        alloc,
+        given.as_slice(),
+        &mut shelf,
+        sink,
+        rig,
+        &OpenGate,
+    );
+    Ok((status, shelf))
+}
+
+// A refusal of the script.
+fn refused(line: u32, word: u16) -> Status {
+    Status::Script {
+        caller: 0,
+        line,
+        word,
+    }
 }
 
 #[test]
 fn each_row_writes_its_report_or_its_refusal(rt: HostRuntime) -> Result<(), Fail> {
     let rows = [
-        ("i2cget -y 0 0x20 5\n", "", Status::Ok, ONE_READ),
-        ("", "", Status::Ok, "caller 0\njournal\nend\n"),
+        (READ, "", Status::Ok, ONE_READ),
+        ("", "", Status::Ok, EMPTY),
+        ("# nothing\n\r\n\t \n", "", Status::Ok, EMPTY),
         ("i2cget -y 0 0x21 5", "", Status::Ok, NOBODY),
+        ("i2cget -y 0 0x08 5\n", "", Status::Ok, LOWEST),
+        ("i2cget -y 0 0x77 5\n", "", Status::Ok, HIGHEST),
         ("i2cget -y 4 0x20 5", "", Status::Ok, NO_BUS),
+        (FOUR, "", Status::Ok, FOUR_READ),
         (
             "# low\ni2cget -y 0 0x07 5\n",
             "",
-            Status::Script {
-                caller: 0,
-                line: 2,
-                word: 3,
-            },
+            refused(2, 3),
             "script 0 line 2 word 3\n",
         ),
         (
             "i2cget -y 0 0x78 5\n",
             "",
-            Status::Script {
-                caller: 0,
-                line: 1,
-                word: 3,
-            },
+            refused(1, 3),
             "script 0 line 1 word 3\n",
         ),
         (
             "i2cget -y 0 0x2",
             "",
-            Status::Script {
-                caller: 0,
-                line: 1,
-                word: 3,
-            },
+            refused(1, 3),
             "script 0 line 1 word 3\n",
+        ),
+        (
+            "i2cget -y 0 0x20 5\r",
+            "",
+            refused(1, 4),
+            "script 0 line 1 word 4\n",
+        ),
+        (
+            "\r\ni2cget -y 0 0x20 5\r\r\n",
+            "",
+            refused(2, 4),
+            "script 0 line 2 word 4\n",
         ),
         ("", " \n0", Status::Schedule(0), "schedule word 0\n"),
     ];
-    for (script, schedule, status, output) in rows {
-        let given = words(rt.alloc())?;
-        let mut shelf = MapShelf::new(
-            copied(rt.alloc(), given.as_slice())?,
-            files(rt.alloc(), B1, schedule, script)?,
-            Vec::new(rt.alloc()),
-        );
-        let mut sink = match VecSink::open(rt.alloc(), 4096, Vec::new(rt.alloc())) {
-            Ok(sink) => sink,
-            Err(_) => return Ok(()),
-        };
+    for (script, schedule, want, output) in rows {
+        let files = [("b", B1), ("s", schedule), ("c", script)];
+        let mut sink = VecSink::open(rt.alloc(), ROOM, Vec::new(rt.alloc()))?;
         let mut rig = FirstRig::new();
-        let told = top(
-            &rt,
-            rt.alloc(),
-            given.as_slice(),
-            &mut shelf,
-            &mut sink,
-            &mut rig,
-            &OpenGate,
-        );
-        assert_eq!(rt; told, status, "{script}");
+        let (status, _) = call(&rt, rt.alloc(), &REPLAY, &files, &[], &mut sink, &mut rig)?;
+        assert_eq!(rt; status, want, "{script}");
         assert_eq!(rt; sink.bytes(), output.as_bytes(), "{script}");
     }
     Ok(())

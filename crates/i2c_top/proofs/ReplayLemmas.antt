@@ -1,0 +1,24 @@
+-- How a call of `replay` ends: its report, and what its status tells.
+use Rattle.std.proofs.Common.{ℕ, List, [], ◌∷◌, subst}
+use Rattle.i2c_base.specs.declared.port.PortCall.{PortCall}
+use Rattle.i2c_base.specs.Board.{BoardView}
+use Rattle.i2c_spec.specs.Targets.{TargetState}
+use Rattle.i2c_top.specs.Endings.{HasReport}
+use Rattle.i2c_top.specs.PlainForm.{plain_board}
+use Rattle.i2c_top.specs.Readings.{HasRead}
+use Rattle.i2c_top.specs.Replays.{Files, Names}
+use Rattle.i2c_top.specs.Runs.{HasRun}
+
+abbrev board_read : (file : Files) (names : Names) (b : BoardView) (text : List ℕ) → HasRead file names b text → BoardView
+board_read file names b text read = plain_board read.board_in.has.addr read.board_in.has.place read.board_in.has.byte
+
+-- the run of what was read is the report that the files ask for
+pub has_report : (file : Files) (names : Names) (b : BoardView) (text bytes : List ℕ) (logs : List (List PortCall)) (states : List TargetState)
+    → HasRead file names b text → HasRun b (text ∷ []) bytes logs states → HasReport file names bytes logs states
+has_report file names b text bytes logs states read run =
+    record {
+      files = record { board = read.board_in.has; script = read.script_in.has; schedule = read.schedule };
+      run =
+          let over : HasRun (board_read file names b text read) (text ∷ []) bytes logs states = subst (λ x. HasRun x (text ∷ []) bytes logs states) read.board_in.same run in
+          subst (λ t. HasRun (board_read file names b text read) (t ∷ []) bytes logs states) read.script_in.same over;
+    }

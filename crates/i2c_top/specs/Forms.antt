@@ -1,0 +1,24 @@
+-- The forms of the words of a command line. The form in force is `replay BOARD SCHEDULE SCRIPT`.
+use Rattle.std.specs.Prelude.{◌≡◌, ◌≢◌, ℕ, List, [], ◌∷◌, length, codes}
+use Rattle.i2c_top.specs.Commands.{word_at}
+use Rattle.i2c_top.specs.Replays.{Names}
+
+-- a word that may be a name isn't empty, and doesn't begin with `-`
+abbrev pub IsName : List ℕ → Type 0
+IsName [] = ⊥
+IsName (b ∷ bs) = b ≢ 45
+
+-- behind the first word stand a board, a schedule and a script
+pub record AreNamed (words : List (List ℕ)) : Type 0 where
+  pub board : IsName (word_at words 1)
+  pub schedule : IsName (word_at words 2)
+  pub script : IsName (word_at words 3)
+
+-- the words are `replay` and three names
+pub record IsReplayForm (words : List (List ℕ)) : Type 0 where
+  pub count : length words ≡ 4
+  pub command : word_at words 0 ≡ codes "replay"
+  pub named : AreNamed words
+
+abbrev pub names_in : List (List ℕ) → Names
+names_in words = record { board = word_at words 1; schedule = word_at words 2; script = word_at words 3 }

@@ -1,0 +1,141 @@
+-- What the files of a call say where it ends with a status.
+use Rattle.std.specs.Prelude.{⊤, ◌≡◌, ◌≢◌, ℕ, ◌≤◌, ◌⊎◌, Bool, IsTrue, ◌==◌, if◌then◌else◌, List, [], ◌∷◌, Option, Some, None, Ok, Err}
+use Rattle.i2c_outside.specs.Causes.{Rose}
+use Rattle.i2c_top.specs.PlainForm.{IsPlainText, IsNotPlain}
+use Rattle.i2c_top.specs.Scripts.{script_read, commands_of}
+use Rattle.i2c_top.specs.Schedules.{schedule_fault}
+use Rattle.i2c_top.specs.declared.status.BoardRefusal.TheVariants as refusal
+use Rattle.i2c_top.specs.declared.status.Status.{Status}
+use Rattle.i2c_top.specs.declared.status.Status.TheVariants as status
+
+-- the bytes of a file by its name, where there is such a file
+abbrev pub Files : Type 0
+Files = List ℕ → Option (List ℕ)
+
+-- what the files of a call are called
+pub record Names : Type 0 where
+  pub board : List ℕ
+  pub schedule : List ℕ
+  pub script : List ℕ
+
+-- with one script, the first of these
+abbrev pub first_of : List (List ℕ) → List ℕ
+first_of [] = []
+first_of (name ∷ names) = name
+
+abbrev pub names_of : List ℕ → List ℕ → List (List ℕ) → Names
+names_of board schedule scripts = record { board = board; schedule = schedule; script = first_of scripts }
+
+-- the name of the file at a place of the words
+abbrev pub name_at : Names → ℕ → List ℕ
+name_at names place = if place == 1 then names.board else if place == 2 then names.schedule else names.script
+
+-- the board's file is there, in the plain form, with this address, register and byte
+pub record HasBoard (file : Files) (name : List ℕ) : Type 0 where
+  pub addr : ℕ
+  pub place : ℕ
+  pub byte : ℕ
+  pub text : List ℕ
+  pub there : file name ≡ Some text
+  pub plain : IsPlainText text addr place byte
+
+-- it is there, and not in the plain form
+pub record HasNoBoard (file : Files) (name : List ℕ) : Type 0 where
+  pub text : List ℕ
+  pub there : file name ≡ Some text
+  pub not_plain : IsNotPlain text
+
+-- the script's file is there, and in the grammar
+pub record HasScript (file : Files) (name : List ℕ) : Type 0 where
+  pub text : List ℕ
+  pub there : file name ≡ Some text
+  pub read : script_read text ≡ Ok (commands_of text)
+
+-- it is there, and this line is its first that is not in the grammar, with its refused word
+pub record HasBadScript (file : Files) (name : List ℕ) (line word : ℕ) : Type 0 where
+  pub text : List ℕ
+  pub there : file name ≡ Some text
+  pub read : script_read text ≡ Err (record { line = line; word = word })
+
+-- the schedule's file is there, and well formed
+pub record HasSchedule (file : Files) (name : List ℕ) : Type 0 where
+  pub text : List ℕ
+  pub there : file name ≡ Some text
+  pub fits : schedule_fault text ≡ None
+
+-- it is there, and this word is its first that is no caller's number
+pub record HasBadSchedule (file : Files) (name : List ℕ) (word : ℕ) : Type 0 where
+  pub text : List ℕ
+  pub there : file name ≡ Some text
+  pub fault : schedule_fault text ≡ Some word
+
+-- the files are there, and well formed
+pub record HasFiles (file : Files) (names : Names) : Type 0 where
+  pub board : HasBoard file names.board
+  pub script : HasScript file names.script
+  pub schedule : HasSchedule file names.schedule
+
+-- what the files say where a call ends with a status that they decide: success, and each refusal of a file's text
+abbrev pub IsCause : Files → Names → Status → Type 0
+IsCause file names status.Ok = HasFiles file names
+IsCause file names (status.Board refusal.Plain) = HasNoBoard file names.board
+IsCause file names (status.Script caller line word) = HasBoard file names.board × (caller ≡ 0) × HasBadScript file names.script line word
+IsCause file names (status.Schedule word) = HasBoard file names.board × HasScript file names.script × HasBadSchedule file names.schedule word
+IsCause file names status.Usage = ⊥
+IsCause file names (status.Cost cost) = ⊥
+IsCause file names (status.Read place) = ⊥
+IsCause file names status.Write = ⊥
+IsCause file names status.Memory = ⊥
+IsCause file names status.Rig = ⊥
+
+-- the order of refusals: the board is read at place 1; it is plain before the script is read, at place 3; the script is in
+-- the grammar before the schedule is read, at place 2
+abbrev pub IsReadInTurn : Files → Names → ℕ → Type 0
+IsReadInTurn file names place =
+    (place ≡ 1) ⊎ (((place ≡ 3) × HasBoard file names.board) ⊎ ((place ≡ 2) × HasBoard file names.board × HasScript file names.script))
+
+-- what the files say where a call ends with any status: each comes only where no earlier refusal does
+abbrev pub IsTold : Files → Names → Status → Type 0
+IsTold file names status.Ok = IsCause file names status.Ok
+IsTold file names (status.Board why) = IsCause file names (status.Board why)
+IsTold file names (status.Script caller line word) = IsCause file names (status.Script caller line word)
+IsTold file names (status.Schedule word) = IsCause file names (status.Schedule word)
+IsTold file names (status.Read place) = IsReadInTurn file names place
+IsTold file names status.Rig = HasFiles file names
+IsTold file names (status.Cost cost) = ⊥
+IsTold file names status.Usage = ⊤
+IsTold file names status.Write = ⊤
+IsTold file names status.Memory = ⊤
+
+-- a file was not read at one of the places 1 to 3, and its count shows it
+pub record IsUnread (reads reads_now : ℕ → ℕ) (place : ℕ) : Type 0 where
+  pub first : 1 ≤ place
+  pub last : place ≤ 3
+  pub rose : Rose (reads place) (reads_now place)
+
+-- the files that a call did not come to were not read, so that their counts are as they were: the board is read first,
+-- then the script, then the schedule
+abbrev pub KeepsUnreached : (ℕ → ℕ) → (ℕ → ℕ) → Status → Type 0
+KeepsUnreached reads reads_now status.Usage = (place : ℕ) → reads_now place ≡ reads place
+KeepsUnreached reads reads_now (status.Board why) = (reads_now 3 ≡ reads 3) × (reads_now 2 ≡ reads 2)
+KeepsUnreached reads reads_now (status.Script caller line word) = reads_now 2 ≡ reads 2
+KeepsUnreached reads reads_now (status.Read place) = (place ≢ 2 → reads_now 2 ≡ reads 2) × (place ≡ 1 → reads_now 3 ≡ reads 3)
+KeepsUnreached reads reads_now (status.Schedule word) = ⊤
+KeepsUnreached reads reads_now (status.Cost cost) = ⊤
+KeepsUnreached reads reads_now status.Rig = ⊤
+KeepsUnreached reads reads_now status.Ok = ⊤
+KeepsUnreached reads reads_now status.Write = ⊤
+KeepsUnreached reads reads_now status.Memory = ⊤
+
+-- a refusal of the files, by what they say where they are told, and by the counts
+abbrev pub IsFileRefusal : Bool → Files → Names → (ℕ → ℕ) → (ℕ → ℕ) → Status → Type 0
+IsFileRefusal tells file names reads reads_now (status.Board why) = IsTrue tells → IsCause file names (status.Board why)
+IsFileRefusal tells file names reads reads_now (status.Script caller line word) = IsTrue tells → IsCause file names (status.Script caller line word)
+IsFileRefusal tells file names reads reads_now (status.Schedule word) = IsTrue tells → IsCause file names (status.Schedule word)
+IsFileRefusal tells file names reads reads_now (status.Read place) = IsUnread reads reads_now place × (IsTrue tells → IsReadInTurn file names place)
+IsFileRefusal tells file names reads reads_now status.Memory = ⊤
+IsFileRefusal tells file names reads reads_now status.Ok = ⊥
+IsFileRefusal tells file names reads reads_now status.Usage = ⊥
+IsFileRefusal tells file names reads reads_now (status.Cost cost) = ⊥
+IsFileRefusal tells file names reads reads_now status.Write = ⊥
+IsFileRefusal tells file names reads reads_now status.Rig = ⊥

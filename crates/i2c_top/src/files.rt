@@ -1,0 +1,162 @@
+ghost use Rattle.std.specs.Prelude.{◌≡◌, ◌≢◌, ℕ, ◌≤◌, ◌^◌, ◌⊎◌, [], List, length, Some, None, Ok, Err, slice_get, OnOk, IfOk, IfErr, IsTrue};
+ghost use Rattle.i2c_outside.specs.Causes.{Rose};
+ghost use Rattle.i2c_top.specs.Callers.{opened};
+ghost use Rattle.i2c_top.specs.PlainForm.{IsNotPlain};
+ghost use Rattle.i2c_top.specs.Readings.{IsBoardOf, IsBoardIn, IsScriptIn, HasRead, IsRefusedAt, IsBadBoard, IsBadScript, IsBadSchedule};
+ghost use Rattle.i2c_top.specs.Replays.{HasNoBoard, HasBadScript, HasSchedule, HasBadSchedule, KeepsUnreached, IsFileRefusal};
+ghost use Rattle.i2c_top.specs.Scripts.{script_read, commands_of};
+ghost use Rattle.i2c_top.specs.Schedules.{schedule_fault};
+ghost use Rattle.i2c_top.specs.declared.status.Status.TheVariants as status;
+
+use crate::plain::{open_plain, read_plain};
+use crate::schedule::schedule_fault;
+use crate::{BoardRefusal, Script, ScriptFault, Status};
+use i2c_base::NoMemory;
+use i2c_board::Accepted;
+use i2c_outside::{ReadFail, Shelf};
+use std::alloc::Global;
+
+/// The places of the board, the schedule and the first script among the words.
+pub const BOARD: u8 = 1;
+
+pub const SCHEDULE: u8 = 2;
+
+pub const SCRIPT: u8 = 3;
+
+// Reads the file at a place of the words.
+fn read_file<S: Shelf>(
+    alloc: Global,
+    shelf: &mut S,
+    place: u8,
+    name: &str,
+) -> Result<Vec<u8>, Status>
+    requires low { place ≤ 15 }
+    requires named { slice_get (S.words shelf.old) place ≡ Some name.now }
+    ensures words { S.words shelf.new ≡ S.words shelf.old }
+    ensures files { (n : List ℕ) → S.file shelf.new n ≡ S.file shelf.old n }
+    ensures others { (p : ℕ) → p ≢ place → S.faults shelf.new p ≡ S.faults shelf.old p }
+    ensures small { IfOk result (λ v. length v.items ≤ 2 ^ 28) }
+    ensures bytes { IsTrue S.tells → IfOk result (λ v. S.file shelf.old name.now ≡ Some v.items) }
+    ensures refused { IfErr result (λ e. ((e ≡ status.Read place) × Rose (S.faults shelf.old place) (S.faults shelf.new place)) ⊎ (e ≡ status.Memory)) }
+{
+    match shelf.read(alloc, place, name) {
+        Ok(bytes) => Ok(bytes),
+        Err(ReadFail::Failed) => Err(Status::Read(place)),
+        Err(ReadFail::Memory) => Err(Status::Memory),
+    }
+}
+
+// The board of a text.
+fn board_of(alloc: Global, text: &[u8]) -> Result<Accepted, Status>
+    ensures board { IfOk result (IsBoardOf text.now) }
+    ensures refused { IfErr result (λ e. (e ≡ status.Memory) ⊎ IsBadBoard (IsNotPlain text.now) e) }
+{
+    let Some(plain) = read_plain(text) else {
+        return Err(Status::Board(BoardRefusal::Plain));
+    };
+    match open_plain(alloc, plain.addr, plain.place, plain.byte) {
+        Ok(board) => Ok(board),
+        Err(NoMemory) => Err(Status::Memory),
+    }
+}
+
+// The script of a text.
+fn script_of(alloc: Global, board: &Accepted, text: &[u8]) -> Result<Script, Status>
+    requires { length text.now ≤ 2 ^ 28 }
+    ensures opened { IfOk result (λ s. s ≡ opened board.now text.now) }
+    ensures read { OnOk result (script_read text.now ≡ Ok (commands_of text.now)) }
+    ensures refused { IfErr result (λ e. (e ≡ status.Memory) ⊎ IsBadScript (λ line word. script_read text.now ≡ Err (record { line = line; word = word })) e) }
+{
+    match Script::open(alloc, board, text) {
+        Ok(script) => Ok(script),
+        Err(ScriptFault::Bad { line, word }) => Err(Status::Script {
+            caller: 0,
+            line,
+            word,
+        }),
+        Err(ScriptFault::Memory) => Err(Status::Memory),
+    }
+}
+
+// A schedule's text is well formed.
+fn check_schedule(text: &[u8]) -> Result<(), Status>
+    ensures fits { OnOk result (schedule_fault text.now ≡ None) }
+    ensures refused { IfErr result (IsBadSchedule (λ word. schedule_fault text.now ≡ Some word)) }
+{
+    match schedule_fault(text) {
+        None => Ok(()),
+        Some(word) => Err(Status::Schedule(word)),
+    }
+}
+
+// Reads the board's file.
+fn read_board<S: Shelf>(alloc: Global, shelf: &mut S, name: &str) -> Result<Accepted, Status>
+    requires named { slice_get (S.words shelf.old) 1 ≡ Some name.now }
+    ensures words { S.words shelf.new ≡ S.words shelf.old }
+    ensures files { (n : List ℕ) → S.file shelf.new n ≡ S.file shelf.old n }
+    ensures others { (p : ℕ) → p ≢ 1 → S.faults shelf.new p ≡ S.faults shelf.old p }
+    ensures flat { IfOk result (λ b. b.muxes ≡ []) }
+    ensures board { IsTrue S.tells → IfOk result (IsBoardIn (S.file shelf.old) name.now) }
+    ensures refused { IfErr result (IsRefusedAt 1 (IsBadBoard (IsTrue S.tells → HasNoBoard (S.file shelf.old) name.now)) (S.faults shelf.old 1) (S.faults shelf.new 1)) }
+{
+    let text = read_file(alloc, shelf, BOARD, name)?;
+    board_of(alloc, text.as_slice())
+}
+
+// Reads the script's file.
+fn read_script<S: Shelf>(
+    alloc: Global,
+    board: &Accepted,
+    shelf: &mut S,
+    name: &str,
+) -> Result<Script, Status>
+    requires named { slice_get (S.words shelf.old) 3 ≡ Some name.now }
+    ensures words { S.words shelf.new ≡ S.words shelf.old }
+    ensures files { (n : List ℕ) → S.file shelf.new n ≡ S.file shelf.old n }
+    ensures others { (p : ℕ) → p ≢ 3 → S.faults shelf.new p ≡ S.faults shelf.old p }
+    ensures opened { IfOk result (λ s. s ≡ opened board.now s.script.text) }
+    ensures script { IsTrue S.tells → IfOk result (λ s. IsScriptIn (S.file shelf.old) name.now s.script.text) }
+    ensures refused { IfErr result (IsRefusedAt 3 (IsBadScript (λ line word. IsTrue S.tells → HasBadScript (S.file shelf.old) name.now line word)) (S.faults shelf.old 3) (S.faults shelf.new 3)) }
+{
+    let text = read_file(alloc, shelf, SCRIPT, name)?;
+    script_of(alloc, board, text.as_slice())
+}
+
+// Reads the schedule's file.
+fn read_schedule<S: Shelf>(alloc: Global, shelf: &mut S, name: &str) -> Result<(), Status>
+    requires named { slice_get (S.words shelf.old) 2 ≡ Some name.now }
+    ensures words { S.words shelf.new ≡ S.words shelf.old }
+    ensures files { (n : List ℕ) → S.file shelf.new n ≡ S.file shelf.old n }
+    ensures others { (p : ℕ) → p ≢ 2 → S.faults shelf.new p ≡ S.faults shelf.old p }
+    ensures schedule { IsTrue S.tells → OnOk result (HasSchedule (S.file shelf.old) name.now) }
+    ensures refused { IfErr result (IsRefusedAt 2 (IsBadSchedule (λ word. IsTrue S.tells → HasBadSchedule (S.file shelf.old) name.now word)) (S.faults shelf.old 2) (S.faults shelf.new 2)) }
+{
+    let text = read_file(alloc, shelf, SCHEDULE, name)?;
+    check_schedule(text.as_slice())
+}
+
+/// Reads the files in the order board, script, schedule: the board and the script, or the first refusal.
+pub fn read_files<S: Shelf>(
+    alloc: Global,
+    board: &str,
+    schedule: &str,
+    script: &str,
+    shelf: &mut S,
+) -> Result<(Accepted, Script), Status>
+    requires board { slice_get (S.words shelf.old) 1 ≡ Some board.now }
+    requires schedule { slice_get (S.words shelf.old) 2 ≡ Some schedule.now }
+    requires script { slice_get (S.words shelf.old) 3 ≡ Some script.now }
+    ensures words { S.words shelf.new ≡ S.words shelf.old }
+    ensures files { (n : List ℕ) → S.file shelf.new n ≡ S.file shelf.old n }
+    ensures others { (p : ℕ) → p ≢ 1 → p ≢ 2 → p ≢ 3 → S.faults shelf.new p ≡ S.faults shelf.old p }
+    ensures flat { IfOk result (λ f. f.0.muxes ≡ []) }
+    ensures opened { IfOk result (λ f. f.1 ≡ opened f.0 f.1.script.text) }
+    ensures read { IsTrue S.tells → IfOk result (λ f. HasRead (S.file shelf.old) (record { board = board.now; schedule = schedule.now; script = script.now }) f.0 f.1.script.text) }
+    ensures unreached { IfErr result (KeepsUnreached (S.faults shelf.old) (S.faults shelf.new)) }
+    ensures refused { IfErr result (IsFileRefusal S.tells (S.file shelf.old) (record { board = board.now; schedule = schedule.now; script = script.now }) (S.faults shelf.old) (S.faults shelf.new)) }
+{
+    let accepted = read_board(alloc, shelf, board)?;
+    let read = read_script(alloc, &accepted, shelf, script)?;
+    read_schedule(alloc, shelf, schedule)?;
+    Ok((accepted, read))
+}
