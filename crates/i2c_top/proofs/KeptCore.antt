@@ -39,7 +39,7 @@ use Rattle.i2c_top.specs.Converses.{EndsIt, next_message, heard_of, entry_of, Ha
 use Rattle.i2c_top.specs.declared.stage.Sending.{Sending}
 use Rattle.i2c_top.specs.declared.stage.Stage.TheVariants as stage
 use Rattle.i2c_top.proofs.StageWalks.{sending_next}
-use Rattle.i2c_top.proofs.KeptSteps.{kept-take, kept-refused, kept-free}
+use Rattle.i2c_top.proofs.KeptSteps.{kept-take, kept-refused}
 use Rattle.i2c_top.proofs.KeptMessages.{behind, behind_is, may_say, kept-message, kept-settle}
 use Rattle.i2c_top.proofs.KeptPorts.{ports-said}
 
@@ -75,16 +75,6 @@ module _ (b : BoardView) (asks : Asks) (past : List Entry) (taken : List Reply) 
         stepwise = (kept.comes, told.stepwise);
         seat = kept.stands;
         ports = same_ports told.ports (now b asks (entry.Settle 0 (reply.Err e) cut.No ∷ past)) refl refl;
-      }
-
-  pub core-free : (root : ℕ) → CoreTold b asks past taken (stage.Freeing root) worlds logs
-      → CoreTold b asks (entry.Free 0 (lock.Bus root) ∷ past) taken stage.Over worlds logs
-  core-free root told =
-      let kept = kept-free b asks n taken root told.seat in
-      record {
-        stepwise = (kept.comes, told.stepwise);
-        seat = kept.stands;
-        ports = same_ports told.ports (now b asks (entry.Free 0 (lock.Bus root) ∷ past)) refl refl;
       }
 
 -- who is told to have heard a message is the one who hears its start

@@ -1,7 +1,6 @@
 -- What each step of the one caller that isn't a message keeps: it may come next, and the caller stands where the journal
 -- then tells.
-use Rattle.std.proofs.Common.{◌≡◌, ◌==◌, ℕ, Bool, true, false, cond, List, [], ◌∷◌, ◌++◌, length, Option, Some, None, refl, sym, ◌∙◌, ap, subst, arith, ◌-◌, inl, inr}
-use Rattle.std.proofs.lemmas.Bool.Decides.{eqb_tells}
+use Rattle.std.proofs.Common.{◌≡◌, ℕ, cond, List, [], ◌∷◌, ◌++◌, length, Option, Some, None, refl, sym, ◌∙◌, ap, subst, arith, ◌-◌, inl}
 use Rattle.i2c_base.specs.declared.ids.LockId.{LockId}
 use Rattle.i2c_base.specs.declared.ids.LockId.TheVariants as lock
 use Rattle.i2c_base.specs.declared.errno.Errno.{Errno}
@@ -14,31 +13,21 @@ use Rattle.i2c_base.specs.Transfer.{TransferView}
 use Rattle.i2c_spec.specs.Tree.{hops, root_of}
 use Rattle.i2c_spec.specs.Flat.{refusal}
 use Rattle.i2c_spec.specs.History.{Asks}
-use Rattle.bus_spec.specs.Walk.{Take, Settle, Passed, Good, WalkTree, Ends, Then}
+use Rattle.bus_spec.specs.Walk.{Take, Settle, Passed, WalkTree, Ends, Then}
 use Rattle.bus_spec.specs.Grammar.{messages, plain, seen, first_act, rest_of}
 use Rattle.bus_spec.specs.Readings.{is_lock}
-use Rattle.bus_spec.specs.Past.{Now, current, step, without}
+use Rattle.bus_spec.specs.Past.{Now, current, step}
 use Rattle.bus_spec.specs.Stepwise.{May, IsBelow}
 use Rattle.i2c_top.specs.Stages.{call_of, frees, begins}
 use Rattle.i2c_top.specs.Cores.{SeatTold}
 use Rattle.i2c_top.specs.declared.stage.Stage.{Stage}
 use Rattle.i2c_top.specs.declared.stage.Stage.TheVariants as stage
-use Rattle.i2c_top.proofs.StageWalks.{refused_walk, begun_walk, over_current, freeing_current}
+use Rattle.i2c_top.proofs.StageWalks.{refused_walk, begun_walk, over_current}
 
 -- a step that may come next, and where the caller stands behind it
 pub record Kept (may : Type 0) (n : Now) (taken : List Reply) (stage : Stage) : Type 0 where
   pub comes : may
   pub stands : SeatTold n taken stage
-
-same_number : (r : ℕ) → (r == r) ≡ true
-same_number r = elim (eqb_tells r r) [ inl h ↦ h.0 | inr h ↦ absurd (h.1 refl) ]
-
-abbrev only_caller : Option ℕ
-only_caller = Some 0
-
-nobody : (t : Bool) → cond t None (cond t only_caller None) ≡ None
-nobody true = refl
-nobody false = refl
 
 module _ (b : BoardView) (asks : Asks) (n : Now) (taken : List Reply) where
   -- the walk of the transfer that comes next begins with its root's lock
@@ -75,27 +64,6 @@ module _ (b : BoardView) (asks : Asks) (n : Now) (taken : List Reply) where
           holders = told.holders;
           settled = ap (λ (rs : List Reply). rs ++ reply.Err e ∷ []) told.settled;
           got = refl;
-          no_cut = refl;
-        };
-      }
-
-  freed_lock : (root : ℕ) (l : LockId) → cond (is_lock (lock.Bus root) l) None (cond (is_lock (lock.Bus root) l) only_caller None) ≡ None
-  freed_lock root l = nobody (is_lock (lock.Bus root) l)
-
-  -- the lock of a settled transfer is freed, and its walk has ended
-  pub kept-free : (root : ℕ) → SeatTold n taken (stage.Freeing root)
-      → Kept (May b 1 asks n (entry.Free 0 (lock.Bus root))) (step b asks n (entry.Free 0 (lock.Bus root))) taken stage.Over
-  kept-free root told =
-      let now_is : current b asks n 0 ≡ frees root Good = freeing_current b asks n taken root told in
-      record {
-        comes = (omega arith, told.none_due, ap first_act now_is);
-        stands = record {
-          none_due = told.none_due;
-          walk = ap (λ (w : WalkTree). rest_of w Passed) now_is;
-          held = ap (without (lock.Bus root)) told.held ∙ ap (λ (t : Bool). cond t [] (lock.Bus root ∷ [])) (same_number root);
-          holders = λ l. ap (λ (o : Option ℕ). cond (is_lock (lock.Bus root) l) None o) (told.holders l) ∙ freed_lock root l;
-          settled = told.settled;
-          got = told.got;
           no_cut = refl;
         };
       }

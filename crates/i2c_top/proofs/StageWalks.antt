@@ -8,7 +8,7 @@ use Rattle.i2c_base.specs.Transfer.{TransferView}
 use Rattle.i2c_spec.specs.Tree.{Hop, hops, root_of, end_of}
 use Rattle.i2c_spec.specs.Flat.{refusal}
 use Rattle.i2c_spec.specs.History.{Asks}
-use Rattle.bus_spec.specs.Walk.{Job, Take, Send, Settle, JobOutcome, Good, WalkTree, Ends, Then, Note}
+use Rattle.bus_spec.specs.Walk.{Job, Take, Send, Settle, JobOutcome, WalkTree, Ends, Then, Note}
 use Rattle.bus_spec.specs.Slots.{Slots}
 use Rattle.bus_spec.specs.Grammar.{messages, plain, walk_for, walk_by, full, seen, is_over, first_act, first_note}
 use Rattle.bus_spec.specs.Past.{Now, begun, current}
@@ -65,6 +65,3 @@ module _ (b : BoardView) (asks : Asks) (n : Now) (taken : List Reply) where
 
   pub sending_next : (s : Sending) (told : SeatTold n taken (stage.Sending s)) → IsNext b asks n 0 (Send (call_of s.transfer) s.left)
   sending_next s told = ap first_act (sending_current s told) ∙ messages_act s.left (call_of s.transfer) plain (frees s.root)
-
-  pub freeing_current : (root : ℕ) (told : SeatTold n taken (stage.Freeing root)) → current b asks n 0 ≡ frees root Good
-  freeing_current root told = ap (λ (w : WalkTree). seen n.slot (cond (is_over w) (begun b (asks 0 (n.settled 0))) w)) told.walk
