@@ -1,0 +1,1 @@
+pub use Rattle.i2c_spec.specs.Chips
