@@ -47,11 +47,18 @@ impl Chip {
     pub fn is_open(&self, channel: u8) -> bool
         ensures { result ≡ is_open self.now channel }
     {
+        self.opens(u16::from(channel))
+    }
+
+    /// The same of a channel as the hops over a bus count it, in 16 bits.
+    pub fn opens(&self, channel: u16) -> bool
+        ensures { result ≡ is_open self.now channel }
+    {
         match self.kind {
             MuxKind::Pca9548 | MuxKind::Pca9546 => has_bit(self.control, channel),
-            MuxKind::Pca9544 => has_bit(self.control, 2) && self.control % 4 == channel,
+            MuxKind::Pca9544 => has_bit(self.control, 2) && u16::from(self.control % 4) == channel,
             MuxKind::Pca9541 => self.control == 1 && channel == 0,
-            MuxKind::Gpio => u16::from(self.control) == u16::from(channel) + 1,
+            MuxKind::Gpio => u32::from(self.control) == u32::from(channel) + 1,
         }
     }
 
@@ -146,7 +153,7 @@ impl Target for Chip {
 
 /// Bit i of a byte.
 #[tactic(auto, using(i2c_spec::proofs::TargetLemmas::bit_of_high))]
-fn has_bit(byte: u8, i: u8) -> bool
+fn has_bit(byte: u8, i: u16) -> bool
     ensures { result ≡ bit_of byte i }
 {
     if i >= 8 {
