@@ -1,0 +1,34 @@
+-- The program's devices and the states that they stand for: an event does the same to both. The inductions go over
+-- the devices, the first being number k.
+use Rattle.std.proofs.Common.{◌≡◌, ℕ, ◌+◌, List, [], ◌∷◌, map, Option, Some, None, refl, ◌∙◌, ap}
+use Rattle.i2c_base.specs.declared.event.Event.{Event}
+use Rattle.i2c_base.specs.declared.event.Answer.{Answer}
+use Rattle.i2c_spec.specs.Targets.{state_table}
+use Rattle.i2c_spec.specs.World.{answers, answer_with, feed, given}
+use Rattle.i2c_outside.specs.declared.device.DeviceState.{DeviceState}
+use Rattle.i2c_outside.specs.declared.device.DeviceState.TheVariants.{Regs}
+use Rattle.i2c_outside.specs.Devices.{target_state, device_table}
+
+given-state : (e : Option Event) (d : DeviceState) → given state_table e (target_state d) ≡ target_state (given device_table e d)
+given-state None d = refl
+given-state (Some e) (Regs x) = refl
+
+pub feed-states : (f : ℕ → Option Event) (k : ℕ) (ds : List DeviceState)
+    → feed state_table f k (map target_state ds) ≡ map target_state (feed device_table f k ds)
+feed-states f k [] = refl
+feed-states f k (d ∷ ds) =
+    let head = given-state (f k) d in
+    let rest = feed-states f (k + 1) ds in
+    cc
+
+answer-state : (e : Option Event) (k : ℕ) (d : DeviceState) (rest : List (ℕ × Answer))
+    → answer_with state_table e k (target_state d) rest ≡ answer_with device_table e k d rest
+answer-state None k d rest = refl
+answer-state (Some e) k (Regs x) rest = refl
+
+pub answers-states : (f : ℕ → Option Event) (k : ℕ) (ds : List DeviceState)
+    → answers state_table f k (map target_state ds) ≡ answers device_table f k ds
+answers-states f k [] = refl
+answers-states f k (d ∷ ds) =
+    answer-state (f k) k d (answers state_table f (k + 1) (map target_state ds))
+    ∙ ap (answer_with device_table (f k) k d) (answers-states f (k + 1) ds)

@@ -1,0 +1,4 @@
+pub mod DeviceLemmas
+pub mod FeedLemmas
+pub mod PlaceLemmas
+pub mod RigLemmas

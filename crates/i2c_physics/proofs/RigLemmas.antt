@@ -1,0 +1,83 @@
+-- The devices that a rig keeps are those that the worlds leave. The induction goes over the devices, the first being
+-- number k.
+use Rattle.std.proofs.Common.{◌≡◌, ℕ, suc, ◌+◌, ◌<◌, List, [], ◌∷◌, ◌++◌, length, map, Option, Some, None, refl, sym, ◌∙◌, ap, arith, inl, inr, add-zero, zero-add, append_assoc}
+use Rattle.std.specs.Prelude.{All, IsSome, slice_get, slice_index, unwrap_or, option_to_list}
+use Rattle.std.specs.Option.{option_map_or}
+use Rattle.std.specs.List.{range_with_len}
+use Rattle.std.proofs.lemmas.List.{length-map, map-append, length-append}
+use Rattle.std.proofs.lemmas.List.Elements.{All-head, All-tail, All-get_or}
+use Rattle.std.proofs.lemmas.Option.{slice_get_cases}
+use Rattle.i2c_base.specs.Board.{BoardView, DeviceView}
+use Rattle.i2c_spec.specs.Plain.{IsPlainBoard}
+use Rattle.i2c_spec.specs.Tree.{buses, of_device, root_of}
+use Rattle.i2c_spec.specs.Targets.{TargetState, Silent}
+use Rattle.i2c_spec.specs.World.{World, AreWorldsOf, device_in, devices_of}
+use Rattle.i2c_spec.proofs.TreeLemmas.{tree_root_is}
+use Rattle.i2c_outside.specs.Devices.{target_state}
+use Rattle.i2c_outside.specs.declared.device.DeviceState.{DeviceState}
+use Rattle.i2c_outside.specs.FirstRigs.{device_of, state_at, states_from, IsThere}
+use Rattle.i2c_outside.proofs.OpeningLemmas.{AreFrom, here, next}
+use Rattle.i2c_outside.proofs.RigLemmas.{count_of_worlds}
+
+one_there : (x : Option TargetState) → IsSome x → option_to_list x ≡ unwrap_or x Silent ∷ []
+one_there None h = cc
+one_there (Some x) h = refl
+
+device_there : (o : Option World) (k : ℕ) → IsSome (device_of o k)
+    → option_to_list (device_of o k) ≡ option_map_or (λ w. unwrap_or (slice_get w.devices k) Silent) o Silent ∷ []
+device_there None k h = cc
+device_there (Some w) k h = one_there (slice_get w.devices k) h
+
+is_there : (b : BoardView) (ws : List World) (home k : ℕ) → AreWorldsOf b ws → home < length b.roots → k < length b.devices
+    → IsThere ws home k → IsSome (state_at ws home k)
+is_there b ws home k of h g there =
+    elim (slice_get_cases ws home).1 [
+      | inl x ↦ there x.0 x.2 (let same : x.0.board ≡ b = rw x.3 at (All-get_or (λ w. w.board ≡ b) ws home x.0 x.1 of.boards) in rw same g)
+      | inr x ↦ absurd (omega (arith, count_of_worlds b ws of))
+    ]
+
+states_are : (b : BoardView) (ws : List World) (k : ℕ) (ds : List DeviceView) → IsPlainBoard b → AreWorldsOf b ws
+    → AreFrom b k ds → All (λ d. d.bus < buses b) ds → k + length ds ≡ length b.devices
+    → ((i : ℕ) → i < length ds → IsThere ws (slice_index (map (λ d. root_of b d.bus) ds) i) (k + i))
+    → states_from k (map (λ d. root_of b d.bus) ds) ws
+    ≡ map (λ d. device_in ws (root_of b (of_device (λ x. x.bus) 0 b d)) d) (range_with_len k (length ds))
+states_are b ws k [] plain of from placed count there = refl
+states_are b ws k (d ∷ ds) plain of from placed count there =
+    let low : root_of b d.bus < length b.roots = tree_root_is b plain.planted d.bus (All-head (λ d. d.bus < buses b) d ds placed) in
+    let first : IsThere ws (root_of b d.bus) k = rw add-zero at (there 0 (omega arith)) in
+    let some = is_there b ws (root_of b d.bus) k of low (omega arith) first in
+    let one = device_there (slice_get ws (root_of b d.bus)) k some in
+    let bus : of_device (λ x. x.bus) 0 b k ≡ d.bus = rw (here b k d ds from) refl in
+    let rest = states_are b ws (k + 1) ds plain of (next b k d ds from) (All-tail (λ d. d.bus < buses b) d ds placed) (omega arith)
+    (λ i h. let e : k + 1 + i ≡ k + suc i = omega arith in rw e (there (suc i) (omega arith))) in
+    rw (one, bus, rest) refl
+
+kept-devices : (b : BoardView) (ws : List World) → IsPlainBoard b → AreWorldsOf b ws
+    → ((i : ℕ) → i < length b.devices → IsThere ws (slice_index (map (λ d. root_of b d.bus) b.devices) i) i)
+    → states_from 0 (map (λ d. root_of b d.bus) b.devices) ws ≡ devices_of b ws
+kept-devices b ws plain of there =
+    states_are b ws 0 b.devices plain of (λ i. rw zero-add refl) plain.placed (zero-add (length b.devices)) (λ i h. rw zero-add (there i h))
+
+-- as of the fields of the room
+pub devices-kept : (b : BoardView) (homes : List ℕ) (old new : List DeviceState) (ws : List World)
+    → IsPlainBoard b → homes ≡ map (λ d. root_of b d.bus) b.devices → old ≡ [] → AreWorldsOf b ws
+    → map target_state new ≡ map target_state old ++ states_from 0 homes ws
+    → ((i : ℕ) → i < length homes → IsThere ws (slice_index homes i) i)
+    → map target_state new ≡ devices_of b ws
+devices-kept b homes old new ws plain are none of kept there =
+    let at_home : (i : ℕ) → i < length b.devices → IsThere ws (slice_index (map (λ d. root_of b d.bus) b.devices) i) i =
+    λ i h. rw (← are) (there i (rw are (rw length-map h))) in
+    kept ∙ rw (none, are) (kept-devices b ws plain of at_home)
+
+-- one port more, whose log is kept
+pub count-kept : {A B P : Type 0} (f : A → B) (g : P → B) (old now : List A) (ys : List P) → map f now ≡ map f old ++ map g ys
+    → length now ≡ length old + length ys
+count-kept f g old now ys e =
+    sym (length-map now f) ∙ ap length e ∙ length-append (map f old) (map g ys)
+    ∙ ap (λ n. n + length (map g ys)) (length-map old f) ∙ ap (λ n. length old + n) (length-map ys g)
+
+pub one-more-kept : {A B P : Type 0} (f : A → B) (g : P → B) (old now new : List A) (ys : List P) (x : A) (p : P)
+    → map f now ≡ map f old ++ map g ys → new ≡ now ++ x ∷ [] → f x ≡ g p → map f new ≡ map f old ++ map g (ys ++ p ∷ [])
+one-more-kept f g old now new ys x p was more same =
+    ap (map f) more ∙ map-append f now (x ∷ []) ∙ ap (λ l. l ++ f x ∷ []) was ∙ ap (λ y. (map f old ++ map g ys) ++ y ∷ []) same
+    ∙ append_assoc (map f old) (map g ys) (g p ∷ []) ∙ ap (λ l. map f old ++ l) (sym (map-append g ys (p ∷ [])))

@@ -1,0 +1,14 @@
+-- The devices that are kept and those that are left are the whole.
+use Rattle.std.proofs.Common.{◌≡◌, ℕ, ◌<◌, ◌≤◌, ◌+◌, ◌++◌, map, drop, vec_len, vec_capacity, slice_index}
+use Rattle.i2c_outside.specs.Devices.{target_state}
+use Rattle.i2c_outside.specs.FirstRigs.{states_from, IsThere}
+use Rattle.i2c_physics.proofs.room.keep_states.Given as goal
+
+abbrev pub invariant-loop-number : goal.invariant-loop-number
+invariant-loop-number l = record {
+  grown : vec_capacity l.fn.states ≤ vec_capacity l.states;
+  most : vec_len l.states ≤ vec_len l.fn.states + l.number;
+  kept : map target_state l.states.items ++ states_from l.number (drop l.number l.homes.items) (map (λ p. p.world) l.ports.items)
+      ≡ map target_state l.fn.states.items ++ states_from 0 l.homes.items (map (λ p. p.world) l.ports.items);
+  there : (k : ℕ) → k < l.number → IsThere (map (λ p. p.world) l.ports.items) (slice_index l.homes.items k) k;
+}

@@ -1,0 +1,11 @@
+use Rattle.i2c_outside.specs.FirstPorts.{opening_port}
+use Rattle.i2c_outside.proofs.RigLemmas.{map-more}
+use Rattle.i2c_physics.proofs.sim_rig.open_ports.Goals as goal
+
+pub loop-root-preserved : goal.loop-root-preserved
+loop-root-preserved c =
+    let more = map-more (opening_port c.args.board.now) c.loop-root.root in
+    let was = c.loop-root.invariant in
+    let item = c.in_ok-open.ensures in
+    let now = c.in_ok-push.ensures.items in
+    cc

@@ -1,0 +1,33 @@
+-- What several targets answer to a call together.
+use Rattle.std.specs.Prelude.{ℕ, ◌||◌, List, if◌then◌else◌}
+use Rattle.i2c_base.specs.declared.event.Answer.{Answer}
+use Rattle.i2c_base.specs.declared.event.Answer.TheVariants as answer
+use Rattle.i2c_base.specs.declared.port.PortCall.{PortCall}
+use Rattle.i2c_spec.specs.Chips.{chip_table}
+use Rattle.i2c_spec.specs.Targets.{state_table}
+use Rattle.i2c_spec.specs.World.{World, is_ack, is_slow, some_answer, and_of, answers}
+use Rattle.i2c_spec.specs.Joints.{numbers_of, chip_event, device_event}
+use Rattle.i2c_physics.specs.declared.together.Together.{Together}
+
+abbrev pub together_of : List (ℕ × Answer) → Together
+together_of xs =
+    record {
+      slow = some_answer is_slow xs;
+      acked = some_answer is_ack xs;
+      byte = and_of xs;
+      heard = record { items = numbers_of xs };
+    }
+
+-- the answer of a start by what chips and devices answer
+abbrev pub start_answer : Together → Together → Answer
+start_answer chips devices =
+    if chips.slow || devices.slow then answer.Slow
+    else if chips.acked || devices.acked then answer.Ack
+    else answer.Nack
+
+-- what the chips, and the devices, of a world answer to a call
+abbrev pub chips_say : World → PortCall → Together
+chips_say w c = together_of (answers chip_table (chip_event w c) 0 w.chips)
+
+abbrev pub devices_say : World → PortCall → Together
+devices_say w c = together_of (answers state_table (device_event w c) 0 w.devices)

@@ -1,0 +1,116 @@
+ghost use Rattle.std.specs.Prelude.{◌≡◌, map, IfOk};
+ghost use Rattle.std.specs.List.{list_all};
+ghost use Rattle.i2c_spec.specs.Grant.{has_address};
+ghost use Rattle.i2c_spec.specs.Layouts.{board_of};
+ghost use Rattle.i2c_spec.specs.Plain.{IsPlainBoard};
+ghost use Rattle.i2c_spec.specs.World.{opens_hop};
+ghost use Rattle.i2c_physics.specs.Places.{place_on, mux_place, device_place, joins};
+
+use i2c_base::{Addr, SegId};
+use i2c_spec::{Hop, Layout};
+use std::alloc::{AllocError, Global};
+use std::marker::Model;
+use tgt_mux::Chip;
+
+/// Where a target stands, as the port of one root has it. A contract sees the record of these parts.
+#[derive(Debug, Drop)]
+pub struct Place {
+    addr: Option<Addr>,
+    /// It is there, on a bus of that root.
+    wired: bool,
+    /// The muxes over its bus, nearest first.
+    above: Vec<Hop>,
+}
+
+impl Model for Place {
+    ghost use Rattle.i2c_physics.specs.Places.{PlaceView};
+
+    ghost Value = { PlaceView };
+
+    ghost view = { λ p. record { addr = p.addr; wired = p.wired; above = p.above.items } };
+}
+
+impl Place {
+    /// The place on this bus, of a target that is there or isn't.
+    fn open(
+        alloc: Global,
+        layout: Layout<'_>,
+        root: SegId,
+        bus: SegId,
+        addr: Option<Addr>,
+        there: bool,
+    ) -> Result<Self, AllocError>
+        requires { IsPlainBoard (board_of layout) }
+        ensures { IfOk result (λ p. p ≡ place_on (board_of layout.entry) root bus addr there) }
+    {
+        Ok(Place {
+            addr,
+            wired: there && layout.root(bus) == root,
+            above: layout.hops(bus).as_slice().to_vec(alloc)?,
+        })
+    }
+
+    /// It is joined to the wires: every mux over its bus has the channel open that leads there.
+    pub fn joins(&self, chips: &[Chip]) -> bool
+        ensures { result ≡ joins chips.now self.now }
+    {
+        self.wired && opens_all(chips, self.above.as_slice())
+    }
+
+    /// The target has this address.
+    pub fn has(&self, addr: Addr) -> bool
+        ensures { result ≡ has_address addr self.now.addr }
+    {
+        match self.addr {
+            Some(own) => own == addr,
+            None => false,
+        }
+    }
+}
+
+/// Each of these hops is open.
+fn opens_all(chips: &[Chip], hops: &[Hop]) -> bool
+    ensures { result ≡ list_all (opens_hop chips.now) hops.now }
+{
+    hops.iter().all(|hop| opens(chips, hop))
+}
+
+/// The mux of this hop has the hop's channel open.
+fn opens(chips: &[Chip], hop: &Hop) -> bool
+    ensures { result ≡ opens_hop chips.now hop.now }
+{
+    match chips.get(usize::from(hop.mux.0)) {
+        Some(chip) => chip.opens(hop.channel),
+        None => false,
+    }
+}
+
+/// The places of the muxes, by number.
+pub fn mux_places(alloc: Global, layout: Layout<'_>, root: SegId) -> Result<Vec<Place>, AllocError>
+    requires { IsPlainBoard (board_of layout) }
+    ensures { IfOk result (λ places. places.items ≡ map (mux_place (board_of layout.entry) root) layout.entry.muxes.now) }
+{
+    let mut places = Vec::with_capacity(alloc, layout.muxes.len())?;
+    for mux in layout.muxes {
+        let there = !mux.absent && mux.addr.is_some();
+        places.push(Place::open(alloc, layout, root, mux.bus, mux.addr, there)?)?;
+    }
+    Ok(places)
+}
+
+/// The places of the devices, by number.
+pub fn device_places(
+    alloc: Global,
+    layout: Layout<'_>,
+    root: SegId,
+) -> Result<Vec<Place>, AllocError>
+    requires { IsPlainBoard (board_of layout) }
+    ensures { IfOk result (λ places. places.items ≡ map (device_place (board_of layout.entry) root) layout.entry.devices.now) }
+{
+    let mut places = Vec::with_capacity(alloc, layout.devices.len())?;
+    for device in layout.devices {
+        let addr = Some(device.addr);
+        places.push(Place::open(alloc, layout, root, device.bus, addr, true)?)?;
+    }
+    Ok(places)
+}

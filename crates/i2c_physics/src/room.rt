@@ -1,0 +1,122 @@
+ghost use Rattle.std.specs.Prelude.{◌≡◌, ◌<◌, ◌≤◌, ◌+◌, ◌++◌, ℕ, map, length, slice_get, slice_index, vec_len, vec_capacity, IfOk, IsSome, Some};
+ghost use Rattle.std.specs.Option.{option_map};
+ghost use Rattle.i2c_base.specs.Board.{BoardView};
+ghost use Rattle.i2c_spec.specs.World.{World, AreWorldsOf, devices_of};
+ghost use Rattle.i2c_outside.specs.Devices.{target_state};
+ghost use Rattle.i2c_outside.specs.FirstRigs.{state_at, states_from, IsThere};
+ghost use Rattle.i2c_spec.specs.Layouts.{board_of};
+ghost use Rattle.i2c_spec.specs.Plain.{IsPlainBoard};
+ghost use Rattle.i2c_spec.specs.Tree.{root_of};
+
+use crate::SimPort;
+use i2c_base::{PortCall, SegId};
+use i2c_board::Accepted;
+use i2c_outside::DeviceState;
+use i2c_spec::Layout;
+use std::alloc::{AllocError, Global};
+use std::marker::Model;
+use std::snapshot::Snapshot;
+
+/// What a rig holds after an unplug.
+#[derive(Drop)]
+pub struct Kept {
+    pub states: Vec<DeviceState>,
+    pub logs: Vec<Vec<PortCall>>,
+}
+
+/// The room for it, which a plug takes. A contract sees the board.
+#[derive(Drop)]
+pub struct Room {
+    board: Snapshot<Accepted>,
+    /// The root of each device's bus.
+    homes: Vec<SegId>,
+    states: Vec<DeviceState>,
+    logs: Vec<Vec<PortCall>>,
+}
+
+impl Model for Room {
+    ghost use Rattle.std.specs.Prelude.{vec_len, vec_capacity};
+    ghost use Rattle.i2c_base.specs.Board.{BoardView};
+    ghost use Rattle.i2c_physics.specs.SimRigs.{IsRoom};
+
+    ghost Value = { BoardView };
+
+    ghost view = { λ r. r.board.value };
+
+    ghost invariant = { λ r. IsRoom r.board.value r.homes.items (vec_len r.states) (vec_len r.logs) (vec_capacity r.states) (vec_capacity r.logs) };
+}
+
+impl Room {
+    /// The room for the devices and the logs of this board.
+    pub fn open(alloc: Global, board: &Accepted) -> Result<Self, AllocError>
+        ensures { IfOk result (λ room. room ≡ board.now) }
+    {
+        let homes = homes(alloc, board.board().layout())?;
+        let states = Vec::with_capacity(alloc, homes.len())?;
+        let logs = Vec::with_capacity(alloc, board.board().roots().len())?;
+        Ok(Room {
+            board: Snapshot::of(board),
+            homes,
+            states,
+            logs,
+        })
+    }
+
+    /// Keeps the devices as these ports have them, each as the port of its root has it, and their logs.
+    pub fn keep(self, ports: Vec<SimPort>) -> Kept
+        ensures states { AreWorldsOf self (map (λ p. p.world) ports.items) → map target_state result.states.items ≡ devices_of self (map (λ p. p.world) ports.items) }
+        ensures logs { AreWorldsOf self (map (λ p. p.world) ports.items) → map (λ log. log.items) result.logs.items ≡ map (λ p. p.log) ports.items }
+    {
+        let Room {
+            board: _,
+            homes,
+            mut states,
+            mut logs,
+        } = self;
+        keep_states(&mut states, &homes, &ports);
+        keep_logs(&mut logs, ports);
+        Kept { states, logs }
+    }
+}
+
+/// The root of each device's bus.
+fn homes(alloc: Global, layout: Layout<'_>) -> Result<Vec<SegId>, AllocError>
+    requires { IsPlainBoard (board_of layout) }
+    ensures { IfOk result (λ homes. homes.items ≡ map (λ d. root_of (board_of layout.entry) d.bus) layout.entry.devices.now) }
+{
+    let mut homes = Vec::with_capacity(alloc, layout.devices.len())?;
+    for device in layout.devices {
+        homes.push(layout.root(device.bus))?;
+    }
+    Ok(homes)
+}
+
+/// Keeps each device as the port of its root has it.
+fn keep_states(states: &mut Vec<DeviceState>, homes: &Vec<SegId>, ports: &Vec<SimPort>)
+    requires { vec_len states.old + vec_len homes.now ≤ vec_capacity states.old }
+    ensures kept { map target_state states.new.items ≡ map target_state states.old.items ++ states_from 0 homes.now.items (map (λ p. p.world) ports.now.items) }
+    ensures there { (k : ℕ) → k < vec_len homes.now → IsThere (map (λ p. p.world) ports.now.items) (slice_index homes.now.items k) k }
+{
+    for (number, home) in homes.iter().enumerate() {
+        if let Some(state) = device_in(ports, *home, number) {
+            let _ = states.push(state);
+        }
+    }
+}
+
+/// The device of this number, as the port of this bus has it.
+fn device_in(ports: &Vec<SimPort>, home: SegId, number: usize) -> Option<DeviceState>
+    ensures value { option_map target_state result ≡ state_at (map (λ p. p.world) ports.now.items) home number }
+    ensures there { IsThere (map (λ p. p.world) ports.now.items) home number }
+{
+    ports.get(usize::from(home.0))?.device(number)
+}
+
+/// Keeps the logs of these ports, as far as there is room.
+fn keep_logs(logs: &mut Vec<Vec<PortCall>>, ports: Vec<SimPort>)
+    ensures { vec_len logs.old + vec_len ports ≤ vec_capacity logs.old → map (λ log. log.items) logs.new.items ≡ map (λ log. log.items) logs.old.items ++ map (λ p. p.log) ports.items }
+{
+    for port in ports {
+        let _ = logs.push(port.into_log());
+    }
+}

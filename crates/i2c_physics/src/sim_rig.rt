@@ -1,0 +1,166 @@
+ghost use Rattle.std.specs.Prelude.{◌≡◌, ◌≢◌, ◌↔◌, ℕ, ◌≤◌, [], true, false, List, Option, Some, None, Err, OnOk, OnErr, IfOk, IsTrue, All, length, map, replicate, is_some, unwrap_or, vec_len};
+ghost use Rattle.std.specs.List.{range_with_len};
+ghost use Rattle.i2c_base.specs.declared.port.Phase.{Phase};
+ghost use Rattle.i2c_spec.specs.World.{AreWorldsOf, openings, devices_of};
+ghost use Rattle.i2c_outside.specs.Causes.{Rose, counted};
+ghost use Rattle.i2c_outside.specs.Devices.{target_state};
+ghost use Rattle.i2c_outside.specs.FirstPorts.{opening_port};
+ghost use Rattle.i2c_outside.specs.FirstRigs.{no_board, none_of};
+ghost use Rattle.i2c_physics.specs.SimRigs.{kept_states, kept_logs};
+ghost use Rattle.i2c_physics.specs.SimWorlds.{IsSimBoard};
+
+use crate::SimPort;
+use crate::room::{Kept, Room};
+use i2c_base::{DeviceKind, PortCall, SegId};
+use i2c_board::{Accepted, Board};
+use i2c_outside::{DeviceState, Port, Rig, RigFail};
+use std::alloc::{AllocError, Global};
+
+/// The rig of the boards whose devices are all register devices. Its ports never fail.
+#[derive(Drop)]
+pub struct SimRig {
+    faults: u64,
+    plugs: u64,
+    unplugs: u64,
+    /// The room of the last plug, until the unplug that follows it.
+    room: Option<Room>,
+    kept: Option<Kept>,
+    /// How many ports were last given back.
+    given: usize,
+}
+
+impl SimRig {
+    /// A rig that was never plugged.
+    pub fn new() -> Self
+        ensures { result ≡ record { faults = 0; plugs = 0; unplugs = 0; room = None; kept = None; given = 0 } }
+    {
+        SimRig {
+            faults: 0,
+            plugs: 0,
+            unplugs: 0,
+            room: None,
+            kept: None,
+            given: 0,
+        }
+    }
+
+    /// The devices as the last unplug found them, in file order; none before it.
+    pub fn states(&self) -> &[DeviceState]
+        ensures { map target_state result.now ≡ kept_states self.now.kept }
+    {
+        match &self.kept {
+            Some(kept) => kept.states.as_slice(),
+            None => &[],
+        }
+    }
+
+    /// The calls on each port that the last unplug was given, in order; none before it.
+    pub fn logs(&self) -> &[Vec<PortCall>]
+        ensures { map (λ log. log.items) result.now ≡ kept_logs self.now.kept }
+    {
+        match &self.kept {
+            Some(kept) => kept.logs.as_slice(),
+            None => &[],
+        }
+    }
+}
+
+impl Rig for SimRig {
+    type P = SimPort;
+
+    ghost tells = { true };
+
+    ghost faults = { λ r. r.faults };
+
+    ghost plugs = { λ r. r.plugs };
+
+    ghost unplugs = { λ r. r.unplugs };
+
+    ghost plugged = { λ r. is_some r.room };
+
+    ghost board_of = { λ r. unwrap_or r.room no_board };
+
+    ghost states = { λ r. kept_states r.kept };
+
+    ghost logs = { λ r. kept_logs r.kept };
+
+    ghost port_faults = { λ r. none_of r.given };
+
+    /// It fails by a fault exactly where the board has a device of another kind.
+    fn plug(&mut self, alloc: Global, board: &Accepted) -> Result<Vec<SimPort>, RigFail>
+        ensures later { self.old.faults ≤ self.new.faults }
+        ensures cause { result ≡ Err RigFail.Failed → Rose self.old.faults self.new.faults }
+        ensures plugs { self.new.plugs ≡ counted self.old.plugs }
+        ensures unplugs { self.new.unplugs ≡ self.old.unplugs }
+        ensures plugged { OnOk result (is_some self.new.room ≡ true) }
+        ensures unplugged { OnErr result (is_some self.new.room ≡ false) }
+        ensures count { IfOk result (λ ports. vec_len ports ≡ length board.now.roots) }
+        ensures idle { IfOk result (λ ports. All (λ p. p.phase ≡ Phase.Idle) ports.items) }
+        ensures fresh { IfOk result (λ ports. All (λ p. ⟦<SimPort as Port>⟧.faults p ≡ 0) ports.items) }
+        ensures empty { IfOk result (λ ports. All (λ p. p.log ≡ []) ports.items) }
+        ensures worlds { IfOk result (λ ports. map (λ p. p.world) ports.items ≡ openings board.now) }
+        ensures board { OnOk result (unwrap_or self.new.room no_board ≡ board.now) }
+
+        // Which boards it takes, and what is counted.
+        ensures exact { result ≡ Err RigFail.Failed ↔ (¬ IsSimBoard board.now) }
+        ensures fault { result ≡ Err RigFail.Failed → self.new.faults ≡ counted self.old.faults }
+        ensures calm { result ≢ Err RigFail.Failed → self.new.faults ≡ self.old.faults }
+        ensures kept { self.new.kept ≡ None }
+    {
+        self.plugs = self.plugs.saturating_add(1);
+        self.room = None;
+        self.kept = None;
+        if !has_regs(board.board()) {
+            self.faults = self.faults.saturating_add(1);
+            return Err(RigFail::Failed);
+        }
+        let ports = open_ports(alloc, board)?;
+        self.room = Some(Room::open(alloc, board)?);
+        Ok(ports)
+    }
+
+    fn unplug(&mut self, ports: Vec<SimPort>)
+        requires { is_some self.old.room ≡ true }
+        ensures plugged { is_some self.new.room ≡ false }
+        ensures plugs { self.new.plugs ≡ self.old.plugs }
+        ensures unplugs { self.new.unplugs ≡ counted self.old.unplugs }
+        ensures later { self.old.faults ≤ self.new.faults }
+        ensures counts { none_of self.new.given ≡ map ⟦<SimPort as Port>⟧.faults ports.items }
+        ensures states { AreWorldsOf (unwrap_or self.old.room no_board) (map (λ p. p.world) ports.items)
+            → kept_states self.new.kept ≡ devices_of (unwrap_or self.old.room no_board) (map (λ p. p.world) ports.items) }
+        ensures logs { AreWorldsOf (unwrap_or self.old.room no_board) (map (λ p. p.world) ports.items)
+            → kept_logs self.new.kept ≡ map (λ p. p.log) ports.items }
+
+        // It never counts a fault.
+        ensures calm { self.new.faults ≡ self.old.faults }
+    {
+        self.unplugs = self.unplugs.saturating_add(1);
+        self.given = ports.len();
+        if let Some(room) = self.room.take() {
+            self.kept = Some(room.keep(ports));
+        }
+    }
+}
+
+/// The board's devices are all register devices.
+fn has_regs(board: &Board) -> bool
+    ensures { IsTrue result ↔ IsSimBoard board.now }
+{
+    board
+        .devices()
+        .iter()
+        .all(|device| matches!(&device.kind, DeviceKind::Regs { .. }))
+}
+
+/// The ports of the board's roots, in order.
+fn open_ports(alloc: Global, board: &Accepted) -> Result<Vec<SimPort>, AllocError>
+    requires { IsSimBoard board.now }
+    ensures { IfOk result (λ ports. ports.items ≡ map (opening_port board.now) (range_with_len 0 (length board.now.roots))) }
+{
+    let count = board.board().roots().len() as u16;
+    let mut ports = Vec::with_capacity(alloc, usize::from(count))?;
+    for root in 0..count {
+        ports.push(SimPort::open(alloc, board, SegId(root))?)?;
+    }
+    Ok(ports)
+}
