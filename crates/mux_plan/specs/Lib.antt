@@ -1,0 +1,5 @@
+pub mod Plans
+pub mod Rooms
+pub use Rattle.bus_spec.specs.Walk
+pub use Rattle.bus_spec.specs.Slots
+pub use Rattle.bus_spec.specs.Grammar

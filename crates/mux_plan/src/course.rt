@@ -1,0 +1,203 @@
+ghost use Rattle.std.specs.Prelude.{◌≡◌, ◌+◌, ◌<◌, ◌≤◌, ◌⊎◌, ℕ, true, false, List, [], ◌∷◌, length, drop, None, All, IfSome, IfNone, slice_index_or};
+ghost use Rattle.i2c_base.specs.Board.{BoardView};
+ghost use Rattle.i2c_spec.specs.Messages.{MessageView};
+ghost use Rattle.bus_spec.specs.Walk.{JobOutcome, is_line};
+ghost use Rattle.bus_spec.specs.Walk as walk;
+ghost use Rattle.bus_spec.specs.Grammar.{at_bus, first_act, kind_of as kind_at};
+ghost use Rattle.mux_plan.specs.Plans.{CourseView, job_of, tree_of, note_of, first_lock, locks_on, switch_of, wait_task, action_of, first_at};
+ghost use Rattle.mux_plan.specs.Rooms.{IsNarrow, IsNarrowWork, IsPlanned, IsStep};
+ghost use Rattle.mux_plan.specs.declared.task.Task.{Task};
+ghost use Rattle.mux_plan.specs.declared.task.Task.TheVariants.{Enter};
+
+use crate::{Action, Task, Work};
+use arrayvec::ArrayVec;
+use i2c_base::{LockId, MuxId, MuxKind, SegId};
+use i2c_board::Board;
+use i2c_spec::Hop;
+use std::marker::Model;
+
+/// What a walk knows of its transfer: the muxes over its bus, and how many messages it has. A contract sees the record
+/// of these parts.
+#[derive(Debug, Drop)]
+pub struct Course {
+    pub root: SegId,
+    /// The muxes over the bus, nearest first.
+    pub path: ArrayVec<Hop, 32>,
+    pub bus: SegId,
+    /// How many messages the transfer has.
+    pub count: u8,
+}
+
+impl Model for Course {
+    ghost use Rattle.mux_plan.specs.Plans.{CourseView};
+
+    ghost Value = { CourseView };
+
+    ghost view = { λ c. record { root = c.root; path = c.path.items; bus = c.bus; count = c.count } };
+
+    ghost inverse = { λ c. record { root = c.root; path = record { items = c.path }; bus = c.bus; count = c.count } };
+}
+
+// The mark that the lock of the muxes on the bus of this one carries.
+fn mark_at(marks: &[Option<MuxId>], hop: &Hop) -> Option<MuxId>
+    ensures { result ≡ slice_index_or marks.now hop.now.on None }
+{
+    marks.get(usize::from(hop.on.0)).copied().flatten()
+}
+
+// The kind of a mux, where the board has it.
+fn kind_of(board: &Board, mux: MuxId) -> MuxKind
+    ensures { result ≡ kind_at board.now mux }
+{
+    board
+        .muxes()
+        .get(usize::from(mux.0))
+        .map_or(MuxKind::Pca9548, |spec| spec.kind)
+}
+
+/// The mux is parent-locked.
+pub fn is_parent(hop: &Hop) -> bool
+    ensures { result ≡ hop.now.parent }
+{
+    hop.parent
+}
+
+/// What comes first at a mux: a marked one is closed, else the channel is selected.
+pub fn switch(board: &Board, marks: &[Option<MuxId>], hop: &Hop) -> Work
+    ensures value { result ≡ switch_of board.now hop.now (slice_index_or marks.now hop.now.on None) }
+    ensures narrow { IsNarrow hop.now → IsNarrowWork result }
+{
+    match mark_at(marks, hop) {
+        None => Work::Select(*hop),
+        Some(mux) => Work::Clear {
+            on: hop.on,
+            mux,
+            kind: kind_of(board, mux),
+        },
+    }
+}
+
+/// What waits for that.
+pub fn waiting(marks: &[Option<MuxId>], hop: &Hop, place: u8, work: &Work) -> Task
+    ensures { result ≡ wait_task hop.now (slice_index_or marks.now hop.now.on None) place work.now }
+{
+    match mark_at(marks, hop) {
+        None => Task::AwaitSelect {
+            place,
+            hop: *hop,
+            work: *work,
+        },
+        Some(mux) => Task::AwaitClose {
+            place,
+            hop: *hop,
+            mux,
+            work: *work,
+        },
+    }
+}
+
+impl Course {
+    /// The mux that a piece of work on the bus at this place has to cross, none at the root; a line needs no way.
+    pub fn crossed(&self, place: u8, work: &Work) -> Option<Hop>
+        ensures at { IfSome result (λ h. drop place self.now.path ≡ h ∷ drop (place + 1) self.now.path) }
+        ensures message { (ms : List MessageView) → IfSome result (λ h. is_line (job_of self.now ms work.now) ≡ false) }
+        ensures within { IfSome result (λ h. place < length self.now.path) }
+        ensures narrow { All IsNarrow self.now.path → IfSome result (λ h. IsNarrow h) }
+        ensures none { (ms : List MessageView) → IfNone result ((is_line (job_of self.now ms work.now) ≡ true) ⊎ (drop place self.now.path ≡ [])) }
+    {
+        if work.is_line() {
+            return None;
+        }
+        self.path.as_slice().get(usize::from(place)).copied()
+    }
+
+    /// The step of a piece of work that has no mux to cross.
+    pub fn base(&self, work: Work) -> Task
+        ensures tree { (b : BoardView) (ms : List MessageView) (ts : List Task) (out : JobOutcome) → length ms ≡ self.now.count
+            → tree_of b ms self.now (result ∷ ts) out ≡ at_bus (job_of self.now ms work) (note_of ts) (tree_of b ms self.now ts) }
+        ensures step { (ts : List Task) → IsStep (result ∷ ts) }
+        ensures planned { (n : ℕ) (ts : List Task) → IsPlanned self.now (Enter n work ∷ ts) → IsPlanned self.now (result ∷ ts) }
+    {
+        if work.is_line() {
+            Task::Line { work }
+        } else {
+            let left = work.more(self.count);
+            Task::Rest { left, work }
+        }
+    }
+
+    /// The first of the locks of the bus at this place.
+    pub fn lock_at(&self, place: u8) -> LockId
+        ensures { result ≡ first_lock self.now.root (drop place self.now.path) }
+    {
+        match self.path.as_slice().get(usize::from(place)) {
+            None => LockId::Bus(self.root),
+            Some(hop) => LockId::Mux(hop.on),
+        }
+    }
+
+    /// More locks follow it.
+    pub fn locks_on(&self, place: u8) -> bool
+        ensures value { result ≡ locks_on (drop place self.now.path) }
+        ensures within { result ≡ true → place < length self.now.path }
+    {
+        match self.path.as_slice().get(usize::from(place)) {
+            None => false,
+            Some(hop) => hop.parent,
+        }
+    }
+
+    /// The first step of a piece of work on the bus at a place, where these marks answer the looks on its way.
+    pub fn ahead(&self, board: &Board, marks: &[Option<MuxId>], place: u8, work: Work) -> Task
+        requires planned { IsPlanned self.now (Enter place work ∷ []) }
+        ensures first { (ms : List MessageView) → length ms ≡ self.now.count
+            → first_act (tree_of board.now ms self.now (result ∷ []) walk.Good) ≡ first_at board.now ms self.now marks.now place work }
+        ensures step { (ts : List Task) → IsStep (result ∷ ts) }
+        ensures planned { IsPlanned self.now (result ∷ []) }
+    {
+        let mut place = place;
+        let mut work = work;
+        'muxes: while let Some(hop) = self.crossed(place, &work) {
+            place += 1;
+            work = switch(board, marks, &hop);
+            if !is_parent(&hop) {
+                return Task::Lock {
+                    from: place,
+                    place,
+                    work,
+                };
+            }
+        }
+        self.base(work)
+    }
+
+    /// The action of a task that is a step.
+    pub fn action(&self, task: Task) -> Action
+        requires planned { IsPlanned self.now (task ∷ []) }
+        requires step { IsStep (task ∷ []) }
+        ensures { (b : BoardView) (ms : List MessageView) → length ms ≡ self.now.count
+            → result ≡ action_of (first_act (tree_of b ms self.now (task ∷ []) walk.Good)) }
+    {
+        match task {
+            Task::Lock { from, .. } => Action::Take(self.lock_at(from)),
+            Task::Free(lock) => Action::Free(lock),
+            Task::Rest { left, work } => Action::Send {
+                bus: work.bus(self.bus),
+                purpose: work.purpose(),
+                part: work.part(left, self.count),
+                parts: work.parts(self.count),
+                control: work.control(left),
+            },
+            Task::Line { work } => Action::Line {
+                mux: work.line_mux(),
+                level: work.line_level(),
+            },
+            Task::Settle(verdict) => Action::Settle(verdict),
+            Task::Enter { .. }
+            | Task::AwaitClose { .. }
+            | Task::AwaitSelect { .. }
+            | Task::AwaitWork { .. }
+            | Task::AwaitDeselect { .. } => Action::Done,
+        }
+    }
+}

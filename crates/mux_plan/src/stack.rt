@@ -1,0 +1,60 @@
+ghost use Rattle.std.specs.Prelude.{◌≡◌, ◌<◌, List, [], ◌∷◌, length, reverse, drop, IfSome, IfNone};
+
+use arrayvec::ArrayVec;
+use std::marker::Model;
+
+/// The tasks of a walk. A contract sees the list of them, the one on the top first.
+#[derive(Debug, Drop)]
+pub struct Stack<T> {
+    items: ArrayVec<T, 32>,
+}
+
+impl<T> Model for Stack<T> {
+    ghost use Rattle.std.specs.Prelude.{List, reverse};
+
+    ghost Value = { List T };
+
+    ghost view = { λ s. reverse s.items.items };
+}
+
+impl<T: Copy + Default> Stack<T> {
+    pub fn new() -> Self
+        ensures { result ≡ [] }
+    {
+        Stack {
+            items: ArrayVec::new(),
+        }
+    }
+
+    /// Puts a task on the top.
+    pub fn push(&mut self, task: T)
+        requires { length self.old < 32 }
+        ensures { self.new ≡ task ∷ self.old }
+    {
+        self.items.push(task);
+    }
+
+    /// Takes the task on the top off, if there is one.
+    pub fn pop(&mut self) -> Option<T>
+        ensures some { IfSome result (λ task. self.old ≡ task ∷ self.new) }
+        ensures none { IfNone result (self.old ≡ []) }
+        ensures left { IfNone result (self.new ≡ []) }
+    {
+        self.items.pop()
+    }
+
+    /// The tasks, the one on the top last.
+    pub fn items(&self) -> &[T]
+        ensures { reverse result.now ≡ self.now }
+    {
+        self.items.as_slice()
+    }
+
+    /// The task on the top, if there is one.
+    pub fn top(&self) -> Option<T>
+        ensures some { IfSome result (λ task. self.now ≡ task ∷ drop 1 self.now) }
+        ensures none { IfNone result (self.now ≡ []) }
+    {
+        self.items.last().copied()
+    }
+}

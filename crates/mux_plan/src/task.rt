@@ -1,0 +1,124 @@
+use i2c_base::{ByteList, End, Errno, LockId, MuxId, MuxKind, Purpose, SegId};
+use i2c_spec::Hop;
+
+/// What is to be done on a bus.
+#[derive(Clone, Copy, Debug, PartialEq, Eq)]
+pub enum Work {
+    /// The caller's messages are sent.
+    Call,
+    /// A channel is selected.
+    Select(Hop),
+    /// A mux is closed: behind a job on one of its channels, or because a mark says that it may be open.
+    Clear {
+        on: SegId,
+        mux: MuxId,
+        kind: MuxKind,
+    },
+}
+
+/// What came of a piece of work.
+#[derive(Clone, Copy, Debug, PartialEq, Eq)]
+pub enum Came {
+    Good,
+    /// Its own message was refused.
+    Refused,
+    /// It was never sent, because a select on its way was refused.
+    Unsent,
+    /// A call on the port failed.
+    Failed,
+}
+
+/// A task on the stack of a walk. A place counts the muxes that were crossed, so the place of the transfer's bus is 0.
+#[derive(Clone, Copy, Debug, PartialEq, Eq)]
+pub enum Task {
+    /// The work is done on the bus at this place, whose locks are held.
+    Enter {
+        place: u8,
+        work: Work,
+    },
+    /// The locks of the bus at this place are taken, but for those before the mux at `from`; then the work is done.
+    Lock {
+        from: u8,
+        place: u8,
+        work: Work,
+    },
+    Free(LockId),
+    /// A message of the work is sent, which so many more may follow.
+    Rest {
+        left: u8,
+        work: Work,
+    },
+    /// The line of the work's gpio mux is set.
+    Line {
+        work: Work,
+    },
+    /// The reply is decided: why it is an error, or none.
+    Settle(Option<Errno>),
+    /// Waits for the close of a marked mux; the mux of the hop stands on the bus at this place.
+    AwaitClose {
+        place: u8,
+        hop: Hop,
+        mux: MuxId,
+        work: Work,
+    },
+    /// Waits for the select.
+    AwaitSelect {
+        place: u8,
+        hop: Hop,
+        work: Work,
+    },
+    /// Waits for the work behind the mux.
+    AwaitWork {
+        place: u8,
+        hop: Hop,
+    },
+    /// Waits for the deselect, behind work of which this came.
+    AwaitDeselect {
+        hop: Hop,
+        came: Came,
+    },
+}
+
+/// The blank of an unused place.
+impl Default for Task {
+    fn default() -> Self {
+        Task::Settle(None)
+    }
+}
+
+/// What a caller does next.
+#[derive(Clone, Copy, Debug, PartialEq, Eq)]
+pub enum Action {
+    Take(LockId),
+    Free(LockId),
+    /// One message is sent.
+    Send {
+        bus: SegId,
+        purpose: Purpose,
+        /// Which message of its transfer it is, from 1, and how many those are.
+        part: u8,
+        parts: u8,
+        /// The byte that a control message writes; none for a poll, which reads one, and for a caller's message.
+        control: Option<u8>,
+    },
+    /// The line of a gpio mux is set to a level.
+    Line {
+        mux: MuxId,
+        level: u8,
+    },
+    /// The reply is decided by what was reported last: why it is an error, or none.
+    Settle(Option<Errno>),
+    /// The walk has ended.
+    Done,
+}
+
+/// What came of an action.
+#[derive(Debug, Drop)]
+pub enum Outcome {
+    /// A lock was taken or freed, or the reply settled.
+    Passed,
+    /// A message ended so. Of a write the bytes that were acknowledged, of a read all that came.
+    Sent { end: End, bytes: ByteList },
+    /// A line was set, or the port failed.
+    Lined { failed: bool },
+}

@@ -1,0 +1,87 @@
+ghost use Rattle.std.specs.Prelude.{◌≡◌, ◌≤◌, List, [], ◌∷◌, length, All, None};
+ghost use Rattle.i2c_base.specs.Board.{BoardView};
+ghost use Rattle.i2c_base.specs.Transfer.{TransferView};
+ghost use Rattle.i2c_spec.specs.Messages.{MessageView, messages_of};
+ghost use Rattle.i2c_spec.specs.Tree.{hops, root_of};
+ghost use Rattle.bus_spec.specs.Walk.{Call, Ends};
+ghost use Rattle.bus_spec.specs.Grammar.{full, plain, walk_by, seen, first_act, rest_of};
+ghost use Rattle.mux_plan.specs.Plans.{walk_of, slots_of, action_of, outcome_of};
+ghost use Rattle.mux_plan.specs.Rooms.{IsNarrow};
+
+use crate::parts::Parts;
+use crate::stack::Stack;
+use crate::{Action, Came, Course, Outcome, Task, Work};
+use arrayvec::ArrayVec;
+use i2c_base::{MuxId, SegId};
+use i2c_board::Board;
+use i2c_spec::Hop;
+use std::marker::Model;
+
+/// The walk of a transfer that isn't refused. A contract sees its tasks, and `walk_of` is the tree that they stand for.
+#[derive(Debug, Drop)]
+pub struct Walk {
+    parts: Parts,
+}
+
+impl Model for Walk {
+    ghost use Rattle.mux_plan.specs.Plans.{WalkView, came_of};
+    ghost use Rattle.mux_plan.specs.Rooms.{IsPlanned, IsReady};
+
+    ghost Value = { WalkView };
+
+    ghost view = { λ w. record { course = w.parts.course; tasks = w.parts.stack; came = came_of w.parts.came } };
+
+    ghost invariant = { λ w. IsPlanned w.parts.course w.parts.stack × IsReady w.parts.stack };
+}
+
+impl Walk {
+    /// The walk of a transfer of so many messages on a bus at the end of these muxes, nearest first.
+    pub fn open(root: SegId, path: ArrayVec<Hop, 32>, bus: SegId, count: u8) -> Self
+        requires deep { length path.items ≤ 4 }
+        requires narrow { All IsNarrow path.items }
+        ensures course { result.course ≡ record { root = root; path = path.items; bus = bus; count = count } }
+        ensures tree { (b : BoardView) (ms : List MessageView)
+            → walk_of b ms result ≡ full b root path.items (Call bus ms) plain (λ o. Ends) }
+        ensures transfer { (b : BoardView) (t : TransferView) → root ≡ root_of b t.bus → path.items ≡ hops b t.bus → bus ≡ t.bus
+            → walk_of b (messages_of t) result ≡ walk_by b t None }
+    {
+        let mut stack = Stack::new();
+        stack.push(Task::Lock {
+            from: 0,
+            place: 0,
+            work: Work::Call,
+        });
+        let course = Course {
+            root,
+            path,
+            bus,
+            count,
+        };
+        Walk {
+            parts: Parts {
+                course,
+                stack,
+                came: Came::Good,
+            },
+        }
+    }
+
+    /// The next action, where each bus has this mark: the first step of the walk behind its looks.
+    pub fn next(&self, board: &Board, marks: &[Option<MuxId>]) -> Action
+        ensures { (ms : List MessageView) → length ms ≡ self.now.course.count
+            → result ≡ action_of (first_act (seen (slots_of marks.now) (walk_of board.now ms self.now))) }
+    {
+        self.parts.first(board, marks)
+    }
+
+    /// Goes on behind the next action, which had this outcome; the marks are those from before it.
+    pub fn report(&mut self, board: &Board, marks: &[Option<MuxId>], outcome: &Outcome)
+        ensures tree { (ms : List MessageView) → length ms ≡ self.old.course.count
+            → walk_of board.now ms self.new ≡ rest_of (seen (slots_of marks.now) (walk_of board.now ms self.old)) (outcome_of outcome.now) }
+        ensures course { self.new.course ≡ self.old.course }
+    {
+        self.parts.look(board, marks);
+        self.parts.act(outcome);
+        self.parts.resume();
+    }
+}

@@ -1,0 +1,251 @@
+ghost use Rattle.std.specs.Prelude.{◌≡◌, ◌<◌, ◌^◌, ◌==◌, ℕ, List, length};
+ghost use Rattle.i2c_spec.specs.Chips.{select_value};
+ghost use Rattle.i2c_spec.specs.Messages.{MessageView};
+ghost use Rattle.bus_spec.specs.Walk as walk;
+ghost use Rattle.bus_spec.specs.Walk.{first_byte, goes, is_line, line_mux, line_level, job_outcome, verdict_of, decides, more_of, job_bus, job_purpose, part_of, parts_of};
+ghost use Rattle.mux_plan.specs.Plans.{CourseView, job_of, came_of, outcome_of, go_of, control_of};
+ghost use Rattle.mux_plan.specs.Rooms.{IsNarrowWork};
+
+use crate::{Came, Outcome, Work};
+use i2c_base::{ByteList, End, Errno, MuxId, MuxKind, Purpose, SegId};
+use i2c_spec::{Hop, errno_of};
+
+/// An arbitrator is asked at most so often before it is switched.
+const POLLS: u8 = 8;
+
+/// How a piece of work goes on behind one of its messages: with the next one, with its last one, or not at all.
+#[derive(Clone, Copy, Debug, PartialEq, Eq)]
+pub enum Follow {
+    On,
+    Last,
+    Over,
+}
+
+// The byte that selects a channel, or the level of a gpio mux.
+fn select_byte(hop: &Hop) -> u8
+    requires { hop.now.channel < 8 }
+    ensures { result ≡ select_value hop.now.kind hop.now.channel }
+{
+    match hop.kind {
+        MuxKind::Pca9548 | MuxKind::Pca9546 => bit(hop.channel),
+        MuxKind::Pca9544 => 4 + hop.channel as u8,
+        MuxKind::Pca9541 => 1,
+        MuxKind::Gpio => hop.channel as u8 + 1,
+    }
+}
+
+// The byte in which this bit alone is set.
+fn bit(place: u16) -> u8
+    requires { place < 8 }
+    ensures { result ≡ 2 ^ place }
+{
+    1 << place
+}
+
+// What a poll brought: 0 where the arbitrator is free.
+fn found_free(bytes: &ByteList) -> bool
+    ensures { result ≡ (first_byte bytes.now == 0) }
+{
+    bytes.as_slice().first() == Some(&0)
+}
+
+impl Work {
+    /// It is done by a line, and not by messages.
+    pub fn is_line(&self) -> bool
+        ensures { (c : CourseView) (ms : List MessageView) → result ≡ is_line (job_of c ms self.now) }
+    {
+        match self {
+            Work::Call => false,
+            Work::Select(hop) => is_gpio(hop.kind),
+            Work::Clear { kind, .. } => is_gpio(*kind),
+        }
+    }
+
+    /// How many messages may follow the first one, where the transfer has so many.
+    pub fn more(&self, count: u8) -> u8
+        ensures { (c : CourseView) (ms : List MessageView) → length ms ≡ count → result ≡ more_of (job_of c ms self.now) }
+    {
+        match self {
+            Work::Call => count.saturating_sub(1),
+            Work::Select(hop) => {
+                if hop.kind == MuxKind::Pca9541 {
+                    POLLS
+                } else {
+                    0
+                }
+            }
+            Work::Clear { .. } => 0,
+        }
+    }
+
+    /// The bus that it is done on.
+    pub fn bus(&self, bus: SegId) -> SegId
+        ensures { (c : CourseView) (ms : List MessageView) → c.bus ≡ bus → result ≡ job_bus (job_of c ms self.now) }
+    {
+        match self {
+            Work::Call => bus,
+            Work::Select(hop) => hop.on,
+            Work::Clear { on, .. } => *on,
+        }
+    }
+
+    /// Why its messages are sent.
+    pub fn purpose(&self) -> Purpose
+        ensures { (c : CourseView) (ms : List MessageView) → result ≡ job_purpose (job_of c ms self.now) }
+    {
+        match self {
+            Work::Call => Purpose::Call,
+            Work::Select(hop) => Purpose::Control(hop.mux),
+            Work::Clear { mux, .. } => Purpose::Control(*mux),
+        }
+    }
+
+    /// Which message of its transfer the one is that so many more may follow.
+    pub fn part(&self, left: u8, count: u8) -> u8
+        ensures { (c : CourseView) (ms : List MessageView) → length ms ≡ count → result ≡ part_of (job_of c ms self.now) left }
+    {
+        match self {
+            Work::Call => count.saturating_sub(left),
+            Work::Select(_) | Work::Clear { .. } => 1,
+        }
+    }
+
+    /// How many messages its transfer has.
+    pub fn parts(&self, count: u8) -> u8
+        ensures { (c : CourseView) (ms : List MessageView) → length ms ≡ count → result ≡ parts_of (job_of c ms self.now) }
+    {
+        match self {
+            Work::Call => count,
+            Work::Select(_) | Work::Clear { .. } => 1,
+        }
+    }
+
+    /// The byte that its message writes, if it is a control message and no poll.
+    pub fn control(&self, left: u8) -> Option<u8>
+        requires { IsNarrowWork self.now }
+        ensures { (c : CourseView) (ms : List MessageView) → result ≡ control_of (job_of c ms self.now) left }
+    {
+        match self {
+            Work::Call => None,
+            Work::Select(hop) => (left == 0).then_some(select_byte(hop)),
+            Work::Clear { .. } => Some(0),
+        }
+    }
+
+    /// The mux whose line it sets.
+    pub fn line_mux(&self) -> MuxId
+        ensures { (c : CourseView) (ms : List MessageView) → result ≡ line_mux (job_of c ms self.now) }
+    {
+        match self {
+            Work::Call => MuxId(0),
+            Work::Select(hop) => hop.mux,
+            Work::Clear { mux, .. } => *mux,
+        }
+    }
+
+    /// The level that it sets.
+    pub fn line_level(&self) -> u8
+        requires { IsNarrowWork self.now }
+        ensures { (c : CourseView) (ms : List MessageView) → result ≡ line_level (job_of c ms self.now) }
+    {
+        match self {
+            Work::Call | Work::Clear { .. } => 0,
+            Work::Select(hop) => select_byte(hop),
+        }
+    }
+
+    /// How it goes on behind a message that `left` + 1 more might have followed.
+    pub fn goes(&self, left: u8, outcome: &Outcome) -> Follow
+        ensures { (c : CourseView) (ms : List MessageView) → go_of result ≡ goes (job_of c ms self.now) left (outcome_of outcome.now) }
+    {
+        let Outcome::Sent { end, bytes } = outcome else {
+            return Follow::Over;
+        };
+        if *end != End::Ok {
+            return Follow::Over;
+        }
+        match self {
+            Work::Call => Follow::On,
+            Work::Select(_) => {
+                if found_free(bytes) {
+                    Follow::Last
+                } else if left > 0 {
+                    Follow::On
+                } else {
+                    Follow::Over
+                }
+            }
+            Work::Clear { .. } => Follow::Over,
+        }
+    }
+
+    // What came of it where its message went through. A poll that was the last one found the arbitrator taken.
+    fn came_through(&self, left: u8) -> Came
+        ensures { (c : CourseView) (ms : List MessageView) → came_of result ≡ walk.good_outcome (job_of c ms self.now) left }
+    {
+        match self {
+            Work::Call | Work::Clear { .. } => Came::Good,
+            Work::Select(_) => { if left == 0 { Came::Good } else { Came::Refused } }
+        }
+    }
+
+    /// What came of it, where its last message, which `left` more might have followed, or its line had this outcome.
+    pub fn came(&self, left: u8, outcome: &Outcome) -> Came
+        ensures { (c : CourseView) (ms : List MessageView) → came_of result ≡ job_outcome (job_of c ms self.now) left (outcome_of outcome.now) }
+    {
+        match outcome {
+            Outcome::Passed => Came::Good,
+            Outcome::Sent { end, .. } => match end {
+                End::Ok => self.came_through(left),
+                End::Nack | End::Slow | End::Refused | End::Proto => Came::Refused,
+                End::Cut(_) => Came::Failed,
+            },
+            Outcome::Lined { failed } => { if *failed { Came::Failed } else { Came::Good } }
+        }
+    }
+
+    // The error that its last message decides where it went through.
+    fn verdict_through(&self, left: u8) -> Option<Errno>
+        ensures { (c : CourseView) (ms : List MessageView) → result ≡ walk.good_errno (job_of c ms self.now) left }
+    {
+        match self {
+            Work::Call | Work::Clear { .. } => None,
+            Work::Select(_) => (left > 0).then_some(Errno::Etimedout),
+        }
+    }
+
+    /// The error that its last message or its line decides.
+    pub fn verdict(&self, left: u8, outcome: &Outcome) -> Option<Errno>
+        ensures { (c : CourseView) (ms : List MessageView) → result ≡ verdict_of (job_of c ms self.now) left (outcome_of outcome.now) }
+    {
+        match outcome {
+            Outcome::Passed => None,
+            Outcome::Sent { end, .. } => {
+                if *end == End::Ok {
+                    self.verdict_through(left)
+                } else {
+                    errno_of(*end)
+                }
+            }
+            Outcome::Lined { failed } => failed.then_some(Errno::Eremoteio),
+        }
+    }
+
+    /// Its end decides the reply, where it is on the way to the caller's messages.
+    pub fn decides(&self, came: Came) -> bool
+        ensures { (c : CourseView) (ms : List MessageView) → result ≡ decides (job_of c ms self.now) (came_of came) }
+    {
+        match self {
+            Work::Call => true,
+            Work::Select(_) => came != Came::Good,
+            Work::Clear { .. } => came == Came::Failed,
+        }
+    }
+}
+
+// A gpio mux is switched by a line.
+fn is_gpio(kind: MuxKind) -> bool
+    ensures { result ≡ walk.is_gpio kind }
+{
+    kind == MuxKind::Gpio
+}
