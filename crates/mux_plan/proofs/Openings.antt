@@ -21,6 +21,14 @@ mark_slot : (x : Option ℕ) → mark_in (slot_of x) ≡ x
 mark_slot (Some m) = refl
 mark_slot None = refl
 
+-- by the looks of a walk: each is answered by a mark
+pub seen-marks : (v : Slots) (marks : List (Option ℕ)) → ((p : ℕ) → mark_in (v p).slot ≡ slice_index_or marks p None) → (w : WalkTree) → seen v w ≡ seen (slots_of marks) w
+seen-marks v marks told Ends = refl
+seen-marks v marks told (Look (MarkOf p) next) =
+    seen-marks v marks told (next (mark_in (v p).slot))
+    ∙ ap (λ (m : Option ℕ). seen (slots_of marks) (next m)) (told p ∙ sym (mark_slot (slice_index_or marks p None)))
+seen-marks v marks told (Then act note next) = refl
+
 module _ (b : BoardView) (ms : List MessageView) (c : CourseView) where
   -- a job for the bus that a mux stands on
   part_tree : (parent : Bool) (n : ℕ) (w : Work) (ts : List Task) (out : JobOutcome)

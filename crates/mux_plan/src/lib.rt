@@ -6,13 +6,17 @@
 #![tactic(auto)]
 
 mod course;
+mod laws;
 mod parts;
 mod stack;
 mod task;
+#[cfg(test)]
+mod tests;
 mod walk;
 mod work;
 
 pub(crate) use course::Course;
+pub use laws::marks_answer_each_look;
 pub use task::{Action, Outcome};
 pub(crate) use task::{Came, Task, Work};
 pub use walk::Walk;
