@@ -1,7 +1,8 @@
 -- What is known where a message or a line step comes next in a stepwise past: of which transfer it is, where its address
 -- leads, and what it decides.
-use Rattle.std.proofs.Common.{◌≡◌, ℕ, zero, suc, Bool, true, false, cond, List, Option, Some, sym, ◌∙◌, ap, subst, inl, inr}
+use Rattle.std.proofs.Common.{◌≡◌, ℕ, zero, suc, Bool, true, false, cond, not, List, [], ◌∷◌, Option, Some, sym, ◌∙◌, ap, subst, inl, inr}
 use Rattle.i2c_base.specs.declared.ids.LockId.TheVariants as lock
+use Rattle.i2c_base.specs.declared.ids.Node.TheVariants as node
 use Rattle.i2c_base.specs.declared.entry.Entry.{Entry}
 use Rattle.i2c_base.specs.declared.entry.End.{End}
 use Rattle.i2c_base.specs.declared.entry.Purpose.TheVariants as purpose
@@ -10,13 +11,14 @@ use Rattle.i2c_base.specs.declared.reply.Cut.{Cut}
 use Rattle.i2c_base.specs.declared.reply.Cut.TheVariants as cut_at
 use Rattle.i2c_base.specs.Board.{BoardView}
 use Rattle.i2c_base.specs.Transfer.{TransferView}
-use Rattle.i2c_spec.specs.Tree.{Hop, hops, root_of}
+use Rattle.i2c_spec.specs.Tree.{Hop, hops, root_of, addr_of_mux, is_absent}
 use Rattle.i2c_spec.specs.TreeFacts.{IsTree, IsHop}
 use Rattle.i2c_spec.specs.Plain.{IsPlainBoard}
 use Rattle.i2c_spec.specs.Messages.{MessageView}
+use Rattle.i2c_spec.specs.World.{hearers}
 use Rattle.i2c_spec.specs.Flat.{granted_on, block_limit}
 use Rattle.i2c_spec.specs.History.{Asks}
-use Rattle.bus_spec.specs.Walk.{Job, Call, Select, Clear, Act, Send, Shift, Settle, ActOutcome, Sent, Lined, Note, WalkTree, Then, job_bus, message_of, chip_address, job_outcome, verdict_of, decides}
+use Rattle.bus_spec.specs.Walk.{Job, Call, Select, Clear, Act, Send, Shift, Settle, ActOutcome, Sent, Lined, Note, WalkTree, Then, job_bus, job_purpose, message_of, chip_address, job_outcome, verdict_of, decides}
 use Rattle.bus_spec.specs.Slots.{after_job}
 use Rattle.bus_spec.specs.Grammar.{first_act, rest_of}
 use Rattle.bus_spec.specs.Readings.{message_cut}
@@ -34,7 +36,7 @@ use Rattle.bus_laws.proofs.StandsStep.{send_known}
 use Rattle.bus_laws.proofs.StandsEntries.{first_is}
 use Rattle.bus_laws.proofs.PastLaws.{past-stands}
 use Rattle.bus_laws.proofs.AskedLaws.{current-asked, past-asked}
-use Rattle.bus_laws.proofs.DevicesReach.{call-leads, control-leads}
+use Rattle.bus_laws.proofs.DevicesReach.{call-leads, control-leads, control-reaches}
 use Rattle.bus_laws.proofs.WorldSends.{told-send}
 use Rattle.bus_laws.proofs.WholeLaw.{line_next}
 use Rattle.bus_laws.proofs.PlacedLaw.{no_settle}
@@ -125,6 +127,13 @@ module _ (b : BoardView) (tree : IsTree b) (plain : IsPlainBoard b) (lines : Lin
   clear-next on mux kind left first =
       let m : MaySend b cs.whose (Clear on mux kind) left (at (Clear on mux kind) left first).0.marks (n.held c) n.slot = may (Clear on mux kind) left first in
       control-leads b tree plain n.slot n.worlds stands.told mux on kind m.finds.2 m.by_message m.finds.1 (λ g a. (m.reached g a).0)
+
+  -- its mux's chip alone does, where it is there
+  pub control-next : (job : Job) (left m : ℕ) → job_purpose job ≡ purpose.Control m → IsNext b asks n c (Send job left)
+      → (addr_of_mux b m ≡ Some (message_of b job left).addr)
+      × (hearers (n.worlds (root_of b (job_bus job))) (message_of b job left).addr (message_of b job left).reading ≡ cond (not (is_absent b m)) (node.Chip m ∷ []) [])
+  control-next job left m is first =
+      control-reaches b tree plain n.slot n.worlds stands.told cs.whose job left (at job left first).0.marks (n.held c) (may job left first) m is
 
   -- WHAT A STEP DECIDES
   rest_is : (act : Act) (note : Note) (next : ActOutcome → WalkTree) (out : ActOutcome) → current b asks n c ≡ Then act note next → rest_of (current b asks n c) out ≡ next out

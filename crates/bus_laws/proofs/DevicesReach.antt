@@ -8,6 +8,7 @@ use Rattle.i2c_base.specs.declared.event.Answer.{Answer}
 use Rattle.i2c_base.specs.declared.event.Answer.TheVariants as answer
 use Rattle.i2c_base.specs.declared.entry.End.{End}
 use Rattle.i2c_base.specs.declared.entry.End.TheVariants as end
+use Rattle.i2c_base.specs.declared.entry.Purpose.TheVariants as purpose
 use Rattle.i2c_base.specs.declared.ids.LockId.{LockId}
 use Rattle.i2c_base.specs.declared.ids.Node.{Node}
 use Rattle.i2c_base.specs.declared.ids.Node.TheVariants as node
@@ -225,6 +226,27 @@ module _ (b : BoardView) (tree : IsTree b) (plain : IsPlainBoard b) (v : Slots) 
   select_addr : (h : Hop) (left : ℕ) → (message_of b (Select h) left).addr ≡ chip_address b h.mux
   select_addr h zero = refl
   select_addr h (suc n) = refl
+
+  -- a control message has the address of its mux, whose chip alone hears it, where it is there
+  control_both : (m on : ℕ) (kind : MuxKind) → IsMuxOf b m kind → is_gpio kind ≡ false → home_of_mux b m ≡ on
+      → ((g : Hop) → IsAmongHops g (hops b on) → (v g.on).slot ≡ Selected g) → (reading : Bool) (k a : ℕ) → m ≡ k → a ≡ chip_address b m
+      → (addr_of_mux b k ≡ Some a) × (hearers (ws (root_of b on)) a reading ≡ cond (not (is_absent b k)) (node.Chip k ∷ []) [])
+  control_both m on kind known line home reached reading k a same addr =
+      subst (λ (i : ℕ). (addr_of_mux b i ≡ Some a) × (hearers (ws (root_of b on)) a reading ≡ cond (not (is_absent b i)) (node.Chip i ∷ []) [])) same
+      (subst (λ (x : ℕ). (addr_of_mux b m ≡ Some x) × (hearers (ws (root_of b on)) x reading ≡ cond (not (is_absent b m)) (node.Chip m ∷ []) [])) (sym addr)
+      (has_address_of b plain m kind known line, control_hears m on kind known line home reached reading))
+
+  pub control-reaches : (whose : TransferView) (job : Job) (left : ℕ) (marks : List Mark) (held : List LockId) → MaySend b whose job left marks held v → (m : ℕ) → job_purpose job ≡ purpose.Control m
+      → (addr_of_mux b m ≡ Some (message_of b job left).addr)
+      × (hearers (ws (root_of b (job_bus job))) (message_of b job left).addr (message_of b job left).reading ≡ cond (not (is_absent b m)) (node.Chip m ∷ []) [])
+  control-reaches whose (Call bus ms) left marks held may m is = absurd (let f : purpose.Call ≡ purpose.Control m = is in cc)
+  control-reaches whose (Select h) left marks held may m is =
+      let hop : IsHop b h = tree.hop h.bus h may.finds.1 in
+      control_both h.mux h.on h.kind hop.kind may.by_message hop.home (λ g a. (may.reached g a).0) (message_of b (Select h) left).reading m (message_of b (Select h) left).addr
+      (let f : purpose.Control h.mux ≡ purpose.Control m = is in cc) (select_addr h left)
+  control-reaches whose (Clear on mux kind) left marks held may m is =
+      control_both mux on kind may.finds.2 may.by_message may.finds.1 (λ g a. (may.reached g a).0) (message_of b (Clear on mux kind) left).reading m (chip_address b mux)
+      (let f : purpose.Control mux ≡ purpose.Control m = is in cc) refl
 
   -- each message reaches whom it is for, or nobody
   pub send-reaches : (whose : TransferView) (job : Job) (left : ℕ) (marks : List Mark) (held : List LockId) → MaySend b whose job left marks held v

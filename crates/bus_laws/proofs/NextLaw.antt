@@ -1,15 +1,17 @@
--- Whom a caller's message will reach that comes next. The inductions go over lists of answers.
-use Rattle.std.proofs.Common.{◌≡◌, ℕ, Bool, true, false, not, ◌||◌, cond, List, [], ◌∷◌, ◌++◌, Option, Some, None, refl, sym, ◌∙◌, ap}
+-- Whom a message will reach that comes next. The inductions go over lists of answers.
+use Rattle.std.proofs.Common.{◌≡◌, ℕ, ◌<◌, Bool, true, false, not, ◌||◌, cond, List, [], ◌∷◌, ◌++◌, Option, Some, None, refl, sym, ◌∙◌, ap, subst}
+use Rattle.std.proofs.lemmas.Bool.{ltb-true}
 use Rattle.std.specs.Prelude.{is_some, slice_get}
 use Rattle.std.specs.Option.{option_map_or}
 use Rattle.i2c_base.specs.declared.event.Event.TheVariants as event
 use Rattle.i2c_base.specs.declared.event.Answer.{Answer}
 use Rattle.i2c_base.specs.declared.event.Answer.TheVariants as answer
 use Rattle.i2c_base.specs.declared.entry.Entry.{Entry}
+use Rattle.i2c_base.specs.declared.entry.Purpose.TheVariants as purpose
 use Rattle.i2c_base.specs.declared.ids.Node.{Node}
 use Rattle.i2c_base.specs.declared.ids.Node.TheVariants as node
 use Rattle.i2c_base.specs.Board.{BoardView}
-use Rattle.i2c_spec.specs.Tree.{root_of}
+use Rattle.i2c_spec.specs.Tree.{buses, root_of, is_absent}
 use Rattle.i2c_spec.specs.TreeFacts.{IsTree}
 use Rattle.i2c_spec.specs.Plain.{IsPlainBoard}
 use Rattle.i2c_spec.specs.Targets.{TargetState, state_answer}
@@ -18,17 +20,18 @@ use Rattle.i2c_spec.specs.World.{World, is_ack, is_slow, has_heard, start_chips,
 use Rattle.i2c_spec.specs.Conversation.{is_empty}
 use Rattle.i2c_spec.specs.Flat.{answer_of, granted_on}
 use Rattle.i2c_spec.specs.History.{Asks}
-use Rattle.bus_spec.specs.Walk.{Call, Send, message_of}
+use Rattle.bus_spec.specs.Walk.{Job, Call, Send, job_bus, job_purpose, message_of}
 use Rattle.bus_spec.specs.Past.{now}
 use Rattle.bus_spec.specs.Stepwise.{IsNext, IsStepwise, heard_list}
 use Rattle.bus_spec.specs.Legal.{starts}
 use Rattle.bus_laws.specs.Lines.{LinesAreLocked}
 use Rattle.bus_laws.specs.Reach.{AsksForMessages}
 use Rattle.bus_laws.specs.Alike.{listening, LeadsTo}
-use Rattle.bus_laws.specs.Next.{heard_where, who_hears, WillReach}
+use Rattle.bus_laws.specs.Next.{heard_where, who_hears, WillReach, chip_where, WillSwitch}
 use Rattle.bus_laws.proofs.WorldFeed.{some_answer-append}
 use Rattle.bus_laws.proofs.DevicesReach.{leads-hearers}
-use Rattle.bus_laws.proofs.DevicesPast.{CallNext, call-next}
+use Rattle.bus_laws.proofs.DevicesPast.{CallNext, call-next, control-next}
+use Rattle.bus_laws.proofs.TreeLaw.{refusal-none}
 
 -- THE ANSWER OF A START tells whether somebody hears it
 mixed : (p q x y : Bool) → ((p || q) || (x || y)) ≡ ((q || x) || (p || y))
@@ -115,6 +118,22 @@ call-reaches b tree plain lines asks some callers past steps c bus messages left
       on_bus = sym told.call.same_bus;
       whole = sym told.call.same_messages;
       not_refused = told.call.not_refused;
+      there = subst (λ (s : ℕ). s < buses b) (sym told.call.same_bus) (ltb-true told.whose.bus (buses b) (refusal-none b told.whose told.call.not_refused).0);
       heard = heard;
       answered = answered_next w m.addr m.reading (who_hears b w bus told.whose.force m.addr m.reading) heard;
     }
+
+-- THE NEXT CONTROL MESSAGE
+chip_list : (m : ℕ) (absent : Bool) → cond (not absent) (node.Chip m ∷ []) [] ≡ heard_list (cond absent None (Some (node.Chip m)))
+chip_list m true = refl
+chip_list m false = refl
+
+pub control-switches : (b : BoardView) → IsTree b → IsPlainBoard b → LinesAreLocked b → (asks : Asks) → AsksForMessages asks → (callers : ℕ) (past : List Entry) → IsStepwise b callers asks past
+    → (c : ℕ) (job : Job) (left m : ℕ) → job_purpose job ≡ purpose.Control m → IsNext b asks (now b asks past) c (Send job left)
+    → WillSwitch b (now b asks past) job left m
+control-switches b tree plain lines asks some callers past steps c job left m is first =
+    let told = control-next b tree plain lines asks some callers past steps c job left m is first in
+    let a : MessageView = message_of b job left in
+    let w : World = (now b asks past).worlds (root_of b (job_bus job)) in
+    let heard : hearers w a.addr a.reading ≡ heard_list (chip_where b m) = told.1 ∙ chip_list m (is_absent b m) in
+    record { addressed = told.0; heard = heard; answered = answered_next w a.addr a.reading (chip_where b m) heard }

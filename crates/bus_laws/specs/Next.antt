@@ -1,5 +1,5 @@
 -- What is known of a caller's next step before it is made, and of the steps that it has made.
-use Rattle.std.specs.Prelude.{◌≡◌, ℕ, ◌+◌, ◌≤◌, ◌==◌, Bool, ◌&&◌, List, [], ◌∷◌, ◌++◌, Option, Some, None, is_some, slice_get, if◌then◌else◌}
+use Rattle.std.specs.Prelude.{◌≡◌, ℕ, ◌+◌, ◌<◌, ◌≤◌, ◌==◌, Bool, ◌&&◌, List, [], ◌∷◌, ◌++◌, Option, Some, None, is_some, slice_get, if◌then◌else◌}
 use Rattle.i2c_base.specs.declared.ids.Node.{Node}
 use Rattle.i2c_base.specs.declared.ids.Node.TheVariants as node
 use Rattle.i2c_base.specs.declared.entry.Entry.{Entry}
@@ -8,13 +8,13 @@ use Rattle.i2c_base.specs.declared.reply.Reply.{Reply}
 use Rattle.i2c_base.specs.Board.{BoardView}
 use Rattle.i2c_base.specs.Fitting.{Fits}
 use Rattle.i2c_base.specs.Transfer.{TransferView}
-use Rattle.i2c_spec.specs.Tree.{root_of}
+use Rattle.i2c_spec.specs.Tree.{buses, root_of, addr_of_mux, is_absent}
 use Rattle.i2c_spec.specs.Messages.{MessageView, messages_of}
 use Rattle.i2c_spec.specs.World.{World, has_heard, hearers, answer}
 use Rattle.i2c_spec.specs.Flat.{refusal, granted_on}
 use Rattle.i2c_spec.specs.History.{Asks}
 use Rattle.i2c_spec.specs.Cost.{cost_of}
-use Rattle.bus_spec.specs.Walk.{Call, Ends, message_of}
+use Rattle.bus_spec.specs.Walk.{Job, Call, Ends, job_bus, message_of}
 use Rattle.bus_spec.specs.Readings.{caller_of, replies, Everywhere}
 use Rattle.bus_spec.specs.Past.{Now}
 use Rattle.bus_spec.specs.Stepwise.{heard_list}
@@ -37,12 +37,25 @@ pub record WillReach (b : BoardView) (asks : Asks) (n : Now) (c bus : ℕ) (mess
   pub on_bus : transfer.bus ≡ bus
   pub whole : messages_of transfer ≡ messages
   pub not_refused : refusal b transfer ≡ None
+  pub there : bus < buses b
   -- in the world of its root, and nobody else does
   pub heard : hearers (n.worlds (root_of b bus)) (message_of b (Call bus messages) left).addr (message_of b (Call bus messages) left).reading
       ≡ heard_list (who_hears b (n.worlds (root_of b bus)) bus transfer.force (message_of b (Call bus messages) left).addr (message_of b (Call bus messages) left).reading)
   -- the answer of the start tells whether somebody does
   pub answered : has_heard (answer (n.worlds (root_of b bus)) (message_of b (Call bus messages) left).addr (message_of b (Call bus messages) left).reading)
       ≡ is_some (who_hears b (n.worlds (root_of b bus)) bus transfer.force (message_of b (Call bus messages) left).addr (message_of b (Call bus messages) left).reading)
+
+-- a mux that is there acknowledges its address
+abbrev pub chip_where : BoardView → ℕ → Option Node
+chip_where b m = if is_absent b m then None else Some (node.Chip m)
+
+-- a control message that comes next is to its mux, and the mux alone will hear it, where it is there
+pub record WillSwitch (b : BoardView) (n : Now) (job : Job) (left m : ℕ) : Type 0 where
+  pub addressed : addr_of_mux b m ≡ Some (message_of b job left).addr
+  -- in the world of its root
+  pub heard : hearers (n.worlds (root_of b (job_bus job))) (message_of b job left).addr (message_of b job left).reading ≡ heard_list (chip_where b m)
+  -- the answer of the start tells whether it does
+  pub answered : has_heard (answer (n.worlds (root_of b (job_bus job))) (message_of b job left).addr (message_of b job left).reading) ≡ is_some (chip_where b m)
 
 -- a caller's walk has ended, and it asks for nothing more
 abbrev pub IsDone : Asks → Now → ℕ → Type 0

@@ -2,19 +2,20 @@ ghost use Rattle.std.specs.Prelude.{◌≡◌, ℕ, ◌<◌, ◌≤◌, List, []
 ghost use Rattle.i2c_base.specs.declared.ids.LockId.{LockId};
 ghost use Rattle.i2c_base.specs.Board.{BoardView};
 ghost use Rattle.i2c_base.specs.declared.entry.Entry.{Entry};
+ghost use Rattle.i2c_base.specs.declared.entry.Purpose.TheVariants as purpose;
 ghost use Rattle.i2c_base.specs.declared.reply.Reply.{Reply};
 ghost use Rattle.i2c_spec.specs.Plain.{IsPlainBoard};
 ghost use Rattle.i2c_spec.specs.Rules.{MeetsRules};
 ghost use Rattle.i2c_spec.specs.Messages.{MessageView};
 ghost use Rattle.i2c_spec.specs.History.{Asks};
-ghost use Rattle.bus_spec.specs.Walk.{Call, Send, Ends};
+ghost use Rattle.bus_spec.specs.Walk.{Job, Call, Send, Ends, job_purpose};
 ghost use Rattle.bus_spec.specs.Past.{now};
 ghost use Rattle.bus_spec.specs.Readings.{holder, replies};
 ghost use Rattle.bus_spec.specs.Stepwise.{IsNext, IsStepwise};
 ghost use Rattle.bus_spec.specs.Legal.{IsComplete};
 ghost use Rattle.bus_laws.specs.Reach.{AsksForMessages};
 ghost use Rattle.bus_laws.specs.Costs.{spent};
-ghost use Rattle.bus_laws.specs.Next.{CoversCosts, IsDone, KeepsFits, WillReach, steps_by};
+ghost use Rattle.bus_laws.specs.Next.{CoversCosts, IsDone, KeepsFits, WillReach, WillSwitch, steps_by};
 
 use i2c_spec::an_accepted_board_is_a_tree;
 
@@ -27,6 +28,18 @@ pub fn the_next_message_reaches_its_target()
     ensures { (b : BoardView) (callers : ℕ) (asks : Asks) (past : List Entry) → IsPlainBoard b → MeetsRules b → AsksForMessages asks → IsStepwise b callers asks past
         → (c bus : ℕ) (messages : List MessageView) (left : ℕ) → IsNext b asks (now b asks past) c (Send (Call bus messages) left)
         → WillReach b asks (now b asks past) c bus messages left }
+{
+    an_accepted_board_is_a_tree();
+}
+
+/// A control message that comes next, a select's or a close's, has the address of its mux. Its start will be heard by that
+/// mux, where it is there, and by nothing else (UM10204 section 3.1.10).
+///
+/// The answer of the start tells whether it is there.
+pub fn the_next_control_message_reaches_its_mux()
+    ensures { (b : BoardView) (callers : ℕ) (asks : Asks) (past : List Entry) → IsPlainBoard b → MeetsRules b → AsksForMessages asks → IsStepwise b callers asks past
+        → (c : ℕ) (job : Job) (left m : ℕ) → job_purpose job ≡ purpose.Control m → IsNext b asks (now b asks past) c (Send job left)
+        → WillSwitch b (now b asks past) job left m }
 {
     an_accepted_board_is_a_tree();
 }
