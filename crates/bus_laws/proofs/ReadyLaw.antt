@@ -76,13 +76,31 @@ module _ (b : BoardView) (tree : IsTree b) (plain : IsPlainBoard b) (lines : Lin
       cur : CallerStands b (n.held d) (current b asks n d) n.slot
       cur = current-stands b tree lines asks some n d stands
 
-  lower : (d : ℕ) (k l : LockId) → IsNext b asks n d (Take k) → InLocks l (n.held d) → rank b k < rank b l
-  lower d k l next i =
+  -- a lock that comes next is of a lower rank than all that its caller has
+  pub takes-below : (d : ℕ) (k : LockId) → IsNext b asks n d (Take k) → IsBelow b k (n.held d)
+  takes-below d k next =
       let cur : CallerStands b (n.held d) (current b asks n d) n.slot = current-stands b tree lines asks some n d stands in
       let at = first_is (current b asks n d) (Take k) next in
       let runs : IsBelow b k (n.held d) × ((s : At) → RestOf b k s → Runs b cur.whose (k ∷ n.held d) (taken_slots k s cur.view) (at.1 Passed)) =
       subst (λ (w : WalkTree). Runs b cur.whose (n.held d) cur.view w) at.2 cur.runs in
-      below_each b k (n.held d) l runs.0 i
+      runs.0
+
+  lower : (d : ℕ) (k l : LockId) → IsNext b asks n d (Take k) → InLocks l (n.held d) → rank b k < rank b l
+  lower d k l next i = below_each b k (n.held d) l (takes-below d k next) i
+
+  -- so nobody has it where there is no other caller
+  pub sole-takes : callers ≤ 1 → (l : LockId) → IsNext b asks n 0 (Take l) → n.holder l ≡ None
+  sole-takes sole l next = by_holder (n.holder l) refl
+    where
+      only : (d : ℕ) → d < callers → d ≡ 0
+      only d known = omega (arith, sole, known)
+
+      by_holder : (o : Option ℕ) → n.holder l ≡ o → n.holder l ≡ None
+      by_holder None none = none
+      by_holder (Some d) has =
+          let own : d ≡ 0 = only d (holders_known b callers asks past steps l d (sym (holder-told b asks past l) ∙ has)) in
+          let below : rank b l < rank b l = lower 0 l l next (subst (λ (i : ℕ). InLocks l (n.held i)) own (stands.has d l has)) in
+          absurd (omega (arith, below))
 
   -- THE INDUCTION: `fuel` is above the rank of what is waited for
   someone : (fuel c : ℕ) (act : Act) → c < callers → IsNext b asks n c act → ((l : LockId) → act ≡ Take l → rank b l < fuel) → (d : ℕ) × CanGoOn b callers asks past d

@@ -28,7 +28,7 @@ pub use journals::{
 pub use next::{
     a_caller_steps_within_its_cost, a_caller_with_no_walk_holds_nothing,
     a_finished_journal_is_complete, settled_is_replies, the_next_control_message_reaches_its_mux,
-    the_next_message_reaches_its_target,
+    the_next_lock_has_a_lower_rank, the_next_message_reaches_its_target,
 };
 pub use targets::each_message_reaches_its_target;
 pub use walks::{

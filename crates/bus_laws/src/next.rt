@@ -8,10 +8,10 @@ ghost use Rattle.i2c_spec.specs.Plain.{IsPlainBoard};
 ghost use Rattle.i2c_spec.specs.Rules.{MeetsRules};
 ghost use Rattle.i2c_spec.specs.Messages.{MessageView};
 ghost use Rattle.i2c_spec.specs.History.{Asks};
-ghost use Rattle.bus_spec.specs.Walk.{Job, Call, Send, Ends, job_purpose};
+ghost use Rattle.bus_spec.specs.Walk.{Job, Call, Take, Send, Ends, job_purpose};
 ghost use Rattle.bus_spec.specs.Past.{now};
 ghost use Rattle.bus_spec.specs.Readings.{holder, replies};
-ghost use Rattle.bus_spec.specs.Stepwise.{IsNext, IsStepwise};
+ghost use Rattle.bus_spec.specs.Stepwise.{IsBelow, IsNext, IsStepwise};
 ghost use Rattle.bus_spec.specs.Legal.{IsComplete};
 ghost use Rattle.bus_laws.specs.Reach.{AsksForMessages};
 ghost use Rattle.bus_laws.specs.Costs.{spent};
@@ -40,6 +40,17 @@ pub fn the_next_control_message_reaches_its_mux()
     ensures { (b : BoardView) (callers : ℕ) (asks : Asks) (past : List Entry) → IsPlainBoard b → MeetsRules b → AsksForMessages asks → IsStepwise b callers asks past
         → (c : ℕ) (job : Job) (left m : ℕ) → job_purpose job ≡ purpose.Control m → IsNext b asks (now b asks past) c (Send job left)
         → WillSwitch b (now b asks past) job left m }
+{
+    an_accepted_board_is_a_tree();
+}
+
+/// A lock that a caller takes next has a lower rank than all that the caller has (Linux i2c-topology). So a caller that
+/// is alone waits for no lock.
+pub fn the_next_lock_has_a_lower_rank()
+    ensures below { (b : BoardView) (callers : ℕ) (asks : Asks) (past : List Entry) → IsPlainBoard b → MeetsRules b → AsksForMessages asks → IsStepwise b callers asks past
+        → (c : ℕ) (l : LockId) → IsNext b asks (now b asks past) c (Take l) → IsBelow b l ((now b asks past).held c) }
+    ensures sole { (b : BoardView) (asks : Asks) (past : List Entry) → IsPlainBoard b → MeetsRules b → AsksForMessages asks → IsStepwise b 1 asks past
+        → (l : LockId) → IsNext b asks (now b asks past) 0 (Take l) → (now b asks past).holder l ≡ None }
 {
     an_accepted_board_is_a_tree();
 }

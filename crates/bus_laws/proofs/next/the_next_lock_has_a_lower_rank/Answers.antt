@@ -1,0 +1,13 @@
+use Rattle.std.proofs.Common.{arith}
+use Rattle.bus_laws.proofs.LineFacts.{lines-locked}
+use Rattle.bus_laws.proofs.ReadyLaw.{takes-below, sole-takes}
+use Rattle.bus_laws.proofs.next.the_next_lock_has_a_lower_rank.Goals as goal
+
+pub returns : goal.returns
+returns c =
+    record {
+      below = λ b callers asks past plain rules some steps.
+          takes-below b (c.an_accepted_board_is_a_tree.ensures b plain rules) plain (lines-locked b rules) asks some callers past steps;
+      sole = λ b asks past plain rules some steps.
+          sole-takes b (c.an_accepted_board_is_a_tree.ensures b plain rules) plain (lines-locked b rules) asks some 1 past steps (omega arith);
+    }
