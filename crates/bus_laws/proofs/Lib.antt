@@ -28,6 +28,7 @@ pub mod StandsEntries
 pub mod StandsOpening
 -- The induction over the entries, and what it gives.
 pub mod PastLaws
+pub mod MarksLaw
 pub mod PortLaws
 -- The devices law: one message over two listeners, and over a root's world and the flat world.
 pub mod DevicesTalk

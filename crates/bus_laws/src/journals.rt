@@ -1,10 +1,11 @@
-ghost use Rattle.std.specs.Prelude.{◌≡◌, ℕ, List, None};
+ghost use Rattle.std.specs.Prelude.{◌≡◌, ℕ, ◌<◌, List, Some, None};
 ghost use Rattle.i2c_base.specs.Board.{BoardView};
 ghost use Rattle.i2c_base.specs.declared.entry.Entry.{Entry};
+ghost use Rattle.i2c_spec.specs.Tree.{buses};
 ghost use Rattle.i2c_spec.specs.Plain.{IsPlainBoard};
 ghost use Rattle.i2c_spec.specs.Rules.{MeetsRules};
 ghost use Rattle.i2c_spec.specs.History.{Asks};
-ghost use Rattle.bus_spec.specs.Past.{now};
+ghost use Rattle.bus_spec.specs.Past.{mark, now};
 ghost use Rattle.bus_spec.specs.Walk.{Ends};
 ghost use Rattle.bus_spec.specs.Stepwise.{IsStepwise};
 ghost use Rattle.bus_spec.specs.Legal.{IsLegal, KeepsLocks, KeepsPorts, KeepsReplies, KeepsSettles, KeepsWalks, KeepsWhole};
@@ -27,6 +28,14 @@ pub fn each_journal_keeps_its_locks()
 /// lock. It may stay closed in either case.
 pub fn an_open_mux_is_selected_or_marked()
     ensures { (b : BoardView) (callers : ℕ) (asks : Asks) (past : List Entry) → IsPlainBoard b → MeetsRules b → AsksForMessages asks → IsStepwise b callers asks past → KeepsClosed b asks past }
+{
+    an_accepted_board_is_a_tree();
+}
+
+/// Each mark, of a mux that may have been left open, is on a bus of the board.
+pub fn each_mark_is_on_a_bus_of_the_board()
+    ensures { (b : BoardView) (callers : ℕ) (asks : Asks) (past : List Entry) → IsPlainBoard b → MeetsRules b → AsksForMessages asks → IsStepwise b callers asks past
+        → (p m : ℕ) → mark b asks past p ≡ Some m → p < buses b }
 {
     an_accepted_board_is_a_tree();
 }

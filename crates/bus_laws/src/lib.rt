@@ -20,9 +20,10 @@ pub use devices::{
 pub use journals::{
     a_journal_is_legal, a_journal_that_rests_leaves_the_devices_of_its_history,
     an_open_mux_is_selected_or_marked, each_caller_walks_its_transfers,
-    each_journal_keeps_its_locks, each_journal_tells_its_ports, each_message_finds_its_path_open,
-    each_reply_is_that_of_the_flat_world, each_settle_stands_where_it_is_decided,
-    no_caller_exceeds_its_cost, no_message_stands_inside_a_transfer, some_caller_can_go_on,
+    each_journal_keeps_its_locks, each_journal_tells_its_ports, each_mark_is_on_a_bus_of_the_board,
+    each_message_finds_its_path_open, each_reply_is_that_of_the_flat_world,
+    each_settle_stands_where_it_is_decided, no_caller_exceeds_its_cost,
+    no_message_stands_inside_a_transfer, some_caller_can_go_on,
     the_devices_are_those_of_the_history,
 };
 pub use next::{
