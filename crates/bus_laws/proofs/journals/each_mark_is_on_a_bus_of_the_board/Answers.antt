@@ -4,5 +4,5 @@ use Rattle.bus_laws.proofs.journals.each_mark_is_on_a_bus_of_the_board.Goals as 
 
 pub returns : goal.returns
 returns c =
-    λ b callers asks past plain rules some steps.
-    mark-there b (c.an_accepted_board_is_a_tree.ensures b plain rules) plain (lines-locked b rules) asks some callers past steps
+    λ b callers asks past plain rules some steps p m marked.
+    mark-there b (c.an_accepted_board_is_a_tree.ensures b plain rules) plain (lines-locked b rules) asks some callers past steps p m marked
