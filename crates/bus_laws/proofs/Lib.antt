@@ -63,7 +63,9 @@ pub mod DevicesCalls
 pub mod DevicesLaw
 pub mod LeftLaw
 pub mod LegalLaw
--- No walk has more steps than its cost.
+-- A walk one step on.
+pub mod WalkNext
+-- No walk weighs more than its cost.
 pub mod CostLaw
 pub mod SpentLaw
 -- Some caller can always go on.

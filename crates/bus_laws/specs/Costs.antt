@@ -1,5 +1,5 @@
--- How many steps a walk has at most; a settle belongs to the step before it.
-use Rattle.std.specs.Prelude.{◌≡◌, ℕ, zero, suc, ◌+◌, ◌≤◌, Bool, true, false, if◌then◌else◌, List, [], ◌∷◌, ◌++◌, Option}
+-- How many steps and bytes a walk has at most; a settle belongs to the step before it.
+use Rattle.std.specs.Prelude.{◌≡◌, ℕ, ◌+◌, ◌≤◌, Bool, true, false, if◌then◌else◌, List, [], ◌∷◌, ◌++◌, Option}
 use Rattle.std.specs.Option.{option_map_or}
 use Rattle.i2c_base.specs.declared.entry.Entry.{Entry}
 use Rattle.i2c_base.specs.declared.entry.Entry.TheVariants as entry
@@ -9,21 +9,23 @@ use Rattle.i2c_base.specs.Transfer.{TransferView}
 use Rattle.i2c_spec.specs.Tree.{Hop, IsAmongHops}
 use Rattle.i2c_spec.specs.History.{Asks}
 use Rattle.i2c_spec.specs.Cost.{cost_of}
-use Rattle.bus_spec.specs.Walk.{Take, Free, Send, Shift, Settle, ActOutcome, WalkTree, Ends, Look, Then, is_arbitrator}
+use Rattle.bus_spec.specs.Walk.{Act, Take, Free, Send, Shift, Settle, ActOutcome, WalkTree, Ends, Look, Then, is_arbitrator, message_of}
 use Rattle.bus_spec.specs.Legal.{Step, replies_in, steps_in}
 
-abbrev pub IsWithin : WalkTree → ℕ → Type 0
-IsWithin Ends n = Unit {0}
-IsWithin (Look ask next) n = (m : Option ℕ) → IsWithin (next m) n
-IsWithin (Then (Settle verdict) note next) n = (out : ActOutcome) → IsWithin (next out) n
-IsWithin (Then (Take l) note next) zero = ⊥
-IsWithin (Then (Take l) note next) (suc n) = (out : ActOutcome) → IsWithin (next out) n
-IsWithin (Then (Free l) note next) zero = ⊥
-IsWithin (Then (Free l) note next) (suc n) = (out : ActOutcome) → IsWithin (next out) n
-IsWithin (Then (Send job left) note next) zero = ⊥
-IsWithin (Then (Send job left) note next) (suc n) = (out : ActOutcome) → IsWithin (next out) n
-IsWithin (Then (Shift job) note next) zero = ⊥
-IsWithin (Then (Shift job) note next) (suc n) = (out : ActOutcome) → IsWithin (next out) n
+-- what one step weighs: a lock or a line is one, a message is one and one more for each of its bytes, as many as it
+-- asks for (of a counted read those beside the ones that it counts)
+abbrev pub weight_at : BoardView → Act → ℕ
+weight_at b (Take l) = 1
+weight_at b (Free l) = 1
+weight_at b (Send job left) = 1 + (message_of b job left).len
+weight_at b (Shift job) = 1
+weight_at b (Settle verdict) = 0
+
+-- whatever the looks find and the steps give, the steps of the walk together weigh no more than this
+abbrev pub IsWithin : BoardView → WalkTree → ℕ → Type 0
+IsWithin b Ends n = Unit {0}
+IsWithin b (Look ask next) n = (m : Option ℕ) → IsWithin b (next m) n
+IsWithin b (Then act note next) n = (m : ℕ) × (weight_at b act + m ≤ n) × ((out : ActOutcome) → IsWithin b (next out) m)
 
 -- arbitrators are parent-locked, as on every accepted board
 abbrev pub ArbitratorsArePassed : List Hop → Type 0

@@ -29,9 +29,10 @@ pub fn each_walk_settles_once()
     ensures { (b : BoardView) (t : TransferView) → Settles false (walk_for b t) }
 {}
 
-/// No walk has more steps than its transfer's cost, with the settle counted as one.
+/// No walk has more steps and bytes than its transfer's cost, with the settle counted as one step. A message counts one
+/// and as many bytes as it asks for; of a counted read those that it counts come on top, up to the board's limit.
 pub fn each_walk_keeps_to_its_cost()
-    ensures { (b : BoardView) (t : TransferView) → IsPlainBoard b → MeetsRules b → 0 < length t.msgs → IsWithin (walk_for b t) (cost_of b t - 1) }
+    ensures { (b : BoardView) (t : TransferView) → IsPlainBoard b → MeetsRules b → 0 < length t.msgs → IsWithin b (walk_for b t) (cost_of b t - 1) }
 {
     an_accepted_board_is_a_tree();
 }
