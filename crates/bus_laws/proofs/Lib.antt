@@ -46,6 +46,7 @@ pub mod DevicesSaid
 pub mod DevicesReach
 pub mod WalkCalls
 pub mod WalkFirst
+pub mod WalkJobs
 pub mod AskedLaws
 pub mod DevicesPast
 -- No other message stands inside a transfer.

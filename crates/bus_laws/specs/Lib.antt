@@ -8,6 +8,7 @@ pub mod Settles
 pub mod Alike
 pub mod Left
 pub mod Calls
+pub mod Jobs
 pub mod Ready
 pub mod Wrong
 pub mod Costs

@@ -34,6 +34,7 @@ pub use next::{
 pub use targets::each_message_reaches_its_target;
 pub use walks::{
     each_walk_keeps_its_path_open, each_walk_keeps_to_its_cost, each_walk_settles_once,
+    each_walk_stays_on_its_root,
 };
 pub use wrong::{
     a_closed_channel_lets_nothing_through, a_forgotten_mark, a_lock_is_taken_by_one_caller,

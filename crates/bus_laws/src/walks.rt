@@ -7,6 +7,7 @@ ghost use Rattle.bus_laws.specs.Lines.{LinesAreLocked};
 ghost use Rattle.bus_laws.specs.Runs.{Runs};
 ghost use Rattle.bus_laws.specs.Settles.{Settles};
 ghost use Rattle.bus_laws.specs.Costs.{IsWithin};
+ghost use Rattle.bus_laws.specs.Jobs.{EachJob, IsJobOf, HasNoLine};
 ghost use Rattle.i2c_spec.specs.Cost.{cost_of};
 ghost use Rattle.i2c_spec.specs.Rules.{MeetsRules};
 ghost use Rattle.i2c_spec.specs.Plain.{IsPlainBoard};
@@ -29,10 +30,21 @@ pub fn each_walk_settles_once()
     ensures { (b : BoardView) (t : TransferView) → Settles false (walk_for b t) }
 {}
 
-/// No walk has more steps and bytes than its transfer's cost, with the settle counted as one step. A message counts one
-/// and as many bytes as it asks for; of a counted read those that it counts come on top, up to the board's limit.
+/// No walk has more steps and bytes than its transfer's cost, with the settle counted as one step.
+///
+/// The bytes of a message are those that it asks for, of a counted read without those that it counts: for these the cost
+/// leaves the board's limit beside.
 pub fn each_walk_keeps_to_its_cost()
     ensures { (b : BoardView) (t : TransferView) → IsPlainBoard b → MeetsRules b → 0 < length t.msgs → IsWithin b (walk_for b t) (cost_of b t - 1) }
+{
+    an_accepted_board_is_a_tree();
+}
+
+/// Where no mux of the board is switched by a line, all that a walk sends goes to buses behind its transfer's root.
+///
+/// It sends its messages, and selects and closes muxes on its path; a mux is closed there too where it is marked.
+pub fn each_walk_stays_on_its_root()
+    ensures { (b : BoardView) (t : TransferView) → IsPlainBoard b → MeetsRules b → HasNoLine b → EachJob (IsJobOf b t) (walk_for b t) }
 {
     an_accepted_board_is_a_tree();
 }
