@@ -23,14 +23,14 @@ use Rattle.bus_laws.specs.Runs.{InLocks, IsCall}
 use Rattle.bus_laws.specs.Lines.{LinesAreLocked}
 use Rattle.bus_laws.specs.Reach.{AsksForMessages}
 use Rattle.bus_laws.specs.Settles.{Settles}
-use Rattle.bus_laws.specs.Calls.{CallsOf, IsAsked}
+use Rattle.bus_laws.specs.Calls.{FirstCalls, CallsOf, IsAsked}
 use Rattle.bus_laws.specs.Left.{calls_behind}
 use Rattle.bus_laws.proofs.TreeSlots.{eqb-apart}
 use Rattle.bus_laws.proofs.StandsStep.{at_same, at_other}
 use Rattle.bus_laws.proofs.StandsEntries.{first_is}
 use Rattle.bus_laws.proofs.WorldSends.{length-messages}
 use Rattle.bus_laws.proofs.AskedLaws.{current-asked, past-asked}
-use Rattle.bus_laws.proofs.WalkFirst.{FirstCalls, settled-first, walk-first, first_seen}
+use Rattle.bus_laws.proofs.WalkFirst.{settled-first, walk-first, first_seen}
 use Rattle.bus_laws.proofs.WholeLaw.{AreInside, Between, past-inside, some_is, alone, sent_rooted, call_goes, inside_next, other_caller, entry_between}
 
 -- so many messages stand before the one that comes next

@@ -43,7 +43,7 @@ no_settle (Then (Send job left) note next) verdict h e = (let f : Some (Send job
 no_settle (Then (Shift job) note next) verdict h e = (let f : Some (Shift job) ≡ Some (Settle verdict) = e in cc)
 no_settle (Then (Settle v) note next) verdict h e = h
 
-sends_next : (w : WalkTree) (job : Job) (left : ℕ) → first_act w ≡ Some (Send job left) → NoSettle w
+pub sends_next : (w : WalkTree) (job : Job) (left : ℕ) → first_act w ≡ Some (Send job left) → NoSettle w
 sends_next Ends job left e = tt
 sends_next (Look ask next) job left e = absurd (let f : None ≡ Some (Send job left) = e in cc)
 sends_next (Then (Take l) note next) job left e = tt

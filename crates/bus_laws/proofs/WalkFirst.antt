@@ -3,7 +3,6 @@
 use Rattle.std.proofs.Common.{◌≡◌, ℕ, zero, suc, Bool, true, false, cond, ◌&&◌, List, [], ◌∷◌, Option, Some, None, refl}
 use Rattle.i2c_base.specs.declared.ids.LockId.{LockId}
 use Rattle.i2c_base.specs.declared.errno.Errno.{Errno}
-use Rattle.i2c_base.specs.declared.entry.End.{End}
 use Rattle.i2c_base.specs.Board.{BoardView}
 use Rattle.i2c_base.specs.Transfer.{TransferView}
 use Rattle.i2c_spec.specs.Tree.{Hop, hops, root_of, locks_of}
@@ -13,18 +12,7 @@ use Rattle.bus_spec.specs.Walk.{Job, Call, Select, Clear, Take, Free, Send, Shif
 use Rattle.bus_spec.specs.Slots.{Slots, mark_in}
 use Rattle.bus_spec.specs.Grammar.{Doer, settled, over, by_go, messages, at_bus, locked, part, with_mark, aside, if_sent, if_good, kind_of, closing, opened, chosen, behind, inner, walk_by, walk_for, plain, seen}
 use Rattle.bus_laws.specs.Settles.{Settles}
-
--- a walk that hasn't sent a message of its caller's sends the first one first
-abbrev pub FirstCalls : WalkTree → Type 0
-FirstCalls Ends = Unit {0}
-FirstCalls (Look ask next) = (m : Option ℕ) → FirstCalls (next m)
-FirstCalls (Then (Take l) note next) = FirstCalls (next Passed)
-FirstCalls (Then (Free l) note next) = FirstCalls (next Passed)
-FirstCalls (Then (Send (Call bus messages) left) note next) = left ≡ more_of (Call bus messages)
-FirstCalls (Then (Send (Select h) left) note next) = (e : End) (bytes : List ℕ) → FirstCalls (next (Sent e bytes))
-FirstCalls (Then (Send (Clear on mux kind) left) note next) = (e : End) (bytes : List ℕ) → FirstCalls (next (Sent e bytes))
-FirstCalls (Then (Shift job) note next) = (failed : Bool) → FirstCalls (next (Lined failed))
-FirstCalls (Then (Settle verdict) note next) = FirstCalls (next Passed)
+use Rattle.bus_laws.specs.Calls.{FirstCalls}
 
 -- behind the settle none is sent
 pub settled-first : (w : WalkTree) → Settles true w → FirstCalls w

@@ -1,12 +1,13 @@
--- Whose messages a walk sends.
+-- Whose messages a walk sends, and which one first.
 use Rattle.std.specs.Prelude.{◌≡◌, ℕ, Bool, true, false, List, Option, Some, None}
+use Rattle.i2c_base.specs.declared.entry.End.{End}
 use Rattle.i2c_base.specs.declared.reply.Reply.{Reply}
 use Rattle.i2c_base.specs.Board.{BoardView}
 use Rattle.i2c_base.specs.Transfer.{TransferView}
 use Rattle.i2c_spec.specs.Tree.{hops, IsAmongHops}
 use Rattle.i2c_spec.specs.Flat.{refusal}
 use Rattle.i2c_spec.specs.History.{Asks}
-use Rattle.bus_spec.specs.Walk.{Job, Call, Select, Clear, Take, Free, Send, Shift, Settle, ActOutcome, Note, WalkTree, Ends, Look, Then}
+use Rattle.bus_spec.specs.Walk.{Job, Call, Select, Clear, Take, Free, Send, Shift, Settle, ActOutcome, Passed, Sent, Lined, Note, WalkTree, Ends, Look, Then, more_of}
 use Rattle.bus_laws.specs.Runs.{IsGranted}
 use Rattle.bus_laws.specs.Settles.{Settles}
 
@@ -30,6 +31,18 @@ CallsOf b t (Then (Take l) note next) = (out : ActOutcome) → CallsOf b t (next
 CallsOf b t (Then (Free l) note next) = (out : ActOutcome) → CallsOf b t (next out)
 CallsOf b t (Then (Shift job) note next) = IsOnWay b t note job × ((out : ActOutcome) → CallsOf b t (next out))
 CallsOf b t (Then (Settle verdict) note next) = (out : ActOutcome) → CallsOf b t (next out)
+
+-- a walk that hasn't sent a message of its caller's sends the first one first
+abbrev pub FirstCalls : WalkTree → Type 0
+FirstCalls Ends = Unit {0}
+FirstCalls (Look ask next) = (m : Option ℕ) → FirstCalls (next m)
+FirstCalls (Then (Take l) note next) = FirstCalls (next Passed)
+FirstCalls (Then (Free l) note next) = FirstCalls (next Passed)
+FirstCalls (Then (Send (Call bus messages) left) note next) = left ≡ more_of (Call bus messages)
+FirstCalls (Then (Send (Select h) left) note next) = (e : End) (bytes : List ℕ) → FirstCalls (next (Sent e bytes))
+FirstCalls (Then (Send (Clear on mux kind) left) note next) = (e : End) (bytes : List ℕ) → FirstCalls (next (Sent e bytes))
+FirstCalls (Then (Shift job) note next) = (failed : Bool) → FirstCalls (next (Lined failed))
+FirstCalls (Then (Settle verdict) note next) = FirstCalls (next Passed)
 
 -- what is left of a caller's walk: until it has settled, it is of the transfer that its caller asks for
 pub record IsAsked (b : BoardView) (asks : Asks) (c : ℕ) (walk : WalkTree) (settled : List Reply) : Type 0 where

@@ -1,6 +1,7 @@
 -- How often a walk settles, and where. It knows nothing of locks, buses and worlds.
-use Rattle.std.specs.Prelude.{◌≡◌, ℕ, zero, suc, Bool, true, false, ◌⊎◌, List, Option, Some, if◌then◌else◌}
+use Rattle.std.specs.Prelude.{◌≡◌, ℕ, zero, suc, Bool, true, false, ◌⊎◌, List, Option, Some, None, if◌then◌else◌}
 use Rattle.i2c_base.specs.declared.entry.End.{End}
+use Rattle.i2c_base.specs.declared.entry.End.TheVariants as end
 use Rattle.i2c_spec.specs.Messages.{MessageView}
 use Rattle.bus_spec.specs.Walk.{Job, Call, Select, Clear, Take, Free, Send, Shift, Settle, ActOutcome, Passed, Sent, Lined, WalkTree, Ends, Look, Then, Note, Over, goes, job_outcome, decides, verdict_of}
 use Rattle.bus_spec.specs.Grammar.{first_act}
@@ -46,6 +47,12 @@ abbrev pub GoesOn : Note → Job → ℕ → ActOutcome → WalkTree → Type 0
 GoesOn note (Call bus messages) left out w = CallGoesOn bus messages left out w
 GoesOn note (Select h) left out w = IsDecided note (Select h) left out w
 GoesOn note (Clear on mux kind) left out w = IsDecided note (Clear on mux kind) left out w
+
+-- behind a message the walk settles as it decides: without an error only where it was the last of the caller's messages
+-- and went through
+pub record FollowsSend (job : Job) (left : ℕ) (e : End) (bytes : List ℕ) (w : WalkTree) : Type 0 where
+  pub settles : first_act w ≡ Some (Settle (verdict_of job left (Sent e bytes)))
+  pub whole : verdict_of job left (Sent e bytes) ≡ None → (bus : ℕ) × (messages : List MessageView) × (job ≡ Call bus messages) × (left ≡ 0) × (e ≡ end.Ok)
 
 -- a walk that has settled, or hasn't, settles once: directly behind a message or a line step, and before its end
 abbrev pub Settles : Bool → WalkTree → Type 0
