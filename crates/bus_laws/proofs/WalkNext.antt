@@ -37,6 +37,12 @@ module _ (P : WalkTree → Type 0) (w : WalkTree) (act : Act) (first : first_act
   at_rest : (out : ActOutcome) → P (next_at out) → P (rest_of w out)
   at_rest out h = subst (λ (x : WalkTree). P (rest_of x out)) (sym (first_is w act first).2) h
 
+-- a walk whose next step is known has no look in front
+pub seen-first : (v : Slots) (w : WalkTree) (act : Act) → first_act w ≡ Some act → seen v w ≡ w
+seen-first v Ends act first = absurd (let f : None ≡ Some act = first in cc)
+seen-first v (Look ask next) act first = absurd (let f : None ≡ Some act = first in cc)
+seen-first v (Then a note next) act first = refl
+
 -- WEIGHTS: a step leaves of the bound what it doesn't weigh
 within_seen : (b : BoardView) (v : Slots) (w : WalkTree) (n : ℕ) → IsWithin b w n → IsWithin b (seen v w) n
 within_seen b v Ends n h = h
