@@ -52,11 +52,11 @@ module _ (b : BoardView) (P : Job → Type 0) where
   )
 
   bus_jobs : DoerJobs at_bus
-  bus_jobs job note k own hk = by (is_line job)
+  bus_jobs job note k own hk = by (is_line job) refl
     where
-      by : (x : Bool) → EachJob P (cond x (Then (Shift job) note (over job zero note k)) (messages (more_of job) job note k))
-      by true = (own, over_jobs job zero note k hk)
-      by false = messages_jobs (more_of job) job note k own hk
+      by : (x : Bool) → is_line job ≡ x → EachJob P (cond x (Then (Shift job) note (over job zero note k)) (messages (more_of job) job note k))
+      by true line = (line, own, over_jobs job zero note k hk)
+      by false line = messages_jobs (more_of job) job note k own hk
 
   locked_jobs : (ls : List LockId) (on : Doer) → DoerJobs on → DoerJobs (locked ls on)
   locked_jobs [] on hon job note k own hk = hon job note k own hk

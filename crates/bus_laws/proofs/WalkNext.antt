@@ -9,7 +9,7 @@ use Rattle.i2c_base.specs.Board.{BoardView}
 use Rattle.i2c_base.specs.Transfer.{TransferView}
 use Rattle.i2c_spec.specs.Tree.{Hop}
 use Rattle.i2c_spec.specs.Messages.{MessageView}
-use Rattle.bus_spec.specs.Walk.{Job, Call, Select, Clear, Act, Take, Free, Send, Shift, Settle, ActOutcome, Passed, Sent, MarkOf, Note, WalkTree, Ends, Look, Then, decides, more_of, sent_outcome, ok_outcome, sent_errno, ok_errno, Good}
+use Rattle.bus_spec.specs.Walk.{Job, Call, Select, Clear, Act, Take, Free, Send, Shift, Settle, ActOutcome, Passed, Sent, MarkOf, Note, WalkTree, Ends, Look, Then, decides, more_of, is_line, sent_outcome, ok_outcome, sent_errno, ok_errno, Good}
 use Rattle.bus_spec.specs.Slots.{Slots, mark_in}
 use Rattle.bus_spec.specs.Grammar.{seen, first_act, rest_of}
 use Rattle.bus_laws.specs.Runs.{IsCall}
@@ -66,7 +66,7 @@ module _ (P : Job → Type 0) where
   jobs_behind (Take l) note next h out = h out
   jobs_behind (Free l) note next h out = h out
   jobs_behind (Send job left) note next h out = h.1 out
-  jobs_behind (Shift job) note next h out = h.1 out
+  jobs_behind (Shift job) note next h out = h.2 out
   jobs_behind (Settle verdict) note next h out = h out
 
   pub jobs-next : (v : Slots) (w : WalkTree) → EachJob P w → (act : Act) → first_act (seen v w) ≡ Some act → (out : ActOutcome) → EachJob P (rest_of (seen v w) out)
@@ -78,8 +78,10 @@ module _ (P : Job → Type 0) where
   pub job-sent : (v : Slots) (w : WalkTree) → EachJob P w → (job : Job) (left : ℕ) → first_act (seen v w) ≡ Some (Send job left) → P job
   job-sent v w h job left first = (at_first (EachJob P) (seen v w) (Send job left) first (jobs_seen v w h)).0
 
-  pub job-shifted : (v : Slots) (w : WalkTree) → EachJob P w → (job : Job) → first_act (seen v w) ≡ Some (Shift job) → P job
-  job-shifted v w h job first = (at_first (EachJob P) (seen v w) (Shift job) first (jobs_seen v w h)).0
+  pub job-shifted : (v : Slots) (w : WalkTree) → EachJob P w → (job : Job) → first_act (seen v w) ≡ Some (Shift job) → (is_line job ≡ true) × P job
+  job-shifted v w h job first =
+      let here = at_first (EachJob P) (seen v w) (Shift job) first (jobs_seen v w h) in
+      (here.0, here.1)
 
 -- THE CALLER'S MESSAGES are those of its transfer
 module _ (b : BoardView) (t : TransferView) (v : Slots) (w : WalkTree) (calls : CallsOf b t w) where
