@@ -3,7 +3,7 @@ ghost use Rattle.std.specs.List.{list_any};
 ghost use Rattle.i2c_base.specs.Board.{BoardView};
 ghost use Rattle.i2c_spec.specs.Messages.{MessageView};
 ghost use Rattle.bus_spec.specs.Walk.{JobOutcome, ActOutcome};
-ghost use Rattle.bus_spec.specs.Grammar.{at_bus, lost as lost_of, first_act, chosen, opened, over, seen, rest_of};
+ghost use Rattle.bus_spec.specs.Grammar.{at_bus, lost as lost_of, is_over, first_act, chosen, opened, over, seen, rest_of};
 ghost use Rattle.mux_plan.specs.Plans.{CourseView, job_of, came_of, outcome_of, note_of, on_bus, tree_of, action_of, slots_of, part_task, crossed_tasks, switch_of};
 ghost use Rattle.mux_plan.specs.Plans as plans;
 ghost use Rattle.mux_plan.specs.Rooms.{IsNarrow, IsNarrowWork, IsPlanned, IsReady, IsStep};
@@ -389,6 +389,14 @@ impl Parts {
         ensures course { self.new.course ≡ self.old.course }
     {
         'waiting: while self.wake() {}
+    }
+
+    /// No task is left, and so no step.
+    pub fn is_over(&self) -> bool
+        requires ready { IsReady self.now.stack }
+        ensures { (b : BoardView) (ms : List MessageView) → result ≡ is_over (tree_of b ms self.now.course self.now.stack (came_of self.now.came)) }
+    {
+        self.stack.is_empty()
     }
 
     /// The first action, where these marks answer the looks in front of it.

@@ -1,4 +1,4 @@
-ghost use Rattle.std.specs.Prelude.{◌≡◌, ◌<◌, List, [], ◌∷◌, length, reverse, drop, IfSome, IfNone};
+ghost use Rattle.std.specs.Prelude.{◌≡◌, ◌<◌, true, false, List, [], ◌∷◌, length, reverse, drop, IfSome, IfNone};
 
 use arrayvec::ArrayVec;
 use std::marker::Model;
@@ -48,6 +48,14 @@ impl<T: Copy + Default> Stack<T> {
         ensures { reverse result.now ≡ self.now }
     {
         self.items.as_slice()
+    }
+
+    /// No task is left.
+    pub fn is_empty(&self) -> bool
+        ensures empty { result ≡ true → self.now ≡ [] }
+        ensures some { result ≡ false → 0 < length self.now }
+    {
+        self.items.is_empty()
     }
 
     /// The task on the top, if there is one.

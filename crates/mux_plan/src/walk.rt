@@ -4,7 +4,7 @@ ghost use Rattle.i2c_base.specs.Transfer.{TransferView};
 ghost use Rattle.i2c_spec.specs.Messages.{MessageView, messages_of};
 ghost use Rattle.i2c_spec.specs.Tree.{hops, root_of};
 ghost use Rattle.bus_spec.specs.Walk.{Call, Ends};
-ghost use Rattle.bus_spec.specs.Grammar.{full, plain, walk_by, seen, first_act, rest_of};
+ghost use Rattle.bus_spec.specs.Grammar.{full, plain, walk_by, is_over, seen, first_act, rest_of};
 ghost use Rattle.mux_plan.specs.Plans.{walk_of, slots_of, action_of, outcome_of};
 ghost use Rattle.mux_plan.specs.Rooms.{IsNarrow};
 
@@ -66,12 +66,37 @@ impl Walk {
         }
     }
 
+    /// A walk that has ended: what a caller has between two transfers.
+    pub fn ended() -> Self
+        ensures { (b : BoardView) (ms : List MessageView) → walk_of b ms result ≡ Ends }
+    {
+        Walk {
+            parts: Parts {
+                course: Course {
+                    root: SegId(0),
+                    path: ArrayVec::new(),
+                    bus: SegId(0),
+                    count: 0,
+                },
+                stack: Stack::new(),
+                came: Came::Good,
+            },
+        }
+    }
+
     /// The next action, where each bus has this mark: the first step of the walk behind its looks.
     pub fn next(&self, board: &Board, marks: &[Option<MuxId>]) -> Action
         ensures { (ms : List MessageView) → length ms ≡ self.now.course.count
             → result ≡ action_of (first_act (seen (slots_of marks.now) (walk_of board.now ms self.now))) }
     {
         self.parts.first(board, marks)
+    }
+
+    /// No action is left.
+    pub fn is_over(&self) -> bool
+        ensures { (b : BoardView) (ms : List MessageView) → result ≡ is_over (walk_of b ms self.now) }
+    {
+        self.parts.is_over()
     }
 
     /// Goes on behind the next action, which had this outcome; the marks are those from before it.
