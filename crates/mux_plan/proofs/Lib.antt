@@ -1,5 +1,6 @@
--- Opening a task changes the stack and not its tree; how each step's outcome goes on; that a stack has room; and that a walk
--- with a task has a step to come.
+-- Opening a task changes the stack and not its tree; how each step's outcome goes on; that a stack has room; that a walk
+-- with a task has a step to come; and that marks tell what is known.
 pub mod Openings
 pub mod Rooms
 pub mod StepsLeft
+pub mod MarksTold

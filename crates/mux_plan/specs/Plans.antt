@@ -1,5 +1,5 @@
 -- What a stack of tasks stands for: a walk of the grammar. Each kind of task is one line.
-use Rattle.std.specs.Prelude.{ℕ, zero, suc, Bool, true, false, List, [], ◌∷◌, drop, Option, Some, None, slice_index_or, if◌then◌else◌}
+use Rattle.std.specs.Prelude.{◌≡◌, ◌<◌, ℕ, zero, suc, Bool, true, false, List, [], ◌∷◌, length, drop, Option, Some, None, slice_index_or, if◌then◌else◌}
 use Rattle.i2c_base.specs.declared.ids.LockId.{LockId}
 use Rattle.i2c_base.specs.declared.ids.LockId.TheVariants as lock
 use Rattle.i2c_base.specs.Board.{BoardView}
@@ -8,7 +8,7 @@ use Rattle.i2c_spec.specs.Chips.{select_value, close_value}
 use Rattle.i2c_spec.specs.Messages.{MessageView}
 use Rattle.bus_spec.specs.Walk.{Job, Call, Select, Clear, Act, ActOutcome, JobOutcome, Note, WalkTree, Go, Ends, Then, job_bus, job_purpose, part_of, parts_of, line_mux, line_level}
 use Rattle.bus_spec.specs.Walk as walk
-use Rattle.bus_spec.specs.Slots.{MuxSlot, Clean, Marked, Slots}
+use Rattle.bus_spec.specs.Slots.{MuxSlot, Clean, Marked, Slots, mark_in, after_job}
 use Rattle.bus_spec.specs.Grammar.{Doer, plain, over, locked, part, messages, with_mark, aside, if_sent, if_good, opened, chosen, inner, kind_of, seen, first_act}
 use Rattle.mux_plan.specs.declared.task.Work.{Work}
 use Rattle.mux_plan.specs.declared.task.Work.TheVariants as work
@@ -144,6 +144,19 @@ slot_of None = Clean
 
 abbrev pub slots_of : List (Option ℕ) → Slots
 slots_of marks p = record { slot = slot_of (slice_index_or marks p None) }
+
+-- these marks tell what is known of the bus of each
+pub record TellsMarks (v : Slots) (marks : List (Option ℕ)) : Type 0 where
+  pub at : (p : ℕ) → p < length marks → mark_in (v p).slot ≡ slice_index_or marks p None
+
+-- what is known behind a step, which marks so much where it fails by the port
+abbrev pub slots_after : Option Act → Note → ActOutcome → Slots → Slots
+slots_after None note out v = v
+slots_after (Some (walk.Take l)) note out v = v
+slots_after (Some (walk.Free l)) note out v = v
+slots_after (Some (walk.Send job left)) note out v = after_job job left note.marks out v
+slots_after (Some (walk.Shift job)) note out v = after_job job zero note.marks out v
+slots_after (Some (walk.Settle verdict)) note out v = v
 
 -- the byte that a control message writes
 abbrev pub select_byte : Hop → ℕ → Option ℕ

@@ -1,12 +1,13 @@
 //! The walk of a transfer: which lock, message or line a caller takes next, on a bus behind any muxes.
 //!
 //! Its public contract: a `Walk` stands for a tree of `bus_spec`'s grammar, `next` is the first step of that tree
-//! behind its looks, and `report` leaves what follows the step's outcome. Definitions: `specs/Plans.antt`, and the
-//! grammar itself in `bus_spec`. Standard: Linux i2c-topology.
+//! behind its looks, and `report` leaves what follows the step's outcome, and tells the marks what has become of them.
+//! Definitions: `specs/Plans.antt`, and the grammar itself in `bus_spec`. Standard: Linux i2c-topology.
 #![tactic(auto)]
 
 mod course;
 mod laws;
+mod marks;
 mod parts;
 mod stack;
 mod task;

@@ -3,13 +3,15 @@ ghost use Rattle.std.specs.List.{list_any};
 ghost use Rattle.i2c_base.specs.Board.{BoardView};
 ghost use Rattle.i2c_spec.specs.Messages.{MessageView};
 ghost use Rattle.bus_spec.specs.Walk.{JobOutcome, ActOutcome};
-ghost use Rattle.bus_spec.specs.Grammar.{at_bus, lost as lost_of, is_over, first_act, chosen, opened, over, seen, rest_of};
-ghost use Rattle.mux_plan.specs.Plans.{CourseView, job_of, came_of, outcome_of, note_of, on_bus, tree_of, action_of, slots_of, part_task, crossed_tasks, switch_of};
+ghost use Rattle.bus_spec.specs.Slots.{Slots};
+ghost use Rattle.bus_spec.specs.Grammar.{at_bus, lost as lost_of, is_over, first_act, first_note, chosen, opened, over, seen, rest_of};
+ghost use Rattle.mux_plan.specs.Plans.{CourseView, job_of, came_of, outcome_of, note_of, on_bus, tree_of, action_of, slots_of, part_task, crossed_tasks, switch_of, TellsMarks, slots_after};
 ghost use Rattle.mux_plan.specs.Plans as plans;
 ghost use Rattle.mux_plan.specs.Rooms.{IsNarrow, IsNarrowWork, IsPlanned, IsReady, IsStep};
 ghost use Rattle.mux_plan.specs.declared.task.Task.TheVariants.{Enter, Lock, Rest, AwaitClose, AwaitSelect, AwaitWork};
 
 use crate::course::{is_parent, switch, waiting};
+use crate::marks::mark_work;
 use crate::stack::Stack;
 use crate::work::Follow;
 use crate::{Action, Came, Course, Outcome, Task, Work};
@@ -213,6 +215,23 @@ impl Parts {
             }),
             Follow::Last => self.stack.push(Task::Rest { left: 0, work }),
             Follow::Over => self.end(left, work, outcome),
+        }
+    }
+
+    /// What the marks become where the step on the top has this outcome.
+    pub fn mark(&self, marks: &mut [Option<MuxId>], outcome: &Outcome)
+        requires step { IsStep self.now.stack }
+        ensures told { (b : BoardView) (ms : List MessageView) (out : JobOutcome) (v : Slots) → TellsMarks v marks.old
+            → TellsMarks (slots_after (first_act (tree_of b ms self.now.course self.now.stack out)) (first_note (tree_of b ms self.now.course self.now.stack out)) (outcome_of outcome.now) v) marks.new }
+        ensures count { length marks.new ≡ length marks.old }
+    {
+        let Some((top, below)) = self.stack.split() else {
+            return;
+        };
+        match top {
+            Task::Rest { work, .. } => mark_work(marks, below, work, outcome),
+            Task::Line { work } => mark_work(marks, below, work, outcome),
+            _ => {}
         }
     }
 

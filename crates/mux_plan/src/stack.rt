@@ -50,6 +50,14 @@ impl<T: Copy + Default> Stack<T> {
         self.items.as_slice()
     }
 
+    /// The task on the top, and those below it, the lowest first.
+    pub fn split(&self) -> Option<(&T, &[T])>
+        ensures some { IfSome result (λ p. self.now ≡ p.0.now ∷ reverse p.1.now) }
+        ensures none { IfNone result (self.now ≡ []) }
+    {
+        self.items.as_slice().split_last()
+    }
+
     /// No task is left.
     pub fn is_empty(&self) -> bool
         ensures empty { result ≡ true → self.now ≡ [] }

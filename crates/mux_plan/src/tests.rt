@@ -100,7 +100,7 @@ fn check(
     rt: &impl Abort,
     board: &Board,
     walk: &mut Walk,
-    marks: &[Option<MuxId>],
+    marks: &mut [Option<MuxId>],
     rows: &[(Action, End, u8)],
 ) {
     for (wanted, end, byte) in rows {
@@ -128,7 +128,7 @@ fn a_parent_locked_mux_is_selected_and_deselected_under_all_locks(
         (Action::Free(MUX), End::Ok, 0),
         (Action::Done, End::Ok, 0),
     ];
-    check(&rt, &board, &mut walk, &[None], &rows);
+    check(&rt, &board, &mut walk, &mut [None], &rows);
     Ok(())
 }
 
@@ -152,7 +152,7 @@ fn a_mux_locked_mux_lets_others_in_between_its_parts(rt: HostRuntime) -> Result<
         (Action::Free(MUX), End::Ok, 0),
         (Action::Done, End::Ok, 0),
     ];
-    check(&rt, &board, &mut walk, &[None], &rows);
+    check(&rt, &board, &mut walk, &mut [None], &rows);
     Ok(())
 }
 
@@ -176,7 +176,7 @@ fn an_absent_inner_mux_is_not_deselected(rt: HostRuntime) -> Result<(), Fail> {
         (Action::Free(LockId::Mux(SegId(1))), End::Ok, 0),
         (Action::Done, End::Ok, 0),
     ];
-    check(&rt, &board, &mut walk, &[None, None], &rows);
+    check(&rt, &board, &mut walk, &mut [None, None], &rows);
     Ok(())
 }
 
@@ -199,7 +199,7 @@ fn polled(rt: &impl Abort, board: &Board) -> Walk {
         held(),
         held(),
     ];
-    check(rt, board, &mut walk, &[None], &rows);
+    check(rt, board, &mut walk, &mut [None], &rows);
     walk
 }
 
@@ -220,7 +220,7 @@ fn an_arbitrator_is_switched_where_the_eighth_poll_finds_it_free(
         (Action::Free(MUX), End::Ok, 0),
         (Action::Done, End::Ok, 0),
     ];
-    check(&rt, &board, &mut walk, &[None], &rows);
+    check(&rt, &board, &mut walk, &mut [None], &rows);
     Ok(())
 }
 
@@ -235,7 +235,7 @@ fn an_arbitrator_is_given_up_after_eight_polls(rt: HostRuntime) -> Result<(), Fa
         (Action::Free(MUX), End::Ok, 0),
         (Action::Done, End::Ok, 0),
     ];
-    check(&rt, &board, &mut walk, &[None], &rows);
+    check(&rt, &board, &mut walk, &mut [None], &rows);
     Ok(())
 }
 
@@ -257,8 +257,8 @@ fn a_marked_mux_is_closed_first(rt: HostRuntime) -> Result<(), Fail> {
         (Action::Free(MUX), End::Ok, 0),
         (Action::Done, End::Ok, 0),
     ];
-    check(&rt, &board, &mut walk, &[Some(MuxId(0))], &marked);
-    check(&rt, &board, &mut walk, &[None], &closed);
+    check(&rt, &board, &mut walk, &mut [Some(MuxId(0))], &marked);
+    check(&rt, &board, &mut walk, &mut [None], &closed);
     Ok(())
 }
 
@@ -275,7 +275,7 @@ fn a_failed_close_fails_the_transfer(rt: HostRuntime) -> Result<(), Fail> {
         (Action::Free(MUX), End::Ok, 0),
         (Action::Done, End::Ok, 0),
     ];
-    check(&rt, &board, &mut walk, &[Some(MuxId(0))], &rows);
+    check(&rt, &board, &mut walk, &mut [Some(MuxId(0))], &rows);
     Ok(())
 }
 
@@ -299,6 +299,6 @@ fn a_gpio_mux_is_switched_by_its_line(rt: HostRuntime) -> Result<(), Fail> {
         (Action::Free(MUX), End::Ok, 0),
         (Action::Done, End::Ok, 0),
     ];
-    check(&rt, &board, &mut walk, &[None], &rows);
+    check(&rt, &board, &mut walk, &mut [None], &rows);
     Ok(())
 }

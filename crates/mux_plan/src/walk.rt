@@ -4,8 +4,9 @@ ghost use Rattle.i2c_base.specs.Transfer.{TransferView};
 ghost use Rattle.i2c_spec.specs.Messages.{MessageView, messages_of};
 ghost use Rattle.i2c_spec.specs.Tree.{hops, root_of};
 ghost use Rattle.bus_spec.specs.Walk.{Call, Ends};
-ghost use Rattle.bus_spec.specs.Grammar.{full, plain, walk_by, is_over, seen, first_act, rest_of};
-ghost use Rattle.mux_plan.specs.Plans.{walk_of, slots_of, action_of, outcome_of};
+ghost use Rattle.bus_spec.specs.Slots.{Slots};
+ghost use Rattle.bus_spec.specs.Grammar.{full, plain, walk_by, is_over, seen, first_act, first_note, rest_of};
+ghost use Rattle.mux_plan.specs.Plans.{walk_of, slots_of, action_of, outcome_of, TellsMarks, slots_after};
 ghost use Rattle.mux_plan.specs.Rooms.{IsNarrow};
 
 use crate::parts::Parts;
@@ -99,13 +100,18 @@ impl Walk {
         self.parts.is_over()
     }
 
-    /// Goes on behind the next action, which had this outcome; the marks are those from before it.
-    pub fn report(&mut self, board: &Board, marks: &[Option<MuxId>], outcome: &Outcome)
+    /// Goes on behind the next action, which had this outcome. The marks are those from before it, and become those
+    /// from behind it.
+    pub fn report(&mut self, board: &Board, marks: &mut [Option<MuxId>], outcome: &Outcome)
         ensures tree { (ms : List MessageView) → length ms ≡ self.old.course.count
-            → walk_of board.now ms self.new ≡ rest_of (seen (slots_of marks.now) (walk_of board.now ms self.old)) (outcome_of outcome.now) }
+            → walk_of board.now ms self.new ≡ rest_of (seen (slots_of marks.old) (walk_of board.now ms self.old)) (outcome_of outcome.now) }
         ensures course { self.new.course ≡ self.old.course }
+        ensures told { (ms : List MessageView) → length ms ≡ self.old.course.count → (v : Slots) → TellsMarks v marks.old
+            → TellsMarks (slots_after (first_act (seen (slots_of marks.old) (walk_of board.now ms self.old))) (first_note (seen (slots_of marks.old) (walk_of board.now ms self.old))) (outcome_of outcome.now) v) marks.new }
+        ensures count { length marks.new ≡ length marks.old }
     {
         self.parts.look(board, marks);
+        self.parts.mark(marks, outcome);
         self.parts.act(outcome);
         self.parts.resume();
     }

@@ -1,0 +1,5 @@
+use Rattle.std.proofs.Common.{length}
+use Rattle.mux_plan.proofs.marks.+mark_open.Given as goal
+
+abbrev pub decreases-mark_open : goal.decreases-mark_open
+decreases-mark_open l = length l.tasks.now
