@@ -1,6 +1,7 @@
 -- Opening a task changes the stack and not its tree; how each step's outcome goes on; that a stack has room; that a walk
--- with a task has a step to come; and that marks tell what is known.
+-- with a task has a step to come; that marks tell what is known; and that the path of an accepted board fits.
 pub mod Openings
 pub mod Rooms
 pub mod StepsLeft
 pub mod MarksTold
+pub mod OpensFit

@@ -1,8 +1,8 @@
-ghost use Rattle.std.specs.Prelude.{◌≡◌, ◌≤◌, List, [], ◌∷◌, length, All, None};
+ghost use Rattle.std.specs.Prelude.{◌≡◌, ◌<◌, ◌≤◌, List, [], ◌∷◌, length, All, None};
 ghost use Rattle.i2c_base.specs.Board.{BoardView};
 ghost use Rattle.i2c_base.specs.Transfer.{TransferView};
 ghost use Rattle.i2c_spec.specs.Messages.{MessageView, messages_of};
-ghost use Rattle.i2c_spec.specs.Tree.{hops, root_of};
+ghost use Rattle.i2c_spec.specs.Tree.{buses, hops, root_of};
 ghost use Rattle.bus_spec.specs.Walk.{Call, Ends};
 ghost use Rattle.bus_spec.specs.Slots.{Slots};
 ghost use Rattle.bus_spec.specs.Grammar.{full, plain, walk_by, is_over, seen, first_act, first_note, rest_of};
@@ -13,8 +13,8 @@ use crate::parts::Parts;
 use crate::stack::Stack;
 use crate::{Action, Came, Course, Outcome, Task, Work};
 use arrayvec::ArrayVec;
-use i2c_base::{MuxId, SegId};
-use i2c_board::Board;
+use i2c_base::{MuxId, SegId, Transfer};
+use i2c_board::{Accepted, Board};
 use i2c_spec::Hop;
 use std::marker::Model;
 
@@ -36,8 +36,41 @@ impl Model for Walk {
 }
 
 impl Walk {
-    /// The walk of a transfer of so many messages on a bus at the end of these muxes, nearest first.
-    pub fn open(root: SegId, path: ArrayVec<Hop, 32>, bus: SegId, count: u8) -> Self
+    /// The walk of a transfer on a board that is accepted, where the transfer isn't refused.
+    pub fn open(board: &Accepted, transfer: &Transfer) -> Self
+        requires there { transfer.now.bus < buses board.now }
+        ensures course { result.course ≡ record { root = root_of board.now transfer.now.bus; path = hops board.now transfer.now.bus; bus = transfer.now.bus; count = length transfer.now.msgs } }
+        ensures count { length (messages_of transfer.now) ≡ result.course.count }
+        ensures tree { walk_of board.now (messages_of transfer.now) result ≡ walk_by board.now transfer.now None }
+    {
+        let bus = SegId(transfer.bus());
+        let count = transfer.msgs().len() as u8;
+        let board = board.board();
+        let root = board.root(bus);
+        let path = board.layout().hops(bus);
+        Walk::along(root, path, bus, count)
+    }
+
+    /// A walk that has ended: what a caller has between two transfers.
+    pub fn ended() -> Self
+        ensures { (b : BoardView) (ms : List MessageView) → walk_of b ms result ≡ Ends }
+    {
+        Walk {
+            parts: Parts {
+                course: Course {
+                    root: SegId(0),
+                    path: ArrayVec::new(),
+                    bus: SegId(0),
+                    count: 0,
+                },
+                stack: Stack::new(),
+                came: Came::Good,
+            },
+        }
+    }
+
+    // The walk of a transfer of so many messages on a bus at the end of these muxes, nearest first.
+    fn along(root: SegId, path: ArrayVec<Hop, 32>, bus: SegId, count: u8) -> Self
         requires deep { length path.items ≤ 4 }
         requires narrow { All IsNarrow path.items }
         ensures course { result.course ≡ record { root = root; path = path.items; bus = bus; count = count } }
@@ -62,24 +95,6 @@ impl Walk {
             parts: Parts {
                 course,
                 stack,
-                came: Came::Good,
-            },
-        }
-    }
-
-    /// A walk that has ended: what a caller has between two transfers.
-    pub fn ended() -> Self
-        ensures { (b : BoardView) (ms : List MessageView) → walk_of b ms result ≡ Ends }
-    {
-        Walk {
-            parts: Parts {
-                course: Course {
-                    root: SegId(0),
-                    path: ArrayVec::new(),
-                    bus: SegId(0),
-                    count: 0,
-                },
-                stack: Stack::new(),
                 came: Came::Good,
             },
         }
