@@ -1,4 +1,4 @@
-ghost use Rattle.std.specs.Prelude.{◌≡◌, ◌+◌, ◌<◌, ◌≤◌, ◌⊎◌, ℕ, true, false, List, [], ◌∷◌, length, drop, None, All, IfSome, IfNone, slice_index_or};
+ghost use Rattle.std.specs.Prelude.{◌≡◌, ◌≢◌, ◌+◌, ◌<◌, ◌≤◌, ◌⊎◌, ℕ, true, false, List, [], ◌∷◌, length, drop, None, All, IfSome, IfNone, slice_index_or};
 ghost use Rattle.i2c_base.specs.Board.{BoardView};
 ghost use Rattle.i2c_spec.specs.Messages.{MessageView};
 ghost use Rattle.bus_spec.specs.Walk.{JobOutcome, is_line};
@@ -8,6 +8,7 @@ ghost use Rattle.mux_plan.specs.Plans.{CourseView, job_of, tree_of, note_of, fir
 ghost use Rattle.mux_plan.specs.Rooms.{IsNarrow, IsNarrowWork, IsPlanned, IsStep};
 ghost use Rattle.mux_plan.specs.declared.task.Task.{Task};
 ghost use Rattle.mux_plan.specs.declared.task.Task.TheVariants.{Enter};
+ghost use Rattle.mux_plan.specs.declared.task.Action.TheVariants.{Done};
 
 use crate::{Action, Task, Work};
 use arrayvec::ArrayVec;
@@ -171,12 +172,13 @@ impl Course {
         self.base(work)
     }
 
-    /// The action of a task that is a step.
+    /// The action of a task that is a step, which is never Done.
     pub fn action(&self, task: Task) -> Action
         requires planned { IsPlanned self.now (task ∷ []) }
         requires step { IsStep (task ∷ []) }
-        ensures { (b : BoardView) (ms : List MessageView) → length ms ≡ self.now.count
+        ensures first { (b : BoardView) (ms : List MessageView) → length ms ≡ self.now.count
             → result ≡ action_of (first_act (tree_of b ms self.now (task ∷ []) walk.Good)) }
+        ensures more { result ≢ Done }
     {
         match task {
             Task::Lock { from, .. } => Action::Take(self.lock_at(from)),

@@ -9,6 +9,7 @@ ghost use Rattle.mux_plan.specs.Plans.{CourseView, job_of, came_of, outcome_of, 
 ghost use Rattle.mux_plan.specs.Plans as plans;
 ghost use Rattle.mux_plan.specs.Rooms.{IsNarrow, IsNarrowWork, IsPlanned, IsReady, IsStep};
 ghost use Rattle.mux_plan.specs.declared.task.Task.TheVariants.{Enter, Lock, Rest, AwaitClose, AwaitSelect, AwaitWork};
+ghost use Rattle.mux_plan.specs.declared.task.Action.TheVariants.{Done};
 
 use crate::course::{is_parent, switch, waiting};
 use crate::marks::mark_work;
@@ -418,12 +419,13 @@ impl Parts {
         self.stack.is_empty()
     }
 
-    /// The first action, where these marks answer the looks in front of it.
+    /// The first action, where these marks answer the looks in front of it. Done exactly where no task is left.
     pub fn first(&self, board: &Board, marks: &[Option<MuxId>]) -> Action
         requires planned { IsPlanned self.now.course self.now.stack }
         requires ready { IsReady self.now.stack }
-        ensures { (ms : List MessageView) → length ms ≡ self.now.course.count
+        ensures first { (ms : List MessageView) → length ms ≡ self.now.course.count
             → result ≡ action_of (first_act (seen (slots_of marks.now) (tree_of board.now ms self.now.course self.now.stack (came_of self.now.came)))) }
+        ensures over { result ≡ Done → self.now.stack ≡ [] }
     {
         let Some(task) = self.stack.top() else {
             return Action::Done;

@@ -1,4 +1,4 @@
-ghost use Rattle.std.specs.Prelude.{◌≡◌, ◌<◌, ◌≤◌, List, [], ◌∷◌, length, All, None};
+ghost use Rattle.std.specs.Prelude.{◌≡◌, ◌<◌, ◌≤◌, true, List, [], ◌∷◌, length, All, None};
 ghost use Rattle.i2c_base.specs.Board.{BoardView};
 ghost use Rattle.i2c_base.specs.Transfer.{TransferView};
 ghost use Rattle.i2c_spec.specs.Messages.{MessageView, messages_of};
@@ -8,6 +8,7 @@ ghost use Rattle.bus_spec.specs.Slots.{Slots};
 ghost use Rattle.bus_spec.specs.Grammar.{full, plain, walk_by, is_over, seen, first_act, first_note, rest_of};
 ghost use Rattle.mux_plan.specs.Plans.{walk_of, slots_of, action_of, outcome_of, TellsMarks, slots_after};
 ghost use Rattle.mux_plan.specs.Rooms.{IsNarrow};
+ghost use Rattle.mux_plan.specs.declared.task.Action.TheVariants.{Done};
 
 use crate::parts::Parts;
 use crate::stack::Stack;
@@ -100,10 +101,12 @@ impl Walk {
         }
     }
 
-    /// The next action, where each bus has this mark: the first step of the walk behind its looks.
+    /// The next action, where each bus has this mark: the first step of the walk behind its looks. Done exactly where
+    /// the walk is over.
     pub fn next(&self, board: &Board, marks: &[Option<MuxId>]) -> Action
-        ensures { (ms : List MessageView) → length ms ≡ self.now.course.count
+        ensures first { (ms : List MessageView) → length ms ≡ self.now.course.count
             → result ≡ action_of (first_act (seen (slots_of marks.now) (walk_of board.now ms self.now))) }
+        ensures over { result ≡ Done → (b : BoardView) (ms : List MessageView) → is_over (walk_of b ms self.now) ≡ true }
     {
         self.parts.first(board, marks)
     }

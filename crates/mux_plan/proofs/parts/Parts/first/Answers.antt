@@ -6,22 +6,22 @@ use Rattle.mux_plan.specs.Rooms.{IsReady}
 use Rattle.mux_plan.proofs.Openings.{first_at-any, first_of-step, ready-step}
 use Rattle.mux_plan.proofs.parts.Parts.first.Goals as goal
 
-pub returns-in-Enter : goal.returns-in-Enter
-returns-in-Enter c = λ ms long.
+pub returns-in-Enter-clause-first : goal.returns-in-Enter-clause-first
+returns-in-Enter-clause-first c = λ ms long.
     let s = c.args.self.now in
     let b = c.args.board.now in
     let v = slots_of c.args.marks.now in
-    c.action.ensures b ms long
+    c.action.ensures.first b ms long
     ∙ ap action_of (c.ahead-step.ensures.first ms long
     ∙ sym (first_at-any b ms s.course c.args.marks.now c.in-Enter.place c.in-Enter.work (drop 1 s.stack) (came_of s.came))
     ∙ ap (λ (ts : List Task). first_act (seen v (tree_of b ms s.course ts (came_of s.came)))) (sym (c.in-Some.ensures.some ∙ ap (λ (t : Task). t ∷ drop 1 s.stack) c.in-Enter.is)))
 
-pub returns-in_default-task : goal.returns-in_default-task
-returns-in_default-task c = λ ms long.
+pub returns-in_default-task-clause-first : goal.returns-in_default-task-clause-first
+returns-in_default-task-clause-first c = λ ms long.
     let s = c.args.self.now in
     let b = c.args.board.now in
     let v = slots_of c.args.marks.now in
     let e = c.in-Some.ensures.some in
-    c.action-in_default-task.ensures b ms long
+    c.action-in_default-task.ensures.first b ms long
     ∙ ap action_of (sym (first_of-step b ms s.course v c.in-Some.task (drop 1 s.stack) (came_of s.came) (ready-step c.in-Some.task (drop 1 s.stack) (subst IsReady e c.requires.ready) c.in_default-task.not-Enter))
     ∙ ap (λ (ts : List Task). first_act (seen v (tree_of b ms s.course ts (came_of s.came)))) (sym e))
