@@ -54,7 +54,8 @@ impl Walk {
 
     /// A walk that has ended: what a caller has between two transfers.
     pub fn ended() -> Self
-        ensures { (b : BoardView) (ms : List MessageView) → walk_of b ms result ≡ Ends }
+        ensures over { (b : BoardView) (ms : List MessageView) → walk_of b ms result ≡ Ends }
+        ensures count { result.course.count ≡ 0 }
     {
         Walk {
             parts: Parts {
