@@ -14,7 +14,7 @@ one_text o a b e f = let h : Some a ≡ Some b = sym e ∙ f in cc
 
 no_board : (file : Files) (name : List ℕ) → HasBoard file name → HasNoBoard file name → ⊥
 no_board file name b n =
-    n.not_plain b.addr b.place b.byte (subst (λ t. IsPlainText t b.addr b.place b.byte) (one_text (file name) b.text n.text b.there n.there) b.plain)
+    n.not_plain b.form (subst (λ t. IsPlainText t b.form) (one_text (file name) b.text n.text b.there n.there) b.plain)
 
 not_both : (r : Result (List CommandView) Place) (cs : List CommandView) (p : Place) → r ≡ Ok cs → r ≡ Err p → ⊥
 not_both r cs p e f = absurd (let h : Ok cs ≡ Err p = sym e ∙ f in cc)

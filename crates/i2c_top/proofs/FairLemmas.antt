@@ -1,5 +1,5 @@
 -- Scripts are fair callers, and how many steps they have left.
-use Rattle.std.proofs.Common.{◌≡◌, ℕ, ◌+◌, ◌*◌, ◌<◌, ◌≤◌, true, false, cond, List, [], ◌∷◌, ◌++◌, length, drop, reverse, get_or, Option, Some, None, refl, sym, ap, subst, ◌∙◌, length-drop, arith}
+use Rattle.std.proofs.Common.{◌≡◌, ℕ, ◌+◌, ◌*◌, ◌<◌, ◌≤◌, true, false, cond, List, [], ◌∷◌, ◌++◌, length, drop, get_or, Option, Some, None, refl, sym, ap, subst, ◌∙◌, length-drop, arith}
 use Rattle.std.specs.Prelude.{nat_lt, sum_by, slice_get}
 use Rattle.std.specs.Option.{option_map}
 use Rattle.std.proofs.lemmas.List.{length_push}
@@ -12,12 +12,14 @@ use Rattle.i2c_base.specs.Bytes.{IsByte}
 use Rattle.i2c_base.specs.Script.{ScriptView}
 use Rattle.i2c_base.specs.Transfer.{TransferView, IsTransfer, IsMessage, written, plain_read}
 use Rattle.i2c_spec.specs.Cost.{full_cost, steps_of, cost_of}
-use Rattle.i2c_spec.specs.Tree.{hops, hops_of, buses}
+use Rattle.i2c_spec.specs.Tree.{hops, buses}
 use Rattle.i2c_top.specs.declared.command.Get.{Get}
 use Rattle.i2c_top.specs.Commands.{CommandView}
 use Rattle.i2c_top.specs.Scripts.{commands_of, read_byte_of, cost_of_command, asked_by, left_of}
 use Rattle.i2c_top.specs.Callers.{ScriptsAreFair}
+use Rattle.i2c_top.specs.PlainForm.{IsFormBoard}
 use Rattle.i2c_top.proofs.CommandLemmas.{IsRead, commands_are_read}
+use Rattle.i2c_top.proofs.FormLemmas.{form_cost}
 
 -- what is asked for is the transfer of the next command
 record IsAsked (o : Option CommandView) (t : TransferView) : Type 0 where
@@ -77,14 +79,7 @@ scripts_fair =
       falls = λ s rs t r e fit. asked_falls s rs t r (next_command s rs t e);
     }
 
--- a command costs at most seven steps where no mux is crossed
-cost_bare : (b : BoardView) (g : Get) → b.muxes ≡ [] → cost_of b (read_byte_of g) ≤ 7
-cost_bare b g e =
-    let bare : hops b g.bus ≡ [] = ap (λ ms. hops_of (length b.roots) (reverse ms) g.bus) e in
-    let full : full_cost (hops b g.bus) (steps_of b (read_byte_of g)) ≡ 6 = ap (λ hs. full_cost hs (steps_of b (read_byte_of g))) bare in
-    elim (nat_lt g.bus (buses b)) as (λ v. cond v (1 + full_cost (hops b g.bus) (steps_of b (read_byte_of g))) 1 ≤ 7) [ true ↦ omega (arith, full) | false ↦ omega arith ]
-
-pub left_most : (s : ScriptView) (taken : List Reply) → s.board.muxes ≡ [] → left_of s taken ≤ 7 * length (commands_of s.text)
-left_most s taken e =
+pub left_most : (s : ScriptView) (taken : List Reply) → IsFormBoard s.board → left_of s taken ≤ 15 * length (commands_of s.text)
+left_most s taken f =
     let cs : List CommandView = drop (length taken) (commands_of s.text) in
-    omega (arith, sum_by-le (cost_of_command s.board) 7 cs (λ k d h. cost_bare s.board (get_or cs k d).get e), length-drop (length taken) (commands_of s.text))
+    omega (arith, sum_by-le (cost_of_command s.board) 15 cs (λ k d h. form_cost s.board (get_or cs k d).get f), length-drop (length taken) (commands_of s.text))

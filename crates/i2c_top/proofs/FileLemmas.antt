@@ -13,7 +13,7 @@ use Rattle.i2c_top.specs.declared.status.Status.TheVariants as status
 pub board_in : (file : Files) (name text : List ℕ) (b : BoardView) → file name ≡ Some text → IsBoardOf text b → IsBoardIn file name b
 board_in file name text b there h =
     record {
-      has = record { addr = h.addr; place = h.place; byte = h.byte; text = text; there = there; plain = h.plain };
+      has = record { form = h.form; text = text; there = there; plain = h.plain };
       same = h.same;
     }
 

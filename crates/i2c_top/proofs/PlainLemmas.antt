@@ -1,38 +1,48 @@
--- A board in the plain form is a board.
-use Rattle.std.proofs.Common.{◌≡◌, ℕ, ◌<◌, false, List, [], ◌∷◌, refl, arith}
-use Rattle.std.specs.Prelude.{All}
-use Rattle.std.proofs.lemmas.List.Elements.{All-cons}
-use Rattle.i2c_base.specs.Board.{DeviceView}
-use Rattle.i2c_base.specs.Bytes.{IsByte}
+-- A board in the plain form with a mux meets the rules of its tree.
+use Rattle.std.proofs.Common.{◌≡◌, ◌≢◌, ℕ, zero, suc, ◌<◌, ◌==◌, Bool, false, List, [], ◌∷◌, ◌++◌, refl, ap, ◌∙◌, arith}
+use Rattle.std.specs.Prelude.{◌&&◌}
+use Rattle.std.proofs.lemmas.Bool.Decides.{nat_tests}
+use Rattle.i2c_base.specs.Board.{BoardView, DeviceView}
 use Rattle.i2c_base.specs.declared.board.RootSpec.{RootSpec}
 use Rattle.i2c_base.specs.declared.board.MuxSpec.{MuxSpec}
-use Rattle.i2c_spec.specs.Plain.{IsPlainBoard, IsPlainDevice, IsPlainRun}
-use Rattle.i2c_top.specs.PlainForm.{plain_run, plain_device, plain_board}
+use Rattle.i2c_spec.specs.Rules.{MeetsRules, clashes}
+use Rattle.i2c_top.specs.PlainForm.{AreApart, plain_device, plain_mux, plain_board}
+use Rattle.i2c_top.specs.declared.plain.Plain.TheVariants as plain
+use Rattle.i2c_top.specs.declared.plain.PlainDevice.{PlainDevice}
 
-all_one : {X : Type 0} (P : X → Type 0) (x : X) → P x → All P (x ∷ [])
-all_one P x h = All-cons P x [] h (λ k d lt. absurd (omega arith))
+-- no two of the three items have one address
+differ : (a b : ℕ) (along : Bool) → a ≢ b → ((a == b) && along) ≡ false
+differ a b along n = grind (arith, nat_tests, n)
 
-run_is_plain : (place byte : ℕ) → place < 256 → byte < 256 → IsPlainRun 256 (plain_run place byte)
-run_is_plain place byte h k = record { some = omega arith; within = omega arith; bytes = all_one IsByte byte k }
+no_clash : (mux : ℕ) (near far : PlainDevice) → AreApart mux near.addr far.addr → (i j : ℕ) → i < j → j < 3 → clashes (plain_board (plain.Muxed mux near far)) i j ≡ false
+no_clash mux near far apart i zero h k = absurd (omega arith)
+no_clash mux near far apart zero (suc zero) h k = differ mux near.addr _ apart.first
+no_clash mux near far apart zero (suc (suc zero)) h k = differ mux far.addr _ apart.outer
+no_clash mux near far apart (suc zero) (suc zero) h k = absurd (omega arith)
+no_clash mux near far apart (suc zero) (suc (suc zero)) h k = differ near.addr far.addr _ apart.second
+no_clash mux near far apart (suc (suc i)) (suc zero) h k = absurd (omega arith)
+no_clash mux near far apart (suc (suc i)) (suc (suc zero)) h k = absurd (omega arith)
+no_clash mux near far apart i (suc (suc (suc j))) h k = absurd (omega arith)
 
-device_is_plain : (addr place byte : ℕ) → place < 256 → byte < 256 → IsPlainDevice (plain_device addr place byte)
-device_is_plain addr place byte h k = record { kind = omega arith; runs = all_one (IsPlainRun 256) (plain_run place byte) (run_is_plain place byte h k) }
+none_of_one : (test : ℕ → Bool) → test 0 ≡ false → (i : ℕ) → i < 1 → test i ≡ false
+none_of_one test e zero h = e
+none_of_one test e (suc i) h = absurd (omega arith)
 
-board_is_plain : (addr place byte : ℕ) → place < 256 → byte < 256 → IsPlainBoard (plain_board addr place byte)
-board_is_plain addr place byte h k =
+muxed_meets : (mux : ℕ) (near far : PlainDevice) → AreApart mux near.addr far.addr → MeetsRules (plain_board (plain.Muxed mux near far))
+muxed_meets mux near far apart =
     record {
-      version = refl;
-      some_root = omega arith;
-      most_roots = omega arith;
-      most_muxes = omega arith;
-      most_devices = omega arith;
-      muxes = λ i d l. absurd (omega arith);
-      devices = all_one IsPlainDevice (plain_device addr place byte) (device_is_plain addr place byte h k);
-      planted = tt;
-      placed = all_one (λ d. d.bus < 1) (plain_device addr place byte) (omega arith);
+      addresses = no_clash mux near far apart;
+      depths = none_of_one _ refl;
+      locks = none_of_one _ refl;
+      parents = none_of_one _ refl;
+      idles = none_of_one _ refl;
     }
 
-pub parts_are_plain : (roots : List RootSpec) (muxes : List MuxSpec) (devices : List DeviceView) (addr place byte : ℕ) → place < 256 → byte < 256
-    → roots ≡ record { smbus_only = false } ∷ [] → muxes ≡ [] → devices ≡ plain_device addr place byte ∷ []
-    → IsPlainBoard (record { version = 1; roots = roots; muxes = muxes; devices = devices })
-parts_are_plain roots muxes devices addr place byte h k r m d = rw (r, m, d) (board_is_plain addr place byte h k)
+pub two_pushed : {X : Type 0} (new old : List X) (x y first second : X) → new ≡ old ++ y ∷ [] → old ≡ x ∷ [] → x ≡ first → y ≡ second → new ≡ first ∷ second ∷ []
+two_pushed new old x y first second n o e f = n ∙ ap (λ xs. xs ++ y ∷ []) o ∙ ap (λ z. z ∷ y ∷ []) e ∙ ap (λ z. first ∷ z ∷ []) f
+
+-- as of the parts that the board is made of
+pub parts_meet : (b : BoardView) (roots : List RootSpec) (muxes : List MuxSpec) (devices : List DeviceView) (mux : ℕ) (near far : PlainDevice)
+    → b ≡ record { version = 1; roots = roots; muxes = muxes; devices = devices } → roots ≡ record { smbus_only = false } ∷ []
+    → muxes ≡ plain_mux mux ∷ [] → devices ≡ plain_device near ∷ plain_device far ∷ [] → AreApart mux near.addr far.addr → MeetsRules b
+parts_meet b roots muxes devices mux near far e r m d apart = rw (e, r, m, d) (muxed_meets mux near far apart)

@@ -1,13 +1,14 @@
 -- The pieces of a board's text. The one induction goes over the digits in front of a comma.
 use Rattle.std.proofs.Common.{◌≡◌, ℕ, suc, ◌+◌, ◌<◌, false, cond, eqb, List, [], ◌∷◌, ◌++◌, length, take, drop, Option, Some, None, refl, sym, ap, ◌∙◌, add-one, arith}
-use Rattle.std.specs.Prelude.{MatchOption, IfSome, ◌≢◌}
+use Rattle.std.specs.Prelude.{MatchOption, IfSome, ◌≢◌, unwrap_or}
 use Rattle.std.specs.Fmt.{decimal}
 use denote.Ref.{Bor}
 use Rattle.std.proofs.lemmas.List.{take_at, drop_at}
 use Rattle.std.proofs.lemmas.List.Prefix.{front_rest}
 use Rattle.std.proofs.lemmas.Bool.Decides.{nat_tests}
-use Rattle.bus_spec.specs.Lines.{two_digits}
-use Rattle.i2c_top.specs.PlainForm.{head_text, set_text, plain_text, comma_len}
+use Rattle.i2c_top.specs.PlainForm.{comma_len, root_on, address_on, device_on, switch_on, lock_on, mux_on, IsInForm, AreInForm, AreApart, IsNotPlain}
+use Rattle.i2c_top.specs.declared.plain.Plain.TheVariants as plain
+use Rattle.i2c_top.specs.declared.plain.PlainDevice.{PlainDevice}
 use Rattle.i2c_top.proofs.DecimalLemmas.{AreDigits, digits_of_decimal}
 
 -- what stands behind a front is one text
@@ -43,7 +44,23 @@ comma_cuts text word behind n rest h w b e =
       behind_is = b ∙ ap (drop (comma_len text)) e ∙ drop_at (decimal n) (44 ∷ rest) (comma_len text) at;
     }
 
-pub whole_text : (text behind after : List ℕ) (number addr place byte : ℕ) → text ≡ head_text ++ behind → behind ≡ two_digits number ++ after → addr ≡ number
-    → after ≡ set_text place byte → text ≡ plain_text addr place byte
-whole_text text behind after number addr place byte t b a s =
-    t ∙ ap (λ x. head_text ++ x) (b ∙ ap (λ n. two_digits n ++ after) (sym a) ∙ ap (λ x. two_digits addr ++ x) s)
+pub mux_text : (text behind more rest : List ℕ) (addr : ℕ) → text ≡ switch_on behind → behind ≡ address_on addr more → more ≡ lock_on rest → text ≡ mux_on addr rest
+mux_text text behind more rest addr s a l = s ∙ ap switch_on (a ∙ ap (address_on addr) l)
+
+-- a text that doesn't begin with the root, or goes on in neither form, is that of no board
+pub not_plain_front : (text : List ℕ) → ((rest : List ℕ) → text ≡ root_on rest → ⊥) → IsNotPlain text
+not_plain_front text none (plain.Single d) h = none (device_on d []) h.whole
+not_plain_front text none (plain.Muxed mux near far) h = none (mux_on mux (device_on near (device_on far []))) h.whole
+
+pub not_plain : (text rest : List ℕ) → text ≡ root_on rest → ((d : PlainDevice) → IsInForm 0 0 d → rest ≢ device_on d [])
+    → ((mux : ℕ) (near far : PlainDevice) → AreInForm mux near far → rest ≢ mux_on mux (device_on near (device_on far []))) → IsNotPlain text
+not_plain text rest root single muxed (plain.Single d) h = single d h.fits (front_same text (root_on []) rest (device_on d []) root h.whole)
+not_plain text rest root single muxed (plain.Muxed mux near far) h =
+    muxed mux near far h.fits (front_same text (root_on []) rest (mux_on mux (device_on near (device_on far []))) root h.whole)
+
+-- what is apart is so under equal names
+pub apart_again : (m n : ℕ) (a b near far : PlainDevice) → m ≡ n → ◌≡◌ {A = Option (PlainDevice × PlainDevice)} (Some (a, b)) (Some (near, far)) → AreApart n near.addr far.addr → AreApart m a.addr b.addr
+apart_again m n a b near far e same h =
+    let first : a ≡ near = ap (λ (o : Option (PlainDevice × PlainDevice)). (unwrap_or o (a, b)).0) same in
+    let second : b ≡ far = ap (λ (o : Option (PlainDevice × PlainDevice)). (unwrap_or o (a, b)).1) same in
+    rw (e, first, second) h

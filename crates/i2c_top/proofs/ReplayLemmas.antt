@@ -10,7 +10,7 @@ use Rattle.i2c_top.specs.Replays.{Files, Names}
 use Rattle.i2c_top.specs.Runs.{HasRun}
 
 abbrev board_read : (file : Files) (names : Names) (b : BoardView) (text : List ℕ) → HasRead file names b text → BoardView
-board_read file names b text read = plain_board read.board_in.has.addr read.board_in.has.place read.board_in.has.byte
+board_read file names b text read = plain_board read.board_in.has.form
 
 -- the run of what was read is the report that the files ask for
 pub has_report : (file : Files) (names : Names) (b : BoardView) (text bytes : List ℕ) (logs : List (List PortCall)) (states : List TargetState)

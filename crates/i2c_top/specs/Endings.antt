@@ -16,7 +16,7 @@ use Rattle.i2c_top.specs.declared.status.Status.TheVariants as status
 -- calls on its ports and the devices that it leaves
 pub record HasReport (file : Files) (names : Names) (bytes : List ℕ) (logs : List (List PortCall)) (states : List TargetState) : Type 0 where
   pub files : HasFiles file names
-  pub run : HasRun (plain_board files.board.addr files.board.place files.board.byte) (files.script.text ∷ []) bytes logs states
+  pub run : HasRun (plain_board files.board.form) (files.script.text ∷ []) bytes logs states
 
 -- the report was written behind what stood there
 pub record HasReplayed (file : Files) (names : Names) (before now : List ℕ) (logs : List (List PortCall)) (states : List TargetState) : Type 0 where

@@ -4,22 +4,21 @@ use Rattle.i2c_base.specs.Board.{BoardView}
 use Rattle.i2c_outside.specs.Causes.{Rose}
 use Rattle.i2c_top.specs.PlainForm.{IsPlainText, plain_board}
 use Rattle.i2c_top.specs.Replays.{Files, Names, HasBoard, HasScript, HasSchedule}
+use Rattle.i2c_top.specs.declared.plain.Plain.{Plain}
 use Rattle.i2c_top.specs.declared.status.BoardRefusal.TheVariants as refusal
 use Rattle.i2c_top.specs.declared.status.Status.{Status}
 use Rattle.i2c_top.specs.declared.status.Status.TheVariants as status
 
--- the board is that of a text in the plain form
+-- the board is that of a text in a plain form
 pub record IsBoardOf (text : List ℕ) (board : BoardView) : Type 0 where
-  pub addr : ℕ
-  pub place : ℕ
-  pub byte : ℕ
-  pub plain : IsPlainText text addr place byte
-  pub same : board ≡ plain_board addr place byte
+  pub form : Plain
+  pub plain : IsPlainText text form
+  pub same : board ≡ plain_board form
 
 -- the board is that of a file
 pub record IsBoardIn (file : Files) (name : List ℕ) (board : BoardView) : Type 0 where
   pub has : HasBoard file name
-  pub same : board ≡ plain_board has.addr has.place has.byte
+  pub same : board ≡ plain_board has.form
 
 -- the text is that of a file, and in the grammar
 pub record IsScriptIn (file : Files) (name text : List ℕ) : Type 0 where

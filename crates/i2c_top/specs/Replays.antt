@@ -4,6 +4,7 @@ use Rattle.i2c_outside.specs.Causes.{Rose}
 use Rattle.i2c_top.specs.PlainForm.{IsPlainText, IsNotPlain}
 use Rattle.i2c_top.specs.Scripts.{script_read, commands_of}
 use Rattle.i2c_top.specs.Schedules.{schedule_fault}
+use Rattle.i2c_top.specs.declared.plain.Plain.{Plain}
 use Rattle.i2c_top.specs.declared.status.BoardRefusal.TheVariants as refusal
 use Rattle.i2c_top.specs.declared.status.Status.{Status}
 use Rattle.i2c_top.specs.declared.status.Status.TheVariants as status
@@ -30,16 +31,14 @@ names_of board schedule scripts = record { board = board; schedule = schedule; s
 abbrev pub name_at : Names → ℕ → List ℕ
 name_at names place = if place == 1 then names.board else if place == 2 then names.schedule else names.script
 
--- the board's file is there, in the plain form, with this address, register and byte
+-- the board's file is there, in this plain form
 pub record HasBoard (file : Files) (name : List ℕ) : Type 0 where
-  pub addr : ℕ
-  pub place : ℕ
-  pub byte : ℕ
+  pub form : Plain
   pub text : List ℕ
   pub there : file name ≡ Some text
-  pub plain : IsPlainText text addr place byte
+  pub plain : IsPlainText text form
 
--- it is there, and not in the plain form
+-- it is there, and in no plain form
 pub record HasNoBoard (file : Files) (name : List ℕ) : Type 0 where
   pub text : List ℕ
   pub there : file name ≡ Some text

@@ -2,6 +2,7 @@ ghost use Rattle.std.specs.Prelude.{◌≡◌, ℕ, ◌≤◌, ◌^◌, [], ◌�
 ghost use Rattle.i2c_base.specs.Fitting.{Fits};
 ghost use Rattle.i2c_base.specs.Transfer.{TransferView};
 ghost use Rattle.i2c_top.specs.Callers.{opened, ScriptsAreFair};
+ghost use Rattle.i2c_top.specs.PlainForm.{IsFormBoard};
 ghost use Rattle.i2c_top.specs.Scripts.{script_read, commands_of, ScriptFaultIs, read_byte_of, asked_by, left_of, section_text};
 
 use crate::command::{Command, Get};
@@ -13,9 +14,10 @@ use std::alloc::{AllocError, Global};
 use std::marker::Model;
 use std::snapshot::Snapshot;
 
-/// The most steps of a command on a board without a mux: its lock is taken and freed, it has two messages of a byte
-/// each, and one step more.
-const STEPS: u32 = 7;
+/// The most steps of a command on a board of the plain forms. Behind a mux two locks are taken and freed. A close, a
+/// select and a deselect have a message of a byte each, and so have the two messages of the command. One step more is
+/// counted.
+const STEPS: u32 = 15;
 
 /// A caller that asks for what the commands of a script ask for, one after the other. A contract sees the board and
 /// the text that it was opened with, and the replies that it took.
@@ -57,10 +59,10 @@ impl Script {
         })
     }
 
-    /// At least as many steps as are left, on a board without a mux.
+    /// At least as many steps as are left, on a board of the plain forms.
     pub fn most_steps(&self) -> u32
-        ensures left { self.now.script.board.muxes ≡ [] → left_of self.now.script self.now.taken ≤ result }
-        ensures small { result ≤ 7000 }
+        ensures left { IsFormBoard self.now.script.board → left_of self.now.script self.now.taken ≤ result }
+        ensures small { result ≤ 15000 }
     {
         STEPS * self.commands.len() as u32
     }
@@ -131,7 +133,8 @@ pub fn scripts_are_fair()
 #[cfg(test)]
 mod tests {
     use super::*;
-    use crate::plain::open_plain;
+    use crate::plain::{Plain, PlainDevice};
+    use crate::plain_board::open_plain;
     use i2c_base::{Addr, Errno};
     use std::test::Fail;
 
@@ -142,7 +145,13 @@ mod tests {
     #[test]
     fn a_script_asks_once_and_prints_the_answer(rt: HostRuntime) -> Result<(), Fail> {
         let addr = Addr::new(0x20).ok_or("no address")?;
-        let board = open_plain(rt.alloc(), addr, 5, 0x7e)?;
+        let device = PlainDevice {
+            bus: 0,
+            addr,
+            place: 5,
+            byte: 0x7e,
+        };
+        let board = open_plain(rt.alloc(), &Plain::Single(device))?;
         let script = Script::open(rt.alloc(), &board, b"# one\ni2cget  -y 0 0x20 5")?;
         let mut script = sends(script);
         let transfer = script.next().ok_or("no transfer")?;

@@ -1,14 +1,15 @@
-ghost use Rattle.std.specs.Prelude.{◌≡◌, ◌≢◌, ℕ, ◌≤◌, ◌^◌, ◌⊎◌, [], List, length, Some, None, Ok, Err, slice_get, OnOk, IfOk, IfErr, IsTrue};
+ghost use Rattle.std.specs.Prelude.{◌≡◌, ◌≢◌, ℕ, ◌≤◌, ◌^◌, ◌⊎◌, List, length, Some, None, Ok, Err, slice_get, OnOk, IfOk, IfErr, IsTrue};
 ghost use Rattle.i2c_outside.specs.Causes.{Rose};
 ghost use Rattle.i2c_top.specs.Callers.{opened};
-ghost use Rattle.i2c_top.specs.PlainForm.{IsNotPlain};
+ghost use Rattle.i2c_top.specs.PlainForm.{IsNotPlain, IsFormBoard};
 ghost use Rattle.i2c_top.specs.Readings.{IsBoardOf, IsBoardIn, IsScriptIn, HasRead, IsRefusedAt, IsBadBoard, IsBadScript, IsBadSchedule};
 ghost use Rattle.i2c_top.specs.Replays.{HasNoBoard, HasBadScript, HasSchedule, HasBadSchedule, KeepsUnreached, IsFileRefusal};
 ghost use Rattle.i2c_top.specs.Scripts.{script_read, commands_of};
 ghost use Rattle.i2c_top.specs.Schedules.{schedule_fault};
 ghost use Rattle.i2c_top.specs.declared.status.Status.TheVariants as status;
 
-use crate::plain::{open_plain, read_plain};
+use crate::plain::read_plain;
+use crate::plain_board::open_plain;
 use crate::schedule::schedule_fault;
 use crate::{BoardRefusal, Script, ScriptFault, Status};
 use i2c_base::NoMemory;
@@ -48,13 +49,14 @@ fn read_file<S: Shelf>(
 
 // The board of a text.
 fn board_of(alloc: Global, text: &[u8]) -> Result<Accepted, Status>
+    ensures form { IfOk result IsFormBoard }
     ensures board { IfOk result (IsBoardOf text.now) }
     ensures refused { IfErr result (λ e. (e ≡ status.Memory) ⊎ IsBadBoard (IsNotPlain text.now) e) }
 {
     let Some(plain) = read_plain(text) else {
         return Err(Status::Board(BoardRefusal::Plain));
     };
-    match open_plain(alloc, plain.addr, plain.place, plain.byte) {
+    match open_plain(alloc, &plain) {
         Ok(board) => Ok(board),
         Err(NoMemory) => Err(Status::Memory),
     }
@@ -95,7 +97,7 @@ fn read_board<S: Shelf>(alloc: Global, shelf: &mut S, name: &str) -> Result<Acce
     ensures words { S.words shelf.new ≡ S.words shelf.old }
     ensures files { (n : List ℕ) → S.file shelf.new n ≡ S.file shelf.old n }
     ensures others { (p : ℕ) → p ≢ 1 → S.faults shelf.new p ≡ S.faults shelf.old p }
-    ensures flat { IfOk result (λ b. b.muxes ≡ []) }
+    ensures form { IfOk result IsFormBoard }
     ensures board { IsTrue S.tells → IfOk result (IsBoardIn (S.file shelf.old) name.now) }
     ensures refused { IfErr result (IsRefusedAt 1 (IsBadBoard (IsTrue S.tells → HasNoBoard (S.file shelf.old) name.now)) (S.faults shelf.old 1) (S.faults shelf.new 1)) }
 {
@@ -149,7 +151,7 @@ pub fn read_files<S: Shelf>(
     ensures words { S.words shelf.new ≡ S.words shelf.old }
     ensures files { (n : List ℕ) → S.file shelf.new n ≡ S.file shelf.old n }
     ensures others { (p : ℕ) → p ≢ 1 → p ≢ 2 → p ≢ 3 → S.faults shelf.new p ≡ S.faults shelf.old p }
-    ensures flat { IfOk result (λ f. f.0.muxes ≡ []) }
+    ensures form { IfOk result (λ f. IsFormBoard f.0) }
     ensures opened { IfOk result (λ f. f.1 ≡ opened f.0 f.1.script.text) }
     ensures read { IsTrue S.tells → IfOk result (λ f. HasRead (S.file shelf.old) (record { board = board.now; schedule = schedule.now; script = script.now }) f.0 f.1.script.text) }
     ensures unreached { IfErr result (KeepsUnreached (S.faults shelf.old) (S.faults shelf.new)) }

@@ -21,6 +21,7 @@ mod message;
 mod number;
 mod parts;
 mod plain;
+mod plain_board;
 mod program;
 mod refusal;
 mod replay;

@@ -1,23 +1,34 @@
-ghost use Rattle.std.specs.Prelude.{◌≡◌, ℕ, ◌≤◌, ◌<◌, ◌/◌, ◌%◌, List, [], ◌∷◌, ◌++◌, length, Some, None, IfOk, IfSome, MatchOption};
+ghost use Rattle.std.specs.Prelude.{◌≡◌, ◌≢◌, ℕ, ◌≤◌, ◌<◌, ◌/◌, ◌%◌, List, [], ◌∷◌, ◌++◌, length, Some, None, IfSome, MatchOption};
 ghost use Rattle.std.specs.Fmt.{decimal};
 ghost use Rattle.bus_spec.specs.Lines.{hex_digit, two_digits};
-ghost use Rattle.i2c_top.specs.PlainForm.{byte_text, set_text, comma_len, IsPlainText, IsNotPlain, plain_device, plain_board};
+ghost use Rattle.i2c_top.specs.PlainForm.{root_on, address_on, byte_on, set_on, bus_on, device_on, mux_on, comma_len, IsInForm, AreInForm, AreApart, IsPlainText, IsNotPlain};
+ghost use Rattle.i2c_top.specs.declared.plain.Plain.TheVariants as plain;
+ghost use Rattle.i2c_top.specs.declared.plain.PlainDevice.{PlainDevice};
 
 use crate::number::decimal;
-use i2c_base::{Addr, DeviceKind, DeviceSpec, NoMemory, RootSpec, Run, SegId};
-use i2c_board::{Accepted, Board};
-use std::alloc::Global;
+use i2c_base::Addr;
 
-/// A board in the plain form: one root with one register device, of which one register is set.
+/// A register device in a board's text: its bus, its address, and the one register that is set.
 #[derive(Clone, Copy, Debug, PartialEq, Eq)]
-pub struct Plain {
+pub struct PlainDevice {
+    pub bus: u8,
     pub addr: Addr,
     pub place: u8,
     pub byte: u8,
 }
 
-/// What stands before the address.
-const HEAD: &[u8] = b"version = 1\n[[root]]\n[[device]]\nbus = 0\nkind = \"regs\"\naddress = 0x";
+/// A board in one of the plain forms.
+#[derive(Clone, Copy, Debug, PartialEq, Eq)]
+pub enum Plain {
+    /// One root with one register device.
+    Single(PlainDevice),
+    /// One root with a mux of eight channels at this address, a register device on the root, and one behind the mux.
+    Muxed {
+        mux: Addr,
+        near: PlainDevice,
+        far: PlainDevice,
+    },
+}
 
 // The value of a lower-case hexadecimal digit.
 fn digit(byte: u8) -> Option<u8>
@@ -85,77 +96,188 @@ fn behind<'a>(text: &'a [u8], front: &[u8]) -> Option<&'a [u8]>
     text.strip_prefix(front)
 }
 
-// The byte of the register, where the text is what stands behind its number.
-fn read_byte(text: &[u8]) -> Option<u8>
-    ensures some { IfSome result (λ byte. text.now ≡ byte_text byte) }
-    ensures again { (byte : ℕ) → byte < 256 → text.now ≡ byte_text byte → result ≡ Some byte }
+// The byte of a register, where a text is what stands behind its number.
+fn read_byte(text: &[u8]) -> Option<(u8, &[u8])>
+    ensures some { IfSome result (λ p. text.now ≡ byte_on p.0 p.1.now) }
+    ensures again { (byte : ℕ) (rest : List ℕ) → byte < 256 → text.now ≡ byte_on byte rest → MatchOption result ⊥ (λ p. (p.0 ≡ byte) × (p.1.now ≡ rest)) }
 {
     let text = behind(text, b", 0x")?;
     let (byte, text) = hex_byte(text)?;
-    if text == b"]]\n".as_slice() {
-        Some(byte)
-    } else {
-        None
-    }
+    let text = behind(text, b"]]\n")?;
+    Some((byte, text))
 }
 
-// The register and its byte, where the text is what stands behind the address.
-fn read_set(text: &[u8]) -> Option<(u8, u8)>
-    ensures some { IfSome result (λ p. text.now ≡ set_text p.0 p.1) }
-    ensures again { (place byte : ℕ) → place < 256 → byte < 256 → text.now ≡ set_text place byte → MatchOption result ⊥ (λ p. (p.0 ≡ place) × (p.1 ≡ byte)) }
+// A register and its byte, where a text is what stands behind the address.
+fn read_set(text: &[u8]) -> Option<(u8, u8, &[u8])>
+    ensures some { IfSome result (λ p. text.now ≡ set_on p.0 p.1 p.2.now) }
+    ensures again { (place byte : ℕ) (rest : List ℕ) → place < 256 → byte < 256 → text.now ≡ set_on place byte rest
+        → MatchOption result ⊥ (λ p. (p.0 ≡ place) × ((p.1 ≡ byte) × (p.2.now ≡ rest))) }
 {
     let text = behind(text, b"\nset = [[")?;
     let (place, text) = decimal_byte(text)?;
-    let byte = read_byte(text)?;
-    Some((place, byte))
+    let (byte, text) = read_byte(text)?;
+    Some((place, byte, text))
 }
 
-/// Reads a board in the plain form: none exactly where the text is in no such form.
+// The line of an address.
+fn read_address(text: &[u8]) -> Option<(u8, &[u8])>
+    ensures some { IfSome result (λ p. text.now ≡ address_on p.0 p.1.now) }
+    ensures again { (addr : ℕ) (rest : List ℕ) → addr < 256 → text.now ≡ address_on addr rest → MatchOption result ⊥ (λ p. (p.0 ≡ addr) × (p.1.now ≡ rest)) }
+{
+    let text = behind(text, b"address = 0x")?;
+    hex_byte(text)
+}
+
+// The bus of a device, one digit.
+fn read_bus(text: &[u8]) -> Option<(u8, &[u8])>
+    ensures some { IfSome result (λ p. text.now ≡ bus_on p.0 p.1.now) }
+    ensures again { (bus : ℕ) (rest : List ℕ) → bus < 16 → text.now ≡ bus_on bus rest → MatchOption result ⊥ (λ p. (p.0 ≡ bus) × (p.1.now ≡ rest)) }
+{
+    let text = behind(text, b"[[device]]\nbus = ")?;
+    let (byte, text) = text.split_first()?;
+    let bus = digit(*byte)?;
+    Some((bus, text))
+}
+
+// A device on a bus from `low` to `high`.
+fn read_device(text: &[u8], low: u8, high: u8) -> Option<(PlainDevice, &[u8])>
+    requires { high < 10 }
+    ensures some { IfSome result (λ p. text.now ≡ device_on p.0 p.1.now) }
+    ensures fits { IfSome result (λ p. IsInForm low high p.0) }
+    ensures again { (d : PlainDevice) (rest : List ℕ) → IsInForm low high d → text.now ≡ device_on d rest → MatchOption result ⊥ (λ p. (p.0 ≡ d) × (p.1.now ≡ rest)) }
+{
+    let (bus, text) = read_bus(text)?;
+    if bus < low || high < bus {
+        return None;
+    }
+    let text = behind(text, b"\nkind = \"regs\"\n")?;
+    let (number, text) = read_address(text)?;
+    let addr = Addr::new(number)?;
+    let (place, byte, text) = read_set(text)?;
+    let device = PlainDevice {
+        bus,
+        addr,
+        place,
+        byte,
+    };
+    Some((device, text))
+}
+
+// A mux, by its address.
+fn read_mux(text: &[u8]) -> Option<(u8, &[u8])>
+    ensures some { IfSome result (λ p. text.now ≡ mux_on p.0 p.1.now) }
+    ensures again { (addr : ℕ) (rest : List ℕ) → addr < 256 → text.now ≡ mux_on addr rest → MatchOption result ⊥ (λ p. (p.0 ≡ addr) × (p.1.now ≡ rest)) }
+{
+    let text = behind(text, b"[[mux]]\nbus = 0\nkind = \"pca9548\"\n")?;
+    let (addr, text) = read_address(text)?;
+    let text = behind(text, b"\nlock = \"parent\"\n")?;
+    Some((addr, text))
+}
+
+// The last device of a text.
+fn read_last(text: &[u8], low: u8, high: u8) -> Option<PlainDevice>
+    requires { high < 10 }
+    ensures some { IfSome result (λ d. text.now ≡ device_on d []) }
+    ensures fits { IfSome result (λ d. IsInForm low high d) }
+    ensures again { (d : PlainDevice) → IsInForm low high d → text.now ≡ device_on d [] → result ≡ Some d }
+{
+    let Some((device, text)) = read_device(text, low, high) else {
+        return None;
+    };
+    if text.is_empty() { Some(device) } else { None }
+}
+
+// The last two devices of a text: one on the root, and one on a bus behind a mux.
+fn read_pair(text: &[u8]) -> Option<(PlainDevice, PlainDevice)>
+    ensures some { IfSome result (λ p. text.now ≡ device_on p.0 (device_on p.1 [])) }
+    ensures near { IfSome result (λ p. IsInForm 0 0 p.0) }
+    ensures far { IfSome result (λ p. IsInForm 1 8 p.1) }
+    ensures again { (near far : PlainDevice) → IsInForm 0 0 near → IsInForm 1 8 far → text.now ≡ device_on near (device_on far []) → result ≡ Some (near, far) }
+{
+    let Some((near, text)) = read_device(text, 0, 0) else {
+        return None;
+    };
+    let far = read_last(text, 1, 8)?;
+    Some((near, far))
+}
+
+// The form with these parts, where their addresses differ.
+fn apart(mux: Addr, near: PlainDevice, far: PlainDevice) -> Option<Plain>
+    ensures some { IfSome result (λ p. (p ≡ plain.Muxed mux near far) × AreApart mux near.addr far.addr) }
+    ensures none { result ≡ None → (AreApart mux near.addr far.addr → ⊥) }
+{
+    if mux == near.addr || mux == far.addr || near.addr == far.addr {
+        None
+    } else {
+        Some(Plain::Muxed { mux, near, far })
+    }
+}
+
+// The form without a mux, behind the root.
+fn read_single(text: &[u8]) -> Option<Plain>
+    ensures some { IfSome result (IsPlainText (root_on text.now)) }
+    ensures none { result ≡ None → (d : PlainDevice) → IsInForm 0 0 d → text.now ≢ device_on d [] }
+{
+    let device = read_last(text, 0, 0)?;
+    Some(Plain::Single(device))
+}
+
+// The form with a mux, behind the root.
+fn read_muxed(text: &[u8]) -> Option<Plain>
+    ensures some { IfSome result (IsPlainText (root_on text.now)) }
+    ensures none { result ≡ None → (mux : ℕ) (near far : PlainDevice) → AreInForm mux near far → text.now ≢ mux_on mux (device_on near (device_on far [])) }
+{
+    let (number, text) = read_mux(text)?;
+    let mux = Addr::new(number)?;
+    let (near, far) = read_pair(text)?;
+    apart(mux, near, far)
+}
+
+/// Reads a board in one of the plain forms: none exactly where the text is in neither.
 pub fn read_plain(text: &[u8]) -> Option<Plain>
-    ensures some { IfSome result (λ p. IsPlainText text.now p.addr p.place p.byte) }
+    ensures some { IfSome result (IsPlainText text.now) }
     ensures none { result ≡ None → IsNotPlain text.now }
 {
-    let text = behind(text, HEAD)?;
-    let (number, text) = hex_byte(text)?;
-    let addr = Addr::new(number)?;
-    let (place, byte) = read_set(text)?;
-    Some(Plain { addr, place, byte })
+    let text = behind(text, b"version = 1\n[[root]]\n")?;
+    match read_single(text) {
+        Some(single) => Some(single),
+        None => read_muxed(text),
+    }
 }
 
-// The register device of a board in the plain form.
-fn device(alloc: Global, addr: Addr, place: u8, byte: u8) -> Result<DeviceSpec, NoMemory>
-    ensures { IfOk result (λ d. d ≡ plain_device addr place byte) }
-{
-    let bytes = Vec::from_slice(alloc, &[byte])?;
-    let mut set = Vec::new(alloc);
-    set.push(Run {
-        start: u16::from(place),
-        bytes,
-    })?;
-    Ok(DeviceSpec {
-        bus: SegId(0),
-        addr,
-        bound: false,
-        kind: DeviceKind::Regs { hold: 0 },
-        set,
-    })
-}
+#[cfg(test)]
+mod tests {
+    use super::*;
+    use std::test::Fail;
 
-// A list of one.
-fn one<T: Drop>(alloc: Global, item: T) -> Result<Vec<T>, NoMemory>
-    ensures { IfOk result (λ v. v.items ≡ item ∷ []) }
-{
-    let mut items = Vec::new(alloc);
-    items.push(item)?;
-    Ok(items)
-}
-
-/// The board with this device address, register and byte.
-pub fn open_plain(alloc: Global, addr: Addr, place: u8, byte: u8) -> Result<Accepted, NoMemory>
-    ensures { IfOk result (λ board. board ≡ plain_board addr place byte) }
-{
-    let roots = one(alloc, RootSpec { smbus_only: false })?;
-    let devices = one(alloc, device(alloc, addr, place, byte)?)?;
-    let board = Board::new(roots, Vec::new(alloc), devices);
-    Ok(Accepted::seal(board))
+    #[test]
+    fn both_forms_are_read(rt: HostRuntime) -> Result<(), Fail> {
+        let near = PlainDevice {
+            bus: 0,
+            addr: Addr::new(0x20).ok_or("no address")?,
+            place: 5,
+            byte: 0x7e,
+        };
+        let far = PlainDevice {
+            bus: 8,
+            addr: Addr::new(0x3a).ok_or("no address")?,
+            place: 255,
+            byte: 0x11,
+        };
+        let mux = Addr::new(0x70).ok_or("no address")?;
+        let rows: [(&[u8], Plain); 2] = [
+            (
+                b"version = 1\n[[root]]\n[[device]]\nbus = 0\nkind = \"regs\"\naddress = 0x20\nset = [[5, 0x7e]]\n",
+                Plain::Single(near),
+            ),
+            (
+                b"version = 1\n[[root]]\n[[mux]]\nbus = 0\nkind = \"pca9548\"\naddress = 0x70\nlock = \"parent\"\n[[device]]\nbus = 0\nkind = \"regs\"\naddress = 0x20\nset = [[5, 0x7e]]\n[[device]]\nbus = 8\nkind = \"regs\"\naddress = 0x3a\nset = [[255, 0x11]]\n",
+                Plain::Muxed { mux, near, far },
+            ),
+        ];
+        for (text, want) in rows {
+            assert_eq!(rt; read_plain(text), Some(want));
+        }
+        Ok(())
+    }
 }

@@ -133,6 +133,70 @@ fn a_board_in_no_plain_form_is_refused(rt: HostRuntime) -> Result<(), Fail> {
             "a second device",
             "version = 1\n[[root]]\n[[device]]\nbus = 0\nkind = \"regs\"\naddress = 0x20\nset = [[5, 0x7e]]\n[[device]]\nbus = 0\nkind = \"regs\"\naddress = 0x21\nset = [[5, 0x7e]]\n",
         ),
+        (
+            "a mux and no device",
+            "version = 1\n[[root]]\n[[mux]]\nbus = 0\nkind = \"pca9548\"\naddress = 0x70\nlock = \"parent\"\n",
+        ),
+        (
+            "a mux and one device",
+            "version = 1\n[[root]]\n[[mux]]\nbus = 0\nkind = \"pca9548\"\naddress = 0x70\nlock = \"parent\"\n[[device]]\nbus = 0\nkind = \"regs\"\naddress = 0x20\nset = [[5, 0x7e]]\n",
+        ),
+        (
+            "a mux and three devices",
+            "version = 1\n[[root]]\n[[mux]]\nbus = 0\nkind = \"pca9548\"\naddress = 0x70\nlock = \"parent\"\n[[device]]\nbus = 0\nkind = \"regs\"\naddress = 0x20\nset = [[5, 0x7e]]\n[[device]]\nbus = 1\nkind = \"regs\"\naddress = 0x30\nset = [[0, 0x11]]\n[[device]]\nbus = 2\nkind = \"regs\"\naddress = 0x31\nset = [[0, 0x11]]\n",
+        ),
+        (
+            "two muxes",
+            "version = 1\n[[root]]\n[[mux]]\nbus = 0\nkind = \"pca9548\"\naddress = 0x70\nlock = \"parent\"\n[[mux]]\nbus = 0\nkind = \"pca9548\"\naddress = 0x71\nlock = \"parent\"\n[[device]]\nbus = 0\nkind = \"regs\"\naddress = 0x20\nset = [[5, 0x7e]]\n[[device]]\nbus = 1\nkind = \"regs\"\naddress = 0x30\nset = [[0, 0x11]]\n",
+        ),
+        (
+            "a mux behind the devices",
+            "version = 1\n[[root]]\n[[device]]\nbus = 0\nkind = \"regs\"\naddress = 0x20\nset = [[5, 0x7e]]\n[[device]]\nbus = 1\nkind = \"regs\"\naddress = 0x30\nset = [[0, 0x11]]\n[[mux]]\nbus = 0\nkind = \"pca9548\"\naddress = 0x70\nlock = \"parent\"\n",
+        ),
+        (
+            "a mux-locked mux",
+            "version = 1\n[[root]]\n[[mux]]\nbus = 0\nkind = \"pca9548\"\naddress = 0x70\nlock = \"mux\"\n[[device]]\nbus = 0\nkind = \"regs\"\naddress = 0x20\nset = [[5, 0x7e]]\n[[device]]\nbus = 1\nkind = \"regs\"\naddress = 0x30\nset = [[0, 0x11]]\n",
+        ),
+        (
+            "a mux at an address too high",
+            "version = 1\n[[root]]\n[[mux]]\nbus = 0\nkind = \"pca9548\"\naddress = 0x78\nlock = \"parent\"\n[[device]]\nbus = 0\nkind = \"regs\"\naddress = 0x20\nset = [[5, 0x7e]]\n[[device]]\nbus = 1\nkind = \"regs\"\naddress = 0x30\nset = [[0, 0x11]]\n",
+        ),
+        (
+            "a mux at the first device's address",
+            "version = 1\n[[root]]\n[[mux]]\nbus = 0\nkind = \"pca9548\"\naddress = 0x20\nlock = \"parent\"\n[[device]]\nbus = 0\nkind = \"regs\"\naddress = 0x20\nset = [[5, 0x7e]]\n[[device]]\nbus = 1\nkind = \"regs\"\naddress = 0x30\nset = [[0, 0x11]]\n",
+        ),
+        (
+            "a mux at the second device's address",
+            "version = 1\n[[root]]\n[[mux]]\nbus = 0\nkind = \"pca9548\"\naddress = 0x30\nlock = \"parent\"\n[[device]]\nbus = 0\nkind = \"regs\"\naddress = 0x20\nset = [[5, 0x7e]]\n[[device]]\nbus = 1\nkind = \"regs\"\naddress = 0x30\nset = [[0, 0x11]]\n",
+        ),
+        (
+            "two devices at one address",
+            "version = 1\n[[root]]\n[[mux]]\nbus = 0\nkind = \"pca9548\"\naddress = 0x70\nlock = \"parent\"\n[[device]]\nbus = 0\nkind = \"regs\"\naddress = 0x20\nset = [[5, 0x7e]]\n[[device]]\nbus = 1\nkind = \"regs\"\naddress = 0x20\nset = [[0, 0x11]]\n",
+        ),
+        (
+            "the first device behind the mux",
+            "version = 1\n[[root]]\n[[mux]]\nbus = 0\nkind = \"pca9548\"\naddress = 0x70\nlock = \"parent\"\n[[device]]\nbus = 1\nkind = \"regs\"\naddress = 0x20\nset = [[5, 0x7e]]\n[[device]]\nbus = 1\nkind = \"regs\"\naddress = 0x30\nset = [[0, 0x11]]\n",
+        ),
+        (
+            "the second device on the root",
+            "version = 1\n[[root]]\n[[mux]]\nbus = 0\nkind = \"pca9548\"\naddress = 0x70\nlock = \"parent\"\n[[device]]\nbus = 0\nkind = \"regs\"\naddress = 0x20\nset = [[5, 0x7e]]\n[[device]]\nbus = 0\nkind = \"regs\"\naddress = 0x30\nset = [[0, 0x11]]\n",
+        ),
+        (
+            "a bus that isn't there",
+            "version = 1\n[[root]]\n[[mux]]\nbus = 0\nkind = \"pca9548\"\naddress = 0x70\nlock = \"parent\"\n[[device]]\nbus = 0\nkind = \"regs\"\naddress = 0x20\nset = [[5, 0x7e]]\n[[device]]\nbus = 9\nkind = \"regs\"\naddress = 0x30\nset = [[0, 0x11]]\n",
+        ),
+        (
+            "a bus of two digits",
+            "version = 1\n[[root]]\n[[mux]]\nbus = 0\nkind = \"pca9548\"\naddress = 0x70\nlock = \"parent\"\n[[device]]\nbus = 0\nkind = \"regs\"\naddress = 0x20\nset = [[5, 0x7e]]\n[[device]]\nbus = 10\nkind = \"regs\"\naddress = 0x30\nset = [[0, 0x11]]\n",
+        ),
+        (
+            "the bus a",
+            "version = 1\n[[root]]\n[[mux]]\nbus = 0\nkind = \"pca9548\"\naddress = 0x70\nlock = \"parent\"\n[[device]]\nbus = 0\nkind = \"regs\"\naddress = 0x20\nset = [[5, 0x7e]]\n[[device]]\nbus = a\nkind = \"regs\"\naddress = 0x30\nset = [[0, 0x11]]\n",
+        ),
+        (
+            "a device behind no mux",
+            "version = 1\n[[root]]\n[[device]]\nbus = 1\nkind = \"regs\"\naddress = 0x20\nset = [[5, 0x7e]]\n",
+        ),
         ("no text", ""),
     ];
     for (why, board) in rows {

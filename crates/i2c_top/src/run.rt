@@ -4,6 +4,7 @@ ghost use Rattle.i2c_base.specs.declared.port.Phase.{Phase};
 ghost use Rattle.i2c_spec.specs.World.{openings};
 ghost use Rattle.bus_spec.specs.Report.{report_lines};
 ghost use Rattle.i2c_top.specs.Callers.{opened, board_of};
+ghost use Rattle.i2c_top.specs.PlainForm.{IsFormBoard};
 ghost use Rattle.i2c_top.specs.Scripts.{asked_by, left_of, commands_of, section_text};
 ghost use Rattle.i2c_top.specs.Views.{IsKept};
 ghost use Rattle.i2c_top.specs.declared.stage.Stage.TheVariants as stage;
@@ -25,7 +26,7 @@ fn finished<'b, P: Port>(
     script: Script,
     ports: Vec<P>,
 ) -> Result<Parts<'b, P, Script>, Vec<P>>
-    requires flat { board.now.muxes ≡ [] }
+    requires form { IsFormBoard board.now }
     requires opened { script ≡ opened board.now script.script.text }
     requires count { length ports.items ≡ length board.now.roots }
     requires idle { All (λ p. P.phase p ≡ Phase.Idle) ports.items }
@@ -36,6 +37,10 @@ fn finished<'b, P: Port>(
     ensures script { IfOk result (λ parts. parts.caller.script ≡ script.script) }
     ensures board { IfOk result (λ parts. parts.board.now ≡ board.now) }
 {
+    // The core has no muxes yet: a board with one counts as one that there is no room for.
+    if !board.board().muxes().is_empty() {
+        return Err(ports);
+    }
     scripts_are_fair();
     let limit = script.most_steps();
     let Ok(journal) = room(alloc, limit) else {
@@ -64,7 +69,7 @@ pub fn run_script<R: Rig>(
     script: Script,
     rig: &mut R,
 ) -> Result<Vec<u8>, Status>
-    requires flat { board.now.muxes ≡ [] }
+    requires form { IsFormBoard board.now }
     requires opened { script ≡ opened board.now script.script.text }
     ensures run { IsTrue R.tells → IsTrue R.P.tells → IfOk result (λ text. HasRun board.now (script.script.text ∷ []) text.items (R.logs rig.new) (R.states rig.new)) }
     ensures failed { IfErr result (λ e. (e ≡ status.Rig) ⊎ (e ≡ status.Memory)) }

@@ -8,7 +8,7 @@ use std::alloc::{AllocError, AllocFailed};
 /// Why a board was refused.
 #[derive(Clone, Copy, Debug, PartialEq, Eq, Hash)]
 pub enum BoardRefusal {
-    /// Its text is not in the plain form.
+    /// Its text is in no plain form.
     Plain,
 }
 

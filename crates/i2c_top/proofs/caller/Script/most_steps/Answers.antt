@@ -1,5 +1,6 @@
-use Rattle.std.proofs.Common.{◌≡◌, ◌*◌, ◌≤◌, [], length, ap, subst, arith}
+use Rattle.std.proofs.Common.{◌*◌, ◌≤◌, length, ap, subst, arith}
 use Rattle.i2c_top.specs.Callers.{CallerView}
+use Rattle.i2c_top.specs.PlainForm.{IsFormBoard}
 use Rattle.i2c_top.specs.Scripts.{left_of}
 use Rattle.i2c_top.proofs.CommandLemmas.{commands_most}
 use Rattle.i2c_top.proofs.FairLemmas.{left_most}
@@ -13,7 +14,7 @@ overflow_mul-result c = omega (arith, commands_most c.self.inside.text.value.ite
 
 pub returns-clause-left : goal.returns-clause-left
 returns-clause-left c =
-    subst (λ (v : CallerView). v.script.board.muxes ≡ [] → left_of v.script v.taken ≤ 7 * c.len.result) c.self.view_is
+    subst (λ (v : CallerView). IsFormBoard v.script.board → left_of v.script v.taken ≤ 15 * c.len.result) c.self.view_is
     (λ e. omega (arith, left_most (record { board = c.self.inside.board.value; text = c.self.inside.text.value.items }) c.self.inside.taken.items e, ap length c.self.invariant.whole))
 
 pub returns-clause-small : goal.returns-clause-small
