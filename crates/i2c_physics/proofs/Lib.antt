@@ -1,4 +1,5 @@
 pub mod DeviceLemmas
 pub mod FeedLemmas
 pub mod PlaceLemmas
+pub mod PlugLemmas
 pub mod RigLemmas

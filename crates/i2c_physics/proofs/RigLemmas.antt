@@ -6,6 +6,7 @@ use Rattle.std.specs.Option.{option_map_or}
 use Rattle.std.specs.List.{range_with_len}
 use Rattle.std.proofs.lemmas.List.{length-map, map-append, length-append}
 use Rattle.std.proofs.lemmas.List.Elements.{All-head, All-tail, All-get_or}
+use Rattle.std.proofs.lemmas.List.FromFn.{length-range_with_len}
 use Rattle.std.proofs.lemmas.Option.{slice_get_cases}
 use Rattle.i2c_base.specs.Board.{BoardView, DeviceView}
 use Rattle.i2c_spec.specs.Plain.{IsPlainBoard}
@@ -15,9 +16,24 @@ use Rattle.i2c_spec.specs.World.{World, AreWorldsOf, device_in, devices_of}
 use Rattle.i2c_spec.proofs.TreeLemmas.{tree_root_is}
 use Rattle.i2c_outside.specs.Devices.{target_state}
 use Rattle.i2c_outside.specs.declared.device.DeviceState.{DeviceState}
-use Rattle.i2c_outside.specs.FirstRigs.{device_of, state_at, states_from, IsThere}
-use Rattle.i2c_outside.proofs.OpeningLemmas.{AreFrom, here, next}
-use Rattle.i2c_outside.proofs.RigLemmas.{count_of_worlds}
+use Rattle.i2c_physics.specs.SimRigs.{device_of, state_at, states_from, IsThere}
+
+-- these devices are those of the board from number k on
+abbrev AreFrom : BoardView → ℕ → List DeviceView → Type 0
+AreFrom b k ds = (i : ℕ) → slice_get b.devices (k + i) ≡ slice_get ds i
+
+here : (b : BoardView) (k : ℕ) (d : DeviceView) (ds : List DeviceView) → AreFrom b k (d ∷ ds) → slice_get b.devices k ≡ Some d
+here b k d ds from = rw add-zero at (from 0)
+
+next : (b : BoardView) (k : ℕ) (d : DeviceView) (ds : List DeviceView) → AreFrom b k (d ∷ ds) → AreFrom b (k + 1) ds
+next b k d ds from i = let e : k + 1 + i ≡ k + suc i = omega arith in rw e (from (suc i))
+
+pub empty-from_length : {A : Type 0} (xs : List A) → length xs ≡ 0 → xs ≡ []
+empty-from_length [] h = refl
+empty-from_length (x ∷ xs) h = absurd (omega arith)
+
+pub count_of_worlds : (b : BoardView) (ws : List World) → AreWorldsOf b ws → length ws ≡ length b.roots
+count_of_worlds b ws of = sym (length-map ws (λ w. w.root)) ∙ ap length of.roots ∙ length-range_with_len 0 (length b.roots)
 
 one_there : (x : Option TargetState) → IsSome x → option_to_list x ≡ unwrap_or x Silent ∷ []
 one_there None h = cc

@@ -1,12 +1,38 @@
 -- What the rig keeps of the ports that are given back.
-use Rattle.std.specs.Prelude.{◌≡◌, ℕ, ◌≤◌, List, [], length, map, Option, Some, None}
+use Rattle.std.specs.Prelude.{◌≡◌, ℕ, ◌+◌, ◌<◌, ◌≤◌, List, [], ◌∷◌, ◌++◌, length, map, Option, Some, None, IsSome, slice_get, option_to_list, replicate}
 use Rattle.i2c_base.specs.declared.port.PortCall.{PortCall}
 use Rattle.i2c_base.specs.Board.{BoardView}
 use Rattle.i2c_spec.specs.Plain.{IsPlainBoard}
 use Rattle.i2c_spec.specs.Tree.{root_of}
 use Rattle.i2c_spec.specs.Targets.{TargetState}
+use Rattle.i2c_spec.specs.World.{World}
 use Rattle.i2c_outside.specs.Devices.{target_state}
 use Rattle.i2c_physics.specs.declared.room.Kept.{Kept}
+
+-- device k as the world of its root has it, where there is such a world and it has the device
+abbrev pub device_of : Option World → ℕ → Option TargetState
+device_of None k = None
+device_of (Some w) k = slice_get w.devices k
+
+abbrev pub state_at : List World → ℕ → ℕ → Option TargetState
+state_at ws home k = device_of (slice_get ws home) k
+
+-- the devices on these roots, the first being number k, as far as they are there
+abbrev pub states_from : ℕ → List ℕ → List World → List TargetState
+states_from k [] ws = []
+states_from k (home ∷ homes) ws = option_to_list (state_at ws home k) ++ states_from (k + 1) homes ws
+
+-- device k is there, where its world has a board with so many devices
+abbrev pub IsThere : List World → ℕ → ℕ → Type 0
+IsThere ws home k = (w : World) → slice_get ws home ≡ Some w → k < length w.board.devices → IsSome (state_at ws home k)
+
+-- no board: the one of a rig that was never plugged
+abbrev pub no_board : BoardView
+no_board = record { version = 0; roots = []; muxes = []; devices = [] }
+
+-- no faults were counted, at any of so many ports
+abbrev pub none_of : ℕ → List ℕ
+none_of n = replicate n 0
 
 -- what a rig tells after an unplug, and before it
 abbrev pub kept_states : Option Kept → List TargetState

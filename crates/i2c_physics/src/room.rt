@@ -3,7 +3,7 @@ ghost use Rattle.std.specs.Option.{option_map};
 ghost use Rattle.i2c_base.specs.Board.{BoardView};
 ghost use Rattle.i2c_spec.specs.World.{World, AreWorldsOf, devices_of};
 ghost use Rattle.i2c_outside.specs.Devices.{target_state};
-ghost use Rattle.i2c_outside.specs.FirstRigs.{state_at, states_from, IsThere};
+ghost use Rattle.i2c_physics.specs.SimRigs.{state_at, states_from, IsThere};
 ghost use Rattle.i2c_spec.specs.Layouts.{board_of};
 ghost use Rattle.i2c_spec.specs.Plain.{IsPlainBoard};
 ghost use Rattle.i2c_spec.specs.Tree.{root_of};

@@ -1,7 +1,7 @@
 ghost use Rattle.std.specs.Prelude.{◌≡◌, ◌<◌, ℕ, Bool, true, length, slice_get, IfOk, IsSome};
 ghost use Rattle.std.specs.Option.{option_map};
 ghost use Rattle.i2c_outside.specs.Devices.{target_state};
-ghost use Rattle.i2c_outside.specs.FirstPorts.{opening_port};
+ghost use Rattle.i2c_physics.specs.SimPorts.{opening_port};
 ghost use Rattle.i2c_physics.specs.SimWorlds.{IsSimBoard};
 
 use crate::phase;
@@ -22,7 +22,7 @@ pub struct SimPort {
 
 impl Model for SimPort {
     ghost use Rattle.std.specs.Prelude.{◌≤◌, vec_capacity};
-    ghost use Rattle.i2c_outside.specs.FirstPorts.{PortView};
+    ghost use Rattle.i2c_physics.specs.SimPorts.{PortView};
 
     ghost Value = { PortView };
 

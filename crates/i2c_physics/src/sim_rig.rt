@@ -4,9 +4,8 @@ ghost use Rattle.i2c_base.specs.declared.port.Phase.{Phase};
 ghost use Rattle.i2c_spec.specs.World.{AreWorldsOf, openings, devices_of};
 ghost use Rattle.i2c_outside.specs.Causes.{Rose, counted};
 ghost use Rattle.i2c_outside.specs.Devices.{target_state};
-ghost use Rattle.i2c_outside.specs.FirstPorts.{opening_port};
-ghost use Rattle.i2c_outside.specs.FirstRigs.{no_board, none_of};
-ghost use Rattle.i2c_physics.specs.SimRigs.{kept_states, kept_logs};
+ghost use Rattle.i2c_physics.specs.SimPorts.{opening_port};
+ghost use Rattle.i2c_physics.specs.SimRigs.{no_board, none_of, kept_states, kept_logs};
 ghost use Rattle.i2c_physics.specs.SimWorlds.{IsSimBoard};
 
 use crate::SimPort;

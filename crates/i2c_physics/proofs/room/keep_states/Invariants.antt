@@ -1,7 +1,7 @@
 -- The devices that are kept and those that are left are the whole.
 use Rattle.std.proofs.Common.{◌≡◌, ℕ, ◌<◌, ◌≤◌, ◌+◌, ◌++◌, map, drop, vec_len, vec_capacity, slice_index}
 use Rattle.i2c_outside.specs.Devices.{target_state}
-use Rattle.i2c_outside.specs.FirstRigs.{states_from, IsThere}
+use Rattle.i2c_physics.specs.SimRigs.{states_from, IsThere}
 use Rattle.i2c_physics.proofs.room.keep_states.Given as goal
 
 abbrev pub invariant-loop-number : goal.invariant-loop-number

@@ -1,5 +1,5 @@
-use Rattle.i2c_outside.specs.FirstPorts.{opening_port}
-use Rattle.i2c_outside.proofs.RigLemmas.{map-more}
+use Rattle.i2c_physics.specs.SimPorts.{opening_port}
+use Rattle.i2c_physics.proofs.PlugLemmas.{map-more}
 use Rattle.i2c_physics.proofs.sim_rig.open_ports.Goals as goal
 
 pub loop-root-preserved : goal.loop-root-preserved

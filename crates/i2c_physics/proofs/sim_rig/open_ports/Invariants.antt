@@ -1,6 +1,6 @@
 use Rattle.std.proofs.Common.{◌≡◌, map}
 use Rattle.std.specs.List.{range_with_len}
-use Rattle.i2c_outside.specs.FirstPorts.{opening_port}
+use Rattle.i2c_physics.specs.SimPorts.{opening_port}
 use Rattle.i2c_physics.proofs.sim_rig.open_ports.Given as goal
 
 abbrev pub invariant-loop-root : goal.invariant-loop-root

@@ -1,8 +1,7 @@
 use Rattle.std.proofs.Common.{◌≡◌, length, map, refl, ◌∙◌, ap, arith, sym}
 use Rattle.std.proofs.lemmas.List.{length-map}
 use Rattle.i2c_spec.specs.World.{AreWorldsOf}
-use Rattle.i2c_outside.proofs.RigLemmas.{count_of_worlds, empty-from_length}
-use Rattle.i2c_physics.proofs.RigLemmas.{devices-kept}
+use Rattle.i2c_physics.proofs.RigLemmas.{count_of_worlds, empty-from_length, devices-kept}
 use Rattle.i2c_physics.proofs.room.Room.keep.Goals as goal
 
 pub returns-clause-states : goal.returns-clause-states

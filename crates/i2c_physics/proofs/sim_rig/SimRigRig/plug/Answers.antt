@@ -1,6 +1,6 @@
 use Rattle.std.proofs.Common.{◌≡◌, [], refl, arith}
 use Rattle.i2c_base.specs.declared.port.Phase.{Phase}
-use Rattle.i2c_outside.proofs.RigLemmas.{opened-count, opened-all, opened-worlds}
+use Rattle.i2c_physics.proofs.PlugLemmas.{opened-count, opened-all, opened-worlds}
 use Rattle.i2c_physics.proofs.sim_rig.SimRigRig.plug.Goals as goal
 
 pub returns-clause-count : goal.returns-clause-count
