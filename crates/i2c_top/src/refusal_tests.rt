@@ -2,7 +2,8 @@
 
 use crate::tests::{B1, FILES, ONE_READ, READ, REPLAY, ROOM, call};
 use crate::{BoardRefusal, Status};
-use i2c_outside::{FirstRig, VecSink};
+use i2c_outside::VecSink;
+use i2c_physics::SimRig;
 use std::test::Fail;
 
 const USAGE: &str =
@@ -24,7 +25,7 @@ fn words_of_no_form_are_told_the_usage_and_nothing_is_read(rt: HostRuntime) -> R
     ];
     for words in rows {
         let mut sink = VecSink::open(rt.alloc(), ROOM, Vec::new(rt.alloc()))?;
-        let mut rig = FirstRig::new();
+        let mut rig = SimRig::new();
         let (status, shelf) = call(&rt, rt.alloc(), words, &[], &[], &mut sink, &mut rig)?;
         let count = words.len();
         assert_eq!(rt; status, Status::Usage, "of {count} words");
@@ -55,7 +56,7 @@ fn a_file_that_is_missing_is_told_by_its_place_and_name(rt: HostRuntime) -> Resu
     ];
     for (files, place, line) in rows {
         let mut sink = VecSink::open(rt.alloc(), ROOM, Vec::new(rt.alloc()))?;
-        let mut rig = FirstRig::new();
+        let mut rig = SimRig::new();
         let (status, shelf) = call(&rt, rt.alloc(), &words, files, &[], &mut sink, &mut rig)?;
         assert_eq!(rt; status, Status::Read(place), "{line}");
         assert_eq!(rt; sink.bytes(), line.as_bytes(), "{line}");
@@ -78,7 +79,7 @@ fn a_read_that_fails_is_told_by_its_place_and_counted_there(rt: HostRuntime) -> 
     ];
     for (number, want, output) in rows {
         let mut sink = VecSink::open(rt.alloc(), ROOM, Vec::new(rt.alloc()))?;
-        let mut rig = FirstRig::new();
+        let mut rig = SimRig::new();
         let (status, shelf) = call(
             &rt,
             rt.alloc(),
@@ -202,7 +203,7 @@ fn a_board_in_no_plain_form_is_refused(rt: HostRuntime) -> Result<(), Fail> {
     for (why, board) in rows {
         let files = [("b", board), ("s", ""), ("c", READ)];
         let mut sink = VecSink::open(rt.alloc(), ROOM, Vec::new(rt.alloc()))?;
-        let mut rig = FirstRig::new();
+        let mut rig = SimRig::new();
         let (status, _) = call(&rt, rt.alloc(), &REPLAY, &files, &[], &mut sink, &mut rig)?;
         assert_eq!(rt; status, Status::Board(BoardRefusal::Plain), "{why}");
         assert_eq!(rt;
@@ -231,7 +232,7 @@ fn a_schedule_is_refused_where_it_has_more_than_white_space(rt: HostRuntime) -> 
     for (schedule, want, output) in rows {
         let files = [("b", B1), ("s", schedule), ("c", READ)];
         let mut sink = VecSink::open(rt.alloc(), ROOM, Vec::new(rt.alloc()))?;
-        let mut rig = FirstRig::new();
+        let mut rig = SimRig::new();
         let (status, _) = call(&rt, rt.alloc(), &REPLAY, &files, &[], &mut sink, &mut rig)?;
         assert_eq!(rt; status, want, "{schedule}");
         assert_eq!(rt; sink.bytes(), output.as_bytes(), "{schedule}");

@@ -7,7 +7,8 @@ use crate::tests::{B1, FILES, READ, REPLAY, ROOM, call};
 use crate::{BoardRefusal, Status};
 use i2c_base::{Addr, Answer, Event, PortCall, Target};
 use i2c_board::Accepted;
-use i2c_outside::{FirstPort, FirstRig, Rig, RigFail, VecSink};
+use i2c_outside::{Rig, RigFail, VecSink};
+use i2c_physics::{SimPort, SimRig};
 use std::alloc::Global;
 use std::test::Fail;
 
@@ -21,9 +22,9 @@ struct Stuck {
 }
 
 impl Rig for Stuck {
-    type P = FirstPort;
+    type P = SimPort;
 
-    ghost use Rattle.i2c_outside.specs.FirstRigs.{no_board};
+    ghost use Rattle.i2c_physics.specs.SimRigs.{no_board};
 
     ghost tells = { false };
 
@@ -43,14 +44,14 @@ impl Rig for Stuck {
 
     ghost port_faults = { λ r. [] };
 
-    fn plug(&mut self, _alloc: Global, _board: &Accepted) -> Result<Vec<FirstPort>, RigFail> {
+    fn plug(&mut self, _alloc: Global, _board: &Accepted) -> Result<Vec<SimPort>, RigFail> {
         self.faults = self.faults.saturating_add(1);
         self.plugs = self.plugs.saturating_add(1);
         self.plugged = false;
         Err(RigFail::Failed)
     }
 
-    fn unplug(&mut self, _ports: Vec<FirstPort>)
+    fn unplug(&mut self, _ports: Vec<SimPort>)
         requires { self.old.plugged ≡ true }
         ensures plugged { self.new.plugged ≡ false }
         ensures plugs { self.new.plugs ≡ self.old.plugs }
@@ -117,7 +118,7 @@ fn the_rig_keeps_the_calls_of_one_register_read(rt: HostRuntime) -> Result<(), F
         PortCall::Stop,
     ];
     let mut sink = VecSink::open(rt.alloc(), ROOM, Vec::new(rt.alloc()))?;
-    let mut rig = FirstRig::new();
+    let mut rig = SimRig::new();
     let (status, _) = call(&rt, rt.alloc(), &REPLAY, &FILES, &[], &mut sink, &mut rig)?;
     assert_eq!(rt; status, Status::Ok);
     assert_eq!(rt; rig.logs().len(), 1);
@@ -130,7 +131,7 @@ fn the_rig_keeps_the_calls_of_one_register_read(rt: HostRuntime) -> Result<(), F
 #[test]
 fn the_rig_keeps_the_device_idle_with_its_pointer_at_6(rt: HostRuntime) -> Result<(), Fail> {
     let mut sink = VecSink::open(rt.alloc(), ROOM, Vec::new(rt.alloc()))?;
-    let mut rig = FirstRig::new();
+    let mut rig = SimRig::new();
     let (status, _) = call(&rt, rt.alloc(), &REPLAY, &FILES, &[], &mut sink, &mut rig)?;
     assert_eq!(rt; status, Status::Ok);
     assert_eq!(rt; rig.states().len(), 1);

@@ -2,7 +2,8 @@
 
 use crate::Status;
 use crate::tests::{FILES, ONE_READ, REPLAY, ROOM, call};
-use i2c_outside::{FirstRig, VecSink};
+use i2c_outside::VecSink;
+use i2c_physics::SimRig;
 use std::test::Fail;
 
 #[test]
@@ -10,7 +11,7 @@ fn a_sink_that_is_full_holds_the_front_of_the_report(rt: HostRuntime) -> Result<
     let due = ONE_READ.as_bytes();
     for size in 0..due.len() {
         let mut sink = VecSink::open(rt.alloc(), size, Vec::new(rt.alloc()))?;
-        let mut rig = FirstRig::new();
+        let mut rig = SimRig::new();
         let (status, _) = call(&rt, rt.alloc(), &REPLAY, &FILES, &[], &mut sink, &mut rig)?;
         assert_eq!(rt; status, Status::Write, "room for {size}");
         assert_eq!(rt; sink.bytes(), &due[..size], "room for {size}");
@@ -36,7 +37,7 @@ fn a_write_that_fails_is_told_and_ends_the_output(rt: HostRuntime) -> Result<(),
     for (why, room, number, want, count) in rows {
         let fails = Vec::from_slice(rt.alloc(), &[number])?;
         let mut sink = VecSink::open(rt.alloc(), room, fails)?;
-        let mut rig = FirstRig::new();
+        let mut rig = SimRig::new();
         let (status, _) = call(&rt, rt.alloc(), &REPLAY, &FILES, &[], &mut sink, &mut rig)?;
         assert_eq!(rt; status, want, "{why}");
         assert_eq!(rt; sink.bytes().len(), count, "{why}");
@@ -58,7 +59,7 @@ fn a_line_that_is_not_taken_is_told_as_a_write(rt: HostRuntime) -> Result<(), Fa
     ];
     for (why, words, front) in rows {
         let mut sink = VecSink::open(rt.alloc(), 3, Vec::new(rt.alloc()))?;
-        let mut rig = FirstRig::new();
+        let mut rig = SimRig::new();
         let (status, _) = call(&rt, rt.alloc(), words, &[], &[], &mut sink, &mut rig)?;
         assert_eq!(rt; status, Status::Write, "{why}");
         assert_eq!(rt; sink.bytes(), front, "{why}");

@@ -3,7 +3,8 @@
 ghost use Rattle.std.specs.Prelude.{◌≡◌, map, string_bytes, IfOk};
 
 use crate::{Status, top};
-use i2c_outside::{FirstRig, MapShelf, OpenGate, Rig, VecSink};
+use i2c_outside::{MapShelf, OpenGate, Rig, VecSink};
+use i2c_physics::SimRig;
 use std::alloc::{AllocError, Global};
 use std::collections::BTreeMap;
 use std::sync::Wait;
@@ -153,7 +154,7 @@ fn each_row_writes_its_report_or_its_refusal(rt: HostRuntime) -> Result<(), Fail
     for (script, schedule, want, output) in rows {
         let files = [("b", B1), ("s", schedule), ("c", script)];
         let mut sink = VecSink::open(rt.alloc(), ROOM, Vec::new(rt.alloc()))?;
-        let mut rig = FirstRig::new();
+        let mut rig = SimRig::new();
         let (status, _) = call(&rt, rt.alloc(), &REPLAY, &files, &[], &mut sink, &mut rig)?;
         assert_eq!(rt; status, want, "{script}");
         assert_eq!(rt; sink.bytes(), output.as_bytes(), "{script}");

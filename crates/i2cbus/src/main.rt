@@ -5,7 +5,8 @@
 
 ghost use Rattle.std.specs.Prelude.{◌≡◌, map, string_bytes, IfOk};
 
-use i2c_outside::{FileShelf, FirstRig, OpenGate, StdoutSink};
+use i2c_outside::{FileShelf, OpenGate, StdoutSink};
+use i2c_physics::SimRig;
 use i2c_top::{Status, top};
 use std::alloc::{AllocError, Global};
 use std::env::Env;
@@ -46,7 +47,7 @@ fn run<R: Files + Print + Threads + Wait + Sync>(
 ) -> Result<Status, AllocError> {
     let mut shelf = FileShelf::new(rt, copied(alloc, words)?);
     let mut sink = StdoutSink::new(rt);
-    let mut rig = FirstRig::new();
+    let mut rig = SimRig::new();
     Ok(top(rt, alloc, words, &mut shelf, &mut sink, &mut rig, &OpenGate))
 }
 
