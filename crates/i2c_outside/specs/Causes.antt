@@ -1,5 +1,5 @@
 -- Counts of faults, and when they say that a call had a cause to fail.
-use Rattle.std.specs.Prelude.{◌≡◌, ℕ, ◌+◌, ◌-◌, ◌^◌, ◌<◌, ◌≤◌, ◌⊎◌, Result, OnErr, min}
+use Rattle.std.specs.Prelude.{◌≡◌, ℕ, ◌+◌, ◌-◌, ◌^◌, ◌<◌, ◌⊎◌, Result, OnErr, min}
 
 -- where a count that is kept in 64 bits stands still
 abbrev pub MOST : ℕ

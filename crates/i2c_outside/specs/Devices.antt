@@ -1,13 +1,12 @@
 -- How the program's devices stand for the states of the board's devices.
-use Rattle.std.specs.Prelude.{◌≡◌, [], IsTrue, All}
 use Rattle.i2c_base.specs.declared.event.Event.{Event}
 use Rattle.i2c_base.specs.declared.event.Answer.{Answer}
 use Rattle.i2c_base.specs.Table.{Table}
-use Rattle.i2c_base.specs.Board.{BoardView, DeviceView}
+use Rattle.i2c_base.specs.Board.{DeviceView}
 use Rattle.i2c_spec.specs.Regs.{regs_after, regs_answer, regs_opening}
 use Rattle.i2c_spec.specs.Targets.{TargetState}
 use Rattle.i2c_spec.specs.Targets as target
-use Rattle.i2c_outside.specs.Registers.{hold_of, is_regs}
+use Rattle.i2c_outside.specs.Registers.{hold_of}
 use Rattle.i2c_outside.specs.declared.device.DeviceState.{DeviceState}
 use Rattle.i2c_outside.specs.declared.device.DeviceState.TheVariants.{Regs}
 
@@ -33,8 +32,3 @@ device_table = record {
 -- a register device as its board says that it is opened
 abbrev pub device_opening : DeviceView → DeviceState
 device_opening d = Regs (regs_opening (hold_of d.kind) d.set)
-
--- a board without a mux whose devices are all register devices
-pub record IsFirstBoard (b : BoardView) : Type 0 where
-  pub muxes : b.muxes ≡ []
-  pub kinds : All (λ d. IsTrue (is_regs d.kind)) b.devices

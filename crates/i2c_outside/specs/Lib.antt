@@ -1,12 +1,9 @@
 pub mod Causes
 pub mod Devices
-pub mod FirstPorts
-pub mod FirstRigs
 pub mod LineCalls
 pub mod Registers
 pub mod Shelves
 pub mod Sinks
-pub mod Sites
 pub use Rattle.i2c_spec.specs.Board
 pub use Rattle.i2c_spec.specs.Phases
 pub use Rattle.i2c_spec.specs.Targets

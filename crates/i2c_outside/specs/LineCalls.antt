@@ -1,4 +1,4 @@
-use Rattle.std.specs.Prelude.{◌≡◌, ℕ, ◌≤◌, Option, Some, None}
+use Rattle.std.specs.Prelude.{◌≡◌, ℕ, ◌≤◌, Some, None}
 use Rattle.i2c_base.specs.declared.board.MuxKind.TheVariants.{Gpio}
 use Rattle.i2c_spec.specs.Tree.{of_mux, root_of, home_of_mux}
 use Rattle.i2c_spec.specs.World.{World}

@@ -8,25 +8,19 @@
 mod device;
 mod failed;
 mod file_shelf;
-mod first_port;
-mod first_rig;
 mod gate;
 mod map_shelf;
 mod port;
 mod registers;
 mod rig;
-mod room;
 mod shelf;
 mod sink;
-mod site;
 mod stdout_sink;
 mod vec_sink;
 
 pub use device::DeviceState;
 pub use failed::{Failed, ReadFail, RigFail};
 pub use file_shelf::FileShelf;
-pub use first_port::FirstPort;
-pub use first_rig::FirstRig;
 pub use gate::{Gate, OpenGate, Point};
 pub use i2c_base::{Phase, PortCall};
 pub use map_shelf::MapShelf;

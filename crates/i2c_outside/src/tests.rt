@@ -1,13 +1,6 @@
-//! What no clause says: that calls succeed, what the real things give, and the first worked example.
-ghost use Rattle.std.specs.Prelude.{◌≡◌, IfOk, length};
-ghost use Rattle.i2c_base.specs.declared.port.Phase.{Phase};
-ghost use Rattle.i2c_spec.specs.Rules.{MeetsRules};
-ghost use Rattle.i2c_outside.specs.Devices.{IsFirstBoard};
+//! What no clause says: that calls succeed, and what the real things give.
 
 use super::*;
-use i2c_base::{Addr, Answer, DeviceKind, DeviceSpec, NoMemory, RootSpec, Run, SegId};
-use i2c_board::{Accepted, Board};
-use std::alloc::Global;
 use std::collections::BTreeMap;
 use std::fmt::Display;
 use std::test::Fail;
@@ -103,55 +96,4 @@ fn what_the_output_does_not_take_is_a_fault(rt: HostRuntime) {
     let mut refusing = StdoutSink::new(&Mute);
     assert_eq!(rt; refusing.write(b"a line\n"), Err(Failed));
     assert_eq!(rt; refusing.faults(), 1);
-}
-
-/// One root, and a register device at 0x20 whose register 5 holds 0x7e.
-fn one_register(alloc: Global) -> Result<Accepted, NoMemory>
-    ensures first { IfOk result IsFirstBoard }
-    ensures one_root { IfOk result (λ b. length b.roots ≡ 1) }
-{
-    let mut set = Vec::new(alloc);
-    set.push(Run {
-        start: 5,
-        bytes: vec![in alloc; 0x7e]?,
-    })?;
-    let mut devices = Vec::new(alloc);
-    devices.push(DeviceSpec {
-        bus: SegId(0),
-        addr: Addr::new(0x20).unwrap_or_default(),
-        bound: false,
-        kind: DeviceKind::Regs { hold: 0 },
-        set,
-    })?;
-    let roots = vec![in alloc; RootSpec { smbus_only: false }]?;
-    Ok(Accepted::seal(Board::new(roots, Vec::new(alloc), devices)))
-}
-
-// The first worked example: the bytes on the wires where register 5 of the device at 0x20 is read.
-#[test]
-fn one_register_is_read(rt: HostRuntime) -> Result<(), Fail> {
-    let alloc = rt.alloc();
-    let board = one_register(alloc)?;
-    let addr = Addr::new(0x20).ok_or("a target's address")?;
-    let mut rig = FirstRig::new();
-    let mut ports = rig.plug(alloc, &board)?;
-    assert_eq!(rt; rig.states().len(), 0, "no states before an unplug");
-    let port = &mut ports[0];
-    assert_eq!(rt; port.start(addr, false)?, Answer::Ack);
-    assert_eq!(rt; port.put(5)?, true);
-    assert_eq!(rt; port.start(addr, true)?, Answer::Ack);
-    assert_eq!(rt; port.get(false)?, 0x7e);
-    port.stop()?;
-    rig.unplug(ports);
-    let calls = [
-        PortCall::Start(addr, false),
-        PortCall::Put(5),
-        PortCall::Start(addr, true),
-        PortCall::Get(false),
-        PortCall::Stop,
-    ];
-    assert_eq!(rt; rig.logs().len(), 1);
-    assert_eq!(rt; rig.logs()[0].as_slice(), calls.as_slice());
-    assert_eq!(rt; rig.states().len(), 1);
-    Ok(())
 }

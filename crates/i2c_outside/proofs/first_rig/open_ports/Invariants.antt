@@ -1,7 +1,0 @@
-use Rattle.std.proofs.Common.{◌≡◌, map}
-use Rattle.std.specs.List.{range_with_len}
-use Rattle.i2c_outside.specs.FirstPorts.{opening_port}
-use Rattle.i2c_outside.proofs.first_rig.open_ports.Given as goal
-
-abbrev pub invariant-loop-root : goal.invariant-loop-root
-invariant-loop-root l = l.ports.items ≡ map (opening_port l.board) (range_with_len 0 l.root)
