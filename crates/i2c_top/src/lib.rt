@@ -46,6 +46,8 @@ pub use script::ScriptFault;
 pub use status::{BoardRefusal, Status};
 
 #[cfg(test)]
+mod mux_tests;
+#[cfg(test)]
 mod refusal_tests;
 #[cfg(test)]
 mod rig_tests;
