@@ -1,0 +1,67 @@
+-- The step of a walk that an action tells.
+use Rattle.std.proofs.Common.{◌≡◌, ℕ, Option, Some, None, refl, sym}
+use Rattle.i2c_base.specs.declared.ids.LockId.{LockId}
+use Rattle.i2c_base.specs.declared.errno.Errno.{Errno}
+use Rattle.bus_spec.specs.Walk.{Job, Act, Take, Free, Send, Shift, Settle, job_bus, job_purpose, part_of, parts_of, line_mux, line_level}
+use Rattle.mux_plan.specs.Plans.{action_of, control_of}
+use Rattle.mux_plan.specs.declared.task.Action.{Action}
+use Rattle.mux_plan.specs.declared.task.Action.TheVariants as action
+use Rattle.bus_core.specs.Sends.{IsMessageOf}
+use Rattle.bus_core.specs.declared.sending.Sending.{Sending}
+
+abbrev sending : Job → ℕ → Action
+sending job left = action.Send (job_bus job) (job_purpose job) (part_of job left) (parts_of job) (control_of job left)
+
+pub take-of : (o : Option Act) (l : LockId) → action_of o ≡ action.Take l → o ≡ Some (Take l)
+take-of None l e = absurd (let f : action.Done ≡ action.Take l = e in cc)
+take-of (Some (Take k)) l e = (let f : action.Take k ≡ action.Take l = e in cc)
+take-of (Some (Free k)) l e = absurd (let f : action.Free k ≡ action.Take l = e in cc)
+take-of (Some (Send job left)) l e = absurd (let f : sending job left ≡ action.Take l = e in cc)
+take-of (Some (Shift job)) l e = absurd (let f : action.Line (line_mux job) (line_level job) ≡ action.Take l = e in cc)
+take-of (Some (Settle v)) l e = absurd (let f : action.Settle v ≡ action.Take l = e in cc)
+
+pub free-of : (o : Option Act) (l : LockId) → action_of o ≡ action.Free l → o ≡ Some (Free l)
+free-of None l e = absurd (let f : action.Done ≡ action.Free l = e in cc)
+free-of (Some (Take k)) l e = absurd (let f : action.Take k ≡ action.Free l = e in cc)
+free-of (Some (Free k)) l e = (let f : action.Free k ≡ action.Free l = e in cc)
+free-of (Some (Send job left)) l e = absurd (let f : sending job left ≡ action.Free l = e in cc)
+free-of (Some (Shift job)) l e = absurd (let f : action.Line (line_mux job) (line_level job) ≡ action.Free l = e in cc)
+free-of (Some (Settle v)) l e = absurd (let f : action.Settle v ≡ action.Free l = e in cc)
+
+pub settle-of : (o : Option Act) (verdict : Option Errno) → action_of o ≡ action.Settle verdict → o ≡ Some (Settle verdict)
+settle-of None v e = absurd (let f : action.Done ≡ action.Settle v = e in cc)
+settle-of (Some (Take k)) v e = absurd (let f : action.Take k ≡ action.Settle v = e in cc)
+settle-of (Some (Free k)) v e = absurd (let f : action.Free k ≡ action.Settle v = e in cc)
+settle-of (Some (Send job left)) v e = absurd (let f : sending job left ≡ action.Settle v = e in cc)
+settle-of (Some (Shift job)) v e = absurd (let f : action.Line (line_mux job) (line_level job) ≡ action.Settle v = e in cc)
+settle-of (Some (Settle w)) v e = (let f : action.Settle w ≡ action.Settle v = e in cc)
+
+pub line-of : (o : Option Act) (mux level : ℕ) → action_of o ≡ action.Line mux level → (job : Job) × (o ≡ Some (Shift job))
+line-of None m level e = absurd (let f : action.Done ≡ action.Line m level = e in cc)
+line-of (Some (Take k)) m level e = absurd (let f : action.Take k ≡ action.Line m level = e in cc)
+line-of (Some (Free k)) m level e = absurd (let f : action.Free k ≡ action.Line m level = e in cc)
+line-of (Some (Send job left)) m level e = absurd (let f : sending job left ≡ action.Line m level = e in cc)
+line-of (Some (Shift job)) m level e = (job, refl)
+line-of (Some (Settle w)) m level e = absurd (let f : action.Settle w ≡ action.Line m level = e in cc)
+
+-- the message that comes next
+pub send-of : (o : Option Act) (next : Sending) → action_of o ≡ action.Send next.bus next.purpose next.part next.parts next.control
+    → (job : Job) × (left : ℕ) × (o ≡ Some (Send job left)) × IsMessageOf job left next
+send-of None n e = absurd (let f : action.Done ≡ action.Send n.bus n.purpose n.part n.parts n.control = e in cc)
+send-of (Some (Take k)) n e = absurd (let f : action.Take k ≡ action.Send n.bus n.purpose n.part n.parts n.control = e in cc)
+send-of (Some (Free k)) n e = absurd (let f : action.Free k ≡ action.Send n.bus n.purpose n.part n.parts n.control = e in cc)
+send-of (Some (Send job left)) n e =
+    let f : sending job left ≡ action.Send n.bus n.purpose n.part n.parts n.control = e in (
+      job,
+      left,
+      refl,
+      record {
+        on_bus = (let g : job_bus job ≡ n.bus = cc in sym g);
+        for_purpose = (let g : job_purpose job ≡ n.purpose = cc in sym g);
+        as_part = (let g : part_of job left ≡ n.part = cc in sym g);
+        of_parts = (let g : parts_of job ≡ n.parts = cc in sym g);
+        with_byte = (let g : control_of job left ≡ n.control = cc in sym g);
+      },
+    )
+send-of (Some (Shift job)) n e = absurd (let f : action.Line (line_mux job) (line_level job) ≡ action.Send n.bus n.purpose n.part n.parts n.control = e in cc)
+send-of (Some (Settle w)) n e = absurd (let f : action.Settle w ≡ action.Send n.bus n.purpose n.part n.parts n.control = e in cc)
