@@ -1,11 +1,15 @@
 -- Boards of the plain forms: at most one mux stands over a bus, and what a command costs there. The inductions go over
 -- the muxes, the last one first.
-use Rattle.std.proofs.Common.{◌≡◌, ℕ, ◌+◌, ◌-◌, ◌≤◌, ◌⊎◌, inl, inr, Bool, true, false, cond, List, [], ◌∷◌, length, reverse, refl, sym, ap, subst, ◌∙◌, arith}
-use Rattle.std.specs.Prelude.{All, nat_le, nat_lt, sum_by}
+use Rattle.std.proofs.Common.{◌≡◌, ℕ, ◌+◌, ◌-◌, ◌≤◌, ◌⊎◌, inl, inr, Bool, true, false, cond, List, [], ◌∷◌, length, reverse, Option, Some, None, unwrap_or, refl, sym, ap, subst, ◌∙◌, arith}
+use Rattle.std.specs.Prelude.{slice_get, All, nat_le, nat_lt, sum_by}
 use Rattle.std.proofs.lemmas.Bool.Decides.{nat_tests}
 use Rattle.std.proofs.lemmas.List.{length-reverse, get_or-reverse}
 use Rattle.std.proofs.lemmas.List.Elements.{All-head, All-tail}
+use Rattle.std.specs.Option.{option_map}
 use Rattle.i2c_base.specs.Board.{BoardView}
+use Rattle.bus_spec.specs.Walk.{is_gpio}
+use Rattle.bus_laws.specs.Jobs.{HasNoLine}
+use Rattle.bus_laws.proofs.BoardFacts.{get_within}
 use Rattle.i2c_base.specs.declared.board.MuxKind.TheVariants.{Pca9548}
 use Rattle.i2c_base.specs.declared.board.MuxSpec.{MuxSpec}
 use Rattle.i2c_spec.specs.Tree.{Hop, hops, hops_of, hop_at, put_if, buses, buses_of, is_parent}
@@ -75,3 +79,13 @@ pub form_cost : (b : BoardView) (g : Get) → IsFormBoard b → cost_of b (read_
 form_cost b g f =
     let full : full_cost (hops b g.bus) 4 ≤ 14 = few_cost (hops b g.bus) 4 (form_hops b g.bus f) in
     elim (nat_lt g.bus (buses b)) as (λ v. cond v (1 + full_cost (hops b g.bus) 4) 1 ≤ 15) [ true ↦ omega (arith, full) | false ↦ omega arith ]
+
+-- none of them is a gpio mux
+pub form-lines : (b : BoardView) → IsFormBoard b → HasNoLine b
+form-lines b f m = by (slice_get b.muxes m) refl
+  where
+    by : (o : Option MuxSpec) → slice_get b.muxes m ≡ o → is_gpio (unwrap_or (option_map (λ (x : MuxSpec). x.kind) o) Pca9548) ≡ false
+    by None e = refl
+    by (Some x) e =
+        let at = get_within b.muxes m x x e in
+        ap (λ (y : MuxSpec). is_gpio y.kind) (sym at.1) ∙ ap is_gpio (f.switches m x at.0).kind_is

@@ -1,9 +1,6 @@
 -- How a call of the program ends, and the words, scripts and boards that it reads.
-pub mod Asking
 pub mod Callers
 pub mod Commands
-pub mod Converses
-pub mod Cores
 pub mod Endings
 pub mod Forms
 pub mod Fronts
@@ -16,9 +13,6 @@ pub mod Runs
 pub mod Schedules
 pub mod Scripts
 pub mod ScriptSteps
-pub mod Stages
 pub mod Status
-pub mod Talks
 pub mod Traces
-pub mod Views
 pub mod Written

@@ -13,13 +13,10 @@
 mod caller;
 mod command;
 mod files;
-mod finish;
 mod front;
 mod journal;
 mod line;
-mod message;
 mod number;
-mod parts;
 mod plain;
 mod plain_board;
 mod program;
@@ -30,9 +27,7 @@ mod run;
 mod schedule;
 mod script;
 mod section;
-mod stage;
 mod status;
-mod steps;
 mod text;
 mod write;
 

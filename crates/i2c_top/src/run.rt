@@ -1,4 +1,4 @@
-ghost use Rattle.std.specs.Prelude.{◌≡◌, ◌≤◌, ◌⊎◌, [], ◌∷◌, false, None, Err, IfOk, OnOk, IfErr, IsTrue, All, length, map};
+ghost use Rattle.std.specs.Prelude.{◌≡◌, ◌≤◌, ◌⊎◌, [], ◌∷◌, true, false, None, Err, IfOk, OnOk, IfErr, IsTrue, All, length, map};
 ghost use Rattle.i2c_outside.specs.Causes.{Rose, counted};
 ghost use Rattle.i2c_base.specs.declared.port.Phase.{Phase};
 ghost use Rattle.i2c_spec.specs.World.{openings};
@@ -6,14 +6,14 @@ ghost use Rattle.bus_spec.specs.Report.{report_lines};
 ghost use Rattle.i2c_top.specs.Callers.{opened, board_of};
 ghost use Rattle.i2c_top.specs.PlainForm.{IsFormBoard};
 ghost use Rattle.i2c_top.specs.Scripts.{asked_by, left_of, commands_of, section_text};
-ghost use Rattle.i2c_top.specs.Views.{IsKept};
-ghost use Rattle.i2c_top.specs.declared.stage.Stage.TheVariants as stage;
+ghost use Rattle.bus_spec.specs.Grammar.{is_over};
+ghost use Rattle.bus_core.specs.Seats.{walk_left};
+ghost use Rattle.bus_core.specs.Views.{IsKept};
 ghost use Rattle.i2c_top.specs.Runs.{HasRun};
 ghost use Rattle.i2c_top.specs.declared.status.Status.TheVariants as status;
 
-use crate::finish::{finish, open, room};
-use crate::parts::Parts;
 use crate::{Journal, Script, Status, report_text, scripts_are_fair};
+use bus_core::{Parts, Room, finish, open};
 use i2c_base::{Entry, NoMemory};
 use i2c_board::Accepted;
 use i2c_outside::{Port, Rig, RigFail};
@@ -32,21 +32,18 @@ fn finished<'b, P: Port>(
     requires idle { All (λ p. P.phase p ≡ Phase.Idle) ports.items }
     requires empty { IsTrue P.tells → All (λ p. P.log p ≡ []) ports.items }
     requires worlds { IsTrue P.tells → map P.world ports.items ≡ openings board.now }
-    ensures kept { IfOk result (λ parts. IsKept P.tells P.world P.log asked_by left_of board_of (λ c. c.script) (λ c. c.taken) parts stage.Over) }
+    ensures kept { IfOk result (λ parts. IsKept P.tells P.world P.log asked_by left_of board_of (λ c. c.script) (λ c. c.taken) parts) }
+    ensures over { IfOk result (λ parts. is_over (walk_left parts.board.now parts.seat) ≡ true) }
     ensures done { IfOk result (λ parts. asked_by parts.caller.script parts.caller.taken ≡ None) }
     ensures script { IfOk result (λ parts. parts.caller.script ≡ script.script) }
     ensures board { IfOk result (λ parts. parts.board.now ≡ board.now) }
 {
-    // The core has no muxes yet: a board with one counts as one that there is no room for.
-    if !board.board().muxes().is_empty() {
-        return Err(ports);
-    }
     scripts_are_fair();
     let limit = script.most_steps();
-    let Ok(journal) = room(alloc, limit) else {
+    let Ok(room) = Room::new(alloc, board.board(), limit) else {
         return Err(ports);
     };
-    let mut parts = open(board, ports, script, journal, limit);
+    let mut parts = open(board, ports, script, room, limit);
     match finish(&mut parts) {
         Ok(()) => Ok(parts),
         Err(NoMemory) => Err(parts.ports),

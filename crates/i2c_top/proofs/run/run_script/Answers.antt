@@ -1,5 +1,5 @@
 use Rattle.i2c_top.proofs.RunLemmas.{run-told}
-use Rattle.i2c_top.specs.Views.{view_of}
+use Rattle.bus_core.specs.Views.{view_of}
 use Rattle.i2c_top.proofs.run.run_script.Goals as goal
 
 pub returns-in_ok-report-in-Ok-finished-clause-run : goal.returns-in_ok-report-in-Ok-finished-clause-run
@@ -8,7 +8,7 @@ returns-in_ok-report-in-Ok-finished-clause-run g c =
     let over = c.in-Ok-finished.ensures in
     run-told g.R.P.Port.tells
     (view_of g.R.P.Port.world g.R.P.Port.log (λ x. x.script) (λ x. x.taken) c.in-Ok-finished.parts)
-    tell over.kept over.done c.args.board.now (g.R.Rig.board_of c.plug.new.self) c.args.script.script over.board c.in-Ok.ensures.board over.script
+    tell over.kept over.over over.done c.args.board.now (g.R.Rig.board_of c.plug.new.self) c.args.script.script over.board c.in-Ok.ensures.board over.script
     c.in_ok-report-in-Ok-finished.field-0.items (g.R.Rig.logs c.unplug.new.self) (g.R.Rig.states c.unplug.new.self)
     c.in_ok-report-in-Ok-finished.ensures
     (c.unplug.ensures.states tells tell)
