@@ -12,7 +12,7 @@ use std::thread::Threads;
 
 /// One root with a parent-locked switch at 0x70, a device at 0x20 on the root whose register 5 holds 0x7e, and a device
 /// at 0x30 on this bus whose register 0 holds 0x11.
-fn board(alloc: Global, bus: u8) -> Result<String, AllocError> {
+pub fn board(alloc: Global, bus: u8) -> Result<String, AllocError> {
     format!(in alloc;
         "version = 1\n[[root]]\n[[mux]]\nbus = 0\nkind = \"pca9548\"\naddress = 0x70\nlock = \"parent\"\n[[device]]\nbus = 0\nkind = \"regs\"\naddress = 0x20\nset = [[5, 0x7e]]\n[[device]]\nbus = {bus}\nkind = \"regs\"\naddress = 0x30\nset = [[0, 0x11]]\n"
     )

@@ -3,6 +3,7 @@
 ghost use Rattle.std.specs.Prelude.{◌≡◌, ◌≤◌, [], true, false};
 ghost use Rattle.i2c_outside.specs.Causes.{counted};
 
+use crate::mux_tests::board;
 use crate::tests::{B1, FILES, READ, REPLAY, ROOM, call};
 use crate::{BoardRefusal, Status};
 use i2c_base::{Addr, Answer, Event, PortCall, Target};
@@ -147,5 +148,31 @@ fn the_rig_keeps_the_device_idle_with_its_pointer_at_6(rt: HostRuntime) -> Resul
         );
     }
     assert_eq!(rt; device.on(Event::Get { ack: false }), Answer::Byte(0x7e));
+    Ok(())
+}
+
+// Both boards' devices hold this byte in register 0, the one that comes behind register 255.
+#[test]
+fn behind_the_last_register_comes_the_first(rt: HostRuntime) -> Result<(), Fail> {
+    let single = "version = 1\n[[root]]\n[[device]]\nbus = 0\nkind = \"regs\"\naddress = 0x20\nset = [[0, 0x5a]]\n";
+    let muxed = board(rt.alloc(), 4)?;
+    let rows = [
+        (single, "i2cget -y 0 0x20 255\n", 0, 0x5a),
+        (muxed.as_str(), "i2cget -y 4 0x30 0xff\n", 1, 0x11),
+    ];
+    for (board, script, place, byte) in rows {
+        let files = [("b", board), ("s", ""), ("c", script)];
+        let mut sink = VecSink::open(rt.alloc(), ROOM, Vec::new(rt.alloc()))?;
+        let mut rig = SimRig::new();
+        let (status, _) = call(&rt, rt.alloc(), &REPLAY, &files, &[], &mut sink, &mut rig)?;
+        assert_eq!(rt; status, Status::Ok, "{script}");
+        let mut device = rig.states()[place].copied();
+        assert_eq!(rt; device.on(Event::Start { reading: true }), Answer::Ack);
+        assert_eq!(rt;
+            device.on(Event::Get { ack: false }),
+            Answer::Byte(byte),
+            "{script}"
+        );
+    }
     Ok(())
 }
