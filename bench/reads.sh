@@ -1,5 +1,6 @@
 #!/usr/bin/env bash
-# How long the proved program takes for 100 and for 1,000 register reads, and how much memory.
+# How long the proved program takes for 100 and for 1,000 register reads on a root, and for 1,000 behind a mux, and how
+# much memory. An entry of the journal should take at most 1.3 times as long behind the mux as on the root.
 #
 #     bench/reads.sh [PROGRAM]
 #
@@ -11,7 +12,14 @@ export LC_ALL=C
 RUNS=21 # odd, so that the median is one of them
 FEW=100
 MANY=1000
-ENTRIES_A_READ=5 # take, two messages, settle, free
+WANTED=1.3 # so many times as long as on the root may an entry take behind the mux
+
+# The bus, the address and the number of the device that is read, and the entries of one read: take, two messages,
+# settle, free; behind the mux there are two locks, and the channel is selected and deselected.
+declare -A bus=([root]=0 [mux]=1)
+declare -A address=([root]=0x20 [mux]=0x30)
+declare -A device=([root]=0 [mux]=1)
+declare -A entries_a_read=([root]=5 [mux]=9)
 
 program=${1:-$(dirname "$0")/../crates/i2cbus/out/i2cbus}
 if [ ! -f "$program" ] || [ ! -x "$program" ]; then
@@ -22,42 +30,62 @@ fi
 folder=$(mktemp -d) || exit 1
 trap 'rm -rf "$folder"' EXIT
 
-# One root, and a register device at 0x20 whose register 5 holds 0x7e.
-printf '%s\n' 'version = 1' '[[root]]' '[[device]]' 'bus = 0' 'kind = "regs"' 'address = 0x20' 'set = [[5, 0x7e]]' \
-  >"$folder/board"
-: >"$folder/schedule"
+# A register device whose register 5 holds 0x7e.
+device_of() {
+  printf '%s\n' '[[device]]' "bus = ${bus[$1]}" 'kind = "regs"' "address = ${address[$1]}" 'set = [[5, 0x7e]]'
+}
 
-# The script of so many reads, each of the next register, and the report that is due.
+# One root with such a device, and the same with a parent-locked mux whose first channel has a device too.
+write_boards() {
+  printf '%s\n' 'version = 1' '[[root]]' >"$folder/board.root"
+  cp "$folder/board.root" "$folder/board.mux"
+  printf '%s\n' '[[mux]]' 'bus = 0' 'kind = "pca9548"' 'address = 0x70' 'lock = "parent"' >>"$folder/board.mux"
+  device_of root | tee -a "$folder/board.mux" >>"$folder/board.root"
+  device_of mux >>"$folder/board.mux"
+  : >"$folder/schedule"
+}
+
+# The script of so many reads on this board, each of the next register, and the report that is due.
 write_files() {
-  awk -v lines="$1" -v script="$folder/script.$1" -v due="$folder/due.$1" 'BEGIN {
+  awk -v lines="$2" -v script="$folder/script.$1.$2" -v due="$folder/due.$1.$2" \
+    -v bus="${bus[$1]}" -v address="${address[$1]}" -v device="${device[$1]}" 'BEGIN {
     printf "" >script
     print "caller 0" >due
     for (i = 0; i < lines; i++) {
-      command = "i2cget -y 0 0x20 " i % 256
+      command = "i2cget -y " bus " " address " " i % 256
       print command >script
       printf "> %s\n0x%s\n", command, i % 256 == 5 ? "7e" : "00" >due
     }
     print "journal" >due
     for (i = 0; i < lines; i++) {
       byte = i % 256 == 5 ? "7e" : "00"
+      if (bus > 0) print "take 0 muxlock 0" >due
       print "take 0 buslock 0" >due
-      printf "msg 0 bus 0 call 1/2 w 0x20 [%02x] heard d0 ok\n", i % 256 >due
-      printf "msg 0 bus 0 call 2/2 r 0x20 [%s] heard d0 ok\n", byte >due
+      if (bus > 0) print "msg 0 bus 0 mux 0 1/1 w 0x70 [01] heard m0 ok" >due
+      printf "msg 0 bus %d call 1/2 w %s [%02x] heard d%d ok\n", bus, address, i % 256, device >due
+      printf "msg 0 bus %d call 2/2 r %s [%s] heard d%d ok\n", bus, address, byte, device >due
       print "settle 0 read " byte >due
+      if (bus > 0) print "msg 0 bus 0 mux 0 1/1 w 0x70 [00] heard m0 ok" >due
       print "free 0 buslock 0" >due
+      if (bus > 0) print "free 0 muxlock 0" >due
     }
     print "end" >due
   }'
 }
 
-# The run of so many reads ended with this status: it has to be 0, with the report that is due.
+# Does the reads of this board and number.
+run_reads() {
+  "$program" replay "$folder/board.$1" "$folder/schedule" "$folder/script.$1.$2" >"$folder/out" </dev/null
+}
+
+# That run ended with this status: it has to be 0, with the report that is due.
 check_run() {
-  if [ "$2" -ne 0 ]; then
-    echo "the run of $1 reads ended with status $2" >&2
+  if [ "$3" -ne 0 ]; then
+    echo "the run of $2 reads ($1) ended with status $3" >&2
     exit 1
   fi
-  if ! cmp -s "$folder/out" "$folder/due.$1"; then
-    echo "the run of $1 reads printed another report than is due" >&2
+  if ! cmp -s "$folder/out" "$folder/due.$1.$2"; then
+    echo "the run of $2 reads ($1) printed another report than is due" >&2
     exit 1
   fi
 }
@@ -67,10 +95,10 @@ times_of() {
   local run begin end status
   for ((run = 0; run < RUNS; run++)); do
     begin=$EPOCHREALTIME
-    "$program" replay "$folder/board" "$folder/schedule" "$folder/script.$1" >"$folder/out" </dev/null
+    run_reads "$1" "$2"
     status=$?
     end=$EPOCHREALTIME
-    check_run "$1" "$status"
+    check_run "$1" "$2" "$status"
     echo $((${end/./} - ${begin/./}))
   done >"$folder/times"
   sort -n "$folder/times"
@@ -82,25 +110,28 @@ memory_of() {
   local status
   /usr/bin/time -f %M -o "$folder/memory" true 2>/dev/null || return
   /usr/bin/time -f %M -o "$folder/memory" \
-    "$program" replay "$folder/board" "$folder/schedule" "$folder/script.$1" >"$folder/out" </dev/null
+    "$program" replay "$folder/board.$1" "$folder/schedule" "$folder/script.$1.$2" >"$folder/out" </dev/null
   status=$?
-  check_run "$1" "$status"
+  check_run "$1" "$2" "$status"
   tail -n 1 "$folder/memory"
 }
 
+# Measures so many reads on this board.
 measure() {
-  write_files "$1"
+  write_files "$1" "$2"
   local times
-  times=$(times_of "$1") || exit 1
-  best[$1]=$(sed -n 1p <<<"$times")
-  median[$1]=$(sed -n "$((RUNS / 2 + 1))p" <<<"$times")
-  memory[$1]=$(memory_of "$1") || exit 1
-  size[$1]=$(($(wc -c <"$folder/due.$1")))
+  times=$(times_of "$1" "$2") || exit 1
+  entries[$1.$2]=$(($2 * entries_a_read[$1]))
+  best[$1.$2]=$(sed -n 1p <<<"$times")
+  median[$1.$2]=$(sed -n "$((RUNS / 2 + 1))p" <<<"$times")
+  an_entry[$1.$2]=$((median[$1.$2] * 1000 / entries[$1.$2]))
+  memory[$1.$2]=$(memory_of "$1" "$2") || exit 1
+  size[$1.$2]=$(($(wc -c <"$folder/due.$1.$2")))
 }
 
-# A row of the table: its name, and a word for each number of lines and for the ratio of the two.
+# A row of the table: its name, and a word for each of the three and for the ratio to the one before.
 row() {
-  printf '%-26s %12s %12s %8s\n' "$@"
+  printf '%-26s %12s %12s %8s %12s %8s\n' "$@"
 }
 
 # So many thousandths, with a point.
@@ -112,19 +143,33 @@ ratio() {
   awk -v few="$1" -v many="$2" 'BEGIN { if (few > 0) printf "%.2f", many / few; else printf "-" }'
 }
 
-declare -A best median memory size
-measure "$FEW"
-measure "$MANY"
+# A row of three numbers as they are, and of three in thousandths. One that isn't known is a dash.
+row_of_numbers() {
+  row "$1" "${2:--}" "${3:--}" "$(ratio "${2:-0}" "${3:-0}")" "${4:--}" "$(ratio "${3:-0}" "${4:-0}")"
+}
 
-row "reads" "$FEW" "$MANY" "ratio"
-row "journal entries" $((FEW * ENTRIES_A_READ)) $((MANY * ENTRIES_A_READ)) "$(ratio "$FEW" "$MANY")"
-row "best of $RUNS runs, ms" "$(thousandths "${best[$FEW]}")" "$(thousandths "${best[$MANY]}")" \
-  "$(ratio "${best[$FEW]}" "${best[$MANY]}")"
-row "median of $RUNS runs, ms" "$(thousandths "${median[$FEW]}")" "$(thousandths "${median[$MANY]}")" \
-  "$(ratio "${median[$FEW]}" "${median[$MANY]}")"
-entry_few=$((median[$FEW] * 1000 / (FEW * ENTRIES_A_READ)))
-entry_many=$((median[$MANY] * 1000 / (MANY * ENTRIES_A_READ)))
-row "median an entry, us" "$(thousandths "$entry_few")" "$(thousandths "$entry_many")" \
-  "$(ratio "$entry_few" "$entry_many")"
-row "peak memory, KiB" "${memory[$FEW]:--}" "${memory[$MANY]:--}" "$(ratio "${memory[$FEW]:-0}" "${memory[$MANY]:-0}")"
-row "output, bytes" "${size[$FEW]}" "${size[$MANY]}" "$(ratio "${size[$FEW]}" "${size[$MANY]}")"
+row_of_times() {
+  row "$1" "$(thousandths "$2")" "$(thousandths "$3")" "$(ratio "$2" "$3")" "$(thousandths "$4")" "$(ratio "$3" "$4")"
+}
+
+declare -A entries best median an_entry memory size
+write_boards
+measure root "$FEW"
+measure root "$MANY"
+measure mux "$MANY"
+
+few=root.$FEW
+many=root.$MANY
+behind=mux.$MANY
+
+row "reads" "$FEW" "$MANY" "ratio" "$MANY" "ratio"
+row "where" "root" "root" "" "mux" ""
+row_of_numbers "journal entries" "${entries[$few]}" "${entries[$many]}" "${entries[$behind]}"
+row_of_times "best of $RUNS runs, ms" "${best[$few]}" "${best[$many]}" "${best[$behind]}"
+row_of_times "median of $RUNS runs, ms" "${median[$few]}" "${median[$many]}" "${median[$behind]}"
+row_of_times "median an entry, us" "${an_entry[$few]}" "${an_entry[$many]}" "${an_entry[$behind]}"
+row_of_numbers "peak memory, KiB" "${memory[$few]}" "${memory[$many]}" "${memory[$behind]}"
+row_of_numbers "output, bytes" "${size[$few]}" "${size[$many]}" "${size[$behind]}"
+
+slower=$(ratio "${an_entry[$many]}" "${an_entry[$behind]}")
+echo "an entry behind the mux takes $slower times as long as on the root; wanted: at most $WANTED"
