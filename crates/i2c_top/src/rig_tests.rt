@@ -154,7 +154,8 @@ fn the_rig_keeps_the_device_idle_with_its_pointer_at_6(rt: HostRuntime) -> Resul
 // Both boards' devices hold this byte in register 0, the one that comes behind register 255.
 #[test]
 fn behind_the_last_register_comes_the_first(rt: HostRuntime) -> Result<(), Fail> {
-    let single = "version = 1\n[[root]]\n[[device]]\nbus = 0\nkind = \"regs\"\naddress = 0x20\nset = [[0, 0x5a]]\n";
+    let single =
+        "version = 1\n[[root]]\n[[device]]\nbus = 0\nkind = \"regs\"\naddress = 0x20\nset = [[0, 0x5a]]\n";
     let muxed = board(rt.alloc(), 4)?;
     let rows = [
         (single, "i2cget -y 0 0x20 255\n", 0, 0x5a),
