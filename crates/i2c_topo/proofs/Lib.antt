@@ -1,0 +1,2 @@
+pub mod BrokenLemmas
+pub mod MuxLemmas
