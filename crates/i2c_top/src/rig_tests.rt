@@ -11,7 +11,10 @@ use i2c_board::Accepted;
 use i2c_outside::{Rig, RigFail, VecSink};
 use i2c_physics::{SimPort, SimRig};
 use std::alloc::Global;
+use std::process::Abort;
+use std::sync::Wait;
 use std::test::Fail;
+use std::thread::Threads;
 
 /// A rig that is never plugged: it counts each try, and a fault each time.
 #[derive(Drop)]
@@ -151,29 +154,44 @@ fn the_rig_keeps_the_device_idle_with_its_pointer_at_6(rt: HostRuntime) -> Resul
     Ok(())
 }
 
+// Runs a script that reads register 255 of the device at a place, and reads on from there.
+fn assert_wraps<'a, H: Threads + Wait + Sync + Abort>(
+    rt: &H,
+    alloc: Global,
+    board: &'a str,
+    script: &'a str,
+    place: usize,
+    byte: u8,
+) -> Result<(), Fail> {
+    let files = [("b", board), ("s", ""), ("c", script)];
+    let mut sink = VecSink::open(alloc, ROOM, Vec::new(alloc))?;
+    let mut rig = SimRig::new();
+    let (status, _) = call(rt, alloc, &REPLAY, &files, &[], &mut sink, &mut rig)?;
+    assert_eq!(rt; status, Status::Ok, "{script}");
+    let device = rig.states().get(place).ok_or("no device")?;
+    let mut device = device.copied();
+    assert_eq!(rt; device.on(Event::Start { reading: true }), Answer::Ack);
+    assert_eq!(rt;
+        device.on(Event::Get { ack: false }),
+        Answer::Byte(byte),
+        "{script}"
+    );
+    Ok(())
+}
+
 // Both boards' devices hold this byte in register 0, the one that comes behind register 255.
 #[test]
 fn behind_the_last_register_comes_the_first(rt: HostRuntime) -> Result<(), Fail> {
     let single =
         "version = 1\n[[root]]\n[[device]]\nbus = 0\nkind = \"regs\"\naddress = 0x20\nset = [[0, 0x5a]]\n";
     let muxed = board(rt.alloc(), 4)?;
-    let rows = [
-        (single, "i2cget -y 0 0x20 255\n", 0, 0x5a),
-        (muxed.as_str(), "i2cget -y 4 0x30 0xff\n", 1, 0x11),
-    ];
-    for (board, script, place, byte) in rows {
-        let files = [("b", board), ("s", ""), ("c", script)];
-        let mut sink = VecSink::open(rt.alloc(), ROOM, Vec::new(rt.alloc()))?;
-        let mut rig = SimRig::new();
-        let (status, _) = call(&rt, rt.alloc(), &REPLAY, &files, &[], &mut sink, &mut rig)?;
-        assert_eq!(rt; status, Status::Ok, "{script}");
-        let mut device = rig.states()[place].copied();
-        assert_eq!(rt; device.on(Event::Start { reading: true }), Answer::Ack);
-        assert_eq!(rt;
-            device.on(Event::Get { ack: false }),
-            Answer::Byte(byte),
-            "{script}"
-        );
-    }
-    Ok(())
+    assert_wraps(&rt, rt.alloc(), single, "i2cget -y 0 0x20 255\n", 0, 0x5a)?;
+    assert_wraps(
+        &rt,
+        rt.alloc(),
+        muxed.as_str(),
+        "i2cget -y 4 0x30 0xff\n",
+        1,
+        0x11,
+    )
 }
