@@ -1,0 +1,7 @@
+pub mod DataLemmas
+pub mod KeepLemmas
+pub mod MuxLemmas
+pub mod RowLemmas
+pub mod RuleLemmas
+pub mod RunLemmas
+pub mod TextLemmas

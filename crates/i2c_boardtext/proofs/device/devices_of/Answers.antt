@@ -1,0 +1,26 @@
+use Rattle.std.proofs.Common.{◌≡◌, ◌<◌, ◌++◌, [], ◌∷◌, length, arith}
+use Rattle.i2c_boardtext.proofs.RowLemmas.{read_more}
+use Rattle.toml.specs.View.{table_view}
+use Rattle.i2c_boardtext.proofs.device.devices_of.Goals as goal
+use Rattle.i2c_boardtext.specs.BoardText.{device_of, devices_of}
+use Rattle.i2c_boardtext.specs.Rows.{rows_of, IsOn}
+use Rattle.i2c_boardtext.specs.declared.fault.TableName.TheVariants.{Device}
+use Rattle.std.proofs.lemmas.List.{length-append}
+use Rattle.i2c_boardtext.proofs.RowLemmas.{All-push}
+use Rattle.i2c_spec.specs.Plain.{IsPlainDevice}
+
+pub loop-value-preserved : goal.loop-value-preserved
+loop-value-preserved c =
+    let before = c.loop-value.devices.items in
+    let device = c.in_ok-device.device in
+    let same : c.push.new.self.items ≡ before ++ device ∷ [] = c.in_ok-push.ensures.items in
+    let within : c.loop-value.value-index < length c.args.rows.now = omega arith in
+    record {
+      count = rw (same, length-append before (device ∷ [])) (omega (arith, c.loop-value.invariant.count));
+      plain = rw same (All-push IsPlainDevice before device c.loop-value.invariant.plain c.in_ok-device.ensures.plain);
+      placed = rw same (All-push (IsOn c.args.buses) before device c.loop-value.invariant.placed c.in_ok-device.ensures.placed);
+      told =
+          read_more Device (λ before. device_of c.args.buses) before c.push.new.self.items device (devices_of c.args.buses (rows_of c.args.rows.now))
+          c.args.rows.now c.loop-value.value-index c.value-item.result (table_view c.row.result.now) c.len-index.result within
+          c.value-item.is c.row.ensures (omega arith) c.in_ok-device.ensures.exact same c.loop-value.invariant.told;
+    }

@@ -1,0 +1,16 @@
+use Rattle.std.proofs.Common.{◌≡◌, length, drop}
+use Rattle.std.specs.Prelude.{All}
+use Rattle.i2c_spec.specs.Plain.{IsPlainDevice}
+use Rattle.i2c_boardtext.specs.BoardText.{each, device_of, devices_of}
+use Rattle.i2c_boardtext.specs.Rows.{IsOn, rows_of}
+use Rattle.i2c_boardtext.specs.declared.fault.TableName.TheVariants.{Device}
+use Rattle.i2c_boardtext.proofs.device.devices_of.Given as goal
+
+-- what is read and what is left are the whole
+abbrev pub invariant-loop-value : goal.invariant-loop-value
+invariant-loop-value l = record {
+  count : length l.devices.items ≡ l.value-index;
+  plain : All IsPlainDevice l.devices.items;
+  placed : All (IsOn l.buses) l.devices.items;
+  told : each Device (λ before. device_of l.buses) l.devices.items (rows_of (drop l.value-index l.rows)) ≡ devices_of l.buses (rows_of l.rows);
+}

@@ -1,0 +1,33 @@
+use Rattle.std.proofs.Common.{◌≡◌, ◌+◌, ◌<◌, ◌++◌, [], ◌∷◌, length, refl, ap, sym, ◌∙◌, arith}
+use Rattle.std.proofs.lemmas.List.{length-append}
+use Rattle.i2c_spec.specs.Plain.{IsPlainMux}
+use Rattle.i2c_spec.specs.Tree.{buses_of}
+use Rattle.i2c_boardtext.proofs.RowLemmas.{read_more, All-push}
+use Rattle.i2c_boardtext.proofs.MuxLemmas.{buses-push, planted-push, few_channels}
+use Rattle.i2c_boardtext.proofs.mux.muxes_of.Goals as goal
+use Rattle.i2c_boardtext.specs.BoardText.{placed, mux_of, muxes_of}
+use Rattle.i2c_boardtext.specs.Rows.{rows_of, row_of}
+use Rattle.i2c_boardtext.specs.declared.fault.TableName.TheVariants.{Mux}
+
+pub loop-value-preserved : goal.loop-value-preserved
+loop-value-preserved c =
+    let before = c.loop-value.muxes.items in
+    let mux = c.in_ok-mux.mux in
+    let roots = c.args.roots in
+    let all = c.loop-value.invariant in
+    let same : c.push.new.self.items ≡ before ++ mux ∷ [] = c.in_ok-push.ensures.items in
+    let within : c.loop-value.value-index < length c.args.rows.now = omega arith in
+    let few = few_channels mux c.in_ok-mux.ensures.plain in
+    let more : buses_of roots (before ++ mux ∷ []) ≡ buses_of roots before + mux.channels = buses-push roots before mux in
+    record {
+      count = rw (same, length-append before (mux ∷ [])) (omega (arith, all.count));
+      buses = rw (same, more) (omega (arith, all.buses, c.from-buses.ensures));
+      few = omega (arith, few, all.few, c.from-buses.ensures);
+      some = omega (arith, all.some);
+      plain = rw same (All-push IsPlainMux before mux all.plain c.in_ok-mux.ensures.plain);
+      planted = rw same (planted-push roots before mux all.planted (rw (← all.buses) c.in_ok-mux.ensures.placed));
+      told =
+          read_more Mux (λ before. mux_of (buses_of roots before)) before c.push.new.self.items mux (muxes_of roots (rows_of c.args.rows.now))
+          c.args.rows.now c.loop-value.value-index c.value-item.result (row_of c.value-item.result) c.len-index.result within
+          c.value-item.is refl (omega arith) (ap (λ n. placed Mux c.len-index.result (mux_of n (row_of c.value-item.result))) (sym all.buses) ∙ sym c.in_ok-mux.ensures.value) same all.told;
+    }

@@ -1,0 +1,12 @@
+use Rattle.std.proofs.Common.{◌≡◌, length, drop}
+use Rattle.i2c_boardtext.specs.BoardText.{each, root_of, roots_of}
+use Rattle.i2c_boardtext.specs.Rows.{rows_of}
+use Rattle.i2c_boardtext.specs.declared.fault.TableName.TheVariants.{Root}
+use Rattle.i2c_boardtext.proofs.root.roots_of.Given as goal
+
+-- what is read and what is left are the whole
+abbrev pub invariant-loop-value : goal.invariant-loop-value
+invariant-loop-value l = record {
+  count : length l.roots.items ≡ l.value-index;
+  told : each Root (λ before. root_of) l.roots.items (rows_of (drop l.value-index l.rows)) ≡ roots_of (rows_of l.rows);
+}

@@ -1,0 +1,128 @@
+-- What a table says, where nothing is wrong with it: a missing key has its default.
+use Rattle.std.specs.Prelude.{ℕ, Bool, false, List, [], ◌∷◌, map, codes, Option, Some, None, unwrap_or, option_and_then}
+use Rattle.toml.specs.Data.{Data, as_bool, Members, get_member}
+use Rattle.i2c_base.specs.Board.{RunView, DeviceView}
+use Rattle.i2c_base.specs.declared.board.DeviceKind.{DeviceKind}
+use Rattle.i2c_base.specs.declared.board.DeviceKind.TheVariants as kind
+use Rattle.i2c_base.specs.declared.board.Idle.TheVariants.{Disconnect}
+use Rattle.i2c_base.specs.declared.board.LockMode.TheVariants.{Parent}
+use Rattle.i2c_base.specs.declared.board.MuxKind.{MuxKind}
+use Rattle.i2c_base.specs.declared.board.MuxKind.TheVariants as mux
+use Rattle.i2c_base.specs.declared.board.MuxSpec.{MuxSpec}
+use Rattle.i2c_base.specs.declared.board.RootSpec.{RootSpec}
+use Rattle.i2c_boardtext.specs.Items.{elements, members_in, number, named_in}
+use Rattle.i2c_boardtext.specs.Names.{offers_named, lock_named, idle_named}
+use Rattle.i2c_boardtext.specs.declared.names.DeviceName.{DeviceName}
+use Rattle.i2c_boardtext.specs.declared.names.DeviceName.TheVariants as device
+
+abbrev pub number_or : ℕ → Option Data → ℕ
+number_or default None = default
+number_or default (Some d) = number d
+
+-- a flag is false where it is missing
+abbrev pub flag_in : Option Data → Bool
+flag_in d = unwrap_or (option_and_then as_bool d) false
+
+-- what a known text stands for
+abbrev pub word_or : {X : Type 0} → (List ℕ → Option X) → X → Option Data → X
+word_or named default d = unwrap_or (option_and_then (named_in named) d) default
+
+-- a run: its start, then its bytes
+abbrev pub run_of : List Data → RunView
+run_of [] = record { start = 0; bytes = [] }
+run_of (start ∷ bytes) = record { start = number start; bytes = map number bytes }
+
+-- the elements of the array at a key, none where it is missing
+abbrev pub elements_in : Option Data → List Data
+elements_in None = []
+elements_in (Some d) = elements d
+
+abbrev pub runs_in : Option Data → List RunView
+runs_in d = map (λ run. run_of (elements run)) (elements_in d)
+
+abbrev pub tables_in : Option Data → List Members
+tables_in d = map members_in (elements_in d)
+
+-- the three arrays of the top
+pub record TopView : Type 0 where
+  pub roots : List Members
+  pub muxes : List Members
+  pub devices : List Members
+
+abbrev pub top_value : Members → TopView
+top_value ms = record { roots = tables_in (get_member (codes "root") ms); muxes = tables_in (get_member (codes "mux") ms); devices = tables_in (get_member (codes "device") ms) }
+
+abbrev pub root_value : Members → RootSpec
+root_value ms = record { smbus_only = word_or offers_named false (get_member (codes "offers") ms) }
+
+-- the kind fixes the number of channels, but for a gpio mux
+abbrev pub channels_value : MuxKind → Members → ℕ
+channels_value mux.Pca9548 ms = 8
+channels_value mux.Pca9546 ms = 4
+channels_value mux.Pca9544 ms = 4
+channels_value mux.Pca9541 ms = 1
+channels_value mux.Gpio ms = number_or 1 (get_member (codes "channels") ms)
+
+-- the address at a required key
+abbrev pub address_in : Members → ℕ
+address_in ms = number_or 8 (get_member (codes "address") ms)
+
+-- a gpio mux has no chip, so no address, and none that could be absent
+abbrev pub chip_value : MuxKind → Members → Option ℕ
+chip_value mux.Pca9548 ms = Some (address_in ms)
+chip_value mux.Pca9546 ms = Some (address_in ms)
+chip_value mux.Pca9544 ms = Some (address_in ms)
+chip_value mux.Pca9541 ms = Some (address_in ms)
+chip_value mux.Gpio ms = None
+
+abbrev pub absent_value : MuxKind → Members → Bool
+absent_value mux.Pca9548 ms = flag_in (get_member (codes "absent") ms)
+absent_value mux.Pca9546 ms = flag_in (get_member (codes "absent") ms)
+absent_value mux.Pca9544 ms = flag_in (get_member (codes "absent") ms)
+absent_value mux.Pca9541 ms = flag_in (get_member (codes "absent") ms)
+absent_value mux.Gpio ms = false
+
+-- only an arbitrator has another controller
+abbrev pub foreign_value : MuxKind → Members → ℕ
+foreign_value mux.Pca9548 ms = 0
+foreign_value mux.Pca9546 ms = 0
+foreign_value mux.Pca9544 ms = 0
+foreign_value mux.Pca9541 ms = number_or 0 (get_member (codes "foreign") ms)
+foreign_value mux.Gpio ms = 0
+
+abbrev pub mux_value : MuxKind → Members → MuxSpec
+mux_value kind ms =
+    record {
+      bus = number_or 0 (get_member (codes "bus") ms);
+      kind = kind;
+      addr = chip_value kind ms;
+      channels = channels_value kind ms;
+      lock = word_or lock_named Parent (get_member (codes "lock") ms);
+      absent = absent_value kind ms;
+      foreign = foreign_value kind ms;
+      idle = word_or idle_named Disconnect (get_member (codes "idle") ms);
+    }
+
+abbrev pub kind_value : DeviceName → Members → DeviceKind
+kind_value (device.Eeprom size) ms =
+    kind.Eeprom size (number_or 255 (get_member (codes "fill") ms)) (number_or 0 (get_member (codes "busy") ms)) (flag_in (get_member (codes "wp") ms))
+kind_value device.Lm75 ms = kind.Lm75 (number_or 0 (get_member (codes "raw") ms))
+kind_value device.Regs ms = kind.Regs (number_or 0 (get_member (codes "hold") ms))
+kind_value device.Smbus ms = kind.Smbus (number_or 1 (get_member (codes "width") ms)) (number_or 0 (get_member (codes "flip") ms))
+
+-- a kind without memory has no runs
+abbrev pub set_value : DeviceName → Members → List RunView
+set_value (device.Eeprom size) ms = runs_in (get_member (codes "set") ms)
+set_value device.Lm75 ms = []
+set_value device.Regs ms = runs_in (get_member (codes "set") ms)
+set_value device.Smbus ms = runs_in (get_member (codes "set") ms)
+
+abbrev pub device_value : DeviceName → Members → DeviceView
+device_value name ms =
+    record {
+      bus = number_or 0 (get_member (codes "bus") ms);
+      addr = address_in ms;
+      bound = flag_in (get_member (codes "bound") ms);
+      kind = kind_value name ms;
+      set = set_value name ms;
+    }

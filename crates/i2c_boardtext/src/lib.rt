@@ -1,0 +1,29 @@
+//! The text of a board file: a TOML document, read into a `Board` by its table of keys.
+//!
+//! Its public contract: `read_board` answers exactly what the definition `board_of` says of the text, but for
+//! want of memory. Definitions: `specs/Rules.antt` (what is wrong with a table), `specs/Keys.antt` (the keys of
+//! each table), `specs/Values.antt` (what a table says, with defaults), `specs/BoardText.antt` (the whole text).
+#![tactic(auto)]
+
+mod board_text;
+mod device;
+mod fault;
+mod find;
+mod fits;
+mod keys;
+mod mux;
+mod names;
+mod read;
+mod root;
+mod rows;
+mod rule;
+mod runs;
+mod top;
+
+pub use board_text::read_board;
+pub use fault::{BoardFault, TableName};
+
+#[cfg(test)]
+mod fault_tests;
+#[cfg(test)]
+mod value_tests;
