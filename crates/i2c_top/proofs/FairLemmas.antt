@@ -17,7 +17,7 @@ use Rattle.i2c_top.specs.declared.command.Get.{Get}
 use Rattle.i2c_top.specs.Commands.{CommandView}
 use Rattle.i2c_top.specs.Scripts.{commands_of, read_byte_of, cost_of_command, asked_by, left_of}
 use Rattle.i2c_top.specs.Callers.{ScriptsAreFair}
-use Rattle.i2c_top.specs.PlainForm.{IsFormBoard}
+use Rattle.i2c_top.specs.Boards.{IsFormBoard}
 use Rattle.i2c_top.proofs.CommandLemmas.{IsRead, commands_are_read}
 use Rattle.i2c_top.proofs.FormLemmas.{form_cost}
 

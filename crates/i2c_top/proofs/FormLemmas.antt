@@ -1,4 +1,4 @@
--- Boards of the plain forms: at most one mux stands over a bus, and what a command costs there. The inductions go over
+-- Boards that are stepped: at most one mux stands over a bus, and what a command costs there. The inductions go over
 -- the muxes, the last one first.
 use Rattle.std.proofs.Common.{◌≡◌, ℕ, ◌+◌, ◌-◌, ◌≤◌, ◌⊎◌, inl, inr, Bool, true, false, cond, List, [], ◌∷◌, length, reverse, Option, Some, None, unwrap_or, refl, sym, ap, subst, ◌∙◌, arith}
 use Rattle.std.specs.Prelude.{slice_get, All, nat_le, nat_lt, sum_by}
@@ -14,7 +14,7 @@ use Rattle.i2c_base.specs.declared.board.MuxKind.TheVariants.{Pca9548}
 use Rattle.i2c_base.specs.declared.board.MuxSpec.{MuxSpec}
 use Rattle.i2c_spec.specs.Tree.{Hop, hops, hops_of, hop_at, put_if, buses, buses_of, is_parent}
 use Rattle.i2c_spec.specs.Cost.{full_cost, cost_of}
-use Rattle.i2c_top.specs.PlainForm.{IsFormMux, IsFormBoard}
+use Rattle.i2c_top.specs.Boards.{IsFormMux, IsFormBoard}
 use Rattle.i2c_top.specs.Scripts.{read_byte_of}
 use Rattle.i2c_top.specs.declared.command.Get.{Get}
 

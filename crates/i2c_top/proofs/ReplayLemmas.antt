@@ -3,14 +3,14 @@ use Rattle.std.proofs.Common.{ℕ, List, [], ◌∷◌, subst}
 use Rattle.i2c_base.specs.declared.port.PortCall.{PortCall}
 use Rattle.i2c_base.specs.Board.{BoardView}
 use Rattle.i2c_spec.specs.Targets.{TargetState}
-use Rattle.i2c_top.specs.Endings.{HasReport}
-use Rattle.i2c_top.specs.PlainForm.{plain_board}
 use Rattle.i2c_top.specs.Readings.{HasRead}
-use Rattle.i2c_top.specs.Replays.{Files, Names}
+use Rattle.i2c_top.specs.Files.{Files}
+use Rattle.i2c_top.specs.Replays.{Names}
+use Rattle.i2c_top.specs.Reports.{HasReport}
 use Rattle.i2c_top.specs.Runs.{HasRun}
 
 abbrev board_read : (file : Files) (names : Names) (b : BoardView) (text : List ℕ) → HasRead file names b text → BoardView
-board_read file names b text read = plain_board read.board_in.has.form
+board_read file names b text read = read.board_in.has.board
 
 -- the run of what was read is the report that the files ask for
 pub has_report : (file : Files) (names : Names) (b : BoardView) (text bytes : List ℕ) (logs : List (List PortCall)) (states : List TargetState)

@@ -1,28 +1,13 @@
--- How a call of `replay` ends: what it came to before it wrote, the text that was due, and what came of its writing.
-use Rattle.std.specs.Prelude.{⊤, ◌≡◌, ℕ, ◌⊎◌, IsTrue, List, [], ◌∷◌, ◌++◌}
-use Rattle.i2c_base.specs.declared.port.PortCall.{PortCall}
-use Rattle.i2c_spec.specs.Targets.{TargetState}
+-- How a call ends: what it came to before it wrote, the text that was due, and what came of its writing.
+use Rattle.std.specs.Prelude.{⊤, ◌≡◌, ℕ, ◌⊎◌, IsTrue, List, [], ◌++◌}
 use Rattle.i2c_outside.specs.Causes.{Rose}
-use Rattle.i2c_top.specs.PlainForm.{plain_board}
-use Rattle.i2c_top.specs.Replays.{Files, Names, HasFiles, IsTold, IsUnread, KeepsUnreached, name_at}
-use Rattle.i2c_top.specs.Runs.{HasRun}
+use Rattle.i2c_top.specs.Replays.{IsUnread, KeepsUnreached}
+use Rattle.i2c_top.specs.Requests.{Request, IsTold, IsTraced, IsAnswer, name_of}
 use Rattle.i2c_top.specs.Status.{refusal_text}
-use Rattle.i2c_top.specs.Traces.{ShelfView, OutputView, RigView, IsTraced}
+use Rattle.i2c_top.specs.Traces.{ShelfView, OutputView, RigView}
 use Rattle.i2c_top.specs.Written.{HasFront}
 use Rattle.i2c_top.specs.declared.status.Status.{Status}
 use Rattle.i2c_top.specs.declared.status.Status.TheVariants as status
-
--- the files are there and well formed, and these bytes are the report of a run of the script over the board, with the
--- calls on its ports and the devices that it leaves
-pub record HasReport (file : Files) (names : Names) (bytes : List ℕ) (logs : List (List PortCall)) (states : List TargetState) : Type 0 where
-  pub files : HasFiles file names
-  pub run : HasRun (plain_board files.board.form) (files.script.text ∷ []) bytes logs states
-
--- the report was written behind what stood there
-pub record HasReplayed (file : Files) (names : Names) (before now : List ℕ) (logs : List (List PortCall)) (states : List TargetState) : Type 0 where
-  pub bytes : List ℕ
-  pub report : HasReport file names bytes logs states
-  pub written : now ≡ before ++ bytes
 
 -- what the words and the counts show of a status, before anything is written
 abbrev pub IsShown : Type 0 → ShelfView → ShelfView → RigView → RigView → Status → Type 0
@@ -39,37 +24,37 @@ IsShown usage shelf shelf_now rig rig_now status.Memory = ⊤
 
 -- a call came to this status: its cause held in the call, no file was read out of turn, and the rig was left as
 -- it says
-pub record CameTo (usage : Type 0) (names : Names) (shelf shelf_now : ShelfView) (rig rig_now : RigView) (s : Status) : Type 0 where
-  pub told : IsTrue shelf.tells → IsTold shelf.file names s
+pub record CameTo (usage : Type 0) (request : Request) (shelf shelf_now : ShelfView) (rig rig_now : RigView) (s : Status) : Type 0 where
+  pub told : IsTrue shelf.tells → IsTold shelf.file request s
   pub shown : IsShown usage shelf shelf_now rig rig_now s
   pub unreached : KeepsUnreached shelf.faults shelf_now.faults s
-  pub traced : IsTraced rig rig_now s
+  pub traced : IsTraced request rig rig_now s
 
 -- the name in a refusal's line: that of the file that was not read
-abbrev pub name_in : Names → Status → List ℕ
-name_in names (status.Read place) = name_at names place
-name_in names status.Ok = []
-name_in names status.Usage = []
-name_in names (status.Board why) = []
-name_in names (status.Script caller line word) = []
-name_in names (status.Cost cost) = []
-name_in names status.Write = []
-name_in names status.Memory = []
-name_in names status.Rig = []
-name_in names (status.Schedule word) = []
+abbrev pub name_in : Request → Status → List ℕ
+name_in request (status.Read place) = name_of request place
+name_in request status.Ok = []
+name_in request status.Usage = []
+name_in request (status.Board why) = []
+name_in request (status.Script caller line word) = []
+name_in request (status.Cost cost) = []
+name_in request status.Write = []
+name_in request status.Memory = []
+name_in request status.Rig = []
+name_in request (status.Schedule word) = []
 
--- the text that is due for a status: the report, or the line of the refusal
-abbrev pub IsDue : Names → ShelfView → RigView → Status → List ℕ → Type 0
-IsDue names shelf rig status.Ok text = IsTrue shelf.tells → IsTrue rig.tells → IsTrue rig.ports_tell → HasReport shelf.file names text rig.logs rig.states
-IsDue names shelf rig status.Write text = ⊥
-IsDue names shelf rig status.Memory text = ⊥
-IsDue names shelf rig status.Usage text = text ≡ refusal_text status.Usage []
-IsDue names shelf rig (status.Board why) text = text ≡ refusal_text (status.Board why) []
-IsDue names shelf rig (status.Script caller line word) text = text ≡ refusal_text (status.Script caller line word) []
-IsDue names shelf rig (status.Cost cost) text = text ≡ refusal_text (status.Cost cost) []
-IsDue names shelf rig (status.Read place) text = text ≡ refusal_text (status.Read place) (name_at names place)
-IsDue names shelf rig status.Rig text = text ≡ refusal_text status.Rig []
-IsDue names shelf rig (status.Schedule word) text = text ≡ refusal_text (status.Schedule word) []
+-- the text that is due for a status: what was asked for, or the line of the refusal
+abbrev pub IsDue : Request → ShelfView → RigView → Status → List ℕ → Type 0
+IsDue request shelf rig status.Ok text = IsTrue shelf.tells → IsAnswer request shelf.file rig text
+IsDue request shelf rig status.Write text = ⊥
+IsDue request shelf rig status.Memory text = ⊥
+IsDue request shelf rig status.Usage text = text ≡ refusal_text status.Usage []
+IsDue request shelf rig (status.Board why) text = text ≡ refusal_text (status.Board why) []
+IsDue request shelf rig (status.Script caller line word) text = text ≡ refusal_text (status.Script caller line word) []
+IsDue request shelf rig (status.Cost cost) text = text ≡ refusal_text (status.Cost cost) []
+IsDue request shelf rig (status.Read place) text = text ≡ refusal_text (status.Read place) (name_of request place)
+IsDue request shelf rig status.Rig text = text ≡ refusal_text status.Rig []
+IsDue request shelf rig (status.Schedule word) text = text ≡ refusal_text (status.Schedule word) []
 
 -- a text was written whole, and the call answers the status that it was due for
 pub record IsWhole (sink sink_now : OutputView) (s : Status) (text : List ℕ) (result : Status) : Type 0 where
@@ -91,26 +76,26 @@ abbrev pub IsWritten : OutputView → OutputView → Status → List ℕ → Sta
 IsWritten sink sink_now s text result = IsWhole sink sink_now s text result ⊎ (IsCut sink sink_now text result ⊎ IsStarved sink sink_now result)
 
 -- a call came to a status, and its text was due and written
-pub record HasAnswered (usage : Type 0) (names : Names) (shelf shelf_now : ShelfView) (sink sink_now : OutputView) (rig rig_now : RigView) (result : Status) : Type 0 where
+pub record HasAnswered (usage : Type 0) (request : Request) (shelf shelf_now : ShelfView) (sink sink_now : OutputView) (rig rig_now : RigView) (result : Status) : Type 0 where
   pub to : Status
   pub text : List ℕ
-  pub came : CameTo usage names shelf shelf_now rig rig_now to
-  pub due : IsDue names shelf rig_now to text
+  pub came : CameTo usage request shelf shelf_now rig rig_now to
+  pub due : IsDue request shelf rig_now to text
   pub written : IsWritten sink sink_now to text result
 
 -- or there was no memory for it
-pub record HasStarved (usage : Type 0) (names : Names) (shelf shelf_now : ShelfView) (sink sink_now : OutputView) (rig rig_now : RigView) (result : Status) : Type 0 where
-  pub came : CameTo usage names shelf shelf_now rig rig_now status.Memory
+pub record HasStarved (usage : Type 0) (request : Request) (shelf shelf_now : ShelfView) (sink sink_now : OutputView) (rig rig_now : RigView) (result : Status) : Type 0 where
+  pub came : CameTo usage request shelf shelf_now rig rig_now status.Memory
   pub starved : IsStarved sink sink_now result
 
-abbrev pub HasEnded : Type 0 → Names → ShelfView → ShelfView → OutputView → OutputView → RigView → RigView → Status → Type 0
-HasEnded usage names shelf shelf_now sink sink_now rig rig_now result =
-    HasAnswered usage names shelf shelf_now sink sink_now rig rig_now result ⊎ HasStarved usage names shelf shelf_now sink sink_now rig rig_now result
+abbrev pub HasEnded : Type 0 → Request → ShelfView → ShelfView → OutputView → OutputView → RigView → RigView → Status → Type 0
+HasEnded usage request shelf shelf_now sink sink_now rig rig_now result =
+    HasAnswered usage request shelf shelf_now sink sink_now rig rig_now result ⊎ HasStarved usage request shelf shelf_now sink sink_now rig rig_now result
 
 -- the output failed: a text was due for a status that the call came to, and a front of it was written
-pub record IsCutShort (usage : Type 0) (names : Names) (shelf shelf_now : ShelfView) (sink sink_now : OutputView) (rig rig_now : RigView) : Type 0 where
+pub record IsCutShort (usage : Type 0) (request : Request) (shelf shelf_now : ShelfView) (sink sink_now : OutputView) (rig rig_now : RigView) : Type 0 where
   pub to : Status
   pub text : List ℕ
-  pub came : CameTo usage names shelf shelf_now rig rig_now to
-  pub due : IsDue names shelf rig_now to text
+  pub came : CameTo usage request shelf shelf_now rig rig_now to
+  pub due : IsDue request shelf rig_now to text
   pub front : IsTrue sink.tells → HasFront sink.bytes text sink_now.bytes

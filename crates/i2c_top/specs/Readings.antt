@@ -1,24 +1,28 @@
 -- One file of a call that is read: what came of it.
-use Rattle.std.specs.Prelude.{◌≡◌, ℕ, ◌⊎◌, List}
+use Rattle.std.specs.Prelude.{◌≡◌, ◌≢◌, ℕ, ◌⊎◌, Bool, IsTrue, List}
 use Rattle.i2c_base.specs.Board.{BoardView}
 use Rattle.i2c_outside.specs.Causes.{Rose}
-use Rattle.i2c_top.specs.PlainForm.{IsPlainText, plain_board}
-use Rattle.i2c_top.specs.Replays.{Files, Names, HasBoard, HasScript, HasSchedule}
-use Rattle.i2c_top.specs.declared.plain.Plain.{Plain}
+use Rattle.i2c_top.specs.Checks.{HasAccepted, HasRejected}
+use Rattle.i2c_top.specs.Files.{Files}
+use Rattle.i2c_top.specs.Replays.{Names, HasBoard, HasScript, HasSchedule}
+use Rattle.i2c_top.specs.declared.status.BoardRefusal.{BoardRefusal}
 use Rattle.i2c_top.specs.declared.status.BoardRefusal.TheVariants as refusal
 use Rattle.i2c_top.specs.declared.status.Status.{Status}
 use Rattle.i2c_top.specs.declared.status.Status.TheVariants as status
 
--- the board is that of a text in a plain form
-pub record IsBoardOf (text : List ℕ) (board : BoardView) : Type 0 where
-  pub form : Plain
-  pub plain : IsPlainText text form
-  pub same : board ≡ plain_board form
+-- the accepted board is that of a file
+pub record IsAcceptedIn (file : Files) (name : List ℕ) (board : BoardView) : Type 0 where
+  pub has : HasAccepted file name
+  pub same : board ≡ has.board
 
--- the board is that of a file
+-- a file that is told spells no accepted board, for this
+abbrev pub IsRejectedIn : Bool → Files → List ℕ → BoardRefusal → Type 0
+IsRejectedIn tells file name why = (why ≢ refusal.NotBuilt) × (IsTrue tells → HasRejected file name why)
+
+-- the board is that of a file, and this version steps it
 pub record IsBoardIn (file : Files) (name : List ℕ) (board : BoardView) : Type 0 where
   pub has : HasBoard file name
-  pub same : board ≡ plain_board has.form
+  pub same : board ≡ has.board
 
 -- the text is that of a file, and in the grammar
 pub record IsScriptIn (file : Files) (name text : List ℕ) : Type 0 where
@@ -36,8 +40,10 @@ abbrev pub IsRefusedAt : ℕ → (Status → Type 0) → ℕ → ℕ → Status 
 IsRefusedAt place bad reads reads_now s = ((s ≡ status.Read place) × Rose reads reads_now) ⊎ ((s ≡ status.Memory) ⊎ bad s)
 
 -- a text that is refused
-abbrev pub IsBadBoard : Type 0 → Status → Type 0
-IsBadBoard why s = (s ≡ status.Board refusal.Plain) × why
+pub record IsBadBoard (of : BoardRefusal → Type 0) (s : Status) : Type 0 where
+  pub why : BoardRefusal
+  pub same : s ≡ status.Board why
+  pub is_bad : of why
 
 pub record IsBadScript (why : ℕ → ℕ → Type 0) (s : Status) : Type 0 where
   pub line : ℕ

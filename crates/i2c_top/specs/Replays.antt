@@ -1,17 +1,14 @@
 -- What the files of a call say where it ends with a status.
-use Rattle.std.specs.Prelude.{⊤, ◌≡◌, ◌≢◌, ℕ, ◌≤◌, ◌⊎◌, Bool, IsTrue, ◌==◌, if◌then◌else◌, List, [], ◌∷◌, Option, Some, None, Ok, Err}
+use Rattle.std.specs.Prelude.{⊤, ◌≡◌, ◌≢◌, ℕ, ◌≤◌, ◌⊎◌, Bool, IsTrue, ◌==◌, if◌then◌else◌, List, [], ◌∷◌, Some, None, Ok, Err}
 use Rattle.i2c_outside.specs.Causes.{Rose}
-use Rattle.i2c_top.specs.PlainForm.{IsPlainText, IsNotPlain}
+use Rattle.i2c_base.specs.Board.{BoardView}
+use Rattle.i2c_top.specs.Boards.{IsBoardOf, IsNoBoard}
+use Rattle.i2c_top.specs.Files.{Files}
 use Rattle.i2c_top.specs.Scripts.{script_read, commands_of}
 use Rattle.i2c_top.specs.Schedules.{schedule_fault}
-use Rattle.i2c_top.specs.declared.plain.Plain.{Plain}
-use Rattle.i2c_top.specs.declared.status.BoardRefusal.TheVariants as refusal
+use Rattle.i2c_top.specs.declared.status.BoardRefusal.{BoardRefusal}
 use Rattle.i2c_top.specs.declared.status.Status.{Status}
 use Rattle.i2c_top.specs.declared.status.Status.TheVariants as status
-
--- the bytes of a file by its name, where there is such a file
-abbrev pub Files : Type 0
-Files = List ℕ → Option (List ℕ)
 
 -- what the files of a call are called
 pub record Names : Type 0 where
@@ -31,18 +28,18 @@ names_of board schedule scripts = record { board = board; schedule = schedule; s
 abbrev pub name_at : Names → ℕ → List ℕ
 name_at names place = if place == 1 then names.board else if place == 2 then names.schedule else names.script
 
--- the board's file is there, in this plain form
+-- the board's file is there, and its text spells this board, which this version steps
 pub record HasBoard (file : Files) (name : List ℕ) : Type 0 where
-  pub form : Plain
+  pub board : BoardView
   pub text : List ℕ
   pub there : file name ≡ Some text
-  pub plain : IsPlainText text form
+  pub is_board : IsBoardOf text board
 
--- it is there, and in no plain form
-pub record HasNoBoard (file : Files) (name : List ℕ) : Type 0 where
+-- it is there, and its text is refused for this
+pub record HasNoBoard (file : Files) (name : List ℕ) (why : BoardRefusal) : Type 0 where
   pub text : List ℕ
   pub there : file name ≡ Some text
-  pub not_plain : IsNotPlain text
+  pub is_none : IsNoBoard text why
 
 -- the script's file is there, and in the grammar
 pub record HasScript (file : Files) (name : List ℕ) : Type 0 where
@@ -74,37 +71,24 @@ pub record HasFiles (file : Files) (names : Names) : Type 0 where
   pub script : HasScript file names.script
   pub schedule : HasSchedule file names.schedule
 
--- what the files say where a call ends with a status that they decide: success, and each refusal of a file's text
-abbrev pub IsCause : Files → Names → Status → Type 0
-IsCause file names status.Ok = HasFiles file names
-IsCause file names (status.Board refusal.Plain) = HasNoBoard file names.board
-IsCause file names (status.Script caller line word) = HasBoard file names.board × (caller ≡ 0) × HasBadScript file names.script line word
-IsCause file names (status.Schedule word) = HasBoard file names.board × HasScript file names.script × HasBadSchedule file names.schedule word
-IsCause file names status.Usage = ⊥
-IsCause file names (status.Cost cost) = ⊥
-IsCause file names (status.Read place) = ⊥
-IsCause file names status.Write = ⊥
-IsCause file names status.Memory = ⊥
-IsCause file names status.Rig = ⊥
+-- what the files say where `replay` ends with a status that they decide: success, and each refusal of a file's text
+abbrev pub IsReplayCause : Files → Names → Status → Type 0
+IsReplayCause file names status.Ok = HasFiles file names
+IsReplayCause file names (status.Board why) = HasNoBoard file names.board why
+IsReplayCause file names (status.Script caller line word) = HasBoard file names.board × (caller ≡ 0) × HasBadScript file names.script line word
+IsReplayCause file names (status.Schedule word) = HasBoard file names.board × HasScript file names.script × HasBadSchedule file names.schedule word
+IsReplayCause file names status.Usage = ⊥
+IsReplayCause file names (status.Cost cost) = ⊥
+IsReplayCause file names (status.Read place) = ⊥
+IsReplayCause file names status.Write = ⊥
+IsReplayCause file names status.Memory = ⊥
+IsReplayCause file names status.Rig = ⊥
 
--- the order of refusals: the board is read at place 1; it is plain before the script is read, at place 3; the script is in
--- the grammar before the schedule is read, at place 2
+-- the order of refusals: the board is read at place 1; there is a board before the script is read, at place 3; the script
+-- is in the grammar before the schedule is read, at place 2
 abbrev pub IsReadInTurn : Files → Names → ℕ → Type 0
 IsReadInTurn file names place =
     (place ≡ 1) ⊎ (((place ≡ 3) × HasBoard file names.board) ⊎ ((place ≡ 2) × HasBoard file names.board × HasScript file names.script))
-
--- what the files say where a call ends with any status: each comes only where no earlier refusal does
-abbrev pub IsTold : Files → Names → Status → Type 0
-IsTold file names status.Ok = IsCause file names status.Ok
-IsTold file names (status.Board why) = IsCause file names (status.Board why)
-IsTold file names (status.Script caller line word) = IsCause file names (status.Script caller line word)
-IsTold file names (status.Schedule word) = IsCause file names (status.Schedule word)
-IsTold file names (status.Read place) = IsReadInTurn file names place
-IsTold file names status.Rig = HasFiles file names
-IsTold file names (status.Cost cost) = ⊥
-IsTold file names status.Usage = ⊤
-IsTold file names status.Write = ⊤
-IsTold file names status.Memory = ⊤
 
 -- a file was not read at one of the places 1 to 3, and its count shows it
 pub record IsUnread (reads reads_now : ℕ → ℕ) (place : ℕ) : Type 0 where
@@ -128,9 +112,9 @@ KeepsUnreached reads reads_now status.Memory = ⊤
 
 -- a refusal of the files, by what they say where they are told, and by the counts
 abbrev pub IsFileRefusal : Bool → Files → Names → (ℕ → ℕ) → (ℕ → ℕ) → Status → Type 0
-IsFileRefusal tells file names reads reads_now (status.Board why) = IsTrue tells → IsCause file names (status.Board why)
-IsFileRefusal tells file names reads reads_now (status.Script caller line word) = IsTrue tells → IsCause file names (status.Script caller line word)
-IsFileRefusal tells file names reads reads_now (status.Schedule word) = IsTrue tells → IsCause file names (status.Schedule word)
+IsFileRefusal tells file names reads reads_now (status.Board why) = IsTrue tells → IsReplayCause file names (status.Board why)
+IsFileRefusal tells file names reads reads_now (status.Script caller line word) = IsTrue tells → IsReplayCause file names (status.Script caller line word)
+IsFileRefusal tells file names reads reads_now (status.Schedule word) = IsTrue tells → IsReplayCause file names (status.Schedule word)
 IsFileRefusal tells file names reads reads_now (status.Read place) = IsUnread reads reads_now place × (IsTrue tells → IsReadInTurn file names place)
 IsFileRefusal tells file names reads reads_now status.Memory = ⊤
 IsFileRefusal tells file names reads reads_now status.Ok = ⊥

@@ -1,6 +1,13 @@
 -- The exit status of each way in which a call ends, and the line that it writes.
 use Rattle.std.specs.Prelude.{ℕ, List, [], ◌++◌, codes}
 use Rattle.std.specs.Fmt.{decimal}
+use Rattle.i2c_base.specs.declared.rules.Item.{Item}
+use Rattle.i2c_base.specs.declared.rules.Item.TheVariants as item
+use Rattle.i2c_base.specs.declared.rules.RuleBroken.{RuleBroken}
+use Rattle.i2c_boardtext.specs.declared.fault.BoardFault.{BoardFault}
+use Rattle.i2c_boardtext.specs.declared.fault.BoardFault.TheVariants as fault
+use Rattle.i2c_boardtext.specs.declared.fault.TableName.{TableName}
+use Rattle.i2c_boardtext.specs.declared.fault.TableName.TheVariants as table
 use Rattle.i2c_top.specs.declared.status.BoardRefusal.{BoardRefusal}
 use Rattle.i2c_top.specs.declared.status.BoardRefusal.TheVariants as refusal
 use Rattle.i2c_top.specs.declared.status.Status.{Status}
@@ -18,8 +25,41 @@ code_of status.Memory = 7
 code_of status.Rig = 8
 code_of (status.Schedule word) = 9
 
+-- whose table a fault is in, or which tables are too few or too many
+abbrev pub table_text : TableName → List ℕ
+table_text table.Top = codes "top"
+table_text table.Root = codes "root"
+table_text table.Mux = codes "mux"
+table_text table.Device = codes "device"
+
+-- what is at fault in a table, by the table's number among those of its name
+abbrev pub placed_text : List ℕ → TableName → ℕ → List ℕ
+placed_text what name index = what ++ (table_text name ++ (codes " " ++ (decimal index ++ codes "\n")))
+
+-- how many of these tables there are
+abbrev pub limit_text : TableName → ℕ → List ℕ
+limit_text which count = decimal count ++ (codes " " ++ (table_text which ++ codes "\n"))
+
+-- what is wrong with a board's text; want of memory is told by a status of its own
+abbrev pub fault_text : BoardFault → List ℕ
+fault_text fault.NotToml = codes "not TOML\n"
+fault_text (fault.Key name index) = placed_text (codes "key in ") name index
+fault_text (fault.Value name index) = placed_text (codes "value in ") name index
+fault_text (fault.Limit which count) = limit_text which count
+fault_text fault.Memory = []
+
+abbrev pub item_text : Item → List ℕ
+item_text (item.Mux mux) = codes "mux " ++ decimal mux
+item_text (item.Device device) = codes "device " ++ decimal device
+
+-- the broken rule, and the two items at fault
+abbrev pub broken_text : RuleBroken → List ℕ
+broken_text r = codes "rule TR" ++ (decimal r.rule ++ (codes " " ++ (item_text r.first ++ (codes " " ++ (item_text r.second ++ codes "\n")))))
+
 abbrev pub board_text : BoardRefusal → List ℕ
-board_text refusal.Plain = codes "not in the plain form\n"
+board_text (refusal.Fault f) = fault_text f
+board_text (refusal.Rule r) = broken_text r
+board_text refusal.NotBuilt = codes "not built\n"
 
 abbrev pub unread_text : List ℕ → List ℕ
 unread_text name = codes "cannot read " ++ (name ++ codes "\n")

@@ -1,11 +1,9 @@
--- The shelf, the output and the rig of a call as contracts see them, and what a call does to the rig.
+-- The shelf, the output and the rig of a call as contracts see them, and what may be done to the rig.
 use Rattle.std.specs.Prelude.{◌≡◌, ℕ, ◌≤◌, ◌⊎◌, Bool, false, List}
 use Rattle.i2c_base.specs.declared.port.PortCall.{PortCall}
 use Rattle.i2c_spec.specs.Targets.{TargetState}
 use Rattle.i2c_outside.specs.Causes.{Rose, counted}
-use Rattle.i2c_top.specs.Replays.{Files}
-use Rattle.i2c_top.specs.declared.status.Status.{Status}
-use Rattle.i2c_top.specs.declared.status.Status.TheVariants as status
+use Rattle.i2c_top.specs.Files.{Files}
 
 -- it tells its files, and counts its faults by place
 pub record ShelfView : Type 0 where
@@ -68,16 +66,3 @@ pub record IsPluggedOnce (old new : RigView) : Type 0 where
 
 abbrev pub IsLeft : RigView → RigView → Type 0
 IsLeft old new = IsUntouched old new ⊎ IsPluggedOnce old new
-
--- what a call does to the rig, by its status
-abbrev pub IsTraced : RigView → RigView → Status → Type 0
-IsTraced old new status.Ok = IsUsed old new
-IsTraced old new status.Rig = IsTried old new
-IsTraced old new status.Write = IsLeft old new
-IsTraced old new status.Memory = IsLeft old new
-IsTraced old new status.Usage = IsUntouched old new
-IsTraced old new (status.Board why) = IsUntouched old new
-IsTraced old new (status.Script caller line word) = IsUntouched old new
-IsTraced old new (status.Cost cost) = IsUntouched old new
-IsTraced old new (status.Read place) = IsUntouched old new
-IsTraced old new (status.Schedule word) = IsUntouched old new

@@ -2,7 +2,7 @@ ghost use Rattle.std.specs.Prelude.{◌≡◌, ℕ, ◌≤◌, ◌^◌, [], ◌�
 ghost use Rattle.i2c_base.specs.Fitting.{Fits};
 ghost use Rattle.i2c_base.specs.Transfer.{TransferView};
 ghost use Rattle.i2c_top.specs.Callers.{opened, ScriptsAreFair};
-ghost use Rattle.i2c_top.specs.PlainForm.{IsFormBoard};
+ghost use Rattle.i2c_top.specs.Boards.{IsFormBoard};
 ghost use Rattle.i2c_top.specs.Scripts.{script_read, commands_of, ScriptFaultIs, read_byte_of, asked_by, left_of, section_text};
 
 use crate::command::{Command, Get};
@@ -14,7 +14,7 @@ use std::alloc::{AllocError, Global};
 use std::marker::Model;
 use std::snapshot::Snapshot;
 
-/// The most steps of a command on a board of the plain forms. Behind a mux two locks are taken and freed. A close, a
+/// The most steps of a command on a board that is stepped. Behind a mux two locks are taken and freed. A close, a
 /// select and a deselect have a message of a byte each, and so have the two messages of the command. One step more is
 /// counted.
 const STEPS: u32 = 15;
@@ -59,7 +59,7 @@ impl Script {
         })
     }
 
-    /// At least as many steps as are left, on a board of the plain forms.
+    /// At least as many steps as are left, on a board that is stepped.
     pub fn most_steps(&self) -> u32
         ensures left { IsFormBoard self.now.script.board → left_of self.now.script self.now.taken ≤ result }
         ensures small { result ≤ 15000 }
@@ -133,25 +133,33 @@ pub fn scripts_are_fair()
 #[cfg(test)]
 mod tests {
     use super::*;
-    use crate::plain::{Plain, PlainDevice};
-    use crate::plain_board::open_plain;
-    use i2c_base::{Addr, Errno};
+    use i2c_base::{Addr, DeviceKind, DeviceSpec, Errno, RootSpec, SegId};
+    use i2c_board::Board;
+    use i2c_topo::accept;
     use std::test::Fail;
 
     fn sends<T: Send>(value: T) -> T {
         value
     }
 
+    // One root with a register device at 0x20.
+    fn board(alloc: Global) -> Result<Accepted, Fail> {
+        let device = DeviceSpec {
+            bus: SegId(0),
+            addr: Addr::new(0x20).ok_or("no address")?,
+            bound: false,
+            kind: DeviceKind::Regs { hold: 0 },
+            set: Vec::new(alloc),
+        };
+        let roots = vec![in alloc; RootSpec { smbus_only: false }]?;
+        let devices = vec![in alloc; device]?;
+        let board = accept(Board::new(roots, Vec::new(alloc), devices));
+        Ok(board.ok().ok_or("a broken rule")?)
+    }
+
     #[test]
     fn a_script_asks_once_and_prints_the_answer(rt: HostRuntime) -> Result<(), Fail> {
-        let addr = Addr::new(0x20).ok_or("no address")?;
-        let device = PlainDevice {
-            bus: 0,
-            addr,
-            place: 5,
-            byte: 0x7e,
-        };
-        let board = open_plain(rt.alloc(), &Plain::Single(device))?;
+        let board = board(rt.alloc())?;
         let script = Script::open(rt.alloc(), &board, b"# one\ni2cget  -y 0 0x20 5")?;
         let mut script = sends(script);
         let transfer = script.next().ok_or("no transfer")?;

@@ -1,20 +1,22 @@
 ghost use Rattle.std.specs.Prelude.{◌≡◌, ◌≢◌, ℕ, ◌≤◌, ◌^◌, ◌⊎◌, List, length, Some, None, Ok, Err, slice_get, OnOk, IfOk, IfErr, IsTrue};
+ghost use Rattle.i2c_boardtext.specs.BoardText.{board_of};
 ghost use Rattle.i2c_outside.specs.Causes.{Rose};
 ghost use Rattle.i2c_top.specs.Callers.{opened};
-ghost use Rattle.i2c_top.specs.PlainForm.{IsNotPlain, IsFormBoard};
-ghost use Rattle.i2c_top.specs.Readings.{IsBoardOf, IsBoardIn, IsScriptIn, HasRead, IsRefusedAt, IsBadBoard, IsBadScript, IsBadSchedule};
+ghost use Rattle.i2c_top.specs.Boards.{IsBuilt, IsFormBoard, IsAccepted, IsRejected};
+ghost use Rattle.i2c_top.specs.Readings.{IsAcceptedIn, IsRejectedIn, IsBoardIn, IsScriptIn, HasRead, IsRefusedAt, IsBadBoard, IsBadScript, IsBadSchedule};
 ghost use Rattle.i2c_top.specs.Replays.{HasNoBoard, HasBadScript, HasSchedule, HasBadSchedule, KeepsUnreached, IsFileRefusal};
 ghost use Rattle.i2c_top.specs.Scripts.{script_read, commands_of};
 ghost use Rattle.i2c_top.specs.Schedules.{schedule_fault};
+ghost use Rattle.i2c_top.specs.declared.status.BoardRefusal.TheVariants as refusal;
 ghost use Rattle.i2c_top.specs.declared.status.Status.TheVariants as status;
 
-use crate::plain::read_plain;
-use crate::plain_board::open_plain;
+use crate::built::is_built;
 use crate::schedule::schedule_fault;
 use crate::{BoardRefusal, Script, ScriptFault, Status};
-use i2c_base::NoMemory;
-use i2c_board::Accepted;
+use i2c_board::{Accepted, Board};
+use i2c_boardtext::BoardFault;
 use i2c_outside::{ReadFail, Shelf};
+use i2c_topo::accept;
 use std::alloc::Global;
 
 /// The places of the board, the schedule and the first script among the words.
@@ -47,18 +49,52 @@ fn read_file<S: Shelf>(
     }
 }
 
-// The board of a text.
-fn board_of(alloc: Global, text: &[u8]) -> Result<Accepted, Status>
-    ensures form { IfOk result IsFormBoard }
-    ensures board { IfOk result (IsBoardOf text.now) }
-    ensures refused { IfErr result (λ e. (e ≡ status.Memory) ⊎ IsBadBoard (IsNotPlain text.now) e) }
+// The board of a text, read; or what is wrong with the text.
+fn read_text(alloc: Global, text: &[u8]) -> Result<Board, Status>
+    ensures read { IfOk result (λ b. board_of text.now ≡ Ok b) }
+    ensures refused { IfErr result (λ e. (e ≡ status.Memory) ⊎ IsBadBoard (IsRejected text.now) e) }
 {
-    let Some(plain) = read_plain(text) else {
-        return Err(Status::Board(BoardRefusal::Plain));
-    };
-    match open_plain(alloc, &plain) {
+    match i2c_boardtext::read_board(alloc, text) {
         Ok(board) => Ok(board),
-        Err(NoMemory) => Err(Status::Memory),
+        Err(BoardFault::Memory) => Err(Status::Memory),
+        Err(fault) => Err(Status::Board(BoardRefusal::Fault(fault))),
+    }
+}
+
+// A board that a text spells, if it meets the rules; or the first that it breaks.
+fn accepted(board: Board) -> Result<Accepted, BoardRefusal>
+    ensures board { (text : List ℕ) → board_of text ≡ Ok board → IfOk result (IsAccepted text) }
+    ensures refused { (text : List ℕ) → board_of text ≡ Ok board → IfErr result (IsRejected text) }
+{
+    match accept(board) {
+        Ok(board) => Ok(board),
+        Err(broken) => Err(BoardRefusal::Rule(broken)),
+    }
+}
+
+// The board of a text, which meets the rules.
+fn accepted_of(alloc: Global, text: &[u8]) -> Result<Accepted, Status>
+    ensures board { IfOk result (IsAccepted text.now) }
+    ensures refused { IfErr result (λ e. (e ≡ status.Memory) ⊎ IsBadBoard (IsRejected text.now) e) }
+{
+    match accepted(read_text(alloc, text)?) {
+        Ok(board) => Ok(board),
+        Err(why) => Err(Status::Board(why)),
+    }
+}
+
+// A board that meets the rules, if this version steps it.
+fn built(board: Accepted) -> Result<Accepted, Status>
+    ensures form { IfOk result IsFormBoard }
+    ensures same { IfOk result (λ b. b ≡ board) }
+    ensures built { IfOk result IsBuilt }
+    ensures refused { IfErr result (λ e. e ≡ status.Board refusal.NotBuilt) }
+    ensures unbuilt { IfErr result (λ e. IsBuilt board → ⊥) }
+{
+    if is_built(board.board()) {
+        Ok(board)
+    } else {
+        Err(Status::Board(BoardRefusal::NotBuilt))
     }
 }
 
@@ -91,7 +127,20 @@ fn check_schedule(text: &[u8]) -> Result<(), Status>
     }
 }
 
-// Reads the board's file.
+/// Reads the board's file: the board that it spells, which meets the rules; or the refusal.
+pub fn read_accepted<S: Shelf>(alloc: Global, shelf: &mut S, name: &str) -> Result<Accepted, Status>
+    requires named { slice_get (S.words shelf.old) 1 ≡ Some name.now }
+    ensures words { S.words shelf.new ≡ S.words shelf.old }
+    ensures files { (n : List ℕ) → S.file shelf.new n ≡ S.file shelf.old n }
+    ensures others { (p : ℕ) → p ≢ 1 → S.faults shelf.new p ≡ S.faults shelf.old p }
+    ensures board { IsTrue S.tells → IfOk result (IsAcceptedIn (S.file shelf.old) name.now) }
+    ensures refused { IfErr result (IsRefusedAt 1 (IsBadBoard (IsRejectedIn S.tells (S.file shelf.old) name.now)) (S.faults shelf.old 1) (S.faults shelf.new 1)) }
+{
+    let text = read_file(alloc, shelf, BOARD, name)?;
+    accepted_of(alloc, text.as_slice())
+}
+
+// Reads the board's file: the board that it spells, which meets the rules and is stepped; or the refusal.
 fn read_board<S: Shelf>(alloc: Global, shelf: &mut S, name: &str) -> Result<Accepted, Status>
     requires named { slice_get (S.words shelf.old) 1 ≡ Some name.now }
     ensures words { S.words shelf.new ≡ S.words shelf.old }
@@ -99,10 +148,10 @@ fn read_board<S: Shelf>(alloc: Global, shelf: &mut S, name: &str) -> Result<Acce
     ensures others { (p : ℕ) → p ≢ 1 → S.faults shelf.new p ≡ S.faults shelf.old p }
     ensures form { IfOk result IsFormBoard }
     ensures board { IsTrue S.tells → IfOk result (IsBoardIn (S.file shelf.old) name.now) }
-    ensures refused { IfErr result (IsRefusedAt 1 (IsBadBoard (IsTrue S.tells → HasNoBoard (S.file shelf.old) name.now)) (S.faults shelf.old 1) (S.faults shelf.new 1)) }
+    ensures refused { IfErr result (IsRefusedAt 1 (IsBadBoard (λ why. IsTrue S.tells → HasNoBoard (S.file shelf.old) name.now why)) (S.faults shelf.old 1) (S.faults shelf.new 1)) }
 {
-    let text = read_file(alloc, shelf, BOARD, name)?;
-    board_of(alloc, text.as_slice())
+    let board = read_accepted(alloc, shelf, name)?;
+    built(board)
 }
 
 // Reads the script's file.

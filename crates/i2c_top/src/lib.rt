@@ -1,24 +1,27 @@
 //! The top of the program: the words of the command line to the bytes of the output.
 //!
-//! `top` reads the words, `replay_call` reads the board, the script and the schedule, runs the script over a rig's
-//! ports, and writes the report, or the line of the first refusal. A `Status` tells how the call ended. The report
-//! is made whole before its first byte is written.
+//! `top` reads the words. `replay_call` reads the board, the script and the schedule, runs the script over a rig's ports,
+//! and writes the report; `check_call` reads the board and writes what it has. Either writes the line of the first
+//! refusal. A `Status` tells how the call ended. What is written is made whole before its first byte is.
 //!
 //! Their contract: each status has its cause, in the order of refusals, and each cause its status; what was written and
-//! what was done to the rig are told for each. Definitions: `specs/Forms.antt` (the words), `specs/Replays.antt` (what
-//! the files say where a call ends with a status), `specs/Traces.antt` (what it does to the rig), `specs/Endings.antt`
-//! (the text that is due, and what came of its writing), `specs/Runs.antt` (a run and its report).
+//! what was done to the rig are told for each. Definitions: `specs/Forms.antt` (the words), `specs/Requests.antt` (what
+//! they ask for, and what the files say where a call ends with a status), `specs/Boards.antt` (why a board is refused, and
+//! which boards are stepped), `specs/Replays.antt` and `specs/Checks.antt` (the causes of each status), `specs/Traces.antt`
+//! (what is done to the rig), `specs/Endings.antt` (the text that is due, and what came of its writing),
+//! `specs/Runs.antt` and `specs/Reports.antt` (a run and its report).
 #![tactic(auto)]
 
+mod built;
 mod caller;
+mod check;
 mod command;
+mod ending;
 mod files;
 mod front;
 mod journal;
 mod line;
 mod number;
-mod plain;
-mod plain_board;
 mod program;
 mod refusal;
 mod replay;
@@ -32,6 +35,7 @@ mod text;
 mod write;
 
 pub use caller::{Script, scripts_are_fair};
+pub use check::check_call;
 pub use journal::Journal;
 pub use line::entry_text;
 pub use program::top;
@@ -40,6 +44,8 @@ pub use report::report_text;
 pub use script::ScriptFault;
 pub use status::{BoardRefusal, Status};
 
+#[cfg(test)]
+mod check_tests;
 #[cfg(test)]
 mod mux_tests;
 #[cfg(test)]

@@ -1,22 +1,15 @@
 ghost use Rattle.std.specs.Prelude.{◌≡◌, ◌++◌, OnOk, IfOk};
 ghost use Rattle.std.specs.Fmt.{decimal};
-ghost use Rattle.i2c_top.specs.Status.{board_text, refusal_text};
+ghost use Rattle.i2c_top.specs.Status.{table_text, placed_text, limit_text, fault_text, item_text, broken_text, board_text, refusal_text};
 
 use crate::text::{push_bytes, push_decimal};
 use crate::{BoardRefusal, Status};
-use i2c_base::NoMemory;
+use i2c_base::{Item, NoMemory, RuleBroken};
+use i2c_boardtext::{BoardFault, TableName};
 use std::alloc::Global;
 
 pub const USAGE: &[u8] =
     b"usage: i2cbus run BOARD SCRIPT... | replay BOARD SCHEDULE SCRIPT... | check BOARD | gen SEED ROOTS LINES\n";
-
-fn push_board(out: &mut Vec<u8>, why: BoardRefusal) -> Result<(), NoMemory>
-    ensures { OnOk result (out.new.items ≡ out.old.items ++ board_text why) }
-{
-    match why {
-        BoardRefusal::Plain => push_bytes(out, b"not in the plain form\n"),
-    }
-}
 
 // A number between two texts.
 fn push_around(
@@ -42,6 +35,88 @@ fn push_between(out: &mut Vec<u8>, before: &[u8], text: &[u8], after: &[u8]) -> 
     push_bytes(out, after)
 }
 
+fn push_table(out: &mut Vec<u8>, name: TableName) -> Result<(), NoMemory>
+    ensures { OnOk result (out.new.items ≡ out.old.items ++ table_text name) }
+{
+    match name {
+        TableName::Top => push_bytes(out, b"top"),
+        TableName::Root => push_bytes(out, b"root"),
+        TableName::Mux => push_bytes(out, b"mux"),
+        TableName::Device => push_bytes(out, b"device"),
+    }
+}
+
+// What is at fault in a table, and where the table stands.
+fn push_placed(
+    alloc: Global,
+    out: &mut Vec<u8>,
+    what: &[u8],
+    name: TableName,
+    index: u16,
+) -> Result<(), NoMemory>
+    ensures { OnOk result (out.new.items ≡ out.old.items ++ placed_text what.now name index) }
+{
+    push_bytes(out, what)?;
+    push_table(out, name)?;
+    push_around(alloc, out, b" ", u64::from(index), b"\n")
+}
+
+fn push_limit(
+    alloc: Global,
+    out: &mut Vec<u8>,
+    which: TableName,
+    count: u64,
+) -> Result<(), NoMemory>
+    ensures { OnOk result (out.new.items ≡ out.old.items ++ limit_text which count) }
+{
+    push_decimal(alloc, out, count)?;
+    push_bytes(out, b" ")?;
+    push_table(out, which)?;
+    push_bytes(out, b"\n")
+}
+
+fn push_fault(alloc: Global, out: &mut Vec<u8>, fault: BoardFault) -> Result<(), NoMemory>
+    ensures { OnOk result (out.new.items ≡ out.old.items ++ fault_text fault) }
+{
+    match fault {
+        BoardFault::NotToml => push_bytes(out, b"not TOML\n"),
+        BoardFault::Key { table, index } => push_placed(alloc, out, b"key in ", table, index),
+        BoardFault::Value { table, index } => push_placed(alloc, out, b"value in ", table, index),
+        BoardFault::Limit { which, count } => push_limit(alloc, out, which, count),
+        BoardFault::Memory => Ok(()),
+    }
+}
+
+fn push_item(alloc: Global, out: &mut Vec<u8>, item: Item) -> Result<(), NoMemory>
+    ensures { OnOk result (out.new.items ≡ out.old.items ++ item_text item) }
+{
+    match item {
+        Item::Mux(mux) => push_around(alloc, out, b"mux ", u64::from(mux.0), b""),
+        Item::Device(device) => push_around(alloc, out, b"device ", u64::from(device.0), b""),
+    }
+}
+
+// The broken rule, and the two items at fault.
+fn push_broken(alloc: Global, out: &mut Vec<u8>, broken: RuleBroken) -> Result<(), NoMemory>
+    ensures { OnOk result (out.new.items ≡ out.old.items ++ broken_text broken) }
+{
+    push_around(alloc, out, b"rule TR", u64::from(broken.rule), b" ")?;
+    push_item(alloc, out, broken.first)?;
+    push_bytes(out, b" ")?;
+    push_item(alloc, out, broken.second)?;
+    push_bytes(out, b"\n")
+}
+
+fn push_board(alloc: Global, out: &mut Vec<u8>, why: BoardRefusal) -> Result<(), NoMemory>
+    ensures { OnOk result (out.new.items ≡ out.old.items ++ board_text why) }
+{
+    match why {
+        BoardRefusal::Fault(fault) => push_fault(alloc, out, fault),
+        BoardRefusal::Rule(broken) => push_broken(alloc, out, broken),
+        BoardRefusal::NotBuilt => push_bytes(out, b"not built\n"),
+    }
+}
+
 // The line of a refusal; nothing for what is none.
 fn push_refusal(
     alloc: Global,
@@ -56,7 +131,7 @@ fn push_refusal(
         Status::Usage => push_bytes(out, USAGE),
         Status::Board(why) => {
             push_bytes(out, b"board: ")?;
-            push_board(out, why)
+            push_board(alloc, out, why)
         }
         Status::Script { caller, line, word } => {
             push_around(alloc, out, b"script ", u64::from(caller), b" line ")?;
@@ -74,10 +149,10 @@ fn push_refusal(
 
 /// The line that a refusal writes, with its end: `name` is the name of the file that was not read. Nothing for a
 /// status that writes no line.
-pub fn refusal_line(alloc: Global, status: Status, name: &[u8]) -> Result<Vec<u8>, NoMemory>
-    ensures { IfOk result (λ text. text.items ≡ refusal_text status name.now) }
+pub fn refusal_line(alloc: Global, status: &Status, name: &[u8]) -> Result<Vec<u8>, NoMemory>
+    ensures { IfOk result (λ text. text.items ≡ refusal_text status.now name.now) }
 {
     let mut out = Vec::new(alloc);
-    push_refusal(alloc, &mut out, status, name)?;
+    push_refusal(alloc, &mut out, *status, name)?;
     Ok(out)
 }

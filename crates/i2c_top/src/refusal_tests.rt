@@ -1,10 +1,17 @@
-//! What a call tells that refuses: of its words, its files, its board and its schedule.
+//! What a call tells that refuses: of its words, its files, its board and its schedule; and what it reads then. More
+//! refusals stand in rows/refusals.rows.
 
 use crate::tests::{B1, FILES, ONE_READ, READ, REPLAY, ROOM, call};
 use crate::{BoardRefusal, Status};
+use i2c_base::{DevId, Item, MuxId, RuleBroken};
+use i2c_boardtext::{BoardFault, TableName};
 use i2c_outside::VecSink;
 use i2c_physics::SimRig;
+use std::alloc::Global;
+use std::process::Abort;
+use std::sync::Wait;
 use std::test::Fail;
+use std::thread::Threads;
 
 const USAGE: &str =
     "usage: i2cbus run BOARD SCRIPT... | replay BOARD SCHEDULE SCRIPT... | check BOARD | gen SEED ROOTS LINES\n";
@@ -12,17 +19,7 @@ const USAGE: &str =
 // No file is there, so that any read would count a fault.
 #[test]
 fn words_of_no_form_are_told_the_usage_and_nothing_is_read(rt: HostRuntime) -> Result<(), Fail> {
-    let rows: [&[&str]; 9] = [
-        &[],
-        &[""],
-        &["replay"],
-        &["replay", "b", "s"],
-        &["replay", "b", "s", "c", "c"],
-        &["Replay", "b", "s", "c"],
-        &["replay", "b", "s", ""],
-        &["replay", "", "s", "c"],
-        &["replay", "b", "-s", "c"],
-    ];
+    let rows: [&[&str]; 3] = [&[], &["replay", "b", "-s", "c"], &["check"]];
     for words in rows {
         let mut sink = VecSink::open(rt.alloc(), ROOM, Vec::new(rt.alloc()))?;
         let mut rig = SimRig::new();
@@ -40,19 +37,9 @@ fn words_of_no_form_are_told_the_usage_and_nothing_is_read(rt: HostRuntime) -> R
 #[test]
 fn a_file_that_is_missing_is_told_by_its_place_and_name(rt: HostRuntime) -> Result<(), Fail> {
     let words = ["replay", "b.toml", "order", "get.txt"];
-    let rows: [(&[(&str, &str)], u8, &str); 4] = [
+    let rows: [(&[(&str, &str)], u8, &str); 2] = [
         (&[], 1, "cannot read b.toml\n"),
-        (
-            &[("order", ""), ("get.txt", READ)],
-            1,
-            "cannot read b.toml\n",
-        ),
         (&[("b.toml", B1), ("order", "")], 3, "cannot read get.txt\n"),
-        (
-            &[("b.toml", B1), ("get.txt", READ)],
-            2,
-            "cannot read order\n",
-        ),
     ];
     for (files, place, line) in rows {
         let mut sink = VecSink::open(rt.alloc(), ROOM, Vec::new(rt.alloc()))?;
@@ -99,118 +86,129 @@ fn a_read_that_fails_is_told_by_its_place_and_counted_there(rt: HostRuntime) -> 
     Ok(())
 }
 
+fn rule(rule: u8, first: Item, second: Item) -> BoardRefusal {
+    BoardRefusal::Rule(RuleBroken {
+        rule,
+        first,
+        second,
+    })
+}
+
+// Each row is a board, why it is refused, and the line that is written.
+fn assert_refused<H: Threads + Wait + Sync + Abort>(
+    rt: &H,
+    alloc: Global,
+    rows: &[(&str, &str, BoardRefusal, &str)],
+) -> Result<(), Fail> {
+    for (why, board, refusal, line) in rows.iter().copied() {
+        let files = [("b", board), ("s", ""), ("c", READ)];
+        let mut sink = VecSink::open(alloc, ROOM, Vec::new(alloc))?;
+        let mut rig = SimRig::new();
+        let (status, _) = call(rt, alloc, &REPLAY, &files, &[], &mut sink, &mut rig)?;
+        assert_eq!(rt; status, Status::Board(refusal), "{why}");
+        assert_eq!(rt; sink.bytes(), line.as_bytes(), "{why}");
+    }
+    Ok(())
+}
+
 #[test]
-fn a_board_in_no_plain_form_is_refused(rt: HostRuntime) -> Result<(), Fail> {
+fn a_text_that_spells_no_board_is_told_by_its_first_fault(rt: HostRuntime) -> Result<(), Fail> {
     let rows = [
-        (
-            "an upper-case digit",
-            "version = 1\n[[root]]\n[[device]]\nbus = 0\nkind = \"regs\"\naddress = 0x2A\nset = [[5, 0x7e]]\n",
-        ),
-        (
-            "an address too low",
-            "version = 1\n[[root]]\n[[device]]\nbus = 0\nkind = \"regs\"\naddress = 0x07\nset = [[5, 0x7e]]\n",
-        ),
-        (
-            "an address too high",
-            "version = 1\n[[root]]\n[[device]]\nbus = 0\nkind = \"regs\"\naddress = 0x78\nset = [[5, 0x7e]]\n",
-        ),
-        (
-            "a register too high",
-            "version = 1\n[[root]]\n[[device]]\nbus = 0\nkind = \"regs\"\naddress = 0x20\nset = [[256, 0x7e]]\n",
-        ),
         (
             "a leading zero",
             "version = 1\n[[root]]\n[[device]]\nbus = 0\nkind = \"regs\"\naddress = 0x20\nset = [[05, 0x7e]]\n",
+            BoardRefusal::Fault(BoardFault::NotToml),
+            "board: not TOML\n",
         ),
         (
-            "no line feed at the end",
-            "version = 1\n[[root]]\n[[device]]\nbus = 0\nkind = \"regs\"\naddress = 0x20\nset = [[5, 0x7e]]",
+            "a second device without a kind",
+            "version = 1\n[[root]]\n[[device]]\nbus = 0\nkind = \"regs\"\naddress = 0x20\nset = [[5, 0x7e]]\n[[device]]\nbus = 0\naddress = 0x21\n",
+            BoardRefusal::Fault(BoardFault::Key {
+                table: TableName::Device,
+                index: 1,
+            }),
+            "board: key in device 1\n",
         ),
+        (
+            "a mux at an address too high",
+            "version = 1\n[[root]]\n[[mux]]\nbus = 0\nkind = \"pca9548\"\naddress = 0x78\nlock = \"parent\"\n",
+            BoardRefusal::Fault(BoardFault::Value {
+                table: TableName::Mux,
+                index: 0,
+            }),
+            "board: value in mux 0\n",
+        ),
+        (
+            "nine roots",
+            "version = 1\n[[root]]\n[[root]]\n[[root]]\n[[root]]\n[[root]]\n[[root]]\n[[root]]\n[[root]]\n[[root]]\n",
+            BoardRefusal::Fault(BoardFault::Limit {
+                which: TableName::Root,
+                count: 9,
+            }),
+            "board: 9 root\n",
+        ),
+    ];
+    assert_refused(&rt, rt.alloc(), &rows)
+}
+
+#[test]
+fn a_board_that_breaks_a_rule_is_told_by_it_and_the_two_items(rt: HostRuntime) -> Result<(), Fail> {
+    let rows = [
+        (
+            "a mux at the second device's address",
+            "version = 1\n[[root]]\n[[mux]]\nbus = 0\nkind = \"pca9548\"\naddress = 0x30\nlock = \"parent\"\n[[device]]\nbus = 0\nkind = \"regs\"\naddress = 0x20\nset = [[5, 0x7e]]\n[[device]]\nbus = 1\nkind = \"regs\"\naddress = 0x30\nset = [[0, 0x11]]\n",
+            rule(1, Item::Mux(MuxId(0)), Item::Device(DevId(1))),
+            "board: rule TR1 mux 0 device 1\n",
+        ),
+        (
+            "a parent-locked mux below a mux-locked one",
+            "version = 1\n[[root]]\n[[mux]]\nbus = 0\nkind = \"pca9548\"\naddress = 0x70\nlock = \"mux\"\n[[mux]]\nbus = 1\nkind = \"pca9548\"\naddress = 0x71\nlock = \"parent\"\n",
+            rule(3, Item::Mux(MuxId(0)), Item::Mux(MuxId(1))),
+            "board: rule TR3 mux 0 mux 1\n",
+        ),
+    ];
+    assert_refused(&rt, rt.alloc(), &rows)
+}
+
+#[test]
+fn a_board_that_is_not_built_yet_is_refused(rt: HostRuntime) -> Result<(), Fail> {
+    let rows = [
+        (
+            "two roots",
+            "version = 1\n[[root]]\n[[root]]\n[[device]]\nbus = 0\nkind = \"regs\"\naddress = 0x20\nset = [[5, 0x7e]]\n",
+            BoardRefusal::NotBuilt,
+            "board: not built\n",
+        ),
+        (
+            "a mux-locked mux",
+            "version = 1\n[[root]]\n[[mux]]\nbus = 0\nkind = \"pca9548\"\naddress = 0x70\nlock = \"mux\"\n[[device]]\nbus = 0\nkind = \"regs\"\naddress = 0x20\nset = [[5, 0x7e]]\n",
+            BoardRefusal::NotBuilt,
+            "board: not built\n",
+        ),
+    ];
+    assert_refused(&rt, rt.alloc(), &rows)
+}
+
+// Each board has a register device at 0x20 on its root whose register 5 holds 0x7e.
+#[test]
+fn a_board_is_read_in_any_spelling(rt: HostRuntime) -> Result<(), Fail> {
+    let rows = [
         (
             "carriage returns",
             "version = 1\r\n[[root]]\r\n[[device]]\r\nbus = 0\r\nkind = \"regs\"\r\naddress = 0x20\r\nset = [[5, 0x7e]]\r\n",
         ),
         (
-            "a second device",
-            "version = 1\n[[root]]\n[[device]]\nbus = 0\nkind = \"regs\"\naddress = 0x20\nset = [[5, 0x7e]]\n[[device]]\nbus = 0\nkind = \"regs\"\naddress = 0x21\nset = [[5, 0x7e]]\n",
-        ),
-        (
-            "a mux and no device",
-            "version = 1\n[[root]]\n[[mux]]\nbus = 0\nkind = \"pca9548\"\naddress = 0x70\nlock = \"parent\"\n",
-        ),
-        (
-            "a mux and one device",
-            "version = 1\n[[root]]\n[[mux]]\nbus = 0\nkind = \"pca9548\"\naddress = 0x70\nlock = \"parent\"\n[[device]]\nbus = 0\nkind = \"regs\"\naddress = 0x20\nset = [[5, 0x7e]]\n",
-        ),
-        (
-            "a mux and three devices",
-            "version = 1\n[[root]]\n[[mux]]\nbus = 0\nkind = \"pca9548\"\naddress = 0x70\nlock = \"parent\"\n[[device]]\nbus = 0\nkind = \"regs\"\naddress = 0x20\nset = [[5, 0x7e]]\n[[device]]\nbus = 1\nkind = \"regs\"\naddress = 0x30\nset = [[0, 0x11]]\n[[device]]\nbus = 2\nkind = \"regs\"\naddress = 0x31\nset = [[0, 0x11]]\n",
-        ),
-        (
-            "two muxes",
-            "version = 1\n[[root]]\n[[mux]]\nbus = 0\nkind = \"pca9548\"\naddress = 0x70\nlock = \"parent\"\n[[mux]]\nbus = 0\nkind = \"pca9548\"\naddress = 0x71\nlock = \"parent\"\n[[device]]\nbus = 0\nkind = \"regs\"\naddress = 0x20\nset = [[5, 0x7e]]\n[[device]]\nbus = 1\nkind = \"regs\"\naddress = 0x30\nset = [[0, 0x11]]\n",
-        ),
-        (
             "a mux behind the devices",
             "version = 1\n[[root]]\n[[device]]\nbus = 0\nkind = \"regs\"\naddress = 0x20\nset = [[5, 0x7e]]\n[[device]]\nbus = 1\nkind = \"regs\"\naddress = 0x30\nset = [[0, 0x11]]\n[[mux]]\nbus = 0\nkind = \"pca9548\"\naddress = 0x70\nlock = \"parent\"\n",
         ),
-        (
-            "a mux-locked mux",
-            "version = 1\n[[root]]\n[[mux]]\nbus = 0\nkind = \"pca9548\"\naddress = 0x70\nlock = \"mux\"\n[[device]]\nbus = 0\nkind = \"regs\"\naddress = 0x20\nset = [[5, 0x7e]]\n[[device]]\nbus = 1\nkind = \"regs\"\naddress = 0x30\nset = [[0, 0x11]]\n",
-        ),
-        (
-            "a mux at an address too high",
-            "version = 1\n[[root]]\n[[mux]]\nbus = 0\nkind = \"pca9548\"\naddress = 0x78\nlock = \"parent\"\n[[device]]\nbus = 0\nkind = \"regs\"\naddress = 0x20\nset = [[5, 0x7e]]\n[[device]]\nbus = 1\nkind = \"regs\"\naddress = 0x30\nset = [[0, 0x11]]\n",
-        ),
-        (
-            "a mux at the first device's address",
-            "version = 1\n[[root]]\n[[mux]]\nbus = 0\nkind = \"pca9548\"\naddress = 0x20\nlock = \"parent\"\n[[device]]\nbus = 0\nkind = \"regs\"\naddress = 0x20\nset = [[5, 0x7e]]\n[[device]]\nbus = 1\nkind = \"regs\"\naddress = 0x30\nset = [[0, 0x11]]\n",
-        ),
-        (
-            "a mux at the second device's address",
-            "version = 1\n[[root]]\n[[mux]]\nbus = 0\nkind = \"pca9548\"\naddress = 0x30\nlock = \"parent\"\n[[device]]\nbus = 0\nkind = \"regs\"\naddress = 0x20\nset = [[5, 0x7e]]\n[[device]]\nbus = 1\nkind = \"regs\"\naddress = 0x30\nset = [[0, 0x11]]\n",
-        ),
-        (
-            "two devices at one address",
-            "version = 1\n[[root]]\n[[mux]]\nbus = 0\nkind = \"pca9548\"\naddress = 0x70\nlock = \"parent\"\n[[device]]\nbus = 0\nkind = \"regs\"\naddress = 0x20\nset = [[5, 0x7e]]\n[[device]]\nbus = 1\nkind = \"regs\"\naddress = 0x20\nset = [[0, 0x11]]\n",
-        ),
-        (
-            "the first device behind the mux",
-            "version = 1\n[[root]]\n[[mux]]\nbus = 0\nkind = \"pca9548\"\naddress = 0x70\nlock = \"parent\"\n[[device]]\nbus = 1\nkind = \"regs\"\naddress = 0x20\nset = [[5, 0x7e]]\n[[device]]\nbus = 1\nkind = \"regs\"\naddress = 0x30\nset = [[0, 0x11]]\n",
-        ),
-        (
-            "the second device on the root",
-            "version = 1\n[[root]]\n[[mux]]\nbus = 0\nkind = \"pca9548\"\naddress = 0x70\nlock = \"parent\"\n[[device]]\nbus = 0\nkind = \"regs\"\naddress = 0x20\nset = [[5, 0x7e]]\n[[device]]\nbus = 0\nkind = \"regs\"\naddress = 0x30\nset = [[0, 0x11]]\n",
-        ),
-        (
-            "a bus that isn't there",
-            "version = 1\n[[root]]\n[[mux]]\nbus = 0\nkind = \"pca9548\"\naddress = 0x70\nlock = \"parent\"\n[[device]]\nbus = 0\nkind = \"regs\"\naddress = 0x20\nset = [[5, 0x7e]]\n[[device]]\nbus = 9\nkind = \"regs\"\naddress = 0x30\nset = [[0, 0x11]]\n",
-        ),
-        (
-            "a bus of two digits",
-            "version = 1\n[[root]]\n[[mux]]\nbus = 0\nkind = \"pca9548\"\naddress = 0x70\nlock = \"parent\"\n[[device]]\nbus = 0\nkind = \"regs\"\naddress = 0x20\nset = [[5, 0x7e]]\n[[device]]\nbus = 10\nkind = \"regs\"\naddress = 0x30\nset = [[0, 0x11]]\n",
-        ),
-        (
-            "the bus a",
-            "version = 1\n[[root]]\n[[mux]]\nbus = 0\nkind = \"pca9548\"\naddress = 0x70\nlock = \"parent\"\n[[device]]\nbus = 0\nkind = \"regs\"\naddress = 0x20\nset = [[5, 0x7e]]\n[[device]]\nbus = a\nkind = \"regs\"\naddress = 0x30\nset = [[0, 0x11]]\n",
-        ),
-        (
-            "a device behind no mux",
-            "version = 1\n[[root]]\n[[device]]\nbus = 1\nkind = \"regs\"\naddress = 0x20\nset = [[5, 0x7e]]\n",
-        ),
-        ("no text", ""),
     ];
     for (why, board) in rows {
         let files = [("b", board), ("s", ""), ("c", READ)];
         let mut sink = VecSink::open(rt.alloc(), ROOM, Vec::new(rt.alloc()))?;
         let mut rig = SimRig::new();
         let (status, _) = call(&rt, rt.alloc(), &REPLAY, &files, &[], &mut sink, &mut rig)?;
-        assert_eq!(rt; status, Status::Board(BoardRefusal::Plain), "{why}");
-        assert_eq!(rt;
-            sink.bytes(),
-            b"board: not in the plain form\n".as_slice(),
-            "{why}"
-        );
+        assert_eq!(rt; status, Status::Ok, "{why}");
+        assert_eq!(rt; sink.bytes(), ONE_READ.as_bytes(), "{why}");
     }
     Ok(())
 }
@@ -218,16 +216,8 @@ fn a_board_in_no_plain_form_is_refused(rt: HostRuntime) -> Result<(), Fail> {
 #[test]
 fn a_schedule_is_refused_where_it_has_more_than_white_space(rt: HostRuntime) -> Result<(), Fail> {
     let rows = [
-        ("", Status::Ok, ONE_READ),
-        (" ", Status::Ok, ONE_READ),
-        ("\t", Status::Ok, ONE_READ),
-        ("\n", Status::Ok, ONE_READ),
-        ("\r", Status::Ok, ONE_READ),
         (" \t\r\n\r \n", Status::Ok, ONE_READ),
-        ("9", Status::Schedule(0), "schedule word 0\n"),
         (" \t\r\n9 ", Status::Schedule(0), "schedule word 0\n"),
-        ("# none\n", Status::Schedule(0), "schedule word 0\n"),
-        ("\0", Status::Schedule(0), "schedule word 0\n"),
     ];
     for (schedule, want, output) in rows {
         let files = [("b", B1), ("s", schedule), ("c", READ)];

@@ -1,20 +1,20 @@
 ghost use Rattle.std.specs.Prelude.{◌≡◌, ◌≢◌, ℕ, ◌≤◌, ◌++◌, ◌∷◌, ◌⊎◌, [], List, length, map, Some, None, Ok, Err, slice_get, string_bytes, IfOk, IfErr, OnOk, IfSome, IsTrue};
 ghost use Rattle.i2c_outside.specs.Causes.{Rose};
-ghost use Rattle.i2c_top.specs.Endings.{HasReport, CameTo, name_in, IsWritten, HasReplayed, HasEnded, IsCutShort};
+ghost use Rattle.i2c_top.specs.Endings.{CameTo, name_in, HasEnded, IsCutShort};
 ghost use Rattle.i2c_top.specs.Names.{AreNamesFrom};
-ghost use Rattle.i2c_top.specs.Replays.{names_of, name_at, IsCause, IsTold, IsUnread, KeepsUnreached};
+ghost use Rattle.i2c_top.specs.Replays.{names_of, name_at, IsUnread, KeepsUnreached};
+ghost use Rattle.i2c_top.specs.Reports.{HasReport, HasReplayed};
+ghost use Rattle.i2c_top.specs.Requests.{Replay, IsCause, IsTold, IsTraced};
 ghost use Rattle.i2c_top.specs.Status.{refusal_text};
-ghost use Rattle.i2c_top.specs.Traces.{shelf_view, output_view, rig_view, IsCalm, IsTraced, IsUntouched};
+ghost use Rattle.i2c_top.specs.Traces.{shelf_view, output_view, rig_view, IsCalm, IsUntouched};
 ghost use Rattle.i2c_top.specs.Written.{HasFront};
 ghost use Rattle.i2c_top.specs.declared.status.Status.{Status};
 ghost use Rattle.i2c_top.specs.declared.status.Status.TheVariants as status;
 
 use crate::Status;
+use crate::ending::{refuse, write};
 use crate::files::{BOARD, SCHEDULE, read_files};
-use crate::refusal::refusal_line;
 use crate::run::run_script;
-use crate::write::write_all;
-use i2c_base::NoMemory;
 use i2c_outside::{Rig, Shelf, Sink};
 use std::alloc::Global;
 
@@ -35,10 +35,10 @@ fn report_of<S: Shelf, R: Rig>(
     ensures others { (p : ℕ) → p ≢ 1 → p ≢ 2 → p ≢ 3 → S.faults shelf.new p ≡ S.faults shelf.old p }
     ensures report { IsTrue S.tells → IsTrue R.tells → IsTrue R.P.tells
         → IfOk result (λ text. HasReport (S.file shelf.old) (record { board = board.now; schedule = schedule.now; script = script.now }) text.items (R.logs rig.new) (R.states rig.new)) }
-    ensures came { OnOk result (CameTo ⊥ (record { board = board.now; schedule = schedule.now; script = script.now })
+    ensures came { OnOk result (CameTo ⊥ (Replay (record { board = board.now; schedule = schedule.now; script = script.now }))
         (shelf_view S.tells S.file S.faults shelf.old) (shelf_view S.tells S.file S.faults shelf.new)
         (rig_view R.tells R.P.tells R.faults R.plugs R.unplugs R.plugged R.logs R.states rig.old) (rig_view R.tells R.P.tells R.faults R.plugs R.unplugs R.plugged R.logs R.states rig.new) status.Ok) }
-    ensures refused { IfErr result (CameTo ⊥ (record { board = board.now; schedule = schedule.now; script = script.now })
+    ensures refused { IfErr result (CameTo ⊥ (Replay (record { board = board.now; schedule = schedule.now; script = script.now }))
         (shelf_view S.tells S.file S.faults shelf.old) (shelf_view S.tells S.file S.faults shelf.new)
         (rig_view R.tells R.P.tells R.faults R.plugs R.unplugs R.plugged R.logs R.states rig.old) (rig_view R.tells R.P.tells R.faults R.plugs R.unplugs R.plugged R.logs R.states rig.new)) }
     ensures refusal { IfErr result (λ e. e ≢ status.Ok) }
@@ -59,34 +59,12 @@ fn name_at<'a>(place: u8, board: &'a str, schedule: &'a str, script: &'a str) ->
 }
 
 // The name in the line of a refusal.
-fn name_in<'a>(refusal: Status, board: &'a str, schedule: &'a str, script: &'a str) -> &'a [u8]
-    ensures { result.now ≡ name_in (record { board = board.now; schedule = schedule.now; script = script.now }) refusal }
+fn name_in<'a>(refusal: &Status, board: &'a str, schedule: &'a str, script: &'a str) -> &'a [u8]
+    ensures { result.now ≡ name_in (Replay (record { board = board.now; schedule = schedule.now; script = script.now })) refusal.now }
 {
     match refusal {
-        Status::Read(place) => name_at(place, board, schedule, script).as_bytes(),
+        Status::Read(place) => name_at(*place, board, schedule, script).as_bytes(),
         _ => b"",
-    }
-}
-
-/// Writes the text that is due for a status, and answers the status; `Write` where the output failed.
-pub fn write<K: Sink>(due: Status, text: &[u8], sink: &mut K) -> Status
-    ensures told { (result ≡ due) ⊎ (result ≡ status.Write) }
-    ensures written { IsWritten (output_view K.tells K.bytes K.faults sink.old) (output_view K.tells K.bytes K.faults sink.new) due text.now result }
-{
-    if write_all(sink, text) {
-        due
-    } else {
-        Status::Write
-    }
-}
-
-// Writes the line of a refusal.
-fn refuse<K: Sink>(alloc: Global, refusal: Status, name: &[u8], sink: &mut K) -> Status
-    ensures { IsWritten (output_view K.tells K.bytes K.faults sink.old) (output_view K.tells K.bytes K.faults sink.new) refusal (refusal_text refusal name.now) result }
-{
-    match refusal_line(alloc, refusal, name) {
-        Ok(text) => write(refusal, text.as_slice(), sink),
-        Err(NoMemory) => Status::Memory,
     }
 }
 
@@ -106,7 +84,7 @@ fn replay_one<S: Shelf, K: Sink, R: Rig>(
     ensures words { S.words shelf.new ≡ S.words shelf.old }
     ensures files { (n : List ℕ) → S.file shelf.new n ≡ S.file shelf.old n }
     ensures others { (p : ℕ) → p ≢ 1 → p ≢ 2 → p ≢ 3 → S.faults shelf.new p ≡ S.faults shelf.old p }
-    ensures ended { HasEnded ⊥ (record { board = board.now; schedule = schedule.now; script = script.now })
+    ensures ended { HasEnded ⊥ (Replay (record { board = board.now; schedule = schedule.now; script = script.now }))
         (shelf_view S.tells S.file S.faults shelf.old) (shelf_view S.tells S.file S.faults shelf.new)
         (output_view K.tells K.bytes K.faults sink.old) (output_view K.tells K.bytes K.faults sink.new)
         (rig_view R.tells R.P.tells R.faults R.plugs R.unplugs R.plugged R.logs R.states rig.old) (rig_view R.tells R.P.tells R.faults R.plugs R.unplugs R.plugged R.logs R.states rig.new) result }
@@ -115,7 +93,7 @@ fn replay_one<S: Shelf, K: Sink, R: Rig>(
         Ok(text) => write(Status::Ok, text.as_slice(), sink),
         Err(Status::Memory) => Status::Memory,
         Err(refusal) => {
-            let name = name_in(refusal, board, schedule, script);
+            let name = name_in(&refusal, board, schedule, script);
             refuse(alloc, refusal, name, sink)
         }
     }
@@ -153,7 +131,7 @@ fn replay<S: Shelf, K: Sink, R: Rig>(
     ensures unread { length scripts.now ≢ 1 → (p : ℕ) → S.faults shelf.new p ≡ S.faults shelf.old p }
     ensures unplugged { length scripts.now ≢ 1 → IsUntouched (rig_view R.tells R.P.tells R.faults R.plugs R.unplugs R.plugged R.logs R.states rig.old) (rig_view R.tells R.P.tells R.faults R.plugs R.unplugs R.plugged R.logs R.states rig.new) }
     ensures usage_line { IsTrue K.tells → length scripts.now ≢ 1 → HasFront (K.bytes sink.old) (refusal_text status.Usage []) (K.bytes sink.new) }
-    ensures ended { HasEnded (length scripts.now ≢ 1) (names_of board.now schedule.now (map string_bytes scripts.now))
+    ensures ended { HasEnded (length scripts.now ≢ 1) (Replay (names_of board.now schedule.now (map string_bytes scripts.now)))
         (shelf_view S.tells S.file S.faults shelf.old) (shelf_view S.tells S.file S.faults shelf.new)
         (output_view K.tells K.bytes K.faults sink.old) (output_view K.tells K.bytes K.faults sink.new)
         (rig_view R.tells R.P.tells R.faults R.plugs R.unplugs R.plugged R.logs R.states rig.old) (rig_view R.tells R.P.tells R.faults R.plugs R.unplugs R.plugged R.logs R.states rig.new) result }
@@ -185,7 +163,7 @@ pub fn replay_call<S: Shelf, K: Sink, R: Rig>(
 
     // The cause of each status, in the order of refusals: by what the files say where the shelf tells, and by the
     // counts. Usage is told exactly where there is not one script.
-    ensures told { IsTrue S.tells → IsTold (S.file shelf.old) (names_of board.now schedule.now (map string_bytes scripts.now)) result }
+    ensures told { IsTrue S.tells → IsTold (S.file shelf.old) (Replay (names_of board.now schedule.now (map string_bytes scripts.now))) result }
     ensures read { (place : ℕ) → result ≡ status.Read place → IsUnread (S.faults shelf.old) (S.faults shelf.new) place }
     ensures unreached { KeepsUnreached (S.faults shelf.old) (S.faults shelf.new) result }
     ensures others { (p : ℕ) → p ≢ 1 → p ≢ 2 → p ≢ 3 → S.faults shelf.new p ≡ S.faults shelf.old p }
@@ -199,27 +177,27 @@ pub fn replay_call<S: Shelf, K: Sink, R: Rig>(
     ensures write { result ≡ status.Write → Rose (K.faults sink.old) (K.faults sink.new) }
 
     // Where no count rose, the status is the one that the files are a cause of, or there was no memory.
-    ensures complete { IsTrue S.tells → length scripts.now ≡ 1 → (s : Status) → IsCause (S.file shelf.old) (names_of board.now schedule.now (map string_bytes scripts.now)) s
+    ensures complete { IsTrue S.tells → length scripts.now ≡ 1 → (s : Status) → IsCause (S.file shelf.old) (Replay (names_of board.now schedule.now (map string_bytes scripts.now))) s
         → IsCalm (S.faults shelf.old) (S.faults shelf.new) (K.faults sink.old) (K.faults sink.new) (R.faults rig.old) (R.faults rig.new) → (result ≡ s) ⊎ (result ≡ status.Memory) }
 
     // What was written: the report of a run, the line of a refusal, nothing without memory, and else a front of the
     // text due.
     ensures success { IsTrue S.tells → IsTrue K.tells → IsTrue R.tells → IsTrue R.P.tells → result ≡ status.Ok
         → HasReplayed (S.file shelf.old) (names_of board.now schedule.now (map string_bytes scripts.now)) (K.bytes sink.old) (K.bytes sink.new) (R.logs rig.new) (R.states rig.new) }
-    ensures line { IsTrue K.tells → result ≢ status.Ok → result ≢ status.Write → K.bytes sink.new ≡ K.bytes sink.old ++ refusal_text result (name_in (names_of board.now schedule.now (map string_bytes scripts.now)) result) }
+    ensures line { IsTrue K.tells → result ≢ status.Ok → result ≢ status.Write → K.bytes sink.new ≡ K.bytes sink.old ++ refusal_text result (name_in (Replay (names_of board.now schedule.now (map string_bytes scripts.now))) result) }
     ensures kept { IsTrue K.tells → result ≡ status.Memory → K.bytes sink.new ≡ K.bytes sink.old }
-    ensures cut { result ≡ status.Write → IsCutShort (length scripts.now ≢ 1) (names_of board.now schedule.now (map string_bytes scripts.now))
+    ensures cut { result ≡ status.Write → IsCutShort (length scripts.now ≢ 1) (Replay (names_of board.now schedule.now (map string_bytes scripts.now)))
         (shelf_view S.tells S.file S.faults shelf.old) (shelf_view S.tells S.file S.faults shelf.new)
         (output_view K.tells K.bytes K.faults sink.old) (output_view K.tells K.bytes K.faults sink.new)
         (rig_view R.tells R.P.tells R.faults R.plugs R.unplugs R.plugged R.logs R.states rig.old) (rig_view R.tells R.P.tells R.faults R.plugs R.unplugs R.plugged R.logs R.states rig.new) }
 
     // What it does to the rig and to the shelf.
-    ensures traced { IsTraced (rig_view R.tells R.P.tells R.faults R.plugs R.unplugs R.plugged R.logs R.states rig.old) (rig_view R.tells R.P.tells R.faults R.plugs R.unplugs R.plugged R.logs R.states rig.new) result }
+    ensures traced { IsTraced (Replay (names_of board.now schedule.now (map string_bytes scripts.now))) (rig_view R.tells R.P.tells R.faults R.plugs R.unplugs R.plugged R.logs R.states rig.old) (rig_view R.tells R.P.tells R.faults R.plugs R.unplugs R.plugged R.logs R.states rig.new) result }
     ensures words { S.words shelf.new ≡ S.words shelf.old }
     ensures files { (n : List ℕ) → S.file shelf.new n ≡ S.file shelf.old n }
 
     // All of it in one, for who calls this.
-    ensures ended { HasEnded (length scripts.now ≢ 1) (names_of board.now schedule.now (map string_bytes scripts.now))
+    ensures ended { HasEnded (length scripts.now ≢ 1) (Replay (names_of board.now schedule.now (map string_bytes scripts.now)))
         (shelf_view S.tells S.file S.faults shelf.old) (shelf_view S.tells S.file S.faults shelf.new)
         (output_view K.tells K.bytes K.faults sink.old) (output_view K.tells K.bytes K.faults sink.new)
         (rig_view R.tells R.P.tells R.faults R.plugs R.unplugs R.plugged R.logs R.states rig.old) (rig_view R.tells R.P.tells R.faults R.plugs R.unplugs R.plugged R.logs R.states rig.new) result }

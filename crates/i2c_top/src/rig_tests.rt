@@ -8,6 +8,7 @@ use crate::tests::{B1, FILES, READ, REPLAY, ROOM, call};
 use crate::{BoardRefusal, Status};
 use i2c_base::{Addr, Answer, Event, PortCall, Target};
 use i2c_board::Accepted;
+use i2c_boardtext::BoardFault;
 use i2c_outside::{Rig, RigFail, VecSink};
 use i2c_physics::{SimPort, SimRig};
 use std::alloc::Global;
@@ -75,16 +76,9 @@ fn the_first_refusal_is_told_and_the_rig_comes_last(rt: HostRuntime) -> Result<(
         line: 1,
         word: 0,
     };
-    let in_board = Status::Board(BoardRefusal::Plain);
+    let in_board = Status::Board(BoardRefusal::Fault(BoardFault::NotToml));
     let rows = [
-        (
-            "",
-            "9",
-            "get\n",
-            in_board,
-            0,
-            "board: not in the plain form\n",
-        ),
+        ("[", "9", "get\n", in_board, 0, "board: not TOML\n"),
         (B1, "9", "get\n", in_script, 0, "script 0 line 1 word 0\n"),
         (B1, "9", READ, Status::Schedule(0), 0, "schedule word 0\n"),
         (B1, "", READ, Status::Rig, 1, "cannot plug the rig\n"),

@@ -4,7 +4,7 @@ ghost use Rattle.i2c_base.specs.declared.port.Phase.{Phase};
 ghost use Rattle.i2c_spec.specs.World.{openings};
 ghost use Rattle.bus_spec.specs.Report.{report_lines};
 ghost use Rattle.i2c_top.specs.Callers.{opened, board_of};
-ghost use Rattle.i2c_top.specs.PlainForm.{IsFormBoard};
+ghost use Rattle.i2c_top.specs.Boards.{IsFormBoard};
 ghost use Rattle.i2c_top.specs.Scripts.{asked_by, left_of, commands_of, section_text};
 ghost use Rattle.bus_spec.specs.Grammar.{is_over};
 ghost use Rattle.bus_core.specs.Seats.{walk_left};

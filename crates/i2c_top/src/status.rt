@@ -2,14 +2,19 @@ ghost use Rattle.std.specs.Prelude.{◌≡◌};
 ghost use Rattle.i2c_top.specs.Status.{code_of};
 ghost use Rattle.i2c_top.specs.declared.status.Status.TheVariants.{Memory as NoRoomToRun};
 
-use i2c_base::NoMemory;
+use i2c_base::{NoMemory, RuleBroken};
+use i2c_boardtext::BoardFault;
 use std::alloc::{AllocError, AllocFailed};
 
 /// Why a board was refused.
 #[derive(Clone, Copy, Debug, PartialEq, Eq, Hash)]
 pub enum BoardRefusal {
-    /// Its text is in no plain form.
-    Plain,
+    /// Its text spells no board, by this first fault. It is never want of memory.
+    Fault(BoardFault),
+    /// It breaks this topology rule, and none before it.
+    Rule(RuleBroken),
+    /// It meets the rules, and has what this version doesn't step.
+    NotBuilt,
 }
 
 /// How a call of the program ended.
@@ -19,7 +24,7 @@ pub enum Status {
     Ok,
     /// The words are none of the forms.
     Usage,
-    /// The board's text was refused.
+    /// The board was refused.
     Board(BoardRefusal),
     /// The first line of a script, from 1, that the grammar doesn't have, and its refused word, from 0.
     Script { caller: u8, line: u32, word: u16 },

@@ -1,4 +1,5 @@
-//! Whole calls over files, output and a rig in memory: what the tests share, and the rows of a script and a schedule.
+//! Whole calls over files, output and a rig in memory: what the tests share, and a script that is done beside one that is
+//! refused. More scripts stand in rows/scripts.rows.
 
 ghost use Rattle.std.specs.Prelude.{◌≡◌, map, string_bytes, IfOk};
 
@@ -20,26 +21,6 @@ pub(crate) const READ: &str = "i2cget -y 0 0x20 5\n";
 
 pub(crate) const ONE_READ: &str =
     "caller 0\n> i2cget -y 0 0x20 5\n0x7e\njournal\ntake 0 buslock 0\nmsg 0 bus 0 call 1/2 w 0x20 [05] heard d0 ok\nmsg 0 bus 0 call 2/2 r 0x20 [7e] heard d0 ok\nsettle 0 read 7e\nfree 0 buslock 0\nend\n";
-
-const EMPTY: &str = "caller 0\njournal\nend\n";
-
-const NOBODY: &str =
-    "caller 0\n> i2cget -y 0 0x21 5\nENXIO\njournal\ntake 0 buslock 0\nmsg 0 bus 0 call 1/2 w 0x21 [] heard none nack\nsettle 0 ENXIO\nfree 0 buslock 0\nend\n";
-
-const LOWEST: &str =
-    "caller 0\n> i2cget -y 0 0x08 5\nENXIO\njournal\ntake 0 buslock 0\nmsg 0 bus 0 call 1/2 w 0x08 [] heard none nack\nsettle 0 ENXIO\nfree 0 buslock 0\nend\n";
-
-const HIGHEST: &str =
-    "caller 0\n> i2cget -y 0 0x77 5\nENXIO\njournal\ntake 0 buslock 0\nmsg 0 bus 0 call 1/2 w 0x77 [] heard none nack\nsettle 0 ENXIO\nfree 0 buslock 0\nend\n";
-
-const NO_BUS: &str = "caller 0\n> i2cget -y 4 0x20 5\nENODEV\njournal\nsettle 0 ENODEV\nend\n";
-
-/// A script of four commands, in all the ways in which lines end and words stand apart, and its report.
-const FOUR: &str =
-    "# four\r\ni2cget -y 0 0x20 5\r\n\n \t\r\n\ti2cget\t-y \t 0 32\t0x06 \n #\ni2cget -y 1 0x20 5\ni2cget -y 0 0x0020 0xfF";
-
-const FOUR_READ: &str =
-    "caller 0\n> i2cget -y 0 0x20 5\n0x7e\n> i2cget -y 0 32 0x06\n0x00\n> i2cget -y 1 0x20 5\nENODEV\n> i2cget -y 0 0x0020 0xfF\n0x00\njournal\ntake 0 buslock 0\nmsg 0 bus 0 call 1/2 w 0x20 [05] heard d0 ok\nmsg 0 bus 0 call 2/2 r 0x20 [7e] heard d0 ok\nsettle 0 read 7e\nfree 0 buslock 0\ntake 0 buslock 0\nmsg 0 bus 0 call 1/2 w 0x20 [06] heard d0 ok\nmsg 0 bus 0 call 2/2 r 0x20 [00] heard d0 ok\nsettle 0 read 00\nfree 0 buslock 0\nsettle 0 ENODEV\ntake 0 buslock 0\nmsg 0 bus 0 call 1/2 w 0x20 [ff] heard d0 ok\nmsg 0 bus 0 call 2/2 r 0x20 [00] heard d0 ok\nsettle 0 read 00\nfree 0 buslock 0\nend\n";
 
 /// The words of a call, and the files of one register read.
 pub(crate) const REPLAY: [&str; 4] = ["replay", "b", "s", "c"];
@@ -99,60 +80,23 @@ pub(crate) fn call<H: Threads + Wait + Sync, R: Rig>(
     Ok((status, shelf))
 }
 
-// A refusal of the script.
-fn refused(line: u32, word: u16) -> Status {
-    Status::Script {
-        caller: 0,
-        line,
-        word,
-    }
-}
-
 #[test]
-fn each_row_writes_its_report_or_its_refusal(rt: HostRuntime) -> Result<(), Fail> {
+fn a_script_writes_its_report_or_its_refusal(rt: HostRuntime) -> Result<(), Fail> {
+    let refused = Status::Script {
+        caller: 0,
+        line: 2,
+        word: 3,
+    };
     let rows = [
-        (READ, "", Status::Ok, ONE_READ),
-        ("", "", Status::Ok, EMPTY),
-        ("# nothing\n\r\n\t \n", "", Status::Ok, EMPTY),
-        ("i2cget -y 0 0x21 5", "", Status::Ok, NOBODY),
-        ("i2cget -y 0 0x08 5\n", "", Status::Ok, LOWEST),
-        ("i2cget -y 0 0x77 5\n", "", Status::Ok, HIGHEST),
-        ("i2cget -y 4 0x20 5", "", Status::Ok, NO_BUS),
-        (FOUR, "", Status::Ok, FOUR_READ),
+        (READ, Status::Ok, ONE_READ),
         (
             "# low\ni2cget -y 0 0x07 5\n",
-            "",
-            refused(2, 3),
+            refused,
             "script 0 line 2 word 3\n",
         ),
-        (
-            "i2cget -y 0 0x78 5\n",
-            "",
-            refused(1, 3),
-            "script 0 line 1 word 3\n",
-        ),
-        (
-            "i2cget -y 0 0x2",
-            "",
-            refused(1, 3),
-            "script 0 line 1 word 3\n",
-        ),
-        (
-            "i2cget -y 0 0x20 5\r",
-            "",
-            refused(1, 4),
-            "script 0 line 1 word 4\n",
-        ),
-        (
-            "\r\ni2cget -y 0 0x20 5\r\r\n",
-            "",
-            refused(2, 4),
-            "script 0 line 2 word 4\n",
-        ),
-        ("", " \n0", Status::Schedule(0), "schedule word 0\n"),
     ];
-    for (script, schedule, want, output) in rows {
-        let files = [("b", B1), ("s", schedule), ("c", script)];
+    for (script, want, output) in rows {
+        let files = [("b", B1), ("s", ""), ("c", script)];
         let mut sink = VecSink::open(rt.alloc(), ROOM, Vec::new(rt.alloc()))?;
         let mut rig = SimRig::new();
         let (status, _) = call(&rt, rt.alloc(), &REPLAY, &files, &[], &mut sink, &mut rig)?;

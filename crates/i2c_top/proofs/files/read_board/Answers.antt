@@ -1,16 +1,5 @@
-use Rattle.std.proofs.Common.{sym, ap, ◌∙◌, Some}
-use Rattle.std.proofs.lemmas.Result.{IfOk-weaker, IfErr-weaker}
-use Rattle.i2c_top.proofs.FileLemmas.{board_in, board_refused}
+use Rattle.i2c_top.proofs.FileLemmas.{built_in}
 use Rattle.i2c_top.proofs.files.read_board.Goals as goal
 
 pub returns-clause-board : goal.returns-clause-board
-returns-clause-board g c =
-    λ t. IfOk-weaker c.board_of.result _ _
-    (λ b h. board_in _ _ _ b (c.in_ok-text.ensures.bytes t ∙ ap (λ x. Some x) (sym c.as_slice.ensures.value)) h)
-    c.board_of.ensures.board
-
-pub returns-clause-refused : goal.returns-clause-refused
-returns-clause-refused g c =
-    IfErr-weaker c.board_of.result _ _
-    (λ e h. board_refused _ _ _ _ _ _ e (λ t. c.in_ok-text.ensures.bytes t ∙ ap (λ x. Some x) (sym c.as_slice.ensures.value)) h)
-    c.board_of.ensures.refused
+returns-clause-board g c = λ t. built_in _ _ _ c.built.result (c.in_ok-board.ensures.board t) c.built.ensures.same c.built.ensures.built

@@ -1,6 +1,6 @@
 use Rattle.std.proofs.Common.{◌*◌, ◌≤◌, length, ap, subst, arith}
 use Rattle.i2c_top.specs.Callers.{CallerView}
-use Rattle.i2c_top.specs.PlainForm.{IsFormBoard}
+use Rattle.i2c_top.specs.Boards.{IsFormBoard}
 use Rattle.i2c_top.specs.Scripts.{left_of}
 use Rattle.i2c_top.proofs.CommandLemmas.{commands_most}
 use Rattle.i2c_top.proofs.FairLemmas.{left_most}

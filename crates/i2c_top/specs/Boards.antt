@@ -1,0 +1,79 @@
+-- Which boards this version steps, and what a board's text says: the board, or why it is refused.
+use Rattle.std.specs.Prelude.{◌≡◌, ◌≢◌, ℕ, ◌≤◌, false, IsTrue, All, List, length, Ok, Err}
+use Rattle.i2c_base.specs.Board.{BoardView}
+use Rattle.i2c_base.specs.declared.board.DeviceKind.TheVariants as kind
+use Rattle.i2c_base.specs.declared.board.LockMode.TheVariants.{Parent}
+use Rattle.i2c_base.specs.declared.board.MuxKind.TheVariants.{Pca9548}
+use Rattle.i2c_base.specs.declared.board.MuxSpec.{MuxSpec}
+use Rattle.i2c_base.specs.declared.rules.RuleBroken.{RuleBroken}
+use Rattle.i2c_spec.specs.Rules.{MeetsRules, TellsBroken}
+use Rattle.i2c_boardtext.specs.BoardText.{board_of}
+use Rattle.i2c_boardtext.specs.declared.fault.BoardFault.{BoardFault}
+use Rattle.i2c_boardtext.specs.declared.fault.BoardFault.TheVariants as fault
+use Rattle.i2c_outside.specs.Registers.{is_regs}
+use Rattle.i2c_top.specs.declared.status.BoardRefusal.{BoardRefusal}
+use Rattle.i2c_top.specs.declared.status.BoardRefusal.TheVariants as refusal
+
+-- what this version steps: one root, at most one mux, a parent-locked switch of eight channels that is there, and
+-- register devices that hold no clock
+pub record IsBuiltMux (m : MuxSpec) : Type 0 where
+  pub kind_is : m.kind ≡ Pca9548
+  pub locked : m.lock ≡ Parent
+  pub there : m.absent ≡ false
+
+pub record IsBuilt (b : BoardView) : Type 0 where
+  pub one_root : length b.roots ≡ 1
+  pub few_muxes : length b.muxes ≤ 1
+  pub switches : All IsBuiltMux b.muxes
+  pub registers : All (λ d. d.kind ≡ kind.Regs 0) b.devices
+
+-- what the run asks of a board, which such boards have: one root, parent-locked switches of eight channels on it,
+-- register devices
+pub record IsFormMux (m : MuxSpec) : Type 0 where
+  pub home : m.bus ≡ 0
+  pub kind_is : m.kind ≡ Pca9548
+  pub locked : m.lock ≡ Parent
+
+pub record IsFormBoard (b : BoardView) : Type 0 where
+  pub one_root : length b.roots ≡ 1
+  pub switches : All IsFormMux b.muxes
+  pub registers : All (λ d. IsTrue (is_regs d.kind)) b.devices
+
+-- a text spells this board, which meets the rules
+pub record IsAccepted (text : List ℕ) (board : BoardView) : Type 0 where
+  pub read : board_of text ≡ Ok board
+  pub rules : MeetsRules board
+
+-- .. and this version steps it
+pub record IsBoardOf (text : List ℕ) (board : BoardView) : Type 0 where
+  pub accepted : IsAccepted text board
+  pub built : IsBuilt board
+
+-- it has this fault, and no want of memory is one
+pub record IsFaulty (text : List ℕ) (f : BoardFault) : Type 0 where
+  pub read : board_of text ≡ Err f
+  pub of_text : f ≢ fault.Memory
+
+-- it spells a board whose first broken rule is this
+pub record IsBroken (text : List ℕ) (r : RuleBroken) : Type 0 where
+  pub board : BoardView
+  pub read : board_of text ≡ Ok board
+  pub broken : TellsBroken board r
+
+-- it spells a board that meets the rules, and that this version doesn't step
+pub record IsUnbuilt (text : List ℕ) : Type 0 where
+  pub board : BoardView
+  pub accepted : IsAccepted text board
+  pub unbuilt : IsBuilt board → ⊥
+
+-- why a text spells no board that meets the rules
+abbrev pub IsRejected : List ℕ → BoardRefusal → Type 0
+IsRejected text (refusal.Fault f) = IsFaulty text f
+IsRejected text (refusal.Rule r) = IsBroken text r
+IsRejected text refusal.NotBuilt = ⊥
+
+-- why a text is refused where its board is to be stepped
+abbrev pub IsNoBoard : List ℕ → BoardRefusal → Type 0
+IsNoBoard text (refusal.Fault f) = IsRejected text (refusal.Fault f)
+IsNoBoard text (refusal.Rule r) = IsRejected text (refusal.Rule r)
+IsNoBoard text refusal.NotBuilt = IsUnbuilt text

@@ -1,0 +1,68 @@
+-- What the file of a call of `check` says where it ends with a status, and the line that it writes.
+use Rattle.std.specs.Prelude.{⊤, ◌≡◌, ◌≢◌, ℕ, List, ◌++◌, Some, length, codes}
+use Rattle.std.specs.Fmt.{decimal}
+use Rattle.i2c_base.specs.Board.{BoardView}
+use Rattle.i2c_spec.specs.Tree.{buses}
+use Rattle.i2c_top.specs.Boards.{IsAccepted, IsRejected}
+use Rattle.i2c_top.specs.Files.{Files}
+use Rattle.i2c_top.specs.declared.status.BoardRefusal.{BoardRefusal}
+use Rattle.i2c_top.specs.declared.status.BoardRefusal.TheVariants as refusal
+use Rattle.i2c_top.specs.declared.status.Status.{Status}
+use Rattle.i2c_top.specs.declared.status.Status.TheVariants as status
+
+-- the board's file is there, and its text spells this board, which meets the rules
+pub record HasAccepted (file : Files) (name : List ℕ) : Type 0 where
+  pub board : BoardView
+  pub text : List ℕ
+  pub there : file name ≡ Some text
+  pub is_accepted : IsAccepted text board
+
+-- it is there, and its text spells none, for this
+pub record HasRejected (file : Files) (name : List ℕ) (why : BoardRefusal) : Type 0 where
+  pub text : List ℕ
+  pub there : file name ≡ Some text
+  pub is_rejected : IsRejected text why
+
+-- what the file says where `check` ends with a status that it decides: an accepted board, and each refusal of its text
+abbrev pub IsCheckCause : Files → List ℕ → Status → Type 0
+IsCheckCause file name status.Ok = HasAccepted file name
+IsCheckCause file name (status.Board why) = HasRejected file name why
+IsCheckCause file name (status.Script caller line word) = ⊥
+IsCheckCause file name (status.Schedule word) = ⊥
+IsCheckCause file name status.Usage = ⊥
+IsCheckCause file name (status.Cost cost) = ⊥
+IsCheckCause file name (status.Read place) = ⊥
+IsCheckCause file name status.Write = ⊥
+IsCheckCause file name status.Memory = ⊥
+IsCheckCause file name status.Rig = ⊥
+
+-- the statuses of `check`: its board is accepted or refused, or was not read, or its line was not written. Whether a board
+-- is built is no matter of it
+abbrev pub IsCheckStatus : Status → Type 0
+IsCheckStatus status.Ok = ⊤
+IsCheckStatus (status.Board why) = why ≢ refusal.NotBuilt
+IsCheckStatus (status.Read place) = place ≡ 1
+IsCheckStatus status.Write = ⊤
+IsCheckStatus status.Memory = ⊤
+IsCheckStatus status.Usage = ⊥
+IsCheckStatus (status.Script caller line word) = ⊥
+IsCheckStatus (status.Schedule word) = ⊥
+IsCheckStatus (status.Cost cost) = ⊥
+IsCheckStatus status.Rig = ⊥
+
+-- the line of an accepted board: how many roots, muxes, devices and buses it has
+abbrev pub accepted_text : BoardView → List ℕ
+accepted_text b =
+    codes "accepted: " ++ (decimal (length b.roots) ++ (codes " roots " ++ (decimal (length b.muxes) ++ (codes " muxes "
+    ++ (decimal (length b.devices) ++ (codes " devices " ++ (decimal (buses b) ++ codes " buses\n")))))))
+
+-- the file spells an accepted board, and this is its line
+pub record HasCheck (file : Files) (name text : List ℕ) : Type 0 where
+  pub accepted : HasAccepted file name
+  pub line : text ≡ accepted_text accepted.board
+
+-- that line was written behind what stood there
+pub record HasChecked (file : Files) (name before now : List ℕ) : Type 0 where
+  pub text : List ℕ
+  pub check : HasCheck file name text
+  pub written : now ≡ before ++ text
