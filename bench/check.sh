@@ -5,10 +5,8 @@
 #
 # PROGRAM is crates/i2cbus/out/i2cbus where it isn't given. Nothing is built here, and nothing is left behind. But for
 # times and memory it prints the same each time. A check whose output isn't the line that is due ends it.
-set -u
-export LC_ALL=C
+. "$(dirname "$0")/common.sh"
 
-RUNS=21 # odd, so that the median is one of them
 ROOTS=8 # the most that a board may have; the other numbers follow from them
 WANTED=50 # at most so many milliseconds should the largest board take
 
@@ -20,15 +18,6 @@ CHANNELS_A_MUX=8
 DEVICES_A_MUX=4
 RUNS_A_DEVICE=16
 BYTES_A_RUN=16
-
-program=${1:-$(dirname "$0")/../crates/i2cbus/out/i2cbus}
-if [ ! -f "$program" ] || [ ! -x "$program" ]; then
-  echo "there is no program $program: rt ci, or rt run in crates/i2cbus, leaves it in crates/i2cbus/out/" >&2
-  exit 1
-fi
-
-folder=$(mktemp -d) || exit 1
-trap 'rm -rf "$folder"' EXIT
 
 # The board of so many roots, and the line that is due. The channels of mux m have the bus numbers from roots + 8 m on,
 # and the next mux of its root stands on the first of them.
@@ -66,71 +55,21 @@ write_files() {
   }'
 }
 
-# Checks the board of so many roots.
-run_check() {
-  "$program" check "$folder/board.$1" >"$folder/out" </dev/null
-}
-
-# That run ended with this status: it has to be 0, with the line that is due.
-check_run() {
-  if [ "$2" -ne 0 ]; then
-    echo "the check of $1 roots ended with status $2" >&2
-    exit 1
-  fi
-  if ! cmp -s "$folder/out" "$folder/due.$1"; then
-    echo "the check of $1 roots printed another line than is due" >&2
-    exit 1
-  fi
-}
-
-# The times of all runs in microseconds, the shortest first.
-times_of() {
-  local run begin end status
-  for ((run = 0; run < RUNS; run++)); do
-    begin=$EPOCHREALTIME
-    run_check "$1"
-    status=$?
-    end=$EPOCHREALTIME
-    check_run "$1" "$status"
-    echo $((${end/./} - ${begin/./}))
-  done >"$folder/times"
-  sort -n "$folder/times"
-}
-
-# The peak memory of one more run in KiB, or nothing where there is no GNU time. It is asked of that small program, since
-# a shell that starts the run would count its own memory in.
-memory_of() {
-  local status
-  /usr/bin/time -f %M -o "$folder/memory" true 2>/dev/null || return
-  /usr/bin/time -f %M -o "$folder/memory" "$program" check "$folder/board.$1" >"$folder/out" </dev/null
-  status=$?
-  check_run "$1" "$status"
-  tail -n 1 "$folder/memory"
-}
-
 # Measures the board of so many roots.
 measure() {
   write_files "$1"
-  local times
-  times=$(times_of "$1") || exit 1
-  best[$1]=$(sed -n 1p <<<"$times")
-  median[$1]=$(sed -n "$((RUNS / 2 + 1))p" <<<"$times")
-  memory[$1]=$(memory_of "$1") || exit 1
+  local times what="the check of $1 roots" due=$folder/due.$1
+  local -a words=(check "$folder/board.$1")
+  times=$(times_of "$what" "$due" "${words[@]}") || exit 1
+  best[$1]=$(best_of "$times")
+  median[$1]=$(median_of "$times")
+  memory[$1]=$(memory_of "$what" "$due" "${words[@]}") || exit 1
   size[$1]=$(($(wc -c <"$folder/board.$1")))
 }
 
 # A row of the table: its name, and a word for each of the two and for their ratio.
 row() {
   printf '%-26s %12s %12s %8s\n' "$@"
-}
-
-# So many thousandths, with a point.
-thousandths() {
-  awk -v n="$1" 'BEGIN { printf "%.3f", n / 1000 }'
-}
-
-ratio() {
-  awk -v half="$1" -v whole="$2" 'BEGIN { if (half > 0) printf "%.2f", whole / half; else printf "-" }'
 }
 
 # A row of two numbers as they are, and of two in thousandths. One that isn't known is a dash.

@@ -6,10 +6,8 @@
 #
 # PROGRAM is crates/i2cbus/out/i2cbus where it isn't given. Nothing is built here, and nothing is left behind. But for
 # times and memory it prints the same each time. A run whose output isn't the report that is due ends it.
-set -u
-export LC_ALL=C
+. "$(dirname "$0")/common.sh"
 
-RUNS=21 # odd, so that the median is one of them
 FEW=100
 MANY=1000
 WANTED=1.3 # so many times as long as on the root may an entry take behind the mux
@@ -20,15 +18,6 @@ declare -A bus=([root]=0 [mux]=1)
 declare -A address=([root]=0x20 [mux]=0x30)
 declare -A device=([root]=0 [mux]=1)
 declare -A entries_a_read=([root]=5 [mux]=9)
-
-program=${1:-$(dirname "$0")/../crates/i2cbus/out/i2cbus}
-if [ ! -f "$program" ] || [ ! -x "$program" ]; then
-  echo "there is no program $program: rt ci, or rt run in crates/i2cbus, leaves it in crates/i2cbus/out/" >&2
-  exit 1
-fi
-
-folder=$(mktemp -d) || exit 1
-trap 'rm -rf "$folder"' EXIT
 
 # A register device whose register 5 holds 0x7e.
 device_of() {
@@ -73,74 +62,23 @@ write_files() {
   }'
 }
 
-# Does the reads of this board and number.
-run_reads() {
-  "$program" replay "$folder/board.$1" "$folder/schedule" "$folder/script.$1.$2" >"$folder/out" </dev/null
-}
-
-# That run ended with this status: it has to be 0, with the report that is due.
-check_run() {
-  if [ "$3" -ne 0 ]; then
-    echo "the run of $2 reads ($1) ended with status $3" >&2
-    exit 1
-  fi
-  if ! cmp -s "$folder/out" "$folder/due.$1.$2"; then
-    echo "the run of $2 reads ($1) printed another report than is due" >&2
-    exit 1
-  fi
-}
-
-# The times of all runs in microseconds, the shortest first.
-times_of() {
-  local run begin end status
-  for ((run = 0; run < RUNS; run++)); do
-    begin=$EPOCHREALTIME
-    run_reads "$1" "$2"
-    status=$?
-    end=$EPOCHREALTIME
-    check_run "$1" "$2" "$status"
-    echo $((${end/./} - ${begin/./}))
-  done >"$folder/times"
-  sort -n "$folder/times"
-}
-
-# The peak memory of one more run in KiB, or nothing where there is no GNU time. It is asked of that small program, since
-# a shell that starts the run would count its own memory in.
-memory_of() {
-  local status
-  /usr/bin/time -f %M -o "$folder/memory" true 2>/dev/null || return
-  /usr/bin/time -f %M -o "$folder/memory" \
-    "$program" replay "$folder/board.$1" "$folder/schedule" "$folder/script.$1.$2" >"$folder/out" </dev/null
-  status=$?
-  check_run "$1" "$2" "$status"
-  tail -n 1 "$folder/memory"
-}
-
 # Measures so many reads on this board.
 measure() {
   write_files "$1" "$2"
-  local times
-  times=$(times_of "$1" "$2") || exit 1
+  local times what="the run of $2 reads ($1)" due=$folder/due.$1.$2
+  local -a words=(replay "$folder/board.$1" "$folder/schedule" "$folder/script.$1.$2")
+  times=$(times_of "$what" "$due" "${words[@]}") || exit 1
   entries[$1.$2]=$(($2 * entries_a_read[$1]))
-  best[$1.$2]=$(sed -n 1p <<<"$times")
-  median[$1.$2]=$(sed -n "$((RUNS / 2 + 1))p" <<<"$times")
+  best[$1.$2]=$(best_of "$times")
+  median[$1.$2]=$(median_of "$times")
   an_entry[$1.$2]=$((median[$1.$2] * 1000 / entries[$1.$2]))
-  memory[$1.$2]=$(memory_of "$1" "$2") || exit 1
-  size[$1.$2]=$(($(wc -c <"$folder/due.$1.$2")))
+  memory[$1.$2]=$(memory_of "$what" "$due" "${words[@]}") || exit 1
+  size[$1.$2]=$(($(wc -c <"$due")))
 }
 
 # A row of the table: its name, and a word for each of the three and for the ratio to the one before.
 row() {
   printf '%-26s %12s %12s %8s %12s %8s\n' "$@"
-}
-
-# So many thousandths, with a point.
-thousandths() {
-  awk -v n="$1" 'BEGIN { printf "%.3f", n / 1000 }'
-}
-
-ratio() {
-  awk -v few="$1" -v many="$2" 'BEGIN { if (few > 0) printf "%.2f", many / few; else printf "-" }'
 }
 
 # A row of three numbers as they are, and of three in thousandths. One that isn't known is a dash.
