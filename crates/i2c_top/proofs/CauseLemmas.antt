@@ -5,9 +5,9 @@ use Rattle.i2c_top.specs.Checks.{HasAccepted, HasRejected, IsCheckCause}
 use Rattle.i2c_top.specs.Files.{Files}
 use Rattle.i2c_top.specs.Replays.{Names, HasBoard, HasNoBoard, HasScript, HasBadScript, HasSchedule, HasBadSchedule, HasFiles, IsReplayCause}
 use Rattle.i2c_top.specs.Requests.{Request, Replay, Check, IsCause}
-use Rattle.i2c_top.specs.Scripts.{Place, script_read, commands_of}
+use Rattle.caller_core.specs.Scripts.{Place, script_read, commands_of}
 use Rattle.i2c_top.specs.Schedules.{schedule_fault}
-use Rattle.i2c_top.specs.Commands.{CommandView}
+use Rattle.tool_words.specs.Commands.{CommandView}
 use Rattle.i2c_top.specs.declared.status.BoardRefusal.{BoardRefusal}
 use Rattle.i2c_top.specs.declared.status.Status.{Status}
 use Rattle.i2c_top.specs.declared.status.Status.TheVariants as status

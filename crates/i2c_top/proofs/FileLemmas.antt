@@ -2,12 +2,12 @@
 use Rattle.std.proofs.Common.{◌≡◌, ℕ, ◌⊎◌, inl, inr, Bool, IsTrue, List, Some, Result, Ok, Err, refl, sym, ap, subst, ◌∙◌}
 use Rattle.std.specs.Prelude.{IfOk, OnOk}
 use Rattle.i2c_base.specs.Board.{BoardView}
-use Rattle.i2c_top.specs.Callers.{CallerView, opened}
+use Rattle.caller_core.specs.Callers.{CallerView, opened}
 use Rattle.i2c_top.specs.Boards.{IsBuilt, IsAccepted, IsRejected}
 use Rattle.i2c_top.specs.Files.{Files}
 use Rattle.i2c_top.specs.Readings.{IsAcceptedIn, IsRejectedIn, IsBoardIn, IsScriptIn, HasRead, IsRefusedAt, IsBadBoard}
 use Rattle.i2c_top.specs.Replays.{Names, HasNoBoard, HasSchedule}
-use Rattle.i2c_top.specs.Scripts.{script_read, commands_of}
+use Rattle.caller_core.specs.Scripts.{script_read, commands_of}
 use Rattle.i2c_top.specs.declared.status.BoardRefusal.{BoardRefusal}
 use Rattle.i2c_top.specs.declared.status.BoardRefusal.TheVariants as refusal
 use Rattle.i2c_top.specs.declared.status.Status.{Status}

@@ -4,7 +4,7 @@ use Rattle.std.specs.Prelude.{codes}
 use Rattle.std.specs.Str.{bytes_eq}
 use Rattle.i2c_outside.specs.Causes.{Rose}
 use Rattle.i2c_top.specs.Checks.{IsCheckCause, IsCheckStatus}
-use Rattle.i2c_top.specs.Commands.{word_at}
+use Rattle.tool_words.specs.Commands.{word_at}
 use Rattle.i2c_top.specs.Endings.{CameTo, IsWritten, HasEnded}
 use Rattle.i2c_top.specs.Forms.{IsReplayForm, IsCheckForm, names_in, request_in}
 use Rattle.i2c_top.specs.Requests.{Request, Replay, Check}

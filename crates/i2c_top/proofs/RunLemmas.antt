@@ -35,8 +35,8 @@ use Rattle.bus_laws.proofs.LeftLaw.{devices-left}
 use Rattle.bus_laws.proofs.NextEnds.{complete-then, strangers-end}
 use Rattle.bus_core.specs.Asking.{asks_of}
 use Rattle.bus_core.proofs.CoreSteps.{one_asks}
-use Rattle.i2c_top.specs.Callers.{board_of}
-use Rattle.i2c_top.specs.Scripts.{asked_by, left_of, commands_of, section_text}
+use Rattle.caller_core.specs.Callers.{board_of}
+use Rattle.caller_core.specs.Scripts.{asked_by, left_of, commands_of, section_text}
 use Rattle.bus_core.specs.Cores.{CoreTold, CoreView, IsCore}
 use Rattle.bus_core.specs.Seats.{walk_left}
 use Rattle.i2c_top.specs.Runs.{script_on, asks_by, printed_by, IsRunOf, HasRun}

@@ -1,5 +1,5 @@
 -- Which boards this version steps, and what a board's text says: the board, or why it is refused.
-use Rattle.std.specs.Prelude.{◌≡◌, ◌≢◌, ℕ, ◌≤◌, false, IsTrue, All, List, length, Ok, Err}
+use Rattle.std.specs.Prelude.{◌≡◌, ◌≢◌, ℕ, ◌≤◌, false, All, List, length, Ok, Err}
 use Rattle.i2c_base.specs.Board.{BoardView}
 use Rattle.i2c_base.specs.declared.board.DeviceKind.TheVariants as kind
 use Rattle.i2c_base.specs.declared.board.LockMode.TheVariants.{Parent}
@@ -10,7 +10,6 @@ use Rattle.i2c_spec.specs.Rules.{MeetsRules, TellsBroken}
 use Rattle.i2c_boardtext.specs.BoardText.{board_of}
 use Rattle.i2c_boardtext.specs.declared.fault.BoardFault.{BoardFault}
 use Rattle.i2c_boardtext.specs.declared.fault.BoardFault.TheVariants as fault
-use Rattle.i2c_outside.specs.Registers.{is_regs}
 use Rattle.i2c_top.specs.declared.status.BoardRefusal.{BoardRefusal}
 use Rattle.i2c_top.specs.declared.status.BoardRefusal.TheVariants as refusal
 
@@ -26,18 +25,6 @@ pub record IsBuilt (b : BoardView) : Type 0 where
   pub few_muxes : length b.muxes ≤ 1
   pub switches : All IsBuiltMux b.muxes
   pub registers : All (λ d. d.kind ≡ kind.Regs 0) b.devices
-
--- what the run asks of a board, which such boards have: one root, parent-locked switches of eight channels on it,
--- register devices
-pub record IsFormMux (m : MuxSpec) : Type 0 where
-  pub home : m.bus ≡ 0
-  pub kind_is : m.kind ≡ Pca9548
-  pub locked : m.lock ≡ Parent
-
-pub record IsFormBoard (b : BoardView) : Type 0 where
-  pub one_root : length b.roots ≡ 1
-  pub switches : All IsFormMux b.muxes
-  pub registers : All (λ d. IsTrue (is_regs d.kind)) b.devices
 
 -- a text spells this board, which meets the rules
 pub record IsAccepted (text : List ℕ) (board : BoardView) : Type 0 where

@@ -2,7 +2,7 @@
 -- and `check BOARD`.
 use Rattle.std.specs.Prelude.{◌≡◌, ◌≢◌, ℕ, ◌⊎◌, if◌then◌else◌, List, [], ◌∷◌, length, codes}
 use Rattle.std.specs.Str.{bytes_eq}
-use Rattle.i2c_top.specs.Commands.{word_at}
+use Rattle.tool_words.specs.Commands.{word_at}
 use Rattle.i2c_top.specs.Replays.{Names}
 use Rattle.i2c_top.specs.Requests.{Request, Replay, Check}
 

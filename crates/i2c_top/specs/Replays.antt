@@ -4,7 +4,7 @@ use Rattle.i2c_outside.specs.Causes.{Rose}
 use Rattle.i2c_base.specs.Board.{BoardView}
 use Rattle.i2c_top.specs.Boards.{IsBoardOf, IsNoBoard}
 use Rattle.i2c_top.specs.Files.{Files}
-use Rattle.i2c_top.specs.Scripts.{script_read, commands_of}
+use Rattle.caller_core.specs.Scripts.{script_read, commands_of}
 use Rattle.i2c_top.specs.Schedules.{schedule_fault}
 use Rattle.i2c_top.specs.declared.status.BoardRefusal.{BoardRefusal}
 use Rattle.i2c_top.specs.declared.status.Status.{Status}

@@ -14,7 +14,7 @@ use Rattle.bus_spec.specs.Past.{calls_of}
 use Rattle.bus_spec.specs.Legal.{IsLegal, IsComplete}
 use Rattle.bus_spec.specs.Report.{report_of}
 use Rattle.bus_core.specs.Asking.{asks_of, of_script}
-use Rattle.i2c_top.specs.Scripts.{asked_by, commands_of, section_text}
+use Rattle.caller_core.specs.Scripts.{asked_by, commands_of, section_text}
 
 -- the script of a text, over a board
 abbrev pub script_on : BoardView → List ℕ → ScriptView

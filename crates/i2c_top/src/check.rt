@@ -13,7 +13,7 @@ ghost use Rattle.i2c_top.specs.declared.status.Status.TheVariants as status;
 use crate::Status;
 use crate::ending::{refuse, write};
 use crate::files::read_accepted;
-use crate::text::{push_bytes, push_decimal};
+use bus_journal::{push_bytes, push_decimal};
 use i2c_base::NoMemory;
 use i2c_board::Board;
 use i2c_outside::{Shelf, Sink};

@@ -1,18 +1,20 @@
 ghost use Rattle.std.specs.Prelude.{◌≡◌, ◌≢◌, ℕ, ◌≤◌, ◌^◌, ◌⊎◌, List, length, Some, None, Ok, Err, slice_get, OnOk, IfOk, IfErr, IsTrue};
 ghost use Rattle.i2c_boardtext.specs.BoardText.{board_of};
 ghost use Rattle.i2c_outside.specs.Causes.{Rose};
-ghost use Rattle.i2c_top.specs.Callers.{opened};
-ghost use Rattle.i2c_top.specs.Boards.{IsBuilt, IsFormBoard, IsAccepted, IsRejected};
+ghost use Rattle.caller_core.specs.Callers.{opened};
+ghost use Rattle.caller_core.specs.Steps.{IsShallowBoard};
+ghost use Rattle.i2c_top.specs.Boards.{IsBuilt, IsAccepted, IsRejected};
 ghost use Rattle.i2c_top.specs.Readings.{IsAcceptedIn, IsRejectedIn, IsBoardIn, IsScriptIn, HasRead, IsRefusedAt, IsBadBoard, IsBadScript, IsBadSchedule};
 ghost use Rattle.i2c_top.specs.Replays.{HasNoBoard, HasBadScript, HasSchedule, HasBadSchedule, KeepsUnreached, IsFileRefusal};
-ghost use Rattle.i2c_top.specs.Scripts.{script_read, commands_of};
+ghost use Rattle.caller_core.specs.Scripts.{script_read, commands_of};
 ghost use Rattle.i2c_top.specs.Schedules.{schedule_fault};
 ghost use Rattle.i2c_top.specs.declared.status.BoardRefusal.TheVariants as refusal;
 ghost use Rattle.i2c_top.specs.declared.status.Status.TheVariants as status;
 
 use crate::built::is_built;
 use crate::schedule::schedule_fault;
-use crate::{BoardRefusal, Script, ScriptFault, Status};
+use crate::{BoardRefusal, Status};
+use caller_core::{Script, ScriptFault};
 use i2c_board::{Accepted, Board};
 use i2c_boardtext::BoardFault;
 use i2c_outside::{ReadFail, Shelf};
@@ -85,7 +87,7 @@ fn accepted_of(alloc: Global, text: &[u8]) -> Result<Accepted, Status>
 
 // A board that meets the rules, if this version steps it.
 fn built(board: Accepted) -> Result<Accepted, Status>
-    ensures form { IfOk result IsFormBoard }
+    ensures shallow { IfOk result IsShallowBoard }
     ensures same { IfOk result (λ b. b ≡ board) }
     ensures built { IfOk result IsBuilt }
     ensures refused { IfErr result (λ e. e ≡ status.Board refusal.NotBuilt) }
@@ -146,7 +148,7 @@ fn read_board<S: Shelf>(alloc: Global, shelf: &mut S, name: &str) -> Result<Acce
     ensures words { S.words shelf.new ≡ S.words shelf.old }
     ensures files { (n : List ℕ) → S.file shelf.new n ≡ S.file shelf.old n }
     ensures others { (p : ℕ) → p ≢ 1 → S.faults shelf.new p ≡ S.faults shelf.old p }
-    ensures form { IfOk result IsFormBoard }
+    ensures shallow { IfOk result IsShallowBoard }
     ensures board { IsTrue S.tells → IfOk result (IsBoardIn (S.file shelf.old) name.now) }
     ensures refused { IfErr result (IsRefusedAt 1 (IsBadBoard (λ why. IsTrue S.tells → HasNoBoard (S.file shelf.old) name.now why)) (S.faults shelf.old 1) (S.faults shelf.new 1)) }
 {
@@ -200,7 +202,7 @@ pub fn read_files<S: Shelf>(
     ensures words { S.words shelf.new ≡ S.words shelf.old }
     ensures files { (n : List ℕ) → S.file shelf.new n ≡ S.file shelf.old n }
     ensures others { (p : ℕ) → p ≢ 1 → p ≢ 2 → p ≢ 3 → S.faults shelf.new p ≡ S.faults shelf.old p }
-    ensures form { IfOk result (λ f. IsFormBoard f.0) }
+    ensures shallow { IfOk result (λ f. IsShallowBoard f.0) }
     ensures opened { IfOk result (λ f. f.1 ≡ opened f.0 f.1.script.text) }
     ensures read { IsTrue S.tells → IfOk result (λ f. HasRead (S.file shelf.old) (record { board = board.now; schedule = schedule.now; script = script.now }) f.0 f.1.script.text) }
     ensures unreached { IfErr result (KeepsUnreached (S.faults shelf.old) (S.faults shelf.new)) }

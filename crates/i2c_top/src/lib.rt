@@ -13,37 +13,26 @@
 #![tactic(auto)]
 
 mod built;
-mod caller;
 mod check;
-mod command;
 mod ending;
 mod files;
-mod front;
-mod journal;
-mod line;
-mod number;
 mod program;
 mod refusal;
 mod replay;
 mod report;
 mod run;
 mod schedule;
-mod script;
-mod section;
 mod status;
-mod text;
 mod write;
 
-pub use caller::{Script, scripts_are_fair};
 pub use check::check_call;
-pub use journal::Journal;
-pub use line::entry_text;
 pub use program::top;
 pub use replay::replay_call;
 pub use report::report_text;
-pub use script::ScriptFault;
 pub use status::{BoardRefusal, Status};
 
+#[cfg(test)]
+mod caller_tests;
 #[cfg(test)]
 mod check_tests;
 #[cfg(test)]

@@ -1,6 +1,6 @@
 ghost use Rattle.std.specs.Prelude.{◌≡◌, ◌≢◌, ◌↔◌, ℕ, ◌++◌, ◌⊎◌, ◌<◌, [], ◌∷◌, List, codes, length, map, string_bytes, IsTrue};
 ghost use Rattle.i2c_outside.specs.Causes.{Rose};
-ghost use Rattle.i2c_top.specs.Commands.{word_at};
+ghost use Rattle.tool_words.specs.Commands.{word_at};
 ghost use Rattle.i2c_top.specs.Checks.{HasChecked, IsCheckStatus};
 ghost use Rattle.i2c_top.specs.Endings.{name_in, HasEnded, IsCutShort, IsWritten};
 ghost use Rattle.i2c_top.specs.Forms.{IsName, AreNamed, IsReplayForm, IsCheckForm, IsForm, names_in, request_in};

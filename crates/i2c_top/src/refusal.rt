@@ -2,8 +2,8 @@ ghost use Rattle.std.specs.Prelude.{◌≡◌, ◌++◌, OnOk, IfOk};
 ghost use Rattle.std.specs.Fmt.{decimal};
 ghost use Rattle.i2c_top.specs.Status.{table_text, placed_text, limit_text, fault_text, item_text, broken_text, board_text, refusal_text};
 
-use crate::text::{push_bytes, push_decimal};
 use crate::{BoardRefusal, Status};
+use bus_journal::{push_bytes, push_decimal};
 use i2c_base::{Item, NoMemory, RuleBroken};
 use i2c_boardtext::{BoardFault, TableName};
 use std::alloc::Global;

@@ -3,9 +3,7 @@ ghost use Rattle.std.specs.List.{flat_map};
 ghost use Rattle.std.specs.Fmt.{decimal};
 ghost use Rattle.bus_spec.specs.Report.{sections, ended_line, report_lines};
 
-use crate::Journal;
-use crate::line::entry_text;
-use crate::text::{push_bytes, push_decimal};
+use bus_journal::{Journal, entry_text, push_bytes, push_decimal};
 use i2c_base::{Entry, NoMemory};
 use std::alloc::Global;
 

@@ -3,17 +3,19 @@ ghost use Rattle.i2c_outside.specs.Causes.{Rose, counted};
 ghost use Rattle.i2c_base.specs.declared.port.Phase.{Phase};
 ghost use Rattle.i2c_spec.specs.World.{openings};
 ghost use Rattle.bus_spec.specs.Report.{report_lines};
-ghost use Rattle.i2c_top.specs.Callers.{opened, board_of};
-ghost use Rattle.i2c_top.specs.Boards.{IsFormBoard};
-ghost use Rattle.i2c_top.specs.Scripts.{asked_by, left_of, commands_of, section_text};
+ghost use Rattle.caller_core.specs.Callers.{opened, board_of};
+ghost use Rattle.caller_core.specs.Steps.{IsShallowBoard};
+ghost use Rattle.caller_core.specs.Scripts.{asked_by, left_of, commands_of, section_text};
 ghost use Rattle.bus_spec.specs.Grammar.{is_over};
 ghost use Rattle.bus_core.specs.Seats.{walk_left};
 ghost use Rattle.bus_core.specs.Views.{IsKept};
 ghost use Rattle.i2c_top.specs.Runs.{HasRun};
 ghost use Rattle.i2c_top.specs.declared.status.Status.TheVariants as status;
 
-use crate::{Journal, Script, Status, report_text, scripts_are_fair};
+use crate::{Status, report_text};
 use bus_core::{Parts, Room, finish, open};
+use bus_journal::Journal;
+use caller_core::{Script, scripts_are_fair};
 use i2c_base::{Entry, NoMemory};
 use i2c_board::Accepted;
 use i2c_outside::{Port, Rig, RigFail};
@@ -26,7 +28,7 @@ fn finished<'b, P: Port>(
     script: Script,
     ports: Vec<P>,
 ) -> Result<Parts<'b, P, Script>, Vec<P>>
-    requires form { IsFormBoard board.now }
+    requires shallow { IsShallowBoard board.now }
     requires opened { script ≡ opened board.now script.script.text }
     requires count { length ports.items ≡ length board.now.roots }
     requires idle { All (λ p. P.phase p ≡ Phase.Idle) ports.items }
@@ -66,7 +68,7 @@ pub fn run_script<R: Rig>(
     script: Script,
     rig: &mut R,
 ) -> Result<Vec<u8>, Status>
-    requires form { IsFormBoard board.now }
+    requires shallow { IsShallowBoard board.now }
     requires opened { script ≡ opened board.now script.script.text }
     ensures run { IsTrue R.tells → IsTrue R.P.tells → IfOk result (λ text. HasRun board.now (script.script.text ∷ []) text.items (R.logs rig.new) (R.states rig.new)) }
     ensures failed { IfErr result (λ e. (e ≡ status.Rig) ⊎ (e ≡ status.Memory)) }

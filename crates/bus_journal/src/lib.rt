@@ -1,0 +1,16 @@
+//! The journal of the bus, and the text of its entries.
+//!
+//! Its public contract: `entry_text` is the line of an entry (`entry_line` of `bus_spec/specs/Lines.antt`); a `Journal` is
+//! seen as the list of its entries. The small texts that a line is made of are offered to whoever writes more lines.
+#![tactic(auto)]
+
+mod journal;
+mod line;
+mod text;
+
+pub use journal::Journal;
+pub use line::{entry_text, errno_name};
+pub use text::{push_bytes, push_decimal, push_hex, push_joined, push_spaced};
+
+#[cfg(test)]
+mod tests;

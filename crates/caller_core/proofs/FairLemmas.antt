@@ -1,0 +1,85 @@
+-- Scripts are fair callers, and how many steps they have left.
+use Rattle.std.proofs.Common.{◌≡◌, ℕ, ◌+◌, ◌*◌, ◌<◌, ◌≤◌, true, false, cond, List, [], ◌∷◌, ◌++◌, length, drop, get_or, Option, Some, None, refl, sym, ap, subst, ◌∙◌, length-drop, arith}
+use Rattle.std.specs.Prelude.{nat_lt, sum_by, slice_get}
+use Rattle.std.specs.Option.{option_map}
+use Rattle.std.proofs.lemmas.List.{length_push}
+use Rattle.std.proofs.lemmas.List.Elements.{All-nil, All-cons, All-get_or}
+use Rattle.std.proofs.lemmas.List.Sums.{sum_by-drop_more, sum_by-le}
+use Rattle.std.proofs.lemmas.Option.{slice_get_within, get_or_from_slice_get}
+use Rattle.i2c_base.specs.declared.reply.Reply.{Reply}
+use Rattle.i2c_base.specs.Board.{BoardView}
+use Rattle.i2c_base.specs.Bytes.{IsByte}
+use Rattle.i2c_base.specs.Script.{ScriptView}
+use Rattle.i2c_base.specs.Transfer.{TransferView, IsTransfer, IsMessage, written, plain_read}
+use Rattle.i2c_spec.specs.Cost.{full_cost, steps_of, cost_of}
+use Rattle.i2c_spec.specs.Tree.{hops, buses}
+use Rattle.tool_words.specs.declared.command.Get.{Get}
+use Rattle.tool_words.specs.Commands.{CommandView}
+use Rattle.caller_core.specs.Scripts.{commands_of, read_byte_of, cost_of_command, asked_by, left_of}
+use Rattle.caller_core.specs.Callers.{ScriptsAreFair}
+use Rattle.caller_core.specs.Steps.{IsShallowBoard}
+use Rattle.caller_core.proofs.CommandLemmas.{IsRead, commands_are_read}
+use Rattle.caller_core.proofs.ShallowLemmas.{shallow_cost}
+
+-- what is asked for is the transfer of the next command
+record IsAsked (o : Option CommandView) (t : TransferView) : Type 0 where
+  command : CommandView
+  at : o ≡ Some command
+  same : t ≡ read_byte_of command.get
+
+is_asked : (o : Option CommandView) (t : TransferView) → option_map (λ c. read_byte_of c.get) o ≡ Some t → IsAsked o t
+is_asked None t e = cc
+is_asked (Some c) t e = record { command = c; at = refl; same = cc }
+
+next_command : (s : ScriptView) (rs : List Reply) (t : TransferView) → asked_by s rs ≡ Some t → IsAsked (slice_get (commands_of s.text) (length rs)) t
+next_command s rs t e = is_asked (slice_get (commands_of s.text) (length rs)) t e
+
+is_written : (addr : ℕ) → IsMessage (written addr 1)
+is_written addr = (omega arith, λ e. cc, λ e. cc)
+
+is_plain_read : (addr : ℕ) → IsMessage (plain_read addr 1)
+is_plain_read addr = (omega arith, λ e. cc, λ e. omega arith)
+
+read_byte_fits : (g : Get) → g.reg < 256 → IsTransfer (read_byte_of g).msgs (read_byte_of g).out
+read_byte_fits g h =
+    record {
+      count = omega arith;
+      each = All-cons IsMessage (written g.addr 1) (plain_read g.addr 1 ∷ []) (is_written g.addr) (All-cons IsMessage (plain_read g.addr 1) [] (is_plain_read g.addr) (All-nil IsMessage));
+      size = omega arith;
+      written = refl;
+      bytes = All-cons IsByte g.reg [] h (All-nil IsByte);
+    }
+
+asked_fits : (s : ScriptView) (rs : List Reply) (t : TransferView) → IsAsked (slice_get (commands_of s.text) (length rs)) t → IsTransfer t.msgs t.out
+asked_fits s rs t a =
+    let i : ℕ = length rs in let cs : List CommandView = commands_of s.text in let c : CommandView = a.command in
+    let small : IsRead (get_or cs i c) = All-get_or IsRead cs i c (slice_get_within cs i c a.at) (commands_are_read s.text).fits in
+    let same : get_or cs i c ≡ c = get_or_from_slice_get cs i c c a.at in
+    let read : IsRead c = subst IsRead same small in
+    subst (λ (u : TransferView). IsTransfer u.msgs u.out) (sym a.same) (read_byte_fits c.get read)
+
+cost_some : (b : BoardView) (t : TransferView) → 1 ≤ cost_of b t
+cost_some b t = elim (nat_lt t.bus (buses b)) as (λ v. 1 ≤ cond v (1 + full_cost (hops b t.bus) (steps_of b t)) 1) [ true ↦ omega arith | false ↦ omega arith ]
+
+asked_falls : (s : ScriptView) (rs : List Reply) (t : TransferView) (r : Reply) → IsAsked (slice_get (commands_of s.text) (length rs)) t
+    → left_of s (rs ++ r ∷ []) + cost_of s.board t ≤ left_of s rs
+asked_falls s rs t r a =
+    let i : ℕ = length rs in let cs : List CommandView = commands_of s.text in let c : CommandView = a.command in let f : CommandView → ℕ = cost_of_command s.board in
+    let more : left_of s rs ≡ f (get_or cs i c) + sum_by f (drop (i + 1) cs) = sum_by-drop_more f cs i c (slice_get_within cs i c a.at) in
+    let here : f (get_or cs i c) ≡ cost_of s.board t = ap f (get_or_from_slice_get cs i c c a.at) ∙ ap (cost_of s.board) (sym a.same) in
+    let rest : left_of s (rs ++ r ∷ []) ≡ sum_by f (drop (i + 1) cs) = ap (λ k. sum_by f (drop k cs)) (length_push rs r) in
+    omega (arith, more, here, rest)
+
+pub scripts_fair : ScriptsAreFair
+scripts_fair =
+    record {
+      sends = λ s rs t e. let a : IsAsked (slice_get (commands_of s.text) (length rs)) t = next_command s rs t e in rw a.same (omega arith);
+      limits = λ s rs t e. asked_fits s rs t (next_command s rs t e);
+      costs = λ s rs t e. cost_some s.board t;
+      falls = λ s rs t r e fit. asked_falls s rs t r (next_command s rs t e);
+    }
+
+pub left_most : (s : ScriptView) (taken : List Reply) → IsShallowBoard s.board → left_of s taken ≤ 15 * length (commands_of s.text)
+left_most s taken f =
+    let cs : List CommandView = drop (length taken) (commands_of s.text) in
+    omega (arith, sum_by-le (cost_of_command s.board) 15 cs (λ k d h. shallow_cost s.board (get_or cs k d).get f), length-drop (length taken) (commands_of s.text))

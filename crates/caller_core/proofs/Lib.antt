@@ -1,0 +1,5 @@
+pub mod CommandLemmas
+pub mod FairLemmas
+pub mod ScriptLemmas
+pub mod SectionLemmas
+pub mod ShallowLemmas

@@ -1,0 +1,4 @@
+pub mod Callers
+pub mod ScriptSteps
+pub mod Scripts
+pub mod Steps

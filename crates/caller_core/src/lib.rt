@@ -1,0 +1,14 @@
+//! A script as a caller of the bus: what it asks for, command by command, and what it prints of the replies.
+//!
+//! Its public contract: `Script` is opened exactly where each line of its text is in the grammar, asks for the transfers
+//! of its commands one after the other, and prints them with their replies; a script is a fair caller
+//! (`scripts_are_fair`). Definitions: `specs/Scripts.antt` (a script, what it asks for and prints), `specs/Callers.antt`
+//! (a script as a caller), `specs/Steps.antt` (the boards on which its steps are counted).
+#![tactic(auto)]
+
+mod caller;
+mod script;
+mod section;
+
+pub use caller::{Script, scripts_are_fair};
+pub use script::ScriptFault;

@@ -1,5 +1,0 @@
-use Rattle.i2c_top.proofs.ScriptLemmas.{refused_script}
-use Rattle.i2c_top.proofs.script.read_script.Goals as goal
-
-pub returns-in-Err : goal.returns-in-Err
-returns-in-Err c = refused_script _ _ _ c.loop-rest.rest.now c.split_line.result.1.now _ _ c.in-Err.ensures.err c.split_line.ensures.split c.loop-rest.invariant.same

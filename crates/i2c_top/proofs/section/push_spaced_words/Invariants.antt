@@ -1,7 +1,0 @@
-use Rattle.std.proofs.Common.{◌≡◌, ◌++◌, take}
-use Rattle.std.specs.List.{flat_map}
-use Rattle.i2c_top.specs.Scripts.{spaced_word}
-use Rattle.i2c_top.proofs.section.push_spaced_words.Given as goal
-
-abbrev pub invariant-loop-byte : goal.invariant-loop-byte
-invariant-loop-byte l = l.out.items ≡ l.fn.out.items ++ flat_map spaced_word (take l.byte-index l.bytes)

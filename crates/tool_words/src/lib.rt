@@ -1,0 +1,15 @@
+//! The words of a script's lines, after i2c-tools. The grammar in force has one line: `i2cget -y BUS ADDR REG`.
+//!
+//! Its public contract: `read_line` gives exactly the command of a line, or the first word that the grammar refuses
+//! (`line_read` of `specs/Commands.antt`); `split_line` gives the first line of a text (`specs/Fronts.antt`).
+#![tactic(auto)]
+
+mod command;
+mod front;
+mod number;
+
+pub use command::{Command, Get, LineFault, read_line};
+pub use front::split_line;
+
+#[cfg(test)]
+mod tests;
