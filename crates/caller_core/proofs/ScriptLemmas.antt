@@ -1,5 +1,5 @@
 -- A line of a script, behind the commands before it.
-use Rattle.std.proofs.Common.{◌≡◌, ℕ, ◌+◌, List, [], ◌∷◌, ◌++◌, length, Option, Some, None, Result, Ok, Err, refl, sym, ap, ◌∙◌, append_assoc, length-append, subst}
+use Rattle.std.proofs.Common.{◌≡◌, ℕ, ◌+◌, List, [], ◌∷◌, ◌++◌, length, Option, Some, Result, Ok, Err, refl, sym, ap, ◌∙◌, append_assoc, length-append, subst}
 use Rattle.tool_words.specs.Fronts.{lines_of}
 use Rattle.tool_words.specs.Commands.{CommandView, line_read, FaultIs}
 use Rattle.caller_core.specs.Scripts.{Place, lines_read, behind_commands, behind_line_read, ScriptFaultIs, fault_at}
@@ -18,12 +18,6 @@ pub is_refused : (number : ℕ) (old : List CommandView) (line : List ℕ) (faul
 is_refused number old line fault placed e p =
     record {
       refused = λ ls. rw p (refused_by number old (line_read (length old) line) (lines_read (number + 1) (length old) ls) (lines_read (number + 1) (length old + 1) ls) fault e);
-    }
-
-pub is_step_none : (number : ℕ) (old : List CommandView) (line : List ℕ) → line_read (length old) line ≡ Ok None → IsStep number old old line
-is_step_none number old line e =
-    record {
-      same = λ ls. ap (λ x. behind_commands old (behind_line_read number x (lines_read (number + 1) (length old) ls) (lines_read (number + 1) (length old + 1) ls))) (sym e);
     }
 
 behind_push : (old : List CommandView) (c : CommandView) (r : Result (List CommandView) Place) → behind_commands (old ++ c ∷ []) r ≡ behind_commands old (behind_commands (c ∷ []) r)

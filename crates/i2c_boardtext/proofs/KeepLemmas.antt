@@ -4,10 +4,8 @@ use Rattle.std.proofs.lemmas.Bool.{and_parts}
 use Rattle.std.specs.List.{list_all}
 use Rattle.std.specs.Option.{unwrap_or}
 use Rattle.std.specs.Prelude.{codes, slice_get}
-use Rattle.i2c_base.specs.declared.board.MuxKind.{MuxKind}
-use Rattle.i2c_base.specs.declared.board.MuxKind.TheVariants as mux
 use Rattle.toml.specs.Data.{Members, get_member}
-use Rattle.i2c_boardtext.specs.Keys.{bus_rule, address_rule, mux_rules, device_rules}
+use Rattle.i2c_boardtext.specs.Keys.{address_rule, device_rules}
 use Rattle.i2c_boardtext.specs.Rules.{KeyRule, is_there, is_fit, are_listed, fits_if_there, table_fault}
 use Rattle.i2c_boardtext.specs.declared.fault.TableFault.TheVariants as fault
 use Rattle.i2c_boardtext.specs.declared.names.DeviceName.{DeviceName}
@@ -32,23 +30,6 @@ fits_all true true h = refl
 pub kept : (rules : List KeyRule) (ms : Members) (i : ℕ) (r : KeyRule) → table_fault rules ms ≡ None → slice_get rules i ≡ Some r → fits_if_there r.test (get_member r.name ms) ≡ true
 kept rules ms i r none at =
     fit_at rules ms i r (fits_all (are_listed rules ms && list_all (is_there ms) rules) (list_all (is_fit ms) rules) none) at
-
--- each kind of mux has the key of its bus, and each but a gpio mux that of its address
-pub mux_bus : (buses : ℕ) (kind : MuxKind) (ms : Members) → table_fault (mux_rules buses kind) ms ≡ None
-    → fits_if_there (bus_rule buses).test (get_member (codes "bus") ms) ≡ true
-mux_bus buses mux.Pca9548 ms none = kept (mux_rules buses mux.Pca9548) ms 0 (bus_rule buses) none refl
-mux_bus buses mux.Pca9546 ms none = kept (mux_rules buses mux.Pca9546) ms 0 (bus_rule buses) none refl
-mux_bus buses mux.Pca9544 ms none = kept (mux_rules buses mux.Pca9544) ms 0 (bus_rule buses) none refl
-mux_bus buses mux.Pca9541 ms none = kept (mux_rules buses mux.Pca9541) ms 0 (bus_rule buses) none refl
-mux_bus buses mux.Gpio ms none = kept (mux_rules buses mux.Gpio) ms 0 (bus_rule buses) none refl
-
--- each kind of device has the keys of its bus and its address
-pub device_bus : (buses : ℕ) (name : DeviceName) (ms : Members) → table_fault (device_rules buses name) ms ≡ None
-    → fits_if_there (bus_rule buses).test (get_member (codes "bus") ms) ≡ true
-device_bus buses (device.Eeprom size) ms none = kept (device_rules buses (device.Eeprom size)) ms 0 (bus_rule buses) none refl
-device_bus buses device.Lm75 ms none = kept (device_rules buses device.Lm75) ms 0 (bus_rule buses) none refl
-device_bus buses device.Regs ms none = kept (device_rules buses device.Regs) ms 0 (bus_rule buses) none refl
-device_bus buses device.Smbus ms none = kept (device_rules buses device.Smbus) ms 0 (bus_rule buses) none refl
 
 pub device_address : (buses : ℕ) (name : DeviceName) (ms : Members) → table_fault (device_rules buses name) ms ≡ None
     → fits_if_there address_rule.test (get_member (codes "address") ms) ≡ true

@@ -56,30 +56,6 @@ board_rejected tells file name text reads reads_now s there h =
 no_board : (tells : Bool) (file : Files) (name : List ℕ) (why : BoardRefusal) → IsRejectedIn tells file name why → IsTrue tells → HasNoBoard file name why
 no_board tells file name why n t = let r = n.1 t in record { text = r.text; there = r.there; is_none = no_board_of r.text why r.is_rejected }
 
--- what is refused as no accepted board is refused as none that is stepped
-pub board_refused : (tells : Bool) (file : Files) (name : List ℕ) (reads reads_now : ℕ) (s : Status) → IsRefusedAt 1 (IsBadBoard (IsRejectedIn tells file name)) reads reads_now s
-    → IsRefusedAt 1 (IsBadBoard (λ why. IsTrue tells → HasNoBoard file name why)) reads reads_now s
-board_refused tells file name reads reads_now s (inl r) = inl r
-board_refused tells file name reads reads_now s (inr h) =
-    at_place 1 (IsBadBoard (IsRejectedIn tells file name)) (IsBadBoard (λ why. IsTrue tells → HasNoBoard file name why)) reads reads_now s
-    (λ b. record { why = b.why; same = b.same; is_bad = no_board tells file name b.why b.is_bad }) h
-
--- an accepted board that isn't built is refused for that
-pub board_unbuilt : (tells : Bool) (file : Files) (name : List ℕ) (b : BoardView) (reads reads_now : ℕ) (s : Status) → (IsTrue tells → IsAcceptedIn file name b) → (IsBuilt b → ⊥)
-    → s ≡ status.Board refusal.NotBuilt → IsRefusedAt 1 (IsBadBoard (λ why. IsTrue tells → HasNoBoard file name why)) reads reads_now s
-board_unbuilt tells file name b reads reads_now s read unbuilt same =
-    inr (inr (record {
-      why = refusal.NotBuilt;
-      same = same;
-      is_bad = λ t.
-          let a = read t in
-          record {
-            text = a.has.text;
-            there = a.has.there;
-            is_none = record { board = a.has.board; accepted = a.has.is_accepted; unbuilt = λ built. unbuilt (subst IsBuilt (sym a.same) built) };
-          };
-    }))
-
 pub script_in : (file : Files) (name text : List ℕ) (b : BoardView) (r : Result CallerView Status) → file name ≡ Some text → IfOk r (λ s. s ≡ opened b text)
     → OnOk r (script_read text ≡ Ok (commands_of text)) → IfOk r (λ s. IsScriptIn file name s.script.text)
 script_in file name text b (Ok s) there e read = record { has = record { text = text; there = there; read = read }; same = ap (λ (v : CallerView). v.script.text) e }

@@ -1,5 +1,5 @@
 -- What words in a form ask for, and the ending of a call of `check`. No induction.
-use Rattle.std.proofs.Common.{◌≡◌, ℕ, ◌⊎◌, inl, inr, Bool, true, false, IsTrue, ◌↔◌, List, [], if◌then◌else◌, refl, sym, ap, subst, ◌∙◌, arith}
+use Rattle.std.proofs.Common.{◌≡◌, ℕ, ◌⊎◌, inl, inr, Bool, true, false, IsTrue, ◌↔◌, List, [], if◌then◌else◌, refl, sym, ap, subst}
 use Rattle.std.specs.Prelude.{codes}
 use Rattle.std.specs.Str.{bytes_eq}
 use Rattle.i2c_outside.specs.Causes.{Rose}
@@ -23,9 +23,6 @@ replay_asked words f = sym (ap (request_by words) f.command)
 
 pub check_asked : (words : List (List ℕ)) → IsCheckForm words → Check (word_at words 1) ≡ request_in words
 check_asked words f = sym (ap (request_by words) f.command)
-
-pub one_form : (words : List (List ℕ)) → IsReplayForm words → IsCheckForm words → ⊥
-one_form words r c = absurd (let h : 4 ≡ 2 = sym r.count ∙ c.count in omega (arith, h))
 
 -- a rig that no one asks of
 abbrev pub no_rig : RigView

@@ -1,6 +1,6 @@
 -- Digits behind a value so far, one digit at a time. The inductions go over the digits that are left.
-use Rattle.std.proofs.Common.{◌≡◌, ℕ, ◌+◌, ◌*◌, ◌<◌, ◌≤◌, Bool, true, false, List, [], ◌∷◌, length, drop, get_or, Option, Some, None, refl, sym, ap, ◌∙◌, arith}
-use Rattle.std.proofs.lemmas.List.{at_drop_more, drop_all}
+use Rattle.std.proofs.Common.{◌≡◌, ℕ, ◌+◌, ◌*◌, ◌<◌, Bool, true, false, List, [], ◌∷◌, length, drop, get_or, Option, Some, None, refl, sym, ap, ◌∙◌, arith}
+use Rattle.std.proofs.lemmas.List.{at_drop_more}
 use Rattle.std.proofs.lemmas.Bool.Decides.{nat_tests}
 use Rattle.std.specs.Prelude.{option_and_then}
 use Rattle.tool_words.specs.Numbers.{digit_of, base_of, digits_on, within}
@@ -31,18 +31,8 @@ pub value_more : (hexadecimal : Bool) (n : ℕ) (xs : List ℕ) (i d : ℕ) (r :
     → within 0 65535 (digits_on hexadecimal n (drop i xs)) ≡ r → within 0 65535 (digits_on hexadecimal (n * base_of hexadecimal + d) (drop (i + 1) xs)) ≡ r
 value_more hexadecimal n xs i d r h e k = ap (within 0 65535) (sym (digits_step hexadecimal n xs i (Some d) h e)) ∙ k
 
-pub value_none : (hexadecimal : Bool) (n : ℕ) (xs : List ℕ) (i : ℕ) (r : Option ℕ) → i < length xs → None ≡ digit_of hexadecimal (get_or xs i 0)
-    → within 0 65535 (digits_on hexadecimal n (drop i xs)) ≡ r → None ≡ r
-value_none hexadecimal n xs i r h e k = ap (within 0 65535) (sym (digits_step hexadecimal n xs i None h e)) ∙ k
-
 pub value_past : (hexadecimal : Bool) (n b : ℕ) (xs : List ℕ) (i d : ℕ) (r : Option ℕ) → i < length xs → Some d ≡ digit_of hexadecimal (get_or xs i 0)
     → b ≡ base_of hexadecimal → 65535 < n * b + d → within 0 65535 (digits_on hexadecimal n (drop i xs)) ≡ r → None ≡ r
 value_past hexadecimal n b xs i d r h e same p k =
     let past : 65535 < n * base_of hexadecimal + d = rw (← same) p in
     sym (digits_past hexadecimal (n * base_of hexadecimal + d) (drop (i + 1) xs) past) ∙ value_more hexadecimal n xs i d r h e k
-
-pub value_end : (hexadecimal : Bool) (n : ℕ) (xs : List ℕ) (i : ℕ) (r : Option ℕ) → length xs ≤ i → n ≤ 65535
-    → within 0 65535 (digits_on hexadecimal n (drop i xs)) ≡ r → Some n ≡ r
-value_end hexadecimal n xs i r h small k =
-    let e : within 0 65535 (Some n) ≡ Some n = grind (arith, nat_tests) in
-    sym e ∙ ap (λ ys. within 0 65535 (digits_on hexadecimal n ys)) (sym (drop_all i xs h)) ∙ k
