@@ -50,6 +50,10 @@ read_get ws =
     with_number (number_in 0 255 (word_at ws 4)) 4 (λ reg.
     if nat_lt 5 (length ws) then Err 5 else Ok (record { bus = bus; addr = addr; reg = reg }))))
 
+-- whatever words are read: where word k is refused, the k words before it are the longest front that begins a line
+abbrev pub RefusesBehindLongest : Type 0
+RefusesBehindLongest = (ws : List (List ℕ)) (k : ℕ) → read_get ws ≡ Err k → IsLongest ws k
+
 -- a line without words is no command, nor is one whose first word begins with `#`
 abbrev pub begins_comment : List ℕ → Bool
 begins_comment [] = false

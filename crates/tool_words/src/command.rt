@@ -41,7 +41,8 @@ impl Model for Command {
 /// Why a line was not read.
 #[derive(Clone, Copy, Debug, PartialEq, Eq, Hash)]
 pub enum LineFault {
-    /// No line of the grammar begins with more words than so many.
+    /// The place of the refused word, from 0: so many words are the longest front that begins a line of the grammar. A
+    /// command past the most is refused at 0, whatever its words are.
     Word(u16),
     Memory,
 }
