@@ -8,7 +8,7 @@ ghost use Rattle.i2c_top.specs.Replays.{IsUnread, KeepsUnreached};
 ghost use Rattle.i2c_top.specs.Reports.{HasReplayed};
 ghost use Rattle.i2c_top.specs.Requests.{Replay, Check, IsCause, IsTold, IsTraced};
 ghost use Rattle.i2c_top.specs.Status.{refusal_text};
-ghost use Rattle.i2c_top.specs.Traces.{RigView, shelf_view, output_view, rig_view, IsCalm, IsUntouched};
+ghost use Rattle.i2c_top.specs.Traces.{RigView, shelf_view, output_view, rig_view, IsCalm};
 ghost use Rattle.i2c_top.specs.Written.{HasFront};
 ghost use Rattle.i2c_top.specs.declared.status.Status.{Status};
 ghost use Rattle.i2c_top.specs.declared.status.Status.TheVariants as status;
@@ -155,11 +155,11 @@ fn answer_words<S: Shelf, K: Sink, R: Rig>(
     ensures files { (n : List ℕ) → S.file shelf.new n ≡ S.file shelf.old n }
     ensures no_form { (IsForm (map string_bytes words.now) → ⊥) → (result ≡ status.Usage) ⊎ (result ≡ status.Write) }
     ensures unread { (IsForm (map string_bytes words.now) → ⊥) → (p : ℕ) → S.faults shelf.new p ≡ S.faults shelf.old p }
-    ensures unplugged { (IsForm (map string_bytes words.now) → ⊥) → IsUntouched (rig_view R.tells R.P.tells R.faults R.plugs R.unplugs R.plugged R.logs R.states rig.old) (rig_view R.tells R.P.tells R.faults R.plugs R.unplugs R.plugged R.logs R.states rig.new) }
+    ensures unplugged { (IsForm (map string_bytes words.now) → ⊥) → rig.new ≡ rig.old }
     ensures usage_line { IsTrue K.tells → (IsForm (map string_bytes words.now) → ⊥) → HasFront (K.bytes sink.old) (refusal_text status.Usage []) (K.bytes sink.new) }
     ensures one_read { IsCheckForm (map string_bytes words.now) → (p : ℕ) → p ≢ 1 → S.faults shelf.new p ≡ S.faults shelf.old p }
     ensures checks { IsCheckForm (map string_bytes words.now) → IsCheckStatus result }
-    ensures alone { IsCheckForm (map string_bytes words.now) → IsUntouched (rig_view R.tells R.P.tells R.faults R.plugs R.unplugs R.plugged R.logs R.states rig.old) (rig_view R.tells R.P.tells R.faults R.plugs R.unplugs R.plugged R.logs R.states rig.new) }
+    ensures alone { IsCheckForm (map string_bytes words.now) → rig.new ≡ rig.old }
     ensures ended { HasEnded (IsForm (map string_bytes words.now) → ⊥) (request_in (map string_bytes words.now))
         (shelf_view S.tells S.file S.faults shelf.old) (shelf_view S.tells S.file S.faults shelf.new)
         (output_view K.tells K.bytes K.faults sink.old) (output_view K.tells K.bytes K.faults sink.new)
@@ -199,11 +199,11 @@ pub fn top<H: Threads + Wait + Sync, S: Shelf, K: Sink, R: Rig, G: Gate + Sync>(
     ensures usage { result ≡ status.Usage → (IsForm (map string_bytes words.now) → ⊥) }
     ensures no_form { (IsForm (map string_bytes words.now) → ⊥) → (result ≡ status.Usage) ⊎ (result ≡ status.Write) }
     ensures unread { (IsForm (map string_bytes words.now) → ⊥) → (p : ℕ) → S.faults shelf.new p ≡ S.faults shelf.old p }
-    ensures unplugged { (IsForm (map string_bytes words.now) → ⊥) → IsUntouched (rig_view R.tells R.P.tells R.faults R.plugs R.unplugs R.plugged R.logs R.states rig.old) (rig_view R.tells R.P.tells R.faults R.plugs R.unplugs R.plugged R.logs R.states rig.new) }
+    ensures unplugged { (IsForm (map string_bytes words.now) → ⊥) → rig.new ≡ rig.old }
     ensures usage_line { IsTrue K.tells → (IsForm (map string_bytes words.now) → ⊥) → HasFront (K.bytes sink.old) (refusal_text status.Usage []) (K.bytes sink.new) }
     ensures one_read { IsCheckForm (map string_bytes words.now) → (p : ℕ) → p ≢ 1 → S.faults shelf.new p ≡ S.faults shelf.old p }
     ensures checks { IsCheckForm (map string_bytes words.now) → IsCheckStatus result }
-    ensures alone { IsCheckForm (map string_bytes words.now) → IsUntouched (rig_view R.tells R.P.tells R.faults R.plugs R.unplugs R.plugged R.logs R.states rig.old) (rig_view R.tells R.P.tells R.faults R.plugs R.unplugs R.plugged R.logs R.states rig.new) }
+    ensures alone { IsCheckForm (map string_bytes words.now) → rig.new ≡ rig.old }
     ensures cost { (cost : ℕ) → result ≢ status.Cost cost }
     ensures rig { result ≡ status.Rig → Rose (R.faults rig.old) (R.faults rig.new) }
     ensures write { result ≡ status.Write → Rose (K.faults sink.old) (K.faults sink.new) }

@@ -6,7 +6,7 @@ ghost use Rattle.i2c_top.specs.Replays.{names_of, name_at, IsUnread, KeepsUnreac
 ghost use Rattle.i2c_top.specs.Reports.{HasReport, HasReplayed};
 ghost use Rattle.i2c_top.specs.Requests.{Replay, IsCause, IsTold, IsTraced};
 ghost use Rattle.i2c_top.specs.Status.{refusal_text};
-ghost use Rattle.i2c_top.specs.Traces.{shelf_view, output_view, rig_view, IsCalm, IsUntouched};
+ghost use Rattle.i2c_top.specs.Traces.{shelf_view, output_view, rig_view, IsCalm};
 ghost use Rattle.i2c_top.specs.Written.{HasFront};
 ghost use Rattle.i2c_top.specs.declared.status.Status.{Status};
 ghost use Rattle.i2c_top.specs.declared.status.Status.TheVariants as status;
@@ -129,7 +129,7 @@ fn replay<S: Shelf, K: Sink, R: Rig>(
     ensures others { (p : ℕ) → p ≢ 1 → p ≢ 2 → p ≢ 3 → S.faults shelf.new p ≡ S.faults shelf.old p }
     ensures many { length scripts.now ≢ 1 → (result ≡ status.Usage) ⊎ ((result ≡ status.Memory) ⊎ (result ≡ status.Write)) }
     ensures unread { length scripts.now ≢ 1 → (p : ℕ) → S.faults shelf.new p ≡ S.faults shelf.old p }
-    ensures unplugged { length scripts.now ≢ 1 → IsUntouched (rig_view R.tells R.P.tells R.faults R.plugs R.unplugs R.plugged R.logs R.states rig.old) (rig_view R.tells R.P.tells R.faults R.plugs R.unplugs R.plugged R.logs R.states rig.new) }
+    ensures unplugged { length scripts.now ≢ 1 → rig.new ≡ rig.old }
     ensures usage_line { IsTrue K.tells → length scripts.now ≢ 1 → HasFront (K.bytes sink.old) (refusal_text status.Usage []) (K.bytes sink.new) }
     ensures ended { HasEnded (length scripts.now ≢ 1) (Replay (names_of board.now schedule.now (map string_bytes scripts.now)))
         (shelf_view S.tells S.file S.faults shelf.old) (shelf_view S.tells S.file S.faults shelf.new)
@@ -170,7 +170,7 @@ pub fn replay_call<S: Shelf, K: Sink, R: Rig>(
     ensures usage { result ≡ status.Usage → length scripts.now ≢ 1 }
     ensures many { length scripts.now ≢ 1 → (result ≡ status.Usage) ⊎ ((result ≡ status.Memory) ⊎ (result ≡ status.Write)) }
     ensures unread { length scripts.now ≢ 1 → (p : ℕ) → S.faults shelf.new p ≡ S.faults shelf.old p }
-    ensures unplugged { length scripts.now ≢ 1 → IsUntouched (rig_view R.tells R.P.tells R.faults R.plugs R.unplugs R.plugged R.logs R.states rig.old) (rig_view R.tells R.P.tells R.faults R.plugs R.unplugs R.plugged R.logs R.states rig.new) }
+    ensures unplugged { length scripts.now ≢ 1 → rig.new ≡ rig.old }
     ensures usage_line { IsTrue K.tells → length scripts.now ≢ 1 → HasFront (K.bytes sink.old) (refusal_text status.Usage []) (K.bytes sink.new) }
     ensures cost { (cost : ℕ) → result ≢ status.Cost cost }
     ensures rig { result ≡ status.Rig → Rose (R.faults rig.old) (R.faults rig.new) }

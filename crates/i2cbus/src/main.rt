@@ -3,7 +3,10 @@
 //! It hands the real files, the standard output and a rig to `top`, and ends with the status's number.
 #![tactic(auto)]
 
-ghost use Rattle.std.specs.Prelude.{◌≡◌, map, string_bytes, IfOk};
+ghost use Rattle.std.specs.Prelude.{◌≡◌, ◌⊎◌, map, string_bytes, IfOk};
+ghost use Rattle.i2c_top.specs.Checks.{IsCheckStatus};
+ghost use Rattle.i2c_top.specs.Forms.{IsForm, IsCheckForm};
+ghost use Rattle.i2c_top.specs.declared.status.Status.TheVariants as status;
 
 use i2c_outside::{FileShelf, OpenGate, StdoutSink};
 use i2c_physics::SimRig;
@@ -22,7 +25,9 @@ fn words_of<R: Env + AllocGlobal>(rt: &R) -> io::Result<Vec<String>> {
 }
 
 // One empty word, which stands for words that are no text: it is none of the program's forms.
-fn no_words(alloc: Global) -> Result<Vec<String>, AllocError> {
+fn no_words(alloc: Global) -> Result<Vec<String>, AllocError>
+    ensures { IfOk result (λ v. IsForm (map string_bytes v.items) → ⊥) }
+{
     let mut words = Vec::new(alloc);
     words.push(String::new(alloc))?;
     Ok(words)
@@ -39,12 +44,17 @@ fn copied(alloc: Global, words: &[String]) -> Result<Vec<String>, AllocError>
     Ok(copy)
 }
 
-// Does what the words say.
+// Does what the words say. What the files, the output and the rig are like, no clause can say here: it is in those of
+// `top`.
 fn run<R: Files + Print + Threads + Wait + Sync>(
     rt: &R,
     alloc: Global,
     words: &[String],
-) -> Result<Status, AllocError> {
+) -> Result<Status, AllocError>
+    ensures usage { IfOk result (λ s. s ≡ status.Usage → IsForm (map string_bytes words.now) → ⊥) }
+    ensures no_form { (IsForm (map string_bytes words.now) → ⊥) → IfOk result (λ s. (s ≡ status.Usage) ⊎ (s ≡ status.Write)) }
+    ensures checks { IsCheckForm (map string_bytes words.now) → IfOk result IsCheckStatus }
+{
     let mut shelf = FileShelf::new(rt, copied(alloc, words)?);
     let mut sink = StdoutSink::new(rt);
     let mut rig = SimRig::new();
