@@ -19,8 +19,7 @@ use Rattle.bus_spec.specs.Walk.{Act, ActOutcome, WalkTree}
 use Rattle.bus_spec.specs.Slots.{Slots}
 use Rattle.bus_spec.specs.Grammar.{walk_by, seen, first_act, rest_of}
 use Rattle.bus_laws.specs.Costs.{IsWithin, weight_at}
-use Rattle.bus_laws.proofs.CostLaw.{walk-within}
-use Rattle.bus_laws.proofs.WalkNext.{within-next}
+use Rattle.bus_laws.proofs.Laws.{walk-within, within-next}
 use Rattle.bus_core.specs.Cores.{IsWithinLimit, owed_behind}
 use Rattle.bus_core.specs.Seats.{walk_left}
 use Rattle.bus_core.specs.declared.seat.Seat.{Seat}

@@ -42,7 +42,7 @@ use Rattle.bus_laws.specs.Jobs.{IsJobOf}
 use Rattle.bus_laws.specs.Reach.{AsksForMessages}
 use Rattle.bus_laws.specs.Runs.{IsCall}
 use Rattle.bus_laws.specs.Settles.{NoSettle, Settles}
-use Rattle.bus_laws.proofs.WorldSends.{length-messages}
+use Rattle.bus_laws.proofs.Laws.{length-messages}
 use Rattle.bus_core.specs.Asking.{asks_of}
 use Rattle.bus_core.specs.Seats.{walk_left, act_next, note_next, got_with, IsPartway, IsLeft, IsDecided, IsPlaced, IsSeat}
 use Rattle.bus_core.specs.Cores.{CoreTold, CoreView, owed_behind, got_told, IsSetUp, IsCore, IsDeciding, IsSaid}

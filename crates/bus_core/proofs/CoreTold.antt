@@ -33,16 +33,14 @@ use Rattle.bus_spec.specs.Slots.{Slots, mark_in, after_job}
 use Rattle.bus_spec.specs.Grammar.{walk_by, seen, is_over, first_act, first_note, rest_of}
 use Rattle.bus_spec.specs.Readings.{message_cut}
 use Rattle.bus_spec.specs.Past.{Now, now, mark, step, talk_of, cut_of, got_after}
-use Rattle.bus_spec.specs.Stepwise.{IsNext, IsStepwise, TellsMessage, HearsIn, heard_list, reply_by}
+use Rattle.bus_spec.specs.Stepwise.{IsNext, IsStepwise, reply_by}
+use Rattle.bus_spec.specs.Tells.{TellsMessage, HearsIn, heard_list}
 use Rattle.mux_plan.specs.Plans.{slots_of, slots_after, TellsMarks}
 use Rattle.bus_laws.specs.Lines.{LinesAreLocked}
 use Rattle.bus_laws.specs.Settles.{NoSettle}
 use Rattle.bus_laws.specs.Reach.{AsksForMessages}
 use Rattle.bus_laws.specs.Next.{WillReach, WillSwitch, who_hears, chip_where}
-use Rattle.bus_laws.proofs.LineFacts.{lines-locked}
-use Rattle.bus_laws.proofs.MarksLaw.{mark-there}
-use Rattle.bus_laws.proofs.NextLaw.{call-reaches, control-switches}
-use Rattle.bus_laws.proofs.ReadyLaw.{takes-below, sole-takes}
+use Rattle.bus_laws.proofs.Laws.{lines-locked, mark-there, call-reaches, control-switches, takes-below, sole-takes}
 use Rattle.bus_core.specs.Cores.{MarksTold, PortsTold, CoreTold}
 use Rattle.bus_core.specs.Sends.{IsMessageOf, IsChipAddress, IsHeard, HasSent, message_for, ends_with}
 use Rattle.bus_core.specs.declared.seat.Seat.{Seat}
@@ -256,7 +254,8 @@ module _ (b : BoardView) (plain : IsPlainBoard b) (rules : MeetsRules b) (asks :
           ∙ ap (λ (x : MessageView). talk world_listener (block_limit b) (n.worlds (root_of b (job_bus job))) x (ends_with next.purpose next.part next.parts) (cut_of e)) is_told.message_is
           ∙ ap (λ (t : Bool). talk world_listener (block_limit b) (n.worlds (root_of b (job_bus job))) (message_of b job left) t (cut_of e)) last_is
 
-      tells : TellsMessage b n job left next.bus next.purpose next.part next.parts addr reading bytes heard e
+      tells : TellsMessage b n job left
+          (record { caller = 0; bus = next.bus; purpose = next.purpose; part = next.part; parts = next.parts; addr = addr; reading = reading; bytes = bytes; heard = heard; end = e })
       tells =
           record {
             on_bus = of.on_bus;

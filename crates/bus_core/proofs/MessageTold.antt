@@ -3,7 +3,7 @@
 use Rattle.std.proofs.Common.{◌≡◌, ℕ, zero, suc, ◌+◌, ◌-◌, eqb, Bool, true, false, cond, List, length, Option, Some, None, unwrap_or, refl, sym, ◌∙◌, ap, arith}
 use Rattle.std.specs.Prelude.{is_some, slice_get}
 use Rattle.std.proofs.lemmas.Bool.{eq-eqb}
-use Rattle.bus_laws.proofs.TreeSlots.{eqb-apart}
+use Rattle.bus_laws.proofs.Laws.{eqb-apart}
 use Rattle.i2c_base.specs.declared.board.MuxKind.{MuxKind}
 use Rattle.i2c_base.specs.declared.ids.Node.{Node}
 use Rattle.i2c_base.specs.declared.ids.Node.TheVariants as node
@@ -19,7 +19,7 @@ use Rattle.i2c_spec.specs.Tree.{Hop, addr_of_mux}
 use Rattle.i2c_spec.specs.Messages.{MessageView, messages_of}
 use Rattle.i2c_spec.specs.World.{World, hearers, has_heard, answer}
 use Rattle.bus_spec.specs.Walk.{Job, Call, Select, Clear, job_purpose, message_of, is_last, nth_message, chip_address}
-use Rattle.bus_spec.specs.Stepwise.{HearsIn, heard_list}
+use Rattle.bus_spec.specs.Tells.{HearsIn, heard_list}
 use Rattle.bus_spec.specs.Legal.{starts, start_failed}
 use Rattle.mux_plan.specs.Plans.{control_of}
 use Rattle.bus_laws.specs.Next.{chip_where, who_hears, heard_where}

@@ -21,7 +21,7 @@ use Rattle.bus_spec.specs.Past.{now}
 use Rattle.bus_spec.specs.Walk.{WalkTree, Ends}
 use Rattle.bus_spec.specs.Grammar.{is_over}
 use Rattle.bus_laws.specs.Costs.{IsWithin}
-use Rattle.bus_laws.proofs.WorldSends.{length-messages}
+use Rattle.bus_laws.proofs.Laws.{length-messages}
 use Rattle.bus_core.specs.Cores.{CoreTold, PortsTold, IsWithinLimit, owed_behind, got_told}
 use Rattle.bus_core.specs.Seats.{walk_left, IsLeft, IsSeat}
 use Rattle.bus_core.specs.declared.seat.Seat.{Seat}

@@ -20,7 +20,8 @@ use Rattle.bus_spec.specs.Walk.{Job, Act, Take, Free, Send, Shift, Settle, ActOu
 use Rattle.bus_spec.specs.Grammar.{plain, walk_for, walk_by, seen, is_over, first_act, first_note, rest_of}
 use Rattle.bus_spec.specs.Readings.{message_cut}
 use Rattle.bus_spec.specs.Past.{Now, begun, current, step, sent, sent_by, moved, with_due, talk_of, is_due, got_after}
-use Rattle.bus_spec.specs.Stepwise.{May, IsNext, TellsMessage, reply_by}
+use Rattle.bus_spec.specs.Stepwise.{May, IsNext, reply_by}
+use Rattle.bus_spec.specs.Tells.{TellsMessage}
 use Rattle.mux_plan.specs.Plans.{slots_of}
 use Rattle.mux_plan.proofs.Openings.{seen-marks}
 use Rattle.bus_laws.specs.Settles.{NoSettle}
@@ -91,8 +92,9 @@ module _ (b : BoardView) (asks : Asks) (n : Now) (taken : List Reply) (marks : L
     abbrev pub said : Entry
     said = entry.Message 0 bus why part parts addr reading bytes heard e
 
-    pub may-say : TellsMessage b n job left bus why part parts addr reading bytes heard e → May b 1 asks n said
-    may-say tells = (omega arith, told.due_is ∙ none, job, left, next_told (Send job left) first, tells)
+    pub may-say : TellsMessage b n job left (record { caller = 0; bus = bus; purpose = why; part = part; parts = parts; addr = addr; reading = reading; bytes = bytes; heard = heard; end = e })
+        → May b 1 asks n said
+    may-say tells = (omega arith, told.due_is ∙ none, (job, left, next_told (Send job left) first, tells))
 
     abbrev pub then_sent : Now
     then_sent = sent b n 0 job left (first_note (current b asks n 0)) reading bytes e (talk_of b n job left e)

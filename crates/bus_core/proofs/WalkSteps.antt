@@ -21,13 +21,8 @@ use Rattle.bus_laws.specs.Calls.{FirstCalls}
 use Rattle.bus_laws.specs.Jobs.{IsJobOf, HasNoLine}
 use Rattle.bus_laws.specs.Runs.{IsCall}
 use Rattle.bus_laws.specs.Settles.{NoSettle, GoesOn, FollowsSend, Settles}
-use Rattle.bus_laws.proofs.SettleLaw.{walk-settles, walk-starts}
-use Rattle.bus_laws.proofs.WalkCalls.{walk-calls}
-use Rattle.bus_laws.proofs.WalkFirst.{walk-first}
-use Rattle.bus_laws.proofs.WalkJobs.{walk-stays}
-use Rattle.bus_laws.proofs.WalkNext.{jobs-next, job-sent, job-shifted, calls-next, call-sent, settles-taken, settles-freed, settles-sent, settles-settled, quiet-next, what_follows, call-goes-on, first-taken, first-freed, first-selected, first-cleared, first-sent, seen-first}
+use Rattle.bus_laws.proofs.Laws.{walk-settles, walk-starts, walk-calls, walk-first, walk-stays, jobs-next, job-sent, job-shifted, calls-next, call-sent, settles-taken, settles-freed, settles-sent, settles-settled, quiet-next, what_follows, call-goes-on, first-taken, first-freed, first-selected, first-cleared, first-sent, seen-first, length-messages}
 use Rattle.i2c_spec.proofs.AddressLemmas.{tree_of}
-use Rattle.bus_laws.proofs.WorldSends.{length-messages}
 use Rattle.bus_core.specs.Seats.{Counts, IsLeft, IsDecided}
 
 -- a step that no look stands before

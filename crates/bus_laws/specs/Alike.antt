@@ -1,18 +1,16 @@
 -- The devices of a root's world beside those of the flat world, and messages over both.
-use Rattle.std.specs.Prelude.{◌≡◌, ℕ, ◌+◌, ◌==◌, Bool, true, false, ◌&&◌, ◌⊎◌, List, [], ◌∷◌, Option, Some, None, slice_get, if◌then◌else◌}
+use Rattle.std.specs.Prelude.{◌≡◌, ℕ, ◌==◌, Bool, true, false, ◌⊎◌, List, [], ◌∷◌, Option, Some, None, slice_get}
 use Rattle.std.specs.List.{AllByRecursion}
 use Rattle.i2c_base.specs.declared.ids.Node.{Node}
 use Rattle.i2c_base.specs.declared.ids.Node.TheVariants as node
 use Rattle.i2c_base.specs.declared.entry.End.{End}
-use Rattle.i2c_base.specs.declared.entry.End.TheVariants as end
 use Rattle.i2c_base.specs.Board.{BoardView}
 use Rattle.i2c_base.specs.Bytes.{IsByte}
 use Rattle.i2c_spec.specs.Tree.{root_of, of_device}
 use Rattle.i2c_spec.specs.Targets.{TargetState, Regs, Silent, IsQuiet, state_table}
-use Rattle.i2c_spec.specs.Messages.{MessageView}
 use Rattle.i2c_spec.specs.World.{World, joins_device, start_chips, heard_of}
-use Rattle.i2c_spec.specs.Flat.{FlatListener, FlatTold, is_it, is_member}
-use Rattle.i2c_spec.specs.Conversation.{Listener, TalkTold, AllTold, talk, is_empty, is_good, with_read}
+use Rattle.i2c_spec.specs.Flat.{FlatListener, is_it, is_member}
+use Rattle.i2c_spec.specs.Conversation.{TalkTold, is_good}
 
 -- device d stands on a bus of root r
 abbrev pub IsOf : BoardView → ℕ → ℕ → Type 0
@@ -58,27 +56,6 @@ pub record ToldAlike {W V : Type 0} (R : W → V → Type 0) (t : TalkTold W) (u
   pub end : t.end ≡ u.end
   pub now : R t.now u.now
 
--- so many messages of a transfer: `ends` says whether it ends with them
-abbrev pub talk_part : {W : Type 0} → Listener W → ℕ → W → List MessageView → Bool → ℕ → (ℕ → Option ℕ) → List ℕ → AllTold W
-talk_part l limit w [] ends i cuts got = record { bytes = got; now = w; end = end.Ok }
-talk_part l limit w (m ∷ ms) ends i cuts got =
-    let t : TalkTold _ = talk l limit w m (is_empty ms && ends) (cuts i) in
-    if is_good t.end then talk_part l limit t.now ms ends (i + 1) cuts (with_read got m t)
-    else record { bytes = with_read got m t; now = t.now; end = t.end }
-
--- one message more, unless one before it ended early
-abbrev pub talk_more : {W : Type 0} → Listener W → ℕ → MessageView → Bool → Option ℕ → AllTold W → AllTold W
-talk_more l limit m ends cut a =
-    if is_good a.end
-    then (let t : TalkTold _ = talk l limit a.now m ends cut in record { bytes = with_read a.bytes m t; now = t.now; end = t.end })
-    else a
-
--- what is said of a transfer grows by one message of a root's world
-pub record GrowsAlike (b : BoardView) (r : ℕ) (m : MessageView) (before : AllTold FlatListener) (t : TalkTold World) (all : AllTold FlatListener) : Type 0 where
-  pub bytes : all.bytes ≡ with_read before.bytes m t
-  pub end : all.end ≡ t.end
-  pub now : Same b r t.now all.now
-
 -- a transfer ends with a message that is its last, or that didn't go through
 abbrev pub EndsTransfer : Bool → End → Type 0
 EndsTransfer last e = (last ≡ true) ⊎ (is_good e ≡ false)
@@ -86,8 +63,3 @@ EndsTransfer last e = (last ≡ true) ⊎ (is_good e ≡ false)
 -- the transfer hasn't named this device, whose state is this one
 abbrev pub IsUnnamed : ℕ → Option TargetState → FlatListener → Type 0
 IsUnnamed d o f = (is_member d f.named ≡ false) × (is_it f.current d ≡ false) × (slice_get f.states d ≡ o)
-
--- two transfers in the flat world have the same reply, and leave the same devices of a root
-pub record FlatSame (b : BoardView) (r : ℕ) (x y : FlatTold) : Type 0 where
-  pub reply : x.reply ≡ y.reply
-  pub states : (d : ℕ) → IsOf b r d → slice_get x.states d ≡ slice_get y.states d

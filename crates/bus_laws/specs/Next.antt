@@ -1,25 +1,18 @@
 -- What is known of a caller's next step before it is made, and of the steps that it has made.
-use Rattle.std.specs.Prelude.{◌≡◌, ℕ, ◌+◌, ◌<◌, ◌≤◌, ◌==◌, Bool, ◌&&◌, List, [], ◌∷◌, ◌++◌, Option, Some, None, is_some, slice_get, if◌then◌else◌}
+use Rattle.std.specs.Prelude.{◌≡◌, ℕ, ◌<◌, Bool, List, Option, Some, None, is_some, slice_get, if◌then◌else◌}
 use Rattle.i2c_base.specs.declared.ids.Node.{Node}
 use Rattle.i2c_base.specs.declared.ids.Node.TheVariants as node
-use Rattle.i2c_base.specs.declared.entry.Entry.{Entry}
-use Rattle.i2c_base.specs.declared.entry.Entry.TheVariants as entry
-use Rattle.i2c_base.specs.declared.reply.Reply.{Reply}
 use Rattle.i2c_base.specs.Board.{BoardView}
-use Rattle.i2c_base.specs.Fitting.{Fits}
 use Rattle.i2c_base.specs.Transfer.{TransferView}
 use Rattle.i2c_spec.specs.Tree.{buses, root_of, addr_of_mux, is_absent}
 use Rattle.i2c_spec.specs.Messages.{MessageView, messages_of}
 use Rattle.i2c_spec.specs.World.{World, has_heard, hearers, answer}
 use Rattle.i2c_spec.specs.Flat.{refusal, granted_on}
 use Rattle.i2c_spec.specs.History.{Asks}
-use Rattle.i2c_spec.specs.Cost.{cost_of}
-use Rattle.bus_spec.specs.Walk.{Job, Call, Ends, job_bus, message_of}
-use Rattle.bus_spec.specs.Readings.{caller_of, replies, Everywhere}
+use Rattle.bus_spec.specs.Walk.{Job, Call, job_bus, message_of}
 use Rattle.bus_spec.specs.Past.{Now}
-use Rattle.bus_spec.specs.Stepwise.{heard_list}
+use Rattle.bus_spec.specs.Tells.{heard_list}
 use Rattle.bus_spec.specs.Legal.{starts}
-use Rattle.bus_laws.specs.Costs.{is_step}
 
 -- a device that is granted hears a start where it answers Ack or Slow to it (UM10204 section 3.1.6)
 abbrev pub heard_where : World → Bool → Option ℕ → Option Node
@@ -56,27 +49,3 @@ pub record WillSwitch (b : BoardView) (n : Now) (job : Job) (left m : ℕ) : Typ
   pub heard : hearers (n.worlds (root_of b (job_bus job))) (message_of b job left).addr (message_of b job left).reading ≡ heard_list (chip_where b m)
   -- the answer of the start tells whether it does
   pub answered : has_heard (answer (n.worlds (root_of b (job_bus job))) (message_of b job left).addr (message_of b job left).reading) ≡ is_some (chip_where b m)
-
--- a caller's walk has ended, and it asks for nothing more
-abbrev pub IsDone : Asks → Now → ℕ → Type 0
-IsDone asks n c = (n.walk c ≡ Ends) × (asks c (n.settled c) ≡ None)
-
--- how many steps a caller has made; a settle belongs to the step before it
-abbrev pub steps_by : List Entry → ℕ → ℕ
-steps_by [] c = 0
-steps_by (e ∷ past) c = (if (caller_of e == c) && is_step e then 1 else 0) + steps_by past c
-
--- each reply is one that the transfer may get which its caller asked for
-abbrev pub FitsAt : Asks → Entry → List Entry → Type 0
-FitsAt asks (entry.Settle c r cut) past = (t : TransferView) → asks c (replies past c) ≡ Some t → Fits t r
-FitsAt asks (entry.Take c l) past = Unit {0}
-FitsAt asks (entry.Free c l) past = Unit {0}
-FitsAt asks (entry.Message c bus purpose part parts addr reading bytes heard e) past = Unit {0}
-FitsAt asks (entry.Line c mux level failed) past = Unit {0}
-
-abbrev pub KeepsFits : Asks → List Entry → Type 0
-KeepsFits asks past = Everywhere (FitsAt asks) past
-
--- a caller's own bound on the steps that it has left covers each transfer's cost, and falls by it with the reply
-abbrev pub CoversCosts : BoardView → (List Reply → Option TransferView) → (List Reply → ℕ) → Type 0
-CoversCosts b asks left = (rs : List Reply) (t : TransferView) (r : Reply) → asks rs ≡ Some t → Fits t r → left (rs ++ r ∷ []) + cost_of b t ≤ left rs

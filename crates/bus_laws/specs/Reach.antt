@@ -14,7 +14,7 @@ use Rattle.i2c_spec.specs.History.{Asks}
 use Rattle.bus_spec.specs.Slots.{Selected}
 use Rattle.bus_spec.specs.Readings.{holder, Everywhere}
 use Rattle.bus_spec.specs.Past.{now, mark, world_at}
-use Rattle.bus_spec.specs.Stepwise.{HearsIn}
+use Rattle.bus_spec.specs.Tells.{HearsIn}
 
 -- each transfer that a caller asks for has a message
 abbrev pub AsksForMessages : Asks → Type 0

@@ -5,6 +5,8 @@ pub mod Slots
 pub mod Grammar
 pub mod Readings
 pub mod Past
+pub mod Places
+pub mod Tells
 pub mod Stepwise
 pub mod Legal
 pub mod Paths

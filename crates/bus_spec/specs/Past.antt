@@ -21,7 +21,7 @@ use Rattle.i2c_spec.specs.History.{Asks, changed_at}
 use Rattle.bus_spec.specs.Walk.{Job, Call, Select, Clear, Act, Take, Free, Send, Shift, Settle, ActOutcome, Passed, Sent, Lined, WalkTree, Ends, Note, Go, On, Last, Over, job_bus, message_of, is_last, goes, line_mux, line_level}
 use Rattle.bus_spec.specs.Slots.{Slots, all_clean, mark_in, after_job}
 use Rattle.bus_spec.specs.Grammar.{walk_for, seen, is_over, first_act, first_note, rest_of}
-use Rattle.bus_spec.specs.Readings.{is_lock, cut_told}
+use Rattle.bus_spec.specs.Readings.{is_lock, cut_told, of_message}
 
 pub record Now : Type 0 where
   -- what is left of each caller's walk; it has ended where none is under way
@@ -183,15 +183,15 @@ settled_by n c r =
 abbrev pub step : BoardView → Asks → Now → Entry → Now
 step b asks n (entry.Take c l) = moved b asks n (taken n c l) c (entry.Take c l) Passed
 step b asks n (entry.Free c l) = moved b asks n (freed n c l) c (entry.Free c l) Passed
-step b asks n (entry.Message c bus purpose part parts addr reading bytes heard e) =
-    with_due c (moved b asks n
-    (sent_by b n c (first_act (current b asks n c)) (first_note (current b asks n c)) reading bytes e)
-    c (entry.Message c bus purpose part parts addr reading bytes heard e) (Sent e bytes))
 step b asks n (entry.Line c mux level failed) =
     with_due c (moved b asks n
     (lined_by b n (first_act (current b asks n c)) (first_note (current b asks n c)) failed)
     c (entry.Line c mux level failed) (Lined failed))
 step b asks n (entry.Settle c r cut_at) = moved b asks n (settled_by n c r) c (entry.Settle c r cut_at) Passed
+step b asks n e =
+    of_message n (λ m. with_due m.caller (moved b asks n
+    (sent_by b n m.caller (first_act (current b asks n m.caller)) (first_note (current b asks n m.caller)) m.reading m.bytes m.end)
+    m.caller e (Sent m.end m.bytes))) e
 
 -- where everything stands after a past
 abbrev pub now : BoardView → Asks → List Entry → Now

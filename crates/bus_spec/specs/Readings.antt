@@ -2,6 +2,7 @@
 use Rattle.std.specs.Prelude.{ℕ, ◌+◌, ◌-◌, ◌==◌, Bool, true, false, ◌&&◌, List, [], ◌∷◌, ◌++◌, Option, Some, None, if◌then◌else◌}
 use Rattle.i2c_base.specs.declared.ids.LockId.{LockId}
 use Rattle.i2c_base.specs.declared.ids.LockId.TheVariants as lock
+use Rattle.i2c_base.specs.declared.ids.Node.{Node}
 use Rattle.i2c_base.specs.declared.entry.Entry.{Entry}
 use Rattle.i2c_base.specs.declared.entry.Entry.TheVariants as entry
 use Rattle.i2c_base.specs.declared.entry.End.{End}
@@ -13,6 +14,32 @@ use Rattle.i2c_base.specs.declared.reply.Cut.{Cut}
 use Rattle.i2c_base.specs.declared.reply.Cut.TheVariants as cut
 use Rattle.i2c_base.specs.Board.{BoardView}
 use Rattle.i2c_spec.specs.Tree.{depth, root_of, home_of_mux}
+
+-- a message's entry: all that its line tells
+pub record MessageEntry : Type 0 where
+  pub caller : ℕ
+  pub bus : ℕ
+  pub purpose : Purpose
+  -- which message of its transfer it is, and how many these are
+  pub part : ℕ
+  pub parts : ℕ
+  pub addr : ℕ
+  pub reading : Bool
+  pub bytes : List ℕ
+  pub heard : Option Node
+  pub end : End
+
+-- what a message's entry gives; any other entry gives `other`
+abbrev pub of_message : {X : Type 0} → X → (MessageEntry → X) → Entry → X
+of_message other f (entry.Message c bus why part parts addr reading bytes heard e) =
+    f (record { caller = c; bus = bus; purpose = why; part = part; parts = parts; addr = addr; reading = reading; bytes = bytes; heard = heard; end = e })
+of_message other f e = other
+
+-- a fact about a message's entry; nothing is said of any other
+abbrev pub OfMessage : (MessageEntry → Type 0) → Entry → Type 0
+OfMessage P (entry.Message c bus why part parts addr reading bytes heard e) =
+    P (record { caller = c; bus = bus; purpose = why; part = part; parts = parts; addr = addr; reading = reading; bytes = bytes; heard = heard; end = e })
+OfMessage P e = Unit {0}
 
 abbrev pub is_lock : LockId → LockId → Bool
 is_lock (lock.Bus r) (lock.Bus s) = r == s
@@ -28,44 +55,33 @@ rank b (lock.Mux p) = depth b p + 1
 abbrev pub caller_of : Entry → ℕ
 caller_of (entry.Take c l) = c
 caller_of (entry.Free c l) = c
-caller_of (entry.Message c bus purpose part parts addr reading bytes heard end) = c
 caller_of (entry.Line c mux level failed) = c
 caller_of (entry.Settle c reply cut) = c
+caller_of e = of_message 0 (λ m. m.caller) e
 
 -- who has a lock: the caller of its last take that no free follows
 abbrev pub holder : List Entry → LockId → Option ℕ
 holder [] l = None
 holder (entry.Take c k ∷ past) l = if is_lock k l then Some c else holder past l
 holder (entry.Free c k ∷ past) l = if is_lock k l then None else holder past l
-holder (entry.Message c bus purpose part parts addr reading bytes heard end ∷ past) l = holder past l
-holder (entry.Line c mux level failed ∷ past) l = holder past l
-holder (entry.Settle c reply cut ∷ past) l = holder past l
+holder (e ∷ past) l = holder past l
 
 -- the replies that are settled for a caller, in order
 abbrev pub replies : List Entry → ℕ → List Reply
 replies [] c = []
 replies (entry.Settle k reply cut ∷ past) c = if k == c then replies past c ++ reply ∷ [] else replies past c
-replies (entry.Take k l ∷ past) c = replies past c
-replies (entry.Free k l ∷ past) c = replies past c
-replies (entry.Message k bus purpose part parts addr reading bytes heard end ∷ past) c = replies past c
-replies (entry.Line k mux level failed ∷ past) c = replies past c
+replies (e ∷ past) c = replies past c
 
 -- the callers and cuts of the settles, the newest first
 abbrev pub order : List Entry → List (ℕ × Cut)
 order [] = []
 order (entry.Settle c reply cut ∷ past) = (c, cut) ∷ order past
-order (entry.Take c l ∷ past) = order past
-order (entry.Free c l ∷ past) = order past
-order (entry.Message c bus purpose part parts addr reading bytes heard end ∷ past) = order past
-order (entry.Line c mux level failed ∷ past) = order past
+order (e ∷ past) = order past
 
 -- the root on which an entry is seen
 abbrev pub is_on_root : BoardView → ℕ → Entry → Bool
-is_on_root b r (entry.Message c bus purpose part parts addr reading bytes heard end) = root_of b bus == r
 is_on_root b r (entry.Line c mux level failed) = root_of b (home_of_mux b mux) == r
-is_on_root b r (entry.Take c l) = false
-is_on_root b r (entry.Free c l) = false
-is_on_root b r (entry.Settle c reply cut) = false
+is_on_root b r e = of_message false (λ m. root_of b m.bus == r) e
 
 abbrev pub is_call : Purpose → Bool
 is_call purpose.Call = true
@@ -73,18 +89,11 @@ is_call (purpose.Control m) = false
 
 -- a message of the caller's own transfer on this root
 abbrev pub is_call_of : BoardView → ℕ → ℕ → Entry → Bool
-is_call_of b r c (entry.Message k bus purpose part parts addr reading bytes heard end) = (k == c) && is_call purpose && (root_of b bus == r)
-is_call_of b r c (entry.Take k l) = false
-is_call_of b r c (entry.Free k l) = false
-is_call_of b r c (entry.Line k mux level failed) = false
-is_call_of b r c (entry.Settle k reply cut) = false
+is_call_of b r c e = of_message false (λ m. (m.caller == c) && is_call m.purpose && (root_of b m.bus == r)) e
 
 abbrev pub is_settle_of : ℕ → Entry → Bool
 is_settle_of c (entry.Settle k reply cut) = k == c
-is_settle_of c (entry.Take k l) = false
-is_settle_of c (entry.Free k l) = false
-is_settle_of c (entry.Message k bus purpose part parts addr reading bytes heard end) = false
-is_settle_of c (entry.Line k mux level failed) = false
+is_settle_of c e = false
 
 -- the cut that an entry tells for a settle of its caller directly behind it
 abbrev pub message_cut : Purpose → ℕ → End → Cut
@@ -97,11 +106,8 @@ message_cut p part end.Refused = cut.No
 message_cut p part end.Proto = cut.No
 
 abbrev pub cut_told : Entry → Cut
-cut_told (entry.Message c bus purpose part parts addr reading bytes heard end) = message_cut purpose part end
 cut_told (entry.Line c mux level failed) = if failed then cut.Way else cut.No
-cut_told (entry.Take c l) = cut.No
-cut_told (entry.Free c l) = cut.No
-cut_told (entry.Settle c reply cut_at) = cut.No
+cut_told e = of_message cut.No (λ m. message_cut m.purpose m.part m.end) e
 
 -- that of the caller's last entry
 abbrev pub last_cut : List Entry → ℕ → Cut

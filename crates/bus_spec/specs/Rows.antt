@@ -23,7 +23,7 @@ use Rattle.i2c_base.specs.declared.reply.Cut.TheVariants as cut
 use Rattle.i2c_base.specs.declared.transfer.Kind.TheVariants as transfer_kind
 use Rattle.i2c_base.specs.Board.{BoardView, DeviceView}
 use Rattle.i2c_base.specs.Transfer.{TransferView, written, plain_read}
-use Rattle.bus_spec.specs.Readings.{is_settle_of}
+use Rattle.bus_spec.specs.Readings.{of_message, is_call, is_settle_of}
 use Rattle.bus_spec.specs.Play.{Failing, played, transfers_of}
 
 abbrev pub one_root : List RootSpec
@@ -218,12 +218,7 @@ settles journal = filter (is_settle_of 0) journal
 
 abbrev pub switched : List Entry → List (List ℕ)
 switched [] = []
-switched (entry.Message c bus (purpose.Control m) part parts addr reading bytes heard e ∷ rest) = bytes ∷ switched rest
-switched (entry.Message c bus purpose.Call part parts addr reading bytes heard e ∷ rest) = switched rest
-switched (entry.Take c l ∷ rest) = switched rest
-switched (entry.Free c l ∷ rest) = switched rest
-switched (entry.Line c m level failed ∷ rest) = switched rest
-switched (entry.Settle c r at ∷ rest) = switched rest
+switched (e ∷ rest) = of_message [] (λ m. if is_call m.purpose then [] else m.bytes ∷ []) e ++ switched rest
 
 -- A register behind a parent-locked mux is read twice, and one call of the port fails
 abbrev pub two_reads : Failing → List Entry

@@ -15,10 +15,7 @@ pub record Turn : Type 0 where
 
 abbrev pub is_settle : Entry → Bool
 is_settle (entry.Settle c r cut) = true
-is_settle (entry.Take c l) = false
-is_settle (entry.Free c l) = false
-is_settle (entry.Message c bus purpose part parts addr reading bytes heard e) = false
-is_settle (entry.Line c mux level failed) = false
+is_settle e = false
 
 abbrev pub turn_of : Entry → Turn
 turn_of e = record { caller = caller_of e; entries = e ∷ [] }
@@ -46,10 +43,7 @@ is_taken (Some c) = true
 abbrev pub waits_for : List Entry → List Entry → Bool
 waits_for past [] = false
 waits_for past (entry.Take c l ∷ es) = is_taken (holder past l)
-waits_for past (entry.Free c l ∷ es) = false
-waits_for past (entry.Message c bus purpose part parts addr reading bytes heard e ∷ es) = false
-waits_for past (entry.Line c mux level failed ∷ es) = false
-waits_for past (entry.Settle c r cut ∷ es) = false
+waits_for past (e ∷ es) = false
 
 -- after this past, with these steps to come: a caller with none is over, one whose next step waits isn't ready
 abbrev pub is_ready : List Entry → List Turn → ℕ → Bool

@@ -25,14 +25,10 @@ use Rattle.bus_spec.specs.Readings.{replies}
 use Rattle.bus_spec.specs.Past.{now, world_at, calls_of}
 use Rattle.bus_spec.specs.Report.{report_lines, report_of}
 use Rattle.bus_laws.specs.Reach.{AsksForMessages, AsksWithinLimits}
-use Rattle.bus_laws.specs.Left.{LeavesDevices, worlds_of}
-use Rattle.bus_laws.specs.Next.{IsDone}
-use Rattle.bus_laws.proofs.LineFacts.{lines-locked}
-use Rattle.bus_laws.proofs.AskedLaws.{settled-told}
-use Rattle.bus_laws.proofs.DevicesLaw.{replies-kept}
-use Rattle.bus_laws.proofs.LegalLaw.{legal-with}
-use Rattle.bus_laws.proofs.LeftLaw.{devices-left}
-use Rattle.bus_laws.proofs.NextEnds.{complete-then, strangers-end}
+use Rattle.journal_laws.specs.Left.{LeavesDevices, worlds_of}
+use Rattle.journal_laws.specs.Ends.{IsDone}
+use Rattle.bus_laws.proofs.Laws.{lines-locked, settled-told}
+use Rattle.journal_laws.proofs.Laws.{replies-kept, legal-with, devices-left, complete-then, strangers-end}
 use Rattle.bus_core.specs.Asking.{asks_of}
 use Rattle.bus_core.proofs.CoreSteps.{one_asks}
 use Rattle.caller_core.specs.Callers.{board_of}
@@ -99,6 +95,7 @@ module _ (b : BoardView) (text : List ℕ) (taken : List Reply) (journal : List 
         reported = printed ∙ report_is;
         legal = legal-with b (tree_of b plain rules) plain (lines-locked b rules) asks some 1 past told.stepwise told.seat.due_is
             (replies-kept b (tree_of b plain rules) plain (lines-locked b rules) asks some limits 1 past told.stepwise);
+        stepwise = told.stepwise;
         complete = complete-then b (tree_of b plain rules) plain (lines-locked b rules) asks some 1 past told.stepwise is_done;
         called = logged are_worlds ∙ logs_are;
         told = left_by.told;

@@ -12,6 +12,7 @@ use Rattle.i2c_spec.specs.History.{Asks, History, history}
 use Rattle.bus_spec.specs.Readings.{order}
 use Rattle.bus_spec.specs.Past.{calls_of}
 use Rattle.bus_spec.specs.Legal.{IsLegal, IsComplete}
+use Rattle.bus_spec.specs.Stepwise.{IsStepwise}
 use Rattle.bus_spec.specs.Report.{report_of}
 use Rattle.bus_core.specs.Asking.{asks_of, of_script}
 use Rattle.caller_core.specs.Scripts.{asked_by, commands_of, section_text}
@@ -27,11 +28,12 @@ asks_by b texts = asks_of asked_by (map (script_on b) texts)
 abbrev pub printed_by : List (List ℕ) → ℕ → List Reply → List ℕ
 printed_by texts c replies = of_script (λ text. section_text (commands_of text) replies) [] texts c
 
--- these bytes are the report of this journal, the oldest entry first; it is legal and complete; these are the calls of
--- its ports, and the devices that it leaves
+-- these bytes are the report of this journal, the oldest entry first; it is legal, and each entry might come where it did;
+-- it is complete; these are the calls of its ports, and the devices that it leaves
 pub record IsRunOf (b : BoardView) (texts : List (List ℕ)) (bytes : List ℕ) (logs : List (List PortCall)) (states : List TargetState) (journal : List Entry) : Type 0 where
   pub reported : bytes ≡ report_of (printed_by texts) (length texts) journal
   pub legal : IsLegal b (length texts) (asks_by b texts) (reverse journal)
+  pub stepwise : IsStepwise b (length texts) (asks_by b texts) (reverse journal)
   pub complete : IsComplete b (length texts) (asks_by b texts) (reverse journal)
   pub called : logs ≡ map (calls_of b (asks_by b texts) (reverse journal)) (range_with_len 0 (length b.roots))
   pub told : History

@@ -4,7 +4,7 @@ use Rattle.i2c_base.specs.Board.{BoardView}
 use Rattle.i2c_spec.specs.Cost.{cost_of}
 use Rattle.i2c_spec.specs.Tree.{buses}
 use Rattle.bus_spec.specs.Grammar.{walk_by}
-use Rattle.bus_laws.proofs.WorldSends.{length-messages}
+use Rattle.bus_laws.proofs.Laws.{length-messages}
 use Rattle.bus_core.specs.Views.{view_of}
 use Rattle.bus_core.proofs.CoreSteps.{open-kept, over-settled, granted-there, root-there, opened-over, opened-left}
 use Rattle.bus_core.proofs.Budgets.{covers, within-opened}

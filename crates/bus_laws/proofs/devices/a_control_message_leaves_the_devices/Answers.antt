@@ -1,4 +1,4 @@
-use Rattle.bus_laws.proofs.DevicesStay.{chip-control, control-same}
+use Rattle.bus_laws.proofs.device.Stay.{chip-control, control-same}
 use Rattle.bus_laws.proofs.devices.a_control_message_leaves_the_devices.Goals as goal
 
 pub returns : goal.returns

@@ -1,4 +1,4 @@
-use Rattle.bus_laws.proofs.DevicesStay.{talk-elsewhere, talk-unnamed}
+use Rattle.bus_laws.proofs.device.Stay.{talk-elsewhere, talk-unnamed}
 use Rattle.bus_laws.proofs.devices.a_message_leaves_other_devices.Goals as goal
 
 pub returns : goal.returns

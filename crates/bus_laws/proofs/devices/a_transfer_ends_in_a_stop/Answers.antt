@@ -1,4 +1,4 @@
-use Rattle.bus_laws.proofs.DevicesStops.{world-settled, flat-settled}
+use Rattle.bus_laws.proofs.device.Stops.{world-settled, flat-settled}
 use Rattle.bus_laws.proofs.devices.a_transfer_ends_in_a_stop.Goals as goal
 
 pub returns : goal.returns

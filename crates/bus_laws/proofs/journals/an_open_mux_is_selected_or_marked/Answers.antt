@@ -1,5 +1,5 @@
-use Rattle.bus_laws.proofs.LineFacts.{lines-locked}
-use Rattle.bus_laws.proofs.PastLaws.{closed-kept}
+use Rattle.bus_laws.proofs.world.LineFacts.{lines-locked}
+use Rattle.bus_laws.proofs.past.Laws.{closed-kept}
 use Rattle.bus_laws.proofs.journals.an_open_mux_is_selected_or_marked.Goals as goal
 
 pub returns : goal.returns

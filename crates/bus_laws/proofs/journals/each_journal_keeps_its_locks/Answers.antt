@@ -1,5 +1,5 @@
-use Rattle.bus_laws.proofs.LineFacts.{lines-locked}
-use Rattle.bus_laws.proofs.PastLaws.{locks-kept}
+use Rattle.bus_laws.proofs.world.LineFacts.{lines-locked}
+use Rattle.bus_laws.proofs.past.Laws.{locks-kept}
 use Rattle.bus_laws.proofs.journals.each_journal_keeps_its_locks.Goals as goal
 
 pub returns : goal.returns

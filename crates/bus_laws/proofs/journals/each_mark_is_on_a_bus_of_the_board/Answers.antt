@@ -1,5 +1,5 @@
-use Rattle.bus_laws.proofs.LineFacts.{lines-locked}
-use Rattle.bus_laws.proofs.MarksLaw.{mark-there}
+use Rattle.bus_laws.proofs.world.LineFacts.{lines-locked}
+use Rattle.bus_laws.proofs.past.Marks.{mark-there}
 use Rattle.bus_laws.proofs.journals.each_mark_is_on_a_bus_of_the_board.Goals as goal
 
 pub returns : goal.returns

@@ -1,5 +1,5 @@
-use Rattle.bus_laws.proofs.LineFacts.{lines-locked}
-use Rattle.bus_laws.proofs.PastLaws.{open-kept}
+use Rattle.bus_laws.proofs.world.LineFacts.{lines-locked}
+use Rattle.bus_laws.proofs.past.Laws.{open-kept}
 use Rattle.bus_laws.proofs.journals.each_message_finds_its_path_open.Goals as goal
 
 pub returns : goal.returns

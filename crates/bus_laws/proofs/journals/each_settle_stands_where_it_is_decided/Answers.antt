@@ -1,4 +1,4 @@
-use Rattle.bus_laws.proofs.PlacedLaw.{settles-kept}
+use Rattle.bus_laws.proofs.past.Placed.{settles-kept}
 use Rattle.bus_laws.proofs.journals.each_settle_stands_where_it_is_decided.Goals as goal
 
 pub returns : goal.returns

@@ -1,5 +1,5 @@
-use Rattle.bus_laws.proofs.LineFacts.{lines-locked}
-use Rattle.bus_laws.proofs.WholeLaw.{whole-kept}
+use Rattle.bus_laws.proofs.world.LineFacts.{lines-locked}
+use Rattle.bus_laws.proofs.past.Whole.{whole-kept}
 use Rattle.bus_laws.proofs.journals.no_message_stands_inside_a_transfer.Goals as goal
 
 pub returns : goal.returns

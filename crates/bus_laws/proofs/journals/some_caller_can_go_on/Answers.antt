@@ -1,5 +1,5 @@
-use Rattle.bus_laws.proofs.LineFacts.{lines-locked}
-use Rattle.bus_laws.proofs.ReadyLaw.{some-can-go-on}
+use Rattle.bus_laws.proofs.world.LineFacts.{lines-locked}
+use Rattle.bus_laws.proofs.past.Ready.{some-can-go-on}
 use Rattle.bus_laws.proofs.journals.some_caller_can_go_on.Goals as goal
 
 pub returns : goal.returns

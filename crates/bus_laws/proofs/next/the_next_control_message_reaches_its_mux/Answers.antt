@@ -1,5 +1,5 @@
-use Rattle.bus_laws.proofs.LineFacts.{lines-locked}
-use Rattle.bus_laws.proofs.NextLaw.{control-switches}
+use Rattle.bus_laws.proofs.world.LineFacts.{lines-locked}
+use Rattle.bus_laws.proofs.past.Next.{control-switches}
 use Rattle.bus_laws.proofs.next.the_next_control_message_reaches_its_mux.Goals as goal
 
 pub returns : goal.returns

@@ -1,5 +1,5 @@
-use Rattle.bus_laws.proofs.LineFacts.{lines-locked}
-use Rattle.bus_laws.proofs.NextLaw.{call-reaches}
+use Rattle.bus_laws.proofs.world.LineFacts.{lines-locked}
+use Rattle.bus_laws.proofs.past.Next.{call-reaches}
 use Rattle.bus_laws.proofs.next.the_next_message_reaches_its_target.Goals as goal
 
 pub returns : goal.returns

@@ -1,5 +1,5 @@
-use Rattle.bus_laws.proofs.LineFacts.{lines-locked}
-use Rattle.bus_laws.proofs.AskedLaws.{reach-kept}
+use Rattle.bus_laws.proofs.world.LineFacts.{lines-locked}
+use Rattle.bus_laws.proofs.past.Asked.{reach-kept}
 use Rattle.bus_laws.proofs.targets.each_message_reaches_its_target.Goals as goal
 
 pub returns : goal.returns

@@ -1,4 +1,4 @@
-use Rattle.bus_laws.proofs.CostLaw.{walk-within}
+use Rattle.bus_laws.proofs.walk.CostLaw.{walk-within}
 use Rattle.bus_laws.proofs.walks.each_walk_keeps_to_its_cost.Goals as goal
 
 pub returns : goal.returns

@@ -1,4 +1,4 @@
-use Rattle.bus_laws.proofs.SettleLaw.{walk-settles}
+use Rattle.bus_laws.proofs.walk.SettleLaw.{walk-settles}
 use Rattle.bus_laws.proofs.walks.each_walk_settles_once.Goals as goal
 
 pub returns : goal.returns

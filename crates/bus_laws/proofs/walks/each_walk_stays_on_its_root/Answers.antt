@@ -1,4 +1,4 @@
-use Rattle.bus_laws.proofs.WalkJobs.{walk-stays}
+use Rattle.bus_laws.proofs.walk.Jobs.{walk-stays}
 use Rattle.bus_laws.proofs.walks.each_walk_stays_on_its_root.Goals as goal
 
 pub returns : goal.returns

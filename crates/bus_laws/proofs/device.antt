@@ -1,0 +1,10 @@
+-- One message over two listeners, who hears it, and what it leaves.
+pub mod Talk
+pub mod States
+pub mod Hears
+pub mod Same
+pub mod Grant
+pub mod Stops
+pub mod Stay
+pub mod Reach
+pub mod Past

@@ -1,0 +1,150 @@
+-- What every stepwise past keeps. The induction goes over its entries.
+use Rattle.std.proofs.Common.{◌≡◌, ℕ, ◌<◌, Bool, true, false, cond, List, [], ◌∷◌, Option, Some, None, refl, sym, ◌∙◌, ap, subst, ◌⊎◌, inl, inr}
+use Rattle.std.specs.List.{list_all}
+use Rattle.i2c_base.specs.declared.ids.LockId.{LockId}
+use Rattle.i2c_base.specs.declared.ids.LockId.TheVariants as lock
+use Rattle.i2c_base.specs.declared.entry.End.{End}
+use Rattle.i2c_base.specs.declared.transfer.Kind.TheVariants as transfer_kind
+use Rattle.i2c_base.specs.declared.entry.Entry.{Entry}
+use Rattle.i2c_base.specs.declared.entry.Entry.TheVariants as entry
+use Rattle.i2c_base.specs.Board.{BoardView}
+use Rattle.i2c_base.specs.Transfer.{TransferView}
+use Rattle.i2c_spec.specs.Tree.{hops, root_of, home_of_mux}
+use Rattle.i2c_spec.specs.TreeFacts.{IsTree}
+use Rattle.i2c_spec.specs.Plain.{IsPlainBoard}
+use Rattle.i2c_spec.specs.World.{opens_hop}
+use Rattle.i2c_spec.specs.History.{Asks}
+use Rattle.bus_spec.specs.Walk.{Act, Take, Free, Send, Shift, Settle, ActOutcome, Passed, Note, WalkTree, job_bus}
+use Rattle.bus_spec.specs.Slots.{MuxSlot, Clean, Selected, Marked, Polled, Found, mark_in, after_job}
+use Rattle.bus_spec.specs.Grammar.{first_act, first_note}
+use Rattle.bus_spec.specs.Readings.{rank, holder, is_lock}
+use Rattle.bus_spec.specs.Past.{Now, current, now, world_at, sent_by, lined_by}
+use Rattle.bus_spec.specs.Stepwise.{IsBelow, May, IsStepwise}
+use Rattle.bus_spec.specs.Tells.{HearsIn}
+use Rattle.bus_spec.specs.Legal.{LocksAt, KeepsLocks}
+use Rattle.bus_laws.specs.Runs.{InLocks, IsShut, LeavesShut, CanSend, MaySend, Runs}
+use Rattle.bus_laws.specs.Told.{Explains}
+use Rattle.bus_laws.specs.Lines.{LinesAreLocked}
+use Rattle.bus_laws.specs.Stands.{Stands}
+use Rattle.bus_laws.specs.Reach.{AsksForMessages, IsSelectedBy, KeepsClosed, IsOpenAt, KeepsPathsOpen}
+use Rattle.bus_laws.proofs.world.Law.{path_open}
+use Rattle.bus_laws.proofs.past.StandsFacts.{current-stands}
+use Rattle.bus_laws.proofs.past.StandsStep.{send_known}
+use Rattle.bus_laws.proofs.past.StandsEntries.{first_is, step-stands}
+use Rattle.bus_laws.proofs.past.StandsOpening.{opening-stands}
+
+-- what a sent or a lined step leaves of the locks
+sent_holder : (b : BoardView) (n : Now) (c : ℕ) (o : Option Act) (note : Note) (reading : Bool) (bytes : List ℕ) (e : End) (l : LockId)
+    → (sent_by b n c o note reading bytes e).holder l ≡ n.holder l
+sent_holder b n c None note reading bytes e l = refl
+sent_holder b n c (Some (Take k)) note reading bytes e l = refl
+sent_holder b n c (Some (Free k)) note reading bytes e l = refl
+sent_holder b n c (Some (Send job left)) note reading bytes e l = refl
+sent_holder b n c (Some (Shift job)) note reading bytes e l = refl
+sent_holder b n c (Some (Settle verdict)) note reading bytes e l = refl
+
+lined_holder : (b : BoardView) (n : Now) (o : Option Act) (note : Note) (failed : Bool) (l : LockId) → (lined_by b n o note failed).holder l ≡ n.holder l
+lined_holder b n None note failed l = refl
+lined_holder b n (Some (Take k)) note failed l = refl
+lined_holder b n (Some (Free k)) note failed l = refl
+lined_holder b n (Some (Send job left)) note failed l = refl
+lined_holder b n (Some (Shift job)) note failed l = refl
+lined_holder b n (Some (Settle verdict)) note failed l = refl
+
+-- who has a lock, as the takes and frees tell
+pub holder-told : (b : BoardView) (asks : Asks) (past : List Entry) (l : LockId) → (now b asks past).holder l ≡ holder past l
+holder-told b asks [] l = refl
+holder-told b asks (entry.Take c k ∷ past) l = ap (λ (o : Option ℕ). cond (is_lock k l) (Some c) o) (holder-told b asks past l)
+holder-told b asks (entry.Free c k ∷ past) l = ap (λ (o : Option ℕ). cond (is_lock k l) None o) (holder-told b asks past l)
+holder-told b asks (entry.Message c bus purpose part parts addr reading bytes heard e ∷ past) l =
+    sent_holder b (now b asks past) c (first_act (current b asks (now b asks past) c)) (first_note (current b asks (now b asks past) c)) reading bytes e l
+    ∙ holder-told b asks past l
+holder-told b asks (entry.Line c mux level failed ∷ past) l =
+    lined_holder b (now b asks past) (first_act (current b asks (now b asks past) c)) (first_note (current b asks (now b asks past) c)) failed l
+    ∙ holder-told b asks past l
+holder-told b asks (entry.Settle c r cut ∷ past) l = holder-told b asks past l
+
+pub below_each : (b : BoardView) (l : LockId) (held : List LockId) (k : LockId) → IsBelow b l held → InLocks k held → rank b l < rank b k
+below_each b l [] k below i = absurd i
+below_each b l (j ∷ js) k below i =
+    elim i [ inl e ↦ subst (λ (x : LockId). rank b l < rank b x) (sym e) below.0 | inr more ↦ below_each b l js k below.1 more ]
+
+-- a transfer that nobody asks for: nobody is under way at the opening
+nobody : TransferView
+nobody = record { bus = 0; kind = transfer_kind.Plain; force = false; msgs = []; out = [] }
+
+module _ (b : BoardView) (tree : IsTree b) (plain : IsPlainBoard b) (lines : LinesAreLocked b) (asks : Asks) (some : AsksForMessages asks) (callers : ℕ) where
+  -- THE INDUCTION over the entries
+  pub past-stands : (past : List Entry) → IsStepwise b callers asks past → Stands b (now b asks past)
+  past-stands [] steps = opening-stands b nobody
+  past-stands (e ∷ past) steps =
+      step-stands b tree plain lines asks some callers (now b asks past) (past-stands past steps.1) e steps.0
+
+  -- LOCKS
+  locks_at : (e : Entry) (past : List Entry) → Stands b (now b asks past) → May b callers asks (now b asks past) e → LocksAt b e past
+  locks_at (entry.Take c l) past stands may = (
+    sym (holder-told b asks past l) ∙ may.3,
+    λ k has. below_each b l ((now b asks past).held c) k may.4 (stands.has c k (holder-told b asks past k ∙ has)),
+  )
+  locks_at (entry.Free c l) past stands may =
+      let cur = current-stands b tree lines asks some (now b asks past) c stands in
+      let at = first_is (current b asks (now b asks past) c) (Free l) may.2 in
+      let runs : (rest : List LockId) × ((now b asks past).held c ≡ l ∷ rest) × LeavesShut b l cur.view × Runs b cur.whose rest cur.view (at.1 Passed) =
+      subst (λ (w : WalkTree). Runs b cur.whose ((now b asks past).held c) cur.view w) at.2 cur.runs in
+      sym (holder-told b asks past l) ∙ stands.holds c l (subst (λ (ls : List LockId). InLocks l ls) (sym runs.1) (inl refl))
+  locks_at (entry.Message c bus purpose part parts addr reading bytes heard e) past stands may = tt
+  locks_at (entry.Line c mux level failed) past stands may = tt
+  locks_at (entry.Settle c r cut) past stands may = tt
+
+  pub locks-kept : (past : List Entry) → IsStepwise b callers asks past → KeepsLocks b past
+  locks-kept [] steps = tt
+  locks-kept (e ∷ past) steps = (locks_at e past (past-stands past steps.1) steps.0, locks-kept past steps.1)
+
+  -- CLOSED
+  explained : (past : List Entry) (m c : ℕ) → Stands b (now b asks past) → (s : MuxSlot) → ((now b asks past).slot (home_of_mux b m)).slot ≡ s → Explains s m c
+      → IsSelectedBy b asks past m c ⊎ (mark_in s ≡ Some m)
+  explained past m c stands (Selected h) at e =
+      by_holder ((now b asks past).holder (lock.Mux (home_of_mux b m))) refl
+    where
+      by_holder : (o : Option ℕ) → (now b asks past).holder (lock.Mux (home_of_mux b m)) ≡ o → IsSelectedBy b asks past m c ⊎ (mark_in (Selected h) ≡ Some m)
+      by_holder None none = absurd (subst (λ (x : MuxSlot). IsShut x) at (stands.shut (home_of_mux b m) none).shut)
+      by_holder (Some k) has =
+          inl (record {
+            hop = h;
+            selected = at;
+            of_mux = e.0;
+            of_channel = e.1;
+            caller = k;
+            locked = sym (holder-told b asks past (lock.Mux (home_of_mux b m))) ∙ has;
+          })
+  explained past m c stands (Marked k) at e = inr (ap (λ (i : ℕ). Some i) e)
+  explained past m c stands Clean at e = absurd e
+  explained past m c stands (Polled h more) at e = absurd e
+  explained past m c stands (Found h) at e = absurd e
+
+  pub closed-kept : (past : List Entry) → IsStepwise b callers asks past → KeepsClosed b asks past
+  closed-kept past steps m c x at opens =
+      explained past m c (past-stands past steps) ((now b asks past).slot (home_of_mux b m)).slot refl
+      ((past-stands past steps).told.told.only m c x at opens)
+
+  -- OPEN PATHS
+  open_at : (e : Entry) (past : List Entry) → Stands b (now b asks past) → May b callers asks (now b asks past) e → IsOpenAt b asks e past
+  open_at (entry.Take c l) past stands may = tt
+  open_at (entry.Free c l) past stands may = tt
+  open_at (entry.Line c mux level failed) past stands may = tt
+  open_at (entry.Settle c r cut) past stands may = tt
+  open_at (entry.Message c bus purpose part parts addr reading bytes heard e) past stands may =
+      let cur = current-stands b tree lines asks some (now b asks past) c stands in
+      let at = first_is (current b asks (now b asks past) c) (Send may.2.0 may.2.1) may.2.2 in
+      let runs : MaySend b cur.whose may.2.0 may.2.1 at.0.marks ((now b asks past).held c) cur.view
+      × ((out : ActOutcome) → CanSend b may.2.0 may.2.1 out → Runs b cur.whose ((now b asks past).held c) (after_job may.2.0 may.2.1 at.0.marks out cur.view) (at.1 out)) =
+      subst (λ (w : WalkTree). Runs b cur.whose ((now b asks past).held c) cur.view w) at.2 cur.runs in
+      let sends = send_known b ((now b asks past).held c) cur.view (now b asks past).slot cur.agree cur.whose may.2.0 may.2.1 at.0.marks runs.0 in (
+        subst (λ (s : ℕ). list_all (opens_hop (world_at b asks past (root_of b s)).chips) (hops b s) ≡ true) (sym may.2.3.on_bus)
+            (path_open b tree plain (now b asks past).slot (now b asks past).worlds stands.told (job_bus may.2.0) (λ g a. (sends.reached g a).0)),
+        subst (λ (s : ℕ). HearsIn (world_at b asks past (root_of b s)) addr reading heard e) (sym may.2.3.on_bus) may.2.3.heard_told,
+      )
+
+  pub open-kept : (past : List Entry) → IsStepwise b callers asks past → KeepsPathsOpen b asks past
+  open-kept [] steps = tt
+  open-kept (e ∷ past) steps = (open_at e past (past-stands past steps.1) steps.0, open-kept past steps.1)

@@ -1,0 +1,172 @@
+-- Each mark is on the bus that its mux stands on, and that is a bus of the board. The inductions go over the muxes, the
+-- marks of one step, and the entries.
+use Rattle.std.proofs.Common.{◌≡◌, ℕ, zero, suc, ◌-◌, ◌<◌, Bool, true, false, cond, List, [], ◌∷◌, length, reverse, get_or, Option, Some, None, eqb, refl, sym, ◌∙◌, ap, subst, inl, inr, arith}
+use Rattle.std.proofs.lemmas.Bool.Decides.{eqb_tells}
+use Rattle.std.proofs.lemmas.List.{get_or-reverse, length-reverse}
+use Rattle.std.specs.Prelude.{slice_get, unwrap_or}
+use Rattle.std.specs.Option.{option_map}
+use Rattle.i2c_base.specs.declared.board.MuxSpec.{MuxSpec}
+use Rattle.i2c_base.specs.declared.ids.LockId.{LockId}
+use Rattle.i2c_base.specs.declared.entry.End.TheVariants as end
+use Rattle.i2c_base.specs.declared.entry.Entry.{Entry}
+use Rattle.i2c_base.specs.declared.entry.Entry.TheVariants as entry
+use Rattle.i2c_base.specs.Board.{BoardView}
+use Rattle.i2c_spec.specs.Tree.{Hop, buses, buses_of, home_of_mux}
+use Rattle.i2c_spec.specs.TreeFacts.{IsTree}
+use Rattle.i2c_spec.specs.Plain.{IsPlainBoard, IsPlanted}
+use Rattle.i2c_spec.specs.History.{Asks}
+use Rattle.i2c_spec.proofs.HopLemmas.{buses_of-cons, buses_of-reverse}
+use Rattle.bus_spec.specs.Walk.{Mark, Job, Call, Select, Clear, Act, Send, Shift, ActOutcome, Passed, Sent, Lined, Note, WalkTree, first_byte}
+use Rattle.bus_spec.specs.Slots.{Slots, At, MuxSlot, Clean, Selected, Marked, Polled, Found, mark_in, with_slot, set_marks, select_slot, after_select, after_clear, after_job}
+use Rattle.bus_spec.specs.Grammar.{first_note}
+use Rattle.bus_spec.specs.Past.{Now, current, now, mark, sent_by, lined_by}
+use Rattle.bus_spec.specs.Stepwise.{IsNext, IsStepwise}
+use Rattle.bus_laws.specs.Runs.{CanSend, CanShift, MayFail, MaySend, MayShift, Runs}
+use Rattle.bus_laws.specs.Lines.{LinesAreLocked}
+use Rattle.bus_laws.specs.Stands.{CallerStands}
+use Rattle.bus_laws.specs.Reach.{AsksForMessages}
+use Rattle.bus_laws.proofs.world.BoardFacts.{get_within}
+use Rattle.bus_laws.proofs.tree.Slots.{with_slot-same, with_slot-other, marked_slot}
+use Rattle.bus_laws.proofs.past.StandsFacts.{current-stands}
+use Rattle.bus_laws.proofs.past.StandsEntries.{first_is}
+use Rattle.bus_laws.proofs.past.Laws.{past-stands}
+
+-- THE BUS OF A MUX comes before its channels
+planted_home : (roots : ℕ) (ms : List MuxSpec) (k : ℕ) (d : MuxSpec) → IsPlanted roots ms → k < length ms → (get_or ms k d).bus < buses_of roots ms
+planted_home roots [] k d planted within = absurd (omega (arith, within))
+planted_home roots (m ∷ before) zero d planted within = omega (arith, planted.0, buses_of-cons roots m before)
+planted_home roots (m ∷ before) (suc k) d planted within =
+    omega (arith, planted_home roots before k d planted.1 (omega (arith, within)), buses_of-cons roots m before)
+
+listed_home : (roots : ℕ) (ms : List MuxSpec) (m : ℕ) (s : MuxSpec) → IsPlanted roots (reverse ms) → slice_get ms m ≡ Some s → s.bus < buses_of roots ms
+listed_home roots ms m s planted at =
+    let r = get_within ms m s s at in
+    let k : ℕ = length ms - 1 - m in
+    let back : get_or (reverse ms) k s ≡ s =
+    get_or-reverse ms k s (omega (arith, r.0)) ∙ ap (λ (i : ℕ). get_or ms i s) (let e : length ms - 1 - k ≡ m = omega (arith, r.0) in e) ∙ r.1 in
+    subst (λ (n : ℕ). s.bus < n) (buses_of-reverse roots ms)
+    (subst (λ (x : MuxSpec). x.bus < buses_of roots (reverse ms)) back
+    (planted_home roots (reverse ms) k s planted (omega (arith, r.0, length-reverse ms))))
+
+-- a mux that the board hasn't counts as one on its first root
+pub home_there : (b : BoardView) → IsPlainBoard b → (m : ℕ) → home_of_mux b m < buses b
+home_there b plain m = by (slice_get b.muxes m) refl
+  where
+    by : (o : Option MuxSpec) → slice_get b.muxes m ≡ o → home_of_mux b m < buses b
+    by None at = subst (λ (i : ℕ). i < buses b) (sym (ap (λ (o : Option MuxSpec). unwrap_or (option_map (λ (x : MuxSpec). x.bus) o) 0) at)) (omega (arith, plain.some_root))
+    by (Some s) at =
+        subst (λ (i : ℕ). i < buses b) (sym (ap (λ (o : Option MuxSpec). unwrap_or (option_map (λ (x : MuxSpec). x.bus) o) 0) at))
+        (listed_home (length b.roots) b.muxes m s plain.planted at)
+
+-- MARKS
+-- each is on the bus that its mux stands on
+abbrev AreHome : BoardView → Slots → Type 0
+AreHome b v = (p m : ℕ) → (v p).slot ≡ Marked m → home_of_mux b m ≡ p
+
+slot_home : (b : BoardView) (v : Slots) (on : ℕ) (s : MuxSlot) → AreHome b v → ((m : ℕ) → s ≡ Marked m → home_of_mux b m ≡ on) → AreHome b (with_slot v on s)
+slot_home b v on s homes own p m at =
+    elim (eqb_tells p on) [
+      | inl h ↦ own m (sym (ap (λ (x : At). x.slot) (with_slot-same v on s)) ∙ ap (λ (q : ℕ). (with_slot v on s q).slot) (sym h.1) ∙ at) ∙ sym h.1
+      | inr h ↦ homes p m (sym (ap (λ (x : At). x.slot) (with_slot-other v on p s h.1)) ∙ at)
+    ]
+
+clean_home : (b : BoardView) (v : Slots) (on : ℕ) (s : MuxSlot) → AreHome b v → mark_in s ≡ None → AreHome b (with_slot v on s)
+clean_home b v on s homes none =
+    slot_home b v on s homes (λ m e. absurd (let f : None ≡ Some m = sym none ∙ ap mark_in e in cc))
+
+marks_home : (b : BoardView) (held : List LockId) (w : Slots) (ms : List Mark) (v : Slots) → MayFail b ms held w → AreHome b v → AreHome b (set_marks ms v)
+marks_home b held w [] v fail homes = homes
+marks_home b held w (k ∷ ms) v fail homes =
+    slot_home b (set_marks ms v) k.on (Marked k.mux) (marks_home b held w ms v fail.1 homes)
+    (λ m e. subst (λ (i : ℕ). home_of_mux b i ≡ k.on) (let f : Marked k.mux ≡ Marked m = e in cc) fail.0.at_home)
+
+select_unmarked : (h : Hop) (left : ℕ) (bytes : List ℕ) → mark_in (select_slot h left bytes) ≡ None
+select_unmarked h zero bytes = refl
+select_unmarked h (suc zero) bytes = by (eqb (first_byte bytes) 0)
+  where
+    by : (t : Bool) → mark_in (cond t (Found h) Clean) ≡ None
+    by true = refl
+    by false = refl
+select_unmarked h (suc (suc left)) bytes = by (eqb (first_byte bytes) 0)
+  where
+    by : (t : Bool) → mark_in (cond t (Found h) (Polled h left)) ≡ None
+    by true = refl
+    by false = refl
+
+module _ (b : BoardView) (held : List LockId) (w : Slots) (marks : List Mark) (fail : MayFail b marks held w) (v : Slots) (homes : AreHome b v) where
+  failed_home : AreHome b (set_marks marks v)
+  failed_home = marks_home b held w marks v fail homes
+
+  select_home : (h : Hop) (left : ℕ) (out : ActOutcome) → AreHome b (after_select h left marks out v)
+  select_home h left (Sent end.Ok bytes) = clean_home b v h.on (select_slot h left bytes) homes (select_unmarked h left bytes)
+  select_home h left (Sent end.Nack bytes) = clean_home b v h.on Clean homes refl
+  select_home h left (Sent end.Slow bytes) = clean_home b v h.on Clean homes refl
+  select_home h left (Sent end.Refused bytes) = clean_home b v h.on Clean homes refl
+  select_home h left (Sent end.Proto bytes) = clean_home b v h.on Clean homes refl
+  select_home h left (Sent (end.Cut q) bytes) = failed_home
+  select_home h left (Lined true) = failed_home
+  select_home h left (Lined false) = clean_home b v h.on (Selected h) homes refl
+  select_home h left Passed = homes
+
+  clear_home : (on : ℕ) (out : ActOutcome) → AreHome b (after_clear on marks out v)
+  clear_home on (Sent end.Ok bytes) = clean_home b v on Clean homes refl
+  clear_home on (Sent end.Nack bytes) = clean_home b v on Clean homes refl
+  clear_home on (Sent end.Slow bytes) = clean_home b v on Clean homes refl
+  clear_home on (Sent end.Refused bytes) = clean_home b v on Clean homes refl
+  clear_home on (Sent end.Proto bytes) = clean_home b v on Clean homes refl
+  clear_home on (Sent (end.Cut q) bytes) = failed_home
+  clear_home on (Lined true) = failed_home
+  clear_home on (Lined false) = clean_home b v on Clean homes refl
+  clear_home on Passed = homes
+
+  job_home : (job : Job) (left : ℕ) (out : ActOutcome) → AreHome b (after_job job left marks out v)
+  job_home (Call bus ms) left out = homes
+  job_home (Select h) left out = select_home h left out
+  job_home (Clear on mux kind) left out = clear_home on out
+
+-- EVERY PAST
+module _ (b : BoardView) (tree : IsTree b) (plain : IsPlainBoard b) (lines : LinesAreLocked b) (asks : Asks) (some : AsksForMessages asks) (callers : ℕ) where
+  -- what a message or line step marks where it fails by the port
+  module _ (past : List Entry) (steps : IsStepwise b callers asks past) (c : ℕ) where
+    abbrev n : Now
+    n = now b asks past
+
+    cur : CallerStands b (n.held c) (current b asks n c) n.slot
+    cur = current-stands b tree lines asks some n c (past-stands b tree plain lines asks some callers past steps)
+
+    sent_fail : (job : Job) (left : ℕ) → IsNext b asks n c (Send job left) → MayFail b (first_note (current b asks n c)).marks (n.held c) cur.view
+    sent_fail job left first =
+        let at = first_is (current b asks n c) (Send job left) first in
+        let runs : MaySend b cur.whose job left at.0.marks (n.held c) cur.view
+        × ((out : ActOutcome) → CanSend b job left out → Runs b cur.whose (n.held c) (after_job job left at.0.marks out cur.view) (at.1 out)) =
+        subst (λ (w : WalkTree). Runs b cur.whose (n.held c) cur.view w) at.2 cur.runs in
+        subst (λ (w : WalkTree). MayFail b (first_note w).marks (n.held c) cur.view) (sym at.2) runs.0.may_fail
+
+    lined_fail : (job : Job) → IsNext b asks n c (Shift job) → MayFail b (first_note (current b asks n c)).marks (n.held c) cur.view
+    lined_fail job first =
+        let at = first_is (current b asks n c) (Shift job) first in
+        let runs : MayShift b job at.0.marks (n.held c) cur.view
+        × ((out : ActOutcome) → CanShift b job out → Runs b cur.whose (n.held c) (after_job job 0 at.0.marks out cur.view) (at.1 out)) =
+        subst (λ (w : WalkTree). Runs b cur.whose (n.held c) cur.view w) at.2 cur.runs in
+        subst (λ (w : WalkTree). MayFail b (first_note w).marks (n.held c) cur.view) (sym at.2) runs.0.may_fail
+
+  -- THE INDUCTION over the entries
+  pub marks-home : (past : List Entry) → IsStepwise b callers asks past → AreHome b (now b asks past).slot
+  marks-home [] steps = λ p m e. absurd (let f : Clean ≡ Marked m = e in cc)
+  marks-home (entry.Take c l ∷ past) steps = marks-home past steps.1
+  marks-home (entry.Free c l ∷ past) steps = marks-home past steps.1
+  marks-home (entry.Settle c r cut ∷ past) steps = marks-home past steps.1
+  marks-home (entry.Message c bus purpose part parts addr reading bytes heard e ∷ past) steps =
+      let note : Note = first_note (current b asks (now b asks past) c) in
+      subst (λ (o : Option Act). AreHome b (sent_by b (now b asks past) c o note reading bytes e).slot) (sym steps.0.2.2)
+      (job_home b ((now b asks past).held c) (cur past steps.1 c).view note.marks (sent_fail past steps.1 c steps.0.2.0 steps.0.2.1 steps.0.2.2)
+      (now b asks past).slot (marks-home past steps.1) steps.0.2.0 steps.0.2.1 (Sent e bytes))
+  marks-home (entry.Line c mux level failed ∷ past) steps =
+      let note : Note = first_note (current b asks (now b asks past) c) in
+      subst (λ (o : Option Act). AreHome b (lined_by b (now b asks past) o note failed).slot) (sym steps.0.2.1)
+      (job_home b ((now b asks past).held c) (cur past steps.1 c).view note.marks (lined_fail past steps.1 c steps.0.2.0 steps.0.2.1)
+      (now b asks past).slot (marks-home past steps.1) steps.0.2.0 0 (Lined failed))
+
+  pub mark-there : (past : List Entry) → IsStepwise b callers asks past → (p m : ℕ) → mark b asks past p ≡ Some m → p < buses b
+  mark-there past steps p m at =
+      subst (λ (i : ℕ). i < buses b) (marks-home past steps p m (marked_slot ((now b asks past).slot p).slot m at)) (home_there b plain m)

@@ -1,0 +1,83 @@
+-- What stands at the opening: nobody has a lock, and every channel is closed.
+use Rattle.std.proofs.Common.{◌≡◌, ℕ, ◌+◌, true, false, map, Option, Some, None, refl, sym, ◌∙◌, ap, subst, arith}
+use Rattle.std.specs.Prelude.{slice_get, unwrap_or}
+use Rattle.std.specs.Option.{option_map}
+use Rattle.std.proofs.lemmas.Option.{slice_get-map}
+use Rattle.std.proofs.lemmas.List.{length-map}
+use Rattle.i2c_base.specs.declared.board.MuxKind.{MuxKind}
+use Rattle.i2c_base.specs.declared.board.MuxKind.TheVariants.{Pca9548, Pca9546, Pca9544, Pca9541, Gpio}
+use Rattle.i2c_base.specs.declared.board.MuxSpec.{MuxSpec}
+use Rattle.i2c_base.specs.Board.{BoardView}
+use Rattle.i2c_base.specs.Transfer.{TransferView}
+use Rattle.i2c_spec.specs.Chips.{ChipView, opens, is_open, chip_opening}
+use Rattle.i2c_spec.specs.World.{opening_world}
+use Rattle.bus_spec.specs.Slots.{Clean, Selected, Marked, Polled, Found, all_clean}
+use Rattle.bus_spec.specs.Past.{opening}
+use Rattle.bus_laws.specs.Told.{IsChipOf, WorldTold}
+use Rattle.bus_laws.specs.Stands.{Stands}
+use Rattle.bus_laws.proofs.tree.Slots.{eqb-apart}
+use Rattle.bus_laws.proofs.world.ChipLaws.{bit_zero}
+
+-- the chip of a number, as it is opened
+opened_as : (o : Option MuxSpec) (x : ChipView) → option_map chip_opening o ≡ Some x → (s : MuxSpec) × (o ≡ Some s) × (x ≡ chip_opening s)
+opened_as None x e = absurd (let f : None ≡ Some x = e in cc)
+opened_as (Some s) x e = (s, refl, (let f : Some (chip_opening s) ≡ Some x = e in cc))
+
+opening_chip : (b : BoardView) (i : ℕ) (x : ChipView) → slice_get (map chip_opening b.muxes) i ≡ Some x
+    → (s : MuxSpec) × (slice_get b.muxes i ≡ Some s) × (x ≡ chip_opening s)
+opening_chip b i x e = opened_as (slice_get b.muxes i) x (sym (slice_get-map chip_opening b.muxes i) ∙ e)
+
+opens_nothing : (k : MuxKind) (c : ℕ) → opens k 0 c ≡ false
+opens_nothing Pca9548 c = bit_zero c
+opens_nothing Pca9546 c = bit_zero c
+opens_nothing Pca9544 c = refl
+opens_nothing Pca9541 c = refl
+opens_nothing Gpio c = eqb-apart 0 (c + 1) (λ e. absurd (omega arith))
+
+closed_at_first : (b : BoardView) (i c : ℕ) (x : ChipView) → slice_get (map chip_opening b.muxes) i ≡ Some x → is_open x c ≡ false
+closed_at_first b i c x e =
+    let s = opening_chip b i x e in ap (λ (y : ChipView). is_open y c) s.2 ∙ opens_nothing s.0.kind c
+
+told_kept : (b : BoardView) (m : ℕ) (x : ChipView) → slice_get (map chip_opening b.muxes) m ≡ Some x → IsChipOf b m x
+told_kept b m x e =
+    let s = opening_chip b m x e in
+    subst (λ (y : ChipView). IsChipOf b m y) (sym s.2) (record {
+      kind = ap (λ (o : Option MuxSpec). unwrap_or (option_map (λ (y : MuxSpec). Some y.kind) o) None) s.1;
+      foreign = ap (λ (o : Option MuxSpec). unwrap_or (option_map (λ (y : MuxSpec). y.foreign) o) 0) s.1;
+      left = omega arith;
+      waiting = refl;
+    })
+
+opening_told : (b : BoardView) → WorldTold b all_clean (opening_world b)
+opening_told b =
+    record {
+      board = λ r. refl;
+      root = λ r. refl;
+      count = λ r. length-map b.muxes chip_opening;
+      rest = λ r i x e. (let s = opening_chip b i x e in ap (λ (y : ChipView). y.waiting) s.2);
+      told = record {
+        kept = λ m x e. told_kept b m x e;
+        opened = λ p h e. absurd (let f : Clean ≡ Selected h = e in cc);
+        polled = λ p h n x e at. absurd (let f : Clean ≡ Polled h n = e in cc);
+        found = λ p h x e at. absurd (let f : Clean ≡ Found h = e in cc);
+        asked = λ p h n e. absurd (let f : Clean ≡ Polled h n = e in cc);
+        free = λ p h e. absurd (let f : Clean ≡ Found h = e in cc);
+        only = λ m c x at is. absurd (let f : false ≡ true = sym (closed_at_first b m c x at) ∙ is in cc);
+        absent = λ m c x gone at. closed_at_first b m c x at;
+      };
+    }
+
+pub opening-stands : (b : BoardView) (nobody : TransferView) → Stands b (opening b)
+opening-stands b nobody =
+    record {
+      callers = λ c. record { whose = nobody; view = all_clean; runs = refl; agree = λ p i. absurd i };
+      holds = λ c l i. absurd i;
+      has = λ c l e. absurd (let f : None ≡ Some c = e in cc);
+      once = λ c. tt;
+      shut = λ p e. record {
+        shut = tt;
+        home = λ m f. absurd (let g : Clean ≡ Marked m = f in cc);
+        known = λ m f. absurd (let g : Clean ≡ Marked m = f in cc);
+      };
+      told = opening_told b;
+    }

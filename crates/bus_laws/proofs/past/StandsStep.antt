@@ -1,0 +1,190 @@
+-- One more entry keeps what stands: a step of one caller, and all the others as they were.
+use Rattle.std.proofs.Common.{◌≡◌, ℕ, zero, Bool, true, false, cond, List, [], ◌∷◌, Option, Some, None, refl, sym, ◌∙◌, ap, subst, ◌⊎◌, inl, inr}
+use Rattle.std.proofs.lemmas.Bool.Decides.{eqb_tells}
+use Rattle.i2c_base.specs.declared.ids.LockId.{LockId}
+use Rattle.i2c_base.specs.declared.ids.LockId.TheVariants as lock
+use Rattle.i2c_base.specs.declared.entry.End.TheVariants as end
+use Rattle.i2c_base.specs.Board.{BoardView}
+use Rattle.i2c_base.specs.Transfer.{TransferView}
+use Rattle.i2c_spec.specs.Tree.{Hop}
+use Rattle.i2c_spec.specs.World.{World}
+use Rattle.i2c_spec.specs.History.{changed_at}
+use Rattle.bus_spec.specs.Walk.{Mark, Job, Call, Select, Clear, ActOutcome, Passed, Sent, Lined, WalkTree, is_arbitrator}
+use Rattle.bus_spec.specs.Slots.{Slots, At, MuxSlot, Clean, Selected, with_slot, set_marks, after_job, after_select, after_clear, select_slot}
+use Rattle.bus_spec.specs.Readings.{is_lock}
+use Rattle.bus_laws.specs.Runs.{InLocks, IsRest, IsOfMux, FindsOpen, FindsSelect, Finds, MayFail, Owns, MaySend, MayShift}
+use Rattle.bus_laws.specs.Stands.{CallerStands, StandsIn, IsOnce}
+use Rattle.bus_laws.specs.Told.{WorldTold}
+use Rattle.bus_laws.proofs.tree.Slots.{with_slot-other, with_slot-along, set_marks-along}
+
+-- the test of two locks tells whether they are one
+pub lock_tells : (l k : LockId) → ((is_lock l k ≡ true) × (l ≡ k)) ⊎ ((is_lock l k ≡ false) × (l ≡ k → ⊥))
+lock_tells (lock.Bus r) (lock.Bus s) =
+    elim (eqb_tells r s) [ inl h ↦ inl (h.0, ap lock.Bus h.1) | inr h ↦ inr (h.0, λ e. h.1 (let f : lock.Bus r ≡ lock.Bus s = e in cc)) ]
+lock_tells (lock.Bus r) (lock.Mux q) = inr (refl, λ e. let f : lock.Bus r ≡ lock.Mux q = e in cc)
+lock_tells (lock.Mux p) (lock.Bus s) = inr (refl, λ e. let f : lock.Mux p ≡ lock.Bus s = e in cc)
+lock_tells (lock.Mux p) (lock.Mux q) =
+    elim (eqb_tells p q) [ inl h ↦ inl (h.0, ap lock.Mux h.1) | inr h ↦ inr (h.0, λ e. h.1 (let f : lock.Mux p ≡ lock.Mux q = e in cc)) ]
+
+pub at_same : {X : Type 0} (f : ℕ → X) (c : ℕ) (x : X) → changed_at f c x c ≡ x
+at_same f c x =
+    elim (eqb_tells c c) [ inl h ↦ ap (λ (t : Bool). cond t x (f c)) h.0 | inr h ↦ absurd (h.1 refl) ]
+
+pub at_other : {X : Type 0} (f : ℕ → X) (c : ℕ) (x : X) (d : ℕ) → (d ≡ c → ⊥) → changed_at f c x d ≡ f d
+at_other f c x d ne =
+    elim (eqb_tells d c) [ inl h ↦ absurd (ne h.1) | inr h ↦ ap (λ (t : Bool). cond t x (f d)) h.0 ]
+
+-- a step changes what is known only on buses whose locks its caller holds
+marks_off_held : (b : BoardView) (held : List LockId) (v : Slots) (ms : List Mark) (p : ℕ) → MayFail b ms held v → (InLocks (lock.Mux p) held → ⊥)
+    → (w : Slots) → set_marks ms w p ≡ w p
+marks_off_held b held v [] p fail off w = refl
+marks_off_held b held v (m ∷ ms) p fail off w =
+    with_slot-other (set_marks ms w) m.on p _ (λ e. off (subst (λ (q : ℕ). InLocks (lock.Mux q) held) (sym e) fail.0.locked))
+    ∙ marks_off_held b held v ms p fail.1 off w
+
+module _ (b : BoardView) (held : List LockId) (v : Slots) (marks : List Mark) (p : ℕ) (fail : MayFail b marks held v) (off : InLocks (lock.Mux p) held → ⊥) where
+  own_off : (on : ℕ) (s : MuxSlot) (w : Slots) → InLocks (lock.Mux on) held → with_slot w on s p ≡ w p
+  own_off on s w locked = with_slot-other w on p s (λ e. off (subst (λ (q : ℕ). InLocks (lock.Mux q) held) (sym e) locked))
+
+  select_off : (h : Hop) (left : ℕ) (out : ActOutcome) (w : Slots) → InLocks (lock.Mux h.on) held → after_select h left marks out w p ≡ w p
+  select_off h left (Sent end.Ok bytes) w locked = own_off h.on (select_slot h left bytes) w locked
+  select_off h left (Sent end.Nack bytes) w locked = own_off h.on Clean w locked
+  select_off h left (Sent end.Slow bytes) w locked = own_off h.on Clean w locked
+  select_off h left (Sent end.Refused bytes) w locked = own_off h.on Clean w locked
+  select_off h left (Sent end.Proto bytes) w locked = own_off h.on Clean w locked
+  select_off h left (Sent (end.Cut q) bytes) w locked = marks_off_held b held v marks p fail off w
+  select_off h left (Lined true) w locked = marks_off_held b held v marks p fail off w
+  select_off h left (Lined false) w locked = own_off h.on (Selected h) w locked
+  select_off h left Passed w locked = refl
+
+  clear_off : (on : ℕ) (out : ActOutcome) (w : Slots) → InLocks (lock.Mux on) held → after_clear on marks out w p ≡ w p
+  clear_off on (Sent end.Ok bytes) w locked = own_off on Clean w locked
+  clear_off on (Sent end.Nack bytes) w locked = own_off on Clean w locked
+  clear_off on (Sent end.Slow bytes) w locked = own_off on Clean w locked
+  clear_off on (Sent end.Refused bytes) w locked = own_off on Clean w locked
+  clear_off on (Sent end.Proto bytes) w locked = own_off on Clean w locked
+  clear_off on (Sent (end.Cut q) bytes) w locked = marks_off_held b held v marks p fail off w
+  clear_off on (Lined true) w locked = marks_off_held b held v marks p fail off w
+  clear_off on (Lined false) w locked = own_off on Clean w locked
+  clear_off on Passed w locked = refl
+
+  pub job_off : (job : Job) (left : ℕ) (out : ActOutcome) (w : Slots) → Owns job marks held → after_job job left marks out w p ≡ w p
+  job_off (Call bus ms) left out w owns = refl
+  job_off (Select h) left out w owns = select_off h left out w owns.0
+  job_off (Clear on mux kind) left out w owns = clear_off on out w owns.0
+
+-- and is the same step where what is known is the same
+select_same : (h : Hop) (left : ℕ) (marks : List Mark) (out : ActOutcome) (v w : Slots) (p : ℕ) → v p ≡ w p → after_select h left marks out v p ≡ after_select h left marks out w p
+select_same h left marks (Sent end.Ok bytes) v w p e = with_slot-along v w h.on p (select_slot h left bytes) e
+select_same h left marks (Sent end.Nack bytes) v w p e = with_slot-along v w h.on p Clean e
+select_same h left marks (Sent end.Slow bytes) v w p e = with_slot-along v w h.on p Clean e
+select_same h left marks (Sent end.Refused bytes) v w p e = with_slot-along v w h.on p Clean e
+select_same h left marks (Sent end.Proto bytes) v w p e = with_slot-along v w h.on p Clean e
+select_same h left marks (Sent (end.Cut q) bytes) v w p e = set_marks-along marks v w p e
+select_same h left marks (Lined true) v w p e = set_marks-along marks v w p e
+select_same h left marks (Lined false) v w p e = with_slot-along v w h.on p (Selected h) e
+select_same h left marks Passed v w p e = e
+
+clear_same : (on : ℕ) (marks : List Mark) (out : ActOutcome) (v w : Slots) (p : ℕ) → v p ≡ w p → after_clear on marks out v p ≡ after_clear on marks out w p
+clear_same on marks (Sent end.Ok bytes) v w p e = with_slot-along v w on p Clean e
+clear_same on marks (Sent end.Nack bytes) v w p e = with_slot-along v w on p Clean e
+clear_same on marks (Sent end.Slow bytes) v w p e = with_slot-along v w on p Clean e
+clear_same on marks (Sent end.Refused bytes) v w p e = with_slot-along v w on p Clean e
+clear_same on marks (Sent end.Proto bytes) v w p e = with_slot-along v w on p Clean e
+clear_same on marks (Sent (end.Cut q) bytes) v w p e = set_marks-along marks v w p e
+clear_same on marks (Lined true) v w p e = set_marks-along marks v w p e
+clear_same on marks (Lined false) v w p e = with_slot-along v w on p Clean e
+clear_same on marks Passed v w p e = e
+
+pub job_same : (job : Job) (left : ℕ) (marks : List Mark) (out : ActOutcome) (v w : Slots) (p : ℕ) → v p ≡ w p → after_job job left marks out v p ≡ after_job job left marks out w p
+job_same (Call bus ms) left marks out v w p e = e
+job_same (Select h) left marks out v w p e = select_same h left marks out v w p e
+job_same (Clear on mux kind) left marks out v w p e = clear_same on marks out v w p e
+
+-- what a caller knows is so, so what it may do from what it knows it may do
+module _ (b : BoardView) (held : List LockId) (v w : Slots) (agree : (p : ℕ) → InLocks (lock.Mux p) held → v p ≡ w p) where
+  fail_known : (ms : List Mark) → MayFail b ms held v → MayFail b ms held w
+  fail_known [] fail = tt
+  fail_known (m ∷ ms) fail = (
+    record { locked = fail.0.locked; at_home = fail.0.at_home; forgets = subst (λ (x : At). IsOfMux m.mux x.slot) (agree m.on fail.0.locked) fail.0.forgets },
+    fail_known ms fail.1,
+  )
+
+  finds_known : (job : Job) (left : ℕ) (marks : List Mark) → Owns job marks held → Finds b job left v → Finds b job left w
+  finds_known (Call bus ms) left marks owns f = tt
+  finds_known (Select h) left marks owns f =
+      (subst (λ (x : At). FindsSelect (is_arbitrator h.kind) h left x.slot) (agree h.on owns.0) f.0, f.1, f.2)
+  finds_known (Clear on mux kind) left marks owns f = (subst (λ (x : At). FindsOpen mux x.slot) (agree on owns.0) f.0, f.1, f.2)
+
+  pub send_known : (whose : TransferView) (job : Job) (left : ℕ) (marks : List Mark) → MaySend b whose job left marks held v → MaySend b whose job left marks held w
+  send_known whose job left marks may =
+      record {
+        reached = λ g a. (sym (ap (λ (x : At). x.slot) (agree g.on (may.reached g a).1)) ∙ (may.reached g a).0, (may.reached g a).1);
+        rooted = may.rooted;
+        finds = finds_known job left marks may.owns may.finds;
+        owns = may.owns;
+        may_fail = fail_known marks may.may_fail;
+        granted = may.granted;
+        by_message = may.by_message;
+      }
+
+  pub shift_known : (job : Job) (marks : List Mark) → MayShift b job marks held v → MayShift b job marks held w
+  shift_known job marks may =
+      record {
+        by_line = may.by_line;
+        rooted = may.rooted;
+        finds = finds_known job zero marks may.owns may.finds;
+        owns = may.owns;
+        may_fail = fail_known marks may.may_fail;
+      }
+
+-- one caller's locks, walk and bus are new, all the others' as they were
+module _ (b : BoardView) (walk : ℕ → WalkTree) (held : ℕ → List LockId) (holder : LockId → Option ℕ) (slot : Slots) (worlds : ℕ → World)
+    (old : StandsIn b walk held holder slot worlds) (c : ℕ) where
+  pub record Turn (walk2 : ℕ → WalkTree) (held2 : ℕ → List LockId) (holder2 : LockId → Option ℕ) (slot2 : Slots) (worlds2 : ℕ → World) : Type 0 where
+    pub own : CallerStands b (held2 c) (walk2 c) slot2
+    pub walks : (d : ℕ) → (d ≡ c → ⊥) → walk2 d ≡ walk d
+    pub locks : (d : ℕ) → (d ≡ c → ⊥) → held2 d ≡ held d
+    pub slots : (d p : ℕ) → (d ≡ c → ⊥) → InLocks (lock.Mux p) (held d) → slot2 p ≡ slot p
+    pub own_holds : (l : LockId) → InLocks l (held2 c) → holder2 l ≡ Some c
+    pub holds : (d : ℕ) (l : LockId) → (d ≡ c → ⊥) → InLocks l (held d) → holder2 l ≡ Some d
+    pub own_has : (l : LockId) → holder2 l ≡ Some c → InLocks l (held2 c)
+    pub has : (d : ℕ) (l : LockId) → (d ≡ c → ⊥) → holder2 l ≡ Some d → InLocks l (held d)
+    pub own_once : IsOnce (held2 c)
+    pub shut : (p : ℕ) → holder2 (lock.Mux p) ≡ None → IsRest b p (slot2 p)
+    pub told : WorldTold b slot2 worlds2
+
+  pub turned : (walk2 : ℕ → WalkTree) (held2 : ℕ → List LockId) (holder2 : LockId → Option ℕ) (slot2 : Slots) (worlds2 : ℕ → World)
+      → Turn walk2 held2 holder2 slot2 worlds2 → StandsIn b walk2 held2 holder2 slot2 worlds2
+  turned walk2 held2 holder2 slot2 worlds2 turn =
+      record {
+        callers = λ d. elim (eqb_tells d c) [
+          | inl h ↦ subst (λ (i : ℕ). CallerStands b (held2 i) (walk2 i) slot2) (sym h.1) turn.own
+          | inr h ↦ subst (λ (w : WalkTree). CallerStands b (held2 d) w slot2) (sym (turn.walks d h.1))
+              (subst (λ (ls : List LockId). CallerStands b ls (walk d) slot2) (sym (turn.locks d h.1))
+              (record {
+                whose = (old.callers d).whose;
+                view = (old.callers d).view;
+                runs = (old.callers d).runs;
+                agree = λ p i. (old.callers d).agree p i ∙ sym (turn.slots d p h.1 i);
+              }))
+        ];
+        holds = λ d l i. elim (eqb_tells d c) [
+          | inl h ↦ turn.own_holds l (subst (λ (j : ℕ). InLocks l (held2 j)) h.1 i) ∙ ap Some (sym h.1)
+          | inr h ↦ turn.holds d l h.1 (subst (λ (ls : List LockId). InLocks l ls) (turn.locks d h.1) i)
+        ];
+        has = λ d l e. elim (eqb_tells d c) [
+          | inl h ↦ subst (λ (j : ℕ). InLocks l (held2 j)) (sym h.1) (turn.own_has l (e ∙ ap Some h.1))
+          | inr h ↦ subst (λ (ls : List LockId). InLocks l ls) (sym (turn.locks d h.1)) (turn.has d l h.1 e)
+        ];
+        once = λ d. elim (eqb_tells d c) [
+          | inl h ↦ subst (λ (j : ℕ). IsOnce (held2 j)) (sym h.1) turn.own_once
+          | inr h ↦ subst (λ (ls : List LockId). IsOnce ls) (sym (turn.locks d h.1)) (old.once d)
+        ];
+        shut = turn.shut;
+        told = turn.told;
+      }
+
+  -- two callers share no lock
+  pub apart_of : (d : ℕ) (l : LockId) → (d ≡ c → ⊥) → InLocks l (held d) → InLocks l (held c) → ⊥
+  apart_of d l ne i j = ne (let e : Some d ≡ Some c = sym (old.holds d l i) ∙ old.holds c l j in cc)

@@ -1,0 +1,10 @@
+-- How often a walk settles and what that decides, whose messages it sends and on which buses, what it weighs, and a
+-- walk one step on.
+pub mod SettleLaw
+pub mod Calls
+pub mod First
+pub mod Jobs
+pub mod MessageFacts
+pub mod VerdictLaw
+pub mod CostLaw
+pub mod Next

@@ -1,0 +1,185 @@
+-- The world law for a line step: the line of a gpio mux opens one channel, or closes it.
+use Rattle.std.proofs.Common.{◌≡◌, ℕ, zero, suc, ◌+◌, Bool, true, false, cond, List, [], ◌∷◌, length, Option, Some, None, eqb, refl, sym, ◌∙◌, ap, subst, inl, inr}
+use Rattle.std.specs.Prelude.{slice_get, slice_set, unwrap_or}
+use Rattle.std.specs.Option.{option_map, option_map_or}
+use Rattle.std.proofs.lemmas.Bool.Decides.{eqb_tells}
+use Rattle.std.proofs.Math.ListN.{length-set}
+use Rattle.std.proofs.Math.Dec.{eqb-zero-suc, eqb-suc-zero, eqb-suc-suc}
+use Rattle.i2c_base.specs.declared.board.MuxKind.{MuxKind}
+use Rattle.i2c_base.specs.declared.board.MuxKind.TheVariants.{Pca9548, Pca9546, Pca9544, Pca9541, Gpio}
+use Rattle.i2c_base.specs.declared.board.MuxSpec.{MuxSpec}
+use Rattle.i2c_base.specs.declared.ids.LockId.{LockId}
+use Rattle.i2c_base.specs.Board.{BoardView}
+use Rattle.i2c_spec.specs.Tree.{Hop, root_of, home_of_mux, is_absent}
+use Rattle.i2c_spec.specs.TreeFacts.{IsTree, IsHop}
+use Rattle.i2c_spec.specs.Plain.{IsPlainBoard, IsPlainMux, FitsChip}
+use Rattle.i2c_spec.specs.Chips.{ChipView, is_open, at_level, select_value}
+use Rattle.i2c_spec.specs.World.{World, after, set_level, stopped}
+use Rattle.i2c_spec.specs.History.{changed_at}
+use Rattle.bus_spec.specs.Walk.{Mark, Job, Call, Select, Clear, Lined, job_bus, is_gpio}
+use Rattle.bus_spec.specs.Slots.{Slots, At, MuxSlot, Clean, Selected, Polled, Found, with_slot, set_marks, after_job}
+use Rattle.bus_spec.specs.Past.{line_call}
+use Rattle.bus_laws.specs.Runs.{IsMuxOf, IsOfMux, MayFail, MayShift}
+use Rattle.bus_laws.specs.Told.{chip_in, WorldTold}
+use Rattle.bus_laws.proofs.tree.Slots.{with_slot-same, with_slot-other}
+use Rattle.bus_laws.proofs.world.Control.{Changes, stopped-chips}
+use Rattle.bus_laws.proofs.world.ChipLaws.{level_opens, level_closes, SameSort}
+use Rattle.bus_laws.proofs.world.Slots.{set_marks-only, told-marks, SlotTold, told-turned}
+use Rattle.bus_laws.proofs.world.BoardFacts.{mux_at, get_same_length, plain_mux, not_held}
+use Rattle.bus_laws.proofs.world.Law.{whole, replaced-chip, still_none, world_replaced}
+use Rattle.bus_laws.proofs.world.Jobs.{told_equal}
+use Rattle.bus_laws.proofs.world.Sends.{own_select, own_open, same_chip_in}
+
+get-set : (xs : List ChipView) (i j : ℕ) (y : ChipView) → slice_get (slice_set xs i y) j ≡ option_map (λ (x : ChipView). cond (eqb j i) y x) (slice_get xs j)
+get-set [] i j y = refl
+get-set (x ∷ xs) zero zero y = refl
+get-set (x ∷ xs) zero (suc j) y =
+    sym (kept (slice_get xs j)) ∙ sym (ap (λ (t : Bool). option_map (λ (z : ChipView). cond t y z) (slice_get xs j)) (eqb-suc-zero j))
+  where
+    kept : (o : Option ChipView) → option_map (λ (z : ChipView). cond false y z) o ≡ o
+    kept None = refl
+    kept (Some z) = refl
+get-set (x ∷ xs) (suc i) zero y = sym (ap (λ (t : Bool). Some (cond t y x)) (eqb-zero-suc i))
+get-set (x ∷ xs) (suc i) (suc j) y =
+    get-set xs i j y ∙ sym (ap (λ (t : Bool). option_map (λ (z : ChipView). cond t y z) (slice_get xs j)) (eqb-suc-suc j i))
+
+-- the level of one mux is set
+level_changes : (cs : List ChipView) (m level : ℕ) → Changes cs (set_level cs m level) m (λ x. at_level x level)
+level_changes cs m level j = by_chip (slice_get cs m) refl
+  where
+    own : (c : ChipView) → slice_get cs m ≡ Some c → (o : Option ChipView) → slice_get cs j ≡ o
+        → option_map (λ (x : ChipView). cond (eqb j m) (at_level c level) x) o ≡ option_map (λ (x : ChipView). cond (eqb j m) (at_level x level) x) o
+    own c e None f = refl
+    own c e (Some x) f = elim (eqb_tells j m) [
+      | inl h ↦ (let same : c ≡ x = (let g : Some c ≡ Some x = sym e ∙ ap (λ (i : ℕ). slice_get cs i) (sym h.1) ∙ f in cc) in
+          ap (λ (z : ChipView). Some (cond (eqb j m) (at_level z level) x)) same)
+      | inr h ↦ ap (λ (t : Bool). Some (cond t (at_level c level) x)) h.0 ∙ sym (ap (λ (t : Bool). Some (cond t (at_level x level) x)) h.0)
+    ]
+
+    none_at : slice_get cs m ≡ None → (o : Option ChipView) → slice_get cs j ≡ o → o ≡ option_map (λ (x : ChipView). cond (eqb j m) (at_level x level) x) o
+    none_at e None f = refl
+    none_at e (Some x) f = elim (eqb_tells j m) [
+      | inl h ↦ absurd (let g : None ≡ Some x = sym e ∙ ap (λ (i : ℕ). slice_get cs i) (sym h.1) ∙ f in cc)
+      | inr h ↦ sym (ap (λ (t : Bool). Some (cond t (at_level x level) x)) h.0)
+    ]
+
+    by_chip : (o : Option ChipView) → slice_get cs m ≡ o
+        → slice_get (option_map_or (λ (c : ChipView). slice_set cs m (at_level c level)) o cs) j ≡ option_map (λ (x : ChipView). cond (eqb j m) (at_level x level) x) (slice_get cs j)
+    by_chip None e = none_at e (slice_get cs j) refl
+    by_chip (Some c) e = get-set cs m j (at_level c level) ∙ own c e (slice_get cs j) refl
+
+length-level : (cs : List ChipView) (m level : ℕ) → length (set_level cs m level) ≡ length cs
+length-level cs m level = by_chip (slice_get cs m)
+  where
+    by_chip : (o : Option ChipView) → length (option_map_or (λ (c : ChipView). slice_set cs m (at_level c level)) o cs) ≡ length cs
+    by_chip None = refl
+    by_chip (Some c) = length-set cs m (at_level c level)
+
+level_sort : (x : ChipView) (level : ℕ) → SameSort x (at_level x level)
+level_sort x level = record { kind = refl; foreign = refl; left = λ h. h; waiting = λ e. e }
+
+gpio_kind : (k : MuxKind) → is_gpio k ≡ true → k ≡ Gpio
+gpio_kind Gpio e = refl
+gpio_kind Pca9548 e = absurd (let f : false ≡ true = e in cc)
+gpio_kind Pca9546 e = absurd (let f : false ≡ true = e in cc)
+gpio_kind Pca9544 e = absurd (let f : false ≡ true = e in cc)
+gpio_kind Pca9541 e = absurd (let f : false ≡ true = e in cc)
+
+-- a gpio mux has no chip that could be absent
+gpio_here : (b : BoardView) → IsPlainBoard b → (m : ℕ) → IsMuxOf b m Gpio → is_absent b m ≡ false
+gpio_here b plain m known =
+    let s = mux_at b m Gpio known in
+    let p : IsPlainMux s.0 = plain_mux b plain m s.0 s.1 in
+    ap (λ (o : Option MuxSpec). unwrap_or (option_map (λ (x : MuxSpec). x.absent) o) true) s.1
+    ∙ (let f : FitsChip Gpio s.0.addr s.0.absent = subst (λ (k : MuxKind). FitsChip k s.0.addr s.0.absent) s.2 p.chip in f.1)
+
+module _ (b : BoardView) (plain : IsPlainBoard b) (v : Slots) (ws : ℕ → World) (world : WorldTold b v ws)
+    (p m : ℕ) (known : IsMuxOf b m Gpio) (home : home_of_mux b m ≡ p)
+    (held : List LockId) (marks : List Mark) (fail : MayFail b marks held v) (own : IsOfMux m (v p).slot) where
+  root_home : root_of b (home_of_mux b m) ≡ root_of b p
+  root_home = ap (λ (i : ℕ). root_of b i) home
+
+  kind-of : (x : ChipView) → chip_in b ws m ≡ Some x → x.kind ≡ Gpio
+  kind-of x e = (let f : Some x.kind ≡ Some Gpio = sym (world.told.kept m x e).kind ∙ known in cc)
+
+  -- the line is set
+  line_turn : (level : ℕ) (u : Slots) (s : MuxSlot) → (u p).slot ≡ s → ((q : ℕ) → (q ≡ p → ⊥) → u q ≡ v q) → SlotTold b (chip_in b ws) m (λ x. at_level x level) s
+      → WorldTold b u (changed_at ws (root_of b p) (record (ws (root_of b p)) { chips = set_level (ws (root_of b p)).chips m level }))
+  line_turn level u s here others slot =
+      world_replaced b v u ws (root_of b p) (record (ws (root_of b p)) { chips = set_level (ws (root_of b p)).chips m level }) world
+      (world.board (root_of b p), world.root (root_of b p), length-level (ws (root_of b p)).chips m level ∙ world.count (root_of b p))
+      (still_none (ws (root_of b p)).chips (set_level (ws (root_of b p)).chips m level) m (λ x. at_level x level)
+      (level_changes (ws (root_of b p)).chips m level) (λ x e. level_sort x level) (world.rest (root_of b p)))
+      (told-turned b v u (chip_in b ws) (chip_in b (changed_at ws (root_of b p) (record (ws (root_of b p)) { chips = set_level (ws (root_of b p)).chips m level }))) m
+      (λ x. at_level x level) s
+      (replaced-chip b ws (root_of b p) (record (ws (root_of b p)) { chips = set_level (ws (root_of b p)).chips m level }) m (λ x. at_level x level) root_home
+      (level_changes (ws (root_of b p)).chips m level))
+      (ap (λ (i : ℕ). (u i).slot) home ∙ here) (λ q ne. others q (λ e. ne (e ∙ sym home)))
+      (subst (λ (i : ℕ). IsOfMux m (v i).slot) (sym home) own) (λ x e. level_sort x level) slot world.told)
+
+  -- the call failed, and changed no level
+  line_failed : WorldTold b (set_marks marks v) (changed_at ws (root_of b p) (stopped (ws (root_of b p))))
+  line_failed =
+      let same : (stopped (ws (root_of b p))).chips ≡ (ws (root_of b p)).chips =
+      ap (λ (u : World). (stopped u).chips) (whole b (root_of b p) (ws (root_of b p)) (world.board (root_of b p)) (world.root (root_of b p)))
+      ∙ stopped-chips b (root_of b p) (ws (root_of b p)).chips (ws (root_of b p)).devices (ws (root_of b p)).hearing (ws (root_of b p)).busy (world.rest (root_of b p)) in
+      world_replaced b v (set_marks marks v) ws (root_of b p) (stopped (ws (root_of b p))) world
+      (world.board (root_of b p), world.root (root_of b p), ap (λ (xs : List ChipView). length xs) same ∙ world.count (root_of b p))
+      (λ i x e. world.rest (root_of b p) i x (ap (λ (xs : List ChipView). slice_get xs i) (sym same) ∙ e))
+      (told_equal b (set_marks marks v) (chip_in b ws) (chip_in b (changed_at ws (root_of b p) (stopped (ws (root_of b p)))))
+      (same_chip_in b ws (root_of b p) (stopped (ws (root_of b p))) same)
+      (told-marks b v (set_marks marks v) (chip_in b ws) (set_marks-only b held v marks fail) world.told))
+
+  line_closed : WorldTold b (with_slot v p Clean) (changed_at ws (root_of b p) (record (ws (root_of b p)) { chips = set_level (ws (root_of b p)).chips m 0 }))
+  line_closed =
+      line_turn 0 (with_slot v p Clean) Clean (ap (λ (y : At). y.slot) (with_slot-same v p Clean)) (λ q ne. with_slot-other v p q Clean ne)
+      (record {
+        opened = λ h e. absurd (let g : Clean ≡ Selected h = e in cc);
+        polled = λ h n e. absurd (let g : Clean ≡ Polled h n = e in cc);
+        found = λ h e. absurd (let g : Clean ≡ Found h = e in cc);
+        only = λ c x at opens. absurd (let g : false ≡ true = sym (level_closes x c (kind-of x at)) ∙ opens in cc);
+        absent = λ c x e at. level_closes x c (kind-of x at);
+      })
+
+  line_opened : (h : Hop) → h.mux ≡ m → h.on ≡ p
+      → WorldTold b (with_slot v h.on (Selected h)) (changed_at ws (root_of b p) (record (ws (root_of b p)) { chips = set_level (ws (root_of b p)).chips m (h.channel + 1) }))
+  line_opened h same_mux same_on =
+      let s = mux_at b m Gpio known in
+      let chip = get_same_length (ws (root_of b p)).chips b.muxes m s.0 (world.count (root_of b p)) s.1 in
+      let told : chip_in b ws m ≡ Some chip.0 = ap (λ (i : ℕ). slice_get (ws i).chips m) root_home ∙ chip.1 in
+      line_turn (h.channel + 1) (with_slot v h.on (Selected h)) (Selected h)
+      (ap (λ (i : ℕ). (with_slot v h.on (Selected h) i).slot) (sym same_on) ∙ ap (λ (y : At). y.slot) (with_slot-same v h.on (Selected h)))
+      (λ q ne. with_slot-other v h.on q (Selected h) (λ e. ne (e ∙ same_on)))
+      (record {
+        opened = λ g e. (let f : h ≡ g = (let e2 : Selected h ≡ Selected g = e in cc) in (
+          ap (λ (i : Hop). i.mux) (sym f) ∙ same_mux,
+          chip.0,
+          told,
+          subst (λ (i : Hop). is_open (at_level chip.0 (h.channel + 1)) i.channel ≡ true) f (level_opens chip.0 h.channel (kind-of chip.0 told)).opened,
+          gpio_here b plain m known,
+          not_held b plain m Gpio known refl,
+        ));
+        polled = λ g n e. absurd (let f : Selected h ≡ Polled g n = e in cc);
+        found = λ g e. absurd (let f : Selected h ≡ Found g = e in cc);
+        only = λ c x at opens. (same_mux, (level_opens x h.channel (kind-of x at)).only c opens);
+        absent = λ c x gone at. absurd (let f : true ≡ false = sym gone ∙ gpio_here b plain m known in cc);
+      })
+
+pub told-shift : (b : BoardView) → IsTree b → IsPlainBoard b → (v : Slots) (ws : ℕ → World) → WorldTold b v ws → (job : Job) (marks : List Mark) (held : List LockId)
+    → MayShift b job marks held v → (failed : Bool)
+    → WorldTold b (after_job job zero marks (Lined failed) v) (changed_at ws (root_of b (job_bus job)) (after (ws (root_of b (job_bus job))) (line_call job failed)))
+told-shift b tree plain v ws world (Call bus ms) marks held may failed = absurd (let f : false ≡ true = may.by_line in cc)
+told-shift b tree plain v ws world (Select h) marks held may true =
+    let hop : IsHop b h = tree.hop h.bus h may.finds.1 in
+    let known : IsMuxOf b h.mux Gpio = hop.kind ∙ ap Some (gpio_kind h.kind may.by_line) in
+    line_failed b plain v ws world h.on h.mux known hop.home held marks may.may_fail (own_select _ h zero (v h.on).slot may.finds.0)
+told-shift b tree plain v ws world (Select h) marks held may false =
+    let hop : IsHop b h = tree.hop h.bus h may.finds.1 in
+    let known : IsMuxOf b h.mux Gpio = hop.kind ∙ ap Some (gpio_kind h.kind may.by_line) in
+    subst (λ (n : ℕ). WorldTold b (with_slot v h.on (Selected h)) (changed_at ws (root_of b h.on) (record (ws (root_of b h.on)) { chips = set_level (ws (root_of b h.on)).chips h.mux n })))
+    (sym (ap (λ (k : MuxKind). select_value k h.channel) (gpio_kind h.kind may.by_line)))
+    (line_opened b plain v ws world h.on h.mux known hop.home held marks may.may_fail (own_select _ h zero (v h.on).slot may.finds.0) h refl refl)
+told-shift b tree plain v ws world (Clear on mux kind) marks held may true =
+    line_failed b plain v ws world on mux (may.finds.2 ∙ ap Some (gpio_kind kind may.by_line)) may.finds.1 held marks may.may_fail (own_open mux (v on).slot may.finds.0)
+told-shift b tree plain v ws world (Clear on mux kind) marks held may false =
+    line_closed b plain v ws world on mux (may.finds.2 ∙ ap Some (gpio_kind kind may.by_line)) may.finds.1 held marks may.may_fail (own_open mux (v on).slot may.finds.0)

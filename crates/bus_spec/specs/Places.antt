@@ -1,0 +1,74 @@
+-- What stands at a place of a journal, each by a reading of its own: one sentence that a reader can follow down the lines
+-- without the others. `Past` folds them together, since they need each other; a law says that the fold has each of them.
+use Rattle.std.specs.Prelude.{ℕ, ◌==◌, Bool, true, false, List, [], ◌∷◌, Option, Some, None, if◌then◌else◌}
+use Rattle.i2c_base.specs.declared.entry.Entry.{Entry}
+use Rattle.i2c_base.specs.declared.entry.Entry.TheVariants as entry
+use Rattle.i2c_base.specs.declared.entry.End.{End}
+use Rattle.i2c_base.specs.declared.entry.End.TheVariants as end
+use Rattle.i2c_base.specs.Board.{BoardView}
+use Rattle.i2c_base.specs.Transfer.{TransferView}
+use Rattle.i2c_spec.specs.Messages.{MessageView}
+use Rattle.i2c_spec.specs.World.{World, after_all, opening_world}
+use Rattle.i2c_spec.specs.History.{Asks}
+use Rattle.bus_spec.specs.Walk.{Mark, Job, Call, Act, Send, Shift, ActOutcome, Passed, Sent, Lined, Note, WalkTree, Ends, job_bus, message_of}
+use Rattle.bus_spec.specs.Grammar.{first_act, first_note, rest_of}
+use Rattle.bus_spec.specs.Readings.{of_message, caller_of, replies}
+use Rattle.bus_spec.specs.Past.{now, current, calls_of}
+
+-- the transfer in flight: what a caller asks for after the replies that it has settled before
+abbrev pub transfer_at : Asks → List Entry → ℕ → Option TransferView
+transfer_at asks past c = asks c (replies past c)
+
+-- what came of the step that an entry is
+abbrev pub outcome_of : Entry → ActOutcome
+outcome_of (entry.Line c mux level failed) = Lined failed
+outcome_of e = of_message Passed (λ m. Sent m.end m.bytes) e
+
+-- what a caller's walk has left: its last entry was the next step of what was left before, and leads one step on
+abbrev pub walk_left : BoardView → Asks → List Entry → ℕ → WalkTree
+walk_left b asks [] c = Ends
+walk_left b asks (e ∷ past) c = if c == caller_of e then rest_of (current b asks (now b asks past) c) (outcome_of e) else walk_left b asks past c
+
+-- the message in flight: the one that a caller's walk sends next
+abbrev pub message_sent : BoardView → Option Act → Option MessageView
+message_sent b (Some (Send job left)) = Some (message_of b job left)
+message_sent b act = None
+
+abbrev pub message_at : BoardView → Asks → List Entry → ℕ → Option MessageView
+message_at b asks past c = message_sent b (first_act (current b asks (now b asks past) c))
+
+-- the world of a root: its opening one after the port calls that the entries before tell
+abbrev pub world_after : BoardView → Asks → List Entry → ℕ → World
+world_after b asks past r = after_all (opening_world b r) (calls_of b asks past r)
+
+-- the first of these marks on a bus
+abbrev pub mark_among : List Mark → ℕ → Option ℕ → Option ℕ
+mark_among [] p old = old
+mark_among (m ∷ ms) p old = if p == m.on then Some m.mux else mark_among ms p old
+
+-- a step of a select or a close that fails by the port makes its marks; one that doesn't leaves none on its mux's bus
+abbrev pub mark_after : Job → List Mark → Bool → ℕ → Option ℕ → Option ℕ
+mark_after (Call bus messages) marks failed p old = old
+mark_after job marks failed p old = if failed then mark_among marks p old else if p == job_bus job then None else old
+
+abbrev pub is_cut : End → Bool
+is_cut (end.Cut q) = true
+is_cut e = false
+
+abbrev pub mark_sent : Option Act → Note → Bool → ℕ → Option ℕ → Option ℕ
+mark_sent (Some (Send job left)) note failed p old = mark_after job note.marks failed p old
+mark_sent act note failed p old = old
+
+abbrev pub mark_lined : Option Act → Note → Bool → ℕ → Option ℕ → Option ℕ
+mark_lined (Some (Shift job)) note failed p old = mark_after job note.marks failed p old
+mark_lined act note failed p old = old
+
+abbrev pub mark_by : Option Act → Note → Entry → ℕ → Option ℕ → Option ℕ
+mark_by act note (entry.Line c mux level failed) p old = mark_lined act note failed p old
+mark_by act note e p old = of_message old (λ m. mark_sent act note (is_cut m.end) p old) e
+
+-- the mark of a bus: the mux that a failed step marked there last, if no select or close on that bus went through since
+abbrev pub mark_left : BoardView → Asks → List Entry → ℕ → Option ℕ
+mark_left b asks [] p = None
+mark_left b asks (e ∷ past) p =
+    mark_by (first_act (current b asks (now b asks past) (caller_of e))) (first_note (current b asks (now b asks past) (caller_of e))) e p (mark_left b asks past p)

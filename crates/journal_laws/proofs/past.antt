@@ -1,0 +1,12 @@
+-- The readings, the walks of each caller, what they cost and leave, and all rules together.
+pub mod Ports
+pub mod Places
+pub mod Flight
+pub mod First
+pub mod Walks
+pub mod Spent
+pub mod Costs
+pub mod Left
+pub mod Legal
+pub mod Ends
+pub mod Follow

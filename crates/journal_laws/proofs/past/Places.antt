@@ -1,0 +1,129 @@
+-- The fold over a past has each reading of a place: what a caller's walk has left, and the mark of each bus. The induction
+-- goes over the entries.
+use Rattle.std.proofs.Common.{◌≡◌, ℕ, zero, suc, Bool, true, false, cond, eqb, List, [], ◌∷◌, Option, Some, None, refl, sym, ◌∙◌, ap, inl, inr}
+use Rattle.std.proofs.lemmas.Bool.Decides.{eqb_tells}
+use Rattle.i2c_base.specs.declared.entry.End.{End}
+use Rattle.i2c_base.specs.declared.entry.End.TheVariants as end
+use Rattle.i2c_base.specs.declared.entry.Entry.{Entry}
+use Rattle.i2c_base.specs.declared.entry.Entry.TheVariants as entry
+use Rattle.i2c_base.specs.Board.{BoardView}
+use Rattle.i2c_spec.specs.Tree.{Hop}
+use Rattle.i2c_spec.specs.History.{Asks, changed_at}
+use Rattle.bus_spec.specs.Walk.{Mark, Job, Call, Select, Clear, Act, Take, Free, Send, Shift, Settle, ActOutcome, Passed, Sent, Lined, Note, WalkTree, first_byte}
+use Rattle.bus_spec.specs.Slots.{Slots, MuxSlot, Clean, Selected, Marked, Polled, Found, mark_in, set_marks, select_slot, with_slot, after_job}
+use Rattle.bus_spec.specs.Grammar.{first_act, first_note, rest_of}
+use Rattle.bus_spec.specs.Readings.{caller_of}
+use Rattle.bus_spec.specs.Past.{Now, now, current, mark, sent_by, lined_by}
+use Rattle.bus_spec.specs.Places.{walk_left, mark_among, mark_after, mark_sent, mark_lined, mark_by, mark_left, is_cut}
+
+-- a caller's walk
+pub walk-left : (b : BoardView) (asks : Asks) (past : List Entry) (c : ℕ) → (now b asks past).walk c ≡ walk_left b asks past c
+walk-left b asks [] c = refl
+walk-left b asks (e ∷ past) c = by e (walk-left b asks past c)
+  where
+    turned : (d : ℕ) (out : ActOutcome) → (now b asks past).walk c ≡ walk_left b asks past c
+        → changed_at (now b asks past).walk d (rest_of (current b asks (now b asks past) d) out) c
+        ≡ cond (eqb c d) (rest_of (current b asks (now b asks past) c) out) (walk_left b asks past c)
+    turned d out before =
+        elim (eqb_tells c d) [
+          | inl h ↦ (let same : d ≡ c = sym h.1 in
+              ap (λ (t : Bool). cond t (rest_of (current b asks (now b asks past) d) out) ((now b asks past).walk c)) h.0
+              ∙ ap (λ (i : ℕ). rest_of (current b asks (now b asks past) i) out) same
+              ∙ sym (ap (λ (t : Bool). cond t (rest_of (current b asks (now b asks past) c) out) (walk_left b asks past c)) h.0))
+          | inr h ↦ ap (λ (t : Bool). cond t (rest_of (current b asks (now b asks past) d) out) ((now b asks past).walk c)) h.0 ∙ before
+              ∙ sym (ap (λ (t : Bool). cond t (rest_of (current b asks (now b asks past) c) out) (walk_left b asks past c)) h.0)
+        ]
+
+    by : (x : Entry) → (now b asks past).walk c ≡ walk_left b asks past c → (now b asks (x ∷ past)).walk c ≡ walk_left b asks (x ∷ past) c
+    by (entry.Take d l) before = turned d Passed before
+    by (entry.Free d l) before = turned d Passed before
+    by (entry.Settle d r cut) before = turned d Passed before
+    by (entry.Line d m level failed) before = turned d (Lined failed) before
+    by (entry.Message d bus why part parts addr reading bytes heard e2) before = turned d (Sent e2 bytes) before
+
+-- what a slot says where it is written
+written : (v : Slots) (on p : ℕ) (s : MuxSlot) (m : Option ℕ) → mark_in s ≡ m → mark_in (with_slot v on s p).slot ≡ cond (eqb p on) m (mark_in (v p).slot)
+written v on p s m told =
+    elim (eqb_tells p on) [
+      | inl h ↦ ap (λ (t : Bool). mark_in (cond t (record { slot = s }) (v p)).slot) h.0 ∙ told ∙ sym (ap (λ (t : Bool). cond t m (mark_in (v p).slot)) h.0)
+      | inr h ↦ ap (λ (t : Bool). mark_in (cond t (record { slot = s }) (v p)).slot) h.0 ∙ sym (ap (λ (t : Bool). cond t m (mark_in (v p).slot)) h.0)
+    ]
+
+marked_among : (ms : List Mark) (v : Slots) (p : ℕ) → mark_in (set_marks ms v p).slot ≡ mark_among ms p (mark_in (v p).slot)
+marked_among [] v p = refl
+marked_among (m ∷ ms) v p =
+    written (set_marks ms v) m.on p (Marked m.mux) (Some m.mux) refl ∙ ap (λ (o : Option ℕ). cond (eqb p m.on) (Some m.mux) o) (marked_among ms v p)
+
+unmarked : (h : Hop) (left : ℕ) (bytes : List ℕ) → mark_in (select_slot h left bytes) ≡ None
+unmarked h zero bytes = refl
+unmarked h (suc zero) bytes = by (eqb (first_byte bytes) 0)
+  where
+    by : (t : Bool) → mark_in (cond t (Found h) Clean) ≡ None
+    by true = refl
+    by false = refl
+unmarked h (suc (suc left)) bytes = by (eqb (first_byte bytes) 0)
+  where
+    by : (t : Bool) → mark_in (cond t (Found h) (Polled h left)) ≡ None
+    by true = refl
+    by false = refl
+
+-- a message, and a line step
+sent_mark : (job : Job) (left : ℕ) (marks : List Mark) (e : End) (bytes : List ℕ) (v : Slots) (p : ℕ)
+    → mark_in (after_job job left marks (Sent e bytes) v p).slot ≡ mark_after job marks (is_cut e) p (mark_in (v p).slot)
+sent_mark (Call bus ms) left marks e bytes v p = refl
+sent_mark (Select h) left marks end.Ok bytes v p = written v h.on p (select_slot h left bytes) None (unmarked h left bytes)
+sent_mark (Select h) left marks end.Nack bytes v p = written v h.on p Clean None refl
+sent_mark (Select h) left marks end.Slow bytes v p = written v h.on p Clean None refl
+sent_mark (Select h) left marks end.Refused bytes v p = written v h.on p Clean None refl
+sent_mark (Select h) left marks end.Proto bytes v p = written v h.on p Clean None refl
+sent_mark (Select h) left marks (end.Cut q) bytes v p = marked_among marks v p
+sent_mark (Clear on m kind) left marks end.Ok bytes v p = written v on p Clean None refl
+sent_mark (Clear on m kind) left marks end.Nack bytes v p = written v on p Clean None refl
+sent_mark (Clear on m kind) left marks end.Slow bytes v p = written v on p Clean None refl
+sent_mark (Clear on m kind) left marks end.Refused bytes v p = written v on p Clean None refl
+sent_mark (Clear on m kind) left marks end.Proto bytes v p = written v on p Clean None refl
+sent_mark (Clear on m kind) left marks (end.Cut q) bytes v p = marked_among marks v p
+
+lined_mark : (job : Job) (marks : List Mark) (failed : Bool) (v : Slots) (p : ℕ)
+    → mark_in (after_job job 0 marks (Lined failed) v p).slot ≡ mark_after job marks failed p (mark_in (v p).slot)
+lined_mark (Call bus ms) marks failed v p = refl
+lined_mark (Select h) marks true v p = marked_among marks v p
+lined_mark (Select h) marks false v p = written v h.on p (Selected h) None refl
+lined_mark (Clear on m kind) marks true v p = marked_among marks v p
+lined_mark (Clear on m kind) marks false v p = written v on p Clean None refl
+
+-- the mark of a bus
+module _ (b : BoardView) (n : Now) (c p : ℕ) (note : Note) where
+  sent_so : (o : Option Act) (reading : Bool) (bytes : List ℕ) (e : End)
+      → mark_in ((sent_by b n c o note reading bytes e).slot p).slot ≡ mark_sent o note (is_cut e) p (mark_in (n.slot p).slot)
+  sent_so None reading bytes e = refl
+  sent_so (Some (Take l)) reading bytes e = refl
+  sent_so (Some (Free l)) reading bytes e = refl
+  sent_so (Some (Shift job)) reading bytes e = refl
+  sent_so (Some (Settle verdict)) reading bytes e = refl
+  sent_so (Some (Send job left)) reading bytes e = sent_mark job left note.marks e bytes n.slot p
+
+  lined_so : (o : Option Act) (failed : Bool) → mark_in ((lined_by b n o note failed).slot p).slot ≡ mark_lined o note failed p (mark_in (n.slot p).slot)
+  lined_so None failed = refl
+  lined_so (Some (Take l)) failed = refl
+  lined_so (Some (Free l)) failed = refl
+  lined_so (Some (Send job left)) failed = refl
+  lined_so (Some (Settle verdict)) failed = refl
+  lined_so (Some (Shift job)) failed = lined_mark job note.marks failed n.slot p
+
+pub mark-left : (b : BoardView) (asks : Asks) (past : List Entry) (p : ℕ) → mark b asks past p ≡ mark_left b asks past p
+mark-left b asks [] p = refl
+mark-left b asks (e ∷ past) p = by e ∙ ap (λ (o : Option ℕ). mark_by (first_act (here (caller_of e))) (first_note (here (caller_of e))) e p o) (mark-left b asks past p)
+  where
+    n : Now
+    n = now b asks past
+
+    here : ℕ → WalkTree
+    here c = current b asks n c
+
+    by : (x : Entry) → mark b asks (x ∷ past) p ≡ mark_by (first_act (here (caller_of x))) (first_note (here (caller_of x))) x p (mark b asks past p)
+    by (entry.Take c l) = refl
+    by (entry.Free c l) = refl
+    by (entry.Settle c r cut) = refl
+    by (entry.Line c m level failed) = lined_so b n c p (first_note (here c)) (first_act (here c)) failed
+    by (entry.Message c bus why part parts addr reading bytes heard x) = sent_so b n c p (first_note (here c)) (first_act (here c)) reading bytes x

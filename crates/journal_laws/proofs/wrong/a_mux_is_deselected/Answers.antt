@@ -1,0 +1,19 @@
+use Rattle.std.proofs.Common.{◌≡◌, [], Some}
+use Rattle.i2c_base.specs.declared.board.MuxKind.TheVariants.{Pca9548}
+use Rattle.i2c_base.specs.declared.ids.LockId.TheVariants as lock
+use Rattle.bus_spec.specs.Rows as row
+use Rattle.bus_spec.specs.Walk.{Clear, Send, Free}
+use Rattle.bus_spec.specs.Legal.{steps_in}
+use Rattle.journal_laws.specs.Wrong.{deep_asks, not_deselected}
+use Rattle.journal_laws.proofs.past.Follow.{walks-follow}
+use Rattle.journal_laws.proofs.wrong.a_mux_is_deselected.Goals as goal
+
+pub returns : goal.returns
+returns c =
+    record {
+      legal = λ callers legal.
+          (let steps = walks-follow row.parent_locked (deep_asks 0) [] (steps_in row.parent_locked deep_asks 0 not_deselected) (legal.walks 0) in
+          let freed = steps.1.1.1.1.1.1.0 in
+          let f : Some (Send (Clear 0 0 Pca9548) 0) ≡ Some (Free (lock.Bus 0)) = freed in cc);
+      stepwise = λ callers steps. (let f : Some (Send (Clear 0 0 Pca9548) 0) ≡ Some (Free (lock.Bus 0)) = steps.0.2 in cc);
+    }

@@ -1,0 +1,40 @@
+//! What stands at a place of a journal: the fold over its past has each of the readings, whatever the entries are.
+ghost use Rattle.std.specs.Prelude.{◌≡◌, ℕ, List};
+ghost use Rattle.i2c_base.specs.Board.{BoardView};
+ghost use Rattle.i2c_base.specs.declared.entry.Entry.{Entry};
+ghost use Rattle.i2c_base.specs.declared.ids.LockId.{LockId};
+ghost use Rattle.i2c_spec.specs.History.{Asks};
+ghost use Rattle.bus_spec.specs.Readings.{holder, replies, last_cut};
+ghost use Rattle.bus_spec.specs.Past.{mark, now, world_at};
+ghost use Rattle.bus_spec.specs.Stepwise.{IsStepwise};
+ghost use Rattle.bus_spec.specs.Places.{mark_left, walk_left, world_after};
+ghost use Rattle.journal_laws.specs.Flight.{AreInFlight};
+
+/// What is settled for a caller, what its last entry tells of a cut, and who has a lock, is what the entries alone tell.
+pub fn settled_is_replies()
+    ensures settled { (b : BoardView) (asks : Asks) (past : List Entry) (c : ℕ) → (now b asks past).settled c ≡ replies past c }
+    ensures cut { (b : BoardView) (asks : Asks) (past : List Entry) (c : ℕ) → (now b asks past).cut c ≡ last_cut past c }
+    ensures held { (b : BoardView) (asks : Asks) (past : List Entry) (l : LockId) → (now b asks past).holder l ≡ holder past l }
+{}
+
+/// What is left of a caller's walk is what its own entries have left of it, one step after the other.
+pub fn each_walk_is_what_its_entries_left()
+    ensures { (b : BoardView) (asks : Asks) (past : List Entry) (c : ℕ) → (now b asks past).walk c ≡ walk_left b asks past c }
+{}
+
+/// The mark of a bus is the mux that a failed step marked there last, if no select or close on the bus went through
+/// since.
+pub fn each_mark_is_the_last_one_made()
+    ensures { (b : BoardView) (asks : Asks) (past : List Entry) (p : ℕ) → mark b asks past p ≡ mark_left b asks past p }
+{}
+
+/// The world of each root is the opening one after the calls that the entries before tell.
+pub fn each_world_is_that_of_its_calls()
+    ensures { (b : BoardView) (asks : Asks) (past : List Entry) (r : ℕ) → world_at b asks past r ≡ world_after b asks past r }
+{}
+
+/// Each message of a journal has the address and the direction of the message in flight: the one that its caller's walk
+/// sends next where it stands.
+pub fn each_message_is_the_one_in_flight()
+    ensures { (b : BoardView) (callers : ℕ) (asks : Asks) (past : List Entry) → IsStepwise b callers asks past → AreInFlight b asks past }
+{}
