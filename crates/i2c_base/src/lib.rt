@@ -19,8 +19,6 @@ mod memory;
 mod port;
 mod reply;
 mod rules;
-#[cfg(test)]
-mod tests;
 mod transfer;
 mod tree;
 

@@ -22,8 +22,3 @@ mod top;
 
 pub use board_text::read_board;
 pub use fault::{BoardFault, TableName};
-
-#[cfg(test)]
-mod fault_tests;
-#[cfg(test)]
-mod value_tests;

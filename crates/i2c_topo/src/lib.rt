@@ -6,11 +6,7 @@
 //! topologies".
 #![tactic(auto)]
 
-#[cfg(test)]
-mod rows;
 mod rules;
-#[cfg(test)]
-mod tests;
 
 pub use i2c_base::{Item, RuleBroken};
 pub use rules::accept;

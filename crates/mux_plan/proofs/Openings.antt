@@ -129,11 +129,6 @@ pub messages-first : (left : ℕ) (job : Job) (note : Note) (k : JobOutcome → 
 messages-first zero job note k = refl
 messages-first (suc left) job note k = refl
 
-pub messages-last : (left : ℕ) (job : Job) (note : Note) (k : JobOutcome → WalkTree) (out : ActOutcome) → left ≡ 0
-    → rest_of (messages left job note k) out ≡ over job left note k out
-messages-last zero job note k out e = refl
-messages-last (suc left) job note k out e = absurd (omega (arith, e))
-
 pub messages-more : (left less : ℕ) (job : Job) (note : Note) (k : JobOutcome → WalkTree) (out : ActOutcome) → left ≡ less + 1
     → rest_of (messages left job note k) out ≡ by_go (goes job less out) (messages less job note k) (messages 0 job note k) (over job left note k out)
 messages-more zero less job note k out e = absurd (omega (arith, e))

@@ -11,8 +11,6 @@ mod marks;
 mod parts;
 mod stack;
 mod task;
-#[cfg(test)]
-mod tests;
 mod walk;
 mod work;
 

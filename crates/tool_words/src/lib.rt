@@ -13,6 +13,3 @@ mod number;
 pub use command::{Command, Get, LineFault, read_line};
 pub use front::split_line;
 pub use laws::the_refused_word_is_behind_the_longest_front;
-
-#[cfg(test)]
-mod tests;
