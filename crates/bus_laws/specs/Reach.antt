@@ -3,16 +3,15 @@ use Rattle.std.specs.Prelude.{◌≡◌, ℕ, ◌<◌, true, ◌⊎◌, List, So
 use Rattle.std.specs.List.{list_all}
 use Rattle.i2c_base.specs.declared.ids.LockId.TheVariants as lock
 use Rattle.i2c_base.specs.declared.entry.Entry.{Entry}
-use Rattle.i2c_base.specs.declared.entry.Entry.TheVariants as entry
 use Rattle.i2c_base.specs.declared.reply.Reply.{Reply}
 use Rattle.i2c_base.specs.Board.{BoardView}
 use Rattle.i2c_base.specs.Transfer.{TransferView, IsTransfer}
-use Rattle.i2c_spec.specs.Tree.{Hop, hops, root_of, home_of_mux}
+use Rattle.i2c_spec.specs.Tree.{Hop, hops, root_of, home_of_mux, IsAmongHops}
 use Rattle.i2c_spec.specs.Chips.{ChipView, is_open}
 use Rattle.i2c_spec.specs.World.{opens_hop}
 use Rattle.i2c_spec.specs.History.{Asks}
 use Rattle.bus_spec.specs.Slots.{Selected}
-use Rattle.bus_spec.specs.Readings.{holder, Everywhere}
+use Rattle.bus_spec.specs.Readings.{MessageEntry, OfMessage, holder, Everywhere}
 use Rattle.bus_spec.specs.Past.{now, mark, world_at}
 use Rattle.bus_spec.specs.Tells.{HearsIn}
 
@@ -39,15 +38,13 @@ KeepsClosed b asks past =
     (m c : ℕ) (x : ChipView) → slice_get (world_at b asks past (root_of b (home_of_mux b m))).chips m ≡ Some x → is_open x c ≡ true
     → IsSelectedBy b asks past m c ⊎ (mark b asks past (home_of_mux b m) ≡ Some m)
 
--- at a message every mux over its bus has the path's channel open, and who has heard it is who hears its start
-abbrev pub IsOpenAt : BoardView → Asks → Entry → List Entry → Type 0
-IsOpenAt b asks (entry.Message c bus purpose part parts addr reading bytes heard e) past =
-    (list_all (opens_hop (world_at b asks past (root_of b bus)).chips) (hops b bus) ≡ true)
-    × HearsIn (world_at b asks past (root_of b bus)) addr reading heard e
-IsOpenAt b asks (entry.Take c l) past = Unit {0}
-IsOpenAt b asks (entry.Free c l) past = Unit {0}
-IsOpenAt b asks (entry.Line c mux level failed) past = Unit {0}
-IsOpenAt b asks (entry.Settle c r cut) past = Unit {0}
+-- at a message every mux over its bus has the path's channel open, and who has heard it is who hears its start; its
+-- caller has the root's lock, and that of each bus that a mux over its bus stands on
+pub record HasItsPath (b : BoardView) (asks : Asks) (past : List Entry) (m : MessageEntry) : Type 0 where
+  pub path_open : list_all (opens_hop (world_at b asks past (root_of b m.bus)).chips) (hops b m.bus) ≡ true
+  pub heard_told : HearsIn (world_at b asks past (root_of b m.bus)) m.addr m.reading m.heard m.end
+  pub rooted : holder past (lock.Bus (root_of b m.bus)) ≡ Some m.caller
+  pub locked : (g : Hop) → IsAmongHops g (hops b m.bus) → holder past (lock.Mux g.on) ≡ Some m.caller
 
 abbrev pub KeepsPathsOpen : BoardView → Asks → List Entry → Type 0
-KeepsPathsOpen b asks past = Everywhere (IsOpenAt b asks) past
+KeepsPathsOpen b asks past = Everywhere (λ e before. OfMessage (HasItsPath b asks before) e) past

@@ -1,7 +1,7 @@
 ghost use Rattle.std.specs.Prelude.{◌≡◌, ℕ, ◌<◌, List, Some, None};
 ghost use Rattle.i2c_base.specs.Board.{BoardView};
 ghost use Rattle.i2c_base.specs.declared.entry.Entry.{Entry};
-ghost use Rattle.i2c_spec.specs.Tree.{buses};
+ghost use Rattle.i2c_spec.specs.Tree.{buses, home_of_mux};
 ghost use Rattle.i2c_spec.specs.Plain.{IsPlainBoard};
 ghost use Rattle.i2c_spec.specs.Rules.{MeetsRules};
 ghost use Rattle.i2c_spec.specs.History.{Asks};
@@ -30,9 +30,11 @@ pub fn an_open_mux_is_selected_or_marked()
     an_accepted_board_is_a_tree();
 }
 
-/// Each mark, of a mux that may have been left open, is on a bus of the board.
+/// Each mark is a mux that stands on that bus, and that is a bus of the board.
 pub fn each_mark_is_on_a_bus_of_the_board()
-    ensures { (b : BoardView) (callers : ℕ) (asks : Asks) (past : List Entry) → IsPlainBoard b → MeetsRules b → AsksForMessages asks → IsStepwise b callers asks past
+    ensures home { (b : BoardView) (callers : ℕ) (asks : Asks) (past : List Entry) → IsPlainBoard b → MeetsRules b → AsksForMessages asks → IsStepwise b callers asks past
+        → (p m : ℕ) → mark b asks past p ≡ Some m → home_of_mux b m ≡ p }
+    ensures there { (b : BoardView) (callers : ℕ) (asks : Asks) (past : List Entry) → IsPlainBoard b → MeetsRules b → AsksForMessages asks → IsStepwise b callers asks past
         → (p m : ℕ) → mark b asks past p ≡ Some m → p < buses b }
 {
     an_accepted_board_is_a_tree();
@@ -40,7 +42,7 @@ pub fn each_mark_is_on_a_bus_of_the_board()
 
 /// At each message every mux over its bus has the channel of the path open, in the world of its root; and who has
 /// heard the message is exactly who hears its start in that world, but where the start itself failed (UM10204
-/// section 3.1.10).
+/// section 3.1.10). Its caller has the root's lock, and the lock of each other bus on the path (Linux i2c-topology).
 pub fn each_message_finds_its_path_open()
     ensures { (b : BoardView) (callers : ℕ) (asks : Asks) (past : List Entry) → IsPlainBoard b → MeetsRules b → AsksForMessages asks → IsStepwise b callers asks past → KeepsPathsOpen b asks past }
 {

@@ -17,14 +17,14 @@ use Rattle.i2c_spec.specs.History.{Asks, changed_at}
 use Rattle.bus_spec.specs.Walk.{Mark, Job, Call, Select, Clear, Act, Take, Free, Send, Shift, Settle, ActOutcome, Passed, Sent, Lined, Note, MarkOf, WalkTree, Ends, Look, Then, job_bus, job_purpose}
 use Rattle.bus_spec.specs.Slots.{Slots, mark_in, after_job}
 use Rattle.bus_spec.specs.Grammar.{walk_for, seen, is_over, first_act, first_note, rest_of}
-use Rattle.bus_spec.specs.Readings.{MessageEntry, replies}
+use Rattle.bus_spec.specs.Readings.{MessageEntry, OfMessage, replies}
 use Rattle.bus_spec.specs.Past.{Now, begun, current, opening, step, now, world_at, sent_by, lined_by}
 use Rattle.bus_spec.specs.Stepwise.{May, IsStepwise}
 use Rattle.bus_spec.specs.Legal.{by_purpose, is_forced, ReachAt, Reaches}
 use Rattle.bus_laws.specs.Runs.{IsGranted, CanSend, MaySend, Runs}
 use Rattle.bus_laws.specs.Lines.{LinesAreLocked}
 use Rattle.bus_laws.specs.Stands.{CallerStands, Stands}
-use Rattle.bus_laws.specs.Reach.{AsksForMessages, IsOpenAt, KeepsPathsOpen}
+use Rattle.bus_laws.specs.Reach.{AsksForMessages, HasItsPath, KeepsPathsOpen}
 use Rattle.bus_laws.specs.Settles.{Settles, IsBefore}
 use Rattle.bus_laws.specs.Calls.{CallsOf, IsAsked}
 use Rattle.bus_laws.proofs.past.StandsFacts.{current-stands}
@@ -221,14 +221,14 @@ module _ (b : BoardView) (tree : IsTree b) (plain : IsPlainBoard b) (lines : Lin
   granted_as x job left marks held v whose may granted =
       record { reached = may.reached; rooted = may.rooted; finds = may.finds; owns = may.owns; may_fail = may.may_fail; granted = granted; by_message = may.by_message }
 
-  reach_at : (e : Entry) (past : List Entry) → IsStepwise b callers asks past → May b callers asks (now b asks past) e → IsOpenAt b asks e past → ReachAt b asks e past
+  reach_at : (e : Entry) (past : List Entry) → IsStepwise b callers asks past → May b callers asks (now b asks past) e → OfMessage (HasItsPath b asks past) e → ReachAt b asks e past
   reach_at (entry.Take c l) past steps may open_path = tt
   reach_at (entry.Free c l) past steps may open_path = tt
   reach_at (entry.Line c mux level failed) past steps may open_path = tt
   reach_at (entry.Settle c r cut) past steps may open_path = tt
   reach_at (entry.Message c bus purpose part parts addr reading bytes heard e) past steps may open_path = (
-    open_path.0,
-    open_path.1,
+    open_path.path_open,
+    open_path.heard_told,
     subst (λ (s : ℕ). by_purpose b (world_at b asks past (root_of b s)) (is_forced (asks c (replies past c))) m purpose) (sym may.2.3.on_bus)
         (by_force (world_at b asks past (root_of b (job_bus job))) asked.whose.force job (asks c (replies past c)) m forced may.2.3.for_purpose
         (send-reaches b tree plain n.slot n.worlds stands.told asked.whose job left at.0.marks (n.held c)

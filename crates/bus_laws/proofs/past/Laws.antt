@@ -9,15 +9,15 @@ use Rattle.i2c_base.specs.declared.entry.Entry.{Entry}
 use Rattle.i2c_base.specs.declared.entry.Entry.TheVariants as entry
 use Rattle.i2c_base.specs.Board.{BoardView}
 use Rattle.i2c_base.specs.Transfer.{TransferView}
-use Rattle.i2c_spec.specs.Tree.{hops, root_of, home_of_mux}
+use Rattle.i2c_spec.specs.Tree.{Hop, hops, root_of, home_of_mux, IsAmongHops}
 use Rattle.i2c_spec.specs.TreeFacts.{IsTree}
 use Rattle.i2c_spec.specs.Plain.{IsPlainBoard}
 use Rattle.i2c_spec.specs.World.{opens_hop}
 use Rattle.i2c_spec.specs.History.{Asks}
-use Rattle.bus_spec.specs.Walk.{Act, Take, Free, Send, Shift, Settle, ActOutcome, Passed, Note, WalkTree, job_bus}
+use Rattle.bus_spec.specs.Walk.{Job, Act, Take, Free, Send, Shift, Settle, ActOutcome, Passed, Note, WalkTree, Then, job_bus}
 use Rattle.bus_spec.specs.Slots.{MuxSlot, Clean, Selected, Marked, Polled, Found, mark_in, after_job}
 use Rattle.bus_spec.specs.Grammar.{first_act, first_note}
-use Rattle.bus_spec.specs.Readings.{rank, holder, is_lock}
+use Rattle.bus_spec.specs.Readings.{OfMessage, rank, holder, is_lock}
 use Rattle.bus_spec.specs.Past.{Now, current, now, world_at, sent_by, lined_by}
 use Rattle.bus_spec.specs.Stepwise.{IsBelow, May, IsStepwise}
 use Rattle.bus_spec.specs.Tells.{HearsIn}
@@ -25,8 +25,8 @@ use Rattle.bus_spec.specs.Legal.{LocksAt, KeepsLocks}
 use Rattle.bus_laws.specs.Runs.{InLocks, IsShut, LeavesShut, CanSend, MaySend, Runs}
 use Rattle.bus_laws.specs.Told.{Explains}
 use Rattle.bus_laws.specs.Lines.{LinesAreLocked}
-use Rattle.bus_laws.specs.Stands.{Stands}
-use Rattle.bus_laws.specs.Reach.{AsksForMessages, IsSelectedBy, KeepsClosed, IsOpenAt, KeepsPathsOpen}
+use Rattle.bus_laws.specs.Stands.{Stands, CallerStands}
+use Rattle.bus_laws.specs.Reach.{AsksForMessages, IsSelectedBy, KeepsClosed, HasItsPath, KeepsPathsOpen}
 use Rattle.bus_laws.proofs.world.Law.{path_open}
 use Rattle.bus_laws.proofs.past.StandsFacts.{current-stands}
 use Rattle.bus_laws.proofs.past.StandsStep.{send_known}
@@ -128,22 +128,43 @@ module _ (b : BoardView) (tree : IsTree b) (plain : IsPlainBoard b) (lines : Lin
       ((past-stands past steps).told.told.only m c x at opens)
 
   -- OPEN PATHS
-  open_at : (e : Entry) (past : List Entry) → Stands b (now b asks past) → May b callers asks (now b asks past) e → IsOpenAt b asks e past
+  open_at : (e : Entry) (past : List Entry) → Stands b (now b asks past) → May b callers asks (now b asks past) e → OfMessage (HasItsPath b asks past) e
   open_at (entry.Take c l) past stands may = tt
   open_at (entry.Free c l) past stands may = tt
   open_at (entry.Line c mux level failed) past stands may = tt
   open_at (entry.Settle c r cut) past stands may = tt
   open_at (entry.Message c bus purpose part parts addr reading bytes heard e) past stands may =
-      let cur = current-stands b tree lines asks some (now b asks past) c stands in
-      let at = first_is (current b asks (now b asks past) c) (Send may.2.0 may.2.1) may.2.2 in
-      let runs : MaySend b cur.whose may.2.0 may.2.1 at.0.marks ((now b asks past).held c) cur.view
-      × ((out : ActOutcome) → CanSend b may.2.0 may.2.1 out → Runs b cur.whose ((now b asks past).held c) (after_job may.2.0 may.2.1 at.0.marks out cur.view) (at.1 out)) =
-      subst (λ (w : WalkTree). Runs b cur.whose ((now b asks past).held c) cur.view w) at.2 cur.runs in
-      let sends = send_known b ((now b asks past).held c) cur.view (now b asks past).slot cur.agree cur.whose may.2.0 may.2.1 at.0.marks runs.0 in (
-        subst (λ (s : ℕ). list_all (opens_hop (world_at b asks past (root_of b s)).chips) (hops b s) ≡ true) (sym may.2.3.on_bus)
-            (path_open b tree plain (now b asks past).slot (now b asks past).worlds stands.told (job_bus may.2.0) (λ g a. (sends.reached g a).0)),
-        subst (λ (s : ℕ). HearsIn (world_at b asks past (root_of b s)) addr reading heard e) (sym may.2.3.on_bus) may.2.3.heard_told,
-      )
+      record {
+        path_open = subst (λ (s : ℕ). list_all (opens_hop (world_at b asks past (root_of b s)).chips) (hops b s) ≡ true) (sym may.2.3.on_bus)
+            (path_open b tree plain n.slot n.worlds stands.told (job_bus job) (λ g a. (sends.reached g a).0));
+        heard_told = subst (λ (s : ℕ). HearsIn (world_at b asks past (root_of b s)) addr reading heard e) (sym may.2.3.on_bus) may.2.3.heard_told;
+        rooted = subst (λ (s : ℕ). holder past (lock.Bus (root_of b s)) ≡ Some c) (sym may.2.3.on_bus) (has (lock.Bus (root_of b (job_bus job))) sends.rooted);
+        locked = subst (λ (s : ℕ). (g : Hop) → IsAmongHops g (hops b s) → holder past (lock.Mux g.on) ≡ Some c) (sym may.2.3.on_bus)
+            (λ g a. has (lock.Mux g.on) (sends.reached g a).1);
+      }
+    where
+      n : Now
+      n = now b asks past
+
+      job : Job
+      job = may.2.0
+
+      cur : CallerStands b (n.held c) (current b asks n c) n.slot
+      cur = current-stands b tree lines asks some n c stands
+
+      at : (note : Note) × (next : ActOutcome → WalkTree) × (current b asks n c ≡ Then (Send job may.2.1) note next)
+      at = first_is (current b asks n c) (Send job may.2.1) may.2.2
+
+      runs : MaySend b cur.whose job may.2.1 at.0.marks (n.held c) cur.view
+          × ((out : ActOutcome) → CanSend b job may.2.1 out → Runs b cur.whose (n.held c) (after_job job may.2.1 at.0.marks out cur.view) (at.1 out))
+      runs = subst (λ (w : WalkTree). Runs b cur.whose (n.held c) cur.view w) at.2 cur.runs
+
+      sends : MaySend b cur.whose job may.2.1 at.0.marks (n.held c) n.slot
+      sends = send_known b (n.held c) cur.view n.slot cur.agree cur.whose job may.2.1 at.0.marks runs.0
+
+      -- what the caller counts among its locks it has
+      has : (l : LockId) → InLocks l (n.held c) → holder past l ≡ Some c
+      has l counted = sym (holder-told b asks past l) ∙ stands.holds c l counted
 
   pub open-kept : (past : List Entry) → IsStepwise b callers asks past → KeepsPathsOpen b asks past
   open-kept [] steps = tt

@@ -167,6 +167,9 @@ module _ (b : BoardView) (tree : IsTree b) (plain : IsPlainBoard b) (lines : Lin
       (job_home b ((now b asks past).held c) (cur past steps.1 c).view note.marks (lined_fail past steps.1 c steps.0.2.0 steps.0.2.1)
       (now b asks past).slot (marks-home past steps.1) steps.0.2.0 0 (Lined failed))
 
+  pub mark-home : (past : List Entry) → IsStepwise b callers asks past → (p m : ℕ) → mark b asks past p ≡ Some m → home_of_mux b m ≡ p
+  mark-home past steps p m at = marks-home past steps p m (marked_slot ((now b asks past).slot p).slot m at)
+
   pub mark-there : (past : List Entry) → IsStepwise b callers asks past → (p m : ℕ) → mark b asks past p ≡ Some m → p < buses b
   mark-there past steps p m at =
       subst (λ (i : ℕ). i < buses b) (marks-home past steps p m (marked_slot ((now b asks past).slot p).slot m at)) (home_there b plain m)
