@@ -11,10 +11,7 @@ pub planted_push : (roots : ℕ) (ms : List MuxSpec) (m : MuxSpec) → IsPlanted
     → IsPlanted roots (reverse (ms ++ m ∷ []))
 planted_push roots ms m planted there = subst (λ xs. IsPlanted roots xs) (sym (reverse-append ms (m ∷ []))) (there, planted)
 
--- its channels come behind the buses so far
-pub buses_push : (roots : ℕ) (ms : List MuxSpec) (m : MuxSpec) → buses_of roots (ms ++ m ∷ []) ≡ buses_of roots ms + m.channels
-buses_push roots ms m = omega (arith, sum_by_push (λ (x : MuxSpec). x.channels) ms m)
-
+-- its channels come behind the buses so far, in this order too
 pub buses_turned : (roots : ℕ) (ms : List MuxSpec) (m : MuxSpec) → buses_of roots (reverse (ms ++ m ∷ [])) ≡ buses_of roots (reverse ms) + m.channels
 buses_turned roots ms m =
     let sum = sum_by-append (λ (x : MuxSpec). x.channels) (m ∷ []) (reverse ms) in

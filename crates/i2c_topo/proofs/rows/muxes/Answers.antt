@@ -3,7 +3,8 @@ use Rattle.std.proofs.lemmas.List.{length-append}
 use Rattle.std.proofs.lemmas.List.Elements.{All-push}
 use Rattle.i2c_base.specs.declared.board.MuxSpec.{MuxSpec}
 use Rattle.i2c_spec.specs.Plain.{IsPlainMux}
-use Rattle.i2c_topo.proofs.MuxLemmas.{planted_push, buses_push, buses_turned}
+use Rattle.i2c_spec.proofs.HopLemmas.{buses_of-push}
+use Rattle.i2c_topo.proofs.MuxLemmas.{planted_push, buses_turned}
 use Rattle.i2c_topo.proofs.rows.muxes.Invariants.{AreMuxes}
 use Rattle.i2c_topo.proofs.rows.muxes.Goals as goal
 
@@ -12,7 +13,7 @@ AreMuxes-push : (ms : List MuxSpec) (n : ℕ) (m : MuxSpec) → AreMuxes ms n �
 AreMuxes-push ms n m are plain there most = record {
   plain = All-push IsPlainMux ms m are.plain plain;
   planted = planted_push 2 ms m are.planted (subst (λ k. m.bus < k) are.turned there);
-  counted = ap (λ k. k + m.channels) are.counted ∙ sym (buses_push 2 ms m);
+  counted = ap (λ k. k + m.channels) are.counted ∙ sym (buses_of-push 2 ms m);
   turned = ap (λ k. k + m.channels) are.turned ∙ sym (buses_turned 2 ms m);
   most = omega (arith, length-append ms (m ∷ []), most);
 }
