@@ -6,8 +6,6 @@
 
 mod accepted;
 mod board;
-#[cfg(test)]
-mod tests;
 mod tree;
 
 pub use accepted::Accepted;

@@ -8,7 +8,7 @@ use crate::Regs;
 use i2c_base::{Answer, DeviceSpec, Event, Target};
 
 /// A device of a board, whatever its kind.
-#[derive(Debug, Drop)]
+#[derive(Drop)]
 pub enum DeviceState {
     Regs(Regs),
 }

@@ -1,7 +1,7 @@
 use i2c_base::LockId;
 
 /// What a step did.
-#[derive(Clone, Copy, Debug, PartialEq, Eq, Hash)]
+#[derive(Clone, Copy)]
 pub enum Point {
     Took(LockId),
     Freed(LockId),
@@ -20,7 +20,7 @@ pub trait Gate {
 }
 
 /// A gate that holds nobody.
-#[derive(Clone, Copy, Debug, Default)]
+#[derive(Clone, Copy)]
 pub struct OpenGate;
 
 impl Gate for OpenGate {

@@ -8,7 +8,7 @@ use i2c_base::{Answer, DeviceKind, DeviceSpec, Event, Run, Target};
 use std::marker::Model;
 
 /// What a register device awaits of the message in progress.
-#[derive(Clone, Copy, Debug, PartialEq, Eq, Hash)]
+#[derive(Clone, Copy)]
 enum Awaits {
     /// A start with its address.
     Start,
@@ -28,7 +28,7 @@ const LOOKS: u8 = 64;
 
 /// The register device: 256 registers behind a pointer, which the first byte of a write sets and which moves on
 /// after each byte that is written or read, from the last register to the first.
-#[derive(Debug, Drop)]
+#[derive(Drop)]
 pub struct Regs {
     awaits: Awaits,
     pointer: u8,

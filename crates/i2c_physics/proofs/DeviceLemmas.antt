@@ -3,15 +3,21 @@
 use Rattle.std.proofs.Common.{◌≡◌, ℕ, ◌+◌, List, [], ◌∷◌, map, Option, Some, None, refl, ◌∙◌, ap}
 use Rattle.i2c_base.specs.declared.event.Event.{Event}
 use Rattle.i2c_base.specs.declared.event.Answer.{Answer}
-use Rattle.i2c_spec.specs.Targets.{state_table}
+use Rattle.i2c_spec.specs.Targets.{state_table, state_after, state_answer}
 use Rattle.i2c_spec.specs.World.{answers, answer_with, feed, given}
 use Rattle.i2c_outside.specs.declared.device.DeviceState.{DeviceState}
 use Rattle.i2c_outside.specs.declared.device.DeviceState.TheVariants.{Regs}
-use Rattle.i2c_outside.specs.Devices.{target_state, device_table}
+use Rattle.i2c_outside.specs.Devices.{target_state, device_table, device_after, device_answer}
+
+pub state_after_is : (d : DeviceState) (e : Event) → state_after (target_state d) e ≡ target_state (device_after d e)
+state_after_is (Regs x) e = refl
+
+pub state_answer_is : (d : DeviceState) (e : Event) → state_answer (target_state d) e ≡ device_answer d e
+state_answer_is (Regs x) e = refl
 
 given-state : (e : Option Event) (d : DeviceState) → given state_table e (target_state d) ≡ target_state (given device_table e d)
 given-state None d = refl
-given-state (Some e) (Regs x) = refl
+given-state (Some e) d = state_after_is d e
 
 pub feed-states : (f : ℕ → Option Event) (k : ℕ) (ds : List DeviceState)
     → feed state_table f k (map target_state ds) ≡ map target_state (feed device_table f k ds)
@@ -24,7 +30,7 @@ feed-states f k (d ∷ ds) =
 answer-state : (e : Option Event) (k : ℕ) (d : DeviceState) (rest : List (ℕ × Answer))
     → answer_with state_table e k (target_state d) rest ≡ answer_with device_table e k d rest
 answer-state None k d rest = refl
-answer-state (Some e) k (Regs x) rest = refl
+answer-state (Some e) k d rest = ap (λ a. (k, a) ∷ rest) (state_answer_is d e)
 
 pub answers-states : (f : ℕ → Option Event) (k : ℕ) (ds : List DeviceState)
     → answers state_table f k (map target_state ds) ≡ answers device_table f k ds

@@ -7,7 +7,7 @@ use Rattle.i2c_base.specs.declared.port.PortCall.{PortCall}
 use Rattle.i2c_spec.specs.Chips.{ChipView, chip_table}
 use Rattle.i2c_spec.specs.Targets.{TargetState, state_table}
 use Rattle.i2c_spec.specs.World.{World, answers, feed}
-use Rattle.i2c_spec.specs.Joints.{chip_event, device_event, fed}
+use Rattle.i2c_physics.specs.Events.{chip_event, device_event, fed}
 use Rattle.i2c_outside.specs.declared.device.DeviceState.{DeviceState}
 use Rattle.i2c_outside.specs.Devices.{target_state, device_table}
 use Rattle.i2c_physics.specs.declared.together.Together.{Together}

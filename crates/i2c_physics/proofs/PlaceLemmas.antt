@@ -12,7 +12,7 @@ use Rattle.i2c_base.specs.Board.{DeviceView}
 use Rattle.i2c_spec.specs.Tree.{hops, root_of}
 use Rattle.i2c_spec.specs.Chips.{ChipView}
 use Rattle.i2c_spec.specs.World.{World, opens_hop, joins_chip, joins_device}
-use Rattle.i2c_spec.specs.Joints.{is_node, chip_event, device_event}
+use Rattle.i2c_physics.specs.Events.{is_node, chip_event, device_event}
 use Rattle.i2c_physics.specs.Places.{PlaceView, mux_place, device_place, joins, event_for}
 
 and_assoc : (a b c : Bool) → ((a && b) && c) ≡ (a && (b && c))

@@ -1,26 +1,12 @@
 -- What a plug gives: the ports of the roots as they are opened, in order.
-use Rattle.std.proofs.Common.{◌≡◌, ℕ, zero, suc, ◌+◌, List, [], ◌∷◌, ◌++◌, length, map, get_or, refl, ◌∙◌, ap, arith, add-zero, zero-add}
+use Rattle.std.proofs.Common.{◌≡◌, ℕ, List, [], ◌∷◌, length, map, get_or, refl, ◌∙◌, ap}
 use Rattle.std.specs.Prelude.{All}
 use Rattle.std.specs.List.{range_with_len}
-use Rattle.std.proofs.lemmas.List.{map-append}
 use Rattle.std.proofs.lemmas.List.Elements.{All-map}
 use Rattle.std.proofs.lemmas.List.FromFn.{length-map-range_with_len}
 use Rattle.i2c_base.specs.Board.{BoardView}
 use Rattle.i2c_spec.specs.World.{opening_world, openings}
 use Rattle.i2c_physics.specs.SimPorts.{PortView, opening_port}
-
--- one root more
-range_more : (a n : ℕ) → range_with_len a (n + 1) ≡ range_with_len a n ++ (a + n) ∷ []
-range_more a zero = rw add-zero refl
-range_more a (suc n) =
-    let one : suc n + 1 ≡ suc (suc n) = omega arith in
-    let same : n + 1 ≡ suc n = omega arith in
-    let rest : range_with_len (a + 1) (suc n) ≡ range_with_len (a + 1) n ++ (a + 1 + n) ∷ [] = rw same at (range_more (a + 1) n) in
-    let last : a + suc n ≡ a + 1 + n = omega arith in
-    rw (one, last) (ap (λ xs. a ∷ xs) rest)
-
-pub map-more : {X : Type 0} (f : ℕ → X) (n : ℕ) → map f (range_with_len 0 (n + 1)) ≡ map f (range_with_len 0 n) ++ f n ∷ []
-map-more f n = rw (range_more 0 n, map-append f (range_with_len 0 n) ((0 + n) ∷ []), zero-add) refl
 
 -- what a plug gives
 all_opened : (b : BoardView) (P : PortView → Type 0) → ((r : ℕ) → P (opening_port b r)) → (rs : List ℕ) → All P (map (opening_port b) rs)

@@ -6,7 +6,7 @@ use Rattle.i2c_base.specs.declared.port.PortCall.{PortCall}
 use Rattle.i2c_spec.specs.Chips.{chip_table}
 use Rattle.i2c_spec.specs.Targets.{state_table}
 use Rattle.i2c_spec.specs.World.{World, is_ack, is_slow, some_answer, and_of, answers}
-use Rattle.i2c_spec.specs.Joints.{numbers_of, chip_event, device_event}
+use Rattle.i2c_physics.specs.Events.{numbers_of, chip_event, device_event}
 use Rattle.i2c_physics.specs.declared.together.Together.{Together}
 
 abbrev pub together_of : List (ℕ × Answer) → Together

@@ -13,7 +13,7 @@ use std::marker::Model;
 use tgt_mux::Chip;
 
 /// Where a target stands, as the port of one root has it. A contract sees the record of these parts.
-#[derive(Debug, Drop)]
+#[derive(Drop)]
 pub struct Place {
     addr: Option<Addr>,
     /// It is there, on a bus of that root.

@@ -142,7 +142,7 @@ impl Rig for SimRig {
 }
 
 /// The board's devices are all register devices.
-fn has_regs(board: &Board) -> bool
+pub fn has_regs(board: &Board) -> bool
     ensures { IsTrue result ↔ IsSimBoard board.now }
 {
     board

@@ -7,7 +7,7 @@ ghost use Rattle.i2c_spec.specs.Plain.{IsPlainDevice};
 ghost use Rattle.i2c_spec.specs.Chips.{chip_opening};
 ghost use Rattle.i2c_spec.specs.Targets.{opening_state};
 ghost use Rattle.i2c_spec.specs.World as world;
-ghost use Rattle.i2c_spec.specs.Joints.{is_node, chip_event, device_event, fed};
+ghost use Rattle.i2c_physics.specs.Events.{is_node, chip_event, device_event, fed};
 ghost use Rattle.i2c_base.specs.declared.port.PortCall.TheVariants as call;
 ghost use Rattle.i2c_outside.specs.Devices.{target_state};
 ghost use Rattle.i2c_outside.specs.Registers.{is_regs};
@@ -82,7 +82,7 @@ impl SimWorld {
     }
 
     /// A start goes out. What it is answered.
-    #[tactic(auto, using(i2c_spec::proofs::WorldLemmas::hearers_told))]
+    #[tactic(auto, using(crate::proofs::WorldLemmas::hearers_told))]
     pub fn start(&mut self, addr: Addr, reading: bool) -> Answer
         ensures answer { result ≡ world.answer self.old addr reading }
         ensures after { self.new ≡ world.after self.old (call.Start addr reading) }

@@ -4,14 +4,14 @@ ghost use Rattle.i2c_base.specs.declared.event.Event.{Event};
 ghost use Rattle.i2c_base.specs.declared.event.Answer.{Answer};
 ghost use Rattle.i2c_base.specs.declared.ids.Node.TheVariants as node;
 ghost use Rattle.i2c_spec.specs.World.{answers, feed, byte_of};
-ghost use Rattle.i2c_spec.specs.Joints.{nodes_of};
+ghost use Rattle.i2c_physics.specs.Events.{nodes_of};
 ghost use Rattle.i2c_physics.specs.Answering.{together_of, start_answer};
 
 use arrayvec::ArrayVec;
 use i2c_base::{Answer, DevId, Event, MuxId, Node, Target};
 
 /// What several targets answer to a call together.
-#[derive(Debug, Drop)]
+#[derive(Drop)]
 pub struct Together {
     /// Someone holds the clock for too long.
     pub slow: bool,

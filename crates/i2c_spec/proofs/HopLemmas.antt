@@ -1,9 +1,9 @@
 -- The hops over a bus, found by going over the muxes from the last one of the board back: a mux is crossed where
 -- its channels begin at or before the bus, and passed where they begin behind it.
-use Rattle.std.proofs.Common.{◌≡◌, ℕ, suc, slice_get, Some, ◌+◌, ◌-◌, ◌<◌, ◌≤◌, nat_le, true, false, cond, List, [], ◌∷◌, length, reverse, take, get_or, sym, ap, ◌∙◌, arith, rules}
+use Rattle.std.proofs.Common.{◌≡◌, ℕ, suc, slice_get, Some, ◌+◌, ◌-◌, ◌<◌, ◌≤◌, nat_le, true, false, cond, List, [], ◌∷◌, ◌++◌, length, reverse, take, get_or, sym, ap, ◌∙◌, arith, rules}
 use Rattle.std.specs.List.{All}
 use Rattle.std.proofs.lemmas.List.{take_more, reverse-append, length-reverse}
-use Rattle.std.proofs.lemmas.List.Sums.{sum_by-cons}
+use Rattle.std.proofs.lemmas.List.Sums.{sum_by-cons, sum_by_push}
 use Rattle.std.proofs.lemmas.List.Sorted.{sum_by-IsPermutation, IsPermutation-reverse}
 use Rattle.std.proofs.lemmas.List.Elements.{All-nil, All-cons, All-weaker}
 use Rattle.std.proofs.lemmas.Option.{same_Some}
@@ -23,6 +23,9 @@ reverse_back xs n d some within =
 pub buses_of-cons : (roots : ℕ) (m : MuxSpec) (before : List MuxSpec)
     → buses_of roots (m ∷ before) ≡ buses_of roots before + m.channels
 buses_of-cons roots m before = omega (arith, sum_by-cons (λ (x : MuxSpec). x.channels) m before)
+
+pub buses_of-push : (roots : ℕ) (ms : List MuxSpec) (m : MuxSpec) → buses_of roots (ms ++ m ∷ []) ≡ buses_of roots ms + m.channels
+buses_of-push roots ms m = omega (arith, sum_by_push (λ (x : MuxSpec). x.channels) ms m)
 
 pub buses_of-reverse : (roots : ℕ) (ms : List MuxSpec) → buses_of roots (reverse ms) ≡ buses_of roots ms
 buses_of-reverse roots ms =

@@ -1,11 +1,5 @@
 pub mod AddressLemmas
-pub mod FitLemmas
 pub mod HopLemmas
-pub mod JointLemmas
 pub mod PlainLemmas
 pub mod RuleLemmas
-pub mod TalkLemmas
-pub mod TargetLemmas
-pub mod TransferTalkLemmas
 pub mod TreeLemmas
-pub mod WorldLemmas

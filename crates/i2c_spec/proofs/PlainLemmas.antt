@@ -13,7 +13,7 @@ use Rattle.i2c_spec.specs.Tree.{buses, of_mux}
 use Rattle.i2c_spec.specs.Plain.{IsPlainBoard, IsPlainMux, FitsChannels}
 
 -- no mux has more than 8 channels
-channels_le : (kind : MuxKind) (n : ℕ) → FitsChannels kind n → n ≤ 8
+pub channels_le : (kind : MuxKind) (n : ℕ) → FitsChannels kind n → n ≤ 8
 channels_le Pca9548 n h = omega arith
 channels_le Pca9546 n h = omega arith
 channels_le Pca9544 n h = omega arith

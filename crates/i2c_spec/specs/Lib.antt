@@ -10,14 +10,10 @@ pub mod Searches
 pub mod Regs
 pub mod Chips
 pub mod Targets
-pub mod PlainStates
 pub mod World
-pub mod Joints
 pub mod Messages
 pub mod Conversation
-pub mod PlainTalks
 pub mod Flat
-pub mod FlatStates
 pub mod History
 pub mod Cost
 pub mod Fair

@@ -1,4 +1,4 @@
-ghost use Rattle.std.specs.Prelude.{◌≡◌, ◌≤◌, ◌==◌, [], Bool, length, IfOk};
+ghost use Rattle.std.specs.Prelude.{◌≡◌, ◌≤◌, length};
 ghost use Rattle.std.specs.List.{list_any};
 ghost use Rattle.i2c_base.specs.Transfer.{is_read};
 ghost use Rattle.i2c_spec.specs.Flat as spec;
@@ -6,65 +6,8 @@ ghost use Rattle.i2c_spec.specs.Grant.{grant_of, is_busy};
 ghost use Rattle.i2c_spec.specs.Layouts.{board_of};
 ghost use Rattle.i2c_spec.specs.Plain.{IsPlainBoard};
 
-use crate::{Layout, PlainFlat, PlainSite, PlainState, talk_all};
-use i2c_base::{Bytes, Cut, End, Errno, Grant, Kind, Msg, Reply, SegId, Transfer, Way};
-use std::alloc::{AllocError, Global};
-
-/// One transfer in the flat world, on devices in these states: its reply, and the devices that it leaves.
-pub fn flat(
-    alloc: Global,
-    layout: Layout<'_>,
-    states: Vec<PlainState>,
-    transfer: &Transfer,
-    cut: Cut,
-) -> Result<(Reply, Vec<PlainState>), AllocError>
-    requires plain { IsPlainBoard (board_of layout) }
-    requires room { length states.items ≤ 128 }
-    ensures told { IfOk result (λ told. record { reply = told.0; states = told.1.items }
-        ≡ spec.flat (board_of layout.entry) states.items transfer.now cut) }
-    ensures room { IfOk result (λ told. length told.1.items ≤ 128) }
-{
-    if let Some(errno) = barred(&layout, transfer, cut) {
-        return Ok((Reply::Err(errno), states));
-    }
-    let site = PlainSite::new(layout, SegId(transfer.bus()), transfer.force());
-    let mut now = PlainFlat::idle(alloc, states);
-    let (got, end) = talk_all(
-        alloc,
-        &site,
-        &mut now,
-        BLOCK_LIMIT,
-        transfer.msgs(),
-        transfer.out(),
-        cut,
-    )?;
-    let reply = match errno_of(end) {
-        Some(errno) => Reply::Err(errno),
-        None => done_with(transfer, got.as_slice()),
-    };
-    Ok((reply, now.into_states()))
-}
-
-// SMBus 2.0 has 32 bytes to a block.
-const BLOCK_LIMIT: u8 = 32;
-
-// Why no message of a transfer is sent: it is refused, a port call failed on the way, or the way is barred.
-fn barred(layout: &Layout<'_>, transfer: &Transfer, cut: Cut) -> Option<Errno>
-    requires { IsPlainBoard (board_of layout.now) }
-    ensures { result ≡ spec.barred (board_of layout.now) transfer.now cut }
-{
-    if let Some(errno) = refusal(layout, transfer) {
-        return Some(errno);
-    }
-    if matches!(cut, Cut::Way) {
-        return Some(Errno::Eremoteio);
-    }
-    match layout.way(SegId(transfer.bus())) {
-        Way::Clear => None,
-        Way::NoAck(_) => Some(Errno::Enxio),
-        Way::Held(_) => Some(Errno::Etimedout),
-    }
-}
+use crate::Layout;
+use i2c_base::{Bytes, End, Errno, Grant, Kind, Msg, Reply, SegId, Transfer};
 
 /// Why a transfer is refused without any step on the bus: ENODEV where the board lacks its bus, EOPNOTSUPP where it is
 /// plain and its root offers SMBus calls alone, EBUSY where the address of one of its messages is busy; else none.

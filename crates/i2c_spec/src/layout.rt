@@ -6,7 +6,7 @@ use arrayvec::ArrayVec;
 use i2c_base::{DeviceSpec, LockMode, MuxId, MuxSpec, RootSpec, SegId};
 
 /// The parts of a board, borrowed: what the tree, the grant of an address and the topology rules read of it.
-#[derive(Clone, Copy, Debug)]
+#[derive(Clone, Copy)]
 pub struct Layout<'a> {
     pub roots: &'a [RootSpec],
     pub muxes: &'a [MuxSpec],

@@ -9,7 +9,7 @@ use i2c_base::{Addr, DevId, Idle, Item, MuxId, MuxKind, RuleBroken, SegId};
 const MOST_DEPTH: usize = 4;
 
 /// The topology rules over single muxes.
-#[derive(Clone, Copy, Debug)]
+#[derive(Clone, Copy)]
 enum MuxRule {
     /// Rule 2: no bus is deeper than 4.
     Depth,

@@ -8,7 +8,7 @@ use std::marker::Model;
 const FOREIGN_FOR_GOOD: u8 = 8;
 
 /// The chip of a mux, or the line of a gpio mux. A byte that is written to a chip takes effect at the stop.
-#[derive(Debug, Drop)]
+#[derive(Drop)]
 pub struct Chip {
     kind: MuxKind,
     /// The control byte of a switch; 1 where an arbitrator is open, else 0; the level of a gpio mux.
@@ -152,7 +152,7 @@ impl Target for Chip {
 }
 
 /// Bit i of a byte.
-#[tactic(auto, using(i2c_spec::proofs::TargetLemmas::bit_of_high))]
+#[tactic(auto, using(crate::proofs::TargetLemmas::bit_of_high))]
 fn has_bit(byte: u8, i: u16) -> bool
     ensures { result ≡ bit_of byte i }
 {

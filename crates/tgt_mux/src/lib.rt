@@ -5,7 +5,5 @@
 #![tactic(auto)]
 
 mod chip;
-#[cfg(test)]
-mod tests;
 
 pub use chip::Chip;

@@ -3,7 +3,8 @@ use Rattle.std.proofs.lemmas.List.{length-append}
 use Rattle.i2c_spec.specs.Plain.{IsPlainMux}
 use Rattle.i2c_spec.specs.Tree.{buses_of}
 use Rattle.i2c_boardtext.proofs.RowLemmas.{read_more, All-push}
-use Rattle.i2c_boardtext.proofs.MuxLemmas.{buses-push, planted-push, few_channels}
+use Rattle.i2c_spec.proofs.HopLemmas.{buses_of-push}
+use Rattle.i2c_boardtext.proofs.MuxLemmas.{planted-push, few_channels}
 use Rattle.i2c_boardtext.proofs.mux.muxes_of.Goals as goal
 use Rattle.i2c_boardtext.specs.BoardText.{placed, mux_of, muxes_of}
 use Rattle.i2c_boardtext.specs.Rows.{rows_of, row_of}
@@ -18,7 +19,7 @@ loop-value-preserved c =
     let same : c.push.new.self.items ≡ before ++ mux ∷ [] = c.in_ok-push.ensures.items in
     let within : c.loop-value.value-index < length c.args.rows.now = omega arith in
     let few = few_channels mux c.in_ok-mux.ensures.plain in
-    let more : buses_of roots (before ++ mux ∷ []) ≡ buses_of roots before + mux.channels = buses-push roots before mux in
+    let more : buses_of roots (before ++ mux ∷ []) ≡ buses_of roots before + mux.channels = buses_of-push roots before mux in
     record {
       count = rw (same, length-append before (mux ∷ [])) (omega (arith, all.count));
       buses = rw (same, more) (omega (arith, all.buses, c.from-buses.ensures));

@@ -1,10 +1,10 @@
 use Rattle.i2c_physics.specs.SimPorts.{opening_port}
-use Rattle.i2c_physics.proofs.PlugLemmas.{map-more}
+use Rattle.i2c_physics.proofs.TogetherLemmas.{listed_more}
 use Rattle.i2c_physics.proofs.sim_rig.open_ports.Goals as goal
 
 pub loop-root-preserved : goal.loop-root-preserved
 loop-root-preserved c =
-    let more = map-more (opening_port c.args.board.now) c.loop-root.root in
+    let more = listed_more (opening_port c.args.board.now) c.loop-root.root in
     let was = c.loop-root.invariant in
     let item = c.in_ok-open.ensures in
     let now = c.in_ok-push.ensures.items in

@@ -1,7 +1,7 @@
 use Rattle.std.proofs.Common.{◌≡◌, ◌+◌, ◌-◌, ◌<◌, length, ap, ◌∙◌, sym, arith}
-use Rattle.i2c_spec.specs.Joints.{event_at}
+use Rattle.i2c_physics.specs.Events.{event_at}
 use Rattle.i2c_physics.specs.Answering.{together_of}
-use Rattle.i2c_spec.proofs.JointLemmas.{fed_some, fed_none, answered_some, answered_none, feed_listed, answers_listed}
+use Rattle.i2c_physics.proofs.TogetherLemmas.{fed_some, fed_none, answered_some, answered_none, feed_listed, answers_listed}
 use Rattle.i2c_physics.proofs.together.tell.Goals as goal
 
 pub loop-left-preserved-in-Some : goal.loop-left-preserved-in-Some

@@ -1,6 +1,6 @@
 use Rattle.std.proofs.Common.{◌≡◌, ◌+◌, ◌≤◌, length, take, drop, ◌++◌}
 use Rattle.i2c_spec.specs.World.{answers, feed}
-use Rattle.i2c_spec.specs.Joints.{event_at}
+use Rattle.i2c_physics.specs.Events.{event_at}
 use Rattle.i2c_physics.specs.Answering.{together_of}
 use Rattle.i2c_physics.proofs.together.tell.Given as goal
 

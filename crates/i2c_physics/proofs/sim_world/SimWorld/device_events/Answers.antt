@@ -1,6 +1,6 @@
 use Rattle.std.proofs.Common.{◌<◌, length, ◌∙◌, arith}
-use Rattle.i2c_spec.specs.Joints.{device_event}
-use Rattle.i2c_spec.proofs.JointLemmas.{listed_more}
+use Rattle.i2c_physics.specs.Events.{device_event}
+use Rattle.i2c_physics.proofs.TogetherLemmas.{listed_more}
 use Rattle.i2c_physics.proofs.PlaceLemmas.{device-event}
 use Rattle.i2c_physics.proofs.sim_world.SimWorld.device_events.Goals as goal
 

@@ -2,7 +2,7 @@ use Rattle.std.proofs.Common.{◌<◌, bit_and, ap, ◌∙◌}
 use Rattle.i2c_base.specs.declared.port.PortCall.TheVariants as call
 use Rattle.i2c_physics.specs.declared.together.Together.{Together}
 use Rattle.i2c_physics.specs.Answering.{chips_say, devices_say}
-use Rattle.i2c_spec.proofs.WorldLemmas.{gives_told}
+use Rattle.i2c_physics.proofs.WorldLemmas.{gives_told}
 use Rattle.i2c_physics.proofs.sim_world.SimWorld.get.Goals as goal
 
 pub returns-clause-given : goal.returns-clause-given

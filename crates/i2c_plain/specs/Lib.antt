@@ -1,0 +1,2 @@
+pub mod FlatStates
+pub mod PlainTalks

@@ -1,0 +1,96 @@
+//! The boards, transfers and replies of cases, as text.
+
+ghost use Rattle.std.specs.Prelude.{◌≤◌, IfOk, vec_len};
+
+use crate::device::Device;
+use anyhow::{Context, Result, bail};
+use i2c_base::{Addr, Cut, Errno, Kind, Reply, Transfer};
+use i2c_board::Board;
+use i2c_boardtext::read_board;
+use i2c_physics::has_regs;
+use std::alloc::{AllocError, Global};
+use std::fs;
+use std::rt::Files;
+
+/// The board of the file `NAME.toml`.
+pub fn read<R: Files + AllocGlobal>(rt: &R, name: &str) -> Result<Board> {
+    let path = format!(in rt.alloc(); "{name}.toml")?;
+    let text = fs::read(rt, path.as_str())?;
+    match read_board(rt.alloc(), text.as_slice()) {
+        Ok(board) => Ok(board),
+        Err(fault) => bail!("{fault:?}"),
+    }
+}
+
+/// The devices of a board as they are opened.
+pub fn open_devices(alloc: Global, board: &Board) -> Result<Vec<Device>>
+    ensures { IfOk result (λ devices. vec_len devices ≤ 128) }
+{
+    if !has_regs(board) {
+        bail!("a device that isn't a register device");
+    }
+    let mut devices = Vec::new(alloc);
+    for spec in board.devices() {
+        devices.push(Device::open(spec))?;
+    }
+    Ok(devices)
+}
+
+/// A plain transfer, and where it is cut off. It is written as its bus, then `@way` where it is cut off on the way, or
+/// `@M.C` where it is in message M after C calls; then its messages. `wADDR=BYTES` writes bytes, in hexadecimal digits
+/// as the address, `rADDR` reads one byte, and `cADDR` is a counted read.
+pub fn transfer_of(alloc: Global, text: &str) -> Result<(Transfer, Cut)> {
+    let mut words = text.split_whitespace();
+    let front = words.next().context("a bus")?;
+    let (bus, cut) = match front.split_once('@') {
+        Some((bus, place)) => (bus, cut_of(place)?),
+        None => (front, Cut::No),
+    };
+    let bus = bus.parse::<u16>().context("a bus")?;
+    let mut transfer = Transfer::new(bus, Kind::Plain, false);
+    for word in words {
+        add(alloc, &mut transfer, word)?;
+    }
+    Ok((transfer, cut))
+}
+
+// Adds the message of a word.
+fn add(alloc: Global, transfer: &mut Transfer, word: &str) -> Result<()> {
+    let added = if let Some(message) = word.strip_prefix('w') {
+        let (addr, bytes) = message.split_once('=').context("an address and bytes")?;
+        let bytes = hex::decode(alloc, bytes)?;
+        transfer.add_write(address(addr)?, bytes.as_slice())
+    } else if let Some(addr) = word.strip_prefix('r') {
+        transfer.add_read(address(addr)?, 1)
+    } else if let Some(addr) = word.strip_prefix('c') {
+        transfer.add_counted(address(addr)?, false)
+    } else {
+        bail!("no message");
+    };
+    added.ok().context("too long")
+}
+
+fn address(word: &str) -> Result<Addr> {
+    Addr::new(u8::from_str_radix(word, 16)?).context("an address")
+}
+
+// The place of a cut.
+fn cut_of(place: &str) -> Result<Cut> {
+    if place == "way" {
+        return Ok(Cut::Way);
+    }
+    let (msg, call) = place.split_once('.').context("a message and a call")?;
+    Ok(Cut::At {
+        msg: msg.parse::<u8>()?,
+        call: call.parse::<u16>()?,
+    })
+}
+
+/// A reply: the bytes that were read, `done`, or the error.
+pub fn reply_text(alloc: Global, reply: &Reply) -> Result<String, AllocError> {
+    match reply {
+        Reply::Done => String::from_str(alloc, "done"),
+        Reply::Read(bytes) => hex::encode(alloc, bytes.as_slice()),
+        Reply::Err(errno) => format!(in alloc; "{errno:?}"),
+    }
+}
