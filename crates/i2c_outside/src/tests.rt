@@ -3,8 +3,8 @@
 use super::*;
 use std::collections::BTreeMap;
 use std::fmt::Display;
+use std::io;
 use std::test::Fail;
-use std::{fs, io};
 
 #[test]
 fn a_write_takes_what_fits_and_fails_where_nothing_does(rt: HostRuntime) -> Result<(), Fail> {
@@ -46,24 +46,6 @@ fn a_read_fails_where_its_number_is_told_or_the_name_is_missing(
     for (place, want) in [(0, 1), (1, 1), (2, 0), (15, 0)] {
         assert_eq!(rt; shelf.faults(place), want, "faults at place {place}");
     }
-    Ok(())
-}
-
-#[test]
-fn a_real_file_is_read_and_a_missing_one_is_a_fault(rt: HostRuntime) -> Result<(), Fail> {
-    let alloc = rt.alloc();
-    let name = "a_real_file.txt";
-    fs::write(&rt, name, b"abc")?;
-    let mut words = Vec::new(alloc);
-    words.push(String::from_str(alloc, name)?)?;
-    words.push(String::from_str(alloc, "no_such_file.txt")?)?;
-    let mut shelf = FileShelf::new(&rt, words);
-    let read = shelf.read(alloc, 0, name)?;
-    let missing = shelf.read(alloc, 1, "no_such_file.txt").err();
-    fs::remove_file(&rt, name)?;
-    assert_eq!(rt; read.as_slice(), b"abc".as_slice());
-    assert_eq!(rt; missing, Some(ReadFail::Failed));
-    assert_eq!(rt; (shelf.faults(0), shelf.faults(1)), (0, 1));
     Ok(())
 }
 
