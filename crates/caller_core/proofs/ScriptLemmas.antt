@@ -1,24 +1,10 @@
 -- A line of a script, behind the commands before it.
-use Rattle.std.proofs.Common.{◌≡◌, ℕ, ◌+◌, List, [], ◌∷◌, ◌++◌, length, Option, Some, Result, Ok, Err, refl, sym, ap, ◌∙◌, append_assoc, length-append, subst}
+use Rattle.std.proofs.Common.{◌≡◌, ℕ, ◌+◌, List, [], ◌∷◌, ◌++◌, length, Some, Result, Ok, Err, refl, sym, ap, ◌∙◌, append_assoc, length-append, subst}
 use Rattle.tool_words.specs.Fronts.{lines_of}
-use Rattle.tool_words.specs.Commands.{CommandView, line_read, FaultIs}
-use Rattle.caller_core.specs.Scripts.{Place, lines_read, behind_commands, behind_line_read, ScriptFaultIs, fault_at}
+use Rattle.tool_words.specs.Commands.{CommandView, line_read}
+use Rattle.caller_core.specs.Scripts.{Place, lines_read, behind_commands, behind_line_read, ScriptFaultIs}
 use Rattle.caller_core.specs.ScriptSteps.{IsStep, IsRefused}
-use Rattle.tool_words.specs.declared.command.LineFault.{LineFault}
-use Rattle.tool_words.specs.declared.command.LineFault.TheVariants as line_fault
 use Rattle.caller_core.specs.declared.script.ScriptFault.{ScriptFault}
-
-refused_by : (number : ℕ) (old : List CommandView) (r : Result (Option CommandView) ℕ) (same more : Result (List CommandView) Place) (fault : LineFault)
-    → FaultIs r fault → ScriptFaultIs (behind_commands old (behind_line_read number r same more)) (fault_at fault number)
-refused_by number old r same more (line_fault.Word word) e = ap (λ x. behind_commands old (behind_line_read number x same more)) e
-refused_by number old r same more line_fault.Memory e = tt
-
-pub is_refused : (number : ℕ) (old : List CommandView) (line : List ℕ) (fault : LineFault) (placed : ScriptFault)
-    → FaultIs (line_read (length old) line) fault → placed ≡ fault_at fault number → IsRefused number old line placed
-is_refused number old line fault placed e p =
-    record {
-      refused = λ ls. rw p (refused_by number old (line_read (length old) line) (lines_read (number + 1) (length old) ls) (lines_read (number + 1) (length old + 1) ls) fault e);
-    }
 
 behind_push : (old : List CommandView) (c : CommandView) (r : Result (List CommandView) Place) → behind_commands (old ++ c ∷ []) r ≡ behind_commands old (behind_commands (c ∷ []) r)
 behind_push old c (Ok cs) = ap Ok (append_assoc old (c ∷ []) cs)

@@ -7,7 +7,7 @@ use std::alloc::{AllocError, AllocFailed, Global};
 use tool_words::{Command, LineFault, read_line, split_line};
 
 /// Why a script was not read.
-#[derive(Clone, Copy, Debug, PartialEq, Eq, Hash)]
+#[derive(Clone, Copy)]
 pub enum ScriptFault {
     /// The first line, from 1, that is not in the grammar, and its refused word, from 0.
     Bad { line: u32, word: u16 },

@@ -3,7 +3,7 @@ ghost use Rattle.std.specs.Prelude.{◌≡◌, ◌≤◌, false, None, map, repl
 use crate::shelf::{LARGEST, PLACES};
 use crate::{ReadFail, Shelf};
 use std::alloc::Global;
-use std::io::Read;
+use std::io::{ErrorKind, Read};
 use std::rt::Files;
 use std::{fs, io};
 
@@ -49,6 +49,7 @@ impl<'r, R: Files> Shelf for FileShelf<'r, R> {
     fn read(&mut self, alloc: Global, place: u8, name: &str) -> Result<Vec<u8>, ReadFail> {
         match read_file(self.files, alloc, name) {
             Ok(bytes) if bytes.len() <= LARGEST => Ok(bytes),
+            Err(error) if matches!(error.kind(), ErrorKind::OutOfMemory) => Err(ReadFail::Memory),
             _ => {
                 let count = self.faults[usize::from(place)];
                 self.faults[usize::from(place)] = count.saturating_add(1);

@@ -30,18 +30,3 @@ pub use program::top;
 pub use replay::replay_call;
 pub use report::report_text;
 pub use status::{BoardRefusal, Status};
-
-#[cfg(test)]
-mod caller_tests;
-#[cfg(test)]
-mod check_tests;
-#[cfg(test)]
-mod mux_tests;
-#[cfg(test)]
-mod refusal_tests;
-#[cfg(test)]
-mod rig_tests;
-#[cfg(test)]
-mod sink_tests;
-#[cfg(test)]
-mod tests;

@@ -228,6 +228,12 @@ pub fn top<H: Threads + Wait + Sync, S: Shelf, K: Sink, R: Rig, G: Gate + Sync>(
     ensures traced { IsTraced (request_in (map string_bytes words.now)) (rig_view R.tells R.P.tells R.faults R.plugs R.unplugs R.plugged R.logs R.states rig.old) (rig_view R.tells R.P.tells R.faults R.plugs R.unplugs R.plugged R.logs R.states rig.new) result }
     ensures words { S.words shelf.new ≡ S.words shelf.old }
     ensures files { (n : List ℕ) → S.file shelf.new n ≡ S.file shelf.old n }
+
+    // All of it in one, for who calls this.
+    ensures ended { HasEnded (IsForm (map string_bytes words.now) → ⊥) (request_in (map string_bytes words.now))
+        (shelf_view S.tells S.file S.faults shelf.old) (shelf_view S.tells S.file S.faults shelf.new)
+        (output_view K.tells K.bytes K.faults sink.old) (output_view K.tells K.bytes K.faults sink.new)
+        (rig_view R.tells R.P.tells R.faults R.plugs R.unplugs R.plugged R.logs R.states rig.old) (rig_view R.tells R.P.tells R.faults R.plugs R.unplugs R.plugged R.logs R.states rig.new) result }
 {
     answer_words(alloc, words, shelf, sink, rig)
 }

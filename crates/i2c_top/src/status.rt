@@ -7,7 +7,7 @@ use i2c_boardtext::BoardFault;
 use std::alloc::{AllocError, AllocFailed};
 
 /// Why a board was refused.
-#[derive(Clone, Copy, Debug, PartialEq, Eq, Hash)]
+#[derive(Clone, Copy)]
 pub enum BoardRefusal {
     /// Its text spells no board, by this first fault. It is never want of memory.
     Fault(BoardFault),
@@ -18,7 +18,7 @@ pub enum BoardRefusal {
 }
 
 /// How a call of the program ended.
-#[derive(Clone, Copy, Debug, PartialEq, Eq, Hash)]
+#[derive(Clone, Copy)]
 pub enum Status {
     /// The report was written whole.
     Ok,

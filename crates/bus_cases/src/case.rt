@@ -1,0 +1,127 @@
+ghost use Rattle.std.specs.Prelude.{◌≡◌, map, string_bytes, IfOk};
+
+use crate::rig::CountingRig;
+use i2c_outside::{MapShelf, OpenGate, VecSink};
+use i2c_top::{Status, top};
+use std::alloc::{AllocError, Global};
+use std::collections::BTreeMap;
+use std::sync::Wait;
+use std::thread::Threads;
+
+/// Files by their names.
+pub type Files = BTreeMap<String, Vec<u8>>;
+
+/// What fails in a call, and how many bytes its output has room for.
+#[derive(Drop)]
+pub struct Case {
+    pub reads: Vec<u32>,
+    pub writes: Vec<u32>,
+    pub room: usize,
+    pub is_stuck: bool,
+}
+
+/// A call that was made, and what it left.
+#[derive(Drop)]
+pub struct Called {
+    pub words: Vec<String>,
+    pub status: Status,
+    pub shelf: MapShelf,
+    pub sink: VecSink,
+    pub rig: CountingRig,
+}
+
+impl Case {
+    /// Nothing fails.
+    pub fn new(alloc: Global) -> Self {
+        Case {
+            reads: Vec::new(alloc),
+            writes: Vec::new(alloc),
+            room: 4096,
+            is_stuck: false,
+        }
+    }
+}
+
+impl Called {
+    /// It was cut off by an output of this room, which holds a front of what was due.
+    pub fn is_front(&self, room: usize, due: &[u8]) -> bool {
+        matches!(&self.status, Status::Write)
+            && self.sink.faults() == 1
+            && self.sink.bytes().len() == room
+            && due.starts_with(self.sink.bytes())
+    }
+}
+
+// The same words again.
+fn copied(alloc: Global, words: &[String]) -> Result<Vec<String>, AllocError>
+    ensures { IfOk result (λ v. map string_bytes v.items ≡ map string_bytes words.now) }
+{
+    let mut copy = Vec::new(alloc);
+    for word in words {
+        copy.push(String::from_str(alloc, word.as_str())?)?;
+    }
+    Ok(copy)
+}
+
+// The same files again.
+fn copied_files(alloc: Global, files: &Files) -> Result<Files, AllocError> {
+    let mut copy = BTreeMap::new(alloc);
+    for (name, bytes) in files.iter() {
+        let bytes = Vec::from_slice(alloc, bytes.as_slice())?;
+        copy.insert(String::from_str(alloc, name.as_str())?, bytes)?;
+    }
+    Ok(copy)
+}
+
+/// Calls the top with these words over these files.
+pub fn call<H: Threads + Wait + Sync>(
+    rt: &H,
+    alloc: Global,
+    case: &Case,
+    files: &Files,
+    words: Vec<String>,
+) -> Result<Called, AllocError> {
+    let reads = Vec::from_slice(alloc, case.reads.as_slice())?;
+    let writes = Vec::from_slice(alloc, case.writes.as_slice())?;
+    let copy = copied(alloc, words.as_slice())?;
+    let mut shelf = MapShelf::new(copy, copied_files(alloc, files)?, reads);
+    let Ok(mut sink) = VecSink::open(alloc, case.room, writes) else {
+        return Err(AllocError);
+    };
+    let mut rig = CountingRig::new(case.is_stuck);
+    let status = top(
+        rt,
+        alloc,
+        words.as_slice(),
+        &mut shelf,
+        &mut sink,
+        &mut rig,
+        &OpenGate,
+    );
+    Ok(Called {
+        words,
+        status,
+        shelf,
+        sink,
+        rig,
+    })
+}
+
+/// The first smaller output with which the same call isn't cut off behind the front of what this one wrote.
+pub fn first_other<H: Threads + Wait + Sync>(
+    rt: &H,
+    alloc: Global,
+    files: &Files,
+    called: &Called,
+) -> Result<Option<usize>, AllocError> {
+    let due = called.sink.bytes();
+    let mut case = Case::new(alloc);
+    for room in 0..due.len() {
+        case.room = room;
+        let words = copied(alloc, called.words.as_slice())?;
+        if !call(rt, alloc, &case, files, words)?.is_front(room, due) {
+            return Ok(Some(room));
+        }
+    }
+    Ok(None)
+}

@@ -1,0 +1,133 @@
+use crate::case::{Called, Case, Files, call, first_other};
+use crate::show::{print_answers, print_called, print_calls};
+use std::alloc::{AllocError, Global};
+use std::collections::BTreeMap;
+use std::io;
+use std::sync::Wait;
+use std::thread::Threads;
+
+/// A table that is read line by line: the files so far, the case, and its last call.
+#[derive(Drop)]
+pub struct Table {
+    files: Files,
+    /// The file whose lines come.
+    file: Option<(String, Vec<u8>)>,
+    case: Case,
+    called: Option<Called>,
+}
+
+fn words_of(alloc: Global, text: &str) -> Result<Vec<String>, AllocError> {
+    let mut words = Vec::new(alloc);
+    for word in text.split_whitespace() {
+        words.push(String::from_str(alloc, word)?)?;
+    }
+    Ok(words)
+}
+
+fn number_of(word: &str) -> io::Result<u32> {
+    word.parse().map_err(|_| io::Error::other("no number"))
+}
+
+fn numbers_of(alloc: Global, text: &str) -> io::Result<Vec<u32>> {
+    let mut numbers = Vec::new(alloc);
+    for word in text.split_whitespace() {
+        numbers.push(number_of(word)?)?;
+    }
+    Ok(numbers)
+}
+
+impl Table {
+    pub fn new(alloc: Global) -> Self {
+        Table {
+            files: BTreeMap::new(alloc),
+            file: None,
+            case: Case::new(alloc),
+            called: None,
+        }
+    }
+
+    /// Takes a line, and does what it asks for.
+    pub fn take<H: Print + Threads + Wait + Sync>(
+        &mut self,
+        rt: &H,
+        alloc: Global,
+        line: &str,
+    ) -> io::Result<()> {
+        match self.file.take() {
+            Some((name, bytes)) => self.take_file_line(name, bytes, line),
+            None if line.is_empty() || line.starts_with('#') => Ok(()),
+            None => self.take_command(rt, alloc, line),
+        }
+    }
+
+    fn take_file_line(&mut self, name: String, mut bytes: Vec<u8>, line: &str) -> io::Result<()> {
+        if line == "." {
+            self.files.insert(name, bytes)?;
+            return Ok(());
+        }
+        bytes.extend_from_slice(line.as_bytes())?;
+        bytes.push(b'\n')?;
+        self.file = Some((name, bytes));
+        Ok(())
+    }
+
+    fn take_command<H: Print + Threads + Wait + Sync>(
+        &mut self,
+        rt: &H,
+        alloc: Global,
+        line: &str,
+    ) -> io::Result<()> {
+        let (command, rest) = line.split_once(' ').unwrap_or((line, ""));
+        match command {
+            "file" => self.file = Some((String::from_str(alloc, rest)?, Vec::new(alloc))),
+            "case" => {
+                self.case = Case::new(alloc);
+                self.called = None;
+                println!(rt; "== {rest}")?;
+            }
+            "reads" => self.case.reads = numbers_of(alloc, rest)?,
+            "writes" => self.case.writes = numbers_of(alloc, rest)?,
+            "room" => self.case.room = number_of(rest)? as usize,
+            "stuck" => self.case.is_stuck = true,
+            "call" => {
+                let called = call(rt, alloc, &self.case, &self.files, words_of(alloc, rest)?)?;
+                print_called(rt, &called)?;
+                self.called = Some(called);
+            }
+            _ => self.show(rt, alloc, command, rest)?,
+        }
+        Ok(())
+    }
+
+    /// Prints what the last call left.
+    fn show<H: Print + Threads + Wait + Sync>(
+        &self,
+        rt: &H,
+        alloc: Global,
+        command: &str,
+        rest: &str,
+    ) -> io::Result<()> {
+        let Some(called) = &self.called else {
+            return println!(rt; "no call stands before {command}");
+        };
+        match command {
+            "fronts" => match first_other(rt, alloc, &self.files, called)? {
+                None => println!(rt; "each smaller output holds the front"),
+                Some(room) => println!(rt; "an output of {room} bytes holds no such front"),
+            },
+            "calls" => print_calls(rt, alloc, called),
+            "device" => {
+                let (device, events) = rest.split_once(' ').unwrap_or((rest, ""));
+                let events = words_of(alloc, events)?;
+                print_answers(
+                    rt,
+                    alloc,
+                    called,
+                    number_of(device)? as usize,
+                    events.as_slice(),
+                )
+            }
+            _ => println!(rt; "{command} is no line of a table"),
+        }
+    }
+}
