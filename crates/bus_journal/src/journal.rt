@@ -4,7 +4,7 @@ use i2c_base::Entry;
 use std::marker::Model;
 
 /// What the core did, one entry after the other. A contract sees the list.
-#[derive(Debug, Drop)]
+#[derive(Drop)]
 pub struct Journal {
     entries: Vec<Entry>,
 }

@@ -4,14 +4,14 @@ use crate::{Addr, SegId};
 use std::marker::Model;
 
 /// A root bus.
-#[derive(Clone, Copy, Debug, Default, PartialEq, Eq, Hash)]
+#[derive(Clone, Copy, Debug, Default)]
 pub struct RootSpec {
     /// Its adapter offers SMBus calls alone, and no plain transfers.
     pub smbus_only: bool,
 }
 
 /// The kinds of mux, named for the chips that Linux's drivers know; `Gpio` is switched by a line.
-#[derive(Clone, Copy, Debug, PartialEq, Eq, Hash)]
+#[derive(Clone, Copy, Debug, PartialEq, Eq)]
 pub enum MuxKind {
     /// A switch of eight channels.
     Pca9548,
@@ -26,21 +26,21 @@ pub enum MuxKind {
 }
 
 /// Which locks a transfer through the mux holds while it runs (Linux i2c-topology).
-#[derive(Clone, Copy, Debug, PartialEq, Eq, Hash)]
+#[derive(Clone, Copy, Debug)]
 pub enum LockMode {
     Parent,
     Mux,
 }
 
 /// What a mux does after a transfer.
-#[derive(Clone, Copy, Debug, PartialEq, Eq, Hash)]
+#[derive(Clone, Copy, Debug)]
 pub enum Idle {
     Disconnect,
     AsIs,
 }
 
 /// A mux: where it stands, how it is addressed, and how it behaves.
-#[derive(Clone, Copy, Debug, PartialEq, Eq)]
+#[derive(Clone, Copy, Debug)]
 pub struct MuxSpec {
     /// The bus that the mux stands on.
     pub bus: SegId,
@@ -58,7 +58,7 @@ pub struct MuxSpec {
 }
 
 /// The sizes of EEPROM: 256, 4096 and 32768 bytes.
-#[derive(Clone, Copy, Debug, PartialEq, Eq, Hash)]
+#[derive(Clone, Copy, Debug)]
 pub enum Size {
     C02,
     C32,
@@ -66,7 +66,7 @@ pub enum Size {
 }
 
 /// The kinds of device, each with what it alone has.
-#[derive(Clone, Copy, Debug, PartialEq, Eq, Hash)]
+#[derive(Clone, Copy, Debug)]
 pub enum DeviceKind {
     Eeprom {
         size: Size,

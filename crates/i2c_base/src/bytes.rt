@@ -59,7 +59,7 @@ impl Bytes {
 }
 
 /// Up to 512 bytes, which take no memory: those of one message. A contract sees the list.
-#[derive(Debug, PartialEq, Eq, Drop)]
+#[derive(Debug, Drop)]
 pub struct ByteList {
     items: ArrayVec<u8, 512>,
 }

@@ -1,7 +1,7 @@
 use crate::{Addr, ByteList, Cut, LockId, MuxId, Node, Reply, SegId};
 
 /// Why a message is sent.
-#[derive(Clone, Copy, Debug, PartialEq, Eq, Hash)]
+#[derive(Clone, Copy, Debug, PartialEq, Eq)]
 pub enum Purpose {
     /// It belongs to the caller's transfer.
     Call,
@@ -10,7 +10,7 @@ pub enum Purpose {
 }
 
 /// How a message ended.
-#[derive(Clone, Copy, Debug, PartialEq, Eq, Hash)]
+#[derive(Clone, Copy, Debug, PartialEq, Eq)]
 pub enum End {
     Ok,
     /// Nobody acknowledged the address.
@@ -26,7 +26,7 @@ pub enum End {
 }
 
 /// One event of the journal, by one caller.
-#[derive(Debug, Drop)]
+#[derive(Drop)]
 pub enum Entry {
     Take {
         caller: u8,

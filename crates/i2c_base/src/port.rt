@@ -1,7 +1,7 @@
 use crate::{Addr, MuxId};
 
 /// A call on a port, as its log keeps it.
-#[derive(Clone, Copy, Debug, PartialEq, Eq, Hash)]
+#[derive(Clone, Copy, Debug, PartialEq, Eq)]
 pub enum PortCall {
     /// A start, or a repeated start: the address, and whether the message reads.
     Start(Addr, bool),
@@ -16,7 +16,7 @@ pub enum PortCall {
 }
 
 /// What a port has come to since its last stop: a name for each way in which its wires can stand.
-#[derive(Clone, Copy, Debug, PartialEq, Eq, Hash)]
+#[derive(Clone, Copy)]
 pub enum Phase {
     /// No message is in progress.
     Idle,

@@ -26,7 +26,7 @@ impl Reply {
 }
 
 /// Where a failed call on the port cut a transfer off.
-#[derive(Clone, Copy, Debug, PartialEq, Eq, Hash)]
+#[derive(Clone, Copy, Debug)]
 pub enum Cut {
     No,
     /// On the way, before its first message.

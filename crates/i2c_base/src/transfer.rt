@@ -9,14 +9,14 @@ use bitflags::Flags;
 use std::marker::Model;
 
 /// Whether a transfer is a call of SMBus or a plain one of I2C.
-#[derive(Clone, Copy, Debug, PartialEq, Eq, Hash)]
+#[derive(Clone, Copy, Debug)]
 pub enum Kind {
     Smbus,
     Plain,
 }
 
 /// A message: one start, the address byte, and its data. Its bytes stand in its transfer.
-#[derive(Clone, Copy, Debug, Default, PartialEq, Eq)]
+#[derive(Clone, Copy, Debug, Default)]
 pub struct Msg {
     pub addr: Addr,
     pub flags: MsgFlags,
@@ -43,7 +43,7 @@ impl Msg {
 }
 
 /// The message would pass a limit of its transfer.
-#[derive(Clone, Copy, Debug, PartialEq, Eq, Hash)]
+#[derive(Clone, Copy, Debug)]
 pub struct TooLong;
 
 /// Messages up to one stop, on one bus, joined by repeated starts. A contract sees its parts as plain lists.

@@ -14,7 +14,7 @@ pub enum TableName {
 }
 
 /// What is wrong with one table.
-#[derive(Clone, Copy, Debug, PartialEq, Eq, Hash)]
+#[derive(Clone, Copy)]
 pub enum TableFault {
     /// A key that isn't listed, or a required one that is missing.
     Key,

@@ -7,7 +7,7 @@ use i2c_base::{Idle, LockMode, MuxKind, Size};
 use toml::Value;
 
 /// The kinds of device, without what each alone has.
-#[derive(Clone, Copy, Debug, PartialEq, Eq, Hash)]
+#[derive(Clone, Copy)]
 pub enum DeviceName {
     Eeprom(Size),
     Lm75,

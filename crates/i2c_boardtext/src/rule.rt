@@ -10,7 +10,7 @@ use crate::fits::fits_if_there;
 use toml::Table;
 
 /// How a value is tested.
-#[derive(Clone, Copy, Debug, PartialEq, Eq, Hash)]
+#[derive(Clone, Copy)]
 pub enum Test {
     /// The kind, which is read before the other keys: it is known here.
     Kind,
@@ -31,7 +31,7 @@ pub enum Test {
 }
 
 /// A key of a table: its name, whether it is required, and how its value is tested.
-#[derive(Clone, Copy, Debug, Drop)]
+#[derive(Clone, Copy, Drop)]
 pub struct Rule {
     pub name: &'static str,
     pub needed: bool,

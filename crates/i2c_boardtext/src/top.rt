@@ -12,7 +12,7 @@ use crate::rows::rows;
 use toml::{Table, Value};
 
 /// The arrays of a document's top.
-#[derive(Debug, Drop)]
+#[derive(Drop)]
 pub struct Top<'a> {
     pub roots: &'a [Value],
     pub muxes: &'a [Value],

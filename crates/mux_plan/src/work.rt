@@ -14,7 +14,7 @@ use i2c_spec::{Hop, errno_of};
 const POLLS: u8 = 8;
 
 /// How a piece of work goes on behind one of its messages: with the next one, with its last one, or not at all.
-#[derive(Clone, Copy, Debug, PartialEq, Eq)]
+#[derive(Clone, Copy)]
 pub enum Follow {
     On,
     Last,

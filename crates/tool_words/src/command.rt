@@ -16,7 +16,7 @@ use std::marker::Model;
 const MOST_COMMANDS: usize = 1000;
 
 /// Reads a register: `i2cget -y BUS ADDR REG`.
-#[derive(Clone, Copy, Debug, PartialEq, Eq)]
+#[derive(Clone, Copy)]
 pub struct Get {
     pub bus: u16,
     pub addr: Addr,
@@ -24,7 +24,7 @@ pub struct Get {
 }
 
 /// A command of a script. A contract sees its words as they are printed, and what it asks for.
-#[derive(Debug, Drop)]
+#[derive(Drop)]
 pub struct Command {
     echo: Vec<u8>,
     get: Get,
@@ -39,7 +39,7 @@ impl Model for Command {
 }
 
 /// Why a line was not read.
-#[derive(Clone, Copy, Debug, PartialEq, Eq, Hash)]
+#[derive(Clone, Copy, Debug)]
 pub enum LineFault {
     /// The place of the refused word, from 0: so many words are the longest front that begins a line of the grammar. A
     /// command past the most is refused at 0, whatever its words are.
