@@ -5,6 +5,7 @@ use i2c_outside::{MapShelf, OpenGate, VecSink};
 use i2c_top::{Status, top};
 use std::alloc::{AllocError, Global};
 use std::collections::BTreeMap;
+use std::io;
 use std::sync::Wait;
 use std::thread::Threads;
 
@@ -40,6 +41,17 @@ impl Case {
             is_stuck: false,
         }
     }
+
+    /// Sets the reads or the writes that fail, the room, or else that the rig is stuck.
+    pub fn set(&mut self, alloc: Global, what: &str, value: &str) -> io::Result<()> {
+        match what {
+            "reads" => self.reads = numbers_of(alloc, value)?,
+            "writes" => self.writes = numbers_of(alloc, value)?,
+            "room" => self.room = number_of(value)? as usize,
+            _ => self.is_stuck = true,
+        }
+        Ok(())
+    }
 }
 
 impl Called {
@@ -50,6 +62,19 @@ impl Called {
             && self.sink.bytes().len() == room
             && due.starts_with(self.sink.bytes())
     }
+}
+
+/// The number that a word spells.
+pub fn number_of(word: &str) -> io::Result<u32> {
+    word.parse().map_err(|_| io::Error::other("no number"))
+}
+
+fn numbers_of(alloc: Global, text: &str) -> io::Result<Vec<u32>> {
+    let mut numbers = Vec::new(alloc);
+    for word in text.split_whitespace() {
+        numbers.push(number_of(word)?)?;
+    }
+    Ok(numbers)
 }
 
 // The same words again.

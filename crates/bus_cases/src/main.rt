@@ -22,13 +22,13 @@ mod rig;
 mod show;
 mod table;
 
-use std::io::{self, BufRead, BufReader};
+use std::io;
 use table::Table;
 
 fn main(rt: HostRuntime) -> io::Result<()> {
     let alloc = rt.alloc();
     let mut table = Table::new(alloc);
-    for line in BufReader::new(alloc, rt.reader())?.lines(alloc) {
+    for line in rt.lines(alloc) {
         table.take(&rt, alloc, line?.as_str())?;
     }
     Ok(())

@@ -1,4 +1,4 @@
-use crate::case::{Called, Case, Files, call, first_other};
+use crate::case::{Called, Case, Files, call, first_other, number_of};
 use crate::show::{print_answers, print_called, print_calls};
 use std::alloc::{AllocError, Global};
 use std::collections::BTreeMap;
@@ -22,18 +22,6 @@ fn words_of(alloc: Global, text: &str) -> Result<Vec<String>, AllocError> {
         words.push(String::from_str(alloc, word)?)?;
     }
     Ok(words)
-}
-
-fn number_of(word: &str) -> io::Result<u32> {
-    word.parse().map_err(|_| io::Error::other("no number"))
-}
-
-fn numbers_of(alloc: Global, text: &str) -> io::Result<Vec<u32>> {
-    let mut numbers = Vec::new(alloc);
-    for word in text.split_whitespace() {
-        numbers.push(number_of(word)?)?;
-    }
-    Ok(numbers)
 }
 
 impl Table {
@@ -79,23 +67,32 @@ impl Table {
     ) -> io::Result<()> {
         let (command, rest) = line.split_once(' ').unwrap_or((line, ""));
         match command {
-            "file" => self.file = Some((String::from_str(alloc, rest)?, Vec::new(alloc))),
+            "file" => self.begin_file(alloc, rest),
             "case" => {
                 self.case = Case::new(alloc);
                 self.called = None;
-                println!(rt; "== {rest}")?;
+                println!(rt; "== {rest}")
             }
-            "reads" => self.case.reads = numbers_of(alloc, rest)?,
-            "writes" => self.case.writes = numbers_of(alloc, rest)?,
-            "room" => self.case.room = number_of(rest)? as usize,
-            "stuck" => self.case.is_stuck = true,
-            "call" => {
-                let called = call(rt, alloc, &self.case, &self.files, words_of(alloc, rest)?)?;
-                print_called(rt, &called)?;
-                self.called = Some(called);
-            }
-            _ => self.show(rt, alloc, command, rest)?,
+            "reads" | "writes" | "room" | "stuck" => self.case.set(alloc, command, rest),
+            "call" => self.call(rt, alloc, rest),
+            _ => self.show(rt, alloc, command, rest),
         }
+    }
+
+    fn begin_file(&mut self, alloc: Global, name: &str) -> io::Result<()> {
+        self.file = Some((String::from_str(alloc, name)?, Vec::new(alloc)));
+        Ok(())
+    }
+
+    fn call<H: Print + Threads + Wait + Sync>(
+        &mut self,
+        rt: &H,
+        alloc: Global,
+        words: &str,
+    ) -> io::Result<()> {
+        let called = call(rt, alloc, &self.case, &self.files, words_of(alloc, words)?)?;
+        print_called(rt, &called)?;
+        self.called = Some(called);
         Ok(())
     }
 
