@@ -38,7 +38,7 @@ use Rattle.bus_spec.specs.Readings.{message_cut}
 use Rattle.bus_spec.specs.Past.{now, got_after}
 use Rattle.bus_spec.specs.Stepwise.{reply_by}
 use Rattle.mux_plan.specs.Plans.{WalkView, action_of, walk_of, slots_of, slots_after, TellsMarks, control_of}
-use Rattle.bus_laws.specs.Jobs.{IsJobOf}
+use Rattle.bus_core.specs.Lines.{IsMessageJob}
 use Rattle.bus_laws.specs.Reach.{AsksForMessages}
 use Rattle.bus_laws.specs.Runs.{IsCall}
 use Rattle.bus_laws.specs.Settles.{NoSettle, Settles}
@@ -271,7 +271,7 @@ module _ (tells : Bool) (asked : ScriptView → List Reply → Option TransferVi
   going : is_over before ≡ false
   going = not_over (slots_of v.marks) before (Send job more) first
 
-  own : IsJobOf v.board its job
+  own : IsMessageJob v.board its job
   own = job-is v.board its (slots_of v.marks) before v.seat.settled v.seat.sent core.seat_is.left job more first
 
   rooted : v.seat.root ≡ root_of v.board (job_bus job)
@@ -517,7 +517,7 @@ module _ (tells : Bool) (asked : ScriptView → List Reply → Option TransferVi
   call-next core (Call bus ms) more first next of is =
       let c = call-is v.board v.seat.transfer (slots_of v.marks) (walk_left v.board v.seat) v.seat.settled v.seat.sent core.seat_is.left bus ms more first in
       let many : length ms ≡ length v.seat.transfer.msgs = ap (λ (xs : List MessageView). length xs) c.1.same_messages ∙ length-messages v.seat.transfer.msgs v.seat.transfer.out in
-      let j : IsJobOf v.board v.seat.transfer (Call bus ms) = job-is v.board v.seat.transfer (slots_of v.marks) (walk_left v.board v.seat) v.seat.settled v.seat.sent core.seat_is.left (Call bus ms) more first in
+      let j : IsMessageJob v.board v.seat.transfer (Call bus ms) = job-is v.board v.seat.transfer (slots_of v.marks) (walk_left v.board v.seat) v.seat.settled v.seat.sent core.seat_is.left (Call bus ms) more first in
       (core.seat_is.partway c.0, omega (arith, c.2, many), subst (λ (s : ℕ). s < buses v.board) c.1.same_bus j.there)
   call-next core (Select h) more first next of is = absurd (let f : purpose.Control h.mux ≡ purpose.Call = sym of.for_purpose ∙ is in cc)
   call-next core (Clear on mux kind) more first next of is = absurd (let f : purpose.Control mux ≡ purpose.Call = sym of.for_purpose ∙ is in cc)

@@ -2,6 +2,7 @@ pub mod TalkLemmas
 pub mod MessageLemmas
 -- A transfer partway, and what one step leaves of its walk.
 pub mod PartwayLemmas
+pub mod LineLemmas
 pub mod WalkSteps
 -- What each step adds to the journal, and what the core keeps.
 pub mod ToldSteps

@@ -18,10 +18,11 @@ use Rattle.bus_spec.specs.Slots.{Slots}
 use Rattle.bus_spec.specs.Grammar as grammar
 use Rattle.bus_spec.specs.Grammar.{full, walk_by, walk_for, seen, is_over, first_act, rest_of}
 use Rattle.bus_laws.specs.Calls.{FirstCalls}
-use Rattle.bus_laws.specs.Jobs.{IsJobOf, HasNoLine}
+use Rattle.bus_core.specs.Lines.{IsMessageJob, HasNoLine}
+use Rattle.bus_core.proofs.LineLemmas.{messages-stay}
 use Rattle.bus_laws.specs.Runs.{IsCall}
 use Rattle.bus_laws.specs.Settles.{NoSettle, GoesOn, FollowsSend, Settles}
-use Rattle.bus_laws.proofs.Laws.{walk-settles, walk-starts, walk-calls, walk-first, walk-stays, jobs-next, job-sent, job-shifted, calls-next, call-sent, settles-taken, settles-freed, settles-sent, settles-settled, quiet-next, what_follows, call-goes-on, first-taken, first-freed, first-selected, first-cleared, first-sent, seen-first, length-messages}
+use Rattle.bus_laws.proofs.Laws.{walk-settles, walk-starts, walk-calls, walk-first, jobs-next, job-sent, job-shifted, calls-next, call-sent, settles-taken, settles-freed, settles-sent, settles-settled, quiet-next, what_follows, call-goes-on, first-taken, first-freed, first-selected, first-cleared, first-sent, seen-first, length-messages}
 use Rattle.i2c_spec.proofs.AddressLemmas.{tree_of}
 use Rattle.bus_core.specs.Seats.{Counts, IsLeft, IsDecided}
 
@@ -56,7 +57,7 @@ module _ (b : BoardView) (t : TransferView) (v : Slots) (w : WalkTree) (settled 
       record {
         calls = calls-next b t v w is.calls (Take l) first Passed;
         settles = settles.1;
-        jobs = jobs-next (IsJobOf b t) v w is.jobs (Take l) first Passed;
+        jobs = jobs-next (IsMessageJob b t) v w is.jobs (Take l) first Passed;
         quiet = settles.0;
         counts = λ e. (let f = first_still (Take l) first (λ bus ms left x. let g : Take l ≡ Send (Call bus ms) left = x in cc) (is.counts e) in inr (first-taken v w f.0 l first, f.1));
       }
@@ -67,17 +68,17 @@ module _ (b : BoardView) (t : TransferView) (v : Slots) (w : WalkTree) (settled 
       record {
         calls = calls-next b t v w is.calls (Free l) first Passed;
         settles = settles.1;
-        jobs = jobs-next (IsJobOf b t) v w is.jobs (Free l) first Passed;
+        jobs = jobs-next (IsMessageJob b t) v w is.jobs (Free l) first Passed;
         quiet = settles.0;
         counts = λ e. (let f = first_still (Free l) first (λ bus ms left x. let g : Free l ≡ Send (Call bus ms) left = x in cc) (is.counts e) in inr (first-freed v w f.0 l first, f.1));
       }
 
-  pub job-is : (job : Job) (left : ℕ) → first_act (seen v w) ≡ Some (Send job left) → IsJobOf b t job
-  job-is job left first = job-sent (IsJobOf b t) v w is.jobs job left first
+  pub job-is : (job : Job) (left : ℕ) → first_act (seen v w) ≡ Some (Send job left) → IsMessageJob b t job
+  job-is job left first = job-sent (IsMessageJob b t) v w is.jobs job left first
 
   pub never-lines : (job : Job) → first_act (seen v w) ≡ Some (Shift job) → ⊥
   never-lines job first =
-      let own = job-shifted (IsJobOf b t) v w is.jobs job first in
+      let own = job-shifted (IsMessageJob b t) v w is.jobs job first in
       let no : is_line job ≡ false = own.1.by_message in
       let yes : is_line job ≡ true = own.0 in cc
 
@@ -118,7 +119,7 @@ module _ (b : BoardView) (t : TransferView) (v : Slots) (w : WalkTree) (settled 
           record {
             calls = calls-next b t v w is.calls (Send job left) first (Sent e bytes);
             settles = subst (λ (x : Bool). Settles x behind) not_yet goes.2;
-            jobs = jobs-next (IsJobOf b t) v w is.jobs (Send job left) first (Sent e bytes);
+            jobs = jobs-next (IsMessageJob b t) v w is.jobs (Send job left) first (Sent e bytes);
             first = f.settles;
           },
           f.whole,
@@ -130,7 +131,7 @@ module _ (b : BoardView) (t : TransferView) (v : Slots) (w : WalkTree) (settled 
         record {
           calls = calls-next b t v w is.calls (Send job left) first (Sent e bytes);
           settles = goes.2;
-          jobs = jobs-next (IsJobOf b t) v w is.jobs (Send job left) first (Sent e bytes);
+          jobs = jobs-next (IsMessageJob b t) v w is.jobs (Send job left) first (Sent e bytes);
           quiet = quiet;
           counts = counts;
         }
@@ -217,7 +218,7 @@ left-settled b t verdict w v sent is =
     record {
       calls = calls-next b t v w is.calls (Settle verdict) first Passed;
       settles = subst (λ (x : WalkTree). Settles true (rest_of x Passed)) (sym same) settles.2;
-      jobs = jobs-next (IsJobOf b t) v w is.jobs (Settle verdict) first Passed;
+      jobs = jobs-next (IsMessageJob b t) v w is.jobs (Settle verdict) first Passed;
       quiet = subst (λ (x : WalkTree). NoSettle (rest_of x Passed)) (sym same) settles.1;
       counts = λ e. absurd (let f : true ≡ false = e in cc);
     }
@@ -234,7 +235,7 @@ left-opened b t plain rules lines some granted =
     (record {
       calls = walk-calls b t some;
       settles = walk-settles b t;
-      jobs = walk-stays b (tree_of b plain rules) lines t;
+      jobs = messages-stay b (tree_of b plain rules) lines t;
       quiet = walk-starts b t granted;
       counts = λ e. inr (walk-first b t, refl);
     })

@@ -22,7 +22,7 @@ use Rattle.bus_spec.specs.Grammar.{seen, is_over}
 use Rattle.bus_spec.specs.Past.{Now, now, current}
 use Rattle.bus_spec.specs.Stepwise.{IsStepwise}
 use Rattle.bus_laws.specs.Costs.{IsWithin}
-use Rattle.bus_laws.specs.Jobs.{HasNoLine}
+use Rattle.bus_core.specs.Lines.{HasNoLine}
 use Rattle.bus_core.specs.Asking.{asks_of}
 use Rattle.bus_core.specs.Seats.{walk_left, IsSeat, IsDue}
 use Rattle.bus_core.specs.declared.seat.Seat.{Seat}

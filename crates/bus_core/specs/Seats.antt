@@ -11,7 +11,8 @@ use Rattle.bus_spec.specs.Walk.{Call, Act, Send, Settle, Note, WalkTree}
 use Rattle.bus_spec.specs.Grammar.{is_over, seen, first_act, first_note}
 use Rattle.bus_laws.specs.Calls.{CallsOf, FirstCalls}
 use Rattle.bus_laws.specs.Settles.{NoSettle, Settles}
-use Rattle.bus_laws.specs.Jobs.{EachJob, IsJobOf}
+use Rattle.bus_laws.specs.Jobs.{EachJob}
+use Rattle.bus_core.specs.Lines.{IsMessageJob}
 use Rattle.mux_plan.specs.Plans.{walk_of, slots_of}
 use Rattle.bus_core.specs.declared.seat.Seat.{Seat}
 
@@ -59,7 +60,7 @@ Counts w k = ComesNext w k ⊎ (FirstCalls w × (k ≡ 0))
 pub record IsLeft (b : BoardView) (t : TransferView) (settled : Bool) (sent : ℕ) (w : WalkTree) : Type 0 where
   pub calls : CallsOf b t w
   pub settles : Settles settled w
-  pub jobs : EachJob (IsJobOf b t) w
+  pub jobs : EachJob (IsMessageJob b t) w
   pub quiet : NoSettle w
   pub counts : settled ≡ false → Counts w sent
 
@@ -67,7 +68,7 @@ pub record IsLeft (b : BoardView) (t : TransferView) (settled : Bool) (sent : �
 pub record IsDecided (b : BoardView) (t : TransferView) (verdict : Option Errno) (w : WalkTree) : Type 0 where
   pub calls : CallsOf b t w
   pub settles : Settles false w
-  pub jobs : EachJob (IsJobOf b t) w
+  pub jobs : EachJob (IsMessageJob b t) w
   pub first : first_act w ≡ Some (Settle verdict)
 
 -- the fixed parts of a seat: the root of its transfer's bus, and a walk of so many messages

@@ -5,7 +5,7 @@ ghost use Rattle.i2c_spec.specs.Fair.{IsFairCaller};
 ghost use Rattle.i2c_spec.specs.Tree.{buses};
 ghost use Rattle.i2c_spec.specs.World.{openings};
 ghost use Rattle.bus_spec.specs.Grammar.{is_over};
-ghost use Rattle.bus_laws.specs.Jobs.{HasNoLine};
+ghost use Rattle.bus_core.specs.Lines.{HasNoLine};
 ghost use Rattle.bus_core.specs.Cores.{CountsNoRead};
 ghost use Rattle.bus_core.specs.Seats.{walk_left};
 ghost use Rattle.bus_core.specs.Views.{IsKept, IsSpent};

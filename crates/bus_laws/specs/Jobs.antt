@@ -1,10 +1,9 @@
--- What a walk does its jobs on: the buses of one root, and no line. It knows nothing of locks, slots and worlds.
-use Rattle.std.specs.Prelude.{◌≡◌, ℕ, ◌<◌, true, false, Option}
+-- What a walk does its jobs on: the buses of one root. It knows nothing of locks, slots and worlds.
+use Rattle.std.specs.Prelude.{◌≡◌, ℕ, ◌<◌, true, Option}
 use Rattle.i2c_base.specs.Board.{BoardView}
 use Rattle.i2c_base.specs.Transfer.{TransferView}
 use Rattle.i2c_spec.specs.Tree.{buses, root_of}
-use Rattle.bus_spec.specs.Walk.{Job, Take, Free, Send, Shift, Settle, ActOutcome, WalkTree, Ends, Look, Then, job_bus, is_gpio, is_line}
-use Rattle.bus_spec.specs.Grammar.{kind_of}
+use Rattle.bus_spec.specs.Walk.{Job, Take, Free, Send, Shift, Settle, ActOutcome, WalkTree, Ends, Look, Then, job_bus, is_line}
 
 -- this is so of every job of which a walk sends a message or shifts the line, whatever its looks find and its steps give;
 -- only the line of a gpio mux is shifted
@@ -17,12 +16,7 @@ EachJob P (Then (Send job left) note next) = P job × ((out : ActOutcome) → Ea
 EachJob P (Then (Shift job) note next) = (is_line job ≡ true) × P job × ((out : ActOutcome) → EachJob P (next out))
 EachJob P (Then (Settle verdict) note next) = (out : ActOutcome) → EachJob P (next out)
 
--- a job is done on a bus of the board, behind the root of the transfer's bus, and by messages
+-- a job is done on a bus of the board, behind the root of the transfer's bus
 pub record IsJobOf (b : BoardView) (t : TransferView) (job : Job) : Type 0 where
   pub there : job_bus job < buses b
   pub rooted : root_of b (job_bus job) ≡ root_of b t.bus
-  pub by_message : is_line job ≡ false
-
--- no mux of the board is switched by a line; a mux that isn't there counts as one with a chip
-abbrev pub HasNoLine : BoardView → Type 0
-HasNoLine b = (m : ℕ) → is_gpio (kind_of b m) ≡ false

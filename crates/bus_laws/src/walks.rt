@@ -7,7 +7,7 @@ ghost use Rattle.bus_laws.specs.Lines.{LinesAreLocked};
 ghost use Rattle.bus_laws.specs.Runs.{Runs};
 ghost use Rattle.bus_laws.specs.Settles.{Settles};
 ghost use Rattle.bus_laws.specs.Costs.{IsWithin};
-ghost use Rattle.bus_laws.specs.Jobs.{EachJob, IsJobOf, HasNoLine};
+ghost use Rattle.bus_laws.specs.Jobs.{EachJob, IsJobOf};
 ghost use Rattle.i2c_spec.specs.Cost.{cost_of};
 ghost use Rattle.i2c_spec.specs.Rules.{MeetsRules};
 ghost use Rattle.i2c_spec.specs.Plain.{IsPlainBoard};
@@ -40,11 +40,11 @@ pub fn each_walk_keeps_to_its_cost()
     an_accepted_board_is_a_tree();
 }
 
-/// Where no mux of the board is switched by a line, all that a walk sends goes to buses behind its transfer's root.
+/// All that a walk sends, and each line that it shifts, is behind its transfer's root.
 ///
 /// It sends its messages, and selects and closes muxes on its path; a mux is closed there too where it is marked.
 pub fn each_walk_stays_on_its_root()
-    ensures { (b : BoardView) (t : TransferView) → IsPlainBoard b → MeetsRules b → HasNoLine b → EachJob (IsJobOf b t) (walk_for b t) }
+    ensures { (b : BoardView) (t : TransferView) → IsPlainBoard b → MeetsRules b → EachJob (IsJobOf b t) (walk_for b t) }
 {
     an_accepted_board_is_a_tree();
 }

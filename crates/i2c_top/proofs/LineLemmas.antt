@@ -6,7 +6,7 @@ use Rattle.i2c_base.specs.Board.{BoardView}
 use Rattle.i2c_base.specs.declared.board.MuxKind.TheVariants.{Pca9548}
 use Rattle.i2c_base.specs.declared.board.MuxSpec.{MuxSpec}
 use Rattle.bus_spec.specs.Walk.{is_gpio}
-use Rattle.bus_laws.specs.Jobs.{HasNoLine}
+use Rattle.bus_core.specs.Lines.{HasNoLine}
 use Rattle.bus_laws.proofs.Laws.{get_within}
 use Rattle.caller_core.specs.Steps.{IsShallowBoard}
 

@@ -13,9 +13,9 @@ use Rattle.i2c_spec.specs.Tree.{Hop, hops, buses, root_of, locks_of, IsAmongHops
 use Rattle.i2c_spec.specs.TreeFacts.{IsTree}
 use Rattle.i2c_spec.specs.Messages.{messages_of}
 use Rattle.i2c_spec.specs.Flat.{refusal}
-use Rattle.bus_spec.specs.Walk.{Job, Call, Select, Clear, Free, Send, Shift, ActOutcome, JobOutcome, Good, Refused, Unsent, Failed, Note, WalkTree, Ends, Then, Go, On, Last, Over, goes, job_outcome, verdict_of, decides, is_line, is_gpio, more_of}
+use Rattle.bus_spec.specs.Walk.{Job, Call, Select, Clear, Take, Free, Send, Shift, Settle, ActOutcome, JobOutcome, Good, Refused, Unsent, Failed, Note, WalkTree, Ends, Look, Then, Go, On, Last, Over, goes, job_outcome, verdict_of, decides, is_line, more_of}
 use Rattle.bus_spec.specs.Grammar.{Doer, settled, over, by_go, messages, at_bus, locked, part, with_mark, aside, if_sent, if_good, kind_of, closing, opened, chosen, behind, inner, walk_by, walk_for, plain}
-use Rattle.bus_laws.specs.Jobs.{EachJob, IsJobOf, HasNoLine}
+use Rattle.bus_laws.specs.Jobs.{EachJob, IsJobOf}
 use Rattle.bus_laws.proofs.world.BoardFacts.{mux_at}
 use Rattle.bus_laws.proofs.tree.Law.{refusal-none}
 
@@ -130,24 +130,32 @@ hop_before b tree (h ∷ hs) s at g among =
     ]
 
 -- a hop's mux is of the kind that the board says
-hop_kind : (b : BoardView) → IsTree b → (s : ℕ) (h : Hop) → IsAmongHops h (hops b s) → kind_of b h.mux ≡ h.kind
+pub hop_kind : (b : BoardView) → IsTree b → (s : ℕ) (h : Hop) → IsAmongHops h (hops b s) → kind_of b h.mux ≡ h.kind
 hop_kind b tree s h among =
     let spec = mux_at b h.mux h.kind (tree.hop s h among).kind in
     ap (λ (o : Option MuxSpec). unwrap_or (option_map (λ (x : MuxSpec). x.kind) o) Pca9548) spec.1 ∙ spec.2
 
 -- THE ROOT of a walk
-pub walk-stays : (b : BoardView) → IsTree b → HasNoLine b → (t : TransferView) → EachJob (IsJobOf b t) (walk_for b t)
-walk-stays b tree no_line t =
-    walk-jobs b (IsJobOf b t) t (λ accepted. record { there = below accepted; rooted = refl; by_message = refl })
+pub walk-stays : (b : BoardView) → IsTree b → (t : TransferView) → EachJob (IsJobOf b t) (walk_for b t)
+walk-stays b tree t =
+    walk-jobs b (IsJobOf b t) t (λ accepted. record { there = below accepted; rooted = refl })
     (λ accepted g among.
     let there : g.on < buses b = (let less : g.on < t.bus = hop_before b tree (hops b t.bus) t.bus refl g among in omega (arith, less, below accepted)) in
-    let rooted : root_of b g.on ≡ root_of b t.bus = tree.root_same t.bus g among in
-    let by_message : is_gpio g.kind ≡ false = ap is_gpio (sym (hop_kind b tree t.bus g among)) ∙ no_line g.mux in
     record {
-      select = record { there = there; rooted = rooted; by_message = by_message };
-      deselect = record { there = there; rooted = rooted; by_message = by_message };
-      close = λ m. record { there = there; rooted = rooted; by_message = no_line m };
+      select = record { there = there; rooted = tree.root_same t.bus g among };
+      deselect = record { there = there; rooted = tree.root_same t.bus g among };
+      close = λ m. record { there = there; rooted = tree.root_same t.bus g among };
     })
   where
     below : refusal b t ≡ None → t.bus < buses b
     below accepted = ltb-true t.bus (buses b) (refusal-none b t accepted).0
+
+-- what is so of each job in two ways
+pub jobs-both : (P Q R : Job → Type 0) → ((job : Job) → P job → Q job → R job) → (w : WalkTree) → EachJob P w → EachJob Q w → EachJob R w
+jobs-both P Q R both Ends p q = tt
+jobs-both P Q R both (Look ask next) p q = λ m. jobs-both P Q R both (next m) (p m) (q m)
+jobs-both P Q R both (Then (Take l) note next) p q = λ out. jobs-both P Q R both (next out) (p out) (q out)
+jobs-both P Q R both (Then (Free l) note next) p q = λ out. jobs-both P Q R both (next out) (p out) (q out)
+jobs-both P Q R both (Then (Send job left) note next) p q = (both job p.0 q.0, λ out. jobs-both P Q R both (next out) (p.1 out) (q.1 out))
+jobs-both P Q R both (Then (Shift job) note next) p q = (p.0, both job p.1 q.1, λ out. jobs-both P Q R both (next out) (p.2 out) (q.2 out))
+jobs-both P Q R both (Then (Settle verdict) note next) p q = λ out. jobs-both P Q R both (next out) (p out) (q out)
