@@ -3,13 +3,19 @@ ghost use Rattle.std.specs.Prelude.{◌≡◌, ℕ, ◌+◌, ◌<◌, ◌≤◌,
 use arrayvec::ArrayVec;
 use std::marker::Model;
 
-/// Up to 4,096 bytes, which take no memory. A contract sees the list.
+/// Up to 4,096 bytes: those of a transfer.
+pub type Bytes = ByteStore<4096>;
+
+/// Up to 512 bytes: those of one message.
+pub type ByteList = ByteStore<512>;
+
+/// Up to so many bytes, which take no memory. A contract sees the list.
 #[derive(Debug, PartialEq, Eq, Drop)]
-pub struct Bytes {
-    items: ArrayVec<u8, 4096>,
+pub struct ByteStore<const N: usize> {
+    items: ArrayVec<u8, N>,
 }
 
-impl Model for Bytes {
+impl<const N: usize> Model for ByteStore<N> {
     ghost Value = { List ℕ };
 
     ghost view = { λ b. b.items.items };
@@ -17,17 +23,17 @@ impl Model for Bytes {
     ghost inverse = { λ xs. record { items = record { items = xs } } };
 }
 
-impl Bytes {
+impl<const N: usize> ByteStore<N> {
     pub fn new() -> Self
         ensures { result ≡ [] }
     {
-        Bytes {
+        ByteStore {
             items: ArrayVec::new(),
         }
     }
 
     pub fn push(&mut self, byte: u8)
-        requires { length self.old < 4096 }
+        requires { length self.old < N }
         ensures { self.new ≡ self.old ++ byte ∷ [] }
     {
         self.items.push(byte);
@@ -35,7 +41,7 @@ impl Bytes {
 
     /// Puts these bytes at the end.
     pub fn extend(&mut self, bytes: &[u8])
-        requires { length self.old + length bytes.now ≤ 4096 }
+        requires { length self.old + length bytes.now ≤ N }
         ensures { self.new ≡ self.old ++ bytes.now }
     {
         let _ = self.items.try_extend_from_slice(bytes);
@@ -43,62 +49,7 @@ impl Bytes {
 
     pub fn as_slice(&self) -> &[u8]
         ensures value { result.now ≡ self.now }
-        ensures fits { length self.now ≤ 4096 }
-    {
-        self.items.as_slice()
-    }
-
-    /// The same bytes again.
-    pub fn copied(&self) -> Self
-        ensures { result ≡ self.now }
-    {
-        let mut copy = Self::new();
-        copy.extend(self.as_slice());
-        copy
-    }
-}
-
-/// Up to 512 bytes, which take no memory: those of one message. A contract sees the list.
-#[derive(Debug, Drop)]
-pub struct ByteList {
-    items: ArrayVec<u8, 512>,
-}
-
-impl Model for ByteList {
-    ghost Value = { List ℕ };
-
-    ghost view = { λ b. b.items.items };
-
-    ghost inverse = { λ xs. record { items = record { items = xs } } };
-}
-
-impl ByteList {
-    pub fn new() -> Self
-        ensures { result ≡ [] }
-    {
-        ByteList {
-            items: ArrayVec::new(),
-        }
-    }
-
-    pub fn push(&mut self, byte: u8)
-        requires { length self.old < 512 }
-        ensures { self.new ≡ self.old ++ byte ∷ [] }
-    {
-        self.items.push(byte);
-    }
-
-    /// Puts these bytes at the end.
-    pub fn extend(&mut self, bytes: &[u8])
-        requires { length self.old + length bytes.now ≤ 512 }
-        ensures { self.new ≡ self.old ++ bytes.now }
-    {
-        let _ = self.items.try_extend_from_slice(bytes);
-    }
-
-    pub fn as_slice(&self) -> &[u8]
-        ensures value { result.now ≡ self.now }
-        ensures fits { length self.now ≤ 512 }
+        ensures fits { length self.now ≤ N }
     {
         self.items.as_slice()
     }

@@ -24,7 +24,7 @@ mod tree;
 
 pub use addr::Addr;
 pub use board::{DeviceKind, DeviceSpec, Idle, LockMode, MuxKind, MuxSpec, RootSpec, Run, Size};
-pub use bytes::{ByteList, Bytes};
+pub use bytes::{ByteList, ByteStore, Bytes};
 pub use caller::Caller;
 pub use entry::{End, Entry, Purpose};
 pub use errno::Errno;
