@@ -1,16 +1,15 @@
-ghost use Rattle.std.specs.Prelude.{◌≡◌, ℕ, ◌<◌, List, Some, None};
+ghost use Rattle.std.specs.Prelude.{◌≡◌, ℕ, ◌<◌, List, Some};
 ghost use Rattle.i2c_base.specs.Board.{BoardView};
 ghost use Rattle.i2c_base.specs.declared.entry.Entry.{Entry};
 ghost use Rattle.i2c_spec.specs.Tree.{buses, home_of_mux};
 ghost use Rattle.i2c_spec.specs.Plain.{IsPlainBoard};
 ghost use Rattle.i2c_spec.specs.Rules.{MeetsRules};
 ghost use Rattle.i2c_spec.specs.History.{Asks};
-ghost use Rattle.bus_spec.specs.Past.{mark, now};
-ghost use Rattle.bus_spec.specs.Walk.{Ends};
+ghost use Rattle.bus_spec.specs.Past.{mark};
 ghost use Rattle.bus_spec.specs.Stepwise.{IsStepwise};
-ghost use Rattle.bus_spec.specs.Legal.{IsLegal, KeepsLocks, KeepsReplies, KeepsSettles, KeepsWalks, KeepsWhole};
+ghost use Rattle.bus_spec.specs.Legal.{KeepsLocks, KeepsSettles, KeepsWhole};
 ghost use Rattle.bus_laws.specs.Ready.{SomeCanGoOn};
-ghost use Rattle.bus_laws.specs.Reach.{AsksForMessages, AsksWithinLimits, KeepsClosed, KeepsPathsOpen};
+ghost use Rattle.bus_laws.specs.Reach.{AsksForMessages, KeepsClosed, KeepsPathsOpen};
 
 use i2c_spec::an_accepted_board_is_a_tree;
 

@@ -6,6 +6,7 @@ pub mod First
 pub mod Walks
 pub mod Spent
 pub mod Costs
+pub mod Counts
 pub mod Left
 pub mod Legal
 pub mod Ends

@@ -3,6 +3,7 @@
 pub mod Parts
 pub mod Left
 pub mod Costs
+pub mod Counts
 pub mod Ends
 pub mod Flight
 pub mod Wrong

@@ -1,19 +1,16 @@
-ghost use Rattle.std.specs.Prelude.{◌≡◌, ℕ, ◌<◌, Bool, true, false, List, [], ◌∷◌, ◌++◌, length, map, Option, Some, slice_get};
+ghost use Rattle.std.specs.Prelude.{◌≡◌, ℕ, ◌<◌, Bool, true, false, List, [], ◌∷◌, ◌++◌, length, Option, slice_get};
 ghost use Rattle.i2c_base.specs.declared.reply.Cut.{Cut};
-ghost use Rattle.i2c_base.specs.declared.tree.Grant.TheVariants as grant;
 ghost use Rattle.i2c_base.specs.Board.{BoardView};
 ghost use Rattle.i2c_base.specs.Bytes.{AreBytes};
 ghost use Rattle.i2c_base.specs.Transfer.{TransferView};
-ghost use Rattle.i2c_spec.specs.Tree.{root_of, home_of_mux, addr_of_mux, IsAlong};
+ghost use Rattle.i2c_spec.specs.Tree.{root_of};
 ghost use Rattle.i2c_spec.specs.TreeFacts.{IsTree};
-ghost use Rattle.i2c_spec.specs.Grant.{grant_of};
-ghost use Rattle.i2c_spec.specs.Plain.{IsPlainBoard};
-ghost use Rattle.i2c_spec.specs.Targets.{TargetState, opening_state};
+ghost use Rattle.i2c_spec.specs.Targets.{TargetState};
 ghost use Rattle.i2c_spec.specs.Messages.{MessageView, messages_of};
-ghost use Rattle.i2c_spec.specs.World.{World, is_joined, opening_world};
-ghost use Rattle.i2c_spec.specs.Flat.{FlatListener, idle, is_it, flat_listener, granted_on, block_limit, cut_in, flat_messages, flat};
+ghost use Rattle.i2c_spec.specs.World.{World};
+ghost use Rattle.i2c_spec.specs.Flat.{FlatListener, idle, flat_listener, granted_on, block_limit, cut_in, flat_messages, flat};
 ghost use Rattle.i2c_spec.specs.Conversation.{world_listener, talk, is_empty, is_good};
-ghost use Rattle.bus_laws.specs.Alike.{IsOf, Same, LeadsTo, IsControl, ToldAlike, EndsTransfer, IsUnnamed};
+ghost use Rattle.bus_laws.specs.Alike.{IsOf, Same, LeadsTo, EndsTransfer};
 ghost use Rattle.journal_laws.specs.Parts.{GrowsAlike, FlatSame, talk_part};
 
 /// A transfer in the flat world is told message by message, as its messages come in the world of its root.

@@ -2,20 +2,17 @@ ghost use Rattle.std.specs.Prelude.{◌≡◌, ℕ, ◌<◌, ◌≤◌, List, []
 ghost use Rattle.i2c_base.specs.declared.ids.LockId.{LockId};
 ghost use Rattle.i2c_base.specs.Board.{BoardView};
 ghost use Rattle.i2c_base.specs.declared.entry.Entry.{Entry};
-ghost use Rattle.i2c_base.specs.declared.entry.Purpose.TheVariants as purpose;
 ghost use Rattle.i2c_base.specs.declared.reply.Reply.{Reply};
 ghost use Rattle.i2c_spec.specs.Plain.{IsPlainBoard};
 ghost use Rattle.i2c_spec.specs.Rules.{MeetsRules};
-ghost use Rattle.i2c_spec.specs.Messages.{MessageView};
 ghost use Rattle.i2c_spec.specs.History.{Asks};
-ghost use Rattle.bus_spec.specs.Walk.{Job, Call, Take, Send, Ends, job_purpose};
+ghost use Rattle.bus_spec.specs.Walk.{Ends};
 ghost use Rattle.bus_spec.specs.Past.{now};
 ghost use Rattle.bus_spec.specs.Readings.{replies};
-ghost use Rattle.bus_spec.specs.Stepwise.{IsBelow, IsNext, IsStepwise};
+ghost use Rattle.bus_spec.specs.Stepwise.{IsStepwise};
 ghost use Rattle.bus_spec.specs.Legal.{IsComplete};
 ghost use Rattle.bus_laws.specs.Reach.{AsksForMessages};
 ghost use Rattle.journal_laws.specs.Costs.{spent, CoversCosts, KeepsFits, steps_by};
-ghost use Rattle.bus_laws.specs.Next.{WillReach, WillSwitch};
 ghost use Rattle.journal_laws.specs.Ends.{IsDone};
 
 use i2c_spec::an_accepted_board_is_a_tree;

@@ -1,18 +1,17 @@
-ghost use Rattle.std.specs.Prelude.{◌≡◌, ℕ, ◌<◌, List, Some, None};
+ghost use Rattle.std.specs.Prelude.{◌≡◌, ℕ, List, None};
 ghost use Rattle.i2c_base.specs.Board.{BoardView};
 ghost use Rattle.i2c_base.specs.declared.entry.Entry.{Entry};
-ghost use Rattle.i2c_spec.specs.Tree.{buses};
 ghost use Rattle.i2c_spec.specs.Plain.{IsPlainBoard};
 ghost use Rattle.i2c_spec.specs.Rules.{MeetsRules};
 ghost use Rattle.i2c_spec.specs.History.{Asks};
-ghost use Rattle.bus_spec.specs.Past.{mark, now};
+ghost use Rattle.bus_spec.specs.Past.{now, calls_of};
 ghost use Rattle.bus_spec.specs.Walk.{Ends};
 ghost use Rattle.bus_spec.specs.Stepwise.{IsStepwise};
-ghost use Rattle.bus_spec.specs.Legal.{IsLegal, KeepsLocks, KeepsReplies, KeepsSettles, KeepsWalks, KeepsWhole};
+ghost use Rattle.bus_spec.specs.Legal.{IsLegal, KeepsReplies, KeepsWalks};
+ghost use Rattle.journal_laws.specs.Counts.{faults_in, failed_on};
 ghost use Rattle.journal_laws.specs.Costs.{KeepsCosts};
 ghost use Rattle.journal_laws.specs.Left.{KeepsDevices, LeavesDevices};
-ghost use Rattle.bus_laws.specs.Ready.{SomeCanGoOn};
-ghost use Rattle.bus_laws.specs.Reach.{AsksForMessages, AsksWithinLimits, KeepsClosed, KeepsPathsOpen};
+ghost use Rattle.bus_laws.specs.Reach.{AsksForMessages, AsksWithinLimits};
 
 use i2c_spec::an_accepted_board_is_a_tree;
 
@@ -62,6 +61,15 @@ pub fn a_journal_is_legal()
 pub fn no_caller_exceeds_its_cost()
     ensures { (b : BoardView) (callers : ℕ) (asks : Asks) (past : List Entry) → IsPlainBoard b → MeetsRules b → AsksForMessages asks → IsStepwise b callers asks past
         → (now b asks past).due ≡ None → KeepsCosts b asks past }
+{
+    an_accepted_board_is_a_tree();
+}
+
+/// On each root as many messages and line steps failed by the port as calls of that port did: one call that fails is told
+/// in one entry.
+pub fn each_fault_is_a_failed_entry()
+    ensures { (b : BoardView) (callers : ℕ) (asks : Asks) (past : List Entry) → IsPlainBoard b → MeetsRules b → AsksForMessages asks → IsStepwise b callers asks past
+        → (r : ℕ) → faults_in (calls_of b asks past r) ≡ failed_on b r past }
 {
     an_accepted_board_is_a_tree();
 }

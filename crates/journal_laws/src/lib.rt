@@ -21,7 +21,7 @@ pub use ends::{
 };
 pub use journals::{
     a_journal_is_legal, a_journal_that_rests_leaves_the_devices_of_its_history,
-    each_caller_walks_its_transfers, each_reply_is_that_of_the_flat_world,
+    each_caller_walks_its_transfers, each_fault_is_a_failed_entry, each_reply_is_that_of_the_flat_world,
     no_caller_exceeds_its_cost, the_devices_are_those_of_the_history,
 };
 pub use readings::{

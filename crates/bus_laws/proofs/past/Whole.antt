@@ -352,7 +352,7 @@ module _ (b : BoardView) (tree : IsTree b) (plain : IsPlainBoard b) (lines : Lin
         (sym next ∙ ap (λ (i : ℕ). first_act (current b asks here i)) same ∙ inside_next b tree plain lines asks some callers past steps inside r c is) in
         (same, subst (λ (j : Job). is_call (job_purpose j) ≡ true) (sym (let f : job ≡ Call (inside r c is).bus (inside r c is).messages = cc in f)) refl)
 
-    line_root : (d : ℕ) (job : Job) → IsNext b asks here d (Shift job) → root_of b (home_of_mux b (line_mux job)) ≡ root_of b (job_bus job)
+    pub line_root : (d : ℕ) (job : Job) → IsNext b asks here d (Shift job) → root_of b (home_of_mux b (line_mux job)) ≡ root_of b (job_bus job)
     line_root d job next =
         by_job job (line_may b tree plain lines asks some callers past steps d job next).1
       where

@@ -18,69 +18,103 @@ IsLater (call.Get ack) = Unit {0}
 IsLater call.Stop = Unit {0}
 IsLater call.Fault = Unit {0}
 
--- a fact about a listener and the calls so far, newest first, that each call behind the start keeps holds in the end,
--- if it holds behind the start
-module _ {W : Type 0} (l : Listener W) (P : W → List PortCall → Type 0)
-    (keeps : (u : W) (cs : List PortCall) (c : PortCall) → IsLater c → P u cs → P (l.after u c) (c ∷ cs)) where
-  cond_keeps : (t : Bool) (x y : TalkTold W) → P x.now x.calls → P y.now y.calls → P (cond t x y).now (cond t x y).calls
-  cond_keeps true x y hx hy = hx
-  cond_keeps false x y hx hy = hy
+-- .. that didn't fail
+abbrev pub IsMade : PortCall → Type 0
+IsMade (call.Put byte) = Unit {0}
+IsMade (call.Get ack) = Unit {0}
+IsMade call.Stop = Unit {0}
+IsMade c = ⊥
 
-  then_keeps : (cut : Option ℕ) (t : Said W) (c : PortCall) (next : Said W → TalkTold W) → IsLater c → P t.now t.calls
-      → ((s : Said W) → P s.now s.calls → P (next s).now (next s).calls) → P (call_then l cut t c next).now (call_then l cut t c next).calls
-  then_keeps cut t c next later h goes_on =
-      cond_keeps (is_at cut (length t.calls)) (told (say l t call.Fault) (end.Cut (length t.calls))) (next (say l t c))
-      (keeps t.now t.calls call.Fault tt h) (goes_on (say l t c) (keeps t.now t.calls c later h))
+-- an end that isn't told of a call that failed
+abbrev pub IsOwnEnd : End → Type 0
+IsOwnEnd (end.Cut q) = ⊥
+IsOwnEnd e = Unit {0}
 
-  ended_keeps : (cut : Option ℕ) (stops : Bool) (t : Said W) (e : End) → P t.now t.calls → P (ended l cut stops t e).now (ended l cut stops t e).calls
-  ended_keeps cut stops t e h =
-      cond_keeps stops (call_then l cut t call.Stop (λ s. told s e)) (told t e)
-      (then_keeps cut t call.Stop (λ s. told s e) tt h (λ s hs. hs)) h
+-- What is so of a listener and the calls so far, newest first, and is kept by each call behind the start, gives what is
+-- so in the end: behind a call that failed, or where the message ends by itself.
+module _ {W : Type 0} (l : Listener W) (P : W → List PortCall → Type 0) (R : W → List PortCall → End → Type 0)
+    (goes : (u : W) (cs : List PortCall) (c : PortCall) → IsMade c → P u cs → P (l.after u c) (c ∷ cs))
+    (fails : (u : W) (cs : List PortCall) → P u cs → R (l.after u call.Fault) (call.Fault ∷ cs) (end.Cut (length cs)))
+    (ends : (u : W) (cs : List PortCall) (e : End) → IsOwnEnd e → P u cs → R u cs e) where
+  abbrev Ended : TalkTold W → Type 0
+  Ended t = R t.now t.calls t.end
 
-  puts_keeps : (cut : Option ℕ) (last : Bool) (bytes : List ℕ) (t : Said W) → P t.now t.calls → P (puts l cut last bytes t).now (puts l cut last bytes t).calls
-  puts_keeps cut last [] t h = ended_keeps cut last t end.Ok h
-  puts_keeps cut last (b ∷ bs) t h =
-      then_keeps cut t (call.Put b) (λ s. cond (l.takes t.now b) (puts l cut last bs (with_byte s b)) (ended l cut true s end.Refused)) tt h
-      (λ s hs. cond_keeps (l.takes t.now b) (puts l cut last bs (with_byte s b)) (ended l cut true s end.Refused)
-      (puts_keeps cut last bs (with_byte s b) hs) (ended_keeps cut true s end.Refused hs))
+  cond_ends : (t : Bool) (x y : TalkTold W) → Ended x → Ended y → Ended (cond t x y)
+  cond_ends true x y hx hy = hx
+  cond_ends false x y hx hy = hy
 
-  gets_keeps : (cut : Option ℕ) (last : Bool) (n : ℕ) (t : Said W) → P t.now t.calls → P (gets l cut last n t).now (gets l cut last n t).calls
-  gets_keeps cut last zero t h = ended_keeps cut last t end.Ok h
-  gets_keeps cut last (suc n) t h =
-      then_keeps cut t (call.Get (ltb 0 n)) (λ s. gets l cut last n (with_byte s (l.gives t.now))) tt h
-      (λ s hs. gets_keeps cut last n (with_byte s (l.gives t.now)) hs)
+  then_ends : (cut : Option ℕ) (t : Said W) (c : PortCall) (next : Said W → TalkTold W) → IsMade c → P t.now t.calls
+      → ((s : Said W) → P s.now s.calls → Ended (next s)) → Ended (call_then l cut t c next)
+  then_ends cut t c next made h goes_on =
+      cond_ends (is_at cut (length t.calls)) (told (say l t call.Fault) (end.Cut (length t.calls))) (next (say l t c))
+      (fails t.now t.calls h) (goes_on (say l t c) (goes t.now t.calls c made h))
 
-  counted_keeps : (cut : Option ℕ) (last : Bool) (limit len : ℕ) (t : Said W) → P t.now t.calls → P (gets_counted l cut last limit len t).now (gets_counted l cut last limit len t).calls
-  counted_keeps cut last limit len t h =
-      then_keeps cut t (call.Get true)
+  ended_ends : (cut : Option ℕ) (stops : Bool) (t : Said W) (e : End) → IsOwnEnd e → P t.now t.calls → Ended (ended l cut stops t e)
+  ended_ends cut stops t e own h =
+      cond_ends stops (call_then l cut t call.Stop (λ s. told s e)) (told t e)
+      (then_ends cut t call.Stop (λ s. told s e) tt h (λ s hs. ends s.now s.calls e own hs)) (ends t.now t.calls e own h)
+
+  puts_ends : (cut : Option ℕ) (last : Bool) (bytes : List ℕ) (t : Said W) → P t.now t.calls → Ended (puts l cut last bytes t)
+  puts_ends cut last [] t h = ended_ends cut last t end.Ok tt h
+  puts_ends cut last (b ∷ bs) t h =
+      then_ends cut t (call.Put b) (λ s. cond (l.takes t.now b) (puts l cut last bs (with_byte s b)) (ended l cut true s end.Refused)) tt h
+      (λ s hs. cond_ends (l.takes t.now b) (puts l cut last bs (with_byte s b)) (ended l cut true s end.Refused)
+      (puts_ends cut last bs (with_byte s b) hs) (ended_ends cut true s end.Refused tt hs))
+
+  gets_ends : (cut : Option ℕ) (last : Bool) (n : ℕ) (t : Said W) → P t.now t.calls → Ended (gets l cut last n t)
+  gets_ends cut last zero t h = ended_ends cut last t end.Ok tt h
+  gets_ends cut last (suc n) t h =
+      then_ends cut t (call.Get (ltb 0 n)) (λ s. gets l cut last n (with_byte s (l.gives t.now))) tt h
+      (λ s hs. gets_ends cut last n (with_byte s (l.gives t.now)) hs)
+
+  counted_ends : (cut : Option ℕ) (last : Bool) (limit len : ℕ) (t : Said W) → P t.now t.calls → Ended (gets_counted l cut last limit len t)
+  counted_ends cut last limit len t h =
+      then_ends cut t (call.Get true)
       (λ s. cond (eqb (l.gives t.now) 0 || ltb limit (l.gives t.now))
       (call_then l cut (with_byte s (l.gives t.now)) (call.Get false) (λ u. ended l cut true (with_byte u (l.gives s.now)) end.Proto))
       (gets l cut last (l.gives t.now + len - 1) (with_byte s (l.gives t.now)))) tt h
-      (λ s hs. cond_keeps (eqb (l.gives t.now) 0 || ltb limit (l.gives t.now))
+      (λ s hs. cond_ends (eqb (l.gives t.now) 0 || ltb limit (l.gives t.now))
       (call_then l cut (with_byte s (l.gives t.now)) (call.Get false) (λ u. ended l cut true (with_byte u (l.gives s.now)) end.Proto))
       (gets l cut last (l.gives t.now + len - 1) (with_byte s (l.gives t.now)))
-      (then_keeps cut (with_byte s (l.gives t.now)) (call.Get false) (λ u. ended l cut true (with_byte u (l.gives s.now)) end.Proto) tt hs
-      (λ u hu. ended_keeps cut true (with_byte u (l.gives s.now)) end.Proto hu))
-      (gets_keeps cut last (l.gives t.now + len - 1) (with_byte s (l.gives t.now)) hs))
+      (then_ends cut (with_byte s (l.gives t.now)) (call.Get false) (λ u. ended l cut true (with_byte u (l.gives s.now)) end.Proto) tt hs
+      (λ u hu. ended_ends cut true (with_byte u (l.gives s.now)) end.Proto tt hu))
+      (gets_ends cut last (l.gives t.now + len - 1) (with_byte s (l.gives t.now)) hs))
 
-  answer_keeps : (cut : Option ℕ) (last : Bool) (limit : ℕ) (m : MessageView) (a : Answer) (t : Said W) → P t.now t.calls → P (by_answer l cut last limit m a t).now (by_answer l cut last limit m a t).calls
-  answer_keeps cut last limit m answer.Ack t h =
-      cond_keeps m.reading
+  answer_ends : (cut : Option ℕ) (last : Bool) (limit : ℕ) (m : MessageView) (a : Answer) (t : Said W) → P t.now t.calls → Ended (by_answer l cut last limit m a t)
+  answer_ends cut last limit m answer.Ack t h =
+      cond_ends m.reading
       (cond m.counted (gets_counted l cut last limit m.len t) (gets l cut last m.len t)) (puts l cut last m.bytes t)
-      (cond_keeps m.counted (gets_counted l cut last limit m.len t) (gets l cut last m.len t)
-      (counted_keeps cut last limit m.len t h) (gets_keeps cut last m.len t h))
-      (puts_keeps cut last m.bytes t h)
-  answer_keeps cut last limit m answer.Slow t h = ended_keeps cut true t end.Slow h
-  answer_keeps cut last limit m answer.Nack t h = ended_keeps cut true t end.Nack h
-  answer_keeps cut last limit m (answer.Byte byte) t h = ended_keeps cut true t end.Nack h
-  answer_keeps cut last limit m answer.Nothing t h = ended_keeps cut true t end.Nack h
+      (cond_ends m.counted (gets_counted l cut last limit m.len t) (gets l cut last m.len t)
+      (counted_ends cut last limit m.len t h) (gets_ends cut last m.len t h))
+      (puts_ends cut last m.bytes t h)
+  answer_ends cut last limit m answer.Slow t h = ended_ends cut true t end.Slow tt h
+  answer_ends cut last limit m answer.Nack t h = ended_ends cut true t end.Nack tt h
+  answer_ends cut last limit m (answer.Byte byte) t h = ended_ends cut true t end.Nack tt h
+  answer_ends cut last limit m answer.Nothing t h = ended_ends cut true t end.Nack tt h
 
-  pub talk-tells : (limit : ℕ) (w : W) (m : MessageView) (last : Bool) (cut : Option ℕ)
-      → P (l.after w call.Fault) (call.Fault ∷ []) → P (l.after w (call.Start m.addr m.reading)) (call.Start m.addr m.reading ∷ []) → P (talk l limit w m last cut).now (talk l limit w m last cut).calls
-  talk-tells limit w m last cut fault start =
-      cond_keeps (is_at cut 0) (told (say l (silence w) call.Fault) (end.Cut 0))
+  pub talk-ends : (limit : ℕ) (w : W) (m : MessageView) (last : Bool) (cut : Option ℕ)
+      → R (l.after w call.Fault) (call.Fault ∷ []) (end.Cut 0) → P (l.after w (call.Start m.addr m.reading)) (call.Start m.addr m.reading ∷ []) → Ended (talk l limit w m last cut)
+  talk-ends limit w m last cut fault start =
+      cond_ends (is_at cut 0) (told (say l (silence w) call.Fault) (end.Cut 0))
       (by_answer l cut last limit m (l.answer w m.addr m.reading) (say l (silence w) (call.Start m.addr m.reading)))
-      fault (answer_keeps cut last limit m (l.answer w m.addr m.reading) (say l (silence w) (call.Start m.addr m.reading)) start)
+      fault (answer_ends cut last limit m (l.answer w m.addr m.reading) (say l (silence w) (call.Start m.addr m.reading)) start)
+
+made_later : (c : PortCall) → IsMade c → IsLater c
+made_later (call.Start a reading) made = made
+made_later (call.Line m level) made = made
+made_later (call.Put byte) made = tt
+made_later (call.Get ack) made = tt
+made_later call.Stop made = tt
+made_later call.Fault made = tt
+
+-- a fact about a listener and the calls so far that each call behind the start keeps holds in the end, if it holds behind
+-- the start
+pub talk-tells : {W : Type 0} (l : Listener W) (P : W → List PortCall → Type 0)
+    → ((u : W) (cs : List PortCall) (c : PortCall) → IsLater c → P u cs → P (l.after u c) (c ∷ cs))
+    → (limit : ℕ) (w : W) (m : MessageView) (last : Bool) (cut : Option ℕ)
+    → P (l.after w call.Fault) (call.Fault ∷ []) → P (l.after w (call.Start m.addr m.reading)) (call.Start m.addr m.reading ∷ []) → P (talk l limit w m last cut).now (talk l limit w m last cut).calls
+talk-tells l P keeps limit w m last cut fault start =
+    talk-ends l P (λ u cs e. P u cs) (λ u cs c made h. keeps u cs c (made_later c made) h) (λ u cs h. keeps u cs call.Fault tt h) (λ u cs e own h. h) limit w m last cut fault start
 
 -- the same for a fact about the listener alone
 pub talk-keeps : {W : Type 0} (l : Listener W) (P : W → Type 0) → ((u : W) (c : PortCall) → IsLater c → P u → P (l.after u c))

@@ -1,0 +1,30 @@
+-- How many calls of a port failed, by the entries and by the port's own calls.
+use Rattle.std.specs.Prelude.{ℕ, ◌+◌, Bool, true, false, ◌&&◌, if◌then◌else◌, List, [], ◌∷◌}
+use Rattle.i2c_base.specs.declared.port.PortCall.{PortCall}
+use Rattle.i2c_base.specs.declared.port.PortCall.TheVariants as call
+use Rattle.i2c_base.specs.declared.entry.Entry.{Entry}
+use Rattle.i2c_base.specs.declared.entry.Entry.TheVariants as entry
+use Rattle.i2c_base.specs.Board.{BoardView}
+use Rattle.bus_spec.specs.Readings.{of_message, is_on_root}
+use Rattle.bus_spec.specs.Places.{is_cut}
+
+abbrev pub count_if : Bool → ℕ
+count_if b = if b then 1 else 0
+
+-- the calls that failed
+abbrev pub is_fault : PortCall → Bool
+is_fault call.Fault = true
+is_fault c = false
+
+abbrev pub faults_in : List PortCall → ℕ
+faults_in [] = 0
+faults_in (c ∷ cs) = count_if (is_fault c) + faults_in cs
+
+-- the messages and line steps on a root that failed by the port
+abbrev pub is_failed : Entry → Bool
+is_failed (entry.Line c mux level failed) = failed
+is_failed e = of_message false (λ m. is_cut m.end) e
+
+abbrev pub failed_on : BoardView → ℕ → List Entry → ℕ
+failed_on b r [] = 0
+failed_on b r (e ∷ past) = count_if (is_on_root b r e && is_failed e) + failed_on b r past
