@@ -9,8 +9,8 @@ mod line;
 mod text;
 
 pub use journal::Journal;
-pub use line::{entry_text, errno_name};
-pub use text::{push_bytes, push_decimal, push_hex, push_joined, push_spaced};
+pub use line::{entry_text, errno_name, push_entry};
+pub use text::{push_bytes, push_decimal, push_hex, push_joined, push_number, push_spaced};
 
 #[cfg(test)]
 mod tests;
