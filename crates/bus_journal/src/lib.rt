@@ -4,13 +4,18 @@
 //! seen as the list of its entries. The small texts that a line is made of are offered to whoever writes more lines.
 #![tactic(auto)]
 
+mod cursor;
 mod journal;
+mod laws;
 mod line;
+mod read;
 mod text;
 
 pub use journal::Journal;
-pub use line::{entry_text, errno_name};
-pub use text::{push_bytes, push_decimal, push_hex, push_joined, push_spaced};
+pub use laws::a_line_tells_its_entry;
+pub use line::{entry_text, errno_name, push_entry};
+pub use read::{EntryFault, read_entry};
+pub use text::{push_bytes, push_decimal, push_hex, push_joined, push_number, push_spaced};
 
 #[cfg(test)]
 mod tests;

@@ -2,7 +2,7 @@ ghost use Rattle.std.specs.Prelude.{◌≡◌, ◌++◌, OnOk, IfOk};
 ghost use Rattle.std.specs.Fmt.{decimal};
 ghost use Rattle.bus_spec.specs.Lines.{lock_text, purpose_text, direction_text, node_text, heard_text, end_text, errno_text, reply_text, cut_text, data_text, part_text, place_text, result_text, level_text, entry_line};
 
-use crate::text::{push_bytes, push_decimal, push_hex, push_joined, push_spaced};
+use crate::text::{push_bytes, push_hex, push_joined, push_number, push_spaced};
 use i2c_base::{
     Addr, Cut, End, Entry, Errno, LockId, MuxId, NoMemory, Node, Purpose, Reply, SegId,
 };
@@ -27,29 +27,29 @@ pub fn errno_name<'a>(errno: Errno) -> &'a [u8]
     }
 }
 
-fn push_lock(alloc: Global, out: &mut Vec<u8>, lock: LockId) -> Result<(), NoMemory>
+fn push_lock(out: &mut Vec<u8>, lock: LockId) -> Result<(), NoMemory>
     ensures { OnOk result (out.new.items ≡ out.old.items ++ lock_text lock) }
 {
     match lock {
         LockId::Bus(root) => {
             push_bytes(out, b"buslock ")?;
-            push_decimal(alloc, out, u64::from(root.0))
+            push_number(out, u64::from(root.0))
         }
         LockId::Mux(bus) => {
             push_bytes(out, b"muxlock ")?;
-            push_decimal(alloc, out, u64::from(bus.0))
+            push_number(out, u64::from(bus.0))
         }
     }
 }
 
-fn push_purpose(alloc: Global, out: &mut Vec<u8>, purpose: Purpose) -> Result<(), NoMemory>
+fn push_purpose(out: &mut Vec<u8>, purpose: Purpose) -> Result<(), NoMemory>
     ensures { OnOk result (out.new.items ≡ out.old.items ++ purpose_text purpose) }
 {
     match purpose {
         Purpose::Call => push_bytes(out, b"call"),
         Purpose::Control(mux) => {
             push_bytes(out, b"mux ")?;
-            push_decimal(alloc, out, u64::from(mux.0))
+            push_number(out, u64::from(mux.0))
         }
     }
 }
@@ -60,31 +60,31 @@ fn push_direction(out: &mut Vec<u8>, reading: bool) -> Result<(), NoMemory>
     push_bytes(out, if reading { b"r" } else { b"w" })
 }
 
-fn push_node(alloc: Global, out: &mut Vec<u8>, node: Node) -> Result<(), NoMemory>
+fn push_node(out: &mut Vec<u8>, node: Node) -> Result<(), NoMemory>
     ensures { OnOk result (out.new.items ≡ out.old.items ++ node_text node) }
 {
     match node {
         Node::Device(device) => {
             push_bytes(out, b"d")?;
-            push_decimal(alloc, out, u64::from(device.0))
+            push_number(out, u64::from(device.0))
         }
         Node::Chip(mux) => {
             push_bytes(out, b"m")?;
-            push_decimal(alloc, out, u64::from(mux.0))
+            push_number(out, u64::from(mux.0))
         }
     }
 }
 
-fn push_heard(alloc: Global, out: &mut Vec<u8>, heard: Option<Node>) -> Result<(), NoMemory>
+fn push_heard(out: &mut Vec<u8>, heard: Option<Node>) -> Result<(), NoMemory>
     ensures { OnOk result (out.new.items ≡ out.old.items ++ heard_text heard) }
 {
     match heard {
         None => push_bytes(out, b"none"),
-        Some(node) => push_node(alloc, out, node),
+        Some(node) => push_node(out, node),
     }
 }
 
-fn push_end(alloc: Global, out: &mut Vec<u8>, end: End) -> Result<(), NoMemory>
+fn push_end(out: &mut Vec<u8>, end: End) -> Result<(), NoMemory>
     ensures { OnOk result (out.new.items ≡ out.old.items ++ end_text end) }
 {
     match end {
@@ -95,7 +95,7 @@ fn push_end(alloc: Global, out: &mut Vec<u8>, end: End) -> Result<(), NoMemory>
         End::Proto => push_bytes(out, b"proto"),
         End::Cut(calls) => {
             push_bytes(out, b"cut ")?;
-            push_decimal(alloc, out, u64::from(calls))
+            push_number(out, u64::from(calls))
         }
     }
 }
@@ -113,7 +113,7 @@ fn push_reply(out: &mut Vec<u8>, reply: &Reply) -> Result<(), NoMemory>
     }
 }
 
-fn push_cut(alloc: Global, out: &mut Vec<u8>, cut: Cut) -> Result<(), NoMemory>
+fn push_cut(out: &mut Vec<u8>, cut: Cut) -> Result<(), NoMemory>
     ensures { OnOk result (out.new.items ≡ out.old.items ++ cut_text cut) }
 {
     match cut {
@@ -121,34 +121,28 @@ fn push_cut(alloc: Global, out: &mut Vec<u8>, cut: Cut) -> Result<(), NoMemory>
         Cut::Way => push_bytes(out, b" cut way"),
         Cut::At { msg, call } => {
             push_bytes(out, b" cut ")?;
-            push_decimal(alloc, out, u64::from(msg))?;
+            push_number(out, u64::from(msg))?;
             push_bytes(out, b".")?;
-            push_decimal(alloc, out, u64::from(call))
+            push_number(out, u64::from(call))
         }
     }
 }
 
 // The front of an entry's line: its word, its caller and a further word.
-fn push_front(
-    alloc: Global,
-    out: &mut Vec<u8>,
-    word: &[u8],
-    caller: u8,
-    next: &[u8],
-) -> Result<(), NoMemory>
+fn push_front(out: &mut Vec<u8>, word: &[u8], caller: u8, next: &[u8]) -> Result<(), NoMemory>
     ensures { OnOk result (out.new.items ≡ out.old.items ++ (word.now ++ (decimal caller ++ next.now))) }
 {
     push_bytes(out, word)?;
-    push_decimal(alloc, out, u64::from(caller))?;
+    push_number(out, u64::from(caller))?;
     push_bytes(out, next)
 }
 
 // The front of a message's line.
-fn push_place(alloc: Global, out: &mut Vec<u8>, caller: u8, bus: SegId) -> Result<(), NoMemory>
+fn push_place(out: &mut Vec<u8>, caller: u8, bus: SegId) -> Result<(), NoMemory>
     ensures { OnOk result (out.new.items ≡ out.old.items ++ place_text caller bus) }
 {
-    push_front(alloc, out, b"msg ", caller, b" bus ")?;
-    push_decimal(alloc, out, u64::from(bus.0))?;
+    push_front(out, b"msg ", caller, b" bus ")?;
+    push_number(out, u64::from(bus.0))?;
     push_bytes(out, b" ")
 }
 
@@ -165,66 +159,49 @@ fn push_data(out: &mut Vec<u8>, addr: Addr, reading: bool, bytes: &[u8]) -> Resu
 }
 
 // Which message of how many, and why it is sent.
-fn push_part(
-    alloc: Global,
-    out: &mut Vec<u8>,
-    purpose: Purpose,
-    part: u8,
-    parts: u8,
-) -> Result<(), NoMemory>
+fn push_part(out: &mut Vec<u8>, purpose: Purpose, part: u8, parts: u8) -> Result<(), NoMemory>
     ensures { OnOk result (out.new.items ≡ out.old.items ++ part_text purpose part parts) }
 {
-    push_purpose(alloc, out, purpose)?;
+    push_purpose(out, purpose)?;
     push_bytes(out, b" ")?;
-    push_decimal(alloc, out, u64::from(part))?;
+    push_number(out, u64::from(part))?;
     push_bytes(out, b"/")?;
-    push_decimal(alloc, out, u64::from(parts))?;
+    push_number(out, u64::from(parts))?;
     push_bytes(out, b" ")
 }
 
 // Who heard a message, and how it ended.
-fn push_result(
-    alloc: Global,
-    out: &mut Vec<u8>,
-    heard: Option<Node>,
-    end: End,
-) -> Result<(), NoMemory>
+fn push_result(out: &mut Vec<u8>, heard: Option<Node>, end: End) -> Result<(), NoMemory>
     ensures { OnOk result (out.new.items ≡ out.old.items ++ result_text heard end) }
 {
     push_bytes(out, b"heard ")?;
-    push_heard(alloc, out, heard)?;
+    push_heard(out, heard)?;
     push_bytes(out, b" ")?;
-    push_end(alloc, out, end)
+    push_end(out, end)
 }
 
-fn push_level(
-    alloc: Global,
-    out: &mut Vec<u8>,
-    mux: MuxId,
-    level: u8,
-    failed: bool,
-) -> Result<(), NoMemory>
+fn push_level(out: &mut Vec<u8>, mux: MuxId, level: u8, failed: bool) -> Result<(), NoMemory>
     ensures { OnOk result (out.new.items ≡ out.old.items ++ level_text mux level failed) }
 {
-    push_decimal(alloc, out, u64::from(mux.0))?;
+    push_number(out, u64::from(mux.0))?;
     push_bytes(out, b" level ")?;
-    push_decimal(alloc, out, u64::from(level))?;
+    push_number(out, u64::from(level))?;
     push_bytes(out, b" ")?;
     push_bytes(out, if failed { b"cut" } else { b"ok" })
 }
 
-// The line of an entry, without its end.
-fn push_entry(alloc: Global, out: &mut Vec<u8>, entry: &Entry) -> Result<(), NoMemory>
+/// Puts the line of an entry at the end of a text, without its line feed.
+pub fn push_entry(out: &mut Vec<u8>, entry: &Entry) -> Result<(), NoMemory>
     ensures { OnOk result (out.new.items ≡ out.old.items ++ entry_line entry.now) }
 {
     match entry {
         Entry::Take { caller, lock } => {
-            push_front(alloc, out, b"take ", *caller, b" ")?;
-            push_lock(alloc, out, *lock)
+            push_front(out, b"take ", *caller, b" ")?;
+            push_lock(out, *lock)
         }
         Entry::Free { caller, lock } => {
-            push_front(alloc, out, b"free ", *caller, b" ")?;
-            push_lock(alloc, out, *lock)
+            push_front(out, b"free ", *caller, b" ")?;
+            push_lock(out, *lock)
         }
         Entry::Message {
             caller,
@@ -238,10 +215,10 @@ fn push_entry(alloc: Global, out: &mut Vec<u8>, entry: &Entry) -> Result<(), NoM
             heard,
             end,
         } => {
-            push_place(alloc, out, *caller, *bus)?;
-            push_part(alloc, out, *purpose, *part, *parts)?;
+            push_place(out, *caller, *bus)?;
+            push_part(out, *purpose, *part, *parts)?;
             push_data(out, *addr, *reading, bytes.as_slice())?;
-            push_result(alloc, out, *heard, *end)
+            push_result(out, *heard, *end)
         }
         Entry::Line {
             caller,
@@ -249,13 +226,13 @@ fn push_entry(alloc: Global, out: &mut Vec<u8>, entry: &Entry) -> Result<(), NoM
             level,
             failed,
         } => {
-            push_front(alloc, out, b"line ", *caller, b" mux ")?;
-            push_level(alloc, out, *mux, *level, *failed)
+            push_front(out, b"line ", *caller, b" mux ")?;
+            push_level(out, *mux, *level, *failed)
         }
         Entry::Settle { caller, reply, cut } => {
-            push_front(alloc, out, b"settle ", *caller, b" ")?;
+            push_front(out, b"settle ", *caller, b" ")?;
             push_reply(out, reply)?;
-            push_cut(alloc, out, *cut)
+            push_cut(out, *cut)
         }
     }
 }
@@ -265,6 +242,6 @@ pub fn entry_text(alloc: Global, entry: &Entry) -> Result<Vec<u8>, NoMemory>
     ensures { IfOk result (λ text. text.items ≡ entry_line entry.now) }
 {
     let mut out = Vec::new(alloc);
-    push_entry(alloc, &mut out, entry)?;
+    push_entry(&mut out, entry)?;
     Ok(out)
 }

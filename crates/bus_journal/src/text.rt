@@ -13,12 +13,25 @@ pub fn push_bytes(out: &mut Vec<u8>, bytes: &[u8]) -> Result<(), NoMemory>
     Ok(())
 }
 
-/// Puts a number in decimal at the end of a text.
-pub fn push_decimal(alloc: Global, out: &mut Vec<u8>, number: u64) -> Result<(), NoMemory>
+/// Puts a number in decimal at the end of a text, digit by digit.
+#[tactic(auto, using(std::proofs::lemmas::Fmt::decimal_digit, crate::proofs::Decimal::digits_more))]
+pub fn push_number(out: &mut Vec<u8>, number: u64) -> Result<(), NoMemory>
     ensures { OnOk result (out.new.items ≡ out.old.items ++ decimal number) }
 {
-    let text = format!(in alloc; "{number}")?;
-    push_bytes(out, text.as_bytes())
+    if number < 10 {
+        out.push(b'0' + number as u8)?;
+    } else {
+        push_number(out, number / 10)?;
+        out.push(b'0' + (number % 10) as u8)?;
+    }
+    Ok(())
+}
+
+/// Does what `push_number` does, for a caller that hands in an allocator.
+pub fn push_decimal(_alloc: Global, out: &mut Vec<u8>, number: u64) -> Result<(), NoMemory>
+    ensures { OnOk result (out.new.items ≡ out.old.items ++ decimal number) }
+{
+    push_number(out, number)
 }
 
 // A digit of 0 to 15.

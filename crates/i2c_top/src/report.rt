@@ -3,47 +3,41 @@ ghost use Rattle.std.specs.List.{flat_map};
 ghost use Rattle.std.specs.Fmt.{decimal};
 ghost use Rattle.bus_spec.specs.Report.{sections, ended_line, report_lines};
 
-use bus_journal::{Journal, entry_text, push_bytes, push_decimal};
+use bus_journal::{Journal, push_bytes, push_entry, push_number};
 use i2c_base::{Entry, NoMemory};
 use std::alloc::Global;
 
 // A caller's section under its number.
-fn push_section(
-    alloc: Global,
-    out: &mut Vec<u8>,
-    caller: usize,
-    text: &[u8],
-) -> Result<(), NoMemory>
+fn push_section(out: &mut Vec<u8>, caller: usize, text: &[u8]) -> Result<(), NoMemory>
     ensures { OnOk result (out.new.items ≡ out.old.items ++ (codes "caller " ++ (decimal caller ++ (10 ∷ text.now)))) }
 {
     push_bytes(out, b"caller ")?;
-    push_decimal(alloc, out, caller as u64)?;
+    push_number(out, caller as u64)?;
     push_bytes(out, b"\n")?;
     push_bytes(out, text)
 }
 
-fn push_sections(alloc: Global, out: &mut Vec<u8>, texts: &[Vec<u8>]) -> Result<(), NoMemory>
+fn push_sections(out: &mut Vec<u8>, texts: &[Vec<u8>]) -> Result<(), NoMemory>
     ensures { OnOk result (out.new.items ≡ out.old.items ++ sections 0 (map (λ v. v.items) texts.now)) }
 {
     for (caller, text) in texts.iter().enumerate() {
-        push_section(alloc, out, caller, text.as_slice())?;
+        push_section(out, caller, text.as_slice())?;
     }
     Ok(())
 }
 
-fn push_line(alloc: Global, out: &mut Vec<u8>, entry: &Entry) -> Result<(), NoMemory>
+fn push_line(out: &mut Vec<u8>, entry: &Entry) -> Result<(), NoMemory>
     ensures { OnOk result (out.new.items ≡ out.old.items ++ ended_line entry.now) }
 {
-    let line = entry_text(alloc, entry)?;
-    push_bytes(out, line.as_slice())?;
+    push_entry(out, entry)?;
     push_bytes(out, b"\n")
 }
 
-fn push_lines(alloc: Global, out: &mut Vec<u8>, entries: &[Entry]) -> Result<(), NoMemory>
+fn push_lines(out: &mut Vec<u8>, entries: &[Entry]) -> Result<(), NoMemory>
     ensures { OnOk result (out.new.items ≡ out.old.items ++ flat_map ended_line entries.now) }
 {
     for entry in entries {
-        push_line(alloc, out, entry)?;
+        push_line(out, entry)?;
     }
     Ok(())
 }
@@ -58,9 +52,9 @@ pub fn report_text(
     ensures { IfOk result (λ text. text.items ≡ report_lines (map (λ v. v.items) callers.now) journal.now) }
 {
     let mut out = Vec::new(alloc);
-    push_sections(alloc, &mut out, callers)?;
+    push_sections(&mut out, callers)?;
     push_bytes(&mut out, b"journal\n")?;
-    push_lines(alloc, &mut out, journal.entries())?;
+    push_lines(&mut out, journal.entries())?;
     push_bytes(&mut out, b"end\n")?;
     Ok(out)
 }
