@@ -3,7 +3,7 @@ use Rattle.std.proofs.Common.{◌≡◌, ℕ, ◌⊎◌, inl, inr, IsTrue, List,
 use Rattle.std.proofs.lemmas.List.{take_all}
 use Rattle.std.specs.Prelude.{⊤, OnOk, IfOk, IfErr}
 use Rattle.i2c_outside.specs.Causes.{Rose}
-use Rattle.i2c_top.specs.Endings.{shown_of, CameTo, HasDone, IsRefused, HasCause, name_in, due_of, named_of, IsDue, IsStarved, IsWritten, IsRefusalWritten, IsEnding, HasEnded, HasLine, IsCutShort}
+use Rattle.i2c_top.specs.Endings.{shown_of, CameTo, HasDone, IsRefused, HasCause, name_in, due_of, named_of, IsDue, IsStarved, IsWritten, IsRefusalWritten, IsEnding, HasEnded, HasWritten, IsCutShort}
 use Rattle.i2c_top.specs.Reports.{HasReplayed}
 use Rattle.i2c_top.specs.Checks.{HasChecked}
 use Rattle.i2c_top.specs.Files.{Files}
@@ -183,22 +183,19 @@ module _ (request : Request) (old new : Outside) where
       ]
   kept_of result (inr m) t e = m.starved.kept t
 
-  pub ended_line : (result : Status) → HasEnded request old new result → IsTrue old.sink.tells → HasLine request old.sink new.sink result
-  ended_line result h t = record { line = line_of result h.ending t; kept = kept_of result h.ending t; usage = h.usage t }
-
   left_with : (s : Status) → Came s → IsLeft old.rig new.rig
   left_with s c = left_of request old.rig new.rig (class_of s) c.traced
 
   -- the cause of what it came to is that of its result, but where the output failed or there was no memory
   pub ended_cause : (result : Status) → HasEnded request old new result → HasCause request old new result
   ended_cause result h =
-      by_ending result (HasCause request old new)
-      (λ s c. record { told = c.told; shown = c.shown; write = λ e. absurd (c.unwritten e); unreached = c.unreached; traced = c.traced })
-      (λ s c rose. record { told = λ t. tt; shown = tt; write = λ e. rose; unreached = tt; traced = left_with s c })
-      (λ s c. record { told = λ t. tt; shown = tt; write = λ e. absurd (let k : status.Memory ≡ status.Write = e in cc); unreached = tt; traced = left_with s c })
-      h.ending
+      by_ending result (λ s. IsStatusOf request s → HasCause request old new s)
+      (λ s c own. record { own = own; told = c.told; shown = c.shown; write = λ e. absurd (c.unwritten e); unreached = c.unreached; traced = c.traced })
+      (λ s c rose own. record { own = own; told = λ t. tt; shown = tt; write = λ e. rose; unreached = tt; traced = left_with s c })
+      (λ s c own. record { own = own; told = λ t. tt; shown = tt; write = λ e. absurd (let k : status.Memory ≡ status.Write = e in cc); unreached = tt; traced = left_with s c })
+      h.ending h.answers
 
-  pub ended_cut : (result : Status) → HasEnded request old new result → result ≡ status.Write → IsCutShort request old new
+  ended_cut : (result : Status) → HasEnded request old new result → result ≡ status.Write → IsCutShort request old new
   ended_cut result h e = cut h.ending
     where
       cut : IsEnding request old new result → IsCutShort request old new
@@ -209,6 +206,10 @@ module _ (request : Request) (old new : Outside) where
             | inr (inr w) ↦ absurd (let k : status.Memory ≡ status.Write = sym w.starved ∙ e in cc)
           ]
       cut (inr m) = absurd (let k : status.Memory ≡ status.Write = sym m.starved.starved ∙ e in cc)
+
+  pub ended_written : (result : Status) → HasEnded request old new result → HasWritten request old new result
+  ended_written result h =
+      record { line = λ t. line_of result h.ending t; kept = λ t. kept_of result h.ending t; usage = h.usage; cut = ended_cut result h }
 
   -- a success that was written is how the call ended
   ending_done : (text : List ℕ) (result : Status) → Came status.Ok → (IsTrue old.shelf.tells → IsAnswer request old.shelf.file new.rig text)

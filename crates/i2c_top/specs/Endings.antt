@@ -30,8 +30,9 @@ pub record CameTo (request : Request) (shelf shelf_now : ShelfView) (rig rig_now
   pub unreached : KeepsUnreached shelf.faults shelf_now.faults s
   pub traced : IsTraced request rig rig_now s
 
--- the same of the status that a call ends with: the output may have failed, and counted it
+-- the same of the status that a call ends with, which is one of the request's: the output may have failed, and counted it
 pub record HasCause (request : Request) (old new : Outside) (s : Status) : Type 0 where
+  pub own : IsStatusOf request s
   pub told : IsTrue old.shelf.tells → IsTold old.shelf.file request s
   pub shown : IsShown request old.shelf new.shelf old.rig new.rig s
   pub write : s ≡ status.Write → Rose old.sink.faults new.sink.faults
@@ -126,12 +127,6 @@ pub record HasEnded (request : Request) (old new : Outside) (result : Status) : 
   pub usage : TellsUsage request old.sink new.sink
   pub ending : IsEnding request old new result
 
--- what stands on the output, where it didn't fail: the line of a refusal, and nothing without memory
-pub record HasLine (request : Request) (sink sink_now : OutputView) (result : Status) : Type 0 where
-  pub line : result ≢ status.Ok → result ≢ status.Write → sink_now.bytes ≡ sink.bytes ++ refusal_text result (name_in request result)
-  pub kept : result ≡ status.Memory → sink_now.bytes ≡ sink.bytes
-  pub usage : (IsServed request → ⊥) → HasFront sink.bytes (refusal_text status.Usage []) sink_now.bytes
-
 -- the output failed: a text was due for a status that the call came to, and a front of it was written
 pub record IsCutShort (request : Request) (old new : Outside) : Type 0 where
   pub to : Status
@@ -139,3 +134,11 @@ pub record IsCutShort (request : Request) (old new : Outside) : Type 0 where
   pub came : CameTo request old.shelf new.shelf old.rig new.rig to
   pub due : IsDue request old.shelf new.rig to text
   pub front : IsTrue old.sink.tells → HasFront old.sink.bytes text new.sink.bytes
+
+-- what stands on the output: the line of a refusal, nothing without memory, and where it failed a front of the text due. A
+-- request that isn't served gets a front of the line on usage, be it whole
+pub record HasWritten (request : Request) (old new : Outside) (result : Status) : Type 0 where
+  pub line : IsTrue old.sink.tells → result ≢ status.Ok → result ≢ status.Write → new.sink.bytes ≡ old.sink.bytes ++ refusal_text result (name_in request result)
+  pub kept : IsTrue old.sink.tells → result ≡ status.Memory → new.sink.bytes ≡ old.sink.bytes
+  pub usage : TellsUsage request old.sink new.sink
+  pub cut : result ≡ status.Write → IsCutShort request old new

@@ -1,9 +1,9 @@
 ghost use Rattle.std.specs.Prelude.{◌≡◌, ◌++◌, ◌⊎◌, Some, slice_get, OnOk, IfOk, IfErr, IsTrue};
 ghost use Rattle.std.specs.Fmt.{decimal};
 ghost use Rattle.i2c_top.specs.Checks.{HasCheck, HasChecked, accepted_text};
-ghost use Rattle.i2c_top.specs.Endings.{HasDone, IsRefused, HasCause, HasLine, HasEnded, IsCutShort};
-ghost use Rattle.i2c_top.specs.Requests.{Check, IsCause, IsCalm, IsStatusOf, KeepsShelf};
-ghost use Rattle.i2c_top.specs.Traces.{RigView, shelf_view, output_view, beside};
+ghost use Rattle.i2c_top.specs.Endings.{HasDone, IsRefused, HasCause, HasWritten, HasEnded};
+ghost use Rattle.i2c_top.specs.Requests.{Check, IsCause, IsCalm, KeepsShelf};
+ghost use Rattle.i2c_top.specs.Traces.{RigView, shelf_view, beside};
 ghost use Rattle.i2c_top.specs.declared.status.Status.{Status};
 ghost use Rattle.i2c_top.specs.declared.status.Status.TheVariants as status;
 
@@ -64,7 +64,6 @@ pub fn check_call<S: Shelf, K: Sink>(
     requires board { slice_get (S.words shelf.old) 1 ≡ Some board.now }
 
     // Its statuses, and the cause of each: by what the file says where the shelf tells, and by the counts.
-    ensures answers { IsStatusOf (Check board.now) result }
     ensures cause { (rig : RigView) → HasCause (Check board.now) (beside rig S.Shelf K.Sink shelf.old sink.old) (beside rig S.Shelf K.Sink shelf.new sink.new) result }
 
     // Where no count of its file or of the output rose, the status is the one that the file is a cause of, or there was
@@ -74,8 +73,7 @@ pub fn check_call<S: Shelf, K: Sink>(
 
     // What was written: the line of the board or of a refusal, nothing without memory, and else a front of the text due.
     ensures success { IsTrue S.tells → IsTrue K.tells → result ≡ status.Ok → HasChecked (S.file shelf.old) board.now (K.bytes sink.old) (K.bytes sink.new) }
-    ensures line { IsTrue K.tells → HasLine (Check board.now) (output_view K.Sink sink.old) (output_view K.Sink sink.new) result }
-    ensures cut { (rig : RigView) → result ≡ status.Write → IsCutShort (Check board.now) (beside rig S.Shelf K.Sink shelf.old sink.old) (beside rig S.Shelf K.Sink shelf.new sink.new) }
+    ensures written { (rig : RigView) → HasWritten (Check board.now) (beside rig S.Shelf K.Sink shelf.old sink.old) (beside rig S.Shelf K.Sink shelf.new sink.new) result }
 
     // The shelf keeps its words and files, and its counts but for that of the board.
     ensures kept { KeepsShelf (Check board.now) (shelf_view S.Shelf shelf.old) (shelf_view S.Shelf shelf.new) }

@@ -6,6 +6,7 @@ ghost use Rattle.caller_core.specs.Steps.{IsShallowBoard};
 ghost use Rattle.i2c_top.specs.Boards.{IsBuilt, IsAccepted, IsRejected};
 ghost use Rattle.i2c_top.specs.Readings.{IsAcceptedIn, IsRejectedIn, IsBoardIn, IsScriptIn, HasRead, IsRefusedAt, IsBadBoard, IsBadScript, IsBadSchedule};
 ghost use Rattle.i2c_top.specs.Replays.{HasNoBoard, HasBadScript, HasSchedule, HasBadSchedule, KeepsUnreached, IsFileRefusal};
+ghost use Rattle.i2c_top.specs.Requests.{names_of};
 ghost use Rattle.caller_core.specs.Scripts.{script_read, commands_of};
 ghost use Rattle.i2c_top.specs.Schedules.{schedule_fault};
 ghost use Rattle.i2c_top.specs.declared.status.BoardRefusal.TheVariants as refusal;
@@ -198,9 +199,9 @@ pub fn read_files<S: Shelf>(
     ensures others { (p : ℕ) → p ≢ 1 → p ≢ 2 → p ≢ 3 → S.faults shelf.new p ≡ S.faults shelf.old p }
     ensures shallow { IfOk result (λ f. IsShallowBoard f.0) }
     ensures opened { IfOk result (λ f. f.1 ≡ opened f.0 f.1.script.text) }
-    ensures read { IsTrue S.tells → IfOk result (λ f. HasRead (S.file shelf.old) (record { board = board.now; schedule = schedule.now; scripts = script.now ∷ [] }) f.0 f.1.script.text) }
+    ensures read { IsTrue S.tells → IfOk result (λ f. HasRead (S.file shelf.old) (names_of board.now schedule.now (script.now ∷ [])) f.0 f.1.script.text) }
     ensures unreached { IfErr result (KeepsUnreached (S.faults shelf.old) (S.faults shelf.new)) }
-    ensures refused { IfErr result (IsFileRefusal S.tells (S.file shelf.old) (record { board = board.now; schedule = schedule.now; scripts = script.now ∷ [] }) (S.faults shelf.old) (S.faults shelf.new)) }
+    ensures refused { IfErr result (IsFileRefusal S.tells (S.file shelf.old) (names_of board.now schedule.now (script.now ∷ [])) (S.faults shelf.old) (S.faults shelf.new)) }
 {
     let accepted = read_built(alloc, shelf, board)?;
     let read = read_script(alloc, &accepted, shelf, script)?;

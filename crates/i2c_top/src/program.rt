@@ -1,11 +1,11 @@
 ghost use Rattle.std.specs.Prelude.{◌≡◌, ◌⊎◌, ℕ, List, map, string_bytes, IsTrue};
 ghost use Rattle.i2c_top.specs.Checks.{HasChecked};
-ghost use Rattle.i2c_top.specs.Endings.{HasCause, HasLine, HasEnded, IsCutShort};
+ghost use Rattle.i2c_top.specs.Endings.{HasCause, HasWritten, HasEnded};
 ghost use Rattle.i2c_top.specs.Forms.{request_in};
 ghost use Rattle.i2c_top.specs.Replays.{Names};
 ghost use Rattle.i2c_top.specs.Reports.{HasReplayed};
-ghost use Rattle.i2c_top.specs.Requests.{Replay, Check, IsServed, UsesRig, IsCause, IsCalm, IsStatusOf, KeepsShelf};
-ghost use Rattle.i2c_top.specs.Traces.{shelf_view, output_view, outside};
+ghost use Rattle.i2c_top.specs.Requests.{Replay, Check, IsServed, UsesRig, IsCause, IsCalm, KeepsShelf};
+ghost use Rattle.i2c_top.specs.Traces.{shelf_view, outside};
 ghost use Rattle.i2c_top.specs.declared.status.Status.{Status};
 ghost use Rattle.i2c_top.specs.declared.status.Status.TheVariants as status;
 
@@ -61,7 +61,6 @@ pub fn top<H: Threads + Wait + Sync, S: Shelf, K: Sink, R: Rig, G: Gate + Sync>(
 
     // Its statuses, and the cause of each in the order of refusals: by what the words ask for, by what the files say
     // where the shelf tells, and by the counts; and what each does to the rig.
-    ensures answers { IsStatusOf (request_in (map string_bytes words.now)) result }
     ensures cause { HasCause (request_in (map string_bytes words.now))
         (outside S.Shelf K.Sink R.Rig R.P.tells shelf.old sink.old rig.old) (outside S.Shelf K.Sink R.Rig R.P.tells shelf.new sink.new rig.new) result }
     ensures unplugged { (UsesRig (request_in (map string_bytes words.now)) → ⊥) → rig.new ≡ rig.old }
@@ -78,9 +77,8 @@ pub fn top<H: Threads + Wait + Sync, S: Shelf, K: Sink, R: Rig, G: Gate + Sync>(
         → HasReplayed (S.file shelf.old) names (K.bytes sink.old) (K.bytes sink.new) (R.logs rig.new) (R.states rig.new) }
     ensures checked { IsTrue S.tells → IsTrue K.tells → (board : List ℕ) → request_in (map string_bytes words.now) ≡ Check board → result ≡ status.Ok
         → HasChecked (S.file shelf.old) board (K.bytes sink.old) (K.bytes sink.new) }
-    ensures line { IsTrue K.tells → HasLine (request_in (map string_bytes words.now)) (output_view K.Sink sink.old) (output_view K.Sink sink.new) result }
-    ensures cut { result ≡ status.Write → IsCutShort (request_in (map string_bytes words.now))
-        (outside S.Shelf K.Sink R.Rig R.P.tells shelf.old sink.old rig.old) (outside S.Shelf K.Sink R.Rig R.P.tells shelf.new sink.new rig.new) }
+    ensures written { HasWritten (request_in (map string_bytes words.now))
+        (outside S.Shelf K.Sink R.Rig R.P.tells shelf.old sink.old rig.old) (outside S.Shelf K.Sink R.Rig R.P.tells shelf.new sink.new rig.new) result }
 
     // The shelf keeps its words and files, and its counts but for those of the files that are read.
     ensures kept { KeepsShelf (request_in (map string_bytes words.now)) (shelf_view S.Shelf shelf.old) (shelf_view S.Shelf shelf.new) }

@@ -1,9 +1,9 @@
 ghost use Rattle.std.specs.Prelude.{◌≡◌, ◌≢◌, ℕ, ◌≤◌, ◌∷◌, ◌⊎◌, [], length, map, Some, None, slice_get, string_bytes, OnOk, IfOk, IfErr, IfSome, IsTrue};
-ghost use Rattle.i2c_top.specs.Endings.{HasDone, IsRefused, HasCause, HasLine, HasEnded, IsCutShort};
+ghost use Rattle.i2c_top.specs.Endings.{HasDone, IsRefused, HasCause, HasWritten, HasEnded};
 ghost use Rattle.i2c_top.specs.Names.{AreNamesFrom};
 ghost use Rattle.i2c_top.specs.Reports.{HasReplayed};
-ghost use Rattle.i2c_top.specs.Requests.{replay_of, names_of, IsAnswer, IsCause, IsCalm, IsStatusOf, KeepsShelf};
-ghost use Rattle.i2c_top.specs.Traces.{shelf_view, output_view, rig_view, outside};
+ghost use Rattle.i2c_top.specs.Requests.{replay_of, names_of, IsAnswer, IsCause, IsCalm, KeepsShelf};
+ghost use Rattle.i2c_top.specs.Traces.{shelf_view, rig_view, outside};
 ghost use Rattle.i2c_top.specs.declared.status.Status.{Status};
 ghost use Rattle.i2c_top.specs.declared.status.Status.TheVariants as status;
 
@@ -14,29 +14,6 @@ use crate::request::Request;
 use crate::run::run_script;
 use i2c_outside::{Rig, Shelf, Sink};
 use std::alloc::Global;
-
-// Reads the files and runs the script: the report, or the refusal.
-fn replay_one<S: Shelf, R: Rig>(
-    alloc: Global,
-    board: &str,
-    schedule: &str,
-    script: &str,
-    shelf: &mut S,
-    rig: &mut R,
-) -> Result<Vec<u8>, Status>
-    requires board { slice_get (S.words shelf.old) 1 ≡ Some board.now }
-    requires schedule { slice_get (S.words shelf.old) 2 ≡ Some schedule.now }
-    requires script { slice_get (S.words shelf.old) 3 ≡ Some script.now }
-    ensures kept { KeepsShelf (replay_of board.now schedule.now (script.now ∷ [])) (shelf_view S.Shelf shelf.old) (shelf_view S.Shelf shelf.new) }
-    ensures report { IsTrue S.tells → IfOk result (λ text. IsAnswer (replay_of board.now schedule.now (script.now ∷ [])) (S.file shelf.old) (rig_view R.Rig R.P.tells rig.new) text.items) }
-    ensures done { OnOk result (HasDone (replay_of board.now schedule.now (script.now ∷ []))
-        (shelf_view S.Shelf shelf.old) (shelf_view S.Shelf shelf.new) (rig_view R.Rig R.P.tells rig.old) (rig_view R.Rig R.P.tells rig.new)) }
-    ensures refused { IfErr result (IsRefused (replay_of board.now schedule.now (script.now ∷ []))
-        (shelf_view S.Shelf shelf.old) (shelf_view S.Shelf shelf.new) (rig_view R.Rig R.P.tells rig.old) (rig_view R.Rig R.P.tells rig.new)) }
-{
-    let (accepted, script) = read_files(alloc, board, schedule, script, shelf)?;
-    run_script(alloc, &accepted, script, rig)
-}
 
 // The name of the one script.
 fn only(scripts: &[String]) -> Option<&str>
@@ -50,7 +27,7 @@ fn only(scripts: &[String]) -> Option<&str>
     }
 }
 
-// Replays the scripts: only one is taken.
+// Reads the files and runs the one script: the report, or the refusal. Several scripts are refused.
 fn replay<S: Shelf, R: Rig>(
     alloc: Global,
     board: &str,
@@ -70,10 +47,11 @@ fn replay<S: Shelf, R: Rig>(
         (shelf_view S.Shelf shelf.old) (shelf_view S.Shelf shelf.new) (rig_view R.Rig R.P.tells rig.old) (rig_view R.Rig R.P.tells rig.new)) }
     ensures unplugged { length (map string_bytes scripts.now) ≢ 1 → rig.new ≡ rig.old }
 {
-    match only(scripts) {
-        None => Err(Status::Usage),
-        Some(script) => replay_one(alloc, board, schedule, script, shelf, rig),
-    }
+    let Some(script) = only(scripts) else {
+        return Err(Status::Usage);
+    };
+    let (accepted, script) = read_files(alloc, board, schedule, script, shelf)?;
+    run_script(alloc, &accepted, script, rig)
 }
 
 /// Runs a script over a board, by a schedule that has no word yet, and writes the report; a refusal writes its
@@ -98,7 +76,6 @@ pub fn replay_call<S: Shelf, K: Sink, R: Rig>(
 
     // Its statuses, and the cause of each in the order of refusals: by what the files say where the shelf tells, and by
     // the counts; and what each does to the rig.
-    ensures answers { IsStatusOf (replay_of board.now schedule.now (map string_bytes scripts.now)) result }
     ensures cause { HasCause (replay_of board.now schedule.now (map string_bytes scripts.now))
         (outside S.Shelf K.Sink R.Rig R.P.tells shelf.old sink.old rig.old) (outside S.Shelf K.Sink R.Rig R.P.tells shelf.new sink.new rig.new) result }
     ensures unplugged { length (map string_bytes scripts.now) ≢ 1 → rig.new ≡ rig.old }
@@ -112,9 +89,8 @@ pub fn replay_call<S: Shelf, K: Sink, R: Rig>(
     // text due.
     ensures success { IsTrue S.tells → IsTrue K.tells → IsTrue R.tells → IsTrue R.P.tells → result ≡ status.Ok
         → HasReplayed (S.file shelf.old) (names_of board.now schedule.now (map string_bytes scripts.now)) (K.bytes sink.old) (K.bytes sink.new) (R.logs rig.new) (R.states rig.new) }
-    ensures line { IsTrue K.tells → HasLine (replay_of board.now schedule.now (map string_bytes scripts.now)) (output_view K.Sink sink.old) (output_view K.Sink sink.new) result }
-    ensures cut { result ≡ status.Write → IsCutShort (replay_of board.now schedule.now (map string_bytes scripts.now))
-        (outside S.Shelf K.Sink R.Rig R.P.tells shelf.old sink.old rig.old) (outside S.Shelf K.Sink R.Rig R.P.tells shelf.new sink.new rig.new) }
+    ensures written { HasWritten (replay_of board.now schedule.now (map string_bytes scripts.now))
+        (outside S.Shelf K.Sink R.Rig R.P.tells shelf.old sink.old rig.old) (outside S.Shelf K.Sink R.Rig R.P.tells shelf.new sink.new rig.new) result }
 
     // The shelf keeps its words and files, and its counts but for those of the files that are read.
     ensures kept { KeepsShelf (replay_of board.now schedule.now (map string_bytes scripts.now)) (shelf_view S.Shelf shelf.old) (shelf_view S.Shelf shelf.new) }

@@ -1,6 +1,11 @@
-use Rattle.i2c_top.specs.Requests.{NoForm}
+use Rattle.i2c_top.specs.Requests.{Check, NoForm}
+use Rattle.i2c_top.specs.Traces.{rig_view}
 use Rattle.i2c_top.proofs.EndingLemmas.{ended_formless, ended_same}
 use Rattle.i2c_top.proofs.program.answer_words.Goals as goal
+
+pub returns-in-Check-clause-ended : goal.returns-in-Check-clause-ended
+returns-in-Check-clause-ended g c =
+    ended_same (Check c.in-Check.board.now) _ _ _ c.check_call.result c.in-Check.ensures.asked (c.check_call.ensures.ended (rig_view g.R.Rig g.R.P.Port.tells c.args.rig.now))
 
 pub returns-in-NoForm-clause-ended : goal.returns-in-NoForm-clause-ended
 returns-in-NoForm-clause-ended g c =

@@ -1,4 +1,4 @@
-use Rattle.i2c_top.proofs.EndingLemmas.{ended_cause, ended_complete, ended_replayed, ended_checked, ended_line, ended_cut, ended_same}
+use Rattle.i2c_top.proofs.EndingLemmas.{ended_cause, ended_complete, ended_replayed, ended_checked, ended_written, ended_same}
 use Rattle.i2c_top.proofs.program.top.Goals as goal
 
 pub returns-clause-cause : goal.returns-clause-cause
@@ -17,8 +17,5 @@ returns-clause-checked g c =
     λ shelf sink board asked ok.
     ended_checked board _ _ c.answer_words.result (ended_same _ _ _ _ c.answer_words.result asked c.answer_words.ensures.ended) shelf sink ok
 
-pub returns-clause-line : goal.returns-clause-line
-returns-clause-line g c = ended_line _ _ _ c.answer_words.result c.answer_words.ensures.ended
-
-pub returns-clause-cut : goal.returns-clause-cut
-returns-clause-cut g c = ended_cut _ _ _ c.answer_words.result c.answer_words.ensures.ended
+pub returns-clause-written : goal.returns-clause-written
+returns-clause-written g c = ended_written _ _ _ c.answer_words.result c.answer_words.ensures.ended
