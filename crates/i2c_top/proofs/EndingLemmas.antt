@@ -1,56 +1,54 @@
--- The ending of a call: where no count rose it is what its files say, or there was no memory.
-use Rattle.std.proofs.Common.{◌≡◌, ℕ, ◌⊎◌, inl, inr, IsTrue, List, ◌++◌, length, refl, sym, ap, ◌∙◌, subst, arith, append-nil}
+-- The ending of a call: the clauses of a call are read off how it ended (`HasEnded`). No induction, by the class of the status.
+use Rattle.std.proofs.Common.{◌≡◌, ℕ, ◌⊎◌, inl, inr, IsTrue, List, [], ◌++◌, length, Result, Ok, Err, refl, sym, ap, ◌∙◌, subst, arith, append-nil}
 use Rattle.std.proofs.lemmas.List.{take_all}
+use Rattle.std.specs.Prelude.{⊤, OnOk, IfOk, IfErr}
 use Rattle.i2c_outside.specs.Causes.{Rose}
-use Rattle.i2c_top.specs.Endings.{IsShown, CameTo, name_in, IsDue, IsStarved, IsWritten, HasEnded, IsCutShort}
+use Rattle.i2c_top.specs.Endings.{shown_of, CameTo, HasDone, IsRefused, HasCause, name_in, due_of, named_of, IsDue, IsStarved, IsWritten, IsRefusalWritten, IsEnding, HasEnded, HasWritten, IsCutShort}
 use Rattle.i2c_top.specs.Reports.{HasReplayed}
 use Rattle.i2c_top.specs.Checks.{HasChecked}
-use Rattle.i2c_top.specs.Replays.{Names, IsUnread}
-use Rattle.i2c_top.specs.Requests.{Request, Replay, Check, IsCause, IsTold, IsAnswer}
-use Rattle.i2c_top.specs.Status.{refusal_text}
-use Rattle.i2c_top.specs.Traces.{ShelfView, OutputView, RigView, IsCalm}
+use Rattle.i2c_top.specs.Files.{Files}
+use Rattle.i2c_top.specs.Replays.{Names}
+use Rattle.i2c_top.specs.Requests.{Request, Replay, Check, NoForm, IsServed, IsPlaceOf, UsesRig, IsOwnStatus, IsStatusOf, IsCause, IsInTurn, IsPlugging, told_of, traced_of, IsAnswer, IsCalm, KeepsShelf}
+use Rattle.i2c_top.specs.Status.{Class, Done, Misused, Refused, Unread, NoRig, Silent, class_of, refusal_text}
+use Rattle.i2c_top.specs.Traces.{ShelfView, OutputView, RigView, Outside, IsLeft}
 use Rattle.i2c_top.specs.Written.{HasFront}
 use Rattle.i2c_top.specs.declared.status.Status.{Status}
 use Rattle.i2c_top.specs.declared.status.Status.TheVariants as status
 use Rattle.i2c_top.proofs.CauseLemmas.{one_cause}
 
--- what holds of each status that a call comes to, and of Write and Memory in its place, holds of its result
-pub by_ending : {usage : Type 0} {request : Request} {shelf shelf_now : ShelfView} {sink sink_now : OutputView} {rig rig_now : RigView} (result : Status) (P : Status → Type 0)
-    → ((s : Status) → CameTo usage request shelf shelf_now rig rig_now s → P s)
-    → ((s : Status) → CameTo usage request shelf shelf_now rig rig_now s → Rose sink.faults sink_now.faults → P status.Write)
-    → ((s : Status) → CameTo usage request shelf shelf_now rig rig_now s → P status.Memory)
-    → HasEnded usage request shelf shelf_now sink sink_now rig rig_now result → P result
-by_ending result P as_told as_write as_memory (inl a) =
-    elim a.written [
-      | inl w ↦ subst P (sym w.same) (as_told a.to a.came)
-      | inr (inl w) ↦ subst P (sym w.failed) (as_write a.to a.came w.rose)
-      | inr (inr w) ↦ subst P (sym w.starved) (as_memory a.to a.came)
-    ]
-by_ending result P as_told as_write as_memory (inr m) = subst P (sym m.starved.starved) (as_memory status.Memory m.came)
+-- the statuses of the classes that have one or two
+abbrev IsNamed : Status → Class → Type 0
+IsNamed s Done = s ≡ status.Ok
+IsNamed s Misused = s ≡ status.Usage
+IsNamed s Refused = ⊤
+IsNamed s (Unread place) = s ≡ status.Read place
+IsNamed s NoRig = s ≡ status.Rig
+IsNamed s Silent = (s ≡ status.Write) ⊎ (s ≡ status.Memory)
 
--- where no count rose, the call came to what the files are a cause of, or there was no memory
-came_calmly : (usage : Type 0) (request : Request) (shelf shelf_now : ShelfView) (sink sink_now : ℕ) (rig rig_now : RigView) (s r : Status) → IsTrue shelf.tells → (usage → ⊥)
-    → IsCause shelf.file request s → IsCalm shelf.faults shelf_now.faults sink sink_now rig.faults rig_now.faults
-    → IsTold shelf.file request r → IsShown usage shelf shelf_now rig rig_now r → (r ≡ s) ⊎ (r ≡ status.Memory)
-came_calmly usage request shelf shelf_now sink sink_now rig rig_now s status.Ok t form cause calm told shown = inl (one_cause shelf.file request s status.Ok cause told)
-came_calmly usage request shelf shelf_now sink sink_now rig rig_now s (status.Board why) t form cause calm told shown = inl (one_cause shelf.file request s (status.Board why) cause told)
-came_calmly usage request shelf shelf_now sink sink_now rig rig_now s (status.Script caller line word) t form cause calm told shown =
-    inl (one_cause shelf.file request s (status.Script caller line word) cause told)
-came_calmly usage request shelf shelf_now sink sink_now rig rig_now s (status.Schedule word) t form cause calm told shown = inl (one_cause shelf.file request s (status.Schedule word) cause told)
-came_calmly usage request shelf shelf_now sink sink_now rig rig_now s status.Usage t form cause calm told shown = absurd (form shown)
-came_calmly usage request shelf shelf_now sink sink_now rig rig_now s (status.Cost cost) t form cause calm told shown = absurd shown
-came_calmly usage request shelf shelf_now sink sink_now rig rig_now s (status.Read place) t form cause calm told shown = absurd (calm.shelf place shown.first shown.last shown.rose)
-came_calmly usage request shelf shelf_now sink sink_now rig rig_now s status.Write t form cause calm told shown = absurd shown
-came_calmly usage request shelf shelf_now sink sink_now rig rig_now s status.Memory t form cause calm told shown = inr refl
-came_calmly usage request shelf shelf_now sink sink_now rig rig_now s status.Rig t form cause calm told shown = absurd (calm.rig shown)
+named : (s : Status) → IsNamed s (class_of s)
+named status.Ok = refl
+named status.Usage = refl
+named (status.Board why) = tt
+named (status.Script caller line word) = tt
+named (status.Cost cost) = tt
+named (status.Read place) = refl
+named status.Write = inl refl
+named status.Memory = inr refl
+named status.Rig = refl
+named (status.Schedule word) = tt
 
-pub ended_complete : {usage : Type 0} {request : Request} {shelf shelf_now : ShelfView} {sink sink_now : OutputView} {rig rig_now : RigView} (result : Status)
-    → HasEnded usage request shelf shelf_now sink sink_now rig rig_now result → IsTrue shelf.tells → (usage → ⊥) → (s : Status) → IsCause shelf.file request s
-    → IsCalm shelf.faults shelf_now.faults sink.faults sink_now.faults rig.faults rig_now.faults → (result ≡ s) ⊎ (result ≡ status.Memory)
-ended_complete {usage = usage} {request = request} {shelf = shelf} {shelf_now = shelf_now} {sink = sink} {sink_now = sink_now} {rig = rig} {rig_now = rig_now} result h t form s cause calm =
-    by_ending result (λ r. (r ≡ s) ⊎ (r ≡ status.Memory))
-    (λ r c. came_calmly usage request shelf shelf_now sink.faults sink_now.faults rig rig_now s r t form cause calm (c.told t) c.shown)
-    (λ r c rose. absurd (calm.sink rose)) (λ r c. inr refl) h
+-- a file that is read in turn is the request's, and so is a rig that is plugged
+turn_place : (file : Files) (request : Request) (place : ℕ) → IsServed request → IsInTurn file request place → IsPlaceOf request place
+turn_place file (Replay names) place served (inl first) = (served, inl first)
+turn_place file (Replay names) place served (inr (inl last)) = (served, inr (inr last.0))
+turn_place file (Replay names) place served (inr (inr next)) = (served, inr (inl next.0))
+turn_place file (Check board) place served turn = turn
+turn_place file NoForm place served turn = turn
+
+plug_uses : (file : Files) (request : Request) → IsServed request → IsPlugging file request → UsesRig request
+plug_uses file (Replay names) served plugging = served
+plug_uses file (Check board) served plugging = plugging
+plug_uses file NoForm served plugging = plugging
 
 -- whatever came of the writing, a front of the text stands there
 pub written_front : (sink sink_now : OutputView) (s : Status) (text : List ℕ) (result : Status) → IsWritten sink sink_now s text result → IsTrue sink.tells
@@ -59,18 +57,28 @@ written_front sink sink_now s text result (inl w) t = (length text, omega arith,
 written_front sink sink_now s text result (inr (inl w)) t = w.front t
 written_front sink sink_now s text result (inr (inr w)) t = (0, omega arith, w.kept t ∙ sym (append-nil sink.bytes))
 
--- the line of a refusal is due for it
-due_line : (request : Request) (shelf : ShelfView) (rig : RigView) (s : Status) (text : List ℕ) → (s ≡ status.Ok → ⊥) → IsDue request shelf rig s text → text ≡ refusal_text s (name_in request s)
-due_line request shelf rig status.Ok text n h = absurd (n refl)
-due_line request shelf rig status.Write text n h = absurd h
-due_line request shelf rig status.Memory text n h = absurd h
-due_line request shelf rig status.Usage text n h = h
-due_line request shelf rig (status.Board why) text n h = h
-due_line request shelf rig (status.Script caller line word) text n h = h
-due_line request shelf rig (status.Cost cost) text n h = h
-due_line request shelf rig (status.Read place) text n h = h
-due_line request shelf rig status.Rig text n h = h
-due_line request shelf rig (status.Schedule word) text n h = h
+-- the line of a refusal is due for it, and nothing else
+due_line : (request : Request) (shelf : ShelfView) (rig : RigView) (s : Status) (text : List ℕ) (c : Class) → IsNamed s c → (s ≡ status.Ok → ⊥)
+    → due_of request shelf rig s text c → text ≡ refusal_text s (named_of request c)
+due_line request shelf rig s text Done is n h = absurd (n is)
+due_line request shelf rig s text Silent is n h = absurd h
+due_line request shelf rig s text Misused is n h = h
+due_line request shelf rig s text Refused is n h = h
+due_line request shelf rig s text (Unread place) is n h = h
+due_line request shelf rig s text NoRig is n h = h
+
+silent_line : (s : Status) (P : Type 0) → (s ≡ status.Write → ⊥) → (s ≡ status.Memory → ⊥) → (s ≡ status.Write) ⊎ (s ≡ status.Memory) → P
+silent_line s P write memory (inl w) = absurd (write w)
+silent_line s P write memory (inr m) = absurd (memory m)
+
+line_due : (request : Request) (shelf : ShelfView) (rig : RigView) (s : Status) (text : List ℕ) (c : Class) → IsNamed s c → (s ≡ status.Ok → ⊥) → (s ≡ status.Write → ⊥)
+    → (s ≡ status.Memory → ⊥) → text ≡ refusal_text s (named_of request c) → due_of request shelf rig s text c
+line_due request shelf rig s text Done is ok write memory h = absurd (ok is)
+line_due request shelf rig s text Silent is ok write memory h = silent_line s ⊥ write memory is
+line_due request shelf rig s text Misused is ok write memory h = h
+line_due request shelf rig s text Refused is ok write memory h = h
+line_due request shelf rig s text (Unread place) is ok write memory h = h
+line_due request shelf rig s text NoRig is ok write memory h = h
 
 abbrev Line : Request → OutputView → OutputView → Status → Type 0
 Line request sink sink_now r = (r ≡ status.Ok → ⊥) → (r ≡ status.Write → ⊥) → sink_now.bytes ≡ sink.bytes ++ refusal_text r (name_in request r)
@@ -78,148 +86,242 @@ Line request sink sink_now r = (r ≡ status.Ok → ⊥) → (r ≡ status.Write
 line_starved : (request : Request) (sink sink_now : OutputView) (result : Status) → IsTrue sink.tells → IsStarved sink sink_now result → Line request sink sink_now result
 line_starved request sink sink_now result t m = subst (Line request sink sink_now) (sym m.starved) (λ ok cut. m.kept t ∙ sym (append-nil sink.bytes))
 
-pub ended_line : {usage : Type 0} {request : Request} {shelf shelf_now : ShelfView} {sink sink_now : OutputView} {rig rig_now : RigView} (result : Status)
-    → HasEnded usage request shelf shelf_now sink sink_now rig rig_now result → IsTrue sink.tells → (result ≡ status.Ok → ⊥) → (result ≡ status.Write → ⊥)
-    → sink_now.bytes ≡ sink.bytes ++ refusal_text result (name_in request result)
-ended_line {request = request} {shelf = shelf} {sink = sink} {sink_now = sink_now} {rig_now = rig_now} result (inl a) t =
-    elim a.written [
-      | inl w ↦ subst (Line request sink sink_now) (sym w.same) (λ ok cut. w.whole t ∙ ap (λ x. sink.bytes ++ x) (due_line request shelf rig_now a.to a.text ok a.due))
-      | inr (inl w) ↦ λ ok cut. absurd (cut w.failed)
-      | inr (inr w) ↦ line_starved request sink sink_now result t w
-    ]
-ended_line {request = request} {sink = sink} {sink_now = sink_now} result (inr m) t = line_starved request sink sink_now result t m.starved
-
--- what the files say holds of the status that was answered, too
-pub ended_told : {usage : Type 0} {request : Request} {shelf shelf_now : ShelfView} {sink sink_now : OutputView} {rig rig_now : RigView} (result : Status)
-    → HasEnded usage request shelf shelf_now sink sink_now rig rig_now result → IsTrue shelf.tells → IsTold shelf.file request result
-ended_told {request = request} {shelf = shelf} result h t = by_ending result (IsTold shelf.file request) (λ s c. c.told t) (λ s c rose. tt) (λ s c. tt) h
-
-pub ended_read : {usage : Type 0} {request : Request} {shelf shelf_now : ShelfView} {sink sink_now : OutputView} {rig rig_now : RigView} (result : Status)
-    → HasEnded usage request shelf shelf_now sink sink_now rig rig_now result → (place : ℕ) → result ≡ status.Read place → IsUnread shelf.faults shelf_now.faults place
-ended_read {usage = usage} {shelf = shelf} {shelf_now = shelf_now} {rig = rig} {rig_now = rig_now} result h place =
-    by_ending result (λ r. r ≡ status.Read place → IsUnread shelf.faults shelf_now.faults place)
-    (λ s c e. subst (IsShown usage shelf shelf_now rig rig_now) e c.shown)
-    (λ s c rose e. absurd (let k : status.Write ≡ status.Read place = e in cc))
-    (λ s c e. absurd (let k : status.Memory ≡ status.Read place = e in cc)) h
-
--- no call comes to Write before it writes
-came_unwritten : {usage : Type 0} {request : Request} {shelf shelf_now : ShelfView} {rig rig_now : RigView} (s : Status) → CameTo usage request shelf shelf_now rig rig_now s → s ≡ status.Write → ⊥
-came_unwritten {usage = usage} {shelf = shelf} {shelf_now = shelf_now} {rig = rig} {rig_now = rig_now} s c e = subst (IsShown usage shelf shelf_now rig rig_now) e c.shown
-
-pub ended_write : {usage : Type 0} {request : Request} {shelf shelf_now : ShelfView} {sink sink_now : OutputView} {rig rig_now : RigView} (result : Status)
-    → HasEnded usage request shelf shelf_now sink sink_now rig rig_now result → result ≡ status.Write → Rose sink.faults sink_now.faults
-ended_write {sink = sink} {sink_now = sink_now} result h =
-    by_ending result (λ r. r ≡ status.Write → Rose sink.faults sink_now.faults)
-    (λ s c e. absurd (came_unwritten s c e)) (λ s c rose e. rose) (λ s c e. absurd (let k : status.Memory ≡ status.Write = e in cc)) h
-
-pub ended_kept : {usage : Type 0} {request : Request} {shelf shelf_now : ShelfView} {sink sink_now : OutputView} {rig rig_now : RigView} (result : Status)
-    → HasEnded usage request shelf shelf_now sink sink_now rig rig_now result → IsTrue sink.tells → result ≡ status.Memory → sink_now.bytes ≡ sink.bytes
-ended_kept {request = request} {shelf = shelf} {rig_now = rig_now} result (inl a) t e =
-    elim a.written [
-      | inl w ↦ absurd (subst (λ s. IsDue request shelf rig_now s a.text) (sym w.same ∙ e) a.due)
-      | inr (inl w) ↦ absurd (let k : status.Write ≡ status.Memory = sym w.failed ∙ e in cc)
-      | inr (inr w) ↦ w.kept t
-    ]
-ended_kept result (inr m) t e = m.starved.kept t
-
-pub ended_cut : {usage : Type 0} {request : Request} {shelf shelf_now : ShelfView} {sink sink_now : OutputView} {rig rig_now : RigView} (result : Status)
-    → HasEnded usage request shelf shelf_now sink sink_now rig rig_now result → result ≡ status.Write → IsCutShort usage request shelf shelf_now sink sink_now rig rig_now
-ended_cut {request = request} {shelf = shelf} {rig_now = rig_now} result (inl a) e =
-    elim a.written [
-      | inl w ↦ absurd (subst (λ s. IsDue request shelf rig_now s a.text) (sym w.same ∙ e) a.due)
-      | inr (inl w) ↦ record { to = a.to; text = a.text; came = a.came; due = a.due; front = w.front }
-      | inr (inr w) ↦ absurd (let k : status.Memory ≡ status.Write = sym w.starved ∙ e in cc)
-    ]
-ended_cut result (inr m) e = absurd (let k : status.Memory ≡ status.Write = sym m.starved.starved ∙ e in cc)
-
 -- what a success wrote: what was asked for, whole
-record HasSaid (request : Request) (shelf : ShelfView) (sink sink_now : OutputView) (rig_now : RigView) : Type 0 where
+record HasSaid (request : Request) (old new : Outside) : Type 0 where
   text : List ℕ
-  answer : IsTrue shelf.tells → IsAnswer request shelf.file rig_now text
-  written : IsTrue sink.tells → sink_now.bytes ≡ sink.bytes ++ text
+  answer : IsTrue old.shelf.tells → IsAnswer request old.shelf.file new.rig text
+  written : IsTrue old.sink.tells → new.sink.bytes ≡ old.sink.bytes ++ text
 
-said : {usage : Type 0} {request : Request} {shelf shelf_now : ShelfView} {sink sink_now : OutputView} {rig rig_now : RigView} (result : Status)
-    → HasEnded usage request shelf shelf_now sink sink_now rig rig_now result → result ≡ status.Ok → HasSaid request shelf sink sink_now rig_now
-said {request = request} {shelf = shelf} {rig_now = rig_now} result (inl a) ok =
-    elim a.written [
-      | inl w ↦ record { text = a.text; answer = subst (λ s. IsDue request shelf rig_now s a.text) (sym w.same ∙ ok) a.due; written = w.whole }
-      | inr (inl w) ↦ absurd (let h : status.Write ≡ status.Ok = sym w.failed ∙ ok in cc)
-      | inr (inr w) ↦ absurd (let h : status.Memory ≡ status.Ok = sym w.starved ∙ ok in cc)
-    ]
-said result (inr m) ok = absurd (let h : status.Memory ≡ status.Ok = sym m.starved.starved ∙ ok in cc)
+-- whatever was done to the rig, it was plugged at most once and is not left plugged
+left_of : (request : Request) (rig rig_now : RigView) (c : Class) → traced_of request rig rig_now c → IsLeft rig rig_now
+left_of (Replay names) rig rig_now Done used = inr (record { plugs = used.plugs; unplugged = used.unplugged })
+left_of (Check board) rig rig_now Done untouched = inl untouched
+left_of NoForm rig rig_now Done never = absurd never
+left_of request rig rig_now NoRig tried = inr (record { plugs = tried.plugs; unplugged = tried.unplugged })
+left_of request rig rig_now Silent left = left
+left_of request rig rig_now Misused untouched = inl untouched
+left_of request rig rig_now Refused untouched = inl untouched
+left_of request rig rig_now (Unread place) untouched = inl untouched
 
-pub ended_replayed : {usage : Type 0} {names : Names} {shelf shelf_now : ShelfView} {sink sink_now : OutputView} {rig rig_now : RigView} (result : Status)
-    → HasEnded usage (Replay names) shelf shelf_now sink sink_now rig rig_now result → IsTrue shelf.tells → IsTrue sink.tells → IsTrue rig_now.tells → IsTrue rig_now.ports_tell
-    → result ≡ status.Ok → HasReplayed shelf.file names sink.bytes sink_now.bytes rig_now.logs rig_now.states
-ended_replayed result h shelf sink rig ports ok =
-    let s = said result h ok in record { bytes = s.text; report = s.answer shelf rig ports; written = s.written sink }
+own_write : (request : Request) → IsOwnStatus request status.Write
+own_write (Replay names) = λ cost e. let k : status.Write ≡ status.Cost cost = e in cc
+own_write (Check board) = tt
+own_write NoForm = tt
 
-pub ended_checked : {usage : Type 0} {name : List ℕ} {shelf shelf_now : ShelfView} {sink sink_now : OutputView} {rig rig_now : RigView} (result : Status)
-    → HasEnded usage (Check name) shelf shelf_now sink sink_now rig rig_now result → IsTrue shelf.tells → IsTrue sink.tells → result ≡ status.Ok
-    → HasChecked shelf.file name sink.bytes sink_now.bytes
-ended_checked result h shelf sink ok = let s = said result h ok in record { text = s.text; check = s.answer shelf; written = s.written sink }
+own_memory : (request : Request) → IsOwnStatus request status.Memory
+own_memory (Replay names) = λ cost e. let k : status.Memory ≡ status.Cost cost = e in cc
+own_memory (Check board) = tt
+own_memory NoForm = tt
 
--- what is due for a refusal is its line
-line_due : (request : Request) (shelf : ShelfView) (rig : RigView) (s : Status) (text : List ℕ) → (s ≡ status.Ok → ⊥) → (s ≡ status.Write → ⊥) → (s ≡ status.Memory → ⊥)
-    → text ≡ refusal_text s (name_in request s) → IsDue request shelf rig s text
-line_due request shelf rig status.Ok text ok write memory h = absurd (ok refl)
-line_due request shelf rig status.Write text ok write memory h = absurd (write refl)
-line_due request shelf rig status.Memory text ok write memory h = absurd (memory refl)
-line_due request shelf rig status.Usage text ok write memory h = h
-line_due request shelf rig (status.Board why) text ok write memory h = h
-line_due request shelf rig (status.Script caller line word) text ok write memory h = h
-line_due request shelf rig (status.Cost cost) text ok write memory h = h
-line_due request shelf rig (status.Read place) text ok write memory h = h
-line_due request shelf rig status.Rig text ok write memory h = h
-line_due request shelf rig (status.Schedule word) text ok write memory h = h
+-- no memory is missed for the line on usage
+unfed : (result : Status) → result ≡ status.Memory → (result ≡ status.Usage) ⊎ (result ≡ status.Write) → ⊥
+unfed result e (inl usage) = let k : status.Memory ≡ status.Usage = sym e ∙ usage in cc
+unfed result e (inr write) = let k : status.Memory ≡ status.Write = sym e ∙ write in cc
 
--- a refusal whose line was written is how the call ended
-pub ended_refused : {usage : Type 0} {request : Request} {shelf shelf_now : ShelfView} {sink sink_now : OutputView} {rig rig_now : RigView} (s : Status) (name : List ℕ) (result : Status)
-    → CameTo usage request shelf shelf_now rig rig_now s → (s ≡ status.Ok → ⊥) → (s ≡ status.Memory → ⊥) → name ≡ name_in request s
-    → IsWritten sink sink_now s (refusal_text s name) result → HasEnded usage request shelf shelf_now sink sink_now rig rig_now result
-ended_refused {request = request} {shelf = shelf} {rig_now = rig_now} s name result came ok memory named written =
-    inl (record {
-      to = s;
-      text = refusal_text s name;
-      came = came;
-      due = line_due request shelf rig_now s (refusal_text s name) ok (came_unwritten s came) memory (ap (refusal_text s) named);
-      written = written;
-    })
+module _ (request : Request) (old new : Outside) where
+  abbrev Came : Status → Type 0
+  Came s = CameTo request old.shelf new.shelf old.rig new.rig s
 
--- a call that can't have been asked in no form is as one that can
-shown_in : (usage usage_now : Type 0) (shelf shelf_now : ShelfView) (rig rig_now : RigView) (s : Status) → (usage → usage_now)
-    → IsShown usage shelf shelf_now rig rig_now s → IsShown usage_now shelf shelf_now rig rig_now s
-shown_in usage usage_now shelf shelf_now rig rig_now status.Usage f h = f h
-shown_in usage usage_now shelf shelf_now rig rig_now (status.Read place) f h = h
-shown_in usage usage_now shelf shelf_now rig rig_now status.Rig f h = h
-shown_in usage usage_now shelf shelf_now rig rig_now (status.Cost cost) f h = h
-shown_in usage usage_now shelf shelf_now rig rig_now status.Write f h = h
-shown_in usage usage_now shelf shelf_now rig rig_now status.Ok f h = h
-shown_in usage usage_now shelf shelf_now rig rig_now (status.Board why) f h = h
-shown_in usage usage_now shelf shelf_now rig rig_now (status.Script caller line word) f h = h
-shown_in usage usage_now shelf shelf_now rig rig_now (status.Schedule word) f h = h
-shown_in usage usage_now shelf shelf_now rig rig_now status.Memory f h = h
+  -- what holds of each status that a call comes to, and of Write and Memory in its place, holds of its result
+  by_ending : (result : Status) (P : Status → Type 0) → ((s : Status) → Came s → P s) → ((s : Status) → Came s → Rose old.sink.faults new.sink.faults → P status.Write)
+      → ((s : Status) → Came s → P status.Memory) → IsEnding request old new result → P result
+  by_ending result P as_told as_write as_memory (inl a) =
+      elim a.written [
+        | inl w ↦ subst P (sym w.same) (as_told a.to a.came)
+        | inr (inl w) ↦ subst P (sym w.failed) (as_write a.to a.came w.rose)
+        | inr (inr w) ↦ subst P (sym w.starved) (as_memory a.to a.came)
+      ]
+  by_ending result P as_told as_write as_memory (inr m) = subst P (sym m.starved.starved) (as_memory status.Memory m.came)
 
-came_in : (usage usage_now : Type 0) (request : Request) (shelf shelf_now : ShelfView) (rig rig_now : RigView) (s : Status) → (usage → usage_now)
-    → CameTo usage request shelf shelf_now rig rig_now s → CameTo usage_now request shelf shelf_now rig rig_now s
-came_in usage usage_now request shelf shelf_now rig rig_now s f c =
-    record { told = c.told; shown = shown_in usage usage_now shelf shelf_now rig rig_now s f c.shown; unreached = c.unreached; traced = c.traced }
+  -- where no count rose, the call came to what the files are a cause of, or there was no memory
+  came_calmly : (s r : Status) → IsTrue old.shelf.tells → IsServed request → IsCause old.shelf.file request s → IsCalm request old new → (r ≡ status.Write → ⊥) → (c : Class) → IsNamed r c
+      → told_of old.shelf.file request r c → shown_of request old.shelf new.shelf old.rig new.rig c → (r ≡ s) ⊎ (r ≡ status.Memory)
+  came_calmly s r t served cause calm write Done is told shown = inl (one_cause old.shelf.file request s r cause told)
+  came_calmly s r t served cause calm write Refused is told shown = inl (one_cause old.shelf.file request s r cause told)
+  came_calmly s r t served cause calm write Misused is told shown = absurd (shown served)
+  came_calmly s r t served cause calm write (Unread place) is told shown =
+      absurd (calm.shelf place (turn_place old.shelf.file request place served told) shown.rose)
+  came_calmly s r t served cause calm write NoRig is told shown = absurd (calm.rig (plug_uses old.shelf.file request served told) shown)
+  came_calmly s r t served cause calm write Silent is told shown =
+      elim is [
+        | inl w ↦ absurd (write w)
+        | inr m ↦ inr m
+      ]
 
-ended_as : (usage usage_now : Type 0) (request : Request) (shelf shelf_now : ShelfView) (sink sink_now : OutputView) (rig rig_now : RigView) (result : Status) → (usage → usage_now)
-    → HasEnded usage request shelf shelf_now sink sink_now rig rig_now result → HasEnded usage_now request shelf shelf_now sink sink_now rig rig_now result
-ended_as usage usage_now request shelf shelf_now sink sink_now rig rig_now result f (inl a) =
-    inl (record { to = a.to; text = a.text; came = came_in usage usage_now request shelf shelf_now rig rig_now a.to f a.came; due = a.due; written = a.written })
-ended_as usage usage_now request shelf shelf_now sink sink_now rig rig_now result f (inr m) =
-    inr (record { came = came_in usage usage_now request shelf shelf_now rig rig_now status.Memory f m.came; starved = m.starved })
+  pub ended_complete : (result : Status) → HasEnded request old new result → IsTrue old.shelf.tells → IsServed request → (s : Status) → IsCause old.shelf.file request s
+      → IsCalm request old new → (result ≡ s) ⊎ (result ≡ status.Memory)
+  ended_complete result h t served s cause calm =
+      by_ending result (λ r. (r ≡ s) ⊎ (r ≡ status.Memory))
+      (λ r c. came_calmly s r t served cause calm c.unwritten (class_of r) (named r) (c.told t) c.shown)
+      (λ r c rose. absurd (calm.sink rose)) (λ r c. inr refl) h.ending
+
+  said : (result : Status) → IsEnding request old new result → result ≡ status.Ok → HasSaid request old new
+  said result (inl a) ok =
+      elim a.written [
+        | inl w ↦ record { text = a.text; answer = subst (λ s. IsDue request old.shelf new.rig s a.text) (sym w.same ∙ ok) a.due; written = w.whole }
+        | inr (inl w) ↦ absurd (let h : status.Write ≡ status.Ok = sym w.failed ∙ ok in cc)
+        | inr (inr w) ↦ absurd (let h : status.Memory ≡ status.Ok = sym w.starved ∙ ok in cc)
+      ]
+  said result (inr m) ok = absurd (let h : status.Memory ≡ status.Ok = sym m.starved.starved ∙ ok in cc)
+
+  line_of : (result : Status) → IsEnding request old new result → IsTrue old.sink.tells → Line request old.sink new.sink result
+  line_of result (inl a) t =
+      elim a.written [
+        | inl w ↦ subst (Line request old.sink new.sink) (sym w.same)
+            (λ ok cut. w.whole t ∙ ap (λ x. old.sink.bytes ++ x) (due_line request old.shelf new.rig a.to a.text (class_of a.to) (named a.to) ok a.due))
+        | inr (inl w) ↦ λ ok cut. absurd (cut w.failed)
+        | inr (inr w) ↦ line_starved request old.sink new.sink result t w
+      ]
+  line_of result (inr m) t = line_starved request old.sink new.sink result t m.starved
+
+  kept_of : (result : Status) → IsEnding request old new result → IsTrue old.sink.tells → result ≡ status.Memory → new.sink.bytes ≡ old.sink.bytes
+  kept_of result (inl a) t e =
+      elim a.written [
+        | inl w ↦ absurd (subst (λ s. IsDue request old.shelf new.rig s a.text) (sym w.same ∙ e) a.due)
+        | inr (inl w) ↦ absurd (let k : status.Write ≡ status.Memory = sym w.failed ∙ e in cc)
+        | inr (inr w) ↦ w.kept t
+      ]
+  kept_of result (inr m) t e = m.starved.kept t
+
+  left_with : (s : Status) → Came s → IsLeft old.rig new.rig
+  left_with s c = left_of request old.rig new.rig (class_of s) c.traced
+
+  -- the cause of what it came to is that of its result, but where the output failed or there was no memory
+  pub ended_cause : (result : Status) → HasEnded request old new result → HasCause request old new result
+  ended_cause result h =
+      by_ending result (λ s. IsStatusOf request s → HasCause request old new s)
+      (λ s c own. record { own = own; told = c.told; shown = c.shown; write = λ e. absurd (c.unwritten e); unreached = c.unreached; traced = c.traced })
+      (λ s c rose own. record { own = own; told = λ t. tt; shown = tt; write = λ e. rose; unreached = tt; traced = left_with s c })
+      (λ s c own. record { own = own; told = λ t. tt; shown = tt; write = λ e. absurd (let k : status.Memory ≡ status.Write = e in cc); unreached = tt; traced = left_with s c })
+      h.ending h.answers
+
+  ended_cut : (result : Status) → HasEnded request old new result → result ≡ status.Write → IsCutShort request old new
+  ended_cut result h e = cut h.ending
+    where
+      cut : IsEnding request old new result → IsCutShort request old new
+      cut (inl a) =
+          elim a.written [
+            | inl w ↦ absurd (subst (λ s. IsDue request old.shelf new.rig s a.text) (sym w.same ∙ e) a.due)
+            | inr (inl w) ↦ record { to = a.to; text = a.text; came = a.came; due = a.due; front = w.front }
+            | inr (inr w) ↦ absurd (let k : status.Memory ≡ status.Write = sym w.starved ∙ e in cc)
+          ]
+      cut (inr m) = absurd (let k : status.Memory ≡ status.Write = sym m.starved.starved ∙ e in cc)
+
+  pub ended_written : (result : Status) → HasEnded request old new result → HasWritten request old new result
+  ended_written result h =
+      record { line = λ t. line_of result h.ending t; kept = λ t. kept_of result h.ending t; usage = h.usage; cut = ended_cut result h }
+
+  -- a success that was written is how the call ended
+  ending_done : (text : List ℕ) (result : Status) → Came status.Ok → (IsTrue old.shelf.tells → IsAnswer request old.shelf.file new.rig text)
+      → IsWritten old.sink new.sink status.Ok text result → IsEnding request old new result
+  ending_done text result came answer written = inl (record { to = status.Ok; text = text; came = came; due = answer; written = written })
+
+  -- and so is a refusal whose line was written
+  ending_refused : (s : Status) (name : List ℕ) (result : Status) → Came s → (s ≡ status.Ok → ⊥) → (s ≡ status.Memory → ⊥) → name ≡ name_in request s
+      → IsWritten old.sink new.sink s (refusal_text s name) result → IsEnding request old new result
+  ending_refused s name result came ok memory is written =
+      inl (record {
+        to = s;
+        text = refusal_text s name;
+        came = came;
+        due = line_due request old.shelf new.rig s (refusal_text s name) (class_of s) (named s) ok came.unwritten memory (ap (refusal_text s) is);
+        written = written;
+      })
+
+  -- a request that isn't served comes to the line on usage, and to nothing else
+  is_usage : (s : Status) → IsStatusOf request s → (s ≡ status.Write → ⊥) → (IsServed request → ⊥) → s ≡ status.Usage
+  is_usage s is unwritten un =
+      elim (is.unserved un) [
+        | inl usage ↦ usage
+        | inr write ↦ absurd (unwritten write)
+      ]
+
+  -- with no memory for a refusal's line there was a request that is served
+  starved_status : ((IsServed request → ⊥) → ⊥) → IsStatusOf request status.Memory
+  starved_status served =
+      record { usage = λ e. absurd (let k : status.Memory ≡ status.Usage = e in cc); unserved = λ un. absurd (served un); own = own_memory request }
+
+  write_status : IsStatusOf request status.Write
+  write_status = record { usage = λ e. absurd (let k : status.Write ≡ status.Usage = e in cc); unserved = λ un. inr refl; own = own_write request }
+
+  -- what is answered after writing is a status of the request
+  written_status : (s : Status) (text : List ℕ) (result : Status) → IsStatusOf request s → ((result ≡ status.Memory) → (IsServed request → ⊥) → ⊥) → IsWritten old.sink new.sink s text result
+      → IsStatusOf request result
+  written_status s text result is served (inl w) = subst (IsStatusOf request) (sym w.same) is
+  written_status s text result is served (inr (inl w)) = subst (IsStatusOf request) (sym w.failed) write_status
+  written_status s text result is served (inr (inr w)) = subst (IsStatusOf request) (sym w.starved) (starved_status (served w.starved))
+
+  ended_done : (text : List ℕ) (result : Status) → (IsTrue old.shelf.tells → IsAnswer request old.shelf.file new.rig text) → HasDone request old.shelf new.shelf old.rig new.rig
+      → IsWritten old.sink new.sink status.Ok text result → KeepsShelf request old.shelf new.shelf → HasEnded request old new result
+  ended_done text result answer done written kept =
+      let served : (IsServed request → ⊥) → ⊥ = λ un. (let k : status.Ok ≡ status.Usage = is_usage status.Ok done.own done.came.unwritten un in absurd cc) in
+      record {
+        answers = written_status status.Ok text result done.own (λ e. served) written;
+        kept = kept;
+        usage = λ t un. absurd (served un);
+        ending = ending_done text result done.came answer written;
+      }
+
+  usage_front : (s : Status) (result : Status) → s ≡ status.Usage → IsTrue old.sink.tells → IsWritten old.sink new.sink s (refusal_text s (name_in request s)) result
+      → HasFront old.sink.bytes (refusal_text status.Usage []) new.sink.bytes
+  usage_front s result e t written =
+      subst (λ r. HasFront old.sink.bytes (refusal_text r (name_in request r)) new.sink.bytes) e (written_front old.sink new.sink s (refusal_text s (name_in request s)) result written t)
+
+  pub ended_refused : (s : Status) (result : Status) → IsRefused request old.shelf new.shelf old.rig new.rig s → IsRefusalWritten old.sink new.sink s (name_in request s) result
+      → KeepsShelf request old.shelf new.shelf → HasEnded request old new result
+  ended_refused s result is (inl m) kept =
+      let came : Came status.Memory = subst Came m.0 is.came in
+      let own : IsStatusOf request status.Memory = subst (IsStatusOf request) m.0 is.own in
+      record {
+        answers = subst (IsStatusOf request) (sym m.1.starved) own;
+        kept = kept;
+        usage = λ t un. (let k : status.Memory ≡ status.Usage = is_usage status.Memory own came.unwritten un in absurd cc);
+        ending = inr (record { came = came; starved = m.1 });
+      }
+  ended_refused s result is (inr w) kept =
+      record {
+        answers = written_status s (refusal_text s (name_in request s)) result is.own (λ e un. unfed result e (w.2 (is_usage s is.own is.came.unwritten un))) w.1;
+        kept = kept;
+        usage = λ t un. usage_front s result (is_usage s is.own is.came.unwritten un) t w.1;
+        ending = ending_refused s (name_in request s) result is.came is.refusal w.0 refl w.1;
+      }
+
+  -- what came of a request was told
+  pub ended_by : {X : Type 0} (r : Result X Status) (bytes_of : X → List ℕ) (result : Status) → (IsTrue old.shelf.tells → IfOk r (λ x. IsAnswer request old.shelf.file new.rig (bytes_of x)))
+      → OnOk r (HasDone request old.shelf new.shelf old.rig new.rig) → IfErr r (IsRefused request old.shelf new.shelf old.rig new.rig)
+      → IfOk r (λ x. IsWritten old.sink new.sink status.Ok (bytes_of x) result) → IfErr r (λ e. IsRefusalWritten old.sink new.sink e (name_in request e) result)
+      → KeepsShelf request old.shelf new.shelf → HasEnded request old new result
+  ended_by (Ok x) bytes_of result answer done refused written unwritten kept = ended_done (bytes_of x) result answer done written kept
+  ended_by (Err e) bytes_of result answer done refused written unwritten kept = ended_refused e result refused unwritten kept
+
+pub ended_replayed : (names : Names) (old new : Outside) (result : Status) → HasEnded (Replay names) old new result → IsTrue old.shelf.tells → IsTrue old.sink.tells → IsTrue new.rig.tells
+    → IsTrue new.rig.ports_tell → result ≡ status.Ok → HasReplayed old.shelf.file names old.sink.bytes new.sink.bytes new.rig.logs new.rig.states
+ended_replayed names old new result h shelf sink rig ports ok = let s = said (Replay names) old new result h.ending ok in record { bytes = s.text; report = s.answer shelf rig ports; written = s.written sink }
+
+pub ended_checked : (name : List ℕ) (old new : Outside) (result : Status) → HasEnded (Check name) old new result → IsTrue old.shelf.tells → IsTrue old.sink.tells → result ≡ status.Ok
+    → HasChecked old.shelf.file name old.sink.bytes new.sink.bytes
+ended_checked name old new result h shelf sink ok = let s = said (Check name) old new result h.ending ok in record { text = s.text; check = s.answer shelf; written = s.written sink }
 
 -- of the same request
-pub ended_same : (usage : Type 0) (request request_now : Request) {shelf shelf_now : ShelfView} {sink sink_now : OutputView} {rig rig_now : RigView} (result : Status) → request ≡ request_now
-    → HasEnded usage request shelf shelf_now sink sink_now rig rig_now result → HasEnded usage request_now shelf shelf_now sink sink_now rig rig_now result
-ended_same usage request request_now {shelf = shelf} {shelf_now = shelf_now} {sink = sink} {sink_now = sink_now} {rig = rig} {rig_now = rig_now} result same h =
-    subst (λ q. HasEnded usage q shelf shelf_now sink sink_now rig rig_now result) same h
+pub ended_same : (request request_now : Request) (old new : Outside) (result : Status) → request ≡ request_now → HasEnded request old new result → HasEnded request_now old new result
+ended_same request request_now old new result same h = subst (λ q. HasEnded q old new result) same h
 
-pub ended_in : {usage : Type 0} {shelf shelf_now : ShelfView} {sink sink_now : OutputView} {rig rig_now : RigView} (request request_now : Request) (result : Status) → request ≡ request_now
-    → HasEnded ⊥ request shelf shelf_now sink sink_now rig rig_now result → HasEnded usage request_now shelf shelf_now sink sink_now rig rig_now result
-ended_in {usage = usage} {shelf = shelf} {shelf_now = shelf_now} {sink = sink} {sink_now = sink_now} {rig = rig} {rig_now = rig_now} request request_now result same h =
-    ended_same usage request request_now result same
-    (ended_as ⊥ usage request shelf shelf_now sink sink_now rig rig_now result (λ never. absurd never) h)
+-- words in no form are answered by the line on usage
+pub ended_formless : (shelf : ShelfView) (sink sink_now : OutputView) (rig : RigView) (result : Status) → (result ≡ status.Usage) ⊎ (result ≡ status.Write)
+    → IsWritten sink sink_now status.Usage (refusal_text status.Usage []) result
+    → HasEnded NoForm (record { shelf = shelf; sink = sink; rig = rig }) (record { shelf = shelf; sink = sink_now; rig = rig }) result
+ended_formless shelf sink sink_now rig result told written =
+    ended_refused NoForm _ _ status.Usage result
+    (record {
+      came = record {
+        told = λ t. tt;
+        shown = λ served. served;
+        unwritten = λ e. let k : status.Usage ≡ status.Write = e in cc;
+        unreached = λ place. refl;
+        traced = record { plugs = refl; unplugs = refl };
+      };
+      refusal = λ e. let k : status.Usage ≡ status.Ok = e in cc;
+      own = record { usage = λ e served. served; unserved = λ un. inl refl; own = tt };
+    })
+    (inr ((λ e. let k : status.Usage ≡ status.Memory = e in cc), written, (λ e. told)))
+    (record { words = refl; files = λ name. refl; others = λ place no. refl })

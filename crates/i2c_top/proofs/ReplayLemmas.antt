@@ -1,5 +1,6 @@
 -- How a call of `replay` ends: its report, and what its status tells.
-use Rattle.std.proofs.Common.{ℕ, List, [], ◌∷◌, subst}
+use Rattle.std.proofs.Common.{ℕ, List, [], ◌∷◌, Result, Ok, Err, subst}
+use Rattle.std.specs.Prelude.{IfOk}
 use Rattle.i2c_base.specs.declared.port.PortCall.{PortCall}
 use Rattle.i2c_base.specs.Board.{BoardView}
 use Rattle.i2c_spec.specs.Targets.{TargetState}
@@ -13,7 +14,7 @@ abbrev board_read : (file : Files) (names : Names) (b : BoardView) (text : List 
 board_read file names b text read = read.board_in.has.board
 
 -- the run of what was read is the report that the files ask for
-pub has_report : (file : Files) (names : Names) (b : BoardView) (text bytes : List ℕ) (logs : List (List PortCall)) (states : List TargetState)
+has_report : (file : Files) (names : Names) (b : BoardView) (text bytes : List ℕ) (logs : List (List PortCall)) (states : List TargetState)
     → HasRead file names b text → HasRun b (text ∷ []) bytes logs states → HasReport file names bytes logs states
 has_report file names b text bytes logs states read run =
     record {
@@ -22,3 +23,9 @@ has_report file names b text bytes logs states read run =
           let over : HasRun (board_read file names b text read) (text ∷ []) bytes logs states = subst (λ x. HasRun x (text ∷ []) bytes logs states) read.board_in.same run in
           subst (λ t. HasRun (board_read file names b text read) (t ∷ []) bytes logs states) read.script_in.same over;
     }
+
+pub has_reports : {X E : Type 0} (r : Result X E) (bytes_of : X → List ℕ) (file : Files) (names : Names) (b : BoardView) (text : List ℕ) (logs : List (List PortCall)) (states : List TargetState)
+    (rig ports : Type 0) → HasRead file names b text → (rig → ports → IfOk r (λ x. HasRun b (text ∷ []) (bytes_of x) logs states))
+    → IfOk r (λ x. rig → ports → HasReport file names (bytes_of x) logs states)
+has_reports (Ok x) bytes_of file names b text logs states rig ports read run = λ r p. has_report file names b text (bytes_of x) logs states read (run r p)
+has_reports (Err e) bytes_of file names b text logs states rig ports read run = tt

@@ -5,6 +5,7 @@ use Rattle.i2c_base.specs.Board.{BoardView}
 use Rattle.i2c_spec.specs.Tree.{buses}
 use Rattle.i2c_top.specs.Boards.{IsAccepted, IsRejected}
 use Rattle.i2c_top.specs.Files.{Files}
+use Rattle.i2c_top.specs.Status.{Class, Done, Misused, Refused, Unread, NoRig, Silent, class_of}
 use Rattle.i2c_top.specs.declared.status.BoardRefusal.{BoardRefusal}
 use Rattle.i2c_top.specs.declared.status.BoardRefusal.TheVariants as refusal
 use Rattle.i2c_top.specs.declared.status.Status.{Status}
@@ -38,17 +39,16 @@ IsCheckCause file name status.Rig = ⊥
 
 -- the statuses of `check`: its board is accepted or refused, or was not read, or its line was not written. Whether a board
 -- is built is no matter of it
+abbrev pub check_class : Status → Class → Type 0
+check_class s Done = ⊤
+check_class s Refused = (why : BoardRefusal) × (s ≡ status.Board why) × (why ≢ refusal.NotBuilt)
+check_class s (Unread place) = place ≡ 1
+check_class s Silent = ⊤
+check_class s Misused = ⊥
+check_class s NoRig = ⊥
+
 abbrev pub IsCheckStatus : Status → Type 0
-IsCheckStatus status.Ok = ⊤
-IsCheckStatus (status.Board why) = why ≢ refusal.NotBuilt
-IsCheckStatus (status.Read place) = place ≡ 1
-IsCheckStatus status.Write = ⊤
-IsCheckStatus status.Memory = ⊤
-IsCheckStatus status.Usage = ⊥
-IsCheckStatus (status.Script caller line word) = ⊥
-IsCheckStatus (status.Schedule word) = ⊥
-IsCheckStatus (status.Cost cost) = ⊥
-IsCheckStatus status.Rig = ⊥
+IsCheckStatus s = check_class s (class_of s)
 
 -- the line of an accepted board: how many roots, muxes, devices and buses it has
 abbrev pub accepted_text : BoardView → List ℕ

@@ -1,40 +1,43 @@
--- The forms of the words of a command line, and what they ask for. The forms in force are `replay BOARD SCHEDULE SCRIPT`
+-- The forms of the words of a command line, and what they ask for: `replay BOARD SCHEDULE SCRIPT...`, with 1 to 8 scripts,
 -- and `check BOARD`.
-use Rattle.std.specs.Prelude.{◌≡◌, ◌≢◌, ℕ, ◌⊎◌, if◌then◌else◌, List, [], ◌∷◌, length, codes}
+use Rattle.std.specs.Prelude.{⊤, ◌≡◌, ℕ, ◌≤◌, ◌==◌, nat_le, Bool, false, not, ◌&&◌, if◌then◌else◌, List, [], ◌∷◌, length, drop, map, Some, slice_get, string_bytes, codes}
+use Rattle.std.specs.List.{list_all}
 use Rattle.std.specs.Str.{bytes_eq}
 use Rattle.tool_words.specs.Commands.{word_at}
-use Rattle.i2c_top.specs.Replays.{Names}
-use Rattle.i2c_top.specs.Requests.{Request, Replay, Check}
+use Rattle.i2c_top.specs.Names.{AreNamesFrom}
+use Rattle.i2c_top.specs.Requests.{Request, replay_of, Replay, Check, NoForm}
+use Rattle.i2c_top.specs.declared.request.Request.{Request as Parsed}
+use Rattle.i2c_top.specs.declared.request.Request.TheVariants as parsed
 
 -- a word that may be a name isn't empty, and doesn't begin with `-`
-abbrev pub IsName : List ℕ → Type 0
-IsName [] = ⊥
-IsName (b ∷ bs) = b ≢ 45
+abbrev pub is_name : List ℕ → Bool
+is_name [] = false
+is_name (b ∷ bs) = not (b == 45)
 
--- behind the first word stand a board, a schedule and a script
-pub record AreNamed (words : List (List ℕ)) : Type 0 where
-  pub board : IsName (word_at words 1)
-  pub schedule : IsName (word_at words 2)
-  pub script : IsName (word_at words 3)
+-- `replay`, and the names of a board, a schedule and 1 to 8 scripts
+abbrev pub is_replay : List (List ℕ) → Bool
+is_replay words = nat_le 4 (length words) && (nat_le (length words) 11 && (bytes_eq (word_at words 0) (codes "replay") && list_all is_name (drop 1 words)))
 
--- the words are `replay` and three names
-pub record IsReplayForm (words : List (List ℕ)) : Type 0 where
-  pub count : length words ≡ 4
-  pub command : word_at words 0 ≡ codes "replay"
-  pub named : AreNamed words
+-- `check`, and the name of a board
+abbrev pub is_check : List (List ℕ) → Bool
+is_check words = (length words == 2) && (bytes_eq (word_at words 0) (codes "check") && is_name (word_at words 1))
 
--- the words are `check` and a name
-pub record IsCheckForm (words : List (List ℕ)) : Type 0 where
-  pub count : length words ≡ 2
-  pub command : word_at words 0 ≡ codes "check"
-  pub named : IsName (word_at words 1)
-
-abbrev pub IsForm : List (List ℕ) → Type 0
-IsForm words = IsReplayForm words ⊎ IsCheckForm words
-
-abbrev pub names_in : List (List ℕ) → Names
-names_in words = record { board = word_at words 1; schedule = word_at words 2; script = word_at words 3 }
-
--- what words in a form ask for
+-- what the words ask for
 abbrev pub request_in : List (List ℕ) → Request
-request_in words = if bytes_eq (word_at words 0) (codes "check") then Check (word_at words 1) else Replay (names_in words)
+request_in words =
+    if is_replay words then replay_of (word_at words 1) (word_at words 2) (drop 3 words)
+    else if is_check words then Check (word_at words 1) else NoForm
+
+-- a request as the program has it, and as contracts see it
+abbrev pub asked : Parsed → Request
+asked (parsed.Replay board schedule scripts) = replay_of board.now schedule.now (map string_bytes scripts.now)
+asked (parsed.Check board) = Check board.now
+asked parsed.NoForm = NoForm
+
+-- its names stand at their places among the words
+abbrev pub ArePlaced : List (List ℕ) → Request → Type 0
+ArePlaced words (Replay names) =
+    (slice_get words 1 ≡ Some names.board) × (slice_get words 2 ≡ Some names.schedule) × AreNamesFrom 3 words names.scripts
+    × (1 ≤ length names.scripts) × (length names.scripts ≤ 8)
+ArePlaced words (Check board) = slice_get words 1 ≡ Some board
+ArePlaced words NoForm = ⊤

@@ -13,6 +13,29 @@ use Rattle.i2c_top.specs.declared.status.BoardRefusal.TheVariants as refusal
 use Rattle.i2c_top.specs.declared.status.Status.{Status}
 use Rattle.i2c_top.specs.declared.status.Status.TheVariants as status
 
+-- the ways to end: what was asked for is written; it was asked for in no form in force; the texts of the files are refused;
+-- the file at a place was not read; the rig was not plugged; or nothing more can be said, since the output failed or there
+-- was no memory
+pub data Class : Type 0 where
+  Done : Class
+  Misused : Class
+  Refused : Class
+  Unread : (place : ℕ) → Class
+  NoRig : Class
+  Silent : Class
+
+abbrev pub class_of : Status → Class
+class_of status.Ok = Done
+class_of status.Usage = Misused
+class_of (status.Board why) = Refused
+class_of (status.Script caller line word) = Refused
+class_of (status.Cost cost) = Refused
+class_of (status.Read place) = Unread place
+class_of status.Write = Silent
+class_of status.Memory = Silent
+class_of status.Rig = NoRig
+class_of (status.Schedule word) = Refused
+
 abbrev pub code_of : Status → ℕ
 code_of status.Ok = 0
 code_of status.Usage = 2

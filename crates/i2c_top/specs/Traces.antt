@@ -1,26 +1,30 @@
 -- The shelf, the output and the rig of a call as contracts see them, and what may be done to the rig.
-use Rattle.std.specs.Prelude.{◌≡◌, ℕ, ◌≤◌, ◌⊎◌, Bool, false, List}
+use Rattle.std.specs.Prelude.{◌≡◌, ℕ, ◌⊎◌, Bool, false, List}
 use Rattle.i2c_base.specs.declared.port.PortCall.{PortCall}
 use Rattle.i2c_spec.specs.Targets.{TargetState}
-use Rattle.i2c_outside.specs.Causes.{Rose, counted}
+use Rattle.i2c_outside.specs.Causes.{counted}
+use Rattle.i2c_outside.specs.declared.rig.Rig.{Ghosts as RigGhosts}
+use Rattle.i2c_outside.specs.declared.shelf.Shelf.{Ghosts as ShelfGhosts}
+use Rattle.i2c_outside.specs.declared.sink.Sink.{Ghosts as SinkGhosts}
 use Rattle.i2c_top.specs.Files.{Files}
 
 -- it tells its files, and counts its faults by place
 pub record ShelfView : Type 0 where
   pub tells : Bool
+  pub words : List (List ℕ)
   pub file : Files
   pub faults : ℕ → ℕ
 
-abbrev pub shelf_view : {S : Type 0} → Bool → (S → Files) → (S → ℕ → ℕ) → S → ShelfView
-shelf_view tells file faults s = record { tells = tells; file = file s; faults = faults s }
+abbrev pub shelf_view : {S : Type 0} → ShelfGhosts S → S → ShelfView
+shelf_view g s = record { tells = g.tells; words = g.words s; file = g.file s; faults = g.faults s }
 
 pub record OutputView : Type 0 where
   pub tells : Bool
   pub bytes : List ℕ
   pub faults : ℕ
 
-abbrev pub output_view : {K : Type 0} → Bool → (K → List ℕ) → (K → ℕ) → K → OutputView
-output_view tells bytes faults k = record { tells = tells; bytes = bytes k; faults = faults k }
+abbrev pub output_view : {K : Type 0} → SinkGhosts K → K → OutputView
+output_view g k = record { tells = g.tells; bytes = g.bytes k; faults = g.faults k }
 
 pub record RigView : Type 0 where
   pub tells : Bool
@@ -32,15 +36,31 @@ pub record RigView : Type 0 where
   pub logs : List (List PortCall)
   pub states : List TargetState
 
-abbrev pub rig_view : {R : Type 0} → Bool → Bool → (R → ℕ) → (R → ℕ) → (R → ℕ) → (R → Bool) → (R → List (List PortCall)) → (R → List TargetState) → R → RigView
-rig_view tells ports_tell faults plugs unplugs plugged logs states r =
-    record { tells = tells; ports_tell = ports_tell; faults = faults r; plugs = plugs r; unplugs = unplugs r; plugged = plugged r; logs = logs r; states = states r }
+abbrev pub rig_view : {R P : Type 0} → RigGhosts R P → Bool → R → RigView
+rig_view g ports_tell r =
+    record {
+      tells = g.tells;
+      ports_tell = ports_tell;
+      faults = g.faults r;
+      plugs = g.plugs r;
+      unplugs = g.unplugs r;
+      plugged = g.plugged r;
+      logs = g.logs r;
+      states = g.states r;
+    }
 
--- no count rose
-pub record IsCalm (reads reads_now : ℕ → ℕ) (written written_now plugged plugged_now : ℕ) : Type 0 where
-  pub shelf : (place : ℕ) → 1 ≤ place → place ≤ 3 → Rose (reads place) (reads_now place) → ⊥
-  pub sink : Rose written written_now → ⊥
-  pub rig : Rose plugged plugged_now → ⊥
+-- the three of them
+pub record Outside : Type 0 where
+  pub shelf : ShelfView
+  pub sink : OutputView
+  pub rig : RigView
+
+abbrev pub outside : {S K R P : Type 0} → ShelfGhosts S → SinkGhosts K → RigGhosts R P → Bool → S → K → R → Outside
+outside shelf sink rig ports_tell s k r = record { shelf = shelf_view shelf s; sink = output_view sink k; rig = rig_view rig ports_tell r }
+
+-- a shelf and an output beside any rig
+abbrev pub beside : {S K : Type 0} → RigView → ShelfGhosts S → SinkGhosts K → S → K → Outside
+beside rig shelf sink s k = record { shelf = shelf_view shelf s; sink = output_view sink k; rig = rig }
 
 -- the rig was not plugged
 pub record IsUntouched (old new : RigView) : Type 0 where

@@ -1,18 +1,16 @@
-ghost use Rattle.std.specs.Prelude.{◌≡◌, ◌≢◌, ℕ, ◌++◌, ◌⊎◌, List, Some, slice_get, OnOk, IfOk, IfErr, IsTrue};
+ghost use Rattle.std.specs.Prelude.{◌≡◌, ◌++◌, ◌⊎◌, Some, slice_get, OnOk, IfOk, IfErr, IsTrue};
 ghost use Rattle.std.specs.Fmt.{decimal};
-ghost use Rattle.i2c_outside.specs.Causes.{Rose};
-ghost use Rattle.i2c_top.specs.Checks.{HasCheck, HasChecked, IsCheckCause, IsCheckStatus, accepted_text};
-ghost use Rattle.i2c_top.specs.Endings.{CameTo, name_in, HasEnded, IsCutShort};
-ghost use Rattle.i2c_top.specs.Replays.{IsUnread};
-ghost use Rattle.i2c_top.specs.Requests.{Check, IsTold};
-ghost use Rattle.i2c_top.specs.Status.{refusal_text};
-ghost use Rattle.i2c_top.specs.Traces.{RigView, shelf_view, output_view};
+ghost use Rattle.i2c_top.specs.Checks.{HasCheck, HasChecked, accepted_text};
+ghost use Rattle.i2c_top.specs.Endings.{HasDone, IsRefused, HasCause, HasWritten, HasEnded};
+ghost use Rattle.i2c_top.specs.Requests.{Check, IsCause, IsCalm, KeepsShelf};
+ghost use Rattle.i2c_top.specs.Traces.{RigView, shelf_view, beside};
 ghost use Rattle.i2c_top.specs.declared.status.Status.{Status};
 ghost use Rattle.i2c_top.specs.declared.status.Status.TheVariants as status;
 
 use crate::Status;
-use crate::ending::{refuse, write};
+use crate::ending::write_outcome;
 use crate::files::read_accepted;
+use crate::request::Request;
 use bus_journal::{push_bytes, push_decimal};
 use i2c_base::NoMemory;
 use i2c_board::Board;
@@ -41,51 +39,15 @@ fn accepted_line(alloc: Global, board: &Board) -> Result<Vec<u8>, NoMemory>
 }
 
 // Reads the board: its line, or the refusal.
-fn line_of<S: Shelf>(alloc: Global, board: &str, shelf: &mut S) -> Result<Vec<u8>, Status>
+fn check_board<S: Shelf>(alloc: Global, board: &str, shelf: &mut S) -> Result<Vec<u8>, Status>
     requires board { slice_get (S.words shelf.old) 1 ≡ Some board.now }
-    ensures words { S.words shelf.new ≡ S.words shelf.old }
-    ensures files { (n : List ℕ) → S.file shelf.new n ≡ S.file shelf.old n }
-    ensures others { (p : ℕ) → p ≢ 1 → S.faults shelf.new p ≡ S.faults shelf.old p }
+    ensures kept { KeepsShelf (Check board.now) (shelf_view S.Shelf shelf.old) (shelf_view S.Shelf shelf.new) }
     ensures line { IsTrue S.tells → IfOk result (λ text. HasCheck (S.file shelf.old) board.now text.items) }
-    ensures came { OnOk result ((rig : RigView) → CameTo ⊥ (Check board.now)
-        (shelf_view S.tells S.file S.faults shelf.old) (shelf_view S.tells S.file S.faults shelf.new) rig rig status.Ok) }
-    ensures refused { IfErr result (λ e. (rig : RigView) → CameTo ⊥ (Check board.now)
-        (shelf_view S.tells S.file S.faults shelf.old) (shelf_view S.tells S.file S.faults shelf.new) rig rig e) }
-    ensures refusal { IfErr result (λ e. e ≢ status.Ok) }
-    ensures answers { IfErr result IsCheckStatus }
+    ensures done { OnOk result ((rig : RigView) → HasDone (Check board.now) (shelf_view S.Shelf shelf.old) (shelf_view S.Shelf shelf.new) rig rig) }
+    ensures refused { IfErr result (λ e. (rig : RigView) → IsRefused (Check board.now) (shelf_view S.Shelf shelf.old) (shelf_view S.Shelf shelf.new) rig rig e) }
 {
     let accepted = read_accepted(alloc, shelf, board)?;
     Ok(accepted_line(alloc, accepted.board())?)
-}
-
-// The name in the line of a refusal.
-fn name_in<'a>(refusal: &Status, board: &'a str) -> &'a [u8]
-    ensures { result.now ≡ name_in (Check board.now) refusal.now }
-{
-    match refusal {
-        Status::Read(_) => board.as_bytes(),
-        _ => b"",
-    }
-}
-
-// Checks the board: its line is written, or that of the refusal.
-fn check<S: Shelf, K: Sink>(alloc: Global, board: &str, shelf: &mut S, sink: &mut K) -> Status
-    requires board { slice_get (S.words shelf.old) 1 ≡ Some board.now }
-    ensures words { S.words shelf.new ≡ S.words shelf.old }
-    ensures files { (n : List ℕ) → S.file shelf.new n ≡ S.file shelf.old n }
-    ensures others { (p : ℕ) → p ≢ 1 → S.faults shelf.new p ≡ S.faults shelf.old p }
-    ensures answers { IsCheckStatus result }
-    ensures ended { (rig : RigView) → HasEnded ⊥ (Check board.now)
-        (shelf_view S.tells S.file S.faults shelf.old) (shelf_view S.tells S.file S.faults shelf.new)
-        (output_view K.tells K.bytes K.faults sink.old) (output_view K.tells K.bytes K.faults sink.new) rig rig result }
-{
-    match line_of(alloc, board, shelf) {
-        Ok(text) => write(Status::Ok, text.as_slice(), sink),
-        Err(refusal) => match refusal {
-            Status::Memory => Status::Memory,
-            _ => refuse(alloc, refusal, name_in(&refusal, board), sink),
-        },
-    }
 }
 
 /// Reads a board and says what it has, `accepted: R roots M muxes D devices B buses`; a refusal writes its line. No rig
@@ -101,33 +63,24 @@ pub fn check_call<S: Shelf, K: Sink>(
 ) -> Status
     requires board { slice_get (S.words shelf.old) 1 ≡ Some board.now }
 
-    // The cause of each status, by what the file says where the shelf tells, and by the counts.
-    ensures told { IsTrue S.tells → IsTold (S.file shelf.old) (Check board.now) result }
-    ensures read { (place : ℕ) → result ≡ status.Read place → IsUnread (S.faults shelf.old) (S.faults shelf.new) place }
-    ensures others { (p : ℕ) → p ≢ 1 → S.faults shelf.new p ≡ S.faults shelf.old p }
-    ensures answers { IsCheckStatus result }
-    ensures write { result ≡ status.Write → Rose (K.faults sink.old) (K.faults sink.new) }
+    // Its statuses, and the cause of each: by what the file says where the shelf tells, and by the counts.
+    ensures cause { (rig : RigView) → HasCause (Check board.now) (beside rig S.Shelf K.Sink shelf.old sink.old) (beside rig S.Shelf K.Sink shelf.new sink.new) result }
 
-    // Where no count rose, the status is the one that the file is a cause of, or there was no memory.
-    ensures complete { IsTrue S.tells → (s : Status) → IsCheckCause (S.file shelf.old) board.now s → (Rose (S.faults shelf.old 1) (S.faults shelf.new 1) → ⊥)
-        → (Rose (K.faults sink.old) (K.faults sink.new) → ⊥) → (result ≡ s) ⊎ (result ≡ status.Memory) }
+    // Where no count of its file or of the output rose, the status is the one that the file is a cause of, or there was
+    // no memory.
+    ensures complete { (rig : RigView) → IsTrue S.tells → (s : Status) → IsCause (S.file shelf.old) (Check board.now) s
+        → IsCalm (Check board.now) (beside rig S.Shelf K.Sink shelf.old sink.old) (beside rig S.Shelf K.Sink shelf.new sink.new) → (result ≡ s) ⊎ (result ≡ status.Memory) }
 
     // What was written: the line of the board or of a refusal, nothing without memory, and else a front of the text due.
     ensures success { IsTrue S.tells → IsTrue K.tells → result ≡ status.Ok → HasChecked (S.file shelf.old) board.now (K.bytes sink.old) (K.bytes sink.new) }
-    ensures line { IsTrue K.tells → result ≢ status.Ok → result ≢ status.Write → K.bytes sink.new ≡ K.bytes sink.old ++ refusal_text result (name_in (Check board.now) result) }
-    ensures kept { IsTrue K.tells → result ≡ status.Memory → K.bytes sink.new ≡ K.bytes sink.old }
-    ensures cut { (rig : RigView) → result ≡ status.Write → IsCutShort ⊥ (Check board.now)
-        (shelf_view S.tells S.file S.faults shelf.old) (shelf_view S.tells S.file S.faults shelf.new)
-        (output_view K.tells K.bytes K.faults sink.old) (output_view K.tells K.bytes K.faults sink.new) rig rig }
+    ensures written { (rig : RigView) → HasWritten (Check board.now) (beside rig S.Shelf K.Sink shelf.old sink.old) (beside rig S.Shelf K.Sink shelf.new sink.new) result }
 
-    // What it does to the shelf.
-    ensures words { S.words shelf.new ≡ S.words shelf.old }
-    ensures files { (n : List ℕ) → S.file shelf.new n ≡ S.file shelf.old n }
+    // The shelf keeps its words and files, and its counts but for that of the board.
+    ensures kept { KeepsShelf (Check board.now) (shelf_view S.Shelf shelf.old) (shelf_view S.Shelf shelf.new) }
 
     // All of it in one, beside any rig, for who calls this.
-    ensures ended { (rig : RigView) → HasEnded ⊥ (Check board.now)
-        (shelf_view S.tells S.file S.faults shelf.old) (shelf_view S.tells S.file S.faults shelf.new)
-        (output_view K.tells K.bytes K.faults sink.old) (output_view K.tells K.bytes K.faults sink.new) rig rig result }
+    ensures ended { (rig : RigView) → HasEnded (Check board.now) (beside rig S.Shelf K.Sink shelf.old sink.old) (beside rig S.Shelf K.Sink shelf.new sink.new) result }
 {
-    check(alloc, board, shelf, sink)
+    let outcome = check_board(alloc, board, shelf);
+    write_outcome(alloc, &Request::Check { board }, outcome, sink)
 }

@@ -1,4 +1,4 @@
-ghost use Rattle.std.specs.Prelude.{◌≡◌, ◌≢◌, ℕ, ◌≤◌, ◌^◌, ◌⊎◌, List, length, Some, None, Ok, Err, slice_get, OnOk, IfOk, IfErr, IsTrue};
+ghost use Rattle.std.specs.Prelude.{◌≡◌, ◌≢◌, ℕ, ◌≤◌, ◌^◌, ◌⊎◌, [], ◌∷◌, List, length, Some, None, Ok, Err, slice_get, OnOk, IfOk, IfErr, IsTrue};
 ghost use Rattle.i2c_boardtext.specs.BoardText.{board_of};
 ghost use Rattle.i2c_outside.specs.Causes.{Rose};
 ghost use Rattle.caller_core.specs.Callers.{opened};
@@ -6,12 +6,14 @@ ghost use Rattle.caller_core.specs.Steps.{IsShallowBoard};
 ghost use Rattle.i2c_top.specs.Boards.{IsBuilt, IsAccepted, IsRejected};
 ghost use Rattle.i2c_top.specs.Readings.{IsAcceptedIn, IsRejectedIn, IsBoardIn, IsScriptIn, HasRead, IsRefusedAt, IsBadBoard, IsBadScript, IsBadSchedule};
 ghost use Rattle.i2c_top.specs.Replays.{HasNoBoard, HasBadScript, HasSchedule, HasBadSchedule, KeepsUnreached, IsFileRefusal};
+ghost use Rattle.i2c_top.specs.Requests.{names_of};
 ghost use Rattle.caller_core.specs.Scripts.{script_read, commands_of};
 ghost use Rattle.i2c_top.specs.Schedules.{schedule_fault};
 ghost use Rattle.i2c_top.specs.declared.status.BoardRefusal.TheVariants as refusal;
 ghost use Rattle.i2c_top.specs.declared.status.Status.TheVariants as status;
 
 use crate::built::is_built;
+use crate::request::{BOARD, SCHEDULE, SCRIPT};
 use crate::schedule::schedule_fault;
 use crate::{BoardRefusal, Status};
 use caller_core::{Script, ScriptFault};
@@ -20,13 +22,6 @@ use i2c_boardtext::BoardFault;
 use i2c_outside::{ReadFail, Shelf};
 use i2c_topo::accept;
 use std::alloc::Global;
-
-/// The places of the board, the schedule and the first script among the words.
-pub const BOARD: u8 = 1;
-
-pub const SCHEDULE: u8 = 2;
-
-pub const SCRIPT: u8 = 3;
 
 // Reads the file at a place of the words.
 fn read_file<S: Shelf>(
@@ -143,7 +138,7 @@ pub fn read_accepted<S: Shelf>(alloc: Global, shelf: &mut S, name: &str) -> Resu
 }
 
 // Reads the board's file: the board that it spells, which meets the rules and is stepped; or the refusal.
-fn read_board<S: Shelf>(alloc: Global, shelf: &mut S, name: &str) -> Result<Accepted, Status>
+fn read_built<S: Shelf>(alloc: Global, shelf: &mut S, name: &str) -> Result<Accepted, Status>
     requires named { slice_get (S.words shelf.old) 1 ≡ Some name.now }
     ensures words { S.words shelf.new ≡ S.words shelf.old }
     ensures files { (n : List ℕ) → S.file shelf.new n ≡ S.file shelf.old n }
@@ -204,11 +199,11 @@ pub fn read_files<S: Shelf>(
     ensures others { (p : ℕ) → p ≢ 1 → p ≢ 2 → p ≢ 3 → S.faults shelf.new p ≡ S.faults shelf.old p }
     ensures shallow { IfOk result (λ f. IsShallowBoard f.0) }
     ensures opened { IfOk result (λ f. f.1 ≡ opened f.0 f.1.script.text) }
-    ensures read { IsTrue S.tells → IfOk result (λ f. HasRead (S.file shelf.old) (record { board = board.now; schedule = schedule.now; script = script.now }) f.0 f.1.script.text) }
+    ensures read { IsTrue S.tells → IfOk result (λ f. HasRead (S.file shelf.old) (names_of board.now schedule.now (script.now ∷ [])) f.0 f.1.script.text) }
     ensures unreached { IfErr result (KeepsUnreached (S.faults shelf.old) (S.faults shelf.new)) }
-    ensures refused { IfErr result (IsFileRefusal S.tells (S.file shelf.old) (record { board = board.now; schedule = schedule.now; script = script.now }) (S.faults shelf.old) (S.faults shelf.new)) }
+    ensures refused { IfErr result (IsFileRefusal S.tells (S.file shelf.old) (names_of board.now schedule.now (script.now ∷ [])) (S.faults shelf.old) (S.faults shelf.new)) }
 {
-    let accepted = read_board(alloc, shelf, board)?;
+    let accepted = read_built(alloc, shelf, board)?;
     let read = read_script(alloc, &accepted, shelf, script)?;
     read_schedule(alloc, shelf, schedule)?;
     Ok((accepted, read))

@@ -20,6 +20,7 @@ mod program;
 mod refusal;
 mod replay;
 mod report;
+mod request;
 mod run;
 mod schedule;
 mod status;

@@ -3,12 +3,11 @@
 //! It hands the real files, the standard output and a rig to `top`, and ends with the status's number.
 #![tactic(auto)]
 
-ghost use Rattle.std.specs.Prelude.{◌≡◌, ◌⊎◌, map, string_bytes, IfOk};
-ghost use Rattle.i2c_top.specs.Checks.{IsCheckStatus};
+ghost use Rattle.std.specs.Prelude.{◌≡◌, map, string_bytes, IfOk};
 ghost use Rattle.i2c_top.specs.Endings.{HasEnded};
-ghost use Rattle.i2c_top.specs.Forms.{IsForm, IsCheckForm, request_in};
-ghost use Rattle.i2c_top.specs.Traces.{shelf_view, output_view, rig_view};
-ghost use Rattle.i2c_top.specs.declared.status.Status.TheVariants as status;
+ghost use Rattle.i2c_top.specs.Forms.{request_in};
+ghost use Rattle.i2c_top.specs.Requests.{NoForm};
+ghost use Rattle.i2c_top.specs.Traces.{outside};
 
 use i2c_outside::{FileShelf, OpenGate, Rig, Shelf, Sink, StdoutSink};
 use i2c_physics::SimRig;
@@ -29,7 +28,7 @@ fn words_of<R: Env + AllocGlobal>(rt: &R) -> io::Result<Vec<String>> {
 
 // One empty word, which stands for words that are no text: it is none of the program's forms.
 fn no_words(alloc: Global) -> Result<Vec<String>, AllocError>
-    ensures { IfOk result (λ v. IsForm (map string_bytes v.items) → ⊥) }
+    ensures { IfOk result (λ v. request_in (map string_bytes v.items) ≡ NoForm) }
 {
     let mut words = Vec::new(alloc);
     words.push(String::new(alloc))?;
@@ -57,13 +56,8 @@ fn run<H: Threads + Wait + Sync, S: Shelf, K: Sink, R: Rig>(
     rig: &mut R,
 ) -> Status
     requires { S.words shelf.old ≡ map string_bytes words.now }
-    ensures usage { result ≡ status.Usage → (IsForm (map string_bytes words.now) → ⊥) }
-    ensures no_form { (IsForm (map string_bytes words.now) → ⊥) → (result ≡ status.Usage) ⊎ (result ≡ status.Write) }
-    ensures checks { IsCheckForm (map string_bytes words.now) → IsCheckStatus result }
-    ensures ended { HasEnded (IsForm (map string_bytes words.now) → ⊥) (request_in (map string_bytes words.now))
-        (shelf_view S.tells S.file S.faults shelf.old) (shelf_view S.tells S.file S.faults shelf.new)
-        (output_view K.tells K.bytes K.faults sink.old) (output_view K.tells K.bytes K.faults sink.new)
-        (rig_view R.tells R.P.tells R.faults R.plugs R.unplugs R.plugged R.logs R.states rig.old) (rig_view R.tells R.P.tells R.faults R.plugs R.unplugs R.plugged R.logs R.states rig.new) result }
+    ensures { HasEnded (request_in (map string_bytes words.now))
+        (outside S.Shelf K.Sink R.Rig R.P.tells shelf.old sink.old rig.old) (outside S.Shelf K.Sink R.Rig R.P.tells shelf.new sink.new rig.new) result }
 {
     top(rt, alloc, words, shelf, sink, rig, &OpenGate)
 }

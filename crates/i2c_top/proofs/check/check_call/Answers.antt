@@ -1,27 +1,24 @@
-use Rattle.i2c_top.proofs.EndingLemmas.{ended_told, ended_read, ended_write, ended_checked, ended_line, ended_kept, ended_cut}
-use Rattle.i2c_top.proofs.RequestLemmas.{no_rig, check_complete}
+use Rattle.i2c_top.proofs.EndingLemmas.{ended_by, ended_cause, ended_complete, ended_checked, ended_written}
+use Rattle.i2c_top.proofs.RequestLemmas.{no_rig, for_ok, for_err}
 use Rattle.i2c_top.proofs.check.check_call.Goals as goal
 
-pub returns-clause-told : goal.returns-clause-told
-returns-clause-told g c = ended_told c.check.result (c.check.ensures.ended no_rig)
+abbrev ended : goal.returns-clause-ended
+ended g c =
+    λ rig. ended_by _ _ _ c.check_board-outcome.result (λ v. v.items) c.write_outcome.result c.check_board-outcome.ensures.line (for_ok c.check_board-outcome.result _ c.check_board-outcome.ensures.done rig)
+    (for_err c.check_board-outcome.result _ c.check_board-outcome.ensures.refused rig)
+    c.write_outcome.ensures.done c.write_outcome.ensures.refused c.check_board-outcome.ensures.kept
 
-pub returns-clause-read : goal.returns-clause-read
-returns-clause-read g c = ended_read c.check.result (c.check.ensures.ended no_rig)
+pub returns-clause-ended : goal.returns-clause-ended
+returns-clause-ended g c = ended g c
 
-pub returns-clause-write : goal.returns-clause-write
-returns-clause-write g c = ended_write c.check.result (c.check.ensures.ended no_rig)
+pub returns-clause-cause : goal.returns-clause-cause
+returns-clause-cause g c = λ rig. ended_cause _ _ _ c.write_outcome.result (ended g c rig)
 
 pub returns-clause-complete : goal.returns-clause-complete
-returns-clause-complete g c = check_complete c.check.result c.check.ensures.ended
+returns-clause-complete g c = λ rig t. ended_complete _ _ _ c.write_outcome.result (ended g c rig) t tt
 
 pub returns-clause-success : goal.returns-clause-success
-returns-clause-success g c = ended_checked c.check.result (c.check.ensures.ended no_rig)
+returns-clause-success g c = ended_checked _ _ _ c.write_outcome.result (ended g c no_rig)
 
-pub returns-clause-line : goal.returns-clause-line
-returns-clause-line g c = ended_line c.check.result (c.check.ensures.ended no_rig)
-
-pub returns-clause-kept : goal.returns-clause-kept
-returns-clause-kept g c = ended_kept c.check.result (c.check.ensures.ended no_rig)
-
-pub returns-clause-cut : goal.returns-clause-cut
-returns-clause-cut g c = λ rig. ended_cut c.check.result (c.check.ensures.ended rig)
+pub returns-clause-written : goal.returns-clause-written
+returns-clause-written g c = λ rig. ended_written _ _ _ c.write_outcome.result (ended g c rig)

@@ -1,10 +1,12 @@
-use Rattle.i2c_top.proofs.EndingLemmas.{ended_in, written_front}
-use Rattle.i2c_top.proofs.RequestLemmas.{check_asked, in_form}
+use Rattle.i2c_top.specs.Requests.{Check, NoForm}
+use Rattle.i2c_top.specs.Traces.{rig_view}
+use Rattle.i2c_top.proofs.EndingLemmas.{ended_formless, ended_same}
 use Rattle.i2c_top.proofs.program.answer_words.Goals as goal
 
-pub returns-else-is_check-clause-usage_line : goal.returns-else-is_check-clause-usage_line
-returns-else-is_check-clause-usage_line g c = λ t form. written_front _ _ _ _ c.refuse_words.result c.refuse_words.ensures.written t
+pub returns-in-Check-clause-ended : goal.returns-in-Check-clause-ended
+returns-in-Check-clause-ended g c =
+    ended_same (Check c.in-Check.board.now) _ _ _ c.check_call.result c.in-Check.ensures.asked (c.check_call.ensures.ended (rig_view g.R.Rig g.R.P.Port.tells c.args.rig.now))
 
-pub returns-then-is_check-clause-ended : goal.returns-then-is_check-clause-ended
-returns-then-is_check-clause-ended g c =
-    ended_in _ _ c.check_words.result (check_asked _ (in_form c.is_check.result _ c.if-is_check.true c.is_check.ensures)) (c.check_words.ensures.ended _)
+pub returns-in-NoForm-clause-ended : goal.returns-in-NoForm-clause-ended
+returns-in-NoForm-clause-ended g c =
+    ended_same NoForm _ _ _ c.refuse_words.result c.in-NoForm.ensures.asked (ended_formless _ _ _ _ c.refuse_words.result c.refuse_words.ensures.told c.refuse_words.ensures.written)

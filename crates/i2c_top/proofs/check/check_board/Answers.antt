@@ -1,6 +1,6 @@
 use Rattle.std.proofs.Common.{ap, ◌∙◌}
 use Rattle.i2c_top.specs.Checks.{accepted_text}
-use Rattle.i2c_top.proofs.check.line_of.Goals as goal
+use Rattle.i2c_top.proofs.check.check_board.Goals as goal
 
 pub returns-clause-line : goal.returns-clause-line
 returns-clause-line g c =

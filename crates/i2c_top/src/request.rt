@@ -1,0 +1,148 @@
+ghost use Rattle.std.specs.Prelude.{◌≡◌, ◌<◌, ◌≤◌, length, drop, map, string_bytes};
+ghost use Rattle.std.specs.List.{list_all};
+ghost use Rattle.tool_words.specs.Commands.{word_at};
+ghost use Rattle.i2c_top.specs.Endings.{name_in};
+ghost use Rattle.i2c_top.specs.Forms.{is_name, is_replay, is_check, request_in, asked, ArePlaced};
+ghost use Rattle.i2c_top.specs.Replays.{first_of};
+ghost use Rattle.i2c_top.specs.Requests.{name_of};
+
+use crate::Status;
+
+/// The places of the board, the schedule and the first script among the words.
+pub const BOARD: u8 = 1;
+
+pub const SCHEDULE: u8 = 2;
+
+pub const SCRIPT: u8 = 3;
+
+/// What the words of a command line ask for.
+#[derive(Clone, Copy)]
+pub enum Request<'a> {
+    /// To replay 1 to 8 scripts over a board, by a schedule.
+    Replay {
+        board: &'a str,
+        schedule: &'a str,
+        scripts: &'a [String],
+    },
+    /// To check a board.
+    Check {
+        board: &'a str,
+    },
+    /// Nothing: they are in no form in force.
+    NoForm,
+}
+
+// The name of the one script that is replayed.
+fn first_of(names: &[String]) -> &[u8]
+    ensures { result.now ≡ first_of (map string_bytes names.now) }
+{
+    match names.first() {
+        None => b"",
+        Some(name) => name.as_str().as_bytes(),
+    }
+}
+
+impl<'a> Request<'a> {
+    // The name of the file at a place of the words.
+    fn name_of(&self, place: u8) -> &'a [u8]
+        ensures { result.now ≡ name_of (asked self.now) place }
+    {
+        match *self {
+            Request::Replay {
+                board,
+                schedule,
+                scripts,
+            } => match place {
+                BOARD => board.as_bytes(),
+                SCHEDULE => schedule.as_bytes(),
+                _ => first_of(scripts),
+            },
+            Request::Check { board } => board.as_bytes(),
+            Request::NoForm => b"",
+        }
+    }
+
+    /// The name in the line of a refusal: that of the file that was not read.
+    pub fn name_in(&self, refusal: &Status) -> &'a [u8]
+        ensures { result.now ≡ name_in (asked self.now) refusal.now }
+    {
+        match refusal {
+            Status::Read(place) => self.name_of(*place),
+            _ => b"",
+        }
+    }
+}
+
+// The word at a place.
+fn word(words: &[String], place: usize) -> &str
+    requires { place < length words.now }
+    ensures { result.now ≡ word_at (map string_bytes words.now) place }
+{
+    words[place].as_str()
+}
+
+// The words from a place on.
+fn words_from(words: &[String], place: usize) -> &[String]
+    requires { place ≤ length words.now }
+    ensures { map string_bytes result.now ≡ drop place (map string_bytes words.now) }
+{
+    &words[place..]
+}
+
+// A word that may be a name.
+fn is_name(word: &str) -> bool
+    ensures { result ≡ is_name word.now }
+{
+    match word.as_bytes().first() {
+        None => false,
+        Some(byte) => *byte != b'-',
+    }
+}
+
+// All of them may be: each by itself, and as one list.
+fn each_is_name(words: &[String]) -> bool
+    ensures { result ≡ list_all (λ w. is_name (string_bytes w)) words.now }
+{
+    words.iter().all(|word| is_name(word.as_str()))
+}
+
+fn are_names(words: &[String]) -> bool
+    ensures { result ≡ list_all is_name (map string_bytes words.now) }
+{
+    each_is_name(words)
+}
+
+fn is_replay(words: &[String]) -> bool
+    ensures { result ≡ is_replay (map string_bytes words.now) }
+{
+    4 <= words.len()
+        && words.len() <= 11
+        && word(words, 0) == "replay"
+        && are_names(words_from(words, 1))
+}
+
+fn is_check(words: &[String]) -> bool
+    ensures { result ≡ is_check (map string_bytes words.now) }
+{
+    words.len() == 2 && word(words, 0) == "check" && is_name(word(words, 1))
+}
+
+/// What the words ask for.
+pub fn request_of(words: &[String]) -> Request<'_>
+    ensures asked { asked result ≡ request_in (map string_bytes words.now) }
+    ensures placed { ArePlaced (map string_bytes words.now) (asked result) }
+{
+    if is_replay(words) {
+        Request::Replay {
+            board: word(words, 1),
+            schedule: word(words, 2),
+            scripts: words_from(words, 3),
+        }
+    } else if is_check(words) {
+        Request::Check {
+            board: word(words, 1),
+        }
+    } else {
+        Request::NoForm
+    }
+}
