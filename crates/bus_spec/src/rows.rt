@@ -1,11 +1,12 @@
 //! Worked examples, computed by the checker itself: each function has an empty body, and its clause is the journal
 //! that small scripts make on a small board.
-ghost use Rattle.std.specs.Prelude.{◌≡◌, ◌++◌, [], ◌∷◌, Some, replicate, true, length, reverse, option_map};
+ghost use Rattle.std.specs.Prelude.{◌≡◌, ◌++◌, [], ◌∷◌, Some, None, replicate, true, length, reverse, take, option_map};
 ghost use Rattle.i2c_base.specs.declared.errno.Errno.TheVariants.{Eremoteio};
 ghost use Rattle.i2c_base.specs.declared.reply.Reply.TheVariants as reply;
 ghost use Rattle.i2c_base.specs.declared.reply.Cut.TheVariants as cut;
 ghost use Rattle.i2c_spec.specs.History.{history};
-ghost use Rattle.bus_spec.specs.Readings.{order};
+ghost use Rattle.i2c_base.specs.declared.ids.LockId.TheVariants as lock;
+ghost use Rattle.bus_spec.specs.Readings.{holder, order};
 ghost use Rattle.bus_spec.specs.Play.{played, transfers_of, none_fails, fails_at};
 ghost use Rattle.bus_spec.specs.Rows as row;
 
@@ -98,4 +99,14 @@ pub fn a_mux_locked_journal_settles_as_the_flat_world()
         (order (reverse row.mux_locked_journal))) ≡ Some (reply.Read (0x11 ∷ []) ∷ []) }
     ensures second { option_map (λ h. h.replies 1) (history row.mux_locked (transfers_of ((row.read 1 0x30 0 ∷ []) ∷ (row.read 0 0x20 5 ∷ []) ∷ []))
         (order (reverse row.mux_locked_journal))) ≡ Some (reply.Read (0x7e ∷ []) ∷ []) }
+{}
+
+/// A lock belongs to the caller of its last take that no free follows: of the same journal, behind the select, while the
+/// other caller reads, and at the end.
+pub fn a_lock_belongs_to_the_caller_of_its_last_take()
+    ensures root_taken { holder (reverse (take 2 row.mux_locked_journal)) (lock.Bus 0) ≡ Some 0 }
+    ensures root_freed { holder (reverse (take 4 row.mux_locked_journal)) (lock.Bus 0) ≡ None }
+    ensures other_caller { holder (reverse (take 8 row.mux_locked_journal)) (lock.Bus 0) ≡ Some 1 }
+    ensures muxes_held { holder (reverse (take 8 row.mux_locked_journal)) (lock.Mux 0) ≡ Some 0 }
+    ensures all_freed { holder (reverse row.mux_locked_journal) (lock.Mux 0) ≡ None }
 {}
