@@ -101,6 +101,10 @@ another_line =
     reverse (row.take_mux 0 0 ∷ row.take_bus 0 ∷ entry.Line 0 7 0 false ∷ row.reads 0 2 0x20 5 0x7e 0
     ++ entry.Line 0 0 0 false ∷ row.free_bus 0 ∷ row.free_mux 0 0 ∷ [])
 
+-- .. or of the same mux, with another level
+abbrev pub another_level : List Entry
+another_level = entry.Line 0 0 1 false ∷ row.take_bus 0 ∷ row.take_mux 0 0 ∷ []
+
 -- the write of a register's number is told as a read
 abbrev pub another_direction : List Entry
 another_direction = entry.Message 0 0 purpose.Call 1 2 0x20 true (5 ∷ []) (Some (Device 0)) end.Ok ∷ row.take_bus 0 ∷ []

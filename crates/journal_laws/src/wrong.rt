@@ -79,7 +79,8 @@ pub fn a_failed_message_tells_its_part()
 
 /// A line step tells its mux and its level.
 pub fn a_line_tells_its_mux()
-    ensures { (callers : ℕ) → IsLegal row.gpio callers wrong.line_asks wrong.another_line → ⊥ }
+    ensures mux { (callers : ℕ) → IsLegal row.gpio callers wrong.line_asks wrong.another_line → ⊥ }
+    ensures level { (callers : ℕ) → IsLegal row.gpio callers wrong.line_asks wrong.another_level → ⊥ }
 {}
 
 /// A write is not told as a read.

@@ -1,5 +1,5 @@
 -- The failed entries of a root are as many as the calls of its port that failed. The induction goes over the entries.
-use Rattle.std.proofs.Common.{◌≡◌, ℕ, ◌+◌, Bool, true, false, cond, ◌&&◌, eqb, List, [], ◌∷◌, ◌++◌, length, reverse, Option, Some, None, refl, sym, ◌∙◌, ap, subst, inl, inr, arith}
+use Rattle.std.proofs.Common.{◌≡◌, ℕ, ◌+◌, Bool, true, false, cond, ◌&&◌, eqb, List, [], ◌∷◌, ◌++◌, reverse, Option, refl, sym, ◌∙◌, ap, subst, inl, inr, arith}
 use Rattle.std.proofs.lemmas.List.{reverse-append}
 use Rattle.std.proofs.lemmas.Bool.{eq-eqb}
 use Rattle.std.proofs.lemmas.Bool.Decides.{eqb_tells}
@@ -18,7 +18,7 @@ use Rattle.i2c_spec.specs.World.{World}
 use Rattle.i2c_spec.specs.Conversation.{world_listener, talk}
 use Rattle.i2c_spec.specs.Flat.{block_limit}
 use Rattle.i2c_spec.specs.History.{Asks, changed_at}
-use Rattle.bus_spec.specs.Walk.{Act, Job, Send, Shift, Note, job_bus, message_of, is_last, line_mux}
+use Rattle.bus_spec.specs.Walk.{Act, Job, job_bus, message_of, is_last}
 use Rattle.bus_spec.specs.Grammar.{first_note}
 use Rattle.bus_spec.specs.Past.{Now, now, current, calls_of, talk_of, sent_by, lined_by, line_call, cut_of}
 use Rattle.bus_spec.specs.Places.{is_cut}
@@ -28,7 +28,7 @@ use Rattle.bus_laws.specs.Reach.{AsksForMessages}
 use Rattle.bus_laws.proofs.tree.Slots.{eqb-apart}
 use Rattle.bus_laws.proofs.world.TalkLaws.{IsMade, IsOwnEnd, talk-ends}
 use Rattle.bus_laws.proofs.past.Whole.{line_root}
-use Rattle.journal_laws.specs.Counts.{count_if, is_fault, faults_in, is_failed, failed_on}
+use Rattle.journal_laws.specs.Counts.{count_if, faults_in, failed_on}
 
 faults-append : (xs ys : List PortCall) → faults_in (xs ++ ys) ≡ faults_in xs + faults_in ys
 faults-append [] ys = omega arith
