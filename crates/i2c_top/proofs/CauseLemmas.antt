@@ -3,7 +3,7 @@ use Rattle.std.proofs.Common.{◌≡◌, ℕ, ◌⊎◌, inl, inr, List, Option,
 use Rattle.i2c_top.specs.Boards.{IsNoBoard, IsRejected}
 use Rattle.i2c_top.specs.Checks.{HasAccepted, HasRejected, IsCheckCause}
 use Rattle.i2c_top.specs.Files.{Files}
-use Rattle.i2c_top.specs.Replays.{Names, first_of, HasBoard, HasNoBoard, HasScript, HasBadScript, HasSchedule, HasBadSchedule, HasFiles, IsReplayCause}
+use Rattle.i2c_top.specs.Replays.{Names, script_name, HasBoard, HasNoBoard, HasScript, HasBadScript, HasSchedule, HasBadSchedule, HasFiles, IsReplayCause}
 use Rattle.i2c_top.specs.Requests.{Request, Replay, Check, NoForm, IsCause}
 use Rattle.caller_core.specs.Scripts.{Place, script_read, commands_of}
 use Rattle.i2c_top.specs.Schedules.{schedule_fault}
@@ -66,13 +66,13 @@ record DecideScript (file : Files) (names : Names) (s : Status) : Type 0 where
   word : ℕ
   same : s ≡ status.Script 0 line word
   board : HasBoard file names.board
-  script : HasBadScript file (first_of names.scripts) line word
+  script : HasBadScript file (script_name names.scripts) line word
 
 record DecideSchedule (file : Files) (names : Names) (s : Status) : Type 0 where
   word : ℕ
   same : s ≡ status.Schedule word
   board : HasBoard file names.board
-  script : HasScript file (first_of names.scripts)
+  script : HasScript file (script_name names.scripts)
   schedule : HasBadSchedule file names.schedule word
 
 abbrev Decide : Files → Names → Status → Type 0
@@ -96,21 +96,21 @@ decided file names status.Rig h = absurd h
 agree : (file : Files) (names : Names) (s r : Status) → Decide file names s → Decide file names r → r ≡ s
 agree file names s r (inl a) (inl b) = b.0 ∙ sym a.0
 agree file names s r (inl a) (inr (inl b)) = absurd (no_board file names.board b.why a.1.board b.board)
-agree file names s r (inl a) (inr (inr (inl b))) = absurd (no_script file (first_of names.scripts) b.line b.word a.1.script b.script)
+agree file names s r (inl a) (inr (inr (inl b))) = absurd (no_script file (script_name names.scripts) b.line b.word a.1.script b.script)
 agree file names s r (inl a) (inr (inr (inr b))) = absurd (no_schedule file names.schedule b.word a.1.schedule b.schedule)
 agree file names s r (inr (inl a)) (inl b) = absurd (no_board file names.board a.why b.1.board a.board)
 agree file names s r (inr (inl a)) (inr (inl b)) =
     b.same ∙ ap (λ w. status.Board w) (one_why file names.board a.why b.why a.board b.board) ∙ sym a.same
 agree file names s r (inr (inl a)) (inr (inr (inl b))) = absurd (no_board file names.board a.why b.board a.board)
 agree file names s r (inr (inl a)) (inr (inr (inr b))) = absurd (no_board file names.board a.why b.board a.board)
-agree file names s r (inr (inr (inl a))) (inl b) = absurd (no_script file (first_of names.scripts) a.line a.word b.1.script a.script)
+agree file names s r (inr (inr (inl a))) (inl b) = absurd (no_script file (script_name names.scripts) a.line a.word b.1.script a.script)
 agree file names s r (inr (inr (inl a))) (inr (inl b)) = absurd (no_board file names.board b.why a.board b.board)
 agree file names s r (inr (inr (inl a))) (inr (inr (inl b))) =
-    b.same ∙ one_place file (first_of names.scripts) a.line a.word b.line b.word a.script b.script ∙ sym a.same
-agree file names s r (inr (inr (inl a))) (inr (inr (inr b))) = absurd (no_script file (first_of names.scripts) a.line a.word b.script a.script)
+    b.same ∙ one_place file (script_name names.scripts) a.line a.word b.line b.word a.script b.script ∙ sym a.same
+agree file names s r (inr (inr (inl a))) (inr (inr (inr b))) = absurd (no_script file (script_name names.scripts) a.line a.word b.script a.script)
 agree file names s r (inr (inr (inr a))) (inl b) = absurd (no_schedule file names.schedule a.word b.1.schedule a.schedule)
 agree file names s r (inr (inr (inr a))) (inr (inl b)) = absurd (no_board file names.board b.why a.board b.board)
-agree file names s r (inr (inr (inr a))) (inr (inr (inl b))) = absurd (no_script file (first_of names.scripts) b.line b.word a.script b.script)
+agree file names s r (inr (inr (inr a))) (inr (inr (inl b))) = absurd (no_script file (script_name names.scripts) b.line b.word a.script b.script)
 agree file names s r (inr (inr (inr a))) (inr (inr (inr b))) =
     b.same ∙ ap (λ w. status.Schedule w) (one_word file names.schedule a.word b.word a.schedule b.schedule) ∙ sym a.same
 

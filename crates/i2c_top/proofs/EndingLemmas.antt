@@ -1,16 +1,16 @@
--- The ending of a call: the clauses of a call are read off how it ended (`HasEnded`). No induction, by the class of the status.
+-- The ending of a call: what is told of it (`HasEnded`) is read off how it came to its end. No induction, by the class of the status.
 use Rattle.std.proofs.Common.{◌≡◌, ℕ, ◌⊎◌, inl, inr, IsTrue, List, [], ◌++◌, length, Result, Ok, Err, refl, sym, ap, ◌∙◌, subst, arith, append-nil}
 use Rattle.std.proofs.lemmas.List.{take_all}
 use Rattle.std.specs.Prelude.{⊤, OnOk, IfOk, IfErr}
 use Rattle.i2c_outside.specs.Causes.{Rose}
-use Rattle.i2c_top.specs.Endings.{shown_of, CameTo, HasDone, IsRefused, HasCause, name_in, due_of, named_of, IsDue, IsStarved, IsWritten, IsRefusalWritten, IsEnding, HasEnded, HasWritten, IsCutShort}
+use Rattle.i2c_top.specs.Endings.{shown_of, CameTo, CameToSuccess, CameToRefusal, IsCaused, name_in, due_of, name_by_class, IsTextDue, IsStarved, IsWritten, IsRefusalWritten, TellsUsage, HasSaid, HasEnded, HasWritten, IsCutShort}
 use Rattle.i2c_top.specs.Reports.{HasReplayed}
 use Rattle.i2c_top.specs.Checks.{HasChecked}
 use Rattle.i2c_top.specs.Files.{Files}
 use Rattle.i2c_top.specs.Replays.{Names}
 use Rattle.i2c_top.specs.Requests.{Request, Replay, Check, NoForm, IsServed, IsPlaceOf, UsesRig, IsOwnStatus, IsStatusOf, IsCause, IsInTurn, IsPlugging, told_of, traced_of, IsAnswer, IsCalm, KeepsShelf}
 use Rattle.i2c_top.specs.Status.{Class, Done, Misused, Refused, Unread, NoRig, Silent, class_of, refusal_text}
-use Rattle.i2c_top.specs.Traces.{ShelfView, OutputView, RigView, Outside, IsLeft}
+use Rattle.i2c_top.specs.Traces.{ShelfView, OutputView, RigView, Outside, IsRigLeft}
 use Rattle.i2c_top.specs.Written.{HasFront}
 use Rattle.i2c_top.specs.declared.status.Status.{Status}
 use Rattle.i2c_top.specs.declared.status.Status.TheVariants as status
@@ -59,7 +59,7 @@ written_front sink sink_now s text result (inr (inr w)) t = (0, omega arith, w.k
 
 -- the line of a refusal is due for it, and nothing else
 due_line : (request : Request) (shelf : ShelfView) (rig : RigView) (s : Status) (text : List ℕ) (c : Class) → IsNamed s c → (s ≡ status.Ok → ⊥)
-    → due_of request shelf rig s text c → text ≡ refusal_text s (named_of request c)
+    → due_of request shelf rig s text c → text ≡ refusal_text s (name_by_class request c)
 due_line request shelf rig s text Done is n h = absurd (n is)
 due_line request shelf rig s text Silent is n h = absurd h
 due_line request shelf rig s text Misused is n h = h
@@ -72,7 +72,7 @@ silent_line s P write memory (inl w) = absurd (write w)
 silent_line s P write memory (inr m) = absurd (memory m)
 
 line_due : (request : Request) (shelf : ShelfView) (rig : RigView) (s : Status) (text : List ℕ) (c : Class) → IsNamed s c → (s ≡ status.Ok → ⊥) → (s ≡ status.Write → ⊥)
-    → (s ≡ status.Memory → ⊥) → text ≡ refusal_text s (named_of request c) → due_of request shelf rig s text c
+    → (s ≡ status.Memory → ⊥) → text ≡ refusal_text s (name_by_class request c) → due_of request shelf rig s text c
 line_due request shelf rig s text Done is ok write memory h = absurd (ok is)
 line_due request shelf rig s text Silent is ok write memory h = silent_line s ⊥ write memory is
 line_due request shelf rig s text Misused is ok write memory h = h
@@ -86,14 +86,31 @@ Line request sink sink_now r = (r ≡ status.Ok → ⊥) → (r ≡ status.Write
 line_starved : (request : Request) (sink sink_now : OutputView) (result : Status) → IsTrue sink.tells → IsStarved sink sink_now result → Line request sink sink_now result
 line_starved request sink sink_now result t m = subst (Line request sink sink_now) (sym m.starved) (λ ok cut. m.kept t ∙ sym (append-nil sink.bytes))
 
--- what a success wrote: what was asked for, whole
-record HasSaid (request : Request) (old new : Outside) : Type 0 where
+-- a call came to a status, and its text was due and written
+record HasAnswered (request : Request) (old new : Outside) (result : Status) : Type 0 where
+  to : Status
   text : List ℕ
-  answer : IsTrue old.shelf.tells → IsAnswer request old.shelf.file new.rig text
-  written : IsTrue old.sink.tells → new.sink.bytes ≡ old.sink.bytes ++ text
+  came : CameTo request old.shelf new.shelf old.rig new.rig to
+  due : IsTextDue request old.shelf new.rig to text
+  written : IsWritten old.sink new.sink to text result
+
+-- or there was no memory for it
+record HasStarved (request : Request) (old new : Outside) (result : Status) : Type 0 where
+  came : CameTo request old.shelf new.shelf old.rig new.rig status.Memory
+  starved : IsStarved old.sink new.sink result
+
+abbrev IsEnding : Request → Outside → Outside → Status → Type 0
+IsEnding request old new result = HasAnswered request old new result ⊎ HasStarved request old new result
+
+-- the whole of how a call came to its end
+record CameToEnd (request : Request) (old new : Outside) (result : Status) : Type 0 where
+  answers : IsStatusOf request result
+  kept : KeepsShelf request old.shelf new.shelf
+  usage : TellsUsage request old.sink new.sink
+  ending : IsEnding request old new result
 
 -- whatever was done to the rig, it was plugged at most once and is not left plugged
-left_of : (request : Request) (rig rig_now : RigView) (c : Class) → traced_of request rig rig_now c → IsLeft rig rig_now
+left_of : (request : Request) (rig rig_now : RigView) (c : Class) → traced_of request rig rig_now c → IsRigLeft rig rig_now
 left_of (Replay names) rig rig_now Done used = inr (record { plugs = used.plugs; unplugged = used.unplugged })
 left_of (Check board) rig rig_now Done untouched = inl untouched
 left_of NoForm rig rig_now Done never = absurd never
@@ -148,7 +165,7 @@ module _ (request : Request) (old new : Outside) where
         | inr m ↦ inr m
       ]
 
-  pub ended_complete : (result : Status) → HasEnded request old new result → IsTrue old.shelf.tells → IsServed request → (s : Status) → IsCause old.shelf.file request s
+  ended_complete : (result : Status) → CameToEnd request old new result → IsTrue old.shelf.tells → IsServed request → (s : Status) → IsCause old.shelf.file request s
       → IsCalm request old new → (result ≡ s) ⊎ (result ≡ status.Memory)
   ended_complete result h t served s cause calm =
       by_ending result (λ r. (r ≡ s) ⊎ (r ≡ status.Memory))
@@ -158,7 +175,7 @@ module _ (request : Request) (old new : Outside) where
   said : (result : Status) → IsEnding request old new result → result ≡ status.Ok → HasSaid request old new
   said result (inl a) ok =
       elim a.written [
-        | inl w ↦ record { text = a.text; answer = subst (λ s. IsDue request old.shelf new.rig s a.text) (sym w.same ∙ ok) a.due; written = w.whole }
+        | inl w ↦ record { text = a.text; answer = subst (λ s. IsTextDue request old.shelf new.rig s a.text) (sym w.same ∙ ok) a.due; written = w.whole }
         | inr (inl w) ↦ absurd (let h : status.Write ≡ status.Ok = sym w.failed ∙ ok in cc)
         | inr (inr w) ↦ absurd (let h : status.Memory ≡ status.Ok = sym w.starved ∙ ok in cc)
       ]
@@ -177,37 +194,37 @@ module _ (request : Request) (old new : Outside) where
   kept_of : (result : Status) → IsEnding request old new result → IsTrue old.sink.tells → result ≡ status.Memory → new.sink.bytes ≡ old.sink.bytes
   kept_of result (inl a) t e =
       elim a.written [
-        | inl w ↦ absurd (subst (λ s. IsDue request old.shelf new.rig s a.text) (sym w.same ∙ e) a.due)
+        | inl w ↦ absurd (subst (λ s. IsTextDue request old.shelf new.rig s a.text) (sym w.same ∙ e) a.due)
         | inr (inl w) ↦ absurd (let k : status.Write ≡ status.Memory = sym w.failed ∙ e in cc)
         | inr (inr w) ↦ w.kept t
       ]
   kept_of result (inr m) t e = m.starved.kept t
 
-  left_with : (s : Status) → Came s → IsLeft old.rig new.rig
+  left_with : (s : Status) → Came s → IsRigLeft old.rig new.rig
   left_with s c = left_of request old.rig new.rig (class_of s) c.traced
 
   -- the cause of what it came to is that of its result, but where the output failed or there was no memory
-  pub ended_cause : (result : Status) → HasEnded request old new result → HasCause request old new result
+  ended_cause : (result : Status) → CameToEnd request old new result → IsCaused request old new result
   ended_cause result h =
-      by_ending result (λ s. IsStatusOf request s → HasCause request old new s)
+      by_ending result (λ s. IsStatusOf request s → IsCaused request old new s)
       (λ s c own. record { own = own; told = c.told; shown = c.shown; write = λ e. absurd (c.unwritten e); unreached = c.unreached; traced = c.traced })
       (λ s c rose own. record { own = own; told = λ t. tt; shown = tt; write = λ e. rose; unreached = tt; traced = left_with s c })
       (λ s c own. record { own = own; told = λ t. tt; shown = tt; write = λ e. absurd (let k : status.Memory ≡ status.Write = e in cc); unreached = tt; traced = left_with s c })
       h.ending h.answers
 
-  ended_cut : (result : Status) → HasEnded request old new result → result ≡ status.Write → IsCutShort request old new
+  ended_cut : (result : Status) → CameToEnd request old new result → result ≡ status.Write → IsCutShort request old new
   ended_cut result h e = cut h.ending
     where
       cut : IsEnding request old new result → IsCutShort request old new
       cut (inl a) =
           elim a.written [
-            | inl w ↦ absurd (subst (λ s. IsDue request old.shelf new.rig s a.text) (sym w.same ∙ e) a.due)
+            | inl w ↦ absurd (subst (λ s. IsTextDue request old.shelf new.rig s a.text) (sym w.same ∙ e) a.due)
             | inr (inl w) ↦ record { to = a.to; text = a.text; came = a.came; due = a.due; front = w.front }
             | inr (inr w) ↦ absurd (let k : status.Memory ≡ status.Write = sym w.starved ∙ e in cc)
           ]
       cut (inr m) = absurd (let k : status.Memory ≡ status.Write = sym m.starved.starved ∙ e in cc)
 
-  pub ended_written : (result : Status) → HasEnded request old new result → HasWritten request old new result
+  ended_written : (result : Status) → CameToEnd request old new result → HasWritten request old new result
   ended_written result h =
       record { line = λ t. line_of result h.ending t; kept = λ t. kept_of result h.ending t; usage = h.usage; cut = ended_cut result h }
 
@@ -251,8 +268,8 @@ module _ (request : Request) (old new : Outside) where
   written_status s text result is served (inr (inl w)) = subst (IsStatusOf request) (sym w.failed) write_status
   written_status s text result is served (inr (inr w)) = subst (IsStatusOf request) (sym w.starved) (starved_status (served w.starved))
 
-  ended_done : (text : List ℕ) (result : Status) → (IsTrue old.shelf.tells → IsAnswer request old.shelf.file new.rig text) → HasDone request old.shelf new.shelf old.rig new.rig
-      → IsWritten old.sink new.sink status.Ok text result → KeepsShelf request old.shelf new.shelf → HasEnded request old new result
+  ended_done : (text : List ℕ) (result : Status) → (IsTrue old.shelf.tells → IsAnswer request old.shelf.file new.rig text) → CameToSuccess request old.shelf new.shelf old.rig new.rig
+      → IsWritten old.sink new.sink status.Ok text result → KeepsShelf request old.shelf new.shelf → CameToEnd request old new result
   ended_done text result answer done written kept =
       let served : (IsServed request → ⊥) → ⊥ = λ un. (let k : status.Ok ≡ status.Usage = is_usage status.Ok done.own done.came.unwritten un in absurd cc) in
       record {
@@ -267,8 +284,8 @@ module _ (request : Request) (old new : Outside) where
   usage_front s result e t written =
       subst (λ r. HasFront old.sink.bytes (refusal_text r (name_in request r)) new.sink.bytes) e (written_front old.sink new.sink s (refusal_text s (name_in request s)) result written t)
 
-  pub ended_refused : (s : Status) (result : Status) → IsRefused request old.shelf new.shelf old.rig new.rig s → IsRefusalWritten old.sink new.sink s (name_in request s) result
-      → KeepsShelf request old.shelf new.shelf → HasEnded request old new result
+  ended_refused : (s : Status) (result : Status) → CameToRefusal request old.shelf new.shelf old.rig new.rig s → IsRefusalWritten old.sink new.sink s (name_in request s) result
+      → KeepsShelf request old.shelf new.shelf → CameToEnd request old new result
   ended_refused s result is (inl m) kept =
       let came : Came status.Memory = subst Came m.0 is.came in
       let own : IsStatusOf request status.Memory = subst (IsStatusOf request) m.0 is.own in
@@ -286,21 +303,32 @@ module _ (request : Request) (old new : Outside) where
         ending = ending_refused s (name_in request s) result is.came is.refusal w.0 refl w.1;
       }
 
+  -- what is told of the end of a call
+  ended_told : (result : Status) → CameToEnd request old new result → HasEnded request old new result
+  ended_told result h =
+      record {
+        cause = ended_cause result h;
+        complete = ended_complete result h;
+        said = said result h.ending;
+        written = ended_written result h;
+        kept = h.kept;
+      }
+
   -- what came of a request was told
   pub ended_by : {X : Type 0} (r : Result X Status) (bytes_of : X → List ℕ) (result : Status) → (IsTrue old.shelf.tells → IfOk r (λ x. IsAnswer request old.shelf.file new.rig (bytes_of x)))
-      → OnOk r (HasDone request old.shelf new.shelf old.rig new.rig) → IfErr r (IsRefused request old.shelf new.shelf old.rig new.rig)
+      → OnOk r (CameToSuccess request old.shelf new.shelf old.rig new.rig) → IfErr r (CameToRefusal request old.shelf new.shelf old.rig new.rig)
       → IfOk r (λ x. IsWritten old.sink new.sink status.Ok (bytes_of x) result) → IfErr r (λ e. IsRefusalWritten old.sink new.sink e (name_in request e) result)
       → KeepsShelf request old.shelf new.shelf → HasEnded request old new result
-  ended_by (Ok x) bytes_of result answer done refused written unwritten kept = ended_done (bytes_of x) result answer done written kept
-  ended_by (Err e) bytes_of result answer done refused written unwritten kept = ended_refused e result refused unwritten kept
+  ended_by (Ok x) bytes_of result answer done refused written unwritten kept = ended_told result (ended_done (bytes_of x) result answer done written kept)
+  ended_by (Err e) bytes_of result answer done refused written unwritten kept = ended_told result (ended_refused e result refused unwritten kept)
 
 pub ended_replayed : (names : Names) (old new : Outside) (result : Status) → HasEnded (Replay names) old new result → IsTrue old.shelf.tells → IsTrue old.sink.tells → IsTrue new.rig.tells
     → IsTrue new.rig.ports_tell → result ≡ status.Ok → HasReplayed old.shelf.file names old.sink.bytes new.sink.bytes new.rig.logs new.rig.states
-ended_replayed names old new result h shelf sink rig ports ok = let s = said (Replay names) old new result h.ending ok in record { bytes = s.text; report = s.answer shelf rig ports; written = s.written sink }
+ended_replayed names old new result h shelf sink rig ports ok = let s = h.said ok in record { bytes = s.text; report = s.answer shelf rig ports; written = s.written sink }
 
 pub ended_checked : (name : List ℕ) (old new : Outside) (result : Status) → HasEnded (Check name) old new result → IsTrue old.shelf.tells → IsTrue old.sink.tells → result ≡ status.Ok
     → HasChecked old.shelf.file name old.sink.bytes new.sink.bytes
-ended_checked name old new result h shelf sink ok = let s = said (Check name) old new result h.ending ok in record { text = s.text; check = s.answer shelf; written = s.written sink }
+ended_checked name old new result h shelf sink ok = let s = h.said ok in record { text = s.text; check = s.answer shelf; written = s.written sink }
 
 -- of the same request
 pub ended_same : (request request_now : Request) (old new : Outside) (result : Status) → request ≡ request_now → HasEnded request old new result → HasEnded request_now old new result
@@ -311,7 +339,7 @@ pub ended_formless : (shelf : ShelfView) (sink sink_now : OutputView) (rig : Rig
     → IsWritten sink sink_now status.Usage (refusal_text status.Usage []) result
     → HasEnded NoForm (record { shelf = shelf; sink = sink; rig = rig }) (record { shelf = shelf; sink = sink_now; rig = rig }) result
 ended_formless shelf sink sink_now rig result told written =
-    ended_refused NoForm _ _ status.Usage result
+    ended_told NoForm _ _ result (ended_refused NoForm _ _ status.Usage result
     (record {
       came = record {
         told = λ t. tt;
@@ -324,4 +352,4 @@ ended_formless shelf sink sink_now rig result told written =
       own = record { usage = λ e served. served; unserved = λ un. inl refl; own = tt };
     })
     (inr ((λ e. let k : status.Usage ≡ status.Memory = e in cc), written, (λ e. told)))
-    (record { words = refl; files = λ name. refl; others = λ place no. refl })
+    (record { words = refl; files = λ name. refl; others = λ place no. refl }))

@@ -6,7 +6,7 @@ use Rattle.caller_core.specs.Callers.{CallerView, opened}
 use Rattle.i2c_top.specs.Boards.{IsBuilt, IsAccepted, IsRejected}
 use Rattle.i2c_top.specs.Files.{Files}
 use Rattle.i2c_top.specs.Readings.{IsAcceptedIn, IsRejectedIn, IsBoardIn, IsScriptIn, HasRead, IsRefusedAt, IsBadBoard}
-use Rattle.i2c_top.specs.Replays.{Names, first_of, HasNoBoard, HasSchedule}
+use Rattle.i2c_top.specs.Replays.{Names, script_name, HasNoBoard, HasSchedule}
 use Rattle.caller_core.specs.Scripts.{script_read, commands_of}
 use Rattle.i2c_top.specs.declared.status.BoardRefusal.{BoardRefusal}
 use Rattle.i2c_top.specs.declared.status.BoardRefusal.TheVariants as refusal
@@ -63,10 +63,10 @@ script_in file name text b (Err s) there e read = tt
 
 -- what was read after another file is what was there at first
 pub has_read : (first second third : Files) (names : Names) (b : BoardView) (text : List ℕ) → ((n : List ℕ) → second n ≡ first n) → ((n : List ℕ) → third n ≡ second n)
-    → IsBoardIn first names.board b → IsScriptIn second (first_of names.scripts) text → HasSchedule third names.schedule → HasRead first names b text
+    → IsBoardIn first names.board b → IsScriptIn second (script_name names.scripts) text → HasSchedule third names.schedule → HasRead first names b text
 has_read first second third names b text same same_again board script schedule =
     record {
       board_in = board;
-      script_in = record { has = record { text = script.has.text; there = sym (same (first_of names.scripts)) ∙ script.has.there; read = script.has.read }; same = script.same };
+      script_in = record { has = record { text = script.has.text; there = sym (same (script_name names.scripts)) ∙ script.has.there; read = script.has.read }; same = script.same };
       schedule = record { text = schedule.text; there = sym (same names.schedule) ∙ sym (same_again names.schedule) ∙ schedule.there; fits = schedule.fits };
     }

@@ -4,7 +4,7 @@ use Rattle.i2c_base.specs.Board.{BoardView}
 use Rattle.i2c_outside.specs.Causes.{Rose}
 use Rattle.i2c_top.specs.Checks.{HasAccepted, HasRejected}
 use Rattle.i2c_top.specs.Files.{Files}
-use Rattle.i2c_top.specs.Replays.{Names, first_of, HasBoard, HasScript, HasSchedule}
+use Rattle.i2c_top.specs.Replays.{Names, script_name, HasBoard, HasScript, HasSchedule}
 use Rattle.i2c_top.specs.declared.status.BoardRefusal.{BoardRefusal}
 use Rattle.i2c_top.specs.declared.status.BoardRefusal.TheVariants as refusal
 use Rattle.i2c_top.specs.declared.status.Status.{Status}
@@ -32,7 +32,7 @@ pub record IsScriptIn (file : Files) (name text : List ℕ) : Type 0 where
 -- the files are there, and this is the board and the script's text
 pub record HasRead (file : Files) (names : Names) (board : BoardView) (text : List ℕ) : Type 0 where
   pub board_in : IsBoardIn file names.board board
-  pub script_in : IsScriptIn file (first_of names.scripts) text
+  pub script_in : IsScriptIn file (script_name names.scripts) text
   pub schedule : HasSchedule file names.schedule
 
 -- the file at this place was not read, or there was no memory, or what was read was bad

@@ -17,13 +17,13 @@ pub record Names : Type 0 where
   pub scripts : List (List ℕ)
 
 -- the name of the one script that is replayed
-abbrev pub first_of : List (List ℕ) → List ℕ
-first_of [] = []
-first_of (name ∷ names) = name
+abbrev pub script_name : List (List ℕ) → List ℕ
+script_name [] = []
+script_name (name ∷ names) = name
 
 -- the name of the file at a place of the words
 abbrev pub name_at : Names → ℕ → List ℕ
-name_at names place = if place == 1 then names.board else if place == 2 then names.schedule else first_of names.scripts
+name_at names place = if place == 1 then names.board else if place == 2 then names.schedule else script_name names.scripts
 
 -- the board's file is there, and its text spells this board, which this version steps
 pub record HasBoard (file : Files) (name : List ℕ) : Type 0 where
@@ -65,15 +65,15 @@ pub record HasBadSchedule (file : Files) (name : List ℕ) (word : ℕ) : Type 0
 -- the files are there, and well formed
 pub record HasFiles (file : Files) (names : Names) : Type 0 where
   pub board : HasBoard file names.board
-  pub script : HasScript file (first_of names.scripts)
+  pub script : HasScript file (script_name names.scripts)
   pub schedule : HasSchedule file names.schedule
 
 -- what the files say where `replay` ends with a status that they decide: success, and each refusal of a file's text
 abbrev pub IsReplayCause : Files → Names → Status → Type 0
 IsReplayCause file names status.Ok = HasFiles file names
 IsReplayCause file names (status.Board why) = HasNoBoard file names.board why
-IsReplayCause file names (status.Script caller line word) = HasBoard file names.board × (caller ≡ 0) × HasBadScript file (first_of names.scripts) line word
-IsReplayCause file names (status.Schedule word) = HasBoard file names.board × HasScript file (first_of names.scripts) × HasBadSchedule file names.schedule word
+IsReplayCause file names (status.Script caller line word) = HasBoard file names.board × (caller ≡ 0) × HasBadScript file (script_name names.scripts) line word
+IsReplayCause file names (status.Schedule word) = HasBoard file names.board × HasScript file (script_name names.scripts) × HasBadSchedule file names.schedule word
 IsReplayCause file names status.Usage = ⊥
 IsReplayCause file names (status.Cost cost) = ⊥
 IsReplayCause file names (status.Read place) = ⊥
@@ -85,7 +85,7 @@ IsReplayCause file names status.Rig = ⊥
 -- is in the grammar before the schedule is read, at place 2
 abbrev pub IsReadInTurn : Files → Names → ℕ → Type 0
 IsReadInTurn file names place =
-    (place ≡ 1) ⊎ (((place ≡ 3) × HasBoard file names.board) ⊎ ((place ≡ 2) × HasBoard file names.board × HasScript file (first_of names.scripts)))
+    (place ≡ 1) ⊎ (((place ≡ 3) × HasBoard file names.board) ⊎ ((place ≡ 2) × HasBoard file names.board × HasScript file (script_name names.scripts)))
 
 -- a file was not read at one of the places 1 to 3, and its count shows it
 pub record IsUnread (reads reads_now : ℕ → ℕ) (place : ℕ) : Type 0 where

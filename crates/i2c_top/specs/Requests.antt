@@ -5,7 +5,7 @@ use Rattle.i2c_top.specs.Files.{Files}
 use Rattle.i2c_top.specs.Replays.{Names, HasFiles, IsReplayCause, IsReadInTurn, name_at}
 use Rattle.i2c_top.specs.Reports.{HasReport}
 use Rattle.i2c_top.specs.Status.{Class, Done, Misused, Refused, Unread, NoRig, Silent, class_of}
-use Rattle.i2c_top.specs.Traces.{ShelfView, Outside, RigView, IsUsed, IsTried, IsLeft, IsUntouched}
+use Rattle.i2c_top.specs.Traces.{ShelfView, KeepsBut, Outside, RigView, IsUsed, IsTried, IsRigLeft, IsUntouched}
 use Rattle.i2c_outside.specs.Causes.{Rose}
 use Rattle.i2c_top.specs.declared.status.Status.{Status}
 use Rattle.i2c_top.specs.declared.status.Status.TheVariants as status
@@ -29,9 +29,13 @@ IsServed (Replay names) = length names.scripts ≡ 1
 IsServed (Check board) = ⊤
 IsServed NoForm = ⊥
 
+-- the places of the board, the schedule and the one script
+abbrev pub IsPlaceOfReplay : ℕ → Type 0
+IsPlaceOfReplay place = (place ≡ 1) ⊎ ((place ≡ 2) ⊎ (place ≡ 3))
+
 -- a file at this place of the words is read for it
 abbrev pub IsPlaceOf : Request → ℕ → Type 0
-IsPlaceOf (Replay names) place = (length names.scripts ≡ 1) × ((place ≡ 1) ⊎ ((place ≡ 2) ⊎ (place ≡ 3)))
+IsPlaceOf (Replay names) place = (length names.scripts ≡ 1) × IsPlaceOfReplay place
 IsPlaceOf (Check board) place = place ≡ 1
 IsPlaceOf NoForm place = ⊥
 
@@ -89,23 +93,21 @@ pub record IsCalm (request : Request) (old new : Outside) : Type 0 where
   pub sink : Rose old.sink.faults new.sink.faults → ⊥
   pub rig : UsesRig request → Rose old.rig.faults new.rig.faults → ⊥
 
--- the shelf has the same words and files, and counted no fault but at the places of the request
-pub record KeepsShelf (request : Request) (old new : ShelfView) : Type 0 where
-  pub words : new.words ≡ old.words
-  pub files : (name : List ℕ) → new.file name ≡ old.file name
-  pub others : (place : ℕ) → (IsPlaceOf request place → ⊥) → new.faults place ≡ old.faults place
+-- the shelf is kept, but for the counts at the places of the request
+abbrev pub KeepsShelf : Request → ShelfView → ShelfView → Type 0
+KeepsShelf request old new = KeepsBut (IsPlaceOf request) old new
 
 -- what a success does to the rig
-abbrev pub IsDone : Request → RigView → RigView → Type 0
-IsDone (Replay names) old new = IsUsed old new
-IsDone (Check board) old new = IsUntouched old new
-IsDone NoForm old new = ⊥
+abbrev pub IsRigAfter : Request → RigView → RigView → Type 0
+IsRigAfter (Replay names) old new = IsUsed old new
+IsRigAfter (Check board) old new = IsUntouched old new
+IsRigAfter NoForm old new = ⊥
 
 -- what the call does to the rig, by its status
 abbrev pub traced_of : Request → RigView → RigView → Class → Type 0
-traced_of request old new Done = IsDone request old new
+traced_of request old new Done = IsRigAfter request old new
 traced_of request old new NoRig = IsTried old new
-traced_of request old new Silent = IsLeft old new
+traced_of request old new Silent = IsRigLeft old new
 traced_of request old new Misused = IsUntouched old new
 traced_of request old new Refused = IsUntouched old new
 traced_of request old new (Unread place) = IsUntouched old new
@@ -114,10 +116,10 @@ abbrev pub IsTraced : Request → RigView → RigView → Status → Type 0
 IsTraced request old new s = traced_of request old new (class_of s)
 
 -- the name of the file at a place of the words
-abbrev pub name_of : Request → ℕ → List ℕ
-name_of (Replay names) place = name_at names place
-name_of (Check board) place = board
-name_of NoForm place = []
+abbrev pub file_name : Request → ℕ → List ℕ
+file_name (Replay names) place = name_at names place
+file_name (Check board) place = board
+file_name NoForm place = []
 
 -- the text that a success writes: the report of a run with this rig, or the line of the board
 abbrev pub IsAnswer : Request → Files → RigView → List ℕ → Type 0

@@ -18,6 +18,12 @@ pub record ShelfView : Type 0 where
 abbrev pub shelf_view : {S : Type 0} → ShelfGhosts S → S → ShelfView
 shelf_view g s = record { tells = g.tells; words = g.words s; file = g.file s; faults = g.faults s }
 
+-- it has the same words and files, and counted no fault but at these places
+pub record KeepsBut (places : ℕ → Type 0) (old new : ShelfView) : Type 0 where
+  pub words : new.words ≡ old.words
+  pub files : (name : List ℕ) → new.file name ≡ old.file name
+  pub others : (place : ℕ) → (places place → ⊥) → new.faults place ≡ old.faults place
+
 pub record OutputView : Type 0 where
   pub tells : Bool
   pub bytes : List ℕ
@@ -84,5 +90,5 @@ pub record IsPluggedOnce (old new : RigView) : Type 0 where
   pub plugs : new.plugs ≡ counted old.plugs
   pub unplugged : new.plugged ≡ false
 
-abbrev pub IsLeft : RigView → RigView → Type 0
-IsLeft old new = IsUntouched old new ⊎ IsPluggedOnce old new
+abbrev pub IsRigLeft : RigView → RigView → Type 0
+IsRigLeft old new = IsUntouched old new ⊎ IsPluggedOnce old new

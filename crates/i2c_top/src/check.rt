@@ -1,10 +1,9 @@
-ghost use Rattle.std.specs.Prelude.{◌≡◌, ◌++◌, ◌⊎◌, Some, slice_get, OnOk, IfOk, IfErr, IsTrue};
+ghost use Rattle.std.specs.Prelude.{◌≡◌, ◌++◌, Some, slice_get, OnOk, IfOk, IfErr, IsTrue};
 ghost use Rattle.std.specs.Fmt.{decimal};
 ghost use Rattle.i2c_top.specs.Checks.{HasCheck, HasChecked, accepted_text};
-ghost use Rattle.i2c_top.specs.Endings.{HasDone, IsRefused, HasCause, HasWritten, HasEnded};
-ghost use Rattle.i2c_top.specs.Requests.{Check, IsCause, IsCalm, KeepsShelf};
+ghost use Rattle.i2c_top.specs.Endings.{CameToSuccess, CameToRefusal, HasEnded};
+ghost use Rattle.i2c_top.specs.Requests.{Check, KeepsShelf};
 ghost use Rattle.i2c_top.specs.Traces.{RigView, shelf_view, beside};
-ghost use Rattle.i2c_top.specs.declared.status.Status.{Status};
 ghost use Rattle.i2c_top.specs.declared.status.Status.TheVariants as status;
 
 use crate::Status;
@@ -43,8 +42,8 @@ fn check_board<S: Shelf>(alloc: Global, board: &str, shelf: &mut S) -> Result<Ve
     requires board { slice_get (S.words shelf.old) 1 ≡ Some board.now }
     ensures kept { KeepsShelf (Check board.now) (shelf_view S.Shelf shelf.old) (shelf_view S.Shelf shelf.new) }
     ensures line { IsTrue S.tells → IfOk result (λ text. HasCheck (S.file shelf.old) board.now text.items) }
-    ensures done { OnOk result ((rig : RigView) → HasDone (Check board.now) (shelf_view S.Shelf shelf.old) (shelf_view S.Shelf shelf.new) rig rig) }
-    ensures refused { IfErr result (λ e. (rig : RigView) → IsRefused (Check board.now) (shelf_view S.Shelf shelf.old) (shelf_view S.Shelf shelf.new) rig rig e) }
+    ensures done { OnOk result ((rig : RigView) → CameToSuccess (Check board.now) (shelf_view S.Shelf shelf.old) (shelf_view S.Shelf shelf.new) rig rig) }
+    ensures refused { IfErr result (λ e. (rig : RigView) → CameToRefusal (Check board.now) (shelf_view S.Shelf shelf.old) (shelf_view S.Shelf shelf.new) rig rig e) }
 {
     let accepted = read_accepted(alloc, shelf, board)?;
     Ok(accepted_line(alloc, accepted.board())?)
@@ -63,23 +62,11 @@ pub fn check_call<S: Shelf, K: Sink>(
 ) -> Status
     requires board { slice_get (S.words shelf.old) 1 ≡ Some board.now }
 
-    // Its statuses, and the cause of each: by what the file says where the shelf tells, and by the counts.
-    ensures cause { (rig : RigView) → HasCause (Check board.now) (beside rig S.Shelf K.Sink shelf.old sink.old) (beside rig S.Shelf K.Sink shelf.new sink.new) result }
-
-    // Where no count of its file or of the output rose, the status is the one that the file is a cause of, or there was
-    // no memory.
-    ensures complete { (rig : RigView) → IsTrue S.tells → (s : Status) → IsCause (S.file shelf.old) (Check board.now) s
-        → IsCalm (Check board.now) (beside rig S.Shelf K.Sink shelf.old sink.old) (beside rig S.Shelf K.Sink shelf.new sink.new) → (result ≡ s) ⊎ (result ≡ status.Memory) }
-
-    // What was written: the line of the board or of a refusal, nothing without memory, and else a front of the text due.
-    ensures success { IsTrue S.tells → IsTrue K.tells → result ≡ status.Ok → HasChecked (S.file shelf.old) board.now (K.bytes sink.old) (K.bytes sink.new) }
-    ensures written { (rig : RigView) → HasWritten (Check board.now) (beside rig S.Shelf K.Sink shelf.old sink.old) (beside rig S.Shelf K.Sink shelf.new sink.new) result }
-
-    // The shelf keeps its words and files, and its counts but for that of the board.
-    ensures kept { KeepsShelf (Check board.now) (shelf_view S.Shelf shelf.old) (shelf_view S.Shelf shelf.new) }
-
-    // All of it in one, beside any rig, for who calls this.
+    // The cause of each status and each status of a cause, what was written, and what is kept; beside any rig.
     ensures ended { (rig : RigView) → HasEnded (Check board.now) (beside rig S.Shelf K.Sink shelf.old sink.old) (beside rig S.Shelf K.Sink shelf.new sink.new) result }
+
+    // The line of the board.
+    ensures success { IsTrue S.tells → IsTrue K.tells → result ≡ status.Ok → HasChecked (S.file shelf.old) board.now (K.bytes sink.old) (K.bytes sink.new) }
 {
     let outcome = check_board(alloc, board, shelf);
     write_outcome(alloc, &Request::Check { board }, outcome, sink)

@@ -6,7 +6,8 @@ ghost use Rattle.caller_core.specs.Steps.{IsShallowBoard};
 ghost use Rattle.i2c_top.specs.Boards.{IsBuilt, IsAccepted, IsRejected};
 ghost use Rattle.i2c_top.specs.Readings.{IsAcceptedIn, IsRejectedIn, IsBoardIn, IsScriptIn, HasRead, IsRefusedAt, IsBadBoard, IsBadScript, IsBadSchedule};
 ghost use Rattle.i2c_top.specs.Replays.{HasNoBoard, HasBadScript, HasSchedule, HasBadSchedule, KeepsUnreached, IsFileRefusal};
-ghost use Rattle.i2c_top.specs.Requests.{names_of};
+ghost use Rattle.i2c_top.specs.Requests.{names_of, IsPlaceOfReplay};
+ghost use Rattle.i2c_top.specs.Traces.{KeepsBut, shelf_view};
 ghost use Rattle.caller_core.specs.Scripts.{script_read, commands_of};
 ghost use Rattle.i2c_top.specs.Schedules.{schedule_fault};
 ghost use Rattle.i2c_top.specs.declared.status.BoardRefusal.TheVariants as refusal;
@@ -24,7 +25,7 @@ use i2c_topo::accept;
 use std::alloc::Global;
 
 // Reads the file at a place of the words.
-fn read_file<S: Shelf>(
+fn bytes_at<S: Shelf>(
     alloc: Global,
     shelf: &mut S,
     place: u8,
@@ -32,9 +33,7 @@ fn read_file<S: Shelf>(
 ) -> Result<Vec<u8>, Status>
     requires low { place ≤ 15 }
     requires named { slice_get (S.words shelf.old) place ≡ Some name.now }
-    ensures words { S.words shelf.new ≡ S.words shelf.old }
-    ensures files { (n : List ℕ) → S.file shelf.new n ≡ S.file shelf.old n }
-    ensures others { (p : ℕ) → p ≢ place → S.faults shelf.new p ≡ S.faults shelf.old p }
+    ensures kept { KeepsBut (λ p. p ≡ place) (shelf_view S.Shelf shelf.old) (shelf_view S.Shelf shelf.new) }
     ensures small { IfOk result (λ v. length v.items ≤ 2 ^ 28) }
     ensures bytes { IsTrue S.tells → IfOk result (λ v. S.file shelf.old name.now ≡ Some v.items) }
     ensures refused { IfErr result (λ e. ((e ≡ status.Read place) × Rose (S.faults shelf.old place) (S.faults shelf.new place)) ⊎ (e ≡ status.Memory)) }
@@ -127,22 +126,18 @@ fn check_schedule(text: &[u8]) -> Result<(), Status>
 /// Reads the board's file: the board that it spells, which meets the rules; or the refusal.
 pub fn read_accepted<S: Shelf>(alloc: Global, shelf: &mut S, name: &str) -> Result<Accepted, Status>
     requires named { slice_get (S.words shelf.old) 1 ≡ Some name.now }
-    ensures words { S.words shelf.new ≡ S.words shelf.old }
-    ensures files { (n : List ℕ) → S.file shelf.new n ≡ S.file shelf.old n }
-    ensures others { (p : ℕ) → p ≢ 1 → S.faults shelf.new p ≡ S.faults shelf.old p }
+    ensures kept { KeepsBut (λ p. p ≡ 1) (shelf_view S.Shelf shelf.old) (shelf_view S.Shelf shelf.new) }
     ensures board { IsTrue S.tells → IfOk result (IsAcceptedIn (S.file shelf.old) name.now) }
     ensures refused { IfErr result (IsRefusedAt 1 (IsBadBoard (IsRejectedIn S.tells (S.file shelf.old) name.now)) (S.faults shelf.old 1) (S.faults shelf.new 1)) }
 {
-    let text = read_file(alloc, shelf, BOARD, name)?;
+    let text = bytes_at(alloc, shelf, BOARD, name)?;
     accepted_of(alloc, text.as_slice())
 }
 
 // Reads the board's file: the board that it spells, which meets the rules and is stepped; or the refusal.
 fn read_built<S: Shelf>(alloc: Global, shelf: &mut S, name: &str) -> Result<Accepted, Status>
     requires named { slice_get (S.words shelf.old) 1 ≡ Some name.now }
-    ensures words { S.words shelf.new ≡ S.words shelf.old }
-    ensures files { (n : List ℕ) → S.file shelf.new n ≡ S.file shelf.old n }
-    ensures others { (p : ℕ) → p ≢ 1 → S.faults shelf.new p ≡ S.faults shelf.old p }
+    ensures kept { KeepsBut (λ p. p ≡ 1) (shelf_view S.Shelf shelf.old) (shelf_view S.Shelf shelf.new) }
     ensures shallow { IfOk result IsShallowBoard }
     ensures board { IsTrue S.tells → IfOk result (IsBoardIn (S.file shelf.old) name.now) }
     ensures refused { IfErr result (IsRefusedAt 1 (IsBadBoard (λ why. IsTrue S.tells → HasNoBoard (S.file shelf.old) name.now why)) (S.faults shelf.old 1) (S.faults shelf.new 1)) }
@@ -152,34 +147,30 @@ fn read_built<S: Shelf>(alloc: Global, shelf: &mut S, name: &str) -> Result<Acce
 }
 
 // Reads the script's file.
-fn read_script<S: Shelf>(
+fn script_in<S: Shelf>(
     alloc: Global,
     board: &Accepted,
     shelf: &mut S,
     name: &str,
 ) -> Result<Script, Status>
     requires named { slice_get (S.words shelf.old) 3 ≡ Some name.now }
-    ensures words { S.words shelf.new ≡ S.words shelf.old }
-    ensures files { (n : List ℕ) → S.file shelf.new n ≡ S.file shelf.old n }
-    ensures others { (p : ℕ) → p ≢ 3 → S.faults shelf.new p ≡ S.faults shelf.old p }
+    ensures kept { KeepsBut (λ p. p ≡ 3) (shelf_view S.Shelf shelf.old) (shelf_view S.Shelf shelf.new) }
     ensures opened { IfOk result (λ s. s ≡ opened board.now s.script.text) }
     ensures script { IsTrue S.tells → IfOk result (λ s. IsScriptIn (S.file shelf.old) name.now s.script.text) }
     ensures refused { IfErr result (IsRefusedAt 3 (IsBadScript (λ line word. IsTrue S.tells → HasBadScript (S.file shelf.old) name.now line word)) (S.faults shelf.old 3) (S.faults shelf.new 3)) }
 {
-    let text = read_file(alloc, shelf, SCRIPT, name)?;
+    let text = bytes_at(alloc, shelf, SCRIPT, name)?;
     script_of(alloc, board, text.as_slice())
 }
 
 // Reads the schedule's file.
 fn read_schedule<S: Shelf>(alloc: Global, shelf: &mut S, name: &str) -> Result<(), Status>
     requires named { slice_get (S.words shelf.old) 2 ≡ Some name.now }
-    ensures words { S.words shelf.new ≡ S.words shelf.old }
-    ensures files { (n : List ℕ) → S.file shelf.new n ≡ S.file shelf.old n }
-    ensures others { (p : ℕ) → p ≢ 2 → S.faults shelf.new p ≡ S.faults shelf.old p }
+    ensures kept { KeepsBut (λ p. p ≡ 2) (shelf_view S.Shelf shelf.old) (shelf_view S.Shelf shelf.new) }
     ensures schedule { IsTrue S.tells → OnOk result (HasSchedule (S.file shelf.old) name.now) }
     ensures refused { IfErr result (IsRefusedAt 2 (IsBadSchedule (λ word. IsTrue S.tells → HasBadSchedule (S.file shelf.old) name.now word)) (S.faults shelf.old 2) (S.faults shelf.new 2)) }
 {
-    let text = read_file(alloc, shelf, SCHEDULE, name)?;
+    let text = bytes_at(alloc, shelf, SCHEDULE, name)?;
     check_schedule(text.as_slice())
 }
 
@@ -194,9 +185,7 @@ pub fn read_files<S: Shelf>(
     requires board { slice_get (S.words shelf.old) 1 ≡ Some board.now }
     requires schedule { slice_get (S.words shelf.old) 2 ≡ Some schedule.now }
     requires script { slice_get (S.words shelf.old) 3 ≡ Some script.now }
-    ensures words { S.words shelf.new ≡ S.words shelf.old }
-    ensures files { (n : List ℕ) → S.file shelf.new n ≡ S.file shelf.old n }
-    ensures others { (p : ℕ) → p ≢ 1 → p ≢ 2 → p ≢ 3 → S.faults shelf.new p ≡ S.faults shelf.old p }
+    ensures kept { KeepsBut IsPlaceOfReplay (shelf_view S.Shelf shelf.old) (shelf_view S.Shelf shelf.new) }
     ensures shallow { IfOk result (λ f. IsShallowBoard f.0) }
     ensures opened { IfOk result (λ f. f.1 ≡ opened f.0 f.1.script.text) }
     ensures read { IsTrue S.tells → IfOk result (λ f. HasRead (S.file shelf.old) (names_of board.now schedule.now (script.now ∷ [])) f.0 f.1.script.text) }
@@ -204,7 +193,7 @@ pub fn read_files<S: Shelf>(
     ensures refused { IfErr result (IsFileRefusal S.tells (S.file shelf.old) (names_of board.now schedule.now (script.now ∷ [])) (S.faults shelf.old) (S.faults shelf.new)) }
 {
     let accepted = read_built(alloc, shelf, board)?;
-    let read = read_script(alloc, &accepted, shelf, script)?;
+    let read = script_in(alloc, &accepted, shelf, script)?;
     read_schedule(alloc, shelf, schedule)?;
     Ok((accepted, read))
 }

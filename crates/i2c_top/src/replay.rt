@@ -1,10 +1,9 @@
-ghost use Rattle.std.specs.Prelude.{◌≡◌, ◌≢◌, ℕ, ◌≤◌, ◌∷◌, ◌⊎◌, [], length, map, Some, None, slice_get, string_bytes, OnOk, IfOk, IfErr, IfSome, IsTrue};
-ghost use Rattle.i2c_top.specs.Endings.{HasDone, IsRefused, HasCause, HasWritten, HasEnded};
+ghost use Rattle.std.specs.Prelude.{◌≡◌, ◌≢◌, ◌≤◌, ◌∷◌, [], length, map, Some, None, slice_get, string_bytes, OnOk, IfOk, IfErr, IfSome, IsTrue};
+ghost use Rattle.i2c_top.specs.Endings.{CameToSuccess, CameToRefusal, HasEnded};
 ghost use Rattle.i2c_top.specs.Names.{AreNamesFrom};
 ghost use Rattle.i2c_top.specs.Reports.{HasReplayed};
-ghost use Rattle.i2c_top.specs.Requests.{replay_of, names_of, IsAnswer, IsCause, IsCalm, KeepsShelf};
+ghost use Rattle.i2c_top.specs.Requests.{replay_of, names_of, IsAnswer, KeepsShelf};
 ghost use Rattle.i2c_top.specs.Traces.{shelf_view, rig_view, outside};
-ghost use Rattle.i2c_top.specs.declared.status.Status.{Status};
 ghost use Rattle.i2c_top.specs.declared.status.Status.TheVariants as status;
 
 use crate::Status;
@@ -41,9 +40,9 @@ fn replay<S: Shelf, R: Rig>(
     requires scripts { AreNamesFrom 3 (S.words shelf.old) (map string_bytes scripts.now) }
     ensures kept { KeepsShelf (replay_of board.now schedule.now (map string_bytes scripts.now)) (shelf_view S.Shelf shelf.old) (shelf_view S.Shelf shelf.new) }
     ensures report { IsTrue S.tells → IfOk result (λ text. IsAnswer (replay_of board.now schedule.now (map string_bytes scripts.now)) (S.file shelf.old) (rig_view R.Rig R.P.tells rig.new) text.items) }
-    ensures done { OnOk result (HasDone (replay_of board.now schedule.now (map string_bytes scripts.now))
+    ensures done { OnOk result (CameToSuccess (replay_of board.now schedule.now (map string_bytes scripts.now))
         (shelf_view S.Shelf shelf.old) (shelf_view S.Shelf shelf.new) (rig_view R.Rig R.P.tells rig.old) (rig_view R.Rig R.P.tells rig.new)) }
-    ensures refused { IfErr result (IsRefused (replay_of board.now schedule.now (map string_bytes scripts.now))
+    ensures refused { IfErr result (CameToRefusal (replay_of board.now schedule.now (map string_bytes scripts.now))
         (shelf_view S.Shelf shelf.old) (shelf_view S.Shelf shelf.new) (rig_view R.Rig R.P.tells rig.old) (rig_view R.Rig R.P.tells rig.new)) }
     ensures unplugged { length (map string_bytes scripts.now) ≢ 1 → rig.new ≡ rig.old }
 {
@@ -58,7 +57,7 @@ fn replay<S: Shelf, R: Rig>(
 /// line. The files are read in the order board, script, schedule.
 ///
 /// It returns on every input. `Read(i)` is told of the place `i` among the shelf's words. `Usage` is told exactly where
-/// there is not one script.
+/// there is not one script. The rig is plugged at most once, where the files are well formed, and is not left plugged.
 pub fn replay_call<S: Shelf, K: Sink, R: Rig>(
     alloc: Global,
     board: &str,
@@ -74,30 +73,14 @@ pub fn replay_call<S: Shelf, K: Sink, R: Rig>(
     requires some { 1 ≤ length scripts.now }
     requires most { length scripts.now ≤ 8 }
 
-    // Its statuses, and the cause of each in the order of refusals: by what the files say where the shelf tells, and by
-    // the counts; and what each does to the rig.
-    ensures cause { HasCause (replay_of board.now schedule.now (map string_bytes scripts.now))
+    // The cause of each status and each status of a cause, what was written, and what is kept.
+    ensures ended { HasEnded (replay_of board.now schedule.now (map string_bytes scripts.now))
         (outside S.Shelf K.Sink R.Rig R.P.tells shelf.old sink.old rig.old) (outside S.Shelf K.Sink R.Rig R.P.tells shelf.new sink.new rig.new) result }
     ensures unplugged { length (map string_bytes scripts.now) ≢ 1 → rig.new ≡ rig.old }
 
-    // Where no count rose, the status is the one that the files are a cause of, or there was no memory.
-    ensures complete { IsTrue S.tells → length scripts.now ≡ 1 → (s : Status) → IsCause (S.file shelf.old) (replay_of board.now schedule.now (map string_bytes scripts.now)) s
-        → IsCalm (replay_of board.now schedule.now (map string_bytes scripts.now))
-        (outside S.Shelf K.Sink R.Rig R.P.tells shelf.old sink.old rig.old) (outside S.Shelf K.Sink R.Rig R.P.tells shelf.new sink.new rig.new) → (result ≡ s) ⊎ (result ≡ status.Memory) }
-
-    // What was written: the report of a run, the line of a refusal, nothing without memory, and else a front of the
-    // text due.
+    // The report of a run that is legal, complete and followed by the flat world.
     ensures success { IsTrue S.tells → IsTrue K.tells → IsTrue R.tells → IsTrue R.P.tells → result ≡ status.Ok
         → HasReplayed (S.file shelf.old) (names_of board.now schedule.now (map string_bytes scripts.now)) (K.bytes sink.old) (K.bytes sink.new) (R.logs rig.new) (R.states rig.new) }
-    ensures written { HasWritten (replay_of board.now schedule.now (map string_bytes scripts.now))
-        (outside S.Shelf K.Sink R.Rig R.P.tells shelf.old sink.old rig.old) (outside S.Shelf K.Sink R.Rig R.P.tells shelf.new sink.new rig.new) result }
-
-    // The shelf keeps its words and files, and its counts but for those of the files that are read.
-    ensures kept { KeepsShelf (replay_of board.now schedule.now (map string_bytes scripts.now)) (shelf_view S.Shelf shelf.old) (shelf_view S.Shelf shelf.new) }
-
-    // All of it in one, for who calls this.
-    ensures ended { HasEnded (replay_of board.now schedule.now (map string_bytes scripts.now))
-        (outside S.Shelf K.Sink R.Rig R.P.tells shelf.old sink.old rig.old) (outside S.Shelf K.Sink R.Rig R.P.tells shelf.new sink.new rig.new) result }
 {
     let request = Request::Replay {
         board,

@@ -3,8 +3,8 @@ ghost use Rattle.std.specs.List.{list_all};
 ghost use Rattle.tool_words.specs.Commands.{word_at};
 ghost use Rattle.i2c_top.specs.Endings.{name_in};
 ghost use Rattle.i2c_top.specs.Forms.{is_name, is_replay, is_check, request_in, asked, ArePlaced};
-ghost use Rattle.i2c_top.specs.Replays.{first_of};
-ghost use Rattle.i2c_top.specs.Requests.{name_of};
+ghost use Rattle.i2c_top.specs.Replays.{script_name};
+ghost use Rattle.i2c_top.specs.Requests.{file_name};
 
 use crate::Status;
 
@@ -33,8 +33,8 @@ pub enum Request<'a> {
 }
 
 // The name of the one script that is replayed.
-fn first_of(names: &[String]) -> &[u8]
-    ensures { result.now ≡ first_of (map string_bytes names.now) }
+fn script_name(names: &[String]) -> &[u8]
+    ensures { result.now ≡ script_name (map string_bytes names.now) }
 {
     match names.first() {
         None => b"",
@@ -44,8 +44,8 @@ fn first_of(names: &[String]) -> &[u8]
 
 impl<'a> Request<'a> {
     // The name of the file at a place of the words.
-    fn name_of(&self, place: u8) -> &'a [u8]
-        ensures { result.now ≡ name_of (asked self.now) place }
+    fn file_name(&self, place: u8) -> &'a [u8]
+        ensures { result.now ≡ file_name (asked self.now) place }
     {
         match *self {
             Request::Replay {
@@ -55,7 +55,7 @@ impl<'a> Request<'a> {
             } => match place {
                 BOARD => board.as_bytes(),
                 SCHEDULE => schedule.as_bytes(),
-                _ => first_of(scripts),
+                _ => script_name(scripts),
             },
             Request::Check { board } => board.as_bytes(),
             Request::NoForm => b"",
@@ -67,7 +67,7 @@ impl<'a> Request<'a> {
         ensures { result.now ≡ name_in (asked self.now) refusal.now }
     {
         match refusal {
-            Status::Read(place) => self.name_of(*place),
+            Status::Read(place) => self.file_name(*place),
             _ => b"",
         }
     }

@@ -53,7 +53,7 @@ fn finished<'b, P: Port>(
 }
 
 // The report of one caller.
-fn report(alloc: Global, journal: Vec<Entry>, caller: &Script) -> Result<Vec<u8>, NoMemory>
+fn report_of_run(alloc: Global, journal: Vec<Entry>, caller: &Script) -> Result<Vec<u8>, NoMemory>
     ensures { IfOk result (λ text. text.items ≡ report_lines (section_text (commands_of caller.now.script.text) caller.now.taken ∷ []) journal.items) }
 {
     let sections = [caller.text(alloc)?];
@@ -87,7 +87,7 @@ pub fn run_script<R: Rig>(
     match finished(alloc, board, script, ports) {
         Ok(parts) => {
             rig.unplug(parts.ports);
-            Ok(report(alloc, parts.journal, &parts.caller)?)
+            Ok(report_of_run(alloc, parts.journal, &parts.caller)?)
         }
         Err(ports) => {
             rig.unplug(ports);

@@ -1,4 +1,4 @@
-use Rattle.i2c_top.proofs.EndingLemmas.{ended_by, ended_cause, ended_complete, ended_checked, ended_written}
+use Rattle.i2c_top.proofs.EndingLemmas.{ended_by, ended_checked}
 use Rattle.i2c_top.proofs.RequestLemmas.{no_rig, for_ok, for_err}
 use Rattle.i2c_top.proofs.check.check_call.Goals as goal
 
@@ -11,14 +11,5 @@ ended g c =
 pub returns-clause-ended : goal.returns-clause-ended
 returns-clause-ended g c = ended g c
 
-pub returns-clause-cause : goal.returns-clause-cause
-returns-clause-cause g c = λ rig. ended_cause _ _ _ c.write_outcome.result (ended g c rig)
-
-pub returns-clause-complete : goal.returns-clause-complete
-returns-clause-complete g c = λ rig t. ended_complete _ _ _ c.write_outcome.result (ended g c rig) t tt
-
 pub returns-clause-success : goal.returns-clause-success
 returns-clause-success g c = ended_checked _ _ _ c.write_outcome.result (ended g c no_rig)
-
-pub returns-clause-written : goal.returns-clause-written
-returns-clause-written g c = λ rig. ended_written _ _ _ c.write_outcome.result (ended g c rig)

@@ -1,21 +1,18 @@
-use Rattle.i2c_top.proofs.EndingLemmas.{ended_cause, ended_complete, ended_replayed, ended_checked, ended_written, ended_same}
+use Rattle.i2c_top.specs.Requests.{Check, NoForm}
+use Rattle.i2c_top.specs.Traces.{rig_view}
+use Rattle.i2c_top.proofs.EndingLemmas.{ended_replayed, ended_checked, ended_formless, ended_same}
 use Rattle.i2c_top.proofs.program.top.Goals as goal
 
-pub returns-clause-cause : goal.returns-clause-cause
-returns-clause-cause g c = ended_cause _ _ _ c.answer_words.result c.answer_words.ensures.ended
+abbrev checked : goal.returns-in-Check-clause-ended
+checked g c =
+    ended_same (Check c.in-Check.board.now) _ _ _ c.check_call.result c.in-Check.ensures.asked (c.check_call.ensures.ended (rig_view g.R.Rig g.R.P.Port.tells c.args.rig.now))
 
-pub returns-clause-complete : goal.returns-clause-complete
-returns-clause-complete g c = ended_complete _ _ _ c.answer_words.result c.answer_words.ensures.ended
+abbrev formless : goal.returns-in-NoForm-clause-ended
+formless g c =
+    ended_same NoForm _ _ _ c.refuse_words.result c.in-NoForm.ensures.asked (ended_formless _ _ _ _ c.refuse_words.result c.refuse_words.ensures.told c.refuse_words.ensures.written)
 
-pub returns-clause-success : goal.returns-clause-success
-returns-clause-success g c =
-    λ shelf sink rig ports names asked ok.
-    ended_replayed names _ _ c.answer_words.result (ended_same _ _ _ _ c.answer_words.result asked c.answer_words.ensures.ended) shelf sink rig ports ok
+pub returns-in-Check-clause-ended : goal.returns-in-Check-clause-ended
+returns-in-Check-clause-ended g c = checked g c
 
-pub returns-clause-checked : goal.returns-clause-checked
-returns-clause-checked g c =
-    λ shelf sink board asked ok.
-    ended_checked board _ _ c.answer_words.result (ended_same _ _ _ _ c.answer_words.result asked c.answer_words.ensures.ended) shelf sink ok
-
-pub returns-clause-written : goal.returns-clause-written
-returns-clause-written g c = ended_written _ _ _ c.answer_words.result c.answer_words.ensures.ended
+pub returns-in-NoForm-clause-ended : goal.returns-in-NoForm-clause-ended
+returns-in-NoForm-clause-ended g c = formless g c

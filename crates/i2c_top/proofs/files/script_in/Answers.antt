@@ -1,6 +1,6 @@
 use Rattle.std.proofs.Common.{sym, ap, ◌∙◌, Some}
 use Rattle.i2c_top.proofs.FileLemmas.{script_in}
-use Rattle.i2c_top.proofs.files.read_script.Goals as goal
+use Rattle.i2c_top.proofs.files.script_in.Goals as goal
 
 pub returns-clause-script : goal.returns-clause-script
 returns-clause-script g c =
