@@ -1,6 +1,5 @@
-//! Whole calls of the top over files, an output and a rig in memory: what no real file and no real output shows.
-//!
-//! It reads a table of cases from the standard input, and prints what each line asks for:
+//! The program of cases: what no row of the program shows. It reads a table from the standard input, and prints what each
+//! line asks for. First come whole calls of the top over files, an output and a rig in memory:
 //!
 //! - `file NAME`: the lines up to a line `.` are a file of every call behind it
 //! - `case NAME`: a new case, whose output has room for 4,096 bytes, and in which nothing fails
@@ -13,19 +12,40 @@
 //!   the output, which holds the front of what was written
 //! - `calls`: prints the calls on each port, as the rig kept them
 //! - `device N EVENT..`: prints what device N, as the rig kept it, answers to these events
+//! - `mute`: what the program's own output answers where what is behind it takes nothing
+//! - `locks`: a lock that is taken, marked and freed
 //!
-//! Lines that are empty or begin with `#` are for the reader. The file `stdout` has what is due, by hand.
+//! Then come worked examples of what stands below the core. Each is a front, a colon and words, and is answered by a line
+//! of the same front with an answer for each word:
+//!
+//! - `chip KIND:` events for the chip of a mux (`chips::answer`)
+//! - `tree BOARD:` questions on the tree of a board of `data/` (`trees::answer`)
+//! - `wires BOARD:` events on the wires of its first root (`wires::answer`)
+//! - `flat BOARD:` transfers in the flat world, with a semicolon between them (`transfers::answer_all`)
+//!
+//! Lines that are empty or begin with `#` are for the reader. The file `stdout` has what is due, by hand: the answers of
+//! chips by the data sheets of NXP, of trees by Linux i2c-topology, of wires by UM10204 section 3.1, of transfers by SMBus
+//! 3.2, Linux fault-codes and the tables of the devices. None is taken from what the program printed.
 #![tactic(auto)]
 
+mod bench;
+mod boards;
 mod case;
+mod chips;
+mod locks;
+mod mute;
 mod rig;
 mod show;
 mod table;
+mod transfers;
+mod trees;
+mod wires;
+mod words;
 
-use std::io;
+use anyhow::Result;
 use table::Table;
 
-fn main(rt: HostRuntime) -> io::Result<()> {
+fn main(rt: HostRuntime) -> Result<()> {
     let alloc = rt.alloc();
     let mut table = Table::new(alloc);
     for line in rt.lines(alloc) {

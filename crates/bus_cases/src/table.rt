@@ -1,15 +1,20 @@
-use crate::case::{Called, Case, Files, call, first_other, number_of};
+use crate::bench::answer_line;
+use crate::case::{Called, Case, Files as Shelf, call, first_other, number_of};
+use crate::locks::print_locks;
+use crate::mute::print_mute;
 use crate::show::{print_answers, print_called, print_calls};
+use anyhow::{Context, Result};
 use std::alloc::{AllocError, Global};
 use std::collections::BTreeMap;
 use std::io;
+use std::rt::Files;
 use std::sync::Wait;
 use std::thread::Threads;
 
 /// A table that is read line by line: the files so far, the case, and its last call.
 #[derive(Drop)]
 pub struct Table {
-    files: Files,
+    files: Shelf,
     /// The file whose lines come.
     file: Option<(String, Vec<u8>)>,
     case: Case,
@@ -35,16 +40,17 @@ impl Table {
     }
 
     /// Takes a line, and does what it asks for.
-    pub fn take<H: Print + Threads + Wait + Sync>(
+    pub fn take<H: Files + Print + AllocGlobal + Threads + Wait + Sync>(
         &mut self,
         rt: &H,
         alloc: Global,
         line: &str,
-    ) -> io::Result<()> {
+    ) -> Result<()> {
         match self.file.take() {
-            Some((name, bytes)) => self.take_file_line(name, bytes, line),
+            Some((name, bytes)) => Ok(self.take_file_line(name, bytes, line)?),
             None if line.is_empty() || line.starts_with('#') => Ok(()),
-            None => self.take_command(rt, alloc, line),
+            None if line.contains(':') => answer_line(rt, line).context(format_args!("{line:?}")),
+            None => Ok(self.take_command(rt, alloc, line)?),
         }
     }
 
@@ -75,6 +81,8 @@ impl Table {
             }
             "reads" | "writes" | "room" | "stuck" => self.case.set(alloc, command, rest),
             "call" => self.call(rt, alloc, rest),
+            "mute" => print_mute(rt),
+            "locks" => print_locks(rt, alloc),
             _ => self.show(rt, alloc, command, rest),
         }
     }

@@ -11,14 +11,14 @@ use std::{fs, io};
 #[derive(Drop)]
 pub struct FileShelf<'r, R: Files> {
     files: &'r R,
-    words: Vec<String>,
+    words: &'r [String],
     faults: [u64; PLACES],
 }
 
 impl<'r, R: Files> FileShelf<'r, R> {
     /// A shelf over these words, whose reads go to `files`.
-    pub fn new(files: &'r R, words: Vec<String>) -> Self
-        ensures words { result.words ≡ words }
+    pub fn new(files: &'r R, words: &'r [String]) -> Self
+        ensures words { map string_bytes result.words.now ≡ map string_bytes words.now }
         ensures faults { result.faults ≡ replicate 16 0 }
     {
         FileShelf {
@@ -40,7 +40,7 @@ impl<'r, R: Files> FileShelf<'r, R> {
 impl<'r, R: Files> Shelf for FileShelf<'r, R> {
     ghost tells = { false };
 
-    ghost words = { λ s. map string_bytes s.words.items };
+    ghost words = { λ s. map string_bytes s.words.now };
 
     ghost file = { λ s n. None };
 

@@ -31,6 +31,3 @@ pub use shelf::Shelf;
 pub use sink::Sink;
 pub use stdout_sink::StdoutSink;
 pub use vec_sink::VecSink;
-
-#[cfg(test)]
-mod tests;

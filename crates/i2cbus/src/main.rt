@@ -35,17 +35,6 @@ fn no_words(alloc: Global) -> Result<Vec<String>, AllocError>
     Ok(words)
 }
 
-// The same words again.
-fn copied(alloc: Global, words: &[String]) -> Result<Vec<String>, AllocError>
-    ensures { IfOk result (λ v. map string_bytes v.items ≡ map string_bytes words.now) }
-{
-    let mut copy = Vec::new(alloc);
-    for word in words {
-        copy.push(String::from_str(alloc, word.as_str())?)?;
-    }
-    Ok(copy)
-}
-
 // Does what the words say, over whatever shelf, output and rig: the status is that of `top`.
 fn run<H: Threads + Wait + Sync, S: Shelf, K: Sink, R: Rig>(
     rt: &H,
@@ -72,7 +61,7 @@ fn start<R: Env + Files + Print + AllocGlobal + Threads + Wait + Sync>(
         Err(error) if matches!(error.kind(), ErrorKind::OutOfMemory) => return Err(AllocError),
         Err(_) => no_words(alloc)?,
     };
-    let mut shelf = FileShelf::new(rt, copied(alloc, words.as_slice())?);
+    let mut shelf = FileShelf::new(rt, words.as_slice());
     let mut sink = StdoutSink::new(rt);
     let mut rig = SimRig::new();
     Ok(run(rt, alloc, words.as_slice(), &mut shelf, &mut sink, &mut rig))

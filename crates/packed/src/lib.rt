@@ -5,7 +5,5 @@
 #![tactic(auto)]
 
 mod packed;
-#[cfg(test)]
-mod tests;
 
 pub use packed::Packed;

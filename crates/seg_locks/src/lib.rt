@@ -7,7 +7,5 @@
 #![tactic(auto)]
 
 mod locks;
-#[cfg(test)]
-mod tests;
 
 pub use locks::{Held, Locks};

@@ -1,29 +1,32 @@
-//! The boards, transfers and replies of cases, as text.
+//! Transfers in the flat world, and their replies, as text.
 
 ghost use Rattle.std.specs.Prelude.{◌≤◌, IfOk, vec_len};
 
-use crate::device::Device;
+use crate::words::address;
 use anyhow::{Context, Result, bail};
-use i2c_base::{Addr, Cut, Errno, Kind, Reply, Transfer};
+use i2c_base::{Cut, Kind, Reply, Transfer};
 use i2c_board::Board;
-use i2c_boardtext::read_board;
 use i2c_physics::has_regs;
+use i2c_plain::{Device, flat};
 use std::alloc::{AllocError, Global};
-use std::fs;
-use std::rt::Files;
 
-/// The board of the file `NAME.toml`.
-pub fn read<R: Files + AllocGlobal>(rt: &R, name: &str) -> Result<Board> {
-    let path = format!(in rt.alloc(); "{name}.toml")?;
-    let text = fs::read(rt, path.as_str())?;
-    match read_board(rt.alloc(), text.as_slice()) {
-        Ok(board) => Ok(board),
-        Err(fault) => bail!("{fault:?}"),
+/// Does transfers with a semicolon between them, one after the other, on the devices of a board as they are opened, and
+/// prints each reply. How a transfer is written stands at `transfer_of`.
+pub fn answer_all<R: Print + AllocGlobal>(rt: &R, board: &Board, transfers: &str) -> Result<()> {
+    let alloc = rt.alloc();
+    let mut devices = open_devices(alloc, board)?;
+    for text in transfers.split(';') {
+        let (transfer, cut) = transfer_of(alloc, text).context(format_args!("{text:?}"))?;
+        let (reply, left) = flat(alloc, board.layout(), devices, &transfer, cut)?;
+        devices = left;
+        let text = reply_text(alloc, &reply)?;
+        print!(rt; " {text}")?;
     }
+    Ok(())
 }
 
-/// The devices of a board as they are opened.
-pub fn open_devices(alloc: Global, board: &Board) -> Result<Vec<Device>>
+// The devices of a board as they are opened.
+fn open_devices(alloc: Global, board: &Board) -> Result<Vec<Device>>
     ensures { IfOk result (λ devices. vec_len devices ≤ 128) }
 {
     if !has_regs(board) {
@@ -36,10 +39,10 @@ pub fn open_devices(alloc: Global, board: &Board) -> Result<Vec<Device>>
     Ok(devices)
 }
 
-/// A plain transfer, and where it is cut off. It is written as its bus, then `@way` where it is cut off on the way, or
-/// `@M.C` where it is in message M after C calls; then its messages. `wADDR=BYTES` writes bytes, in hexadecimal digits
-/// as the address, `rADDR` reads one byte, and `cADDR` is a counted read.
-pub fn transfer_of(alloc: Global, text: &str) -> Result<(Transfer, Cut)> {
+// A plain transfer, and where it is cut off. It is written as its bus, then `@way` where it is cut off on the way, or
+// `@M.C` where it is in message M after C calls; then its messages. `wADDR=BYTES` writes bytes, in hexadecimal digits
+// as the address, `rADDR` reads one byte, and `cADDR` is a counted read.
+fn transfer_of(alloc: Global, text: &str) -> Result<(Transfer, Cut)> {
     let mut words = text.split_whitespace();
     let front = words.next().context("a bus")?;
     let (bus, cut) = match front.split_once('@') {
@@ -70,10 +73,6 @@ fn add(alloc: Global, transfer: &mut Transfer, word: &str) -> Result<()> {
     added.ok().context("too long")
 }
 
-fn address(word: &str) -> Result<Addr> {
-    Addr::new(u8::from_str_radix(word, 16)?).context("an address")
-}
-
 // The place of a cut.
 fn cut_of(place: &str) -> Result<Cut> {
     if place == "way" {
@@ -86,8 +85,8 @@ fn cut_of(place: &str) -> Result<Cut> {
     })
 }
 
-/// A reply: the bytes that were read, `done`, or the error.
-pub fn reply_text(alloc: Global, reply: &Reply) -> Result<String, AllocError> {
+// A reply: the bytes that were read, `done`, or the error.
+fn reply_text(alloc: Global, reply: &Reply) -> Result<String, AllocError> {
     match reply {
         Reply::Done => String::from_str(alloc, "done"),
         Reply::Read(bytes) => hex::encode(alloc, bytes.as_slice()),

@@ -8,7 +8,7 @@ use std::{fs, io};
 /// The board of the file `NAME.toml`.
 pub fn read<R: Files + AllocGlobal>(rt: &R, name: &str) -> Result<Accepted> {
     let text = text_of(rt, name)?;
-    accepted(rt.alloc(), text.as_slice())
+    sealed(rt.alloc(), text.as_slice())
 }
 
 fn text_of<R: Files + AllocGlobal>(rt: &R, name: &str) -> io::Result<Vec<u8>> {
@@ -17,7 +17,7 @@ fn text_of<R: Files + AllocGlobal>(rt: &R, name: &str) -> io::Result<Vec<u8>> {
 }
 
 // The board that a text spells, which meets the rules.
-fn accepted(alloc: Global, text: &[u8]) -> Result<Accepted> {
+fn sealed(alloc: Global, text: &[u8]) -> Result<Accepted> {
     let board = match read_board(alloc, text) {
         Ok(board) => board,
         Err(fault) => bail!("{fault:?}"),

@@ -1,0 +1,37 @@
+use i2c_outside::{Sink, StdoutSink};
+use std::fmt::Display;
+use std::io;
+
+/// An output that takes nothing, and says so.
+struct Mute;
+
+impl Print for Mute {
+    fn print<D: Display + Drop>(&self, _value: D) -> io::Result<()> {
+        Ok(())
+    }
+
+    fn println<D: Display + Drop>(&self, _value: D) -> io::Result<()> {
+        Ok(())
+    }
+
+    fn write_all(&self, _bytes: &[u8]) -> io::Result<()> {
+        Ok(())
+    }
+
+    fn write_some(&self, _bytes: &[u8]) -> io::Result<usize> {
+        Ok(0)
+    }
+}
+
+/// What the program's own output answers where what is behind it takes nothing, and the faults that it counts.
+pub fn print_mute(rt: &impl Print) -> io::Result<()> {
+    let mut sink = StdoutSink::new(&Mute);
+    let answer = match sink.write(b"a line\n") {
+        Ok(_) => "taken",
+        Err(_) => "fault",
+    };
+    println!(rt;
+        "a sink over an output that takes nothing: {answer}, faults {}",
+        sink.faults()
+    )
+}
