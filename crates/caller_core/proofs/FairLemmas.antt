@@ -13,42 +13,28 @@ use Rattle.i2c_base.specs.Script.{ScriptView}
 use Rattle.i2c_base.specs.Transfer.{TransferView, IsTransfer, IsMessage, written, plain_read}
 use Rattle.i2c_spec.specs.Cost.{full_cost, steps_of, cost_of}
 use Rattle.i2c_spec.specs.Tree.{hops, buses}
-use Rattle.tool_words.specs.declared.command.Get.{Get}
-use Rattle.tool_words.specs.Commands.{CommandView}
-use Rattle.caller_core.specs.Scripts.{commands_of, read_byte_of, cost_of_command, asked_by, left_of}
+use Rattle.tool_words.specs.Lines.{IsInRange}
+use Rattle.tool_words.specs.declared.line.Cmd.{Cmd}
+use Rattle.tool_words.specs.declared.line.Cmd.TheVariants as cmd
+use Rattle.caller_core.specs.Commands.{transfer_of}
+use Rattle.caller_core.specs.Scripts.{CommandView, commands_of, cost_of_command, asked_by, left_of}
 use Rattle.caller_core.specs.Callers.{ScriptsAreFair}
 use Rattle.caller_core.specs.Steps.{IsShallowBoard}
 use Rattle.caller_core.proofs.CommandLemmas.{IsRead, commands_are_read}
-use Rattle.caller_core.proofs.ShallowLemmas.{shallow_cost}
+use Rattle.caller_core.proofs.TransferLemmas.{transfer_fits, transfer_sends, shallow_cost}
 
 -- what is asked for is the transfer of the next command
 record IsAsked (o : Option CommandView) (t : TransferView) : Type 0 where
   command : CommandView
   at : o ≡ Some command
-  same : t ≡ read_byte_of command.get
+  same : t ≡ transfer_of command.cmd
 
-is_asked : (o : Option CommandView) (t : TransferView) → option_map (λ c. read_byte_of c.get) o ≡ Some t → IsAsked o t
+is_asked : (o : Option CommandView) (t : TransferView) → option_map (λ c. transfer_of c.cmd) o ≡ Some t → IsAsked o t
 is_asked None t e = cc
 is_asked (Some c) t e = record { command = c; at = refl; same = cc }
 
 next_command : (s : ScriptView) (rs : List Reply) (t : TransferView) → asked_by s rs ≡ Some t → IsAsked (slice_get (commands_of s.text) (length rs)) t
 next_command s rs t e = is_asked (slice_get (commands_of s.text) (length rs)) t e
-
-is_written : (addr : ℕ) → IsMessage (written addr 1)
-is_written addr = (omega arith, λ e. cc, λ e. cc)
-
-is_plain_read : (addr : ℕ) → IsMessage (plain_read addr 1)
-is_plain_read addr = (omega arith, λ e. cc, λ e. omega arith)
-
-read_byte_fits : (g : Get) → g.reg < 256 → IsTransfer (read_byte_of g).msgs (read_byte_of g).out
-read_byte_fits g h =
-    record {
-      count = omega arith;
-      each = All-cons IsMessage (written g.addr 1) (plain_read g.addr 1 ∷ []) (is_written g.addr) (All-cons IsMessage (plain_read g.addr 1) [] (is_plain_read g.addr) (All-nil IsMessage));
-      size = omega arith;
-      written = refl;
-      bytes = All-cons IsByte g.reg [] h (All-nil IsByte);
-    }
 
 asked_fits : (s : ScriptView) (rs : List Reply) (t : TransferView) → IsAsked (slice_get (commands_of s.text) (length rs)) t → IsTransfer t.msgs t.out
 asked_fits s rs t a =
@@ -56,7 +42,7 @@ asked_fits s rs t a =
     let small : IsRead (get_or cs i c) = All-get_or IsRead cs i c (slice_get_within cs i c a.at) (commands_are_read s.text).fits in
     let same : get_or cs i c ≡ c = get_or_from_slice_get cs i c c a.at in
     let read : IsRead c = subst IsRead same small in
-    subst (λ (u : TransferView). IsTransfer u.msgs u.out) (sym a.same) (read_byte_fits c.get read)
+    subst (λ (u : TransferView). IsTransfer u.msgs u.out) (sym a.same) (transfer_fits c.cmd read)
 
 cost_some : (b : BoardView) (t : TransferView) → 1 ≤ cost_of b t
 cost_some b t = elim (nat_lt t.bus (buses b)) as (λ v. 1 ≤ cond v (1 + full_cost (hops b t.bus) (steps_of b t)) 1) [ true ↦ omega arith | false ↦ omega arith ]
@@ -73,7 +59,7 @@ asked_falls s rs t r a =
 pub scripts_fair : ScriptsAreFair
 scripts_fair =
     record {
-      sends = λ s rs t e. let a : IsAsked (slice_get (commands_of s.text) (length rs)) t = next_command s rs t e in rw a.same (omega arith);
+      sends = λ s rs t e. let a : IsAsked (slice_get (commands_of s.text) (length rs)) t = next_command s rs t e in rw a.same (transfer_sends a.command.cmd);
       limits = λ s rs t e. asked_fits s rs t (next_command s rs t e);
       costs = λ s rs t e. cost_some s.board t;
       falls = λ s rs t r e fit. asked_falls s rs t r (next_command s rs t e);
@@ -82,4 +68,4 @@ scripts_fair =
 pub left_most : (s : ScriptView) (taken : List Reply) → IsShallowBoard s.board → left_of s taken ≤ 15 * length (commands_of s.text)
 left_most s taken f =
     let cs : List CommandView = drop (length taken) (commands_of s.text) in
-    omega (arith, sum_by-le (cost_of_command s.board) 15 cs (λ k d h. shallow_cost s.board (get_or cs k d).get f), length-drop (length taken) (commands_of s.text))
+    omega (arith, sum_by-le (cost_of_command s.board) 15 cs (λ k d h. shallow_cost s.board (get_or cs k d).cmd f), length-drop (length taken) (commands_of s.text))

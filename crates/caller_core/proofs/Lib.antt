@@ -3,3 +3,4 @@ pub mod FairLemmas
 pub mod ScriptLemmas
 pub mod SectionLemmas
 pub mod ShallowLemmas
+pub mod TransferLemmas

@@ -11,8 +11,9 @@ use Rattle.i2c_base.specs.declared.board.MuxSpec.{MuxSpec}
 use Rattle.i2c_spec.specs.Tree.{Hop, hops, hops_of, hop_at, put_if, buses, buses_of, is_parent}
 use Rattle.i2c_spec.specs.Cost.{full_cost, cost_of}
 use Rattle.caller_core.specs.Steps.{IsShallowMux, IsShallowBoard}
-use Rattle.caller_core.specs.Scripts.{read_byte_of}
-use Rattle.tool_words.specs.declared.command.Get.{Get}
+use Rattle.caller_core.specs.Commands.{transfer_of}
+use Rattle.tool_words.specs.declared.line.Cmd.{Cmd}
+use Rattle.tool_words.specs.declared.line.Cmd.TheVariants as cmd
 
 -- one parent-locked switch of eight channels, on the root
 pub record HasOneHop (hs : List Hop) : Type 0 where
@@ -66,12 +67,6 @@ bare_cost hs x e = rw e (omega arith)
 switch_cost : (h : Hop) (x : ℕ) → h.parent ≡ true → h.kind ≡ Pca9548 → full_cost (h ∷ []) x ≤ 10 + x
 switch_cost h x p k = rw (p, k) (omega arith)
 
-few_cost : (hs : List Hop) (x : ℕ) → (hs ≡ []) ⊎ HasOneHop hs → full_cost hs x ≤ 10 + x
+pub few_cost : (hs : List Hop) (x : ℕ) → (hs ≡ []) ⊎ HasOneHop hs → full_cost hs x ≤ 10 + x
 few_cost hs x (inl e) = bare_cost hs x e
 few_cost hs x (inr o) = subst (λ (gs : List Hop). full_cost gs x ≤ 10 + x) (sym o.same) (switch_cost o.hop x o.locked o.kind_is)
-
--- a command costs at most fifteen steps
-pub shallow_cost : (b : BoardView) (g : Get) → IsShallowBoard b → cost_of b (read_byte_of g) ≤ 15
-shallow_cost b g f =
-    let full : full_cost (hops b g.bus) 4 ≤ 14 = few_cost (hops b g.bus) 4 (shallow_hops b g.bus f) in
-    elim (nat_lt g.bus (buses b)) as (λ v. cond v (1 + full_cost (hops b g.bus) 4) 1 ≤ 15) [ true ↦ omega (arith, full) | false ↦ omega arith ]

@@ -1,11 +1,10 @@
 -- A caller of one script.
-use Rattle.std.specs.Prelude.{◌≡◌, ℕ, ◌≤◌, List, [], length}
+use Rattle.std.specs.Prelude.{ℕ, List, []}
 use Rattle.i2c_base.specs.Board.{BoardView}
 use Rattle.i2c_base.specs.Script.{ScriptView}
 use Rattle.i2c_base.specs.declared.reply.Reply.{Reply}
 use Rattle.i2c_spec.specs.Fair.{IsFairCaller}
-use Rattle.tool_words.specs.Commands.{CommandView}
-use Rattle.caller_core.specs.Scripts.{commands_of, asked_by, left_of}
+use Rattle.caller_core.specs.Scripts.{asked_by, left_of}
 
 -- what it was opened with, and the replies that it took
 pub record CallerView : Type 0 where
@@ -14,11 +13,6 @@ pub record CallerView : Type 0 where
 
 abbrev pub opened : BoardView → List ℕ → CallerView
 opened board text = record { script = record { board = board; text = text }; taken = [] }
-
--- it has the commands of its text, of which there are few, and room for the reply of each
-pub record IsCaller (text : List ℕ) (commands : List CommandView) (room : ℕ) : Type 0 where
-  pub whole : commands_of text ≡ commands
-  pub fits : length commands ≤ room
 
 abbrev pub board_of : ScriptView → BoardView
 board_of s = s.board

@@ -1,4 +1,6 @@
 pub mod Callers
+pub mod Commands
+pub mod Kept
 pub mod ScriptSteps
 pub mod Scripts
 pub mod Steps

@@ -1,22 +1,34 @@
 -- A script: the commands of its lines, in order, or the first line that isn't in the grammar.
-use Rattle.std.specs.Prelude.{⊤, ◌≡◌, ℕ, ◌+◌, false, List, [], ◌∷◌, ◌++◌, length, drop, codes, slice_get, Option, Some, None, Result, Ok, Err}
+use Rattle.std.specs.Prelude.{⊤, ◌≡◌, ℕ, ◌+◌, nat_le, List, [], ◌∷◌, ◌++◌, length, drop, codes, slice_get, Option, Some, None, Result, Ok, Err, if◌then◌else◌}
+use Rattle.std.specs.List.{sum_by}
 use Rattle.std.specs.Option.{option_map}
 use Rattle.i2c_base.specs.Board.{BoardView}
 use Rattle.i2c_base.specs.Script.{ScriptView}
-use Rattle.i2c_base.specs.Transfer.{TransferView, written, plain_read}
-use Rattle.i2c_base.specs.declared.transfer.Kind.TheVariants.{Smbus}
+use Rattle.i2c_base.specs.Transfer.{TransferView}
 use Rattle.i2c_base.specs.declared.reply.Reply.{Reply}
-use Rattle.i2c_base.specs.declared.reply.Reply.TheVariants as reply
-use Rattle.tool_words.specs.Fronts.{lines_of}
-use Rattle.std.specs.List.{flat_map, sum_by}
-use Rattle.bus_spec.specs.Lines.{errno_text, two_digits}
 use Rattle.i2c_spec.specs.Cost.{cost_of}
-use Rattle.tool_words.specs.Commands.{CommandView, line_read}
-use Rattle.tool_words.specs.declared.command.Get.{Get}
-use Rattle.tool_words.specs.declared.command.LineFault.{LineFault}
-use Rattle.tool_words.specs.declared.command.LineFault.TheVariants as line_fault
+use Rattle.tool_words.specs.Commands.{line_read}
+use Rattle.tool_words.specs.Fronts.{words_of, joined_words, lines_of}
+use Rattle.tool_words.specs.declared.line.Cmd.{Cmd}
+use Rattle.tool_words.specs.declared.fault.LineFault.{LineFault}
+use Rattle.tool_words.specs.declared.fault.LineFault.TheVariants as line_fault
+use Rattle.caller_core.specs.Commands.{transfer_of, answer_text}
 use Rattle.caller_core.specs.declared.script.ScriptFault.{ScriptFault}
 use Rattle.caller_core.specs.declared.script.ScriptFault.TheVariants as script_fault
+
+-- a command with its words as they are printed
+pub record CommandView : Type 0 where
+  pub echo : List ℕ
+  pub cmd : Cmd
+
+abbrev pub command_of : List ℕ → Cmd → CommandView
+command_of line c = record { echo = joined_words (words_of line); cmd = c }
+
+-- a line read behind so many commands: 1,000 is the most, and one more is refused at its first word
+abbrev pub at_most : ℕ → Result (Option Cmd) ℕ → Result (Option Cmd) ℕ
+at_most count (Ok None) = Ok None
+at_most count (Ok (Some c)) = if nat_le 1000 count then Err 0 else Ok (Some c)
+at_most count (Err word) = if nat_le 1000 count then Err 0 else Err word
 
 -- the line, from 1, and its refused word, from 0
 pub record Place : Type 0 where
@@ -27,15 +39,15 @@ abbrev pub behind_commands : List CommandView → Result (List CommandView) Plac
 behind_commands cs (Ok ds) = Ok (cs ++ ds)
 behind_commands cs (Err p) = Err p
 
-abbrev pub behind_line_read : ℕ → Result (Option CommandView) ℕ → Result (List CommandView) Place → Result (List CommandView) Place → Result (List CommandView) Place
-behind_line_read line (Err word) same more = Err (record { line = line; word = word })
-behind_line_read line (Ok None) same more = same
-behind_line_read line (Ok (Some c)) same more = behind_commands (c ∷ []) more
+abbrev pub behind_line_read : ℕ → List ℕ → Result (Option Cmd) ℕ → Result (List CommandView) Place → Result (List CommandView) Place → Result (List CommandView) Place
+behind_line_read number line (Err word) same more = Err (record { line = number; word = word })
+behind_line_read number line (Ok None) same more = same
+behind_line_read number line (Ok (Some c)) same more = behind_commands (command_of line c ∷ []) more
 
 -- the lines from this number on, behind so many commands
 abbrev pub lines_read : ℕ → ℕ → List (List ℕ) → Result (List CommandView) Place
-lines_read line count [] = Ok []
-lines_read line count (l ∷ ls) = behind_line_read line (line_read count l) (lines_read (line + 1) count ls) (lines_read (line + 1) (count + 1) ls)
+lines_read number count [] = Ok []
+lines_read number count (l ∷ ls) = behind_line_read number l (at_most count (line_read l)) (lines_read (number + 1) count ls) (lines_read (number + 1) (count + 1) ls)
 
 abbrev pub script_read : List ℕ → Result (List CommandView) Place
 script_read text = lines_read 1 0 (lines_of text)
@@ -56,46 +68,18 @@ commands_or_none (Err p) = []
 abbrev pub commands_of : List ℕ → List CommandView
 commands_of text = commands_or_none (script_read text)
 
--- the SMBus call Read Byte: the register's number is written, and a byte is read (SMBus 3.2 section 6.5.5)
-abbrev pub read_byte_of : Get → TransferView
-read_byte_of g =
-    record {
-      bus = g.bus;
-      kind = Smbus;
-      force = false;
-      msgs = written g.addr 1 ∷ plain_read g.addr 1 ∷ [];
-      out = g.reg ∷ [];
-    }
-
 abbrev pub asked_by : ScriptView → List Reply → Option TransferView
-asked_by s taken = option_map (λ c. read_byte_of c.get) (slice_get (commands_of s.text) (length taken))
+asked_by s taken = option_map (λ c. transfer_of c.cmd) (slice_get (commands_of s.text) (length taken))
 
 -- what a command can take of steps, and all that have no reply yet
 abbrev pub cost_of_command : BoardView → CommandView → ℕ
-cost_of_command b c = cost_of b (read_byte_of c.get)
+cost_of_command b c = cost_of b (transfer_of c.cmd)
 
 abbrev pub left_of : ScriptView → List Reply → ℕ
 left_of s taken = sum_by (cost_of_command s.board) (drop (length taken) (commands_of s.text))
 
--- bytes as words `0x..` with a space between each two
-abbrev pub byte_word : ℕ → List ℕ
-byte_word byte = codes "0x" ++ two_digits byte
-
-abbrev pub spaced_word : ℕ → List ℕ
-spaced_word byte = codes " 0x" ++ two_digits byte
-
-abbrev pub byte_words : List ℕ → List ℕ
-byte_words [] = []
-byte_words (b ∷ bs) = byte_word b ++ flat_map spaced_word bs
-
--- what a command prints for its reply
-abbrev pub answer_text : Reply → List ℕ
-answer_text reply.Done = codes "ok"
-answer_text (reply.Read bytes) = byte_words bytes
-answer_text (reply.Err errno) = errno_text errno
-
 abbrev pub command_text : CommandView → Reply → List ℕ
-command_text c r = codes "> " ++ (c.echo ++ (10 ∷ (answer_text r ++ 10 ∷ [])))
+command_text c r = codes "> " ++ (c.echo ++ (10 ∷ (answer_text c.cmd r ++ 10 ∷ [])))
 
 -- the section of a script after these replies, without its heading
 abbrev pub section_text : List CommandView → List Reply → List ℕ

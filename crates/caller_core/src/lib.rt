@@ -2,11 +2,13 @@
 //!
 //! Its public contract: `Script` is opened exactly where each line of its text is in the grammar, asks for the transfers
 //! of its commands one after the other, and prints them with their replies; a script is a fair caller
-//! (`scripts_are_fair`). Definitions: `specs/Scripts.antt` (a script, what it asks for and prints), `specs/Callers.antt`
-//! (a script as a caller), `specs/Steps.antt` (the boards on which its steps are counted).
+//! (`scripts_are_fair`). Definitions: `specs/Commands.antt` (what each command asks for and prints), `specs/Scripts.antt` (a
+//! script), `specs/Callers.antt` (a script as a caller), `specs/Steps.antt` (the boards on which its steps are counted).
 #![tactic(auto)]
 
+mod answer;
 mod caller;
+mod command;
 mod script;
 mod section;
 

@@ -1,64 +1,50 @@
-ghost use Rattle.std.specs.Prelude.{◌≡◌, ◌++◌, ◌∷◌, [], map, OnOk, IfOk};
-ghost use Rattle.std.specs.List.{flat_map};
-ghost use Rattle.caller_core.specs.Scripts.{spaced_word, byte_words, answer_text, command_text, section_text};
+ghost use Rattle.std.specs.Prelude.{◌≡◌, ◌++◌, ◌≤◌, length, map, All, OnOk, IfOk};
+ghost use Rattle.caller_core.specs.Kept.{command_in, commands_in, reply_of, replies_of, IsInside};
+ghost use Rattle.caller_core.specs.Scripts.{command_text, section_text};
 
-use bus_journal::{errno_name, push_bytes, push_hex};
-use i2c_base::{NoMemory, Reply};
+use crate::answer::Answer;
+use crate::command::push_answer;
+use crate::script::Placed;
+use bus_journal::push_bytes;
+use i2c_base::NoMemory;
+use packed::Packed;
 use std::alloc::Global;
-use tool_words::Command;
+use tool_words::push_joined;
 
-// Bytes as words, with a space before each.
-fn push_spaced_words(out: &mut Vec<u8>, bytes: &[u8]) -> Result<(), NoMemory>
-    ensures { OnOk result (out.new.items ≡ out.old.items ++ flat_map spaced_word bytes.now) }
+// A command of a text and its answer, each on a line.
+fn push_command(
+    out: &mut Vec<u8>,
+    text: &[u8],
+    command: Placed,
+    answer: Answer,
+    bytes: &[u8],
+) -> Result<(), NoMemory>
+    requires { IsInside (length text.now) command }
+    ensures { OnOk result (out.new.items ≡ out.old.items ++ command_text (command_in text.now command) (reply_of (answer, bytes.now))) }
 {
-    for byte in bytes {
-        push_bytes(out, b" 0x")?;
-        push_hex(out, *byte)?;
-    }
-    Ok(())
-}
-
-// Bytes as words, with a space between each two.
-fn push_byte_words(out: &mut Vec<u8>, bytes: &[u8]) -> Result<(), NoMemory>
-    ensures { OnOk result (out.new.items ≡ out.old.items ++ byte_words bytes.now) }
-{
-    if let Some((first, rest)) = bytes.split_first() {
-        push_bytes(out, b"0x")?;
-        push_hex(out, *first)?;
-        push_spaced_words(out, rest)?;
-    }
-    Ok(())
-}
-
-// What a command prints for its reply.
-fn push_answer(out: &mut Vec<u8>, reply: &Reply) -> Result<(), NoMemory>
-    ensures { OnOk result (out.new.items ≡ out.old.items ++ answer_text reply.now) }
-{
-    match reply {
-        Reply::Done => push_bytes(out, b"ok"),
-        Reply::Read(bytes) => push_byte_words(out, bytes.as_slice()),
-        Reply::Err(errno) => push_bytes(out, errno_name(*errno)),
-    }
-}
-
-// A command and its answer, each on a line.
-fn push_command(out: &mut Vec<u8>, command: &Command, reply: &Reply) -> Result<(), NoMemory>
-    ensures { OnOk result (out.new.items ≡ out.old.items ++ command_text command.now reply.now) }
-{
+    let (start, len) = (command.start as usize, command.len as usize);
     push_bytes(out, b"> ")?;
-    push_bytes(out, command.echo())?;
+    push_joined(out, &text[start..start + len])?;
     push_bytes(out, b"\n")?;
-    push_answer(out, reply)?;
+    push_answer(out, command.cmd, answer, bytes)?;
     push_bytes(out, b"\n")
 }
 
 /// The section of a script after these replies, without its heading: each command that has a reply, and its answer.
-pub fn section(alloc: Global, commands: &[Command], taken: &[Reply]) -> Result<Vec<u8>, NoMemory>
-    ensures { IfOk result (λ text. text.items ≡ section_text commands.now taken.now) }
+pub fn section(
+    alloc: Global,
+    text: &[u8],
+    commands: &[Placed],
+    taken: &Packed<Answer>,
+) -> Result<Vec<u8>, NoMemory>
+    requires { All (IsInside (length text.now)) commands.now }
+    ensures { IfOk result (λ out. out.items ≡ section_text (commands_in text.now commands.now) (replies_of taken.now.items)) }
 {
     let mut out = Vec::new(alloc);
-    for (command, reply) in commands.iter().zip(taken) {
-        push_command(&mut out, command, reply)?;
+    let count = commands.len().min(taken.len());
+    for place in 0..count {
+        let (answer, bytes) = taken.get(place);
+        push_command(&mut out, text, commands[place], *answer, bytes)?;
     }
     Ok(out)
 }

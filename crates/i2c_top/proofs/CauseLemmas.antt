@@ -5,9 +5,8 @@ use Rattle.i2c_top.specs.Checks.{HasAccepted, HasRejected, IsCheckCause}
 use Rattle.i2c_top.specs.Files.{Files}
 use Rattle.i2c_top.specs.Replays.{Names, script_name, HasBoard, HasNoBoard, HasScript, HasBadScript, HasSchedule, HasBadSchedule, HasFiles, IsReplayCause}
 use Rattle.i2c_top.specs.Requests.{Request, Replay, Check, NoForm, IsCause}
-use Rattle.caller_core.specs.Scripts.{Place, script_read, commands_of}
+use Rattle.caller_core.specs.Scripts.{CommandView, Place, script_read, commands_of}
 use Rattle.i2c_top.specs.Schedules.{schedule_fault}
-use Rattle.tool_words.specs.Commands.{CommandView}
 use Rattle.i2c_top.specs.declared.status.BoardRefusal.{BoardRefusal}
 use Rattle.i2c_top.specs.declared.status.Status.{Status}
 use Rattle.i2c_top.specs.declared.status.Status.TheVariants as status

@@ -95,11 +95,11 @@ fn built(board: Accepted) -> Result<Accepted, Status>
 }
 
 // The script of a text.
-fn script_of(alloc: Global, board: &Accepted, text: &[u8]) -> Result<Script, Status>
-    requires { length text.now ≤ 2 ^ 28 }
-    ensures opened { IfOk result (λ s. s ≡ opened board.now text.now) }
-    ensures read { OnOk result (script_read text.now ≡ Ok (commands_of text.now)) }
-    ensures refused { IfErr result (λ e. (e ≡ status.Memory) ⊎ IsBadScript (λ line word. script_read text.now ≡ Err (record { line = line; word = word })) e) }
+fn script_of(alloc: Global, board: &Accepted, text: Vec<u8>) -> Result<Script, Status>
+    requires { length text.items ≤ 2 ^ 28 }
+    ensures opened { IfOk result (λ s. s ≡ opened board.now text.items) }
+    ensures read { OnOk result (script_read text.items ≡ Ok (commands_of text.items)) }
+    ensures refused { IfErr result (λ e. (e ≡ status.Memory) ⊎ IsBadScript (λ line word. script_read text.items ≡ Err (record { line = line; word = word })) e) }
 {
     match Script::open(alloc, board, text) {
         Ok(script) => Ok(script),
@@ -160,7 +160,7 @@ fn script_in<S: Shelf>(
     ensures refused { IfErr result (IsRefusedAt 3 (IsBadScript (λ line word. IsTrue S.tells → HasBadScript (S.file shelf.old) name.now line word)) (S.faults shelf.old 3) (S.faults shelf.new 3)) }
 {
     let text = bytes_at(alloc, shelf, SCRIPT, name)?;
-    script_of(alloc, board, text.as_slice())
+    script_of(alloc, board, text)
 }
 
 // Reads the schedule's file.

@@ -1,60 +1,92 @@
 -- The first line and the first word of a text. The inductions go over its bytes.
-use Rattle.std.proofs.Common.{◌≡◌, ℕ, ◌+◌, ◌<◌, Bool, true, false, List, [], ◌∷◌, length, take, drop, refl, sym, ap, ◌∙◌, arith, cond, eqb, ◌&&◌, ◌||◌, not}
+use Rattle.std.proofs.Common.{◌≡◌, ℕ, ◌+◌, ◌<◌, Bool, true, false, List, [], ◌∷◌, ◌++◌, length, take, drop, refl, sym, ap, ◌∙◌, arith, cond, eqb, ◌&&◌, not}
 use Rattle.std.proofs.Common.{add-one, get_or}
-use Rattle.std.proofs.lemmas.List.{drop_more}
-use Rattle.tool_words.specs.Fronts.{is_blank, begins_word, onto_first, words_of, word_len, lines_of, first_line, behind_line, begins_feed, ends_line, line_len, skip_len}
+use Rattle.std.proofs.lemmas.Bool.Decides.{nat_tests}
+use Rattle.std.proofs.lemmas.List.{drop_more, drop_all, take_more}
+use Rattle.tool_words.specs.Fronts.{is_blank, begins_word, onto_first, words_of, word_len, lines_of, feed_at}
 
-onto_step : (f r s : Bool) (b : ℕ) (rest : List ℕ) (ls : List (List ℕ)) (first behind : List ℕ) → ls ≡ lines_of rest → ls ≡ first ∷ lines_of behind → (s ≡ true → first ≡ [])
-    → cond f ([] ∷ ls) (cond (r && s) ls (onto_first b ls)) ≡ cond (f || (r && s)) [] (b ∷ first) ∷ lines_of (cond f rest behind)
-onto_step true r s b rest ls first behind same e h = ap (λ x. [] ∷ x) same
-onto_step false true true b rest ls first behind same e h = e ∙ ap (λ f. f ∷ lines_of behind) (h refl)
-onto_step false true false b rest ls first behind same e h = ap (onto_first b) e
-onto_step false false s b rest ls first behind same e h = ap (onto_first b) e
+-- the bytes without a carriage return at their end
+abbrev without_return : List ℕ → List ℕ
+without_return [] = []
+without_return (b ∷ []) = cond (eqb b 13) [] (b ∷ [])
+without_return (b ∷ c ∷ cs) = b ∷ without_return (c ∷ cs)
 
-first_at_feed : (c : ℕ) (bs : List ℕ) → eqb c 10 ≡ true → first_line (c ∷ bs) ≡ []
-first_at_feed c bs e = ap (λ f. cond (f || (eqb c 13 && begins_feed bs)) [] (c ∷ first_line bs)) e
+-- a text cut at its first line feed, into its first line and the others
+abbrev cut : List ℕ → List ℕ → List (List ℕ)
+cut line [] = line ∷ []
+cut line (feed ∷ behind) = without_return line ∷ lines_of behind
+
+onto_cut : (b c : ℕ) (line rest : List ℕ) → onto_first b (cut (c ∷ line) rest) ≡ cut (b ∷ c ∷ line) rest
+onto_cut b c line [] = refl
+onto_cut b c line (feed ∷ behind) = refl
+
+cut_more : (r s : Bool) (b c n : ℕ) (bs : List ℕ) (ls : List (List ℕ)) → eqb b 13 ≡ r → ls ≡ cut (take (cond s 0 (n + 1)) (c ∷ bs)) (drop (cond s 0 (n + 1)) (c ∷ bs))
+    → cond (r && s) ls (onto_first b ls) ≡ cut (b ∷ take (cond s 0 (n + 1)) (c ∷ bs)) (drop (cond s 0 (n + 1)) (c ∷ bs))
+cut_more true true b c n bs ls is e = e ∙ ap (λ t. cond t [] (b ∷ []) ∷ lines_of bs) (sym is)
+cut_more false true b c n bs ls is e = ap (onto_first b) e ∙ ap (λ t. cond t [] (b ∷ []) ∷ lines_of bs) (sym is)
+cut_more true false b c n bs ls is e = let at = rw add-one at e in rw add-one (ap (onto_first b) at ∙ onto_cut b c (take n bs) (drop n bs))
+cut_more false false b c n bs ls is e = let at = rw add-one at e in rw add-one (ap (onto_first b) at ∙ onto_cut b c (take n bs) (drop n bs))
 
 -- a text that isn't empty is its first line and the lines behind it
-pub lines_first : (b : ℕ) (bs : List ℕ) → lines_of (b ∷ bs) ≡ first_line (b ∷ bs) ∷ lines_of (behind_line (b ∷ bs))
-lines_first b [] =
-    (elim (eqb b 10) as (λ f. (r : Bool) → cond f ([] ∷ []) (cond (r && false) [] ((b ∷ []) ∷ [])) ≡ cond (f || (r && false)) [] (b ∷ []) ∷ lines_of (cond f [] [])) [
+lines_cut : (b : ℕ) (bs : List ℕ) → lines_of (b ∷ bs) ≡ cut (take (feed_at (b ∷ bs)) (b ∷ bs)) (drop (feed_at (b ∷ bs)) (b ∷ bs))
+lines_cut b [] =
+    (elim (eqb b 10) as (λ f. (r : Bool) → cond f ([] ∷ []) (cond (r && false) [] ((b ∷ []) ∷ [])) ≡ cut (take (cond f 0 (0 + 1)) (b ∷ [])) (drop (cond f 0 (0 + 1)) (b ∷ []))) [
       | true ↦ λ r. refl
       | false ↦ elim [ true ↦ refl | false ↦ refl ]
     ]) (eqb b 13)
-lines_first b (c ∷ bs) =
-    onto_step (eqb b 10) (eqb b 13) (eqb c 10) b (c ∷ bs) (lines_of (c ∷ bs)) (first_line (c ∷ bs)) (behind_line (c ∷ bs)) refl (lines_first c bs) (first_at_feed c bs)
-
--- its first line and what stands behind it are cut by their lengths
-line_take : (xs : List ℕ) → take (line_len xs) xs ≡ first_line xs
-line_take [] = refl
-line_take (b ∷ bs) =
-    elim (ends_line (b ∷ bs)) as (λ s. take (cond s 0 (line_len bs + 1)) (b ∷ bs) ≡ cond s [] (b ∷ first_line bs)) [
+lines_cut b (c ∷ cs) =
+    let ls : List (List ℕ) = lines_of (c ∷ cs) in
+    let n : ℕ = feed_at (c ∷ cs) in
+    elim (eqb b 10) as (λ f. cond f ([] ∷ ls) (cond (eqb b 13 && eqb c 10) ls (onto_first b ls)) ≡ cut (take (cond f 0 (n + 1)) (b ∷ c ∷ cs)) (drop (cond f 0 (n + 1)) (b ∷ c ∷ cs))) [
       | true ↦ refl
-      | false ↦ rw add-one (ap (λ ys. b ∷ ys) (line_take bs))
+      | false ↦ rw (add-one n) (cut_more (eqb b 13) (eqb c 10) b c (feed_at cs) cs ls refl (lines_cut c cs))
     ]
 
-line_drop : (xs : List ℕ) → drop (skip_len xs) xs ≡ behind_line xs
-line_drop [] = refl
-line_drop (b ∷ bs) =
-    elim (eqb b 10) as (λ s. drop (cond s 1 (skip_len bs + 1)) (b ∷ bs) ≡ cond s bs (behind_line bs)) [
-      | true ↦ refl
-      | false ↦ rw add-one (line_drop bs)
-    ]
+cut_whole : (xs line rest : List ℕ) → 0 < length xs → line ≡ take (feed_at xs) xs → rest ≡ drop (feed_at xs) xs → lines_of xs ≡ cut line rest
+cut_whole [] line rest some l r = absurd (omega arith)
+cut_whole (b ∷ bs) line rest some l r = lines_cut b bs ∙ ap (λ x. cut x (drop (feed_at (b ∷ bs)) (b ∷ bs))) (sym l) ∙ ap (cut line) (sym r)
 
-skip_some : (b : ℕ) (bs : List ℕ) → 0 < skip_len (b ∷ bs)
-skip_some b bs = elim (eqb b 10) as (λ s. 0 < cond s 1 (skip_len bs + 1)) [ true ↦ omega arith | false ↦ omega arith ]
+-- a line whose last byte is this one
+onto_choice : (t : Bool) (b : ℕ) (xs ys : List ℕ) → b ∷ cond t xs ys ≡ cond t (b ∷ xs) (b ∷ ys)
+onto_choice true b xs ys = refl
+onto_choice false b xs ys = refl
 
-pub record IsCut (xs first behind : List ℕ) : Type 0 where
-  pub split : lines_of xs ≡ first ∷ lines_of behind
-  pub skipped : 0 < skip_len xs
+without_last : (xs : List ℕ) (x : ℕ) → without_return (xs ++ x ∷ []) ≡ cond (eqb x 13) xs (xs ++ x ∷ [])
+without_last [] x = refl
+without_last (b ∷ []) x = onto_choice (eqb x 13) b [] (x ∷ [])
+without_last (b ∷ c ∷ cs) x = ap (λ ys. b ∷ ys) (without_last (c ∷ cs) x) ∙ onto_choice (eqb x 13) b (c ∷ cs) (c ∷ cs ++ x ∷ [])
 
-pub line_cuts : (xs first behind : List ℕ) → 0 < length xs → first ≡ take (line_len xs) xs → behind ≡ drop (skip_len xs) xs → IsCut xs first behind
-line_cuts [] first behind some f b = absurd (omega arith)
-line_cuts (x ∷ xs) first behind some f b =
-    record {
-      split = lines_first x xs ∙ ap (λ l. l ∷ lines_of (behind_line (x ∷ xs))) (sym (f ∙ line_take (x ∷ xs))) ∙ ap (λ r. first ∷ lines_of r) (sym (b ∙ line_drop (x ∷ xs)));
-      skipped = skip_some x xs;
-    }
+-- the first line of a text whose first line feed stands behind a carriage return, behind another byte, or nowhere
+at_feed : (xs : List ℕ) (n : ℕ) → feed_at xs ≡ n → n < length xs → lines_of xs ≡ without_return (take n xs) ∷ lines_of (drop (n + 1) xs)
+at_feed xs n is within =
+    let some : 0 < length xs = omega arith in
+    let rest : drop n xs ≡ get_or xs n 0 ∷ drop (n + 1) xs = drop_more xs n 0 within in
+    cut_whole xs (take n xs) (drop n xs) some (ap (λ k. take k xs) (sym is)) (ap (λ k. drop k xs) (sym is)) ∙ ap (cut (take n xs)) rest
+
+return_at : (xs : List ℕ) (m : ℕ) → m < length xs → without_return (take (m + 1) xs) ≡ cond (eqb (get_or xs m 0) 13) (take m xs) (take (m + 1) xs)
+return_at xs m within =
+    let e : take (m + 1) xs ≡ take m xs ++ get_or xs m 0 ∷ [] = take_more xs m 0 within in
+    ap without_return e ∙ without_last (take m xs) (get_or xs m 0) ∙ ap (λ ys. cond (eqb (get_or xs m 0) 13) (take m xs) ys) (sym e)
+
+pub cut_returned : (xs : List ℕ) (m : ℕ) → feed_at xs ≡ m + 1 → m + 1 < length xs → get_or xs m 0 ≡ 13 → lines_of xs ≡ take m xs ∷ lines_of (drop (m + 1 + 1) xs)
+cut_returned xs m is within returned =
+    let t : eqb (get_or xs m 0) 13 ≡ true = grind (arith, nat_tests) in
+    let inside : m < length xs = omega arith in
+    at_feed xs (m + 1) is within ∙ ap (λ line. line ∷ lines_of (drop (m + 1 + 1) xs)) (return_at xs m inside ∙ ap (λ s. cond s (take m xs) (take (m + 1) xs)) t)
+
+pub cut_plain : (xs : List ℕ) (m : ℕ) → feed_at xs ≡ m + 1 → m + 1 < length xs → (get_or xs m 0 ≡ 13 → ⊥) → lines_of xs ≡ take (m + 1) xs ∷ lines_of (drop (m + 1 + 1) xs)
+cut_plain xs m is within kept =
+    let t : eqb (get_or xs m 0) 13 ≡ false = grind (arith, nat_tests) in
+    let inside : m < length xs = omega arith in
+    at_feed xs (m + 1) is within ∙ ap (λ line. line ∷ lines_of (drop (m + 1 + 1) xs)) (return_at xs m inside ∙ ap (λ s. cond s (take m xs) (take (m + 1) xs)) t)
+
+pub cut_empty : (xs : List ℕ) → feed_at xs ≡ 0 → 0 < length xs → lines_of xs ≡ take 0 xs ∷ lines_of (drop 1 xs)
+cut_empty xs is within = at_feed xs 0 is within
+
+pub cut_over : (xs : List ℕ) → feed_at xs ≡ length xs → 0 < length xs → lines_of xs ≡ take (feed_at xs) xs ∷ lines_of (drop (feed_at xs) xs)
+cut_over xs is within =
+    let rest : drop (feed_at xs) xs ≡ [] = ap (λ k. drop k xs) is ∙ drop_all (length xs) xs (omega arith) in
+    cut_whole xs (take (feed_at xs) xs) (drop (feed_at xs) xs) within refl refl ∙ ap (cut (take (feed_at xs) xs)) rest ∙ ap (λ x. take (feed_at xs) xs ∷ lines_of x) (sym rest)
 
 -- a text that begins with a word is that word and the words behind it
 glued : (s : Bool) (b m : ℕ) (bs : List ℕ) (ws : List (List ℕ)) → (s ≡ true → ws ≡ take m bs ∷ words_of (drop m bs)) → (s ≡ false → m ≡ 0) → ws ≡ words_of bs
@@ -82,10 +114,9 @@ some_len [] e = cc
 some_len (b ∷ bs) e =
     (elim (is_blank b) as (λ s. not s ≡ true → 0 < cond s 0 (word_len bs + 1)) [ true ↦ λ h. cc | false ↦ λ h. omega arith ]) e
 
-len_more : (b : ℕ) (bs ys : List ℕ) → ys ≡ b ∷ bs → ends_line ys ≡ false → line_len ys ≡ line_len bs + 1
-len_more b bs ys e h =
-    let f : ends_line (b ∷ bs) ≡ false = ap ends_line (sym e) ∙ h in
-    ap line_len e ∙ ap (λ s. cond s 0 (line_len bs + 1)) f
+feed_more : (b : ℕ) (bs ys : List ℕ) → ys ≡ b ∷ bs → eqb b 10 ≡ false → feed_at ys ≡ feed_at bs + 1
+feed_more b bs ys e h = ap feed_at e ∙ ap (λ s. cond s 0 (feed_at bs + 1)) h
 
-pub line_len_more : (xs : List ℕ) (i : ℕ) → i < length xs → ends_line (drop i xs) ≡ false → line_len (drop i xs) ≡ line_len (drop (i + 1) xs) + 1
-line_len_more xs i h e = len_more (get_or xs i 0) (drop (i + 1) xs) (drop i xs) (drop_more xs i 0 h) e
+-- one byte more that is no line feed
+pub feed_at_more : (xs : List ℕ) (i : ℕ) → i < length xs → eqb (get_or xs i 0) 10 ≡ false → feed_at (drop i xs) ≡ feed_at (drop (i + 1) xs) + 1
+feed_at_more xs i h e = feed_more (get_or xs i 0) (drop (i + 1) xs) (drop i xs) (drop_more xs i 0 h) e

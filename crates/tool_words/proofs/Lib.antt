@@ -1,3 +1,6 @@
+pub mod AliveLemmas
 pub mod DigitLemmas
 pub mod FrontLemmas
-pub mod LongestLemmas
+pub mod GetLine
+pub mod LineLemmas
+pub mod LineSetLemmas

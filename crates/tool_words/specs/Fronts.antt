@@ -1,5 +1,5 @@
 -- A text as lines, and a line as words.
-use Rattle.std.specs.Prelude.{ℕ, ◌+◌, ◌==◌, Bool, true, false, not, ◌&&◌, ◌||◌, List, [], ◌∷◌, ◌++◌, if◌then◌else◌}
+use Rattle.std.specs.Prelude.{ℕ, ◌+◌, ◌==◌, Bool, false, not, ◌&&◌, ◌||◌, List, [], ◌∷◌, ◌++◌, if◌then◌else◌}
 use Rattle.std.specs.List.{flat_map}
 
 abbrev pub is_blank : ℕ → Bool
@@ -47,25 +47,7 @@ lines_of (b ∷ bs) =
     else if (b == 13) && begins_feed bs then lines_of bs
     else onto_first b (lines_of bs)
 
--- a line ends where the text does, at a line feed, and at a carriage return directly before one
-abbrev pub ends_line : List ℕ → Bool
-ends_line [] = true
-ends_line (b ∷ bs) = (b == 10) || ((b == 13) && begins_feed bs)
-
--- the first line, and what stands behind it
-abbrev pub first_line : List ℕ → List ℕ
-first_line [] = []
-first_line (b ∷ bs) = if ends_line (b ∷ bs) then [] else b ∷ first_line bs
-
-abbrev pub behind_line : List ℕ → List ℕ
-behind_line [] = []
-behind_line (b ∷ bs) = if b == 10 then bs else behind_line bs
-
--- how long the first line is, without its end and with it
-abbrev pub line_len : List ℕ → ℕ
-line_len [] = 0
-line_len (b ∷ bs) = if ends_line (b ∷ bs) then 0 else line_len bs + 1
-
-abbrev pub skip_len : List ℕ → ℕ
-skip_len [] = 0
-skip_len (b ∷ bs) = if b == 10 then 1 else skip_len bs + 1
+-- how many bytes stand before the first line feed
+abbrev pub feed_at : List ℕ → ℕ
+feed_at [] = 0
+feed_at (b ∷ bs) = if b == 10 then 0 else feed_at bs + 1

@@ -1,3 +1,6 @@
 pub mod Commands
 pub mod Fronts
+pub mod LineSets
+pub mod Lines
 pub mod Numbers
+pub mod Readers

@@ -1,8 +1,9 @@
-ghost use Rattle.std.specs.Prelude.{◌≡◌, ◌<◌, ◌≤◌, ◌+◌, ◌++◌, ◌∷◌, true, false, map, length, take, drop, IfOk, OnOk};
-ghost use Rattle.tool_words.specs.Fronts.{is_blank, word_len, words_of, first_line, behind_line, begins_word, begins_feed, ends_line, line_len, skip_len, lines_of};
+ghost use Rattle.std.specs.Prelude.{◌≡◌, ◌<◌, ◌≤◌, ◌∷◌, ◌++◌, true, length, take, drop, OnOk};
+ghost use Rattle.std.specs.List.{flat_map};
+ghost use Rattle.tool_words.specs.Fronts.{is_blank, word_len, words_of, behind_space, joined_words, begins_word, lines_of, feed_at};
+ghost use Rattle.tool_words.specs.Readers.{texts};
 
 use i2c_base::NoMemory;
-use std::alloc::Global;
 
 fn is_blank(byte: u8) -> bool
     ensures { result ≡ is_blank byte }
@@ -46,101 +47,93 @@ fn first_word(text: &[u8]) -> (&[u8], &[u8])
     text.split_at(len)
 }
 
-// What stands behind the blank with which a text begins.
-fn behind_blank(text: &[u8]) -> &[u8]
-    requires some { 0 < length text.now }
-    requires blank { begins_word text.now ≡ false }
+// A text without the blanks with which it begins.
+fn skip_blanks(text: &[u8]) -> &[u8]
     ensures words { words_of result.now ≡ words_of text.now }
-    ensures shorter { length result.now < length text.now }
+    ensures begins { 0 < length result.now → begins_word result.now ≡ true }
+    ensures within { length result.now ≤ length text.now }
 {
-    match text.split_first() {
-        Some((_, behind)) => behind,
-        None => text,
-    }
-}
-
-/// The words of a line, which stand between spaces and tabs.
-pub fn words_of<'a>(alloc: Global, line: &'a [u8]) -> Result<Vec<&'a [u8]>, NoMemory>
-    ensures { IfOk result (λ words. map (λ w. w.now) words.items ≡ words_of line.now) }
-{
-    let mut words = Vec::new(alloc);
-    let mut rest = line;
-    while !rest.is_empty() {
-        if begins_word(rest) {
-            let (word, behind) = first_word(rest);
-            words.push(word)?;
-            rest = behind;
-        } else {
-            rest = behind_blank(rest);
+    let mut rest = text;
+    while let Some((first, behind)) = rest.split_first() {
+        if !is_blank(*first) {
+            return rest;
         }
+        rest = behind;
     }
-    Ok(words)
+    rest
 }
 
-// The text begins with a line feed.
-fn begins_feed(text: &[u8]) -> bool
-    ensures { result ≡ begins_feed text.now }
+/// Puts the words of a line, which stand between spaces and tabs, in place of those that are there.
+pub fn split_words<'a>(words: &mut Vec<&'a [u8]>, line: &'a [u8]) -> Result<(), NoMemory>
+    ensures { OnOk result (texts words.new.items ≡ words_of line.now) }
 {
-    match text.first() {
-        Some(first) => *first == b'\n',
-        None => false,
+    words.clear();
+    let mut rest = skip_blanks(line);
+    while !rest.is_empty() {
+        let (word, behind) = first_word(rest);
+        words.push(word)?;
+        rest = skip_blanks(behind);
     }
+    Ok(())
 }
 
-// What stands behind the byte at this place.
-fn behind(text: &[u8], at: usize) -> &[u8]
-    requires { at < length text.now }
-    ensures { result.now ≡ drop (at + 1) text.now }
+// Puts the words of a text at the end, with a space before each.
+fn push_spaced(out: &mut Vec<u8>, text: &[u8]) -> Result<(), NoMemory>
+    ensures { OnOk result (out.new.items ≡ out.old.items ++ flat_map behind_space (words_of text.now)) }
 {
-    &text[at + 1..]
+    let mut rest = skip_blanks(text);
+    while !rest.is_empty() {
+        let (word, behind) = first_word(rest);
+        out.push(b' ')?;
+        out.extend_from_slice(word)?;
+        rest = skip_blanks(behind);
+    }
+    Ok(())
 }
 
-// The line ends at this place: at a line feed, or at a carriage return directly before one.
-fn ends_at(text: &[u8], at: usize) -> bool
-    requires { at < length text.now }
-    ensures { result ≡ ends_line (drop at text.now) }
+/// Puts the words of a line at the end, with one space between each two.
+pub fn push_joined(out: &mut Vec<u8>, line: &[u8]) -> Result<(), NoMemory>
+    ensures { OnOk result (out.new.items ≡ out.old.items ++ joined_words (words_of line.now)) }
 {
-    text[at] == b'\n' || (text[at] == b'\r' && begins_feed(behind(text, at)))
+    let rest = skip_blanks(line);
+    if rest.is_empty() {
+        return Ok(());
+    }
+    let (word, behind) = first_word(rest);
+    out.extend_from_slice(word)?;
+    push_spaced(out, behind)
 }
 
-// How long the first line of a text is.
-#[tactic(auto, using(crate::proofs::FrontLemmas::line_len_more))]
-fn line_len(text: &[u8]) -> usize
-    ensures value { result ≡ line_len text.now }
+// How many bytes stand before the first line feed of a text.
+#[tactic(auto, using(crate::proofs::FrontLemmas::feed_at_more))]
+fn feed_at(text: &[u8]) -> usize
+    ensures value { result ≡ feed_at text.now }
     ensures within { result ≤ length text.now }
 {
     for at in 0..text.len() {
-        if ends_at(text, at) {
+        if text[at] == b'\n' {
             return at;
         }
     }
     text.len()
 }
 
-// How long the first line of a text is with its end.
-fn skip_len(text: &[u8]) -> usize
-    ensures value { result ≡ skip_len text.now }
-    ensures some { 0 < length text.now → 0 < result }
-    ensures within { result ≤ length text.now }
-{
-    let mut len = 0;
-    for byte in text {
-        len += 1;
-        if *byte == b'\n' {
-            return len;
-        }
-    }
-    len
-}
-
-/// The first line of a text, and what stands behind it.
-#[tactic(auto, using(crate::proofs::FrontLemmas::line_cuts))]
-pub fn split_line(text: &[u8]) -> (&[u8], &[u8])
+/// How long the first line of a text is, without its end and with it.
+#[tactic(auto, using(crate::proofs::FrontLemmas::cut_over, crate::proofs::FrontLemmas::cut_plain, crate::proofs::FrontLemmas::cut_returned))]
+pub fn cut_line(text: &[u8]) -> (usize, usize)
     requires { 0 < length text.now }
-    ensures split { lines_of text.now ≡ result.0.now ∷ lines_of result.1.now }
-    ensures shorter { length result.1.now < length text.now }
+    ensures split { lines_of text.now ≡ take result.0 text.now ∷ lines_of (drop result.1 text.now) }
+    ensures inside { result.0 ≤ result.1 }
+    ensures some { 0 < result.1 }
+    ensures within { result.1 ≤ length text.now }
 {
-    let (line, _) = text.split_at(line_len(text));
-    let (_, behind) = text.split_at(skip_len(text));
-    (line, behind)
+    let feed = feed_at(text);
+    if feed == text.len() {
+        return (feed, feed);
+    }
+    if feed > 0 && text[feed - 1] == b'\r' {
+        (feed - 1, feed + 1)
+    } else {
+        (feed, feed + 1)
+    }
 }

@@ -1,15 +1,22 @@
 //! The words of a script's lines, after i2c-tools. The grammar in force has one line: `i2cget -y BUS ADDR REG`.
 //!
-//! Its public contract: `read_line` gives exactly the command of a line, or the first word that the grammar refuses
-//! (`line_read` of `specs/Commands.antt`); that word stands behind the longest front that begins a line
-//! (`the_refused_word_is_behind_the_longest_front`); `split_line` gives the first line of a text (`specs/Fronts.antt`).
+//! The grammar is a set of lines (`script_lines` of `specs/Lines.antt`, written as a tree by `specs/LineSets.antt`). Its
+//! public contract: `read_line` gives exactly the command of a line, or the first word that the grammar refuses
+//! (`line_read` of `specs/Commands.antt`); a line is read exactly where it is in the grammar (`each_line_is_read`), and
+//! a refused word stands behind the longest front that begins a line (`the_refused_word_is_behind_the_longest_front`);
+//! `cut_line` tells the first line of a text, and `push_joined` prints a line's words (`specs/Fronts.antt`).
 #![tactic(auto)]
 
-mod command;
+mod fault;
 mod front;
 mod laws;
+mod line;
 mod number;
+mod reader;
 
-pub use command::{Command, Get, LineFault, read_line};
-pub use front::split_line;
-pub use laws::the_refused_word_is_behind_the_longest_front;
+pub use fault::LineFault;
+pub use front::{cut_line, push_joined};
+pub use laws::{
+    each_field_is_in_range, each_line_is_read, the_refused_word_is_behind_the_longest_front,
+};
+pub use line::{Cmd, read_line};

@@ -1,14 +1,18 @@
-use Rattle.std.proofs.Common.{◌≡◌, ◌+◌, ◌≤◌, length}
+use Rattle.std.proofs.Common.{◌≡◌, ◌+◌, ◌-◌, ◌≤◌, length, drop}
+use Rattle.std.specs.Prelude.{All}
 use Rattle.tool_words.specs.Fronts.{lines_of}
+use Rattle.caller_core.specs.Kept.{commands_in, IsInside}
 use Rattle.caller_core.specs.Scripts.{script_read, lines_read, behind_commands}
 use Rattle.caller_core.proofs.script.read_script.Given as goal
 
-abbrev pub decreases-loop-rest : goal.decreases-loop-rest
-decreases-loop-rest l = length l.rest
+abbrev pub decreases-loop-at : goal.decreases-loop-at
+decreases-loop-at l = length l.text - l.at
 
-abbrev pub invariant-loop-rest : goal.invariant-loop-rest
-invariant-loop-rest l =
+abbrev pub invariant-loop-at : goal.invariant-loop-at
+invariant-loop-at l =
     record {
-      within : l.number + length l.rest ≤ length l.fn.text;
-      same : behind_commands l.commands.items (lines_read (l.number + 1) (length l.commands.items) (lines_of l.rest)) ≡ script_read l.fn.text;
+      within : l.at ≤ length l.text;
+      count : l.number ≤ l.at;
+      inside : All (IsInside (length l.text)) l.commands.items;
+      same : behind_commands (commands_in l.text l.commands.items) (lines_read (l.number + 1) (length l.commands.items) (lines_of (drop l.at l.text))) ≡ script_read l.text;
     }

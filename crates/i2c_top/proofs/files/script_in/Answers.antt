@@ -1,7 +1,6 @@
-use Rattle.std.proofs.Common.{sym, ap, ◌∙◌, Some}
 use Rattle.i2c_top.proofs.FileLemmas.{script_in}
 use Rattle.i2c_top.proofs.files.script_in.Goals as goal
 
 pub returns-clause-script : goal.returns-clause-script
 returns-clause-script g c =
-    λ t. script_in _ _ _ _ c.script_of.result (c.in_ok-text.ensures.bytes t ∙ ap (λ x. Some x) (sym c.as_slice.ensures.value)) c.script_of.ensures.opened c.script_of.ensures.read
+    λ t. script_in _ _ _ _ c.script_of.result (c.in_ok-text.ensures.bytes t) c.script_of.ensures.opened c.script_of.ensures.read
