@@ -16,6 +16,3 @@ pub use laws::a_line_tells_its_entry;
 pub use line::{entry_text, errno_name, push_entry};
 pub use read::{EntryFault, read_entry};
 pub use text::{push_bytes, push_decimal, push_hex, push_joined, push_number, push_spaced};
-
-#[cfg(test)]
-mod tests;
