@@ -89,16 +89,16 @@ seat-rests b next s some over settled root count empty =
     }
 
 -- nothing is spent, and what the caller has left is all that is owed
-pub within-open : (b : BoardView) (limit left : ℕ) (s : Seat) (entries room : ℕ) (tells : Bool) (logs : List (List PortCall))
-    → walk_left b s ≡ Ends → s.settled ≡ true → left ≤ limit → 2 * limit + 515 ≤ 2000000 → entries ≡ 0 → 2 * limit ≤ room → (IsTrue tells → All (λ l. length l ≤ 0) logs)
-    → IsWithinLimit b limit 0 left s 0 entries room tells logs
-within-open b limit left s entries room tells logs over settled covers most blank capacity calls =
+pub within-open : (b : BoardView) (limit left : ℕ) (s : Seat) (room room_bytes : ℕ) (tells : Bool) (logs : List (List PortCall))
+    → walk_left b s ≡ Ends → s.settled ≡ true → left ≤ limit → 2 * limit + 515 ≤ 2000000 → room ≡ 2 * limit → room_bytes ≡ 2 * limit → (IsTrue tells → All (λ l. length l ≤ 0) logs)
+    → IsWithinLimit b limit 0 left s 0 room room_bytes tells logs
+within-open b limit left s room room_bytes tells logs over settled covers most capacity capacity_bytes calls =
     record {
       ahead = 0;
       within = subst (λ (w : WalkTree). IsWithin b w 0) (sym over) tt;
       owes = (let owed : owed_behind b left s ≡ left = rw settled refl in omega (arith, owed, covers));
       most = most;
-      made = omega (arith, blank);
-      room_left = capacity;
+      entries = omega (arith, capacity);
+      bytes = (let owed : length (got_told s) ≡ 0 = rw settled refl in omega (arith, owed, capacity_bytes));
       calls = calls;
     }

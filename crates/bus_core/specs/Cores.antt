@@ -108,12 +108,13 @@ IsSaid tells asked left board v = IsCore tells asked left board v ⊎ ((verdict 
 abbrev pub owed_behind : BoardView → ℕ → Seat → ℕ
 owed_behind b left s = if s.settled then left else left - cost_of b s.transfer
 
--- so much was done of at most this: the journal has room for the rest, and for so many entries more; so have the logs
-pub record IsWithinLimit (b : BoardView) (limit spent left : ℕ) (s : Seat) (more entries room : ℕ) (tells : Bool) (logs : List (List PortCall)) : Type 0 where
+-- so much was done of at most this: the journal has room for the rest, and for so many entries more, and for their
+-- bytes; so have the logs. A message has no more bytes than it costs, and its transfer's settle tells no others
+pub record IsWithinLimit (b : BoardView) (limit spent left : ℕ) (s : Seat) (more room room_bytes : ℕ) (tells : Bool) (logs : List (List PortCall)) : Type 0 where
   pub ahead : ℕ
   pub within : IsWithin b (walk_left b s) ahead
   pub owes : spent + ahead + owed_behind b left s ≤ limit
   pub most : 2 * limit + 515 ≤ 2000000
-  pub made : entries + more ≤ 2 * spent
-  pub room_left : 2 * limit ≤ room
+  pub entries : 2 * limit + more ≤ room + 2 * spent
+  pub bytes : 2 * limit + length (got_told s) ≤ room_bytes + 2 * spent
   pub calls : IsTrue tells → All (λ l. length l ≤ 2 * spent) logs

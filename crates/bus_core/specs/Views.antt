@@ -1,5 +1,5 @@
 -- The parts of the core as contracts see them.
-use Rattle.std.specs.Prelude.{ℕ, ◌<◌, Bool, List, Option, map, vec_len, vec_capacity}
+use Rattle.std.specs.Prelude.{ℕ, ◌<◌, Bool, List, Option, map}
 use Rattle.i2c_base.specs.declared.port.PortCall.{PortCall}
 use Rattle.i2c_base.specs.declared.reply.Reply.{Reply}
 use Rattle.i2c_base.specs.Script.{ScriptView}
@@ -17,7 +17,7 @@ view_of world log script taken p =
       taken = taken p.caller;
       seat = p.seat;
       marks = p.marks.items;
-      journal = p.journal.items;
+      journal = p.journal.entries;
       worlds = map world p.ports.items;
       logs = map log p.ports.items;
     }
@@ -34,7 +34,7 @@ IsBehind tells world log asked left board script taken p = IsSaid tells asked le
 -- so much was spent, and the journal has room for so many entries more
 abbrev pub IsSpent : {P C : Type 0} → Bool → (P → List PortCall) → (ScriptView → List Reply → ℕ) → (C → ScriptView) → (C → List Reply) → ℕ → ℕ → Parts P C → Type 0
 IsSpent tells log left script taken more spent p =
-    IsWithinLimit p.board.now p.limit spent (left (script p.caller) (taken p.caller)) p.seat more (vec_len p.journal) (vec_capacity p.journal) tells (map log p.ports.items)
+    IsWithinLimit p.board.now p.limit spent (left (script p.caller) (taken p.caller)) p.seat more p.journal.room p.journal.room_bytes tells (map log p.ports.items)
 
 -- something more was spent
 pub record IsMore {P C : Type 0} (tells : Bool) (log : P → List PortCall) (left : ScriptView → List Reply → ℕ) (script : C → ScriptView) (taken : C → List Reply) (more spent : ℕ) (p : Parts P C) : Type 0 where

@@ -34,6 +34,7 @@ fn say<P: Port>(ports: &mut Vec<P>, root: usize, message: &Message<'_>, last: bo
         (talk world_listener limit w message.now last (cut_of result.end)) result.bytes result.end }
     ensures heard { IsTrue P.tells → (w : World) → slice_get (map P.world ports.old.items) root ≡ Some w → start_failed result.end ≡ false → result.heard ≡ has_heard (answer w message.now.addr message.now.reading) }
     ensures unheard { start_failed result.end ≡ true → result.heard ≡ false }
+    ensures few { length result.bytes ≤ message.now.len }
     ensures read { result.end ≡ End.Ok → message.now.reading ≡ true → length result.bytes ≡ message.now.len }
     ensures logs { IsTrue P.tells → (n : ℕ) → All (λ l. length l ≤ n) (map P.log ports.old.items) → All (λ l. length l ≤ n + 2 * (1 + message.now.len)) (map P.log ports.new.items) }
 {
@@ -87,6 +88,7 @@ fn send_call<P: Port>(board: &Accepted, ports: &mut Vec<P>, seat: &Seat, last: b
     ensures reading { result.reading ≡ (call_message seat.now).reading }
     ensures said { IsTrue P.tells → (w : World) (log : List PortCall) → slice_get (map P.world ports.old.items) seat.now.root ≡ Some w → slice_get (map P.log ports.old.items) seat.now.root ≡ Some log
         → HasSent board.now seat.now purpose.Call (call_message seat.now) last (map P.world ports.old.items) (map P.world ports.new.items) (map P.log ports.old.items) (map P.log ports.new.items) w log result.bytes result.heard result.end }
+    ensures few { length result.bytes ≤ (call_message seat.now).len }
     ensures read { result.end ≡ End.Ok → (call_message seat.now).reading ≡ true → length result.bytes ≡ (call_message seat.now).len }
     ensures logs { IsTrue P.tells → (n : ℕ) → All (λ l. length l ≤ n) (map P.log ports.old.items) → All (λ l. length l ≤ n + 2 * (1 + (call_message seat.now).len)) (map P.log ports.new.items) }
 {
@@ -114,6 +116,7 @@ fn switch<P: Port>(ports: &mut Vec<P>, root: usize, addr: Addr, byte: Option<u8>
     ensures heard { IsTrue P.tells → (w : World) → slice_get (map P.world ports.old.items) root ≡ Some w → start_failed result.end ≡ false
         → result.heard ≡ has_heard (answer w (control_message addr byte).addr (control_message addr byte).reading) }
     ensures unheard { start_failed result.end ≡ true → result.heard ≡ false }
+    ensures few { length result.bytes ≤ (control_message addr byte).len }
     ensures logs { IsTrue P.tells → (n : ℕ) → All (λ l. length l ≤ n) (map P.log ports.old.items) → All (λ l. length l ≤ n + 2 * (1 + (control_message addr byte).len)) (map P.log ports.new.items) }
 {
     match byte {
@@ -156,6 +159,7 @@ fn send_control<P: Port>(
     ensures chip { IsChipAddress board.now (purpose.Control mux) result.addr }
     ensures said { IsTrue P.tells → (w : World) (log : List PortCall) → slice_get (map P.world ports.old.items) seat.now.root ≡ Some w → slice_get (map P.log ports.old.items) seat.now.root ≡ Some log
         → HasSent board.now seat.now (purpose.Control mux) (control_message result.addr byte) true (map P.world ports.old.items) (map P.world ports.new.items) (map P.log ports.old.items) (map P.log ports.new.items) w log result.bytes result.heard result.end }
+    ensures few { length result.bytes ≤ (control_message result.addr byte).len }
     ensures logs { IsTrue P.tells → (n : ℕ) → All (λ l. length l ≤ n) (map P.log ports.old.items) → All (λ l. length l ≤ n + 2 * (1 + (control_message result.addr byte).len)) (map P.log ports.new.items) }
 {
     let addr = chip_addr(board.board(), mux);
@@ -185,6 +189,7 @@ pub fn send<P: Port>(board: &Accepted, ports: &mut Vec<P>, seat: &Seat, next: &S
     ensures said { IsTrue P.tells → (w : World) (log : List PortCall) → slice_get (map P.world ports.old.items) seat.now.root ≡ Some w → slice_get (map P.log ports.old.items) seat.now.root ≡ Some log
         → HasSent board.now seat.now next.now.purpose (message_for seat.now next.now.purpose next.now.control result.addr) (ends_with next.now.purpose next.now.part next.now.parts)
         (map P.world ports.old.items) (map P.world ports.new.items) (map P.log ports.old.items) (map P.log ports.new.items) w log result.bytes result.heard result.end }
+    ensures few { length result.bytes ≤ (message_for seat.now next.now.purpose next.now.control result.addr).len }
     ensures read { is_call_through next.now.purpose result.end ≡ true → (call_message seat.now).reading ≡ true → length result.bytes ≡ (call_message seat.now).len }
     ensures logs { IsTrue P.tells → (n : ℕ) → All (λ l. length l ≤ n) (map P.log ports.old.items) → All (λ l. length l ≤ n + 2 * (1 + (message_for seat.now next.now.purpose next.now.control result.addr).len)) (map P.log ports.new.items) }
 {

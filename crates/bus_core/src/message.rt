@@ -105,6 +105,7 @@ fn put_all<P: Port>(port: &mut P, bytes: &[u8], last: bool) -> Told
     ensures log { IsTrue P.tells → length (P.log port.new) ≤ length (P.log port.old) + length bytes.now + 1 }
     ensures later { P.faults port.old ≤ P.faults port.new }
     ensures heard { result.heard ≡ true }
+    ensures few { length result.bytes ≤ length bytes.now }
     ensures whole { result.end ≡ End.Ok → result.bytes ≡ bytes.now }
     ensures behind { (q : ℕ) → result.end ≡ End.Cut q → 1 ≤ q }
     ensures place { (q : ℕ) → result.end ≡ End.Cut q → q ≤ length bytes.now + 1 }
@@ -142,6 +143,7 @@ fn get_all<P: Port>(port: &mut P, len: u16, last: bool) -> Told
     ensures log { IsTrue P.tells → length (P.log port.new) ≤ length (P.log port.old) + len + 1 }
     ensures later { P.faults port.old ≤ P.faults port.new }
     ensures heard { result.heard ≡ true }
+    ensures few { length result.bytes ≤ len }
     ensures whole { result.end ≡ End.Ok → length result.bytes ≡ len }
     ensures behind { (q : ℕ) → result.end ≡ End.Cut q → 1 ≤ q }
     ensures place { (q : ℕ) → result.end ≡ End.Cut q → q ≤ len + 1 }
@@ -178,6 +180,7 @@ fn go_on<P: Port>(port: &mut P, message: &Message<'_>, last: bool, answer: Answe
     ensures log { IsTrue P.tells → length (P.log port.new) ≤ length (P.log port.old) + message.now.len + length message.now.bytes + 1 }
     ensures later { P.faults port.old ≤ P.faults port.new }
     ensures heard { result.heard ≡ has_heard answer }
+    ensures few { length result.bytes ≤ data_len message.now }
     ensures read { result.end ≡ End.Ok → message.now.reading ≡ true → length result.bytes ≡ message.now.len }
     ensures written { result.end ≡ End.Ok → message.now.reading ≡ false → result.bytes ≡ message.now.bytes }
     ensures behind { (q : ℕ) → result.end ≡ End.Cut q → 1 ≤ q }
@@ -218,7 +221,8 @@ pub fn send_message<P: Port>(port: &mut P, message: &Message<'_>, last: bool) ->
     ensures heard { IsTrue P.tells → start_failed result.end ≡ false → result.heard ≡ has_heard (answer_of (P.world port.old) message.now.addr message.now.reading) }
     ensures unheard { start_failed result.end ≡ true → result.heard ≡ false }
 
-    // Over any port: all bytes where it went through, and the place and cause of a failed call.
+    // Over any port: no more bytes than it has, and all where it went through; the place and cause of a failed call.
+    ensures few { length result.bytes ≤ data_len message.now }
     ensures read { result.end ≡ End.Ok → message.now.reading ≡ true → length result.bytes ≡ message.now.len }
     ensures written { result.end ≡ End.Ok → message.now.reading ≡ false → result.bytes ≡ message.now.bytes }
     ensures place { (q : ℕ) → result.end ≡ End.Cut q → q ≤ data_len message.now + 1 }

@@ -1,5 +1,6 @@
 use crate::seat::Seat;
-use i2c_base::{Caller, Entry, MuxId};
+use bus_journal::Journal;
+use i2c_base::{Caller, MuxId};
 use i2c_board::Accepted;
 use i2c_outside::Port;
 
@@ -13,7 +14,8 @@ pub struct Parts<'b, P: Port, C: Caller> {
     pub seat: Seat,
     /// The mux on each bus that may have been left open.
     pub marks: Vec<Option<MuxId>>,
-    pub journal: Vec<Entry>,
-    /// At most so many steps are made. The journal has room for two entries of each.
+    pub journal: Journal,
+    /// At most so many steps are made. The journal has room for two entries of each, and for two bytes: a message costs
+    /// a step for each byte that it may have, and its bytes may stand once more in the settle of its transfer.
     pub limit: u32,
 }

@@ -1,8 +1,10 @@
-ghost use Rattle.std.specs.Prelude.{◌≡◌};
+ghost use Rattle.std.specs.Prelude.{◌≡◌, ◌≤◌, length};
 ghost use Rattle.i2c_base.specs.declared.entry.Entry.TheVariants as entry;
+ghost use Rattle.bus_journal.specs.Borrowed.{entry_seen, most_bytes};
 ghost use Rattle.bus_core.specs.Sends.{ends_with, is_call_through};
 
-use i2c_base::{Addr, ByteList, End, Entry, Node, Purpose, SegId};
+use bus_journal::{EntryRef, Head};
+use i2c_base::{Addr, ByteList, End, Node, Purpose, SegId};
 
 /// A message that a walk sends next.
 #[derive(Clone, Copy, Debug, PartialEq, Eq)]
@@ -46,20 +48,24 @@ impl Sending {
     }
 
     /// Its entry, of which this has come.
-    pub fn entry(&self, sent: &Sent) -> Entry
-        ensures { result ≡ entry.Message 0 self.now.bus self.now.purpose self.now.part self.now.parts sent.now.addr sent.now.reading sent.now.bytes sent.now.heard sent.now.end }
+    pub fn entry<'a>(&self, sent: &'a Sent) -> EntryRef<'a>
+        ensures seen { entry_seen result ≡ entry.Message 0 self.now.bus self.now.purpose self.now.part self.now.parts sent.now.addr sent.now.reading sent.now.bytes sent.now.heard sent.now.end }
+        ensures bytes { result.bytes.now ≡ sent.now.bytes }
+        ensures few { length result.bytes.now ≤ most_bytes result.head }
     {
-        Entry::Message {
-            caller: 0,
-            bus: self.bus,
-            purpose: self.purpose,
-            part: self.part,
-            parts: self.parts,
-            addr: sent.addr,
-            reading: sent.reading,
-            bytes: sent.bytes.copied(),
-            heard: sent.heard,
-            end: sent.end,
+        EntryRef {
+            head: Head::Message {
+                caller: 0,
+                bus: self.bus,
+                purpose: self.purpose,
+                part: self.part,
+                parts: self.parts,
+                addr: sent.addr,
+                reading: sent.reading,
+                heard: sent.heard,
+                end: sent.end,
+            },
+            bytes: sent.bytes.as_slice(),
         }
     }
 }

@@ -1,4 +1,4 @@
-ghost use Rattle.std.specs.Prelude.{◌≡◌, ◌*◌, ◌+◌, ◌≤◌, [], ℕ, None, OnOk, IfOk, All, IsTrue, true, length, map, replicate, vec_capacity};
+ghost use Rattle.std.specs.Prelude.{◌≡◌, ◌*◌, ◌+◌, ◌≤◌, [], ℕ, None, OnOk, IfOk, All, IsTrue, true, length, map, replicate};
 ghost use Rattle.i2c_base.specs.Phases.{MayStart};
 ghost use Rattle.i2c_base.specs.declared.port.Phase.{Phase};
 ghost use Rattle.i2c_spec.specs.Fair.{IsFairCaller};
@@ -13,26 +13,26 @@ ghost use Rattle.bus_core.specs.Views.{IsKept, IsSpent};
 use crate::parts::Parts;
 use crate::seat::Seat;
 use crate::steps::{StepAnswer, step};
-use i2c_base::{Caller, Entry, MuxId, NoMemory};
+use bus_journal::Journal;
+use i2c_base::{Caller, MuxId, NoMemory};
 use i2c_board::{Accepted, Board};
 use i2c_outside::Port;
 use std::alloc::Global;
 
-/// Room for the journal of so many steps, and a mark for each bus.
+/// Room for the journal of so many steps, two entries and two bytes each, and a mark for each bus.
 #[derive(Drop)]
 pub struct Room {
-    pub journal: Vec<Entry>,
+    pub journal: Journal,
     pub marks: Vec<Option<MuxId>>,
 }
 
 impl Room {
     pub fn new(alloc: Global, board: &Board, limit: u32) -> Result<Self, NoMemory>
         requires most { 2 * limit + 515 ≤ 2000000 }
-        ensures empty { IfOk result (λ room. room.journal.items ≡ []) }
-        ensures capacity { IfOk result (λ room. 2 * limit ≤ vec_capacity room.journal) }
+        ensures journal { IfOk result (λ room. room.journal ≡ record { entries = []; room = 2 * limit; room_bytes = 2 * limit }) }
         ensures marks { IfOk result (λ room. room.marks.items ≡ replicate (buses board.now) None) }
     {
-        let journal = Vec::with_capacity(alloc, 2 * limit as usize)?;
+        let journal = Journal::with_room(alloc, 2 * limit as usize, 2 * limit)?;
         let marks = vec![in alloc; None; usize::from(board.buses())]?;
         Ok(Room { journal, marks })
     }
@@ -54,8 +54,7 @@ pub fn open<'b, P: Port, C: Caller>(
     requires untaken { C.taken caller ≡ [] }
     requires covers { C.left (C.script caller) [] ≤ limit }
     requires most { 2 * limit + 515 ≤ 2000000 }
-    requires blank { room.journal.items ≡ [] }
-    requires capacity { 2 * limit ≤ vec_capacity room.journal }
+    requires blank { room.journal ≡ record { entries = []; room = 2 * limit; room_bytes = 2 * limit } }
     requires unmarked { room.marks.items ≡ replicate (buses board.now) None }
     requires count { length ports.items ≡ length board.now.roots }
     requires empty { IsTrue P.tells → All (λ p. P.log p ≡ []) ports.items }

@@ -13,7 +13,8 @@ use crate::converse::send;
 use crate::parts::Parts;
 use crate::seat::Seat;
 use crate::sending::{Sending, Sent};
-use i2c_base::{Caller, Cut, Entry, Errno, LockId, NoMemory, Reply, Transfer};
+use bus_journal::{EntryRef, Head};
+use i2c_base::{Caller, Cut, Errno, LockId, NoMemory, Reply, Transfer};
 use i2c_outside::Port;
 use i2c_spec::refusal;
 use mux_plan::{Action, Outcome};
@@ -30,7 +31,10 @@ fn take<P: Port, C: Caller>(parts: &mut Parts<'_, P, C>, lock: LockId)
     ensures limit { parts.new.limit ≡ parts.old.limit }
     ensures script { C.script parts.new.caller ≡ C.script parts.old.caller }
 {
-    parts.journal.push_reserved(Entry::Take { caller: 0, lock });
+    parts.journal.push(&EntryRef {
+        head: Head::Take { caller: 0, lock },
+        bytes: &[],
+    });
     parts.seat.pass(parts.board, &mut parts.marks);
 }
 
@@ -46,7 +50,10 @@ fn free<P: Port, C: Caller>(parts: &mut Parts<'_, P, C>, lock: LockId)
     ensures limit { parts.new.limit ≡ parts.old.limit }
     ensures script { C.script parts.new.caller ≡ C.script parts.old.caller }
 {
-    parts.journal.push_reserved(Entry::Free { caller: 0, lock });
+    parts.journal.push(&EntryRef {
+        head: Head::Free { caller: 0, lock },
+        bytes: &[],
+    });
     parts.seat.pass(parts.board, &mut parts.marks);
 }
 
@@ -66,7 +73,7 @@ fn converse<P: Port, C: Caller>(parts: &mut Parts<'_, P, C>, next: &Sending)
     ensures caller { parts.new.caller ≡ parts.old.caller }
 {
     let sent = send(parts.board, &mut parts.ports, &parts.seat, next);
-    parts.journal.push_reserved(next.entry(&sent));
+    parts.journal.push(&next.entry(&sent));
     parts.seat.hear(next, &sent);
     let Sent { bytes, end, .. } = sent;
     let outcome = Outcome::Sent { end, bytes };
@@ -89,11 +96,8 @@ fn settle<P: Port, C: Caller>(parts: &mut Parts<'_, P, C>) -> Result<(), NoMemor
     };
     let reply = parts.seat.reply(verdict);
     parts.caller.take(&reply)?;
-    parts.journal.push_reserved(Entry::Settle {
-        caller: 0,
-        reply,
-        cut: parts.seat.cut,
-    });
+    let entry = EntryRef::settle(0, &reply, parts.seat.cut);
+    parts.journal.push(&entry);
     parts.seat.pass(parts.board, &mut parts.marks);
     parts.seat.settled = true;
     Ok(())
@@ -164,11 +168,8 @@ fn refuse<P: Port, C: Caller>(
 {
     let reply = Reply::Err(errno);
     parts.caller.take(&reply)?;
-    parts.journal.push_reserved(Entry::Settle {
-        caller: 0,
-        reply,
-        cut: parts.seat.cut,
-    });
+    let entry = EntryRef::settle(0, &reply, parts.seat.cut);
+    parts.journal.push(&entry);
     parts.seat.cut = Cut::No;
     Ok(())
 }

@@ -4,18 +4,18 @@
 //! seen as the list of its entries. The small texts that a line is made of are offered to whoever writes more lines.
 #![tactic(auto)]
 
+mod borrowed;
 mod cursor;
 mod journal;
 mod laws;
 mod line;
+mod ranges;
 mod read;
 mod text;
 
+pub use borrowed::{Answer, EntryRef, Head};
 pub use journal::Journal;
-pub use laws::a_line_tells_its_entry;
+pub use laws::{a_line_tells_its_entry, a_report_tells_its_journal};
 pub use line::{entry_text, errno_name, push_entry};
 pub use read::{EntryFault, read_entry};
 pub use text::{push_bytes, push_decimal, push_hex, push_joined, push_number, push_spaced};
-
-#[cfg(test)]
-mod tests;

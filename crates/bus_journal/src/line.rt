@@ -1,11 +1,13 @@
 ghost use Rattle.std.specs.Prelude.{◌≡◌, ◌++◌, OnOk, IfOk};
 ghost use Rattle.std.specs.Fmt.{decimal};
 ghost use Rattle.bus_spec.specs.Lines.{lock_text, purpose_text, direction_text, node_text, heard_text, end_text, errno_text, reply_text, cut_text, data_text, part_text, place_text, result_text, level_text, entry_line};
+ghost use Rattle.bus_journal.specs.Borrowed.{entry_seen, reply_by};
+ghost use Rattle.bus_journal.specs.Ranges.{IsEntry};
 
+use crate::borrowed::{Answer, EntryRef, Head};
+use crate::ranges::entry_is_in_range;
 use crate::text::{push_bytes, push_hex, push_joined, push_number, push_spaced};
-use i2c_base::{
-    Addr, Cut, End, Entry, Errno, LockId, MuxId, NoMemory, Node, Purpose, Reply, SegId,
-};
+use i2c_base::{Addr, Cut, End, Entry, Errno, LockId, MuxId, NoMemory, Node, Purpose, SegId};
 use std::alloc::Global;
 
 /// The name of an error, as Linux's fault-codes has it.
@@ -100,16 +102,16 @@ fn push_end(out: &mut Vec<u8>, end: End) -> Result<(), NoMemory>
     }
 }
 
-fn push_reply(out: &mut Vec<u8>, reply: &Reply) -> Result<(), NoMemory>
-    ensures { OnOk result (out.new.items ≡ out.old.items ++ reply_text reply.now) }
+fn push_reply(out: &mut Vec<u8>, answer: Answer, bytes: &[u8]) -> Result<(), NoMemory>
+    ensures { OnOk result (out.new.items ≡ out.old.items ++ reply_text (reply_by answer bytes.now)) }
 {
-    match reply {
-        Reply::Done => push_bytes(out, b"done"),
-        Reply::Read(bytes) => {
+    match answer {
+        Answer::Done => push_bytes(out, b"done"),
+        Answer::Read => {
             push_bytes(out, b"read")?;
-            push_spaced(out, bytes.as_slice())
+            push_spaced(out, bytes)
         }
-        Reply::Err(errno) => push_bytes(out, errno_name(*errno)),
+        Answer::Err(errno) => push_bytes(out, errno_name(errno)),
     }
 }
 
@@ -191,19 +193,20 @@ fn push_level(out: &mut Vec<u8>, mux: MuxId, level: u8, failed: bool) -> Result<
 }
 
 /// Puts the line of an entry at the end of a text, without its line feed.
-pub fn push_entry(out: &mut Vec<u8>, entry: &Entry) -> Result<(), NoMemory>
-    ensures { OnOk result (out.new.items ≡ out.old.items ++ entry_line entry.now) }
+pub fn push_entry(out: &mut Vec<u8>, entry: &EntryRef<'_>) -> Result<(), NoMemory>
+    ensures { OnOk result (out.new.items ≡ out.old.items ++ entry_line (entry_seen entry.now)) }
 {
-    match entry {
-        Entry::Take { caller, lock } => {
-            push_front(out, b"take ", *caller, b" ")?;
-            push_lock(out, *lock)
+    let bytes = entry.bytes;
+    match entry.head {
+        Head::Take { caller, lock } => {
+            push_front(out, b"take ", caller, b" ")?;
+            push_lock(out, lock)
         }
-        Entry::Free { caller, lock } => {
-            push_front(out, b"free ", *caller, b" ")?;
-            push_lock(out, *lock)
+        Head::Free { caller, lock } => {
+            push_front(out, b"free ", caller, b" ")?;
+            push_lock(out, lock)
         }
-        Entry::Message {
+        Head::Message {
             caller,
             bus,
             purpose,
@@ -211,37 +214,43 @@ pub fn push_entry(out: &mut Vec<u8>, entry: &Entry) -> Result<(), NoMemory>
             parts,
             addr,
             reading,
-            bytes,
             heard,
             end,
         } => {
-            push_place(out, *caller, *bus)?;
-            push_part(out, *purpose, *part, *parts)?;
-            push_data(out, *addr, *reading, bytes.as_slice())?;
-            push_result(out, *heard, *end)
+            push_place(out, caller, bus)?;
+            push_part(out, purpose, part, parts)?;
+            push_data(out, addr, reading, bytes)?;
+            push_result(out, heard, end)
         }
-        Entry::Line {
+        Head::Line {
             caller,
             mux,
             level,
             failed,
         } => {
-            push_front(out, b"line ", *caller, b" mux ")?;
-            push_level(out, *mux, *level, *failed)
+            push_front(out, b"line ", caller, b" mux ")?;
+            push_level(out, mux, level, failed)
         }
-        Entry::Settle { caller, reply, cut } => {
-            push_front(out, b"settle ", *caller, b" ")?;
-            push_reply(out, reply)?;
-            push_cut(out, *cut)
+        Head::Settle {
+            caller,
+            answer,
+            cut,
+        } => {
+            push_front(out, b"settle ", caller, b" ")?;
+            push_reply(out, answer, bytes)?;
+            push_cut(out, cut)
         }
     }
 }
 
 /// The line of an entry in the journal's text, without its line feed. It fails only for want of memory.
 pub fn entry_text(alloc: Global, entry: &Entry) -> Result<Vec<u8>, NoMemory>
-    ensures { IfOk result (λ text. text.items ≡ entry_line entry.now) }
+    ensures text { IfOk result (λ text. text.items ≡ entry_line entry.now) }
+    ensures in_range { IsEntry entry.now }
 {
+    let seen = EntryRef::new(entry);
+    entry_is_in_range(seen.head, seen.bytes);
     let mut out = Vec::new(alloc);
-    push_entry(&mut out, entry)?;
+    push_entry(&mut out, &seen)?;
     Ok(out)
 }

@@ -267,6 +267,7 @@ fn guess(line: &[u8]) -> Option<Entry>
 /// The one entry that the line could be is printed, and its text compared.
 pub fn read_entry(alloc: Global, line: &[u8]) -> Result<Entry, EntryFault>
     ensures ok { IfOk result (λ e. entry_line e ≡ line.now) }
+    ensures in_range { IfOk result IsEntry }
     ensures found { (e : Entry) → IsEntry e → entry_line e ≡ line.now → (result ≡ Ok e) ⊎ (result ≡ Err EntryFault.Memory) }
 {
     let Some(entry) = guess(line) else {

@@ -1,10 +1,11 @@
 ghost use Rattle.std.specs.Prelude.{◌≡◌, ℕ, ◌+◌, ◌<◌, ◌≤◌, ◌++◌, [], ◌∷◌, map, length, codes, OnOk, IfOk};
 ghost use Rattle.std.specs.List.{flat_map};
 ghost use Rattle.std.specs.Fmt.{decimal};
+ghost use Rattle.bus_journal.specs.Borrowed.{entry_seen};
 ghost use Rattle.bus_spec.specs.Report.{sections, ended_line, report_lines};
 
-use bus_journal::{Journal, push_bytes, push_entry, push_number};
-use i2c_base::{Entry, NoMemory};
+use bus_journal::{EntryRef, Journal, push_bytes, push_entry, push_number};
+use i2c_base::NoMemory;
 use std::alloc::Global;
 
 // A caller's section under its number.
@@ -26,18 +27,18 @@ fn push_sections(out: &mut Vec<u8>, texts: &[Vec<u8>]) -> Result<(), NoMemory>
     Ok(())
 }
 
-fn push_line(out: &mut Vec<u8>, entry: &Entry) -> Result<(), NoMemory>
-    ensures { OnOk result (out.new.items ≡ out.old.items ++ ended_line entry.now) }
+fn push_line(out: &mut Vec<u8>, entry: &EntryRef<'_>) -> Result<(), NoMemory>
+    ensures { OnOk result (out.new.items ≡ out.old.items ++ ended_line (entry_seen entry.now)) }
 {
     push_entry(out, entry)?;
     push_bytes(out, b"\n")
 }
 
-fn push_lines(out: &mut Vec<u8>, entries: &[Entry]) -> Result<(), NoMemory>
-    ensures { OnOk result (out.new.items ≡ out.old.items ++ flat_map ended_line entries.now) }
+fn push_lines(out: &mut Vec<u8>, journal: &Journal) -> Result<(), NoMemory>
+    ensures { OnOk result (out.new.items ≡ out.old.items ++ flat_map ended_line journal.now.entries) }
 {
-    for entry in entries {
-        push_line(out, entry)?;
+    for place in 0..journal.len() {
+        push_line(out, &journal.view(place))?;
     }
     Ok(())
 }
@@ -49,12 +50,12 @@ pub fn report_text(
     callers: &[Vec<u8>],
     journal: &Journal,
 ) -> Result<Vec<u8>, NoMemory>
-    ensures { IfOk result (λ text. text.items ≡ report_lines (map (λ v. v.items) callers.now) journal.now) }
+    ensures { IfOk result (λ text. text.items ≡ report_lines (map (λ v. v.items) callers.now) journal.now.entries) }
 {
     let mut out = Vec::new(alloc);
     push_sections(&mut out, callers)?;
     push_bytes(&mut out, b"journal\n")?;
-    push_lines(&mut out, journal.entries())?;
+    push_lines(&mut out, journal)?;
     push_bytes(&mut out, b"end\n")?;
     Ok(out)
 }

@@ -16,7 +16,7 @@ use crate::{Status, report_text};
 use bus_core::{Parts, Room, finish, open};
 use bus_journal::Journal;
 use caller_core::{Script, scripts_are_fair};
-use i2c_base::{Entry, NoMemory};
+use i2c_base::NoMemory;
 use i2c_board::Accepted;
 use i2c_outside::{Port, Rig, RigFail};
 use std::alloc::Global;
@@ -53,11 +53,11 @@ fn finished<'b, P: Port>(
 }
 
 // The report of one caller.
-fn report_of_run(alloc: Global, journal: Vec<Entry>, caller: &Script) -> Result<Vec<u8>, NoMemory>
-    ensures { IfOk result (λ text. text.items ≡ report_lines (section_text (commands_of caller.now.script.text) caller.now.taken ∷ []) journal.items) }
+fn report_of_run(alloc: Global, journal: &Journal, caller: &Script) -> Result<Vec<u8>, NoMemory>
+    ensures { IfOk result (λ text. text.items ≡ report_lines (section_text (commands_of caller.now.script.text) caller.now.taken ∷ []) journal.now.entries) }
 {
     let sections = [caller.text(alloc)?];
-    report_text(alloc, &sections, &Journal::new(journal))
+    report_text(alloc, &sections, journal)
 }
 
 /// Runs a script over the ports of a rig, and gives the report. A rig that was plugged is unplugged, whatever came of
@@ -87,7 +87,7 @@ pub fn run_script<R: Rig>(
     match finished(alloc, board, script, ports) {
         Ok(parts) => {
             rig.unplug(parts.ports);
-            Ok(report_of_run(alloc, parts.journal, &parts.caller)?)
+            Ok(report_of_run(alloc, &parts.journal, &parts.caller)?)
         }
         Err(ports) => {
             rig.unplug(ports);

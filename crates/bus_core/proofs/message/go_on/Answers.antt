@@ -27,6 +27,7 @@ returns-in_default g c = record {
   log = λ tells. omega (arith, c.stopped-in_default.ensures.log tells);
   later = c.stopped-in_default.ensures.later;
   heard = c.stopped-in_default.ensures.heard ∙ sym (unheard c.args.answer c.in_default.not-Ack c.in_default.not-Slow);
+  few = rw (c.stopped-in_default.ensures.bytes, c.new-in_default.ensures) (omega arith);
   read = λ good. absurd (let h = c.stopped-in_default.ensures.good good in cc);
   written = λ good. absurd (let h = c.stopped-in_default.ensures.good good in cc);
   behind = λ q e. omega (arith, c.stopped-in_default.ensures.place q e);

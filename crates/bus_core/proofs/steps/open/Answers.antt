@@ -1,5 +1,5 @@
 use Rattle.std.proofs.Common.{None, ◌≤◌, ◌<◌, sym, ◌∙◌, ap, subst}
-use Rattle.std.specs.Prelude.{map, vec_len, vec_capacity}
+use Rattle.std.specs.Prelude.{map}
 use Rattle.i2c_base.specs.Board.{BoardView}
 use Rattle.i2c_spec.specs.Cost.{cost_of}
 use Rattle.i2c_spec.specs.Tree.{buses}
@@ -36,8 +36,8 @@ returns-clause-within g c =
     let is = ap (λ s. s.transfer) c.open-parts.ensures.fields in
     λ spent w.
     within-opened parts.board.now parts.limit spent (g.C.Caller.left (g.C.Caller.script parts.caller) (g.C.Caller.taken parts.caller)) parts.seat 0
-    (vec_len parts.journal) (vec_capacity parts.journal) g.P.Port.tells (map g.P.Port.log parts.ports.items) w settled k.setup.plain k.setup.rules
-    c.open-parts.result (ap (λ s. s.settled) c.open-parts.ensures.fields)
+    parts.journal.room parts.journal.room_bytes g.P.Port.tells (map g.P.Port.log parts.ports.items) w settled k.setup.plain k.setup.rules
+    c.open-parts.result (ap (λ s. s.settled) c.open-parts.ensures.fields) (ap (λ s. s.got) c.open-parts.ensures.fields)
     (rw is (k.setup.fair.sends (g.C.Caller.script parts.caller) (g.C.Caller.taken parts.caller) c.args.transfer c.requires.asked))
     (rw is c.requires.granted) (c.open-parts.ensures.walk ∙ ap (λ t. walk_by parts.board.now t None) (sym is))
     (rw is (subst (λ (b : BoardView). 1 ≤ cost_of b c.args.transfer) k.setup.home cost.0))

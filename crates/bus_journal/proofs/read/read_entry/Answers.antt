@@ -16,5 +16,5 @@ pub returns-clause-found : goal.returns-clause-found
 returns-clause-found c = λ e is same.
     let guessed = guess_of-line e c.args.line.now c.guess.result c.guess.ensures is same in
     let at : c.in-Some.entry ≡ e = cc in
-    let shown : c.as_slice.result.now ≡ c.args.line.now = c.as_slice.ensures.value ∙ (c.in-Ok.ensures ∙ (ap entry_line at ∙ same)) in
+    let shown : c.as_slice.result.now ≡ c.args.line.now = c.as_slice.ensures.value ∙ (c.in-Ok.ensures.text ∙ (ap entry_line at ∙ same)) in
     absurd (other_text c.as_slice.result.now c.args.line.now (sym c.if-eq.false ∙ c.eq.ensures) shown)

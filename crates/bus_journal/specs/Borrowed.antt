@@ -1,0 +1,45 @@
+-- The entry that an entry with borrowed bytes stands for, and how many bytes it may have.
+use Rattle.std.specs.Prelude.{ℕ, List, []}
+use Rattle.i2c_base.specs.declared.reply.Reply.{Reply}
+use Rattle.i2c_base.specs.declared.reply.Reply.TheVariants as reply
+use Rattle.i2c_base.specs.declared.entry.Entry.{Entry}
+use Rattle.i2c_base.specs.declared.entry.Entry.TheVariants as entry
+use Rattle.bus_journal.specs.declared.borrowed.Answer.{Answer}
+use Rattle.bus_journal.specs.declared.borrowed.Answer.TheVariants as answer
+use Rattle.bus_journal.specs.declared.borrowed.Head.{Head}
+use Rattle.bus_journal.specs.declared.borrowed.Head.TheVariants as head
+use Rattle.bus_journal.specs.declared.borrowed.EntryRef.{EntryRef}
+
+abbrev pub reply_by : Answer → List ℕ → Reply
+reply_by answer.Done bytes = reply.Done
+reply_by answer.Read bytes = reply.Read bytes
+reply_by (answer.Err errno) bytes = reply.Err errno
+
+abbrev pub entry_by : Head → List ℕ → Entry
+entry_by (head.Take caller lock) bytes = entry.Take caller lock
+entry_by (head.Free caller lock) bytes = entry.Free caller lock
+entry_by (head.Message caller bus purpose part parts addr reading heard end) bytes = entry.Message caller bus purpose part parts addr reading bytes heard end
+entry_by (head.Line caller mux level failed) bytes = entry.Line caller mux level failed
+entry_by (head.Settle caller a cut) bytes = entry.Settle caller (reply_by a bytes) cut
+
+abbrev pub entry_seen : EntryRef → Entry
+entry_seen seen = entry_by seen.head seen.bytes.now
+
+-- the bytes of a reply
+abbrev pub bytes_replied : Reply → List ℕ
+bytes_replied reply.Done = []
+bytes_replied (reply.Read bytes) = bytes
+bytes_replied (reply.Err errno) = []
+
+-- a transfer reads at most 4,096 bytes, a message has at most 512, and no other entry has any
+abbrev pub most_read : Answer → ℕ
+most_read answer.Done = 0
+most_read answer.Read = 4096
+most_read (answer.Err errno) = 0
+
+abbrev pub most_bytes : Head → ℕ
+most_bytes (head.Take caller lock) = 0
+most_bytes (head.Free caller lock) = 0
+most_bytes (head.Message caller bus purpose part parts addr reading heard end) = 512
+most_bytes (head.Line caller mux level failed) = 0
+most_bytes (head.Settle caller a cut) = most_read a
