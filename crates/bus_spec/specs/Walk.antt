@@ -2,7 +2,6 @@
 -- the locks, selects, sends its messages, deselects, and frees the locks.)
 use Rattle.std.specs.Prelude.{ℕ, zero, suc, ◌-◌, ◌==◌, Bool, true, false, List, [], ◌∷◌, length, Option, Some, None, unwrap_or, if◌then◌else◌}
 use Rattle.i2c_base.specs.declared.board.MuxKind.{MuxKind}
-use Rattle.i2c_base.specs.declared.board.MuxKind.TheVariants.{Pca9548, Pca9546, Pca9544, Pca9541, Gpio}
 use Rattle.i2c_base.specs.declared.ids.LockId.{LockId}
 use Rattle.i2c_base.specs.declared.errno.Errno.{Errno}
 use Rattle.i2c_base.specs.declared.errno.Errno.TheVariants as errno
@@ -11,6 +10,7 @@ use Rattle.i2c_base.specs.declared.entry.End.TheVariants as end
 use Rattle.i2c_base.specs.declared.entry.Purpose.{Purpose}
 use Rattle.i2c_base.specs.declared.entry.Purpose.TheVariants as purpose
 use Rattle.i2c_base.specs.Board.{BoardView}
+use Rattle.i2c_base.specs.Muxes.{facts_of}
 use Rattle.i2c_spec.specs.Tree.{Hop, addr_of_mux}
 use Rattle.i2c_spec.specs.Chips.{select_value, close_value}
 use Rattle.i2c_spec.specs.Messages.{MessageView, write_byte, read_byte}
@@ -79,18 +79,10 @@ job_purpose (Select h) = purpose.Control h.mux
 job_purpose (Clear on mux kind) = purpose.Control mux
 
 abbrev pub is_gpio : MuxKind → Bool
-is_gpio Gpio = true
-is_gpio Pca9548 = false
-is_gpio Pca9546 = false
-is_gpio Pca9544 = false
-is_gpio Pca9541 = false
+is_gpio k = (facts_of k).by_line
 
 abbrev pub is_arbitrator : MuxKind → Bool
-is_arbitrator Pca9541 = true
-is_arbitrator Pca9548 = false
-is_arbitrator Pca9546 = false
-is_arbitrator Pca9544 = false
-is_arbitrator Gpio = false
+is_arbitrator k = (facts_of k).asks
 
 -- a gpio mux is switched by a line
 abbrev pub is_line : Job → Bool

@@ -1,1 +1,2 @@
 pub mod TransferLemmas
+pub mod MuxLemmas

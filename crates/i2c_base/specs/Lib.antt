@@ -1,6 +1,7 @@
 pub mod Addr
 pub mod Errno
 pub mod Board
+pub mod Muxes
 pub mod Bytes
 pub mod Transfer
 pub mod Fitting

@@ -1,7 +1,7 @@
 -- The keys of each table of a board file.
-use Rattle.std.specs.Prelude.{ℕ, ◌-◌, true, false, List, [], ◌∷◌, ◌++◌, codes}
+use Rattle.std.specs.Prelude.{ℕ, ◌-◌, true, false, List, [], ◌∷◌, ◌++◌, codes, if◌then◌else◌}
 use Rattle.i2c_base.specs.declared.board.MuxKind.{MuxKind}
-use Rattle.i2c_base.specs.declared.board.MuxKind.TheVariants as mux
+use Rattle.i2c_base.specs.Muxes.{facts_of}
 use Rattle.i2c_spec.specs.Plain.{size_of_eeprom}
 use Rattle.i2c_boardtext.specs.Rules.{KeyRule}
 use Rattle.i2c_boardtext.specs.declared.names.DeviceName.{DeviceName}
@@ -45,12 +45,18 @@ every_mux buses = bus_rule buses ∷ kind_rule ∷ may_have (codes "lock") Lock 
 abbrev pub chip_mux : ℕ → List KeyRule
 chip_mux buses = every_mux buses ++ address_rule ∷ may_have (codes "absent") Flag ∷ []
 
+abbrev pub arbitrator_mux : ℕ → List KeyRule
+arbitrator_mux buses = chip_mux buses ++ may_have (codes "foreign") (Range 0 8) ∷ []
+
+-- a mux that is switched by a line
+abbrev pub line_mux : ℕ → List KeyRule
+line_mux buses = every_mux buses ++ needs (codes "channels") (Range 1 8) ∷ []
+
 abbrev pub mux_rules : ℕ → MuxKind → List KeyRule
-mux_rules buses mux.Pca9548 = chip_mux buses
-mux_rules buses mux.Pca9546 = chip_mux buses
-mux_rules buses mux.Pca9544 = chip_mux buses
-mux_rules buses mux.Pca9541 = chip_mux buses ++ may_have (codes "foreign") (Range 0 8) ∷ []
-mux_rules buses mux.Gpio = every_mux buses ++ needs (codes "channels") (Range 1 8) ∷ []
+mux_rules buses k =
+    if (facts_of k).by_line then line_mux buses
+    else if (facts_of k).asks then arbitrator_mux buses
+    else chip_mux buses
 
 abbrev pub every_device : ℕ → List KeyRule
 every_device buses = bus_rule buses ∷ kind_rule ∷ address_rule ∷ may_have (codes "bound") Flag ∷ []

@@ -1,13 +1,13 @@
 -- What a table says, where nothing is wrong with it: a missing key has its default.
-use Rattle.std.specs.Prelude.{ℕ, Bool, false, List, [], ◌∷◌, map, codes, Option, Some, None, unwrap_or, option_and_then}
+use Rattle.std.specs.Prelude.{ℕ, Bool, false, List, [], ◌∷◌, map, codes, Option, Some, None, unwrap_or, option_and_then, if◌then◌else◌}
 use Rattle.toml.specs.Data.{Data, as_bool, Members, get_member}
 use Rattle.i2c_base.specs.Board.{RunView, DeviceView}
+use Rattle.i2c_base.specs.Muxes.{facts_of}
 use Rattle.i2c_base.specs.declared.board.DeviceKind.{DeviceKind}
 use Rattle.i2c_base.specs.declared.board.DeviceKind.TheVariants as kind
 use Rattle.i2c_base.specs.declared.board.Idle.TheVariants.{Disconnect}
 use Rattle.i2c_base.specs.declared.board.LockMode.TheVariants.{Parent}
 use Rattle.i2c_base.specs.declared.board.MuxKind.{MuxKind}
-use Rattle.i2c_base.specs.declared.board.MuxKind.TheVariants as mux
 use Rattle.i2c_base.specs.declared.board.MuxSpec.{MuxSpec}
 use Rattle.i2c_base.specs.declared.board.RootSpec.{RootSpec}
 use Rattle.i2c_boardtext.specs.Items.{elements, members_in, number, named_in}
@@ -55,40 +55,24 @@ top_value ms = record { roots = tables_in (get_member (codes "root") ms); muxes 
 abbrev pub root_value : Members → RootSpec
 root_value ms = record { smbus_only = word_or offers_named false (get_member (codes "offers") ms) }
 
--- the kind fixes the number of channels, but for a gpio mux
+-- the kind fixes the number of channels, or the board says it
 abbrev pub channels_value : MuxKind → Members → ℕ
-channels_value mux.Pca9548 ms = 8
-channels_value mux.Pca9546 ms = 4
-channels_value mux.Pca9544 ms = 4
-channels_value mux.Pca9541 ms = 1
-channels_value mux.Gpio ms = number_or 1 (get_member (codes "channels") ms)
+channels_value k ms = unwrap_or (facts_of k).channels (number_or 1 (get_member (codes "channels") ms))
 
 -- the address at a required key
 abbrev pub address_in : Members → ℕ
 address_in ms = number_or 8 (get_member (codes "address") ms)
 
--- a gpio mux has no chip, so no address, and none that could be absent
+-- a mux that is switched by a line has no chip, so no address, and none that could be absent
 abbrev pub chip_value : MuxKind → Members → Option ℕ
-chip_value mux.Pca9548 ms = Some (address_in ms)
-chip_value mux.Pca9546 ms = Some (address_in ms)
-chip_value mux.Pca9544 ms = Some (address_in ms)
-chip_value mux.Pca9541 ms = Some (address_in ms)
-chip_value mux.Gpio ms = None
+chip_value k ms = if (facts_of k).by_line then None else Some (address_in ms)
 
 abbrev pub absent_value : MuxKind → Members → Bool
-absent_value mux.Pca9548 ms = flag_in (get_member (codes "absent") ms)
-absent_value mux.Pca9546 ms = flag_in (get_member (codes "absent") ms)
-absent_value mux.Pca9544 ms = flag_in (get_member (codes "absent") ms)
-absent_value mux.Pca9541 ms = flag_in (get_member (codes "absent") ms)
-absent_value mux.Gpio ms = false
+absent_value k ms = if (facts_of k).by_line then false else flag_in (get_member (codes "absent") ms)
 
 -- only an arbitrator has another controller
 abbrev pub foreign_value : MuxKind → Members → ℕ
-foreign_value mux.Pca9548 ms = 0
-foreign_value mux.Pca9546 ms = 0
-foreign_value mux.Pca9544 ms = 0
-foreign_value mux.Pca9541 ms = number_or 0 (get_member (codes "foreign") ms)
-foreign_value mux.Gpio ms = 0
+foreign_value k ms = if (facts_of k).asks then number_or 0 (get_member (codes "foreign") ms) else 0
 
 abbrev pub mux_value : MuxKind → Members → MuxSpec
 mux_value kind ms =

@@ -1,8 +1,7 @@
 ghost use Rattle.std.specs.Prelude.{◌≡◌, ◌<◌, ◌≤◌};
 ghost use Rattle.toml.specs.View.{table_view};
 ghost use Rattle.i2c_spec.specs.Plain.{size_of_eeprom};
-ghost use Rattle.i2c_base.specs.declared.board.MuxKind.TheVariants.{Pca9541, Gpio};
-ghost use Rattle.i2c_boardtext.specs.Keys.{needs, may_have, bus_rule, address_rule, kind_rule, top_rules, root_rules, chip_mux, mux_rules, device_rules, eeprom_rules, lm75_rules, regs_rules, smbus_rules};
+ghost use Rattle.i2c_boardtext.specs.Keys.{needs, may_have, bus_rule, address_rule, kind_rule, top_rules, root_rules, chip_mux, arbitrator_mux, line_mux, mux_rules, device_rules, eeprom_rules, lm75_rules, regs_rules, smbus_rules};
 ghost use Rattle.i2c_boardtext.specs.Rules.{key_rule, table_fault};
 
 use crate::fault::TableFault;
@@ -86,7 +85,7 @@ fn switch_fault(table: &Table, buses: u16) -> Option<TableFault>
 
 fn arbitrator_fault(table: &Table, buses: u16) -> Option<TableFault>
     requires some { 0 < buses }
-    ensures { result ≡ table_fault (mux_rules buses Pca9541) (table_view table.now) }
+    ensures { result ≡ table_fault (arbitrator_mux buses) (table_view table.now) }
 {
     let lock = may_have("lock", Test::Lock);
     let idle = may_have("idle", Test::Idle);
@@ -98,9 +97,10 @@ fn arbitrator_fault(table: &Table, buses: u16) -> Option<TableFault>
     )
 }
 
-fn gpio_fault(table: &Table, buses: u16) -> Option<TableFault>
+// The muxes that are switched by a line.
+fn line_fault(table: &Table, buses: u16) -> Option<TableFault>
     requires some { 0 < buses }
-    ensures { result ≡ table_fault (mux_rules buses Gpio) (table_view table.now) }
+    ensures { result ≡ table_fault (line_mux buses) (table_view table.now) }
 {
     let lock = may_have("lock", Test::Lock);
     let idle = may_have("idle", Test::Idle);
@@ -113,10 +113,13 @@ pub fn mux_fault(table: &Table, buses: u16, mux: MuxKind) -> Option<TableFault>
     requires some { 0 < buses }
     ensures { result ≡ table_fault (mux_rules buses mux) (table_view table.now) }
 {
-    match mux {
-        MuxKind::Pca9548 | MuxKind::Pca9546 | MuxKind::Pca9544 => switch_fault(table, buses),
-        MuxKind::Pca9541 => arbitrator_fault(table, buses),
-        MuxKind::Gpio => gpio_fault(table, buses),
+    let facts = mux.facts();
+    if facts.by_line {
+        line_fault(table, buses)
+    } else if facts.asks {
+        arbitrator_fault(table, buses)
+    } else {
+        switch_fault(table, buses)
     }
 }
 

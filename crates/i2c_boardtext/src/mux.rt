@@ -30,50 +30,51 @@ fn kind_of(table: &Table) -> Result<MuxKind, TableFault>
     }
 }
 
+#[tactic(auto, using(crate::proofs::KeepLemmas::mux_channels))]
 fn channels(table: &Table, buses: u16, kind: MuxKind) -> u8
     requires keeps { table_fault (mux_rules buses kind) (table_view table.now) ≡ None }
     ensures value { result ≡ channels_value kind (table_view table.now) }
     ensures fits { FitsChannels kind result }
 {
-    match kind {
-        MuxKind::Pca9548 => 8,
-        MuxKind::Pca9546 | MuxKind::Pca9544 => 4,
-        MuxKind::Pca9541 => 1,
-        MuxKind::Gpio => number_or(table, "channels", 1, 8, 1) as u8,
+    match kind.facts().channels {
+        Some(channels) => channels,
+        None => number_or(table, "channels", 1, 8, 1) as u8,
     }
 }
 
+#[tactic(auto, using(crate::proofs::KeepLemmas::mux_address))]
 fn chip(table: &Table, buses: u16, kind: MuxKind) -> Option<Addr>
     requires keeps { table_fault (mux_rules buses kind) (table_view table.now) ≡ None }
     ensures value { result ≡ chip_value kind (table_view table.now) }
 {
-    match kind {
-        MuxKind::Gpio => None,
-        _ => Some(address(table)),
+    if kind.facts().by_line {
+        None
+    } else {
+        Some(address(table))
     }
 }
 
 fn absent(table: &Table, kind: MuxKind) -> bool
     ensures value { result ≡ absent_value kind (table_view table.now) }
 {
-    match kind {
-        MuxKind::Gpio => false,
-        _ => flag(table, "absent"),
-    }
+    !kind.facts().by_line && flag(table, "absent")
 }
 
+#[tactic(auto, using(crate::proofs::KeepLemmas::mux_foreign))]
 fn foreign(table: &Table, buses: u16, kind: MuxKind) -> u8
     requires keeps { table_fault (mux_rules buses kind) (table_view table.now) ≡ None }
     ensures value { result ≡ foreign_value kind (table_view table.now) }
     ensures fits { FitsForeign kind result }
 {
-    match kind {
-        MuxKind::Pca9541 => number_or(table, "foreign", 0, 8, 0) as u8,
-        _ => 0,
+    if kind.facts().asks {
+        number_or(table, "foreign", 0, 8, 0) as u8
+    } else {
+        0
     }
 }
 
 // What the table says, where nothing is wrong with it.
+#[tactic(auto, using(crate::proofs::KeepLemmas::mux_bus))]
 fn mux_value(table: &Table, buses: u16, kind: MuxKind) -> MuxSpec
     requires keeps { table_fault (mux_rules buses kind) (table_view table.now) ≡ None }
     requires some { 0 < buses }

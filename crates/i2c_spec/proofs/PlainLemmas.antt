@@ -1,24 +1,32 @@
 -- What the limits of a board say of the numbers of its buses. No induction of its own: the sum over the muxes is
 -- bounded by the library.
-use Rattle.std.proofs.Common.{zero, suc, [], ◌∷◌, option_map, slice_get, ℕ, ◌≤◌, List, arith}
+use Rattle.std.proofs.Common.{zero, suc, [], ◌∷◌, option_map, slice_get, ℕ, ◌≡◌, ◌≤◌, List, Option, Some, None, subst, arith}
 use Rattle.std.specs.List.{All}
 use Rattle.std.specs.Option.{unwrap_or}
 use Rattle.std.proofs.lemmas.List.Sums.{sum_by-le}
 use Rattle.std.proofs.lemmas.List.Elements.{All-weaker, All-head, All-tail}
 use Rattle.i2c_base.specs.declared.board.MuxKind.{MuxKind}
-use Rattle.i2c_base.specs.declared.board.MuxKind.TheVariants.{Pca9548, Pca9546, Pca9544, Pca9541, Gpio}
 use Rattle.i2c_base.specs.declared.board.MuxSpec.{MuxSpec}
+use Rattle.i2c_base.specs.declared.mux_facts.ChannelCode.{ChannelCode}
+use Rattle.i2c_base.specs.declared.mux_facts.ChannelCode.TheVariants.{Bits, Number, Alone, Level}
+use Rattle.i2c_base.specs.Muxes.{facts_of}
 use Rattle.i2c_base.specs.Board.{BoardView}
+use Rattle.i2c_base.proofs.MuxLemmas.{FitsCode, facts_fit}
 use Rattle.i2c_spec.specs.Tree.{buses, of_mux}
-use Rattle.i2c_spec.specs.Plain.{IsPlainBoard, IsPlainMux, FitsChannels}
+use Rattle.i2c_spec.specs.Plain.{IsPlainBoard, IsPlainMux, IsCount, FitsChannels}
 
 -- no mux has more than 8 channels
-pub channels_le : (kind : MuxKind) (n : ℕ) → FitsChannels kind n → n ≤ 8
-channels_le Pca9548 n h = omega arith
-channels_le Pca9546 n h = omega arith
-channels_le Pca9544 n h = omega arith
-channels_le Pca9541 n h = omega arith
-channels_le Gpio n h = omega arith
+pub channels_le : (k : MuxKind) (n : ℕ) → FitsChannels k n → n ≤ 8
+channels_le k n h = by_code (facts_of k).code (facts_fit k)
+  where
+    told : (o : Option ℕ) → (facts_of k).channels ≡ o → IsCount o n
+    told o e = subst (λ (p : Option ℕ). IsCount p n) e h
+
+    by_code : (c : ChannelCode) → FitsCode c (facts_of k) → n ≤ 8
+    by_code Bits fits = (let f : n ≡ (facts_of k).bits = told (Some (facts_of k).bits) fits.0 in omega (arith, fits.1))
+    by_code Number fits = (let f : n ≡ 4 = told (Some 4) fits.0 in omega arith)
+    by_code Alone fits = (let f : n ≡ 1 = told (Some 1) fits.0 in omega arith)
+    by_code Level fits = (told None fits.0).1
 
 All_channels_le : (ms : List MuxSpec) → All IsPlainMux ms → All (λ m. m.channels ≤ 8) ms
 All_channels_le ms h =

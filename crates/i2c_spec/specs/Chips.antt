@@ -2,12 +2,14 @@
 -- the PCA9541. A gpio mux has no chip; its line level stands in the same record.
 use Rattle.std.specs.Prelude.{ℕ, ◌+◌, ◌-◌, ◌^◌, ◌%◌, ◌/◌, ◌==◌, nat_lt, Bool, not, ◌&&◌, ◌||◌, Option, Some, None, if◌then◌else◌}
 use Rattle.i2c_base.specs.declared.board.MuxKind.{MuxKind}
-use Rattle.i2c_base.specs.declared.board.MuxKind.TheVariants.{Pca9548, Pca9546, Pca9544, Pca9541, Gpio}
+use Rattle.i2c_base.specs.declared.mux_facts.ChannelCode.{ChannelCode}
+use Rattle.i2c_base.specs.declared.mux_facts.ChannelCode.TheVariants.{Bits, Number, Alone, Level}
 use Rattle.i2c_base.specs.declared.board.MuxSpec.{MuxSpec}
 use Rattle.i2c_base.specs.declared.event.Event.{Event}
 use Rattle.i2c_base.specs.declared.event.Event.TheVariants as event
 use Rattle.i2c_base.specs.declared.event.Answer.{Answer}
 use Rattle.i2c_base.specs.declared.event.Answer.TheVariants as answer
+use Rattle.i2c_base.specs.Muxes.{facts_of}
 use Rattle.i2c_base.specs.Table.{Table}
 
 pub record ChipView : Type 0 where
@@ -24,24 +26,22 @@ pub record ChipView : Type 0 where
 abbrev pub bit_of : ℕ → ℕ → Bool
 bit_of byte i = (byte / 2 ^ i) % 2 == 1
 
--- is this channel open
+-- is this channel open at this control byte, or level
+abbrev pub opens_by : ChannelCode → ℕ → ℕ → Bool
+opens_by Bits control channel = bit_of control channel
+opens_by Number control channel = bit_of control 2 && (control % 4 == channel)
+opens_by Alone control channel = (control == 1) && (channel == 0)
+opens_by Level control channel = control == channel + 1
+
 abbrev pub opens : MuxKind → ℕ → ℕ → Bool
-opens Pca9548 control channel = bit_of control channel
-opens Pca9546 control channel = bit_of control channel
-opens Pca9544 control channel = bit_of control 2 && (control % 4 == channel)
-opens Pca9541 control channel = (control == 1) && (channel == 0)
-opens Gpio control channel = control == channel + 1
+opens k control channel = opens_by (facts_of k).code control channel
 
 abbrev pub is_open : ChipView → ℕ → Bool
 is_open c channel = opens c.kind c.control channel
 
 -- what a chip keeps of a byte
 abbrev pub kept_bits : MuxKind → ℕ → ℕ
-kept_bits Pca9548 byte = byte % 256
-kept_bits Pca9546 byte = byte % 16
-kept_bits Pca9544 byte = byte % 8
-kept_bits Pca9541 byte = byte % 2
-kept_bits Gpio byte = byte
+kept_bits k byte = byte % 2 ^ (facts_of k).bits
 
 -- an arbitrator is free where no other controller is to be found any more
 abbrev pub is_free : ChipView → Bool
@@ -54,12 +54,12 @@ arbitrated c byte =
     else if is_free c then record c { control = 1; waiting = None }
     else record c { waiting = None }
 
+-- a mux that is switched by a line takes no byte
 abbrev pub taken : MuxKind → ChipView → ℕ → ChipView
-taken Pca9541 c byte = arbitrated c byte
-taken Pca9548 c byte = record c { control = kept_bits Pca9548 byte; waiting = None }
-taken Pca9546 c byte = record c { control = kept_bits Pca9546 byte; waiting = None }
-taken Pca9544 c byte = record c { control = kept_bits Pca9544 byte; waiting = None }
-taken Gpio c byte = c
+taken k c byte =
+    if (facts_of k).asks then arbitrated c byte
+    else if (facts_of k).by_line then c
+    else record c { control = kept_bits k byte; waiting = None }
 
 abbrev pub stopped : ChipView → Option ℕ → ChipView
 stopped c None = c
@@ -70,18 +70,13 @@ abbrev pub is_foreign : ChipView → Bool
 is_foreign c = (c.foreign == 8) || nat_lt 0 c.left
 
 abbrev pub looked : MuxKind → ChipView → ChipView
-looked Pca9541 c = if c.foreign == 8 then c else record c { left = c.left - 1 }
-looked Pca9548 c = c
-looked Pca9546 c = c
-looked Pca9544 c = c
-looked Gpio c = c
+looked k c = if (facts_of k).asks then (if c.foreign == 8 then c else record c { left = c.left - 1 }) else c
 
 abbrev pub chip_sends : MuxKind → ChipView → ℕ
-chip_sends Pca9541 c = if is_foreign c then 1 else 0
-chip_sends Pca9548 c = c.control
-chip_sends Pca9546 c = c.control
-chip_sends Pca9544 c = c.control
-chip_sends Gpio c = 255
+chip_sends k c =
+    if (facts_of k).asks then (if is_foreign c then 1 else 0)
+    else if (facts_of k).by_line then 255
+    else c.control
 
 abbrev pub chip_after : ChipView → Event → ChipView
 chip_after c (event.Start reading) = c
@@ -108,12 +103,14 @@ abbrev pub chip_opening : MuxSpec → ChipView
 chip_opening m = record { kind = m.kind; control = 0; waiting = None; left = m.foreign; foreign = m.foreign }
 
 -- what selects a channel, and what closes a mux: the byte that is written, or the level of the line
+abbrev pub select_by : ChannelCode → ℕ → ℕ
+select_by Bits channel = 2 ^ channel
+select_by Number channel = 4 + channel
+select_by Alone channel = 1
+select_by Level channel = channel + 1
+
 abbrev pub select_value : MuxKind → ℕ → ℕ
-select_value Pca9548 channel = 2 ^ channel
-select_value Pca9546 channel = 2 ^ channel
-select_value Pca9544 channel = 4 + channel
-select_value Pca9541 channel = 1
-select_value Gpio channel = channel + 1
+select_value k channel = select_by (facts_of k).code channel
 
 abbrev pub close_value : ℕ
 close_value = 0

@@ -1,10 +1,10 @@
 -- How many steps a transfer can take: this project's bound, from the walk of its locks and muxes.
-use Rattle.std.specs.Prelude.{ℕ, ◌+◌, ◌*◌, nat_lt, List, [], ◌∷◌, length, if◌then◌else◌}
+use Rattle.std.specs.Prelude.{ℕ, Bool, true, false, ◌+◌, ◌*◌, nat_lt, List, [], ◌∷◌, length, if◌then◌else◌}
 use Rattle.std.specs.List.{sum_by}
 use Rattle.i2c_base.specs.declared.board.MuxKind.{MuxKind}
-use Rattle.i2c_base.specs.declared.board.MuxKind.TheVariants.{Pca9548, Pca9546, Pca9544, Pca9541, Gpio}
 use Rattle.i2c_base.specs.declared.transfer.Msg.{Msg}
 use Rattle.i2c_base.specs.Board.{BoardView}
+use Rattle.i2c_base.specs.Muxes.{facts_of}
 use Rattle.i2c_base.specs.Transfer.{TransferView, is_counted}
 use Rattle.i2c_spec.specs.Tree.{Hop, hops, buses, locks_of}
 use Rattle.i2c_spec.specs.Flat.{block_limit}
@@ -14,12 +14,13 @@ lock_steps hs = 2 * length (locks_of 0 hs)
 
 -- behind a mux: a close, a select and a deselect of two steps each beside the job; an arbitrator is asked eight
 -- times before it is switched; a gpio mux is switched by a line, so only its close can need more
+abbrev pub behind_by : (by_line asks : Bool) → ℕ → ℕ → ℕ
+behind_by true asks control job = 2 + control + job
+behind_by false true control job = 11 * control + job
+behind_by false false control job = 3 * control + job
+
 abbrev pub behind_cost : MuxKind → ℕ → ℕ → ℕ
-behind_cost Pca9548 control job = 3 * control + job
-behind_cost Pca9546 control job = 3 * control + job
-behind_cost Pca9544 control job = 3 * control + job
-behind_cost Pca9541 control job = 11 * control + job
-behind_cost Gpio control job = 2 + control + job
+behind_cost k control job = behind_by (facts_of k).by_line (facts_of k).asks control job
 
 -- a job of x steps at the end of these hops
 abbrev pub inner_cost : List Hop → ℕ → ℕ

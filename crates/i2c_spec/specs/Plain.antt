@@ -1,7 +1,6 @@
 -- What the type of a board keeps: the limits of a board file, and that its parts fit each other.
-use Rattle.std.specs.Prelude.{⊤, ◌≡◌, ℕ, ◌+◌, ◌<◌, ◌≤◌, Bool, false, List, [], ◌∷◌, length, reverse, Option, None, IsSome, All}
+use Rattle.std.specs.Prelude.{⊤, ◌≡◌, ℕ, ◌+◌, ◌<◌, ◌≤◌, Bool, true, false, List, [], ◌∷◌, length, reverse, Option, Some, None, IsSome, All}
 use Rattle.i2c_base.specs.declared.board.MuxKind.{MuxKind}
-use Rattle.i2c_base.specs.declared.board.MuxKind.TheVariants.{Pca9548, Pca9546, Pca9544, Pca9541, Gpio}
 use Rattle.i2c_base.specs.declared.board.DeviceKind.{DeviceKind}
 use Rattle.i2c_base.specs.declared.board.DeviceKind.TheVariants as kind
 use Rattle.i2c_base.specs.declared.board.Size.{Size}
@@ -9,31 +8,32 @@ use Rattle.i2c_base.specs.declared.board.Size.TheVariants.{C02, C32, C256}
 use Rattle.i2c_base.specs.declared.board.MuxSpec.{MuxSpec}
 use Rattle.i2c_base.specs.Board.{BoardView, DeviceView, RunView}
 use Rattle.i2c_base.specs.Bytes.{AreBytes}
+use Rattle.i2c_base.specs.Muxes.{facts_of}
 use Rattle.i2c_spec.specs.Tree.{buses, buses_of}
 
--- the kind fixes the number of channels, but for a gpio mux
-abbrev pub FitsChannels : MuxKind → ℕ → Type 0
-FitsChannels Pca9548 n = n ≡ 8
-FitsChannels Pca9546 n = n ≡ 4
-FitsChannels Pca9544 n = n ≡ 4
-FitsChannels Pca9541 n = n ≡ 1
-FitsChannels Gpio n = (1 ≤ n) × (n ≤ 8)
+-- the kind fixes the number of channels, or the board says it
+abbrev pub IsCount : Option ℕ → ℕ → Type 0
+IsCount (Some c) n = n ≡ c
+IsCount None n = (1 ≤ n) × (n ≤ 8)
 
--- a gpio mux has no chip, so no address, and none that could be absent
+abbrev pub FitsChannels : MuxKind → ℕ → Type 0
+FitsChannels k n = IsCount (facts_of k).channels n
+
+-- a mux that is switched by a line has no chip, so no address, and none that could be absent
+abbrev pub IsChip : (by_line : Bool) → Option ℕ → Bool → Type 0
+IsChip true addr absent = (addr ≡ None) × (absent ≡ false)
+IsChip false addr absent = IsSome addr
+
 abbrev pub FitsChip : MuxKind → Option ℕ → Bool → Type 0
-FitsChip Gpio addr absent = (addr ≡ None) × (absent ≡ false)
-FitsChip Pca9548 addr absent = IsSome addr
-FitsChip Pca9546 addr absent = IsSome addr
-FitsChip Pca9544 addr absent = IsSome addr
-FitsChip Pca9541 addr absent = IsSome addr
+FitsChip k addr absent = IsChip (facts_of k).by_line addr absent
 
 -- only an arbitrator has another controller
+abbrev pub IsForeign : (asks : Bool) → ℕ → Type 0
+IsForeign true n = n ≤ 8
+IsForeign false n = n ≡ 0
+
 abbrev pub FitsForeign : MuxKind → ℕ → Type 0
-FitsForeign Pca9541 n = n ≤ 8
-FitsForeign Pca9548 n = n ≡ 0
-FitsForeign Pca9546 n = n ≡ 0
-FitsForeign Pca9544 n = n ≡ 0
-FitsForeign Gpio n = n ≡ 0
+FitsForeign k n = IsForeign (facts_of k).asks n
 
 pub record IsPlainMux (m : MuxSpec) : Type 0 where
   pub channels : FitsChannels m.kind m.channels

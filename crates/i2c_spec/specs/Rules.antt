@@ -4,13 +4,13 @@ use Rattle.std.specs.Prelude.{◌≡◌, ℕ, ◌+◌, ◌-◌, ◌<◌, ◌≤�
 use Rattle.std.specs.List.{filter}
 use Rattle.std.specs.Option.{option_map}
 use Rattle.i2c_base.specs.declared.board.MuxKind.{MuxKind}
-use Rattle.i2c_base.specs.declared.board.MuxKind.TheVariants.{Pca9548, Pca9546, Pca9544, Pca9541, Gpio}
 use Rattle.i2c_base.specs.declared.board.Idle.{Idle}
 use Rattle.i2c_base.specs.declared.board.Idle.TheVariants.{Disconnect, AsIs}
 use Rattle.i2c_base.specs.declared.rules.Item.{Item}
 use Rattle.i2c_base.specs.declared.rules.Item.TheVariants as item
 use Rattle.i2c_base.specs.declared.rules.RuleBroken.{RuleBroken}
 use Rattle.i2c_base.specs.Board.{BoardView}
+use Rattle.i2c_base.specs.Muxes.{facts_of}
 use Rattle.i2c_spec.specs.Tree.{Hop, hops, depth, is_parent, is_along, of_mux, of_device}
 
 abbrev pub items : BoardView → ℕ
@@ -48,11 +48,7 @@ is_locked_under b m = nat_lt 0 (length (locked_over b m))
 
 -- Rule 4, gpio muxes and arbitrators are parent-locked: a mux that isn't
 abbrev pub wants_parent : MuxKind → Bool
-wants_parent Pca9548 = false
-wants_parent Pca9546 = false
-wants_parent Pca9544 = false
-wants_parent Pca9541 = true
-wants_parent Gpio = true
+wants_parent k = (facts_of k).wants_parent
 
 abbrev pub is_wrongly_locked : BoardView → ℕ → Bool
 is_wrongly_locked b m = of_mux (λ x. wants_parent x.kind && not (is_parent x.lock)) false b m

@@ -3,7 +3,7 @@ ghost use Rattle.i2c_spec.specs.Rules as spec;
 
 use crate::Layout;
 use crate::layout::is_parent;
-use i2c_base::{Addr, DevId, Idle, Item, MuxId, MuxKind, RuleBroken, SegId};
+use i2c_base::{Addr, DevId, Idle, Item, MuxId, RuleBroken, SegId};
 
 /// No bus has more muxes over it (Linux i2c-topology warns of deep trees).
 const MOST_DEPTH: usize = 4;
@@ -158,9 +158,8 @@ impl Layout<'_> {
         match rule {
             MuxRule::Depth => self.is_too_deep(mux),
             MuxRule::Lock => self.mux_locked_over(mux).is_some(),
-            MuxRule::Parent => self
-                .mux(mux)
-                .is_some_and(|spec| wants_parent(spec.kind) && !is_parent(spec.lock)),
+            MuxRule::Parent => self.mux(mux).is_some_and(|spec| spec.kind.facts().wants_parent
+                && !is_parent(spec.lock)),
             MuxRule::Idle => self.mux(mux).is_some_and(|spec| stays(spec.idle)),
         }
     }
@@ -211,13 +210,6 @@ fn is_same_address(one: Option<Addr>, other: Option<Addr>) -> bool
         (Some(one), Some(other)) => one == other,
         _ => false,
     }
-}
-
-/// Whether a mux of this kind has to be parent-locked.
-fn wants_parent(kind: MuxKind) -> bool
-    ensures { result ≡ spec.wants_parent kind }
-{
-    matches!(kind, MuxKind::Pca9541 | MuxKind::Gpio)
 }
 
 /// Whether a mux stays as it is when idle.

@@ -7,7 +7,7 @@ ghost use Rattle.mux_plan.specs.Plans.{CourseView, job_of, came_of, outcome_of, 
 ghost use Rattle.mux_plan.specs.Rooms.{IsNarrowWork};
 
 use crate::{Came, Outcome, Work};
-use i2c_base::{ByteList, End, Errno, MuxId, MuxKind, Purpose, SegId};
+use i2c_base::{ByteList, ChannelCode, End, Errno, MuxId, Purpose, SegId};
 use i2c_spec::{Hop, errno_of};
 
 /// An arbitrator is asked at most so often before it is switched.
@@ -26,11 +26,11 @@ fn select_byte(hop: &Hop) -> u8
     requires { hop.now.channel < 8 }
     ensures { result ≡ select_value hop.now.kind hop.now.channel }
 {
-    match hop.kind {
-        MuxKind::Pca9548 | MuxKind::Pca9546 => bit(hop.channel),
-        MuxKind::Pca9544 => 4 + hop.channel as u8,
-        MuxKind::Pca9541 => 1,
-        MuxKind::Gpio => hop.channel as u8 + 1,
+    match hop.kind.facts().code {
+        ChannelCode::Bits => bit(hop.channel),
+        ChannelCode::Number => 4 + hop.channel as u8,
+        ChannelCode::Alone => 1,
+        ChannelCode::Level => hop.channel as u8 + 1,
     }
 }
 
@@ -56,8 +56,8 @@ impl Work {
     {
         match self {
             Work::Call => false,
-            Work::Select(hop) => is_gpio(hop.kind),
-            Work::Clear { kind, .. } => is_gpio(*kind),
+            Work::Select(hop) => hop.kind.facts().by_line,
+            Work::Clear { kind, .. } => kind.facts().by_line,
         }
     }
 
@@ -67,13 +67,7 @@ impl Work {
     {
         match self {
             Work::Call => count.saturating_sub(1),
-            Work::Select(hop) => {
-                if hop.kind == MuxKind::Pca9541 {
-                    POLLS
-                } else {
-                    0
-                }
-            }
+            Work::Select(hop) => { if hop.kind.facts().asks { POLLS } else { 0 } }
             Work::Clear { .. } => 0,
         }
     }
@@ -241,11 +235,4 @@ impl Work {
             Work::Clear { .. } => came == Came::Failed,
         }
     }
-}
-
-// A gpio mux is switched by a line.
-fn is_gpio(kind: MuxKind) -> bool
-    ensures { result ≡ walk.is_gpio kind }
-{
-    kind == MuxKind::Gpio
 }

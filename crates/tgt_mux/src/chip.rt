@@ -1,7 +1,7 @@
-ghost use Rattle.std.specs.Prelude.{◌≡◌};
+ghost use Rattle.std.specs.Prelude.{◌≡◌, ◌≤◌, ◌%◌, ◌^◌};
 ghost use Rattle.i2c_spec.specs.Chips.{chip_opening, chip_sends, is_open, at_level, looked, stopped, arbitrated, bit_of};
 
-use i2c_base::{Answer, Event, MuxKind, MuxSpec, Target};
+use i2c_base::{Answer, ChannelCode, Event, MuxKind, MuxSpec, Target};
 use std::marker::Model;
 
 /// An arbitrator that is so often found with its other controller stays there.
@@ -54,11 +54,12 @@ impl Chip {
     pub fn opens(&self, channel: u16) -> bool
         ensures { result ≡ is_open self.now channel }
     {
-        match self.kind {
-            MuxKind::Pca9548 | MuxKind::Pca9546 => has_bit(self.control, channel),
-            MuxKind::Pca9544 => has_bit(self.control, 2) && u16::from(self.control % 4) == channel,
-            MuxKind::Pca9541 => self.control == 1 && channel == 0,
-            MuxKind::Gpio => u32::from(self.control) == u32::from(channel) + 1,
+        match self.kind.facts().code {
+            ChannelCode::Bits => has_bit(self.control, channel),
+            ChannelCode::Number => has_bit(self.control, 2)
+                && u16::from(self.control % 4) == channel,
+            ChannelCode::Alone => self.control == 1 && channel == 0,
+            ChannelCode::Level => u32::from(self.control) == u32::from(channel) + 1,
         }
     }
 
@@ -73,10 +74,13 @@ impl Chip {
     pub fn sends(&self) -> u8
         ensures { result ≡ chip_sends self.now.kind self.now }
     {
-        match self.kind {
-            MuxKind::Pca9548 | MuxKind::Pca9546 | MuxKind::Pca9544 => self.control,
-            MuxKind::Pca9541 => u8::from(self.foreign == FOREIGN_FOR_GOOD || self.left > 0),
-            MuxKind::Gpio => 0xff,
+        let facts = self.kind.facts();
+        if facts.asks {
+            u8::from(self.foreign == FOREIGN_FOR_GOOD || self.left > 0)
+        } else if facts.by_line {
+            0xff
+        } else {
+            self.control
         }
     }
 
@@ -84,7 +88,7 @@ impl Chip {
     fn look(&mut self)
         ensures { self.new ≡ looked self.old.kind self.old }
     {
-        if self.kind == MuxKind::Pca9541 && self.foreign != FOREIGN_FOR_GOOD {
+        if self.kind.facts().asks && self.foreign != FOREIGN_FOR_GOOD {
             self.left = self.left.saturating_sub(1);
         }
     }
@@ -93,13 +97,12 @@ impl Chip {
     fn stop(&mut self)
         ensures { self.new ≡ stopped self.old self.old.waiting }
     {
+        let facts = self.kind.facts();
         if let Some(byte) = self.waiting {
-            match self.kind {
-                MuxKind::Pca9548 => self.take(byte),
-                MuxKind::Pca9546 => self.take(byte % 16),
-                MuxKind::Pca9544 => self.take(byte % 8),
-                MuxKind::Pca9541 => self.arbitrate(byte),
-                MuxKind::Gpio => {}
+            if facts.asks {
+                self.arbitrate(byte);
+            } else if !facts.by_line {
+                self.take(low_bits(byte, facts.bits));
             }
         }
     }
@@ -149,6 +152,14 @@ impl Target for Chip {
             }
         }
     }
+}
+
+/// The low bits of a byte, so many.
+fn low_bits(byte: u8, bits: u8) -> u8
+    requires { bits ≤ 8 }
+    ensures { result ≡ byte % 2 ^ bits }
+{
+    (u16::from(byte) % (1 << bits)) as u8
 }
 
 /// Bit i of a byte.

@@ -4,19 +4,17 @@ use Rattle.std.specs.Prelude.{slice_get, unwrap_or}
 use Rattle.std.specs.Option.{option_map}
 use Rattle.std.proofs.lemmas.Option.{slice_get-map}
 use Rattle.std.proofs.lemmas.List.{length-map}
-use Rattle.i2c_base.specs.declared.board.MuxKind.{MuxKind}
-use Rattle.i2c_base.specs.declared.board.MuxKind.TheVariants.{Pca9548, Pca9546, Pca9544, Pca9541, Gpio}
 use Rattle.i2c_base.specs.declared.board.MuxSpec.{MuxSpec}
+use Rattle.i2c_base.specs.Muxes.{facts_of}
 use Rattle.i2c_base.specs.Board.{BoardView}
 use Rattle.i2c_base.specs.Transfer.{TransferView}
-use Rattle.i2c_spec.specs.Chips.{ChipView, opens, is_open, chip_opening}
+use Rattle.i2c_spec.specs.Chips.{ChipView, is_open, chip_opening}
 use Rattle.i2c_spec.specs.World.{opening_world}
 use Rattle.bus_spec.specs.Slots.{Clean, Selected, Marked, Polled, Found, all_clean}
 use Rattle.bus_spec.specs.Past.{opening}
 use Rattle.bus_laws.specs.Told.{IsChipOf, WorldTold}
 use Rattle.bus_laws.specs.Stands.{Stands}
-use Rattle.bus_laws.proofs.tree.Slots.{eqb-apart}
-use Rattle.bus_laws.proofs.world.ChipLaws.{bit_zero}
+use Rattle.bus_laws.proofs.world.ChipLaws.{shut_at_zero}
 
 -- the chip of a number, as it is opened
 opened_as : (o : Option MuxSpec) (x : ChipView) → option_map chip_opening o ≡ Some x → (s : MuxSpec) × (o ≡ Some s) × (x ≡ chip_opening s)
@@ -27,16 +25,9 @@ opening_chip : (b : BoardView) (i : ℕ) (x : ChipView) → slice_get (map chip_
     → (s : MuxSpec) × (slice_get b.muxes i ≡ Some s) × (x ≡ chip_opening s)
 opening_chip b i x e = opened_as (slice_get b.muxes i) x (sym (slice_get-map chip_opening b.muxes i) ∙ e)
 
-opens_nothing : (k : MuxKind) (c : ℕ) → opens k 0 c ≡ false
-opens_nothing Pca9548 c = bit_zero c
-opens_nothing Pca9546 c = bit_zero c
-opens_nothing Pca9544 c = refl
-opens_nothing Pca9541 c = refl
-opens_nothing Gpio c = eqb-apart 0 (c + 1) (λ e. absurd (omega arith))
-
 closed_at_first : (b : BoardView) (i c : ℕ) (x : ChipView) → slice_get (map chip_opening b.muxes) i ≡ Some x → is_open x c ≡ false
 closed_at_first b i c x e =
-    let s = opening_chip b i x e in ap (λ (y : ChipView). is_open y c) s.2 ∙ opens_nothing s.0.kind c
+    let s = opening_chip b i x e in ap (λ (y : ChipView). is_open y c) s.2 ∙ shut_at_zero (facts_of s.0.kind).code c
 
 told_kept : (b : BoardView) (m : ℕ) (x : ChipView) → slice_get (map chip_opening b.muxes) m ≡ Some x → IsChipOf b m x
 told_kept b m x e =

@@ -4,7 +4,7 @@ use Rattle.std.specs.List.{AllByRecursion}
 use Rattle.i2c_base.specs.declared.ids.LockId.{LockId}
 use Rattle.i2c_base.specs.declared.ids.LockId.TheVariants as lock
 use Rattle.i2c_base.specs.declared.board.MuxKind.{MuxKind}
-use Rattle.i2c_base.specs.declared.board.MuxKind.TheVariants.{Pca9548, Pca9546, Pca9544, Pca9541, Gpio}
+use Rattle.i2c_base.proofs.MuxLemmas.{line_row}
 use Rattle.i2c_base.specs.Board.{BoardView}
 use Rattle.i2c_base.specs.Transfer.{TransferView}
 use Rattle.i2c_spec.specs.Tree.{Hop, hops, root_of, locks_of, Crosses, IsAmongHops}
@@ -126,17 +126,10 @@ locks_cross root (h ∷ hs) p i =
 
 -- LINES: one step, which needs the root's lock and no way
 
-gpio_asks_nothing : (kind : MuxKind) → is_gpio kind ≡ true → is_arbitrator kind ≡ false
-gpio_asks_nothing Gpio e = refl
-gpio_asks_nothing Pca9548 e = refl
-gpio_asks_nothing Pca9546 e = refl
-gpio_asks_nothing Pca9544 e = refl
-gpio_asks_nothing Pca9541 e = (let f : false ≡ true = e in cc)
-
 line_finds : (b : BoardView) (job : Job) (v : Slots) → is_line job ≡ true → FindsFirst b job v → Finds b job zero v
 line_finds b (Call bus ms) v l f = tt
 line_finds b (Select h) v l f =
-    (subst (λ (t : Bool). FindsSelect t h zero (v h.on).slot) (sym (gpio_asks_nothing h.kind l)) (refl, f.0), f.1, f.2)
+    (subst (λ (t : Bool). FindsSelect t h zero (v h.on).slot) (sym (line_row h.kind l).asks) (refl, f.0), f.1, f.2)
 line_finds b (Clear on mux kind) v l f = f
 
 module _ (b : BoardView) (whose : TransferView) (root : ℕ) (hs : List Hop) (ls : List LockId) (floor : ℕ)

@@ -9,8 +9,9 @@ use Rattle.i2c_base.specs.declared.ids.LockId.{LockId}
 use Rattle.i2c_base.specs.declared.board.MuxSpec.{MuxSpec}
 use Rattle.i2c_base.specs.declared.errno.Errno.{Errno}
 use Rattle.i2c_base.specs.declared.board.MuxKind.{MuxKind}
-use Rattle.i2c_base.specs.declared.board.MuxKind.TheVariants.{Pca9548, Pca9546, Pca9544, Pca9541, Gpio}
+use Rattle.i2c_base.specs.Muxes.{facts_of}
 use Rattle.i2c_base.specs.Board.{BoardView}
+use Rattle.i2c_base.proofs.MuxLemmas.{arbitrator_row}
 use Rattle.i2c_base.specs.declared.transfer.Msg.{Msg}
 use Rattle.i2c_base.specs.Transfer.{TransferView, is_counted, written_of}
 use Rattle.i2c_spec.specs.Tree.{Hop, hops, root_of, locks_of, is_parent}
@@ -18,7 +19,7 @@ use Rattle.i2c_spec.specs.TreeFacts.{IsTree, IsHop}
 use Rattle.i2c_spec.specs.Rules.{MeetsRules, wants_parent}
 use Rattle.i2c_spec.specs.Messages.{MessageView, messages_from, messages_of}
 use Rattle.i2c_spec.specs.Flat.{refusal, block_limit}
-use Rattle.i2c_spec.specs.Cost.{lock_steps, behind_cost, inner_cost, full_cost, bytes_of, steps_of, cost_of}
+use Rattle.i2c_spec.specs.Cost.{lock_steps, behind_by, behind_cost, inner_cost, full_cost, bytes_of, steps_of, cost_of}
 use Rattle.bus_spec.specs.Walk.{Job, Call, Select, Clear, Free, Send, Shift, ActOutcome, JobOutcome, Good, Refused, Unsent, Failed, Note, WalkTree, Ends, Look, Then, Go, On, Last, Over, goes, job_outcome, verdict_of, decides, is_line, is_gpio, is_arbitrator, more_of, POLLS, nth_message, message_of}
 use Rattle.bus_spec.specs.Grammar.{Doer, plain, settled, over, by_go, messages, at_bus, locked, part, with_mark, aside, if_sent, if_good, kind_of, closing, opened, chosen, behind, inner, full, walk_by, walk_for}
 use Rattle.bus_laws.specs.Costs.{IsWithin, ArbitratorsArePassed}
@@ -163,11 +164,12 @@ module _ (b : BoardView) (h : Hop) (on : Doer) (cost : Job → ℕ) (sub : DoerW
 
 -- WHAT THE COST COUNTS: the job's own steps beside what the way takes
 behind_beside : (kind : MuxKind) (control job x : ℕ) → behind_cost kind control (job + x) ≡ behind_cost kind control job + x
-behind_beside Pca9548 control job x = omega arith
-behind_beside Pca9546 control job x = omega arith
-behind_beside Pca9544 control job x = omega arith
-behind_beside Pca9541 control job x = omega arith
-behind_beside Gpio control job x = omega arith
+behind_beside kind control job x = by_facts (facts_of kind).by_line (facts_of kind).asks
+  where
+    by_facts : (by_line asks : Bool) → behind_by by_line asks control (job + x) ≡ behind_by by_line asks control job + x
+    by_facts true asks = omega arith
+    by_facts false true = omega arith
+    by_facts false false = omega arith
 
 inner_beside : (hs : List Hop) (x : ℕ) → inner_cost hs x ≡ inner_cost hs 0 + x
 inner_beside [] x = omega arith
@@ -206,25 +208,28 @@ select_is : (b : BoardView) (hs : List Hop) (h : Hop) → path_cost b hs (Select
 select_is b hs h = ap (λ (n : ℕ). cond (is_gpio h.kind) 1 (inner_cost hs n)) (select_weighs b h (cond (is_arbitrator h.kind) POLLS 0))
 
 clear_fits : (hs : List Hop) (kind : MuxKind) → clear_of hs kind ≤ inner_cost hs 2
-clear_fits hs Pca9548 = omega arith
-clear_fits hs Pca9546 = omega arith
-clear_fits hs Pca9544 = omega arith
-clear_fits hs Pca9541 = omega arith
-clear_fits hs Gpio = omega (arith, inner_beside hs 2)
+clear_fits hs kind = by_line (is_gpio kind)
+  where
+    by_line : (t : Bool) → cond t 1 (inner_cost hs 2) ≤ inner_cost hs 2
+    by_line true = omega (arith, inner_beside hs 2)
+    by_line false = omega arith
 
 select_fits : (hs : List Hop) (kind : MuxKind) → is_arbitrator kind ≡ false → select_of hs kind ≤ inner_cost hs 2
-select_fits hs Pca9548 e = omega arith
-select_fits hs Pca9546 e = omega arith
-select_fits hs Pca9544 e = omega arith
-select_fits hs Gpio e = omega (arith, inner_beside hs 2)
-select_fits hs Pca9541 e = absurd (let f : true ≡ false = e in cc)
+select_fits hs kind e = by_facts (is_gpio kind) (is_arbitrator kind) e
+  where
+    by_facts : (by_line asks : Bool) → asks ≡ false → cond by_line 1 (inner_cost hs (2 * (1 + cond asks POLLS 0))) ≤ inner_cost hs 2
+    by_facts true asks e = omega (arith, inner_beside hs 2)
+    by_facts false false e = omega arith
+    by_facts false true e = absurd (let f : true ≡ false = e in cc)
 
 parent_fits : (hs : List Hop) (kind : MuxKind) (own : ℕ) → inner_cost hs 2 + (select_of hs kind + (own + clear_of hs kind)) ≤ behind_cost kind (inner_cost hs 2) own
-parent_fits hs Pca9548 own = omega arith
-parent_fits hs Pca9546 own = omega arith
-parent_fits hs Pca9544 own = omega arith
-parent_fits hs Pca9541 own = omega (arith, inner_beside hs 2, inner_beside hs 18)
-parent_fits hs Gpio own = omega arith
+parent_fits hs kind own = by_facts (is_gpio kind) (is_arbitrator kind)
+  where
+    by_facts : (by_line asks : Bool)
+        → inner_cost hs 2 + (cond by_line 1 (inner_cost hs (2 * (1 + cond asks POLLS 0))) + (own + cond by_line 1 (inner_cost hs 2))) ≤ behind_by by_line asks (inner_cost hs 2) own
+    by_facts true asks = omega arith
+    by_facts false true = omega (arith, inner_beside hs 2, inner_beside hs 18)
+    by_facts false false = omega arith
 
 abbrev part_cost : BoardView → Bool → ℕ → List Hop → Job → ℕ
 part_cost b true root hs job = path_cost b hs job
@@ -287,20 +292,13 @@ inner_within b root (h ∷ hs) passed =
     by_line job note k n goes_on false e sub = sub e goes_on
 
 -- on an accepted board arbitrators are parent-locked
-arbitrator_wants : (k : MuxKind) → is_arbitrator k ≡ true → wants_parent k ≡ true
-arbitrator_wants Pca9541 e = refl
-arbitrator_wants Pca9548 e = absurd (let f : false ≡ true = e in cc)
-arbitrator_wants Pca9546 e = absurd (let f : false ≡ true = e in cc)
-arbitrator_wants Pca9544 e = absurd (let f : false ≡ true = e in cc)
-arbitrator_wants Gpio e = absurd (let f : false ≡ true = e in cc)
-
 arbitrators_passed : (b : BoardView) → IsTree b → MeetsRules b → (s : ℕ) → ArbitratorsArePassed (hops b s)
 arbitrators_passed b tree rules s h among arbitrator =
     let hop : IsHop b h = tree.hop s h among in
     let spec = mux_at b h.mux h.kind hop.kind in
     let wrong : (wants_parent spec.0.kind && not (is_parent spec.0.lock)) ≡ false =
     sym (ap (λ (o : Option MuxSpec). unwrap_or (option_map (λ (x : MuxSpec). wants_parent x.kind && not (is_parent x.lock)) o) false) spec.1) ∙ rules.parents h.mux hop.mux in
-    let wants : wants_parent spec.0.kind ≡ true = ap wants_parent spec.2 ∙ arbitrator_wants h.kind arbitrator in
+    let wants : wants_parent spec.0.kind ≡ true = ap wants_parent spec.2 ∙ (arbitrator_row h.kind arbitrator).wants_parent in
     let same : Some (is_parent spec.0.lock) ≡ Some h.parent =
     sym (ap (λ (o : Option MuxSpec). unwrap_or (option_map (λ (x : MuxSpec). Some (is_parent x.lock)) o) None) spec.1) ∙ hop.parent in
     sym (some_is (is_parent spec.0.lock) h.parent same) ∙ wanted (wants_parent spec.0.kind) (is_parent spec.0.lock) wants wrong

@@ -3,16 +3,16 @@ use Rattle.std.proofs.Common.{◌≡◌, ℕ, zero, suc, ◌<◌, ◌≤◌, Boo
 use Rattle.std.specs.Prelude.{slice_get, slice_index_or, is_some, unwrap_or}
 use Rattle.std.specs.Option.{option_map}
 use Rattle.i2c_base.specs.declared.board.MuxKind.{MuxKind}
-use Rattle.i2c_base.specs.declared.board.MuxKind.TheVariants.{Pca9548, Pca9546, Pca9544, Pca9541, Gpio}
 use Rattle.i2c_base.specs.declared.board.MuxSpec.{MuxSpec}
+use Rattle.i2c_base.specs.Muxes.{facts_of}
 use Rattle.i2c_base.specs.Board.{BoardView}
 use Rattle.i2c_spec.specs.Tree.{Hop, of_mux, addr_of_mux, is_absent, is_held}
 use Rattle.i2c_spec.specs.TreeFacts.{IsHop}
-use Rattle.i2c_spec.specs.Plain.{IsPlainBoard, IsPlainMux, FitsChip, FitsForeign, FitsChannels}
+use Rattle.i2c_spec.specs.Plain.{IsPlainBoard, IsPlainMux, IsCount, IsChip, IsForeign}
 use Rattle.i2c_spec.specs.World.{has_chip}
 use Rattle.bus_spec.specs.Walk.{is_gpio, is_arbitrator, chip_address}
 use Rattle.bus_laws.specs.Runs.{IsMuxOf, answers}
-use Rattle.bus_laws.proofs.world.ChipLaws.{HasChannel}
+use Rattle.bus_laws.proofs.world.ChipLaws.{IsBelow, HasChannel}
 
 -- the mux of a number, with its kind
 told_mux : (o : Option MuxSpec) (k : MuxKind) → unwrap_or (option_map (λ (m : MuxSpec). Some m.kind) o) None ≡ Some k
@@ -40,16 +40,9 @@ get_same_length [] (z ∷ zs) i y e at = absurd (omega arith)
 get_same_length (x ∷ xs) (z ∷ zs) zero y e at = (x, refl)
 get_same_length (x ∷ xs) (z ∷ zs) (suc i) y e at = get_same_length xs zs i y (omega arith) at
 
-some_addr : (k : MuxKind) (o : Option ℕ) (absent : Bool) → is_gpio k ≡ false → FitsChip k o absent → o ≡ Some (unwrap_or o 0)
-some_addr Pca9548 (Some a) absent line fits = refl
-some_addr Pca9546 (Some a) absent line fits = refl
-some_addr Pca9544 (Some a) absent line fits = refl
-some_addr Pca9541 (Some a) absent line fits = refl
-some_addr Gpio o absent line fits = absurd (let f : true ≡ false = line in cc)
-some_addr Pca9548 None absent line fits = absurd (let f : false ≡ true = fits in cc)
-some_addr Pca9546 None absent line fits = absurd (let f : false ≡ true = fits in cc)
-some_addr Pca9544 None absent line fits = absurd (let f : false ≡ true = fits in cc)
-some_addr Pca9541 None absent line fits = absurd (let f : false ≡ true = fits in cc)
+some_addr : (o : Option ℕ) (absent : Bool) → IsChip false o absent → o ≡ Some (unwrap_or o 0)
+some_addr (Some a) absent fits = refl
+some_addr None absent fits = absurd (let f : false ≡ true = fits in cc)
 
 -- a mux that isn't switched by a line has a chip with an address
 pub has_address_of : (b : BoardView) → IsPlainBoard b → (m : ℕ) (k : MuxKind) → IsMuxOf b m k → is_gpio k ≡ false → addr_of_mux b m ≡ Some (chip_address b m)
@@ -57,7 +50,9 @@ has_address_of b plain m k known line =
     let s = mux_at b m k known in
     let p : IsPlainMux s.0 = plain_mux b plain m s.0 s.1 in
     let at : addr_of_mux b m ≡ s.0.addr = ap (λ (o : Option MuxSpec). unwrap_or (option_map (λ (x : MuxSpec). x.addr) o) None) s.1 in
-    at ∙ some_addr s.0.kind s.0.addr s.0.absent (ap is_gpio s.2 ∙ line) p.chip ∙ ap (λ (o : Option ℕ). Some (unwrap_or o 0)) (sym at)
+    at
+    ∙ some_addr s.0.addr s.0.absent (subst (λ (t : Bool). IsChip t s.0.addr s.0.absent) (ap is_gpio s.2 ∙ line) p.chip)
+    ∙ ap (λ (o : Option ℕ). Some (unwrap_or o 0)) (sym at)
 
 pub has_chip-is : (b : BoardView) (m a : ℕ) → addr_of_mux b m ≡ Some a → has_chip b m ≡ not (is_absent b m)
 has_chip-is b m a e = ap (λ (o : Option ℕ). not (is_absent b m) && is_some o) e ∙ and_true (not (is_absent b m))
@@ -67,19 +62,9 @@ has_chip-is b m a e = ap (λ (o : Option ℕ). not (is_absent b m) && is_some o)
     and_true false = refl
 
 -- only an arbitrator can be held
-zero_foreign : (k : MuxKind) (n : ℕ) → is_arbitrator k ≡ false → FitsForeign k n → n ≡ 0
-zero_foreign Pca9548 n a f = f
-zero_foreign Pca9546 n a f = f
-zero_foreign Pca9544 n a f = f
-zero_foreign Gpio n a f = f
-zero_foreign Pca9541 n a f = absurd (let g : true ≡ false = a in cc)
-
-few_foreign : (k : MuxKind) (n : ℕ) → FitsForeign k n → n ≤ 8
-few_foreign Pca9541 n f = f
-few_foreign Pca9548 n f = omega arith
-few_foreign Pca9546 n f = omega arith
-few_foreign Pca9544 n f = omega arith
-few_foreign Gpio n f = omega arith
+few_foreign : (asks : Bool) (n : ℕ) → IsForeign asks n → n ≤ 8
+few_foreign true n f = f
+few_foreign false n f = omega arith
 
 pub held-is : (b : BoardView) (m : ℕ) (s : MuxSpec) → slice_get b.muxes m ≡ Some s → is_held b m ≡ eqb s.foreign 8
 held-is b m s e = ap (λ (o : Option MuxSpec). unwrap_or (option_map (λ (x : MuxSpec). eqb x.foreign 8) o) false) e
@@ -91,21 +76,18 @@ pub not_held : (b : BoardView) → IsPlainBoard b → (m : ℕ) (k : MuxKind) �
 not_held b plain m k known no_arb =
     let s = mux_at b m k known in
     let p : IsPlainMux s.0 = plain_mux b plain m s.0 s.1 in
-    held-is b m s.0 s.1 ∙ ap (λ (n : ℕ). eqb n 8) (zero_foreign s.0.kind s.0.foreign (ap is_arbitrator s.2 ∙ no_arb) p.foreign)
+    held-is b m s.0 s.1 ∙ ap (λ (n : ℕ). eqb n 8) (subst (λ (t : Bool). IsForeign t s.0.foreign) (ap is_arbitrator s.2 ∙ no_arb) p.foreign)
 
 pub foreign_few : (b : BoardView) → IsPlainBoard b → (m : ℕ) (k : MuxKind) → IsMuxOf b m k → of_mux (λ x. x.foreign) 0 b m ≤ 8
 foreign_few b plain m k known =
     let s = mux_at b m k known in
     let p : IsPlainMux s.0 = plain_mux b plain m s.0 s.1 in
-    subst (λ (n : ℕ). n ≤ 8) (sym (foreign-is b m s.0 s.1)) (few_foreign s.0.kind s.0.foreign p.foreign)
+    subst (λ (n : ℕ). n ≤ 8) (sym (foreign-is b m s.0 s.1)) (few_foreign (is_arbitrator s.0.kind) s.0.foreign p.foreign)
 
 -- a hop's channel is one of its kind
-channel_of : (k : MuxKind) (n c : ℕ) → FitsChannels k n → c < n → HasChannel k c
-channel_of Pca9548 n c f below = omega arith
-channel_of Pca9546 n c f below = omega arith
-channel_of Pca9544 n c f below = omega arith
-channel_of Pca9541 n c f below = omega arith
-channel_of Gpio n c f below = tt
+channel_of : (o : Option ℕ) (n c : ℕ) → IsCount o n → c < n → IsBelow o c
+channel_of (Some m) n c f below = omega arith
+channel_of None n c f below = tt
 
 pub has_channel : (b : BoardView) → IsPlainBoard b → (h : Hop) → IsHop b h → h.channel < of_mux (λ m. m.channels) 0 b h.mux → HasChannel h.kind h.channel
 has_channel b plain h hop below =
@@ -113,7 +95,7 @@ has_channel b plain h hop below =
     let p : IsPlainMux s.0 = plain_mux b plain h.mux s.0 s.1 in
     let n : of_mux (λ x. x.channels) 0 b h.mux ≡ s.0.channels = ap (λ (o : Option MuxSpec). unwrap_or (option_map (λ (x : MuxSpec). x.channels) o) 0) s.1 in
     subst (λ (k : MuxKind). HasChannel k h.channel) s.2
-    (channel_of s.0.kind s.0.channels h.channel p.channels (subst (λ (i : ℕ). h.channel < i) n below))
+    (channel_of (facts_of s.0.kind).channels s.0.channels h.channel p.channels (subst (λ (i : ℕ). h.channel < i) n below))
 
 pub answers-is : (b : BoardView) (m : ℕ) → is_absent b m ≡ false → is_held b m ≡ false → answers b m ≡ true
 answers-is b m here free = ap (λ (t : Bool). not t && not (is_held b m)) here ∙ ap not free

@@ -1,13 +1,16 @@
 -- What the chips do with the bytes that muxes are switched by: a select opens its channel alone, a close opens none.
-use Rattle.std.proofs.Common.{◌≡◌, ℕ, zero, suc, ◌+◌, ◌-◌, ◌*◌, ◌/◌, ◌%◌, ◌^◌, ◌<◌, ◌≤◌, Bool, true, false, cond, not, ◌&&◌, None, eqb, refl, sym, ◌∙◌, ap, subst, inl, inr, arith}
+use Rattle.std.proofs.Common.{◌≡◌, ℕ, zero, suc, ◌+◌, ◌-◌, ◌*◌, ◌/◌, ◌%◌, ◌^◌, ◌<◌, ◌≤◌, Bool, true, false, cond, not, ◌&&◌, Option, Some, None, eqb, refl, sym, ◌∙◌, ap, subst, inl, inr, arith}
 use Rattle.std.proofs.lemmas.Bool.{eqb-true, eq-eqb, cases_lt}
 use Rattle.std.proofs.lemmas.Nat.{pow_pos, pow-add, shl-shr, shr-shr, one_shl}
-use Rattle.std.proofs.Math.Nat.{zero-div, div_self, pow-suc, one-mul}
+use Rattle.std.proofs.Math.Nat.{zero-div, zero-mod, div_self, pow-suc, one-mul}
 use Rattle.i2c_base.specs.declared.board.MuxKind.{MuxKind}
-use Rattle.i2c_base.specs.declared.board.MuxKind.TheVariants.{Pca9548, Pca9546, Pca9544, Pca9541, Gpio}
-use Rattle.i2c_spec.specs.Chips.{ChipView, bit_of, opens, is_open, is_free, taken, looked, select_value, close_value, at_level}
+use Rattle.i2c_base.specs.declared.mux_facts.ChannelCode.{ChannelCode}
+use Rattle.i2c_base.specs.declared.mux_facts.ChannelCode.TheVariants.{Bits, Number, Alone, Level}
+use Rattle.i2c_base.specs.Muxes.{facts_of}
+use Rattle.i2c_base.proofs.MuxLemmas.{FitsCode, facts_fit}
+use Rattle.i2c_spec.specs.Chips.{ChipView, bit_of, opens_by, opens, is_open, is_free, arbitrated, taken, looked, select_by, select_value, close_value, at_level}
 use Rattle.bus_spec.specs.Walk.{is_gpio, is_arbitrator}
-use Rattle.bus_laws.proofs.world.Control.{put_byte}
+use Rattle.bus_laws.proofs.world.Control.{put_byte, on_look}
 use Rattle.bus_laws.proofs.tree.Slots.{eqb-apart}
 use Rattle.bus_laws.proofs.world.Reach.{and_right}
 
@@ -48,13 +51,13 @@ bit_power-same c = ap (λ (n : ℕ). eqb (n % 2) 1) (div_self (pow_pos c))
 pub bit_zero : (c : ℕ) → bit_of 0 c ≡ false
 bit_zero c = ap (λ (n : ℕ). eqb (n % 2) 1) (zero-div (2 ^ c))
 
--- which channels a kind of mux has
+-- which channels a kind of mux has, as far as the kind says it
+abbrev pub IsBelow : Option ℕ → ℕ → Type 0
+IsBelow (Some n) c = c < n
+IsBelow None c = Unit {0}
+
 abbrev pub HasChannel : MuxKind → ℕ → Type 0
-HasChannel Pca9548 c = c < 8
-HasChannel Pca9546 c = c < 4
-HasChannel Pca9544 c = c < 4
-HasChannel Pca9541 c = c ≡ 0
-HasChannel Gpio c = Unit {0}
+HasChannel k c = IsBelow (facts_of k).channels c
 
 kept_power : (c w : ℕ) → c < w → 2 ^ c % 2 ^ w ≡ 2 ^ c
 kept_power c w below = ap (λ (n : ℕ). n % 2 ^ w) (sym (one-mul (2 ^ c))) ∙ one_shl c w below
@@ -64,8 +67,8 @@ pub record OpensOne (x : ChipView) (channel : ℕ) : Type 0 where
   pub opened : is_open x channel ≡ true
   pub only : (c : ℕ) → is_open x c ≡ true → channel ≡ c
 
-opens_power : (k : MuxKind) (x : ChipView) (control channel : ℕ) → ((c : ℕ) → is_open x c ≡ bit_of control c) → control ≡ 2 ^ channel → OpensOne x channel
-opens_power k x control channel is at =
+opens_power : (x : ChipView) (control channel : ℕ) → ((c : ℕ) → is_open x c ≡ bit_of control c) → control ≡ 2 ^ channel → OpensOne x channel
+opens_power x control channel is at =
     record {
       opened = is channel ∙ ap (λ (n : ℕ). bit_of n channel) at ∙ bit_power-same channel;
       only = λ c e. bit_power channel c (ap (λ (n : ℕ). bit_of n c) (sym at) ∙ sym (is c) ∙ e);
@@ -81,50 +84,84 @@ mux_bits c below = by_case c below
     by_case (suc (suc (suc zero))) p = (refl, refl)
     by_case (suc (suc (suc (suc c)))) p = absurd (omega arith)
 
+-- what a byte makes of a chip, by the facts of its kind
+abbrev taken_by : (asks by_line : Bool) (bits : ℕ) → ChipView → ℕ → ChipView
+taken_by asks by_line bits x byte =
+    cond asks (arbitrated (put_byte byte x) byte) (cond by_line (put_byte byte x) (record x { control = byte % 2 ^ bits; waiting = None }))
+
+module _ (k : MuxKind) (x : ChipView) (channel : ℕ) (kind : x.kind ≡ k) where
+  -- the byte is taken, once its code and the facts are known
+  taken_at : (code : ChannelCode) (asks by_line : Bool) (bits : ℕ) → (facts_of k).code ≡ code → (facts_of k).asks ≡ asks → (facts_of k).by_line ≡ by_line
+      → (facts_of k).bits ≡ bits → taken k (put_byte (select_value k channel) x) (select_value k channel) ≡ taken_by asks by_line bits x (select_by code channel)
+  taken_at code asks by_line bits c a l n =
+      ap (λ (v : ChannelCode). taken_by (facts_of k).asks (facts_of k).by_line (facts_of k).bits x (select_by v channel)) c
+      ∙ ap (λ (v : Bool). taken_by v (facts_of k).by_line (facts_of k).bits x (select_by code channel)) a
+      ∙ ap (λ (v : Bool). taken_by asks v (facts_of k).bits x (select_by code channel)) l
+      ∙ ap (λ (v : ℕ). taken_by asks by_line v x (select_by code channel)) n
+
+  opens_at : (code : ChannelCode) → (facts_of k).code ≡ code → (control c : ℕ) → opens x.kind control c ≡ opens_by code control c
+  opens_at code at control c = ap (λ (j : MuxKind). opens j control c) kind ∙ ap (λ (v : ChannelCode). opens_by v control c) at
+
+  below : (n : ℕ) → (facts_of k).channels ≡ Some n → HasChannel k channel → channel < n
+  below n e has = subst (λ (o : Option ℕ). IsBelow o channel) e has
+
+  select_by_code : (code : ChannelCode) → (facts_of k).code ≡ code → FitsCode code (facts_of k) → is_gpio k ≡ false → HasChannel k channel
+      → (is_arbitrator k ≡ true → is_free x ≡ true) → OpensOne (taken k (put_byte (select_value k channel) x) (select_value k channel)) channel
+  select_by_code Bits at fits line has free =
+      let bits = (facts_of k).bits in
+      let y : ChipView = record x { control = 2 ^ channel % 2 ^ bits; waiting = None } in
+      subst (λ (z : ChipView). OpensOne z channel) (sym (taken_at Bits false false bits at fits.3 fits.2 refl))
+      (opens_power y (2 ^ channel % 2 ^ bits) channel (opens_at Bits at (2 ^ channel % 2 ^ bits)) (kept_power channel bits (below bits fits.0 has)))
+  select_by_code Number at fits line has free =
+      let bits = mux_bits channel (below 4 fits.0 has) in
+      subst (λ (z : ChipView). OpensOne z channel) (sym (taken_at Number false false 3 at fits.3 fits.2 fits.1))
+      (record {
+        opened = opens_at Number at ((4 + channel) % 8) channel
+            ∙ ap (λ (t : Bool). t && eqb ((4 + channel) % 8 % 4) channel) bits.0 ∙ eq-eqb ((4 + channel) % 8 % 4) channel bits.1;
+        only = λ c e. sym bits.1 ∙ eqb-true ((4 + channel) % 8 % 4) c
+            (and_right (bit_of ((4 + channel) % 8) 2) (eqb ((4 + channel) % 8 % 4) c) (sym (opens_at Number at ((4 + channel) % 8) c) ∙ e));
+      })
+  select_by_code Alone at fits line has free =
+      let y : ChipView = record x { control = 1; waiting = None } in
+      let only_one : channel ≡ 0 = (let l : channel < 1 = below 1 fits.0 has in omega arith) in
+      let is : taken_by true false (facts_of k).bits x 1 ≡ y = ap (λ (t : Bool). cond t y (record x { waiting = None })) (free fits.3) in
+      subst (λ (z : ChipView). OpensOne z channel) (sym (taken_at Alone true false (facts_of k).bits at fits.3 fits.2 refl ∙ is))
+      (record {
+        opened = opens_at Alone at 1 channel ∙ eq-eqb channel 0 only_one;
+        only = λ c e. only_one ∙ sym (eqb-true c 0 (sym (opens_at Alone at 1 c) ∙ e));
+      })
+  select_by_code Level at fits line has free = absurd (let f : true ≡ false = sym fits.2 ∙ line in cc)
+
 pub select_opens : (k : MuxKind) (x : ChipView) (channel : ℕ) → x.kind ≡ k → is_gpio k ≡ false → HasChannel k channel
     → (is_arbitrator k ≡ true → is_free x ≡ true) → OpensOne (taken k (put_byte (select_value k channel) x) (select_value k channel)) channel
-select_opens Pca9548 x channel kind line has free =
-    opens_power Pca9548 (taken Pca9548 (put_byte (2 ^ channel) x) (2 ^ channel)) (2 ^ channel % 256) channel
-    (λ c. ap (λ (j : MuxKind). opens j (2 ^ channel % 256) c) kind) (kept_power channel 8 has)
-select_opens Pca9546 x channel kind line has free =
-    opens_power Pca9546 (taken Pca9546 (put_byte (2 ^ channel) x) (2 ^ channel)) (2 ^ channel % 16) channel
-    (λ c. ap (λ (j : MuxKind). opens j (2 ^ channel % 16) c) kind) (kept_power channel 4 has)
-select_opens Pca9544 x channel kind line has free =
-    let bits = mux_bits channel has in
-    record {
-      opened = ap (λ (j : MuxKind). opens j ((4 + channel) % 8) channel) kind
-          ∙ ap (λ (t : Bool). t && eqb ((4 + channel) % 8 % 4) channel) bits.0 ∙ eq-eqb ((4 + channel) % 8 % 4) channel bits.1;
-      only = λ c e. sym bits.1 ∙ eqb-true ((4 + channel) % 8 % 4) c
-          (and_right (bit_of ((4 + channel) % 8) 2) (eqb ((4 + channel) % 8 % 4) c) (sym (ap (λ (j : MuxKind). opens j ((4 + channel) % 8) c) kind) ∙ e));
-    }
-select_opens Pca9541 x channel kind line has free =
-    let y : ChipView = record x { control = 1; waiting = None } in
-    let is : taken Pca9541 (put_byte 1 x) 1 ≡ y = ap (λ (t : Bool). cond t y (record x { waiting = None })) (free refl) in
-    subst (λ (z : ChipView). OpensOne z channel) (sym is)
-    (record {
-      opened = ap (λ (j : MuxKind). opens j 1 channel) kind ∙ eq-eqb channel 0 has;
-      only = λ c e. has ∙ sym (eqb-true c 0 (sym (ap (λ (j : MuxKind). opens j 1 c) kind) ∙ e));
-    })
-select_opens Gpio x channel kind line has free = absurd (let f : true ≡ false = line in cc)
+select_opens k x channel kind line has free = select_by_code k x channel kind (facts_of k).code refl (facts_fit k) line has free
 
 -- CLOSES: no channel is open
-pub close_opens : (k : MuxKind) (x : ChipView) (c : ℕ) → x.kind ≡ k → is_gpio k ≡ false → is_open (taken k (put_byte close_value x) close_value) c ≡ false
-close_opens Pca9548 x c kind line = ap (λ (j : MuxKind). opens j 0 c) kind ∙ bit_zero c
-close_opens Pca9546 x c kind line = ap (λ (j : MuxKind). opens j 0 c) kind ∙ bit_zero c
-close_opens Pca9544 x c kind line = ap (λ (j : MuxKind). opens j 0 c) kind
-close_opens Pca9541 x c kind line = ap (λ (j : MuxKind). opens j 0 c) kind
-close_opens Gpio x c kind line = absurd (let f : true ≡ false = line in cc)
+pub shut_at_zero : (code : ChannelCode) (c : ℕ) → opens_by code 0 c ≡ false
+shut_at_zero Bits c = bit_zero c
+shut_at_zero Number c = refl
+shut_at_zero Alone c = refl
+shut_at_zero Level c = eqb-apart 0 (c + 1) (λ e. absurd (omega arith))
+
+pub close_opens : (k : MuxKind) (x : ChipView) (c : ℕ) → is_gpio k ≡ false → is_open (taken k (put_byte close_value x) close_value) c ≡ false
+close_opens k x c line = by_facts (facts_of k).asks (facts_of k).by_line (facts_of k).bits line
+  where
+    by_facts : (asks by_line : Bool) (bits : ℕ) → by_line ≡ false → is_open (taken_by asks by_line bits x 0) c ≡ false
+    by_facts true by_line bits e = shut_at_zero (facts_of x.kind).code c
+    by_facts false false bits e =
+        ap (λ (n : ℕ). opens_by (facts_of x.kind).code n c) (zero-mod (2 ^ bits)) ∙ shut_at_zero (facts_of x.kind).code c
+    by_facts false true bits e = absurd (let f : true ≡ false = e in cc)
 
 -- LINES: the level opens one channel or none
-pub level_opens : (x : ChipView) (channel : ℕ) → x.kind ≡ Gpio → OpensOne (at_level x (channel + 1)) channel
-level_opens x channel kind =
+pub level_opens : (x : ChipView) (channel : ℕ) → (facts_of x.kind).code ≡ Level → OpensOne (at_level x (channel + 1)) channel
+level_opens x channel code =
     record {
-      opened = ap (λ (j : MuxKind). opens j (channel + 1) channel) kind ∙ eq-eqb (channel + 1) (channel + 1) refl;
-      only = λ c e. (let f : channel + 1 ≡ c + 1 = eqb-true (channel + 1) (c + 1) (sym (ap (λ (j : MuxKind). opens j (channel + 1) c) kind) ∙ e) in omega arith);
+      opened = ap (λ (v : ChannelCode). opens_by v (channel + 1) channel) code ∙ eq-eqb (channel + 1) (channel + 1) refl;
+      only = λ c e. (let f : channel + 1 ≡ c + 1 = eqb-true (channel + 1) (c + 1) (sym (ap (λ (v : ChannelCode). opens_by v (channel + 1) c) code) ∙ e) in omega arith);
     }
 
-pub level_closes : (x : ChipView) (c : ℕ) → x.kind ≡ Gpio → is_open (at_level x 0) c ≡ false
-level_closes x c kind = ap (λ (j : MuxKind). opens j 0 c) kind ∙ eqb-apart 0 (c + 1) (λ e. absurd (omega arith))
+pub level_closes : (x : ChipView) (c : ℕ) → is_open (at_level x 0) c ≡ false
+level_closes x c = shut_at_zero (facts_of x.kind).code c
 
 -- a chip keeps its kind, and what it is
 pub record SameSort (x y : ChipView) : Type 0 where
@@ -137,24 +174,19 @@ abbrev pub chosen_byte : MuxKind → ChipView → ℕ → ChipView
 chosen_byte k x byte = taken k (put_byte byte x) byte
 
 pub taken_sort : (k : MuxKind) (x : ChipView) (byte : ℕ) → is_gpio k ≡ false → SameSort x (chosen_byte k x byte)
-taken_sort Pca9548 x byte line = record { kind = refl; foreign = refl; left = λ h. h; waiting = λ e. refl }
-taken_sort Pca9546 x byte line = record { kind = refl; foreign = refl; left = λ h. h; waiting = λ e. refl }
-taken_sort Pca9544 x byte line = record { kind = refl; foreign = refl; left = λ h. h; waiting = λ e. refl }
-taken_sort Pca9541 x byte line = by_bit (not (bit_of byte 0)) (is_free x)
+taken_sort k x byte line = by_facts (facts_of k).asks (facts_of k).by_line (facts_of k).bits line
   where
     by_bit : (s t : Bool) → SameSort x (cond s (record x { control = 0; waiting = None; left = x.foreign }) (cond t (record x { control = 1; waiting = None }) (record x { waiting = None })))
     by_bit true t = record { kind = refl; foreign = refl; left = λ h. omega arith; waiting = λ e. refl }
     by_bit false true = record { kind = refl; foreign = refl; left = λ h. h; waiting = λ e. refl }
     by_bit false false = record { kind = refl; foreign = refl; left = λ h. h; waiting = λ e. refl }
-taken_sort Gpio x byte line = absurd (let f : true ≡ false = line in cc)
+
+    by_facts : (asks by_line : Bool) (bits : ℕ) → by_line ≡ false → SameSort x (taken_by asks by_line bits x byte)
+    by_facts true by_line bits e = by_bit (not (bit_of byte 0)) (is_free x)
+    by_facts false false bits e = record { kind = refl; foreign = refl; left = λ h. h; waiting = λ e. refl }
+    by_facts false true bits e = absurd (let f : true ≡ false = e in cc)
 
 pub looked_sort : (k : MuxKind) (x : ChipView) → SameSort x (looked k x)
-looked_sort Pca9541 x = by_foreign (eqb x.foreign 8)
-  where
-    by_foreign : (t : Bool) → SameSort x (cond t x (record x { left = x.left - 1 }))
-    by_foreign true = record { kind = refl; foreign = refl; left = λ h. h; waiting = λ e. e }
-    by_foreign false = record { kind = refl; foreign = refl; left = λ h. omega arith; waiting = λ e. e }
-looked_sort Pca9548 x = record { kind = refl; foreign = refl; left = λ h. h; waiting = λ e. e }
-looked_sort Pca9546 x = record { kind = refl; foreign = refl; left = λ h. h; waiting = λ e. e }
-looked_sort Pca9544 x = record { kind = refl; foreign = refl; left = λ h. h; waiting = λ e. e }
-looked_sort Gpio x = record { kind = refl; foreign = refl; left = λ h. h; waiting = λ e. e }
+looked_sort k x =
+    on_look (λ (y : ChipView). SameSort x y) k x (record { kind = refl; foreign = refl; left = λ h. h; waiting = λ e. e })
+    (record { kind = refl; foreign = refl; left = λ h. omega arith; waiting = λ e. e })

@@ -14,7 +14,7 @@ use Rattle.i2c_base.specs.declared.port.PortCall.TheVariants as call
 use Rattle.i2c_base.specs.declared.entry.End.{End}
 use Rattle.i2c_base.specs.declared.entry.End.TheVariants as end
 use Rattle.i2c_base.specs.declared.board.MuxKind.{MuxKind}
-use Rattle.i2c_base.specs.declared.board.MuxKind.TheVariants.{Pca9548, Pca9546, Pca9544, Pca9541, Gpio}
+use Rattle.i2c_base.specs.Muxes.{facts_of}
 use Rattle.i2c_base.specs.declared.ids.Node.{Node}
 use Rattle.i2c_base.specs.declared.ids.Node.TheVariants as node
 use Rattle.i2c_base.specs.Board.{BoardView}
@@ -72,16 +72,17 @@ put_byte byte x = record x { waiting = Some byte }
 abbrev pub taken_byte : ℕ → ChipView → ChipView
 taken_byte byte x = taken x.kind (put_byte byte x) byte
 
-looked_waits : (k : MuxKind) (x : ChipView) → (looked k x).waiting ≡ x.waiting
-looked_waits Pca9541 x = by_foreign (eqb x.foreign 8)
+-- a look leaves a chip as it is, or finds it once less
+pub on_look : (P : ChipView → Type 0) (k : MuxKind) (x : ChipView) → P x → P (record x { left = x.left - 1 }) → P (looked k x)
+on_look P k x same less = by_facts (facts_of k).asks (eqb x.foreign 8)
   where
-    by_foreign : (t : Bool) → (cond t x (record x { left = x.left - 1 })).waiting ≡ x.waiting
-    by_foreign true = refl
-    by_foreign false = refl
-looked_waits Pca9548 x = refl
-looked_waits Pca9546 x = refl
-looked_waits Pca9544 x = refl
-looked_waits Gpio x = refl
+    by_facts : (asks held : Bool) → P (cond asks (cond held x (record x { left = x.left - 1 })) x)
+    by_facts true true = same
+    by_facts true false = less
+    by_facts false held = same
+
+looked_waits : (k : MuxKind) (x : ChipView) → (looked k x).waiting ≡ x.waiting
+looked_waits k x = on_look (λ (y : ChipView). y.waiting ≡ x.waiting) k x refl refl
 
 map_option : (o : Option ChipView) (f g h : ChipView → ChipView) → ((x : ChipView) → o ≡ Some x → f (g x) ≡ h x) → option_map f (option_map g o) ≡ option_map h o
 map_option None f g h e = refl
@@ -116,15 +117,7 @@ given_one b r cs ds busy m e i x =
     ]
 
 pub looked_opens : (k : MuxKind) (x : ChipView) (c : ℕ) → is_open (looked k x) c ≡ is_open x c
-looked_opens Pca9541 x c = by_foreign (eqb x.foreign 8)
-  where
-    by_foreign : (t : Bool) → is_open (cond t x (record x { left = x.left - 1 })) c ≡ is_open x c
-    by_foreign true = refl
-    by_foreign false = refl
-looked_opens Pca9548 x c = refl
-looked_opens Pca9546 x c = refl
-looked_opens Pca9544 x c = refl
-looked_opens Gpio x c = refl
+looked_opens k x c = on_look (λ (y : ChipView). is_open y c ≡ is_open x c) k x refl refl
 
 abbrev pub look : ChipView → ChipView
 look x = looked x.kind x

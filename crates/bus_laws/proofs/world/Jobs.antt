@@ -7,7 +7,7 @@ use Rattle.std.proofs.lemmas.Bool.Decides.{eqb_tells}
 use Rattle.i2c_base.specs.declared.entry.End.{End}
 use Rattle.i2c_base.specs.declared.entry.End.TheVariants as end
 use Rattle.i2c_base.specs.declared.board.MuxKind.{MuxKind}
-use Rattle.i2c_base.specs.declared.board.MuxKind.TheVariants.{Pca9548, Pca9546, Pca9544, Pca9541, Gpio}
+use Rattle.i2c_base.specs.Muxes.{facts_of}
 use Rattle.i2c_base.specs.declared.board.MuxSpec.{MuxSpec}
 use Rattle.i2c_base.specs.declared.ids.LockId.{LockId}
 use Rattle.i2c_base.specs.Board.{BoardView}
@@ -49,17 +49,10 @@ each_same None t = refl
 each_same (Some x) true = refl
 each_same (Some x) false = refl
 
-arbitrator_kind : (k : MuxKind) → is_arbitrator k ≡ true → k ≡ Pca9541
-arbitrator_kind Pca9541 e = refl
-arbitrator_kind Pca9548 e = absurd (let f : false ≡ true = e in cc)
-arbitrator_kind Pca9546 e = absurd (let f : false ≡ true = e in cc)
-arbitrator_kind Pca9544 e = absurd (let f : false ≡ true = e in cc)
-arbitrator_kind Gpio e = absurd (let f : false ≡ true = e in cc)
-
 -- a look at an arbitrator that is found taken finds it once less, or it is held; one that is found free is free
-look_left : (x : ChipView) (k : ℕ) → x.kind ≡ Pca9541 → (x.left ≤ suc k) ⊎ (x.foreign ≡ 8) → ((look x).left ≤ k) ⊎ ((look x).foreign ≡ 8)
-look_left x k kind few =
-    subst (λ (y : ChipView). (y.left ≤ k) ⊎ (y.foreign ≡ 8)) (sym (ap (λ (j : MuxKind). looked j x) kind)) (by_foreign (eqb_tells x.foreign 8))
+look_left : (x : ChipView) (k : ℕ) → is_arbitrator x.kind ≡ true → (x.left ≤ suc k) ⊎ (x.foreign ≡ 8) → ((look x).left ≤ k) ⊎ ((look x).foreign ≡ 8)
+look_left x k asks few =
+    subst (λ (y : ChipView). (y.left ≤ k) ⊎ (y.foreign ≡ 8)) (sym (ap (λ (t : Bool). cond t (cond (eqb x.foreign 8) x (record x { left = x.left - 1 })) x) asks)) (by_foreign (eqb_tells x.foreign 8))
   where
     by_foreign : ((eqb x.foreign 8 ≡ true) × (x.foreign ≡ 8)) ⊎ ((eqb x.foreign 8 ≡ false) × (x.foreign ≡ 8 → ⊥))
         → ((cond (eqb x.foreign 8) x (record x { left = x.left - 1 })).left ≤ k) ⊎ ((cond (eqb x.foreign 8) x (record x { left = x.left - 1 })).foreign ≡ 8)
@@ -68,9 +61,9 @@ look_left x k kind few =
         inl (subst (λ (t : Bool). (cond t x (record x { left = x.left - 1 })).left ≤ k) (sym not_held.0)
         (elim few [ inl l ↦ (let at : x.left ≤ suc k = l in omega arith) | inr f ↦ absurd (not_held.1 f) ]))
 
-look_free : (x : ChipView) → x.kind ≡ Pca9541 → is_foreign x ≡ false → is_free (look x) ≡ true
-look_free x kind free =
-    subst (λ (y : ChipView). is_free y ≡ true) (sym (ap (λ (j : MuxKind). looked j x) kind)) (by_foreign (eqb x.foreign 8) (ltb 0 x.left) refl refl free)
+look_free : (x : ChipView) → is_arbitrator x.kind ≡ true → is_foreign x ≡ false → is_free (look x) ≡ true
+look_free x asks free =
+    subst (λ (y : ChipView). is_free y ≡ true) (sym (ap (λ (t : Bool). cond t (cond (eqb x.foreign 8) x (record x { left = x.left - 1 })) x) asks)) (by_foreign (eqb x.foreign 8) (ltb 0 x.left) refl refl free)
   where
     by_foreign : (t u : Bool) → eqb x.foreign 8 ≡ t → ltb 0 x.left ≡ u → (eqb x.foreign 8 || ltb 0 x.left) ≡ false
         → is_free (cond (eqb x.foreign 8) x (record x { left = x.left - 1 })) ≡ true
@@ -238,8 +231,8 @@ module _ (b : BoardView) (tree : IsTree b) (plain : IsPlainBoard b) (v : Slots) 
         opened = λ h e. absurd (let g : Clean ≡ Selected h = e in cc);
         polled = λ h n e. absurd (let g : Clean ≡ Polled h n = e in cc);
         found = λ h e. absurd (let g : Clean ≡ Found h = e in cc);
-        only = λ c x at opens. absurd (let g : false ≡ true = sym (close_opens x.kind x c refl (no_line x at)) ∙ opens in cc);
-        absent = λ c x e at. close_opens x.kind x c refl (no_line x at);
+        only = λ c x at opens. absurd (let g : false ≡ true = sym (close_opens x.kind x c (no_line x at)) ∙ opens in cc);
+        absent = λ c x e at. close_opens x.kind x c (no_line x at);
       })
 
   abbrev close_message : MessageView
@@ -368,8 +361,8 @@ module _ (b : BoardView) (tree : IsTree b) (plain : IsPlainBoard b) (v : Slots) 
       abbrev poll_message : MessageView
       poll_message = read_byte (chip_address b m)
 
-      arb-kind : (x : ChipView) → chip_in b ws m ≡ Some x → x.kind ≡ Pca9541
-      arb-kind x at = kind-of x at ∙ arbitrator_kind kind arb
+      arb-asks : (x : ChipView) → chip_in b ws m ≡ Some x → is_arbitrator x.kind ≡ true
+      arb-asks x at = ap is_arbitrator (kind-of x at) ∙ arb
 
       few_left : (x : ChipView) → chip_in b ws m ≡ Some x → (x.left ≤ n) ⊎ (x.foreign ≡ 8)
       few_left x at =
@@ -408,7 +401,7 @@ module _ (b : BoardView) (tree : IsTree b) (plain : IsPlainBoard b) (v : Slots) 
             polled = λ g j e. (let f : (h ≡ g) × (k ≡ j) = (let e2 : Polled h k ≡ Polled g j = e in (cc, cc)) in (
               ap (λ (i : Hop). i.mux) (sym f.0) ∙ same_mux,
               λ x at. subst (λ (i : ℕ). ((look x).left ≤ i) ⊎ ((look x).foreign ≡ 8)) f.1
-                  (look_left x k (arb-kind x at) (subst (λ (i : ℕ). (x.left ≤ i) ⊎ (x.foreign ≡ 8)) at_k (few_left x at))),
+                  (look_left x k (arb-asks x at) (subst (λ (i : ℕ). (x.left ≤ i) ⊎ (x.foreign ≡ 8)) at_k (few_left x at))),
             ));
             found = λ g e. absurd (let f : Polled h k ≡ Found g = e in cc);
             only = λ c x at opens. absurd (shut_now c x at opens);
@@ -423,7 +416,7 @@ module _ (b : BoardView) (tree : IsTree b) (plain : IsPlainBoard b) (v : Slots) 
             found = λ g e. (let f : h ≡ g = (let e2 : Found h ≡ Found g = e in cc) in (
               ap (λ (i : Hop). i.mux) (sym f) ∙ same_mux,
               λ x at. (let same : chip.0 ≡ x = (let e3 : Some chip.0 ≡ Some x = sym chip-told ∙ at in cc) in
-                  subst (λ (y : ChipView). is_free (look y) ≡ true) same (look_free chip.0 (arb-kind chip.0 chip-told) free)),
+                  subst (λ (y : ChipView). is_free (look y) ≡ true) same (look_free chip.0 (arb-asks chip.0 chip-told) free)),
             ));
             only = λ c x at opens. absurd (shut_now c x at opens);
             absent = λ c x gone at. absurd (let f : true ≡ false = sym gone ∙ here in cc);
@@ -446,7 +439,7 @@ module _ (b : BoardView) (tree : IsTree b) (plain : IsPlainBoard b) (v : Slots) 
       -- what the chip sends says whether it is taken
       sends_is : (t : Bool) → is_foreign chip.0 ≡ t → bit_and (chip_sends chip.0.kind chip.0) 255 ≡ cond t 1 0
       sends_is t e =
-          ap (λ (k : MuxKind). bit_and (chip_sends k chip.0) 255) (arb-kind chip.0 chip-told)
+          ap (λ (u : Bool). bit_and (cond u (cond (is_foreign chip.0) 1 0) (cond (is_gpio chip.0.kind) 255 chip.0.control)) 255) (arb-asks chip.0 chip-told)
           ∙ ap (λ (u : Bool). bit_and (cond u 1 0) 255) e ∙ by_test t
         where
           by_test : (u : Bool) → bit_and (cond u 1 0) 255 ≡ cond u 1 0

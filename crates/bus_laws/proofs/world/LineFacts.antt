@@ -4,21 +4,14 @@ use Rattle.std.specs.Prelude.{slice_get, unwrap_or}
 use Rattle.std.specs.Option.{option_map}
 use Rattle.std.proofs.lemmas.Bool.{ltb-false}
 use Rattle.std.proofs.lemmas.Option.{slice_get_within}
-use Rattle.i2c_base.specs.declared.board.MuxKind.{MuxKind}
-use Rattle.i2c_base.specs.declared.board.MuxKind.TheVariants.{Pca9548, Pca9546, Pca9544, Pca9541, Gpio}
+use Rattle.i2c_base.specs.declared.board.MuxKind.TheVariants.{Pca9548}
 use Rattle.i2c_base.specs.declared.board.MuxSpec.{MuxSpec}
 use Rattle.i2c_base.specs.Board.{BoardView}
+use Rattle.i2c_base.proofs.MuxLemmas.{line_row}
 use Rattle.i2c_spec.specs.Tree.{Hop, hops, of_mux, is_parent, home_of_mux, IsAmongHops}
 use Rattle.i2c_spec.specs.Rules.{MeetsRules, wants_parent}
 use Rattle.bus_spec.specs.Walk.{is_gpio}
 use Rattle.bus_laws.specs.Lines.{LinesAreLocked}
-
-gpio_wants : (k : MuxKind) → is_gpio k ≡ true → wants_parent k ≡ true
-gpio_wants Gpio e = refl
-gpio_wants Pca9548 e = absurd (let f : false ≡ true = e in cc)
-gpio_wants Pca9546 e = absurd (let f : false ≡ true = e in cc)
-gpio_wants Pca9544 e = absurd (let f : false ≡ true = e in cc)
-gpio_wants Pca9541 e = absurd (let f : false ≡ true = e in cc)
 
 pub wanted : (p q : Bool) → p ≡ true → (p && not q) ≡ false → q ≡ true
 wanted true true e f = refl
@@ -52,7 +45,7 @@ module _ (b : BoardView) (rules : MeetsRules b) (m : ℕ) (g : Hop) (among : IsA
       sym (ap (λ (o : Option MuxSpec). unwrap_or (option_map (λ (x : MuxSpec). wants_parent x.kind && not (is_parent x.lock)) o) false) at) ∙ rules.parents m below in
       let parent : of_mux (λ x. is_parent x.lock) false b m ≡ true =
       ap (λ (o : Option MuxSpec). unwrap_or (option_map (λ (x : MuxSpec). is_parent x.lock) o) false) at
-      ∙ wanted (wants_parent s.kind) (is_parent s.lock) (gpio_wants s.kind gpio) wrong in
+      ∙ wanted (wants_parent s.kind) (is_parent s.lock) (line_row s.kind gpio).wants_parent wrong in
       all_parents (hops b (home_of_mux b m)) g among
       (sym (ap (λ (t : Bool). nat_lt 0 (length (cond t (filter (λ (h : Hop). not h.parent) (hops b (of_mux (λ x. x.bus) 0 b m))) []))) parent) ∙ rules.locks m below)
 

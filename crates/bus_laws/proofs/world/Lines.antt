@@ -6,14 +6,17 @@ use Rattle.std.proofs.lemmas.Bool.Decides.{eqb_tells}
 use Rattle.std.proofs.Math.ListN.{length-set}
 use Rattle.std.proofs.Math.Dec.{eqb-zero-suc, eqb-suc-zero, eqb-suc-suc}
 use Rattle.i2c_base.specs.declared.board.MuxKind.{MuxKind}
-use Rattle.i2c_base.specs.declared.board.MuxKind.TheVariants.{Pca9548, Pca9546, Pca9544, Pca9541, Gpio}
+use Rattle.i2c_base.specs.declared.mux_facts.ChannelCode.{ChannelCode}
+use Rattle.i2c_base.specs.declared.mux_facts.ChannelCode.TheVariants.{Bits, Number, Alone, Level}
+use Rattle.i2c_base.specs.Muxes.{facts_of}
+use Rattle.i2c_base.proofs.MuxLemmas.{line_row}
 use Rattle.i2c_base.specs.declared.board.MuxSpec.{MuxSpec}
 use Rattle.i2c_base.specs.declared.ids.LockId.{LockId}
 use Rattle.i2c_base.specs.Board.{BoardView}
 use Rattle.i2c_spec.specs.Tree.{Hop, root_of, home_of_mux, is_absent}
 use Rattle.i2c_spec.specs.TreeFacts.{IsTree, IsHop}
-use Rattle.i2c_spec.specs.Plain.{IsPlainBoard, IsPlainMux, FitsChip}
-use Rattle.i2c_spec.specs.Chips.{ChipView, is_open, at_level, select_value}
+use Rattle.i2c_spec.specs.Plain.{IsPlainBoard, IsPlainMux, IsChip}
+use Rattle.i2c_spec.specs.Chips.{ChipView, is_open, at_level, select_by}
 use Rattle.i2c_spec.specs.World.{World, after, set_level, stopped}
 use Rattle.i2c_spec.specs.History.{changed_at}
 use Rattle.bus_spec.specs.Walk.{Mark, Job, Call, Select, Clear, Lined, job_bus, is_gpio}
@@ -78,29 +81,25 @@ length-level cs m level = by_chip (slice_get cs m)
 level_sort : (x : ChipView) (level : ℕ) → SameSort x (at_level x level)
 level_sort x level = record { kind = refl; foreign = refl; left = λ h. h; waiting = λ e. e }
 
-gpio_kind : (k : MuxKind) → is_gpio k ≡ true → k ≡ Gpio
-gpio_kind Gpio e = refl
-gpio_kind Pca9548 e = absurd (let f : false ≡ true = e in cc)
-gpio_kind Pca9546 e = absurd (let f : false ≡ true = e in cc)
-gpio_kind Pca9544 e = absurd (let f : false ≡ true = e in cc)
-gpio_kind Pca9541 e = absurd (let f : false ≡ true = e in cc)
-
--- a gpio mux has no chip that could be absent
-gpio_here : (b : BoardView) → IsPlainBoard b → (m : ℕ) → IsMuxOf b m Gpio → is_absent b m ≡ false
-gpio_here b plain m known =
-    let s = mux_at b m Gpio known in
+-- a mux that is switched by a line has no chip that could be absent
+line_here : (b : BoardView) → IsPlainBoard b → (m : ℕ) (k : MuxKind) → IsMuxOf b m k → is_gpio k ≡ true → is_absent b m ≡ false
+line_here b plain m k known by_line =
+    let s = mux_at b m k known in
     let p : IsPlainMux s.0 = plain_mux b plain m s.0 s.1 in
     ap (λ (o : Option MuxSpec). unwrap_or (option_map (λ (x : MuxSpec). x.absent) o) true) s.1
-    ∙ (let f : FitsChip Gpio s.0.addr s.0.absent = subst (λ (k : MuxKind). FitsChip k s.0.addr s.0.absent) s.2 p.chip in f.1)
+    ∙ (let f : IsChip true s.0.addr s.0.absent = subst (λ (t : Bool). IsChip t s.0.addr s.0.absent) (ap is_gpio s.2 ∙ by_line) p.chip in f.1)
 
 module _ (b : BoardView) (plain : IsPlainBoard b) (v : Slots) (ws : ℕ → World) (world : WorldTold b v ws)
-    (p m : ℕ) (known : IsMuxOf b m Gpio) (home : home_of_mux b m ≡ p)
+    (p m : ℕ) (k : MuxKind) (known : IsMuxOf b m k) (by_line : is_gpio k ≡ true) (home : home_of_mux b m ≡ p)
     (held : List LockId) (marks : List Mark) (fail : MayFail b marks held v) (own : IsOfMux m (v p).slot) where
   root_home : root_of b (home_of_mux b m) ≡ root_of b p
   root_home = ap (λ (i : ℕ). root_of b i) home
 
-  kind-of : (x : ChipView) → chip_in b ws m ≡ Some x → x.kind ≡ Gpio
-  kind-of x e = (let f : Some x.kind ≡ Some Gpio = sym (world.told.kept m x e).kind ∙ known in cc)
+  code-of : (x : ChipView) → chip_in b ws m ≡ Some x → (facts_of x.kind).code ≡ Level
+  code-of x e =
+      let f : Some x.kind ≡ Some k = sym (world.told.kept m x e).kind ∙ known in
+      let kind : x.kind ≡ k = cc in
+      ap (λ (j : MuxKind). (facts_of j).code) kind ∙ (line_row k by_line).code
 
   -- the line is set
   line_turn : (level : ℕ) (u : Slots) (s : MuxSlot) → (u p).slot ≡ s → ((q : ℕ) → (q ≡ p → ⊥) → u q ≡ v q) → SlotTold b (chip_in b ws) m (λ x. at_level x level) s
@@ -137,14 +136,14 @@ module _ (b : BoardView) (plain : IsPlainBoard b) (v : Slots) (ws : ℕ → Worl
         opened = λ h e. absurd (let g : Clean ≡ Selected h = e in cc);
         polled = λ h n e. absurd (let g : Clean ≡ Polled h n = e in cc);
         found = λ h e. absurd (let g : Clean ≡ Found h = e in cc);
-        only = λ c x at opens. absurd (let g : false ≡ true = sym (level_closes x c (kind-of x at)) ∙ opens in cc);
-        absent = λ c x e at. level_closes x c (kind-of x at);
+        only = λ c x at opens. absurd (let g : false ≡ true = sym (level_closes x c) ∙ opens in cc);
+        absent = λ c x e at. level_closes x c;
       })
 
   line_opened : (h : Hop) → h.mux ≡ m → h.on ≡ p
       → WorldTold b (with_slot v h.on (Selected h)) (changed_at ws (root_of b p) (record (ws (root_of b p)) { chips = set_level (ws (root_of b p)).chips m (h.channel + 1) }))
   line_opened h same_mux same_on =
-      let s = mux_at b m Gpio known in
+      let s = mux_at b m k known in
       let chip = get_same_length (ws (root_of b p)).chips b.muxes m s.0 (world.count (root_of b p)) s.1 in
       let told : chip_in b ws m ≡ Some chip.0 = ap (λ (i : ℕ). slice_get (ws i).chips m) root_home ∙ chip.1 in
       line_turn (h.channel + 1) (with_slot v h.on (Selected h)) (Selected h)
@@ -155,14 +154,14 @@ module _ (b : BoardView) (plain : IsPlainBoard b) (v : Slots) (ws : ℕ → Worl
           ap (λ (i : Hop). i.mux) (sym f) ∙ same_mux,
           chip.0,
           told,
-          subst (λ (i : Hop). is_open (at_level chip.0 (h.channel + 1)) i.channel ≡ true) f (level_opens chip.0 h.channel (kind-of chip.0 told)).opened,
-          gpio_here b plain m known,
-          not_held b plain m Gpio known refl,
+          subst (λ (i : Hop). is_open (at_level chip.0 (h.channel + 1)) i.channel ≡ true) f (level_opens chip.0 h.channel (code-of chip.0 told)).opened,
+          line_here b plain m k known by_line,
+          not_held b plain m k known (line_row k by_line).asks,
         ));
         polled = λ g n e. absurd (let f : Selected h ≡ Polled g n = e in cc);
         found = λ g e. absurd (let f : Selected h ≡ Found g = e in cc);
-        only = λ c x at opens. (same_mux, (level_opens x h.channel (kind-of x at)).only c opens);
-        absent = λ c x gone at. absurd (let f : true ≡ false = sym gone ∙ gpio_here b plain m known in cc);
+        only = λ c x at opens. (same_mux, (level_opens x h.channel (code-of x at)).only c opens);
+        absent = λ c x gone at. absurd (let f : true ≡ false = sym gone ∙ line_here b plain m k known by_line in cc);
       })
 
 pub told-shift : (b : BoardView) → IsTree b → IsPlainBoard b → (v : Slots) (ws : ℕ → World) → WorldTold b v ws → (job : Job) (marks : List Mark) (held : List LockId)
@@ -171,15 +170,13 @@ pub told-shift : (b : BoardView) → IsTree b → IsPlainBoard b → (v : Slots)
 told-shift b tree plain v ws world (Call bus ms) marks held may failed = absurd (let f : false ≡ true = may.by_line in cc)
 told-shift b tree plain v ws world (Select h) marks held may true =
     let hop : IsHop b h = tree.hop h.bus h may.finds.1 in
-    let known : IsMuxOf b h.mux Gpio = hop.kind ∙ ap Some (gpio_kind h.kind may.by_line) in
-    line_failed b plain v ws world h.on h.mux known hop.home held marks may.may_fail (own_select _ h zero (v h.on).slot may.finds.0)
+    line_failed b plain v ws world h.on h.mux h.kind hop.kind may.by_line hop.home held marks may.may_fail (own_select _ h zero (v h.on).slot may.finds.0)
 told-shift b tree plain v ws world (Select h) marks held may false =
     let hop : IsHop b h = tree.hop h.bus h may.finds.1 in
-    let known : IsMuxOf b h.mux Gpio = hop.kind ∙ ap Some (gpio_kind h.kind may.by_line) in
     subst (λ (n : ℕ). WorldTold b (with_slot v h.on (Selected h)) (changed_at ws (root_of b h.on) (record (ws (root_of b h.on)) { chips = set_level (ws (root_of b h.on)).chips h.mux n })))
-    (sym (ap (λ (k : MuxKind). select_value k h.channel) (gpio_kind h.kind may.by_line)))
-    (line_opened b plain v ws world h.on h.mux known hop.home held marks may.may_fail (own_select _ h zero (v h.on).slot may.finds.0) h refl refl)
+    (sym (ap (λ (v : ChannelCode). select_by v h.channel) (line_row h.kind may.by_line).code))
+    (line_opened b plain v ws world h.on h.mux h.kind hop.kind may.by_line hop.home held marks may.may_fail (own_select _ h zero (v h.on).slot may.finds.0) h refl refl)
 told-shift b tree plain v ws world (Clear on mux kind) marks held may true =
-    line_failed b plain v ws world on mux (may.finds.2 ∙ ap Some (gpio_kind kind may.by_line)) may.finds.1 held marks may.may_fail (own_open mux (v on).slot may.finds.0)
+    line_failed b plain v ws world on mux kind may.finds.2 may.by_line may.finds.1 held marks may.may_fail (own_open mux (v on).slot may.finds.0)
 told-shift b tree plain v ws world (Clear on mux kind) marks held may false =
-    line_closed b plain v ws world on mux (may.finds.2 ∙ ap Some (gpio_kind kind may.by_line)) may.finds.1 held marks may.may_fail (own_open mux (v on).slot may.finds.0)
+    line_closed b plain v ws world on mux kind may.finds.2 may.by_line may.finds.1 held marks may.may_fail (own_open mux (v on).slot may.finds.0)

@@ -2,7 +2,7 @@ use Rattle.std.proofs.Common.{ap, ◌∙◌}
 use Rattle.toml.specs.View.{table_view}
 use Rattle.i2c_boardtext.specs.Rules.{table_fault}
 use Rattle.i2c_boardtext.proofs.RuleLemmas.{more, no_more}
-use Rattle.i2c_boardtext.proofs.keys.gpio_fault.Goals as goal
+use Rattle.i2c_boardtext.proofs.keys.line_fault.Goals as goal
 
 pub returns : goal.returns
 returns c =

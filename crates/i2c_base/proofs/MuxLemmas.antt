@@ -1,0 +1,53 @@
+-- How the facts of a kind of mux go together, by the code that tells its open channel. Every row keeps it, and the
+-- proofs above ask for nothing else of a kind. No induction.
+use Rattle.std.proofs.Common.{◌≡◌, ℕ, ◌≤◌, Bool, true, false, Option, Some, None, refl, sym, ◌∙◌, arith}
+use Rattle.i2c_base.specs.declared.board.MuxKind.{MuxKind}
+use Rattle.i2c_base.specs.declared.board.MuxKind.TheVariants.{Pca9548, Pca9546, Pca9544, Pca9541, Gpio}
+use Rattle.i2c_base.specs.declared.mux_facts.MuxFacts.{MuxFacts}
+use Rattle.i2c_base.specs.declared.mux_facts.ChannelCode.{ChannelCode}
+use Rattle.i2c_base.specs.declared.mux_facts.ChannelCode.TheVariants.{Bits, Number, Alone, Level}
+use Rattle.i2c_base.specs.Muxes.{facts_of, switch_of}
+
+-- a switch, a mux with a number, an arbitrator, a mux that is switched by a line
+abbrev pub FitsCode : ChannelCode → MuxFacts → Type 0
+FitsCode Bits f = (f.channels ≡ Some f.bits) × (f.bits ≤ 8) × (f.by_line ≡ false) × (f.asks ≡ false)
+FitsCode Number f = (f.channels ≡ Some 4) × (f.bits ≡ 3) × (f.by_line ≡ false) × (f.asks ≡ false)
+FitsCode Alone f = (f.channels ≡ Some 1) × (f.wants_parent ≡ true) × (f.by_line ≡ false) × (f.asks ≡ true)
+FitsCode Level f = (f.channels ≡ None) × (f.wants_parent ≡ true) × (f.by_line ≡ true) × (f.asks ≡ false)
+
+pub facts_fit : (k : MuxKind) → FitsCode (facts_of k).code (facts_of k)
+facts_fit Pca9548 = (refl, omega arith, refl, refl)
+facts_fit Pca9546 = (refl, omega arith, refl, refl)
+facts_fit Pca9544 = (refl, refl, refl, refl)
+facts_fit Pca9541 = (refl, refl, refl, refl)
+facts_fit Gpio = (refl, refl, refl, refl)
+
+-- a mux that is switched by a line
+pub record IsLineRow (f : MuxFacts) : Type 0 where
+  pub code : f.code ≡ Level
+  pub wants_parent : f.wants_parent ≡ true
+  pub asks : f.asks ≡ false
+
+pub line_row : (k : MuxKind) → (facts_of k).by_line ≡ true → IsLineRow (facts_of k)
+line_row k e = by_code (facts_of k).code refl (facts_fit k)
+  where
+    by_code : (c : ChannelCode) → (facts_of k).code ≡ c → FitsCode c (facts_of k) → IsLineRow (facts_of k)
+    by_code Bits at fits = absurd (let g : false ≡ true = sym fits.2 ∙ e in cc)
+    by_code Number at fits = absurd (let g : false ≡ true = sym fits.2 ∙ e in cc)
+    by_code Alone at fits = absurd (let g : false ≡ true = sym fits.2 ∙ e in cc)
+    by_code Level at fits = record { code = at; wants_parent = fits.1; asks = fits.3 }
+
+-- an arbitrator
+pub record IsArbitratorRow (f : MuxFacts) : Type 0 where
+  pub code : f.code ≡ Alone
+  pub wants_parent : f.wants_parent ≡ true
+  pub by_line : f.by_line ≡ false
+
+pub arbitrator_row : (k : MuxKind) → (facts_of k).asks ≡ true → IsArbitratorRow (facts_of k)
+arbitrator_row k e = by_code (facts_of k).code refl (facts_fit k)
+  where
+    by_code : (c : ChannelCode) → (facts_of k).code ≡ c → FitsCode c (facts_of k) → IsArbitratorRow (facts_of k)
+    by_code Bits at fits = absurd (let g : false ≡ true = sym fits.3 ∙ e in cc)
+    by_code Number at fits = absurd (let g : false ≡ true = sym fits.3 ∙ e in cc)
+    by_code Alone at fits = record { code = at; wants_parent = fits.1; by_line = fits.2 }
+    by_code Level at fits = absurd (let g : false ≡ true = sym fits.3 ∙ e in cc)
