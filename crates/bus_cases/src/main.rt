@@ -14,6 +14,7 @@
 //! - `device N EVENT..`: prints what device N, as the rig kept it, answers to these events
 //! - `mute`: what the program's own output answers where what is behind it takes nothing
 //! - `locks`: a lock that is taken, marked and freed
+//! - `entry LINE`: reads a line of a journal back, and prints the line of its entry, or that it tells none
 //!
 //! Then come worked examples of what stands below the core. Each is a front, a colon and words, and is answered by a line
 //! of the same front with an answer for each word:
@@ -32,6 +33,7 @@ mod bench;
 mod boards;
 mod case;
 mod chips;
+mod entries;
 mod locks;
 mod mute;
 mod rig;

@@ -1,5 +1,6 @@
 use crate::bench::answer_line;
 use crate::case::{Called, Case, Files as Shelf, call, first_other, number_of};
+use crate::entries::print_entry;
 use crate::locks::print_locks;
 use crate::mute::print_mute;
 use crate::show::{print_answers, print_called, print_calls};
@@ -83,6 +84,7 @@ impl Table {
             "call" => self.call(rt, alloc, rest),
             "mute" => print_mute(rt),
             "locks" => print_locks(rt, alloc),
+            "entry" => print_entry(rt, alloc, rest),
             _ => self.show(rt, alloc, command, rest),
         }
     }

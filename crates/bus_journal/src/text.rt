@@ -3,7 +3,6 @@ ghost use Rattle.std.specs.Fmt.{decimal};
 ghost use Rattle.bus_spec.specs.Lines.{hex_digit, two_digits, joined, spaced, spaced_digits};
 
 use i2c_base::NoMemory;
-use std::alloc::Global;
 
 /// Puts bytes at the end of a text.
 pub fn push_bytes(out: &mut Vec<u8>, bytes: &[u8]) -> Result<(), NoMemory>
@@ -25,13 +24,6 @@ pub fn push_number(out: &mut Vec<u8>, number: u64) -> Result<(), NoMemory>
         out.push(b'0' + (number % 10) as u8)?;
     }
     Ok(())
-}
-
-/// Does what `push_number` does, for a caller that hands in an allocator.
-pub fn push_decimal(_alloc: Global, out: &mut Vec<u8>, number: u64) -> Result<(), NoMemory>
-    ensures { OnOk result (out.new.items ≡ out.old.items ++ decimal number) }
-{
-    push_number(out, number)
 }
 
 // A digit of 0 to 15.

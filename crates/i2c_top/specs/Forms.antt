@@ -5,7 +5,9 @@ use Rattle.std.specs.List.{list_all}
 use Rattle.std.specs.Str.{bytes_eq}
 use Rattle.tool_words.specs.Commands.{word_at}
 use Rattle.i2c_top.specs.Names.{AreNamesFrom}
-use Rattle.i2c_top.specs.Requests.{Request, replay_of, Replay, Check, NoForm}
+use Rattle.i2c_top.specs.Replays.{Names}
+use Rattle.i2c_top.specs.Requests.{Request, names_of, replay_of, Replay, Check, NoForm}
+use Rattle.i2c_top.specs.declared.request.ReplayNames.{ReplayNames}
 use Rattle.i2c_top.specs.declared.request.Request.{Request as Parsed}
 use Rattle.i2c_top.specs.declared.request.Request.TheVariants as parsed
 
@@ -28,9 +30,12 @@ request_in words =
     if is_replay words then replay_of (word_at words 1) (word_at words 2) (drop 3 words)
     else if is_check words then Check (word_at words 1) else NoForm
 
--- a request as the program has it, and as contracts see it
+-- names and a request as the program has them, and as contracts see them
+abbrev pub names_told : ReplayNames → Names
+names_told names = names_of names.board.now names.schedule.now (map string_bytes names.scripts.now)
+
 abbrev pub asked : Parsed → Request
-asked (parsed.Replay board schedule scripts) = replay_of board.now schedule.now (map string_bytes scripts.now)
+asked (parsed.Replay names) = Replay (names_told names)
 asked (parsed.Check board) = Check board.now
 asked parsed.NoForm = NoForm
 

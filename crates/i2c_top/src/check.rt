@@ -10,17 +10,17 @@ use crate::Status;
 use crate::ending::write_outcome;
 use crate::files::read_accepted;
 use crate::request::Request;
-use bus_journal::{push_bytes, push_decimal};
+use bus_journal::{push_bytes, push_number};
 use i2c_base::NoMemory;
 use i2c_board::Board;
 use i2c_outside::{Shelf, Sink};
 use std::alloc::Global;
 
 // A number and what it counts.
-fn push_count(alloc: Global, out: &mut Vec<u8>, count: usize, what: &[u8]) -> Result<(), NoMemory>
+fn push_count(out: &mut Vec<u8>, count: usize, what: &[u8]) -> Result<(), NoMemory>
     ensures { OnOk result (out.new.items ≡ out.old.items ++ (decimal count ++ what.now)) }
 {
-    push_decimal(alloc, out, count as u64)?;
+    push_number(out, count as u64)?;
     push_bytes(out, what)
 }
 
@@ -30,10 +30,10 @@ fn accepted_line(alloc: Global, board: &Board) -> Result<Vec<u8>, NoMemory>
 {
     let mut out = Vec::new(alloc);
     push_bytes(&mut out, b"accepted: ")?;
-    push_count(alloc, &mut out, board.roots().len(), b" roots ")?;
-    push_count(alloc, &mut out, board.muxes().len(), b" muxes ")?;
-    push_count(alloc, &mut out, board.devices().len(), b" devices ")?;
-    push_count(alloc, &mut out, usize::from(board.buses()), b" buses\n")?;
+    push_count(&mut out, board.roots().len(), b" roots ")?;
+    push_count(&mut out, board.muxes().len(), b" muxes ")?;
+    push_count(&mut out, board.devices().len(), b" devices ")?;
+    push_count(&mut out, usize::from(board.buses()), b" buses\n")?;
     Ok(out)
 }
 

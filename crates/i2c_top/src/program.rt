@@ -12,7 +12,7 @@ use crate::Status;
 use crate::check::check_call;
 use crate::ending::refuse_words;
 use crate::replay::replay_call;
-use crate::request::{Request, request_of};
+use crate::request::{ReplayNames, Request, request_of};
 use i2c_outside::{Gate, Rig, Shelf, Sink};
 use std::alloc::Global;
 use std::sync::Wait;
@@ -46,11 +46,13 @@ pub fn top<H: Threads + Wait + Sync, S: Shelf, K: Sink, R: Rig, G: Gate + Sync>(
         → HasChecked (S.file shelf.old) board (K.bytes sink.old) (K.bytes sink.new) }
 {
     match request_of(words) {
-        Request::Replay {
-            board,
-            schedule,
-            scripts,
-        } => { replay_call(alloc, board, schedule, scripts, shelf, sink, rig) }
+        Request::Replay(
+            ReplayNames {
+                board,
+                schedule,
+                scripts,
+            },
+        ) => { replay_call(alloc, board, schedule, scripts, shelf, sink, rig) }
         Request::Check { board } => check_call(alloc, board, shelf, sink),
         Request::NoForm => refuse_words(sink),
     }

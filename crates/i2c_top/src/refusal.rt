@@ -3,7 +3,7 @@ ghost use Rattle.std.specs.Fmt.{decimal};
 ghost use Rattle.i2c_top.specs.Status.{table_text, placed_text, limit_text, fault_text, item_text, broken_text, board_text, refusal_text};
 
 use crate::{BoardRefusal, Status};
-use bus_journal::{push_bytes, push_decimal};
+use bus_journal::{push_bytes, push_number};
 use i2c_base::{Item, NoMemory, RuleBroken};
 use i2c_boardtext::{BoardFault, TableName};
 use std::alloc::Global;
@@ -12,17 +12,11 @@ pub const USAGE: &[u8] =
     b"usage: i2cbus run BOARD SCRIPT... | replay BOARD SCHEDULE SCRIPT... | check BOARD | gen SEED ROOTS LINES\n";
 
 // A number between two texts.
-fn push_around(
-    alloc: Global,
-    out: &mut Vec<u8>,
-    before: &[u8],
-    number: u64,
-    after: &[u8],
-) -> Result<(), NoMemory>
+fn push_around(out: &mut Vec<u8>, before: &[u8], number: u64, after: &[u8]) -> Result<(), NoMemory>
     ensures { OnOk result (out.new.items ≡ out.old.items ++ (before.now ++ (decimal number ++ after.now))) }
 {
     push_bytes(out, before)?;
-    push_decimal(alloc, out, number)?;
+    push_number(out, number)?;
     push_bytes(out, after)
 }
 
@@ -47,83 +41,67 @@ fn push_table(out: &mut Vec<u8>, name: TableName) -> Result<(), NoMemory>
 }
 
 // What is at fault in a table, and where the table stands.
-fn push_placed(
-    alloc: Global,
-    out: &mut Vec<u8>,
-    what: &[u8],
-    name: TableName,
-    index: u16,
-) -> Result<(), NoMemory>
+fn push_placed(out: &mut Vec<u8>, what: &[u8], name: TableName, index: u16) -> Result<(), NoMemory>
     ensures { OnOk result (out.new.items ≡ out.old.items ++ placed_text what.now name index) }
 {
     push_bytes(out, what)?;
     push_table(out, name)?;
-    push_around(alloc, out, b" ", u64::from(index), b"\n")
+    push_around(out, b" ", u64::from(index), b"\n")
 }
 
-fn push_limit(
-    alloc: Global,
-    out: &mut Vec<u8>,
-    which: TableName,
-    count: u64,
-) -> Result<(), NoMemory>
+fn push_limit(out: &mut Vec<u8>, which: TableName, count: u64) -> Result<(), NoMemory>
     ensures { OnOk result (out.new.items ≡ out.old.items ++ limit_text which count) }
 {
-    push_decimal(alloc, out, count)?;
+    push_number(out, count)?;
     push_bytes(out, b" ")?;
     push_table(out, which)?;
     push_bytes(out, b"\n")
 }
 
-fn push_fault(alloc: Global, out: &mut Vec<u8>, fault: BoardFault) -> Result<(), NoMemory>
+fn push_fault(out: &mut Vec<u8>, fault: BoardFault) -> Result<(), NoMemory>
     ensures { OnOk result (out.new.items ≡ out.old.items ++ fault_text fault) }
 {
     match fault {
         BoardFault::NotToml => push_bytes(out, b"not TOML\n"),
-        BoardFault::Key { table, index } => push_placed(alloc, out, b"key in ", table, index),
-        BoardFault::Value { table, index } => push_placed(alloc, out, b"value in ", table, index),
-        BoardFault::Limit { which, count } => push_limit(alloc, out, which, count),
+        BoardFault::Key { table, index } => push_placed(out, b"key in ", table, index),
+        BoardFault::Value { table, index } => push_placed(out, b"value in ", table, index),
+        BoardFault::Limit { which, count } => push_limit(out, which, count),
         BoardFault::Memory => Ok(()),
     }
 }
 
-fn push_item(alloc: Global, out: &mut Vec<u8>, item: Item) -> Result<(), NoMemory>
+fn push_item(out: &mut Vec<u8>, item: Item) -> Result<(), NoMemory>
     ensures { OnOk result (out.new.items ≡ out.old.items ++ item_text item) }
 {
     match item {
-        Item::Mux(mux) => push_around(alloc, out, b"mux ", u64::from(mux.0), b""),
-        Item::Device(device) => push_around(alloc, out, b"device ", u64::from(device.0), b""),
+        Item::Mux(mux) => push_around(out, b"mux ", u64::from(mux.0), b""),
+        Item::Device(device) => push_around(out, b"device ", u64::from(device.0), b""),
     }
 }
 
 // The broken rule, and the two items at fault.
-fn push_broken(alloc: Global, out: &mut Vec<u8>, broken: RuleBroken) -> Result<(), NoMemory>
+fn push_broken(out: &mut Vec<u8>, broken: RuleBroken) -> Result<(), NoMemory>
     ensures { OnOk result (out.new.items ≡ out.old.items ++ broken_text broken) }
 {
-    push_around(alloc, out, b"rule TR", u64::from(broken.rule), b" ")?;
-    push_item(alloc, out, broken.first)?;
+    push_around(out, b"rule TR", u64::from(broken.rule), b" ")?;
+    push_item(out, broken.first)?;
     push_bytes(out, b" ")?;
-    push_item(alloc, out, broken.second)?;
+    push_item(out, broken.second)?;
     push_bytes(out, b"\n")
 }
 
-fn push_board(alloc: Global, out: &mut Vec<u8>, why: BoardRefusal) -> Result<(), NoMemory>
+fn push_board(out: &mut Vec<u8>, why: BoardRefusal) -> Result<(), NoMemory>
     ensures { OnOk result (out.new.items ≡ out.old.items ++ board_text why) }
 {
     match why {
-        BoardRefusal::Fault(fault) => push_fault(alloc, out, fault),
-        BoardRefusal::Rule(broken) => push_broken(alloc, out, broken),
+        BoardRefusal::Fault(fault) => push_fault(out, fault),
+        BoardRefusal::Rule(broken) => push_broken(out, broken),
         BoardRefusal::NotBuilt => push_bytes(out, b"not built\n"),
     }
 }
 
 // The line of a refusal; nothing for what is none.
-fn push_refusal(
-    alloc: Global,
-    out: &mut Vec<u8>,
-    status: Status,
-    name: &[u8],
-) -> Result<(), NoMemory>
+fn push_refusal(out: &mut Vec<u8>, status: Status, name: &[u8]) -> Result<(), NoMemory>
     ensures { OnOk result (out.new.items ≡ out.old.items ++ refusal_text status name.now) }
 {
     match status {
@@ -131,19 +109,17 @@ fn push_refusal(
         Status::Usage => push_bytes(out, USAGE),
         Status::Board(why) => {
             push_bytes(out, b"board: ")?;
-            push_board(alloc, out, why)
+            push_board(out, why)
         }
         Status::Script { caller, line, word } => {
-            push_around(alloc, out, b"script ", u64::from(caller), b" line ")?;
-            push_around(alloc, out, b"", u64::from(line), b" word ")?;
-            push_around(alloc, out, b"", u64::from(word), b"\n")
+            push_around(out, b"script ", u64::from(caller), b" line ")?;
+            push_around(out, b"", u64::from(line), b" word ")?;
+            push_around(out, b"", u64::from(word), b"\n")
         }
-        Status::Cost(cost) => push_around(alloc, out, b"cost ", cost, b" is above 1000000\n"),
+        Status::Cost(cost) => push_around(out, b"cost ", cost, b" is above 1000000\n"),
         Status::Read(_) => push_between(out, b"cannot read ", name, b"\n"),
         Status::Rig => push_bytes(out, b"cannot plug the rig\n"),
-        Status::Schedule(word) => {
-            push_around(alloc, out, b"schedule word ", u64::from(word), b"\n")
-        }
+        Status::Schedule(word) => { push_around(out, b"schedule word ", u64::from(word), b"\n") }
     }
 }
 
@@ -153,6 +129,6 @@ pub fn refusal_line(alloc: Global, status: &Status, name: &[u8]) -> Result<Vec<u
     ensures { IfOk result (λ text. text.items ≡ refusal_text status.now name.now) }
 {
     let mut out = Vec::new(alloc);
-    push_refusal(alloc, &mut out, *status, name)?;
+    push_refusal(&mut out, *status, name)?;
     Ok(out)
 }

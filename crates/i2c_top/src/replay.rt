@@ -1,15 +1,16 @@
 ghost use Rattle.std.specs.Prelude.{◌≡◌, ◌≢◌, ◌≤◌, ◌∷◌, [], length, map, Some, None, slice_get, string_bytes, OnOk, IfOk, IfErr, IfSome, IsTrue};
 ghost use Rattle.i2c_top.specs.Endings.{CameToSuccess, CameToRefusal, HasEnded};
+ghost use Rattle.i2c_top.specs.Forms.{ArePlaced, names_told};
 ghost use Rattle.i2c_top.specs.Names.{AreNamesFrom};
 ghost use Rattle.i2c_top.specs.Reports.{HasReplayed};
-ghost use Rattle.i2c_top.specs.Requests.{replay_of, names_of, IsAnswer, KeepsShelf};
+ghost use Rattle.i2c_top.specs.Requests.{Replay, replay_of, names_of, IsAnswer, KeepsShelf};
 ghost use Rattle.i2c_top.specs.Traces.{shelf_view, rig_view, outside};
 ghost use Rattle.i2c_top.specs.declared.status.Status.TheVariants as status;
 
 use crate::Status;
 use crate::ending::write_outcome;
 use crate::files::read_files;
-use crate::request::Request;
+use crate::request::{ReplayNames, Request};
 use crate::run::run_script;
 use i2c_outside::{Rig, Shelf, Sink};
 use std::alloc::Global;
@@ -29,27 +30,23 @@ fn only(scripts: &[String]) -> Option<&str>
 // Reads the files and runs the one script: the report, or the refusal. Several scripts are refused.
 fn replay<S: Shelf, R: Rig>(
     alloc: Global,
-    board: &str,
-    schedule: &str,
-    scripts: &[String],
+    names: &ReplayNames<'_>,
     shelf: &mut S,
     rig: &mut R,
 ) -> Result<Vec<u8>, Status>
-    requires board { slice_get (S.words shelf.old) 1 ≡ Some board.now }
-    requires schedule { slice_get (S.words shelf.old) 2 ≡ Some schedule.now }
-    requires scripts { AreNamesFrom 3 (S.words shelf.old) (map string_bytes scripts.now) }
-    ensures kept { KeepsShelf (replay_of board.now schedule.now (map string_bytes scripts.now)) (shelf_view S.Shelf shelf.old) (shelf_view S.Shelf shelf.new) }
-    ensures report { IsTrue S.tells → IfOk result (λ text. IsAnswer (replay_of board.now schedule.now (map string_bytes scripts.now)) (S.file shelf.old) (rig_view R.Rig R.P.tells rig.new) text.items) }
-    ensures done { OnOk result (CameToSuccess (replay_of board.now schedule.now (map string_bytes scripts.now))
+    requires placed { ArePlaced (S.words shelf.old) (Replay (names_told names.now)) }
+    ensures kept { KeepsShelf (Replay (names_told names.now)) (shelf_view S.Shelf shelf.old) (shelf_view S.Shelf shelf.new) }
+    ensures report { IsTrue S.tells → IfOk result (λ text. IsAnswer (Replay (names_told names.now)) (S.file shelf.old) (rig_view R.Rig R.P.tells rig.new) text.items) }
+    ensures done { OnOk result (CameToSuccess (Replay (names_told names.now))
         (shelf_view S.Shelf shelf.old) (shelf_view S.Shelf shelf.new) (rig_view R.Rig R.P.tells rig.old) (rig_view R.Rig R.P.tells rig.new)) }
-    ensures refused { IfErr result (CameToRefusal (replay_of board.now schedule.now (map string_bytes scripts.now))
+    ensures refused { IfErr result (CameToRefusal (Replay (names_told names.now))
         (shelf_view S.Shelf shelf.old) (shelf_view S.Shelf shelf.new) (rig_view R.Rig R.P.tells rig.old) (rig_view R.Rig R.P.tells rig.new)) }
-    ensures unplugged { length (map string_bytes scripts.now) ≢ 1 → rig.new ≡ rig.old }
+    ensures unplugged { length (map string_bytes names.now.scripts.now) ≢ 1 → rig.new ≡ rig.old }
 {
-    let Some(script) = only(scripts) else {
+    let Some(script) = only(names.scripts) else {
         return Err(Status::Usage);
     };
-    let (accepted, script) = read_files(alloc, board, schedule, script, shelf)?;
+    let (accepted, script) = read_files(alloc, names.board, names.schedule, script, shelf)?;
     run_script(alloc, &accepted, script, rig)
 }
 
@@ -82,11 +79,11 @@ pub fn replay_call<S: Shelf, K: Sink, R: Rig>(
     ensures success { IsTrue S.tells → IsTrue K.tells → IsTrue R.tells → IsTrue R.P.tells → result ≡ status.Ok
         → HasReplayed (S.file shelf.old) (names_of board.now schedule.now (map string_bytes scripts.now)) (K.bytes sink.old) (K.bytes sink.new) (R.logs rig.new) (R.states rig.new) }
 {
-    let request = Request::Replay {
+    let names = ReplayNames {
         board,
         schedule,
         scripts,
     };
-    let outcome = replay(alloc, board, schedule, scripts, shelf, rig);
-    write_outcome(alloc, &request, outcome, sink)
+    let outcome = replay(alloc, &names, shelf, rig);
+    write_outcome(alloc, &Request::Replay(names), outcome, sink)
 }

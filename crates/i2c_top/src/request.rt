@@ -15,19 +15,21 @@ pub const SCHEDULE: u8 = 2;
 
 pub const SCRIPT: u8 = 3;
 
+/// The names of the files of a replay.
+#[derive(Clone, Copy)]
+pub struct ReplayNames<'a> {
+    pub board: &'a str,
+    pub schedule: &'a str,
+    pub scripts: &'a [String],
+}
+
 /// What the words of a command line ask for.
 #[derive(Clone, Copy)]
 pub enum Request<'a> {
     /// To replay 1 to 8 scripts over a board, by a schedule.
-    Replay {
-        board: &'a str,
-        schedule: &'a str,
-        scripts: &'a [String],
-    },
+    Replay(ReplayNames<'a>),
     /// To check a board.
-    Check {
-        board: &'a str,
-    },
+    Check { board: &'a str },
     /// Nothing: they are in no form in force.
     NoForm,
 }
@@ -48,14 +50,10 @@ impl<'a> Request<'a> {
         ensures { result.now ≡ file_name (asked self.now) place }
     {
         match *self {
-            Request::Replay {
-                board,
-                schedule,
-                scripts,
-            } => match place {
-                BOARD => board.as_bytes(),
-                SCHEDULE => schedule.as_bytes(),
-                _ => script_name(scripts),
+            Request::Replay(names) => match place {
+                BOARD => names.board.as_bytes(),
+                SCHEDULE => names.schedule.as_bytes(),
+                _ => script_name(names.scripts),
             },
             Request::Check { board } => board.as_bytes(),
             Request::NoForm => b"",
@@ -133,11 +131,11 @@ pub fn request_of(words: &[String]) -> Request<'_>
     ensures placed { ArePlaced (map string_bytes words.now) (asked result) }
 {
     if is_replay(words) {
-        Request::Replay {
+        Request::Replay(ReplayNames {
             board: word(words, 1),
             schedule: word(words, 2),
             scripts: words_from(words, 3),
-        }
+        })
     } else if is_check(words) {
         Request::Check {
             board: word(words, 1),
