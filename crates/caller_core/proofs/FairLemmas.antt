@@ -1,21 +1,17 @@
 -- Scripts are fair callers, and how many steps they have left.
-use Rattle.std.proofs.Common.{◌≡◌, ℕ, ◌+◌, ◌*◌, ◌<◌, ◌≤◌, true, false, cond, List, [], ◌∷◌, ◌++◌, length, drop, get_or, Option, Some, None, refl, sym, ap, subst, ◌∙◌, length-drop, arith}
+use Rattle.std.proofs.Common.{◌≡◌, ℕ, ◌+◌, ◌*◌, ◌≤◌, true, false, cond, List, [], ◌∷◌, ◌++◌, length, drop, get_or, Option, Some, None, refl, sym, ap, subst, ◌∙◌, length-drop, arith}
 use Rattle.std.specs.Prelude.{nat_lt, sum_by, slice_get}
 use Rattle.std.specs.Option.{option_map}
 use Rattle.std.proofs.lemmas.List.{length_push}
-use Rattle.std.proofs.lemmas.List.Elements.{All-nil, All-cons, All-get_or}
+use Rattle.std.proofs.lemmas.List.Elements.{All-get_or}
 use Rattle.std.proofs.lemmas.List.Sums.{sum_by-drop_more, sum_by-le}
 use Rattle.std.proofs.lemmas.Option.{slice_get_within, get_or_from_slice_get}
 use Rattle.i2c_base.specs.declared.reply.Reply.{Reply}
 use Rattle.i2c_base.specs.Board.{BoardView}
-use Rattle.i2c_base.specs.Bytes.{IsByte}
 use Rattle.i2c_base.specs.Script.{ScriptView}
-use Rattle.i2c_base.specs.Transfer.{TransferView, IsTransfer, IsMessage, written, plain_read}
+use Rattle.i2c_base.specs.Transfer.{TransferView, IsTransfer}
 use Rattle.i2c_spec.specs.Cost.{full_cost, steps_of, cost_of}
 use Rattle.i2c_spec.specs.Tree.{hops, buses}
-use Rattle.tool_words.specs.Lines.{IsInRange}
-use Rattle.tool_words.specs.declared.line.Cmd.{Cmd}
-use Rattle.tool_words.specs.declared.line.Cmd.TheVariants as cmd
 use Rattle.caller_core.specs.Commands.{transfer_of}
 use Rattle.caller_core.specs.Scripts.{CommandView, commands_of, cost_of_command, asked_by, left_of}
 use Rattle.caller_core.specs.Callers.{ScriptsAreFair}

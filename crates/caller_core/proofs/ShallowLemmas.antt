@@ -1,19 +1,16 @@
 -- Boards that are stepped: at most one mux stands over a bus, and what a command costs there. The inductions go over
 -- the muxes, the last one first.
 use Rattle.std.proofs.Common.{◌≡◌, ℕ, ◌+◌, ◌-◌, ◌≤◌, ◌⊎◌, inl, inr, Bool, true, false, cond, List, [], ◌∷◌, length, reverse, refl, sym, ap, subst, ◌∙◌, arith}
-use Rattle.std.specs.Prelude.{All, nat_le, nat_lt, sum_by}
+use Rattle.std.specs.Prelude.{All, nat_le, sum_by}
 use Rattle.std.proofs.lemmas.Bool.Decides.{nat_tests}
 use Rattle.std.proofs.lemmas.List.{length-reverse, get_or-reverse}
 use Rattle.std.proofs.lemmas.List.Elements.{All-head, All-tail}
 use Rattle.i2c_base.specs.Board.{BoardView}
 use Rattle.i2c_base.specs.declared.board.MuxKind.TheVariants.{Pca9548}
 use Rattle.i2c_base.specs.declared.board.MuxSpec.{MuxSpec}
-use Rattle.i2c_spec.specs.Tree.{Hop, hops, hops_of, hop_at, put_if, buses, buses_of, is_parent}
-use Rattle.i2c_spec.specs.Cost.{full_cost, cost_of}
+use Rattle.i2c_spec.specs.Tree.{Hop, hops, hops_of, hop_at, put_if, buses_of, is_parent}
+use Rattle.i2c_spec.specs.Cost.{full_cost}
 use Rattle.caller_core.specs.Steps.{IsShallowMux, IsShallowBoard}
-use Rattle.caller_core.specs.Commands.{transfer_of}
-use Rattle.tool_words.specs.declared.line.Cmd.{Cmd}
-use Rattle.tool_words.specs.declared.line.Cmd.TheVariants as cmd
 
 -- one parent-locked switch of eight channels, on the root
 pub record HasOneHop (hs : List Hop) : Type 0 where

@@ -1,11 +1,10 @@
 -- The line of `i2cget`: it has no dead end, its reader follows it, and what it means is in range.
-use Rattle.std.proofs.Common.{◌≡◌, ℕ, ◌+◌, ◌≤◌, List, drop, Result, Err, Option, Some, None, cond, codes, refl, arith}
+use Rattle.std.proofs.Common.{◌≡◌, ℕ, ◌≤◌, List, Err, Option, Some, None, cond, codes, refl, arith}
 use Rattle.std.proofs.lemmas.Bool.Decides.{nat_tests}
-use Rattle.tool_words.specs.LineSets.{Word, LineSet, follow_words, class, word, ends}
+use Rattle.tool_words.specs.LineSets.{Word, follow_words, class, word, ends}
 use Rattle.tool_words.specs.Lines.{bus_number, address, byte, get_reg, get_addr, get_line, get_words_at, get_at, IsInRange}
 use Rattle.tool_words.specs.Numbers.{number_of, within}
 use Rattle.tool_words.specs.Readers.{is_at}
-use Rattle.tool_words.specs.declared.line.Cmd.{Cmd}
 use Rattle.tool_words.specs.declared.line.Cmd.TheVariants as cmd
 use Rattle.tool_words.proofs.LineSetLemmas.{IsAlive, follow_ends}
 use Rattle.tool_words.proofs.AliveLemmas.{alive_class, alive_word, alive_ends, one_then, word_then, Means, means_class, means_word, means_ends}

@@ -1,5 +1,5 @@
 -- The lines of a script: the laws of their set, and its reader. There is no induction.
-use Rattle.std.proofs.Common.{◌≡◌, ℕ, true, List, Option, Some, None, Result, Ok, Err, sym, ap, ◌∙◌, cond, arith}
+use Rattle.std.proofs.Common.{◌≡◌, ℕ, true, List, Some, None, Ok, sym, ap, ◌∙◌, cond, arith}
 use Rattle.tool_words.specs.LineSets.{Word, follow_words}
 use Rattle.tool_words.specs.Lines.{script_lines, script_line_at}
 use Rattle.tool_words.specs.Commands.{is_command, some_command, words_read, line_read, ReadsLines, RefusesBehindLongest, MeansInRange}

@@ -1,5 +1,5 @@
 -- The lines of the grammar in force, each as a tree and as the reader that follows it.
-use Rattle.std.specs.Prelude.{◌≡◌, ℕ, ◌+◌, ◌^◌, ◌<◌, ◌≤◌, List, Option, Result, Err, if◌then◌else◌, codes}
+use Rattle.std.specs.Prelude.{ℕ, ◌^◌, ◌<◌, ◌≤◌, List, Option, Result, Err, if◌then◌else◌, codes}
 use Rattle.tool_words.specs.LineSets.{Word, LineSet, ends, class, word}
 use Rattle.tool_words.specs.Numbers.{number_in}
 use Rattle.tool_words.specs.Readers.{◌>>=◌, one_at, is_at, over_at}
