@@ -85,12 +85,7 @@ decided file names (status.Board why) h = inr (inl (record { why = why; same = r
 decided file names (status.Script caller line word) h =
     inr (inr (inl (record { line = line; word = word; same = ap (λ c. status.Script c line word) h.1; board = h.0; script = h.2 })))
 decided file names (status.Schedule word) h = inr (inr (inr (record { word = word; same = refl; board = h.0; script = h.1; schedule = h.2 })))
-decided file names status.Usage h = absurd h
-decided file names (status.Cost cost) h = absurd h
-decided file names (status.Read place) h = absurd h
-decided file names status.Write h = absurd h
-decided file names status.Memory h = absurd h
-decided file names status.Rig h = absurd h
+decided file names _ h = absurd h
 
 agree : (file : Files) (names : Names) (s r : Status) → Decide file names s → Decide file names r → r ≡ s
 agree file names s r (inl a) (inl b) = b.0 ∙ sym a.0
@@ -128,14 +123,7 @@ DecideCheck file name s = ((s ≡ status.Ok) × HasAccepted file name) ⊎ Decid
 decided_check : (file : Files) (name : List ℕ) (s : Status) → IsCheckCause file name s → DecideCheck file name s
 decided_check file name status.Ok h = inl (refl, h)
 decided_check file name (status.Board why) h = inr (record { why = why; same = refl; board = h })
-decided_check file name (status.Script caller line word) h = absurd h
-decided_check file name (status.Schedule word) h = absurd h
-decided_check file name status.Usage h = absurd h
-decided_check file name (status.Cost cost) h = absurd h
-decided_check file name (status.Read place) h = absurd h
-decided_check file name status.Write h = absurd h
-decided_check file name status.Memory h = absurd h
-decided_check file name status.Rig h = absurd h
+decided_check file name _ h = absurd h
 
 not_rejected : (file : Files) (name : List ℕ) (why : BoardRefusal) → HasAccepted file name → HasRejected file name why → ⊥
 not_rejected file name why b n =

@@ -28,14 +28,7 @@ pub record HasRejected (file : Files) (name : List ℕ) (why : BoardRefusal) : T
 abbrev pub IsCheckCause : Files → List ℕ → Status → Type 0
 IsCheckCause file name status.Ok = HasAccepted file name
 IsCheckCause file name (status.Board why) = HasRejected file name why
-IsCheckCause file name (status.Script caller line word) = ⊥
-IsCheckCause file name (status.Schedule word) = ⊥
-IsCheckCause file name status.Usage = ⊥
-IsCheckCause file name (status.Cost cost) = ⊥
-IsCheckCause file name (status.Read place) = ⊥
-IsCheckCause file name status.Write = ⊥
-IsCheckCause file name status.Memory = ⊥
-IsCheckCause file name status.Rig = ⊥
+IsCheckCause file name _ = ⊥
 
 -- the statuses of `check`: its board is accepted or refused, or was not read, or its line was not written. Whether a board
 -- is built is no matter of it

@@ -74,12 +74,7 @@ IsReplayCause file names status.Ok = HasFiles file names
 IsReplayCause file names (status.Board why) = HasNoBoard file names.board why
 IsReplayCause file names (status.Script caller line word) = HasBoard file names.board × (caller ≡ 0) × HasBadScript file (script_name names.scripts) line word
 IsReplayCause file names (status.Schedule word) = HasBoard file names.board × HasScript file (script_name names.scripts) × HasBadSchedule file names.schedule word
-IsReplayCause file names status.Usage = ⊥
-IsReplayCause file names (status.Cost cost) = ⊥
-IsReplayCause file names (status.Read place) = ⊥
-IsReplayCause file names status.Write = ⊥
-IsReplayCause file names status.Memory = ⊥
-IsReplayCause file names status.Rig = ⊥
+IsReplayCause file names _ = ⊥
 
 -- the order of refusals: the board is read at place 1; there is a board before the script is read, at place 3; the script
 -- is in the grammar before the schedule is read, at place 2
@@ -100,22 +95,17 @@ KeepsUnreached reads reads_now status.Usage = (place : ℕ) → reads_now place 
 KeepsUnreached reads reads_now (status.Board why) = (reads_now 3 ≡ reads 3) × (reads_now 2 ≡ reads 2)
 KeepsUnreached reads reads_now (status.Script caller line word) = reads_now 2 ≡ reads 2
 KeepsUnreached reads reads_now (status.Read place) = (place ≢ 2 → reads_now 2 ≡ reads 2) × (place ≡ 1 → reads_now 3 ≡ reads 3)
-KeepsUnreached reads reads_now (status.Schedule word) = ⊤
-KeepsUnreached reads reads_now (status.Cost cost) = ⊤
-KeepsUnreached reads reads_now status.Rig = ⊤
-KeepsUnreached reads reads_now status.Ok = ⊤
-KeepsUnreached reads reads_now status.Write = ⊤
-KeepsUnreached reads reads_now status.Memory = ⊤
+KeepsUnreached reads reads_now _ = ⊤
 
--- a refusal of the files, by what they say where they are told, and by the counts
+-- a refusal of a file's text, by what the files say where they are told
+abbrev pub IsTextRefusal : Bool → Files → Names → Status → Type 0
+IsTextRefusal tells file names (status.Board why) = IsTrue tells → IsReplayCause file names (status.Board why)
+IsTextRefusal tells file names (status.Script caller line word) = IsTrue tells → IsReplayCause file names (status.Script caller line word)
+IsTextRefusal tells file names (status.Schedule word) = IsTrue tells → IsReplayCause file names (status.Schedule word)
+IsTextRefusal tells file names _ = ⊥
+
+-- a refusal of the files: of a text, or by a count
 abbrev pub IsFileRefusal : Bool → Files → Names → (ℕ → ℕ) → (ℕ → ℕ) → Status → Type 0
-IsFileRefusal tells file names reads reads_now (status.Board why) = IsTrue tells → IsReplayCause file names (status.Board why)
-IsFileRefusal tells file names reads reads_now (status.Script caller line word) = IsTrue tells → IsReplayCause file names (status.Script caller line word)
-IsFileRefusal tells file names reads reads_now (status.Schedule word) = IsTrue tells → IsReplayCause file names (status.Schedule word)
 IsFileRefusal tells file names reads reads_now (status.Read place) = IsUnread reads reads_now place × (IsTrue tells → IsReadInTurn file names place)
 IsFileRefusal tells file names reads reads_now status.Memory = ⊤
-IsFileRefusal tells file names reads reads_now status.Ok = ⊥
-IsFileRefusal tells file names reads reads_now status.Usage = ⊥
-IsFileRefusal tells file names reads reads_now (status.Cost cost) = ⊥
-IsFileRefusal tells file names reads reads_now status.Write = ⊥
-IsFileRefusal tells file names reads reads_now status.Rig = ⊥
+IsFileRefusal tells file names reads reads_now s = IsTextRefusal tells file names s
