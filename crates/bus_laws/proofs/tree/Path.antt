@@ -3,13 +3,12 @@ use Rattle.std.proofs.Common.{◌≡◌, ℕ, zero, suc, ◌-◌, Bool, true, fa
 use Rattle.std.specs.List.{AllByRecursion}
 use Rattle.i2c_base.specs.declared.ids.LockId.{LockId}
 use Rattle.i2c_base.specs.declared.ids.LockId.TheVariants as lock
-use Rattle.i2c_base.specs.declared.board.MuxKind.{MuxKind}
 use Rattle.i2c_base.proofs.MuxLemmas.{line_row}
 use Rattle.i2c_base.specs.Board.{BoardView}
 use Rattle.i2c_base.specs.Transfer.{TransferView}
 use Rattle.i2c_spec.specs.Tree.{Hop, hops, root_of, locks_of, Crosses, IsAmongHops}
 use Rattle.i2c_spec.specs.TreeFacts.{IsTree}
-use Rattle.bus_spec.specs.Walk.{Mark, Job, Call, Select, Clear, Shift, ActOutcome, Passed, Sent, Lined, JobOutcome, Good, Refused, Unsent, Failed, Note, WalkTree, Then, job_bus, is_line, is_gpio, is_arbitrator, more_of}
+use Rattle.bus_spec.specs.Walk.{Mark, Job, Call, Select, Clear, Shift, ActOutcome, Passed, Sent, Lined, JobOutcome, Good, Refused, Unsent, Failed, Note, WalkTree, Then, job_bus, is_line, is_arbitrator, more_of}
 use Rattle.bus_spec.specs.Slots.{Slots, At, MuxSlot, Clean, Selected, with_slot, set_marks, after_job}
 use Rattle.bus_spec.specs.Grammar.{over, messages, at_bus}
 use Rattle.bus_laws.specs.Runs.{InLocks, IsRest, CanShift, Finds, FindsOpen, FindsSelect, IsUnmarked, IsOfMux, MayFail, Runs}

@@ -7,14 +7,13 @@ use Rattle.std.proofs.lemmas.Bool.Decides.{eqb_tells}
 use Rattle.i2c_base.specs.declared.entry.End.{End}
 use Rattle.i2c_base.specs.declared.entry.End.TheVariants as end
 use Rattle.i2c_base.specs.declared.board.MuxKind.{MuxKind}
-use Rattle.i2c_base.specs.Muxes.{facts_of}
 use Rattle.i2c_base.specs.declared.board.MuxSpec.{MuxSpec}
 use Rattle.i2c_base.specs.declared.ids.LockId.{LockId}
 use Rattle.i2c_base.specs.Board.{BoardView}
 use Rattle.i2c_spec.specs.Tree.{Hop, hops, root_of, home_of_mux, addr_of_mux, is_absent, is_held, of_mux, IsAmongHops}
 use Rattle.i2c_spec.specs.TreeFacts.{IsTree}
 use Rattle.i2c_spec.specs.Plain.{IsPlainBoard}
-use Rattle.i2c_spec.specs.Chips.{ChipView, is_open, is_free, is_foreign, chip_sends, select_value, close_value, taken, looked}
+use Rattle.i2c_spec.specs.Chips.{ChipView, is_open, is_free, is_foreign, chip_sends, select_value, close_value, taken}
 use Rattle.i2c_spec.specs.Messages.{MessageView, write_byte, read_byte}
 use Rattle.i2c_spec.specs.Conversation.{TalkTold, world_listener, talk}
 use Rattle.i2c_spec.specs.World.{World, has_chip}

@@ -7,7 +7,7 @@ use Rattle.std.proofs.Math.ListN.{length-set}
 use Rattle.std.proofs.Math.Dec.{eqb-zero-suc, eqb-suc-zero, eqb-suc-suc}
 use Rattle.i2c_base.specs.declared.board.MuxKind.{MuxKind}
 use Rattle.i2c_base.specs.declared.mux_facts.ChannelCode.{ChannelCode}
-use Rattle.i2c_base.specs.declared.mux_facts.ChannelCode.TheVariants.{Bits, Number, Alone, Level}
+use Rattle.i2c_base.specs.declared.mux_facts.ChannelCode.TheVariants.{Level}
 use Rattle.i2c_base.specs.Muxes.{facts_of}
 use Rattle.i2c_base.proofs.MuxLemmas.{line_row}
 use Rattle.i2c_base.specs.declared.board.MuxSpec.{MuxSpec}
