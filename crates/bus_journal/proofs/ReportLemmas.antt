@@ -1,6 +1,6 @@
 -- A report's bytes tell its journal: the line above it is the first of its kind, and below it stands a line for each
 -- entry. Over the lines before it, and over the entries.
-use Rattle.std.proofs.Common.{◌≡◌, ℕ, List, ◌+◌, Bool, true, false, [], ◌∷◌, ◌++◌, ◌==◌, get_or, arith, append_assoc, refl, sym, ap, subst, ◌∙◌}
+use Rattle.std.proofs.Common.{◌≡◌, ℕ, List, ◌+◌, true, false, [], ◌∷◌, ◌++◌, ◌==◌, get_or, append_assoc, refl, sym, ap, ◌∙◌}
 use Rattle.std.specs.Prelude.{codes}
 use Rattle.std.specs.Fmt.{decimal}
 use Rattle.std.specs.List.{All, flat_map, list_any}
@@ -8,7 +8,7 @@ use Rattle.std.proofs.lemmas.Bool.{or_parts}
 use Rattle.std.proofs.lemmas.Grind.{flat_map-append}
 use Rattle.std.proofs.lemmas.List.Elements.{All-nil, All-head, All-tail, All-cons, All-append}
 use Rattle.bus_spec.specs.Lines.{entry_line}
-use Rattle.bus_spec.specs.Report.{sections, ended_line, report_lines}
+use Rattle.bus_spec.specs.Report.{sections, ended_line}
 use Rattle.bus_journal.specs.Ranges.{IsEntry}
 use Rattle.bus_journal.specs.Reports.{IsLine, ended, IsSectionLine, HasNoJournalLine, ReportsAreDistinct}
 use Rattle.bus_journal.proofs.LineFeeds.{line-append, decimal-line, entry-line}

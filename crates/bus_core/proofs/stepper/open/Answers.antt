@@ -1,4 +1,4 @@
-use Rattle.std.proofs.Common.{◌∙◌, ◌≤◌, List, [], ◌∷◌, length, map, vec_len, sym, ap, subst}
+use Rattle.std.proofs.Common.{◌∙◌, ◌≤◌, List, [], ◌∷◌, length, map, sym, ap, subst}
 use Rattle.std.specs.Prelude.{None}
 use Rattle.std.proofs.lemmas.List.{length-replicate}
 use Rattle.i2c_base.specs.declared.reply.Reply.{Reply}
