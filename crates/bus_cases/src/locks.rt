@@ -6,9 +6,9 @@ use std::io;
 /// The lock of the muxes on a root.
 const MUXES: LockId = LockId::Mux(SegId(0));
 
-// Who holds that lock.
-fn print_holder(rt: &impl Print, locks: &Locks) -> io::Result<()> {
-    match locks.holder(MUXES) {
+// Who holds a lock.
+fn print_holder(rt: &impl Print, holder: Option<u8>) -> io::Result<()> {
+    match holder {
         Some(caller) => print!(rt; " held by {caller},"),
         None => print!(rt; " free,"),
     }
@@ -22,12 +22,12 @@ pub fn print_locks(rt: &impl Print, alloc: Global) -> io::Result<()> {
     };
     print!(rt; "lock:")?;
     let _ = locks.take(3, MUXES);
-    print_holder(rt, &locks)?;
+    print_holder(rt, locks.holder(MUXES))?;
     if locks.holder(MUXES) == Some(3) {
         locks.set_mark(3, MUXES, Some(MuxId(0)));
         locks.free(3, MUXES);
     }
-    print_holder(rt, &locks)?;
+    print_holder(rt, locks.holder(MUXES))?;
     match locks.mark(MUXES) {
         Some(mux) => println!(rt; " marked m{}", mux.0),
         None => println!(rt; " unmarked"),
