@@ -3,7 +3,7 @@ use Rattle.std.proofs.Common.{◌≡◌, false, refl, sym, ◌∙◌, ap}
 use Rattle.i2c_base.specs.Board.{BoardView}
 use Rattle.i2c_base.specs.Transfer.{TransferView}
 use Rattle.i2c_spec.specs.TreeFacts.{IsTree}
-use Rattle.bus_spec.specs.Walk.{Job, is_gpio, is_line}
+use Rattle.bus_spec.specs.Walk.{is_gpio, is_line}
 use Rattle.bus_spec.specs.Grammar.{walk_for}
 use Rattle.bus_laws.specs.Jobs.{EachJob, IsJobOf}
 use Rattle.bus_laws.proofs.Laws.{hop_kind, jobs-both, walk-jobs, walk-stays}

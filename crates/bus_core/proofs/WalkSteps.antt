@@ -16,7 +16,7 @@ use Rattle.i2c_spec.specs.Tree.{Hop, hops, root_of}
 use Rattle.bus_spec.specs.Walk.{Job, Call, Select, Clear, Act, Take, Free, Send, Shift, Settle, Passed, Sent, WalkTree, Ends, Note, is_line}
 use Rattle.bus_spec.specs.Slots.{Slots}
 use Rattle.bus_spec.specs.Grammar as grammar
-use Rattle.bus_spec.specs.Grammar.{full, walk_by, walk_for, seen, is_over, first_act, rest_of}
+use Rattle.bus_spec.specs.Grammar.{full, walk_by, seen, is_over, first_act, rest_of}
 use Rattle.bus_laws.specs.Calls.{FirstCalls}
 use Rattle.bus_core.specs.Lines.{IsMessageJob, HasNoLine}
 use Rattle.bus_core.proofs.LineLemmas.{messages-stay}

@@ -1,12 +1,12 @@
 -- How the facts of a kind of mux go together, by the code that tells its open channel. Every row keeps it, and the
 -- proofs above ask for nothing else of a kind. No induction.
-use Rattle.std.proofs.Common.{◌≡◌, ℕ, ◌≤◌, Bool, true, false, Option, Some, None, refl, sym, ◌∙◌, arith}
+use Rattle.std.proofs.Common.{◌≡◌, ◌≤◌, true, false, Some, None, refl, sym, ◌∙◌, arith}
 use Rattle.i2c_base.specs.declared.board.MuxKind.{MuxKind}
 use Rattle.i2c_base.specs.declared.board.MuxKind.TheVariants.{Pca9548, Pca9546, Pca9544, Pca9541, Gpio}
 use Rattle.i2c_base.specs.declared.mux_facts.MuxFacts.{MuxFacts}
 use Rattle.i2c_base.specs.declared.mux_facts.ChannelCode.{ChannelCode}
 use Rattle.i2c_base.specs.declared.mux_facts.ChannelCode.TheVariants.{Bits, Number, Alone, Level}
-use Rattle.i2c_base.specs.Muxes.{facts_of, switch_of}
+use Rattle.i2c_base.specs.Muxes.{facts_of}
 
 -- a switch, a mux with a number, an arbitrator, a mux that is switched by a line
 abbrev pub FitsCode : ChannelCode → MuxFacts → Type 0

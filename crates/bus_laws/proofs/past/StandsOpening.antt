@@ -1,5 +1,5 @@
 -- What stands at the opening: nobody has a lock, and every channel is closed.
-use Rattle.std.proofs.Common.{◌≡◌, ℕ, ◌+◌, true, false, map, Option, Some, None, refl, sym, ◌∙◌, ap, subst, arith}
+use Rattle.std.proofs.Common.{◌≡◌, ℕ, true, false, map, Option, Some, None, refl, sym, ◌∙◌, ap, subst, arith}
 use Rattle.std.specs.Prelude.{slice_get, unwrap_or}
 use Rattle.std.specs.Option.{option_map}
 use Rattle.std.proofs.lemmas.Option.{slice_get-map}

@@ -1,6 +1,6 @@
 use Rattle.i2c_top.specs.Requests.{Check, NoForm}
 use Rattle.i2c_top.specs.Traces.{rig_view}
-use Rattle.i2c_top.proofs.EndingLemmas.{ended_replayed, ended_checked, ended_formless, ended_same}
+use Rattle.i2c_top.proofs.EndingLemmas.{ended_formless, ended_same}
 use Rattle.i2c_top.proofs.program.top.Goals as goal
 
 abbrev checked : goal.returns-in-Check-clause-ended
