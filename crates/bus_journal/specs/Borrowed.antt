@@ -4,13 +4,13 @@ use Rattle.i2c_base.specs.declared.reply.Reply.{Reply}
 use Rattle.i2c_base.specs.declared.reply.Reply.TheVariants as reply
 use Rattle.i2c_base.specs.declared.entry.Entry.{Entry}
 use Rattle.i2c_base.specs.declared.entry.Entry.TheVariants as entry
-use Rattle.bus_journal.specs.declared.borrowed.Answer.{Answer}
-use Rattle.bus_journal.specs.declared.borrowed.Answer.TheVariants as answer
+use Rattle.bus_journal.specs.declared.borrowed.ReplyHead.{ReplyHead}
+use Rattle.bus_journal.specs.declared.borrowed.ReplyHead.TheVariants as answer
 use Rattle.bus_journal.specs.declared.borrowed.Head.{Head}
 use Rattle.bus_journal.specs.declared.borrowed.Head.TheVariants as head
 use Rattle.bus_journal.specs.declared.borrowed.EntryRef.{EntryRef}
 
-abbrev pub reply_by : Answer → List ℕ → Reply
+abbrev pub reply_by : ReplyHead → List ℕ → Reply
 reply_by answer.Done bytes = reply.Done
 reply_by answer.Read bytes = reply.Read bytes
 reply_by (answer.Err errno) bytes = reply.Err errno
@@ -32,7 +32,7 @@ bytes_replied (reply.Read bytes) = bytes
 bytes_replied (reply.Err errno) = []
 
 -- a transfer reads at most 4,096 bytes, a message has at most 512, and no other entry has any
-abbrev pub most_read : Answer → ℕ
+abbrev pub most_read : ReplyHead → ℕ
 most_read answer.Done = 0
 most_read answer.Read = 4096
 most_read (answer.Err errno) = 0

@@ -8,7 +8,7 @@ use i2c_base::{
 
 /// A reply without its bytes.
 #[derive(Clone, Copy)]
-pub enum Answer {
+pub enum ReplyHead {
     Done,
     Read,
     Err(Errno),
@@ -44,7 +44,7 @@ pub enum Head {
     },
     Settle {
         caller: u8,
-        answer: Answer,
+        answer: ReplyHead,
         cut: Cut,
     },
 }
@@ -67,27 +67,27 @@ fn held<const N: usize>(bytes: &[u8]) -> ByteStore<N>
 }
 
 // The reply of this answer and these bytes.
-fn reply_of(answer: Answer, bytes: &[u8]) -> Reply
+fn reply_of(answer: ReplyHead, bytes: &[u8]) -> Reply
     requires { length bytes.now ≤ most_read answer }
     ensures { result ≡ reply_by answer bytes.now }
 {
     match answer {
-        Answer::Done => Reply::Done,
-        Answer::Read => Reply::Read(held(bytes)),
-        Answer::Err(errno) => Reply::Err(errno),
+        ReplyHead::Done => Reply::Done,
+        ReplyHead::Read => Reply::Read(held(bytes)),
+        ReplyHead::Err(errno) => Reply::Err(errno),
     }
 }
 
-// A reply without its bytes, and those.
-fn split_reply(reply: &Reply) -> (Answer, &[u8])
+/// A reply without its bytes, and those.
+pub fn split_reply(reply: &Reply) -> (ReplyHead, &[u8])
     ensures same { reply_by result.0 result.1.now ≡ reply.now }
     ensures bytes { result.1.now ≡ bytes_replied reply.now }
     ensures few { length result.1.now ≤ most_read result.0 }
 {
     match reply {
-        Reply::Done => (Answer::Done, &[]),
-        Reply::Read(bytes) => (Answer::Read, bytes.as_slice()),
-        Reply::Err(errno) => (Answer::Err(*errno), &[]),
+        Reply::Done => (ReplyHead::Done, &[]),
+        Reply::Read(bytes) => (ReplyHead::Read, bytes.as_slice()),
+        Reply::Err(errno) => (ReplyHead::Err(*errno), &[]),
     }
 }
 

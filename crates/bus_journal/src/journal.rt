@@ -3,7 +3,7 @@ ghost use Rattle.std.specs.List.{All};
 ghost use Rattle.bus_journal.specs.Borrowed.{entry_seen, most_bytes};
 ghost use Rattle.bus_journal.specs.Ranges.{IsEntry};
 
-use crate::borrowed::{Answer, EntryRef, Head};
+use crate::borrowed::{EntryRef, Head, ReplyHead};
 use crate::ranges::entry_is_in_range;
 use i2c_base::{Addr, Cut, End, Entry, LockId, NoMemory, Node, Purpose};
 use packed::Packed;
@@ -59,7 +59,7 @@ impl Journal {
         ensures room_bytes { self.new.room_bytes + length entry.now.bytes.now ≡ self.old.room_bytes }
     {
         // The kit plans a generic call at `Head` only where it meets each type that a head is made of.
-        let _made_of: Option<(LockId, Purpose, Addr, Node, End, Answer, Cut)> = None;
+        let _made_of: Option<(LockId, Purpose, Addr, Node, End, ReplyHead, Cut)> = None;
         entry_is_in_range(entry.head, entry.bytes);
         self.packed.push(entry.head, entry.bytes);
     }

@@ -13,7 +13,7 @@ mod ranges;
 mod read;
 mod text;
 
-pub use borrowed::{Answer, EntryRef, Head};
+pub use borrowed::{EntryRef, Head, ReplyHead, split_reply};
 pub use journal::Journal;
 pub use laws::{a_line_tells_its_entry, a_report_tells_its_journal};
 pub use line::{entry_text, errno_name, push_entry};

@@ -4,7 +4,7 @@ ghost use Rattle.bus_spec.specs.Lines.{lock_text, purpose_text, direction_text, 
 ghost use Rattle.bus_journal.specs.Borrowed.{entry_seen, reply_by};
 ghost use Rattle.bus_journal.specs.Ranges.{IsEntry};
 
-use crate::borrowed::{Answer, EntryRef, Head};
+use crate::borrowed::{EntryRef, Head, ReplyHead};
 use crate::ranges::entry_is_in_range;
 use crate::text::{push_bytes, push_hex, push_joined, push_number, push_spaced};
 use i2c_base::{Addr, Cut, End, Entry, Errno, LockId, MuxId, NoMemory, Node, Purpose, SegId};
@@ -102,16 +102,16 @@ fn push_end(out: &mut Vec<u8>, end: End) -> Result<(), NoMemory>
     }
 }
 
-fn push_reply(out: &mut Vec<u8>, answer: Answer, bytes: &[u8]) -> Result<(), NoMemory>
+fn push_reply(out: &mut Vec<u8>, answer: ReplyHead, bytes: &[u8]) -> Result<(), NoMemory>
     ensures { OnOk result (out.new.items ≡ out.old.items ++ reply_text (reply_by answer bytes.now)) }
 {
     match answer {
-        Answer::Done => push_bytes(out, b"done"),
-        Answer::Read => {
+        ReplyHead::Done => push_bytes(out, b"done"),
+        ReplyHead::Read => {
             push_bytes(out, b"read")?;
             push_spaced(out, bytes)
         }
-        Answer::Err(errno) => push_bytes(out, errno_name(errno)),
+        ReplyHead::Err(errno) => push_bytes(out, errno_name(errno)),
     }
 }
 

@@ -5,7 +5,7 @@ ghost use Rattle.i2c_base.specs.Bytes.{AreBytes};
 ghost use Rattle.bus_journal.specs.Borrowed.{entry_by, reply_by, most_bytes, most_read};
 ghost use Rattle.bus_journal.specs.Ranges.{IsLock, IsPurpose, IsNode, IsHeard, IsEnd, IsReply, IsCut, IsEntry};
 
-use crate::borrowed::{Answer, Head};
+use crate::borrowed::{Head, ReplyHead};
 use i2c_base::{Cut, End, LockId, Node, Purpose};
 
 fn lock_is_in_range(lock: LockId)
@@ -67,14 +67,14 @@ fn bytes_are_in_range(bytes: &[u8])
     ensures { AreBytes bytes.now }
 {}
 
-fn reply_is_in_range(answer: Answer, bytes: &[u8])
+fn reply_is_in_range(answer: ReplyHead, bytes: &[u8])
     requires { length bytes.now ≤ most_read answer }
     ensures { IsReply (reply_by answer bytes.now) }
 {
     match answer {
-        Answer::Read => bytes_are_in_range(bytes),
-        Answer::Done => {}
-        Answer::Err(_) => {}
+        ReplyHead::Read => bytes_are_in_range(bytes),
+        ReplyHead::Done => {}
+        ReplyHead::Err(_) => {}
     }
 }
 

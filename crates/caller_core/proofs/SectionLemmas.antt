@@ -6,7 +6,7 @@ use Rattle.std.proofs.Math.ListN.{get_or-map}
 use Rattle.i2c_base.specs.declared.reply.Reply.{Reply}
 use Rattle.caller_core.specs.Kept.{command_in, commands_in, reply_of, replies_of}
 use Rattle.caller_core.specs.Scripts.{CommandView, command_text, section_text}
-use Rattle.caller_core.specs.declared.answer.Answer.{Answer}
+use Rattle.bus_journal.specs.declared.borrowed.ReplyHead.{ReplyHead}
 use Rattle.caller_core.specs.declared.script.Placed.{Placed}
 
 -- one command more that has a reply
@@ -33,7 +33,7 @@ section_ends out whole cs rs i h e =
     let over : (drop i cs ≡ []) ⊎ (drop i rs ≡ []) = elim h [ inl k ↦ inl (drop_all i cs k) | inr k ↦ inr (drop_all i rs k) ] in
     sym (append-nil out) ∙ ap (λ xs. out ++ xs) (sym (section_none (drop i cs) (drop i rs) over)) ∙ e
 
-pub section_step : (out new whole text : List ℕ) (placed : List Placed) (items : List (Answer × List ℕ)) (i : ℕ) (p : Placed) (x : Answer × List ℕ)
+pub section_step : (out new whole text : List ℕ) (placed : List Placed) (items : List (ReplyHead × List ℕ)) (i : ℕ) (p : Placed) (x : ReplyHead × List ℕ)
     → i < length placed → i < length items → p ≡ get_or placed i p → x ≡ get_or items i x → new ≡ out ++ command_text (command_in text p) (reply_of x)
     → out ++ section_text (drop i (commands_in text placed)) (drop i (replies_of items)) ≡ whole
     → new ++ section_text (drop (i + 1) (commands_in text placed)) (drop (i + 1) (replies_of items)) ≡ whole
@@ -43,7 +43,7 @@ section_step out new whole text placed items i p x below within at_p at_x n e =
     section_more out new whole (commands_in text placed) (replies_of items) i (command_in text p) (reply_of x) (omega arith) (omega arith)
     (get_or-map (command_in text) placed i p ∙ ap (command_in text) (sym at_p)) (get_or-map reply_of items i x ∙ ap reply_of (sym at_x)) n e
 
-pub section_whole : (out whole text : List ℕ) (placed : List Placed) (items : List (Answer × List ℕ)) (i count : ℕ) → count ≡ min (length placed) (length items) → count ≤ i
+pub section_whole : (out whole text : List ℕ) (placed : List Placed) (items : List (ReplyHead × List ℕ)) (i count : ℕ) → count ≡ min (length placed) (length items) → count ≤ i
     → out ++ section_text (drop i (commands_in text placed)) (drop i (replies_of items)) ≡ whole → out ≡ whole
 section_whole out whole text placed items i count least over e =
     let cs_len : length (commands_in text placed) ≡ length placed = length-map placed (command_in text) in

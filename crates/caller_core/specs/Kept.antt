@@ -1,11 +1,10 @@
 -- What a script keeps: where the line of each command stands in its text, and of each reply a head with its bytes.
-use Rattle.std.specs.Prelude.{◌≡◌, ℕ, ◌+◌, ◌≤◌, List, [], length, map, take, drop, All}
+use Rattle.std.specs.Prelude.{◌≡◌, ℕ, ◌+◌, ◌≤◌, List, length, map, take, drop, All}
 use Rattle.i2c_base.specs.declared.reply.Reply.{Reply}
-use Rattle.i2c_base.specs.declared.reply.Reply.TheVariants as reply
 use Rattle.packed.specs.View.{PackedView}
+use Rattle.bus_journal.specs.Borrowed.{reply_by}
+use Rattle.bus_journal.specs.declared.borrowed.ReplyHead.{ReplyHead}
 use Rattle.caller_core.specs.Scripts.{CommandView, command_of, commands_of}
-use Rattle.caller_core.specs.declared.answer.Answer.{Answer}
-use Rattle.caller_core.specs.declared.answer.Answer.TheVariants as answer
 use Rattle.caller_core.specs.declared.script.Placed.{Placed}
 
 -- the line of a command in its text, and the command with it
@@ -21,27 +20,15 @@ commands_in text ps = map (command_in text) ps
 abbrev pub IsInside : ℕ → Placed → Type 0
 IsInside end p = p.start + p.len ≤ end
 
--- a reply as it is kept, and again
-abbrev pub answer_of : Reply → Answer
-answer_of reply.Done = answer.Done
-answer_of (reply.Read bytes) = answer.Read
-answer_of (reply.Err errno) = answer.Err errno
+-- the reply that a head and its bytes stand for
+abbrev pub reply_of : ReplyHead × List ℕ → Reply
+reply_of kept = reply_by kept.0 kept.1
 
-abbrev pub bytes_of : Reply → List ℕ
-bytes_of reply.Done = []
-bytes_of (reply.Read bytes) = bytes
-bytes_of (reply.Err errno) = []
-
-abbrev pub reply_of : Answer × List ℕ → Reply
-reply_of (answer.Done, bytes) = reply.Done
-reply_of (answer.Read, bytes) = reply.Read bytes
-reply_of (answer.Err errno, bytes) = reply.Err errno
-
-abbrev pub replies_of : List (Answer × List ℕ) → List Reply
+abbrev pub replies_of : List (ReplyHead × List ℕ) → List Reply
 replies_of xs = map reply_of xs
 
 -- it has the commands of its text, each within it, and room for the reply of each, and for a byte of each
-pub record IsCaller (text : List ℕ) (placed : List Placed) (taken : PackedView Answer) : Type 0 where
+pub record IsCaller (text : List ℕ) (placed : List Placed) (taken : PackedView ReplyHead) : Type 0 where
   pub whole : commands_of text ≡ commands_in text placed
   pub inside : All (IsInside (length text)) placed
   pub room : length placed ≤ length taken.items + taken.room

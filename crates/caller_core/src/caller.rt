@@ -5,10 +5,10 @@ ghost use Rattle.caller_core.specs.Callers.{opened, ScriptsAreFair};
 ghost use Rattle.caller_core.specs.Steps.{IsShallowBoard};
 ghost use Rattle.caller_core.specs.Scripts.{script_read, commands_of, ScriptFaultIs, asked_by, left_of, section_text};
 
-use crate::answer::{Answer, kept};
 use crate::command::{BYTES, STEPS, transfer_of};
 use crate::script::{Placed, ScriptFault, read_script};
 use crate::section::section;
+use bus_journal::{ReplyHead, split_reply};
 use i2c_base::{Caller, NoMemory, Reply, Transfer};
 use i2c_board::Accepted;
 use packed::Packed;
@@ -23,7 +23,7 @@ pub struct Script {
     board: Snapshot<Accepted>,
     text: Vec<u8>,
     commands: Vec<Placed>,
-    taken: Packed<Answer>,
+    taken: Packed<ReplyHead>,
 }
 
 impl Model for Script {
@@ -103,7 +103,7 @@ impl Caller for Script {
         ensures err { OnErr result (self.new.taken ≡ self.old.taken) }
         ensures room { IsOk result }
     {
-        let (answer, bytes) = kept(reply);
+        let (answer, bytes) = split_reply(reply);
         self.taken.push(answer, bytes);
         Ok(())
     }

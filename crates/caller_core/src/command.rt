@@ -5,8 +5,7 @@ ghost use Rattle.std.specs.List.{flat_map};
 ghost use Rattle.caller_core.specs.Commands.{read_byte_of, transfer_of, spaced_word, byte_words, reply_text, answer_text};
 ghost use Rattle.caller_core.specs.Kept.{reply_of};
 
-use crate::answer::Answer;
-use bus_journal::{errno_name, push_bytes, push_hex};
+use bus_journal::{ReplyHead, errno_name, push_bytes, push_hex};
 use i2c_base::{Addr, Kind, NoMemory, Transfer};
 use tool_words::Cmd;
 
@@ -31,7 +30,7 @@ pub fn transfer_of(cmd: Cmd) -> Transfer
 pub fn push_answer(
     out: &mut Vec<u8>,
     cmd: Cmd,
-    answer: Answer,
+    answer: ReplyHead,
     bytes: &[u8],
 ) -> Result<(), NoMemory>
     ensures { OnOk result (out.new.items ≡ out.old.items ++ answer_text cmd (reply_of (answer, bytes.now))) }
@@ -75,12 +74,12 @@ fn push_byte_words(out: &mut Vec<u8>, bytes: &[u8]) -> Result<(), NoMemory>
 }
 
 // A reply as words, `ok` where nothing was read, or the name of its error.
-fn push_reply(out: &mut Vec<u8>, answer: Answer, bytes: &[u8]) -> Result<(), NoMemory>
+fn push_reply(out: &mut Vec<u8>, answer: ReplyHead, bytes: &[u8]) -> Result<(), NoMemory>
     ensures { OnOk result (out.new.items ≡ out.old.items ++ reply_text (reply_of (answer, bytes.now))) }
 {
     match answer {
-        Answer::Done => push_bytes(out, b"ok"),
-        Answer::Read => push_byte_words(out, bytes),
-        Answer::Err(errno) => push_bytes(out, errno_name(errno)),
+        ReplyHead::Done => push_bytes(out, b"ok"),
+        ReplyHead::Read => push_byte_words(out, bytes),
+        ReplyHead::Err(errno) => push_bytes(out, errno_name(errno)),
     }
 }

@@ -6,7 +6,6 @@
 //! script), `specs/Callers.antt` (a script as a caller), `specs/Steps.antt` (the boards on which its steps are counted).
 #![tactic(auto)]
 
-mod answer;
 mod caller;
 mod command;
 mod script;

@@ -2,10 +2,9 @@ ghost use Rattle.std.specs.Prelude.{◌≡◌, ◌++◌, ◌≤◌, length, map,
 ghost use Rattle.caller_core.specs.Kept.{command_in, commands_in, reply_of, replies_of, IsInside};
 ghost use Rattle.caller_core.specs.Scripts.{command_text, section_text};
 
-use crate::answer::Answer;
 use crate::command::push_answer;
 use crate::script::Placed;
-use bus_journal::push_bytes;
+use bus_journal::{ReplyHead, push_bytes};
 use i2c_base::NoMemory;
 use packed::Packed;
 use std::alloc::Global;
@@ -16,7 +15,7 @@ fn push_command(
     out: &mut Vec<u8>,
     text: &[u8],
     command: Placed,
-    answer: Answer,
+    answer: ReplyHead,
     bytes: &[u8],
 ) -> Result<(), NoMemory>
     requires { IsInside (length text.now) command }
@@ -35,7 +34,7 @@ pub fn section(
     alloc: Global,
     text: &[u8],
     commands: &[Placed],
-    taken: &Packed<Answer>,
+    taken: &Packed<ReplyHead>,
 ) -> Result<Vec<u8>, NoMemory>
     requires { All (IsInside (length text.now)) commands.now }
     ensures { IfOk result (λ out. out.items ≡ section_text (commands_in text.now commands.now) (replies_of taken.now.items)) }
