@@ -60,6 +60,17 @@ memory_of() {
   tail -n 1 "$folder/memory"
 }
 
+# The instructions of one more such run, or nothing where there is no valgrind.
+instructions_of() {
+  local status
+  command -v valgrind >/dev/null || return 0
+  valgrind --tool=callgrind --callgrind-out-file=/dev/null --log-file="$folder/valgrind" "$program" "${@:3}" \
+    >"$folder/out" </dev/null
+  status=$?
+  check_run "$1" "$2" "$status"
+  sed -n 's/.*Collected : *//p' "$folder/valgrind"
+}
+
 # So many thousandths, with a point.
 thousandths() {
   awk -v n="$1" 'BEGIN { printf "%.3f", n / 1000 }'

@@ -1,6 +1,7 @@
 #!/usr/bin/env bash
 # How long the proved program takes for 100 and for 1,000 register reads on a root, and for 1,000 behind a mux, and how
-# much memory. An entry of the journal should take at most 1.3 times as long behind the mux as on the root.
+# much memory, and how many instructions where there is valgrind. An entry of the journal should take at most 1.3 times
+# as long behind the mux as on the root.
 #
 #     bench/reads.sh [PROGRAM]
 #
@@ -73,6 +74,7 @@ measure() {
   median[$1.$2]=$(median_of "$times")
   an_entry[$1.$2]=$((median[$1.$2] * 1000 / entries[$1.$2]))
   memory[$1.$2]=$(memory_of "$what" "$due" "${words[@]}") || exit 1
+  instructions[$1.$2]=$(instructions_of "$what" "$due" "${words[@]}") || exit 1
   size[$1.$2]=$(($(wc -c <"$due")))
 }
 
@@ -90,7 +92,7 @@ row_of_times() {
   row "$1" "$(thousandths "$2")" "$(thousandths "$3")" "$(ratio "$2" "$3")" "$(thousandths "$4")" "$(ratio "$3" "$4")"
 }
 
-declare -A entries best median an_entry memory size
+declare -A entries best median an_entry memory instructions size
 write_boards
 measure root "$FEW"
 measure root "$MANY"
@@ -107,6 +109,7 @@ row_of_times "best of $RUNS runs, ms" "${best[$few]}" "${best[$many]}" "${best[$
 row_of_times "median of $RUNS runs, ms" "${median[$few]}" "${median[$many]}" "${median[$behind]}"
 row_of_times "median an entry, us" "${an_entry[$few]}" "${an_entry[$many]}" "${an_entry[$behind]}"
 row_of_numbers "peak memory, KiB" "${memory[$few]}" "${memory[$many]}" "${memory[$behind]}"
+row_of_numbers "instructions" "${instructions[$few]}" "${instructions[$many]}" "${instructions[$behind]}"
 row_of_numbers "output, bytes" "${size[$few]}" "${size[$many]}" "${size[$behind]}"
 
 slower=$(ratio "${an_entry[$many]}" "${an_entry[$behind]}")
