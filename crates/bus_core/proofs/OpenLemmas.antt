@@ -6,6 +6,7 @@ use Rattle.std.proofs.lemmas.List.{length-map}
 use Rattle.std.proofs.lemmas.List.Elements.{All-get_or, All-map, All-weaker}
 use Rattle.std.proofs.lemmas.List.FromFn.{length-map-range_with_len, get_or-map-range_with_len}
 use Rattle.std.proofs.lemmas.Option.{slice_get-get_or}
+use Rattle.i2c_base.specs.Limits.{MOST_CALLS}
 use Rattle.i2c_base.specs.declared.entry.Entry.{Entry}
 use Rattle.i2c_base.specs.declared.port.PortCall.{PortCall}
 use Rattle.i2c_base.specs.declared.reply.Reply.{Reply}
@@ -90,7 +91,7 @@ seat-rests b next s some over settled root count empty =
 
 -- nothing is spent, and what the caller has left is all that is owed
 pub within-open : (b : BoardView) (limit left : ℕ) (s : Seat) (room room_bytes : ℕ) (tells : Bool) (logs : List (List PortCall))
-    → walk_left b s ≡ Ends → s.settled ≡ true → left ≤ limit → 2 * limit + 515 ≤ 2000000 → room ≡ 2 * limit → room_bytes ≡ 2 * limit → (IsTrue tells → All (λ l. length l ≤ 0) logs)
+    → walk_left b s ≡ Ends → s.settled ≡ true → left ≤ limit → 2 * limit + 515 ≤ MOST_CALLS → room ≡ 2 * limit → room_bytes ≡ 2 * limit → (IsTrue tells → All (λ l. length l ≤ 0) logs)
     → IsWithinLimit b limit 0 left s 0 room room_bytes tells logs
 within-open b limit left s room room_bytes tells logs over settled covers most capacity capacity_bytes calls =
     record {

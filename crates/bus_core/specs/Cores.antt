@@ -1,6 +1,7 @@
 -- What the core keeps of its caller and its ports, each tied to what the journal tells.
 use Rattle.std.specs.Prelude.{◌≡◌, ◌⊎◌, ℕ, ◌+◌, ◌-◌, ◌*◌, ◌<◌, ◌≤◌, Bool, true, false, IsTrue, List, [], ◌∷◌, All, reverse, length, Option, Some, None, slice_get, slice_index_or, if◌then◌else◌}
 use Rattle.std.specs.List.{list_any}
+use Rattle.i2c_base.specs.Limits.{MOST_CALLS}
 use Rattle.i2c_base.specs.declared.entry.Entry.{Entry}
 use Rattle.i2c_base.specs.declared.errno.Errno.{Errno}
 use Rattle.i2c_base.specs.declared.port.PortCall.{PortCall}
@@ -114,7 +115,7 @@ pub record IsWithinLimit (b : BoardView) (limit spent left : ℕ) (s : Seat) (mo
   pub ahead : ℕ
   pub within : IsWithin b (walk_left b s) ahead
   pub owes : spent + ahead + owed_behind b left s ≤ limit
-  pub most : 2 * limit + 515 ≤ 2000000
+  pub most : 2 * limit + 515 ≤ MOST_CALLS
   pub entries : 2 * limit + more ≤ room + 2 * spent
   pub bytes : 2 * limit + length (got_told s) ≤ room_bytes + 2 * spent
   pub calls : IsTrue tells → All (λ l. length l ≤ 2 * spent) logs

@@ -1,4 +1,5 @@
 ghost use Rattle.std.specs.Prelude.{◌≡◌, ◌+◌, ◌*◌, ◌<◌, ◌≤◌, ℕ, true, false, List, Some, None, All, IsTrue, length, map, slice_get};
+ghost use Rattle.i2c_base.specs.Limits.{MOST_CALLS};
 ghost use Rattle.i2c_base.specs.declared.entry.End.{End};
 ghost use Rattle.i2c_base.specs.declared.entry.Purpose.TheVariants as purpose;
 ghost use Rattle.i2c_base.specs.declared.port.PortCall.{PortCall};
@@ -26,7 +27,7 @@ fn say<P: Port>(ports: &mut Vec<P>, root: usize, message: &Message<'_>, last: bo
     requires some { message.now.reading ≡ true → 0 < message.now.len }
     requires short_read { message.now.len ≤ 512 }
     requires short_write { length message.now.bytes ≤ message.now.len }
-    requires room { IsTrue P.tells → All (λ l. length l + 515 ≤ 2000000) (map P.log ports.old.items) }
+    requires room { IsTrue P.tells → All (λ l. length l + 515 ≤ MOST_CALLS) (map P.log ports.old.items) }
     ensures ready { All (λ p. MayStart (P.phase p)) ports.new.items }
     ensures count { length ports.new.items ≡ length ports.old.items }
     ensures said { IsTrue P.tells → (limit : ℕ) (w : World) (log : List PortCall) → slice_get (map P.world ports.old.items) root ≡ Some w → slice_get (map P.log ports.old.items) root ≡ Some log
@@ -81,7 +82,7 @@ fn send_call<P: Port>(board: &Accepted, ports: &mut Vec<P>, seat: &Seat, last: b
     requires more { seat.now.sent < length seat.now.transfer.msgs }
     requires there { seat.now.root < length ports.old.items }
     requires ready { All (λ p. MayStart (P.phase p)) ports.old.items }
-    requires room { IsTrue P.tells → All (λ l. length l + 515 ≤ 2000000) (map P.log ports.old.items) }
+    requires room { IsTrue P.tells → All (λ l. length l + 515 ≤ MOST_CALLS) (map P.log ports.old.items) }
     ensures ready { All (λ p. MayStart (P.phase p)) ports.new.items }
     ensures count { length ports.new.items ≡ length ports.old.items }
     ensures addr { result.addr ≡ (call_message seat.now).addr }
@@ -107,7 +108,7 @@ fn send_call<P: Port>(board: &Accepted, ports: &mut Vec<P>, seat: &Seat, last: b
 fn switch<P: Port>(ports: &mut Vec<P>, root: usize, addr: Addr, byte: Option<u8>) -> Told
     requires there { root < length ports.old.items }
     requires ready { All (λ p. MayStart (P.phase p)) ports.old.items }
-    requires room { IsTrue P.tells → All (λ l. length l + 515 ≤ 2000000) (map P.log ports.old.items) }
+    requires room { IsTrue P.tells → All (λ l. length l + 515 ≤ MOST_CALLS) (map P.log ports.old.items) }
     ensures ready { All (λ p. MayStart (P.phase p)) ports.new.items }
     ensures count { length ports.new.items ≡ length ports.old.items }
     ensures said { IsTrue P.tells → (limit : ℕ) (w : World) (log : List PortCall) → slice_get (map P.world ports.old.items) root ≡ Some w → slice_get (map P.log ports.old.items) root ≡ Some log
@@ -151,7 +152,7 @@ fn send_control<P: Port>(
 ) -> Sent
     requires there { seat.now.root < length ports.old.items }
     requires ready { All (λ p. MayStart (P.phase p)) ports.old.items }
-    requires room { IsTrue P.tells → All (λ l. length l + 515 ≤ 2000000) (map P.log ports.old.items) }
+    requires room { IsTrue P.tells → All (λ l. length l + 515 ≤ MOST_CALLS) (map P.log ports.old.items) }
     ensures ready { All (λ p. MayStart (P.phase p)) ports.new.items }
     ensures count { length ports.new.items ≡ length ports.old.items }
     ensures addr { result.addr ≡ (control_message result.addr byte).addr }
@@ -180,7 +181,7 @@ pub fn send<P: Port>(board: &Accepted, ports: &mut Vec<P>, seat: &Seat, next: &S
     requires more { next.now.purpose ≡ purpose.Call → seat.now.sent < length seat.now.transfer.msgs }
     requires there { seat.now.root < length ports.old.items }
     requires ready { All (λ p. MayStart (P.phase p)) ports.old.items }
-    requires room { IsTrue P.tells → All (λ l. length l + 515 ≤ 2000000) (map P.log ports.old.items) }
+    requires room { IsTrue P.tells → All (λ l. length l + 515 ≤ MOST_CALLS) (map P.log ports.old.items) }
     ensures ready { All (λ p. MayStart (P.phase p)) ports.new.items }
     ensures count { length ports.new.items ≡ length ports.old.items }
     ensures addr { result.addr ≡ (message_for seat.now next.now.purpose next.now.control result.addr).addr }

@@ -1,4 +1,5 @@
 ghost use Rattle.std.specs.Prelude.{◌≡◌, ℕ, ◌+◌, ◌<◌, ◌≤◌, true, false, List, [], None, length, IsTrue};
+ghost use Rattle.i2c_base.specs.Limits.{MOST_CALLS};
 ghost use Rattle.i2c_base.specs.Phases.{MayStart, MayStop, AnswersStart, phase_started};
 ghost use Rattle.i2c_base.specs.declared.port.Phase.{Phase};
 ghost use Rattle.i2c_base.specs.declared.port.PortCall.{PortCall};
@@ -48,7 +49,7 @@ pub struct Told {
 // The end of a message that ended early, or is the last of its transfer: with a stop after so many calls.
 fn stopped<P: Port>(port: &mut P, calls: u16, bytes: ByteList, end: End, heard: bool) -> Told
     requires phase { MayStop (P.phase port.old) }
-    requires room { IsTrue P.tells → length (P.log port.old) < 2000000 }
+    requires room { IsTrue P.tells → length (P.log port.old) < MOST_CALLS }
     requires not_cut { cut_of end ≡ None }
     ensures phase { P.phase port.new ≡ Phase.Idle }
     ensures log { IsTrue P.tells → length (P.log port.new) ≤ length (P.log port.old) + 1 }
@@ -73,7 +74,7 @@ fn stopped<P: Port>(port: &mut P, calls: u16, bytes: ByteList, end: End, heard: 
 fn through<P: Port>(port: &mut P, calls: u16, bytes: ByteList, last: bool) -> Told
     requires start { MayStart (P.phase port.old) }
     requires stop { MayStop (P.phase port.old) }
-    requires room { IsTrue P.tells → length (P.log port.old) < 2000000 }
+    requires room { IsTrue P.tells → length (P.log port.old) < MOST_CALLS }
     ensures phase { MayStart (P.phase port.new) }
     ensures log { IsTrue P.tells → length (P.log port.new) ≤ length (P.log port.old) + 1 }
     ensures later { P.faults port.old ≤ P.faults port.new }
@@ -100,7 +101,7 @@ fn through<P: Port>(port: &mut P, calls: u16, bytes: ByteList, last: bool) -> To
 fn put_all<P: Port>(port: &mut P, bytes: &[u8], last: bool) -> Told
     requires phase { P.phase port.old ≡ Phase.Writing }
     requires short { length bytes.now ≤ 512 }
-    requires room { IsTrue P.tells → length (P.log port.old) + length bytes.now < 2000000 }
+    requires room { IsTrue P.tells → length (P.log port.old) + length bytes.now < MOST_CALLS }
     ensures phase { MayStart (P.phase port.new) }
     ensures log { IsTrue P.tells → length (P.log port.new) ≤ length (P.log port.old) + length bytes.now + 1 }
     ensures later { P.faults port.old ≤ P.faults port.new }
@@ -138,7 +139,7 @@ fn get_all<P: Port>(port: &mut P, len: u16, last: bool) -> Told
     requires phase { P.phase port.old ≡ Phase.Reading }
     requires some { 0 < len }
     requires short { len ≤ 512 }
-    requires room { IsTrue P.tells → length (P.log port.old) + len < 2000000 }
+    requires room { IsTrue P.tells → length (P.log port.old) + len < MOST_CALLS }
     ensures phase { MayStart (P.phase port.new) }
     ensures log { IsTrue P.tells → length (P.log port.new) ≤ length (P.log port.old) + len + 1 }
     ensures later { P.faults port.old ≤ P.faults port.new }
@@ -175,7 +176,7 @@ fn go_on<P: Port>(port: &mut P, message: &Message<'_>, last: bool, answer: Answe
     requires some { message.now.reading ≡ true → 0 < message.now.len }
     requires short_read { message.now.len ≤ 512 }
     requires short_write { length message.now.bytes ≤ 512 }
-    requires room { IsTrue P.tells → length (P.log port.old) + 514 ≤ 2000000 }
+    requires room { IsTrue P.tells → length (P.log port.old) + 514 ≤ MOST_CALLS }
     ensures phase { MayStart (P.phase port.new) }
     ensures log { IsTrue P.tells → length (P.log port.new) ≤ length (P.log port.old) + message.now.len + length message.now.bytes + 1 }
     ensures later { P.faults port.old ≤ P.faults port.new }
@@ -210,7 +211,7 @@ pub fn send_message<P: Port>(port: &mut P, message: &Message<'_>, last: bool) ->
     requires some { message.now.reading ≡ true → 0 < message.now.len }
     requires short_read { message.now.len ≤ 512 }
     requires short_write { length message.now.bytes ≤ 512 }
-    requires room { IsTrue P.tells → length (P.log port.old) + 515 ≤ 2000000 }
+    requires room { IsTrue P.tells → length (P.log port.old) + 515 ≤ MOST_CALLS }
     ensures phase { MayStart (P.phase port.new) }
     ensures log { IsTrue P.tells → length (P.log port.new) ≤ length (P.log port.old) + message.now.len + length message.now.bytes + 2 }
     ensures later { P.faults port.old ≤ P.faults port.new }

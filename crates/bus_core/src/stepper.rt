@@ -1,4 +1,5 @@
 ghost use Rattle.std.specs.Prelude.{◌≡◌, ◌*◌, ◌+◌, ◌≤◌, [], ℕ, None, OnOk, IfOk, All, IsTrue, true, length, map, replicate};
+ghost use Rattle.i2c_base.specs.Limits.{MOST_CALLS};
 ghost use Rattle.i2c_base.specs.Phases.{MayStart};
 ghost use Rattle.i2c_base.specs.declared.port.Phase.{Phase};
 ghost use Rattle.i2c_spec.specs.Fair.{IsFairCaller};
@@ -28,7 +29,7 @@ pub struct Room {
 
 impl Room {
     pub fn new(alloc: Global, board: &Board, limit: u32) -> Result<Self, NoMemory>
-        requires most { 2 * limit + 515 ≤ 2000000 }
+        requires most { 2 * limit + 515 ≤ MOST_CALLS }
         ensures journal { IfOk result (λ room. room.journal ≡ record { entries = []; room = 2 * limit; room_bytes = 2 * limit }) }
         ensures marks { IfOk result (λ room. room.marks.items ≡ replicate (buses board.now) None) }
     {
@@ -53,7 +54,7 @@ pub fn open<'b, P: Port, C: Caller>(
     requires home { C.board (C.script caller) ≡ board.now }
     requires untaken { C.taken caller ≡ [] }
     requires covers { C.left (C.script caller) [] ≤ limit }
-    requires most { 2 * limit + 515 ≤ 2000000 }
+    requires most { 2 * limit + 515 ≤ MOST_CALLS }
     requires blank { room.journal ≡ record { entries = []; room = 2 * limit; room_bytes = 2 * limit } }
     requires unmarked { room.marks.items ≡ replicate (buses board.now) None }
     requires count { length ports.items ≡ length board.now.roots }

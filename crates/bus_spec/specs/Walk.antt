@@ -10,6 +10,7 @@ use Rattle.i2c_base.specs.declared.entry.End.TheVariants as end
 use Rattle.i2c_base.specs.declared.entry.Purpose.{Purpose}
 use Rattle.i2c_base.specs.declared.entry.Purpose.TheVariants as purpose
 use Rattle.i2c_base.specs.Board.{BoardView}
+use Rattle.i2c_base.specs.Limits.{POLLS}
 use Rattle.i2c_base.specs.Muxes.{facts_of}
 use Rattle.i2c_spec.specs.Tree.{Hop, addr_of_mux}
 use Rattle.i2c_spec.specs.Chips.{select_value, close_value}
@@ -100,11 +101,7 @@ line_level (Call bus messages) = 0
 line_level (Select h) = select_value h.kind h.channel
 line_level (Clear on mux kind) = close_value
 
--- an arbitrator is asked at most eight times before it is switched
-abbrev pub POLLS : ℕ
-POLLS = 8
-
--- how many messages may follow the first one of a job
+-- how many messages may follow the first one of a job: an arbitrator is asked at most so often before it is switched
 abbrev pub more_of : Job → ℕ
 more_of (Call bus messages) = length messages - 1
 more_of (Select h) = if is_arbitrator h.kind then POLLS else 0

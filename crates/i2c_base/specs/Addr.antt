@@ -1,5 +1,6 @@
 use Rattle.std.specs.Prelude.{ℕ, ◌≤◌}
+use Rattle.i2c_base.specs.Limits.{FIRST_ADDRESS, LAST_ADDRESS}
 
--- 0x00 to 0x07 and 0x78 to 0x7F are reserved (UM10204 section 3.1.12, "Reserved addresses")
+-- the addresses between the reserved ones (UM10204 section 3.1.12, "Reserved addresses")
 abbrev pub IsTargetAddress : ℕ → Type 0
-IsTargetAddress n = (8 ≤ n) × (n ≤ 119)
+IsTargetAddress n = (FIRST_ADDRESS ≤ n) × (n ≤ LAST_ADDRESS)

@@ -1,5 +1,6 @@
 pub mod Addr
 pub mod Errno
+pub mod Limits
 pub mod Board
 pub mod Muxes
 pub mod Bytes

@@ -3,6 +3,7 @@ use Rattle.std.specs.Prelude.{◌≡◌, ℕ, ◌+◌, ◌<◌, ◌≤◌, ◌==
 use Rattle.i2c_base.specs.declared.transfer.Kind.{Kind}
 use Rattle.i2c_base.specs.declared.transfer.Msg.{Msg}
 use Rattle.i2c_base.specs.Bytes.{AreBytes}
+use Rattle.i2c_base.specs.Limits.{MOST_MESSAGES, MOST_LENGTH, MOST_BYTES}
 
 pub record TransferView : Type 0 where
   pub bus : ℕ
@@ -41,19 +42,19 @@ written_of m = if is_read m then 0 else m.len
 
 -- one more message of this length and size is within the limits
 pub record HasRoom (msgs : List Msg) (len size : ℕ) : Type 0 where
-  pub count : length msgs < 42
-  pub len_fits : len ≤ 512
-  pub sum_fits : sum_by size_of msgs + size ≤ 4096
+  pub count : length msgs < MOST_MESSAGES
+  pub len_fits : len ≤ MOST_LENGTH
+  pub sum_fits : sum_by size_of msgs + size ≤ MOST_BYTES
 
 -- RECV_LEN stands only with READ and with a length of 1 or 2; a plain read asks for something
 abbrev pub IsMessage : Msg → Type 0
-IsMessage m = (m.len ≤ 512) × (is_counted m ≡ true → (is_read m ≡ true) × (1 ≤ m.len) × (m.len ≤ 2)) × (is_read m ≡ true → 0 < m.len)
+IsMessage m = (m.len ≤ MOST_LENGTH) × (is_counted m ≡ true → (is_read m ≡ true) × (1 ≤ m.len) × (m.len ≤ 2)) × (is_read m ≡ true → 0 < m.len)
 
 -- what the type of a transfer keeps
 pub record IsTransfer (msgs : List Msg) (out : List ℕ) : Type 0 where
-  pub count : length msgs ≤ 42
+  pub count : length msgs ≤ MOST_MESSAGES
   pub each : All IsMessage msgs
-  pub size : sum_by size_of msgs ≤ 4096
+  pub size : sum_by size_of msgs ≤ MOST_BYTES
   pub written : length out ≡ sum_by written_of msgs
   pub bytes : AreBytes out
 

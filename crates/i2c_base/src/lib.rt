@@ -15,6 +15,7 @@ mod errno;
 mod event;
 mod flags;
 mod ids;
+mod limits;
 mod memory;
 mod mux_facts;
 mod port;
@@ -32,6 +33,10 @@ pub use errno::Errno;
 pub use event::{Answer, Event, Target};
 pub use flags::MsgFlags;
 pub use ids::{DevId, LockId, MuxId, Node, SegId};
+pub use limits::{
+    BLOCK_LIMIT, MOST_BYTES, MOST_CALLERS, MOST_CALLS, MOST_CHANNELS, MOST_DEPTH, MOST_DEVICES, MOST_LENGTH, MOST_MESSAGES, MOST_MUXES,
+    MOST_ROOTS, POLLS,
+};
 pub use memory::NoMemory;
 pub use mux_facts::{ChannelCode, MuxFacts};
 pub use port::{Phase, PortCall};

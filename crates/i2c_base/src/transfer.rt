@@ -1,8 +1,10 @@
 ghost use Rattle.std.specs.Prelude.{◌≡◌, ◌+◌, ◌^◌, ◌<◌, ◌≤◌, ◌↔◌, [], ◌∷◌, ◌++◌, length, sum_by, IsTrue, IsOk, OnOk, OnErr};
 ghost use Rattle.arrayvec.specs.ArrayVec.{array_vec_len};
 ghost use Rattle.i2c_base.specs.Bytes.{AreBytes};
+ghost use Rattle.i2c_base.specs.Limits as limits;
 ghost use Rattle.i2c_base.specs.Transfer.{HasRoom, size_of, counted_read};
 
+use crate::limits::{MOST_BYTES, MOST_LENGTH, MOST_MESSAGES};
 use crate::{Addr, MsgFlags};
 use arrayvec::ArrayVec;
 use bitflags::Flags;
@@ -55,8 +57,8 @@ pub struct Transfer {
     bus: u16,
     kind: Kind,
     force: bool,
-    msgs: ArrayVec<Msg, 42>,
-    out: ArrayVec<u8, 4096>,
+    msgs: ArrayVec<Msg, MOST_MESSAGES>,
+    out: ArrayVec<u8, MOST_BYTES>,
 }
 
 impl Model for Transfer {
@@ -71,15 +73,6 @@ impl Model for Transfer {
 
 impl Transfer {
     ghost use Rattle.i2c_base.specs.Transfer.{HasRoom, IsTransfer, with_message, written, plain_read, counted_read, COUNTED_SIZE};
-
-    /// The most messages of a transfer.
-    pub const MOST_MESSAGES: usize = 42;
-
-    /// The most bytes of a transfer.
-    pub const MOST_BYTES: usize = 4096;
-
-    /// The most bytes of a message.
-    pub const MOST_LENGTH: usize = 512;
 
     /// A transfer with no message yet. With `force` it goes to devices that a driver is bound to as well.
     pub fn new(bus: u16, kind: Kind, force: bool) -> Self
@@ -210,13 +203,13 @@ fn size(msg: &Msg) -> usize
 
 // Whether one more message of this length and size is within the limits.
 fn has_room(msgs: &[Msg], len: usize, size_more: usize) -> bool
-    requires { sum_by size_of msgs.now ≤ 4096 }
+    requires { sum_by size_of msgs.now ≤ limits.MOST_BYTES }
     ensures { IsTrue result ↔ HasRoom msgs.now len size_more }
 {
     let sum: usize = msgs.iter().map(size).sum();
-    msgs.len() < Transfer::MOST_MESSAGES
-        && len <= Transfer::MOST_LENGTH
-        && size_more <= Transfer::MOST_BYTES - sum
+    msgs.len() < MOST_MESSAGES
+        && len <= MOST_LENGTH
+        && size_more <= MOST_BYTES - sum
 }
 
 // A counted read, which asks for one more byte with `extra`.
@@ -231,9 +224,9 @@ fn counted(addr: Addr, extra: bool) -> Msg
 }
 
 // Puts a message and its bytes at the end.
-fn append(msgs: &mut ArrayVec<Msg, 42>, out: &mut ArrayVec<u8, 4096>, msg: Msg, bytes: &[u8])
-    requires count { array_vec_len msgs.old < 42 }
-    requires room { array_vec_len out.old + length bytes.now ≤ 4096 }
+fn append(msgs: &mut ArrayVec<Msg, MOST_MESSAGES>, out: &mut ArrayVec<u8, MOST_BYTES>, msg: Msg, bytes: &[u8])
+    requires count { array_vec_len msgs.old < limits.MOST_MESSAGES }
+    requires room { array_vec_len out.old + length bytes.now ≤ limits.MOST_BYTES }
     ensures msgs { msgs.new.items ≡ msgs.old.items ++ msg ∷ [] }
     ensures out { out.new.items ≡ out.old.items ++ bytes.now }
     ensures bytes { AreBytes out.old.items → AreBytes out.new.items }

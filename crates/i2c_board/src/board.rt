@@ -9,8 +9,8 @@ use std::marker::Model;
 /// A board: root buses, the muxes that hang below them, and the devices on their buses. A contract sees its
 /// parts as plain lists.
 ///
-/// Its type keeps that it has 1 to 8 roots, at most 32 muxes and at most 128 devices, that each part has only
-/// what its kind allows, and that each mux and device stands on a bus that is there.
+/// Its type keeps that it has 1 to `MOST_ROOTS` roots, at most `MOST_MUXES` muxes and `MOST_DEVICES` devices, that
+/// each part has only what its kind allows, and that each mux and device stands on a bus that is there.
 #[derive(Debug, Drop)]
 pub struct Board {
     version: u8,

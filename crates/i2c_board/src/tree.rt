@@ -2,10 +2,7 @@ ghost use Rattle.std.specs.Prelude.{◌≡◌, ◌<◌, ◌↔◌, length, SomeI
 
 use crate::Board;
 use arrayvec::ArrayVec;
-use i2c_base::{Addr, Grant, MuxId, SegId, Way};
-
-/// The most bytes of a block (SMBus 2.0).
-const BLOCK_LIMIT: u8 = 32;
+use i2c_base::{Addr, BLOCK_LIMIT, Grant, MuxId, SegId, Way};
 
 impl Board {
     ghost use Rattle.i2c_spec.specs.Tree.{buses, over, path, root_of, is_below};

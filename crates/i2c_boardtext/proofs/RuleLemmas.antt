@@ -23,5 +23,8 @@ is_listed-rules key (r ∷ rs) = ap (λ b. bytes_eq key (key_rule r).name || b) 
 pub more : {r s : KeyRule} {rs ss : List KeyRule} → r ≡ s → rs ≡ ss → r ∷ rs ≡ s ∷ ss
 more {s = s} {rs = rs} first rest = ap (λ x. x ∷ rs) first ∙ ap (λ xs. s ∷ xs) rest
 
+pub more_same : (r : KeyRule) {rs ss : List KeyRule} → rs ≡ ss → r ∷ rs ≡ r ∷ ss
+more_same r rest = ap (λ xs. r ∷ xs) rest
+
 pub no_more : ◌≡◌ {A = List KeyRule} [] []
 no_more = refl

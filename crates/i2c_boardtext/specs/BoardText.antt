@@ -5,17 +5,19 @@ use Rattle.std.specs.Str.{is_utf8}
 use Rattle.toml.specs.Data.{Data, Members, get_member}
 use Rattle.toml.specs.Parse.{parse_document}
 use Rattle.i2c_base.specs.Board.{BoardView, DeviceView}
+use Rattle.i2c_base.specs.Limits.{MOST_ROOTS, MOST_MUXES, MOST_DEVICES}
 use Rattle.i2c_base.specs.declared.board.MuxSpec.{MuxSpec}
 use Rattle.i2c_base.specs.declared.board.RootSpec.{RootSpec}
 use Rattle.i2c_spec.specs.Tree.{buses_of}
 use Rattle.i2c_boardtext.specs.Items.{named_in}
 use Rattle.i2c_boardtext.specs.Keys.{top_rules, root_rules, mux_rules, device_rules}
-use Rattle.i2c_boardtext.specs.Names.{mux_named, device_named}
+use Rattle.i2c_boardtext.specs.Devices.{device_named}
+use Rattle.i2c_boardtext.specs.Names.{mux_named}
 use Rattle.i2c_boardtext.specs.Rules.{KeyRule, table_fault}
 use Rattle.i2c_boardtext.specs.Values.{TopView, top_value, root_value, mux_value, device_value}
 use Rattle.i2c_boardtext.specs.declared.fault.BoardFault.{BoardFault}
 use Rattle.i2c_boardtext.specs.declared.fault.BoardFault.TheVariants as board_fault
-use Rattle.i2c_boardtext.specs.declared.names.DeviceName.{DeviceName}
+use Rattle.i2c_boardtext.specs.declared.devices.DeviceName.{DeviceName}
 use Rattle.i2c_boardtext.specs.declared.fault.TableFault.{TableFault}
 use Rattle.i2c_boardtext.specs.declared.fault.TableFault.TheVariants as fault
 use Rattle.i2c_boardtext.specs.declared.fault.TableName.{TableName}
@@ -67,12 +69,12 @@ abbrev pub each : {X : Type 0} → TableName → (List X → Members → Result 
 each name read before [] = Ok before
 each name read before (t ∷ ts) = placed name (length before) (read before t) >>= λ x. each name read (before ++ x ∷ []) ts
 
--- a board has 1 to 8 roots, at most 32 muxes and at most 128 devices
+-- a board has at least one root, and at most so many roots, muxes and devices
 abbrev pub limit_fault : ℕ → ℕ → ℕ → Option BoardFault
 limit_fault roots muxes devices =
-    if not (nat_le 1 roots && nat_le roots 8) then Some (board_fault.Limit Root roots)
-    else if not (nat_le muxes 32) then Some (board_fault.Limit Mux muxes)
-    else if not (nat_le devices 128) then Some (board_fault.Limit Device devices)
+    if not (nat_le 1 roots && nat_le roots MOST_ROOTS) then Some (board_fault.Limit Root roots)
+    else if not (nat_le muxes MOST_MUXES) then Some (board_fault.Limit Mux muxes)
+    else if not (nat_le devices MOST_DEVICES) then Some (board_fault.Limit Device devices)
     else None
 
 abbrev pub top_of : Members → Result TopView BoardFault

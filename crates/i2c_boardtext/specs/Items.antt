@@ -1,6 +1,6 @@
 -- What the values of a table are to the tests: the elements of an array, the members of a table, numbers and words.
-use Rattle.std.specs.Prelude.{ℕ, ℤ, pos, negsuc, List, [], ◌∷◌, Option, option_map, option_and_then, unwrap_or}
-use Rattle.toml.specs.Data.{Data, Items, no_items, item, Members, no_members, as_array, as_table, as_integer, as_str}
+use Rattle.std.specs.Prelude.{ℕ, ℤ, pos, negsuc, Bool, false, List, [], ◌∷◌, Option, option_map, option_and_then, unwrap_or}
+use Rattle.toml.specs.Data.{Data, Items, no_items, item, Members, no_members, as_array, as_table, as_integer, as_bool, as_str}
 
 abbrev pub list_of : Items → List Data
 list_of no_items = []
@@ -28,3 +28,7 @@ number d = unwrap_or (option_map nat_of (as_integer d)) 0
 -- what a text stands for, where it is known
 abbrev pub named_in : {X : Type 0} → (List ℕ → Option X) → Data → Option X
 named_in named d = option_and_then named (as_str d)
+
+-- a flag is false where it is missing
+abbrev pub flag_in : Option Data → Bool
+flag_in d = unwrap_or (option_and_then as_bool d) false

@@ -2,6 +2,8 @@
 pub mod Names
 pub mod Items
 pub mod Rules
+pub mod Numbers
+pub mod Devices
 pub mod Keys
 pub mod Values
 pub mod Cuts

@@ -1,4 +1,4 @@
--- The words of a board file, and what they stand for.
+-- The words of a board file, and what they stand for; a device's stand with its kind.
 use Rattle.std.specs.Prelude.{ℕ, Bool, true, false, List, codes, Option, Some, None, if◌then◌else◌, bytes_eq}
 use Rattle.i2c_base.specs.declared.board.LockMode.{LockMode}
 use Rattle.i2c_base.specs.declared.board.LockMode.TheVariants as lock
@@ -6,9 +6,6 @@ use Rattle.i2c_base.specs.declared.board.Idle.{Idle}
 use Rattle.i2c_base.specs.declared.board.Idle.TheVariants as idle
 use Rattle.i2c_base.specs.declared.board.MuxKind.{MuxKind}
 use Rattle.i2c_base.specs.declared.board.MuxKind.TheVariants as mux
-use Rattle.i2c_base.specs.declared.board.Size.TheVariants.{C02, C32, C256}
-use Rattle.i2c_boardtext.specs.declared.names.DeviceName.{DeviceName}
-use Rattle.i2c_boardtext.specs.declared.names.DeviceName.TheVariants as device
 
 -- what a root offers: whether it is SMBus calls alone
 abbrev pub offers_named : List ℕ → Option Bool
@@ -36,14 +33,4 @@ mux_named word =
     else if bytes_eq word (codes "pca9544") then Some mux.Pca9544
     else if bytes_eq word (codes "pca9541") then Some mux.Pca9541
     else if bytes_eq word (codes "gpio") then Some mux.Gpio
-    else None
-
-abbrev pub device_named : List ℕ → Option DeviceName
-device_named word =
-    if bytes_eq word (codes "24c02") then Some (device.Eeprom C02)
-    else if bytes_eq word (codes "24c32") then Some (device.Eeprom C32)
-    else if bytes_eq word (codes "24c256") then Some (device.Eeprom C256)
-    else if bytes_eq word (codes "lm75") then Some device.Lm75
-    else if bytes_eq word (codes "regs") then Some device.Regs
-    else if bytes_eq word (codes "smbus") then Some device.Smbus
     else None

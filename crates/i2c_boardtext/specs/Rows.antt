@@ -1,6 +1,7 @@
 -- The tables of an array, as they are read.
 use Rattle.std.specs.Prelude.{◌≡◌, ℕ, ◌≤◌, ◌<◌, true, map, length, is_some, List, All}
 use Rattle.i2c_base.specs.Board.{DeviceView}
+use Rattle.i2c_base.specs.Limits.{MOST_ROOTS, MOST_MUXES, MOST_DEVICES}
 use Rattle.toml.specs.Data.{as_table, Members}
 use Rattle.toml.specs.View.{view}
 use Rattle.toml.specs.declared.value.Value.{Value}
@@ -31,9 +32,9 @@ pub record IsWithinLimits (t : Top) : Type 0 where
   pub muxes : AreTables t.muxes.now
   pub devices : AreTables t.devices.now
   pub some_root : 1 ≤ length t.roots.now
-  pub most_roots : length t.roots.now ≤ 8
-  pub most_muxes : length t.muxes.now ≤ 32
-  pub most_devices : length t.devices.now ≤ 128
+  pub most_roots : length t.roots.now ≤ MOST_ROOTS
+  pub most_muxes : length t.muxes.now ≤ MOST_MUXES
+  pub most_devices : length t.devices.now ≤ MOST_DEVICES
 
 -- a device on one of these buses
 abbrev pub IsOn : ℕ → DeviceView → Type 0

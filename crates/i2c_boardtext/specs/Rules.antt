@@ -16,6 +16,13 @@ pub record KeyRule : Type 0 where
   pub needed : Bool
   pub test : Test
 
+-- a required key, and one that may be missing
+abbrev pub needs : List ℕ → Test → KeyRule
+needs name test = record { name = name; needed = true; test = test }
+
+abbrev pub may_have : List ℕ → Test → KeyRule
+may_have name test = record { name = name; needed = false; test = test }
+
 -- the key that a rule of the code stands for
 abbrev pub key_rule : Rule → KeyRule
 key_rule r = record { name = r.name.now; needed = r.needed; test = r.test }

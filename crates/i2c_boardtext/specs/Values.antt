@@ -1,27 +1,19 @@
 -- What a table says, where nothing is wrong with it: a missing key has its default.
 use Rattle.std.specs.Prelude.{ℕ, Bool, false, List, [], ◌∷◌, map, codes, Option, Some, None, unwrap_or, option_and_then, if◌then◌else◌}
-use Rattle.toml.specs.Data.{Data, as_bool, Members, get_member}
+use Rattle.toml.specs.Data.{Data, Members, get_member}
 use Rattle.i2c_base.specs.Board.{RunView, DeviceView}
 use Rattle.i2c_base.specs.Muxes.{facts_of}
-use Rattle.i2c_base.specs.declared.board.DeviceKind.{DeviceKind}
-use Rattle.i2c_base.specs.declared.board.DeviceKind.TheVariants as kind
 use Rattle.i2c_base.specs.declared.board.Idle.TheVariants.{Disconnect}
 use Rattle.i2c_base.specs.declared.board.LockMode.TheVariants.{Parent}
 use Rattle.i2c_base.specs.declared.board.MuxKind.{MuxKind}
 use Rattle.i2c_base.specs.declared.board.MuxSpec.{MuxSpec}
 use Rattle.i2c_base.specs.declared.board.RootSpec.{RootSpec}
-use Rattle.i2c_boardtext.specs.Items.{elements, members_in, number, named_in}
+use Rattle.i2c_spec.specs.Numbers.{address_key, channels_key, foreign_key}
+use Rattle.i2c_boardtext.specs.Devices.{device_row, memory_of}
+use Rattle.i2c_boardtext.specs.Items.{elements, members_in, number, named_in, flag_in}
 use Rattle.i2c_boardtext.specs.Names.{offers_named, lock_named, idle_named}
-use Rattle.i2c_boardtext.specs.declared.names.DeviceName.{DeviceName}
-use Rattle.i2c_boardtext.specs.declared.names.DeviceName.TheVariants as device
-
-abbrev pub number_or : ℕ → Option Data → ℕ
-number_or default None = default
-number_or default (Some d) = number d
-
--- a flag is false where it is missing
-abbrev pub flag_in : Option Data → Bool
-flag_in d = unwrap_or (option_and_then as_bool d) false
+use Rattle.i2c_boardtext.specs.Numbers.{number_or, number_at}
+use Rattle.i2c_boardtext.specs.declared.devices.DeviceName.{DeviceName}
 
 -- what a known text stands for
 abbrev pub word_or : {X : Type 0} → (List ℕ → Option X) → X → Option Data → X
@@ -57,27 +49,27 @@ root_value ms = record { smbus_only = word_or offers_named false (get_member (co
 
 -- the kind fixes the number of channels, or the board says it
 abbrev pub channels_value : MuxKind → Members → ℕ
-channels_value k ms = unwrap_or (facts_of k).channels (number_or 1 (get_member (codes "channels") ms))
-
--- the address at a required key
-abbrev pub address_in : Members → ℕ
-address_in ms = number_or 8 (get_member (codes "address") ms)
+channels_value k ms = unwrap_or (facts_of k).channels (number_at channels_key ms)
 
 -- a mux that is switched by a line has no chip, so no address, and none that could be absent
 abbrev pub chip_value : MuxKind → Members → Option ℕ
-chip_value k ms = if (facts_of k).by_line then None else Some (address_in ms)
+chip_value k ms = if (facts_of k).by_line then None else Some (number_at address_key ms)
 
 abbrev pub absent_value : MuxKind → Members → Bool
 absent_value k ms = if (facts_of k).by_line then false else flag_in (get_member (codes "absent") ms)
 
 -- only an arbitrator has another controller
 abbrev pub foreign_value : MuxKind → Members → ℕ
-foreign_value k ms = if (facts_of k).asks then number_or 0 (get_member (codes "foreign") ms) else 0
+foreign_value k ms = if (facts_of k).asks then number_at foreign_key ms else 0
+
+-- the bus, a required key
+abbrev pub bus_in : Members → ℕ
+bus_in ms = number_or 0 (get_member (codes "bus") ms)
 
 abbrev pub mux_value : MuxKind → Members → MuxSpec
 mux_value kind ms =
     record {
-      bus = number_or 0 (get_member (codes "bus") ms);
+      bus = bus_in ms;
       kind = kind;
       addr = chip_value kind ms;
       channels = channels_value kind ms;
@@ -87,26 +79,17 @@ mux_value kind ms =
       idle = word_or idle_named Disconnect (get_member (codes "idle") ms);
     }
 
-abbrev pub kind_value : DeviceName → Members → DeviceKind
-kind_value (device.Eeprom size) ms =
-    kind.Eeprom size (number_or 255 (get_member (codes "fill") ms)) (number_or 0 (get_member (codes "busy") ms)) (flag_in (get_member (codes "wp") ms))
-kind_value device.Lm75 ms = kind.Lm75 (number_or 0 (get_member (codes "raw") ms))
-kind_value device.Regs ms = kind.Regs (number_or 0 (get_member (codes "hold") ms))
-kind_value device.Smbus ms = kind.Smbus (number_or 1 (get_member (codes "width") ms)) (number_or 0 (get_member (codes "flip") ms))
-
 -- a kind without memory has no runs
-abbrev pub set_value : DeviceName → Members → List RunView
-set_value (device.Eeprom size) ms = runs_in (get_member (codes "set") ms)
-set_value device.Lm75 ms = []
-set_value device.Regs ms = runs_in (get_member (codes "set") ms)
-set_value device.Smbus ms = runs_in (get_member (codes "set") ms)
+abbrev pub set_value : Option ℕ → Members → List RunView
+set_value None ms = []
+set_value (Some size) ms = runs_in (get_member (codes "set") ms)
 
 abbrev pub device_value : DeviceName → Members → DeviceView
 device_value name ms =
     record {
-      bus = number_or 0 (get_member (codes "bus") ms);
-      addr = address_in ms;
+      bus = bus_in ms;
+      addr = number_at address_key ms;
       bound = flag_in (get_member (codes "bound") ms);
-      kind = kind_value name ms;
-      set = set_value name ms;
+      kind = (device_row name).says ms;
+      set = set_value (memory_of name) ms;
     }

@@ -1,5 +1,6 @@
 ghost use Rattle.std.specs.Prelude.{◌≡◌, ◌≤◌};
 ghost use Rattle.toml.specs.View.{table_view};
+ghost use Rattle.i2c_base.specs.Limits.{MOST_BUSES};
 ghost use Rattle.i2c_boardtext.specs.BoardText.{Gives, document_of, parts_of, board_of};
 ghost use Rattle.i2c_spec.specs.Tree.{buses_of};
 ghost use Rattle.i2c_boardtext.specs.Rows.{IsWithinLimits, top_view};
@@ -32,7 +33,7 @@ fn document_of(alloc: Global, text: &[u8]) -> Result<Table, BoardFault>
 
 // How many buses there are with these muxes.
 fn count_buses(roots: u16, muxes: &[MuxSpec]) -> u16
-    requires few { buses_of roots muxes.now ≤ 264 }
+    requires few { buses_of roots muxes.now ≤ MOST_BUSES }
     ensures { result ≡ buses_of roots muxes.now }
 {
     let mut buses = roots;

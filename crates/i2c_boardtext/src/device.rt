@@ -1,23 +1,23 @@
-ghost use Rattle.std.specs.Prelude.{◌≡◌, ◌<◌, ◌≤◌, None, IfOk, All, length, codes};
+ghost use Rattle.std.specs.Prelude.{◌≡◌, ◌<◌, ◌≤◌, None, IfOk, unwrap_or, All, length, codes};
 ghost use Rattle.toml.specs.Data.{get_member};
 ghost use Rattle.toml.specs.View.{table_view};
-ghost use Rattle.i2c_spec.specs.Plain.{FitsKind, IsPlainDevice, IsPlainRun, memory_of};
+ghost use Rattle.i2c_base.specs.Limits.{MOST_DEVICES};
+ghost use Rattle.i2c_spec.specs.Plain.{IsPlainDevice, IsPlainRun};
 ghost use Rattle.i2c_boardtext.specs.BoardText.{Gives, kind_in, tested_device, device_of, placed, devices_of};
 ghost use Rattle.i2c_boardtext.specs.Keys.{device_rules};
-ghost use Rattle.i2c_boardtext.specs.Names.{device_named};
+ghost use Rattle.i2c_boardtext.specs.Devices.{device_named, memory_of};
 ghost use Rattle.i2c_boardtext.specs.Rows.{IsOn, AreTables, rows_of};
 ghost use Rattle.i2c_boardtext.specs.Rules.{table_fault};
-ghost use Rattle.i2c_boardtext.specs.Values.{kind_value, set_value, device_value};
+ghost use Rattle.i2c_boardtext.specs.Values.{set_value, device_value};
 ghost use Rattle.i2c_boardtext.specs.declared.fault.TableName.TheVariants.{Device};
 
 use crate::fault::{BoardFault, TableFault, TableName, placed_fault};
 use crate::find::find;
-use crate::keys::{device_fault, memory_bytes};
-use crate::names::{DeviceName, device_in};
-use crate::read::{address, bus, flag, number_or};
+use crate::devices::{DeviceName, device_fault, device_in, kind_value};
+use crate::read::{address, bus, flag};
 use crate::rows::row;
 use crate::runs::runs;
-use i2c_base::{DeviceKind, DeviceSpec, Run};
+use i2c_base::{DeviceSpec, Run};
 use std::alloc::{AllocError, Global};
 use toml::{Table, Value};
 
@@ -30,31 +30,6 @@ fn name_of(table: &Table) -> Result<DeviceName, TableFault>
     }
 }
 
-fn kind_value(table: &Table, buses: u16, name: DeviceName) -> DeviceKind
-    requires keeps { table_fault (device_rules buses name) (table_view table.now) ≡ None }
-    ensures value { result ≡ kind_value name (table_view table.now) }
-    ensures fits { FitsKind result }
-{
-    match name {
-        DeviceName::Eeprom(size) => DeviceKind::Eeprom {
-            size,
-            fill: number_or(table, "fill", 0, 255, 255) as u8,
-            busy: number_or(table, "busy", 0, 255, 0) as u8,
-            wp: flag(table, "wp"),
-        },
-        DeviceName::Lm75 => DeviceKind::Lm75 {
-            raw: number_or(table, "raw", 0, 65535, 0) as u16,
-        },
-        DeviceName::Regs => DeviceKind::Regs {
-            hold: number_or(table, "hold", 0, 200, 0) as u8,
-        },
-        DeviceName::Smbus => DeviceKind::Smbus {
-            width: number_or(table, "width", 0, 2, 1) as u8,
-            flip: number_or(table, "flip", 0, 255, 0) as u8,
-        },
-    }
-}
-
 fn set_value(
     alloc: Global,
     table: &Table,
@@ -62,14 +37,12 @@ fn set_value(
     name: DeviceName,
 ) -> Result<Vec<Run>, AllocError>
     requires keeps { table_fault (device_rules buses name) (table_view table.now) ≡ None }
-    ensures value { IfOk result (λ set. set.items ≡ set_value name (table_view table.now)) }
-    ensures plain { IfOk result (λ set. All (IsPlainRun (memory_of (kind_value name (table_view table.now)))) set.items) }
+    ensures value { IfOk result (λ set. set.items ≡ set_value (memory_of name) (table_view table.now)) }
+    ensures plain { IfOk result (λ set. All (IsPlainRun (unwrap_or (memory_of name) 0)) set.items) }
 {
-    match name {
-        DeviceName::Eeprom(size) => runs(alloc, table, memory_bytes(size)),
-        DeviceName::Lm75 => Ok(Vec::new(alloc)),
-        DeviceName::Regs => runs(alloc, table, 256),
-        DeviceName::Smbus => runs(alloc, table, 256),
+    match name.memory() {
+        Some(size) => runs(alloc, table, size),
+        None => Ok(Vec::new(alloc)),
     }
 }
 
@@ -125,7 +98,7 @@ fn device_of(alloc: Global, table: &Table, buses: u16, index: u16) -> Result<Dev
 /// The devices, in file order, on a board of these buses.
 pub fn devices_of(alloc: Global, buses: u16, rows: &[Value]) -> Result<Vec<DeviceSpec>, BoardFault>
     requires tables { AreTables rows.now }
-    requires most { length rows.now ≤ 128 }
+    requires most { length rows.now ≤ MOST_DEVICES }
     requires some { 0 < buses }
     ensures exact { Gives (λ devices. devices.items) result (devices_of buses (rows_of rows.now)) }
     ensures len { IfOk result (λ devices. length devices.items ≡ length rows.now) }

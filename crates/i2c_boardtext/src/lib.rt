@@ -7,12 +7,14 @@
 
 mod board_text;
 mod device;
+mod devices;
 mod fault;
 mod find;
 mod fits;
 mod keys;
 mod mux;
 mod names;
+mod numbers;
 mod read;
 mod root;
 mod rows;

@@ -1,6 +1,8 @@
-ghost use Rattle.std.specs.Prelude.{◌≡◌, ◌<◌, ◌≤◌, None, IfOk, All, length, reverse, codes};
+ghost use Rattle.std.specs.Prelude.{◌≡◌, ◌<◌, ◌≤◌, None, IfOk, IfSome, All, length, reverse, codes};
 ghost use Rattle.toml.specs.Data.{get_member};
 ghost use Rattle.toml.specs.View.{table_view};
+ghost use Rattle.i2c_base.specs.Addr.{IsTargetAddress};
+ghost use Rattle.i2c_base.specs.Limits.{MOST_BUSES, MOST_MUXES, MOST_ROOTS};
 ghost use Rattle.i2c_spec.specs.Plain.{FitsChannels, FitsChip, FitsForeign, IsPlainMux, IsPlanted};
 ghost use Rattle.i2c_boardtext.specs.BoardText.{Gives, kind_in, placed, mux_of, muxes_of};
 ghost use Rattle.i2c_boardtext.specs.Keys.{mux_rules, bus_rule, address_rule};
@@ -15,7 +17,8 @@ use crate::fault::{BoardFault, TableFault, TableName, placed_fault};
 use crate::find::find;
 use crate::keys::mux_fault;
 use crate::names::mux_in;
-use crate::read::{address, bus, flag, idle, lock, number_or};
+use crate::numbers::{CHANNELS, FOREIGN, number_at};
+use crate::read::{address, bus, flag, idle, lock};
 use crate::rows::row;
 use i2c_base::{Addr, MuxKind, MuxSpec};
 use std::alloc::Global;
@@ -38,7 +41,7 @@ fn channels(table: &Table, buses: u16, kind: MuxKind) -> u8
 {
     match kind.facts().channels {
         Some(channels) => channels,
-        None => number_or(table, "channels", 1, 8, 1) as u8,
+        None => number_at(table, CHANNELS) as u8,
     }
 }
 
@@ -46,6 +49,7 @@ fn channels(table: &Table, buses: u16, kind: MuxKind) -> u8
 fn chip(table: &Table, buses: u16, kind: MuxKind) -> Option<Addr>
     requires keeps { table_fault (mux_rules buses kind) (table_view table.now) ≡ None }
     ensures value { result ≡ chip_value kind (table_view table.now) }
+    ensures address { IfSome result IsTargetAddress }
 {
     if kind.facts().by_line {
         None
@@ -67,7 +71,7 @@ fn foreign(table: &Table, buses: u16, kind: MuxKind) -> u8
     ensures fits { FitsForeign kind result }
 {
     if kind.facts().asks {
-        number_or(table, "foreign", 0, 8, 0) as u8
+        number_at(table, FOREIGN) as u8
     } else {
         0
     }
@@ -124,14 +128,14 @@ fn mux_at(value: &Value, index: u16, buses: u16) -> Result<MuxSpec, BoardFault>
 /// The muxes, in file order: each stands on a bus before its own channels.
 pub fn muxes_of(alloc: Global, roots: u16, rows: &[Value]) -> Result<Vec<MuxSpec>, BoardFault>
     requires tables { AreTables rows.now }
-    requires most { length rows.now ≤ 32 }
+    requires most { length rows.now ≤ MOST_MUXES }
     requires some { 0 < roots }
-    requires few { roots ≤ 8 }
+    requires few { roots ≤ MOST_ROOTS }
     ensures exact { Gives (λ muxes. muxes.items) result (muxes_of roots (rows_of rows.now)) }
     ensures len { IfOk result (λ muxes. length muxes.items ≡ length rows.now) }
     ensures plain { IfOk result (λ muxes. All IsPlainMux muxes.items) }
     ensures planted { IfOk result (λ muxes. IsPlanted roots (reverse muxes.items)) }
-    ensures few { IfOk result (λ muxes. buses_of roots muxes.items ≤ 264) }
+    ensures few { IfOk result (λ muxes. buses_of roots muxes.items ≤ MOST_BUSES) }
 {
     let mut muxes = Vec::with_capacity(alloc, rows.len())?;
     let mut buses = roots;

@@ -1,19 +1,10 @@
 ghost use Rattle.std.specs.Prelude.{◌≡◌};
 ghost use Rattle.toml.specs.View.{view};
 ghost use Rattle.i2c_boardtext.specs.Items.{named_in};
-ghost use Rattle.i2c_boardtext.specs.Names.{offers_named, lock_named, idle_named, mux_named, device_named};
+ghost use Rattle.i2c_boardtext.specs.Names.{offers_named, lock_named, idle_named, mux_named};
 
-use i2c_base::{Idle, LockMode, MuxKind, Size};
+use i2c_base::{Idle, LockMode, MuxKind};
 use toml::Value;
-
-/// The kinds of device, without what each alone has.
-#[derive(Clone, Copy)]
-pub enum DeviceName {
-    Eeprom(Size),
-    Lm75,
-    Regs,
-    Smbus,
-}
 
 fn offers_named(word: &str) -> Option<bool>
     ensures { result ≡ offers_named word.now }
@@ -58,20 +49,6 @@ fn mux_named(word: &str) -> Option<MuxKind>
     }
 }
 
-fn device_named(word: &str) -> Option<DeviceName>
-    ensures { result ≡ device_named word.now }
-{
-    match word {
-        "24c02" => Some(DeviceName::Eeprom(Size::C02)),
-        "24c32" => Some(DeviceName::Eeprom(Size::C32)),
-        "24c256" => Some(DeviceName::Eeprom(Size::C256)),
-        "lm75" => Some(DeviceName::Lm75),
-        "regs" => Some(DeviceName::Regs),
-        "smbus" => Some(DeviceName::Smbus),
-        _ => None,
-    }
-}
-
 /// What a root offers, where the value is a text that says so: true is SMBus calls alone.
 pub fn offers_in(value: &Value) -> Option<bool>
     ensures { result ≡ named_in offers_named (view value.now) }
@@ -108,16 +85,6 @@ pub fn mux_in(value: &Value) -> Option<MuxKind>
 {
     match value.as_str() {
         Some(word) => mux_named(word),
-        None => None,
-    }
-}
-
-/// The kind of a device, where the value is a text that names one.
-pub fn device_in(value: &Value) -> Option<DeviceName>
-    ensures { result ≡ named_in device_named (view value.now) }
-{
-    match value.as_str() {
-        Some(word) => device_named(word),
         None => None,
     }
 }

@@ -1,5 +1,6 @@
 ghost use Rattle.std.specs.Prelude.{◌≡◌, ◌≤◌, IfOk, length};
 ghost use Rattle.toml.specs.View.{table_view};
+ghost use Rattle.i2c_base.specs.Limits.{MOST_ROOTS};
 ghost use Rattle.i2c_boardtext.specs.BoardText.{Gives, placed, root_of, roots_of};
 ghost use Rattle.i2c_boardtext.specs.Rows.{IsTable, AreTables, row_of, rows_of};
 ghost use Rattle.i2c_boardtext.specs.declared.fault.TableName.TheVariants.{Root};
@@ -36,7 +37,7 @@ fn root_at(value: &Value, index: u16) -> Result<RootSpec, BoardFault>
 /// The roots, in file order.
 pub fn roots_of(alloc: Global, rows: &[Value]) -> Result<Vec<RootSpec>, BoardFault>
     requires tables { AreTables rows.now }
-    requires most { length rows.now ≤ 8 }
+    requires most { length rows.now ≤ MOST_ROOTS }
     ensures exact { Gives (λ roots. roots.items) result (roots_of (rows_of rows.now)) }
     ensures len { IfOk result (λ roots. length roots.items ≡ length rows.now) }
 {

@@ -9,6 +9,7 @@ ghost use Rattle.i2c_boardtext.specs.Values.{top_value};
 use crate::fault::{BoardFault, TableName, placed_fault};
 use crate::keys::top_fault;
 use crate::rows::rows;
+use i2c_base::{MOST_DEVICES, MOST_MUXES, MOST_ROOTS};
 use toml::{Table, Value};
 
 /// The arrays of a document's top.
@@ -38,17 +39,17 @@ fn top_value(table: &Table) -> Top<'_>
 fn limit_fault(roots: usize, muxes: usize, devices: usize) -> Option<BoardFault>
     ensures value { result ≡ limit_fault roots muxes devices }
 {
-    if !(1 <= roots && roots <= 8) {
+    if !(1 <= roots && roots <= MOST_ROOTS) {
         Some(BoardFault::Limit {
             which: TableName::Root,
             count: roots as u64,
         })
-    } else if muxes > 32 {
+    } else if muxes > MOST_MUXES {
         Some(BoardFault::Limit {
             which: TableName::Mux,
             count: muxes as u64,
         })
-    } else if devices > 128 {
+    } else if devices > MOST_DEVICES {
         Some(BoardFault::Limit {
             which: TableName::Device,
             count: devices as u64,

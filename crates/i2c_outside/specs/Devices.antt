@@ -3,23 +3,27 @@ use Rattle.i2c_base.specs.declared.event.Event.{Event}
 use Rattle.i2c_base.specs.declared.event.Answer.{Answer}
 use Rattle.i2c_base.specs.Table.{Table}
 use Rattle.i2c_base.specs.Board.{DeviceView}
-use Rattle.i2c_spec.specs.Regs.{regs_after, regs_answer, regs_opening}
-use Rattle.i2c_spec.specs.Targets.{TargetState}
+use Rattle.i2c_spec.specs.Targets.{TargetState, opening_state}
 use Rattle.i2c_spec.specs.Targets as target
-use Rattle.i2c_outside.specs.Registers.{hold_of}
 use Rattle.i2c_outside.specs.declared.device.DeviceState.{DeviceState}
-use Rattle.i2c_outside.specs.declared.device.DeviceState.TheVariants.{Regs}
+use Rattle.i2c_outside.specs.declared.device.DeviceState.TheVariants.{Regs, Silent}
 
 -- the state that a device stands for
 abbrev pub target_state : DeviceState → TargetState
 target_state (Regs x) = target.Regs x
+target_state Silent = target.Silent
+
+-- the device that stands for a state
+abbrev pub device_of : TargetState → DeviceState
+device_of (target.Regs x) = Regs x
+device_of target.Silent = Silent
 
 -- the table, as of the states that devices stand for
 abbrev pub device_after : DeviceState → Event → DeviceState
-device_after (Regs x) e = Regs (regs_after x e)
+device_after d e = device_of (target.state_after (target_state d) e)
 
 abbrev pub device_answer : DeviceState → Event → Answer
-device_answer (Regs x) e = regs_answer x e
+device_answer d e = target.state_answer (target_state d) e
 
 abbrev pub device_table : Table DeviceState
 device_table = record {
@@ -29,6 +33,6 @@ device_table = record {
   hold = λ x. target.state_hold (target_state x);
 }
 
--- a register device as its board says that it is opened
+-- a device as its board says that it is opened
 abbrev pub device_opening : DeviceView → DeviceState
-device_opening d = Regs (regs_opening (hold_of d.kind) d.set)
+device_opening d = device_of (opening_state d)

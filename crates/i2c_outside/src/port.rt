@@ -1,4 +1,5 @@
 ghost use Rattle.std.specs.Prelude.{◌≡◌, ℕ, ◌<◌, ◌≤◌, ◌++◌, [], ◌∷◌, Bool, List, OnOk, OnErr, IfOk, IsTrue, length};
+ghost use Rattle.i2c_base.specs.Limits.{MOST_CALLS};
 ghost use Rattle.i2c_base.specs.Phases.{MayStart, MayPut, MayGet, MayStop, MayLine, AnswersStart, phase_started, phase_put, phase_got};
 ghost use Rattle.i2c_spec.specs.World.{World, after, answer, takes, gives};
 ghost use Rattle.i2c_outside.specs.Causes.{HasCause};
@@ -12,7 +13,7 @@ use i2c_base::{Addr, Answer, MuxId};
 
 /// The controller of one root bus, a byte at a time (UM10204 section 3.1).
 ///
-/// A port that tells holds the world of its root and a log of its calls, with room for 2,000,000 of them. A failed
+/// A port that tells holds the world of its root and a log of its calls, with room for `MOST_CALLS` of them. A failed
 /// call acts in the world as a stop, and stands in the log as a fault; it ends the message.
 pub trait Port: Send + Drop {
     /// It tells its world and its log.
@@ -30,7 +31,7 @@ pub trait Port: Send + Drop {
     /// A start, or a repeated start: Ack, Nack, or Slow where a target holds the clock too long.
     fn start(&mut self, addr: Addr, reading: bool) -> Result<Answer, Failed>
         requires phase { MayStart (phase self.old) }
-        requires room { IsTrue tells → length (log self.old) < 2000000 }
+        requires room { IsTrue tells → length (log self.old) < MOST_CALLS }
         ensures cause { HasCause (faults self.old) (faults self.new) result }
         ensures later { faults self.old ≤ faults self.new }
         ensures answers { IfOk result AnswersStart }
@@ -45,7 +46,7 @@ pub trait Port: Send + Drop {
     /// Sends a byte, and tells whether it was acknowledged.
     fn put(&mut self, byte: u8) -> Result<bool, Failed>
         requires phase { MayPut (phase self.old) }
-        requires room { IsTrue tells → length (log self.old) < 2000000 }
+        requires room { IsTrue tells → length (log self.old) < MOST_CALLS }
         ensures cause { HasCause (faults self.old) (faults self.new) result }
         ensures later { faults self.old ≤ faults self.new }
         ensures phase { IfOk result (λ acked. phase self.new ≡ phase_put acked) }
@@ -59,7 +60,7 @@ pub trait Port: Send + Drop {
     /// Reads a byte, and acknowledges it or not: the last byte of a message is not acknowledged.
     fn get(&mut self, ack: bool) -> Result<u8, Failed>
         requires phase { MayGet (phase self.old) }
-        requires room { IsTrue tells → length (log self.old) < 2000000 }
+        requires room { IsTrue tells → length (log self.old) < MOST_CALLS }
         ensures cause { HasCause (faults self.old) (faults self.new) result }
         ensures later { faults self.old ≤ faults self.new }
         ensures phase { OnOk result (phase self.new ≡ phase_got ack) }
@@ -72,7 +73,7 @@ pub trait Port: Send + Drop {
 
     fn stop(&mut self) -> Result<(), Failed>
         requires phase { MayStop (phase self.old) }
-        requires room { IsTrue tells → length (log self.old) < 2000000 }
+        requires room { IsTrue tells → length (log self.old) < MOST_CALLS }
         ensures cause { HasCause (faults self.old) (faults self.new) result }
         ensures later { faults self.old ≤ faults self.new }
         ensures phase { phase self.new ≡ Phase.Idle }
@@ -86,7 +87,7 @@ pub trait Port: Send + Drop {
     fn line(&mut self, mux: MuxId, level: u8) -> Result<(), Failed>
         requires phase { MayLine (phase self.old) }
         requires has { IsTrue tells → HasLine (world self.old) mux level }
-        requires room { IsTrue tells → length (log self.old) < 2000000 }
+        requires room { IsTrue tells → length (log self.old) < MOST_CALLS }
         ensures cause { HasCause (faults self.old) (faults self.new) result }
         ensures later { faults self.old ≤ faults self.new }
         ensures phase { phase self.new ≡ Phase.Idle }

@@ -1,8 +1,10 @@
-ghost use Rattle.std.specs.Prelude.{◌≡◌, ℕ, ◌+◌, ◌≤◌, All, IsTrue, length};
+ghost use Rattle.std.specs.Prelude.{◌≡◌, ℕ, ◌+◌, ◌≤◌, All, length};
 ghost use Rattle.i2c_spec.specs.Plain.{IsPlainDevice, IsPlainRun};
-ghost use Rattle.i2c_spec.specs.Regs.{regs_table, regs_opening, regs_after, regs_answer, regs_sends, write_run, write_runs};
+ghost use Rattle.i2c_spec.specs.Regs.{regs_table, regs_after, regs_answer, regs_sends, write_run, write_runs};
 ghost use Rattle.i2c_base.specs.declared.event.Event.TheVariants as event;
-ghost use Rattle.i2c_outside.specs.Registers.{hold_of, is_regs};
+ghost use Rattle.i2c_spec.specs.Targets as target;
+ghost use Rattle.i2c_spec.specs.Targets.{opening_state};
+ghost use Rattle.i2c_outside.specs.Registers.{IsRegs};
 
 use i2c_base::{Answer, DeviceKind, DeviceSpec, Event, Run, Target};
 use std::marker::Model;
@@ -50,12 +52,12 @@ impl Regs {
     /// The device as its board says that it is opened: every register 0 but for those that are set.
     pub fn open(spec: &DeviceSpec) -> Self
         requires plain { IsPlainDevice spec.now }
-        requires regs { IsTrue (is_regs spec.now.kind) }
-        ensures { result ≡ regs_opening (hold_of spec.now.kind) spec.now.set }
+        requires regs { IsRegs spec.now.kind }
+        ensures { target.Regs result ≡ opening_state spec.now }
     {
         let hold = match spec.kind {
             DeviceKind::Regs { hold } => hold,
-            _ => 0,
+            _ => unreachable!(),
         };
         let mut memory = [0; REGISTERS];
         write_runs(&mut memory, &spec.set);

@@ -1,7 +1,6 @@
-ghost use Rattle.std.specs.Prelude.{◌≡◌, IsTrue};
+ghost use Rattle.std.specs.Prelude.{◌≡◌};
 ghost use Rattle.i2c_spec.specs.Plain.{IsPlainDevice};
 ghost use Rattle.i2c_spec.specs.Targets.{opening_state, state_answer};
-ghost use Rattle.i2c_outside.specs.Registers.{is_regs};
 
 use i2c_base::{Answer, DeviceSpec, Event, Target};
 use i2c_outside::DeviceState;
@@ -26,7 +25,6 @@ impl Device {
     /// The device as its board says that it is opened.
     pub fn open(spec: &DeviceSpec) -> Self
         requires plain { IsPlainDevice spec.now }
-        requires regs { IsTrue (is_regs spec.now.kind) }
         ensures { result ≡ opening_state spec.now }
     {
         Device {

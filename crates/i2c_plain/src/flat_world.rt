@@ -7,7 +7,7 @@ use crate::device::Device;
 use crate::flat_states::PlainFlat;
 use crate::site::PlainSite;
 use crate::transfers::talk_all;
-use i2c_base::{Cut, Errno, Reply, SegId, Transfer, Way};
+use i2c_base::{BLOCK_LIMIT, Cut, Errno, Reply, SegId, Transfer, Way};
 use i2c_spec::{Layout, done_with, errno_of, refusal};
 use std::alloc::{AllocError, Global};
 
@@ -45,9 +45,6 @@ pub fn flat(
     };
     Ok((reply, now.into_states()))
 }
-
-// SMBus 2.0 has 32 bytes to a block.
-const BLOCK_LIMIT: u8 = 32;
 
 // Why no message of a transfer is sent: it is refused, a port call failed on the way, or the way is barred.
 fn barred(layout: &Layout<'_>, transfer: &Transfer, cut: Cut) -> Option<Errno>

@@ -9,39 +9,40 @@ use Rattle.i2c_base.specs.declared.board.MuxKind.{MuxKind}
 use Rattle.i2c_base.specs.declared.board.MuxSpec.{MuxSpec}
 use Rattle.i2c_base.specs.declared.mux_facts.ChannelCode.{ChannelCode}
 use Rattle.i2c_base.specs.declared.mux_facts.ChannelCode.TheVariants.{Bits, Number, Alone, Level}
+use Rattle.i2c_base.specs.Limits.{MOST_CHANNELS, MOST_BUSES}
 use Rattle.i2c_base.specs.Muxes.{facts_of}
 use Rattle.i2c_base.specs.Board.{BoardView}
 use Rattle.i2c_base.proofs.MuxLemmas.{FitsCode, facts_fit}
 use Rattle.i2c_spec.specs.Tree.{buses, of_mux}
 use Rattle.i2c_spec.specs.Plain.{IsPlainBoard, IsPlainMux, IsCount, FitsChannels}
 
--- no mux has more than 8 channels
-pub channels_le : (k : MuxKind) (n : ℕ) → FitsChannels k n → n ≤ 8
+-- no mux has more channels than a mux may have
+pub channels_le : (k : MuxKind) (n : ℕ) → FitsChannels k n → n ≤ MOST_CHANNELS
 channels_le k n h = by_code (facts_of k).code (facts_fit k)
   where
     told : (o : Option ℕ) → (facts_of k).channels ≡ o → IsCount o n
     told o e = subst (λ (p : Option ℕ). IsCount p n) e h
 
-    by_code : (c : ChannelCode) → FitsCode c (facts_of k) → n ≤ 8
+    by_code : (c : ChannelCode) → FitsCode c (facts_of k) → n ≤ MOST_CHANNELS
     by_code Bits fits = (let f : n ≡ (facts_of k).bits = told (Some (facts_of k).bits) fits.0 in omega (arith, fits.1))
     by_code Number fits = (let f : n ≡ 4 = told (Some 4) fits.0 in omega arith)
     by_code Alone fits = (let f : n ≡ 1 = told (Some 1) fits.0 in omega arith)
     by_code Level fits = (told None fits.0).1
 
-All_channels_le : (ms : List MuxSpec) → All IsPlainMux ms → All (λ m. m.channels ≤ 8) ms
+All_channels_le : (ms : List MuxSpec) → All IsPlainMux ms → All (λ m. m.channels ≤ MOST_CHANNELS) ms
 All_channels_le ms h =
-    All-weaker IsPlainMux (λ m. m.channels ≤ 8) (λ m plain. channels_le m.kind m.channels plain.channels) ms h
+    All-weaker IsPlainMux (λ m. m.channels ≤ MOST_CHANNELS) (λ m plain. channels_le m.kind m.channels plain.channels) ms h
 
--- 8 roots, and 32 muxes of 8 channels
-pub buses_le : (b : BoardView) → IsPlainBoard b → buses b ≤ 264
+-- the roots, and the muxes with their channels
+pub buses_le : (b : BoardView) → IsPlainBoard b → buses b ≤ MOST_BUSES
 buses_le b plain =
-    omega (arith, plain.most_roots, plain.most_muxes, sum_by-le (λ (m : MuxSpec). m.channels) 8 b.muxes (All_channels_le b.muxes plain.muxes))
+    omega (arith, plain.most_roots, plain.most_muxes, sum_by-le (λ (m : MuxSpec). m.channels) MOST_CHANNELS b.muxes (All_channels_le b.muxes plain.muxes))
 
-most_channels : (ms : List MuxSpec) (k : ℕ) → All (λ m. m.channels ≤ 8) ms → unwrap_or (option_map (λ (m : MuxSpec). m.channels) (slice_get ms k)) 0 ≤ 8
+most_channels : (ms : List MuxSpec) (k : ℕ) → All (λ m. m.channels ≤ MOST_CHANNELS) ms → unwrap_or (option_map (λ (m : MuxSpec). m.channels) (slice_get ms k)) 0 ≤ MOST_CHANNELS
 most_channels [] k all = omega arith
-most_channels (m ∷ ms) zero all = All-head (λ (x : MuxSpec). x.channels ≤ 8) m ms all
-most_channels (m ∷ ms) (suc k) all = most_channels ms k (All-tail (λ (x : MuxSpec). x.channels ≤ 8) m ms all)
+most_channels (m ∷ ms) zero all = All-head (λ (x : MuxSpec). x.channels ≤ MOST_CHANNELS) m ms all
+most_channels (m ∷ ms) (suc k) all = most_channels ms k (All-tail (λ (x : MuxSpec). x.channels ≤ MOST_CHANNELS) m ms all)
 
 -- so has each mux of a board
-pub channels_of_mux_le : (b : BoardView) (m : ℕ) → IsPlainBoard b → of_mux (λ x. x.channels) 0 b m ≤ 8
+pub channels_of_mux_le : (b : BoardView) (m : ℕ) → IsPlainBoard b → of_mux (λ x. x.channels) 0 b m ≤ MOST_CHANNELS
 channels_of_mux_le b m plain = most_channels b.muxes m (All_channels_le b.muxes plain.muxes)

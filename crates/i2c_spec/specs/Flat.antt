@@ -22,6 +22,7 @@ use Rattle.i2c_base.specs.declared.transfer.Kind.TheVariants as transfer_kind
 use Rattle.i2c_base.specs.declared.tree.Way.{Way}
 use Rattle.i2c_base.specs.declared.tree.Way.TheVariants as way
 use Rattle.i2c_base.specs.Board.{BoardView}
+use Rattle.i2c_base.specs.Limits.{BLOCK_LIMIT}
 use Rattle.i2c_base.specs.Transfer.{TransferView, is_read}
 use Rattle.i2c_spec.specs.Tree.{buses, root_of}
 use Rattle.i2c_spec.specs.Grant.{grant_of, is_busy, named_of, way_of}
@@ -104,9 +105,9 @@ flat_listener granted =
 abbrev pub granted_on : BoardView → ℕ → Bool → ℕ → Option ℕ
 granted_on b s force a = named_of (grant_of b s a force)
 
--- the block limit: SMBus 2.0 has 32 bytes to a block
+-- the most bytes of a block, on a board of version 1
 abbrev pub block_limit : BoardView → ℕ
-block_limit b = 32
+block_limit b = BLOCK_LIMIT
 
 -- how a message that ended early makes its transfer fail
 abbrev pub errno_of : End → Option Errno

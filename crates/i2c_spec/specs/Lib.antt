@@ -2,6 +2,7 @@
 -- each with a case of `Targets.TargetState`; the rows of the SMBus calls get a file of their own.
 pub mod Tree
 pub mod TreeFacts
+pub mod Numbers
 pub mod Plain
 pub mod Layouts
 pub mod Grant

@@ -10,6 +10,7 @@ use Rattle.i2c_base.specs.declared.rules.Item.{Item}
 use Rattle.i2c_base.specs.declared.rules.Item.TheVariants as item
 use Rattle.i2c_base.specs.declared.rules.RuleBroken.{RuleBroken}
 use Rattle.i2c_base.specs.Board.{BoardView}
+use Rattle.i2c_base.specs.Limits.{MOST_DEPTH}
 use Rattle.i2c_base.specs.Muxes.{facts_of}
 use Rattle.i2c_spec.specs.Tree.{Hop, hops, depth, is_parent, is_along, of_mux, of_device}
 
@@ -35,9 +36,9 @@ is_same_address (Some x) None = false
 abbrev pub clashes : BoardView → ℕ → ℕ → Bool
 clashes b i j = is_same_address (addr_at b i) (addr_at b j) && is_along b (home_at b i) (home_at b j)
 
--- Rule 2, no bus is deeper than 4: a mux whose channels are
+-- Rule 2, no bus has too many muxes over it: a mux whose channels have
 abbrev pub is_too_deep : BoardView → ℕ → Bool
-is_too_deep b m = nat_le 4 (depth b (of_mux (λ x. x.bus) 0 b m))
+is_too_deep b m = nat_le MOST_DEPTH (depth b (of_mux (λ x. x.bus) 0 b m))
 
 -- Rule 3, no parent-locked mux stands below a mux-locked one: the mux-locked ones over mux m, where it is parent-locked
 abbrev pub locked_over : BoardView → ℕ → List Hop

@@ -1,6 +1,7 @@
--- Every device of a board, whatever its kind, as one type of states with one table. A further kind of device adds
--- a case, a line of each function below, and the file of its table.
-use Rattle.std.specs.Prelude.{◌≡◌, ℕ, true, false, List}
+-- Every device of a board, whatever its kind, as one type of states with one table, and what is so of each kind: a row.
+-- A further kind of device adds a case, a line of each function, a row, and the file of its table.
+use Rattle.std.specs.Prelude.{◌≡◌, ℕ, true, false, List, [], ◌∷◌, Option, Some, None}
+use Rattle.std.specs.List.{AllByRecursion}
 use Rattle.i2c_base.specs.declared.board.DeviceKind.{DeviceKind}
 use Rattle.i2c_base.specs.declared.board.DeviceKind.TheVariants as kind
 use Rattle.i2c_base.specs.declared.event.Event.{Event}
@@ -9,6 +10,9 @@ use Rattle.i2c_base.specs.declared.event.Answer.{Answer}
 use Rattle.i2c_base.specs.declared.event.Answer.TheVariants as answer
 use Rattle.i2c_base.specs.Board.{DeviceView, RunView}
 use Rattle.i2c_base.specs.Table.{Table}
+use Rattle.i2c_base.specs.declared.board.Size.{Size}
+use Rattle.i2c_base.specs.declared.board.Size.TheVariants.{C02, C32, C256}
+use Rattle.i2c_spec.specs.Numbers.{NumberKey, IsFor, fill_key, busy_key, raw_key, hold_key, width_key, flip_key}
 use Rattle.i2c_spec.specs.Regs.{RegsView, regs_after, regs_answer, regs_sends, regs_opening}
 
 pub data TargetState : Type 0 where
@@ -42,15 +46,39 @@ state_hold Silent = 0
 abbrev pub state_table : Table TargetState
 state_table = record { after = state_after; answer = state_answer; sends = state_sends; hold = state_hold }
 
--- a device as it is opened
-abbrev pub state_of : DeviceKind → List RunView → TargetState
-state_of (kind.Regs hold) set = Regs (regs_opening hold set)
-state_of (kind.Eeprom size fill busy wp) set = Silent
-state_of (kind.Lm75 raw) set = Silent
-state_of (kind.Smbus width flip) set = Silent
+-- what is so of a device by its kind: its numbers, each with its key; the size of the memory that `set` writes, where it
+-- has one; and its state at the opening
+pub record Number : Type 0 where
+  pub key : NumberKey
+  pub value : ℕ
+
+pub record KindRow : Type 0 where
+  pub numbers : List Number
+  pub memory : Option ℕ
+  pub opens : List RunView → TargetState
+
+abbrev pub of_key : NumberKey → ℕ → Number
+of_key key n = record { key = key; value = n }
+
+abbrev pub size_of_eeprom : Size → ℕ
+size_of_eeprom C02 = 256
+size_of_eeprom C32 = 4096
+size_of_eeprom C256 = 32768
+
+abbrev pub row_of_kind : DeviceKind → KindRow
+row_of_kind (kind.Eeprom size fill busy wp) =
+    record { numbers = of_key fill_key fill ∷ of_key busy_key busy ∷ []; memory = Some (size_of_eeprom size); opens = λ set. Silent }
+row_of_kind (kind.Lm75 raw) = record { numbers = of_key raw_key raw ∷ []; memory = None; opens = λ set. Silent }
+row_of_kind (kind.Regs hold) = record { numbers = of_key hold_key hold ∷ []; memory = Some 256; opens = λ set. Regs (regs_opening hold set) }
+row_of_kind (kind.Smbus width flip) =
+    record { numbers = of_key width_key width ∷ of_key flip_key flip ∷ []; memory = Some 256; opens = λ set. Silent }
+
+-- each number of a device is one that its key allows
+abbrev pub FitsKind : DeviceKind → Type 0
+FitsKind k = AllByRecursion (λ n. IsFor n.key n.value) (row_of_kind k).numbers
 
 abbrev pub opening_state : DeviceView → TargetState
-opening_state d = state_of d.kind d.set
+opening_state d = (row_of_kind d.kind).opens d.set
 
 -- a state is quiet where starts for others and stops leave it as it is
 pub record IsQuiet {X : Type 0} (t : Table X) (x : X) : Type 0 where

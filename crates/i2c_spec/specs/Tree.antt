@@ -10,6 +10,7 @@ use Rattle.i2c_base.specs.declared.board.MuxSpec.{MuxSpec}
 use Rattle.i2c_base.specs.declared.ids.LockId.{LockId}
 use Rattle.i2c_base.specs.declared.ids.LockId.TheVariants as lock
 use Rattle.i2c_base.specs.Board.{BoardView, DeviceView}
+use Rattle.i2c_base.specs.Limits.{POLLS}
 
 -- a mux crossed on the way from a bus to its root
 pub record Hop : Type 0 where
@@ -95,7 +96,7 @@ abbrev pub is_absent : BoardView → ℕ → Bool
 is_absent b m = of_mux (λ x. x.absent) true b m
 
 abbrev pub is_held : BoardView → ℕ → Bool
-is_held b m = of_mux (λ x. x.foreign == 8) false b m
+is_held b m = of_mux (λ x. x.foreign == POLLS) false b m
 
 -- the bus that it stands on, and its address
 abbrev pub home_of_mux : BoardView → ℕ → ℕ

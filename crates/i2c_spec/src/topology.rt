@@ -3,15 +3,12 @@ ghost use Rattle.i2c_spec.specs.Rules as spec;
 
 use crate::Layout;
 use crate::layout::is_parent;
-use i2c_base::{Addr, DevId, Idle, Item, MuxId, RuleBroken, SegId};
-
-/// No bus has more muxes over it (Linux i2c-topology warns of deep trees).
-const MOST_DEPTH: usize = 4;
+use i2c_base::{Addr, DevId, Idle, Item, MOST_DEPTH, MuxId, RuleBroken, SegId};
 
 /// The topology rules over single muxes.
 #[derive(Clone, Copy)]
 enum MuxRule {
-    /// Rule 2: no bus is deeper than 4.
+    /// Rule 2: no bus has too many muxes over it.
     Depth,
     /// Rule 3: no parent-locked mux stands below a mux-locked one.
     Lock,

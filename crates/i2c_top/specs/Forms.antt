@@ -1,8 +1,9 @@
 -- The forms of the words of a command line, and what they ask for: `replay BOARD SCHEDULE SCRIPT...`, with 1 to 8 scripts,
 -- and `check BOARD`.
-use Rattle.std.specs.Prelude.{⊤, ◌≡◌, ℕ, ◌≤◌, ◌==◌, nat_le, Bool, false, not, ◌&&◌, if◌then◌else◌, List, [], ◌∷◌, length, drop, map, Some, slice_get, string_bytes, codes}
+use Rattle.std.specs.Prelude.{◌+◌, ⊤, ◌≡◌, ℕ, ◌≤◌, ◌==◌, nat_le, Bool, false, not, ◌&&◌, if◌then◌else◌, List, [], ◌∷◌, length, drop, map, Some, slice_get, string_bytes, codes}
 use Rattle.std.specs.List.{list_all}
 use Rattle.std.specs.Str.{bytes_eq}
+use Rattle.i2c_base.specs.Limits.{MOST_CALLERS}
 use Rattle.tool_words.specs.Commands.{word_at}
 use Rattle.i2c_top.specs.Names.{AreNamesFrom}
 use Rattle.i2c_top.specs.Replays.{Names}
@@ -16,9 +17,9 @@ abbrev pub is_name : List ℕ → Bool
 is_name [] = false
 is_name (b ∷ bs) = not (b == 45)
 
--- `replay`, and the names of a board, a schedule and 1 to 8 scripts
+-- `replay`, and the names of a board, a schedule and at least one script, at most one for each caller
 abbrev pub is_replay : List (List ℕ) → Bool
-is_replay words = nat_le 4 (length words) && (nat_le (length words) 11 && (bytes_eq (word_at words 0) (codes "replay") && list_all is_name (drop 1 words)))
+is_replay words = nat_le 4 (length words) && (nat_le (length words) (3 + MOST_CALLERS) && (bytes_eq (word_at words 0) (codes "replay") && list_all is_name (drop 1 words)))
 
 -- `check`, and the name of a board
 abbrev pub is_check : List (List ℕ) → Bool
@@ -43,6 +44,6 @@ asked parsed.NoForm = NoForm
 abbrev pub ArePlaced : List (List ℕ) → Request → Type 0
 ArePlaced words (Replay names) =
     (slice_get words 1 ≡ Some names.board) × (slice_get words 2 ≡ Some names.schedule) × AreNamesFrom 3 words names.scripts
-    × (1 ≤ length names.scripts) × (length names.scripts ≤ 8)
+    × (1 ≤ length names.scripts) × (length names.scripts ≤ MOST_CALLERS)
 ArePlaced words (Check board) = slice_get words 1 ≡ Some board
 ArePlaced words NoForm = ⊤

@@ -1,4 +1,5 @@
 ghost use Rattle.std.specs.Prelude.{◌≡◌, ◌≢◌, ◌≤◌, ◌∷◌, [], length, map, Some, None, slice_get, string_bytes, OnOk, IfOk, IfErr, IfSome, IsTrue};
+ghost use Rattle.i2c_base.specs.Limits.{MOST_CALLERS};
 ghost use Rattle.i2c_top.specs.Endings.{CameToSuccess, CameToRefusal, HasEnded};
 ghost use Rattle.i2c_top.specs.Forms.{ArePlaced, names_told};
 ghost use Rattle.i2c_top.specs.Names.{AreNamesFrom};
@@ -68,7 +69,7 @@ pub fn replay_call<S: Shelf, K: Sink, R: Rig>(
     requires schedule { slice_get (S.words shelf.old) 2 ≡ Some schedule.now }
     requires scripts { AreNamesFrom 3 (S.words shelf.old) (map string_bytes scripts.now) }
     requires some { 1 ≤ length scripts.now }
-    requires most { length scripts.now ≤ 8 }
+    requires most { length scripts.now ≤ MOST_CALLERS }
 
     // The cause of each status and each status of a cause, what was written, and what is kept.
     ensures ended { HasEnded (replay_of board.now schedule.now (map string_bytes scripts.now))

@@ -7,6 +7,7 @@ ghost use Rattle.i2c_top.specs.Replays.{script_name};
 ghost use Rattle.i2c_top.specs.Requests.{file_name};
 
 use crate::Status;
+use i2c_base::MOST_CALLERS;
 
 /// The places of the board, the schedule and the first script among the words.
 pub const BOARD: u8 = 1;
@@ -26,7 +27,7 @@ pub struct ReplayNames<'a> {
 /// What the words of a command line ask for.
 #[derive(Clone, Copy)]
 pub enum Request<'a> {
-    /// To replay 1 to 8 scripts over a board, by a schedule.
+    /// To replay 1 to `MOST_CALLERS` scripts over a board, by a schedule.
     Replay(ReplayNames<'a>),
     /// To check a board.
     Check { board: &'a str },
@@ -72,7 +73,7 @@ impl<'a> Request<'a> {
 }
 
 // The word at a place.
-fn word(words: &[String], place: usize) -> &str
+fn command_word(words: &[String], place: usize) -> &str
     requires { place < length words.now }
     ensures { result.now ≡ word_at (map string_bytes words.now) place }
 {
@@ -114,15 +115,15 @@ fn is_replay(words: &[String]) -> bool
     ensures { result ≡ is_replay (map string_bytes words.now) }
 {
     4 <= words.len()
-        && words.len() <= 11
-        && word(words, 0) == "replay"
+        && words.len() <= SCRIPT as usize + MOST_CALLERS as usize
+        && command_word(words, 0) == "replay"
         && are_names(words_from(words, 1))
 }
 
 fn is_check(words: &[String]) -> bool
     ensures { result ≡ is_check (map string_bytes words.now) }
 {
-    words.len() == 2 && word(words, 0) == "check" && is_name(word(words, 1))
+    words.len() == 2 && command_word(words, 0) == "check" && is_name(command_word(words, 1))
 }
 
 /// What the words ask for.
@@ -132,13 +133,13 @@ pub fn request_of(words: &[String]) -> Request<'_>
 {
     if is_replay(words) {
         Request::Replay(ReplayNames {
-            board: word(words, 1),
-            schedule: word(words, 2),
+            board: command_word(words, 1),
+            schedule: command_word(words, 2),
             scripts: words_from(words, 3),
         })
     } else if is_check(words) {
         Request::Check {
-            board: word(words, 1),
+            board: command_word(words, 1),
         }
     } else {
         Request::NoForm

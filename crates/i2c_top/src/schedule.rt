@@ -9,7 +9,7 @@ fn is_white(byte: u8) -> bool
 }
 
 // There is nothing but white space.
-fn is_blank(text: &[u8]) -> bool
+fn is_all_white(text: &[u8]) -> bool
     ensures { result ≡ list_all is_white text.now }
 {
     text.iter().all(|byte| is_white(*byte))
@@ -20,5 +20,5 @@ fn is_blank(text: &[u8]) -> bool
 pub fn schedule_fault(text: &[u8]) -> Option<u32>
     ensures { result ≡ schedule_fault text.now }
 {
-    if is_blank(text) { None } else { Some(0) }
+    if is_all_white(text) { None } else { Some(0) }
 }

@@ -1,5 +1,6 @@
 -- How many tasks a stack may have: so many for each mux that was crossed, and the locks of its bus.
 use Rattle.std.specs.Prelude.{ℕ, ◌+◌, ◌*◌, ◌<◌, ◌≤◌, List, [], ◌∷◌, length, All}
+use Rattle.i2c_base.specs.Limits.{MOST_CHANNELS, MOST_DEPTH}
 use Rattle.i2c_spec.specs.Tree.{Hop}
 use Rattle.mux_plan.specs.Plans.{CourseView}
 use Rattle.mux_plan.specs.declared.task.Work.{Work}
@@ -7,13 +8,13 @@ use Rattle.mux_plan.specs.declared.task.Work.TheVariants as work
 use Rattle.mux_plan.specs.declared.task.Task.{Task}
 use Rattle.mux_plan.specs.declared.task.Task.TheVariants.{Enter, Lock, Free, Rest, Line, Settle, AwaitClose, AwaitSelect, AwaitWork, AwaitDeselect}
 
--- no mux has more than 8 channels
+-- no mux has more channels than a mux may have
 abbrev pub IsNarrow : Hop → Type 0
-IsNarrow h = h.channel < 8
+IsNarrow h = h.channel < MOST_CHANNELS
 
 abbrev pub IsNarrowWork : Work → Type 0
 IsNarrowWork work.Call = Unit {0}
-IsNarrowWork (work.Select h) = h.channel < 8
+IsNarrowWork (work.Select h) = h.channel < MOST_CHANNELS
 IsNarrowWork (work.Clear on mux kind) = Unit {0}
 
 -- a task over k others, on a path over d muxes
@@ -61,8 +62,8 @@ IsStep (AwaitSelect n h w ∷ ts) = ⊥
 IsStep (AwaitWork n h ∷ ts) = ⊥
 IsStep (AwaitDeselect h was ∷ ts) = ⊥
 
--- the path is at most four muxes deep, and each of its tasks has its place
+-- the path is no deeper than a bus may be, and each of its tasks has its place
 pub record IsPlanned (course : CourseView) (tasks : List Task) : Type 0 where
-  pub deep : length course.path ≤ 4
+  pub deep : length course.path ≤ MOST_DEPTH
   pub narrow : All IsNarrow course.path
   pub placed : IsPlaced (length course.path) tasks

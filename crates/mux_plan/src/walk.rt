@@ -1,4 +1,5 @@
 ghost use Rattle.std.specs.Prelude.{◌≡◌, ◌<◌, ◌≤◌, true, List, [], ◌∷◌, length, All, None};
+ghost use Rattle.i2c_base.specs.Limits.{MOST_DEPTH};
 ghost use Rattle.i2c_base.specs.Board.{BoardView};
 ghost use Rattle.i2c_base.specs.Transfer.{TransferView};
 ghost use Rattle.i2c_spec.specs.Messages.{MessageView, messages_of};
@@ -73,7 +74,7 @@ impl Walk {
 
     // The walk of a transfer of so many messages on a bus at the end of these muxes, nearest first.
     fn along(root: SegId, path: ArrayVec<Hop, 32>, bus: SegId, count: u8) -> Self
-        requires deep { length path.items ≤ 4 }
+        requires deep { length path.items ≤ MOST_DEPTH }
         requires narrow { All IsNarrow path.items }
         ensures course { result.course ≡ record { root = root; path = path.items; bus = bus; count = count } }
         ensures tree { (b : BoardView) (ms : List MessageView)

@@ -7,11 +7,8 @@ ghost use Rattle.mux_plan.specs.Plans.{CourseView, job_of, came_of, outcome_of, 
 ghost use Rattle.mux_plan.specs.Rooms.{IsNarrowWork};
 
 use crate::{Came, Outcome, Work};
-use i2c_base::{ByteList, ChannelCode, End, Errno, MuxId, Purpose, SegId};
+use i2c_base::{ByteList, ChannelCode, End, Errno, MuxId, POLLS, Purpose, SegId};
 use i2c_spec::{Hop, errno_of};
-
-/// An arbitrator is asked at most so often before it is switched.
-const POLLS: u8 = 8;
 
 /// How a piece of work goes on behind one of its messages: with the next one, with its last one, or not at all.
 #[derive(Clone, Copy)]

@@ -1,5 +1,6 @@
 -- The lock words of a board as plain data: who has each lock, and the mark of each bus.
 use Rattle.std.specs.Prelude.{⊤, ◌≡◌, ℕ, ◌+◌, ◌<◌, ◌≤◌, List, length, Option, Some, None, replicate, set, slice_index_or}
+use Rattle.i2c_base.specs.Limits.{MOST_DEPTH}
 use Rattle.i2c_base.specs.declared.ids.LockId.{LockId}
 use Rattle.i2c_base.specs.declared.ids.LockId.TheVariants as lock
 
@@ -18,7 +19,7 @@ opened depths roots =
 
 -- no bus has more than four muxes over it
 abbrev pub IsDepth : ℕ → Type 0
-IsDepth depth = depth ≤ 4
+IsDepth depth = depth ≤ MOST_DEPTH
 
 -- the lock of a root, or of the muxes on a bus that is there
 abbrev pub IsLockIn : LocksView → LockId → Type 0

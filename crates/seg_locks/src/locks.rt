@@ -1,4 +1,5 @@
 ghost use Rattle.std.specs.Prelude.{◌≡◌, ◌<◌, ◌≤◌, All, None, Some, IfOk, IfErr, OnOk, OnErr};
+ghost use Rattle.i2c_base.specs.Limits.{MOST_CALLERS};
 ghost use Rattle.seg_locks.specs.Locks.{opened, IsDepth, IsLockIn, IsMuxLock, IsBelowHeld, holder_in, mark_at, rank_in, with_holder, with_mark};
 
 use i2c_base::{LockId, MuxId, NoMemory};
@@ -82,7 +83,7 @@ impl Locks {
     /// Gives a free lock to the caller, and answers its mark; or tells who has it.
     pub fn take(&mut self, caller: u8, lock: LockId) -> Result<Option<MuxId>, Held>
         requires there { IsLockIn self.old lock }
-        requires caller { caller < 8 }
+        requires caller { caller < MOST_CALLERS }
         requires below { IsBelowHeld self.old caller lock }
 
         ensures free { OnOk result (holder_in self.old lock ≡ None) }
@@ -108,7 +109,7 @@ impl Locks {
     /// The caller gives its lock back. The mark stays.
     pub fn free(&mut self, caller: u8, lock: LockId)
         requires there { IsLockIn self.old lock }
-        requires caller { caller < 8 }
+        requires caller { caller < MOST_CALLERS }
         requires held { holder_in self.old lock ≡ Some caller }
         ensures { self.new ≡ with_holder self.old lock None }
     {
@@ -118,7 +119,7 @@ impl Locks {
     /// The caller, who has the lock of the muxes on a bus, says which of them may be open.
     pub fn set_mark(&mut self, caller: u8, lock: LockId, mark: Option<MuxId>)
         requires there { IsLockIn self.old lock }
-        requires caller { caller < 8 }
+        requires caller { caller < MOST_CALLERS }
         requires held { holder_in self.old lock ≡ Some caller }
         requires mux { IsMuxLock lock }
         ensures { self.new ≡ with_mark self.old lock mark }

@@ -48,7 +48,7 @@ bus_in_range =
     means_class IsInRange bus_number get_addr (λ w bus is_bus. let b : IsBetween 0 65535 bus = between 0 65535 bus (number_of w) is_bus in
     means_class IsInRange address (get_reg bus) (λ x addr is_addr. let a : IsBetween 8 119 addr = between 8 119 addr (number_of x) is_addr in
     means_class IsInRange byte (λ reg. ends (cmd.Get bus addr reg)) (λ y reg is_reg. let r : IsBetween 0 255 reg = between 0 255 reg (number_of y) is_reg in
-    means_ends IsInRange (cmd.Get bus addr reg) (omega (arith, b.to_high), a.from_low, a.to_high, omega (arith, r.to_high)))))
+    means_ends IsInRange (cmd.Get bus addr reg) (omega (arith, b.to_high), (a.from_low, a.to_high), omega (arith, r.to_high)))))
 
 pub get_in_range : Means IsInRange get_line
 get_in_range =

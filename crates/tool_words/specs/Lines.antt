@@ -1,5 +1,7 @@
 -- The lines of the grammar in force, each as a tree and as the reader that follows it.
-use Rattle.std.specs.Prelude.{ℕ, ◌^◌, ◌<◌, ◌≤◌, List, Option, Result, Err, if◌then◌else◌, codes}
+use Rattle.std.specs.Prelude.{ℕ, ◌^◌, ◌<◌, List, Option, Result, Err, if◌then◌else◌, codes}
+use Rattle.i2c_base.specs.Addr.{IsTargetAddress}
+use Rattle.i2c_base.specs.Limits.{FIRST_ADDRESS, LAST_ADDRESS}
 use Rattle.tool_words.specs.LineSets.{Word, LineSet, ends, class, word}
 use Rattle.tool_words.specs.Numbers.{number_in}
 use Rattle.tool_words.specs.Readers.{◌>>=◌, one_at, is_at, over_at}
@@ -11,7 +13,7 @@ abbrev pub bus_number : Word → Option ℕ
 bus_number = number_in 0 65535
 
 abbrev pub address : Word → Option ℕ
-address = number_in 8 119
+address = number_in FIRST_ADDRESS LAST_ADDRESS
 
 abbrev pub byte : Word → Option ℕ
 byte = number_in 0 255
@@ -46,4 +48,4 @@ script_line_at ws = if is_at (codes "i2cget") ws 0 then get_at ws else Err 0
 
 -- each field of a command is in its range
 abbrev pub IsInRange : Cmd → Type 0
-IsInRange (cmd.Get bus addr reg) = (bus < 2 ^ 16) × (8 ≤ addr) × (addr ≤ 119) × (reg < 2 ^ 8)
+IsInRange (cmd.Get bus addr reg) = (bus < 2 ^ 16) × IsTargetAddress addr × (reg < 2 ^ 8)

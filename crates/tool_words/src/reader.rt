@@ -1,4 +1,5 @@
 ghost use Rattle.std.specs.Prelude.{◌≡◌, ◌≤◌, Ok, IfOk, MatchResult};
+ghost use Rattle.i2c_base.specs.Limits.{FIRST_ADDRESS, LAST_ADDRESS};
 ghost use Rattle.tool_words.specs.Numbers.{number_in};
 ghost use Rattle.tool_words.specs.Readers.{texts, one_at, is_at, is_over, FaultIs};
 
@@ -39,7 +40,7 @@ pub fn number_at(words: &[&[u8]], at: u16, low: u16, high: u16) -> Result<u16, L
 
 /// The address in the word at a place.
 pub fn address_at(words: &[&[u8]], at: u16) -> Result<Addr, LineFault>
-    ensures { MatchResult result (λ a. one_at (number_in 8 119) (texts words.now) at ≡ Ok a) (FaultIs (one_at (number_in 8 119) (texts words.now) at)) }
+    ensures { MatchResult result (λ a. one_at (number_in FIRST_ADDRESS LAST_ADDRESS) (texts words.now) at ≡ Ok a) (FaultIs (one_at (number_in FIRST_ADDRESS LAST_ADDRESS) (texts words.now) at)) }
 {
     let number = number_at(words, at, u16::from(Addr::FIRST), u16::from(Addr::LAST))?;
     match Addr::new(number as u8) {

@@ -1,7 +1,7 @@
 -- What the states of the devices keep: they are quiet after a stop, and hold bytes. The inductions go over memories.
 use Rattle.std.proofs.Common.{◌≡◌, ℕ, zero, suc, ◌+◌, ◌<◌, Bool, true, false, List, [], ◌∷◌, ◌++◌, length, take, drop, replicate, set, get_or, refl, ◌∙◌, arith, mod-eq_of_lt}
 use Rattle.std.specs.List.{AllByRecursion, All}
-use Rattle.std.specs.Prelude.{bit_and}
+use Rattle.std.specs.Prelude.{bit_and, unwrap_or}
 use Rattle.std.proofs.lemmas.List.Elements.{All-head, All-tail, recursion_from_All}
 use Rattle.std.proofs.lemmas.Grind.{and_numeral}
 use Rattle.i2c_base.specs.declared.board.DeviceKind.{DeviceKind}
@@ -12,9 +12,9 @@ use Rattle.i2c_base.specs.declared.event.Answer.{Answer}
 use Rattle.i2c_base.specs.declared.event.Answer.TheVariants as answer
 use Rattle.i2c_base.specs.Board.{DeviceView, RunView}
 use Rattle.i2c_base.specs.Bytes.{IsByte}
-use Rattle.i2c_spec.specs.Plain.{IsPlainRun, IsPlainDevice, memory_of}
+use Rattle.i2c_spec.specs.Plain.{IsPlainRun, IsPlainDevice}
 use Rattle.i2c_spec.specs.Regs.{RegsView, RegsPhase, Idle, Pointer, Data, Read, regs_sends, regs_put, regs_get, write_run, write_runs}
-use Rattle.i2c_spec.specs.Targets.{TargetState, Regs, Silent, state_table, state_after, state_answer, state_of, opening_state, IsQuiet}
+use Rattle.i2c_spec.specs.Targets.{TargetState, Regs, Silent, state_table, state_after, state_answer, row_of_kind, opening_state, IsQuiet}
 use Rattle.i2c_spec.specs.World.{byte_of, has_heard, is_ack, is_slow}
 use Rattle.bus_laws.specs.Alike.{HoldsBytes}
 
@@ -22,7 +22,7 @@ pub stopped_quiet : (x : TargetState) → IsQuiet state_table (state_after x eve
 stopped_quiet (Regs x) = record { other = refl; stop = refl }
 stopped_quiet Silent = record { other = refl; stop = refl }
 
-opening_of_kind : (k : DeviceKind) (runs : List RunView) → IsQuiet state_table (state_of k runs)
+opening_of_kind : (k : DeviceKind) (runs : List RunView) → IsQuiet state_table ((row_of_kind k).opens runs)
 opening_of_kind (kind.Regs hold) runs = record { other = refl; stop = refl }
 opening_of_kind (kind.Eeprom size fill busy wp) runs = record { other = refl; stop = refl }
 opening_of_kind (kind.Lm75 raw) runs = record { other = refl; stop = refl }
@@ -131,11 +131,11 @@ runs_bytes (r ∷ rs) memory all held =
     (append_bytes (take r.start memory ++ r.bytes) (drop (r.start + length r.bytes) memory)
     (append_bytes (take r.start memory) r.bytes (take_bytes r.start memory held) all.0) (drop_bytes (r.start + length r.bytes) memory held))
 
-opened_bytes : (k : DeviceKind) (runs : List RunView) → RunsHoldBytes runs → HoldsBytes (state_of k runs)
+opened_bytes : (k : DeviceKind) (runs : List RunView) → RunsHoldBytes runs → HoldsBytes ((row_of_kind k).opens runs)
 opened_bytes (kind.Regs hold) runs all = runs_bytes runs (replicate 256 0) all (zero_bytes 256)
 opened_bytes (kind.Eeprom size fill busy wp) runs all = tt
 opened_bytes (kind.Lm75 raw) runs all = tt
 opened_bytes (kind.Smbus width flip) runs all = tt
 
 pub opening-bytes : (d : DeviceView) → IsPlainDevice d → HoldsBytes (opening_state d)
-opening-bytes d plain = opened_bytes d.kind d.set (plain_runs (memory_of d.kind) d.set plain.runs)
+opening-bytes d plain = opened_bytes d.kind d.set (plain_runs (unwrap_or (row_of_kind d.kind).memory 0) d.set plain.runs)

@@ -20,7 +20,8 @@ use Rattle.i2c_spec.specs.Rules.{MeetsRules, wants_parent}
 use Rattle.i2c_spec.specs.Messages.{MessageView, messages_from, messages_of}
 use Rattle.i2c_spec.specs.Flat.{refusal, block_limit}
 use Rattle.i2c_spec.specs.Cost.{lock_steps, behind_by, behind_cost, inner_cost, full_cost, bytes_of, steps_of, cost_of}
-use Rattle.bus_spec.specs.Walk.{Job, Call, Select, Clear, Free, Send, Shift, ActOutcome, JobOutcome, Good, Refused, Unsent, Failed, Note, WalkTree, Ends, Look, Then, Go, On, Last, Over, goes, job_outcome, verdict_of, decides, is_line, is_gpio, is_arbitrator, more_of, POLLS, nth_message, message_of}
+use Rattle.i2c_base.specs.Limits.{POLLS}
+use Rattle.bus_spec.specs.Walk.{Job, Call, Select, Clear, Free, Send, Shift, ActOutcome, JobOutcome, Good, Refused, Unsent, Failed, Note, WalkTree, Ends, Look, Then, Go, On, Last, Over, goes, job_outcome, verdict_of, decides, is_line, is_gpio, is_arbitrator, more_of, nth_message, message_of}
 use Rattle.bus_spec.specs.Grammar.{Doer, plain, settled, over, by_go, messages, at_bus, locked, part, with_mark, aside, if_sent, if_good, kind_of, closing, opened, chosen, behind, inner, full, walk_by, walk_for}
 use Rattle.bus_laws.specs.Costs.{IsWithin, ArbitratorsArePassed}
 use Rattle.bus_laws.proofs.tree.Law.{refusal-none}

@@ -63,7 +63,7 @@ has_chip-is b m a e = ap (λ (o : Option ℕ). not (is_absent b m) && is_some o)
 
 -- only an arbitrator can be held
 few_foreign : (asks : Bool) (n : ℕ) → IsForeign asks n → n ≤ 8
-few_foreign true n f = f
+few_foreign true n f = f.1
 few_foreign false n f = omega arith
 
 pub held-is : (b : BoardView) (m : ℕ) (s : MuxSpec) → slice_get b.muxes m ≡ Some s → is_held b m ≡ eqb s.foreign 8

@@ -1,4 +1,5 @@
 use Rattle.std.proofs.Common.{◌+◌, ◌*◌, ◌≤◌, arith, ◌∙◌, ap, length}
+use Rattle.i2c_base.specs.Limits.{MOST_CALLS}
 use Rattle.i2c_spec.specs.World.{World, answer, has_heard}
 use Rattle.i2c_spec.specs.Conversation.{talk, world_listener}
 use Rattle.bus_spec.specs.Past.{cut_of}
@@ -7,7 +8,7 @@ use Rattle.bus_core.proofs.converse.say.Goals as goal
 
 pub send_message-requires-clause-room : goal.send_message-requires-clause-room
 send_message-requires-clause-room g c κs within =
-    λ tell. one_of c.args.ports.now.items c.args.root c.index_mut-port.result.now c.index_mut-port.result.now c.requires.there c.index_mut-port.ensures.value g.P.Port.log (λ l. length l + 515 ≤ 2000000) (c.requires.room tell)
+    λ tell. one_of c.args.ports.now.items c.args.root c.index_mut-port.result.now c.index_mut-port.result.now c.requires.there c.index_mut-port.ensures.value g.P.Port.log (λ l. length l + 515 ≤ MOST_CALLS) (c.requires.room tell)
 
 pub returns-clause-said : goal.returns-clause-said
 returns-clause-said g c =

@@ -1,0 +1,54 @@
+-- The limits of a board and of what is done on it, each by its one name; the code has the same names.
+use Rattle.std.specs.Prelude.{ℕ, ◌+◌, ◌*◌}
+
+-- a board has 1 to so many roots, and at most so many muxes and devices; a mux has 1 to so many channels, and no bus
+-- has more muxes over it (Linux i2c-topology warns of deep trees). Each channel is a bus
+abbrev pub MOST_ROOTS : ℕ
+MOST_ROOTS = 8
+
+abbrev pub MOST_MUXES : ℕ
+MOST_MUXES = 32
+
+abbrev pub MOST_DEVICES : ℕ
+MOST_DEVICES = 128
+
+abbrev pub MOST_CHANNELS : ℕ
+MOST_CHANNELS = 8
+
+abbrev pub MOST_DEPTH : ℕ
+MOST_DEPTH = 4
+
+abbrev pub MOST_BUSES : ℕ
+MOST_BUSES = MOST_ROOTS + MOST_MUXES * MOST_CHANNELS
+
+-- the addresses of targets: 0x00 to 0x07 and 0x78 to 0x7F are reserved (UM10204 section 3.1.12, "Reserved addresses")
+abbrev pub FIRST_ADDRESS : ℕ
+FIRST_ADDRESS = 0x08
+
+abbrev pub LAST_ADDRESS : ℕ
+LAST_ADDRESS = 0x77
+
+-- a transfer has at most so many messages and bytes, and a message so many bytes (Linux i2c-dev: I2C_RDWR)
+abbrev pub MOST_MESSAGES : ℕ
+MOST_MESSAGES = 42
+
+abbrev pub MOST_LENGTH : ℕ
+MOST_LENGTH = 512
+
+abbrev pub MOST_BYTES : ℕ
+MOST_BYTES = 4096
+
+-- a block has at most so many bytes (SMBus 2.0 section 5.5.7)
+abbrev pub BLOCK_LIMIT : ℕ
+BLOCK_LIMIT = 32
+
+-- an arbitrator is asked so often before it is told to be held
+abbrev pub POLLS : ℕ
+POLLS = 8
+
+-- a run has at most so many callers, and each port's log holds so many calls
+abbrev pub MOST_CALLERS : ℕ
+MOST_CALLERS = 8
+
+abbrev pub MOST_CALLS : ℕ
+MOST_CALLS = 2000000
