@@ -5,23 +5,26 @@ use Rattle.std.specs.List.{range_with_len}
 use Rattle.std.proofs.lemmas.List.Elements.{All-map}
 use Rattle.std.proofs.lemmas.List.FromFn.{length-map-range_with_len}
 use Rattle.i2c_base.specs.Board.{BoardView}
-use Rattle.i2c_spec.specs.World.{opening_world, openings}
-use Rattle.i2c_physics.specs.SimPorts.{PortView, opening_port}
+use Rattle.i2c_spec.specs.World.{World, opening_world, openings}
 
--- what a plug gives
-all_opened : (b : BoardView) (P : PortView → Type 0) → ((r : ℕ) → P (opening_port b r)) → (rs : List ℕ) → All P (map (opening_port b) rs)
-all_opened b P each rs = All-map P (opening_port b) rs (λ k d h. each (get_or rs k d))
+module _ {X : Type 0} (opened : ℕ → X) where
+  all_opened : (P : X → Type 0) → ((r : ℕ) → P (opened r)) → (rs : List ℕ) → All P (map opened rs)
+  all_opened P each rs = All-map P opened rs (λ k d h. each (get_or rs k d))
 
-worlds_of : (b : BoardView) (rs : List ℕ) → map (λ p. p.world) (map (opening_port b) rs) ≡ map (opening_world b) rs
-worlds_of b [] = refl
-worlds_of b (r ∷ rs) = ap (λ ws. opening_world b r ∷ ws) (worlds_of b rs)
+  worlds_of : (b : BoardView) (world : X → World) → ((r : ℕ) → world (opened r) ≡ opening_world b r) → (rs : List ℕ)
+      → map world (map opened rs) ≡ map (opening_world b) rs
+  worlds_of b world each [] = refl
+  worlds_of b world each (r ∷ rs) =
+      let head = each r in
+      let rest = worlds_of b world each rs in
+      cc
 
-module _ (b : BoardView) (ps : List PortView) (are : ps ≡ map (opening_port b) (range_with_len 0 (length b.roots))) where
-  pub opened-count : length ps ≡ length b.roots
-  opened-count = ap length are ∙ length-map-range_with_len (opening_port b) 0 (length b.roots)
+  module _ (b : BoardView) (ps : List X) (are : ps ≡ map opened (range_with_len 0 (length b.roots))) where
+    pub opened-count : length ps ≡ length b.roots
+    opened-count = ap length are ∙ length-map-range_with_len opened 0 (length b.roots)
 
-  pub opened-all : (P : PortView → Type 0) → ((r : ℕ) → P (opening_port b r)) → All P ps
-  opened-all P each = rw are (all_opened b P each (range_with_len 0 (length b.roots)))
+    pub opened-all : (P : X → Type 0) → ((r : ℕ) → P (opened r)) → All P ps
+    opened-all P each = rw are (all_opened P each (range_with_len 0 (length b.roots)))
 
-  pub opened-worlds : map (λ p. p.world) ps ≡ openings b
-  opened-worlds = rw are (worlds_of b (range_with_len 0 (length b.roots)))
+    pub opened-worlds : (world : X → World) → ((r : ℕ) → world (opened r) ≡ opening_world b r) → map world ps ≡ openings b
+    opened-worlds world each = rw are (worlds_of b world each (range_with_len 0 (length b.roots)))

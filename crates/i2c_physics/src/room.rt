@@ -3,12 +3,12 @@ ghost use Rattle.std.specs.Option.{option_map};
 ghost use Rattle.i2c_base.specs.Board.{BoardView};
 ghost use Rattle.i2c_spec.specs.World.{World, AreWorldsOf, devices_of};
 ghost use Rattle.i2c_outside.specs.Devices.{target_state};
+ghost use Rattle.i2c_physics.specs.SimPorts.{PortView};
 ghost use Rattle.i2c_physics.specs.SimRigs.{state_at, states_from, IsThere};
 ghost use Rattle.i2c_spec.specs.Layouts.{board_of};
 ghost use Rattle.i2c_spec.specs.Plain.{IsPlainBoard};
 ghost use Rattle.i2c_spec.specs.Tree.{root_of};
 
-use crate::SimPort;
 use i2c_base::{PortCall, SegId};
 use i2c_board::Accepted;
 use i2c_outside::DeviceState;
@@ -16,6 +16,21 @@ use i2c_spec::Layout;
 use std::alloc::{AllocError, Global};
 use std::marker::Model;
 use std::snapshot::Snapshot;
+
+/// A port that is given back to its rig.
+pub trait Returned: Drop {
+    /// The port of its root that it is, or stands for.
+    ghost port: { Self → PortView };
+
+    /// The device of this number, as the port has it.
+    fn device(&self, number: usize) -> Option<DeviceState>
+        ensures value { option_map target_state result ≡ slice_get (port self.now).world.devices number }
+        ensures has { number < length (port self.now).world.board.devices → IsSome result };
+
+    /// The calls that were made on it.
+    fn into_log(self) -> Vec<PortCall>
+        ensures { result.items ≡ (port self).log };
+}
 
 /// What a rig holds after an unplug.
 #[derive(Drop)]
@@ -63,9 +78,9 @@ impl Room {
     }
 
     /// Keeps the devices as these ports have them, each as the port of its root has it, and their logs.
-    pub fn keep(self, ports: Vec<SimPort>) -> Kept
-        ensures states { AreWorldsOf self (map (λ p. p.world) ports.items) → map target_state result.states.items ≡ devices_of self (map (λ p. p.world) ports.items) }
-        ensures logs { AreWorldsOf self (map (λ p. p.world) ports.items) → map (λ log. log.items) result.logs.items ≡ map (λ p. p.log) ports.items }
+    pub fn keep<P: Returned>(self, ports: Vec<P>) -> Kept
+        ensures states { AreWorldsOf self (map (λ p. (P.port p).world) ports.items) → map target_state result.states.items ≡ devices_of self (map (λ p. (P.port p).world) ports.items) }
+        ensures logs { AreWorldsOf self (map (λ p. (P.port p).world) ports.items) → map (λ log. log.items) result.logs.items ≡ map (λ p. (P.port p).log) ports.items }
     {
         let Room {
             board: _,
@@ -92,10 +107,10 @@ fn homes(alloc: Global, layout: Layout<'_>) -> Result<Vec<SegId>, AllocError>
 }
 
 /// Keeps each device as the port of its root has it.
-fn keep_states(states: &mut Vec<DeviceState>, homes: &Vec<SegId>, ports: &Vec<SimPort>)
+fn keep_states<P: Returned>(states: &mut Vec<DeviceState>, homes: &Vec<SegId>, ports: &Vec<P>)
     requires { vec_len states.old + vec_len homes.now ≤ vec_capacity states.old }
-    ensures kept { map target_state states.new.items ≡ map target_state states.old.items ++ states_from 0 homes.now.items (map (λ p. p.world) ports.now.items) }
-    ensures there { (k : ℕ) → k < vec_len homes.now → IsThere (map (λ p. p.world) ports.now.items) (slice_index homes.now.items k) k }
+    ensures kept { map target_state states.new.items ≡ map target_state states.old.items ++ states_from 0 homes.now.items (map (λ p. (P.port p).world) ports.now.items) }
+    ensures there { (k : ℕ) → k < vec_len homes.now → IsThere (map (λ p. (P.port p).world) ports.now.items) (slice_index homes.now.items k) k }
 {
     for (number, home) in homes.iter().enumerate() {
         if let Some(state) = device_in(ports, *home, number) {
@@ -105,16 +120,16 @@ fn keep_states(states: &mut Vec<DeviceState>, homes: &Vec<SegId>, ports: &Vec<Si
 }
 
 /// The device of this number, as the port of this bus has it.
-fn device_in(ports: &Vec<SimPort>, home: SegId, number: usize) -> Option<DeviceState>
-    ensures value { option_map target_state result ≡ state_at (map (λ p. p.world) ports.now.items) home number }
-    ensures there { IsThere (map (λ p. p.world) ports.now.items) home number }
+fn device_in<P: Returned>(ports: &Vec<P>, home: SegId, number: usize) -> Option<DeviceState>
+    ensures value { option_map target_state result ≡ state_at (map (λ p. (P.port p).world) ports.now.items) home number }
+    ensures there { IsThere (map (λ p. (P.port p).world) ports.now.items) home number }
 {
     ports.get(usize::from(home.0))?.device(number)
 }
 
 /// Keeps the logs of these ports, as far as there is room.
-fn keep_logs(logs: &mut Vec<Vec<PortCall>>, ports: Vec<SimPort>)
-    ensures { vec_len logs.old + vec_len ports ≤ vec_capacity logs.old → map (λ log. log.items) logs.new.items ≡ map (λ log. log.items) logs.old.items ++ map (λ p. p.log) ports.items }
+fn keep_logs<P: Returned>(logs: &mut Vec<Vec<PortCall>>, ports: Vec<P>)
+    ensures { vec_len logs.old + vec_len ports ≤ vec_capacity logs.old → map (λ log. log.items) logs.new.items ≡ map (λ log. log.items) logs.old.items ++ map (λ p. (P.port p).log) ports.items }
 {
     for port in ports {
         let _ = logs.push(port.into_log());

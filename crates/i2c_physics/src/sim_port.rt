@@ -1,10 +1,15 @@
 ghost use Rattle.std.specs.Prelude.{◌≡◌, ◌<◌, ℕ, Bool, true, length, slice_get, IfOk, IsSome};
 ghost use Rattle.std.specs.Option.{option_map};
+ghost use Rattle.i2c_base.specs.Phases.{AnswersStart, phase_started, phase_put, phase_got};
+ghost use Rattle.i2c_base.specs.declared.port.Phase.TheVariants.{Idle};
+ghost use Rattle.i2c_base.specs.declared.port.PortCall.TheVariants as call;
+ghost use Rattle.i2c_spec.specs.World.{answer, takes, gives};
 ghost use Rattle.i2c_outside.specs.Devices.{target_state};
-ghost use Rattle.i2c_physics.specs.SimPorts.{opening_port};
+ghost use Rattle.i2c_physics.specs.SimPorts.{opening_port, called};
 ghost use Rattle.i2c_physics.specs.SimWorlds.{IsSimBoard};
 
 use crate::phase;
+use crate::room::Returned;
 use crate::sim_world::SimWorld;
 use i2c_base::{Addr, Answer, MuxId, Phase, PortCall, SegId};
 use i2c_board::Accepted;
@@ -34,6 +39,9 @@ impl Model for SimPort {
 /// How many calls a port has room for.
 const CALLS: usize = 2_000_000;
 
+// Each of them takes at most 8 bytes of it.
+const _: () = prove!(size_of::<PortCall>() <= 8);
+
 impl SimPort {
     /// The port of this root, in the root's opening world.
     pub(crate) fn open(alloc: Global, board: &Accepted, root: SegId) -> Result<Self, AllocError>
@@ -47,18 +55,87 @@ impl SimPort {
         })
     }
 
-    /// The device of this number, as the port has it.
-    pub(crate) fn device(&self, number: usize) -> Option<DeviceState>
-        ensures value { option_map target_state result ≡ slice_get self.now.world.devices number }
-        ensures has { number < length self.now.world.board.devices → IsSome result }
+    /// How many calls were made on it.
+    pub(crate) fn calls(&self) -> usize
+        ensures { result ≡ length self.now.log }
     {
+        self.log.len()
+    }
+
+    /// A start goes out. What it is answered.
+    pub(crate) fn call_start(&mut self, addr: Addr, reading: bool) -> Answer
+        requires { length self.old.log < 2000000 }
+        ensures answer { result ≡ answer self.old.world addr reading }
+        ensures kind { AnswersStart result }
+        ensures after { self.new ≡ called self.old (call.Start addr reading) (phase_started reading (answer self.old.world addr reading)) }
+    {
+        let answer = self.world.start(addr, reading);
+        self.log.push_reserved(PortCall::Start(addr, reading));
+        self.phase = phase::started(reading, &answer);
+        answer
+    }
+
+    /// A byte is put. Whether someone acknowledges it.
+    pub(crate) fn call_put(&mut self, byte: u8) -> bool
+        requires { length self.old.log < 2000000 }
+        ensures taken { result ≡ takes self.old.world byte }
+        ensures after { self.new ≡ called self.old (call.Put byte) (phase_put (takes self.old.world byte)) }
+    {
+        let acked = self.world.put(byte);
+        self.log.push_reserved(PortCall::Put(byte));
+        self.phase = phase::put(acked);
+        acked
+    }
+
+    /// A byte is read, and acknowledged or not.
+    pub(crate) fn call_get(&mut self, ack: bool) -> u8
+        requires { length self.old.log < 2000000 }
+        ensures given { result ≡ gives self.old.world }
+        ensures after { self.new ≡ called self.old (call.Get ack) (phase_got ack) }
+    {
+        let byte = self.world.get(ack);
+        self.log.push_reserved(PortCall::Get(ack));
+        self.phase = phase::got(ack);
+        byte
+    }
+
+    pub(crate) fn call_stop(&mut self)
+        requires { length self.old.log < 2000000 }
+        ensures { self.new ≡ called self.old call.Stop Idle }
+    {
+        self.world.stop();
+        self.log.push_reserved(PortCall::Stop);
+        self.phase = Phase::Idle;
+    }
+
+    pub(crate) fn call_line(&mut self, mux: MuxId, level: u8)
+        requires { length self.old.log < 2000000 }
+        ensures { self.new ≡ called self.old (call.Line mux level) Idle }
+    {
+        self.world.set_line(mux, level);
+        self.log.push_reserved(PortCall::Line(mux, level));
+        self.phase = Phase::Idle;
+    }
+
+    /// A call fails: it acts as a stop.
+    pub(crate) fn call_fault(&mut self)
+        requires { length self.old.log < 2000000 }
+        ensures { self.new ≡ called self.old call.Fault Idle }
+    {
+        self.world.stop();
+        self.log.push_reserved(PortCall::Fault);
+        self.phase = Phase::Idle;
+    }
+}
+
+impl Returned for SimPort {
+    ghost port = { λ p. p };
+
+    fn device(&self, number: usize) -> Option<DeviceState> {
         self.world.device(number)
     }
 
-    /// The calls that were made on it.
-    pub(crate) fn into_log(self) -> Vec<PortCall>
-        ensures { result.items ≡ self.log }
-    {
+    fn into_log(self) -> Vec<PortCall> {
         self.log
     }
 }
@@ -75,37 +152,24 @@ impl Port for SimPort {
     ghost faults = { λ p. 0 };
 
     fn start(&mut self, addr: Addr, reading: bool) -> Result<Answer, Failed> {
-        let answer = self.world.start(addr, reading);
-        self.log.push_reserved(PortCall::Start(addr, reading));
-        self.phase = phase::started(reading, &answer);
-        Ok(answer)
+        Ok(self.call_start(addr, reading))
     }
 
     fn put(&mut self, byte: u8) -> Result<bool, Failed> {
-        let acked = self.world.put(byte);
-        self.log.push_reserved(PortCall::Put(byte));
-        self.phase = phase::put(acked);
-        Ok(acked)
+        Ok(self.call_put(byte))
     }
 
     fn get(&mut self, ack: bool) -> Result<u8, Failed> {
-        let byte = self.world.get(ack);
-        self.log.push_reserved(PortCall::Get(ack));
-        self.phase = phase::got(ack);
-        Ok(byte)
+        Ok(self.call_get(ack))
     }
 
     fn stop(&mut self) -> Result<(), Failed> {
-        self.world.stop();
-        self.log.push_reserved(PortCall::Stop);
-        self.phase = Phase::Idle;
+        self.call_stop();
         Ok(())
     }
 
     fn line(&mut self, mux: MuxId, level: u8) -> Result<(), Failed> {
-        self.world.set_line(mux, level);
-        self.log.push_reserved(PortCall::Line(mux, level));
-        self.phase = Phase::Idle;
+        self.call_line(mux, level);
         Ok(())
     }
 }

@@ -9,7 +9,7 @@ ghost use Rattle.i2c_physics.specs.SimRigs.{no_board, none_of, kept_states, kept
 ghost use Rattle.i2c_physics.specs.SimWorlds.{IsSimBoard};
 
 use crate::SimPort;
-use crate::room::{Kept, Room};
+use crate::room::{Kept, Returned, Room};
 use i2c_base::{DeviceKind, PortCall, SegId};
 use i2c_board::{Accepted, Board};
 use i2c_outside::{DeviceState, Port, Rig, RigFail};
@@ -62,6 +62,74 @@ impl SimRig {
             None => &[],
         }
     }
+
+    /// How many faults were counted.
+    pub fn faults(&self) -> u64
+        ensures { result ≡ self.now.faults }
+    {
+        self.faults
+    }
+
+    /// How many plugs were made, failed ones included.
+    pub fn plugs(&self) -> u64
+        ensures { result ≡ self.now.plugs }
+    {
+        self.plugs
+    }
+
+    /// How many unplugs were made.
+    pub fn unplugs(&self) -> u64
+        ensures { result ≡ self.now.unplugs }
+    {
+        self.unplugs
+    }
+
+    /// A plug begins: it is counted, and what an earlier one left is gone.
+    pub(crate) fn begin(&mut self)
+        ensures { self.new ≡ record self.old { plugs = counted self.old.plugs; room = None; kept = None } }
+    {
+        self.plugs = self.plugs.saturating_add(1);
+        self.room = None;
+        self.kept = None;
+    }
+
+    /// It is refused, and a fault is counted.
+    pub(crate) fn refuse(&mut self) -> RigFail
+        ensures fail { result ≡ RigFail.Failed }
+        ensures later { self.old.faults ≤ self.new.faults }
+        ensures after { self.new ≡ record self.old { faults = counted self.old.faults } }
+    {
+        self.faults = self.faults.saturating_add(1);
+        RigFail::Failed
+    }
+
+    /// It takes the room of its unplug, and is done.
+    pub(crate) fn hold(&mut self, alloc: Global, board: &Accepted) -> Result<(), AllocError>
+        ensures ok { OnOk result (self.new ≡ record self.old { room = Some board.now }) }
+        ensures err { OnErr result (self.new ≡ self.old) }
+    {
+        self.room = Some(Room::open(alloc, board)?);
+        Ok(())
+    }
+
+    /// Takes the ports back, and keeps the devices as they left them, and their logs.
+    pub(crate) fn take_back<P: Returned>(&mut self, ports: Vec<P>)
+        requires { is_some self.old.room ≡ true }
+        ensures plugged { self.new.room ≡ None }
+        ensures unplugs { self.new.unplugs ≡ counted self.old.unplugs }
+        ensures plugs { self.new.plugs ≡ self.old.plugs }
+        ensures faults { self.new.faults ≡ self.old.faults }
+        ensures given { self.new.given ≡ self.old.given }
+        ensures states { AreWorldsOf (unwrap_or self.old.room no_board) (map (λ p. (P.port p).world) ports.items)
+            → kept_states self.new.kept ≡ devices_of (unwrap_or self.old.room no_board) (map (λ p. (P.port p).world) ports.items) }
+        ensures logs { AreWorldsOf (unwrap_or self.old.room no_board) (map (λ p. (P.port p).world) ports.items)
+            → kept_logs self.new.kept ≡ map (λ p. (P.port p).log) ports.items }
+    {
+        self.unplugs = self.unplugs.saturating_add(1);
+        if let Some(room) = self.room.take() {
+            self.kept = Some(room.keep(ports));
+        }
+    }
 }
 
 impl Rig for SimRig {
@@ -106,15 +174,12 @@ impl Rig for SimRig {
         ensures calm { result ≢ Err RigFail.Failed → self.new.faults ≡ self.old.faults }
         ensures kept { self.new.kept ≡ None }
     {
-        self.plugs = self.plugs.saturating_add(1);
-        self.room = None;
-        self.kept = None;
+        self.begin();
         if !has_regs(board.board()) {
-            self.faults = self.faults.saturating_add(1);
-            return Err(RigFail::Failed);
+            return Err(self.refuse());
         }
         let ports = open_ports(alloc, board)?;
-        self.room = Some(Room::open(alloc, board)?);
+        self.hold(alloc, board)?;
         Ok(ports)
     }
 
@@ -133,11 +198,8 @@ impl Rig for SimRig {
         // It never counts a fault.
         ensures calm { self.new.faults ≡ self.old.faults }
     {
-        self.unplugs = self.unplugs.saturating_add(1);
         self.given = ports.len();
-        if let Some(room) = self.room.take() {
-            self.kept = Some(room.keep(ports));
-        }
+        self.take_back(ports);
     }
 }
 

@@ -4,7 +4,7 @@ use Rattle.i2c_physics.proofs.RigLemmas.{count-kept, one-more-kept}
 use Rattle.i2c_physics.proofs.room.keep_logs.Goals as goal
 
 pub loop-port-preserved-in-Some : goal.loop-port-preserved-in-Some
-loop-port-preserved-in-Some c = record {
+loop-port-preserved-in-Some g c = record {
   grown = omega arith;
   whole = omega (arith, length-append c.loop-port.yielded (c.in-Some.port ∷ []), c.in-Some.ensures.steps.1);
   kept = λ h.

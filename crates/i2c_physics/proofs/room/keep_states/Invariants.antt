@@ -5,10 +5,10 @@ use Rattle.i2c_physics.specs.SimRigs.{states_from, IsThere}
 use Rattle.i2c_physics.proofs.room.keep_states.Given as goal
 
 abbrev pub invariant-loop-number : goal.invariant-loop-number
-invariant-loop-number l = record {
+invariant-loop-number g l = record {
   grown : vec_capacity l.fn.states ≤ vec_capacity l.states;
   most : vec_len l.states ≤ vec_len l.fn.states + l.number;
-  kept : map target_state l.states.items ++ states_from l.number (drop l.number l.homes.items) (map (λ p. p.world) l.ports.items)
-      ≡ map target_state l.fn.states.items ++ states_from 0 l.homes.items (map (λ p. p.world) l.ports.items);
-  there : (k : ℕ) → k < l.number → IsThere (map (λ p. p.world) l.ports.items) (slice_index l.homes.items k) k;
+  kept : map target_state l.states.items ++ states_from l.number (drop l.number l.homes.items) (map (λ p. (g.P.Returned.port p).world) l.ports.items)
+      ≡ map target_state l.fn.states.items ++ states_from 0 l.homes.items (map (λ p. (g.P.Returned.port p).world) l.ports.items);
+  there : (k : ℕ) → k < l.number → IsThere (map (λ p. (g.P.Returned.port p).world) l.ports.items) (slice_index l.homes.items k) k;
 }

@@ -1,0 +1,40 @@
+use Rattle.std.proofs.Common.{◌≡◌, ℕ, [], length, map, vec_len, Vec, Result, refl, arith, rules}
+use Rattle.std.specs.Prelude.{All, IfOk}
+use Rattle.std.specs.List.{range_with_len}
+use Rattle.std.proofs.lemmas.Result.{IfOk-weaker}
+use Rattle.i2c_base.specs.declared.port.Phase.{Phase}
+use Rattle.i2c_base.specs.Board.{BoardView}
+use Rattle.i2c_spec.specs.World.{openings}
+use Rattle.i2c_physics.specs.FailPorts.{FailView, faults_in, opening_fails}
+use Rattle.i2c_physics.proofs.PlugLemmas.{opened-count, opened-all, opened-worlds}
+use Rattle.i2c_physics.proofs.fail_rig.FailRigRig.TheImpl.Goals as goal
+
+-- what holds of the ports as they are opened
+given : {Z E : Type 0} (opened : ℕ → FailView) (b : BoardView) (r : Result (Vec FailView Z) E) (Q : Vec FailView Z → Type 0)
+    → IfOk r (λ ports. ports.items ≡ map opened (range_with_len 0 (length b.roots)))
+    → ((ports : Vec FailView Z) → ports.items ≡ map opened (range_with_len 0 (length b.roots)) → Q ports) → IfOk r Q
+given opened b r Q are each = IfOk-weaker r _ Q each are
+
+pub plug-tells : goal.plug-tells
+plug-tells x c =
+    let b = c.args.board.now in
+    let opened = opening_fails b c.args.self.now.calls.items in
+    let are = c.ensures.ports in
+    record {
+      later = c.ensures.later;
+      cause = search rules;
+      plugs = c.ensures.plugs;
+      unplugs = c.ensures.unplugs;
+      plugged = search rules;
+      unplugged = search rules;
+      count = given opened b c.result (λ ports. vec_len ports ≡ length b.roots) are (λ ports is. omega (arith, opened-count opened b ports.items is));
+      idle = given opened b c.result (λ ports. All (λ p. p.port.phase ≡ Phase.Idle) ports.items) are
+          (λ ports is. opened-all opened b ports.items is (λ p. p.port.phase ≡ Phase.Idle) (λ r. refl));
+      fresh = given opened b c.result (λ ports. All (λ p. faults_in p.port.log ≡ 0) ports.items) are
+          (λ ports is. opened-all opened b ports.items is (λ p. faults_in p.port.log ≡ 0) (λ r. refl));
+      empty = λ _. given opened b c.result (λ ports. All (λ p. p.port.log ≡ []) ports.items) are
+          (λ ports is. opened-all opened b ports.items is (λ p. p.port.log ≡ []) (λ r. refl));
+      worlds = λ _. given opened b c.result (λ ports. map (λ p. p.port.world) ports.items ≡ openings b) are
+          (λ ports is. opened-worlds opened b ports.items is (λ p. p.port.world) (λ r. refl));
+      board = search rules;
+    }

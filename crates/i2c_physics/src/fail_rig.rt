@@ -1,0 +1,157 @@
+ghost use Rattle.std.specs.Prelude.{◌≡◌, ◌≢◌, ◌↔◌, ◌⊎◌, ℕ, ◌≤◌, [], true, List, Option, Some, None, Err, OnErr, IfOk, length, map, is_some, unwrap_or};
+ghost use Rattle.std.specs.List.{range_with_len};
+ghost use Rattle.std.specs.Option.{option_map_or};
+ghost use Rattle.i2c_spec.specs.World.{AreWorldsOf, devices_of};
+ghost use Rattle.i2c_outside.specs.Causes.{counted};
+ghost use Rattle.i2c_outside.specs.Devices.{target_state};
+ghost use Rattle.i2c_physics.specs.FailPorts.{faults_in, opening_fails};
+ghost use Rattle.i2c_physics.specs.SimRigs.{no_board, kept_states, kept_logs};
+ghost use Rattle.i2c_physics.specs.SimWorlds.{IsSimBoard};
+
+use crate::FailPort;
+use crate::sim_rig::{SimRig, has_regs};
+use i2c_base::{PortCall, SegId};
+use i2c_board::Accepted;
+use i2c_outside::{DeviceState, Rig, RigFail};
+use std::alloc::{AllocError, Global};
+use std::snapshot::Snapshot;
+
+/// The rig of the same boards as `SimRig`, whose plugs fail, or calls on its ports, where it is told.
+#[derive(Drop)]
+pub struct FailRig {
+    plug_fails: bool,
+    /// The calls that fail, by root and number, the first call on a port being 0.
+    calls: Vec<(SegId, u32)>,
+    sim: SimRig,
+    /// The ports that were last given back.
+    given: Option<Snapshot<Vec<FailPort>>>,
+}
+
+impl FailRig {
+    /// A rig that was never plugged. Each plug fails, where `plug_fails`, and these calls on its ports.
+    pub fn new(plug_fails: bool, calls: Vec<(SegId, u32)>) -> Self
+        ensures { result ≡ record { plug_fails = plug_fails; calls = calls; sim = record { faults = 0; plugs = 0; unplugs = 0; room = None; kept = None; given = 0 }; given = None } }
+    {
+        FailRig {
+            plug_fails,
+            calls,
+            sim: SimRig::new(),
+            given: None,
+        }
+    }
+
+    /// The devices as the last unplug found them, in file order; none before it.
+    pub fn states(&self) -> &[DeviceState]
+        ensures { map target_state result.now ≡ kept_states self.now.sim.kept }
+    {
+        self.sim.states()
+    }
+
+    /// The calls on each port that the last unplug was given, in order; none before it.
+    pub fn logs(&self) -> &[Vec<PortCall>]
+        ensures { map (λ log. log.items) result.now ≡ kept_logs self.now.sim.kept }
+    {
+        self.sim.logs()
+    }
+
+    /// How many faults were counted.
+    pub fn faults(&self) -> u64
+        ensures { result ≡ self.now.sim.faults }
+    {
+        self.sim.faults()
+    }
+
+    /// How many plugs were made, failed ones included.
+    pub fn plugs(&self) -> u64
+        ensures { result ≡ self.now.sim.plugs }
+    {
+        self.sim.plugs()
+    }
+
+    /// How many unplugs were made.
+    pub fn unplugs(&self) -> u64
+        ensures { result ≡ self.now.sim.unplugs }
+    {
+        self.sim.unplugs()
+    }
+}
+
+impl Rig for FailRig {
+    type P = FailPort;
+
+    ghost tells = { true };
+
+    ghost faults = { λ r. r.sim.faults };
+
+    ghost plugs = { λ r. r.sim.plugs };
+
+    ghost unplugs = { λ r. r.sim.unplugs };
+
+    ghost plugged = { λ r. is_some r.sim.room };
+
+    ghost board_of = { λ r. unwrap_or r.sim.room no_board };
+
+    ghost states = { λ r. kept_states r.sim.kept };
+
+    ghost logs = { λ r. kept_logs r.sim.kept };
+
+    ghost port_faults = { λ r. option_map_or (λ ports. map (λ p. faults_in p.port.log) ports.value.items) r.given [] };
+
+    /// It fails by a fault exactly where it is told to, or the board has a device of another kind.
+    fn plug(&mut self, alloc: Global, board: &Accepted) -> Result<Vec<FailPort>, RigFail>
+        ensures exact { result ≡ Err RigFail.Failed ↔ ((self.old.plug_fails ≡ true) ⊎ (¬ IsSimBoard board.now)) }
+        ensures ports { IfOk result (λ ports. ports.items ≡ map (opening_fails board.now self.old.calls.items) (range_with_len 0 (length board.now.roots))) }
+        ensures board { IfOk result (λ _. self.new.sim.room ≡ Some board.now) }
+        ensures unplugged { OnErr result (self.new.sim.room ≡ None) }
+        ensures kept { self.new.sim.kept ≡ None }
+        ensures calls { self.new.calls ≡ self.old.calls }
+
+        // What is counted.
+        ensures plugs { self.new.sim.plugs ≡ counted self.old.sim.plugs }
+        ensures unplugs { self.new.sim.unplugs ≡ self.old.sim.unplugs }
+        ensures later { self.old.sim.faults ≤ self.new.sim.faults }
+        ensures fault { result ≡ Err RigFail.Failed → self.new.sim.faults ≡ counted self.old.sim.faults }
+        ensures calm { result ≢ Err RigFail.Failed → self.new.sim.faults ≡ self.old.sim.faults }
+    {
+        self.sim.begin();
+        if self.plug_fails || !has_regs(board.board()) {
+            return Err(self.sim.refuse());
+        }
+        let ports = open_ports(alloc, board, &self.calls)?;
+        self.sim.hold(alloc, board)?;
+        Ok(ports)
+    }
+
+    fn unplug(&mut self, ports: Vec<FailPort>)
+        requires { is_some self.old.sim.room ≡ true }
+        ensures plugged { self.new.sim.room ≡ None }
+        ensures plugs { self.new.sim.plugs ≡ self.old.sim.plugs }
+        ensures unplugs { self.new.sim.unplugs ≡ counted self.old.sim.unplugs }
+        ensures calm { self.new.sim.faults ≡ self.old.sim.faults }
+        ensures counts { option_map_or (λ given. map (λ p. faults_in p.port.log) given.value.items) self.new.given [] ≡ map (λ p. faults_in p.port.log) ports.items }
+        ensures states { AreWorldsOf (unwrap_or self.old.sim.room no_board) (map (λ p. p.port.world) ports.items)
+            → kept_states self.new.sim.kept ≡ devices_of (unwrap_or self.old.sim.room no_board) (map (λ p. p.port.world) ports.items) }
+        ensures logs { AreWorldsOf (unwrap_or self.old.sim.room no_board) (map (λ p. p.port.world) ports.items)
+            → kept_logs self.new.sim.kept ≡ map (λ p. p.port.log) ports.items }
+    {
+        self.given = Some(Snapshot::of(&ports));
+        self.sim.take_back(ports);
+    }
+}
+
+/// The ports of the board's roots, in order, each with the calls of its root that fail.
+fn open_ports(
+    alloc: Global,
+    board: &Accepted,
+    calls: &[(SegId, u32)],
+) -> Result<Vec<FailPort>, AllocError>
+    requires { IsSimBoard board.now }
+    ensures { IfOk result (λ ports. ports.items ≡ map (opening_fails board.now calls.now) (range_with_len 0 (length board.now.roots))) }
+{
+    let count = board.board().roots().len() as u16;
+    let mut ports = Vec::with_capacity(alloc, usize::from(count))?;
+    for root in 0..count {
+        ports.push(FailPort::open(alloc, board, SegId(root), calls)?)?;
+    }
+    Ok(ports)
+}
