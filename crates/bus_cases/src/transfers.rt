@@ -6,7 +6,6 @@ use crate::words::address;
 use anyhow::{Context, Result, bail};
 use i2c_base::{Cut, Kind, Reply, Transfer};
 use i2c_board::Board;
-use i2c_physics::has_regs;
 use i2c_plain::{Device, flat};
 use std::alloc::{AllocError, Global};
 
@@ -29,9 +28,6 @@ pub fn answer_all<R: Print + AllocGlobal>(rt: &R, board: &Board, transfers: &str
 fn open_devices(alloc: Global, board: &Board) -> Result<Vec<Device>>
     ensures { IfOk result (λ devices. vec_len devices ≤ 128) }
 {
-    if !has_regs(board) {
-        bail!("a device that isn't a register device");
-    }
     let mut devices = Vec::new(alloc);
     for spec in board.devices() {
         devices.push(Device::open(spec))?;

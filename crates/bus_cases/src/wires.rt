@@ -1,15 +1,12 @@
 use crate::words::{address, byte, said, taken};
-use anyhow::{Context, Result, bail};
+use anyhow::{Context, Result};
 use i2c_base::{Answer, MuxId, SegId};
 use i2c_board::Accepted;
-use i2c_physics::{SimWorld, has_regs};
+use i2c_physics::SimWorld;
 use std::alloc::Global;
 
 /// The wires of a board's first root, as they are opened.
 pub fn open(alloc: Global, board: &Accepted) -> Result<SimWorld> {
-    if !has_regs(board.board()) {
-        bail!("a device that isn't a register device");
-    }
     Ok(SimWorld::open(alloc, board, SegId(0))?)
 }
 

@@ -1,6 +1,6 @@
 -- How the facts of a kind of mux go together, by the code that tells its open channel. Every row keeps it, and the
 -- proofs above ask for nothing else of a kind. No induction.
-use Rattle.std.proofs.Common.{◌≡◌, ◌≤◌, true, false, Some, None, refl, sym, ◌∙◌, arith}
+use Rattle.std.proofs.Common.{◌≡◌, suc, ◌^◌, ◌≤◌, true, false, Some, None, refl, sym, ◌∙◌, arith}
 use Rattle.i2c_base.specs.declared.board.MuxKind.{MuxKind}
 use Rattle.i2c_base.specs.declared.board.MuxKind.TheVariants.{Pca9548, Pca9546, Pca9544, Pca9541, Gpio}
 use Rattle.i2c_base.specs.declared.mux_facts.MuxFacts.{MuxFacts}
@@ -11,14 +11,14 @@ use Rattle.i2c_base.specs.Muxes.{facts_of}
 -- a switch, a mux with a number, an arbitrator, a mux that is switched by a line
 abbrev pub FitsCode : ChannelCode → MuxFacts → Type 0
 FitsCode Bits f = (f.channels ≡ Some f.bits) × (f.bits ≤ 8) × (f.by_line ≡ false) × (f.asks ≡ false)
-FitsCode Number f = (f.channels ≡ Some 4) × (f.bits ≡ 3) × (f.by_line ≡ false) × (f.asks ≡ false)
+FitsCode (Number n) f = (f.channels ≡ Some (2 ^ n)) × (f.bits ≡ suc n) × (f.by_line ≡ false) × (f.asks ≡ false) × (n ≤ 3)
 FitsCode Alone f = (f.channels ≡ Some 1) × (f.wants_parent ≡ true) × (f.by_line ≡ false) × (f.asks ≡ true)
 FitsCode Level f = (f.channels ≡ None) × (f.wants_parent ≡ true) × (f.by_line ≡ true) × (f.asks ≡ false)
 
 pub facts_fit : (k : MuxKind) → FitsCode (facts_of k).code (facts_of k)
 facts_fit Pca9548 = (refl, omega arith, refl, refl)
 facts_fit Pca9546 = (refl, omega arith, refl, refl)
-facts_fit Pca9544 = (refl, refl, refl, refl)
+facts_fit Pca9544 = (refl, refl, refl, refl, omega arith)
 facts_fit Pca9541 = (refl, refl, refl, refl)
 facts_fit Gpio = (refl, refl, refl, refl)
 
@@ -33,7 +33,7 @@ line_row k e = by_code (facts_of k).code refl (facts_fit k)
   where
     by_code : (c : ChannelCode) → (facts_of k).code ≡ c → FitsCode c (facts_of k) → IsLineRow (facts_of k)
     by_code Bits at fits = absurd (let g : false ≡ true = sym fits.2 ∙ e in cc)
-    by_code Number at fits = absurd (let g : false ≡ true = sym fits.2 ∙ e in cc)
+    by_code (Number n) at fits = absurd (let g : false ≡ true = sym fits.2 ∙ e in cc)
     by_code Alone at fits = absurd (let g : false ≡ true = sym fits.2 ∙ e in cc)
     by_code Level at fits = record { code = at; wants_parent = fits.1; asks = fits.3 }
 
@@ -48,6 +48,6 @@ arbitrator_row k e = by_code (facts_of k).code refl (facts_fit k)
   where
     by_code : (c : ChannelCode) → (facts_of k).code ≡ c → FitsCode c (facts_of k) → IsArbitratorRow (facts_of k)
     by_code Bits at fits = absurd (let g : false ≡ true = sym fits.3 ∙ e in cc)
-    by_code Number at fits = absurd (let g : false ≡ true = sym fits.3 ∙ e in cc)
+    by_code (Number n) at fits = absurd (let g : false ≡ true = sym fits.3 ∙ e in cc)
     by_code Alone at fits = record { code = at; wants_parent = fits.1; by_line = fits.2 }
     by_code Level at fits = absurd (let g : false ≡ true = sym fits.3 ∙ e in cc)

@@ -1,5 +1,5 @@
 ghost use Rattle.std.specs.Prelude.{◌≡◌, ◌≤◌};
-ghost use Rattle.i2c_base.specs.Muxes.{facts_of, switch_of};
+ghost use Rattle.i2c_base.specs.Muxes.{facts_of, switch_of, IsNarrowCode};
 
 use crate::MuxKind;
 
@@ -8,8 +8,8 @@ use crate::MuxKind;
 pub enum ChannelCode {
     /// Bit i opens channel i, and each bit one of its own.
     Bits,
-    /// Bit 2 opens the channel whose number the low two bits are.
-    Number,
+    /// The bit of this number opens the channel whose number the bits below it are.
+    Number(u8),
     /// 1 opens the one channel.
     Alone,
     /// Level k opens channel k - 1.
@@ -52,6 +52,7 @@ impl MuxKind {
     pub fn facts(self) -> MuxFacts
         ensures row { result ≡ facts_of self }
         ensures most { result.bits ≤ 8 }
+        ensures narrow { IsNarrowCode result.code }
     {
         match self {
             MuxKind::Pca9548 => switch_of(8),
@@ -59,7 +60,7 @@ impl MuxKind {
             MuxKind::Pca9544 => MuxFacts {
                 channels: Some(4),
                 bits: 3,
-                code: ChannelCode::Number,
+                code: ChannelCode::Number(2),
                 by_line: false,
                 asks: false,
                 wants_parent: false,

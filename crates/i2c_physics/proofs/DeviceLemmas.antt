@@ -6,14 +6,16 @@ use Rattle.i2c_base.specs.declared.event.Answer.{Answer}
 use Rattle.i2c_spec.specs.Targets.{state_table, state_after, state_answer}
 use Rattle.i2c_spec.specs.World.{answers, answer_with, feed, given}
 use Rattle.i2c_outside.specs.declared.device.DeviceState.{DeviceState}
-use Rattle.i2c_outside.specs.declared.device.DeviceState.TheVariants.{Regs}
+use Rattle.i2c_outside.specs.declared.device.DeviceState.TheVariants.{Regs, Silent}
 use Rattle.i2c_outside.specs.Devices.{target_state, device_table, device_after, device_answer}
 
 pub state_after_is : (d : DeviceState) (e : Event) → state_after (target_state d) e ≡ target_state (device_after d e)
 state_after_is (Regs x) e = refl
+state_after_is Silent e = refl
 
 pub state_answer_is : (d : DeviceState) (e : Event) → state_answer (target_state d) e ≡ device_answer d e
 state_answer_is (Regs x) e = refl
+state_answer_is Silent e = refl
 
 given-state : (e : Option Event) (d : DeviceState) → given state_table e (target_state d) ≡ target_state (given device_table e d)
 given-state None d = refl

@@ -1,13 +1,8 @@
 -- The world of a root as the program has it: the targets by their numbers, and the place of each.
-use Rattle.std.specs.Prelude.{◌≡◌, ℕ, IsTrue, All, List, map, length}
+use Rattle.std.specs.Prelude.{◌≡◌, ℕ, List, map, length}
 use Rattle.i2c_base.specs.Board.{BoardView}
 use Rattle.i2c_spec.specs.Plain.{IsPlainBoard}
-use Rattle.i2c_outside.specs.Registers.{is_regs}
 use Rattle.i2c_physics.specs.Places.{PlaceView, mux_place, device_place}
-
--- the devices of the board are all register devices
-pub record IsSimBoard (b : BoardView) : Type 0 where
-  pub kinds : All (λ d. IsTrue (is_regs d.kind)) b.devices
 
 -- there is a chip for each mux of the board, and a device for each device, and each has its place
 pub record IsSimWorld (b : BoardView) (root : ℕ) (muxes devices : List PlaceView) (chip_count device_count : ℕ) : Type 0 where

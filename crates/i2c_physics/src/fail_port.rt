@@ -5,7 +5,6 @@ ghost use Rattle.i2c_base.specs.declared.port.PortCall.TheVariants as call;
 ghost use Rattle.i2c_spec.specs.World.{answer, takes, gives};
 ghost use Rattle.i2c_outside.specs.LineCalls.{HasLine};
 ghost use Rattle.i2c_physics.specs.FailPorts.{fails_next, said, after_next, faults_in, fails_on, opening_fails};
-ghost use Rattle.i2c_physics.specs.SimWorlds.{IsSimBoard};
 
 use crate::SimPort;
 use crate::room::Returned;
@@ -39,7 +38,6 @@ impl FailPort {
         root: SegId,
         calls: &[(SegId, u32)],
     ) -> Result<Self, AllocError>
-        requires { IsSimBoard board.now }
         ensures { IfOk result (λ p. p ≡ opening_fails board.now calls.now root) }
     {
         Ok(FailPort {

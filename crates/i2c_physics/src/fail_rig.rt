@@ -6,10 +6,9 @@ ghost use Rattle.i2c_outside.specs.Causes.{counted};
 ghost use Rattle.i2c_outside.specs.Devices.{target_state};
 ghost use Rattle.i2c_physics.specs.FailPorts.{faults_in, opening_fails};
 ghost use Rattle.i2c_physics.specs.SimRigs.{no_board, kept_states, kept_logs};
-ghost use Rattle.i2c_physics.specs.SimWorlds.{IsSimBoard};
 
 use crate::FailPort;
-use crate::sim_rig::{SimRig, has_regs};
+use crate::sim_rig::SimRig;
 use i2c_base::{PortCall, SegId};
 use i2c_board::Accepted;
 use i2c_outside::{DeviceState, Rig, RigFail};
@@ -97,9 +96,9 @@ impl Rig for FailRig {
 
     ghost port_faults = { λ r. option_map_or (λ ports. map (λ p. faults_in p.port.log) ports.value.items) r.given [] };
 
-    /// It fails by a fault exactly where it is told to, or the board has a device of another kind.
+    /// It fails by a fault exactly where it is told to.
     fn plug(&mut self, alloc: Global, board: &Accepted) -> Result<Vec<FailPort>, RigFail>
-        ensures exact { result ≡ Err RigFail.Failed ↔ ((self.old.plug_fails ≡ true) ⊎ (¬ IsSimBoard board.now)) }
+        ensures exact { result ≡ Err RigFail.Failed ↔ (self.old.plug_fails ≡ true) }
         ensures ports { IfOk result (λ ports. ports.items ≡ map (opening_fails board.now self.old.calls.items) (range_with_len 0 (length board.now.roots))) }
         ensures board { IfOk result (λ _. self.new.sim.room ≡ Some board.now) }
         ensures unplugged { OnErr result (self.new.sim.room ≡ None) }
@@ -114,7 +113,7 @@ impl Rig for FailRig {
         ensures calm { result ≢ Err RigFail.Failed → self.new.sim.faults ≡ self.old.sim.faults }
     {
         self.sim.begin();
-        if self.plug_fails || !has_regs(board.board()) {
+        if self.plug_fails {
             return Err(self.sim.refuse());
         }
         let ports = open_ports(alloc, board, &self.calls)?;
@@ -145,7 +144,6 @@ fn open_ports(
     board: &Accepted,
     calls: &[(SegId, u32)],
 ) -> Result<Vec<FailPort>, AllocError>
-    requires { IsSimBoard board.now }
     ensures { IfOk result (λ ports. ports.items ≡ map (opening_fails board.now calls.now) (range_with_len 0 (length board.now.roots))) }
 {
     let count = board.board().roots().len() as u16;

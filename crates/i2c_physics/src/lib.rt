@@ -21,5 +21,5 @@ mod together;
 pub use fail_port::FailPort;
 pub use fail_rig::FailRig;
 pub use sim_port::SimPort;
-pub use sim_rig::{SimRig, has_regs};
+pub use sim_rig::SimRig;
 pub use sim_world::SimWorld;

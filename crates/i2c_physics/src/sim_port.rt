@@ -6,7 +6,6 @@ ghost use Rattle.i2c_base.specs.declared.port.PortCall.TheVariants as call;
 ghost use Rattle.i2c_spec.specs.World.{answer, takes, gives};
 ghost use Rattle.i2c_outside.specs.Devices.{target_state};
 ghost use Rattle.i2c_physics.specs.SimPorts.{opening_port, called};
-ghost use Rattle.i2c_physics.specs.SimWorlds.{IsSimBoard};
 
 use crate::phase;
 use crate::room::Returned;
@@ -45,7 +44,6 @@ const _: () = prove!(size_of::<PortCall>() <= 8);
 impl SimPort {
     /// The port of this root, in the root's opening world.
     pub(crate) fn open(alloc: Global, board: &Accepted, root: SegId) -> Result<Self, AllocError>
-        requires { IsSimBoard board.now }
         ensures { IfOk result (λ p. p ≡ opening_port board.now root) }
     {
         Ok(SimPort {

@@ -6,16 +6,15 @@ ghost use Rattle.i2c_outside.specs.Causes.{Rose, counted};
 ghost use Rattle.i2c_outside.specs.Devices.{target_state};
 ghost use Rattle.i2c_physics.specs.SimPorts.{opening_port};
 ghost use Rattle.i2c_physics.specs.SimRigs.{no_board, none_of, kept_states, kept_logs};
-ghost use Rattle.i2c_physics.specs.SimWorlds.{IsSimBoard};
 
 use crate::SimPort;
 use crate::room::{Kept, Returned, Room};
-use i2c_base::{DeviceKind, PortCall, SegId};
-use i2c_board::{Accepted, Board};
+use i2c_base::{PortCall, SegId};
+use i2c_board::Accepted;
 use i2c_outside::{DeviceState, Port, Rig, RigFail};
 use std::alloc::{AllocError, Global};
 
-/// The rig of the boards whose devices are all register devices. Its ports never fail.
+/// The rig of the simulated world. It takes every board, and its ports never fail.
 #[derive(Drop)]
 pub struct SimRig {
     faults: u64,
@@ -153,7 +152,7 @@ impl Rig for SimRig {
 
     ghost port_faults = { λ r. none_of r.given };
 
-    /// It fails by a fault exactly where the board has a device of another kind.
+    /// It never fails, but for want of memory.
     fn plug(&mut self, alloc: Global, board: &Accepted) -> Result<Vec<SimPort>, RigFail>
         ensures later { self.old.faults ≤ self.new.faults }
         ensures cause { result ≡ Err RigFail.Failed → Rose self.old.faults self.new.faults }
@@ -168,16 +167,12 @@ impl Rig for SimRig {
         ensures worlds { IfOk result (λ ports. map (λ p. p.world) ports.items ≡ openings board.now) }
         ensures board { OnOk result (unwrap_or self.new.room no_board ≡ board.now) }
 
-        // Which boards it takes, and what is counted.
-        ensures exact { result ≡ Err RigFail.Failed ↔ (¬ IsSimBoard board.now) }
-        ensures fault { result ≡ Err RigFail.Failed → self.new.faults ≡ counted self.old.faults }
-        ensures calm { result ≢ Err RigFail.Failed → self.new.faults ≡ self.old.faults }
+        // It takes every board, and counts no fault.
+        ensures never { result ≢ Err RigFail.Failed }
+        ensures calm { self.new.faults ≡ self.old.faults }
         ensures kept { self.new.kept ≡ None }
     {
         self.begin();
-        if !has_regs(board.board()) {
-            return Err(self.refuse());
-        }
         let ports = open_ports(alloc, board)?;
         self.hold(alloc, board)?;
         Ok(ports)
@@ -203,19 +198,8 @@ impl Rig for SimRig {
     }
 }
 
-/// The board's devices are all register devices.
-pub fn has_regs(board: &Board) -> bool
-    ensures { IsTrue result ↔ IsSimBoard board.now }
-{
-    board
-        .devices()
-        .iter()
-        .all(|device| matches!(&device.kind, DeviceKind::Regs { .. }))
-}
-
 /// The ports of the board's roots, in order.
 fn open_ports(alloc: Global, board: &Accepted) -> Result<Vec<SimPort>, AllocError>
-    requires { IsSimBoard board.now }
     ensures { IfOk result (λ ports. ports.items ≡ map (opening_port board.now) (range_with_len 0 (length board.now.roots))) }
 {
     let count = board.board().roots().len() as u16;

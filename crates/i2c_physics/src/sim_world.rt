@@ -10,10 +10,8 @@ ghost use Rattle.i2c_spec.specs.World as world;
 ghost use Rattle.i2c_physics.specs.Events.{is_node, chip_event, device_event, fed};
 ghost use Rattle.i2c_base.specs.declared.port.PortCall.TheVariants as call;
 ghost use Rattle.i2c_outside.specs.Devices.{target_state};
-ghost use Rattle.i2c_outside.specs.Registers.{is_regs};
 ghost use Rattle.i2c_physics.specs.Answering.{chips_say, devices_say};
 ghost use Rattle.i2c_physics.specs.Places.{event_if, event_for};
-ghost use Rattle.i2c_physics.specs.SimWorlds.{IsSimBoard};
 
 use crate::place::{Place, device_places, mux_places};
 use crate::together::{Together, answer_of, nodes, tell};
@@ -57,7 +55,6 @@ impl Model for SimWorld {
 impl SimWorld {
     /// The world of this root as it is opened.
     pub fn open(alloc: Global, board: &Accepted, root: SegId) -> Result<Self, AllocError>
-        requires { IsSimBoard board.now }
         ensures { IfOk result (λ w. w ≡ world.opening_world board.now root) }
     {
         let layout = board.board().layout();
@@ -217,7 +214,6 @@ fn open_chips(alloc: Global, muxes: &[MuxSpec]) -> Result<Vec<Chip>, AllocError>
 
 fn open_devices(alloc: Global, devices: &[DeviceSpec]) -> Result<Vec<DeviceState>, AllocError>
     requires plain { All IsPlainDevice devices.now }
-    requires regs { All (λ d. IsTrue (is_regs d.kind)) devices.now }
     ensures { IfOk result (λ states. map target_state states.items ≡ map opening_state devices.now) }
 {
     let mut states = Vec::with_capacity(alloc, devices.len())?;

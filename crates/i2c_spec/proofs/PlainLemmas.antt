@@ -1,6 +1,6 @@
 -- What the limits of a board say of the numbers of its buses. No induction of its own: the sum over the muxes is
 -- bounded by the library.
-use Rattle.std.proofs.Common.{zero, suc, [], ◌∷◌, option_map, slice_get, ℕ, ◌≡◌, ◌≤◌, List, Option, Some, None, subst, arith}
+use Rattle.std.proofs.Common.{zero, suc, [], ◌∷◌, option_map, slice_get, ℕ, ◌≡◌, ◌^◌, ◌≤◌, List, Option, Some, None, subst, arith}
 use Rattle.std.specs.List.{All}
 use Rattle.std.specs.Option.{unwrap_or}
 use Rattle.std.proofs.lemmas.List.Sums.{sum_by-le}
@@ -20,12 +20,19 @@ use Rattle.i2c_spec.specs.Plain.{IsPlainBoard, IsPlainMux, IsCount, FitsChannels
 pub channels_le : (k : MuxKind) (n : ℕ) → FitsChannels k n → n ≤ MOST_CHANNELS
 channels_le k n h = by_code (facts_of k).code (facts_fit k)
   where
+    few : (bit : ℕ) → bit ≤ 3 → 2 ^ bit ≤ MOST_CHANNELS
+    few zero p = omega arith
+    few (suc zero) p = omega arith
+    few (suc (suc zero)) p = omega arith
+    few (suc (suc (suc zero))) p = omega arith
+    few (suc (suc (suc (suc bit)))) p = absurd (omega arith)
+
     told : (o : Option ℕ) → (facts_of k).channels ≡ o → IsCount o n
     told o e = subst (λ (p : Option ℕ). IsCount p n) e h
 
     by_code : (c : ChannelCode) → FitsCode c (facts_of k) → n ≤ MOST_CHANNELS
     by_code Bits fits = (let f : n ≡ (facts_of k).bits = told (Some (facts_of k).bits) fits.0 in omega (arith, fits.1))
-    by_code Number fits = (let f : n ≡ 4 = told (Some 4) fits.0 in omega arith)
+    by_code (Number bit) fits = (let f : n ≡ 2 ^ bit = told (Some (2 ^ bit)) fits.0 in rw f (few bit fits.4))
     by_code Alone fits = (let f : n ≡ 1 = told (Some 1) fits.0 in omega arith)
     by_code Level fits = (told None fits.0).1
 

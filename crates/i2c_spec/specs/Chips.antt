@@ -29,7 +29,7 @@ bit_of byte i = (byte / 2 ^ i) % 2 == 1
 -- is this channel open at this control byte, or level
 abbrev pub opens_by : ChannelCode → ℕ → ℕ → Bool
 opens_by Bits control channel = bit_of control channel
-opens_by Number control channel = bit_of control 2 && (control % 4 == channel)
+opens_by (Number bit) control channel = bit_of control bit && (control % 2 ^ bit == channel)
 opens_by Alone control channel = (control == 1) && (channel == 0)
 opens_by Level control channel = control == channel + 1
 
@@ -105,7 +105,7 @@ chip_opening m = record { kind = m.kind; control = 0; waiting = None; left = m.f
 -- what selects a channel, and what closes a mux: the byte that is written, or the level of the line
 abbrev pub select_by : ChannelCode → ℕ → ℕ
 select_by Bits channel = 2 ^ channel
-select_by Number channel = 4 + channel
+select_by (Number bit) channel = 2 ^ bit + channel
 select_by Alone channel = 1
 select_by Level channel = channel + 1
 

@@ -25,7 +25,7 @@ fn select_byte(hop: &Hop) -> u8
 {
     match hop.kind.facts().code {
         ChannelCode::Bits => bit(hop.channel),
-        ChannelCode::Number => 4 + hop.channel as u8,
+        ChannelCode::Number(place) => bit(u16::from(place)) + hop.channel as u8,
         ChannelCode::Alone => 1,
         ChannelCode::Level => hop.channel as u8 + 1,
     }

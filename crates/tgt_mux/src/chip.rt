@@ -56,8 +56,8 @@ impl Chip {
     {
         match self.kind.facts().code {
             ChannelCode::Bits => has_bit(self.control, channel),
-            ChannelCode::Number => has_bit(self.control, 2)
-                && u16::from(self.control % 4) == channel,
+            ChannelCode::Number(bit) => has_bit(self.control, u16::from(bit))
+                && u16::from(low_bits(self.control, bit)) == channel,
             ChannelCode::Alone => self.control == 1 && channel == 0,
             ChannelCode::Level => u32::from(self.control) == u32::from(channel) + 1,
         }

@@ -74,15 +74,17 @@ opens_power x control channel is at =
       only = λ c e. bit_power channel c (ap (λ (n : ℕ). bit_of n c) (sym at) ∙ sym (is c) ∙ e);
     }
 
-mux_bits : (c : ℕ) → c < 4 → (bit_of ((4 + c) % 8) 2 ≡ true) × ((4 + c) % 8 % 4 ≡ c)
-mux_bits c below = by_case c below
-  where
-    by_case : (c : ℕ) → c < 4 → (bit_of ((4 + c) % 8) 2 ≡ true) × ((4 + c) % 8 % 4 ≡ c)
-    by_case zero p = (refl, refl)
-    by_case (suc zero) p = (refl, refl)
-    by_case (suc (suc zero)) p = (refl, refl)
-    by_case (suc (suc (suc zero))) p = (refl, refl)
-    by_case (suc (suc (suc (suc c)))) p = absurd (omega arith)
+-- a bit above the number of a channel, which has at most three bits
+mux_bits : (n c : ℕ) → n ≤ 3 → c < 2 ^ n → (bit_of ((2 ^ n + c) % 2 ^ suc n) n ≡ true) × ((2 ^ n + c) % 2 ^ suc n % 2 ^ n ≡ c)
+mux_bits zero c p below =
+    (let e : (1 + c) % 2 / 1 % 2 ≡ 1 = omega arith in ap (λ (k : ℕ). eqb k 1) e, let e : (1 + c) % 2 % 1 ≡ c = omega arith in e)
+mux_bits (suc zero) c p below =
+    (let e : (2 + c) % 4 / 2 % 2 ≡ 1 = omega arith in ap (λ (k : ℕ). eqb k 1) e, let e : (2 + c) % 4 % 2 ≡ c = omega arith in e)
+mux_bits (suc (suc zero)) c p below =
+    (let e : (4 + c) % 8 / 4 % 2 ≡ 1 = omega arith in ap (λ (k : ℕ). eqb k 1) e, let e : (4 + c) % 8 % 4 ≡ c = omega arith in e)
+mux_bits (suc (suc (suc zero))) c p below =
+    (let e : (8 + c) % 16 / 8 % 2 ≡ 1 = omega arith in ap (λ (k : ℕ). eqb k 1) e, let e : (8 + c) % 16 % 8 ≡ c = omega arith in e)
+mux_bits (suc (suc (suc (suc n)))) c p below = absurd (omega arith)
 
 -- what a byte makes of a chip, by the facts of its kind
 abbrev taken_by : (asks by_line : Bool) (bits : ℕ) → ChipView → ℕ → ChipView
@@ -112,14 +114,15 @@ module _ (k : MuxKind) (x : ChipView) (channel : ℕ) (kind : x.kind ≡ k) wher
       let y : ChipView = record x { control = 2 ^ channel % 2 ^ bits; waiting = None } in
       subst (λ (z : ChipView). OpensOne z channel) (sym (taken_at Bits false false bits at fits.3 fits.2 refl))
       (opens_power y (2 ^ channel % 2 ^ bits) channel (opens_at Bits at (2 ^ channel % 2 ^ bits)) (kept_power channel bits (below bits fits.0 has)))
-  select_by_code Number at fits line has free =
-      let bits = mux_bits channel (below 4 fits.0 has) in
-      subst (λ (z : ChipView). OpensOne z channel) (sym (taken_at Number false false 3 at fits.3 fits.2 fits.1))
+  select_by_code (Number n) at fits line has free =
+      let control = (2 ^ n + channel) % 2 ^ suc n in
+      let bits = mux_bits n channel fits.4 (below (2 ^ n) fits.0 has) in
+      subst (λ (z : ChipView). OpensOne z channel) (sym (taken_at (Number n) false false (suc n) at fits.3 fits.2 fits.1))
       (record {
-        opened = opens_at Number at ((4 + channel) % 8) channel
-            ∙ ap (λ (t : Bool). t && eqb ((4 + channel) % 8 % 4) channel) bits.0 ∙ eq-eqb ((4 + channel) % 8 % 4) channel bits.1;
-        only = λ c e. sym bits.1 ∙ eqb-true ((4 + channel) % 8 % 4) c
-            (and_right (bit_of ((4 + channel) % 8) 2) (eqb ((4 + channel) % 8 % 4) c) (sym (opens_at Number at ((4 + channel) % 8) c) ∙ e));
+        opened = opens_at (Number n) at control channel
+            ∙ ap (λ (t : Bool). t && eqb (control % 2 ^ n) channel) bits.0 ∙ eq-eqb (control % 2 ^ n) channel bits.1;
+        only = λ c e. sym bits.1 ∙ eqb-true (control % 2 ^ n) c
+            (and_right (bit_of control n) (eqb (control % 2 ^ n) c) (sym (opens_at (Number n) at control c) ∙ e));
       })
   select_by_code Alone at fits line has free =
       let y : ChipView = record x { control = 1; waiting = None } in
@@ -139,7 +142,7 @@ select_opens k x channel kind line has free = select_by_code k x channel kind (f
 -- CLOSES: no channel is open
 pub shut_at_zero : (code : ChannelCode) (c : ℕ) → opens_by code 0 c ≡ false
 shut_at_zero Bits c = bit_zero c
-shut_at_zero Number c = refl
+shut_at_zero (Number n) c = ap (λ (t : Bool). t && eqb (0 % 2 ^ n) c) (bit_zero n)
 shut_at_zero Alone c = refl
 shut_at_zero Level c = eqb-apart 0 (c + 1) (λ e. absurd (omega arith))
 
