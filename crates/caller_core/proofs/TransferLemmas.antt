@@ -28,7 +28,7 @@ transfer_fits (cmd.Get bus addr reg) h =
       each = All-cons IsMessage (written addr 1) (plain_read addr 1 ∷ []) (is_written addr) (All-cons IsMessage (plain_read addr 1) [] (is_plain_read addr) (All-nil IsMessage));
       size = omega arith;
       written = refl;
-      bytes = All-cons IsByte reg [] h.3 (All-nil IsByte);
+      bytes = All-cons IsByte reg [] h.2 (All-nil IsByte);
     }
 
 -- and has messages
