@@ -1,7 +1,8 @@
 ghost use Rattle.std.specs.Prelude.{◌≡◌, map, string_bytes, IfOk};
 
-use crate::rig::CountingRig;
+use i2c_base::SegId;
 use i2c_outside::{MapShelf, OpenGate, VecSink};
+use i2c_physics::FailRig;
 use i2c_top::{Status, top};
 use std::alloc::{AllocError, Global};
 use std::collections::BTreeMap;
@@ -19,6 +20,8 @@ pub struct Case {
     pub writes: Vec<u32>,
     pub room: usize,
     pub is_stuck: bool,
+    /// The calls on the ports, by root and number.
+    pub fails: Vec<(SegId, u32)>,
 }
 
 /// A call that was made, and what it left.
@@ -28,7 +31,7 @@ pub struct Called {
     pub status: Status,
     pub shelf: MapShelf,
     pub sink: VecSink,
-    pub rig: CountingRig,
+    pub rig: FailRig,
 }
 
 impl Case {
@@ -39,14 +42,16 @@ impl Case {
             writes: Vec::new(alloc),
             room: 4096,
             is_stuck: false,
+            fails: Vec::new(alloc),
         }
     }
 
-    /// Sets the reads or the writes that fail, the room, or else that the rig is stuck.
+    /// Sets the reads, the writes or the calls on ports that fail, the room, or else that the rig is stuck.
     pub fn set(&mut self, alloc: Global, what: &str, value: &str) -> io::Result<()> {
         match what {
             "reads" => self.reads = numbers_of(alloc, value)?,
             "writes" => self.writes = numbers_of(alloc, value)?,
+            "fails" => self.fails = calls_of(alloc, value)?,
             "room" => self.room = number_of(value)? as usize,
             _ => self.is_stuck = true,
         }
@@ -75,6 +80,17 @@ fn numbers_of(alloc: Global, text: &str) -> io::Result<Vec<u32>> {
         numbers.push(number_of(word)?)?;
     }
     Ok(numbers)
+}
+
+// The calls on ports that words name, each by its root and number with a point between them.
+fn calls_of(alloc: Global, text: &str) -> io::Result<Vec<(SegId, u32)>> {
+    let mut calls = Vec::new(alloc);
+    for word in text.split_whitespace() {
+        let (root, number) = word.split_once('.').unwrap_or(("", word));
+        let root = root.parse().map_err(|_| io::Error::other("no root"))?;
+        calls.push((SegId(root), number_of(number)?))?;
+    }
+    Ok(calls)
 }
 
 // The same words again.
@@ -113,7 +129,10 @@ pub fn call<H: Threads + Wait + Sync>(
     let Ok(mut sink) = VecSink::open(alloc, case.room, writes) else {
         return Err(AllocError);
     };
-    let mut rig = CountingRig::new(case.is_stuck);
+    let mut rig = FailRig::new(
+        case.is_stuck,
+        Vec::from_slice(alloc, case.fails.as_slice())?,
+    );
     let status = top(
         rt,
         alloc,

@@ -6,6 +6,7 @@
 //! - `reads N..` and `writes N..`: the reads and the writes that fail, from 0
 //! - `room N`: the output has room for so many bytes
 //! - `stuck`: the rig is never plugged
+//! - `fails ROOT.NUMBER..`: the calls on the ports that fail, from 0 on each root
 //! - `call WORD..`: calls the top with these words, and prints the status, what was written, each count of faults that
 //!   isn't 0, and how often the rig was plugged and unplugged
 //! - `fronts`: makes the call again for each smaller output, and prints whether each time it ends with one fault of
@@ -36,7 +37,6 @@ mod chips;
 mod entries;
 mod locks;
 mod mute;
-mod rig;
 mod show;
 mod table;
 mod transfers;

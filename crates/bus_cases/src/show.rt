@@ -45,10 +45,11 @@ pub fn print_called(rt: &impl Print, called: &Called) -> io::Result<()> {
     print_text(rt, written)?;
     print_shelf(rt, called)?;
     print_faults(rt, "the output", called.sink.faults())?;
-    print_faults(rt, "the rig", called.rig.faults)?;
+    print_faults(rt, "the rig", called.rig.faults())?;
     println!(rt;
         "plugs {}, unplugs {}",
-        called.rig.plugs, called.rig.unplugs
+        called.rig.plugs(),
+        called.rig.unplugs()
     )
 }
 
@@ -73,7 +74,7 @@ fn call_text(alloc: Global, call: PortCall) -> Result<String, AllocError> {
 
 /// The calls on each port.
 pub fn print_calls(rt: &impl Print, alloc: Global, called: &Called) -> io::Result<()> {
-    for (port, calls) in called.rig.sim.logs().iter().enumerate() {
+    for (port, calls) in called.rig.logs().iter().enumerate() {
         println!(rt; "port {port}")?;
         for call in calls.iter() {
             println!(rt; "  {}", call_text(alloc, *call)?)?;
@@ -111,7 +112,7 @@ pub fn print_answers(
     device: usize,
     events: &[String],
 ) -> io::Result<()> {
-    let Some(state) = called.rig.sim.states().get(device) else {
+    let Some(state) = called.rig.states().get(device) else {
         return println!(rt; "no device {device}");
     };
     let mut state = state.copied();

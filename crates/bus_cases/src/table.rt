@@ -80,7 +80,7 @@ impl Table {
                 self.called = None;
                 println!(rt; "== {rest}")
             }
-            "reads" | "writes" | "room" | "stuck" => self.case.set(alloc, command, rest),
+            "reads" | "writes" | "fails" | "room" | "stuck" => self.case.set(alloc, command, rest),
             "call" => self.call(rt, alloc, rest),
             "mute" => print_mute(rt),
             "locks" => print_locks(rt, alloc),
