@@ -8,5 +8,7 @@ pub mod world
 pub mod walk
 -- What every stepwise past keeps.
 pub mod past
+-- The steps of a journal, and the schedule that it follows.
+pub mod schedule
 -- The devices law: one message over a root's world and over the flat world.
 pub mod device

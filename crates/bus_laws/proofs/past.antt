@@ -10,3 +10,7 @@ pub mod Whole
 pub mod Placed
 pub mod Ready
 pub mod Next
+pub mod NextLine
+pub mod Others
+pub mod Stays
+pub mod Known

@@ -11,6 +11,12 @@ pub mod Calls
 pub mod Jobs
 pub mod Ready
 pub mod Costs
+-- The locks of a walk by memory alone, what a journal tells of one caller, who waits, and what may come.
+pub mod Holds
+pub mod Others
+pub mod Waiting
+pub mod Coming
+pub mod Following
 -- The devices of a root's world and of the flat world.
 pub mod Alike
 -- What is known of the step that comes next.

@@ -1,10 +1,11 @@
 -- What is known of a caller's next step before it is made, and of the steps that it has made.
-use Rattle.std.specs.Prelude.{◌≡◌, ℕ, ◌<◌, Bool, List, Option, Some, None, is_some, slice_get, if◌then◌else◌}
+use Rattle.std.specs.Prelude.{◌≡◌, ℕ, ◌<◌, ◌≤◌, Bool, List, Option, Some, None, is_some, slice_get, if◌then◌else◌}
 use Rattle.i2c_base.specs.declared.ids.Node.{Node}
 use Rattle.i2c_base.specs.declared.ids.Node.TheVariants as node
+use Rattle.i2c_base.specs.declared.board.MuxKind.TheVariants.{Gpio}
 use Rattle.i2c_base.specs.Board.{BoardView}
 use Rattle.i2c_base.specs.Transfer.{TransferView}
-use Rattle.i2c_spec.specs.Tree.{buses, root_of, addr_of_mux, is_absent}
+use Rattle.i2c_spec.specs.Tree.{buses, root_of, of_mux, home_of_mux, addr_of_mux, is_absent}
 use Rattle.i2c_spec.specs.Messages.{MessageView, messages_of}
 use Rattle.i2c_spec.specs.World.{World, has_heard, hearers, answer}
 use Rattle.i2c_spec.specs.Flat.{refusal, granted_on}
@@ -49,3 +50,9 @@ pub record WillSwitch (b : BoardView) (n : Now) (job : Job) (left m : ℕ) : Typ
   pub heard : hearers (n.worlds (root_of b (job_bus job))) (message_of b job left).addr (message_of b job left).reading ≡ heard_list (chip_where b m)
   -- the answer of the start tells whether it does
   pub answered : has_heard (answer (n.worlds (root_of b (job_bus job))) (message_of b job left).addr (message_of b job left).reading) ≡ is_some (chip_where b m)
+
+-- a line step that comes next is of a gpio mux behind this root, to one of its own levels
+pub record HasLineIn (b : BoardView) (root m level : ℕ) : Type 0 where
+  pub is_gpio : of_mux (λ x. Some x.kind) None b m ≡ Some Gpio
+  pub on_root : root_of b (home_of_mux b m) ≡ root
+  pub within : level ≤ of_mux (λ x. x.channels) 0 b m

@@ -3,15 +3,16 @@ ghost use Rattle.i2c_base.specs.declared.ids.LockId.{LockId};
 ghost use Rattle.i2c_base.specs.Board.{BoardView};
 ghost use Rattle.i2c_base.specs.declared.entry.Entry.{Entry};
 ghost use Rattle.i2c_base.specs.declared.entry.Purpose.TheVariants as purpose;
+ghost use Rattle.i2c_spec.specs.Tree.{root_of};
 ghost use Rattle.i2c_spec.specs.Plain.{IsPlainBoard};
 ghost use Rattle.i2c_spec.specs.Rules.{MeetsRules};
 ghost use Rattle.i2c_spec.specs.Messages.{MessageView};
 ghost use Rattle.i2c_spec.specs.History.{Asks};
-ghost use Rattle.bus_spec.specs.Walk.{Job, Call, Take, Send, job_purpose};
+ghost use Rattle.bus_spec.specs.Walk.{Job, Call, Take, Send, Shift, job_bus, job_purpose, line_mux, line_level};
 ghost use Rattle.bus_spec.specs.Past.{now};
 ghost use Rattle.bus_spec.specs.Stepwise.{IsBelow, IsNext, IsStepwise};
 ghost use Rattle.bus_laws.specs.Reach.{AsksForMessages};
-ghost use Rattle.bus_laws.specs.Next.{WillReach, WillSwitch};
+ghost use Rattle.bus_laws.specs.Next.{HasLineIn, WillReach, WillSwitch};
 
 use i2c_spec::an_accepted_board_is_a_tree;
 
@@ -47,6 +48,17 @@ pub fn the_next_lock_has_a_lower_rank()
         → (c : ℕ) (l : LockId) → IsNext b asks (now b asks past) c (Take l) → IsBelow b l ((now b asks past).held c) }
     ensures sole { (b : BoardView) (asks : Asks) (past : List Entry) → IsPlainBoard b → MeetsRules b → AsksForMessages asks → IsStepwise b 1 asks past
         → (l : LockId) → IsNext b asks (now b asks past) 0 (Take l) → (now b asks past).holder l ≡ None }
+{
+    an_accepted_board_is_a_tree();
+}
+
+/// A line step that comes next is of a gpio mux behind its root, to one of the levels of that mux.
+///
+/// On a board that isn't accepted, for a transfer without a message, or behind entries that might not come, a walk could
+/// close a mux that the board lacks.
+pub fn the_next_line_is_of_a_gpio_mux()
+    ensures { (b : BoardView) (callers : ℕ) (asks : Asks) (past : List Entry) → IsPlainBoard b → MeetsRules b → AsksForMessages asks → IsStepwise b callers asks past
+        → (c : ℕ) (job : Job) → IsNext b asks (now b asks past) c (Shift job) → HasLineIn b (root_of b (job_bus job)) (line_mux job) (line_level job) }
 {
     an_accepted_board_is_a_tree();
 }

@@ -5,6 +5,7 @@ ghost use Rattle.bus_spec.specs.Slots.{Slots};
 ghost use Rattle.bus_spec.specs.Grammar.{walk_for};
 ghost use Rattle.bus_laws.specs.Lines.{LinesAreLocked};
 ghost use Rattle.bus_laws.specs.Runs.{Runs};
+ghost use Rattle.bus_laws.specs.Holds.{HoldsLocks};
 ghost use Rattle.bus_laws.specs.Settles.{Settles};
 ghost use Rattle.bus_laws.specs.Costs.{IsWithin};
 ghost use Rattle.bus_laws.specs.Jobs.{EachJob, IsJobOf};
@@ -48,3 +49,12 @@ pub fn each_walk_stays_on_its_root()
 {
     an_accepted_board_is_a_tree();
 }
+
+/// Each walk takes its locks in falling rank and frees them in reverse, each of them a lock of the board. At each message
+/// and line step it has the root's lock and the lock of each bus that a failure may mark, whatever its looks find and its
+/// steps give.
+///
+/// On a board that is no tree the locks of a path don't fall; and a line step below a mux-locked mux has no root's lock.
+pub fn each_walk_holds_its_locks()
+    ensures { (b : BoardView) → IsTree b → LinesAreLocked b → (t : TransferView) → HoldsLocks b [] (walk_for b t) }
+{}

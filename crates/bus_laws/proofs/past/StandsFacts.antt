@@ -14,6 +14,7 @@ use Rattle.bus_laws.specs.Runs.{InLocks, Runs}
 use Rattle.bus_laws.specs.Lines.{LinesAreLocked}
 use Rattle.bus_laws.specs.Reach.{AsksForMessages}
 use Rattle.bus_laws.specs.Stands.{CallerStands, Stands}
+use Rattle.bus_laws.specs.Others.{ahead}
 use Rattle.bus_laws.proofs.tree.Law.{walk-runs}
 
 -- the looks in front of a walk change nothing where what is looked at is known
@@ -25,33 +26,37 @@ runs_seen b whose held view slots agree (Look (MarkOf p) next) runs =
     (subst (λ (x : At). Runs b whose held view (next (mark_in x.slot))) (agree p runs.0) runs.1)
 runs_seen b whose held view slots agree (Then act note next) runs = runs
 
-over_ends : (w : WalkTree) → is_over w ≡ true → w ≡ Ends
+-- a walk that is over has ended
+pub over_ends : (w : WalkTree) → is_over w ≡ true → w ≡ Ends
 over_ends Ends e = refl
 over_ends (Look ask next) e = absurd (let f : false ≡ true = e in cc)
 over_ends (Then act note next) e = absurd (let f : false ≡ true = e in cc)
 
--- what a caller does next runs, from what is known
-pub current-stands : (b : BoardView) → IsTree b → LinesAreLocked b → (asks : Asks) → AsksForMessages asks → (n : Now) (c : ℕ) → Stands b n
-    → CallerStands b (n.held c) (current b asks n c) n.slot
-current-stands b tree lines asks some n c stands = by_over (is_over (n.walk c)) refl
+-- what is ahead of a caller runs, from what it knows
+pub ahead-stands : (b : BoardView) → IsTree b → LinesAreLocked b → (asks : Asks) → AsksForMessages asks → (n : Now) (c : ℕ) → Stands b n
+    → CallerStands b (n.held c) (ahead b asks n c) n.slot
+ahead-stands b tree lines asks some n c stands = by_over (is_over (n.walk c)) refl
   where
-    now : CallerStands b (n.held c) (n.walk c) n.slot
-    now = stands.callers c
+    was : CallerStands b (n.held c) (n.walk c) n.slot
+    was = stands.callers c
 
-    begin : n.held c ≡ [] → (o : Option TransferView) → asks c (n.settled c) ≡ o → CallerStands b (n.held c) (seen n.slot (begun b o)) n.slot
-    begin empty None e = record { whose = now.whose; view = n.slot; runs = empty; agree = λ p i. refl }
+    begin : n.held c ≡ [] → (o : Option TransferView) → asks c (n.settled c) ≡ o → CallerStands b (n.held c) (begun b o) n.slot
+    begin empty None e = record { whose = was.whose; view = n.slot; runs = empty; agree = λ p i. refl }
     begin empty (Some t) e =
         record {
           whose = t;
           view = n.slot;
-          runs = subst (λ (held : List LockId). Runs b t held n.slot (seen n.slot (walk_for b t))) (sym empty)
-              (runs_seen b t [] n.slot n.slot (λ p i. refl) (walk_for b t) (walk-runs b t tree lines (some c (n.settled c) t e) n.slot));
+          runs = subst (λ (held : List LockId). Runs b t held n.slot (walk_for b t)) (sym empty) (walk-runs b t tree lines (some c (n.settled c) t e) n.slot);
           agree = λ p i. refl;
         }
 
-    by_over : (t : Bool) → is_over (n.walk c) ≡ t
-        → CallerStands b (n.held c) (seen n.slot (cond t (begun b (asks c (n.settled c))) (n.walk c))) n.slot
-    by_over true e =
-        begin (subst (λ (w : WalkTree). Runs b now.whose (n.held c) now.view w) (over_ends (n.walk c) e) now.runs) (asks c (n.settled c)) refl
-    by_over false e =
-        record { whose = now.whose; view = now.view; runs = runs_seen b now.whose (n.held c) now.view n.slot now.agree (n.walk c) now.runs; agree = now.agree }
+    by_over : (t : Bool) → is_over (n.walk c) ≡ t → CallerStands b (n.held c) (cond t (begun b (asks c (n.settled c))) (n.walk c)) n.slot
+    by_over true e = begin (subst (λ (w : WalkTree). Runs b was.whose (n.held c) was.view w) (over_ends (n.walk c) e) was.runs) (asks c (n.settled c)) refl
+    by_over false e = was
+
+-- what a caller does next runs, from what is known
+pub current-stands : (b : BoardView) → IsTree b → LinesAreLocked b → (asks : Asks) → AsksForMessages asks → (n : Now) (c : ℕ) → Stands b n
+    → CallerStands b (n.held c) (current b asks n c) n.slot
+current-stands b tree lines asks some n c stands =
+    let was = ahead-stands b tree lines asks some n c stands in
+    record { whose = was.whose; view = was.view; runs = runs_seen b was.whose (n.held c) was.view n.slot was.agree (ahead b asks n c) was.runs; agree = was.agree }

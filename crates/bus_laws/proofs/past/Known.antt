@@ -1,0 +1,49 @@
+-- Who asks for nothing never steps. The induction goes over the past.
+use Rattle.std.proofs.Common.{◌≡◌, ℕ, ◌<◌, ◌≤◌, List, [], ◌∷◌, Some, None, refl, sym, ◌∙◌, ap, arith, inl, inr}
+use Rattle.std.proofs.lemmas.Bool.Decides.{leb_tells}
+use Rattle.i2c_base.specs.declared.entry.Entry.{Entry}
+use Rattle.i2c_base.specs.declared.entry.Entry.TheVariants as entry
+use Rattle.i2c_base.specs.declared.reply.Reply.{Reply}
+use Rattle.i2c_base.specs.Board.{BoardView}
+use Rattle.i2c_spec.specs.History.{Asks}
+use Rattle.bus_spec.specs.Walk.{Act, Take, Free, Send, Shift, Settle, WalkTree, Ends}
+use Rattle.bus_spec.specs.Grammar.{first_act, seen}
+use Rattle.bus_spec.specs.Readings.{caller_of}
+use Rattle.bus_spec.specs.Past.{Now, begun, current, now, step}
+use Rattle.bus_spec.specs.Stepwise.{May, IsStepwise}
+use Rattle.bus_laws.specs.Others.{ahead, CallerTold}
+use Rattle.bus_laws.proofs.past.Others.{others-stay}
+
+-- an entry that may come is of a caller with a next step
+pub next_act : (b : BoardView) (callers : ℕ) (asks : Asks) (n : Now) (e : Entry) → May b callers asks n e → (act : Act) × (first_act (current b asks n (caller_of e)) ≡ Some act)
+next_act b callers asks n (entry.Take c l) may = (Take l, may.2)
+next_act b callers asks n (entry.Free c l) may = (Free l, may.2)
+next_act b callers asks n (entry.Message c bus why part parts addr reading bytes heard e) may = (Send may.2.0 may.2.1, may.2.2)
+next_act b callers asks n (entry.Line c mux level failed) may = (Shift may.2.0, may.2.1)
+next_act b callers asks n (entry.Settle c r cut) may = (Settle may.2, may.3)
+
+may_below : (b : BoardView) (callers fewer : ℕ) (asks : Asks) (n : Now) (e : Entry) → caller_of e < fewer → May b callers asks n e → May b fewer asks n e
+may_below b callers fewer asks n (entry.Take c l) low may = (low, may.1, may.2, may.3, may.4)
+may_below b callers fewer asks n (entry.Free c l) low may = (low, may.1, may.2)
+may_below b callers fewer asks n (entry.Message c bus why part parts addr reading bytes heard e) low may = (low, may.1, may.2)
+may_below b callers fewer asks n (entry.Line c mux level failed) low may = (low, may.1, may.2)
+may_below b callers fewer asks n (entry.Settle c r cut) low may = (low, may.1, may.2, may.3, may.4, may.5)
+
+module _ (b : BoardView) (callers fewer : ℕ) (asks : Asks) (silent : (d : ℕ) → fewer ≤ d → (rs : List Reply) → asks d rs ≡ None) where
+  pub callers-known : (past : List Entry) → IsStepwise b callers asks past → IsStepwise b fewer asks past × ((d : ℕ) → fewer ≤ d → ahead b asks (now b asks past) d ≡ Ends)
+  callers-known [] steps = (tt, λ d high. ap (begun b) (silent d high []))
+  callers-known (e ∷ past) steps =
+      let was = callers-known past steps.1 in
+      let n : Now = now b asks past in
+      elim (leb_tells fewer (caller_of e)) [
+        | inl h ↦ (let act = next_act b callers asks n e steps.0 in
+            let none : first_act (current b asks n (caller_of e)) ≡ None = ap (λ (w : WalkTree). first_act (seen n.slot w)) (was.1 (caller_of e) h.1) in
+            absurd (let f : None ≡ Some act.0 = sym none ∙ act.1 in cc))
+        | inr h ↦ (
+          (may_below b callers fewer asks n e (omega (arith, h.1)) steps.0, was.0),
+          (λ d high.
+              let told : CallerTold b asks (step b asks n e) d (ahead b asks n d) (n.settled d) (n.got d) (n.cut d) =
+              others-stay b asks n e d (ahead b asks n d) (n.settled d) (n.got d) (n.cut d) (λ same. omega (arith, same, high, h.1)) (record { walk = refl; settled = refl; got_is = refl; cut_is = refl }) in
+              told.walk ∙ was.1 d high),
+        )
+      ]

@@ -1,0 +1,53 @@
+-- A line step that comes next is of a gpio mux on that root, to a level that it has. No induction.
+use Rattle.std.proofs.Common.{◌≡◌, ℕ, ◌<◌, ◌≤◌, true, false, zero, Some, refl, sym, ◌∙◌, ap, subst, arith}
+use Rattle.i2c_base.specs.declared.board.MuxKind.{MuxKind}
+use Rattle.i2c_base.specs.declared.board.MuxKind.TheVariants as mux_kind
+use Rattle.i2c_base.specs.Board.{BoardView}
+use Rattle.i2c_spec.specs.Tree.{root_of, of_mux}
+use Rattle.i2c_spec.specs.TreeFacts.{IsTree, IsHop}
+use Rattle.i2c_spec.specs.History.{Asks}
+use Rattle.bus_spec.specs.Walk.{Job, Call, Select, Clear, Shift, WalkTree, Then, job_bus, is_line, is_gpio, line_mux, line_level}
+use Rattle.bus_spec.specs.Slots.{Slots}
+use Rattle.bus_spec.specs.Grammar.{first_act}
+use Rattle.bus_spec.specs.Past.{Now, current}
+use Rattle.bus_laws.specs.Lines.{LinesAreLocked}
+use Rattle.bus_laws.specs.Reach.{AsksForMessages}
+use Rattle.bus_laws.specs.Runs.{Runs, Finds}
+use Rattle.bus_laws.specs.Stands.{Stands}
+use Rattle.bus_laws.proofs.past.StandsFacts.{current-stands}
+use Rattle.bus_laws.proofs.past.StandsEntries.{first_is}
+use Rattle.bus_laws.specs.Next.{HasLineIn}
+
+gpio_only : (k : MuxKind) → is_gpio k ≡ true → k ≡ mux_kind.Gpio
+gpio_only mux_kind.Gpio e = refl
+gpio_only mux_kind.Pca9548 e = absurd (let f : false ≡ true = e in cc)
+gpio_only mux_kind.Pca9546 e = absurd (let f : false ≡ true = e in cc)
+gpio_only mux_kind.Pca9544 e = absurd (let f : false ≡ true = e in cc)
+gpio_only mux_kind.Pca9541 e = absurd (let f : false ≡ true = e in cc)
+
+module _ (b : BoardView) (tree : IsTree b) where
+  line_fits : (job : Job) (v : Slots) → is_line job ≡ true → Finds b job zero v → HasLineIn b (root_of b (job_bus job)) (line_mux job) (line_level job)
+  line_fits (Call bus messages) v is finds = absurd (let f : false ≡ true = is in cc)
+  line_fits (Clear on mux kind) v is finds =
+      record {
+        is_gpio = finds.2 ∙ ap (λ (k : MuxKind). Some k) (gpio_only kind is);
+        on_root = ap (root_of b) finds.1;
+        within = omega arith;
+      }
+  line_fits (Select h) v is finds =
+      let hop : IsHop b h = tree.hop h.bus h finds.1 in
+      let gpio : h.kind ≡ mux_kind.Gpio = gpio_only h.kind is in
+      let low : h.channel < of_mux (λ m. m.channels) 0 b h.mux = tree.within h.bus h finds.2 finds.1 in
+      record {
+        is_gpio = hop.kind ∙ ap (λ (k : MuxKind). Some k) gpio;
+        on_root = ap (root_of b) hop.home;
+        within = subst (λ (k : MuxKind). line_level (Select (record h { kind = k })) ≤ of_mux (λ m. m.channels) 0 b h.mux) (sym gpio) (omega (arith, low));
+      }
+
+  pub next-line : LinesAreLocked b → (asks : Asks) → AsksForMessages asks → (n : Now) → Stands b n → (c : ℕ) (job : Job) → first_act (current b asks n c) ≡ Some (Shift job)
+      → HasLineIn b (root_of b (job_bus job)) (line_mux job) (line_level job)
+  next-line lines asks some n stands c job first =
+      let cur = current-stands b tree lines asks some n c stands in
+      let at = first_is (current b asks n c) (Shift job) first in
+      let runs : Runs b cur.whose (n.held c) cur.view (Then (Shift job) at.0 at.1) = subst (λ (w : WalkTree). Runs b cur.whose (n.held c) cur.view w) at.2 cur.runs in
+      line_fits job cur.view runs.0.by_line runs.0.finds

@@ -1,0 +1,328 @@
+-- The locks of a whole walk. The inductions go over the messages of a job, over the locks of a path, and over its hops.
+use Rattle.std.proofs.Common.{◌≡◌, ℕ, zero, suc, ◌+◌, ◌<◌, ◌≤◌, Bool, true, false, cond, ◌&&◌, List, [], ◌∷◌, length, Option, Some, None, refl, sym, ◌∙◌, ap, subst, ◌⊎◌, inl, inr, arith, add-one}
+use Rattle.std.specs.Prelude.{unwrap_or}
+use Rattle.std.specs.Option.{option_map}
+use Rattle.std.proofs.lemmas.Bool.{ltb-true}
+use Rattle.i2c_base.specs.declared.board.MuxSpec.{MuxSpec}
+use Rattle.i2c_base.specs.declared.board.MuxKind.TheVariants.{Pca9548}
+use Rattle.i2c_base.specs.declared.ids.LockId.{LockId}
+use Rattle.i2c_base.specs.declared.ids.LockId.TheVariants as lock
+use Rattle.i2c_base.specs.declared.errno.Errno.{Errno}
+use Rattle.i2c_base.specs.Board.{BoardView}
+use Rattle.i2c_base.specs.Transfer.{TransferView}
+use Rattle.i2c_spec.specs.Tree.{Hop, hops, buses, root_of, locks_of, home_of_mux, IsAmongHops}
+use Rattle.i2c_spec.specs.TreeFacts.{IsTree}
+use Rattle.i2c_spec.specs.Messages.{messages_of}
+use Rattle.i2c_spec.specs.Flat.{refusal}
+use Rattle.bus_spec.specs.Walk.{Mark, Job, Call, Select, Clear, Free, Send, Shift, ActOutcome, JobOutcome, Good, Refused, Unsent, Failed, Note, WalkTree, Ends, Then, Go, On, Last, Over, goes, job_bus, job_outcome, verdict_of, decides, is_line, is_gpio, more_of}
+use Rattle.bus_spec.specs.Grammar.{Doer, plain, settled, over, by_go, messages, at_bus, locked, part, with_mark, aside, if_sent, if_good, kind_of, closing, opened, chosen, behind, inner, walk_by, walk_for}
+use Rattle.bus_spec.specs.Readings.{rank}
+use Rattle.bus_spec.specs.Stepwise.{IsBelow}
+use Rattle.bus_laws.specs.Runs.{InLocks}
+use Rattle.bus_laws.specs.Lines.{LinesAreLocked}
+use Rattle.bus_laws.proofs.world.BoardFacts.{mux_at}
+use Rattle.bus_laws.proofs.tree.Law.{refusal-none}
+use Rattle.bus_laws.proofs.tree.Path.{ground, sub_locks, bus_among}
+use Rattle.bus_laws.specs.Holds.{IsLockOf, IsMarkOn, OwnHeld, MarksHeld, SendsIn, HoldsLocks}
+
+-- what a job at the end of some hops needs: `ls` are the locks of these hops that are held, `floor` the least rank held
+record Before (b : BoardView) (root : ℕ) (hs : List Hop) (ls : List LockId) (floor : ℕ) (job : Job) (marks : List Mark) (held : List LockId) : Type 0 where
+  locks : (l : LockId) → InLocks l ls → InLocks l held
+  ranks : (l : LockId) → InLocks l held → floor ≤ rank b l
+  own : OwnHeld job held
+  marked : MarksHeld b marks held
+  same_root : root_of b (job_bus job) ≡ root
+  line_rooted : is_line job ≡ true → InLocks (lock.Bus root) (locks_of root hs)
+
+abbrev DoerHolds : BoardView → ℕ → List Hop → List LockId → ℕ → Doer → Type 0
+DoerHolds b root hs ls floor on =
+    (job : Job) (note : Note) (k : JobOutcome → WalkTree) (held : List LockId) → Before b root hs ls floor job note.marks held
+    → ((o : JobOutcome) → HoldsLocks b held (k o)) → HoldsLocks b held (on job note k)
+
+module _ (b : BoardView) (held : List LockId) where
+  settled_holds : (x : Bool) (verdict : Option Errno) (w : WalkTree) → HoldsLocks b held w → HoldsLocks b held (settled x verdict w)
+  settled_holds true verdict w h = h
+  settled_holds false verdict w h = h
+
+  over_holds : (job : Job) (left : ℕ) (note : Note) (k : JobOutcome → WalkTree) → ((o : JobOutcome) → HoldsLocks b held (k o)) → (out : ActOutcome) → HoldsLocks b held (over job left note k out)
+  over_holds job left note k hk out =
+      settled_holds (note.forward && decides job (job_outcome job left out)) (verdict_of job left out) (k (job_outcome job left out)) (hk (job_outcome job left out))
+
+  go_holds : (g : Go) (x y z : WalkTree) → HoldsLocks b held x → HoldsLocks b held y → HoldsLocks b held z → HoldsLocks b held (by_go g x y z)
+  go_holds On x y z hx hy hz = hx
+  go_holds Last x y z hx hy hz = hy
+  go_holds Over x y z hx hy hz = hz
+
+  messages_hold : (left : ℕ) (job : Job) (note : Note) (k : JobOutcome → WalkTree) → SendsIn b job note.marks held → ((o : JobOutcome) → HoldsLocks b held (k o)) → HoldsLocks b held (messages left job note k)
+  messages_hold zero job note k sends hk = (sends, over_holds job zero note k hk)
+  messages_hold (suc left) job note k sends hk = (
+    sends,
+    λ out. go_holds (goes job left out) (messages left job note k) (Then (Send job zero) note (over job zero note k)) (over job (suc left) note k out)
+        (messages_hold left job note k sends hk) (sends, over_holds job zero note k hk) (over_holds job (suc left) note k hk out),
+  )
+
+  bus_holds : (job : Job) (note : Note) (k : JobOutcome → WalkTree) → SendsIn b job note.marks held → ((o : JobOutcome) → HoldsLocks b held (k o)) → HoldsLocks b held (at_bus job note k)
+  bus_holds job note k sends hk = by (is_line job)
+    where
+      by : (x : Bool) → HoldsLocks b held (cond x (Then (Shift job) note (over job zero note k)) (messages (more_of job) job note k))
+      by true = (sends, over_holds job zero note k hk)
+      by false = messages_hold (more_of job) job note k sends hk
+
+  sent_holds : (o : JobOutcome) (w : WalkTree) (k : JobOutcome → WalkTree) → HoldsLocks b held w → ((x : JobOutcome) → HoldsLocks b held (k x)) → HoldsLocks b held (if_sent o w k)
+  sent_holds Good w k hw hk = hw
+  sent_holds Refused w k hw hk = hw
+  sent_holds Unsent w k hw hk = hk Unsent
+  sent_holds Failed w k hw hk = hk Failed
+
+  good_holds : (o : JobOutcome) (w : WalkTree) (k : JobOutcome → WalkTree) → HoldsLocks b held w → ((x : JobOutcome) → HoldsLocks b held (k x)) → HoldsLocks b held (if_good o w k)
+  good_holds Good w k hw hk = hw
+  good_holds Refused w k hw hk = hk Unsent
+  good_holds Unsent w k hw hk = hk Unsent
+  good_holds Failed w k hw hk = hk Failed
+
+-- LOCKS: in falling rank, all below a floor; the floor that they leave
+abbrev Falls : BoardView → ℕ → List LockId → Type 0
+Falls b floor [] = Unit {0}
+Falls b floor (l ∷ ls) = IsLockOf b l × (rank b l < floor) × Falls b (rank b l) ls
+
+abbrev floor_after : BoardView → ℕ → List LockId → ℕ
+floor_after b floor [] = floor
+floor_after b floor (l ∷ ls) = floor_after b (rank b l) ls
+
+abbrev gathered : List LockId → List LockId → List LockId
+gathered [] got = got
+gathered (l ∷ ls) got = gathered ls (l ∷ got)
+
+in_gathered : (ls got : List LockId) (l : LockId) → InLocks l (gathered ls got) → InLocks l ls ⊎ InLocks l got
+in_gathered [] got l i = inr i
+in_gathered (k ∷ ks) got l i =
+    elim (in_gathered ks (k ∷ got) l i) [ inl more ↦ inl (inr more) | inr j ↦ elim j [ inl e ↦ inl (inl e) | inr old ↦ inr old ] ]
+
+below_all : (b : BoardView) (l : LockId) (held : List LockId) → ((k : LockId) → InLocks k held → rank b l < rank b k) → IsBelow b l held
+below_all b l [] all = tt
+below_all b l (k ∷ ks) all = (all k (inl refl), below_all b l ks (λ j i. all j (inr i)))
+
+own_more : (l : LockId) (job : Job) (held : List LockId) → OwnHeld job held → OwnHeld job (l ∷ held)
+own_more l (Call bus ms) held o = tt
+own_more l (Select h) held o = inr o
+own_more l (Clear on mux kind) held o = inr o
+
+marks_more : (b : BoardView) (l : LockId) (held : List LockId) (ms : List Mark) → MarksHeld b ms held → MarksHeld b ms (l ∷ held)
+marks_more b l held [] h = tt
+marks_more b l held (m ∷ ms) h = ((inr h.0.0, h.0.1), marks_more b l held ms h.1)
+
+module _ (b : BoardView) (root : ℕ) (hs : List Hop) where
+  -- the induction over the locks
+  take_holds : (ls got : List LockId) (floor : ℕ) (on : Doer) → Falls b floor ls → DoerHolds b root hs (gathered ls got) (floor_after b floor ls) on → DoerHolds b root hs got floor (locked ls on)
+  take_holds [] got floor on falls sub = sub
+  take_holds (l ∷ ls) got floor on falls sub =
+      λ job note k held before hk. (
+        falls.0,
+        below_all b l held (λ j i. let floor_j : floor ≤ rank b j = before.ranks j i in omega (arith, falls.1, floor_j)),
+        take_holds ls (l ∷ got) (rank b l) on falls.2 sub job note (λ out. Then (Free l) plain (λ o. k out)) (l ∷ held)
+            (record {
+              locks = λ j i. elim i [ inl e ↦ inl e | inr more ↦ inr (before.locks j more) ];
+              ranks = λ j i. elim i [
+                | inl e ↦ subst (λ (x : LockId). rank b l ≤ rank b x) (sym e) (omega arith)
+                | inr more ↦ (let floor_j : floor ≤ rank b j = before.ranks j more in omega (arith, falls.1, floor_j))
+              ];
+              own = own_more l job held before.own;
+              marked = marks_more b l held note.marks before.marked;
+              same_root = before.same_root;
+              line_rooted = before.line_rooted;
+            })
+            (λ o. (held, refl, hk o)),
+      )
+
+  fewer_locks : (ls ms : List LockId) (floor : ℕ) (on : Doer) → ((l : LockId) → InLocks l ls → InLocks l ms) → DoerHolds b root hs ls floor on → DoerHolds b root hs ms floor on
+  fewer_locks ls ms floor on there sub =
+      λ job note k held before hk.
+      sub job note k held
+      (record {
+        locks = λ l i. before.locks l (there l i);
+        ranks = before.ranks;
+        own = before.own;
+        marked = before.marked;
+        same_root = before.same_root;
+        line_rooted = before.line_rooted;
+      }) hk
+
+falls_if : (b : BoardView) (t : Bool) (floor : ℕ) (ls : List LockId) → Falls b floor ls → Falls b floor (cond t ls [])
+falls_if b true floor ls f = f
+falls_if b false floor ls f = tt
+
+floor_if : (b : BoardView) (t : Bool) (floor : ℕ) (ls : List LockId) (g : ℕ) → floor_after b floor ls ≡ g → floor_after b floor (cond t ls []) ≡ cond t g floor
+floor_if b true floor ls g e = e
+floor_if b false floor ls g e = refl
+
+module _ (b : BoardView) (tree : IsTree b) (root : ℕ) where
+  mux_rank : (s : ℕ) (h : Hop) (hs : List Hop) → hops b s ≡ h ∷ hs → rank b (lock.Mux h.on) ≡ length hs + 1
+  mux_rank s h hs at = ap (λ (xs : List Hop). length xs + 1) (tree.tail s h hs at)
+
+  path_falls : (hs : List Hop) (s floor : ℕ) → hops b s ≡ hs → s < buses b → root < length b.roots → length hs < floor → Falls b floor (locks_of root hs)
+  path_falls [] s floor at there rooted below = (rooted, below, tt)
+  path_falls (h ∷ hs) s floor at there rooted below =
+      let e : rank b (lock.Mux h.on) ≡ length hs + 1 = mux_rank s h hs at in
+      let low : h.on < s = (tree.leads s h hs at).1 in (
+        omega (arith, low, there),
+        omega (arith, e, below),
+        falls_if b h.parent (rank b (lock.Mux h.on)) (locks_of root hs)
+            (path_falls hs h.on (rank b (lock.Mux h.on)) (tree.tail s h hs at) (omega (arith, low, there)) rooted (omega (arith, e))),
+      )
+
+  path_floor : (hs : List Hop) (s floor : ℕ) → hops b s ≡ hs → floor_after b floor (locks_of root hs) ≡ ground hs
+  path_floor [] s floor at = refl
+  path_floor (h ∷ hs) s floor at =
+      floor_if b h.parent (rank b (lock.Mux h.on)) (locks_of root hs) (ground hs) (path_floor hs h.on (rank b (lock.Mux h.on)) (tree.tail s h hs at))
+      ∙ ap (λ (n : ℕ). cond h.parent (ground hs) n) (mux_rank s h hs at ∙ add-one (length hs))
+
+  locked_holds : (hs : List Hop) (s : ℕ) (on : Doer) → hops b s ≡ hs → s < buses b → root < length b.roots → DoerHolds b root hs (locks_of root hs) (ground hs) on
+      → DoerHolds b root hs [] (suc (length hs)) (locked (locks_of root hs) on)
+  locked_holds hs s on at there rooted sub =
+      take_holds b root hs (locks_of root hs) [] (suc (length hs)) on (path_falls hs s (suc (length hs)) at there rooted (omega arith))
+      (subst (λ (f : ℕ). DoerHolds b root hs (gathered (locks_of root hs) []) f on) (sym (path_floor hs s (suc (length hs)) at))
+      (fewer_locks b root hs (locks_of root hs) (gathered (locks_of root hs) []) (ground hs) on (λ l i. gathers (locks_of root hs) [] l (inl i)) sub))
+    where
+      gathers : (ls got : List LockId) (l : LockId) → InLocks l ls ⊎ InLocks l got → InLocks l (gathered ls got)
+      gathers [] got l i = elim i [ inl none ↦ absurd none | inr j ↦ j ]
+      gathers (k ∷ ks) got l i =
+          elim i [
+            | inl front ↦ elim front [ inl e ↦ gathers ks (k ∷ got) l (inr (inl e)) | inr more ↦ gathers ks (k ∷ got) l (inl more) ]
+            | inr j ↦ gathers ks (k ∷ got) l (inr (inr j))
+          ]
+
+  part_holds : (hs : List Hop) (s : ℕ) (on : Doer) → hops b s ≡ hs → s < buses b → root < length b.roots → DoerHolds b root hs (locks_of root hs) (ground hs) on
+      → (t : Bool) → DoerHolds b root hs (cond t (locks_of root hs) []) (cond t (ground hs) (suc (length hs))) (part t (locks_of root hs) on)
+  part_holds hs s on at there rooted sub true = sub
+  part_holds hs s on at there rooted sub false = locked_holds hs s on at there rooted sub
+
+  module _ (lines : LinesAreLocked b) where
+    -- a line step on the bus of a hop has the root's lock
+    line_lock : (h : Hop) (hs : List Hop) (m : ℕ) → hops b h.on ≡ hs → home_of_mux b m ≡ h.on → is_gpio (kind_of b m) ≡ true → InLocks (lock.Bus root) (locks_of root hs)
+    line_lock h hs m at home gpio =
+        bus_among root hs (λ g a. lines m g gpio (subst (λ (p : ℕ). IsAmongHops g (hops b p)) (sym home) (subst (λ (xs : List Hop). IsAmongHops g xs) (sym at) a)))
+
+    -- ONE HOP
+    module _ (h : Hop) (hs : List Hop) (s : ℕ) (at : hops b s ≡ h ∷ hs) (there : s < buses b) (same : root_of b s ≡ root) (floor : ℕ) (on : Doer)
+        (sub : DoerHolds b root hs (sub_locks root h hs) floor on) where
+      among : IsAmongHops h (hops b s)
+      among = subst (λ (xs : List Hop). IsAmongHops h xs) (sym at) (inl refl)
+
+      on_root : root_of b h.on ≡ root
+      on_root = tree.root_same s h among ∙ same
+
+      kind_is : kind_of b h.mux ≡ h.kind
+      kind_is =
+          let spec = mux_at b h.mux h.kind (tree.hop s h among).kind in
+          ap (λ (o : Option MuxSpec). unwrap_or (option_map (λ (x : MuxSpec). x.kind) o) Pca9548) spec.1 ∙ spec.2
+
+      home : home_of_mux b h.mux ≡ h.on
+      home = (tree.hop s h among).home
+
+      sub_if : (t : Bool) (l : LockId) → InLocks l (cond t (locks_of root hs) []) → InLocks l (lock.Mux h.on ∷ cond t (locks_of root hs) [])
+      sub_if t l i = inr i
+
+      -- a control job on the bus of the hop
+      module _ (held : List LockId) (locks : (l : LockId) → InLocks l (locks_of root (h ∷ hs)) → InLocks l held) (ranks : (l : LockId) → InLocks l held → floor ≤ rank b l) where
+        mine : InLocks (lock.Mux h.on) held
+        mine = locks (lock.Mux h.on) (inl refl)
+
+        switch : (job : Job) (marks : List Mark) → OwnHeld job held → job_bus job ≡ h.on → MarksHeld b marks held → (is_line job ≡ true → InLocks (lock.Bus root) (locks_of root hs))
+            → Before b root hs (sub_locks root h hs) floor job marks held
+        switch job marks own bus marked line =
+            record {
+              locks = λ l i. locks l (inr i);
+              ranks = ranks;
+              own = own;
+              marked = marked;
+              same_root = ap (root_of b) bus ∙ on_root;
+              line_rooted = line;
+            }
+
+        module _ (job : Job) (note : Note) (k : JobOutcome → WalkTree) (no_line : is_line job ≡ false) (own : OwnHeld job held) (marked : MarksHeld b note.marks held)
+            (job_root : root_of b (job_bus job) ≡ root) (hk : (o : JobOutcome) → HoldsLocks b held (k o)) where
+          job_before : Before b root hs (sub_locks root h hs) floor job note.marks held
+          job_before =
+              record {
+                locks = λ l i. locks l (inr i);
+                ranks = ranks;
+                own = own;
+                marked = marked;
+                same_root = job_root;
+                line_rooted = λ l. absurd (let f : false ≡ true = sym no_line ∙ l in cc);
+              }
+
+          opened_holds : HoldsLocks b held (opened h on job note k)
+          opened_holds =
+              sub job note (λ out. on (Clear h.on h.mux h.kind) (aside h) (λ o. k out)) held job_before
+              (λ out. sub (Clear h.on h.mux h.kind) (aside h) (λ o. k out) held
+              (switch (Clear h.on h.mux h.kind) (aside h).marks mine refl ((mine, home), tt) (λ l. line_lock h hs h.mux (tree.tail s h hs at) home (ap is_gpio kind_is ∙ l)))
+              (λ o. hk out))
+
+          chosen_holds : HoldsLocks b held (chosen h on job note k)
+          chosen_holds =
+              sub (Select h) (with_mark h.on h.mux note) (λ o. if_good o (opened h on job note k) k) held
+              (switch (Select h) (with_mark h.on h.mux note).marks mine refl ((mine, home), marked) (λ l. line_lock h hs h.mux (tree.tail s h hs at) home (ap is_gpio kind_is ∙ l)))
+              (λ o. good_holds b held o (opened h on job note k) k opened_holds hk)
+
+          closing_holds : (m : Option ℕ) → IsMarkOn b h.on m → HoldsLocks b held (closing b h on note k (chosen h on job note k) m)
+          closing_holds None is = chosen_holds
+          closing_holds (Some m) is =
+              sub (Clear h.on m (kind_of b m)) (with_mark h.on m note) (λ o. if_sent o (chosen h on job note k) k) held
+              (switch (Clear h.on m (kind_of b m)) (with_mark h.on m note).marks mine refl ((mine, is), marked) (λ l. line_lock h hs m (tree.tail s h hs at) is l))
+              (λ o. sent_holds b held o (chosen h on job note k) k chosen_holds hk)
+
+          behind_holds : HoldsLocks b held (behind b h on job note k)
+          behind_holds = (mine, closing_holds)
+
+    -- THE INDUCTION over the hops
+    inner_holds : (hs : List Hop) (s : ℕ) → hops b s ≡ hs → s < buses b → root_of b s ≡ root → root < length b.roots → DoerHolds b root hs (locks_of root hs) (ground hs) (inner b root hs)
+    inner_holds [] s at there same rooted =
+        λ job note k held before hk.
+        bus_holds b held job note k
+        (record { rooted = subst (λ (r : ℕ). InLocks (lock.Bus r) held) (sym before.same_root) (before.locks (lock.Bus root) (inl refl)); own = before.own; marked = before.marked }) hk
+    inner_holds (h ∷ hs) s at there same rooted =
+        λ job note k held before hk.
+        by job note k held before hk (is_line job) refl
+        (part_holds hs h.on (inner b root hs) (tree.tail s h hs at) low rooted
+        (inner_holds hs h.on (tree.tail s h hs at) low (tree.root_same s h (subst (λ (xs : List Hop). IsAmongHops h xs) (sym at) (inl refl)) ∙ same) rooted) h.parent)
+      where
+        low : h.on < buses b
+        low = (let less : h.on < s = (tree.leads s h hs at).1 in omega (arith, less, there))
+
+        by : (job : Job) (note : Note) (k : JobOutcome → WalkTree) (held : List LockId) → Before b root (h ∷ hs) (locks_of root (h ∷ hs)) (ground (h ∷ hs)) job note.marks held
+            → ((o : JobOutcome) → HoldsLocks b held (k o)) → (t : Bool) → is_line job ≡ t
+            → DoerHolds b root hs (sub_locks root h hs) (ground (h ∷ hs)) (part h.parent (locks_of root hs) (inner b root hs))
+            → HoldsLocks b held (cond t (at_bus job note k) (behind b h (part h.parent (locks_of root hs) (inner b root hs)) job note k))
+        by job note k held before hk true line sub =
+            bus_holds b held job note k
+            (record {
+              rooted = subst (λ (r : ℕ). InLocks (lock.Bus r) held) (sym before.same_root) (before.locks (lock.Bus root) (before.line_rooted line));
+              own = before.own;
+              marked = before.marked;
+            }) hk
+        by job note k held before hk false line sub =
+            behind_holds h hs s at there same (ground (h ∷ hs)) (part h.parent (locks_of root hs) (inner b root hs)) sub held before.locks before.ranks job note k line before.own before.marked
+            before.same_root hk
+
+-- the whole walk of a transfer holds no lock before it and behind it
+pub walk-holds : (b : BoardView) → IsTree b → LinesAreLocked b → (t : TransferView) → HoldsLocks b [] (walk_for b t)
+walk-holds b tree lines t = by (refusal b t) refl
+  where
+    by : (o : Option Errno) → refusal b t ≡ o → HoldsLocks b [] (walk_by b t o)
+    by (Some e) refused = refl
+    by None refused =
+        let there : t.bus < buses b = ltb-true t.bus (buses b) (refusal-none b t refused).0 in
+        let rooted : root_of b t.bus < length b.roots = tree.root_is t.bus there in
+        locked_holds b tree (root_of b t.bus) (hops b t.bus) t.bus (inner b (root_of b t.bus) (hops b t.bus)) refl there rooted
+        (inner_holds b tree (root_of b t.bus) lines (hops b t.bus) t.bus refl there refl rooted)
+        (Call t.bus (messages_of t)) plain (λ o. Ends) []
+        (record {
+          locks = λ l i. i;
+          ranks = λ l i. absurd i;
+          own = tt;
+          marked = tt;
+          same_root = refl;
+          line_rooted = λ l. absurd (let f : false ≡ true = l in cc);
+        })
+        (λ o. refl)

@@ -1,0 +1,46 @@
+//! The steps of a journal, and the schedule that it follows.
+ghost use Rattle.std.specs.Prelude.{◌≡◌, ℕ, ◌<◌, List, [], ◌∷◌, ◌++◌, reverse, None};
+ghost use Rattle.i2c_base.specs.Board.{BoardView};
+ghost use Rattle.i2c_base.specs.declared.entry.Entry.{Entry};
+ghost use Rattle.i2c_spec.specs.Plain.{IsPlainBoard};
+ghost use Rattle.i2c_spec.specs.Rules.{MeetsRules};
+ghost use Rattle.i2c_spec.specs.History.{Asks};
+ghost use Rattle.bus_spec.specs.Past.{now};
+ghost use Rattle.bus_spec.specs.Stepwise.{IsStepwise};
+ghost use Rattle.bus_spec.specs.Schedule.{Turn, Follows, turns, past_after};
+ghost use Rattle.bus_laws.specs.Reach.{AsksForMessages};
+ghost use Rattle.bus_laws.specs.Coming.{IsStuck, IsTurn};
+ghost use Rattle.bus_laws.specs.Following.{KeepsTo};
+
+use i2c_spec::an_accepted_board_is_a_tree;
+
+/// A journal and one step more: its steps are those before, and that one.
+///
+/// Where a settle is due it joins the message before it, so the steps before would be others. On a board that isn't
+/// accepted, for a transfer without a message, or behind entries that might not come, a lone settle could stand behind a
+/// message of its caller.
+pub fn one_step_more()
+    ensures { (b : BoardView) (callers : ℕ) (asks : Asks) (past : List Entry) → IsPlainBoard b → MeetsRules b → AsksForMessages asks → IsStepwise b callers asks past → (now b asks past).due ≡ None
+        → (t : Turn) → IsTurn b callers asks past t → turns (reverse past ++ t.entries) ≡ turns (reverse past) ++ t ∷ [] }
+{
+    an_accepted_board_is_a_tree();
+}
+
+/// A loop over a schedule follows it: a word's caller makes a step, or is stuck and passed over, and behind the last word
+/// the least caller that isn't stuck makes each step.
+///
+/// A word that passed over a caller that isn't stuck, or a step of one that isn't the least, is no step of the schedule;
+/// and where a settle is due, or an entry might not come, the steps before would be others.
+pub fn a_loop_follows()
+    ensures made { (b : BoardView) (callers : ℕ) (asks : Asks) (words : List ℕ) (past : List Entry) → IsPlainBoard b → MeetsRules b → AsksForMessages asks → IsStepwise b callers asks past
+        → (now b asks past).due ≡ None → (t : Turn) → IsTurn b callers asks past t → (left : List ℕ) → KeepsTo b callers asks words (t.caller ∷ left) past → KeepsTo b callers asks words left (past_after past t) }
+    ensures passed { (b : BoardView) (callers : ℕ) (asks : Asks) (words : List ℕ) (past : List Entry) → IsPlainBoard b → MeetsRules b → AsksForMessages asks → IsStepwise b callers asks past
+        → (w : ℕ) → IsStuck b asks past w → (left : List ℕ) → KeepsTo b callers asks words (w ∷ left) past → KeepsTo b callers asks words left past }
+    ensures least { (b : BoardView) (callers : ℕ) (asks : Asks) (words : List ℕ) (past : List Entry) → IsPlainBoard b → MeetsRules b → AsksForMessages asks → IsStepwise b callers asks past
+        → (now b asks past).due ≡ None → (t : Turn) → IsTurn b callers asks past t → ((c : ℕ) → c < t.caller → IsStuck b asks past c)
+        → KeepsTo b callers asks words [] past → KeepsTo b callers asks words [] (past_after past t) }
+    ensures whole { (b : BoardView) (callers : ℕ) (asks : Asks) (words : List ℕ) → KeepsTo b callers asks words words [] }
+    ensures end { (b : BoardView) (callers : ℕ) (asks : Asks) (words : List ℕ) (past : List Entry) → KeepsTo b callers asks words [] past → Follows words (reverse past) }
+{
+    an_accepted_board_is_a_tree();
+}
