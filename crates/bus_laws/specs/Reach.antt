@@ -6,7 +6,7 @@ use Rattle.i2c_base.specs.declared.entry.Entry.{Entry}
 use Rattle.i2c_base.specs.declared.reply.Reply.{Reply}
 use Rattle.i2c_base.specs.Board.{BoardView}
 use Rattle.i2c_base.specs.Transfer.{TransferView, IsTransfer}
-use Rattle.i2c_spec.specs.Tree.{Hop, hops, root_of, home_of_mux, IsAmongHops}
+use Rattle.i2c_spec.specs.Tree.{Hop, hops, root_of, home_of_mux, IsOver}
 use Rattle.i2c_spec.specs.Chips.{ChipView, is_open}
 use Rattle.i2c_spec.specs.World.{opens_hop}
 use Rattle.i2c_spec.specs.History.{Asks}
@@ -39,12 +39,12 @@ KeepsClosed b asks past =
     → IsSelectedBy b asks past m c ⊎ (mark b asks past (home_of_mux b m) ≡ Some m)
 
 -- at a message every mux over its bus has the path's channel open, and who has heard it is who hears its start; its
--- caller has the root's lock, and that of each bus that a mux over its bus stands on
+-- caller has the root's lock, and that of each other bus on the path
 pub record HasItsPath (b : BoardView) (asks : Asks) (past : List Entry) (m : MessageEntry) : Type 0 where
   pub path_open : list_all (opens_hop (world_at b asks past (root_of b m.bus)).chips) (hops b m.bus) ≡ true
   pub heard_told : HearsIn (world_at b asks past (root_of b m.bus)) m.addr m.reading m.heard m.end
   pub rooted : holder past (lock.Bus (root_of b m.bus)) ≡ Some m.caller
-  pub locked : (g : Hop) → IsAmongHops g (hops b m.bus) → holder past (lock.Mux g.on) ≡ Some m.caller
+  pub locked : (q : ℕ) → IsOver b q m.bus → (q ≡ m.bus → ⊥) → holder past (lock.Mux q) ≡ Some m.caller
 
 abbrev pub KeepsPathsOpen : BoardView → Asks → List Entry → Type 0
 KeepsPathsOpen b asks past = Everywhere (λ e before. OfMessage (HasItsPath b asks before) e) past

@@ -16,9 +16,9 @@ use i2c_spec::an_accepted_board_is_a_tree;
 
 /// A journal and one step more: its steps are those before, and that one.
 ///
-/// Where a settle is due it joins the message before it, so the steps before would be others. On a board that isn't
-/// accepted, for a transfer without a message, or behind entries that might not come, a lone settle could stand behind a
-/// message of its caller.
+/// A settle that is due joins the message before it, so the steps before would be others. On a board that isn't accepted,
+/// or in entries that might not come, a walk could end behind a message, and the lone settle of the next one would join
+/// it. A transfer without a message would send one that nobody asked for.
 pub fn one_step_more()
     ensures { (b : BoardView) (callers : ℕ) (asks : Asks) (past : List Entry) → IsPlainBoard b → MeetsRules b → AsksForMessages asks → IsStepwise b callers asks past → (now b asks past).due ≡ None
         → (t : Turn) → IsTurn b callers asks past t → turns (reverse past ++ t.entries) ≡ turns (reverse past) ++ t ∷ [] }
@@ -29,8 +29,9 @@ pub fn one_step_more()
 /// A loop over a schedule follows it: a word's caller makes a step, or is stuck and passed over, and behind the last word
 /// the least caller that isn't stuck makes each step.
 ///
-/// A word that passed over a caller that isn't stuck, or a step of one that isn't the least, is no step of the schedule;
-/// and where a settle is due, or an entry might not come, the steps before would be others.
+/// A word that passes over a caller that isn't stuck, or a step of one that isn't the least, is none of the schedule's.
+/// Where a settle is due, on a board that isn't accepted, for a transfer without a message, or in entries that might not
+/// come, a step more could change the steps before.
 pub fn a_loop_follows()
     ensures made { (b : BoardView) (callers : ℕ) (asks : Asks) (words : List ℕ) (past : List Entry) → IsPlainBoard b → MeetsRules b → AsksForMessages asks → IsStepwise b callers asks past
         → (now b asks past).due ≡ None → (t : Turn) → IsTurn b callers asks past t → (left : List ℕ) → KeepsTo b callers asks words (t.caller ∷ left) past → KeepsTo b callers asks words left (past_after past t) }

@@ -30,8 +30,9 @@ pub fn not_all_wait()
 /// A caller that waits for a lock, or has finished, isn't ready, whatever comes later; so a word of a schedule that names
 /// it is passed over.
 ///
-/// A caller that isn't stuck may make the next step. On a board that isn't accepted, for a transfer without a message, or
-/// behind or before entries that might not come, the others' steps could change what it does next.
+/// A caller that isn't stuck may make the next step. On a board that isn't accepted the others' steps could change what it
+/// does next, and so could entries that might not come, before or behind. A transfer without a message would send one that
+/// nobody asked for.
 pub fn who_is_stuck_waits()
     ensures waits { (b : BoardView) (callers : ℕ) (asks : Asks) (past : List Entry) → IsPlainBoard b → MeetsRules b → AsksForMessages asks → IsStepwise b callers asks past
         → (c : ℕ) → IsStuck b asks past c → (later : List Turn) → Comes b callers asks past later → is_ready past later c ≡ false }

@@ -9,7 +9,7 @@ use Rattle.i2c_base.specs.declared.entry.Entry.{Entry}
 use Rattle.i2c_base.specs.declared.entry.Entry.TheVariants as entry
 use Rattle.i2c_base.specs.Board.{BoardView}
 use Rattle.i2c_base.specs.Transfer.{TransferView}
-use Rattle.i2c_spec.specs.Tree.{Hop, hops, root_of, home_of_mux, IsAmongHops}
+use Rattle.i2c_spec.specs.Tree.{Hop, hops, root_of, home_of_mux, Crosses, IsAmongHops, IsOver}
 use Rattle.i2c_spec.specs.TreeFacts.{IsTree}
 use Rattle.i2c_spec.specs.Plain.{IsPlainBoard}
 use Rattle.i2c_spec.specs.World.{opens_hop}
@@ -50,6 +50,15 @@ lined_holder b n (Some (Free k)) note failed l = refl
 lined_holder b n (Some (Send job left)) note failed l = refl
 lined_holder b n (Some (Shift job)) note failed l = refl
 lined_holder b n (Some (Settle verdict)) note failed l = refl
+
+-- the mux that stands on a bus that is crossed
+hop_on : (q : ℕ) (hs : List Hop) → Crosses q hs → (g : Hop) × IsAmongHops g hs × (g.on ≡ q)
+hop_on q [] crossed = absurd crossed
+hop_on q (h ∷ hs) crossed =
+    elim crossed [
+      | inl here ↦ (h, inl refl, here)
+      | inr there ↦ (let g = hop_on q hs there in (g.0, inr g.1, g.2))
+    ]
 
 -- who has a lock, as the takes and frees tell
 pub holder-told : (b : BoardView) (asks : Asks) (past : List Entry) (l : LockId) → (now b asks past).holder l ≡ holder past l
@@ -139,8 +148,8 @@ module _ (b : BoardView) (tree : IsTree b) (plain : IsPlainBoard b) (lines : Lin
             (path_open b tree plain n.slot n.worlds stands.told (job_bus job) (λ g a. (sends.reached g a).0));
         heard_told = subst (λ (s : ℕ). HearsIn (world_at b asks past (root_of b s)) addr reading heard e) (sym may.2.3.on_bus) may.2.3.heard_told;
         rooted = subst (λ (s : ℕ). holder past (lock.Bus (root_of b s)) ≡ Some c) (sym may.2.3.on_bus) (has (lock.Bus (root_of b (job_bus job))) sends.rooted);
-        locked = subst (λ (s : ℕ). (g : Hop) → IsAmongHops g (hops b s) → holder past (lock.Mux g.on) ≡ Some c) (sym may.2.3.on_bus)
-            (λ g a. has (lock.Mux g.on) (sends.reached g a).1);
+        locked = subst (λ (s : ℕ). (q : ℕ) → IsOver b q s → (q ≡ s → ⊥) → holder past (lock.Mux q) ≡ Some c) (sym may.2.3.on_bus)
+            (λ q on_path other. on_its_path q (job_bus job) on_path other (λ g a. has (lock.Mux g.on) (sends.reached g a).1));
       }
     where
       n : Now
@@ -161,6 +170,13 @@ module _ (b : BoardView) (tree : IsTree b) (plain : IsPlainBoard b) (lines : Lin
 
       sends : MaySend b cur.whose job may.2.1 at.0.marks (n.held c) n.slot
       sends = send_known b (n.held c) cur.view n.slot cur.agree cur.whose job may.2.1 at.0.marks runs.0
+
+      on_its_path : (q s : ℕ) → IsOver b q s → (q ≡ s → ⊥) → ((g : Hop) → IsAmongHops g (hops b s) → holder past (lock.Mux g.on) ≡ Some c) → holder past (lock.Mux q) ≡ Some c
+      on_its_path q s on_path other locked =
+          elim on_path [
+            | inl same ↦ absurd (other same)
+            | inr crossed ↦ (let g = hop_on q (hops b s) crossed in subst (λ (p : ℕ). holder past (lock.Mux p) ≡ Some c) g.2 (locked g.0 g.1))
+          ]
 
       -- what the caller counts among its locks it has
       has : (l : LockId) → InLocks l (n.held c) → holder past l ≡ Some c
