@@ -86,7 +86,7 @@ module _ (b : BoardView) (limit spent left : ℕ) (s : Seat) (more room room_byt
     room-ahead none = (let m : weight_at b act + rest.0 ≤ w.ahead = rest.1 in omega (arith, w.owes, w.entries, m, heavy))
 
     -- .. and for the bytes of a message
-    pub bytes-ahead : (len n : ℕ) → weight_at b act ≡ 1 + len → n ≤ len → n ≤ room_bytes
+    pub bytes-ahead : (len n : ℕ) → 1 + len ≤ weight_at b act → n ≤ len → n ≤ room_bytes
     bytes-ahead len n weighs few = (let m : weight_at b act + rest.0 ≤ w.ahead = rest.1 in omega (arith, w.owes, w.bytes, m, weighs, few))
 
     -- behind it
@@ -105,7 +105,7 @@ module _ (b : BoardView) (limit spent left : ℕ) (s : Seat) (more room room_byt
         }
 
     -- behind a message, with room for its settle
-    pub within-said : more ≡ 0 → (len : ℕ) → weight_at b act ≡ 1 + len → (out : ActOutcome) (s2 : Seat) → walk_left b s2 ≡ rest_of (seen v (walk_left b s)) out → owed_behind b left s2 ≡ owed_behind b left s
+    pub within-said : more ≡ 0 → (len : ℕ) → 1 + len ≤ weight_at b act → (out : ActOutcome) (s2 : Seat) → walk_left b s2 ≡ rest_of (seen v (walk_left b s)) out → owed_behind b left s2 ≡ owed_behind b left s
         → (n : ℕ) → n ≤ len → length (got_told s2) ≤ length (got_told s) + n → (room2 bytes2 : ℕ) → room2 + 1 ≡ room → bytes2 + n ≡ room_bytes
         → (after : List (List PortCall)) → (IsTrue tells → All (λ l. length l ≤ 2 * spent + 2 * (1 + len)) after)
         → IsWithinLimit b limit (spent + (1 + len)) left s2 1 room2 bytes2 tells after

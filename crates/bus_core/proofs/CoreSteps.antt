@@ -1,5 +1,5 @@
 -- What each step of the core keeps, of all that the core keeps.
-use Rattle.std.proofs.Common.{◌≡◌, ◌<◌, ◌-◌, ◌+◌, ℕ, suc, zero, Bool, true, false, cond, List, [], ◌∷◌, ◌++◌, length, reverse, Option, Some, None, refl, sym, ◌∙◌, ap, subst, arith, IsTrue, ◌⊎◌, inl, inr}
+use Rattle.std.proofs.Common.{◌≡◌, ◌<◌, ◌≤◌, ◌-◌, ◌+◌, ℕ, suc, zero, Bool, true, false, cond, List, [], ◌∷◌, ◌++◌, length, reverse, Option, Some, None, refl, sym, ◌∙◌, ap, subst, arith, IsTrue, ◌⊎◌, inl, inr}
 use Rattle.std.specs.Prelude.{slice_get, not, ◌&&◌, nat_lt}
 use Rattle.std.specs.List.{list_any}
 use Rattle.std.proofs.lemmas.Bool.{ltb-true}
@@ -27,7 +27,7 @@ use Rattle.i2c_base.specs.Board.{BoardView}
 use Rattle.i2c_base.specs.Script.{ScriptView}
 use Rattle.i2c_base.specs.Transfer.{TransferView}
 use Rattle.i2c_spec.specs.Tree.{buses, root_of}
-use Rattle.i2c_spec.specs.Flat.{refusal, is_plain, is_smbus_only}
+use Rattle.i2c_spec.specs.Flat.{refusal, is_plain, is_smbus_only, block_limit}
 use Rattle.i2c_spec.specs.History.{Asks}
 use Rattle.i2c_spec.specs.Messages.{MessageView, messages_of}
 use Rattle.i2c_spec.specs.World.{World}
@@ -42,7 +42,8 @@ use Rattle.bus_core.specs.Lines.{IsMessageJob}
 use Rattle.bus_laws.specs.Reach.{AsksForMessages}
 use Rattle.bus_laws.specs.Runs.{IsCall}
 use Rattle.bus_laws.specs.Settles.{NoSettle, Settles}
-use Rattle.bus_laws.proofs.Laws.{length-messages}
+use Rattle.bus_laws.specs.Costs.{weight_at}
+use Rattle.bus_laws.proofs.Laws.{asks-less, length-messages}
 use Rattle.bus_core.specs.Asking.{asks_of}
 use Rattle.bus_core.specs.Seats.{walk_left, act_next, note_next, got_with, IsPartway, IsLeft, IsDecided, IsPlaced, IsSeat}
 use Rattle.bus_core.specs.Cores.{CoreTold, CoreView, owed_behind, got_told, IsSetUp, IsCore, IsDeciding, IsSaid}
@@ -531,22 +532,29 @@ module _ (tells : Bool) (asked : ScriptView → List Reply → Option TransferVi
   part-some core (Select h) more first next of = (let p : next.part ≡ 1 = of.as_part in omega (arith, p))
   part-some core (Clear on mux kind) more first next of = (let p : next.part ≡ 1 = of.as_part in omega (arith, p))
 
-  -- a message weighs what it has on the wires
-  pub message-len : IsCore tells asked left board v → (job : Job) (more : ℕ) → act_next v.board v.marks v.seat ≡ Some (Send job more) → (next : Sending) → IsMessageOf job more next → (addr : ℕ)
+  -- it asks for what the walk's message asks for
+  asked_len : IsCore tells asked left board v → (job : Job) (more : ℕ) → act_next v.board v.marks v.seat ≡ Some (Send job more) → (next : Sending) → IsMessageOf job more next → (addr : ℕ)
       → 1 + (message_of v.board job more).len ≡ 1 + (message_for v.seat next.purpose next.control addr).len
-  message-len core (Call bus ms) more first next of addr =
+  asked_len core (Call bus ms) more first next of addr =
       let c = call-is v.board v.seat.transfer (slots_of v.marks) (walk_left v.board v.seat) v.seat.settled v.seat.sent core.seat_is.left bus ms more first in
       ap (λ (m : MessageView). 1 + m.len) (sym (call-message v.board v.seat bus ms more addr next of c.1.same_messages c.2))
-  message-len core (Select h) more first next of addr =
+  asked_len core (Select h) more first next of addr =
       by more of.with_byte
       ∙ ap (λ (p : Purpose). 1 + (message_for v.seat p next.control addr).len) (sym of.for_purpose)
     where
       by : (k : ℕ) → next.control ≡ control_of (Select h) k → 1 + (message_of v.board (Select h) k).len ≡ 1 + (control_message addr next.control).len
       by zero e = ap (λ (o : Option ℕ). 1 + (control_message addr o).len) (sym e)
       by (suc k) e = ap (λ (o : Option ℕ). 1 + (control_message addr o).len) (sym e)
-  message-len core (Clear on mux kind) more first next of addr =
+  asked_len core (Clear on mux kind) more first next of addr =
       ap (λ (o : Option ℕ). 1 + (control_message addr o).len) (sym of.with_byte)
       ∙ ap (λ (p : Purpose). 1 + (message_for v.seat p next.control addr).len) (sym of.for_purpose)
+
+  -- a message weighs at least what it has on the wires
+  pub message-len : IsCore tells asked left board v → (job : Job) (more : ℕ) → act_next v.board v.marks v.seat ≡ Some (Send job more) → (next : Sending) → IsMessageOf job more next → (addr : ℕ)
+      → 1 + (message_for v.seat next.purpose next.control addr).len ≤ weight_at v.board (Send job more)
+  message-len core job more first next of addr =
+      let e : 1 + (message_of v.board job more).len ≡ 1 + (message_for v.seat next.purpose next.control addr).len = asked_len core job more first next of addr in
+      omega (arith, e, asks-less (block_limit v.board) (message_of v.board job more))
 
 -- only one of the caller's own messages goes through for its transfer
 pub call-purpose : (why : Purpose) (e : End) → is_call_through why e ≡ true → why ≡ purpose.Call

@@ -12,7 +12,7 @@ pub use Rattle.bus_laws.proofs.schedule.Following.{begins, ends, least-made, mad
 pub use Rattle.bus_laws.proofs.schedule.Turns.{turns-more}
 pub use Rattle.bus_laws.proofs.tree.Slots.{eqb-apart}
 pub use Rattle.bus_laws.proofs.walk.Calls.{walk-calls}
-pub use Rattle.bus_laws.proofs.walk.CostLaw.{walk-within}
+pub use Rattle.bus_laws.proofs.walk.CostLaw.{asks-less, walk-within}
 pub use Rattle.bus_laws.proofs.walk.First.{walk-first}
 pub use Rattle.bus_laws.proofs.walk.HoldsLaw.{walk-holds}
 pub use Rattle.bus_laws.proofs.walk.Jobs.{hop_kind, jobs-both, walk-jobs, walk-stays}

@@ -1,18 +1,15 @@
--- What may come after a past, step by step; and who has no step to make there.
-use Rattle.std.specs.Prelude.{◌≡◌, ◌⊎◌, ℕ, true, List, [], ◌∷◌, Some}
-use Rattle.i2c_base.specs.declared.ids.LockId.{LockId}
+-- What may come after a past, step by step.
+use Rattle.std.specs.Prelude.{◌≡◌, ◌⊎◌, ℕ, true, List, [], ◌∷◌}
 use Rattle.i2c_base.specs.declared.entry.Entry.{Entry}
 use Rattle.i2c_base.specs.Board.{BoardView}
 use Rattle.i2c_spec.specs.History.{Asks}
-use Rattle.bus_spec.specs.Walk.{Take}
 use Rattle.bus_spec.specs.Grammar.{first_act}
-use Rattle.bus_spec.specs.Readings.{caller_of, holder}
+use Rattle.bus_spec.specs.Readings.{caller_of}
 use Rattle.bus_spec.specs.Past.{now, is_due}
-use Rattle.bus_spec.specs.Stepwise.{May, IsNext}
+use Rattle.bus_spec.specs.Stepwise.{May}
 use Rattle.bus_spec.specs.Legal.{is_stepping}
 use Rattle.bus_spec.specs.Schedule.{Turn, past_after, is_settle}
 use Rattle.bus_laws.specs.Others.{ahead}
-use Rattle.bus_laws.specs.Ready.{HasFinished}
 
 -- a step of one entry
 pub record IsOne (b : BoardView) (callers : ℕ) (asks : Asks) (past : List Entry) (t : Turn) : Type 0 where
@@ -43,8 +40,3 @@ IsTurn b callers asks past t = IsOne b callers asks past t ⊎ IsTwo b callers a
 abbrev pub Comes : BoardView → ℕ → Asks → List Entry → List Turn → Type 0
 Comes b callers asks past [] = Unit {0}
 Comes b callers asks past (t ∷ ts) = IsTurn b callers asks past t × Comes b callers asks (past_after past t) ts
-
--- a caller waits for a lock that somebody has, or has finished
-abbrev pub IsStuck : BoardView → Asks → List Entry → ℕ → Type 0
-IsStuck b asks past c =
-    ((l : LockId) × (h : ℕ) × IsNext b asks (now b asks past) c (Take l) × (holder past l ≡ Some h)) ⊎ HasFinished b asks past c

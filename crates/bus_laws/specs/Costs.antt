@@ -1,15 +1,20 @@
 -- How many steps and bytes a walk has at most; a settle belongs to the step before it.
-use Rattle.std.specs.Prelude.{◌≡◌, ℕ, ◌+◌, ◌≤◌, true, List, Option}
+use Rattle.std.specs.Prelude.{◌≡◌, ℕ, ◌+◌, ◌≤◌, true, List, Option, if◌then◌else◌}
 use Rattle.i2c_base.specs.Board.{BoardView}
 use Rattle.i2c_spec.specs.Tree.{Hop, IsAmongHops}
+use Rattle.i2c_spec.specs.Messages.{MessageView}
+use Rattle.i2c_spec.specs.Flat.{block_limit}
 use Rattle.bus_spec.specs.Walk.{Act, Take, Free, Send, Shift, Settle, ActOutcome, WalkTree, Ends, Look, Then, is_arbitrator, message_of}
 
--- what one step weighs: a lock or a line is one, a message is one and one more for each of its bytes, as many as it
--- asks for (of a counted read those beside the ones that it counts)
+-- the bytes that a message moves at most: of a counted read as many as the limit allows, and those beside
+abbrev pub bytes_most : ℕ → MessageView → ℕ
+bytes_most limit m = if m.counted then limit + m.len else m.len
+
+-- what one step weighs: a lock or a line is one, a message is one and one more for each of its bytes
 abbrev pub weight_at : BoardView → Act → ℕ
 weight_at b (Take l) = 1
 weight_at b (Free l) = 1
-weight_at b (Send job left) = 1 + (message_of b job left).len
+weight_at b (Send job left) = 1 + bytes_most (block_limit b) (message_of b job left)
 weight_at b (Shift job) = 1
 weight_at b (Settle verdict) = 0
 

@@ -9,7 +9,8 @@ ghost use Rattle.bus_spec.specs.Past.{now};
 ghost use Rattle.bus_spec.specs.Stepwise.{IsStepwise};
 ghost use Rattle.bus_spec.specs.Schedule.{Turn, Follows, turns, past_after};
 ghost use Rattle.bus_laws.specs.Reach.{AsksForMessages};
-ghost use Rattle.bus_laws.specs.Coming.{IsStuck, IsTurn};
+ghost use Rattle.bus_laws.specs.Ready.{IsStuck};
+ghost use Rattle.bus_laws.specs.Coming.{IsTurn};
 ghost use Rattle.bus_laws.specs.Following.{KeepsTo};
 
 use i2c_spec::an_accepted_board_is_a_tree;

@@ -8,7 +8,6 @@ ghost use Rattle.i2c_spec.specs.History.{Asks};
 ghost use Rattle.bus_spec.specs.Past.{mark};
 ghost use Rattle.bus_spec.specs.Stepwise.{IsStepwise};
 ghost use Rattle.bus_spec.specs.Legal.{KeepsLocks, KeepsSettles, KeepsWhole};
-ghost use Rattle.bus_laws.specs.Ready.{SomeCanGoOn};
 ghost use Rattle.bus_laws.specs.Reach.{AsksForMessages, KeepsClosed, KeepsPathsOpen};
 
 use i2c_spec::an_accepted_board_is_a_tree;
@@ -70,11 +69,3 @@ pub fn no_message_stands_inside_a_transfer()
 pub fn each_settle_stands_where_it_is_decided()
     ensures { (b : BoardView) (callers : ℕ) (asks : Asks) (past : List Entry) → AsksForMessages asks → IsStepwise b callers asks past → KeepsSettles b asks past }
 {}
-
-/// At each place of a journal all callers have finished, or some caller has a next step and waits for no lock with it:
-/// the locks alone stop nobody for good.
-pub fn some_caller_can_go_on()
-    ensures { (b : BoardView) (callers : ℕ) (asks : Asks) (past : List Entry) → IsPlainBoard b → MeetsRules b → AsksForMessages asks → IsStepwise b callers asks past → SomeCanGoOn b callers asks past }
-{
-    an_accepted_board_is_a_tree();
-}

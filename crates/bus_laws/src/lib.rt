@@ -25,7 +25,6 @@ pub use journals::{
     an_open_mux_is_selected_or_marked, each_journal_keeps_its_locks,
     each_mark_is_on_a_bus_of_the_board, each_message_finds_its_path_open,
     each_settle_stands_where_it_is_decided, no_message_stands_inside_a_transfer,
-    some_caller_can_go_on,
 };
 pub use next::{
     the_next_control_message_reaches_its_mux, the_next_line_is_of_a_gpio_mux,
@@ -35,7 +34,9 @@ pub use others::{
     an_entry_leaves_the_other_callers, the_next_step_stays, who_asks_for_nothing_never_steps,
 };
 pub use targets::each_message_reaches_its_target;
-pub use waiting::{not_all_wait, who_is_stuck_waits};
+pub use waiting::{
+    each_caller_goes_on_or_is_stuck, not_all_wait, some_caller_can_go_on, who_is_stuck_waits,
+};
 pub use walks::{
     each_walk_holds_its_locks, each_walk_keeps_its_path_open, each_walk_keeps_to_its_cost,
     each_walk_settles_once, each_walk_stays_on_its_root,

@@ -1,5 +1,5 @@
-//! Who waits for a lock.
-ghost use Rattle.std.specs.Prelude.{◌≡◌, ℕ, List, ◌∷◌, Option, Some, None, false, slice_get};
+//! Who waits for a lock, and who can go on.
+ghost use Rattle.std.specs.Prelude.{◌≡◌, ◌⊎◌, ℕ, ◌<◌, List, ◌∷◌, Option, Some, None, false, slice_get};
 ghost use Rattle.i2c_base.specs.Board.{BoardView};
 ghost use Rattle.i2c_base.specs.declared.ids.LockId.{LockId};
 ghost use Rattle.i2c_base.specs.declared.entry.Entry.{Entry};
@@ -9,11 +9,13 @@ ghost use Rattle.i2c_spec.specs.History.{Asks};
 ghost use Rattle.bus_spec.specs.Walk.{WalkTree};
 ghost use Rattle.bus_spec.specs.Slots.{Slots};
 ghost use Rattle.bus_spec.specs.Grammar.{seen, first_act};
+ghost use Rattle.bus_spec.specs.Past.{now};
 ghost use Rattle.bus_spec.specs.Stepwise.{IsStepwise};
 ghost use Rattle.bus_spec.specs.Schedule.{Turn, FollowsWords, is_ready};
 ghost use Rattle.bus_laws.specs.Reach.{AsksForMessages};
 ghost use Rattle.bus_laws.specs.Waiting.{LocksKept, IsHeldUp};
-ghost use Rattle.bus_laws.specs.Coming.{Comes, IsStuck};
+ghost use Rattle.bus_laws.specs.Ready.{CanGoOn, IsStuck, SomeCanGoOn};
+ghost use Rattle.bus_laws.specs.Coming.{Comes};
 
 use i2c_spec::an_accepted_board_is_a_tree;
 
@@ -38,6 +40,33 @@ pub fn who_is_stuck_waits()
         → (c : ℕ) → IsStuck b asks past c → (later : List Turn) → Comes b callers asks past later → is_ready past later c ≡ false }
     ensures passed { (b : BoardView) (callers : ℕ) (asks : Asks) (past : List Entry) → IsPlainBoard b → MeetsRules b → AsksForMessages asks → IsStepwise b callers asks past
         → (c : ℕ) (words : List ℕ) → IsStuck b asks past c → (later : List Turn) → Comes b callers asks past later → FollowsWords words past later → FollowsWords (c ∷ words) past later }
+{
+    an_accepted_board_is_a_tree();
+}
+
+/// At each place of a journal all callers have finished, or some caller has an entry that may come: the locks stop nobody
+/// for good. Where a settle is due it is that one.
+///
+/// On a board that isn't accepted a gpio mux below a mux-locked one could have each of two callers wait for the other. A
+/// transfer without a message would send one that nobody asked for. Behind entries that might not come a lock may be held
+/// by a caller that has finished.
+pub fn some_caller_can_go_on()
+    ensures { (b : BoardView) (callers : ℕ) (asks : Asks) (past : List Entry) → IsPlainBoard b → MeetsRules b → AsksForMessages asks → IsStepwise b callers asks past → SomeCanGoOn b callers asks past }
+{
+    an_accepted_board_is_a_tree();
+}
+
+/// Where no settle is due, each caller has an entry that may come, or waits for a lock that somebody has, or has finished;
+/// and who waits or has finished has no entry that may come.
+///
+/// Where a settle is due only its caller has one. On a board that isn't accepted a lock could come next whose rank isn't
+/// lower. A transfer without a message would send one that nobody asked for. Behind entries that might not come a select
+/// may be heard by nobody.
+pub fn each_caller_goes_on_or_is_stuck()
+    ensures either { (b : BoardView) (callers : ℕ) (asks : Asks) (past : List Entry) → IsPlainBoard b → MeetsRules b → AsksForMessages asks → IsStepwise b callers asks past
+        → (now b asks past).due ≡ None → (c : ℕ) → c < callers → CanGoOn b callers asks past c ⊎ IsStuck b asks past c }
+    ensures never { (b : BoardView) (callers : ℕ) (asks : Asks) (past : List Entry) → IsPlainBoard b → MeetsRules b → AsksForMessages asks → IsStepwise b callers asks past
+        → (c : ℕ) → IsStuck b asks past c → CanGoOn b callers asks past c → ⊥ }
 {
     an_accepted_board_is_a_tree();
 }

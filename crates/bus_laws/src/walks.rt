@@ -33,8 +33,9 @@ pub fn each_walk_settles_once()
 
 /// No walk has more steps and bytes than its transfer's cost, with the settle counted as one step.
 ///
-/// The bytes of a message are those that it asks for, of a counted read without those that it counts: for these the cost
-/// leaves the board's limit beside.
+/// The bytes of a message are those that it moves at most, of a counted read as many as the board's limit allows. On a board
+/// that isn't accepted a mux-locked arbitrator could be asked more often than is counted. A transfer without a message would
+/// send one that its cost doesn't count.
 pub fn each_walk_keeps_to_its_cost()
     ensures { (b : BoardView) (t : TransferView) → IsPlainBoard b → MeetsRules b → 0 < length t.msgs → IsWithin b (walk_for b t) (cost_of b t - 1) }
 {

@@ -1,6 +1,7 @@
--- Who asks for nothing never steps. The induction goes over the past.
+-- An entry that may come is its caller's next step; and who asks for nothing never steps. The induction goes over the past.
 use Rattle.std.proofs.Common.{◌≡◌, ℕ, ◌<◌, ◌≤◌, List, [], ◌∷◌, Some, None, refl, sym, ◌∙◌, ap, arith, inl, inr}
 use Rattle.std.proofs.lemmas.Bool.Decides.{leb_tells}
+use Rattle.i2c_base.specs.declared.ids.LockId.{LockId}
 use Rattle.i2c_base.specs.declared.entry.Entry.{Entry}
 use Rattle.i2c_base.specs.declared.entry.Entry.TheVariants as entry
 use Rattle.i2c_base.specs.declared.reply.Reply.{Reply}
@@ -10,7 +11,7 @@ use Rattle.bus_spec.specs.Walk.{Act, Take, Free, Send, Shift, Settle, WalkTree, 
 use Rattle.bus_spec.specs.Grammar.{first_act, seen}
 use Rattle.bus_spec.specs.Readings.{caller_of}
 use Rattle.bus_spec.specs.Past.{Now, begun, current, now, step}
-use Rattle.bus_spec.specs.Stepwise.{May, IsStepwise}
+use Rattle.bus_spec.specs.Stepwise.{May, IsNext, IsStepwise}
 use Rattle.bus_laws.specs.Others.{ahead, CallerTold}
 use Rattle.bus_laws.proofs.past.Others.{others-stay}
 
@@ -21,6 +22,18 @@ next_act b callers asks n (entry.Free c l) may = (Free l, may.2)
 next_act b callers asks n (entry.Message c bus why part parts addr reading bytes heard e) may = (Send may.2.0 may.2.1, may.2.2)
 next_act b callers asks n (entry.Line c mux level failed) may = (Shift may.2.0, may.2.1)
 next_act b callers asks n (entry.Settle c r cut) may = (Settle may.2, may.3)
+
+-- an entry that may come, of a caller that takes a lock next, takes that lock; one of a caller that has finished never comes
+pub takes : (b : BoardView) (callers : ℕ) (asks : Asks) (n : Now) (e : Entry) → May b callers asks n e → (l : LockId) → IsNext b asks n (caller_of e) (Take l)
+    → (c : ℕ) × (e ≡ entry.Take c l)
+takes b callers asks n (entry.Take c k) may l next = (c, let f : Some (Take k) ≡ Some (Take l) = sym may.2 ∙ next in ap (entry.Take c) (let g : k ≡ l = cc in g))
+takes b callers asks n (entry.Free c k) may l next = absurd (let f : Some (Free k) ≡ Some (Take l) = sym may.2 ∙ next in cc)
+takes b callers asks n (entry.Message c bus why part parts addr reading bytes heard e) may l next = absurd (let f : Some (Send may.2.0 may.2.1) ≡ Some (Take l) = sym may.2.2 ∙ next in cc)
+takes b callers asks n (entry.Line c mux level failed) may l next = absurd (let f : Some (Shift may.2.0) ≡ Some (Take l) = sym may.2.1 ∙ next in cc)
+takes b callers asks n (entry.Settle c r cut) may l next = absurd (let f : Some (Settle may.2) ≡ Some (Take l) = sym may.3 ∙ next in cc)
+
+pub never : (b : BoardView) (callers : ℕ) (asks : Asks) (n : Now) (e : Entry) → May b callers asks n e → first_act (current b asks n (caller_of e)) ≡ None → ⊥
+never b callers asks n e may none = (let act = next_act b callers asks n e may in let f : Some act.0 ≡ None = sym act.1 ∙ none in cc)
 
 may_below : (b : BoardView) (callers fewer : ℕ) (asks : Asks) (n : Now) (e : Entry) → caller_of e < fewer → May b callers asks n e → May b fewer asks n e
 may_below b callers fewer asks n (entry.Take c l) low may = (low, may.1, may.2, may.3, may.4)

@@ -1,6 +1,6 @@
 -- Each settle stands directly behind the message or line step that decides it, and tells that entry's cut. The
 -- inductions go over the entries.
-use Rattle.std.proofs.Common.{◌≡◌, ℕ, zero, suc, Bool, true, false, cond, List, [], ◌∷◌, Option, Some, None, eqb, refl, sym, ◌∙◌, ap, subst, ◌⊎◌, inl, inr}
+use Rattle.std.proofs.Common.{◌≡◌, ℕ, zero, suc, ◌<◌, Bool, true, false, cond, List, [], ◌∷◌, Option, Some, None, eqb, refl, sym, ◌∙◌, ap, subst, ◌⊎◌, inl, inr}
 use Rattle.std.proofs.lemmas.Bool.{eq-eqb}
 use Rattle.std.proofs.lemmas.Bool.Decides.{eqb_tells}
 use Rattle.i2c_base.specs.declared.errno.Errno.{Errno}
@@ -15,10 +15,10 @@ use Rattle.i2c_spec.specs.History.{Asks, changed_at}
 use Rattle.bus_spec.specs.Walk.{Job, Call, Select, Clear, Act, Take, Free, Send, Shift, Settle, ActOutcome, Passed, Sent, Lined, Note, MarkOf, WalkTree, Ends, Look, Then, goes, verdict_of}
 use Rattle.bus_spec.specs.Slots.{Slots, mark_in}
 use Rattle.bus_spec.specs.Grammar.{seen, is_over, first_act, first_note, rest_of}
-use Rattle.bus_spec.specs.Readings.{replies, last_cut, cut_told}
+use Rattle.bus_spec.specs.Readings.{caller_of, replies, last_cut, cut_told}
 use Rattle.bus_spec.specs.Past.{Now, begun, current, step, now, is_on, is_due, sent_by, lined_by, with_due, moved}
 use Rattle.bus_spec.specs.Stepwise.{IsNext, May, IsStepwise}
-use Rattle.bus_spec.specs.Legal.{IsDirectlyBehind, IsPlaced, SettleAt, KeepsSettles}
+use Rattle.bus_spec.specs.Legal.{is_stepping, IsDirectlyBehind, IsPlaced, SettleAt, KeepsSettles}
 use Rattle.bus_laws.specs.Reach.{AsksForMessages}
 use Rattle.bus_laws.specs.Settles.{NoSettle, IsDecided, GoesOn, Settles}
 use Rattle.bus_laws.specs.Calls.{IsAsked}
@@ -169,28 +169,75 @@ module _ (b : BoardView) (asks : Asks) where
   cut-told (entry.Message d bus purpose part parts addr reading bytes heard e ∷ past) c =
       cut_turned past c d (cut_told (entry.Message d bus purpose part parts addr reading bytes heard e)) (cut-told past c)
 
+-- a caller's settle is due: its last entry is a message or a line step, before which none was due
+pub record IsDueBehind (b : BoardView) (callers : ℕ) (asks : Asks) (past : List Entry) (c : ℕ) : Type 0 where
+  pub last : Entry
+  pub before : List Entry
+  pub past_is : past ≡ last ∷ before
+  pub own : caller_of last ≡ c
+  pub stepping : is_stepping last ≡ true
+  pub none_before : (now b asks before).due ≡ None
+  pub known : c < callers
+  pub verdict : Option Errno
+  pub settles : first_act ((now b asks past).walk c) ≡ Some (Settle verdict)
+
+settle_due : (w : WalkTree) (d c : ℕ) → cond (is_due (first_act w)) (Some d) None ≡ Some c → (d ≡ c) × (verdict : Option Errno) × (first_act w ≡ Some (Settle verdict))
+settle_due w d c due = by (first_act w) refl
+  where
+    none : (o : Option Act) → first_act w ≡ o → is_due o ≡ false → (d ≡ c) × (verdict : Option Errno) × (first_act w ≡ Some (Settle verdict))
+    none o e quiet = absurd (let f : None ≡ Some c = sym (ap (λ (x : Bool). cond x (Some d) None) (ap is_due e ∙ quiet)) ∙ due in cc)
+
+    by : (o : Option Act) → first_act w ≡ o → (d ≡ c) × (verdict : Option Errno) × (first_act w ≡ Some (Settle verdict))
+    by None e = none None e refl
+    by (Some (Take l)) e = none (Some (Take l)) e refl
+    by (Some (Free l)) e = none (Some (Free l)) e refl
+    by (Some (Send job left)) e = none (Some (Send job left)) e refl
+    by (Some (Shift job)) e = none (Some (Shift job)) e refl
+    by (Some (Settle verdict)) e = ((let f : Some d ≡ Some c = sym (ap (λ (o : Option Act). cond (is_due o) (Some d) None) e) ∙ due in cc), verdict, e)
+
 module _ (b : BoardView) (asks : Asks) (some : AsksForMessages asks) (callers : ℕ) where
   -- THE INDUCTION
   pub past-due : (past : List Entry) → IsStepwise b callers asks past → AreDue (now b asks past)
   past-due [] steps = λ c. inr tt
   past-due (e ∷ past) steps = step_due b asks some callers past steps.1 (past-due past steps.1) e steps.0
 
-  -- whose settle is due made the last entry, on the bus
+  -- whose settle is due made the last entry, on the bus, and settles next
+  pub due-made : (past : List Entry) (c : ℕ) → IsStepwise b callers asks past → (now b asks past).due ≡ Some c → IsDueBehind b callers asks past c
+  due-made [] c steps due = absurd (let f : None ≡ Some c = due in cc)
+  due-made (entry.Take d l ∷ past) c steps due = absurd (let f : None ≡ Some c = sym steps.0.1 ∙ due in cc)
+  due-made (entry.Free d l ∷ past) c steps due = absurd (let f : None ≡ Some c = sym steps.0.1 ∙ due in cc)
+  due-made (entry.Settle d x cut ∷ past) c steps due = absurd (let f : None ≡ Some c = due in cc)
+  due-made (entry.Line d mux level failed ∷ past) c steps due =
+      let next = settle_due ((now b asks (entry.Line d mux level failed ∷ past)).walk d) d c due in
+      record {
+        last = entry.Line d mux level failed;
+        before = past;
+        past_is = refl;
+        own = next.0;
+        stepping = refl;
+        none_before = steps.0.1;
+        known = subst (λ (i : ℕ). i < callers) next.0 steps.0.0;
+        verdict = next.1;
+        settles = subst (λ (i : ℕ). first_act ((now b asks (entry.Line d mux level failed ∷ past)).walk i) ≡ Some (Settle next.1)) next.0 next.2;
+      }
+  due-made (entry.Message d bus purpose part parts addr reading bytes heard e ∷ past) c steps due =
+      let next = settle_due ((now b asks (entry.Message d bus purpose part parts addr reading bytes heard e ∷ past)).walk d) d c due in
+      record {
+        last = entry.Message d bus purpose part parts addr reading bytes heard e;
+        before = past;
+        past_is = refl;
+        own = next.0;
+        stepping = refl;
+        none_before = steps.0.1;
+        known = subst (λ (i : ℕ). i < callers) next.0 steps.0.0;
+        verdict = next.1;
+        settles = subst (λ (i : ℕ). first_act ((now b asks (entry.Message d bus purpose part parts addr reading bytes heard e ∷ past)).walk i) ≡ Some (Settle next.1)) next.0 next.2;
+      }
+
   due_behind : (past : List Entry) (c : ℕ) → IsStepwise b callers asks past → (now b asks past).due ≡ Some c → IsDirectlyBehind c past
-  due_behind [] c steps due = (let f : None ≡ Some c = due in cc)
-  due_behind (entry.Take d l ∷ past) c steps due = absurd (let f : None ≡ Some c = sym steps.0.1 ∙ due in cc)
-  due_behind (entry.Free d l ∷ past) c steps due = absurd (let f : None ≡ Some c = sym steps.0.1 ∙ due in cc)
-  due_behind (entry.Settle d x cut ∷ past) c steps due = absurd (let f : None ≡ Some c = due in cc)
-  due_behind (entry.Line d mux level failed ∷ past) c steps due = (by_due (is_due _) due, refl)
-    where
-      by_due : (t : Bool) → cond t (Some d) None ≡ Some c → d ≡ c
-      by_due true e = (let f : Some d ≡ Some c = e in cc)
-      by_due false e = absurd (let f : None ≡ Some c = e in cc)
-  due_behind (entry.Message d bus purpose part parts addr reading bytes heard e ∷ past) c steps due = (by_due (is_due _) due, refl)
-    where
-      by_due : (t : Bool) → cond t (Some d) None ≡ Some c → d ≡ c
-      by_due true f = (let g : Some d ≡ Some c = f in cc)
-      by_due false f = absurd (let g : None ≡ Some c = f in cc)
+  due_behind past c steps due =
+      let made : IsDueBehind b callers asks past c = due-made past c steps due in
+      subst (λ (p : List Entry). IsDirectlyBehind c p) (sym made.past_is) (made.own, made.stepping)
 
   -- WHERE A SETTLE STANDS
   module _ (past : List Entry) (steps : IsStepwise b callers asks past) (c : ℕ) (verdict : Option Errno) (next : IsNext b asks (now b asks past) c (Settle verdict)) where

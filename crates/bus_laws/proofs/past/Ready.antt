@@ -1,4 +1,4 @@
--- Some caller can always go on: who waits for a lock waits for a caller that waits for none, or for a lock of a lower
+-- Some caller always waits for nothing: who waits for a lock waits for a caller that waits for none, or for a lock of a lower
 -- rank. The induction goes over the rank.
 use Rattle.std.proofs.Common.{◌≡◌, ℕ, zero, suc, ◌<◌, ◌≤◌, Bool, true, false, cond, List, [], ◌∷◌, Option, Some, None, refl, sym, ◌∙◌, subst, ◌⊎◌, inl, inr, arith}
 use Rattle.std.proofs.lemmas.Bool.Decides.{eqb_tells}
@@ -19,13 +19,13 @@ use Rattle.bus_laws.specs.Runs.{InLocks, RestOf, taken_slots, Runs}
 use Rattle.bus_laws.specs.Lines.{LinesAreLocked}
 use Rattle.bus_laws.specs.Stands.{CallerStands, Stands}
 use Rattle.bus_laws.specs.Reach.{AsksForMessages}
-use Rattle.bus_laws.specs.Ready.{HasFinished, CanGoOn, SomeCanGoOn}
+use Rattle.bus_laws.specs.Ready.{HasFinished}
 use Rattle.bus_laws.proofs.past.StandsFacts.{current-stands}
 use Rattle.bus_laws.proofs.past.StandsEntries.{first_is}
 use Rattle.bus_laws.proofs.past.Laws.{past-stands, holder-told, below_each}
 
 -- whoever has a lock is one of the callers
-holders_known : (b : BoardView) (callers : ℕ) (asks : Asks) (past : List Entry) → IsStepwise b callers asks past → (l : LockId) (c : ℕ) → holder past l ≡ Some c → c < callers
+pub holders_known : (b : BoardView) (callers : ℕ) (asks : Asks) (past : List Entry) → IsStepwise b callers asks past → (l : LockId) (c : ℕ) → holder past l ≡ Some c → c < callers
 holders_known b callers asks [] steps l c has = absurd (let f : None ≡ Some c = has in cc)
 holders_known b callers asks (entry.Take d k ∷ past) steps l c has =
     by_lock (λ h. holders_known b callers asks past steps.1 l c h) (is_lock k l) has
@@ -44,10 +44,17 @@ holders_known b callers asks (entry.Line d mux level failed ∷ past) steps l c 
 holders_known b callers asks (entry.Settle d r cut ∷ past) steps l c has = holders_known b callers asks past steps.1 l c has
 
 -- a walk behind its looks has ended, or has a step
-act_or_end : (v : Slots) (w : WalkTree) → (seen v w ≡ Ends) ⊎ ((act : Act) × (first_act (seen v w) ≡ Some act))
+pub act_or_end : (v : Slots) (w : WalkTree) → (seen v w ≡ Ends) ⊎ ((act : Act) × (first_act (seen v w) ≡ Some act))
 act_or_end v Ends = inl refl
 act_or_end v (Look (MarkOf p) next) = act_or_end v (next (mark_in (v p).slot))
 act_or_end v (Then act note next) = inr (act, refl)
+
+-- a caller has a next step, and doesn't wait with it for a lock
+pub record IsFree (b : BoardView) (callers : ℕ) (asks : Asks) (past : List Entry) (c : ℕ) : Type 0 where
+  pub known : c < callers
+  pub act : Act
+  pub next : IsNext b asks (now b asks past) c act
+  pub free : (l : LockId) → act ≡ Take l → holder past l ≡ None
 
 -- what a step may wait for
 waits : (act : Act) → ((l : LockId) × (act ≡ Take l)) ⊎ ((l : LockId) → act ≡ Take l → ⊥)
@@ -103,7 +110,7 @@ module _ (b : BoardView) (tree : IsTree b) (plain : IsPlainBoard b) (lines : Lin
           absurd (omega (arith, below))
 
   -- THE INDUCTION: `fuel` is above the rank of what is waited for
-  someone : (fuel c : ℕ) (act : Act) → c < callers → IsNext b asks n c act → ((l : LockId) → act ≡ Take l → rank b l < fuel) → (d : ℕ) × CanGoOn b callers asks past d
+  someone : (fuel c : ℕ) (act : Act) → c < callers → IsNext b asks n c act → ((l : LockId) → act ≡ Take l → rank b l < fuel) → (d : ℕ) × IsFree b callers asks past d
   someone zero c act known next above =
       elim (waits act) [
         | inl waiting ↦ absurd (let f : rank b waiting.0 < 0 = above waiting.0 waiting.1 in omega (arith, f))
@@ -115,8 +122,8 @@ module _ (b : BoardView) (tree : IsTree b) (plain : IsPlainBoard b) (lines : Lin
         | inr free ↦ (c, record { known = known; act = act; next = next; free = λ l e. absurd (free l e) })
       ]
     where
-      by_holder : ((d : ℕ) (a : Act) → d < callers → IsNext b asks n d a → ((l : LockId) → a ≡ Take l → rank b l < fuel) → (i : ℕ) × CanGoOn b callers asks past i)
-          → (l : LockId) → act ≡ Take l → (o : Option ℕ) → n.holder l ≡ o → (i : ℕ) × CanGoOn b callers asks past i
+      by_holder : ((d : ℕ) (a : Act) → d < callers → IsNext b asks n d a → ((l : LockId) → a ≡ Take l → rank b l < fuel) → (i : ℕ) × IsFree b callers asks past i)
+          → (l : LockId) → act ≡ Take l → (o : Option ℕ) → n.holder l ≡ o → (i : ℕ) × IsFree b callers asks past i
       by_holder later l e None none = (
         c,
         record {
@@ -142,7 +149,7 @@ module _ (b : BoardView) (tree : IsTree b) (plain : IsPlainBoard b) (lines : Lin
   highest (Settle verdict) = 0
 
   -- all callers are looked at, one after the other
-  look : (count : ℕ) → count ≤ callers → ((c : ℕ) → c < count → HasFinished b asks past c) ⊎ ((c : ℕ) × CanGoOn b callers asks past c)
+  look : (count : ℕ) → count ≤ callers → ((c : ℕ) → c < count → HasFinished b asks past c) ⊎ ((c : ℕ) × IsFree b callers asks past c)
   look zero within = inl (λ c below. absurd (omega (arith, below)))
   look (suc count) within =
       elim (look count (omega (arith, within))) [
@@ -151,7 +158,7 @@ module _ (b : BoardView) (tree : IsTree b) (plain : IsPlainBoard b) (lines : Lin
       ]
     where
       by_next : ((c : ℕ) → c < count → HasFinished b asks past c) → (o : Option Act) → first_act (current b asks n count) ≡ o
-          → ((c : ℕ) → c < suc count → HasFinished b asks past c) ⊎ ((c : ℕ) × CanGoOn b callers asks past c)
+          → ((c : ℕ) → c < suc count → HasFinished b asks past c) ⊎ ((c : ℕ) × IsFree b callers asks past c)
       by_next finished None none =
           inl (λ c below. elim (eqb_tells c count) [
             | inl h ↦ subst (λ (i : ℕ). HasFinished b asks past i) (sym h.1) none
@@ -160,5 +167,5 @@ module _ (b : BoardView) (tree : IsTree b) (plain : IsPlainBoard b) (lines : Lin
       by_next finished (Some act) next =
           inr (someone (highest act) count act (omega (arith, within)) next (λ l e. subst (λ (a : Act). rank b l < highest a) (sym e) (omega arith)))
 
-  pub some-can-go-on : SomeCanGoOn b callers asks past
-  some-can-go-on = look callers (omega arith)
+  pub some-free : ((c : ℕ) → c < callers → HasFinished b asks past c) ⊎ ((c : ℕ) × IsFree b callers asks past c)
+  some-free = look callers (omega arith)

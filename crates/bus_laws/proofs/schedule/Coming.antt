@@ -11,30 +11,19 @@ use Rattle.i2c_base.specs.Board.{BoardView}
 use Rattle.i2c_spec.specs.TreeFacts.{IsTree}
 use Rattle.i2c_spec.specs.Plain.{IsPlainBoard}
 use Rattle.i2c_spec.specs.History.{Asks}
-use Rattle.bus_spec.specs.Walk.{Take, Free, Send, Shift, Settle, WalkTree}
+use Rattle.bus_spec.specs.Walk.{Take, WalkTree}
 use Rattle.bus_spec.specs.Grammar.{first_act}
 use Rattle.bus_spec.specs.Readings.{caller_of, holder}
-use Rattle.bus_spec.specs.Past.{Now, current, now}
+use Rattle.bus_spec.specs.Past.{current, now}
 use Rattle.bus_spec.specs.Stepwise.{May, IsNext, IsStepwise}
 use Rattle.bus_spec.specs.Schedule.{Turn, waits_for, is_taken, is_ready, past_after, FollowsWords}
 use Rattle.bus_laws.specs.Lines.{LinesAreLocked}
 use Rattle.bus_laws.specs.Reach.{AsksForMessages}
 use Rattle.bus_laws.proofs.past.Laws.{past-stands}
-use Rattle.bus_laws.specs.Coming.{IsTurn, Comes, IsStuck}
-use Rattle.bus_laws.proofs.past.Known.{next_act}
+use Rattle.bus_laws.specs.Ready.{IsStuck}
+use Rattle.bus_laws.specs.Coming.{IsTurn, Comes}
+use Rattle.bus_laws.proofs.past.Known.{takes, never}
 use Rattle.bus_laws.proofs.past.Stays.{next-stays}
-
--- an entry that may come, of a caller that takes a lock next, takes that lock; one of a caller that has finished never comes
-takes : (b : BoardView) (callers : ℕ) (asks : Asks) (n : Now) (e : Entry) → May b callers asks n e → (l : LockId) → IsNext b asks n (caller_of e) (Take l)
-    → (c : ℕ) × (e ≡ entry.Take c l)
-takes b callers asks n (entry.Take c k) may l next = (c, let f : Some (Take k) ≡ Some (Take l) = sym may.2 ∙ next in ap (entry.Take c) (let g : k ≡ l = cc in g))
-takes b callers asks n (entry.Free c k) may l next = absurd (let f : Some (Free k) ≡ Some (Take l) = sym may.2 ∙ next in cc)
-takes b callers asks n (entry.Message c bus why part parts addr reading bytes heard e) may l next = absurd (let f : Some (Send may.2.0 may.2.1) ≡ Some (Take l) = sym may.2.2 ∙ next in cc)
-takes b callers asks n (entry.Line c mux level failed) may l next = absurd (let f : Some (Shift may.2.0) ≡ Some (Take l) = sym may.2.1 ∙ next in cc)
-takes b callers asks n (entry.Settle c r cut) may l next = absurd (let f : Some (Settle may.2) ≡ Some (Take l) = sym may.3 ∙ next in cc)
-
-never : (b : BoardView) (callers : ℕ) (asks : Asks) (n : Now) (e : Entry) → May b callers asks n e → first_act (current b asks n (caller_of e)) ≡ None → ⊥
-never b callers asks n e may none = (let act = next_act b callers asks n e may in let f : Some act.0 ≡ None = sym act.1 ∙ none in cc)
 
 abbrev ready_by : List Entry → Option Turn → Bool
 ready_by past o = option_map_or (λ t. not (waits_for past t.entries)) o false

@@ -13,7 +13,8 @@ use Rattle.bus_spec.specs.Schedule.{Turn, turns, is_ready, past_after, FollowsWo
 use Rattle.bus_laws.specs.Lines.{LinesAreLocked}
 use Rattle.bus_laws.specs.Reach.{AsksForMessages}
 use Rattle.bus_laws.proofs.past.Laws.{holder-told}
-use Rattle.bus_laws.specs.Coming.{IsTurn, IsStuck}
+use Rattle.bus_laws.specs.Ready.{IsStuck}
+use Rattle.bus_laws.specs.Coming.{IsTurn}
 use Rattle.bus_laws.specs.Following.{KeepsTo}
 use Rattle.bus_laws.proofs.schedule.Coming.{stuck-waits, turn-ready, word-made, word-passed}
 use Rattle.bus_laws.proofs.schedule.Turns.{turns-more}

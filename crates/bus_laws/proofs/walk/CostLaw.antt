@@ -13,7 +13,7 @@ use Rattle.i2c_base.specs.Muxes.{facts_of}
 use Rattle.i2c_base.specs.Board.{BoardView}
 use Rattle.i2c_base.proofs.MuxLemmas.{arbitrator_row}
 use Rattle.i2c_base.specs.declared.transfer.Msg.{Msg}
-use Rattle.i2c_base.specs.Transfer.{TransferView, is_counted, written_of}
+use Rattle.i2c_base.specs.Transfer.{TransferView, written_of}
 use Rattle.i2c_spec.specs.Tree.{Hop, hops, root_of, locks_of, is_parent}
 use Rattle.i2c_spec.specs.TreeFacts.{IsTree, IsHop}
 use Rattle.i2c_spec.specs.Rules.{MeetsRules, wants_parent}
@@ -21,9 +21,9 @@ use Rattle.i2c_spec.specs.Messages.{MessageView, messages_from, messages_of}
 use Rattle.i2c_spec.specs.Flat.{refusal, block_limit}
 use Rattle.i2c_spec.specs.Cost.{lock_steps, behind_by, behind_cost, inner_cost, full_cost, bytes_of, steps_of, cost_of}
 use Rattle.i2c_base.specs.Limits.{POLLS}
-use Rattle.bus_spec.specs.Walk.{Job, Call, Select, Clear, Free, Send, Shift, ActOutcome, JobOutcome, Good, Refused, Unsent, Failed, Note, WalkTree, Ends, Look, Then, Go, On, Last, Over, goes, job_outcome, verdict_of, decides, is_line, is_gpio, is_arbitrator, more_of, nth_message, message_of}
+use Rattle.bus_spec.specs.Walk.{Job, Call, Select, Clear, Free, Send, Shift, ActOutcome, JobOutcome, Good, Refused, Unsent, Failed, Note, WalkTree, Ends, Look, Then, Go, On, Last, Over, goes, job_outcome, verdict_of, decides, is_line, is_gpio, is_arbitrator, more_of, nth_message}
 use Rattle.bus_spec.specs.Grammar.{Doer, plain, settled, over, by_go, messages, at_bus, locked, part, with_mark, aside, if_sent, if_good, kind_of, closing, opened, chosen, behind, inner, full, walk_by, walk_for}
-use Rattle.bus_laws.specs.Costs.{IsWithin, ArbitratorsArePassed}
+use Rattle.bus_laws.specs.Costs.{bytes_most, weight_at, IsWithin, ArbitratorsArePassed}
 use Rattle.bus_laws.proofs.tree.Law.{refusal-none}
 use Rattle.bus_laws.proofs.world.BoardFacts.{mux_at}
 use Rattle.bus_laws.proofs.world.LineFacts.{wanted}
@@ -39,7 +39,7 @@ within_more b (Then act note next) n m le h = (h.0, omega (arith, le, h.1), h.2)
 
 -- a message and what is behind it
 one_message : (b : BoardView) (job : Job) (left : ℕ) (note : Note) (next : ActOutcome → WalkTree) (n : ℕ) → ((out : ActOutcome) → IsWithin b (next out) n)
-    → IsWithin b (Then (Send job left) note next) (1 + (message_of b job left).len + n)
+    → IsWithin b (Then (Send job left) note next) (weight_at b (Send job left) + n)
 one_message b job left note next n h = (n, omega arith, h)
 
 settled_within : (b : BoardView) (t : Bool) (verdict : Option Errno) (w : WalkTree) (n : ℕ) → IsWithin b w n → IsWithin b (settled t verdict w) n
@@ -58,7 +58,7 @@ go_within b Over w x y n hw hx hy = hy
 
 -- what the message of a job weighs where so many may follow, and it and all that follow it
 abbrev one_weight : BoardView → Job → ℕ → ℕ
-one_weight b job left = 1 + (message_of b job left).len
+one_weight b job left = weight_at b (Send job left)
 
 abbrev weight_from : BoardView → Job → ℕ → ℕ
 weight_from b job zero = one_weight b job zero
@@ -305,36 +305,38 @@ arbitrators_passed b tree rules s h among arbitrator =
     sym (some_is (is_parent spec.0.lock) h.parent same) ∙ wanted (wants_parent spec.0.kind) (is_parent spec.0.lock) wants wrong
 
 -- WHAT THE MESSAGES of a transfer weigh
-abbrev weight_of : List MessageView → ℕ
-weight_of [] = 0
-weight_of (m ∷ ms) = 1 + m.len + weight_of ms
+abbrev weight_of : ℕ → List MessageView → ℕ
+weight_of limit [] = 0
+weight_of limit (m ∷ ms) = 1 + bytes_most limit m + weight_of limit ms
 
 -- the induction over the messages that follow one
 calls_weigh : (b : BoardView) (bus : ℕ) (ms before : List MessageView) (y : MessageView) (rest : List MessageView) → ms ≡ before ++ y ∷ rest
-    → weight_from b (Call bus ms) (length rest) ≡ weight_of (y ∷ rest)
+    → weight_from b (Call bus ms) (length rest) ≡ weight_of (block_limit b) (y ∷ rest)
 calls_weigh b bus ms before y [] all =
-    (let e : (nth_message ms (length ms - 1 - 0)).len ≡ y.len = ap (λ (m : MessageView). m.len) (nth-next ms before y [] 0 all refl) in omega (arith, e))
+    let e : bytes_most (block_limit b) (nth_message ms (length ms - 1 - 0)) ≡ bytes_most (block_limit b) y = ap (bytes_most (block_limit b)) (nth-next ms before y [] 0 all refl) in
+    omega (arith, e)
 calls_weigh b bus ms before y (z ∷ zs) all =
-    let e : (nth_message ms (length ms - 1 - suc (length zs))).len ≡ y.len = ap (λ (m : MessageView). m.len) (nth-next ms before y (z ∷ zs) (suc (length zs)) all refl) in
-    let more : weight_from b (Call bus ms) (length zs) ≡ weight_of (z ∷ zs) = calls_weigh b bus ms (before ++ y ∷ []) z zs (all ∙ sym (append_assoc before (y ∷ []) (z ∷ zs))) in
+    let e : bytes_most (block_limit b) (nth_message ms (length ms - 1 - suc (length zs))) ≡ bytes_most (block_limit b) y =
+    ap (bytes_most (block_limit b)) (nth-next ms before y (z ∷ zs) (suc (length zs)) all refl) in
+    let more : weight_from b (Call bus ms) (length zs) ≡ weight_of (block_limit b) (z ∷ zs) = calls_weigh b bus ms (before ++ y ∷ []) z zs (all ∙ sym (append_assoc before (y ∷ []) (z ∷ zs))) in
     omega (arith, e, more)
 
--- a message asks for no more bytes than its cost counts
-asks_less : (limit : ℕ) (m : Msg) → m.len ≤ bytes_of limit m
-asks_less limit m = by_count (is_counted m)
+-- a message asks for no more bytes than its weight counts
+pub asks-less : (limit : ℕ) (m : MessageView) → m.len ≤ bytes_most limit m
+asks-less limit m = by_count m.counted
   where
     by_count : (t : Bool) → m.len ≤ cond t (limit + m.len) m.len
     by_count true = omega arith
     by_count false = omega arith
 
-messages_weigh : (limit : ℕ) (ms : List Msg) (out : List ℕ) → weight_of (messages_from ms out) ≤ length ms + sum_by (bytes_of limit) ms
+messages_weigh : (limit : ℕ) (ms : List Msg) (out : List ℕ) → weight_of limit (messages_from ms out) ≡ length ms + sum_by (bytes_of limit) ms
 messages_weigh limit [] out = omega arith
 messages_weigh limit (m ∷ ms) out =
-    let more : weight_of (messages_from ms (drop (written_of m) out)) ≤ length ms + sum_by (bytes_of limit) ms = messages_weigh limit ms (drop (written_of m) out) in
-    omega (arith, more, asks_less limit m, sum_by-cons (bytes_of limit) m ms)
+    let more : weight_of limit (messages_from ms (drop (written_of m) out)) ≡ length ms + sum_by (bytes_of limit) ms = messages_weigh limit ms (drop (written_of m) out) in
+    omega (arith, more, sum_by-cons (bytes_of limit) m ms)
 
 -- all messages of a transfer, the first one with the others behind it
-call_weighs : (b : BoardView) (bus : ℕ) (ms : List MessageView) → 0 < length ms → job_weight b (Call bus ms) ≡ weight_of ms
+call_weighs : (b : BoardView) (bus : ℕ) (ms : List MessageView) → 0 < length ms → job_weight b (Call bus ms) ≡ weight_of (block_limit b) ms
 call_weighs b bus [] some = absurd (omega (arith, some))
 call_weighs b bus (m ∷ ms) some =
     ap (λ (i : ℕ). weight_from b (Call bus (m ∷ ms)) i) (let e : length (m ∷ ms) - 1 ≡ length ms = omega arith in e) ∙ calls_weigh b bus (m ∷ ms) [] m ms refl
@@ -358,5 +360,5 @@ walk-within b tree rules t some = by_refusal (refusal b t) refl
         fewer : job_weight b (Call t.bus (messages_of t)) ≤ steps_of b t
         fewer =
             let count : length (messages_of t) ≡ length t.msgs = length-messages t.msgs t.out in
-            let own : job_weight b (Call t.bus (messages_of t)) ≡ weight_of (messages_of t) = call_weighs b t.bus (messages_of t) (omega (arith, count, some)) in
+            let own : job_weight b (Call t.bus (messages_of t)) ≡ weight_of (block_limit b) (messages_of t) = call_weighs b t.bus (messages_of t) (omega (arith, count, some)) in
             omega (arith, own, messages_weigh (block_limit b) t.msgs t.out)

@@ -1,6 +1,6 @@
 use Rattle.bus_laws.proofs.world.LineFacts.{lines-locked}
-use Rattle.bus_laws.proofs.past.Ready.{some-can-go-on}
-use Rattle.bus_laws.proofs.journals.some_caller_can_go_on.Goals as goal
+use Rattle.bus_laws.proofs.past.GoesOn.{some-can-go-on}
+use Rattle.bus_laws.proofs.waiting.some_caller_can_go_on.Goals as goal
 
 pub returns : goal.returns
 returns c =
