@@ -15,3 +15,6 @@ pub mod Others
 pub mod Stays
 pub mod Known
 pub mod GoesOn
+pub mod Budgets
+pub mod Spent
+pub mod Together

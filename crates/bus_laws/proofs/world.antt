@@ -3,6 +3,7 @@ pub mod LineFacts
 pub mod Feed
 pub mod TalkLaws
 pub mod CutTalks
+pub mod TalkSizes
 pub mod Reach
 pub mod Hears
 pub mod Control

@@ -6,6 +6,7 @@
 //! other crates cite are passed on by `proofs/Laws.antt`.
 #![tactic(auto)]
 
+mod costs;
 mod devices;
 mod following;
 mod journals;
@@ -15,6 +16,9 @@ mod targets;
 mod waiting;
 mod walks;
 
+pub use costs::{
+    all_callers_stay_within_their_bounds, no_caller_exceeds_its_cost, no_transfer_exceeds_its_cost,
+};
 pub use devices::{
     a_control_message_leaves_the_devices, a_message_is_heard_the_same,
     a_message_leaves_other_devices, a_transfer_ends_in_a_stop,

@@ -1,11 +1,9 @@
--- The readings, the walks of each caller, what they cost and leave, and all rules together.
+-- The readings, the walks of each caller, what they leave, and all rules together.
 pub mod Ports
 pub mod Places
 pub mod Flight
 pub mod First
 pub mod Walks
-pub mod Spent
-pub mod Costs
 pub mod Counts
 pub mod Left
 pub mod Legal

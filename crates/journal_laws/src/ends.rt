@@ -1,18 +1,15 @@
-ghost use Rattle.std.specs.Prelude.{◌≡◌, ℕ, ◌<◌, ◌≤◌, List, [], Some, None};
+ghost use Rattle.std.specs.Prelude.{◌≡◌, ℕ, ◌<◌, List, [], Some, None};
 ghost use Rattle.i2c_base.specs.declared.ids.LockId.{LockId};
 ghost use Rattle.i2c_base.specs.Board.{BoardView};
 ghost use Rattle.i2c_base.specs.declared.entry.Entry.{Entry};
-ghost use Rattle.i2c_base.specs.declared.reply.Reply.{Reply};
 ghost use Rattle.i2c_spec.specs.Plain.{IsPlainBoard};
 ghost use Rattle.i2c_spec.specs.Rules.{MeetsRules};
 ghost use Rattle.i2c_spec.specs.History.{Asks};
 ghost use Rattle.bus_spec.specs.Walk.{Ends};
 ghost use Rattle.bus_spec.specs.Past.{now};
-ghost use Rattle.bus_spec.specs.Readings.{replies};
 ghost use Rattle.bus_spec.specs.Stepwise.{IsStepwise};
 ghost use Rattle.bus_spec.specs.Legal.{IsComplete};
 ghost use Rattle.bus_laws.specs.Reach.{AsksForMessages};
-ghost use Rattle.journal_laws.specs.Costs.{spent, CoversCosts, KeepsFits, steps_by};
 ghost use Rattle.journal_laws.specs.Ends.{IsDone};
 
 use i2c_spec::an_accepted_board_is_a_tree;
@@ -34,20 +31,6 @@ pub fn a_finished_journal_is_complete()
         → ((c : ℕ) → c < callers → IsDone asks (now b asks past) c) → IsComplete b callers asks past }
     ensures outside { (b : BoardView) (callers : ℕ) (asks : Asks) (past : List Entry) → IsPlainBoard b → MeetsRules b → AsksForMessages asks → IsStepwise b callers asks past
         → ((c : ℕ) → c < callers → IsDone asks (now b asks past) c) → (r : ℕ) → (now b asks past).inside r ≡ None }
-{
-    an_accepted_board_is_a_tree();
-}
-
-/// Where no settle is due, no caller has made more steps than its transfers cost: those that its replies are of, and
-/// the one under way.
-///
-/// Where each reply fits its transfer, they are at most what the caller's own bound says before the first reply, if
-/// that bound falls by each transfer's cost. A settle counts no step of its own.
-pub fn a_caller_steps_within_its_cost()
-    ensures spent { (b : BoardView) (callers : ℕ) (asks : Asks) (past : List Entry) → IsPlainBoard b → MeetsRules b → AsksForMessages asks → IsStepwise b callers asks past
-        → (now b asks past).due ≡ None → (c : ℕ) → steps_by past c ≤ spent b (asks c) [] (replies past c) }
-    ensures left { (b : BoardView) (callers : ℕ) (asks : Asks) (past : List Entry) → IsPlainBoard b → MeetsRules b → AsksForMessages asks → IsStepwise b callers asks past
-        → (now b asks past).due ≡ None → KeepsFits asks past → (c : ℕ) (left : List Reply → ℕ) → CoversCosts b (asks c) left → steps_by past c ≤ left [] }
 {
     an_accepted_board_is_a_tree();
 }

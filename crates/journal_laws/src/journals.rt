@@ -9,7 +9,6 @@ ghost use Rattle.bus_spec.specs.Walk.{Ends};
 ghost use Rattle.bus_spec.specs.Stepwise.{IsStepwise};
 ghost use Rattle.bus_spec.specs.Legal.{IsLegal, KeepsReplies, KeepsWalks};
 ghost use Rattle.journal_laws.specs.Counts.{faults_in, failed_on};
-ghost use Rattle.journal_laws.specs.Costs.{KeepsCosts};
 ghost use Rattle.journal_laws.specs.Left.{KeepsDevices, LeavesDevices};
 ghost use Rattle.bus_laws.specs.Reach.{AsksForMessages, AsksWithinLimits};
 
@@ -52,15 +51,6 @@ pub fn each_reply_is_that_of_the_flat_world()
 pub fn a_journal_is_legal()
     ensures { (b : BoardView) (callers : ℕ) (asks : Asks) (past : List Entry) → IsPlainBoard b → MeetsRules b → AsksForMessages asks → AsksWithinLimits asks
         → IsStepwise b callers asks past → (now b asks past).due ≡ None → IsLegal b callers asks past }
-{
-    an_accepted_board_is_a_tree();
-}
-
-/// Where no settle is due, no caller has made more steps than the transfers cost that it has asked for: every journal
-/// ends.
-pub fn no_caller_exceeds_its_cost()
-    ensures { (b : BoardView) (callers : ℕ) (asks : Asks) (past : List Entry) → IsPlainBoard b → MeetsRules b → AsksForMessages asks → IsStepwise b callers asks past
-        → (now b asks past).due ≡ None → KeepsCosts b asks past }
 {
     an_accepted_board_is_a_tree();
 }

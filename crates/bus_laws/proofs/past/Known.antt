@@ -35,6 +35,14 @@ takes b callers asks n (entry.Settle c r cut) may l next = absurd (let f : Some 
 pub never : (b : BoardView) (callers : ℕ) (asks : Asks) (n : Now) (e : Entry) → May b callers asks n e → first_act (current b asks n (caller_of e)) ≡ None → ⊥
 never b callers asks n e may none = (let act = next_act b callers asks n e may in let f : Some act.0 ≡ None = sym act.1 ∙ none in cc)
 
+-- .. which is one of them
+pub entry_known : (b : BoardView) (callers : ℕ) (asks : Asks) (n : Now) (e : Entry) → May b callers asks n e → caller_of e < callers
+entry_known b callers asks n (entry.Take c l) may = may.0
+entry_known b callers asks n (entry.Free c l) may = may.0
+entry_known b callers asks n (entry.Message c bus why part parts addr reading bytes heard e) may = may.0
+entry_known b callers asks n (entry.Line c mux level failed) may = may.0
+entry_known b callers asks n (entry.Settle c r cut) may = may.0
+
 may_below : (b : BoardView) (callers fewer : ℕ) (asks : Asks) (n : Now) (e : Entry) → caller_of e < fewer → May b callers asks n e → May b fewer asks n e
 may_below b callers fewer asks n (entry.Take c l) low may = (low, may.1, may.2, may.3, may.4)
 may_below b callers fewer asks n (entry.Free c l) low may = (low, may.1, may.2)

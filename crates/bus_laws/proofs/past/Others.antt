@@ -12,7 +12,7 @@ use Rattle.bus_spec.specs.Grammar.{is_over, first_act, first_note, rest_of}
 use Rattle.bus_spec.specs.Readings.{caller_of, cut_told}
 use Rattle.bus_spec.specs.Past.{Now, begun, current, step, sent_by, lined_by, got_after}
 use Rattle.bus_laws.proofs.past.StandsStep.{at_other}
-use Rattle.bus_laws.specs.Others.{ahead, CallerTold}
+use Rattle.bus_laws.specs.Others.{CallerTold}
 
 -- what a message leaves of a caller's replies, and of what another has read
 sent_settled : (b : BoardView) (n : Now) (d : ℕ) (o : Option Act) (note : Note) (reading : Bool) (bytes : List ℕ) (e : End) (c : ℕ)
@@ -49,45 +49,62 @@ lined_got b n (Some (Send job left)) note failed c = refl
 lined_got b n (Some (Shift job)) note failed c = refl
 lined_got b n (Some (Settle v)) note failed c = refl
 
-module _ (b : BoardView) (asks : Asks) (n : Now) (c : ℕ) where
-  abbrev same_ahead : (m : Now) → m.walk c ≡ n.walk c → m.settled c ≡ n.settled c → ahead b asks m c ≡ ahead b asks n c
-  same_ahead m walks replies =
-      ap (λ (w : WalkTree). cond (is_over w) (begun b (asks c (m.settled c))) w) walks
-      ∙ ap (λ (rs : List Reply). cond (is_over (n.walk c)) (begun b (asks c rs)) (n.walk c)) replies
+-- of a caller that isn't the entry's
+pub record IsElsewhere (n m : Now) (c : ℕ) : Type 0 where
+  pub walks : m.walk c ≡ n.walk c
+  pub settles : m.settled c ≡ n.settled c
+  pub reads : m.got c ≡ n.got c
+  pub cuts : m.cut c ≡ n.cut c
 
-  stays : (m : Now) (w : WalkTree) (replies : List Reply) (got : List ℕ) (cut : Cut) → m.walk c ≡ n.walk c → m.settled c ≡ n.settled c → m.got c ≡ n.got c → m.cut c ≡ n.cut c
-      → CallerTold b asks n c w replies got cut → CallerTold b asks m c w replies got cut
-  stays m w replies got cut walks settles reads cuts told =
-      record {
-        walk = same_ahead m walks settles ∙ told.walk;
-        settled = settles ∙ told.settled;
-        got_is = reads ∙ told.got_is;
-        cut_is = cuts ∙ told.cut_is;
-      }
+pub entry-elsewhere : (b : BoardView) (asks : Asks) (n : Now) (e : Entry) (c : ℕ) → (c ≡ caller_of e → ⊥) → IsElsewhere n (step b asks n e) c
+entry-elsewhere b asks n (entry.Take d l) c other =
+    record {
+      walks = at_other n.walk d (rest_of (current b asks n d) Passed) c other;
+      settles = refl;
+      reads = refl;
+      cuts = at_other n.cut d (cut_told (entry.Take d l)) c other;
+    }
+entry-elsewhere b asks n (entry.Free d l) c other =
+    record {
+      walks = at_other n.walk d (rest_of (current b asks n d) Passed) c other;
+      settles = refl;
+      reads = refl;
+      cuts = at_other n.cut d (cut_told (entry.Free d l)) c other;
+    }
+entry-elsewhere b asks n (entry.Message d bus why part parts addr reading bytes heard e) c other =
+    let act : Option Act = first_act (current b asks n d) in
+    let note : Note = first_note (current b asks n d) in
+    record {
+      walks = at_other n.walk d (rest_of (current b asks n d) (Sent e bytes)) c other;
+      settles = sent_settled b n d act note reading bytes e c;
+      reads = sent_got b n d act note reading bytes e c other;
+      cuts = at_other n.cut d (cut_told (entry.Message d bus why part parts addr reading bytes heard e)) c other;
+    }
+entry-elsewhere b asks n (entry.Line d mux level failed) c other =
+    let act : Option Act = first_act (current b asks n d) in
+    let note : Note = first_note (current b asks n d) in
+    record {
+      walks = at_other n.walk d (rest_of (current b asks n d) (Lined failed)) c other;
+      settles = lined_settled b n act note failed c;
+      reads = lined_got b n act note failed c;
+      cuts = at_other n.cut d (cut_told (entry.Line d mux level failed)) c other;
+    }
+entry-elsewhere b asks n (entry.Settle d r at) c other =
+    record {
+      walks = at_other n.walk d (rest_of (current b asks n d) Passed) c other;
+      settles = at_other n.settled d _ c other;
+      reads = at_other n.got d _ c other;
+      cuts = at_other n.cut d (cut_told (entry.Settle d r at)) c other;
+    }
 
 pub others-stay : (b : BoardView) (asks : Asks) (n : Now) (e : Entry) (c : ℕ) (w : WalkTree) (replies : List Reply) (got : List ℕ) (cut : Cut) → (c ≡ caller_of e → ⊥)
     → CallerTold b asks n c w replies got cut → CallerTold b asks (step b asks n e) c w replies got cut
-others-stay b asks n (entry.Take d l) c w replies got cut other told =
-    stays b asks n c (step b asks n (entry.Take d l)) w replies got cut
-    (at_other n.walk d (rest_of (current b asks n d) Passed) c other) refl refl (at_other n.cut d (cut_told (entry.Take d l)) c other) told
-others-stay b asks n (entry.Free d l) c w replies got cut other told =
-    stays b asks n c (step b asks n (entry.Free d l)) w replies got cut
-    (at_other n.walk d (rest_of (current b asks n d) Passed) c other) refl refl (at_other n.cut d (cut_told (entry.Free d l)) c other) told
-others-stay b asks n (entry.Message d bus why part parts addr reading bytes heard e) c w replies got cut other told =
-    let act : Option Act = first_act (current b asks n d) in
-    let note : Note = first_note (current b asks n d) in
-    stays b asks n c (step b asks n (entry.Message d bus why part parts addr reading bytes heard e)) w replies got cut
-    (at_other n.walk d (rest_of (current b asks n d) (Sent e bytes)) c other)
-    (sent_settled b n d act note reading bytes e c) (sent_got b n d act note reading bytes e c other)
-    (at_other n.cut d (cut_told (entry.Message d bus why part parts addr reading bytes heard e)) c other) told
-others-stay b asks n (entry.Line d mux level failed) c w replies got cut other told =
-    let act : Option Act = first_act (current b asks n d) in
-    let note : Note = first_note (current b asks n d) in
-    stays b asks n c (step b asks n (entry.Line d mux level failed)) w replies got cut
-    (at_other n.walk d (rest_of (current b asks n d) (Lined failed)) c other)
-    (lined_settled b n act note failed c) (lined_got b n act note failed c)
-    (at_other n.cut d (cut_told (entry.Line d mux level failed)) c other) told
-others-stay b asks n (entry.Settle d r at) c w replies got cut other told =
-    stays b asks n c (step b asks n (entry.Settle d r at)) w replies got cut
-    (at_other n.walk d (rest_of (current b asks n d) Passed) c other)
-    (at_other n.settled d _ c other) (at_other n.got d _ c other) (at_other n.cut d (cut_told (entry.Settle d r at)) c other) told
+others-stay b asks n e c w replies got cut other told =
+    let same : IsElsewhere n (step b asks n e) c = entry-elsewhere b asks n e c other in
+    record {
+      walk = ap (λ (x : WalkTree). cond (is_over x) (begun b (asks c ((step b asks n e).settled c))) x) same.walks
+          ∙ ap (λ (rs : List Reply). cond (is_over (n.walk c)) (begun b (asks c rs)) (n.walk c)) same.settles ∙ told.walk;
+      settled = same.settles ∙ told.settled;
+      got_is = same.reads ∙ told.got_is;
+      cut_is = same.cuts ∙ told.cut_is;
+    }

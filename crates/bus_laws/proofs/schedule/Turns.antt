@@ -1,7 +1,7 @@
 -- A journal and one step more: its steps are those before and that one.
 use Rattle.std.proofs.Common.{◌≡◌, ℕ, Bool, true, false, cond, ◌&&◌, List, [], ◌∷◌, ◌++◌, Option, Some, None, refl, sym, ◌∙◌, ap, subst, inl, inr}
 use Rattle.std.specs.Prelude.{reverse, ◌==◌}
-use Rattle.std.proofs.lemmas.Bool.Decides.{eqb_tells}
+use Rattle.std.proofs.lemmas.Bool.{eq-eqb, eqb-true}
 use mathlib.Core.List.{reverse-cons}
 use Rattle.i2c_base.specs.declared.ids.LockId.{LockId}
 use Rattle.i2c_base.specs.declared.ids.LockId.TheVariants as lock
@@ -86,12 +86,6 @@ not_all true false z never = refl
 not_all true true false never = refl
 not_all true true true never = absurd (never refl refl refl)
 
-same_number : (c d : ℕ) → c ≡ d → (c == d) ≡ true
-same_number c d e = elim (eqb_tells c d) [ inl h ↦ h.0 | inr h ↦ absurd (h.1 e) ]
-
-is_number : (c d : ℕ) → (c == d) ≡ true → c ≡ d
-is_number c d e = elim (eqb_tells c d) [ inl h ↦ h.1 | inr h ↦ absurd (let f : false ≡ true = sym h.0 ∙ e in cc) ]
-
 -- a step by itself
 turn_alone : (b : BoardView) (callers : ℕ) (asks : Asks) (past : List Entry) (t : Turn) → IsTurn b callers asks past t → turns t.entries ≡ t ∷ []
 turn_alone b callers asks past t is = elim is [ inl one ↦ single one | inr two ↦ double two ]
@@ -106,7 +100,7 @@ turn_alone b callers asks past t is = elim is [ inl one ↦ single one | inr two
     double two =
         let joined : joins two.entry (two.settle ∷ []) (caller_of two.settle) ≡ true =
         all_true (is_stepping two.entry) (is_settle two.settle) (caller_of two.entry == caller_of two.settle) two.steps two.settles
-        (same_number (caller_of two.entry) (caller_of two.settle) (two.own ∙ sym two.own_settle)) in
+        (eq-eqb (caller_of two.entry) (caller_of two.settle) (two.own ∙ sym two.own_settle)) in
         ap turns two.entries
         ∙ ap (λ (x : Bool). cond x ((record { caller = caller_of two.entry; entries = two.entry ∷ two.settle ∷ [] }) ∷ []) (turn_of two.entry ∷ turn_of two.settle ∷ [])) joined
         ∙ ap (λ (c : ℕ). (record { caller = c; entries = two.entry ∷ two.settle ∷ [] }) ∷ []) two.own
@@ -205,7 +199,7 @@ module _ (b : BoardView) (tree : IsTree b) (plain : IsPlainBoard b) (lines : Lin
       ap (λ (es : List Entry). joins e es t.caller) f.2
       ∙ not_all (is_stepping e) (is_settle f.0) (caller_of e == t.caller)
       (λ s u v.
-      let same : caller_of e ≡ t.caller = is_number (caller_of e) t.caller v in
+      let same : caller_of e ≡ t.caller = eqb-true (caller_of e) t.caller v in
       let still : is_due (first_act (ahead b asks (now b asks (e ∷ past)) (caller_of e))) ≡ false =
       quiet callers (now b asks past) e steps.0 (past-stands b tree plain lines asks some callers past steps.1) (past-stands b tree plain lines asks some callers (e ∷ past) steps) s none in
       let both : false ≡ true = sym still ∙ ap (λ (c : ℕ). is_due (first_act (ahead b asks (now b asks (e ∷ past)) c))) same ∙ f.3 u in cc) in

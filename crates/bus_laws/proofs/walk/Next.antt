@@ -9,7 +9,7 @@ use Rattle.i2c_base.specs.Board.{BoardView}
 use Rattle.i2c_base.specs.Transfer.{TransferView}
 use Rattle.i2c_spec.specs.Tree.{Hop}
 use Rattle.i2c_spec.specs.Messages.{MessageView}
-use Rattle.bus_spec.specs.Walk.{Job, Call, Select, Clear, Act, Take, Free, Send, Shift, Settle, ActOutcome, Passed, Sent, MarkOf, Note, WalkTree, Ends, Look, Then, decides, more_of, is_line, sent_outcome, ok_outcome, sent_errno, ok_errno, Good}
+use Rattle.bus_spec.specs.Walk.{Job, Call, Select, Clear, Act, Take, Free, Send, Shift, Settle, ActOutcome, Passed, Sent, Lined, MarkOf, Note, WalkTree, Ends, Look, Then, decides, more_of, is_line, sent_outcome, ok_outcome, sent_errno, ok_errno, Good}
 use Rattle.bus_spec.specs.Slots.{Slots, mark_in}
 use Rattle.bus_spec.specs.Grammar.{seen, first_act, rest_of}
 use Rattle.bus_laws.specs.Runs.{IsCall}
@@ -126,6 +126,11 @@ module _ (done : Bool) (v : Slots) (w : WalkTree) (settles : Settles done w) whe
           at_rest (Settles done) (seen v w) (Send job left) first (Sent e bytes) (here.1 e bytes).1,
         ),
       )
+
+  pub settles-shifted : (job : Job) → first_act (seen v w) ≡ Some (Shift job) → (failed : Bool) → Settles done (rest_of (seen v w) (Lined failed))
+  settles-shifted job first failed =
+      let here = at_first (Settles done) (seen v w) (Shift job) first (settles_seen v done w settles) in
+      at_rest (Settles done) (seen v w) (Shift job) first (Lined failed) (here failed).1
 
 pub settles-settled : (done : Bool) (w : WalkTree) → Settles done w → (verdict : Option Errno) → first_act w ≡ Some (Settle verdict)
     → (done ≡ false) × NoSettle (rest_of w Passed) × Settles true (rest_of w Passed)
