@@ -9,3 +9,6 @@ pub mod Left
 pub mod Legal
 pub mod Ends
 pub mod Follow
+pub mod Layers
+pub mod Due
+pub mod LegalSteps

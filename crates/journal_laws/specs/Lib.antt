@@ -4,4 +4,5 @@ pub mod Left
 pub mod Counts
 pub mod Ends
 pub mod Flight
+pub mod Layers
 pub mod Wrong

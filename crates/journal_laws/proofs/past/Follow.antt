@@ -90,7 +90,7 @@ module _ (b : BoardView) (asks : List Reply → Option TransferView) where
       × Follow (rs ++ reply_at s.entry) (rest_of (seen s.before.slot (at_hand rs w)) (outcome_of s.entry)) ss
 
   -- a walk that has a step more is not over
-  under-way : (w : WalkTree) (rs : List Reply) (n : Now) (e : Entry) → Tells b n (seen n.slot w) e → at_hand rs w ≡ w
+  pub under-way : (w : WalkTree) (rs : List Reply) (n : Now) (e : Entry) → Tells b n (seen n.slot w) e → at_hand rs w ≡ w
   under-way Ends rs n e tells = absurd (tells_none b n e tells)
   under-way (Look ask next) rs n e tells = refl
   under-way (Then done note next) rs n e tells = refl
@@ -120,7 +120,7 @@ module _ (b : BoardView) (asks : List Reply → Option TransferView) where
       so_far = ap (λ (xs : List Reply). rs ++ xs) (replies_first s.before s.entry mine) ∙ sym (append_assoc rs (reply_at s.entry) (replies_in mine))
 
   -- a walk that begins is the one at hand
-  begins : (rs : List Reply) (t : TransferView) → asks rs ≡ Some t → at_hand rs (walk_for b t) ≡ at_hand rs Ends
+  pub begins : (rs : List Reply) (t : TransferView) → asks rs ≡ Some t → at_hand rs (walk_for b t) ≡ at_hand rs Ends
   begins rs t asked = by (is_over (walk_for b t)) ∙ sym first
     where
       first : begun b (asks rs) ≡ walk_for b t

@@ -57,7 +57,7 @@ replies_first before (entry.Message c bus purpose part parts addr reading bytes 
 replies_first before (entry.Line c mux level failed) steps = refl
 replies_first before (entry.Settle c r cut) steps = refl
 
-replies_more : (steps : List Step) (before : Now) (e : Entry) → replies_in (steps ++ record { before = before; entry = e } ∷ []) ≡ replies_in steps ++ reply_at e
+pub replies_more : (steps : List Step) (before : Now) (e : Entry) → replies_in (steps ++ record { before = before; entry = e } ∷ []) ≡ replies_in steps ++ reply_at e
 replies_more [] before e = replies_first before e [] ∙ append-nil (reply_at e)
 replies_more (s ∷ steps) before e =
     replies_first s.before s.entry (steps ++ record { before = before; entry = e } ∷ [])
