@@ -36,11 +36,14 @@ first_failing fails made calls = find (λ i. fails (made + i)) (range_with_len 0
 abbrev pub talk_in : BoardView → World → Job → ℕ → Option ℕ → TalkTold World
 talk_in b w job left cut = talk world_listener (block_limit b) w (message_of b job left) (is_last job left) cut
 
+-- which of its calls that is, for the message of a job that comes next
+abbrev pub next_failing : BoardView → Failing → Now → Job → ℕ → Option ℕ
+next_failing b fails n job left =
+    first_failing (fails (root_of b (job_bus job))) (length (n.calls (root_of b (job_bus job))))
+    (length (talk_in b (n.worlds (root_of b (job_bus job))) job left None).calls)
+
 abbrev pub played_talk : BoardView → Failing → Now → Job → ℕ → TalkTold World
-played_talk b fails n job left =
-    talk_in b (n.worlds (root_of b (job_bus job))) job left
-    (first_failing (fails (root_of b (job_bus job))) (length (n.calls (root_of b (job_bus job))))
-    (length (talk_in b (n.worlds (root_of b (job_bus job))) job left None).calls))
+played_talk b fails n job left = talk_in b (n.worlds (root_of b (job_bus job))) job left (next_failing b fails n job left)
 
 abbrev pub heard_in : List Node → End → Option Node
 heard_in xs (end.Cut zero) = None
@@ -88,11 +91,11 @@ abbrev pub add_due : BoardView → Asks → Failing → Option ℕ → Played �
 add_due b asks fails None p = p
 add_due b asks fails (Some c) p = add b asks (next_entry b asks fails p.now c) p
 
+abbrev pub settle_due : BoardView → Asks → Failing → Played → Played
+settle_due b asks fails p = add_due b asks fails p.now.due p
+
 abbrev pub play_one : BoardView → Asks → Failing → ℕ → Played → Played
-play_one b asks fails c p = settle_due (add b asks (next_entry b asks fails p.now c) p)
-  where
-    settle_due : Played → Played
-    settle_due q = add_due b asks fails q.now.due q
+play_one b asks fails c p = settle_due b asks fails (add b asks (next_entry b asks fails p.now c) p)
 
 -- each of these callers in turn makes a step where it can
 abbrev pub play : BoardView → Asks → Failing → List ℕ → Played → Played

@@ -12,3 +12,4 @@ pub mod Follow
 pub mod Layers
 pub mod Due
 pub mod LegalSteps
+pub mod Play

@@ -22,7 +22,10 @@ pub use journals::{
     each_caller_walks_its_transfers, each_fault_is_a_failed_entry,
     each_reply_is_that_of_the_flat_world, the_devices_are_those_of_the_history,
 };
-pub use layers::{a_legal_journal_is_stepwise, each_prefix_of_a_legal_journal_is_legal};
+pub use layers::{
+    a_caller_adds_what_may_come, a_legal_journal_is_stepwise, a_played_journal_is_legal,
+    each_prefix_of_a_legal_journal_is_legal,
+};
 pub use readings::{
     each_mark_is_the_last_one_made, each_message_is_the_one_in_flight,
     each_walk_is_what_its_entries_left, each_world_is_that_of_its_calls, settled_is_replies,

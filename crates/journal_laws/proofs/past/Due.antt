@@ -1,6 +1,6 @@
 -- Where a settle is due, the last entry is a message or a line step that decides it, of a transfer that isn't refused. What
 -- is due for a caller stays due until it settles.
-use Rattle.std.proofs.Common.{◌≡◌, ℕ, Bool, true, false, cond, List, [], ◌∷◌, Option, Some, None, refl, sym, ◌∙◌, ap, subst, inl, inr}
+use Rattle.std.proofs.Common.{◌≡◌, ℕ, ◌<◌, Bool, true, false, cond, List, [], ◌∷◌, Option, Some, None, refl, sym, ◌∙◌, ap, subst, inl, inr}
 use Rattle.std.proofs.lemmas.Bool.Decides.{eqb_tells}
 use Rattle.i2c_base.specs.declared.errno.Errno.{Errno}
 use Rattle.i2c_base.specs.declared.entry.Entry.{Entry}
@@ -129,23 +129,34 @@ module _ (b : BoardView) (asks : Asks) (some : AsksForMessages asks) (callers : 
       subst (λ (i : ℕ). IsDue b asks (entry.Message d bus purpose part parts addr reading bytes heard e ∷ past) i) will.1
       (record { verdict = h.verdict; next = ap first_act walk ∙ h.first; transfer = h.transfer; asked = h.asked; accepted = h.accepted })
 
+  -- and is one of the callers
+  pub due-known : (past : List Entry) (c : ℕ) → IsStepwise b callers asks past → (now b asks past).due ≡ Some c → c < callers
+  due-known [] c steps due = absurd (let f : None ≡ Some c = due in cc)
+  due-known (entry.Take d l ∷ past) c steps due = absurd (let f : None ≡ Some c = sym steps.0.1 ∙ due in cc)
+  due-known (entry.Free d l ∷ past) c steps due = absurd (let f : None ≡ Some c = sym steps.0.1 ∙ due in cc)
+  due-known (entry.Settle d x cut ∷ past) c steps due = absurd (let f : None ≡ Some c = due in cc)
+  due-known (entry.Line d mux level failed ∷ past) c steps due =
+      subst (λ (i : ℕ). i < callers) (by_due (is_due (first_act ((now b asks (entry.Line d mux level failed ∷ past)).walk d))) d c due).1 steps.0.0
+  due-known (entry.Message d bus purpose part parts addr reading bytes heard e ∷ past) c steps due =
+      subst (λ (i : ℕ). i < callers) (by_due (is_due (first_act ((now b asks (entry.Message d bus purpose part parts addr reading bytes heard e ∷ past)).walk d))) d c due).1 steps.0.0
+
 -- WHAT STAYS DUE
 module _ (b : BoardView) (asks : Asks) where
   -- a walk that settles next does so, whatever is known of the buses
-  due_current : (past : List Entry) (c : ℕ) → (h : IsDue b asks past c) → first_act (current b asks (now b asks past) c) ≡ Some (Settle h.verdict)
-  due_current past c h =
+  pub due-settles : (past : List Entry) (c : ℕ) → (h : IsDue b asks past c) → first_act (current b asks (now b asks past) c) ≡ Some (Settle h.verdict)
+  due-settles past c h =
       let at = first_is ((now b asks past).walk c) (Settle h.verdict) h.next in
       ap (λ (w : WalkTree). first_act (seen (now b asks past).slot (cond (is_over w) (begun b (asks c ((now b asks past).settled c))) w))) at.2
 
   -- its entry is a settle
   pub tells-due : (past : List Entry) (e : Entry) → (h : IsDue b asks past (caller_of e)) → TellsNext b asks (now b asks past) e
       → (r : Reply) × (cut : _) × (e ≡ entry.Settle (caller_of e) r cut)
-  tells-due past (entry.Take d l) h tells = absurd (let f : Some (Take l) ≡ Some (Settle h.verdict) = sym tells ∙ due_current past d h in cc)
-  tells-due past (entry.Free d l) h tells = absurd (let f : Some (Free l) ≡ Some (Settle h.verdict) = sym tells ∙ due_current past d h in cc)
+  tells-due past (entry.Take d l) h tells = absurd (let f : Some (Take l) ≡ Some (Settle h.verdict) = sym tells ∙ due-settles past d h in cc)
+  tells-due past (entry.Free d l) h tells = absurd (let f : Some (Free l) ≡ Some (Settle h.verdict) = sym tells ∙ due-settles past d h in cc)
   tells-due past (entry.Line d mux level failed) h tells =
-      absurd (let f : Some (Shift tells.0) ≡ Some (Settle h.verdict) = sym tells.1 ∙ due_current past d h in cc)
+      absurd (let f : Some (Shift tells.0) ≡ Some (Settle h.verdict) = sym tells.1 ∙ due-settles past d h in cc)
   tells-due past (entry.Message d bus purpose part parts addr reading bytes heard e) h tells =
-      absurd (let f : Some (Send tells.0 tells.1) ≡ Some (Settle h.verdict) = sym tells.2 ∙ due_current past d h in cc)
+      absurd (let f : Some (Send tells.0 tells.1) ≡ Some (Settle h.verdict) = sym tells.2 ∙ due-settles past d h in cc)
   tells-due past (entry.Settle d r cut) h tells = (r, cut, refl)
 
   -- another's entry stands between a message and the settle that it decides
