@@ -4,3 +4,5 @@ pub mod Laws
 pub mod device
 -- What the entries of a past tell together.
 pub mod past
+-- Worked examples.
+pub mod worked

@@ -5,4 +5,5 @@ pub mod Counts
 pub mod Ends
 pub mod Flight
 pub mod Layers
+pub mod Worked
 pub mod Wrong

@@ -10,6 +10,7 @@ mod ends;
 mod journals;
 mod layers;
 mod readings;
+mod rows;
 mod wrong;
 
 pub use devices::{
@@ -30,6 +31,7 @@ pub use readings::{
     each_mark_is_the_last_one_made, each_message_is_the_one_in_flight,
     each_walk_is_what_its_entries_left, each_world_is_that_of_its_calls, settled_is_replies,
 };
+pub use rows::the_worked_journals_keep_every_rule;
 pub use wrong::{
     a_closed_channel_lets_nothing_through, a_failed_message_tells_its_part, a_forgotten_mark,
     a_line_tells_its_mux, a_lock_is_taken_by_one_caller, a_marked_mux_is_closed_first,

@@ -1,0 +1,52 @@
+-- A journal that is played is worked out, where its callers are through and it follows the schedule.
+use Rattle.std.proofs.Common.{◌≡◌, ℕ, ◌<◌, nat_lt, true, List, [], length, reverse, None, subst}
+use Rattle.std.specs.List.{list_all, AllByRecursion}
+use Rattle.i2c_base.specs.declared.entry.Entry.{Entry}
+use Rattle.i2c_base.specs.Board.{BoardView}
+use Rattle.i2c_base.specs.Transfer.{TransferView, IsTransfer}
+use Rattle.i2c_spec.specs.TreeFacts.{IsTree}
+use Rattle.i2c_spec.specs.Plain.{IsPlainBoard}
+use Rattle.i2c_spec.specs.Rules.{MeetsRules}
+use Rattle.bus_spec.specs.Past.{now}
+use Rattle.bus_spec.specs.Play.{Failing, played, transfers_of}
+use Rattle.bus_spec.specs.Schedule.{turns}
+use Rattle.bus_spec.specs.Stepwise.{IsStepwise}
+use Rattle.bus_laws.specs.Lines.{LinesAreLocked}
+use Rattle.bus_laws.specs.Reach.{AsksForMessages, AsksWithinLimits}
+use Rattle.bus_laws.proofs.world.LineFacts.{lines-locked}
+use Rattle.journal_laws.specs.Ends.{IsDone}
+use Rattle.journal_laws.specs.Worked.{IsWorkedOut}
+use Rattle.journal_laws.proofs.device.Law.{replies-kept}
+use Rattle.journal_laws.proofs.past.Ends.{complete-then}
+use Rattle.journal_laws.proofs.past.Legal.{legal-with}
+use Rattle.journal_laws.proofs.past.Play.{played-steps}
+use Rattle.journal_laws.proofs.worked.Checks.{all-below, asks-each, follows_words, follows}
+
+abbrev pub IsAskable : TransferView → Type 0
+IsAskable t = (0 < length t.msgs) × IsTransfer t.msgs t.out
+
+pub worked-out : (b : BoardView) → IsTree b → IsPlainBoard b → MeetsRules b → (scripts : List (List TransferView)) → AllByRecursion (AllByRecursion IsAskable) scripts
+    → (fails : Failing) (steps : List ℕ) → list_all (λ c. nat_lt c (length scripts)) steps ≡ true → (journal : List Entry) → played b (transfers_of scripts) fails steps ≡ journal
+    → ((c : ℕ) → c < length scripts → IsDone (transfers_of scripts) (now b (transfers_of scripts) (reverse journal)) c)
+    → (words : List ℕ) → follows_words words [] (turns journal) ≡ true → IsWorkedOut b scripts words journal
+worked-out b tree plain rules scripts askable fails steps known journal is done words so =
+    record {
+      legal = legal-with b tree plain lines (transfers_of scripts) some (length scripts) (reverse journal) made.0 made.1
+          (replies-kept b tree plain lines (transfers_of scripts) some limits (length scripts) (reverse journal) made.0);
+      complete = complete-then b tree plain lines (transfers_of scripts) some (length scripts) (reverse journal) made.0 done;
+      follows = follows words journal so;
+    }
+  where
+    lines : LinesAreLocked b
+    lines = lines-locked b rules
+
+    some : AsksForMessages (transfers_of scripts)
+    some c rs t e = (asks-each IsAskable scripts askable c rs t e).0
+
+    limits : AsksWithinLimits (transfers_of scripts)
+    limits c rs t e = (asks-each IsAskable scripts askable c rs t e).1
+
+    made : IsStepwise b (length scripts) (transfers_of scripts) (reverse journal) × ((now b (transfers_of scripts) (reverse journal)).due ≡ None)
+    made =
+        subst (λ (es : List Entry). IsStepwise b (length scripts) (transfers_of scripts) (reverse es) × ((now b (transfers_of scripts) (reverse es)).due ≡ None)) is
+        (played-steps b tree plain lines (transfers_of scripts) some (length scripts) fails steps (all-below (length scripts) steps known))
