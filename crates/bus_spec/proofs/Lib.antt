@@ -1,2 +1,3 @@
--- Paths of a walk: a doer's path ends in what follows it, and locks stand around the path of their job.
+-- Paths of a walk: each piece of the grammar keeps its rule, and so does the walk of a transfer.
 pub mod PathLemmas
+pub mod WalkLemmas

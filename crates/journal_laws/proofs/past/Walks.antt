@@ -17,6 +17,7 @@ use Rattle.bus_spec.specs.Tells.{Tells}
 use Rattle.bus_spec.specs.Stepwise.{TellsNext, May, IsStepwise}
 use Rattle.bus_spec.specs.Places.{outcome_of}
 use Rattle.bus_spec.specs.Legal.{Step, Leads, replies_in, AreWalks, none, whole, front, steps_in, KeepsWalks}
+use Rattle.bus_spec.proofs.WalkLemmas.{tells_none}
 use Rattle.bus_laws.specs.Reach.{AsksForMessages}
 use Rattle.bus_laws.specs.Settles.{NoSettle, Settles}
 use Rattle.bus_laws.proofs.tree.Slots.{eqb-apart}
@@ -33,14 +34,6 @@ leads_more b w u [] before e leads tells =
     subst (λ (x : WalkTree). Leads b x (record { before = before; entry = e } ∷ []) (rest_of (seen before.slot u) (outcome_of e))) leads (tells, refl)
 leads_more b w u (s ∷ steps) before e leads tells =
     (leads.0, leads_more b (rest_of (seen s.before.slot w) (outcome_of s.entry)) u steps before e leads.1 tells)
-
--- no entry is a step of a walk that has ended
-pub tells_none : (b : BoardView) (n : Now) (e : Entry) → Tells b n Ends e → ⊥
-tells_none b n (entry.Take c l) tells = (let f : None ≡ Some (Take l) = tells in cc)
-tells_none b n (entry.Free c l) tells = (let f : None ≡ Some (Free l) = tells in cc)
-tells_none b n (entry.Message c bus purpose part parts addr reading bytes heard e) tells = (let f : None ≡ Some (Send tells.0 tells.1) = tells.2 in cc)
-tells_none b n (entry.Line c mux level failed) tells = (let f : None ≡ Some (Shift tells.0) = tells.1 in cc)
-tells_none b n (entry.Settle c r cut) tells = (let f : None ≡ Some (Settle tells.0) = tells.1 in cc)
 
 -- the reply that an entry settles
 abbrev pub reply_at : Entry → List Reply
