@@ -1,6 +1,7 @@
 -- The small boards of the worked examples are accepted ones, and their transfers within the limits.
 use Rattle.std.proofs.Common.{◌≡◌, ℕ, Bool, true, false, Some, reverse, ◌<◌, ◌≤◌, List, [], ◌∷◌, length, refl, arith}
 use Rattle.std.specs.List.{AllByRecursion}
+use Rattle.i2c_base.specs.Addr.{IsTargetAddress}
 use Rattle.i2c_base.specs.Board.{DeviceView}
 use Rattle.i2c_base.specs.Bytes.{IsByte}
 use Rattle.i2c_base.specs.declared.board.MuxSpec.{MuxSpec}
@@ -33,10 +34,11 @@ plain muxes devices few_muxes few_devices each_mux each_device planted placed =
       placed = all-each (λ d. d.bus < buses (row.board muxes devices)) devices placed;
     }
 
-a-device : (bus addr reg byte : ℕ) → reg < 256 → byte < 256 → IsPlainDevice (row.regs bus addr reg byte)
-a-device bus addr reg byte within small =
+a-device : (bus addr reg byte : ℕ) → IsTargetAddress addr → reg < 256 → byte < 256 → IsPlainDevice (row.regs bus addr reg byte)
+a-device bus addr reg byte named within small =
     record {
-      kind = omega arith;
+      address = named;
+      kind = ((omega arith, omega arith), tt);
       runs = all-each (IsPlainRun 256) (row.regs bus addr reg byte).set (record { some = omega arith; within = omega (arith, within); bytes = all-each IsByte (byte ∷ []) (small, tt) }, tt);
     }
 
@@ -55,17 +57,17 @@ read-within bus addr reg small =
     }
 
 -- THE BOARDS
-a-switch : (kind : MuxKind) (n : ℕ) (bus addr : ℕ) (lock : LockMode) (absent : Bool) → FitsChannels kind n → FitsChip kind (Some addr) absent → FitsForeign kind 0
+a-switch : (kind : MuxKind) (n : ℕ) (bus addr : ℕ) (lock : LockMode) (absent : Bool) → IsTargetAddress addr → FitsChannels kind n → FitsChip kind (Some addr) absent → FitsForeign kind 0
     → IsPlainMux (row.mux kind bus addr n lock absent)
-a-switch kind n bus addr lock absent channels chip foreign = record { channels = channels; chip = chip; foreign = foreign }
+a-switch kind n bus addr lock absent named channels chip foreign = record { channels = channels; chip = chip; address = named; foreign = foreign }
 
 both-devices : AllByRecursion IsPlainDevice row.two_devices
-both-devices = (a-device 0 0x20 5 0x7e (omega arith) (omega arith), (a-device 1 0x30 0 0x11 (omega arith) (omega arith), tt))
+both-devices = (a-device 0 0x20 5 0x7e (omega arith, omega arith) (omega arith) (omega arith), (a-device 1 0x30 0 0x11 (omega arith, omega arith) (omega arith) (omega arith), tt))
 
 pub mux-locked-plain : IsPlainBoard row.mux_locked
 mux-locked-plain =
     plain (row.mux Pca9548 0 0x70 8 Mux false ∷ []) row.two_devices (omega arith) (omega arith)
-    (a-switch Pca9548 8 0 0x70 Mux false refl refl refl, tt) both-devices (omega arith, tt) (omega arith, (omega arith, tt))
+    (a-switch Pca9548 8 0 0x70 Mux false (omega arith, omega arith) refl refl refl, tt) both-devices (omega arith, tt) (omega arith, (omega arith, tt))
 
 pub mux-locked-rules : MeetsRules row.mux_locked
 mux-locked-rules = record { addresses = no-pair _ _ refl; depths = none-of _ _ refl; locks = none-of _ _ refl; parents = none-of _ _ refl; idles = none-of _ _ refl }
@@ -73,7 +75,7 @@ mux-locked-rules = record { addresses = no-pair _ _ refl; depths = none-of _ _ r
 pub parent-locked-plain : IsPlainBoard row.parent_locked
 parent-locked-plain =
     plain (row.mux Pca9548 0 0x70 8 Parent false ∷ []) row.two_devices (omega arith) (omega arith)
-    (a-switch Pca9548 8 0 0x70 Parent false refl refl refl, tt) both-devices (omega arith, tt) (omega arith, (omega arith, tt))
+    (a-switch Pca9548 8 0 0x70 Parent false (omega arith, omega arith) refl refl refl, tt) both-devices (omega arith, tt) (omega arith, (omega arith, tt))
 
 pub parent-locked-rules : MeetsRules row.parent_locked
 parent-locked-rules = record { addresses = no-pair _ _ refl; depths = none-of _ _ refl; locks = none-of _ _ refl; parents = none-of _ _ refl; idles = none-of _ _ refl }
@@ -81,7 +83,7 @@ parent-locked-rules = record { addresses = no-pair _ _ refl; depths = none-of _ 
 pub absent-inner-plain : IsPlainBoard row.absent_inner
 absent-inner-plain =
     plain (row.mux Pca9548 0 0x70 8 Parent false ∷ row.mux Pca9546 1 0x71 4 Parent true ∷ []) row.two_devices (omega arith) (omega arith)
-    (a-switch Pca9548 8 0 0x70 Parent false refl refl refl, (a-switch Pca9546 4 1 0x71 Parent true refl refl refl, tt)) both-devices
+    (a-switch Pca9548 8 0 0x70 Parent false (omega arith, omega arith) refl refl refl, (a-switch Pca9546 4 1 0x71 Parent true (omega arith, omega arith) refl refl refl, tt)) both-devices
     (omega arith, (omega arith, tt)) (omega arith, (omega arith, tt))
 
 pub absent-inner-rules : MeetsRules row.absent_inner
@@ -90,7 +92,7 @@ absent-inner-rules = record { addresses = no-pair _ _ refl; depths = none-of _ _
 pub absent-outer-plain : IsPlainBoard row.absent_outer
 absent-outer-plain =
     plain (row.mux Pca9548 0 0x70 8 Parent true ∷ row.mux Pca9546 1 0x71 4 Parent false ∷ []) row.two_devices (omega arith) (omega arith)
-    (a-switch Pca9548 8 0 0x70 Parent true refl refl refl, (a-switch Pca9546 4 1 0x71 Parent false refl refl refl, tt)) both-devices
+    (a-switch Pca9548 8 0 0x70 Parent true (omega arith, omega arith) refl refl refl, (a-switch Pca9546 4 1 0x71 Parent false (omega arith, omega arith) refl refl refl, tt)) both-devices
     (omega arith, (omega arith, tt)) (omega arith, (omega arith, tt))
 
 pub absent-outer-rules : MeetsRules row.absent_outer
@@ -100,8 +102,8 @@ pub chain-plain : IsPlainBoard row.chain
 chain-plain =
     plain (row.mux Pca9548 0 0x70 8 Parent false ∷ row.mux Pca9546 1 0x71 4 Parent false ∷ row.mux Pca9546 9 0x72 4 Parent false ∷ [])
     (row.regs 0 0x20 5 0x7e ∷ row.regs 1 0x30 0 0x11 ∷ row.regs 13 0x40 0 0x22 ∷ []) (omega arith) (omega arith)
-    (a-switch Pca9548 8 0 0x70 Parent false refl refl refl, (a-switch Pca9546 4 1 0x71 Parent false refl refl refl, (a-switch Pca9546 4 9 0x72 Parent false refl refl refl, tt)))
-    (a-device 0 0x20 5 0x7e (omega arith) (omega arith), (a-device 1 0x30 0 0x11 (omega arith) (omega arith), (a-device 13 0x40 0 0x22 (omega arith) (omega arith), tt)))
+    (a-switch Pca9548 8 0 0x70 Parent false (omega arith, omega arith) refl refl refl, (a-switch Pca9546 4 1 0x71 Parent false (omega arith, omega arith) refl refl refl, (a-switch Pca9546 4 9 0x72 Parent false (omega arith, omega arith) refl refl refl, tt)))
+    (a-device 0 0x20 5 0x7e (omega arith, omega arith) (omega arith) (omega arith), (a-device 1 0x30 0 0x11 (omega arith, omega arith) (omega arith) (omega arith), (a-device 13 0x40 0 0x22 (omega arith, omega arith) (omega arith) (omega arith), tt)))
     (omega arith, (omega arith, (omega arith, tt))) (omega arith, (omega arith, (omega arith, tt)))
 
 pub chain-rules : MeetsRules row.chain
@@ -111,7 +113,7 @@ pub arbitrator-plain : (foreign : ℕ) → foreign ≤ 8 → IsPlainBoard (row.a
 arbitrator-plain foreign few =
     plain ((record { bus = 0; kind = Pca9541; addr = Some 0x72; channels = 1; lock = Parent; absent = false; foreign = foreign; idle = Disconnect }) ∷ [])
     (row.regs 1 0x20 5 0x7e ∷ []) (omega arith) (omega arith)
-    (record { channels = refl; chip = refl; foreign = few }, tt) (a-device 1 0x20 5 0x7e (omega arith) (omega arith), tt) (omega arith, tt) (omega arith, tt)
+    (record { channels = refl; chip = refl; address = (omega arith, omega arith); foreign = (omega arith, few) }, tt) (a-device 1 0x20 5 0x7e (omega arith, omega arith) (omega arith) (omega arith), tt) (omega arith, tt) (omega arith, tt)
 
 pub arbitrator-rules : (foreign : ℕ) → MeetsRules (row.arbitrator foreign)
 arbitrator-rules foreign = record { addresses = no-pair _ _ refl; depths = none-of _ _ refl; locks = none-of _ _ refl; parents = none-of _ _ refl; idles = none-of _ _ refl }
