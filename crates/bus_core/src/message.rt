@@ -17,7 +17,7 @@ use std::marker::Model;
 
 /// A message with its bytes, as it goes over the wires. A contract sees the record of these parts; it is not a counted
 /// read.
-#[derive(Debug, Drop)]
+#[derive(Drop)]
 pub struct Message<'a> {
     pub addr: Addr,
     pub reading: bool,
@@ -37,7 +37,7 @@ impl<'a> Model for Message<'a> {
 }
 
 /// What came of a message.
-#[derive(Debug, Drop)]
+#[derive(Drop)]
 pub struct Told {
     /// Of a write the bytes that were acknowledged, of a read all that came.
     pub bytes: ByteList,

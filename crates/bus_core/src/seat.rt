@@ -23,7 +23,7 @@ use i2c_spec::done_with;
 use mux_plan::{Action, Outcome, Walk};
 
 /// Where a caller stands on the bus.
-#[derive(Debug, Drop)]
+#[derive(Drop)]
 pub struct Seat {
     /// The transfer under way, or the last one.
     pub transfer: Transfer,

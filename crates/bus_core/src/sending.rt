@@ -7,7 +7,7 @@ use bus_journal::{EntryRef, Head};
 use i2c_base::{Addr, ByteList, End, Node, Purpose, SegId};
 
 /// A message that a walk sends next.
-#[derive(Clone, Copy, Debug, PartialEq, Eq)]
+#[derive(Clone, Copy)]
 pub struct Sending {
     pub bus: SegId,
     pub purpose: Purpose,
@@ -19,7 +19,7 @@ pub struct Sending {
 }
 
 /// What came of a message.
-#[derive(Debug, Drop)]
+#[derive(Drop)]
 pub struct Sent {
     pub addr: Addr,
     pub reading: bool,

@@ -189,7 +189,7 @@ fn open<P: Port, C: Caller>(parts: &mut Parts<'_, P, C>, transfer: Transfer)
 }
 
 /// What came of a step.
-#[derive(Clone, Copy, Debug, PartialEq, Eq)]
+#[derive(Clone, Copy)]
 pub enum StepAnswer {
     Stepped,
     /// The script is used up.

@@ -12,7 +12,7 @@ use i2c_base::{
 use std::alloc::Global;
 
 /// Why a line is not read.
-#[derive(Clone, Copy, Debug, PartialEq, Eq)]
+#[derive(Clone, Copy)]
 pub enum EntryFault {
     /// No entry has this text.
     NotAnEntry,

@@ -6,7 +6,7 @@ use std::marker::Model;
 /// The 7-bit address of a target, from 0x08 to 0x77. A contract sees the number.
 ///
 /// The addresses outside are reserved (UM10204 section 3.1.12).
-#[derive(Clone, Copy, Debug, PartialEq, Eq)]
+#[derive(Clone, Copy, PartialEq, Eq)]
 pub struct Addr {
     value: u8,
 }

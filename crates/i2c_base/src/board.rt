@@ -4,14 +4,14 @@ use crate::{Addr, SegId};
 use std::marker::Model;
 
 /// A root bus.
-#[derive(Clone, Copy, Debug, Default)]
+#[derive(Clone, Copy, Default)]
 pub struct RootSpec {
     /// Its adapter offers SMBus calls alone, and no plain transfers.
     pub smbus_only: bool,
 }
 
 /// The kinds of mux, named for the chips that Linux's drivers know; `Gpio` is switched by a line.
-#[derive(Clone, Copy, Debug, PartialEq, Eq)]
+#[derive(Clone, Copy)]
 pub enum MuxKind {
     /// A switch of eight channels.
     Pca9548,
@@ -26,21 +26,21 @@ pub enum MuxKind {
 }
 
 /// Which locks a transfer through the mux holds while it runs (Linux i2c-topology).
-#[derive(Clone, Copy, Debug)]
+#[derive(Clone, Copy)]
 pub enum LockMode {
     Parent,
     Mux,
 }
 
 /// What a mux does after a transfer.
-#[derive(Clone, Copy, Debug)]
+#[derive(Clone, Copy)]
 pub enum Idle {
     Disconnect,
     AsIs,
 }
 
 /// A mux: where it stands, how it is addressed, and how it behaves.
-#[derive(Clone, Copy, Debug)]
+#[derive(Clone, Copy)]
 pub struct MuxSpec {
     /// The bus that the mux stands on.
     pub bus: SegId,
@@ -58,7 +58,7 @@ pub struct MuxSpec {
 }
 
 /// The sizes of EEPROM: 256, 4096 and 32768 bytes.
-#[derive(Clone, Copy, Debug)]
+#[derive(Clone, Copy)]
 pub enum Size {
     C02,
     C32,
@@ -66,7 +66,7 @@ pub enum Size {
 }
 
 /// The kinds of device, each with what it alone has.
-#[derive(Clone, Copy, Debug)]
+#[derive(Clone, Copy)]
 pub enum DeviceKind {
     Eeprom {
         size: Size,
@@ -94,7 +94,7 @@ pub enum DeviceKind {
 }
 
 /// Bytes of a device's memory from a place on.
-#[derive(Debug, Drop)]
+#[derive(Drop)]
 pub struct Run {
     pub start: u16,
     pub bytes: Vec<u8>,
@@ -109,7 +109,7 @@ impl Model for Run {
 }
 
 /// A device: where it stands, its address, and what it holds at the opening.
-#[derive(Debug, Drop)]
+#[derive(Drop)]
 pub struct DeviceSpec {
     pub bus: SegId,
     pub addr: Addr,

@@ -10,7 +10,7 @@ pub type Bytes = ByteStore<4096>;
 pub type ByteList = ByteStore<512>;
 
 /// Up to so many bytes, which take no memory. A contract sees the list.
-#[derive(Debug, PartialEq, Eq, Drop)]
+#[derive(Drop)]
 pub struct ByteStore<const N: usize> {
     items: ArrayVec<u8, N>,
 }

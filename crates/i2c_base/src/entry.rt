@@ -1,7 +1,7 @@
 use crate::{Addr, ByteList, Cut, LockId, MuxId, Node, Reply, SegId};
 
 /// Why a message is sent.
-#[derive(Clone, Copy, Debug, PartialEq, Eq)]
+#[derive(Clone, Copy)]
 pub enum Purpose {
     /// It belongs to the caller's transfer.
     Call,
@@ -10,7 +10,7 @@ pub enum Purpose {
 }
 
 /// How a message ended.
-#[derive(Clone, Copy, Debug, PartialEq, Eq)]
+#[derive(Clone, Copy, PartialEq, Eq)]
 pub enum End {
     Ok,
     /// Nobody acknowledged the address.

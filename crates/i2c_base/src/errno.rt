@@ -2,7 +2,7 @@ ghost use Rattle.std.specs.Prelude.{◌≡◌};
 ghost use Rattle.i2c_base.specs.Errno.{number_of};
 
 /// Why a transfer or a command failed, with Linux's names (fault-codes).
-#[derive(Clone, Copy, Debug, PartialEq, Eq)]
+#[derive(Clone, Copy, Debug)]
 pub enum Errno {
     /// A data byte was not acknowledged.
     Eio,

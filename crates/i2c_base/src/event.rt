@@ -2,7 +2,7 @@ ghost use Rattle.std.specs.Prelude.{◌≡◌};
 ghost use Rattle.i2c_base.specs.Table.{Table};
 
 /// What a target sees of the wires, a byte at a time (UM10204 section 3.1).
-#[derive(Clone, Copy, Debug)]
+#[derive(Clone, Copy)]
 pub enum Event {
     /// A start, or a repeated start, with the target's address.
     Start { reading: bool },
@@ -16,7 +16,7 @@ pub enum Event {
 }
 
 /// What a target answers to an event.
-#[derive(Clone, Copy, Debug, PartialEq, Eq)]
+#[derive(Clone, Copy)]
 pub enum Answer {
     Ack,
     Nack,

@@ -3,7 +3,7 @@ ghost use Rattle.std.specs.Prelude.{⊤, ◌≡◌, [], ◌∷◌, codes};
 use bitflags::{Flag, Flags, bitflag_items};
 
 /// What kind of message it is, with Linux's bits (`I2C_M_RD`, `I2C_M_RECV_LEN`). No bit is a write.
-#[derive(Clone, Copy, Debug, Default)]
+#[derive(Clone, Copy, Default)]
 pub struct MsgFlags(u16);
 
 bitflag_items! {

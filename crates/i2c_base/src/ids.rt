@@ -4,7 +4,7 @@ use std::marker::Model;
 
 /// The number of a bus: roots first in file order, then each mux's channels in file order.
 /// A contract sees the number.
-#[derive(Clone, Copy, Debug, Default, PartialEq, Eq, Hash)]
+#[derive(Clone, Copy, Default, PartialEq, Eq)]
 pub struct SegId(pub u16);
 
 impl Model for SegId {
@@ -16,7 +16,7 @@ impl Model for SegId {
 }
 
 /// The place of a mux in the board file, from 0. A contract sees the number.
-#[derive(Clone, Copy, Debug, Default, PartialEq, Eq, Hash)]
+#[derive(Clone, Copy, Default, PartialEq, Eq)]
 pub struct MuxId(pub u16);
 
 impl Model for MuxId {
@@ -28,7 +28,7 @@ impl Model for MuxId {
 }
 
 /// The place of a device in the board file, from 0. A contract sees the number.
-#[derive(Clone, Copy, Debug, Default, PartialEq, Eq, Hash)]
+#[derive(Clone, Copy, Default, PartialEq, Eq)]
 pub struct DevId(pub u16);
 
 impl Model for DevId {
@@ -41,7 +41,7 @@ impl Model for DevId {
 
 /// A lock of the board (Linux i2c-topology): the lock of a root's wires, or the one lock of all muxes
 /// that stand on a bus.
-#[derive(Clone, Copy, Debug, PartialEq, Eq, Hash)]
+#[derive(Clone, Copy, PartialEq, Eq)]
 pub enum LockId {
     Bus(SegId),
     Mux(SegId),
@@ -55,7 +55,7 @@ impl Default for LockId {
 }
 
 /// A target on the wires: a device, or the chip of a mux.
-#[derive(Clone, Copy, Debug, PartialEq, Eq)]
+#[derive(Clone, Copy, PartialEq, Eq)]
 pub enum Node {
     Device(DevId),
     Chip(MuxId),

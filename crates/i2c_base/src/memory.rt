@@ -3,7 +3,7 @@ ghost use Rattle.i2c_base.specs.declared.memory.NoMemory.{NoMemory};
 use std::alloc::{AllocError, AllocFailed};
 
 /// Memory was wanted and there was none. It says nothing else.
-#[derive(Clone, Copy, Debug)]
+#[derive(Clone, Copy)]
 pub struct NoMemory;
 
 impl From<AllocError> for NoMemory {

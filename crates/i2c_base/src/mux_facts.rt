@@ -4,7 +4,7 @@ ghost use Rattle.i2c_base.specs.Muxes.{facts_of, switch_of, IsNarrowCode};
 use crate::MuxKind;
 
 /// Which channel is open at a control byte, or at a level of the line.
-#[derive(Clone, Copy, Debug, PartialEq, Eq)]
+#[derive(Clone, Copy)]
 pub enum ChannelCode {
     /// Bit i opens channel i, and each bit one of its own.
     Bits,
@@ -17,7 +17,7 @@ pub enum ChannelCode {
 }
 
 /// What is so of every mux of a kind.
-#[derive(Clone, Copy, Debug)]
+#[derive(Clone, Copy)]
 pub struct MuxFacts {
     /// How many channels it has, 1 to 8; none where the board says it.
     pub channels: Option<u8>,

@@ -1,7 +1,7 @@
 use crate::{Addr, MuxId};
 
 /// A call on a port, as its log keeps it.
-#[derive(Clone, Copy, Debug, PartialEq, Eq)]
+#[derive(Clone, Copy)]
 pub enum PortCall {
     /// A start, or a repeated start: the address, and whether the message reads.
     Start(Addr, bool),

@@ -3,7 +3,7 @@ ghost use Rattle.std.specs.Prelude.{◌≡◌};
 use crate::{Bytes, Errno};
 
 /// The answer of a transfer.
-#[derive(Debug, PartialEq, Eq, Drop)]
+#[derive(Drop)]
 pub enum Reply {
     /// It went through, and no message of it reads.
     Done,
@@ -26,7 +26,7 @@ impl Reply {
 }
 
 /// Where a failed call on the port cut a transfer off.
-#[derive(Clone, Copy, Debug)]
+#[derive(Clone, Copy)]
 pub enum Cut {
     No,
     /// On the way, before its first message.

@@ -11,14 +11,14 @@ use bitflags::Flags;
 use std::marker::Model;
 
 /// Whether a transfer is a call of SMBus or a plain one of I2C.
-#[derive(Clone, Copy, Debug)]
+#[derive(Clone, Copy)]
 pub enum Kind {
     Smbus,
     Plain,
 }
 
 /// A message: one start, the address byte, and its data. Its bytes stand in its transfer.
-#[derive(Clone, Copy, Debug, Default)]
+#[derive(Clone, Copy, Default)]
 pub struct Msg {
     pub addr: Addr,
     pub flags: MsgFlags,
@@ -45,14 +45,14 @@ impl Msg {
 }
 
 /// The message would pass a limit of its transfer.
-#[derive(Clone, Copy, Debug)]
+#[derive(Clone, Copy)]
 pub struct TooLong;
 
 /// Messages up to one stop, on one bus, joined by repeated starts. A contract sees its parts as plain lists.
 ///
 /// It has at most 42 messages and 4,096 bytes, and each message at most 512 (the limits of Linux's
 /// `I2C_RDWR`, and of the buffers here). A counted read stands for 258 bytes.
-#[derive(Debug, Drop)]
+#[derive(Drop)]
 pub struct Transfer {
     bus: u16,
     kind: Kind,

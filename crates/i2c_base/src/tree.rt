@@ -1,7 +1,7 @@
 use crate::{DevId, MuxId};
 
 /// To whom an address on a bus leads.
-#[derive(Clone, Copy, Debug, PartialEq, Eq)]
+#[derive(Clone, Copy)]
 pub enum Grant {
     Named(DevId),
     Nobody,
@@ -10,7 +10,7 @@ pub enum Grant {
 }
 
 /// Whether the muxes over a bus let a message through.
-#[derive(Clone, Copy, Debug, PartialEq, Eq)]
+#[derive(Clone, Copy)]
 pub enum Way {
     Clear,
     /// This mux is absent: its chip acknowledges nothing.

@@ -4,7 +4,7 @@ use crate::Board;
 use std::marker::Model;
 
 /// A board that meets the five topology rules. A contract sees the board.
-#[derive(Debug, Drop)]
+#[derive(Drop)]
 pub struct Accepted {
     board: Board,
 }

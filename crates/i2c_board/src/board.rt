@@ -11,7 +11,7 @@ use std::marker::Model;
 ///
 /// Its type keeps that it has 1 to `MOST_ROOTS` roots, at most `MOST_MUXES` muxes and `MOST_DEVICES` devices, that
 /// each part has only what its kind allows, and that each mux and device stands on a bus that is there.
-#[derive(Debug, Drop)]
+#[derive(Drop)]
 pub struct Board {
     version: u8,
     roots: Vec<RootSpec>,

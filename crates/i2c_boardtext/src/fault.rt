@@ -4,7 +4,7 @@ ghost use Rattle.i2c_boardtext.specs.BoardText.{placed_fault};
 use std::alloc::{AllocError, AllocFailed};
 
 /// Whose table a fault is in, or which array has too many or too few tables.
-#[derive(Clone, Copy, Debug, PartialEq, Eq, Hash)]
+#[derive(Clone, Copy, Debug)]
 pub enum TableName {
     /// The document itself.
     Top,
@@ -23,7 +23,7 @@ pub enum TableFault {
 }
 
 /// Why a text is no board. Tables of one name count from 0, in file order; the top is table 0.
-#[derive(Clone, Copy, Debug, PartialEq, Eq, Hash)]
+#[derive(Clone, Copy, Debug)]
 pub enum BoardFault {
     /// It isn't a TOML document.
     NotToml,

@@ -5,11 +5,11 @@ ghost use Rattle.i2c_outside.specs.declared.failed.RigFail.TheVariants.{Memory a
 use std::alloc::{AllocError, AllocFailed};
 
 /// A call failed, and its object counted a fault.
-#[derive(Clone, Copy, Debug, PartialEq, Eq)]
+#[derive(Clone, Copy)]
 pub struct Failed;
 
 /// Why a file was not read.
-#[derive(Clone, Copy, Debug, PartialEq, Eq)]
+#[derive(Clone, Copy)]
 pub enum ReadFail {
     /// The shelf counted a fault at this place.
     Failed,
@@ -33,7 +33,7 @@ impl<T: Drop> From<AllocFailed<T>> for ReadFail {
 }
 
 /// Why a rig was not plugged.
-#[derive(Clone, Copy, Debug, PartialEq, Eq)]
+#[derive(Clone, Copy)]
 pub enum RigFail {
     /// The rig counted a fault.
     Failed,

@@ -4,7 +4,7 @@ use i2c_base::{MuxId, MuxKind, SegId};
 use std::marker::Model;
 
 /// A mux that is crossed on the way from a bus to its root. A contract sees the record of these parts.
-#[derive(Clone, Copy, Debug, PartialEq, Eq)]
+#[derive(Clone, Copy)]
 pub struct Hop {
     /// The bus behind the mux.
     pub bus: SegId,

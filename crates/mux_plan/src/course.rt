@@ -19,7 +19,7 @@ use std::marker::Model;
 
 /// What a walk knows of its transfer: the muxes over its bus, and how many messages it has. A contract sees the record
 /// of these parts.
-#[derive(Debug, Drop)]
+#[derive(Drop)]
 pub struct Course {
     pub root: SegId,
     /// The muxes over the bus, nearest first.

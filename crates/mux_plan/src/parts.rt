@@ -21,7 +21,7 @@ use i2c_board::Board;
 use i2c_spec::Hop;
 
 /// The parts of a walk.
-#[derive(Debug, Drop)]
+#[derive(Drop)]
 pub struct Parts {
     pub course: Course,
     pub stack: Stack<Task>,

@@ -2,7 +2,7 @@ use i2c_base::{ByteList, End, Errno, LockId, MuxId, MuxKind, Purpose, SegId};
 use i2c_spec::Hop;
 
 /// What is to be done on a bus.
-#[derive(Clone, Copy, Debug)]
+#[derive(Clone, Copy)]
 pub enum Work {
     /// The caller's messages are sent.
     Call,
@@ -17,7 +17,7 @@ pub enum Work {
 }
 
 /// What came of a piece of work.
-#[derive(Clone, Copy, Debug)]
+#[derive(Clone, Copy)]
 pub enum Came {
     Good,
     /// Its own message was refused.
@@ -29,7 +29,7 @@ pub enum Came {
 }
 
 /// A task on the stack of a walk. A place counts the muxes that were crossed, so the place of the transfer's bus is 0.
-#[derive(Clone, Copy, Debug)]
+#[derive(Clone, Copy)]
 pub enum Task {
     /// The work is done on the bus at this place, whose locks are held.
     Enter {

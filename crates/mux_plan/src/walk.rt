@@ -21,7 +21,7 @@ use i2c_spec::Hop;
 use std::marker::Model;
 
 /// The walk of a transfer that isn't refused. A contract sees its tasks, and `walk_of` is the tree that they stand for.
-#[derive(Debug, Drop)]
+#[derive(Drop)]
 pub struct Walk {
     parts: Parts,
 }

@@ -3,7 +3,7 @@ ghost use Rattle.std.specs.Prelude.{◌≡◌};
 use i2c_base::NoMemory;
 
 /// Why a line was not read.
-#[derive(Clone, Copy, Debug)]
+#[derive(Clone, Copy)]
 pub enum LineFault {
     /// The place of the refused word, from 0: so many words are the longest front that begins a line of the grammar.
     Word(u16),
