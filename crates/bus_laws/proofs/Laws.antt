@@ -1,7 +1,7 @@
 -- The laws that the crates above cite, each passed on from the file that proves it.
 pub use Rattle.bus_laws.proofs.past.Asked.{settled-told}
 pub use Rattle.bus_laws.proofs.past.Marks.{mark-there}
-pub use Rattle.bus_laws.proofs.past.Known.{callers-known, next_act}
+pub use Rattle.bus_laws.proofs.past.Known.{callers-known, does-next}
 pub use Rattle.bus_laws.proofs.past.Next.{call-reaches, control-switches}
 pub use Rattle.bus_laws.proofs.past.NextLine.{next-line}
 pub use Rattle.bus_laws.proofs.past.Others.{others-stay}

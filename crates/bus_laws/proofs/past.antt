@@ -18,3 +18,5 @@ pub mod GoesOn
 pub mod Budgets
 pub mod Spent
 pub mod Together
+pub mod Failures
+pub mod OneEntry

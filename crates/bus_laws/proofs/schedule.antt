@@ -2,3 +2,5 @@
 pub mod Coming
 pub mod Turns
 pub mod Following
+pub mod Whole
+pub mod Unique

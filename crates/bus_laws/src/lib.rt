@@ -13,6 +13,7 @@ mod journals;
 mod next;
 mod others;
 mod targets;
+mod unique;
 mod waiting;
 mod walks;
 
@@ -38,6 +39,7 @@ pub use others::{
     an_entry_leaves_the_other_callers, the_next_step_stays, who_asks_for_nothing_never_steps,
 };
 pub use targets::each_message_reaches_its_target;
+pub use unique::{a_caller_alone_has_one_journal, a_schedule_has_one_journal};
 pub use waiting::{
     each_caller_goes_on_or_is_stuck, not_all_wait, some_caller_can_go_on, who_is_stuck_waits,
 };

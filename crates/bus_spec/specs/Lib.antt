@@ -6,6 +6,7 @@ pub mod Grammar
 pub mod Readings
 pub mod Past
 pub mod Places
+pub mod Failures
 pub mod Tells
 pub mod Stepwise
 pub mod Legal

@@ -25,12 +25,13 @@ use Rattle.bus_laws.specs.Coming.{IsTurn, Comes}
 use Rattle.bus_laws.proofs.past.Known.{takes, never}
 use Rattle.bus_laws.proofs.past.Stays.{next-stays}
 
-abbrev ready_by : List Entry → Option Turn → Bool
+-- whether the next step of a caller, if it has one, waits for no lock
+abbrev pub ready_by : List Entry → Option Turn → Bool
 ready_by past o = option_map_or (λ t. not (waits_for past t.entries)) o false
 
 module _ (b : BoardView) (tree : IsTree b) (plain : IsPlainBoard b) (lines : LinesAreLocked b) (asks : Asks) (some : AsksForMessages asks) (callers : ℕ) (c : ℕ) where
   -- a step of another leaves what a caller does next
-  turn-leaves : (past : List Entry) → IsStepwise b callers asks past → (t : Turn) → IsTurn b callers asks past t → (c ≡ t.caller → ⊥)
+  pub turn-leaves : (past : List Entry) → IsStepwise b callers asks past → (t : Turn) → IsTurn b callers asks past t → (c ≡ t.caller → ⊥)
       → IsStepwise b callers asks (past_after past t) × (current b asks (now b asks (past_after past t)) c ≡ current b asks (now b asks past) c)
   turn-leaves past steps t is other =
       elim is [
@@ -46,7 +47,8 @@ module _ (b : BoardView) (tree : IsTree b) (plain : IsPlainBoard b) (lines : Lin
           → current b asks (now b asks (e ∷ p)) c ≡ current b asks (now b asks p) c
       stays p s e may ne = next-stays b tree lines asks some (now b asks p) (past-stands b tree plain lines asks some callers p s) callers e may c ne
 
-  first_of : (past : List Entry) (t : Turn) → IsTurn b callers asks past t → (e : Entry) × (es : List Entry) × (t.entries ≡ e ∷ es) × (caller_of e ≡ t.caller) × May b callers asks (now b asks past) e
+  -- the first entry of a step
+  pub first_of : (past : List Entry) (t : Turn) → IsTurn b callers asks past t → (e : Entry) × (es : List Entry) × (t.entries ≡ e ∷ es) × (caller_of e ≡ t.caller) × May b callers asks (now b asks past) e
   first_of past t is = elim is [ inl one ↦ (one.entry, [], one.entries, one.own, one.may) | inr two ↦ (two.entry, two.settle ∷ [], two.entries, two.own, two.may) ]
 
   -- THE INDUCTION: the locks are looked at in the past at the beginning

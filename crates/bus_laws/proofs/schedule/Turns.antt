@@ -175,17 +175,17 @@ module _ (b : BoardView) (tree : IsTree b) (plain : IsPlainBoard b) (lines : Lin
       by true e = absurd (let f : Some c ≡ None = e in cc)
 
   -- BEHIND A MESSAGE whose settle isn't due, its caller's next step is no settle
-  quiet : (callers : ℕ) (n : Now) (e : Entry) → May b callers asks n e → Stands b n → Stands b (step b asks n e) → is_stepping e ≡ true → (step b asks n e).due ≡ None
+  pub quiet-behind : (callers : ℕ) (n : Now) (e : Entry) → May b callers asks n e → Stands b n → Stands b (step b asks n e) → is_stepping e ≡ true → (step b asks n e).due ≡ None
       → is_due (first_act (ahead b asks (step b asks n e) (caller_of e))) ≡ false
-  quiet callers n (entry.Take c l) may was stands s none = absurd (let f : false ≡ true = s in cc)
-  quiet callers n (entry.Free c l) may was stands s none = absurd (let f : false ≡ true = s in cc)
-  quiet callers n (entry.Settle c r cut) may was stands s none = absurd (let f : false ≡ true = s in cc)
-  quiet callers n (entry.Message c bus why part parts addr reading bytes heard e) may was stands s none =
+  quiet-behind callers n (entry.Take c l) may was stands s none = absurd (let f : false ≡ true = s in cc)
+  quiet-behind callers n (entry.Free c l) may was stands s none = absurd (let f : false ≡ true = s in cc)
+  quiet-behind callers n (entry.Settle c r cut) may was stands s none = absurd (let f : false ≡ true = s in cc)
+  quiet-behind callers n (entry.Message c bus why part parts addr reading bytes heard e) may was stands s none =
       let m : Now = step b asks n (entry.Message c bus why part parts addr reading bytes heard e) in
       let l : LockId = lock.Bus (root_of b (job_bus may.2.0)) in
       let own : InLocks l (m.held c) = subst (λ (ls : List LockId). InLocks l ls) (sym (sent_held b n c (first_act (current b asks n c)) (first_note (current b asks n c)) reading bytes e)) (sends_locked n was c may.2.0 may.2.1 may.2.2) in
       by_due m c (goes_on m stands c l own) refl none
-  quiet callers n (entry.Line c mux level failed) may was stands s none =
+  quiet-behind callers n (entry.Line c mux level failed) may was stands s none =
       let m : Now = step b asks n (entry.Line c mux level failed) in
       let l : LockId = lock.Bus (root_of b (job_bus may.2.0)) in
       let own : InLocks l (m.held c) = subst (λ (ls : List LockId). InLocks l ls) (sym (lined_held b n c (first_act (current b asks n c)) (first_note (current b asks n c)) failed)) (shifts_locked n was c may.2.0 may.2.1) in
@@ -201,7 +201,7 @@ module _ (b : BoardView) (tree : IsTree b) (plain : IsPlainBoard b) (lines : Lin
       (λ s u v.
       let same : caller_of e ≡ t.caller = eqb-true (caller_of e) t.caller v in
       let still : is_due (first_act (ahead b asks (now b asks (e ∷ past)) (caller_of e))) ≡ false =
-      quiet callers (now b asks past) e steps.0 (past-stands b tree plain lines asks some callers past steps.1) (past-stands b tree plain lines asks some callers (e ∷ past) steps) s none in
+      quiet-behind callers (now b asks past) e steps.0 (past-stands b tree plain lines asks some callers past steps.1) (past-stands b tree plain lines asks some callers (e ∷ past) steps) s none in
       let both : false ≡ true = sym still ∙ ap (λ (c : ℕ). is_due (first_act (ahead b asks (now b asks (e ∷ past)) c))) same ∙ f.3 u in cc) in
       ap (λ (es : List Entry). last_joins es (turns t.entries)) (reverse-cons e past)
       ∙ last_at_end (reverse past) e (turns t.entries)
