@@ -13,3 +13,6 @@ pub mod Layers
 pub mod Due
 pub mod LegalSteps
 pub mod Play
+pub mod Marked
+pub mod FailLaw
+pub mod Cuts

@@ -4,6 +4,7 @@ pub mod Left
 pub mod Counts
 pub mod Ends
 pub mod Flight
+pub mod Faulty
 pub mod Layers
 pub mod Worked
 pub mod Wrong

@@ -47,8 +47,8 @@ accepted_by b t note (Select h) left out w verdict granted way goes first =
 accepted_by b t note (Clear on mux kind) left out w verdict granted way goes first =
     elim goes [ inl quiet ↦ absurd (no_settle w verdict quiet first) | inr decided ↦ (way decided.0).0 ]
 
-not_done : (w : WalkTree) (done : Bool) (verdict : Option Errno) → Settles done w → first_act w ≡ Some (Settle verdict) → done ≡ false
-not_done w done verdict settles first =
+pub not-done : (w : WalkTree) (done : Bool) (verdict : Option Errno) → Settles done w → first_act w ≡ Some (Settle verdict) → done ≡ false
+not-done w done verdict settles first =
     let at = first_is w (Settle verdict) first in
     (subst (λ (x : WalkTree). Settles done x) at.2 settles).0
 
@@ -86,7 +86,7 @@ module _ (b : BoardView) (asks : Asks) (some : AsksForMessages asks) (callers : 
           first = will.1;
           transfer = own.whose;
           asked = ap (λ (rs : List Reply). asks d rs) (sym (settled-told b asks past d))
-              ∙ own.asked (not_done (at.1 (Sent e bytes)) own.done will.0 (settles.1 e bytes).1 first);
+              ∙ own.asked (not-done (at.1 (Sent e bytes)) own.done will.0 (settles.1 e bytes).1 first);
           accepted = accepted_by b own.whose at.0 job left (Sent e bytes) (at.1 (Sent e bytes)) will.0 calls.0 calls.1 (settles.1 e bytes).0 first;
         }
 
@@ -104,7 +104,7 @@ module _ (b : BoardView) (asks : Asks) (some : AsksForMessages asks) (callers : 
           first = will.1;
           transfer = own.whose;
           asked = ap (λ (rs : List Reply). asks d rs) (sym (settled-told b asks past d))
-              ∙ own.asked (not_done (at.1 (Lined failed)) own.done will.0 (settles failed).1 first);
+              ∙ own.asked (not-done (at.1 (Lined failed)) own.done will.0 (settles failed).1 first);
           accepted = elim (settles failed).0 [
             | inl quiet ↦ absurd (no_settle (at.1 (Lined failed)) will.0 quiet first)
             | inr decided ↦ (calls.0 decided.0).0

@@ -1,0 +1,12 @@
+use Rattle.bus_laws.proofs.world.LineFacts.{lines-locked}
+use Rattle.journal_laws.proofs.past.Marked.{mark-stays, passes-until}
+use Rattle.journal_laws.proofs.faulty.a_mark_stays_until_its_mux_is_closed.Goals as goal
+
+pub returns : goal.returns
+returns c =
+    record {
+      stays = λ b callers asks e past plain rules some.
+          mark-stays b (c.an_accepted_board_is_a_tree.ensures b plain rules) plain (lines-locked b rules) asks some callers e past;
+      passed_by = λ b callers asks e later past plain rules some.
+          passes-until b (c.an_accepted_board_is_a_tree.ensures b plain rules) plain (lines-locked b rules) asks some callers e later past;
+    }
