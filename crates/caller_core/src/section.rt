@@ -8,7 +8,7 @@ use bus_journal::{ReplyHead, push_bytes};
 use i2c_base::NoMemory;
 use packed::Packed;
 use std::alloc::Global;
-use tool_words::push_joined;
+use tool_words::push_echo;
 
 // A command of a text and its answer, each on a line.
 fn push_command(
@@ -23,7 +23,7 @@ fn push_command(
 {
     let (start, len) = (command.start as usize, command.len as usize);
     push_bytes(out, b"> ")?;
-    push_joined(out, &text[start..start + len])?;
+    push_echo(out, &text[start..start + len])?;
     push_bytes(out, b"\n")?;
     push_answer(out, command.cmd, answer, bytes)?;
     push_bytes(out, b"\n")

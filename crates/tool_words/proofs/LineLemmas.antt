@@ -1,12 +1,9 @@
 -- The lines of a script: the laws of their set, and its reader. There is no induction.
-use Rattle.std.proofs.Common.{◌≡◌, ℕ, true, List, Some, None, Ok, sym, ap, ◌∙◌, cond, arith}
+use Rattle.std.proofs.Common.{Err, ◌≡◌, ℕ, true, List, Some, None, Ok, sym, ap, ◌∙◌, cond, arith}
 use Rattle.tool_words.specs.LineSets.{Word, follow_words}
 use Rattle.tool_words.specs.Lines.{script_lines, script_line_at}
 use Rattle.tool_words.specs.Commands.{is_command, some_command, words_read, line_read, ReadsLines, RefusesBehindLongest, MeansInRange}
 use Rattle.tool_words.specs.Fronts.{words_of}
-use Rattle.tool_words.specs.Readers.{FaultIs}
-use Rattle.tool_words.specs.declared.fault.LineFault.{LineFault}
-use Rattle.tool_words.specs.declared.fault.LineFault.TheVariants as line_fault
 use Rattle.tool_words.specs.declared.line.Cmd.{Cmd}
 use Rattle.tool_words.proofs.LineSetLemmas.{IsAlive, line_followed, followed_line, refused_longest}
 use Rattle.tool_words.proofs.GetLine.{alive_get, follow_get, get_in_range}
@@ -37,7 +34,5 @@ command_words line ws same is =
 pub command_read : (line : List ℕ) (ws : List Word) (c : Cmd) → ws ≡ words_of line → is_command ws ≡ true → script_line_at ws ≡ Ok c → line_read line ≡ Ok (Some c)
 command_read line ws c same is e = command_words line ws same is ∙ ap some_command e
 
-pub command_refused : (line : List ℕ) (ws : List Word) (e : LineFault) → ws ≡ words_of line → is_command ws ≡ true → FaultIs (script_line_at ws) e
-    → FaultIs (line_read line) e
-command_refused line ws (line_fault.Word k) same is h = command_words line ws same is ∙ ap some_command h
-command_refused line ws line_fault.Memory same is h = tt
+pub command_refused : (line : List ℕ) (ws : List Word) (k : ℕ) → ws ≡ words_of line → is_command ws ≡ true → script_line_at ws ≡ Err k → line_read line ≡ Err k
+command_refused line ws k same is e = command_words line ws same is ∙ ap some_command e

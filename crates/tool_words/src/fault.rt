@@ -1,6 +1,19 @@
-ghost use Rattle.std.specs.Prelude.{◌≡◌};
+ghost use Rattle.std.specs.Prelude.{◌≡◌, ℕ};
 
 use i2c_base::NoMemory;
+use std::marker::Model;
+
+/// The place of a word that is refused, from 0. A contract sees the number.
+#[derive(Clone, Copy)]
+pub struct WordRefused(pub u16);
+
+impl Model for WordRefused {
+    ghost Value = { ℕ };
+
+    ghost view = { λ w. w.0 };
+
+    ghost inverse = { λ n. record { 0 = n } };
+}
 
 /// Why a line was not read.
 #[derive(Clone, Copy)]

@@ -92,7 +92,7 @@ fn push_spaced(out: &mut Vec<u8>, text: &[u8]) -> Result<(), NoMemory>
 }
 
 /// Puts the words of a line at the end, with one space between each two.
-pub fn push_joined(out: &mut Vec<u8>, line: &[u8]) -> Result<(), NoMemory>
+pub fn push_echo(out: &mut Vec<u8>, line: &[u8]) -> Result<(), NoMemory>
     ensures { OnOk result (out.new.items ≡ out.old.items ++ joined_words (words_of line.now)) }
 {
     let rest = skip_blanks(line);

@@ -4,7 +4,7 @@
 //! public contract: `read_line` gives exactly the command of a line, or the first word that the grammar refuses
 //! (`line_read` of `specs/Commands.antt`); a line is read exactly where it is in the grammar (`each_line_is_read`), and
 //! a refused word stands behind the longest front that begins a line (`the_refused_word_is_behind_the_longest_front`);
-//! `cut_line` tells the first line of a text, and `push_joined` prints a line's words (`specs/Fronts.antt`).
+//! `cut_line` tells the first line of a text, and `push_echo` prints a line's words (`specs/Fronts.antt`).
 #![tactic(auto)]
 
 mod fault;
@@ -15,7 +15,7 @@ mod number;
 mod reader;
 
 pub use fault::LineFault;
-pub use front::{cut_line, push_joined};
+pub use front::{cut_line, push_echo};
 pub use laws::{
     each_field_is_in_range, each_line_is_read, the_refused_word_is_behind_the_longest_front,
 };

@@ -1,10 +1,10 @@
-ghost use Rattle.std.specs.Prelude.{◌≡◌, Ok, Err, OnOk, MatchResult};
+ghost use Rattle.std.specs.Prelude.{◌≡◌, Ok, MatchResult};
 ghost use Rattle.tool_words.specs.Commands.{is_command, line_read};
 ghost use Rattle.tool_words.specs.Fronts.{words_of};
 ghost use Rattle.tool_words.specs.Lines.{get_at, script_line_at};
 ghost use Rattle.tool_words.specs.Readers.{texts, FaultIs};
 
-use crate::fault::LineFault;
+use crate::fault::{LineFault, WordRefused};
 use crate::front::split_words;
 use crate::reader::{address_at, is_at, is_over, number_at};
 use i2c_base::Addr;
@@ -18,17 +18,17 @@ pub enum Cmd {
 
 // Reads `i2cget -y BUS ADDR REG` behind its first word.
 #[tactic(auto, unfolding(crate::specs::Lines::get_at, crate::specs::Lines::get_words_at))]
-fn read_get(words: &[&[u8]]) -> Result<Cmd, LineFault>
-    ensures { MatchResult result (λ c. get_at (texts words.now) ≡ Ok c) (FaultIs (get_at (texts words.now))) }
+fn read_get(words: &[&[u8]]) -> Result<Cmd, WordRefused>
+    ensures { result ≡ get_at (texts words.now) }
 {
     if !is_at(words, 1, b"-y") {
-        return Err(LineFault::Word(1));
+        return Err(WordRefused(1));
     }
     let bus = number_at(words, 2, 0, u16::MAX)?;
     let addr = address_at(words, 3)?;
     let reg = number_at(words, 4, 0, 255)?;
     if !is_over(words, 5) {
-        return Err(LineFault::Word(5));
+        return Err(WordRefused(5));
     }
     Ok(Cmd::Get {
         bus,
@@ -38,13 +38,13 @@ fn read_get(words: &[&[u8]]) -> Result<Cmd, LineFault>
 }
 
 // Reads the words of a command.
-fn read_command(words: &[&[u8]]) -> Result<Cmd, LineFault>
-    ensures { MatchResult result (λ c. script_line_at (texts words.now) ≡ Ok c) (FaultIs (script_line_at (texts words.now))) }
+fn read_command(words: &[&[u8]]) -> Result<Cmd, WordRefused>
+    ensures { result ≡ script_line_at (texts words.now) }
 {
     if is_at(words, 0, b"i2cget") {
         read_get(words)
     } else {
-        Err(LineFault::Word(0))
+        Err(WordRefused(0))
     }
 }
 
@@ -62,7 +62,6 @@ fn is_command(words: &[&[u8]]) -> bool
 }
 
 /// Reads a line of a script: none where it is empty or a comment. `words` is room for its words.
-#[tactic(auto, using(crate::proofs::LineLemmas::command_read, crate::proofs::LineLemmas::command_refused))]
 pub fn read_line<'a>(words: &mut Vec<&'a [u8]>, line: &'a [u8]) -> Result<Option<Cmd>, LineFault>
     ensures { MatchResult result (λ o. line_read line.now ≡ Ok o) (FaultIs (line_read line.now)) }
 {
@@ -73,6 +72,6 @@ pub fn read_line<'a>(words: &mut Vec<&'a [u8]>, line: &'a [u8]) -> Result<Option
     }
     match read_command(words) {
         Ok(command) => Ok(Some(command)),
-        Err(fault) => Err(fault),
+        Err(refused) => Err(LineFault::Word(refused.0)),
     }
 }
