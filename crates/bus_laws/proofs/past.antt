@@ -17,6 +17,7 @@ pub mod Known
 pub mod GoesOn
 pub mod Budgets
 pub mod Spent
+pub mod Fits
 pub mod Together
 pub mod Failures
 pub mod OneEntry

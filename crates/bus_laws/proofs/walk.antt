@@ -9,4 +9,5 @@ pub mod VerdictLaw
 pub mod CostLaw
 pub mod HoldsLaw
 pub mod Waits
+pub mod Reads
 pub mod Next

@@ -4,6 +4,7 @@ pub mod Feed
 pub mod TalkLaws
 pub mod CutTalks
 pub mod TalkSizes
+pub mod TalkReads
 pub mod Reach
 pub mod Hears
 pub mod Control

@@ -11,7 +11,7 @@ ghost use Rattle.i2c_spec.specs.History.{Asks};
 ghost use Rattle.bus_spec.specs.Readings.{replies};
 ghost use Rattle.bus_spec.specs.Stepwise.{IsStepwise};
 ghost use Rattle.bus_laws.specs.Reach.{AsksForMessages};
-ghost use Rattle.bus_laws.specs.Spent.{AreWithin, CoversCosts, IsWithinCost, KeepsFits, cost_from, its_bytes, its_calls, of_caller, of_walk, one_entry, sum_below, whose_walk};
+ghost use Rattle.bus_laws.specs.Spent.{AreWithin, CoversCosts, IsWithinCost, cost_from, its_bytes, its_calls, of_caller, of_walk, one_entry, sum_below, whose_walk};
 
 use i2c_spec::an_accepted_board_is_a_tree;
 
@@ -43,15 +43,15 @@ pub fn no_caller_exceeds_its_cost()
 /// beginning, and all callers together make no more steps than the sum of their bounds. The steps are those of the
 /// schedule, so the lone settle of a refused transfer is one.
 ///
-/// A bound that doesn't fall says nothing, nor does one that falls only for replies that fit, where some don't. On a board
-/// that isn't accepted a mux-locked arbitrator could be asked more often than is counted. A transfer without a message would
-/// send one that its cost doesn't count. Entries that might not come may be any.
+/// A bound that doesn't fall says nothing; that it falls with each reply that fits its transfer is enough. On a board that
+/// isn't accepted a mux-locked arbitrator could be asked more often than is counted. A transfer without a message would send
+/// one that its cost doesn't count. Entries that might not come may be any.
 pub fn all_callers_stay_within_their_bounds()
     ensures each { (b : BoardView) (callers : ℕ) (asks : Asks) (past : List Entry) → IsPlainBoard b → MeetsRules b → AsksForMessages asks → IsStepwise b callers asks past
-        → KeepsFits asks past → (c : ℕ) (left : List Reply → ℕ) → CoversCosts b (asks c) left
+        → (c : ℕ) (left : List Reply → ℕ) → CoversCosts b (asks c) left
         → IsWithinCost (left []) (of_caller one_entry past c) (of_caller its_bytes past c) (of_caller (its_calls b asks) past c) }
     ensures together { (b : BoardView) (callers : ℕ) (asks : Asks) (past : List Entry) → IsPlainBoard b → MeetsRules b → AsksForMessages asks → IsStepwise b callers asks past
-        → KeepsFits asks past → (left : ℕ → List Reply → ℕ) → ((c : ℕ) → c < callers → CoversCosts b (asks c) (left c)) → AreWithin b asks past (sum_below callers (λ c. left c [])) }
+        → (left : ℕ → List Reply → ℕ) → ((c : ℕ) → c < callers → CoversCosts b (asks c) (left c)) → AreWithin b asks past (sum_below callers (λ c. left c [])) }
 {
     an_accepted_board_is_a_tree();
 }

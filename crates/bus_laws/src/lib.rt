@@ -29,7 +29,8 @@ pub use following::{a_loop_follows, one_step_more};
 pub use journals::{
     an_open_mux_is_selected_or_marked, each_journal_keeps_its_locks,
     each_mark_is_on_a_bus_of_the_board, each_message_finds_its_path_open,
-    each_settle_stands_where_it_is_decided, no_message_stands_inside_a_transfer,
+    each_reply_fits_its_transfer, each_settle_stands_where_it_is_decided,
+    no_message_stands_inside_a_transfer,
 };
 pub use next::{
     the_next_control_message_reaches_its_mux, the_next_line_is_of_a_gpio_mux,

@@ -154,7 +154,7 @@ step_asked b asks some callers n all (entry.Message c bus purpose part parts add
     (sent_asked b asks some n all c may.2.0 may.2.1 e bytes may.2.2)
 
 -- THE INDUCTION. A transfer that nobody asks for: nobody is under way at the opening
-nobody : TransferView
+pub nobody : TransferView
 nobody = record { bus = 0; kind = transfer_kind.Plain; force = false; msgs = []; out = [] }
 
 opening-asked : (b : BoardView) (asks : Asks) → AllAsked b asks (opening b).walk (opening b).settled
@@ -167,7 +167,7 @@ past-asked b asks some callers (e ∷ past) steps =
     step_asked b asks some callers (now b asks past) (past-asked b asks some callers past steps.1) e steps.0
 
 -- the replies that are settled
-sent_settled : (b : BoardView) (n : Now) (c : ℕ) (o : Option Act) (note : Note) (reading : Bool) (bytes : List ℕ) (e : End) (d : ℕ)
+pub sent_settled : (b : BoardView) (n : Now) (c : ℕ) (o : Option Act) (note : Note) (reading : Bool) (bytes : List ℕ) (e : End) (d : ℕ)
     → (sent_by b n c o note reading bytes e).settled d ≡ n.settled d
 sent_settled b n c None note reading bytes e d = refl
 sent_settled b n c (Some (Take k)) note reading bytes e d = refl
@@ -176,7 +176,7 @@ sent_settled b n c (Some (Send job left)) note reading bytes e d = refl
 sent_settled b n c (Some (Shift job)) note reading bytes e d = refl
 sent_settled b n c (Some (Settle verdict)) note reading bytes e d = refl
 
-lined_settled : (b : BoardView) (n : Now) (o : Option Act) (note : Note) (failed : Bool) (d : ℕ) → (lined_by b n o note failed).settled d ≡ n.settled d
+pub lined_settled : (b : BoardView) (n : Now) (o : Option Act) (note : Note) (failed : Bool) (d : ℕ) → (lined_by b n o note failed).settled d ≡ n.settled d
 lined_settled b n None note failed d = refl
 lined_settled b n (Some (Take k)) note failed d = refl
 lined_settled b n (Some (Free k)) note failed d = refl

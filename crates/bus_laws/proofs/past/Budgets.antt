@@ -6,6 +6,9 @@ use Rattle.std.specs.List.{list_any}
 use Rattle.std.proofs.lemmas.List.{length-take}
 use Rattle.std.proofs.Math.Nat.{min-le_left}
 use Rattle.i2c_base.specs.declared.errno.Errno.{Errno}
+use Rattle.i2c_base.specs.declared.ids.Node.{Node}
+use Rattle.i2c_base.specs.declared.entry.End.{End}
+use Rattle.i2c_base.specs.declared.entry.Purpose.{Purpose}
 use Rattle.i2c_base.specs.declared.entry.Entry.{Entry}
 use Rattle.i2c_base.specs.declared.entry.Entry.TheVariants as entry
 use Rattle.i2c_base.specs.declared.reply.Reply.{Reply}
@@ -101,6 +104,16 @@ got_stays (Call bus ms) reading bytes got done d before = absurd (let f : true �
 got_stays (Select h) reading bytes got done d before = refl
 got_stays (Clear on mux kind) reading bytes got done d before = refl
 
+-- what a message and a line step leave of what their caller has read
+pub message-got : (b : BoardView) (asks : Asks) (n : Now) (c bus : ℕ) (why : Purpose) (part parts addr : ℕ) (reading : Bool) (bytes : List ℕ) (heard : Option Node) (en : End) (job : Job) (left : ℕ)
+    → IsNext b asks n c (Send job left) → (step b asks n (entry.Message c bus why part parts addr reading bytes heard en)).got c ≡ got_after job reading bytes (n.got c)
+message-got b asks n c bus why part parts addr reading bytes heard en job left next =
+    ap (λ (o : Option Act). (sent_by b n c o (first_note (current b asks n c)) reading bytes en).got c) next ∙ at_same n.got c (got_after job reading bytes (n.got c))
+
+pub line-got : (b : BoardView) (asks : Asks) (n : Now) (c mux level : ℕ) (failed : Bool) (job : Job) → IsNext b asks n c (Shift job)
+    → (step b asks n (entry.Line c mux level failed)).got c ≡ n.got c
+line-got b asks n c mux level failed job next = ap (λ (o : Option Act). (lined_by b n o (first_note (current b asks n c)) failed).got c) next
+
 -- what an entry of a caller leaves of its budget
 pub record IsPaid (b : BoardView) (asks : Asks) (n : Now) (e : Entry) (done : Bool) (most : ℕ) : Type 0 where
   pub after : Bool
@@ -190,13 +203,13 @@ module _ (b : BoardView) (asks : Asks) (some : AsksForMessages asks) (callers : 
       let e : Entry = entry.Line c mux level failed in
       let h = within-next b n.slot w budget.left budget.within (Shift may.2.0) may.2.1 in
       let one : calls_for b n (first_act (current b asks n c)) e ≡ 1 = ap (λ (o : Option Act). calls_for b n o e) may.2.1 in
-      let same : (step b asks n e).got c ≡ n.got c = ap (λ (o : Option Act). (lined_by b n o (first_note (current b asks n c)) failed).got c) may.2.1 in
+      let same : (step b asks n e).got c ≡ n.got c = line-got b asks n c mux level failed may.2.0 may.2.1 in
       let few : length ((step b asks n e).got c) ≡ length (n.got c) = ap (λ (xs : List ℕ). length xs) same in
       record {
         after = done;
         rest = h.0 + to_settle done;
         kept = budget_of b done (rest_of (seen n.slot w) (Lined failed)) ((step b asks n e).walk c) h.0 (at_same n.walk c (rest_of (seen n.slot w) (Lined failed)))
-            (settles-shifted done n.slot w budget.settles may.2.0 may.2.1 failed) (h.2 (Lined failed));
+            (settles-shifted done n.slot w budget.settles may.2.0 may.2.1 failed).2 (h.2 (Lined failed));
         entries = omega (arith, h.1, budget.owes);
         bytes = omega (arith, h.1, budget.owes, few);
         calls = omega (arith, one, h.1, budget.owes);
@@ -214,7 +227,7 @@ module _ (b : BoardView) (asks : Asks) (some : AsksForMessages asks) (callers : 
       let made : calls_for b n (first_act (current b asks n c)) e ≡ length (talk_of b n job left en).calls = ap (λ (o : Option Act). calls_for b n o e) may.2.2 in
       let told : length bytes ≡ length (talk_of b n job left en).bytes = ap (λ (xs : List ℕ). length xs) may.2.3.bytes_told in
       let got : (step b asks n e).got c ≡ got_after job reading bytes (n.got c) =
-      ap (λ (o : Option Act). (sent_by b n c o (first_note (current b asks n c)) reading bytes en).got c) may.2.2 ∙ at_same n.got c (got_after job reading bytes (n.got c)) in
+      message-got b asks n c bus why part parts addr reading bytes heard en job left may.2.2 in
       let few : length ((step b asks n e).got c) ≤ length (n.got c) + length bytes =
       subst (λ (xs : List ℕ). length xs ≤ length (n.got c) + length bytes) (sym got) (few_got job reading bytes (n.got c)) in
       record {

@@ -12,18 +12,10 @@ use Rattle.bus_spec.specs.Grammar.{is_over, first_act, first_note, rest_of}
 use Rattle.bus_spec.specs.Readings.{caller_of, cut_told}
 use Rattle.bus_spec.specs.Past.{Now, begun, current, step, sent_by, lined_by, got_after}
 use Rattle.bus_laws.proofs.past.StandsStep.{at_other}
+use Rattle.bus_laws.proofs.past.Asked.{sent_settled, lined_settled}
 use Rattle.bus_laws.specs.Others.{CallerTold}
 
--- what a message leaves of a caller's replies, and of what another has read
-sent_settled : (b : BoardView) (n : Now) (d : ℕ) (o : Option Act) (note : Note) (reading : Bool) (bytes : List ℕ) (e : End) (c : ℕ)
-    → (sent_by b n d o note reading bytes e).settled c ≡ n.settled c
-sent_settled b n d None note reading bytes e c = refl
-sent_settled b n d (Some (Take l)) note reading bytes e c = refl
-sent_settled b n d (Some (Free l)) note reading bytes e c = refl
-sent_settled b n d (Some (Send job left)) note reading bytes e c = refl
-sent_settled b n d (Some (Shift job)) note reading bytes e c = refl
-sent_settled b n d (Some (Settle v)) note reading bytes e c = refl
-
+-- what a message leaves of what another has read
 sent_got : (b : BoardView) (n : Now) (d : ℕ) (o : Option Act) (note : Note) (reading : Bool) (bytes : List ℕ) (e : End) (c : ℕ) → (c ≡ d → ⊥)
     → (sent_by b n d o note reading bytes e).got c ≡ n.got c
 sent_got b n d None note reading bytes e c other = refl
@@ -32,14 +24,6 @@ sent_got b n d (Some (Free l)) note reading bytes e c other = refl
 sent_got b n d (Some (Send job left)) note reading bytes e c other = at_other n.got d (got_after job reading bytes (n.got d)) c other
 sent_got b n d (Some (Shift job)) note reading bytes e c other = refl
 sent_got b n d (Some (Settle v)) note reading bytes e c other = refl
-
-lined_settled : (b : BoardView) (n : Now) (o : Option Act) (note : Note) (failed : Bool) (c : ℕ) → (lined_by b n o note failed).settled c ≡ n.settled c
-lined_settled b n None note failed c = refl
-lined_settled b n (Some (Take l)) note failed c = refl
-lined_settled b n (Some (Free l)) note failed c = refl
-lined_settled b n (Some (Send job left)) note failed c = refl
-lined_settled b n (Some (Shift job)) note failed c = refl
-lined_settled b n (Some (Settle v)) note failed c = refl
 
 lined_got : (b : BoardView) (n : Now) (o : Option Act) (note : Note) (failed : Bool) (c : ℕ) → (lined_by b n o note failed).got c ≡ n.got c
 lined_got b n None note failed c = refl

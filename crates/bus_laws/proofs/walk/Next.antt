@@ -15,7 +15,7 @@ use Rattle.bus_spec.specs.Grammar.{seen, first_act, rest_of}
 use Rattle.bus_laws.specs.Runs.{IsCall}
 use Rattle.bus_laws.specs.Costs.{weight_at, IsWithin}
 use Rattle.bus_laws.specs.Jobs.{EachJob}
-use Rattle.bus_laws.specs.Settles.{NoSettle, IsBefore, GoesOn, FollowsSend, Settles}
+use Rattle.bus_laws.specs.Settles.{NoSettle, IsBefore, IsDecided, GoesOn, FollowsSend, Settles}
 use Rattle.bus_laws.specs.Calls.{CallsOf, FirstCalls}
 use Rattle.bus_laws.proofs.past.StandsEntries.{first_is}
 use Rattle.bus_laws.proofs.walk.Calls.{calls_seen}
@@ -127,10 +127,15 @@ module _ (done : Bool) (v : Slots) (w : WalkTree) (settles : Settles done w) whe
         ),
       )
 
-  pub settles-shifted : (job : Job) → first_act (seen v w) ≡ Some (Shift job) → (failed : Bool) → Settles done (rest_of (seen v w) (Lined failed))
+  pub settles-shifted : (job : Job) → first_act (seen v w) ≡ Some (Shift job) → (failed : Bool)
+      → (note : Note) × IsDecided note job zero (Lined failed) (rest_of (seen v w) (Lined failed)) × Settles done (rest_of (seen v w) (Lined failed))
   settles-shifted job first failed =
       let here = at_first (Settles done) (seen v w) (Shift job) first (settles_seen v done w settles) in
-      at_rest (Settles done) (seen v w) (Shift job) first (Lined failed) (here failed).1
+      let note : Note = note_at (Settles done) (seen v w) (Shift job) first in (
+        note,
+        at_rest (IsDecided note job zero (Lined failed)) (seen v w) (Shift job) first (Lined failed) (here failed).0,
+        at_rest (Settles done) (seen v w) (Shift job) first (Lined failed) (here failed).1,
+      )
 
 pub settles-settled : (done : Bool) (w : WalkTree) → Settles done w → (verdict : Option Errno) → first_act w ≡ Some (Settle verdict)
     → (done ≡ false) × NoSettle (rest_of w Passed) × Settles true (rest_of w Passed)
@@ -142,7 +147,7 @@ pub quiet-next : (v : Slots) (w : WalkTree) → NoSettle w → (verdict : Option
 quiet-next v w quiet verdict first = no_settle (seen v w) verdict (starts_seen v w quiet) first
 
 -- WHAT FOLLOWS A MESSAGE: an end that isn't good is an error
-end_good : (ok : Option Errno) (e : End) → sent_errno ok e ≡ None → (e ≡ end.Ok) × (ok ≡ None)
+pub end_good : (ok : Option Errno) (e : End) → sent_errno ok e ≡ None → (e ≡ end.Ok) × (ok ≡ None)
 end_good ok end.Ok h = (refl, h)
 end_good ok end.Nack h = absurd (let f : sent_errno ok end.Nack ≡ None = h in cc)
 end_good ok end.Slow h = absurd (let f : sent_errno ok end.Slow ≡ None = h in cc)
@@ -164,22 +169,28 @@ clear_errs : (on mux : ℕ) (kind : MuxKind) (e : End) → decides (Clear on mux
 clear_errs on mux kind e decided none =
     let f : false ≡ true = subst (λ (x : End). decides (Clear on mux kind) (sent_outcome Good x) ≡ true) (end_good None e none).0 decided in cc
 
+-- behind a message of the caller's that went through comes the next one at once; behind the last one, and behind any other,
+-- the walk settles next as it decides
+pub call-follows : (note : Note) (bus : ℕ) (ms : List MessageView) (left : ℕ) (e : End) (bytes : List ℕ) (w : WalkTree) → GoesOn note (Call bus ms) left (Sent e bytes) w
+    → ((more : ℕ) × (left ≡ suc more) × (e ≡ end.Ok) × (first_act w ≡ Some (Send (Call bus ms) more))) ⊎ FollowsSend (Call bus ms) left e bytes w
+call-follows note bus ms zero e bytes w h = inr (record { settles = h; whole = λ none. (bus, ms, refl, refl, (end_good None e none).0) })
+call-follows note bus ms (suc left) end.Ok bytes w h = inl (left, refl, refl, h)
+call-follows note bus ms (suc left) end.Nack bytes w h =
+    inr (record { settles = h; whole = λ none. absurd (let f : end.Nack ≡ end.Ok = (end_good None end.Nack none).0 in cc) })
+call-follows note bus ms (suc left) end.Slow bytes w h =
+    inr (record { settles = h; whole = λ none. absurd (let f : end.Slow ≡ end.Ok = (end_good None end.Slow none).0 in cc) })
+call-follows note bus ms (suc left) end.Refused bytes w h =
+    inr (record { settles = h; whole = λ none. absurd (let f : end.Refused ≡ end.Ok = (end_good None end.Refused none).0 in cc) })
+call-follows note bus ms (suc left) end.Proto bytes w h =
+    inr (record { settles = h; whole = λ none. absurd (let f : end.Proto ≡ end.Ok = (end_good None end.Proto none).0 in cc) })
+call-follows note bus ms (suc left) (end.Cut q) bytes w h =
+    inr (record { settles = h; whole = λ none. absurd (let f : end.Cut q ≡ end.Ok = (end_good None (end.Cut q) none).0 in cc) })
+
 -- behind a message a walk settles next as it decides, or it doesn't settle next
 pub what_follows : (note : Note) (job : Job) (left : ℕ) (e : End) (bytes : List ℕ) (w : WalkTree) → GoesOn note job left (Sent e bytes) w
     → NoSettle w ⊎ FollowsSend job left e bytes w
-what_follows note (Call bus ms) zero e bytes w h =
-    inr (record { settles = h; whole = λ none. (bus, ms, refl, refl, (end_good None e none).0) })
-what_follows note (Call bus ms) (suc left) end.Ok bytes w h = inl (sends_next w (Call bus ms) left h)
-what_follows note (Call bus ms) (suc left) end.Nack bytes w h =
-    inr (record { settles = h; whole = λ none. absurd (let f : end.Nack ≡ end.Ok = (end_good None end.Nack none).0 in cc) })
-what_follows note (Call bus ms) (suc left) end.Slow bytes w h =
-    inr (record { settles = h; whole = λ none. absurd (let f : end.Slow ≡ end.Ok = (end_good None end.Slow none).0 in cc) })
-what_follows note (Call bus ms) (suc left) end.Refused bytes w h =
-    inr (record { settles = h; whole = λ none. absurd (let f : end.Refused ≡ end.Ok = (end_good None end.Refused none).0 in cc) })
-what_follows note (Call bus ms) (suc left) end.Proto bytes w h =
-    inr (record { settles = h; whole = λ none. absurd (let f : end.Proto ≡ end.Ok = (end_good None end.Proto none).0 in cc) })
-what_follows note (Call bus ms) (suc left) (end.Cut q) bytes w h =
-    inr (record { settles = h; whole = λ none. absurd (let f : end.Cut q ≡ end.Ok = (end_good None (end.Cut q) none).0 in cc) })
+what_follows note (Call bus ms) left e bytes w h =
+    elim (call-follows note bus ms left e bytes w h) [ inl more ↦ inl (sends_next w (Call bus ms) more.0 more.3) | inr follows ↦ inr follows ]
 what_follows note (Select g) left e bytes w h =
     elim h [
       | inl quiet ↦ inl quiet
@@ -203,6 +214,11 @@ module _ (v : Slots) (w : WalkTree) (firsts : FirstCalls w) where
 
   pub first-freed : (l : LockId) → first_act (seen v w) ≡ Some (Free l) → FirstCalls (rest_of (seen v w) Passed)
   first-freed l first = at_rest FirstCalls (seen v w) (Free l) first Passed (at_first FirstCalls (seen v w) (Free l) first (first_seen v w firsts))
+
+  pub first-shifted : (job : Job) → first_act (seen v w) ≡ Some (Shift job) → (failed : Bool) → FirstCalls (rest_of (seen v w) (Lined failed))
+  first-shifted job first failed =
+      let here = at_first FirstCalls (seen v w) (Shift job) first (first_seen v w firsts) in
+      at_rest FirstCalls (seen v w) (Shift job) first (Lined failed) (here failed)
 
   pub first-selected : (h : Hop) (left : ℕ) → first_act (seen v w) ≡ Some (Send (Select h) left) → (e : End) (bytes : List ℕ) → FirstCalls (rest_of (seen v w) (Sent e bytes))
   first-selected h left first e bytes =

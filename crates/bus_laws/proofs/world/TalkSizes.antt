@@ -12,6 +12,15 @@ use Rattle.i2c_spec.specs.Messages.{MessageView}
 use Rattle.i2c_spec.specs.Conversation.{Listener, Said, TalkTold, is_at, silence, say, with_byte, told, call_then, ended, puts, gets, gets_counted, by_answer, talk}
 use Rattle.bus_laws.specs.Costs.{bytes_most}
 
+-- a good count
+pub good_count : (byte limit : ℕ) → (eqb byte 0 || ltb limit byte) ≡ false → (1 ≤ byte) × (byte ≤ limit)
+good_count byte limit e = by (eqb byte 0) (ltb limit byte) refl refl e
+  where
+    by : (x y : Bool) → eqb byte 0 ≡ x → ltb limit byte ≡ y → (x || y) ≡ false → (1 ≤ byte) × (byte ≤ limit)
+    by true y h k f = absurd (let g : true ≡ false = f in cc)
+    by false true h k f = absurd (let g : true ≡ false = f in cc)
+    by false false h k f = (let some : byte ≡ 0 → ⊥ = eqb-false byte 0 h in omega (arith, some), ltb-false limit byte k)
+
 module _ {W : Type 0} (l : Listener W) (cut : Option ℕ) where
   -- at most so many bytes more, and one call for each and the stop
   record IsSized (t : Said W) (most : ℕ) (u : TalkTold W) : Type 0 where
@@ -60,14 +69,6 @@ module _ {W : Type 0} (l : Listener W) (cut : Option ℕ) where
       let c : PortCall = call.Get (ltb 0 n) in
       let more = one_byte t c (l.gives t.now) n (gets l cut last n (with_byte (say l t c) (l.gives t.now))) (gets_sized last n (with_byte (say l t c) (l.gives t.now))) in
       then_sized t c (λ s. gets l cut last n (with_byte s (l.gives t.now))) (suc n) more.0 more.1
-
-  good_count : (byte limit : ℕ) → (eqb byte 0 || ltb limit byte) ≡ false → (1 ≤ byte) × (byte ≤ limit)
-  good_count byte limit e = by (eqb byte 0) (ltb limit byte) refl refl e
-    where
-      by : (x y : Bool) → eqb byte 0 ≡ x → ltb limit byte ≡ y → (x || y) ≡ false → (1 ≤ byte) × (byte ≤ limit)
-      by true y h k f = absurd (let g : true ≡ false = f in cc)
-      by false true h k f = absurd (let g : true ≡ false = f in cc)
-      by false false h k f = (let some : byte ≡ 0 → ⊥ = eqb-false byte 0 h in omega (arith, some), ltb-false limit byte k)
 
   counted_sized : (last : Bool) (limit len : ℕ) → 2 ≤ limit → (t : Said W) → IsSized t (limit + len) (gets_counted l cut last limit len t)
   counted_sized last limit len two t =
