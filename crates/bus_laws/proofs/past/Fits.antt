@@ -16,8 +16,6 @@ use Rattle.i2c_base.specs.Board.{BoardView}
 use Rattle.i2c_base.specs.Fitting.{Fits, FitsReads}
 use Rattle.i2c_base.specs.Transfer.{TransferView, is_read}
 use Rattle.i2c_spec.specs.Tree.{root_of}
-use Rattle.i2c_spec.specs.TreeFacts.{IsTree}
-use Rattle.i2c_spec.specs.Plain.{IsPlainBoard}
 use Rattle.i2c_spec.specs.Messages.{MessageView, messages_of}
 use Rattle.i2c_spec.specs.Conversation.{world_listener}
 use Rattle.i2c_spec.specs.Flat.{refusal, block_limit}
@@ -29,11 +27,10 @@ use Rattle.bus_spec.specs.Readings.{caller_of}
 use Rattle.bus_spec.specs.Past.{Now, begun, current, now, step, cut_of, got_after}
 use Rattle.bus_spec.specs.Tells.{TellsMessage}
 use Rattle.bus_spec.specs.Stepwise.{May, IsNext, IsStepwise, reply_by}
-use Rattle.bus_laws.specs.Lines.{LinesAreLocked}
 use Rattle.bus_laws.specs.Reach.{AsksForMessages}
-use Rattle.bus_laws.specs.Runs.{IsCall, Runs}
-use Rattle.bus_laws.specs.Stands.{CallerStands}
+use Rattle.bus_laws.specs.Runs.{IsCall}
 use Rattle.bus_laws.specs.Settles.{NoSettle, IsDecided, FollowsSend, Settles}
+use Rattle.bus_laws.specs.Jobs.{EachJob}
 use Rattle.bus_laws.specs.Calls.{CallsOf, FirstCalls}
 use Rattle.bus_laws.specs.Others.{ahead}
 use Rattle.bus_laws.specs.Spent.{FitsAt, KeepsFits}
@@ -41,13 +38,12 @@ use Rattle.bus_laws.proofs.world.Sends.{length-messages}
 use Rattle.bus_laws.proofs.world.TalkReads.{GaveRead, talk-reads}
 use Rattle.bus_laws.proofs.walk.SettleLaw.{walk-settles, walk-starts}
 use Rattle.bus_laws.proofs.walk.Calls.{walk-calls}
+use Rattle.bus_laws.proofs.walk.Jobs.{walk-jobs}
 use Rattle.bus_laws.proofs.walk.First.{walk-first}
 use Rattle.bus_laws.proofs.walk.Reads.{message-reads}
-use Rattle.bus_laws.proofs.walk.Next.{seen-first, calls-next, call-sent, settles-taken, settles-freed, settles-sent, settles-shifted, settles-settled, quiet-next, what_follows, call-follows, first-taken, first-freed, first-selected, first-cleared, first-shifted, first-sent}
+use Rattle.bus_laws.proofs.walk.Next.{seen-first, jobs-next, job-shifted, calls-next, call-sent, settles-taken, settles-freed, settles-sent, settles-shifted, settles-settled, quiet-next, what_follows, call-follows, first-taken, first-freed, first-selected, first-cleared, first-shifted, first-sent}
 use Rattle.bus_laws.proofs.past.StandsStep.{at_same}
-use Rattle.bus_laws.proofs.past.StandsFacts.{over_ends, current-stands}
-use Rattle.bus_laws.proofs.past.StandsEntries.{first_is}
-use Rattle.bus_laws.proofs.past.Laws.{past-stands}
+use Rattle.bus_laws.proofs.past.StandsFacts.{over_ends}
 use Rattle.bus_laws.proofs.past.Asked.{nobody, settles_seen, settled-told, sent_settled, lined_settled}
 use Rattle.bus_laws.proofs.past.Known.{never}
 use Rattle.bus_laws.proofs.past.Others.{IsElsewhere, entry-elsewhere}
@@ -85,11 +81,16 @@ record IsBehind (got : List ℕ) (done : Bool) : Type 0 where
 abbrev Stage : TransferView → WalkTree → List ℕ → Bool → Type 0
 Stage t w got done = IsUnsent w got done ⊎ (IsBetween t w got done ⊎ (IsEnding t w got done ⊎ IsBehind got done))
 
+abbrev Any : Job → Type 0
+Any job = Unit {0}
+
 record IsReading (b : BoardView) (asks : List Reply → Option TransferView) (w : WalkTree) (settled : List Reply) (got : List ℕ) : Type 0 where
   whose : TransferView
   done : Bool
   calls : CallsOf b whose w
   settles : Settles done w
+  -- only the line of a gpio mux is shifted
+  jobs : EachJob Any w
   asked : done ≡ false → asks settled ≡ Some whose
   stage : Stage whose w got done
 
@@ -117,6 +118,7 @@ module _ (b : BoardView) (asks : List Reply → Option TransferView) (v : Slots)
         done = is.done;
         calls = calls-next b is.whose v w is.calls act first Passed;
         settles = settles;
+        jobs = jobs-next Any v w is.jobs act first Passed;
         asked = is.asked;
         stage = by is.stage;
       }
@@ -128,14 +130,15 @@ module _ (b : BoardView) (asks : List Reply → Option TransferView) (v : Slots)
       by (inr (inr (inr behind))) = inr (inr (inr behind))
 
   -- a line step
-  shifted : (job : Job) → first_act (seen v w) ≡ Some (Shift job) → is_line job ≡ true → (failed : Bool) → IsReading b asks (rest_of (seen v w) (Lined failed)) settled got
-  shifted job first line failed =
+  shifted : (job : Job) → first_act (seen v w) ≡ Some (Shift job) → (failed : Bool) → IsReading b asks (rest_of (seen v w) (Lined failed)) settled got
+  shifted job first failed =
       let s = settles-shifted is.done v w is.settles job first failed in
       record {
         whose = is.whose;
         done = is.done;
         calls = calls-next b is.whose v w is.calls (Shift job) first (Lined failed);
         settles = s.2;
+        jobs = jobs-next Any v w is.jobs (Shift job) first (Lined failed);
         asked = is.asked;
         stage = by s.0 s.1 is.stage;
       }
@@ -148,7 +151,7 @@ module _ (b : BoardView) (asks : List Reply → Option TransferView) (v : Slots)
             unsettled = unsent.unsettled;
             verdict = verdict_of job zero (Lined failed);
             next = decided.2;
-            fits = λ none. absurd (line_errs job failed line decided.1 none);
+            fits = λ none. absurd (line_errs job failed (job-shifted Any v w is.jobs job first).0 decided.1 none);
           })))
       by note decided (inr (inl between)) =
           absurd (let f : Send (Call between.bus between.messages) between.left ≡ Shift job = same_act v w (Send (Call between.bus between.messages) between.left) (Shift job) between.next first in cc)
@@ -166,6 +169,7 @@ module _ (b : BoardView) (asks : List Reply → Option TransferView) (v : Slots)
         done = is.done;
         calls = calls-next b is.whose v w is.calls (Send job left) first (Sent e bytes);
         settles = f.2;
+        jobs = jobs-next Any v w is.jobs (Send job left) first (Sent e bytes);
         asked = is.asked;
         stage = by (what_follows f.0 job left e bytes (rest_of (seen v w) (Sent e bytes)) f.1) is.stage;
       }
@@ -236,6 +240,7 @@ module _ (b : BoardView) (asks : List Reply → Option TransferView) (v : Slots)
             done = is.done;
             calls = calls-next b is.whose v w is.calls (Send (Call bus ms) left) first (Sent e bytes);
             settles = f.2;
+            jobs = jobs-next Any v w is.jobs (Send (Call bus ms) left) first (Sent e bytes);
             asked = is.asked;
             stage = inr (by (call-follows f.0 bus ms left e bytes (rest_of (seen v w) (Sent e bytes)) f.1));
           }
@@ -279,6 +284,7 @@ module _ (b : BoardView) (asks : List Reply → Option TransferView) (v : Slots)
         done = true;
         calls = calls-next b is.whose v w is.calls (Settle verdict) first Passed;
         settles = s.2;
+        jobs = jobs-next Any v w is.jobs (Settle verdict) first Passed;
         asked = λ f. absurd (let g : true ≡ false = f in cc);
         stage = inr (inr (inr (record { settled = refl; empty = refl })));
       }
@@ -308,7 +314,7 @@ reply_fits t got None all = by (list_any is_read t.msgs) refl (all refl)
     by true e fits = (e, fits)
     by false e fits = e
 
-module _ (b : BoardView) (tree : IsTree b) (plain : IsPlainBoard b) (lines : LinesAreLocked b) (asks : Asks) (some : AsksForMessages asks) (callers : ℕ) where
+module _ (b : BoardView) (asks : Asks) (some : AsksForMessages asks) (callers : ℕ) where
   abbrev ReadsAt : List Entry → ℕ → WalkTree → Type 0
   ReadsAt past c w = IsReading b (asks c) w ((now b asks past).settled c) ((now b asks past).got c)
 
@@ -355,6 +361,7 @@ module _ (b : BoardView) (tree : IsTree b) (plain : IsPlainBoard b) (lines : Lin
             done = false;
             calls = walk-calls b t (some c (n.settled c) t asked);
             settles = walk-settles b t;
+            jobs = walk-jobs b Any t (λ accepted. tt) (λ accepted g among. record { select = tt; deselect = tt; close = λ m. tt });
             asked = λ f. asked;
             stage = stage_of t (empty over) (refusal b t) refl;
           }
@@ -362,14 +369,6 @@ module _ (b : BoardView) (tree : IsTree b) (plain : IsPlainBoard b) (lines : Lin
       by : (x : Bool) → is_over (n.walk c) ≡ x → ReadsAt past c (cond x (begun b (asks c (n.settled c))) (n.walk c))
       by true over = subst (λ (o : Option TransferView). ReadsAt past c (begun b o)) refl (begin over (asks c (n.settled c)) refl)
       by false over = was
-
-  -- a line step is of a gpio mux
-  by_line : (past : List Entry) → IsStepwise b callers asks past → (c : ℕ) (job : Job) → IsNext b asks (now b asks past) c (Shift job) → is_line job ≡ true
-  by_line past steps c job next =
-      let n : Now = now b asks past in
-      let cur : CallerStands b (n.held c) (current b asks n c) n.slot = current-stands b tree lines asks some n c (past-stands b tree plain lines asks some callers past steps) in
-      let at = first_is (current b asks n c) (Shift job) next in
-      (subst (λ (w : WalkTree). Runs b cur.whose (n.held c) cur.view w) at.2 cur.runs).0.by_line
 
   -- the caller's own entry
   own_reads : (past : List Entry) → IsStepwise b callers asks past → (e : Entry) → May b callers asks (now b asks past) e → ReadsAt past (caller_of e) (ahead b asks (now b asks past) (caller_of e))
@@ -401,7 +400,7 @@ module _ (b : BoardView) (tree : IsTree b) (plain : IsPlainBoard b) (lines : Lin
       subst (λ (x : WalkTree). IsReading b (asks c) x ((step b asks n e).settled c) ((step b asks n e).got c)) (sym (at_same n.walk c (rest_of (seen n.slot w) (Lined failed))))
       (subst (λ (rs : List Reply). IsReading b (asks c) (rest_of (seen n.slot w) (Lined failed)) rs ((step b asks n e).got c)) (sym (lined_settled b n (first_act (current b asks n c)) (first_note (current b asks n c)) failed c))
       (subst (λ (g : List ℕ). IsReading b (asks c) (rest_of (seen n.slot w) (Lined failed)) (n.settled c) g) (sym (line-got b asks n c mux level failed may.2.0 may.2.1))
-      (shifted b (asks c) n.slot w (n.settled c) (n.got c) is may.2.0 may.2.1 (by_line past steps c may.2.0 may.2.1) failed)))
+      (shifted b (asks c) n.slot w (n.settled c) (n.got c) is may.2.0 may.2.1 failed)))
   own_reads past steps (entry.Message c bus why part parts addr reading bytes heard en) may is =
       let n : Now = now b asks past in
       let w : WalkTree = ahead b asks n c in
@@ -438,6 +437,7 @@ module _ (b : BoardView) (tree : IsTree b) (plain : IsPlainBoard b) (lines : Lin
         done = true;
         calls = tt;
         settles = refl;
+        jobs = tt;
         asked = λ f. absurd (let g : true ≡ false = f in cc);
         stage = inr (inr (inr (record { settled = refl; empty = refl })));
       }

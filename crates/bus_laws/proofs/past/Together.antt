@@ -16,7 +16,6 @@ use Rattle.i2c_base.specs.Fitting.{Fits}
 use Rattle.i2c_base.specs.Transfer.{TransferView}
 use Rattle.i2c_spec.specs.Tree.{root_of}
 use Rattle.i2c_spec.specs.TreeFacts.{IsTree}
-use Rattle.i2c_spec.specs.Plain.{IsPlainBoard}
 use Rattle.i2c_spec.specs.Rules.{MeetsRules}
 use Rattle.i2c_spec.specs.Cost.{cost_of}
 use Rattle.i2c_spec.specs.History.{Asks, changed_at}
@@ -29,7 +28,6 @@ use Rattle.bus_spec.specs.Schedule.{Turn, turns, turn_of, with_entry, joins}
 use Rattle.bus_spec.specs.Legal.{IsPlaced, KeepsSettles}
 use Rattle.bus_laws.specs.Reach.{AsksForMessages}
 use Rattle.bus_laws.specs.Spent.{Count, one_entry, its_bytes, its_calls, bytes_in, calls_for, of_caller, cost_at, cost_from, IsWithinCost, KeepsFits, CoversCosts, sum_below, all_bytes, AreWithin}
-use Rattle.bus_laws.proofs.world.LineFacts.{lines-locked}
 use Rattle.bus_laws.proofs.past.Placed.{settles-kept}
 use Rattle.bus_laws.proofs.past.Fits.{fits-kept}
 use Rattle.bus_laws.proofs.past.Known.{entry_known}
@@ -187,7 +185,7 @@ turns_few (e ∷ es) = (let rest : length (turns es) ≤ length es = turns_few e
         by true = omega arith
         by false = omega arith
 
-module _ (b : BoardView) (tree : IsTree b) (plain : IsPlainBoard b) (rules : MeetsRules b) (asks : Asks) (some : AsksForMessages asks) (callers : ℕ) (past : List Entry)
+module _ (b : BoardView) (tree : IsTree b) (rules : MeetsRules b) (asks : Asks) (some : AsksForMessages asks) (callers : ℕ) (past : List Entry)
     (steps : IsStepwise b callers asks past) where
   -- a caller within its own bound
   pub bound-spends : (c : ℕ) (left : List Reply → ℕ) → CoversCosts b (asks c) left
@@ -195,7 +193,7 @@ module _ (b : BoardView) (tree : IsTree b) (plain : IsPlainBoard b) (rules : Mee
   bound-spends c left covers =
       let spends = caller-spends b tree rules asks some callers past steps c in
       let all : cost_from b (asks c) [] (replies past c) + left (replies past c) ≤ left [] + cost_at b (asks c) (replies past c) =
-      covered b asks c left covers past (settles-kept b asks some callers past steps) (fits-kept b tree plain (lines-locked b rules) asks some callers past steps) in
+      covered b asks c left covers past (settles-kept b asks some callers past steps) (fits-kept b asks some callers past steps) in
       let next : cost_at b (asks c) (replies past c) ≤ left (replies past c) = covers_next b asks c left covers (replies past c) (asks c (replies past c)) refl in
       record {
         entries_within = omega (arith, spends.entries_within, all, next);

@@ -1,8 +1,5 @@
-use Rattle.bus_laws.proofs.world.LineFacts.{lines-locked}
 use Rattle.bus_laws.proofs.past.Fits.{fits-kept}
 use Rattle.bus_laws.proofs.journals.each_reply_fits_its_transfer.Goals as goal
 
 pub returns : goal.returns
-returns c =
-    λ b callers asks past plain rules some steps.
-    fits-kept b (c.an_accepted_board_is_a_tree.ensures b plain rules) plain (lines-locked b rules) asks some callers past steps
+returns c = λ b callers asks past some steps. fits-kept b asks some callers past steps
