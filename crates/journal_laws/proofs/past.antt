@@ -16,3 +16,4 @@ pub mod Play
 pub mod Marked
 pub mod FailLaw
 pub mod Cuts
+pub mod Remotes

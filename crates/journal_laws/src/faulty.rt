@@ -1,15 +1,17 @@
 //! Port calls that fail: what they mark stays marked until it is closed, and what they cut.
-ghost use Rattle.std.specs.Prelude.{◌≡◌, ℕ, ◌⊎◌, List, ◌∷◌, ◌++◌, Some};
+ghost use Rattle.std.specs.List.{sum_by, range_with_len};
+ghost use Rattle.std.specs.Prelude.{length, ◌≡◌, ℕ, ◌≤◌, ◌⊎◌, List, ◌∷◌, ◌++◌, Some};
 ghost use Rattle.i2c_base.specs.Board.{BoardView};
 ghost use Rattle.i2c_base.specs.declared.entry.Entry.{Entry};
 ghost use Rattle.i2c_spec.specs.Plain.{IsPlainBoard};
 ghost use Rattle.i2c_spec.specs.Rules.{MeetsRules};
 ghost use Rattle.i2c_spec.specs.History.{Asks};
 ghost use Rattle.bus_spec.specs.Readings.{OfMessage};
-ghost use Rattle.bus_spec.specs.Past.{mark};
+ghost use Rattle.bus_spec.specs.Past.{calls_of, mark};
 ghost use Rattle.bus_spec.specs.Stepwise.{IsStepwise};
 ghost use Rattle.bus_spec.specs.Legal.{IsLegal};
 ghost use Rattle.bus_laws.specs.Reach.{AsksForMessages, AsksWithinLimits};
+ghost use Rattle.journal_laws.specs.Counts.{failures, faults_in, remotes};
 ghost use Rattle.journal_laws.specs.Faulty.{HasClosed, NoneCloses, PassesBy, KeepsCuts};
 
 use i2c_spec::an_accepted_board_is_a_tree;
@@ -19,12 +21,14 @@ use i2c_spec::an_accepted_board_is_a_tree;
 ///
 /// A mux that may be open is the mark of its bus, by the law on open muxes. A journal whose entries need not come where they do
 /// could select over the mark; and what a step finds on its bus is known only on an accepted board, of transfers with a
-/// message.
+/// message. The legal form has one premise more, that of the law that a legal journal is stepwise.
 pub fn a_mark_stays_until_its_mux_is_closed()
     ensures stays { (b : BoardView) (callers : ℕ) (asks : Asks) (e : Entry) (past : List Entry) → IsPlainBoard b → MeetsRules b → AsksForMessages asks → IsStepwise b callers asks (e ∷ past)
         → (p m : ℕ) → mark b asks past p ≡ Some m → (mark b asks (e ∷ past) p ≡ Some m) ⊎ HasClosed b asks p m e past }
     ensures passed_by { (b : BoardView) (callers : ℕ) (asks : Asks) (e : Entry) (later past : List Entry) → IsPlainBoard b → MeetsRules b → AsksForMessages asks
         → IsStepwise b callers asks (e ∷ (later ++ past)) → (p m : ℕ) → mark b asks past p ≡ Some m → NoneCloses b asks p m later past → OfMessage (PassesBy b p) e }
+    ensures legal { (b : BoardView) (callers : ℕ) (asks : Asks) (more : List Entry) (e : Entry) (later past : List Entry) → IsPlainBoard b → MeetsRules b → AsksForMessages asks → AsksWithinLimits asks
+        → IsLegal b callers asks (more ++ e ∷ (later ++ past)) → (p m : ℕ) → mark b asks past p ≡ Some m → NoneCloses b asks p m later past → OfMessage (PassesBy b p) e }
 {
     an_accepted_board_is_a_tree();
 }
@@ -40,6 +44,21 @@ pub fn a_cut_is_of_a_step_on_the_way()
     ensures stepwise { (b : BoardView) (callers : ℕ) (asks : Asks) (past : List Entry) → IsPlainBoard b → MeetsRules b → AsksForMessages asks → IsStepwise b callers asks past → KeepsCuts b asks past }
     ensures legal { (b : BoardView) (callers : ℕ) (asks : Asks) (past : List Entry) → IsPlainBoard b → MeetsRules b → AsksForMessages asks → AsksWithinLimits asks
         → IsLegal b callers asks past → KeepsCuts b asks past }
+{
+    an_accepted_board_is_a_tree();
+}
+
+/// One message or line step that fails by the port makes at most one reply EREMOTEIO; so does one call that fails, on
+/// whichever root's port.
+///
+/// The premises are those of the law before, for the same reasons: a journal whose entries need not come where they do could
+/// settle so where nothing failed.
+pub fn one_failure_fails_one_reply_at_most()
+    ensures stepwise { (b : BoardView) (callers : ℕ) (asks : Asks) (past : List Entry) → IsPlainBoard b → MeetsRules b → AsksForMessages asks → IsStepwise b callers asks past → remotes past ≤ failures past }
+    ensures faults { (b : BoardView) (callers : ℕ) (asks : Asks) (past : List Entry) → IsPlainBoard b → MeetsRules b → AsksForMessages asks → IsStepwise b callers asks past
+        → remotes past ≤ sum_by (λ r. faults_in (calls_of b asks past r)) (range_with_len 0 (length b.roots)) }
+    ensures legal { (b : BoardView) (callers : ℕ) (asks : Asks) (past : List Entry) → IsPlainBoard b → MeetsRules b → AsksForMessages asks → AsksWithinLimits asks
+        → IsLegal b callers asks past → remotes past ≤ failures past }
 {
     an_accepted_board_is_a_tree();
 }

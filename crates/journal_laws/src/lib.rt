@@ -19,7 +19,10 @@ pub use devices::{
     the_messages_that_were_sent_are_the_transfer,
 };
 pub use ends::{a_caller_with_no_walk_holds_nothing, a_finished_journal_is_complete};
-pub use faulty::{a_cut_is_of_a_step_on_the_way, a_mark_stays_until_its_mux_is_closed};
+pub use faulty::{
+    a_cut_is_of_a_step_on_the_way, a_mark_stays_until_its_mux_is_closed,
+    one_failure_fails_one_reply_at_most,
+};
 pub use journals::{
     a_journal_is_legal, a_journal_that_rests_leaves_the_devices_of_its_history,
     each_caller_walks_its_transfers, each_fault_is_a_failed_entry,

@@ -103,19 +103,19 @@ cut_some : (p : Purpose) (part q : ℕ) → message_cut p part (end.Cut q) ≡ c
 cut_some purpose.Call part q e = (let f : cut.At _ q ≡ cut.No = e in cc)
 cut_some (purpose.Control m) part q e = (let f : cut.Way ≡ cut.No = e in cc)
 
-cut_is : (p : Purpose) (part : ℕ) (e : End) → (message_cut p part e ≡ cut.No → ⊥) → is_cut e ≡ true
-cut_is purpose.Call part end.Ok h = absurd (h refl)
-cut_is purpose.Call part end.Nack h = absurd (h refl)
-cut_is purpose.Call part end.Slow h = absurd (h refl)
-cut_is purpose.Call part end.Refused h = absurd (h refl)
-cut_is purpose.Call part end.Proto h = absurd (h refl)
-cut_is purpose.Call part (end.Cut q) h = refl
-cut_is (purpose.Control m) part end.Ok h = absurd (h refl)
-cut_is (purpose.Control m) part end.Nack h = absurd (h refl)
-cut_is (purpose.Control m) part end.Slow h = absurd (h refl)
-cut_is (purpose.Control m) part end.Refused h = absurd (h refl)
-cut_is (purpose.Control m) part end.Proto h = absurd (h refl)
-cut_is (purpose.Control m) part (end.Cut q) h = refl
+pub cut-is : (p : Purpose) (part : ℕ) (e : End) → (message_cut p part e ≡ cut.No → ⊥) → is_cut e ≡ true
+cut-is purpose.Call part end.Ok h = absurd (h refl)
+cut-is purpose.Call part end.Nack h = absurd (h refl)
+cut-is purpose.Call part end.Slow h = absurd (h refl)
+cut-is purpose.Call part end.Refused h = absurd (h refl)
+cut-is purpose.Call part end.Proto h = absurd (h refl)
+cut-is purpose.Call part (end.Cut q) h = refl
+cut-is (purpose.Control m) part end.Ok h = absurd (h refl)
+cut-is (purpose.Control m) part end.Nack h = absurd (h refl)
+cut-is (purpose.Control m) part end.Slow h = absurd (h refl)
+cut-is (purpose.Control m) part end.Refused h = absurd (h refl)
+cut-is (purpose.Control m) part end.Proto h = absurd (h refl)
+cut-is (purpose.Control m) part (end.Cut q) h = refl
 
 -- a reply is EREMOTEIO only by the verdict, and no transfer is refused so
 reply-remote : (v : Option Errno) (o : Option TransferView) (got : List ℕ) → reply_by v o got ≡ reply.Err errno.Eremoteio → v ≡ Some errno.Eremoteio
@@ -300,7 +300,7 @@ module _ (b : BoardView) (tree : IsTree b) (plain : IsPlainBoard b) (lines : Lin
                 (let way = (settles-verdict (first_note w) job left (Sent e bytes) (rest_of w (Sent e bytes)) v (sent_goes e bytes).0 first).1 in
                 all_true (is_over (rest_of w (Sent e bytes))) (is_cut e && (is_call p || (first_note w).forward)) (failed_on_way b asks past d)
                 (is_live (rest_of w (Sent e bytes)) (Settle v) first)
-                (ap (λ (t : Bool). t && (is_call p || (first_note w).forward)) (cut_is p part e told) ∙ ap (λ (x : Purpose). is_call x || (first_note w).forward) why ∙ way));
+                (ap (λ (t : Bool). t && (is_call p || (first_note w).forward)) (cut-is p part e told) ∙ ap (λ (x : Purpose). is_call x || (first_note w).forward) why ∙ way));
             ended = λ over. absurd (live over);
             remote = λ first told.
                 (let v = (settles-verdict (first_note w) job left (Sent e bytes) (rest_of w (Sent e bytes)) (Some errno.Eremoteio) (sent_goes e bytes).0 first).0 in
@@ -485,7 +485,7 @@ module _ (b : BoardView) (tree : IsTree b) (plain : IsPlainBoard b) (lines : Lin
         by None first = (let f : None ≡ Some (Settle verdict) = first in cc)
         by (Some t) first = by_refusal t (refusal b t) refl first
 
-    abbrev has_failed : Bool
+    abbrev pub has_failed : Bool
     has_failed = failed_on_way b asks past c
 
     told-failed : (told : Cut) → told ≡ (now b asks past).cut c → (told ≡ cut.No → ⊥) → has_failed ≡ true
@@ -496,7 +496,7 @@ module _ (b : BoardView) (tree : IsTree b) (plain : IsPlainBoard b) (lines : Lin
         by false live = (cuts-stand past steps c).before verdict (next_first live) (λ no. some_cut (is ∙ no))
 
     -- where a step failed, the settle says so
-    failed-says : has_failed ≡ true → (verdict ≡ Some errno.Eremoteio) × ((now b asks past).cut c ≡ cut.No → ⊥)
+    pub failed-says : has_failed ≡ true → (verdict ≡ Some errno.Eremoteio) × ((now b asks past).cut c ≡ cut.No → ⊥)
     failed-says is = by (is_over then_walk) refl
       where
         by : (t : Bool) → is_over then_walk ≡ t → (verdict ≡ Some errno.Eremoteio) × ((now b asks past).cut c ≡ cut.No → ⊥)
@@ -507,6 +507,18 @@ module _ (b : BoardView) (tree : IsTree b) (plain : IsPlainBoard b) (lines : Lin
               | inr settled ↦ absurd (let f : true ≡ false = not-done then_walk true verdict settled (next_first live) in cc)
             ]
 
+    -- which is due there
+    pub failed-due : has_failed ≡ true → (now b asks past).due ≡ Some c
+    failed-due is =
+        elim (past-due b asks some callers past steps c) [
+          | inl due ↦ due
+          | inr quiet ↦ absurd (by (is_over then_walk) refl quiet)
+        ]
+      where
+        by : (t : Bool) → is_over then_walk ≡ t → NoSettle then_walk → ⊥
+        by true over quiet = (let f : true ≡ false = sym is ∙ over_none b asks past c over in cc)
+        by false live quiet = no_settle then_walk verdict quiet (next_first live)
+
     says-failed : verdict ≡ Some errno.Eremoteio → has_failed ≡ true
     says-failed is = by (is_over then_walk) refl
       where
@@ -516,12 +528,12 @@ module _ (b : BoardView) (tree : IsTree b) (plain : IsPlainBoard b) (lines : Lin
             (cuts-stand past steps c).before verdict (next_first live)
             ((cuts-stand past steps c).remote (next_first live ∙ ap (λ (v : Option Errno). Some (Settle v)) is))
 
-  cut_at : (e : Entry) (past : List Entry) → IsStepwise b callers asks (e ∷ past) → CutAt b asks e past
-  cut_at (entry.Take c l) past steps = tt
-  cut_at (entry.Free c l) past steps = tt
-  cut_at (entry.Line c mux level failed) past steps = tt
-  cut_at (entry.Message c bus why part parts addr reading bytes heard e) past steps = tt
-  cut_at (entry.Settle c r told) past steps =
+  pub cut-at : (e : Entry) (past : List Entry) → IsStepwise b callers asks (e ∷ past) → CutAt b asks e past
+  cut-at (entry.Take c l) past steps = tt
+  cut-at (entry.Free c l) past steps = tt
+  cut-at (entry.Line c mux level failed) past steps = tt
+  cut-at (entry.Message c bus why part parts addr reading bytes heard e) past steps = tt
+  cut-at (entry.Settle c r told) past steps =
       let may = steps.0 in
       let verdict : Option Errno = may.2 in (
         (told-failed past steps.1 c verdict may.3 told may.5, λ is no. (failed-says past steps.1 c verdict may.3 is).1 (sym may.5 ∙ no)),
@@ -533,4 +545,4 @@ module _ (b : BoardView) (tree : IsTree b) (plain : IsPlainBoard b) (lines : Lin
 
   pub cuts-kept : (past : List Entry) → IsStepwise b callers asks past → KeepsCuts b asks past
   cuts-kept [] steps = tt
-  cuts-kept (e ∷ past) steps = (cut_at e past steps, cuts-kept past steps.1)
+  cuts-kept (e ∷ past) steps = (cut-at e past steps, cuts-kept past steps.1)

@@ -52,9 +52,9 @@ not-done w done verdict settles first =
     let at = first_is w (Settle verdict) first in
     (subst (λ (x : WalkTree). Settles done x) at.2 settles).0
 
-by_due : (t : Bool) (d c : ℕ) → cond t (Some d) None ≡ Some c → (t ≡ true) × (d ≡ c)
-by_due true d c e = (refl, (let f : Some d ≡ Some c = e in cc))
-by_due false d c e = absurd (let f : None ≡ Some c = e in cc)
+pub by-due : (t : Bool) (d c : ℕ) → cond t (Some d) None ≡ Some c → (t ≡ true) × (d ≡ c)
+by-due true d c e = (refl, (let f : Some d ≡ Some c = e in cc))
+by-due false d c e = absurd (let f : None ≡ Some c = e in cc)
 
 module _ (b : BoardView) (asks : Asks) (some : AsksForMessages asks) (callers : ℕ) where
   module _ (past : List Entry) (steps : IsStepwise b callers asks past) (d : ℕ) where
@@ -117,13 +117,13 @@ module _ (b : BoardView) (asks : Asks) (some : AsksForMessages asks) (callers : 
   due-told (entry.Free d l ∷ past) c steps due = absurd (let f : None ≡ Some c = sym steps.0.1 ∙ due in cc)
   due-told (entry.Settle d x cut ∷ past) c steps due = absurd (let f : None ≡ Some c = due in cc)
   due-told (entry.Line d mux level failed ∷ past) c steps due =
-      let will = by_due (is_due (first_act ((now b asks (entry.Line d mux level failed ∷ past)).walk d))) d c due in
+      let will = by-due (is_due (first_act ((now b asks (entry.Line d mux level failed ∷ past)).walk d))) d c due in
       let walk = at_same (now b asks past).walk d (rest_of (current b asks (now b asks past) d) (Lined failed)) in
       let h = lined_decides past steps.1 d steps.0.2.0 failed steps.0.2.1 (ap (λ (w : WalkTree). is_due (first_act w)) (sym walk) ∙ will.0) in
       subst (λ (i : ℕ). IsDue b asks (entry.Line d mux level failed ∷ past) i) will.1
       (record { verdict = h.verdict; next = ap first_act walk ∙ h.first; transfer = h.transfer; asked = h.asked; accepted = h.accepted })
   due-told (entry.Message d bus purpose part parts addr reading bytes heard e ∷ past) c steps due =
-      let will = by_due (is_due (first_act ((now b asks (entry.Message d bus purpose part parts addr reading bytes heard e ∷ past)).walk d))) d c due in
+      let will = by-due (is_due (first_act ((now b asks (entry.Message d bus purpose part parts addr reading bytes heard e ∷ past)).walk d))) d c due in
       let walk = at_same (now b asks past).walk d (rest_of (current b asks (now b asks past) d) (Sent e bytes)) in
       let h = sent_decides past steps.1 d steps.0.2.0 steps.0.2.1 e bytes steps.0.2.2 (ap (λ (w : WalkTree). is_due (first_act w)) (sym walk) ∙ will.0) in
       subst (λ (i : ℕ). IsDue b asks (entry.Message d bus purpose part parts addr reading bytes heard e ∷ past) i) will.1
@@ -136,9 +136,9 @@ module _ (b : BoardView) (asks : Asks) (some : AsksForMessages asks) (callers : 
   due-known (entry.Free d l ∷ past) c steps due = absurd (let f : None ≡ Some c = sym steps.0.1 ∙ due in cc)
   due-known (entry.Settle d x cut ∷ past) c steps due = absurd (let f : None ≡ Some c = due in cc)
   due-known (entry.Line d mux level failed ∷ past) c steps due =
-      subst (λ (i : ℕ). i < callers) (by_due (is_due (first_act ((now b asks (entry.Line d mux level failed ∷ past)).walk d))) d c due).1 steps.0.0
+      subst (λ (i : ℕ). i < callers) (by-due (is_due (first_act ((now b asks (entry.Line d mux level failed ∷ past)).walk d))) d c due).1 steps.0.0
   due-known (entry.Message d bus purpose part parts addr reading bytes heard e ∷ past) c steps due =
-      subst (λ (i : ℕ). i < callers) (by_due (is_due (first_act ((now b asks (entry.Message d bus purpose part parts addr reading bytes heard e ∷ past)).walk d))) d c due).1 steps.0.0
+      subst (λ (i : ℕ). i < callers) (by-due (is_due (first_act ((now b asks (entry.Message d bus purpose part parts addr reading bytes heard e ∷ past)).walk d))) d c due).1 steps.0.0
 
 -- WHAT STAYS DUE
 module _ (b : BoardView) (asks : Asks) where

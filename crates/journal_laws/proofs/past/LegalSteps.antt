@@ -191,9 +191,9 @@ module _ (b : BoardView) (tree : IsTree b) (plain : IsPlainBoard b) (lines : Lin
           absurd (let f : true ≡ false = sym (ap is_due h.next) ∙ walks-due b asks past legal.walks c in cc)
 
   -- A PREFIX that doesn't end between a message or line step and its settle
-  steps_front : (later past : List Entry) → IsStepwise b callers asks (later ++ past) → IsStepwise b callers asks past
-  steps_front [] past steps = steps
-  steps_front (e ∷ later) past steps = steps_front later past steps.1
+  pub steps-front : (later past : List Entry) → IsStepwise b callers asks (later ++ past) → IsStepwise b callers asks past
+  steps-front [] past steps = steps
+  steps-front (e ∷ later) past steps = steps-front later past steps.1
 
   pub front-due : (e : Entry) (past : List Entry) → IsStepwise b callers asks (e ∷ past) → (BelongsTo e past → ⊥) → (now b asks past).due ≡ None
   front-due (entry.Take c l) past steps apart = steps.0.1
@@ -211,5 +211,5 @@ module _ (b : BoardView) (tree : IsTree b) (plain : IsPlainBoard b) (lines : Lin
 
   pub front-legal : (later : List Entry) (e : Entry) (past : List Entry) → IsLegal b callers asks (later ++ e ∷ past) → (BelongsTo e past → ⊥) → IsLegal b callers asks past
   front-legal later e past legal apart =
-      let steps : IsStepwise b callers asks (e ∷ past) = steps_front later (e ∷ past) (legal-steps (later ++ e ∷ past) legal) in
+      let steps : IsStepwise b callers asks (e ∷ past) = steps-front later (e ∷ past) (legal-steps (later ++ e ∷ past) legal) in
       legal-with b tree plain lines asks some callers past steps.1 (front-due e past steps apart) (replies-kept b tree plain lines asks some limits callers past steps.1)

@@ -1,5 +1,7 @@
+use Rattle.std.specs.Prelude.{◌∷◌, ◌++◌}
 use Rattle.bus_laws.proofs.world.LineFacts.{lines-locked}
 use Rattle.journal_laws.proofs.past.Marked.{mark-stays, passes-until}
+use Rattle.journal_laws.proofs.past.LegalSteps.{steps-front, legal-steps}
 use Rattle.journal_laws.proofs.faulty.a_mark_stays_until_its_mux_is_closed.Goals as goal
 
 pub returns : goal.returns
@@ -9,4 +11,9 @@ returns c =
           mark-stays b (c.an_accepted_board_is_a_tree.ensures b plain rules) plain (lines-locked b rules) asks some callers e past;
       passed_by = λ b callers asks e later past plain rules some.
           passes-until b (c.an_accepted_board_is_a_tree.ensures b plain rules) plain (lines-locked b rules) asks some callers e later past;
+      legal = λ b callers asks more e later past plain rules some limits legal.
+          (let tree = c.an_accepted_board_is_a_tree.ensures b plain rules in
+          passes-until b tree plain (lines-locked b rules) asks some callers e later past
+          (steps-front b tree plain (lines-locked b rules) asks some limits callers more (e ∷ (later ++ past))
+          (legal-steps b tree plain (lines-locked b rules) asks some limits callers (more ++ e ∷ (later ++ past)) legal)));
     }
