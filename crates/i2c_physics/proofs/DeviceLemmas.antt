@@ -2,12 +2,19 @@
 -- the devices, the first being number k.
 use Rattle.std.proofs.Common.{◌≡◌, ℕ, ◌+◌, List, [], ◌∷◌, map, Option, Some, None, refl, ◌∙◌, ap}
 use Rattle.i2c_base.specs.declared.event.Event.{Event}
+use Rattle.i2c_base.specs.declared.event.Event.TheVariants as event
 use Rattle.i2c_base.specs.declared.event.Answer.{Answer}
-use Rattle.i2c_spec.specs.Targets.{state_table, state_after, state_answer}
+use Rattle.i2c_base.specs.declared.event.Answer.TheVariants.{Nothing}
+use Rattle.i2c_spec.specs.Regs.{RegsView}
+use Rattle.i2c_spec.specs.Targets as target
+use Rattle.i2c_spec.specs.Targets.{IsQuiet, state_table, state_after, state_answer}
 use Rattle.i2c_spec.specs.World.{answers, answer_with, feed, given}
 use Rattle.i2c_outside.specs.declared.device.DeviceState.{DeviceState}
 use Rattle.i2c_outside.specs.declared.device.DeviceState.TheVariants.{Regs, Silent}
 use Rattle.i2c_outside.specs.Devices.{target_state, device_table, device_after, device_answer}
+
+regs_same : (x y : RegsView) → target.Regs x ≡ target.Regs y → Regs x ≡ Regs y
+regs_same x y e = cc
 
 pub state_after_is : (d : DeviceState) (e : Event) → state_after (target_state d) e ≡ target_state (device_after d e)
 state_after_is (Regs x) e = refl
@@ -40,3 +47,14 @@ answers-states f k [] = refl
 answers-states f k (d ∷ ds) =
     answer-state (f k) k d (answers state_table f (k + 1) (map target_state ds))
     ∙ ap (answer_with device_table (f k) k d) (answers-states f (k + 1) ds)
+
+-- after a stop a device is quiet, and a start for another is answered by nothing
+pub device-stops : (d : DeviceState) → IsQuiet device_table (device_after d event.Stop)
+device-stops (Regs x) = record { other = refl; stop = refl }
+
+pub device-nothing : (d : DeviceState) → device_answer d event.Other ≡ Nothing
+device-nothing (Regs x) = refl
+
+-- as its state is, so is the device
+pub quiet-device : (d : DeviceState) → IsQuiet state_table (target_state d) → IsQuiet device_table d
+quiet-device (Regs x) quiet = record { other = regs_same _ _ quiet.other; stop = regs_same _ _ quiet.stop }

@@ -1,48 +1,252 @@
--- What all targets are given in a call, and answer: the program's lists and events, as the world has them.
-use Rattle.std.proofs.Common.{◌≡◌, ℕ, List, length, map, Option, refl, sym, ◌∙◌, ap}
-use Rattle.std.specs.List.{range_with_len}
+-- What a call leaves of the program's lists, where only those are told that a message has reached, is what the world says.
+use Rattle.std.proofs.Common.{◌≡◌, ℕ, ◌+◌, ◌<◌, Bool, true, false, ◌&&◌, ◌||◌, List, [], ◌∷◌, ◌++◌, length, map, refl, sym, ◌∙◌, ap, subst, arith}
+use Rattle.std.specs.Prelude.{not, if◌then◌else◌}
+use Rattle.std.specs.List.{filter}
 use Rattle.std.proofs.lemmas.List.{length-map}
+use Rattle.std.proofs.lemmas.List.Folds.{list_any-append}
+use Rattle.i2c_base.specs.declared.ids.Node.{Node}
 use Rattle.i2c_base.specs.declared.event.Event.{Event}
-use Rattle.i2c_base.specs.declared.port.PortCall.{PortCall}
-use Rattle.i2c_spec.specs.Chips.{ChipView, chip_table}
-use Rattle.i2c_spec.specs.Targets.{TargetState, state_table}
-use Rattle.i2c_spec.specs.World.{World, answers, feed}
-use Rattle.i2c_physics.specs.Events.{chip_event, device_event, fed}
+use Rattle.i2c_base.specs.declared.event.Event.TheVariants as event
+use Rattle.i2c_base.specs.declared.event.Answer.{Answer}
+use Rattle.i2c_base.specs.declared.event.Answer.TheVariants.{Ack, Nack, Slow, Nothing}
+use Rattle.i2c_base.specs.declared.port.PortCall.TheVariants as call
+use Rattle.i2c_base.specs.Board.{BoardView}
+use Rattle.i2c_base.specs.Table.{Table}
+use Rattle.i2c_spec.specs.Chips.{ChipView, chip_table, chip_after}
+use Rattle.i2c_spec.specs.Targets.{TargetState, IsQuiet, state_table}
+use Rattle.i2c_spec.specs.World.{World, after, answer, sent_on, answers, feed, to_chips, to_devices, chip_start, device_start, start_chips, start_devices, start_event, stop_event, joins_chip, joins_device, hearers, has_heard, is_ack, is_slow, some_answer}
 use Rattle.i2c_outside.specs.declared.device.DeviceState.{DeviceState}
 use Rattle.i2c_outside.specs.Devices.{target_state, device_table}
+use Rattle.i2c_physics.specs.Heard.{numbers_of, nodes_of}
+use Rattle.i2c_physics.specs.Places.{PlaceView, mux_place, device_place}
+use Rattle.i2c_physics.specs.Reach.{AreRising, to_those, joins_at, has_at, called, others, either}
+use Rattle.i2c_physics.specs.SimWorlds.{IsSimWorld}
+use Rattle.i2c_physics.specs.Answering.{together_of, start_answer}
 use Rattle.i2c_physics.specs.declared.together.Together.{Together}
-use Rattle.i2c_physics.specs.Answering.{together_of, devices_say}
-use Rattle.i2c_physics.proofs.DeviceLemmas.{feed-states, answers-states}
+use Rattle.i2c_physics.specs.declared.reach.Reach.{Reach}
+use Rattle.i2c_physics.proofs.DeviceLemmas.{feed-states, answers-states, device-stops, device-nothing}
+use Rattle.i2c_physics.proofs.NumberLemmas.{rising-filter, rising-of_range}
+use Rattle.i2c_physics.proofs.PlaceLemmas.{chip-started, chip-stopped, device-started, device-stopped}
+use Rattle.i2c_physics.proofs.ReachLemmas.{reached-sent, stopped-fed, reached-stopped, started-fed, started-heard, reached-started}
+use Rattle.i2c_physics.proofs.TogetherLemmas.{feed-same, answers-same, length-feed}
+use Rattle.i2c_physics.proofs.WorldLemmas.{chip-hears, device-hears, hearers_told}
 
-module _ (w : World) (c : PortCall) (ds : List DeviceState) (events : List (Option Event)) (are : map target_state ds ≡ w.devices)
-    (listed : events ≡ map (device_event w c) (range_with_len 0 (length w.devices))) where
-  at_devices : events ≡ map (device_event w c) (range_with_len 0 (length ds))
-  at_devices = listed ∙ ap (λ n. map (device_event w c) (range_with_len 0 n)) (ap length (sym are) ∙ length-map ds target_state)
+-- what is told, as of the fields
+module _ {X : Type 0} (t : Table X) (e : Event) (told numbers : List ℕ) (xs ys : List X) (same_numbers : told ≡ numbers) (same : ys ≡ xs) where
+  pub fed-on : (new kept : List X) → kept ≡ new → new ≡ feed t (to_those told e) 0 ys → kept ≡ feed t (to_those numbers e) 0 xs
+  fed-on new kept is fed = is ∙ fed ∙ ap (λ ns. feed t (to_those ns e) 0 ys) same_numbers ∙ ap (feed t (to_those numbers e) 0) same
 
-  pub devices-said : (r : Together)
-      → ((f : ℕ → Option Event) → events ≡ map f (range_with_len 0 (length ds)) → r ≡ together_of (answers device_table f 0 ds))
-      → r ≡ devices_say w c
-  devices-said r told =
-      told (device_event w c) at_devices
-      ∙ ap together_of (sym (answers-states (device_event w c) 0 ds) ∙ ap (answers state_table (device_event w c) 0) are)
+  pub said-on : (r : Together) → r ≡ together_of (answers t (to_those told e) 0 ys) → r ≡ together_of (answers t (to_those numbers e) 0 xs)
+  said-on r said = said ∙ ap (λ ns. together_of (answers t (to_those ns e) 0 ys)) same_numbers ∙ ap (λ zs. together_of (answers t (to_those numbers e) 0 zs)) same
 
-  pub devices-fed : (new : List DeviceState)
-      → ((f : ℕ → Option Event) → events ≡ map f (range_with_len 0 (length ds)) → new ≡ feed device_table f 0 ds)
-      → map target_state new ≡ feed state_table (device_event w c) 0 w.devices
-  devices-fed new told =
-      ap (map target_state) (told (device_event w c) at_devices)
-      ∙ sym (feed-states (device_event w c) 0 ds) ∙ ap (feed state_table (device_event w c) 0) are
+-- a list that is made of the chips, the places and the numbers; a start is told to two lists
+pub all-on : {A : Type 0} (F : List ChipView → List PlaceView → List ℕ → A) {cs cs' : List ChipView} {ps ps' : List PlaceView} {ns ns' : List ℕ}
+    → cs ≡ cs' → ps ≡ ps' → ns ≡ ns' → F cs ps ns ≡ F cs' ps' ns'
+all-on F {cs} {cs'} {ps} {ps'} {ns} {ns'} e f g = ap (λ x. F x ps ns) e ∙ ap (λ x. F cs' x ns) f ∙ ap (F cs' ps') g
 
-pub chips-fed : (w : World) (c : PortCall) (cs new : List ChipView) (events : List (Option Event)) → cs ≡ w.chips
-    → events ≡ map (chip_event w c) (range_with_len 0 (length w.chips))
-    → ((f : ℕ → Option Event) → events ≡ map f (range_with_len 0 (length cs)) → new ≡ feed chip_table f 0 cs)
-    → new ≡ feed chip_table (chip_event w c) 0 w.chips
-chips-fed w c cs new events are listed told =
-    told (chip_event w c) (listed ∙ ap (λ xs. map (chip_event w c) (range_with_len 0 (length xs))) (sym are))
-    ∙ ap (feed chip_table (chip_event w c) 0) are
+module _ {X : Type 0} (t : Table X) (e : Event) {told calls : List ℕ} {ys xs : List X} (same_called : told ≡ calls) (same : ys ≡ xs) where
+  pub begun-on : (others_told rest : List ℕ) → others_told ≡ rest → (new kept : List X) → kept ≡ new
+      → new ≡ feed t (to_those others_told event.Other) 0 (feed t (to_those told e) 0 ys)
+      → kept ≡ feed t (to_those rest event.Other) 0 (feed t (to_those calls e) 0 xs)
+  begun-on others_told rest same_others new kept is fed =
+      is ∙ fed ∙ ap (λ ns. feed t (to_those ns event.Other) 0 (feed t (to_those told e) 0 ys)) same_others
+      ∙ ap (λ ns. feed t (to_those rest event.Other) 0 (feed t (to_those ns e) 0 ys)) same_called
+      ∙ ap (λ zs. feed t (to_those rest event.Other) 0 (feed t (to_those calls e) 0 zs)) same
 
--- the world, as of the fields behind what is seen
-pub world-fed : (v w : World) (c : PortCall) (cs : List ChipView) (ds : List TargetState) → v ≡ w
-    → cs ≡ feed chip_table (chip_event w c) 0 w.chips → ds ≡ feed state_table (device_event w c) 0 w.devices
-    → (record v { chips = cs; devices = ds }) ≡ fed w c
-world-fed v w c cs ds is chips devices = rw (chips, devices, is) refl
+  pub heard-on : (r : Together) (heard : List ℕ) → r ≡ together_of (answers t (to_those told e) 0 ys) → heard ≡ r.heard.items
+      → heard ≡ numbers_of (answers t (to_those calls e) 0 xs)
+  heard-on r heard said is =
+      is ∙ ap (λ (j : Together). j.heard.items) said ∙ ap (λ ns. numbers_of (answers t (to_those ns e) 0 ys)) same_called
+      ∙ ap (λ zs. numbers_of (answers t (to_those calls e) 0 zs)) same
+
+pub either-on : {count n : ℕ} {started begun : List ℕ} (has : List ℕ) → count ≡ n → begun ≡ started → either count has begun ≡ either n has started
+either-on {count} {n} {started} {begun} has e f = ap (λ m. either m has begun) e ∙ ap (either n has) f
+
+pub start-by : {j k chips devices : Together} → j ≡ chips → k ≡ devices → start_answer j k ≡ start_answer chips devices
+start-by {j} {k} {chips} {devices} e f = ap (λ x. start_answer x k) e ∙ ap (start_answer chips) f
+
+abbrev pub world_of : BoardView → ℕ → List ChipView → List DeviceState → List ℕ → List ℕ → Bool → World
+world_of b root chips states heard_chips heard_devices busy =
+    record { board = b; root = root; chips = chips; devices = map target_state states; hearing = nodes_of heard_chips heard_devices; busy = busy }
+
+module _ (b : BoardView) (root : ℕ) (muxes places : List PlaceView) (chips : List ChipView) (states : List DeviceState) (cr dr : Reach) (busy : Bool)
+    (inv : IsSimWorld b root muxes places chips states cr dr) where
+  abbrev world : World
+  world = world_of b root chips states cr.hearing.items dr.hearing.items busy
+
+  low_chip : (k : ℕ) → k < 0 + length chips → k < length b.muxes
+  low_chip k low = omega (arith, low, inv.chips_are)
+
+  low_device : (k : ℕ) → k < 0 + length states → k < length b.devices
+  low_device k low = omega (arith, low, inv.devices_are)
+
+  -- a byte
+  module _ (e : Event) where
+    pub chips-answer : answers chip_table (to_those cr.hearing.items e) 0 chips ≡ answers chip_table (to_chips world e) 0 chips
+    chips-answer =
+        answers-same chip_table (to_chips world e) (to_those cr.hearing.items e) 0 chips (λ k at low. chip-hears world cr.hearing.items dr.hearing.items refl e k)
+
+    pub devices-answer : answers device_table (to_those dr.hearing.items e) 0 states ≡ answers state_table (to_devices world e) 0 (map target_state states)
+    devices-answer =
+        answers-same device_table (to_devices world e) (to_those dr.hearing.items e) 0 states (λ k at low. device-hears world cr.hearing.items dr.hearing.items refl e k)
+        ∙ sym (answers-states (to_devices world e) 0 states)
+
+    module _ (new_chips : List ChipView) (new_states : List DeviceState) (chips_new : new_chips ≡ feed chip_table (to_those cr.hearing.items e) 0 chips)
+        (states_new : new_states ≡ feed device_table (to_those dr.hearing.items e) 0 states) where
+      pub sent-kept : IsSimWorld b root muxes places new_chips new_states cr dr
+      sent-kept = record {
+        plain = inv.plain;
+        mux_places = inv.mux_places;
+        device_places = inv.device_places;
+        chips_are = ap length chips_new ∙ length-feed chip_table (to_those cr.hearing.items e) 0 chips ∙ inv.chips_are;
+        devices_are = ap length states_new ∙ length-feed device_table (to_those dr.hearing.items e) 0 states ∙ inv.devices_are;
+        chips_reached = rw chips_new (reached-sent chip_table chips cr.started.items cr.hearing.items inv.chips_reached e);
+        devices_reached = rw states_new (reached-sent device_table states dr.started.items dr.hearing.items inv.devices_reached e);
+      }
+
+      pub sent-is : world_of b root new_chips new_states cr.hearing.items dr.hearing.items busy ≡ sent_on world e
+      sent-is =
+          let to_all = feed-same chip_table (to_chips world e) (to_those cr.hearing.items e) 0 chips (λ k at low. chip-hears world cr.hearing.items dr.hearing.items refl e k) in
+          let all_states = feed-same device_table (to_devices world e) (to_those dr.hearing.items e) 0 states (λ k at low. device-hears world cr.hearing.items dr.hearing.items refl e k) in
+          let all_devices : map target_state new_states ≡ feed state_table (to_devices world e) 0 (map target_state states) =
+          ap (map target_state) (states_new ∙ all_states) ∙ sym (feed-states (to_devices world e) 0 states) in
+          let all_chips = chips_new ∙ to_all in
+          ap (λ (cs : List ChipView). record world { chips = cs; devices = map target_state new_states }) all_chips
+          ∙ ap (λ (ds : List TargetState). record world { chips = feed chip_table (to_chips world e) 0 chips; devices = ds }) all_devices
+
+  -- a stop
+  module _ (new_chips : List ChipView) (new_states : List DeviceState)
+      (chips_new : new_chips ≡ feed chip_table (to_those (filter (joins_at chips muxes) cr.started.items) event.Stop) 0 chips)
+      (states_new : new_states ≡ feed device_table (to_those (filter (joins_at chips places) dr.started.items) event.Stop) 0 states) where
+    pub stopped-kept : ((y : ChipView) → IsQuiet chip_table (chip_after y event.Stop)) → (left_chips left_devices : Reach)
+        → left_chips.started.items ≡ filter (λ k. not (joins_at chips muxes k)) cr.started.items → left_chips.hearing.items ≡ []
+        → left_devices.started.items ≡ filter (λ k. not (joins_at chips places k)) dr.started.items → left_devices.hearing.items ≡ []
+        → IsSimWorld b root muxes places new_chips new_states left_chips left_devices
+    stopped-kept stops left_chips left_devices lc lch ld ldh =
+        let kept_chips = reached-stopped chip_table chips cr.started.items cr.hearing.items inv.chips_reached (joins_at chips muxes) stops in
+        let kept_states = reached-stopped device_table states dr.started.items dr.hearing.items inv.devices_reached (joins_at chips places) device-stops in
+        record {
+          plain = inv.plain;
+          mux_places = inv.mux_places;
+          device_places = inv.device_places;
+          chips_are = ap length chips_new ∙ length-feed chip_table (to_those (filter (joins_at chips muxes) cr.started.items) event.Stop) 0 chips ∙ inv.chips_are;
+          devices_are = ap length states_new ∙ length-feed device_table (to_those (filter (joins_at chips places) dr.started.items) event.Stop) 0 states ∙ inv.devices_are;
+          chips_reached = rw (chips_new, lc, lch) kept_chips;
+          devices_reached = rw (states_new, ld, ldh) kept_states;
+        }
+
+    pub stopped-is : world_of b root new_chips new_states [] [] false ≡ after world call.Stop
+    stopped-is =
+        let all_chips = chips_new ∙ stopped-fed chip_table chips cr.started.items cr.hearing.items inv.chips_reached (joins_at chips muxes)
+        ∙ feed-same chip_table (λ m. stop_event (joins_chip world m)) (λ k. stop_event (joins_at chips muxes k)) 0 chips
+        (λ k at low. chip-stopped world muxes k inv.mux_places (low_chip k low)) in
+        let all_states = states_new ∙ stopped-fed device_table states dr.started.items dr.hearing.items inv.devices_reached (joins_at chips places)
+        ∙ feed-same device_table (λ d. stop_event (joins_device world d)) (λ k. stop_event (joins_at chips places k)) 0 states
+        (λ k at low. device-stopped world places k inv.device_places (low_device k low)) in
+        let all_devices : map target_state new_states ≡ feed state_table (λ d. stop_event (joins_device world d)) 0 (map target_state states) =
+        ap (map target_state) all_states ∙ sym (feed-states (λ d. stop_event (joins_device world d)) 0 states) in
+        ap (λ (cs : List ChipView). record world { chips = cs; devices = map target_state new_states; hearing = []; busy = false }) all_chips
+        ∙ ap (λ (ds : List TargetState). record world { chips = feed chip_table (λ m. stop_event (joins_chip world m)) 0 chips; devices = ds; hearing = []; busy = false }) all_devices
+
+  -- a start
+  module _ (a : ℕ) (reading : Bool) where
+    abbrev chips_said : List (ℕ × Answer)
+    chips_said = answers chip_table (to_those (called chips muxes a) (event.Start reading)) 0 chips
+
+    abbrev states_said : List (ℕ × Answer)
+    states_said = answers device_table (to_those (called chips places a) (event.Start reading)) 0 states
+
+    muxes_count : length muxes ≡ length chips
+    muxes_count = ap length inv.mux_places ∙ length-map b.muxes (mux_place b root) ∙ sym inv.chips_are
+
+    places_count : length places ≡ length states
+    places_count = ap length inv.device_places ∙ length-map b.devices (device_place b root) ∙ sym inv.devices_are
+
+    pub calls-chips : AreRising 0 (length chips) (called chips muxes a)
+    calls-chips = subst (λ n. AreRising 0 n (called chips muxes a)) muxes_count (rising-of_range (λ k. has_at a muxes k && joins_at chips muxes k) (length muxes))
+
+    pub calls-devices : AreRising 0 (length states) (called chips places a)
+    calls-devices = subst (λ n. AreRising 0 n (called chips places a)) places_count (rising-of_range (λ k. has_at a places k && joins_at chips places k) (length places))
+
+    pub other-chips : AreRising 0 (length chips) (others chips muxes a cr.started.items)
+    other-chips = rising-filter (λ k. not (has_at a muxes k) && joins_at chips muxes k) 0 (length chips) cr.started.items inv.chips_reached.started_rise
+
+    pub other-devices : AreRising 0 (length states) (others chips places a dr.started.items)
+    other-devices = rising-filter (λ k. not (has_at a places k) && joins_at chips places k) 0 (length states) dr.started.items inv.devices_reached.started_rise
+
+    module _ {A : Type 0} (R : List (ℕ × Answer) → A) (step : ℕ × Answer → A → A)
+        (is : (x : ℕ × Answer) (ys : List (ℕ × Answer)) → R (x ∷ ys) ≡ step x (R ys))
+        (silent : (k : ℕ) (ys : List (ℕ × Answer)) → R ((k, Nothing) ∷ ys) ≡ R ys) where
+      chips_read : R chips_said ≡ R (start_chips world a reading)
+      chips_read =
+          started-heard chip_table chips cr.started.items cr.hearing.items inv.chips_reached chips muxes a reading muxes_count R step is silent (λ x. refl)
+          ∙ ap R (answers-same chip_table (chip_start world a reading) (λ k. start_event (joins_at chips muxes k) (has_at a muxes k) reading) 0 chips
+          (λ k at low. chip-started world muxes k inv.mux_places (low_chip k low) a reading))
+
+      states_read : R states_said ≡ R (start_devices world a reading)
+      states_read =
+          started-heard device_table states dr.started.items dr.hearing.items inv.devices_reached chips places a reading places_count R step is silent device-nothing
+          ∙ ap R (answers-same device_table (device_start world a reading) (λ k. start_event (joins_at chips places k) (has_at a places k) reading) 0 states
+          (λ k at low. device-started world places k inv.device_places (low_device k low) a reading)
+          ∙ sym (answers-states (device_start world a reading) 0 states))
+
+    some_chips : (test : Answer → Bool) → test Nothing ≡ false → some_answer test chips_said ≡ some_answer test (start_chips world a reading)
+    some_chips test none = chips_read (some_answer test) (λ x r. test x.1 || r) (λ x ys. refl) (λ k ys. rw none refl)
+
+    some_states : (test : Answer → Bool) → test Nothing ≡ false → some_answer test states_said ≡ some_answer test (start_devices world a reading)
+    some_states test none = states_read (some_answer test) (λ x r. test x.1 || r) (λ x ys. refl) (λ k ys. rw none refl)
+
+    some_said : (test : Answer → Bool) → test Nothing ≡ false
+        → (some_answer test chips_said || some_answer test states_said) ≡ some_answer test (start_chips world a reading ++ start_devices world a reading)
+    some_said test none =
+        ap (λ c. c || some_answer test states_said) (some_chips test none)
+        ∙ ap (λ c. some_answer test (start_chips world a reading) || c) (some_states test none)
+        ∙ sym (list_any-append (λ (x : ℕ × Answer). test x.1) (start_chips world a reading) (start_devices world a reading))
+
+    pub started-answer : start_answer (together_of chips_said) (together_of states_said) ≡ answer world a reading
+    started-answer =
+        ap (λ c. if c then Slow else if some_answer is_ack chips_said || some_answer is_ack states_said then Ack else Nack) (some_said is_slow refl)
+        ∙ ap (λ c. if some_answer is_slow (start_chips world a reading ++ start_devices world a reading) then Slow else if c then Ack else Nack) (some_said is_ack refl)
+
+    pub started-hearing : nodes_of (numbers_of chips_said) (numbers_of states_said) ≡ hearers world a reading
+    started-hearing =
+        ap (λ ns. nodes_of ns (numbers_of states_said)) (chips_read numbers_of (λ x r. if has_heard x.1 then x.0 ∷ r else r) (λ x ys. refl) (λ k ys. refl))
+        ∙ ap (nodes_of (numbers_of (start_chips world a reading))) (states_read numbers_of (λ x r. if has_heard x.1 then x.0 ∷ r else r) (λ x ys. refl) (λ k ys. refl))
+        ∙ sym (hearers_told world a reading)
+
+    module _ (new_chips : List ChipView) (new_states : List DeviceState) (rc rd : Reach)
+        (chips_new : new_chips ≡ feed chip_table (to_those (others chips muxes a cr.started.items) event.Other) 0 (feed chip_table (to_those (called chips muxes a) (event.Start reading)) 0 chips))
+        (states_new : new_states ≡ feed device_table (to_those (others chips places a dr.started.items) event.Other) 0 (feed device_table (to_those (called chips places a) (event.Start reading)) 0 states))
+        (rc_heard : rc.hearing.items ≡ numbers_of chips_said) (rd_heard : rd.hearing.items ≡ numbers_of states_said) where
+      pub started-kept : rc.started.items ≡ either (length chips) cr.started.items (called chips muxes a)
+          → rd.started.items ≡ either (length states) dr.started.items (called chips places a)
+          → IsSimWorld b root muxes places new_chips new_states rc rd
+      started-kept rc_started rd_started =
+          let kept_chips = reached-started chip_table chips cr.started.items cr.hearing.items inv.chips_reached chips muxes a reading muxes_count in
+          let kept_states = reached-started device_table states dr.started.items dr.hearing.items inv.devices_reached chips places a reading places_count in
+          record {
+            plain = inv.plain;
+            mux_places = inv.mux_places;
+            device_places = inv.device_places;
+            chips_are = ap length (chips_new ∙ started-fed chip_table chips cr.started.items cr.hearing.items inv.chips_reached chips muxes a reading muxes_count)
+                ∙ length-feed chip_table (λ k. start_event (joins_at chips muxes k) (has_at a muxes k) reading) 0 chips ∙ inv.chips_are;
+            devices_are = ap length (states_new ∙ started-fed device_table states dr.started.items dr.hearing.items inv.devices_reached chips places a reading places_count)
+                ∙ length-feed device_table (λ k. start_event (joins_at chips places k) (has_at a places k) reading) 0 states ∙ inv.devices_are;
+            chips_reached = rw (chips_new, rc_started, rc_heard) kept_chips;
+            devices_reached = rw (states_new, rd_started, rd_heard) kept_states;
+          }
+
+      pub started-is : world_of b root new_chips new_states rc.hearing.items rd.hearing.items true ≡ after world (call.Start a reading)
+      started-is =
+          let all_chips = chips_new ∙ started-fed chip_table chips cr.started.items cr.hearing.items inv.chips_reached chips muxes a reading muxes_count
+          ∙ feed-same chip_table (chip_start world a reading) (λ k. start_event (joins_at chips muxes k) (has_at a muxes k) reading) 0 chips
+          (λ k at low. chip-started world muxes k inv.mux_places (low_chip k low) a reading) in
+          let all_states = states_new ∙ started-fed device_table states dr.started.items dr.hearing.items inv.devices_reached chips places a reading places_count
+          ∙ feed-same device_table (device_start world a reading) (λ k. start_event (joins_at chips places k) (has_at a places k) reading) 0 states
+          (λ k at low. device-started world places k inv.device_places (low_device k low) a reading) in
+          let all_devices : map target_state new_states ≡ feed state_table (device_start world a reading) 0 (map target_state states) =
+          ap (map target_state) all_states ∙ sym (feed-states (device_start world a reading) 0 states) in
+          let heard : nodes_of rc.hearing.items rd.hearing.items ≡ hearers world a reading = rw (rc_heard, rd_heard) started-hearing in
+          ap (λ (cs : List ChipView). record world { chips = cs; devices = map target_state new_states; hearing = nodes_of rc.hearing.items rd.hearing.items; busy = true }) all_chips
+          ∙ ap (λ (ds : List TargetState). record world { chips = feed chip_table (chip_start world a reading) 0 chips; devices = ds; hearing = nodes_of rc.hearing.items rd.hearing.items; busy = true }) all_devices
+          ∙ ap (λ (hs : List Node). record world { chips = feed chip_table (chip_start world a reading) 0 chips; devices = feed state_table (device_start world a reading) 0 (map target_state states); hearing = hs; busy = true }) heard

@@ -1,7 +1,10 @@
 pub mod DeviceLemmas
 pub mod FeedLemmas
+pub mod LineLemmas
+pub mod NumberLemmas
 pub mod PlaceLemmas
 pub mod PlugLemmas
+pub mod ReachLemmas
 pub mod RigLemmas
 pub mod TogetherLemmas
 pub mod WorldLemmas

@@ -1,122 +1,155 @@
--- One target more, in a list whose targets are given their events from the last one back: those from j on have
--- had theirs, and k is the one before j.
-use Rattle.std.proofs.Common.{◌≡◌, ℕ, ◌+◌, ◌<◌, ◌≤◌, List, [], ◌∷◌, ◌++◌, length, map, take, drop, get_or, set, Option, Some, None, refl, sym, ap, ◌∙◌, subst, append_assoc, arith}
-use Rattle.std.proofs.Math.Seq.{set-append_seam, get_or-append_seam}
+-- Targets that are told of an event by their numbers, the highest number first: one target more.
+use Rattle.std.proofs.Common.{◌≡◌, ◌≢◌, ℕ, zero, suc, ◌+◌, ◌<◌, ◌≤◌, true, false, List, [], ◌∷◌, ◌++◌, length, map, drop, get_or, set, Option, Some, None, refl, sym, ap, ◌∙◌, subst, inl, inr, arith, add-zero, zero-add}
+use Rattle.std.specs.Prelude.{◌==◌}
 use Rattle.std.specs.List.{range_with_len}
-use Rattle.std.proofs.lemmas.List.FromFn.{get_or-map-range_with_len, map-range_with_len_more}
-use Rattle.std.proofs.lemmas.List.{take_more, at_drop_more, length-take-le}
+use Rattle.std.proofs.lemmas.Bool.{ne_eqb}
+use Rattle.std.proofs.lemmas.Bool.Decides.{eqb_tells}
+use Rattle.std.proofs.lemmas.List.{at_drop_more}
+use Rattle.std.proofs.Math.Seq.{drop-length}
+use Rattle.std.proofs.lemmas.List.FromFn.{map-range_with_len_more}
 use Rattle.i2c_base.specs.declared.event.Event.{Event}
 use Rattle.i2c_base.specs.declared.event.Answer.{Answer}
 use Rattle.i2c_base.specs.Table.{Table}
 use Rattle.i2c_spec.specs.World.{feed, given, answers, answer_with}
-use Rattle.i2c_physics.specs.Events.{event_at}
-
--- the list, with its target k between those before it and those behind it
-parted : {X : Type 0} (t : Table X) (f : ℕ → Option Event) (k : ℕ) (xs now : List X) (d : X) → k < length xs
-    → now ≡ take (k + 1) xs ++ feed t f (k + 1) (drop (k + 1) xs)
-    → now ≡ take k xs ++ get_or xs k d ∷ feed t f (k + 1) (drop (k + 1) xs)
-parted t f k xs now d within fed =
-    fed ∙ ap (λ front. front ++ feed t f (k + 1) (drop (k + 1) xs)) (take_more xs k d within)
-    ∙ append_assoc (take k xs) (get_or xs k d ∷ []) (feed t f (k + 1) (drop (k + 1) xs))
-
-parted_at : {X : Type 0} (t : Table X) (f : ℕ → Option Event) (j k : ℕ) (xs now : List X) (d : X) → j ≡ k + 1 → k < length xs
-    → now ≡ take j xs ++ feed t f j (drop j xs)
-    → now ≡ take k xs ++ get_or xs k d ∷ feed t f (k + 1) (drop (k + 1) xs)
-parted_at t f j k xs now d e within fed =
-    let P : ℕ → Type 0 = λ i. now ≡ take i xs ++ feed t f i (drop i xs) in
-    parted t f k xs now d within (subst P e fed)
-
-seam_read : {X : Type 0} (front back now : List X) (k : ℕ) (x d : X) → length front ≡ k → now ≡ front ++ x ∷ back → get_or now k d ≡ x
-seam_read front back now k x d at e = rw (e, ← at) (get_or-append_seam front x back d)
-
-seam_write : {X : Type 0} (front back now : List X) (k : ℕ) (x y : X) → length front ≡ k → now ≡ front ++ x ∷ back → set now k y ≡ front ++ y ∷ back
-seam_write front back now k x y at e = rw (e, ← at) (set-append_seam front x back y)
-
-fed_at : {X : Type 0} (t : Table X) (f : ℕ → Option Event) (k : ℕ) (xs : List X) (d : X) → k < length xs
-    → feed t f k (drop k xs) ≡ given t (f k) (get_or xs k d) ∷ feed t f (k + 1) (drop (k + 1) xs)
-fed_at t f k xs d within = at_drop_more (feed t f k) xs k d within
-
--- the target k before its event
-pub same_before : {X : Type 0} (t : Table X) (f : ℕ → Option Event) (j k : ℕ) (xs now : List X) (d : X) → j ≡ k + 1 → k < length xs
-    → now ≡ take j xs ++ feed t f j (drop j xs) → get_or now k d ≡ get_or xs k d
-same_before t f j k xs now d e within fed =
-    seam_read (take k xs) (feed t f (k + 1) (drop (k + 1) xs)) now k (get_or xs k d) d (length-take-le k xs (omega arith)) (parted_at t f j k xs now d e within fed)
-
--- it has an event
-pub fed_some : {X : Type 0} (t : Table X) (f : ℕ → Option Event) (j k : ℕ) (xs now : List X) (d y : X) (event : Event) → j ≡ k + 1 → k < length xs
-    → now ≡ take j xs ++ feed t f j (drop j xs) → f k ≡ Some event → y ≡ t.after (get_or now k d) event
-    → set now k y ≡ take k xs ++ feed t f k (drop k xs)
-fed_some t f j k xs now d y event e within fed has is =
-    let same = same_before t f j k xs now d e within fed in
-    let new : y ≡ given t (f k) (get_or xs k d) = is ∙ ap (λ x. t.after x event) same ∙ ap (λ o. given t o (get_or xs k d)) (sym has) in
-    seam_write (take k xs) (feed t f (k + 1) (drop (k + 1) xs)) now k (get_or xs k d) y (length-take-le k xs (omega arith)) (parted_at t f j k xs now d e within fed)
-    ∙ ap (λ x. take k xs ++ x ∷ feed t f (k + 1) (drop (k + 1) xs)) new
-    ∙ ap (λ back. take k xs ++ back) (sym (fed_at t f k xs d within))
-
--- it has none
-none_with : {X : Type 0} (t : Table X) (f : ℕ → Option Event) (j k : ℕ) (xs now : List X) (d : X) → j ≡ k + 1 → k < length xs
-    → now ≡ take j xs ++ feed t f j (drop j xs) → f k ≡ None → now ≡ take k xs ++ feed t f k (drop k xs)
-none_with t f j k xs now d e within fed has =
-    parted_at t f j k xs now d e within fed
-    ∙ ap (λ o. take k xs ++ given t o (get_or xs k d) ∷ feed t f (k + 1) (drop (k + 1) xs)) (sym has)
-    ∙ ap (λ back. take k xs ++ back) (sym (fed_at t f k xs d within))
-
-pub fed_none : {X : Type 0} (t : Table X) (f : ℕ → Option Event) (j k : ℕ) (xs now : List X) → j ≡ k + 1 → k < length xs
-    → now ≡ take j xs ++ feed t f j (drop j xs) → f k ≡ None → now ≡ take k xs ++ feed t f k (drop k xs)
-fed_none t f j k [] now e within fed has = absurd (omega arith)
-fed_none t f j k (x ∷ xs) now e within fed has = none_with t f j k (x ∷ xs) now x e within fed has
-
--- what is answered from k on, by what is answered from j on
-answered_at : {X : Type 0} (t : Table X) (f : ℕ → Option Event) (j k : ℕ) (xs : List X) (d : X) → j ≡ k + 1 → k < length xs
-    → answers t f k (drop k xs) ≡ answer_with t (f k) k (get_or xs k d) (answers t f j (drop j xs))
-answered_at t f j k xs d e within =
-    let P : ℕ → Type 0 = λ i. answers t f k (drop k xs) ≡ answer_with t (f k) k (get_or xs k d) (answers t f i (drop i xs)) in
-    subst P (sym e) (at_drop_more (answers t f k) xs k d within)
-
-pub answered_some : {X : Type 0} (t : Table X) (f : ℕ → Option Event) (j k : ℕ) (xs now : List X) (d : X) (event : Event) (a : Answer) → j ≡ k + 1 → k < length xs
-    → now ≡ take j xs ++ feed t f j (drop j xs) → f k ≡ Some event → a ≡ t.answer (get_or now k d) event
-    → answers t f k (drop k xs) ≡ (k, a) ∷ answers t f j (drop j xs)
-answered_some t f j k xs now d event a e within fed has is =
-    let same = same_before t f j k xs now d e within fed in
-    let new : a ≡ t.answer (get_or xs k d) event = is ∙ ap (λ x. t.answer x event) same in
-    answered_at t f j k xs d e within
-    ∙ ap (λ o. answer_with t o k (get_or xs k d) (answers t f j (drop j xs))) has
-    ∙ ap (λ b. (k, b) ∷ answers t f j (drop j xs)) (sym new)
-
-pub answered_none : {X : Type 0} (t : Table X) (f : ℕ → Option Event) (j k : ℕ) (xs : List X) → j ≡ k + 1 → k < length xs
-    → f k ≡ None → answers t f k (drop k xs) ≡ answers t f j (drop j xs)
-answered_none t f j k [] e within has = absurd (omega arith)
-answered_none t f j k (x ∷ xs) e within has =
-    answered_at t f j k (x ∷ xs) x e within
-    ∙ ap (λ o. answer_with t o k (get_or (x ∷ xs) k x) (answers t f j (drop j (x ∷ xs)))) has
-
--- targets see only the events of their own numbers
-feed_same : {X : Type 0} (t : Table X) (f g : ℕ → Option Event) (k : ℕ) (xs : List X)
-    → ((j : ℕ) → k ≤ j → j < k + length xs → g j ≡ f j) → feed t g k xs ≡ feed t f k xs
-feed_same t f g k [] same = refl
-feed_same t f g k (x ∷ xs) same =
-    ap (λ o. given t o x ∷ feed t g (k + 1) xs) (same k (omega arith) (omega arith))
-    ∙ ap (λ rest. given t (f k) x ∷ rest) (feed_same t f g (k + 1) xs (λ j low high. same j (omega arith) (omega arith)))
-
-answers_same : {X : Type 0} (t : Table X) (f g : ℕ → Option Event) (k : ℕ) (xs : List X)
-    → ((j : ℕ) → k ≤ j → j < k + length xs → g j ≡ f j) → answers t g k xs ≡ answers t f k xs
-answers_same t f g k [] same = refl
-answers_same t f g k (x ∷ xs) same =
-    ap (λ o. answer_with t o k x (answers t g (k + 1) xs)) (same k (omega arith) (omega arith))
-    ∙ ap (λ rest. answer_with t (f k) k x rest) (answers_same t f g (k + 1) xs (λ j low high. same j (omega arith) (omega arith)))
-
-listed : (f : ℕ → Option Event) (events : List (Option Event)) (n : ℕ) → events ≡ map f (range_with_len 0 n)
-    → (j : ℕ) → 0 ≤ j → j < 0 + n → event_at events j ≡ f j
-listed f events n e j low high = rw e (get_or-map-range_with_len f 0 n j j None (omega arith) (omega arith))
-
-pub feed_listed : {X : Type 0} (t : Table X) (f : ℕ → Option Event) (events : List (Option Event)) (xs : List X)
-    → events ≡ map f (range_with_len 0 (length xs)) → feed t (event_at events) 0 xs ≡ feed t f 0 xs
-feed_listed t f events xs e = feed_same t f (event_at events) 0 xs (listed f events (length xs) e)
-
-pub answers_listed : {X : Type 0} (t : Table X) (f : ℕ → Option Event) (events : List (Option Event)) (xs : List X)
-    → events ≡ map f (range_with_len 0 (length xs)) → answers t (event_at events) 0 xs ≡ answers t f 0 xs
-answers_listed t f events xs e = answers_same t f (event_at events) 0 xs (listed f events (length xs) e)
+use Rattle.i2c_physics.specs.Reach.{AreRising, to_those}
+use Rattle.i2c_physics.proofs.NumberLemmas.{rising-apart, rising-drop}
 
 -- one number more
 pub listed_more : {X : Type 0} (f : ℕ → X) (n : ℕ) → map f (range_with_len 0 (n + 1)) ≡ map f (range_with_len 0 n) ++ f n ∷ []
 listed_more f n = map-range_with_len_more f 0 n n (omega arith)
+
+same_number : (n : ℕ) → (n == n) ≡ true
+same_number n = elim (eqb_tells n n) [ inl x ↦ x.0 | inr x ↦ absurd (x.1 refl) ]
+
+module _ {X : Type 0} (t : Table X) where
+  -- targets see only the events of their own numbers
+  pub feed-same : (f g : ℕ → Option Event) (k : ℕ) (xs : List X)
+      → ((j : ℕ) → k ≤ j → j < k + length xs → g j ≡ f j) → feed t g k xs ≡ feed t f k xs
+  feed-same f g k [] same = refl
+  feed-same f g k (x ∷ xs) same =
+      ap (λ o. given t o x ∷ feed t g (k + 1) xs) (same k (omega arith) (omega arith))
+      ∙ ap (λ rest. given t (f k) x ∷ rest) (feed-same f g (k + 1) xs (λ j low high. same j (omega arith) (omega arith)))
+
+  pub answers-same : (f g : ℕ → Option Event) (k : ℕ) (xs : List X)
+      → ((j : ℕ) → k ≤ j → j < k + length xs → g j ≡ f j) → answers t g k xs ≡ answers t f k xs
+  answers-same f g k [] same = refl
+  answers-same f g k (x ∷ xs) same =
+      ap (λ o. answer_with t o k x (answers t g (k + 1) xs)) (same k (omega arith) (omega arith))
+      ∙ ap (λ rest. answer_with t (f k) k x rest) (answers-same f g (k + 1) xs (λ j low high. same j (omega arith) (omega arith)))
+
+  pub length-feed : (f : ℕ → Option Event) (k : ℕ) (xs : List X) → length (feed t f k xs) ≡ length xs
+  length-feed f k [] = refl
+  length-feed f k (x ∷ xs) = ap suc (length-feed f (k + 1) xs)
+
+  fed_at : (f : ℕ → Option Event) (j i : ℕ) (xs : List X) (d : X) → i < length xs
+      → get_or (feed t f j xs) i d ≡ given t (f (j + i)) (get_or xs i d)
+  fed_at f j i [] d within = absurd (omega arith)
+  fed_at f j zero (x ∷ xs) d within = ap (λ k. given t (f k) x) (sym (add-zero j))
+  fed_at f j (suc i) (x ∷ xs) d within =
+      let e : j + 1 + i ≡ j + suc i = omega arith in
+      fed_at f (j + 1) i xs d (omega arith) ∙ ap (λ k. given t (f k) (get_or xs i d)) e
+
+  -- g tells of an event where f tells of none
+  fed_more : (f g : ℕ → Option Event) (event : Event) (j i : ℕ) (xs : List X) (d : X) → i < length xs
+      → ((k : ℕ) → k ≢ j + i → g k ≡ f k) → g (j + i) ≡ Some event
+      → feed t g j xs ≡ set (feed t f j xs) i (t.after (get_or xs i d) event)
+  fed_more f g event j i [] d within same some = absurd (omega arith)
+  fed_more f g event j zero (x ∷ xs) d within same some =
+      let head : g j ≡ Some event = ap g (sym (add-zero j)) ∙ some in
+      ap (λ o. given t o x ∷ feed t g (j + 1) xs) head
+      ∙ ap (λ rest. t.after x event ∷ rest) (feed-same f g (j + 1) xs (λ k low high. same k (λ e. absurd (omega (arith, e)))))
+  fed_more f g event j (suc i) (x ∷ xs) d within same some =
+      let at : j + 1 + i ≡ j + suc i = omega arith in
+      ap (λ o. given t o x ∷ feed t g (j + 1) xs) (same j (λ e. absurd (omega (arith, e))))
+      ∙ ap (λ rest. given t (f j) x ∷ rest) (fed_more f g event (j + 1) i xs d (omega arith) (λ k ne. same k (λ e. ne (e ∙ sym at))) (ap g at ∙ some))
+
+  answered_more : (f g : ℕ → Option Event) (event : Event) (j i : ℕ) (xs : List X) (d : X) → i < length xs
+      → ((k : ℕ) → k ≢ j + i → g k ≡ f k) → g (j + i) ≡ Some event → ((k : ℕ) → k < j + i + 1 → f k ≡ None)
+      → answers t g j xs ≡ (j + i, t.answer (get_or xs i d) event) ∷ answers t f j xs
+  answered_more f g event j i [] d within same some none = absurd (omega arith)
+  answered_more f g event j zero (x ∷ xs) d within same some none =
+      let head : g j ≡ Some event = ap g (sym (add-zero j)) ∙ some in
+      let here : f j ≡ None = none j (omega arith) in
+      ap (λ o. answer_with t o j x (answers t g (j + 1) xs)) head
+      ∙ ap (λ k. (k, t.answer x event) ∷ answers t g (j + 1) xs) (sym (add-zero j))
+      ∙ ap (λ rest. (j + 0, t.answer x event) ∷ rest) (answers-same f g (j + 1) xs (λ k low high. same k (λ e. absurd (omega (arith, e)))))
+      ∙ ap (λ o. (j + 0, t.answer x event) ∷ answer_with t o j x (answers t f (j + 1) xs)) (sym here)
+  answered_more f g event j (suc i) (x ∷ xs) d within same some none =
+      let at : j + 1 + i ≡ j + suc i = omega arith in
+      let here : f j ≡ None = none j (omega arith) in
+      let head : g j ≡ None = same j (λ e. absurd (omega (arith, e))) ∙ here in
+      ap (λ o. answer_with t o j x (answers t g (j + 1) xs)) head
+      ∙ answered_more f g event (j + 1) i xs d (omega arith) (λ k ne. same k (λ e. ne (e ∙ sym at))) (ap g at ∙ some)
+      (λ k low. none k (omega arith))
+      ∙ ap (λ k. (k, t.answer (get_or xs i d) event) ∷ answers t f (j + 1) xs) at
+      ∙ ap (λ o. (j + suc i, t.answer (get_or xs i d) event) ∷ answer_with t o j x (answers t f (j + 1) xs)) (sym here)
+
+  -- the target of a number below all others that are told
+  module _ (event : Event) (n high : ℕ) (rest : List ℕ) (rising : AreRising (n + 1) high rest) (xs : List X) (d : X) (within : n < length xs) where
+    other : (k : ℕ) → k ≢ 0 + n → to_those (n ∷ rest) event k ≡ to_those rest event k
+    other k ne = let differs : (n == k) ≡ false = ne_eqb n k (λ e. ne (sym e ∙ sym (zero-add n))) in rw differs refl
+
+    this : to_those (n ∷ rest) event (0 + n) ≡ Some event
+    this = let same : (n == 0 + n) ≡ true = rw zero-add (same_number n) in rw same refl
+
+    below : (k : ℕ) → k < 0 + n + 1 → to_those rest event k ≡ None
+    below k low = rw (rising-apart (n + 1) high rest rising k (omega (arith, low))) refl
+
+    fed_next : feed t (to_those (n ∷ rest) event) 0 xs ≡ set (feed t (to_those rest event) 0 xs) n (t.after (get_or xs n d) event)
+    fed_next = fed_more (to_those rest event) (to_those (n ∷ rest) event) event 0 n xs d within other this
+
+    answered_next : answers t (to_those (n ∷ rest) event) 0 xs ≡ (n, t.answer (get_or xs n d) event) ∷ answers t (to_those rest event) 0 xs
+    answered_next =
+        answered_more (to_those rest event) (to_those (n ∷ rest) event) event 0 n xs d within other this below
+        ∙ ap (λ m. (m, t.answer (get_or xs n d) event) ∷ answers t (to_those rest event) 0 xs) (zero-add n)
+
+    as_before : get_or (feed t (to_those rest event) 0 xs) n d ≡ get_or xs n d
+    as_before = fed_at (to_those rest event) 0 n xs d within ∙ ap (λ o. given t o (get_or xs n d)) (below (0 + n) (omega arith))
+
+  nobody : (f : ℕ → Option Event) → ((k : ℕ) → f k ≡ None) → (j : ℕ) (xs : List X) → feed t f j xs ≡ xs
+  nobody f none j [] = refl
+  nobody f none j (x ∷ xs) = ap (λ o. given t o x ∷ feed t f (j + 1) xs) (none j) ∙ ap (λ rest. x ∷ rest) (nobody f none (j + 1) xs)
+
+  no_answer : (f : ℕ → Option Event) → ((k : ℕ) → f k ≡ None) → (j : ℕ) (xs : List X) → answers t f j xs ≡ []
+  no_answer f none j [] = refl
+  no_answer f none j (x ∷ xs) = ap (λ o. answer_with t o j x (answers t f (j + 1) xs)) (none j) ∙ no_answer f none (j + 1) xs
+
+  -- nobody is told yet
+  pub untold-fed : (event : Event) (numbers : List ℕ) (xs : List X) → xs ≡ feed t (to_those (drop (length numbers) numbers) event) 0 xs
+  untold-fed event numbers xs = rw (drop-length numbers) (sym (nobody (to_those [] event) (λ k. refl) 0 xs))
+
+  pub untold-answered : (event : Event) (numbers : List ℕ) (xs : List X) → answers t (to_those (drop (length numbers) numbers) event) 0 xs ≡ []
+  untold-answered event numbers xs = rw (drop-length numbers) (no_answer (to_those [] event) (λ k. refl) 0 xs)
+
+-- the same of the numbers from k on, of all that are told; the target is read among those that were told so far
+module _ (numbers : List ℕ) (j k n high : ℕ) (rising : AreRising 0 high numbers) (one : j ≡ k + 1) (short : k < length numbers) (is : n ≡ get_or numbers k 0) where
+  same_numbers : drop k numbers ≡ n ∷ drop j numbers
+  same_numbers = at_drop_more (λ ns. ns) numbers k 0 short ∙ ap (λ m. m ∷ drop (k + 1) numbers) (sym is) ∙ ap (λ i. n ∷ drop i numbers) (sym one)
+
+  front : AreRising 0 high (n ∷ drop j numbers)
+  front = subst (AreRising 0 high) same_numbers (rising-drop 0 high k numbers rising)
+
+  pub told-within : n < high
+  told-within = front.1
+
+  module _ {X : Type 0} (t : Table X) (event : Event) (xs now : List X) (d : X) (count : high ≡ length xs) (fed : now ≡ feed t (to_those (drop j numbers) event) 0 xs) where
+    within : n < length xs
+    within = omega (arith, told-within, count)
+
+    same_here : get_or now n d ≡ get_or xs n d
+    same_here = ap (λ ys. get_or ys n d) fed ∙ as_before t event n high (drop j numbers) front.2 xs d within
+
+    pub told-fed : (y : X) → y ≡ t.after (get_or now n d) event → set now n y ≡ feed t (to_those (drop k numbers) event) 0 xs
+    told-fed y made =
+        ap (λ ys. set ys n y) fed
+        ∙ ap (λ z. set (feed t (to_those (drop j numbers) event) 0 xs) n z) (made ∙ ap (λ x. t.after x event) same_here)
+        ∙ sym (fed_next t event n high (drop j numbers) front.2 xs d within)
+        ∙ sym (ap (λ ns. feed t (to_those ns event) 0 xs) same_numbers)
+
+    pub told-answered : (a : Answer) → a ≡ t.answer (get_or now n d) event
+        → answers t (to_those (drop k numbers) event) 0 xs ≡ (get_or numbers k 0, a) ∷ answers t (to_those (drop j numbers) event) 0 xs
+    told-answered a said =
+        ap (λ ns. answers t (to_those ns event) 0 xs) same_numbers
+        ∙ answered_next t event n high (drop j numbers) front.2 xs d within
+        ∙ ap (λ b. (n, b) ∷ answers t (to_those (drop j numbers) event) 0 xs) (sym (said ∙ ap (λ x. t.answer x event) same_here))
+        ∙ ap (λ m. (m, a) ∷ answers t (to_those (drop j numbers) event) 0 xs) is

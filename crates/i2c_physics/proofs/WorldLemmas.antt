@@ -1,5 +1,5 @@
 -- What chips and devices answer together is what the world answers. The inductions go over the answers.
-use Rattle.std.proofs.Common.{◌≡◌, ℕ, ◌+◌, ◌<◌, Bool, true, false, cond, List, [], ◌∷◌, ◌++◌, Option, Some, None, bit_and, refl, sym, ap, ◌∙◌, arith}
+use Rattle.std.proofs.Common.{◌≡◌, ℕ, ◌+◌, ◌<◌, Bool, true, false, cond, ◌||◌, ◌==◌, List, [], ◌∷◌, ◌++◌, Some, None, bit_and, refl, sym, ap, ◌∙◌, arith}
 use Rattle.std.specs.Prelude.{map}
 use Rattle.std.specs.List.{list_any}
 use Rattle.std.proofs.lemmas.Nat.{and_assoc}
@@ -9,13 +9,14 @@ use Rattle.i2c_base.specs.declared.ids.Node.TheVariants as node
 use Rattle.i2c_base.specs.declared.event.Event.{Event}
 use Rattle.i2c_base.specs.declared.event.Event.TheVariants as event
 use Rattle.i2c_base.specs.declared.event.Answer.{Answer}
-use Rattle.i2c_base.specs.declared.port.PortCall.TheVariants as call
 use Rattle.i2c_base.specs.Table.{Table}
 use Rattle.i2c_spec.specs.Chips.{ChipView, chip_table}
 use Rattle.i2c_spec.specs.Targets as targets
 use Rattle.i2c_spec.specs.Targets.{TargetState, state_table}
 use Rattle.i2c_spec.specs.World.{World, answers, answer_with, has_heard, heard_of, hearers, start_chips, start_devices, and_of, byte_of, gives, to_chips, to_devices, is_chip, is_device}
-use Rattle.i2c_physics.specs.Events.{numbers_of, nodes_of}
+use Rattle.i2c_physics.specs.Heard.{numbers_of, nodes_of}
+use Rattle.i2c_physics.specs.Places.{event_if}
+use Rattle.i2c_physics.specs.Reach.{is_among, to_those}
 use Rattle.i2c_physics.specs.Answering.{chips_say, devices_say}
 
 -- those who have heard, by name and by number
@@ -29,7 +30,7 @@ heard_named name [] = refl
 heard_named name (x ∷ xs) = named_if name (has_heard x.1) x.0 (heard_of name xs) (numbers_of xs) (heard_named name xs)
 
 pub hearers_told : (w : World) (a : ℕ) (reading : Bool)
-    → hearers w a reading ≡ nodes_of (chips_say w (call.Start a reading)).heard.items (devices_say w (call.Start a reading)).heard.items
+    → hearers w a reading ≡ nodes_of (numbers_of (start_chips w a reading)) (numbers_of (start_devices w a reading))
 hearers_told w a reading =
     ap (λ l. l ++ heard_of node.Device (start_devices w a reading)) (heard_named node.Chip (start_chips w a reading))
     ∙ ap (λ l. map node.Chip (numbers_of (start_chips w a reading)) ++ l) (heard_named node.Device (start_devices w a reading))
@@ -44,9 +45,6 @@ and_of-append (x ∷ xs) ys small =
     ap (bit_and (byte_of x.1)) (and_of-append xs ys small) ∙ sym (and_assoc (and_of ys) (byte_of x.1) (and_of xs))
 
 -- a byte that is read is the same whether it is acknowledged or not
-event_if : Bool → Event → Option Event
-event_if b e = cond b (Some e) None
-
 same_byte : {X : Type 0} (t : Table X) (ack hears : Bool) (k : ℕ) (x : X) (rest : List (ℕ × Answer))
     → t.answer x (event.Get ack) ≡ t.answer x (event.Get true)
     → answer_with t (cond hears (Some (event.Get ack)) None) k x rest ≡ answer_with t (cond hears (Some (event.Get true)) None) k x rest
@@ -71,11 +69,29 @@ devices_give w ack k (x ∷ xs) =
     ap (answer_with state_table (to_devices w (event.Get ack) k) k x) (devices_give w ack (k + 1) xs)
     ∙ same_byte state_table ack (list_any (is_device k) w.hearing) k x (answers state_table (to_devices w (event.Get true)) (k + 1) xs) (state_gives x ack)
 
-pub gives_told : (w : World) (ack : Bool) → (devices_say w (call.Get ack)).byte < 256
-    → bit_and (chips_say w (call.Get ack)).byte (devices_say w (call.Get ack)).byte ≡ gives w
+pub gives_told : (w : World) (ack : Bool) → (devices_say w (event.Get ack)).byte < 256
+    → bit_and (chips_say w (event.Get ack)).byte (devices_say w (event.Get ack)).byte ≡ gives w
 gives_told w ack small =
     let chips = answers chip_table (to_chips w (event.Get ack)) 0 w.chips in
     let devices = answers state_table (to_devices w (event.Get ack)) 0 w.devices in
     sym (and_of-append chips devices small)
     ∙ ap (λ l. and_of (l ++ devices)) (chips_give w ack 0 w.chips)
     ∙ ap (λ l. and_of (answers chip_table (to_chips w (event.Get true)) 0 w.chips ++ l)) (devices_give w ack 0 w.devices)
+
+-- who has heard, by name and by number
+among_chips : (m : ℕ) (chips devices : List ℕ) → list_any (is_chip m) (nodes_of chips devices) ≡ is_among chips m
+among_chips m [] [] = refl
+among_chips m [] (d ∷ ds) = among_chips m [] ds
+among_chips m (k ∷ chips) devices = ap (λ b. (k == m) || b) (among_chips m chips devices)
+
+among_devices : (d : ℕ) (chips devices : List ℕ) → list_any (is_device d) (nodes_of chips devices) ≡ is_among devices d
+among_devices d [] [] = refl
+among_devices d [] (k ∷ devices) = ap (λ b. (k == d) || b) (among_devices d [] devices)
+among_devices d (k ∷ chips) devices = among_devices d chips devices
+
+module _ (w : World) (chips devices : List ℕ) (hear : w.hearing ≡ nodes_of chips devices) (e : Event) (k : ℕ) where
+  pub chip-hears : to_those chips e k ≡ to_chips w e k
+  chip-hears = ap (λ b. event_if b e) (sym (ap (list_any (is_chip k)) hear ∙ among_chips k chips devices))
+
+  pub device-hears : to_those devices e k ≡ to_devices w e k
+  device-hears = ap (λ b. event_if b e) (sym (ap (list_any (is_device k)) hear ∙ among_devices k chips devices))

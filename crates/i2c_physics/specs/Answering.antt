@@ -2,11 +2,11 @@
 use Rattle.std.specs.Prelude.{ℕ, ◌||◌, List, if◌then◌else◌}
 use Rattle.i2c_base.specs.declared.event.Answer.{Answer}
 use Rattle.i2c_base.specs.declared.event.Answer.TheVariants as answer
-use Rattle.i2c_base.specs.declared.port.PortCall.{PortCall}
+use Rattle.i2c_base.specs.declared.event.Event.{Event}
 use Rattle.i2c_spec.specs.Chips.{chip_table}
 use Rattle.i2c_spec.specs.Targets.{state_table}
-use Rattle.i2c_spec.specs.World.{World, is_ack, is_slow, some_answer, and_of, answers}
-use Rattle.i2c_physics.specs.Events.{numbers_of, chip_event, device_event}
+use Rattle.i2c_spec.specs.World.{World, is_ack, is_slow, some_answer, and_of, answers, to_chips, to_devices}
+use Rattle.i2c_physics.specs.Heard.{numbers_of}
 use Rattle.i2c_physics.specs.declared.together.Together.{Together}
 
 abbrev pub together_of : List (ℕ × Answer) → Together
@@ -25,9 +25,9 @@ start_answer chips devices =
     else if chips.acked || devices.acked then answer.Ack
     else answer.Nack
 
--- what the chips, and the devices, of a world answer to a call
-abbrev pub chips_say : World → PortCall → Together
-chips_say w c = together_of (answers chip_table (chip_event w c) 0 w.chips)
+-- what the chips, and the devices, that have heard the start of the message answer to an event
+abbrev pub chips_say : World → Event → Together
+chips_say w e = together_of (answers chip_table (to_chips w e) 0 w.chips)
 
-abbrev pub devices_say : World → PortCall → Together
-devices_say w c = together_of (answers state_table (device_event w c) 0 w.devices)
+abbrev pub devices_say : World → Event → Together
+devices_say w e = together_of (answers state_table (to_devices w e) 0 w.devices)

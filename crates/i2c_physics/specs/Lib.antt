@@ -1,5 +1,6 @@
-pub mod Events
+pub mod Heard
 pub mod Places
+pub mod Reach
 pub mod Answering
 pub mod SimWorlds
 pub mod SimPorts

@@ -4,14 +4,10 @@ use Rattle.std.specs.Prelude.{ℕ, ◌==◌, Bool, true, not, ◌&&◌, List, Op
 use Rattle.std.specs.List.{list_all}
 use Rattle.i2c_base.specs.declared.board.MuxSpec.{MuxSpec}
 use Rattle.i2c_base.specs.declared.event.Event.{Event}
-use Rattle.i2c_base.specs.declared.event.Event.TheVariants as event
-use Rattle.i2c_base.specs.declared.port.PortCall.{PortCall}
-use Rattle.i2c_base.specs.declared.port.PortCall.TheVariants as call
 use Rattle.i2c_base.specs.Board.{BoardView, DeviceView}
 use Rattle.i2c_spec.specs.Tree.{Hop, hops, root_of}
 use Rattle.i2c_spec.specs.Chips.{ChipView}
-use Rattle.i2c_spec.specs.Grant.{has_address}
-use Rattle.i2c_spec.specs.World.{opens_hop, start_event, stop_event}
+use Rattle.i2c_spec.specs.World.{opens_hop}
 
 pub record PlaceView : Type 0 where
   pub addr : Option ℕ
@@ -34,15 +30,6 @@ device_place b root d = place_on b root d.bus (Some d.addr) true
 abbrev pub joins : List ChipView → PlaceView → Bool
 joins chips p = p.wired && list_all (opens_hop chips) p.above
 
--- what the target at a place is given in a call: a start and a stop go to all that is joined, a byte to those who
--- have heard
+-- an event, where the condition holds
 abbrev pub event_if : Bool → Event → Option Event
 event_if condition e = if condition then Some e else None
-
-abbrev pub event_for : List ChipView → PlaceView → Bool → PortCall → Option Event
-event_for chips p hears (call.Start a reading) = start_event (joins chips p) (has_address a p.addr) reading
-event_for chips p hears (call.Put byte) = event_if hears (event.Put byte)
-event_for chips p hears (call.Get ack) = event_if hears (event.Get ack)
-event_for chips p hears call.Stop = stop_event (joins chips p)
-event_for chips p hears call.Fault = stop_event (joins chips p)
-event_for chips p hears (call.Line m level) = None

@@ -12,6 +12,7 @@ mod fail_port;
 mod fail_rig;
 mod phase;
 mod place;
+mod reach;
 mod room;
 mod sim_port;
 mod sim_rig;

@@ -1,14 +1,13 @@
-ghost use Rattle.std.specs.Prelude.{◌≡◌, ℕ, ◌+◌, ◌<◌, ◌≤◌, ◌++◌, List, [], ◌∷◌, length, map, Option};
-ghost use Rattle.std.specs.List.{range_with_len};
-ghost use Rattle.i2c_base.specs.declared.event.Event.{Event};
+ghost use Rattle.std.specs.Prelude.{◌≡◌, ℕ, ◌+◌, ◌<◌, ◌≤◌, List, [], ◌∷◌, length};
+ghost use Rattle.i2c_base.specs.declared.event.Event.TheVariants as event;
 ghost use Rattle.i2c_base.specs.declared.event.Answer.{Answer};
-ghost use Rattle.i2c_base.specs.declared.ids.Node.TheVariants as node;
 ghost use Rattle.i2c_spec.specs.World.{answers, feed, byte_of};
-ghost use Rattle.i2c_physics.specs.Events.{nodes_of};
+ghost use Rattle.i2c_physics.specs.Reach.{AreRising, to_those};
 ghost use Rattle.i2c_physics.specs.Answering.{together_of, start_answer};
 
+use crate::reach::{Numbers, Start};
 use arrayvec::ArrayVec;
-use i2c_base::{Answer, DevId, Event, MuxId, Node, Target};
+use i2c_base::{Answer, Event, Target};
 
 /// What several targets answer to a call together.
 #[derive(Drop)]
@@ -20,7 +19,7 @@ pub struct Together {
     /// The bitwise AND of what is sent.
     pub byte: u8,
     /// The numbers of those who acknowledge, or hold the clock to do so.
-    pub heard: ArrayVec<u16, 128>,
+    pub heard: Numbers,
 }
 
 impl Together {
@@ -67,26 +66,37 @@ fn sent(answer: Answer) -> u8
     }
 }
 
-/// Gives each target its event, where it has one, and joins what they answer. It goes from the last target back, so
+/// Tells those targets of an event whose numbers these are, and joins what they answer. It goes from the last one back, so
 /// that those who have heard come out by number.
-pub fn tell<T: Target>(targets: &mut [T], events: &[Option<Event>]) -> Together
-    requires same { length events.now ≡ length targets.old }
-    requires room { length targets.old ≤ 128 }
-    ensures fed { (f : ℕ → Option Event) → events.now ≡ map f (range_with_len 0 (length targets.old)) → targets.new ≡ feed T.table f 0 targets.old }
-    ensures answered { (f : ℕ → Option Event) → events.now ≡ map f (range_with_len 0 (length targets.old)) → result ≡ together_of (answers T.table f 0 targets.old) }
+pub fn tell<T: Target>(targets: &mut [T], numbers: &[u16], event: Event) -> Together
+    requires few { length targets.old ≤ 128 }
+    requires rising { AreRising 0 (length targets.old) numbers.now }
+    ensures fed { targets.new ≡ feed T.table (to_those numbers.now event) 0 targets.old }
+    ensures answered { result ≡ together_of (answers T.table (to_those numbers.now event) 0 targets.old) }
 {
     let mut together = Together::silence();
-    let mut left = targets.len();
+    let mut left = numbers.len();
     while left > 0 {
         left -= 1;
-        match events[left] {
-            Some(event) => {
-                let answer = targets[left].on(event);
-                together.add(left as u16, answer);
-            }
-            None => {}
-        }
+        let number = numbers[left];
+        let is_there = usize::from(number) < targets.len();
+        prove!(is_there);
+        let answer = targets[usize::from(number)].on(event);
+        together.add(number, answer);
     }
+    together
+}
+
+/// Tells of a start those that it calls, and those others that it matters to. What those that are called answer.
+pub fn begin<T: Target>(targets: &mut [T], start: &Start, reading: bool) -> Together
+    requires few { length targets.old ≤ 128 }
+    requires called { AreRising 0 (length targets.old) start.now.called.items }
+    requires others { AreRising 0 (length targets.old) start.now.others.items }
+    ensures fed { targets.new ≡ feed T.table (to_those start.now.others.items event.Other) 0 (feed T.table (to_those start.now.called.items (event.Start reading)) 0 targets.old) }
+    ensures answered { result ≡ together_of (answers T.table (to_those start.now.called.items (event.Start reading)) 0 targets.old) }
+{
+    let together = tell(targets, start.called.as_slice(), Event::Start { reading });
+    let _others = tell(targets, start.others.as_slice(), Event::Other);
     together
 }
 
@@ -101,28 +111,4 @@ pub fn answer_of(chips: &Together, devices: &Together) -> Answer
     } else {
         Answer::Nack
     }
-}
-
-/// Those who have heard, by name: chips, then devices.
-pub fn nodes(chips: &[u16], devices: &[u16]) -> ArrayVec<Node, 256>
-    requires chips { length chips.now ≤ 128 }
-    requires devices { length devices.now ≤ 128 }
-    ensures { result.items ≡ nodes_of chips.now devices.now }
-{
-    let mut nodes = chip_nodes(chips);
-    for device in devices {
-        nodes.push(Node::Device(DevId(*device)));
-    }
-    nodes
-}
-
-fn chip_nodes(chips: &[u16]) -> ArrayVec<Node, 256>
-    requires { length chips.now ≤ 128 }
-    ensures { result.items ≡ map node.Chip chips.now }
-{
-    let mut nodes = ArrayVec::new();
-    for chip in chips {
-        nodes.push(Node::Chip(MuxId(*chip)));
-    }
-    nodes
 }

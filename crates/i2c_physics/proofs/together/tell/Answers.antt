@@ -1,47 +1,47 @@
-use Rattle.std.proofs.Common.{◌≡◌, ◌+◌, ◌-◌, ◌<◌, length, ap, ◌∙◌, sym, arith}
-use Rattle.i2c_physics.specs.Events.{event_at}
+use Rattle.std.proofs.Common.{◌≡◌, ◌+◌, ◌-◌, ◌<◌, length, ap, ◌∙◌, sym, refl, arith}
 use Rattle.i2c_physics.specs.Answering.{together_of}
-use Rattle.i2c_physics.proofs.TogetherLemmas.{fed_some, fed_none, answered_some, answered_none, feed_listed, answers_listed}
+use Rattle.i2c_physics.specs.declared.together.Together.{Together}
+use Rattle.i2c_physics.proofs.NumberLemmas.{rising-length}
+use Rattle.i2c_physics.proofs.TogetherLemmas.{untold-fed, untold-answered, told-within, told-fed, told-answered}
 use Rattle.i2c_physics.proofs.together.tell.Goals as goal
 
-pub loop-left-preserved-in-Some : goal.loop-left-preserved-in-Some
-loop-left-preserved-in-Some g c =
+pub loop-left-init : goal.loop-left-init
+loop-left-init g c =
     let t = g.T.Target.table in
-    let f = event_at c.args.events.now in
+    let numbers = c.args.numbers.now in
     let xs = c.args.targets.now in
-    let one : c.loop-left.left ≡ c.loop-left.left - 1 + 1 = omega arith in
-    let within : c.loop-left.left - 1 < length xs = omega arith in
-    let fed = c.loop-left.invariant.fed in
+    let none = ap (λ (j : Together). length j.heard.items) c.silence-together.ensures in
     record {
       in_range = omega arith;
-      fed = fed_some t f c.loop-left.left (c.loop-left.left - 1) xs c.loop-left.targets c.index-targets-left.result c.on-answer.new.self c.in-Some.event one within fed c.in-Some.is c.on-answer.ensures.after;
-      answered = c.add.ensures.told _ c.loop-left.invariant.answered
-          ∙ ap together_of (sym (answered_some t f c.loop-left.left (c.loop-left.left - 1) xs c.loop-left.targets c.index-targets-left.result c.in-Some.event c.on-answer.result one within fed c.in-Some.is c.on-answer.ensures.answer));
-      room = omega arith;
+      fed = untold-fed t c.args.event numbers xs;
+      answered = c.silence-together.ensures ∙ ap together_of (sym (untold-answered t c.args.event numbers xs));
+      room = omega (arith, none, rising-length 0 (length xs) numbers c.requires.rising);
     }
+
+pub prove-unreachable-requires : goal.prove-unreachable-requires
+prove-unreachable-requires g c =
+    let within = told-within c.args.numbers.now c.loop-left.left (c.loop-left.left - 1) c.from.result (length c.args.targets.now)
+    c.requires.rising (omega arith) (omega arith) c.from.ensures in
+    absurd (omega (arith, within, c.loop-left.auto.targets, c.if-prove.true))
 
 pub loop-left-preserved : goal.loop-left-preserved
 loop-left-preserved g c =
     let t = g.T.Target.table in
-    let f = event_at c.args.events.now in
+    let numbers = c.args.numbers.now in
     let xs = c.args.targets.now in
-    let one : c.loop-left.left ≡ c.loop-left.left - 1 + 1 = omega arith in
-    let within : c.loop-left.left - 1 < length xs = omega arith in
+    let left = c.loop-left.left in
+    let now = c.loop-left.targets in
+    let n = c.from-in-loop-left.result in
+    let one : left ≡ left - 1 + 1 = omega arith in
+    let short : left - 1 < length numbers = omega arith in
+    let d = c.index-targets-from.result in
+    let fed = c.loop-left.invariant.fed in
     record {
       in_range = omega arith;
-      fed = fed_none t f c.loop-left.left (c.loop-left.left - 1) xs c.loop-left.targets one within c.loop-left.invariant.fed c.in-None.is;
-      answered = c.loop-left.invariant.answered ∙ ap together_of (sym (answered_none t f c.loop-left.left (c.loop-left.left - 1) xs one within c.in-None.is));
+      fed = told-fed numbers left (left - 1) n (length xs) c.requires.rising one short c.from-in-loop-left.ensures t c.args.event xs now d refl fed
+          c.on-answer.new.self c.on-answer.ensures.after;
+      answered = c.add.ensures.told _ c.loop-left.invariant.answered
+          ∙ ap together_of (sym (told-answered numbers left (left - 1) n (length xs) c.requires.rising one short c.from-in-loop-left.ensures t c.args.event xs now d refl fed
+          c.on-answer.result c.on-answer.ensures.answer));
       room = omega arith;
     }
-
-pub returns-clause-fed : goal.returns-clause-fed
-returns-clause-fed g c = λ f e.
-    let t = g.T.Target.table in
-    let h : c.loop-left.left ≡ 0 = omega arith in
-    rw h at c.loop-left.invariant.fed ∙ feed_listed t f c.args.events.now c.args.targets.now e
-
-pub returns-clause-answered : goal.returns-clause-answered
-returns-clause-answered g c = λ f e.
-    let t = g.T.Target.table in
-    let h : c.loop-left.left ≡ 0 = omega arith in
-    rw h at c.loop-left.invariant.answered ∙ ap together_of (answers_listed t f c.args.events.now c.args.targets.now e)

@@ -1,15 +1,15 @@
-use Rattle.std.proofs.Common.{◌≡◌, ◌+◌, ◌≤◌, length, take, drop, ◌++◌}
+use Rattle.std.proofs.Common.{◌≡◌, ◌+◌, ◌≤◌, length, drop}
 use Rattle.i2c_spec.specs.World.{answers, feed}
-use Rattle.i2c_physics.specs.Events.{event_at}
 use Rattle.i2c_physics.specs.Answering.{together_of}
+use Rattle.i2c_physics.specs.Reach.{to_those}
 use Rattle.i2c_physics.proofs.together.tell.Given as goal
 
--- the targets from `left` on have had their events; those before it are as they were
+-- the targets of the numbers from `left` on have had the event
 abbrev pub invariant-loop-left : goal.invariant-loop-left
 invariant-loop-left g l = record {
-  in_range : l.left ≤ length l.fn.targets;
-  fed : l.targets ≡ take l.left l.fn.targets ++ feed g.T.Target.table (event_at l.events) l.left (drop l.left l.fn.targets);
-  answered : l.together ≡ together_of (answers g.T.Target.table (event_at l.events) l.left (drop l.left l.fn.targets));
+  in_range : l.left ≤ length l.numbers;
+  fed : l.targets ≡ feed g.T.Target.table (to_those (drop l.left l.numbers) l.event) 0 l.fn.targets;
+  answered : l.together ≡ together_of (answers g.T.Target.table (to_those (drop l.left l.numbers) l.event) 0 l.fn.targets);
   room : length l.together.heard.items + l.left ≤ 128;
 }
 

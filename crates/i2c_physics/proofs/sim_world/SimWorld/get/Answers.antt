@@ -1,5 +1,5 @@
 use Rattle.std.proofs.Common.{◌<◌, bit_and, ap, ◌∙◌}
-use Rattle.i2c_base.specs.declared.port.PortCall.TheVariants as call
+use Rattle.i2c_base.specs.declared.event.Event.TheVariants as event
 use Rattle.i2c_physics.specs.declared.together.Together.{Together}
 use Rattle.i2c_physics.specs.Answering.{chips_say, devices_say}
 use Rattle.i2c_physics.proofs.WorldLemmas.{gives_told}
@@ -8,7 +8,7 @@ use Rattle.i2c_physics.proofs.sim_world.SimWorld.get.Goals as goal
 pub returns-clause-given : goal.returns-clause-given
 returns-clause-given c =
     let w = c.args.self.now in
-    let small : (devices_say w (call.Get c.args.ack)).byte < 256 = rw c.feed-chips.ensures.devices at c.feed-chips.ensures.small in
-    ap (λ (j : Together). bit_and j.byte c.feed-chips.result.1.byte) c.feed-chips.ensures.chips
-    ∙ ap (λ (j : Together). bit_and (chips_say w (call.Get c.args.ack)).byte j.byte) c.feed-chips.ensures.devices
+    let small : (devices_say w (event.Get c.args.ack)).byte < 256 = rw c.send-chips.ensures.devices at c.send-chips.ensures.small in
+    ap (λ (j : Together). bit_and j.byte c.send-chips.result.1.byte) c.send-chips.ensures.chips
+    ∙ ap (λ (j : Together). bit_and (chips_say w (event.Get c.args.ack)).byte j.byte) c.send-chips.ensures.devices
     ∙ gives_told w c.args.ack small

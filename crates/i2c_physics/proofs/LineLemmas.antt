@@ -1,0 +1,127 @@
+-- A line is set: a chip that was quiet stays so, and the program's chips are as they are opened.
+use Rattle.std.proofs.Common.{◌≡◌, ◌≢◌, ℕ, zero, suc, ◌<◌, Bool, true, false, List, [], ◌∷◌, length, map, set, Option, Some, None, refl, sym, ◌∙◌, ap, subst, inl, inr, arith}
+use Rattle.std.specs.Prelude.{not, if◌then◌else◌, slice_get}
+use Rattle.std.specs.Option.{option_map}
+use Rattle.std.proofs.lemmas.List.{length-map, length-set}
+use Rattle.std.proofs.lemmas.Bool.Decides.{eqb_tells}
+use Rattle.std.proofs.lemmas.Option.{slice_get-map, slice_get_cases}
+use Rattle.i2c_base.specs.declared.board.MuxKind.{MuxKind}
+use Rattle.i2c_base.specs.declared.board.MuxKind.TheVariants.{Pca9548, Pca9546, Pca9544, Pca9541, Gpio}
+use Rattle.i2c_base.specs.declared.board.MuxSpec.{MuxSpec}
+use Rattle.i2c_base.specs.Board.{BoardView, DeviceView}
+use Rattle.i2c_spec.specs.Plain.{IsPlainBoard}
+use Rattle.i2c_spec.specs.Chips.{ChipView, chip_table, chip_opening, at_level, stopped, arbitrated, is_free, bit_of}
+use Rattle.i2c_spec.specs.Targets.{IsQuiet, state_table, opening_state}
+use Rattle.i2c_spec.specs.World.{set_level}
+use Rattle.i2c_outside.specs.declared.device.DeviceState.{DeviceState}
+use Rattle.i2c_outside.specs.Devices.{target_state, device_table}
+use Rattle.i2c_physics.specs.Reach.{IsReached}
+use Rattle.i2c_physics.proofs.DeviceLemmas.{quiet-device}
+
+some_same : {A : Type 0} {x y : A} → Some x ≡ Some y → x ≡ y
+some_same e = cc
+
+no_byte : (c : ChipView) (byte : ℕ) (b d : Bool)
+    → (if b then record c { control = 0; waiting = None; left = c.foreign } else if d then record c { control = 1; waiting = None } else record c { waiting = None }).waiting ≡ None
+no_byte c byte true d = refl
+no_byte c byte false true = refl
+no_byte c byte false false = refl
+
+still : (c d : ChipView) (byte : ℕ) → d ≡ c → d.waiting ≡ None → c.waiting ≡ Some byte → ⊥
+still c d byte same none some = let e : None ≡ Some byte = sym none ∙ ap (λ (x : ChipView). x.waiting) same ∙ some in cc
+
+level_stop : (k : MuxKind) (control left foreign level : ℕ) (waiting : Option ℕ)
+    → stopped (record { kind = k; control = control; waiting = waiting; left = left; foreign = foreign }) waiting ≡ record { kind = k; control = control; waiting = waiting; left = left; foreign = foreign }
+    → stopped (record { kind = k; control = level; waiting = waiting; left = left; foreign = foreign }) waiting ≡ record { kind = k; control = level; waiting = waiting; left = left; foreign = foreign }
+level_stop k control left foreign level None same = refl
+level_stop Pca9548 control left foreign level (Some byte) same = absurd (still _ _ byte same refl refl)
+level_stop Pca9546 control left foreign level (Some byte) same = absurd (still _ _ byte same refl refl)
+level_stop Pca9544 control left foreign level (Some byte) same = absurd (still _ _ byte same refl refl)
+level_stop Pca9541 control left foreign level (Some byte) same =
+    let c : ChipView = record { kind = Pca9541; control = control; waiting = Some byte; left = left; foreign = foreign } in
+    absurd (still c (arbitrated c byte) byte same (no_byte c byte (not (bit_of byte 0)) (is_free c)) refl)
+level_stop Gpio control left foreign level (Some byte) same = refl
+
+level_quiet : (c : ChipView) (level : ℕ) → IsQuiet chip_table c → IsQuiet chip_table (at_level c level)
+level_quiet c level quiet = record { other = refl; stop = level_stop c.kind c.control c.left c.foreign level c.waiting quiet.stop }
+
+-- what holds of what a map gives
+of_map : {A B : Type 0} (P : B → Type 0) (f : A → B) (xs : List A) (k : ℕ) (y : B) → slice_get (map f xs) k ≡ Some y → ((x : A) → P (f x)) → P y
+of_map P f xs k y is each =
+    elim (slice_get_cases xs k).1 [
+      | inl x ↦ (let e : Some (f x.0) ≡ Some y = ap (option_map f) (sym x.2) ∙ sym (slice_get-map f xs k) ∙ is in subst P (some_same e) (each x.0))
+      | inr none ↦ absurd (let e : None ≡ Some y = ap (option_map f) (sym none.1) ∙ sym (slice_get-map f xs k) ∙ is in cc)
+    ]
+
+pub opened-chips : (b : BoardView) (chips : List ChipView) (started hearing : List ℕ) → IsPlainBoard b → chips ≡ map chip_opening b.muxes
+    → ((m : MuxSpec) → IsQuiet chip_table (chip_opening m)) → started ≡ [] → hearing ≡ [] → IsReached chip_table chips started hearing
+opened-chips b chips started hearing plain are quiet none deaf =
+    let count = ap length are ∙ length-map b.muxes chip_opening in
+    rw (none, deaf) (record {
+      few = omega (arith, count, plain.most_muxes);
+      started_rise = tt;
+      hearing_rise = tt;
+      hearing_started = λ k h. h;
+      quiet = λ k x is out. of_map (IsQuiet chip_table) chip_opening b.muxes k x (sym (ap (λ cs. slice_get cs k) are) ∙ is) quiet;
+    })
+
+pub opened-devices : (b : BoardView) (states : List DeviceState) (started hearing : List ℕ) → IsPlainBoard b → map target_state states ≡ map opening_state b.devices
+    → ((d : DeviceView) → IsQuiet state_table (opening_state d)) → started ≡ [] → hearing ≡ [] → IsReached device_table states started hearing
+opened-devices b states started hearing plain are quiet none deaf =
+    let count = sym (length-map states target_state) ∙ ap length are ∙ length-map b.devices opening_state in
+    rw (none, deaf) (record {
+      few = omega (arith, count, plain.most_devices);
+      started_rise = tt;
+      hearing_rise = tt;
+      hearing_started = λ k h. h;
+      quiet = λ k x is out. quiet-device x (of_map (IsQuiet state_table) opening_state b.devices k (target_state x)
+          (sym (ap (λ ts. slice_get ts k) are) ∙ slice_get-map target_state states k ∙ ap (option_map target_state) is) quiet);
+    })
+
+got_set : {A : Type 0} (xs : List A) (i : ℕ) (y : A) → i < length xs → slice_get (set xs i y) i ≡ Some y
+got_set [] i y low = absurd (omega arith)
+got_set (x ∷ xs) zero y low = refl
+got_set (x ∷ xs) (suc i) y low = got_set xs i y (omega arith)
+
+got_other : {A : Type 0} (xs : List A) (i k : ℕ) (y : A) → k ≢ i → slice_get (set xs i y) k ≡ slice_get xs k
+got_other [] i k y ne = refl
+got_other (x ∷ xs) zero zero y ne = absurd (ne refl)
+got_other (x ∷ xs) zero (suc k) y ne = refl
+got_other (x ∷ xs) (suc i) zero y ne = refl
+got_other (x ∷ xs) (suc i) (suc k) y ne = got_other xs i k y (λ e. ne (ap suc e))
+
+set_quiet : (chips : List ChipView) (m level : ℕ) (c : ChipView) → slice_get chips m ≡ Some c → m < length chips → (k : ℕ) (x : ChipView)
+    → slice_get (set chips m (at_level c level)) k ≡ Some x → ((y : ChipView) → slice_get chips k ≡ Some y → IsQuiet chip_table y) → IsQuiet chip_table x
+set_quiet chips m level c is low k x got quiet =
+    elim (eqb_tells k m) [
+      | inl same ↦ (let e : Some (at_level c level) ≡ Some x = sym (ap (slice_get (set chips m (at_level c level))) same.1 ∙ got_set chips m (at_level c level) low) ∙ got in
+          subst (IsQuiet chip_table) (some_same e) (level_quiet c level (quiet c (ap (slice_get chips) same.1 ∙ is))))
+      | inr other ↦ quiet x (sym (got_other chips m k (at_level c level) other.1) ∙ got)
+    ]
+
+-- the chip of a mux that is there
+level_at : (chips : List ChipView) (m level : ℕ) (started hearing : List ℕ) (c : ChipView) → slice_get chips m ≡ Some c → m < length chips
+    → IsReached chip_table chips started hearing → IsReached chip_table (set chips m (at_level c level)) started hearing
+level_at chips m level started hearing c is low reached =
+    record {
+      few = rw (length-set chips m (at_level c level)) reached.few;
+      started_rise = rw (length-set chips m (at_level c level)) reached.started_rise;
+      hearing_rise = rw (length-set chips m (at_level c level)) reached.hearing_rise;
+      hearing_started = reached.hearing_started;
+      quiet = λ k x got out. set_quiet chips m level c is low k x got (λ y e. reached.quiet k y e out);
+    }
+
+pub level-kept : (chips : List ChipView) (m level : ℕ) (started hearing : List ℕ) → IsReached chip_table chips started hearing
+    → IsReached chip_table (set_level chips m level) started hearing
+level-kept chips m level started hearing reached =
+    elim (slice_get_cases chips m).1 [
+      | inl c ↦ rw c.2 (level_at chips m level started hearing c.0 c.2 c.1 reached)
+      | inr none ↦ rw none.1 reached
+    ]
+
+pub level-count : (chips : List ChipView) (m level : ℕ) → length (set_level chips m level) ≡ length chips
+level-count chips m level =
+    elim (slice_get_cases chips m).1 [
+      | inl c ↦ rw c.2 (length-set chips m (at_level c.0 level))
+      | inr none ↦ rw none.1 refl
+    ]

@@ -1,0 +1,90 @@
+-- Rising numbers. The inductions go over the numbers.
+use Rattle.std.proofs.Common.{◌≡◌, ℕ, zero, suc, ◌+◌, ◌-◌, ◌<◌, ◌≤◌, Bool, true, false, ◌&&◌, ◌||◌, cond, List, [], ◌∷◌, ◌++◌, length, drop, refl, sym, ◌∙◌, ap, arith, inl, inr}
+use Rattle.std.specs.Prelude.{◌==◌}
+use Rattle.std.specs.List.{filter, range_with_len}
+use Rattle.std.proofs.lemmas.Bool.{ne_eqb}
+use Rattle.std.proofs.lemmas.Bool.Decides.{eqb_tells}
+use Rattle.std.proofs.lemmas.List.{map-id}
+use Rattle.std.proofs.lemmas.List.FromFn.{filter_of_map_range_with_len_more}
+use Rattle.i2c_physics.specs.Reach.{is_among, AreRising}
+
+-- one number more
+pub filter_more : (p : ℕ → Bool) (n : ℕ) → filter p (range_with_len 0 (n + 1)) ≡ filter p (range_with_len 0 n) ++ cond (p n) (n ∷ []) []
+filter_more p n =
+    ap (filter p) (sym (map-id (range_with_len 0 (n + 1)))) ∙ filter_of_map_range_with_len_more p (λ k. k) 0 n n (omega arith)
+    ∙ ap (λ ns. filter p ns ++ cond (p n) (n ∷ []) []) (map-id (range_with_len 0 n))
+
+pub rising-lower : (low below high : ℕ) (ns : List ℕ) → below ≤ low → AreRising low high ns → AreRising below high ns
+rising-lower low below high [] le r = tt
+rising-lower low below high (n ∷ ns) le r = (omega (arith, r.0), r.1, r.2)
+
+kept_or_not : (p : ℕ → Bool) (b : Bool) (low high n : ℕ) (ns : List ℕ) → low ≤ n → n < high → AreRising (n + 1) high ns
+    → AreRising low high (cond b (n ∷ ns) ns)
+kept_or_not p true low high n ns at below rest = (at, below, rest)
+kept_or_not p false low high n ns at below rest = rising-lower (n + 1) low high ns (omega arith) rest
+
+pub rising-filter : (p : ℕ → Bool) (low high : ℕ) (ns : List ℕ) → AreRising low high ns → AreRising low high (filter p ns)
+rising-filter p low high [] r = tt
+rising-filter p low high (n ∷ ns) r = kept_or_not p (p n) low high n (filter p ns) r.0 r.1 (rising-filter p (n + 1) high ns r.2)
+
+rising_range : (low high n : ℕ) → low + n ≡ high → AreRising low high (range_with_len low n)
+rising_range low high zero e = tt
+rising_range low high (suc n) e = (omega arith, omega arith, rising_range (low + 1) high n (omega arith))
+
+pub rising-of_range : (p : ℕ → Bool) (n : ℕ) → AreRising 0 n (filter p (range_with_len 0 n))
+rising-of_range p n = rising-filter p 0 n (range_with_len 0 n) (rising_range 0 n n (omega arith))
+
+pub rising-length : (low high : ℕ) (ns : List ℕ) → AreRising low high ns → length ns ≤ high - low
+rising-length low high [] r = omega arith
+rising-length low high (n ∷ ns) r = omega (arith, rising-length (n + 1) high ns r.2, r.0, r.1)
+
+pub rising-drop : (low high k : ℕ) (ns : List ℕ) → AreRising low high ns → AreRising low high (drop k ns)
+rising-drop low high zero ns r = r
+rising-drop low high (suc k) [] r = r
+rising-drop low high (suc k) (n ∷ ns) r = rising-lower (n + 1) low high (drop k ns) (omega (arith, r.0)) (rising-drop (n + 1) high k ns r.2)
+
+-- who is among rising numbers
+pub rising-apart : (low high : ℕ) (ns : List ℕ) → AreRising low high ns → (k : ℕ) → k < low → is_among ns k ≡ false
+rising-apart low high [] r k lower = refl
+rising-apart low high (n ∷ ns) r k lower =
+    let differs : (n == k) ≡ false = ne_eqb n k (λ e. absurd (omega (arith, e, r.0))) in
+    rw differs (rising-apart (n + 1) high ns r.2 k (omega (arith, r.0)))
+
+and_false : (b : Bool) → (b && false) ≡ false
+and_false true = refl
+and_false false = refl
+
+among_same : (p : ℕ → Bool) (b : Bool) (n k : ℕ) (ns kept : List ℕ) → p n ≡ b → is_among kept k ≡ (is_among ns k && p k)
+    → (n == k) ≡ true → n ≡ k → is_among (cond b (n ∷ kept) kept) k ≡ (((n == k) || is_among ns k) && p k)
+among_same p true n k ns kept is rest same e = let now : p k ≡ true = ap p (sym e) ∙ is in rw (same, now) refl
+among_same p false n k ns kept is rest same e =
+    let now : p k ≡ false = ap p (sym e) ∙ is in
+    rest ∙ rw (same, now) (and_false (is_among ns k))
+
+among_other : (p : ℕ → Bool) (b : Bool) (n k : ℕ) (ns kept : List ℕ) → is_among kept k ≡ (is_among ns k && p k)
+    → (n == k) ≡ false → is_among (cond b (n ∷ kept) kept) k ≡ (((n == k) || is_among ns k) && p k)
+among_other p true n k ns kept rest other = rw other rest
+among_other p false n k ns kept rest other = rw other rest
+
+among_if : (p : ℕ → Bool) (b : Bool) (n k : ℕ) (ns kept : List ℕ) → p n ≡ b → is_among kept k ≡ (is_among ns k && p k)
+    → is_among (cond b (n ∷ kept) kept) k ≡ (((n == k) || is_among ns k) && p k)
+among_if p b n k ns kept is rest =
+    elim (eqb_tells n k) [
+      | inl x ↦ among_same p b n k ns kept is rest x.0 x.1
+      | inr x ↦ among_other p b n k ns kept rest x.0
+    ]
+
+pub among-filter : (p : ℕ → Bool) (ns : List ℕ) (k : ℕ) → is_among (filter p ns) k ≡ (is_among ns k && p k)
+among-filter p [] k = refl
+among-filter p (n ∷ ns) k = among_if p (p n) n k ns (filter p ns) refl (among-filter p ns k)
+
+among_from : (low n k : ℕ) → low ≤ k → k < low + n → is_among (range_with_len low n) k ≡ true
+among_from low zero k at below = absurd (omega arith)
+among_from low (suc n) k at below =
+    elim (eqb_tells low k) [
+      | inl x ↦ rw x.0 refl
+      | inr x ↦ rw x.0 (among_from (low + 1) n k (omega (arith, x.1)) (omega arith))
+    ]
+
+pub among-range : (n k : ℕ) → k < n → is_among (range_with_len 0 n) k ≡ true
+among-range n k below = among_from 0 n k (omega arith) (omega arith)

@@ -1,0 +1,40 @@
+use Rattle.std.proofs.Common.{ap, ◌∙◌, arith}
+use Rattle.std.proofs.lemmas.List.{with_items_is}
+use Rattle.i2c_spec.specs.Chips.{chip_table}
+use Rattle.i2c_spec.specs.World.{sent_on}
+use Rattle.i2c_outside.specs.Devices.{device_table}
+use Rattle.i2c_physics.specs.Answering.{together_of, chips_say, devices_say}
+use Rattle.i2c_physics.proofs.FeedLemmas.{fed-on, said-on, chips-answer, devices-answer, sent-kept, sent-is}
+use Rattle.i2c_physics.proofs.sim_world.SimWorld.send.Goals as goal
+
+pub invariant_of-self : goal.invariant_of-self
+invariant_of-self c =
+    let s = c.self.inside in
+    let e = c.args.event in
+    let chips = fed-on chip_table e _ _ _ _ c.as_slice.ensures.value c.deref_mut.ensures.value _ _
+    (with_items_is s.chips c.tell-chips.new.targets (omega arith)) c.tell-chips.ensures.fed in
+    let devices = fed-on device_table e _ _ _ _ c.as_slice-2.ensures.value c.deref_mut-2.ensures.value _ _
+    (with_items_is s.devices c.tell-devices.new.targets (omega arith)) c.tell-devices.ensures.fed in
+    sent-kept _ _ _ _ _ _ _ _ s.busy c.self.invariant e _ _ chips devices
+
+pub returns-clause-chips : goal.returns-clause-chips
+returns-clause-chips c =
+    let s = c.self.inside in
+    let said = said-on chip_table c.args.event _ _ _ _ c.as_slice.ensures.value c.deref_mut.ensures.value _ c.tell-chips.ensures.answered in
+    said ∙ ap together_of (chips-answer _ _ _ _ _ _ _ _ s.busy c.self.invariant c.args.event) ∙ ap (λ w. chips_say w c.args.event) c.self.view_is
+
+pub returns-clause-devices : goal.returns-clause-devices
+returns-clause-devices c =
+    let s = c.self.inside in
+    let said = said-on device_table c.args.event _ _ _ _ c.as_slice-2.ensures.value c.deref_mut-2.ensures.value _ c.tell-devices.ensures.answered in
+    said ∙ ap together_of (devices-answer _ _ _ _ _ _ _ _ s.busy c.self.invariant c.args.event) ∙ ap (λ w. devices_say w c.args.event) c.self.view_is
+
+pub returns-clause-after : goal.returns-clause-after
+returns-clause-after c =
+    let s = c.self.inside in
+    let e = c.args.event in
+    let chips = fed-on chip_table e _ _ _ _ c.as_slice.ensures.value c.deref_mut.ensures.value _ _
+    (with_items_is s.chips c.tell-chips.new.targets (omega arith)) c.tell-chips.ensures.fed in
+    let devices = fed-on device_table e _ _ _ _ c.as_slice-2.ensures.value c.deref_mut-2.ensures.value _ _
+    (with_items_is s.devices c.tell-devices.new.targets (omega arith)) c.tell-devices.ensures.fed in
+    sent-is _ _ _ _ _ _ _ _ s.busy c.self.invariant e _ _ chips devices ∙ ap (λ w. sent_on w e) c.self.view_is
