@@ -1,28 +1,31 @@
 -- The program's devices and the states that they stand for: an event does the same to both. The inductions go over
 -- the devices, the first being number k.
-use Rattle.std.proofs.Common.{◌≡◌, ℕ, ◌+◌, List, [], ◌∷◌, map, Option, Some, None, refl, ◌∙◌, ap}
+use Rattle.std.proofs.Common.{◌≡◌, ℕ, ◌+◌, List, [], ◌∷◌, map, Option, Some, None, refl, sym, ◌∙◌, ap, subst}
 use Rattle.i2c_base.specs.declared.event.Event.{Event}
 use Rattle.i2c_base.specs.declared.event.Event.TheVariants as event
 use Rattle.i2c_base.specs.declared.event.Answer.{Answer}
 use Rattle.i2c_base.specs.declared.event.Answer.TheVariants.{Nothing}
-use Rattle.i2c_spec.specs.Regs.{RegsView}
 use Rattle.i2c_spec.specs.Targets as target
-use Rattle.i2c_spec.specs.Targets.{IsQuiet, state_table, state_after, state_answer}
+use Rattle.i2c_spec.specs.Targets.{TargetState, IsQuiet, state_table, state_after, state_answer}
 use Rattle.i2c_spec.specs.World.{answers, answer_with, feed, given}
 use Rattle.i2c_outside.specs.declared.device.DeviceState.{DeviceState}
 use Rattle.i2c_outside.specs.declared.device.DeviceState.TheVariants.{Regs, Silent}
-use Rattle.i2c_outside.specs.Devices.{target_state, device_table, device_after, device_answer}
+use Rattle.i2c_outside.specs.Devices.{target_state, device_of, device_table, device_after, device_answer}
 
-regs_same : (x y : RegsView) → target.Regs x ≡ target.Regs y → Regs x ≡ Regs y
-regs_same x y e = cc
+-- a device and its state stand for each other
+state-device : (x : TargetState) → target_state (device_of x) ≡ x
+state-device (target.Regs x) = refl
+state-device target.Silent = refl
+
+device-state : (d : DeviceState) → device_of (target_state d) ≡ d
+device-state (Regs x) = refl
+device-state Silent = refl
 
 pub state_after_is : (d : DeviceState) (e : Event) → state_after (target_state d) e ≡ target_state (device_after d e)
-state_after_is (Regs x) e = refl
-state_after_is Silent e = refl
+state_after_is d e = sym (state-device (state_after (target_state d) e))
 
 pub state_answer_is : (d : DeviceState) (e : Event) → state_answer (target_state d) e ≡ device_answer d e
-state_answer_is (Regs x) e = refl
-state_answer_is Silent e = refl
+state_answer_is d e = refl
 
 given-state : (e : Option Event) (d : DeviceState) → given state_table e (target_state d) ≡ target_state (given device_table e d)
 given-state None d = refl
@@ -48,13 +51,23 @@ answers-states f k (d ∷ ds) =
     answer-state (f k) k d (answers state_table f (k + 1) (map target_state ds))
     ∙ ap (answer_with device_table (f k) k d) (answers-states f (k + 1) ds)
 
--- after a stop a device is quiet, and a start for another is answered by nothing
-pub device-stops : (d : DeviceState) → IsQuiet device_table (device_after d event.Stop)
-device-stops (Regs x) = record { other = refl; stop = refl }
-
-pub device-nothing : (d : DeviceState) → device_answer d event.Other ≡ Nothing
-device-nothing (Regs x) = refl
-
 -- as its state is, so is the device
 pub quiet-device : (d : DeviceState) → IsQuiet state_table (target_state d) → IsQuiet device_table d
-quiet-device (Regs x) quiet = record { other = regs_same _ _ quiet.other; stop = regs_same _ _ quiet.stop }
+quiet-device d quiet = record { other = ap device_of quiet.other ∙ device-state d; stop = ap device_of quiet.stop ∙ device-state d }
+
+-- after a stop a device is quiet, and a start for another is answered by nothing
+quiet-state : (x : TargetState) → IsQuiet state_table (state_after x event.Stop)
+quiet-state (target.Regs x) = record { other = refl; stop = refl }
+quiet-state target.Silent = record { other = refl; stop = refl }
+
+pub device-stops : (d : DeviceState) → IsQuiet device_table (device_after d event.Stop)
+device-stops d =
+    quiet-device (device_after d event.Stop)
+    (subst (λ (x : TargetState). IsQuiet state_table x) (state_after_is d event.Stop) (quiet-state (target_state d)))
+
+nothing-state : (x : TargetState) → state_answer x event.Other ≡ Nothing
+nothing-state (target.Regs x) = refl
+nothing-state target.Silent = refl
+
+pub device-nothing : (d : DeviceState) → device_answer d event.Other ≡ Nothing
+device-nothing d = nothing-state (target_state d)
