@@ -46,18 +46,18 @@ use Rattle.bus_laws.proofs.past.StandsStep.{at_same}
 use Rattle.bus_laws.proofs.past.StandsFacts.{over_ends}
 use Rattle.bus_laws.proofs.past.Asked.{nobody, settles_seen, settled-told, sent_settled, lined_settled}
 use Rattle.bus_laws.proofs.past.Known.{never}
-use Rattle.bus_laws.proofs.past.Others.{IsElsewhere, entry-elsewhere}
+use Rattle.bus_laws.proofs.past.Others.{IsUntouched, entry-elsewhere}
 use Rattle.bus_laws.proofs.past.Budgets.{message-got, line-got}
 
 -- HOW FAR a walk is with its caller's messages: none was sent
-record IsUnsent (w : WalkTree) (got : List ℕ) (done : Bool) : Type 0 where
+record SendsNone (w : WalkTree) (got : List ℕ) (done : Bool) : Type 0 where
   unsettled : done ≡ false
   firsts : FirstCalls w
   quiet : NoSettle w
   empty : got ≡ []
 
 -- this one comes next, and those before it have read what fits
-record IsBetween (t : TransferView) (w : WalkTree) (got : List ℕ) (done : Bool) : Type 0 where
+record SendsNext (t : TransferView) (w : WalkTree) (got : List ℕ) (done : Bool) : Type 0 where
   unsettled : done ≡ false
   bus : ℕ
   messages : List MessageView
@@ -67,19 +67,19 @@ record IsBetween (t : TransferView) (w : WalkTree) (got : List ℕ) (done : Bool
   fits : FitsReads (take (length t.msgs - 1 - left) t.msgs) got
 
 -- the settle comes next: without an error all that was read fits
-record IsEnding (t : TransferView) (w : WalkTree) (got : List ℕ) (done : Bool) : Type 0 where
+record SettlesNext (t : TransferView) (w : WalkTree) (got : List ℕ) (done : Bool) : Type 0 where
   unsettled : done ≡ false
   verdict : Option Errno
   next : first_act w ≡ Some (Settle verdict)
   fits : verdict ≡ None → FitsReads t.msgs got
 
 -- it stands behind
-record IsBehind (got : List ℕ) (done : Bool) : Type 0 where
+record HasSettled (got : List ℕ) (done : Bool) : Type 0 where
   settled : done ≡ true
   empty : got ≡ []
 
-abbrev Stage : TransferView → WalkTree → List ℕ → Bool → Type 0
-Stage t w got done = IsUnsent w got done ⊎ (IsBetween t w got done ⊎ (IsEnding t w got done ⊎ IsBehind got done))
+abbrev Reading : TransferView → WalkTree → List ℕ → Bool → Type 0
+Reading t w got done = SendsNone w got done ⊎ (SendsNext t w got done ⊎ (SettlesNext t w got done ⊎ HasSettled got done))
 
 abbrev Any : Job → Type 0
 Any job = Unit {0}
@@ -92,7 +92,7 @@ record IsReading (b : BoardView) (asks : List Reply → Option TransferView) (w 
   -- only the line of a gpio mux is shifted
   jobs : EachJob Any w
   asked : done ≡ false → asks settled ≡ Some whose
-  stage : Stage whose w got done
+  stage : Reading whose w got done
 
 -- two next steps are one
 same_act : (v : Slots) (w : WalkTree) (x y : Act) → first_act w ≡ Some x → first_act (seen v w) ≡ Some y → x ≡ y
@@ -123,7 +123,7 @@ module _ (b : BoardView) (asks : List Reply → Option TransferView) (v : Slots)
         stage = by is.stage;
       }
     where
-      by : Stage is.whose w got is.done → Stage is.whose (rest_of (seen v w) Passed) got is.done
+      by : Reading is.whose w got is.done → Reading is.whose (rest_of (seen v w) Passed) got is.done
       by (inl unsent) = inl (record { unsettled = unsent.unsettled; firsts = firsts unsent.firsts; quiet = quiet; empty = unsent.empty })
       by (inr (inl between)) = absurd (no_send (Call between.bus between.messages) between.left (sym (same_act v w (Send (Call between.bus between.messages) between.left) act between.next first)))
       by (inr (inr (inl ending))) = absurd (no_settle ending.verdict (sym (same_act v w (Settle ending.verdict) act ending.next first)))
@@ -143,7 +143,7 @@ module _ (b : BoardView) (asks : List Reply → Option TransferView) (v : Slots)
         stage = by s.0 s.1 is.stage;
       }
     where
-      by : (note : Note) → IsDecided note job zero (Lined failed) (rest_of (seen v w) (Lined failed)) → Stage is.whose w got is.done → Stage is.whose (rest_of (seen v w) (Lined failed)) got is.done
+      by : (note : Note) → IsDecided note job zero (Lined failed) (rest_of (seen v w) (Lined failed)) → Reading is.whose w got is.done → Reading is.whose (rest_of (seen v w) (Lined failed)) got is.done
       by note (inl quiet) (inl unsent) =
           inl (record { unsettled = unsent.unsettled; firsts = first-shifted v w unsent.firsts job first failed; quiet = quiet; empty = unsent.empty })
       by note (inr decided) (inl unsent) =
@@ -174,7 +174,7 @@ module _ (b : BoardView) (asks : List Reply → Option TransferView) (v : Slots)
         stage = by (what_follows f.0 job left e bytes (rest_of (seen v w) (Sent e bytes)) f.1) is.stage;
       }
     where
-      by : NoSettle (rest_of (seen v w) (Sent e bytes)) ⊎ FollowsSend job left e bytes (rest_of (seen v w) (Sent e bytes)) → Stage is.whose w got is.done → Stage is.whose (rest_of (seen v w) (Sent e bytes)) got is.done
+      by : NoSettle (rest_of (seen v w) (Sent e bytes)) ⊎ FollowsSend job left e bytes (rest_of (seen v w) (Sent e bytes)) → Reading is.whose w got is.done → Reading is.whose (rest_of (seen v w) (Sent e bytes)) got is.done
       by (inl quiet) (inl unsent) = inl (record { unsettled = unsent.unsettled; firsts = firsts unsent.firsts; quiet = quiet; empty = unsent.empty })
       by (inr follows) (inl unsent) =
           inr (inr (inl (record {
@@ -205,7 +205,7 @@ module _ (b : BoardView) (asks : List Reply → Option TransferView) (v : Slots)
     before : (left < length is.whose.msgs) × FitsReads (take (length is.whose.msgs - 1 - left) is.whose.msgs) got
     before = by is.stage
       where
-        by : Stage is.whose w got is.done → (left < length is.whose.msgs) × FitsReads (take (length is.whose.msgs - 1 - left) is.whose.msgs) got
+        by : Reading is.whose w got is.done → (left < length is.whose.msgs) × FitsReads (take (length is.whose.msgs - 1 - left) is.whose.msgs) got
         by (inl unsent) =
             let most : left ≡ length ms - 1 = first-sent v w unsent.firsts bus ms left first in
             let none : length is.whose.msgs - 1 - left ≡ 0 = omega (arith, most, many) in
@@ -221,8 +221,8 @@ module _ (b : BoardView) (asks : List Reply → Option TransferView) (v : Slots)
     module _ (e : End) (bytes : List ℕ) (reading : Bool) (reads : reading ≡ (message_of b (Call bus ms) left).reading)
         (gave : reading ≡ true → e ≡ end.Ok → GaveRead (block_limit b) (message_of b (Call bus ms) left).counted (message_of b (Call bus ms) left).len bytes) where
       -- where it went through
-      read_more : e ≡ end.Ok → FitsReads (take (length is.whose.msgs - 1 - left + 1) is.whose.msgs) (got_after (Call bus ms) reading bytes got)
-      read_more fine =
+      one_more_read : e ≡ end.Ok → FitsReads (take (length is.whose.msgs - 1 - left + 1) is.whose.msgs) (got_after (Call bus ms) reading bytes got)
+      one_more_read fine =
           let i : ℕ = length is.whose.msgs - 1 - left in
           let place : length ms - 1 - left ≡ i = omega (arith, many) in
           let same : message_of b (Call bus ms) left ≡ nth_message (messages_of is.whose) i =
@@ -252,7 +252,7 @@ module _ (b : BoardView) (asks : List Reply → Option TransferView) (v : Slots)
           Got = got_after (Call bus ms) reading bytes got
 
           by : ((more : ℕ) × (left ≡ suc more) × (e ≡ end.Ok) × (first_act Rest ≡ Some (Send (Call bus ms) more))) ⊎ FollowsSend (Call bus ms) left e bytes Rest
-              → IsBetween is.whose Rest Got is.done ⊎ (IsEnding is.whose Rest Got is.done ⊎ IsBehind Got is.done)
+              → SendsNext is.whose Rest Got is.done ⊎ (SettlesNext is.whose Rest Got is.done ⊎ HasSettled Got is.done)
           by (inl more) =
               inl (record {
                 unsettled = unsettled;
@@ -262,7 +262,7 @@ module _ (b : BoardView) (asks : List Reply → Option TransferView) (v : Slots)
                 next = more.3;
                 low = omega (arith, before.0, more.1);
                 fits = subst (λ (i : ℕ). FitsReads (take i is.whose.msgs) Got)
-                    (let up : length is.whose.msgs - 1 - left + 1 ≡ length is.whose.msgs - 1 - more.0 = omega (arith, before.0, more.1) in up) (read_more more.2);
+                    (let up : length is.whose.msgs - 1 - left + 1 ≡ length is.whose.msgs - 1 - more.0 = omega (arith, before.0, more.1) in up) (one_more_read more.2);
               })
           by (inr follows) =
               inr (inl (record {
@@ -272,7 +272,7 @@ module _ (b : BoardView) (asks : List Reply → Option TransferView) (v : Slots)
                 fits = λ none.
                     (let whole = follows.whole none in
                     let all : length is.whose.msgs - 1 - left + 1 ≡ length is.whose.msgs = omega (arith, whole.3, before.0) in
-                    subst (λ (xs : List Msg). FitsReads xs Got) (ap (λ (i : ℕ). take i is.whose.msgs) all ∙ take-length is.whose.msgs) (read_more whole.4));
+                    subst (λ (xs : List Msg). FitsReads xs Got) (ap (λ (i : ℕ). take i is.whose.msgs) all ∙ take-length is.whose.msgs) (one_more_read whole.4));
               }))
 
   -- the settle
@@ -295,7 +295,7 @@ module _ (b : BoardView) (asks : List Reply → Option TransferView) (v : Slots)
       let s = settles-settled is.done (seen v w) (settles_seen v is.done w is.settles) verdict first in
       (is.asked s.0, by s.0 is.stage)
     where
-      by : is.done ≡ false → Stage is.whose w got is.done → verdict ≡ None → FitsReads is.whose.msgs got
+      by : is.done ≡ false → Reading is.whose w got is.done → verdict ≡ None → FitsReads is.whose.msgs got
       by not_done (inl unsent) none = absurd (quiet-next v w unsent.quiet verdict first)
       by not_done (inr (inl between)) none =
           absurd (let f : Send (Call between.bus between.messages) between.left ≡ Settle verdict = same_act v w (Send (Call between.bus between.messages) between.left) (Settle verdict) between.next first in cc)
@@ -334,13 +334,13 @@ module _ (b : BoardView) (asks : Asks) (some : AsksForMessages asks) (callers : 
           let ended : was.done ≡ true = subst (λ (w : WalkTree). Settles was.done w) (over_ends (n.walk c) over) was.settles in
           at_end ended was.stage
         where
-          at_end : was.done ≡ true → Stage was.whose (n.walk c) (n.got c) was.done → n.got c ≡ []
+          at_end : was.done ≡ true → Reading was.whose (n.walk c) (n.got c) was.done → n.got c ≡ []
           at_end ended (inl unsent) = unsent.empty
           at_end ended (inr (inl between)) = absurd (let f : false ≡ true = sym between.unsettled ∙ ended in cc)
           at_end ended (inr (inr (inl ending))) = absurd (let f : false ≡ true = sym ending.unsettled ∙ ended in cc)
           at_end ended (inr (inr (inr behind))) = behind.empty
 
-      stage_of : (t : TransferView) → n.got c ≡ [] → (r : Option Errno) → refusal b t ≡ r → Stage t (walk_by b t r) (n.got c) false
+      stage_of : (t : TransferView) → n.got c ≡ [] → (r : Option Errno) → refusal b t ≡ r → Reading t (walk_by b t r) (n.got c) false
       stage_of t none (Some errno) refused = inr (inr (inl (record { unsettled = refl; verdict = Some errno; next = refl; fits = λ f. absurd (let g : Some errno ≡ None = f in cc) })))
       stage_of t none None accepted =
           inl (record {
@@ -448,7 +448,7 @@ module _ (b : BoardView) (asks : Asks) (some : AsksForMessages asks) (callers : 
         | inr h ↦ other (past-reads past steps.1 c) (entry-elsewhere b asks (now b asks past) e c (λ f. h.1 (sym f)))
       ]
     where
-      other : ReadsAt past c ((now b asks past).walk c) → IsElsewhere (now b asks past) (now b asks (e ∷ past)) c → ReadsAt (e ∷ past) c ((now b asks (e ∷ past)).walk c)
+      other : ReadsAt past c ((now b asks past).walk c) → IsUntouched (now b asks past) (now b asks (e ∷ past)) c → ReadsAt (e ∷ past) c ((now b asks (e ∷ past)).walk c)
       other was same =
           subst (λ (w : WalkTree). IsReading b (asks c) w ((now b asks (e ∷ past)).settled c) ((now b asks (e ∷ past)).got c)) (sym same.walks)
           (subst (λ (rs : List Reply). IsReading b (asks c) ((now b asks past).walk c) rs ((now b asks (e ∷ past)).got c)) (sym same.settles)

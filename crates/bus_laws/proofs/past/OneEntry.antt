@@ -23,7 +23,7 @@ use Rattle.bus_spec.specs.Readings.{MessageEntry, caller_of}
 use Rattle.bus_spec.specs.Past.{Now, current, step, cut_of, talk_of, line_call, sent_by, lined_by}
 use Rattle.bus_spec.specs.Tells.{heard_list, HearsIn, TellsMessage}
 use Rattle.bus_spec.specs.Stepwise.{May, IsNext, reply_by}
-use Rattle.bus_laws.proofs.world.CutTalks.{Went, IsBroken, IsFront, talk-front}
+use Rattle.bus_laws.proofs.world.CutTalks.{Went, BreaksOff, IsFront, talk-front}
 use Rattle.bus_laws.proofs.past.StandsStep.{at_same}
 use Rattle.bus_laws.proofs.past.Failures.{number_of, number-older, number-of, none-failed, went-older}
 use Rattle.bus_laws.proofs.past.Known.{message_entry, Does, does-next}
@@ -45,7 +45,7 @@ module _ (w : World) (limit : ℕ) (m : MessageView) (last : Bool) where
   said cut = talk world_listener limit w m last cut
 
   -- the place is one of the whole message's calls
-  place_within : (cut : Option ℕ) (f : IsFront cut [] (said cut) (said None)) (broken : IsBroken cut [] f.more (said cut)) → broken.place < length f.more
+  place_within : (cut : Option ℕ) (f : IsFront cut [] (said cut) (said None)) (broken : BreaksOff cut [] f.more (said cut)) → broken.place < length f.more
   place_within cut f broken =
       let own : length (broken.own ++ []) ≡ broken.place = broken.counted in
       let same : length (broken.own ++ []) ≡ length broken.own = ap (λ (xs : List PortCall). length xs) (append-nil broken.own) in
@@ -53,7 +53,7 @@ module _ (w : World) (limit : ℕ) (m : MessageView) (last : Bool) where
       omega (arith, own, same, all, length-append broken.later (broken.next ∷ broken.own))
 
   -- its failed call, by its number
-  fault_at : (cut : Option ℕ) (f : IsFront cut [] (said cut) (said None)) (broken : IsBroken cut [] f.more (said cut)) (more before log : List PortCall)
+  fault_at : (cut : Option ℕ) (f : IsFront cut [] (said cut) (said None)) (broken : BreaksOff cut [] f.more (said cut)) (more before log : List PortCall)
       → log ≡ more ++ ((said cut).calls ++ before) → number_of log (broken.place + length before) ≡ Some call.Fault
   fault_at cut f broken more before log is =
       let own : length (broken.own ++ []) ≡ broken.place = broken.counted in
@@ -72,7 +72,7 @@ module _ (w : World) (limit : ℕ) (m : MessageView) (last : Bool) where
       (sym (number-older more (f.more ++ before) (place + length before) (omega (arith, low, length-append f.more before)))
       ∙ ap (λ (xs : List PortCall). number_of xs (place + length before)) (sym log_is) ∙ failed)
 
-  went_before : (cut : Option ℕ) (f : IsFront cut [] (said cut) (said None)) (broken : IsBroken cut [] f.more (said cut)) (more before log : List PortCall)
+  went_before : (cut : Option ℕ) (f : IsFront cut [] (said cut) (said None)) (broken : BreaksOff cut [] f.more (said cut)) (more before log : List PortCall)
       → log ≡ more ++ ((said cut).calls ++ before) → (place : ℕ) → place < broken.place → number_of log (place + length before) ≡ Some call.Fault → ⊥
   went_before cut f broken more before log is place low failed =
       let own : length (broken.own ++ []) ≡ broken.place = broken.counted in
@@ -94,7 +94,7 @@ module _ (w : World) (limit : ℕ) (m : MessageView) (last : Bool) where
     f2 : IsFront two [] (said two) (said None)
     f2 = talk-front world_listener two limit w m last
 
-    both_broken : IsBroken one [] f1.more (said one) → IsBroken two [] f2.more (said two) → said one ≡ said two
+    both_broken : BreaksOff one [] f1.more (said one) → BreaksOff two [] f2.more (said two) → said one ≡ said two
     both_broken b1 b2 =
         elim (eqb_tells b1.place b2.place) [
           | inl h ↦ ap said (b1.cut_is ∙ ap Some h.1 ∙ sym b2.cut_is)

@@ -34,13 +34,13 @@ lined_got b n (Some (Shift job)) note failed c = refl
 lined_got b n (Some (Settle v)) note failed c = refl
 
 -- of a caller that isn't the entry's
-pub record IsElsewhere (n m : Now) (c : ℕ) : Type 0 where
+pub record IsUntouched (n m : Now) (c : ℕ) : Type 0 where
   pub walks : m.walk c ≡ n.walk c
   pub settles : m.settled c ≡ n.settled c
   pub reads : m.got c ≡ n.got c
   pub cuts : m.cut c ≡ n.cut c
 
-pub entry-elsewhere : (b : BoardView) (asks : Asks) (n : Now) (e : Entry) (c : ℕ) → (c ≡ caller_of e → ⊥) → IsElsewhere n (step b asks n e) c
+pub entry-elsewhere : (b : BoardView) (asks : Asks) (n : Now) (e : Entry) (c : ℕ) → (c ≡ caller_of e → ⊥) → IsUntouched n (step b asks n e) c
 entry-elsewhere b asks n (entry.Take d l) c other =
     record {
       walks = at_other n.walk d (rest_of (current b asks n d) Passed) c other;
@@ -84,7 +84,7 @@ entry-elsewhere b asks n (entry.Settle d r at) c other =
 pub others-stay : (b : BoardView) (asks : Asks) (n : Now) (e : Entry) (c : ℕ) (w : WalkTree) (replies : List Reply) (got : List ℕ) (cut : Cut) → (c ≡ caller_of e → ⊥)
     → CallerTold b asks n c w replies got cut → CallerTold b asks (step b asks n e) c w replies got cut
 others-stay b asks n e c w replies got cut other told =
-    let same : IsElsewhere n (step b asks n e) c = entry-elsewhere b asks n e c other in
+    let same : IsUntouched n (step b asks n e) c = entry-elsewhere b asks n e c other in
     record {
       walk = ap (λ (x : WalkTree). cond (is_over x) (begun b (asks c ((step b asks n e).settled c))) x) same.walks
           ∙ ap (λ (rs : List Reply). cond (is_over (n.walk c)) (begun b (asks c rs)) (n.walk c)) same.settles ∙ told.walk;

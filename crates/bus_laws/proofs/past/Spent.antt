@@ -23,7 +23,7 @@ use Rattle.bus_laws.specs.Spent.{Count, one_entry, its_bytes, its_calls, of_call
 use Rattle.bus_laws.proofs.past.StandsFacts.{over_ends}
 use Rattle.bus_laws.proofs.past.Asked.{settled-told}
 use Rattle.bus_laws.proofs.past.Known.{never}
-use Rattle.bus_laws.proofs.past.Others.{IsElsewhere, entry-elsewhere}
+use Rattle.bus_laws.proofs.past.Others.{IsUntouched, entry-elsewhere}
 use Rattle.bus_laws.proofs.past.Budgets.{IsBudget, IsPaid, budget-begins, budget-pays}
 
 -- what the transfers cost that are settled, and the one behind
@@ -207,7 +207,7 @@ module _ (b : BoardView) (tree : IsTree b) (rules : MeetsRules b) (asks : Asks) 
         | inr h ↦ other (past-spends past steps.1 c) h.0 (entry-elsewhere b asks (now b asks past) e c (λ f. h.1 (sym f)))
       ]
     where
-      other : SpendsSo b asks past c → eqb (caller_of e) c ≡ false → IsElsewhere (now b asks past) (step b asks (now b asks past) e) c → SpendsSo b asks (e ∷ past) c
+      other : SpendsSo b asks past c → eqb (caller_of e) c ≡ false → IsUntouched (now b asks past) (step b asks (now b asks past) e) c → SpendsSo b asks (e ∷ past) c
       other s apart same =
           let settled : (now b asks (e ∷ past)).settled c ≡ (now b asks past).settled c = same.settles in
           let few : length ((now b asks (e ∷ past)).got c) ≡ length ((now b asks past).got c) = ap (λ (xs : List ℕ). length xs) same.reads in

@@ -37,7 +37,7 @@ use Rattle.bus_laws.proofs.past.GoesOn.{goes-on-or-stuck}
 use Rattle.bus_laws.proofs.past.OneEntry.{Logs, FailIn, GoOnFrom, one-entry}
 use Rattle.bus_laws.proofs.schedule.Coming.{ready_by, turn-leaves, first_of, stuck-waits, turn-ready, word-made, word-passed}
 use Rattle.bus_laws.proofs.schedule.Turns.{quiet-behind}
-use Rattle.bus_laws.proofs.schedule.Whole.{ComeWhole, after_all, all-come, IsWhole, whole-comes, alone_due}
+use Rattle.bus_laws.proofs.schedule.Whole.{ComeWhole, after_all, all-come, IsItsTurns, whole-comes, alone_due}
 
 -- LOGS only grow
 module _ (b : BoardView) (asks : Asks) where
@@ -346,8 +346,8 @@ module _ (b : BoardView) (tree : IsTree b) (plain : IsPlainBoard b) (lines : Lin
   pub sole-journal : (words : List ℕ) (past other : List Entry) → IsStepwise b callers asks past → IsStepwise b callers asks other → IsComplete b callers asks past → IsComplete b callers asks other
       → Follows words (reverse past) → Follows words (reverse other) → FailAlike b asks past other → past ≡ other
   sole-journal words past other steps1 steps2 complete1 complete2 follows1 follows2 alike =
-      let w1 : IsWhole b tree plain lines asks some callers past = whole-comes b tree plain lines asks some callers past steps1 (complete_free past steps1 complete1) in
-      let w2 : IsWhole b tree plain lines asks some callers other = whole-comes b tree plain lines asks some callers other steps2 (complete_free other steps2 complete2) in
+      let w1 : IsItsTurns b tree plain lines asks some callers past = whole-comes b tree plain lines asks some callers past steps1 (complete_free past steps1 complete1) in
+      let w2 : IsItsTurns b tree plain lines asks some callers other = whole-comes b tree plain lines asks some callers other steps2 (complete_free other steps2 complete2) in
       let there : FailIn (now b asks past).calls (now b asks other).calls = λ r n failed. (alike r n).0 failed in
       let back : FailIn (now b asks other).calls (now b asks past).calls = λ r n failed. (alike r n).1 failed in
       let same : turns (reverse past) ≡ turns (reverse other) =

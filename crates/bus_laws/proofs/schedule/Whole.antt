@@ -98,16 +98,16 @@ module _ (b : BoardView) (tree : IsTree b) (plain : IsPlainBoard b) (lines : Lin
   due_settles n c due (entry.Line d mux level failed) may = absurd (let f : None ≡ Some c = sym may.1 ∙ due in cc)
 
   -- the steps of a journal, and the journal that they make
-  pub record IsWhole (past : List Entry) : Type 0 where
+  pub record IsItsTurns (past : List Entry) : Type 0 where
     pub come : ComeWhole b callers asks [] (turns (reverse past))
     pub all : after_all [] (turns (reverse past)) ≡ past
 
-  abbrev IsWholeIf : List Entry → Type 0
-  IsWholeIf past = IsStepwise b callers asks past → (now b asks past).due ≡ None → IsWhole past
+  abbrev IsTurnsIf : List Entry → Type 0
+  IsTurnsIf past = IsStepwise b callers asks past → (now b asks past).due ≡ None → IsItsTurns past
 
   -- one step more
-  more : (past : List Entry) → IsStepwise b callers asks past → (now b asks past).due ≡ None → IsWhole past → (t : Turn) → IsTurn b callers asks past t
-      → (now b asks (past_after past t)).due ≡ None → (new : List Entry) → reverse new ≡ reverse past ++ t.entries → past_after past t ≡ new → IsWhole new
+  more : (past : List Entry) → IsStepwise b callers asks past → (now b asks past).due ≡ None → IsItsTurns past → (t : Turn) → IsTurn b callers asks past t
+      → (now b asks (past_after past t)).due ≡ None → (new : List Entry) → reverse new ≡ reverse past ++ t.entries → past_after past t ≡ new → IsItsTurns new
   more past steps none was t is none_after new back made =
       let all : turns (reverse new) ≡ turns (reverse past) ++ t ∷ [] = ap turns back ∙ turns-more b tree plain lines asks some callers past steps none t is in
       record {
@@ -119,16 +119,16 @@ module _ (b : BoardView) (tree : IsTree b) (plain : IsPlainBoard b) (lines : Lin
       }
 
   -- THE INDUCTION: of a past, and of the one without its last entry
-  both : (past : List Entry) → IsWholeIf past × ((last : Entry) (before : List Entry) → past ≡ last ∷ before → IsWholeIf before)
+  both : (past : List Entry) → IsTurnsIf past × ((last : Entry) (before : List Entry) → past ≡ last ∷ before → IsTurnsIf before)
   both [] = (λ steps none. record { come = tt; all = refl }, λ last before is. absurd (let f : [] ≡ last ∷ before = is in cc))
   both (e ∷ past) =
       let was = both past in (
         λ steps none. by steps none was ((now b asks past).due) refl,
-        λ last before is. (let f : e ∷ past ≡ last ∷ before = is in let g : past ≡ before = cc in subst (λ (p : List Entry). IsWholeIf p) g was.0),
+        λ last before is. (let f : e ∷ past ≡ last ∷ before = is in let g : past ≡ before = cc in subst (λ (p : List Entry). IsTurnsIf p) g was.0),
       )
     where
-      by : IsStepwise b callers asks (e ∷ past) → (now b asks (e ∷ past)).due ≡ None → IsWholeIf past × ((last : Entry) (before : List Entry) → past ≡ last ∷ before → IsWholeIf before)
-          → (o : Option ℕ) → (now b asks past).due ≡ o → IsWhole (e ∷ past)
+      by : IsStepwise b callers asks (e ∷ past) → (now b asks (e ∷ past)).due ≡ None → IsTurnsIf past × ((last : Entry) (before : List Entry) → past ≡ last ∷ before → IsTurnsIf before)
+          → (o : Option ℕ) → (now b asks past).due ≡ o → IsItsTurns (e ∷ past)
       by steps none was None free =
           more past steps.1 free (was.0 steps.1 free) (turn_of e)
           (inl (record { entry = e; entries = refl; own = refl; may = steps.0; alone = alone_due past steps.1 free e steps.0 }))
@@ -155,5 +155,5 @@ module _ (b : BoardView) (tree : IsTree b) (plain : IsPlainBoard b) (lines : Lin
           ∙ append_assoc (reverse made.before) (made.last ∷ []) (e ∷ []))
           (ap (λ (p : List Entry). e ∷ p) (sym made.past_is))
 
-  pub whole-comes : (past : List Entry) → IsStepwise b callers asks past → (now b asks past).due ≡ None → IsWhole past
+  pub whole-comes : (past : List Entry) → IsStepwise b callers asks past → (now b asks past).due ≡ None → IsItsTurns past
   whole-comes past = (both past).0

@@ -1,5 +1,5 @@
 -- The tree law: the whole walk of a transfer runs. The inductions go over the locks, and over the hops.
-use Rattle.std.proofs.Common.{◌≡◌, ℕ, suc, ◌+◌, ◌<◌, ◌≤◌, Bool, true, false, cond, not, ◌&&◌, List, [], ◌∷◌, length, Option, Some, None, ltb, refl, sym, ◌∙◌, ap, subst, ◌⊎◌, inl, inr, arith, add-one}
+use Rattle.std.proofs.Common.{◌≡◌, ℕ, suc, ◌<◌, ◌≤◌, Bool, true, false, cond, not, ◌&&◌, List, [], ◌∷◌, length, Option, Some, None, ltb, refl, sym, ◌∙◌, ap, subst, ◌⊎◌, inl, inr, arith}
 use Rattle.std.specs.List.{list_any}
 use Rattle.std.proofs.lemmas.Bool.{ltb-true}
 use Rattle.std.proofs.lemmas.Bool.Decides.{eqb_tells}
@@ -19,31 +19,13 @@ use Rattle.bus_spec.specs.Walk.{Mark, Job, Call, Select, Clear, JobOutcome, Note
 use Rattle.bus_spec.specs.Slots.{Slots, At, with_slot}
 use Rattle.bus_spec.specs.Grammar.{Doer, plain, locked, part, inner, behind, at_bus, walk_by, walk_for}
 use Rattle.bus_spec.specs.Readings.{rank}
-use Rattle.bus_spec.specs.Stepwise.{IsBelow}
 use Rattle.bus_laws.specs.Runs.{InLocks, IsRest, RestOf, LeavesShut, taken_slots, Owns, MayFail, Runs}
 use Rattle.bus_laws.specs.Lines.{LinesAreLocked}
 use Rattle.bus_laws.proofs.tree.Slots.{with_slot-same, with_slot-other}
 use Rattle.bus_laws.proofs.tree.Doers.{Before, After, DoerRuns}
 use Rattle.bus_laws.proofs.tree.Path.{job_after-along, finds_along, fail_along, own_crosses, locks_cross, bus_runs, line_runs, ground, sub_locks}
+use Rattle.bus_laws.proofs.tree.Falls.{Falls, floor_after, gathered, is_below_all, in_gathered, of_gathered, path_falls, path_floor}
 use Rattle.bus_laws.proofs.tree.Behind.{behind-runs}
-
--- locks in falling rank, all below a floor; the floor that they leave
-abbrev Falls : BoardView → ℕ → List LockId → Type 0
-Falls b floor [] = Unit {0}
-Falls b floor (l ∷ ls) = (rank b l < floor) × Falls b (rank b l) ls
-
-abbrev floor_after : BoardView → ℕ → List LockId → ℕ
-floor_after b floor [] = floor
-floor_after b floor (l ∷ ls) = floor_after b (rank b l) ls
-
--- the locks that are held when all are taken, the last one first
-abbrev gathered : List LockId → List LockId → List LockId
-gathered [] got = got
-gathered (l ∷ ls) got = gathered ls (l ∷ got)
-
-is_below_all : (b : BoardView) (l : LockId) (held : List LockId) → ((k : LockId) → InLocks k held → rank b l < rank b k) → IsBelow b l held
-is_below_all b l [] all = tt
-is_below_all b l (k ∷ ks) all = (all k (inl refl), is_below_all b l ks (λ j i. all j (inr i)))
 
 -- taking a lock of the path changes what is known on the path alone
 taken-off : (hs : List Hop) (l : LockId) (s : At) (v : Slots) → ((p : ℕ) → l ≡ lock.Mux p → Crosses p hs) → (p : ℕ) → (Crosses p hs → ⊥) → taken_slots l s v p ≡ v p
@@ -156,48 +138,8 @@ module _ (b : BoardView) (whose : TransferView) (root : ℕ) (hs : List Hop) whe
       })
       (λ o w after. goes_on o w (record { off = after.off; rest = λ p i. after.rest p (back (lock.Mux p) i); can = after.can }))
 
-in_gathered : (ls got : List LockId) (l : LockId) → InLocks l ls ⊎ InLocks l got → InLocks l (gathered ls got)
-in_gathered [] got l i = elim i [ inl none ↦ absurd none | inr j ↦ j ]
-in_gathered (k ∷ ks) got l i =
-    elim i [
-      | inl front ↦ elim front [ inl e ↦ in_gathered ks (k ∷ got) l (inr (inl e)) | inr more ↦ in_gathered ks (k ∷ got) l (inl more) ]
-      | inr j ↦ in_gathered ks (k ∷ got) l (inr (inr j))
-    ]
-
-of_gathered : (ls got : List LockId) (l : LockId) → InLocks l (gathered ls got) → InLocks l ls ⊎ InLocks l got
-of_gathered [] got l i = inr i
-of_gathered (k ∷ ks) got l i =
-    elim (of_gathered ks (k ∷ got) l i) [ inl more ↦ inl (inr more) | inr j ↦ elim j [ inl e ↦ inl (inl e) | inr old ↦ inr old ] ]
-
 only_front : (ls : List LockId) (l : LockId) → InLocks l ls ⊎ InLocks l [] → InLocks l ls
 only_front ls l i = elim i [ inl j ↦ j | inr none ↦ absurd none ]
-
--- the locks of a path fall in rank, from below the path's length to its ground
-falls_if : (b : BoardView) (t : Bool) (floor : ℕ) (ls : List LockId) → Falls b floor ls → Falls b floor (cond t ls [])
-falls_if b true floor ls f = f
-falls_if b false floor ls f = tt
-
-mux_rank : (b : BoardView) → IsTree b → (s : ℕ) (h : Hop) (hs : List Hop) → hops b s ≡ h ∷ hs → rank b (lock.Mux h.on) ≡ length hs + 1
-mux_rank b tree s h hs at = ap (λ (xs : List Hop). length xs + 1) (tree.tail s h hs at)
-
-path_falls : (b : BoardView) → IsTree b → (root : ℕ) (hs : List Hop) (s floor : ℕ) → hops b s ≡ hs → length hs < floor → Falls b floor (locks_of root hs)
-path_falls b tree root [] s floor at below = (below, tt)
-path_falls b tree root (h ∷ hs) s floor at below =
-    let e : rank b (lock.Mux h.on) ≡ length hs + 1 = mux_rank b tree s h hs at in (
-      omega (arith, e),
-      falls_if b h.parent (rank b (lock.Mux h.on)) (locks_of root hs)
-          (path_falls b tree root hs h.on (rank b (lock.Mux h.on)) (tree.tail s h hs at) (omega (arith, e))),
-    )
-
-floor_if : (b : BoardView) (t : Bool) (floor : ℕ) (ls : List LockId) (g : ℕ) → floor_after b floor ls ≡ g → floor_after b floor (cond t ls []) ≡ cond t g floor
-floor_if b true floor ls g e = e
-floor_if b false floor ls g e = refl
-
-path_floor : (b : BoardView) → IsTree b → (root : ℕ) (hs : List Hop) (s floor : ℕ) → hops b s ≡ hs → floor_after b floor (locks_of root hs) ≡ ground hs
-path_floor b tree root [] s floor at = refl
-path_floor b tree root (h ∷ hs) s floor at =
-    floor_if b h.parent (rank b (lock.Mux h.on)) (locks_of root hs) (ground hs) (path_floor b tree root hs h.on (rank b (lock.Mux h.on)) (tree.tail s h hs at))
-    ∙ ap (λ (n : ℕ). cond h.parent (ground hs) n) (mux_rank b tree s h hs at ∙ add-one (length hs))
 
 -- a job between the locks of its path runs where the job itself does
 locked_runs : (b : BoardView) (whose : TransferView) → IsTree b → (root : ℕ) (hs : List Hop) (s : ℕ) (on : Doer) → hops b s ≡ hs

@@ -1,6 +1,7 @@
 -- The locks of a whole walk. The inductions go over the messages of a job, over the locks of a path, and over its hops.
-use Rattle.std.proofs.Common.{◌≡◌, ℕ, zero, suc, ◌+◌, ◌<◌, ◌≤◌, Bool, true, false, cond, ◌&&◌, List, [], ◌∷◌, length, Option, Some, None, refl, sym, ◌∙◌, ap, subst, ◌⊎◌, inl, inr, arith, add-one}
+use Rattle.std.proofs.Common.{◌≡◌, ℕ, zero, suc, ◌<◌, ◌≤◌, Bool, true, false, cond, ◌&&◌, List, [], ◌∷◌, length, Option, Some, None, refl, sym, ◌∙◌, ap, subst, inl, inr, arith}
 use Rattle.std.specs.Prelude.{unwrap_or}
+use Rattle.std.specs.List.{AllByRecursion}
 use Rattle.std.specs.Option.{option_map}
 use Rattle.std.proofs.lemmas.Bool.{ltb-true}
 use Rattle.i2c_base.specs.declared.board.MuxSpec.{MuxSpec}
@@ -17,16 +18,16 @@ use Rattle.i2c_spec.specs.Flat.{refusal}
 use Rattle.bus_spec.specs.Walk.{Mark, Job, Call, Select, Clear, Free, Send, Shift, ActOutcome, JobOutcome, Good, Refused, Unsent, Failed, Note, WalkTree, Ends, Then, Go, On, Last, Over, goes, job_bus, job_outcome, verdict_of, decides, is_line, is_gpio, more_of}
 use Rattle.bus_spec.specs.Grammar.{Doer, plain, settled, over, by_go, messages, at_bus, locked, part, with_mark, aside, if_sent, if_good, kind_of, closing, opened, chosen, behind, inner, walk_by, walk_for}
 use Rattle.bus_spec.specs.Readings.{rank}
-use Rattle.bus_spec.specs.Stepwise.{IsBelow}
 use Rattle.bus_laws.specs.Runs.{InLocks}
 use Rattle.bus_laws.specs.Lines.{LinesAreLocked}
 use Rattle.bus_laws.proofs.world.BoardFacts.{mux_at}
 use Rattle.bus_laws.proofs.tree.Law.{refusal-none}
 use Rattle.bus_laws.proofs.tree.Path.{ground, sub_locks, bus_among}
+use Rattle.bus_laws.proofs.tree.Falls.{Falls, floor_after, gathered, is_below_all, in_gathered, path_falls, path_floor}
 use Rattle.bus_laws.specs.Holds.{IsLockOf, IsMarkOn, OwnHeld, MarksHeld, SendsIn, HoldsLocks}
 
 -- what a job at the end of some hops needs: `ls` are the locks of these hops that are held, `floor` the least rank held
-record Before (b : BoardView) (root : ℕ) (hs : List Hop) (ls : List LockId) (floor : ℕ) (job : Job) (marks : List Mark) (held : List LockId) : Type 0 where
+record Needs (b : BoardView) (root : ℕ) (hs : List Hop) (ls : List LockId) (floor : ℕ) (job : Job) (marks : List Mark) (held : List LockId) : Type 0 where
   locks : (l : LockId) → InLocks l ls → InLocks l held
   ranks : (l : LockId) → InLocks l held → floor ≤ rank b l
   own : OwnHeld job held
@@ -36,7 +37,7 @@ record Before (b : BoardView) (root : ℕ) (hs : List Hop) (ls : List LockId) (f
 
 abbrev DoerHolds : BoardView → ℕ → List Hop → List LockId → ℕ → Doer → Type 0
 DoerHolds b root hs ls floor on =
-    (job : Job) (note : Note) (k : JobOutcome → WalkTree) (held : List LockId) → Before b root hs ls floor job note.marks held
+    (job : Job) (note : Note) (k : JobOutcome → WalkTree) (held : List LockId) → Needs b root hs ls floor job note.marks held
     → ((o : JobOutcome) → HoldsLocks b held (k o)) → HoldsLocks b held (on job note k)
 
 module _ (b : BoardView) (held : List LockId) where
@@ -80,28 +81,7 @@ module _ (b : BoardView) (held : List LockId) where
   good_holds Unsent w k hw hk = hk Unsent
   good_holds Failed w k hw hk = hk Failed
 
--- LOCKS: in falling rank, all below a floor; the floor that they leave
-abbrev Falls : BoardView → ℕ → List LockId → Type 0
-Falls b floor [] = Unit {0}
-Falls b floor (l ∷ ls) = IsLockOf b l × (rank b l < floor) × Falls b (rank b l) ls
-
-abbrev floor_after : BoardView → ℕ → List LockId → ℕ
-floor_after b floor [] = floor
-floor_after b floor (l ∷ ls) = floor_after b (rank b l) ls
-
-abbrev gathered : List LockId → List LockId → List LockId
-gathered [] got = got
-gathered (l ∷ ls) got = gathered ls (l ∷ got)
-
-in_gathered : (ls got : List LockId) (l : LockId) → InLocks l (gathered ls got) → InLocks l ls ⊎ InLocks l got
-in_gathered [] got l i = inr i
-in_gathered (k ∷ ks) got l i =
-    elim (in_gathered ks (k ∷ got) l i) [ inl more ↦ inl (inr more) | inr j ↦ elim j [ inl e ↦ inl (inl e) | inr old ↦ inr old ] ]
-
-below_all : (b : BoardView) (l : LockId) (held : List LockId) → ((k : LockId) → InLocks k held → rank b l < rank b k) → IsBelow b l held
-below_all b l [] all = tt
-below_all b l (k ∷ ks) all = (all k (inl refl), below_all b l ks (λ j i. all j (inr i)))
-
+-- LOCKS
 own_more : (l : LockId) (job : Job) (held : List LockId) → OwnHeld job held → OwnHeld job (l ∷ held)
 own_more l (Call bus ms) held o = tt
 own_more l (Select h) held o = inr o
@@ -113,18 +93,18 @@ marks_more b l held (m ∷ ms) h = ((inr h.0.0, h.0.1), marks_more b l held ms h
 
 module _ (b : BoardView) (root : ℕ) (hs : List Hop) where
   -- the induction over the locks
-  take_holds : (ls got : List LockId) (floor : ℕ) (on : Doer) → Falls b floor ls → DoerHolds b root hs (gathered ls got) (floor_after b floor ls) on → DoerHolds b root hs got floor (locked ls on)
-  take_holds [] got floor on falls sub = sub
-  take_holds (l ∷ ls) got floor on falls sub =
+  take_holds : (ls got : List LockId) (floor : ℕ) (on : Doer) → Falls b floor ls → AllByRecursion (IsLockOf b) ls → DoerHolds b root hs (gathered ls got) (floor_after b floor ls) on → DoerHolds b root hs got floor (locked ls on)
+  take_holds [] got floor on falls there sub = sub
+  take_holds (l ∷ ls) got floor on falls there sub =
       λ job note k held before hk. (
-        falls.0,
-        below_all b l held (λ j i. let floor_j : floor ≤ rank b j = before.ranks j i in omega (arith, falls.1, floor_j)),
-        take_holds ls (l ∷ got) (rank b l) on falls.2 sub job note (λ out. Then (Free l) plain (λ o. k out)) (l ∷ held)
+        there.0,
+        is_below_all b l held (λ j i. let floor_j : floor ≤ rank b j = before.ranks j i in omega (arith, falls.0, floor_j)),
+        take_holds ls (l ∷ got) (rank b l) on falls.1 there.1 sub job note (λ out. Then (Free l) plain (λ o. k out)) (l ∷ held)
             (record {
               locks = λ j i. elim i [ inl e ↦ inl e | inr more ↦ inr (before.locks j more) ];
               ranks = λ j i. elim i [
                 | inl e ↦ subst (λ (x : LockId). rank b l ≤ rank b x) (sym e) (omega arith)
-                | inr more ↦ (let floor_j : floor ≤ rank b j = before.ranks j more in omega (arith, falls.1, floor_j))
+                | inr more ↦ (let floor_j : floor ≤ rank b j = before.ranks j more in omega (arith, falls.0, floor_j))
               ];
               own = own_more l job held before.own;
               marked = marks_more b l held note.marks before.marked;
@@ -147,49 +127,24 @@ module _ (b : BoardView) (root : ℕ) (hs : List Hop) where
         line_rooted = before.line_rooted;
       }) hk
 
-falls_if : (b : BoardView) (t : Bool) (floor : ℕ) (ls : List LockId) → Falls b floor ls → Falls b floor (cond t ls [])
-falls_if b true floor ls f = f
-falls_if b false floor ls f = tt
-
-floor_if : (b : BoardView) (t : Bool) (floor : ℕ) (ls : List LockId) (g : ℕ) → floor_after b floor ls ≡ g → floor_after b floor (cond t ls []) ≡ cond t g floor
-floor_if b true floor ls g e = e
-floor_if b false floor ls g e = refl
-
 module _ (b : BoardView) (tree : IsTree b) (root : ℕ) where
-  mux_rank : (s : ℕ) (h : Hop) (hs : List Hop) → hops b s ≡ h ∷ hs → rank b (lock.Mux h.on) ≡ length hs + 1
-  mux_rank s h hs at = ap (λ (xs : List Hop). length xs + 1) (tree.tail s h hs at)
-
-  path_falls : (hs : List Hop) (s floor : ℕ) → hops b s ≡ hs → s < buses b → root < length b.roots → length hs < floor → Falls b floor (locks_of root hs)
-  path_falls [] s floor at there rooted below = (rooted, below, tt)
-  path_falls (h ∷ hs) s floor at there rooted below =
-      let e : rank b (lock.Mux h.on) ≡ length hs + 1 = mux_rank s h hs at in
-      let low : h.on < s = (tree.leads s h hs at).1 in (
-        omega (arith, low, there),
-        omega (arith, e, below),
-        falls_if b h.parent (rank b (lock.Mux h.on)) (locks_of root hs)
-            (path_falls hs h.on (rank b (lock.Mux h.on)) (tree.tail s h hs at) (omega (arith, low, there)) rooted (omega (arith, e))),
-      )
-
-  path_floor : (hs : List Hop) (s floor : ℕ) → hops b s ≡ hs → floor_after b floor (locks_of root hs) ≡ ground hs
-  path_floor [] s floor at = refl
-  path_floor (h ∷ hs) s floor at =
-      floor_if b h.parent (rank b (lock.Mux h.on)) (locks_of root hs) (ground hs) (path_floor hs h.on (rank b (lock.Mux h.on)) (tree.tail s h hs at))
-      ∙ ap (λ (n : ℕ). cond h.parent (ground hs) n) (mux_rank s h hs at ∙ add-one (length hs))
+  -- the locks of a path are the board's
+  path_there : (hs : List Hop) (s : ℕ) → hops b s ≡ hs → s < buses b → root < length b.roots → AllByRecursion (IsLockOf b) (locks_of root hs)
+  path_there [] s at there rooted = (rooted, tt)
+  path_there (h ∷ hs) s at there rooted =
+      let low : h.on < s = (tree.leads s h hs at).1 in
+      (omega (arith, low, there), by h.parent (path_there hs h.on (tree.tail s h hs at) (omega (arith, low, there)) rooted))
+    where
+      by : (t : Bool) → AllByRecursion (IsLockOf b) (locks_of root hs) → AllByRecursion (IsLockOf b) (cond t (locks_of root hs) [])
+      by true all = all
+      by false all = tt
 
   locked_holds : (hs : List Hop) (s : ℕ) (on : Doer) → hops b s ≡ hs → s < buses b → root < length b.roots → DoerHolds b root hs (locks_of root hs) (ground hs) on
       → DoerHolds b root hs [] (suc (length hs)) (locked (locks_of root hs) on)
   locked_holds hs s on at there rooted sub =
-      take_holds b root hs (locks_of root hs) [] (suc (length hs)) on (path_falls hs s (suc (length hs)) at there rooted (omega arith))
-      (subst (λ (f : ℕ). DoerHolds b root hs (gathered (locks_of root hs) []) f on) (sym (path_floor hs s (suc (length hs)) at))
-      (fewer_locks b root hs (locks_of root hs) (gathered (locks_of root hs) []) (ground hs) on (λ l i. gathers (locks_of root hs) [] l (inl i)) sub))
-    where
-      gathers : (ls got : List LockId) (l : LockId) → InLocks l ls ⊎ InLocks l got → InLocks l (gathered ls got)
-      gathers [] got l i = elim i [ inl none ↦ absurd none | inr j ↦ j ]
-      gathers (k ∷ ks) got l i =
-          elim i [
-            | inl front ↦ elim front [ inl e ↦ gathers ks (k ∷ got) l (inr (inl e)) | inr more ↦ gathers ks (k ∷ got) l (inl more) ]
-            | inr j ↦ gathers ks (k ∷ got) l (inr (inr j))
-          ]
+      take_holds b root hs (locks_of root hs) [] (suc (length hs)) on (path_falls b tree root hs s (suc (length hs)) at (omega arith)) (path_there hs s at there rooted)
+      (subst (λ (f : ℕ). DoerHolds b root hs (gathered (locks_of root hs) []) f on) (sym (path_floor b tree root hs s (suc (length hs)) at))
+      (fewer_locks b root hs (locks_of root hs) (gathered (locks_of root hs) []) (ground hs) on (λ l i. in_gathered (locks_of root hs) [] l (inl i)) sub))
 
   part_holds : (hs : List Hop) (s : ℕ) (on : Doer) → hops b s ≡ hs → s < buses b → root < length b.roots → DoerHolds b root hs (locks_of root hs) (ground hs) on
       → (t : Bool) → DoerHolds b root hs (cond t (locks_of root hs) []) (cond t (ground hs) (suc (length hs))) (part t (locks_of root hs) on)
@@ -228,7 +183,7 @@ module _ (b : BoardView) (tree : IsTree b) (root : ℕ) where
         mine = locks (lock.Mux h.on) (inl refl)
 
         switch : (job : Job) (marks : List Mark) → OwnHeld job held → job_bus job ≡ h.on → MarksHeld b marks held → (is_line job ≡ true → InLocks (lock.Bus root) (locks_of root hs))
-            → Before b root hs (sub_locks root h hs) floor job marks held
+            → Needs b root hs (sub_locks root h hs) floor job marks held
         switch job marks own bus marked line =
             record {
               locks = λ l i. locks l (inr i);
@@ -241,7 +196,7 @@ module _ (b : BoardView) (tree : IsTree b) (root : ℕ) where
 
         module _ (job : Job) (note : Note) (k : JobOutcome → WalkTree) (no_line : is_line job ≡ false) (own : OwnHeld job held) (marked : MarksHeld b note.marks held)
             (job_root : root_of b (job_bus job) ≡ root) (hk : (o : JobOutcome) → HoldsLocks b held (k o)) where
-          job_before : Before b root hs (sub_locks root h hs) floor job note.marks held
+          job_before : Needs b root hs (sub_locks root h hs) floor job note.marks held
           job_before =
               record {
                 locks = λ l i. locks l (inr i);
@@ -290,7 +245,7 @@ module _ (b : BoardView) (tree : IsTree b) (root : ℕ) where
         low : h.on < buses b
         low = (let less : h.on < s = (tree.leads s h hs at).1 in omega (arith, less, there))
 
-        by : (job : Job) (note : Note) (k : JobOutcome → WalkTree) (held : List LockId) → Before b root (h ∷ hs) (locks_of root (h ∷ hs)) (ground (h ∷ hs)) job note.marks held
+        by : (job : Job) (note : Note) (k : JobOutcome → WalkTree) (held : List LockId) → Needs b root (h ∷ hs) (locks_of root (h ∷ hs)) (ground (h ∷ hs)) job note.marks held
             → ((o : JobOutcome) → HoldsLocks b held (k o)) → (t : Bool) → is_line job ≡ t
             → DoerHolds b root hs (sub_locks root h hs) (ground (h ∷ hs)) (part h.parent (locks_of root hs) (inner b root hs))
             → HoldsLocks b held (cond t (at_bus job note k) (behind b h (part h.parent (locks_of root hs) (inner b root hs)) job note k))

@@ -61,12 +61,12 @@ reads_more limit low [] xs fits m bytes gave =
 reads_more limit low (k ∷ ks) xs fits m bytes gave = more_by (is_read k) (is_counted k) (is_read m) k ks xs m bytes refl (λ ys f. reads_more limit low ks ys f m bytes gave) fits
 
 -- a message is what its transfer says
-record IsOf (v : MessageView) (m : Msg) : Type 0 where
+record SaysOf (v : MessageView) (m : Msg) : Type 0 where
   reads : v.reading ≡ is_read m
   counts : v.counted ≡ is_counted m
   asks : v.len ≡ m.len
 
-nth_from : (ms : List Msg) (out : List ℕ) (i : ℕ) (d : Msg) → i < length ms → IsOf (nth_message (messages_from ms out) i) (get_or ms i d)
+nth_from : (ms : List Msg) (out : List ℕ) (i : ℕ) (d : Msg) → i < length ms → SaysOf (nth_message (messages_from ms out) i) (get_or ms i d)
 nth_from [] out i d low = absurd (omega (arith, low))
 nth_from (m ∷ ms) out zero d low = record { reads = refl; counts = refl; asks = refl }
 nth_from (m ∷ ms) out (suc i) d low = nth_from ms (drop (written_of m) out) i d (omega (arith, low))
@@ -83,7 +83,7 @@ message-reads limit low t i there got bytes fits gave =
     let d : Msg = some_msg t.msgs (omega (arith, there)) in
     let m : Msg = get_or t.msgs i d in
     let v : MessageView = nth_message (messages_of t) i in
-    let is : IsOf v m = nth_from t.msgs t.out i d there in
+    let is : SaysOf v m = nth_from t.msgs t.out i d there in
     subst (λ (ms : List Msg). FitsReads ms (read_more got v.reading bytes)) (sym (take_more t.msgs i d there))
     (subst (λ (r : Bool). FitsReads (take i t.msgs ++ m ∷ []) (read_more got r bytes)) (sym is.reads)
     (reads_more limit low (take i t.msgs) got fits m bytes

@@ -19,7 +19,7 @@ Went c = c ≡ call.Fault → ⊥
 
 module _ {W : Type 0} where
   -- the call at this place failed: behind the calls before the message come so many of its own, and the next one failed
-  pub record IsBroken (cut : Option ℕ) (before more : List PortCall) (t : TalkTold W) : Type 0 where
+  pub record BreaksOff (cut : Option ℕ) (before more : List PortCall) (t : TalkTold W) : Type 0 where
     pub place : ℕ
     pub cut_is : cut ≡ Some place
     pub ended_so : t.end ≡ end.Cut place
@@ -37,7 +37,7 @@ module _ {W : Type 0} where
     pub grown : whole.calls ≡ more ++ before
     pub went : AllByRecursion Went more
     pub own_end : IsOwnEnd whole.end
-    pub either : (t ≡ whole) ⊎ IsBroken cut before more t
+    pub either : (t ≡ whole) ⊎ BreaksOff cut before more t
 
 all_more : (xs : List PortCall) (c : PortCall) → AllByRecursion Went xs → Went c → AllByRecursion Went (xs ++ c ∷ [])
 all_more [] c all went = (went, tt)
@@ -72,7 +72,7 @@ module _ {W : Type 0} (l : Listener W) (cut : Option ℕ) where
     where
       by : (x : Bool) → is_at cut (length t.calls) ≡ x
           → (cond x (told (say l t call.Fault) (end.Cut (length t.calls))) (next (say l t c)) ≡ whole (say l t c))
-          ⊎ IsBroken cut t.calls (sub.more ++ c ∷ []) (cond x (told (say l t call.Fault) (end.Cut (length t.calls))) (next (say l t c)))
+          ⊎ BreaksOff cut t.calls (sub.more ++ c ∷ []) (cond x (told (say l t call.Fault) (end.Cut (length t.calls))) (next (say l t c)))
       by true e =
           inr (record {
             place = length t.calls;
