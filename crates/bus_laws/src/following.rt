@@ -17,9 +17,9 @@ use i2c_spec::an_accepted_board_is_a_tree;
 
 /// A journal and one step more: its steps are those before, and that one.
 ///
-/// A settle that is due joins the message before it, so the steps before would be others. On a board that isn't accepted,
-/// or in entries that might not come, a walk could end behind a message, and the lone settle of the next one would join
-/// it. A transfer without a message would send one that nobody asked for.
+/// A settle that is due joins the message before it, so the steps before would be others; so would a lone settle behind a
+/// message of its caller, which may stand in entries that might not come. The rules of the board, and a message in each
+/// transfer, are what the tree law is shown of.
 pub fn one_step_more()
     ensures { (b : BoardView) (callers : ℕ) (asks : Asks) (past : List Entry) → IsPlainBoard b → MeetsRules b → AsksForMessages asks → IsStepwise b callers asks past → (now b asks past).due ≡ None
         → (t : Turn) → IsTurn b callers asks past t → turns (reverse past ++ t.entries) ≡ turns (reverse past) ++ t ∷ [] }
@@ -31,8 +31,8 @@ pub fn one_step_more()
 /// the least caller that isn't stuck makes each step.
 ///
 /// A word that passes over a caller that isn't stuck, or a step of one that isn't the least, is none of the schedule's.
-/// Where a settle is due, on a board that isn't accepted, for a transfer without a message, or in entries that might not
-/// come, a step more could change the steps before.
+/// Where a settle is due, or in entries that might not come, a step more could change the steps before. The rules of the
+/// board, and a message in each transfer, are what the tree law is shown of.
 pub fn a_loop_follows()
     ensures made { (b : BoardView) (callers : ℕ) (asks : Asks) (words : List ℕ) (past : List Entry) → IsPlainBoard b → MeetsRules b → AsksForMessages asks → IsStepwise b callers asks past
         → (now b asks past).due ≡ None → (t : Turn) → IsTurn b callers asks past t → (left : List ℕ) → KeepsTo b callers asks words (t.caller ∷ left) past → KeepsTo b callers asks words left (past_after past t) }

@@ -24,8 +24,8 @@ pub fn each_journal_keeps_its_locks()
 /// A mux is open only while the caller that has the lock of its bus has selected it, or while it is the mark of that
 /// lock. It may stay closed in either case.
 ///
-/// On a board that isn't accepted one select could open channels of two muxes. A transfer without a message would send
-/// one that nobody asked for. Entries that might not come may free a lock behind a select.
+/// On a board that isn't accepted one select could open channels of two muxes. Entries that might not come may free a lock
+/// behind a select. A message in each transfer is what the tree law is shown of.
 pub fn an_open_mux_is_selected_or_marked()
     ensures { (b : BoardView) (callers : ℕ) (asks : Asks) (past : List Entry) → IsPlainBoard b → MeetsRules b → AsksForMessages asks → IsStepwise b callers asks past → KeepsClosed b asks past }
 {
@@ -34,8 +34,8 @@ pub fn an_open_mux_is_selected_or_marked()
 
 /// Each mark is a mux that stands on that bus, and that is a bus of the board.
 ///
-/// On a board that isn't accepted a mux may stand on a bus that the board lacks. A transfer without a message would send
-/// one that nobody asked for. Entries that might not come may mark a mux that no path has.
+/// On a board that isn't accepted a mux may stand on a bus that the board lacks. A message in each transfer, and entries
+/// that may come, are what the tree law is shown of.
 pub fn each_mark_is_on_a_bus_of_the_board()
     ensures home { (b : BoardView) (callers : ℕ) (asks : Asks) (past : List Entry) → IsPlainBoard b → MeetsRules b → AsksForMessages asks → IsStepwise b callers asks past
         → (p m : ℕ) → mark b asks past p ≡ Some m → home_of_mux b m ≡ p }
@@ -49,8 +49,8 @@ pub fn each_mark_is_on_a_bus_of_the_board()
 /// heard the message is exactly who hears its start in that world, but where the start itself failed (UM10204
 /// section 3.1.10). Its caller has the root's lock, and the lock of each other bus on the path (Linux i2c-topology).
 ///
-/// On a board that isn't accepted a device could hear the select in place of its mux. A transfer without a message would
-/// send one that nobody asked for. Entries that might not come may take no lock and select nothing.
+/// On a board that isn't accepted a mux could hear the select of another one below it, and change its own channel. Entries
+/// that might not come may take no lock and select nothing. A message in each transfer is what the tree law is shown of.
 pub fn each_message_finds_its_path_open()
     ensures { (b : BoardView) (callers : ℕ) (asks : Asks) (past : List Entry) → IsPlainBoard b → MeetsRules b → AsksForMessages asks → IsStepwise b callers asks past → KeepsPathsOpen b asks past }
 {

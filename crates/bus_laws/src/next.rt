@@ -54,8 +54,8 @@ pub fn the_next_lock_has_a_lower_rank()
 
 /// A line step that comes next is of a gpio mux behind its root, to one of the levels of that mux.
 ///
-/// On a board that isn't accepted, or behind entries that might not come, a walk could close a mux of another bus. A
-/// transfer without a message would send one that nobody asked for.
+/// A walk that comes to no line step says nothing of one. The rules of the board, a message in each transfer, and entries
+/// that may come, are what the tree law is shown of.
 pub fn the_next_line_is_of_a_gpio_mux()
     ensures { (b : BoardView) (callers : ℕ) (asks : Asks) (past : List Entry) → IsPlainBoard b → MeetsRules b → AsksForMessages asks → IsStepwise b callers asks past
         → (c : ℕ) (job : Job) → IsNext b asks (now b asks past) c (Shift job) → HasLineIn b (root_of b (job_bus job)) (line_mux job) (line_level job) }

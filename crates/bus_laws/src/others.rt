@@ -27,8 +27,8 @@ pub fn an_entry_leaves_the_other_callers()
 
 /// What a caller does next stays while others step, with the looks in front of it answered.
 ///
-/// The caller itself goes on. On a board that isn't accepted two callers could change what is known of one bus, and so
-/// could entries that might not come. A transfer without a message would send one that nobody asked for.
+/// The caller itself goes on. An entry that might not come could be a message of one that hasn't the lock of its bus. The
+/// rules of the board, and a message in each transfer, are what the tree law is shown of.
 pub fn the_next_step_stays()
     ensures { (b : BoardView) (callers : ℕ) (asks : Asks) (past : List Entry) (e : Entry) → IsPlainBoard b → MeetsRules b → AsksForMessages asks → IsStepwise b callers asks (e ∷ past)
         → (c : ℕ) → (c ≡ caller_of e → ⊥) → current b asks (now b asks (e ∷ past)) c ≡ current b asks (now b asks past) c }

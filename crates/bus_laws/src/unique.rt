@@ -19,8 +19,8 @@ use i2c_spec::an_accepted_board_is_a_tree;
 /// schedule; so what is printed is a function of these.
 ///
 /// Where other calls fail a message may end otherwise, and under another schedule others step. A journal that isn't
-/// complete may be a front of another. On a board that isn't accepted, or in entries that might not come, another's step may
-/// change what a caller does next. A transfer without a message would send one that nobody asked for.
+/// complete may be a front of another. Entries that might not come may be any. The rules of the board, and a message in each
+/// transfer, are what the tree law is shown of.
 pub fn a_schedule_has_one_journal()
     ensures same { (b : BoardView) (callers : ℕ) (asks : Asks) (words : List ℕ) (past other : List Entry) → IsPlainBoard b → MeetsRules b → AsksForMessages asks
         → IsStepwise b callers asks past → IsStepwise b callers asks other → IsComplete b callers asks past → IsComplete b callers asks other
@@ -37,8 +37,8 @@ pub fn a_schedule_has_one_journal()
 /// journal is complete, and what is printed is a function of these.
 ///
 /// Two callers may take turns in more than one way. Where other calls fail a message may end otherwise, and a journal that
-/// isn't complete may be a front of another. On a board that isn't accepted, or in entries that might not come, more than one
-/// walk may leave the same. A transfer without a message would send one that nobody asked for.
+/// isn't complete may be a front of another. Entries that might not come may be any. The rules of the board, and a message
+/// in each transfer, are what the tree law is shown of.
 pub fn a_caller_alone_has_one_journal()
     ensures follows { (b : BoardView) (asks : Asks) (words : List ℕ) (past : List Entry) → IsPlainBoard b → MeetsRules b → AsksForMessages asks
         → IsStepwise b 1 asks past → IsComplete b 1 asks past → Follows words (reverse past) }

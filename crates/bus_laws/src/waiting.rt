@@ -32,9 +32,8 @@ pub fn not_all_wait()
 /// A caller that waits for a lock, or has finished, isn't ready, whatever comes later; so a word of a schedule that names
 /// it is passed over.
 ///
-/// A caller that isn't stuck may make the next step. On a board that isn't accepted the others' steps could change what it
-/// does next, and so could entries that might not come, before or behind. A transfer without a message would send one that
-/// nobody asked for.
+/// A caller that isn't stuck may make the next step. Entries that might not come, before or behind, could be of the caller
+/// itself. The rules of the board, and a message in each transfer, are what the tree law is shown of.
 pub fn who_is_stuck_waits()
     ensures waits { (b : BoardView) (callers : ℕ) (asks : Asks) (past : List Entry) → IsPlainBoard b → MeetsRules b → AsksForMessages asks → IsStepwise b callers asks past
         → (c : ℕ) → IsStuck b asks past c → (later : List Turn) → Comes b callers asks past later → is_ready past later c ≡ false }
@@ -47,9 +46,8 @@ pub fn who_is_stuck_waits()
 /// At each place of a journal all callers have finished, or some caller has an entry that may come: the locks stop nobody
 /// for good. Where a settle is due it is that one.
 ///
-/// On a board that isn't accepted a gpio mux below a mux-locked one could have each of two callers wait for the other. A
-/// transfer without a message would send one that nobody asked for. Behind entries that might not come a lock may be held
-/// by a caller that has finished.
+/// Behind entries that might not come a lock may be held by a caller that has finished. The rules of the board, and a
+/// message in each transfer, are what the tree law is shown of.
 pub fn some_caller_can_go_on()
     ensures { (b : BoardView) (callers : ℕ) (asks : Asks) (past : List Entry) → IsPlainBoard b → MeetsRules b → AsksForMessages asks → IsStepwise b callers asks past → SomeCanGoOn b callers asks past }
 {
@@ -59,9 +57,9 @@ pub fn some_caller_can_go_on()
 /// Where no settle is due, each caller has an entry that may come, or waits for a lock that somebody has, or has finished;
 /// and who waits or has finished has no entry that may come.
 ///
-/// Where a settle is due only its caller has one. On a board that isn't accepted a lock could come next whose rank isn't
-/// lower. A transfer without a message would send one that nobody asked for. Behind entries that might not come a select
-/// may be heard by nobody.
+/// Where a settle is due only its caller has one. Behind entries that might not come a caller may have a lock of a lower
+/// rank than the free one that it takes next. The rules of the board, and a message in each transfer, are what the tree law
+/// is shown of.
 pub fn each_caller_goes_on_or_is_stuck()
     ensures either { (b : BoardView) (callers : ℕ) (asks : Asks) (past : List Entry) → IsPlainBoard b → MeetsRules b → AsksForMessages asks → IsStepwise b callers asks past
         → (now b asks past).due ≡ None → (c : ℕ) → c < callers → CanGoOn b callers asks past c ⊎ IsStuck b asks past c }
