@@ -9,7 +9,7 @@ use Rattle.i2c_spec.specs.Tree.{Hop, locks_of}
 use Rattle.bus_spec.specs.Walk.{Job, Select, Clear, Act, Take, Free, Send, Shift, Settle, ActOutcome, Passed, JobOutcome, Good, Refused, Unsent, Failed, Note, Ask, MarkOf, WalkTree, Ends, Look, Then, Go, On, Last, Over, goes, job_outcome, verdict_of, decides, is_line, more_of}
 use Rattle.bus_spec.specs.Grammar.{Doer, plain, settled, over, by_go, messages, at_bus, locked, part, with_mark, aside, if_sent, if_good, kind_of, closing, opened, chosen, behind, inner, full}
 use Rattle.bus_spec.specs.Paths.{PathStep, Saw, Did, IsPath, act_of, IsDoneBy}
-use Rattle.bus_spec.specs.WalkRule.{settle_where, IsEnd, next_by, next_message, NextOr, AreMessages, IsLineStep, AtBus, IsLocked, IsOpened, IfGood, IsChosen, IfSent, IsClosed, IsBehind, IsPart, IsInner, IsFull}
+use Rattle.bus_spec.specs.WalkRule.{settle_where, IsJobEnd, next_by, next_message, NextOr, AreMessages, IsLineStep, AtBus, IsLocked, IsOpened, IfGood, IsChosen, IfSent, IsClosed, IsBehindMux, IsPart, IsInner, IsFull}
 
 pub path_append : (xs ys : List PathStep) (u v w : WalkTree) → IsPath xs u v → IsPath ys v w → IsPath (xs ++ ys) u w
 path_append [] ys u v w p q = subst (λ (x : WalkTree). IsPath ys x w) (sym p) q
@@ -125,11 +125,11 @@ leads-settled true v o steps out kept k =
 leads-settled false v o steps out kept k =
     subst (λ (xs : List PathStep). IsPath xs (k o) (k out)) (sym (no_acts steps kept.0)) (ap k (sym kept.1))
 
-splits-over : (job : Job) (left : ℕ) (note : Note) (out : ActOutcome) → Splits (λ k. over job left note k out) (IsEnd job note.forward left out)
+splits-over : (job : Job) (left : ℕ) (note : Note) (out : ActOutcome) → Splits (λ k. over job left note k out) (IsJobEnd job note.forward left out)
 splits-over job left note out =
     splits-settled (note.forward && decides job (job_outcome job left out)) (verdict_of job left out) (job_outcome job left out)
 
-leads-over : (job : Job) (left : ℕ) (note : Note) (out : ActOutcome) → Leads (λ k. over job left note k out) (IsEnd job note.forward left out)
+leads-over : (job : Job) (left : ℕ) (note : Note) (out : ActOutcome) → Leads (λ k. over job left note k out) (IsJobEnd job note.forward left out)
 leads-over job left note out =
     leads-settled (note.forward && decides job (job_outcome job left out)) (verdict_of job left out) (job_outcome job left out)
 
@@ -154,7 +154,7 @@ leads-go Over left M E A B C a b c = c
 -- a job's next message, and the rule of what follows it
 abbrev MessageThen : Job → Bool → ℕ → List PathStep → JobOutcome → Type 0
 MessageThen job forward left =
-    StepThen (Send job left) (λ o steps out. NextOr (next_message job left o) (λ next. AreMessages job forward next steps out) (IsEnd job forward left o steps out))
+    StepThen (Send job left) (λ o steps out. NextOr (next_message job left o) (λ next. AreMessages job forward next steps out) (IsJobEnd job forward left o steps out))
 
 to_messages : (job : Job) (forward : Bool) (left : ℕ) (steps : List PathStep) (out : JobOutcome) → MessageThen job forward left steps out → AreMessages job forward left steps out
 to_messages job forward left [] out p = p
@@ -169,7 +169,7 @@ of_messages job forward left (Did a o ∷ steps) out p = p
 splits-last : (job : Job) (note : Note) → Splits (messages zero job note) (AreMessages job note.forward zero)
 splits-last job note = λ k steps path.
     same-rule (MessageThen job note.forward zero) (AreMessages job note.forward zero) (to_messages job note.forward zero) k steps
-    (splits-then (Send job zero) note (λ o k. over job zero note k o) (λ o. IsEnd job note.forward zero o) (λ o. splits-over job zero note o) k steps path)
+    (splits-then (Send job zero) note (λ o k. over job zero note k o) (λ o. IsJobEnd job note.forward zero o) (λ o. splits-over job zero note o) k steps path)
 
 splits-messages : (n : ℕ) (job : Job) (note : Note) → Splits (messages n job note) (AreMessages job note.forward n)
 splits-messages zero job note = splits-last job note
@@ -177,14 +177,14 @@ splits-messages (suc left) job note = λ k steps path.
     same-rule (MessageThen job note.forward (suc left)) (AreMessages job note.forward (suc left)) (to_messages job note.forward (suc left)) k steps
     (splits-then (Send job (suc left)) note
     (λ o k. by_go (goes job left o) (messages left job note k) (Then (Send job zero) note (over job zero note k)) (over job (suc left) note k o))
-    (λ o steps out. NextOr (next_message job (suc left) o) (λ next. AreMessages job note.forward next steps out) (IsEnd job note.forward (suc left) o steps out))
-    (λ o. splits-go (goes job left o) left (λ next. AreMessages job note.forward next) (IsEnd job note.forward (suc left) o)
+    (λ o steps out. NextOr (next_message job (suc left) o) (λ next. AreMessages job note.forward next steps out) (IsJobEnd job note.forward (suc left) o steps out))
+    (λ o. splits-go (goes job left o) left (λ next. AreMessages job note.forward next) (IsJobEnd job note.forward (suc left) o)
     (messages left job note) (messages zero job note) (λ k. over job (suc left) note k o)
     (splits-messages left job note) (splits-last job note) (splits-over job (suc left) note o)) k steps path)
 
 leads-last : (job : Job) (note : Note) → Leads (messages zero job note) (AreMessages job note.forward zero)
 leads-last job note = λ steps out kept k.
-    leads-then (Send job zero) note (λ o k. over job zero note k o) (λ o. IsEnd job note.forward zero o) (λ o. leads-over job zero note o) steps out
+    leads-then (Send job zero) note (λ o k. over job zero note k o) (λ o. IsJobEnd job note.forward zero o) (λ o. leads-over job zero note o) steps out
     (of_messages job note.forward zero steps out kept) k
 
 leads-messages : (n : ℕ) (job : Job) (note : Note) → Leads (messages n job note) (AreMessages job note.forward n)
@@ -192,8 +192,8 @@ leads-messages zero job note = leads-last job note
 leads-messages (suc left) job note = λ steps out kept k.
     leads-then (Send job (suc left)) note
     (λ o k. by_go (goes job left o) (messages left job note k) (Then (Send job zero) note (over job zero note k)) (over job (suc left) note k o))
-    (λ o steps out. NextOr (next_message job (suc left) o) (λ next. AreMessages job note.forward next steps out) (IsEnd job note.forward (suc left) o steps out))
-    (λ o. leads-go (goes job left o) left (λ next. AreMessages job note.forward next) (IsEnd job note.forward (suc left) o)
+    (λ o steps out. NextOr (next_message job (suc left) o) (λ next. AreMessages job note.forward next steps out) (IsJobEnd job note.forward (suc left) o steps out))
+    (λ o. leads-go (goes job left o) left (λ next. AreMessages job note.forward next) (IsJobEnd job note.forward (suc left) o)
     (messages left job note) (messages zero job note) (λ k. over job (suc left) note k o)
     (leads-messages left job note) (leads-last job note) (leads-over job (suc left) note o)) steps out
     (of_messages job note.forward (suc left) steps out kept) k
@@ -207,12 +207,12 @@ leads-if : (t : Bool) (A B : Task) (P Q : List PathStep → JobOutcome → Type 
 leads-if true A B P Q a b = a
 leads-if false A B P Q a b = b
 
-to_line : (job : Job) (forward : Bool) (steps : List PathStep) (out : JobOutcome) → StepThen (Shift job) (λ o. IsEnd job forward zero o) steps out → IsLineStep job forward steps out
+to_line : (job : Job) (forward : Bool) (steps : List PathStep) (out : JobOutcome) → StepThen (Shift job) (λ o. IsJobEnd job forward zero o) steps out → IsLineStep job forward steps out
 to_line job forward [] out p = p
 to_line job forward (Saw ask m ∷ steps) out p = p
 to_line job forward (Did a o ∷ steps) out p = p
 
-of_line : (job : Job) (forward : Bool) (steps : List PathStep) (out : JobOutcome) → IsLineStep job forward steps out → StepThen (Shift job) (λ o. IsEnd job forward zero o) steps out
+of_line : (job : Job) (forward : Bool) (steps : List PathStep) (out : JobOutcome) → IsLineStep job forward steps out → StepThen (Shift job) (λ o. IsJobEnd job forward zero o) steps out
 of_line job forward [] out p = p
 of_line job forward (Saw ask m ∷ steps) out p = p
 of_line job forward (Did a o ∷ steps) out p = p
@@ -228,13 +228,13 @@ keeps-at_bus =
       splits = λ job note.
           splits-if (is_line job) (λ k. Then (Shift job) note (over job zero note k)) (messages (more_of job) job note)
           (IsLineStep job note.forward) (AreMessages job note.forward (more_of job))
-          (λ k steps path. same-rule (StepThen (Shift job) (λ o. IsEnd job note.forward zero o)) (IsLineStep job note.forward) (to_line job note.forward) k steps
-          (splits-then (Shift job) note (λ o k. over job zero note k o) (λ o. IsEnd job note.forward zero o) (λ o. splits-over job zero note o) k steps path))
+          (λ k steps path. same-rule (StepThen (Shift job) (λ o. IsJobEnd job note.forward zero o)) (IsLineStep job note.forward) (to_line job note.forward) k steps
+          (splits-then (Shift job) note (λ o k. over job zero note k o) (λ o. IsJobEnd job note.forward zero o) (λ o. splits-over job zero note o) k steps path))
           (splits-messages (more_of job) job note);
       leads = λ job note.
           leads-if (is_line job) (λ k. Then (Shift job) note (over job zero note k)) (messages (more_of job) job note)
           (IsLineStep job note.forward) (AreMessages job note.forward (more_of job))
-          (λ steps out kept k. leads-then (Shift job) note (λ o k. over job zero note k o) (λ o. IsEnd job note.forward zero o) (λ o. leads-over job zero note o) steps out
+          (λ steps out kept k. leads-then (Shift job) note (λ o k. over job zero note k o) (λ o. IsJobEnd job note.forward zero o) (λ o. leads-over job zero note o) steps out
           (of_line job note.forward steps out kept) k)
           (leads-messages (more_of job) job note);
     }
@@ -429,7 +429,7 @@ module _ (on : Doer) (rule : Job → Bool → List PathStep → JobOutcome → T
         (keeps.leads (Clear h.on m (kind_of b m)) (with_mark h.on m note) kept.closed kept.came kept.close_done (λ o. if_sent o (chosen h on job note k) k))
         (leads-if_sent kept.came (chosen h on job note) (IsChosen h rule job note.forward) (leads-chosen h job note) kept.rest out kept.goes_on k))
 
-    splits-behind : Splits (behind b h on job note) (IsBehind b h rule job note.forward)
+    splits-behind : Splits (behind b h on job note) (IsBehindMux b h rule job note.forward)
     splits-behind k [] path = absurd (let f : behind b h on job note k ≡ Ends = path in cc)
     splits-behind k (Did a o ∷ steps) path = absurd path
     splits-behind k (Saw ask m ∷ steps) path =
@@ -451,7 +451,7 @@ module _ (on : Doer) (rule : Job → Bool → List PathStep → JobOutcome → T
           goes_on = s.goes_on;
         }
 
-    leads-behind : Leads (behind b h on job note) (IsBehind b h rule job note.forward)
+    leads-behind : Leads (behind b h on job note) (IsBehindMux b h rule job note.forward)
     leads-behind steps out kept k =
         subst (λ (xs : List PathStep). IsPath xs (behind b h on job note k) (k out)) (sym kept.all) (
           refl,
@@ -474,12 +474,12 @@ keeps-inner b root (h ∷ hs) =
     record {
       splits = λ job note.
           splits-if (is_line job) (at_bus job note) (behind b h (part h.parent (locks_of root hs) (inner b root hs)) job note)
-          (AtBus job note.forward) (IsBehind b h (IsPart h.parent (locks_of root hs) (IsInner b root hs)) job note.forward)
+          (AtBus job note.forward) (IsBehindMux b h (IsPart h.parent (locks_of root hs) (IsInner b root hs)) job note.forward)
           (keeps-at_bus.splits job note)
           (splits-behind (part h.parent (locks_of root hs) (inner b root hs)) (IsPart h.parent (locks_of root hs) (IsInner b root hs)) below b h job note);
       leads = λ job note.
           leads-if (is_line job) (at_bus job note) (behind b h (part h.parent (locks_of root hs) (inner b root hs)) job note)
-          (AtBus job note.forward) (IsBehind b h (IsPart h.parent (locks_of root hs) (IsInner b root hs)) job note.forward)
+          (AtBus job note.forward) (IsBehindMux b h (IsPart h.parent (locks_of root hs) (IsInner b root hs)) job note.forward)
           (keeps-at_bus.leads job note)
           (leads-behind (part h.parent (locks_of root hs) (inner b root hs)) (IsPart h.parent (locks_of root hs) (IsInner b root hs)) below b h job note);
     }

@@ -24,8 +24,8 @@ abbrev pub settle_where : Bool → Option Errno → List (Option Act)
 settle_where true verdict = Some (Settle verdict) ∷ []
 settle_where false verdict = []
 
-abbrev pub IsEnd : Job → Bool → ℕ → ActOutcome → List PathStep → JobOutcome → Type 0
-IsEnd job forward left last steps out =
+abbrev pub IsJobEnd : Job → Bool → ℕ → ActOutcome → List PathStep → JobOutcome → Type 0
+IsJobEnd job forward left last steps out =
     (map act_of steps ≡ settle_where (forward && decides job (job_outcome job left last)) (verdict_of job left last)) × (out ≡ job_outcome job left last)
 
 -- which message of a job follows one behind which so many may come
@@ -47,13 +47,13 @@ abbrev pub AreMessages : Job → Bool → ℕ → List PathStep → JobOutcome �
 AreMessages job forward left [] out = ⊥
 AreMessages job forward left (Saw ask mark ∷ steps) out = ⊥
 AreMessages job forward left (Did act o ∷ steps) out =
-    (act ≡ Send job left) × NextOr (next_message job left o) (λ next. AreMessages job forward next steps out) (IsEnd job forward left o steps out)
+    (act ≡ Send job left) × NextOr (next_message job left o) (λ next. AreMessages job forward next steps out) (IsJobEnd job forward left o steps out)
 
 -- its line step
 abbrev pub IsLineStep : Job → Bool → List PathStep → JobOutcome → Type 0
 IsLineStep job forward [] out = ⊥
 IsLineStep job forward (Saw ask mark ∷ steps) out = ⊥
-IsLineStep job forward (Did act o ∷ steps) out = (act ≡ Shift job) × IsEnd job forward zero o steps out
+IsLineStep job forward (Did act o ∷ steps) out = (act ≡ Shift job) × IsJobEnd job forward zero o steps out
 
 abbrev pub AtBus : Rule
 AtBus job forward steps out = MatchBool (is_line job) (IsLineStep job forward steps out) (AreMessages job forward (more_of job) steps out)
@@ -104,7 +104,7 @@ abbrev pub IsClosed : BoardView → Hop → Rule → Bool → Option ℕ → Lis
 IsClosed b h on forward None closed came = (closed ≡ []) × (came ≡ Good)
 IsClosed b h on forward (Some m) closed came = on (Clear h.on m (kind_of b m)) forward closed came
 
-pub record IsBehind (b : BoardView) (h : Hop) (on : Job → Bool → List PathStep → JobOutcome → Type 0) (job : Job) (forward : Bool) (steps : List PathStep) (out : JobOutcome) : Type 0 where
+pub record IsBehindMux (b : BoardView) (h : Hop) (on : Job → Bool → List PathStep → JobOutcome → Type 0) (job : Job) (forward : Bool) (steps : List PathStep) (out : JobOutcome) : Type 0 where
   pub mark : Option ℕ
   pub closed : List PathStep
   pub rest : List PathStep
@@ -122,7 +122,7 @@ IsPart false locks on = IsLocked locks on
 abbrev pub IsInner : BoardView → ℕ → List Hop → Rule
 IsInner b root [] job forward steps out = AtBus job forward steps out
 IsInner b root (h ∷ hs) job forward steps out =
-    MatchBool (is_line job) (AtBus job forward steps out) (IsBehind b h (IsPart h.parent (locks_of root hs) (IsInner b root hs)) job forward steps out)
+    MatchBool (is_line job) (AtBus job forward steps out) (IsBehindMux b h (IsPart h.parent (locks_of root hs) (IsInner b root hs)) job forward steps out)
 
 abbrev pub IsFull : BoardView → ℕ → List Hop → Rule
 IsFull b root hs = IsLocked (locks_of root hs) (IsInner b root hs)

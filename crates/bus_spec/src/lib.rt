@@ -23,4 +23,6 @@ pub use rows::{
     an_arbitrator_is_found_free_at_the_eighth_poll, an_effect_before_a_failure_stays,
     one_failing_call_fails_at_most_its_transfer,
 };
-pub use walk_rows::{these_are_no_walks, these_are_walks};
+pub use walk_rows::{
+    an_arbitrator_is_asked_and_a_line_is_shifted, these_are_no_walks, these_are_walks,
+};

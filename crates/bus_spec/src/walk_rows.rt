@@ -27,6 +27,15 @@ pub fn these_are_no_walks()
     ensures deselect_of_none { IsWalk row.parent_locked walk.deep walk.deselect_of_none → ⊥ }
     ensures deselect_left_out { IsWalk row.parent_locked walk.deep walk.deselect_left_out → ⊥ }
     ensures over_a_nack { IsWalk row.parent_locked walk.deep walk.over_a_nack → ⊥ }
-    ensures settled_late { IsWalk row.parent_locked walk.deep walk.settled_late → ⊥ }
+    ensures settle_moved { IsWalk row.parent_locked walk.deep walk.settle_moved → ⊥ }
     ensures refused { IsWalk row.parent_locked walk.nowhere walk.whole_walk → ⊥ }
+{}
+
+/// An arbitrator is asked before it is switched, eight times at most, and a gpio mux is switched by its line.
+pub fn an_arbitrator_is_asked_and_a_line_is_shifted()
+    ensures polled { IsWalk (row.arbitrator 7) walk.behind_arbitrator walk.polled_walk }
+    ensures given_up { IsWalk (row.arbitrator 8) walk.behind_arbitrator walk.given_up_walk }
+    ensures switched_while_taken { IsWalk (row.arbitrator 7) walk.behind_arbitrator walk.switched_while_taken → ⊥ }
+    ensures shifted { IsWalk row.gpio walk.behind_gpio walk.line_walk }
+    ensures over_a_failed_line { IsWalk row.gpio walk.behind_gpio walk.over_a_failed_line → ⊥ }
 {}

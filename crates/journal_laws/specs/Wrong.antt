@@ -125,3 +125,10 @@ abbrev pub held_as_parent_locked : List Entry
 held_as_parent_locked =
     reverse (row.take_mux 0 0 ∷ row.take_bus 0 ∷ row.control 0 0 0 0x70 1 ∷ row.reads 0 1 0x30 0 0x11 1
     ++ row.control 0 0 0 0x70 0 ∷ row.free_bus 0 ∷ row.free_mux 0 0 ∷ [])
+
+-- The two callers of the mux-locked board are done one after the other, though the second could step in between
+abbrev pub one_after_the_other : List Entry
+one_after_the_other =
+    row.take_mux 0 0 ∷ row.take_bus 0 ∷ row.control 0 0 0 0x70 1 ∷ row.free_bus 0 ∷ row.take_bus 0 ∷ row.reads 0 1 0x30 0 0x11 1
+    ++ row.free_bus 0 ∷ row.take_bus 0 ∷ row.control 0 0 0 0x70 0 ∷ row.free_bus 0 ∷ row.free_mux 0 0
+    ∷ row.take_bus 1 ∷ row.reads 1 0 0x20 5 0x7e 0 ++ row.free_bus 1 ∷ []

@@ -1,9 +1,10 @@
 //! Journals that break a rule: that each is refused is computed by the checker.
-ghost use Rattle.std.specs.Prelude.{ℕ, ◌<◌};
+ghost use Rattle.std.specs.Prelude.{ℕ, ◌<◌, ◌++◌, [], replicate};
 ghost use Rattle.i2c_base.specs.declared.board.MuxKind.TheVariants.{Pca9548};
 ghost use Rattle.i2c_spec.specs.History.{Asks};
 ghost use Rattle.bus_spec.specs.Legal.{IsLegal};
 ghost use Rattle.bus_spec.specs.Rows as row;
+ghost use Rattle.bus_spec.specs.Schedule.{Follows};
 ghost use Rattle.bus_spec.specs.Past.{now};
 ghost use Rattle.bus_spec.specs.Stepwise.{IsNext, IsStepwise};
 ghost use Rattle.bus_spec.specs.Walk.{Clear, Send};
@@ -102,4 +103,11 @@ pub fn a_select_is_a_transfer_of_its_own()
 /// (Linux i2c-topology).
 pub fn a_mux_locked_mux_frees_its_root()
     ensures { (callers : ℕ) → IsLegal row.mux_locked callers wrong.deep_asks wrong.held_as_parent_locked → ⊥ }
+{}
+
+/// A schedule is not ignored: a journal of one caller after the other doesn't follow a schedule in which they alternate, nor
+/// does one in which they alternate follow the empty schedule, where always the least caller steps that can.
+pub fn a_schedule_is_not_ignored()
+    ensures serial { Follows (replicate 4 0 ++ replicate 4 1) wrong.one_after_the_other → ⊥ }
+    ensures alternating { Follows [] row.mux_locked_journal → ⊥ }
 {}

@@ -1,7 +1,8 @@
 -- A settle tells a cut exactly where a step on the way of its transfer failed by the port, and says so in its reply. The
 -- induction goes over the entries.
 use Rattle.std.proofs.Common.{◌≡◌, ℕ, zero, suc, nat_lt, Bool, true, false, not, ◌&&◌, ◌||◌, cond, eqb, List, [], ◌∷◌, Option, Some, None, refl, sym, ◌∙◌, ap, subst, ◌⊎◌, inl, inr}
-use Rattle.std.proofs.lemmas.Bool.{eq-eqb}
+use Rattle.std.proofs.Math.Bool.{or-true}
+use Rattle.std.proofs.lemmas.Bool.{and_parts, eq-eqb, or_cases}
 use Rattle.std.proofs.lemmas.Bool.Decides.{eqb_tells}
 use Rattle.std.specs.List.{list_any}
 use Rattle.i2c_base.specs.declared.ids.LockId.{LockId}
@@ -50,10 +51,6 @@ use Rattle.journal_laws.proofs.past.Ends.{holds-nothing}
 use Rattle.journal_laws.proofs.past.FailLaw.{FailsSettle, current-fails}
 
 -- WHAT A STEP DECIDES
-or_true : (t : Bool) → (t || true) ≡ true
-or_true true = refl
-or_true false = refl
-
 decided-verdict : (note : Note) (job : Job) (left : ℕ) (out : ActOutcome) (w : WalkTree) (v : Option Errno) → IsDecided note job left out w → first_act w ≡ Some (Settle v)
     → (v ≡ verdict_of job left out) × ((is_call (job_purpose job) || note.forward) ≡ true)
 decided-verdict note job left out w v decided first =
@@ -61,7 +58,7 @@ decided-verdict note job left out w v decided first =
       | inl quiet ↦ absurd (no_settle w v quiet first)
       | inr h ↦ (
         let f : Some (Settle v) ≡ Some (Settle (verdict_of job left out)) = sym first ∙ h.2 in let g : v ≡ verdict_of job left out = cc in g,
-        ap (λ (t : Bool). is_call (job_purpose job) || t) h.0 ∙ or_true (is_call (job_purpose job)),
+        ap (λ (t : Bool). is_call (job_purpose job) || t) h.0 ∙ or-true (is_call (job_purpose job)),
       )
     ]
 
@@ -145,14 +142,6 @@ pub record CutStands (walk : WalkTree) (told : Cut) (failed : Bool) : Type 0 whe
   pub remote : first_act walk ≡ Some (Settle (Some errno.Eremoteio)) → told ≡ cut.No → ⊥
 
 -- the tests
-under_and : (x y : Bool) → (x && y) ≡ true → (x ≡ true) × (y ≡ true)
-under_and true y e = (refl, e)
-under_and false y e = absurd (let f : false ≡ true = e in cc)
-
-under_or : (x y : Bool) → (x || y) ≡ true → (x ≡ true) ⊎ (y ≡ true)
-under_or true y e = inl refl
-under_or false y e = inr e
-
 is_live : (w : WalkTree) (act : Act) → first_act w ≡ Some act → is_over w ≡ false
 is_live Ends act e = absurd (let f : None ≡ Some act = e in cc)
 is_live (Look ask next) act e = refl
@@ -230,7 +219,7 @@ module _ (b : BoardView) (tree : IsTree b) (plain : IsPlainBoard b) (lines : Lin
         → CutStands (rest_of w Passed) cut.No (not (is_over (rest_of w Passed)) && failed_on_way b asks past d)
     lock-stands act next other quiet goes =
         record {
-          after = λ failed. inr (goes (had_settled act next other (under_and (not (is_over (rest_of w Passed))) (failed_on_way b asks past d) failed).1));
+          after = λ failed. inr (goes (had_settled act next other (and_parts (not (is_over (rest_of w Passed))) (failed_on_way b asks past d) failed).1));
           before = λ v first told. absurd (told refl);
           ended = λ over. refl;
           remote = λ first told. no_settle (rest_of w Passed) (Some errno.Eremoteio) quiet first;
@@ -285,9 +274,9 @@ module _ (b : BoardView) (tree : IsTree b) (plain : IsPlainBoard b) (lines : Lin
           (not (is_over (rest_of w (Sent e bytes))) && ((is_cut e && (is_call p || (first_note w).forward)) || failed_on_way b asks past d))
       sent-stands e bytes p part why live =
           record {
-            after = λ failed. elim (under_or (is_cut e && (is_call p || (first_note w).forward)) (failed_on_way b asks past d)
-                (under_and (not (is_over (rest_of w (Sent e bytes)))) ((is_cut e && (is_call p || (first_note w).forward)) || failed_on_way b asks past d) failed).1) [
-                  | inl now_failed ↦ (let h = under_and (is_cut e) (is_call p || (first_note w).forward) now_failed in
+            after = λ failed. elim (or_cases (is_cut e && (is_call p || (first_note w).forward)) (failed_on_way b asks past d)
+                (and_parts (not (is_over (rest_of w (Sent e bytes)))) ((is_cut e && (is_call p || (first_note w).forward)) || failed_on_way b asks past d) failed).1) [
+                  | inl now_failed ↦ (let h = and_parts (is_cut e) (is_call p || (first_note w).forward) now_failed in
                       let is = cut_end e h.0 in
                       let way : (is_call (job_purpose job) || (first_note w).forward) ≡ true = ap (λ (x : Purpose). is_call x || (first_note w).forward) (sym why) ∙ h.1 in
                       inl (
@@ -336,8 +325,8 @@ module _ (b : BoardView) (tree : IsTree b) (plain : IsPlainBoard b) (lines : Lin
           (not (is_over (rest_of w (Lined failed))) && ((failed && (first_note w).forward) || failed_on_way b asks past d))
       lined-stands true live =
           record {
-            after = λ failed. elim (under_or (first_note w).forward (failed_on_way b asks past d)
-                (under_and (not (is_over (rest_of w (Lined true)))) ((first_note w).forward || failed_on_way b asks past d) failed).1) [
+            after = λ failed. elim (or_cases (first_note w).forward (failed_on_way b asks past d)
+                (and_parts (not (is_over (rest_of w (Lined true)))) ((first_note w).forward || failed_on_way b asks past d) failed).1) [
                   | inl forward ↦ inl (lined_remote forward, λ told. let f : cut.Way ≡ cut.No = told in cc)
                   | inr before ↦ inr (lined_settled true (had_settled (Shift job) next (λ v f. let g : Shift job ≡ Settle v = f in cc) before))
                 ];
@@ -350,7 +339,7 @@ module _ (b : BoardView) (tree : IsTree b) (plain : IsPlainBoard b) (lines : Lin
           record {
             after = λ failed.
                 inr (lined_settled false (had_settled (Shift job) next (λ v f. let g : Shift job ≡ Settle v = f in cc)
-                (under_and (not (is_over (rest_of w (Lined false)))) (failed_on_way b asks past d) failed).1));
+                (and_parts (not (is_over (rest_of w (Lined false)))) (failed_on_way b asks past d) failed).1));
             before = λ v first told. absurd (told refl);
             ended = λ over. refl;
             remote = λ first told. elim (lined_goes false).0 [

@@ -24,6 +24,7 @@ use Rattle.bus_laws.specs.Runs.{InLocks}
 use Rattle.bus_laws.proofs.past.StandsStep.{at_same, at_other}
 use Rattle.bus_laws.proofs.past.Laws.{past-stands, holder-told}
 use Rattle.bus_laws.proofs.past.Placed.{cut-told, settles-kept}
+use Rattle.bus_laws.proofs.past.Whole.{some_is}
 use Rattle.journal_laws.specs.Layers.{BelongsTo}
 use Rattle.journal_laws.proofs.device.Law.{replies-kept}
 use Rattle.journal_laws.proofs.past.Layers.{own_replies, other_replies, walks-tell, walks-due}
@@ -31,9 +32,6 @@ use Rattle.journal_laws.proofs.past.Due.{IsDue, IsParted, due-told, tells-due, p
 use Rattle.journal_laws.proofs.past.Legal.{legal-with}
 
 -- THE REPLIES of a prefix are those of its history
-same_told : {X : Type 0} (o : Option X) (x y : X) → o ≡ Some x → o ≡ Some y → x ≡ y
-same_told o x y e f = let g : Some x ≡ Some y = sym e ∙ f in cc
-
 last_same : (rs qs : List Reply) (r q : Reply) → rs ++ r ∷ [] ≡ qs ++ q ∷ [] → (rs ≡ qs) × (r ≡ q)
 last_same [] [] r q e = (refl, (let f : r ∷ [] ≡ q ∷ [] = e in cc))
 last_same [] (y ∷ []) r q e = absurd (let f : r ∷ [] ≡ y ∷ q ∷ [] = e in cc)
@@ -58,7 +56,7 @@ module _ (b : BoardView) (asks : Asks) where
       by (Some t) f = (
         (flat b h.states t cut).reply,
         (let g : Some (with_told h c (flat b h.states t cut)) ≡ Some told = f in
-            ap (λ (x : History). x.replies) (sym (same_told (Some (with_told h c (flat b h.states t cut))) (with_told h c (flat b h.states t cut)) told refl g))),
+            ap (λ (x : History). x.replies) (sym (some_is (with_told h c (flat b h.states t cut)) told g))),
       )
 
   pub replies-front : (e : Entry) (past : List Entry) → KeepsReplies b asks (e ∷ past) → KeepsReplies b asks past
@@ -160,7 +158,7 @@ module _ (b : BoardView) (tree : IsTree b) (plain : IsPlainBoard b) (lines : Lin
         reply_is =
             (last_same (replies past c) (replies past c) r decided
             (sym (own_replies b asks past c (entry.Settle c r cut) refl) ∙ keeps.same c
-            ∙ ap (λ (h : History). h.replies c) (same_told (history b asks (order (entry.Settle c r cut ∷ past))) keeps.told might.told keeps.defined might.defined)
+            ∙ ap (λ (h : History). h.replies c) (some_is keeps.told might.told (sym keeps.defined ∙ might.defined))
             ∙ sym (might.same c) ∙ own_replies b asks past c (entry.Settle c decided cut) refl)).1
 
   -- THE INDUCTION

@@ -3,6 +3,7 @@
 use Rattle.std.proofs.Common.{◌≡◌, ℕ, zero, suc, ◌+◌, ◌-◌, ◌<◌, ◌≤◌, ◌≢◌, nat_lt, arith, find, Bool, true, false, cond, eqb, ◌||◌, List, [], ◌∷◌, length, reverse, Option, Some, None, refl, sym, ◌∙◌, ap, subst, ◌⊎◌, inl, inr}
 use Rattle.std.specs.Prelude.{slice_get}
 use Rattle.std.specs.List.{range_with_len, AllByRecursion}
+use Rattle.std.proofs.lemmas.Bool.{eqb-true}
 use Rattle.std.proofs.lemmas.Bool.Decides.{eqb_tells}
 use Rattle.std.proofs.lemmas.List.{reverse-reverse}
 use Rattle.i2c_base.specs.declared.errno.Errno.{Errno}
@@ -40,14 +41,14 @@ use Rattle.bus_laws.specs.Reach.{AsksForMessages}
 use Rattle.bus_laws.specs.Next.{who_hears, chip_where}
 use Rattle.bus_laws.proofs.past.Next.{call-reaches, control-switches}
 use Rattle.bus_laws.proofs.past.Ready.{takes-below}
+use Rattle.bus_laws.proofs.past.Whole.{some_is}
 use Rattle.journal_laws.specs.Layers.{FailsAs}
 use Rattle.journal_laws.proofs.past.Due.{due-told, due-known, due-settles}
 
 -- A MESSAGE that a call cuts off ends so, or it is as if no call failed
 at_some : (o : Option ℕ) (n : ℕ) → is_at o n ≡ true → Some n ≡ o
 at_some None n e = absurd (let f : false ≡ true = e in cc)
-at_some (Some k) n e =
-    elim (eqb_tells k n) [ inl h ↦ ap Some (sym h.1) | inr h ↦ absurd (let f : true ≡ false = sym e ∙ h.0 in cc) ]
+at_some (Some k) n e = ap Some (sym (eqb-true k n e))
 
 module _ (l : Listener World) (cut : Option ℕ) where
   abbrev Cuts : TalkTold World → TalkTold World → Type 0
@@ -247,9 +248,6 @@ heard-told w addr reading heard end.Slow told = ap (λ (xs : List Node). slice_g
 heard-told w addr reading heard end.Refused told = ap (λ (xs : List Node). slice_get xs 0) told ∙ heard_first heard
 heard-told w addr reading heard end.Proto told = ap (λ (xs : List Node). slice_get xs 0) told ∙ heard_first heard
 
-some_same : {X : Type 0} (x y : X) → Some x ≡ Some y → x ≡ y
-some_same x y e = cc
-
 module _ (b : BoardView) (tree : IsTree b) (plain : IsPlainBoard b) (lines : LinesAreLocked b) (asks : Asks) (some : AsksForMessages asks) (callers : ℕ) where
   module _ (past : List Entry) (steps : IsStepwise b callers asks past) (fails : Failing) where
     abbrev n : Now
@@ -301,12 +299,12 @@ module _ (b : BoardView) (tree : IsTree b) (plain : IsPlainBoard b) (lines : Lin
             elim due [
               | inl none ↦ none
               | inr own ↦ (let h = due-told b asks some callers past c steps own in
-                  absurd (other h.verdict (some_same act (Settle h.verdict) (sym next ∙ due-settles b asks past c h))))
+                  absurd (other h.verdict (some_is act (Settle h.verdict) (sym next ∙ due-settles b asks past c h))))
             ]
 
         may_take : (l : LockId) → (o : Option ℕ) → n.holder l ≡ o → IsNext b asks n c (Take l) → take_if o (entry.Take c l) ≡ Some e → May b callers asks n e
         may_take l None free next adds =
-            subst (λ (x : Entry). May b callers asks n x) (some_same (entry.Take c l) e adds)
+            subst (λ (x : Entry). May b callers asks n x) (some_is (entry.Take c l) e adds)
             (known, none_due (Take l) next (λ v f. let g : Take l ≡ Settle v = f in cc), next, free, takes-below b tree plain lines asks some callers past steps c l next)
         may_take l (Some d) has next adds = absurd (let f : None ≡ Some e = adds in cc)
 
@@ -314,17 +312,17 @@ module _ (b : BoardView) (tree : IsTree b) (plain : IsPlainBoard b) (lines : Lin
         by None next adds = absurd (let f : None ≡ Some e = adds in cc)
         by (Some (Take l)) next adds = may_take l (n.holder l) refl next adds
         by (Some (Free l)) next adds =
-            subst (λ (x : Entry). May b callers asks n x) (some_same (entry.Free c l) e adds)
+            subst (λ (x : Entry). May b callers asks n x) (some_is (entry.Free c l) e adds)
             (known, none_due (Free l) next (λ v f. let g : Free l ≡ Settle v = f in cc), next)
         by (Some (Send job left)) next adds =
-            subst (λ (x : Entry). May b callers asks n x) (some_same (message_entry b n c job left (played_talk b fails n job left)) e adds)
+            subst (λ (x : Entry). May b callers asks n x) (some_is (message_entry b n c job left (played_talk b fails n job left)) e adds)
             (may-message c job left (played_talk b fails n job left) (next_failing b fails n job left) refl known
             (none_due (Send job left) next (λ v f. let g : Send job left ≡ Settle v = f in cc)) next)
         by (Some (Shift job)) next adds =
-            subst (λ (x : Entry). May b callers asks n x) (some_same _ e adds)
+            subst (λ (x : Entry). May b callers asks n x) (some_is _ e adds)
             (known, none_due (Shift job) next (λ v f. let g : Shift job ≡ Settle v = f in cc), (job, next, record { of_mux = refl; to_level = refl }))
         by (Some (Settle verdict)) next adds =
-            subst (λ (x : Entry). May b callers asks n x) (some_same (entry.Settle c (reply_by verdict (asks c (n.settled c)) (n.got c)) (n.cut c)) e adds)
+            subst (λ (x : Entry). May b callers asks n x) (some_is (entry.Settle c (reply_by verdict (asks c (n.settled c)) (n.got c)) (n.cut c)) e adds)
             (known, due, verdict, next, refl, refl)
 
     -- and the ports fail as it tells
@@ -344,9 +342,9 @@ module _ (b : BoardView) (tree : IsTree b) (plain : IsPlainBoard b) (lines : Lin
         by (Some (Take l)) adds = tt
         by (Some (Free l)) adds = tt
         by (Some (Settle verdict)) adds = tt
-        by (Some (Shift job)) adds = subst (λ (x : Entry). FailsAs b fails n (Some (Shift job)) x) (some_same _ e adds) refl
+        by (Some (Shift job)) adds = subst (λ (x : Entry). FailsAs b fails n (Some (Shift job)) x) (some_is _ e adds) refl
         by (Some (Send job left)) adds =
-            subst (λ (x : Entry). FailsAs b fails n (Some (Send job left)) x) (some_same (message_entry b n c job left (played_talk b fails n job left)) e adds)
+            subst (λ (x : Entry). FailsAs b fails n (Some (Send job left)) x) (some_is (message_entry b n c job left (played_talk b fails n job left)) e adds)
             (sym (cut_is job left (next_failing b fails n job left) refl))
 
   -- A JOURNAL THAT IS PLAYED

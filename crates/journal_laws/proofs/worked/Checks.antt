@@ -1,11 +1,11 @@
 -- Tests that are computed on a small board, its scripts and its schedule, each with the fact that it shows. The inductions
 -- go over numbers, transfers and steps.
-use Rattle.std.proofs.Common.{◌≡◌, ℕ, zero, suc, ◌<◌, ◌≢◌, nat_lt, Bool, true, false, not, ◌&&◌, cond, eqb, List, [], ◌∷◌, length, Some, None, refl, sym, ◌∙◌, ap, subst, inl, inr, arith, All}
+use Rattle.std.proofs.Common.{◌≡◌, ℕ, zero, suc, ◌<◌, ◌≢◌, nat_lt, Bool, true, false, not, ◌&&◌, cond, eqb, List, [], ◌∷◌, length, Some, None, ◌∙◌, ap, subst, inl, inr, arith, All}
 use Rattle.std.specs.Prelude.{slice_get}
 use Rattle.std.specs.Bool.{MatchBool}
 use Rattle.std.specs.List.{list_all, AllByRecursion}
 use Rattle.std.proofs.lemmas.List.Elements.{All-cons, All-nil}
-use Rattle.std.proofs.lemmas.Bool.{ltb-true}
+use Rattle.std.proofs.lemmas.Bool.{and_parts, eqb-true, ltb-true, not-true}
 use Rattle.std.proofs.lemmas.Bool.Decides.{eqb_tells}
 use Rattle.i2c_base.specs.declared.entry.Entry.{Entry}
 use Rattle.i2c_base.specs.declared.reply.Reply.{Reply}
@@ -13,14 +13,6 @@ use Rattle.i2c_base.specs.Transfer.{TransferView}
 use Rattle.i2c_spec.specs.Rules.{NoPair, NoneOf}
 use Rattle.bus_spec.specs.Play.{transfers_of}
 use Rattle.bus_spec.specs.Schedule.{Turn, turns, is_ready, past_after, FollowsRest, FollowsWords, Follows}
-
-both : (x y : Bool) → (x && y) ≡ true → (x ≡ true) × (y ≡ true)
-both true y e = (refl, e)
-both false y e = absurd (let f : false ≡ true = e in cc)
-
-turned : (x : Bool) → not x ≡ true → x ≡ false
-turned true e = absurd (let f : false ≡ true = e in cc)
-turned false e = refl
 
 -- none of these numbers passes a test
 abbrev pub none_of : (ℕ → Bool) → ℕ → Bool
@@ -30,9 +22,9 @@ none_of test (suc n) = not (test n) && none_of test n
 pub none-of : (test : ℕ → Bool) (n : ℕ) → none_of test n ≡ true → NoneOf test n
 none-of test zero e i within = absurd (omega (arith, within))
 none-of test (suc n) e i within =
-    let h = both (not (test n)) (none_of test n) e in
+    let h = and_parts (not (test n)) (none_of test n) e in
     elim (eqb_tells i n) [
-      | inl same ↦ ap test same.1 ∙ turned (test n) h.0
+      | inl same ↦ ap test same.1 ∙ not-true (test n) h.0
       | inr other ↦ (let ne : i ≢ n = other.1 in none-of test n h.1 i (omega (arith, within, ne)))
     ]
 
@@ -44,7 +36,7 @@ no_pair test (suc n) = none_of (λ i. test i n) n && no_pair test n
 pub no-pair : (test : ℕ → ℕ → Bool) (n : ℕ) → no_pair test n ≡ true → NoPair test n
 no-pair test zero e i j before within = absurd (omega (arith, within))
 no-pair test (suc n) e i j before within =
-    let h = both (none_of (λ k. test k n) n) (no_pair test n) e in
+    let h = and_parts (none_of (λ k. test k n) n) (no_pair test n) e in
     elim (eqb_tells j n) [
       | inl same ↦ ap (λ (k : ℕ). test i k) same.1 ∙ none-of (λ k. test k n) n h.0 i (subst (λ (k : ℕ). i < k) same.1 before)
       | inr other ↦ (let ne : j ≢ n = other.1 in no-pair test n h.1 i j before (omega (arith, within, ne)))
@@ -54,7 +46,7 @@ no-pair test (suc n) e i j before within =
 pub all-below : (n : ℕ) (words : List ℕ) → list_all (λ c. nat_lt c n) words ≡ true → AllByRecursion (λ c. c < n) words
 all-below n [] e = tt
 all-below n (c ∷ words) e =
-    let h = both (nat_lt c n) (list_all (λ k. nat_lt k n) words) e in
+    let h = and_parts (nat_lt c n) (list_all (λ k. nat_lt k n) words) e in
     (ltb-true c n h.0, all-below n words h.1)
 
 -- what holds of each transfer of the scripts holds of what a caller asks for
@@ -97,12 +89,9 @@ follows_words (w ∷ ws) past (t ∷ ts) =
 follows-rest : (past : List Entry) (later : List Turn) → follows_rest past later ≡ true → FollowsRest past later
 follows-rest past [] e = tt
 follows-rest past (t ∷ ts) e =
-    let h = both (is_ready past (t ∷ ts) t.caller) (none_of (is_ready past (t ∷ ts)) t.caller && follows_rest (past_after past t) ts) e in
-    let k = both (none_of (is_ready past (t ∷ ts)) t.caller) (follows_rest (past_after past t) ts) h.1 in
+    let h = and_parts (is_ready past (t ∷ ts) t.caller) (none_of (is_ready past (t ∷ ts)) t.caller && follows_rest (past_after past t) ts) e in
+    let k = and_parts (none_of (is_ready past (t ∷ ts)) t.caller) (follows_rest (past_after past t) ts) h.1 in
     (h.0, none-of (is_ready past (t ∷ ts)) t.caller k.0, follows-rest (past_after past t) ts k.1)
-
-eq_of : (x y : ℕ) → eqb x y ≡ true → x ≡ y
-eq_of x y e = elim (eqb_tells x y) [ inl h ↦ h.1 | inr h ↦ absurd (let f : true ≡ false = sym e ∙ h.0 in cc) ]
 
 follows-words : (words : List ℕ) (past : List Entry) (later : List Turn) → follows_words words past later ≡ true → FollowsWords words past later
 follows-words [] past later e = follows-rest past later e
@@ -113,7 +102,7 @@ follows-words (w ∷ ws) past (t ∷ ts) e = by (is_ready past (t ∷ ts) w) (fo
         → (follows_words ws past (t ∷ ts) ≡ true → FollowsWords ws past (t ∷ ts))
         → cond z (eqb t.caller w && follows_words ws (past_after past t) ts) (follows_words ws past (t ∷ ts)) ≡ true
         → MatchBool z ((t.caller ≡ w) × FollowsWords ws (past_after past t) ts) (FollowsWords ws past (t ∷ ts))
-    by true steps waits e = (let h = both (eqb t.caller w) (follows_words ws (past_after past t) ts) e in (eq_of t.caller w h.0, steps h.1))
+    by true steps waits e = (let h = and_parts (eqb t.caller w) (follows_words ws (past_after past t) ts) e in (eqb-true t.caller w h.0, steps h.1))
     by false steps waits e = waits e
 
 pub follows : (words : List ℕ) (journal : List Entry) → follows_words words [] (turns journal) ≡ true → Follows words journal

@@ -20,6 +20,6 @@ returns c =
       deselect_of_none = λ w. (let f : Send walk.close 0 ≡ Free (lock.Bus 0) = (walk-path row.parent_locked walk.deep walk.deselect_of_none w).1.1.1.1.1.0 in cc);
       deselect_left_out = λ w. (let f : Free (lock.Bus 0) ≡ Send walk.close 0 = (walk-path row.parent_locked walk.deep walk.deselect_left_out w).1.1.1.1.1.1.1.0 in cc);
       over_a_nack = λ w. (let f : Send walk.call 0 ≡ Settle (Some Enxio) = (walk-path row.parent_locked walk.deep walk.over_a_nack w).1.1.1.1.1.0 in cc);
-      settled_late = λ w. (let f : Send walk.close 0 ≡ Settle None = (walk-path row.parent_locked walk.deep walk.settled_late w).1.1.1.1.1.1.0 in cc);
+      settle_moved = λ w. (let f : Send walk.close 0 ≡ Settle None = (walk-path row.parent_locked walk.deep walk.settle_moved w).1.1.1.1.1.1.0 in cc);
       refused = λ w. (let f : Take (lock.Mux 0) ≡ Settle (Some Enodev) = (walk-path row.parent_locked walk.nowhere walk.whole_walk w).0 in cc);
     }
