@@ -1,13 +1,14 @@
 //! The walk tree, which says what comes next, has the paths that the walk rule lists whole.
-ghost use Rattle.std.specs.Prelude.{◌↔◌, ℕ, List, ◌++◌, Option};
+ghost use Rattle.std.specs.Prelude.{◌↔◌, ℕ, List, [], ◌++◌, Option};
 ghost use Rattle.i2c_base.specs.declared.entry.Entry.{Entry};
 ghost use Rattle.i2c_base.specs.declared.reply.Reply.{Reply};
 ghost use Rattle.i2c_base.specs.Board.{BoardView};
 ghost use Rattle.i2c_base.specs.Transfer.{TransferView};
 ghost use Rattle.i2c_spec.specs.Tree.{Hop};
+ghost use Rattle.i2c_spec.specs.History.{Asks};
 ghost use Rattle.bus_spec.specs.Walk.{Job, JobOutcome, Note, WalkTree, Ends};
 ghost use Rattle.bus_spec.specs.Grammar.{full, inner, walk_for};
-ghost use Rattle.bus_spec.specs.Legal.{Step, AreWalks};
+ghost use Rattle.bus_spec.specs.Legal.{Step, AreWalks, steps_in, KeepsWalks};
 ghost use Rattle.bus_spec.specs.Paths.{PathStep, IsPath, IsDoneBy};
 ghost use Rattle.bus_spec.specs.WalkRule.{IsFull, IsInner, IsWalk, AreTransfers};
 
@@ -34,10 +35,13 @@ pub fn each_walk_keeps_the_walk_rule()
 {}
 
 /// The entries of a caller are walks of the tree exactly where they are, one after the other, what the walk rule lists for
-/// what the caller asks for next, the last one maybe a front.
+/// what the caller asks for next, the last one maybe a front. So a journal keeps its walks exactly where each caller's entries
+/// do.
 ///
-/// No premise is needed. So a journal keeps its walks exactly where each caller's entries do.
+/// No premise is needed.
 pub fn a_journal_keeps_the_walk_rule()
-    ensures { (b : BoardView) (asks : List Reply → Option TransferView) (replies : List Reply) (steps : List Step)
+    ensures caller { (b : BoardView) (asks : List Reply → Option TransferView) (replies : List Reply) (steps : List Step)
         → AreWalks b asks replies steps ↔ AreTransfers b asks replies steps }
+    ensures journal { (b : BoardView) (asks : Asks) (past : List Entry)
+        → KeepsWalks b asks past ↔ ((c : ℕ) → AreTransfers b (asks c) [] (steps_in b asks c past)) }
 {}

@@ -45,16 +45,15 @@ pub fn each_prefix_of_a_legal_journal_is_legal()
 
 /// What a caller adds next, where these calls of the ports fail, is exactly the entry that may come and fails as they do.
 ///
-/// `adds` needs nothing of the place. Without the others, `may` would let a caller go on while another's settle is due, and
+/// `fails` and `adds` need nothing of the place. Without the other premises, `may` would let a caller go on while another's settle is due, and
 /// a stranger step; and on a board that breaks its rules, for a transfer without a message, or at a place that no caller can
 /// reach, a message could be heard by two, which no entry tells.
 pub fn a_caller_adds_what_may_come()
     ensures may { (b : BoardView) (callers : ℕ) (asks : Asks) (fails : Failing) (past : List Entry) (c : ℕ) (e : Entry) → IsPlainBoard b → MeetsRules b → AsksForMessages asks
         → IsStepwise b callers asks past → c < callers → ((now b asks past).due ≡ None) ⊎ ((now b asks past).due ≡ Some c)
         → next_entry b asks fails (now b asks past) c ≡ Some e → May b callers asks (now b asks past) e }
-    ensures fails { (b : BoardView) (callers : ℕ) (asks : Asks) (fails : Failing) (past : List Entry) (c : ℕ) (e : Entry) → IsPlainBoard b → MeetsRules b → AsksForMessages asks
-        → IsStepwise b callers asks past → next_entry b asks fails (now b asks past) c ≡ Some e
-        → FailsAs b fails (now b asks past) (first_act (current b asks (now b asks past) c)) e }
+    ensures fails { (b : BoardView) (asks : Asks) (fails : Failing) (n : Now) (c : ℕ) (e : Entry) → next_entry b asks fails n c ≡ Some e
+        → FailsAs b fails n (first_act (current b asks n c)) e }
     ensures adds { (b : BoardView) (callers : ℕ) (asks : Asks) (fails : Failing) (n : Now) (e : Entry) → May b callers asks n e
         → FailsAs b fails n (first_act (current b asks n (caller_of e))) e → next_entry b asks fails n (caller_of e) ≡ Some e }
 {

@@ -325,28 +325,6 @@ module _ (b : BoardView) (tree : IsTree b) (plain : IsPlainBoard b) (lines : Lin
             subst (λ (x : Entry). May b callers asks n x) (some_is (entry.Settle c (reply_by verdict (asks c (n.settled c)) (n.got c)) (n.cut c)) e adds)
             (known, due, verdict, next, refl, refl)
 
-    -- and the ports fail as it tells
-    pub play-fails : (c : ℕ) (e : Entry) → next_entry b asks fails n c ≡ Some e → FailsAs b fails n (first_act (current b asks n c)) e
-    play-fails c e adds = by (first_act (current b asks n c)) adds
-      where
-        cut_is : (job : Job) (left : ℕ) (o : Option ℕ) → next_failing b fails n job left ≡ o → cut_of (talk_in b (n.worlds (root_of b (job_bus job))) job left o).end ≡ o
-        cut_is job left None is =
-            elim (cuts-talk world_listener None (block_limit b) (n.worlds (root_of b (job_bus job))) (message_of b job left) (is_last job left)) [ inl own ↦ own | inr none ↦ none.0 ]
-        cut_is job left (Some q) is =
-            let within : q < 0 + length (talk_in b (n.worlds (root_of b (job_bus job))) job left None).calls =
-            found_within (λ i. fails (root_of b (job_bus job)) (length (n.calls (root_of b (job_bus job))) + i)) 0 (length (talk_in b (n.worlds (root_of b (job_bus job))) job left None).calls) q is in
-            ap cut_of (reach-talk world_listener q (block_limit b) (n.worlds (root_of b (job_bus job))) (message_of b job left) (is_last job left) (omega (arith, within)))
-
-        by : (o : Option Act) → entry_by b asks fails n c o ≡ Some e → FailsAs b fails n o e
-        by None adds = tt
-        by (Some (Take l)) adds = tt
-        by (Some (Free l)) adds = tt
-        by (Some (Settle verdict)) adds = tt
-        by (Some (Shift job)) adds = subst (λ (x : Entry). FailsAs b fails n (Some (Shift job)) x) (some_is _ e adds) refl
-        by (Some (Send job left)) adds =
-            subst (λ (x : Entry). FailsAs b fails n (Some (Send job left)) x) (some_is (message_entry b n c job left (played_talk b fails n job left)) e adds)
-            (sym (cut_is job left (next_failing b fails n job left) refl))
-
   -- A JOURNAL THAT IS PLAYED
   module _ (fails : Failing) where
     record IsMade (p : Played) : Type 0 where
@@ -397,8 +375,30 @@ module _ (b : BoardView) (tree : IsTree b) (plain : IsPlainBoard b) (lines : Lin
         subst (λ (es : List Entry). IsStepwise b callers asks es × ((now b asks es).due ≡ None)) (sym (reverse-reverse p.past))
         (settled.made.steps, ap (λ (n : Now). n.due) (sym settled.made.at) ∙ settled.none_due)
 
--- WHAT MAY COME is what play adds
+-- WHAT MAY COME is what play adds, wherever all stands
 module _ (b : BoardView) (asks : Asks) (callers : ℕ) (n : Now) (fails : Failing) where
+  -- and the ports fail as it tells
+  pub play-fails : (c : ℕ) (e : Entry) → next_entry b asks fails n c ≡ Some e → FailsAs b fails n (first_act (current b asks n c)) e
+  play-fails c e adds = by (first_act (current b asks n c)) adds
+    where
+      cut_is : (job : Job) (left : ℕ) (o : Option ℕ) → next_failing b fails n job left ≡ o → cut_of (talk_in b (n.worlds (root_of b (job_bus job))) job left o).end ≡ o
+      cut_is job left None is =
+          elim (cuts-talk world_listener None (block_limit b) (n.worlds (root_of b (job_bus job))) (message_of b job left) (is_last job left)) [ inl own ↦ own | inr none ↦ none.0 ]
+      cut_is job left (Some q) is =
+          let within : q < 0 + length (talk_in b (n.worlds (root_of b (job_bus job))) job left None).calls =
+          found_within (λ i. fails (root_of b (job_bus job)) (length (n.calls (root_of b (job_bus job))) + i)) 0 (length (talk_in b (n.worlds (root_of b (job_bus job))) job left None).calls) q is in
+          ap cut_of (reach-talk world_listener q (block_limit b) (n.worlds (root_of b (job_bus job))) (message_of b job left) (is_last job left) (omega (arith, within)))
+
+      by : (o : Option Act) → entry_by b asks fails n c o ≡ Some e → FailsAs b fails n o e
+      by None adds = tt
+      by (Some (Take l)) adds = tt
+      by (Some (Free l)) adds = tt
+      by (Some (Settle verdict)) adds = tt
+      by (Some (Shift job)) adds = subst (λ (x : Entry). FailsAs b fails n (Some (Shift job)) x) (some_is _ e adds) refl
+      by (Some (Send job left)) adds =
+          subst (λ (x : Entry). FailsAs b fails n (Some (Send job left)) x) (some_is (message_entry b n c job left (played_talk b fails n job left)) e adds)
+          (sym (cut_is job left (next_failing b fails n job left) refl))
+
   adds_next : (c : ℕ) (act : Act) → IsNext b asks n c act → next_entry b asks fails n c ≡ entry_by b asks fails n c (Some act)
   adds_next c act next = ap (λ (o : Option Act). entry_by b asks fails n c o) next
 
