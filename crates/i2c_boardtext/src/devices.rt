@@ -1,6 +1,6 @@
 ghost use Rattle.std.specs.Prelude.{◌≡◌, ◌<◌, None};
 ghost use Rattle.toml.specs.View.{view, table_view};
-ghost use Rattle.i2c_spec.specs.Targets.{FitsKind, size_of_eeprom};
+ghost use Rattle.i2c_spec.specs.Targets.{FitsKind};
 ghost use Rattle.i2c_boardtext.specs.Devices.{device_named, device_row, memory_of};
 ghost use Rattle.i2c_boardtext.specs.Items.{named_in};
 ghost use Rattle.i2c_boardtext.specs.Keys.{device_rules};
@@ -12,6 +12,7 @@ use crate::numbers::{ADDRESS, BUSY, FILL, FLIP, HOLD, RAW, WIDTH, number_at};
 use crate::read::flag;
 use crate::rule::table_fault;
 use i2c_base::{DeviceKind, Size};
+use i2c_spec::eeprom_bytes;
 use toml::{Table, Value};
 
 /// The kinds of device, without the numbers that each alone has.
@@ -47,24 +48,13 @@ pub fn device_in(value: &Value) -> Option<DeviceName>
     }
 }
 
-// How many bytes an EEPROM has.
-fn eeprom_bytes(size: Size) -> u32
-    ensures { result ≡ size_of_eeprom size }
-{
-    match size {
-        Size::C02 => 256,
-        Size::C32 => 4096,
-        Size::C256 => 32768,
-    }
-}
-
 impl DeviceName {
     /// The size of the memory that `set` writes, where it has one.
     pub fn memory(self) -> Option<u32>
         ensures { result ≡ memory_of self }
     {
         match self {
-            DeviceName::Eeprom(size) => Some(eeprom_bytes(size)),
+            DeviceName::Eeprom(size) => Some(u32::from(eeprom_bytes(size))),
             DeviceName::Lm75 => None,
             DeviceName::Regs => Some(256),
             DeviceName::Smbus => Some(256),
@@ -81,7 +71,7 @@ pub fn device_fault(table: &Table, buses: u16, name: DeviceName) -> Option<Table
     let address = ADDRESS.has_to_say();
     match name {
         DeviceName::Eeprom(size) => {
-            let set = runs(eeprom_bytes(size));
+            let set = runs(u32::from(eeprom_bytes(size)));
             table_fault(
                 table,
                 &[bus, KIND, address, BOUND, set, FILL.may_say(), BUSY.may_say(), WP],

@@ -1,5 +1,5 @@
--- A file for each subject. The tables of the other devices (24cNN, lm75, the SMBus device) go beside `Regs`,
--- each with a case of `Targets.TargetState`; the rows of the SMBus calls get a file of their own.
+-- A file for each subject. The table of the SMBus device goes beside `Regs`, `Eeprom` and `Lm75`, with a case of
+-- `Targets.TargetState`; the rows of the SMBus calls get a file of their own.
 pub mod Tree
 pub mod TreeFacts
 pub mod Numbers
@@ -9,8 +9,11 @@ pub mod Grant
 pub mod Rules
 pub mod Searches
 pub mod Regs
+pub mod Eeprom
+pub mod Lm75
 pub mod Chips
 pub mod Targets
+pub mod TargetRows
 pub mod World
 pub mod Messages
 pub mod Conversation

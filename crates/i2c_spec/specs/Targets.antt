@@ -1,6 +1,6 @@
 -- Every device of a board, whatever its kind, as one type of states with one table, and what is so of each kind: a row.
 -- A further kind of device adds a case, a line of each function, a row, and the file of its table.
-use Rattle.std.specs.Prelude.{◌≡◌, ℕ, true, false, List, [], ◌∷◌, Option, Some, None}
+use Rattle.std.specs.Prelude.{◌≡◌, ℕ, Bool, true, false, ◌⊎◌, List, [], ◌∷◌, Option, Some, None}
 use Rattle.std.specs.List.{AllByRecursion}
 use Rattle.i2c_base.specs.declared.board.DeviceKind.{DeviceKind}
 use Rattle.i2c_base.specs.declared.board.DeviceKind.TheVariants as kind
@@ -10,10 +10,9 @@ use Rattle.i2c_base.specs.declared.event.Answer.{Answer}
 use Rattle.i2c_base.specs.declared.event.Answer.TheVariants as answer
 use Rattle.i2c_base.specs.Board.{DeviceView, RunView}
 use Rattle.i2c_base.specs.Table.{Table}
-use Rattle.i2c_base.specs.declared.board.Size.{Size}
-use Rattle.i2c_base.specs.declared.board.Size.TheVariants.{C02, C32, C256}
 use Rattle.i2c_spec.specs.Numbers.{NumberKey, IsFor, fill_key, busy_key, raw_key, hold_key, width_key, flip_key}
-use Rattle.i2c_spec.specs.Regs.{RegsView, regs_after, regs_answer, regs_sends, regs_opening}
+use Rattle.i2c_spec.specs.Eeprom.{size_of_eeprom}
+use Rattle.i2c_spec.specs.Regs.{RegsView, regs_after, regs_answer, regs_sends, regs_opening, is_too_long}
 
 pub data TargetState : Type 0 where
   Regs : (x : RegsView) → TargetState
@@ -60,11 +59,6 @@ pub record KindRow : Type 0 where
 abbrev pub of_key : NumberKey → ℕ → Number
 of_key key n = record { key = key; value = n }
 
-abbrev pub size_of_eeprom : Size → ℕ
-size_of_eeprom C02 = 256
-size_of_eeprom C32 = 4096
-size_of_eeprom C256 = 32768
-
 abbrev pub row_of_kind : DeviceKind → KindRow
 row_of_kind (kind.Eeprom size fill busy wp) =
     record { numbers = of_key fill_key fill ∷ of_key busy_key busy ∷ []; memory = Some (size_of_eeprom size); opens = λ set. Silent }
@@ -85,8 +79,22 @@ pub record IsQuiet {X : Type 0} (t : Table X) (x : X) : Type 0 where
   pub other : t.after x event.Other ≡ x
   pub stop : t.after x event.Stop ≡ x
 
--- what a table promises: after a stop a target is quiet, and a byte that is read is the one that it sends
+-- who is asked for an acknowledge gives it or not (UM10204 section 3.1.6)
+abbrev pub IsAckOrNack : Answer → Type 0
+IsAckOrNack a = (a ≡ answer.Ack) ⊎ (a ≡ answer.Nack)
+
+-- a start is too slow for the controller exactly where the clock is held too long
+abbrev pub IsStartAnswer : (slow : Bool) → Answer → Type 0
+IsStartAnswer true a = a ≡ answer.Slow
+IsStartAnswer false a = IsAckOrNack a
+
+-- what a table promises: after a stop a target is quiet, a byte that is read is the one that it sends, and each event is
+-- answered by what belongs to it
 pub record IsFairTable {X : Type 0} (t : Table X) : Type 0 where
   pub stops : (x : X) → IsQuiet t (t.after x event.Stop)
   pub sends : (x : X) → t.answer x (event.Get true) ≡ answer.Byte (t.sends x)
   pub sends_last : (x : X) → t.answer x (event.Get false) ≡ answer.Byte (t.sends x)
+  pub starts : (x : X) (reading : Bool) → IsStartAnswer (is_too_long (t.hold x)) (t.answer x (event.Start reading))
+  pub puts : (x : X) (byte : ℕ) → IsAckOrNack (t.answer x (event.Put byte))
+  pub other : (x : X) → t.answer x event.Other ≡ answer.Nothing
+  pub stop : (x : X) → t.answer x event.Stop ≡ answer.Nothing

@@ -3,20 +3,33 @@
 //!
 //! The definitions stand in `specs/`, a file for each subject, over plain records and lists. Code stands here only where
 //! crates above call it: `Layout` computes those of the tree, the grant and the topology rules over a board's parts, and
-//! `refusal`, `errno_of` and `done_with` what becomes of a transfer as a whole; each is equal to its definition.
+//! `refusal`, `errno_of` and `done_with` what becomes of a transfer as a whole, and `write_runs` and the functions of a
+//! `Size` what a device's memory is at the opening; each is equal to its definition.
 #![tactic(auto)]
 
+mod device_memory;
 mod fair_targets;
 mod flat_world;
 mod grant;
 mod hop;
 mod laws;
 mod layout;
+mod target_rows;
 mod topology;
 mod tree;
 
-pub use fair_targets::{chips_are_fair, openings_are_quiet, regs_are_fair, states_are_fair};
+pub use device_memory::{eeprom_bytes, eeprom_page, is_wide, write_runs};
+pub use fair_targets::{
+    chips_are_fair, eeproms_are_fair, lm75s_are_fair, openings_are_quiet, regs_are_fair,
+    states_are_fair,
+};
 pub use flat_world::{done_with, errno_of, refusal};
 pub use hop::Hop;
 pub use laws::an_accepted_board_is_a_tree;
 pub use layout::Layout;
+pub use target_rows::{
+    a_busy_eeprom_refuses_starts, a_byte_waits_for_the_stop, a_long_hold_is_slow,
+    a_page_write_wraps_in_its_page, a_protected_byte_is_refused, a_read_wraps_at_the_end_of_memory,
+    each_read_of_an_lm75_begins_at_the_high_byte, the_high_byte_of_a_place_comes_first,
+    the_low_byte_of_a_limit_keeps_its_highest_bit,
+};

@@ -12,7 +12,7 @@ returns-in-Eeprom c =
     rw c.in-Eeprom.is
     (c.table_fault.ensures
     ∙ ap (λ rs. table_fault rs (table_view c.args.table.now))
-    (more c.bus-bus.ensures (more_same kind_rule (more c.has_to_say-address.ensures (more_same (may_have (codes "bound") Flag) (more (c.runs-set.ensures ∙ ap set_rule c.eeprom_bytes.ensures) (more c.may_say.ensures (more c.may_say-in-Eeprom.ensures (more_same (may_have (codes "wp") Flag) no_more)))))))))
+    (more c.bus-bus.ensures (more_same kind_rule (more c.has_to_say-address.ensures (more_same (may_have (codes "bound") Flag) (more (c.runs-set.ensures ∙ ap set_rule (c.from.ensures ∙ c.eeprom_bytes.ensures)) (more c.may_say.ensures (more c.may_say-in-Eeprom.ensures (more_same (may_have (codes "wp") Flag) no_more)))))))))
 
 pub returns-in-Lm75 : goal.returns-in-Lm75
 returns-in-Lm75 c =
