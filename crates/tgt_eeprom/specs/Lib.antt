@@ -1,0 +1,2 @@
+pub mod Eeproms
+pub use Rattle.i2c_spec.specs.Eeprom
