@@ -1,7 +1,6 @@
 pub mod Causes
 pub mod Devices
 pub mod LineCalls
-pub mod Registers
 pub mod Shelves
 pub mod Sinks
 pub use Rattle.i2c_spec.specs.Board

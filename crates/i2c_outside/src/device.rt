@@ -3,8 +3,8 @@ ghost use Rattle.i2c_spec.specs.Plain.{IsPlainDevice};
 ghost use Rattle.i2c_spec.specs.Targets.{opening_state, silent_answer};
 ghost use Rattle.i2c_outside.specs.Devices.{target_state, device_table, device_opening};
 
-use crate::Regs;
 use i2c_base::{Answer, DeviceKind, DeviceSpec, Event, Target};
+use tgt_small::Regs;
 
 /// A device of a board, whatever its kind.
 #[derive(Drop)]

@@ -1,12 +1,13 @@
-ghost use Rattle.std.specs.Prelude.{◌≡◌, ℕ, ◌+◌, ◌≤◌, All, length};
-ghost use Rattle.i2c_spec.specs.Plain.{IsPlainDevice, IsPlainRun};
-ghost use Rattle.i2c_spec.specs.Regs.{regs_table, regs_after, regs_answer, regs_sends, write_run, write_runs};
+ghost use Rattle.std.specs.Prelude.{◌≡◌};
+ghost use Rattle.i2c_spec.specs.Plain.{IsPlainDevice};
+ghost use Rattle.i2c_spec.specs.Regs.{regs_table, regs_after, regs_answer, regs_sends};
 ghost use Rattle.i2c_base.specs.declared.event.Event.TheVariants as event;
 ghost use Rattle.i2c_spec.specs.Targets as target;
 ghost use Rattle.i2c_spec.specs.Targets.{opening_state};
-ghost use Rattle.i2c_outside.specs.Registers.{IsRegs};
+ghost use Rattle.tgt_small.specs.Registers.{IsRegs};
 
-use i2c_base::{Answer, DeviceKind, DeviceSpec, Event, Run, Target};
+use i2c_base::{Answer, DeviceKind, DeviceSpec, Event, Target};
+use i2c_spec::write_runs;
 use std::marker::Model;
 
 /// What a register device awaits of the message in progress.
@@ -43,7 +44,7 @@ impl Model for Regs {
 
     ghost Value = { RegsView };
 
-    ghost use Rattle.i2c_outside.specs.Registers.{phase_of};
+    ghost use Rattle.tgt_small.specs.Registers.{phase_of};
 
     ghost view = { λ r. record { phase = phase_of r.awaits; pointer = r.pointer; memory = r.memory; hold = r.hold } };
 }
@@ -144,25 +145,6 @@ impl Regs {
         }
         Answer::Byte(byte)
     }
-}
-
-/// Writes these runs, one after the other.
-fn write_runs(memory: &mut [u8], runs: &[Run])
-    requires { All (IsPlainRun (length memory.old)) runs.now }
-    ensures { memory.new ≡ write_runs memory.old runs.now }
-{
-    for run in runs {
-        write_run(memory, run);
-    }
-}
-
-/// Writes the bytes of a run at its place.
-fn write_run(memory: &mut [u8], run: &Run)
-    requires { run.now.start + length run.now.bytes ≤ length memory.old }
-    ensures { memory.new ≡ write_run memory.old run.now }
-{
-    let start = usize::from(run.start);
-    memory[start..start + run.bytes.len()].copy_from_slice(&run.bytes);
 }
 
 impl Target for Regs {

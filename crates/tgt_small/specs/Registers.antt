@@ -3,8 +3,8 @@ use Rattle.std.specs.Prelude.{◌≡◌, ℕ}
 use Rattle.i2c_base.specs.declared.board.DeviceKind.{DeviceKind}
 use Rattle.i2c_base.specs.declared.board.DeviceKind.TheVariants as device_kind
 use Rattle.i2c_spec.specs.Regs.{RegsPhase, Idle, Pointer, Data, Read}
-use Rattle.i2c_outside.specs.declared.registers.Awaits.{Awaits}
-use Rattle.i2c_outside.specs.declared.registers.Awaits.TheVariants as awaits
+use Rattle.tgt_small.specs.declared.registers.Awaits.{Awaits}
+use Rattle.tgt_small.specs.declared.registers.Awaits.TheVariants as awaits
 
 -- what has come of the message in progress, by what the device awaits
 abbrev pub phase_of : Awaits → RegsPhase
