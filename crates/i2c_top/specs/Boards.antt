@@ -1,6 +1,7 @@
 -- Which boards this version steps, and what a board's text says: the board, or why it is refused.
-use Rattle.std.specs.Prelude.{◌≡◌, ◌≢◌, ℕ, ◌≤◌, false, All, List, length, Ok, Err}
+use Rattle.std.specs.Prelude.{⊤, ◌≡◌, ◌≢◌, ℕ, ◌≤◌, false, All, List, length, Ok, Err}
 use Rattle.i2c_base.specs.Board.{BoardView}
+use Rattle.i2c_base.specs.declared.board.DeviceKind.{DeviceKind}
 use Rattle.i2c_base.specs.declared.board.DeviceKind.TheVariants as kind
 use Rattle.i2c_base.specs.declared.board.LockMode.TheVariants.{Parent}
 use Rattle.i2c_base.specs.declared.board.MuxKind.TheVariants.{Pca9548}
@@ -14,7 +15,13 @@ use Rattle.i2c_top.specs.declared.status.BoardRefusal.{BoardRefusal}
 use Rattle.i2c_top.specs.declared.status.BoardRefusal.TheVariants as refusal
 
 -- what this version steps: one root, at most one mux, a parent-locked switch of eight channels that is there, and
--- register devices that hold no clock
+-- devices of every kind but SMBus devices
+abbrev pub IsBuiltKind : DeviceKind → Type 0
+IsBuiltKind (kind.Eeprom size fill busy wp) = ⊤
+IsBuiltKind (kind.Lm75 raw) = ⊤
+IsBuiltKind (kind.Regs hold) = ⊤
+IsBuiltKind (kind.Smbus width flip) = ⊥
+
 pub record IsBuiltMux (m : MuxSpec) : Type 0 where
   pub kind_is : m.kind ≡ Pca9548
   pub locked : m.lock ≡ Parent
@@ -24,7 +31,7 @@ pub record IsBuilt (b : BoardView) : Type 0 where
   pub one_root : length b.roots ≡ 1
   pub few_muxes : length b.muxes ≤ 1
   pub switches : All IsBuiltMux b.muxes
-  pub registers : All (λ d. d.kind ≡ kind.Regs 0) b.devices
+  pub kinds : All (λ d. IsBuiltKind d.kind) b.devices
 
 -- a text spells this board, which meets the rules
 pub record IsAccepted (text : List ℕ) (board : BoardView) : Type 0 where

@@ -1,6 +1,5 @@
 ghost use Rattle.std.specs.Prelude.{◌≡◌, ◌↔◌, ◌≤◌, IsTrue, All, length};
-ghost use Rattle.i2c_base.specs.declared.board.DeviceKind.TheVariants as kind;
-ghost use Rattle.i2c_top.specs.Boards.{IsBuiltMux, IsBuilt};
+ghost use Rattle.i2c_top.specs.Boards.{IsBuiltKind, IsBuiltMux, IsBuilt};
 
 use i2c_base::{DeviceKind, DeviceSpec, LockMode, MuxKind, MuxSpec};
 use i2c_board::Board;
@@ -19,16 +18,19 @@ fn has_built_muxes(board: &Board) -> bool
     board.muxes().iter().all(|mux| is_built_mux(mux))
 }
 
-// A register device that holds no clock.
+// A device that is no SMBus device.
 fn is_built_device(device: &DeviceSpec) -> bool
-    ensures { IsTrue result ↔ device.now.kind ≡ kind.Regs 0 }
+    ensures { IsTrue result ↔ IsBuiltKind device.now.kind }
 {
-    matches!(&device.kind, DeviceKind::Regs { hold: 0 })
+    match &device.kind {
+        DeviceKind::Eeprom { .. } | DeviceKind::Lm75 { .. } | DeviceKind::Regs { .. } => true,
+        DeviceKind::Smbus { .. } => false,
+    }
 }
 
 // Each of its devices is one.
 fn has_built_devices(board: &Board) -> bool
-    ensures { IsTrue result ↔ All (λ d. d.kind ≡ kind.Regs 0) board.now.devices }
+    ensures { IsTrue result ↔ All (λ d. IsBuiltKind d.kind) board.now.devices }
 {
     board.devices().iter().all(|device| is_built_device(device))
 }
