@@ -40,3 +40,8 @@ IsTurn b callers asks past t = IsOne b callers asks past t ⊎ IsTwo b callers a
 abbrev pub Comes : BoardView → ℕ → Asks → List Entry → List Turn → Type 0
 Comes b callers asks past [] = Unit {0}
 Comes b callers asks past (t ∷ ts) = IsTurn b callers asks past t × Comes b callers asks (past_after past t) ts
+
+-- the past behind them
+abbrev pub after_all : List Entry → List Turn → List Entry
+after_all past [] = past
+after_all past (t ∷ ts) = after_all (past_after past t) ts

@@ -42,7 +42,8 @@ pub use others::{
 pub use targets::each_message_reaches_its_target;
 pub use unique::{a_caller_alone_has_one_journal, a_schedule_has_one_journal};
 pub use waiting::{
-    each_caller_goes_on_or_is_stuck, not_all_wait, some_caller_can_go_on, who_is_stuck_waits,
+    each_caller_goes_on_or_is_stuck, not_all_wait, some_caller_can_go_on, who_can_go_on_is_ready,
+    who_is_stuck_waits,
 };
 pub use walks::{
     each_walk_holds_its_locks, each_walk_keeps_its_path_open, each_walk_keeps_to_its_cost,

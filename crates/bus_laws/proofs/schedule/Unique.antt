@@ -1,6 +1,6 @@
 -- Two journals that follow one schedule, and in which the same calls of the ports failed, are the same. The inductions go
 -- over the words of the schedule, and over the steps behind the last word.
-use Rattle.std.proofs.Common.{◌≡◌, ℕ, ◌<◌, ◌≤◌, Bool, true, false, not, cond, List, [], ◌∷◌, ◌++◌, Option, Some, None, refl, sym, ◌∙◌, ap, subst, inl, inr, append_assoc, arith}
+use Rattle.std.proofs.Common.{◌≡◌, ◌↔◌, ℕ, ◌<◌, ◌≤◌, Bool, true, false, not, cond, List, [], ◌∷◌, ◌++◌, Option, Some, None, refl, sym, ◌∙◌, ap, subst, inl, inr, append_assoc, arith}
 use Rattle.std.specs.Prelude.{reverse, MatchBool, ◌==◌}
 use Rattle.std.specs.List.{find}
 use Rattle.std.proofs.lemmas.Bool.Decides.{eqb_tells, leb_tells}
@@ -27,7 +27,7 @@ use Rattle.bus_laws.specs.Lines.{LinesAreLocked}
 use Rattle.bus_laws.specs.Reach.{AsksForMessages}
 use Rattle.bus_laws.specs.Ready.{CanGoOn}
 use Rattle.bus_laws.specs.Others.{ahead}
-use Rattle.bus_laws.specs.Coming.{IsOne, IsTwo, IsTurn, Comes}
+use Rattle.bus_laws.specs.Coming.{IsOne, IsTwo, IsTurn, Comes, after_all}
 use Rattle.bus_laws.proofs.past.StandsStep.{at_same, at_other}
 use Rattle.bus_laws.proofs.past.Laws.{past-stands, holder-told}
 use Rattle.bus_laws.proofs.past.Asked.{settled-told}
@@ -37,7 +37,7 @@ use Rattle.bus_laws.proofs.past.GoesOn.{goes-on-or-stuck}
 use Rattle.bus_laws.proofs.past.OneEntry.{Logs, FailIn, GoOnFrom, one-entry}
 use Rattle.bus_laws.proofs.schedule.Coming.{ready_by, turn-leaves, first_of, stuck-waits, turn-ready, word-made, word-passed}
 use Rattle.bus_laws.proofs.schedule.Turns.{quiet-behind}
-use Rattle.bus_laws.proofs.schedule.Whole.{ComeWhole, after_all, all-come, IsItsTurns, whole-comes, alone_due}
+use Rattle.bus_laws.proofs.schedule.Whole.{ComeWhole, all-come, IsItsTurns, whole-comes, alone_due}
 
 -- LOGS only grow
 module _ (b : BoardView) (asks : Asks) where
@@ -236,6 +236,18 @@ module _ (b : BoardView) (tree : IsTree b) (plain : IsPlainBoard b) (lines : Lin
           | inr stuck ↦ stuck-waits b tree plain lines asks some callers c past steps stuck later1 comes1 ∙ sym (stuck-waits b tree plain lines asks some callers c past steps stuck later2 comes2)
         ]
       ]
+
+  -- so who can go on is ready, and nobody else
+  pub ready-exact : (past : List Entry) → IsStepwise b callers asks past → (now b asks past).due ≡ None → (later : List Turn) → Comes b callers asks past later → AllFinished (after_all past later)
+      → (c : ℕ) → c < callers → (is_ready past later c ≡ true) ↔ CanGoOn b callers asks past c
+  ready-exact past steps none later comes end c low = (ready_goes, λ goes. let g = goes_free past steps c goes in ready_comes past c g.0 g.2 past steps g.1 later comes (end c low))
+    where
+      ready_goes : is_ready past later c ≡ true → CanGoOn b callers asks past c
+      ready_goes ready =
+          elim (goes-on-or-stuck b tree plain lines asks some callers past steps none c low) [
+            | inl goes ↦ goes
+            | inr stuck ↦ absurd (let f : true ≡ false = sym ready ∙ stuck-waits b tree plain lines asks some callers c past steps stuck later comes in cc)
+          ]
 
   -- where all have finished nothing comes
   nothing_comes : (past : List Entry) → AllFinished past → (t : Turn) → IsTurn b callers asks past t → ⊥

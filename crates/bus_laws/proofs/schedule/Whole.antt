@@ -22,7 +22,7 @@ use Rattle.bus_laws.specs.Lines.{LinesAreLocked}
 use Rattle.bus_laws.specs.Reach.{AsksForMessages}
 use Rattle.bus_laws.specs.Settles.{NoSettle}
 use Rattle.bus_laws.specs.Others.{ahead}
-use Rattle.bus_laws.specs.Coming.{IsTurn, Comes}
+use Rattle.bus_laws.specs.Coming.{IsTurn, Comes, after_all}
 use Rattle.bus_laws.proofs.walk.SettleLaw.{walk-starts}
 use Rattle.bus_laws.proofs.past.Placed.{IsDueBehind, past-due, due-made, starts_seen, no_settle}
 use Rattle.bus_laws.proofs.schedule.Turns.{turns-more}
@@ -31,11 +31,6 @@ use Rattle.bus_laws.proofs.schedule.Turns.{turns-more}
 abbrev pub ComeWhole : BoardView → ℕ → Asks → List Entry → List Turn → Type 0
 ComeWhole b callers asks past [] = Unit {0}
 ComeWhole b callers asks past (t ∷ ts) = IsTurn b callers asks past t × ((now b asks (past_after past t)).due ≡ None) × ComeWhole b callers asks (past_after past t) ts
-
--- the past behind them
-abbrev pub after_all : List Entry → List Turn → List Entry
-after_all past [] = past
-after_all past (t ∷ ts) = after_all (past_after past t) ts
 
 pub all-come : (b : BoardView) (callers : ℕ) (asks : Asks) (past : List Entry) (ts : List Turn) → ComeWhole b callers asks past ts → Comes b callers asks past ts
 all-come b callers asks past [] whole = tt
