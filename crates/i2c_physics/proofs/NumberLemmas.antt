@@ -1,12 +1,12 @@
 -- Rising numbers. The inductions go over the numbers.
-use Rattle.std.proofs.Common.{◌≡◌, ℕ, zero, suc, ◌+◌, ◌-◌, ◌<◌, ◌≤◌, Bool, true, false, ◌&&◌, ◌||◌, cond, List, [], ◌∷◌, ◌++◌, length, drop, refl, sym, ◌∙◌, ap, arith, inl, inr}
+use Rattle.std.proofs.Common.{◌≡◌, ℕ, zero, suc, ◌+◌, ◌-◌, ◌<◌, ◌≤◌, Bool, true, false, ◌&&◌, ◌||◌, cond, List, [], ◌∷◌, ◌++◌, length, drop, refl, sym, ◌∙◌, ap, subst, arith, inl, inr}
 use Rattle.std.specs.Prelude.{◌==◌}
-use Rattle.std.specs.List.{filter, range_with_len}
-use Rattle.std.proofs.lemmas.Bool.{ne_eqb}
+use Rattle.std.specs.List.{filter, list_all, range_with_len}
+use Rattle.std.proofs.lemmas.Bool.{ne_eqb, eqb-false}
 use Rattle.std.proofs.lemmas.Bool.Decides.{eqb_tells}
 use Rattle.std.proofs.lemmas.List.{map-id}
 use Rattle.std.proofs.lemmas.List.FromFn.{filter_of_map_range_with_len_more}
-use Rattle.i2c_physics.specs.Reach.{is_among, AreRising}
+use Rattle.i2c_physics.specs.Reach.{is_among, AreRising, either}
 
 -- one number more
 pub filter_more : (p : ℕ → Bool) (n : ℕ) → filter p (range_with_len 0 (n + 1)) ≡ filter p (range_with_len 0 n) ++ cond (p n) (n ∷ []) []
@@ -88,3 +88,65 @@ among_from low (suc n) k at below =
 
 pub among-range : (n k : ℕ) → k < n → is_among (range_with_len 0 n) k ≡ true
 among-range n k below = among_from 0 n k (omega arith) (omega arith)
+
+-- those of a range that are among rising numbers of it are these numbers
+filter_same : (p q : ℕ → Bool) (low n : ℕ) → ((k : ℕ) → low ≤ k → p k ≡ q k) → filter p (range_with_len low n) ≡ filter q (range_with_len low n)
+filter_same p q low zero same = refl
+filter_same p q low (suc n) same =
+    ap (λ b. cond b (low ∷ filter p (range_with_len (low + 1) n)) (filter p (range_with_len (low + 1) n))) (same low (omega arith))
+    ∙ ap (λ ns. cond (q low) (low ∷ ns) ns) (filter_same p q (low + 1) n (λ k at. same k (omega arith)))
+
+none_among : (low n : ℕ) → filter (is_among []) (range_with_len low n) ≡ []
+none_among low zero = refl
+none_among low (suc n) = none_among (low + 1) n
+
+above : (low m : ℕ) → low ≤ m → (low == m) ≡ false → low < m
+above low m at other = omega (arith, at, λ (e : low ≡ m). eqb-false low m other e)
+
+at_first : (low high n m : ℕ) (ms : List ℕ) → AreRising low high (m ∷ ms) → low + suc n ≡ high → low ≡ m
+    → filter (is_among ms) (range_with_len (low + 1) n) ≡ ms → filter (is_among (m ∷ ms)) (range_with_len low (suc n)) ≡ m ∷ ms
+at_first low high n m ms r e same rest =
+    let here : (m == low) ≡ true = elim (eqb_tells m low) [ inl x ↦ x.0 | inr x ↦ absurd (x.1 (sym same)) ] in
+    let later : filter (is_among (m ∷ ms)) (range_with_len (low + 1) n) ≡ ms =
+    filter_same (is_among (m ∷ ms)) (is_among ms) (low + 1) n (λ k at. let other : (m == k) ≡ false = ne_eqb m k (λ f. absurd (omega (arith, f, same))) in rw other refl) ∙ rest in
+    rw (here, later) (ap (λ k. k ∷ ms) same)
+
+first_among : (low high n m : ℕ) (ms : List ℕ) → AreRising low high (m ∷ ms) → low + suc n ≡ high
+    → filter (is_among (m ∷ ms)) (range_with_len (low + 1) n) ≡ m ∷ ms → (low == m) ≡ false → filter (is_among (m ∷ ms)) (range_with_len low (suc n)) ≡ m ∷ ms
+first_among low high n m ms r e rest other =
+    let out : is_among (m ∷ ms) low ≡ false = rising-apart m high (m ∷ ms) (omega arith, r.1, r.2) low (above low m r.0 other) in
+    rw out rest
+
+among_itself : (low high n : ℕ) (ns : List ℕ) → AreRising low high ns → low + n ≡ high → filter (is_among ns) (range_with_len low n) ≡ ns
+among_itself low high n [] r e = none_among low n
+among_itself low high zero (m ∷ ms) r e = absurd (omega (arith, r.0, r.1))
+among_itself low high (suc n) (m ∷ ms) r e =
+    elim (eqb_tells low m) [
+      | inl same ↦ at_first low high n m ms r e same.1 (among_itself (low + 1) high n ms (subst (λ k. AreRising (k + 1) high ms) (sym same.1) r.2) (omega arith))
+      | inr other ↦ first_among low high n m ms r e (among_itself (low + 1) high n (m ∷ ms) (omega (arith, above low m r.0 other.0), r.1, r.2) (omega arith)) other.0
+    ]
+
+pub either_none : (count : ℕ) (none ns : List ℕ) → length none ≡ 0 → AreRising 0 count ns → ns ≡ either count none ns
+either_none count [] ns empty r = sym (among_itself 0 count count ns r (omega arith))
+either_none count (n ∷ none) ns empty r = absurd (omega arith)
+
+or_none : (b : Bool) → (b || false) ≡ b
+or_none true = refl
+or_none false = refl
+
+and_true : (b c : Bool) → (b && c) ≡ true → (b ≡ true) × (c ≡ true)
+and_true true c e = (refl, e)
+and_true false c e = absurd (let f : true ≡ false = sym e in cc)
+
+or_has : (ns ms : List ℕ) → list_all (is_among ns) ms ≡ true → (k : ℕ) → (is_among ns k || is_among ms k) ≡ is_among ns k
+or_has ns [] all k = or_none (is_among ns k)
+or_has ns (m ∷ ms) all k =
+    let both = and_true (is_among ns m) (list_all (is_among ns) ms) all in
+    elim (eqb_tells m k) [
+      | inl same ↦ (let in_ns : is_among ns k ≡ true = ap (is_among ns) (sym same.1) ∙ both.0 in rw in_ns refl)
+      | inr other ↦ rw other.0 (or_has ns ms both.1 k)
+    ]
+
+pub either_has : (count : ℕ) (ns ms : List ℕ) → AreRising 0 count ns → list_all (is_among ns) ms ≡ true → either count ns ms ≡ ns
+either_has count ns ms r all =
+    filter_same (λ k. is_among ns k || is_among ms k) (is_among ns) 0 count (λ k at. or_has ns ms all k) ∙ among_itself 0 count count ns r (omega arith)

@@ -1,6 +1,6 @@
 ghost use Rattle.std.specs.Prelude.{◌≡◌, ◌<◌, ◌≤◌, ◌+◌, ◌++◌, ◌&&◌, ◌||◌, [], ◌∷◌, not, length, if◌then◌else◌};
-ghost use Rattle.std.specs.List.{filter};
-ghost use Rattle.i2c_physics.specs.Reach.{is_among, joins_at, has_at, called, others, either};
+ghost use Rattle.std.specs.List.{filter, list_all};
+ghost use Rattle.i2c_physics.specs.Reach.{is_among, AreRising, joins_at, has_at, called, others, either};
 
 use crate::place::Place;
 use arrayvec::ArrayVec;
@@ -35,13 +35,15 @@ impl Reach {
     }
 
     /// A start is told of, to so many, and these have heard it.
-    pub fn follow(&mut self, count: usize, start: &Start, heard: Numbers)
-        requires { count ≤ 128 }
-        ensures started { self.new.started.items ≡ either count self.old.started.items start.now.called.items }
+    pub fn follow(&mut self, count: usize, start: Start, heard: Numbers)
+        requires few { count ≤ 128 }
+        requires started { AreRising 0 count self.old.started.items }
+        requires called { AreRising 0 count start.called.items }
+        ensures started { self.new.started.items ≡ either count self.old.started.items start.called.items }
         ensures hearing { self.new.hearing ≡ heard }
     {
-        self.started = either(count, self.started.as_slice(), start.called.as_slice());
         self.hearing = heard;
+        add_all(&mut self.started, count, start.called);
     }
 }
 
@@ -157,6 +159,28 @@ pub fn parted(chips: &[Chip], places: &[Place], numbers: &[u16]) -> (Numbers, Nu
         }
     }
     (joined, apart)
+}
+
+/// These numbers are all among the others.
+fn has_all(numbers: &[u16], others: &[u16]) -> bool
+    ensures { result ≡ list_all (is_among numbers.now) others.now }
+{
+    others.iter().all(|number| is_among(numbers, *number))
+}
+
+/// Adds these numbers, of so many. Only where there are some of both is more to be looked at than the two lists.
+#[tactic(auto, using(crate::proofs::NumberLemmas::either_none, crate::proofs::NumberLemmas::either_has))]
+fn add_all(numbers: &mut Numbers, count: usize, added: Numbers)
+    requires few { count ≤ 128 }
+    requires numbers { AreRising 0 count numbers.old.items }
+    requires added { AreRising 0 count added.items }
+    ensures { numbers.new.items ≡ either count numbers.old.items added.items }
+{
+    if numbers.len() == 0 {
+        *numbers = added;
+    } else if !has_all(numbers.as_slice(), added.as_slice()) {
+        *numbers = either(count, numbers.as_slice(), added.as_slice());
+    }
 }
 
 fn is_in_either(first: &[u16], second: &[u16], number: u16) -> bool

@@ -93,9 +93,9 @@ impl SimWorld {
         let devices = begin(&mut self.devices, &to_devices, reading);
         let answer = answer_of(&chips, &devices);
         self.chip_reach
-            .follow(self.chips.len(), &to_chips, chips.heard);
+            .follow(self.chips.len(), to_chips, chips.heard);
         self.device_reach
-            .follow(self.devices.len(), &to_devices, devices.heard);
+            .follow(self.devices.len(), to_devices, devices.heard);
         self.busy = true;
         answer
     }

@@ -1,3 +1,4 @@
 pub mod FitLemmas
+pub mod GiveLemmas
 pub mod TalkLemmas
 pub mod TransferTalkLemmas

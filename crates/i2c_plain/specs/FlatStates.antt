@@ -1,5 +1,5 @@
 -- What the plain program of the flat world keeps beside its devices.
-use Rattle.std.specs.Prelude.{ℕ, Bool, Option, None}
+use Rattle.std.specs.Prelude.{ℕ, Bool, List, Option, None, slice_index_or}
 use Rattle.i2c_base.specs.declared.event.Event.{Event}
 use Rattle.i2c_base.specs.declared.event.Event.TheVariants as event
 use Rattle.i2c_base.specs.declared.port.PortCall.{PortCall}
@@ -26,3 +26,7 @@ flat_event granted f (call.Line m level) d = None
 
 abbrev pub flat_fed : Option ℕ → FlatListener → PortCall → FlatListener
 flat_fed granted f c = record f { states = feed state_table (flat_event granted f c) 0 f.states }
+
+-- the event for the target of a number, where a list tells them
+abbrev pub event_at : List (Option Event) → ℕ → Option Event
+event_at events k = slice_index_or events k None

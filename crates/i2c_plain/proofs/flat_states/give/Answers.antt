@@ -1,6 +1,6 @@
 use Rattle.std.proofs.Common.{◌≡◌, ◌+◌, ◌-◌, ◌<◌, length, ◌∙◌, arith}
-use Rattle.i2c_physics.specs.Events.{event_at}
-use Rattle.i2c_physics.proofs.TogetherLemmas.{fed_some, fed_none, feed_listed}
+use Rattle.i2c_plain.specs.FlatStates.{event_at}
+use Rattle.i2c_plain.proofs.GiveLemmas.{fed_some, fed_none, feed_listed}
 use Rattle.i2c_plain.proofs.flat_states.give.Goals as goal
 
 pub loop-left-preserved-in-Some : goal.loop-left-preserved-in-Some

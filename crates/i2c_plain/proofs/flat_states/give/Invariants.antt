@@ -1,6 +1,6 @@
 use Rattle.std.proofs.Common.{◌≡◌, ◌≤◌, length, take, drop, ◌++◌}
 use Rattle.i2c_spec.specs.World.{feed}
-use Rattle.i2c_physics.specs.Events.{event_at}
+use Rattle.i2c_plain.specs.FlatStates.{event_at}
 use Rattle.i2c_plain.proofs.flat_states.give.Given as goal
 
 -- the targets from `left` on have had their events; those before it are as they were

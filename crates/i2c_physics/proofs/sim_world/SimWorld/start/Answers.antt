@@ -1,11 +1,11 @@
-use Rattle.std.proofs.Common.{[], ap, ◌∙◌, refl, arith}
+use Rattle.std.proofs.Common.{◌≡◌, [], length, ap, ◌∙◌, subst, refl, arith}
 use Rattle.std.proofs.lemmas.List.{with_items_is}
 use Rattle.i2c_base.specs.declared.event.Event.TheVariants as event
 use Rattle.i2c_base.specs.declared.port.PortCall.TheVariants as call
 use Rattle.i2c_spec.specs.Chips.{chip_table}
 use Rattle.i2c_spec.specs.World.{after, answer}
 use Rattle.i2c_outside.specs.Devices.{device_table}
-use Rattle.i2c_physics.specs.Reach.{called, others}
+use Rattle.i2c_physics.specs.Reach.{AreRising, called, others}
 use Rattle.i2c_physics.proofs.FeedLemmas.{begun-on, heard-on, said-on, either-on, all-on, start-by, calls-chips, calls-devices, other-chips, other-devices, started-kept, started-is, started-answer}
 use Rattle.i2c_physics.proofs.NumberLemmas.{rising-length}
 use Rattle.i2c_physics.proofs.sim_world.SimWorld.start.Goals as goal
@@ -43,6 +43,20 @@ begin-devices-requires-clause-others c =
     let same = c.as_slice-chips.ensures.value in
     let rest = c.of-to_devices.ensures.others ∙ all-on (λ cs ps ns. others cs ps c.args.addr ns) same c.deref-2.ensures.value refl in
     rw (c.deref_mut-2.ensures.value, rest) (other-devices _ _ _ _ _ _ _ _ c.self.inside.busy c.self.invariant c.args.addr c.args.reading)
+
+pub follow-requires-clause-called : goal.follow-requires-clause-called
+follow-requires-clause-called c =
+    let s = c.self.inside in
+    let calls = c.of-to_chips.ensures.called ∙ all-on (λ cs ps ns. called cs ps c.args.addr) {ns = []} c.as_slice-chips.ensures.value c.deref.ensures.value refl in
+    let count : length s.chips.items ≡ c.len.result = omega arith in
+    rw calls (subst (λ n. AreRising 0 n (called s.chips.items s.mux_places.items c.args.addr)) count (calls-chips _ _ _ _ _ _ _ _ s.busy c.self.invariant c.args.addr c.args.reading))
+
+pub follow-requires-2-clause-called : goal.follow-requires-2-clause-called
+follow-requires-2-clause-called c =
+    let s = c.self.inside in
+    let calls = c.of-to_devices.ensures.called ∙ all-on (λ cs ps ns. called cs ps c.args.addr) {ns = []} c.as_slice-chips.ensures.value c.deref-2.ensures.value refl in
+    let count : length s.devices.items ≡ c.len-2.result = omega arith in
+    rw calls (subst (λ n. AreRising 0 n (called s.chips.items s.device_places.items c.args.addr)) count (calls-devices _ _ _ _ _ _ _ _ s.busy c.self.invariant c.args.addr c.args.reading))
 
 pub invariant_of-self : goal.invariant_of-self
 invariant_of-self c =
