@@ -19,7 +19,7 @@ use Rattle.i2c_outside.specs.declared.device.DeviceState.{DeviceState}
 use Rattle.i2c_outside.specs.Devices.{target_state, device_table}
 use Rattle.i2c_physics.specs.Heard.{numbers_of, nodes_of}
 use Rattle.i2c_physics.specs.Places.{PlaceView, mux_place, device_place}
-use Rattle.i2c_physics.specs.Reach.{AreRising, to_those, joins_at, has_at, called, others, either}
+use Rattle.i2c_physics.specs.Reach.{AreRising, to_those, joins_at, has_at, addressed, others, union_of}
 use Rattle.i2c_physics.specs.SimWorlds.{IsSimWorld}
 use Rattle.i2c_physics.specs.Answering.{together_of, start_answer}
 use Rattle.i2c_physics.specs.declared.together.Together.{Together}
@@ -59,8 +59,8 @@ module _ {X : Type 0} (t : Table X) (e : Event) {told calls : List ℕ} {ys xs :
       is ∙ ap (λ (j : Together). j.heard.items) said ∙ ap (λ ns. numbers_of (answers t (to_those ns e) 0 ys)) same_called
       ∙ ap (λ zs. numbers_of (answers t (to_those calls e) 0 zs)) same
 
-pub either-on : {count n : ℕ} {started begun : List ℕ} (has : List ℕ) → count ≡ n → begun ≡ started → either count has begun ≡ either n has started
-either-on {count} {n} {started} {begun} has e f = ap (λ m. either m has begun) e ∙ ap (either n has) f
+pub either-on : {count n : ℕ} {started begun : List ℕ} (has : List ℕ) → count ≡ n → begun ≡ started → union_of count has begun ≡ union_of n has started
+either-on {count} {n} {started} {begun} has e f = ap (λ m. union_of m has begun) e ∙ ap (union_of n has) f
 
 pub start-by : {j k chips devices : Together} → j ≡ chips → k ≡ devices → start_answer j k ≡ start_answer chips devices
 start-by {j} {k} {chips} {devices} e f = ap (λ x. start_answer x k) e ∙ ap (start_answer chips) f
@@ -151,10 +151,10 @@ module _ (b : BoardView) (root : ℕ) (muxes places : List PlaceView) (chips : L
   -- a start
   module _ (a : ℕ) (reading : Bool) where
     abbrev chips_said : List (ℕ × Answer)
-    chips_said = answers chip_table (to_those (called chips muxes a) (event.Start reading)) 0 chips
+    chips_said = answers chip_table (to_those (addressed chips muxes a) (event.Start reading)) 0 chips
 
     abbrev states_said : List (ℕ × Answer)
-    states_said = answers device_table (to_those (called chips places a) (event.Start reading)) 0 states
+    states_said = answers device_table (to_those (addressed chips places a) (event.Start reading)) 0 states
 
     muxes_count : length muxes ≡ length chips
     muxes_count = ap length inv.mux_places ∙ length-map b.muxes (mux_place b root) ∙ sym inv.chips_are
@@ -162,11 +162,11 @@ module _ (b : BoardView) (root : ℕ) (muxes places : List PlaceView) (chips : L
     places_count : length places ≡ length states
     places_count = ap length inv.device_places ∙ length-map b.devices (device_place b root) ∙ sym inv.devices_are
 
-    pub calls-chips : AreRising 0 (length chips) (called chips muxes a)
-    calls-chips = subst (λ n. AreRising 0 n (called chips muxes a)) muxes_count (rising-of_range (λ k. has_at a muxes k && joins_at chips muxes k) (length muxes))
+    pub calls-chips : AreRising 0 (length chips) (addressed chips muxes a)
+    calls-chips = subst (λ n. AreRising 0 n (addressed chips muxes a)) muxes_count (rising-of_range (λ k. has_at a muxes k && joins_at chips muxes k) (length muxes))
 
-    pub calls-devices : AreRising 0 (length states) (called chips places a)
-    calls-devices = subst (λ n. AreRising 0 n (called chips places a)) places_count (rising-of_range (λ k. has_at a places k && joins_at chips places k) (length places))
+    pub calls-devices : AreRising 0 (length states) (addressed chips places a)
+    calls-devices = subst (λ n. AreRising 0 n (addressed chips places a)) places_count (rising-of_range (λ k. has_at a places k && joins_at chips places k) (length places))
 
     pub other-chips : AreRising 0 (length chips) (others chips muxes a cr.started.items)
     other-chips = rising-filter (λ k. not (has_at a muxes k) && joins_at chips muxes k) 0 (length chips) cr.started.items inv.chips_reached.started_rise
@@ -215,11 +215,11 @@ module _ (b : BoardView) (root : ℕ) (muxes places : List PlaceView) (chips : L
         ∙ sym (hearers_told world a reading)
 
     module _ (new_chips : List ChipView) (new_states : List DeviceState) (rc rd : Reach)
-        (chips_new : new_chips ≡ feed chip_table (to_those (others chips muxes a cr.started.items) event.Other) 0 (feed chip_table (to_those (called chips muxes a) (event.Start reading)) 0 chips))
-        (states_new : new_states ≡ feed device_table (to_those (others chips places a dr.started.items) event.Other) 0 (feed device_table (to_those (called chips places a) (event.Start reading)) 0 states))
+        (chips_new : new_chips ≡ feed chip_table (to_those (others chips muxes a cr.started.items) event.Other) 0 (feed chip_table (to_those (addressed chips muxes a) (event.Start reading)) 0 chips))
+        (states_new : new_states ≡ feed device_table (to_those (others chips places a dr.started.items) event.Other) 0 (feed device_table (to_those (addressed chips places a) (event.Start reading)) 0 states))
         (rc_heard : rc.hearing.items ≡ numbers_of chips_said) (rd_heard : rd.hearing.items ≡ numbers_of states_said) where
-      pub started-kept : rc.started.items ≡ either (length chips) cr.started.items (called chips muxes a)
-          → rd.started.items ≡ either (length states) dr.started.items (called chips places a)
+      pub started-kept : rc.started.items ≡ union_of (length chips) cr.started.items (addressed chips muxes a)
+          → rd.started.items ≡ union_of (length states) dr.started.items (addressed chips places a)
           → IsSimWorld b root muxes places new_chips new_states rc rd
       started-kept rc_started rd_started =
           let kept_chips = reached-started chip_table chips cr.started.items cr.hearing.items inv.chips_reached chips muxes a reading muxes_count in

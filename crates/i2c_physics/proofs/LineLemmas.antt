@@ -15,7 +15,7 @@ use Rattle.i2c_spec.specs.Targets.{IsQuiet, state_table, opening_state}
 use Rattle.i2c_spec.specs.World.{set_level}
 use Rattle.i2c_outside.specs.declared.device.DeviceState.{DeviceState}
 use Rattle.i2c_outside.specs.Devices.{target_state, device_table}
-use Rattle.i2c_physics.specs.Reach.{IsReached}
+use Rattle.i2c_physics.specs.Reach.{IsReach}
 use Rattle.i2c_physics.proofs.DeviceLemmas.{quiet-device}
 
 some_same : {A : Type 0} {x y : A} → Some x ≡ Some y → x ≡ y
@@ -54,7 +54,7 @@ of_map P f xs k y is each =
     ]
 
 pub opened-chips : (b : BoardView) (chips : List ChipView) (started hearing : List ℕ) → IsPlainBoard b → chips ≡ map chip_opening b.muxes
-    → ((m : MuxSpec) → IsQuiet chip_table (chip_opening m)) → started ≡ [] → hearing ≡ [] → IsReached chip_table chips started hearing
+    → ((m : MuxSpec) → IsQuiet chip_table (chip_opening m)) → started ≡ [] → hearing ≡ [] → IsReach chip_table chips started hearing
 opened-chips b chips started hearing plain are quiet none deaf =
     let count = ap length are ∙ length-map b.muxes chip_opening in
     rw (none, deaf) (record {
@@ -66,7 +66,7 @@ opened-chips b chips started hearing plain are quiet none deaf =
     })
 
 pub opened-devices : (b : BoardView) (states : List DeviceState) (started hearing : List ℕ) → IsPlainBoard b → map target_state states ≡ map opening_state b.devices
-    → ((d : DeviceView) → IsQuiet state_table (opening_state d)) → started ≡ [] → hearing ≡ [] → IsReached device_table states started hearing
+    → ((d : DeviceView) → IsQuiet state_table (opening_state d)) → started ≡ [] → hearing ≡ [] → IsReach device_table states started hearing
 opened-devices b states started hearing plain are quiet none deaf =
     let count = sym (length-map states target_state) ∙ ap length are ∙ length-map b.devices opening_state in
     rw (none, deaf) (record {
@@ -101,7 +101,7 @@ set_quiet chips m level c is low k x got quiet =
 
 -- the chip of a mux that is there
 level_at : (chips : List ChipView) (m level : ℕ) (started hearing : List ℕ) (c : ChipView) → slice_get chips m ≡ Some c → m < length chips
-    → IsReached chip_table chips started hearing → IsReached chip_table (set chips m (at_level c level)) started hearing
+    → IsReach chip_table chips started hearing → IsReach chip_table (set chips m (at_level c level)) started hearing
 level_at chips m level started hearing c is low reached =
     record {
       few = rw (length-set chips m (at_level c level)) reached.few;
@@ -111,8 +111,8 @@ level_at chips m level started hearing c is low reached =
       quiet = λ k x got out. set_quiet chips m level c is low k x got (λ y e. reached.quiet k y e out);
     }
 
-pub level-kept : (chips : List ChipView) (m level : ℕ) (started hearing : List ℕ) → IsReached chip_table chips started hearing
-    → IsReached chip_table (set_level chips m level) started hearing
+pub level-kept : (chips : List ChipView) (m level : ℕ) (started hearing : List ℕ) → IsReach chip_table chips started hearing
+    → IsReach chip_table (set_level chips m level) started hearing
 level-kept chips m level started hearing reached =
     elim (slice_get_cases chips m).1 [
       | inl c ↦ rw c.2 (level_at chips m level started hearing c.0 c.2 c.1 reached)

@@ -6,7 +6,7 @@ use Rattle.std.proofs.lemmas.Bool.{ne_eqb, eqb-false}
 use Rattle.std.proofs.lemmas.Bool.Decides.{eqb_tells}
 use Rattle.std.proofs.lemmas.List.{map-id}
 use Rattle.std.proofs.lemmas.List.FromFn.{filter_of_map_range_with_len_more}
-use Rattle.i2c_physics.specs.Reach.{is_among, AreRising, either}
+use Rattle.i2c_physics.specs.Reach.{is_among, AreRising, union_of}
 
 -- one number more
 pub filter_more : (p : ℕ → Bool) (n : ℕ) → filter p (range_with_len 0 (n + 1)) ≡ filter p (range_with_len 0 n) ++ cond (p n) (n ∷ []) []
@@ -126,7 +126,7 @@ among_itself low high (suc n) (m ∷ ms) r e =
       | inr other ↦ first_among low high n m ms r e (among_itself (low + 1) high n (m ∷ ms) (omega (arith, above low m r.0 other.0), r.1, r.2) (omega arith)) other.0
     ]
 
-pub either_none : (count : ℕ) (none ns : List ℕ) → length none ≡ 0 → AreRising 0 count ns → ns ≡ either count none ns
+pub either_none : (count : ℕ) (none ns : List ℕ) → length none ≡ 0 → AreRising 0 count ns → ns ≡ union_of count none ns
 either_none count [] ns empty r = sym (among_itself 0 count count ns r (omega arith))
 either_none count (n ∷ none) ns empty r = absurd (omega arith)
 
@@ -147,6 +147,6 @@ or_has ns (m ∷ ms) all k =
       | inr other ↦ rw other.0 (or_has ns ms both.1 k)
     ]
 
-pub either_has : (count : ℕ) (ns ms : List ℕ) → AreRising 0 count ns → list_all (is_among ns) ms ≡ true → either count ns ms ≡ ns
+pub either_has : (count : ℕ) (ns ms : List ℕ) → AreRising 0 count ns → list_all (is_among ns) ms ≡ true → union_of count ns ms ≡ ns
 either_has count ns ms r all =
     filter_same (λ k. is_among ns k || is_among ms k) (is_among ns) 0 count (λ k at. or_has ns ms all k) ∙ among_itself 0 count count ns r (omega arith)

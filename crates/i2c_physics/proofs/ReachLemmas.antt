@@ -17,7 +17,7 @@ use Rattle.i2c_spec.specs.Targets.{IsQuiet}
 use Rattle.i2c_spec.specs.World.{feed, given, answers, answer_with, has_heard, start_event, stop_event}
 use Rattle.i2c_physics.specs.Heard.{numbers_of}
 use Rattle.i2c_physics.specs.Places.{PlaceView, event_if}
-use Rattle.i2c_physics.specs.Reach.{is_among, AreRising, to_those, joins_at, has_at, called, others, either, IsReached}
+use Rattle.i2c_physics.specs.Reach.{is_among, AreRising, to_those, joins_at, has_at, addressed, others, union_of, IsReach}
 use Rattle.i2c_physics.proofs.NumberLemmas.{rising-filter, rising-of_range, rising-lower, among-filter, among-range}
 use Rattle.i2c_physics.proofs.TogetherLemmas.{length-feed}
 
@@ -160,7 +160,7 @@ module _ {X : Type 0} (t : Table X) where
         | inr none ↦ absurd (some_none _ (sym is ∙ fed_get t f 0 k xs ∙ ap (option_map (given t (f (0 + k)))) none.1))
       ]
 
-module _ {X : Type 0} (t : Table X) (xs : List X) (started hearing : List ℕ) (reached : IsReached t xs started hearing) where
+module _ {X : Type 0} (t : Table X) (xs : List X) (started hearing : List ℕ) (reached : IsReach t xs started hearing) where
   not_among : (k : ℕ) → is_among started k ≡ false → is_among hearing k ≡ false
   not_among k out =
       elim (cases_Bool (is_among hearing k)) [
@@ -172,7 +172,7 @@ module _ {X : Type 0} (t : Table X) (xs : List X) (started hearing : List ℕ) (
   is_there = is_within xs
 
   -- a byte goes to those who have heard
-  pub reached-sent : (e : Event) → IsReached t (feed t (to_those hearing e) 0 xs) started hearing
+  pub reached-sent : (e : Event) → IsReach t (feed t (to_those hearing e) 0 xs) started hearing
   reached-sent e = record {
     few = rw (length-feed t (to_those hearing e) 0 xs) reached.few;
     started_rise = rw (length-feed t (to_those hearing e) 0 xs) reached.started_rise;
@@ -204,7 +204,7 @@ module _ {X : Type 0} (t : Table X) (xs : List X) (started hearing : List ℕ) (
     left_one false j x stops quiet out = quiet refl
 
     pub reached-stopped : ((y : X) → IsQuiet t (t.after y event.Stop))
-        → IsReached t (feed t (to_those (filter J started) event.Stop) 0 xs) (filter (λ k. not (J k)) started) []
+        → IsReach t (feed t (to_those (filter J started) event.Stop) 0 xs) (filter (λ k. not (J k)) started) []
     reached-stopped stops = record {
       few = rw (length-feed t (to_those (filter J started) event.Stop) 0 xs) reached.few;
       started_rise = rw (length-feed t (to_those (filter J started) event.Stop) 0 xs) (rising-filter (λ k. not (J k)) 0 (length xs) started reached.started_rise);
@@ -216,7 +216,7 @@ module _ {X : Type 0} (t : Table X) (xs : List X) (started hearing : List ℕ) (
 
   -- a start calls those who have the address, and is an Other for the rest
   module _ (chips : List ChipView) (places : List PlaceView) (a : ℕ) (reading : Bool) (same : length places ≡ length xs) where
-    among_called : (k : ℕ) → k < length xs → is_among (called chips places a) k ≡ (has_at a places k && joins_at chips places k)
+    among_called : (k : ℕ) → k < length xs → is_among (addressed chips places a) k ≡ (has_at a places k && joins_at chips places k)
     among_called k low =
         among-filter (λ m. has_at a places m && joins_at chips places m) (range_with_len 0 (length places)) k
         ∙ rw (among-range (length places) k (omega (arith, low, same))) refl
@@ -224,9 +224,9 @@ module _ {X : Type 0} (t : Table X) (xs : List X) (started hearing : List ℕ) (
     among_others : (k : ℕ) → is_among (others chips places a started) k ≡ (is_among started k && (not (has_at a places k) && joins_at chips places k))
     among_others k = among-filter (λ m. not (has_at a places m) && joins_at chips places m) started k
 
-    among_either : (k : ℕ) → k < length xs → is_among (either (length xs) started (called chips places a)) k ≡ (is_among started k || is_among (called chips places a) k)
+    among_either : (k : ℕ) → k < length xs → is_among (union_of (length xs) started (addressed chips places a)) k ≡ (is_among started k || is_among (addressed chips places a) k)
     among_either k low =
-        among-filter (λ m. is_among started m || is_among (called chips places a) m) (range_with_len 0 (length xs)) k
+        among-filter (λ m. is_among started m || is_among (addressed chips places a) m) (range_with_len 0 (length xs)) k
         ∙ rw (among-range (length xs) k low) refl
 
     start_one : (s j h : Bool) (x : X) → (s ≡ false → IsQuiet t x)
@@ -240,10 +240,10 @@ module _ {X : Type 0} (t : Table X) (xs : List X) (started hearing : List ℕ) (
     start_one false false true x quiet = refl
     start_one false false false x quiet = refl
 
-    pub started-fed : feed t (to_those (others chips places a started) event.Other) 0 (feed t (to_those (called chips places a) (event.Start reading)) 0 xs)
+    pub started-fed : feed t (to_those (others chips places a started) event.Other) 0 (feed t (to_those (addressed chips places a) (event.Start reading)) 0 xs)
         ≡ feed t (λ k. start_event (joins_at chips places k) (has_at a places k) reading) 0 xs
     started-fed =
-        fed_twice t (to_those (called chips places a) (event.Start reading)) (to_those (others chips places a started) event.Other)
+        fed_twice t (to_those (addressed chips places a) (event.Start reading)) (to_those (others chips places a started) event.Other)
         (λ k. start_event (joins_at chips places k) (has_at a places k) reading) 0 xs
         (λ i x is. rw (zero-add, among_called i (is_there i x is), among_others i)
         (start_one (is_among started i) (joins_at chips places i) (has_at a places i) x (reached.quiet i x is)))
@@ -258,49 +258,49 @@ module _ {X : Type 0} (t : Table X) (xs : List X) (started hearing : List ℕ) (
         → ((x : ℕ × Answer) (ys : List (ℕ × Answer)) → R (x ∷ ys) ≡ step x (R ys))
         → ((k : ℕ) (ys : List (ℕ × Answer)) → R ((k, Nothing) ∷ ys) ≡ R ys)
         → ((x : X) → t.answer x event.Other ≡ Nothing)
-        → R (answers t (to_those (called chips places a) (event.Start reading)) 0 xs)
+        → R (answers t (to_those (addressed chips places a) (event.Start reading)) 0 xs)
         ≡ R (answers t (λ k. start_event (joins_at chips places k) (has_at a places k) reading) 0 xs)
     started-heard R step is silent nothing =
         heard-alike t R step is silent nothing (λ k. start_event (joins_at chips places k) (has_at a places k) reading)
-        (to_those (called chips places a) (event.Start reading)) 0 xs
+        (to_those (addressed chips places a) (event.Start reading)) 0 xs
         (λ i low. rw (zero-add, among_called i low) (alike_one (joins_at chips places i) (has_at a places i)))
 
-    out_of_both : (k : ℕ) → k < length xs → is_among (either (length xs) started (called chips places a)) k ≡ false
-        → (is_among started k ≡ false) × (is_among (called chips places a) k ≡ false)
-    out_of_both k low out = or_false (is_among started k) (is_among (called chips places a) k) (sym (among_either k low) ∙ out)
+    out_of_both : (k : ℕ) → k < length xs → is_among (union_of (length xs) started (addressed chips places a)) k ≡ false
+        → (is_among started k ≡ false) × (is_among (addressed chips places a) k ≡ false)
+    out_of_both k low out = or_false (is_among started k) (is_among (addressed chips places a) k) (sym (among_either k low) ∙ out)
 
-    still_quiet : (k : ℕ) (x : X) → slice_get xs k ≡ Some x → is_among (either (length xs) started (called chips places a)) k ≡ false
-        → IsQuiet t (given t (to_those (called chips places a) (event.Start reading) k) x)
+    still_quiet : (k : ℕ) (x : X) → slice_get xs k ≡ Some x → is_among (union_of (length xs) started (addressed chips places a)) k ≡ false
+        → IsQuiet t (given t (to_those (addressed chips places a) (event.Start reading) k) x)
     still_quiet k x is out =
         let both = out_of_both k (is_there k x is) out in
         rw both.1 (reached.quiet k x is both.0)
 
-    quiet_called : (k : ℕ) (y : X) → slice_get (feed t (to_those (called chips places a) (event.Start reading)) 0 xs) k ≡ Some y
-        → is_among (either (length xs) started (called chips places a)) k ≡ false → IsQuiet t y
-    quiet_called = quiet-fed t (to_those (called chips places a) (event.Start reading)) xs (either (length xs) started (called chips places a)) still_quiet
+    quiet_called : (k : ℕ) (y : X) → slice_get (feed t (to_those (addressed chips places a) (event.Start reading)) 0 xs) k ≡ Some y
+        → is_among (union_of (length xs) started (addressed chips places a)) k ≡ false → IsQuiet t y
+    quiet_called = quiet-fed t (to_those (addressed chips places a) (event.Start reading)) xs (union_of (length xs) started (addressed chips places a)) still_quiet
 
-    quiet_others : (k : ℕ) (y : X) → slice_get (feed t (to_those (called chips places a) (event.Start reading)) 0 xs) k ≡ Some y
-        → is_among (either (length xs) started (called chips places a)) k ≡ false
+    quiet_others : (k : ℕ) (y : X) → slice_get (feed t (to_those (addressed chips places a) (event.Start reading)) 0 xs) k ≡ Some y
+        → is_among (union_of (length xs) started (addressed chips places a)) k ≡ false
         → IsQuiet t (given t (to_those (others chips places a started) event.Other k) y)
     quiet_others k y is out =
-        let low : k < length xs = omega (arith, is_within (feed t (to_those (called chips places a) (event.Start reading)) 0 xs) k y is, length-feed t (to_those (called chips places a) (event.Start reading)) 0 xs) in
+        let low : k < length xs = omega (arith, is_within (feed t (to_those (addressed chips places a) (event.Start reading)) 0 xs) k y is, length-feed t (to_those (addressed chips places a) (event.Start reading)) 0 xs) in
         let both = out_of_both k low out in
         let none : is_among (others chips places a started) k ≡ false = among_others k ∙ rw both.0 refl in
         rw none (quiet_called k y is out)
 
-    pub reached-started : IsReached t (feed t (to_those (others chips places a started) event.Other) 0 (feed t (to_those (called chips places a) (event.Start reading)) 0 xs))
-        (either (length xs) started (called chips places a)) (numbers_of (answers t (to_those (called chips places a) (event.Start reading)) 0 xs))
+    pub reached-started : IsReach t (feed t (to_those (others chips places a started) event.Other) 0 (feed t (to_those (addressed chips places a) (event.Start reading)) 0 xs))
+        (union_of (length xs) started (addressed chips places a)) (numbers_of (answers t (to_those (addressed chips places a) (event.Start reading)) 0 xs))
     reached-started =
-        let count = length-feed t (to_those (others chips places a started) event.Other) 0 (feed t (to_those (called chips places a) (event.Start reading)) 0 xs)
-        ∙ length-feed t (to_those (called chips places a) (event.Start reading)) 0 xs in
+        let count = length-feed t (to_those (others chips places a started) event.Other) 0 (feed t (to_those (addressed chips places a) (event.Start reading)) 0 xs)
+        ∙ length-feed t (to_those (addressed chips places a) (event.Start reading)) 0 xs in
         record {
           few = rw count reached.few;
-          started_rise = rw count (rising-of_range (λ k. is_among started k || is_among (called chips places a) k) (length xs));
-          hearing_rise = rw count (rising-heard t (to_those (called chips places a) (event.Start reading)) 0 (length xs) xs (zero-add (length xs)));
+          started_rise = rw count (rising-of_range (λ k. is_among started k || is_among (addressed chips places a) k) (length xs));
+          hearing_rise = rw count (rising-heard t (to_those (addressed chips places a) (event.Start reading)) 0 (length xs) xs (zero-add (length xs)));
           hearing_started = λ k heard.
-              let told = heard-told t (to_those (called chips places a) (event.Start reading)) 0 k xs heard in
-              let is = some_if (is_among (called chips places a) k) (event.Start reading) told.0 in
+              let told = heard-told t (to_those (addressed chips places a) (event.Start reading)) 0 k xs heard in
+              let is = some_if (is_among (addressed chips places a) k) (event.Start reading) told.0 in
               among_either k (omega (arith, told.1)) ∙ rw is (or_true (is_among started k));
-          quiet = quiet-fed t (to_those (others chips places a started) event.Other) (feed t (to_those (called chips places a) (event.Start reading)) 0 xs)
-              (either (length xs) started (called chips places a)) quiet_others;
+          quiet = quiet-fed t (to_those (others chips places a started) event.Other) (feed t (to_those (addressed chips places a) (event.Start reading)) 0 xs)
+              (union_of (length xs) started (addressed chips places a)) quiet_others;
         }

@@ -30,18 +30,18 @@ abbrev pub has_at : ℕ → List PlaceView → ℕ → Bool
 has_at a places k = option_map_or (λ p. has_address a p.addr) (slice_get places k) false
 
 -- who is called by a start, and which of these numbers it is an Other for
-abbrev pub called : List ChipView → List PlaceView → ℕ → List ℕ
-called chips places a = filter (λ k. has_at a places k && joins_at chips places k) (range_with_len 0 (length places))
+abbrev pub addressed : List ChipView → List PlaceView → ℕ → List ℕ
+addressed chips places a = filter (λ k. has_at a places k && joins_at chips places k) (range_with_len 0 (length places))
 
 abbrev pub others : List ChipView → List PlaceView → ℕ → List ℕ → List ℕ
 others chips places a numbers = filter (λ k. not (has_at a places k) && joins_at chips places k) numbers
 
 -- those of either list, of so many
-abbrev pub either : ℕ → List ℕ → List ℕ → List ℕ
-either count xs ys = filter (λ k. is_among xs k || is_among ys k) (range_with_len 0 count)
+abbrev pub union_of : ℕ → List ℕ → List ℕ → List ℕ
+union_of count xs ys = filter (λ k. is_among xs k || is_among ys k) (range_with_len 0 count)
 
 -- those that were started since their last stop, and of them those that have heard the last start: all others are quiet
-pub record IsReached {X : Type 0} (t : Table X) (xs : List X) (started hearing : List ℕ) : Type 0 where
+pub record IsReach {X : Type 0} (t : Table X) (xs : List X) (started hearing : List ℕ) : Type 0 where
   pub few : length xs ≤ 128
   pub started_rise : AreRising 0 (length xs) started
   pub hearing_rise : AreRising 0 (length xs) hearing

@@ -1,6 +1,6 @@
 ghost use Rattle.std.specs.Prelude.{◌≡◌, ◌<◌, ◌≤◌, ◌+◌, ◌++◌, ◌&&◌, ◌||◌, [], ◌∷◌, not, length, if◌then◌else◌};
 ghost use Rattle.std.specs.List.{filter, list_all};
-ghost use Rattle.i2c_physics.specs.Reach.{is_among, AreRising, joins_at, has_at, called, others, either};
+ghost use Rattle.i2c_physics.specs.Reach.{is_among, AreRising, joins_at, has_at, addressed, others, union_of};
 
 use crate::place::Place;
 use arrayvec::ArrayVec;
@@ -39,7 +39,7 @@ impl Reach {
         requires few { count ≤ 128 }
         requires started { AreRising 0 count self.old.started.items }
         requires called { AreRising 0 count start.called.items }
-        ensures started { self.new.started.items ≡ either count self.old.started.items start.called.items }
+        ensures started { self.new.started.items ≡ union_of count self.old.started.items start.called.items }
         ensures hearing { self.new.hearing ≡ heard }
     {
         self.hearing = heard;
@@ -61,11 +61,11 @@ impl Start {
     pub fn of(chips: &[Chip], places: &[Place], addr: Addr, reach: &Reach) -> Self
         requires places { length places.now ≤ 128 }
         requires started { length reach.now.started.items ≤ 128 }
-        ensures called { result.called.items ≡ called chips.now places.now addr }
+        ensures called { result.called.items ≡ addressed chips.now places.now addr }
         ensures others { result.others.items ≡ others chips.now places.now addr reach.now.started.items }
     {
         Start {
-            called: called(chips, places, addr),
+            called: addressed(chips, places, addr),
             others: others(chips, places, addr, reach.started.as_slice()),
         }
     }
@@ -117,9 +117,9 @@ fn is_called(chips: &[Chip], places: &[Place], addr: Addr, number: u16) -> bool
 
 /// Those that a start at this address calls: they have it, and are joined.
 #[tactic(auto, using(crate::proofs::NumberLemmas::filter_more))]
-fn called(chips: &[Chip], places: &[Place], addr: Addr) -> Numbers
+fn addressed(chips: &[Chip], places: &[Place], addr: Addr) -> Numbers
     requires { length places.now ≤ 128 }
-    ensures { result.items ≡ called chips.now places.now addr }
+    ensures { result.items ≡ addressed chips.now places.now addr }
 {
     let mut numbers = ArrayVec::new();
     for number in 0..places.len() as u16 {
@@ -174,12 +174,12 @@ fn add_all(numbers: &mut Numbers, count: usize, added: Numbers)
     requires few { count ≤ 128 }
     requires numbers { AreRising 0 count numbers.old.items }
     requires added { AreRising 0 count added.items }
-    ensures { numbers.new.items ≡ either count numbers.old.items added.items }
+    ensures { numbers.new.items ≡ union_of count numbers.old.items added.items }
 {
     if numbers.len() == 0 {
         *numbers = added;
     } else if !has_all(numbers.as_slice(), added.as_slice()) {
-        *numbers = either(count, numbers.as_slice(), added.as_slice());
+        *numbers = union_of(count, numbers.as_slice(), added.as_slice());
     }
 }
 
@@ -191,9 +191,9 @@ fn is_in_either(first: &[u16], second: &[u16], number: u16) -> bool
 
 /// Those of either list, rising, of so many.
 #[tactic(auto, using(crate::proofs::NumberLemmas::filter_more))]
-fn either(count: usize, first: &[u16], second: &[u16]) -> Numbers
+fn union_of(count: usize, first: &[u16], second: &[u16]) -> Numbers
     requires { count ≤ 128 }
-    ensures { result.items ≡ either count first.now second.now }
+    ensures { result.items ≡ union_of count first.now second.now }
 {
     let mut numbers = ArrayVec::new();
     for number in 0..count as u16 {

@@ -5,7 +5,7 @@ use Rattle.i2c_base.specs.declared.port.PortCall.TheVariants as call
 use Rattle.i2c_spec.specs.Chips.{chip_table}
 use Rattle.i2c_spec.specs.World.{after, answer}
 use Rattle.i2c_outside.specs.Devices.{device_table}
-use Rattle.i2c_physics.specs.Reach.{AreRising, called, others}
+use Rattle.i2c_physics.specs.Reach.{AreRising, addressed, others}
 use Rattle.i2c_physics.proofs.FeedLemmas.{begun-on, heard-on, said-on, either-on, all-on, start-by, calls-chips, calls-devices, other-chips, other-devices, started-kept, started-is, started-answer}
 use Rattle.i2c_physics.proofs.NumberLemmas.{rising-length}
 use Rattle.i2c_physics.proofs.sim_world.SimWorld.start.Goals as goal
@@ -23,7 +23,7 @@ of-to_devices-requires-clause-started c =
 pub begin-chips-requires-clause-called : goal.begin-chips-requires-clause-called
 begin-chips-requires-clause-called c =
     let same = c.as_slice-chips.ensures.value in
-    let calls = c.of-to_chips.ensures.called ∙ all-on (λ cs ps ns. called cs ps c.args.addr) {ns = []} same c.deref.ensures.value refl in
+    let calls = c.of-to_chips.ensures.called ∙ all-on (λ cs ps ns. addressed cs ps c.args.addr) {ns = []} same c.deref.ensures.value refl in
     rw (c.deref_mut.ensures.value, calls) (calls-chips _ _ _ _ _ _ _ _ c.self.inside.busy c.self.invariant c.args.addr c.args.reading)
 
 pub begin-chips-requires-clause-others : goal.begin-chips-requires-clause-others
@@ -35,7 +35,7 @@ begin-chips-requires-clause-others c =
 pub begin-devices-requires-clause-called : goal.begin-devices-requires-clause-called
 begin-devices-requires-clause-called c =
     let same = c.as_slice-chips.ensures.value in
-    let calls = c.of-to_devices.ensures.called ∙ all-on (λ cs ps ns. called cs ps c.args.addr) {ns = []} same c.deref-2.ensures.value refl in
+    let calls = c.of-to_devices.ensures.called ∙ all-on (λ cs ps ns. addressed cs ps c.args.addr) {ns = []} same c.deref-2.ensures.value refl in
     rw (c.deref_mut-2.ensures.value, calls) (calls-devices _ _ _ _ _ _ _ _ c.self.inside.busy c.self.invariant c.args.addr c.args.reading)
 
 pub begin-devices-requires-clause-others : goal.begin-devices-requires-clause-others
@@ -47,25 +47,25 @@ begin-devices-requires-clause-others c =
 pub follow-requires-clause-called : goal.follow-requires-clause-called
 follow-requires-clause-called c =
     let s = c.self.inside in
-    let calls = c.of-to_chips.ensures.called ∙ all-on (λ cs ps ns. called cs ps c.args.addr) {ns = []} c.as_slice-chips.ensures.value c.deref.ensures.value refl in
+    let calls = c.of-to_chips.ensures.called ∙ all-on (λ cs ps ns. addressed cs ps c.args.addr) {ns = []} c.as_slice-chips.ensures.value c.deref.ensures.value refl in
     let count : length s.chips.items ≡ c.len.result = omega arith in
-    rw calls (subst (λ n. AreRising 0 n (called s.chips.items s.mux_places.items c.args.addr)) count (calls-chips _ _ _ _ _ _ _ _ s.busy c.self.invariant c.args.addr c.args.reading))
+    rw calls (subst (λ n. AreRising 0 n (addressed s.chips.items s.mux_places.items c.args.addr)) count (calls-chips _ _ _ _ _ _ _ _ s.busy c.self.invariant c.args.addr c.args.reading))
 
 pub follow-requires-2-clause-called : goal.follow-requires-2-clause-called
 follow-requires-2-clause-called c =
     let s = c.self.inside in
-    let calls = c.of-to_devices.ensures.called ∙ all-on (λ cs ps ns. called cs ps c.args.addr) {ns = []} c.as_slice-chips.ensures.value c.deref-2.ensures.value refl in
+    let calls = c.of-to_devices.ensures.called ∙ all-on (λ cs ps ns. addressed cs ps c.args.addr) {ns = []} c.as_slice-chips.ensures.value c.deref-2.ensures.value refl in
     let count : length s.devices.items ≡ c.len-2.result = omega arith in
-    rw calls (subst (λ n. AreRising 0 n (called s.chips.items s.device_places.items c.args.addr)) count (calls-devices _ _ _ _ _ _ _ _ s.busy c.self.invariant c.args.addr c.args.reading))
+    rw calls (subst (λ n. AreRising 0 n (addressed s.chips.items s.device_places.items c.args.addr)) count (calls-devices _ _ _ _ _ _ _ _ s.busy c.self.invariant c.args.addr c.args.reading))
 
 pub invariant_of-self : goal.invariant_of-self
 invariant_of-self c =
     let s = c.self.inside in
     let e = event.Start c.args.reading in
     let same = c.as_slice-chips.ensures.value in
-    let chip_calls = c.of-to_chips.ensures.called ∙ all-on (λ cs ps ns. called cs ps c.args.addr) {ns = []} same c.deref.ensures.value refl in
+    let chip_calls = c.of-to_chips.ensures.called ∙ all-on (λ cs ps ns. addressed cs ps c.args.addr) {ns = []} same c.deref.ensures.value refl in
     let chip_rest = c.of-to_chips.ensures.others ∙ all-on (λ cs ps ns. others cs ps c.args.addr ns) same c.deref.ensures.value refl in
-    let device_calls = c.of-to_devices.ensures.called ∙ all-on (λ cs ps ns. called cs ps c.args.addr) {ns = []} same c.deref-2.ensures.value refl in
+    let device_calls = c.of-to_devices.ensures.called ∙ all-on (λ cs ps ns. addressed cs ps c.args.addr) {ns = []} same c.deref-2.ensures.value refl in
     let device_rest = c.of-to_devices.ensures.others ∙ all-on (λ cs ps ns. others cs ps c.args.addr ns) same c.deref-2.ensures.value refl in
     let chips = begun-on chip_table e chip_calls c.deref_mut.ensures.value _ _ chip_rest _ _ (with_items_is s.chips c.begin-chips.new.targets (omega arith)) c.begin-chips.ensures.fed in
     let devices = begun-on device_table e device_calls c.deref_mut-2.ensures.value _ _ device_rest _ _
@@ -81,8 +81,8 @@ returns-clause-answer c =
     let s = c.self.inside in
     let e = event.Start c.args.reading in
     let same = c.as_slice-chips.ensures.value in
-    let chip_calls = c.of-to_chips.ensures.called ∙ all-on (λ cs ps ns. called cs ps c.args.addr) {ns = []} same c.deref.ensures.value refl in
-    let device_calls = c.of-to_devices.ensures.called ∙ all-on (λ cs ps ns. called cs ps c.args.addr) {ns = []} same c.deref-2.ensures.value refl in
+    let chip_calls = c.of-to_chips.ensures.called ∙ all-on (λ cs ps ns. addressed cs ps c.args.addr) {ns = []} same c.deref.ensures.value refl in
+    let device_calls = c.of-to_devices.ensures.called ∙ all-on (λ cs ps ns. addressed cs ps c.args.addr) {ns = []} same c.deref-2.ensures.value refl in
     let chips = said-on chip_table e _ _ _ _ chip_calls c.deref_mut.ensures.value _ c.begin-chips.ensures.answered in
     let devices = said-on device_table e _ _ _ _ device_calls c.deref_mut-2.ensures.value _ c.begin-devices.ensures.answered in
     c.answer_of-answer.ensures ∙ start-by chips devices
@@ -93,9 +93,9 @@ returns-clause-after c =
     let s = c.self.inside in
     let e = event.Start c.args.reading in
     let same = c.as_slice-chips.ensures.value in
-    let chip_calls = c.of-to_chips.ensures.called ∙ all-on (λ cs ps ns. called cs ps c.args.addr) {ns = []} same c.deref.ensures.value refl in
+    let chip_calls = c.of-to_chips.ensures.called ∙ all-on (λ cs ps ns. addressed cs ps c.args.addr) {ns = []} same c.deref.ensures.value refl in
     let chip_rest = c.of-to_chips.ensures.others ∙ all-on (λ cs ps ns. others cs ps c.args.addr ns) same c.deref.ensures.value refl in
-    let device_calls = c.of-to_devices.ensures.called ∙ all-on (λ cs ps ns. called cs ps c.args.addr) {ns = []} same c.deref-2.ensures.value refl in
+    let device_calls = c.of-to_devices.ensures.called ∙ all-on (λ cs ps ns. addressed cs ps c.args.addr) {ns = []} same c.deref-2.ensures.value refl in
     let device_rest = c.of-to_devices.ensures.others ∙ all-on (λ cs ps ns. others cs ps c.args.addr ns) same c.deref-2.ensures.value refl in
     let chips = begun-on chip_table e chip_calls c.deref_mut.ensures.value _ _ chip_rest _ _ (with_items_is s.chips c.begin-chips.new.targets (omega arith)) c.begin-chips.ensures.fed in
     let devices = begun-on device_table e device_calls c.deref_mut-2.ensures.value _ _ device_rest _ _

@@ -2,10 +2,10 @@ use Rattle.std.proofs.Common.{◌≡◌, ◌≤◌, length}
 use Rattle.std.specs.Prelude.{◌||◌}
 use Rattle.std.specs.List.{filter, range_with_len}
 use Rattle.i2c_physics.specs.Reach.{is_among}
-use Rattle.i2c_physics.proofs.reach.either.Given as goal
+use Rattle.i2c_physics.proofs.reach.union_of.Given as goal
 
 abbrev pub invariant-loop-number : goal.invariant-loop-number
 invariant-loop-number l = record {
   few : length l.numbers.items ≤ l.number;
-  either : l.numbers.items ≡ filter (λ k. is_among l.first k || is_among l.second k) (range_with_len 0 l.number);
+  found : l.numbers.items ≡ filter (λ k. is_among l.first k || is_among l.second k) (range_with_len 0 l.number);
 }
