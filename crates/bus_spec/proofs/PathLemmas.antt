@@ -8,7 +8,7 @@ use Rattle.i2c_base.specs.Board.{BoardView}
 use Rattle.i2c_spec.specs.Tree.{Hop, locks_of}
 use Rattle.bus_spec.specs.Walk.{Job, Select, Clear, Act, Take, Free, Send, Shift, Settle, ActOutcome, Passed, JobOutcome, Good, Refused, Unsent, Failed, Note, Ask, MarkOf, WalkTree, Ends, Look, Then, Go, On, Last, Over, goes, job_outcome, verdict_of, decides, is_line, more_of}
 use Rattle.bus_spec.specs.Grammar.{Doer, plain, settled, over, by_go, messages, at_bus, locked, part, with_mark, aside, if_sent, if_good, kind_of, closing, opened, chosen, behind, inner, full}
-use Rattle.bus_spec.specs.Paths.{PathStep, Saw, Did, IsPath, act_of, IsDoneBy}
+use Rattle.bus_spec.specs.Paths.{Rule, PathStep, Saw, Did, IsPath, act_of, IsDoneBy}
 use Rattle.bus_spec.specs.WalkRule.{settle_where, IsJobEnd, next_by, next_message, NextOr, AreMessages, IsLineStep, AtBus, IsLocked, IsOpened, IfGood, IsChosen, IfSent, IsClosed, IsBehindMux, IsPart, IsInner, IsFull}
 
 pub path_append : (xs ys : List PathStep) (u v w : WalkTree) → IsPath xs u v → IsPath ys v w → IsPath (xs ++ ys) u w
@@ -218,7 +218,7 @@ of_line job forward (Saw ask m ∷ steps) out p = p
 of_line job forward (Did a o ∷ steps) out p = p
 
 -- EACH PIECE over a doer that keeps a rule
-pub record Keeps (on : Doer) (rule : Job → Bool → List PathStep → JobOutcome → Type 0) : Type 0 where
+pub record Keeps (on : Doer) (rule : Rule) : Type 0 where
   pub splits : (job : Job) (note : Note) → Splits (on job note) (rule job note.forward)
   pub leads : (job : Job) (note : Note) → Leads (on job note) (rule job note.forward)
 
@@ -244,7 +244,7 @@ freed-more : (l : LockId) (ls : List LockId)
     → map (λ (i : LockId). Some (Free i)) (reverse (l ∷ ls)) ≡ map (λ (i : LockId). Some (Free i)) (reverse ls) ++ Some (Free l) ∷ []
 freed-more l ls = ap (map (λ (i : LockId). Some (Free i))) (reverse-append (l ∷ []) ls) ∙ map_push (λ (i : LockId). Some (Free i)) (reverse ls) l
 
-module _ (on : Doer) (rule : Job → Bool → List PathStep → JobOutcome → Type 0) (keeps : Keeps on rule) where
+module _ (on : Doer) (rule : Rule) (keeps : Keeps on rule) where
   -- LOCKS
   one_more : (l : LockId) (ls : List LockId) (job : Job) (note : Note) (k : JobOutcome → WalkTree) (o : ActOutcome) (a : Act) (steps : List PathStep) → a ≡ Take l
       → Split (IsLocked ls rule job note.forward) (λ out. Then (Free l) plain (λ o2. k out)) steps → Split (IsLocked (l ∷ ls) rule job note.forward) k (Did a o ∷ steps)
@@ -489,6 +489,6 @@ keeps-full b root hs =
     let all = keeps-locked (inner b root hs) (IsInner b root hs) (keeps-inner b root hs) (locks_of root hs) in
     record { splits = all.splits; leads = all.leads }
 
-pub by-rule : (rule : Job → Bool → List PathStep → JobOutcome → Type 0) (job : Job) (note : Note) (k : JobOutcome → WalkTree) (steps : List PathStep)
+pub by-rule : (rule : Rule) (job : Job) (note : Note) (k : JobOutcome → WalkTree) (steps : List PathStep)
     → Split (rule job note.forward) k steps → IsDoneBy rule job note k steps
 by-rule rule job note k steps s = record { done = s.done; rest = s.rest; out = s.out; all = s.all; by_rule = s.kept; goes_on = s.goes_on }

@@ -27,7 +27,7 @@ abbrev pub Rule : Type 1
 Rule = Job → Bool → List PathStep → JobOutcome → Type 0
 
 -- steps that begin with those of a job by a rule, and go on as is said for what came of it
-pub record IsDoneBy (rule : Job → Bool → List PathStep → JobOutcome → Type 0) (job : Job) (note : Note) (k : JobOutcome → WalkTree) (steps : List PathStep) : Type 0 where
+pub record IsDoneBy (rule : Rule) (job : Job) (note : Note) (k : JobOutcome → WalkTree) (steps : List PathStep) : Type 0 where
   pub done : List PathStep
   pub rest : List PathStep
   pub out : JobOutcome

@@ -1,5 +1,5 @@
 -- The walk of a transfer in the rule's own words (Linux i2c-topology): which whole lists of steps it is. The list of a job is
--- put together of the lists of the jobs that it needs on the bus before the mux; nothing says what comes next.
+-- put together of the lists of the jobs that it needs on the bus before the mux.
 use Rattle.std.specs.Prelude.{◌≡◌, ℕ, zero, suc, Bool, true, false, ◌&&◌, List, [], ◌∷◌, ◌++◌, map, reverse, Option, Some, None, MatchBool}
 use Rattle.i2c_base.specs.declared.ids.LockId.{LockId}
 use Rattle.i2c_base.specs.declared.errno.Errno.{Errno}
@@ -59,7 +59,7 @@ abbrev pub AtBus : Rule
 AtBus job forward steps out = MatchBool (is_line job) (IsLineStep job forward steps out) (AreMessages job forward (more_of job) steps out)
 
 -- FULL: the locks are taken, the job is done, and the locks are freed in reverse order
-pub record IsLocked (locks : List LockId) (on : Job → Bool → List PathStep → JobOutcome → Type 0) (job : Job) (forward : Bool) (steps : List PathStep) (out : JobOutcome) : Type 0 where
+pub record IsLocked (locks : List LockId) (on : Rule) (job : Job) (forward : Bool) (steps : List PathStep) (out : JobOutcome) : Type 0 where
   pub takes : List PathStep
   pub middle : List PathStep
   pub frees : List PathStep
@@ -70,7 +70,7 @@ pub record IsLocked (locks : List LockId) (on : Job → Bool → List PathStep �
 
 -- INNER, behind a mux: where its bus carries a mark, the marked mux is closed; the channel is selected; the job is done on the
 -- mux's bus; the mux is deselected. Each part is a job of its own on that bus. A deselect is on no way to the messages
-pub record IsOpened (h : Hop) (on : Job → Bool → List PathStep → JobOutcome → Type 0) (job : Job) (forward : Bool) (steps : List PathStep) (out : JobOutcome) : Type 0 where
+pub record IsOpened (h : Hop) (on : Rule) (job : Job) (forward : Bool) (steps : List PathStep) (out : JobOutcome) : Type 0 where
   pub done : List PathStep
   pub deselected : List PathStep
   pub last : JobOutcome
@@ -85,7 +85,7 @@ IfGood Refused goes_on rest out = (rest ≡ []) × (out ≡ Unsent)
 IfGood Unsent goes_on rest out = (rest ≡ []) × (out ≡ Unsent)
 IfGood Failed goes_on rest out = (rest ≡ []) × (out ≡ Failed)
 
-pub record IsChosen (h : Hop) (on : Job → Bool → List PathStep → JobOutcome → Type 0) (job : Job) (forward : Bool) (steps : List PathStep) (out : JobOutcome) : Type 0 where
+pub record IsChosen (h : Hop) (on : Rule) (job : Job) (forward : Bool) (steps : List PathStep) (out : JobOutcome) : Type 0 where
   pub selected : List PathStep
   pub rest : List PathStep
   pub came : JobOutcome
@@ -104,7 +104,7 @@ abbrev pub IsClosed : BoardView → Hop → Rule → Bool → Option ℕ → Lis
 IsClosed b h on forward None closed came = (closed ≡ []) × (came ≡ Good)
 IsClosed b h on forward (Some m) closed came = on (Clear h.on m (kind_of b m)) forward closed came
 
-pub record IsBehindMux (b : BoardView) (h : Hop) (on : Job → Bool → List PathStep → JobOutcome → Type 0) (job : Job) (forward : Bool) (steps : List PathStep) (out : JobOutcome) : Type 0 where
+pub record IsBehindMux (b : BoardView) (h : Hop) (on : Rule) (job : Job) (forward : Bool) (steps : List PathStep) (out : JobOutcome) : Type 0 where
   pub mark : Option ℕ
   pub closed : List PathStep
   pub rest : List PathStep
