@@ -12,6 +12,7 @@ mod journals;
 mod layers;
 mod readings;
 mod rows;
+mod unique;
 mod wrong;
 
 pub use devices::{
@@ -37,6 +38,7 @@ pub use readings::{
     each_walk_is_what_its_entries_left, each_world_is_that_of_its_calls, settled_is_replies,
 };
 pub use rows::the_worked_journals_keep_every_rule;
+pub use unique::a_schedule_has_one_legal_journal;
 pub use wrong::{
     a_closed_channel_lets_nothing_through, a_failed_message_tells_its_part, a_forgotten_mark,
     a_line_tells_its_mux, a_lock_is_taken_by_one_caller, a_marked_mux_is_closed_first,
