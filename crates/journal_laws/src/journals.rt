@@ -57,9 +57,15 @@ pub fn a_journal_is_legal()
 
 /// On each root as many messages and line steps failed by the port as calls of that port did: one call that fails is told
 /// in one entry.
+///
+/// An entry that could not come where it does may tell a failure of no call; and on which root a line step is made is known only
+/// on an accepted board, of transfers with a message. The legal form has one premise more, that of the law that a legal
+/// journal is stepwise.
 pub fn each_fault_is_a_failed_entry()
-    ensures { (b : BoardView) (callers : ℕ) (asks : Asks) (past : List Entry) → IsPlainBoard b → MeetsRules b → AsksForMessages asks → IsStepwise b callers asks past
+    ensures stepwise { (b : BoardView) (callers : ℕ) (asks : Asks) (past : List Entry) → IsPlainBoard b → MeetsRules b → AsksForMessages asks → IsStepwise b callers asks past
         → (r : ℕ) → faults_in (calls_of b asks past r) ≡ failed_on b r past }
+    ensures legal { (b : BoardView) (callers : ℕ) (asks : Asks) (past : List Entry) → IsPlainBoard b → MeetsRules b → AsksForMessages asks → AsksWithinLimits asks
+        → IsLegal b callers asks past → (r : ℕ) → faults_in (calls_of b asks past r) ≡ failed_on b r past }
 {
     an_accepted_board_is_a_tree();
 }
