@@ -207,9 +207,7 @@ fn has_room(msgs: &[Msg], len: usize, size_more: usize) -> bool
     ensures { IsTrue result ↔ HasRoom msgs.now len size_more }
 {
     let sum: usize = msgs.iter().map(size).sum();
-    msgs.len() < MOST_MESSAGES
-        && len <= MOST_LENGTH
-        && size_more <= MOST_BYTES - sum
+    msgs.len() < MOST_MESSAGES && len <= MOST_LENGTH && size_more <= MOST_BYTES - sum
 }
 
 // A counted read, which asks for one more byte with `extra`.
@@ -224,7 +222,12 @@ fn counted(addr: Addr, extra: bool) -> Msg
 }
 
 // Puts a message and its bytes at the end.
-fn append(msgs: &mut ArrayVec<Msg, MOST_MESSAGES>, out: &mut ArrayVec<u8, MOST_BYTES>, msg: Msg, bytes: &[u8])
+fn append(
+    msgs: &mut ArrayVec<Msg, MOST_MESSAGES>,
+    out: &mut ArrayVec<u8, MOST_BYTES>,
+    msg: Msg,
+    bytes: &[u8],
+)
     requires count { array_vec_len msgs.old < limits.MOST_MESSAGES }
     requires room { array_vec_len out.old + length bytes.now ≤ limits.MOST_BYTES }
     ensures msgs { msgs.new.items ≡ msgs.old.items ++ msg ∷ [] }

@@ -11,9 +11,9 @@ ghost use Rattle.i2c_boardtext.specs.Rules.{table_fault};
 ghost use Rattle.i2c_boardtext.specs.Values.{set_value, device_value};
 ghost use Rattle.i2c_boardtext.specs.declared.fault.TableName.TheVariants.{Device};
 
+use crate::devices::{DeviceName, device_fault, device_in, kind_value};
 use crate::fault::{BoardFault, TableFault, TableName, placed_fault};
 use crate::find::find;
-use crate::devices::{DeviceName, device_fault, device_in, kind_value};
 use crate::read::{address, bus, flag};
 use crate::rows::row;
 use crate::runs::runs;

@@ -74,15 +74,38 @@ pub fn device_fault(table: &Table, buses: u16, name: DeviceName) -> Option<Table
             let set = runs(u32::from(eeprom_bytes(size)));
             table_fault(
                 table,
-                &[bus, KIND, address, BOUND, set, FILL.may_say(), BUSY.may_say(), WP],
+                &[
+                    bus,
+                    KIND,
+                    address,
+                    BOUND,
+                    set,
+                    FILL.may_say(),
+                    BUSY.may_say(),
+                    WP,
+                ],
             )
         }
         DeviceName::Lm75 => table_fault(table, &[bus, KIND, address, BOUND, RAW.may_say()]),
         DeviceName::Regs => {
-            table_fault(table, &[bus, KIND, address, BOUND, runs(256), HOLD.may_say()])
+            table_fault(
+                table,
+                &[bus, KIND, address, BOUND, runs(256), HOLD.may_say()],
+            )
         }
         DeviceName::Smbus => {
-            table_fault(table, &[bus, KIND, address, BOUND, runs(256), WIDTH.may_say(), FLIP.may_say()])
+            table_fault(
+                table,
+                &[
+                    bus,
+                    KIND,
+                    address,
+                    BOUND,
+                    runs(256),
+                    WIDTH.may_say(),
+                    FLIP.may_say(),
+                ],
+            )
         }
     }
 }

@@ -138,7 +138,10 @@ fn arbitrator_fault(table: &Table, buses: u16) -> Option<TableFault>
 {
     let address = ADDRESS.has_to_say();
     let foreign = FOREIGN.may_say();
-    table_fault(table, &[bus(buses), KIND, LOCK, IDLE, address, ABSENT, foreign])
+    table_fault(
+        table,
+        &[bus(buses), KIND, LOCK, IDLE, address, ABSENT, foreign],
+    )
 }
 
 // The muxes that are switched by a line.
@@ -146,7 +149,10 @@ fn line_fault(table: &Table, buses: u16) -> Option<TableFault>
     requires some { 0 < buses }
     ensures { result ≡ table_fault (line_mux buses) (table_view table.now) }
 {
-    table_fault(table, &[bus(buses), KIND, LOCK, IDLE, CHANNELS.has_to_say()])
+    table_fault(
+        table,
+        &[bus(buses), KIND, LOCK, IDLE, CHANNELS.has_to_say()],
+    )
 }
 
 /// What is wrong with a mux of this kind, with these buses before its channels.
