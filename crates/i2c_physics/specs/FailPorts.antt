@@ -16,16 +16,16 @@ pub record FailView : Type 0 where
   pub fails : List ℕ
 
 -- how many calls have failed: the log has a fault for each of them
-abbrev pub is_fault : PortCall → Bool
-is_fault (call.Start a reading) = false
-is_fault (call.Put byte) = false
-is_fault (call.Get ack) = false
-is_fault call.Stop = false
-is_fault (call.Line m level) = false
-is_fault call.Fault = true
+abbrev pub is_failed_call : PortCall → Bool
+is_failed_call (call.Start a reading) = false
+is_failed_call (call.Put byte) = false
+is_failed_call (call.Get ack) = false
+is_failed_call call.Stop = false
+is_failed_call (call.Line m level) = false
+is_failed_call call.Fault = true
 
-abbrev pub faults_in : List PortCall → ℕ
-faults_in log = count_by is_fault log
+abbrev pub failed_calls_in : List PortCall → ℕ
+failed_calls_in log = count_by is_failed_call log
 
 -- the next call fails, where its number is listed
 abbrev pub fails_next : FailView → Bool

@@ -4,7 +4,7 @@ ghost use Rattle.i2c_base.specs.declared.port.Phase.TheVariants.{Idle};
 ghost use Rattle.i2c_base.specs.declared.port.PortCall.TheVariants as call;
 ghost use Rattle.i2c_spec.specs.World.{answer, takes, gives};
 ghost use Rattle.i2c_outside.specs.LineCalls.{HasLine};
-ghost use Rattle.i2c_physics.specs.FailPorts.{fails_next, said, after_next, faults_in, fails_on, opening_fails};
+ghost use Rattle.i2c_physics.specs.FailPorts.{fails_next, said, after_next, failed_calls_in, fails_on, opening_fails};
 
 use crate::SimPort;
 use crate::room::Returned;
@@ -87,7 +87,7 @@ impl Port for FailPort {
 
     ghost phase = { λ p. p.port.phase };
 
-    ghost faults = { λ p. faults_in p.port.log };
+    ghost faults = { λ p. failed_calls_in p.port.log };
 
     fn start(&mut self, addr: Addr, reading: bool) -> Result<Answer, Failed>
         requires phase { MayStart self.old.port.phase }

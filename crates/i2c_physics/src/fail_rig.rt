@@ -4,7 +4,7 @@ ghost use Rattle.std.specs.Option.{option_map_or};
 ghost use Rattle.i2c_spec.specs.World.{AreWorldsOf, devices_of};
 ghost use Rattle.i2c_outside.specs.Causes.{counted};
 ghost use Rattle.i2c_outside.specs.Devices.{target_state};
-ghost use Rattle.i2c_physics.specs.FailPorts.{faults_in, opening_fails};
+ghost use Rattle.i2c_physics.specs.FailPorts.{failed_calls_in, opening_fails};
 ghost use Rattle.i2c_physics.specs.SimRigs.{no_board, kept_states, kept_logs};
 
 use crate::FailPort;
@@ -94,7 +94,7 @@ impl Rig for FailRig {
 
     ghost logs = { λ r. kept_logs r.sim.kept };
 
-    ghost port_faults = { λ r. option_map_or (λ ports. map (λ p. faults_in p.port.log) ports.value.items) r.given [] };
+    ghost port_faults = { λ r. option_map_or (λ ports. map (λ p. failed_calls_in p.port.log) ports.value.items) r.given [] };
 
     /// It fails by a fault exactly where it is told to.
     fn plug(&mut self, alloc: Global, board: &Accepted) -> Result<Vec<FailPort>, RigFail>
@@ -127,7 +127,7 @@ impl Rig for FailRig {
         ensures plugs { self.new.sim.plugs ≡ self.old.sim.plugs }
         ensures unplugs { self.new.sim.unplugs ≡ counted self.old.sim.unplugs }
         ensures calm { self.new.sim.faults ≡ self.old.sim.faults }
-        ensures counts { option_map_or (λ given. map (λ p. faults_in p.port.log) given.value.items) self.new.given [] ≡ map (λ p. faults_in p.port.log) ports.items }
+        ensures counts { option_map_or (λ given. map (λ p. failed_calls_in p.port.log) given.value.items) self.new.given [] ≡ map (λ p. failed_calls_in p.port.log) ports.items }
         ensures states { AreWorldsOf (unwrap_or self.old.sim.room no_board) (map (λ p. p.port.world) ports.items)
             → kept_states self.new.sim.kept ≡ devices_of (unwrap_or self.old.sim.room no_board) (map (λ p. p.port.world) ports.items) }
         ensures logs { AreWorldsOf (unwrap_or self.old.sim.room no_board) (map (λ p. p.port.world) ports.items)

@@ -5,7 +5,7 @@ use Rattle.std.proofs.lemmas.Result.{IfOk-weaker}
 use Rattle.i2c_base.specs.declared.port.Phase.{Phase}
 use Rattle.i2c_base.specs.Board.{BoardView}
 use Rattle.i2c_spec.specs.World.{openings}
-use Rattle.i2c_physics.specs.FailPorts.{FailView, faults_in, opening_fails}
+use Rattle.i2c_physics.specs.FailPorts.{FailView, failed_calls_in, opening_fails}
 use Rattle.i2c_physics.proofs.PlugLemmas.{opened-count, opened-all, opened-worlds}
 use Rattle.i2c_physics.proofs.fail_rig.FailRigRig.TheImpl.Goals as goal
 
@@ -30,8 +30,8 @@ plug-tells x c =
       count = given opened b c.result (λ ports. vec_len ports ≡ length b.roots) are (λ ports is. omega (arith, opened-count opened b ports.items is));
       idle = given opened b c.result (λ ports. All (λ p. p.port.phase ≡ Phase.Idle) ports.items) are
           (λ ports is. opened-all opened b ports.items is (λ p. p.port.phase ≡ Phase.Idle) (λ r. refl));
-      fresh = given opened b c.result (λ ports. All (λ p. faults_in p.port.log ≡ 0) ports.items) are
-          (λ ports is. opened-all opened b ports.items is (λ p. faults_in p.port.log ≡ 0) (λ r. refl));
+      fresh = given opened b c.result (λ ports. All (λ p. failed_calls_in p.port.log ≡ 0) ports.items) are
+          (λ ports is. opened-all opened b ports.items is (λ p. failed_calls_in p.port.log ≡ 0) (λ r. refl));
       empty = λ _. given opened b c.result (λ ports. All (λ p. p.port.log ≡ []) ports.items) are
           (λ ports is. opened-all opened b ports.items is (λ p. p.port.log ≡ []) (λ r. refl));
       worlds = λ _. given opened b c.result (λ ports. map (λ p. p.port.world) ports.items ≡ openings b) are
