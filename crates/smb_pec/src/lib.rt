@@ -1,0 +1,11 @@
+//! The packet error code of SMBus.
+//!
+//! Its public contract: `pec` is the remainder of the long division, bit by bit, of the bytes and eight zero bits
+//! by x^8 + x^2 + x + 1. Definitions: `specs/LongDivision.antt`. Standard: SMBus 3.2, section 6.4.
+#![tactic(auto)]
+
+mod error_code;
+mod examples;
+
+pub use error_code::pec;
+pub use examples::{another_byte_gives_another_code, the_nine_digits_give_0xf4};
