@@ -1,5 +1,5 @@
 -- A file for each subject. The table of the SMBus device goes beside `Regs`, `Eeprom` and `Lm75`, with a case of
--- `Targets.TargetState`; the rows of the SMBus calls get a file of their own.
+-- `Targets.TargetState`.
 pub mod Tree
 pub mod TreeFacts
 pub mod Numbers
@@ -21,6 +21,7 @@ pub mod Flat
 pub mod History
 pub mod Cost
 pub mod Fair
+pub mod SmbusCalls
 pub use Rattle.i2c_base.specs.Addr
 pub use Rattle.i2c_base.specs.Board
 pub use Rattle.i2c_base.specs.Transfer

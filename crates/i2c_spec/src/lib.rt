@@ -4,7 +4,8 @@
 //! The definitions stand in `specs/`, a file for each subject, over plain records and lists. Code stands here only where
 //! crates above call it: `Layout` computes those of the tree, the grant and the topology rules over a board's parts, and
 //! `refusal`, `errno_of` and `done_with` what becomes of a transfer as a whole, and `write_runs` and the functions of a
-//! `Size` what a device's memory is at the opening; each is equal to its definition.
+//! `Size` what a device's memory is at the opening; each is equal to its definition. `CallRow` is what a row of the SMBus
+//! calls says.
 #![tactic(auto)]
 
 mod device_memory;
@@ -14,6 +15,7 @@ mod grant;
 mod hop;
 mod laws;
 mod layout;
+mod smbus_row;
 mod target_rows;
 mod topology;
 mod tree;
@@ -27,6 +29,7 @@ pub use flat_world::{done_with, errno_of, refusal};
 pub use hop::Hop;
 pub use laws::an_accepted_board_is_a_tree;
 pub use layout::Layout;
+pub use smbus_row::{CallRow, ReadShape, ValueShape};
 pub use target_rows::{
     a_busy_eeprom_refuses_starts, a_byte_waits_for_the_stop, a_long_hold_is_slow,
     a_page_write_wraps_in_its_page, a_protected_byte_is_refused, a_read_wraps_at_the_end_of_memory,
