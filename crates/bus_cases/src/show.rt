@@ -115,7 +115,9 @@ pub fn print_answers(
     let Some(state) = called.rig.states().get(device) else {
         return println!(rt; "no device {device}");
     };
-    let mut state = state.copied();
+    let Ok(mut state) = state.copied(alloc) else {
+        return Err(io::Error::from(AllocError));
+    };
     println!(rt; "device {device}")?;
     for word in events {
         match event_of(word.as_str()) {

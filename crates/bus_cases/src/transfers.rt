@@ -3,7 +3,7 @@
 ghost use Rattle.std.specs.Prelude.{◌≤◌, IfOk, vec_len};
 
 use crate::words::address;
-use anyhow::{Context, Result, bail};
+use anyhow::{Context, Error, Result, bail};
 use i2c_base::{Cut, Kind, Reply, Transfer};
 use i2c_board::Board;
 use i2c_plain::{Device, flat};
@@ -30,7 +30,10 @@ fn open_devices(alloc: Global, board: &Board) -> Result<Vec<Device>>
 {
     let mut devices = Vec::new(alloc);
     for spec in board.devices() {
-        devices.push(Device::open(spec))?;
+        let Ok(device) = Device::open(alloc, spec) else {
+            return Err(Error::from(AllocError));
+        };
+        devices.push(device)?;
     }
     Ok(devices)
 }

@@ -28,5 +28,6 @@ pub use rig::Rig;
 pub use shelf::Shelf;
 pub use sink::Sink;
 pub use stdout_sink::StdoutSink;
-pub use tgt_small::Regs;
+pub use tgt_eeprom::Eeprom;
+pub use tgt_small::{Lm75, Regs};
 pub use vec_sink::VecSink;

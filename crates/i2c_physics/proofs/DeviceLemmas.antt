@@ -8,16 +8,21 @@ use Rattle.i2c_base.specs.declared.event.Answer.TheVariants.{Nothing}
 use Rattle.i2c_spec.specs.Targets as target
 use Rattle.i2c_spec.specs.Targets.{TargetState, IsQuiet, state_table, state_after, state_answer}
 use Rattle.i2c_spec.specs.World.{answers, answer_with, feed, given}
+use Rattle.i2c_spec.proofs.StateLemmas.{states_fair}
 use Rattle.i2c_outside.specs.declared.device.DeviceState.{DeviceState}
-use Rattle.i2c_outside.specs.declared.device.DeviceState.TheVariants.{Regs, Silent}
+use Rattle.i2c_outside.specs.declared.device.DeviceState.TheVariants.{Eeprom, Lm75, Regs, Silent}
 use Rattle.i2c_outside.specs.Devices.{target_state, device_of, device_table, device_after, device_answer}
 
 -- a device and its state stand for each other
 state-device : (x : TargetState) → target_state (device_of x) ≡ x
+state-device (target.Eeprom x) = refl
+state-device (target.Lm75 x) = refl
 state-device (target.Regs x) = refl
 state-device target.Silent = refl
 
 device-state : (d : DeviceState) → device_of (target_state d) ≡ d
+device-state (Eeprom x) = refl
+device-state (Lm75 x) = refl
 device-state (Regs x) = refl
 device-state Silent = refl
 
@@ -56,18 +61,10 @@ pub quiet-device : (d : DeviceState) → IsQuiet state_table (target_state d) �
 quiet-device d quiet = record { other = ap device_of quiet.other ∙ device-state d; stop = ap device_of quiet.stop ∙ device-state d }
 
 -- after a stop a device is quiet, and a start for another is answered by nothing
-quiet-state : (x : TargetState) → IsQuiet state_table (state_after x event.Stop)
-quiet-state (target.Regs x) = record { other = refl; stop = refl }
-quiet-state target.Silent = record { other = refl; stop = refl }
-
 pub device-stops : (d : DeviceState) → IsQuiet device_table (device_after d event.Stop)
 device-stops d =
     quiet-device (device_after d event.Stop)
-    (subst (λ (x : TargetState). IsQuiet state_table x) (state_after_is d event.Stop) (quiet-state (target_state d)))
-
-nothing-state : (x : TargetState) → state_answer x event.Other ≡ Nothing
-nothing-state (target.Regs x) = refl
-nothing-state target.Silent = refl
+    (subst (λ (x : TargetState). IsQuiet state_table x) (state_after_is d event.Stop) (states_fair.stops (target_state d)))
 
 pub device-nothing : (d : DeviceState) → device_answer d event.Other ≡ Nothing
-device-nothing d = nothing-state (target_state d)
+device-nothing d = states_fair.other (target_state d)

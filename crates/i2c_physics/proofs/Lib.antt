@@ -8,3 +8,4 @@ pub mod ReachLemmas
 pub mod RigLemmas
 pub mod TogetherLemmas
 pub mod WorldLemmas
+pub mod TakeLemmas

@@ -9,6 +9,7 @@ use Rattle.i2c_base.specs.declared.board.MuxKind.{MuxKind}
 use Rattle.i2c_base.specs.declared.board.MuxKind.TheVariants.{Pca9548, Pca9546, Pca9544, Pca9541, Gpio}
 use Rattle.i2c_base.specs.declared.board.MuxSpec.{MuxSpec}
 use Rattle.i2c_base.specs.Board.{BoardView, DeviceView}
+use Rattle.i2c_base.specs.Table.{Table}
 use Rattle.i2c_spec.specs.Plain.{IsPlainBoard}
 use Rattle.i2c_spec.specs.Chips.{ChipView, chip_table, chip_opening, at_level, stopped, arbitrated, is_free, bit_of}
 use Rattle.i2c_spec.specs.Targets.{IsQuiet, state_table, opening_state}
@@ -89,6 +90,21 @@ got_other (x ∷ xs) zero zero y ne = absurd (ne refl)
 got_other (x ∷ xs) zero (suc k) y ne = refl
 got_other (x ∷ xs) (suc i) zero y ne = refl
 got_other (x ∷ xs) (suc i) (suc k) y ne = got_other xs i k y (λ e. ne (ap suc e))
+
+-- a target that is quiet takes the place of another
+pub quiet-in-place : {X : Type 0} (t : Table X) (xs : List X) (m : ℕ) (y : X) (started hearing : List ℕ) → m < length xs → IsQuiet t y
+    → IsReach t xs started hearing → IsReach t (set xs m y) started hearing
+quiet-in-place t xs m y started hearing low quiet reached =
+    record {
+      few = rw (length-set xs m y) reached.few;
+      started_rise = rw (length-set xs m y) reached.started_rise;
+      hearing_rise = rw (length-set xs m y) reached.hearing_rise;
+      hearing_started = reached.hearing_started;
+      quiet = λ k x got out. elim (eqb_tells k m) [
+          | inl same ↦ (let e : Some y ≡ Some x = sym (ap (slice_get (set xs m y)) same.1 ∙ got_set xs m y low) ∙ got in subst (IsQuiet t) (some_same e) quiet)
+          | inr other ↦ reached.quiet k x (sym (got_other xs m k y other.1) ∙ got) out
+        ];
+    }
 
 set_quiet : (chips : List ChipView) (m level : ℕ) (c : ChipView) → slice_get chips m ≡ Some c → m < length chips → (k : ℕ) (x : ChipView)
     → slice_get (set chips m (at_level c level)) k ≡ Some x → ((y : ChipView) → slice_get chips k ≡ Some y → IsQuiet chip_table y) → IsQuiet chip_table x

@@ -59,6 +59,8 @@ chips_give w ack k (x ∷ xs) =
     ∙ same_byte chip_table ack (list_any (is_chip k) w.hearing) k x (answers chip_table (to_chips w (event.Get true)) (k + 1) xs) refl
 
 state_gives : (x : TargetState) (ack : Bool) → state_table.answer x (event.Get ack) ≡ state_table.answer x (event.Get true)
+state_gives (targets.Eeprom x) ack = refl
+state_gives (targets.Lm75 x) ack = refl
 state_gives (targets.Regs x) ack = refl
 state_gives targets.Silent ack = refl
 

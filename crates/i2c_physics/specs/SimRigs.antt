@@ -1,10 +1,10 @@
 -- What the rig keeps of the ports that are given back.
-use Rattle.std.specs.Prelude.{◌≡◌, ℕ, ◌+◌, ◌<◌, ◌≤◌, List, [], ◌∷◌, ◌++◌, length, map, Option, Some, None, IsSome, slice_get, option_to_list, replicate}
+use Rattle.std.specs.Prelude.{◌≡◌, ℕ, zero, suc, ◌+◌, ◌<◌, ◌≤◌, List, [], ◌∷◌, ◌++◌, length, map, Option, Some, None, IsSome, slice_get, slice_set, option_to_list, replicate}
 use Rattle.i2c_base.specs.declared.port.PortCall.{PortCall}
 use Rattle.i2c_base.specs.Board.{BoardView}
 use Rattle.i2c_spec.specs.Plain.{IsPlainBoard}
 use Rattle.i2c_spec.specs.Tree.{root_of}
-use Rattle.i2c_spec.specs.Targets.{TargetState}
+use Rattle.i2c_spec.specs.Targets.{TargetState, Silent}
 use Rattle.i2c_spec.specs.World.{World}
 use Rattle.i2c_outside.specs.Devices.{target_state}
 use Rattle.i2c_physics.specs.declared.room.Kept.{Kept}
@@ -21,6 +21,16 @@ state_at ws home k = device_of (slice_get ws home) k
 abbrev pub states_from : ℕ → List ℕ → List World → List TargetState
 states_from k [] ws = []
 states_from k (home ∷ homes) ws = option_to_list (state_at ws home k) ++ states_from (k + 1) homes ws
+
+-- a world once device k was taken out of it
+abbrev pub without : World → ℕ → World
+without w k = record w { devices = slice_set w.devices k Silent }
+
+-- these worlds once device k was taken out of that of this root, where there is such a world
+abbrev pub taken_out : List World → ℕ → ℕ → List World
+taken_out [] home k = []
+taken_out (w ∷ ws) zero k = without w k ∷ ws
+taken_out (w ∷ ws) (suc home) k = w ∷ taken_out ws home k
 
 -- device k is there, where its world has a board with so many devices
 abbrev pub IsThere : List World → ℕ → ℕ → Type 0

@@ -69,8 +69,8 @@ fn numbers_on(alloc: Global, calls: &[(SegId, u32)], root: SegId) -> Result<Vec<
 impl Returned for FailPort {
     ghost port = { λ p. p.port };
 
-    fn device(&self, number: usize) -> Option<DeviceState> {
-        self.sim.device(number)
+    fn take_device(&mut self, number: usize) -> Option<DeviceState> {
+        self.sim.take_device(number)
     }
 
     fn into_log(self) -> Vec<PortCall> {

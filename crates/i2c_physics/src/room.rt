@@ -4,7 +4,7 @@ ghost use Rattle.i2c_base.specs.Board.{BoardView};
 ghost use Rattle.i2c_spec.specs.World.{World, AreWorldsOf, devices_of};
 ghost use Rattle.i2c_outside.specs.Devices.{target_state};
 ghost use Rattle.i2c_physics.specs.SimPorts.{PortView};
-ghost use Rattle.i2c_physics.specs.SimRigs.{state_at, states_from, IsThere};
+ghost use Rattle.i2c_physics.specs.SimRigs.{state_at, states_from, taken_out, without, IsThere};
 ghost use Rattle.i2c_spec.specs.Layouts.{board_of};
 ghost use Rattle.i2c_spec.specs.Plain.{IsPlainBoard};
 ghost use Rattle.i2c_spec.specs.Tree.{root_of};
@@ -22,10 +22,12 @@ pub trait Returned: Drop {
     /// The port of its root that it is, or stands for.
     ghost port: { Self → PortView };
 
-    /// The device of this number, as the port has it.
-    fn device(&self, number: usize) -> Option<DeviceState>
-        ensures value { option_map target_state result ≡ slice_get (port self.now).world.devices number }
-        ensures has { number < length (port self.now).world.board.devices → IsSome result };
+    /// Takes out the device of this number, as the port has it.
+    fn take_device(&mut self, number: usize) -> Option<DeviceState>
+        ensures value { option_map target_state result ≡ slice_get (port self.old).world.devices number }
+        ensures has { number < length (port self.old).world.board.devices → IsSome result }
+        ensures world { (port self.new).world ≡ without (port self.old).world number }
+        ensures log { (port self.new).log ≡ (port self.old).log };
 
     /// The calls that were made on it.
     fn into_log(self) -> Vec<PortCall>
@@ -78,7 +80,7 @@ impl Room {
     }
 
     /// Keeps the devices as these ports have them, each as the port of its root has it, and their logs.
-    pub fn keep<P: Returned>(self, ports: Vec<P>) -> Kept
+    pub fn keep<P: Returned>(self, mut ports: Vec<P>) -> Kept
         ensures states { AreWorldsOf self (map (λ p. (P.port p).world) ports.items) → map target_state result.states.items ≡ devices_of self (map (λ p. (P.port p).world) ports.items) }
         ensures logs { AreWorldsOf self (map (λ p. (P.port p).world) ports.items) → map (λ log. log.items) result.logs.items ≡ map (λ p. (P.port p).log) ports.items }
     {
@@ -88,7 +90,7 @@ impl Room {
             mut states,
             mut logs,
         } = self;
-        keep_states(&mut states, &homes, &ports);
+        keep_states(&mut states, &homes, &mut ports);
         keep_logs(&mut logs, ports);
         Kept { states, logs }
     }
@@ -107,24 +109,31 @@ fn homes(alloc: Global, layout: Layout<'_>) -> Result<Vec<SegId>, AllocError>
 }
 
 /// Keeps each device as the port of its root has it.
-fn keep_states<P: Returned>(states: &mut Vec<DeviceState>, homes: &Vec<SegId>, ports: &Vec<P>)
+fn keep_states<P: Returned>(states: &mut Vec<DeviceState>, homes: &Vec<SegId>, ports: &mut Vec<P>)
     requires { vec_len states.old + vec_len homes.now ≤ vec_capacity states.old }
-    ensures kept { map target_state states.new.items ≡ map target_state states.old.items ++ states_from 0 homes.now.items (map (λ p. (P.port p).world) ports.now.items) }
-    ensures there { (k : ℕ) → k < vec_len homes.now → IsThere (map (λ p. (P.port p).world) ports.now.items) (slice_index homes.now.items k) k }
+    ensures kept { map target_state states.new.items ≡ map target_state states.old.items ++ states_from 0 homes.now.items (map (λ p. (P.port p).world) ports.old.items) }
+    ensures there { (k : ℕ) → k < vec_len homes.now → IsThere (map (λ p. (P.port p).world) ports.old.items) (slice_index homes.now.items k) k }
+    ensures logs { map (λ p. (P.port p).log) ports.new.items ≡ map (λ p. (P.port p).log) ports.old.items }
 {
     for (number, home) in homes.iter().enumerate() {
-        if let Some(state) = device_in(ports, *home, number) {
-            let _ = states.push(state);
+        if let Some(state) = take_from(ports, *home, number) {
+            states.push_reserved(state);
         }
     }
 }
 
-/// The device of this number, as the port of this bus has it.
-fn device_in<P: Returned>(ports: &Vec<P>, home: SegId, number: usize) -> Option<DeviceState>
-    ensures value { option_map target_state result ≡ state_at (map (λ p. (P.port p).world) ports.now.items) home number }
-    ensures there { IsThere (map (λ p. (P.port p).world) ports.now.items) home number }
+/// Takes out the device of this number, as the port of this bus has it.
+fn take_from<P: Returned>(ports: &mut Vec<P>, home: SegId, number: usize) -> Option<DeviceState>
+    ensures value { option_map target_state result ≡ state_at (map (λ p. (P.port p).world) ports.old.items) home number }
+    ensures there { IsThere (map (λ p. (P.port p).world) ports.old.items) home number }
+    ensures worlds { map (λ p. (P.port p).world) ports.new.items ≡ taken_out (map (λ p. (P.port p).world) ports.old.items) home number }
+    ensures logs { map (λ p. (P.port p).log) ports.new.items ≡ map (λ p. (P.port p).log) ports.old.items }
 {
-    ports.get(usize::from(home.0))?.device(number)
+    let home = usize::from(home.0);
+    if home >= ports.len() {
+        return None;
+    }
+    ports[home].take_device(number)
 }
 
 /// Keeps the logs of these ports, as far as there is room.

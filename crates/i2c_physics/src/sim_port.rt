@@ -129,8 +129,8 @@ impl SimPort {
 impl Returned for SimPort {
     ghost port = { λ p. p };
 
-    fn device(&self, number: usize) -> Option<DeviceState> {
-        self.world.device(number)
+    fn take_device(&mut self, number: usize) -> Option<DeviceState> {
+        self.world.take_device(number)
     }
 
     fn into_log(self) -> Vec<PortCall> {

@@ -7,17 +7,19 @@ ghost use Rattle.i2c_spec.specs.Targets.{opening_state};
 ghost use Rattle.i2c_spec.specs.World as world;
 ghost use Rattle.i2c_outside.specs.Devices.{target_state};
 ghost use Rattle.i2c_physics.specs.Answering.{chips_say, devices_say};
+ghost use Rattle.i2c_physics.specs.SimRigs.{without};
 
 use crate::place::{Place, device_places, mux_places};
 use crate::reach::{Reach, Start, parted};
 use crate::together::{Together, answer_of, begin, tell};
 use arrayvec::ArrayVec;
-use i2c_base::{Addr, Answer, DeviceSpec, Event, MuxId, MuxSpec, SegId};
+use i2c_base::{Addr, Answer, DeviceSpec, Event, MuxId, MuxSpec, NoMemory, SegId};
 use i2c_board::Accepted;
 use i2c_outside::DeviceState;
 use i2c_spec::{chips_are_fair, openings_are_quiet};
 use std::alloc::{AllocError, Global};
 use std::marker::Model;
+use std::mem;
 use std::snapshot::Snapshot;
 use tgt_mux::Chip;
 
@@ -72,12 +74,16 @@ impl SimWorld {
         })
     }
 
-    /// The device of this number, as the world has it.
-    pub fn device(&self, number: usize) -> Option<DeviceState>
-        ensures value { option_map target_state result ≡ slice_get self.now.devices number }
-        ensures has { number < length self.now.board.devices → IsSome result }
+    /// Takes out the device of this number, as the world has it.
+    pub fn take_device(&mut self, number: usize) -> Option<DeviceState>
+        ensures value { option_map target_state result ≡ slice_get self.old.devices number }
+        ensures has { number < length self.old.board.devices → IsSome result }
+        ensures after { self.new ≡ without self.old number }
     {
-        Some(self.devices.get(number)?.copied())
+        if number >= self.devices.len() {
+            return None;
+        }
+        Some(mem::replace(&mut self.devices[number], DeviceState::Silent))
     }
 
     /// A start goes out. What it is answered.
@@ -186,7 +192,10 @@ fn open_devices(alloc: Global, devices: &[DeviceSpec]) -> Result<Vec<DeviceState
 {
     let mut states = Vec::with_capacity(alloc, devices.len())?;
     for device in devices {
-        states.push(DeviceState::open(device))?;
+        match DeviceState::open(alloc, device) {
+            Ok(state) => states.push(state)?,
+            Err(NoMemory) => return Err(AllocError),
+        }
     }
     Ok(states)
 }

@@ -1,9 +1,10 @@
-ghost use Rattle.std.specs.Prelude.{◌≡◌};
+ghost use Rattle.std.specs.Prelude.{◌≡◌, IfOk};
 ghost use Rattle.i2c_spec.specs.Plain.{IsPlainDevice};
 ghost use Rattle.i2c_spec.specs.Targets.{opening_state, state_answer};
 
-use i2c_base::{Answer, DeviceSpec, Event, Target};
+use i2c_base::{Answer, DeviceSpec, Event, NoMemory, Target};
 use i2c_outside::DeviceState;
+use std::alloc::Global;
 use std::marker::Model;
 
 /// A device of the flat world. A contract sees its state as the table of all kinds has it.
@@ -23,13 +24,13 @@ impl Model for Device {
 
 impl Device {
     /// The device as its board says that it is opened.
-    pub fn open(spec: &DeviceSpec) -> Self
+    pub fn open(alloc: Global, spec: &DeviceSpec) -> Result<Self, NoMemory>
         requires plain { IsPlainDevice spec.now }
-        ensures { result ≡ opening_state spec.now }
+        ensures { IfOk result (λ d. d ≡ opening_state spec.now) }
     {
-        Device {
-            state: DeviceState::open(spec),
-        }
+        Ok(Device {
+            state: DeviceState::open(alloc, spec)?,
+        })
     }
 
     /// What it would answer to this event.
@@ -37,7 +38,7 @@ impl Device {
     pub fn answer(&self, event: Event) -> Answer
         ensures { result ≡ state_answer self.now event }
     {
-        self.state.copied().on(event)
+        self.state.answer(event)
     }
 }
 

@@ -3,4 +3,5 @@ pub mod EepromLemmas
 pub mod HopLemmas
 pub mod PlainLemmas
 pub mod RuleLemmas
+pub mod StateLemmas
 pub mod TreeLemmas

@@ -3,8 +3,7 @@ use Rattle.std.specs.Prelude.{◌≡◌, ℕ, ◌<◌, Bool, Some, None}
 use Rattle.i2c_base.specs.declared.board.DeviceKind.{DeviceKind}
 use Rattle.i2c_base.specs.declared.board.DeviceKind.TheVariants as device_kind
 use Rattle.i2c_base.specs.declared.board.Size.{Size}
-use Rattle.i2c_base.specs.Board.{DeviceView}
-use Rattle.i2c_spec.specs.Eeprom.{EepromPhase, Idle, Address, Data, Read, size_of_eeprom, page_of_eeprom, EepromView, eeprom_opening}
+use Rattle.i2c_spec.specs.Eeprom.{EepromPhase, Idle, Address, Data, Read, size_of_eeprom, page_of_eeprom}
 use Rattle.tgt_eeprom.specs.declared.eeprom.Awaits.{Awaits}
 use Rattle.tgt_eeprom.specs.declared.eeprom.Awaits.TheVariants as awaits
 
@@ -23,10 +22,6 @@ pub record IsEeprom (k : DeviceKind) : Type 0 where
   pub busy : ℕ
   pub wp : Bool
   pub kind : k ≡ device_kind.Eeprom size fill busy wp
-
--- it is as its board says that it is opened
-abbrev pub IsOpening : DeviceView → EepromView → Type 0
-IsOpening d e = (k : IsEeprom d.kind) → e ≡ eeprom_opening k.size k.fill k.busy k.wp d.set
 
 -- the memory has the size of its kind, each place of a page can wait, and the pointer is at a byte
 pub record IsSized (size : Size) (pointer bytes places : ℕ) : Type 0 where

@@ -18,7 +18,9 @@ ghost use Rattle.i2c_spec.specs.Eeprom.{
   with_waiting,
   taken_in,
 };
-ghost use Rattle.tgt_eeprom.specs.Eeproms.{IsEeprom, IsOpening, phase_of};
+ghost use Rattle.i2c_spec.specs.Targets as target;
+ghost use Rattle.i2c_spec.specs.Targets.{opening_state};
+ghost use Rattle.tgt_eeprom.specs.Eeproms.{IsEeprom, phase_of};
 
 use i2c_base::{Answer, DeviceKind, DeviceSpec, Event, NoMemory, Run, Size, Target};
 use i2c_spec::{eeprom_bytes, eeprom_page, is_wide, write_runs};
@@ -73,7 +75,7 @@ impl Eeprom {
     pub fn open(alloc: Global, spec: &DeviceSpec) -> Result<Self, NoMemory>
         requires plain { IsPlainDevice spec.now }
         requires eeprom { IsEeprom spec.now.kind }
-        ensures { IfOk result (IsOpening spec.now) }
+        ensures { IfOk result (λ e. target.Eeprom e ≡ opening_state spec.now) }
     {
         match spec.kind {
             DeviceKind::Eeprom {
@@ -105,6 +107,39 @@ impl Eeprom {
             Awaits::Get => self.memory[usize::from(self.pointer)],
             _ => 255,
         }
+    }
+
+    /// What it would answer to this event.
+    pub fn answer(&self, event: Event) -> Answer
+        ensures { result ≡ eeprom_answer self.now event }
+    {
+        match event {
+            Event::Start { .. } if self.left > 0 => Answer::Nack,
+            Event::Start { .. } => Answer::Ack,
+            Event::Put(_) => match self.awaits {
+                Awaits::Place | Awaits::LowByte(_) => Answer::Ack,
+                Awaits::Byte if !self.wp => Answer::Ack,
+                Awaits::Byte | Awaits::Start | Awaits::Get => Answer::Nack,
+            },
+            Event::Get { .. } => Answer::Byte(self.sends()),
+            Event::Other | Event::Stop => Answer::Nothing,
+        }
+    }
+
+    /// An EEPROM in the same state.
+    pub fn copied(&self, alloc: Global) -> Result<Self, NoMemory>
+        ensures { IfOk result (λ e. e ≡ self.now) }
+    {
+        Ok(Eeprom {
+            size: self.size,
+            awaits: self.awaits,
+            pointer: self.pointer,
+            memory: self.memory.as_slice().to_vec(alloc)?,
+            waiting: self.waiting.as_slice().to_vec(alloc)?,
+            left: self.left,
+            busy: self.busy,
+            wp: self.wp,
+        })
     }
 
     /// The message in progress has come to this, and no byte waits.

@@ -2,8 +2,7 @@
 use Rattle.std.specs.Prelude.{◌≡◌, ℕ}
 use Rattle.i2c_base.specs.declared.board.DeviceKind.{DeviceKind}
 use Rattle.i2c_base.specs.declared.board.DeviceKind.TheVariants as device_kind
-use Rattle.i2c_base.specs.Board.{DeviceView}
-use Rattle.i2c_spec.specs.Lm75.{Lm75View, Lm75Phase, Idle, Pointer, Data, Read, lm75_opening}
+use Rattle.i2c_spec.specs.Lm75.{Lm75Phase, Idle, Pointer, Data, Read}
 use Rattle.tgt_small.specs.declared.lm75.Awaits.{Awaits}
 use Rattle.tgt_small.specs.declared.lm75.Awaits.TheVariants as awaits
 
@@ -18,7 +17,3 @@ sensor_phase_of (awaits.Get k) = Read k
 pub record IsLm75 (k : DeviceKind) : Type 0 where
   pub raw : ℕ
   pub kind : k ≡ device_kind.Lm75 raw
-
--- it is as its board says that it is opened
-abbrev pub IsSensorOpening : DeviceView → Lm75View → Type 0
-IsSensorOpening d x = (k : IsLm75 d.kind) → x ≡ lm75_opening k.raw

@@ -12,7 +12,9 @@ ghost use Rattle.i2c_spec.specs.Lm75.{
   word_written,
   high_bits,
 };
-ghost use Rattle.tgt_small.specs.Sensors.{IsLm75, IsSensorOpening};
+ghost use Rattle.i2c_spec.specs.Targets as target;
+ghost use Rattle.i2c_spec.specs.Targets.{opening_state};
+ghost use Rattle.tgt_small.specs.Sensors.{IsLm75};
 
 use i2c_base::{Answer, DeviceKind, DeviceSpec, Event, Target};
 use std::marker::Model;
@@ -61,7 +63,7 @@ impl Lm75 {
     pub fn open(spec: &DeviceSpec) -> Self
         requires plain { IsPlainDevice spec.now }
         requires lm75 { IsLm75 spec.now.kind }
-        ensures { IsSensorOpening spec.now result }
+        ensures { target.Lm75 result ≡ opening_state spec.now }
     {
         match spec.kind {
             DeviceKind::Lm75 { raw } => Lm75 {

@@ -28,7 +28,8 @@ use Rattle.bus_laws.proofs.world.Feed.{hears, feed-same, heard-none, unheard, so
 use Rattle.bus_laws.proofs.world.Reach.{and_left, start_heard, other_state}
 use Rattle.bus_laws.proofs.world.Control.{started-chips}
 use Rattle.bus_laws.proofs.device.Talk.{IsFollowing, talk-alike}
-use Rattle.bus_laws.proofs.device.States.{stopped_quiet, slow_heard, ack_heard, byte_and, sends-byte, IsByteEvent, after-bytes}
+use Rattle.i2c_spec.proofs.StateLemmas.{stopped-quiet}
+use Rattle.bus_laws.proofs.device.States.{slow_heard, ack_heard, byte_and, sends-byte, IsByteEvent, after-bytes}
 use Rattle.bus_laws.proofs.device.Hears.{fed-at, map-alike, map-from, answers-quiet, answers-alone, one_answer, heard-alone, heard-missing, answer-alone}
 
 -- EVENTS
@@ -354,7 +355,7 @@ module _ (b : BoardView) (r : ℕ) (w : World) (f : FlatListener) (s : Same b r 
       subst (λ (z : TargetState). IsQuiet state_table z) from.2 (by from.0 from.1 (is_member d f.named) refl)
     where
       by : (y : TargetState) → slice_get f.states d ≡ Some y → (n : Bool) → is_member d f.named ≡ n → IsQuiet state_table (given state_table (cond n (Some event.Stop) None) y)
-      by y at true en = stopped_quiet y
+      by y at true en = stopped-quiet y
       by y at false en = s.quiet d y own en at
 
   pub stop-same : (granted : ℕ → Option ℕ) → Same b r (after w call.Stop) (flat_after granted f call.Stop)

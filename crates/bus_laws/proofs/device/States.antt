@@ -1,7 +1,7 @@
--- What the states of the devices keep: they are quiet after a stop, and hold bytes. The inductions go over memories.
-use Rattle.std.proofs.Common.{◌≡◌, ℕ, zero, suc, ◌+◌, ◌<◌, Bool, true, false, List, [], ◌∷◌, ◌++◌, length, take, drop, replicate, set, get_or, refl, ◌∙◌, arith, mod-eq_of_lt}
+-- What the states of the devices keep: they hold bytes. The inductions go over memories.
+use Rattle.std.proofs.Common.{◌≡◌, ℕ, zero, suc, ◌+◌, ◌-◌, ◌*◌, ◌/◌, ◌%◌, ◌==◌, ◌<◌, ◌≤◌, nat_lt, Option, Some, None, if◌then◌else◌, Bool, true, false, List, [], ◌∷◌, ◌++◌, length, take, drop, replicate, set, get_or, refl, ◌∙◌, arith, mod-eq_of_lt}
 use Rattle.std.specs.List.{AllByRecursion, All}
-use Rattle.std.specs.Prelude.{bit_and, unwrap_or}
+use Rattle.std.specs.Prelude.{IfSome, bit_and, unwrap_or}
 use Rattle.std.proofs.lemmas.List.Elements.{All-head, All-tail, recursion_from_All}
 use Rattle.std.proofs.lemmas.Grind.{and_numeral}
 use Rattle.i2c_base.specs.declared.board.DeviceKind.{DeviceKind}
@@ -14,22 +14,13 @@ use Rattle.i2c_base.specs.Board.{DeviceView, RunView}
 use Rattle.i2c_base.specs.Bytes.{IsByte}
 use Rattle.i2c_spec.specs.Plain.{IsPlainRun, IsPlainDevice}
 use Rattle.i2c_spec.specs.Regs.{RegsView, RegsPhase, Idle, Pointer, Data, Read, regs_sends, regs_put, regs_get, write_run, write_runs}
-use Rattle.i2c_spec.specs.Targets.{TargetState, Regs, Silent, state_table, state_after, state_answer, row_of_kind, opening_state, IsQuiet}
+use Rattle.i2c_spec.specs.Eeprom as eeprom
+use Rattle.i2c_spec.specs.Eeprom.{EepromView, EepromPhase, Address, clear_to, eeprom_after, eeprom_begun, eeprom_get, eeprom_put, eeprom_sends, eeprom_stop, in_page, is_wide, page_of_eeprom, page_start, pointed, size_of_eeprom, taken_in, waits}
+use Rattle.i2c_spec.specs.Lm75 as lm75
+use Rattle.i2c_spec.specs.Lm75.{Lm75View, Lm75Phase, byte_of_word, lm75_after, lm75_get, lm75_put, lm75_sends, register_sends, register_written, with_high, with_low, word_written}
+use Rattle.i2c_spec.specs.Targets.{TargetState, Eeprom, Lm75, Regs, Silent, state_after, state_answer, row_of_kind, opening_state, FitsKind}
 use Rattle.i2c_spec.specs.World.{byte_of, has_heard, is_ack, is_slow}
-use Rattle.bus_laws.specs.Alike.{HoldsBytes}
-
-pub stopped_quiet : (x : TargetState) → IsQuiet state_table (state_after x event.Stop)
-stopped_quiet (Regs x) = record { other = refl; stop = refl }
-stopped_quiet Silent = record { other = refl; stop = refl }
-
-opening_of_kind : (k : DeviceKind) (runs : List RunView) → IsQuiet state_table ((row_of_kind k).opens runs)
-opening_of_kind (kind.Regs hold) runs = record { other = refl; stop = refl }
-opening_of_kind (kind.Eeprom size fill busy wp) runs = record { other = refl; stop = refl }
-opening_of_kind (kind.Lm75 raw) runs = record { other = refl; stop = refl }
-opening_of_kind (kind.Smbus width flip) runs = record { other = refl; stop = refl }
-
-pub opening-quiet : (d : DeviceView) → IsQuiet state_table (opening_state d)
-opening-quiet d = opening_of_kind d.kind d.set
+use Rattle.bus_laws.specs.Alike.{HoldsBytes, IsWord}
 
 -- who is slow, or acknowledges, has heard
 pub slow_heard : (a : Answer) → has_heard a ≡ false → is_slow a ≡ false
@@ -55,10 +46,10 @@ get_byte [] i all = omega arith
 get_byte (x ∷ xs) zero all = all.0
 get_byte (x ∷ xs) (suc i) all = get_byte xs i all.1
 
-set_byte : (xs : List ℕ) (i byte : ℕ) → IsByte byte → AllByRecursion IsByte xs → AllByRecursion IsByte (set xs i byte)
-set_byte [] i byte small all = tt
-set_byte (x ∷ xs) zero byte small all = (small, all.1)
-set_byte (x ∷ xs) (suc i) byte small all = (all.0, set_byte xs i byte small all.1)
+set_all : {A : Type 0} (P : A → Type 0) (xs : List A) (i : ℕ) (x : A) → P x → AllByRecursion P xs → AllByRecursion P (set xs i x)
+set_all P [] i x small all = tt
+set_all P (y ∷ ys) zero x small all = (small, all.1)
+set_all P (y ∷ ys) (suc i) x small all = (all.0, set_all P ys i x small all.1)
 
 abbrev pub IsByteEvent : Event → Type 0
 IsByteEvent (event.Put byte) = IsByte byte
@@ -69,7 +60,7 @@ IsByteEvent event.Stop = Unit {0}
 
 put_bytes : (x : RegsView) (p : RegsPhase) (byte : ℕ) → IsByte byte → AllByRecursion IsByte x.memory → AllByRecursion IsByte (regs_put x p byte).memory
 put_bytes x Pointer byte small all = all
-put_bytes x Data byte small all = set_byte x.memory x.pointer byte small all
+put_bytes x Data byte small all = set_all IsByte x.memory x.pointer byte small all
 put_bytes x Idle byte small all = all
 put_bytes x Read byte small all = all
 
@@ -79,23 +70,11 @@ got_bytes x Idle ack all = all
 got_bytes x Pointer ack all = all
 got_bytes x Data ack all = all
 
-pub after-bytes : (x : TargetState) (e : Event) → IsByteEvent e → HoldsBytes x → HoldsBytes (state_after x e)
-after-bytes Silent e fit all = tt
-after-bytes (Regs x) (event.Start reading) fit all = all
-after-bytes (Regs x) (event.Put byte) fit all = put_bytes x x.phase byte fit all
-after-bytes (Regs x) (event.Get ack) fit all = got_bytes x x.phase ack all
-after-bytes (Regs x) event.Other fit all = all
-after-bytes (Regs x) event.Stop fit all = all
-
 sent_byte : (x : RegsView) (p : RegsPhase) → AllByRecursion IsByte x.memory → IsByte (regs_sends x p)
 sent_byte x Read all = get_byte x.memory x.pointer all
 sent_byte x Idle all = omega arith
 sent_byte x Pointer all = omega arith
 sent_byte x Data all = omega arith
-
-pub sends-byte : (x : TargetState) (ack : Bool) → HoldsBytes x → IsByte (byte_of (state_answer x (event.Get ack)))
-sends-byte (Regs x) ack all = sent_byte x x.phase all
-sends-byte Silent ack all = omega arith
 
 take_bytes : (n : ℕ) (xs : List ℕ) → AllByRecursion IsByte xs → AllByRecursion IsByte (take n xs)
 take_bytes zero xs all = tt
@@ -111,10 +90,155 @@ append_bytes : (xs ys : List ℕ) → AllByRecursion IsByte xs → AllByRecursio
 append_bytes [] ys hx hy = hy
 append_bytes (x ∷ xs) ys hx hy = (hx.0, append_bytes xs ys hx.1 hy)
 
-zero_bytes : (n : ℕ) → AllByRecursion IsByte (replicate n 0)
-zero_bytes zero = tt
-zero_bytes (suc n) = (let f : 0 < 256 = omega arith in f, zero_bytes n)
+all_of : {A : Type 0} (P : A → Type 0) (n : ℕ) (x : A) → P x → AllByRecursion P (replicate n x)
+all_of P zero x is = tt
+all_of P (suc n) x is = (is, all_of P n x is)
 
+-- EEPROMS
+abbrev Place : Option ℕ → Type 0
+Place place = IfSome place IsByte
+
+either_eeprom : (b : Bool) (x y : EepromView) → HoldsBytes (Eeprom x) → HoldsBytes (Eeprom y) → HoldsBytes (Eeprom (if b then x else y))
+either_eeprom true x y hx hy = hx
+either_eeprom false x y hx hy = hy
+
+cleared : (x : EepromView) (p : EepromPhase) → HoldsBytes (Eeprom x) → HoldsBytes (Eeprom (clear_to x p))
+cleared x p all = (all.0, all_of Place (page_of_eeprom x.size) None tt)
+
+eeprom_put_bytes : (x : EepromView) (p : EepromPhase) (byte : ℕ) → IsByte byte → HoldsBytes (Eeprom x) → HoldsBytes (Eeprom (eeprom_put x p byte))
+eeprom_put_bytes x (Address None) byte small all =
+    either_eeprom (is_wide x.size) (record x { phase = Address (Some byte) }) (pointed x byte) all all
+eeprom_put_bytes x (Address (Some high)) byte small all = all
+eeprom_put_bytes x eeprom.Data byte small all =
+    either_eeprom x.wp (clear_to x eeprom.Idle) (waits x byte) (cleared x eeprom.Idle all)
+    (all.0, set_all Place x.waiting (in_page x.size x.pointer) (Some byte) small all.1)
+eeprom_put_bytes x eeprom.Idle byte small all = all
+eeprom_put_bytes x eeprom.Read byte small all = all
+
+eeprom_got_bytes : (x : EepromView) (p : EepromPhase) (ack : Bool) → HoldsBytes (Eeprom x) → HoldsBytes (Eeprom (eeprom_get x p ack))
+eeprom_got_bytes x eeprom.Read ack all = all
+eeprom_got_bytes x eeprom.Idle ack all = all
+eeprom_got_bytes x (Address high) ack all = all
+eeprom_got_bytes x eeprom.Data ack all = all
+
+taken_byte : (place : Option ℕ) (byte : ℕ) → Place place → IsByte byte → IsByte (unwrap_or place byte)
+taken_byte None byte is small = small
+taken_byte (Some new) byte is small = is
+
+taken_bytes : (waiting : List (Option ℕ)) (bytes : List ℕ) → AllByRecursion Place waiting → AllByRecursion IsByte bytes → AllByRecursion IsByte (taken_in waiting bytes)
+taken_bytes [] bytes wait all = all
+taken_bytes (w ∷ ws) [] wait all = tt
+taken_bytes (w ∷ ws) (byte ∷ bytes) wait all = (taken_byte w byte wait.0 all.0, taken_bytes ws bytes wait.1 all.1)
+
+eeprom_stop_bytes : (x : EepromView) → HoldsBytes (Eeprom x) → HoldsBytes (Eeprom (eeprom_stop x))
+eeprom_stop_bytes x all =
+    let start = page_start x.size x.pointer in
+    let page = taken_bytes x.waiting (drop start x.memory) all.1 (drop_bytes start x.memory all.0) in (
+      append_bytes (take start x.memory) (taken_in x.waiting (drop start x.memory)) (take_bytes start x.memory all.0) page,
+      all_of Place (page_of_eeprom x.size) None tt,
+    )
+
+eeprom_after_bytes : (x : EepromView) (e : Event) → IsByteEvent e → HoldsBytes (Eeprom x) → HoldsBytes (Eeprom (eeprom_after x e))
+eeprom_after_bytes x (event.Start reading) fit all =
+    either_eeprom (nat_lt 0 x.left) (record (clear_to x eeprom.Idle) { left = x.left - 1 }) (clear_to x (eeprom_begun reading))
+    (cleared x eeprom.Idle all) (cleared x (eeprom_begun reading) all)
+eeprom_after_bytes x (event.Put byte) fit all = eeprom_put_bytes x x.phase byte fit all
+eeprom_after_bytes x (event.Get ack) fit all = eeprom_got_bytes x x.phase ack all
+eeprom_after_bytes x event.Other fit all = cleared x eeprom.Idle all
+eeprom_after_bytes x event.Stop fit all = eeprom_stop_bytes x all
+
+eeprom_sent_byte : (x : EepromView) (p : EepromPhase) → AllByRecursion IsByte x.memory → IsByte (eeprom_sends x p)
+eeprom_sent_byte x eeprom.Read all = get_byte x.memory x.pointer all
+eeprom_sent_byte x eeprom.Idle all = omega arith
+eeprom_sent_byte x (Address high) all = omega arith
+eeprom_sent_byte x eeprom.Data all = omega arith
+
+-- SENSORS
+either_lm75 : (b : Bool) (x y : Lm75View) → HoldsBytes (Lm75 x) → HoldsBytes (Lm75 y) → HoldsBytes (Lm75 (if b then x else y))
+either_lm75 true x y hx hy = hx
+either_lm75 false x y hx hy = hy
+
+either_word : (b : Bool) (m n : ℕ) → IsWord m → IsWord n → IsWord (if b then m else n)
+either_word true m n hm hn = hm
+either_word false m n hm hn = hn
+
+either_byte : (b : Bool) (m n : ℕ) → IsByte m → IsByte n → IsByte (if b then m else n)
+either_byte true m n hm hn = hm
+either_byte false m n hm hn = hn
+
+written_word : (word k byte : ℕ) → IsWord word → IsByte byte → IsWord (word_written word k byte)
+written_word word k byte fits small =
+    either_word (k == 0) (with_high word byte) (if k == 1 then with_low word byte else word) (omega arith)
+    (either_word (k == 1) (with_low word byte) word (omega arith) fits)
+
+written_register : (x : Lm75View) (k byte : ℕ) → IsByte byte → HoldsBytes (Lm75 x) → HoldsBytes (Lm75 (register_written x k byte))
+written_register x k byte small all =
+    either_lm75 (x.pointer == 1) one two (either_lm75 (k == 0) (record x { configuration = byte }) x (all.0, small, all.2, all.3) all)
+    (either_lm75 (x.pointer == 2) (record x { hysteresis = word_written x.hysteresis k byte }) three (all.0, all.1, written_word x.hysteresis k byte all.2 small, all.3)
+    (either_lm75 (x.pointer == 3) (record x { limit = word_written x.limit k byte }) x (all.0, all.1, all.2, written_word x.limit k byte all.3 small) all))
+  where
+    one : Lm75View
+    one = if k == 0 then record x { configuration = byte } else x
+
+    three : Lm75View
+    three = if x.pointer == 3 then record x { limit = word_written x.limit k byte } else x
+
+    two : Lm75View
+    two = if x.pointer == 2 then record x { hysteresis = word_written x.hysteresis k byte } else three
+
+lm75_put_bytes : (x : Lm75View) (p : Lm75Phase) (byte : ℕ) → IsByte byte → HoldsBytes (Lm75 x) → HoldsBytes (Lm75 (lm75_put x p byte))
+lm75_put_bytes x lm75.Pointer byte small all = all
+lm75_put_bytes x (lm75.Data k) byte small all = written_register x k byte small all
+lm75_put_bytes x lm75.Idle byte small all = all
+lm75_put_bytes x (lm75.Read k) byte small all = all
+
+lm75_got_bytes : (x : Lm75View) (p : Lm75Phase) (ack : Bool) → HoldsBytes (Lm75 x) → HoldsBytes (Lm75 (lm75_get x p ack))
+lm75_got_bytes x (lm75.Read k) ack all = all
+lm75_got_bytes x lm75.Idle ack all = all
+lm75_got_bytes x lm75.Pointer ack all = all
+lm75_got_bytes x (lm75.Data k) ack all = all
+
+lm75_after_bytes : (x : Lm75View) (e : Event) → IsByteEvent e → HoldsBytes (Lm75 x) → HoldsBytes (Lm75 (lm75_after x e))
+lm75_after_bytes x (event.Start reading) fit all = all
+lm75_after_bytes x (event.Put byte) fit all = lm75_put_bytes x x.phase byte fit all
+lm75_after_bytes x (event.Get ack) fit all = lm75_got_bytes x x.phase ack all
+lm75_after_bytes x event.Other fit all = all
+lm75_after_bytes x event.Stop fit all = all
+
+word_byte : (word k : ℕ) → IsWord word → IsByte (byte_of_word word k)
+word_byte word k fits = either_byte (k % 2 == 0) (word / 256) (word % 256) (omega arith) (omega arith)
+
+register_byte : (x : Lm75View) (k : ℕ) → HoldsBytes (Lm75 x) → IsByte (register_sends x k)
+register_byte x k all =
+    either_byte (x.pointer == 0) (byte_of_word x.temperature k) (if x.pointer == 1 then x.configuration else if x.pointer == 2 then byte_of_word x.hysteresis k else byte_of_word x.limit k)
+    (word_byte x.temperature k all.0)
+    (either_byte (x.pointer == 1) x.configuration (if x.pointer == 2 then byte_of_word x.hysteresis k else byte_of_word x.limit k) all.1
+    (either_byte (x.pointer == 2) (byte_of_word x.hysteresis k) (byte_of_word x.limit k) (word_byte x.hysteresis k all.2) (word_byte x.limit k all.3)))
+
+lm75_sent_byte : (x : Lm75View) (p : Lm75Phase) → HoldsBytes (Lm75 x) → IsByte (lm75_sends x p)
+lm75_sent_byte x (lm75.Read k) all = register_byte x k all
+lm75_sent_byte x lm75.Idle all = omega arith
+lm75_sent_byte x lm75.Pointer all = omega arith
+lm75_sent_byte x (lm75.Data k) all = omega arith
+
+-- ALL KINDS
+pub after-bytes : (x : TargetState) (e : Event) → IsByteEvent e → HoldsBytes x → HoldsBytes (state_after x e)
+after-bytes (Eeprom x) e fit all = eeprom_after_bytes x e fit all
+after-bytes (Lm75 x) e fit all = lm75_after_bytes x e fit all
+after-bytes Silent e fit all = tt
+after-bytes (Regs x) (event.Start reading) fit all = all
+after-bytes (Regs x) (event.Put byte) fit all = put_bytes x x.phase byte fit all
+after-bytes (Regs x) (event.Get ack) fit all = got_bytes x x.phase ack all
+after-bytes (Regs x) event.Other fit all = all
+after-bytes (Regs x) event.Stop fit all = all
+
+pub sends-byte : (x : TargetState) (ack : Bool) → HoldsBytes x → IsByte (byte_of (state_answer x (event.Get ack)))
+sends-byte (Eeprom x) ack all = eeprom_sent_byte x x.phase all.0
+sends-byte (Lm75 x) ack all = lm75_sent_byte x x.phase all
+sends-byte (Regs x) ack all = sent_byte x x.phase all
+sends-byte Silent ack all = omega arith
+
+-- OPENINGS
 -- what a board writes into its devices
 abbrev RunsHoldBytes : List RunView → Type 0
 RunsHoldBytes runs = AllByRecursion (λ r. AllByRecursion IsByte r.bytes) runs
@@ -131,11 +255,21 @@ runs_bytes (r ∷ rs) memory all held =
     (append_bytes (take r.start memory ++ r.bytes) (drop (r.start + length r.bytes) memory)
     (append_bytes (take r.start memory) r.bytes (take_bytes r.start memory held) all.0) (drop_bytes (r.start + length r.bytes) memory held))
 
-opened_bytes : (k : DeviceKind) (runs : List RunView) → RunsHoldBytes runs → HoldsBytes ((row_of_kind k).opens runs)
-opened_bytes (kind.Regs hold) runs all = runs_bytes runs (replicate 256 0) all (zero_bytes 256)
-opened_bytes (kind.Eeprom size fill busy wp) runs all = tt
-opened_bytes (kind.Lm75 raw) runs all = tt
-opened_bytes (kind.Smbus width flip) runs all = tt
+opened_bytes : (k : DeviceKind) (runs : List RunView) → FitsKind k → RunsHoldBytes runs → HoldsBytes ((row_of_kind k).opens runs)
+opened_bytes (kind.Regs hold) runs fits all =
+    runs_bytes runs (replicate 256 0) all (all_of IsByte 256 0 (let small : 0 < 256 = omega arith in small))
+opened_bytes (kind.Eeprom size fill busy wp) runs fits all =
+    let most : fill ≤ 255 = fits.0.1 in
+    let small : fill < 256 = omega arith in
+    (runs_bytes runs (replicate (size_of_eeprom size) fill) all (all_of IsByte (size_of_eeprom size) fill small), all_of Place (page_of_eeprom size) None tt)
+opened_bytes (kind.Lm75 raw) runs fits all =
+    let most : raw ≤ 65535 = fits.0.1 in (
+      let word : raw / 128 * 128 < 65536 = omega arith in word,
+      let byte : 0 < 256 = omega arith in byte,
+      let word : 0x4B00 < 65536 = omega arith in word,
+      let word : 0x5000 < 65536 = omega arith in word,
+    )
+opened_bytes (kind.Smbus width flip) runs fits all = tt
 
 pub opening-bytes : (d : DeviceView) → IsPlainDevice d → HoldsBytes (opening_state d)
-opening-bytes d plain = opened_bytes d.kind d.set (plain_runs (unwrap_or (row_of_kind d.kind).memory 0) d.set plain.runs)
+opening-bytes d plain = opened_bytes d.kind d.set plain.kind (plain_runs (unwrap_or (row_of_kind d.kind).memory 0) d.set plain.runs)

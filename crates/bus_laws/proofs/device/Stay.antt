@@ -28,7 +28,8 @@ use Rattle.bus_laws.proofs.world.Feed.{hears, feed-same, heard-none}
 use Rattle.bus_laws.proofs.world.Reach.{start_heard, other_state}
 use Rattle.bus_laws.proofs.world.Hears.{swap_along, device_address}
 use Rattle.bus_laws.proofs.world.BoardFacts.{get_within}
-use Rattle.bus_laws.proofs.device.States.{opening-quiet, opening-bytes}
+use Rattle.i2c_spec.proofs.StateLemmas.{opening-quiet}
+use Rattle.bus_laws.proofs.device.States.{opening-bytes}
 use Rattle.bus_laws.proofs.device.Hears.{fed-at, map-same}
 use Rattle.bus_laws.proofs.device.Same.{joined_of, stop-same}
 use Rattle.bus_laws.proofs.device.Stops.{world-settled}

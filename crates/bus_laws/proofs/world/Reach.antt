@@ -13,7 +13,8 @@ use Rattle.i2c_spec.specs.Tree.{Hop, hops, root_of, home_of_mux, end_of, Crosses
 use Rattle.i2c_spec.specs.TreeFacts.{IsTree}
 use Rattle.i2c_spec.specs.Grant.{has_address}
 use Rattle.i2c_spec.specs.Chips.{ChipView, is_open}
-use Rattle.i2c_spec.specs.Targets.{TargetState, Regs, Silent, state_answer}
+use Rattle.i2c_spec.specs.Targets.{TargetState, state_answer}
+use Rattle.i2c_spec.proofs.StateLemmas.{states_fair}
 use Rattle.i2c_spec.specs.World.{World, opens_hop, is_joined, start_event, has_heard}
 use Rattle.bus_spec.specs.Slots.{Slots, MuxSlot, Selected}
 use Rattle.bus_laws.specs.Told.{Explains}
@@ -123,8 +124,7 @@ start_heard t x true false reading other e = absurd (let f : false ≡ true = sy
 start_heard t x false a reading other e = absurd (let f : false ≡ true = e in cc)
 
 pub other_state : (x : TargetState) → has_heard (state_answer x event.Other) ≡ false
-other_state (Regs x) = refl
-other_state Silent = refl
+other_state x = ap has_heard (states_fair.other x)
 
 pub address_is : (a : ℕ) (o : Option ℕ) → has_address a o ≡ true → o ≡ Some a
 address_is a None e = absurd (let f : false ≡ true = e in cc)

@@ -15,8 +15,11 @@ returns-clause-states g c of =
 
 pub returns-clause-logs : goal.returns-clause-logs
 returns-clause-logs g c of =
+    let kept = c.keep_states.ensures.logs in
+    let same : length c.keep_states.new.ports.items ≡ length c.args.ports.items =
+    sym (length-map c.keep_states.new.ports.items (λ p. (g.P.Returned.port p).log)) ∙ ap length kept ∙ length-map c.args.ports.items (λ p. (g.P.Returned.port p).log) in
     let count : length c.args.ports.items ≡ length c.args.self.roots = sym (length-map c.args.ports.items (λ p. (g.P.Returned.port p).world)) ∙ count_of_worlds c.args.self (map (λ p. (g.P.Returned.port p).world) c.args.ports.items) of in
     let roots : length c.self.inside.board.value.roots ≡ length c.args.self.roots = ap (λ b. length b.roots) c.self.view_is in
     let none = empty-from_length c.self.inside.logs.items (omega arith) in
-    let e = c.keep_logs.ensures (omega (arith, count, roots, c.self.invariant.for_logs, c.self.invariant.no_logs)) in
-    e ∙ rw none refl
+    let e = c.keep_logs.ensures (omega (arith, same, count, roots, c.self.invariant.for_logs, c.self.invariant.no_logs)) in
+    e ∙ rw none kept

@@ -1,0 +1,111 @@
+-- Worlds of which a device was taken out: each other device is as it was. The inductions go over the worlds.
+use Rattle.std.proofs.Common.{◌≡◌, ℕ, zero, suc, ◌+◌, ◌<◌, ◌≤◌, List, [], ◌∷◌, ◌++◌, length, map, drop, set, get_or, append_assoc, Option, Some, None, refl, sym, ◌∙◌, ap, subst, arith}
+use Rattle.std.specs.Option.{option_map}
+use Rattle.std.specs.Prelude.{IsSome, slice_get, option_to_list, unwrap_or}
+use Rattle.i2c_spec.specs.Targets.{TargetState, Silent}
+use Rattle.i2c_spec.specs.World.{World}
+use Rattle.std.proofs.lemmas.List.{map-append, map-set}
+use Rattle.i2c_outside.specs.Devices.{target_state}
+use Rattle.i2c_outside.specs.declared.device.DeviceState.{DeviceState}
+use Rattle.i2c_outside.specs.declared.device.DeviceState.TheVariants as device
+use Rattle.i2c_physics.specs.SimRigs.{device_of, state_at, states_from, taken_out, without, IsThere}
+
+get-set_other : {A : Type 0} (xs : List A) (k j : ℕ) (x : A) → (j ≡ k → ⊥) → slice_get (set xs k x) j ≡ slice_get xs j
+get-set_other [] k j x other = refl
+get-set_other (y ∷ ys) zero zero x other = absurd (other refl)
+get-set_other (y ∷ ys) zero (suc j) x other = refl
+get-set_other (y ∷ ys) (suc k) zero x other = refl
+get-set_other (y ∷ ys) (suc k) (suc j) x other = get-set_other ys k j x (λ e. other (ap suc e))
+
+get-set_some : {A : Type 0} (xs : List A) (k j : ℕ) (x : A) → IsSome (slice_get (set xs k x) j) → IsSome (slice_get xs j)
+get-set_some [] k j x some = some
+get-set_some (y ∷ ys) zero zero x some = refl
+get-set_some (y ∷ ys) zero (suc j) x some = some
+get-set_some (y ∷ ys) (suc k) zero x some = some
+get-set_some (y ∷ ys) (suc k) (suc j) x some = get-set_some ys k j x some
+
+other_at : (ws : List World) (home k h j : ℕ) → (j ≡ k → ⊥) → state_at (taken_out ws home k) h j ≡ state_at ws h j
+other_at [] home k h j other = refl
+other_at (w ∷ ws) zero k zero j other = get-set_other w.devices k j Silent other
+other_at (w ∷ ws) zero k (suc h) j other = refl
+other_at (w ∷ ws) (suc home) k zero j other = refl
+other_at (w ∷ ws) (suc home) k (suc h) j other = other_at ws home k h j other
+
+-- the devices after number k are those that were there before it was taken out
+later : (ws : List World) (home k n : ℕ) (homes : List ℕ) → k < n → states_from n homes (taken_out ws home k) ≡ states_from n homes ws
+later ws home k n [] after = refl
+later ws home k n (h ∷ hs) after =
+    ap (λ o. option_to_list o ++ states_from (n + 1) hs (taken_out ws home k)) (other_at ws home k h n (λ e. omega arith))
+    ∙ ap (λ xs. option_to_list (state_at ws h n) ++ xs) (later ws home k (n + 1) hs (omega arith))
+
+pub later-states : (ws new : List World) (home k : ℕ) (homes : List ℕ) → new ≡ taken_out ws home k → states_from (k + 1) homes new ≡ states_from (k + 1) homes ws
+later-states ws new home k homes is = ap (states_from (k + 1) homes) is ∙ later ws home k (k + 1) homes (omega arith)
+
+some_is : (v w : World) → Some v ≡ Some w → v ≡ w
+some_is v w e = ap (λ o. unwrap_or o v) e
+
+-- who is there afterwards was there before
+there_before : (ws : List World) (home k h j : ℕ) → IsThere (taken_out ws home k) h j → IsThere ws h j
+there_before [] home k h j there = there
+there_before (v ∷ ws) zero k zero j there =
+    λ w at few. get-set_some v.devices k j Silent (there (without v k) refl (rw (some_is v w at) few))
+there_before (v ∷ ws) zero k (suc h) j there = there
+there_before (v ∷ ws) (suc home) k zero j there = there
+there_before (v ∷ ws) (suc home) k (suc h) j there = there_before ws home k h j there
+
+pub there-before : (ws new : List World) (home k h j : ℕ) → new ≡ taken_out ws home k → IsThere new h j → IsThere ws h j
+there-before ws new home k h j is there = there_before ws home k h j (subst (λ (vs : List World). IsThere vs h j) is there)
+
+-- a device is taken out of one of the ports, whose worlds these are
+pub none-taken : {P : Type 0} (f : P → World) (ps : List P) (home k : ℕ) → length ps ≤ home → map f ps ≡ taken_out (map f ps) home k
+none-taken f [] home k past = refl
+none-taken f (p ∷ ps) zero k past = absurd (omega arith)
+none-taken f (p ∷ ps) (suc home) k past = ap (λ (ws : List World). f p ∷ ws) (none-taken f ps home k (omega arith))
+
+pub one-taken : {P : Type 0} (f : P → World) (ps : List P) (home k : ℕ) (d new : P) → home < length ps → f new ≡ without (f (get_or ps home d)) k
+    → map f (set ps home new) ≡ taken_out (map f ps) home k
+one-taken f [] home k d new low is = absurd (omega arith)
+one-taken f (p ∷ ps) zero k d new low is = ap (λ (w : World). w ∷ map f ps) is
+one-taken f (p ∷ ps) (suc home) k d new low is = ap (λ (ws : List World). f p ∷ ws) (one-taken f ps home k d new (omega arith) is)
+
+pub at-home : {P : Type 0} (f : P → World) (ps : List P) (home k : ℕ) (d : P) → home < length ps
+    → slice_get (f (get_or ps home d)).devices k ≡ state_at (map f ps) home k
+at-home f [] home k d low = absurd (omega arith)
+at-home f (p ∷ ps) zero k d low = refl
+at-home f (p ∷ ps) (suc home) k d low = at-home f ps home k d (omega arith)
+
+pub is-home : {P : Type 0} (f : P → World) (ps : List P) (home : ℕ) (d : P) (w : World) → home < length ps
+    → slice_get (map f ps) home ≡ Some w → f (get_or ps home d) ≡ w
+is-home f [] home d w low at = absurd (omega arith)
+is-home f (p ∷ ps) zero d w low at = some_is (f p) w at
+is-home f (p ∷ ps) (suc home) d w low at = is-home f ps home d w (omega arith) at
+
+-- a world whose devices are these, once one was taken out
+pub without-is : (w : World) (ds new : List DeviceState) (k : ℕ) → map target_state ds ≡ w.devices → new ≡ set ds k device.Silent
+    → record w { devices = map target_state new } ≡ without w k
+without-is w ds new k are is =
+    ap (λ (xs : List TargetState). record w { devices = xs })
+    (ap (map target_state) is ∙ map-set target_state ds k device.Silent ∙ ap (λ (xs : List TargetState). set xs k Silent) are)
+
+pub some_mapped : {A B : Type 0} (f : A → B) (o : Option A) → IsSome o → IsSome (option_map f o)
+some_mapped f None some = some
+some_mapped f (Some x) some = refl
+
+mapped : {A B : Type 0} (f : A → B) (o : Option A) → map f (option_to_list o) ≡ option_to_list (option_map f o)
+mapped f None = refl
+mapped f (Some x) = refl
+
+-- one device more is kept, and with those that are left it is the whole
+pub one-kept : (states new : List DeviceState) (o : Option DeviceState) (homes : List ℕ) (n home : ℕ) (ws vs : List World) (all : List TargetState)
+    → drop n homes ≡ home ∷ drop (n + 1) homes → option_map target_state o ≡ state_at ws home n → vs ≡ taken_out ws home n → new ≡ states ++ option_to_list o
+    → map target_state states ++ states_from n (drop n homes) ws ≡ all
+    → map target_state new ++ states_from (n + 1) (drop (n + 1) homes) vs ≡ all
+one-kept states new o homes n home ws vs all dropped value out more kept =
+    let rest = states_from (n + 1) (drop (n + 1) homes) ws in
+    ap (λ (xs : List DeviceState). map target_state xs ++ states_from (n + 1) (drop (n + 1) homes) vs) more
+    ∙ ap (λ (ys : List TargetState). map target_state (states ++ option_to_list o) ++ ys) (later-states ws vs home n (drop (n + 1) homes) out)
+    ∙ ap (λ (xs : List TargetState). xs ++ rest) (map-append target_state states (option_to_list o))
+    ∙ append_assoc (map target_state states) (map target_state (option_to_list o)) rest
+    ∙ ap (λ (xs : List TargetState). map target_state states ++ (xs ++ rest)) (mapped target_state o ∙ ap option_to_list value)
+    ∙ ap (λ (hs : List ℕ). map target_state states ++ states_from n hs ws) (sym dropped)
+    ∙ kept

@@ -1,0 +1,47 @@
+use Rattle.std.proofs.Common.{◌≡◌, ◌<◌, ◌+◌, ◌++◌, [], ◌∷◌, length, map, drop, get_or, slice_index, vec_len, vec_capacity, Some, None, inl, inr, append-nil, sym, ◌∙◌, ap, subst, rules, arith}
+use Rattle.std.specs.Prelude.{option_to_list}
+use Rattle.std.proofs.lemmas.Bool.{cases_lt}
+use Rattle.std.proofs.lemmas.List.{drop_more}
+use Rattle.std.proofs.lemmas.Option.{get_or_from_slice_get, slice_get-get_or}
+use Rattle.i2c_outside.specs.Devices.{target_state}
+use Rattle.i2c_physics.specs.SimRigs.{states_from, IsThere}
+use Rattle.i2c_physics.proofs.TakeLemmas.{one-kept, there-before}
+use Rattle.i2c_physics.proofs.room.keep_states.Goals as goal
+use Rattle.i2c_physics.proofs.room.keep_states.Goals.{in-Some, in_default}
+
+pub loop-number-preserved : goal.loop-number-preserved
+loop-number-preserved g c =
+    let was = c.loop-number.invariant in
+    let n = c.loop-number.number in
+    let homes = c.args.homes.now.items in
+    let home = c.home-item.result in
+    let ws = map (λ p. (g.P.Returned.port p).world) c.loop-number.ports.items in
+    let vs = map (λ p. (g.P.Returned.port p).world) c.take_from.new.ports.items in
+    let us = map (λ p. (g.P.Returned.port p).world) c.args.ports.now.items in
+    let all = map target_state c.args.states.now.items ++ states_from 0 homes us in
+    let low : n < length homes = subst (λ hs. n < length hs) c.deref-home-items.ensures.value c.loop-number-test.true in
+    let is : home ≡ slice_index homes n =
+    c.home-item.is ∙ ap (λ hs. get_or hs n home) c.deref-home-items.ensures.value
+    ∙ sym (get_or_from_slice_get homes n (get_or homes n home) 0 (slice_get-get_or homes n home low)) in
+    let dropped : drop n homes ≡ home ∷ drop (n + 1) homes = drop_more homes n 0 low ∙ ap (λ h. h ∷ drop (n + 1) homes) (sym is) in
+    let here : IsThere us (slice_index homes n) n = subst (λ h. IsThere us h n) is (was.before home n c.take_from.ensures.there) in
+    elim c.match-take_from.branch [
+      | in-Some w ↦ record {
+        grown = rw w.states-is (omega arith);
+        most = rw w.states-is (omega arith);
+        kept = one-kept c.loop-number.states.items c.match-take_from.states.items c.take_from.result homes n home ws vs all dropped c.take_from.ensures.value c.take_from.ensures.worlds
+            (ap (λ v. v.items) w.states-is ∙ w.push_reserved.ensures.items ∙ sym (ap (λ o. c.loop-number.states.items ++ option_to_list o) w.in-Some.is)) was.kept;
+        there = λ k under. elim (cases_lt k n) [ inl before ↦ was.there k before | inr last ↦ let e : n ≡ k = omega arith in subst (λ j. IsThere us (slice_index homes j) j) e here ];
+        before = λ h k there. was.before h k (there-before ws vs home n h k c.take_from.ensures.worlds there);
+        logs = c.take_from.ensures.logs ∙ was.logs;
+      }
+      | in_default w ↦ record {
+        grown = rw w.states-is (omega arith);
+        most = rw w.states-is (omega arith);
+        kept = one-kept c.loop-number.states.items c.match-take_from.states.items c.take_from.result homes n home ws vs all dropped c.take_from.ensures.value c.take_from.ensures.worlds
+            (ap (λ v. v.items) w.states-is ∙ sym (append-nil c.loop-number.states.items) ∙ sym (ap (λ o. c.loop-number.states.items ++ option_to_list o) w.in_default.is)) was.kept;
+        there = λ k under. elim (cases_lt k n) [ inl before ↦ was.there k before | inr last ↦ let e : n ≡ k = omega arith in subst (λ j. IsThere us (slice_index homes j) j) e here ];
+        before = λ h k there. was.before h k (there-before ws vs home n h k c.take_from.ensures.worlds there);
+        logs = c.take_from.ensures.logs ∙ was.logs;
+      }
+    ]

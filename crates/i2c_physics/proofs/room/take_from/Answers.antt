@@ -1,0 +1,41 @@
+use Rattle.std.proofs.Common.{◌≡◌, ◌<◌, ◌≤◌, length, map, sym, ◌∙◌, ap, subst, arith}
+use Rattle.std.specs.Prelude.{IsSome, slice_get}
+use Rattle.std.proofs.Math.Seq.{map-set_same}
+use Rattle.i2c_spec.specs.World.{World}
+use Rattle.i2c_outside.specs.Devices.{target_state}
+use Rattle.i2c_physics.specs.SimRigs.{state_at, taken_out, without}
+use Rattle.i2c_physics.proofs.TakeLemmas.{none-taken, one-taken, at-home, is-home, some_mapped}
+use Rattle.i2c_physics.proofs.room.take_from.Goals as goal
+
+pub returns-then-home-len-clause-worlds : goal.returns-then-home-len-clause-worlds
+returns-then-home-len-clause-worlds g c =
+    let at : c.from-home.result ≡ c.args.home = c.from-home.ensures ∙ c.home.view_is in
+    none-taken (λ p. (g.P.Returned.port p).world) c.args.ports.now.items c.args.home c.args.number (omega arith)
+
+pub returns-clause-value : goal.returns-clause-value
+returns-clause-value g c =
+    let at : c.from-home.result ≡ c.args.home = c.from-home.ensures ∙ c.home.view_is in
+    c.take_device.ensures.value ∙ ap (λ p. slice_get (g.P.Returned.port p).world.devices c.args.number) c.index_mut.ensures.value
+    ∙ at-home (λ p. (g.P.Returned.port p).world) c.args.ports.now.items c.from-home.result c.args.number c.index_mut.result.now (omega arith)
+    ∙ ap (λ h. state_at (map (λ p. (g.P.Returned.port p).world) c.args.ports.now.items) h c.args.number) at
+
+pub returns-clause-there : goal.returns-clause-there
+returns-clause-there g c w there few =
+    let at : c.from-home.result ≡ c.args.home = c.from-home.ensures ∙ c.home.view_is in
+    let same = ap (λ p. (g.P.Returned.port p).world) c.index_mut.ensures.value
+    ∙ is-home (λ p. (g.P.Returned.port p).world) c.args.ports.now.items c.from-home.result c.index_mut.result.now w (omega arith)
+    (ap (λ h. slice_get (map (λ p. (g.P.Returned.port p).world) c.args.ports.now.items) h) at ∙ there) in
+    let some = c.take_device.ensures.has (rw same few) in
+    subst IsSome (returns-clause-value g c) (some_mapped target_state c.take_device.result some)
+
+pub returns-clause-worlds : goal.returns-clause-worlds
+returns-clause-worlds g c =
+    let at : c.from-home.result ≡ c.args.home = c.from-home.ensures ∙ c.home.view_is in
+    one-taken (λ p. (g.P.Returned.port p).world) c.args.ports.now.items c.from-home.result c.args.number c.index_mut.result.now c.take_device.new.self (omega arith)
+    (c.take_device.ensures.world ∙ ap (λ p. without (g.P.Returned.port p).world c.args.number) c.index_mut.ensures.value)
+    ∙ ap (λ h. taken_out (map (λ p. (g.P.Returned.port p).world) c.args.ports.now.items) h c.args.number) at
+
+pub returns-clause-logs : goal.returns-clause-logs
+returns-clause-logs g c =
+    map-set_same (λ p. (g.P.Returned.port p).log) c.args.ports.now.items c.from-home.result c.take_device.new.self c.index_mut.result.now
+    (c.take_device.ensures.log ∙ ap (λ p. (g.P.Returned.port p).log) c.index_mut.ensures.value)
