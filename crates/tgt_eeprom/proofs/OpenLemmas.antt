@@ -1,5 +1,5 @@
 -- An EEPROM at its opening: there is a byte at place 0, and its parts make the state.
-use Rattle.std.proofs.Common.{◌≡◌, ℕ, ◌<◌, Bool, List, Option, replicate, sym, ◌∙◌, ap, arith}
+use Rattle.std.proofs.Common.{◌≡◌, ℕ, ◌<◌, Bool, List, Option, replicate, ◌∙◌, ap, arith}
 use Rattle.i2c_base.specs.declared.board.Size.{Size}
 use Rattle.i2c_base.specs.declared.board.Size.TheVariants.{C02, C32, C256}
 use Rattle.i2c_base.specs.Board.{RunView}
