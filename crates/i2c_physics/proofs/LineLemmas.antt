@@ -101,9 +101,9 @@ quiet-in-place t xs m y started hearing low quiet reached =
       hearing_rise = rw (length-set xs m y) reached.hearing_rise;
       hearing_started = reached.hearing_started;
       quiet = λ k x got out. elim (eqb_tells k m) [
-          | inl same ↦ (let e : Some y ≡ Some x = sym (ap (slice_get (set xs m y)) same.1 ∙ got_set xs m y low) ∙ got in subst (IsQuiet t) (some_same e) quiet)
-          | inr other ↦ reached.quiet k x (sym (got_other xs m k y other.1) ∙ got) out
-        ];
+        | inl same ↦ (let e : Some y ≡ Some x = sym (ap (slice_get (set xs m y)) same.1 ∙ got_set xs m y low) ∙ got in subst (IsQuiet t) (some_same e) quiet)
+        | inr other ↦ reached.quiet k x (sym (got_other xs m k y other.1) ∙ got) out
+      ];
     }
 
 set_quiet : (chips : List ChipView) (m level : ℕ) (c : ChipView) → slice_get chips m ≡ Some c → m < length chips → (k : ℕ) (x : ChipView)

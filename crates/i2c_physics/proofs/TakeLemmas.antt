@@ -8,7 +8,7 @@ use Rattle.std.proofs.lemmas.List.{map-append, map-set}
 use Rattle.i2c_outside.specs.Devices.{target_state}
 use Rattle.i2c_outside.specs.declared.device.DeviceState.{DeviceState}
 use Rattle.i2c_outside.specs.declared.device.DeviceState.TheVariants as device
-use Rattle.i2c_physics.specs.SimRigs.{device_of, state_at, states_from, taken_out, without, IsThere}
+use Rattle.i2c_physics.specs.SimRigs.{state_at, states_from, taken_out, without, IsThere}
 
 get-set_other : {A : Type 0} (xs : List A) (k j : ℕ) (x : A) → (j ≡ k → ⊥) → slice_get (set xs k x) j ≡ slice_get xs j
 get-set_other [] k j x other = refl

@@ -1,7 +1,6 @@
-use Rattle.std.proofs.Common.{◌≡◌, ◌<◌, ◌≤◌, length, map, sym, ◌∙◌, ap, subst, arith}
+use Rattle.std.proofs.Common.{◌≡◌, map, ◌∙◌, ap, subst, arith}
 use Rattle.std.specs.Prelude.{IsSome, slice_get}
 use Rattle.std.proofs.Math.Seq.{map-set_same}
-use Rattle.i2c_spec.specs.World.{World}
 use Rattle.i2c_outside.specs.Devices.{target_state}
 use Rattle.i2c_physics.specs.SimRigs.{state_at, taken_out, without}
 use Rattle.i2c_physics.proofs.TakeLemmas.{none-taken, one-taken, at-home, is-home, some_mapped}

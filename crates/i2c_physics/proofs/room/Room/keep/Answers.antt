@@ -1,4 +1,4 @@
-use Rattle.std.proofs.Common.{◌≡◌, length, map, refl, ◌∙◌, ap, arith, sym}
+use Rattle.std.proofs.Common.{◌≡◌, length, map, ◌∙◌, ap, arith, sym}
 use Rattle.std.proofs.lemmas.List.{length-map}
 use Rattle.i2c_spec.specs.World.{AreWorldsOf}
 use Rattle.i2c_physics.proofs.RigLemmas.{count_of_worlds, empty-from_length, devices-kept}
