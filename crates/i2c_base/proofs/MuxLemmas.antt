@@ -22,6 +22,14 @@ facts_fit Pca9544 = (refl, refl, refl, refl, omega arith)
 facts_fit Pca9541 = (refl, refl, refl, refl)
 facts_fit Gpio = (refl, refl, refl, refl)
 
+-- only a gpio mux is switched by a line
+pub gpio_only : (k : MuxKind) → (facts_of k).by_line ≡ true → k ≡ Gpio
+gpio_only Gpio e = refl
+gpio_only Pca9548 e = absurd (let f : false ≡ true = e in cc)
+gpio_only Pca9546 e = absurd (let f : false ≡ true = e in cc)
+gpio_only Pca9544 e = absurd (let f : false ≡ true = e in cc)
+gpio_only Pca9541 e = absurd (let f : false ≡ true = e in cc)
+
 -- a mux that is switched by a line
 pub record IsLineRow (f : MuxFacts) : Type 0 where
   pub code : f.code ≡ Level

@@ -5,13 +5,12 @@ use Rattle.std.specs.Option.{option_map}
 use Rattle.std.proofs.lemmas.List.{length-map, length-set}
 use Rattle.std.proofs.lemmas.Bool.Decides.{eqb_tells}
 use Rattle.std.proofs.lemmas.Option.{slice_get-map, slice_get_cases}
-use Rattle.i2c_base.specs.declared.board.MuxKind.{MuxKind}
-use Rattle.i2c_base.specs.declared.board.MuxKind.TheVariants.{Pca9548, Pca9546, Pca9544, Pca9541, Gpio}
+use Rattle.i2c_base.specs.Muxes.{facts_of}
 use Rattle.i2c_base.specs.declared.board.MuxSpec.{MuxSpec}
 use Rattle.i2c_base.specs.Board.{BoardView, DeviceView}
 use Rattle.i2c_base.specs.Table.{Table}
 use Rattle.i2c_spec.specs.Plain.{IsPlainBoard}
-use Rattle.i2c_spec.specs.Chips.{ChipView, chip_table, chip_opening, at_level, stopped, arbitrated, is_free, bit_of}
+use Rattle.i2c_spec.specs.Chips.{ChipView, chip_table, chip_opening, at_level, stopped, arbitrated, is_free, kept_bits, bit_of}
 use Rattle.i2c_spec.specs.Targets.{IsQuiet, state_table, opening_state}
 use Rattle.i2c_spec.specs.World.{set_level}
 use Rattle.i2c_outside.specs.declared.device.DeviceState.{DeviceState}
@@ -31,20 +30,24 @@ no_byte c byte false false = refl
 still : (c d : ChipView) (byte : ℕ) → d ≡ c → d.waiting ≡ None → c.waiting ≡ Some byte → ⊥
 still c d byte same none some = let e : None ≡ Some byte = sym none ∙ ap (λ (x : ChipView). x.waiting) same ∙ some in cc
 
-level_stop : (k : MuxKind) (control left foreign level : ℕ) (waiting : Option ℕ)
-    → stopped (record { kind = k; control = control; waiting = waiting; left = left; foreign = foreign }) waiting ≡ record { kind = k; control = control; waiting = waiting; left = left; foreign = foreign }
-    → stopped (record { kind = k; control = level; waiting = waiting; left = left; foreign = foreign }) waiting ≡ record { kind = k; control = level; waiting = waiting; left = left; foreign = foreign }
-level_stop k control left foreign level None same = refl
-level_stop Pca9548 control left foreign level (Some byte) same = absurd (still _ _ byte same refl refl)
-level_stop Pca9546 control left foreign level (Some byte) same = absurd (still _ _ byte same refl refl)
-level_stop Pca9544 control left foreign level (Some byte) same = absurd (still _ _ byte same refl refl)
-level_stop Pca9541 control left foreign level (Some byte) same =
-    let c : ChipView = record { kind = Pca9541; control = control; waiting = Some byte; left = left; foreign = foreign } in
-    absurd (still c (arbitrated c byte) byte same (no_byte c byte (not (bit_of byte 0)) (is_free c)) refl)
-level_stop Gpio control left foreign level (Some byte) same = refl
+-- what a byte that waits makes of a chip, by the facts of its kind
+abbrev taken_by : (asks by_line : Bool) → ℕ → ChipView → ℕ → ChipView
+taken_by asks by_line kept c byte = if asks then arbitrated c byte else if by_line then c else record c { control = kept; waiting = None }
+
+level_taken : (asks by_line : Bool) (kept : ℕ) (c : ChipView) (level byte : ℕ) → c.waiting ≡ Some byte
+    → taken_by asks by_line kept c byte ≡ c → taken_by asks by_line kept (at_level c level) byte ≡ at_level c level
+level_taken true by_line kept c level byte waits same =
+    absurd (still c (arbitrated c byte) byte same (no_byte c byte (not (bit_of byte 0)) (is_free c)) waits)
+level_taken false true kept c level byte waits same = refl
+level_taken false false kept c level byte waits same = absurd (still c (record c { control = kept; waiting = None }) byte same refl waits)
+
+level_stop : (c : ChipView) (level : ℕ) (waiting : Option ℕ) → c.waiting ≡ waiting → stopped c waiting ≡ c → stopped (at_level c level) waiting ≡ at_level c level
+level_stop c level None waits same = refl
+level_stop c level (Some byte) waits same =
+    level_taken (facts_of c.kind).asks (facts_of c.kind).by_line (kept_bits c.kind byte) c level byte waits same
 
 level_quiet : (c : ChipView) (level : ℕ) → IsQuiet chip_table c → IsQuiet chip_table (at_level c level)
-level_quiet c level quiet = record { other = refl; stop = level_stop c.kind c.control c.left c.foreign level c.waiting quiet.stop }
+level_quiet c level quiet = record { other = refl; stop = level_stop c level c.waiting refl quiet.stop }
 
 -- what holds of what a map gives
 of_map : {A B : Type 0} (P : B → Type 0) (f : A → B) (xs : List A) (k : ℕ) (y : B) → slice_get (map f xs) k ≡ Some y → ((x : A) → P (f x)) → P y

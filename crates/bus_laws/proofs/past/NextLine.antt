@@ -3,6 +3,7 @@ use Rattle.std.proofs.Common.{◌≡◌, ℕ, ◌<◌, ◌≤◌, true, false, z
 use Rattle.i2c_base.specs.declared.board.MuxKind.{MuxKind}
 use Rattle.i2c_base.specs.declared.board.MuxKind.TheVariants as mux_kind
 use Rattle.i2c_base.specs.Board.{BoardView}
+use Rattle.i2c_base.proofs.MuxLemmas.{gpio_only}
 use Rattle.i2c_spec.specs.Tree.{root_of, of_mux}
 use Rattle.i2c_spec.specs.TreeFacts.{IsTree, IsHop}
 use Rattle.i2c_spec.specs.History.{Asks}
@@ -17,13 +18,6 @@ use Rattle.bus_laws.specs.Stands.{Stands}
 use Rattle.bus_laws.proofs.past.StandsFacts.{current-stands}
 use Rattle.bus_laws.proofs.past.StandsEntries.{first_is}
 use Rattle.bus_laws.specs.Next.{HasLineIn}
-
-gpio_only : (k : MuxKind) → is_gpio k ≡ true → k ≡ mux_kind.Gpio
-gpio_only mux_kind.Gpio e = refl
-gpio_only mux_kind.Pca9548 e = absurd (let f : false ≡ true = e in cc)
-gpio_only mux_kind.Pca9546 e = absurd (let f : false ≡ true = e in cc)
-gpio_only mux_kind.Pca9544 e = absurd (let f : false ≡ true = e in cc)
-gpio_only mux_kind.Pca9541 e = absurd (let f : false ≡ true = e in cc)
 
 module _ (b : BoardView) (tree : IsTree b) where
   line_fits : (job : Job) (v : Slots) → is_line job ≡ true → Finds b job zero v → HasLineIn b (root_of b (job_bus job)) (line_mux job) (line_level job)
