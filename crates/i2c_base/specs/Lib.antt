@@ -6,6 +6,6 @@ pub mod Muxes
 pub mod Bytes
 pub mod Transfer
 pub mod Fitting
-pub mod Script
+pub mod Need
 pub mod Table
 pub mod Phases

@@ -47,6 +47,12 @@ impl<const N: usize> ByteStore<N> {
         let _ = self.items.try_extend_from_slice(bytes);
     }
 
+    pub fn clear(&mut self)
+        ensures { self.new ≡ [] }
+    {
+        self.items.clear();
+    }
+
     pub fn as_slice(&self) -> &[u8]
         ensures value { result.now ≡ self.now }
         ensures fits { length self.now ≤ N }

@@ -87,6 +87,17 @@ impl Transfer {
         }
     }
 
+    /// Begins it anew, in place: it has no message, and goes to this bus.
+    pub fn restart(&mut self, bus: u16, kind: Kind, force: bool)
+        ensures { self.new ≡ record { bus = bus; kind = kind; force = force; msgs = []; out = [] } }
+    {
+        self.bus = bus;
+        self.kind = kind;
+        self.force = force;
+        self.msgs.clear();
+        self.out.clear();
+    }
+
     /// Adds a write of these bytes. It is too long where 42 messages are there, where it has more than 512
     /// bytes, or where the sum would pass 4,096; the transfer is then as it was.
     #[tactic(auto, using(crate::proofs::TransferLemmas::written_size))]
