@@ -1,6 +1,7 @@
-ghost use Rattle.std.specs.Prelude.{◌≡◌};
+ghost use Rattle.std.specs.Prelude.{◌≡◌, ◌<◌, ◌^◌};
 
 use crate::Board;
+use i2c_base::Transfer;
 use std::marker::Model;
 
 /// A board that meets the five topology rules. A contract sees the board.
@@ -21,6 +22,7 @@ impl Model for Accepted {
 }
 
 impl Accepted {
+    ghost use Rattle.i2c_spec.specs.Cost.{cost_of};
     ghost use Rattle.i2c_spec.specs.Rules.{MeetsRules};
 
     /// Seals a board that meets the rules.
@@ -36,5 +38,13 @@ impl Accepted {
         ensures rules { MeetsRules self.now }
     {
         &self.board
+    }
+
+    /// How many steps a transfer can take.
+    pub fn cost(&self, transfer: &Transfer) -> u64
+        ensures value { result ≡ cost_of self.now transfer.now }
+        ensures small { result < 2 ^ 41 }
+    {
+        self.board.layout().cost(transfer)
     }
 }

@@ -1,7 +1,7 @@
 //! Boards: the buses of a board as a tree, to whom an address leads, and whether a way is clear.
 //!
 //! Its public contract: each call of `Board` is the definition of its name in `i2c_spec`, and an `Accepted`
-//! board meets the five topology rules. Standard: Linux i2c-topology.
+//! board meets the five topology rules and tells what a transfer costs on it. Standard: Linux i2c-topology.
 #![tactic(auto)]
 
 mod accepted;

@@ -1,4 +1,5 @@
 pub mod AddressLemmas
+pub mod CostLemmas
 pub mod EepromLemmas
 pub mod HopLemmas
 pub mod PlainLemmas

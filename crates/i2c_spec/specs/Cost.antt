@@ -22,6 +22,10 @@ behind_by false false control job = 3 * control + job
 abbrev pub behind_cost : MuxKind → ℕ → ℕ → ℕ
 behind_cost k control job = behind_by (facts_of k).by_line (facts_of k).asks control job
 
+-- a job behind a mux, by the steps of the locks, of a control message and of the job at the bus that it stands on
+abbrev pub inner_behind : Hop → (locks control job : ℕ) → ℕ
+inner_behind h locks control job = if h.parent then behind_cost h.kind control job else 3 * (locks + control) + (locks + job)
+
 -- a job of x steps at the end of these hops
 abbrev pub inner_cost : List Hop → ℕ → ℕ
 inner_cost [] x = x

@@ -26,6 +26,6 @@ pub use Rattle.i2c_base.specs.Addr
 pub use Rattle.i2c_base.specs.Board
 pub use Rattle.i2c_base.specs.Transfer
 pub use Rattle.i2c_base.specs.Fitting
-pub use Rattle.i2c_base.specs.Script
+pub use Rattle.i2c_base.specs.Need
 pub use Rattle.i2c_base.specs.Table
 pub use Rattle.i2c_base.specs.Phases

@@ -2,12 +2,13 @@
 //! message, and the flat world in which every transfer happens alone.
 //!
 //! The definitions stand in `specs/`, a file for each subject, over plain records and lists. Code stands here only where
-//! crates above call it: `Layout` computes those of the tree, the grant and the topology rules over a board's parts, and
-//! `refusal`, `errno_of` and `done_with` what becomes of a transfer as a whole, and `write_runs` and the functions of a
+//! crates above call it: `Layout` computes those of the tree, the grant, the topology rules and the cost of a transfer over a board's
+//! parts, and `refusal`, `errno_of` and `done_with` what becomes of a transfer as a whole, and `write_runs` and the functions of a
 //! `Size` what a device's memory is at the opening; each is equal to its definition. `CallRow` is what a row of the SMBus
 //! calls says.
 #![tactic(auto)]
 
+mod cost;
 mod device_memory;
 mod fair_targets;
 mod flat_world;

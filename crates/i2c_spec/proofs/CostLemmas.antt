@@ -1,0 +1,80 @@
+-- What a job costs at the end of few hops fits in a number: an induction over the hops, each at most twelve times what is
+-- below it. And an accepted board has few hops over a bus: the depth is that of the bus that the nearest of them stands
+-- on, and one more.
+use Rattle.std.proofs.Common.{◌≡◌, ℕ, zero, suc, ◌+◌, ◌*◌, ◌^◌, ◌<◌, ◌≤◌, nat_le, Bool, true, false, cond, List, [], ◌∷◌, length, refl, sym, ◌∙◌, ap, subst, arith, rules, inl}
+use Rattle.std.proofs.lemmas.Bool.Decides.{nat_tests}
+use Rattle.std.specs.Prelude.{All, sum_by, get_or}
+use Rattle.std.proofs.lemmas.List.Sums.{sum_by-le}
+use Rattle.i2c_base.specs.declared.transfer.Msg.{Msg}
+use Rattle.i2c_base.specs.Limits.{BLOCK_LIMIT, MOST_LENGTH, MOST_MESSAGES}
+use Rattle.i2c_base.specs.Transfer.{IsMessage, is_counted}
+use Rattle.i2c_base.specs.Board.{BoardView}
+use Rattle.i2c_base.specs.Muxes.{facts_of}
+use Rattle.i2c_spec.specs.Tree.{Hop, hops, depth, locks_of, home_of_mux, IsAmongHops}
+use Rattle.i2c_spec.specs.Cost.{bytes_of, lock_steps, behind_by, inner_cost}
+use Rattle.i2c_spec.specs.Plain.{IsPlainBoard}
+use Rattle.i2c_spec.specs.Rules.{MeetsRules}
+use Rattle.i2c_spec.proofs.AddressLemmas.{tree_of}
+
+bytes_by : (t : Bool) (len : ℕ) → len ≤ MOST_LENGTH → cond t (BLOCK_LIMIT + len) len ≤ 544
+bytes_by true len h = omega arith
+bytes_by false len h = omega arith
+
+pub bytes_few : (ms : List Msg) → length ms ≤ MOST_MESSAGES → All IsMessage ms → sum_by (bytes_of BLOCK_LIMIT) ms ≤ 22848
+bytes_few ms count each =
+    omega (arith, sum_by-le (bytes_of BLOCK_LIMIT) 544 ms (λ k d h. bytes_by (is_counted (get_or ms k d)) (get_or ms k d).len (each k d h).0))
+
+-- a lock for each hop at most, and the root's
+pub locks_few : (root : ℕ) (hs : List Hop) → length (locks_of root hs) ≤ length hs + 1
+locks_few root [] = omega arith
+locks_few root (h ∷ hs) =
+    let more : length (cond h.parent (locks_of root hs) []) ≤ length hs + 1 =
+    elim h.parent as (λ t. length (cond t (locks_of root hs) []) ≤ length hs + 1) [ true ↦ locks_few root hs | false ↦ omega arith ] in
+    omega (arith, more)
+
+-- at most so much at the end of so many hops
+abbrev pub most_inner : ℕ → ℕ → ℕ
+most_inner zero x = x
+most_inner (suc n) x = 11 * most_inner n 2 + most_inner n x + 8 * (n + 1)
+
+behind_le : (by_line asks : Bool) (control job : ℕ) → behind_by by_line asks control job ≤ 11 * control + job + 2
+behind_le true asks control job = omega arith
+behind_le false true control job = omega arith
+behind_le false false control job = omega arith
+
+inner_step : (parent by_line asks : Bool) (n locks control job : ℕ) → locks ≤ 2 * (n + 1)
+    → cond parent (behind_by by_line asks control job) (3 * (locks + control) + (locks + job)) ≤ 11 * control + job + 8 * (n + 1)
+inner_step true by_line asks n locks control job l = omega (arith, behind_le by_line asks control job)
+inner_step false by_line asks n locks control job l = omega arith
+
+inner_most : (hs : List Hop) (x : ℕ) → inner_cost hs x ≤ most_inner (length hs) x
+inner_most [] x = omega arith
+inner_most (h ∷ hs) x =
+    let facts = facts_of h.kind in
+    let step = inner_step h.parent facts.by_line facts.asks (length hs) (lock_steps hs) (inner_cost hs 2) (inner_cost hs x) (omega (arith, locks_few 0 hs)) in
+    omega (arith, step, inner_most hs 2, inner_most hs x)
+
+few_most : (n x : ℕ) → n ≤ 4 → x < 2 ^ 32 → most_inner n x ≤ 2 ^ 40
+few_most zero x n small = omega arith
+few_most (suc zero) x n small = omega arith
+few_most (suc (suc zero)) x n small = omega arith
+few_most (suc (suc (suc zero))) x n small = omega arith
+few_most (suc (suc (suc (suc zero)))) x n small = omega arith
+few_most (suc (suc (suc (suc (suc k))))) x n small = absurd (omega arith)
+
+pub inner_small : (hs : List Hop) (x : ℕ) → length hs ≤ 4 → x < 2 ^ 32 → inner_cost hs x ≤ 2 ^ 40
+inner_small hs x few small = omega (arith, inner_most hs x, few_most (length hs) x few small)
+
+pub hops_few : (b : BoardView) (s : ℕ) → IsPlainBoard b → MeetsRules b → length (hops b s) ≤ 4
+hops_few b s plain meets = by (hops b s) refl
+  where
+    by : (hs : List Hop) → hops b s ≡ hs → length hs ≤ 4
+    by [] e = omega arith
+    by (h ∷ hs) e =
+        let tree = tree_of b plain meets in
+        let is = tree.hop s h (subst (IsAmongHops h) (sym e) (inl refl)) in
+        let below : nat_le 4 (depth b (home_of_mux b h.mux)) ≡ false = meets.depths h.mux is.mux in
+        let rest : hops b (home_of_mux b h.mux) ≡ hs = ap (hops b) is.home ∙ tree.tail s h hs e in
+        let test : nat_le 4 (length hs) ≡ false = ap (λ (xs : List Hop). nat_le 4 (length xs)) (sym rest) ∙ below in
+        let short : length hs < 4 = search (rules, nat_tests) in
+        omega (arith, short)
