@@ -18,4 +18,4 @@ pub use journal::Journal;
 pub use laws::{a_line_tells_its_entry, a_report_tells_its_journal};
 pub use line::{entry_text, errno_name, push_entry};
 pub use read::{EntryFault, read_entry};
-pub use text::{push_bytes, push_hex, push_joined, push_number, push_spaced};
+pub use text::{hex_digit, push_bytes, push_hex, push_joined, push_number, push_spaced};

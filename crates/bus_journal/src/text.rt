@@ -26,8 +26,8 @@ pub fn push_number(out: &mut Vec<u8>, number: u64) -> Result<(), NoMemory>
     Ok(())
 }
 
-// A digit of 0 to 15.
-fn hex_digit(value: u8) -> u8
+/// A digit of 0 to 15.
+pub fn hex_digit(value: u8) -> u8
     requires { value < 16 }
     ensures { result ≡ hex_digit value }
 {

@@ -69,6 +69,13 @@ impl Locks {
         }
     }
 
+    /// The mark of each bus.
+    pub fn marks(&self) -> &[Option<MuxId>]
+        ensures { result.now ≡ self.now.marks }
+    {
+        self.marks.as_slice()
+    }
+
     /// A caller takes its locks in falling rank.
     pub fn rank(&self, lock: LockId) -> u8
         requires { IsLockIn self.now lock }
