@@ -3,5 +3,6 @@
 pub mod Openings
 pub mod Rooms
 pub mod StepsLeft
+pub mod Dues
 pub mod MarksTold
 pub mod OpensFit

@@ -1,3 +1,4 @@
+pub mod Marks
 pub mod Plans
 pub mod Rooms
 pub use Rattle.bus_spec.specs.Walk

@@ -49,7 +49,7 @@ came_of came.Failed = walk.Failed
 
 abbrev pub outcome_of : Outcome → ActOutcome
 outcome_of outcome.Passed = walk.Passed
-outcome_of (outcome.Sent e bytes) = walk.Sent e bytes
+outcome_of (outcome.Sent e bytes) = walk.Sent e bytes.now
 outcome_of (outcome.Lined failed) = walk.Lined failed
 
 abbrev pub go_of : Follow → Go

@@ -1,8 +1,8 @@
 //! The walk of a transfer: which lock, message or line a caller takes next, on a bus behind any muxes.
 //!
 //! Its public contract: a `Walk` stands for a tree of `bus_spec`'s grammar, `next` is the first step of that tree
-//! behind its looks, and `report` leaves what follows the step's outcome, and tells the marks what has become of them.
-//! Definitions: `specs/Plans.antt`, and the grammar itself in `bus_spec`. Standard: Linux i2c-topology.
+//! behind its looks, and `report` leaves what follows the step's outcome, and tells which marks change behind it.
+//! Definitions: `specs/Plans.antt`, `specs/Marks.antt`, and the grammar itself in `bus_spec`. Standard: Linux i2c-topology.
 #![tactic(auto)]
 
 mod course;
@@ -15,7 +15,8 @@ mod walk;
 mod work;
 
 pub(crate) use course::Course;
-pub use laws::marks_answer_each_look;
+pub use laws::{changed_marks_are_told, marks_answer_each_look};
+pub use marks::{Due, Dues};
 pub use task::{Action, Outcome};
 pub(crate) use task::{Came, Task, Work};
 pub use walk::Walk;

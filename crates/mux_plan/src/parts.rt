@@ -3,16 +3,16 @@ ghost use Rattle.std.specs.List.{list_any};
 ghost use Rattle.i2c_base.specs.Board.{BoardView};
 ghost use Rattle.i2c_spec.specs.Messages.{MessageView};
 ghost use Rattle.bus_spec.specs.Walk.{JobOutcome, ActOutcome};
-ghost use Rattle.bus_spec.specs.Slots.{Slots};
 ghost use Rattle.bus_spec.specs.Grammar.{at_bus, lost as lost_of, is_over, first_act, first_note, chosen, opened, over, seen, rest_of};
-ghost use Rattle.mux_plan.specs.Plans.{CourseView, job_of, came_of, outcome_of, note_of, on_bus, tree_of, action_of, slots_of, part_task, crossed_tasks, switch_of, TellsMarks, slots_after};
+ghost use Rattle.mux_plan.specs.Plans.{CourseView, job_of, came_of, outcome_of, note_of, on_bus, tree_of, action_of, slots_of, part_task, crossed_tasks, switch_of};
 ghost use Rattle.mux_plan.specs.Plans as plans;
+ghost use Rattle.mux_plan.specs.Marks.{dues_after};
 ghost use Rattle.mux_plan.specs.Rooms.{IsNarrow, IsNarrowWork, IsPlanned, IsReady, IsStep};
 ghost use Rattle.mux_plan.specs.declared.task.Task.TheVariants.{Enter, Lock, Rest, AwaitClose, AwaitSelect, AwaitWork};
 ghost use Rattle.mux_plan.specs.declared.task.Action.TheVariants.{Done};
 
 use crate::course::{is_parent, switch, waiting};
-use crate::marks::mark_work;
+use crate::marks::{Dues, mark_work};
 use crate::stack::Stack;
 use crate::work::Follow;
 use crate::{Action, Came, Course, Outcome, Task, Work};
@@ -181,7 +181,7 @@ impl Parts {
     }
 
     // Ends a piece of work, whose last message or line had this outcome.
-    fn end(&mut self, left: u8, work: Work, outcome: &Outcome)
+    fn end(&mut self, left: u8, work: Work, outcome: &Outcome<'_>)
         requires planned { IsPlanned self.old.course (Rest left work ∷ self.old.stack) }
         ensures tree { (b : BoardView) (ms : List MessageView)
             → tree_of b ms self.new.course self.new.stack (came_of self.new.came)
@@ -197,7 +197,7 @@ impl Parts {
     }
 
     // A message was sent, which so many more might have followed.
-    fn message(&mut self, left: u8, work: Work, outcome: &Outcome)
+    fn message(&mut self, left: u8, work: Work, outcome: &Outcome<'_>)
         requires planned { IsPlanned self.old.course (Rest left work ∷ self.old.stack) }
         ensures tree { (b : BoardView) (ms : List MessageView) (out : JobOutcome)
             → tree_of b ms self.new.course self.new.stack (came_of self.new.came)
@@ -219,25 +219,26 @@ impl Parts {
         }
     }
 
-    /// What the marks become where the step on the top has this outcome.
-    pub fn mark(&self, marks: &mut [Option<MuxId>], outcome: &Outcome)
+    /// Which marks change where the step on the top has this outcome.
+    pub fn mark(&self, dues: &mut Dues, outcome: &Outcome<'_>)
         requires step { IsStep self.now.stack }
-        ensures told { (b : BoardView) (ms : List MessageView) (out : JobOutcome) (v : Slots) → TellsMarks v marks.old
-            → TellsMarks (slots_after (first_act (tree_of b ms self.now.course self.now.stack out)) (first_note (tree_of b ms self.now.course self.now.stack out)) (outcome_of outcome.now) v) marks.new }
-        ensures count { length marks.new ≡ length marks.old }
+        requires few { length self.now.stack ≤ 32 }
+        requires empty { dues.old.items ≡ [] }
+        ensures { (b : BoardView) (ms : List MessageView) (out : JobOutcome)
+            → dues.new.items ≡ dues_after (first_act (tree_of b ms self.now.course self.now.stack out)) (first_note (tree_of b ms self.now.course self.now.stack out)) (outcome_of outcome.now) }
     {
         let Some((top, below)) = self.stack.split() else {
             return;
         };
         match top {
-            Task::Rest { work, .. } => mark_work(marks, below, work, outcome),
-            Task::Line { work } => mark_work(marks, below, work, outcome),
+            Task::Rest { work, .. } => mark_work(dues, below, work, outcome),
+            Task::Line { work } => mark_work(dues, below, work, outcome),
             _ => {}
         }
     }
 
     /// The step on the top is done, and had this outcome.
-    pub fn act(&mut self, outcome: &Outcome)
+    pub fn act(&mut self, outcome: &Outcome<'_>)
         requires planned { IsPlanned self.old.course self.old.stack }
         requires step { IsStep self.old.stack }
         ensures tree { (b : BoardView) (ms : List MessageView)

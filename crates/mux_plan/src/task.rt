@@ -1,4 +1,4 @@
-use i2c_base::{ByteList, End, Errno, LockId, MuxId, MuxKind, Purpose, SegId};
+use i2c_base::{End, Errno, LockId, MuxId, MuxKind, Purpose, SegId};
 use i2c_spec::Hop;
 
 /// What is to be done on a bus.
@@ -113,12 +113,12 @@ pub enum Action {
 }
 
 /// What came of an action.
-#[derive(Drop)]
-pub enum Outcome {
+#[derive(Clone, Copy)]
+pub enum Outcome<'a> {
     /// A lock was taken or freed, or the reply settled.
     Passed,
     /// A message ended so. Of a write the bytes that were acknowledged, of a read all that came.
-    Sent { end: End, bytes: ByteList },
+    Sent { end: End, bytes: &'a [u8] },
     /// A line was set, or the port failed.
     Lined { failed: bool },
 }

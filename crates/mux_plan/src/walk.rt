@@ -1,23 +1,24 @@
-ghost use Rattle.std.specs.Prelude.{◌≡◌, ◌<◌, ◌≤◌, true, List, [], ◌∷◌, length, All, None};
+ghost use Rattle.std.specs.Prelude.{◌≡◌, ◌<◌, ◌≤◌, true, List, [], ◌∷◌, length, All, None, Some};
 ghost use Rattle.i2c_base.specs.Limits.{MOST_DEPTH};
 ghost use Rattle.i2c_base.specs.Board.{BoardView};
 ghost use Rattle.i2c_base.specs.Transfer.{TransferView};
 ghost use Rattle.i2c_spec.specs.Messages.{MessageView, messages_of};
 ghost use Rattle.i2c_spec.specs.Tree.{buses, hops, root_of};
 ghost use Rattle.bus_spec.specs.Walk.{Call, Ends};
-ghost use Rattle.bus_spec.specs.Slots.{Slots};
-ghost use Rattle.bus_spec.specs.Grammar.{full, plain, walk_by, is_over, seen, first_act, first_note, rest_of};
-ghost use Rattle.mux_plan.specs.Plans.{walk_of, slots_of, action_of, outcome_of, TellsMarks, slots_after};
+ghost use Rattle.bus_spec.specs.Grammar.{full, plain, walk_by, walk_for, is_over, seen, first_act, first_note, rest_of};
+ghost use Rattle.mux_plan.specs.Marks.{dues_after};
+ghost use Rattle.mux_plan.specs.Plans.{walk_of, slots_of, action_of, outcome_of};
 ghost use Rattle.mux_plan.specs.Rooms.{IsNarrow};
 ghost use Rattle.mux_plan.specs.declared.task.Action.TheVariants.{Done};
 
+use crate::marks::Dues;
 use crate::parts::Parts;
 use crate::stack::Stack;
 use crate::{Action, Came, Course, Outcome, Task, Work};
 use arrayvec::ArrayVec;
-use i2c_base::{MuxId, SegId, Transfer};
+use i2c_base::{Errno, MuxId, SegId, Transfer};
 use i2c_board::{Accepted, Board};
-use i2c_spec::Hop;
+use i2c_spec::{Hop, refusal};
 use std::marker::Model;
 
 /// The walk of a transfer that isn't refused. A contract sees its tasks, and `walk_of` is the tree that they stand for.
@@ -51,6 +52,40 @@ impl Walk {
         let root = board.root(bus);
         let path = board.layout().hops(bus);
         Walk::along(root, path, bus, count)
+    }
+
+    /// Begins the walk of another transfer: one that is refused is settled at once, and takes no lock.
+    pub fn restart(&mut self, board: &Accepted, transfer: &Transfer)
+        ensures count { length (messages_of transfer.now) ≡ self.new.course.count }
+        ensures tree { walk_of board.now (messages_of transfer.now) self.new ≡ walk_for board.now transfer.now }
+    {
+        match refusal(&board.board().layout(), transfer) {
+            None => *self = Walk::open(board, transfer),
+            Some(errno) => *self = Walk::refused(transfer, errno),
+        }
+    }
+
+    // The walk of a transfer that is refused: its settle alone.
+    fn refused(transfer: &Transfer, errno: Errno) -> Self
+        ensures count { length (messages_of transfer.now) ≡ result.course.count }
+        ensures tree { (b : BoardView) → walk_of b (messages_of transfer.now) result ≡ walk_by b transfer.now (Some errno) }
+    {
+        let count = transfer.msgs().len() as u8;
+        let mut stack = Stack::new();
+        stack.push(Task::Settle(Some(errno)));
+        let course = Course {
+            root: SegId(0),
+            path: ArrayVec::new(),
+            bus: SegId(0),
+            count,
+        };
+        Walk {
+            parts: Parts {
+                course,
+                stack,
+                came: Came::Good,
+            },
+        }
     }
 
     /// A walk that has ended: what a caller has between two transfers.
@@ -120,18 +155,24 @@ impl Walk {
         self.parts.is_over()
     }
 
-    /// Goes on behind the next action, which had this outcome. The marks are those from before it, and become those
-    /// from behind it.
-    pub fn report(&mut self, board: &Board, marks: &mut [Option<MuxId>], outcome: &Outcome)
+    /// Goes on behind the next action, which had this outcome. Each bus has this mark before it; which marks change
+    /// behind it is told in the place of what `dues` had.
+    pub fn report(
+        &mut self,
+        board: &Board,
+        marks: &[Option<MuxId>],
+        outcome: &Outcome<'_>,
+        dues: &mut Dues,
+    )
         ensures tree { (ms : List MessageView) → length ms ≡ self.old.course.count
-            → walk_of board.now ms self.new ≡ rest_of (seen (slots_of marks.old) (walk_of board.now ms self.old)) (outcome_of outcome.now) }
+            → walk_of board.now ms self.new ≡ rest_of (seen (slots_of marks.now) (walk_of board.now ms self.old)) (outcome_of outcome.now) }
         ensures course { self.new.course ≡ self.old.course }
-        ensures told { (ms : List MessageView) → length ms ≡ self.old.course.count → (v : Slots) → TellsMarks v marks.old
-            → TellsMarks (slots_after (first_act (seen (slots_of marks.old) (walk_of board.now ms self.old))) (first_note (seen (slots_of marks.old) (walk_of board.now ms self.old))) (outcome_of outcome.now) v) marks.new }
-        ensures count { length marks.new ≡ length marks.old }
+        ensures dues { (ms : List MessageView) → length ms ≡ self.old.course.count
+            → dues.new.items ≡ dues_after (first_act (seen (slots_of marks.now) (walk_of board.now ms self.old))) (first_note (seen (slots_of marks.now) (walk_of board.now ms self.old))) (outcome_of outcome.now) }
     {
+        dues.clear();
         self.parts.look(board, marks);
-        self.parts.mark(marks, outcome);
+        self.parts.mark(dues, outcome);
         self.parts.act(outcome);
         self.parts.resume();
     }

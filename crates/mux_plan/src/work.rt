@@ -7,7 +7,7 @@ ghost use Rattle.mux_plan.specs.Plans.{CourseView, job_of, came_of, outcome_of, 
 ghost use Rattle.mux_plan.specs.Rooms.{IsNarrowWork};
 
 use crate::{Came, Outcome, Work};
-use i2c_base::{ByteList, ChannelCode, End, Errno, MuxId, POLLS, Purpose, SegId};
+use i2c_base::{ChannelCode, End, Errno, MuxId, POLLS, Purpose, SegId};
 use i2c_spec::{Hop, errno_of};
 
 /// How a piece of work goes on behind one of its messages: with the next one, with its last one, or not at all.
@@ -40,10 +40,10 @@ fn bit(place: u16) -> u8
 }
 
 // What a poll brought: 0 where the arbitrator is free.
-fn found_free(bytes: &ByteList) -> bool
+fn found_free(bytes: &[u8]) -> bool
     ensures { result ≡ (first_byte bytes.now == 0) }
 {
-    bytes.as_slice().first() == Some(&0)
+    bytes.first() == Some(&0)
 }
 
 impl Work {
@@ -146,7 +146,7 @@ impl Work {
     }
 
     /// How it goes on behind a message that `left` + 1 more might have followed.
-    pub fn goes(&self, left: u8, outcome: &Outcome) -> Follow
+    pub fn goes(&self, left: u8, outcome: &Outcome<'_>) -> Follow
         ensures { (c : CourseView) (ms : List MessageView) → go_of result ≡ goes (job_of c ms self.now) left (outcome_of outcome.now) }
     {
         let Outcome::Sent { end, bytes } = outcome else {
@@ -181,7 +181,7 @@ impl Work {
     }
 
     /// What came of it, where its last message, which `left` more might have followed, or its line had this outcome.
-    pub fn came(&self, left: u8, outcome: &Outcome) -> Came
+    pub fn came(&self, left: u8, outcome: &Outcome<'_>) -> Came
         ensures { (c : CourseView) (ms : List MessageView) → came_of result ≡ job_outcome (job_of c ms self.now) left (outcome_of outcome.now) }
     {
         match outcome {
@@ -206,7 +206,7 @@ impl Work {
     }
 
     /// The error that its last message or its line decides.
-    pub fn verdict(&self, left: u8, outcome: &Outcome) -> Option<Errno>
+    pub fn verdict(&self, left: u8, outcome: &Outcome<'_>) -> Option<Errno>
         ensures { (c : CourseView) (ms : List MessageView) → result ≡ verdict_of (job_of c ms self.now) left (outcome_of outcome.now) }
     {
         match outcome {

@@ -1,12 +1,10 @@
-use Rattle.std.proofs.Common.{reverse, refl}
+use Rattle.std.proofs.Common.{reverse, refl, sym, ◌∙◌}
 use Rattle.mux_plan.specs.Plans.{outcome_of}
-use Rattle.mux_plan.proofs.MarksTold.{tells-other}
+use Rattle.mux_plan.proofs.MarksTold.{no-dues}
 use Rattle.mux_plan.proofs.parts.Parts.mark.Goals as goal
 
 pub returns-in_default-top : goal.returns-in_default-top
-returns-in_default-top c = record {
-  told = λ b ms out v told.
-      tells-other b ms c.args.self.now.course out (outcome_of c.args.outcome.now) v c.args.self.now.stack c.in-Some.top.now (reverse c.in-Some.below.now)
-      c.args.marks.now c.in-Some.ensures.some c.requires.step c.in_default-top.not-Rest c.in_default-top.not-Line told;
-  count = refl;
-}
+returns-in_default-top c b ms out =
+    c.requires.empty
+    ∙ sym (no-dues b ms c.args.self.now.course out (outcome_of c.args.outcome.now) c.args.self.now.stack c.in-Some.top.now (reverse c.in-Some.below.now)
+    c.in-Some.ensures.some c.requires.step c.in_default-top.not-Rest c.in_default-top.not-Line)

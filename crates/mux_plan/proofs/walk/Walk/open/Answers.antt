@@ -6,7 +6,8 @@ use Rattle.i2c_spec.specs.Layouts.{board_of}
 use Rattle.i2c_spec.specs.Plain.{IsPlainBoard}
 use Rattle.mux_plan.specs.Plans.{CourseView}
 use Rattle.mux_plan.specs.Rooms.{IsNarrow}
-use Rattle.mux_plan.proofs.OpensFit.{path_deep, path_narrow, length-messages}
+use Rattle.i2c_spec.proofs.CostLemmas.{hops_few}
+use Rattle.mux_plan.proofs.OpensFit.{path_narrow, length-messages}
 use Rattle.mux_plan.proofs.walk.Walk.open.Goals as goal
 
 pub along-requires-clause-deep : goal.along-requires-clause-deep
@@ -16,7 +17,7 @@ along-requires-clause-deep c =
     let same : board_of c.layout.result ≡ b = c.layout.ensures.value ∙ c.board-board.ensures.value in
     let path : c.hops-path.result.items ≡ hops b s =
     c.hops-path.ensures ∙ ap (hops (board_of c.layout.result)) c.bus.ensures ∙ ap (λ (x : BoardView). hops x s) same in
-    subst (λ (hs : List Hop). length hs ≤ 4) (sym path) (path_deep b s (subst IsPlainBoard c.board-board.ensures.value c.layout.ensures.plain) c.board-board.ensures.rules)
+    subst (λ (hs : List Hop). length hs ≤ 4) (sym path) (hops_few b s (subst IsPlainBoard c.board-board.ensures.value c.layout.ensures.plain) c.board-board.ensures.rules)
 
 pub along-requires-clause-narrow : goal.along-requires-clause-narrow
 along-requires-clause-narrow c =
