@@ -1,35 +1,34 @@
--- Scripts are fair callers, and how many steps they have left.
-use Rattle.std.proofs.Common.{◌≡◌, ℕ, ◌+◌, ◌*◌, ◌≤◌, true, false, cond, List, [], ◌∷◌, ◌++◌, length, drop, get_or, Option, Some, None, refl, sym, ap, subst, ◌∙◌, length-drop, arith}
+-- Scripts are fair callers.
+use Rattle.std.proofs.Common.{◌≡◌, ℕ, ◌+◌, ◌≤◌, true, false, cond, List, [], ◌∷◌, ◌++◌, length, drop, get_or, Option, Some, None, refl, sym, ap, subst, ◌∙◌, arith}
 use Rattle.std.specs.Prelude.{nat_lt, sum_by, slice_get}
 use Rattle.std.specs.Option.{option_map}
 use Rattle.std.proofs.lemmas.List.{length_push}
 use Rattle.std.proofs.lemmas.List.Elements.{All-get_or}
-use Rattle.std.proofs.lemmas.List.Sums.{sum_by-drop_more, sum_by-le}
+use Rattle.std.proofs.lemmas.List.Sums.{sum_by-drop_more}
 use Rattle.std.proofs.lemmas.Option.{slice_get_within, get_or_from_slice_get}
 use Rattle.i2c_base.specs.declared.reply.Reply.{Reply}
 use Rattle.i2c_base.specs.Board.{BoardView}
-use Rattle.i2c_base.specs.Script.{ScriptView}
 use Rattle.i2c_base.specs.Transfer.{TransferView, IsTransfer}
 use Rattle.i2c_spec.specs.Cost.{full_cost, steps_of, cost_of}
 use Rattle.i2c_spec.specs.Tree.{hops, buses}
 use Rattle.caller_core.specs.Commands.{transfer_of}
+use Rattle.caller_core.specs.View.{ScriptView}
 use Rattle.caller_core.specs.Scripts.{CommandView, commands_of, cost_of_command, asked_by, left_of}
 use Rattle.caller_core.specs.Callers.{ScriptsAreFair}
-use Rattle.caller_core.specs.Steps.{IsShallowBoard}
 use Rattle.caller_core.proofs.CommandLemmas.{IsRead, commands_are_read}
-use Rattle.caller_core.proofs.TransferLemmas.{transfer_fits, transfer_sends, shallow_cost}
+use Rattle.caller_core.proofs.TransferLemmas.{transfer_fits, transfer_sends}
 
 -- what is asked for is the transfer of the next command
-record IsAsked (o : Option CommandView) (t : TransferView) : Type 0 where
-  command : CommandView
-  at : o ≡ Some command
-  same : t ≡ transfer_of command.cmd
+pub record IsAsked (o : Option CommandView) (t : TransferView) : Type 0 where
+  pub command : CommandView
+  pub at : o ≡ Some command
+  pub same : t ≡ transfer_of command.cmd
 
 is_asked : (o : Option CommandView) (t : TransferView) → option_map (λ c. transfer_of c.cmd) o ≡ Some t → IsAsked o t
 is_asked None t e = cc
 is_asked (Some c) t e = record { command = c; at = refl; same = cc }
 
-next_command : (s : ScriptView) (rs : List Reply) (t : TransferView) → asked_by s rs ≡ Some t → IsAsked (slice_get (commands_of s.text) (length rs)) t
+pub next_command : (s : ScriptView) (rs : List Reply) (t : TransferView) → asked_by s rs ≡ Some t → IsAsked (slice_get (commands_of s.text) (length rs)) t
 next_command s rs t e = is_asked (slice_get (commands_of s.text) (length rs)) t e
 
 asked_fits : (s : ScriptView) (rs : List Reply) (t : TransferView) → IsAsked (slice_get (commands_of s.text) (length rs)) t → IsTransfer t.msgs t.out
@@ -60,8 +59,3 @@ scripts_fair =
       costs = λ s rs t e. cost_some s.board t;
       falls = λ s rs t r e fit. asked_falls s rs t r (next_command s rs t e);
     }
-
-pub left_most : (s : ScriptView) (taken : List Reply) → IsShallowBoard s.board → left_of s taken ≤ 15 * length (commands_of s.text)
-left_most s taken f =
-    let cs : List CommandView = drop (length taken) (commands_of s.text) in
-    omega (arith, sum_by-le (cost_of_command s.board) 15 cs (λ k d h. shallow_cost s.board (get_or cs k d).cmd f), length-drop (length taken) (commands_of s.text))

@@ -1,6 +1,9 @@
+pub mod AnswerLemmas
 pub mod CommandLemmas
 pub mod FairLemmas
+pub mod OwedLemmas
+pub mod PlacedLemmas
+pub mod RootLemmas
 pub mod ScriptLemmas
 pub mod SectionLemmas
-pub mod ShallowLemmas
 pub mod TransferLemmas

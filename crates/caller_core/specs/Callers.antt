@@ -1,21 +1,28 @@
--- A caller of one script.
-use Rattle.std.specs.Prelude.{ℕ, List, []}
+-- A script as a caller.
+use Rattle.std.specs.Prelude.{◌≡◌, ℕ, List, [], length, drop}
+use Rattle.std.specs.List.{sum_by}
 use Rattle.i2c_base.specs.Board.{BoardView}
-use Rattle.i2c_base.specs.Script.{ScriptView}
+use Rattle.i2c_base.specs.Need.{Need}
 use Rattle.i2c_base.specs.declared.reply.Reply.{Reply}
 use Rattle.i2c_spec.specs.Fair.{IsFairCaller}
-use Rattle.caller_core.specs.Scripts.{asked_by, left_of}
+use Rattle.caller_core.specs.View.{ScriptView, CallerView}
+use Rattle.caller_core.specs.Scripts.{CommandView, commands_of, room_of, asked_by, left_of}
 
--- what it was opened with, and the replies that it took
-pub record CallerView : Type 0 where
-  pub script : ScriptView
-  pub taken : List Reply
-
-abbrev pub opened : BoardView → List ℕ → CallerView
-opened board text = record { script = record { board = board; text = text }; taken = [] }
+-- a script that is opened over a board and has taken nothing
+pub record IsOpened (board : BoardView) (text : List ℕ) (s : CallerView) : Type 0 where
+  pub board_is : s.script.board ≡ board
+  pub text_is : s.script.text ≡ text
+  pub untaken : s.taken ≡ []
 
 abbrev pub board_of : ScriptView → BoardView
 board_of s = s.board
+
+-- the room of commands without a reply: a reply each, and what each may print with it
+abbrev pub need_of : List CommandView → Need
+need_of cs = record { replies = length cs; bytes = sum_by room_of cs }
+
+abbrev pub owed_by : ScriptView → List Reply → Need
+owed_by s taken = need_of (drop (length taken) (commands_of s.text))
 
 -- whatever board and text a script is opened with: each of its transfers has messages and keeps the limits, and what is
 -- left covers its cost and falls by it

@@ -42,3 +42,11 @@ reply_text (reply.Err errno) = errno_text errno
 -- what a command prints for its reply
 abbrev pub answer_text : Cmd → Reply → List ℕ
 answer_text (cmd.Get bus addr reg) r = reply_text r
+
+-- no command's reply brings more bytes than so many, and no answer has more than so many: the longest is the name of an
+-- error
+abbrev pub MOST_READ : ℕ
+MOST_READ = 1
+
+abbrev pub MOST_ANSWER : ℕ
+MOST_ANSWER = 10

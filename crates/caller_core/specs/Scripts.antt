@@ -3,7 +3,6 @@ use Rattle.std.specs.Prelude.{⊤, ◌≡◌, ℕ, ◌+◌, nat_le, List, [], �
 use Rattle.std.specs.List.{sum_by}
 use Rattle.std.specs.Option.{option_map}
 use Rattle.i2c_base.specs.Board.{BoardView}
-use Rattle.i2c_base.specs.Script.{ScriptView}
 use Rattle.i2c_base.specs.Transfer.{TransferView}
 use Rattle.i2c_base.specs.declared.reply.Reply.{Reply}
 use Rattle.i2c_spec.specs.Cost.{cost_of}
@@ -12,7 +11,8 @@ use Rattle.tool_words.specs.Fronts.{words_of, joined_words, lines_of}
 use Rattle.tool_words.specs.declared.line.Cmd.{Cmd}
 use Rattle.tool_words.specs.declared.fault.LineFault.{LineFault}
 use Rattle.tool_words.specs.declared.fault.LineFault.TheVariants as line_fault
-use Rattle.caller_core.specs.Commands.{transfer_of, answer_text}
+use Rattle.caller_core.specs.Commands.{transfer_of, answer_text, MOST_ANSWER}
+use Rattle.caller_core.specs.View.{ScriptView}
 use Rattle.caller_core.specs.declared.script.ScriptFault.{ScriptFault}
 use Rattle.caller_core.specs.declared.script.ScriptFault.TheVariants as script_fault
 
@@ -78,8 +78,16 @@ cost_of_command b c = cost_of b (transfer_of c.cmd)
 abbrev pub left_of : ScriptView → List Reply → ℕ
 left_of s taken = sum_by (cost_of_command s.board) (drop (length taken) (commands_of s.text))
 
+-- what the whole script can take
+abbrev pub cost_of_script : ScriptView → ℕ
+cost_of_script s = sum_by (cost_of_command s.board) (commands_of s.text)
+
 abbrev pub command_text : CommandView → Reply → List ℕ
 command_text c r = codes "> " ++ (c.echo ++ (10 ∷ (answer_text c.cmd r ++ 10 ∷ [])))
+
+-- a command with its answer has at most so many bytes: those of its words, of the longest answer, and four beside them
+abbrev pub room_of : CommandView → ℕ
+room_of c = length c.echo + (MOST_ANSWER + 4)
 
 -- the section of a script after these replies, without its heading
 abbrev pub section_text : List CommandView → List Reply → List ℕ

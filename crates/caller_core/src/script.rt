@@ -2,24 +2,17 @@ ghost use Rattle.std.specs.Prelude.{◌≡◌, ◌+◌, ◌^◌, ◌<◌, ◌≤
 ghost use Rattle.tool_words.specs.Commands.{line_read};
 ghost use Rattle.tool_words.specs.Fronts.{lines_of};
 ghost use Rattle.tool_words.specs.Readers.{FaultIs};
-ghost use Rattle.caller_core.specs.Kept.{commands_in, IsInside};
 ghost use Rattle.caller_core.specs.Scripts.{script_read, at_most, ScriptFaultIs, fault_at};
 ghost use Rattle.caller_core.specs.ScriptSteps.{IsStep, IsRefused};
 ghost use Rattle.caller_core.specs.declared.script.ScriptFault.TheVariants.{Memory as NoRoomForScript};
 
-use std::alloc::{AllocError, AllocFailed, Global};
-use tool_words::{Cmd, LineFault, cut_line, read_line};
+use crate::commands::Commands;
+use i2c_base::NoMemory;
+use std::alloc::{AllocError, Global};
+use tool_words::{Cmd, LineFault, cut_line, push_echo, read_line};
 
 /// The most commands of a script.
 const MOST_COMMANDS: usize = 1000;
-
-/// A command, and where its line stands in the script's text.
-#[derive(Clone, Copy)]
-pub struct Placed {
-    pub cmd: Cmd,
-    pub start: u32,
-    pub len: u32,
-}
 
 /// Why a script was not read.
 #[derive(Clone, Copy)]
@@ -29,18 +22,18 @@ pub enum ScriptFault {
     Memory,
 }
 
-impl<T: Drop> From<AllocFailed<T>> for ScriptFault {
-    ghost from_gives = { λ _ e. e ≡ NoRoomForScript };
-
-    fn from(_error: AllocFailed<T>) -> Self {
-        ScriptFault::Memory
-    }
-}
-
 impl From<AllocError> for ScriptFault {
     ghost from_gives = { λ _ e. e ≡ NoRoomForScript };
 
     fn from(_error: AllocError) -> Self {
+        ScriptFault::Memory
+    }
+}
+
+impl From<NoMemory> for ScriptFault {
+    ghost from_gives = { λ _ e. e ≡ NoRoomForScript };
+
+    fn from(_error: NoMemory) -> Self {
         ScriptFault::Memory
     }
 }
@@ -71,30 +64,25 @@ fn read_behind<'a>(
     }
 }
 
-// Reads a further line, of this number, which stands at this place in the text.
+// Reads a further line, of this number. Its words are put together in place of those of the line before.
 #[tactic(auto, using(crate::proofs::ScriptLemmas::is_step_some, crate::proofs::ScriptLemmas::is_step_none, crate::proofs::ScriptLemmas::is_refused))]
 fn take_line<'a>(
     words: &mut Vec<&'a [u8]>,
-    commands: &mut Vec<Placed>,
-    text: &'a [u8],
-    start: usize,
-    len: usize,
+    echo: &mut Vec<u8>,
+    commands: &mut Commands,
+    line: &'a [u8],
     number: u32,
 ) -> Result<(), ScriptFault>
-    requires small { length text.now ≤ 2 ^ 28 }
-    requires within { start + len ≤ length text.now }
-    requires inside { All (IsInside (length text.now)) commands.old.items }
-    ensures ok { OnOk result (IsStep number (commands_in text.now commands.old.items) (commands_in text.now commands.new.items) (take len (drop start text.now))) }
-    ensures inside { OnOk result (All (IsInside (length text.now)) commands.new.items) }
-    ensures err { IfErr result (IsRefused number (commands_in text.now commands.old.items) (take len (drop start text.now))) }
+    ensures ok { OnOk result (IsStep number commands.old commands.new line.now) }
+    ensures err { IfErr result (IsRefused number commands.old line.now) }
 {
-    let line = &text[start..start + len];
     match read_behind(words, line, commands.len()) {
         Err(fault) => Err(fault_at(fault, number)),
         Ok(None) => Ok(()),
         Ok(Some(cmd)) => {
-            let (start, len) = (start as u32, len as u32);
-            commands.push(Placed { cmd, start, len })?;
+            echo.clear();
+            push_echo(echo, line)?;
+            commands.push(cmd, echo.as_slice())?;
             Ok(())
         }
     }
@@ -112,19 +100,20 @@ fn cut_at(text: &[u8], at: usize) -> (usize, usize)
 }
 
 /// Reads the commands of a script.
-pub fn read_script(alloc: Global, text: &[u8]) -> Result<Vec<Placed>, ScriptFault>
+pub fn read_script(alloc: Global, text: &[u8]) -> Result<Commands, ScriptFault>
     requires { length text.now ≤ 2 ^ 28 }
-    ensures read { MatchResult result (λ v. script_read text.now ≡ Ok (commands_in text.now v.items)) (ScriptFaultIs (script_read text.now)) }
-    ensures inside { IfOk result (λ v. All (IsInside (length text.now)) v.items) }
+    ensures { MatchResult result (λ cs. script_read text.now ≡ Ok cs) (ScriptFaultIs (script_read text.now)) }
 {
     let mut words = Vec::new(alloc);
-    let mut commands = Vec::new(alloc);
+    let mut echo = Vec::new(alloc);
+    let mut commands = Commands::new(alloc);
     let mut at = 0;
     let mut number = 0u32;
     while at < text.len() {
         let (len, skip) = cut_at(text, at);
         number += 1;
-        if let Err(fault) = take_line(&mut words, &mut commands, text, at, len, number) {
+        let line = &text[at..at + len];
+        if let Err(fault) = take_line(&mut words, &mut echo, &mut commands, line, number) {
             return Err(fault);
         }
         at += skip;

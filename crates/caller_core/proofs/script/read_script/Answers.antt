@@ -1,19 +1,24 @@
-use Rattle.std.proofs.Common.{◌+◌, arith}
+use Rattle.std.proofs.Common.{◌≡◌, ◌+◌, ◌-◌, take, drop, subst, ℕ, arith}
+use Rattle.caller_core.specs.ScriptSteps.{IsStep, IsRefused}
 use Rattle.caller_core.proofs.ScriptLemmas.{script_steps, refused_script}
 use Rattle.caller_core.proofs.script.read_script.Goals as goal
 
-pub returns-in-Err-clause-read : goal.returns-in-Err-clause-read
-returns-in-Err-clause-read c =
-    refused_script (c.loop-at.number + 1) c.loop-at.at c.cut_at-len.result.0 c.cut_at-len.result.1 c.args.text.now c.loop-at.commands.items c.in-Err.fault _
-    c.in-Err.ensures.err c.cut_at-len.ensures.split c.loop-at.invariant.same
+pub returns-in-Err : goal.returns-in-Err
+returns-in-Err c =
+    let at = c.loop-at.at in
+    let len = c.cut_at-len.result.0 in
+    let same : at + len - at ≡ len = omega arith in
+    let refused = subst (λ (k : ℕ). IsRefused (c.loop-at.number + 1) c.loop-at.commands (take k (drop at c.args.text.now)) c.in-Err.fault) same c.in-Err.ensures.err in
+    refused_script (c.loop-at.number + 1) at len c.cut_at-len.result.1 c.args.text.now c.loop-at.commands c.in-Err.fault _ refused c.cut_at-len.ensures.split c.loop-at.invariant.same
 
 pub loop-at-preserved : goal.loop-at-preserved
 loop-at-preserved c =
+    let at = c.loop-at.at in
+    let len = c.cut_at-len.result.0 in
+    let same : at + len - at ≡ len = omega arith in
+    let step = subst (λ (k : ℕ). IsStep (c.loop-at.number + 1) c.loop-at.commands c.take_line.new.commands (take k (drop at c.args.text.now))) same c.in_default.ensures.ok in
     record {
       within = omega (arith, c.cut_at-len.ensures.within);
       count = omega (arith, c.cut_at-len.ensures.some);
-      inside = c.in_default.ensures.inside;
-      same =
-          script_steps (c.loop-at.number + 1) c.loop-at.at c.cut_at-len.result.0 c.cut_at-len.result.1 c.args.text.now c.loop-at.commands.items c.take_line.new.commands.items _
-          c.in_default.ensures.ok c.cut_at-len.ensures.split c.loop-at.invariant.same;
+      same = script_steps (c.loop-at.number + 1) at len c.cut_at-len.result.1 c.args.text.now c.loop-at.commands c.take_line.new.commands _ step c.cut_at-len.ensures.split c.loop-at.invariant.same;
     }

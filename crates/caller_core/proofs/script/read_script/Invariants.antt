@@ -1,7 +1,5 @@
 use Rattle.std.proofs.Common.{◌≡◌, ◌+◌, ◌-◌, ◌≤◌, length, drop}
-use Rattle.std.specs.Prelude.{All}
 use Rattle.tool_words.specs.Fronts.{lines_of}
-use Rattle.caller_core.specs.Kept.{commands_in, IsInside}
 use Rattle.caller_core.specs.Scripts.{script_read, lines_read, behind_commands}
 use Rattle.caller_core.proofs.script.read_script.Given as goal
 
@@ -13,6 +11,5 @@ invariant-loop-at l =
     record {
       within : l.at ≤ length l.text;
       count : l.number ≤ l.at;
-      inside : All (IsInside (length l.text)) l.commands.items;
-      same : behind_commands (commands_in l.text l.commands.items) (lines_read (l.number + 1) (length l.commands.items) (lines_of (drop l.at l.text))) ≡ script_read l.text;
+      same : behind_commands l.commands (lines_read (l.number + 1) (length l.commands) (lines_of (drop l.at l.text))) ≡ script_read l.text;
     }

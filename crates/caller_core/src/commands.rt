@@ -1,0 +1,79 @@
+ghost use Rattle.std.specs.Prelude.{◌≡◌, ◌<◌, [], ◌∷◌, ◌++◌, length, slice_index_or, OnOk};
+
+use i2c_base::NoMemory;
+use std::alloc::Global;
+use std::marker::Model;
+use tool_words::Cmd;
+
+// A command, and where its words lie.
+#[derive(Clone, Copy)]
+struct Placed {
+    cmd: Cmd,
+    start: usize,
+    len: usize,
+}
+
+/// The commands of a script, each with its words as they are printed. A contract sees the list of them.
+#[derive(Drop)]
+pub struct Commands {
+    placed: Vec<Placed>,
+    echoes: Vec<u8>,
+}
+
+impl Model for Commands {
+    ghost use Rattle.std.specs.Prelude.{List, vec_len};
+    ghost use Rattle.std.specs.List.{All};
+    ghost use Rattle.caller_core.specs.Scripts.{CommandView};
+
+    ghost Value = { List CommandView };
+
+    ghost use Rattle.caller_core.specs.Kept.{commands_in, IsInside};
+
+    ghost view = { λ c. commands_in c.echoes.items c.placed.items };
+
+    ghost invariant = { λ c. All (IsInside (vec_len c.echoes)) c.placed.items };
+}
+
+impl Commands {
+    pub fn new(alloc: Global) -> Self
+        ensures { result ≡ [] }
+    {
+        Commands {
+            placed: Vec::new(alloc),
+            echoes: Vec::new(alloc),
+        }
+    }
+
+    pub fn len(&self) -> usize
+        ensures { result ≡ length self.now }
+    {
+        self.placed.len()
+    }
+
+    /// Puts a command with these words at the end.
+    #[tactic(auto, using(crate::proofs::PlacedLemmas::commands_push))]
+    pub fn push(&mut self, cmd: Cmd, echo: &[u8]) -> Result<(), NoMemory>
+        ensures { OnOk result (self.new ≡ self.old ++ record { echo = echo.now; cmd = cmd } ∷ []) }
+    {
+        let placed = Placed {
+            cmd,
+            start: self.echoes.len(),
+            len: echo.len(),
+        };
+        self.echoes.extend_from_slice(echo)?;
+        self.placed.push(placed)?;
+        Ok(())
+    }
+
+    /// The command at a place, and its words.
+    pub fn get(&self, place: usize) -> (Cmd, &[u8])
+        requires { place < length self.now }
+        ensures { record { echo = result.1.now; cmd = result.0 } ≡ slice_index_or self.now place (record { echo = result.1.now; cmd = result.0 }) }
+    {
+        let placed = self.placed[place];
+        (
+            placed.cmd,
+            &self.echoes[placed.start..placed.start + placed.len],
+        )
+    }
+}
