@@ -1,0 +1,146 @@
+-- What a walk holds behind each of its steps, and where its marks are. The inductions go over lists of marks.
+use Rattle.std.proofs.Common.{◌≡◌, ℕ, zero, suc, ◌<◌, Bool, true, false, List, [], ◌∷◌, length, Option, Some, None, cond, eqb, refl, sym, subst, inl, inr, arith}
+use Rattle.std.specs.Prelude.{slice_index_or}
+use Rattle.std.proofs.lemmas.Bool.Decides.{eqb_tells, leb_tells}
+use Rattle.std.proofs.lemmas.List.{get_or_past}
+use Rattle.i2c_base.specs.declared.ids.LockId.{LockId}
+use Rattle.i2c_base.specs.declared.errno.Errno.{Errno}
+use Rattle.i2c_base.specs.declared.entry.End.TheVariants as end
+use Rattle.i2c_base.specs.Board.{BoardView}
+use Rattle.i2c_spec.specs.Tree.{Hop, buses}
+use Rattle.bus_spec.specs.Walk.{Mark, Job, Call, Select, Clear, Act, Take, Free, Send, Shift, Settle, ActOutcome, Passed, Sent, Lined, Note, WalkTree, Ends, Look, Then, first_byte}
+use Rattle.bus_spec.specs.Slots.{Slots, At, MuxSlot, Clean, Selected, Marked, Polled, Found, mark_in, with_slot, set_marks, select_slot, after_job}
+use Rattle.bus_spec.specs.Grammar.{seen, is_over, first_act, first_note, rest_of}
+use Rattle.bus_spec.specs.Stepwise.{IsBelow}
+use Rattle.bus_laws.specs.Runs.{InLocks}
+use Rattle.bus_laws.proofs.past.StandsEntries.{first_is}
+use Rattle.bus_laws.proofs.tree.Slots.{with_slot-same, with_slot-other}
+use Rattle.mux_plan.specs.Plans.{slots_of, slot_of, TellsMarks}
+use Rattle.bus_laws.specs.Holds.{IsLockOf, IsMarkOn, MarksHeld, SendsIn, HoldsLocks}
+use Rattle.bus_laws.proofs.walk.Waits.{holds_seen}
+use Rattle.seg_locks.specs.Locks.{LocksView}
+use Rattle.core_laws.specs.Table.{TableKept}
+
+-- who holds a lock has not ended
+pub holder-goes : (b : BoardView) (ls : List LockId) (w : WalkTree) → HoldsLocks b ls w → (l : LockId) → InLocks l ls → is_over w ≡ false
+holder-goes b ls Ends h l among = absurd (subst (λ (ks : List LockId). InLocks l ks) h among)
+holder-goes b ls (Look ask next) h l among = refl
+holder-goes b ls (Then act note next) h l among = refl
+
+pub mark_of_slot : (b : BoardView) (p : ℕ) (o : Option ℕ) → IsMarkOn b p o → IsMarkOn b p (mark_in (slot_of o))
+mark_of_slot b p None h = h
+mark_of_slot b p (Some m) h = h
+
+module _ (b : BoardView) (marks : List (Option ℕ)) (home : (p : ℕ) → IsMarkOn b p (slice_index_or marks p None)) (ls : List LockId) (w : WalkTree) (holds : HoldsLocks b ls w) where
+  abbrev pub v : Slots
+  v = slots_of marks
+
+  pub home_seen : (p : ℕ) → IsMarkOn b p (mark_in (v p).slot)
+  home_seen p = mark_of_slot b p (slice_index_or marks p None) (home p)
+
+  here : HoldsLocks b ls (seen v w)
+  here = holds_seen b ls v home_seen w holds
+
+  abbrev Here : Act → Type 0
+  Here act = (note : Note) × (next : ActOutcome → WalkTree) × (seen v w ≡ Then act note next)
+
+  at : (act : Act) → first_act (seen v w) ≡ Some act → Here act
+  at act first = first_is (seen v w) act first
+
+  pub holds-taken : (l : LockId) → first_act (seen v w) ≡ Some (Take l) → IsLockOf b l × IsBelow b l ls × HoldsLocks b (l ∷ ls) (rest_of (seen v w) Passed)
+  holds-taken l first =
+      let a = at (Take l) first in
+      let h : HoldsLocks b ls (Then (Take l) a.0 a.1) = subst (λ (x : WalkTree). HoldsLocks b ls x) a.2 here in
+      (h.0, h.1, subst (λ (x : WalkTree). HoldsLocks b (l ∷ ls) (rest_of x Passed)) (sym a.2) h.2)
+
+  pub holds-freed : (l : LockId) → first_act (seen v w) ≡ Some (Free l) → (rest : List LockId) × (ls ≡ l ∷ rest) × HoldsLocks b rest (rest_of (seen v w) Passed)
+  holds-freed l first =
+      let a = at (Free l) first in
+      let h : HoldsLocks b ls (Then (Free l) a.0 a.1) = subst (λ (x : WalkTree). HoldsLocks b ls x) a.2 here in
+      (h.0, h.1, subst (λ (x : WalkTree). HoldsLocks b h.0 (rest_of x Passed)) (sym a.2) h.2)
+
+  pub holds-sent : (job : Job) (left : ℕ) → first_act (seen v w) ≡ Some (Send job left)
+      → SendsIn b job (first_note (seen v w)).marks ls × ((out : ActOutcome) → HoldsLocks b ls (rest_of (seen v w) out))
+  holds-sent job left first =
+      let a = at (Send job left) first in
+      let h : HoldsLocks b ls (Then (Send job left) a.0 a.1) = subst (λ (x : WalkTree). HoldsLocks b ls x) a.2 here in
+      (subst (λ (x : WalkTree). SendsIn b job (first_note x).marks ls) (sym a.2) h.0, λ out. subst (λ (x : WalkTree). HoldsLocks b ls (rest_of x out)) (sym a.2) (h.1 out))
+
+  pub holds-shifted : (job : Job) → first_act (seen v w) ≡ Some (Shift job)
+      → SendsIn b job (first_note (seen v w)).marks ls × ((out : ActOutcome) → HoldsLocks b ls (rest_of (seen v w) out))
+  holds-shifted job first =
+      let a = at (Shift job) first in
+      let h : HoldsLocks b ls (Then (Shift job) a.0 a.1) = subst (λ (x : WalkTree). HoldsLocks b ls x) a.2 here in
+      (subst (λ (x : WalkTree). SendsIn b job (first_note x).marks ls) (sym a.2) h.0, λ out. subst (λ (x : WalkTree). HoldsLocks b ls (rest_of x out)) (sym a.2) (h.1 out))
+
+  pub holds-settled : (verdict : Option Errno) → first_act (seen v w) ≡ Some (Settle verdict) → HoldsLocks b ls (rest_of (seen v w) Passed)
+  holds-settled verdict first =
+      let a = at (Settle verdict) first in
+      let h : HoldsLocks b ls (Then (Settle verdict) a.0 a.1) = subst (λ (x : WalkTree). HoldsLocks b ls x) a.2 here in
+      subst (λ (x : WalkTree). HoldsLocks b ls (rest_of x Passed)) (sym a.2) h
+
+-- THE MARKS behind a message or a line step are of muxes at home
+module _ (b : BoardView) (ls : List LockId) where
+  abbrev pub AreHome : Slots → Type 0
+  AreHome y = (p : ℕ) → IsMarkOn b p (mark_in (y p).slot)
+
+  home_set : (y : Slots) (q : ℕ) (s : MuxSlot) → AreHome y → IsMarkOn b q (mark_in s) → AreHome (with_slot y q s)
+  home_set y q s all own p =
+      elim (eqb_tells p q) [
+        | inl h ↦ subst (λ (k : ℕ). IsMarkOn b k (mark_in (with_slot y q s k).slot)) (sym h.1)
+            (subst (λ (x : At). IsMarkOn b q (mark_in x.slot)) (sym (with_slot-same y q s)) own)
+        | inr h ↦ subst (λ (x : At). IsMarkOn b p (mark_in x.slot)) (sym (with_slot-other y q p s h.1)) (all p)
+      ]
+
+  home_marks : (ms : List Mark) → MarksHeld b ms ls → (y : Slots) → AreHome y → AreHome (set_marks ms y)
+  home_marks [] held y all = all
+  home_marks (m ∷ ms) held y all = home_set (set_marks ms y) m.on (Marked m.mux) (home_marks ms held.1 y all) held.0.1
+
+  home_poll : (q : ℕ) (h : Hop) (left : ℕ) (bytes : List ℕ) → IsMarkOn b q (mark_in (select_slot h left bytes))
+  home_poll q h zero bytes = tt
+  home_poll q h (suc zero) bytes = cases (eqb (first_byte bytes) 0)
+    where
+      cases : (t : Bool) → IsMarkOn b q (mark_in (cond t (Found h) Clean))
+      cases true = tt
+      cases false = tt
+  home_poll q h (suc (suc left)) bytes = cases (eqb (first_byte bytes) 0)
+    where
+      cases : (t : Bool) → IsMarkOn b q (mark_in (cond t (Found h) (Polled h left)))
+      cases true = tt
+      cases false = tt
+
+  pub home-after : (job : Job) (left : ℕ) (ms : List Mark) → MarksHeld b ms ls → (out : ActOutcome) (y : Slots) → AreHome y → AreHome (after_job job left ms out y)
+  home-after (Call bus messages) left ms held out y all = all
+  home-after (Select h) left ms held Passed y all = all
+  home-after (Select h) left ms held (Lined true) y all = home_marks ms held y all
+  home-after (Select h) left ms held (Lined false) y all = home_set y h.on (Selected h) all tt
+  home-after (Select h) left ms held (Sent end.Ok bytes) y all = home_set y h.on (select_slot h left bytes) all (home_poll h.on h left bytes)
+  home-after (Select h) left ms held (Sent end.Nack bytes) y all = home_set y h.on Clean all tt
+  home-after (Select h) left ms held (Sent end.Slow bytes) y all = home_set y h.on Clean all tt
+  home-after (Select h) left ms held (Sent end.Refused bytes) y all = home_set y h.on Clean all tt
+  home-after (Select h) left ms held (Sent end.Proto bytes) y all = home_set y h.on Clean all tt
+  home-after (Select h) left ms held (Sent (end.Cut q) bytes) y all = home_marks ms held y all
+  home-after (Clear on mux kind) left ms held Passed y all = all
+  home-after (Clear on mux kind) left ms held (Lined true) y all = home_marks ms held y all
+  home-after (Clear on mux kind) left ms held (Lined false) y all = home_set y on Clean all tt
+  home-after (Clear on mux kind) left ms held (Sent end.Ok bytes) y all = home_set y on Clean all tt
+  home-after (Clear on mux kind) left ms held (Sent end.Nack bytes) y all = home_set y on Clean all tt
+  home-after (Clear on mux kind) left ms held (Sent end.Slow bytes) y all = home_set y on Clean all tt
+  home-after (Clear on mux kind) left ms held (Sent end.Refused bytes) y all = home_set y on Clean all tt
+  home-after (Clear on mux kind) left ms held (Sent end.Proto bytes) y all = home_set y on Clean all tt
+  home-after (Clear on mux kind) left ms held (Sent (end.Cut q) bytes) y all = home_marks ms held y all
+
+-- marks that tell of home slots are of muxes at home
+pub home-told : (b : BoardView) (y : Slots) (marks : List (Option ℕ)) → ((p : ℕ) → IsMarkOn b p (mark_in (y p).slot)) → TellsMarks y marks → (p : ℕ) → IsMarkOn b p (slice_index_or marks p None)
+home-told b y marks all tells p =
+    elim (leb_tells (suc p) (length marks)) [
+      | inl h ↦ (let low : p < length marks = (let e = h.1 in omega (arith, e)) in subst (λ (o : Option ℕ). IsMarkOn b p o) (tells.at p low) (all p))
+      | inr h ↦ subst (λ (o : Option ℕ). IsMarkOn b p o) (sym (get_or_past marks p None (let e = h.1 in omega (arith, e)))) tt
+    ]
+
+-- THE TABLE where marks are new
+pub mark-table : (b : BoardView) (v : LocksView) (numbers : List ℕ) (held : List (List LockId)) → TableKept b v numbers held
+    → (marks_now : List (Option ℕ)) → length marks_now ≡ buses b → ((p : ℕ) → IsMarkOn b p (slice_index_or marks_now p None))
+    → TableKept b (record v { marks = marks_now }) numbers held
+mark-table b v numbers held kept marks_now all home =
+    record { counted = kept.counted; roots = kept.roots; muxes = kept.muxes; marked = all; deep = kept.deep; ranked = kept.ranked; named = kept.named; has = kept.has; once = kept.once; home = home }

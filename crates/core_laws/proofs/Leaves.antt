@@ -1,0 +1,48 @@
+-- What a message leaves of its transfer, whichever it is and however it ended, and the reply that fits. No induction.
+use Rattle.std.proofs.Common.{◌≡◌, ℕ, ◌+◌, Bool, true, false, cond, List, Option, Some, None, refl, sym, subst, ◌⊎◌, inl, inr}
+use Rattle.std.specs.List.{list_any}
+use Rattle.i2c_base.specs.declared.errno.Errno.{Errno}
+use Rattle.i2c_base.specs.declared.entry.End.{End}
+use Rattle.i2c_base.specs.declared.entry.End.TheVariants as end
+use Rattle.i2c_base.specs.declared.entry.Purpose.TheVariants as purpose
+use Rattle.i2c_base.specs.declared.reply.Reply.TheVariants as reply
+use Rattle.i2c_base.specs.Board.{BoardView}
+use Rattle.i2c_base.specs.Fitting.{Fits, FitsReads}
+use Rattle.i2c_base.specs.Transfer.{TransferView, is_read}
+use Rattle.bus_spec.specs.Walk.{Job, Call, Select, Clear, Send, Sent, WalkTree}
+use Rattle.bus_spec.specs.Slots.{Slots}
+use Rattle.bus_spec.specs.Grammar.{seen, first_act, rest_of}
+use Rattle.bus_spec.specs.Stepwise.{reply_by}
+use Rattle.core_laws.specs.Seats.{IsLeft}
+use Rattle.core_laws.specs.Sends.{is_call_through, gone_after}
+use Rattle.core_laws.proofs.WalkSteps.{SendLeaves, select-leaves, clear-leaves, went-leaves, ended-leaves}
+
+pub is_ok : (x : End) → (x ≡ end.Ok) ⊎ (x ≡ end.Ok → ⊥)
+is_ok end.Ok = inl refl
+is_ok end.Nack = inr (λ h. let f : end.Nack ≡ end.Ok = h in cc)
+is_ok end.Slow = inr (λ h. let f : end.Slow ≡ end.Ok = h in cc)
+is_ok end.Refused = inr (λ h. let f : end.Refused ≡ end.Ok = h in cc)
+is_ok end.Proto = inr (λ h. let f : end.Proto ≡ end.Ok = h in cc)
+is_ok (end.Cut q) = inr (λ h. let f : end.Cut q ≡ end.Ok = h in cc)
+
+-- so many went through behind it: one more where it is the caller's and its end is good
+pub message-leaves : (b : BoardView) (t : TransferView) (v : Slots) (w : WalkTree) (settled : Bool) (sent : ℕ) → IsLeft b t settled sent w
+    → (job : Job) (more : ℕ) → first_act (seen v w) ≡ Some (Send job more) → (e : End) (bytes : List ℕ)
+    → SendLeaves b t settled (gone_after sent job e) job more e (rest_of (seen v w) (Sent e bytes))
+message-leaves b t v w settled sent is (Select h) more first e bytes = select-leaves b t v w settled sent is h more first e bytes
+message-leaves b t v w settled sent is (Clear on mux kind) more first e bytes = clear-leaves b t v w settled sent is on mux kind more first e bytes
+message-leaves b t v w settled sent is (Call bus ms) more first e bytes =
+    elim (is_ok e) [
+      | inl fine ↦ subst (λ (x : End). SendLeaves b t settled (cond (is_call_through purpose.Call x) (sent + 1) sent) (Call bus ms) more x (rest_of (seen v w) (Sent x bytes))) (sym fine)
+          (went-leaves b t v w settled sent is bus ms more first bytes)
+      | inr bad ↦ inr (ended-leaves b t v w settled sent is bus ms more first e bytes bad)
+    ]
+
+fits_by : (t : TransferView) (got : List ℕ) (r : Bool) → list_any is_read t.msgs ≡ r → FitsReads t.msgs got → Fits t (cond r (reply.Read got) reply.Done)
+fits_by t got true e fits = (e, fits)
+fits_by t got false e fits = e
+
+-- the reply that its settle decides fits
+pub reply-fits : (t : TransferView) (got : List ℕ) (verdict : Option Errno) → (verdict ≡ None → FitsReads t.msgs got) → Fits t (reply_by verdict (Some t) got)
+reply-fits t got (Some e) all = tt
+reply-fits t got None all = fits_by t got (list_any is_read t.msgs) refl (all refl)
