@@ -1,0 +1,5 @@
+pub mod TalkLemmas
+pub mod MessageLemmas
+-- The next message of a transfer partway.
+pub mod PartwayLemmas
+pub mod SocketLemmas

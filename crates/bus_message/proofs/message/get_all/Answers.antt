@@ -1,0 +1,38 @@
+use Rattle.std.proofs.Common.{◌≡◌, ◌+◌, ◌-◌, Some, ◌∙◌, ap, arith, rules, length, length-append}
+use Rattle.std.proofs.lemmas.Grind.{common_steps}
+use Rattle.i2c_base.specs.Fitting.{count_of}
+use Rattle.i2c_base.specs.declared.port.PortCall.{PortCall}
+use Rattle.bus_message.proofs.MessageLemmas.{get_failed, get_went, get_done, acknowledges, count_stays}
+use Rattle.bus_message.proofs.TalkLemmas.{cut_after}
+use Rattle.bus_message.proofs.message.get_all.Goals as goal
+
+pub returns-in-Err-clause-told : goal.returns-in-Err-clause-told
+returns-in-Err-clause-told g c =
+    λ tells whole before r.
+    get_failed whole c.args.last (c.args.len - c.loop-count.count) (c.args.len - (c.loop-count.count + 1)) before (c.args.calls + c.loop-count.count) c.loop-count.got _ _ _ _
+    (omega (arith, c.loop-count-test.true)) (c.in-Err.ensures.world_failed tells) (c.in-Err.ensures.log_failed tells)
+    (c.loop-count.invariant.said tells (Some (c.args.calls + c.loop-count.count)) (λ k e. search (rules, e)) whole before r)
+
+pub loop-count-preserved : goal.loop-count-preserved
+loop-count-preserved g c = record {
+  phase = search rules;
+  got = grind (arith, common_steps);
+  first = λ some. ap count_of c.push.ensures ∙ count_stays c.loop-count.got _ (omega (arith, some, c.loop-count.invariant.got)) ∙ c.loop-count.invariant.first some;
+  log = λ tells. omega (arith, ap length (c.in-Ok.ensures.log tells), c.loop-count.invariant.log tells, length-append {A = PortCall});
+  later = search rules;
+  said = λ tells cut behind whole before r.
+      let one : c.args.calls + (c.loop-count.count + 1) ≡ c.args.calls + c.loop-count.count + 1 = omega arith in
+      rw (c.push.ensures, one) (get_went whole cut c.args.last (c.args.len - c.loop-count.count) (c.args.len - (c.loop-count.count + 1)) _ _ before (c.args.calls + c.loop-count.count) c.loop-count.got _ _ _ _
+      (omega (arith, c.loop-count-test.true)) (acknowledges c.loop-count.count c.args.len) (c.in-Ok.ensures.answer tells)
+      (λ k e. let h = behind k e in omega (arith, h))
+      (c.in-Ok.ensures.world tells) (c.in-Ok.ensures.log tells)
+      (c.loop-count.invariant.said tells cut (λ k e. let h = behind k e in omega arith) whole before r));
+}
+
+pub returns-clause-told : goal.returns-clause-told
+returns-clause-told g c =
+    λ tells whole before r. c.through.ensures.told tells whole before _
+    (get_done whole _ c.args.last (c.args.len - c.loop-count.count) before (c.args.calls + c.loop-count.count) _ c.loop-count.got _ _
+    (omega (arith, c.loop-count-test.false)) (omega arith)
+    (c.loop-count.invariant.said tells _
+    (cut_after c.through.result.end (c.args.calls + c.loop-count.count) (λ q e. omega (arith, c.through.ensures.place q e))) whole before r))

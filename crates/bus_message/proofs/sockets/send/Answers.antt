@@ -1,0 +1,37 @@
+use Rattle.std.proofs.Common.{◌≡◌, ℕ, ◌∙◌, ap, subst, arith}
+use Rattle.i2c_spec.specs.Flat.{block_limit}
+use Rattle.i2c_spec.specs.Messages.{MessageView}
+use Rattle.i2c_base.specs.declared.entry.End.TheVariants as end
+use Rattle.i2c_base.specs.declared.entry.Purpose.{Purpose}
+use Rattle.i2c_base.specs.declared.entry.Purpose.TheVariants as purpose
+use Rattle.core_laws.specs.Sends.{Sending, call_message, message_for}
+use Rattle.bus_message.specs.Calls.{CallView}
+use Rattle.core_laws.specs.Talks.{Gives}
+use Rattle.std.proofs.lemmas.List.{map-set}
+use Rattle.bus_message.specs.Sockets.{socket_of}
+use Rattle.bus_message.proofs.SocketLemmas.{socket-here, gave-read, call-through}
+use Rattle.bus_message.proofs.sockets.send.Goals as goal
+
+pub returns-clause-set : goal.returns-clause-set
+returns-clause-set g c =
+    let xs = c.args.ports.now.items in
+    let old = c.index_mut.result.now in
+    let new : ℕ × g.row.P.Denot = (old.0, c.send_on.new.port) in (
+      socket_of g.P.Port old,
+      socket_of g.P.Port new,
+      socket-here g.P.Port xs c.args.at old c.index_mut.ensures.value c.requires.may.socket c.requires.may.here,
+      map-set (socket_of g.P.Port) xs c.args.at new,
+      c.send_on.ensures.sent old.0,
+    )
+
+pub returns-clause-read : goal.returns-clause-read
+returns-clause-read g c =
+    λ went m is reads.
+    let v : CallView = c.args.call.now in
+    let next : Sending = c.args.next.now in
+    let own : (next.purpose ≡ purpose.Call) × (c.send_on.result.end ≡ end.Ok) = call-through next.purpose c.send_on.result.end went in
+    let its : message_for v.transfer v.sent next.purpose next.control c.send_on.result.addr ≡ call_message v.transfer v.sent =
+    ap (λ (y : Purpose). message_for v.transfer v.sent y next.control c.send_on.result.addr) own.0 in
+    gave-read v.transfer v.sent m is (block_limit c.args.board.now) 255 c.send_on.new.bytes (omega arith)
+    (λ h. subst (λ (x : MessageView). Gives (block_limit c.args.board.now) x c.send_on.new.bytes) its
+    (c.send_on.ensures.gives own.1 (c.send_on.ensures.reading ∙ ap (λ (x : MessageView). x.reading) its ∙ h))) reads
