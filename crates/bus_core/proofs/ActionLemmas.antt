@@ -6,8 +6,7 @@ use Rattle.bus_spec.specs.Walk.{Job, Act, Take, Free, Send, Shift, Settle, job_b
 use Rattle.mux_plan.specs.Plans.{action_of, control_of}
 use Rattle.mux_plan.specs.declared.task.Action.{Action}
 use Rattle.mux_plan.specs.declared.task.Action.TheVariants as action
-use Rattle.bus_core.specs.Sends.{IsMessageOf}
-use Rattle.bus_core.specs.declared.sending.Sending.{Sending}
+use Rattle.core_laws.specs.Sends.{Sending, IsMessageOf}
 
 abbrev sending : Job → ℕ → Action
 sending job left = action.Send (job_bus job) (job_purpose job) (part_of job left) (parts_of job) (control_of job left)
@@ -36,12 +35,12 @@ settle-of (Some (Send job left)) v e = absurd (let f : sending job left ≡ acti
 settle-of (Some (Shift job)) v e = absurd (let f : action.Line (line_mux job) (line_level job) ≡ action.Settle v = e in cc)
 settle-of (Some (Settle w)) v e = (let f : action.Settle w ≡ action.Settle v = e in cc)
 
-pub line-of : (o : Option Act) (mux level : ℕ) → action_of o ≡ action.Line mux level → (job : Job) × (o ≡ Some (Shift job))
+pub line-of : (o : Option Act) (mux level : ℕ) → action_of o ≡ action.Line mux level → (job : Job) × (o ≡ Some (Shift job)) × (line_mux job ≡ mux) × (line_level job ≡ level)
 line-of None m level e = absurd (let f : action.Done ≡ action.Line m level = e in cc)
 line-of (Some (Take k)) m level e = absurd (let f : action.Take k ≡ action.Line m level = e in cc)
 line-of (Some (Free k)) m level e = absurd (let f : action.Free k ≡ action.Line m level = e in cc)
 line-of (Some (Send job left)) m level e = absurd (let f : sending job left ≡ action.Line m level = e in cc)
-line-of (Some (Shift job)) m level e = (job, refl)
+line-of (Some (Shift job)) m level e = (let f : action.Line (line_mux job) (line_level job) ≡ action.Line m level = e in (job, refl, cc, cc))
 line-of (Some (Settle w)) m level e = absurd (let f : action.Settle w ≡ action.Line m level = e in cc)
 
 -- the message that comes next
@@ -65,3 +64,16 @@ send-of (Some (Send job left)) n e =
     )
 send-of (Some (Shift job)) n e = absurd (let f : action.Line (line_mux job) (line_level job) ≡ action.Send n.bus n.purpose n.part n.parts n.control = e in cc)
 send-of (Some (Settle w)) n e = absurd (let f : action.Settle w ≡ action.Send n.bus n.purpose n.part n.parts n.control = e in cc)
+
+-- where an action is told there is a step, and where none is told there is none
+pub some-act : (o : Option Act) → (action_of o ≡ action.Done → ⊥) → (act : Act) × (o ≡ Some act)
+some-act None not = absurd (not refl)
+some-act (Some act) not = (act, refl)
+
+pub none-of : (o : Option Act) → action_of o ≡ action.Done → o ≡ None
+none-of None e = refl
+none-of (Some (Take k)) e = absurd (let f : action.Take k ≡ action.Done = e in cc)
+none-of (Some (Free k)) e = absurd (let f : action.Free k ≡ action.Done = e in cc)
+none-of (Some (Send job left)) e = absurd (let f : sending job left ≡ action.Done = e in cc)
+none-of (Some (Shift job)) e = absurd (let f : action.Line (line_mux job) (line_level job) ≡ action.Done = e in cc)
+none-of (Some (Settle w)) e = absurd (let f : action.Settle w ≡ action.Done = e in cc)

@@ -1,17 +1,20 @@
-pub mod TalkLemmas
-pub mod MessageLemmas
--- A transfer partway, and what one step leaves of its walk.
-pub mod PartwayLemmas
-pub mod LineLemmas
-pub mod WalkSteps
--- What each step adds to the journal, and what the core keeps.
-pub mod ToldSteps
-pub mod MessageTold
-pub mod KeptPorts
-pub mod CoreTold
+-- The step of a walk that an action tells; the seat at a place, and what two steps leave of one; a step of the caller at
+-- a place, and all else that stays: locks, messages, lines, refusals; who can step, and callers that step one after the
+-- other; and the opening.
 pub mod ActionLemmas
-pub mod CoreSteps
--- How a core is opened.
-pub mod OpenLemmas
-pub mod Budgets
-pub mod PortLists
+pub mod There
+pub mod SeatLemmas
+pub mod Reseating
+pub mod Kept
+pub mod Locks
+pub mod ReadsRoom
+pub mod Converse
+pub mod Heard
+pub mod Stepped
+pub mod Conversed
+pub mod Refuse
+pub mod Switch
+pub mod Advances
+pub mod Loops
+pub mod Opened
+pub mod Seating

@@ -1,8 +1,12 @@
--- What the core keeps between two steps, and what a message over a port tells.
-pub mod Asking
-pub mod Cores
-pub mod Lines
+-- What the core keeps between two steps: its parts as plain lists, and what is known of them.
+pub mod Replies
+pub mod Marks
+pub mod Places
+pub mod Opening
+pub mod Kept
 pub mod Seats
-pub mod Sends
-pub mod Talks
-pub mod Views
+pub mod Steps
+pub mod State
+pub mod Ready
+pub mod Opens
+pub mod Runs

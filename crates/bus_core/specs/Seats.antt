@@ -1,94 +1,183 @@
--- Where a caller stands on the bus: its transfer, what is left of its walk, and how much of the transfer was sent.
-use Rattle.std.specs.Prelude.{◌≡◌, ◌⊎◌, ℕ, suc, ◌+◌, ◌<◌, ◌≤◌, Bool, false, List, ◌++◌, length, take, sum_by, Option, Some, None, if◌then◌else◌}
-use Rattle.std.specs.List.{list_any}
+-- What the steps of a core leave of a seat.
+use Rattle.std.specs.Prelude.{◌≡◌, ℕ, ◌+◌, ◌<◌, ◌≤◌, Bool, true, false, List, [], ◌∷◌, ◌++◌, length, set, take, sum_by, Option, Some, None, slice_get, if◌then◌else◌}
+use Rattle.i2c_base.specs.declared.caller.Caller.{Ghosts as CallerGhosts}
+use Rattle.i2c_base.specs.declared.entry.End.{End}
+use Rattle.i2c_base.specs.declared.entry.Entry.TheVariants as entry
+use Rattle.i2c_base.specs.declared.entry.Purpose.{Purpose}
+use Rattle.i2c_base.specs.declared.entry.Purpose.TheVariants as purpose
 use Rattle.i2c_base.specs.declared.errno.Errno.{Errno}
-use Rattle.i2c_base.specs.declared.transfer.Msg.{Msg}
+use Rattle.i2c_base.specs.declared.reply.Cut.{Cut}
+use Rattle.i2c_base.specs.declared.reply.Cut.TheVariants as cut_at
+use Rattle.i2c_base.specs.declared.reply.Reply.{Reply}
+use Rattle.i2c_base.specs.declared.reply.Reply.TheVariants as reply
+use Rattle.i2c_base.specs.Fitting.{Fits}
 use Rattle.i2c_base.specs.Board.{BoardView}
-use Rattle.i2c_base.specs.Transfer.{TransferView, IsTransfer, written_of, is_read, is_counted}
-use Rattle.i2c_spec.specs.Tree.{root_of}
-use Rattle.i2c_spec.specs.Messages.{MessageView, messages_of}
-use Rattle.bus_spec.specs.Walk.{Call, Act, Send, Settle, Note, WalkTree}
-use Rattle.bus_spec.specs.Grammar.{is_over, seen, first_act, first_note}
-use Rattle.bus_laws.specs.Calls.{CallsOf, FirstCalls}
-use Rattle.bus_laws.specs.Settles.{NoSettle, Settles}
-use Rattle.bus_laws.specs.Jobs.{EachJob}
-use Rattle.bus_core.specs.Lines.{IsMessageJob}
-use Rattle.mux_plan.specs.Plans.{walk_of, slots_of}
+use Rattle.i2c_base.specs.Transfer.{IsTransfer, TransferView, written_of}
+use Rattle.i2c_spec.specs.Messages.{messages_of}
+use Rattle.i2c_spec.specs.Tree.{buses, root_of}
+use Rattle.bus_journal.specs.View.{JournalView}
+use Rattle.bus_laws.specs.Spent.{bytes_given}
+use Rattle.bus_spec.specs.Grammar.{is_over, first_note, seen, plain, walk_for}
+use Rattle.bus_spec.specs.Readings.{message_cut}
+use Rattle.bus_spec.specs.Stepwise.{reply_by}
+use Rattle.bus_spec.specs.Walk.{ActOutcome, Passed, Settle, Then, Ends}
+use Rattle.bus_spec.specs.Walk as walk
+use Rattle.core_laws.specs.Sends.{Sending, message_for, ends_with, IsChipAddress, is_call_through}
+use Rattle.core_laws.specs.Spots.{Socket}
+use Rattle.core_laws.specs.Steps.{GivesBytes, next_of, behind_of}
+use Rattle.mux_plan.specs.declared.marks.Due.{Due}
+use Rattle.mux_plan.specs.Marks.{dues_after}
+use Rattle.mux_plan.specs.Plans.{slots_of}
+use Rattle.seg_locks.specs.Locks.{LocksView}
+use Rattle.bus_core.specs.Kept.{IsSeated}
+use Rattle.bus_core.specs.Opening.{HasRoot}
+use Rattle.bus_core.specs.Places.{walk_left, owed_by, got_by}
+use Rattle.bus_message.specs.Sockets.{SentOn, MaySend}
+use Rattle.bus_message.specs.declared.sending.Sent.{Sent}
+use Rattle.i2c_base.specs.declared.tree.Grant.{Grant}
 use Rattle.bus_core.specs.declared.seat.Seat.{Seat}
 
--- what is left of a caller's walk
-abbrev pub walk_left : BoardView → Seat → WalkTree
-walk_left b s = walk_of b (messages_of s.transfer) s.walk
+-- the seat at a place is another one, which stands to it like this; all others stay
+pub record Reseated {C : Type 0} (IsNow : Seat C → Seat C → Type 0) (old new : List (Seat C)) (place : ℕ) : Type 0 where
+  pub before : Seat C
+  pub after : Seat C
+  pub here : slice_get old place ≡ Some before
+  pub set_is : new ≡ set old place after
+  pub is_now : IsNow before after
 
--- the next step of the walk, where each bus has this mark, and what a failure of it marks
-abbrev pub act_next : BoardView → List (Option ℕ) → Seat → Option Act
-act_next b marks s = first_act (seen (slots_of marks) (walk_left b s))
+-- there is a seat at a place, like this
+pub record HasSeat {C : Type 0} (IsSo : Seat C → Type 0) (seats : List (Seat C)) (place : ℕ) : Type 0 where
+  pub seat : Seat C
+  pub here : slice_get seats place ≡ Some seat
+  pub is_so : IsSo seat
 
-abbrev pub note_next : BoardView → List (Option ℕ) → Seat → Note
-note_next b marks s = first_note (seen (slots_of marks) (walk_left b s))
+-- it went on in its walk behind a step with this outcome, and its caller's last entry tells this cut
+pub record WentOn {C : Type 0} (b : BoardView) (v : LocksView) (out : ActOutcome) (cut : Cut) (s t : Seat C) : Type 0 where
+  pub same : t ≡ record s { walk = t.walk; cut = cut }
+  pub walk : walk_left b t ≡ behind_of v (walk_left b s) out
+  pub course : t.walk.course ≡ s.walk.course
 
--- how many bytes a message reads, where it doesn't count them
-abbrev pub read_of : Msg → ℕ
-read_of m = if is_read m then m.len else 0
+-- the marks that such a step changes
+abbrev pub dues_of : {C : Type 0} → BoardView → LocksView → ActOutcome → Seat C → List Due
+dues_of b v out s = dues_after (next_of v (walk_left b s)) (first_note (seen (slots_of v.marks) (walk_left b s))) out
 
--- what was read, with what one more message read
-abbrev pub got_with : List ℕ → Bool → List ℕ → List ℕ
-got_with got reading bytes = if reading then got ++ bytes else got
+-- a reply was handed to its caller, which has room for it
+pub record IsHanded {C S : Type 0} (c : CallerGhosts C S) (r : Reply) (s t : Seat C) : Type 0 where
+  pub script : c.script t.caller ≡ c.script s.caller
+  pub taken : c.taken t.caller ≡ c.taken s.caller ++ r ∷ []
 
--- so many messages of a transfer were sent and went through: they wrote and read so much
-pub record IsPartway (t : TransferView) (sent written : ℕ) (got : List ℕ) : Type 0 where
-  pub fits : IsTransfer t.msgs t.out
-  pub plain : list_any is_counted t.msgs ≡ false
-  pub within : sent ≤ length t.msgs
-  pub wrote : written ≡ sum_by written_of (take sent t.msgs)
-  pub read : length got ≡ sum_by read_of (take sent t.msgs)
+-- the caller's next transfer is loaded, if it has one
+pub record IsLoaded {C S : Type 0} (c : CallerGhosts C S) (b : BoardView) (t : Seat C) : Type 0 where
+  pub some : (x : TransferView) → c.asked (c.script t.caller) (c.taken t.caller) ≡ Some x → (t.transfer ≡ x) × (walk_left b t ≡ walk_for b x)
+  pub none : c.asked (c.script t.caller) (c.taken t.caller) ≡ None → is_over (walk_left b t) ≡ true
+  pub sent : t.sent ≡ 0
+  pub undecided : t.decided ≡ None
+  pub unread : t.replies.got ≡ []
 
--- message k of the caller's, from 0, comes next
-pub record ComesNext (w : WalkTree) (k : ℕ) : Type 0 where
-  pub bus : ℕ
-  pub messages : List MessageView
-  pub left : ℕ
-  pub first : first_act w ≡ Some (Send (Call bus messages) left)
-  pub count : k + suc left ≡ length messages
+-- behind the last step of a walk its reply was handed over, and the next transfer is loaded
+pub record HasEnded {C S : Type 0} (c : CallerGhosts C S) (b : BoardView) (r : Reply) (cut : Cut) (s t : Seat C) : Type 0 where
+  pub number : t.number ≡ s.number
+  pub cut_is : t.cut ≡ cut
+  pub handed : IsHanded c r s t
+  pub loaded : IsLoaded c b t
+  pub stays : c.asked (c.script t.caller) (c.taken t.caller) ≡ None → t.transfer ≡ s.transfer
 
--- so many messages of the caller's were sent: the next one comes next, or none was and the first one is still to come
-abbrev pub Counts : WalkTree → ℕ → Type 0
-Counts w k = ComesNext w k ⊎ (FirstCalls w × (k ≡ 0))
+-- its walk knows how many messages its transfer has
+abbrev pub IsCounted : {C : Type 0} → Seat C → Type 0
+IsCounted s = length (messages_of s.transfer) ≡ s.walk.course.count
 
--- what is left of a transfer's walk, whatever its steps give: it is settled already or still to be settled, and no
--- settle comes next; so many of its messages were sent
-pub record IsLeft (b : BoardView) (t : TransferView) (settled : Bool) (sent : ℕ) (w : WalkTree) : Type 0 where
-  pub calls : CallsOf b t w
-  pub settles : Settles settled w
-  pub jobs : EachJob (IsMessageJob b t) w
-  pub quiet : NoSettle w
-  pub counts : settled ≡ false → Counts w sent
+-- the reply that it was settled with may be handed over, and the next transfer loaded: each root that is asked for has a
+-- port
+pub record MayEnd {C S : Type 0} (c : CallerGhosts C S) (b : BoardView) (roots : List ℕ) (s : Seat C) : Type 0 where
+  pub seated : IsSeated c b roots s
+  pub fits : (r : Reply) → owed_by s.decided s.replies ≡ r ∷ [] → (c.asked (c.script s.caller) (c.taken s.caller) ≡ Some s.transfer) × Fits s.transfer r
+  pub wired : (rs : List Reply) (t : TransferView) → c.asked (c.script s.caller) rs ≡ Some t → t.bus < buses b → HasRoot roots (root_of b t.bus)
 
--- .. and its settle comes next
-pub record IsDecided (b : BoardView) (t : TransferView) (verdict : Option Errno) (w : WalkTree) : Type 0 where
-  pub calls : CallsOf b t w
-  pub settles : Settles false w
-  pub jobs : EachJob (IsMessageJob b t) w
-  pub first : first_act w ≡ Some (Settle verdict)
+-- behind a lock that was freed: the walk goes on, or has ended
+pub record HasFreed {C S : Type 0} (c : CallerGhosts C S) (b : BoardView) (v : LocksView) (roots : List ℕ) (s t : Seat C) : Type 0 where
+  pub on : is_over (behind_of v (walk_left b s) Passed) ≡ false → WentOn b v Passed cut_at.No s t
+  pub ended : is_over (behind_of v (walk_left b s) Passed) ≡ true → (r : Reply) → owed_by s.decided s.replies ≡ r ∷ [] → HasEnded c b r cut_at.No s t
+  pub seated : IsSeated c b roots t
 
--- the fixed parts of a seat: the root of its transfer's bus, and a walk of so many messages
-pub record IsPlaced (b : BoardView) (s : Seat) : Type 0 where
-  pub root : s.root < length b.roots
-  pub rooted : is_over (walk_left b s) ≡ false → s.root ≡ root_of b s.transfer.bus
-  pub count : length (messages_of s.transfer) ≡ s.walk.course.count
+-- it may hear a message of its walk: one of the caller's is left where it went through, and what it read has room
+pub record MayHear {C : Type 0} (next : Sending) (reading : Bool) (bytes : List ℕ) (e : End) (s : Seat C) : Type 0 where
+  pub counted : IsCounted s
+  pub wrote : s.written ≡ sum_by written_of (take s.sent s.transfer.msgs)
+  pub part : 0 < next.part
+  pub more : is_call_through next.purpose e ≡ true → s.sent < length s.transfer.msgs
+  pub room : next.purpose ≡ purpose.Call → reading ≡ true → length s.replies.got + length bytes ≤ 4096
 
--- a seat between two steps, where its caller asks for this next: for its transfer until that is settled, then for the
--- one behind it
-pub record IsSeat (b : BoardView) (next : Option TransferView) (s : Seat) : Type 0 where
-  pub placed : IsPlaced b s
-  pub left : IsLeft b s.transfer s.settled s.sent (walk_left b s)
-  pub asked : s.settled ≡ false → next ≡ Some s.transfer
-  pub partway : s.settled ≡ false → IsPartway s.transfer s.sent s.written s.got
+-- the reads of the caller's own messages are kept
+abbrev pub got_heard : Purpose → Bool → List ℕ → List ℕ → List ℕ
+got_heard purpose.Call reading bytes got = if reading then got ++ bytes else got
+got_heard (purpose.Control m) reading bytes got = got
 
--- a seat behind a message that decides: its settle comes next, without an error only where all messages went through
-pub record IsDue (b : BoardView) (next : Option TransferView) (s : Seat) (verdict : Option Errno) : Type 0 where
-  pub placed : IsPlaced b s
-  pub left : IsDecided b s.transfer verdict (walk_left b s)
-  pub open_yet : s.settled ≡ false
-  pub asked : next ≡ Some s.transfer
-  pub all : verdict ≡ None → IsPartway s.transfer (length s.transfer.msgs) s.written s.got
+-- it heard a message, and went on behind it: one of the caller's that went through is counted
+pub record HasHeard {C : Type 0} (b : BoardView) (v : LocksView) (next : Sending) (reading : Bool) (bytes : List ℕ) (e : End) (s t : Seat C) : Type 0 where
+  pub same : t ≡ record s { walk = t.walk; sent = t.sent; written = t.written; replies = t.replies; cut = message_cut next.purpose next.part e }
+  pub gone : t.sent ≡ (if is_call_through next.purpose e then s.sent + 1 else s.sent)
+  pub got : t.replies ≡ record s.replies { got = got_heard next.purpose reading bytes s.replies.got }
+  pub walk : walk_left b t ≡ behind_of v (walk_left b s) (walk.Sent e bytes)
+  pub wrote : t.written ≡ sum_by written_of (take t.sent t.transfer.msgs)
+  pub course : t.walk.course ≡ s.walk.course
+
+-- its reply was settled, and it went on behind the settle
+pub record HasSettled {C : Type 0} (b : BoardView) (v : LocksView) (verdict : Option Errno) (s t : Seat C) : Type 0 where
+  pub same : t ≡ record s { walk = t.walk; replies = t.replies; decided = t.decided; cut = cut_at.No }
+  pub owed : owed_by t.decided t.replies ≡ reply_by verdict (Some s.transfer) s.replies.got ∷ []
+  pub emptied : got_by t.decided t.replies ≡ []
+  pub walk : walk_left b t ≡ behind_of v (walk_left b s) Passed
+  pub course : t.walk.course ≡ s.walk.course
+
+-- the journal has room for the settle that comes next, if one does
+pub record MaySettle {C : Type 0} (b : BoardView) (v : LocksView) (journal : JournalView) (s : Seat C) : Type 0 where
+  pub counted : IsCounted s
+  pub room : (verdict : Option Errno) → next_of v (walk_left b s) ≡ Some (Settle verdict)
+      → (0 < journal.room) × (length (bytes_given (reply_by verdict (Some s.transfer) s.replies.got)) ≤ journal.room_bytes)
+
+-- the settle that comes next was made, with its entry, or none comes next
+pub record IsSettledIn {C : Type 0} (b : BoardView) (v : LocksView) (verdict : Option Errno) (old new : JournalView) (s t : Seat C) : Type 0 where
+  pub next : next_of v (walk_left b s) ≡ Some (Settle verdict)
+  pub settled : HasSettled b v verdict s t
+  pub entries : new.entries ≡ old.entries ++ entry.Settle s.number (reply_by verdict (Some s.transfer) s.replies.got) s.cut ∷ []
+  pub room : new.room + 1 ≡ old.room
+  pub room_bytes : new.room_bytes + length (bytes_given (reply_by verdict (Some s.transfer) s.replies.got)) ≡ old.room_bytes
+
+-- a refused transfer, whose lone settle comes next: its error may be handed over, and the next transfer loaded
+pub record MayRefuse {C S : Type 0} (c : CallerGhosts C S) (b : BoardView) (roots : List ℕ) (errno : Errno) (journal : JournalView) (s : Seat C) : Type 0 where
+  pub seated : IsSeated c b roots s
+  pub lone : walk_left b s ≡ Then (Settle (Some errno)) plain (λ o. Ends)
+  pub asked : c.asked (c.script s.caller) (c.taken s.caller) ≡ Some s.transfer
+  pub wired : (rs : List Reply) (t : TransferView) → c.asked (c.script s.caller) rs ≡ Some t → t.bus < buses b → HasRoot roots (root_of b t.bus)
+  pub room : 0 < journal.room
+
+-- it was settled, with its entry, its error handed over, and the next one loaded
+pub record IsRefusedIn {C S : Type 0} (c : CallerGhosts C S) (b : BoardView) (roots : List ℕ) (errno : Errno) (old new : JournalView) (s t : Seat C) : Type 0 where
+  pub ended : HasEnded c b (reply.Err errno) cut_at.No s t
+  pub seated : IsSeated c b roots t
+  pub entries : new.entries ≡ old.entries ++ entry.Settle s.number (reply.Err errno) s.cut ∷ []
+  pub room : new.room + 1 ≡ old.room
+  pub room_bytes : new.room_bytes ≡ old.room_bytes
+
+-- the cut that a line step tells
+abbrev pub cut_of_line : Bool → Cut
+cut_of_line failed = if failed then cut_at.Way else cut_at.No
+
+-- the message that comes next may be sent over the port of its root: one of the caller's own is left
+pub record MaySpeak {C : Type 0} (b : BoardView) (tells : Bool) (next : Sending) (sockets : List Socket) (s : Seat C) : Type 0 where
+  pub may : (g : Grant) → MaySend b tells (record { transfer = s.transfer; sent = s.sent; written = s.written; grant = g }) next sockets s.port
+  pub on_bus : next.purpose ≡ purpose.Call → s.transfer.bus < buses b
+  pub more : next.purpose ≡ purpose.Call → s.sent < length s.transfer.msgs
+  pub wrote : s.written ≡ sum_by written_of (take s.sent s.transfer.msgs)
+
+-- it was sent there, and no other port is another
+pub record HasSpoken {C : Type 0} (b : BoardView) (tells : Bool) (next : Sending) (old new : List Socket) (bytes : List ℕ) (sent : Sent) (s : Seat C) : Type 0 where
+  pub before : Socket
+  pub after : Socket
+  pub here : slice_get old s.port ≡ Some before
+  pub set_is : new ≡ set old s.port after
+  pub sent_on : SentOn b tells s.transfer next.purpose (message_for s.transfer s.sent next.purpose next.control sent.addr) (ends_with next.purpose next.part next.parts) before after bytes sent.heard sent.end
+  pub addr : sent.addr ≡ (message_for s.transfer s.sent next.purpose next.control sent.addr).addr
+  pub chip : IsChipAddress b next.purpose sent.addr
+  pub gives : GivesBytes b s.transfer s.sent next sent.addr sent.reading bytes sent.end
+  pub whole : next.purpose ≡ purpose.Call → IsTransfer s.transfer.msgs s.transfer.out

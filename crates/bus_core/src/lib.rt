@@ -1,24 +1,27 @@
-//! The core of the bus for one caller: it steps a caller's transfers over the ports of a board's roots, and keeps the
-//! journal of what it does.
+//! The core of the bus: callers step through their transfers, one step of one caller at a time, over the ports of a
+//! board's roots, with its lock words and the journal of all that they do.
 //!
-//! A step takes or frees a lock, sends a message with the settle that it decides, or settles a transfer that is
-//! refused. What comes next is told by the walk of `mux_plan`.
-//!
-//! Its contract: on a board without a gpio mux, for a fair caller that counts no read, `finish` leaves a core whose
-//! journal is stepwise by `bus_spec`'s rules, whatever calls on the ports fail, with the marks of the buses, the world
-//! and log of each port that tells, and the caller's replies, as that journal tells. Definitions: `specs/Cores.antt`
-//! (what the core keeps), `specs/Seats.antt` (where its caller stands), `specs/Sends.antt` and `specs/Talks.antt` (one
-//! message of a walk, and over a port). Standard: Linux i2c-topology.
+//! Its contract: after every step, whatever calls on the ports fail, the journal is stepwise by `bus_spec`'s rules, and
+//! the lock words, the worlds and logs of ports that tell, and the callers' replies are as that journal tells; `ready`
+//! is the least caller that isn't blocked, `finish` ends with every script used up, and no step takes memory.
+//! Definitions: `specs/Kept.antt` (what is kept), `specs/Places.antt` (the parts as plain lists), `specs/Opening.antt`
+//! (what never changes), and the records of `core_laws`. Standard: Linux i2c-topology.
 #![tactic(auto)]
 
-mod converse;
-mod message;
+mod marks;
+mod opening;
 mod parts;
+mod readiness;
+mod replies;
+mod running;
 mod seat;
-mod sending;
-mod stepper;
+mod seats;
 mod steps;
 
-pub use message::{Message, Told, send_message};
-pub use parts::Parts;
-pub use stepper::{Room, finish, open};
+pub use opening::open;
+pub use parts::CoreParts;
+pub use readiness::ready;
+pub use replies::{Decided, Replies};
+pub use running::{advance, finish, follow};
+pub use seat::Seat;
+pub use steps::{StepAnswer, step};

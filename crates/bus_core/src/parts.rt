@@ -1,21 +1,28 @@
 use crate::seat::Seat;
 use bus_journal::Journal;
-use i2c_base::{Caller, MuxId};
+use i2c_base::{ByteList, SegId};
 use i2c_board::Accepted;
-use i2c_outside::Port;
+use mux_plan::Dues;
+use seg_locks::Locks;
+use std::snapshot::Snapshot;
 
-/// The parts of the core: the board, a port for each root in order, the caller and where it stands, the mark of each
-/// bus, and the journal so far, the oldest entry first.
+/// The parts of the core.
 #[derive(Drop)]
-pub struct Parts<'b, P: Port, C: Caller> {
+pub struct CoreParts<'b, P, C> {
     pub board: &'b Accepted,
-    pub ports: Vec<P>,
-    pub caller: C,
-    pub seat: Seat,
-    /// The mux on each bus that may have been left open.
-    pub marks: Vec<Option<MuxId>>,
+    /// The ports, each with its root.
+    pub ports: Vec<(SegId, P)>,
+    /// The callers, each with its number and where it stands.
+    pub seats: Vec<Seat<C>>,
+    /// The place of the caller of each number among the seats.
+    pub places: Vec<Option<u8>>,
+    pub locks: Locks,
     pub journal: Journal,
-    /// At most so many steps are made. The journal has room for two entries of each, and for two bytes: a message costs
-    /// a step for each byte that it may have, and its bytes may stand once more in the settle of its transfer.
-    pub limit: u32,
+    /// The bytes of the message that was sent last, and the marks that it changed.
+    pub bytes: ByteList,
+    pub dues: Dues,
+    /// The ports as they were when the core was opened. It takes no room.
+    pub start: Snapshot<Vec<(SegId, P)>>,
+    /// Room for the callers when the core is taken apart.
+    pub emptied: Vec<(u8, C)>,
 }

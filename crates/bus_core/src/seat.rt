@@ -1,55 +1,57 @@
-ghost use Rattle.std.specs.Prelude.{◌≡◌, ◌+◌, ◌<◌, ◌≤◌, true, false, [], length, take, drop, None, Some};
+ghost use Rattle.std.specs.Prelude.{◌≡◌, ◌≢◌, ◌+◌, ◌<◌, ◌≤◌, ℕ, true, false, List, [], ◌∷◌, ◌++◌, length, take, sum_by, None, Some, slice_get, if◌then◌else◌};
 ghost use Rattle.i2c_base.specs.declared.reply.Cut.TheVariants as cut_at;
+ghost use Rattle.i2c_base.specs.declared.entry.Purpose.TheVariants as purpose;
+ghost use Rattle.std.specs.List.{list_any};
 ghost use Rattle.i2c_base.specs.Board.{BoardView};
+ghost use Rattle.i2c_base.specs.declared.reply.Reply.{Reply};
 ghost use Rattle.i2c_base.specs.Fitting.{Fits};
-ghost use Rattle.i2c_base.specs.Transfer.{written_of};
+ghost use Rattle.i2c_base.specs.Need.{Covers};
+ghost use Rattle.i2c_base.specs.Transfer.{IsTransfer, TransferView, written_of, is_read};
+ghost use Rattle.i2c_spec.specs.Messages.{messages_of};
 ghost use Rattle.i2c_spec.specs.Tree.{buses, root_of};
+ghost use Rattle.bus_spec.specs.Grammar.{is_over, first_note, seen, walk_for};
 ghost use Rattle.bus_spec.specs.Readings.{message_cut};
 ghost use Rattle.bus_spec.specs.Stepwise.{reply_by};
-ghost use Rattle.i2c_spec.specs.Messages.{messages_of};
 ghost use Rattle.bus_spec.specs.Walk.{Ends, Passed};
-ghost use Rattle.bus_spec.specs.Slots.{Slots};
-ghost use Rattle.bus_spec.specs.Grammar.{walk_by, is_over, seen, rest_of};
+ghost use Rattle.bus_message.specs.Calls.{HasNext};
+ghost use Rattle.core_laws.specs.Sends.{is_call_through};
+ghost use Rattle.core_laws.specs.Steps.{next_of, behind_of};
 ghost use Rattle.mux_plan.specs.declared.task.Action.TheVariants as action;
-ghost use Rattle.mux_plan.specs.Plans.{slots_of, slots_after, TellsMarks, action_of, outcome_of};
-ghost use Rattle.bus_core.specs.Seats.{IsPartway, walk_left, act_next, note_next, got_with};
-ghost use Rattle.bus_core.specs.Sends.{call_message, is_call_through};
+ghost use Rattle.mux_plan.specs.Marks.{dues_after};
+ghost use Rattle.mux_plan.specs.Plans.{slots_of, action_of, outcome_of};
+ghost use Rattle.bus_core.specs.Kept.{IsSeated, roots_of};
+ghost use Rattle.bus_core.specs.Opening.{HasRoot};
+ghost use Rattle.bus_core.specs.Places.{walk_left, owed_by, got_by};
+ghost use Rattle.bus_core.specs.Replies.{reply_decided};
+ghost use Rattle.bus_core.specs.Seats.{MayEnd, HasEnded, MayHear, got_heard};
 
-use crate::message::Message;
-use crate::sending::{Sending, Sent};
-use i2c_base::{Bytes, Cut, End, Errno, Kind, Msg, MuxId, Purpose, Reply, SegId, Transfer};
+use crate::replies::{Decided, Replies};
+use bus_message::{CallOf, Sending, Sent};
+use i2c_base::{Caller, Cut, End, Errno, Grant, Kind, Msg, Purpose, Reply, SegId, Transfer};
 use i2c_board::Accepted;
-use i2c_spec::done_with;
-use mux_plan::{Action, Outcome, Walk};
+use i2c_outside::Port;
+use mux_plan::{Action, Dues, Outcome, Walk};
+use seg_locks::Locks;
 
-/// Where a caller stands on the bus.
+/// A caller, and where it stands on the bus.
 #[derive(Drop)]
-pub struct Seat {
+pub struct Seat<C> {
+    pub number: u8,
+    pub caller: C,
     /// The transfer under way, or the last one.
     pub transfer: Transfer,
     /// What is left of its walk.
     pub walk: Walk,
-    /// The root of its bus.
-    pub root: SegId,
-    /// Its reply is settled.
-    pub settled: bool,
+    /// The place of its root's port.
+    pub port: usize,
     /// So many of its messages were sent and went through, and so many bytes of its writes with them.
     pub sent: u8,
     pub written: u16,
-    /// What its reads gave.
-    pub got: Bytes,
+    pub replies: Replies,
+    /// Which reply it was settled with; none until then.
+    pub decided: Option<Decided>,
     /// Where a failed call on the port cut it off, as the caller's last entry tells.
     pub cut: Cut,
-}
-
-// So many bytes from a place on.
-fn part(bytes: &[u8], start: usize, len: usize) -> &[u8]
-    requires { start + len ≤ length bytes.now }
-    ensures { result.now ≡ take len (drop start bytes.now) }
-{
-    let (_, behind) = bytes.split_at(start);
-    let (part, _) = behind.split_at(len);
-    part
 }
 
 // How many bytes a message writes.
@@ -59,19 +61,16 @@ fn written_len(msg: &Msg) -> u16
     if msg.is_read() { 0 } else { msg.len }
 }
 
-// What was read, with what one more message gave, if it reads.
-fn hear(got: &mut Bytes, reading: bool, bytes: &[u8])
-    requires { reading ≡ true → length got.old + length bytes.now ≤ 4096 }
-    ensures { got.new ≡ got_with got.old reading bytes.now }
+// One of its messages reads.
+fn reads(transfer: &Transfer) -> bool
+    ensures { result ≡ list_any is_read transfer.now.msgs }
 {
-    if reading {
-        got.extend(bytes);
-    }
+    transfer.msgs().iter().any(Msg::is_read)
 }
 
-/// The cut that a message tells for a settle directly behind it: where the transfer was cut off by a failed call on
-/// the port, on its way or in its own messages.
-pub fn cut_by(purpose: Purpose, part: u8, end: End) -> Cut
+// The cut that a message tells for a settle directly behind it: where the transfer was cut off by a failed call on
+// the port, on its way or in its own messages.
+fn cut_by(purpose: Purpose, part: u8, end: End) -> Cut
     requires { 0 < part }
     ensures { result ≡ message_cut purpose part end }
 {
@@ -85,160 +84,240 @@ pub fn cut_by(purpose: Purpose, part: u8, end: End) -> Cut
     }
 }
 
-impl Seat {
-    /// A seat between two transfers.
-    pub fn resting() -> Self
+// The place of the port of a root; 0 where it has none.
+fn port_of<P: Port>(ports: &[(SegId, P)], root: SegId) -> usize
+    ensures { HasRoot (roots_of ports.now) root → slice_get (roots_of ports.now) result ≡ Some root }
+{
+    for place in 0..ports.len() {
+        if ports[place].0 == root {
+            return place;
+        }
+    }
+    0
+}
+
+impl<C: Caller> Seat<C> {
+    /// A seat of a caller that has made no step: nothing is loaded.
+    pub fn resting(number: u8, caller: C) -> Self
+        ensures number { result.number ≡ number }
+        ensures caller { result.caller ≡ caller }
         ensures over { (b : BoardView) → walk_left b result ≡ Ends }
-        ensures settled { result.settled ≡ true }
-        ensures root { result.root ≡ 0 }
-        ensures count { result.walk.course.count ≡ 0 }
-        ensures empty { result.transfer.msgs ≡ [] }
-        ensures cut { result.cut ≡ cut_at.No }
+        ensures counted { length (messages_of result.transfer) ≡ result.walk.course.count }
+        ensures fresh { (result.transfer.msgs ≡ []) × (result.sent ≡ 0) × (result.written ≡ 0) × (result.replies.got ≡ []) × (result.decided ≡ None) × (result.cut ≡ cut_at.No) }
     {
         Seat {
+            number,
+            caller,
             transfer: Transfer::new(0, Kind::Plain, false),
             walk: Walk::ended(),
-            root: SegId(0),
-            settled: true,
+            port: 0,
             sent: 0,
             written: 0,
-            got: Bytes::new(),
+            replies: Replies::new(),
+            decided: None,
             cut: Cut::No,
         }
     }
 
-    /// The seat for a transfer that isn't refused: its walk begins.
-    pub fn open(board: &Accepted, transfer: Transfer, cut: Cut) -> Self
-        requires { transfer.bus < buses board.now }
-        ensures fields { result ≡ record { transfer = transfer; walk = result.walk; root = root_of board.now transfer.bus; settled = false; sent = 0; written = 0; got = []; cut = cut } }
-        ensures walk { walk_left board.now result ≡ walk_by board.now transfer None }
-        ensures count { result.walk.course.count ≡ length transfer.msgs }
-    {
-        let walk = Walk::open(board, &transfer);
-        let root = board.board().root(SegId(transfer.bus()));
-        Seat {
-            transfer,
-            walk,
-            root,
-            settled: false,
-            sent: 0,
-            written: 0,
-            got: Bytes::new(),
-            cut,
-        }
-    }
-
-    /// The next message of its transfer.
-    pub fn message(&self) -> Message<'_>
-        requires partway { IsPartway self.now.transfer self.now.sent self.now.written self.now.got }
-        requires more { self.now.sent < length self.now.transfer.msgs }
-        ensures value { result ≡ call_message self.now }
-        ensures some { result.reading ≡ true → 0 < result.len }
-        ensures short_read { result.len ≤ 512 }
-        ensures short_write { length result.bytes ≤ result.len }
-    {
-        let msg = self.transfer.msgs()[usize::from(self.sent)];
-        let len = written_len(&msg);
-        Message {
-            addr: msg.addr,
-            reading: msg.is_read(),
-            len: msg.len,
-            bytes: part(
-                self.transfer.out(),
-                usize::from(self.written),
-                usize::from(len),
-            ),
-        }
-    }
-
-    /// Counts its next message, which went through and gave these bytes.
-    pub fn count(&mut self, bytes: &[u8])
-        requires partway { IsPartway self.old.transfer self.old.sent self.old.written self.old.got }
-        requires more { self.old.sent < length self.old.transfer.msgs }
-        requires read { (call_message self.old).reading ≡ true → length bytes.now ≡ (call_message self.old).len }
-        ensures sent { self.new.sent ≡ self.old.sent + 1 }
-        ensures got { self.new.got ≡ got_with self.old.got (call_message self.old).reading bytes.now }
-        ensures same { self.new ≡ record self.old { sent = self.new.sent; written = self.new.written; got = self.new.got } }
-        ensures partway { IsPartway self.new.transfer self.new.sent self.new.written self.new.got }
-    {
-        let msg = self.transfer.msgs()[usize::from(self.sent)];
-        let wrote = written_len(&msg);
-        hear(&mut self.got, msg.is_read(), bytes);
-        self.written += wrote;
-        self.sent += 1;
-    }
-
-    /// The reply that its settle decides.
-    pub fn reply(&self, verdict: Option<Errno>) -> Reply
-        requires { verdict ≡ None → IsPartway self.now.transfer (length self.now.transfer.msgs) self.now.written self.now.got }
-        ensures value { result ≡ reply_by verdict (Some self.now.transfer) self.now.got }
-        ensures fits { Fits self.now.transfer result }
-    {
-        match verdict {
-            Some(errno) => Reply::Err(errno),
-            None => done_with(&self.transfer, self.got.as_slice()),
-        }
-    }
-
-    /// The place of its root's port among the ports.
-    pub fn place_of_port(&self) -> usize
-        ensures { result ≡ self.now.root }
-    {
-        usize::from(self.root.0)
-    }
-
-    /// Counts a message of its walk, of which this came: one of the caller's that went through.
-    pub fn hear(&mut self, next: &Sending, sent: &Sent)
-        requires part { 0 < next.now.part }
-        requires partway { is_call_through next.now.purpose sent.now.end ≡ true → IsPartway self.old.transfer self.old.sent self.old.written self.old.got }
-        requires more { is_call_through next.now.purpose sent.now.end ≡ true → self.old.sent < length self.old.transfer.msgs }
-        requires read { is_call_through next.now.purpose sent.now.end ≡ true → (call_message self.old).reading ≡ true → length sent.now.bytes ≡ (call_message self.old).len }
-        ensures same { self.new ≡ record self.old { sent = self.new.sent; written = self.new.written; got = self.new.got; cut = message_cut next.now.purpose next.now.part sent.now.end } }
-        ensures sent { is_call_through next.now.purpose sent.now.end ≡ true → self.new.sent ≡ self.old.sent + 1 }
-        ensures got { is_call_through next.now.purpose sent.now.end ≡ true → self.new.got ≡ got_with self.old.got (call_message self.old).reading sent.now.bytes }
-        ensures partway { is_call_through next.now.purpose sent.now.end ≡ true → IsPartway self.new.transfer self.new.sent self.new.written self.new.got }
-        ensures otherwise { is_call_through next.now.purpose sent.now.end ≡ false → (self.new.sent ≡ self.old.sent) × (self.new.written ≡ self.old.written) × (self.new.got ≡ self.old.got) }
-    {
-        self.cut = cut_by(next.purpose, next.part, sent.end);
-        if next.went_through(sent.end) {
-            self.count(sent.bytes.as_slice());
-        }
-    }
-
     /// The next action of its walk, where each bus has this mark: Done exactly where the walk is over.
-    pub fn next(&self, board: &Accepted, marks: &Vec<Option<MuxId>>) -> Action
+    pub fn next(&self, board: &Accepted, locks: &Locks) -> Action
         requires { length (messages_of self.now.transfer) ≡ self.now.walk.course.count }
-        ensures first { result ≡ action_of (act_next board.now marks.now.items self.now) }
+        ensures first { result ≡ action_of (next_of locks.now (walk_left board.now self.now)) }
         ensures over { result ≡ action.Done → is_over (walk_left board.now self.now) ≡ true }
     {
-        self.walk.next(board.board(), marks.as_slice())
+        self.walk.next(board.board(), locks.marks())
     }
 
-    /// Goes on in its walk behind that action, which had this outcome; so do the marks.
-    pub fn go_on(&mut self, board: &Accepted, marks: &mut Vec<Option<MuxId>>, outcome: &Outcome)
+    /// Goes on in its walk behind that action, which had this outcome, and tells the marks that it changes.
+    pub fn go_on(&mut self, board: &Accepted, locks: &Locks, outcome: &Outcome<'_>, dues: &mut Dues)
         requires { length (messages_of self.old.transfer) ≡ self.old.walk.course.count }
-        ensures walk { walk_left board.now self.new ≡ rest_of (seen (slots_of marks.old.items) (walk_left board.now self.old)) (outcome_of outcome.now) }
+        ensures walk { walk_left board.now self.new ≡ behind_of locks.now (walk_left board.now self.old) (outcome_of outcome.now) }
         ensures same { self.new ≡ record self.old { walk = self.new.walk } }
         ensures course { self.new.walk.course ≡ self.old.walk.course }
-        ensures count { length marks.new.items ≡ length marks.old.items }
-        ensures told { (v : Slots) → TellsMarks v marks.old.items
-            → TellsMarks (slots_after (act_next board.now marks.old.items self.old) (note_next board.now marks.old.items self.old) (outcome_of outcome.now) v) marks.new.items }
+        ensures dues { dues.new.items ≡ dues_after (next_of locks.now (walk_left board.now self.old)) (first_note (seen (slots_of locks.now.marks) (walk_left board.now self.old))) (outcome_of outcome.now) }
     {
         self.walk
-            .report(board.board(), marks.as_mut_slice(), outcome);
+            .report(board.board(), locks.marks(), outcome, dues);
     }
 
     /// Goes on in its walk behind a lock or a settle, which tell no cut.
-    pub fn pass(&mut self, board: &Accepted, marks: &mut Vec<Option<MuxId>>)
+    pub fn pass(&mut self, board: &Accepted, locks: &Locks, dues: &mut Dues)
         requires { length (messages_of self.old.transfer) ≡ self.old.walk.course.count }
-        ensures walk { walk_left board.now self.new ≡ rest_of (seen (slots_of marks.old.items) (walk_left board.now self.old)) Passed }
+        ensures walk { walk_left board.now self.new ≡ behind_of locks.now (walk_left board.now self.old) Passed }
         ensures same { self.new ≡ record self.old { walk = self.new.walk; cut = cut_at.No } }
         ensures course { self.new.walk.course ≡ self.old.walk.course }
-        ensures count { length marks.new.items ≡ length marks.old.items }
-        ensures told { (v : Slots) → TellsMarks v marks.old.items
-            → TellsMarks (slots_after (act_next board.now marks.old.items self.old) (note_next board.now marks.old.items self.old) Passed v) marks.new.items }
     {
-        self.go_on(board, marks, &Outcome::Passed);
+        self.go_on(board, locks, &Outcome::Passed, dues);
         self.cut = Cut::No;
+    }
+
+    /// Its transfer, as far as the next message goes.
+    pub fn call(&self, board: &Accepted) -> CallOf<'_>
+        requires on_bus { self.now.transfer.bus < buses board.now }
+        requires more { self.now.sent < length self.now.transfer.msgs }
+        requires wrote { self.now.written ≡ sum_by written_of (take self.now.sent self.now.transfer.msgs) }
+        ensures value { result ≡ record { transfer = self.now.transfer; sent = self.now.sent; written = self.now.written; grant = result.grant } }
+        ensures next { HasNext board.now result }
+        ensures whole { IsTransfer self.now.transfer.msgs self.now.transfer.out }
+    {
+        let msg = self.transfer.msgs()[usize::from(self.sent)];
+        let transfer = &self.transfer;
+        let grant = board
+            .board()
+            .grant(SegId(transfer.bus()), msg.addr, transfer.force());
+        CallOf {
+            transfer,
+            sent: self.sent,
+            written: self.written,
+            grant,
+        }
+    }
+
+    /// Its transfer beside a control message, which is none of its own.
+    pub fn aside(&self) -> CallOf<'_>
+        ensures { result ≡ record { transfer = self.now.transfer; sent = self.now.sent; written = self.now.written; grant = result.grant } }
+    {
+        CallOf {
+            transfer: &self.transfer,
+            sent: self.sent,
+            written: self.written,
+            grant: Grant::Nobody,
+        }
+    }
+
+    /// Its transfer, as far as the message goes that comes next of its walk.
+    pub fn call_for(&self, board: &Accepted, next: &Sending) -> CallOf<'_>
+        requires on_bus { next.now.purpose ≡ purpose.Call → self.now.transfer.bus < buses board.now }
+        requires more { next.now.purpose ≡ purpose.Call → self.now.sent < length self.now.transfer.msgs }
+        requires wrote { self.now.written ≡ sum_by written_of (take self.now.sent self.now.transfer.msgs) }
+        ensures value { result ≡ record { transfer = self.now.transfer; sent = self.now.sent; written = self.now.written; grant = result.grant } }
+        ensures next { next.now.purpose ≡ purpose.Call → HasNext board.now result }
+        ensures whole { next.now.purpose ≡ purpose.Call → IsTransfer self.now.transfer.msgs self.now.transfer.out }
+    {
+        match next.purpose {
+            Purpose::Call => self.call(board),
+            Purpose::Control(_) => self.aside(),
+        }
+    }
+
+    /// Counts its next message, which went through.
+    pub fn count(&mut self)
+        requires more { self.old.sent < length self.old.transfer.msgs }
+        requires wrote { self.old.written ≡ sum_by written_of (take self.old.sent self.old.transfer.msgs) }
+        ensures sent { self.new.sent ≡ self.old.sent + 1 }
+        ensures wrote { self.new.written ≡ sum_by written_of (take self.new.sent self.new.transfer.msgs) }
+        ensures same { self.new ≡ record self.old { sent = self.new.sent; written = self.new.written } }
+    {
+        let msg = self.transfer.msgs()[usize::from(self.sent)];
+        self.written += written_len(&msg);
+        self.sent += 1;
+    }
+
+    /// Keeps what a message of the caller's own has read.
+    pub fn gather(&mut self, why: Purpose, reading: bool, bytes: &[u8])
+        requires { why ≡ purpose.Call → reading ≡ true → length self.old.replies.got + length bytes.now ≤ 4096 }
+        ensures got { self.new.replies ≡ record self.old.replies { got = got_heard why reading bytes.now self.old.replies.got } }
+        ensures same { self.new ≡ record self.old { replies = self.new.replies } }
+    {
+        match why {
+            Purpose::Call => {
+                if reading {
+                    self.replies.extend(bytes);
+                }
+            }
+            Purpose::Control(_) => {}
+        }
+    }
+
+    /// Counts a message of its walk, of which this came: one of the caller's that went through.
+    pub fn hear(&mut self, next: &Sending, sent: &Sent, bytes: &[u8])
+        requires { MayHear next.now sent.now.reading bytes.now sent.now.end self.old }
+        ensures gone { self.new.sent ≡ (if is_call_through next.now.purpose sent.now.end then self.old.sent + 1 else self.old.sent) }
+        ensures got { self.new.replies ≡ record self.old.replies { got = got_heard next.now.purpose sent.now.reading bytes.now self.old.replies.got } }
+        ensures wrote { self.new.written ≡ sum_by written_of (take self.new.sent self.new.transfer.msgs) }
+        ensures same { self.new ≡ record self.old { sent = self.new.sent; written = self.new.written; replies = self.new.replies; cut = message_cut next.now.purpose next.now.part sent.now.end } }
+    {
+        self.cut = cut_by(next.purpose, next.part, sent.end);
+        self.gather(next.purpose, sent.reading, bytes);
+        if next.went_through(sent.end) {
+            self.count();
+        }
+    }
+
+    /// Decides the reply: an error, or what the reads gave.
+    pub fn decide(&mut self, verdict: Option<Errno>) -> Decided
+        ensures reply { reply_decided result self.new.replies ≡ reply_by verdict (Some self.old.transfer) self.old.replies.got }
+        ensures same { self.new ≡ record self.old { replies = self.new.replies; decided = Some result } }
+    {
+        let decided = match verdict {
+            Some(errno) => {
+                self.replies.fail(errno);
+                Decided::Failed
+            }
+            None => {
+                if reads(&self.transfer) {
+                    Decided::Read
+                } else {
+                    Decided::Done
+                }
+            }
+        };
+        self.decided = Some(decided);
+        decided
+    }
+
+    /// Hands the reply that its transfer was settled with to the caller.
+    pub fn hand(&mut self, decided: Decided)
+        requires fits { (C.asked (C.script self.old.caller) (C.taken self.old.caller) ≡ Some self.old.transfer) × Fits self.old.transfer (reply_decided decided self.old.replies) }
+        requires room { Covers (C.spare self.old.caller) (C.owed (C.script self.old.caller) (C.taken self.old.caller)) }
+        ensures same { self.new ≡ record self.old { caller = self.new.caller } }
+        ensures script { C.script self.new.caller ≡ C.script self.old.caller }
+        ensures taken { C.taken self.new.caller ≡ C.taken self.old.caller ++ reply_decided decided self.old.replies ∷ [] }
+        ensures room { Covers (C.spare self.new.caller) (C.owed (C.script self.new.caller) (C.taken self.new.caller)) }
+    {
+        self.caller.take(self.replies.reply(decided));
+    }
+
+    /// Loads the caller's next transfer, where it has one. Its walk is over before.
+    pub fn load<P: Port>(&mut self, board: &Accepted, ports: &[(SegId, P)])
+        requires over { is_over (walk_left board.now self.old) ≡ true }
+        requires counted { length (messages_of self.old.transfer) ≡ self.old.walk.course.count }
+        ensures some { (t : TransferView) → C.asked (C.script self.old.caller) (C.taken self.old.caller) ≡ Some t → (self.new.transfer ≡ t) × (walk_left board.now self.new ≡ walk_for board.now t) }
+        ensures none { C.asked (C.script self.old.caller) (C.taken self.old.caller) ≡ None → is_over (walk_left board.now self.new) ≡ true }
+        ensures stays { C.asked (C.script self.old.caller) (C.taken self.old.caller) ≡ None → self.new.transfer ≡ self.old.transfer }
+        ensures same { self.new ≡ record self.old { transfer = self.new.transfer; walk = self.new.walk; port = self.new.port; sent = 0; written = 0; replies = self.new.replies; decided = None } }
+        ensures cleared { self.new.replies.got ≡ [] }
+        ensures counted { length (messages_of self.new.transfer) ≡ self.new.walk.course.count }
+        ensures plugged { HasRoot (roots_of ports.now) (root_of board.now self.new.transfer.bus) → self.new.transfer.bus < buses board.now → is_over (walk_left board.now self.new) ≡ false
+            → slice_get (roots_of ports.now) self.new.port ≡ Some (root_of board.now self.new.transfer.bus) }
+    {
+        self.sent = 0;
+        self.written = 0;
+        self.replies.clear();
+        self.decided = None;
+        if self.caller.refill(&mut self.transfer) {
+            self.walk.restart(board, &self.transfer);
+            let bus = self.transfer.bus();
+            if bus < board.board().buses() {
+                self.port = port_of(ports, board.board().root(SegId(bus)));
+            }
+        }
+    }
+
+    /// Where its walk is over: hands the reply over, and loads the caller's next transfer.
+    pub fn end<P: Port>(&mut self, board: &Accepted, ports: &[(SegId, P)])
+        requires may { MayEnd C.Caller board.now (roots_of ports.now) self.old }
+        ensures on { is_over (walk_left board.now self.old) ≡ false → self.new ≡ self.old }
+        ensures number { self.new.number ≡ self.old.number }
+        ensures ended { is_over (walk_left board.now self.old) ≡ true → (r : Reply) → owed_by self.old.decided self.old.replies ≡ r ∷ [] → HasEnded C.Caller board.now r self.old.cut self.old self.new }
+        ensures seated { IsSeated C.Caller board.now (roots_of ports.now) self.new }
+    {
+        if !self.walk.is_over() {
+            return;
+        }
+        if let Some(decided) = self.decided {
+            self.hand(decided);
+            self.load(board, ports);
+        }
     }
 }

@@ -1,114 +1,136 @@
-use Rattle.std.proofs.Common.{◌+◌, ◌*◌, ◌∙◌, ap, length, refl, arith}
-use Rattle.std.specs.Prelude.{map}
-use Rattle.i2c_spec.specs.Messages.{MessageView}
-use Rattle.bus_spec.specs.Walk.{Send, Sent}
-use Rattle.mux_plan.specs.Plans.{slots_of}
-use Rattle.bus_core.specs.Sends.{message_for, call_message, is_call_through}
-use Rattle.bus_core.specs.Views.{view_of}
+use Rattle.std.proofs.Common.{◌≡◌, ◌≤◌, ◌<◌, ◌+◌, ◌++◌, [], ◌∷◌, ℕ, List, length, refl, sym, ◌∙◌, ap, subst}
+use Rattle.std.specs.Prelude.{slice_get}
+use Rattle.i2c_base.specs.Limits.{MOST_CALLERS}
+use Rattle.i2c_base.specs.declared.entry.Entry.{Entry}
+use Rattle.i2c_base.specs.declared.entry.Entry.TheVariants as entry
+use Rattle.mux_plan.specs.declared.marks.Due.{Due}
+use Rattle.mux_plan.specs.Marks.{applied}
+use Rattle.bus_spec.specs.Walk as walk
+use Rattle.seg_locks.specs.Locks.{LocksView}
+use Rattle.bus_core.specs.Marks.{AreHeld}
+use Rattle.bus_core.specs.Seats.{HasHeard, MayHear, MaySettle, dues_of}
 use Rattle.bus_core.specs.declared.seat.Seat.{Seat}
-use Rattle.bus_core.proofs.CoreSteps.{call-next, part-some, say-kept, same_sent, call-purpose, message-len}
-use Rattle.bus_core.proofs.Budgets.{room-ahead, bytes-ahead, got-few, within-said}
+use Rattle.bus_core.proofs.Kept.{number-small}
+use Rattle.bus_core.proofs.Converse.{may-speak, may-hear, message-room, message-bytes, dues-own}
+use Rattle.bus_core.proofs.Conversed.{may-settle, conversed}
+use Rattle.bus_core.proofs.Stepped.{seat-is, seat-now, set-at}
 use Rattle.bus_core.proofs.steps.converse.Goals as goal
 
-pub send-sent-requires-clause-on_bus : goal.send-sent-requires-clause-on_bus
-send-sent-requires-clause-on_bus g c κs within =
-    λ call.
-    (call-next g.P.Port.tells g.C.Caller.asked g.C.Caller.left g.C.Caller.board (view_of g.P.Port.world g.P.Port.log g.C.Caller.script g.C.Caller.taken c.args.parts.now) c.requires.kept
-    c.requires.next.0 c.requires.next.1 c.requires.next.2 c.args.next.now c.requires.next.3 call).2
-
-pub send-sent-requires-clause-partway : goal.send-sent-requires-clause-partway
-send-sent-requires-clause-partway g c κs within =
-    λ call.
-    (call-next g.P.Port.tells g.C.Caller.asked g.C.Caller.left g.C.Caller.board (view_of g.P.Port.world g.P.Port.log g.C.Caller.script g.C.Caller.taken c.args.parts.now) c.requires.kept
-    c.requires.next.0 c.requires.next.1 c.requires.next.2 c.args.next.now c.requires.next.3 call).0
-
-pub send-sent-requires-clause-more : goal.send-sent-requires-clause-more
-send-sent-requires-clause-more g c κs within =
-    λ call.
-    (call-next g.P.Port.tells g.C.Caller.asked g.C.Caller.left g.C.Caller.board (view_of g.P.Port.world g.P.Port.log g.C.Caller.script g.C.Caller.taken c.args.parts.now) c.requires.kept
-    c.requires.next.0 c.requires.next.1 c.requires.next.2 c.args.next.now c.requires.next.3 call).1
+pub say-caller-requires-after_bounds : goal.say-caller-requires-after_bounds
+say-caller-requires-after_bounds g c κs within =
+    let next = c.requires.next in
+    record {
+      seat = next.comes.seat;
+      here = next.comes.here;
+      is_so = may-speak g.P.Port g.C.Caller c.args.parts.now c.requires.kept c.args.place next.comes.seat next.comes.here next.job next.left c.args.next.now next.comes.next next.of;
+    }
 
 pub push-requires-clause-room : goal.push-requires-clause-room
 push-requires-clause-room g c =
-    let parts = c.args.parts.now in
-    room-ahead parts.board.now parts.limit c.requires.within.0 (g.C.Caller.left (g.C.Caller.script parts.caller) (g.C.Caller.taken parts.caller)) parts.seat 0
-    parts.journal.room parts.journal.room_bytes g.P.Port.tells (map g.P.Port.log parts.ports.items) c.requires.within.1
-    (slots_of parts.marks.items) (Send c.requires.next.0 c.requires.next.1) c.requires.next.2 (omega arith) refl
+    let next = c.requires.next in
+    message-room g.P.Port g.C.Caller c.args.parts.now c.requires.kept c.args.place next.comes.seat next.comes.here next.job next.left c.args.next.now next.comes.next next.of
 
 pub push-requires-clause-room_bytes : goal.push-requires-clause-room_bytes
 push-requires-clause-room_bytes g c =
-    let parts = c.args.parts.now in
-    let s = c.send-sent.result in
-    let m : MessageView = message_for parts.seat c.args.next.now.purpose c.args.next.now.control s.addr in
-    rw c.entry.ensures.bytes
-    (bytes-ahead parts.board.now parts.limit c.requires.within.0 (g.C.Caller.left (g.C.Caller.script parts.caller) (g.C.Caller.taken parts.caller)) parts.seat 0
-    parts.journal.room parts.journal.room_bytes g.P.Port.tells (map g.P.Port.log parts.ports.items) c.requires.within.1
-    (slots_of parts.marks.items) (Send c.requires.next.0 c.requires.next.1) c.requires.next.2 (omega arith) m.len (length s.bytes)
-    (message-len g.P.Port.tells g.C.Caller.asked g.C.Caller.left g.C.Caller.board (view_of g.P.Port.world g.P.Port.log g.C.Caller.script g.C.Caller.taken parts) c.requires.kept
-    c.requires.next.0 c.requires.next.1 c.requires.next.2 c.args.next.now c.requires.next.3 s.addr)
-    c.send-sent.ensures.few)
+    let x = c.args.parts.now in
+    let next = c.requires.next in
+    let said = seat-is _ x.seats.items c.args.place next.comes.seat next.comes.here c.say-caller.ensures.spoken in
+    subst (λ (ys : List ℕ). length ys ≤ x.journal.room_bytes) (sym (c.message_entry.ensures.bytes ∙ c.as_slice.ensures.value))
+    (message-bytes g.P.Port g.C.Caller x c.requires.kept c.args.place next.comes.seat next.comes.here next.job next.left c.args.next.now next.comes.next next.of _ c.say-caller.new.bytes c.say-caller.result.1 said)
 
-pub hear-requires-clause-part : goal.hear-requires-clause-part
-hear-requires-clause-part g c =
-    part-some g.P.Port.tells g.C.Caller.asked g.C.Caller.left g.C.Caller.board (view_of g.P.Port.world g.P.Port.log g.C.Caller.script g.C.Caller.taken c.args.parts.now) c.requires.kept
-    c.requires.next.0 c.requires.next.1 c.requires.next.2 c.args.next.now c.requires.next.3
-
-pub hear-requires-clause-partway : goal.hear-requires-clause-partway
-hear-requires-clause-partway g c =
-    λ through.
-    (call-next g.P.Port.tells g.C.Caller.asked g.C.Caller.left g.C.Caller.board (view_of g.P.Port.world g.P.Port.log g.C.Caller.script g.C.Caller.taken c.args.parts.now) c.requires.kept
-    c.requires.next.0 c.requires.next.1 c.requires.next.2 c.args.next.now c.requires.next.3 (call-purpose c.args.next.now.purpose c.send-sent.result.end through)).0
-
-pub hear-requires-clause-more : goal.hear-requires-clause-more
-hear-requires-clause-more g c =
-    λ through.
-    (call-next g.P.Port.tells g.C.Caller.asked g.C.Caller.left g.C.Caller.board (view_of g.P.Port.world g.P.Port.log g.C.Caller.script g.C.Caller.taken c.args.parts.now) c.requires.kept
-    c.requires.next.0 c.requires.next.1 c.requires.next.2 c.args.next.now c.requires.next.3 (call-purpose c.args.next.now.purpose c.send-sent.result.end through)).1
-
-pub returns-clause-behind : goal.returns-clause-behind
-returns-clause-behind g c =
-    let parts = c.args.parts.now in
-    let s = c.send-sent.result in
-    let new = c.go_on.new.self in
-    let same = same_sent parts.seat c.hear.new.self new c.args.next.now s.end c.hear.ensures.same c.go_on.ensures.same in
-    rw (c.push.ensures.entries, c.entry.ensures.seen)
-    (say-kept g.P.Port.tells g.C.Caller.asked g.C.Caller.left g.C.Caller.board (view_of g.P.Port.world g.P.Port.log g.C.Caller.script g.C.Caller.taken parts) c.requires.kept
-    c.requires.next.0 c.requires.next.1 c.requires.next.2 c.args.next.now c.requires.next.3
-    s.addr s.reading s.bytes s.heard s.end (map g.P.Port.world c.send-sent.new.ports.items) (map g.P.Port.log c.send-sent.new.ports.items)
-    c.send-sent.ensures.addr c.send-sent.ensures.reading c.send-sent.ensures.chip c.send-sent.ensures.said
-    new same.0
-    (λ t. (
-      same.1.0 ∙ c.hear.ensures.sent t,
-      same.1.2 ∙ c.hear.ensures.got t,
-      rw (same.1.0, same.1.1, same.1.2) (same.2 (c.hear.ensures.partway t)),
-    ))
-    (λ f. let k = c.hear.ensures.otherwise f in (same.1.0 ∙ k.0, same.1.1 ∙ k.1, same.1.2 ∙ k.2))
-    (c.go_on.ensures.course ∙ same.3)
-    c.go_on.new.marks.items c.go_on.ensures.count
-    (same.4 parts.board.now _ (same.6 parts.board.now parts.marks.items (Sent s.end s.bytes) c.go_on.ensures.walk))
-    (same.5 parts.board.now parts.marks.items c.go_on.new.marks.items (Sent s.end s.bytes) c.go_on.ensures.told))
-
-pub returns-clause-within : goal.returns-clause-within
-returns-clause-within g c =
-    λ spent w.
-    let parts = c.args.parts.now in
-    let s = c.send-sent.result in
-    let same = same_sent parts.seat c.hear.new.self c.go_on.new.self c.args.next.now s.end c.hear.ensures.same c.go_on.ensures.same in
-    let m : MessageView = message_for parts.seat c.args.next.now.purpose c.args.next.now.control s.addr in
+pub hear-requires : goal.hear-requires
+hear-requires g c =
+    let x = c.args.parts.now in
+    let next = c.requires.next in
+    let said = seat-is _ x.seats.items c.args.place next.comes.seat next.comes.here c.say-caller.ensures.spoken in
     record {
-      now = spent + (1 + m.len);
-      later = omega arith;
-      within =
-          within-said parts.board.now parts.limit spent (g.C.Caller.left (g.C.Caller.script parts.caller) (g.C.Caller.taken parts.caller)) parts.seat 0
-          parts.journal.room parts.journal.room_bytes g.P.Port.tells (map g.P.Port.log parts.ports.items) w
-          (slots_of parts.marks.items) (Send c.requires.next.0 c.requires.next.1) c.requires.next.2 (omega arith) refl m.len
-          (message-len g.P.Port.tells g.C.Caller.asked g.C.Caller.left g.C.Caller.board (view_of g.P.Port.world g.P.Port.log g.C.Caller.script g.C.Caller.taken parts) c.requires.kept
-          c.requires.next.0 c.requires.next.1 c.requires.next.2 c.args.next.now c.requires.next.3 s.addr)
-          (Sent s.end s.bytes) c.go_on.new.self (same.6 parts.board.now parts.marks.items (Sent s.end s.bytes) c.go_on.ensures.walk)
-          (same.7 parts.board.now (g.C.Caller.left (g.C.Caller.script parts.caller) (g.C.Caller.taken parts.caller)))
-          (length s.bytes) c.send-sent.ensures.few
-          (got-few parts.seat c.hear.new.self c.go_on.new.self (is_call_through c.args.next.now.purpose s.end) (call_message parts.seat).reading s.bytes
-          (ap (λ (x : Seat). x.settled) c.go_on.ensures.same ∙ ap (λ (x : Seat). x.settled) c.hear.ensures.same) same.1.2 c.hear.ensures.got (λ f. (c.hear.ensures.otherwise f).2))
-          c.push.new.self.room c.push.new.self.room_bytes c.push.ensures.room (rw (← c.entry.ensures.bytes) c.push.ensures.room_bytes)
-          (map g.P.Port.log c.send-sent.new.ports.items) (λ tell. c.send-sent.ensures.logs tell (2 * spent) (w.calls tell));
+      seat = next.comes.seat;
+      here = next.comes.here;
+      is_so = subst (λ (ys : List ℕ). MayHear c.args.next.now c.say-caller.result.1.reading ys c.say-caller.result.1.end next.comes.seat) (sym c.as_slice-2.ensures.value)
+          (may-hear g.P.Port g.C.Caller x c.requires.kept c.args.place next.comes.seat next.comes.here next.job next.left c.args.next.now next.comes.next next.of _ c.say-caller.new.bytes c.say-caller.result.1 said);
     }
+
+pub set_marks-requires-clause-caller : goal.set_marks-requires-clause-caller
+set_marks-requires-clause-caller g c =
+    let number = c.say-caller.ensures.number in
+    subst (λ (n : ℕ). n < MOST_CALLERS) (sym number.is_so) (number-small g.P.Port g.C.Caller c.args.parts.now c.requires.kept c.args.place number.seat number.here)
+
+pub set_marks-requires-clause-held : goal.set_marks-requires-clause-held
+set_marks-requires-clause-held g c =
+    let x = c.args.parts.now in
+    let next = c.requires.next in
+    let s = next.comes.seat in
+    let said = seat-is _ x.seats.items c.args.place s next.comes.here c.say-caller.ensures.spoken in
+    let number : c.say-caller.result.0 ≡ s.number = seat-is (λ (y : Seat _). c.say-caller.result.0 ≡ y.number) x.seats.items c.args.place s next.comes.here c.say-caller.ensures.number in
+    let set_is = c.hear.ensures.set in
+    let t = set_is.after in
+    let out = c.say-caller.result.1 in
+    let bytes = c.say-caller.new.bytes in
+    let heard : HasHeard x.board.now x.locks c.args.next.now out.reading bytes out.end s t =
+    subst (λ (ys : List ℕ). HasHeard x.board.now x.locks c.args.next.now out.reading ys out.end s t) c.as_slice-2.ensures.value (seat-now _ x.seats.items c.hear.new.seats.items c.args.place s next.comes.here set_is) in
+    let dues : c.as_slice-3.result.now ≡ dues_of x.board.now x.locks (walk.Sent out.end bytes) s =
+    c.as_slice-3.ensures.value ∙ seat-is (λ (y : Seat _). c.hear.new.dues.items ≡ dues_of x.board.now x.locks (walk.Sent out.end c.as_slice-2.result.now) y) x.seats.items c.args.place s next.comes.here c.hear.ensures.dues
+    ∙ ap (λ (ys : List ℕ). dues_of x.board.now x.locks (walk.Sent out.end ys) s) c.as_slice-2.ensures.value in
+    subst (λ (n : ℕ). AreHeld x.locks n c.as_slice-3.result.now) (sym number)
+    (subst (λ (ds : List Due). AreHeld x.locks s.number ds) (sym dues)
+    (dues-own g.P.Port g.C.Caller x c.requires.kept c.args.place s next.comes.here next.job next.left c.args.next.now next.comes.next next.of _ bytes out said))
+
+pub settle-requires : goal.settle-requires
+settle-requires g c =
+    let x = c.args.parts.now in
+    let next = c.requires.next in
+    let s = next.comes.seat in
+    let said = seat-is _ x.seats.items c.args.place s next.comes.here c.say-caller.ensures.spoken in
+    let number : c.say-caller.result.0 ≡ s.number = seat-is (λ (y : Seat _). c.say-caller.result.0 ≡ y.number) x.seats.items c.args.place s next.comes.here c.say-caller.ensures.number in
+    let set_is = c.hear.ensures.set in
+    let t = set_is.after in
+    let out = c.say-caller.result.1 in
+    let bytes = c.say-caller.new.bytes in
+    let heard : HasHeard x.board.now x.locks c.args.next.now out.reading bytes out.end s t =
+    subst (λ (ys : List ℕ). HasHeard x.board.now x.locks c.args.next.now out.reading ys out.end s t) c.as_slice-2.ensures.value (seat-now _ x.seats.items c.hear.new.seats.items c.args.place s next.comes.here set_is) in
+    let dues : c.as_slice-3.result.now ≡ dues_of x.board.now x.locks (walk.Sent out.end bytes) s =
+    c.as_slice-3.ensures.value ∙ seat-is (λ (y : Seat _). c.hear.new.dues.items ≡ dues_of x.board.now x.locks (walk.Sent out.end c.as_slice-2.result.now) y) x.seats.items c.args.place s next.comes.here c.hear.ensures.dues
+    ∙ ap (λ (ys : List ℕ). dues_of x.board.now x.locks (walk.Sent out.end ys) s) c.as_slice-2.ensures.value in
+    let locks : c.set_marks.new.locks ≡ record x.locks { marks = applied (dues_of x.board.now x.locks (walk.Sent out.end bytes) s) x.locks.marks } =
+    c.set_marks.ensures ∙ ap (λ (ds : List Due). record x.locks { marks = applied ds x.locks.marks }) dues in
+    let entries = c.push.ensures.entries
+    ∙ ap (λ (e : Entry). x.journal.entries ++ e ∷ [])
+    (c.message_entry.ensures.seen
+    ∙ ap (λ (k : ℕ). entry.Message k c.args.next.now.bus c.args.next.now.purpose c.args.next.now.part c.args.next.now.parts out.addr out.reading c.as_slice.result.now out.heard out.end) number
+    ∙ ap (λ (ys : List ℕ). entry.Message s.number c.args.next.now.bus c.args.next.now.purpose c.args.next.now.part c.args.next.now.parts out.addr out.reading ys out.heard out.end) c.as_slice.ensures.value) in
+    let room_bytes : c.push.new.self.room_bytes + length bytes ≡ x.journal.room_bytes = ap (λ (ys : List ℕ). c.push.new.self.room_bytes + length ys) (sym (c.message_entry.ensures.bytes ∙ c.as_slice.ensures.value)) ∙ c.push.ensures.room_bytes in
+    record {
+      seat = t;
+      here = ap (λ (ys : List (Seat _)). slice_get ys c.args.place) set_is.set_is ∙ set-at x.seats.items c.args.place s t next.comes.here;
+      is_so = subst (λ (v : LocksView). MaySettle x.board.now v c.push.new.self t) (sym locks)
+          (may-settle g.P.Port g.C.Caller x c.requires.kept c.args.place s next.comes.here next.job next.left c.args.next.now next.comes.next next.of _ bytes out said t heard c.push.new.self entries c.push.ensures.room room_bytes);
+    }
+
+pub returns : goal.returns
+returns g c =
+    let x = c.args.parts.now in
+    let next = c.requires.next in
+    let s = next.comes.seat in
+    let said = seat-is _ x.seats.items c.args.place s next.comes.here c.say-caller.ensures.spoken in
+    let number : c.say-caller.result.0 ≡ s.number = seat-is (λ (y : Seat _). c.say-caller.result.0 ≡ y.number) x.seats.items c.args.place s next.comes.here c.say-caller.ensures.number in
+    let set_is = c.hear.ensures.set in
+    let t = set_is.after in
+    let out = c.say-caller.result.1 in
+    let bytes = c.say-caller.new.bytes in
+    let heard : HasHeard x.board.now x.locks c.args.next.now out.reading bytes out.end s t =
+    subst (λ (ys : List ℕ). HasHeard x.board.now x.locks c.args.next.now out.reading ys out.end s t) c.as_slice-2.ensures.value (seat-now _ x.seats.items c.hear.new.seats.items c.args.place s next.comes.here set_is) in
+    let dues : c.as_slice-3.result.now ≡ dues_of x.board.now x.locks (walk.Sent out.end bytes) s =
+    c.as_slice-3.ensures.value ∙ seat-is (λ (y : Seat _). c.hear.new.dues.items ≡ dues_of x.board.now x.locks (walk.Sent out.end c.as_slice-2.result.now) y) x.seats.items c.args.place s next.comes.here c.hear.ensures.dues
+    ∙ ap (λ (ys : List ℕ). dues_of x.board.now x.locks (walk.Sent out.end ys) s) c.as_slice-2.ensures.value in
+    let locks : c.set_marks.new.locks ≡ record x.locks { marks = applied (dues_of x.board.now x.locks (walk.Sent out.end bytes) s) x.locks.marks } =
+    c.set_marks.ensures ∙ ap (λ (ds : List Due). record x.locks { marks = applied ds x.locks.marks }) dues in
+    let entries = c.push.ensures.entries
+    ∙ ap (λ (e : Entry). x.journal.entries ++ e ∷ [])
+    (c.message_entry.ensures.seen
+    ∙ ap (λ (k : ℕ). entry.Message k c.args.next.now.bus c.args.next.now.purpose c.args.next.now.part c.args.next.now.parts out.addr out.reading c.as_slice.result.now out.heard out.end) number
+    ∙ ap (λ (ys : List ℕ). entry.Message s.number c.args.next.now.bus c.args.next.now.purpose c.args.next.now.part c.args.next.now.parts out.addr out.reading ys out.heard out.end) c.as_slice.ensures.value) in
+    let room_bytes : c.push.new.self.room_bytes + length bytes ≡ x.journal.room_bytes = ap (λ (ys : List ℕ). c.push.new.self.room_bytes + length ys) (sym (c.message_entry.ensures.bytes ∙ c.as_slice.ensures.value)) ∙ c.push.ensures.room_bytes in
+    let all = conversed g.P.Port g.C.Caller x c.requires.kept c.args.place s next.comes.here next.job next.left c.args.next.now next.comes.next next.of _ bytes out said t heard c.push.new.self entries c.push.ensures.room room_bytes
+    (record x { ports = c.say-caller.new.ports; seats = c.settle.new.seats; locks = c.set_marks.new.locks; journal = c.settle.new.journal; bytes = bytes; dues = c.settle.new.dues }) refl locks refl refl refl
+    c.hear.new.seats.items set_is.set_is c.settle.result c.settle.ensures.settled c.settle.ensures.none c.settle.ensures.stays in
+    record { kept = all.0; stepped = all.1 }

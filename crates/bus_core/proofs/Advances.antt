@@ -1,0 +1,92 @@
+-- A caller that makes a step, or waits: who stands at its place, and what keeps it there.
+use Rattle.std.proofs.Common.{◌≡◌, ℕ, ◌<◌, true, IsTrue, length, reverse, Some, None, refl, sym, ◌∙◌, ap, subst, arith, inl, inr}
+use Rattle.std.specs.Prelude.{slice_get}
+use Rattle.std.proofs.lemmas.List.{length-map}
+use Rattle.std.proofs.lemmas.Option.{slice_get_within}
+use Rattle.i2c_base.specs.declared.caller.Caller.{Ghosts as CallerGhosts}
+use Rattle.i2c_base.specs.declared.ids.LockId.{LockId}
+use Rattle.i2c_outside.specs.declared.port.Port.{Ghosts as PortGhosts}
+use Rattle.bus_spec.specs.Grammar.{is_over}
+use Rattle.bus_spec.specs.Walk.{Take, WalkTree}
+use Rattle.bus_laws.specs.Ready.{IsStuck}
+use Rattle.bus_laws.specs.Waiting.{IsHeldUp}
+use Rattle.core_laws.proofs.Core.{map_from}
+use Rattle.core_laws.proofs.Laws.{held-up-stuck}
+use Rattle.core_laws.specs.Steps.{next_of}
+use Rattle.mux_plan.specs.Plans.{slots_of}
+use Rattle.seg_locks.specs.Locks.{LocksView, holder_in}
+use Rattle.bus_core.specs.Kept.{asks_in, run_of, whole_of, IsKept, ArePlaced, HasStepped, HasTurn}
+use Rattle.bus_core.specs.Places.{walk_left, place_of, script_of, scripts_of}
+use Rattle.bus_core.specs.Ready.{CanStepAt}
+use Rattle.bus_core.specs.Runs.{HasMade}
+use Rattle.bus_core.specs.Steps.{IsBlockedAt, HasEndedAt}
+use Rattle.bus_core.specs.declared.parts.CoreParts.{CoreParts}
+use Rattle.bus_core.specs.declared.seat.Seat.{Seat}
+use Rattle.bus_core.specs.declared.steps.StepAnswer.{StepAnswer}
+use Rattle.bus_core.specs.declared.steps.StepAnswer.TheVariants as answer
+use Rattle.bus_core.proofs.Kept.{place-here}
+use Rattle.bus_core.proofs.Locks.{over-ends, same_seat}
+use Rattle.bus_core.proofs.SeatLemmas.{there}
+
+-- an answer that isn't Stepped
+pub waits-by : (P : Type 0) (r : StepAnswer) → (r ≡ answer.Stepped → ⊥) → ((l : LockId) (h : ℕ) → r ≡ answer.Blocked l h → P) → (r ≡ answer.Finished → P) → P
+waits-by P answer.Stepped not blocked finished = absurd (not refl)
+waits-by P (answer.Blocked l h) not blocked finished = blocked l h refl
+waits-by P answer.Finished not blocked finished = finished refl
+
+-- a walk that is over has no step
+pub over-none : (v : LocksView) (w : WalkTree) → is_over w ≡ true → next_of v w ≡ None
+over-none v w over = ap (next_of v) (over-ends w over)
+
+module _ {P C S : Type 0} (g : PortGhosts P) (c : CallerGhosts C S) (x : CoreParts P C) (kept : IsKept g c x) (placed : ArePlaced x.places.items (scripts_of c x.seats.items))
+    (caller place : ℕ) (at : slice_get x.places.items caller ≡ Some (Some place)) where
+  script_here : (s : S) × (slice_get (scripts_of c x.seats.items) place ≡ Some (caller, s))
+  script_here = placed.there caller place at
+
+  pub within : place < length x.seats.items
+  within =
+      let low : place < length (scripts_of c x.seats.items) = slice_get_within (scripts_of c x.seats.items) place (caller, script_here.0) script_here.1 in
+      let all : length (scripts_of c x.seats.items) ≡ length x.seats.items = length-map x.seats.items (script_of c) in
+      omega (arith, low, all)
+
+  pub numbered : (s : Seat C) → slice_get x.seats.items place ≡ Some s → s.number ≡ caller
+  numbered s here =
+      let from = map_from (script_of c) x.seats.items place (caller, script_here.0) script_here.1 in
+      let same : from.0 ≡ s = same_seat x.seats.items place from.0 s from.1 here in
+      ap (λ (y : Seat C). y.number) (sym same) ∙ ap (λ (y : ℕ × S). y.0) from.2
+
+  pub stuck-by : (s : Seat C) → slice_get x.seats.items place ≡ Some s → IsHeldUp (holder_in x.locks) (slots_of x.locks.marks) (walk_left x.board.now s) → IsTrue g.tells
+      → IsStuck x.board.now (asks_in c x) (reverse x.journal.entries) caller
+  stuck-by s here up tell =
+      subst (λ (n : ℕ). IsStuck x.board.now (asks_in c x) (reverse x.journal.entries) n) (numbered s here)
+      (held-up-stuck (run_of g c x) (whole_of g c x kept.held kept.owes) kept.kept tell place (place_of c x.board.now s) (place-here g c x kept place s here) up)
+
+  -- WHO WAITS is stuck
+  pub blocked-stuck : (l : LockId) (h : ℕ) → IsBlockedAt x place l h → IsTrue g.tells → IsStuck x.board.now (asks_in c x) (reverse x.journal.entries) caller
+  blocked-stuck l h b tell = stuck-by b.comes.seat b.comes.here (inr (l, h, b.comes.next, b.held)) tell
+
+  pub ended-stuck : HasEndedAt x place → IsTrue g.tells → IsStuck x.board.now (asks_in c x) (reverse x.journal.entries) caller
+  ended-stuck e tell = stuck-by e.seat e.here (inl (over-none x.locks (walk_left x.board.now e.seat) e.over)) tell
+
+  -- who can step isn't blocked, and hasn't ended
+  pub blocked-not : (l : LockId) (h : ℕ) → IsBlockedAt x place l h → CanStepAt x place → ⊥
+  blocked-not l h b can =
+      let same = same_seat x.seats.items place b.comes.seat can.seat b.comes.here can.here in
+      let takes : can.act ≡ Take l = (let f : Some can.act ≡ Some (Take l) = sym can.next ∙ ap (λ (y : Seat C). next_of x.locks (walk_left x.board.now y)) (sym same) ∙ b.comes.next in cc) in
+      let f : None ≡ Some h = sym (can.free l takes) ∙ b.held in cc
+
+  pub ended-not : HasEndedAt x place → CanStepAt x place → ⊥
+  ended-not e can =
+      let same = same_seat x.seats.items place e.seat can.seat e.here can.here in
+      let f : None ≡ Some can.act = sym (over-none x.locks (walk_left x.board.now e.seat) e.over) ∙ ap (λ (y : Seat C). next_of x.locks (walk_left x.board.now y)) same ∙ can.next in
+      cc
+
+  -- A STEP that was made
+  pub has-made : (new : CoreParts P C) → HasStepped g c place x new → HasMade g c caller x new
+  has-made new step =
+      let s = there x.seats.items place within in
+      record {
+        come = record { board = step.board; start = step.start; scripts = step.scripts; roots = step.roots; places = step.places; counted = step.counted };
+        room = step.room;
+        turn = λ tell. subst (λ (n : ℕ). HasTurn x.board.now (asks_in c x) n x.journal.entries new.journal.entries) (numbered s.0 s.1) (step.turn tell s.0 s.1);
+      }

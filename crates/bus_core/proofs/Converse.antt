@@ -1,0 +1,269 @@
+-- A message of the caller at a place: it may be sent, heard and settled.
+use Rattle.std.proofs.Common.{◌≡◌, ◌⊎◌, ℕ, suc, ◌+◌, ◌<◌, ◌≤◌, ◌==◌, Bool, true, false, List, [], ◌∷◌, length, set, take, Option, Some, None, refl, sym, ◌∙◌, ap, subst, arith, inl, inr}
+use Rattle.std.specs.Prelude.{slice_get, nat_lt, ◌&&◌}
+use Rattle.std.specs.List.{AllByRecursion}
+use Rattle.std.proofs.lemmas.Bool.{lt-ltb, ltb-true}
+use Rattle.std.proofs.lemmas.Bool.Decides.{eqb_tells}
+use Rattle.std.proofs.lemmas.List.{length-set}
+use Rattle.i2c_base.specs.declared.caller.Caller.{Ghosts as CallerGhosts}
+use Rattle.i2c_base.specs.declared.entry.End.TheVariants as end
+use Rattle.i2c_base.specs.declared.entry.Purpose.{Purpose}
+use Rattle.i2c_base.specs.declared.entry.Purpose.TheVariants as purpose
+use Rattle.i2c_base.specs.declared.ids.LockId.{LockId}
+use Rattle.i2c_base.specs.declared.ids.LockId.TheVariants as lock
+use Rattle.i2c_base.specs.declared.port.Phase.TheVariants.{Idle}
+use Rattle.i2c_base.specs.Board.{BoardView}
+use Rattle.i2c_base.specs.Limits.{MOST_CALLS}
+use Rattle.i2c_outside.specs.declared.port.Port.{Ghosts as PortGhosts}
+use Rattle.i2c_spec.specs.Flat.{block_limit}
+use Rattle.i2c_spec.specs.Messages.{MessageView, messages_of}
+use Rattle.i2c_spec.specs.Tree.{buses, root_of}
+use Rattle.bus_spec.specs.Grammar.{is_over, first_note, seen}
+use Rattle.i2c_base.specs.Fitting.{FitsReads}
+use Rattle.bus_spec.specs.Walk.{Job, Call, Select, Clear, Send, Settle, Mark, job_purpose, part_of}
+use Rattle.bus_spec.specs.Walk as walk
+use Rattle.bus_laws.specs.Costs.{bytes_most}
+use Rattle.bus_laws.specs.Holds.{MarksHeld, OwnHeld}
+use Rattle.bus_laws.specs.Jobs.{IsJobOf}
+use Rattle.bus_laws.specs.Runs.{IsCall, InLocks}
+use Rattle.bus_message.specs.Sockets.{socket_of}
+use Rattle.bus_message.specs.declared.sending.Sent.{Sent}
+use Rattle.bus_message.proofs.SocketLemmas.{call-through}
+use Rattle.mux_plan.proofs.Dues.{tells-after, on-after}
+use Rattle.mux_plan.proofs.OpensFit.{length-messages}
+use Rattle.mux_plan.specs.declared.marks.Due.{Due}
+use Rattle.mux_plan.specs.Marks.{applied, IsSwitchedOn, MayMark, AreOn}
+use Rattle.mux_plan.specs.Plans.{slots_of}
+use Rattle.seg_locks.specs.Locks.{LocksView, holder_in, IsLockIn}
+use Rattle.core_laws.specs.Core.{Place, Run, Whole, IsSent, IsGoing, has_reply}
+use Rattle.core_laws.specs.Owed.{message_most}
+use Rattle.core_laws.specs.Sends.{Sending, IsMessageOf, message_for}
+use Rattle.core_laws.specs.Spots.{Socket}
+use Rattle.core_laws.specs.Steps.{next_of, AreMarked, KeepsPort}
+use Rattle.core_laws.proofs.Core.{map_at, map_from, lone_act, not_over, locks-here, owes-here, going-on, stands-here}
+use Rattle.core_laws.proofs.CoreSteps.{none_owed}
+use Rattle.core_laws.proofs.Laws.{send-root, send-most, send-last, send-wants, call-wants, held-wants, port-start, log-message, bytes-message, room-one}
+use Rattle.bus_core.specs.Kept.{roots_of, IsSeated, run_of, whole_of, IsKept}
+use Rattle.bus_core.specs.Marks.{AreHeld}
+use Rattle.bus_core.specs.Places.{walk_left, got_by, place_of}
+use Rattle.bus_core.specs.declared.replies.Decided.{Decided}
+use Rattle.bus_core.specs.Seats.{MaySpeak, HasSpoken, MayHear, dues_of}
+use Rattle.bus_core.specs.declared.parts.CoreParts.{CoreParts}
+use Rattle.bus_core.specs.declared.seat.Seat.{Seat}
+use Rattle.bus_core.proofs.Kept.{place-here, seated-here}
+use Rattle.bus_core.proofs.ReadsRoom.{reads-room}
+use Rattle.bus_core.proofs.Heard.{undecided}
+
+pub length-applied : (ds : List Due) (marks : List (Option ℕ)) → length (applied ds marks) ≡ length marks
+length-applied [] marks = refl
+length-applied (d ∷ ds) marks = length-applied ds (set marks d.on d.mark) ∙ length-set marks d.on d.mark
+
+-- the lock of the muxes on a bus is there, and this caller has it
+abbrev pub is_own : Option ℕ → ℕ → Bool
+is_own None c = false
+is_own (Some h) c = h == c
+
+abbrev pub holds_mux : LocksView → ℕ → ℕ → Bool
+holds_mux v c on = nat_lt on (length v.depths) && is_own (holder_in v (lock.Mux on)) c
+
+both-true : (a b : Bool) → (a && b) ≡ true → (a ≡ true) × (b ≡ true)
+both-true true true e = (refl, refl)
+both-true true false e = absurd (let f : false ≡ true = e in cc)
+both-true false b e = absurd (let f : false ≡ true = e in cc)
+
+own-is : (o : Option ℕ) (c : ℕ) → o ≡ Some c → is_own o c ≡ true
+own-is None c e = absurd (let f : None ≡ Some c = e in cc)
+own-is (Some h) c e =
+    let same : h ≡ c = (let f : Some h ≡ Some c = e in cc) in
+    elim (eqb_tells h c) [
+      | inl is ↦ is.0
+      | inr other ↦ absurd (other.1 same)
+    ]
+
+own-of : (o : Option ℕ) (c : ℕ) → is_own o c ≡ true → o ≡ Some c
+own-of None c e = absurd (let f : false ≡ true = e in cc)
+own-of (Some h) c e = elim (eqb_tells h c) [
+  | inl is ↦ ap Some is.1
+  | inr other ↦ absurd (let f : false ≡ true = sym other.0 ∙ e in cc)
+]
+
+mux-held : (v : LocksView) (c on : ℕ) → IsLockIn v (lock.Mux on) → holder_in v (lock.Mux on) ≡ Some c → holds_mux v c on ≡ true
+mux-held v c on low held =
+    ap (λ (x : Bool). x && is_own (holder_in v (lock.Mux on)) c) (lt-ltb on (length v.depths) low) ∙ own-is (holder_in v (lock.Mux on)) c held
+
+pub dues-held : (v : LocksView) (c : ℕ) (ds : List Due) → AreOn (holds_mux v c) ds → AreHeld v c ds
+dues-held v c [] all = tt
+dues-held v c (d ∷ ds) all = (
+  let b = both-true (nat_lt d.on (length v.depths)) (is_own (holder_in v (lock.Mux d.on)) c) all.0 in
+      record { there = ltb-true d.on (length v.depths) b.0; held = own-of (holder_in v (lock.Mux d.on)) c b.1 },
+  dues-held v c ds all.1,
+)
+
+-- each mark that a step may change is of a bus whose lock is among these
+module _ (v : LocksView) (c : ℕ) (ls : List LockId) (own : (l : LockId) → InLocks l ls → IsLockIn v l × (holder_in v l ≡ Some c)) where
+  on-held : (on : ℕ) → InLocks (lock.Mux on) ls → holds_mux v c on ≡ true
+  on-held on among = (let o = own (lock.Mux on) among in mux-held v c on o.0 o.1)
+
+  pub marks-on : (b : BoardView) (ms : List Mark) → MarksHeld b ms ls → AllByRecursion (λ (m : Mark). holds_mux v c m.on ≡ true) ms
+  marks-on b [] all = tt
+  marks-on b (m ∷ ms) all = (on-held m.on all.0.0, marks-on b ms all.1)
+
+  pub switched-on : (job : Job) → OwnHeld job ls → IsSwitchedOn (holds_mux v c) job
+  switched-on (Call bus ms) h = tt
+  switched-on (Select h) among = on-held h.on among
+  switched-on (Clear on mux kind) among = on-held on among
+
+-- a message of the caller's own is one of a call
+is_call : (job : Job) → job_purpose job ≡ purpose.Call → (bus : ℕ) × (ms : List MessageView) × (job ≡ Call bus ms)
+is_call (Call bus ms) e = (bus, ms, refl)
+is_call (Select h) e = absurd (let f : purpose.Control h.mux ≡ purpose.Call = e in cc)
+is_call (Clear on mux kind) e = absurd (let f : purpose.Control mux ≡ purpose.Call = e in cc)
+
+part_low : (sent more : ℕ) (j : Job) → ((bus : ℕ) (ms : List MessageView) → j ≡ Call bus ms → sent + suc more ≡ length ms) → 0 < part_of j more
+part_low sent more (Call bus ms) w = (let sum : sent + suc more ≡ length ms = w bus ms refl in omega (arith, sum))
+part_low sent more (Select h) w = omega arith
+part_low sent more (Clear on mux kind) w = omega arith
+
+module _ {P C S : Type 0} (g : PortGhosts P) (c : CallerGhosts C S) (x : CoreParts P C) (kept : IsKept g c x) (place : ℕ) (s : Seat C) (here : slice_get x.seats.items place ≡ Some s) where
+  abbrev pub b : BoardView
+  b = x.board.now
+
+  abbrev pub run : Run
+  run = run_of g c x
+
+  abbrev pub whole : Whole
+  whole = whole_of g c x kept.held kept.owes
+
+  abbrev pub p : Place
+  p = place_of c b s
+
+  pub at : slice_get whole.places place ≡ Some p
+  at = place-here g c x kept place s here
+
+  its : IsSeated c b (roots_of x.ports.items) s
+  its = seated-here g c x kept place s here
+
+  -- THE PORT of the root of a job that comes next
+  module _ (goes : is_over (walk_left b s) ≡ false) (low : s.transfer.bus < buses b) where
+    pub port : (y : Socket) × (slice_get whole.sockets s.port ≡ Some y) × (y.root ≡ root_of b s.transfer.bus)
+    port = (let f = map_from (λ (q : ℕ × P). q.0) x.ports.items s.port (root_of b s.transfer.bus) (its.plugged goes low) in
+        (socket_of g f.0, map_at (socket_of g) x.ports.items s.port f.0 f.1, f.2))
+
+  module _ (job : Job) (more : ℕ) (next : Sending) (first : next_of x.locks (walk_left b s) ≡ Some (Send job more)) (of : IsMessageOf job more next) where
+    pub goes : is_over (walk_left b s) ≡ false
+    goes = not_over (slots_of x.locks.marks) (walk_left b s) (Send job more) first
+
+    pub on-bus : s.transfer.bus < buses b
+    on-bus = elim (its.there goes) [
+      | inl low ↦ low
+      | inr lone ↦ absurd (let l = lone_act b (slots_of x.locks.marks) (walk_left b s) lone (Send job more) first in let f : Send job more ≡ Settle l.0 = l.1 in cc)
+    ]
+
+    job-of : IsJobOf b s.transfer job
+    job-of = send-root run whole kept.kept place p at job more first
+
+    pub calls : (bus : ℕ) (ms : List MessageView) → job ≡ Call bus ms → (has_reply p.owed ≡ false) × IsCall b s.transfer bus ms × (s.sent + suc more ≡ length ms)
+    calls bus ms is = call-wants run whole kept.kept place p at bus ms more (subst (λ (j : Job). next_of x.locks (walk_left b s) ≡ Some (Send j more)) is first)
+
+    pub call-left : next.purpose ≡ purpose.Call → (has_reply p.owed ≡ false) × (s.sent < length s.transfer.msgs)
+    call-left e =
+        let j = is_call job (sym of.for_purpose ∙ e) in
+        let w = calls j.0 j.1 j.2 in
+        let same : length j.1 ≡ length (messages_of s.transfer) = ap length w.1.same_messages in
+        let count : length (messages_of s.transfer) ≡ length s.transfer.msgs = length-messages s.transfer.msgs s.transfer.out in
+        let sum : s.sent + suc more ≡ length j.1 = w.2 in
+        (w.0, omega (arith, same, count, sum))
+
+    most : (addr : ℕ) → bytes_most (block_limit b) (message_for s.transfer s.sent next.purpose next.control addr) ≡ message_most b job more
+    most addr = send-most run whole kept.kept place p at job more first next of addr
+
+    pub may-speak : MaySpeak b g.tells next whole.sockets s
+    may-speak =
+        let y = port goes on-bus in
+        record {
+          may = λ grant. record {
+            socket = y.0;
+            here = y.1;
+            start = port-start run whole kept.kept s.port y.0 y.1;
+            room = λ tell addr.
+                let room : length y.0.log + (message_most b job more + 2) ≤ MOST_CALLS = log-message run whole kept.kept place p at job more first tell s.port y.0 y.1 in
+                let same = most addr in
+                omega (arith, room, same);
+          };
+          on_bus = λ e. on-bus;
+          more = λ e. (call-left e).1;
+          wrote = its.wrote;
+        }
+
+    pub message-room : 1 ≤ x.journal.room
+    message-room = room-one run whole kept.kept place p at (Send job more) first
+
+    -- IT WAS SENT
+    module _ (sockets2 : List Socket) (bytes : List ℕ) (sent : Sent) (spoken : HasSpoken b g.tells next whole.sockets sockets2 bytes sent s) where
+      pub few : length bytes ≤ message_most b job more
+      few = subst (λ (n : ℕ). length bytes ≤ n) (most sent.addr) spoken.sent_on.spoke.few
+
+      pub message-bytes : length bytes ≤ x.journal.room_bytes
+      message-bytes = bytes-message run whole kept.kept place p at job more first bytes few
+
+      abbrev pub marks2 : List (Option ℕ)
+      marks2 = applied (dues_of b x.locks (walk.Sent sent.end bytes) s) x.locks.marks
+
+      keeps : KeepsPort b g.tells job more bytes sent.end spoken.before spoken.after
+      keeps =
+          let y = port goes on-bus in
+          let same : spoken.before ≡ y.0 = (let f : Some spoken.before ≡ Some y.0 = sym spoken.here ∙ y.1 in cc) in
+          record {
+            rooted = ap (λ (z : Socket). z.root) same ∙ y.2 ∙ sym job-of.rooted;
+            root = spoken.sent_on.spoke.root;
+            start = spoken.sent_on.spoke.start;
+            idle = subst (λ (l : Bool). (spoken.after.phase ≡ Idle) ⊎ ((l ≡ false) × (sent.end ≡ end.Ok))) (send-last run whole kept.kept place p at job more first next of) spoken.sent_on.spoke.idle;
+            few = few;
+            grows = λ tell. subst (λ (n : ℕ). length spoken.after.log ≤ length spoken.before.log + (n + 2)) (most sent.addr) (spoken.sent_on.spoke.grows tell);
+          }
+
+      marked : AreMarked b p.tree x.locks (walk.Sent sent.end bytes) marks2
+      marked = record {
+        all = length-applied (dues_of b x.locks (walk.Sent sent.end bytes) s) x.locks.marks ∙ kept.kept.table.marked;
+        marked = λ y told. tells-after (next_of x.locks p.tree) (first_note (seen (slots_of x.locks.marks) p.tree)) (walk.Sent sent.end bytes) y x.locks.marks told;
+      }
+
+      pub is-sent : IsSent run whole p job more next s.port spoken.before spoken.after sent.addr sent.reading bytes sent.heard sent.end marks2
+      is-sent = record {
+        first = first;
+        of = of;
+        port = spoken.here;
+        keeps = keeps;
+        gives = spoken.gives;
+        shows = λ tell. record { to_addr = spoken.addr; chip = spoken.chip; has = spoken.sent_on.sent tell };
+        marked = marked;
+      }
+
+      -- the marks that it changes may be written
+      pub dues-own : AreHeld x.locks s.number (dues_of b x.locks (walk.Sent sent.end bytes) s)
+      dues-own =
+          let own = locks-here run whole kept.kept place p at in
+          let has = held-wants run whole kept.kept place p at own.0 own.1 in
+          let sends = send-wants run whole kept.kept place p at job more first in
+          dues-held x.locks s.number (dues_of b x.locks (walk.Sent sent.end bytes) s)
+          (on-after (holds_mux x.locks s.number) (next_of x.locks p.tree) (first_note (seen (slots_of x.locks.marks) p.tree)) (walk.Sent sent.end bytes)
+          (subst (λ (o : Option _). MayMark (holds_mux x.locks s.number) o (first_note (seen (slots_of x.locks.marks) p.tree))) (sym first)
+          (switched-on x.locks s.number own.0 has job sends.own, marks-on x.locks s.number own.0 has b (first_note (seen (slots_of x.locks.marks) p.tree)).marks sends.marked)))
+
+      -- what it read has room
+      partway : has_reply p.owed ≡ false → FitsReads (take s.sent s.transfer.msgs) s.replies.got
+      partway unsettled =
+          let n = (owes-here run whole kept.kept place p at).0 in
+          let goes-on : IsGoing run p n = going-on run whole kept.kept place p _ n (stands-here run whole kept.kept place p at) (Send job more) first in
+          subst (λ (ys : List ℕ). FitsReads (take s.sent s.transfer.msgs) ys) (ap (λ (o : Option Decided). got_by o s.replies) (undecided s.decided s.replies unsettled)) (goes-on.partway (none_owed p.owed unsettled))
+
+      pub may-hear : MayHear next sent.reading bytes sent.end s
+      may-hear = record {
+        counted = its.counted;
+        wrote = its.wrote;
+        part = subst (λ (n : ℕ). 0 < n) (sym of.as_part) (part_low s.sent more job (λ bus ms is. (calls bus ms is).2));
+        more = λ through. (call-left (call-through next.purpose sent.end through).0).1;
+        room = λ call reads.
+            reads-room s.transfer s.sent (block_limit b) s.replies.got bytes (spoken.whole call) (call-left call).1 (omega arith) (partway (call-left call).0)
+            (subst (λ (y : Purpose). length bytes ≤ bytes_most (block_limit b) (message_for s.transfer s.sent y next.control sent.addr)) call spoken.sent_on.spoke.few);
+      }

@@ -1,0 +1,125 @@
+-- A refused transfer of the caller at a place: its lone settle, and the next one loaded.
+use Rattle.std.proofs.Common.{◌≡◌, ℕ, ◌+◌, ◌-◌, IsTrue, List, [], ◌∷◌, ◌++◌, length, reverse, set, Option, Some, None, refl, sym, ◌∙◌, ap, subst, arith}
+use Rattle.std.specs.Prelude.{slice_get}
+use Rattle.std.proofs.lemmas.List.{reverse-append, length-append}
+use Rattle.i2c_base.specs.declared.caller.Caller.{Ghosts as CallerGhosts}
+use Rattle.i2c_base.specs.declared.entry.Entry.{Entry}
+use Rattle.i2c_base.specs.declared.entry.Entry.TheVariants as entry
+use Rattle.i2c_base.specs.declared.errno.Errno.{Errno}
+use Rattle.i2c_base.specs.declared.ids.LockId.{LockId}
+use Rattle.i2c_base.specs.declared.reply.Reply.{Reply}
+use Rattle.i2c_base.specs.declared.reply.Reply.TheVariants as answer
+use Rattle.i2c_base.specs.Limits.{MOST_CALLERS}
+use Rattle.i2c_base.specs.Transfer.{TransferView}
+use Rattle.i2c_outside.specs.declared.port.Port.{Ghosts as PortGhosts}
+use Rattle.bus_spec.specs.Grammar.{plain, walk_for}
+use Rattle.bus_spec.specs.Stepwise.{IsStepwise}
+use Rattle.bus_spec.specs.Walk.{Settle, Then, Ends}
+use Rattle.bus_message.specs.Sockets.{sockets_of}
+use Rattle.core_laws.specs.Behind.{with_place, begun_with}
+use Rattle.core_laws.specs.Core.{Place, Run, Whole, CoreKept, IsLone}
+use Rattle.core_laws.specs.Steps.{next_of}
+use Rattle.core_laws.proofs.Core.{locks-here, owes-here}
+use Rattle.core_laws.proofs.Laws.{stands-here, core-lone, core-lone-finished, settle-lone, settle-errs, going-asks, lone-due, turn-lone, room-one}
+use Rattle.bus_core.specs.Kept.{roots_of, run_of, whole_of, IsKept, HasStepped}
+use Rattle.bus_core.specs.Places.{walk_left, place_of}
+use Rattle.bus_core.specs.Seats.{MayRefuse, IsRefusedIn}
+use Rattle.bus_core.specs.declared.parts.CoreParts.{CoreParts}
+use Rattle.bus_core.specs.declared.seat.Seat.{Seat}
+use Rattle.bus_core.proofs.Kept.{fair, place-here, seated-here, asks-here, wired-here, new-scripts, kept-whole}
+use Rattle.bus_core.proofs.Locks.{over-ends, ended-place}
+
+module _ {P C S : Type 0} (g : PortGhosts P) (c : CallerGhosts C S) (x : CoreParts P C) (kept : IsKept g c x) (place : ℕ) (s : Seat C) (here : slice_get x.seats.items place ≡ Some s)
+    (errno : Errno) (first : next_of x.locks (walk_left x.board.now s) ≡ Some (Settle (Some errno))) where
+  abbrev run : Run
+  run = run_of g c x
+
+  abbrev whole : Whole
+  whole = whole_of g c x kept.held kept.owes
+
+  abbrev p : Place
+  p = place_of c x.board.now s
+
+  at : slice_get whole.places place ≡ Some p
+  at = place-here g c x kept place s here
+
+  abbrev ls : List LockId
+  ls = (locks-here run whole kept.kept place p at).0
+
+  abbrev n : ℕ
+  n = (owes-here run whole kept.kept place p at).0
+
+  lone : IsLone x.board.now (walk_left x.board.now s) × (p.owed ≡ [])
+  lone = settle-lone run whole kept.kept place p at (Some errno) first
+
+  pub may-refuse : MayRefuse c x.board.now (roots_of x.ports.items) errno x.journal s
+  may-refuse = record {
+    seated = seated-here g c x kept place s here;
+    lone = (settle-lone run whole kept.kept place p at (Some errno) first).0.is ∙ ap (λ (o : Option Errno). Then (Settle o) plain (λ y. Ends)) (sym (settle-errs run whole kept.kept place p at (Some errno) first));
+    asked = sym (asks-here g c x kept place s here (c.taken s.caller)) ∙ going-asks run whole kept.kept place p at (Settle (Some errno)) first;
+    wired = λ rs t. wired-here g c x kept place s here rs t;
+    room = room-one run whole kept.kept place p at (Settle (Some errno)) first;
+  }
+
+  -- IT WAS REFUSED
+  module _ (new : CoreParts P C) (t : Seat C) (same_board : new.board ≡ x.board) (seats : new.seats.items ≡ set x.seats.items place t)
+      (refused : IsRefusedIn c x.board.now (roots_of x.ports.items) errno x.journal new.journal s t) (locks : new.locks ≡ x.locks) (ports : new.ports ≡ x.ports) (start : new.start ≡ x.start) (places : new.places ≡ x.places) where
+    abbrev replies : List Reply
+    replies = c.taken s.caller ++ answer.Err errno ∷ []
+
+    abbrev settle : Entry
+    settle = entry.Settle s.number (answer.Err errno) s.cut
+
+    roots : roots_of new.ports.items ≡ roots_of x.ports.items
+    roots = ap (λ (y : _). roots_of y.items) ports
+
+    past : reverse new.journal.entries ≡ settle ∷ reverse x.journal.entries
+    past = ap reverse refused.entries ∙ reverse-append x.journal.entries (settle ∷ [])
+
+    -- A STEP of a lone settle
+    stepped : (IsTrue g.tells → (w : Whole) × (w.past ≡ settle ∷ reverse x.journal.entries) × CoreKept run w) → HasStepped g c place x new
+    stepped told =
+        let count : length new.journal.entries ≡ length x.journal.entries + 1 = ap length refused.entries ∙ length-append x.journal.entries (settle ∷ []) in
+        let room = refused.room in
+        record {
+          board = same_board;
+          start = start;
+          scripts = new-scripts g c x kept place s here new t same_board seats refused.ended.number refused.ended.handed.script roots;
+          roots = roots;
+          places = places;
+          room = omega (arith, room);
+          counted = omega (arith, room, count);
+          turn = λ tell s2 is.
+              let same : s ≡ s2 = (let h : Some s ≡ Some s2 = sym here ∙ is in cc) in
+              let w = told tell in
+              record {
+                turn = record { caller = s.number; entries = settle ∷ [] };
+                own = ap (λ (y : Seat C). y.number) same;
+                comes = turn-lone x.board.now MOST_CALLERS run.asks (reverse x.journal.entries) settle (subst (λ (es : List Entry). IsStepwise x.board.now MOST_CALLERS run.asks es) w.1 (w.2.told tell).stepwise)
+                    (lone-due run whole kept.kept tell place p at lone.0);
+                entries = refused.entries;
+              };
+        }
+
+    by-whole : (q : Place) → place_of c x.board.now t ≡ q → (ks : List LockId) (m : ℕ) → CoreKept run (record (with_place whole place q ks m) { past = settle ∷ whole.past; room = new.journal.room }) → IsKept g c new × HasStepped g c place x new
+    by-whole q is ks m core = (
+      kept-whole g c x kept place s here new t same_board seats refused.ended.number refused.ended.handed.script roots refused.seated _ core past refl refused.room_bytes (ap (set whole.places place) is) locks
+          (ap (λ (y : _). sockets_of g y.items) ports),
+      stepped (λ tell. (record (with_place whole place q ks m) { past = settle ∷ whole.past; room = new.journal.room }, refl, core)),
+    )
+
+    pub refused-kept : IsKept g c new × HasStepped g c place x new
+    refused-kept = by (c.asked (c.script t.caller) (c.taken t.caller)) refl
+      where
+        asks : c.asked (c.script t.caller) (c.taken t.caller) ≡ run.asks s.number replies
+        asks = ap (λ (z : S). c.asked z (c.taken t.caller)) refused.ended.handed.script ∙ ap (λ (rs : List Reply). c.asked (c.script s.caller) rs) refused.ended.handed.taken ∙ sym (asks-here g c x kept place s here replies)
+
+        by : (o : Option TransferView) → c.asked (c.script t.caller) (c.taken t.caller) ≡ o → IsKept g c new × HasStepped g c place x new
+        by (Some y) is =
+            by-whole (begun_with p replies y (walk_for x.board.now y))
+            (ended-place c x.board.now (answer.Err errno) s t refused.ended replies refl y (walk_for x.board.now y) (refused.ended.loaded.some y is).0 (refused.ended.loaded.some y is).1) [] (n - 1)
+            (core-lone run (fair g c x kept) whole kept.kept place p ls n (stands-here run whole kept.kept place p at) new.journal.room (Some errno) first (sym refused.room) (answer.Err errno) refl y (sym asks ∙ is))
+        by None is =
+            by-whole (begun_with p replies p.transfer Ends)
+            (ended-place c x.board.now (answer.Err errno) s t refused.ended replies refl p.transfer Ends (refused.ended.stays is) (over-ends (walk_left x.board.now t) (refused.ended.loaded.none is))) [] (n - 1)
+            (core-lone-finished run (fair g c x kept) whole kept.kept place p ls n (stands-here run whole kept.kept place p at) new.journal.room (Some errno) first (sym refused.room) (answer.Err errno) refl (sym asks ∙ is))

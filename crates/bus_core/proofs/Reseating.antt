@@ -1,0 +1,195 @@
+-- A seat behind two steps on it, by what each of them leaves.
+use Rattle.std.proofs.Common.{◌≡◌, ◌⊎◌, ◌<◌, ℕ, ◌+◌, ◌≤◌, Bool, true, false, List, [], ◌∷◌, ◌++◌, length, Option, Some, refl, sym, ◌∙◌, ap, subst, arith}
+use Rattle.std.specs.Prelude.{take, sum_by, if◌then◌else◌}
+use Rattle.i2c_base.specs.declared.caller.Caller.{Ghosts as CallerGhosts}
+use Rattle.i2c_base.specs.declared.entry.End.{End}
+use Rattle.i2c_base.specs.declared.entry.Entry.TheVariants as entry
+use Rattle.i2c_base.specs.declared.errno.Errno.{Errno}
+use Rattle.i2c_base.specs.declared.reply.Cut.{Cut}
+use Rattle.i2c_base.specs.declared.reply.Cut.TheVariants as cut_at
+use Rattle.i2c_base.specs.declared.reply.Reply.{Reply}
+use Rattle.i2c_base.specs.declared.reply.Reply.TheVariants as reply
+use Rattle.i2c_base.specs.Board.{BoardView}
+use Rattle.i2c_base.specs.Fitting.{Fits}
+use Rattle.i2c_base.specs.Transfer.{written_of}
+use Rattle.bus_journal.specs.Borrowed.{bytes_replied}
+use Rattle.bus_journal.specs.View.{JournalView}
+use Rattle.bus_laws.specs.Spent.{bytes_given}
+use Rattle.bus_spec.specs.Grammar.{is_over, seen, rest_of}
+use Rattle.bus_spec.specs.Readings.{message_cut}
+use Rattle.bus_spec.specs.Slots.{Slots}
+use Rattle.bus_spec.specs.Stepwise.{reply_by}
+use Rattle.bus_spec.specs.Walk.{WalkTree, Look, ActOutcome, Passed, Sent, Then, Ends}
+use Rattle.i2c_spec.specs.Tree.{buses}
+use Rattle.core_laws.specs.Core.{IsLone}
+use Rattle.core_laws.specs.Sends.{Sending, is_call_through}
+use Rattle.core_laws.specs.Steps.{behind_of}
+use Rattle.mux_plan.specs.Plans.{CourseView, slots_of}
+use Rattle.seg_locks.specs.Locks.{LocksView}
+use Rattle.bus_core.specs.Kept.{IsSeated}
+use Rattle.bus_core.specs.Places.{walk_left, owed_by}
+use Rattle.bus_core.specs.Replies.{reply_decided}
+use Rattle.bus_core.specs.Seats.{WentOn, got_heard, HasHeard, HasSettled, HasEnded, HasFreed, MayEnd, MayHear, MayRefuse}
+use Rattle.bus_core.specs.declared.replies.Decided.{Decided}
+use Rattle.bus_core.specs.declared.seat.Seat.{Seat}
+use Rattle.bus_core.proofs.There.{there-behind}
+
+-- a walk that goes on behind a step went on before it
+pub still_going : (v : Slots) (w : WalkTree) (out : ActOutcome) → is_over (rest_of (seen v w) out) ≡ false → is_over w ≡ false
+still_going v Ends out h = absurd (let f : true ≡ false = h in cc)
+still_going v (Look ask next) out h = refl
+still_going v (Then act note next) out h = refl
+
+-- the bytes of a reply that a journal has
+pub same_bytes : (r : Reply) → bytes_replied r ≡ bytes_given r
+same_bytes reply.Done = refl
+same_bytes (reply.Read bytes) = refl
+same_bytes (reply.Err errno) = refl
+
+module _ {C : Type 0} (b : BoardView) (v : LocksView) (s m t : Seat C) where
+  -- it counts a message, and goes on
+  pub heard : (next : Sending) (reading : Bool) (bytes : List ℕ) (e : End)
+      → m ≡ record s { sent = m.sent; written = m.written; replies = m.replies; cut = message_cut next.purpose next.part e } → t ≡ record m { walk = t.walk }
+      → m.sent ≡ (if is_call_through next.purpose e then s.sent + 1 else s.sent) → m.replies ≡ record s.replies { got = got_heard next.purpose reading bytes s.replies.got }
+      → m.written ≡ sum_by written_of (take m.sent m.transfer.msgs)
+      → walk_left b t ≡ behind_of v (walk_left b m) (Sent e bytes) → t.walk.course ≡ m.walk.course → HasHeard b v next reading bytes e s t
+  heard next reading bytes e counted went gone got wrote walk course =
+      subst (λ (x : Seat C). HasHeard b v next reading bytes e s x) (sym went)
+      (record {
+        gone = gone;
+        got = got;
+        same = ap (λ (x : Seat C). record x { walk = t.walk }) counted;
+        walk = ap (walk_left b) (sym went) ∙ walk ∙ ap (λ (x : Seat C). behind_of v (walk_left b x) (Sent e bytes)) counted;
+        wrote = wrote;
+        course = course ∙ ap (λ (x : Seat C). x.walk.course) counted;
+      })
+
+  -- it decides the reply, and goes on
+  pub settled : (verdict : Option Errno) (d : Decided)
+      → m ≡ record s { replies = m.replies; decided = Some d } → t ≡ record m { walk = t.walk; cut = cut_at.No }
+      → reply_decided d m.replies ≡ reply_by verdict (Some s.transfer) s.replies.got
+      → walk_left b t ≡ behind_of v (walk_left b m) Passed → t.walk.course ≡ m.walk.course → HasSettled b v verdict s t
+  settled verdict d decides went replied walk course =
+      let all : t ≡ record s { walk = t.walk; replies = m.replies; decided = Some d; cut = cut_at.No } =
+      went ∙ ap (λ (x : Seat C). record x { walk = t.walk; cut = cut_at.No }) decides in
+      subst (λ (x : Seat C). HasSettled b v verdict s x) (sym all)
+      (record {
+        same = refl;
+        owed = ap (λ (r : Reply). r ∷ []) replied;
+        emptied = refl;
+        walk = ap (walk_left b) (sym all) ∙ walk ∙ ap (λ (x : Seat C). behind_of v (walk_left b x) Passed) decides;
+        course = course ∙ ap (λ (x : Seat C). x.walk.course) decides;
+      })
+
+-- the entry of a settle, of a seat that has decided
+pub settle_entry : {C : Type 0} (s m : Seat C) (d : Option Decided) (q r : Reply) → m ≡ record s { replies = m.replies; decided = d } → q ≡ r
+    → entry.Settle m.number q m.cut ≡ entry.Settle s.number r s.cut
+settle_entry {C} s m d q r decides same = ap (λ (x : Seat C). entry.Settle x.number q x.cut) decides ∙ ap (λ (x : Reply). entry.Settle s.number x s.cut) same
+
+module _ {C S : Type 0} (c : CallerGhosts C S) (b : BoardView) (v : LocksView) (roots : List ℕ) (s t : Seat C) (seated : IsSeated c b roots s) where
+  -- a seat stays seated behind any step whose counts are those of its transfer
+  seated_behind : (out : ActOutcome)
+      → t ≡ record s { walk = t.walk; sent = t.sent; written = t.written; replies = t.replies; decided = t.decided; cut = t.cut }
+      → t.written ≡ sum_by written_of (take t.sent t.transfer.msgs) → t.sent ≤ length t.transfer.msgs
+      → walk_left b t ≡ behind_of v (walk_left b s) out → t.walk.course ≡ s.walk.course → IsSeated c b roots t
+  seated_behind out same wrote within walk course =
+      subst (λ (x : Seat C). x.written ≡ sum_by written_of (take x.sent x.transfer.msgs) → x.sent ≤ length x.transfer.msgs → IsSeated c b roots x) (sym same)
+      (λ wrote within. record {
+        counted = seated.counted ∙ ap (λ (x : CourseView). x.count) (sym course);
+        wrote = wrote;
+        within = within;
+        plugged = λ on bus. seated.plugged (still_going (slots_of v.marks) (walk_left b s) out (ap is_over (sym walk ∙ ap (walk_left b) same) ∙ on)) bus;
+        there = λ on.
+            let tree = sym walk ∙ ap (walk_left b) same in
+            subst (λ (w : WalkTree). (s.transfer.bus < buses b) ⊎ IsLone b w) tree
+            (there-behind b v s.transfer.bus (walk_left b s) out (seated.there (still_going (slots_of v.marks) (walk_left b s) out (ap is_over tree ∙ on))) (ap is_over tree ∙ on));
+        spare = seated.spare;
+      }) wrote within
+
+  -- .. that counts none
+  seated_same : (out : ActOutcome) → t ≡ record s { walk = t.walk; replies = t.replies; decided = t.decided; cut = t.cut }
+      → walk_left b t ≡ behind_of v (walk_left b s) out → t.walk.course ≡ s.walk.course → IsSeated c b roots t
+  seated_same out same walk course =
+      seated_behind out
+      (subst (λ (x : Seat C). x ≡ record s { walk = x.walk; sent = x.sent; written = x.written; replies = x.replies; decided = x.decided; cut = x.cut }) (sym same) refl)
+      (subst (λ (x : Seat C). x.written ≡ sum_by written_of (take x.sent x.transfer.msgs)) (sym same) seated.wrote)
+      (subst (λ (x : Seat C). x.sent ≤ length x.transfer.msgs) (sym same) seated.within)
+      walk course
+
+  pub seated_on : (out : ActOutcome) (cut : Cut) → WentOn b v out cut s t → IsSeated c b roots t
+  seated_on out cut on =
+      seated_same out
+      (subst (λ (x : Seat C). x ≡ record s { walk = x.walk; replies = x.replies; decided = x.decided; cut = x.cut }) (sym on.same) refl)
+      on.walk on.course
+
+  pub seated_settled : (verdict : Option Errno) → HasSettled b v verdict s t → IsSeated c b roots t
+  seated_settled verdict on =
+      seated_same Passed
+      (subst (λ (x : Seat C). x ≡ record s { walk = x.walk; replies = x.replies; decided = x.decided; cut = x.cut }) (sym on.same) refl)
+      on.walk on.course
+
+  -- .. a message that it hears
+  pub seated_heard : (next : Sending) (reading : Bool) (bytes : List ℕ) (e : End) → MayHear next reading bytes e s → HasHeard b v next reading bytes e s t → IsSeated c b roots t
+  seated_heard next reading bytes e may on =
+      seated_behind (Sent e bytes)
+      (subst (λ (x : Seat C). x ≡ record s { walk = x.walk; sent = x.sent; written = x.written; replies = x.replies; decided = x.decided; cut = x.cut }) (sym on.same) refl)
+      on.wrote
+      (subst (λ (x : Seat C). t.sent ≤ length x.transfer.msgs) (sym on.same) (within (is_call_through next.purpose e) refl on.gone))
+      on.walk on.course
+    where
+      within : (through : Bool) → is_call_through next.purpose e ≡ through → t.sent ≡ (if through then s.sent + 1 else s.sent) → t.sent ≤ length s.transfer.msgs
+      within true is gone = (let low = may.more is in omega (arith, low, gone))
+      within false is gone = omega (arith, gone, seated.within)
+
+module _ {C S : Type 0} (c : CallerGhosts C S) (b : BoardView) (v : LocksView) (roots : List ℕ) (s m t : Seat C) where
+  -- what has ended the walk behind a step has ended it for the caller
+  ended_from : (r : Reply) (k : Cut) → HasEnded c b r m.cut m t → m.number ≡ s.number → m.caller ≡ s.caller → m.cut ≡ k → m.transfer ≡ s.transfer → HasEnded c b r k s t
+  ended_from r k h number caller cut transfer =
+      record {
+        number = h.number ∙ number;
+        cut_is = h.cut_is ∙ cut;
+        handed = record { script = h.handed.script ∙ ap c.script caller; taken = h.handed.taken ∙ ap (λ (x : C). c.taken x ++ r ∷ []) caller };
+        loaded = h.loaded;
+        stays = λ none. h.stays none ∙ transfer;
+      }
+
+  -- behind a lock that is freed a walk goes on, or has ended
+  module _ (may : MayEnd c b roots s) (passed : WentOn b v Passed cut_at.No s m) where
+    pub may_end : MayEnd c b roots m
+    may_end =
+        subst (λ (x : Seat C). IsSeated c b roots x → MayEnd c b roots x) (sym passed.same)
+        (λ seated. record { seated = seated; fits = may.fits; wired = may.wired })
+        (seated_on c b v roots s m may.seated Passed cut_at.No passed)
+
+    pub freed : (is_over (walk_left b m) ≡ false → t ≡ m)
+        → (is_over (walk_left b m) ≡ true → (r : Reply) → owed_by m.decided m.replies ≡ r ∷ [] → HasEnded c b r m.cut m t)
+        → IsSeated c b roots t → HasFreed c b v roots s t
+    freed on ended seated =
+        record {
+          on = λ going. subst (λ (x : Seat C). WentOn b v Passed cut_at.No s x) (sym (on (ap is_over passed.walk ∙ going))) passed;
+          ended = λ over r owed. ended_from r cut_at.No
+              (ended (ap is_over passed.walk ∙ over) r (ap (λ (x : Seat C). owed_by x.decided x.replies) passed.same ∙ owed))
+              (ap (λ (x : Seat C). x.number) passed.same) (ap (λ (x : Seat C). x.caller) passed.same) (ap (λ (x : Seat C). x.cut) passed.same) (ap (λ (x : Seat C). x.transfer) passed.same);
+          seated = seated;
+        }
+
+  -- the settle of a refused transfer ends its walk
+  module _ (errno : Errno) (journal : JournalView) (may : MayRefuse c b roots errno journal s) (on : HasSettled b v (Some errno) s m) where
+    fits : (r : Reply) → owed_by m.decided m.replies ≡ r ∷ [] → Fits s.transfer r
+    fits r owed =
+        let same : reply.Err errno ∷ [] ≡ r ∷ [] = sym on.owed ∙ owed in
+        let first : reply.Err errno ≡ r = cc in
+        subst (Fits s.transfer) first tt
+
+    pub may_end_refused : MayEnd c b roots m
+    may_end_refused =
+        subst (λ (x : Seat C). ((r : Reply) → owed_by x.decided x.replies ≡ r ∷ [] → Fits s.transfer r) → IsSeated c b roots x → MayEnd c b roots x) (sym on.same)
+        (λ fits seated. record { seated = seated; fits = λ r owed. (may.asked, fits r owed); wired = may.wired })
+        fits (seated_settled c b v roots s m may.seated (Some errno) on)
+
+    pub refused : (is_over (walk_left b m) ≡ true → (r : Reply) → owed_by m.decided m.replies ≡ r ∷ [] → HasEnded c b r m.cut m t)
+        → HasEnded c b (reply.Err errno) cut_at.No s t
+    refused ended =
+        ended_from (reply.Err errno) cut_at.No
+        (ended (ap is_over (on.walk ∙ ap (λ (w : WalkTree). behind_of v w Passed) may.lone)) (reply.Err errno) on.owed)
+        (ap (λ (x : Seat C). x.number) on.same) (ap (λ (x : Seat C). x.caller) on.same) (ap (λ (x : Seat C). x.cut) on.same) (ap (λ (x : Seat C). x.transfer) on.same)

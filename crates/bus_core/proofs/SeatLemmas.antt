@@ -1,0 +1,86 @@
+-- The seat at a place of the list, and another one there.
+use Rattle.std.proofs.Common.{◌≡◌, ◌<◌, ℕ, zero, suc, length, arith, nat_eq, true, false, List, [], ◌∷◌, get_or, set, Option, Some, None, refl, sym, ◌∙◌, ap, subst, inl, inr}
+use Rattle.std.specs.Prelude.{slice_get, is_some}
+use Rattle.std.proofs.lemmas.Option.{get_or_from_slice_get, slice_get-get_or}
+use Rattle.std.proofs.lemmas.Bool.Decides.{eqb_tells}
+use Rattle.i2c_base.specs.declared.reply.Reply.{Reply}
+use Rattle.bus_core.specs.Places.{owed_by}
+use Rattle.bus_core.specs.Replies.{RepliesView, reply_decided}
+use Rattle.bus_core.specs.Seats.{HasSeat, Reseated}
+use Rattle.bus_core.specs.declared.replies.Decided.{Decided}
+use Rattle.bus_core.specs.declared.seat.Seat.{Seat}
+
+-- what was read at a place is what the list has there
+pub read_here : {X : Type 0} (xs : List X) (i : ℕ) (x y : X) → slice_get xs i ≡ Some x → y ≡ get_or xs i y → y ≡ x
+read_here xs i x y here read = read ∙ get_or_from_slice_get xs i x y here
+
+-- a place has one seat
+pub one_seat : {X : Type 0} (xs : List X) (i : ℕ) (x y : X) → slice_get xs i ≡ Some x → slice_get xs i ≡ Some y → x ≡ y
+one_seat xs i x y a b = (let f : Some x ≡ Some y = sym a ∙ b in cc)
+
+-- what is known of the seat at a place is known of the one that is there; and the one that was changed is that one
+pub known_of : {C : Type 0} (IsSo : Seat C → Type 0) (seats : List (Seat C)) (place : ℕ) (s : Seat C) → HasSeat IsSo seats place → slice_get seats place ≡ Some s → IsSo s
+known_of IsSo seats place s has here = subst IsSo (one_seat seats place has.seat s has.here here) has.is_so
+
+pub changed_of : {C : Type 0} (IsNow : Seat C → Seat C → Type 0) (old new : List (Seat C)) (place : ℕ) (s : Seat C) → (r : Reseated IsNow old new place)
+    → slice_get old place ≡ Some s → IsNow s r.after
+changed_of IsNow old new place s r here = subst (λ (x : Seat _). IsNow x r.after) (one_seat old place r.before s r.here here) r.is_now
+
+module _ {C : Type 0} (seats : List (Seat C)) (place : ℕ) (s old : Seat C) (here : slice_get seats place ≡ Some s) (read : old ≡ get_or seats place old) where
+  -- what is known of the seat there is known of the one that was read, and back
+  pub of_read : (IsSo : Seat C → Type 0) → IsSo s → IsSo old
+  of_read IsSo so = subst IsSo (sym (read_here seats place s old here read)) so
+
+  pub has_read : (IsSo : Seat C → Type 0) → IsSo old → HasSeat IsSo seats place
+  has_read IsSo so = record { seat = s; here = here; is_so = subst IsSo (read_here seats place s old here read) so }
+
+  -- another one is there now
+  pub reseated : (IsNow : Seat C → Seat C → Type 0) (new : Seat C) → IsNow old new → Reseated IsNow seats (set seats place new) place
+  reseated IsNow new now =
+      record {
+        before = s;
+        after = new;
+        here = here;
+        set_is = refl;
+        is_now = subst (λ (x : Seat C). IsNow x new) (read_here seats place s old here read) now;
+      }
+
+-- numbers that a test tells apart differ
+pub told_apart : (a b : ℕ) → nat_eq a b ≡ false → a ≡ b → ⊥
+told_apart a b test same = elim (eqb_tells a b) [
+  | inl e ↦ absurd (let f : true ≡ false = sym e.0 ∙ test in cc)
+  | inr e ↦ e.1 same
+]
+
+-- the one reply that is owed is the one that was decided
+pub same_owed : (o : Option Decided) (v : RepliesView) (d : Decided) (r : Reply) → o ≡ Some d → owed_by o v ≡ r ∷ [] → reply_decided d v ≡ r
+same_owed None v d r is owed = absurd (let f : None ≡ Some d = is in cc)
+same_owed (Some x) v d r is owed =
+    let same : x ≡ d = cc in
+    let first : reply_decided x v ≡ r = cc in
+    ap (λ (y : Decided). reply_decided y v) (sym same) ∙ first
+
+-- something is asked for, or nothing is
+pub asks_or_not : {X : Type 0} (o : Option X) (P : Type 0) → ((x : X) → o ≡ Some x → P) → (o ≡ None → P) → P
+asks_or_not (Some x) P some none = some x refl
+asks_or_not None P some none = none refl
+
+-- someone stands at a place within the list
+pub there : {X : Type 0} (xs : List X) (i : ℕ) → i < length xs → (x : X) × (slice_get xs i ≡ Some x)
+there [] i low = absurd (omega (arith, low))
+there (x ∷ xs) zero low = (x, refl)
+there (x ∷ xs) (suc i) low = there xs i (omega (arith, low))
+
+-- a test of an option tells it
+pub none-told : {X : Type 0} (o : Option X) → is_some o ≡ false → o ≡ None
+none-told None e = refl
+none-told (Some x) e = absurd (let f : true ≡ false = e in cc)
+
+pub some-told : {X : Type 0} (o : Option X) → is_some o ≡ true → (x : X) × (o ≡ Some x)
+some-told None e = absurd (let f : false ≡ true = e in cc)
+some-told (Some x) e = (x, refl)
+
+-- what was read at a place of the numbers, whose number was converted
+pub number_read : (xs : List (Option ℕ)) (n m : ℕ) (r o : Option ℕ) → m ≡ n → n < length xs → r ≡ get_or xs m r → r ≡ o → slice_get xs n ≡ Some o
+number_read xs n m r o from low read is =
+    slice_get-get_or xs n r low ∙ ap (λ (k : ℕ). Some (get_or xs k r)) (sym from) ∙ ap Some (sym read ∙ is)

@@ -1,0 +1,159 @@
+-- The callers take their seats, one after the other: each finds its number without a place, and so at most eight do.
+use Rattle.std.proofs.Common.{◌≡◌, ◌⊎◌, ℕ, zero, suc, ◌+◌, ◌<◌, ◌≤◌, List, [], ◌∷◌, ◌++◌, length, set, get_or, replicate, Option, Some, None, refl, sym, ◌∙◌, ap, subst, arith, inl, inr}
+use Rattle.std.specs.Prelude.{slice_get}
+use Rattle.std.specs.List.{sum_by}
+use Rattle.std.proofs.lemmas.List.{length-append, length-map, length-set}
+use Rattle.std.proofs.lemmas.List.Sums.{sum_by-set, get_or-le-sum_by}
+use Rattle.std.proofs.lemmas.Option.{slice_get_within, get_or_from_slice_get}
+use Rattle.i2c_base.specs.declared.caller.Caller.{Ghosts as CallerGhosts}
+use Rattle.i2c_base.specs.Board.{BoardView}
+use Rattle.i2c_base.specs.Limits.{MOST_CALLERS}
+use Rattle.core_laws.specs.Table.{AreDistinct}
+use Rattle.core_laws.proofs.Core.{map_at, map_from, at_set}
+use Rattle.core_laws.proofs.Steps.{set_elsewhere}
+use Rattle.bus_core.specs.Opens.{numbers_in, callers_scripts, without_place, IsFreshSeat, IsSeatOf, AreSeated}
+use Rattle.bus_core.specs.Places.{script_of, scripts_of}
+use Rattle.bus_core.specs.declared.seat.Seat.{Seat}
+use Rattle.bus_core.proofs.SeatLemmas.{there}
+
+-- a list with one more at its end
+push_at : {X : Type 0} (xs : List X) (y z : X) (i : ℕ) → slice_get (xs ++ y ∷ []) i ≡ Some z → ((i ≡ length xs) × (y ≡ z)) ⊎ (slice_get xs i ≡ Some z)
+push_at [] y z zero h = inl (refl, (let f : Some y ≡ Some z = h in cc))
+push_at [] y z (suc i) h = absurd (let f : None ≡ Some z = h in cc)
+push_at (x ∷ xs) y z zero h = inr h
+push_at (x ∷ xs) y z (suc i) h = elim (push_at xs y z i h) [ inl e ↦ inl (ap suc e.0, e.1) | inr e ↦ inr e ]
+
+push_keeps : {X : Type 0} (xs ys : List X) (z : X) (i : ℕ) → slice_get xs i ≡ Some z → slice_get (xs ++ ys) i ≡ Some z
+push_keeps [] ys z i h = absurd (let f : None ≡ Some z = h in cc)
+push_keeps (x ∷ xs) ys z zero h = h
+push_keeps (x ∷ xs) ys z (suc i) h = push_keeps xs ys z i h
+
+pub push_here : {X : Type 0} (xs ys : List X) (y : X) → slice_get (xs ++ y ∷ ys) (length xs) ≡ Some y
+push_here [] ys y = refl
+push_here (x ∷ xs) ys y = push_here xs ys y
+
+-- the new one at a place within a list
+put_here : {X : Type 0} (xs : List X) (i : ℕ) (y : X) → i < length xs → slice_get (set xs i y) i ≡ Some y
+put_here [] i y low = absurd (omega (arith, low))
+put_here (x ∷ xs) zero y low = refl
+put_here (x ∷ xs) (suc i) y low = put_here xs i y (omega (arith, low))
+
+-- two lists of one length whose places are the same
+same_lists : {X : Type 0} (xs ys : List X) → length xs ≡ length ys → ((i : ℕ) (x y : X) → slice_get xs i ≡ Some x → slice_get ys i ≡ Some y → x ≡ y) → xs ≡ ys
+same_lists [] [] e each = refl
+same_lists [] (y ∷ ys) e each = absurd (omega (arith, e))
+same_lists (x ∷ xs) [] e each = absurd (omega (arith, e))
+same_lists (x ∷ xs) (y ∷ ys) e each =
+    let first : x ≡ y = each 0 x y refl refl in
+    let rest : xs ≡ ys = same_lists xs ys (omega (arith, e)) (λ i a b at to. each (suc i) a b at to) in
+    ap (λ (z : _). z ∷ xs) first ∙ ap (λ (zs : List _). y ∷ zs) rest
+
+none_at : {X : Type 0} (n i : ℕ) (x : X) → slice_get (replicate {A = Option X} n None) i ≡ Some (Some x) → ⊥
+none_at zero i x h = (let f : None ≡ Some (Some x) = h in cc)
+none_at (suc n) zero x h = (let f : Some None ≡ Some (Some x) = h in let g : None ≡ Some x = cc in cc)
+none_at (suc n) (suc i) x h = none_at n i x h
+
+module _ {C S : Type 0} (c : CallerGhosts C S) (b : BoardView) (roots : List ℕ) (callers : List (ℕ × C)) where
+  -- before the first
+  pub seated-none : (seats : List (Seat C)) (places : List (Option ℕ)) → seats ≡ [] → places ≡ replicate MOST_CALLERS None → AreSeated c b roots callers 0 seats places
+  seated-none seats places none blank =
+      subst (λ (ss : List (Seat C)). AreSeated c b roots callers 0 ss places) (sym none)
+      (subst (λ (ps : List (Option ℕ)). AreSeated c b roots callers 0 [] ps) (sym blank)
+      (record {
+        counted = refl;
+        fresh = λ i s at. absurd (let f : None ≡ Some s = at in cc);
+        all = refl;
+        named = λ i s at. absurd (let f : None ≡ Some s = at in cc);
+        there = λ n place at. absurd (none_at MOST_CALLERS n place at);
+        left = refl;
+      }))
+
+  module _ (count : ℕ) (seats : List (Seat C)) (places : List (Option ℕ)) (seated : AreSeated c b roots callers count seats places)
+      (distinct : AreDistinct (numbers_in callers)) (x : ℕ × C) (here : slice_get callers count ≡ Some x) (below : x.0 < MOST_CALLERS) where
+    low : x.0 < length places
+    low = (let all = seated.all in omega (arith, below, all))
+
+    -- its number has no place
+    unplaced : slice_get places x.0 ≡ Some None
+    unplaced = (let at = there places x.0 low in by at.0 at.1)
+      where
+        by : (o : Option ℕ) → slice_get places x.0 ≡ Some o → slice_get places x.0 ≡ Some None
+        by None at = at
+        by (Some place) at =
+            let has = seated.there x.0 place at in
+            let of = seated.fresh place has.seat has.here in
+            let number : of.of.0 ≡ x.0 = sym of.fresh.number_is ∙ has.number_is in
+            let same : place ≡ count = distinct place count x.0
+            (subst (λ (n : ℕ). slice_get (numbers_in callers) place ≡ Some n) number (map_at (λ (y : ℕ × C). y.0) callers place of.of of.here))
+            (map_at (λ (y : ℕ × C). y.0) callers count x here) in
+            let within : place < length seats = slice_get_within seats place has.seat has.here in
+            let counted = seated.counted in
+            absurd (omega (arith, same, within, counted))
+
+    found : without_place (get_or places x.0 None) ≡ 1
+    found = ap without_place (get_or_from_slice_get places x.0 None None unplaced)
+
+    pub room-for-one : count < MOST_CALLERS
+    room-for-one =
+        let one : without_place (get_or places x.0 None) ≤ sum_by without_place places = get_or-le-sum_by without_place places x.0 None low in
+        let is = found in
+        let left = seated.left in
+        omega (arith, one, is, left)
+
+    pub seated-one : (s : Seat C) → IsFreshSeat c b roots x.0 x.1 s → AreSeated c b roots callers (count + 1) (seats ++ s ∷ []) (set places x.0 (Some count))
+    seated-one s fresh =
+        let counted = seated.counted in
+        record {
+          counted = length-append seats (s ∷ []) ∙ ap (λ (n : ℕ). n + 1) counted;
+          fresh = λ i t at.
+              elim (push_at seats s t i at) [
+                | inl e ↦ subst (λ (u : Seat C). IsSeatOf c b roots callers i u) e.1
+                    (record { of = x; here = subst (λ (n : ℕ). slice_get callers n ≡ Some x) (sym (e.0 ∙ counted)) here; fresh = fresh })
+                | inr old ↦ seated.fresh i t old
+              ];
+          all = length-set places x.0 (Some count) ∙ seated.all;
+          named = λ i t at.
+              elim (push_at seats s t i at) [
+                | inl e ↦ subst (λ (u : Seat C). slice_get (set places x.0 (Some count)) u.number ≡ Some (Some i)) e.1
+                    (subst (λ (n : ℕ). slice_get (set places x.0 (Some count)) n ≡ Some (Some i)) (sym fresh.number_is)
+                    (put_here places x.0 (Some count) low ∙ ap (λ (n : ℕ). Some (Some n)) (sym (e.0 ∙ counted))))
+                | inr old ↦ (let named : slice_get places t.number ≡ Some (Some i) = seated.named i t old in
+                    let none = unplaced in
+                    set_elsewhere places x.0 t.number (Some count)
+                    (λ same. let f : Some (Some i) ≡ Some None = sym named ∙ ap (slice_get places) same ∙ none in let g : Some i ≡ None = cc in cc)
+                    ∙ named)
+              ];
+          there = λ n place at.
+              elim (at_set places x.0 n (Some count) (Some place) at) [
+                | inl e ↦ (let e1 : Some count ≡ Some place = e.1 in
+                    let same : count ≡ place = cc in
+                    record {
+                      seat = s;
+                      here = subst (λ (k : ℕ). slice_get (seats ++ s ∷ []) k ≡ Some s) (counted ∙ same) (push_here seats [] s);
+                      number_is = fresh.number_is ∙ sym e.0;
+                    })
+                | inr old ↦ (let has = seated.there n place old.1 in
+                    record { seat = has.seat; here = push_keeps seats (s ∷ []) has.seat place has.here; number_is = has.number_is })
+              ];
+          left =
+              let sums : sum_by without_place (set places x.0 (Some count)) + without_place (get_or places x.0 None) ≡ sum_by without_place places + 0 = sum_by-set without_place places x.0 (Some count) None low in
+              let is = found in
+              let left = seated.left in
+              omega (arith, sums, is, left);
+        }
+
+  -- behind the last their scripts are those of the callers
+  pub seated-all : (seats : List (Seat C)) (places : List (Option ℕ)) → AreSeated c b roots callers (length callers) seats places → scripts_of c seats ≡ callers_scripts c callers
+  seated-all seats places seated =
+      same_lists (scripts_of c seats) (callers_scripts c callers)
+      (length-map seats (script_of c) ∙ seated.counted ∙ sym (length-map callers (λ (x : ℕ × C). (x.0, c.script x.1))))
+      (λ i a z at to.
+      let s = map_from (script_of c) seats i a at in
+      let of = seated.fresh i s.0 s.1 in
+      let script : slice_get (callers_scripts c callers) i ≡ Some (of.of.0, c.script of.of.1) = map_at (λ (x : ℕ × C). (x.0, c.script x.1)) callers i of.of of.here in
+      let f : Some (of.of.0, c.script of.of.1) ≡ Some z = sym script ∙ to in
+      let here : (of.of.0, c.script of.of.1) ≡ z = cc in
+      let number : s.0.number ≡ of.of.0 = of.fresh.number_is in
+      let same : c.script s.0.caller ≡ c.script of.of.1 = of.fresh.script in
+      let is : script_of c s.0 ≡ (of.of.0, c.script of.of.1) = cc in
+      sym s.2 ∙ is ∙ here)

@@ -1,0 +1,79 @@
+-- A step of two entries, a message or a line step with its settle; and the ports behind a step on one of them.
+use Rattle.std.proofs.Common.{◌≡◌, ℕ, zero, suc, ◌+◌, true, IsTrue, List, [], ◌∷◌, ◌++◌, length, reverse, map, set, Some, None, refl, sym, ◌∙◌, ap, subst, arith}
+use Rattle.std.specs.Prelude.{slice_get}
+use Rattle.std.proofs.lemmas.List.{length-append, map-set}
+use Rattle.i2c_base.specs.declared.caller.Caller.{Ghosts as CallerGhosts}
+use Rattle.i2c_base.specs.declared.entry.Entry.{Entry}
+use Rattle.i2c_base.specs.Limits.{MOST_CALLERS}
+use Rattle.i2c_outside.specs.declared.port.Port.{Ghosts as PortGhosts}
+use Rattle.bus_spec.specs.Legal.{is_stepping}
+use Rattle.bus_spec.specs.Readings.{caller_of}
+use Rattle.bus_spec.specs.Schedule.{is_settle}
+use Rattle.bus_spec.specs.Stepwise.{IsStepwise}
+use Rattle.bus_message.specs.Sockets.{sockets_of}
+use Rattle.core_laws.specs.Spots.{Socket}
+use Rattle.core_laws.proofs.Core.{map_at, set_same}
+use Rattle.core_laws.proofs.Laws.{turn-two}
+use Rattle.bus_core.specs.Kept.{roots_of, asks_in, IsKept, HasStepped}
+use Rattle.bus_core.specs.Seats.{HasSeat, Reseated}
+use Rattle.bus_core.specs.declared.parts.CoreParts.{CoreParts}
+use Rattle.bus_core.specs.declared.seat.Seat.{Seat}
+use Rattle.bus_core.proofs.Kept.{new-scripts}
+
+-- a later element at a place stands for an earlier one
+pub set-set : {X : Type 0} (xs : List X) (i : ℕ) (x y : X) → set (set xs i x) i y ≡ set xs i y
+set-set [] i x y = refl
+set-set (z ∷ zs) zero x y = refl
+set-set (z ∷ zs) (suc i) x y = ap (λ (ys : List _). z ∷ ys) (set-set zs i x y)
+
+pub set-at : {X : Type 0} (xs : List X) (i : ℕ) (x y : X) → slice_get xs i ≡ Some x → slice_get (set xs i y) i ≡ Some y
+set-at [] i x y h = absurd (let f : None ≡ Some x = h in cc)
+set-at (z ∷ zs) zero x y h = refl
+set-at (z ∷ zs) (suc i) x y h = set-at zs i x y h
+
+-- who stands at a place is one
+pub seat-is : {C : Type 0} (IsSo : Seat C → Type 0) (seats : List (Seat C)) (place : ℕ) (s : Seat C) → slice_get seats place ≡ Some s → HasSeat IsSo seats place → IsSo s
+seat-is IsSo seats place s at so = (let is : so.seat ≡ s = (let f : Some so.seat ≡ Some s = sym so.here ∙ at in cc) in subst IsSo is so.is_so)
+
+pub seat-now : {C : Type 0} (IsNow : Seat C → Seat C → Type 0) (old new : List (Seat C)) (place : ℕ) (s : Seat C) → slice_get old place ≡ Some s → (r : Reseated IsNow old new place) → IsNow s r.after
+seat-now IsNow old new place s at r = (let is : r.before ≡ s = (let f : Some r.before ≡ Some s = sym r.here ∙ at in cc) in subst (λ (y : Seat _). IsNow y r.after) is r.is_now)
+
+-- the roots of ports are those of what is told of them
+sockets-roots : {P : Type 0} (g : PortGhosts P) (ports : List (ℕ × P)) → map (λ (y : Socket). y.root) (sockets_of g ports) ≡ roots_of ports
+sockets-roots g [] = refl
+sockets-roots g (q ∷ qs) = ap (λ (rs : List ℕ). q.0 ∷ rs) (sockets-roots g qs)
+
+-- .. and stay over a step on one
+pub roots-stay : {P : Type 0} (g : PortGhosts P) (old new : List (ℕ × P)) (at : ℕ) (x y : Socket) → slice_get (sockets_of g old) at ≡ Some x → sockets_of g new ≡ set (sockets_of g old) at y → y.root ≡ x.root
+    → roots_of new ≡ roots_of old
+roots-stay g old new at x y here is root =
+    sym (sockets-roots g new) ∙ ap (map (λ (z : Socket). z.root)) is ∙ map-set (λ (z : Socket). z.root) (sockets_of g old) at y
+    ∙ ap (set (map (λ (z : Socket). z.root) (sockets_of g old)) at) root
+    ∙ set_same (map (λ (z : Socket). z.root) (sockets_of g old)) at x.root (map_at (λ (z : Socket). z.root) (sockets_of g old) at x here)
+    ∙ sockets-roots g old
+
+module _ {P C S : Type 0} (g : PortGhosts P) (c : CallerGhosts C S) (x : CoreParts P C) (kept : IsKept g c x) (place : ℕ) (s : Seat C) (here : slice_get x.seats.items place ≡ Some s)
+    (new : CoreParts P C) (t : Seat C) (same_board : new.board ≡ x.board) (seats : new.seats.items ≡ set x.seats.items place t)
+    (number : t.number ≡ s.number) (script : c.script t.caller ≡ c.script s.caller) (roots : roots_of new.ports.items ≡ roots_of x.ports.items) where
+  -- A STEP of two entries, of which the second is a settle
+  pub stepped-two : new.start ≡ x.start → new.places ≡ x.places → (e f : Entry) → new.journal.entries ≡ x.journal.entries ++ e ∷ f ∷ [] → new.journal.room + 2 ≡ x.journal.room
+      → is_stepping e ≡ true → is_settle f ≡ true → caller_of e ≡ s.number → caller_of f ≡ s.number → (IsTrue g.tells → IsStepwise x.board.now MOST_CALLERS (asks_in c x) (f ∷ e ∷ reverse x.journal.entries)) → HasStepped g c place x new
+  stepped-two start places e f entries room steps settles own owns stepwise =
+      let count : length new.journal.entries ≡ length x.journal.entries + 2 = ap length entries ∙ length-append x.journal.entries (e ∷ f ∷ []) in
+      record {
+        board = same_board;
+        start = start;
+        scripts = new-scripts g c x kept place s here new t same_board seats number script roots;
+        roots = roots;
+        places = places;
+        room = omega (arith, room);
+        counted = omega (arith, room, count);
+        turn = λ tell s2 at.
+            let is : s ≡ s2 = (let h : Some s ≡ Some s2 = sym here ∙ at in cc) in
+            record {
+              turn = record { caller = caller_of e; entries = e ∷ f ∷ [] };
+              own = own ∙ ap (λ (y : Seat C). y.number) is;
+              comes = turn-two x.board.now MOST_CALLERS (asks_in c x) (reverse x.journal.entries) e f (stepwise tell) (owns ∙ sym own) steps settles;
+              entries = entries;
+            };
+      }

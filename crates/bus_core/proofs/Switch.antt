@@ -1,0 +1,285 @@
+-- A line step of the caller at a place: it may be done, and behind it all is kept, with the settle that it decides.
+use Rattle.std.proofs.Common.{◌≡◌, ◌⊎◌, ℕ, ◌+◌, ◌<◌, ◌≤◌, Bool, true, false, IsTrue, List, [], ◌∷◌, ◌++◌, length, reverse, set, Option, Some, None, refl, sym, ◌∙◌, ap, subst, arith, inl, inr}
+use Rattle.std.specs.Prelude.{slice_get, unwrap_or}
+use Rattle.std.specs.Option.{option_map}
+use Rattle.std.proofs.lemmas.List.{reverse-append, append_assoc}
+use Rattle.i2c_base.specs.declared.board.MuxKind.{MuxKind}
+use Rattle.i2c_base.specs.declared.board.MuxKind.TheVariants.{Gpio}
+use Rattle.i2c_base.specs.declared.board.MuxSpec.{MuxSpec}
+use Rattle.i2c_base.specs.declared.caller.Caller.{Ghosts as CallerGhosts}
+use Rattle.i2c_base.specs.declared.entry.Entry.{Entry}
+use Rattle.i2c_base.specs.declared.entry.Entry.TheVariants as entry
+use Rattle.i2c_base.specs.declared.errno.Errno.{Errno}
+use Rattle.i2c_base.specs.declared.ids.LockId.{LockId}
+use Rattle.i2c_base.specs.declared.reply.Cut.TheVariants as cut_at
+use Rattle.i2c_base.specs.declared.reply.Reply.{Reply}
+use Rattle.i2c_base.specs.declared.reply.Reply.TheVariants as answer
+use Rattle.i2c_base.specs.Board.{BoardView}
+use Rattle.i2c_base.specs.Limits.{MOST_CALLERS}
+use Rattle.i2c_base.specs.Muxes.{facts_of}
+use Rattle.i2c_base.specs.Transfer.{TransferView}
+use Rattle.i2c_outside.specs.declared.port.Port.{Ghosts as PortGhosts}
+use Rattle.i2c_outside.specs.LineCalls.{HasLine}
+use Rattle.i2c_spec.specs.Tree.{buses, root_of, home_of_mux, of_mux}
+use Rattle.i2c_spec.specs.World.{World}
+use Rattle.bus_journal.specs.View.{JournalView}
+use Rattle.bus_spec.specs.Grammar.{first_act, first_note, is_over, rest_of, seen}
+use Rattle.bus_spec.specs.Past.{now}
+use Rattle.bus_spec.specs.Readings.{cut_told}
+use Rattle.bus_spec.specs.Stepwise.{reply_by}
+use Rattle.bus_spec.specs.Walk.{Act, Job, Shift, Settle, Lined, Passed, WalkTree, job_bus, line_mux, line_level}
+use Rattle.bus_laws.specs.Jobs.{IsJobOf}
+use Rattle.bus_laws.specs.Next.{HasLineIn}
+use Rattle.bus_laws.specs.Spent.{bytes_given}
+use Rattle.bus_laws.proofs.Laws.{next-line, quiet-next}
+use Rattle.bus_laws.proofs.past.Laws.{past-stands}
+use Rattle.bus_message.specs.Sockets.{sockets_of, MayShift, Shifted}
+use Rattle.mux_plan.proofs.Dues.{tells-after, on-after}
+use Rattle.mux_plan.specs.Marks.{applied, MayMark}
+use Rattle.mux_plan.specs.Plans.{slots_of}
+use Rattle.seg_locks.specs.Locks.{LocksView}
+use Rattle.core_laws.specs.Behind.{line_entry, switched}
+use Rattle.core_laws.specs.Core.{Place, Run, Whole, IsShifted, has_reply}
+use Rattle.core_laws.specs.Seats.{IsLeft, IsDecided}
+use Rattle.core_laws.specs.Spots.{Socket}
+use Rattle.core_laws.specs.Steps.{next_of, behind_of, AreMarked}
+use Rattle.core_laws.proofs.Core.{lone_act, locks-here, owes-here, not_over}
+use Rattle.core_laws.proofs.Laws.{stands-here, lined-leaves, core-lined, core-line-settled, room-line, room-one, log-line, line-wants, shift-wants, shift-root, held-wants, next-same}
+use Rattle.bus_core.specs.Kept.{roots_of, IsSeated, run_of, whole_of, IsKept, HasStepped}
+use Rattle.bus_core.specs.Marks.{AreHeld}
+use Rattle.bus_core.specs.Places.{walk_left, place_of}
+use Rattle.bus_core.specs.Seats.{HasSeat, Reseated, WentOn, MaySettle, IsSettledIn, dues_of, cut_of_line}
+use Rattle.bus_core.specs.declared.parts.CoreParts.{CoreParts}
+use Rattle.bus_core.specs.declared.seat.Seat.{Seat}
+use Rattle.bus_core.proofs.Kept.{fair, place-here, seated-here, kept-whole, stepped-one}
+use Rattle.bus_core.proofs.Converse.{port, length-applied, holds_mux, dues-held, switched-on, marks-on}
+use Rattle.bus_core.proofs.Heard.{went-on-place, went-on-seated, settle-first, settled-place, settled-seated}
+use Rattle.bus_core.proofs.Stepped.{roots-stay, seat-is, seat-now, set-at, set-set, stepped-two}
+
+-- a gpio mux is switched by a line
+by-line : (o : Option MuxSpec) → unwrap_or (option_map (λ (m : MuxSpec). Some m.kind) o) None ≡ Some Gpio → unwrap_or (option_map (λ (m : MuxSpec). (facts_of m.kind).by_line) o) false ≡ true
+by-line None e = absurd (let f : None ≡ Some Gpio = e in cc)
+by-line (Some m) e = (let f : Some m.kind ≡ Some Gpio = e in let is : m.kind ≡ Gpio = cc in ap (λ (k : MuxKind). (facts_of k).by_line) is)
+
+-- a line of the board is one of the world of its root
+line-in : (b : BoardView) (w : World) (m level : ℕ) → w.board ≡ b → HasLineIn b w.root m level → HasLine w m level
+line-in b w m level is has = record {
+  by_line = ap (λ (y : BoardView). of_mux (λ x. (facts_of x.kind).by_line) false y m) is ∙ by-line (slice_get b.muxes m) has.is_gpio;
+  on_root = ap (λ (y : BoardView). root_of y (home_of_mux y m)) is ∙ has.on_root;
+  within = subst (λ (y : BoardView). level ≤ of_mux (λ x. x.channels) 0 y m) (sym is) has.within;
+}
+
+-- an error has no bytes
+no-bytes : (verdict : Option Errno) (err : Errno) (t : Option TransferView) (got : List ℕ) → verdict ≡ Some err → length (bytes_given (reply_by verdict t got)) ≡ 0
+no-bytes verdict err t got is = ap (λ (o : Option Errno). length (bytes_given (reply_by o t got))) is
+
+module _ {P C S : Type 0} (g : PortGhosts P) (c : CallerGhosts C S) (x : CoreParts P C) (kept : IsKept g c x) (place : ℕ) (s : Seat C) (here : slice_get x.seats.items place ≡ Some s)
+    (job : Job) (first : next_of x.locks (walk_left x.board.now s) ≡ Some (Shift job)) where
+  abbrev run : Run
+  run = run_of g c x
+
+  abbrev whole : Whole
+  whole = whole_of g c x kept.held kept.owes
+
+  abbrev p : Place
+  p = place_of c x.board.now s
+
+  at : slice_get whole.places place ≡ Some p
+  at = place-here g c x kept place s here
+
+  abbrev ls : List LockId
+  ls = (locks-here run whole kept.kept place p at).0
+
+  abbrev n : ℕ
+  n = (owes-here run whole kept.kept place p at).0
+
+  its : IsSeated c x.board.now (roots_of x.ports.items) s
+  its = seated-here g c x kept place s here
+
+  goes : is_over (walk_left x.board.now s) ≡ false
+  goes = not_over (slots_of x.locks.marks) (walk_left x.board.now s) (Shift job) first
+
+  on-bus : s.transfer.bus < buses x.board.now
+  on-bus = elim (its.there goes) [
+    | inl low ↦ low
+    | inr lone ↦ absurd (let l = lone_act x.board.now (slots_of x.locks.marks) (walk_left x.board.now s) lone (Shift job) first in let f : Shift job ≡ Settle l.0 = l.1 in cc)
+  ]
+
+  job-of : IsJobOf x.board.now s.transfer job
+  job-of = shift-root run whole kept.kept place p at job first
+
+  plug : (y : Socket) × (slice_get whole.sockets s.port ≡ Some y) × (y.root ≡ root_of x.board.now s.transfer.bus)
+  plug = port g c x kept place s here goes on-bus
+
+  rooted : plug.0.root ≡ root_of x.board.now (job_bus job)
+  rooted = plug.2 ∙ sym job-of.rooted
+
+  -- where ports tell, the line is there
+  line-there : IsTrue g.tells → HasLine plug.0.world (line_mux job) (line_level job)
+  line-there tell =
+      let f = fair g c x kept in
+      let stands = past-stands x.board.now f.tree f.plain f.lines run.asks f.sends MOST_CALLERS whole.past (kept.kept.told tell).stepwise in
+      let has = next-line x.board.now f.tree f.lines run.asks f.sends (now x.board.now run.asks whole.past) stands s.number job (next-same run whole kept.kept tell place p at ∙ first) in
+      let world = ((kept.kept.told tell).ports_told s.port plug.0 plug.1).world in
+      let board = ap (λ (w : World). w.board) world ∙ stands.told.board plug.0.root in
+      let root = ap (λ (w : World). w.root) world ∙ stands.told.root plug.0.root in
+      line-in x.board.now plug.0.world (line_mux job) (line_level job) board (subst (λ (r : ℕ). HasLineIn x.board.now r (line_mux job) (line_level job)) (sym (root ∙ rooted)) has)
+
+  pub may-shift : (mux level : ℕ) → line_mux job ≡ mux → line_level job ≡ level → MayShift g.tells mux level whole.sockets s.port
+  may-shift mux level of_mux to_level = record {
+    socket = plug.0;
+    here = plug.1;
+    idle = line-wants run whole kept.kept place p at job first s.port plug.0 plug.1 rooted;
+    has = λ tell. subst (λ (l : ℕ). HasLine plug.0.world mux l) to_level (subst (λ (m : ℕ). HasLine plug.0.world m (line_level job)) of_mux (line-there tell));
+    room = λ tell. (let room = log-line run whole kept.kept place p at job first tell s.port plug.0 plug.1 in omega (arith, room));
+  }
+
+  pub line-room : 1 ≤ x.journal.room
+  line-room = room-one run whole kept.kept place p at (Shift job) first
+
+  -- IT WAS DONE
+  module _ (failed : Bool) where
+    -- the marks that it changes may be written
+    pub line-dues-own : AreHeld x.locks s.number (dues_of x.board.now x.locks (Lined failed) s)
+    line-dues-own =
+        let own = locks-here run whole kept.kept place p at in
+        let has = held-wants run whole kept.kept place p at own.0 own.1 in
+        let sends = shift-wants run whole kept.kept place p at job first in
+        dues-held x.locks s.number (dues_of x.board.now x.locks (Lined failed) s)
+        (on-after (holds_mux x.locks s.number) (next_of x.locks p.tree) (first_note (seen (slots_of x.locks.marks) p.tree)) (Lined failed)
+        (subst (λ (o : Option Act). MayMark (holds_mux x.locks s.number) o (first_note (seen (slots_of x.locks.marks) p.tree))) (sym first)
+        (switched-on x.locks s.number own.0 has job sends.own, marks-on x.locks s.number own.0 has x.board.now (first_note (seen (slots_of x.locks.marks) p.tree)).marks sends.marked)))
+
+    abbrev marks : List (Option ℕ)
+    marks = applied (dues_of x.board.now x.locks (Lined failed) s) x.locks.marks
+
+    abbrev locks2 : LocksView
+    locks2 = record x.locks { marks = marks }
+
+    abbrev behind : WalkTree
+    behind = behind_of x.locks p.tree (Lined failed)
+
+    leaves : IsLeft run.board p.transfer (has_reply p.owed) p.sent behind ⊎ ((has_reply p.owed ≡ false) × (err : Errno) × IsDecided run.board p.transfer (Some err) behind)
+    leaves = lined-leaves run whole kept.kept place p at job first failed
+
+    module _ (t : Seat C) (went : WentOn x.board.now x.locks (Lined failed) (cut_of_line failed) s t) where
+      place-is : place_of c x.board.now t ≡ switched whole p job failed
+      place-is = went-on-place c x.board.now x.locks (roots_of x.ports.items) (Lined failed) (cut_of_line failed) s t went
+
+      seated : IsSeated c x.board.now (roots_of x.ports.items) t
+      seated = went-on-seated c x.board.now x.locks (roots_of x.ports.items) (Lined failed) (cut_of_line failed) s t went its goes on-bus
+
+      quiet : IsLeft run.board p.transfer (has_reply p.owed) p.sent behind → (verdict : Option Errno) → next_of locks2 (walk_left x.board.now t) ≡ Some (Settle verdict) → ⊥
+      quiet is verdict comes = quiet-next (slots_of marks) behind is.quiet verdict (subst (λ (w : WalkTree). next_of locks2 w ≡ Some (Settle verdict)) went.walk comes)
+
+      verdict-is : (err : Errno) → IsDecided run.board p.transfer (Some err) behind → (verdict : Option Errno) → next_of locks2 (walk_left x.board.now t) ≡ Some (Settle verdict) → verdict ≡ Some err
+      verdict-is err decides verdict comes =
+          let comes2 : next_of locks2 behind ≡ Some (Settle verdict) = subst (λ (w : WalkTree). next_of locks2 w ≡ Some (Settle verdict)) went.walk comes in
+          (let f : Some (Settle verdict) ≡ Some (Settle (Some err)) = sym comes2 ∙ (settle-first locks2 behind (Some err) decides.first).0 in cc)
+
+      module _ (j : JournalView) (entries : j.entries ≡ x.journal.entries ++ line_entry p job failed ∷ []) (room : j.room + 1 ≡ x.journal.room) (room_bytes : j.room_bytes ≡ x.journal.room_bytes) where
+        -- THE SETTLE may be made
+        pub line-may-settle : MaySettle x.board.now locks2 j t
+        line-may-settle = record {
+          counted = seated.counted;
+          room = λ verdict comes. elim leaves [
+            | inl is ↦ absurd (quiet is verdict comes)
+            | inr d ↦ (let two : 2 ≤ x.journal.room = room-line run whole kept.kept place p at job first d.0 in
+                let zeros : length (bytes_given (reply_by verdict (Some t.transfer) t.replies.got)) ≡ 0 = no-bytes verdict d.1 (Some t.transfer) t.replies.got (verdict-is d.1 d.2 verdict comes) in
+                (omega (arith, two, room), omega (arith, zeros)))
+          ];
+        }
+
+        module _ (new : CoreParts P C) (same_board : new.board ≡ x.board) (locks : new.locks ≡ locks2) (old : Socket) (now : Socket) (port_here : slice_get (sockets_of g x.ports.items) s.port ≡ Some old)
+            (sockets : sockets_of g new.ports.items ≡ set (sockets_of g x.ports.items) s.port now) (shifted : Shifted g.tells (line_mux job) (line_level job) failed old now) (start : new.start ≡ x.start) (places : new.places ≡ x.places) where
+          roots : roots_of new.ports.items ≡ roots_of x.ports.items
+          roots = roots-stay g x.ports.items new.ports.items s.port old now port_here sockets shifted.root
+
+          marked : AreMarked x.board.now p.tree x.locks (Lined failed) marks
+          marked = record {
+            all = length-applied (dues_of x.board.now x.locks (Lined failed) s) x.locks.marks ∙ kept.kept.table.marked;
+            marked = λ y told. tells-after (next_of x.locks p.tree) (first_note (seen (slots_of x.locks.marks) p.tree)) (Lined failed) y x.locks.marks told;
+          }
+
+          is-shifted : IsShifted run whole p job s.port old now failed marks
+          is-shifted = record {
+            first = first;
+            port = port_here;
+            rooted = (let same : old ≡ plug.0 = (let f : Some old ≡ Some plug.0 = sym port_here ∙ plug.1 in cc) in ap (λ (z : Socket). z.root) same ∙ rooted);
+            root = shifted.root;
+            idle = shifted.idle;
+            shows = λ tell. (shifted.world tell, shifted.log tell);
+            marked = marked;
+          }
+
+          -- NO SETTLE came
+          switched-quiet : new.seats.items ≡ set x.seats.items place t → new.journal ≡ j → ((verdict : Option Errno) → next_of locks2 (walk_left x.board.now t) ≡ Some (Settle verdict) → ⊥) → IsKept g c new × HasStepped g c place x new
+          switched-quiet seats journal undue = elim leaves [
+            | inl is ↦ by is
+            | inr d ↦ absurd (undue (Some d.1) (subst (λ (w : WalkTree). next_of locks2 w ≡ Some (Settle (Some d.1))) (sym went.walk) (settle-first locks2 behind (Some d.1) d.2.first).0))
+          ]
+            where
+              by : IsLeft run.board p.transfer (has_reply p.owed) p.sent behind → IsKept g c new × HasStepped g c place x new
+              by left =
+                  let core = core-lined run (fair g c x kept) whole kept.kept place p ls n (stands-here run whole kept.kept place p at) j.room job s.port old now failed marks is-shifted left (sym room) in
+                  let number : t.number ≡ s.number = ap (λ (y : Seat C). y.number) went.same in
+                  let script : c.script t.caller ≡ c.script s.caller = ap (λ (y : Seat C). c.script y.caller) went.same in
+                  let all = ap (λ (y : JournalView). y.entries) journal ∙ entries in (
+                    kept-whole g c x kept place s here new t same_board seats number script roots seated _ core
+                        (ap reverse all ∙ reverse-append x.journal.entries (line_entry p job failed ∷ [])) (ap (λ (y : JournalView). y.room) journal) (ap (λ (y : JournalView). y.room_bytes) journal ∙ room_bytes)
+                        (ap (set whole.places place) place-is) locks sockets,
+                    stepped-one g c x kept place s here new t same_board seats number script roots start places (line_entry p job failed) all
+                        (ap (λ (y : JournalView). y.room + 1) journal ∙ room) refl refl (λ tell. (core.told tell).stepwise),
+                  )
+
+          -- THE SETTLE came
+          switched-settled : (verdict : Option Errno) (u : Seat C) → new.seats.items ≡ set x.seats.items place u → IsSettledIn x.board.now locks2 verdict j new.journal t u → IsKept g c new × HasStepped g c place x new
+          switched-settled verdict u seats made = elim leaves [
+            | inl is ↦ absurd (quiet is verdict made.next)
+            | inr d ↦ by d.0 d.1 d.2
+          ]
+            where
+              by : has_reply p.owed ≡ false → (err : Errno) → IsDecided run.board p.transfer (Some err) behind → IsKept g c new × HasStepped g c place x new
+              by unsettled err decides =
+                  let is : verdict ≡ Some err = verdict-is err decides verdict made.next in
+                  let reply : reply_by verdict (Some t.transfer) t.replies.got ≡ answer.Err err = ap (λ (o : Option Errno). reply_by o (Some t.transfer) t.replies.got) is in
+                  let zeros = no-bytes verdict err (Some t.transfer) t.replies.got is in
+                  let first2 : first_act (walk_left x.board.now t) ≡ Some (Settle verdict) = subst (λ (w : WalkTree). first_act w ≡ Some (Settle verdict)) (sym went.walk) (decides.first ∙ ap (λ (o : Option Errno). Some (Settle o)) (sym is)) in
+                  let line = line_entry p job failed in
+                  let settle = entry.Settle s.number (answer.Err err) (cut_told (line_entry p job failed)) in
+                  let rooms : x.journal.room ≡ new.journal.room + 2 = (let a = made.room in omega (arith, a, room)) in
+                  let bytes : new.journal.room_bytes ≡ x.journal.room_bytes = (let a = made.room_bytes in omega (arith, a, zeros, room_bytes)) in
+                  let core = core-line-settled run (fair g c x kept) whole kept.kept place p ls n (stands-here run whole kept.kept place p at) new.journal.room job s.port old now failed marks is-shifted err decides unsettled rooms in
+                  let number : u.number ≡ s.number = ap (λ (y : Seat C). y.number) made.settled.same ∙ ap (λ (y : Seat C). y.number) went.same in
+                  let script : c.script u.caller ≡ c.script s.caller = ap (λ (y : Seat C). c.script y.caller) made.settled.same ∙ ap (λ (y : Seat C). c.script y.caller) went.same in
+                  let all : new.journal.entries ≡ x.journal.entries ++ line ∷ settle ∷ [] =
+                  made.entries ∙ ap (λ (r : Reply). j.entries ++ entry.Settle t.number r t.cut ∷ []) reply
+                  ∙ ap (λ (ys : List Entry). ys ++ entry.Settle t.number (answer.Err err) t.cut ∷ []) entries ∙ append_assoc x.journal.entries (line ∷ []) (entry.Settle t.number (answer.Err err) t.cut ∷ [])
+                  ∙ ap (λ (y : Seat C). x.journal.entries ++ line ∷ entry.Settle y.number (answer.Err err) y.cut ∷ []) went.same in
+                  let seated2 = settled-seated c x.board.now locks2 (roots_of x.ports.items) verdict t u made.settled seated (not_over (slots_of marks) (walk_left x.board.now t) (Settle verdict) made.next)
+                  (subst (λ (y : Seat C). y.transfer.bus < buses x.board.now) (sym went.same) on-bus) in
+                  let place2 = settled-place c x.board.now locks2 (roots_of x.ports.items) verdict t u made.settled (answer.Err err) reply first2
+                  ∙ ap (λ (q : Place). record q { tree = rest_of q.tree Passed; owed = answer.Err err ∷ []; got = []; cut = cut_at.No }) place-is in (
+                    kept-whole g c x kept place s here new u same_board seats number script roots seated2 _ core
+                        (ap reverse all ∙ reverse-append x.journal.entries (line ∷ settle ∷ [])) refl bytes
+                        (ap (set whole.places place) place2) locks sockets,
+                    stepped-two g c x kept place s here new u same_board seats number script roots start places line settle all (sym rooms) refl refl refl refl (λ tell. (core.told tell).stepwise),
+                  )
+
+          -- EITHER, as it is told
+          module _ (seats1 : List (Seat C)) (seats1_is : seats1 ≡ set x.seats.items place t) where
+            here1 : slice_get seats1 place ≡ Some t
+            here1 = ap (λ (ys : List (Seat C)). slice_get ys place) seats1_is ∙ set-at x.seats.items place s t here
+
+            pub line-done : (came : Bool) → (came ≡ true → (verdict : Option Errno) × Reseated (IsSettledIn x.board.now new.locks verdict j new.journal) seats1 new.seats.items place)
+                → (came ≡ false → HasSeat (λ y. (verdict : Option Errno) → next_of new.locks (walk_left x.board.now y) ≡ Some (Settle verdict) → ⊥) seats1 place)
+                → (came ≡ false → (new.seats.items ≡ seats1) × (new.journal ≡ j)) → IsKept g c new × HasStepped g c place x new
+            line-done true made none stays =
+                let m = made refl in
+                switched-settled m.0 m.1.after (m.1.set_is ∙ ap (λ (ys : List (Seat C)). set ys place m.1.after) seats1_is ∙ set-set x.seats.items place t m.1.after)
+                (subst (λ (v : LocksView). IsSettledIn x.board.now v m.0 j new.journal t m.1.after) locks (seat-now (IsSettledIn x.board.now new.locks m.0 j new.journal) seats1 new.seats.items place t here1 m.1))
+            line-done false made none stays =
+                let st = stays refl in
+                switched-quiet (st.0 ∙ seats1_is) st.1
+                (λ verdict comes. seat-is (λ (y : Seat C). (w : Option Errno) → next_of new.locks (walk_left x.board.now y) ≡ Some (Settle w) → ⊥) seats1 place t here1 (none refl) verdict
+                (subst (λ (v : LocksView). next_of v (walk_left x.board.now t) ≡ Some (Settle verdict)) (sym locks) comes))

@@ -1,0 +1,34 @@
+use Rattle.std.proofs.Common.{◌≡◌, ℕ, List, length, refl, ◌∙◌, ap, subst, rules}
+use Rattle.i2c_base.specs.Board.{BoardView}
+use Rattle.bus_journal.specs.View.{JournalView}
+use Rattle.i2c_spec.specs.Plain.{IsPlainBoard}
+use Rattle.seg_locks.specs.Locks.{opened}
+use Rattle.bus_core.specs.Kept.{roots_of}
+use Rattle.bus_core.specs.Opens.{AreSeated}
+use Rattle.bus_core.proofs.Opened.{opened-core}
+use Rattle.bus_core.proofs.Seating.{seated-all}
+use Rattle.bus_core.proofs.opening.open.Goals as goal
+
+pub returns-clause-core : goal.returns-clause-core
+returns-clause-core g c =
+    let b = c.args.board.now in
+    let plain : IsPlainBoard b = subst IsPlainBoard c.board.ensures.value c.roots.ensures.plain in
+    let seated : AreSeated g.C.Caller b (roots_of c.args.ports.items) c.args.callers.items (length c.args.callers.items) c.in_ok-seats.seats.items c.in_ok-seats.places.items =
+    subst (λ (xs : List _). AreSeated g.C.Caller b (roots_of xs) c.args.callers.items (length c.args.callers.items) c.in_ok-seats.seats.items c.in_ok-seats.places.items)
+    c.as_slice-2.ensures.value c.in_ok-seats.ensures in
+    let roots : length c.roots.result.now ≡ length b.roots = ap length c.roots.ensures.value ∙ ap (λ (x : BoardView). length x.roots) c.board.ensures.value in
+    let locks : c.in_ok-locks.locks ≡ opened c.in_ok-depths.depths.items (length b.roots) =
+    c.in_ok-locks.ensures ∙ ap (λ (ds : List ℕ). opened ds (length c.roots.result.now)) c.as_slice.ensures.value ∙ ap (opened c.in_ok-depths.depths.items) roots in
+    opened-core g.P.Port g.C.Caller _ c.args.callers.items c.args.limit c.requires plain c.board.ensures.rules seated c.in_ok-depths.depths.items c.in_ok-depths.ensures.are locks c.in_ok-journal.ensures
+
+pub returns-clause-opened : goal.returns-clause-opened
+returns-clause-opened g c =
+    let b = c.args.board.now in
+    record {
+      board = refl;
+      ports_are = refl;
+      start = search rules;
+      scripts = seated-all g.C.Caller b (roots_of c.as_slice-2.result.now) c.args.callers.items c.in_ok-seats.seats.items c.in_ok-seats.places.items c.in_ok-seats.ensures;
+      entries = ap (λ (j : JournalView). j.entries) c.in_ok-journal.ensures;
+      room = ap (λ (j : JournalView). j.room) c.in_ok-journal.ensures;
+    }

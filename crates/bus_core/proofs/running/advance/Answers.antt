@@ -1,0 +1,66 @@
+use Rattle.std.proofs.Common.{◌≡◌, ℕ, Some, None, true, false, sym, ◌∙◌, subst, arith}
+use Rattle.std.proofs.lemmas.Option.{slice_get_within}
+use Rattle.bus_core.specs.Kept.{IsCore, HasStepped}
+use Rattle.bus_core.specs.Ready.{CanStepAt}
+use Rattle.bus_core.specs.Runs.{HasWaited}
+use Rattle.bus_core.specs.Steps.{IsBlockedAt, HasEndedAt}
+use Rattle.bus_core.specs.declared.parts.CoreParts.{CoreParts}
+use Rattle.bus_core.proofs.Advances.{waits-by, within as is_within, blocked-stuck, ended-stuck, blocked-not, ended-not, has-made}
+use Rattle.bus_core.proofs.SeatLemmas.{number_read}
+use Rattle.bus_core.proofs.running.advance.Goals as goal
+
+pub step-requires-clause-there : goal.step-requires-clause-there
+step-requires-clause-there g c κs within =
+    let x = c.args.parts.now in
+    let low = slice_get_within x.places.items c.args.caller (Some c.requires.has.place) c.requires.has.at in
+    let at = number_read x.places.items c.args.caller c.from.result c.index.result.now (Some c.in-Some.place) c.from.ensures low c.index.ensures c.in-Some.is in
+    let inside = is_within g.P.Port g.C.Caller x c.requires.core.kept c.requires.core.placed c.args.caller c.in-Some.place at in
+    omega (arith, inside, c.from-2.ensures)
+
+pub returns-in-Stepped-clause-made : goal.returns-in-Stepped-clause-made
+returns-in-Stepped-clause-made g c is =
+    let x = c.args.parts.now in
+    let low = slice_get_within x.places.items c.args.caller (Some c.requires.has.place) c.requires.has.at in
+    let at = number_read x.places.items c.args.caller c.from.result c.index.result.now (Some c.in-Some.place) c.from.ensures low c.index.ensures c.in-Some.is in
+    has-made g.P.Port g.C.Caller x c.requires.core.kept c.requires.core.placed c.args.caller c.in-Some.place at c.step.new.parts
+    (subst (λ (k : ℕ). HasStepped g.P.Port g.C.Caller k x c.step.new.parts) c.from-2.ensures (c.step.ensures.stepped c.in-Stepped.is))
+
+pub returns-in_default-clause-waited : goal.returns-in_default-clause-waited
+returns-in_default-clause-waited g c is =
+    let x = c.args.parts.now in
+    let low = slice_get_within x.places.items c.args.caller (Some c.requires.has.place) c.requires.has.at in
+    let at = number_read x.places.items c.args.caller c.from.result c.index.result.now None c.from.ensures low c.index.ensures c.in_default.is in
+    absurd (let f : Some None ≡ Some (Some c.requires.has.place) = sym at ∙ c.requires.has.at in cc)
+
+pub returns-in_default-clause-able : goal.returns-in_default-clause-able
+returns-in_default-clause-able g c place here can =
+    let x = c.args.parts.now in
+    let low = slice_get_within x.places.items c.args.caller (Some c.requires.has.place) c.requires.has.at in
+    let at = number_read x.places.items c.args.caller c.from.result c.index.result.now None c.from.ensures low c.index.ensures c.in_default.is in
+    absurd (let f : Some None ≡ Some (Some place) = sym at ∙ here in cc)
+
+pub returns-in_default-step : goal.returns-in_default-step
+returns-in_default-step g c =
+    let x = c.args.parts.now in
+    let low = slice_get_within x.places.items c.args.caller (Some c.requires.has.place) c.requires.has.at in
+    let at = number_read x.places.items c.args.caller c.from.result c.index.result.now (Some c.in-Some.place) c.from.ensures low c.index.ensures c.in-Some.is in
+    let kept = c.requires.core.kept in
+    let placed = c.requires.core.placed in
+    let here = c.in-Some.place in
+    let waits : HasWaited g.P.Port g.C.Caller c.args.caller x c.step.new.parts =
+    waits-by (HasWaited g.P.Port g.C.Caller c.args.caller x c.step.new.parts) c.step.result c.in_default-step.not-Stepped
+    (λ l h is. let b = c.step.ensures.blocked l h is in
+    record { same = b.0; stuck = λ tell. blocked-stuck g.P.Port g.C.Caller x kept placed c.args.caller here at l h (subst (λ (k : ℕ). IsBlockedAt x k l h) c.from-2.ensures b.1) tell })
+    (λ is. let e = c.step.ensures.finished is in
+    record { same = e.0; stuck = λ tell. ended-stuck g.P.Port g.C.Caller x kept placed c.args.caller here at (subst (λ (k : ℕ). HasEndedAt x k) c.from-2.ensures e.1) tell }) in
+    record {
+      core = subst (λ (y : CoreParts _ _). IsCore g.P.Port g.C.Caller y) (sym waits.same) c.requires.core;
+      made = λ is. absurd (let f : false ≡ true = is in cc);
+      waited = λ is. waits;
+      able = λ place at2 can.
+          let same : place ≡ here = (let f : Some (Some place) ≡ Some (Some here) = sym at2 ∙ at in cc) in
+          let its : CanStepAt x here = subst (λ (k : ℕ). CanStepAt x k) same can in
+          absurd (waits-by ⊥ c.step.result c.in_default-step.not-Stepped
+          (λ l h is. blocked-not g.P.Port g.C.Caller x kept placed c.args.caller here at l h (subst (λ (k : ℕ). IsBlockedAt x k l h) c.from-2.ensures (c.step.ensures.blocked l h is).1) its)
+          (λ is. ended-not g.P.Port g.C.Caller x kept placed c.args.caller here at (subst (λ (k : ℕ). HasEndedAt x k) c.from-2.ensures (c.step.ensures.finished is).1) its));
+    }

@@ -1,0 +1,14 @@
+-- Marks that may be written.
+use Rattle.std.specs.Prelude.{◌≡◌, ℕ, ◌<◌, List, length, Some}
+use Rattle.std.specs.List.{AllByRecursion}
+use Rattle.i2c_base.specs.declared.ids.LockId.TheVariants as lock
+use Rattle.mux_plan.specs.declared.marks.Due.{Due}
+use Rattle.seg_locks.specs.Locks.{LocksView, holder_in}
+
+-- the bus of a mark is there, and the caller has its lock
+pub record IsHeldDue (v : LocksView) (caller : ℕ) (d : Due) : Type 0 where
+  pub there : d.on < length v.depths
+  pub held : holder_in v (lock.Mux d.on) ≡ Some caller
+
+abbrev pub AreHeld : LocksView → ℕ → List Due → Type 0
+AreHeld v caller dues = AllByRecursion (IsHeldDue v caller) dues

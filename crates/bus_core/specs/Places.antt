@@ -1,0 +1,64 @@
+-- The parts of the core as plain lists: the callers with their seats, and what they ask for by their numbers.
+use Rattle.std.specs.Prelude.{ℕ, ◌==◌, List, [], ◌∷◌, map, Option, Some, None, if◌then◌else◌}
+use Rattle.std.specs.Option.{option_map_or}
+use Rattle.i2c_base.specs.declared.caller.Caller.{Ghosts as CallerGhosts}
+use Rattle.i2c_base.specs.declared.reply.Reply.{Reply}
+use Rattle.i2c_base.specs.Board.{BoardView}
+use Rattle.i2c_base.specs.Transfer.{TransferView}
+use Rattle.i2c_spec.specs.History.{Asks}
+use Rattle.i2c_spec.specs.Messages.{messages_of}
+use Rattle.bus_spec.specs.Walk.{WalkTree}
+use Rattle.mux_plan.specs.Plans.{walk_of}
+use Rattle.core_laws.specs.Core.{Place}
+use Rattle.bus_core.specs.Replies.{RepliesView, reply_decided}
+use Rattle.bus_core.specs.declared.replies.Decided.{Decided}
+use Rattle.bus_core.specs.declared.seat.Seat.{Seat}
+
+-- what is left of a caller's walk
+abbrev pub walk_left : {C : Type 0} → BoardView → Seat C → WalkTree
+walk_left b s = walk_of b (messages_of s.transfer) s.walk
+
+-- the reply that is settled and not handed over yet
+abbrev pub owed_by : Option Decided → RepliesView → List Reply
+owed_by None r = []
+owed_by (Some d) r = reply_decided d r ∷ []
+
+-- what the transfer has read, until it is settled
+abbrev pub got_by : Option Decided → RepliesView → List ℕ
+got_by None r = r.got
+got_by (Some d) r = []
+
+abbrev pub place_of : {C S : Type 0} → CallerGhosts C S → BoardView → Seat C → Place
+place_of c b s =
+    record {
+      number = s.number;
+      taken = c.taken s.caller;
+      owed = owed_by s.decided s.replies;
+      transfer = s.transfer;
+      tree = walk_left b s;
+      sent = s.sent;
+      got = got_by s.decided s.replies;
+      cut = s.cut;
+    }
+
+abbrev pub places_of : {C S : Type 0} → CallerGhosts C S → BoardView → List (Seat C) → List Place
+places_of c b seats = map (place_of c b) seats
+
+-- each caller's number, and what it was opened with
+abbrev pub script_of : {C S : Type 0} → CallerGhosts C S → Seat C → ℕ × S
+script_of c s = (s.number, c.script s.caller)
+
+abbrev pub scripts_of : {C S : Type 0} → CallerGhosts C S → List (Seat C) → List (ℕ × S)
+scripts_of c seats = map (script_of c) seats
+
+-- what the caller with this number was opened with
+abbrev pub script_at : {S : Type 0} → List (ℕ × S) → ℕ → Option S
+script_at [] n = None
+script_at (s ∷ ss) n = if s.0 == n then Some s.1 else script_at ss n
+
+-- each caller asks by that, and has so much left; who isn't there asks for nothing
+abbrev pub asks_of : {S : Type 0} → (S → List Reply → Option TransferView) → List (ℕ × S) → Asks
+asks_of asked scripts n rs = option_map_or (λ s. asked s rs) (script_at scripts n) None
+
+abbrev pub left_of : {S : Type 0} → (S → List Reply → ℕ) → List (ℕ × S) → ℕ → List Reply → ℕ
+left_of left scripts n rs = option_map_or (λ s. left s rs) (script_at scripts n) 0

@@ -1,0 +1,41 @@
+-- Who can make a step, by memory alone.
+use Rattle.std.specs.Prelude.{◌≡◌, ℕ, ◌<◌, List, Option, Some, None, slice_get}
+use Rattle.i2c_base.specs.declared.ids.LockId.{LockId}
+use Rattle.bus_spec.specs.Walk.{Act, Take}
+use Rattle.bus_laws.specs.Waiting.{IsHeldUp}
+use Rattle.core_laws.specs.Steps.{next_of}
+use Rattle.mux_plan.specs.Plans.{slots_of}
+use Rattle.seg_locks.specs.Locks.{holder_in}
+use Rattle.bus_core.specs.Places.{walk_left}
+use Rattle.bus_core.specs.declared.parts.CoreParts.{CoreParts}
+use Rattle.bus_core.specs.declared.seat.Seat.{Seat}
+
+-- the walk of the caller at a place has ended, or takes a lock that somebody has
+pub record IsHeldUpAt {P C : Type 0} (x : CoreParts P C) (place : ℕ) : Type 0 where
+  pub seat : Seat C
+  pub here : slice_get x.seats.items place ≡ Some seat
+  pub waits : IsHeldUp (holder_in x.locks) (slots_of x.locks.marks) (walk_left x.board.now seat)
+
+-- it has a step, and where that takes a lock nobody has it
+pub record CanStepAt {P C : Type 0} (x : CoreParts P C) (place : ℕ) : Type 0 where
+  pub seat : Seat C
+  pub here : slice_get x.seats.items place ≡ Some seat
+  pub act : Act
+  pub next : next_of x.locks (walk_left x.board.now seat) ≡ Some act
+  pub free : (l : LockId) → act ≡ Take l → holder_in x.locks l ≡ None
+
+-- the least caller that can make a step: every caller below it is held up
+pub record IsLeastReady {P C : Type 0} (x : CoreParts P C) (n : ℕ) : Type 0 where
+  pub place : ℕ
+  pub at : slice_get x.places.items n ≡ Some (Some place)
+  pub can : CanStepAt x place
+  pub before : (m q : ℕ) → m < n → slice_get x.places.items m ≡ Some (Some q) → IsHeldUpAt x q
+
+-- all callers are held up
+abbrev pub AllHeldUp : {P C : Type 0} → CoreParts P C → Type 0
+AllHeldUp x = (m q : ℕ) → slice_get x.places.items m ≡ Some (Some q) → IsHeldUpAt x q
+
+-- there is a caller of this number
+pub record HasPlace (places : List (Option ℕ)) (n : ℕ) : Type 0 where
+  pub place : ℕ
+  pub at : slice_get places n ≡ Some (Some place)

@@ -1,0 +1,24 @@
+-- What a caller's step leaves of the core, and what is left when all are through.
+use Rattle.std.specs.Prelude.{◌≡◌, ℕ, ◌<◌, IsTrue, List, reverse}
+use Rattle.i2c_base.specs.declared.caller.Caller.{Ghosts as CallerGhosts}
+use Rattle.i2c_base.specs.Limits.{MOST_CALLERS}
+use Rattle.i2c_outside.specs.declared.port.Port.{Ghosts as PortGhosts}
+use Rattle.bus_laws.specs.Following.{KeepsTo}
+use Rattle.bus_laws.specs.Ready.{IsStuck}
+use Rattle.bus_core.specs.Kept.{asks_in, HasTurn, HasCome}
+use Rattle.bus_core.specs.declared.parts.CoreParts.{CoreParts}
+
+-- a caller made a step
+pub record HasMade {P C S : Type 0} (p : PortGhosts P) (c : CallerGhosts C S) (caller : ℕ) (old new : CoreParts P C) : Type 0 where
+  pub come : HasCome p c old new
+  pub room : new.journal.room < old.journal.room
+  pub turn : IsTrue p.tells → HasTurn old.board.now (asks_in c old) caller old.journal.entries new.journal.entries
+
+-- it made none: by the journal it waits for a lock that somebody has, or has finished
+pub record HasWaited {P C S : Type 0} (p : PortGhosts P) (c : CallerGhosts C S) (caller : ℕ) (old new : CoreParts P C) : Type 0 where
+  pub same : new ≡ old
+  pub stuck : IsTrue p.tells → IsStuck old.board.now (asks_in c old) (reverse old.journal.entries) caller
+
+-- whatever comes later, the journal so far keeps to a schedule of which these words are left
+abbrev pub KeepsSchedule : {P C S : Type 0} → PortGhosts P → CallerGhosts C S → List ℕ → List ℕ → CoreParts P C → Type 0
+KeepsSchedule p c words left x = IsTrue p.tells → KeepsTo x.board.now MOST_CALLERS (asks_in c x) words left (reverse x.journal.entries)

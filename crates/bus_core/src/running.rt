@@ -1,0 +1,62 @@
+ghost use Rattle.std.specs.Prelude.{◌≡◌, ℕ, ◌<◌, ◌≤◌, true, false, IsTrue, List, [], All, length, drop, reverse, Some, slice_get};
+ghost use Rattle.bus_spec.specs.Schedule.{Follows};
+ghost use Rattle.bus_core.specs.Kept.{IsCore, HasCome};
+ghost use Rattle.bus_core.specs.Ready.{CanStepAt, HasPlace};
+ghost use Rattle.bus_core.specs.Runs.{HasMade, HasWaited, KeepsSchedule};
+ghost use Rattle.bus_core.specs.State.{AllThrough, state_of};
+
+use crate::parts::CoreParts;
+use crate::readiness::ready;
+use crate::steps::{StepAnswer, step};
+use bus_laws::a_loop_follows;
+use i2c_base::Caller;
+use i2c_outside::Port;
+
+/// Makes the next step of a caller, if it can make one; tells whether it did.
+pub fn advance<P: Port, C: Caller>(parts: &mut CoreParts<'_, P, C>, caller: u8) -> bool
+    requires core { IsCore P.Port C.Caller parts.old }
+    requires has { HasPlace parts.old.places.items caller }
+    ensures core { IsCore P.Port C.Caller parts.new }
+    ensures made { result ≡ true → HasMade P.Port C.Caller caller parts.old parts.new }
+    ensures waited { result ≡ false → HasWaited P.Port C.Caller caller parts.old parts.new }
+    ensures able { (place : ℕ) → slice_get parts.old.places.items caller ≡ Some (Some place) → CanStepAt parts.old place → result ≡ true }
+{
+    let Some(place) = parts.places[usize::from(caller)] else {
+        return false;
+    };
+    match step(parts, usize::from(place)) {
+        StepAnswer::Stepped => true,
+        _ => false,
+    }
+}
+
+/// Steps the least caller that can make a step, until none can: then each script is used up.
+pub fn finish<P: Port, C: Caller>(parts: &mut CoreParts<'_, P, C>)
+    requires core { IsCore P.Port C.Caller parts.old }
+    ensures core { IsCore P.Port C.Caller parts.new }
+    ensures come { HasCome P.Port C.Caller parts.old parts.new }
+    ensures through { AllThrough C.asked P.tells (state_of P.Port C.Caller parts.new) }
+    ensures keeps { (words : List ℕ) → KeepsSchedule P.Port C.Caller words [] parts.old → KeepsSchedule P.Port C.Caller words [] parts.new }
+{
+    a_loop_follows();
+    while let Some(number) = ready(parts) {
+        advance(parts, number);
+    }
+}
+
+/// Steps the callers by a schedule of their numbers, a word of a caller that is blocked or used up passed over; and
+/// then the least that can make a step, until each script is used up.
+pub fn follow<P: Port, C: Caller>(parts: &mut CoreParts<'_, P, C>, words: &[u8])
+    requires core { IsCore P.Port C.Caller parts.old }
+    requires words { All (HasPlace parts.old.places.items) words.now }
+    ensures core { IsCore P.Port C.Caller parts.new }
+    ensures come { HasCome P.Port C.Caller parts.old parts.new }
+    ensures through { AllThrough C.asked P.tells (state_of P.Port C.Caller parts.new) }
+    ensures follows { IsTrue P.tells → parts.old.journal.entries ≡ [] → Follows words.now parts.new.journal.entries }
+{
+    a_loop_follows();
+    for place in 0..words.len() {
+        advance(parts, words[place]);
+    }
+    finish(parts);
+}
