@@ -25,6 +25,9 @@ fault_or f (Err e) = e
 one_board : (r : Result BoardView BoardFault) (a b : BoardView) → r ≡ Ok a → r ≡ Ok b → a ≡ b
 one_board r a b e k = ap (board_or a) (sym e ∙ k)
 
+pub one_board_of : (text : List ℕ) (a b : BoardView) → IsBoardOf text a → IsBoardOf text b → a ≡ b
+one_board_of text a b h k = one_board (board_of text) a b h.accepted.read k.accepted.read
+
 one_fault : (r : Result BoardView BoardFault) (f g : BoardFault) → r ≡ Err f → r ≡ Err g → f ≡ g
 one_fault r f g e k = ap (fault_or f) (sym e ∙ k)
 

@@ -1,16 +1,18 @@
 -- The files decide one status: of two that they are a cause of, both are the same.
-use Rattle.std.proofs.Common.{◌≡◌, ℕ, ◌⊎◌, inl, inr, List, Option, Some, None, Result, Ok, Err, refl, sym, ◌∙◌, ap, subst}
-use Rattle.i2c_top.specs.Boards.{IsNoBoard, IsRejected}
+use Rattle.std.proofs.Common.{◌≡◌, ℕ, ◌<◌, ◌≤◌, ◌⊎◌, inl, inr, List, length, Option, Some, Result, Ok, Err, refl, sym, ◌∙◌, ap, subst, arith}
+use Rattle.std.proofs.lemmas.Bool.{cases_order}
+use Rattle.i2c_top.specs.Boards.{IsBoardOf, IsNoBoard, IsRejected}
 use Rattle.i2c_top.specs.Checks.{HasAccepted, HasRejected, IsCheckCause}
 use Rattle.i2c_top.specs.Files.{Files}
-use Rattle.i2c_top.specs.Replays.{Names, script_name, HasBoard, HasNoBoard, HasScript, HasBadScript, HasSchedule, HasBadSchedule, HasFiles, IsReplayCause}
+use Rattle.i2c_top.specs.Replays.{Names, script_name, HasBoard, HasNoBoard, HasScript, HasBadScript, HasScripts, HasSchedule, HasBadSchedule, HasTexts, HasFiles, HasDearFiles, HasScriptsBefore, cost_in, IsReplayCause}
 use Rattle.i2c_top.specs.Requests.{Request, Replay, Check, NoForm, IsCause}
+use Rattle.i2c_top.specs.Runs.{MOST_COST}
 use Rattle.caller_core.specs.Scripts.{CommandView, Place, script_read, commands_of}
-use Rattle.i2c_top.specs.Schedules.{schedule_fault}
+use Rattle.i2c_top.specs.Schedules.{schedule_read}
 use Rattle.i2c_top.specs.declared.status.BoardRefusal.{BoardRefusal}
 use Rattle.i2c_top.specs.declared.status.Status.{Status}
 use Rattle.i2c_top.specs.declared.status.Status.TheVariants as status
-use Rattle.i2c_top.proofs.BoardLemmas.{is_no_board, is_no_rejected, no_board_of, one_refusal}
+use Rattle.i2c_top.proofs.BoardLemmas.{is_no_board, is_no_rejected, no_board_of, one_refusal, one_board_of}
 
 one_text : (o : Option (List ℕ)) (a b : List ℕ) → o ≡ Some a → o ≡ Some b → a ≡ b
 one_text o a b e f = let h : Some a ≡ Some b = sym e ∙ f in cc
@@ -31,82 +33,141 @@ no_script file name line word s b =
     not_both (script_read b.text) (commands_of s.text) (record { line = line; word = word })
     (ap script_read (sym (one_text (file name) s.text b.text s.there b.there)) ∙ s.read) b.read
 
-no_schedule : (file : Files) (name : List ℕ) (word : ℕ) → HasSchedule file name → HasBadSchedule file name word → ⊥
-no_schedule file name word s b =
-    absurd (let h : None ≡ Some word = sym s.fits ∙ ap schedule_fault (one_text (file name) s.text b.text s.there b.there) ∙ b.fault in cc)
+not_words : (r : Result (List ℕ) ℕ) (cs : List ℕ) (w : ℕ) → r ≡ Ok cs → r ≡ Err w → ⊥
+not_words r cs w e f = absurd (let h : Ok cs ≡ Err w = sym e ∙ f in cc)
+
+no_schedule : (file : Files) (name : List ℕ) (callers word : ℕ) → HasSchedule file name callers → HasBadSchedule file name callers word → ⊥
+no_schedule file name callers word s b =
+    not_words (schedule_read callers b.text) s.words word (ap (schedule_read callers) (sym (one_text (file name) s.text b.text s.there b.there)) ∙ s.read) b.fault
 
 abbrev place_or : Place → Result (List CommandView) Place → Place
 place_or p (Ok cs) = p
 place_or p (Err q) = q
 
-abbrev at_line : Place → Status
-at_line p = status.Script 0 p.line p.word
+abbrev at_line : ℕ → Place → Status
+at_line c p = status.Script c p.line p.word
 
-one_place : (file : Files) (name : List ℕ) (line word line_now word_now : ℕ) → HasBadScript file name line word → HasBadScript file name line_now word_now
-    → status.Script 0 line_now word_now ≡ status.Script 0 line word
-one_place file name line word line_now word_now b n =
+one_place : (file : Files) (name : List ℕ) (c line word line_now word_now : ℕ) → HasBadScript file name line word → HasBadScript file name line_now word_now
+    → status.Script c line_now word_now ≡ status.Script c line word
+one_place file name c line word line_now word_now b n =
     let p : Place = record { line = line; word = word } in
     let q : Place = record { line = line_now; word = word_now } in
     let same : n.text ≡ b.text = one_text (file name) n.text b.text n.there b.there in
-    ap at_line (ap (place_or p) (sym n.read ∙ ap script_read same ∙ b.read))
+    ap (at_line c) (ap (place_or p) (sym n.read ∙ ap script_read same ∙ b.read))
 
-one_word : (file : Files) (name : List ℕ) (word word_now : ℕ) → HasBadSchedule file name word → HasBadSchedule file name word_now → word_now ≡ word
-one_word file name word word_now b n =
-    let h : Some word_now ≡ Some word = sym n.fault ∙ ap schedule_fault (one_text (file name) n.text b.text n.there b.there) ∙ b.fault in cc
+abbrev word_or : ℕ → Result (List ℕ) ℕ → ℕ
+word_or w (Ok cs) = w
+word_or w (Err v) = v
 
--- the four statuses that files decide
+one_word : (file : Files) (name : List ℕ) (callers word word_now : ℕ) → HasBadSchedule file name callers word → HasBadSchedule file name callers word_now → word_now ≡ word
+one_word file name callers word word_now b n =
+    ap (word_or word) (sym n.fault ∙ ap (schedule_read callers) (one_text (file name) n.text b.text n.there b.there) ∙ b.fault)
+
+one_board_in : (file : Files) (name : List ℕ) (a b : HasBoard file name) → a.board ≡ b.board
+one_board_in file name a b =
+    one_board_of b.text a.board b.board (subst (λ t. IsBoardOf t a.board) (one_text (file name) a.text b.text a.there b.there) a.is_board) b.is_board
+
+-- what the scripts cost is one number
+one_cost : (file : Files) (names : Names) (a b : HasTexts file names) → cost_in file names a.board.board ≡ cost_in file names b.board.board
+one_cost file names a b = ap (cost_in file names) (one_board_in file names.board a.board b.board)
+
+not_dear : (m a b : ℕ) → a ≤ m → m < b → a ≡ b → ⊥
+not_dear m a b low high same = absurd (omega arith)
+
+-- the five statuses that files decide, where all scripts are in the grammar and where they aren't
 record DecideBoard (file : Files) (names : Names) (s : Status) : Type 0 where
   why : BoardRefusal
   same : s ≡ status.Board why
   board : HasNoBoard file names.board why
 
 record DecideScript (file : Files) (names : Names) (s : Status) : Type 0 where
+  caller : ℕ
   line : ℕ
   word : ℕ
-  same : s ≡ status.Script 0 line word
-  board : HasBoard file names.board
-  script : HasBadScript file (script_name names.scripts) line word
+  same : s ≡ status.Script caller line word
+  earlier : HasScriptsBefore file names caller
+  script : HasBadScript file (script_name names.scripts caller) line word
 
 record DecideSchedule (file : Files) (names : Names) (s : Status) : Type 0 where
   word : ℕ
   same : s ≡ status.Schedule word
   board : HasBoard file names.board
-  script : HasScript file (script_name names.scripts)
-  schedule : HasBadSchedule file names.schedule word
+  scripts : HasScripts file names.scripts (length names.scripts)
+  schedule : HasBadSchedule file names.schedule (length names.scripts) word
+
+record DecideCost (file : Files) (names : Names) (s : Status) : Type 0 where
+  cost : ℕ
+  same : s ≡ status.Cost cost
+  files : HasDearFiles file names cost
+
+abbrev DecideTexts : Files → Names → Status → Type 0
+DecideTexts file names s = ((s ≡ status.Ok) × HasFiles file names) ⊎ DecideCost file names s
+
+texts_of : (file : Files) (names : Names) (s : Status) → DecideTexts file names s → HasTexts file names
+texts_of file names s (inl a) = a.1.texts
+texts_of file names s (inr d) = d.files.texts
 
 abbrev Decide : Files → Names → Status → Type 0
 Decide file names s =
-    ((s ≡ status.Ok) × HasFiles file names) ⊎ (DecideBoard file names s
-    ⊎ (DecideScript file names s ⊎ DecideSchedule file names s))
+    DecideTexts file names s ⊎ (DecideBoard file names s ⊎ (DecideScript file names s ⊎ DecideSchedule file names s))
 
 decided : (file : Files) (names : Names) (s : Status) → IsReplayCause file names s → Decide file names s
-decided file names status.Ok h = inl (refl, h)
+decided file names status.Ok h = inl (inl (refl, h))
+decided file names (status.Cost cost) h = inl (inr (record { cost = cost; same = refl; files = h }))
 decided file names (status.Board why) h = inr (inl (record { why = why; same = refl; board = h }))
 decided file names (status.Script caller line word) h =
-    inr (inr (inl (record { line = line; word = word; same = ap (λ c. status.Script c line word) h.1; board = h.0; script = h.2 })))
-decided file names (status.Schedule word) h = inr (inr (inr (record { word = word; same = refl; board = h.0; script = h.1; schedule = h.2 })))
+    inr (inr (inl (record { caller = caller; line = line; word = word; same = refl; earlier = h.0; script = h.1 })))
+decided file names (status.Schedule word) h = inr (inr (inr (record { word = word; same = refl; board = h.0; scripts = h.1; schedule = h.2 })))
 decided file names _ h = absurd h
 
+agree_texts : (file : Files) (names : Names) (s r : Status) → DecideTexts file names s → DecideTexts file names r → r ≡ s
+agree_texts file names s r (inl a) (inl b) = b.0 ∙ sym a.0
+agree_texts file names s r (inl a) (inr b) =
+    absurd (not_dear MOST_COST (cost_in file names a.1.texts.board.board) b.cost a.1.cheap b.files.dear (one_cost file names a.1.texts b.files.texts ∙ sym b.files.same))
+agree_texts file names s r (inr a) (inl b) =
+    absurd (not_dear MOST_COST (cost_in file names b.1.texts.board.board) a.cost b.1.cheap a.files.dear (one_cost file names b.1.texts a.files.texts ∙ sym a.files.same))
+agree_texts file names s r (inr a) (inr b) =
+    b.same ∙ ap (λ n. status.Cost n) (b.files.same ∙ one_cost file names b.files.texts a.files.texts ∙ sym a.files.same) ∙ sym a.same
+
+-- one script is the first that isn't in the grammar
+no_earlier : (file : Files) (names : List (List ℕ)) (c n line word : ℕ) → c < n → HasScripts file names n → HasBadScript file (script_name names c) line word → ⊥
+no_earlier file names c n line word below good bad = no_script file (script_name names c) line word (good c below) bad
+
+one_script : (file : Files) (names : Names) (c d line word line_now word_now : ℕ) → HasScriptsBefore file names c → HasBadScript file (script_name names.scripts c) line word
+    → HasScriptsBefore file names d → HasBadScript file (script_name names.scripts d) line_now word_now → (c ≡ d) ⊎ ((c < d) ⊎ (d < c)) → status.Script d line_now word_now ≡ status.Script c line word
+one_script file names c d line word line_now word_now a bad b bad_now (inl same) =
+    let here : HasBadScript file (script_name names.scripts c) line_now word_now = subst (λ x. HasBadScript file (script_name names.scripts x) line_now word_now) (sym same) bad_now in
+    ap (λ x. status.Script x line_now word_now) (sym same) ∙ one_place file (script_name names.scripts c) c line word line_now word_now bad here
+one_script file names c d line word line_now word_now a bad b bad_now (inr (inl below)) = absurd (no_earlier file names.scripts c d line word below b.before bad)
+one_script file names c d line word line_now word_now a bad b bad_now (inr (inr below)) = absurd (no_earlier file names.scripts d c line_now word_now below a.before bad_now)
+
+agree_script : (file : Files) (names : Names) (s r : Status) → DecideScript file names s → DecideScript file names r → r ≡ s
+agree_script file names s r a b =
+    b.same ∙ one_script file names a.caller b.caller a.line a.word b.line b.word a.earlier a.script b.earlier b.script (cases_order a.caller b.caller) ∙ sym a.same
+
+all_earlier : (file : Files) (names : Names) (caller line word : ℕ) → HasScripts file names.scripts (length names.scripts) → HasScriptsBefore file names caller
+    → HasBadScript file (script_name names.scripts caller) line word → ⊥
+all_earlier file names caller line word good earlier bad = no_earlier file names.scripts caller (length names.scripts) line word earlier.known good bad
+
 agree : (file : Files) (names : Names) (s r : Status) → Decide file names s → Decide file names r → r ≡ s
-agree file names s r (inl a) (inl b) = b.0 ∙ sym a.0
-agree file names s r (inl a) (inr (inl b)) = absurd (no_board file names.board b.why a.1.board b.board)
-agree file names s r (inl a) (inr (inr (inl b))) = absurd (no_script file (script_name names.scripts) b.line b.word a.1.script b.script)
-agree file names s r (inl a) (inr (inr (inr b))) = absurd (no_schedule file names.schedule b.word a.1.schedule b.schedule)
-agree file names s r (inr (inl a)) (inl b) = absurd (no_board file names.board a.why b.1.board a.board)
+agree file names s r (inl a) (inl b) = agree_texts file names s r a b
+agree file names s r (inl a) (inr (inl b)) = absurd (no_board file names.board b.why (texts_of file names s a).board b.board)
+agree file names s r (inl a) (inr (inr (inl b))) = absurd (all_earlier file names b.caller b.line b.word (texts_of file names s a).scripts b.earlier b.script)
+agree file names s r (inl a) (inr (inr (inr b))) = absurd (no_schedule file names.schedule (length names.scripts) b.word (texts_of file names s a).schedule b.schedule)
+agree file names s r (inr (inl a)) (inl b) = absurd (no_board file names.board a.why (texts_of file names r b).board a.board)
 agree file names s r (inr (inl a)) (inr (inl b)) =
     b.same ∙ ap (λ w. status.Board w) (one_why file names.board a.why b.why a.board b.board) ∙ sym a.same
-agree file names s r (inr (inl a)) (inr (inr (inl b))) = absurd (no_board file names.board a.why b.board a.board)
+agree file names s r (inr (inl a)) (inr (inr (inl b))) = absurd (no_board file names.board a.why b.earlier.board a.board)
 agree file names s r (inr (inl a)) (inr (inr (inr b))) = absurd (no_board file names.board a.why b.board a.board)
-agree file names s r (inr (inr (inl a))) (inl b) = absurd (no_script file (script_name names.scripts) a.line a.word b.1.script a.script)
-agree file names s r (inr (inr (inl a))) (inr (inl b)) = absurd (no_board file names.board b.why a.board b.board)
-agree file names s r (inr (inr (inl a))) (inr (inr (inl b))) =
-    b.same ∙ one_place file (script_name names.scripts) a.line a.word b.line b.word a.script b.script ∙ sym a.same
-agree file names s r (inr (inr (inl a))) (inr (inr (inr b))) = absurd (no_script file (script_name names.scripts) a.line a.word b.script a.script)
-agree file names s r (inr (inr (inr a))) (inl b) = absurd (no_schedule file names.schedule a.word b.1.schedule a.schedule)
+agree file names s r (inr (inr (inl a))) (inl b) = absurd (all_earlier file names a.caller a.line a.word (texts_of file names r b).scripts a.earlier a.script)
+agree file names s r (inr (inr (inl a))) (inr (inl b)) = absurd (no_board file names.board b.why a.earlier.board b.board)
+agree file names s r (inr (inr (inl a))) (inr (inr (inl b))) = agree_script file names s r a b
+agree file names s r (inr (inr (inl a))) (inr (inr (inr b))) = absurd (all_earlier file names a.caller a.line a.word b.scripts a.earlier a.script)
+agree file names s r (inr (inr (inr a))) (inl b) = absurd (no_schedule file names.schedule (length names.scripts) a.word (texts_of file names r b).schedule a.schedule)
 agree file names s r (inr (inr (inr a))) (inr (inl b)) = absurd (no_board file names.board b.why a.board b.board)
-agree file names s r (inr (inr (inr a))) (inr (inr (inl b))) = absurd (no_script file (script_name names.scripts) b.line b.word a.script b.script)
+agree file names s r (inr (inr (inr a))) (inr (inr (inl b))) = absurd (all_earlier file names b.caller b.line b.word a.scripts b.earlier b.script)
 agree file names s r (inr (inr (inr a))) (inr (inr (inr b))) =
-    b.same ∙ ap (λ w. status.Schedule w) (one_word file names.schedule a.word b.word a.schedule b.schedule) ∙ sym a.same
+    b.same ∙ ap (λ w. status.Schedule w) (one_word file names.schedule (length names.scripts) a.word b.word a.schedule b.schedule) ∙ sym a.same
 
 replay_cause : (file : Files) (names : Names) (s r : Status) → IsReplayCause file names s → IsReplayCause file names r → r ≡ s
 replay_cause file names s r h k = agree file names s r (decided file names s h) (decided file names r k)

@@ -8,7 +8,7 @@ use Rattle.i2c_top.specs.Reports.{HasReplayed}
 use Rattle.i2c_top.specs.Checks.{HasChecked}
 use Rattle.i2c_top.specs.Files.{Files}
 use Rattle.i2c_top.specs.Replays.{Names}
-use Rattle.i2c_top.specs.Requests.{Request, Replay, Check, NoForm, IsServed, IsPlaceOf, UsesRig, IsOwnStatus, IsStatusOf, IsCause, IsInTurn, IsPlugging, told_of, traced_of, IsAnswer, IsCalm, KeepsShelf}
+use Rattle.i2c_top.specs.Requests.{Request, Replay, Check, NoForm, IsServed, UsesRig, IsOwnStatus, IsStatusOf, IsCause, IsPlugging, told_of, traced_of, IsAnswer, IsCalm, KeepsShelf}
 use Rattle.i2c_top.specs.Status.{Class, Done, Misused, Refused, Unread, NoRig, Silent, class_of, refusal_text}
 use Rattle.i2c_top.specs.Traces.{ShelfView, OutputView, RigView, Outside, IsRigLeft}
 use Rattle.i2c_top.specs.Written.{HasFront}
@@ -37,16 +37,9 @@ named status.Memory = inr refl
 named status.Rig = refl
 named (status.Schedule word) = tt
 
--- a file that is read in turn is the request's, and so is a rig that is plugged
-turn_place : (file : Files) (request : Request) (place : ℕ) → IsServed request → IsInTurn file request place → IsPlaceOf request place
-turn_place file (Replay names) place served (inl first) = (served, inl first)
-turn_place file (Replay names) place served (inr (inl last)) = (served, inr (inr last.0))
-turn_place file (Replay names) place served (inr (inr next)) = (served, inr (inl next.0))
-turn_place file (Check board) place served turn = turn
-turn_place file NoForm place served turn = turn
-
+-- a rig that is plugged is the request's
 plug_uses : (file : Files) (request : Request) → IsServed request → IsPlugging file request → UsesRig request
-plug_uses file (Replay names) served plugging = served
+plug_uses file (Replay names) served plugging = tt
 plug_uses file (Check board) served plugging = plugging
 plug_uses file NoForm served plugging = plugging
 
@@ -121,12 +114,12 @@ left_of request rig rig_now Refused untouched = inl untouched
 left_of request rig rig_now (Unread place) untouched = inl untouched
 
 own_write : (request : Request) → IsOwnStatus request status.Write
-own_write (Replay names) = λ cost e. let k : status.Write ≡ status.Cost cost = e in cc
+own_write (Replay names) = λ cost e. absurd (let k : status.Write ≡ status.Cost cost = e in cc)
 own_write (Check board) = tt
 own_write NoForm = tt
 
 own_memory : (request : Request) → IsOwnStatus request status.Memory
-own_memory (Replay names) = λ cost e. let k : status.Memory ≡ status.Cost cost = e in cc
+own_memory (Replay names) = λ cost e. absurd (let k : status.Memory ≡ status.Cost cost = e in cc)
 own_memory (Check board) = tt
 own_memory NoForm = tt
 
@@ -157,7 +150,7 @@ module _ (request : Request) (old new : Outside) where
   came_calmly s r t served cause calm write Refused is told shown = inl (one_cause old.shelf.file request s r cause told)
   came_calmly s r t served cause calm write Misused is told shown = absurd (shown served)
   came_calmly s r t served cause calm write (Unread place) is told shown =
-      absurd (calm.shelf place (turn_place old.shelf.file request place served told) shown.rose)
+      absurd (calm.shelf place shown.named shown.rose)
   came_calmly s r t served cause calm write NoRig is told shown = absurd (calm.rig (plug_uses old.shelf.file request served told) shown)
   came_calmly s r t served cause calm write Silent is told shown =
       elim is [

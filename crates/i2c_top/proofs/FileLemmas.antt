@@ -1,13 +1,23 @@
 -- What came of reading a file, from what came of its text.
-use Rattle.std.proofs.Common.{◌≡◌, ℕ, ◌⊎◌, inl, inr, Bool, IsTrue, List, Some, Result, Ok, Err, refl, sym, ap, subst, ◌∙◌}
-use Rattle.std.specs.Prelude.{IfOk, OnOk}
+use Rattle.std.proofs.Common.{◌≡◌, ℕ, ◌+◌, ◌<◌, ◌≤◌, ◌⊎◌, inl, inr, Bool, IsTrue, List, [], ◌∷◌, ◌++◌, length, take, get_or, Some, unwrap_or, Result, Ok, Err, refl, sym, ap, subst, ◌∙◌, arith}
+use Rattle.std.specs.Prelude.{IfOk, OnOk, IfErr}
+use Rattle.std.specs.Result.{IsErrAnd}
+use Rattle.std.proofs.lemmas.Bool.{cases_lt}
+use Rattle.std.proofs.lemmas.List.{take_all, take_more, map_push, length-append}
+use Rattle.std.proofs.lemmas.List.Elements.{All-push}
+use Rattle.std.proofs.lemmas.Option.{unwrap_or-slice_get}
 use Rattle.i2c_base.specs.Board.{BoardView}
-use Rattle.caller_core.specs.Callers.{CallerView, opened}
-use Rattle.i2c_top.specs.Boards.{IsBuilt, IsAccepted, IsRejected}
-use Rattle.i2c_top.specs.Files.{Files}
-use Rattle.i2c_top.specs.Readings.{IsAcceptedIn, IsRejectedIn, IsBoardIn, IsScriptIn, HasRead, IsRefusedAt, IsBadBoard}
-use Rattle.i2c_top.specs.Replays.{Names, script_name, HasNoBoard, HasSchedule}
+use Rattle.caller_core.specs.Callers.{IsOpened}
 use Rattle.caller_core.specs.Scripts.{script_read, commands_of}
+use Rattle.caller_core.specs.View.{CallerView}
+use Rattle.i2c_top.specs.Boards.{IsBuilt, IsAccepted, IsRejected}
+use Rattle.i2c_top.specs.Files.{Files, bytes_in}
+use Rattle.i2c_top.specs.Readings.{IsAcceptedIn, IsRejectedIn, IsBoardIn, IsScriptIn, AreScriptsIn, IsScheduleIn, HasRead, IsRefusedAt, IsRefusedScript, IsBadBoard, IsBadScript, IsBadSchedule, IsTooDear}
+use Rattle.i2c_outside.specs.Causes.{Rose}
+use Rattle.i2c_top.specs.Replays.{Names, script_name, HasBoard, HasNoBoard, HasScript, HasBadScript, HasScripts, HasBadSchedule, HasScriptsBefore, HasTexts, texts_in, cost_in, IsFileRefusal}
+use Rattle.i2c_top.specs.Runs.{texts_of, cost_of_texts}
+use Rattle.i2c_top.specs.Schedules.{schedule_read}
+use Rattle.i2c_top.specs.Traces.{ShelfView, KeepsBut}
 use Rattle.i2c_top.specs.declared.status.BoardRefusal.{BoardRefusal}
 use Rattle.i2c_top.specs.declared.status.BoardRefusal.TheVariants as refusal
 use Rattle.i2c_top.specs.declared.status.Status.{Status}
@@ -56,17 +66,187 @@ board_rejected tells file name text reads reads_now s there h =
 no_board : (tells : Bool) (file : Files) (name : List ℕ) (why : BoardRefusal) → IsRejectedIn tells file name why → IsTrue tells → HasNoBoard file name why
 no_board tells file name why n t = let r = n.1 t in record { text = r.text; there = r.there; is_none = no_board_of r.text why r.is_rejected }
 
-pub script_in : (file : Files) (name text : List ℕ) (b : BoardView) (r : Result CallerView Status) → file name ≡ Some text → IfOk r (λ s. s ≡ opened b text)
+pub script_in : (file : Files) (name text : List ℕ) (b : BoardView) (r : Result CallerView Status) → file name ≡ Some text → IfOk r (IsOpened b text)
     → OnOk r (script_read text ≡ Ok (commands_of text)) → IfOk r (λ s. IsScriptIn file name s.script.text)
-script_in file name text b (Ok s) there e read = record { has = record { text = text; there = there; read = read }; same = ap (λ (v : CallerView). v.script.text) e }
-script_in file name text b (Err s) there e read = tt
+script_in file name text b (Ok s) there o read = record { has = record { text = text; there = there; read = read }; same = o.text_is }
+script_in file name text b (Err s) there o read = tt
 
--- what was read after another file is what was there at first
-pub has_read : (first second third : Files) (names : Names) (b : BoardView) (text : List ℕ) → ((n : List ℕ) → second n ≡ first n) → ((n : List ℕ) → third n ≡ second n)
-    → IsBoardIn first names.board b → IsScriptIn second (script_name names.scripts) text → HasSchedule third names.schedule → HasRead first names b text
-has_read first second third names b text same same_again board script schedule =
+-- a script is opened with its own text
+pub own_text : (b : BoardView) (text : List ℕ) (r : Result CallerView Status) → IfOk r (IsOpened b text) → IfOk r (λ s. IsOpened b s.script.text s)
+own_text b text (Ok s) o = record { board_is = o.board_is; text_is = refl; untaken = o.untaken }
+own_text b text (Err e) o = tt
+
+-- the bytes of a script's file are its text
+bytes_are : (file file_now : Files) (name text : List ℕ) → ((n : List ℕ) → file_now n ≡ file n) → IsScriptIn file_now name text → text ≡ bytes_in file name
+bytes_are file file_now name text same is = is.same ∙ ap (λ o. unwrap_or o []) (sym is.has.there ∙ same name)
+
+-- one script more
+scripts_pushed : (file file_now : Files) (names : List (List ℕ)) (n : ℕ) (text : List ℕ) → ((name : List ℕ) → file_now name ≡ file name) → HasScripts file names n
+    → IsScriptIn file_now (script_name names n) text → HasScripts file names (n + 1)
+scripts_pushed file file_now names n text same read is c below = by (cases_lt c n)
+  where
+    by : (c < n) ⊎ (n ≤ c) → HasScript file (script_name names c)
+    by (inl less) = read c less
+    by (inr least) =
+        subst (λ x. HasScript file (script_name names x)) (let e : n ≡ c = omega (arith, below, least) in e)
+        (record { text = is.has.text; there = sym (same (script_name names n)) ∙ is.has.there; read = is.has.read })
+
+texts_pushed : (file : Files) (names : List (List ℕ)) (n : ℕ) → n < length names → texts_in file (take (n + 1) names) ≡ texts_in file (take n names) ++ bytes_in file (script_name names n) ∷ []
+texts_pushed file names n below =
+    ap (texts_in file) (take_more names n [] below) ∙ map_push (bytes_in file) (take n names) (get_or names n [])
+    ∙ ap (λ x. texts_in file (take n names) ++ bytes_in file x ∷ []) (sym (unwrap_or-slice_get names n []))
+
+more_scripts : (tells : Bool) (file file_now : Files) (names : List (List ℕ)) (b : BoardView) (scripts : List CallerView) (s : CallerView) → ((n : List ℕ) → file_now n ≡ file n)
+    → length scripts < length names → AreScriptsIn tells file names b scripts → IsOpened b s.script.text s
+    → (IsTrue tells → IsScriptIn file_now (script_name names (length scripts)) s.script.text) → AreScriptsIn tells file names b (scripts ++ s ∷ [])
+more_scripts tells file file_now names b scripts s same below are opened is =
+    record {
+      opened = All-push (λ x. IsOpened b x.script.text x) scripts s are.opened opened;
+      read = λ t. subst (HasScripts file names) (sym (length-append scripts (s ∷ []))) (scripts_pushed file file_now names (length scripts) s.script.text same (are.read t) (is t));
+      same = λ t. map_push (λ (x : CallerView). x.script.text) scripts s ∙ ap (λ xs. xs ++ s.script.text ∷ []) (are.same t)
+          ∙ ap (λ x. texts_in file (take (length scripts) names) ++ x ∷ []) (bytes_are file file_now (script_name names (length scripts)) s.script.text same (is t))
+          ∙ sym (texts_pushed file names (length scripts) below) ∙ ap (λ n. texts_in file (take n names)) (sym (length-append scripts (s ∷ [])));
+    }
+
+pub scripts_more : (tells : Bool) (file file_now : Files) (names : List (List ℕ)) (b : BoardView) (scripts scripts_now : List CallerView) (s : CallerView) (n : ℕ) (name : List ℕ)
+    → ((name_now : List ℕ) → file_now name_now ≡ file name_now) → length scripts ≡ n → n < length names → name ≡ script_name names n → scripts_now ≡ scripts ++ s ∷ []
+    → AreScriptsIn tells file names b scripts → IsOpened b s.script.text s → (IsTrue tells → IsScriptIn file_now name s.script.text) → AreScriptsIn tells file names b scripts_now
+scripts_more tells file file_now names b scripts scripts_now s n name same count below named pushed are opened is =
+    subst (AreScriptsIn tells file names b) (sym pushed)
+    (more_scripts tells file file_now names b scripts s same (subst (λ k. k < length names) (sym count) below) are opened
+    (λ t. subst (λ x. IsScriptIn file_now x s.script.text) (named ∙ ap (script_name names) (sym count)) (is t)))
+
+pub one_more : {X : Type 0} (xs xs_now : List X) (x : X) (n : ℕ) → xs_now ≡ xs ++ x ∷ [] → length xs ≡ n → length xs_now ≡ n + 1
+one_more xs xs_now x n pushed count = ap length pushed ∙ length-append xs (x ∷ []) ∙ ap (λ k. k + 1) count
+
+-- the texts of files that are the same
+same_texts : (file file_now : Files) → ((n : List ℕ) → file_now n ≡ file n) → (names : List (List ℕ)) → texts_in file_now names ≡ texts_in file names
+same_texts file file_now same [] = refl
+same_texts file file_now same (n ∷ ns) =
+    ap (λ o. unwrap_or o [] ∷ texts_in file_now ns) (same n) ∙ ap (λ xs. bytes_in file n ∷ xs) (same_texts file file_now same ns)
+
+same_scripts : (file file_now : Files) → ((n : List ℕ) → file_now n ≡ file n) → (names : List (List ℕ)) (n : ℕ) → HasScripts file_now names n → HasScripts file names n
+same_scripts file file_now same names n has c below =
+    let h = has c below in record { text = h.text; there = sym (same (script_name names c)) ∙ h.there; read = h.read }
+
+-- all scripts that were read
+pub all_scripts : (tells : Bool) (file file_now : Files) (names : List (List ℕ)) (b : BoardView) (scripts : List CallerView) → ((n : List ℕ) → file_now n ≡ file n)
+    → length scripts ≡ length names → AreScriptsIn tells file_now names b scripts → IsTrue tells → HasScripts file names (length names)
+all_scripts tells file file_now names b scripts same count are t = same_scripts file file_now same names (length names) (subst (HasScripts file_now names) count (are.read t))
+
+-- what was read after other files is what was there at first
+pub has_read : (first second third : Files) (names : Names) (tells : Bool) (b : BoardView) (scripts : List CallerView) (words : List ℕ) → ((n : List ℕ) → second n ≡ first n)
+    → ((n : List ℕ) → third n ≡ second n) → IsTrue tells → IsBoardIn first names.board b → length scripts ≡ length names.scripts → AreScriptsIn tells second names.scripts b scripts
+    → (callers : ℕ) → callers ≡ length names.scripts
+    → IsScheduleIn third names.schedule callers words → HasRead first names b (texts_of scripts) words
+has_read first second third names tells b scripts words same same_again t board count are callers known schedule =
     record {
       board_in = board;
-      script_in = record { has = record { text = script.has.text; there = sym (same (script_name names.scripts)) ∙ script.has.there; read = script.has.read }; same = script.same };
-      schedule = record { text = schedule.text; there = sym (same names.schedule) ∙ sym (same_again names.schedule) ∙ schedule.there; fits = schedule.fits };
+      scripts = same_scripts first second same names.scripts (length names.scripts) (subst (HasScripts second names.scripts) count (are.read t));
+      texts_are = are.same t ∙ ap (texts_in second) (take_all (length scripts) names.scripts (omega (arith, count))) ∙ same_texts first second same names.scripts;
+      schedule_in = subst (λ n. IsScheduleIn first names.schedule n words) known (record {
+        has = record { text = schedule.has.text; words = schedule.has.words; there = sym (same names.schedule) ∙ sym (same_again names.schedule) ∙ schedule.has.there; read = schedule.has.read };
+        same = schedule.same;
+      });
     }
+
+pub schedule_in : (file : Files) (name text : List ℕ) (callers : ℕ) {X : Type 0} (r : Result X Status) (words_of : X → List ℕ) → file name ≡ Some text
+    → IfOk r (λ x. schedule_read callers text ≡ Ok (words_of x)) → IfOk r (λ x. IsScheduleIn file name callers (words_of x))
+schedule_in file name text callers (Ok x) words_of there read = record { has = record { text = text; words = words_of x; there = there; read = read }; same = refl }
+schedule_in file name text callers (Err e) words_of there read = tt
+
+-- what was read is what the files have
+abbrev pub has_texts : (file : Files) (names : Names) (b : BoardView) (texts : List (List ℕ)) (words : List ℕ) → HasRead file names b texts words → HasTexts file names
+has_texts file names b texts words read = record { board = read.board_in.has; scripts = read.scripts; schedule = read.schedule_in.has }
+
+-- so is what it costs
+pub cost_read : (file : Files) (names : Names) (b : BoardView) (texts : List (List ℕ)) (words : List ℕ) (read : HasRead file names b texts words)
+    → cost_of_texts b texts ≡ cost_in file names read.board_in.has.board
+cost_read file names b texts words read = ap (λ x. cost_of_texts x texts) read.board_in.same ∙ ap (cost_of_texts read.board_in.has.board) read.texts_are
+
+-- what is read one after the other
+pub kept_then : (P Q R : ℕ → Type 0) (a b c : ShelfView) → ((p : ℕ) → P p → R p) → ((p : ℕ) → Q p → R p) → KeepsBut P a b → KeepsBut Q b c → KeepsBut R a c
+kept_then P Q R a b c f g k h =
+    record {
+      words = h.words ∙ k.words;
+      files = λ n. h.files n ∙ k.files n;
+      others = λ p no. h.others p (λ q. no (g p q)) ∙ k.others p (λ q. no (f p q));
+    }
+
+-- a refusal that is passed on
+pub passed_on : {T E : Type 0} (r : Result T E) (x : E) (P : E → Type 0) → IsErrAnd r (λ y. y ≡ x) → P x → IfErr r P
+passed_on (Ok v) x P h p = tt
+passed_on (Err y) x P h p = subst P (sym h) p
+
+-- a bad script of a file that is the same
+same_bad : (file file_now : Files) (name : List ℕ) (line word : ℕ) → ((n : List ℕ) → file_now n ≡ file n) → HasBadScript file_now name line word → HasBadScript file name line word
+same_bad file file_now name line word same b = record { text = b.text; there = sym (same name) ∙ b.there; read = b.read }
+
+-- a script was refused behind those before it
+pub script_refused : (tells : Bool) (file file_now : Files) (names : List (List ℕ)) (reads reads_mid reads_now : ℕ → ℕ) (n : ℕ) (s : Status) (name : List ℕ) → name ≡ script_name names n
+    → n < length names
+    → ((name : List ℕ) → file_now name ≡ file name) → (IsTrue tells → HasScripts file names n)
+    → ((place : ℕ) → ((3 ≤ place) × (place < 3 + n) → ⊥) → reads_mid place ≡ reads place) → ((place : ℕ) → (place ≡ 3 + n → ⊥) → reads_now place ≡ reads_mid place)
+    → IsRefusedAt (3 + n) (IsBadScript n (λ line word. IsTrue tells → HasBadScript file_now name line word)) (reads_mid (3 + n)) (reads_now (3 + n)) s
+    → IsRefusedScript tells file names reads reads_now s
+script_refused tells file file_now names reads reads_mid reads_now n s name named known same before kept kept_now refused =
+    record {
+      caller = n;
+      known = known;
+      before = before;
+      kept = λ place behind. kept_now place (λ e. absurd (omega (arith, behind, e))) ∙ kept place (λ p. absurd (omega (arith, behind, p.1)));
+      refused = by refused;
+    }
+  where
+    by : IsRefusedAt (3 + n) (IsBadScript n (λ line word. IsTrue tells → HasBadScript file_now name line word)) (reads_mid (3 + n)) (reads_now (3 + n)) s
+        → IsRefusedAt (3 + n) (IsBadScript n (λ line word. IsTrue tells → HasBadScript file (script_name names n) line word)) (reads (3 + n)) (reads_now (3 + n)) s
+    by (inl r) = inl (r.0, subst (λ (k : ℕ). Rose k (reads_now (3 + n))) (kept (3 + n) (λ p. absurd (omega (arith, p.1)))) r.1)
+    by (inr (inl m)) = inr (inl m)
+    by (inr (inr b)) = inr (inr (record { line = b.line; word = b.word; same = b.same; is_bad = λ t. subst (λ x. HasBadScript file x b.line b.word) named (same_bad file file_now name b.line b.word same (b.is_bad t)) }))
+
+-- what the board's reading left is what a script's refusal says
+pub scripts_refusal : (tells : Bool) (file file_now : Files) (names : Names) (reads reads_mid reads_now : ℕ → ℕ) (s : Status) → ((name : List ℕ) → file_now name ≡ file name)
+    → ((place : ℕ) → (place ≡ 1 → ⊥) → reads_mid place ≡ reads place) → (IsTrue tells → HasBoard file names.board)
+    → IsRefusedScript tells file_now names.scripts reads_mid reads_now s → IsFileRefusal tells file names reads reads_now s
+scripts_refusal tells file file_now names reads reads_mid reads_now s same kept board r = by r.refused
+  where
+    earlier : IsTrue tells → HasScriptsBefore file names r.caller
+    earlier t = record { known = r.known; board = board t; before = same_scripts file file_now same names.scripts r.caller (r.before t) }
+
+    by : IsRefusedAt (3 + r.caller) (IsBadScript r.caller (λ line word. IsTrue tells → HasBadScript file_now (script_name names.scripts r.caller) line word))
+        (reads_mid (3 + r.caller)) (reads_now (3 + r.caller)) s
+        → IsFileRefusal tells file names reads reads_now s
+    by (inl h) =
+        subst (IsFileRefusal tells file names reads reads_now) (sym h.0) (
+          record {
+            named = record { first = omega arith; last = omega (arith, r.known) };
+            rose = subst (λ (k : ℕ). Rose k (reads_now (3 + r.caller))) (kept (3 + r.caller) (λ e. absurd (omega (arith, e)))) h.1;
+          },
+          λ t. inr (inl (record { caller = r.caller; at = refl; earlier = earlier t })),
+        )
+    by (inr (inl m)) = subst (IsFileRefusal tells file names reads reads_now) (sym m) tt
+    by (inr (inr b)) =
+        subst (IsFileRefusal tells file names reads reads_now) (sym b.same)
+        (λ t. (earlier t, same_bad file file_now (script_name names.scripts r.caller) b.line b.word same (b.is_bad t)))
+
+-- and a schedule's
+pub schedule_refusal : (tells : Bool) (file file_now : Files) (names : Names) (reads reads_mid reads_now : ℕ → ℕ) (callers : ℕ) (s : Status) → callers ≡ length names.scripts
+    → ((name : List ℕ) → file_now name ≡ file name) → reads_mid 2 ≡ reads 2 → (IsTrue tells → HasBoard file names.board)
+    → (IsTrue tells → HasScripts file names.scripts (length names.scripts))
+    → IsRefusedAt 2 (IsBadSchedule (λ word. IsTrue tells → HasBadSchedule file_now names.schedule callers word)) (reads_mid 2) (reads_now 2) s
+    → IsFileRefusal tells file names reads reads_now s
+schedule_refusal tells file file_now names reads reads_mid reads_now callers s count same kept board scripts (inl h) =
+    subst (IsFileRefusal tells file names reads reads_now) (sym h.0)
+    (record { named = record { first = omega arith; last = omega arith }; rose = subst (λ (k : ℕ). Rose k (reads_now 2)) kept h.1 }, λ t. inr (inr (refl, board t, scripts t)))
+schedule_refusal tells file file_now names reads reads_mid reads_now callers s count same kept board scripts (inr (inl m)) = subst (IsFileRefusal tells file names reads reads_now) (sym m) tt
+schedule_refusal tells file file_now names reads reads_mid reads_now callers s count same kept board scripts (inr (inr b)) =
+    subst (IsFileRefusal tells file names reads reads_now) (sym b.same)
+    (λ t. let h = b.is_bad t in
+    (board t, scripts t, subst (λ n. HasBadSchedule file names.schedule n b.word) count (record { text = h.text; there = sym (same names.schedule) ∙ h.there; fault = h.fault })))
+
+-- and a cost that is too much
+pub cost_refusal : (tells : Bool) (file : Files) (names : Names) (reads reads_now : ℕ → ℕ) (b : BoardView) (texts : List (List ℕ)) (words : List ℕ) (s : Status)
+    → (IsTrue tells → HasRead file names b texts words) → IsTooDear (cost_of_texts b texts) s → IsFileRefusal tells file names reads reads_now s
+cost_refusal tells file names reads reads_now b texts words s read d =
+    subst (IsFileRefusal tells file names reads reads_now) (sym d.same)
+    (d.dear, λ t. record { texts = has_texts file names b texts words (read t); same = cost_read file names b texts words (read t); dear = d.dear })

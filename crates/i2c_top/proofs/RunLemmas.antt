@@ -1,41 +1,76 @@
--- A run of one caller that is over: its journal is legal and complete, and the ports and the devices are what it tells.
-use Rattle.std.proofs.Common.{◌≡◌, ℕ, zero, suc, ◌<◌, Bool, List, [], ◌∷◌, length, map, reverse, Option, Some, None, true, sym, ◌∙◌, ap, subst, arith, zero-add}
-use Rattle.std.specs.Prelude.{slice_get, IsTrue}
+-- A run that is over: its journal is legal, complete and follows the schedule, and the ports and the devices are what it
+-- tells. The induction goes over the entries.
+use Rattle.std.proofs.Common.{◌≡◌, ℕ, ◌<◌, ◌≤◌, ◌⊎◌, inl, inr, List, [], ◌∷◌, length, map, reverse, get_or, Option, Some, None, sym, ◌∙◌, ap, subst, arith, cond, zero-add}
+use Rattle.std.specs.Prelude.{slice_get}
 use Rattle.std.specs.List.{range_with_len}
-use Rattle.std.proofs.lemmas.List.{same_lists}
+use Rattle.std.specs.Option.{option_map, option_map_or}
+use Rattle.std.proofs.lemmas.Bool.{cases_lt}
+use Rattle.std.proofs.lemmas.List.{same_lists, length-map}
 use Rattle.std.proofs.lemmas.List.FromFn.{length-map-range_with_len, get_or-map-range_with_len}
-use Rattle.std.proofs.lemmas.Option.{get_or_from_slice_get}
+use Rattle.std.proofs.lemmas.Option.{get_or_from_slice_get, slice_get_past, slice_get_cases, slice_get-map}
 use Rattle.i2c_base.specs.declared.entry.Entry.{Entry}
+use Rattle.i2c_base.specs.declared.entry.Entry.TheVariants as entry
 use Rattle.i2c_base.specs.declared.port.PortCall.{PortCall}
 use Rattle.i2c_base.specs.declared.reply.Reply.{Reply}
 use Rattle.i2c_base.specs.Board.{BoardView}
-use Rattle.i2c_base.specs.Script.{ScriptView}
-use Rattle.i2c_base.specs.Transfer.{IsTransfer}
-use Rattle.i2c_spec.specs.Plain.{IsPlainBoard}
-use Rattle.i2c_spec.specs.Rules.{MeetsRules}
+use Rattle.i2c_base.specs.Transfer.{TransferView, IsTransfer}
 use Rattle.i2c_spec.specs.Fair.{IsFairCaller}
 use Rattle.i2c_spec.specs.Targets.{TargetState}
 use Rattle.i2c_spec.specs.World.{World, AreWorldsOf, devices_of}
 use Rattle.i2c_spec.specs.History.{Asks}
 use Rattle.i2c_spec.proofs.AddressLemmas.{tree_of}
-use Rattle.i2c_base.specs.declared.reply.Cut.{Cut}
-use Rattle.bus_spec.specs.Walk.{WalkTree, Ends}
-use Rattle.bus_spec.specs.Grammar.{is_over}
+use Rattle.bus_spec.specs.Walk.{Act, Take, Free, Send, Shift, Settle, Ends}
+use Rattle.bus_spec.specs.Grammar.{seen, is_over, first_act}
 use Rattle.bus_spec.specs.Readings.{replies}
-use Rattle.bus_spec.specs.Past.{now, world_at, calls_of}
-use Rattle.bus_spec.specs.Report.{report_lines, report_of}
+use Rattle.bus_spec.specs.Past.{Now, begun, current, now, world_at, calls_of}
+use Rattle.bus_spec.specs.Stepwise.{May, IsStepwise}
+use Rattle.bus_spec.specs.Report.{report_lines, text_of}
 use Rattle.bus_laws.specs.Reach.{AsksForMessages, AsksWithinLimits}
-use Rattle.journal_laws.specs.Left.{LeavesDevices, worlds_of}
-use Rattle.journal_laws.specs.Ends.{IsDone}
 use Rattle.bus_laws.proofs.Laws.{lines-locked, settled-told}
+use Rattle.journal_laws.specs.Ends.{IsDone}
+use Rattle.journal_laws.specs.Left.{LeavesDevices, worlds_of}
 use Rattle.journal_laws.proofs.Laws.{replies-kept, legal-with, devices-left, complete-then, strangers-end}
-use Rattle.bus_core.specs.Asking.{asks_of}
-use Rattle.bus_core.proofs.CoreSteps.{one_asks}
 use Rattle.caller_core.specs.Callers.{board_of}
 use Rattle.caller_core.specs.Scripts.{asked_by, left_of, commands_of, section_text}
-use Rattle.bus_core.specs.Cores.{CoreTold, CoreView, IsCore}
-use Rattle.bus_core.specs.Seats.{walk_left}
-use Rattle.i2c_top.specs.Runs.{script_on, asks_by, printed_by, IsRunOf, HasRun}
+use Rattle.caller_core.specs.View.{CallerView}
+use Rattle.i2c_top.specs.Runs.{script_on, asks_by, printed_by, texts_of, section_of, IsOver, HasRun}
+
+-- two ways of asking that give the same are one
+pub same_asks : (f g : Asks) → ((c : ℕ) (rs : List Reply) → f c rs ≡ g c rs) → f ≡ g
+same_asks f g h = λ i. λ c rs. h c rs i
+
+-- who asks for nothing and has no walk has no next step
+no_step : (b : BoardView) (asks : Asks) (n : Now) (c : ℕ) → n.walk c ≡ Ends → asks c (n.settled c) ≡ None → first_act (current b asks n c) ≡ None
+no_step b asks n c ends nothing =
+    ap (λ w. first_act (seen n.slot (cond (is_over w) (begun b (asks c (n.settled c))) w))) ends ∙ ap (λ o. first_act (seen n.slot (begun b o))) nothing
+
+-- so no entry is of one who asks for nothing
+not_his : (o : Option Act) (act : Act) → o ≡ None → o ≡ Some act → ⊥
+not_his o act none some = absurd (let h : None ≡ Some act = sym none ∙ some in cc)
+
+module _ (b : BoardView) (asks : Asks) (many few : ℕ) (nobody : (c : ℕ) → (c < few → ⊥) → (rs : List Reply) → asks c rs ≡ None) where
+  -- an entry's caller is one of the few
+  his : (past : List Entry) → IsStepwise b few asks past → (c : ℕ) (act : Act) → first_act (current b asks (now b asks past) c) ≡ Some act → c < few
+  his past steps c act acts = by (cases_lt c few)
+    where
+      by : (c < few) ⊎ (few ≤ c) → c < few
+      by (inl below) = below
+      by (inr above) =
+          let stranger : c < few → ⊥ = λ lt. absurd (omega (arith, above, lt)) in
+          absurd (not_his (first_act (current b asks (now b asks past) c)) act
+          (no_step b asks (now b asks past) c (strangers-end b few asks past steps c stranger) (nobody c stranger ((now b asks past).settled c))) acts)
+
+  may_few : (past : List Entry) → IsStepwise b few asks past → (e : Entry) → May b many asks (now b asks past) e → May b few asks (now b asks past) e
+  may_few past steps (entry.Take c l) may = (his past steps c (Take l) may.2, may.1, may.2, may.3, may.4)
+  may_few past steps (entry.Settle c r cut) may = (his past steps c (Settle may.2) may.3, may.1, may.2, may.3, may.4, may.5)
+  may_few past steps (entry.Free c l) may = (his past steps c (Free l) may.2, may.1, may.2)
+  may_few past steps (entry.Line c mux level failed) may = let told = may.2 in (his past steps c (Shift told.0) told.1, may.1, told)
+  may_few past steps (entry.Message c bus purpose part parts addr reading bytes heard e) may = let told = may.2 in (his past steps c (Send told.0 told.1) told.2, may.1, told)
+
+  -- a past of many callers, of whom all but a few ask for nothing, is one of the few
+  pub few-callers : (past : List Entry) → IsStepwise b many asks past → IsStepwise b few asks past
+  few-callers [] steps = tt
+  few-callers (e ∷ past) steps = let before = few-callers past steps.1 in (may_few past before e steps.0, before)
 
 -- a list of n elements, each of which a function tells
 listed : {X : Type 0} (f : ℕ → X) (xs : List X) (n : ℕ) → length xs ≡ n → ((i : ℕ) → i < n → slice_get xs i ≡ Some (f i)) → xs ≡ map f (range_with_len 0 n)
@@ -44,78 +79,112 @@ listed f xs n count each =
     (λ i d below. let low = subst (λ (m : ℕ). i < m) count below in
     get_or_from_slice_get xs i (f i) d (each i low) ∙ sym (get_or-map-range_with_len f 0 n i i d low (zero-add i)))
 
-module _ (b : BoardView) (text : List ℕ) (taken : List Reply) (journal : List Entry) (worlds : List World) (logs : List (List PortCall))
-    (plain : IsPlainBoard b) (rules : MeetsRules b) (fair : IsFairCaller asked_by left_of board_of)
-    (marks : List (Option ℕ)) (w : WalkTree) (cut : Cut) (told : CoreTold b (asks_of asked_by (script_on b text ∷ [])) (reverse journal) taken marks w cut None worlds logs) (over : is_over w ≡ true)
-    (done : asked_by (script_on b text) taken ≡ None) where
+-- what holds of what each script asks for holds of what the callers do
+of_asks : (b : BoardView) (texts : List (List ℕ)) (P : TransferView → Type 0) → ((text : List ℕ) (rs : List Reply) (t : TransferView) → asked_by (script_on b text) rs ≡ Some t → P t)
+    → (c : ℕ) (rs : List Reply) (t : TransferView) → asks_by b texts c rs ≡ Some t → P t
+of_asks b texts P each c rs t e = by (slice_get texts c) e
+  where
+    by : (o : Option (List ℕ)) → option_map_or (λ text. asked_by (script_on b text) rs) o None ≡ Some t → P t
+    by None k = absurd (let h : None ≡ Some t = k in cc)
+    by (Some text) k = each text rs t k
+
+module _ (b : BoardView) (callers : List CallerView) (many : ℕ) (words : List ℕ) (journal : List Entry) (worlds : List World) (logs : List (List PortCall))
+    (fair : IsFairCaller asked_by left_of board_of) (over : IsOver b callers many words journal worlds logs) where
+  abbrev texts : List (List ℕ)
+  texts = texts_of callers
+
+  abbrev count : ℕ
+  count = length texts
+
   abbrev asks : Asks
-  asks = asks_by b (text ∷ [])
+  asks = asks_by b texts
 
   abbrev past : List Entry
   past = reverse journal
 
   some : AsksForMessages asks
-  some = one_asks (λ t. 0 < length t.msgs) asked_by (script_on b text) (fair.sends (script_on b text))
+  some = of_asks b texts (λ t. 0 < length t.msgs) (λ text. fair.sends (script_on b text))
 
   limits : AsksWithinLimits asks
-  limits = one_asks (λ t. IsTransfer t.msgs t.out) asked_by (script_on b text) (fair.limits (script_on b text))
+  limits = of_asks b texts (λ t. IsTransfer t.msgs t.out) (λ text. fair.limits (script_on b text))
 
-  replied : replies past 0 ≡ taken
-  replied = sym (settled-told b asks past 0) ∙ told.seat.settled
+  -- a number below the count is that of a caller, and no other number is
+  caller_at : (c : ℕ) → c < count → (s : CallerView) × (slice_get callers c ≡ Some s)
+  caller_at c below = by (slice_get_cases callers c).1
+    where
+      by : ((s : CallerView) × (c < length callers) × (slice_get callers c ≡ Some s) × (get_or callers c s ≡ s)) ⊎ ((length callers ≤ c) × (slice_get callers c ≡ None)) → (s : CallerView) × (slice_get callers c ≡ Some s)
+      by (inl h) = (h.0, h.2)
+      by (inr h) = absurd (let many : length callers ≤ c = h.0 in omega (arith, below, many, length-map callers (λ (s : CallerView). s.script.text)))
 
-  is_done : (c : ℕ) → c < 1 → IsDone asks (now b asks past) c
-  is_done zero known = (told.seat.over over, ap (λ (rs : List Reply). asked_by (script_on b text) rs) told.seat.settled ∙ done)
-  is_done (suc c) known = absurd (omega (arith, known))
+  text_at : (c : ℕ) (s : CallerView) → slice_get callers c ≡ Some s → slice_get texts c ≡ Some s.script.text
+  text_at c s at = slice_get-map (λ (x : CallerView). x.script.text) callers c ∙ ap (option_map (λ (x : CallerView). x.script.text)) at
+
+  nobody : (c : ℕ) → (c < count → ⊥) → (rs : List Reply) → asks c rs ≡ None
+  nobody c stranger rs = ap (λ o. option_map_or (λ text. asked_by (script_on b text) rs) o None) (slice_get_past texts c (by (cases_lt c count)))
+    where
+      by : (c < count) ⊎ (count ≤ c) → count ≤ c
+      by (inl below) = absurd (stranger below)
+      by (inr above) = above
+
+  stepwise : IsStepwise b count asks past
+  stepwise = few-callers b asks many count nobody past over.stepwise
+
+  is_done : (c : ℕ) → c < count → IsDone asks (now b asks past) c
+  is_done c known =
+      let s = caller_at c known in (
+        over.ended c s.0 s.1,
+        ap (λ o. option_map_or (λ text. asked_by (script_on b text) ((now b asks past).settled c)) o None) (text_at c s.0 s.1)
+            ∙ ap (λ (rs : List Reply). asked_by (script_on b s.0.script.text) rs) (sym (over.taken c s.0 s.1)) ∙ over.done c s.0 s.1,
+      )
 
   all_end : (c : ℕ) → (now b asks past).walk c ≡ Ends
-  all_end zero = told.seat.over over
-  all_end (suc c) = strangers-end b 1 asks past told.stepwise (suc c) (λ below. omega (arith, below))
+  all_end c = by (cases_lt c count)
+    where
+      by : (c < count) ⊎ (count ≤ c) → (now b asks past).walk c ≡ Ends
+      by (inl below) = (is_done c below).0
+      by (inr above) = strangers-end b count asks past stepwise c (λ below. absurd (omega (arith, below, above)))
 
   left_by : LeavesDevices b asks past
-  left_by = devices-left b (tree_of b plain rules) plain (lines-locked b rules) asks some limits 1 past told.stepwise all_end
+  left_by = devices-left b (tree_of b over.plain over.rules) over.plain (lines-locked b over.rules) asks some limits count past stepwise all_end
 
   worlds_are : worlds ≡ worlds_of b asks past
-  worlds_are = listed (world_at b asks past) worlds (length b.roots) told.ports.count told.ports.world
+  worlds_are = listed (world_at b asks past) worlds (length b.roots) over.worlds_count over.world
 
   logs_are : logs ≡ map (calls_of b asks past) (range_with_len 0 (length b.roots))
-  logs_are = listed (calls_of b asks past) logs (length b.roots) told.ports.logged told.ports.log
+  logs_are = listed (calls_of b asks past) logs (length b.roots) over.logs_count over.log
 
   are_worlds : AreWorldsOf b worlds
   are_worlds = subst (λ (ws : List World). AreWorldsOf b ws) (sym worlds_are) left_by.worlds
 
-  report_is : report_lines (section_text (commands_of text) taken ∷ []) journal ≡ report_of (printed_by (text ∷ [])) 1 journal
-  report_is = ap (λ (rs : List Reply). report_lines (section_text (commands_of text) rs ∷ []) journal) (sym replied)
+  -- what a caller has printed is what its replies in the journal make it print
+  section_at : (c : ℕ) → c < count → slice_get (map section_of callers) c ≡ Some (text_of (printed_by texts) journal c)
+  section_at c known =
+      let s = caller_at c known in
+      slice_get-map section_of callers c ∙ ap (option_map section_of) s.1
+      ∙ ap (λ (rs : List Reply). Some (section_text (commands_of s.0.script.text) rs)) (over.taken c s.0 s.1 ∙ settled-told b asks past c)
+      ∙ ap (λ o. Some (option_map_or (λ text. section_text (commands_of text) (replies past c)) o [])) (sym (text_at c s.0 s.1))
 
-  run_over : (bytes : List ℕ) (kept_logs : List (List PortCall)) (states : List TargetState)
-      → bytes ≡ report_lines (section_text (commands_of text) taken ∷ []) journal
-      → (AreWorldsOf b worlds → states ≡ devices_of b worlds) → (AreWorldsOf b worlds → kept_logs ≡ logs)
-      → IsRunOf b (text ∷ []) bytes kept_logs states journal
-  run_over bytes kept_logs states printed kept logged =
+  sections_are : map section_of callers ≡ map (text_of (printed_by texts) journal) (range_with_len 0 count)
+  sections_are =
+      listed (text_of (printed_by texts) journal) (map section_of callers) count
+      (length-map callers section_of ∙ sym (length-map callers (λ (s : CallerView). s.script.text))) section_at
+
+  -- THE RUN of callers that are over
+  pub run-over : (bytes : List ℕ) (kept_logs : List (List PortCall)) (states : List TargetState) → bytes ≡ report_lines (map section_of callers) journal
+      → (AreWorldsOf b worlds → states ≡ devices_of b worlds) → (AreWorldsOf b worlds → kept_logs ≡ logs) → HasRun b texts words bytes kept_logs states
+  run-over bytes kept_logs states printed kept logged =
       record {
-        reported = printed ∙ report_is;
-        legal = legal-with b (tree_of b plain rules) plain (lines-locked b rules) asks some 1 past told.stepwise told.seat.due_is
-            (replies-kept b (tree_of b plain rules) plain (lines-locked b rules) asks some limits 1 past told.stepwise);
-        stepwise = told.stepwise;
-        complete = complete-then b (tree_of b plain rules) plain (lines-locked b rules) asks some 1 past told.stepwise is_done;
-        called = logged are_worlds ∙ logs_are;
-        told = left_by.told;
-        followed = left_by.defined;
-        left = kept are_worlds ∙ ap (devices_of b) worlds_are ∙ left_by.states;
+        journal = journal;
+        is_run = record {
+          reported = printed ∙ ap (λ (xs : List (List ℕ)). report_lines xs journal) sections_are;
+          legal = legal-with b (tree_of b over.plain over.rules) over.plain (lines-locked b over.rules) asks some count past stepwise over.rests
+              (replies-kept b (tree_of b over.plain over.rules) over.plain (lines-locked b over.rules) asks some limits count past stepwise);
+          stepwise = stepwise;
+          complete = complete-then b (tree_of b over.plain over.rules) over.plain (lines-locked b over.rules) asks some count past stepwise is_done;
+          followed = over.followed;
+          called = logged are_worlds ∙ logs_are;
+          told = left_by.told;
+          replayed = left_by.defined;
+          left = kept are_worlds ∙ ap (devices_of b) worlds_are ∙ left_by.states;
+        };
       }
-
--- the core when its caller's script is used up, the report of its caller, and what a rig with the core's board then holds
-pub run-told : (tells : Bool) (v : CoreView) → IsTrue tells → IsCore tells asked_by left_of board_of v → is_over (walk_left v.board v.seat) ≡ true → asked_by v.script v.taken ≡ None
-    → (b held : BoardView) (s : ScriptView) → v.board ≡ b → held ≡ b → v.script ≡ s
-    → (bytes : List ℕ) (logs : List (List PortCall)) (states : List TargetState)
-    → bytes ≡ report_lines (section_text (commands_of v.script.text) v.taken ∷ []) v.journal
-    → (AreWorldsOf held v.worlds → states ≡ devices_of held v.worlds)
-    → (AreWorldsOf held v.worlds → logs ≡ v.logs)
-    → HasRun b (s.text ∷ []) bytes logs states
-run-told tells v tell core over done b held s board_is held_is script_is bytes logs states printed kept logged =
-    let here : held ≡ v.board = held_is ∙ sym board_is in
-    let told = subst (λ (x : BoardView). CoreTold v.board (asks_of asked_by (script_on x v.script.text ∷ [])) (reverse v.journal) v.taken v.marks (walk_left v.board v.seat) v.seat.cut None v.worlds v.logs) core.setup.home (core.told tell) in
-    let run = run_over v.board v.script.text v.taken v.journal v.worlds v.logs core.setup.plain core.setup.rules core.setup.fair v.marks (walk_left v.board v.seat) v.seat.cut told over done bytes logs states printed
-    (subst (λ (x : BoardView). AreWorldsOf x v.worlds → states ≡ devices_of x v.worlds) here kept)
-    (subst (λ (x : BoardView). AreWorldsOf x v.worlds → logs ≡ v.logs) here logged) in
-    subst (λ (x : BoardView). HasRun x (s.text ∷ []) bytes logs states) board_is
-    (subst (λ (x : ScriptView). HasRun v.board (x.text ∷ []) bytes logs states) script_is (record { journal = v.journal; is_run = run }))

@@ -1,11 +1,8 @@
 -- Which boards this version steps, and what a board's text says: the board, or why it is refused.
-use Rattle.std.specs.Prelude.{⊤, ◌≡◌, ◌≢◌, ℕ, ◌≤◌, false, All, List, length, Ok, Err}
+use Rattle.std.specs.Prelude.{⊤, ◌≡◌, ◌≢◌, ℕ, All, List, Ok, Err}
 use Rattle.i2c_base.specs.Board.{BoardView}
 use Rattle.i2c_base.specs.declared.board.DeviceKind.{DeviceKind}
 use Rattle.i2c_base.specs.declared.board.DeviceKind.TheVariants as kind
-use Rattle.i2c_base.specs.declared.board.LockMode.TheVariants.{Parent}
-use Rattle.i2c_base.specs.declared.board.MuxKind.TheVariants.{Pca9548}
-use Rattle.i2c_base.specs.declared.board.MuxSpec.{MuxSpec}
 use Rattle.i2c_base.specs.declared.rules.RuleBroken.{RuleBroken}
 use Rattle.i2c_spec.specs.Rules.{MeetsRules, TellsBroken}
 use Rattle.i2c_boardtext.specs.BoardText.{board_of}
@@ -14,24 +11,15 @@ use Rattle.i2c_boardtext.specs.declared.fault.BoardFault.TheVariants as fault
 use Rattle.i2c_top.specs.declared.status.BoardRefusal.{BoardRefusal}
 use Rattle.i2c_top.specs.declared.status.BoardRefusal.TheVariants as refusal
 
--- what this version steps: one root, at most one mux, a parent-locked switch of eight channels that is there, and
--- devices of every kind but SMBus devices
+-- what this version steps: devices of every kind but SMBus devices
 abbrev pub IsBuiltKind : DeviceKind → Type 0
 IsBuiltKind (kind.Eeprom size fill busy wp) = ⊤
 IsBuiltKind (kind.Lm75 raw) = ⊤
 IsBuiltKind (kind.Regs hold) = ⊤
 IsBuiltKind (kind.Smbus width flip) = ⊥
 
-pub record IsBuiltMux (m : MuxSpec) : Type 0 where
-  pub kind_is : m.kind ≡ Pca9548
-  pub locked : m.lock ≡ Parent
-  pub there : m.absent ≡ false
-
-pub record IsBuilt (b : BoardView) : Type 0 where
-  pub one_root : length b.roots ≡ 1
-  pub few_muxes : length b.muxes ≤ 1
-  pub switches : All IsBuiltMux b.muxes
-  pub kinds : All (λ d. IsBuiltKind d.kind) b.devices
+abbrev pub IsBuilt : BoardView → Type 0
+IsBuilt b = All (λ d. IsBuiltKind d.kind) b.devices
 
 -- a text spells this board, which meets the rules
 pub record IsAccepted (text : List ℕ) (board : BoardView) : Type 0 where

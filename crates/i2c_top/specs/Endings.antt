@@ -2,7 +2,7 @@
 use Rattle.std.specs.Prelude.{⊤, ◌≡◌, ◌≢◌, ℕ, ◌⊎◌, IsTrue, List, [], ◌++◌}
 use Rattle.i2c_outside.specs.Causes.{Rose}
 use Rattle.i2c_top.specs.Replays.{IsUnread, KeepsUnreached}
-use Rattle.i2c_top.specs.Requests.{Request, IsServed, IsStatusOf, IsCause, IsCalm, KeepsShelf, IsTold, IsTraced, IsAnswer, file_name}
+use Rattle.i2c_top.specs.Requests.{Request, IsServed, IsPlaceOf, IsStatusOf, IsCause, IsCalm, KeepsShelf, IsTold, IsTraced, IsAnswer, file_name}
 use Rattle.i2c_top.specs.Status.{Class, Done, Misused, Refused, Unread, NoRig, Silent, class_of, refusal_text}
 use Rattle.i2c_top.specs.Traces.{ShelfView, OutputView, RigView, Outside}
 use Rattle.i2c_top.specs.Written.{HasFront}
@@ -12,7 +12,7 @@ use Rattle.i2c_top.specs.declared.status.Status.TheVariants as status
 -- what the request and the counts show of a status
 abbrev pub shown_of : Request → ShelfView → ShelfView → RigView → RigView → Class → Type 0
 shown_of request shelf shelf_now rig rig_now Misused = IsServed request → ⊥
-shown_of request shelf shelf_now rig rig_now (Unread place) = IsUnread shelf.faults shelf_now.faults place
+shown_of request shelf shelf_now rig rig_now (Unread place) = IsUnread (IsPlaceOf request) shelf.faults shelf_now.faults place
 shown_of request shelf shelf_now rig rig_now NoRig = Rose rig.faults rig_now.faults
 shown_of request shelf shelf_now rig rig_now Done = ⊤
 shown_of request shelf shelf_now rig rig_now Refused = ⊤

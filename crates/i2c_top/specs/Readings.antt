@@ -1,10 +1,12 @@
 -- One file of a call that is read: what came of it.
-use Rattle.std.specs.Prelude.{◌≡◌, ◌≢◌, ℕ, ◌⊎◌, Bool, IsTrue, List}
+use Rattle.std.specs.Prelude.{◌≡◌, ◌≢◌, ℕ, ◌+◌, ◌<◌, ◌⊎◌, Bool, IsTrue, List, length, take}
 use Rattle.i2c_base.specs.Board.{BoardView}
 use Rattle.i2c_outside.specs.Causes.{Rose}
 use Rattle.i2c_top.specs.Checks.{HasAccepted, HasRejected}
 use Rattle.i2c_top.specs.Files.{Files}
-use Rattle.i2c_top.specs.Replays.{Names, script_name, HasBoard, HasScript, HasSchedule}
+use Rattle.caller_core.specs.View.{CallerView}
+use Rattle.i2c_top.specs.Replays.{Names, script_name, HasBoard, HasScript, HasBadScript, HasScripts, HasSchedule, texts_in}
+use Rattle.i2c_top.specs.Runs.{AreOpened, texts_of, MOST_COST}
 use Rattle.i2c_top.specs.declared.status.BoardRefusal.{BoardRefusal}
 use Rattle.i2c_top.specs.declared.status.BoardRefusal.TheVariants as refusal
 use Rattle.i2c_top.specs.declared.status.Status.{Status}
@@ -29,11 +31,23 @@ pub record IsScriptIn (file : Files) (name text : List ℕ) : Type 0 where
   pub has : HasScript file name
   pub same : text ≡ has.text
 
--- the files are there, and this is the board and the script's text
-pub record HasRead (file : Files) (names : Names) (board : BoardView) (text : List ℕ) : Type 0 where
+-- the callers are those that the words of a file name
+pub record IsScheduleIn (file : Files) (name : List ℕ) (callers : ℕ) (words : List ℕ) : Type 0 where
+  pub has : HasSchedule file name callers
+  pub same : words ≡ has.words
+
+-- the first scripts are opened over a board; where the files are told they are there, with these texts, and in the grammar
+pub record AreScriptsIn (tells : Bool) (file : Files) (names : List (List ℕ)) (board : BoardView) (scripts : List CallerView) : Type 0 where
+  pub opened : AreOpened board scripts
+  pub read : IsTrue tells → HasScripts file names (length scripts)
+  pub same : IsTrue tells → texts_of scripts ≡ texts_in file (take (length scripts) names)
+
+-- the files are there, and this is the board, the scripts' texts and the schedule's callers
+pub record HasRead (file : Files) (names : Names) (board : BoardView) (texts : List (List ℕ)) (words : List ℕ) : Type 0 where
   pub board_in : IsBoardIn file names.board board
-  pub script_in : IsScriptIn file (script_name names.scripts) text
-  pub schedule : HasSchedule file names.schedule
+  pub scripts : HasScripts file names.scripts (length names.scripts)
+  pub texts_are : texts ≡ texts_in file names.scripts
+  pub schedule_in : IsScheduleIn file names.schedule (length names.scripts) words
 
 -- the file at this place was not read, or there was no memory, or what was read was bad
 abbrev pub IsRefusedAt : ℕ → (Status → Type 0) → ℕ → ℕ → Status → Type 0
@@ -45,13 +59,27 @@ pub record IsBadBoard (of : BoardRefusal → Type 0) (s : Status) : Type 0 where
   pub same : s ≡ status.Board why
   pub is_bad : of why
 
-pub record IsBadScript (why : ℕ → ℕ → Type 0) (s : Status) : Type 0 where
+pub record IsBadScript (caller : ℕ) (why : ℕ → ℕ → Type 0) (s : Status) : Type 0 where
   pub line : ℕ
   pub word : ℕ
-  pub same : s ≡ status.Script 0 line word
+  pub same : s ≡ status.Script caller line word
   pub is_bad : why line word
 
 pub record IsBadSchedule (why : ℕ → Type 0) (s : Status) : Type 0 where
   pub word : ℕ
   pub same : s ≡ status.Schedule word
   pub is_bad : why word
+
+-- a script was refused: those before it are in the grammar, and what is read behind it was not read
+pub record IsRefusedScript (tells : Bool) (file : Files) (names : List (List ℕ)) (reads reads_now : ℕ → ℕ) (s : Status) : Type 0 where
+  pub caller : ℕ
+  pub known : caller < length names
+  pub before : IsTrue tells → HasScripts file names caller
+  pub kept : (place : ℕ) → 3 + caller < place → reads_now place ≡ reads place
+  pub refused : IsRefusedAt (3 + caller) (IsBadScript caller (λ line word. IsTrue tells → HasBadScript file (script_name names caller) line word))
+      (reads (3 + caller)) (reads_now (3 + caller)) s
+
+-- the scripts cost so much, which is too much
+pub record IsTooDear (cost : ℕ) (s : Status) : Type 0 where
+  pub same : s ≡ status.Cost cost
+  pub dear : MOST_COST < cost

@@ -1,11 +1,12 @@
 -- What the files of a call say where it ends with a status.
-use Rattle.std.specs.Prelude.{⊤, ◌≡◌, ◌≢◌, ℕ, ◌≤◌, ◌⊎◌, Bool, IsTrue, ◌==◌, if◌then◌else◌, List, [], ◌∷◌, Some, None, Ok, Err}
+use Rattle.std.specs.Prelude.{⊤, ◌≡◌, ◌≢◌, ℕ, ◌+◌, ◌-◌, ◌<◌, ◌≤◌, ◌⊎◌, Bool, IsTrue, ◌==◌, if◌then◌else◌, List, [], length, map, slice_get, unwrap_or, Some, Ok, Err}
 use Rattle.i2c_outside.specs.Causes.{Rose}
 use Rattle.i2c_base.specs.Board.{BoardView}
 use Rattle.i2c_top.specs.Boards.{IsBoardOf, IsNoBoard}
-use Rattle.i2c_top.specs.Files.{Files}
+use Rattle.i2c_top.specs.Files.{Files, bytes_in}
 use Rattle.caller_core.specs.Scripts.{script_read, commands_of}
-use Rattle.i2c_top.specs.Schedules.{schedule_fault}
+use Rattle.i2c_top.specs.Runs.{cost_of_texts, MOST_COST}
+use Rattle.i2c_top.specs.Schedules.{schedule_read}
 use Rattle.i2c_top.specs.declared.status.BoardRefusal.{BoardRefusal}
 use Rattle.i2c_top.specs.declared.status.Status.{Status}
 use Rattle.i2c_top.specs.declared.status.Status.TheVariants as status
@@ -16,14 +17,18 @@ pub record Names : Type 0 where
   pub schedule : List ℕ
   pub scripts : List (List ℕ)
 
--- the name of the one script that is replayed
-abbrev pub script_name : List (List ℕ) → List ℕ
-script_name [] = []
-script_name (name ∷ names) = name
+-- the name of the script with this number
+abbrev pub script_name : List (List ℕ) → ℕ → List ℕ
+script_name names c = unwrap_or (slice_get names c) []
 
--- the name of the file at a place of the words
+-- the name of the file at a place of the words: the board's at 1, the schedule's at 2, those of the scripts from 3 on
 abbrev pub name_at : Names → ℕ → List ℕ
-name_at names place = if place == 1 then names.board else if place == 2 then names.schedule else script_name names.scripts
+name_at names place = if place == 1 then names.board else if place == 2 then names.schedule else script_name names.scripts (place - 3)
+
+-- a file of the call stands at this place
+pub record IsPlaceIn (names : Names) (place : ℕ) : Type 0 where
+  pub first : 1 ≤ place
+  pub last : place < 3 + length names.scripts
 
 -- the board's file is there, and its text spells this board, which this version steps
 pub record HasBoard (file : Files) (name : List ℕ) : Type 0 where
@@ -38,7 +43,7 @@ pub record HasNoBoard (file : Files) (name : List ℕ) (why : BoardRefusal) : Ty
   pub there : file name ≡ Some text
   pub is_none : IsNoBoard text why
 
--- the script's file is there, and in the grammar
+-- a script's file is there, and in the grammar
 pub record HasScript (file : Files) (name : List ℕ) : Type 0 where
   pub text : List ℕ
   pub there : file name ≡ Some text
@@ -50,51 +55,96 @@ pub record HasBadScript (file : Files) (name : List ℕ) (line word : ℕ) : Typ
   pub there : file name ≡ Some text
   pub read : script_read text ≡ Err (record { line = line; word = word })
 
--- the schedule's file is there, and well formed
-pub record HasSchedule (file : Files) (name : List ℕ) : Type 0 where
-  pub text : List ℕ
-  pub there : file name ≡ Some text
-  pub fits : schedule_fault text ≡ None
+-- the files of the first so many scripts are there, and in the grammar
+abbrev pub HasScripts : Files → List (List ℕ) → ℕ → Type 0
+HasScripts file names n = (c : ℕ) → c < n → HasScript file (script_name names c)
 
--- it is there, and this word is its first that is no caller's number
-pub record HasBadSchedule (file : Files) (name : List ℕ) (word : ℕ) : Type 0 where
+-- the scripts' texts
+abbrev pub texts_in : Files → List (List ℕ) → List (List ℕ)
+texts_in file names = map (bytes_in file) names
+
+-- the schedule's file is there, and its words name these callers, among so many
+pub record HasSchedule (file : Files) (name : List ℕ) (callers : ℕ) : Type 0 where
+  pub text : List ℕ
+  pub words : List ℕ
+  pub there : file name ≡ Some text
+  pub read : schedule_read callers text ≡ Ok words
+
+-- it is there, and this word is its first that is no caller's number, or one too many
+pub record HasBadSchedule (file : Files) (name : List ℕ) (callers word : ℕ) : Type 0 where
   pub text : List ℕ
   pub there : file name ≡ Some text
-  pub fault : schedule_fault text ≡ Some word
+  pub fault : schedule_read callers text ≡ Err word
 
 -- the files are there, and well formed
-pub record HasFiles (file : Files) (names : Names) : Type 0 where
+pub record HasTexts (file : Files) (names : Names) : Type 0 where
   pub board : HasBoard file names.board
-  pub script : HasScript file (script_name names.scripts)
-  pub schedule : HasSchedule file names.schedule
+  pub scripts : HasScripts file names.scripts (length names.scripts)
+  pub schedule : HasSchedule file names.schedule (length names.scripts)
+
+-- what the scripts cost over a board
+abbrev pub cost_in : Files → Names → BoardView → ℕ
+cost_in file names b = cost_of_texts b (texts_in file names.scripts)
+
+-- .. and the scripts don't cost too much
+pub record HasFiles (file : Files) (names : Names) : Type 0 where
+  pub texts : HasTexts file names
+  pub cheap : cost_in file names texts.board.board ≤ MOST_COST
+
+-- .. or they do, for so much
+pub record HasDearFiles (file : Files) (names : Names) (cost : ℕ) : Type 0 where
+  pub texts : HasTexts file names
+  pub same : cost ≡ cost_in file names texts.board.board
+  pub dear : MOST_COST < cost
+
+-- there is a board, and the scripts before this one are in the grammar
+pub record HasScriptsBefore (file : Files) (names : Names) (caller : ℕ) : Type 0 where
+  pub known : caller < length names.scripts
+  pub board : HasBoard file names.board
+  pub before : HasScripts file names.scripts caller
 
 -- what the files say where `replay` ends with a status that they decide: success, and each refusal of a file's text
 abbrev pub IsReplayCause : Files → Names → Status → Type 0
 IsReplayCause file names status.Ok = HasFiles file names
 IsReplayCause file names (status.Board why) = HasNoBoard file names.board why
-IsReplayCause file names (status.Script caller line word) = HasBoard file names.board × (caller ≡ 0) × HasBadScript file (script_name names.scripts) line word
-IsReplayCause file names (status.Schedule word) = HasBoard file names.board × HasScript file (script_name names.scripts) × HasBadSchedule file names.schedule word
+IsReplayCause file names (status.Script caller line word) = HasScriptsBefore file names caller × HasBadScript file (script_name names.scripts caller) line word
+IsReplayCause file names (status.Schedule word) =
+    HasBoard file names.board × HasScripts file names.scripts (length names.scripts) × HasBadSchedule file names.schedule (length names.scripts) word
+IsReplayCause file names (status.Cost cost) = HasDearFiles file names cost
 IsReplayCause file names _ = ⊥
 
--- the order of refusals: the board is read at place 1; there is a board before the script is read, at place 3; the script
--- is in the grammar before the schedule is read, at place 2
+-- a script is read at its place, from 3 on: there is a board, and the scripts before it are in the grammar
+pub record IsScriptInTurn (file : Files) (names : Names) (place : ℕ) : Type 0 where
+  pub caller : ℕ
+  pub at : place ≡ 3 + caller
+  pub earlier : HasScriptsBefore file names caller
+
+-- the order of refusals: the board is read at place 1; there is a board before the scripts are read, one after the other;
+-- all of them are in the grammar before the schedule is read, at place 2
 abbrev pub IsReadInTurn : Files → Names → ℕ → Type 0
 IsReadInTurn file names place =
-    (place ≡ 1) ⊎ (((place ≡ 3) × HasBoard file names.board) ⊎ ((place ≡ 2) × HasBoard file names.board × HasScript file (script_name names.scripts)))
+    (place ≡ 1) ⊎ (IsScriptInTurn file names place
+    ⊎ ((place ≡ 2) × HasBoard file names.board × HasScripts file names.scripts (length names.scripts)))
 
--- a file was not read at one of the places 1 to 3, and its count shows it
-pub record IsUnread (reads reads_now : ℕ → ℕ) (place : ℕ) : Type 0 where
-  pub first : 1 ≤ place
-  pub last : place ≤ 3
+-- a file at one of these places was not read, and its count shows it
+pub record IsUnread (places : ℕ → Type 0) (reads reads_now : ℕ → ℕ) (place : ℕ) : Type 0 where
+  pub named : places place
   pub rose : Rose (reads place) (reads_now place)
 
--- the files that a call did not come to were not read, so that their counts are as they were: the board is read first,
--- then the script, then the schedule
+-- the file at this other place is read after the one at a place: the schedule, at place 2, is read last
+abbrev pub IsReadAfter : ℕ → ℕ → Type 0
+IsReadAfter place other = (place ≢ 2) × ((other ≡ 2) ⊎ (place < other))
+
+-- the files that would be read after the one at a place were not read, so that their counts are as they were
+abbrev pub KeepsAfter : (ℕ → ℕ) → (ℕ → ℕ) → ℕ → Type 0
+KeepsAfter reads reads_now place = (other : ℕ) → IsReadAfter place other → reads_now other ≡ reads other
+
+-- the files that a call did not come to were not read: the board is read first, then the scripts, then the schedule
 abbrev pub KeepsUnreached : (ℕ → ℕ) → (ℕ → ℕ) → Status → Type 0
 KeepsUnreached reads reads_now status.Usage = (place : ℕ) → reads_now place ≡ reads place
-KeepsUnreached reads reads_now (status.Board why) = (reads_now 3 ≡ reads 3) × (reads_now 2 ≡ reads 2)
-KeepsUnreached reads reads_now (status.Script caller line word) = reads_now 2 ≡ reads 2
-KeepsUnreached reads reads_now (status.Read place) = (place ≢ 2 → reads_now 2 ≡ reads 2) × (place ≡ 1 → reads_now 3 ≡ reads 3)
+KeepsUnreached reads reads_now (status.Board why) = KeepsAfter reads reads_now 1
+KeepsUnreached reads reads_now (status.Script caller line word) = KeepsAfter reads reads_now (3 + caller)
+KeepsUnreached reads reads_now (status.Read place) = KeepsAfter reads reads_now place
 KeepsUnreached reads reads_now _ = ⊤
 
 -- a refusal of a file's text, by what the files say where they are told
@@ -102,10 +152,11 @@ abbrev pub IsTextRefusal : Bool → Files → Names → Status → Type 0
 IsTextRefusal tells file names (status.Board why) = IsTrue tells → IsReplayCause file names (status.Board why)
 IsTextRefusal tells file names (status.Script caller line word) = IsTrue tells → IsReplayCause file names (status.Script caller line word)
 IsTextRefusal tells file names (status.Schedule word) = IsTrue tells → IsReplayCause file names (status.Schedule word)
+IsTextRefusal tells file names (status.Cost cost) = (MOST_COST < cost) × (IsTrue tells → IsReplayCause file names (status.Cost cost))
 IsTextRefusal tells file names _ = ⊥
 
 -- a refusal of the files: of a text, or by a count
 abbrev pub IsFileRefusal : Bool → Files → Names → (ℕ → ℕ) → (ℕ → ℕ) → Status → Type 0
-IsFileRefusal tells file names reads reads_now (status.Read place) = IsUnread reads reads_now place × (IsTrue tells → IsReadInTurn file names place)
+IsFileRefusal tells file names reads reads_now (status.Read place) = IsUnread (IsPlaceIn names) reads reads_now place × (IsTrue tells → IsReadInTurn file names place)
 IsFileRefusal tells file names reads reads_now status.Memory = ⊤
 IsFileRefusal tells file names reads reads_now s = IsTextRefusal tells file names s

@@ -1,9 +1,10 @@
 -- What the words of a call ask for, and what the files say where it ends with a status.
-use Rattle.std.specs.Prelude.{⊤, ◌≡◌, ◌≢◌, ℕ, ◌⊎◌, IsTrue, List, [], length}
+use Rattle.std.specs.Prelude.{⊤, ◌≡◌, ℕ, ◌<◌, ◌⊎◌, IsTrue, List, []}
 use Rattle.i2c_top.specs.Checks.{IsCheckCause, IsCheckStatus, HasCheck}
 use Rattle.i2c_top.specs.Files.{Files}
-use Rattle.i2c_top.specs.Replays.{Names, HasFiles, IsReplayCause, IsReadInTurn, name_at}
+use Rattle.i2c_top.specs.Replays.{Names, HasFiles, IsPlaceIn, IsReplayCause, IsReadInTurn, name_at}
 use Rattle.i2c_top.specs.Reports.{HasReport}
+use Rattle.i2c_top.specs.Runs.{MOST_COST}
 use Rattle.i2c_top.specs.Status.{Class, Done, Misused, Refused, Unread, NoRig, Silent, class_of}
 use Rattle.i2c_top.specs.Traces.{ShelfView, KeepsBut, Outside, RigView, IsUsed, IsTried, IsRigLeft, IsUntouched}
 use Rattle.i2c_outside.specs.Causes.{Rose}
@@ -23,31 +24,27 @@ names_of board schedule scripts = record { board = board; schedule = schedule; s
 abbrev pub replay_of : List ℕ → List ℕ → List (List ℕ) → Request
 replay_of board schedule scripts = Replay (names_of board schedule scripts)
 
--- this version does it: it replays one script, or checks a board
+-- it is in a form in force: to replay scripts, or to check a board
 abbrev pub IsServed : Request → Type 0
-IsServed (Replay names) = length names.scripts ≡ 1
+IsServed (Replay names) = ⊤
 IsServed (Check board) = ⊤
 IsServed NoForm = ⊥
 
--- the places of the board, the schedule and the one script
-abbrev pub IsPlaceOfReplay : ℕ → Type 0
-IsPlaceOfReplay place = (place ≡ 1) ⊎ ((place ≡ 2) ⊎ (place ≡ 3))
-
 -- a file at this place of the words is read for it
 abbrev pub IsPlaceOf : Request → ℕ → Type 0
-IsPlaceOf (Replay names) place = (length names.scripts ≡ 1) × IsPlaceOfReplay place
+IsPlaceOf (Replay names) place = IsPlaceIn names place
 IsPlaceOf (Check board) place = place ≡ 1
 IsPlaceOf NoForm place = ⊥
 
 -- the rig is plugged for it
 abbrev pub UsesRig : Request → Type 0
-UsesRig (Replay names) = length names.scripts ≡ 1
+UsesRig (Replay names) = ⊤
 UsesRig (Check board) = ⊥
 UsesRig NoForm = ⊥
 
--- the statuses that it may end with
+-- the statuses that it may end with: a cost that is told is above the limit
 abbrev pub IsOwnStatus : Request → Status → Type 0
-IsOwnStatus (Replay names) s = (cost : ℕ) → s ≢ status.Cost cost
+IsOwnStatus (Replay names) s = (cost : ℕ) → s ≡ status.Cost cost → MOST_COST < cost
 IsOwnStatus (Check board) s = IsCheckStatus s
 IsOwnStatus NoForm s = ⊤
 
@@ -69,7 +66,7 @@ IsInTurn file (Replay names) place = IsReadInTurn file names place
 IsInTurn file (Check board) place = place ≡ 1
 IsInTurn file NoForm place = ⊥
 
--- the rig is plugged where the files are well formed; `check` plugs none
+-- the rig is plugged where the files are well formed and the scripts don't cost too much; `check` plugs none
 abbrev pub IsPlugging : Files → Request → Type 0
 IsPlugging file (Replay names) = HasFiles file names
 IsPlugging file (Check board) = ⊥

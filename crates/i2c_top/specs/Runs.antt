@@ -1,46 +1,97 @@
--- What a run of one caller comes to: the report of a journal that is legal and complete, the calls of that journal in
--- the ports' logs, and the devices that its history leaves.
-use Rattle.std.specs.Prelude.{◌≡◌, ℕ, List, [], reverse, length, map, Some}
-use Rattle.std.specs.List.{range_with_len}
+-- What a run of callers comes to: the report of a journal that is legal and complete and follows the schedule, the calls of
+-- that journal in the ports' logs, and the devices that its history leaves.
+use Rattle.std.specs.Prelude.{◌≡◌, ℕ, ◌<◌, List, [], reverse, length, map, All, slice_get, None, Some}
+use Rattle.std.specs.List.{range_with_len, sum_by}
+use Rattle.std.specs.Option.{option_map_or}
 use Rattle.i2c_base.specs.declared.entry.Entry.{Entry}
 use Rattle.i2c_base.specs.declared.port.PortCall.{PortCall}
 use Rattle.i2c_base.specs.declared.reply.Reply.{Reply}
 use Rattle.i2c_base.specs.Board.{BoardView}
-use Rattle.i2c_base.specs.Script.{ScriptView}
+use Rattle.i2c_spec.specs.Plain.{IsPlainBoard}
+use Rattle.i2c_spec.specs.Rules.{MeetsRules}
 use Rattle.i2c_spec.specs.Targets.{TargetState}
+use Rattle.i2c_spec.specs.World.{World}
 use Rattle.i2c_spec.specs.History.{Asks, History, history}
 use Rattle.bus_spec.specs.Readings.{order}
-use Rattle.bus_spec.specs.Past.{calls_of}
+use Rattle.bus_spec.specs.Past.{now, world_at, calls_of}
+use Rattle.bus_spec.specs.Walk.{Ends}
 use Rattle.bus_spec.specs.Legal.{IsLegal, IsComplete}
 use Rattle.bus_spec.specs.Stepwise.{IsStepwise}
+use Rattle.bus_spec.specs.Schedule.{Follows}
 use Rattle.bus_spec.specs.Report.{report_of}
-use Rattle.bus_core.specs.Asking.{asks_of, of_script}
-use Rattle.caller_core.specs.Scripts.{asked_by, commands_of, section_text}
+use Rattle.bus_core.specs.declared.parts.CoreParts.{CoreParts}
+use Rattle.bus_core.specs.declared.seat.Seat.{Seat}
+use Rattle.caller_core.specs.Callers.{IsOpened}
+use Rattle.caller_core.specs.Scripts.{asked_by, commands_of, cost_of_script, section_text}
+use Rattle.caller_core.specs.View.{ScriptView, CallerView}
 
 -- the script of a text, over a board
 abbrev pub script_on : BoardView → List ℕ → ScriptView
 script_on b text = record { board = b; text = text }
 
--- what a caller asks for, by its script's text, and what it prints after these replies
+-- what a caller asks for, by the text of its script, which stands at its number; nobody has another number
 abbrev pub asks_by : BoardView → List (List ℕ) → Asks
-asks_by b texts = asks_of asked_by (map (script_on b) texts)
+asks_by b texts c replies = option_map_or (λ text. asked_by (script_on b text) replies) (slice_get texts c) None
 
+-- what it prints after these replies
 abbrev pub printed_by : List (List ℕ) → ℕ → List Reply → List ℕ
-printed_by texts c replies = of_script (λ text. section_text (commands_of text) replies) [] texts c
+printed_by texts c replies = option_map_or (λ text. section_text (commands_of text) replies) (slice_get texts c) []
+
+-- scripts that are opened over a board and have taken nothing
+abbrev pub AreOpened : BoardView → List CallerView → Type 0
+AreOpened b scripts = All (λ s. IsOpened b s.script.text s) scripts
+
+-- the texts that they were opened with
+abbrev pub texts_of : List CallerView → List (List ℕ)
+texts_of scripts = map (λ s. s.script.text) scripts
+
+-- what a caller has printed
+abbrev pub section_of : CallerView → List ℕ
+section_of s = section_text (commands_of s.script.text) s.taken
+
+-- what the scripts of these texts cost over a board, all together
+abbrev pub cost_of_texts : BoardView → List (List ℕ) → ℕ
+cost_of_texts b texts = sum_by (λ text. cost_of_script (script_on b text)) texts
+
+-- scripts that cost no more are run
+abbrev pub MOST_COST : ℕ
+MOST_COST = 1000000
+
+-- the callers of a core, in the order of their seats
+abbrev pub callers_of : {P : Type 0} → CoreParts P CallerView → List CallerView
+callers_of parts = map (λ (s : Seat CallerView). s.caller) parts.seats.items
+
+-- the callers of a run that is over, on an accepted board, the worlds and the logs of its ports, and its journal, which was
+-- stepwise for at least so many callers
+pub record IsOver (b : BoardView) (callers : List CallerView) (many : ℕ) (words : List ℕ) (journal : List Entry) (worlds : List World) (logs : List (List PortCall)) : Type 0 where
+  pub plain : IsPlainBoard b
+  pub rules : MeetsRules b
+  pub stepwise : IsStepwise b many (asks_by b (texts_of callers)) (reverse journal)
+  pub rests : (now b (asks_by b (texts_of callers)) (reverse journal)).due ≡ None
+  pub followed : Follows words journal
+  pub taken : (c : ℕ) (s : CallerView) → slice_get callers c ≡ Some s → s.taken ≡ (now b (asks_by b (texts_of callers)) (reverse journal)).settled c
+  pub ended : (c : ℕ) (s : CallerView) → slice_get callers c ≡ Some s → (now b (asks_by b (texts_of callers)) (reverse journal)).walk c ≡ Ends
+  pub done : (c : ℕ) (s : CallerView) → slice_get callers c ≡ Some s → asked_by (script_on b s.script.text) s.taken ≡ None
+  pub worlds_count : length worlds ≡ length b.roots
+  pub world : (r : ℕ) → r < length b.roots → slice_get worlds r ≡ Some (world_at b (asks_by b (texts_of callers)) (reverse journal) r)
+  pub logs_count : length logs ≡ length b.roots
+  pub log : (r : ℕ) → r < length b.roots → slice_get logs r ≡ Some (calls_of b (asks_by b (texts_of callers)) (reverse journal) r)
 
 -- these bytes are the report of this journal, the oldest entry first; it is legal, and each entry might come where it did;
--- it is complete; these are the calls of its ports, and the devices that it leaves
-pub record IsRunOf (b : BoardView) (texts : List (List ℕ)) (bytes : List ℕ) (logs : List (List PortCall)) (states : List TargetState) (journal : List Entry) : Type 0 where
+-- it is complete, and follows the schedule whose words name these callers; these are the calls of its ports, and the
+-- devices that it leaves
+pub record IsRunOf (b : BoardView) (texts : List (List ℕ)) (words bytes : List ℕ) (logs : List (List PortCall)) (states : List TargetState) (journal : List Entry) : Type 0 where
   pub reported : bytes ≡ report_of (printed_by texts) (length texts) journal
   pub legal : IsLegal b (length texts) (asks_by b texts) (reverse journal)
   pub stepwise : IsStepwise b (length texts) (asks_by b texts) (reverse journal)
   pub complete : IsComplete b (length texts) (asks_by b texts) (reverse journal)
+  pub followed : Follows words journal
   pub called : logs ≡ map (calls_of b (asks_by b texts) (reverse journal)) (range_with_len 0 (length b.roots))
   pub told : History
-  pub followed : history b (asks_by b texts) (order (reverse journal)) ≡ Some told
+  pub replayed : history b (asks_by b texts) (order (reverse journal)) ≡ Some told
   pub left : states ≡ told.states
 
 -- there is such a journal
-pub record HasRun (b : BoardView) (texts : List (List ℕ)) (bytes : List ℕ) (logs : List (List PortCall)) (states : List TargetState) : Type 0 where
+pub record HasRun (b : BoardView) (texts : List (List ℕ)) (words bytes : List ℕ) (logs : List (List PortCall)) (states : List TargetState) : Type 0 where
   pub journal : List Entry
-  pub is_run : IsRunOf b texts bytes logs states journal
+  pub is_run : IsRunOf b texts words bytes logs states journal

@@ -1,21 +1,25 @@
-ghost use Rattle.std.specs.Prelude.{◌≡◌, ◌≢◌, ℕ, ◌≤◌, ◌^◌, ◌⊎◌, [], ◌∷◌, List, length, Some, None, Ok, Err, slice_get, OnOk, IfOk, IfErr, IsTrue};
+ghost use Rattle.std.specs.Prelude.{◌≡◌, ◌≢◌, ℕ, ◌+◌, ◌<◌, ◌≤◌, ◌^◌, ◌⊎◌, List, length, map, Some, Ok, Err, slice_get, string_bytes, All, OnOk, IfOk, IfErr, IsTrue};
+ghost use Rattle.i2c_base.specs.Limits.{MOST_CALLERS};
 ghost use Rattle.i2c_boardtext.specs.BoardText.{board_of};
 ghost use Rattle.i2c_outside.specs.Causes.{Rose};
-ghost use Rattle.caller_core.specs.Callers.{opened};
-ghost use Rattle.caller_core.specs.Steps.{IsShallowBoard};
-ghost use Rattle.i2c_top.specs.Boards.{IsBuilt, IsAccepted, IsRejected};
-ghost use Rattle.i2c_top.specs.Readings.{IsAcceptedIn, IsRejectedIn, IsBoardIn, IsScriptIn, HasRead, IsRefusedAt, IsBadBoard, IsBadScript, IsBadSchedule};
-ghost use Rattle.i2c_top.specs.Replays.{HasNoBoard, HasBadScript, HasSchedule, HasBadSchedule, KeepsUnreached, IsFileRefusal};
-ghost use Rattle.i2c_top.specs.Requests.{names_of, IsPlaceOfReplay};
-ghost use Rattle.i2c_top.specs.Traces.{KeepsBut, shelf_view};
+ghost use Rattle.caller_core.specs.Callers.{IsOpened};
 ghost use Rattle.caller_core.specs.Scripts.{script_read, commands_of};
-ghost use Rattle.i2c_top.specs.Schedules.{schedule_fault};
+ghost use Rattle.i2c_top.specs.Boards.{IsBuilt, IsAccepted, IsRejected};
+ghost use Rattle.i2c_top.specs.Forms.{ArePlaced, names_told};
+ghost use Rattle.i2c_top.specs.Names.{AreNamesFrom};
+ghost use Rattle.i2c_top.specs.Readings.{IsAcceptedIn, IsRejectedIn, IsBoardIn, IsScriptIn, AreScriptsIn, IsScheduleIn, HasRead, IsRefusedAt, IsRefusedScript, IsBadBoard, IsBadScript, IsBadSchedule};
+ghost use Rattle.i2c_top.specs.Replays.{script_name, HasNoBoard, HasBadScript, HasBadSchedule, IsPlaceIn, KeepsUnreached, IsFileRefusal};
+ghost use Rattle.i2c_top.specs.Requests.{Replay};
+ghost use Rattle.i2c_top.specs.Runs.{AreOpened, texts_of, cost_of_texts, MOST_COST};
+ghost use Rattle.i2c_top.specs.Schedules.{schedule_read};
+ghost use Rattle.i2c_top.specs.Traces.{KeepsBut, shelf_view};
 ghost use Rattle.i2c_top.specs.declared.status.BoardRefusal.TheVariants as refusal;
 ghost use Rattle.i2c_top.specs.declared.status.Status.TheVariants as status;
 
 use crate::built::is_built;
-use crate::request::{BOARD, SCHEDULE, SCRIPT};
-use crate::schedule::schedule_fault;
+use crate::cost::check_cost;
+use crate::request::{BOARD, ReplayNames, SCHEDULE, SCRIPT};
+use crate::schedule::{ScheduleFault, read_schedule};
 use crate::{BoardRefusal, Status};
 use caller_core::{Script, ScriptFault};
 use i2c_board::{Accepted, Board};
@@ -23,6 +27,14 @@ use i2c_boardtext::BoardFault;
 use i2c_outside::{ReadFail, Shelf};
 use i2c_topo::accept;
 use std::alloc::Global;
+
+/// What the files of a replay say: the board, the scripts, and the callers that the schedule's words name.
+#[derive(Drop)]
+pub struct ReplayFiles {
+    pub board: Accepted,
+    pub scripts: Vec<Script>,
+    pub words: Vec<u8>,
+}
 
 // Reads the file at a place of the words.
 fn bytes_at<S: Shelf>(
@@ -81,7 +93,6 @@ fn accepted_of(alloc: Global, text: &[u8]) -> Result<Accepted, Status>
 
 // A board that meets the rules, if this version steps it.
 fn built(board: Accepted) -> Result<Accepted, Status>
-    ensures shallow { IfOk result IsShallowBoard }
     ensures same { IfOk result (λ b. b ≡ board) }
     ensures built { IfOk result IsBuilt }
     ensures refused { IfErr result (λ e. e ≡ status.Board refusal.NotBuilt) }
@@ -94,32 +105,30 @@ fn built(board: Accepted) -> Result<Accepted, Status>
     }
 }
 
-// The script of a text.
-fn script_of(alloc: Global, board: &Accepted, text: Vec<u8>) -> Result<Script, Status>
+// The script of a text, for the caller with this number.
+fn script_of(alloc: Global, board: &Accepted, text: Vec<u8>, caller: u8) -> Result<Script, Status>
     requires { length text.items ≤ 2 ^ 28 }
-    ensures opened { IfOk result (λ s. s ≡ opened board.now text.items) }
+    ensures opened { IfOk result (IsOpened board.now text.items) }
     ensures read { OnOk result (script_read text.items ≡ Ok (commands_of text.items)) }
-    ensures refused { IfErr result (λ e. (e ≡ status.Memory) ⊎ IsBadScript (λ line word. script_read text.items ≡ Err (record { line = line; word = word })) e) }
+    ensures refused { IfErr result (λ e. (e ≡ status.Memory) ⊎ IsBadScript caller (λ line word. script_read text.items ≡ Err (record { line = line; word = word })) e) }
 {
     match Script::open(alloc, board, text) {
         Ok(script) => Ok(script),
-        Err(ScriptFault::Bad { line, word }) => Err(Status::Script {
-            caller: 0,
-            line,
-            word,
-        }),
+        Err(ScriptFault::Bad { line, word }) => Err(Status::Script { caller, line, word }),
         Err(ScriptFault::Memory) => Err(Status::Memory),
     }
 }
 
-// A schedule's text is well formed.
-fn check_schedule(text: &[u8]) -> Result<(), Status>
-    ensures fits { OnOk result (schedule_fault text.now ≡ None) }
-    ensures refused { IfErr result (IsBadSchedule (λ word. schedule_fault text.now ≡ Some word)) }
+// The callers that a schedule's text names, among so many.
+fn words_of(alloc: Global, text: &[u8], callers: u8) -> Result<Vec<u8>, Status>
+    ensures read { IfOk result (λ words. schedule_read callers text.now ≡ Ok words.items) }
+    ensures named { IfOk result (λ words. All (λ c. c < callers) words.items) }
+    ensures refused { IfErr result (λ e. (e ≡ status.Memory) ⊎ IsBadSchedule (λ word. schedule_read callers text.now ≡ Err word) e) }
 {
-    match schedule_fault(text) {
-        None => Ok(()),
-        Some(word) => Err(Status::Schedule(word)),
+    match read_schedule(alloc, text, callers) {
+        Ok(words) => Ok(words),
+        Err(ScheduleFault::Word(word)) => Err(Status::Schedule(word)),
+        Err(ScheduleFault::Memory) => Err(Status::Memory),
     }
 }
 
@@ -138,7 +147,6 @@ pub fn read_accepted<S: Shelf>(alloc: Global, shelf: &mut S, name: &str) -> Resu
 fn read_built<S: Shelf>(alloc: Global, shelf: &mut S, name: &str) -> Result<Accepted, Status>
     requires named { slice_get (S.words shelf.old) 1 ≡ Some name.now }
     ensures kept { KeepsBut (λ p. p ≡ 1) (shelf_view S.Shelf shelf.old) (shelf_view S.Shelf shelf.new) }
-    ensures shallow { IfOk result IsShallowBoard }
     ensures board { IsTrue S.tells → IfOk result (IsBoardIn (S.file shelf.old) name.now) }
     ensures refused { IfErr result (IsRefusedAt 1 (IsBadBoard (λ why. IsTrue S.tells → HasNoBoard (S.file shelf.old) name.now why)) (S.faults shelf.old 1) (S.faults shelf.new 1)) }
 {
@@ -146,54 +154,106 @@ fn read_built<S: Shelf>(alloc: Global, shelf: &mut S, name: &str) -> Result<Acce
     built(board)
 }
 
-// Reads the script's file.
+// Reads the file of the script with this number.
 fn script_in<S: Shelf>(
     alloc: Global,
     board: &Accepted,
     shelf: &mut S,
+    caller: u8,
     name: &str,
 ) -> Result<Script, Status>
-    requires named { slice_get (S.words shelf.old) 3 ≡ Some name.now }
-    ensures kept { KeepsBut (λ p. p ≡ 3) (shelf_view S.Shelf shelf.old) (shelf_view S.Shelf shelf.new) }
-    ensures opened { IfOk result (λ s. s ≡ opened board.now s.script.text) }
+    requires few { caller < MOST_CALLERS }
+    requires named { slice_get (S.words shelf.old) (3 + caller) ≡ Some name.now }
+    ensures kept { KeepsBut (λ p. p ≡ 3 + caller) (shelf_view S.Shelf shelf.old) (shelf_view S.Shelf shelf.new) }
+    ensures opened { IfOk result (λ s. IsOpened board.now s.script.text s) }
     ensures script { IsTrue S.tells → IfOk result (λ s. IsScriptIn (S.file shelf.old) name.now s.script.text) }
-    ensures refused { IfErr result (IsRefusedAt 3 (IsBadScript (λ line word. IsTrue S.tells → HasBadScript (S.file shelf.old) name.now line word)) (S.faults shelf.old 3) (S.faults shelf.new 3)) }
+    ensures refused { IfErr result (IsRefusedAt (3 + caller) (IsBadScript caller (λ line word. IsTrue S.tells → HasBadScript (S.file shelf.old) name.now line word))
+        (S.faults shelf.old (3 + caller)) (S.faults shelf.new (3 + caller))) }
 {
-    let text = bytes_at(alloc, shelf, SCRIPT, name)?;
-    script_of(alloc, board, text)
+    let text = bytes_at(alloc, shelf, SCRIPT + caller, name)?;
+    script_of(alloc, board, text, caller)
+}
+
+// The name of the script with this number.
+fn name_of(names: &[String], caller: usize) -> &str
+    requires { caller < length names.now }
+    ensures value { result.now ≡ script_name (map string_bytes names.now) caller }
+    ensures there { slice_get (map string_bytes names.now) caller ≡ Some result.now }
+{
+    names[caller].as_str()
+}
+
+// How many callers scripts are.
+fn callers_of(scripts: &[Script]) -> u8
+    requires { length scripts.now ≤ MOST_CALLERS }
+    ensures { result ≡ length scripts.now }
+{
+    scripts.len() as u8
+}
+
+// Reads the scripts' files one after the other: the scripts, or the first refusal.
+fn scripts_in<S: Shelf>(
+    alloc: Global,
+    board: &Accepted,
+    shelf: &mut S,
+    names: &[String],
+) -> Result<Vec<Script>, Status>
+    requires few { length names.now ≤ MOST_CALLERS }
+    requires named { AreNamesFrom 3 (S.words shelf.old) (map string_bytes names.now) }
+    ensures kept { KeepsBut (λ p. (3 ≤ p) × (p < 3 + length names.now)) (shelf_view S.Shelf shelf.old) (shelf_view S.Shelf shelf.new) }
+    ensures count { IfOk result (λ scripts. length scripts.items ≡ length names.now) }
+    ensures scripts { IfOk result (λ scripts. AreScriptsIn S.tells (S.file shelf.old) (map string_bytes names.now) board.now scripts.items) }
+    ensures refused { IfErr result (IsRefusedScript S.tells (S.file shelf.old) (map string_bytes names.now) (S.faults shelf.old) (S.faults shelf.new)) }
+{
+    let mut scripts = Vec::new(alloc);
+    for caller in 0..names.len() {
+        let name = name_of(names, caller);
+        let script = script_in(alloc, board, shelf, caller as u8, name)?;
+        scripts.push(script)?;
+    }
+    Ok(scripts)
 }
 
 // Reads the schedule's file.
-fn read_schedule<S: Shelf>(alloc: Global, shelf: &mut S, name: &str) -> Result<(), Status>
+fn schedule_in<S: Shelf>(
+    alloc: Global,
+    shelf: &mut S,
+    callers: u8,
+    name: &str,
+) -> Result<Vec<u8>, Status>
     requires named { slice_get (S.words shelf.old) 2 ≡ Some name.now }
     ensures kept { KeepsBut (λ p. p ≡ 2) (shelf_view S.Shelf shelf.old) (shelf_view S.Shelf shelf.new) }
-    ensures schedule { IsTrue S.tells → OnOk result (HasSchedule (S.file shelf.old) name.now) }
-    ensures refused { IfErr result (IsRefusedAt 2 (IsBadSchedule (λ word. IsTrue S.tells → HasBadSchedule (S.file shelf.old) name.now word)) (S.faults shelf.old 2) (S.faults shelf.new 2)) }
+    ensures named { IfOk result (λ words. All (λ c. c < callers) words.items) }
+    ensures schedule { IsTrue S.tells → IfOk result (λ words. IsScheduleIn (S.file shelf.old) name.now callers words.items) }
+    ensures refused { IfErr result (IsRefusedAt 2 (IsBadSchedule (λ word. IsTrue S.tells → HasBadSchedule (S.file shelf.old) name.now callers word)) (S.faults shelf.old 2) (S.faults shelf.new 2)) }
 {
     let text = bytes_at(alloc, shelf, SCHEDULE, name)?;
-    check_schedule(text.as_slice())
+    words_of(alloc, text.as_slice(), callers)
 }
 
-/// Reads the files in the order board, script, schedule: the board and the script, or the first refusal.
+/// Reads the files in the order board, scripts, schedule, and tests the cost: what they say, or the first refusal.
 pub fn read_files<S: Shelf>(
     alloc: Global,
-    board: &str,
-    schedule: &str,
-    script: &str,
+    names: &ReplayNames<'_>,
     shelf: &mut S,
-) -> Result<(Accepted, Script), Status>
-    requires board { slice_get (S.words shelf.old) 1 ≡ Some board.now }
-    requires schedule { slice_get (S.words shelf.old) 2 ≡ Some schedule.now }
-    requires script { slice_get (S.words shelf.old) 3 ≡ Some script.now }
-    ensures kept { KeepsBut IsPlaceOfReplay (shelf_view S.Shelf shelf.old) (shelf_view S.Shelf shelf.new) }
-    ensures shallow { IfOk result (λ f. IsShallowBoard f.0) }
-    ensures opened { IfOk result (λ f. f.1 ≡ opened f.0 f.1.script.text) }
-    ensures read { IsTrue S.tells → IfOk result (λ f. HasRead (S.file shelf.old) (names_of board.now schedule.now (script.now ∷ [])) f.0 f.1.script.text) }
+) -> Result<ReplayFiles, Status>
+    requires placed { ArePlaced (S.words shelf.old) (Replay (names_told names.now)) }
+    ensures kept { KeepsBut (IsPlaceIn (names_told names.now)) (shelf_view S.Shelf shelf.old) (shelf_view S.Shelf shelf.new) }
+    ensures opened { IfOk result (λ f. AreOpened f.board f.scripts.items) }
+    ensures few { IfOk result (λ f. length f.scripts.items ≤ MOST_CALLERS) }
+    ensures named { IfOk result (λ f. All (λ c. c < length f.scripts.items) f.words.items) }
+    ensures cheap { IfOk result (λ f. cost_of_texts f.board (texts_of f.scripts.items) ≤ MOST_COST) }
+    ensures read { IsTrue S.tells → IfOk result (λ f. HasRead (S.file shelf.old) (names_told names.now) f.board (texts_of f.scripts.items) f.words.items) }
     ensures unreached { IfErr result (KeepsUnreached (S.faults shelf.old) (S.faults shelf.new)) }
-    ensures refused { IfErr result (IsFileRefusal S.tells (S.file shelf.old) (names_of board.now schedule.now (script.now ∷ [])) (S.faults shelf.old) (S.faults shelf.new)) }
+    ensures refused { IfErr result (IsFileRefusal S.tells (S.file shelf.old) (names_told names.now) (S.faults shelf.old) (S.faults shelf.new)) }
 {
-    let accepted = read_built(alloc, shelf, board)?;
-    let read = script_in(alloc, &accepted, shelf, script)?;
-    read_schedule(alloc, shelf, schedule)?;
-    Ok((accepted, read))
+    let board = read_built(alloc, shelf, names.board)?;
+    let scripts = scripts_in(alloc, &board, shelf, names.scripts)?;
+    let words = schedule_in(alloc, shelf, callers_of(scripts.as_slice()), names.schedule)?;
+    check_cost(&board, scripts.as_slice())?;
+    Ok(ReplayFiles {
+        board,
+        scripts,
+        words,
+    })
 }

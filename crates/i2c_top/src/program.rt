@@ -20,9 +20,9 @@ use std::thread::Threads;
 
 /// Does what the program does: `words` are the command line without the program's name, and the shelf's words.
 ///
-/// `Usage` is told exactly where the words are neither `replay` and three names nor `check` and one, a name being a word
-/// that isn't empty and doesn't begin with `-`; then nothing is read or plugged. The other statuses are those of
-/// `replay_call` and of `check_call`.
+/// `Usage` is told exactly where the words are neither `replay` with a board, a schedule and 1 to 8 scripts nor `check`
+/// with a board, each a name that isn't empty and doesn't begin with `-`; then nothing is read or plugged. The other
+/// statuses are those of `replay_call` and of `check_call`.
 pub fn top<H: Threads + Wait + Sync, S: Shelf, K: Sink, R: Rig, G: Gate + Sync>(
     _rt: &H,
     alloc: Global,

@@ -1,4 +1,4 @@
-ghost use Rattle.std.specs.Prelude.{◌≡◌, ◌≢◌, ◌≤◌, ◌∷◌, [], length, map, Some, None, slice_get, string_bytes, OnOk, IfOk, IfErr, IfSome, IsTrue};
+ghost use Rattle.std.specs.Prelude.{◌≡◌, ◌≤◌, length, map, Some, slice_get, string_bytes, OnOk, IfOk, IfErr, IsTrue};
 ghost use Rattle.i2c_base.specs.Limits.{MOST_CALLERS};
 ghost use Rattle.i2c_top.specs.Endings.{CameToSuccess, CameToRefusal, HasEnded};
 ghost use Rattle.i2c_top.specs.Forms.{ArePlaced, names_told};
@@ -10,25 +10,13 @@ ghost use Rattle.i2c_top.specs.declared.status.Status.TheVariants as status;
 
 use crate::Status;
 use crate::ending::write_outcome;
-use crate::files::read_files;
+use crate::files::{ReplayFiles, read_files};
 use crate::request::{ReplayNames, Request};
-use crate::run::run_script;
+use crate::run::run_scripts;
 use i2c_outside::{Rig, Shelf, Sink};
 use std::alloc::Global;
 
-// The name of the one script.
-fn only(scripts: &[String]) -> Option<&str>
-    ensures some { IfSome result (λ name. map string_bytes scripts.now ≡ name.now ∷ []) }
-    ensures none { result ≡ None → length (map string_bytes scripts.now) ≢ 1 }
-{
-    if scripts.len() == 1 {
-        Some(scripts[0].as_str())
-    } else {
-        None
-    }
-}
-
-// Reads the files and runs the one script: the report, or the refusal. Several scripts are refused.
+// Reads the files and runs the scripts: the report, or the refusal.
 fn replay<S: Shelf, R: Rig>(
     alloc: Global,
     names: &ReplayNames<'_>,
@@ -42,20 +30,21 @@ fn replay<S: Shelf, R: Rig>(
         (shelf_view S.Shelf shelf.old) (shelf_view S.Shelf shelf.new) (rig_view R.Rig R.P.tells rig.old) (rig_view R.Rig R.P.tells rig.new)) }
     ensures refused { IfErr result (CameToRefusal (Replay (names_told names.now))
         (shelf_view S.Shelf shelf.old) (shelf_view S.Shelf shelf.new) (rig_view R.Rig R.P.tells rig.old) (rig_view R.Rig R.P.tells rig.new)) }
-    ensures unplugged { length (map string_bytes names.now.scripts.now) ≢ 1 → rig.new ≡ rig.old }
 {
-    let Some(script) = only(names.scripts) else {
-        return Err(Status::Usage);
-    };
-    let (accepted, script) = read_files(alloc, names.board, names.schedule, script, shelf)?;
-    run_script(alloc, &accepted, script, rig)
+    let ReplayFiles {
+        board,
+        scripts,
+        words,
+    } = read_files(alloc, names, shelf)?;
+    run_scripts(alloc, &board, scripts, words.as_slice(), rig)
 }
 
-/// Runs a script over a board, by a schedule that has no word yet, and writes the report; a refusal writes its
-/// line. The files are read in the order board, script, schedule.
+/// Runs 1 to 8 scripts over a board, by a schedule, and writes the report; a refusal writes its line. The files are
+/// read in the order board, scripts, schedule.
 ///
-/// It returns on every input. `Read(i)` is told of the place `i` among the shelf's words. `Usage` is told exactly where
-/// there is not one script. The rig is plugged at most once, where the files are well formed, and is not left plugged.
+/// It returns on every input. `Read(i)` is told of the place `i` among the shelf's words. `Cost` is told exactly where
+/// the scripts cost more than the limit. The rig is plugged at most once, where the files are well formed and the cost is
+/// within the limit, and is not left plugged.
 pub fn replay_call<S: Shelf, K: Sink, R: Rig>(
     alloc: Global,
     board: &str,
@@ -74,7 +63,6 @@ pub fn replay_call<S: Shelf, K: Sink, R: Rig>(
     // The cause of each status and each status of a cause, what was written, and what is kept.
     ensures ended { HasEnded (replay_of board.now schedule.now (map string_bytes scripts.now))
         (outside S.Shelf K.Sink R.Rig R.P.tells shelf.old sink.old rig.old) (outside S.Shelf K.Sink R.Rig R.P.tells shelf.new sink.new rig.new) result }
-    ensures unplugged { length (map string_bytes scripts.now) ≢ 1 → rig.new ≡ rig.old }
 
     // The report of a run that is legal, complete and followed by the flat world.
     ensures success { IsTrue S.tells → IsTrue K.tells → IsTrue R.tells → IsTrue R.P.tells → result ≡ status.Ok

@@ -3,8 +3,11 @@ ghost use Rattle.std.specs.List.{flat_map};
 ghost use Rattle.std.specs.Fmt.{decimal};
 ghost use Rattle.bus_journal.specs.Borrowed.{entry_seen};
 ghost use Rattle.bus_spec.specs.Report.{sections, ended_line, report_lines};
+ghost use Rattle.i2c_top.specs.Runs.{section_of};
 
+use bus_core::Seat;
 use bus_journal::{EntryRef, Journal, push_bytes, push_entry, push_number};
+use caller_core::Script;
 use i2c_base::NoMemory;
 use std::alloc::Global;
 
@@ -43,6 +46,39 @@ fn push_lines(out: &mut Vec<u8>, journal: &Journal) -> Result<(), NoMemory>
     Ok(())
 }
 
+// The sections of callers, by their places.
+fn push_callers(out: &mut Vec<u8>, callers: &[Seat<Script>]) -> Result<(), NoMemory>
+    ensures { OnOk result (out.new.items ≡ out.old.items ++ sections 0 (map (λ s. section_of s.caller) callers.now)) }
+{
+    for (place, seat) in callers.iter().enumerate() {
+        push_section(out, place, seat.caller.text())?;
+    }
+    Ok(())
+}
+
+// The journal's lines under their heading, and the end.
+fn push_journal(out: &mut Vec<u8>, journal: &Journal) -> Result<(), NoMemory>
+    ensures { OnOk result (out.new.items ≡ out.old.items ++ (codes "journal\n" ++ (flat_map ended_line journal.now.entries ++ codes "end\n"))) }
+{
+    push_bytes(out, b"journal\n")?;
+    push_lines(out, journal)?;
+    push_bytes(out, b"end\n")
+}
+
+/// The report of callers that stand by their numbers, and of a journal.
+pub fn report_of_callers(
+    alloc: Global,
+    callers: &[Seat<Script>],
+    journal: &Journal,
+) -> Result<Vec<u8>, NoMemory>
+    ensures { IfOk result (λ text. text.items ≡ report_lines (map (λ s. section_of s.caller) callers.now) journal.now.entries) }
+{
+    let mut out = Vec::new(alloc);
+    push_callers(&mut out, callers)?;
+    push_journal(&mut out, journal)?;
+    Ok(out)
+}
+
 /// The report of a run: a section for each caller, given without its heading, the journal's lines, and `end`. It
 /// fails only for want of memory.
 pub fn report_text(
@@ -54,8 +90,6 @@ pub fn report_text(
 {
     let mut out = Vec::new(alloc);
     push_sections(&mut out, callers)?;
-    push_bytes(&mut out, b"journal\n")?;
-    push_lines(&mut out, journal)?;
-    push_bytes(&mut out, b"end\n")?;
+    push_journal(&mut out, journal)?;
     Ok(out)
 }

@@ -35,11 +35,11 @@ pub enum Request<'a> {
     NoForm,
 }
 
-// The name of the one script that is replayed.
-fn script_name(names: &[String]) -> &[u8]
-    ensures { result.now ≡ script_name (map string_bytes names.now) }
+// The name of the script with this number.
+fn script_name(names: &[String], caller: usize) -> &[u8]
+    ensures { result.now ≡ script_name (map string_bytes names.now) caller }
 {
-    match names.first() {
+    match names.get(caller) {
         None => b"",
         Some(name) => name.as_str().as_bytes(),
     }
@@ -54,7 +54,7 @@ impl<'a> Request<'a> {
             Request::Replay(names) => match place {
                 BOARD => names.board.as_bytes(),
                 SCHEDULE => names.schedule.as_bytes(),
-                _ => script_name(names.scripts),
+                _ => script_name(names.scripts, usize::from(place.saturating_sub(SCRIPT))),
             },
             Request::Check { board } => board.as_bytes(),
             Request::NoForm => b"",

@@ -1,5 +1,8 @@
-use Rattle.i2c_top.proofs.FileLemmas.{script_in}
+use Rattle.i2c_top.proofs.FileLemmas.{own_text, script_in}
 use Rattle.i2c_top.proofs.files.script_in.Goals as goal
+
+pub returns-clause-opened : goal.returns-clause-opened
+returns-clause-opened g c = own_text _ _ c.script_of.result c.script_of.ensures.opened
 
 pub returns-clause-script : goal.returns-clause-script
 returns-clause-script g c =

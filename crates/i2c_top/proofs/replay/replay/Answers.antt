@@ -1,12 +1,18 @@
-use Rattle.std.proofs.Common.{sym, subst}
-use Rattle.i2c_top.specs.Readings.{HasRead}
-use Rattle.i2c_top.specs.Requests.{names_of}
-use Rattle.i2c_top.proofs.ReplayLemmas.{has_reports}
+use Rattle.i2c_top.proofs.ReplayLemmas.{has_files, has_reports, replay_done, replay_failed}
 use Rattle.i2c_top.proofs.replay.replay.Goals as goal
 
 pub returns-clause-report : goal.returns-clause-report
 returns-clause-report g c =
-    λ shelf.
-    let read = subst (λ names. HasRead (g.S.Shelf.file c.args.shelf.now) (names_of c.args.names.now.board.now c.args.names.now.schedule.now names) c.in_ok-accepted.accepted c.in_ok-accepted.script.script.text) (sym c.in-Some.ensures.some)
-    (c.in_ok-accepted.ensures.read shelf) in
-    has_reports c.run_script.result (λ v. v.items) _ _ _ _ _ _ _ _ read c.run_script.ensures.run
+    let run = c.run_scripts.ensures in
+    λ shelf. has_reports c.run_scripts.result (λ v. v.items) _ _ _ _ _ (g.R.Rig.logs c.run_scripts.new.rig) (g.R.Rig.states c.run_scripts.new.rig) _ _
+    (c.in_ok-board.ensures.read shelf) c.in_ok-board.ensures.cheap c.as_slice.result.now c.as_slice.ensures.value run.run
+
+pub returns-clause-done : goal.returns-clause-done
+returns-clause-done g c =
+    let run = c.run_scripts.ensures in
+    replay_done _ _ _ _ _ c.run_scripts.result (λ t. has_files _ _ _ _ _ (c.in_ok-board.ensures.read t) c.in_ok-board.ensures.cheap) run.plugs run.unplugs run.unplugged
+
+pub returns-clause-refused : goal.returns-clause-refused
+returns-clause-refused g c =
+    let run = c.run_scripts.ensures in
+    replay_failed _ _ _ _ _ c.run_scripts.result (λ t. has_files _ _ _ _ _ (c.in_ok-board.ensures.read t) c.in_ok-board.ensures.cheap) run.plugs run.unplugged run.none run.rig run.failed

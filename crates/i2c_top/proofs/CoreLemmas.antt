@@ -1,0 +1,293 @@
+-- The callers of a run on their seats: what a core is opened with, and what it is when all are through.
+use Rattle.std.proofs.Common.{◌≡◌, ◌⊎◌, ℕ, zero, suc, ◌+◌, ◌<◌, ◌≤◌, IsTrue, List, [], ◌∷◌, length, map, reverse, All, Option, Some, None, inl, inr, refl, sym, ◌∙◌, ap, subst, arith}
+use Rattle.std.specs.Prelude.{slice_get}
+use Rattle.std.specs.List.{enumerate_from, range_with_len, sum_by}
+use Rattle.std.specs.Option.{option_map_or}
+use Rattle.std.proofs.lemmas.Bool.{cases_lt}
+use Rattle.std.proofs.lemmas.List.{length-map}
+use Rattle.std.proofs.lemmas.List.Elements.{All-get_or, All-from_get_or}
+use Rattle.std.proofs.lemmas.List.Sums.{sum_by-cons}
+use Rattle.std.proofs.lemmas.List.FromFn.{length-enumerate_from, length-range_with_len, get_or-range_with_len}
+use Rattle.std.proofs.lemmas.Option.{slice_get_within, slice_get_past, get_or_from_slice_get}
+use Rattle.i2c_base.specs.declared.caller.Caller.{Ghosts as CallerGhosts}
+use Rattle.i2c_base.specs.declared.entry.Entry.{Entry}
+use Rattle.i2c_base.specs.declared.port.Phase.TheVariants.{Idle}
+use Rattle.i2c_base.specs.declared.port.PortCall.{PortCall}
+use Rattle.i2c_base.specs.declared.reply.Reply.{Reply}
+use Rattle.i2c_base.specs.Board.{BoardView}
+use Rattle.i2c_base.specs.Limits.{MOST_CALLERS}
+use Rattle.i2c_outside.specs.declared.port.Port.{Ghosts as PortGhosts}
+use Rattle.i2c_spec.specs.Fair.{IsFairCaller}
+use Rattle.i2c_spec.specs.History.{Asks}
+use Rattle.i2c_spec.specs.Plain.{IsPlainBoard}
+use Rattle.i2c_spec.specs.Tree.{root_of}
+use Rattle.i2c_spec.specs.World.{World, opening_world, openings}
+use Rattle.i2c_spec.proofs.TreeLemmas.{tree_root_is}
+use Rattle.bus_spec.specs.Past.{now, world_at, calls_of}
+use Rattle.bus_spec.specs.Schedule.{Follows}
+use Rattle.bus_spec.specs.Stepwise.{IsStepwise}
+use Rattle.bus_spec.specs.Walk.{Ends}
+use Rattle.bus_core.specs.Kept.{IsCore, asks_in, roots_of}
+use Rattle.bus_core.specs.Opens.{MayOpen}
+use Rattle.bus_core.specs.Places.{script_of, scripts_of, script_at}
+use Rattle.bus_core.specs.Ready.{HasPlace}
+use Rattle.bus_core.specs.State.{AllThrough, IsThrough, state_of}
+use Rattle.bus_core.specs.declared.parts.CoreParts.{CoreParts}
+use Rattle.bus_core.specs.declared.seat.Seat.{Seat}
+use Rattle.bus_core.proofs.Kept.{script-own}
+use Rattle.bus_core.proofs.Loops.{script-none}
+use Rattle.caller_core.specs.Callers.{IsOpened, board_of, owed_by}
+use Rattle.caller_core.specs.Scripts.{asked_by, left_of, cost_of_script}
+use Rattle.caller_core.specs.View.{ScriptView, CallerView}
+use Rattle.i2c_top.specs.Runs.{script_on, asks_by, AreOpened, texts_of, cost_of_texts, callers_of, MOST_COST, IsOver}
+use Rattle.i2c_top.proofs.RunLemmas.{same_asks}
+
+-- a script as a caller
+abbrev pub script_row : CallerGhosts CallerView ScriptView
+script_row = record { script = λ s. s.script; board = board_of; taken = λ s. s.taken; asked = asked_by; left = left_of; owed = owed_by; spare = λ s. s.spare }
+
+-- an element of a numbered list, and of a list whose elements all are so
+pub numbered-at : {X : Type 0} (n : ℕ) (xs : List X) (i : ℕ) (y : ℕ × X) → slice_get (enumerate_from n xs) i ≡ Some y → (y.0 ≡ n + i) × (slice_get xs i ≡ Some y.1)
+numbered-at n [] i y h = absurd (let f : None ≡ Some y = h in cc)
+numbered-at {X} n (x ∷ xs) zero y h =
+    let f : Some (n, x) ≡ Some y = h in
+    let e : (n, x) ≡ y = cc in
+    let number : n ≡ y.0 = ap (λ (z : ℕ × X). z.0) e in
+    (omega (arith, number), ap (λ (z : ℕ × X). Some z.1) e)
+numbered-at n (x ∷ xs) (suc i) y h = (let r = numbered-at (n + 1) xs i y h in let is = r.0 in (omega (arith, is), r.1))
+
+pub number-is : {X : Type 0} (m : ℕ) (xs : List X) (i n : ℕ) → slice_get (map (λ (x : ℕ × X). x.0) (enumerate_from m xs)) i ≡ Some n → n ≡ m + i
+number-is m [] i n h = absurd (let f : None ≡ Some n = h in cc)
+number-is m (x ∷ xs) zero n h = (let f : Some m ≡ Some n = h in let e : m ≡ n = cc in omega (arith, e))
+number-is m (x ∷ xs) (suc i) n h = (let r = number-is (m + 1) xs i n h in omega (arith, r))
+
+pub number-here : {X : Type 0} (m : ℕ) (xs : List X) (i : ℕ) → i < length xs → slice_get (map (λ (x : ℕ × X). x.0) (enumerate_from m xs)) i ≡ Some (m + i)
+number-here m [] i low = absurd (omega (arith, low))
+number-here m (x ∷ xs) zero low = ap (λ (k : ℕ). Some k) (omega (arith))
+number-here m (x ∷ xs) (suc i) low = number-here (m + 1) xs i (omega (arith, low)) ∙ ap (λ (k : ℕ). Some k) (omega (arith))
+
+all-at : {X : Type 0} (P : X → Type 0) (xs : List X) (i : ℕ) (x : X) → All P xs → slice_get xs i ≡ Some x → P x
+all-at P xs i x all here = subst P (get_or_from_slice_get xs i x x here) (All-get_or P xs i x (slice_get_within xs i x here) all)
+
+at : {X Y : Type 0} (f : X → Y) (xs : List X) (i : ℕ) (x : X) → slice_get xs i ≡ Some x → slice_get (map f xs) i ≡ Some (f x)
+at f [] i x h = absurd (let g : None ≡ Some x = h in cc)
+at {X} f (y ∷ ys) zero x h = (let g : Some y ≡ Some x = h in let e : y ≡ x = cc in ap (λ (z : X). Some (f z)) e)
+at f (y ∷ ys) (suc i) x h = at f ys i x h
+
+from : {X Y : Type 0} (f : X → Y) (xs : List X) (i : ℕ) (y : Y) → slice_get (map f xs) i ≡ Some y → (x : X) × (slice_get xs i ≡ Some x) × (f x ≡ y)
+from f [] i y h = absurd (let g : None ≡ Some y = h in cc)
+from f (x ∷ xs) zero y h = (x, refl, (let g : Some (f x) ≡ Some y = h in cc))
+from f (x ∷ xs) (suc i) y h = from f xs i y h
+
+has : {X : Type 0} (xs : List X) (i : ℕ) → i < length xs → (x : X) × (slice_get xs i ≡ Some x)
+has [] i low = absurd (omega (arith, low))
+has (x ∷ xs) zero low = (x, refl)
+has (x ∷ xs) (suc i) low = has xs i (omega (arith, low))
+
+pub twice : {X Y Z : Type 0} (f : Y → Z) (g : X → Y) (xs : List X) → map f (map g xs) ≡ map (λ x. f (g x)) xs
+twice f g [] = refl
+twice {X} {Y} {Z} f g (x ∷ xs) = ap (λ (zs : List Z). f (g x) ∷ zs) (twice f g xs)
+
+-- what is told of the elements alone
+alone : {X Y : Type 0} (f : X → Y) (n : ℕ) (xs : List X) → map (λ (x : ℕ × X). f x.1) (enumerate_from n xs) ≡ map f xs
+alone f n [] = refl
+alone {X} {Y} f n (x ∷ xs) = ap (λ (ys : List Y). f x ∷ ys) (alone f (n + 1) xs)
+
+-- what opened scripts have left is what they cost
+costs : (b : BoardView) (scripts : List CallerView) (n : ℕ) → AreOpened b scripts → sum_by (λ (x : ℕ × CallerView). left_of x.1.script []) (enumerate_from n scripts) ≡ cost_of_texts b (texts_of scripts)
+costs b [] n opened = refl
+costs b (s ∷ ss) n opened =
+    sum_by-cons (λ (x : ℕ × CallerView). left_of x.1.script []) (n, s) (enumerate_from (n + 1) ss)
+    ∙ ap (λ (k : BoardView). cost_of_script (script_on k s.script.text) + sum_by (λ (x : ℕ × CallerView). left_of x.1.script []) (enumerate_from (n + 1) ss)) (all-at (λ t. IsOpened b t.script.text t) (s ∷ ss) 0 s opened refl).board_is
+    ∙ ap (λ (k : ℕ). cost_of_script (script_on b s.script.text) + k) (costs b ss (n + 1) (λ k d low. opened (suc k) d (omega (arith, low))))
+    ∙ sym (sum_by-cons (λ text. cost_of_script (script_on b text)) s.script.text (texts_of ss))
+
+-- the port of each root has its world
+opening-at : {P : Type 0} (world : P → World) (b : BoardView) (ports : List P) → map world ports ≡ openings b → (i : ℕ) (p : P) → slice_get ports i ≡ Some p → world p ≡ opening_world b i
+opening-at world b ports same i p here =
+    let low : i < length ports = slice_get_within ports i p here in
+    let count : length ports ≡ length b.roots = sym (length-map ports world) ∙ ap length same ∙ length-map (range_with_len 0 (length b.roots)) (opening_world b) ∙ length-range_with_len 0 (length b.roots) in
+    let mapped = from (opening_world b) (range_with_len 0 (length b.roots)) i (world p) (ap (λ (ws : List World). slice_get ws i) (sym same) ∙ at world ports i p here) in
+    let number : mapped.0 ≡ 0 + i = sym (get_or_from_slice_get (range_with_len 0 (length b.roots)) i mapped.0 0 mapped.1) ∙ get_or-range_with_len 0 (length b.roots) i 0 (omega (arith, low, count)) in
+    sym mapped.2 ∙ ap (opening_world b) (let z : 0 + i ≡ i = omega (arith) in number ∙ z)
+
+module _ {P : Type 0} (g : PortGhosts P) (b : BoardView) (plain : IsPlainBoard b) (scripts : List CallerView) (opened : AreOpened b scripts) where
+  -- scripts and ports by their numbers may open a core
+  pub may-open : (ports : List P) (limit : ℕ) → length scripts ≤ MOST_CALLERS → length ports ≡ length b.roots → All (λ p. g.phase p ≡ Idle) ports → (IsTrue g.tells → All (λ p. g.log p ≡ []) ports)
+      → (IsTrue g.tells → map g.world ports ≡ openings b) → IsFairCaller asked_by left_of board_of → limit ≡ cost_of_texts b (texts_of scripts) → cost_of_texts b (texts_of scripts) ≤ MOST_COST
+      → MayOpen g script_row b (enumerate_from 0 ports) (enumerate_from 0 scripts) limit
+  may-open ports limit few count idle empty worlds fair is cheap =
+      record {
+        distinct = λ i k n here to. (let a = number-is 0 scripts i n here in let c = number-is 0 scripts k n to in omega (arith, a, c));
+        below = λ i x here.
+            let r = numbered-at 0 scripts i x here in
+            let number = r.0 in
+            let low = slice_get_within scripts i x.1 r.1 in
+            omega (arith, number, low, few);
+        once = λ i k n here to. (let a = number-is 0 ports i n here in let c = number-is 0 ports k n to in omega (arith, a, c));
+        idle = λ k x here. all-at (λ p. g.phase p ≡ Idle) ports k x.1 idle (numbered-at 0 ports k x here).1;
+        worlds = λ tells k x here.
+            let r = numbered-at 0 ports k x here in
+            let number = r.0 in
+            let same : k ≡ x.0 = omega (arith, number) in
+            (opening-at g.world b ports (worlds tells) k x.1 r.1 ∙ ap (opening_world b) same, all-at (λ p. g.log p ≡ []) ports k x.1 (empty tells) r.1);
+        fair = fair;
+        untaken = λ i x here. (all-at (λ s. IsOpened b s.script.text s) scripts i x.1 opened (numbered-at 0 scripts i x here).1).untaken;
+        home = λ i x here. (all-at (λ s. IsOpened b s.script.text s) scripts i x.1 opened (numbered-at 0 scripts i x here).1).board_is;
+        wired = λ i x rs t here asks bus.
+            let low : root_of b t.bus < length b.roots = tree_root_is b plain.planted t.bus bus in
+            let on = number-here 0 ports (root_of b t.bus) (omega (arith, low, count)) in
+            let zero_first : 0 + root_of b t.bus ≡ root_of b t.bus = omega (arith) in
+            record { place = root_of b t.bus; here = on ∙ ap (λ (k : ℕ). Some k) zero_first };
+        covers = (let sum = costs b scripts 0 opened in omega (arith, sum, is));
+        most = omega (arith, is, cheap);
+      }
+
+  -- each word of the schedule has its caller
+  pub words-placed : (x : CoreParts P CallerView) (words : List ℕ) → IsCore g script_row x → scripts_of script_row x.seats.items ≡ map (λ (y : ℕ × CallerView). (y.0, y.1.script)) (enumerate_from 0 scripts)
+      → All (λ c. c < length scripts) words → All (HasPlace x.places.items) words
+  words-placed x words core same named =
+      All-from_get_or (HasPlace x.places.items) words 0
+      (λ i low.
+      let w = has words i low in
+      let is = get_or_from_slice_get words i w.0 0 w.1 in
+      let below : w.0 < length scripts = all-at (λ c. c < length scripts) words i w.0 named w.1 in
+      let s = has scripts w.0 below in
+      subst (λ (n : ℕ). HasPlace x.places.items n) (sym is)
+      (record {
+        place = w.0;
+        at = core.placed.named w.0 w.0 s.0.script
+            (ap (λ (ys : List (ℕ × ScriptView)). slice_get ys w.0) same ∙ at (λ (y : ℕ × CallerView). (y.0, y.1.script)) (enumerate_from 0 scripts) w.0 (w.0, s.0) (numbered-here w.0 s.0 s.1));
+      }))
+    where
+      numbered-here : (i : ℕ) (s : CallerView) → slice_get scripts i ≡ Some s → slice_get (enumerate_from 0 scripts) i ≡ Some (i, s)
+      numbered-here i s here =
+          let low : i < length scripts = slice_get_within scripts i s here in
+          let many : length (enumerate_from 0 scripts) ≡ length scripts = length-enumerate_from 0 scripts in
+          let y = has (enumerate_from 0 scripts) i (omega (arith, low, many)) in
+          let r = numbered-at 0 scripts i y.0 y.1 in
+          let number = r.0 in
+          let first : y.0.0 ≡ i = omega (arith, number) in
+          let second : y.0.1 ≡ s = (let f : Some y.0.1 ≡ Some s = sym r.1 ∙ here in cc) in
+          y.1 ∙ ap (λ (k : ℕ). Some (k, y.0.1)) first ∙ ap (λ (t : CallerView). Some (i, t)) second
+
+-- a port for each root
+pub ports-count : {P : Type 0} (x : CoreParts P CallerView) (ports : List P) → roots_of x.ports.items ≡ roots_of (enumerate_from 0 ports) → length x.ports.items ≡ length ports
+ports-count {P} x ports roots =
+    sym (length-map x.ports.items (λ (q : ℕ × P). q.0)) ∙ ap length roots ∙ length-map (enumerate_from 0 ports) (λ (q : ℕ × P). q.0) ∙ length-enumerate_from 0 ports
+
+module _ {P : Type 0} (g : PortGhosts P) (x : CoreParts P CallerView) (scripts : List CallerView) (opened : AreOpened x.board.now scripts)
+    (same : scripts_of script_row x.seats.items ≡ map (λ (y : ℕ × CallerView). (y.0, y.1.script)) (enumerate_from 0 scripts)) where
+  abbrev seats : List (Seat CallerView)
+  seats = x.seats.items
+
+  abbrev b : BoardView
+  b = x.board.now
+
+  -- the seat of each number has the script of that number
+  seat-at : (i : ℕ) (s : Seat CallerView) → slice_get seats i ≡ Some s → (s.number ≡ i) × (y : CallerView) × (slice_get scripts i ≡ Some y) × (s.caller.script ≡ y.script)
+  seat-at i s here =
+      let there = ap (λ (ys : List (ℕ × ScriptView)). slice_get ys i) (sym same) ∙ at (script_of script_row) seats i s here in
+      let y = from (λ (y : ℕ × CallerView). (y.0, y.1.script)) (enumerate_from 0 scripts) i (s.number, s.caller.script) there in
+      let r = numbered-at 0 scripts i y.0 y.1 in
+      let number : s.number ≡ y.0.0 = ap (λ (z : ℕ × ScriptView). z.0) (sym y.2) in
+      let first = r.0 in
+      (omega (arith, number, first), y.0.1, r.1, ap (λ (z : ℕ × ScriptView). z.1) (sym y.2))
+
+  own-script : (i : ℕ) (s : Seat CallerView) → slice_get seats i ≡ Some s → s.caller.script ≡ script_on b s.caller.script.text
+  own-script i s here =
+      let y = seat-at i s here in
+      ap (λ (k : BoardView). script_on k s.caller.script.text) (ap (λ (z : ScriptView). z.board) y.3 ∙ (all-at (λ t. IsOpened b t.script.text t) scripts i y.1 opened y.2).board_is)
+
+  own-found : (i : ℕ) (s : Seat CallerView) → slice_get seats i ≡ Some s → script_at (scripts_of script_row seats) i ≡ Some s.caller.script
+  own-found i s here =
+      subst (λ (n : ℕ). script_at (scripts_of script_row seats) n ≡ Some s.caller.script) (seat-at i s here).0
+      (script-own script_row seats (λ j k t u here to is. sym (seat-at j t here).0 ∙ is ∙ (seat-at k u to).0) i s here)
+
+  pub texts-same : texts_of (callers_of x) ≡ texts_of scripts
+  texts-same =
+      twice (λ (s : CallerView). s.script.text) (λ (s : Seat CallerView). s.caller) seats
+      ∙ sym (twice (λ (y : ℕ × ScriptView). y.1.text) (script_of script_row) seats)
+      ∙ ap (λ (ys : List (ℕ × ScriptView)). map (λ (y : ℕ × ScriptView). y.1.text) ys) same
+      ∙ twice (λ (y : ℕ × ScriptView). y.1.text) (λ (y : ℕ × CallerView). (y.0, y.1.script)) (enumerate_from 0 scripts)
+      ∙ alone (λ (s : CallerView). s.script.text) 0 scripts
+
+  text-at : (i : ℕ) (s : Seat CallerView) → slice_get seats i ≡ Some s → slice_get (texts_of (callers_of x)) i ≡ Some s.caller.script.text
+  text-at i s here = at (λ (t : CallerView). t.script.text) (callers_of x) i s.caller (at (λ (t : Seat CallerView). t.caller) seats i s here)
+
+  -- they ask for what their texts ask for
+  asks-same : asks_in script_row x ≡ asks_by b (texts_of (callers_of x))
+  asks-same = same_asks (asks_in script_row x) (asks_by b (texts_of (callers_of x))) (λ c rs. by c rs (cases_lt c (length seats)))
+    where
+      by : (c : ℕ) (rs : List Reply) → (c < length seats) ⊎ (length seats ≤ c) → asks_in script_row x c rs ≡ asks_by b (texts_of (callers_of x)) c rs
+      by c rs (inl below) =
+          let s = has seats c below in
+          ap (λ (o : Option ScriptView). option_map_or (λ k. asked_by k rs) o None) (own-found c s.0 s.1)
+          ∙ ap (λ (k : ScriptView). asked_by k rs) (own-script c s.0 s.1)
+          ∙ ap (λ (o : Option (List ℕ)). option_map_or (λ text. asked_by (script_on b text) rs) o None) (sym (text-at c s.0 s.1))
+      by c rs (inr above) =
+          let count : length (texts_of (callers_of x)) ≡ length seats = length-map (callers_of x) (λ (t : CallerView). t.script.text) ∙ length-map seats (λ (t : Seat CallerView). t.caller) in
+          ap (λ (o : Option ScriptView). option_map_or (λ k. asked_by k rs) o None)
+          (script-none (scripts_of script_row seats) c
+          (λ i s here.
+          let z = from (script_of script_row) seats i (c, s) here in
+          let number : z.0.number ≡ c = ap (λ (q : ℕ × ScriptView). q.0) z.2 in
+          let first = (seat-at i z.0 z.1).0 in
+          let low : i < length seats = slice_get_within seats i z.0 z.1 in
+          absurd (omega (arith, number, first, low, above))))
+          ∙ ap (λ (o : Option (List ℕ)). option_map_or (λ text. asked_by (script_on b text) rs) o None) (sym (slice_get_past (texts_of (callers_of x)) c (omega (arith, count, above))))
+
+  -- a caller that is through
+  through-at : AllThrough asked_by g.tells (state_of g script_row x) → (c : ℕ) (s : CallerView) → slice_get (callers_of x) c ≡ Some s
+      → (asked_by (script_on b s.script.text) s.taken ≡ None) × IsThrough asked_by g.tells (state_of g script_row x) c s.taken
+  through-at through c s here =
+      let y = from (λ (t : Seat CallerView). t.caller) seats c s here in
+      let number = (seat-at c y.0 y.1).0 in
+      let own = through c y.0.number y.0.caller.taken (at (λ (t : Seat CallerView). (t.number, t.caller.taken)) seats c y.0 y.1) in
+      let mine = subst (λ (n : ℕ). IsThrough asked_by g.tells (state_of g script_row x) n y.0.caller.taken) number own in
+      let done : asked_by (script_on b y.0.caller.script.text) y.0.caller.taken ≡ None =
+      ap (λ (k : ScriptView). asked_by k y.0.caller.taken) (sym (own-script c y.0 y.1))
+      ∙ sym (ap (λ (o : Option ScriptView). option_map_or (λ k. asked_by k y.0.caller.taken) o None) (own-found c y.0 y.1)) ∙ mine.asks in
+      subst (λ (t : CallerView). (asked_by (script_on b t.script.text) t.taken ≡ None) × IsThrough asked_by g.tells (state_of g script_row x) c t.taken) y.2 (done, mine)
+
+  -- the port of a root
+  port-at : (ports : List P) → roots_of x.ports.items ≡ roots_of (enumerate_from 0 ports) → (r : ℕ) → r < length ports → (p : ℕ × P) × (slice_get x.ports.items r ≡ Some p) × (p.0 ≡ r)
+  port-at ports roots r low =
+      let root = ap (λ (ns : List ℕ). slice_get ns r) roots ∙ number-here 0 ports r low in
+      let p = from (λ (q : ℕ × P). q.0) x.ports.items r (0 + r) root in
+      let number = p.2 in
+      (p.0, p.1, omega (arith, number))
+
+  abbrev past : List Entry
+  past = reverse x.journal.entries
+
+  -- THE END: all are through
+  pub core-over : (ports : List P) (words : List ℕ) → IsCore g script_row x → AllThrough asked_by g.tells (state_of g script_row x) → roots_of x.ports.items ≡ roots_of (enumerate_from 0 ports)
+      → length ports ≡ length b.roots → Follows words x.journal.entries → IsTrue g.tells
+      → IsOver b (callers_of x) MOST_CALLERS words x.journal.entries (map (λ (p : ℕ × P). g.world p.1) x.ports.items) (map (λ (p : ℕ × P). g.log p.1) x.ports.items)
+  core-over ports words core through roots count follows tells =
+      let told = core.kept.kept.told tells in
+      record {
+        plain = core.kept.set_up.plain;
+        rules = core.kept.set_up.rules;
+        stepwise = subst (λ (a : Asks). IsStepwise b MOST_CALLERS a past) asks-same told.stepwise;
+        rests = subst (λ (a : Asks). (now b a past).due ≡ None) asks-same told.rests;
+        followed = follows;
+        taken = λ c s here.
+            subst (λ (a : Asks). s.taken ≡ (now b a past).settled c) asks-same (sym ((through-at through c s here).1.settled tells));
+        ended = λ c s here.
+            subst (λ (a : Asks). (now b a past).walk c ≡ Ends) asks-same ((through-at through c s here).1.walk tells);
+        done = λ c s here. (through-at through c s here).0;
+        worlds_count = length-map x.ports.items (λ (p : ℕ × P). g.world p.1) ∙ ports-count x ports roots ∙ count;
+        world = λ r low.
+            let p = port-at ports roots r (omega (arith, low, count)) in
+            at (λ (q : ℕ × P). g.world q.1) x.ports.items r p.0 p.1
+            ∙ ap (λ (w : World). Some w) (subst (λ (a : Asks). g.world p.0.1 ≡ world_at b a past r) asks-same
+            (subst (λ (k : ℕ). g.world p.0.1 ≡ (now b (asks_in script_row x) past).worlds k) p.2 (told.ports_told r _ (at _ x.ports.items r p.0 p.1)).world));
+        logs_count = length-map x.ports.items (λ (p : ℕ × P). g.log p.1) ∙ ports-count x ports roots ∙ count;
+        log = λ r low.
+            let p = port-at ports roots r (omega (arith, low, count)) in
+            at (λ (q : ℕ × P). g.log q.1) x.ports.items r p.0 p.1
+            ∙ ap (λ (w : List PortCall). Some w) (subst (λ (a : Asks). g.log p.0.1 ≡ calls_of b a past r) asks-same
+            (subst (λ (k : ℕ). g.log p.0.1 ≡ reverse ((now b (asks_in script_row x) past).calls k)) p.2 (told.ports_told r _ (at _ x.ports.items r p.0 p.1)).log));
+      }

@@ -1,0 +1,71 @@
+-- A list that goes over into another, one element after the other: each under its number, or alone.
+use Rattle.std.proofs.Common.{◌≡◌, ℕ, suc, ◌+◌, ◌<◌, ◌≤◌, List, [], ◌∷◌, ◌++◌, length, map, refl, sym, ◌∙◌, ap, subst, arith}
+use Rattle.std.specs.List.{enumerate_from}
+use Rattle.std.proofs.lemmas.List.{length-append, append_assoc}
+
+-- so far `out` is what a function tells of the elements that came, `rest` is to come, and there is room for all
+pub record GoesOver {X Y : Type 0} (told : List X → List Y) (all came rest : List X) (count : ℕ) (out : List Y) (room : ℕ) : Type 0 where
+  pub so_far : out ≡ told came
+  pub goes : came ++ rest ≡ all
+  pub counted : count ≡ length rest
+  pub has_room : length all ≤ room
+
+module _ {X Y : Type 0} (told : List X → List Y) (all : List X) where
+  -- there is room for one more
+  pub over-room : (came rest : List X) (x : X) (count room : ℕ) (out : List Y) → GoesOver told all came (x ∷ rest) count out room → length (told came) ≡ length came → length out < room
+  over-room came rest x count room out over same =
+      let len : length out ≡ length came = ap length over.so_far ∙ same in
+      let whole : length came + length (x ∷ rest) ≡ length all = sym (length-append came (x ∷ rest)) ∙ ap length over.goes in
+      let has = over.has_room in
+      omega (arith, len, whole, has)
+
+  -- as many came as are told, fewer than all
+  pub over-below : (came rest : List X) (x : X) (count room : ℕ) (out : List Y) → GoesOver told all came (x ∷ rest) count out room → length came < length all
+  over-below came rest x count room out over =
+      let whole : length came + length (x ∷ rest) ≡ length all = sym (length-append came (x ∷ rest)) ∙ ap length over.goes in
+      omega (arith, whole)
+
+  pub over-one : (came rest : List X) (x : X) (y : Y) (count less room : ℕ) (out : List Y) → GoesOver told all came (x ∷ rest) count out room → less + 1 ≡ count
+      → told (came ++ x ∷ []) ≡ told came ++ y ∷ [] → GoesOver told all (came ++ x ∷ []) rest less (out ++ y ∷ []) room
+  over-one came rest x y count less room out over one tells =
+      let counted : count ≡ suc (length rest) = over.counted in
+      record {
+        so_far = ap (λ (ys : List Y). ys ++ y ∷ []) over.so_far ∙ sym tells;
+        goes = append_assoc came (x ∷ []) rest ∙ over.goes;
+        counted = omega (arith, one, counted);
+        has_room = over.has_room;
+      }
+
+  -- .. as a loop has it: its iterator stepped, and the element was pushed
+  pub over-next : (came items rest : List X) (x : X) (y : Y) (count less room wide : ℕ) (out more : List Y) → GoesOver told all came items count out room → items ≡ x ∷ rest → less + 1 ≡ count
+      → more ≡ out ++ y ∷ [] → wide ≡ room → told (came ++ x ∷ []) ≡ told came ++ y ∷ [] → GoesOver told all (came ++ x ∷ []) rest less more wide
+  over-next came items rest x y count less room wide out more over steps one pushed same tells =
+      subst (λ (ys : List Y). GoesOver told all (came ++ x ∷ []) rest less ys wide) (sym pushed)
+      (subst (λ (n : ℕ). GoesOver told all (came ++ x ∷ []) rest less (out ++ y ∷ []) n) (sym same)
+      (over-one came rest x y count less room out (subst (λ (xs : List X). GoesOver told all came xs count out room) steps over) one tells))
+
+  -- all came
+  pub over-all : (came rest : List X) (count room : ℕ) (out : List Y) → GoesOver told all came rest count out room → count ≡ 0 → out ≡ told all
+  over-all came [] count room out over none = over.so_far ∙ ap told (sym (append-none came) ∙ over.goes)
+    where
+      append-none : (xs : List X) → xs ++ [] ≡ xs
+      append-none [] = refl
+      append-none (x ∷ xs) = ap (λ (ys : List X). x ∷ ys) (append-none xs)
+  over-all came (x ∷ rest) count room out over none = absurd (let counted : count ≡ suc (length rest) = over.counted in omega (arith, counted, none))
+
+-- numbers go on behind the last
+pub numbered-push : {X : Type 0} (n : ℕ) (xs : List X) (x : X) → enumerate_from n (xs ++ x ∷ []) ≡ enumerate_from n xs ++ (n + length xs, x) ∷ []
+numbered-push n [] x = ap (λ (k : ℕ). (k, x) ∷ []) (omega (arith))
+numbered-push n (y ∷ xs) x = ap (λ (zs : List (ℕ × _)). (n, y) ∷ zs) (numbered-push (n + 1) xs x ∙ ap (λ (k : ℕ). enumerate_from (n + 1) xs ++ (k, x) ∷ []) (omega (arith)))
+
+pub map-push : {X Y : Type 0} (f : X → Y) (xs : List X) (x : X) → map f (xs ++ x ∷ []) ≡ map f xs ++ f x ∷ []
+map-push f [] x = refl
+map-push f (y ∷ xs) x = ap (λ (zs : List _). f y ∷ zs) (map-push f xs x)
+
+pub numbered-next : {X : Type 0} (xs : List X) (x : X) (n : ℕ) → n ≡ length xs → enumerate_from 0 (xs ++ x ∷ []) ≡ enumerate_from 0 xs ++ (n, x) ∷ []
+numbered-next xs x n is = numbered-push 0 xs x ∙ ap (λ (k : ℕ). enumerate_from 0 xs ++ (k, x) ∷ []) (omega (arith, is))
+
+-- so many came as the list has
+pub so-many : {X Y : Type 0} (told : List X → List Y) (all came rest : List X) (count room : ℕ) (out : List Y) (n len : ℕ) → GoesOver told all came rest count out room → length (told came) ≡ length came
+    → n ≡ len → len ≡ length out → n ≡ length came
+so-many told all came rest count room out n len over same is lens = is ∙ lens ∙ ap length over.so_far ∙ same

@@ -1,0 +1,13 @@
+use Rattle.std.proofs.Common.{◌≡◌, ◌+◌, ◌≤◌, ◌<◌, length, map}
+use Rattle.std.specs.Prelude.{string_bytes}
+use Rattle.i2c_top.specs.Readings.{AreScriptsIn}
+use Rattle.i2c_top.specs.Traces.{KeepsBut, shelf_view}
+use Rattle.i2c_top.proofs.files.scripts_in.Given as goal
+
+abbrev pub invariant-loop-caller : goal.invariant-loop-caller
+invariant-loop-caller g l =
+    record {
+      count : length l.scripts.items ≡ l.caller;
+      kept : KeepsBut (λ p. (3 ≤ p) × (p < 3 + l.caller)) (shelf_view g.S.Shelf l.initial.shelf) (shelf_view g.S.Shelf l.shelf);
+      scripts : AreScriptsIn g.S.Shelf.tells (g.S.Shelf.file l.initial.shelf) (map string_bytes l.names) l.board l.scripts.items;
+    }
