@@ -27,7 +27,8 @@
 //!
 //! Lines that are empty or begin with `#` are for the reader. The file `stdout` has what is due, by hand: the answers of
 //! chips by the data sheets of NXP, of trees by Linux i2c-topology, of wires by UM10204 section 3.1, of transfers by SMBus
-//! 3.2, Linux fault-codes and the tables of the devices. None is taken from what the program printed.
+//! 3.2, Linux fault-codes and the tables of the devices. The journals of calls that fail one by one, and of several
+//! callers, are those of a model of the rules apart from the program. None is taken from what the program printed.
 #![tactic(auto)]
 
 mod bench;
