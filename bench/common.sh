@@ -53,7 +53,7 @@ median_of() {
 # since a shell that starts the run would count its own memory in.
 memory_of() {
   local status
-  /usr/bin/time -f %M -o "$folder/memory" true 2>/dev/null || return
+  /usr/bin/time -f %M -o "$folder/memory" true 2>/dev/null || return 0
   /usr/bin/time -f %M -o "$folder/memory" "$program" "${@:3}" >"$folder/out" </dev/null
   status=$?
   check_run "$1" "$2" "$status"

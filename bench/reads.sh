@@ -8,66 +8,17 @@
 # PROGRAM is crates/i2cbus/out/i2cbus where it isn't given. Nothing is built here, and nothing is left behind. But for
 # times and memory it prints the same each time. A run whose output isn't the report that is due ends it.
 . "$(dirname "$0")/common.sh"
+. "$(dirname "$0")/board.sh"
 
 FEW=100
 MANY=1000
 WANTED=1.3 # so many times as long as on the root may an entry take behind the mux
 
-# The bus, the address and the number of the device that is read, and the entries of one read: take, two messages,
-# settle, free; behind the mux there are two locks, and the channel is selected and deselected.
-declare -A bus=([root]=0 [mux]=1)
-declare -A address=([root]=0x20 [mux]=0x30)
-declare -A device=([root]=0 [mux]=1)
-declare -A entries_a_read=([root]=5 [mux]=9)
-
-# A register device whose register 5 holds 0x7e.
-device_of() {
-  printf '%s\n' '[[device]]' "bus = ${bus[$1]}" 'kind = "regs"' "address = ${address[$1]}" 'set = [[5, 0x7e]]'
-}
-
-# One root with such a device, and the same with a parent-locked mux whose first channel has a device too.
-write_boards() {
-  printf '%s\n' 'version = 1' '[[root]]' >"$folder/board.root"
-  cp "$folder/board.root" "$folder/board.mux"
-  printf '%s\n' '[[mux]]' 'bus = 0' 'kind = "pca9548"' 'address = 0x70' 'lock = "parent"' >>"$folder/board.mux"
-  device_of root | tee -a "$folder/board.mux" >>"$folder/board.root"
-  device_of mux >>"$folder/board.mux"
-  : >"$folder/schedule"
-}
-
-# The script of so many reads on this board, each of the next register, and the report that is due.
-write_files() {
-  awk -v lines="$2" -v script="$folder/script.$1.$2" -v due="$folder/due.$1.$2" \
-    -v bus="${bus[$1]}" -v address="${address[$1]}" -v device="${device[$1]}" 'BEGIN {
-    printf "" >script
-    print "caller 0" >due
-    for (i = 0; i < lines; i++) {
-      command = "i2cget -y " bus " " address " " i % 256
-      print command >script
-      printf "> %s\n0x%s\n", command, i % 256 == 5 ? "7e" : "00" >due
-    }
-    print "journal" >due
-    for (i = 0; i < lines; i++) {
-      byte = i % 256 == 5 ? "7e" : "00"
-      if (bus > 0) print "take 0 muxlock 0" >due
-      print "take 0 buslock 0" >due
-      if (bus > 0) print "msg 0 bus 0 mux 0 1/1 w 0x70 [01] heard m0 ok" >due
-      printf "msg 0 bus %d call 1/2 w %s [%02x] heard d%d ok\n", bus, address, i % 256, device >due
-      printf "msg 0 bus %d call 2/2 r %s [%s] heard d%d ok\n", bus, address, byte, device >due
-      print "settle 0 read " byte >due
-      if (bus > 0) print "msg 0 bus 0 mux 0 1/1 w 0x70 [00] heard m0 ok" >due
-      print "free 0 buslock 0" >due
-      if (bus > 0) print "free 0 muxlock 0" >due
-    }
-    print "end" >due
-  }'
-}
-
 # Measures so many reads on this board.
 measure() {
-  write_files "$1" "$2"
-  local times what="the run of $2 reads ($1)" due=$folder/due.$1.$2
-  local -a words=(replay "$folder/board.$1" "$folder/schedule" "$folder/script.$1.$2")
+  write_files "$1" "$2" 1
+  local times what="the run of $2 reads ($1)" due=$folder/due
+  local -a words=(replay "$folder/board.$1" "$folder/schedule" "$folder/script")
   times=$(times_of "$what" "$due" "${words[@]}") || exit 1
   entries[$1.$2]=$(($2 * entries_a_read[$1]))
   best[$1.$2]=$(best_of "$times")

@@ -17,7 +17,7 @@ use Rattle.mux_plan.specs.Plans.{slots_of}
 use Rattle.seg_locks.specs.Locks.{LocksView, holder_in}
 use Rattle.bus_core.specs.Kept.{asks_in, run_of, whole_of, IsKept, ArePlaced, HasStepped, HasTurn}
 use Rattle.bus_core.specs.Places.{walk_left, place_of, script_of, scripts_of}
-use Rattle.bus_core.specs.Ready.{CanStepAt}
+use Rattle.bus_core.specs.Ready.{IsHeldUpAt}
 use Rattle.bus_core.specs.Runs.{HasMade}
 use Rattle.bus_core.specs.Steps.{IsBlockedAt, HasEndedAt}
 use Rattle.bus_core.specs.declared.parts.CoreParts.{CoreParts}
@@ -61,25 +61,19 @@ module _ {P C S : Type 0} (g : PortGhosts P) (c : CallerGhosts C S) (x : CorePar
       subst (λ (n : ℕ). IsStuck x.board.now (asks_in c x) (reverse x.journal.entries) n) (numbered s here)
       (held-up-stuck (run_of g c x) (whole_of g c x kept.held kept.owes) kept.kept tell place (place_of c x.board.now s) (place-here g c x kept place s here) up)
 
-  -- WHO WAITS is stuck
+  -- WHO WAITS is held up
+  pub blocked-held_up : (l : LockId) (h : ℕ) → IsBlockedAt x place l h → IsHeldUpAt x place
+  blocked-held_up l h b = record { seat = b.comes.seat; here = b.comes.here; waits = inr (l, h, b.comes.next, b.held) }
+
+  pub ended-held_up : HasEndedAt x place → IsHeldUpAt x place
+  ended-held_up e = record { seat = e.seat; here = e.here; waits = inl (over-none x.locks (walk_left x.board.now e.seat) e.over) }
+
+  -- .. and stuck
   pub blocked-stuck : (l : LockId) (h : ℕ) → IsBlockedAt x place l h → IsTrue g.tells → IsStuck x.board.now (asks_in c x) (reverse x.journal.entries) caller
-  blocked-stuck l h b tell = stuck-by b.comes.seat b.comes.here (inr (l, h, b.comes.next, b.held)) tell
+  blocked-stuck l h b tell = (let up = blocked-held_up l h b in stuck-by up.seat up.here up.waits tell)
 
   pub ended-stuck : HasEndedAt x place → IsTrue g.tells → IsStuck x.board.now (asks_in c x) (reverse x.journal.entries) caller
-  ended-stuck e tell = stuck-by e.seat e.here (inl (over-none x.locks (walk_left x.board.now e.seat) e.over)) tell
-
-  -- who can step isn't blocked, and hasn't ended
-  pub blocked-not : (l : LockId) (h : ℕ) → IsBlockedAt x place l h → CanStepAt x place → ⊥
-  blocked-not l h b can =
-      let same = same_seat x.seats.items place b.comes.seat can.seat b.comes.here can.here in
-      let takes : can.act ≡ Take l = (let f : Some can.act ≡ Some (Take l) = sym can.next ∙ ap (λ (y : Seat C). next_of x.locks (walk_left x.board.now y)) (sym same) ∙ b.comes.next in cc) in
-      let f : None ≡ Some h = sym (can.free l takes) ∙ b.held in cc
-
-  pub ended-not : HasEndedAt x place → CanStepAt x place → ⊥
-  ended-not e can =
-      let same = same_seat x.seats.items place e.seat can.seat e.here can.here in
-      let f : None ≡ Some can.act = sym (over-none x.locks (walk_left x.board.now e.seat) e.over) ∙ ap (λ (y : Seat C). next_of x.locks (walk_left x.board.now y)) same ∙ can.next in
-      cc
+  ended-stuck e tell = (let up = ended-held_up e in stuck-by up.seat up.here up.waits tell)
 
   -- A STEP that was made
   pub has-made : (new : CoreParts P C) → HasStepped g c place x new → HasMade g c caller x new

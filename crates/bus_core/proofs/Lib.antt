@@ -16,5 +16,6 @@ pub mod Refuse
 pub mod Switch
 pub mod Advances
 pub mod Loops
+pub mod Told
 pub mod Opened
 pub mod Seating

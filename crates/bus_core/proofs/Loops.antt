@@ -36,7 +36,7 @@ use Rattle.mux_plan.specs.Plans.{slots_of}
 use Rattle.seg_locks.specs.Locks.{holder_in}
 use Rattle.bus_core.specs.Kept.{asks_in, run_of, whole_of, IsCore, HasCome, HasTurn}
 use Rattle.bus_core.specs.Places.{walk_left, place_of, script_of, scripts_of, script_at, asks_of}
-use Rattle.bus_core.specs.Ready.{IsLeastReady, AllHeldUp}
+use Rattle.bus_core.specs.Ready.{AreHeldUpBelow, AllHeldUp}
 use Rattle.bus_core.specs.Runs.{HasMade, HasWaited, KeepsSchedule}
 use Rattle.bus_core.specs.State.{AllThrough, state_of}
 use Rattle.bus_core.specs.declared.parts.CoreParts.{CoreParts}
@@ -119,13 +119,13 @@ module _ {P C S : Type 0} (g : PortGhosts P) (c : CallerGhosts C S) (x : CorePar
       ap (λ (o : Option S). option_map_or (λ s. c.asked s rs) o None)
       (script-none (scripts_of c x.seats.items) n (λ i s at. let f : Some None ≡ Some (Some i) = sym none ∙ core.placed.named i n s at in cc))
 
-  stuck-below : (least : ℕ) → IsLeastReady x least → IsTrue g.tells → (m : ℕ) → m < least → IsStuck b asks past m
-  stuck-below least ready tell m low = by (slice_get x.places.items m) refl
+  pub stuck-below : (least place : ℕ) → slice_get x.places.items least ≡ Some (Some place) → AreHeldUpBelow x least → IsTrue g.tells → (m : ℕ) → m < least → IsStuck b asks past m
+  stuck-below least place is before tell m low = by (slice_get x.places.items m) refl
     where
       by : (o : Option (Option ℕ)) → slice_get x.places.items m ≡ o → IsStuck b asks past m
-      by (Some (Some q)) at = (let up = ready.before m q low at in stuck-by g c x core.kept core.placed m q at up.seat up.here up.waits tell)
+      by (Some (Some q)) at = (let up = before m q low at in stuck-by g c x core.kept core.placed m q at up.seat up.here up.waits tell)
       by (Some None) at = inr (ap (λ (w : WalkTree). first_act (seen (now b asks past).slot w)) (silent-ends b MOST_CALLERS asks m (silent m at) past (core.kept.kept.told tell).stepwise))
-      by None at = absurd (let here = slice_get_within x.places.items least (Some ready.place) ready.at in not-beyond x.places.items m (omega (arith, low, here)) at)
+      by None at = absurd (let here = slice_get_within x.places.items least (Some place) is in not-beyond x.places.items m (omega (arith, low, here)) at)
 
   -- the journal keeps to a schedule over a step of the least caller, and over a word's
   module _ (caller : ℕ) (new : CoreParts P C) (made : HasMade g c caller x new) where
@@ -141,12 +141,12 @@ module _ {P C S : Type 0} (g : PortGhosts P) (c : CallerGhosts C S) (x : CorePar
 
     pub least-keeps : ((words : List ℕ) (old : List Entry) → IsPlainBoard b → MeetsRules b → AsksForMessages asks → IsStepwise b MOST_CALLERS asks old → (now b asks old).due ≡ None
         → (t : Turn) → IsTurn b MOST_CALLERS asks old t → ((d : ℕ) → d < t.caller → IsStuck b asks old d) → KeepsTo b MOST_CALLERS asks words [] old → KeepsTo b MOST_CALLERS asks words [] (past_after old t))
-        → IsLeastReady x caller → (words : List ℕ) → KeepsSchedule g c words [] x → KeepsSchedule g c words [] new
-    least-keeps law ready words keeps tell =
+        → (place : ℕ) → slice_get x.places.items caller ≡ Some (Some place) → AreHeldUpBelow x caller → (words : List ℕ) → KeepsSchedule g c words [] x → KeepsSchedule g c words [] new
+    least-keeps law place is before words keeps tell =
         let t = made.turn tell in
         let told = core.kept.kept.told tell in
         moved words [] t (law words past run_fair.plain run_fair.rules run_fair.sends told.stepwise told.rests t.turn t.comes
-        (λ d low. stuck-below caller ready tell d (subst (λ (k : ℕ). d < k) t.own low)) (keeps tell))
+        (λ d low. stuck-below caller place is before tell d (subst (λ (k : ℕ). d < k) t.own low)) (keeps tell))
 
     pub word-keeps : ((words : List ℕ) (old : List Entry) → IsPlainBoard b → MeetsRules b → AsksForMessages asks → IsStepwise b MOST_CALLERS asks old → (now b asks old).due ≡ None
         → (t : Turn) → IsTurn b MOST_CALLERS asks old t → (left : List ℕ) → KeepsTo b MOST_CALLERS asks words (t.caller ∷ left) old → KeepsTo b MOST_CALLERS asks words left (past_after old t))

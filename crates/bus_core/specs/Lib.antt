@@ -10,3 +10,4 @@ pub mod State
 pub mod Ready
 pub mod Opens
 pub mod Runs
+pub mod Answers

@@ -11,7 +11,7 @@ use Rattle.i2c_spec.specs.Fair.{IsFairCaller}
 use Rattle.i2c_spec.specs.World.{opening_world}
 use Rattle.core_laws.specs.Table.{AreDistinct}
 use Rattle.bus_core.specs.Kept.{IsSeated, roots_of}
-use Rattle.bus_core.specs.Opening.{HasRoot}
+use Rattle.bus_core.specs.Opening.{Opening, HasRoot}
 use Rattle.bus_core.specs.Places.{scripts_of}
 use Rattle.bus_core.specs.Seats.{IsLoaded}
 use Rattle.bus_core.specs.declared.parts.CoreParts.{CoreParts}
@@ -22,6 +22,10 @@ use Rattle.i2c_spec.specs.Tree.{buses, root_of}
 
 abbrev pub callers_scripts : {C S : Type 0} → CallerGhosts C S → List (ℕ × C) → List (ℕ × S)
 callers_scripts c callers = map (λ (x : ℕ × _). (x.0, c.script x.1)) callers
+
+-- what a core that is opened with these has of them for good
+abbrev pub opening_of : {P C S : Type 0} → PortGhosts P → CallerGhosts C S → BoardView → List (ℕ × P) → List (ℕ × C) → Opening S
+opening_of p c b ports callers = record { board = b; scripts = callers_scripts c callers; worlds = map (λ (q : ℕ × _). (q.0, p.world q.1)) ports }
 
 abbrev pub numbers_in : {C : Type 0} → List (ℕ × C) → List ℕ
 numbers_in callers = map (λ (x : ℕ × _). x.0) callers

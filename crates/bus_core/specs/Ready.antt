@@ -24,12 +24,16 @@ pub record CanStepAt {P C : Type 0} (x : CoreParts P C) (place : ℕ) : Type 0 w
   pub next : next_of x.locks (walk_left x.board.now seat) ≡ Some act
   pub free : (l : LockId) → act ≡ Take l → holder_in x.locks l ≡ None
 
+-- every caller below this number is held up
+abbrev pub AreHeldUpBelow : {P C : Type 0} → CoreParts P C → ℕ → Type 0
+AreHeldUpBelow x n = (m q : ℕ) → m < n → slice_get x.places.items m ≡ Some (Some q) → IsHeldUpAt x q
+
 -- the least caller that can make a step: every caller below it is held up
 pub record IsLeastReady {P C : Type 0} (x : CoreParts P C) (n : ℕ) : Type 0 where
   pub place : ℕ
   pub at : slice_get x.places.items n ≡ Some (Some place)
   pub can : CanStepAt x place
-  pub before : (m q : ℕ) → m < n → slice_get x.places.items m ≡ Some (Some q) → IsHeldUpAt x q
+  pub before : AreHeldUpBelow x n
 
 -- all callers are held up
 abbrev pub AllHeldUp : {P C : Type 0} → CoreParts P C → Type 0

@@ -1,11 +1,12 @@
 -- What a caller's step leaves of the core, and what is left when all are through.
-use Rattle.std.specs.Prelude.{◌≡◌, ℕ, ◌<◌, IsTrue, List, reverse}
+use Rattle.std.specs.Prelude.{◌≡◌, ℕ, ◌<◌, IsTrue, List, reverse, Some, slice_get}
 use Rattle.i2c_base.specs.declared.caller.Caller.{Ghosts as CallerGhosts}
 use Rattle.i2c_base.specs.Limits.{MOST_CALLERS}
 use Rattle.i2c_outside.specs.declared.port.Port.{Ghosts as PortGhosts}
 use Rattle.bus_laws.specs.Following.{KeepsTo}
 use Rattle.bus_laws.specs.Ready.{IsStuck}
 use Rattle.bus_core.specs.Kept.{asks_in, HasTurn, HasCome}
+use Rattle.bus_core.specs.Ready.{AreHeldUpBelow}
 use Rattle.bus_core.specs.declared.parts.CoreParts.{CoreParts}
 
 -- a caller made a step
@@ -18,6 +19,14 @@ pub record HasMade {P C S : Type 0} (p : PortGhosts P) (c : CallerGhosts C S) (c
 pub record HasWaited {P C S : Type 0} (p : PortGhosts P) (c : CallerGhosts C S) (caller : ℕ) (old new : CoreParts P C) : Type 0 where
   pub same : new ≡ old
   pub stuck : IsTrue p.tells → IsStuck old.board.now (asks_in c old) (reverse old.journal.entries) caller
+
+-- the least caller that could make a step made one: every caller below it is held up
+pub record HasMadeLeast {P C S : Type 0} (p : PortGhosts P) (c : CallerGhosts C S) (old new : CoreParts P C) : Type 0 where
+  pub caller : ℕ
+  pub place : ℕ
+  pub at : slice_get old.places.items caller ≡ Some (Some place)
+  pub before : AreHeldUpBelow old caller
+  pub made : HasMade p c caller old new
 
 -- whatever comes later, the journal so far keeps to a schedule of which these words are left
 abbrev pub KeepsSchedule : {P C S : Type 0} → PortGhosts P → CallerGhosts C S → List ℕ → List ℕ → CoreParts P C → Type 0

@@ -48,6 +48,10 @@ state_of p c x =
       logs = logs_of p.log x.ports.items;
     }
 
+-- the root of each port
+abbrev pub roots_in : {S : Type 0} → CoreState S → List ℕ
+roots_in v = map (λ (w : ℕ × World). w.0) v.worlds
+
 -- the core has a caller of this number
 abbrev pub has_caller : {S : Type 0} → List (ℕ × S) → ℕ → Bool
 has_caller [] n = false

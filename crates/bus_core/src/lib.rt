@@ -8,6 +8,7 @@
 //! (what never changes), and the records of `core_laws`. Standard: Linux i2c-topology.
 #![tactic(auto)]
 
+mod bus;
 mod marks;
 mod opening;
 mod parts;
@@ -18,10 +19,7 @@ mod seat;
 mod seats;
 mod steps;
 
-pub use opening::open;
-pub use parts::CoreParts;
-pub use readiness::ready;
+pub use bus::{BusCore, Parts};
 pub use replies::{Decided, Replies};
-pub use running::{advance, finish, follow};
 pub use seat::Seat;
-pub use steps::{StepAnswer, step};
+pub use steps::StepAnswer;

@@ -96,7 +96,6 @@ pub fn open<'b, P: Port, C: Caller>(
     let journal = Journal::with_room(alloc, limit as usize, 2 * limit)?;
     let depths = depths(alloc, board)?;
     let locks = Locks::open(alloc, depths.as_slice(), board.board().roots().len() as u8)?;
-    let emptied = Vec::with_capacity(alloc, callers.len())?;
     let (seats, places) = seats_of(alloc, board, ports.as_slice(), callers)?;
     Ok(CoreParts {
         board,
@@ -108,6 +107,5 @@ pub fn open<'b, P: Port, C: Caller>(
         bytes: ByteList::new(),
         dues: Dues::new(),
         start,
-        emptied,
     })
 }

@@ -23,6 +23,4 @@ pub struct CoreParts<'b, P, C> {
     pub dues: Dues,
     /// The ports as they were when the core was opened. It takes no room.
     pub start: Snapshot<Vec<(SegId, P)>>,
-    /// Room for the callers when the core is taken apart.
-    pub emptied: Vec<(u8, C)>,
 }

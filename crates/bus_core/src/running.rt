@@ -1,12 +1,11 @@
-ghost use Rattle.std.specs.Prelude.{◌≡◌, ℕ, ◌<◌, ◌≤◌, true, false, IsTrue, List, [], All, length, drop, reverse, Some, slice_get};
+ghost use Rattle.std.specs.Prelude.{◌≡◌, ℕ, ◌<◌, true, false, IsTrue, List, [], All, Some, slice_get};
 ghost use Rattle.bus_spec.specs.Schedule.{Follows};
 ghost use Rattle.bus_core.specs.Kept.{IsCore, HasCome};
-ghost use Rattle.bus_core.specs.Ready.{CanStepAt, HasPlace};
-ghost use Rattle.bus_core.specs.Runs.{HasMade, HasWaited, KeepsSchedule};
+ghost use Rattle.bus_core.specs.Ready.{IsHeldUpAt, AllHeldUp, HasPlace};
+ghost use Rattle.bus_core.specs.Runs.{HasMade, HasMadeLeast, HasWaited, KeepsSchedule};
 ghost use Rattle.bus_core.specs.State.{AllThrough, state_of};
 
 use crate::parts::CoreParts;
-use crate::readiness::ready;
 use crate::steps::{StepAnswer, step};
 use bus_laws::a_loop_follows;
 use i2c_base::Caller;
@@ -19,7 +18,7 @@ pub fn advance<P: Port, C: Caller>(parts: &mut CoreParts<'_, P, C>, caller: u8) 
     ensures core { IsCore P.Port C.Caller parts.new }
     ensures made { result ≡ true → HasMade P.Port C.Caller caller parts.old parts.new }
     ensures waited { result ≡ false → HasWaited P.Port C.Caller caller parts.old parts.new }
-    ensures able { (place : ℕ) → slice_get parts.old.places.items caller ≡ Some (Some place) → CanStepAt parts.old place → result ≡ true }
+    ensures held_up { result ≡ false → (place : ℕ) → slice_get parts.old.places.items caller ≡ Some (Some place) → IsHeldUpAt parts.old place }
 {
     let Some(place) = parts.places[usize::from(caller)] else {
         return false;
@@ -28,6 +27,21 @@ pub fn advance<P: Port, C: Caller>(parts: &mut CoreParts<'_, P, C>, caller: u8) 
         StepAnswer::Stepped => true,
         _ => false,
     }
+}
+
+// Makes the next step of the least caller that can make one; tells whether there is one.
+fn advance_least<P: Port, C: Caller>(parts: &mut CoreParts<'_, P, C>) -> bool
+    requires core { IsCore P.Port C.Caller parts.old }
+    ensures core { IsCore P.Port C.Caller parts.new }
+    ensures made { result ≡ true → HasMadeLeast P.Port C.Caller parts.old parts.new }
+    ensures none { result ≡ false → (parts.new ≡ parts.old) × AllHeldUp parts.old }
+{
+    for number in 0..8u8 {
+        if parts.places[usize::from(number)].is_some() && advance(parts, number) {
+            return true;
+        }
+    }
+    false
 }
 
 /// Steps the least caller that can make a step, until none can: then each script is used up.
@@ -39,9 +53,7 @@ pub fn finish<P: Port, C: Caller>(parts: &mut CoreParts<'_, P, C>)
     ensures keeps { (words : List ℕ) → KeepsSchedule P.Port C.Caller words [] parts.old → KeepsSchedule P.Port C.Caller words [] parts.new }
 {
     a_loop_follows();
-    while let Some(number) = ready(parts) {
-        advance(parts, number);
-    }
+    'steps: while advance_least(parts) {}
 }
 
 /// Steps the callers by a schedule of their numbers, a word of a caller that is blocked or used up passed over; and

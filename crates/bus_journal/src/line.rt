@@ -131,6 +131,7 @@ fn push_cut(out: &mut Vec<u8>, cut: Cut) -> Result<(), NoMemory>
 }
 
 // The front of an entry's line: its word, its caller and a further word.
+#[inline(always)]
 fn push_front(out: &mut Vec<u8>, word: &[u8], caller: u8, next: &[u8]) -> Result<(), NoMemory>
     ensures { OnOk result (out.new.items ≡ out.old.items ++ (word.now ++ (decimal caller ++ next.now))) }
 {

@@ -5,6 +5,7 @@ ghost use Rattle.bus_spec.specs.Lines.{hex_digit, two_digits, joined, spaced, sp
 use i2c_base::NoMemory;
 
 /// Puts bytes at the end of a text.
+#[inline(always)]
 pub fn push_bytes(out: &mut Vec<u8>, bytes: &[u8]) -> Result<(), NoMemory>
     ensures { OnOk result (out.new.items ≡ out.old.items ++ bytes.now) }
 {
@@ -12,15 +13,29 @@ pub fn push_bytes(out: &mut Vec<u8>, bytes: &[u8]) -> Result<(), NoMemory>
     Ok(())
 }
 
-/// Puts a number in decimal at the end of a text, digit by digit.
-#[tactic(auto, using(std::proofs::lemmas::Fmt::decimal_digit, crate::proofs::Decimal::digits_more))]
+/// Puts a number in decimal at the end of a text.
+#[inline(always)]
+#[tactic(auto, using(std::proofs::lemmas::Fmt::decimal_digit))]
 pub fn push_number(out: &mut Vec<u8>, number: u64) -> Result<(), NoMemory>
     ensures { OnOk result (out.new.items ≡ out.old.items ++ decimal number) }
 {
     if number < 10 {
         out.push(b'0' + number as u8)?;
+        Ok(())
     } else {
-        push_number(out, number / 10)?;
+        push_digits(out, number)
+    }
+}
+
+// .. digit by digit.
+#[tactic(auto, using(std::proofs::lemmas::Fmt::decimal_digit, crate::proofs::Decimal::digits_more))]
+fn push_digits(out: &mut Vec<u8>, number: u64) -> Result<(), NoMemory>
+    ensures { OnOk result (out.new.items ≡ out.old.items ++ decimal number) }
+{
+    if number < 10 {
+        out.push(b'0' + number as u8)?;
+    } else {
+        push_digits(out, number / 10)?;
         out.push(b'0' + (number % 10) as u8)?;
     }
     Ok(())

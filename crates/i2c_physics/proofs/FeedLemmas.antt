@@ -36,14 +36,10 @@ module _ {X : Type 0} (t : Table X) (e : Event) (told numbers : List ℕ) (xs ys
   pub fed-on : (new kept : List X) → kept ≡ new → new ≡ feed t (to_those told e) 0 ys → kept ≡ feed t (to_those numbers e) 0 xs
   fed-on new kept is fed = is ∙ fed ∙ ap (λ ns. feed t (to_those ns e) 0 ys) same_numbers ∙ ap (feed t (to_those numbers e) 0) same
 
-  pub said-on : (r : Together) → r ≡ together_of (answers t (to_those told e) 0 ys) → r ≡ together_of (answers t (to_those numbers e) 0 xs)
-  said-on r said = said ∙ ap (λ ns. together_of (answers t (to_those ns e) 0 ys)) same_numbers ∙ ap (λ zs. together_of (answers t (to_those numbers e) 0 zs)) same
+  pub said-on : {A : Type 0} (R : List (ℕ × Answer) → A) (r : A) → r ≡ R (answers t (to_those told e) 0 ys) → r ≡ R (answers t (to_those numbers e) 0 xs)
+  said-on R r said = said ∙ ap (λ ns. R (answers t (to_those ns e) 0 ys)) same_numbers ∙ ap (λ zs. R (answers t (to_those numbers e) 0 zs)) same
 
--- a list that is made of the chips, the places and the numbers; a start is told to two lists
-pub all-on : {A : Type 0} (F : List ChipView → List PlaceView → List ℕ → A) {cs cs' : List ChipView} {ps ps' : List PlaceView} {ns ns' : List ℕ}
-    → cs ≡ cs' → ps ≡ ps' → ns ≡ ns' → F cs ps ns ≡ F cs' ps' ns'
-all-on F {cs} {cs'} {ps} {ps'} {ns} {ns'} e f g = ap (λ x. F x ps ns) e ∙ ap (λ x. F cs' x ns) f ∙ ap (F cs' ps') g
-
+-- a start is told to two lists
 module _ {X : Type 0} (t : Table X) (e : Event) {told calls : List ℕ} {ys xs : List X} (same_called : told ≡ calls) (same : ys ≡ xs) where
   pub begun-on : (others_told rest : List ℕ) → others_told ≡ rest → (new kept : List X) → kept ≡ new
       → new ≡ feed t (to_those others_told event.Other) 0 (feed t (to_those told e) 0 ys)
@@ -53,14 +49,8 @@ module _ {X : Type 0} (t : Table X) (e : Event) {told calls : List ℕ} {ys xs :
       ∙ ap (λ ns. feed t (to_those rest event.Other) 0 (feed t (to_those ns e) 0 ys)) same_called
       ∙ ap (λ zs. feed t (to_those rest event.Other) 0 (feed t (to_those calls e) 0 zs)) same
 
-  pub heard-on : (r : Together) (heard : List ℕ) → r ≡ together_of (answers t (to_those told e) 0 ys) → heard ≡ r.heard.items
-      → heard ≡ numbers_of (answers t (to_those calls e) 0 xs)
-  heard-on r heard said is =
-      is ∙ ap (λ (j : Together). j.heard.items) said ∙ ap (λ ns. numbers_of (answers t (to_those ns e) 0 ys)) same_called
-      ∙ ap (λ zs. numbers_of (answers t (to_those calls e) 0 zs)) same
-
-pub either-on : {count n : ℕ} {started begun : List ℕ} (has : List ℕ) → count ≡ n → begun ≡ started → union_of count has begun ≡ union_of n has started
-either-on {count} {n} {started} {begun} has e f = ap (λ m. union_of m has begun) e ∙ ap (union_of n has) f
+pub either-on : {count n : ℕ} {has had started begun : List ℕ} → count ≡ n → has ≡ had → begun ≡ started → union_of count has begun ≡ union_of n had started
+either-on {count} {n} {has} {had} {started} {begun} e f g = ap (λ m. union_of m has begun) e ∙ ap (λ ns. union_of n ns begun) f ∙ ap (union_of n had) g
 
 pub start-by : {j k chips devices : Together} → j ≡ chips → k ≡ devices → start_answer j k ≡ start_answer chips devices
 start-by {j} {k} {chips} {devices} e f = ap (λ x. start_answer x k) e ∙ ap (start_answer chips) f
@@ -92,27 +82,28 @@ module _ (b : BoardView) (root : ℕ) (muxes places : List PlaceView) (chips : L
         ∙ sym (answers-states (to_devices world e) 0 states)
 
     module _ (new_chips : List ChipView) (new_states : List DeviceState) (chips_new : new_chips ≡ feed chip_table (to_those cr.hearing.items e) 0 chips)
-        (states_new : new_states ≡ feed device_table (to_those dr.hearing.items e) 0 states) where
-      pub sent-kept : IsSimWorld b root muxes places new_chips new_states cr dr
+        (states_new : new_states ≡ feed device_table (to_those dr.hearing.items e) 0 states) (rc rd : Reach)
+        (rcs : rc.started ≡ cr.started) (rch : rc.hearing ≡ cr.hearing) (rds : rd.started ≡ dr.started) (rdh : rd.hearing ≡ dr.hearing) where
+      pub sent-kept : IsSimWorld b root muxes places new_chips new_states rc rd
       sent-kept = record {
         plain = inv.plain;
         mux_places = inv.mux_places;
         device_places = inv.device_places;
         chips_are = ap length chips_new ∙ length-feed chip_table (to_those cr.hearing.items e) 0 chips ∙ inv.chips_are;
         devices_are = ap length states_new ∙ length-feed device_table (to_those dr.hearing.items e) 0 states ∙ inv.devices_are;
-        chips_reached = rw chips_new (reached-sent chip_table chips cr.started.items cr.hearing.items inv.chips_reached e);
-        devices_reached = rw states_new (reached-sent device_table states dr.started.items dr.hearing.items inv.devices_reached e);
+        chips_reached = rw (chips_new, rcs, rch) (reached-sent chip_table chips cr.started.items cr.hearing.items inv.chips_reached e);
+        devices_reached = rw (states_new, rds, rdh) (reached-sent device_table states dr.started.items dr.hearing.items inv.devices_reached e);
       }
 
-      pub sent-is : world_of b root new_chips new_states cr.hearing.items dr.hearing.items busy ≡ sent_on world e
+      pub sent-is : world_of b root new_chips new_states rc.hearing.items rd.hearing.items busy ≡ sent_on world e
       sent-is =
           let to_all = feed-same chip_table (to_chips world e) (to_those cr.hearing.items e) 0 chips (λ k at low. chip-hears world cr.hearing.items dr.hearing.items refl e k) in
           let all_states = feed-same device_table (to_devices world e) (to_those dr.hearing.items e) 0 states (λ k at low. device-hears world cr.hearing.items dr.hearing.items refl e k) in
           let all_devices : map target_state new_states ≡ feed state_table (to_devices world e) 0 (map target_state states) =
           ap (map target_state) (states_new ∙ all_states) ∙ sym (feed-states (to_devices world e) 0 states) in
           let all_chips = chips_new ∙ to_all in
-          ap (λ (cs : List ChipView). record world { chips = cs; devices = map target_state new_states }) all_chips
-          ∙ ap (λ (ds : List TargetState). record world { chips = feed chip_table (to_chips world e) 0 chips; devices = ds }) all_devices
+          rw (rch, rdh) (ap (λ (cs : List ChipView). record world { chips = cs; devices = map target_state new_states }) all_chips
+          ∙ ap (λ (ds : List TargetState). record world { chips = feed chip_table (to_chips world e) 0 chips; devices = ds }) all_devices)
 
   -- a stop
   module _ (new_chips : List ChipView) (new_states : List DeviceState)

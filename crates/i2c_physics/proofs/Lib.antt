@@ -6,6 +6,7 @@ pub mod PlaceLemmas
 pub mod PlugLemmas
 pub mod ReachLemmas
 pub mod RigLemmas
+pub mod SiteLemmas
 pub mod TogetherLemmas
 pub mod WorldLemmas
 pub mod TakeLemmas

@@ -6,7 +6,6 @@ use Rattle.i2c_base.specs.declared.event.Event.{Event}
 use Rattle.i2c_spec.specs.Chips.{chip_table}
 use Rattle.i2c_spec.specs.Targets.{state_table}
 use Rattle.i2c_spec.specs.World.{World, is_ack, is_slow, some_answer, and_of, answers, to_chips, to_devices}
-use Rattle.i2c_physics.specs.Heard.{numbers_of}
 use Rattle.i2c_physics.specs.declared.together.Together.{Together}
 
 abbrev pub together_of : List (ℕ × Answer) → Together
@@ -15,7 +14,6 @@ together_of xs =
       slow = some_answer is_slow xs;
       acked = some_answer is_ack xs;
       byte = and_of xs;
-      heard = record { items = numbers_of xs };
     }
 
 -- the answer of a start by what chips and devices answer

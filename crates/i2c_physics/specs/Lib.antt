@@ -1,6 +1,7 @@
 pub mod Heard
 pub mod Places
 pub mod Reach
+pub mod Sites
 pub mod Answering
 pub mod SimWorlds
 pub mod SimPorts

@@ -17,6 +17,7 @@ mod room;
 mod sim_port;
 mod sim_rig;
 mod sim_world;
+mod sites;
 mod together;
 
 pub use fail_port::FailPort;

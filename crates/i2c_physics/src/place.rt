@@ -58,11 +58,11 @@ impl Place {
     }
 
     /// The target has this address.
-    pub fn has(&self, addr: Addr) -> bool
-        ensures { result ≡ has_address addr self.now.addr }
+    pub fn is_at(&self, address: u8) -> bool
+        ensures { result ≡ has_address address self.now.addr }
     {
         match self.addr {
-            Some(own) => own == addr,
+            Some(own) => own.get() == address,
             None => false,
         }
     }

@@ -1,8 +1,9 @@
 ghost use Rattle.std.specs.Prelude.{◌≡◌, ◌<◌, ◌≤◌, ◌+◌, ◌++◌, ◌&&◌, ◌||◌, [], ◌∷◌, not, length, if◌then◌else◌};
 ghost use Rattle.std.specs.List.{filter, list_all};
-ghost use Rattle.i2c_physics.specs.Reach.{is_among, AreRising, joins_at, has_at, addressed, others, union_of};
+ghost use Rattle.i2c_physics.specs.Reach.{is_among, AreRising, joins_at, addressed, others, union_of};
 
 use crate::place::Place;
+use crate::sites::{Sites, is_at};
 use arrayvec::ArrayVec;
 use i2c_base::Addr;
 use tgt_mux::Chip;
@@ -13,61 +14,97 @@ const MOST: usize = 128;
 /// Numbers of targets of one kind, rising.
 pub type Numbers = ArrayVec<u16, MOST>;
 
-/// Which targets of one kind a message has reached, by number.
+/// Which targets of one kind a message has reached, by number. Its lists are made once, and written over by each call.
 #[derive(Drop)]
 pub struct Reach {
     /// Those that were started since their last stop.
     pub started: Numbers,
     /// Those of them that have heard the start of the message in progress.
     pub hearing: Numbers,
+    /// Those that the call in progress goes to.
+    pub told: Numbers,
+    /// The others: those that a start is an `Other` for, or those that a stop doesn't reach.
+    pub rest: Numbers,
+    /// For numbers that nobody asks for any more.
+    pub room: Numbers,
 }
 
 impl Reach {
-    /// Those that are left of a message that is over.
-    pub fn left(started: Numbers) -> Self
-        ensures started { result.started ≡ started }
+    /// No message has reached any target.
+    pub fn none() -> Self
+        ensures started { result.started.items ≡ [] }
         ensures hearing { result.hearing.items ≡ [] }
     {
         Reach {
-            started,
+            started: ArrayVec::new(),
             hearing: ArrayVec::new(),
+            told: ArrayVec::new(),
+            rest: ArrayVec::new(),
+            room: ArrayVec::new(),
         }
     }
 
-    /// A start is told of, to so many, and these have heard it.
-    pub fn follow(&mut self, count: usize, start: Start, heard: Numbers)
+    /// Finds whom a start at this address is told to: those that it calls, and the started ones that it is an `Other` for.
+    /// A target that wasn't started is quiet.
+    pub fn call(&mut self, chips: &[Chip], sites: &Sites, addr: Addr)
+        ensures told { self.new.told.items ≡ addressed chips.now sites.now addr }
+        ensures rest { self.new.rest.items ≡ others chips.now sites.now addr self.old.started.items }
+        ensures started { self.new.started ≡ self.old.started }
+    {
+        let started = self.started.as_slice();
+        addressed(chips, sites, addr, &mut self.told);
+        others(chips, sites.as_slice(), addr, started, &mut self.rest);
+    }
+
+    /// Finds which of the started ones a stop reaches, and which it doesn't.
+    pub fn part(&mut self, chips: &[Chip], sites: &Sites)
+        ensures told { self.new.told.items ≡ filter (joins_at chips.now sites.now) self.old.started.items }
+        ensures rest { self.new.rest.items ≡ filter (λ k. not (joins_at chips.now sites.now k)) self.old.started.items }
+    {
+        let started = self.started.as_slice();
+        parted(
+            chips,
+            sites.as_slice(),
+            started,
+            &mut self.told,
+            &mut self.rest,
+        );
+    }
+
+    /// Those that a start calls were started, of so many targets.
+    pub fn add_told(&mut self, count: usize)
         requires few { count ≤ 128 }
         requires started { AreRising 0 count self.old.started.items }
-        requires called { AreRising 0 count start.called.items }
-        ensures started { self.new.started.items ≡ union_of count self.old.started.items start.called.items }
-        ensures hearing { self.new.hearing ≡ heard }
+        requires told { AreRising 0 count self.old.told.items }
+        ensures started { self.new.started.items ≡ union_of count self.old.started.items self.old.told.items }
+        ensures hearing { self.new.hearing ≡ self.old.hearing }
     {
-        self.hearing = heard;
-        add_all(&mut self.started, count, start.called);
+        add_all(
+            &mut self.started,
+            count,
+            self.told.as_slice(),
+            &mut self.room,
+        );
+    }
+
+    /// A stop is over: nobody hears any more, and those are left that it didn't reach.
+    pub fn leave_rest(&mut self)
+        ensures started { self.new.started.items ≡ self.old.rest.items }
+        ensures hearing { self.new.hearing.items ≡ [] }
+    {
+        self.hearing.clear();
+        write_over(&mut self.started, self.rest.as_slice());
     }
 }
 
-/// Whom a start is told to, of one kind.
-#[derive(Drop)]
-pub struct Start {
-    /// Those that it calls.
-    pub called: Numbers,
-    /// Those of the others that it matters to: a target that wasn't started is quiet.
-    pub others: Numbers,
-}
-
-impl Start {
-    /// A start at this address.
-    pub fn of(chips: &[Chip], places: &[Place], addr: Addr, reach: &Reach) -> Self
-        requires places { length places.now ≤ 128 }
-        requires started { length reach.now.started.items ≤ 128 }
-        ensures called { result.called.items ≡ addressed chips.now places.now addr }
-        ensures others { result.others.items ≡ others chips.now places.now addr reach.now.started.items }
-    {
-        Start {
-            called: addressed(chips, places, addr),
-            others: others(chips, places, addr, reach.started.as_slice()),
-        }
+/// Puts these numbers in the place of those that a list had.
+fn write_over(list: &mut Numbers, numbers: &[u16])
+    requires { length numbers.now ≤ 128 }
+    ensures { list.new.items ≡ numbers.now }
+{
+    list.clear();
+    for number in numbers {
+        list.push(*number);
     }
 }
 
@@ -98,59 +135,53 @@ fn joins_at(chips: &[Chip], places: &[Place], number: u16) -> bool
     }
 }
 
-/// The target of this number has this address.
-fn has_at(addr: Addr, places: &[Place], number: u16) -> bool
-    ensures { result ≡ has_at addr places.now number }
-{
-    match places.get(usize::from(number)) {
-        Some(place) => place.has(addr),
-        None => false,
-    }
-}
-
-/// It is joined, and has this address. The address is looked at first, since nearly all have another.
-fn is_called(chips: &[Chip], places: &[Place], addr: Addr, number: u16) -> bool
-    ensures { result ≡ (has_at addr places.now number && joins_at chips.now places.now number) }
-{
-    has_at(addr, places, number) && joins_at(chips, places, number)
-}
-
 /// Those that a start at this address calls: they have it, and are joined.
-#[tactic(auto, using(crate::proofs::NumberLemmas::filter_more))]
-fn addressed(chips: &[Chip], places: &[Place], addr: Addr) -> Numbers
-    requires { length places.now ≤ 128 }
-    ensures { result.items ≡ addressed chips.now places.now addr }
+fn addressed(chips: &[Chip], sites: &Sites, addr: Addr, called: &mut Numbers)
+    ensures { called.new.items ≡ addressed chips.now sites.now addr }
 {
-    let mut numbers = ArrayVec::new();
-    for number in 0..places.len() as u16 {
-        let called = is_called(chips, places, addr, number);
-        push_if(&mut numbers, called, number);
+    joined(chips, sites.as_slice(), sites.at(addr), called);
+}
+
+/// Those of these numbers that are joined.
+fn joined(chips: &[Chip], places: &[Place], numbers: &[u16], joined: &mut Numbers)
+    requires { length numbers.now ≤ 128 }
+    ensures { joined.new.items ≡ filter (joins_at chips.now places.now) numbers.now }
+{
+    joined.clear();
+    for number in numbers {
+        if joins_at(chips, places, *number) {
+            joined.push(*number);
+        }
     }
-    numbers
 }
 
 /// Those of these numbers that are joined and have another address.
-fn others(chips: &[Chip], places: &[Place], addr: Addr, numbers: &[u16]) -> Numbers
+fn others(chips: &[Chip], places: &[Place], addr: Addr, numbers: &[u16], rest: &mut Numbers)
     requires { length numbers.now ≤ 128 }
-    ensures { result.items ≡ others chips.now places.now addr numbers.now }
+    ensures { rest.new.items ≡ others chips.now places.now addr numbers.now }
 {
-    let mut others = ArrayVec::new();
+    rest.clear();
     for number in numbers {
-        if !has_at(addr, places, *number) && joins_at(chips, places, *number) {
-            others.push(*number);
+        if !is_at(places, *number, addr.get()) && joins_at(chips, places, *number) {
+            rest.push(*number);
         }
     }
-    others
 }
 
 /// Those of these numbers that are joined, and those that aren't.
-pub fn parted(chips: &[Chip], places: &[Place], numbers: &[u16]) -> (Numbers, Numbers)
+fn parted(
+    chips: &[Chip],
+    places: &[Place],
+    numbers: &[u16],
+    joined: &mut Numbers,
+    apart: &mut Numbers,
+)
     requires { length numbers.now ≤ 128 }
-    ensures joined { result.0.items ≡ filter (joins_at chips.now places.now) numbers.now }
-    ensures apart { result.1.items ≡ filter (λ k. not (joins_at chips.now places.now k)) numbers.now }
+    ensures joined { joined.new.items ≡ filter (joins_at chips.now places.now) numbers.now }
+    ensures apart { apart.new.items ≡ filter (λ k. not (joins_at chips.now places.now k)) numbers.now }
 {
-    let mut joined = ArrayVec::new();
-    let mut apart = ArrayVec::new();
+    joined.clear();
+    apart.clear();
     for number in numbers {
         if joins_at(chips, places, *number) {
             joined.push(*number);
@@ -158,7 +189,6 @@ pub fn parted(chips: &[Chip], places: &[Place], numbers: &[u16]) -> (Numbers, Nu
             apart.push(*number);
         }
     }
-    (joined, apart)
 }
 
 /// These numbers are all among the others.
@@ -170,16 +200,17 @@ fn has_all(numbers: &[u16], others: &[u16]) -> bool
 
 /// Adds these numbers, of so many. Only where there are some of both is more to be looked at than the two lists.
 #[tactic(auto, using(crate::proofs::NumberLemmas::either_none, crate::proofs::NumberLemmas::either_has))]
-fn add_all(numbers: &mut Numbers, count: usize, added: Numbers)
+fn add_all(numbers: &mut Numbers, count: usize, added: &[u16], room: &mut Numbers)
     requires few { count ≤ 128 }
     requires numbers { AreRising 0 count numbers.old.items }
-    requires added { AreRising 0 count added.items }
-    ensures { numbers.new.items ≡ union_of count numbers.old.items added.items }
+    requires added { AreRising 0 count added.now }
+    ensures { numbers.new.items ≡ union_of count numbers.old.items added.now }
 {
     if numbers.len() == 0 {
-        *numbers = added;
-    } else if !has_all(numbers.as_slice(), added.as_slice()) {
-        *numbers = union_of(count, numbers.as_slice(), added.as_slice());
+        write_over(numbers, added);
+    } else if !has_all(numbers.as_slice(), added) {
+        union_of(count, numbers.as_slice(), added, room);
+        write_over(numbers, room.as_slice());
     }
 }
 
@@ -191,14 +222,13 @@ fn is_in_either(first: &[u16], second: &[u16], number: u16) -> bool
 
 /// Those of either list, rising, of so many.
 #[tactic(auto, using(crate::proofs::NumberLemmas::filter_more))]
-fn union_of(count: usize, first: &[u16], second: &[u16]) -> Numbers
+fn union_of(count: usize, first: &[u16], second: &[u16], numbers: &mut Numbers)
     requires { count ≤ 128 }
-    ensures { result.items ≡ union_of count first.now second.now }
+    ensures { numbers.new.items ≡ union_of count first.now second.now }
 {
-    let mut numbers = ArrayVec::new();
+    numbers.clear();
     for number in 0..count as u16 {
         let found = is_in_either(first, second, number);
-        push_if(&mut numbers, found, number);
+        push_if(numbers, found, number);
     }
-    numbers
 }

@@ -9,10 +9,10 @@ ghost use Rattle.i2c_outside.specs.Devices.{target_state};
 ghost use Rattle.i2c_physics.specs.Answering.{chips_say, devices_say};
 ghost use Rattle.i2c_physics.specs.SimRigs.{without};
 
-use crate::place::{Place, device_places, mux_places};
-use crate::reach::{Reach, Start, parted};
-use crate::together::{Together, answer_of, begin, tell};
-use arrayvec::ArrayVec;
+use crate::place::{device_places, mux_places};
+use crate::reach::Reach;
+use crate::sites::Sites;
+use crate::together::{Together, answer_of, begin, end, pass_on};
 use i2c_base::{Addr, Answer, DeviceSpec, Event, MuxId, MuxSpec, NoMemory, SegId};
 use i2c_board::Accepted;
 use i2c_outside::DeviceState;
@@ -30,8 +30,8 @@ use tgt_mux::Chip;
 pub struct SimWorld {
     board: Snapshot<Accepted>,
     root: SegId,
-    mux_places: Vec<Place>,
-    device_places: Vec<Place>,
+    mux_places: Sites,
+    device_places: Sites,
     chips: Vec<Chip>,
     devices: Vec<DeviceState>,
     /// Which chips, and which devices, a message has reached.
@@ -51,7 +51,7 @@ impl Model for SimWorld {
 
     ghost view = { λ w. record { board = w.board.value; root = w.root; chips = w.chips.items; devices = map target_state w.devices.items; hearing = nodes_of w.chip_reach.hearing.items w.device_reach.hearing.items; busy = w.busy } };
 
-    ghost invariant = { λ w. IsSimWorld w.board.value w.root w.mux_places.items w.device_places.items w.chips.items w.devices.items w.chip_reach w.device_reach };
+    ghost invariant = { λ w. IsSimWorld w.board.value w.root w.mux_places w.device_places w.chips.items w.devices.items w.chip_reach w.device_reach };
 }
 
 impl SimWorld {
@@ -64,12 +64,12 @@ impl SimWorld {
         Ok(SimWorld {
             board: Snapshot::of(board),
             root,
-            mux_places: mux_places(alloc, layout, root)?,
-            device_places: device_places(alloc, layout, root)?,
+            mux_places: Sites::of(alloc, mux_places(alloc, layout, root)?)?,
+            device_places: Sites::of(alloc, device_places(alloc, layout, root)?)?,
             chips: open_chips(alloc, layout.muxes)?,
             devices: open_devices(alloc, layout.devices)?,
-            chip_reach: Reach::left(ArrayVec::new()),
-            device_reach: Reach::left(ArrayVec::new()),
+            chip_reach: Reach::none(),
+            device_reach: Reach::none(),
             busy: false,
         })
     }
@@ -93,17 +93,12 @@ impl SimWorld {
     {
         // What is joined is taken from the chips as they are before any of them has its event.
         let chips = self.chips.as_slice();
-        let to_chips = Start::of(chips, &self.mux_places, addr, &self.chip_reach);
-        let to_devices = Start::of(chips, &self.device_places, addr, &self.device_reach);
-        let chips = begin(&mut self.chips, &to_chips, reading);
-        let devices = begin(&mut self.devices, &to_devices, reading);
-        let answer = answer_of(&chips, &devices);
-        self.chip_reach
-            .follow(self.chips.len(), to_chips, chips.heard);
-        self.device_reach
-            .follow(self.devices.len(), to_devices, devices.heard);
+        self.chip_reach.call(chips, &self.mux_places, addr);
+        self.device_reach.call(chips, &self.device_places, addr);
+        let chips = begin(&mut self.chips, &mut self.chip_reach, reading);
+        let devices = begin(&mut self.devices, &mut self.device_reach, reading);
         self.busy = true;
-        answer
+        answer_of(chips, devices)
     }
 
     /// A byte is put. Whether someone acknowledges it.
@@ -129,20 +124,10 @@ impl SimWorld {
         ensures { self.new ≡ world.after self.old call.Stop }
     {
         let chips = self.chips.as_slice();
-        let (stopped_chips, left_chips) = parted(
-            chips,
-            &self.mux_places,
-            self.chip_reach.started.as_slice(),
-        );
-        let (stopped_devices, left_devices) = parted(
-            chips,
-            &self.device_places,
-            self.device_reach.started.as_slice(),
-        );
-        let _chips = tell(&mut self.chips, stopped_chips.as_slice(), Event::Stop);
-        let _devices = tell(&mut self.devices, stopped_devices.as_slice(), Event::Stop);
-        self.chip_reach = Reach::left(left_chips);
-        self.device_reach = Reach::left(left_devices);
+        self.chip_reach.part(chips, &self.mux_places);
+        self.device_reach.part(chips, &self.device_places);
+        end(&mut self.chips, &mut self.chip_reach);
+        end(&mut self.devices, &mut self.device_reach);
         self.busy = false;
         // What was stopped is quiet, as is what is opened.
         chips_are_fair();
@@ -162,12 +147,8 @@ impl SimWorld {
         ensures small { result.1.byte < 256 }
         ensures after { self.new ≡ world.sent_on self.old event }
     {
-        let chips = tell(&mut self.chips, self.chip_reach.hearing.as_slice(), event);
-        let devices = tell(
-            &mut self.devices,
-            self.device_reach.hearing.as_slice(),
-            event,
-        );
+        let chips = pass_on(&mut self.chips, &mut self.chip_reach, event);
+        let devices = pass_on(&mut self.devices, &mut self.device_reach, event);
         (chips, devices)
     }
 }

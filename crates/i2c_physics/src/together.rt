@@ -1,16 +1,16 @@
-ghost use Rattle.std.specs.Prelude.{◌≡◌, ℕ, ◌+◌, ◌<◌, ◌≤◌, List, [], ◌∷◌, length};
+ghost use Rattle.std.specs.Prelude.{◌≡◌, ℕ, ◌+◌, ◌<◌, ◌≤◌, List, [], ◌∷◌, length, if◌then◌else◌};
 ghost use Rattle.i2c_base.specs.declared.event.Event.TheVariants as event;
 ghost use Rattle.i2c_base.specs.declared.event.Answer.{Answer};
-ghost use Rattle.i2c_spec.specs.World.{answers, feed, byte_of};
-ghost use Rattle.i2c_physics.specs.Reach.{AreRising, to_those};
+ghost use Rattle.i2c_spec.specs.World.{answers, feed, byte_of, has_heard};
+ghost use Rattle.i2c_physics.specs.Heard.{numbers_of};
+ghost use Rattle.i2c_physics.specs.Reach.{AreRising, to_those, union_of};
 ghost use Rattle.i2c_physics.specs.Answering.{together_of, start_answer};
 
-use crate::reach::{Numbers, Start};
-use arrayvec::ArrayVec;
+use crate::reach::{Numbers, Reach};
 use i2c_base::{Answer, Event, Target};
 
 /// What several targets answer to a call together.
-#[derive(Drop)]
+#[derive(Clone, Copy)]
 pub struct Together {
     /// Someone holds the clock for too long.
     pub slow: bool,
@@ -18,8 +18,6 @@ pub struct Together {
     pub acked: bool,
     /// The bitwise AND of what is sent.
     pub byte: u8,
-    /// The numbers of those who acknowledge, or hold the clock to do so.
-    pub heard: Numbers,
 }
 
 impl Together {
@@ -31,28 +29,33 @@ impl Together {
             slow: false,
             acked: false,
             byte: 0xff,
-            heard: ArrayVec::new(),
         }
     }
 
     /// With the answer of one more target before the others.
-    fn add(&mut self, number: u16, answer: Answer)
-        requires { length self.old.heard.items < 128 }
-        ensures told { (xs : List (ℕ × Answer)) → self.old ≡ together_of xs → self.new ≡ together_of ((number, answer) ∷ xs) }
-        ensures room { length self.new.heard.items ≤ length self.old.heard.items + 1 }
+    fn add(&mut self, answer: Answer)
+        ensures { (k : ℕ) (xs : List (ℕ × Answer)) → self.old ≡ together_of xs → self.new ≡ together_of ((k, answer) ∷ xs) }
     {
         self.byte = sent(answer) & self.byte;
         match answer {
-            Answer::Ack => {
-                self.acked = true;
-                self.heard.insert(0, number);
-            }
-            Answer::Slow => {
-                self.slow = true;
-                self.heard.insert(0, number);
-            }
+            Answer::Ack => self.acked = true,
+            Answer::Slow => self.slow = true,
             Answer::Nack | Answer::Byte(_) | Answer::Nothing => {}
         }
+    }
+}
+
+/// Puts the number of a target before the others, where it acknowledges or holds the clock to do so.
+fn hear(heard: &mut Numbers, number: u16, answer: Answer)
+    requires { length heard.old.items < 128 }
+    ensures items { heard.new.items ≡ (if has_heard answer then number ∷ heard.old.items else heard.old.items) }
+    ensures room { length heard.new.items ≤ length heard.old.items + 1 }
+{
+    match answer {
+        // Nearly always it is the only one.
+        Answer::Ack | Answer::Slow if heard.len() == 0 => heard.push(number),
+        Answer::Ack | Answer::Slow => heard.insert(0, number),
+        Answer::Nack | Answer::Byte(_) | Answer::Nothing => {}
     }
 }
 
@@ -66,15 +69,22 @@ fn sent(answer: Answer) -> u8
     }
 }
 
-/// Tells those targets of an event whose numbers these are, and joins what they answer. It goes from the last one back, so
-/// that those who have heard come out by number.
-pub fn tell<T: Target>(targets: &mut [T], numbers: &[u16], event: Event) -> Together
+/// Tells those targets of an event whose numbers these are, joins what they answer, and lists who has heard. It goes from
+/// the last one back, so that those come out by number.
+pub fn tell<T: Target>(
+    targets: &mut [T],
+    numbers: &[u16],
+    event: Event,
+    heard: &mut Numbers,
+) -> Together
     requires few { length targets.old ≤ 128 }
     requires rising { AreRising 0 (length targets.old) numbers.now }
     ensures fed { targets.new ≡ feed T.table (to_those numbers.now event) 0 targets.old }
     ensures answered { result ≡ together_of (answers T.table (to_those numbers.now event) 0 targets.old) }
+    ensures heard { heard.new.items ≡ numbers_of (answers T.table (to_those numbers.now event) 0 targets.old) }
 {
     let mut together = Together::silence();
+    heard.clear();
     let mut left = numbers.len();
     while left > 0 {
         left -= 1;
@@ -82,27 +92,58 @@ pub fn tell<T: Target>(targets: &mut [T], numbers: &[u16], event: Event) -> Toge
         let is_there = usize::from(number) < targets.len();
         prove!(is_there);
         let answer = targets[usize::from(number)].on(event);
-        together.add(number, answer);
+        together.add(answer);
+        hear(heard, number, answer);
     }
     together
 }
 
 /// Tells of a start those that it calls, and those others that it matters to. What those that are called answer.
-pub fn begin<T: Target>(targets: &mut [T], start: &Start, reading: bool) -> Together
+pub fn begin<T: Target>(targets: &mut [T], reach: &mut Reach, reading: bool) -> Together
     requires few { length targets.old ≤ 128 }
-    requires called { AreRising 0 (length targets.old) start.now.called.items }
-    requires others { AreRising 0 (length targets.old) start.now.others.items }
-    ensures fed { targets.new ≡ feed T.table (to_those start.now.others.items event.Other) 0 (feed T.table (to_those start.now.called.items (event.Start reading)) 0 targets.old) }
-    ensures answered { result ≡ together_of (answers T.table (to_those start.now.called.items (event.Start reading)) 0 targets.old) }
+    requires started { AreRising 0 (length targets.old) reach.old.started.items }
+    requires told { AreRising 0 (length targets.old) reach.old.told.items }
+    requires rest { AreRising 0 (length targets.old) reach.old.rest.items }
+    ensures fed { targets.new ≡ feed T.table (to_those reach.old.rest.items event.Other) 0 (feed T.table (to_those reach.old.told.items (event.Start reading)) 0 targets.old) }
+    ensures answered { result ≡ together_of (answers T.table (to_those reach.old.told.items (event.Start reading)) 0 targets.old) }
+    ensures hearing { reach.new.hearing.items ≡ numbers_of (answers T.table (to_those reach.old.told.items (event.Start reading)) 0 targets.old) }
+    ensures started { reach.new.started.items ≡ union_of (length targets.old) reach.old.started.items reach.old.told.items }
 {
-    let together = tell(targets, start.called.as_slice(), Event::Start { reading });
-    let _others = tell(targets, start.others.as_slice(), Event::Other);
+    let start = Event::Start { reading };
+    let together = tell(targets, reach.told.as_slice(), start, &mut reach.hearing);
+    let other = Event::Other;
+    let _others = tell(targets, reach.rest.as_slice(), other, &mut reach.room);
+    reach.add_told(targets.len());
     together
 }
 
+/// Tells of a stop those that it reaches: they are started no more, and nobody hears any more.
+pub fn end<T: Target>(targets: &mut [T], reach: &mut Reach)
+    requires few { length targets.old ≤ 128 }
+    requires told { AreRising 0 (length targets.old) reach.old.told.items }
+    ensures fed { targets.new ≡ feed T.table (to_those reach.old.told.items event.Stop) 0 targets.old }
+    ensures started { reach.new.started.items ≡ reach.old.rest.items }
+    ensures hearing { reach.new.hearing.items ≡ [] }
+{
+    let _answered = tell(targets, reach.told.as_slice(), Event::Stop, &mut reach.room);
+    reach.leave_rest();
+}
+
+/// Tells those who have heard the start of the message of an event. What they answer.
+pub fn pass_on<T: Target>(targets: &mut [T], reach: &mut Reach, event: Event) -> Together
+    requires few { length targets.old ≤ 128 }
+    requires hearing { AreRising 0 (length targets.old) reach.old.hearing.items }
+    ensures fed { targets.new ≡ feed T.table (to_those reach.old.hearing.items event) 0 targets.old }
+    ensures answered { result ≡ together_of (answers T.table (to_those reach.old.hearing.items event) 0 targets.old) }
+    ensures started { reach.new.started ≡ reach.old.started }
+    ensures hearing { reach.new.hearing ≡ reach.old.hearing }
+{
+    tell(targets, reach.hearing.as_slice(), event, &mut reach.room)
+}
+
 /// The answer of a start, by what chips and devices answer.
-pub fn answer_of(chips: &Together, devices: &Together) -> Answer
-    ensures { result ≡ start_answer chips.now devices.now }
+pub fn answer_of(chips: Together, devices: Together) -> Answer
+    ensures { result ≡ start_answer chips devices }
 {
     if chips.slow || devices.slow {
         Answer::Slow

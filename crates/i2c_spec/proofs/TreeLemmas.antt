@@ -1,13 +1,15 @@
 -- The hops over a bus are a way up a tree. The inductions go over the muxes from the last one of the board back,
 -- each in two cases: the mux is crossed, or passed.
-use Rattle.std.proofs.Common.{◌≡◌, Bool, ℕ, zero, suc, ◌+◌, ◌<◌, ◌≤◌, ◌⊎◌, inl, inr, List, [], ◌∷◌, ◌++◌, length, reverse, take, Some, slice_get, refl, sym, ap, ◌∙◌, subst, arith}
+use Rattle.std.proofs.Common.{◌≡◌, ◌==◌, ◌||◌, Bool, false, ℕ, zero, suc, ◌+◌, ◌<◌, ◌≤◌, ◌⊎◌, inl, inr, List, [], ◌∷◌, ◌++◌, length, reverse, take, Some, slice_get, refl, sym, ap, ◌∙◌, subst, arith}
 use Rattle.std.proofs.lemmas.List.{reverse-append, length-reverse, reverse-reverse, take-append-le, take_all}
+use Rattle.std.specs.List.{list_any}
 use Rattle.std.proofs.lemmas.Bool.{cases_lt}
+use Rattle.std.proofs.lemmas.Bool.Decides.{eqb_tells}
 use Rattle.std.proofs.lemmas.Option.{slice_get_within, same_Some}
 use Rattle.i2c_base.specs.declared.board.MuxKind.{MuxKind}
 use Rattle.i2c_base.specs.declared.board.MuxSpec.{MuxSpec}
 use Rattle.i2c_base.specs.Board.{BoardView}
-use Rattle.i2c_spec.specs.Tree.{of_mux, Hop, hops, buses, buses_of, hop_at, hops_of, end_of, root_of, is_parent, Crosses, IsAmongHops, IsApart, IsOver}
+use Rattle.i2c_spec.specs.Tree.{of_mux, Hop, hops, buses, buses_of, hop_at, hops_of, end_of, root_of, is_parent, Crosses, IsAmongHops, IsApart, IsOver, is_below}
 use Rattle.i2c_spec.specs.Plain.{IsPlanted}
 use Rattle.i2c_spec.specs.TreeFacts.{IsHop}
 use Rattle.i2c_spec.proofs.HopLemmas.{buses_of-cons, buses_of-reverse, hops_of-cross, hops_of-pass}
@@ -192,6 +194,19 @@ module _ (b : BoardView) (planted : IsPlanted (length b.roots) (reverse b.muxes)
 
   pub tree_tail : (s : ℕ) (h : Hop) (hs : List Hop) → hops b s ≡ h ∷ hs → hops b h.on ≡ hs
   tree_tail s h hs e = tail_of (length b.roots) (reverse b.muxes) s h hs planted e
+
+  -- no bus over a bus has its number or a greater one
+  above_none : (hs : List Hop) (s u : ℕ) → hops b s ≡ hs → s ≤ u → list_any (λ h. h.on == u) hs ≡ false
+  above_none [] s u e low = refl
+  above_none (h ∷ hs) s u e low =
+      let leads = (tree_leads s h hs e).1 in
+      elim (eqb_tells h.on u) [
+        | inl same ↦ (let is = same.1 in absurd (omega (arith, is, leads, low)))
+        | inr other ↦ ap (λ (t : Bool). t || list_any (λ g. g.on == u) hs) other.0 ∙ above_none hs h.on u (tree_tail s h hs e) (omega (arith, leads, low))
+      ]
+
+  pub tree_above : (s u : ℕ) → s ≤ u → is_below b s u ≡ false
+  tree_above s u low = above_none (hops b s) s u refl low
 
   pub tree_apart : (s : ℕ) → IsApart (hops b s)
   tree_apart s = apart_of (length b.roots) (reverse b.muxes) s planted

@@ -37,3 +37,4 @@ pub use target_rows::{
     each_read_of_an_lm75_begins_at_the_high_byte, the_high_byte_of_a_place_comes_first,
     the_low_byte_of_a_limit_keeps_its_highest_bit,
 };
+pub use tree::end_of;

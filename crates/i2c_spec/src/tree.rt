@@ -1,4 +1,5 @@
 ghost use Rattle.std.specs.Prelude.{◌≡◌, slice_get, option_copied};
+ghost use Rattle.i2c_spec.specs.Tree.{end_of};
 
 use crate::{Hop, Layout};
 use arrayvec::ArrayVec;
@@ -6,6 +7,17 @@ use i2c_base::{MuxId, MuxSpec, SegId, Way};
 
 /// An arbitrator that is so often found with its other controller stays there.
 const FOREIGN_FOR_GOOD: u8 = 8;
+
+/// The bus at the end of these hops from a bus, nearest first.
+#[tactic(auto, using(crate::proofs::HopLemmas::end_of_last))]
+pub fn end_of(seg: SegId, hops: &[Hop]) -> SegId
+    ensures { result ≡ end_of seg hops.now }
+{
+    match hops.last() {
+        Some(hop) => hop.on,
+        None => seg,
+    }
+}
 
 impl Layout<'_> {
     ghost use Rattle.i2c_spec.specs.Layouts.{board_of};
@@ -44,22 +56,21 @@ impl Layout<'_> {
     }
 
     /// The root that a bus hangs from.
-    #[tactic(auto, using(crate::proofs::HopLemmas::end_of_last))]
     pub fn root(&self, seg: SegId) -> SegId
         requires { IsPlainBoard (board_of self.now) }
         ensures { result ≡ root_of (board_of self.now) seg }
     {
-        match self.hops(seg).last() {
-            Some(hop) => hop.on,
-            None => seg,
-        }
+        end_of(seg, self.hops(seg).as_slice())
     }
 
-    /// Whether `high` is strictly over `low`.
+    /// Whether `high` is strictly over `low`: only where it has a smaller number.
     pub fn is_below(&self, low: SegId, high: SegId) -> bool
         requires { IsPlainBoard (board_of self.now) }
         ensures { result ≡ is_below (board_of self.now) low high }
     {
+        if low.0 <= high.0 {
+            return false;
+        }
         self.hops(low).iter().any(|hop| hop.on == high)
     }
 

@@ -1,5 +1,5 @@
 -- The callers of a run on their seats: what a core is opened with, and what it is when all are through.
-use Rattle.std.proofs.Common.{◌≡◌, ◌⊎◌, ℕ, zero, suc, ◌+◌, ◌<◌, ◌≤◌, IsTrue, List, [], ◌∷◌, length, map, reverse, All, Option, Some, None, inl, inr, refl, sym, ◌∙◌, ap, subst, arith}
+use Rattle.std.proofs.Common.{◌≡◌, ◌⊎◌, ℕ, zero, suc, ◌+◌, ◌<◌, ◌≤◌, true, IsTrue, List, [], ◌∷◌, length, map, reverse, All, Option, Some, None, inl, inr, refl, sym, ◌∙◌, ap, subst, arith}
 use Rattle.std.specs.Prelude.{slice_get}
 use Rattle.std.specs.List.{enumerate_from, range_with_len, sum_by}
 use Rattle.std.specs.Option.{option_map_or}
@@ -20,6 +20,7 @@ use Rattle.i2c_outside.specs.declared.port.Port.{Ghosts as PortGhosts}
 use Rattle.i2c_spec.specs.Fair.{IsFairCaller}
 use Rattle.i2c_spec.specs.History.{Asks}
 use Rattle.i2c_spec.specs.Plain.{IsPlainBoard}
+use Rattle.i2c_spec.specs.Rules.{MeetsRules}
 use Rattle.i2c_spec.specs.Tree.{root_of}
 use Rattle.i2c_spec.specs.World.{World, opening_world, openings}
 use Rattle.i2c_spec.proofs.TreeLemmas.{tree_root_is}
@@ -27,15 +28,16 @@ use Rattle.bus_spec.specs.Past.{now, world_at, calls_of}
 use Rattle.bus_spec.specs.Schedule.{Follows}
 use Rattle.bus_spec.specs.Stepwise.{IsStepwise}
 use Rattle.bus_spec.specs.Walk.{Ends}
-use Rattle.bus_core.specs.Kept.{IsCore, asks_in, roots_of}
-use Rattle.bus_core.specs.Opens.{MayOpen}
-use Rattle.bus_core.specs.Places.{script_of, scripts_of, script_at}
-use Rattle.bus_core.specs.Ready.{HasPlace}
-use Rattle.bus_core.specs.State.{AllThrough, IsThrough, state_of}
-use Rattle.bus_core.specs.declared.parts.CoreParts.{CoreParts}
+use Rattle.bus_core.specs.Kept.{roots_of}
+use Rattle.bus_core.specs.Opens.{MayOpen, callers_scripts}
+use Rattle.bus_core.specs.Places.{script_of, scripts_of, script_at, asks_of}
+use Rattle.bus_core.specs.State.{AllThrough, CoreState, CoreTold, IsThrough, has_caller, logs_of, taken_of, worlds_of}
+use Rattle.bus_core.specs.declared.bus.Parts.{Parts}
 use Rattle.bus_core.specs.declared.seat.Seat.{Seat}
 use Rattle.bus_core.proofs.Kept.{script-own}
 use Rattle.bus_core.proofs.Loops.{script-none}
+use Rattle.bus_core.proofs.Told.{has-by}
+use Rattle.bus_journal.specs.View.{JournalView}
 use Rattle.caller_core.specs.Callers.{IsOpened, board_of, owed_by}
 use Rattle.caller_core.specs.Scripts.{asked_by, left_of, cost_of_script}
 use Rattle.caller_core.specs.View.{ScriptView, CallerView}
@@ -144,21 +146,16 @@ module _ {P : Type 0} (g : PortGhosts P) (b : BoardView) (plain : IsPlainBoard b
       }
 
   -- each word of the schedule has its caller
-  pub words-placed : (x : CoreParts P CallerView) (words : List ℕ) → IsCore g script_row x → scripts_of script_row x.seats.items ≡ map (λ (y : ℕ × CallerView). (y.0, y.1.script)) (enumerate_from 0 scripts)
-      → All (λ c. c < length scripts) words → All (HasPlace x.places.items) words
-  words-placed x words core same named =
-      All-from_get_or (HasPlace x.places.items) words 0
+  pub words-placed : (words : List ℕ) → All (λ c. c < length scripts) words → All (λ n. has_caller (callers_scripts script_row (enumerate_from 0 scripts)) n ≡ true) words
+  words-placed words named =
+      All-from_get_or (λ n. has_caller (callers_scripts script_row (enumerate_from 0 scripts)) n ≡ true) words 0
       (λ i low.
       let w = has words i low in
       let is = get_or_from_slice_get words i w.0 0 w.1 in
       let below : w.0 < length scripts = all-at (λ c. c < length scripts) words i w.0 named w.1 in
       let s = has scripts w.0 below in
-      subst (λ (n : ℕ). HasPlace x.places.items n) (sym is)
-      (record {
-        place = w.0;
-        at = core.placed.named w.0 w.0 s.0.script
-            (ap (λ (ys : List (ℕ × ScriptView)). slice_get ys w.0) same ∙ at (λ (y : ℕ × CallerView). (y.0, y.1.script)) (enumerate_from 0 scripts) w.0 (w.0, s.0) (numbered-here w.0 s.0 s.1));
-      }))
+      subst (λ (n : ℕ). has_caller (callers_scripts script_row (enumerate_from 0 scripts)) n ≡ true) (sym is)
+      (has-by (callers_scripts script_row (enumerate_from 0 scripts)) w.0 w.0 s.0.script (at (λ (y : ℕ × CallerView). (y.0, y.1.script)) (enumerate_from 0 scripts) w.0 (w.0, s.0) (numbered-here w.0 s.0 s.1))))
     where
       numbered-here : (i : ℕ) (s : CallerView) → slice_get scripts i ≡ Some s → slice_get (enumerate_from 0 scripts) i ≡ Some (i, s)
       numbered-here i s here =
@@ -172,17 +169,38 @@ module _ {P : Type 0} (g : PortGhosts P) (b : BoardView) (plain : IsPlainBoard b
           y.1 ∙ ap (λ (k : ℕ). Some (k, y.0.1)) first ∙ ap (λ (t : CallerView). Some (i, t)) second
 
 -- a port for each root
-pub ports-count : {P : Type 0} (x : CoreParts P CallerView) (ports : List P) → roots_of x.ports.items ≡ roots_of (enumerate_from 0 ports) → length x.ports.items ≡ length ports
+pub ports-count : {P : Type 0} (x : Parts P CallerView) (ports : List P) → roots_of x.ports.items ≡ roots_of (enumerate_from 0 ports) → length x.ports.items ≡ length ports
 ports-count {P} x ports roots =
     sym (length-map x.ports.items (λ (q : ℕ × P). q.0)) ∙ ap length roots ∙ length-map (enumerate_from 0 ports) (λ (q : ℕ × P). q.0) ∙ length-enumerate_from 0 ports
 
-module _ {P : Type 0} (g : PortGhosts P) (x : CoreParts P CallerView) (scripts : List CallerView) (opened : AreOpened x.board.now scripts)
+module _ {P : Type 0} (g : PortGhosts P) (b : BoardView) (x : Parts P CallerView) (scripts : List CallerView) (opened : AreOpened b scripts)
     (same : scripts_of script_row x.seats.items ≡ map (λ (y : ℕ × CallerView). (y.0, y.1.script)) (enumerate_from 0 scripts)) where
   abbrev seats : List (Seat CallerView)
   seats = x.seats.items
 
-  abbrev b : BoardView
-  b = x.board.now
+  abbrev asks : Asks
+  asks = asks_of asked_by (scripts_of script_row seats)
+
+  -- the state of a core that these are left of
+  abbrev pub left : CoreState ScriptView → CoreState ScriptView
+  left v =
+      record v {
+        opening = record v.opening { board = b; scripts = scripts_of script_row seats };
+        taken = taken_of script_row seats;
+        journal = x.journal;
+        worlds = worlds_of g.world x.ports.items;
+        logs = logs_of g.log x.ports.items;
+      }
+
+  pub is-left : (v : CoreState ScriptView) → v.opening.board ≡ b → scripts_of script_row seats ≡ v.opening.scripts → taken_of script_row seats ≡ v.taken → x.journal ≡ v.journal
+      → worlds_of g.world x.ports.items ≡ v.worlds → logs_of g.log x.ports.items ≡ v.logs → v ≡ left v
+  is-left v board scripts_are taken journal worlds logs =
+      ap (λ (k : BoardView). record v { opening = record v.opening { board = k } }) board
+      ∙ ap (λ (ss : List (ℕ × ScriptView)). record v { opening = record v.opening { board = b; scripts = ss } }) (sym scripts_are)
+      ∙ ap (λ (ts : List (ℕ × List Reply)). record v { opening = record v.opening { board = b; scripts = scripts_of script_row seats }; taken = ts }) (sym taken)
+      ∙ ap (λ (j : JournalView). record v { opening = record v.opening { board = b; scripts = scripts_of script_row seats }; taken = taken_of script_row seats; journal = j }) (sym journal)
+      ∙ ap (λ (ws : List (ℕ × World)). record v { opening = record v.opening { board = b; scripts = scripts_of script_row seats }; taken = taken_of script_row seats; journal = x.journal; worlds = ws }) (sym worlds)
+      ∙ ap (λ (ls : List (ℕ × List PortCall)). record v { opening = record v.opening { board = b; scripts = scripts_of script_row seats }; taken = taken_of script_row seats; journal = x.journal; worlds = worlds_of g.world x.ports.items; logs = ls }) (sym logs)
 
   -- the seat of each number has the script of that number
   seat-at : (i : ℕ) (s : Seat CallerView) → slice_get seats i ≡ Some s → (s.number ≡ i) × (y : CallerView) × (slice_get scripts i ≡ Some y) × (s.caller.script ≡ y.script)
@@ -216,10 +234,10 @@ module _ {P : Type 0} (g : PortGhosts P) (x : CoreParts P CallerView) (scripts :
   text-at i s here = at (λ (t : CallerView). t.script.text) (callers_of x) i s.caller (at (λ (t : Seat CallerView). t.caller) seats i s here)
 
   -- they ask for what their texts ask for
-  asks-same : asks_in script_row x ≡ asks_by b (texts_of (callers_of x))
-  asks-same = same_asks (asks_in script_row x) (asks_by b (texts_of (callers_of x))) (λ c rs. by c rs (cases_lt c (length seats)))
+  asks-same : asks ≡ asks_by b (texts_of (callers_of x))
+  asks-same = same_asks asks (asks_by b (texts_of (callers_of x))) (λ c rs. by c rs (cases_lt c (length seats)))
     where
-      by : (c : ℕ) (rs : List Reply) → (c < length seats) ⊎ (length seats ≤ c) → asks_in script_row x c rs ≡ asks_by b (texts_of (callers_of x)) c rs
+      by : (c : ℕ) (rs : List Reply) → (c < length seats) ⊎ (length seats ≤ c) → asks c rs ≡ asks_by b (texts_of (callers_of x)) c rs
       by c rs (inl below) =
           let s = has seats c below in
           ap (λ (o : Option ScriptView). option_map_or (λ k. asked_by k rs) o None) (own-found c s.0 s.1)
@@ -238,17 +256,17 @@ module _ {P : Type 0} (g : PortGhosts P) (x : CoreParts P CallerView) (scripts :
           ∙ ap (λ (o : Option (List ℕ)). option_map_or (λ text. asked_by (script_on b text) rs) o None) (sym (slice_get_past (texts_of (callers_of x)) c (omega (arith, count, above))))
 
   -- a caller that is through
-  through-at : AllThrough asked_by g.tells (state_of g script_row x) → (c : ℕ) (s : CallerView) → slice_get (callers_of x) c ≡ Some s
-      → (asked_by (script_on b s.script.text) s.taken ≡ None) × IsThrough asked_by g.tells (state_of g script_row x) c s.taken
-  through-at through c s here =
+  through-at : (v : CoreState ScriptView) → AllThrough asked_by g.tells (left v) → (c : ℕ) (s : CallerView) → slice_get (callers_of x) c ≡ Some s
+      → (asked_by (script_on b s.script.text) s.taken ≡ None) × IsThrough asked_by g.tells (left v) c s.taken
+  through-at v through c s here =
       let y = from (λ (t : Seat CallerView). t.caller) seats c s here in
       let number = (seat-at c y.0 y.1).0 in
       let own = through c y.0.number y.0.caller.taken (at (λ (t : Seat CallerView). (t.number, t.caller.taken)) seats c y.0 y.1) in
-      let mine = subst (λ (n : ℕ). IsThrough asked_by g.tells (state_of g script_row x) n y.0.caller.taken) number own in
+      let mine = subst (λ (n : ℕ). IsThrough asked_by g.tells (left v) n y.0.caller.taken) number own in
       let done : asked_by (script_on b y.0.caller.script.text) y.0.caller.taken ≡ None =
       ap (λ (k : ScriptView). asked_by k y.0.caller.taken) (sym (own-script c y.0 y.1))
       ∙ sym (ap (λ (o : Option ScriptView). option_map_or (λ k. asked_by k y.0.caller.taken) o None) (own-found c y.0 y.1)) ∙ mine.asks in
-      subst (λ (t : CallerView). (asked_by (script_on b t.script.text) t.taken ≡ None) × IsThrough asked_by g.tells (state_of g script_row x) c t.taken) y.2 (done, mine)
+      subst (λ (t : CallerView). (asked_by (script_on b t.script.text) t.taken ≡ None) × IsThrough asked_by g.tells (left v) c t.taken) y.2 (done, mine)
 
   -- the port of a root
   port-at : (ports : List P) → roots_of x.ports.items ≡ roots_of (enumerate_from 0 ports) → (r : ℕ) → r < length ports → (p : ℕ × P) × (slice_get x.ports.items r ≡ Some p) × (p.0 ≡ r)
@@ -262,32 +280,32 @@ module _ {P : Type 0} (g : PortGhosts P) (x : CoreParts P CallerView) (scripts :
   past = reverse x.journal.entries
 
   -- THE END: all are through
-  pub core-over : (ports : List P) (words : List ℕ) → IsCore g script_row x → AllThrough asked_by g.tells (state_of g script_row x) → roots_of x.ports.items ≡ roots_of (enumerate_from 0 ports)
+  pub core-over : (ports : List P) (words : List ℕ) (v : CoreState ScriptView) → IsPlainBoard b → MeetsRules b → (IsTrue g.tells → CoreTold asked_by (left v)) → AllThrough asked_by g.tells (left v) → roots_of x.ports.items ≡ roots_of (enumerate_from 0 ports)
       → length ports ≡ length b.roots → Follows words x.journal.entries → IsTrue g.tells
       → IsOver b (callers_of x) MOST_CALLERS words x.journal.entries (map (λ (p : ℕ × P). g.world p.1) x.ports.items) (map (λ (p : ℕ × P). g.log p.1) x.ports.items)
-  core-over ports words core through roots count follows tells =
-      let told = core.kept.kept.told tells in
+  core-over ports words v plain rules core_told through roots count follows tells =
+      let told = core_told tells in
       record {
-        plain = core.kept.set_up.plain;
-        rules = core.kept.set_up.rules;
+        plain = plain;
+        rules = rules;
         stepwise = subst (λ (a : Asks). IsStepwise b MOST_CALLERS a past) asks-same told.stepwise;
         rests = subst (λ (a : Asks). (now b a past).due ≡ None) asks-same told.rests;
         followed = follows;
         taken = λ c s here.
-            subst (λ (a : Asks). s.taken ≡ (now b a past).settled c) asks-same (sym ((through-at through c s here).1.settled tells));
+            subst (λ (a : Asks). s.taken ≡ (now b a past).settled c) asks-same (sym ((through-at v through c s here).1.settled tells));
         ended = λ c s here.
-            subst (λ (a : Asks). (now b a past).walk c ≡ Ends) asks-same ((through-at through c s here).1.walk tells);
-        done = λ c s here. (through-at through c s here).0;
+            subst (λ (a : Asks). (now b a past).walk c ≡ Ends) asks-same ((through-at v through c s here).1.walk tells);
+        done = λ c s here. (through-at v through c s here).0;
         worlds_count = length-map x.ports.items (λ (p : ℕ × P). g.world p.1) ∙ ports-count x ports roots ∙ count;
         world = λ r low.
             let p = port-at ports roots r (omega (arith, low, count)) in
             at (λ (q : ℕ × P). g.world q.1) x.ports.items r p.0 p.1
             ∙ ap (λ (w : World). Some w) (subst (λ (a : Asks). g.world p.0.1 ≡ world_at b a past r) asks-same
-            (subst (λ (k : ℕ). g.world p.0.1 ≡ (now b (asks_in script_row x) past).worlds k) p.2 (told.ports_told r _ (at _ x.ports.items r p.0 p.1)).world));
+            (told.worlds r r (g.world p.0.1) (at (λ (q : ℕ × P). (q.0, g.world q.1)) x.ports.items r p.0 p.1 ∙ ap (λ (k : ℕ). Some (k, g.world p.0.1)) p.2)));
         logs_count = length-map x.ports.items (λ (p : ℕ × P). g.log p.1) ∙ ports-count x ports roots ∙ count;
         log = λ r low.
             let p = port-at ports roots r (omega (arith, low, count)) in
             at (λ (q : ℕ × P). g.log q.1) x.ports.items r p.0 p.1
             ∙ ap (λ (w : List PortCall). Some w) (subst (λ (a : Asks). g.log p.0.1 ≡ calls_of b a past r) asks-same
-            (subst (λ (k : ℕ). g.log p.0.1 ≡ reverse ((now b (asks_in script_row x) past).calls k)) p.2 (told.ports_told r _ (at _ x.ports.items r p.0 p.1)).log));
+            (told.logs r r (g.log p.0.1) (at (λ (q : ℕ × P). (q.0, g.log q.1)) x.ports.items r p.0 p.1 ∙ ap (λ (k : ℕ). Some (k, g.log p.0.1)) p.2)));
       }

@@ -19,7 +19,7 @@ use Rattle.bus_spec.specs.Legal.{IsLegal, IsComplete}
 use Rattle.bus_spec.specs.Stepwise.{IsStepwise}
 use Rattle.bus_spec.specs.Schedule.{Follows}
 use Rattle.bus_spec.specs.Report.{report_of}
-use Rattle.bus_core.specs.declared.parts.CoreParts.{CoreParts}
+use Rattle.bus_core.specs.declared.bus.Parts.{Parts}
 use Rattle.bus_core.specs.declared.seat.Seat.{Seat}
 use Rattle.caller_core.specs.Callers.{IsOpened}
 use Rattle.caller_core.specs.Scripts.{asked_by, commands_of, cost_of_script, section_text}
@@ -57,8 +57,8 @@ cost_of_texts b texts = sum_by (λ text. cost_of_script (script_on b text)) text
 abbrev pub MOST_COST : ℕ
 MOST_COST = 1000000
 
--- the callers of a core, in the order of their seats
-abbrev pub callers_of : {P : Type 0} → CoreParts P CallerView → List CallerView
+-- the callers of a core that was taken apart, in the order of their seats
+abbrev pub callers_of : {P : Type 0} → Parts P CallerView → List CallerView
 callers_of parts = map (λ (s : Seat CallerView). s.caller) parts.seats.items
 
 -- the callers of a run that is over, on an accepted board, the worlds and the logs of its ports, and its journal, which was

@@ -4,14 +4,13 @@ ghost use Rattle.i2c_base.specs.Limits.{MOST_ROOTS, MOST_CALLERS};
 ghost use Rattle.i2c_base.specs.declared.port.Phase.{Phase};
 ghost use Rattle.i2c_outside.specs.Causes.{Rose, counted};
 ghost use Rattle.i2c_spec.specs.World.{openings};
-ghost use Rattle.bus_core.specs.Kept.{IsCore};
 ghost use Rattle.i2c_top.specs.Runs.{AreOpened, texts_of, cost_of_texts, callers_of, MOST_COST, IsOver, HasRun};
 ghost use Rattle.i2c_top.specs.declared.status.Status.TheVariants as status;
 
 use crate::Status;
 use crate::cost::cost_of;
 use crate::report::report_of_callers;
-use bus_core::{CoreParts, follow, open};
+use bus_core::{BusCore, Parts};
 use caller_core::{Script, scripts_are_fair};
 use i2c_base::{NoMemory, SegId};
 use i2c_board::Accepted;
@@ -58,14 +57,14 @@ fn alone<P: Port>(ports: Vec<(SegId, P)>, room: Vec<P>) -> Vec<P>
     alone
 }
 
-// The core when the callers have followed the schedule and each script is used up.
-fn finished<'b, P: Port>(
+// What is left of the core when the callers have followed the schedule and each script is used up.
+fn finished<P: Port>(
     alloc: Global,
-    board: &'b Accepted,
+    board: &Accepted,
     scripts: Vec<Script>,
     words: &[u8],
     ports: Vec<P>,
-) -> Result<CoreParts<'b, P, Script>, NoMemory>
+) -> Result<Parts<P, Script>, NoMemory>
     requires opened { AreOpened board.now scripts.items }
     requires few { length scripts.items ≤ MOST_CALLERS }
     requires named { All (λ c. c < length scripts.items) words.now }
@@ -83,9 +82,9 @@ fn finished<'b, P: Port>(
     let roots = board.board().roots().len();
     let ports = by_root(alloc, ports, roots)?;
     let callers = by_number(alloc, scripts)?;
-    let mut parts = open(alloc, board, ports, callers, limit)?;
-    follow(&mut parts, words);
-    Ok(parts)
+    let mut core = BusCore::open(alloc, board, ports, callers, limit)?;
+    core.follow(words);
+    Ok(core.take_apart())
 }
 
 /// Runs scripts over the ports of a rig, by a schedule that names the callers that are to step, and gives the report. A

@@ -1,6 +1,8 @@
 ghost use Rattle.std.specs.Prelude.{◌≡◌, ◌≢◌, ◌+◌, ◌<◌, ◌≤◌, ◌⊎◌, ℕ, true, false, List, [], ◌∷◌, length, drop, None, All, IfSome, IfNone, slice_index_or};
 ghost use Rattle.i2c_base.specs.Board.{BoardView};
+ghost use Rattle.i2c_base.specs.Limits.{MOST_DEPTH};
 ghost use Rattle.i2c_spec.specs.Messages.{MessageView};
+ghost use Rattle.i2c_spec.specs.Tree.{buses, hops, root_of};
 ghost use Rattle.bus_spec.specs.Walk.{JobOutcome, is_line};
 ghost use Rattle.bus_spec.specs.Walk as walk;
 ghost use Rattle.bus_spec.specs.Grammar.{at_bus, first_act, kind_of as kind_at};
@@ -13,8 +15,8 @@ ghost use Rattle.mux_plan.specs.declared.task.Action.TheVariants.{Done};
 use crate::{Action, Task, Work};
 use arrayvec::ArrayVec;
 use i2c_base::{LockId, MuxId, MuxKind, SegId};
-use i2c_board::Board;
-use i2c_spec::Hop;
+use i2c_board::{Accepted, Board};
+use i2c_spec::{Hop, end_of};
 use std::marker::Model;
 
 /// What a walk knows of its transfer: the muxes over its bus, and how many messages it has. A contract sees the record
@@ -98,6 +100,19 @@ pub fn waiting(marks: &[Option<MuxId>], hop: &Hop, place: u8, work: &Work) -> Ta
 }
 
 impl Course {
+    /// Leads to a bus of the board, for a transfer of so many messages.
+    pub fn lead(&mut self, board: &Accepted, bus: SegId, count: u8)
+        requires there { bus < buses board.now }
+        ensures course { self.new ≡ record { root = root_of board.now bus; path = hops board.now bus; bus = bus; count = count } }
+        ensures deep { length self.new.path ≤ MOST_DEPTH }
+        ensures narrow { All IsNarrow self.new.path }
+    {
+        self.path = board.board().layout().hops(bus);
+        self.root = end_of(bus, self.path.as_slice());
+        self.bus = bus;
+        self.count = count;
+    }
+
     /// The mux that a piece of work on the bus at this place has to cross, none at the root; a line needs no way.
     pub fn crossed(&self, place: u8, work: &Work) -> Option<Hop>
         ensures at { IfSome result (λ h. drop place self.now.path ≡ h ∷ drop (place + 1) self.now.path) }

@@ -70,6 +70,15 @@ fn has_deselect(tasks: &[Task]) -> bool
 }
 
 impl Parts {
+    /// Begins anew with this task.
+    pub fn start(&mut self, task: Task)
+        ensures stack { self.new.stack ≡ task ∷ [] }
+        ensures course { self.new.course ≡ self.old.course }
+    {
+        self.stack.restart(task);
+        self.came = Came::Good;
+    }
+
     // At a mux the work waits. Gives what comes first there, which takes the locks of a mux-locked one.
     fn cross(
         &mut self,
@@ -144,12 +153,12 @@ impl Parts {
         ensures course { self.new.course ≡ self.old.course }
         ensures came { self.new.came ≡ self.old.came }
     {
-        let Some(task) = self.stack.pop() else {
+        let Some(task) = self.stack.top() else {
             return;
         };
-        match task {
-            Task::Enter { place, work } => self.enter(board, marks, place, work),
-            step => self.stack.push(step),
+        if let Task::Enter { place, work } = task {
+            self.stack.drop_top();
+            self.enter(board, marks, place, work);
         }
     }
 
@@ -326,7 +335,7 @@ impl Parts {
         ensures ready { result ≡ false → IsReady self.new.stack }
         ensures less { result ≡ true → length self.new.stack < length self.old.stack }
     {
-        let Some(task) = self.stack.pop() else {
+        let Some(task) = self.stack.top() else {
             return false;
         };
         match task {
@@ -335,13 +344,21 @@ impl Parts {
                 hop,
                 mux,
                 work,
-            } => self.wake_close(place, hop, mux, work),
-            Task::AwaitSelect { place, hop, work } => self.wake_select(place, hop, work),
+            } => {
+                self.stack.drop_top();
+                self.wake_close(place, hop, mux, work)
+            }
+            Task::AwaitSelect { place, hop, work } => {
+                self.stack.drop_top();
+                self.wake_select(place, hop, work)
+            }
             Task::AwaitWork { place, hop } => {
+                self.stack.drop_top();
                 self.deselect(place, hop);
                 false
             }
             Task::AwaitDeselect { came, .. } => {
+                self.stack.drop_top();
                 self.came = came;
                 true
             }
@@ -350,10 +367,7 @@ impl Parts {
             | Task::Free(_)
             | Task::Rest { .. }
             | Task::Line { .. }
-            | Task::Settle(_) => {
-                self.stack.push(task);
-                false
-            }
+            | Task::Settle(_) => false,
         }
     }
 

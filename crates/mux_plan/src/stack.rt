@@ -26,6 +26,14 @@ impl<T: Copy + Default> Stack<T> {
         }
     }
 
+    /// Leaves this task alone.
+    pub fn restart(&mut self, task: T)
+        ensures { self.new ≡ task ∷ [] }
+    {
+        self.items.clear();
+        self.items.push(task);
+    }
+
     /// Puts a task on the top.
     pub fn push(&mut self, task: T)
         requires { length self.old < 32 }
@@ -41,6 +49,13 @@ impl<T: Copy + Default> Stack<T> {
         ensures left { IfNone result (self.new ≡ []) }
     {
         self.items.pop()
+    }
+
+    /// Takes the task on the top off, which isn't looked at.
+    pub fn drop_top(&mut self)
+        ensures { self.new ≡ drop 1 self.old }
+    {
+        let _ = self.items.pop();
     }
 
     /// The tasks, the one on the top last.

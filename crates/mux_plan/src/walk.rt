@@ -1,14 +1,11 @@
-ghost use Rattle.std.specs.Prelude.{◌≡◌, ◌<◌, ◌≤◌, true, List, [], ◌∷◌, length, All, None, Some};
-ghost use Rattle.i2c_base.specs.Limits.{MOST_DEPTH};
+ghost use Rattle.std.specs.Prelude.{◌≡◌, ◌<◌, true, List, length, None, Some};
 ghost use Rattle.i2c_base.specs.Board.{BoardView};
-ghost use Rattle.i2c_base.specs.Transfer.{TransferView};
 ghost use Rattle.i2c_spec.specs.Messages.{MessageView, messages_of};
-ghost use Rattle.i2c_spec.specs.Tree.{buses, hops, root_of};
+ghost use Rattle.i2c_spec.specs.Tree.{buses};
 ghost use Rattle.bus_spec.specs.Walk.{Call, Ends};
-ghost use Rattle.bus_spec.specs.Grammar.{full, plain, walk_by, walk_for, is_over, seen, first_act, first_note, rest_of};
+ghost use Rattle.bus_spec.specs.Grammar.{walk_by, walk_for, is_over, seen, first_act, first_note, rest_of};
 ghost use Rattle.mux_plan.specs.Marks.{dues_after};
 ghost use Rattle.mux_plan.specs.Plans.{walk_of, slots_of, action_of, outcome_of};
-ghost use Rattle.mux_plan.specs.Rooms.{IsNarrow};
 ghost use Rattle.mux_plan.specs.declared.task.Action.TheVariants.{Done};
 
 use crate::marks::Dues;
@@ -18,7 +15,7 @@ use crate::{Action, Came, Course, Outcome, Task, Work};
 use arrayvec::ArrayVec;
 use i2c_base::{Errno, MuxId, SegId, Transfer};
 use i2c_board::{Accepted, Board};
-use i2c_spec::{Hop, refusal};
+use i2c_spec::refusal;
 use std::marker::Model;
 
 /// The walk of a transfer that isn't refused. A contract sees its tasks, and `walk_of` is the tree that they stand for.
@@ -39,53 +36,41 @@ impl Model for Walk {
 }
 
 impl Walk {
-    /// The walk of a transfer on a board that is accepted, where the transfer isn't refused.
-    pub fn open(board: &Accepted, transfer: &Transfer) -> Self
-        requires there { transfer.now.bus < buses board.now }
-        ensures course { result.course ≡ record { root = root_of board.now transfer.now.bus; path = hops board.now transfer.now.bus; bus = transfer.now.bus; count = length transfer.now.msgs } }
-        ensures count { length (messages_of transfer.now) ≡ result.course.count }
-        ensures tree { walk_of board.now (messages_of transfer.now) result ≡ walk_by board.now transfer.now None }
-    {
-        let bus = SegId(transfer.bus());
-        let count = transfer.msgs().len() as u8;
-        let board = board.board();
-        let root = board.root(bus);
-        let path = board.layout().hops(bus);
-        Walk::along(root, path, bus, count)
-    }
-
     /// Begins the walk of another transfer: one that is refused is settled at once, and takes no lock.
     pub fn restart(&mut self, board: &Accepted, transfer: &Transfer)
         ensures count { length (messages_of transfer.now) ≡ self.new.course.count }
         ensures tree { walk_of board.now (messages_of transfer.now) self.new ≡ walk_for board.now transfer.now }
     {
         match refusal(&board.board().layout(), transfer) {
-            None => *self = Walk::open(board, transfer),
-            Some(errno) => *self = Walk::refused(transfer, errno),
+            None => self.begin(board, transfer),
+            Some(errno) => self.refuse(transfer, errno),
         }
     }
 
-    // The walk of a transfer that is refused: its settle alone.
-    fn refused(transfer: &Transfer, errno: Errno) -> Self
-        ensures count { length (messages_of transfer.now) ≡ result.course.count }
-        ensures tree { (b : BoardView) → walk_of b (messages_of transfer.now) result ≡ walk_by b transfer.now (Some errno) }
+    // Begins the walk of a transfer that isn't refused.
+    fn begin(&mut self, board: &Accepted, transfer: &Transfer)
+        requires there { transfer.now.bus < buses board.now }
+        ensures count { length (messages_of transfer.now) ≡ self.new.course.count }
+        ensures tree { walk_of board.now (messages_of transfer.now) self.new ≡ walk_by board.now transfer.now None }
     {
-        let count = transfer.msgs().len() as u8;
-        let mut stack = Stack::new();
-        stack.push(Task::Settle(Some(errno)));
-        let course = Course {
-            root: SegId(0),
-            path: ArrayVec::new(),
-            bus: SegId(0),
-            count,
-        };
-        Walk {
-            parts: Parts {
-                course,
-                stack,
-                came: Came::Good,
-            },
-        }
+        let bus = SegId(transfer.bus());
+        self.parts
+            .course
+            .lead(board, bus, transfer.msgs().len() as u8);
+        self.parts.start(Task::Lock {
+            from: 0,
+            place: 0,
+            work: Work::Call,
+        });
+    }
+
+    // Begins the walk of a transfer that is refused: its settle alone.
+    fn refuse(&mut self, transfer: &Transfer, errno: Errno)
+        ensures count { length (messages_of transfer.now) ≡ self.new.course.count }
+        ensures tree { (b : BoardView) → walk_of b (messages_of transfer.now) self.new ≡ walk_by b transfer.now (Some errno) }
+    {
+        self.parts.course.count = transfer.msgs().len() as u8;
+        self.parts.start(Task::Settle(Some(errno)));
     }
 
     /// A walk that has ended: what a caller has between two transfers.
@@ -102,37 +87,6 @@ impl Walk {
                     count: 0,
                 },
                 stack: Stack::new(),
-                came: Came::Good,
-            },
-        }
-    }
-
-    // The walk of a transfer of so many messages on a bus at the end of these muxes, nearest first.
-    fn along(root: SegId, path: ArrayVec<Hop, 32>, bus: SegId, count: u8) -> Self
-        requires deep { length path.items ≤ MOST_DEPTH }
-        requires narrow { All IsNarrow path.items }
-        ensures course { result.course ≡ record { root = root; path = path.items; bus = bus; count = count } }
-        ensures tree { (b : BoardView) (ms : List MessageView)
-            → walk_of b ms result ≡ full b root path.items (Call bus ms) plain (λ o. Ends) }
-        ensures transfer { (b : BoardView) (t : TransferView) → root ≡ root_of b t.bus → path.items ≡ hops b t.bus → bus ≡ t.bus
-            → walk_of b (messages_of t) result ≡ walk_by b t None }
-    {
-        let mut stack = Stack::new();
-        stack.push(Task::Lock {
-            from: 0,
-            place: 0,
-            work: Work::Call,
-        });
-        let course = Course {
-            root,
-            path,
-            bus,
-            count,
-        };
-        Walk {
-            parts: Parts {
-                course,
-                stack,
                 came: Came::Good,
             },
         }

@@ -1,11 +1,11 @@
 use Rattle.std.proofs.Common.{◌≡◌, ℕ, Some, None, true, false, sym, ◌∙◌, subst, arith}
 use Rattle.std.proofs.lemmas.Option.{slice_get_within}
 use Rattle.bus_core.specs.Kept.{IsCore, HasStepped}
-use Rattle.bus_core.specs.Ready.{CanStepAt}
+use Rattle.bus_core.specs.Ready.{IsHeldUpAt}
 use Rattle.bus_core.specs.Runs.{HasWaited}
 use Rattle.bus_core.specs.Steps.{IsBlockedAt, HasEndedAt}
 use Rattle.bus_core.specs.declared.parts.CoreParts.{CoreParts}
-use Rattle.bus_core.proofs.Advances.{waits-by, within as is_within, blocked-stuck, ended-stuck, blocked-not, ended-not, has-made}
+use Rattle.bus_core.proofs.Advances.{waits-by, within as is_within, blocked-held_up, ended-held_up, blocked-stuck, ended-stuck, has-made}
 use Rattle.bus_core.proofs.SeatLemmas.{number_read}
 use Rattle.bus_core.proofs.running.advance.Goals as goal
 
@@ -32,8 +32,8 @@ returns-in_default-clause-waited g c is =
     let at = number_read x.places.items c.args.caller c.from.result c.index.result.now None c.from.ensures low c.index.ensures c.in_default.is in
     absurd (let f : Some None ≡ Some (Some c.requires.has.place) = sym at ∙ c.requires.has.at in cc)
 
-pub returns-in_default-clause-able : goal.returns-in_default-clause-able
-returns-in_default-clause-able g c place here can =
+pub returns-in_default-clause-held_up : goal.returns-in_default-clause-held_up
+returns-in_default-clause-held_up g c is place here =
     let x = c.args.parts.now in
     let low = slice_get_within x.places.items c.args.caller (Some c.requires.has.place) c.requires.has.at in
     let at = number_read x.places.items c.args.caller c.from.result c.index.result.now None c.from.ensures low c.index.ensures c.in_default.is in
@@ -57,10 +57,10 @@ returns-in_default-step g c =
       core = subst (λ (y : CoreParts _ _). IsCore g.P.Port g.C.Caller y) (sym waits.same) c.requires.core;
       made = λ is. absurd (let f : false ≡ true = is in cc);
       waited = λ is. waits;
-      able = λ place at2 can.
-          let same : place ≡ here = (let f : Some (Some place) ≡ Some (Some here) = sym at2 ∙ at in cc) in
-          let its : CanStepAt x here = subst (λ (k : ℕ). CanStepAt x k) same can in
-          absurd (waits-by ⊥ c.step.result c.in_default-step.not-Stepped
-          (λ l h is. blocked-not g.P.Port g.C.Caller x kept placed c.args.caller here at l h (subst (λ (k : ℕ). IsBlockedAt x k l h) c.from-2.ensures (c.step.ensures.blocked l h is).1) its)
-          (λ is. ended-not g.P.Port g.C.Caller x kept placed c.args.caller here at (subst (λ (k : ℕ). HasEndedAt x k) c.from-2.ensures (c.step.ensures.finished is).1) its));
+      held_up = λ is place at2.
+          let same : here ≡ place = (let f : Some (Some here) ≡ Some (Some place) = sym at ∙ at2 in cc) in
+          subst (λ (k : ℕ). IsHeldUpAt x k) same
+          (waits-by (IsHeldUpAt x here) c.step.result c.in_default-step.not-Stepped
+          (λ l h told. blocked-held_up g.P.Port g.C.Caller x kept placed c.args.caller here at l h (subst (λ (k : ℕ). IsBlockedAt x k l h) c.from-2.ensures (c.step.ensures.blocked l h told).1))
+          (λ told. ended-held_up g.P.Port g.C.Caller x kept placed c.args.caller here at (subst (λ (k : ℕ). HasEndedAt x k) c.from-2.ensures (c.step.ensures.finished told).1)));
     }

@@ -1,38 +1,44 @@
+use Rattle.std.proofs.Common.{[], sym, subst}
 use Rattle.i2c_base.specs.Limits.{MOST_CALLERS}
-use Rattle.bus_core.specs.Kept.{asks_in}
+use Rattle.bus_core.specs.Kept.{asks_in, HasCome}
+use Rattle.bus_core.specs.Runs.{KeepsSchedule}
+use Rattle.bus_core.specs.State.{AllThrough, state_of}
+use Rattle.bus_core.specs.declared.parts.CoreParts.{CoreParts}
 use Rattle.bus_core.proofs.Loops.{come-refl, come-then, least-keeps, all-through}
 use Rattle.bus_core.proofs.running.finish.Goals as goal
 
-pub loop-number-init : goal.loop-number-init
-loop-number-init g c = record { core = c.requires.core; come = come-refl g.P.Port g.C.Caller c.args.parts.now; keeps = λ words keeps. keeps }
+pub steps-init : goal.steps-init
+steps-init g c = record { core = c.requires.core; come = come-refl g.P.Port g.C.Caller c.args.parts.now; keeps = λ words keeps. keeps }
 
-pub advance-requires-clause-has : goal.advance-requires-clause-has
-advance-requires-clause-has g c κs within =
-    let ready = c.in-Some.ensures.some in
-    record { place = ready.place; at = ready.at }
+pub advance_least-requires-clause-core : goal.advance_least-requires-clause-core
+advance_least-requires-clause-core g c κs within = c.steps.invariant.core
 
-pub loop-number-preserved : goal.loop-number-preserved
-loop-number-preserved g c =
-    let x = c.loop-number.parts in
-    let new = c.advance.new.parts in
-    let ready = c.in-Some.ensures.some in
-    let made = c.advance.ensures.made (c.advance.ensures.able ready.place ready.at ready.can) in
-    let was = c.loop-number.invariant in
+pub steps-smaller : goal.steps-smaller
+steps-smaller g c = (c.advance_least.ensures.made c.steps-test.true).made.room
+
+pub steps-preserved : goal.steps-preserved
+steps-preserved g c =
+    let x = c.steps.parts in
+    let new = c.advance_least.new.parts in
+    let least = c.advance_least.ensures.made c.steps-test.true in
+    let was = c.steps.invariant in
     record {
-      core = c.advance.ensures.core;
-      come = come-then g.P.Port g.C.Caller c.args.parts.now x new was.come made.come;
-      keeps = λ words keeps. least-keeps g.P.Port g.C.Caller x was.core c.in-Some.number new made
+      core = c.advance_least.ensures.core;
+      come = come-then g.P.Port g.C.Caller c.args.parts.now x new was.come least.made.come;
+      keeps = λ words keeps. least-keeps g.P.Port g.C.Caller x was.core least.caller new least.made
           (λ ws old plain rules some steps due t turn before kept. c.a_loop_follows.ensures.least x.board.now MOST_CALLERS (asks_in g.C.Caller x) ws old plain rules some steps due t turn before kept)
-          ready words (was.keeps words keeps);
+          least.place least.at least.before words (was.keeps words keeps);
     }
 
-pub loop-number-smaller : goal.loop-number-smaller
-loop-number-smaller g c =
-    let ready = c.in-Some.ensures.some in
-    (c.advance.ensures.made (c.advance.ensures.able ready.place ready.at ready.can)).room
+pub returns-clause-come : goal.returns-clause-come
+returns-clause-come g c = subst (λ (y : CoreParts _ _). HasCome g.P.Port g.C.Caller c.args.parts.now y) (sym (c.advance_least.ensures.none c.steps-test.false).0) c.steps.invariant.come
 
-pub returns : goal.returns
-returns g c =
-    let x = c.loop-number.parts in
-    let was = c.loop-number.invariant in
-    record { core = was.core; come = was.come; through = all-through g.P.Port g.C.Caller x was.core (c.ready.ensures.none c.in_default.is); keeps = was.keeps }
+pub returns-clause-through : goal.returns-clause-through
+returns-clause-through g c =
+    let none = c.advance_least.ensures.none c.steps-test.false in
+    subst (λ (y : CoreParts _ _). AllThrough g.C.Caller.asked g.P.Port.tells (state_of g.P.Port g.C.Caller y)) (sym none.0)
+    (all-through g.P.Port g.C.Caller c.steps.parts c.steps.invariant.core none.1)
+
+pub returns-clause-keeps : goal.returns-clause-keeps
+returns-clause-keeps g c words keeps =
+    subst (λ (y : CoreParts _ _). KeepsSchedule g.P.Port g.C.Caller words [] y) (sym (c.advance_least.ensures.none c.steps-test.false).0) (c.steps.invariant.keeps words keeps)

@@ -3,12 +3,12 @@ use Rattle.bus_core.specs.Kept.{IsCore, HasCome}
 use Rattle.bus_core.specs.Runs.{KeepsSchedule}
 use Rattle.bus_core.proofs.running.finish.Given as goal
 
-abbrev pub invariant-loop-number : goal.invariant-loop-number
-invariant-loop-number g l = record {
+abbrev pub invariant-steps : goal.invariant-steps
+invariant-steps g l = record {
   core : IsCore g.P.Port g.C.Caller l.parts;
   come : HasCome g.P.Port g.C.Caller l.fn.parts l.parts;
   keeps : (words : List ℕ) → KeepsSchedule g.P.Port g.C.Caller words [] l.fn.parts → KeepsSchedule g.P.Port g.C.Caller words [] l.parts;
 }
 
-abbrev pub decreases-loop-number : goal.decreases-loop-number
-decreases-loop-number g l = l.parts.journal.room
+abbrev pub decreases-steps : goal.decreases-steps
+decreases-steps g l = l.parts.journal.room

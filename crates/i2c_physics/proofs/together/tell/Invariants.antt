@@ -1,6 +1,7 @@
 use Rattle.std.proofs.Common.{◌≡◌, ◌+◌, ◌≤◌, length, drop}
 use Rattle.i2c_spec.specs.World.{answers, feed}
 use Rattle.i2c_physics.specs.Answering.{together_of}
+use Rattle.i2c_physics.specs.Heard.{numbers_of}
 use Rattle.i2c_physics.specs.Reach.{to_those}
 use Rattle.i2c_physics.proofs.together.tell.Given as goal
 
@@ -10,7 +11,8 @@ invariant-loop-left g l = record {
   in_range : l.left ≤ length l.numbers;
   fed : l.targets ≡ feed g.T.Target.table (to_those (drop l.left l.numbers) l.event) 0 l.fn.targets;
   answered : l.together ≡ together_of (answers g.T.Target.table (to_those (drop l.left l.numbers) l.event) 0 l.fn.targets);
-  room : length l.together.heard.items + l.left ≤ 128;
+  heard : l.heard.items ≡ numbers_of (answers g.T.Target.table (to_those (drop l.left l.numbers) l.event) 0 l.fn.targets);
+  room : length l.heard.items + l.left ≤ 128;
 }
 
 abbrev pub decreases-loop-left : goal.decreases-loop-left

@@ -8,7 +8,7 @@ use Rattle.i2c_physics.proofs.sim_world.SimWorld.get.Goals as goal
 pub returns-clause-given : goal.returns-clause-given
 returns-clause-given c =
     let w = c.args.self.now in
-    let small : (devices_say w (event.Get c.args.ack)).byte < 256 = rw c.send-chips.ensures.devices at c.send-chips.ensures.small in
-    ap (λ (j : Together). bit_and j.byte c.send-chips.result.1.byte) c.send-chips.ensures.chips
-    ∙ ap (λ (j : Together). bit_and (chips_say w (event.Get c.args.ack)).byte j.byte) c.send-chips.ensures.devices
+    let small : (devices_say w (event.Get c.args.ack)).byte < 256 = rw c.send.ensures.devices at c.send.ensures.small in
+    ap (λ (j : Together). bit_and j.byte c.send.result.1.byte) c.send.ensures.chips
+    ∙ ap (λ (j : Together). bit_and (chips_say w (event.Get c.args.ack)).byte j.byte) c.send.ensures.devices
     ∙ gives_told w c.args.ack small

@@ -1,4 +1,4 @@
-use Rattle.std.proofs.Common.{ap, ◌∙◌, arith}
+use Rattle.std.proofs.Common.{ap, ◌∙◌, refl, arith}
 use Rattle.std.proofs.lemmas.List.{with_items_is}
 use Rattle.i2c_spec.specs.Chips.{chip_table}
 use Rattle.i2c_spec.specs.World.{sent_on}
@@ -11,30 +11,33 @@ pub invariant_of-self : goal.invariant_of-self
 invariant_of-self c =
     let s = c.self.inside in
     let e = c.args.event in
-    let chips = fed-on chip_table e _ _ _ _ c.as_slice.ensures.value c.deref_mut.ensures.value _ _
-    (with_items_is s.chips c.tell-chips.new.targets (omega arith)) c.tell-chips.ensures.fed in
-    let devices = fed-on device_table e _ _ _ _ c.as_slice-2.ensures.value c.deref_mut-2.ensures.value _ _
-    (with_items_is s.devices c.tell-devices.new.targets (omega arith)) c.tell-devices.ensures.fed in
-    sent-kept _ _ _ _ _ _ _ _ s.busy c.self.invariant e _ _ chips devices
+    let chips = fed-on chip_table e _ _ _ _ refl c.deref_mut.ensures.value _ _
+    (with_items_is s.chips c.pass_on-chips.new.targets (omega arith)) c.pass_on-chips.ensures.fed in
+    let devices = fed-on device_table e _ _ _ _ refl c.deref_mut-2.ensures.value _ _
+    (with_items_is s.devices c.pass_on-devices.new.targets (omega arith)) c.pass_on-devices.ensures.fed in
+    sent-kept _ _ _ _ _ _ _ _ s.busy c.self.invariant e _ _ chips devices _ _
+    c.pass_on-chips.ensures.started c.pass_on-chips.ensures.hearing c.pass_on-devices.ensures.started c.pass_on-devices.ensures.hearing
 
 pub returns-clause-chips : goal.returns-clause-chips
 returns-clause-chips c =
     let s = c.self.inside in
-    let said = said-on chip_table c.args.event _ _ _ _ c.as_slice.ensures.value c.deref_mut.ensures.value _ c.tell-chips.ensures.answered in
+    let said = said-on chip_table c.args.event _ _ _ _ refl c.deref_mut.ensures.value together_of _ c.pass_on-chips.ensures.answered in
     said ∙ ap together_of (chips-answer _ _ _ _ _ _ _ _ s.busy c.self.invariant c.args.event) ∙ ap (λ w. chips_say w c.args.event) c.self.view_is
 
 pub returns-clause-devices : goal.returns-clause-devices
 returns-clause-devices c =
     let s = c.self.inside in
-    let said = said-on device_table c.args.event _ _ _ _ c.as_slice-2.ensures.value c.deref_mut-2.ensures.value _ c.tell-devices.ensures.answered in
+    let said = said-on device_table c.args.event _ _ _ _ refl c.deref_mut-2.ensures.value together_of _ c.pass_on-devices.ensures.answered in
     said ∙ ap together_of (devices-answer _ _ _ _ _ _ _ _ s.busy c.self.invariant c.args.event) ∙ ap (λ w. devices_say w c.args.event) c.self.view_is
 
 pub returns-clause-after : goal.returns-clause-after
 returns-clause-after c =
     let s = c.self.inside in
     let e = c.args.event in
-    let chips = fed-on chip_table e _ _ _ _ c.as_slice.ensures.value c.deref_mut.ensures.value _ _
-    (with_items_is s.chips c.tell-chips.new.targets (omega arith)) c.tell-chips.ensures.fed in
-    let devices = fed-on device_table e _ _ _ _ c.as_slice-2.ensures.value c.deref_mut-2.ensures.value _ _
-    (with_items_is s.devices c.tell-devices.new.targets (omega arith)) c.tell-devices.ensures.fed in
-    sent-is _ _ _ _ _ _ _ _ s.busy c.self.invariant e _ _ chips devices ∙ ap (λ w. sent_on w e) c.self.view_is
+    let chips = fed-on chip_table e _ _ _ _ refl c.deref_mut.ensures.value _ _
+    (with_items_is s.chips c.pass_on-chips.new.targets (omega arith)) c.pass_on-chips.ensures.fed in
+    let devices = fed-on device_table e _ _ _ _ refl c.deref_mut-2.ensures.value _ _
+    (with_items_is s.devices c.pass_on-devices.new.targets (omega arith)) c.pass_on-devices.ensures.fed in
+    sent-is _ _ _ _ _ _ _ _ s.busy c.self.invariant e _ _ chips devices c.pass_on-chips.new.reach c.pass_on-devices.new.reach
+    c.pass_on-chips.ensures.started c.pass_on-chips.ensures.hearing c.pass_on-devices.ensures.started c.pass_on-devices.ensures.hearing
+    ∙ ap (λ w. sent_on w e) c.self.view_is

@@ -1,0 +1,10 @@
+use Rattle.std.proofs.Common.{◌≡◌, ◌≤◌, length, take}
+use Rattle.std.specs.List.{filter}
+use Rattle.i2c_physics.specs.Reach.{joins_at}
+use Rattle.i2c_physics.proofs.reach.joined.Given as goal
+
+abbrev pub invariant-loop-number : goal.invariant-loop-number
+invariant-loop-number l = record {
+  few : length l.joined.items ≤ l.number-index;
+  joined : l.joined.items ≡ filter (joins_at l.chips l.places) (take l.number-index l.numbers);
+}

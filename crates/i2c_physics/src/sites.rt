@@ -1,0 +1,95 @@
+//! The places of the targets of one kind, by number and by address.
+ghost use Rattle.std.specs.Prelude.{◌≡◌, ◌≤◌, length, map, IfOk};
+ghost use Rattle.std.specs.List.{range_with_len};
+ghost use Rattle.i2c_physics.specs.Reach.{has_at};
+ghost use Rattle.i2c_physics.specs.Sites.{numbers_at};
+
+use crate::place::Place;
+use i2c_base::Addr;
+use std::alloc::{AllocError, Global};
+use std::marker::Model;
+
+/// How many 7-bit addresses there are.
+const ADDRESSES: u8 = 128;
+
+/// Where the targets of one kind stand, by number, and who is at an address. A contract sees the list of the places.
+#[derive(Drop)]
+pub struct Sites {
+    places: Vec<Place>,
+    /// By address, the numbers of those that have it, rising: a start looks at no others.
+    at: Vec<Vec<u16>>,
+}
+
+impl Model for Sites {
+    ghost use Rattle.std.specs.Prelude.{List, map};
+    ghost use Rattle.i2c_physics.specs.Places.{PlaceView};
+    ghost use Rattle.i2c_physics.specs.Sites.{IsIndex};
+
+    ghost Value = { List PlaceView };
+
+    ghost view = { λ s. s.places.items };
+
+    ghost invariant = { λ s. IsIndex s.places.items (map (λ numbers. numbers.items) s.at.items) };
+}
+
+impl Sites {
+    pub fn of(alloc: Global, places: Vec<Place>) -> Result<Self, AllocError>
+        requires { length places.items ≤ 128 }
+        ensures { IfOk result (λ sites. sites ≡ places.items) }
+    {
+        let at = by_address(alloc, &places)?;
+        Ok(Sites { places, at })
+    }
+
+    /// The places, by number.
+    pub fn as_slice(&self) -> &[Place]
+        ensures { result.now ≡ self.now }
+    {
+        self.places.as_slice()
+    }
+
+    /// The numbers of the targets at this address, rising.
+    pub fn at(&self, addr: Addr) -> &[u16]
+        ensures value { result.now ≡ numbers_at self.now addr }
+        ensures few { length result.now ≤ 128 }
+    {
+        self.at[usize::from(addr.get())].as_slice()
+    }
+}
+
+/// For each address the numbers of those at it.
+fn by_address(alloc: Global, places: &[Place]) -> Result<Vec<Vec<u16>>, AllocError>
+    requires { length places.now ≤ 128 }
+    ensures { IfOk result (λ at. map (λ numbers. numbers.items) at.items ≡ map (numbers_at places.now) (range_with_len 0 128)) }
+{
+    let mut at = Vec::with_capacity(alloc, usize::from(ADDRESSES))?;
+    for address in 0..ADDRESSES {
+        at.push(numbers_at(alloc, places, address)?)?;
+    }
+    Ok(at)
+}
+
+/// The numbers of those at this address.
+#[tactic(auto, using(crate::proofs::NumberLemmas::filter_more))]
+fn numbers_at(alloc: Global, places: &[Place], address: u8) -> Result<Vec<u16>, AllocError>
+    requires { length places.now ≤ 128 }
+    ensures { IfOk result (λ numbers. numbers.items ≡ numbers_at places.now address) }
+{
+    let mut numbers = Vec::new(alloc);
+    for number in 0..places.len() as u16 {
+        if is_at(places, number, address) {
+            numbers.push(number)?;
+        }
+    }
+    Ok(numbers)
+}
+
+/// The target of this number has this address.
+pub fn is_at(places: &[Place], number: u16, address: u8) -> bool
+    ensures { result ≡ has_at address places.now number }
+{
+    match places.get(usize::from(number)) {
+        Some(place) => place.is_at(address),
+        None => false,
+    }
+}

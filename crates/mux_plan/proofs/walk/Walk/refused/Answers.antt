@@ -1,6 +1,0 @@
-use Rattle.std.proofs.Common.{length, sym, ◌∙◌, ap}
-use Rattle.mux_plan.proofs.OpensFit.{length-messages}
-use Rattle.mux_plan.proofs.walk.Walk.refused.Goals as goal
-
-pub returns-clause-count : goal.returns-clause-count
-returns-clause-count c = length-messages c.args.transfer.now.msgs c.args.transfer.now.out ∙ sym (ap length c.msgs.ensures.value)
