@@ -7,7 +7,7 @@ use Rattle.i2c_base.specs.declared.entry.End.{End}
 use Rattle.i2c_base.specs.Board.{BoardView}
 use Rattle.i2c_base.specs.Bytes.{IsByte}
 use Rattle.i2c_spec.specs.Tree.{root_of, of_device}
-use Rattle.i2c_spec.specs.Targets.{TargetState, Eeprom, Lm75, Regs, Silent, IsQuiet, state_table}
+use Rattle.i2c_spec.specs.Targets.{TargetState, Eeprom, Lm75, Regs, Smbus, Silent, IsQuiet, state_table}
 use Rattle.i2c_spec.specs.World.{World, joins_device, start_chips, heard_of}
 use Rattle.i2c_spec.specs.Flat.{FlatListener, is_it, is_member}
 use Rattle.i2c_spec.specs.Conversation.{TalkTold, is_good}
@@ -20,11 +20,12 @@ IsOf b r d = root_of b (of_device (λ x. x.bus) 0 b d) ≡ r
 abbrev pub IsWord : ℕ → Type 0
 IsWord word = word < 65536
 
--- what a device holds are bytes, and words of two: then the AND of one byte that is sent and the idle wires is that byte
+-- what a device holds are bytes, and words of two, and its address has seven bits: then the AND of one byte that is sent and the idle wires is that byte
 abbrev pub HoldsBytes : TargetState → Type 0
 HoldsBytes (Eeprom x) = AllByRecursion IsByte x.memory × AllByRecursion (λ place. IfSome place IsByte) x.waiting
 HoldsBytes (Lm75 x) = IsWord x.temperature × IsByte x.configuration × IsWord x.hysteresis × IsWord x.limit
 HoldsBytes (Regs x) = AllByRecursion IsByte x.memory
+HoldsBytes (Smbus x) = (x.addr < 128) × IsByte x.flip × IsByte x.code × AllByRecursion IsByte x.held × AllByRecursion IsByte x.memory
 HoldsBytes Silent = Unit {0}
 
 -- who listens to the message in progress, as a world lists it

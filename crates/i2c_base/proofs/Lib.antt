@@ -1,2 +1,3 @@
 pub mod TransferLemmas
 pub mod MuxLemmas
+pub mod SendLemmas

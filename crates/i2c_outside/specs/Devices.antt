@@ -6,13 +6,14 @@ use Rattle.i2c_base.specs.Board.{DeviceView}
 use Rattle.i2c_spec.specs.Targets.{TargetState, opening_state}
 use Rattle.i2c_spec.specs.Targets as target
 use Rattle.i2c_outside.specs.declared.device.DeviceState.{DeviceState}
-use Rattle.i2c_outside.specs.declared.device.DeviceState.TheVariants.{Eeprom, Lm75, Regs, Silent}
+use Rattle.i2c_outside.specs.declared.device.DeviceState.TheVariants.{Eeprom, Lm75, Regs, Smbus, Silent}
 
 -- the state that a device stands for
 abbrev pub target_state : DeviceState → TargetState
 target_state (Eeprom x) = target.Eeprom x
 target_state (Lm75 x) = target.Lm75 x
 target_state (Regs x) = target.Regs x
+target_state (Smbus x) = target.Smbus x
 target_state Silent = target.Silent
 
 -- the device that stands for a state
@@ -20,6 +21,7 @@ abbrev pub device_of : TargetState → DeviceState
 device_of (target.Eeprom x) = Eeprom x
 device_of (target.Lm75 x) = Lm75 x
 device_of (target.Regs x) = Regs x
+device_of (target.Smbus x) = Smbus x
 device_of target.Silent = Silent
 
 -- the table, as of the states that devices stand for

@@ -6,7 +6,7 @@ ghost use Rattle.i2c_outside.specs.Devices.{target_state, device_answer, device_
 use i2c_base::{Answer, DeviceKind, DeviceSpec, Event, NoMemory, Target};
 use std::alloc::Global;
 use tgt_eeprom::Eeprom;
-use tgt_small::{Lm75, Regs};
+use tgt_small::{Lm75, Regs, SmbusDevice};
 
 /// A device of a board, whatever its kind.
 #[derive(Drop)]
@@ -14,7 +14,8 @@ pub enum DeviceState {
     Eeprom(Eeprom),
     Lm75(Lm75),
     Regs(Regs),
-    /// A device of a kind whose table isn't here yet: it acknowledges nothing.
+    Smbus(SmbusDevice),
+    /// The place of a device that was taken out: it acknowledges nothing.
     Silent,
 }
 
@@ -29,7 +30,7 @@ impl DeviceState {
             DeviceKind::Eeprom { .. } => Ok(DeviceState::Eeprom(Eeprom::open(alloc, spec)?)),
             DeviceKind::Lm75 { .. } => Ok(DeviceState::Lm75(Lm75::open(spec))),
             DeviceKind::Regs { .. } => Ok(DeviceState::Regs(Regs::open(spec))),
-            DeviceKind::Smbus { .. } => Ok(DeviceState::Silent),
+            DeviceKind::Smbus { .. } => Ok(DeviceState::Smbus(SmbusDevice::open(spec))),
         }
     }
 
@@ -41,6 +42,7 @@ impl DeviceState {
             DeviceState::Eeprom(eeprom) => eeprom.answer(event),
             DeviceState::Lm75(lm75) => lm75.copied().on(event),
             DeviceState::Regs(regs) => regs.copied().on(event),
+            DeviceState::Smbus(smbus) => smbus.answer(event),
             DeviceState::Silent => silent(event),
         }
     }
@@ -53,6 +55,7 @@ impl DeviceState {
             DeviceState::Eeprom(eeprom) => Ok(DeviceState::Eeprom(eeprom.copied(alloc)?)),
             DeviceState::Lm75(lm75) => Ok(DeviceState::Lm75(lm75.copied())),
             DeviceState::Regs(regs) => Ok(DeviceState::Regs(regs.copied())),
+            DeviceState::Smbus(smbus) => Ok(DeviceState::Smbus(smbus.copied())),
             DeviceState::Silent => Ok(DeviceState::Silent),
         }
     }
@@ -66,6 +69,7 @@ impl Target for DeviceState {
             DeviceState::Eeprom(eeprom) => eeprom.on(event),
             DeviceState::Lm75(lm75) => lm75.on(event),
             DeviceState::Regs(regs) => regs.on(event),
+            DeviceState::Smbus(smbus) => smbus.on(event),
             DeviceState::Silent => silent(event),
         }
     }

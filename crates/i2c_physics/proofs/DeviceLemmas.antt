@@ -10,7 +10,7 @@ use Rattle.i2c_spec.specs.Targets.{TargetState, IsQuiet, state_table, state_afte
 use Rattle.i2c_spec.specs.World.{answers, answer_with, feed, given}
 use Rattle.i2c_spec.proofs.StateLemmas.{states_fair}
 use Rattle.i2c_outside.specs.declared.device.DeviceState.{DeviceState}
-use Rattle.i2c_outside.specs.declared.device.DeviceState.TheVariants.{Eeprom, Lm75, Regs, Silent}
+use Rattle.i2c_outside.specs.declared.device.DeviceState.TheVariants.{Eeprom, Lm75, Regs, Smbus, Silent}
 use Rattle.i2c_outside.specs.Devices.{target_state, device_of, device_table, device_after, device_answer}
 
 -- a device and its state stand for each other
@@ -18,12 +18,14 @@ state-device : (x : TargetState) → target_state (device_of x) ≡ x
 state-device (target.Eeprom x) = refl
 state-device (target.Lm75 x) = refl
 state-device (target.Regs x) = refl
+state-device (target.Smbus x) = refl
 state-device target.Silent = refl
 
 device-state : (d : DeviceState) → device_of (target_state d) ≡ d
 device-state (Eeprom x) = refl
 device-state (Lm75 x) = refl
 device-state (Regs x) = refl
+device-state (Smbus x) = refl
 device-state Silent = refl
 
 pub state_after_is : (d : DeviceState) (e : Event) → state_after (target_state d) e ≡ target_state (device_after d e)

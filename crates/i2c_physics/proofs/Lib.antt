@@ -10,3 +10,4 @@ pub mod SiteLemmas
 pub mod TogetherLemmas
 pub mod WorldLemmas
 pub mod TakeLemmas
+pub mod SendLemmas

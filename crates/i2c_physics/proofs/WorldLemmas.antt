@@ -62,6 +62,7 @@ state_gives : (x : TargetState) (ack : Bool) → state_table.answer x (event.Get
 state_gives (targets.Eeprom x) ack = refl
 state_gives (targets.Lm75 x) ack = refl
 state_gives (targets.Regs x) ack = refl
+state_gives (targets.Smbus x) ack = refl
 state_gives targets.Silent ack = refl
 
 devices_give : (w : World) (ack : Bool) (k : ℕ) (xs : List TargetState)

@@ -4,5 +4,7 @@ pub mod EepromLemmas
 pub mod HopLemmas
 pub mod PlainLemmas
 pub mod RuleLemmas
+pub mod SmbusLemmas
 pub mod StateLemmas
 pub mod TreeLemmas
+pub mod SendLemmas

@@ -1,5 +1,4 @@
--- A file for each subject. The table of the SMBus device goes beside `Regs`, `Eeprom` and `Lm75`, with a case of
--- `Targets.TargetState`.
+-- A file for each subject.
 pub mod Tree
 pub mod TreeFacts
 pub mod Numbers
@@ -11,6 +10,7 @@ pub mod Searches
 pub mod Regs
 pub mod Eeprom
 pub mod Lm75
+pub mod SmbusDevice
 pub mod Chips
 pub mod Targets
 pub mod TargetRows

@@ -13,13 +13,15 @@ use Rattle.i2c_base.specs.Table.{Table}
 use Rattle.i2c_spec.specs.Numbers.{NumberKey, IsFor, fill_key, busy_key, raw_key, hold_key, width_key, flip_key}
 use Rattle.i2c_spec.specs.Eeprom.{EepromView, eeprom_after, eeprom_answer, eeprom_sends, eeprom_opening, size_of_eeprom}
 use Rattle.i2c_spec.specs.Lm75.{Lm75View, lm75_after, lm75_answer, lm75_sends, lm75_opening}
+use Rattle.i2c_spec.specs.SmbusDevice.{SmbusView, smbus_after, smbus_answer, smbus_sends, smbus_opening}
 use Rattle.i2c_spec.specs.Regs.{RegsView, regs_after, regs_answer, regs_sends, regs_opening, is_too_long}
 
 pub data TargetState : Type 0 where
   Eeprom : (x : EepromView) → TargetState
   Lm75 : (x : Lm75View) → TargetState
   Regs : (x : RegsView) → TargetState
-  -- a device of a kind whose table isn't here yet: it acknowledges nothing
+  Smbus : (x : SmbusView) → TargetState
+  -- the place of a device that was taken out: it acknowledges nothing
   Silent : TargetState
 
 abbrev pub silent_answer : Event → Answer
@@ -33,31 +35,35 @@ abbrev pub state_after : TargetState → Event → TargetState
 state_after (Eeprom x) e = Eeprom (eeprom_after x e)
 state_after (Lm75 x) e = Lm75 (lm75_after x e)
 state_after (Regs x) e = Regs (regs_after x e)
+state_after (Smbus x) e = Smbus (smbus_after x e)
 state_after Silent e = Silent
 
 abbrev pub state_answer : TargetState → Event → Answer
 state_answer (Eeprom x) e = eeprom_answer x e
 state_answer (Lm75 x) e = lm75_answer x e
 state_answer (Regs x) e = regs_answer x e
+state_answer (Smbus x) e = smbus_answer x e
 state_answer Silent e = silent_answer e
 
 abbrev pub state_sends : TargetState → ℕ
 state_sends (Eeprom x) = eeprom_sends x x.phase
 state_sends (Lm75 x) = lm75_sends x x.phase
 state_sends (Regs x) = regs_sends x x.phase
+state_sends (Smbus x) = smbus_sends x x.phase
 state_sends Silent = 255
 
 abbrev pub state_hold : TargetState → ℕ
 state_hold (Eeprom x) = 0
 state_hold (Lm75 x) = 0
 state_hold (Regs x) = x.hold
+state_hold (Smbus x) = 0
 state_hold Silent = 0
 
 abbrev pub state_table : Table TargetState
 state_table = record { after = state_after; answer = state_answer; sends = state_sends; hold = state_hold }
 
 -- what is so of a device by its kind: its numbers, each with its key; the size of the memory that `set` writes, where it
--- has one; and its state at the opening
+-- has one; and its state at the opening, at its address and with what is set
 pub record Number : Type 0 where
   pub key : NumberKey
   pub value : ℕ
@@ -65,25 +71,25 @@ pub record Number : Type 0 where
 pub record KindRow : Type 0 where
   pub numbers : List Number
   pub memory : Option ℕ
-  pub opens : List RunView → TargetState
+  pub opens : (addr : ℕ) → List RunView → TargetState
 
 abbrev pub of_key : NumberKey → ℕ → Number
 of_key key n = record { key = key; value = n }
 
 abbrev pub row_of_kind : DeviceKind → KindRow
 row_of_kind (kind.Eeprom size fill busy wp) =
-    record { numbers = of_key fill_key fill ∷ of_key busy_key busy ∷ []; memory = Some (size_of_eeprom size); opens = λ set. Eeprom (eeprom_opening size fill busy wp set) }
-row_of_kind (kind.Lm75 raw) = record { numbers = of_key raw_key raw ∷ []; memory = None; opens = λ set. Lm75 (lm75_opening raw) }
-row_of_kind (kind.Regs hold) = record { numbers = of_key hold_key hold ∷ []; memory = Some 256; opens = λ set. Regs (regs_opening hold set) }
+    record { numbers = of_key fill_key fill ∷ of_key busy_key busy ∷ []; memory = Some (size_of_eeprom size); opens = λ addr set. Eeprom (eeprom_opening size fill busy wp set) }
+row_of_kind (kind.Lm75 raw) = record { numbers = of_key raw_key raw ∷ []; memory = None; opens = λ addr set. Lm75 (lm75_opening raw) }
+row_of_kind (kind.Regs hold) = record { numbers = of_key hold_key hold ∷ []; memory = Some 256; opens = λ addr set. Regs (regs_opening hold set) }
 row_of_kind (kind.Smbus width flip) =
-    record { numbers = of_key width_key width ∷ of_key flip_key flip ∷ []; memory = Some 256; opens = λ set. Silent }
+    record { numbers = of_key width_key width ∷ of_key flip_key flip ∷ []; memory = Some 256; opens = λ addr set. Smbus (smbus_opening addr width flip set) }
 
 -- each number of a device is one that its key allows
 abbrev pub FitsKind : DeviceKind → Type 0
 FitsKind k = AllByRecursion (λ n. IsFor n.key n.value) (row_of_kind k).numbers
 
 abbrev pub opening_state : DeviceView → TargetState
-opening_state d = (row_of_kind d.kind).opens d.set
+opening_state d = (row_of_kind d.kind).opens d.addr d.set
 
 -- a state is quiet where starts for others and stops leave it as it is
 pub record IsQuiet {X : Type 0} (t : Table X) (x : X) : Type 0 where

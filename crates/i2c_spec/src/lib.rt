@@ -17,6 +17,7 @@ mod hop;
 mod laws;
 mod layout;
 mod smbus_row;
+mod smbus_rows;
 mod target_rows;
 mod topology;
 mod tree;
@@ -24,13 +25,20 @@ mod tree;
 pub use device_memory::{eeprom_bytes, eeprom_page, is_wide, write_runs};
 pub use fair_targets::{
     chips_are_fair, eeproms_are_fair, lm75s_are_fair, openings_are_quiet, regs_are_fair,
-    states_are_fair,
+    smbus_devices_are_fair, states_are_fair,
 };
 pub use flat_world::{done_with, errno_of, refusal};
 pub use hop::Hop;
 pub use laws::an_accepted_board_is_a_tree;
 pub use layout::Layout;
 pub use smbus_row::{CallRow, ReadShape, ValueShape};
+pub use smbus_rows::{
+    a_block_of_no_byte_is_its_count, a_count_says_how_many_bytes_follow,
+    a_read_that_follows_lets_data_take_effect, a_start_for_another_drops_the_data,
+    data_go_on_at_the_first_register, data_take_effect_where_they_are_whole,
+    the_code_begins_anew_after_a_stop, the_code_follows_on_what_is_read,
+    the_code_of_a_write_is_its_last_byte, the_code_of_a_write_is_of_its_address_too,
+};
 pub use target_rows::{
     a_busy_eeprom_refuses_starts, a_byte_waits_for_the_stop, a_long_hold_is_slow,
     a_page_write_wraps_in_its_page, a_protected_byte_is_refused, a_read_wraps_at_the_end_of_memory,

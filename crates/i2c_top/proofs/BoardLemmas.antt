@@ -5,7 +5,7 @@ use Rattle.i2c_base.specs.declared.rules.RuleBroken.{RuleBroken}
 use Rattle.i2c_spec.specs.Rules.{MeetsRules, TellsBroken}
 use Rattle.i2c_boardtext.specs.BoardText.{board_of}
 use Rattle.i2c_boardtext.specs.declared.fault.BoardFault.{BoardFault}
-use Rattle.i2c_top.specs.Boards.{IsBuilt, IsAccepted, IsBoardOf, IsBroken, IsUnbuilt, IsRejected, IsNoBoard}
+use Rattle.i2c_top.specs.Boards.{IsAccepted, IsBroken, IsRejected}
 use Rattle.i2c_top.specs.declared.status.BoardRefusal.{BoardRefusal}
 use Rattle.i2c_top.specs.declared.status.BoardRefusal.TheVariants as refusal
 use Rattle.i2c_topo.proofs.BrokenLemmas.{broken_breaks, one_broken}
@@ -25,8 +25,8 @@ fault_or f (Err e) = e
 one_board : (r : Result BoardView BoardFault) (a b : BoardView) → r ≡ Ok a → r ≡ Ok b → a ≡ b
 one_board r a b e k = ap (board_or a) (sym e ∙ k)
 
-pub one_board_of : (text : List ℕ) (a b : BoardView) → IsBoardOf text a → IsBoardOf text b → a ≡ b
-one_board_of text a b h k = one_board (board_of text) a b h.accepted.read k.accepted.read
+pub one_board_of : (text : List ℕ) (a b : BoardView) → IsAccepted text a → IsAccepted text b → a ≡ b
+one_board_of text a b h k = one_board (board_of text) a b h.read k.read
 
 one_fault : (r : Result BoardView BoardFault) (f g : BoardFault) → r ≡ Err f → r ≡ Err g → f ≡ g
 one_fault r f g e k = ap (fault_or f) (sym e ∙ k)
@@ -35,31 +35,10 @@ one_fault r f g e k = ap (fault_or f) (sym e ∙ k)
 pub is_no_rejected : (text : List ℕ) (b : BoardView) (why : BoardRefusal) → IsAccepted text b → IsRejected text why → ⊥
 is_no_rejected text b (refusal.Fault f) is n = both (board_of text) b f is.read n.read
 is_no_rejected text b (refusal.Rule r) is n = broken_breaks n.board r n.broken (subst MeetsRules (one_board (board_of text) b n.board is.read n.read) is.rules)
-is_no_rejected text b refusal.NotBuilt is n = n
 
-pub is_no_board : (text : List ℕ) (b : BoardView) (why : BoardRefusal) → IsBoardOf text b → IsNoBoard text why → ⊥
-is_no_board text b (refusal.Fault f) is n = is_no_rejected text b (refusal.Fault f) is.accepted n
-is_no_board text b (refusal.Rule r) is n = is_no_rejected text b (refusal.Rule r) is.accepted n
-is_no_board text b refusal.NotBuilt is n =
-    n.unbuilt (subst IsBuilt (one_board (board_of text) b n.board is.accepted.read n.accepted.read) is.built)
-
--- what is refused for its text or a rule is refused where its board is to be stepped
-pub no_board_of : (text : List ℕ) (why : BoardRefusal) → IsRejected text why → IsNoBoard text why
-no_board_of text (refusal.Fault f) n = n
-no_board_of text (refusal.Rule r) n = n
-no_board_of text refusal.NotBuilt n = absurd n
-
-rule_unbuilt : (text : List ℕ) (r : RuleBroken) → IsBroken text r → IsUnbuilt text → ⊥
-rule_unbuilt text r a b = broken_breaks a.board r a.broken (subst MeetsRules (one_board (board_of text) b.board a.board b.accepted.read a.read) b.accepted.rules)
-
-pub one_refusal : (text : List ℕ) (a b : BoardRefusal) → IsNoBoard text a → IsNoBoard text b → a ≡ b
+pub one_refusal : (text : List ℕ) (a b : BoardRefusal) → IsRejected text a → IsRejected text b → a ≡ b
 one_refusal text (refusal.Fault f) (refusal.Fault g) h k = ap (λ x. refusal.Fault x) (one_fault (board_of text) f g h.read k.read)
 one_refusal text (refusal.Fault f) (refusal.Rule r) h k = absurd (both (board_of text) k.board f k.read h.read)
-one_refusal text (refusal.Fault f) refusal.NotBuilt h k = absurd (both (board_of text) k.board f k.accepted.read h.read)
 one_refusal text (refusal.Rule r) (refusal.Fault f) h k = absurd (both (board_of text) h.board f h.read k.read)
 one_refusal text (refusal.Rule r) (refusal.Rule s) h k =
     ap (λ x. refusal.Rule x) (one_broken k.board r s (subst (λ b. TellsBroken b r) (one_board (board_of text) h.board k.board h.read k.read) h.broken) k.broken)
-one_refusal text (refusal.Rule r) refusal.NotBuilt h k = absurd (rule_unbuilt text r h k)
-one_refusal text refusal.NotBuilt (refusal.Fault f) h k = absurd (both (board_of text) h.board f h.accepted.read k.read)
-one_refusal text refusal.NotBuilt (refusal.Rule r) h k = absurd (rule_unbuilt text r k h)
-one_refusal text refusal.NotBuilt refusal.NotBuilt h k = refl

@@ -1,10 +1,10 @@
 -- The files decide one status: of two that they are a cause of, both are the same.
 use Rattle.std.proofs.Common.{◌≡◌, ℕ, ◌<◌, ◌≤◌, ◌⊎◌, inl, inr, List, length, Option, Some, Result, Ok, Err, refl, sym, ◌∙◌, ap, subst, arith}
 use Rattle.std.proofs.lemmas.Bool.{cases_order}
-use Rattle.i2c_top.specs.Boards.{IsBoardOf, IsNoBoard, IsRejected}
+use Rattle.i2c_top.specs.Boards.{IsAccepted, IsRejected}
 use Rattle.i2c_top.specs.Checks.{HasAccepted, HasRejected, IsCheckCause}
 use Rattle.i2c_top.specs.Files.{Files}
-use Rattle.i2c_top.specs.Replays.{Names, script_name, HasBoard, HasNoBoard, HasScript, HasBadScript, HasScripts, HasSchedule, HasBadSchedule, HasTexts, HasFiles, HasDearFiles, HasScriptsBefore, cost_in, IsReplayCause}
+use Rattle.i2c_top.specs.Replays.{Names, script_name, HasScript, HasBadScript, HasScripts, HasSchedule, HasBadSchedule, HasTexts, HasFiles, HasDearFiles, HasScriptsBefore, cost_in, IsReplayCause}
 use Rattle.i2c_top.specs.Requests.{Request, Replay, Check, NoForm, IsCause}
 use Rattle.i2c_top.specs.Runs.{MOST_COST}
 use Rattle.caller_core.specs.Scripts.{CommandView, Place, script_read, commands_of}
@@ -12,18 +12,18 @@ use Rattle.i2c_top.specs.Schedules.{schedule_read}
 use Rattle.i2c_top.specs.declared.status.BoardRefusal.{BoardRefusal}
 use Rattle.i2c_top.specs.declared.status.Status.{Status}
 use Rattle.i2c_top.specs.declared.status.Status.TheVariants as status
-use Rattle.i2c_top.proofs.BoardLemmas.{is_no_board, is_no_rejected, no_board_of, one_refusal, one_board_of}
+use Rattle.i2c_top.proofs.BoardLemmas.{is_no_rejected, one_refusal, one_board_of}
 
 one_text : (o : Option (List ℕ)) (a b : List ℕ) → o ≡ Some a → o ≡ Some b → a ≡ b
 one_text o a b e f = let h : Some a ≡ Some b = sym e ∙ f in cc
 
-no_board : (file : Files) (name : List ℕ) (why : BoardRefusal) → HasBoard file name → HasNoBoard file name why → ⊥
+no_board : (file : Files) (name : List ℕ) (why : BoardRefusal) → HasAccepted file name → HasRejected file name why → ⊥
 no_board file name why b n =
-    is_no_board b.text b.board why b.is_board (subst (λ t. IsNoBoard t why) (one_text (file name) n.text b.text n.there b.there) n.is_none)
+    is_no_rejected b.text b.board why b.is_accepted (subst (λ t. IsRejected t why) (one_text (file name) n.text b.text n.there b.there) n.is_rejected)
 
-one_why : (file : Files) (name : List ℕ) (why why_now : BoardRefusal) → HasNoBoard file name why → HasNoBoard file name why_now → why_now ≡ why
+one_why : (file : Files) (name : List ℕ) (why why_now : BoardRefusal) → HasRejected file name why → HasRejected file name why_now → why_now ≡ why
 one_why file name why why_now b n =
-    one_refusal b.text why_now why (subst (λ t. IsNoBoard t why_now) (one_text (file name) n.text b.text n.there b.there) n.is_none) b.is_none
+    one_refusal b.text why_now why (subst (λ t. IsRejected t why_now) (one_text (file name) n.text b.text n.there b.there) n.is_rejected) b.is_rejected
 
 not_both : (r : Result (List CommandView) Place) (cs : List CommandView) (p : Place) → r ≡ Ok cs → r ≡ Err p → ⊥
 not_both r cs p e f = absurd (let h : Ok cs ≡ Err p = sym e ∙ f in cc)
@@ -63,9 +63,9 @@ one_word : (file : Files) (name : List ℕ) (callers word word_now : ℕ) → Ha
 one_word file name callers word word_now b n =
     ap (word_or word) (sym n.fault ∙ ap (schedule_read callers) (one_text (file name) n.text b.text n.there b.there) ∙ b.fault)
 
-one_board_in : (file : Files) (name : List ℕ) (a b : HasBoard file name) → a.board ≡ b.board
+one_board_in : (file : Files) (name : List ℕ) (a b : HasAccepted file name) → a.board ≡ b.board
 one_board_in file name a b =
-    one_board_of b.text a.board b.board (subst (λ t. IsBoardOf t a.board) (one_text (file name) a.text b.text a.there b.there) a.is_board) b.is_board
+    one_board_of b.text a.board b.board (subst (λ t. IsAccepted t a.board) (one_text (file name) a.text b.text a.there b.there) a.is_accepted) b.is_accepted
 
 -- what the scripts cost is one number
 one_cost : (file : Files) (names : Names) (a b : HasTexts file names) → cost_in file names a.board.board ≡ cost_in file names b.board.board
@@ -78,7 +78,7 @@ not_dear m a b low high same = absurd (omega arith)
 record DecideBoard (file : Files) (names : Names) (s : Status) : Type 0 where
   why : BoardRefusal
   same : s ≡ status.Board why
-  board : HasNoBoard file names.board why
+  board : HasRejected file names.board why
 
 record DecideScript (file : Files) (names : Names) (s : Status) : Type 0 where
   caller : ℕ
@@ -91,7 +91,7 @@ record DecideScript (file : Files) (names : Names) (s : Status) : Type 0 where
 record DecideSchedule (file : Files) (names : Names) (s : Status) : Type 0 where
   word : ℕ
   same : s ≡ status.Schedule word
-  board : HasBoard file names.board
+  board : HasAccepted file names.board
   scripts : HasScripts file names.scripts (length names.scripts)
   schedule : HasBadSchedule file names.schedule (length names.scripts) word
 
@@ -186,21 +186,11 @@ decided_check file name status.Ok h = inl (refl, h)
 decided_check file name (status.Board why) h = inr (record { why = why; same = refl; board = h })
 decided_check file name _ h = absurd h
 
-not_rejected : (file : Files) (name : List ℕ) (why : BoardRefusal) → HasAccepted file name → HasRejected file name why → ⊥
-not_rejected file name why b n =
-    is_no_rejected b.text b.board why b.is_accepted (subst (λ t. IsRejected t why) (one_text (file name) n.text b.text n.there b.there) n.is_rejected)
-
-one_rejection : (file : Files) (name : List ℕ) (why why_now : BoardRefusal) → HasRejected file name why → HasRejected file name why_now → why_now ≡ why
-one_rejection file name why why_now b n =
-    one_refusal b.text why_now why
-    (no_board_of b.text why_now (subst (λ t. IsRejected t why_now) (one_text (file name) n.text b.text n.there b.there) n.is_rejected))
-    (no_board_of b.text why b.is_rejected)
-
 check_cause : (file : Files) (name : List ℕ) (s r : Status) → DecideCheck file name s → DecideCheck file name r → r ≡ s
 check_cause file name s r (inl a) (inl b) = b.0 ∙ sym a.0
-check_cause file name s r (inl a) (inr b) = absurd (not_rejected file name b.why a.1 b.board)
-check_cause file name s r (inr a) (inl b) = absurd (not_rejected file name a.why b.1 a.board)
-check_cause file name s r (inr a) (inr b) = b.same ∙ ap (λ w. status.Board w) (one_rejection file name a.why b.why a.board b.board) ∙ sym a.same
+check_cause file name s r (inl a) (inr b) = absurd (no_board file name b.why a.1 b.board)
+check_cause file name s r (inr a) (inl b) = absurd (no_board file name a.why b.1 a.board)
+check_cause file name s r (inr a) (inr b) = b.same ∙ ap (λ w. status.Board w) (one_why file name a.why b.why a.board b.board) ∙ sym a.same
 
 pub one_cause : (file : Files) (request : Request) (s r : Status) → IsCause file request s → IsCause file request r → r ≡ s
 one_cause file (Replay names) s r h k = replay_cause file names s r h k

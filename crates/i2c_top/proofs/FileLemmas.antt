@@ -10,19 +10,18 @@ use Rattle.i2c_base.specs.Board.{BoardView}
 use Rattle.caller_core.specs.Callers.{IsOpened}
 use Rattle.caller_core.specs.Scripts.{script_read, commands_of}
 use Rattle.caller_core.specs.View.{CallerView}
-use Rattle.i2c_top.specs.Boards.{IsBuilt, IsAccepted, IsRejected}
+use Rattle.i2c_top.specs.Boards.{IsAccepted, IsRejected}
 use Rattle.i2c_top.specs.Files.{Files, bytes_in}
-use Rattle.i2c_top.specs.Readings.{IsAcceptedIn, IsRejectedIn, IsBoardIn, IsScriptIn, AreScriptsIn, IsScheduleIn, HasRead, IsRefusedAt, IsRefusedScript, IsBadBoard, IsBadScript, IsBadSchedule, IsTooDear}
+use Rattle.i2c_top.specs.Readings.{IsAcceptedIn, IsRejectedIn, IsScriptIn, AreScriptsIn, IsScheduleIn, HasRead, IsRefusedAt, IsRefusedScript, IsBadBoard, IsBadScript, IsBadSchedule, IsTooDear}
 use Rattle.i2c_outside.specs.Causes.{Rose}
-use Rattle.i2c_top.specs.Replays.{Names, script_name, HasBoard, HasNoBoard, HasScript, HasBadScript, HasScripts, HasBadSchedule, HasScriptsBefore, HasTexts, texts_in, cost_in, IsFileRefusal}
+use Rattle.i2c_top.specs.Checks.{HasAccepted, HasRejected}
+use Rattle.i2c_top.specs.Replays.{Names, script_name, HasScript, HasBadScript, HasScripts, HasBadSchedule, HasScriptsBefore, HasTexts, texts_in, cost_in, IsFileRefusal}
 use Rattle.i2c_top.specs.Runs.{texts_of, cost_of_texts}
 use Rattle.i2c_top.specs.Schedules.{schedule_read}
 use Rattle.i2c_top.specs.Traces.{ShelfView, KeepsBut}
 use Rattle.i2c_top.specs.declared.status.BoardRefusal.{BoardRefusal}
-use Rattle.i2c_top.specs.declared.status.BoardRefusal.TheVariants as refusal
 use Rattle.i2c_top.specs.declared.status.Status.{Status}
 use Rattle.i2c_top.specs.declared.status.Status.TheVariants as status
-use Rattle.i2c_top.proofs.BoardLemmas.{no_board_of}
 
 pub accepted_in : (file : Files) (name text : List ℕ) (b : BoardView) → file name ≡ Some text → IsAccepted text b → IsAcceptedIn file name b
 accepted_in file name text b there h =
@@ -31,40 +30,16 @@ accepted_in file name text b there h =
       same = refl;
     }
 
--- an accepted board that is built is one that is stepped
-board_in : (file : Files) (name : List ℕ) (b c : BoardView) → IsAcceptedIn file name b → c ≡ b → IsBuilt c → IsBoardIn file name c
-board_in file name b c a same built =
-    record {
-      has = record {
-        board = a.has.board;
-        text = a.has.text;
-        there = a.has.there;
-        is_board = record { accepted = a.has.is_accepted; built = subst IsBuilt (same ∙ a.same) built };
-      };
-      same = same ∙ a.same;
-    }
-
-pub built_in : (file : Files) (name : List ℕ) (b : BoardView) (r : Result BoardView Status) → IsAcceptedIn file name b → IfOk r (λ c. c ≡ b) → IfOk r IsBuilt → IfOk r (IsBoardIn file name)
-built_in file name b (Ok c) a same built = board_in file name b c a same built
-built_in file name b (Err e) a same built = tt
-
 -- a bad text is refused at its place
 at_place : (place : ℕ) (bad bad_now : Status → Type 0) (reads reads_now : ℕ) (s : Status) → (bad s → bad_now s) → (s ≡ status.Memory) ⊎ bad s → IsRefusedAt place bad_now reads reads_now s
 at_place place bad bad_now reads reads_now s f (inl m) = inr (inl m)
 at_place place bad bad_now reads reads_now s f (inr b) = inr (inr (f b))
 
--- a rejection of the text is no matter of what is built
-not_unbuilt : (text : List ℕ) (why : BoardRefusal) → IsRejected text why → why ≡ refusal.NotBuilt → ⊥
-not_unbuilt text why n same = subst (IsRejected text) same n
-
 pub board_rejected : (tells : Bool) (file : Files) (name text : List ℕ) (reads reads_now : ℕ) (s : Status) → (IsTrue tells → file name ≡ Some text)
     → (s ≡ status.Memory) ⊎ IsBadBoard (IsRejected text) s → IsRefusedAt 1 (IsBadBoard (IsRejectedIn tells file name)) reads reads_now s
 board_rejected tells file name text reads reads_now s there h =
     at_place 1 (IsBadBoard (IsRejected text)) (IsBadBoard (IsRejectedIn tells file name)) reads reads_now s
-    (λ b. record { why = b.why; same = b.same; is_bad = (not_unbuilt text b.why b.is_bad, λ t. record { text = text; there = there t; is_rejected = b.is_bad }) }) h
-
-no_board : (tells : Bool) (file : Files) (name : List ℕ) (why : BoardRefusal) → IsRejectedIn tells file name why → IsTrue tells → HasNoBoard file name why
-no_board tells file name why n t = let r = n.1 t in record { text = r.text; there = r.there; is_none = no_board_of r.text why r.is_rejected }
+    (λ b. record { why = b.why; same = b.same; is_bad = λ t. record { text = text; there = there t; is_rejected = b.is_bad } }) h
 
 pub script_in : (file : Files) (name text : List ℕ) (b : BoardView) (r : Result CallerView Status) → file name ≡ Some text → IfOk r (IsOpened b text)
     → OnOk r (script_read text ≡ Ok (commands_of text)) → IfOk r (λ s. IsScriptIn file name s.script.text)
@@ -136,7 +111,7 @@ all_scripts tells file file_now names b scripts same count are t = same_scripts 
 
 -- what was read after other files is what was there at first
 pub has_read : (first second third : Files) (names : Names) (tells : Bool) (b : BoardView) (scripts : List CallerView) (words : List ℕ) → ((n : List ℕ) → second n ≡ first n)
-    → ((n : List ℕ) → third n ≡ second n) → IsTrue tells → IsBoardIn first names.board b → length scripts ≡ length names.scripts → AreScriptsIn tells second names.scripts b scripts
+    → ((n : List ℕ) → third n ≡ second n) → IsTrue tells → IsAcceptedIn first names.board b → length scripts ≡ length names.scripts → AreScriptsIn tells second names.scripts b scripts
     → (callers : ℕ) → callers ≡ length names.scripts
     → IsScheduleIn third names.schedule callers words → HasRead first names b (texts_of scripts) words
 has_read first second third names tells b scripts words same same_again t board count are callers known schedule =
@@ -206,7 +181,7 @@ script_refused tells file file_now names reads reads_mid reads_now n s name name
 
 -- what the board's reading left is what a script's refusal says
 pub scripts_refusal : (tells : Bool) (file file_now : Files) (names : Names) (reads reads_mid reads_now : ℕ → ℕ) (s : Status) → ((name : List ℕ) → file_now name ≡ file name)
-    → ((place : ℕ) → (place ≡ 1 → ⊥) → reads_mid place ≡ reads place) → (IsTrue tells → HasBoard file names.board)
+    → ((place : ℕ) → (place ≡ 1 → ⊥) → reads_mid place ≡ reads place) → (IsTrue tells → HasAccepted file names.board)
     → IsRefusedScript tells file_now names.scripts reads_mid reads_now s → IsFileRefusal tells file names reads reads_now s
 scripts_refusal tells file file_now names reads reads_mid reads_now s same kept board r = by r.refused
   where
@@ -231,7 +206,7 @@ scripts_refusal tells file file_now names reads reads_mid reads_now s same kept 
 
 -- and a schedule's
 pub schedule_refusal : (tells : Bool) (file file_now : Files) (names : Names) (reads reads_mid reads_now : ℕ → ℕ) (callers : ℕ) (s : Status) → callers ≡ length names.scripts
-    → ((name : List ℕ) → file_now name ≡ file name) → reads_mid 2 ≡ reads 2 → (IsTrue tells → HasBoard file names.board)
+    → ((name : List ℕ) → file_now name ≡ file name) → reads_mid 2 ≡ reads 2 → (IsTrue tells → HasAccepted file names.board)
     → (IsTrue tells → HasScripts file names.scripts (length names.scripts))
     → IsRefusedAt 2 (IsBadSchedule (λ word. IsTrue tells → HasBadSchedule file_now names.schedule callers word)) (reads_mid 2) (reads_now 2) s
     → IsFileRefusal tells file names reads reads_now s

@@ -1,5 +1,5 @@
 -- What the file of a call of `check` says where it ends with a status, and the line that it writes.
-use Rattle.std.specs.Prelude.{⊤, ◌≡◌, ◌≢◌, ℕ, List, ◌++◌, Some, length, codes}
+use Rattle.std.specs.Prelude.{⊤, ◌≡◌, ℕ, List, ◌++◌, Some, length, codes}
 use Rattle.std.specs.Fmt.{decimal}
 use Rattle.i2c_base.specs.Board.{BoardView}
 use Rattle.i2c_spec.specs.Tree.{buses}
@@ -7,7 +7,6 @@ use Rattle.i2c_top.specs.Boards.{IsAccepted, IsRejected}
 use Rattle.i2c_top.specs.Files.{Files}
 use Rattle.i2c_top.specs.Status.{Class, Done, Misused, Refused, Unread, NoRig, Silent, class_of}
 use Rattle.i2c_top.specs.declared.status.BoardRefusal.{BoardRefusal}
-use Rattle.i2c_top.specs.declared.status.BoardRefusal.TheVariants as refusal
 use Rattle.i2c_top.specs.declared.status.Status.{Status}
 use Rattle.i2c_top.specs.declared.status.Status.TheVariants as status
 
@@ -30,11 +29,10 @@ IsCheckCause file name status.Ok = HasAccepted file name
 IsCheckCause file name (status.Board why) = HasRejected file name why
 IsCheckCause file name _ = ⊥
 
--- the statuses of `check`: its board is accepted or refused, or was not read, or its line was not written. Whether a board
--- is built is no matter of it
+-- the statuses of `check`: its board is accepted or refused, or was not read, or its line was not written
 abbrev pub check_class : Status → Class → Type 0
 check_class s Done = ⊤
-check_class s Refused = (why : BoardRefusal) × (s ≡ status.Board why) × (why ≢ refusal.NotBuilt)
+check_class s Refused = (why : BoardRefusal) × (s ≡ status.Board why)
 check_class s (Unread place) = place ≡ 1
 check_class s Silent = ⊤
 check_class s Misused = ⊥

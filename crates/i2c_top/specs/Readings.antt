@@ -1,14 +1,13 @@
 -- One file of a call that is read: what came of it.
-use Rattle.std.specs.Prelude.{◌≡◌, ◌≢◌, ℕ, ◌+◌, ◌<◌, ◌⊎◌, Bool, IsTrue, List, length, take}
+use Rattle.std.specs.Prelude.{◌≡◌, ℕ, ◌+◌, ◌<◌, ◌⊎◌, Bool, IsTrue, List, length, take}
 use Rattle.i2c_base.specs.Board.{BoardView}
 use Rattle.i2c_outside.specs.Causes.{Rose}
 use Rattle.i2c_top.specs.Checks.{HasAccepted, HasRejected}
 use Rattle.i2c_top.specs.Files.{Files}
 use Rattle.caller_core.specs.View.{CallerView}
-use Rattle.i2c_top.specs.Replays.{Names, script_name, HasBoard, HasScript, HasBadScript, HasScripts, HasSchedule, texts_in}
+use Rattle.i2c_top.specs.Replays.{Names, script_name, HasScript, HasBadScript, HasScripts, HasSchedule, texts_in}
 use Rattle.i2c_top.specs.Runs.{AreOpened, texts_of, MOST_COST}
 use Rattle.i2c_top.specs.declared.status.BoardRefusal.{BoardRefusal}
-use Rattle.i2c_top.specs.declared.status.BoardRefusal.TheVariants as refusal
 use Rattle.i2c_top.specs.declared.status.Status.{Status}
 use Rattle.i2c_top.specs.declared.status.Status.TheVariants as status
 
@@ -19,12 +18,7 @@ pub record IsAcceptedIn (file : Files) (name : List ℕ) (board : BoardView) : T
 
 -- a file that is told spells no accepted board, for this
 abbrev pub IsRejectedIn : Bool → Files → List ℕ → BoardRefusal → Type 0
-IsRejectedIn tells file name why = (why ≢ refusal.NotBuilt) × (IsTrue tells → HasRejected file name why)
-
--- the board is that of a file, and this version steps it
-pub record IsBoardIn (file : Files) (name : List ℕ) (board : BoardView) : Type 0 where
-  pub has : HasBoard file name
-  pub same : board ≡ has.board
+IsRejectedIn tells file name why = IsTrue tells → HasRejected file name why
 
 -- the text is that of a file, and in the grammar
 pub record IsScriptIn (file : Files) (name text : List ℕ) : Type 0 where
@@ -44,7 +38,7 @@ pub record AreScriptsIn (tells : Bool) (file : Files) (names : List (List ℕ)) 
 
 -- the files are there, and this is the board, the scripts' texts and the schedule's callers
 pub record HasRead (file : Files) (names : Names) (board : BoardView) (texts : List (List ℕ)) (words : List ℕ) : Type 0 where
-  pub board_in : IsBoardIn file names.board board
+  pub board_in : IsAcceptedIn file names.board board
   pub scripts : HasScripts file names.scripts (length names.scripts)
   pub texts_are : texts ≡ texts_in file names.scripts
   pub schedule_in : IsScheduleIn file names.schedule (length names.scripts) words

@@ -2,7 +2,7 @@
 use Rattle.std.specs.Prelude.{⊤, ◌≡◌, ◌≢◌, ℕ, ◌+◌, ◌-◌, ◌<◌, ◌≤◌, ◌⊎◌, Bool, IsTrue, ◌==◌, if◌then◌else◌, List, [], length, map, slice_get, unwrap_or, Some, Ok, Err}
 use Rattle.i2c_outside.specs.Causes.{Rose}
 use Rattle.i2c_base.specs.Board.{BoardView}
-use Rattle.i2c_top.specs.Boards.{IsBoardOf, IsNoBoard}
+use Rattle.i2c_top.specs.Checks.{HasAccepted, HasRejected}
 use Rattle.i2c_top.specs.Files.{Files, bytes_in}
 use Rattle.caller_core.specs.Scripts.{script_read, commands_of}
 use Rattle.i2c_top.specs.Runs.{cost_of_texts, MOST_COST}
@@ -29,19 +29,6 @@ name_at names place = if place == 1 then names.board else if place == 2 then nam
 pub record IsPlaceIn (names : Names) (place : ℕ) : Type 0 where
   pub first : 1 ≤ place
   pub last : place < 3 + length names.scripts
-
--- the board's file is there, and its text spells this board, which this version steps
-pub record HasBoard (file : Files) (name : List ℕ) : Type 0 where
-  pub board : BoardView
-  pub text : List ℕ
-  pub there : file name ≡ Some text
-  pub is_board : IsBoardOf text board
-
--- it is there, and its text is refused for this
-pub record HasNoBoard (file : Files) (name : List ℕ) (why : BoardRefusal) : Type 0 where
-  pub text : List ℕ
-  pub there : file name ≡ Some text
-  pub is_none : IsNoBoard text why
 
 -- a script's file is there, and in the grammar
 pub record HasScript (file : Files) (name : List ℕ) : Type 0 where
@@ -78,7 +65,7 @@ pub record HasBadSchedule (file : Files) (name : List ℕ) (callers word : ℕ) 
 
 -- the files are there, and well formed
 pub record HasTexts (file : Files) (names : Names) : Type 0 where
-  pub board : HasBoard file names.board
+  pub board : HasAccepted file names.board
   pub scripts : HasScripts file names.scripts (length names.scripts)
   pub schedule : HasSchedule file names.schedule (length names.scripts)
 
@@ -100,16 +87,16 @@ pub record HasDearFiles (file : Files) (names : Names) (cost : ℕ) : Type 0 whe
 -- there is a board, and the scripts before this one are in the grammar
 pub record HasScriptsBefore (file : Files) (names : Names) (caller : ℕ) : Type 0 where
   pub known : caller < length names.scripts
-  pub board : HasBoard file names.board
+  pub board : HasAccepted file names.board
   pub before : HasScripts file names.scripts caller
 
 -- what the files say where `replay` ends with a status that they decide: success, and each refusal of a file's text
 abbrev pub IsReplayCause : Files → Names → Status → Type 0
 IsReplayCause file names status.Ok = HasFiles file names
-IsReplayCause file names (status.Board why) = HasNoBoard file names.board why
+IsReplayCause file names (status.Board why) = HasRejected file names.board why
 IsReplayCause file names (status.Script caller line word) = HasScriptsBefore file names caller × HasBadScript file (script_name names.scripts caller) line word
 IsReplayCause file names (status.Schedule word) =
-    HasBoard file names.board × HasScripts file names.scripts (length names.scripts) × HasBadSchedule file names.schedule (length names.scripts) word
+    HasAccepted file names.board × HasScripts file names.scripts (length names.scripts) × HasBadSchedule file names.schedule (length names.scripts) word
 IsReplayCause file names (status.Cost cost) = HasDearFiles file names cost
 IsReplayCause file names _ = ⊥
 
@@ -124,7 +111,7 @@ pub record IsScriptInTurn (file : Files) (names : Names) (place : ℕ) : Type 0 
 abbrev pub IsReadInTurn : Files → Names → ℕ → Type 0
 IsReadInTurn file names place =
     (place ≡ 1) ⊎ (IsScriptInTurn file names place
-    ⊎ ((place ≡ 2) × HasBoard file names.board × HasScripts file names.scripts (length names.scripts)))
+    ⊎ ((place ≡ 2) × HasAccepted file names.board × HasScripts file names.scripts (length names.scripts)))
 
 -- a file at one of these places was not read, and its count shows it
 pub record IsUnread (places : ℕ → Type 0) (reads reads_now : ℕ → ℕ) (place : ℕ) : Type 0 where

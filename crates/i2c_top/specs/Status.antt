@@ -82,7 +82,6 @@ broken_text r = codes "rule TR" ++ (decimal r.rule ++ (codes " " ++ (item_text r
 abbrev pub board_text : BoardRefusal → List ℕ
 board_text (refusal.Fault f) = fault_text f
 board_text (refusal.Rule r) = broken_text r
-board_text refusal.NotBuilt = codes "not built\n"
 
 abbrev pub unread_text : List ℕ → List ℕ
 unread_text name = codes "cannot read " ++ (name ++ codes "\n")

@@ -50,7 +50,7 @@ fn check_board<S: Shelf>(alloc: Global, board: &str, shelf: &mut S) -> Result<Ve
 }
 
 /// Reads a board and says what it has, `accepted: R roots M muxes D devices B buses`; a refusal writes its line. No rig
-/// is plugged, and a board is accepted that this version doesn't step.
+/// is plugged.
 ///
 /// It returns on every input. `Board` is told exactly where the text has that first fault, or where that is the first
 /// broken rule; `Read(1)` only where the shelf counted a fault of that file; `Write` where the sink did.

@@ -4,19 +4,18 @@ ghost use Rattle.i2c_boardtext.specs.BoardText.{board_of};
 ghost use Rattle.i2c_outside.specs.Causes.{Rose};
 ghost use Rattle.caller_core.specs.Callers.{IsOpened};
 ghost use Rattle.caller_core.specs.Scripts.{script_read, commands_of};
-ghost use Rattle.i2c_top.specs.Boards.{IsBuilt, IsAccepted, IsRejected};
+ghost use Rattle.i2c_top.specs.Boards.{IsAccepted, IsRejected};
 ghost use Rattle.i2c_top.specs.Forms.{ArePlaced, names_told};
 ghost use Rattle.i2c_top.specs.Names.{AreNamesFrom};
-ghost use Rattle.i2c_top.specs.Readings.{IsAcceptedIn, IsRejectedIn, IsBoardIn, IsScriptIn, AreScriptsIn, IsScheduleIn, HasRead, IsRefusedAt, IsRefusedScript, IsBadBoard, IsBadScript, IsBadSchedule};
-ghost use Rattle.i2c_top.specs.Replays.{script_name, HasNoBoard, HasBadScript, HasBadSchedule, IsPlaceIn, KeepsUnreached, IsFileRefusal};
+ghost use Rattle.i2c_top.specs.Readings.{IsAcceptedIn, IsRejectedIn, IsScriptIn, AreScriptsIn, IsScheduleIn, HasRead, IsRefusedAt, IsRefusedScript, IsBadBoard, IsBadScript, IsBadSchedule};
+ghost use Rattle.i2c_top.specs.Checks.{HasRejected};
+ghost use Rattle.i2c_top.specs.Replays.{script_name, HasBadScript, HasBadSchedule, IsPlaceIn, KeepsUnreached, IsFileRefusal};
 ghost use Rattle.i2c_top.specs.Requests.{Replay};
 ghost use Rattle.i2c_top.specs.Runs.{AreOpened, texts_of, cost_of_texts, MOST_COST};
 ghost use Rattle.i2c_top.specs.Schedules.{schedule_read};
 ghost use Rattle.i2c_top.specs.Traces.{KeepsBut, shelf_view};
-ghost use Rattle.i2c_top.specs.declared.status.BoardRefusal.TheVariants as refusal;
 ghost use Rattle.i2c_top.specs.declared.status.Status.TheVariants as status;
 
-use crate::built::is_built;
 use crate::cost::check_cost;
 use crate::request::{BOARD, ReplayNames, SCHEDULE, SCRIPT};
 use crate::schedule::{ScheduleFault, read_schedule};
@@ -91,20 +90,6 @@ fn accepted_of(alloc: Global, text: &[u8]) -> Result<Accepted, Status>
     }
 }
 
-// A board that meets the rules, if this version steps it.
-fn built(board: Accepted) -> Result<Accepted, Status>
-    ensures same { IfOk result (λ b. b ≡ board) }
-    ensures built { IfOk result IsBuilt }
-    ensures refused { IfErr result (λ e. e ≡ status.Board refusal.NotBuilt) }
-    ensures unbuilt { IfErr result (λ e. IsBuilt board → ⊥) }
-{
-    if is_built(board.board()) {
-        Ok(board)
-    } else {
-        Err(Status::Board(BoardRefusal::NotBuilt))
-    }
-}
-
 // The script of a text, for the caller with this number.
 fn script_of(alloc: Global, board: &Accepted, text: Vec<u8>, caller: u8) -> Result<Script, Status>
     requires { length text.items ≤ 2 ^ 28 }
@@ -141,17 +126,6 @@ pub fn read_accepted<S: Shelf>(alloc: Global, shelf: &mut S, name: &str) -> Resu
 {
     let text = bytes_at(alloc, shelf, BOARD, name)?;
     accepted_of(alloc, text.as_slice())
-}
-
-// Reads the board's file: the board that it spells, which meets the rules and is stepped; or the refusal.
-fn read_built<S: Shelf>(alloc: Global, shelf: &mut S, name: &str) -> Result<Accepted, Status>
-    requires named { slice_get (S.words shelf.old) 1 ≡ Some name.now }
-    ensures kept { KeepsBut (λ p. p ≡ 1) (shelf_view S.Shelf shelf.old) (shelf_view S.Shelf shelf.new) }
-    ensures board { IsTrue S.tells → IfOk result (IsBoardIn (S.file shelf.old) name.now) }
-    ensures refused { IfErr result (IsRefusedAt 1 (IsBadBoard (λ why. IsTrue S.tells → HasNoBoard (S.file shelf.old) name.now why)) (S.faults shelf.old 1) (S.faults shelf.new 1)) }
-{
-    let board = read_accepted(alloc, shelf, name)?;
-    built(board)
 }
 
 // Reads the file of the script with this number.
@@ -247,7 +221,7 @@ pub fn read_files<S: Shelf>(
     ensures unreached { IfErr result (KeepsUnreached (S.faults shelf.old) (S.faults shelf.new)) }
     ensures refused { IfErr result (IsFileRefusal S.tells (S.file shelf.old) (names_told names.now) (S.faults shelf.old) (S.faults shelf.new)) }
 {
-    let board = read_built(alloc, shelf, names.board)?;
+    let board = read_accepted(alloc, shelf, names.board)?;
     let scripts = scripts_in(alloc, &board, shelf, names.scripts)?;
     let words = schedule_in(alloc, shelf, callers_of(scripts.as_slice()), names.schedule)?;
     check_cost(&board, scripts.as_slice())?;

@@ -13,7 +13,6 @@
 //! report).
 #![tactic(auto)]
 
-mod built;
 mod check;
 mod cost;
 mod ending;

@@ -96,7 +96,6 @@ fn push_board(out: &mut Vec<u8>, why: BoardRefusal) -> Result<(), NoMemory>
     match why {
         BoardRefusal::Fault(fault) => push_fault(out, fault),
         BoardRefusal::Rule(broken) => push_broken(out, broken),
-        BoardRefusal::NotBuilt => push_bytes(out, b"not built\n"),
     }
 }
 

@@ -13,8 +13,6 @@ pub enum BoardRefusal {
     Fault(BoardFault),
     /// It breaks this topology rule, and none before it.
     Rule(RuleBroken),
-    /// It meets the rules, and has what this version doesn't step.
-    NotBuilt,
 }
 
 /// How a call of the program ended.

@@ -1,10 +1,10 @@
 -- Over the long division: the bits that come down are added to what zero bits in their place leave.
-use Rattle.std.proofs.Common.{◌≡◌, ℕ, ◌+◌, ◌*◌, ◌/◌, ◌%◌, ◌<◌, ◌^◌, Bool, true, false, List, [], ◌∷◌, ◌++◌, cond, nat_lt, bit_xor, arith, sym, ap, ◌∙◌}
+use Rattle.std.proofs.Common.{◌≡◌, ℕ, ◌+◌, ◌*◌, ◌/◌, ◌%◌, ◌<◌, ◌^◌, Bool, true, false, [], ◌∷◌, ◌++◌, cond, nat_lt, bit_xor, arith, sym, ap, ◌∙◌}
 use Rattle.std.proofs.lemmas.Nat.{xor_comm, xor_shr, xor_block}
 use Rattle.std.proofs.lemmas.Bool.Decides.{nat_tests}
 use Rattle.std.proofs.lemmas.List.Sums.{fold-append}
 use Rattle.std.specs.Int.Bits.{xor_assoc, xor_zero_l, xor_zero_r}
-use Rattle.smb_pec.specs.LongDivision.{DIVISOR, bit_down, byte_down, remainder, pec}
+use Rattle.smb_pec.specs.LongDivision.{DIVISOR, bit_down, byte_down, remainder, CodeRunsAlong}
 
 -- doubling, and a bit behind it
 doubled : (x y bit : ℕ) → bit < 2 → 2 * bit_xor x y + bit ≡ bit_xor (2 * x) (2 * y + bit)
@@ -56,7 +56,7 @@ byte_down-added r b small =
     next _ _ (b / 2) (b / 1 % 2) b s1 (omega arith) (omega arith) (omega arith)
 
 -- one byte more
-pub pec_more : (bytes : List ℕ) (b : ℕ) → b < 256 → pec (bytes ++ b ∷ []) ≡ byte_down (bit_xor (pec bytes) b) 0
+pub pec_more : CodeRunsAlong
 pec_more bytes b small =
     fold-append byte_down 0 (bytes ++ b ∷ []) (0 ∷ [])
     ∙ ap (λ r. byte_down r 0)

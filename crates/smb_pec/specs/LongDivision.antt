@@ -1,5 +1,5 @@
 -- The packet error code as the remainder of a long division of bits, where taking off is xor (SMBus 3.2, section 6.4).
-use Rattle.std.specs.Prelude.{ℕ, ◌+◌, ◌*◌, List, [], ◌∷◌, ◌++◌, map, fold, nat_lt, bit_xor, if◌then◌else◌}
+use Rattle.std.specs.Prelude.{◌≡◌, ℕ, ◌+◌, ◌*◌, ◌<◌, List, [], ◌∷◌, ◌++◌, map, fold, nat_lt, bit_xor, if◌then◌else◌}
 use Rattle.std.specs.Int.{bit_at}
 
 -- x^8 + x^2 + x + 1
@@ -21,3 +21,15 @@ remainder bytes = fold byte_down 0 bytes
 -- that of the bytes and eight zero bits
 abbrev pub pec : List ℕ → ℕ
 pec bytes = remainder (bytes ++ 0 ∷ [])
+
+-- from the code of some bytes to that of one byte more: the byte is added to it, and eight zero bits come down
+abbrev pub pec_with : ℕ → ℕ → ℕ
+pec_with code byte = byte_down (bit_xor code byte) 0
+
+-- so a code can run along with the bytes
+abbrev pub CodeRunsAlong : Type 0
+CodeRunsAlong = (bytes : List ℕ) (byte : ℕ) → byte < 256 → pec (bytes ++ byte ∷ []) ≡ pec_with (pec bytes) byte
+
+-- and stays a byte
+abbrev pub CodeIsByte : Type 0
+CodeIsByte = (code byte : ℕ) → code < 256 → byte < 256 → pec_with code byte < 256

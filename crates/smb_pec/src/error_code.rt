@@ -1,5 +1,5 @@
 ghost use Rattle.std.specs.Prelude.{◌≡◌};
-ghost use Rattle.smb_pec.specs.LongDivision.{pec};
+ghost use Rattle.smb_pec.specs.LongDivision.{pec, pec_with, CodeIsByte, CodeRunsAlong};
 
 // What the eight zero bits make of each remainder.
 #[rattlefmt::skip]
@@ -28,7 +28,20 @@ pub fn pec(bytes: &[u8]) -> u8
 {
     let mut code = 0;
     for byte in bytes {
-        code = TABLE[usize::from(code ^ *byte)];
+        code = pec_with(code, *byte);
     }
     code
 }
+
+/// The packet error code of some bytes and this one, from the code of those bytes; of no byte it is 0.
+pub fn pec_with(code: u8, byte: u8) -> u8
+    ensures { result ≡ pec_with code byte }
+{
+    TABLE[usize::from(code ^ byte)]
+}
+
+/// The code of bytes that come one after the other is had from byte to byte, and is a byte.
+pub fn the_code_runs_along()
+    ensures along { CodeRunsAlong }
+    ensures byte { CodeIsByte }
+{}

@@ -1,9 +1,10 @@
 -- What the states of the devices keep: they hold bytes. The inductions go over memories.
 use Rattle.std.proofs.Common.{◌≡◌, ℕ, zero, suc, ◌+◌, ◌-◌, ◌*◌, ◌/◌, ◌%◌, ◌==◌, ◌<◌, ◌≤◌, nat_lt, Option, Some, None, if◌then◌else◌, Bool, true, false, List, [], ◌∷◌, ◌++◌, length, take, drop, replicate, set, get_or, refl, ◌∙◌, arith, mod-eq_of_lt}
 use Rattle.std.specs.List.{AllByRecursion, All}
-use Rattle.std.specs.Prelude.{IfSome, bit_and, unwrap_or}
+use Rattle.std.specs.Prelude.{IfSome, bit_and, bit_xor, unwrap_or}
 use Rattle.std.proofs.lemmas.List.Elements.{All-head, All-tail, recursion_from_All}
 use Rattle.std.proofs.lemmas.Grind.{and_numeral}
+use Rattle.std.proofs.lemmas.Nat.{xor_of_8}
 use Rattle.i2c_base.specs.declared.board.DeviceKind.{DeviceKind}
 use Rattle.i2c_base.specs.declared.board.DeviceKind.TheVariants as kind
 use Rattle.i2c_base.specs.declared.event.Event.{Event}
@@ -18,8 +19,12 @@ use Rattle.i2c_spec.specs.Eeprom as eeprom
 use Rattle.i2c_spec.specs.Eeprom.{EepromView, EepromPhase, Address, clear_to, eeprom_after, eeprom_begun, eeprom_get, eeprom_put, eeprom_sends, eeprom_stop, in_page, is_wide, page_of_eeprom, page_start, pointed, size_of_eeprom, taken_in, waits}
 use Rattle.i2c_spec.specs.Lm75 as lm75
 use Rattle.i2c_spec.specs.Lm75.{Lm75View, Lm75Phase, byte_of_word, lm75_after, lm75_get, lm75_put, lm75_sends, register_sends, register_written, with_high, with_low, word_written}
-use Rattle.i2c_spec.specs.Targets.{TargetState, Eeprom, Lm75, Regs, Silent, state_after, state_answer, row_of_kind, opening_state, FitsKind}
+use Rattle.i2c_spec.specs.SmbusDevice as smbus
+use Rattle.i2c_spec.specs.SmbusDevice.{SmbusView, SmbusPhase, address_byte, code_so_far, data_byte, dropped, held_written, is_whole, memory_left, read_length, smbus_after, smbus_get, smbus_put, smbus_sends, takes_effect}
+use Rattle.i2c_spec.specs.Targets.{TargetState, Eeprom, Lm75, Regs, Smbus, Silent, state_after, state_answer, row_of_kind, opening_state, FitsKind}
 use Rattle.i2c_spec.specs.World.{byte_of, has_heard, is_ack, is_slow}
+use Rattle.smb_pec.specs.LongDivision.{pec_with}
+use Rattle.smb_pec.proofs.TableLemmas.{code_is_byte}
 use Rattle.bus_laws.specs.Alike.{HoldsBytes, IsWord}
 
 -- who is slow, or acknowledges, has heard
@@ -221,10 +226,89 @@ lm75_sent_byte x lm75.Idle all = omega arith
 lm75_sent_byte x lm75.Pointer all = omega arith
 lm75_sent_byte x (lm75.Data k) all = omega arith
 
+-- SMBUS DEVICES
+either_smbus : (b : Bool) (x y : SmbusView) → HoldsBytes (Smbus x) → HoldsBytes (Smbus y) → HoldsBytes (Smbus (if b then x else y))
+either_smbus true x y hx hy = hx
+either_smbus false x y hx hy = hy
+
+either_bytes : (b : Bool) (xs ys : List ℕ) → AllByRecursion IsByte xs → AllByRecursion IsByte ys → AllByRecursion IsByte (if b then xs else ys)
+either_bytes true xs ys hx hy = hx
+either_bytes false xs ys hx hy = hy
+
+held_bytes : (memory : List ℕ) (place : ℕ) (held : List ℕ) → AllByRecursion IsByte held → AllByRecursion IsByte memory
+    → AllByRecursion IsByte (held_written memory place held)
+held_bytes memory place [] bytes all = all
+held_bytes memory place (byte ∷ held) bytes all =
+    held_bytes (set memory place byte) ((place + 1) % 256) held bytes.1 (set_all IsByte memory place byte bytes.0 all)
+
+left_bytes : (x : SmbusView) → HoldsBytes (Smbus x) → AllByRecursion IsByte (memory_left x)
+left_bytes x all =
+    either_bytes (takes_effect x x.phase) (held_written x.memory x.command x.held) x.memory (held_bytes x.memory x.command x.held all.3 all.4) all.4
+
+so_far_byte : (x : SmbusView) (p : SmbusPhase) → IsByte x.code → IsByte (code_so_far x p)
+so_far_byte x smbus.Idle small = omega arith
+so_far_byte x smbus.Command small = small
+so_far_byte x smbus.Data small = small
+so_far_byte x smbus.Checked small = small
+so_far_byte x (smbus.Read k) small = small
+
+address_is_byte : (addr : ℕ) (reading : Bool) → addr < 128 → IsByte (address_byte addr reading)
+address_is_byte addr true near = omega arith
+address_is_byte addr false near = omega arith
+
+smbus_put_bytes : (x : SmbusView) (p : SmbusPhase) (byte : ℕ) → IsByte byte → HoldsBytes (Smbus x) → HoldsBytes (Smbus (smbus_put x p byte))
+smbus_put_bytes x smbus.Command byte small all = (all.0, all.1, code_is_byte x.code byte all.2 small, all.3, all.4)
+smbus_put_bytes x smbus.Data byte small all =
+    either_smbus (is_whole x) (if byte == x.code then record x { phase = smbus.Checked } else dropped x)
+    (record x { held = x.held ++ byte ∷ []; code = pec_with x.code byte })
+    (either_smbus (byte == x.code) (record x { phase = smbus.Checked }) (dropped x) all (all.0, all.1, all.2, tt, all.4))
+    (all.0, all.1, code_is_byte x.code byte all.2 small, append_bytes x.held (byte ∷ []) all.3 (small, tt), all.4)
+smbus_put_bytes x smbus.Checked byte small all = (all.0, all.1, all.2, tt, all.4)
+smbus_put_bytes x smbus.Idle byte small all = all
+smbus_put_bytes x (smbus.Read k) byte small all = all
+
+smbus_got_bytes : (x : SmbusView) (p : SmbusPhase) (ack : Bool) → HoldsBytes (Smbus x) → HoldsBytes (Smbus (smbus_get x p ack))
+smbus_got_bytes x (smbus.Read k) ack all = (
+  all.0,
+  all.1,
+  either_byte (nat_lt k (read_length x)) (pec_with x.code (data_byte x k)) x.code
+      (code_is_byte x.code (data_byte x k) all.2 (get_byte x.memory ((x.command + k) % 256) all.4)) all.2,
+  all.3,
+  all.4,
+)
+smbus_got_bytes x smbus.Idle ack all = all
+smbus_got_bytes x smbus.Command ack all = all
+smbus_got_bytes x smbus.Data ack all = all
+smbus_got_bytes x smbus.Checked ack all = all
+
+smbus_after_bytes : (x : SmbusView) (e : Event) → IsByteEvent e → HoldsBytes (Smbus x) → HoldsBytes (Smbus (smbus_after x e))
+smbus_after_bytes x (event.Start reading) fit all = (
+  all.0,
+  all.1,
+  code_is_byte (code_so_far x x.phase) (address_byte x.addr reading) (so_far_byte x x.phase all.2) (address_is_byte x.addr reading all.0),
+  tt,
+  either_bytes reading (memory_left x) x.memory (left_bytes x all) all.4,
+)
+smbus_after_bytes x (event.Put byte) fit all = smbus_put_bytes x x.phase byte fit all
+smbus_after_bytes x (event.Get ack) fit all = smbus_got_bytes x x.phase ack all
+smbus_after_bytes x event.Other fit all = (all.0, all.1, all.2, tt, all.4)
+smbus_after_bytes x event.Stop fit all = (all.0, all.1, all.2, tt, left_bytes x all)
+
+smbus_sent_byte : (x : SmbusView) (p : SmbusPhase) → HoldsBytes (Smbus x) → IsByte (smbus_sends x p)
+smbus_sent_byte x (smbus.Read k) all =
+    either_byte (nat_lt k (read_length x)) (data_byte x k) (if k == read_length x then bit_xor x.code x.flip else 255)
+    (get_byte x.memory ((x.command + k) % 256) all.4)
+    (either_byte (k == read_length x) (bit_xor x.code x.flip) 255 (xor_of_8 x.code x.flip all.2 all.1) (omega arith))
+smbus_sent_byte x smbus.Idle all = omega arith
+smbus_sent_byte x smbus.Command all = omega arith
+smbus_sent_byte x smbus.Data all = omega arith
+smbus_sent_byte x smbus.Checked all = omega arith
+
 -- ALL KINDS
 pub after-bytes : (x : TargetState) (e : Event) → IsByteEvent e → HoldsBytes x → HoldsBytes (state_after x e)
 after-bytes (Eeprom x) e fit all = eeprom_after_bytes x e fit all
 after-bytes (Lm75 x) e fit all = lm75_after_bytes x e fit all
+after-bytes (Smbus x) e fit all = smbus_after_bytes x e fit all
 after-bytes Silent e fit all = tt
 after-bytes (Regs x) (event.Start reading) fit all = all
 after-bytes (Regs x) (event.Put byte) fit all = put_bytes x x.phase byte fit all
@@ -236,6 +320,7 @@ pub sends-byte : (x : TargetState) (ack : Bool) → HoldsBytes x → IsByte (byt
 sends-byte (Eeprom x) ack all = eeprom_sent_byte x x.phase all.0
 sends-byte (Lm75 x) ack all = lm75_sent_byte x x.phase all
 sends-byte (Regs x) ack all = sent_byte x x.phase all
+sends-byte (Smbus x) ack all = smbus_sent_byte x x.phase all
 sends-byte Silent ack all = omega arith
 
 -- OPENINGS
@@ -255,21 +340,30 @@ runs_bytes (r ∷ rs) memory all held =
     (append_bytes (take r.start memory ++ r.bytes) (drop (r.start + length r.bytes) memory)
     (append_bytes (take r.start memory) r.bytes (take_bytes r.start memory held) all.0) (drop_bytes (r.start + length r.bytes) memory held))
 
-opened_bytes : (k : DeviceKind) (runs : List RunView) → FitsKind k → RunsHoldBytes runs → HoldsBytes ((row_of_kind k).opens runs)
-opened_bytes (kind.Regs hold) runs fits all =
+opened_bytes : (k : DeviceKind) (addr : ℕ) (runs : List RunView) → addr < 128 → FitsKind k → RunsHoldBytes runs → HoldsBytes ((row_of_kind k).opens addr runs)
+opened_bytes (kind.Regs hold) addr runs near fits all =
     runs_bytes runs (replicate 256 0) all (all_of IsByte 256 0 (let small : 0 < 256 = omega arith in small))
-opened_bytes (kind.Eeprom size fill busy wp) runs fits all =
+opened_bytes (kind.Eeprom size fill busy wp) addr runs near fits all =
     let most : fill ≤ 255 = fits.0.1 in
     let small : fill < 256 = omega arith in
     (runs_bytes runs (replicate (size_of_eeprom size) fill) all (all_of IsByte (size_of_eeprom size) fill small), all_of Place (page_of_eeprom size) None tt)
-opened_bytes (kind.Lm75 raw) runs fits all =
+opened_bytes (kind.Lm75 raw) addr runs near fits all =
     let most : raw ≤ 65535 = fits.0.1 in (
       let word : raw / 128 * 128 < 65536 = omega arith in word,
       let byte : 0 < 256 = omega arith in byte,
       let word : 0x4B00 < 65536 = omega arith in word,
       let word : 0x5000 < 65536 = omega arith in word,
     )
-opened_bytes (kind.Smbus width flip) runs fits all = tt
+opened_bytes (kind.Smbus width flip) addr runs near fits all =
+    let most : flip ≤ 255 = fits.1.0.1 in (
+      near,
+      let small : flip < 256 = omega arith in small,
+      let byte : 0 < 256 = omega arith in byte,
+      tt,
+      runs_bytes runs (replicate 256 0) all (all_of IsByte 256 0 (let small : 0 < 256 = omega arith in small)),
+    )
 
 pub opening-bytes : (d : DeviceView) → IsPlainDevice d → HoldsBytes (opening_state d)
-opening-bytes d plain = opened_bytes d.kind d.set plain.kind (plain_runs (unwrap_or (row_of_kind d.kind).memory 0) d.set plain.runs)
+opening-bytes d plain =
+    let last : d.addr ≤ 119 = plain.address.1 in
+    opened_bytes d.kind d.addr d.set (omega arith) plain.kind (plain_runs (unwrap_or (row_of_kind d.kind).memory 0) d.set plain.runs)

@@ -1,5 +1,5 @@
 -- A line step that comes next is of a gpio mux on that root, to a level that it has. No induction.
-use Rattle.std.proofs.Common.{◌≡◌, ℕ, ◌<◌, ◌≤◌, true, false, zero, Some, refl, sym, ◌∙◌, ap, subst, arith}
+use Rattle.std.proofs.Common.{◌≡◌, ℕ, ◌<◌, ◌≤◌, true, false, zero, Some, sym, ◌∙◌, ap, subst, arith}
 use Rattle.i2c_base.specs.declared.board.MuxKind.{MuxKind}
 use Rattle.i2c_base.specs.declared.board.MuxKind.TheVariants as mux_kind
 use Rattle.i2c_base.specs.Board.{BoardView}
@@ -7,7 +7,7 @@ use Rattle.i2c_base.proofs.MuxLemmas.{gpio_only}
 use Rattle.i2c_spec.specs.Tree.{root_of, of_mux}
 use Rattle.i2c_spec.specs.TreeFacts.{IsTree, IsHop}
 use Rattle.i2c_spec.specs.History.{Asks}
-use Rattle.bus_spec.specs.Walk.{Job, Call, Select, Clear, Shift, WalkTree, Then, job_bus, is_line, is_gpio, line_mux, line_level}
+use Rattle.bus_spec.specs.Walk.{Job, Call, Select, Clear, Shift, WalkTree, Then, job_bus, is_line, line_mux, line_level}
 use Rattle.bus_spec.specs.Slots.{Slots}
 use Rattle.bus_spec.specs.Grammar.{first_act}
 use Rattle.bus_spec.specs.Past.{Now, current}

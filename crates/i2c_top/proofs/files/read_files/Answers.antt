@@ -10,8 +10,8 @@ use Rattle.i2c_top.proofs.files.read_files.Goals as goal
 pub returns-in_err-scripts-clause-refused : goal.returns-in_err-scripts-clause-refused
 returns-in_err-scripts-clause-refused g c =
     passed_on c.from_residual-in_err-scripts.result c.in_err-scripts.field-0.0 _ c.from_residual-in_err-scripts.ensures.1
-    (scripts_refusal g.S.Shelf.tells (g.S.Shelf.file c.args.shelf.now) (g.S.Shelf.file c.read_built.new.shelf) (names_told c.args.names.now) (g.S.Shelf.faults c.args.shelf.now)
-    (g.S.Shelf.faults c.read_built.new.shelf) (g.S.Shelf.faults c.scripts_in.new.shelf) c.in_err-scripts.field-0.0 c.read_built.ensures.kept.files c.read_built.ensures.kept.others
+    (scripts_refusal g.S.Shelf.tells (g.S.Shelf.file c.args.shelf.now) (g.S.Shelf.file c.read_accepted.new.shelf) (names_told c.args.names.now) (g.S.Shelf.faults c.args.shelf.now)
+    (g.S.Shelf.faults c.read_accepted.new.shelf) (g.S.Shelf.faults c.scripts_in.new.shelf) c.in_err-scripts.field-0.0 c.read_accepted.ensures.kept.files c.read_accepted.ensures.kept.others
     (λ t. (c.in_ok-board.ensures.board t).has) c.in_err-scripts.ensures.refused)
 
 pub returns-in_err-words-clause-refused : goal.returns-in_err-words-clause-refused
@@ -22,10 +22,10 @@ returns-in_err-words-clause-refused g c =
     passed_on c.from_residual-in_err-words.result c.in_err-words.field-0.0 _ c.from_residual-in_err-words.ensures.1
     (schedule_refusal g.S.Shelf.tells file (g.S.Shelf.file c.scripts_in.new.shelf) names (g.S.Shelf.faults c.args.shelf.now) (g.S.Shelf.faults c.scripts_in.new.shelf)
     (g.S.Shelf.faults c.schedule_in.new.shelf) c.callers_of.result c.in_err-words.field-0.0 (c.callers_of.ensures ∙ ap length c.as_slice.ensures.value ∙ count)
-    (λ n. c.scripts_in.ensures.kept.files n ∙ c.read_built.ensures.kept.files n)
-    (c.scripts_in.ensures.kept.others 2 (λ p. absurd (omega (arith, p.0))) ∙ c.read_built.ensures.kept.others 2 (λ e. absurd (omega (arith, e))))
+    (λ n. c.scripts_in.ensures.kept.files n ∙ c.read_accepted.ensures.kept.files n)
+    (c.scripts_in.ensures.kept.others 2 (λ p. absurd (omega (arith, p.0))) ∙ c.read_accepted.ensures.kept.others 2 (λ e. absurd (omega (arith, e))))
     (λ t. (c.in_ok-board.ensures.board t).has)
-    (all_scripts g.S.Shelf.tells file (g.S.Shelf.file c.read_built.new.shelf) names.scripts c.in_ok-board.board c.in_ok-scripts.scripts.items c.read_built.ensures.kept.files count c.in_ok-scripts.ensures.scripts)
+    (all_scripts g.S.Shelf.tells file (g.S.Shelf.file c.read_accepted.new.shelf) names.scripts c.in_ok-board.board c.in_ok-scripts.scripts.items c.read_accepted.ensures.kept.files count c.in_ok-scripts.ensures.scripts)
     c.in_err-words.ensures.refused)
 
 pub returns-in_err-check_cost-clause-refused : goal.returns-in_err-check_cost-clause-refused
@@ -36,7 +36,7 @@ returns-in_err-check_cost-clause-refused g c =
     passed_on c.from_residual-in_err-check_cost.result c.in_err-check_cost.field-0.0 _ c.from_residual-in_err-check_cost.ensures.1
     (cost_refusal g.S.Shelf.tells (g.S.Shelf.file c.args.shelf.now) names (g.S.Shelf.faults c.args.shelf.now) (g.S.Shelf.faults c.schedule_in.new.shelf) c.in_ok-board.board (texts_of scripts)
     c.in_ok-words.words.items c.in_err-check_cost.field-0.0
-    (λ t. has_read _ _ _ names g.S.Shelf.tells c.in_ok-board.board scripts c.in_ok-words.words.items c.read_built.ensures.kept.files c.scripts_in.ensures.kept.files t (c.in_ok-board.ensures.board t) count
+    (λ t. has_read _ _ _ names g.S.Shelf.tells c.in_ok-board.board scripts c.in_ok-words.words.items c.read_accepted.ensures.kept.files c.scripts_in.ensures.kept.files t (c.in_ok-board.ensures.board t) count
     c.in_ok-scripts.ensures.scripts c.callers_of.result (c.callers_of.ensures ∙ ap length c.as_slice.ensures.value ∙ count) (c.in_ok-words.ensures.schedule t))
     (subst (λ xs. IsTooDear (cost_of_texts c.in_ok-board.board (texts_of xs)) c.in_err-check_cost.field-0.0) c.as_slice-2.ensures.value c.in_err-check_cost.ensures.dear))
 
@@ -45,18 +45,18 @@ returns-in_err-check_cost-clause-kept g c =
     let many = length-map c.args.names.now.scripts.now string_bytes in
     kept_then _ (λ p. p ≡ 2) _ _ _ _ (λ p h. h) (λ p e. record { first = omega (arith, e); last = omega (arith, e) })
     (kept_then _ _ _ _ _ _ (λ p e. record { first = omega (arith, e); last = omega (arith, e) }) (λ p h. record { first = omega (arith, h.0); last = omega (arith, h.1, many) })
-    c.read_built.ensures.kept c.scripts_in.ensures.kept) c.schedule_in.ensures.kept
+    c.read_accepted.ensures.kept c.scripts_in.ensures.kept) c.schedule_in.ensures.kept
 
 pub returns-clause-kept : goal.returns-clause-kept
 returns-clause-kept g c =
     let many = length-map c.args.names.now.scripts.now string_bytes in
     kept_then _ (λ p. p ≡ 2) _ _ _ _ (λ p h. h) (λ p e. record { first = omega (arith, e); last = omega (arith, e) })
     (kept_then _ _ _ _ _ _ (λ p e. record { first = omega (arith, e); last = omega (arith, e) }) (λ p h. record { first = omega (arith, h.0); last = omega (arith, h.1, many) })
-    c.read_built.ensures.kept c.scripts_in.ensures.kept) c.schedule_in.ensures.kept
+    c.read_accepted.ensures.kept c.scripts_in.ensures.kept) c.schedule_in.ensures.kept
 
 pub returns-clause-read : goal.returns-clause-read
 returns-clause-read g c =
     let names = names_told c.args.names.now in
     let count = c.in_ok-scripts.ensures.count ∙ sym (length-map c.args.names.now.scripts.now string_bytes) in
-    λ t. has_read _ _ _ names g.S.Shelf.tells c.in_ok-board.board c.in_ok-scripts.scripts.items c.in_ok-words.words.items c.read_built.ensures.kept.files c.scripts_in.ensures.kept.files t
+    λ t. has_read _ _ _ names g.S.Shelf.tells c.in_ok-board.board c.in_ok-scripts.scripts.items c.in_ok-words.words.items c.read_accepted.ensures.kept.files c.scripts_in.ensures.kept.files t
     (c.in_ok-board.ensures.board t) count c.in_ok-scripts.ensures.scripts c.callers_of.result (c.callers_of.ensures ∙ ap length c.as_slice.ensures.value ∙ count) (c.in_ok-words.ensures.schedule t)

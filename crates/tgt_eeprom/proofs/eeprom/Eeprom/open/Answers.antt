@@ -23,4 +23,4 @@ returns c =
     (opened-is c.in-Eeprom.size c.in-Eeprom.fill c.in-Eeprom.busy c.in-Eeprom.wp c.args.spec.now.set
     c.in_ok-filled-in-Eeprom.field-0.items c.in_ok-empty_page-in-Eeprom.field-0.items
     (c.in_ok-filled-in-Eeprom.ensures.value ∙ ap (write_runs all) set) c.in_ok-empty_page-in-Eeprom.ensures.value)
-    ∙ ap (λ (k : DeviceKind). (row_of_kind k).opens c.args.spec.now.set) (sym kind)
+    ∙ ap (λ (k : DeviceKind). (row_of_kind k).opens c.args.spec.now.addr c.args.spec.now.set) (sym kind)

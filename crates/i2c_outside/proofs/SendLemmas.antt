@@ -1,0 +1,9 @@
+-- A device may go to another thread, whatever its kind.
+use denote.Param.Send.{IsSend, sendable}
+use Rattle.std.proofs.Crossing.{crosses}
+use Rattle.tgt_eeprom.proofs.SendLemmas.{eeprom-send}
+use Rattle.tgt_small.proofs.SendLemmas.{smbus-send}
+use Rattle.i2c_outside.specs.contracts.device.DeviceState as DeviceState
+
+pub device-send : IsSend (DeviceState.the_field).row
+device-send = search (crosses, sendable, eeprom-send, smbus-send) depth 20

@@ -1,0 +1,29 @@
+-- A port may go to another thread, with all that it holds.
+use denote.Param.Send.{IsSend, sendable}
+use Rattle.std.proofs.Crossing.{crosses}
+use Rattle.i2c_spec.proofs.SendLemmas.{hop-send}
+use Rattle.i2c_outside.proofs.SendLemmas.{device-send}
+use Rattle.i2c_physics.specs.contracts.place.Place as Place
+use Rattle.i2c_physics.specs.contracts.reach.Reach as Reach
+use Rattle.i2c_physics.specs.contracts.sites.Sites as Sites
+use Rattle.i2c_physics.specs.contracts.sim_world.SimWorld as SimWorld
+use Rattle.i2c_physics.specs.contracts.sim_port.SimPort as SimPort
+use Rattle.i2c_physics.specs.contracts.fail_port.FailPort as FailPort
+
+place-send : IsSend (Place.the_field).row
+place-send = search (crosses, sendable, hop-send) depth 20
+
+sites-send : IsSend (Sites.the_field).row
+sites-send = search (crosses, sendable, place-send) depth 20
+
+reach-send : IsSend (Reach.the_field).row
+reach-send = search (crosses, sendable) depth 20
+
+world-send : IsSend (SimWorld.the_field).row
+world-send = search (crosses, sendable, device-send, sites-send, reach-send) depth 20
+
+pub port-send : IsSend (SimPort.the_field).row
+port-send = search (crosses, sendable, world-send) depth 20
+
+pub fail_port-send : IsSend (FailPort.the_field).row
+fail_port-send = search (crosses, sendable, port-send) depth 20
