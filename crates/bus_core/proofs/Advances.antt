@@ -7,7 +7,7 @@ use Rattle.i2c_base.specs.declared.caller.Caller.{Ghosts as CallerGhosts}
 use Rattle.i2c_base.specs.declared.ids.LockId.{LockId}
 use Rattle.i2c_outside.specs.declared.port.Port.{Ghosts as PortGhosts}
 use Rattle.bus_spec.specs.Grammar.{is_over}
-use Rattle.bus_spec.specs.Walk.{Take, WalkTree}
+use Rattle.bus_spec.specs.Walk.{WalkTree}
 use Rattle.bus_laws.specs.Ready.{IsStuck}
 use Rattle.bus_laws.specs.Waiting.{IsHeldUp}
 use Rattle.core_laws.proofs.Core.{map_from}

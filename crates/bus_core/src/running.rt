@@ -1,11 +1,13 @@
 ghost use Rattle.std.specs.Prelude.{◌≡◌, ℕ, ◌<◌, true, false, IsTrue, List, [], All, Some, slice_get};
 ghost use Rattle.bus_spec.specs.Schedule.{Follows};
+ghost use Rattle.i2c_base.specs.Limits.{MOST_CALLERS};
 ghost use Rattle.bus_core.specs.Kept.{IsCore, HasCome};
 ghost use Rattle.bus_core.specs.Ready.{IsHeldUpAt, AllHeldUp, HasPlace};
 ghost use Rattle.bus_core.specs.Runs.{HasMade, HasMadeLeast, HasWaited, KeepsSchedule};
 ghost use Rattle.bus_core.specs.State.{AllThrough, state_of};
 
 use crate::parts::CoreParts;
+use crate::seats::is_over;
 use crate::steps::{StepAnswer, step};
 use bus_laws::a_loop_follows;
 use i2c_base::Caller;
@@ -29,6 +31,19 @@ pub fn advance<P: Port, C: Caller>(parts: &mut CoreParts<'_, P, C>, caller: u8) 
     }
 }
 
+// The script of the caller of this number is used up, or there is no such caller.
+fn is_through<P: Port, C: Caller>(parts: &CoreParts<'_, P, C>, number: u8) -> bool
+    requires core { IsCore P.Port C.Caller parts.now }
+    requires known { number < MOST_CALLERS }
+    ensures through { result ≡ true → (place : ℕ) → slice_get parts.now.places.items number ≡ Some (Some place) → IsHeldUpAt parts.now place }
+    ensures there { result ≡ false → HasPlace parts.now.places.items number }
+{
+    match parts.places[usize::from(number)] {
+        Some(place) => is_over(&parts.seats, usize::from(place)),
+        None => true,
+    }
+}
+
 // Makes the next step of the least caller that can make one; tells whether there is one.
 fn advance_least<P: Port, C: Caller>(parts: &mut CoreParts<'_, P, C>) -> bool
     requires core { IsCore P.Port C.Caller parts.old }
@@ -37,7 +52,7 @@ fn advance_least<P: Port, C: Caller>(parts: &mut CoreParts<'_, P, C>) -> bool
     ensures none { result ≡ false → (parts.new ≡ parts.old) × AllHeldUp parts.old }
 {
     for number in 0..8u8 {
-        if parts.places[usize::from(number)].is_some() && advance(parts, number) {
+        if !is_through(parts, number) && advance(parts, number) {
             return true;
         }
     }

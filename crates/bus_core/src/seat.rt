@@ -1,4 +1,4 @@
-ghost use Rattle.std.specs.Prelude.{◌≡◌, ◌≢◌, ◌+◌, ◌<◌, ◌≤◌, ℕ, true, false, List, [], ◌∷◌, ◌++◌, length, take, sum_by, None, Some, slice_get, if◌then◌else◌};
+ghost use Rattle.std.specs.Prelude.{◌≡◌, ◌≢◌, ◌+◌, ◌<◌, ◌≤◌, ℕ, true, false, List, [], ◌∷◌, ◌++◌, length, take, sum_by, Option, None, Some, IfSome, slice_get, if◌then◌else◌};
 ghost use Rattle.i2c_base.specs.declared.reply.Cut.TheVariants as cut_at;
 ghost use Rattle.i2c_base.specs.declared.entry.Purpose.TheVariants as purpose;
 ghost use Rattle.std.specs.List.{list_any};
@@ -12,7 +12,9 @@ ghost use Rattle.i2c_spec.specs.Tree.{buses, root_of};
 ghost use Rattle.bus_spec.specs.Grammar.{is_over, first_note, seen, walk_for};
 ghost use Rattle.bus_spec.specs.Readings.{message_cut};
 ghost use Rattle.bus_spec.specs.Stepwise.{reply_by};
-ghost use Rattle.bus_spec.specs.Walk.{Ends, Passed};
+ghost use Rattle.i2c_base.specs.declared.errno.Errno.{Errno};
+ghost use Rattle.bus_spec.specs.Walk.{Ends, Passed, Settle};
+ghost use Rattle.seg_locks.specs.Locks.{LocksView};
 ghost use Rattle.bus_message.specs.Calls.{HasNext};
 ghost use Rattle.core_laws.specs.Sends.{is_call_through};
 ghost use Rattle.core_laws.specs.Steps.{next_of, behind_of};
@@ -126,6 +128,14 @@ impl<C: Caller> Seat<C> {
         ensures over { result ≡ action.Done → is_over (walk_left board.now self.now) ≡ true }
     {
         self.walk.next(board.board(), locks.marks())
+    }
+
+    /// The settle that comes next of its walk, if one does, whatever marks there are: why its reply is an error, or none.
+    pub fn settles(&self) -> Option<Option<Errno>>
+        ensures some { (b : BoardView) (v : LocksView) → IfSome result (λ verdict. next_of v (walk_left b self.now) ≡ Some (Settle verdict)) }
+        ensures none { (b : BoardView) (v : LocksView) (verdict : Option Errno) → result ≡ None → next_of v (walk_left b self.now) ≡ Some (Settle verdict) → ⊥ }
+    {
+        self.walk.settles()
     }
 
     /// Goes on in its walk behind that action, which had this outcome, and tells the marks that it changes.
@@ -296,10 +306,8 @@ impl<C: Caller> Seat<C> {
         self.replies.clear();
         self.decided = None;
         if self.caller.refill(&mut self.transfer) {
-            self.walk.restart(board, &self.transfer);
-            let bus = self.transfer.bus();
-            if bus < board.board().buses() {
-                self.port = port_of(ports, board.board().root(SegId(bus)));
+            if let Some(root) = self.walk.restart(board, &self.transfer) {
+                self.port = port_of(ports, root);
             }
         }
     }

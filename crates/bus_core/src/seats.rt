@@ -1,5 +1,6 @@
 ghost use Rattle.std.specs.Prelude.{◌≡◌, ◌+◌, ◌<◌, ◌≤◌, true, false, length, None, Some, Option};
 ghost use Rattle.i2c_base.specs.declared.errno.Errno.{Errno};
+ghost use Rattle.i2c_base.specs.Board.{BoardView};
 ghost use Rattle.i2c_base.specs.declared.reply.Cut.TheVariants as cut_at;
 ghost use Rattle.bus_spec.specs.Walk.{Settle, Passed, Lined, Sent as SentWith};
 ghost use Rattle.core_laws.specs.Steps.{next_of};
@@ -115,7 +116,7 @@ pub fn settle<C: Caller>(
     ensures stays { result ≡ false → (seats.new.items ≡ seats.old.items) × (journal.new ≡ journal.old) }
 {
     let seat = &mut seats[place];
-    let Action::Settle(verdict) = seat.next(board, locks) else {
+    let Some(verdict) = seat.settles() else {
         return false;
     };
     let decided = seat.decide(verdict);
@@ -152,6 +153,14 @@ pub fn whose<C: Caller>(seats: &Vec<Seat<C>>, place: usize) -> (u8, usize)
 {
     let seat = &seats[place];
     (seat.number, seat.port)
+}
+
+/// Nothing is left to do for the caller at a place.
+pub fn is_over<C: Caller>(seats: &Vec<Seat<C>>, place: usize) -> bool
+    requires { place < length seats.now.items }
+    ensures { HasSeat (λ s. (b : BoardView) → result ≡ is_over (walk_left b s)) seats.now.items place }
+{
+    seats[place].walk.is_over()
 }
 
 /// What the caller at a place does next.

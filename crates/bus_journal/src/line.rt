@@ -1,4 +1,4 @@
-ghost use Rattle.std.specs.Prelude.{◌≡◌, ◌++◌, OnOk, IfOk};
+ghost use Rattle.std.specs.Prelude.{◌≡◌, ◌++◌, OnOk, IfOk, codes};
 ghost use Rattle.std.specs.Fmt.{decimal};
 ghost use Rattle.bus_spec.specs.Lines.{lock_text, purpose_text, direction_text, node_text, heard_text, end_text, errno_text, reply_text, cut_text, data_text, part_text, place_text, result_text, level_text, entry_line};
 ghost use Rattle.bus_journal.specs.Borrowed.{entry_seen, reply_by};
@@ -29,89 +29,100 @@ pub fn errno_name<'a>(errno: Errno) -> &'a [u8]
     }
 }
 
+// A space and a lock.
 fn push_lock(out: &mut Vec<u8>, lock: LockId) -> Result<(), NoMemory>
-    ensures { OnOk result (out.new.items ≡ out.old.items ++ lock_text lock) }
+    ensures { OnOk result (out.new.items ≡ out.old.items ++ (codes " " ++ lock_text lock)) }
 {
     match lock {
         LockId::Bus(root) => {
-            push_bytes(out, b"buslock ")?;
+            push_bytes(out, b" buslock ")?;
             push_number(out, u64::from(root.0))
         }
         LockId::Mux(bus) => {
-            push_bytes(out, b"muxlock ")?;
+            push_bytes(out, b" muxlock ")?;
             push_number(out, u64::from(bus.0))
         }
     }
 }
 
+// A purpose and a space.
 fn push_purpose(out: &mut Vec<u8>, purpose: Purpose) -> Result<(), NoMemory>
-    ensures { OnOk result (out.new.items ≡ out.old.items ++ purpose_text purpose) }
+    ensures { OnOk result (out.new.items ≡ out.old.items ++ (purpose_text purpose ++ codes " ")) }
 {
     match purpose {
-        Purpose::Call => push_bytes(out, b"call"),
+        Purpose::Call => push_bytes(out, b"call "),
         Purpose::Control(mux) => {
             push_bytes(out, b"mux ")?;
-            push_number(out, u64::from(mux.0))
+            push_number(out, u64::from(mux.0))?;
+            push_bytes(out, b" ")
         }
     }
 }
 
+// A direction, and what stands before an address.
 fn push_direction(out: &mut Vec<u8>, reading: bool) -> Result<(), NoMemory>
-    ensures { OnOk result (out.new.items ≡ out.old.items ++ direction_text reading) }
+    ensures { OnOk result (out.new.items ≡ out.old.items ++ (direction_text reading ++ codes " 0x")) }
 {
-    push_bytes(out, if reading { b"r" } else { b"w" })
+    push_bytes(out, if reading { b"r 0x" } else { b"w 0x" })
 }
 
+// A node that heard a message, with the word for it.
 fn push_node(out: &mut Vec<u8>, node: Node) -> Result<(), NoMemory>
-    ensures { OnOk result (out.new.items ≡ out.old.items ++ node_text node) }
+    ensures { OnOk result (out.new.items ≡ out.old.items ++ (codes "heard " ++ node_text node)) }
 {
     match node {
         Node::Device(device) => {
-            push_bytes(out, b"d")?;
+            push_bytes(out, b"heard d")?;
             push_number(out, u64::from(device.0))
         }
         Node::Chip(mux) => {
-            push_bytes(out, b"m")?;
+            push_bytes(out, b"heard m")?;
             push_number(out, u64::from(mux.0))
         }
     }
 }
 
+// .. or none.
 fn push_heard(out: &mut Vec<u8>, heard: Option<Node>) -> Result<(), NoMemory>
-    ensures { OnOk result (out.new.items ≡ out.old.items ++ heard_text heard) }
+    ensures { OnOk result (out.new.items ≡ out.old.items ++ (codes "heard " ++ heard_text heard)) }
 {
     match heard {
-        None => push_bytes(out, b"none"),
+        None => push_bytes(out, b"heard none"),
         Some(node) => push_node(out, node),
     }
 }
 
+// A space, and how a message ended.
 fn push_end(out: &mut Vec<u8>, end: End) -> Result<(), NoMemory>
-    ensures { OnOk result (out.new.items ≡ out.old.items ++ end_text end) }
+    ensures { OnOk result (out.new.items ≡ out.old.items ++ (codes " " ++ end_text end)) }
 {
     match end {
-        End::Ok => push_bytes(out, b"ok"),
-        End::Nack => push_bytes(out, b"nack"),
-        End::Slow => push_bytes(out, b"slow"),
-        End::Refused => push_bytes(out, b"refused"),
-        End::Proto => push_bytes(out, b"proto"),
+        End::Ok => push_bytes(out, b" ok"),
+        End::Nack => push_bytes(out, b" nack"),
+        End::Slow => push_bytes(out, b" slow"),
+        End::Refused => push_bytes(out, b" refused"),
+        End::Proto => push_bytes(out, b" proto"),
         End::Cut(calls) => {
-            push_bytes(out, b"cut ")?;
+            push_bytes(out, b" cut ")?;
             push_number(out, u64::from(calls))
         }
     }
 }
 
+// A space and a reply.
 fn push_reply(out: &mut Vec<u8>, answer: ReplyHead, bytes: &[u8]) -> Result<(), NoMemory>
-    ensures { OnOk result (out.new.items ≡ out.old.items ++ reply_text (reply_by answer bytes.now)) }
+    ensures { OnOk result (out.new.items ≡ out.old.items ++ (codes " " ++ reply_text (reply_by answer bytes.now))) }
 {
     match answer {
-        ReplyHead::Done => push_bytes(out, b"done"),
+        ReplyHead::Done => push_bytes(out, b" done"),
         ReplyHead::Read => {
-            push_bytes(out, b"read")?;
+            push_bytes(out, b" read")?;
             push_spaced(out, bytes)
         }
-        ReplyHead::Err(errno) => push_bytes(out, errno_name(errno)),
+        ReplyHead::Err(errno) => {
+            push_bytes(out, b" ")?;
+            push_bytes(out, errno_name(errno))
+        }
     }
 }
 
@@ -130,21 +141,21 @@ fn push_cut(out: &mut Vec<u8>, cut: Cut) -> Result<(), NoMemory>
     }
 }
 
-// The front of an entry's line: its word, its caller and a further word.
+// The front of an entry's line: its word and its caller.
 #[inline(always)]
-fn push_front(out: &mut Vec<u8>, word: &[u8], caller: u8, next: &[u8]) -> Result<(), NoMemory>
-    ensures { OnOk result (out.new.items ≡ out.old.items ++ (word.now ++ (decimal caller ++ next.now))) }
+fn push_front(out: &mut Vec<u8>, word: &[u8], caller: u8) -> Result<(), NoMemory>
+    ensures { OnOk result (out.new.items ≡ out.old.items ++ (word.now ++ decimal caller)) }
 {
     push_bytes(out, word)?;
-    push_number(out, u64::from(caller))?;
-    push_bytes(out, next)
+    push_number(out, u64::from(caller))
 }
 
 // The front of a message's line.
 fn push_place(out: &mut Vec<u8>, caller: u8, bus: SegId) -> Result<(), NoMemory>
     ensures { OnOk result (out.new.items ≡ out.old.items ++ place_text caller bus) }
 {
-    push_front(out, b"msg ", caller, b" bus ")?;
+    push_front(out, b"msg ", caller)?;
+    push_bytes(out, b" bus ")?;
     push_number(out, u64::from(bus.0))?;
     push_bytes(out, b" ")
 }
@@ -154,7 +165,6 @@ fn push_data(out: &mut Vec<u8>, addr: Addr, reading: bool, bytes: &[u8]) -> Resu
     ensures { OnOk result (out.new.items ≡ out.old.items ++ data_text addr reading bytes.now) }
 {
     push_direction(out, reading)?;
-    push_bytes(out, b" 0x")?;
     push_hex(out, addr.get())?;
     push_bytes(out, b" [")?;
     push_joined(out, bytes)?;
@@ -166,7 +176,6 @@ fn push_part(out: &mut Vec<u8>, purpose: Purpose, part: u8, parts: u8) -> Result
     ensures { OnOk result (out.new.items ≡ out.old.items ++ part_text purpose part parts) }
 {
     push_purpose(out, purpose)?;
-    push_bytes(out, b" ")?;
     push_number(out, u64::from(part))?;
     push_bytes(out, b"/")?;
     push_number(out, u64::from(parts))?;
@@ -177,9 +186,7 @@ fn push_part(out: &mut Vec<u8>, purpose: Purpose, part: u8, parts: u8) -> Result
 fn push_result(out: &mut Vec<u8>, heard: Option<Node>, end: End) -> Result<(), NoMemory>
     ensures { OnOk result (out.new.items ≡ out.old.items ++ result_text heard end) }
 {
-    push_bytes(out, b"heard ")?;
     push_heard(out, heard)?;
-    push_bytes(out, b" ")?;
     push_end(out, end)
 }
 
@@ -200,11 +207,11 @@ pub fn push_entry(out: &mut Vec<u8>, entry: &EntryRef<'_>) -> Result<(), NoMemor
     let bytes = entry.bytes;
     match entry.head {
         Head::Take { caller, lock } => {
-            push_front(out, b"take ", caller, b" ")?;
+            push_front(out, b"take ", caller)?;
             push_lock(out, lock)
         }
         Head::Free { caller, lock } => {
-            push_front(out, b"free ", caller, b" ")?;
+            push_front(out, b"free ", caller)?;
             push_lock(out, lock)
         }
         Head::Message {
@@ -229,7 +236,8 @@ pub fn push_entry(out: &mut Vec<u8>, entry: &EntryRef<'_>) -> Result<(), NoMemor
             level,
             failed,
         } => {
-            push_front(out, b"line ", caller, b" mux ")?;
+            push_front(out, b"line ", caller)?;
+            push_bytes(out, b" mux ")?;
             push_level(out, mux, level, failed)
         }
         Head::Settle {
@@ -237,7 +245,7 @@ pub fn push_entry(out: &mut Vec<u8>, entry: &EntryRef<'_>) -> Result<(), NoMemor
             answer,
             cut,
         } => {
-            push_front(out, b"settle ", caller, b" ")?;
+            push_front(out, b"settle ", caller)?;
             push_reply(out, answer, bytes)?;
             push_cut(out, cut)
         }

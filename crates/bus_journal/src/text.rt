@@ -57,14 +57,17 @@ pub fn hex_digit(value: u8) -> u8
 pub fn push_hex(out: &mut Vec<u8>, byte: u8) -> Result<(), NoMemory>
     ensures { OnOk result (out.new.items ≡ out.old.items ++ two_digits byte) }
 {
-    push_bytes(out, &[hex_digit(byte / 16), hex_digit(byte % 16)])
+    out.push(hex_digit(byte / 16))?;
+    out.push(hex_digit(byte % 16))?;
+    Ok(())
 }
 
 // A space and a byte.
 fn push_spaced_byte(out: &mut Vec<u8>, byte: u8) -> Result<(), NoMemory>
     ensures { OnOk result (out.new.items ≡ out.old.items ++ spaced_digits byte) }
 {
-    push_bytes(out, &[b' ', hex_digit(byte / 16), hex_digit(byte % 16)])
+    out.push(b' ')?;
+    push_hex(out, byte)
 }
 
 /// Puts bytes at the end of a text, with a space before each.

@@ -1,8 +1,9 @@
 -- What one command more adds to the roots that are named, and to the cost.
-use Rattle.std.proofs.Common.{◌≡◌, ℕ, zero, suc, ◌+◌, ◌*◌, ◌%◌, ◌^◌, ◌<◌, inl, inr, Bool, true, false, cond, List, [], ◌∷◌, ◌++◌, length, take, get_or, max, refl, sym, ap, subst, ◌∙◌, arith}
+use Rattle.std.proofs.Common.{◌≡◌, ℕ, zero, suc, ◌+◌, ◌*◌, ◌%◌, ◌^◌, ◌<◌, inl, inr, Bool, true, false, cond, List, [], ◌∷◌, ◌++◌, length, take, get_or, max, Some, None, refl, sym, ap, subst, ◌∙◌, arith}
 use Rattle.std.specs.Prelude.{nat_lt, bit_or, ◌||◌, ◌&&◌, ◌==◌}
 use Rattle.std.specs.List.{sum_by}
 use Rattle.std.specs.Int.{bit_at}
+use Rattle.std.specs.Option.{option_map_or}
 use Rattle.std.proofs.lemmas.Bool.Decides.{eqb_tells}
 use Rattle.std.proofs.lemmas.List.{take_more}
 use Rattle.std.proofs.lemmas.List.Folds.{list_any-append}
@@ -10,16 +11,10 @@ use Rattle.std.proofs.lemmas.List.Sums.{sum_by_push}
 use Rattle.std.proofs.lemmas.Nat.Bits.{bit_at-zero, bit_at_or, bit_at-pow_same, bit_at-pow_other}
 use Rattle.i2c_base.specs.Board.{BoardView}
 use Rattle.i2c_base.specs.Transfer.{TransferView}
-use Rattle.i2c_spec.specs.Tree.{buses, root_of}
-use Rattle.i2c_spec.specs.Plain.{IsPlainBoard}
-use Rattle.i2c_spec.specs.Rules.{MeetsRules}
-use Rattle.i2c_spec.proofs.AddressLemmas.{tree_of}
+use Rattle.i2c_spec.specs.Tree.{buses, root_of, root_named}
 use Rattle.caller_core.specs.Commands.{transfer_of}
 use Rattle.caller_core.specs.Roots.{names_root, some_names, HasRoots}
 use Rattle.caller_core.specs.Scripts.{CommandView}
-
-pub root_small : (b : BoardView) (s : ℕ) → IsPlainBoard b → MeetsRules b → s < buses b → root_of b s < 8
-root_small b s plain meets there = omega (arith, (tree_of b plain meets).root_is s there, plain.most_roots)
 
 -- a byte with one bit
 pub shifted : (k : ℕ) → k < 8 → 1 * 2 ^ k % 256 ≡ 2 ^ k
@@ -36,6 +31,10 @@ shifted (suc (suc (suc (suc (suc (suc (suc (suc k)))))))) h = absurd (omega arit
 -- the number with the bit of a transfer's root alone
 abbrev pub root_bits : BoardView → TransferView → ℕ
 root_bits b t = cond (nat_lt t.bus (buses b)) (2 ^ root_of b t.bus) 0
+
+-- .. by the root that its bus names
+pub named_bit : (b : BoardView) (t : TransferView) → option_map_or (λ r. 2 ^ r) (root_named b t.bus) 0 ≡ root_bits b t
+named_bit b t = elim (nat_lt t.bus (buses b)) as (λ v. option_map_or (λ r. 2 ^ r) (cond v (Some (root_of b t.bus)) None) 0 ≡ cond v (2 ^ root_of b t.bus) 0) [ true ↦ refl | false ↦ refl ]
 
 one_bit : (k r : ℕ) → bit_at (2 ^ k) r ≡ cond (k == r) 1 0
 one_bit k r =

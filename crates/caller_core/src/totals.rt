@@ -1,14 +1,15 @@
 //! What a script costs, and which roots its transfers name.
 
-ghost use Rattle.std.specs.Prelude.{◌≡◌, ◌^◌, ◌<◌, ◌≤◌, length, drop, IfSome, if◌then◌else◌, nat_lt};
+ghost use Rattle.std.specs.Prelude.{◌≡◌, ◌^◌, ◌<◌, ◌≤◌, length, drop, IfSome};
 ghost use Rattle.std.specs.List.{sum_by};
-ghost use Rattle.i2c_spec.specs.Tree.{buses, root_of};
+ghost use Rattle.std.specs.Option.{option_map_or};
+ghost use Rattle.i2c_base.specs.Limits.{MOST_ROOTS};
 ghost use Rattle.caller_core.specs.Roots.{HasRoots};
 ghost use Rattle.caller_core.specs.Scripts.{cost_of_command, room_of};
 
 use crate::command::{MOST_BESIDE, put_transfer};
 use crate::commands::Commands;
-use i2c_base::{Kind, Transfer};
+use i2c_base::{Kind, SegId, Transfer};
 use i2c_board::Accepted;
 
 /// The cost of all commands of a script, and a bit for each root that their transfers name.
@@ -18,13 +19,13 @@ pub struct Totals {
     pub roots: u8,
 }
 
-// The bit of a bus's root; none where the board lacks the bus.
-fn root_bit(board: &Accepted, bus: u16) -> u8
-    ensures { result ≡ (if nat_lt bus (buses board.now) then 2 ^ root_of board.now bus else 0) }
+// The bit of a root, if there is one.
+fn root_bit(root: Option<SegId>) -> u8
+    requires { IfSome root (λ r. r < MOST_ROOTS) }
+    ensures { result ≡ option_map_or (λ r. 2 ^ r) root 0 }
 {
-    let board = board.board();
-    match board.seg(bus) {
-        Some(seg) => 1 << board.layout().root(seg).0,
+    match root {
+        Some(root) => 1 << root.0,
         None => 0,
     }
 }
@@ -42,8 +43,9 @@ pub fn totals_of(board: &Accepted, commands: &Commands) -> Totals
     for place in 0..commands.len() {
         let (cmd, _) = commands.get(place);
         put_transfer(cmd, &mut transfer);
-        cost += board.cost(&transfer);
-        roots |= root_bit(board, transfer.bus());
+        let bill = board.bill(&transfer);
+        cost += bill.cost;
+        roots |= root_bit(bill.root);
     }
     Totals { cost, roots }
 }

@@ -1,7 +1,9 @@
-ghost use Rattle.std.specs.Prelude.{◌≡◌, ◌<◌, ◌^◌};
+ghost use Rattle.std.specs.Prelude.{◌≡◌, ◌<◌, ◌^◌, IfSome};
+ghost use Rattle.i2c_base.specs.Limits.{MOST_ROOTS};
 
 use crate::Board;
 use i2c_base::Transfer;
+use i2c_spec::Bill;
 use std::marker::Model;
 
 /// A board that meets the five topology rules. A contract sees the board.
@@ -23,6 +25,7 @@ impl Model for Accepted {
 
 impl Accepted {
     ghost use Rattle.i2c_spec.specs.Cost.{cost_of};
+    ghost use Rattle.i2c_spec.specs.Tree.{root_named};
     ghost use Rattle.i2c_spec.specs.Rules.{MeetsRules};
 
     /// Seals a board that meets the rules.
@@ -40,11 +43,13 @@ impl Accepted {
         &self.board
     }
 
-    /// How many steps a transfer can take.
-    pub fn cost(&self, transfer: &Transfer) -> u64
-        ensures value { result ≡ cost_of self.now transfer.now }
-        ensures small { result < 2 ^ 41 }
+    /// What a transfer asks for: how many steps it can take, and its root.
+    pub fn bill(&self, transfer: &Transfer) -> Bill
+        ensures value { result.cost ≡ cost_of self.now transfer.now }
+        ensures small { result.cost < 2 ^ 41 }
+        ensures root { result.root ≡ root_named self.now transfer.now.bus }
+        ensures few { IfSome result.root (λ r. r < MOST_ROOTS) }
     {
-        self.board.layout().cost(transfer)
+        self.board.layout().bill(transfer)
     }
 }

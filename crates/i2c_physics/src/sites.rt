@@ -33,6 +33,7 @@ impl Model for Sites {
 }
 
 impl Sites {
+    /// These places, by number and by address.
     pub fn of(alloc: Global, places: Vec<Place>) -> Result<Self, AllocError>
         requires { length places.items ≤ 128 }
         ensures { IfOk result (λ sites. sites ≡ places.items) }

@@ -1,6 +1,6 @@
 -- The board as a tree of buses (Linux i2c-topology). Buses are numbered: the roots first, then each mux's
 -- channels, in the order of the board file.
-use Rattle.std.specs.Prelude.{◌≡◌, ℕ, ◌+◌, ◌-◌, ◌==◌, nat_le, Bool, true, false, ◌||◌, ◌⊎◌, List, [], ◌∷◌, length, map, reverse, Option, None, unwrap_or, slice_get, if◌then◌else◌}
+use Rattle.std.specs.Prelude.{◌≡◌, ℕ, ◌+◌, ◌-◌, ◌==◌, nat_le, nat_lt, Bool, true, false, ◌||◌, ◌⊎◌, List, [], ◌∷◌, length, map, reverse, Option, None, Some, unwrap_or, slice_get, if◌then◌else◌}
 use Rattle.std.specs.Option.{option_map}
 use Rattle.std.specs.List.{sum_by, list_any}
 use Rattle.i2c_base.specs.declared.board.LockMode.{LockMode}
@@ -74,6 +74,10 @@ end_of s (h ∷ hs) = end_of h.on hs
 
 abbrev pub root_of : BoardView → ℕ → ℕ
 root_of b s = end_of s (hops b s)
+
+-- the same of a number that may be no bus: none
+abbrev pub root_named : BoardView → ℕ → Option ℕ
+root_named b s = if nat_lt s (buses b) then Some (root_of b s) else None
 
 -- u is strictly over s
 abbrev pub is_below : BoardView → ℕ → ℕ → Bool

@@ -1,11 +1,11 @@
-ghost use Rattle.std.specs.Prelude.{◌≡◌, ◌+◌, ◌-◌, ◌*◌, ◌^◌, ◌<◌, ◌≤◌, All, length};
+ghost use Rattle.std.specs.Prelude.{◌≡◌, ◌+◌, ◌-◌, ◌*◌, ◌^◌, ◌<◌, ◌≤◌, All, length, IfSome};
 ghost use Rattle.std.specs.List.{sum_by};
 ghost use Rattle.i2c_base.specs.Limits as limits;
 ghost use Rattle.i2c_base.specs.Transfer.{IsMessage};
 ghost use Rattle.i2c_spec.specs.Tree.{locks_of};
 ghost use Rattle.i2c_spec.specs.Cost.{bytes_of, inner_cost, inner_behind, full_cost};
 
-use crate::{Hop, Layout};
+use crate::{Hop, Layout, end_of};
 use i2c_base::{BLOCK_LIMIT, Msg, SegId, Transfer};
 
 /// What is counted at the end of some hops: the locks, a control message of a byte, and the job itself.
@@ -14,6 +14,14 @@ struct Steps {
     locks: u64,
     control: u64,
     job: u64,
+}
+
+/// What a transfer asks for: how many steps it can take, and the root that its bus hangs from, none where the board
+/// lacks the bus.
+#[derive(Clone, Copy)]
+pub struct Bill {
+    pub cost: u64,
+    pub root: Option<SegId>,
 }
 
 // The bytes of a message, a counted read's as many as a block may have.
@@ -100,19 +108,28 @@ impl Layout<'_> {
     ghost use Rattle.i2c_spec.specs.Plain.{IsPlainBoard};
     ghost use Rattle.i2c_spec.specs.Rules.{MeetsRules};
     ghost use Rattle.i2c_spec.specs.Cost.{cost_of};
+    ghost use Rattle.i2c_spec.specs.Tree.{root_named};
 
-    /// How many steps a transfer can take on an accepted board.
-    pub fn cost(&self, transfer: &Transfer) -> u64
+    /// What a transfer asks for on an accepted board.
+    pub fn bill(&self, transfer: &Transfer) -> Bill
         requires plain { IsPlainBoard (board_of self.now) }
         requires rules { MeetsRules (board_of self.now) }
-        ensures value { result ≡ cost_of (board_of self.now) transfer.now }
-        ensures small { result < 2 ^ 41 }
+        ensures value { result.cost ≡ cost_of (board_of self.now) transfer.now }
+        ensures small { result.cost < 2 ^ 41 }
+        ensures root { result.root ≡ root_named (board_of self.now) transfer.now.bus }
+        ensures few { IfSome result.root (λ r. r < limits.MOST_ROOTS) }
     {
         let bus = transfer.bus();
         if bus >= self.buses() {
-            return 1;
+            return Bill {
+                cost: 1,
+                root: None,
+            };
         }
         let hops = self.hops(SegId(bus));
-        1 + full_cost(hops.as_slice(), steps_of(transfer.msgs()))
+        Bill {
+            cost: 1 + full_cost(hops.as_slice(), steps_of(transfer.msgs())),
+            root: Some(end_of(SegId(bus), hops.as_slice())),
+        }
     }
 }

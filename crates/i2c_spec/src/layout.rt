@@ -28,12 +28,22 @@ impl Layout<'_> {
     }
 
     /// The muxes over a bus, nearest first.
-    #[tactic(auto, using(crate::proofs::HopLemmas::hop_steps, crate::proofs::PlainLemmas::buses_le))]
     pub fn hops(&self, seg: SegId) -> ArrayVec<Hop, 32>
         requires { IsPlainBoard (board_of self.now) }
         ensures { result.items ≡ hops (board_of self.now) seg }
     {
         let mut found = ArrayVec::new();
+        self.find_hops(seg, &mut found);
+        found
+    }
+
+    /// Puts the muxes over a bus, nearest first, in the place of what the list had.
+    #[tactic(auto, using(crate::proofs::HopLemmas::hop_steps, crate::proofs::PlainLemmas::buses_le))]
+    pub fn find_hops(&self, seg: SegId, found: &mut ArrayVec<Hop, 32>)
+        requires { IsPlainBoard (board_of self.now) }
+        ensures { found.new.items ≡ hops (board_of self.now) seg }
+    {
+        found.clear();
         let mut first = self.buses();
         let mut at = seg;
         let mut left = self.muxes.len();
@@ -54,7 +64,6 @@ impl Layout<'_> {
                 at = mux.bus;
             }
         }
-        found
     }
 }
 

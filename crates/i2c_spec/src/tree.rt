@@ -71,6 +71,15 @@ impl Layout<'_> {
         if low.0 <= high.0 {
             return false;
         }
+        self.hangs_below(low, high)
+    }
+
+    // The same, by the muxes over `low`. Apart, since the list of them costs who doesn't need it.
+    #[inline(never)]
+    fn hangs_below(&self, low: SegId, high: SegId) -> bool
+        requires { IsPlainBoard (board_of self.now) }
+        ensures { result ≡ is_below (board_of self.now) low high }
+    {
         self.hops(low).iter().any(|hop| hop.on == high)
     }
 

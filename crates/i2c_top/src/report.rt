@@ -11,6 +11,9 @@ use caller_core::Script;
 use i2c_base::NoMemory;
 use std::alloc::Global;
 
+/// About so many bytes a line of the journal has: the report has room for them from the start.
+const LINE: usize = 40;
+
 // A caller's section under its number.
 fn push_section(out: &mut Vec<u8>, caller: usize, text: &[u8]) -> Result<(), NoMemory>
     ensures { OnOk result (out.new.items ≡ out.old.items ++ (codes "caller " ++ (decimal caller ++ (10 ∷ text.now)))) }
@@ -73,7 +76,7 @@ pub fn report_of_callers(
 ) -> Result<Vec<u8>, NoMemory>
     ensures { IfOk result (λ text. text.items ≡ report_lines (map (λ s. section_of s.caller) callers.now) journal.now.entries) }
 {
-    let mut out = Vec::new(alloc);
+    let mut out = Vec::with_capacity(alloc, journal.len().saturating_mul(LINE))?;
     push_callers(&mut out, callers)?;
     push_journal(&mut out, journal)?;
     Ok(out)

@@ -1,5 +1,5 @@
 -- The marks that a step changes tell what is known of the buses behind it, and are of buses that are held.
-use Rattle.std.proofs.Common.{◌≡◌, ◌<◌, ℕ, List, [], ◌∷◌, ◌++◌, length, set, Option, Some, None, zero, suc, ◌==◌, Bool, true, false, if◌then◌else◌, refl, sym, ◌∙◌, subst, arith, inl, inr}
+use Rattle.std.proofs.Common.{◌≡◌, ℕ, List, [], ◌∷◌, ◌++◌, length, set, Option, Some, None, zero, suc, ◌==◌, Bool, true, false, if◌then◌else◌, refl, sym, ◌∙◌, subst, arith, inl, inr}
 use Rattle.std.specs.List.{AllByRecursion}
 use Rattle.std.proofs.lemmas.Bool.Decides.{eqb_tells}
 use Rattle.std.proofs.lemmas.List.{length-set, get_or-set_other}

@@ -1,5 +1,5 @@
 -- A step that is neither a message nor a line changes no mark.
-use Rattle.std.proofs.Common.{◌≡◌, ℕ, List, [], ◌∷◌, drop, Option, refl, sym, subst}
+use Rattle.std.proofs.Common.{◌≡◌, ℕ, List, [], ◌∷◌, drop, refl, sym, subst}
 use Rattle.i2c_base.specs.Board.{BoardView}
 use Rattle.i2c_spec.specs.Tree.{Hop, locks_of}
 use Rattle.i2c_spec.specs.Messages.{MessageView}
@@ -9,7 +9,6 @@ use Rattle.mux_plan.specs.declared.task.Work.{Work}
 use Rattle.mux_plan.specs.declared.task.Task.{Task}
 use Rattle.mux_plan.specs.declared.task.Task.TheVariants.{Enter, Lock, Free, Rest, Line, Settle, AwaitClose, AwaitSelect, AwaitWork, AwaitDeselect}
 use Rattle.mux_plan.specs.Plans.{CourseView, job_of, note_of, tree_of}
-use Rattle.mux_plan.specs.declared.marks.Due.{Due}
 use Rattle.mux_plan.specs.Marks.{dues_after}
 use Rattle.mux_plan.specs.Rooms.{IsStep}
 

@@ -2,6 +2,7 @@
 use Rattle.std.proofs.Common.{◌≡◌, ℕ, zero, suc, ◌+◌, Bool, true, false, cond, not, List, [], ◌∷◌, drop, Option, Some, None, slice_index_or, refl, sym, ◌∙◌, ap, arith, ◌⊎◌, inl, inr}
 use Rattle.std.proofs.lemmas.List.{drop-drop}
 use Rattle.std.specs.List.{list_any}
+use Rattle.i2c_base.specs.declared.errno.Errno.{Errno}
 use Rattle.i2c_base.specs.Board.{BoardView}
 use Rattle.i2c_spec.specs.Tree.{Hop, locks_of}
 use Rattle.i2c_spec.specs.Messages.{MessageView}
@@ -210,6 +211,59 @@ first_of-task b ms c (AwaitClose n g m w) ts out h = absurd h
 first_of-task b ms c (AwaitSelect n g w) ts out h = absurd h
 first_of-task b ms c (AwaitWork n g) ts out h = absurd h
 first_of-task b ms c (AwaitDeselect g was) ts out h = absurd h
+
+-- a job begins with a lock, a message or a line, and with no settle
+abbrev NoSettle : Option Act → Type 0
+NoSettle first = (verdict : Option Errno) → first ≡ Some (walk.Settle verdict) → ⊥
+
+module _ (b : BoardView) (v : Slots) (root : ℕ) where
+  bus_unsettled : (job : Job) (note : Note) (k : JobOutcome → WalkTree) → NoSettle (first_act (seen v (at_bus job note k)))
+  bus_unsettled job note k = by (is_line job) (more_of job)
+    where
+      by : (x : Bool) (left : ℕ) → NoSettle (first_act (seen v (cond x (Then (walk.Shift job) note (over job zero note k)) (messages left job note k))))
+      by true left = λ verdict h. (let f : Some (walk.Shift job) ≡ Some (walk.Settle verdict) = h in cc)
+      by false zero = λ verdict h. (let f : Some (walk.Send job zero) ≡ Some (walk.Settle verdict) = h in cc)
+      by false (suc left) = λ verdict h. (let f : Some (walk.Send job (suc left)) ≡ Some (walk.Settle verdict) = h in cc)
+
+  part_unsettled : (parent : Bool) (hs : List Hop) (on : Doer)
+      → ((job : Job) (note : Note) (k : JobOutcome → WalkTree) → NoSettle (first_act (seen v (on job note k))))
+      → (job : Job) (note : Note) (k : JobOutcome → WalkTree) → NoSettle (first_act (seen v (part parent (locks_of root hs) on job note k)))
+  part_unsettled true hs on unsettled job note k = unsettled job note k
+  part_unsettled false [] on unsettled job note k = λ verdict h. (let f : Some (walk.Take (first_lock root [])) ≡ Some (walk.Settle verdict) = h in cc)
+  part_unsettled false (g ∷ hs) on unsettled job note k = λ verdict h. (let f : Some (walk.Take (first_lock root (g ∷ hs))) ≡ Some (walk.Settle verdict) = h in cc)
+
+  closing_unsettled : (h : Hop) (on : Doer)
+      → ((job : Job) (note : Note) (k : JobOutcome → WalkTree) → NoSettle (first_act (seen v (on job note k))))
+      → (job : Job) (note : Note) (k : JobOutcome → WalkTree) (mark : Option ℕ)
+      → NoSettle (first_act (seen v (closing b h on note k (chosen h on job note k) mark)))
+  closing_unsettled h on unsettled job note k None = unsettled _ _ _
+  closing_unsettled h on unsettled job note k (Some m) = unsettled _ _ _
+
+  inner_unsettled : (hs : List Hop) (job : Job) (note : Note) (k : JobOutcome → WalkTree) → NoSettle (first_act (seen v (inner b root hs job note k)))
+  inner_unsettled [] job note k = bus_unsettled job note k
+  inner_unsettled (h ∷ hs) job note k =
+      by (is_line job) (closing_unsettled h (part h.parent (locks_of root hs) (inner b root hs)) (part_unsettled h.parent hs (inner b root hs) (inner_unsettled hs)) job note k (mark_in (v h.on).slot))
+    where
+      by : (x : Bool) → NoSettle (first_act (seen v (behind b h (part h.parent (locks_of root hs) (inner b root hs)) job note k)))
+          → NoSettle (first_act (seen v (cond x (at_bus job note k) (behind b h (part h.parent (locks_of root hs) (inner b root hs)) job note k))))
+      by true e = bus_unsettled job note k
+      by false e = e
+
+-- a settle comes next where it is on the top, and nowhere else
+pub no_settle : (b : BoardView) (ms : List MessageView) (c : CourseView) (v : Slots) (t : Task) (ts : List Task) (out : JobOutcome) → IsReady (t ∷ ts)
+    → ((x : Option Errno) → t ≡ Settle x → ⊥) → NoSettle (first_act (seen v (tree_of b ms c (t ∷ ts) out)))
+no_settle b ms c v (Enter n w) ts out ready other = inner_unsettled b v c.root (drop n c.path) (job_of c ms w) (note_of ts) (tree_of b ms c ts)
+no_settle b ms c v (Lock m n w) ts out ready other =
+    λ verdict h. (let f : Some (walk.Take (first_lock c.root (drop m c.path))) ≡ Some (walk.Settle verdict) = sym (ap (λ (x : WalkTree). first_act (seen v x)) (tree_of-lock b ms c m n w ts out out)) ∙ h in cc)
+no_settle b ms c v (Free l) ts out ready other = λ verdict h. (let f : Some (walk.Free l) ≡ Some (walk.Settle verdict) = h in cc)
+no_settle b ms c v (Rest zero w) ts out ready other = λ verdict h. (let f : Some (walk.Send (job_of c ms w) zero) ≡ Some (walk.Settle verdict) = h in cc)
+no_settle b ms c v (Rest (suc left) w) ts out ready other = λ verdict h. (let f : Some (walk.Send (job_of c ms w) (suc left)) ≡ Some (walk.Settle verdict) = h in cc)
+no_settle b ms c v (Line w) ts out ready other = λ verdict h. (let f : Some (walk.Shift (job_of c ms w)) ≡ Some (walk.Settle verdict) = h in cc)
+no_settle b ms c v (Settle x) ts out ready other = absurd (other x refl)
+no_settle b ms c v (AwaitClose n h m w) ts out ready other = absurd ready
+no_settle b ms c v (AwaitSelect n h w) ts out ready other = absurd ready
+no_settle b ms c v (AwaitWork n h) ts out ready other = absurd ready
+no_settle b ms c v (AwaitDeselect h was) ts out ready other = absurd ready
 
 -- one mux is crossed on the way to the first step; the locks of a mux-locked one are that step; or the way has ended
 module _ (b : BoardView) (ms : List MessageView) (c : CourseView) (marks : List (Option ℕ)) where

@@ -107,7 +107,7 @@ impl Course {
         ensures deep { length self.new.path ≤ MOST_DEPTH }
         ensures narrow { All IsNarrow self.new.path }
     {
-        self.path = board.board().layout().hops(bus);
+        board.board().layout().find_hops(bus, &mut self.path);
         self.root = end_of(bus, self.path.as_slice());
         self.bus = bus;
         self.count = count;

@@ -1,8 +1,10 @@
-ghost use Rattle.std.specs.Prelude.{◌≡◌, ◌+◌, ◌<◌, ◌≤◌, ℕ, true, false, List, [], ◌∷◌, length, None, slice_index_or};
+ghost use Rattle.std.specs.Prelude.{◌≡◌, ◌+◌, ◌<◌, ◌≤◌, ℕ, true, false, List, [], ◌∷◌, length, Option, None, Some, IfSome, slice_index_or};
 ghost use Rattle.std.specs.List.{list_any};
 ghost use Rattle.i2c_base.specs.Board.{BoardView};
 ghost use Rattle.i2c_spec.specs.Messages.{MessageView};
-ghost use Rattle.bus_spec.specs.Walk.{JobOutcome, ActOutcome};
+ghost use Rattle.i2c_base.specs.declared.errno.Errno.{Errno};
+ghost use Rattle.bus_spec.specs.Slots.{Slots};
+ghost use Rattle.bus_spec.specs.Walk.{JobOutcome, ActOutcome, Settle};
 ghost use Rattle.bus_spec.specs.Grammar.{at_bus, lost as lost_of, is_over, first_act, first_note, chosen, opened, over, seen, rest_of};
 ghost use Rattle.mux_plan.specs.Plans.{CourseView, job_of, came_of, outcome_of, note_of, on_bus, tree_of, action_of, slots_of, part_task, crossed_tasks, switch_of};
 ghost use Rattle.mux_plan.specs.Plans as plans;
@@ -16,7 +18,7 @@ use crate::marks::{Dues, mark_work};
 use crate::stack::Stack;
 use crate::work::Follow;
 use crate::{Action, Came, Course, Outcome, Task, Work};
-use i2c_base::MuxId;
+use i2c_base::{Errno, MuxId};
 use i2c_board::Board;
 use i2c_spec::Hop;
 
@@ -432,6 +434,22 @@ impl Parts {
         ensures { (b : BoardView) (ms : List MessageView) → result ≡ is_over (tree_of b ms self.now.course self.now.stack (came_of self.now.came)) }
     {
         self.stack.is_empty()
+    }
+
+    /// The settle on the top, if one is there: why the reply is an error, or none.
+    pub fn settles(&self) -> Option<Option<Errno>>
+        requires ready { IsReady self.now.stack }
+        ensures some { (b : BoardView) (ms : List MessageView) (v : Slots) → IfSome result (λ verdict. first_act (seen v (tree_of b ms self.now.course self.now.stack (came_of self.now.came))) ≡ Some (Settle verdict)) }
+        ensures none { (b : BoardView) (ms : List MessageView) (v : Slots) (verdict : Option Errno) → result ≡ None
+            → first_act (seen v (tree_of b ms self.now.course self.now.stack (came_of self.now.came))) ≡ Some (Settle verdict) → ⊥ }
+    {
+        let Some(task) = self.stack.top() else {
+            return None;
+        };
+        match task {
+            Task::Settle(verdict) => Some(verdict),
+            _ => None,
+        }
     }
 
     /// The first action, where these marks answer the looks in front of it. Done exactly where no task is left.

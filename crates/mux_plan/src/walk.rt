@@ -1,8 +1,10 @@
-ghost use Rattle.std.specs.Prelude.{◌≡◌, ◌<◌, true, List, length, None, Some};
+ghost use Rattle.std.specs.Prelude.{◌≡◌, ◌<◌, true, List, length, Option, None, Some, IsSome, IfSome};
 ghost use Rattle.i2c_base.specs.Board.{BoardView};
 ghost use Rattle.i2c_spec.specs.Messages.{MessageView, messages_of};
-ghost use Rattle.i2c_spec.specs.Tree.{buses};
-ghost use Rattle.bus_spec.specs.Walk.{Call, Ends};
+ghost use Rattle.i2c_spec.specs.Tree.{buses, root_of};
+ghost use Rattle.i2c_base.specs.declared.errno.Errno.{Errno};
+ghost use Rattle.bus_spec.specs.Slots.{Slots};
+ghost use Rattle.bus_spec.specs.Walk.{Call, Ends, Settle};
 ghost use Rattle.bus_spec.specs.Grammar.{walk_by, walk_for, is_over, seen, first_act, first_note, rest_of};
 ghost use Rattle.mux_plan.specs.Marks.{dues_after};
 ghost use Rattle.mux_plan.specs.Plans.{walk_of, slots_of, action_of, outcome_of};
@@ -35,15 +37,33 @@ impl Model for Walk {
     ghost invariant = { λ w. IsPlanned w.parts.course w.parts.stack × IsReady w.parts.stack };
 }
 
+// The root that a bus hangs from; none where the board doesn't have the bus.
+fn root_of(board: &Accepted, bus: u16) -> Option<SegId>
+    ensures there { bus < buses board.now → result ≡ Some (root_of board.now bus) }
+    ensures none { IsSome result → bus < buses board.now }
+{
+    let board = board.board();
+    (bus < board.buses()).then(|| board.root(SegId(bus)))
+}
+
 impl Walk {
-    /// Begins the walk of another transfer: one that is refused is settled at once, and takes no lock.
-    pub fn restart(&mut self, board: &Accepted, transfer: &Transfer)
+    /// Begins the walk of another transfer: one that is refused is settled at once, and takes no lock. Tells the root of
+    /// its bus, where the board has that bus.
+    pub fn restart(&mut self, board: &Accepted, transfer: &Transfer) -> Option<SegId>
         ensures count { length (messages_of transfer.now) ≡ self.new.course.count }
         ensures tree { walk_of board.now (messages_of transfer.now) self.new ≡ walk_for board.now transfer.now }
+        ensures root { transfer.now.bus < buses board.now → result ≡ Some (root_of board.now transfer.now.bus) }
+        ensures none { IsSome result → transfer.now.bus < buses board.now }
     {
         match refusal(&board.board().layout(), transfer) {
-            None => self.begin(board, transfer),
-            Some(errno) => self.refuse(transfer, errno),
+            None => {
+                self.begin(board, transfer);
+                Some(self.parts.course.root)
+            }
+            Some(errno) => {
+                self.refuse(transfer, errno);
+                root_of(board, transfer.bus())
+            }
         }
     }
 
@@ -52,6 +72,7 @@ impl Walk {
         requires there { transfer.now.bus < buses board.now }
         ensures count { length (messages_of transfer.now) ≡ self.new.course.count }
         ensures tree { walk_of board.now (messages_of transfer.now) self.new ≡ walk_by board.now transfer.now None }
+        ensures root { self.new.course.root ≡ root_of board.now transfer.now.bus }
     {
         let bus = SegId(transfer.bus());
         self.parts
@@ -100,6 +121,14 @@ impl Walk {
         ensures over { result ≡ Done → (b : BoardView) (ms : List MessageView) → is_over (walk_of b ms self.now) ≡ true }
     {
         self.parts.first(board, marks)
+    }
+
+    /// The settle that comes next, if one does: why the reply is an error, or none. A settle has no look in front.
+    pub fn settles(&self) -> Option<Option<Errno>>
+        ensures some { (b : BoardView) (ms : List MessageView) (v : Slots) → IfSome result (λ verdict. first_act (seen v (walk_of b ms self.now)) ≡ Some (Settle verdict)) }
+        ensures none { (b : BoardView) (ms : List MessageView) (v : Slots) (verdict : Option Errno) → result ≡ None → first_act (seen v (walk_of b ms self.now)) ≡ Some (Settle verdict) → ⊥ }
+    {
+        self.parts.settles()
     }
 
     /// No action is left.

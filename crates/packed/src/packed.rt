@@ -1,4 +1,4 @@
-ghost use Rattle.std.specs.Prelude.{◌≡◌, ℕ, ◌+◌, ◌-◌, ◌<◌, ◌≤◌, ◌^◌, ◌↔◌, List, [], ◌∷◌, ◌++◌, length, slice_index_or, IsTrue, IfOk, OnOk};
+ghost use Rattle.std.specs.Prelude.{◌≡◌, ℕ, ◌+◌, ◌-◌, ◌<◌, ◌≤◌, ◌^◌, ◌↔◌, List, [], ◌∷◌, ◌++◌, length, slice_index_or, IsTrue, IfOk, OnOk, vec_len, vec_capacity};
 
 use std::alloc::{AllocError, Global};
 use std::marker::Model;
@@ -31,6 +31,24 @@ impl<H> Model for Packed<H> {
     ghost view = { λ p. record { items = unpacked p.bytes.items p.runs.items; room = vec_capacity p.runs - vec_len p.runs; room_bytes = p.room_bytes } };
 
     ghost invariant = { λ p. All (IsWithin (vec_len p.bytes)) p.runs.items × (vec_len p.bytes + p.room_bytes < 2 ^ 32) × (vec_len p.bytes + p.room_bytes ≤ vec_capacity p.bytes) };
+}
+
+/// So few bytes are put one by one, which is faster for them.
+const FEW: usize = 8;
+
+// Puts bytes at the end of a store that has room for them.
+fn append(store: &mut Vec<u8>, bytes: &[u8])
+    requires { vec_len store.old + length bytes.now ≤ vec_capacity store.old }
+    ensures items { store.new.items ≡ store.old.items ++ bytes.now }
+    ensures room { vec_capacity store.old ≤ vec_capacity store.new }
+{
+    if bytes.len() > FEW {
+        let _ = store.extend_from_slice(bytes);
+    } else {
+        for byte in bytes {
+            store.push_reserved(*byte);
+        }
+    }
 }
 
 impl<H: Drop> Packed<H> {
@@ -69,7 +87,7 @@ impl<H: Drop> Packed<H> {
     {
         let start = self.bytes.len() as u32;
         let len = bytes.len() as u16;
-        let _ = self.bytes.extend_from_slice(bytes);
+        append(&mut self.bytes, bytes);
         self.room_bytes -= u32::from(len);
         self.runs.push_reserved(Run { head, start, len });
     }

@@ -1,14 +1,12 @@
-use Rattle.std.proofs.Common.{◌≡◌, ℕ, ◌<◌, length, Some, None, refl, sym, ◌∙◌, ap, subst, arith, inl, inr}
+use Rattle.std.proofs.Common.{◌≡◌, ◌<◌, length, Some, refl, sym, ◌∙◌, ap, subst, arith, inl, inr}
 use Rattle.std.specs.Prelude.{slice_get}
 use Rattle.std.proofs.lemmas.Bool.Decides.{eqb_tells}
 use Rattle.std.proofs.lemmas.Option.{slice_get_within}
-use Rattle.i2c_base.specs.Limits.{MOST_CALLERS}
 use Rattle.bus_core.specs.Kept.{IsCore}
 use Rattle.bus_core.specs.Ready.{IsHeldUpAt}
 use Rattle.bus_core.specs.Runs.{HasMade}
 use Rattle.bus_core.specs.declared.parts.CoreParts.{CoreParts}
-use Rattle.bus_core.proofs.SeatLemmas.{number_read, none-told, some-told}
-use Rattle.bus_core.proofs.running.advance_least.Goals.{else-is_some-via-then-is_some+else-advance, else-is_some-via-else-is_some}
+use Rattle.bus_core.proofs.running.advance_least.Goals.{else-not-is_through-via-then-not-is_through+else-advance, else-not-is_through-via-else-not-is_through}
 use Rattle.bus_core.proofs.running.advance_least.Goals as goal
 
 pub loop-number-init : goal.loop-number-init
@@ -18,23 +16,16 @@ pub advance-requires-clause-core : goal.advance-requires-clause-core
 advance-requires-clause-core g c κs within = subst (λ (y : CoreParts _ _). IsCore g.P.Port g.C.Caller y) (sym c.loop-number.invariant.same) c.requires.core
 
 pub advance-requires-clause-has : goal.advance-requires-clause-has
-advance-requires-clause-has g c κs within =
-    let x = c.loop-number.parts in
-    let all : length x.places.items ≡ MOST_CALLERS = ap (λ (y : CoreParts _ _). length y.places.items) c.loop-number.invariant.same ∙ c.requires.core.placed.all in
-    let some = some-told c.index.result.now (sym c.is_some.ensures ∙ c.if-is_some.true) in
-    record { place = some.0; at = number_read x.places.items c.loop-number.number c.from.result c.index.result.now (Some some.0) c.from.ensures (omega (arith, all, c.loop-number-test.true)) c.index.ensures some.1 }
+advance-requires-clause-has g c κs within = c.is_through.ensures.there c.if-not-is_through.true
 
 pub returns-then-advance-clause-made : goal.returns-then-advance-clause-made
 returns-then-advance-clause-made g c is =
-    let x = c.loop-number.parts in
     let same = c.loop-number.invariant.same in
-    let all : length x.places.items ≡ MOST_CALLERS = ap (λ (y : CoreParts _ _). length y.places.items) same ∙ c.requires.core.placed.all in
-    let some = some-told c.index.result.now (sym c.is_some.ensures ∙ c.if-is_some.true) in
-    let at = number_read x.places.items c.loop-number.number c.from.result c.index.result.now (Some some.0) c.from.ensures (omega (arith, all, c.loop-number-test.true)) c.index.ensures some.1 in
+    let there = c.is_through.ensures.there c.if-not-is_through.true in
     record {
       caller = c.loop-number.number;
-      place = some.0;
-      at = ap (λ (y : CoreParts _ _). slice_get y.places.items c.loop-number.number) (sym same) ∙ at;
+      place = there.place;
+      at = ap (λ (y : CoreParts _ _). slice_get y.places.items c.loop-number.number) (sym same) ∙ there.at;
       before = c.loop-number.invariant.before;
       made = subst (λ (y : CoreParts _ _). HasMade g.P.Port g.C.Caller c.loop-number.number y c.advance.new.parts) same (c.advance.ensures.made c.if-advance.true);
     }
@@ -44,22 +35,18 @@ loop-number-preserved g c =
     let x = c.args.parts.now in
     let now = c.loop-number.parts in
     let same = c.loop-number.invariant.same in
-    let all : length now.places.items ≡ MOST_CALLERS = ap (λ (y : CoreParts _ _). length y.places.items) same ∙ c.requires.core.placed.all in
-    let low : c.loop-number.number < length now.places.items = omega (arith, all, c.loop-number-test.true) in
     record {
-      same = elim c.else-is_some.branch [
-        | else-is_some-via-then-is_some+else-advance w ↦ w.parts-is ∙ (w.advance.ensures.waited w.if-advance.false).same ∙ same
-        | else-is_some-via-else-is_some w ↦ w.parts-is ∙ same
+      same = elim c.else-not-is_through.branch [
+        | else-not-is_through-via-then-not-is_through+else-advance w ↦ w.parts-is ∙ (w.advance.ensures.waited w.if-advance.false).same ∙ same
+        | else-not-is_through-via-else-not-is_through w ↦ w.parts-is ∙ same
       ];
       before = λ m q below at.
           elim (eqb_tells m c.loop-number.number) [
             | inl e ↦ (let here : slice_get now.places.items c.loop-number.number ≡ Some (Some q) =
                 ap (λ (y : CoreParts _ _). slice_get y.places.items c.loop-number.number) same ∙ ap (slice_get x.places.items) (sym e.1) ∙ at in
-                elim c.else-is_some.branch [
-                  | else-is_some-via-then-is_some+else-advance w ↦ subst (λ (y : CoreParts _ _). IsHeldUpAt y q) same (w.advance.ensures.held_up w.if-advance.false q here)
-                  | else-is_some-via-else-is_some w ↦ (let none = number_read now.places.items c.loop-number.number c.from.result c.index.result.now None c.from.ensures low c.index.ensures
-                      (none-told c.index.result.now (sym c.is_some.ensures ∙ w.if-is_some.false)) in
-                      absurd (let f : Some None ≡ Some (Some q) = sym none ∙ here in cc))
+                elim c.else-not-is_through.branch [
+                  | else-not-is_through-via-then-not-is_through+else-advance w ↦ subst (λ (y : CoreParts _ _). IsHeldUpAt y q) same (w.advance.ensures.held_up w.if-advance.false q here)
+                  | else-not-is_through-via-else-not-is_through w ↦ subst (λ (y : CoreParts _ _). IsHeldUpAt y q) same (c.is_through.ensures.through w.if-not-is_through.false q here)
                 ])
             | inr e ↦ c.loop-number.invariant.before m q (omega (arith, below, e.1)) at
           ];

@@ -1,4 +1,4 @@
-use Rattle.std.proofs.Common.{ℕ, subst}
+use Rattle.std.proofs.Common.{subst}
 use Rattle.std.proofs.lemmas.Option.{IfSome_then}
 use Rattle.bus_core.specs.Answers.{IsLeast}
 use Rattle.bus_core.specs.State.{AllThrough, CoreState}

@@ -1,10 +1,8 @@
 use Rattle.std.proofs.Common.{◌≡◌, ℕ, ◌<◌, true, length, Some, None, sym, ◌∙◌, ap, subst, arith}
-use Rattle.std.specs.Prelude.{slice_get, vec_len}
+use Rattle.std.specs.Prelude.{vec_len}
 use Rattle.std.proofs.lemmas.Option.{slice_get_within}
-use Rattle.i2c_base.specs.declared.caller.Caller.{Ghosts as CallerGhosts}
 use Rattle.bus_core.specs.Answers.{HasAdded, WaitsFor, HasUsedUp}
-use Rattle.bus_core.specs.Kept.{HasCome, HasStepped, IsCore}
-use Rattle.bus_core.specs.Ready.{HasPlace}
+use Rattle.bus_core.specs.Kept.{HasCome, HasStepped}
 use Rattle.bus_core.specs.State.{CoreState, CoreTold, has_caller, roots_in, state_of}
 use Rattle.bus_core.specs.Steps.{IsBlockedAt, HasEndedAt}
 use Rattle.bus_core.specs.declared.parts.CoreParts.{CoreParts}

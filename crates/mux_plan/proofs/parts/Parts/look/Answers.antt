@@ -1,4 +1,4 @@
-use Rattle.std.proofs.Common.{◌≡◌, List, ◌∷◌, drop, sym, ◌∙◌, ap, subst, rules}
+use Rattle.std.proofs.Common.{List, ◌∷◌, drop, sym, ◌∙◌, ap, subst, rules}
 use Rattle.bus_spec.specs.Grammar.{seen}
 use Rattle.mux_plan.specs.declared.task.Task.{Task}
 use Rattle.mux_plan.specs.Plans.{tree_of, slots_of}

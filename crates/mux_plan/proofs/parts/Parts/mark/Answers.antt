@@ -1,4 +1,4 @@
-use Rattle.std.proofs.Common.{reverse, refl, sym, ◌∙◌}
+use Rattle.std.proofs.Common.{reverse, sym, ◌∙◌}
 use Rattle.mux_plan.specs.Plans.{outcome_of}
 use Rattle.mux_plan.proofs.MarksTold.{no-dues}
 use Rattle.mux_plan.proofs.parts.Parts.mark.Goals as goal

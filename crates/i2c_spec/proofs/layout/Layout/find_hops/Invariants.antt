@@ -1,6 +1,6 @@
 use Rattle.std.proofs.Common.{◌≡◌, ◌+◌, ◌≤◌, ◌++◌, length, take, reverse}
 use Rattle.i2c_spec.specs.Tree.{buses_of, hops_of}
-use Rattle.i2c_spec.proofs.layout.Layout.hops.Given as goal
+use Rattle.i2c_spec.proofs.layout.Layout.find_hops.Given as goal
 
 -- the hops found, and then those over the bus that was reached
 abbrev pub invariant-loop-left : goal.invariant-loop-left
