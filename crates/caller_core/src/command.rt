@@ -1,18 +1,18 @@
 //! What each command asks for and prints: one arm for each command.
 
-ghost use Rattle.std.specs.Prelude.{◌≡◌, ◌+◌, ◌≤◌, ◌++◌, length};
+ghost use Rattle.std.specs.Prelude.{◌≡◌, ◌+◌, ◌<◌, ◌≤◌, ◌++◌, length};
 ghost use Rattle.bus_spec.specs.Lines.{errno_text};
-ghost use Rattle.caller_core.specs.Commands.{read_byte_of, transfer_of, reply_text, answer_text, MOST_READ, MOST_ANSWER};
+ghost use Rattle.caller_core.specs.Commands.{read_len, got_by, transfer_of, read_text, value_text, answer_text, MOST_READ, MOST_ANSWER};
 ghost use Rattle.caller_core.specs.Kept.{reply_of};
 ghost use Rattle.caller_core.specs.Scripts.{command_text, room_of};
 
-use crate::text::{Text, push_byte_words};
+use crate::text::{Text, push_byte_words, push_low_first_word};
 use bus_journal::{ReplyHead, errno_name};
 use i2c_base::{Addr, Errno, Kind, Transfer};
-use tool_words::Cmd;
+use tool_words::{Cmd, GetMode};
 
 /// The most bytes that the reply of a command brings.
-pub const MOST_READ: u32 = 1;
+pub const MOST_READ: u32 = 2;
 
 /// The most bytes of an answer, and of what stands beside it and the command's words.
 pub const MOST_BESIDE: usize = 14;
@@ -22,17 +22,49 @@ pub fn put_transfer(cmd: Cmd, transfer: &mut Transfer)
     ensures { transfer.new ≡ transfer_of cmd }
 {
     match cmd {
-        Cmd::Get { bus, addr, reg } => put_read_byte(transfer, bus, addr, reg),
+        Cmd::Get {
+            force,
+            bus,
+            addr,
+            reg,
+            mode,
+        } => put_get(transfer, force, bus, addr, reg, mode),
     }
 }
 
-// The register's number is written, and a byte is read.
-fn put_read_byte(transfer: &mut Transfer, bus: u16, addr: Addr, reg: u8)
-    ensures { transfer.new ≡ read_byte_of bus addr reg }
+// How many bytes are read of a register.
+fn read_len(mode: GetMode) -> u16
+    ensures value { result ≡ read_len mode }
+    ensures some { 0 < result }
+    ensures few { result ≤ 2 }
 {
-    transfer.restart(bus, Kind::Smbus, false);
-    let _ = transfer.add_write(addr, &[reg]);
-    let _ = transfer.add_read(addr, 1);
+    match mode {
+        GetMode::Byte => 1,
+        GetMode::Word => 2,
+    }
+}
+
+// The register's number is written, where there is one, and what the mode says is read.
+fn put_get(
+    transfer: &mut Transfer,
+    force: bool,
+    bus: u16,
+    addr: Addr,
+    reg: Option<u8>,
+    mode: GetMode,
+)
+    ensures { transfer.new ≡ got_by force bus addr reg mode }
+{
+    transfer.restart(bus, Kind::Smbus, force);
+    match reg {
+        None => {
+            let _ = transfer.add_read(addr, 1);
+        }
+        Some(reg) => {
+            let _ = transfer.add_write(addr, &[reg]);
+            let _ = transfer.add_read(addr, read_len(mode));
+        }
+    }
 }
 
 /// Puts a command with these words and its answer at the end, each on a line.
@@ -57,7 +89,7 @@ fn push_answer(out: &mut Text, cmd: Cmd, answer: ReplyHead, bytes: &[u8])
     ensures room { out.old.room ≤ out.new.room + MOST_ANSWER }
 {
     match cmd {
-        Cmd::Get { .. } => push_reply(out, answer, bytes),
+        Cmd::Get { mode, .. } => push_value(out, mode, answer, bytes),
     }
 }
 
@@ -71,16 +103,29 @@ fn push_errno(out: &mut Text, errno: Errno)
     out.push(errno_name(errno));
 }
 
-// Puts a reply of at most two bytes as words at the end, `ok` where nothing was read, or the name of its error.
-fn push_reply(out: &mut Text, answer: ReplyHead, bytes: &[u8])
-    requires few { length bytes.now ≤ 2 }
+// Puts what was read of a register at the end, `ok` where nothing was read, or the name of the error.
+fn push_value(out: &mut Text, mode: GetMode, answer: ReplyHead, bytes: &[u8])
+    requires few { length bytes.now ≤ MOST_READ }
     requires room { MOST_ANSWER ≤ out.old.room }
-    ensures bytes { out.new.bytes ≡ out.old.bytes ++ reply_text (reply_of (answer, bytes.now)) }
+    ensures bytes { out.new.bytes ≡ out.old.bytes ++ value_text mode (reply_of (answer, bytes.now)) }
     ensures room { out.old.room ≤ out.new.room + MOST_ANSWER }
 {
     match answer {
         ReplyHead::Done => out.push(b"ok"),
-        ReplyHead::Read => push_byte_words(out, bytes),
+        ReplyHead::Read => push_read(out, mode, bytes),
         ReplyHead::Err(errno) => push_errno(out, errno),
+    }
+}
+
+// Puts the bytes that were read of a register at the end.
+fn push_read(out: &mut Text, mode: GetMode, bytes: &[u8])
+    requires few { length bytes.now ≤ MOST_READ }
+    requires room { MOST_ANSWER ≤ out.old.room }
+    ensures bytes { out.new.bytes ≡ out.old.bytes ++ read_text mode bytes.now }
+    ensures room { out.old.room ≤ out.new.room + MOST_ANSWER }
+{
+    match mode {
+        GetMode::Byte => push_byte_words(out, bytes),
+        GetMode::Word => push_low_first_word(out, bytes),
     }
 }

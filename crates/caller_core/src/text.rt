@@ -1,6 +1,7 @@
-ghost use Rattle.std.specs.Prelude.{◌≡◌, ◌+◌, ◌*◌, ◌≤◌, [], ◌++◌, length, OnOk};
+ghost use Rattle.std.specs.Prelude.{◌≡◌, ◌+◌, ◌*◌, ◌≤◌, [], ◌++◌, length, OnOk, codes};
 ghost use Rattle.std.specs.List.{flat_map};
-ghost use Rattle.caller_core.specs.Commands.{byte_word, spaced_word, byte_words};
+ghost use Rattle.bus_spec.specs.Lines.{two_digits};
+ghost use Rattle.caller_core.specs.Commands.{byte_word, spaced_word, byte_words, low_first_word};
 
 use bus_journal::hex_digit;
 use i2c_base::NoMemory;
@@ -97,4 +98,34 @@ pub fn push_byte_words(out: &mut Text, bytes: &[u8])
         push_word(out, *first);
         push_spaced_words(out, rest);
     }
+}
+
+/// Puts two bytes as one word at the end, whose low byte comes first.
+pub fn push_low_first_word(out: &mut Text, bytes: &[u8])
+    requires { 6 ≤ out.old.room }
+    ensures bytes { out.new.bytes ≡ out.old.bytes ++ low_first_word bytes.now }
+    ensures room { out.old.room ≤ out.new.room + 6 }
+{
+    if let Some((low, rest)) = bytes.split_first() {
+        match rest.first() {
+            None => push_word(out, *low),
+            Some(high) => push_two_bytes(out, *high, *low),
+        }
+    }
+}
+
+// Puts two bytes as one word at the end.
+fn push_two_bytes(out: &mut Text, high: u8, low: u8)
+    requires { 6 ≤ out.old.room }
+    ensures bytes { out.new.bytes ≡ out.old.bytes ++ (codes "0x" ++ (two_digits high ++ two_digits low)) }
+    ensures room { out.old.room ≤ out.new.room + 6 }
+{
+    out.push(&[
+        b'0',
+        b'x',
+        hex_digit(high / 16),
+        hex_digit(high % 16),
+        hex_digit(low / 16),
+        hex_digit(low % 16),
+    ]);
 }

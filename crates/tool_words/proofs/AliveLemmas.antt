@@ -1,6 +1,6 @@
 -- Sets of lines without dead ends, and what is read of them, by how they are written. There is no induction.
 use Rattle.std.proofs.Common.{◌≡◌, ℕ, ◌+◌, Bool, true, false, List, [], ◌∷◌, length, drop, Option, Some, None, Result, Ok, Err, cond, nat_le, refl, subst, ◌∙◌, add-one}
-use Rattle.tool_words.specs.LineSets.{Word, LineSet, nothing, node, IsLine, Begins, follow_words, class, word, is_word, either, maybe, ends, or_lines, behind}
+use Rattle.tool_words.specs.LineSets.{Word, LineSet, nothing, node, IsLine, Begins, follow_words, class, word, is_word, either, maybe, ends, or_lines, or_end, behind}
 use Rattle.tool_words.specs.Readers.{◌>>=◌, one_at, is_at}
 use Rattle.tool_words.proofs.LineSetLemmas.{IsLive, IsAlive, follow_class, follow_word_or, follow_word, follow_maybe}
 
@@ -102,3 +102,25 @@ means_word P text g h = means_class P (is_word text) (λ u. g) (λ w u is. h)
 pub means_ends : {A : Type 0} (P : A → Type 0) (a : A) → P a → Means P (ends a)
 means_ends P a h [] b line = let same : a ≡ b = cc in subst P same h
 means_ends P a h (w ∷ ws) b line = absurd line
+
+pub means_maybe : {A : Type 0} (P : A → Type 0) (a : A) (g : LineSet A) → P a → Means P g → Means P (maybe a g)
+means_maybe P a g p h [] b line = let same : a ≡ b = cc in subst P same p
+means_maybe P a nothing p h (w ∷ ws) b line = absurd line
+means_maybe P a (node e f) p h (w ∷ ws) b line = h (w ∷ ws) b line
+
+means_or : {A : Type 0} (P : A → Type 0) (g h : LineSet A) → Means P g → Means P h → Means P (or_lines g h)
+means_or P nothing h p q = q
+means_or P (node e f) h p q = p
+
+means_end : {A : Type 0} (P : A → Type 0) (e d : Option A) → ((a : A) → e ≡ Some a → P a) → ((a : A) → d ≡ Some a → P a) → (a : A) → or_end e d ≡ Some a → P a
+means_end P None d p q a is = q a is
+means_end P (Some x) d p q a is = p a is
+
+means_both : {A : Type 0} (P : A → Type 0) (e d : Option A) (f g : Word → LineSet A) → Means P (node e f) → Means P (node d g) → Means P (either (node e f) (node d g))
+means_both P e d f g p q [] a line = means_end P e d (λ x is. p [] x is) (λ x is. q [] x is) a line
+means_both P e d f g p q (w ∷ ws) a line = means_or P (f w) (g w) (λ vs x l. p (w ∷ vs) x l) (λ vs x l. q (w ∷ vs) x l) ws a line
+
+pub means_either : {A : Type 0} (P : A → Type 0) (g h : LineSet A) → Means P g → Means P h → Means P (either g h)
+means_either P nothing h p q = q
+means_either P (node e f) nothing p q = p
+means_either P (node e f) (node d g) p q = means_both P e d f g p q

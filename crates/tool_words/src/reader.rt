@@ -1,4 +1,5 @@
 ghost use Rattle.std.specs.Prelude.{◌≡◌, ◌≤◌, IfOk};
+ghost use Rattle.std.specs.Str.{bytes_eq};
 ghost use Rattle.i2c_base.specs.Limits.{FIRST_ADDRESS, LAST_ADDRESS};
 ghost use Rattle.tool_words.specs.Numbers.{number_in};
 ghost use Rattle.tool_words.specs.Readers.{texts, one_at, is_at, is_over};
@@ -6,6 +7,13 @@ ghost use Rattle.tool_words.specs.Readers.{texts, one_at, is_at, is_over};
 use crate::fault::WordRefused;
 use crate::number::number_in;
 use i2c_base::Addr;
+
+/// The word is that text.
+pub fn is_text(word: &[u8], text: &[u8]) -> bool
+    ensures { result ≡ bytes_eq word.now text.now }
+{
+    word == text
+}
 
 /// The word at a place is that text.
 pub fn is_at(words: &[&[u8]], at: u16, text: &[u8]) -> bool
