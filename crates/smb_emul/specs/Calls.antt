@@ -14,10 +14,10 @@ use Rattle.i2c_spec.specs.declared.smbus_row.ValueShape.TheVariants as shape
 use Rattle.smb_emul.specs.declared.call.SmbCall.{SmbCall}
 use Rattle.smb_emul.specs.declared.call.SmbOp.{SmbOp}
 use Rattle.smb_emul.specs.declared.call.SmbOp.TheVariants as op
-use Rattle.smb_emul.specs.declared.call.SmbValue.{SmbValue}
-use Rattle.smb_emul.specs.declared.call.SmbValue.TheVariants as value
 use Rattle.smb_emul.specs.declared.call.SmbFail.{SmbFail}
 use Rattle.smb_emul.specs.declared.call.SmbFail.TheVariants as fail
+use Rattle.smb_emul.specs.Value as value
+use Rattle.smb_emul.specs.Value.{ValueView}
 use Rattle.smb_pec.specs.LongDivision.{pec}
 
 abbrev pub call_row : SmbOp → CallRow
@@ -29,10 +29,10 @@ call_row (op.ReadByte c) = read_byte_row c
 call_row (op.WriteWord c v) = write_word_row c v
 call_row (op.ReadWord c) = read_word_row c
 call_row (op.ProcCall c v) = proc_call_row c v
-call_row (op.BlockWrite c bytes) = block_write_row c bytes
+call_row (op.BlockWrite c bytes) = block_write_row c bytes.now
 call_row (op.BlockRead c) = block_read_row c
-call_row (op.BlockProc c bytes) = block_proc_row c bytes
-call_row (op.I2cBlockWrite c bytes) = i2c_block_write_row c bytes
+call_row (op.BlockProc c bytes) = block_proc_row c bytes.now
+call_row (op.I2cBlockWrite c bytes) = i2c_block_write_row c bytes.now
 call_row (op.I2cBlockRead c n) = i2c_block_read_row c n
 
 -- a block has 1 to 255 bytes, and an I2C block 1 to 32
@@ -48,10 +48,10 @@ HasBlock (op.ReadByte c) = ⊤
 HasBlock (op.WriteWord c v) = ⊤
 HasBlock (op.ReadWord c) = ⊤
 HasBlock (op.ProcCall c v) = ⊤
-HasBlock (op.BlockWrite c bytes) = IsBlockLength 255 (length bytes)
+HasBlock (op.BlockWrite c bytes) = IsBlockLength 255 (length bytes.now)
 HasBlock (op.BlockRead c) = ⊤
-HasBlock (op.BlockProc c bytes) = IsBlockLength 255 (length bytes)
-HasBlock (op.I2cBlockWrite c bytes) = IsBlockLength 32 (length bytes)
+HasBlock (op.BlockProc c bytes) = IsBlockLength 255 (length bytes.now)
+HasBlock (op.I2cBlockWrite c bytes) = IsBlockLength 32 (length bytes.now)
 HasBlock (op.I2cBlockRead c n) = IsBlockLength 32 n
 
 -- a plain read asks for 1 to 32 bytes
@@ -107,28 +107,28 @@ abbrev pub messages_of_call : SmbCall → TransferView
 messages_of_call call = transfer_by call (call_row call.op)
 
 -- the value of the bytes that were read, without an error code
-abbrev pub value_by : ValueShape → List ℕ → SmbValue
-value_by shape.Done held = value.Done
-value_by shape.Byte held = value.Byte (slice_index held 0)
-value_by shape.Word held = value.Word (slice_index held 0 + 256 * slice_index held 1)
-value_by shape.Block held = value.Block held
-value_by shape.CountedBlock held = value.Block (drop 1 held)
+abbrev pub value_by : ValueShape → List ℕ → ValueView
+value_by shape.Done held = value.done
+value_by shape.Byte held = value.byte (slice_index held 0)
+value_by shape.Word held = value.word (slice_index held 0 + 256 * slice_index held 1)
+value_by shape.Block held = value.block held
+value_by shape.CountedBlock held = value.block (drop 1 held)
 
 -- the last byte read is compared with the error code of all bytes before it, the address bytes among them
 abbrev pub wanted_code : ℕ → CallRow → List ℕ → ℕ
 wanted_code addr row held = pec (write_on_wire addr row.write ++ read_on_wire addr held)
 
-abbrev pub checked_value : CallRow → List ℕ → ℕ → ℕ → Result SmbValue SmbFail
+abbrev pub checked_value : CallRow → List ℕ → ℕ → ℕ → Result ValueView SmbFail
 checked_value row held got want = if got == want then Ok (value_by row.value held) else Err (fail.Pec got want)
 
-abbrev pub read_value : ℕ → Bool → CallRow → List ℕ → Result SmbValue SmbFail
+abbrev pub read_value : ℕ → Bool → CallRow → List ℕ → Result ValueView SmbFail
 read_value addr false row bytes = Ok (value_by row.value bytes)
 read_value addr true row bytes =
     let held = take (length bytes - 1) bytes in
     checked_value row held (slice_index bytes (length bytes - 1)) (wanted_code addr row held)
 
-abbrev pub value_of_call : SmbCall → Reply → Result SmbValue SmbFail
-value_of_call call reply.Done = Ok value.Done
+abbrev pub value_of_call : SmbCall → Reply → Result ValueView SmbFail
+value_of_call call reply.Done = Ok value.done
 value_of_call call (reply.Read bytes) = read_value call.addr (is_coded call) (call_row call.op) bytes
 value_of_call call (reply.Err errno) = Err (fail.Errno errno)
 

@@ -1,12 +1,13 @@
 //! Worked examples, computed by the checker itself: each function has an empty body.
 
-ghost use Rattle.std.specs.Prelude.{◌≡◌, true, false, Ok, Err, [], ◌∷◌};
+ghost use Rattle.std.specs.Prelude.{◌≡◌, ℕ, true, false, Ok, Err, List, [], ◌∷◌};
+ghost use Rattle.std.specs.Borrow.{Bor};
 ghost use Rattle.i2c_base.specs.Transfer.{written, plain_read, counted_read};
 ghost use Rattle.i2c_base.specs.declared.reply.Reply.TheVariants.{Read};
 ghost use Rattle.i2c_base.specs.declared.transfer.Kind.TheVariants.{Smbus};
 ghost use Rattle.smb_emul.specs.Calls.{messages_of_call, value_of_call};
+ghost use Rattle.smb_emul.specs.Value as value;
 ghost use Rattle.smb_emul.specs.declared.call.SmbOp.TheVariants.{BlockProc, ReadByte, WriteWord};
-ghost use Rattle.smb_emul.specs.declared.call.SmbValue.TheVariants.{Byte, Block};
 ghost use Rattle.smb_emul.specs.declared.call.SmbFail.TheVariants.{Pec};
 
 /// A register is read with an error code: one byte more is asked for.
@@ -18,7 +19,7 @@ pub fn a_coded_read_asks_for_one_byte_more()
 /// The error code is of the bytes 0x40, 0x05, 0x41 and 0x7e: both address bytes are among them.
 pub fn the_code_is_of_the_address_bytes_too()
     ensures { value_of_call (record { bus = 0; addr = 0x20; force = false; pec = true; op = ReadByte 5 }) (Read (0x7e ∷ 0x68 ∷ []))
-        ≡ Ok (Byte 0x7e) }
+        ≡ Ok (value.byte 0x7e) }
 {}
 
 /// A code that is off by one bit is refused, with both codes.
@@ -35,8 +36,10 @@ pub fn a_word_goes_low_byte_first()
 
 /// A block goes behind its count, and comes behind one, which isn't among its bytes.
 pub fn a_block_has_its_count_before_it()
-    ensures asked { messages_of_call (record { bus = 0; addr = 0x20; force = false; pec = false; op = BlockProc 5 (7 ∷ 8 ∷ []) })
+    ensures asked { (sent : Bor (List ℕ)) → sent.now ≡ 7 ∷ 8 ∷ []
+        → messages_of_call (record { bus = 0; addr = 0x20; force = false; pec = false; op = BlockProc 5 sent })
         ≡ record { bus = 0; kind = Smbus; force = false; msgs = written 0x20 4 ∷ counted_read 0x20 false ∷ []; out = 5 ∷ 2 ∷ 7 ∷ 8 ∷ [] } }
-    ensures value { value_of_call (record { bus = 0; addr = 0x20; force = false; pec = false; op = BlockProc 5 (7 ∷ 8 ∷ []) }) (Read (3 ∷ 9 ∷ 9 ∷ 9 ∷ []))
-        ≡ Ok (Block (9 ∷ 9 ∷ 9 ∷ [])) }
+    ensures value { (sent : Bor (List ℕ)) → sent.now ≡ 7 ∷ 8 ∷ []
+        → value_of_call (record { bus = 0; addr = 0x20; force = false; pec = false; op = BlockProc 5 sent }) (Read (3 ∷ 9 ∷ 9 ∷ 9 ∷ []))
+        ≡ Ok (value.block (9 ∷ 9 ∷ 9 ∷ [])) }
 {}

@@ -1,35 +1,75 @@
 //! The messages of a call.
 
-ghost use Rattle.std.specs.Prelude.{◌≡◌, ◌≤◌, ◌*◌, ◌∷◌, ◌++◌, Some, length};
-ghost use Rattle.smb_emul.specs.Calls.{HasBlock, IsShortRead, messages_of_call, read_messages, bytes_sent};
+ghost use Rattle.std.specs.Prelude.{◌≡◌, ◌+◌, ◌<◌, ◌++◌, Some, length};
+ghost use Rattle.smb_emul.specs.Calls.{HasBlock, IsShortRead, messages_of_call, read_messages, write_messages, bytes_sent};
+ghost use Rattle.smb_emul.specs.Written.{written_bytes};
 ghost use Rattle.i2c_base.specs.Transfer.{HasRoom};
-ghost use Rattle.smb_pec.specs.LongDivision.{pec};
 
 use crate::SmbCall;
-use crate::rows::call_row;
-use i2c_base::{Addr, ByteList, Kind, Transfer};
-use i2c_spec::{CallRow, ReadShape};
-use smb_pec::pec;
+use crate::codes::code_of_write;
+use crate::rows::row_shape;
+use crate::written::Written;
+use i2c_base::{Addr, ByteList, ByteStore, Kind, Transfer};
+use i2c_spec::ReadShape;
 
-/// The transfer that a call asks for.
-pub fn messages(call: &SmbCall) -> Transfer
+/// The transfer that a call asks for (SMBus 3.2, sections 6.4 and 6.5).
+pub fn messages(call: &SmbCall<'_>) -> Transfer
     requires { HasBlock call.now.op }
     ensures { result ≡ messages_of_call call.now }
 {
-    let CallRow {
-        write,
-        read,
-        checked,
-        value: _,
-    } = call_row(&call.op);
-    let coded = call.pec && checked;
     let mut transfer = Transfer::new(call.bus, Kind::Smbus, call.force);
-    if let Some(bytes) = write {
-        let bytes = with_code(call.addr, coded, read, bytes);
-        let _ = transfer.add_write(call.addr, bytes.as_slice());
-    }
-    add_read(&mut transfer, call.addr, coded, read);
+    put_messages(call, &mut transfer);
     transfer
+}
+
+/// Makes this transfer the one that a call asks for, in place. What was in it is gone.
+pub fn put_messages(call: &SmbCall<'_>, transfer: &mut Transfer)
+    requires { HasBlock call.now.op }
+    ensures { transfer.new ≡ messages_of_call call.now }
+{
+    let shape = row_shape(&call.op);
+    let coded = call.pec && shape.checked;
+    transfer.restart(call.bus, Kind::Smbus, call.force);
+    if let Some(write) = Written::of(&call.op) {
+        add_write(transfer, call.addr, coded, shape.read, &write);
+    }
+    add_read(transfer, call.addr, coded, shape.read);
+}
+
+// Adds what is written, with the error code behind it where nothing is read.
+fn add_write(transfer: &mut Transfer, addr: Addr, coded: bool, read: ReadShape, write: &Written<'_>)
+    requires room { HasRoom transfer.old.msgs 259 259 }
+    ensures { let bytes = Some (written_bytes write.now) in transfer.new ≡ record transfer.old {
+      msgs = transfer.old.msgs ++ write_messages addr coded read bytes;
+      out = transfer.old.out ++ bytes_sent addr coded read bytes;
+    } }
+{
+    if write.block.is_empty() {
+        let bytes: ByteStore<4> = sent(addr, coded, read, write);
+        let _ = transfer.add_write(addr, bytes.as_slice());
+    } else {
+        let bytes: ByteList = sent(addr, coded, read, write);
+        let _ = transfer.add_write(addr, bytes.as_slice());
+    }
+}
+
+// The bytes of a write, with the error code behind them where nothing is read.
+fn sent<const N: usize>(
+    addr: Addr,
+    coded: bool,
+    read: ReadShape,
+    write: &Written<'_>,
+) -> ByteStore<N>
+    requires { length (written_bytes write.now) < N }
+    ensures { result ≡ bytes_sent addr coded read (Some (written_bytes write.now)) }
+{
+    let mut bytes = ByteStore::new();
+    bytes.extend(write.head.as_slice());
+    bytes.extend(write.block);
+    if coded && matches!(read, ReadShape::Nothing) {
+        bytes.push(code_of_write(addr, write));
+    }
+    bytes
 }
 
 // Adds what is read, with the error code behind it.
@@ -48,28 +88,4 @@ fn add_read(transfer: &mut Transfer, addr: Addr, coded: bool, read: ReadShape)
             let _ = transfer.add_counted(addr, coded);
         }
     }
-}
-
-// The bytes of a write, with the error code behind them where nothing is read.
-fn with_code(addr: Addr, coded: bool, read: ReadShape, bytes: ByteList) -> ByteList
-    requires { length bytes ≤ 257 }
-    ensures { result ≡ bytes_sent addr coded read (Some bytes) }
-{
-    let mut bytes = bytes;
-    if coded && matches!(read, ReadShape::Nothing) {
-        let code = code_of_write(addr, &bytes);
-        bytes.push(code);
-    }
-    bytes
-}
-
-// The error code of a write.
-fn code_of_write(addr: Addr, bytes: &ByteList) -> u8
-    requires { length bytes.now ≤ 257 }
-    ensures { result ≡ pec (2 * addr ∷ bytes.now) }
-{
-    let mut wire = ByteList::new();
-    wire.push(2 * addr.get());
-    wire.extend(bytes.as_slice());
-    pec(wire.as_slice())
 }
