@@ -1,6 +1,8 @@
 pub mod AliveLemmas
 pub mod DigitLemmas
 pub mod FrontLemmas
-pub mod GetLine
+pub mod GetLemmas
+pub mod JoinedLemmas
 pub mod LineLemmas
 pub mod LineSetLemmas
+pub mod OptionLemmas

@@ -4,9 +4,9 @@ use Rattle.tool_words.specs.LineSets.{Word, follow_words}
 use Rattle.tool_words.specs.Lines.{script_lines, script_line_at}
 use Rattle.tool_words.specs.Commands.{is_command, some_command, words_read, line_read, ReadsLines, RefusesBehindLongest, MeansInRange}
 use Rattle.tool_words.specs.Fronts.{words_of}
-use Rattle.tool_words.specs.declared.line.Cmd.{Cmd}
+use Rattle.tool_words.specs.declared.cmd.Cmd.{Cmd}
 use Rattle.tool_words.proofs.LineSetLemmas.{IsAlive, line_followed, followed_line, refused_longest}
-use Rattle.tool_words.proofs.GetLine.{alive_get, follow_get, get_in_range}
+use Rattle.tool_words.proofs.GetLemmas.{alive_get, follow_get, get_in_range}
 
 alive_lines : IsAlive script_lines
 alive_lines = alive_get

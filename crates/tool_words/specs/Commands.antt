@@ -3,7 +3,7 @@ use Rattle.std.specs.Prelude.{◌≡◌, ℕ, ◌==◌, Bool, false, not, List, 
 use Rattle.tool_words.specs.Fronts.{words_of}
 use Rattle.tool_words.specs.LineSets.{Word, IsLine, IsLongest, follow_words}
 use Rattle.tool_words.specs.Lines.{script_lines, IsInRange}
-use Rattle.tool_words.specs.declared.line.Cmd.{Cmd}
+use Rattle.tool_words.specs.declared.cmd.Cmd.{Cmd}
 
 -- the word at a place, which is empty where there is none
 abbrev pub word_at : List Word → ℕ → Word

@@ -1,5 +1,5 @@
 -- A text as lines, and a line as words.
-use Rattle.std.specs.Prelude.{ℕ, ◌+◌, ◌==◌, Bool, false, not, ◌&&◌, ◌||◌, List, [], ◌∷◌, ◌++◌, if◌then◌else◌}
+use Rattle.std.specs.Prelude.{ℕ, ◌+◌, ◌==◌, Bool, true, false, not, ◌&&◌, ◌||◌, List, [], ◌∷◌, ◌++◌, if◌then◌else◌}
 use Rattle.std.specs.List.{flat_map}
 
 abbrev pub is_blank : ℕ → Bool
@@ -33,6 +33,14 @@ behind_space w = 32 ∷ w
 abbrev pub joined_words : List (List ℕ) → List ℕ
 joined_words [] = []
 joined_words (w ∷ ws) = w ++ flat_map behind_space ws
+
+-- words with one space between each two already, read behind a space or at the start, or behind a byte of a word
+abbrev pub is_joined : Bool → List ℕ → Bool
+is_joined at_start [] = not at_start
+is_joined at_start (b ∷ bs) =
+    if b == 32 then not at_start && is_joined true bs
+    else if b == 9 then false
+    else is_joined false bs
 
 abbrev pub begins_feed : List ℕ → Bool
 begins_feed [] = false

@@ -1,6 +1,6 @@
 ghost use Rattle.std.specs.Prelude.{◌≡◌, ◌<◌, ◌≤◌, ◌∷◌, ◌++◌, true, length, take, drop, OnOk};
 ghost use Rattle.std.specs.List.{flat_map};
-ghost use Rattle.tool_words.specs.Fronts.{is_blank, word_len, words_of, behind_space, joined_words, begins_word, lines_of, feed_at};
+ghost use Rattle.tool_words.specs.Fronts.{is_blank, word_len, words_of, behind_space, joined_words, is_joined, begins_word, lines_of, feed_at};
 ghost use Rattle.tool_words.specs.Readers.{texts};
 
 use i2c_base::NoMemory;
@@ -91,10 +91,31 @@ fn push_spaced(out: &mut Vec<u8>, text: &[u8]) -> Result<(), NoMemory>
     Ok(())
 }
 
+// A line has nothing but words with one space between each two.
+fn is_joined(line: &[u8]) -> bool
+    ensures { result ≡ is_joined true line.now }
+{
+    let mut at_start = true;
+    for byte in line {
+        match *byte {
+            b' ' if at_start => return false,
+            b' ' => at_start = true,
+            b'\t' => return false,
+            _ => at_start = false,
+        }
+    }
+    !at_start
+}
+
 /// Puts the words of a line at the end, with one space between each two.
+#[tactic(auto, using(crate::proofs::JoinedLemmas::joined_same))]
 pub fn push_echo(out: &mut Vec<u8>, line: &[u8]) -> Result<(), NoMemory>
     ensures { OnOk result (out.new.items ≡ out.old.items ++ joined_words (words_of line.now)) }
 {
+    if is_joined(line) {
+        out.extend_from_slice(line)?;
+        return Ok(());
+    }
     let rest = skip_blanks(line);
     if rest.is_empty() {
         return Ok(());

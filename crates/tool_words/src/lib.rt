@@ -1,5 +1,5 @@
 //! The words of a script's lines, after i2c-tools. The grammar in force has one line:
-//! `i2cget [-f] -y BUS ADDR [REG [MODE]]`, with `b` or `w` for MODE.
+//! `i2cget [-f] -y BUS ADDR [REG [MODE [LEN]]]`.
 //!
 //! The grammar is a set of lines (`script_lines` of `specs/Lines.antt`, written as a tree by `specs/LineSets.antt`). Its
 //! public contract: `read_line` gives exactly the command of a line, or the first word that the grammar refuses
@@ -8,16 +8,20 @@
 //! `cut_line` tells the first line of a text, and `push_echo` prints a line's words (`specs/Fronts.antt`).
 #![tactic(auto)]
 
+mod cmd;
 mod fault;
 mod front;
+mod get_line;
 mod laws;
 mod line;
 mod number;
+mod options;
 mod reader;
 
+pub use cmd::{Cmd, Get, GetMode};
 pub use fault::LineFault;
 pub use front::{cut_line, push_echo};
 pub use laws::{
     each_field_is_in_range, each_line_is_read, the_refused_word_is_behind_the_longest_front,
 };
-pub use line::{Cmd, GetMode, read_line};
+pub use line::read_line;
