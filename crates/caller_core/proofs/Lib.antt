@@ -1,9 +1,9 @@
-pub mod AnswerLemmas
 pub mod CommandLemmas
 pub mod FairLemmas
-pub mod OwedLemmas
 pub mod PlacedLemmas
+pub mod ProgressLemmas
 pub mod RootLemmas
 pub mod ScriptLemmas
 pub mod SectionLemmas
-pub mod TransferLemmas
+pub mod TakeLemmas
+pub mod TurnLemmas

@@ -1,7 +1,7 @@
 -- What one command more adds to the roots that are named, and to the cost.
 use Rattle.std.proofs.Common.{◌≡◌, ℕ, zero, suc, ◌+◌, ◌*◌, ◌%◌, ◌^◌, ◌<◌, inl, inr, Bool, true, false, cond, List, [], ◌∷◌, ◌++◌, length, take, get_or, max, Some, None, refl, sym, ap, subst, ◌∙◌, arith}
 use Rattle.std.specs.Prelude.{nat_lt, bit_or, ◌||◌, ◌&&◌, ◌==◌}
-use Rattle.std.specs.List.{sum_by}
+use Rattle.std.specs.List.{sum_by, list_any}
 use Rattle.std.specs.Int.{bit_at}
 use Rattle.std.specs.Option.{option_map_or}
 use Rattle.std.proofs.lemmas.Bool.Decides.{eqb_tells}
@@ -12,9 +12,9 @@ use Rattle.std.proofs.lemmas.Nat.Bits.{bit_at-zero, bit_at_or, bit_at-pow_same, 
 use Rattle.i2c_base.specs.Board.{BoardView}
 use Rattle.i2c_base.specs.Transfer.{TransferView}
 use Rattle.i2c_spec.specs.Tree.{buses, root_of, root_named}
-use Rattle.caller_core.specs.Commands.{transfer_of}
-use Rattle.caller_core.specs.Roots.{names_root, some_names, HasRoots}
-use Rattle.caller_core.specs.Scripts.{CommandView}
+use Rattle.tool_run.specs.Tools.{transfers_of}
+use Rattle.caller_core.specs.Roots.{names_root, command_names, HasBits}
+use Rattle.caller_core.specs.View.{CommandView}
 
 -- a byte with one bit
 pub shifted : (k : ℕ) → k < 8 → 1 * 2 ^ k % 256 ≡ 2 ^ k
@@ -56,29 +56,39 @@ or_bits true false = refl
 or_bits false true = refl
 or_bits false false = refl
 
-pub roots_none : (b : BoardView) → HasRoots b [] 0
-roots_none b = record { exactly = bit_at-zero }
+pub no_bits : {X : Type 0} (test : ℕ → X → Bool) → HasBits test [] 0
+no_bits test = record { exactly = bit_at-zero }
 
-roots_push : (b : BoardView) (cs : List CommandView) (c : CommandView) (bits bit : ℕ) → HasRoots b cs bits → bit ≡ root_bits b (transfer_of c.cmd)
-    → HasRoots b (cs ++ c ∷ []) (bit_or bits bit)
-roots_push b cs c bits bit had e = record { exactly = at }
-  where
-    at : (r : ℕ) → bit_at (bit_or bits bit) r ≡ cond (some_names b r (cs ++ c ∷ [])) 1 0
-    at r =
-        let test : CommandView → Bool = λ x. names_root b r (transfer_of x.cmd) in
-        bit_at_or bits bit r ∙ ap (λ (k : ℕ). max k (bit_at bit r)) (had.exactly r)
-        ∙ ap (λ (k : ℕ). max (cond (some_names b r cs) 1 0) k) (ap (λ (n : ℕ). bit_at n r) e ∙ root_bit_at b (transfer_of c.cmd) r)
-        ∙ or_bits (some_names b r cs) (test c)
-        ∙ ap (λ (v : Bool). cond v 1 0) (sym (list_any-append test cs (c ∷ [])))
+-- the bits of one more
+pub record IsBit {X : Type 0} (test : ℕ → X → Bool) (x : X) (bit : ℕ) : Type 0 where
+  pub exactly : (r : ℕ) → bit_at bit r ≡ cond (test r x) 1 0
 
-pub roots_more : (b : BoardView) (cs : List CommandView) (i : ℕ) (c : CommandView) (bits bit : ℕ) → i < length cs → c ≡ get_or cs i c
-    → HasRoots b (take i cs) bits → bit ≡ root_bits b (transfer_of c.cmd) → HasRoots b (take (i + 1) cs) (bit_or bits bit)
-roots_more b cs i c bits bit within at had e =
-    let more : take (i + 1) cs ≡ take i cs ++ c ∷ [] = take_more cs i c within ∙ ap (λ (x : CommandView). take i cs ++ x ∷ []) (sym at) in
-    subst (λ (xs : List CommandView). HasRoots b xs (bit_or bits bit)) (sym more) (roots_push b (take i cs) c bits bit had e)
+module _ {X : Type 0} (test : ℕ → X → Bool) (xs : List X) where
+  bits_push : (x : X) (bits bit : ℕ) → HasBits test xs bits → IsBit test x bit → HasBits test (xs ++ x ∷ []) (bit_or bits bit)
+  bits_push x bits bit had one = record { exactly = at }
+    where
+      at : (r : ℕ) → bit_at (bit_or bits bit) r ≡ cond (list_any (test r) (xs ++ x ∷ [])) 1 0
+      at r =
+          bit_at_or bits bit r ∙ ap (λ (k : ℕ). max k (bit_at bit r)) (had.exactly r)
+          ∙ ap (λ (k : ℕ). max (cond (list_any (test r) xs) 1 0) k) (one.exactly r)
+          ∙ or_bits (list_any (test r) xs) (test r x)
+          ∙ ap (λ (v : Bool). cond v 1 0) (sym (list_any-append (test r) xs (x ∷ [])))
 
-pub sum_more : (f : CommandView → ℕ) (cs : List CommandView) (i : ℕ) (c : CommandView) (sum : ℕ) → i < length cs → c ≡ get_or cs i c
-    → sum ≡ sum_by f (take i cs) → sum + f c ≡ sum_by f (take (i + 1) cs)
-sum_more f cs i c sum within at e =
-    let more : take (i + 1) cs ≡ take i cs ++ c ∷ [] = take_more cs i c within ∙ ap (λ (x : CommandView). take i cs ++ x ∷ []) (sym at) in
-    omega (arith, e, ap (sum_by f) more, sum_by_push f (take i cs) c)
+pub bits_more : {X : Type 0} (test : ℕ → X → Bool) (xs : List X) (i : ℕ) (x : X) (bits bit : ℕ) → i < length xs → x ≡ get_or xs i x
+    → HasBits test (take i xs) bits → IsBit test x bit → HasBits test (take (i + 1) xs) (bit_or bits bit)
+bits_more test xs i x bits bit within at had one =
+    let more : take (i + 1) xs ≡ take i xs ++ x ∷ [] = take_more xs i x within ∙ ap (λ y. take i xs ++ y ∷ []) (sym at) in
+    rw more (bits_push test (take i xs) x bits bit had one)
+
+-- a root's bit is that of the transfer which names it, and the bits of a command's transfers are those of the command
+pub transfer_bit : (b : BoardView) (t : TransferView) (bit : ℕ) → bit ≡ root_bits b t → IsBit (names_root b) t bit
+transfer_bit b t bit e = record { exactly = λ r. ap (λ (n : ℕ). bit_at n r) e ∙ root_bit_at b t r }
+
+pub command_bits : (b : BoardView) (c : CommandView) (bits : ℕ) → HasBits (names_root b) (transfers_of c.cmd) bits → IsBit (command_names b) c bits
+command_bits b c bits had = record { exactly = had.exactly }
+
+pub sum_more : {X : Type 0} (f : X → ℕ) (xs : List X) (i : ℕ) (x : X) (sum : ℕ) → i < length xs → x ≡ get_or xs i x
+    → sum ≡ sum_by f (take i xs) → sum + f x ≡ sum_by f (take (i + 1) xs)
+sum_more f xs i x sum within at e =
+    let more : take (i + 1) xs ≡ take i xs ++ x ∷ [] = take_more xs i x within ∙ ap (λ y. take i xs ++ y ∷ []) (sym at) in
+    omega (arith, e, ap (sum_by f) more, sum_by_push f (take i xs) x)

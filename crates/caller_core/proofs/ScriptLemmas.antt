@@ -1,15 +1,17 @@
 -- A line of a script, behind the commands before it.
 use Rattle.std.proofs.Common.{◌≡◌, ℕ, ◌+◌, ◌≤◌, List, [], ◌∷◌, ◌++◌, length, take, drop, Some, None, Result, Ok, Err, refl, sym, ap, ◌∙◌, append_assoc, length-append, subst, arith}
+use Rattle.std.specs.Prelude.{All}
 use Rattle.std.proofs.lemmas.List.{drop-drop}
 use Rattle.tool_words.specs.Fronts.{words_of, joined_words, lines_of}
 use Rattle.tool_words.specs.Commands.{line_read}
 use Rattle.tool_words.specs.Readers.{FaultIs}
-use Rattle.tool_words.specs.declared.line.Cmd.{Cmd}
+use Rattle.tool_words.specs.declared.cmd.Cmd.{Cmd}
 use Rattle.tool_words.specs.declared.fault.LineFault.{LineFault}
 use Rattle.tool_words.specs.declared.fault.LineFault.TheVariants as line_fault
-use Rattle.caller_core.specs.Scripts.{CommandView, Place, command_of, at_most, lines_read, behind_commands, behind_line_read, fault_at, ScriptFaultIs, commands_or_none, commands_of, script_read}
+use Rattle.caller_core.specs.View.{CommandView}
+use Rattle.caller_core.specs.Scripts.{Place, command_of, at_most, lines_read, behind_commands, behind_line_read, fault_at, ScriptFaultIs, commands_or_none, commands_of, script_read}
 use Rattle.caller_core.specs.ScriptSteps.{IsStep, IsRefused}
-use Rattle.caller_core.proofs.CommandLemmas.{commands_most}
+use Rattle.caller_core.proofs.CommandLemmas.{IsRead, commands_most, commands_are_read}
 use Rattle.caller_core.specs.declared.script.ScriptFault.{ScriptFault}
 
 behind_push : (old : List CommandView) (c : CommandView) (r : Result (List CommandView) Place) → behind_commands (old ++ c ∷ []) r ≡ behind_commands old (behind_commands (c ∷ []) r)
@@ -74,3 +76,7 @@ pub few_commands : (text : List ℕ) (cs : List CommandView) → script_read tex
 few_commands text cs e =
     let same : commands_of text ≡ cs = ap commands_or_none e in
     omega (arith, commands_most text, ap length same)
+
+-- .. and each is in range
+pub read_commands : (text : List ℕ) (cs : List CommandView) → script_read text ≡ Ok cs → All IsRead cs
+read_commands text cs e = subst (All IsRead) (ap commands_or_none e) (commands_are_read text).fits

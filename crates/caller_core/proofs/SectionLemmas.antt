@@ -1,24 +1,151 @@
--- The section of a script with one reply more: the text of the next command stands at its end.
-use Rattle.std.proofs.Common.{◌≡◌, ℕ, List, [], ◌∷◌, ◌++◌, length, Some, refl, sym, ap, ◌∙◌, append-nil, append_assoc}
-use Rattle.std.specs.Prelude.{slice_get}
+-- The section of a script is whole lines, of which none is `journal`.
+use Rattle.std.proofs.Common.{◌≡◌, ℕ, ◌+◌, Bool, true, false, cond, List, [], ◌∷◌, ◌++◌, length, get_or, codes, Some, None, Result, Ok, Err, refl, sym, ap, subst, ◌∙◌, append_assoc, arith}
+use Rattle.std.specs.Prelude.{All, ◌==◌, ◌&&◌, ◌||◌}
+use Rattle.std.specs.List.{flat_map, fold, list_any}
+use Rattle.std.proofs.lemmas.Bool.{or_from}
+use Rattle.std.proofs.lemmas.List.Elements.{All-nil, All-cons, All-head, All-tail, All-append}
 use Rattle.i2c_base.specs.declared.reply.Reply.{Reply}
-use Rattle.caller_core.specs.Scripts.{CommandView, command_text, section_text}
+use Rattle.bus_journal.specs.Reports.{IsLine, ended, IsSectionLine, HasNoJournalLine}
+use Rattle.bus_journal.proofs.LineFeeds.{line-append}
+use Rattle.tool_words.specs.Commands.{line_read}
+use Rattle.tool_words.specs.Fronts.{is_blank, begins_word, begins_feed, onto_first, words_of, behind_space, joined_words, lines_of}
+use Rattle.tool_words.specs.declared.cmd.Cmd.{Cmd}
+use Rattle.tool_run.specs.Tools.{answer_text, is_over}
+use Rattle.tool_run.proofs.LineLemmas.{answer_line}
+use Rattle.caller_core.specs.Progress.{Answered, Progress, begun, next_turn, replied_to, replied, progress}
+use Rattle.caller_core.specs.Scripts.{Place, command_of, at_most, lines_read, behind_commands, behind_line_read, commands_or_none, script_read, commands_of, command_text}
+use Rattle.caller_core.specs.Sections.{SectionsHaveNoJournalLine}
+use Rattle.caller_core.specs.View.{CommandView}
 
-pub section_none : (cs : List CommandView) → section_text cs [] ≡ []
-section_none [] = refl
-section_none (c ∷ cs) = refl
+-- ---- no line feed stands in a line, its words, and what is printed of them
 
-pub section_push : (cs : List CommandView) (rs : List Reply) (c : CommandView) (r : Reply) → slice_get cs (length rs) ≡ Some c
-    → section_text cs (rs ++ r ∷ []) ≡ section_text cs rs ++ command_text c r
-section_push [] rs c r e = absurd cc
-section_push (x ∷ cs) [] c r e =
-    let same : x ≡ c = cc in
-    ap (λ (t : List ℕ). command_text x r ++ t) (section_none cs) ∙ append-nil (command_text x r) ∙ ap (λ (y : CommandView). command_text y r) same
-section_push (x ∷ cs) (y ∷ rs) c r e =
-    ap (λ (t : List ℕ). command_text x y ++ t) (section_push cs rs c r e) ∙ sym (append_assoc (command_text x y) (section_text cs rs) (command_text c r))
+record IsOnto (b : ℕ) (bs : List ℕ) : Type 0 where
+  first : (b == 10) ≡ false
+  rest : IsLine bs
 
-pub section_more : (cs : List CommandView) (rs now : List Reply) (c : CommandView) (r told : Reply) (was text : List ℕ) → slice_get cs (length rs) ≡ Some c
-    → now ≡ rs ++ r ∷ [] → told ≡ r → was ≡ section_text cs rs → text ≡ was ++ command_text c told → text ≡ section_text cs now
-section_more cs rs now c r told was text next more same old made =
-    made ∙ ap (λ (t : List ℕ). t ++ command_text c told) old ∙ ap (λ (x : Reply). section_text cs rs ++ command_text c x) same
-    ∙ sym (section_push cs rs c r next) ∙ ap (section_text cs) (sym more)
+parts_by : (x y : Bool) → (x || y) ≡ false → (x ≡ false) × (y ≡ false)
+parts_by true y e = absurd cc
+parts_by false y e = (refl, e)
+
+first_and_rest : (b : ℕ) (bs : List ℕ) → IsLine (b ∷ bs) → IsOnto b bs
+first_and_rest b bs h = let p = parts_by (b == 10) (list_any (λ c. c == 10) bs) h in record { first = p.0; rest = p.1 }
+
+onto_lines : (b : ℕ) (ls : List (List ℕ)) → (b == 10) ≡ false → All IsLine ls → All IsLine (onto_first b ls)
+onto_lines b [] e h = All-cons IsLine (b ∷ []) [] (or_from _ _ e refl) (All-nil IsLine)
+onto_lines b (l ∷ ls) e h = All-cons IsLine (b ∷ l) ls (or_from _ _ e (All-head IsLine l ls h)) (All-tail IsLine l ls h)
+
+lines_are_lines : (text : List ℕ) → All IsLine (lines_of text)
+lines_are_lines [] = All-nil IsLine
+lines_are_lines (b ∷ bs) =
+    let more : All IsLine (lines_of bs) = lines_are_lines bs in
+    (elim (b == 10) as (λ t. (b == 10) ≡ t → All IsLine (cond t ([] ∷ lines_of bs) (cond ((b == 13) && begins_feed bs) (lines_of bs) (onto_first b (lines_of bs))))) [
+      | true ↦ λ is. All-cons IsLine [] (lines_of bs) refl more
+      | false ↦ λ is. elim ((b == 13) && begins_feed bs) as (λ t. All IsLine (cond t (lines_of bs) (onto_first b (lines_of bs)))) [ true ↦ more | false ↦ onto_lines b (lines_of bs) is more ]
+    ]) refl
+
+words_are_lines : (line : List ℕ) → IsLine line → All IsLine (words_of line)
+words_are_lines [] h = All-nil IsLine
+words_are_lines (b ∷ bs) h =
+    let p : IsOnto b bs = first_and_rest b bs h in
+    let more : All IsLine (words_of bs) = words_are_lines bs p.rest in
+    elim (is_blank b) as (λ t. All IsLine (cond t (words_of bs) (cond (begins_word bs) (onto_first b (words_of bs)) ((b ∷ []) ∷ words_of bs)))) [
+      | true ↦ more
+      | false ↦ elim (begins_word bs) as (λ t. All IsLine (cond t (onto_first b (words_of bs)) ((b ∷ []) ∷ words_of bs))) [
+        | true ↦ onto_lines b (words_of bs) p.first more
+        | false ↦ All-cons IsLine (b ∷ []) (words_of bs) (or_from _ _ p.first refl) more
+      ]
+    ]
+
+spaced_line : (ws : List (List ℕ)) → All IsLine ws → IsLine (flat_map behind_space ws)
+spaced_line [] h = refl
+spaced_line (w ∷ ws) h = line-append (behind_space w) (flat_map behind_space ws) (All-head IsLine w ws h) (spaced_line ws (All-tail IsLine w ws h))
+
+joined_line : (ws : List (List ℕ)) → All IsLine ws → IsLine (joined_words ws)
+joined_line [] h = refl
+joined_line (w ∷ ws) h = line-append w (flat_map behind_space ws) (All-head IsLine w ws h) (spaced_line ws (All-tail IsLine w ws h))
+
+-- ---- the commands of a script
+
+abbrev HasLine : CommandView → Type 0
+HasLine c = IsLine c.echo
+
+behind_one : (line : List ℕ) (c : Cmd) (more : Result (List CommandView) Place) (cs : List CommandView) → IsLine line → ((ds : List CommandView) → more ≡ Ok ds → All HasLine ds)
+    → behind_commands (command_of line c ∷ []) more ≡ Ok cs → All HasLine cs
+behind_one line c (Err p) cs is h e = absurd cc
+behind_one line c (Ok ds) cs is h e =
+    let same : command_of line c ∷ ds ≡ cs = cc in
+    subst (All HasLine) same (All-cons HasLine (command_of line c) ds (joined_line (words_of line) (words_are_lines line is)) (h ds refl))
+
+read_lines : (number count : ℕ) (ls : List (List ℕ)) (cs : List CommandView) → All IsLine ls → lines_read number count ls ≡ Ok cs → All HasLine cs
+read_lines number count [] cs lines e = let same : [] ≡ cs = cc in subst (All HasLine) same (All-nil HasLine)
+read_lines number count (l ∷ ls) cs lines e =
+    let more : All IsLine ls = All-tail IsLine l ls lines in
+    (elim (at_most count (line_read l)) as (λ r. behind_line_read number l r (lines_read (number + 1) count ls) (lines_read (number + 1) (count + 1) ls) ≡ Ok cs → All HasLine cs) [
+      | Err word ↦ λ k. absurd cc
+      | Ok o ↦ (elim o as (λ v. behind_line_read number l (Ok v) (lines_read (number + 1) count ls) (lines_read (number + 1) (count + 1) ls) ≡ Ok cs → All HasLine cs) [
+        | None ↦ λ k. read_lines (number + 1) count ls cs more k
+        | Some c ↦ λ k. behind_one l c (lines_read (number + 1) (count + 1) ls) cs (All-head IsLine l ls lines) (λ ds h. read_lines (number + 1) (count + 1) ls ds more h) k
+      ])
+    ]) e
+
+have_lines : (r : Result (List CommandView) Place) → ((cs : List CommandView) → r ≡ Ok cs → All HasLine cs) → All HasLine (commands_or_none r)
+have_lines (Ok cs) h = h cs refl
+have_lines (Err p) h = All-nil HasLine
+
+commands_have_lines : (text : List ℕ) → All HasLine (commands_of text)
+commands_have_lines text = have_lines (script_read text) (λ cs h. read_lines 1 0 (lines_of text) cs (lines_are_lines text) h)
+
+-- ---- those that are over
+
+abbrev OverHasLine : Answered → Type 0
+OverHasLine a = HasLine a.command
+
+record HaveLines (p : Progress) : Type 0 where
+  over : All OverHasLine p.over
+  left : All HasLine p.left
+
+keeps : (p : Progress) (left : List CommandView) (r : Reply) → HaveLines p → All HasLine left → HaveLines (replied_to p left r)
+keeps p [] r h all = h
+keeps p (c ∷ cs) r h all =
+    elim (is_over c.cmd (length p.own) r) as (λ b. HaveLines (cond b (next_turn p c cs (p.own ++ r ∷ [])) (record p { own = p.own ++ r ∷ [] }))) [
+      | true ↦
+          let a : Answered = record { command = c; replies = p.own ++ r ∷ [] } in
+          record { over = All-append OverHasLine p.over (a ∷ []) h.over (All-cons OverHasLine a [] (All-head HasLine c cs all) (All-nil OverHasLine)); left = All-tail HasLine c cs all }
+      | false ↦ record { over = h.over; left = h.left }
+    ]
+
+goes_on : (p : Progress) (rs : List Reply) → HaveLines p → HaveLines (fold replied p rs)
+goes_on p [] h = h
+goes_on p (r ∷ rs) h = goes_on (replied p r) rs (keeps p p.left r h h.left)
+
+-- ---- a command with its answer is two lines
+
+abbrev words_line : Answered → List ℕ
+words_line a = codes "> " ++ a.command.echo
+
+two_lines : (a : Answered) (rest : List ℕ) → command_text a ++ rest ≡ ended (words_line a) ++ (ended (answer_text a.command.cmd a.replies) ++ rest)
+two_lines a rest =
+    let echo : List ℕ = a.command.echo in
+    let answer : List ℕ = answer_text a.command.cmd a.replies in
+    ap (λ x. codes "> " ++ x)
+    (append_assoc echo (10 ∷ (answer ++ 10 ∷ [])) rest ∙ sym (append_assoc echo (10 ∷ []) ((answer ++ 10 ∷ []) ++ rest)))
+
+words_other : (a : Answered) → words_line a ≡ codes "journal" → ⊥
+words_other a e = let h : 62 ≡ 106 = ap (λ xs. get_or xs 0 0) e in omega (arith, h)
+
+section_lines : (done : List Answered) → All OverHasLine done → HasNoJournalLine (flat_map command_text done)
+section_lines [] h = record { lines = []; text_is = refl; others = All-nil IsSectionLine }
+section_lines (a ∷ done) h =
+    let more : HasNoJournalLine (flat_map command_text done) = section_lines done (All-tail OverHasLine a done h) in
+    let answer : List ℕ = answer_text a.command.cmd a.replies in
+    record {
+      lines = words_line a ∷ answer ∷ more.lines;
+      text_is = two_lines a (flat_map command_text done) ∙ ap (λ x. ended (words_line a) ++ (ended answer ++ x)) more.text_is;
+      others =
+          All-cons IsSectionLine (words_line a) (answer ∷ more.lines) (record { one = line-append (codes "> ") a.command.echo refl (All-head OverHasLine a done h); other = words_other a })
+          (All-cons IsSectionLine answer more.lines (answer_line a.command.cmd a.replies) more.others);
+    }
+
+pub no_journal_line : SectionsHaveNoJournalLine
+no_journal_line text replies =
+    section_lines (progress (commands_of text) replies).over (goes_on (begun (commands_of text)) replies (record { over = All-nil OverHasLine; left = commands_have_lines text })).over

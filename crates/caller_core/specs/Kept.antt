@@ -1,12 +1,16 @@
--- What a script keeps: where the words of each command stand, and of each reply a head with its bytes.
-use Rattle.std.specs.Prelude.{◌≡◌, ℕ, ◌+◌, ◌*◌, ◌^◌, ◌≤◌, List, length, map, take, drop}
+-- What a script keeps: where the words of each command stand, its replies, and how far it has come with them.
+use Rattle.std.specs.Prelude.{◌≡◌, ℕ, ◌+◌, ◌^◌, ◌<◌, ◌≤◌, List, length, map, take, drop, slice_get, Option, Some}
+use Rattle.std.specs.Option.{option_map}
 use Rattle.i2c_base.specs.declared.reply.Reply.{Reply}
 use Rattle.packed.specs.View.{PackedView}
-use Rattle.bus_journal.specs.Borrowed.{reply_by}
 use Rattle.bus_journal.specs.declared.borrowed.ReplyHead.{ReplyHead}
-use Rattle.caller_core.specs.Commands.{MOST_READ}
-use Rattle.caller_core.specs.View.{ScriptView, TextView}
-use Rattle.caller_core.specs.Scripts.{CommandView, commands_of, cost_of_script, section_text}
+use Rattle.tool_run.specs.Replies.{replies_of, most_brought}
+use Rattle.tool_run.specs.Tools.{transfers_of}
+use Rattle.tool_run.specs.View.{RunView, TextView}
+use Rattle.tool_words.specs.declared.cmd.Cmd.{Cmd}
+use Rattle.caller_core.specs.Progress.{progress, sum_left}
+use Rattle.caller_core.specs.View.{CommandView, ScriptView}
+use Rattle.caller_core.specs.Scripts.{commands_of, cost_of_script, section_text}
 use Rattle.caller_core.specs.Roots.{HasRoots}
 use Rattle.caller_core.specs.declared.commands.Placed.{Placed}
 
@@ -23,20 +27,27 @@ commands_in echoes ps = map (command_in echoes) ps
 abbrev pub IsInside : ℕ → Placed → Type 0
 IsInside end p = p.start + p.len ≤ end
 
--- the reply that a head and its bytes stand for
-abbrev pub reply_of : ReplyHead × List ℕ → Reply
-reply_of kept = reply_by kept.0 kept.1
+-- a command so many of whose transfers were replied to
+abbrev pub run_of : Cmd → ℕ → RunView
+run_of c taken = record { cmd = c; taken = taken }
 
-abbrev pub replies_of : List (ReplyHead × List ℕ) → List Reply
-replies_of xs = map reply_of xs
+-- the commands from a place on are left, and the replies from a place on are those of the first of them, which runs
+pub record IsAt (cs : List CommandView) (rs : List Reply) (place from : ℕ) (run : Option RunView) : Type 0 where
+  pub place_within : place ≤ length cs
+  pub from_within : from ≤ length rs
+  pub left : (progress cs rs).left ≡ drop place cs
+  pub own : (progress cs rs).own ≡ drop from rs
+  pub runs : run ≡ option_map (λ c. run_of c.cmd (length (drop from rs))) (slice_get cs place)
+  pub more : (c : CommandView) → slice_get cs place ≡ Some c → length (drop from rs) < length (transfers_of c.cmd)
 
--- it has the commands of its text, room for the reply of each and for what it may read, what it printed of those that have
--- one, and what they cost and name on its board
-pub record IsCaller (script : ScriptView) (commands : List CommandView) (taken : PackedView ReplyHead) (printed : TextView) (cost roots : ℕ) : Type 0 where
+-- it has the commands of its text, has come so far with the replies that it took, has room for those to come, and has
+-- printed the commands that are over
+pub record IsCaller (script : ScriptView) (commands : List CommandView) (taken : PackedView ReplyHead) (printed : TextView) (place from : ℕ) (run : Option RunView) (cost roots : ℕ) : Type 0 where
   pub whole : commands_of script.text ≡ commands
-  pub room : length commands ≤ length taken.items + taken.room
-  pub room_bytes : MOST_READ * length commands ≤ MOST_READ * length taken.items + taken.room_bytes
-  pub text : printed.bytes ≡ section_text (commands_of script.text) (replies_of taken.items)
+  pub at : IsAt commands (replies_of taken.items) place from run
+  pub room : sum_left (λ t. 1) (progress commands (replies_of taken.items)) ≤ taken.room
+  pub room_bytes : sum_left most_brought (progress commands (replies_of taken.items)) ≤ taken.room_bytes
+  pub text : printed.bytes ≡ section_text commands (replies_of taken.items)
   pub cost_is : cost ≡ cost_of_script script
-  pub cost_fits : cost ≤ 2 ^ 51
-  pub roots_are : HasRoots script.board (commands_of script.text) roots
+  pub cost_fits : cost ≤ 2 ^ 52
+  pub roots_are : HasRoots script.board commands roots

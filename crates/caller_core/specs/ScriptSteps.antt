@@ -1,6 +1,7 @@
 -- A script that is read line by line.
 use Rattle.std.specs.Prelude.{◌≡◌, ℕ, ◌+◌, List, ◌∷◌, length}
-use Rattle.caller_core.specs.Scripts.{CommandView, lines_read, behind_commands, ScriptFaultIs}
+use Rattle.caller_core.specs.Scripts.{lines_read, behind_commands, ScriptFaultIs}
+use Rattle.caller_core.specs.View.{CommandView}
 use Rattle.caller_core.specs.declared.script.ScriptFault.{ScriptFault}
 
 -- whatever lines follow this one, they are read behind the new commands as they are, with it, behind the old ones

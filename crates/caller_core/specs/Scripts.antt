@@ -1,25 +1,19 @@
 -- A script: the commands of its lines, in order, or the first line that isn't in the grammar.
-use Rattle.std.specs.Prelude.{⊤, ◌≡◌, ℕ, ◌+◌, nat_le, List, [], ◌∷◌, ◌++◌, length, drop, codes, slice_get, Option, Some, None, Result, Ok, Err, if◌then◌else◌}
-use Rattle.std.specs.List.{sum_by}
-use Rattle.std.specs.Option.{option_map}
-use Rattle.i2c_base.specs.Board.{BoardView}
+use Rattle.std.specs.Prelude.{⊤, ◌≡◌, ℕ, ◌+◌, nat_le, List, [], ◌∷◌, ◌++◌, length, codes, Option, Some, None, Result, Ok, Err, if◌then◌else◌}
+use Rattle.std.specs.List.{sum_by, flat_map}
 use Rattle.i2c_base.specs.Transfer.{TransferView}
 use Rattle.i2c_base.specs.declared.reply.Reply.{Reply}
 use Rattle.i2c_spec.specs.Cost.{cost_of}
 use Rattle.tool_words.specs.Commands.{line_read}
 use Rattle.tool_words.specs.Fronts.{words_of, joined_words, lines_of}
-use Rattle.tool_words.specs.declared.line.Cmd.{Cmd}
+use Rattle.tool_words.specs.declared.cmd.Cmd.{Cmd}
 use Rattle.tool_words.specs.declared.fault.LineFault.{LineFault}
 use Rattle.tool_words.specs.declared.fault.LineFault.TheVariants as line_fault
-use Rattle.caller_core.specs.Commands.{transfer_of, answer_text, MOST_ANSWER}
-use Rattle.caller_core.specs.View.{ScriptView}
+use Rattle.tool_run.specs.Tools.{answer_text, most_of}
+use Rattle.caller_core.specs.Progress.{Answered, progress, asked_at, sum_of_command, sum_left}
+use Rattle.caller_core.specs.View.{CommandView, ScriptView}
 use Rattle.caller_core.specs.declared.script.ScriptFault.{ScriptFault}
 use Rattle.caller_core.specs.declared.script.ScriptFault.TheVariants as script_fault
-
--- a command with its words as they are printed
-pub record CommandView : Type 0 where
-  pub echo : List ℕ
-  pub cmd : Cmd
 
 abbrev pub command_of : List ℕ → Cmd → CommandView
 command_of line c = record { echo = joined_words (words_of line); cmd = c }
@@ -69,28 +63,23 @@ abbrev pub commands_of : List ℕ → List CommandView
 commands_of text = commands_or_none (script_read text)
 
 abbrev pub asked_by : ScriptView → List Reply → Option TransferView
-asked_by s taken = option_map (λ c. transfer_of c.cmd) (slice_get (commands_of s.text) (length taken))
+asked_by s taken = asked_at (progress (commands_of s.text) taken)
 
--- what a command can take of steps, and all that have no reply yet
-abbrev pub cost_of_command : BoardView → CommandView → ℕ
-cost_of_command b c = cost_of b (transfer_of c.cmd)
+-- what the whole script can take of steps, and what is left of it behind these replies
+abbrev pub cost_of_script : ScriptView → ℕ
+cost_of_script s = sum_by (sum_of_command (cost_of s.board)) (commands_of s.text)
 
 abbrev pub left_of : ScriptView → List Reply → ℕ
-left_of s taken = sum_by (cost_of_command s.board) (drop (length taken) (commands_of s.text))
+left_of s taken = sum_left (cost_of s.board) (progress (commands_of s.text) taken)
 
--- what the whole script can take
-abbrev pub cost_of_script : ScriptView → ℕ
-cost_of_script s = sum_by (cost_of_command s.board) (commands_of s.text)
-
-abbrev pub command_text : CommandView → Reply → List ℕ
-command_text c r = codes "> " ++ (c.echo ++ (10 ∷ (answer_text c.cmd r ++ 10 ∷ [])))
+-- a command that is over: its words, and what it answers
+abbrev pub command_text : Answered → List ℕ
+command_text a = codes "> " ++ (a.command.echo ++ (10 ∷ (answer_text a.command.cmd a.replies ++ 10 ∷ [])))
 
 -- a command with its answer has at most so many bytes: those of its words, of the longest answer, and four beside them
 abbrev pub room_of : CommandView → ℕ
-room_of c = length c.echo + (MOST_ANSWER + 4)
+room_of c = length c.echo + (most_of c.cmd + 4)
 
 -- the section of a script after these replies, without its heading
 abbrev pub section_text : List CommandView → List Reply → List ℕ
-section_text [] replies = []
-section_text (c ∷ cs) [] = []
-section_text (c ∷ cs) (r ∷ rs) = command_text c r ++ section_text cs rs
+section_text cs replies = flat_map command_text (progress cs replies).over

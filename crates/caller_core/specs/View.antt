@@ -1,18 +1,19 @@
--- What contracts see of a script: what it was opened with, a text that grows, and the script as a caller.
+-- What contracts see of a script: its commands, what it was opened with, and the script as a caller.
 use Rattle.std.specs.Prelude.{ℕ, List}
 use Rattle.i2c_base.specs.Board.{BoardView}
 use Rattle.i2c_base.specs.Need.{Need}
 use Rattle.i2c_base.specs.declared.reply.Reply.{Reply}
+use Rattle.tool_words.specs.declared.cmd.Cmd.{Cmd}
+
+-- a command with its words as they are printed
+pub record CommandView : Type 0 where
+  pub echo : List ℕ
+  pub cmd : Cmd
 
 -- what a script is opened with: the board, and the bytes of its text
 pub record ScriptView : Type 0 where
   pub board : BoardView
   pub text : List ℕ
-
--- bytes, and the room for more
-pub record TextView : Type 0 where
-  pub bytes : List ℕ
-  pub room : ℕ
 
 -- what it was opened with, the replies that it took, and the room that it has for more
 pub record CallerView : Type 0 where

@@ -1,12 +1,16 @@
-ghost use Rattle.std.specs.Prelude.{◌≡◌, ◌≤◌, ◌^◌, [], length, Ok, IfOk, IfErr, OnOk};
+ghost use Rattle.std.specs.Prelude.{◌≡◌, ◌+◌, ◌<◌, ◌≤◌, ◌^◌, ◌++◌, [], length, drop, slice_get, Ok, IfOk, IfErr, OnOk};
+ghost use Rattle.std.specs.Option.{option_map};
+ghost use Rattle.tool_words.specs.Lines.{IsInRange};
+ghost use Rattle.tool_run.specs.Replies.{replies_of};
+ghost use Rattle.tool_run.specs.Tools.{AreReplies, most_of};
 ghost use Rattle.caller_core.specs.Callers.{IsOpened, ScriptsAreFair};
+ghost use Rattle.caller_core.specs.Kept.{run_of};
 ghost use Rattle.caller_core.specs.Roots.{HasRoots};
-ghost use Rattle.caller_core.specs.Scripts.{script_read, commands_of, cost_of_script, ScriptFaultIs, section_text};
+ghost use Rattle.caller_core.specs.Sections.{SectionsHaveNoJournalLine};
+ghost use Rattle.caller_core.specs.Scripts.{script_read, commands_of, cost_of_script, ScriptFaultIs, command_text, section_text};
 
-use crate::command::{MOST_READ, push_command, put_transfer};
 use crate::commands::Commands;
 use crate::script::{ScriptFault, read_script};
-use crate::text::Text;
 use crate::totals::{Totals, room_from, totals_of};
 use bus_journal::{ReplyHead, split_reply};
 use i2c_base::{Caller, Kind, NoMemory, Reply, Transfer};
@@ -15,6 +19,7 @@ use packed::Packed;
 use std::alloc::Global;
 use std::marker::Model;
 use std::snapshot::Snapshot;
+use tool_run::{Text, ToolRun};
 
 /// What a script is opened with, as contracts see it: the board and the text. No value of it is made.
 pub struct ScriptData {}
@@ -38,17 +43,22 @@ pub struct Script {
     totals: Totals,
     taken: Packed<ReplyHead>,
     printed: Text,
+    /// The command that runs stands at `place`, and its replies from `from` on.
+    run: Option<ToolRun>,
+    place: usize,
+    from: usize,
 }
 
 impl Model for Script {
+    ghost use Rattle.tool_run.specs.Replies.{replies_of};
     ghost use Rattle.caller_core.specs.View.{CallerView};
-    ghost use Rattle.caller_core.specs.Kept.{replies_of, IsCaller};
+    ghost use Rattle.caller_core.specs.Kept.{IsCaller};
 
     ghost Value = { CallerView };
 
     ghost view = { λ s. record { script = record { board = s.board.value; text = s.text.value.items }; taken = replies_of s.taken.items; spare = record { replies = s.taken.room; bytes = s.printed.room } } };
 
-    ghost invariant = { λ s. IsCaller (record { board = s.board.value; text = s.text.value.items }) s.commands s.taken s.printed s.totals.cost s.totals.roots };
+    ghost invariant = { λ s. IsCaller (record { board = s.board.value; text = s.text.value.items }) s.commands s.taken s.printed s.place s.from s.run s.totals.cost s.totals.roots };
 }
 
 impl Script {
@@ -60,21 +70,25 @@ impl Script {
         ensures fault { IfErr result (ScriptFaultIs (script_read text.items)) }
     {
         let commands = read_script(alloc, text.as_slice())?;
-        let taken = Packed::with_room(alloc, commands.len(), MOST_READ * commands.len() as u32)?;
+        let totals = totals_of(board, &commands);
+        let taken = Packed::with_room(alloc, totals.replies as usize, totals.bytes)?;
         Ok(Script {
             board: Snapshot::of(board),
             text: Snapshot::of(&text),
-            totals: totals_of(board, &commands),
+            run: run_at(&commands, 0),
             commands,
+            totals,
             taken,
             printed: Text::new(alloc),
+            place: 0,
+            from: 0,
         })
     }
 
     /// How many steps its commands can take, all together.
     pub fn cost(&self) -> u64
         ensures value { result ≡ cost_of_script self.now.script }
-        ensures small { result ≤ 2 ^ 51 }
+        ensures small { result ≤ 2 ^ 52 }
     {
         self.totals.cost
     }
@@ -86,12 +100,39 @@ impl Script {
         self.totals.roots
     }
 
-    /// What it has printed: each command that has a reply, and its answer.
+    /// What it has printed: each command that is over, and its answer.
     pub fn text(&self) -> &[u8]
         ensures { result.now ≡ section_text (commands_of self.now.script.text) self.now.taken }
     {
         self.printed.as_slice()
     }
+}
+
+// The command at a place as it begins.
+fn run_at(commands: &Commands, place: usize) -> Option<ToolRun>
+    ensures { result ≡ option_map (λ c. run_of c.cmd 0) (slice_get commands.now place) }
+{
+    if place >= commands.len() {
+        return None;
+    }
+    let (cmd, _) = commands.get(place);
+    Some(ToolRun::open(cmd))
+}
+
+// Prints a command with these words, which is over, and its answer, each on a line.
+fn push_command(out: &mut Text, echo: &[u8], run: ToolRun, replies: &Packed<ReplyHead>, from: usize)
+    requires range { IsInRange run.cmd }
+    requires replies { AreReplies run (drop from (replies_of replies.now.items)) }
+    requires room { length echo.now + (most_of run.cmd + 4) ≤ out.old.room }
+    ensures bytes { out.new.bytes ≡ out.old.bytes ++ command_text (record { command = record { echo = echo.now; cmd = run.cmd }; replies = drop from (replies_of replies.now.items) }) }
+    ensures room { out.old.room ≤ out.new.room + (length echo.now + (most_of run.cmd + 4)) }
+{
+    out.push_byte(b'>');
+    out.push_byte(b' ');
+    out.push(echo);
+    out.push_byte(b'\n');
+    run.print(replies, from, out);
+    out.push_byte(b'\n');
 }
 
 impl Caller for Script {
@@ -123,29 +164,41 @@ impl Caller for Script {
     }
 
     fn refill(&self, transfer: &mut Transfer) -> bool {
-        let place = self.taken.len();
-        if place >= self.commands.len() {
-            return false;
+        match &self.run {
+            Some(run) => {
+                run.next(transfer);
+                true
+            }
+            None => false,
         }
-        let (cmd, _) = self.commands.get(place);
-        put_transfer(cmd, transfer);
-        true
     }
 
     fn reserve(&mut self) -> Result<(), NoMemory> {
-        let room = room_from(&self.commands, self.taken.len()).ok_or(NoMemory)?;
+        let room = room_from(&self.commands, self.place).ok_or(NoMemory)?;
         self.printed.reserve(room)
     }
 
     fn take(&mut self, reply: &Reply) {
         let (answer, bytes) = split_reply(reply);
-        let (cmd, echo) = self.commands.get(self.taken.len());
-        push_command(&mut self.printed, cmd, echo, answer, bytes);
         self.taken.push(answer, bytes);
+        if let Some(run) = &mut self.run {
+            if run.take(reply) {
+                let (_, echo) = self.commands.get(self.place);
+                push_command(&mut self.printed, echo, *run, &self.taken, self.from);
+                self.place += 1;
+                self.from = self.taken.len();
+                self.run = run_at(&self.commands, self.place);
+            }
+        }
     }
 }
 
 /// Scripts are fair callers, whatever board and text they are opened with.
 pub fn scripts_are_fair()
     ensures { ScriptsAreFair }
+{}
+
+/// No text that a script prints has a line `journal`, so that the bytes of a report determine its journal.
+pub fn no_section_has_a_journal_line()
+    ensures { SectionsHaveNoJournalLine }
 {}

@@ -23,7 +23,7 @@ pub struct Commands {
 impl Model for Commands {
     ghost use Rattle.std.specs.Prelude.{List, vec_len};
     ghost use Rattle.std.specs.List.{All};
-    ghost use Rattle.caller_core.specs.Scripts.{CommandView};
+    ghost use Rattle.caller_core.specs.View.{CommandView};
 
     ghost Value = { List CommandView };
 

@@ -2,17 +2,19 @@
 //!
 //! Its public contract: `Script` is opened exactly where each line of its text is in the grammar, asks for the transfers
 //! of its commands one after the other, and prints them with their replies; it tells what they cost and which roots they
-//! name. Once its room is made nothing takes memory. A script is a fair caller (`scripts_are_fair`). Definitions:
-//! `specs/Commands.antt` (what each command asks for and prints), `specs/Scripts.antt` (a script), `specs/Callers.antt` (a
-//! script as a caller), `specs/Roots.antt` (the roots that it names), `specs/View.antt` (what contracts see).
+//! name. Once its room is made nothing takes memory. A script is a fair caller (`scripts_are_fair`), and no text that it
+//! prints has a line `journal` (`no_section_has_a_journal_line`). Definitions:
+//! `specs/Progress.antt` (which command a reply goes to), `specs/Scripts.antt` (a script), `specs/Callers.antt` (a script as
+//! a caller), `specs/Roots.antt` (the roots that it names), `specs/View.antt` (what contracts see); what each command asks
+//! for and prints is in `tool_run`.
 #![tactic(auto)]
 
 mod caller;
-mod command;
 mod commands;
+mod examples;
 mod script;
-mod text;
 mod totals;
 
-pub use caller::{Script, ScriptData, scripts_are_fair};
+pub use caller::{Script, ScriptData, no_section_has_a_journal_line, scripts_are_fair};
+pub use examples::replies_go_to_the_commands_in_turn;
 pub use script::ScriptFault;

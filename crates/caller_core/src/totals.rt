@@ -1,22 +1,41 @@
-//! What a script costs, and which roots its transfers name.
+//! What a script costs, which roots its transfers name, and the room that its replies and its answers may need.
 
-ghost use Rattle.std.specs.Prelude.{◌≡◌, ◌^◌, ◌<◌, ◌≤◌, length, drop, IfSome};
+ghost use Rattle.std.specs.Prelude.{◌≡◌, ◌*◌, ◌^◌, ◌<◌, ◌≤◌, All, length, drop, IfSome};
 ghost use Rattle.std.specs.List.{sum_by};
 ghost use Rattle.std.specs.Option.{option_map_or};
-ghost use Rattle.i2c_base.specs.Limits.{MOST_ROOTS};
-ghost use Rattle.caller_core.specs.Roots.{HasRoots};
-ghost use Rattle.caller_core.specs.Scripts.{cost_of_command, room_of};
+ghost use Rattle.i2c_base.specs.Limits.{MOST_ROOTS, MOST_BYTES};
+ghost use Rattle.i2c_spec.specs.Cost.{cost_of};
+ghost use Rattle.tool_words.specs.Lines.{IsInRange};
+ghost use Rattle.tool_run.specs.Replies.{most_brought};
+ghost use Rattle.tool_run.specs.Tools.{transfers_of};
+ghost use Rattle.caller_core.specs.Progress.{sum_of_command};
+ghost use Rattle.caller_core.specs.Roots.{HasBits, HasRoots, names_root};
+ghost use Rattle.caller_core.specs.Scripts.{room_of};
 
-use crate::command::{MOST_BESIDE, put_transfer};
 use crate::commands::Commands;
 use i2c_base::{Kind, SegId, Transfer};
 use i2c_board::Accepted;
+use tool_run::{ToolRun, most_brought};
+use tool_words::Cmd;
 
-/// The cost of all commands of a script, and a bit for each root that their transfers name.
+/// Sums over transfers: their cost, how many they are, the bytes that their replies may have, and a bit for each root
+/// that they name.
 #[derive(Clone, Copy)]
 pub struct Totals {
     pub cost: u64,
+    pub replies: u32,
+    pub bytes: u32,
     pub roots: u8,
+}
+
+impl Totals {
+    // Of no transfer.
+    const NONE: Totals = Totals {
+        cost: 0,
+        replies: 0,
+        bytes: 0,
+        roots: 0,
+    };
 }
 
 // The bit of a root, if there is one.
@@ -30,24 +49,51 @@ fn root_bit(root: Option<SegId>) -> u8
     }
 }
 
+// The totals of the transfers of a command. `transfer` is room for one after the other.
+fn totals_of_command(board: &Accepted, cmd: Cmd, transfer: &mut Transfer) -> Totals
+    requires { IsInRange cmd }
+    ensures cost { result.cost ≡ sum_by (cost_of board.now) (transfers_of cmd) }
+    ensures small { result.cost ≤ 2 ^ 42 }
+    ensures replies { result.replies ≡ sum_by (λ t. 1) (transfers_of cmd) }
+    ensures few { result.replies ≤ 2 }
+    ensures bytes { result.bytes ≡ sum_by most_brought (transfers_of cmd) }
+    ensures few_bytes { result.bytes ≤ 2 * MOST_BYTES }
+    ensures roots { HasBits (names_root board.now) (transfers_of cmd) result.roots }
+{
+    let run = ToolRun::open(cmd);
+    let mut totals = Totals::NONE;
+    for at in 0..run.count() {
+        run.put(at, transfer);
+        let bill = board.bill(transfer);
+        totals.cost += bill.cost;
+        totals.replies += 1;
+        totals.bytes += most_brought(transfer);
+        totals.roots |= root_bit(bill.root);
+    }
+    totals
+}
+
 /// The totals of these commands.
 pub fn totals_of(board: &Accepted, commands: &Commands) -> Totals
-    requires { length commands.now ≤ 1000 }
-    ensures cost { result.cost ≡ sum_by (cost_of_command board.now) commands.now }
-    ensures small { result.cost ≤ 2 ^ 51 }
+    requires few { length commands.now ≤ 1000 }
+    requires range { All (λ c. IsInRange c.cmd) commands.now }
+    ensures cost { result.cost ≡ sum_by (sum_of_command (cost_of board.now)) commands.now }
+    ensures small { result.cost ≤ 2 ^ 52 }
+    ensures replies { result.replies ≡ sum_by (sum_of_command (λ t. 1)) commands.now }
+    ensures bytes { result.bytes ≡ sum_by (sum_of_command most_brought) commands.now }
     ensures roots { HasRoots board.now commands.now result.roots }
 {
     let mut transfer = Transfer::new(0, Kind::Smbus, false);
-    let mut cost = 0;
-    let mut roots = 0;
+    let mut totals = Totals::NONE;
     for place in 0..commands.len() {
         let (cmd, _) = commands.get(place);
-        put_transfer(cmd, &mut transfer);
-        let bill = board.bill(&transfer);
-        cost += bill.cost;
-        roots |= root_bit(bill.root);
+        let more = totals_of_command(board, cmd, &mut transfer);
+        totals.cost += more.cost;
+        totals.replies += more.replies;
+        totals.bytes += more.bytes;
+        totals.roots |= more.roots;
     }
-    Totals { cost, roots }
+    totals
 }
 
 /// How many bytes the commands from a place on may print, where a number holds it.
@@ -56,8 +102,12 @@ pub fn room_from(commands: &Commands, place: usize) -> Option<usize>
 {
     let mut room = 0usize;
     for at in place..commands.len() {
-        let (_, echo) = commands.get(at);
-        room = room.checked_add(echo.len())?.checked_add(MOST_BESIDE)?;
+        let (cmd, echo) = commands.get(at);
+        let answer = ToolRun::open(cmd).most() + BESIDE;
+        room = room.checked_add(echo.len())?.checked_add(answer)?;
     }
     Some(room)
 }
+
+// What stands beside the words of a command and its answer: `> ` before, and the two ends of lines.
+const BESIDE: usize = 4;

@@ -7,7 +7,8 @@ use Rattle.i2c_top.specs.Files.{Files}
 use Rattle.i2c_top.specs.Replays.{Names, script_name, HasScript, HasBadScript, HasScripts, HasSchedule, HasBadSchedule, HasTexts, HasFiles, HasDearFiles, HasScriptsBefore, cost_in, IsReplayCause}
 use Rattle.i2c_top.specs.Requests.{Request, Replay, Check, NoForm, IsCause}
 use Rattle.i2c_top.specs.Runs.{MOST_COST}
-use Rattle.caller_core.specs.Scripts.{CommandView, Place, script_read, commands_of}
+use Rattle.caller_core.specs.Scripts.{Place, script_read, commands_of}
+use Rattle.caller_core.specs.View.{CommandView}
 use Rattle.i2c_top.specs.Schedules.{schedule_read}
 use Rattle.i2c_top.specs.declared.status.BoardRefusal.{BoardRefusal}
 use Rattle.i2c_top.specs.declared.status.Status.{Status}

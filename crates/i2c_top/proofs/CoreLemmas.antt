@@ -39,6 +39,7 @@ use Rattle.bus_core.proofs.Loops.{script-none}
 use Rattle.bus_core.proofs.Told.{has-by}
 use Rattle.bus_journal.specs.View.{JournalView}
 use Rattle.caller_core.specs.Callers.{IsOpened, board_of, owed_by}
+use Rattle.caller_core.proofs.FairLemmas.{left_at_first}
 use Rattle.caller_core.specs.Scripts.{asked_by, left_of, cost_of_script}
 use Rattle.caller_core.specs.View.{ScriptView, CallerView}
 use Rattle.i2c_top.specs.Runs.{script_on, asks_by, AreOpened, texts_of, cost_of_texts, callers_of, MOST_COST, IsOver}
@@ -100,6 +101,7 @@ costs : (b : BoardView) (scripts : List CallerView) (n : ℕ) → AreOpened b sc
 costs b [] n opened = refl
 costs b (s ∷ ss) n opened =
     sum_by-cons (λ (x : ℕ × CallerView). left_of x.1.script []) (n, s) (enumerate_from (n + 1) ss)
+    ∙ ap (λ (k : ℕ). k + sum_by (λ (x : ℕ × CallerView). left_of x.1.script []) (enumerate_from (n + 1) ss)) (left_at_first s.script)
     ∙ ap (λ (k : BoardView). cost_of_script (script_on k s.script.text) + sum_by (λ (x : ℕ × CallerView). left_of x.1.script []) (enumerate_from (n + 1) ss)) (all-at (λ t. IsOpened b t.script.text t) (s ∷ ss) 0 s opened refl).board_is
     ∙ ap (λ (k : ℕ). cost_of_script (script_on b s.script.text) + k) (costs b ss (n + 1) (λ k d low. opened (suc k) d (omega (arith, low))))
     ∙ sym (sum_by-cons (λ text. cost_of_script (script_on b text)) s.script.text (texts_of ss))

@@ -1,7 +1,7 @@
 use Rattle.std.proofs.Common.{◌≡◌, ◌+◌, ◌*◌, ◌≤◌, ◌++◌, take}
 use Rattle.std.specs.List.{flat_map}
-use Rattle.caller_core.specs.Commands.{spaced_word}
-use Rattle.caller_core.proofs.text.push_spaced_words.Given as goal
+use Rattle.tool_run.specs.Texts.{spaced_word}
+use Rattle.tool_run.proofs.text.push_spaced_words.Given as goal
 
 abbrev pub invariant-loop-byte : goal.invariant-loop-byte
 invariant-loop-byte l =

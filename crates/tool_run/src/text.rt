@@ -1,7 +1,7 @@
-ghost use Rattle.std.specs.Prelude.{◌≡◌, ◌+◌, ◌*◌, ◌≤◌, [], ◌++◌, length, OnOk, codes};
+ghost use Rattle.std.specs.Prelude.{◌≡◌, ◌+◌, ◌*◌, ◌≤◌, [], ◌∷◌, ◌++◌, length, OnOk, codes};
 ghost use Rattle.std.specs.List.{flat_map};
 ghost use Rattle.bus_spec.specs.Lines.{two_digits};
-ghost use Rattle.caller_core.specs.Commands.{byte_word, spaced_word, byte_words, low_first_word};
+ghost use Rattle.tool_run.specs.Texts.{byte_word, double_word, spaced_word, byte_words};
 
 use bus_journal::hex_digit;
 use i2c_base::NoMemory;
@@ -17,7 +17,7 @@ pub struct Text {
 
 impl Model for Text {
     ghost use Rattle.std.specs.Prelude.{◌-◌, vec_len, vec_capacity};
-    ghost use Rattle.caller_core.specs.View.{TextView};
+    ghost use Rattle.tool_run.specs.View.{TextView};
 
     ghost Value = { TextView };
 
@@ -57,6 +57,15 @@ impl Text {
     {
         let _ = self.bytes.extend_from_slice(bytes);
     }
+
+    /// Puts a byte at the end.
+    pub fn push_byte(&mut self, byte: u8)
+        requires { 1 ≤ self.old.room }
+        ensures bytes { self.new.bytes ≡ self.old.bytes ++ byte ∷ [] }
+        ensures room { self.old.room ≤ self.new.room + 1 }
+    {
+        self.bytes.push_reserved(byte);
+    }
 }
 
 // Puts a byte as a word at the end, with a space before it.
@@ -68,13 +77,16 @@ fn push_spaced_word(out: &mut Text, byte: u8)
     out.push(&[b' ', b'0', b'x', hex_digit(byte / 16), hex_digit(byte % 16)]);
 }
 
-// Puts a byte as a word at the end.
-fn push_word(out: &mut Text, byte: u8)
+/// Puts a byte as a word at the end.
+pub fn push_word(out: &mut Text, byte: u8)
     requires { 4 ≤ out.old.room }
     ensures bytes { out.new.bytes ≡ out.old.bytes ++ byte_word byte }
     ensures room { out.old.room ≤ out.new.room + 4 }
 {
-    out.push(&[b'0', b'x', hex_digit(byte / 16), hex_digit(byte % 16)]);
+    out.push_byte(b'0');
+    out.push_byte(b'x');
+    out.push_byte(hex_digit(byte / 16));
+    out.push_byte(hex_digit(byte % 16));
 }
 
 // Puts bytes as words at the end, with a space before each.
@@ -100,26 +112,14 @@ pub fn push_byte_words(out: &mut Text, bytes: &[u8])
     }
 }
 
-/// Puts two bytes as one word at the end, whose low byte comes first.
-pub fn push_low_first_word(out: &mut Text, bytes: &[u8])
+/// Puts a word of two bytes at the end.
+pub fn push_double_word(out: &mut Text, word: u16)
     requires { 6 ≤ out.old.room }
-    ensures bytes { out.new.bytes ≡ out.old.bytes ++ low_first_word bytes.now }
+    ensures bytes { out.new.bytes ≡ out.old.bytes ++ double_word word }
     ensures room { out.old.room ≤ out.new.room + 6 }
 {
-    if let Some((low, rest)) = bytes.split_first() {
-        match rest.first() {
-            None => push_word(out, *low),
-            Some(high) => push_two_bytes(out, *high, *low),
-        }
-    }
-}
-
-// Puts two bytes as one word at the end.
-fn push_two_bytes(out: &mut Text, high: u8, low: u8)
-    requires { 6 ≤ out.old.room }
-    ensures bytes { out.new.bytes ≡ out.old.bytes ++ (codes "0x" ++ (two_digits high ++ two_digits low)) }
-    ensures room { out.old.room ≤ out.new.room + 6 }
-{
+    let high = (word / 256) as u8;
+    let low = (word % 256) as u8;
     out.push(&[
         b'0',
         b'x',

@@ -1,0 +1,4 @@
+pub mod AnswerLemmas
+pub mod GetLemmas
+pub mod LineLemmas
+pub mod TransferLemmas

@@ -1,0 +1,73 @@
+-- An answer is one line, and not the line `journal`.
+use Rattle.std.proofs.Common.{◌≡◌, ℕ, ◌<◌, ◌/◌, ◌%◌, false, List, [], ◌∷◌, ◌++◌, ◌==◌, codes, get_or, refl, ap, arith}
+use Rattle.std.specs.Prelude.{Result, Ok, Err}
+use Rattle.std.specs.List.{flat_map}
+use Rattle.std.proofs.lemmas.Bool.{or_from}
+use Rattle.std.proofs.lemmas.Bool.Decides.{nat_tests}
+use Rattle.bus_journal.specs.Reports.{IsLine, IsSectionLine}
+use Rattle.bus_journal.proofs.LineFeeds.{line-append}
+use Rattle.bus_spec.specs.Lines.{hex_digit, two_digits, errno_text}
+use Rattle.i2c_base.specs.declared.errno.Errno.{Errno}
+use Rattle.i2c_base.specs.declared.errno.Errno.TheVariants.{Eio, Enxio, Ebadf, Ebusy, Enodev, Einval, Eproto, Ebadmsg, Eopnotsupp, Etimedout, Eremoteio}
+use Rattle.i2c_base.specs.declared.reply.Reply.{Reply}
+use Rattle.smb_emul.specs.declared.call.SmbFail.{SmbFail}
+use Rattle.smb_emul.specs.declared.call.SmbFail.TheVariants as fail
+use Rattle.smb_emul.specs.Value.{ValueView}
+use Rattle.smb_emul.specs.Value as value
+use Rattle.tool_words.specs.declared.cmd.Cmd.{Cmd}
+use Rattle.tool_words.specs.declared.cmd.Cmd.TheVariants as cmd
+use Rattle.tool_run.specs.Gets.{result_text, value_text}
+use Rattle.tool_run.specs.Texts.{byte_word, double_word, spaced_word, byte_words, fail_text}
+use Rattle.tool_run.specs.Tools.{answer_text}
+
+digit : (n : ℕ) → (hex_digit n == 10) ≡ false
+digit n = grind (arith, nat_tests)
+
+digits : (byte : ℕ) → IsLine (two_digits byte)
+digits byte = or_from _ _ (digit (byte / 16)) (or_from _ _ (digit (byte % 16)) refl)
+
+word : (b : ℕ) → IsLine (byte_word b)
+word b = line-append (codes "0x") (two_digits b) refl (digits b)
+
+spaced : (bytes : List ℕ) → IsLine (flat_map spaced_word bytes)
+spaced [] = refl
+spaced (b ∷ bs) = line-append (spaced_word b) (flat_map spaced_word bs) (line-append (codes " 0x") (two_digits b) refl (digits b)) (spaced bs)
+
+-- a text whose first sign isn't a j
+others : (text : List ℕ) (c : ℕ) → get_or text 0 0 ≡ c → (c < 106) → ¬ (text ≡ codes "journal")
+others text c first low e = let h : get_or text 0 0 ≡ 106 = ap (λ xs. get_or xs 0 0) e in omega (arith, h, first, low)
+
+others_above : (text : List ℕ) (c : ℕ) → get_or text 0 0 ≡ c → (106 < c) → ¬ (text ≡ codes "journal")
+others_above text c first high e = let h : get_or text 0 0 ≡ 106 = ap (λ xs. get_or xs 0 0) e in omega (arith, h, first, high)
+
+errno : (e : Errno) → IsSectionLine (errno_text e)
+errno Eio = record { one = refl; other = others (errno_text Eio) 69 refl (omega arith) }
+errno Enxio = record { one = refl; other = others (errno_text Enxio) 69 refl (omega arith) }
+errno Ebadf = record { one = refl; other = others (errno_text Ebadf) 69 refl (omega arith) }
+errno Ebusy = record { one = refl; other = others (errno_text Ebusy) 69 refl (omega arith) }
+errno Enodev = record { one = refl; other = others (errno_text Enodev) 69 refl (omega arith) }
+errno Einval = record { one = refl; other = others (errno_text Einval) 69 refl (omega arith) }
+errno Eproto = record { one = refl; other = others (errno_text Eproto) 69 refl (omega arith) }
+errno Ebadmsg = record { one = refl; other = others (errno_text Ebadmsg) 69 refl (omega arith) }
+errno Eopnotsupp = record { one = refl; other = others (errno_text Eopnotsupp) 69 refl (omega arith) }
+errno Etimedout = record { one = refl; other = others (errno_text Etimedout) 69 refl (omega arith) }
+errno Eremoteio = record { one = refl; other = others (errno_text Eremoteio) 69 refl (omega arith) }
+
+value_line : (v : ValueView) → IsSectionLine (value_text v)
+value_line value.done = record { one = refl; other = others_above (codes "ok") 111 refl (omega arith) }
+value_line (value.byte b) = record { one = word b; other = others (byte_word b) 48 refl (omega arith) }
+value_line (value.word w) = record { one = line-append (codes "0x") (two_digits (w / 256) ++ two_digits (w % 256)) refl (line-append (two_digits (w / 256)) (two_digits (w % 256)) (digits (w / 256)) (digits (w % 256))); other = others (double_word w) 48 refl (omega arith) }
+value_line (value.block []) = record { one = refl; other = others [] 0 refl (omega arith) }
+value_line (value.block (b ∷ bs)) = record { one = line-append (byte_word b) (flat_map spaced_word bs) (word b) (spaced bs); other = others (byte_words (b ∷ bs)) 48 refl (omega arith) }
+
+result_line : (r : Result ValueView SmbFail) → IsSectionLine (result_text r)
+result_line (Ok v) = value_line v
+result_line (Err (fail.Errno e)) = errno e
+result_line (Err (fail.Pec got want)) =
+    record {
+      one = line-append (codes "EBADMSG got ") (byte_word got ++ (codes " want " ++ byte_word want)) refl (line-append (byte_word got) (codes " want " ++ byte_word want) (word got) (line-append (codes " want ") (byte_word want) refl (word want)));
+      other = others (fail_text (fail.Pec got want)) 69 refl (omega arith);
+    }
+
+pub answer_line : (c : Cmd) (replies : List Reply) → IsSectionLine (answer_text c replies)
+answer_line (cmd.Get g) replies = result_line _

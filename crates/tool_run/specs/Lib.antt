@@ -1,0 +1,5 @@
+pub mod Gets
+pub mod Replies
+pub mod Texts
+pub mod Tools
+pub mod View
