@@ -16,8 +16,7 @@ use Rattle.i2c_base.specs.Table.{Table}
 use Rattle.i2c_spec.specs.Chips.{ChipView, chip_table, chip_after}
 use Rattle.i2c_spec.specs.Targets.{TargetState, IsQuiet, state_table}
 use Rattle.i2c_spec.specs.World.{World, after, answer, sent_on, answers, feed, to_chips, to_devices, chip_start, device_start, start_chips, start_devices, start_event, stop_event, joins_chip, joins_device, hearers, has_heard, is_ack, is_slow, some_answer}
-use Rattle.i2c_outside.specs.declared.device.DeviceState.{DeviceState}
-use Rattle.i2c_outside.specs.Devices.{device_table}
+use Rattle.i2c_spec.proofs.StateLemmas.{states_fair}
 use Rattle.i2c_physics.specs.Heard.{numbers_of, nodes_of}
 use Rattle.i2c_physics.specs.Places.{PlaceView, mux_place, device_place, event_if}
 use Rattle.i2c_physics.specs.Reach.{is_among, AreRising, to_those, joins_at, has_at, addressed, others, union_of}
@@ -25,9 +24,8 @@ use Rattle.i2c_physics.specs.SimWorlds.{is_own, seen_on, IsSimWorld}
 use Rattle.i2c_physics.specs.Answering.{together_of, start_answer}
 use Rattle.i2c_physics.specs.declared.together.Together.{Together}
 use Rattle.i2c_physics.specs.declared.reach.Reach.{Reach}
-use Rattle.i2c_physics.proofs.DeviceLemmas.{feed-seen, answers-seen, device-stops, device-nothing}
 use Rattle.i2c_physics.proofs.NumberLemmas.{and_true, filter-among, rising-filter, rising-of_range}
-use Rattle.i2c_physics.proofs.OwnLemmas.{other-apart, joined-own, length-seen}
+use Rattle.i2c_physics.proofs.OwnLemmas.{other-apart, joined-own, length-seen, feed-seen, answers-seen}
 use Rattle.i2c_physics.proofs.PlaceLemmas.{chip-started, chip-stopped, device-started, device-stopped}
 use Rattle.i2c_physics.proofs.ReachLemmas.{reached-sent, stopped-fed, reached-stopped, started-fed, started-heard, reached-started}
 use Rattle.i2c_physics.proofs.TogetherLemmas.{feed-same, answers-same, length-feed}
@@ -57,11 +55,11 @@ either-on {count} {n} {has} {had} {started} {begun} e f g = ap (λ m. union_of m
 pub start-by : {j k chips devices : Together} → j ≡ chips → k ≡ devices → start_answer j k ≡ start_answer chips devices
 start-by {j} {k} {chips} {devices} e f = ap (λ x. start_answer x k) e ∙ ap (start_answer chips) f
 
-abbrev pub world_of : BoardView → ℕ → List ChipView → List DeviceState → List ℕ → List ℕ → Bool → World
+abbrev pub world_of : BoardView → ℕ → List ChipView → List TargetState → List ℕ → List ℕ → Bool → World
 world_of b root chips states heard_chips heard_devices busy =
     record { board = b; root = root; chips = chips; devices = seen_on b root b.devices states; hearing = nodes_of heard_chips heard_devices; busy = busy }
 
-module _ (b : BoardView) (root : ℕ) (muxes places : List PlaceView) (chips : List ChipView) (states : List DeviceState) (cr dr : Reach) (busy : Bool)
+module _ (b : BoardView) (root : ℕ) (muxes places : List PlaceView) (chips : List ChipView) (states : List TargetState) (cr dr : Reach) (busy : Bool)
     (inv : IsSimWorld b root muxes places chips states cr dr) where
   abbrev world : World
   world = world_of b root chips states cr.hearing.items dr.hearing.items busy
@@ -89,14 +87,14 @@ module _ (b : BoardView) (root : ℕ) (muxes places : List PlaceView) (chips : L
     chips-answer =
         answers-same chip_table (to_chips world e) (to_those cr.hearing.items e) 0 chips (λ k at low. chip-hears world cr.hearing.items dr.hearing.items refl e k)
 
-    pub devices-answer : answers device_table (to_those dr.hearing.items e) 0 states ≡ answers state_table (to_devices world e) 0 (seen_on b root b.devices states)
+    pub devices-answer : answers state_table (to_those dr.hearing.items e) 0 states ≡ answers state_table (to_devices world e) 0 (seen_on b root b.devices states)
     devices-answer =
         sym (answers-seen b root (to_those dr.hearing.items e) (not_hearing e) states inv.devices_are)
         ∙ answers-same state_table (to_devices world e) (to_those dr.hearing.items e) 0 (seen_on b root b.devices states)
         (λ k at low. device-hears world cr.hearing.items dr.hearing.items refl e k)
 
-    module _ (new_chips : List ChipView) (new_states : List DeviceState) (chips_new : new_chips ≡ feed chip_table (to_those cr.hearing.items e) 0 chips)
-        (states_new : new_states ≡ feed device_table (to_those dr.hearing.items e) 0 states) (rc rd : Reach)
+    module _ (new_chips : List ChipView) (new_states : List TargetState) (chips_new : new_chips ≡ feed chip_table (to_those cr.hearing.items e) 0 chips)
+        (states_new : new_states ≡ feed state_table (to_those dr.hearing.items e) 0 states) (rc rd : Reach)
         (rcs : rc.started ≡ cr.started) (rch : rc.hearing ≡ cr.hearing) (rds : rd.started ≡ dr.started) (rdh : rd.hearing ≡ dr.hearing) where
       pub sent-kept : IsSimWorld b root muxes places new_chips new_states rc rd
       sent-kept = record {
@@ -104,9 +102,9 @@ module _ (b : BoardView) (root : ℕ) (muxes places : List PlaceView) (chips : L
         mux_places = inv.mux_places;
         device_places = inv.device_places;
         chips_are = ap length chips_new ∙ length-feed chip_table (to_those cr.hearing.items e) 0 chips ∙ inv.chips_are;
-        devices_are = ap length states_new ∙ length-feed device_table (to_those dr.hearing.items e) 0 states ∙ inv.devices_are;
+        devices_are = ap length states_new ∙ length-feed state_table (to_those dr.hearing.items e) 0 states ∙ inv.devices_are;
         chips_reached = rw (chips_new, rcs, rch) (reached-sent chip_table chips cr.started.items cr.hearing.items inv.chips_reached e);
-        devices_reached = rw (states_new, rds, rdh) (reached-sent device_table states dr.started.items dr.hearing.items inv.devices_reached e);
+        devices_reached = rw (states_new, rds, rdh) (reached-sent state_table states dr.started.items dr.hearing.items inv.devices_reached e);
         reached_own = rw rds inv.reached_own;
       }
 
@@ -122,22 +120,22 @@ module _ (b : BoardView) (root : ℕ) (muxes places : List PlaceView) (chips : L
           ∙ ap (λ (ds : List TargetState). record world { chips = feed chip_table (to_chips world e) 0 chips; devices = ds }) all_devices)
 
   -- a stop
-  module _ (new_chips : List ChipView) (new_states : List DeviceState)
+  module _ (new_chips : List ChipView) (new_states : List TargetState)
       (chips_new : new_chips ≡ feed chip_table (to_those (filter (joins_at chips muxes) cr.started.items) event.Stop) 0 chips)
-      (states_new : new_states ≡ feed device_table (to_those (filter (joins_at chips places) dr.started.items) event.Stop) 0 states) where
+      (states_new : new_states ≡ feed state_table (to_those (filter (joins_at chips places) dr.started.items) event.Stop) 0 states) where
     pub stopped-kept : ((y : ChipView) → IsQuiet chip_table (chip_after y event.Stop)) → (left_chips left_devices : Reach)
         → left_chips.started.items ≡ filter (λ k. not (joins_at chips muxes k)) cr.started.items → left_chips.hearing.items ≡ []
         → left_devices.started.items ≡ filter (λ k. not (joins_at chips places k)) dr.started.items → left_devices.hearing.items ≡ []
         → IsSimWorld b root muxes places new_chips new_states left_chips left_devices
     stopped-kept stops left_chips left_devices lc lch ld ldh =
         let kept_chips = reached-stopped chip_table chips cr.started.items cr.hearing.items inv.chips_reached (joins_at chips muxes) stops in
-        let kept_states = reached-stopped device_table states dr.started.items dr.hearing.items inv.devices_reached (joins_at chips places) device-stops in
+        let kept_states = reached-stopped state_table states dr.started.items dr.hearing.items inv.devices_reached (joins_at chips places) states_fair.stops in
         record {
           plain = inv.plain;
           mux_places = inv.mux_places;
           device_places = inv.device_places;
           chips_are = ap length chips_new ∙ length-feed chip_table (to_those (filter (joins_at chips muxes) cr.started.items) event.Stop) 0 chips ∙ inv.chips_are;
-          devices_are = ap length states_new ∙ length-feed device_table (to_those (filter (joins_at chips places) dr.started.items) event.Stop) 0 states ∙ inv.devices_are;
+          devices_are = ap length states_new ∙ length-feed state_table (to_those (filter (joins_at chips places) dr.started.items) event.Stop) 0 states ∙ inv.devices_are;
           chips_reached = rw (chips_new, lc, lch) kept_chips;
           devices_reached = rw (states_new, ld, ldh) kept_states;
           reached_own = rw ld (λ k left. inv.reached_own k (filter-among (λ m. not (joins_at chips places m)) dr.started.items k left).0);
@@ -148,7 +146,7 @@ module _ (b : BoardView) (root : ℕ) (muxes places : List PlaceView) (chips : L
         let all_chips = chips_new ∙ stopped-fed chip_table chips cr.started.items cr.hearing.items inv.chips_reached (joins_at chips muxes)
         ∙ feed-same chip_table (λ m. stop_event (joins_chip world m)) (λ k. stop_event (joins_at chips muxes k)) 0 chips
         (λ k at low. chip-stopped world muxes k inv.mux_places (low_chip k low)) in
-        let all_states = states_new ∙ stopped-fed device_table states dr.started.items dr.hearing.items inv.devices_reached (joins_at chips places) in
+        let all_states = states_new ∙ stopped-fed state_table states dr.started.items dr.hearing.items inv.devices_reached (joins_at chips places) in
         let all_devices : seen_on b root b.devices new_states ≡ feed state_table (λ d. stop_event (joins_device world d)) 0 (seen_on b root b.devices states) =
         ap (seen_on b root b.devices) all_states
         ∙ sym (feed-seen b root (λ k. stop_event (joins_at chips places k)) (λ k other. ap stop_event (not_joined k other)) states)
@@ -163,7 +161,7 @@ module _ (b : BoardView) (root : ℕ) (muxes places : List PlaceView) (chips : L
     chips_said = answers chip_table (to_those (addressed chips muxes a) (event.Start reading)) 0 chips
 
     abbrev states_said : List (ℕ × Answer)
-    states_said = answers device_table (to_those (addressed chips places a) (event.Start reading)) 0 states
+    states_said = answers state_table (to_those (addressed chips places a) (event.Start reading)) 0 states
 
     muxes_count : length muxes ≡ length chips
     muxes_count = ap length inv.mux_places ∙ length-map b.muxes (mux_place b root) ∙ sym inv.chips_are
@@ -207,7 +205,7 @@ module _ (b : BoardView) (root : ℕ) (muxes places : List PlaceView) (chips : L
 
       states_read : R states_said ≡ R (start_devices world a reading)
       states_read =
-          started-heard device_table states dr.started.items dr.hearing.items inv.devices_reached chips places a reading places_count R step is silent device-nothing
+          started-heard state_table states dr.started.items dr.hearing.items inv.devices_reached chips places a reading places_count R step is silent states_fair.other
           ∙ ap R (sym (answers-seen b root (λ k. start_event (joins_at chips places k) (has_at a places k) reading) not_started states inv.devices_are)
           ∙ answers-same state_table (device_start world a reading) (λ k. start_event (joins_at chips places k) (has_at a places k) reading) 0 (seen_on b root b.devices states)
           (λ k at low. device-started world places k inv.device_places (low_device k low) a reading))
@@ -236,24 +234,24 @@ module _ (b : BoardView) (root : ℕ) (muxes places : List PlaceView) (chips : L
         ∙ ap (nodes_of (numbers_of (start_chips world a reading))) (states_read numbers_of (λ x r. if has_heard x.1 then x.0 ∷ r else r) (λ x ys. refl) (λ k ys. refl))
         ∙ sym (hearers_told world a reading)
 
-    module _ (new_chips : List ChipView) (new_states : List DeviceState) (rc rd : Reach)
+    module _ (new_chips : List ChipView) (new_states : List TargetState) (rc rd : Reach)
         (chips_new : new_chips ≡ feed chip_table (to_those (others chips muxes a cr.started.items) event.Other) 0 (feed chip_table (to_those (addressed chips muxes a) (event.Start reading)) 0 chips))
-        (states_new : new_states ≡ feed device_table (to_those (others chips places a dr.started.items) event.Other) 0 (feed device_table (to_those (addressed chips places a) (event.Start reading)) 0 states))
+        (states_new : new_states ≡ feed state_table (to_those (others chips places a dr.started.items) event.Other) 0 (feed state_table (to_those (addressed chips places a) (event.Start reading)) 0 states))
         (rc_heard : rc.hearing.items ≡ numbers_of chips_said) (rd_heard : rd.hearing.items ≡ numbers_of states_said) where
       pub started-kept : rc.started.items ≡ union_of (length chips) cr.started.items (addressed chips muxes a)
           → rd.started.items ≡ union_of (length states) dr.started.items (addressed chips places a)
           → IsSimWorld b root muxes places new_chips new_states rc rd
       started-kept rc_started rd_started =
           let kept_chips = reached-started chip_table chips cr.started.items cr.hearing.items inv.chips_reached chips muxes a reading muxes_count in
-          let kept_states = reached-started device_table states dr.started.items dr.hearing.items inv.devices_reached chips places a reading places_count in
+          let kept_states = reached-started state_table states dr.started.items dr.hearing.items inv.devices_reached chips places a reading places_count in
           record {
             plain = inv.plain;
             mux_places = inv.mux_places;
             device_places = inv.device_places;
             chips_are = ap length (chips_new ∙ started-fed chip_table chips cr.started.items cr.hearing.items inv.chips_reached chips muxes a reading muxes_count)
                 ∙ length-feed chip_table (λ k. start_event (joins_at chips muxes k) (has_at a muxes k) reading) 0 chips ∙ inv.chips_are;
-            devices_are = ap length (states_new ∙ started-fed device_table states dr.started.items dr.hearing.items inv.devices_reached chips places a reading places_count)
-                ∙ length-feed device_table (λ k. start_event (joins_at chips places k) (has_at a places k) reading) 0 states ∙ inv.devices_are;
+            devices_are = ap length (states_new ∙ started-fed state_table states dr.started.items dr.hearing.items inv.devices_reached chips places a reading places_count)
+                ∙ length-feed state_table (λ k. start_event (joins_at chips places k) (has_at a places k) reading) 0 states ∙ inv.devices_are;
             chips_reached = rw (chips_new, rc_started, rc_heard) kept_chips;
             devices_reached = rw (states_new, rd_started, rd_heard) kept_states;
             reached_own = rw rd_started started_own;
@@ -264,7 +262,7 @@ module _ (b : BoardView) (root : ℕ) (muxes places : List PlaceView) (chips : L
           let all_chips = chips_new ∙ started-fed chip_table chips cr.started.items cr.hearing.items inv.chips_reached chips muxes a reading muxes_count
           ∙ feed-same chip_table (chip_start world a reading) (λ k. start_event (joins_at chips muxes k) (has_at a muxes k) reading) 0 chips
           (λ k at low. chip-started world muxes k inv.mux_places (low_chip k low) a reading) in
-          let all_states = states_new ∙ started-fed device_table states dr.started.items dr.hearing.items inv.devices_reached chips places a reading places_count in
+          let all_states = states_new ∙ started-fed state_table states dr.started.items dr.hearing.items inv.devices_reached chips places a reading places_count in
           let all_devices : seen_on b root b.devices new_states ≡ feed state_table (device_start world a reading) 0 (seen_on b root b.devices states) =
           ap (seen_on b root b.devices) all_states
           ∙ sym (feed-seen b root (λ k. start_event (joins_at chips places k) (has_at a places k) reading) not_started states)

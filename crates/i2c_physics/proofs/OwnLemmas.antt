@@ -1,18 +1,23 @@
--- Devices of other roots are not joined: no event goes to one, and the world has it as it was opened. The inductions go
--- over the devices.
-use Rattle.std.proofs.Common.{◌≡◌, ℕ, zero, suc, ◌<◌, Bool, true, false, List, [], ◌∷◌, length, map, drop, get_or, set, Option, Some, None, refl, sym, ◌∙◌, ap, inl, inr, arith}
+-- Devices of other roots are not joined: no event goes to one, and the world of a root has it as it was opened. The
+-- inductions go over the devices, the first being number k.
+use Rattle.std.proofs.Common.{◌≡◌, ℕ, zero, suc, ◌+◌, ◌<◌, Bool, true, false, List, [], ◌∷◌, length, map, drop, get_or, set, Option, Some, None, refl, sym, ◌∙◌, ap, inl, inr, arith, add-zero, zero-add}
 use Rattle.std.specs.Prelude.{if◌then◌else◌, slice_get}
 use Rattle.std.specs.Option.{option_map, option_map_or}
 use Rattle.std.proofs.lemmas.Bool.{cases_Bool}
 use Rattle.std.proofs.lemmas.Option.{slice_get-map}
+use Rattle.i2c_base.specs.declared.event.Event.{Event}
+use Rattle.i2c_base.specs.declared.event.Answer.{Answer}
 use Rattle.i2c_base.specs.Board.{BoardView, DeviceView}
 use Rattle.i2c_spec.specs.Chips.{ChipView}
-use Rattle.i2c_spec.specs.Targets.{Silent, IsQuiet, state_table, opening_state}
-use Rattle.i2c_outside.specs.declared.device.DeviceState.{DeviceState}
-use Rattle.i2c_outside.specs.Devices.{target_state}
+use Rattle.i2c_spec.specs.Targets.{TargetState, Silent, IsQuiet, state_table, opening_state}
+use Rattle.i2c_spec.specs.World.{answers, answer_with, feed, given}
 use Rattle.i2c_physics.specs.Places.{PlaceView, device_place, joins}
 use Rattle.i2c_physics.specs.Reach.{is_among, joins_at, wired_at}
 use Rattle.i2c_physics.specs.SimWorlds.{is_of, is_own, opened_on, seen_on}
+
+-- device k of these is of the root
+abbrev own_in : BoardView → ℕ → List DeviceView → ℕ → Bool
+own_in b root ds k = option_map_or (is_of b root) (slice_get ds k) false
 
 module _ (b : BoardView) (root : ℕ) where
   -- where a device stands is found once
@@ -54,12 +59,12 @@ module _ (b : BoardView) (root : ℕ) where
   pub opened-quiet : ((d : DeviceView) → IsQuiet state_table (opening_state d)) → (d : DeviceView) → IsQuiet state_table (opened_on b root d)
   opened-quiet quiet d = quiet_if (is_of b root d) d (quiet d)
 
-  one_opened : (own : Bool) (d : DeviceView) (s : DeviceState) → target_state s ≡ (if own then opening_state d else Silent)
-      → (if own then target_state s else opening_state d) ≡ opening_state d
+  one_opened : (own : Bool) (d : DeviceView) (s : TargetState) → s ≡ (if own then opening_state d else Silent)
+      → (if own then s else opening_state d) ≡ opening_state d
   one_opened true d s is = is
   one_opened false d s is = refl
 
-  pub seen-opened : (ds : List DeviceView) (states : List DeviceState) → map target_state states ≡ map (opened_on b root) ds
+  pub seen-opened : (ds : List DeviceView) (states : List TargetState) → states ≡ map (opened_on b root) ds
       → seen_on b root ds states ≡ map opening_state ds
   seen-opened [] states are = refl
   seen-opened (d ∷ ds) [] are = absurd (let e : 0 ≡ suc (length (map (opened_on b root) ds)) = ap length are in omega arith)
@@ -69,27 +74,77 @@ module _ (b : BoardView) (root : ℕ) where
       cc
 
   -- how many there are, and one of them
-  pub length-seen : (ds : List DeviceView) (states : List DeviceState) → length states ≡ length ds → length (seen_on b root ds states) ≡ length ds
+  pub length-seen : (ds : List DeviceView) (states : List TargetState) → length states ≡ length ds → length (seen_on b root ds states) ≡ length ds
   length-seen [] states count = refl
   length-seen (d ∷ ds) [] count = absurd (omega arith)
   length-seen (d ∷ ds) (s ∷ states) count = ap suc (length-seen ds states (omega arith))
 
-  pub own-low : (ds : List DeviceView) (k : ℕ) → option_map_or (is_of b root) (slice_get ds k) false ≡ true → k < length ds
+  pub own-low : (ds : List DeviceView) (k : ℕ) → own_in b root ds k ≡ true → k < length ds
   own-low [] k own = absurd (let e : true ≡ false = sym own in cc)
   own-low (d ∷ ds) zero own = omega arith
   own-low (d ∷ ds) (suc k) own = let low = own-low ds k own in omega (arith, low)
 
-  pub seen-get : (ds : List DeviceView) (states : List DeviceState) (k : ℕ) (s : DeviceState) → length states ≡ length ds
-      → option_map_or (is_of b root) (slice_get ds k) false ≡ true → slice_get (seen_on b root ds states) k ≡ Some (target_state (get_or states k s))
+  pub seen-get : (ds : List DeviceView) (states : List TargetState) (k : ℕ) (s : TargetState) → length states ≡ length ds
+      → own_in b root ds k ≡ true → slice_get (seen_on b root ds states) k ≡ Some (get_or states k s)
   seen-get [] states k s count own = absurd (let e : true ≡ false = sym own in cc)
   seen-get (d ∷ ds) [] k s count own = absurd (omega arith)
   seen-get (d ∷ ds) (x ∷ states) zero s count own = rw own refl
   seen-get (d ∷ ds) (x ∷ states) (suc k) s count own = seen-get ds states k s (omega arith) own
 
-  pub seen-set : (ds : List DeviceView) (states : List DeviceState) (k : ℕ) (s : DeviceState) → option_map_or (is_of b root) (slice_get ds k) false ≡ true
-      → seen_on b root ds (set states k s) ≡ set (seen_on b root ds states) k (target_state s)
+  pub seen-set : (ds : List DeviceView) (states : List TargetState) (k : ℕ) (s : TargetState) → own_in b root ds k ≡ true
+      → seen_on b root ds (set states k s) ≡ set (seen_on b root ds states) k s
   seen-set [] states k s own = absurd (let e : true ≡ false = sym own in cc)
   seen-set (d ∷ ds) [] k s own = refl
   seen-set (d ∷ ds) (x ∷ states) zero s own = rw own refl
   seen-set (d ∷ ds) (x ∷ states) (suc k) s own =
-      ap (λ ts. (if is_of b root d then target_state x else opening_state d) ∷ ts) (seen-set ds states k s own)
+      ap (λ ts. (if is_of b root d then x else opening_state d) ∷ ts) (seen-set ds states k s own)
+
+-- what an event does to the devices that the world of a root holds is what it does to those that it sees
+module _ (b : BoardView) (root : ℕ) (f : ℕ → Option Event) where
+  -- no event goes to those of these devices that are of other roots
+  abbrev LeavesOthers : ℕ → List DeviceView → Type 0
+  LeavesOthers k ds = (i : ℕ) → own_in b root ds i ≡ false → f (k + i) ≡ None
+
+  first : (k : ℕ) (d : DeviceView) (ds : List DeviceView) → LeavesOthers k (d ∷ ds) → is_of b root d ≡ false → f k ≡ None
+  first k d ds leaves other = ap f (sym (add-zero k)) ∙ leaves 0 other
+
+  next : (k : ℕ) (d : DeviceView) (ds : List DeviceView) → LeavesOthers k (d ∷ ds) → LeavesOthers (k + 1) ds
+  next k d ds leaves i other = let e : k + 1 + i ≡ k + suc i = omega arith in ap f e ∙ leaves (suc i) other
+
+  one_given : (own : Bool) (e : Option Event) (d : DeviceView) (s : TargetState) → (own ≡ false → e ≡ None)
+      → given state_table e (if own then s else opening_state d) ≡ (if own then given state_table e s else opening_state d)
+  one_given true e d s leaves = refl
+  one_given false e d s leaves = ap (λ o. given state_table o (opening_state d)) (leaves refl)
+
+  one_answer : (own : Bool) (e : Option Event) (k : ℕ) (d : DeviceView) (s : TargetState) (rest : List (ℕ × Answer)) → (own ≡ false → e ≡ None)
+      → answer_with state_table e k (if own then s else opening_state d) rest ≡ answer_with state_table e k s rest
+  one_answer true e k d s rest leaves = refl
+  one_answer false e k d s rest leaves = rw (leaves refl) refl
+
+  feed_from : (k : ℕ) (ds : List DeviceView) (states : List TargetState) → LeavesOthers k ds
+      → feed state_table f k (seen_on b root ds states) ≡ seen_on b root ds (feed state_table f k states)
+  feed_from k [] states leaves = refl
+  feed_from k (d ∷ ds) [] leaves = refl
+  feed_from k (d ∷ ds) (s ∷ states) leaves =
+      let head = one_given (is_of b root d) (f k) d s (first k d ds leaves) in
+      let rest = feed_from (k + 1) ds states (next k d ds leaves) in
+      cc
+
+  answers_from : (k : ℕ) (ds : List DeviceView) (states : List TargetState) → LeavesOthers k ds → length states ≡ length ds
+      → answers state_table f k (seen_on b root ds states) ≡ answers state_table f k states
+  answers_from k [] [] leaves count = refl
+  answers_from k [] (s ∷ states) leaves count = absurd (omega arith)
+  answers_from k (d ∷ ds) [] leaves count = absurd (omega arith)
+  answers_from k (d ∷ ds) (s ∷ states) leaves count =
+      one_answer (is_of b root d) (f k) k d s (answers state_table f (k + 1) (seen_on b root ds states)) (first k d ds leaves)
+      ∙ ap (answer_with state_table (f k) k s) (answers_from (k + 1) ds states (next k d ds leaves) (omega arith))
+
+  module _ (leaves : (k : ℕ) → is_own b root k ≡ false → f k ≡ None) (states : List TargetState) where
+    all_leave : LeavesOthers 0 b.devices
+    all_leave i other = ap f (zero-add i) ∙ leaves i other
+
+    pub feed-seen : feed state_table f 0 (seen_on b root b.devices states) ≡ seen_on b root b.devices (feed state_table f 0 states)
+    feed-seen = feed_from 0 b.devices states all_leave
+
+    pub answers-seen : length states ≡ length b.devices → answers state_table f 0 (seen_on b root b.devices states) ≡ answers state_table f 0 states
+    answers-seen count = answers_from 0 b.devices states all_leave count

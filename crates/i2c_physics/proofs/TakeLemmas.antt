@@ -7,7 +7,6 @@ use Rattle.i2c_spec.specs.World.{World}
 use Rattle.std.proofs.lemmas.List.{map-append}
 use Rattle.i2c_outside.specs.Devices.{target_state}
 use Rattle.i2c_outside.specs.declared.device.DeviceState.{DeviceState}
-use Rattle.i2c_outside.specs.declared.device.DeviceState.TheVariants as device
 use Rattle.i2c_physics.specs.SimRigs.{own_device, owns, state_at, states_from, taken_out, without, IsThere}
 use Rattle.i2c_physics.specs.SimWorlds.{seen_on}
 use Rattle.i2c_physics.proofs.OwnLemmas.{seen-get, seen-set}
@@ -95,15 +94,15 @@ is-home f (p ∷ ps) zero d w low at = some_is (f p) w at
 is-home f (p ∷ ps) (suc home) d w low at = is-home f ps home d w (omega arith) at
 
 -- a world that has its devices so, once one of its own was taken out
-module _ (w : World) (k : ℕ) (states : List DeviceState) (are : w.devices ≡ seen_on w.board w.root w.board.devices states) (own : owns w k ≡ true) where
-  pub own-is : (s : DeviceState) → length states ≡ length w.board.devices → own_device w k ≡ Some (target_state (get_or states k s))
+module _ (w : World) (k : ℕ) (states : List TargetState) (are : w.devices ≡ seen_on w.board w.root w.board.devices states) (own : owns w k ≡ true) where
+  pub own-is : (s : TargetState) → length states ≡ length w.board.devices → own_device w k ≡ Some (get_or states k s)
   own-is s count = rw own (ap (λ ts. slice_get ts k) are ∙ seen-get w.board w.root w.board.devices states k s count own)
 
-  pub without-is : (new : List DeviceState) → new ≡ set states k device.Silent
+  pub without-is : (new : List TargetState) → new ≡ set states k Silent
       → record w { devices = seen_on w.board w.root w.board.devices new } ≡ without w k
   without-is new is =
       rw own (ap (λ (ts : List TargetState). record w { devices = ts })
-      (ap (seen_on w.board w.root w.board.devices) is ∙ seen-set w.board w.root w.board.devices states k device.Silent own
+      (ap (seen_on w.board w.root w.board.devices) is ∙ seen-set w.board w.root w.board.devices states k Silent own
       ∙ ap (λ (ts : List TargetState). set ts k Silent) (sym are)))
 
 pub some_mapped : {A B : Type 0} (f : A → B) (o : Option A) → IsSome o → IsSome (option_map f o)

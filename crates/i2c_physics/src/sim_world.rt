@@ -13,14 +13,14 @@ ghost use Rattle.i2c_physics.specs.SimWorlds.{opened_on};
 use crate::place::{device_places, mux_places};
 use crate::reach::Reach;
 use crate::sites::{Sites, is_wired};
+use crate::socket::Socket;
 use crate::together::{Together, answer_of, begin, end, pass_on};
-use i2c_base::{Addr, Answer, DeviceSpec, Event, MuxId, MuxSpec, NoMemory, SegId};
+use i2c_base::{Addr, Answer, DeviceSpec, Event, MuxId, MuxSpec, SegId};
 use i2c_board::Accepted;
 use i2c_outside::DeviceState;
 use i2c_spec::{Layout, chips_are_fair, openings_are_quiet};
 use std::alloc::{AllocError, Global};
 use std::marker::Model;
-use std::mem;
 use std::snapshot::Snapshot;
 use tgt_mux::Chip;
 
@@ -37,8 +37,8 @@ pub struct SimWorld {
     mux_places: Sites,
     device_places: Sites,
     chips: Vec<Chip>,
-    /// `Silent` stands in the place of one of another root, which a contract sees as it was opened.
-    devices: Vec<DeviceState>,
+    /// The place of one of another root is empty. A contract sees that device as it was opened.
+    devices: Vec<Socket>,
     /// Which chips, and which devices, a message has reached.
     chip_reach: Reach,
     device_reach: Reach,
@@ -86,7 +86,7 @@ impl SimWorld {
         if !is_wired(self.device_places.as_slice(), number) {
             return None;
         }
-        Some(mem::replace(&mut self.devices[number], DeviceState::Silent))
+        Some(self.devices[number].take())
     }
 
     /// A start goes out. What it is answered.
@@ -170,20 +170,16 @@ fn open_chips(alloc: Global, muxes: &[MuxSpec]) -> Result<Vec<Chip>, AllocError>
     muxes.iter().map(Chip::open).collect(alloc)
 }
 
-/// The devices by number: each one of this root as it is opened.
-fn open_devices(
-    alloc: Global,
-    layout: Layout<'_>,
-    root: SegId,
-) -> Result<Vec<DeviceState>, AllocError>
+/// The devices of this root as they are opened, by number: the places of the others are empty.
+fn open_devices(alloc: Global, layout: Layout<'_>, root: SegId) -> Result<Vec<Socket>, AllocError>
     requires { IsPlainBoard (board_of layout) }
-    ensures { IfOk result (λ states. map target_state states.items ≡ map (opened_on (board_of layout.entry) root) layout.entry.devices.now) }
+    ensures { IfOk result (λ devices. devices.items ≡ map (opened_on (board_of layout.entry) root) layout.entry.devices.now) }
 {
-    let mut states = Vec::with_capacity(alloc, layout.devices.len())?;
+    let mut devices = Vec::with_capacity(alloc, layout.devices.len())?;
     for device in layout.devices {
-        states.push(open_device(alloc, layout, root, device)?)?;
+        devices.push(open_device(alloc, layout, root, device)?)?;
     }
-    Ok(states)
+    Ok(devices)
 }
 
 /// The device as it is opened, where it is of this root.
@@ -192,16 +188,13 @@ fn open_device(
     layout: Layout<'_>,
     root: SegId,
     device: &DeviceSpec,
-) -> Result<DeviceState, AllocError>
+) -> Result<Socket, AllocError>
     requires board { IsPlainBoard (board_of layout) }
     requires device { IsPlainDevice device.now }
-    ensures { IfOk result (λ state. target_state state ≡ opened_on (board_of layout.entry) root device.now) }
+    ensures { IfOk result (λ socket. socket ≡ opened_on (board_of layout.entry) root device.now) }
 {
     if layout.root(device.bus) != root {
-        return Ok(DeviceState::Silent);
+        return Ok(Socket::empty());
     }
-    match DeviceState::open(alloc, device) {
-        Ok(state) => Ok(state),
-        Err(NoMemory) => Err(AllocError),
-    }
+    Socket::open(alloc, device)
 }

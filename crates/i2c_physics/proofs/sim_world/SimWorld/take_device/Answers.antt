@@ -1,8 +1,7 @@
 use Rattle.std.proofs.Common.{◌≡◌, ◌<◌, true, Some, length, set, refl, sym, ◌∙◌, ap, arith}
 use Rattle.std.proofs.lemmas.List.{length-set}
 use Rattle.i2c_spec.specs.World.{World}
-use Rattle.i2c_outside.specs.Devices.{target_state, device_table}
-use Rattle.i2c_outside.specs.declared.device.DeviceState.TheVariants.{Silent}
+use Rattle.i2c_spec.specs.Targets.{Silent, state_table}
 use Rattle.i2c_physics.proofs.LineLemmas.{quiet-in-place}
 use Rattle.i2c_physics.specs.Reach.{wired_at}
 use Rattle.i2c_physics.specs.SimRigs.{own_device, without}
@@ -22,7 +21,7 @@ pub returns-clause-value : goal.returns-clause-value
 returns-clause-value c =
     let s = c.self.inside in
     let seen = world_of s.board.value s.root s.chips.items s.devices.items s.chip_reach.hearing.items s.device_reach.hearing.items s.busy in
-    ap (λ d. Some (target_state d)) (c.replace.ensures.value ∙ c.index_mut.ensures.value)
+    ap Some (c.take.ensures.taken ∙ c.index_mut.ensures.value)
     ∙ sym (own-is seen c.args.number s.devices.items refl (is_of_root c) c.index_mut.result.now c.self.invariant.devices_are)
     ∙ ap (λ (w : World). own_device w c.args.number) c.self.view_is
 
@@ -30,8 +29,8 @@ pub returns-clause-after : goal.returns-clause-after
 returns-clause-after c =
     let s = c.self.inside in
     let seen = world_of s.board.value s.root s.chips.items s.devices.items s.chip_reach.hearing.items s.device_reach.hearing.items s.busy in
-    without-is seen c.args.number s.devices.items refl (is_of_root c) (set s.devices.items c.args.number c.replace.new.dest)
-    (ap (λ d. set s.devices.items c.args.number d) c.replace.ensures.after)
+    without-is seen c.args.number s.devices.items refl (is_of_root c) (set s.devices.items c.args.number c.take.new.self)
+    (ap (λ d. set s.devices.items c.args.number d) c.take.ensures.after)
     ∙ ap (λ (w : World). without w c.args.number) c.self.view_is
 
 pub invariant_of-self : goal.invariant_of-self
@@ -44,10 +43,10 @@ invariant_of-self c =
       mux_places = inv.mux_places;
       device_places = inv.device_places;
       chips_are = inv.chips_are;
-      devices_are = length-set s.devices.items c.args.number c.replace.new.dest ∙ inv.devices_are;
+      devices_are = length-set s.devices.items c.args.number c.take.new.self ∙ inv.devices_are;
       chips_reached = inv.chips_reached;
-      devices_reached = rw c.replace.ensures.after
-          (quiet-in-place device_table s.devices.items c.args.number Silent s.device_reach.started.items s.device_reach.hearing.items
+      devices_reached = rw c.take.ensures.after
+          (quiet-in-place state_table s.devices.items c.args.number Silent s.device_reach.started.items s.device_reach.hearing.items
           low (record { other = refl; stop = refl }) inv.devices_reached);
       reached_own = inv.reached_own;
     }
