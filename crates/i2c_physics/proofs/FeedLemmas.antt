@@ -1,7 +1,8 @@
 -- What a call leaves of the program's lists, where only those are told that a message has reached, is what the world says.
-use Rattle.std.proofs.Common.{◌≡◌, ℕ, ◌+◌, ◌<◌, Bool, true, false, ◌&&◌, ◌||◌, List, [], ◌∷◌, ◌++◌, length, map, refl, sym, ◌∙◌, ap, subst, arith}
+use Rattle.std.proofs.Common.{◌≡◌, ℕ, ◌+◌, ◌<◌, Bool, true, false, ◌&&◌, ◌||◌, List, [], ◌∷◌, ◌++◌, length, None, refl, sym, ◌∙◌, ap, subst, inl, inr, arith}
 use Rattle.std.specs.Prelude.{not, if◌then◌else◌}
-use Rattle.std.specs.List.{filter}
+use Rattle.std.specs.List.{filter, range_with_len}
+use Rattle.std.proofs.lemmas.Bool.{cases_Bool, or_cases}
 use Rattle.std.proofs.lemmas.List.{length-map}
 use Rattle.std.proofs.lemmas.List.Folds.{list_any-append}
 use Rattle.i2c_base.specs.declared.ids.Node.{Node}
@@ -15,17 +16,16 @@ use Rattle.i2c_base.specs.Table.{Table}
 use Rattle.i2c_spec.specs.Chips.{ChipView, chip_table, chip_after}
 use Rattle.i2c_spec.specs.Targets.{TargetState, IsQuiet, state_table}
 use Rattle.i2c_spec.specs.World.{World, after, answer, sent_on, answers, feed, to_chips, to_devices, chip_start, device_start, start_chips, start_devices, start_event, stop_event, joins_chip, joins_device, hearers, has_heard, is_ack, is_slow, some_answer}
-use Rattle.i2c_outside.specs.declared.device.DeviceState.{DeviceState}
-use Rattle.i2c_outside.specs.Devices.{target_state, device_table}
+use Rattle.i2c_spec.proofs.StateLemmas.{states_fair}
 use Rattle.i2c_physics.specs.Heard.{numbers_of, nodes_of}
-use Rattle.i2c_physics.specs.Places.{PlaceView, mux_place, device_place}
-use Rattle.i2c_physics.specs.Reach.{AreRising, to_those, joins_at, has_at, addressed, others, union_of}
-use Rattle.i2c_physics.specs.SimWorlds.{IsSimWorld}
+use Rattle.i2c_physics.specs.Places.{PlaceView, mux_place, device_place, event_if}
+use Rattle.i2c_physics.specs.Reach.{is_among, AreRising, to_those, joins_at, has_at, addressed, others, union_of}
+use Rattle.i2c_physics.specs.SimWorlds.{is_own, seen_on, IsSimWorld}
 use Rattle.i2c_physics.specs.Answering.{together_of, start_answer}
 use Rattle.i2c_physics.specs.declared.together.Together.{Together}
 use Rattle.i2c_physics.specs.declared.reach.Reach.{Reach}
-use Rattle.i2c_physics.proofs.DeviceLemmas.{feed-states, answers-states, device-stops, device-nothing}
-use Rattle.i2c_physics.proofs.NumberLemmas.{rising-filter, rising-of_range}
+use Rattle.i2c_physics.proofs.NumberLemmas.{and_true, filter-among, rising-filter, rising-of_range}
+use Rattle.i2c_physics.proofs.OwnLemmas.{other-apart, joined-own, length-seen, feed-seen, answers-seen}
 use Rattle.i2c_physics.proofs.PlaceLemmas.{chip-started, chip-stopped, device-started, device-stopped}
 use Rattle.i2c_physics.proofs.ReachLemmas.{reached-sent, stopped-fed, reached-stopped, started-fed, started-heard, reached-started}
 use Rattle.i2c_physics.proofs.TogetherLemmas.{feed-same, answers-same, length-feed}
@@ -55,11 +55,11 @@ either-on {count} {n} {has} {had} {started} {begun} e f g = ap (λ m. union_of m
 pub start-by : {j k chips devices : Together} → j ≡ chips → k ≡ devices → start_answer j k ≡ start_answer chips devices
 start-by {j} {k} {chips} {devices} e f = ap (λ x. start_answer x k) e ∙ ap (start_answer chips) f
 
-abbrev pub world_of : BoardView → ℕ → List ChipView → List DeviceState → List ℕ → List ℕ → Bool → World
+abbrev pub world_of : BoardView → ℕ → List ChipView → List TargetState → List ℕ → List ℕ → Bool → World
 world_of b root chips states heard_chips heard_devices busy =
-    record { board = b; root = root; chips = chips; devices = map target_state states; hearing = nodes_of heard_chips heard_devices; busy = busy }
+    record { board = b; root = root; chips = chips; devices = seen_on b root b.devices states; hearing = nodes_of heard_chips heard_devices; busy = busy }
 
-module _ (b : BoardView) (root : ℕ) (muxes places : List PlaceView) (chips : List ChipView) (states : List DeviceState) (cr dr : Reach) (busy : Bool)
+module _ (b : BoardView) (root : ℕ) (muxes places : List PlaceView) (chips : List ChipView) (states : List TargetState) (cr dr : Reach) (busy : Bool)
     (inv : IsSimWorld b root muxes places chips states cr dr) where
   abbrev world : World
   world = world_of b root chips states cr.hearing.items dr.hearing.items busy
@@ -67,8 +67,19 @@ module _ (b : BoardView) (root : ℕ) (muxes places : List PlaceView) (chips : L
   low_chip : (k : ℕ) → k < 0 + length chips → k < length b.muxes
   low_chip k low = omega (arith, low, inv.chips_are)
 
-  low_device : (k : ℕ) → k < 0 + length states → k < length b.devices
-  low_device k low = omega (arith, low, inv.devices_are)
+  low_device : (k : ℕ) → k < 0 + length (seen_on b root b.devices states) → k < length b.devices
+  low_device k low = omega (arith, low, length-seen b root b.devices states inv.devices_are)
+
+  -- nothing goes to a device of another root
+  not_joined : (k : ℕ) → is_own b root k ≡ false → joins_at chips places k ≡ false
+  not_joined k other = other-apart b root places inv.device_places k chips other
+
+  not_hearing : (e : Event) (k : ℕ) → is_own b root k ≡ false → to_those dr.hearing.items e k ≡ None
+  not_hearing e k other =
+      elim (cases_Bool (is_among dr.hearing.items k)) [
+        | inl heard ↦ absurd (let both : true ≡ false = sym (inv.reached_own k (inv.devices_reached.hearing_started k heard)) ∙ other in cc)
+        | inr deaf ↦ ap (λ heard. event_if heard e) deaf
+      ]
 
   -- a byte
   module _ (e : Event) where
@@ -76,13 +87,14 @@ module _ (b : BoardView) (root : ℕ) (muxes places : List PlaceView) (chips : L
     chips-answer =
         answers-same chip_table (to_chips world e) (to_those cr.hearing.items e) 0 chips (λ k at low. chip-hears world cr.hearing.items dr.hearing.items refl e k)
 
-    pub devices-answer : answers device_table (to_those dr.hearing.items e) 0 states ≡ answers state_table (to_devices world e) 0 (map target_state states)
+    pub devices-answer : answers state_table (to_those dr.hearing.items e) 0 states ≡ answers state_table (to_devices world e) 0 (seen_on b root b.devices states)
     devices-answer =
-        answers-same device_table (to_devices world e) (to_those dr.hearing.items e) 0 states (λ k at low. device-hears world cr.hearing.items dr.hearing.items refl e k)
-        ∙ sym (answers-states (to_devices world e) 0 states)
+        sym (answers-seen b root (to_those dr.hearing.items e) (not_hearing e) states inv.devices_are)
+        ∙ answers-same state_table (to_devices world e) (to_those dr.hearing.items e) 0 (seen_on b root b.devices states)
+        (λ k at low. device-hears world cr.hearing.items dr.hearing.items refl e k)
 
-    module _ (new_chips : List ChipView) (new_states : List DeviceState) (chips_new : new_chips ≡ feed chip_table (to_those cr.hearing.items e) 0 chips)
-        (states_new : new_states ≡ feed device_table (to_those dr.hearing.items e) 0 states) (rc rd : Reach)
+    module _ (new_chips : List ChipView) (new_states : List TargetState) (chips_new : new_chips ≡ feed chip_table (to_those cr.hearing.items e) 0 chips)
+        (states_new : new_states ≡ feed state_table (to_those dr.hearing.items e) 0 states) (rc rd : Reach)
         (rcs : rc.started ≡ cr.started) (rch : rc.hearing ≡ cr.hearing) (rds : rd.started ≡ dr.started) (rdh : rd.hearing ≡ dr.hearing) where
       pub sent-kept : IsSimWorld b root muxes places new_chips new_states rc rd
       sent-kept = record {
@@ -90,40 +102,43 @@ module _ (b : BoardView) (root : ℕ) (muxes places : List PlaceView) (chips : L
         mux_places = inv.mux_places;
         device_places = inv.device_places;
         chips_are = ap length chips_new ∙ length-feed chip_table (to_those cr.hearing.items e) 0 chips ∙ inv.chips_are;
-        devices_are = ap length states_new ∙ length-feed device_table (to_those dr.hearing.items e) 0 states ∙ inv.devices_are;
+        devices_are = ap length states_new ∙ length-feed state_table (to_those dr.hearing.items e) 0 states ∙ inv.devices_are;
         chips_reached = rw (chips_new, rcs, rch) (reached-sent chip_table chips cr.started.items cr.hearing.items inv.chips_reached e);
-        devices_reached = rw (states_new, rds, rdh) (reached-sent device_table states dr.started.items dr.hearing.items inv.devices_reached e);
+        devices_reached = rw (states_new, rds, rdh) (reached-sent state_table states dr.started.items dr.hearing.items inv.devices_reached e);
+        reached_own = rw rds inv.reached_own;
       }
 
       pub sent-is : world_of b root new_chips new_states rc.hearing.items rd.hearing.items busy ≡ sent_on world e
       sent-is =
           let to_all = feed-same chip_table (to_chips world e) (to_those cr.hearing.items e) 0 chips (λ k at low. chip-hears world cr.hearing.items dr.hearing.items refl e k) in
-          let all_states = feed-same device_table (to_devices world e) (to_those dr.hearing.items e) 0 states (λ k at low. device-hears world cr.hearing.items dr.hearing.items refl e k) in
-          let all_devices : map target_state new_states ≡ feed state_table (to_devices world e) 0 (map target_state states) =
-          ap (map target_state) (states_new ∙ all_states) ∙ sym (feed-states (to_devices world e) 0 states) in
+          let all_devices : seen_on b root b.devices new_states ≡ feed state_table (to_devices world e) 0 (seen_on b root b.devices states) =
+          ap (seen_on b root b.devices) states_new ∙ sym (feed-seen b root (to_those dr.hearing.items e) (not_hearing e) states)
+          ∙ feed-same state_table (to_devices world e) (to_those dr.hearing.items e) 0 (seen_on b root b.devices states)
+          (λ k at low. device-hears world cr.hearing.items dr.hearing.items refl e k) in
           let all_chips = chips_new ∙ to_all in
-          rw (rch, rdh) (ap (λ (cs : List ChipView). record world { chips = cs; devices = map target_state new_states }) all_chips
+          rw (rch, rdh) (ap (λ (cs : List ChipView). record world { chips = cs; devices = seen_on b root b.devices new_states }) all_chips
           ∙ ap (λ (ds : List TargetState). record world { chips = feed chip_table (to_chips world e) 0 chips; devices = ds }) all_devices)
 
   -- a stop
-  module _ (new_chips : List ChipView) (new_states : List DeviceState)
+  module _ (new_chips : List ChipView) (new_states : List TargetState)
       (chips_new : new_chips ≡ feed chip_table (to_those (filter (joins_at chips muxes) cr.started.items) event.Stop) 0 chips)
-      (states_new : new_states ≡ feed device_table (to_those (filter (joins_at chips places) dr.started.items) event.Stop) 0 states) where
+      (states_new : new_states ≡ feed state_table (to_those (filter (joins_at chips places) dr.started.items) event.Stop) 0 states) where
     pub stopped-kept : ((y : ChipView) → IsQuiet chip_table (chip_after y event.Stop)) → (left_chips left_devices : Reach)
         → left_chips.started.items ≡ filter (λ k. not (joins_at chips muxes k)) cr.started.items → left_chips.hearing.items ≡ []
         → left_devices.started.items ≡ filter (λ k. not (joins_at chips places k)) dr.started.items → left_devices.hearing.items ≡ []
         → IsSimWorld b root muxes places new_chips new_states left_chips left_devices
     stopped-kept stops left_chips left_devices lc lch ld ldh =
         let kept_chips = reached-stopped chip_table chips cr.started.items cr.hearing.items inv.chips_reached (joins_at chips muxes) stops in
-        let kept_states = reached-stopped device_table states dr.started.items dr.hearing.items inv.devices_reached (joins_at chips places) device-stops in
+        let kept_states = reached-stopped state_table states dr.started.items dr.hearing.items inv.devices_reached (joins_at chips places) states_fair.stops in
         record {
           plain = inv.plain;
           mux_places = inv.mux_places;
           device_places = inv.device_places;
           chips_are = ap length chips_new ∙ length-feed chip_table (to_those (filter (joins_at chips muxes) cr.started.items) event.Stop) 0 chips ∙ inv.chips_are;
-          devices_are = ap length states_new ∙ length-feed device_table (to_those (filter (joins_at chips places) dr.started.items) event.Stop) 0 states ∙ inv.devices_are;
+          devices_are = ap length states_new ∙ length-feed state_table (to_those (filter (joins_at chips places) dr.started.items) event.Stop) 0 states ∙ inv.devices_are;
           chips_reached = rw (chips_new, lc, lch) kept_chips;
           devices_reached = rw (states_new, ld, ldh) kept_states;
+          reached_own = rw ld (λ k left. inv.reached_own k (filter-among (λ m. not (joins_at chips places m)) dr.started.items k left).0);
         }
 
     pub stopped-is : world_of b root new_chips new_states [] [] false ≡ after world call.Stop
@@ -131,12 +146,13 @@ module _ (b : BoardView) (root : ℕ) (muxes places : List PlaceView) (chips : L
         let all_chips = chips_new ∙ stopped-fed chip_table chips cr.started.items cr.hearing.items inv.chips_reached (joins_at chips muxes)
         ∙ feed-same chip_table (λ m. stop_event (joins_chip world m)) (λ k. stop_event (joins_at chips muxes k)) 0 chips
         (λ k at low. chip-stopped world muxes k inv.mux_places (low_chip k low)) in
-        let all_states = states_new ∙ stopped-fed device_table states dr.started.items dr.hearing.items inv.devices_reached (joins_at chips places)
-        ∙ feed-same device_table (λ d. stop_event (joins_device world d)) (λ k. stop_event (joins_at chips places k)) 0 states
+        let all_states = states_new ∙ stopped-fed state_table states dr.started.items dr.hearing.items inv.devices_reached (joins_at chips places) in
+        let all_devices : seen_on b root b.devices new_states ≡ feed state_table (λ d. stop_event (joins_device world d)) 0 (seen_on b root b.devices states) =
+        ap (seen_on b root b.devices) all_states
+        ∙ sym (feed-seen b root (λ k. stop_event (joins_at chips places k)) (λ k other. ap stop_event (not_joined k other)) states)
+        ∙ feed-same state_table (λ d. stop_event (joins_device world d)) (λ k. stop_event (joins_at chips places k)) 0 (seen_on b root b.devices states)
         (λ k at low. device-stopped world places k inv.device_places (low_device k low)) in
-        let all_devices : map target_state new_states ≡ feed state_table (λ d. stop_event (joins_device world d)) 0 (map target_state states) =
-        ap (map target_state) all_states ∙ sym (feed-states (λ d. stop_event (joins_device world d)) 0 states) in
-        ap (λ (cs : List ChipView). record world { chips = cs; devices = map target_state new_states; hearing = []; busy = false }) all_chips
+        ap (λ (cs : List ChipView). record world { chips = cs; devices = seen_on b root b.devices new_states; hearing = []; busy = false }) all_chips
         ∙ ap (λ (ds : List TargetState). record world { chips = feed chip_table (λ m. stop_event (joins_chip world m)) 0 chips; devices = ds; hearing = []; busy = false }) all_devices
 
   -- a start
@@ -145,7 +161,7 @@ module _ (b : BoardView) (root : ℕ) (muxes places : List PlaceView) (chips : L
     chips_said = answers chip_table (to_those (addressed chips muxes a) (event.Start reading)) 0 chips
 
     abbrev states_said : List (ℕ × Answer)
-    states_said = answers device_table (to_those (addressed chips places a) (event.Start reading)) 0 states
+    states_said = answers state_table (to_those (addressed chips places a) (event.Start reading)) 0 states
 
     muxes_count : length muxes ≡ length chips
     muxes_count = ap length inv.mux_places ∙ length-map b.muxes (mux_place b root) ∙ sym inv.chips_are
@@ -165,6 +181,19 @@ module _ (b : BoardView) (root : ℕ) (muxes places : List PlaceView) (chips : L
     pub other-devices : AreRising 0 (length states) (others chips places a dr.started.items)
     other-devices = rising-filter (λ k. not (has_at a places k) && joins_at chips places k) 0 (length states) dr.started.items inv.devices_reached.started_rise
 
+    not_started : (k : ℕ) → is_own b root k ≡ false → start_event (joins_at chips places k) (has_at a places k) reading ≡ None
+    not_started k other = ap (λ j. start_event j (has_at a places k) reading) (not_joined k other)
+
+    started_own : (k : ℕ) → is_among (union_of (length states) dr.started.items (addressed chips places a)) k ≡ true → is_own b root k ≡ true
+    started_own k among =
+        elim (or_cases (is_among dr.started.items k) (is_among (addressed chips places a) k)
+        (filter-among (λ m. is_among dr.started.items m || is_among (addressed chips places a) m) (range_with_len 0 (length states)) k among).1) [
+          | inl before ↦ inv.reached_own k before
+          | inr called ↦ joined-own b root places inv.device_places k chips
+              (and_true (has_at a places k) (joins_at chips places k)
+              (filter-among (λ m. has_at a places m && joins_at chips places m) (range_with_len 0 (length places)) k called).1).1
+        ]
+
     module _ {A : Type 0} (R : List (ℕ × Answer) → A) (step : ℕ × Answer → A → A)
         (is : (x : ℕ × Answer) (ys : List (ℕ × Answer)) → R (x ∷ ys) ≡ step x (R ys))
         (silent : (k : ℕ) (ys : List (ℕ × Answer)) → R ((k, Nothing) ∷ ys) ≡ R ys) where
@@ -176,10 +205,10 @@ module _ (b : BoardView) (root : ℕ) (muxes places : List PlaceView) (chips : L
 
       states_read : R states_said ≡ R (start_devices world a reading)
       states_read =
-          started-heard device_table states dr.started.items dr.hearing.items inv.devices_reached chips places a reading places_count R step is silent device-nothing
-          ∙ ap R (answers-same device_table (device_start world a reading) (λ k. start_event (joins_at chips places k) (has_at a places k) reading) 0 states
-          (λ k at low. device-started world places k inv.device_places (low_device k low) a reading)
-          ∙ sym (answers-states (device_start world a reading) 0 states))
+          started-heard state_table states dr.started.items dr.hearing.items inv.devices_reached chips places a reading places_count R step is silent states_fair.other
+          ∙ ap R (sym (answers-seen b root (λ k. start_event (joins_at chips places k) (has_at a places k) reading) not_started states inv.devices_are)
+          ∙ answers-same state_table (device_start world a reading) (λ k. start_event (joins_at chips places k) (has_at a places k) reading) 0 (seen_on b root b.devices states)
+          (λ k at low. device-started world places k inv.device_places (low_device k low) a reading))
 
     some_chips : (test : Answer → Bool) → test Nothing ≡ false → some_answer test chips_said ≡ some_answer test (start_chips world a reading)
     some_chips test none = chips_read (some_answer test) (λ x r. test x.1 || r) (λ x ys. refl) (λ k ys. rw none refl)
@@ -205,26 +234,27 @@ module _ (b : BoardView) (root : ℕ) (muxes places : List PlaceView) (chips : L
         ∙ ap (nodes_of (numbers_of (start_chips world a reading))) (states_read numbers_of (λ x r. if has_heard x.1 then x.0 ∷ r else r) (λ x ys. refl) (λ k ys. refl))
         ∙ sym (hearers_told world a reading)
 
-    module _ (new_chips : List ChipView) (new_states : List DeviceState) (rc rd : Reach)
+    module _ (new_chips : List ChipView) (new_states : List TargetState) (rc rd : Reach)
         (chips_new : new_chips ≡ feed chip_table (to_those (others chips muxes a cr.started.items) event.Other) 0 (feed chip_table (to_those (addressed chips muxes a) (event.Start reading)) 0 chips))
-        (states_new : new_states ≡ feed device_table (to_those (others chips places a dr.started.items) event.Other) 0 (feed device_table (to_those (addressed chips places a) (event.Start reading)) 0 states))
+        (states_new : new_states ≡ feed state_table (to_those (others chips places a dr.started.items) event.Other) 0 (feed state_table (to_those (addressed chips places a) (event.Start reading)) 0 states))
         (rc_heard : rc.hearing.items ≡ numbers_of chips_said) (rd_heard : rd.hearing.items ≡ numbers_of states_said) where
       pub started-kept : rc.started.items ≡ union_of (length chips) cr.started.items (addressed chips muxes a)
           → rd.started.items ≡ union_of (length states) dr.started.items (addressed chips places a)
           → IsSimWorld b root muxes places new_chips new_states rc rd
       started-kept rc_started rd_started =
           let kept_chips = reached-started chip_table chips cr.started.items cr.hearing.items inv.chips_reached chips muxes a reading muxes_count in
-          let kept_states = reached-started device_table states dr.started.items dr.hearing.items inv.devices_reached chips places a reading places_count in
+          let kept_states = reached-started state_table states dr.started.items dr.hearing.items inv.devices_reached chips places a reading places_count in
           record {
             plain = inv.plain;
             mux_places = inv.mux_places;
             device_places = inv.device_places;
             chips_are = ap length (chips_new ∙ started-fed chip_table chips cr.started.items cr.hearing.items inv.chips_reached chips muxes a reading muxes_count)
                 ∙ length-feed chip_table (λ k. start_event (joins_at chips muxes k) (has_at a muxes k) reading) 0 chips ∙ inv.chips_are;
-            devices_are = ap length (states_new ∙ started-fed device_table states dr.started.items dr.hearing.items inv.devices_reached chips places a reading places_count)
-                ∙ length-feed device_table (λ k. start_event (joins_at chips places k) (has_at a places k) reading) 0 states ∙ inv.devices_are;
+            devices_are = ap length (states_new ∙ started-fed state_table states dr.started.items dr.hearing.items inv.devices_reached chips places a reading places_count)
+                ∙ length-feed state_table (λ k. start_event (joins_at chips places k) (has_at a places k) reading) 0 states ∙ inv.devices_are;
             chips_reached = rw (chips_new, rc_started, rc_heard) kept_chips;
             devices_reached = rw (states_new, rd_started, rd_heard) kept_states;
+            reached_own = rw rd_started started_own;
           }
 
       pub started-is : world_of b root new_chips new_states rc.hearing.items rd.hearing.items true ≡ after world (call.Start a reading)
@@ -232,12 +262,13 @@ module _ (b : BoardView) (root : ℕ) (muxes places : List PlaceView) (chips : L
           let all_chips = chips_new ∙ started-fed chip_table chips cr.started.items cr.hearing.items inv.chips_reached chips muxes a reading muxes_count
           ∙ feed-same chip_table (chip_start world a reading) (λ k. start_event (joins_at chips muxes k) (has_at a muxes k) reading) 0 chips
           (λ k at low. chip-started world muxes k inv.mux_places (low_chip k low) a reading) in
-          let all_states = states_new ∙ started-fed device_table states dr.started.items dr.hearing.items inv.devices_reached chips places a reading places_count
-          ∙ feed-same device_table (device_start world a reading) (λ k. start_event (joins_at chips places k) (has_at a places k) reading) 0 states
+          let all_states = states_new ∙ started-fed state_table states dr.started.items dr.hearing.items inv.devices_reached chips places a reading places_count in
+          let all_devices : seen_on b root b.devices new_states ≡ feed state_table (device_start world a reading) 0 (seen_on b root b.devices states) =
+          ap (seen_on b root b.devices) all_states
+          ∙ sym (feed-seen b root (λ k. start_event (joins_at chips places k) (has_at a places k) reading) not_started states)
+          ∙ feed-same state_table (device_start world a reading) (λ k. start_event (joins_at chips places k) (has_at a places k) reading) 0 (seen_on b root b.devices states)
           (λ k at low. device-started world places k inv.device_places (low_device k low) a reading) in
-          let all_devices : map target_state new_states ≡ feed state_table (device_start world a reading) 0 (map target_state states) =
-          ap (map target_state) all_states ∙ sym (feed-states (device_start world a reading) 0 states) in
           let heard : nodes_of rc.hearing.items rd.hearing.items ≡ hearers world a reading = rw (rc_heard, rd_heard) started-hearing in
-          ap (λ (cs : List ChipView). record world { chips = cs; devices = map target_state new_states; hearing = nodes_of rc.hearing.items rd.hearing.items; busy = true }) all_chips
+          ap (λ (cs : List ChipView). record world { chips = cs; devices = seen_on b root b.devices new_states; hearing = nodes_of rc.hearing.items rd.hearing.items; busy = true }) all_chips
           ∙ ap (λ (ds : List TargetState). record world { chips = feed chip_table (chip_start world a reading) 0 chips; devices = ds; hearing = nodes_of rc.hearing.items rd.hearing.items; busy = true }) all_devices
-          ∙ ap (λ (hs : List Node). record world { chips = feed chip_table (chip_start world a reading) 0 chips; devices = feed state_table (device_start world a reading) 0 (map target_state states); hearing = hs; busy = true }) heard
+          ∙ ap (λ (hs : List Node). record world { chips = feed chip_table (chip_start world a reading) 0 chips; devices = feed state_table (device_start world a reading) 0 (seen_on b root b.devices states); hearing = hs; busy = true }) heard

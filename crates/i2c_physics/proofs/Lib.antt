@@ -2,6 +2,7 @@ pub mod DeviceLemmas
 pub mod FeedLemmas
 pub mod LineLemmas
 pub mod NumberLemmas
+pub mod OwnLemmas
 pub mod PlaceLemmas
 pub mod PlugLemmas
 pub mod ReachLemmas

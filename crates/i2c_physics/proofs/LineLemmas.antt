@@ -1,22 +1,20 @@
--- A line is set: a chip that was quiet stays so, and the program's chips are as they are opened.
-use Rattle.std.proofs.Common.{◌≡◌, ◌≢◌, ℕ, zero, suc, ◌<◌, Bool, true, false, List, [], ◌∷◌, length, map, set, Option, Some, None, refl, sym, ◌∙◌, ap, subst, inl, inr, arith}
+-- A line is set: a chip that was quiet stays so, and the program's chips and devices are as they are opened.
+use Rattle.std.proofs.Common.{◌≡◌, ◌≢◌, ℕ, zero, suc, ◌<◌, ◌≤◌, Bool, true, false, List, [], ◌∷◌, length, map, set, Option, Some, None, refl, sym, ◌∙◌, ap, subst, inl, inr, arith}
 use Rattle.std.specs.Prelude.{not, if◌then◌else◌, slice_get}
 use Rattle.std.specs.Option.{option_map}
 use Rattle.std.proofs.lemmas.List.{length-map, length-set}
 use Rattle.std.proofs.lemmas.Bool.Decides.{eqb_tells}
 use Rattle.std.proofs.lemmas.Option.{slice_get-map, slice_get_cases}
 use Rattle.i2c_base.specs.Muxes.{facts_of}
-use Rattle.i2c_base.specs.declared.board.MuxSpec.{MuxSpec}
-use Rattle.i2c_base.specs.Board.{BoardView, DeviceView}
+use Rattle.i2c_base.specs.Board.{BoardView}
 use Rattle.i2c_base.specs.Table.{Table}
-use Rattle.i2c_spec.specs.Plain.{IsPlainBoard}
 use Rattle.i2c_spec.specs.Chips.{ChipView, chip_table, chip_opening, at_level, stopped, arbitrated, is_free, kept_bits, bit_of}
-use Rattle.i2c_spec.specs.Targets.{IsQuiet, state_table, opening_state}
-use Rattle.i2c_spec.specs.World.{set_level}
-use Rattle.i2c_outside.specs.declared.device.DeviceState.{DeviceState}
-use Rattle.i2c_outside.specs.Devices.{target_state, device_table}
+use Rattle.i2c_spec.specs.Targets.{TargetState, IsQuiet}
+use Rattle.i2c_spec.specs.World.{set_level, opening_world}
 use Rattle.i2c_physics.specs.Reach.{IsReach}
-use Rattle.i2c_physics.proofs.DeviceLemmas.{quiet-device}
+use Rattle.i2c_physics.specs.SimWorlds.{opened_on}
+use Rattle.i2c_physics.proofs.FeedLemmas.{world_of}
+use Rattle.i2c_physics.proofs.OwnLemmas.{seen-opened}
 
 some_same : {A : Type 0} {x y : A} → Some x ≡ Some y → x ≡ y
 some_same e = cc
@@ -57,30 +55,24 @@ of_map P f xs k y is each =
       | inr none ↦ absurd (let e : None ≡ Some y = ap (option_map f) (sym none.1) ∙ sym (slice_get-map f xs k) ∙ is in cc)
     ]
 
-pub opened-chips : (b : BoardView) (chips : List ChipView) (started hearing : List ℕ) → IsPlainBoard b → chips ≡ map chip_opening b.muxes
-    → ((m : MuxSpec) → IsQuiet chip_table (chip_opening m)) → started ≡ [] → hearing ≡ [] → IsReach chip_table chips started hearing
-opened-chips b chips started hearing plain are quiet none deaf =
-    let count = ap length are ∙ length-map b.muxes chip_opening in
+-- targets as they are opened: no message has reached them
+pub opened-reach : {D X : Type 0} (t : Table X) (opens : D → X) (ds : List D) (xs : List X) (started hearing : List ℕ) → length ds ≤ 128 → xs ≡ map opens ds
+    → ((d : D) → IsQuiet t (opens d)) → started ≡ [] → hearing ≡ [] → IsReach t xs started hearing
+opened-reach t opens ds xs started hearing few are quiet none deaf =
+    let count = ap length are ∙ length-map ds opens in
     rw (none, deaf) (record {
-      few = omega (arith, count, plain.most_muxes);
+      few = omega (arith, count, few);
       started_rise = tt;
       hearing_rise = tt;
       hearing_started = λ k h. h;
-      quiet = λ k x is out. of_map (IsQuiet chip_table) chip_opening b.muxes k x (sym (ap (λ cs. slice_get cs k) are) ∙ is) quiet;
+      quiet = λ k x is out. of_map (IsQuiet t) opens ds k x (sym (ap (λ ys. slice_get ys k) are) ∙ is) quiet;
     })
 
-pub opened-devices : (b : BoardView) (states : List DeviceState) (started hearing : List ℕ) → IsPlainBoard b → map target_state states ≡ map opening_state b.devices
-    → ((d : DeviceView) → IsQuiet state_table (opening_state d)) → started ≡ [] → hearing ≡ [] → IsReach device_table states started hearing
-opened-devices b states started hearing plain are quiet none deaf =
-    let count = sym (length-map states target_state) ∙ ap length are ∙ length-map b.devices opening_state in
-    rw (none, deaf) (record {
-      few = omega (arith, count, plain.most_devices);
-      started_rise = tt;
-      hearing_rise = tt;
-      hearing_started = λ k h. h;
-      quiet = λ k x is out. quiet-device x (of_map (IsQuiet state_table) opening_state b.devices k (target_state x)
-          (sym (ap (λ ts. slice_get ts k) are) ∙ slice_get-map target_state states k ∙ ap (option_map target_state) is) quiet);
-    })
+pub opened-is : (b : BoardView) (root : ℕ) (chips : List ChipView) (states : List TargetState) (heard_chips heard_devices : List ℕ)
+    → chips ≡ map chip_opening b.muxes → states ≡ map (opened_on b root) b.devices → heard_chips ≡ [] → heard_devices ≡ []
+    → world_of b root chips states heard_chips heard_devices false ≡ opening_world b root
+opened-is b root chips states heard_chips heard_devices are states_are deaf_chips deaf_devices =
+    rw (deaf_chips, deaf_devices, are, seen-opened b root b.devices states states_are) refl
 
 got_set : {A : Type 0} (xs : List A) (i : ℕ) (y : A) → i < length xs → slice_get (set xs i y) i ≡ Some y
 got_set [] i y low = absurd (omega arith)

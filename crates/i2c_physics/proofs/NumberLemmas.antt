@@ -99,6 +99,13 @@ pub among-filter : (p : ℕ → Bool) (ns : List ℕ) (k : ℕ) → is_among (fi
 among-filter p [] k = refl
 among-filter p (n ∷ ns) k = among_if p (p n) n k ns (filter p ns) refl (among-filter p ns k)
 
+pub and_true : (b c : Bool) → (b && c) ≡ true → (b ≡ true) × (c ≡ true)
+and_true true c e = (refl, e)
+and_true false c e = absurd (let f : true ≡ false = sym e in cc)
+
+pub filter-among : (p : ℕ → Bool) (ns : List ℕ) (k : ℕ) → is_among (filter p ns) k ≡ true → (is_among ns k ≡ true) × (p k ≡ true)
+filter-among p ns k among = and_true (is_among ns k) (p k) (sym (among-filter p ns k) ∙ among)
+
 among_from : (low n k : ℕ) → low ≤ k → k < low + n → is_among (range_with_len low n) k ≡ true
 among_from low zero k at below = absurd (omega arith)
 among_from low (suc n) k at below =
@@ -154,10 +161,6 @@ either_none count (n ∷ none) ns empty r = absurd (omega arith)
 or_none : (b : Bool) → (b || false) ≡ b
 or_none true = refl
 or_none false = refl
-
-and_true : (b c : Bool) → (b && c) ≡ true → (b ≡ true) × (c ≡ true)
-and_true true c e = (refl, e)
-and_true false c e = absurd (let f : true ≡ false = sym e in cc)
 
 or_has : (ns ms : List ℕ) → list_all (is_among ns) ms ≡ true → (k : ℕ) → (is_among ns k || is_among ms k) ≡ is_among ns k
 or_has ns [] all k = or_none (is_among ns k)

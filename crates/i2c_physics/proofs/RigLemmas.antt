@@ -1,12 +1,12 @@
 -- The devices that a rig keeps are those that the worlds leave. The induction goes over the devices, the first being
 -- number k.
-use Rattle.std.proofs.Common.{◌≡◌, ℕ, suc, ◌+◌, ◌<◌, List, [], ◌∷◌, ◌++◌, length, map, Option, Some, None, refl, sym, ◌∙◌, ap, arith, inl, inr, add-zero, zero-add, append_assoc}
-use Rattle.std.specs.Prelude.{All, IsSome, slice_get, slice_index, unwrap_or, option_to_list}
+use Rattle.std.proofs.Common.{◌≡◌, ℕ, suc, ◌+◌, ◌<◌, Bool, true, false, List, [], ◌∷◌, ◌++◌, length, map, get_or, Option, Some, None, refl, sym, ◌∙◌, ap, arith, inl, inr, add-zero, zero-add, append_assoc}
+use Rattle.std.specs.Prelude.{All, IsSome, if◌then◌else◌, slice_get, slice_index, unwrap_or, option_to_list}
 use Rattle.std.specs.Option.{option_map_or}
 use Rattle.std.specs.List.{range_with_len}
-use Rattle.std.proofs.lemmas.List.{length-map, map-append, length-append}
+use Rattle.std.proofs.lemmas.List.{length-map, map-append, length-append, get_or-map}
 use Rattle.std.proofs.lemmas.List.Elements.{All-head, All-tail, All-get_or}
-use Rattle.std.proofs.lemmas.List.FromFn.{length-range_with_len}
+use Rattle.std.proofs.lemmas.List.FromFn.{length-range_with_len, get_or-range_with_len}
 use Rattle.std.proofs.lemmas.Option.{slice_get_cases}
 use Rattle.i2c_base.specs.Board.{BoardView, DeviceView}
 use Rattle.i2c_spec.specs.Plain.{IsPlainBoard}
@@ -16,7 +16,9 @@ use Rattle.i2c_spec.specs.World.{World, AreWorldsOf, device_in, devices_of}
 use Rattle.i2c_spec.proofs.TreeLemmas.{tree_root_is}
 use Rattle.i2c_outside.specs.Devices.{target_state}
 use Rattle.i2c_outside.specs.declared.device.DeviceState.{DeviceState}
-use Rattle.i2c_physics.specs.SimRigs.{device_of, state_at, states_from, IsThere}
+use Rattle.i2c_physics.specs.SimRigs.{device_of, owns, state_at, states_from, IsThere}
+use Rattle.i2c_physics.specs.SimWorlds.{is_own}
+use Rattle.i2c_physics.proofs.TogetherLemmas.{same_number}
 
 -- these devices are those of the board from number k on
 abbrev AreFrom : BoardView → ℕ → List DeviceView → Type 0
@@ -39,32 +41,49 @@ one_there : (x : Option TargetState) → IsSome x → option_to_list x ≡ unwra
 one_there None h = cc
 one_there (Some x) h = refl
 
+own_there : (own : Bool) (x : Option TargetState) → IsSome (if own then x else None)
+    → option_to_list (if own then x else None) ≡ unwrap_or x Silent ∷ []
+own_there true x h = one_there x h
+own_there false x h = cc
+
 device_there : (o : Option World) (k : ℕ) → IsSome (device_of o k)
     → option_to_list (device_of o k) ≡ option_map_or (λ w. unwrap_or (slice_get w.devices k) Silent) o Silent ∷ []
 device_there None k h = cc
-device_there (Some w) k h = one_there (slice_get w.devices k) h
+device_there (Some w) k h = own_there (owns w k) (slice_get w.devices k) h
 
-is_there : (b : BoardView) (ws : List World) (home k : ℕ) → AreWorldsOf b ws → home < length b.roots → k < length b.devices
+root_at : (b : BoardView) (ws : List World) (home : ℕ) (w : World) → AreWorldsOf b ws → home < length b.roots → get_or ws home w ≡ w → w.root ≡ home
+root_at b ws home w of low is =
+    ap (λ v. v.root) (sym is) ∙ sym (get_or-map (λ v. v.root) ws home w 0 (omega (arith, count_of_worlds b ws of)))
+    ∙ ap (λ rs. get_or rs home 0) of.roots ∙ get_or-range_with_len 0 (length b.roots) home 0 low ∙ zero-add home
+
+is_there : (b : BoardView) (ws : List World) (home k : ℕ) → AreWorldsOf b ws → home < length b.roots → is_own b home k ≡ true
     → IsThere ws home k → IsSome (state_at ws home k)
-is_there b ws home k of h g there =
+is_there b ws home k of h own there =
     elim (slice_get_cases ws home).1 [
-      | inl x ↦ there x.0 x.2 (let same : x.0.board ≡ b = rw x.3 at (All-get_or (λ w. w.board ≡ b) ws home x.0 x.1 of.boards) in rw same g)
+      | inl x ↦ there x.0 x.2 (
+          let board : x.0.board ≡ b = rw x.3 at (All-get_or (λ w. w.board ≡ b) ws home x.0 x.1 of.boards) in
+          let root = root_at b ws home x.0 of h x.3 in
+          rw (board, root) own)
       | inr x ↦ absurd (omega (arith, count_of_worlds b ws of))
     ]
 
+-- a device is of the root that its bus hangs from
+own_root : (b : BoardView) (k : ℕ) (d : DeviceView) → slice_get b.devices k ≡ Some d → is_own b (root_of b d.bus) k ≡ true
+own_root b k d is = rw is (same_number (root_of b d.bus))
+
 states_are : (b : BoardView) (ws : List World) (k : ℕ) (ds : List DeviceView) → IsPlainBoard b → AreWorldsOf b ws
-    → AreFrom b k ds → All (λ d. d.bus < buses b) ds → k + length ds ≡ length b.devices
+    → AreFrom b k ds → All (λ d. d.bus < buses b) ds
     → ((i : ℕ) → i < length ds → IsThere ws (slice_index (map (λ d. root_of b d.bus) ds) i) (k + i))
     → states_from k (map (λ d. root_of b d.bus) ds) ws
     ≡ map (λ d. device_in ws (root_of b (of_device (λ x. x.bus) 0 b d)) d) (range_with_len k (length ds))
-states_are b ws k [] plain of from placed count there = refl
-states_are b ws k (d ∷ ds) plain of from placed count there =
+states_are b ws k [] plain of from placed there = refl
+states_are b ws k (d ∷ ds) plain of from placed there =
     let low : root_of b d.bus < length b.roots = tree_root_is b plain.planted d.bus (All-head (λ d. d.bus < buses b) d ds placed) in
     let first : IsThere ws (root_of b d.bus) k = rw add-zero at (there 0 (omega arith)) in
-    let some = is_there b ws (root_of b d.bus) k of low (omega arith) first in
+    let some = is_there b ws (root_of b d.bus) k of low (own_root b k d (here b k d ds from)) first in
     let one = device_there (slice_get ws (root_of b d.bus)) k some in
     let bus : of_device (λ x. x.bus) 0 b k ≡ d.bus = rw (here b k d ds from) refl in
-    let rest = states_are b ws (k + 1) ds plain of (next b k d ds from) (All-tail (λ d. d.bus < buses b) d ds placed) (omega arith)
+    let rest = states_are b ws (k + 1) ds plain of (next b k d ds from) (All-tail (λ d. d.bus < buses b) d ds placed)
     (λ i h. let e : k + 1 + i ≡ k + suc i = omega arith in rw e (there (suc i) (omega arith))) in
     rw (one, bus, rest) refl
 
@@ -72,7 +91,7 @@ kept-devices : (b : BoardView) (ws : List World) → IsPlainBoard b → AreWorld
     → ((i : ℕ) → i < length b.devices → IsThere ws (slice_index (map (λ d. root_of b d.bus) b.devices) i) i)
     → states_from 0 (map (λ d. root_of b d.bus) b.devices) ws ≡ devices_of b ws
 kept-devices b ws plain of there =
-    states_are b ws 0 b.devices plain of (λ i. rw zero-add refl) plain.placed (zero-add (length b.devices)) (λ i h. rw zero-add (there i h))
+    states_are b ws 0 b.devices plain of (λ i. rw zero-add refl) plain.placed (λ i h. rw zero-add (there i h))
 
 -- as of the fields of the room
 pub devices-kept : (b : BoardView) (homes : List ℕ) (old new : List DeviceState) (ws : List World)

@@ -1,14 +1,15 @@
 -- Worlds of which a device was taken out: each other device is as it was. The inductions go over the worlds.
-use Rattle.std.proofs.Common.{◌≡◌, ℕ, zero, suc, ◌+◌, ◌<◌, ◌≤◌, List, [], ◌∷◌, ◌++◌, length, map, drop, set, get_or, append_assoc, Option, Some, None, refl, sym, ◌∙◌, ap, subst, arith}
+use Rattle.std.proofs.Common.{◌≡◌, ℕ, zero, suc, ◌+◌, ◌<◌, ◌≤◌, Bool, true, false, List, [], ◌∷◌, ◌++◌, length, map, drop, set, get_or, append_assoc, Option, Some, None, refl, sym, ◌∙◌, ap, subst, arith}
 use Rattle.std.specs.Option.{option_map}
-use Rattle.std.specs.Prelude.{IsSome, slice_get, option_to_list, unwrap_or}
+use Rattle.std.specs.Prelude.{IsSome, if◌then◌else◌, slice_get, option_to_list, unwrap_or}
 use Rattle.i2c_spec.specs.Targets.{TargetState, Silent}
 use Rattle.i2c_spec.specs.World.{World}
-use Rattle.std.proofs.lemmas.List.{map-append, map-set}
+use Rattle.std.proofs.lemmas.List.{map-append}
 use Rattle.i2c_outside.specs.Devices.{target_state}
 use Rattle.i2c_outside.specs.declared.device.DeviceState.{DeviceState}
-use Rattle.i2c_outside.specs.declared.device.DeviceState.TheVariants as device
-use Rattle.i2c_physics.specs.SimRigs.{state_at, states_from, taken_out, without, IsThere}
+use Rattle.i2c_physics.specs.SimRigs.{own_device, owns, state_at, states_from, taken_out, without, IsThere}
+use Rattle.i2c_physics.specs.SimWorlds.{seen_on}
+use Rattle.i2c_physics.proofs.OwnLemmas.{seen-get, seen-set}
 
 get-set_other : {A : Type 0} (xs : List A) (k j : ℕ) (x : A) → (j ≡ k → ⊥) → slice_get (set xs k x) j ≡ slice_get xs j
 get-set_other [] k j x other = refl
@@ -24,9 +25,21 @@ get-set_some (y ∷ ys) zero (suc j) x some = some
 get-set_some (y ∷ ys) (suc k) zero x some = some
 get-set_some (y ∷ ys) (suc k) (suc j) x some = get-set_some ys k j x some
 
+-- of a world; where the device is of another root nothing is taken out
+others_stay : {A : Type 0} (taken : Bool) (xs : List A) (k j : ℕ) (x : A) → (j ≡ k → ⊥) → slice_get (if taken then set xs k x else xs) j ≡ slice_get xs j
+others_stay true xs k j x other = get-set_other xs k j x other
+others_stay false xs k j x other = refl
+
+some_before : {A : Type 0} (taken own : Bool) (xs : List A) (k j : ℕ) (x : A) → IsSome (if own then slice_get (if taken then set xs k x else xs) j else None)
+    → IsSome (if own then slice_get xs j else None)
+some_before true true xs k j x some = get-set_some xs k j x some
+some_before false true xs k j x some = some
+some_before taken false xs k j x some = some
+
 other_at : (ws : List World) (home k h j : ℕ) → (j ≡ k → ⊥) → state_at (taken_out ws home k) h j ≡ state_at ws h j
 other_at [] home k h j other = refl
-other_at (w ∷ ws) zero k zero j other = get-set_other w.devices k j Silent other
+other_at (w ∷ ws) zero k zero j other =
+    ap (λ o. if owns w j then o else None) (others_stay (owns w k) w.devices k j Silent other)
 other_at (w ∷ ws) zero k (suc h) j other = refl
 other_at (w ∷ ws) (suc home) k zero j other = refl
 other_at (w ∷ ws) (suc home) k (suc h) j other = other_at ws home k h j other
@@ -48,7 +61,7 @@ some_is v w e = ap (λ o. unwrap_or o v) e
 there_before : (ws : List World) (home k h j : ℕ) → IsThere (taken_out ws home k) h j → IsThere ws h j
 there_before [] home k h j there = there
 there_before (v ∷ ws) zero k zero j there =
-    λ w at few. get-set_some v.devices k j Silent (there (without v k) refl (rw (some_is v w at) few))
+    λ w at own. some_before (owns v k) (owns v j) v.devices k j Silent (there (without v k) refl (rw (some_is v w at) own))
 there_before (v ∷ ws) zero k (suc h) j there = there
 there_before (v ∷ ws) (suc home) k zero j there = there
 there_before (v ∷ ws) (suc home) k (suc h) j there = there_before ws home k h j there
@@ -69,7 +82,7 @@ one-taken f (p ∷ ps) zero k d new low is = ap (λ (w : World). w ∷ map f ps)
 one-taken f (p ∷ ps) (suc home) k d new low is = ap (λ (ws : List World). f p ∷ ws) (one-taken f ps home k d new (omega arith) is)
 
 pub at-home : {P : Type 0} (f : P → World) (ps : List P) (home k : ℕ) (d : P) → home < length ps
-    → slice_get (f (get_or ps home d)).devices k ≡ state_at (map f ps) home k
+    → own_device (f (get_or ps home d)) k ≡ state_at (map f ps) home k
 at-home f [] home k d low = absurd (omega arith)
 at-home f (p ∷ ps) zero k d low = refl
 at-home f (p ∷ ps) (suc home) k d low = at-home f ps home k d (omega arith)
@@ -80,12 +93,17 @@ is-home f [] home d w low at = absurd (omega arith)
 is-home f (p ∷ ps) zero d w low at = some_is (f p) w at
 is-home f (p ∷ ps) (suc home) d w low at = is-home f ps home d w (omega arith) at
 
--- a world whose devices are these, once one was taken out
-pub without-is : (w : World) (ds new : List DeviceState) (k : ℕ) → map target_state ds ≡ w.devices → new ≡ set ds k device.Silent
-    → record w { devices = map target_state new } ≡ without w k
-without-is w ds new k are is =
-    ap (λ (xs : List TargetState). record w { devices = xs })
-    (ap (map target_state) is ∙ map-set target_state ds k device.Silent ∙ ap (λ (xs : List TargetState). set xs k Silent) are)
+-- a world that has its devices so, once one of its own was taken out
+module _ (w : World) (k : ℕ) (states : List TargetState) (are : w.devices ≡ seen_on w.board w.root w.board.devices states) (own : owns w k ≡ true) where
+  pub own-is : (s : TargetState) → length states ≡ length w.board.devices → own_device w k ≡ Some (get_or states k s)
+  own-is s count = rw own (ap (λ ts. slice_get ts k) are ∙ seen-get w.board w.root w.board.devices states k s count own)
+
+  pub without-is : (new : List TargetState) → new ≡ set states k Silent
+      → record w { devices = seen_on w.board w.root w.board.devices new } ≡ without w k
+  without-is new is =
+      rw own (ap (λ (ts : List TargetState). record w { devices = ts })
+      (ap (seen_on w.board w.root w.board.devices) is ∙ seen-set w.board w.root w.board.devices states k Silent own
+      ∙ ap (λ (ts : List TargetState). set ts k Silent) (sym are)))
 
 pub some_mapped : {A B : Type 0} (f : A → B) (o : Option A) → IsSome o → IsSome (option_map f o)
 some_mapped f None some = some

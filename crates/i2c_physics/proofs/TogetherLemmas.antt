@@ -18,7 +18,7 @@ use Rattle.i2c_physics.proofs.NumberLemmas.{rising-apart, rising-drop}
 pub listed_more : {X : Type 0} (f : ℕ → X) (n : ℕ) → map f (range_with_len 0 (n + 1)) ≡ map f (range_with_len 0 n) ++ f n ∷ []
 listed_more f n = map-range_with_len_more f 0 n n (omega arith)
 
-same_number : (n : ℕ) → (n == n) ≡ true
+pub same_number : (n : ℕ) → (n == n) ≡ true
 same_number n = elim (eqb_tells n n) [ inl x ↦ x.0 | inr x ↦ absurd (x.1 refl) ]
 
 module _ {X : Type 0} (t : Table X) where

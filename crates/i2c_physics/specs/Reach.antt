@@ -22,9 +22,12 @@ AreRising low high (n ∷ ns) = (low ≤ n) × (n < high) × AreRising (n + 1) h
 abbrev pub to_those : List ℕ → Event → ℕ → Option Event
 to_those numbers e k = event_if (is_among numbers k) e
 
--- by number: the target is joined to the wires; it has this address
+-- by number: the target is joined to the wires; it is there, on a bus of the root; it has this address
 abbrev pub joins_at : List ChipView → List PlaceView → ℕ → Bool
 joins_at chips places k = option_map_or (joins chips) (slice_get places k) false
+
+abbrev pub wired_at : List PlaceView → ℕ → Bool
+wired_at places k = option_map_or (λ p. p.wired) (slice_get places k) false
 
 abbrev pub has_at : ℕ → List PlaceView → ℕ → Bool
 has_at a places k = option_map_or (λ p. has_address a p.addr) (slice_get places k) false

@@ -1,5 +1,5 @@
 -- What the rig keeps of the ports that are given back.
-use Rattle.std.specs.Prelude.{◌≡◌, ℕ, zero, suc, ◌+◌, ◌<◌, ◌≤◌, List, [], ◌∷◌, ◌++◌, length, map, Option, Some, None, IsSome, slice_get, slice_set, option_to_list, replicate}
+use Rattle.std.specs.Prelude.{◌≡◌, ℕ, zero, suc, ◌+◌, ◌≤◌, Bool, true, List, [], ◌∷◌, ◌++◌, length, map, Option, Some, None, IsSome, slice_get, slice_set, option_to_list, replicate, if◌then◌else◌}
 use Rattle.i2c_base.specs.declared.port.PortCall.{PortCall}
 use Rattle.i2c_base.specs.Board.{BoardView}
 use Rattle.i2c_spec.specs.Plain.{IsPlainBoard}
@@ -7,12 +7,20 @@ use Rattle.i2c_spec.specs.Tree.{root_of}
 use Rattle.i2c_spec.specs.Targets.{TargetState, Silent}
 use Rattle.i2c_spec.specs.World.{World}
 use Rattle.i2c_outside.specs.Devices.{target_state}
+use Rattle.i2c_physics.specs.SimWorlds.{is_own}
 use Rattle.i2c_physics.specs.declared.room.Kept.{Kept}
+
+-- device k is of the world's root; the device, where it is
+abbrev pub owns : World → ℕ → Bool
+owns w k = is_own w.board w.root k
+
+abbrev pub own_device : World → ℕ → Option TargetState
+own_device w k = if owns w k then slice_get w.devices k else None
 
 -- device k as the world of its root has it, where there is such a world and it has the device
 abbrev pub device_of : Option World → ℕ → Option TargetState
 device_of None k = None
-device_of (Some w) k = slice_get w.devices k
+device_of (Some w) k = own_device w k
 
 abbrev pub state_at : List World → ℕ → ℕ → Option TargetState
 state_at ws home k = device_of (slice_get ws home) k
@@ -22,9 +30,9 @@ abbrev pub states_from : ℕ → List ℕ → List World → List TargetState
 states_from k [] ws = []
 states_from k (home ∷ homes) ws = option_to_list (state_at ws home k) ++ states_from (k + 1) homes ws
 
--- a world once device k was taken out of it
+-- a world once device k was taken out of it: one of another root stays
 abbrev pub without : World → ℕ → World
-without w k = record w { devices = slice_set w.devices k Silent }
+without w k = record w { devices = if owns w k then slice_set w.devices k Silent else w.devices }
 
 -- these worlds once device k was taken out of that of this root, where there is such a world
 abbrev pub taken_out : List World → ℕ → ℕ → List World
@@ -32,9 +40,9 @@ taken_out [] home k = []
 taken_out (w ∷ ws) zero k = without w k ∷ ws
 taken_out (w ∷ ws) (suc home) k = w ∷ taken_out ws home k
 
--- device k is there, where its world has a board with so many devices
+-- device k is there, where it is of the root of its world
 abbrev pub IsThere : List World → ℕ → ℕ → Type 0
-IsThere ws home k = (w : World) → slice_get ws home ≡ Some w → k < length w.board.devices → IsSome (state_at ws home k)
+IsThere ws home k = (w : World) → slice_get ws home ≡ Some w → owns w k ≡ true → IsSome (state_at ws home k)
 
 -- no board: the one of a rig that was never plugged
 abbrev pub no_board : BoardView

@@ -18,6 +18,7 @@ mod sim_port;
 mod sim_rig;
 mod sim_world;
 mod sites;
+mod socket;
 mod together;
 
 pub use fail_port::FailPort;

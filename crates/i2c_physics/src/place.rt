@@ -50,6 +50,13 @@ impl Place {
         })
     }
 
+    /// It is there, on a bus of the root.
+    pub fn is_wired(&self) -> bool
+        ensures { result ≡ self.now.wired }
+    {
+        self.wired
+    }
+
     /// It is joined to the wires: every mux over its bus has the channel open that leads there.
     pub fn joins(&self, chips: &[Chip]) -> bool
         ensures { result ≡ joins chips.now self.now }

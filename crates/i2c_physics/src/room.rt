@@ -1,10 +1,10 @@
-ghost use Rattle.std.specs.Prelude.{◌≡◌, ◌<◌, ◌≤◌, ◌+◌, ◌++◌, ℕ, map, length, slice_get, slice_index, vec_len, vec_capacity, IfOk, IsSome, Some};
+ghost use Rattle.std.specs.Prelude.{◌≡◌, ◌<◌, ◌≤◌, ◌+◌, ◌++◌, ℕ, true, map, length, slice_index, vec_len, vec_capacity, IfOk, IsSome, Some};
 ghost use Rattle.std.specs.Option.{option_map};
 ghost use Rattle.i2c_base.specs.Board.{BoardView};
 ghost use Rattle.i2c_spec.specs.World.{World, AreWorldsOf, devices_of};
 ghost use Rattle.i2c_outside.specs.Devices.{target_state};
 ghost use Rattle.i2c_physics.specs.SimPorts.{PortView};
-ghost use Rattle.i2c_physics.specs.SimRigs.{state_at, states_from, taken_out, without, IsThere};
+ghost use Rattle.i2c_physics.specs.SimRigs.{own_device, owns, state_at, states_from, taken_out, without, IsThere};
 ghost use Rattle.i2c_spec.specs.Layouts.{board_of};
 ghost use Rattle.i2c_spec.specs.Plain.{IsPlainBoard};
 ghost use Rattle.i2c_spec.specs.Tree.{root_of};
@@ -22,10 +22,10 @@ pub trait Returned: Drop {
     /// The port of its root that it is, or stands for.
     ghost port: { Self → PortView };
 
-    /// Takes out the device of this number, as the port has it.
+    /// Takes out the device of this number, as the port has it, where it is of the port's root.
     fn take_device(&mut self, number: usize) -> Option<DeviceState>
-        ensures value { option_map target_state result ≡ slice_get (port self.old).world.devices number }
-        ensures has { number < length (port self.old).world.board.devices → IsSome result }
+        ensures value { option_map target_state result ≡ own_device (port self.old).world number }
+        ensures has { owns (port self.old).world number ≡ true → IsSome result }
         ensures world { (port self.new).world ≡ without (port self.old).world number }
         ensures log { (port self.new).log ≡ (port self.old).log };
 

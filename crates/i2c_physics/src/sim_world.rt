@@ -1,31 +1,35 @@
-ghost use Rattle.std.specs.Prelude.{◌≡◌, ◌<◌, All, IsSome, length, map, slice_get, IfOk};
+ghost use Rattle.std.specs.Prelude.{◌≡◌, ◌<◌, true, IsSome, map, IfOk};
 ghost use Rattle.std.specs.Option.{option_map};
 ghost use Rattle.i2c_base.specs.declared.port.PortCall.TheVariants as call;
-ghost use Rattle.i2c_spec.specs.Plain.{IsPlainDevice};
 ghost use Rattle.i2c_spec.specs.Chips.{chip_opening};
-ghost use Rattle.i2c_spec.specs.Targets.{opening_state};
+ghost use Rattle.i2c_spec.specs.Layouts.{board_of};
+ghost use Rattle.i2c_spec.specs.Plain.{IsPlainBoard, IsPlainDevice};
 ghost use Rattle.i2c_spec.specs.World as world;
 ghost use Rattle.i2c_outside.specs.Devices.{target_state};
 ghost use Rattle.i2c_physics.specs.Answering.{chips_say, devices_say};
-ghost use Rattle.i2c_physics.specs.SimRigs.{without};
+ghost use Rattle.i2c_physics.specs.SimRigs.{own_device, owns, without};
+ghost use Rattle.i2c_physics.specs.SimWorlds.{opened_on};
 
 use crate::place::{device_places, mux_places};
 use crate::reach::Reach;
-use crate::sites::Sites;
+use crate::sites::{Sites, is_wired};
+use crate::socket::Socket;
 use crate::together::{Together, answer_of, begin, end, pass_on};
-use i2c_base::{Addr, Answer, DeviceSpec, Event, MuxId, MuxSpec, NoMemory, SegId};
+use i2c_base::{Addr, Answer, DeviceSpec, Event, MuxId, MuxSpec, SegId};
 use i2c_board::Accepted;
 use i2c_outside::DeviceState;
-use i2c_spec::{chips_are_fair, openings_are_quiet};
+use i2c_spec::{Layout, chips_are_fair, openings_are_quiet};
 use std::alloc::{AllocError, Global};
 use std::marker::Model;
-use std::mem;
 use std::snapshot::Snapshot;
 use tgt_mux::Chip;
 
 /// The world of a root: the chips and devices of the whole board, by number, and what the wires have come to. A
 /// contract sees the record of these parts. A call tells only those that it can matter to: a target that wasn't started
 /// since its last stop is quiet, so neither another's start nor a stop would change it.
+///
+/// No call matters to a device of another root. It isn't opened here, so that a board takes the memory of its devices
+/// once, whatever number of roots it has.
 #[derive(Drop)]
 pub struct SimWorld {
     board: Snapshot<Accepted>,
@@ -33,7 +37,8 @@ pub struct SimWorld {
     mux_places: Sites,
     device_places: Sites,
     chips: Vec<Chip>,
-    devices: Vec<DeviceState>,
+    /// The place of one of another root is empty. A contract sees that device as it was opened.
+    devices: Vec<Socket>,
     /// Which chips, and which devices, a message has reached.
     chip_reach: Reach,
     device_reach: Reach,
@@ -41,15 +46,13 @@ pub struct SimWorld {
 }
 
 impl Model for SimWorld {
-    ghost use Rattle.std.specs.Prelude.{map};
     ghost use Rattle.i2c_spec.specs.World.{World};
-    ghost use Rattle.i2c_outside.specs.Devices.{target_state};
     ghost use Rattle.i2c_physics.specs.Heard.{nodes_of};
-    ghost use Rattle.i2c_physics.specs.SimWorlds.{IsSimWorld};
+    ghost use Rattle.i2c_physics.specs.SimWorlds.{IsSimWorld, seen_on};
 
     ghost Value = { World };
 
-    ghost view = { λ w. record { board = w.board.value; root = w.root; chips = w.chips.items; devices = map target_state w.devices.items; hearing = nodes_of w.chip_reach.hearing.items w.device_reach.hearing.items; busy = w.busy } };
+    ghost view = { λ w. record { board = w.board.value; root = w.root; chips = w.chips.items; devices = seen_on w.board.value w.root w.board.value.devices w.devices.items; hearing = nodes_of w.chip_reach.hearing.items w.device_reach.hearing.items; busy = w.busy } };
 
     ghost invariant = { λ w. IsSimWorld w.board.value w.root w.mux_places w.device_places w.chips.items w.devices.items w.chip_reach w.device_reach };
 }
@@ -67,23 +70,23 @@ impl SimWorld {
             mux_places: Sites::of(alloc, mux_places(alloc, layout, root)?)?,
             device_places: Sites::of(alloc, device_places(alloc, layout, root)?)?,
             chips: open_chips(alloc, layout.muxes)?,
-            devices: open_devices(alloc, layout.devices)?,
+            devices: open_devices(alloc, layout, root)?,
             chip_reach: Reach::none(),
             device_reach: Reach::none(),
             busy: false,
         })
     }
 
-    /// Takes out the device of this number, as the world has it.
+    /// Takes out the device of this number, as the world has it, where it is of this root.
     pub fn take_device(&mut self, number: usize) -> Option<DeviceState>
-        ensures value { option_map target_state result ≡ slice_get self.old.devices number }
-        ensures has { number < length self.old.board.devices → IsSome result }
+        ensures value { option_map target_state result ≡ own_device self.old number }
+        ensures has { owns self.old number ≡ true → IsSome result }
         ensures after { self.new ≡ without self.old number }
     {
-        if number >= self.devices.len() {
+        if !is_wired(self.device_places.as_slice(), number) {
             return None;
         }
-        Some(mem::replace(&mut self.devices[number], DeviceState::Silent))
+        Some(self.devices[number].take())
     }
 
     /// A start goes out. What it is answered.
@@ -167,16 +170,31 @@ fn open_chips(alloc: Global, muxes: &[MuxSpec]) -> Result<Vec<Chip>, AllocError>
     muxes.iter().map(Chip::open).collect(alloc)
 }
 
-fn open_devices(alloc: Global, devices: &[DeviceSpec]) -> Result<Vec<DeviceState>, AllocError>
-    requires plain { All IsPlainDevice devices.now }
-    ensures { IfOk result (λ states. map target_state states.items ≡ map opening_state devices.now) }
+/// The devices of this root as they are opened, by number: the places of the others are empty.
+fn open_devices(alloc: Global, layout: Layout<'_>, root: SegId) -> Result<Vec<Socket>, AllocError>
+    requires { IsPlainBoard (board_of layout) }
+    ensures { IfOk result (λ devices. devices.items ≡ map (opened_on (board_of layout.entry) root) layout.entry.devices.now) }
 {
-    let mut states = Vec::with_capacity(alloc, devices.len())?;
-    for device in devices {
-        match DeviceState::open(alloc, device) {
-            Ok(state) => states.push(state)?,
-            Err(NoMemory) => return Err(AllocError),
-        }
+    let mut devices = Vec::with_capacity(alloc, layout.devices.len())?;
+    for device in layout.devices {
+        devices.push(open_device(alloc, layout, root, device)?)?;
     }
-    Ok(states)
+    Ok(devices)
+}
+
+/// The device as it is opened, where it is of this root.
+fn open_device(
+    alloc: Global,
+    layout: Layout<'_>,
+    root: SegId,
+    device: &DeviceSpec,
+) -> Result<Socket, AllocError>
+    requires board { IsPlainBoard (board_of layout) }
+    requires device { IsPlainDevice device.now }
+    ensures { IfOk result (λ socket. socket ≡ opened_on (board_of layout.entry) root device.now) }
+{
+    if layout.root(device.bus) != root {
+        return Ok(Socket::empty());
+    }
+    Socket::open(alloc, device)
 }

@@ -1,7 +1,7 @@
 //! The places of the targets of one kind, by number and by address.
 ghost use Rattle.std.specs.Prelude.{◌≡◌, ◌≤◌, length, map, IfOk};
 ghost use Rattle.std.specs.List.{range_with_len};
-ghost use Rattle.i2c_physics.specs.Reach.{has_at};
+ghost use Rattle.i2c_physics.specs.Reach.{has_at, wired_at};
 ghost use Rattle.i2c_physics.specs.Sites.{numbers_at};
 
 use crate::place::Place;
@@ -83,6 +83,16 @@ fn numbers_at(alloc: Global, places: &[Place], address: u8) -> Result<Vec<u16>, 
         }
     }
     Ok(numbers)
+}
+
+/// The target of this number is there, on a bus of the root.
+pub fn is_wired(places: &[Place], number: usize) -> bool
+    ensures { result ≡ wired_at places.now number }
+{
+    match places.get(number) {
+        Some(place) => place.is_wired(),
+        None => false,
+    }
 }
 
 /// The target of this number has this address.

@@ -2,7 +2,7 @@ use Rattle.std.proofs.Common.{◌≡◌, map, ◌∙◌, ap, subst, arith}
 use Rattle.std.specs.Prelude.{IsSome, slice_get}
 use Rattle.std.proofs.Math.Seq.{map-set_same}
 use Rattle.i2c_outside.specs.Devices.{target_state}
-use Rattle.i2c_physics.specs.SimRigs.{state_at, taken_out, without}
+use Rattle.i2c_physics.specs.SimRigs.{own_device, state_at, taken_out, without}
 use Rattle.i2c_physics.proofs.TakeLemmas.{none-taken, one-taken, at-home, is-home, some_mapped}
 use Rattle.i2c_physics.proofs.room.take_from.Goals as goal
 
@@ -14,17 +14,17 @@ returns-then-home-len-clause-worlds g c =
 pub returns-clause-value : goal.returns-clause-value
 returns-clause-value g c =
     let at : c.from-home.result ≡ c.args.home = c.from-home.ensures ∙ c.home.view_is in
-    c.take_device.ensures.value ∙ ap (λ p. slice_get (g.P.Returned.port p).world.devices c.args.number) c.index_mut.ensures.value
+    c.take_device.ensures.value ∙ ap (λ p. own_device (g.P.Returned.port p).world c.args.number) c.index_mut.ensures.value
     ∙ at-home (λ p. (g.P.Returned.port p).world) c.args.ports.now.items c.from-home.result c.args.number c.index_mut.result.now (omega arith)
     ∙ ap (λ h. state_at (map (λ p. (g.P.Returned.port p).world) c.args.ports.now.items) h c.args.number) at
 
 pub returns-clause-there : goal.returns-clause-there
-returns-clause-there g c w there few =
+returns-clause-there g c w there own =
     let at : c.from-home.result ≡ c.args.home = c.from-home.ensures ∙ c.home.view_is in
     let same = ap (λ p. (g.P.Returned.port p).world) c.index_mut.ensures.value
     ∙ is-home (λ p. (g.P.Returned.port p).world) c.args.ports.now.items c.from-home.result c.index_mut.result.now w (omega arith)
     (ap (λ h. slice_get (map (λ p. (g.P.Returned.port p).world) c.args.ports.now.items) h) at ∙ there) in
-    let some = c.take_device.ensures.has (rw same few) in
+    let some = c.take_device.ensures.has (rw same own) in
     subst IsSome (returns-clause-value g c) (some_mapped target_state c.take_device.result some)
 
 pub returns-clause-worlds : goal.returns-clause-worlds

@@ -2,7 +2,7 @@ use Rattle.std.proofs.Common.{ap, ◌∙◌, refl, arith}
 use Rattle.std.proofs.lemmas.List.{with_items_is}
 use Rattle.i2c_spec.specs.Chips.{chip_table}
 use Rattle.i2c_spec.specs.World.{sent_on}
-use Rattle.i2c_outside.specs.Devices.{device_table}
+use Rattle.i2c_spec.specs.Targets.{state_table}
 use Rattle.i2c_physics.specs.Answering.{together_of, chips_say, devices_say}
 use Rattle.i2c_physics.proofs.FeedLemmas.{fed-on, said-on, chips-answer, devices-answer, sent-kept, sent-is}
 use Rattle.i2c_physics.proofs.sim_world.SimWorld.send.Goals as goal
@@ -13,7 +13,7 @@ invariant_of-self c =
     let e = c.args.event in
     let chips = fed-on chip_table e _ _ _ _ refl c.deref_mut.ensures.value _ _
     (with_items_is s.chips c.pass_on-chips.new.targets (omega arith)) c.pass_on-chips.ensures.fed in
-    let devices = fed-on device_table e _ _ _ _ refl c.deref_mut-2.ensures.value _ _
+    let devices = fed-on state_table e _ _ _ _ refl c.deref_mut-2.ensures.value _ _
     (with_items_is s.devices c.pass_on-devices.new.targets (omega arith)) c.pass_on-devices.ensures.fed in
     sent-kept _ _ _ _ _ _ _ _ s.busy c.self.invariant e _ _ chips devices _ _
     c.pass_on-chips.ensures.started c.pass_on-chips.ensures.hearing c.pass_on-devices.ensures.started c.pass_on-devices.ensures.hearing
@@ -27,7 +27,7 @@ returns-clause-chips c =
 pub returns-clause-devices : goal.returns-clause-devices
 returns-clause-devices c =
     let s = c.self.inside in
-    let said = said-on device_table c.args.event _ _ _ _ refl c.deref_mut-2.ensures.value together_of _ c.pass_on-devices.ensures.answered in
+    let said = said-on state_table c.args.event _ _ _ _ refl c.deref_mut-2.ensures.value together_of _ c.pass_on-devices.ensures.answered in
     said ∙ ap together_of (devices-answer _ _ _ _ _ _ _ _ s.busy c.self.invariant c.args.event) ∙ ap (λ w. devices_say w c.args.event) c.self.view_is
 
 pub returns-clause-after : goal.returns-clause-after
@@ -36,7 +36,7 @@ returns-clause-after c =
     let e = c.args.event in
     let chips = fed-on chip_table e _ _ _ _ refl c.deref_mut.ensures.value _ _
     (with_items_is s.chips c.pass_on-chips.new.targets (omega arith)) c.pass_on-chips.ensures.fed in
-    let devices = fed-on device_table e _ _ _ _ refl c.deref_mut-2.ensures.value _ _
+    let devices = fed-on state_table e _ _ _ _ refl c.deref_mut-2.ensures.value _ _
     (with_items_is s.devices c.pass_on-devices.new.targets (omega arith)) c.pass_on-devices.ensures.fed in
     sent-is _ _ _ _ _ _ _ _ s.busy c.self.invariant e _ _ chips devices c.pass_on-chips.new.reach c.pass_on-devices.new.reach
     c.pass_on-chips.ensures.started c.pass_on-chips.ensures.hearing c.pass_on-devices.ensures.started c.pass_on-devices.ensures.hearing

@@ -14,4 +14,5 @@ invariant_of-self c =
       devices_are = inv.devices_are;
       chips_reached = rw new (level-kept _ _ _ _ _ inv.chips_reached);
       devices_reached = inv.devices_reached;
+      reached_own = inv.reached_own;
     }

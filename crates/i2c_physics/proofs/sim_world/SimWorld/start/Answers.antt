@@ -4,7 +4,7 @@ use Rattle.i2c_base.specs.declared.event.Event.TheVariants as event
 use Rattle.i2c_base.specs.declared.port.PortCall.TheVariants as call
 use Rattle.i2c_spec.specs.Chips.{chip_table}
 use Rattle.i2c_spec.specs.World.{after, answer}
-use Rattle.i2c_outside.specs.Devices.{device_table}
+use Rattle.i2c_spec.specs.Targets.{state_table}
 use Rattle.i2c_physics.specs.Answering.{together_of}
 use Rattle.i2c_physics.specs.Heard.{numbers_of}
 use Rattle.i2c_physics.specs.Reach.{addressed, others}
@@ -45,10 +45,10 @@ invariant_of-self c =
     let device_calls = c.call-2.ensures.told ∙ ap (λ cs. addressed cs c.self.inside.device_places c.args.addr) same in
     let device_rest = c.call-2.ensures.rest ∙ ap (λ cs. others cs c.self.inside.device_places c.args.addr c.self.inside.device_reach.started.items) same in
     let chips = begun-on chip_table e chip_calls c.deref_mut.ensures.value _ _ chip_rest _ _ (with_items_is s.chips c.begin-chips.new.targets (omega arith)) c.begin-chips.ensures.fed in
-    let devices = begun-on device_table e device_calls c.deref_mut-2.ensures.value _ _ device_rest _ _
+    let devices = begun-on state_table e device_calls c.deref_mut-2.ensures.value _ _ device_rest _ _
     (with_items_is s.devices c.begin-devices.new.targets (omega arith)) c.begin-devices.ensures.fed in
     let chips_heard = said-on chip_table e _ _ _ _ chip_calls c.deref_mut.ensures.value numbers_of _ c.begin-chips.ensures.hearing in
-    let devices_heard = said-on device_table e _ _ _ _ device_calls c.deref_mut-2.ensures.value numbers_of _ c.begin-devices.ensures.hearing in
+    let devices_heard = said-on state_table e _ _ _ _ device_calls c.deref_mut-2.ensures.value numbers_of _ c.begin-devices.ensures.hearing in
     started-kept _ _ _ _ _ _ _ _ s.busy c.self.invariant c.args.addr c.args.reading _ _ _ _ chips devices chips_heard devices_heard
     (c.begin-chips.ensures.started ∙ either-on (ap length c.deref_mut.ensures.value) (ap (λ n. n.items) c.call.ensures.started) chip_calls)
     (c.begin-devices.ensures.started ∙ either-on (ap length c.deref_mut-2.ensures.value) (ap (λ n. n.items) c.call-2.ensures.started) device_calls)
@@ -61,7 +61,7 @@ returns-clause-answer c =
     let chip_calls = c.call.ensures.told ∙ ap (λ cs. addressed cs c.self.inside.mux_places c.args.addr) same in
     let device_calls = c.call-2.ensures.told ∙ ap (λ cs. addressed cs c.self.inside.device_places c.args.addr) same in
     let chips = said-on chip_table e _ _ _ _ chip_calls c.deref_mut.ensures.value together_of _ c.begin-chips.ensures.answered in
-    let devices = said-on device_table e _ _ _ _ device_calls c.deref_mut-2.ensures.value together_of _ c.begin-devices.ensures.answered in
+    let devices = said-on state_table e _ _ _ _ device_calls c.deref_mut-2.ensures.value together_of _ c.begin-devices.ensures.answered in
     c.answer_of.ensures ∙ start-by chips devices
     ∙ started-answer _ _ _ _ _ _ _ _ s.busy c.self.invariant c.args.addr c.args.reading ∙ ap (λ w. answer w c.args.addr c.args.reading) c.self.view_is
 
@@ -75,9 +75,9 @@ returns-clause-after c =
     let device_calls = c.call-2.ensures.told ∙ ap (λ cs. addressed cs c.self.inside.device_places c.args.addr) same in
     let device_rest = c.call-2.ensures.rest ∙ ap (λ cs. others cs c.self.inside.device_places c.args.addr c.self.inside.device_reach.started.items) same in
     let chips = begun-on chip_table e chip_calls c.deref_mut.ensures.value _ _ chip_rest _ _ (with_items_is s.chips c.begin-chips.new.targets (omega arith)) c.begin-chips.ensures.fed in
-    let devices = begun-on device_table e device_calls c.deref_mut-2.ensures.value _ _ device_rest _ _
+    let devices = begun-on state_table e device_calls c.deref_mut-2.ensures.value _ _ device_rest _ _
     (with_items_is s.devices c.begin-devices.new.targets (omega arith)) c.begin-devices.ensures.fed in
     let chips_heard = said-on chip_table e _ _ _ _ chip_calls c.deref_mut.ensures.value numbers_of _ c.begin-chips.ensures.hearing in
-    let devices_heard = said-on device_table e _ _ _ _ device_calls c.deref_mut-2.ensures.value numbers_of _ c.begin-devices.ensures.hearing in
+    let devices_heard = said-on state_table e _ _ _ _ device_calls c.deref_mut-2.ensures.value numbers_of _ c.begin-devices.ensures.hearing in
     started-is _ _ _ _ _ _ _ _ s.busy c.self.invariant c.args.addr c.args.reading _ _ c.begin-chips.new.reach c.begin-devices.new.reach chips devices chips_heard devices_heard
     ∙ ap (λ w. after w (call.Start c.args.addr c.args.reading)) c.self.view_is

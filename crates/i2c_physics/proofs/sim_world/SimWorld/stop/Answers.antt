@@ -6,7 +6,7 @@ use Rattle.i2c_base.specs.declared.event.Event.TheVariants as event
 use Rattle.i2c_base.specs.declared.port.PortCall.TheVariants as call
 use Rattle.i2c_spec.specs.Chips.{chip_table}
 use Rattle.i2c_spec.specs.World.{after}
-use Rattle.i2c_outside.specs.Devices.{device_table}
+use Rattle.i2c_spec.specs.Targets.{state_table}
 use Rattle.i2c_physics.specs.Reach.{joins_at}
 use Rattle.i2c_physics.proofs.FeedLemmas.{fed-on, stopped-kept, stopped-is}
 use Rattle.i2c_physics.proofs.NumberLemmas.{rising-filter}
@@ -24,7 +24,7 @@ invariant_of-self c =
     let same = c.as_slice-chips.ensures.value in
     let chips = fed-on chip_table event.Stop _ _ _ _ (c.part.ensures.told ∙ ap (λ cs. filter (joins_at cs s.mux_places) s.chip_reach.started.items) same)
     c.deref_mut.ensures.value _ _ (with_items_is s.chips c.end.new.targets (omega arith)) c.end.ensures.fed in
-    let devices = fed-on device_table event.Stop _ _ _ _ (c.part-2.ensures.told ∙ ap (λ cs. filter (joins_at cs s.device_places) s.device_reach.started.items) same)
+    let devices = fed-on state_table event.Stop _ _ _ _ (c.part-2.ensures.told ∙ ap (λ cs. filter (joins_at cs s.device_places) s.device_reach.started.items) same)
     c.deref_mut-2.ensures.value _ _ (with_items_is s.devices c.end-2.new.targets (omega arith)) c.end-2.ensures.fed in
     stopped-kept _ _ _ _ _ _ _ _ s.busy c.self.invariant _ _ chips devices c.chips_are_fair.ensures.stops _ _
     (c.end.ensures.started ∙ c.part.ensures.rest ∙ ap (λ cs. filter (λ k. not (joins_at cs s.mux_places k)) s.chip_reach.started.items) same)
@@ -38,7 +38,7 @@ returns c =
     let same = c.as_slice-chips.ensures.value in
     let chips = fed-on chip_table event.Stop _ _ _ _ (c.part.ensures.told ∙ ap (λ cs. filter (joins_at cs s.mux_places) s.chip_reach.started.items) same)
     c.deref_mut.ensures.value _ _ (with_items_is s.chips c.end.new.targets (omega arith)) c.end.ensures.fed in
-    let devices = fed-on device_table event.Stop _ _ _ _ (c.part-2.ensures.told ∙ ap (λ cs. filter (joins_at cs s.device_places) s.device_reach.started.items) same)
+    let devices = fed-on state_table event.Stop _ _ _ _ (c.part-2.ensures.told ∙ ap (λ cs. filter (joins_at cs s.device_places) s.device_reach.started.items) same)
     c.deref_mut-2.ensures.value _ _ (with_items_is s.devices c.end-2.new.targets (omega arith)) c.end-2.ensures.fed in
     rw (c.end.ensures.hearing, c.end-2.ensures.hearing)
     (stopped-is _ _ _ _ _ _ _ _ s.busy c.self.invariant _ _ chips devices) ∙ ap (λ w. after w call.Stop) c.self.view_is

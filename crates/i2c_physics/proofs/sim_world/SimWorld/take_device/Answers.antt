@@ -1,42 +1,52 @@
-use Rattle.std.proofs.Common.{◌<◌, length, map, set, refl, ◌∙◌, ap, arith}
+use Rattle.std.proofs.Common.{◌≡◌, ◌<◌, true, Some, length, set, refl, sym, ◌∙◌, ap, arith}
 use Rattle.std.proofs.lemmas.List.{length-set}
 use Rattle.i2c_spec.specs.World.{World}
-use Rattle.i2c_outside.specs.Devices.{target_state, device_table}
-use Rattle.i2c_outside.specs.declared.device.DeviceState.TheVariants.{Silent}
+use Rattle.i2c_spec.specs.Targets.{Silent, state_table}
 use Rattle.i2c_physics.proofs.LineLemmas.{quiet-in-place}
-use Rattle.i2c_physics.specs.Heard.{nodes_of}
-use Rattle.i2c_physics.specs.SimRigs.{without}
-use Rattle.i2c_physics.proofs.TakeLemmas.{without-is}
+use Rattle.i2c_physics.specs.Reach.{wired_at}
+use Rattle.i2c_physics.specs.SimRigs.{own_device, without}
+use Rattle.i2c_physics.specs.SimWorlds.{is_own}
+use Rattle.i2c_physics.proofs.FeedLemmas.{world_of}
+use Rattle.i2c_physics.proofs.OwnLemmas.{wired-own, own-low}
+use Rattle.i2c_physics.proofs.TakeLemmas.{own-is, without-is}
 use Rattle.i2c_physics.proofs.sim_world.SimWorld.take_device.Goals as goal
+
+is_of_root : (c : goal.After-self-1) → is_own c.self.inside.board.value c.self.inside.root c.args.number ≡ true
+is_of_root c =
+    let s = c.self.inside in
+    sym (wired-own s.board.value s.root s.device_places c.self.invariant.device_places c.args.number)
+    ∙ ap (λ places. wired_at places c.args.number) (sym c.as_slice.ensures) ∙ sym c.is_wired.ensures ∙ c.if-not-is_wired.false
+
+pub returns-clause-value : goal.returns-clause-value
+returns-clause-value c =
+    let s = c.self.inside in
+    let seen = world_of s.board.value s.root s.chips.items s.devices.items s.chip_reach.hearing.items s.device_reach.hearing.items s.busy in
+    ap Some (c.take.ensures.taken ∙ c.index_mut.ensures.value)
+    ∙ sym (own-is seen c.args.number s.devices.items refl (is_of_root c) c.index_mut.result.now c.self.invariant.devices_are)
+    ∙ ap (λ (w : World). own_device w c.args.number) c.self.view_is
 
 pub returns-clause-after : goal.returns-clause-after
 returns-clause-after c =
-    let inside = c.self.inside in
-    let seen : World = record {
-      board = inside.board.value;
-      root = inside.root;
-      chips = inside.chips.items;
-      devices = map target_state inside.devices.items;
-      hearing = nodes_of inside.chip_reach.hearing.items inside.device_reach.hearing.items;
-      busy = inside.busy;
-    } in
-    without-is seen inside.devices.items (set inside.devices.items c.args.number c.replace.new.dest) c.args.number refl
-    (ap (λ d. set inside.devices.items c.args.number d) c.replace.ensures.after)
+    let s = c.self.inside in
+    let seen = world_of s.board.value s.root s.chips.items s.devices.items s.chip_reach.hearing.items s.device_reach.hearing.items s.busy in
+    without-is seen c.args.number s.devices.items refl (is_of_root c) (set s.devices.items c.args.number c.take.new.self)
+    (ap (λ d. set s.devices.items c.args.number d) c.take.ensures.after)
     ∙ ap (λ (w : World). without w c.args.number) c.self.view_is
 
 pub invariant_of-self : goal.invariant_of-self
 invariant_of-self c =
     let inv = c.self.invariant in
-    let devices = c.self.inside.devices.items in
-    let low : c.args.number < length devices = omega (arith, c.if-number-len.false, c.len.ensures) in
+    let s = c.self.inside in
+    let low : c.args.number < length s.devices.items = omega (arith, own-low s.board.value s.root s.board.value.devices c.args.number (is_of_root c), inv.devices_are) in
     record {
       plain = inv.plain;
       mux_places = inv.mux_places;
       device_places = inv.device_places;
       chips_are = inv.chips_are;
-      devices_are = length-set devices c.args.number c.replace.new.dest ∙ inv.devices_are;
+      devices_are = length-set s.devices.items c.args.number c.take.new.self ∙ inv.devices_are;
       chips_reached = inv.chips_reached;
-      devices_reached = rw c.replace.ensures.after
-          (quiet-in-place device_table devices c.args.number Silent c.self.inside.device_reach.started.items c.self.inside.device_reach.hearing.items
+      devices_reached = rw c.take.ensures.after
+          (quiet-in-place state_table s.devices.items c.args.number Silent s.device_reach.started.items s.device_reach.hearing.items
           low (record { other = refl; stop = refl }) inv.devices_reached);
+      reached_own = inv.reached_own;
     }

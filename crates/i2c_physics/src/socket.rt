@@ -1,0 +1,75 @@
+//! The places in which a world holds its devices.
+ghost use Rattle.std.specs.Prelude.{◌≡◌, IfOk};
+ghost use Rattle.i2c_spec.specs.Plain.{IsPlainDevice};
+ghost use Rattle.i2c_spec.specs.Targets.{Silent, opening_state};
+ghost use Rattle.i2c_outside.specs.Devices.{target_state};
+
+use i2c_base::{Answer, DeviceSpec, Event, NoMemory, Target};
+use i2c_outside::DeviceState;
+use std::alloc::{AllocError, Global};
+use std::marker::Model;
+
+/// A device in its place, or an empty one. A contract sees the state of the device, which is `Silent` for an empty one.
+///
+/// The device is boxed, since a world has a place for each device of its board, and holds only those of its root.
+#[derive(Drop)]
+pub struct Socket {
+    device: Option<Box<DeviceState>>,
+}
+
+impl Model for Socket {
+    ghost use Rattle.std.specs.Option.{option_map_or};
+    ghost use Rattle.i2c_spec.specs.Targets.{TargetState, Silent};
+    ghost use Rattle.i2c_outside.specs.Devices.{target_state};
+
+    ghost Value = { TargetState };
+
+    ghost view = { λ s. option_map_or (λ device. target_state device.value) s.device Silent };
+}
+
+impl Socket {
+    /// An empty one.
+    pub fn empty() -> Self
+        ensures { result ≡ Silent }
+    {
+        Socket { device: None }
+    }
+
+    /// One with this device, as its board says that it is opened.
+    pub fn open(alloc: Global, spec: &DeviceSpec) -> Result<Self, AllocError>
+        requires plain { IsPlainDevice spec.now }
+        ensures { IfOk result (λ s. s ≡ opening_state spec.now) }
+    {
+        match DeviceState::open(alloc, spec) {
+            Ok(device) => Ok(Socket {
+                device: Some(Box::new(alloc, device)?),
+            }),
+            Err(NoMemory) => Err(AllocError),
+        }
+    }
+
+    /// Takes out the device.
+    pub fn take(&mut self) -> DeviceState
+        ensures taken { target_state result ≡ self.old }
+        ensures after { self.new ≡ Silent }
+    {
+        match self.device.take() {
+            Some(device) => Box::into_inner(device),
+            None => DeviceState::Silent,
+        }
+    }
+}
+
+impl Target for Socket {
+    ghost use Rattle.i2c_spec.specs.Targets.{state_table};
+
+    ghost table = { state_table };
+
+    #[tactic(auto, using(crate::proofs::DeviceLemmas::state_after_is, crate::proofs::DeviceLemmas::state_answer_is))]
+    fn on(&mut self, event: Event) -> Answer {
+        match &mut self.device {
+            Some(device) => device.on(event),
+            None => DeviceState::Silent.answer(event),
+        }
+    }
+}
