@@ -44,7 +44,10 @@ fn add_write(transfer: &mut Transfer, addr: Addr, coded: bool, read: ReadShape, 
       out = transfer.old.out ++ bytes_sent addr coded read bytes;
     } }
 {
-    if write.block.is_empty() {
+    let has_code = coded && matches!(read, ReadShape::Nothing);
+    if write.block.is_empty() && !has_code {
+        let _ = transfer.add_write(addr, write.head.as_slice());
+    } else if write.block.is_empty() {
         let bytes: ByteStore<4> = sent(addr, coded, read, write);
         let _ = transfer.add_write(addr, bytes.as_slice());
     } else {

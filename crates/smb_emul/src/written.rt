@@ -15,7 +15,7 @@ pub(crate) struct Written<'b> {
 }
 
 impl<'b> Written<'b> {
-    ghost use Rattle.std.specs.Prelude.{◌≡◌, ◌∷◌, ◌++◌, option_map};
+    ghost use Rattle.std.specs.Prelude.{◌≡◌, [], ◌∷◌, ◌++◌, option_map};
     ghost use Rattle.i2c_spec.specs.SmbusCalls.{low_byte_first, counted_block};
     ghost use Rattle.smb_emul.specs.Calls.{HasBlock, call_row};
     ghost use Rattle.smb_emul.specs.Written.{written_bytes};
@@ -27,19 +27,28 @@ impl<'b> Written<'b> {
     {
         match op {
             SmbOp::Quick => Some(Self::few(&[])),
-            SmbOp::SendByte(byte) => Some(Self::few(&[*byte])),
+            SmbOp::SendByte(byte) => Some(Self::one(*byte)),
             SmbOp::ReceiveByte => None,
             SmbOp::WriteByte(command, byte) => Some(Self::few(&[*command, *byte])),
-            SmbOp::ReadByte(command) => Some(Self::few(&[*command])),
+            SmbOp::ReadByte(command) => Some(Self::one(*command)),
             SmbOp::WriteWord(command, word) => Some(Self::few(&Self::word_behind(*command, *word))),
-            SmbOp::ReadWord(command) => Some(Self::few(&[*command])),
+            SmbOp::ReadWord(command) => Some(Self::one(*command)),
             SmbOp::ProcCall(command, word) => Some(Self::few(&Self::word_behind(*command, *word))),
             SmbOp::BlockWrite(command, block) => Some(Self::counted(*command, block)),
-            SmbOp::BlockRead(command) => Some(Self::few(&[*command])),
+            SmbOp::BlockRead(command) => Some(Self::one(*command)),
             SmbOp::BlockProc(command, block) => Some(Self::counted(*command, block)),
             SmbOp::I2cBlockWrite(command, block) => Some(Self::behind(&[*command], block)),
-            SmbOp::I2cBlockRead(command, _) => Some(Self::few(&[*command])),
+            SmbOp::I2cBlockRead(command, _) => Some(Self::one(*command)),
         }
+    }
+
+    // This byte, and no block.
+    fn one(byte: u8) -> Self
+        ensures { written_bytes result ≡ byte ∷ [] }
+    {
+        let mut head = ByteStore::new();
+        head.push(byte);
+        Written { head, block: &[] }
     }
 
     // These bytes, and no block.
