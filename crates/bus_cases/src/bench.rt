@@ -36,9 +36,8 @@ impl Bench {
     }
 }
 
-// Answers each word of an example.
-fn answer_words<R: Files + Print + AllocGlobal>(rt: &R, front: &str, words: &str) -> Result<()> {
-    let mut bench = Bench::open(rt, front)?;
+// Answers each word.
+fn answer_each<R: Print + AllocGlobal>(rt: &R, bench: &mut Bench, words: &str) -> Result<()> {
     for word in words.split_whitespace() {
         let answer = bench
             .answer(rt.alloc(), word)
@@ -46,6 +45,12 @@ fn answer_words<R: Files + Print + AllocGlobal>(rt: &R, front: &str, words: &str
         print!(rt; " {answer}")?;
     }
     Ok(())
+}
+
+// Answers each word of an example.
+fn answer_words<R: Files + Print + AllocGlobal>(rt: &R, front: &str, words: &str) -> Result<()> {
+    let mut bench = Bench::open(rt, front)?;
+    answer_each(rt, &mut bench, words)
 }
 
 // Does the transfers of an example, whose front is `flat BOARD`.

@@ -46,13 +46,26 @@ mod wires;
 mod words;
 
 use anyhow::Result;
+use std::io;
+use std::rt::Files;
+use std::sync::Wait;
+use std::thread::Threads;
 use table::Table;
+
+// Takes a line that was read.
+fn take<H: Files + Print + AllocGlobal + Threads + Wait + Sync>(
+    rt: &H,
+    table: &mut Table,
+    line: io::Result<String>,
+) -> Result<()> {
+    table.take(rt, rt.alloc(), line?.as_str())
+}
 
 fn main(rt: HostRuntime) -> Result<()> {
     let alloc = rt.alloc();
     let mut table = Table::new(alloc);
     for line in rt.lines(alloc) {
-        table.take(&rt, alloc, line?.as_str())?;
+        take(&rt, &mut table, line)?;
     }
     Ok(())
 }

@@ -1,1 +1,2 @@
 pub mod SendLemmas
+mod Starts

@@ -1,5 +1,5 @@
-use Rattle.std.proofs.Common.{◌≡◌, ◌<◌, ◌++◌, [], ◌∷◌, length, arith}
-use Rattle.i2c_boardtext.proofs.RowLemmas.{read_more}
+use Rattle.std.proofs.Common.{◌≡◌, Vec, Global, ◌<◌, ◌++◌, [], ◌∷◌, length, arith}
+use Rattle.i2c_boardtext.proofs.RowLemmas.{read_more, all_read, fault_read}
 use Rattle.toml.specs.View.{table_view}
 use Rattle.i2c_boardtext.proofs.device.devices_of.Goals as goal
 use Rattle.i2c_boardtext.specs.BoardText.{device_of, devices_of}
@@ -7,6 +7,7 @@ use Rattle.i2c_boardtext.specs.Rows.{rows_of, IsOn}
 use Rattle.i2c_boardtext.specs.declared.fault.TableName.TheVariants.{Device}
 use Rattle.std.proofs.lemmas.List.{length-append}
 use Rattle.i2c_boardtext.proofs.RowLemmas.{All-push}
+use Rattle.i2c_base.specs.declared.board.DeviceSpec.{DeviceSpec}
 use Rattle.i2c_spec.specs.Plain.{IsPlainDevice}
 
 pub loop-value-preserved : goal.loop-value-preserved
@@ -24,3 +25,14 @@ loop-value-preserved c =
           c.args.rows.now c.loop-value.value-index c.value-item.result (table_view c.row.result.now) c.len-index.result within
           c.value-item.is c.row.ensures (omega arith) c.in_ok-device.ensures.exact same c.loop-value.invariant.told;
     }
+
+pub returns-in_err-device-clause-exact : goal.returns-in_err-device-clause-exact
+returns-in_err-device-clause-exact c =
+    fault_read (λ (v : Vec DeviceSpec Global). v.items) Device (λ before. device_of c.args.buses) c.loop-value.devices.items (devices_of c.args.buses (rows_of c.args.rows.now))
+    c.args.rows.now c.loop-value.value-index c.value-item.result (table_view c.row.result.now) c.len-index.result c.in_err-device.field-0.0 c.from_residual-in_err-device.result
+    c.loop-value-test.true c.value-item.is c.row.ensures (omega arith) c.in_err-device.ensures.exact c.loop-value.invariant.told c.from_residual-in_err-device.ensures.1
+
+pub returns-clause-exact : goal.returns-clause-exact
+returns-clause-exact c =
+    all_read Device (λ before. device_of c.args.buses) c.loop-value.devices.items (devices_of c.args.buses (rows_of c.args.rows.now)) c.args.rows.now c.loop-value.value-index
+    c.loop-value-test.false c.loop-value.invariant.told

@@ -1,12 +1,13 @@
-use Rattle.std.proofs.Common.{◌≡◌, ◌+◌, ◌<◌, ◌++◌, [], ◌∷◌, length, refl, ap, sym, ◌∙◌, arith}
+use Rattle.std.proofs.Common.{◌≡◌, Vec, Global, ◌+◌, ◌<◌, ◌++◌, [], ◌∷◌, length, refl, ap, sym, ◌∙◌, arith}
 use Rattle.std.proofs.lemmas.List.{length-append}
+use Rattle.i2c_base.specs.declared.board.MuxSpec.{MuxSpec}
 use Rattle.i2c_spec.specs.Plain.{IsPlainMux}
 use Rattle.i2c_spec.specs.Tree.{buses_of}
-use Rattle.i2c_boardtext.proofs.RowLemmas.{read_more, All-push}
+use Rattle.i2c_boardtext.proofs.RowLemmas.{read_more, all_read, fault_read, fails_with, All-push}
 use Rattle.i2c_spec.proofs.HopLemmas.{buses_of-push}
 use Rattle.i2c_boardtext.proofs.MuxLemmas.{planted-push, few_channels}
 use Rattle.i2c_boardtext.proofs.mux.muxes_of.Goals as goal
-use Rattle.i2c_boardtext.specs.BoardText.{placed, mux_of, muxes_of}
+use Rattle.i2c_boardtext.specs.BoardText.{Fails, placed, mux_of, muxes_of}
 use Rattle.i2c_boardtext.specs.Rows.{rows_of, row_of}
 use Rattle.i2c_boardtext.specs.declared.fault.TableName.TheVariants.{Mux}
 
@@ -32,3 +33,20 @@ loop-value-preserved c =
           c.args.rows.now c.loop-value.value-index c.value-item.result (row_of c.value-item.result) c.len-index.result within
           c.value-item.is refl (omega arith) (ap (λ n. placed Mux c.len-index.result (mux_of n (row_of c.value-item.result))) (sym all.buses) ∙ sym c.in_ok-mux.ensures.value) same all.told;
     }
+
+pub returns-in_err-mux-clause-exact : goal.returns-in_err-mux-clause-exact
+returns-in_err-mux-clause-exact c =
+    let roots = c.args.roots in
+    let found = placed Mux c.len-index.result (mux_of (buses_of roots c.loop-value.muxes.items) (row_of c.value-item.result)) in
+    let fails : Fails c.in_err-mux.field-0.0 found =
+    fails_with c.in_err-mux.field-0.0 found
+    (c.in_err-mux.ensures.value ∙ ap (λ n. placed Mux c.len-index.result (mux_of n (row_of c.value-item.result))) c.loop-value.invariant.buses) in
+    fault_read (λ (v : Vec MuxSpec Global). v.items) Mux (λ before. mux_of (buses_of roots before)) c.loop-value.muxes.items (muxes_of roots (rows_of c.args.rows.now))
+    c.args.rows.now c.loop-value.value-index c.value-item.result (row_of c.value-item.result) c.len-index.result c.in_err-mux.field-0.0 c.from_residual-in_err-mux.result
+    c.loop-value-test.true c.value-item.is refl (omega arith) fails c.loop-value.invariant.told c.from_residual-in_err-mux.ensures.1
+
+pub returns-clause-exact : goal.returns-clause-exact
+returns-clause-exact c =
+    let roots = c.args.roots in
+    all_read Mux (λ before. mux_of (buses_of roots before)) c.loop-value.muxes.items (muxes_of roots (rows_of c.args.rows.now)) c.args.rows.now c.loop-value.value-index
+    c.loop-value-test.false c.loop-value.invariant.told

@@ -1,5 +1,12 @@
-use Rattle.std.proofs.Common.{length, sym, ◌∙◌, ap}
-use Rattle.mux_plan.specs.Plans.{CourseView}
+use Rattle.std.proofs.Common.{ℕ, List, [], ◌∷◌, length, sym, ◌∙◌, ap}
+use Rattle.i2c_spec.specs.Messages.{messages_of}
+use Rattle.i2c_spec.specs.Tree.{root_of, hops}
+use Rattle.bus_spec.specs.Walk.{Call, Ends}
+use Rattle.bus_spec.specs.Grammar.{full, plain}
+use Rattle.mux_plan.specs.declared.task.Task.{Task}
+use Rattle.mux_plan.specs.declared.task.Task.TheVariants.{Lock}
+use Rattle.mux_plan.specs.declared.task.Work.TheVariants as work
+use Rattle.mux_plan.specs.Plans.{CourseView, came_of, tree_of}
 use Rattle.mux_plan.proofs.OpensFit.{length-messages}
 use Rattle.mux_plan.proofs.walk.Walk.begin.Goals as goal
 
@@ -7,3 +14,12 @@ pub returns-clause-count : goal.returns-clause-count
 returns-clause-count c =
     length-messages c.args.transfer.now.msgs c.args.transfer.now.out
     ∙ sym (ap (λ (x : CourseView). x.count) (c.start.ensures.course ∙ c.lead.ensures.course) ∙ ap length c.msgs.ensures.value)
+
+pub returns-clause-tree : goal.returns-clause-tree
+returns-clause-tree c =
+    let b = c.args.board.now in
+    let ms = messages_of c.args.transfer.now in
+    let came = came_of c.start.new.self.came in
+    ap (λ (ts : List Task). tree_of b ms c.start.new.self.course ts came) c.start.ensures.stack
+    ∙ ap (λ (x : CourseView). tree_of b ms x (Lock 0 0 work.Call ∷ []) came) (c.start.ensures.course ∙ c.lead.ensures.course)
+    ∙ ap (λ (s : ℕ). full b (root_of b s) (hops b s) (Call s ms) plain (λ o. Ends)) c.bus.ensures
