@@ -9,7 +9,7 @@ ghost use Rattle.caller_core.specs.declared.script.ScriptFault.TheVariants.{Memo
 use crate::commands::Commands;
 use i2c_base::NoMemory;
 use std::alloc::{AllocError, Global};
-use tool_words::{Cmd, LineFault, cut_line, push_echo, read_line};
+use tool_words::{Cmd, LineFault, cut_line, is_joined, push_echo, read_line};
 
 /// The most commands of a script.
 const MOST_COMMANDS: usize = 1000;
@@ -79,6 +79,7 @@ fn take_line<'a>(
     match read_behind(words, line, commands.len()) {
         Err(fault) => Err(fault_at(fault, number)),
         Ok(None) => Ok(()),
+        Ok(Some(cmd)) if is_joined(line) => Ok(commands.push(cmd, line)?),
         Ok(Some(cmd)) => {
             echo.clear();
             push_echo(echo, line)?;

@@ -20,7 +20,7 @@ mod reader;
 
 pub use cmd::{Cmd, Get, GetMode};
 pub use fault::LineFault;
-pub use front::{cut_line, push_echo};
+pub use front::{cut_line, is_joined, push_echo};
 pub use laws::{
     each_field_is_in_range, each_line_is_read, the_refused_word_is_behind_the_longest_front,
 };
