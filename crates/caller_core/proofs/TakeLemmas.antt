@@ -1,17 +1,17 @@
 -- A script that takes a reply: what it needs for that, and what it keeps.
-use Rattle.std.proofs.Common.{◌≡◌, ℕ, ◌+◌, ◌-◌, ◌<◌, ◌≤◌, true, false, List, [], ◌∷◌, ◌++◌, length, drop, Option, Some, None, sym, ap, subst, ◌∙◌, arith}
+use Rattle.std.proofs.Common.{◌≡◌, ℕ, ◌+◌, ◌-◌, ◌<◌, ◌≤◌, true, false, List, [], ◌∷◌, ◌++◌, length, drop, get_or, Bool, Option, Some, None, sym, ap, subst, ◌∙◌, arith}
 use Rattle.std.specs.Prelude.{All, slice_get, sum_by}
 use Rattle.std.specs.Option.{option_map}
 use Rattle.std.proofs.lemmas.List.{length-map, length_push, drop-append-le}
 use Rattle.std.proofs.Math.Seq.{get_or-append_seam}
 use Rattle.std.proofs.lemmas.List.Sums.{sum_by-cons}
-use Rattle.std.proofs.lemmas.Option.{slice_get-get_or, slice_get_within}
+use Rattle.std.proofs.lemmas.Option.{slice_get-get_or, slice_get_within, get_or_from_slice_get}
 use Rattle.i2c_base.specs.Fitting.{Fits}
 use Rattle.i2c_base.specs.Need.{Covers}
 use Rattle.i2c_base.specs.Transfer.{TransferView}
 use Rattle.i2c_base.specs.declared.reply.Reply.{Reply}
 use Rattle.packed.specs.View.{PackedView}
-use Rattle.bus_journal.specs.Borrowed.{bytes_replied}
+use Rattle.bus_journal.specs.Borrowed.{reply_by, bytes_replied}
 use Rattle.bus_journal.specs.declared.borrowed.ReplyHead.{ReplyHead}
 use Rattle.tool_words.specs.declared.cmd.Cmd.{Cmd}
 use Rattle.tool_run.specs.Replies.{reply_of, replies_of, most_brought}
@@ -26,7 +26,7 @@ use Rattle.caller_core.specs.View.{CommandView, ScriptView, CallerView}
 use Rattle.caller_core.proofs.CommandLemmas.{IsRead, commands_are_read, commands_most}
 use Rattle.caller_core.proofs.FairLemmas.{asked_from}
 use Rattle.caller_core.proofs.ProgressLemmas.{sum_falls}
-use Rattle.caller_core.proofs.TurnLemmas.{IsTurn, is_turn, answered, own_more, at_next, at_same, section_over, section_stays, left_over, left_stays}
+use Rattle.caller_core.proofs.TurnLemmas.{IsTurn, is_turn, answered, own_more, at_next, at_same, section_over, section_stays, left_over, left_stays, replies_push}
 
 run_same : (a b : RunView) → Some a ≡ Some b → a ≡ b
 run_same a b e = cc
@@ -77,6 +77,26 @@ pub record IsTaking (cs : List CommandView) (rs : List Reply) (place from : ℕ)
   pub turn : IsTurn cs rs place from run transfer
   pub room_bytes : sum_by room_of (progress cs rs).left ≤ room
 
+-- a reply that is kept behind the others
+pub record IsKept (cs : List CommandView) (taken : PackedView ReplyHead) (printed : TextView) (place from : ℕ) (run : Option RunView) (r : Reply) (then : PackedView ReplyHead) : Type 0 where
+  pub taking : IsTaking cs (replies_of taken.items) place from run printed.room r
+  pub now : replies_of then.items ≡ replies_of taken.items ++ r ∷ []
+  pub bytes : then.room_bytes + length (bytes_replied r) ≡ taken.room_bytes
+
+-- the command that runs tells whether the one whose turn it is is over
+pub tells_over : (cs : List CommandView) (rs : List Reply) (place from : ℕ) (o : Option RunView) (t : TransferView) (run : RunView) (u : IsTurn cs rs place from o t) (r : Reply) (told is : Bool) → o ≡ Some run
+    → told ≡ is_over run.cmd run.taken r → told ≡ is → is_over u.command.cmd (length (drop from rs)) r ≡ is
+tells_over cs rs place from o t run u r told is runs by e = ap (λ (x : RunView). is_over x.cmd x.taken r) (sym (ran_same cs rs place from o t run u runs)) ∙ sym by ∙ e
+
+-- what was read of the commands at the place is the one whose turn it is
+pub reads_turn : (cs : List CommandView) (rs : List Reply) (place from : ℕ) (o : Option RunView) (t : TransferView) (u : IsTurn cs rs place from o t) (read : CommandView) → read ≡ get_or cs place read → read ≡ u.command
+reads_turn cs rs place from o t u read e = e ∙ get_or_from_slice_get cs place u.command read u.at
+
+-- the command after the reply
+pub run_after : (cs : List CommandView) (rs : List Reply) (place from : ℕ) (o : Option RunView) (t : TransferView) (run after : RunView) (u : IsTurn cs rs place from o t) → o ≡ Some run
+    → after ≡ record run { taken = run.taken + 1 } → after.cmd ≡ u.command.cmd
+run_after cs rs place from o t run after u runs e = ap (λ (x : RunView). x.cmd) (e ∙ ap (λ (x : RunView). record x { taken = x.taken + 1 }) (ran_same cs rs place from o t run u runs))
+
 module _ (script : ScriptView) (cs : List CommandView) (taken : PackedView ReplyHead) (printed : TextView) (place from : ℕ) (run : Option RunView) (cost roots : ℕ) (r : Reply) where
   pub taking : (view : CallerView) → IsCaller script cs taken printed place from run cost roots
       → record { script = script; taken = replies_of taken.items; spare = record { replies = taken.room; bytes = printed.room } } ≡ view
@@ -98,6 +118,20 @@ module _ (script : ScriptView) (cs : List CommandView) (taken : PackedView Reply
         at = is.at;
         turn = is_turn cs rs place from run t is.at next;
         room_bytes = omega (arith, covered.bytes, ap (λ xs. sum_by room_of (progress xs rs).left) is.whole);
+      }
+
+  -- .. and that reply kept behind the others
+  pub kept_behind : (view : CallerView) → IsCaller script cs taken printed place from run cost roots
+      → record { script = script; taken = replies_of taken.items; spare = record { replies = taken.room; bytes = printed.room } } ≡ view
+      → (t : TransferView) × (asked_by view.script view.taken ≡ Some t) × Fits t r → Covers view.spare (owed_by view.script view.taken)
+      → (answer : ReplyHead) (bytes : List ℕ) (then : PackedView ReplyHead) → reply_by answer bytes ≡ r → bytes ≡ bytes_replied r
+      → then.items ≡ taken.items ++ (answer, bytes) ∷ [] → then.room_bytes + length bytes ≡ taken.room_bytes
+      → IsKept cs taken printed place from run r then
+  kept_behind view is seen asks covers answer bytes then same these items room_bytes =
+      record {
+        taking = taking view is seen asks covers;
+        now = replies_push taken.items then.items (answer, bytes) r items same;
+        bytes = ap (λ (n : ℕ). then.room_bytes + n) (sym (ap length these)) ∙ room_bytes;
       }
 
   -- the replies of a command that is over
