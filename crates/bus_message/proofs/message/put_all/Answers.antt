@@ -5,12 +5,21 @@ use Rattle.bus_message.proofs.MessageLemmas.{put_failed, put_refused, put_taken,
 use Rattle.bus_message.proofs.TalkLemmas.{cut_after}
 use Rattle.bus_message.proofs.message.put_all.Goals as goal
 
+pub returns-in-Err-clause-log : goal.returns-in-Err-clause-log
+returns-in-Err-clause-log g c = grind (arith, common_steps)
+
 pub returns-in-Err-clause-told : goal.returns-in-Err-clause-told
 returns-in-Err-clause-told g c =
     λ tells whole before r.
     put_failed whole c.args.last c.args.bytes.now c.loop-byte.byte-index _ before c.loop-byte.calls c.loop-byte.sent _ _ _ _
     c.loop-byte-test.true refl (c.in-Err.ensures.world_failed tells) (c.in-Err.ensures.log_failed tells)
     (c.loop-byte.invariant.said tells (Some c.loop-byte.calls) (λ k e. search (rules, e)) whole before r)
+
+pub stopped-requires : goal.stopped-requires
+stopped-requires g c = grind (arith, common_steps)
+
+pub returns-in-Ok-false-clause-log : goal.returns-in-Ok-false-clause-log
+returns-in-Ok-false-clause-log g c = grind (arith, common_steps)
 
 pub returns-in-Ok-false-clause-told : goal.returns-in-Ok-false-clause-told
 returns-in-Ok-false-clause-told g c =
@@ -35,6 +44,9 @@ loop-byte-preserved g c = record {
       (c.in-Ok-true.ensures.world tells) (c.in-Ok-true.ensures.log tells)
       (c.loop-byte.invariant.said tells cut (λ k e. let h = behind k e in omega arith) whole before r));
 }
+
+pub returns-clause-whole : goal.returns-clause-whole
+returns-clause-whole g c = grind (arith, common_steps)
 
 pub returns-clause-told : goal.returns-clause-told
 returns-clause-told g c =

@@ -1,7 +1,17 @@
-use Rattle.std.proofs.Common.{ap}
+use Rattle.std.proofs.Common.{ap, arith}
+use Rattle.std.proofs.lemmas.Grind.{common_steps}
 use Rattle.bus_message.proofs.MessageLemmas.{starts}
 use Rattle.bus_message.proofs.TalkLemmas.{cut_after}
 use Rattle.bus_message.proofs.message.send_message.Goals as goal
+
+pub go_on-requires : goal.go_on-requires
+go_on-requires g c = grind (arith, common_steps)
+
+pub returns-in-Err-clause-log : goal.returns-in-Err-clause-log
+returns-in-Err-clause-log g c = grind (arith, common_steps)
+
+pub returns-in-Ok-clause-log : goal.returns-in-Ok-clause-log
+returns-in-Ok-clause-log g c = grind (arith, common_steps)
 
 pub returns-in-Ok-clause-told : goal.returns-in-Ok-clause-told
 returns-in-Ok-clause-told g c =
