@@ -5,6 +5,7 @@ use Rattle.i2c_base.specs.declared.event.Event.TheVariants as event
 use Rattle.i2c_base.specs.declared.event.Answer.{Answer}
 use Rattle.i2c_base.specs.declared.event.Answer.TheVariants as answer
 use Rattle.i2c_base.specs.Board.{RunView}
+use Rattle.i2c_base.specs.Limits.{MOST_LOOKS}
 use Rattle.i2c_base.specs.Table.{Table}
 
 -- what has come of the message in progress: nothing, its address, the pointer too, or a read
@@ -18,12 +19,12 @@ pub record RegsView : Type 0 where
   pub phase : RegsPhase
   pub pointer : ℕ
   pub memory : List ℕ
-  -- for how many looks it holds the clock at its address; above 64 the controller gives up
+  -- for how many looks it holds the clock at its address; above MOST_LOOKS the controller gives up
   pub hold : ℕ
 
 -- a controller looks so often at a clock that is held
 abbrev pub is_too_long : ℕ → Bool
-is_too_long hold = nat_lt 64 hold
+is_too_long hold = nat_lt MOST_LOOKS hold
 
 abbrev pub begun : Bool → RegsPhase
 begun false = Pointer

@@ -1,6 +1,7 @@
 -- The lines of the grammar in force, as a set and as the reader that follows it.
 use Rattle.std.specs.Prelude.{ℕ, ◌^◌, ◌<◌, ◌≤◌, List, IfSome, Result, Err, if◌then◌else◌, codes}
 use Rattle.i2c_base.specs.Addr.{IsTargetAddress}
+use Rattle.i2c_base.specs.Limits.{I2C_BLOCK_LIMIT}
 use Rattle.tool_words.specs.GetLine.{get_line, get_at}
 use Rattle.tool_words.specs.LineSets.{Word, LineSet}
 use Rattle.tool_words.specs.Readers.{is_at}
@@ -20,7 +21,7 @@ pub record IsGetInRange (g : Get) : Type 0 where
   pub bus : g.bus < 2 ^ 16
   pub addr : IsTargetAddress g.addr
   pub reg : IfSome g.reg (λ r. r < 2 ^ 8)
-  pub len : IfSome g.len (λ n. (1 ≤ n) × (n ≤ 32))
+  pub len : IfSome g.len (λ n. (1 ≤ n) × (n ≤ I2C_BLOCK_LIMIT))
 
 abbrev pub IsInRange : Cmd → Type 0
 IsInRange (cmd.Get g) = IsGetInRange g
