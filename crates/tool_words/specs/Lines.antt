@@ -9,12 +9,12 @@ use Rattle.tool_words.specs.declared.cmd.Cmd.{Cmd}
 use Rattle.tool_words.specs.declared.cmd.Cmd.TheVariants as cmd
 use Rattle.tool_words.specs.declared.cmd.Get.{Get}
 
--- the lines of a script
-abbrev pub script_lines : LineSet Cmd
-script_lines = get_line
+-- the lines of a script, where a block of the board has at most `limit` bytes; no line in force has a block that is written
+abbrev pub script_lines : (limit : ℕ) → LineSet Cmd
+script_lines limit = get_line
 
-abbrev pub script_line_at : List Word → Result Cmd ℕ
-script_line_at ws = if is_at (codes "i2cget") ws 0 then get_at ws else Err 0
+abbrev pub script_line_at : (limit : ℕ) → List Word → Result Cmd ℕ
+script_line_at limit ws = if is_at (codes "i2cget") ws 0 then get_at ws else Err 0
 
 -- each field of a command is in its range
 pub record IsGetInRange (g : Get) : Type 0 where
