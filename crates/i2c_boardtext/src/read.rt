@@ -59,7 +59,6 @@ pub fn idle(table: &Table) -> Idle
 
 /// The address of a target, at its required key.
 pub fn address(table: &Table) -> Addr
-    requires fits { fits_if_there address_rule.test (get_member (codes "address") (table_view table.now)) ≡ true }
     ensures { result ≡ number_at address_key (table_view table.now) }
 {
     match Addr::new(number_at(table, ADDRESS) as u8) {

@@ -5,7 +5,6 @@ ghost use Rattle.i2c_base.specs.Phases.{AnswersStart, phase_started, phase_put, 
 ghost use Rattle.i2c_base.specs.declared.port.Phase.TheVariants.{Idle};
 ghost use Rattle.i2c_base.specs.declared.port.PortCall.TheVariants as call;
 ghost use Rattle.i2c_spec.specs.World.{answer, takes, gives};
-ghost use Rattle.i2c_outside.specs.Devices.{target_state};
 ghost use Rattle.i2c_physics.specs.SimPorts.{opening_port, called};
 
 use crate::phase;
