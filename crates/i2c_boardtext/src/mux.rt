@@ -5,7 +5,7 @@ ghost use Rattle.i2c_base.specs.Addr.{IsTargetAddress};
 ghost use Rattle.i2c_base.specs.Limits.{MOST_BUSES, MOST_MUXES, MOST_ROOTS};
 ghost use Rattle.i2c_spec.specs.Plain.{FitsChannels, FitsChip, FitsForeign, IsPlainMux, IsPlanted};
 ghost use Rattle.i2c_boardtext.specs.BoardText.{Gives, kind_in, placed, mux_of, muxes_of};
-ghost use Rattle.i2c_boardtext.specs.Keys.{mux_rules, bus_rule, address_rule};
+ghost use Rattle.i2c_boardtext.specs.Keys.{mux_rules};
 ghost use Rattle.i2c_boardtext.specs.Names.{mux_named};
 ghost use Rattle.i2c_boardtext.specs.Rows.{IsTable, AreTables, row_of, rows_of};
 ghost use Rattle.i2c_boardtext.specs.Rules.{table_fault};

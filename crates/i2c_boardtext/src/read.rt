@@ -5,7 +5,7 @@ ghost use Rattle.i2c_base.specs.declared.board.Idle.TheVariants.{Disconnect};
 ghost use Rattle.i2c_base.specs.declared.board.LockMode.TheVariants.{Parent};
 ghost use Rattle.i2c_spec.specs.Numbers.{address_key};
 ghost use Rattle.i2c_boardtext.specs.Items.{flag_in};
-ghost use Rattle.i2c_boardtext.specs.Keys.{bus_rule, address_rule};
+ghost use Rattle.i2c_boardtext.specs.Keys.{bus_rule};
 ghost use Rattle.i2c_boardtext.specs.Names.{offers_named, lock_named, idle_named};
 ghost use Rattle.i2c_boardtext.specs.Numbers.{number_at};
 ghost use Rattle.i2c_boardtext.specs.Rules.{fits_if_there};

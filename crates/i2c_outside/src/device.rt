@@ -1,7 +1,7 @@
 ghost use Rattle.std.specs.Prelude.{◌≡◌, IfOk};
 ghost use Rattle.i2c_spec.specs.Plain.{IsPlainDevice};
 ghost use Rattle.i2c_spec.specs.Targets as target;
-ghost use Rattle.i2c_spec.specs.Targets.{opening_state, silent_answer, state_after, state_answer};
+ghost use Rattle.i2c_spec.specs.Targets.{opening_state, silent_answer, state_answer};
 ghost use Rattle.i2c_outside.specs.Devices.{target_state};
 
 use i2c_base::{Answer, DeviceKind, DeviceSpec, Event, NoMemory, Target};

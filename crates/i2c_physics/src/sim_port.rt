@@ -1,5 +1,4 @@
 ghost use Rattle.std.specs.Prelude.{◌≡◌, ◌<◌, ℕ, Bool, true, length, slice_get, IfOk, IsSome};
-ghost use Rattle.std.specs.Option.{option_map};
 ghost use Rattle.i2c_base.specs.Limits.{MOST_CALLS};
 ghost use Rattle.i2c_base.specs.Phases.{AnswersStart, phase_started, phase_put, phase_got};
 ghost use Rattle.i2c_base.specs.declared.port.Phase.TheVariants.{Idle};

@@ -1,5 +1,4 @@
 ghost use Rattle.std.specs.Prelude.{◌≡◌, ◌<◌, true, IsSome, map, IfOk};
-ghost use Rattle.std.specs.Option.{option_map};
 ghost use Rattle.i2c_base.specs.declared.port.PortCall.TheVariants as call;
 ghost use Rattle.i2c_spec.specs.Chips.{chip_opening};
 ghost use Rattle.i2c_spec.specs.Layouts.{board_of};

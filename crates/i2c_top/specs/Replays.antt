@@ -8,7 +8,6 @@ use Rattle.caller_core.specs.Scripts.{script_read, commands_of}
 use Rattle.caller_core.specs.View.{script_on}
 use Rattle.i2c_top.specs.Runs.{cost_of_texts, MOST_COST}
 use Rattle.i2c_top.specs.Schedules.{schedule_read}
-use Rattle.i2c_top.specs.declared.status.BoardRefusal.{BoardRefusal}
 use Rattle.i2c_top.specs.declared.status.Status.{Status}
 use Rattle.i2c_top.specs.declared.status.Status.TheVariants as status
 
