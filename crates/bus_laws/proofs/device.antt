@@ -1,6 +1,5 @@
 -- One message over two listeners, who hears it, and what it leaves.
 pub mod Talk
-pub mod States
 pub mod Hears
 pub mod Same
 pub mod Grant

@@ -1,13 +1,11 @@
 -- The devices of a root's world beside those of the flat world, and messages over both.
-use Rattle.std.specs.Prelude.{◌≡◌, ℕ, ◌==◌, ◌<◌, Bool, true, false, ◌⊎◌, List, [], ◌∷◌, Option, Some, None, IfSome, slice_get}
-use Rattle.std.specs.List.{AllByRecursion}
+use Rattle.std.specs.Prelude.{◌≡◌, ℕ, ◌==◌, Bool, true, false, ◌⊎◌, List, [], ◌∷◌, Option, Some, None, slice_get}
 use Rattle.i2c_base.specs.declared.ids.Node.{Node}
 use Rattle.i2c_base.specs.declared.ids.Node.TheVariants as node
 use Rattle.i2c_base.specs.declared.entry.End.{End}
 use Rattle.i2c_base.specs.Board.{BoardView}
-use Rattle.i2c_base.specs.Bytes.{IsByte}
 use Rattle.i2c_spec.specs.Tree.{root_of, of_device}
-use Rattle.i2c_spec.specs.Targets.{TargetState, Eeprom, Lm75, Regs, Smbus, Silent, IsQuiet, state_table}
+use Rattle.i2c_spec.specs.Targets.{TargetState, HoldsBytes, IsQuiet, state_table}
 use Rattle.i2c_spec.specs.World.{World, joins_device, start_chips, heard_of}
 use Rattle.i2c_spec.specs.Flat.{FlatListener, is_it, is_member}
 use Rattle.i2c_spec.specs.Conversation.{TalkTold, is_good}
@@ -15,18 +13,6 @@ use Rattle.i2c_spec.specs.Conversation.{TalkTold, is_good}
 -- device d stands on a bus of root r
 abbrev pub IsOf : BoardView → ℕ → ℕ → Type 0
 IsOf b r d = root_of b (of_device (λ x. x.bus) 0 b d) ≡ r
-
--- a number that fits in sixteen bits
-abbrev pub IsWord : ℕ → Type 0
-IsWord word = word < 65536
-
--- what a device holds are bytes, and words of two, and its address has seven bits: then the AND of one byte that is sent and the idle wires is that byte
-abbrev pub HoldsBytes : TargetState → Type 0
-HoldsBytes (Eeprom x) = AllByRecursion IsByte x.memory × AllByRecursion (λ place. IfSome place IsByte) x.waiting
-HoldsBytes (Lm75 x) = IsWord x.temperature × IsByte x.configuration × IsWord x.hysteresis × IsWord x.limit
-HoldsBytes (Regs x) = AllByRecursion IsByte x.memory
-HoldsBytes (Smbus x) = (x.addr < 128) × IsByte x.flip × IsByte x.code × AllByRecursion IsByte x.held × AllByRecursion IsByte x.memory
-HoldsBytes Silent = Unit {0}
 
 -- who listens to the message in progress, as a world lists it
 abbrev pub listening : Option ℕ → List Node

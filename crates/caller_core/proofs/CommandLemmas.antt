@@ -3,14 +3,15 @@ use Rattle.std.proofs.Common.{◌≡◌, ℕ, ◌+◌, ◌<◌, ◌≤◌, true,
 use Rattle.std.specs.Prelude.{All, nat_le}
 use Rattle.std.proofs.lemmas.Bool.Decides.{nat_tests}
 use Rattle.std.proofs.lemmas.List.Elements.{All-nil, All-cons}
+use Rattle.i2c_spec.specs.Flat.{block_limit}
 use Rattle.tool_words.specs.Commands.{is_command, some_command, line_read}
 use Rattle.tool_words.specs.Fronts.{words_of, lines_of}
 use Rattle.tool_words.specs.LineSets.{Word, follow_words}
 use Rattle.tool_words.specs.Lines.{script_lines, IsInRange}
 use Rattle.tool_words.specs.declared.cmd.Cmd.{Cmd}
 use Rattle.tool_words.proofs.LineLemmas.{reads_lines, means_in_range}
-use Rattle.caller_core.specs.View.{CommandView}
-use Rattle.caller_core.specs.Scripts.{Place, command_of, at_most, lines_read, behind_commands, behind_line_read, commands_or_none, script_read, commands_of}
+use Rattle.caller_core.specs.View.{CommandView, ScriptView}
+use Rattle.caller_core.specs.Scripts.{Place, command_of, at_most, lines_read, behind_commands, behind_line_read, commands_or_none, text_read, commands_of}
 
 abbrev pub IsRead : CommandView → Type 0
 IsRead c = IsInRange c.cmd
@@ -20,12 +21,12 @@ some_in_range : (c : Cmd) (r : Result Cmd ℕ) → ((d : Cmd) → r ≡ Ok d →
 some_in_range c (Err k) h e = absurd cc
 some_in_range c (Ok d) h e = let same : d ≡ c = cc in subst IsInRange same (h d refl)
 
-line_in_range : (line : List ℕ) (c : Cmd) → line_read line ≡ Ok (Some c) → IsInRange c
-line_in_range line c =
+line_in_range : (limit : ℕ) (line : List ℕ) (c : Cmd) → line_read limit line ≡ Ok (Some c) → IsInRange c
+line_in_range limit line c =
     let ws : List Word = words_of line in
-    elim (is_command ws) as (λ b. cond b (some_command (follow_words script_lines 0 ws)) (Ok None) ≡ Ok (Some c) → IsInRange c) [
+    elim (is_command ws) as (λ b. cond b (some_command (follow_words (script_lines limit) 0 ws)) (Ok None) ≡ Ok (Some c) → IsInRange c) [
       | false ↦ λ e. absurd cc
-      | true ↦ λ e. some_in_range c (follow_words script_lines 0 ws) (λ d h. means_in_range ws d ((reads_lines ws d).0 h)) e
+      | true ↦ λ e. some_in_range c (follow_words (script_lines limit) 0 ws) (λ d h. means_in_range limit ws d ((reads_lines limit ws d).0 h)) e
     ]
 
 -- the commands that are read behind so many others
@@ -59,15 +60,15 @@ behind_one count line c (Ok ds) cs n h e =
     let all : All IsRead (command_of line c ∷ ds) = All-cons IsRead (command_of line c) ds n.fits rest.fits in
     subst (λ (xs : List CommandView). AreRead count xs) same (record { fits = all; most = λ m. let k : count + 1 + length ds ≤ 1000 = rest.most (omega (arith, n.room)) in omega arith })
 
-lines_are_read : (number count : ℕ) (ls : List (List ℕ)) (cs : List CommandView) → lines_read number count ls ≡ Ok cs → AreRead count cs
-lines_are_read number count [] cs e =
+lines_are_read : (limit number count : ℕ) (ls : List (List ℕ)) (cs : List CommandView) → lines_read limit number count ls ≡ Ok cs → AreRead count cs
+lines_are_read limit number count [] cs e =
     let same : [] ≡ cs = cc in subst (λ (xs : List CommandView). AreRead count xs) same (record { fits = All-nil IsRead; most = λ m. omega arith })
-lines_are_read number count (l ∷ ls) cs e =
-    (elim (at_most count (line_read l)) as (λ r. at_most count (line_read l) ≡ r → behind_line_read number l r (lines_read (number + 1) count ls) (lines_read (number + 1) (count + 1) ls) ≡ Ok cs → AreRead count cs) [
+lines_are_read limit number count (l ∷ ls) cs e =
+    (elim (at_most count (line_read limit l)) as (λ r. at_most count (line_read limit l) ≡ r → behind_line_read number l r (lines_read limit (number + 1) count ls) (lines_read limit (number + 1) (count + 1) ls) ≡ Ok cs → AreRead count cs) [
       | Err word ↦ λ h k. absurd cc
-      | Ok o ↦ (elim o as (λ v. at_most count (line_read l) ≡ Ok v → behind_line_read number l (Ok v) (lines_read (number + 1) count ls) (lines_read (number + 1) (count + 1) ls) ≡ Ok cs → AreRead count cs) [
-        | None ↦ λ h k. lines_are_read (number + 1) count ls cs k
-        | Some c ↦ λ h k. behind_one count l c (lines_read (number + 1) (count + 1) ls) cs (next_of count c (line_read l) (line_in_range l) h) (lines_are_read (number + 1) (count + 1) ls) k
+      | Ok o ↦ (elim o as (λ v. at_most count (line_read limit l) ≡ Ok v → behind_line_read number l (Ok v) (lines_read limit (number + 1) count ls) (lines_read limit (number + 1) (count + 1) ls) ≡ Ok cs → AreRead count cs) [
+        | None ↦ λ h k. lines_are_read limit (number + 1) count ls cs k
+        | Some c ↦ λ h k. behind_one count l c (lines_read limit (number + 1) (count + 1) ls) cs (next_of count c (line_read limit l) (line_in_range limit l) h) (lines_are_read limit (number + 1) (count + 1) ls) k
       ])
     ]) refl e
 
@@ -75,8 +76,14 @@ script_is_read : (r : Result (List CommandView) Place) → ((cs : List CommandVi
 script_is_read (Ok cs) h = h cs refl
 script_is_read (Err p) h = record { fits = All-nil IsRead; most = λ m. omega arith }
 
-pub commands_are_read : (text : List ℕ) → AreRead 0 (commands_of text)
-commands_are_read text = script_is_read (script_read text) (lines_are_read 1 0 (lines_of text))
+pub text_is_read : (limit : ℕ) (text : List ℕ) → AreRead 0 (commands_or_none (text_read limit text))
+text_is_read limit text = script_is_read (text_read limit text) (lines_are_read limit 1 0 (lines_of text))
 
-pub commands_most : (text : List ℕ) → length (commands_of text) ≤ 1000
-commands_most text = let h : 0 + length (commands_of text) ≤ 1000 = (commands_are_read text).most (omega arith) in omega arith
+pub commands_are_read : (s : ScriptView) → AreRead 0 (commands_of s)
+commands_are_read s = text_is_read (block_limit s.board) s.text
+
+pub text_most : (limit : ℕ) (text : List ℕ) → length (commands_or_none (text_read limit text)) ≤ 1000
+text_most limit text = let h : 0 + length (commands_or_none (text_read limit text)) ≤ 1000 = (text_is_read limit text).most (omega arith) in omega arith
+
+pub commands_most : (s : ScriptView) → length (commands_of s) ≤ 1000
+commands_most s = text_most (block_limit s.board) s.text

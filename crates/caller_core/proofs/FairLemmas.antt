@@ -24,7 +24,7 @@ asked_from cs rs t all e =
     asks_at n.command.cmd (length p.own) t read n.at
 
 asked : (s : ScriptView) (rs : List Reply) (t : TransferView) → asked_by s rs ≡ Some t → IsAsk t
-asked s rs t e = asked_from (commands_of s.text) rs t (commands_are_read s.text).fits e
+asked s rs t e = asked_from (commands_of s) rs t (commands_are_read s).fits e
 
 cost_some : (b : BoardView) (t : TransferView) → 1 ≤ cost_of b t
 cost_some b t = elim (nat_lt t.bus (buses b)) as (λ v. 1 ≤ cond v (1 + full_cost (hops b t.bus) (steps_of b t)) 1) [ true ↦ omega arith | false ↦ omega arith ]
@@ -35,9 +35,9 @@ scripts_fair =
       sends = λ s rs t e. (asked s rs t e).sends;
       limits = λ s rs t e. (asked s rs t e).fits;
       costs = λ s rs t e. cost_some s.board t;
-      falls = λ s rs t r e fit. sum_falls (cost_of s.board) (commands_of s.text) rs r t e;
+      falls = λ s rs t r e fit. sum_falls (cost_of s.board) (commands_of s) rs r t e;
     }
 
 -- before any reply the whole script is left
 pub left_at_first : (s : ScriptView) → left_of s [] ≡ cost_of_script s
-left_at_first s = sum_start (cost_of s.board) (commands_of s.text)
+left_at_first s = sum_start (cost_of s.board) (commands_of s)

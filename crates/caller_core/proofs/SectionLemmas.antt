@@ -5,6 +5,7 @@ use Rattle.std.specs.List.{flat_map, fold, list_any}
 use Rattle.std.proofs.lemmas.Bool.{or_from}
 use Rattle.std.proofs.lemmas.List.Elements.{All-nil, All-cons, All-head, All-tail, All-append}
 use Rattle.i2c_base.specs.declared.reply.Reply.{Reply}
+use Rattle.i2c_spec.specs.Flat.{block_limit}
 use Rattle.bus_journal.specs.Reports.{IsLine, ended, IsSectionLine, HasNoJournalLine}
 use Rattle.bus_journal.proofs.LineFeeds.{line-append}
 use Rattle.tool_words.specs.Commands.{line_read}
@@ -15,7 +16,7 @@ use Rattle.tool_run.proofs.LineLemmas.{answer_line}
 use Rattle.caller_core.specs.Progress.{Answered, Progress, begun, next_turn, replied_to, replied, progress}
 use Rattle.caller_core.specs.Scripts.{Place, command_of, at_most, lines_read, behind_commands, behind_line_read, commands_or_none, script_read, commands_of, command_text}
 use Rattle.caller_core.specs.Sections.{SectionsHaveNoJournalLine}
-use Rattle.caller_core.specs.View.{CommandView}
+use Rattle.caller_core.specs.View.{CommandView, ScriptView}
 
 -- ---- no line feed stands in a line, its words, and what is printed of them
 
@@ -76,15 +77,15 @@ behind_one line c (Ok ds) cs is h e =
     let same : command_of line c ∷ ds ≡ cs = cc in
     subst (All HasLine) same (All-cons HasLine (command_of line c) ds (joined_line (words_of line) (words_are_lines line is)) (h ds refl))
 
-read_lines : (number count : ℕ) (ls : List (List ℕ)) (cs : List CommandView) → All IsLine ls → lines_read number count ls ≡ Ok cs → All HasLine cs
-read_lines number count [] cs lines e = let same : [] ≡ cs = cc in subst (All HasLine) same (All-nil HasLine)
-read_lines number count (l ∷ ls) cs lines e =
+read_lines : (limit number count : ℕ) (ls : List (List ℕ)) (cs : List CommandView) → All IsLine ls → lines_read limit number count ls ≡ Ok cs → All HasLine cs
+read_lines limit number count [] cs lines e = let same : [] ≡ cs = cc in subst (All HasLine) same (All-nil HasLine)
+read_lines limit number count (l ∷ ls) cs lines e =
     let more : All IsLine ls = All-tail IsLine l ls lines in
-    (elim (at_most count (line_read l)) as (λ r. behind_line_read number l r (lines_read (number + 1) count ls) (lines_read (number + 1) (count + 1) ls) ≡ Ok cs → All HasLine cs) [
+    (elim (at_most count (line_read limit l)) as (λ r. behind_line_read number l r (lines_read limit (number + 1) count ls) (lines_read limit (number + 1) (count + 1) ls) ≡ Ok cs → All HasLine cs) [
       | Err word ↦ λ k. absurd cc
-      | Ok o ↦ (elim o as (λ v. behind_line_read number l (Ok v) (lines_read (number + 1) count ls) (lines_read (number + 1) (count + 1) ls) ≡ Ok cs → All HasLine cs) [
-        | None ↦ λ k. read_lines (number + 1) count ls cs more k
-        | Some c ↦ λ k. behind_one l c (lines_read (number + 1) (count + 1) ls) cs (All-head IsLine l ls lines) (λ ds h. read_lines (number + 1) (count + 1) ls ds more h) k
+      | Ok o ↦ (elim o as (λ v. behind_line_read number l (Ok v) (lines_read limit (number + 1) count ls) (lines_read limit (number + 1) (count + 1) ls) ≡ Ok cs → All HasLine cs) [
+        | None ↦ λ k. read_lines limit (number + 1) count ls cs more k
+        | Some c ↦ λ k. behind_one l c (lines_read limit (number + 1) (count + 1) ls) cs (All-head IsLine l ls lines) (λ ds h. read_lines limit (number + 1) (count + 1) ls ds more h) k
       ])
     ]) e
 
@@ -92,8 +93,8 @@ have_lines : (r : Result (List CommandView) Place) → ((cs : List CommandView) 
 have_lines (Ok cs) h = h cs refl
 have_lines (Err p) h = All-nil HasLine
 
-commands_have_lines : (text : List ℕ) → All HasLine (commands_of text)
-commands_have_lines text = have_lines (script_read text) (λ cs h. read_lines 1 0 (lines_of text) cs (lines_are_lines text) h)
+commands_have_lines : (s : ScriptView) → All HasLine (commands_of s)
+commands_have_lines s = have_lines (script_read s) (λ cs h. read_lines (block_limit s.board) 1 0 (lines_of s.text) cs (lines_are_lines s.text) h)
 
 -- ---- those that are over
 
@@ -147,5 +148,5 @@ section_lines (a ∷ done) h =
     }
 
 pub no_journal_line : SectionsHaveNoJournalLine
-no_journal_line text replies =
-    section_lines (progress (commands_of text) replies).over (goes_on (begun (commands_of text)) replies (record { over = All-nil OverHasLine; left = commands_have_lines text })).over
+no_journal_line script replies =
+    section_lines (progress (commands_of script) replies).over (goes_on (begun (commands_of script)) replies (record { over = All-nil OverHasLine; left = commands_have_lines script })).over

@@ -105,16 +105,16 @@ module _ (script : ScriptView) (cs : List CommandView) (taken : PackedView Reply
   taking view is seen asks covers =
       let rs : List Reply = replies_of taken.items in
       let t : TransferView = asks.0 in
-      let asked : asked_at (progress (commands_of script.text) rs) ≡ Some t = subst (λ (v : CallerView). asked_by v.script v.taken ≡ Some t) (sym seen) asks.1 in
+      let asked : asked_at (progress (commands_of script) rs) ≡ Some t = subst (λ (v : CallerView). asked_by v.script v.taken ≡ Some t) (sym seen) asks.1 in
       let next : asked_at (progress cs rs) ≡ Some t = ap (λ xs. asked_at (progress xs rs)) (sym is.whole) ∙ asked in
-      let ask : IsAsk t = asked_from cs rs t (subst (All IsRead) is.whole (commands_are_read script.text).fits) next in
+      let ask : IsAsk t = asked_from cs rs t (subst (All IsRead) is.whole (commands_are_read script).fits) next in
       let covered : Covers (record { replies = taken.room; bytes = printed.room }) (owed_by script rs) = subst (λ (v : CallerView). Covers v.spare (owed_by v.script v.taken)) (sym seen) covers in
       record {
         transfer = t;
         next = next;
         fits = asks.2;
         few = brings_few t r ask.fits asks.2;
-        count = omega (arith, commands_most script.text, ap length is.whole);
+        count = omega (arith, commands_most script, ap length is.whole);
         at = is.at;
         turn = is_turn cs rs place from run t is.at next;
         room_bytes = omega (arith, covered.bytes, ap (λ xs. sum_by room_of (progress xs rs).left) is.whole);

@@ -21,7 +21,7 @@ use Rattle.tool_run.proofs.TransferLemmas.{asks_some}
 use Rattle.caller_core.specs.Kept.{IsAt, run_of}
 use Rattle.caller_core.specs.Progress.{Answered, Progress, next_turn, replied_to, progress, next_of, asked_at}
 use Rattle.caller_core.specs.Scripts.{commands_of, command_text, section_text}
-use Rattle.caller_core.specs.View.{CommandView}
+use Rattle.caller_core.specs.View.{CommandView, ScriptView}
 use Rattle.caller_core.proofs.CommandLemmas.{IsRead, commands_are_read}
 use Rattle.caller_core.proofs.ProgressLemmas.{IsNext, is_next, progress_push}
 
@@ -116,10 +116,10 @@ is_running cs rs place from o run a e =
           ∙ slice_get_read ts (length ts) k t refl (a.more c s.is) (is ∙ ap (λ (x : RunView). get_or (transfers_of x.cmd) x.taken t) s.same);
     }
 
-pub run_in_range : (text : List ℕ) (cs : List CommandView) (rs : List Reply) (place from : ℕ) (run : RunView) → commands_of text ≡ cs → IsRunning cs rs place from run → IsInRange run.cmd
-run_in_range text cs rs place from run whole is =
+pub run_in_range : (script : ScriptView) (cs : List CommandView) (rs : List Reply) (place from : ℕ) (run : RunView) → commands_of script ≡ cs → IsRunning cs rs place from run → IsInRange run.cmd
+run_in_range script cs rs place from run whole is =
     let c : CommandView = is.command in
-    let all : All IsRead cs = subst (All IsRead) whole (commands_are_read text).fits in
+    let all : All IsRead cs = subst (All IsRead) whole (commands_are_read script).fits in
     let read : IsRead c = subst IsRead (get_or_from_slice_get cs place c c is.at) (All-get_or IsRead cs place c (slice_get_within cs place c is.at) all) in
     subst (λ (x : RunView). IsInRange x.cmd) (sym is.same) read
 

@@ -23,7 +23,7 @@ abbrev pub need_at : Progress → Need
 need_at p = record { replies = sum_left (λ t. 1) p; bytes = sum_by room_of p.left }
 
 abbrev pub owed_by : ScriptView → List Reply → Need
-owed_by s taken = need_at (progress (commands_of s.text) taken)
+owed_by s taken = need_at (progress (commands_of s) taken)
 
 -- whatever board and text a script is opened with: each of its transfers has messages and keeps the limits, and what is
 -- left covers its cost and falls by it

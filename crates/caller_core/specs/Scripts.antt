@@ -4,6 +4,7 @@ use Rattle.std.specs.List.{sum_by, flat_map}
 use Rattle.i2c_base.specs.Transfer.{TransferView}
 use Rattle.i2c_base.specs.declared.reply.Reply.{Reply}
 use Rattle.i2c_spec.specs.Cost.{cost_of}
+use Rattle.i2c_spec.specs.Flat.{block_limit}
 use Rattle.tool_words.specs.Commands.{line_read}
 use Rattle.tool_words.specs.Fronts.{words_of, joined_words, lines_of}
 use Rattle.tool_words.specs.declared.cmd.Cmd.{Cmd}
@@ -38,13 +39,18 @@ behind_line_read number line (Err word) same more = Err (record { line = number;
 behind_line_read number line (Ok None) same more = same
 behind_line_read number line (Ok (Some c)) same more = behind_commands (command_of line c ∷ []) more
 
--- the lines from this number on, behind so many commands
-abbrev pub lines_read : ℕ → ℕ → List (List ℕ) → Result (List CommandView) Place
-lines_read number count [] = Ok []
-lines_read number count (l ∷ ls) = behind_line_read number l (at_most count (line_read l)) (lines_read (number + 1) count ls) (lines_read (number + 1) (count + 1) ls)
+-- the lines from this number on, behind so many commands, where a block of the board has at most `limit` bytes
+abbrev pub lines_read : (limit number count : ℕ) → List (List ℕ) → Result (List CommandView) Place
+lines_read limit number count [] = Ok []
+lines_read limit number count (l ∷ ls) =
+    behind_line_read number l (at_most count (line_read limit l)) (lines_read limit (number + 1) count ls) (lines_read limit (number + 1) (count + 1) ls)
 
-abbrev pub script_read : List ℕ → Result (List CommandView) Place
-script_read text = lines_read 1 0 (lines_of text)
+abbrev pub text_read : (limit : ℕ) → List ℕ → Result (List CommandView) Place
+text_read limit text = lines_read limit 1 0 (lines_of text)
+
+-- a script is read with the block limit of its board
+abbrev pub script_read : ScriptView → Result (List CommandView) Place
+script_read s = text_read (block_limit s.board) s.text
 
 abbrev pub ScriptFaultIs : Result (List CommandView) Place → ScriptFault → Type 0
 ScriptFaultIs r (script_fault.Bad line word) = r ≡ Err (record { line = line; word = word })
@@ -54,23 +60,23 @@ abbrev pub fault_at : LineFault → ℕ → ScriptFault
 fault_at (line_fault.Word word) line = script_fault.Bad line word
 fault_at line_fault.Memory line = script_fault.Memory
 
--- the commands of a text in the grammar, and what they ask for one after the other
+-- the commands of a script in the grammar, and what they ask for one after the other
 abbrev pub commands_or_none : Result (List CommandView) Place → List CommandView
 commands_or_none (Ok cs) = cs
 commands_or_none (Err p) = []
 
-abbrev pub commands_of : List ℕ → List CommandView
-commands_of text = commands_or_none (script_read text)
+abbrev pub commands_of : ScriptView → List CommandView
+commands_of s = commands_or_none (script_read s)
 
 abbrev pub asked_by : ScriptView → List Reply → Option TransferView
-asked_by s taken = asked_at (progress (commands_of s.text) taken)
+asked_by s taken = asked_at (progress (commands_of s) taken)
 
 -- what the whole script can take of steps, and what is left of it behind these replies
 abbrev pub cost_of_script : ScriptView → ℕ
-cost_of_script s = sum_by (sum_of_command (cost_of s.board)) (commands_of s.text)
+cost_of_script s = sum_by (sum_of_command (cost_of s.board)) (commands_of s)
 
 abbrev pub left_of : ScriptView → List Reply → ℕ
-left_of s taken = sum_left (cost_of s.board) (progress (commands_of s.text) taken)
+left_of s taken = sum_left (cost_of s.board) (progress (commands_of s) taken)
 
 -- a command that is over: its words, and what it answers
 abbrev pub command_text : Answered → List ℕ

@@ -15,6 +15,9 @@ pub record ScriptView : Type 0 where
   pub board : BoardView
   pub text : List ℕ
 
+abbrev pub script_on : BoardView → List ℕ → ScriptView
+script_on b text = record { board = b; text = text }
+
 -- what it was opened with, the replies that it took, and the room that it has for more
 pub record CallerView : Type 0 where
   pub script : ScriptView

@@ -7,6 +7,7 @@ ghost use Rattle.caller_core.specs.Callers.{IsOpened, ScriptsAreFair};
 ghost use Rattle.caller_core.specs.Kept.{run_of};
 ghost use Rattle.caller_core.specs.Roots.{HasRoots};
 ghost use Rattle.caller_core.specs.Sections.{SectionsHaveNoJournalLine};
+ghost use Rattle.caller_core.specs.View.{script_on};
 ghost use Rattle.caller_core.specs.Scripts.{script_read, commands_of, cost_of_script, ScriptFaultIs, command_text, section_text};
 
 use crate::commands::Commands;
@@ -66,10 +67,10 @@ impl Script {
     pub fn open(alloc: Global, board: &Accepted, text: Vec<u8>) -> Result<Self, ScriptFault>
         requires { length text.items ≤ 2 ^ 28 }
         ensures ok { IfOk result (IsOpened board.now text.items) }
-        ensures read { OnOk result (script_read text.items ≡ Ok (commands_of text.items)) }
-        ensures fault { IfErr result (ScriptFaultIs (script_read text.items)) }
+        ensures read { OnOk result (script_read (script_on board.now text.items) ≡ Ok (commands_of (script_on board.now text.items))) }
+        ensures fault { IfErr result (ScriptFaultIs (script_read (script_on board.now text.items))) }
     {
-        let commands = read_script(alloc, text.as_slice())?;
+        let commands = read_script(alloc, text.as_slice(), board.board().limit())?;
         let totals = totals_of(board, &commands);
         let taken = Packed::with_room(alloc, totals.replies as usize, totals.bytes)?;
         Ok(Script {
@@ -95,14 +96,14 @@ impl Script {
 
     /// A bit for each root that its transfers name.
     pub fn roots(&self) -> u8
-        ensures { HasRoots self.now.script.board (commands_of self.now.script.text) result }
+        ensures { HasRoots self.now.script.board (commands_of self.now.script) result }
     {
         self.totals.roots
     }
 
     /// What it has printed: each command that is over, and its answer.
     pub fn text(&self) -> &[u8]
-        ensures { result.now ≡ section_text (commands_of self.now.script.text) self.now.taken }
+        ensures { result.now ≡ section_text (commands_of self.now.script) self.now.taken }
     {
         self.printed.as_slice()
     }
@@ -137,6 +138,7 @@ fn push_command(out: &mut Text, echo: &[u8], run: ToolRun, replies: &Packed<Repl
 
 impl Caller for Script {
     ghost use Rattle.caller_core.specs.Callers.{board_of, owed_by};
+    ghost use Rattle.caller_core.specs.View.{script_on};
     ghost use Rattle.caller_core.specs.Scripts.{asked_by, left_of};
 
     type Script = ScriptData;

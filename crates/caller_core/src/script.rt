@@ -2,7 +2,7 @@ ghost use Rattle.std.specs.Prelude.{◌≡◌, ◌+◌, ◌^◌, ◌<◌, ◌≤
 ghost use Rattle.tool_words.specs.Commands.{line_read};
 ghost use Rattle.tool_words.specs.Fronts.{lines_of};
 ghost use Rattle.tool_words.specs.Readers.{FaultIs};
-ghost use Rattle.caller_core.specs.Scripts.{script_read, at_most, ScriptFaultIs, fault_at};
+ghost use Rattle.caller_core.specs.Scripts.{text_read, at_most, ScriptFaultIs, fault_at};
 ghost use Rattle.caller_core.specs.ScriptSteps.{IsStep, IsRefused};
 ghost use Rattle.caller_core.specs.declared.script.ScriptFault.TheVariants.{Memory as NoRoomForScript};
 
@@ -48,16 +48,17 @@ fn fault_at(fault: LineFault, line: u32) -> ScriptFault
     }
 }
 
-// Reads a line behind so many commands. One more than the most is refused at its first word.
+// Reads a line behind so many commands, over a board with this block limit. One more than the most is refused at its first word.
 fn read_behind<'a>(
     words: &mut Vec<&'a [u8]>,
     line: &'a [u8],
+    limit: u8,
     count: usize,
 ) -> Result<Option<Cmd>, LineFault>
-    ensures { MatchResult result (λ o. at_most count (line_read line.now) ≡ Ok o) (FaultIs (at_most count (line_read line.now))) }
+    ensures { MatchResult result (λ o. at_most count (line_read limit line.now) ≡ Ok o) (FaultIs (at_most count (line_read limit line.now))) }
 {
     let is_full = count >= MOST_COMMANDS;
-    match read_line(words, line) {
+    match read_line(words, line, limit) {
         Ok(None) => Ok(None),
         Ok(Some(_)) | Err(LineFault::Word(_)) if is_full => Err(LineFault::Word(0)),
         read => read,
@@ -71,12 +72,13 @@ fn take_line<'a>(
     echo: &mut Vec<u8>,
     commands: &mut Commands,
     line: &'a [u8],
+    limit: u8,
     number: u32,
 ) -> Result<(), ScriptFault>
-    ensures ok { OnOk result (IsStep number commands.old commands.new line.now) }
-    ensures err { IfErr result (IsRefused number commands.old line.now) }
+    ensures ok { OnOk result (IsStep limit number commands.old commands.new line.now) }
+    ensures err { IfErr result (IsRefused limit number commands.old line.now) }
 {
-    match read_behind(words, line, commands.len()) {
+    match read_behind(words, line, limit, commands.len()) {
         Err(fault) => Err(fault_at(fault, number)),
         Ok(None) => Ok(()),
         Ok(Some(cmd)) if is_joined(line) => Ok(commands.push(cmd, line)?),
@@ -100,10 +102,10 @@ fn cut_at(text: &[u8], at: usize) -> (usize, usize)
     cut_line(&text[at..])
 }
 
-/// Reads the commands of a script.
-pub fn read_script(alloc: Global, text: &[u8]) -> Result<Commands, ScriptFault>
+/// Reads the commands of a script, over a board with this block limit, which is 1 to 255 bytes.
+pub fn read_script(alloc: Global, text: &[u8], limit: u8) -> Result<Commands, ScriptFault>
     requires { length text.now ≤ 2 ^ 28 }
-    ensures { MatchResult result (λ cs. script_read text.now ≡ Ok cs) (ScriptFaultIs (script_read text.now)) }
+    ensures { MatchResult result (λ cs. text_read limit text.now ≡ Ok cs) (ScriptFaultIs (text_read limit text.now)) }
 {
     let mut words = Vec::new(alloc);
     let mut echo = Vec::new(alloc);
@@ -114,7 +116,7 @@ pub fn read_script(alloc: Global, text: &[u8]) -> Result<Commands, ScriptFault>
         let (len, skip) = cut_at(text, at);
         number += 1;
         let line = &text[at..at + len];
-        if let Err(fault) = take_line(&mut words, &mut echo, &mut commands, line, number) {
+        if let Err(fault) = take_line(&mut words, &mut echo, &mut commands, line, limit, number) {
             return Err(fault);
         }
         at += skip;

@@ -1,4 +1,5 @@
--- The limits of a board and of what is done on it, each by its one name; the code has the same names.
+-- The limits of a board and of what is done on it, each by its one name. The code has the same names, and a law that each
+-- of them is this one (the_code_has_these_limits).
 use Rattle.std.specs.Prelude.{ℕ, ◌+◌, ◌*◌}
 
 -- a board has 1 to so many roots, and at most so many muxes and devices; a mux has 1 to so many channels, and no bus
@@ -42,9 +43,18 @@ MOST_BYTES = 4096
 abbrev pub BLOCK_LIMIT : ℕ
 BLOCK_LIMIT = 32
 
+-- a block that a command asks for by its length has at most so many bytes, whatever the board's block limit is (Linux
+-- i2c.h: I2C_SMBUS_BLOCK_MAX)
+abbrev pub I2C_BLOCK_LIMIT : ℕ
+I2C_BLOCK_LIMIT = 32
+
 -- an arbitrator is asked so often before it is told to be held
 abbrev pub POLLS : ℕ
 POLLS = 8
+
+-- a controller looks so often at a clock that a target holds, before it gives up
+abbrev pub MOST_LOOKS : ℕ
+MOST_LOOKS = 64
 
 -- a run has at most so many callers, and each port's log holds so many calls
 abbrev pub MOST_CALLERS : ℕ

@@ -34,8 +34,9 @@ pub use event::{Answer, Event, Target};
 pub use flags::MsgFlags;
 pub use ids::{DevId, LockId, MuxId, Node, SegId};
 pub use limits::{
-    BLOCK_LIMIT, MOST_BYTES, MOST_CALLERS, MOST_CALLS, MOST_CHANNELS, MOST_DEPTH, MOST_DEVICES,
-    MOST_LENGTH, MOST_MESSAGES, MOST_MUXES, MOST_ROOTS, POLLS,
+    BLOCK_LIMIT, I2C_BLOCK_LIMIT, MOST_BYTES, MOST_CALLERS, MOST_CALLS, MOST_CHANNELS, MOST_DEPTH,
+    MOST_DEVICES, MOST_LENGTH, MOST_LOOKS, MOST_MESSAGES, MOST_MUXES, MOST_ROOTS, POLLS,
+    the_code_has_these_limits,
 };
 pub use memory::NoMemory;
 pub use mux_facts::{ChannelCode, MuxFacts};

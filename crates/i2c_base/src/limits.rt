@@ -1,3 +1,7 @@
+ghost use Rattle.std.specs.Prelude.{◌≡◌};
+ghost use Rattle.i2c_base.specs.Limits as limit;
+ghost use Rattle.i2c_base.specs.declared.limits.TheConstants as code;
+
 /// The most roots of a board, which has at least one.
 pub const MOST_ROOTS: usize = 8;
 
@@ -25,11 +29,28 @@ pub const MOST_BYTES: usize = 4096;
 /// The most bytes of a block (SMBus 2.0 section 5.5.7).
 pub const BLOCK_LIMIT: u8 = 32;
 
+/// The most bytes of a block that is asked for by its length, whatever the board's block limit is (Linux i2c.h:
+/// I2C_SMBUS_BLOCK_MAX).
+pub const I2C_BLOCK_LIMIT: u8 = 32;
+
 /// How often an arbitrator is asked before it is told to be held.
 pub const POLLS: u8 = 8;
+
+/// How often a controller looks at a clock that a target holds, before it gives up.
+pub const MOST_LOOKS: u8 = 64;
 
 /// The most callers of a run.
 pub const MOST_CALLERS: u8 = 8;
 
 /// The most calls that the log of a port holds.
 pub const MOST_CALLS: usize = 2_000_000;
+
+/// Each limit of the code is the one of its name in the definitions.
+pub fn the_code_has_these_limits()
+    ensures board { (code.MOST_ROOTS ≡ limit.MOST_ROOTS) × (code.MOST_MUXES ≡ limit.MOST_MUXES) × (code.MOST_DEVICES ≡ limit.MOST_DEVICES) }
+    ensures tree { (code.MOST_CHANNELS ≡ limit.MOST_CHANNELS) × (code.MOST_DEPTH ≡ limit.MOST_DEPTH) }
+    ensures transfer { (code.MOST_MESSAGES ≡ limit.MOST_MESSAGES) × (code.MOST_LENGTH ≡ limit.MOST_LENGTH) × (code.MOST_BYTES ≡ limit.MOST_BYTES) }
+    ensures block { (code.BLOCK_LIMIT ≡ limit.BLOCK_LIMIT) × (code.I2C_BLOCK_LIMIT ≡ limit.I2C_BLOCK_LIMIT) }
+    ensures asked { (code.POLLS ≡ limit.POLLS) × (code.MOST_LOOKS ≡ limit.MOST_LOOKS) }
+    ensures run { (code.MOST_CALLERS ≡ limit.MOST_CALLERS) × (code.MOST_CALLS ≡ limit.MOST_CALLS) }
+{}

@@ -1,19 +1,16 @@
 -- Where nothing is wrong with a table, the value at each key of its rules is as listed, or missing.
-use Rattle.std.proofs.Common.{◌≡◌, ℕ, zero, suc, Bool, true, false, not, ◌&&◌, List, [], ◌∷◌, ◌++◌, Option, Some, None, if◌then◌else◌, refl, ap, subst, ◌∙◌}
+use Rattle.std.proofs.Common.{◌≡◌, ℕ, zero, suc, Bool, true, false, not, ◌&&◌, List, [], ◌∷◌, ◌++◌, Option, Some, None, if◌then◌else◌, refl, ap, subst}
 use Rattle.std.proofs.lemmas.Bool.{and_parts}
 use Rattle.std.specs.List.{list_all}
 use Rattle.std.specs.Option.{unwrap_or}
 use Rattle.std.specs.Prelude.{codes, slice_get}
 use Rattle.toml.specs.Data.{Members, get_member}
-use Rattle.i2c_spec.specs.Numbers.{channels_key, foreign_key}
 use Rattle.i2c_boardtext.specs.Devices.{device_row, memory_of}
-use Rattle.i2c_boardtext.specs.Keys.{bus_rule, address_rule, every_device, set_rule, set_rules, chip_mux, arbitrator_mux, line_mux, mux_rules, device_rules}
-use Rattle.i2c_boardtext.specs.Numbers.{may_say, has_to_say}
+use Rattle.i2c_boardtext.specs.Keys.{bus_rule, every_device, set_rule, set_rules, chip_mux, arbitrator_mux, line_mux, mux_rules, device_rules}
 use Rattle.i2c_boardtext.specs.Rules.{KeyRule, is_there, is_fit, are_listed, fits_if_there, table_fault}
 use Rattle.i2c_boardtext.specs.declared.fault.TableFault.TheVariants as fault
 use Rattle.i2c_base.specs.declared.board.MuxKind.{MuxKind}
 use Rattle.i2c_base.specs.Muxes.{facts_of}
-use Rattle.i2c_base.proofs.MuxLemmas.{arbitrator_row}
 use Rattle.i2c_boardtext.specs.declared.devices.DeviceName.{DeviceName}
 
 -- by the rules, from the first on
@@ -32,7 +29,7 @@ fits_all false fitting h = absurd (cc h)
 fits_all true false h = absurd (cc h)
 fits_all true true h = refl
 
-pub kept : (rules : List KeyRule) (ms : Members) (i : ℕ) (r : KeyRule) → table_fault rules ms ≡ None → slice_get rules i ≡ Some r → fits_if_there r.test (get_member r.name ms) ≡ true
+kept : (rules : List KeyRule) (ms : Members) (i : ℕ) (r : KeyRule) → table_fault rules ms ≡ None → slice_get rules i ≡ Some r → fits_if_there r.test (get_member r.name ms) ≡ true
 kept rules ms i r none at =
     fit_at rules ms i r (fits_all (are_listed rules ms && list_all (is_there ms) rules) (list_all (is_fit ms) rules) none) at
 
@@ -48,41 +45,10 @@ pub mux_bus : (buses : ℕ) (k : MuxKind) (ms : Members) → table_fault (mux_ru
     → fits_if_there (bus_rule buses).test (get_member (codes "bus") ms) ≡ true
 mux_bus buses k ms none = each_bus buses (facts_of k).by_line (facts_of k).asks ms none
 
--- the address of a mux with a chip, the channels of one whose board says them, and what else an arbitrator has
-chip_address : (buses : ℕ) (by_line asks : Bool) (ms : Members) → by_line ≡ false
-    → table_fault (if by_line then line_mux buses else if asks then arbitrator_mux buses else chip_mux buses) ms ≡ None
-    → fits_if_there address_rule.test (get_member (codes "address") ms) ≡ true
-chip_address buses true asks ms e none = absurd (let f : true ≡ false = e in cc)
-chip_address buses false true ms e none = kept (arbitrator_mux buses) ms 4 address_rule none refl
-chip_address buses false false ms e none = kept (chip_mux buses) ms 4 address_rule none refl
-
-pub mux_address : (buses : ℕ) (k : MuxKind) (ms : Members) → (facts_of k).by_line ≡ false → table_fault (mux_rules buses k) ms ≡ None
-    → fits_if_there address_rule.test (get_member (codes "address") ms) ≡ true
-mux_address buses k ms e none = chip_address buses (facts_of k).by_line (facts_of k).asks ms e none
-
-pub mux_channels : (buses : ℕ) (k : MuxKind) (ms : Members) → (facts_of k).by_line ≡ true → table_fault (mux_rules buses k) ms ≡ None
-    → fits_if_there (has_to_say channels_key).test (get_member (codes "channels") ms) ≡ true
-mux_channels buses k ms e none =
-    let rules : mux_rules buses k ≡ line_mux buses =
-    ap (λ (t : Bool). if t then line_mux buses else if (facts_of k).asks then arbitrator_mux buses else chip_mux buses) e in
-    kept (line_mux buses) ms 4 (has_to_say channels_key) (subst (λ (rs : List KeyRule). table_fault rs ms ≡ None) rules none) refl
-
-pub mux_foreign : (buses : ℕ) (k : MuxKind) (ms : Members) → (facts_of k).asks ≡ true → table_fault (mux_rules buses k) ms ≡ None
-    → fits_if_there (may_say foreign_key).test (get_member (codes "foreign") ms) ≡ true
-mux_foreign buses k ms e none =
-    let rules : mux_rules buses k ≡ arbitrator_mux buses =
-    ap (λ (t : Bool). if t then line_mux buses else if (facts_of k).asks then arbitrator_mux buses else chip_mux buses) (arbitrator_row k e).by_line
-    ∙ ap (λ (t : Bool). if t then arbitrator_mux buses else chip_mux buses) e in
-    kept (arbitrator_mux buses) ms 6 (may_say foreign_key) (subst (λ (rs : List KeyRule). table_fault rs ms ≡ None) rules none) refl
-
--- the bus and the address of each device, and its memory's runs where it has one
+-- the bus of each device, and its memory's runs where it has one
 pub device_bus : (buses : ℕ) (name : DeviceName) (ms : Members) → table_fault (device_rules buses name) ms ≡ None
     → fits_if_there (bus_rule buses).test (get_member (codes "bus") ms) ≡ true
 device_bus buses name ms none = kept (device_rules buses name) ms 0 (bus_rule buses) none refl
-
-pub device_address : (buses : ℕ) (name : DeviceName) (ms : Members) → table_fault (device_rules buses name) ms ≡ None
-    → fits_if_there address_rule.test (get_member (codes "address") ms) ≡ true
-device_address buses name ms none = kept (device_rules buses name) ms 2 address_rule none refl
 
 pub device_set : (buses : ℕ) (name : DeviceName) (size : ℕ) (ms : Members) → memory_of name ≡ Some size → table_fault (device_rules buses name) ms ≡ None
     → fits_if_there (set_rule size).test (get_member (codes "set") ms) ≡ true

@@ -4,12 +4,17 @@ use Rattle.toml.specs.Data.{Members, no_members, get_member}
 use Rattle.i2c_base.specs.declared.board.DeviceKind.{DeviceKind}
 use Rattle.i2c_base.specs.declared.board.DeviceKind.TheVariants as kind
 use Rattle.i2c_base.specs.declared.board.Size.TheVariants.{C02, C32, C256}
-use Rattle.i2c_spec.specs.Numbers.{fill_key, busy_key, raw_key, hold_key, width_key, flip_key}
+use Rattle.i2c_spec.specs.Eeprom.{fill_key, busy_key}
+use Rattle.i2c_spec.specs.Lm75.{raw_key}
+use Rattle.i2c_spec.specs.Regs.{hold_key}
+use Rattle.i2c_spec.specs.SmbusDevice.{width_key, flip_key}
 use Rattle.i2c_spec.specs.Targets.{row_of_kind}
 use Rattle.i2c_boardtext.specs.Items.{flag_in}
-use Rattle.i2c_boardtext.specs.Numbers.{number_at, may_say}
+use Rattle.i2c_boardtext.specs.Numbers.{number_at, number_key, may_say}
 use Rattle.i2c_boardtext.specs.Rules.{KeyRule, may_have}
 use Rattle.i2c_boardtext.specs.declared.devices.DeviceName.{DeviceName}
+use Rattle.i2c_boardtext.specs.declared.devices.OwnKey.{OwnKey}
+use Rattle.i2c_boardtext.specs.declared.devices.OwnKey.TheVariants as own
 use Rattle.i2c_boardtext.specs.declared.devices.DeviceName.TheVariants as device
 use Rattle.i2c_boardtext.specs.declared.rule.Test.TheVariants.{Flag}
 
@@ -22,6 +27,11 @@ device_named word =
     else if bytes_eq word (codes "regs") then Some device.Regs
     else if bytes_eq word (codes "smbus") then Some device.Smbus
     else None
+
+-- the rule that a key of the code stands for, of those that a kind alone has
+abbrev pub own_rule : OwnKey → KeyRule
+own_rule (own.Number key) = may_say (number_key key)
+own_rule (own.Flag name) = may_have name.now Flag
 
 -- the keys that a kind has beside those of every device and its memory's, and the kind as a table says it
 pub record DeviceRow : Type 0 where

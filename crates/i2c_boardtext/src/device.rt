@@ -64,7 +64,7 @@ fn device_value(
         bus: bus(table, buses),
         addr: address(table),
         bound: flag(table, "bound"),
-        kind: kind_value(table, buses, name),
+        kind: kind_value(table, name),
         set,
     })
 }

@@ -1,16 +1,17 @@
-ghost use Rattle.std.specs.Prelude.{◌≡◌, ◌<◌, None};
+ghost use Rattle.std.specs.Prelude.{◌≡◌, ◌+◌, ◌<◌, ◌≤◌, ◌++◌, length, map};
 ghost use Rattle.toml.specs.View.{view, table_view};
 ghost use Rattle.i2c_spec.specs.Targets.{FitsKind};
-ghost use Rattle.i2c_boardtext.specs.Devices.{device_named, device_row, memory_of};
+ghost use Rattle.i2c_boardtext.specs.Devices.{device_named, device_row, memory_of, own_rule};
 ghost use Rattle.i2c_boardtext.specs.Items.{named_in};
-ghost use Rattle.i2c_boardtext.specs.Keys.{device_rules};
-ghost use Rattle.i2c_boardtext.specs.Rules.{table_fault};
+ghost use Rattle.i2c_boardtext.specs.Keys.{device_rules, every_device, set_rules};
+ghost use Rattle.i2c_boardtext.specs.Rules.{key_rule, table_fault};
 
 use crate::fault::TableFault;
-use crate::keys::{BOUND, KIND, WP, bus, runs};
-use crate::numbers::{ADDRESS, BUSY, FILL, FLIP, HOLD, RAW, WIDTH, number_at};
+use crate::keys::{BOUND, KIND, bus, runs};
+use crate::numbers::{ADDRESS, NumberKey, number_at};
 use crate::read::flag;
-use crate::rule::table_fault;
+use crate::rule::{Rule, Test, table_fault};
+use arrayvec::ArrayVec;
 use i2c_base::{DeviceKind, Size};
 use i2c_spec::eeprom_bytes;
 use toml::{Table, Value};
@@ -23,6 +24,66 @@ pub enum DeviceName {
     Regs,
     Smbus,
 }
+
+/// A key that a kind alone has; the table needn't say it.
+#[derive(Clone, Copy, Drop)]
+pub enum OwnKey {
+    /// A number, or its default.
+    Number(NumberKey),
+    /// True or false, and false where it is missing.
+    Flag(&'static str),
+}
+
+/// What each byte of an EEPROM holds.
+const FILL: NumberKey = NumberKey {
+    name: "fill",
+    low: 0,
+    high: 255,
+    default: 255,
+};
+
+/// How many starts an EEPROM refuses after a write.
+const BUSY: NumberKey = NumberKey {
+    name: "busy",
+    low: 0,
+    high: 255,
+    default: 0,
+};
+
+/// The bytes of an EEPROM are protected from writes.
+const WP: &str = "wp";
+
+/// The temperature register of an lm75.
+const RAW: NumberKey = NumberKey {
+    name: "raw",
+    low: 0,
+    high: 65535,
+    default: 0,
+};
+
+/// For how many looks a register device holds the clock.
+const HOLD: NumberKey = NumberKey {
+    name: "hold",
+    low: 0,
+    high: 200,
+    default: 0,
+};
+
+/// How many bytes the data of an SMBus device have.
+const WIDTH: NumberKey = NumberKey {
+    name: "width",
+    low: 0,
+    high: 2,
+    default: 1,
+};
+
+/// What is wrong with the error code of an SMBus device.
+const FLIP: NumberKey = NumberKey {
+    name: "flip",
+    low: 0,
+    high: 255,
+    default: 0,
+};
 
 fn device_named(word: &str) -> Option<DeviceName>
     ensures { result ≡ device_named word.now }
@@ -62,57 +123,79 @@ impl DeviceName {
     }
 }
 
+impl OwnKey {
+    fn rule(self) -> Rule
+        ensures { key_rule result ≡ own_rule self }
+    {
+        match self {
+            OwnKey::Number(key) => key.may_say(),
+            OwnKey::Flag(name) => Rule {
+                name,
+                needed: false,
+                test: Test::Flag,
+            },
+        }
+    }
+}
+
+// The keys of every device are four, a memory's is one, and a kind has three of its own at most.
+type Rules = ArrayVec<Rule, 8>;
+
+// The keys of every device, and its memory's.
+fn shared_rules(buses: u16, memory: Option<u32>) -> Rules
+    requires some { 0 < buses }
+    ensures rules { map key_rule result.items ≡ every_device buses ++ set_rules memory }
+    ensures few { length result.items ≤ 5 }
+{
+    let mut rules: Rules = ArrayVec::new();
+    rules.push(bus(buses));
+    rules.push(KIND);
+    rules.push(ADDRESS.has_to_say());
+    rules.push(BOUND);
+    if let Some(size) = memory {
+        rules.push(runs(size));
+    }
+    rules
+}
+
+// Puts these keys behind the others.
+fn push_keys(rules: &mut Rules, keys: &[OwnKey])
+    requires room { length rules.old.items + length keys.now ≤ 8 }
+    ensures { map key_rule rules.new.items ≡ map key_rule rules.old.items ++ map own_rule keys.now }
+{
+    for key in keys {
+        rules.push(key.rule());
+    }
+}
+
+// Puts the keys that a kind alone has behind those of every device.
+fn push_own(rules: &mut Rules, name: DeviceName)
+    requires room { length rules.old.items ≤ 5 }
+    ensures { map key_rule rules.new.items ≡ map key_rule rules.old.items ++ (device_row name).keys }
+{
+    match name {
+        DeviceName::Eeprom(_) => push_keys(
+            rules,
+            &[OwnKey::Number(FILL), OwnKey::Number(BUSY), OwnKey::Flag(WP)],
+        ),
+        DeviceName::Lm75 => push_keys(rules, &[OwnKey::Number(RAW)]),
+        DeviceName::Regs => push_keys(rules, &[OwnKey::Number(HOLD)]),
+        DeviceName::Smbus => push_keys(rules, &[OwnKey::Number(WIDTH), OwnKey::Number(FLIP)]),
+    }
+}
+
 /// What is wrong with a device of this kind on a board of these buses.
 pub fn device_fault(table: &Table, buses: u16, name: DeviceName) -> Option<TableFault>
     requires some { 0 < buses }
     ensures { result ≡ table_fault (device_rules buses name) (table_view table.now) }
 {
-    let bus = bus(buses);
-    let address = ADDRESS.has_to_say();
-    match name {
-        DeviceName::Eeprom(size) => {
-            let set = runs(u32::from(eeprom_bytes(size)));
-            table_fault(
-                table,
-                &[
-                    bus,
-                    KIND,
-                    address,
-                    BOUND,
-                    set,
-                    FILL.may_say(),
-                    BUSY.may_say(),
-                    WP,
-                ],
-            )
-        }
-        DeviceName::Lm75 => table_fault(table, &[bus, KIND, address, BOUND, RAW.may_say()]),
-        DeviceName::Regs => {
-            table_fault(
-                table,
-                &[bus, KIND, address, BOUND, runs(256), HOLD.may_say()],
-            )
-        }
-        DeviceName::Smbus => {
-            table_fault(
-                table,
-                &[
-                    bus,
-                    KIND,
-                    address,
-                    BOUND,
-                    runs(256),
-                    WIDTH.may_say(),
-                    FLIP.may_say(),
-                ],
-            )
-        }
-    }
+    let mut rules = shared_rules(buses, name.memory());
+    push_own(&mut rules, name);
+    table_fault(table, rules.as_slice())
 }
 
-/// The kind with its numbers, as the table says, where nothing is wrong with it.
-pub fn kind_value(table: &Table, buses: u16, name: DeviceName) -> DeviceKind
-    requires keeps { table_fault (device_rules buses name) (table_view table.now) ≡ None }
+/// The kind with its numbers, as the table says.
+pub fn kind_value(table: &Table, name: DeviceName) -> DeviceKind
     ensures value { result ≡ (device_row name).says (table_view table.now) }
     ensures fits { FitsKind result }
 {
@@ -121,7 +204,7 @@ pub fn kind_value(table: &Table, buses: u16, name: DeviceName) -> DeviceKind
             size,
             fill: number_at(table, FILL) as u8,
             busy: number_at(table, BUSY) as u8,
-            wp: flag(table, "wp"),
+            wp: flag(table, WP),
         },
         DeviceName::Lm75 => DeviceKind::Lm75 {
             raw: number_at(table, RAW) as u16,

@@ -9,8 +9,8 @@ use crate::names::{idle_in, lock_in, offers_in};
 use crate::rule::Test;
 use toml::Value;
 
-// An integer from `low` to `high`.
-fn is_in(low: u32, high: u32, value: &Value) -> bool
+/// An integer from `low` to `high`.
+pub fn is_in(low: u32, high: u32, value: &Value) -> bool
     ensures { result ≡ is_in low high (view value.now) }
 {
     match value.as_integer() {

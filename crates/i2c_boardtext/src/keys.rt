@@ -79,13 +79,6 @@ pub const BOUND: Rule = Rule {
     test: Test::Flag,
 };
 
-/// The bytes of an EEPROM are protected from writes.
-pub const WP: Rule = Rule {
-    name: "wp",
-    needed: false,
-    test: Test::Flag,
-};
-
 /// The bus, one of those so far.
 pub fn bus(buses: u16) -> Rule
     requires some { 0 < buses }

@@ -5,7 +5,7 @@ ghost use Rattle.i2c_base.specs.Addr.{IsTargetAddress};
 ghost use Rattle.i2c_base.specs.Limits.{MOST_BUSES, MOST_MUXES, MOST_ROOTS};
 ghost use Rattle.i2c_spec.specs.Plain.{FitsChannels, FitsChip, FitsForeign, IsPlainMux, IsPlanted};
 ghost use Rattle.i2c_boardtext.specs.BoardText.{Gives, kind_in, placed, mux_of, muxes_of};
-ghost use Rattle.i2c_boardtext.specs.Keys.{mux_rules, bus_rule, address_rule};
+ghost use Rattle.i2c_boardtext.specs.Keys.{mux_rules};
 ghost use Rattle.i2c_boardtext.specs.Names.{mux_named};
 ghost use Rattle.i2c_boardtext.specs.Rows.{IsTable, AreTables, row_of, rows_of};
 ghost use Rattle.i2c_boardtext.specs.Rules.{table_fault};
@@ -33,9 +33,7 @@ fn kind_of(table: &Table) -> Result<MuxKind, TableFault>
     }
 }
 
-#[tactic(auto, using(crate::proofs::KeepLemmas::mux_channels))]
-fn channels(table: &Table, buses: u16, kind: MuxKind) -> u8
-    requires keeps { table_fault (mux_rules buses kind) (table_view table.now) ≡ None }
+fn channels(table: &Table, kind: MuxKind) -> u8
     ensures value { result ≡ channels_value kind (table_view table.now) }
     ensures fits { FitsChannels kind result }
 {
@@ -45,9 +43,7 @@ fn channels(table: &Table, buses: u16, kind: MuxKind) -> u8
     }
 }
 
-#[tactic(auto, using(crate::proofs::KeepLemmas::mux_address))]
-fn chip(table: &Table, buses: u16, kind: MuxKind) -> Option<Addr>
-    requires keeps { table_fault (mux_rules buses kind) (table_view table.now) ≡ None }
+fn chip(table: &Table, kind: MuxKind) -> Option<Addr>
     ensures value { result ≡ chip_value kind (table_view table.now) }
     ensures address { IfSome result IsTargetAddress }
 {
@@ -64,9 +60,7 @@ fn absent(table: &Table, kind: MuxKind) -> bool
     !kind.facts().by_line && flag(table, "absent")
 }
 
-#[tactic(auto, using(crate::proofs::KeepLemmas::mux_foreign))]
-fn foreign(table: &Table, buses: u16, kind: MuxKind) -> u8
-    requires keeps { table_fault (mux_rules buses kind) (table_view table.now) ≡ None }
+fn foreign(table: &Table, kind: MuxKind) -> u8
     ensures value { result ≡ foreign_value kind (table_view table.now) }
     ensures fits { FitsForeign kind result }
 {
@@ -89,11 +83,11 @@ fn mux_value(table: &Table, buses: u16, kind: MuxKind) -> MuxSpec
     MuxSpec {
         bus: bus(table, buses),
         kind,
-        addr: chip(table, buses, kind),
-        channels: channels(table, buses, kind),
+        addr: chip(table, kind),
+        channels: channels(table, kind),
         lock: lock(table),
         absent: absent(table, kind),
-        foreign: foreign(table, buses, kind),
+        foreign: foreign(table, kind),
         idle: idle(table),
     }
 }

@@ -5,7 +5,7 @@ ghost use Rattle.i2c_base.specs.declared.board.Idle.TheVariants.{Disconnect};
 ghost use Rattle.i2c_base.specs.declared.board.LockMode.TheVariants.{Parent};
 ghost use Rattle.i2c_spec.specs.Numbers.{address_key};
 ghost use Rattle.i2c_boardtext.specs.Items.{flag_in};
-ghost use Rattle.i2c_boardtext.specs.Keys.{bus_rule, address_rule};
+ghost use Rattle.i2c_boardtext.specs.Keys.{bus_rule};
 ghost use Rattle.i2c_boardtext.specs.Names.{offers_named, lock_named, idle_named};
 ghost use Rattle.i2c_boardtext.specs.Numbers.{number_at};
 ghost use Rattle.i2c_boardtext.specs.Rules.{fits_if_there};
@@ -59,7 +59,6 @@ pub fn idle(table: &Table) -> Idle
 
 /// The address of a target, at its required key.
 pub fn address(table: &Table) -> Addr
-    requires fits { fits_if_there address_rule.test (get_member (codes "address") (table_view table.now)) ≡ true }
     ensures { result ≡ number_at address_key (table_view table.now) }
 {
     match Addr::new(number_at(table, ADDRESS) as u8) {

@@ -38,6 +38,17 @@ pub struct Rule {
     pub test: Test,
 }
 
+/// The blank of an unused place.
+impl Default for Rule {
+    fn default() -> Self {
+        Rule {
+            name: "",
+            needed: false,
+            test: Test::Kind,
+        }
+    }
+}
+
 // Some rule is for the key.
 fn some_is_for(rules: &[Rule], key: &str) -> bool
     ensures { result ≡ list_any (λ r. bytes_eq key.now (key_rule r).name) rules.now }

@@ -1,49 +1,74 @@
 ghost use Rattle.std.specs.Prelude.{◌≡◌, IfOk};
 ghost use Rattle.i2c_spec.specs.Plain.{IsPlainDevice};
-ghost use Rattle.i2c_spec.specs.Targets.{opening_state, silent_answer};
-ghost use Rattle.i2c_outside.specs.Devices.{target_state, device_answer, device_table, device_opening};
+ghost use Rattle.i2c_spec.specs.Targets as target;
+ghost use Rattle.i2c_spec.specs.Targets.{opening_state, silent_answer, state_answer};
+ghost use Rattle.i2c_outside.specs.Devices.{target_state};
 
 use i2c_base::{Answer, DeviceKind, DeviceSpec, Event, NoMemory, Target};
 use std::alloc::Global;
+use std::marker::Model;
 use tgt_eeprom::Eeprom;
 use tgt_small::{Lm75, Regs, SmbusDevice};
 
-/// A device of a board, whatever its kind.
+// The target of each kind.
 #[derive(Drop)]
-pub enum DeviceState {
+enum Device {
     Eeprom(Eeprom),
     Lm75(Lm75),
     Regs(Regs),
     Smbus(SmbusDevice),
-    /// The place of a device that was taken out: it acknowledges nothing.
     Silent,
+}
+
+/// A device of a board, whatever its kind. A contract sees its state (`TargetState`).
+#[derive(Drop)]
+pub struct DeviceState {
+    device: Device,
+}
+
+impl Model for DeviceState {
+    ghost use Rattle.i2c_spec.specs.Targets.{TargetState};
+    ghost use Rattle.i2c_outside.specs.Devices.{target_state};
+
+    ghost Value = { TargetState };
+
+    ghost view = { λ d. target_state d.device };
 }
 
 impl DeviceState {
     /// The device as its board says that it is opened.
     pub fn open(alloc: Global, spec: &DeviceSpec) -> Result<Self, NoMemory>
         requires plain { IsPlainDevice spec.now }
-        ensures state { IfOk result (λ d. target_state d ≡ opening_state spec.now) }
-        ensures value { IfOk result (λ d. d ≡ device_opening spec.now) }
+        ensures { IfOk result (λ d. d ≡ opening_state spec.now) }
     {
-        match spec.kind {
-            DeviceKind::Eeprom { .. } => Ok(DeviceState::Eeprom(Eeprom::open(alloc, spec)?)),
-            DeviceKind::Lm75 { .. } => Ok(DeviceState::Lm75(Lm75::open(spec))),
-            DeviceKind::Regs { .. } => Ok(DeviceState::Regs(Regs::open(spec))),
-            DeviceKind::Smbus { .. } => Ok(DeviceState::Smbus(SmbusDevice::open(spec))),
+        let device = match spec.kind {
+            DeviceKind::Eeprom { .. } => Device::Eeprom(Eeprom::open(alloc, spec)?),
+            DeviceKind::Lm75 { .. } => Device::Lm75(Lm75::open(spec)),
+            DeviceKind::Regs { .. } => Device::Regs(Regs::open(spec)),
+            DeviceKind::Smbus { .. } => Device::Smbus(SmbusDevice::open(spec)),
+        };
+        Ok(DeviceState { device })
+    }
+
+    /// The place of a device that was taken out: it acknowledges nothing.
+    pub fn silent() -> Self
+        ensures { result ≡ target.Silent }
+    {
+        DeviceState {
+            device: Device::Silent,
         }
     }
 
     /// What it would answer to this event.
     pub fn answer(&self, event: Event) -> Answer
-        ensures { result ≡ device_answer self.now event }
+        ensures { result ≡ state_answer self.now event }
     {
-        match self {
-            DeviceState::Eeprom(eeprom) => eeprom.answer(event),
-            DeviceState::Lm75(lm75) => lm75.copied().on(event),
-            DeviceState::Regs(regs) => regs.copied().on(event),
-            DeviceState::Smbus(smbus) => smbus.answer(event),
-            DeviceState::Silent => silent(event),
+        match &self.device {
+            Device::Eeprom(eeprom) => eeprom.answer(event),
+            Device::Lm75(lm75) => lm75.copied().on(event),
+            Device::Regs(regs) => regs.copied().on(event),
+            Device::Smbus(smbus) => smbus.answer(event),
+            Device::Silent => silent(event),
         }
     }
 
@@ -51,26 +76,29 @@ impl DeviceState {
     pub fn copied(&self, alloc: Global) -> Result<Self, NoMemory>
         ensures { IfOk result (λ d. d ≡ self.now) }
     {
-        match self {
-            DeviceState::Eeprom(eeprom) => Ok(DeviceState::Eeprom(eeprom.copied(alloc)?)),
-            DeviceState::Lm75(lm75) => Ok(DeviceState::Lm75(lm75.copied())),
-            DeviceState::Regs(regs) => Ok(DeviceState::Regs(regs.copied())),
-            DeviceState::Smbus(smbus) => Ok(DeviceState::Smbus(smbus.copied())),
-            DeviceState::Silent => Ok(DeviceState::Silent),
-        }
+        let device = match &self.device {
+            Device::Eeprom(eeprom) => Device::Eeprom(eeprom.copied(alloc)?),
+            Device::Lm75(lm75) => Device::Lm75(lm75.copied()),
+            Device::Regs(regs) => Device::Regs(regs.copied()),
+            Device::Smbus(smbus) => Device::Smbus(smbus.copied()),
+            Device::Silent => Device::Silent,
+        };
+        Ok(DeviceState { device })
     }
 }
 
 impl Target for DeviceState {
-    ghost table = { device_table };
+    ghost use Rattle.i2c_spec.specs.Targets.{state_table};
+
+    ghost table = { state_table };
 
     fn on(&mut self, event: Event) -> Answer {
-        match self {
-            DeviceState::Eeprom(eeprom) => eeprom.on(event),
-            DeviceState::Lm75(lm75) => lm75.on(event),
-            DeviceState::Regs(regs) => regs.on(event),
-            DeviceState::Smbus(smbus) => smbus.on(event),
-            DeviceState::Silent => silent(event),
+        match &mut self.device {
+            Device::Eeprom(eeprom) => eeprom.on(event),
+            Device::Lm75(lm75) => lm75.on(event),
+            Device::Regs(regs) => regs.on(event),
+            Device::Smbus(smbus) => smbus.on(event),
+            Device::Silent => silent(event),
         }
     }
 }

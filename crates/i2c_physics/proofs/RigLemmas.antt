@@ -14,8 +14,6 @@ use Rattle.i2c_spec.specs.Tree.{buses, of_device, root_of}
 use Rattle.i2c_spec.specs.Targets.{TargetState, Silent}
 use Rattle.i2c_spec.specs.World.{World, AreWorldsOf, device_in, devices_of}
 use Rattle.i2c_spec.proofs.TreeLemmas.{tree_root_is}
-use Rattle.i2c_outside.specs.Devices.{target_state}
-use Rattle.i2c_outside.specs.declared.device.DeviceState.{DeviceState}
 use Rattle.i2c_physics.specs.SimRigs.{device_of, owns, state_at, states_from, IsThere}
 use Rattle.i2c_physics.specs.SimWorlds.{is_own}
 use Rattle.i2c_physics.proofs.TogetherLemmas.{same_number}
@@ -94,11 +92,11 @@ kept-devices b ws plain of there =
     states_are b ws 0 b.devices plain of (λ i. rw zero-add refl) plain.placed (λ i h. rw zero-add (there i h))
 
 -- as of the fields of the room
-pub devices-kept : (b : BoardView) (homes : List ℕ) (old new : List DeviceState) (ws : List World)
+pub devices-kept : (b : BoardView) (homes : List ℕ) (old new : List TargetState) (ws : List World)
     → IsPlainBoard b → homes ≡ map (λ d. root_of b d.bus) b.devices → old ≡ [] → AreWorldsOf b ws
-    → map target_state new ≡ map target_state old ++ states_from 0 homes ws
+    → new ≡ old ++ states_from 0 homes ws
     → ((i : ℕ) → i < length homes → IsThere ws (slice_index homes i) i)
-    → map target_state new ≡ devices_of b ws
+    → new ≡ devices_of b ws
 devices-kept b homes old new ws plain are none of kept there =
     let at_home : (i : ℕ) → i < length b.devices → IsThere ws (slice_index (map (λ d. root_of b d.bus) b.devices) i) i =
     λ i h. rw (← are) (there i (rw are (rw length-map h))) in

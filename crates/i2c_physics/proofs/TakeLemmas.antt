@@ -1,12 +1,8 @@
 -- Worlds of which a device was taken out: each other device is as it was. The inductions go over the worlds.
 use Rattle.std.proofs.Common.{◌≡◌, ℕ, zero, suc, ◌+◌, ◌<◌, ◌≤◌, Bool, true, false, List, [], ◌∷◌, ◌++◌, length, map, drop, set, get_or, append_assoc, Option, Some, None, refl, sym, ◌∙◌, ap, subst, arith}
-use Rattle.std.specs.Option.{option_map}
 use Rattle.std.specs.Prelude.{IsSome, if◌then◌else◌, slice_get, option_to_list, unwrap_or}
 use Rattle.i2c_spec.specs.Targets.{TargetState, Silent}
 use Rattle.i2c_spec.specs.World.{World}
-use Rattle.std.proofs.lemmas.List.{map-append}
-use Rattle.i2c_outside.specs.Devices.{target_state}
-use Rattle.i2c_outside.specs.declared.device.DeviceState.{DeviceState}
 use Rattle.i2c_physics.specs.SimRigs.{own_device, owns, state_at, states_from, taken_out, without, IsThere}
 use Rattle.i2c_physics.specs.SimWorlds.{seen_on}
 use Rattle.i2c_physics.proofs.OwnLemmas.{seen-get, seen-set}
@@ -105,25 +101,16 @@ module _ (w : World) (k : ℕ) (states : List TargetState) (are : w.devices ≡ 
       (ap (seen_on w.board w.root w.board.devices) is ∙ seen-set w.board w.root w.board.devices states k Silent own
       ∙ ap (λ (ts : List TargetState). set ts k Silent) (sym are)))
 
-pub some_mapped : {A B : Type 0} (f : A → B) (o : Option A) → IsSome o → IsSome (option_map f o)
-some_mapped f None some = some
-some_mapped f (Some x) some = refl
-
-mapped : {A B : Type 0} (f : A → B) (o : Option A) → map f (option_to_list o) ≡ option_to_list (option_map f o)
-mapped f None = refl
-mapped f (Some x) = refl
-
 -- one device more is kept, and with those that are left it is the whole
-pub one-kept : (states new : List DeviceState) (o : Option DeviceState) (homes : List ℕ) (n home : ℕ) (ws vs : List World) (all : List TargetState)
-    → drop n homes ≡ home ∷ drop (n + 1) homes → option_map target_state o ≡ state_at ws home n → vs ≡ taken_out ws home n → new ≡ states ++ option_to_list o
-    → map target_state states ++ states_from n (drop n homes) ws ≡ all
-    → map target_state new ++ states_from (n + 1) (drop (n + 1) homes) vs ≡ all
+pub one-kept : (states new : List TargetState) (o : Option TargetState) (homes : List ℕ) (n home : ℕ) (ws vs : List World) (all : List TargetState)
+    → drop n homes ≡ home ∷ drop (n + 1) homes → o ≡ state_at ws home n → vs ≡ taken_out ws home n → new ≡ states ++ option_to_list o
+    → states ++ states_from n (drop n homes) ws ≡ all
+    → new ++ states_from (n + 1) (drop (n + 1) homes) vs ≡ all
 one-kept states new o homes n home ws vs all dropped value out more kept =
     let rest = states_from (n + 1) (drop (n + 1) homes) ws in
-    ap (λ (xs : List DeviceState). map target_state xs ++ states_from (n + 1) (drop (n + 1) homes) vs) more
-    ∙ ap (λ (ys : List TargetState). map target_state (states ++ option_to_list o) ++ ys) (later-states ws vs home n (drop (n + 1) homes) out)
-    ∙ ap (λ (xs : List TargetState). xs ++ rest) (map-append target_state states (option_to_list o))
-    ∙ append_assoc (map target_state states) (map target_state (option_to_list o)) rest
-    ∙ ap (λ (xs : List TargetState). map target_state states ++ (xs ++ rest)) (mapped target_state o ∙ ap option_to_list value)
-    ∙ ap (λ (hs : List ℕ). map target_state states ++ states_from n hs ws) (sym dropped)
+    ap (λ (xs : List TargetState). xs ++ states_from (n + 1) (drop (n + 1) homes) vs) more
+    ∙ ap (λ (ys : List TargetState). (states ++ option_to_list o) ++ ys) (later-states ws vs home n (drop (n + 1) homes) out)
+    ∙ append_assoc states (option_to_list o) rest
+    ∙ ap (λ (p : Option TargetState). states ++ (option_to_list p ++ rest)) value
+    ∙ ap (λ (hs : List ℕ). states ++ states_from n hs ws) (sym dropped)
     ∙ kept

@@ -11,9 +11,9 @@ use Rattle.i2c_base.specs.declared.event.Event.TheVariants as event
 use Rattle.i2c_base.specs.declared.event.Answer.{Answer}
 use Rattle.i2c_base.specs.Table.{Table}
 use Rattle.i2c_spec.specs.Chips.{ChipView, chip_table}
-use Rattle.i2c_spec.specs.Targets as targets
 use Rattle.i2c_spec.specs.Targets.{TargetState, state_table}
 use Rattle.i2c_spec.specs.World.{World, answers, answer_with, has_heard, heard_of, hearers, start_chips, start_devices, and_of, byte_of, gives, to_chips, to_devices, is_chip, is_device}
+use Rattle.i2c_spec.proofs.StateLemmas.{gives-same}
 use Rattle.i2c_physics.specs.Heard.{numbers_of, nodes_of}
 use Rattle.i2c_physics.specs.Places.{event_if}
 use Rattle.i2c_physics.specs.Reach.{is_among, to_those}
@@ -58,19 +58,12 @@ chips_give w ack k (x ∷ xs) =
     ap (answer_with chip_table (to_chips w (event.Get ack) k) k x) (chips_give w ack (k + 1) xs)
     ∙ same_byte chip_table ack (list_any (is_chip k) w.hearing) k x (answers chip_table (to_chips w (event.Get true)) (k + 1) xs) refl
 
-state_gives : (x : TargetState) (ack : Bool) → state_table.answer x (event.Get ack) ≡ state_table.answer x (event.Get true)
-state_gives (targets.Eeprom x) ack = refl
-state_gives (targets.Lm75 x) ack = refl
-state_gives (targets.Regs x) ack = refl
-state_gives (targets.Smbus x) ack = refl
-state_gives targets.Silent ack = refl
-
 devices_give : (w : World) (ack : Bool) (k : ℕ) (xs : List TargetState)
     → answers state_table (to_devices w (event.Get ack)) k xs ≡ answers state_table (to_devices w (event.Get true)) k xs
 devices_give w ack k [] = refl
 devices_give w ack k (x ∷ xs) =
     ap (answer_with state_table (to_devices w (event.Get ack) k) k x) (devices_give w ack (k + 1) xs)
-    ∙ same_byte state_table ack (list_any (is_device k) w.hearing) k x (answers state_table (to_devices w (event.Get true)) (k + 1) xs) (state_gives x ack)
+    ∙ same_byte state_table ack (list_any (is_device k) w.hearing) k x (answers state_table (to_devices w (event.Get true)) (k + 1) xs) (gives-same x ack)
 
 pub gives_told : (w : World) (ack : Bool) → (devices_say w (event.Get ack)).byte < 256
     → bit_and (chips_say w (event.Get ack)).byte (devices_say w (event.Get ack)).byte ≡ gives w

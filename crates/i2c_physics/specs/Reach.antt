@@ -4,6 +4,7 @@ use Rattle.std.specs.Prelude.{⊤, ◌≡◌, ℕ, ◌+◌, ◌<◌, ◌≤◌, 
 use Rattle.std.specs.List.{list_any, filter, range_with_len}
 use Rattle.std.specs.Option.{option_map_or}
 use Rattle.i2c_base.specs.declared.event.Event.{Event}
+use Rattle.i2c_base.specs.Limits.{MOST_DEVICES}
 use Rattle.i2c_base.specs.Table.{Table}
 use Rattle.i2c_spec.specs.Chips.{ChipView}
 use Rattle.i2c_spec.specs.Grant.{has_address}
@@ -45,7 +46,7 @@ union_of count xs ys = filter (λ k. is_among xs k || is_among ys k) (range_with
 
 -- those that were started since their last stop, and of them those that have heard the last start: all others are quiet
 pub record IsReach {X : Type 0} (t : Table X) (xs : List X) (started hearing : List ℕ) : Type 0 where
-  pub few : length xs ≤ 128
+  pub few : length xs ≤ MOST_DEVICES
   pub started_rise : AreRising 0 (length xs) started
   pub hearing_rise : AreRising 0 (length xs) hearing
   pub hearing_started : (k : ℕ) → is_among hearing k ≡ true → is_among started k ≡ true

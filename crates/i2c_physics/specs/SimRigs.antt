@@ -6,7 +6,6 @@ use Rattle.i2c_spec.specs.Plain.{IsPlainBoard}
 use Rattle.i2c_spec.specs.Tree.{root_of}
 use Rattle.i2c_spec.specs.Targets.{TargetState, Silent}
 use Rattle.i2c_spec.specs.World.{World}
-use Rattle.i2c_outside.specs.Devices.{target_state}
 use Rattle.i2c_physics.specs.SimWorlds.{is_own}
 use Rattle.i2c_physics.specs.declared.room.Kept.{Kept}
 
@@ -55,7 +54,7 @@ none_of n = replicate n 0
 -- what a rig tells after an unplug, and before it
 abbrev pub kept_states : Option Kept → List TargetState
 kept_states None = []
-kept_states (Some k) = map target_state k.states.items
+kept_states (Some k) = k.states.items
 
 abbrev pub kept_logs : Option Kept → List (List PortCall)
 kept_logs None = []

@@ -1,4 +1,5 @@
 ghost use Rattle.std.specs.Prelude.{◌≡◌, ◌<◌, ℕ, true, length, IfOk};
+ghost use Rattle.i2c_base.specs.Limits.{MOST_CALLS};
 ghost use Rattle.i2c_base.specs.Phases.{MayStart, MayPut, MayGet, MayStop, MayLine, phase_started, phase_put, phase_got};
 ghost use Rattle.i2c_base.specs.declared.port.Phase.TheVariants.{Idle};
 ghost use Rattle.i2c_base.specs.declared.port.PortCall.TheVariants as call;
@@ -91,7 +92,7 @@ impl Port for FailPort {
 
     fn start(&mut self, addr: Addr, reading: bool) -> Result<Answer, Failed>
         requires phase { MayStart self.old.port.phase }
-        requires room { length self.old.port.log < 2000000 }
+        requires room { length self.old.port.log < MOST_CALLS }
         ensures answer { result ≡ said self.old (answer self.old.port.world addr reading) }
         ensures after { self.new ≡ after_next self.old (call.Start addr reading) (phase_started reading (answer self.old.port.world addr reading)) }
     {
@@ -104,7 +105,7 @@ impl Port for FailPort {
 
     fn put(&mut self, byte: u8) -> Result<bool, Failed>
         requires phase { MayPut self.old.port.phase }
-        requires room { length self.old.port.log < 2000000 }
+        requires room { length self.old.port.log < MOST_CALLS }
         ensures answer { result ≡ said self.old (takes self.old.port.world byte) }
         ensures after { self.new ≡ after_next self.old (call.Put byte) (phase_put (takes self.old.port.world byte)) }
     {
@@ -117,7 +118,7 @@ impl Port for FailPort {
 
     fn get(&mut self, ack: bool) -> Result<u8, Failed>
         requires phase { MayGet self.old.port.phase }
-        requires room { length self.old.port.log < 2000000 }
+        requires room { length self.old.port.log < MOST_CALLS }
         ensures answer { result ≡ said self.old (gives self.old.port.world) }
         ensures after { self.new ≡ after_next self.old (call.Get ack) (phase_got ack) }
     {
@@ -130,7 +131,7 @@ impl Port for FailPort {
 
     fn stop(&mut self) -> Result<(), Failed>
         requires phase { MayStop self.old.port.phase }
-        requires room { length self.old.port.log < 2000000 }
+        requires room { length self.old.port.log < MOST_CALLS }
         ensures answer { result ≡ said self.old tt }
         ensures after { self.new ≡ after_next self.old call.Stop Idle }
     {
@@ -145,7 +146,7 @@ impl Port for FailPort {
     fn line(&mut self, mux: MuxId, level: u8) -> Result<(), Failed>
         requires phase { MayLine self.old.port.phase }
         requires has { HasLine self.old.port.world mux level }
-        requires room { length self.old.port.log < 2000000 }
+        requires room { length self.old.port.log < MOST_CALLS }
         ensures answer { result ≡ said self.old tt }
         ensures after { self.new ≡ after_next self.old (call.Line mux level) Idle }
     {

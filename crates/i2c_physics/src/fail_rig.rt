@@ -3,7 +3,6 @@ ghost use Rattle.std.specs.List.{range_with_len};
 ghost use Rattle.std.specs.Option.{option_map_or};
 ghost use Rattle.i2c_spec.specs.World.{AreWorldsOf, devices_of};
 ghost use Rattle.i2c_outside.specs.Causes.{counted};
-ghost use Rattle.i2c_outside.specs.Devices.{target_state};
 ghost use Rattle.i2c_physics.specs.FailPorts.{failed_calls_in, opening_fails};
 ghost use Rattle.i2c_physics.specs.SimRigs.{no_board, kept_states, kept_logs};
 
@@ -41,7 +40,7 @@ impl FailRig {
 
     /// The devices as the last unplug found them, in file order; none before it.
     pub fn states(&self) -> &[DeviceState]
-        ensures { map target_state result.now ≡ kept_states self.now.sim.kept }
+        ensures { result.now ≡ kept_states self.now.sim.kept }
     {
         self.sim.states()
     }

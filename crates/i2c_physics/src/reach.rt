@@ -1,18 +1,16 @@
 ghost use Rattle.std.specs.Prelude.{◌≡◌, ◌<◌, ◌≤◌, ◌+◌, ◌++◌, ◌&&◌, ◌||◌, [], ◌∷◌, not, length, if◌then◌else◌};
 ghost use Rattle.std.specs.List.{filter, list_all};
+ghost use Rattle.i2c_base.specs.Limits.{MOST_DEVICES};
 ghost use Rattle.i2c_physics.specs.Reach.{is_among, AreRising, joins_at, addressed, others, union_of};
 
 use crate::place::Place;
 use crate::sites::{Sites, is_at};
 use arrayvec::ArrayVec;
-use i2c_base::Addr;
+use i2c_base::{Addr, MOST_DEVICES};
 use tgt_mux::Chip;
 
-/// The most targets of a kind on a board.
-const MOST: usize = 128;
-
-/// Numbers of targets of one kind, rising.
-pub type Numbers = ArrayVec<u16, MOST>;
+/// Numbers of targets of one kind, rising; the devices are the most.
+pub type Numbers = ArrayVec<u16, MOST_DEVICES>;
 
 /// Which targets of one kind a message has reached, by number. Its lists are made once, and written over by each call.
 #[derive(Drop)]
@@ -73,7 +71,7 @@ impl Reach {
 
     /// Those that a start calls were started, of so many targets.
     pub fn add_told(&mut self, count: usize)
-        requires few { count ≤ 128 }
+        requires few { count ≤ MOST_DEVICES }
         requires started { AreRising 0 count self.old.started.items }
         requires told { AreRising 0 count self.old.told.items }
         ensures started { self.new.started.items ≡ union_of count self.old.started.items self.old.told.items }
@@ -99,7 +97,7 @@ impl Reach {
 
 /// Puts these numbers in the place of those that a list had.
 fn write_over(list: &mut Numbers, numbers: &[u16])
-    requires { length numbers.now ≤ 128 }
+    requires { length numbers.now ≤ MOST_DEVICES }
     ensures { list.new.items ≡ numbers.now }
 {
     list.clear();
@@ -110,7 +108,7 @@ fn write_over(list: &mut Numbers, numbers: &[u16])
 
 /// Puts a number behind the others, where the condition holds.
 fn push_if(numbers: &mut Numbers, condition: bool, number: u16)
-    requires { length numbers.old.items < 128 }
+    requires { length numbers.old.items < MOST_DEVICES }
     ensures items { numbers.new.items ≡ numbers.old.items ++ (if condition then number ∷ [] else []) }
     ensures few { length numbers.new.items ≤ length numbers.old.items + 1 }
 {
@@ -144,7 +142,7 @@ fn addressed(chips: &[Chip], sites: &Sites, addr: Addr, called: &mut Numbers)
 
 /// Those of these numbers that are joined.
 fn joined(chips: &[Chip], places: &[Place], numbers: &[u16], joined: &mut Numbers)
-    requires { length numbers.now ≤ 128 }
+    requires { length numbers.now ≤ MOST_DEVICES }
     ensures { joined.new.items ≡ filter (joins_at chips.now places.now) numbers.now }
 {
     joined.clear();
@@ -157,7 +155,7 @@ fn joined(chips: &[Chip], places: &[Place], numbers: &[u16], joined: &mut Number
 
 /// Those of these numbers that are joined and have another address.
 fn others(chips: &[Chip], places: &[Place], addr: Addr, numbers: &[u16], rest: &mut Numbers)
-    requires { length numbers.now ≤ 128 }
+    requires { length numbers.now ≤ MOST_DEVICES }
     ensures { rest.new.items ≡ others chips.now places.now addr numbers.now }
 {
     rest.clear();
@@ -176,7 +174,7 @@ fn parted(
     joined: &mut Numbers,
     apart: &mut Numbers,
 )
-    requires { length numbers.now ≤ 128 }
+    requires { length numbers.now ≤ MOST_DEVICES }
     ensures joined { joined.new.items ≡ filter (joins_at chips.now places.now) numbers.now }
     ensures apart { apart.new.items ≡ filter (λ k. not (joins_at chips.now places.now k)) numbers.now }
 {
@@ -201,7 +199,7 @@ fn has_all(numbers: &[u16], others: &[u16]) -> bool
 /// Adds these numbers, of so many. Only where there are some of both is more to be looked at than the two lists.
 #[tactic(auto, using(crate::proofs::NumberLemmas::either_none, crate::proofs::NumberLemmas::either_has))]
 fn add_all(numbers: &mut Numbers, count: usize, added: &[u16], room: &mut Numbers)
-    requires few { count ≤ 128 }
+    requires few { count ≤ MOST_DEVICES }
     requires numbers { AreRising 0 count numbers.old.items }
     requires added { AreRising 0 count added.now }
     ensures { numbers.new.items ≡ union_of count numbers.old.items added.now }
@@ -223,7 +221,7 @@ fn is_in_either(first: &[u16], second: &[u16], number: u16) -> bool
 /// Those of either list, rising, of so many.
 #[tactic(auto, using(crate::proofs::NumberLemmas::filter_more))]
 fn union_of(count: usize, first: &[u16], second: &[u16], numbers: &mut Numbers)
-    requires { count ≤ 128 }
+    requires { count ≤ MOST_DEVICES }
     ensures { numbers.new.items ≡ union_of count first.now second.now }
 {
     numbers.clear();

@@ -1,8 +1,6 @@
 ghost use Rattle.std.specs.Prelude.{◌≡◌, ◌<◌, ◌≤◌, ◌+◌, ◌++◌, ℕ, true, map, length, slice_index, vec_len, vec_capacity, IfOk, IsSome, Some};
-ghost use Rattle.std.specs.Option.{option_map};
 ghost use Rattle.i2c_base.specs.Board.{BoardView};
 ghost use Rattle.i2c_spec.specs.World.{World, AreWorldsOf, devices_of};
-ghost use Rattle.i2c_outside.specs.Devices.{target_state};
 ghost use Rattle.i2c_physics.specs.SimPorts.{PortView};
 ghost use Rattle.i2c_physics.specs.SimRigs.{own_device, owns, state_at, states_from, taken_out, without, IsThere};
 ghost use Rattle.i2c_spec.specs.Layouts.{board_of};
@@ -24,7 +22,7 @@ pub trait Returned: Drop {
 
     /// Takes out the device of this number, as the port has it, where it is of the port's root.
     fn take_device(&mut self, number: usize) -> Option<DeviceState>
-        ensures value { option_map target_state result ≡ own_device (port self.old).world number }
+        ensures value { result ≡ own_device (port self.old).world number }
         ensures has { owns (port self.old).world number ≡ true → IsSome result }
         ensures world { (port self.new).world ≡ without (port self.old).world number }
         ensures log { (port self.new).log ≡ (port self.old).log };
@@ -81,7 +79,7 @@ impl Room {
 
     /// Keeps the devices as these ports have them, each as the port of its root has it, and their logs.
     pub fn keep<P: Returned>(self, mut ports: Vec<P>) -> Kept
-        ensures states { AreWorldsOf self (map (λ p. (P.port p).world) ports.items) → map target_state result.states.items ≡ devices_of self (map (λ p. (P.port p).world) ports.items) }
+        ensures states { AreWorldsOf self (map (λ p. (P.port p).world) ports.items) → result.states.items ≡ devices_of self (map (λ p. (P.port p).world) ports.items) }
         ensures logs { AreWorldsOf self (map (λ p. (P.port p).world) ports.items) → map (λ log. log.items) result.logs.items ≡ map (λ p. (P.port p).log) ports.items }
     {
         let Room {
@@ -111,7 +109,7 @@ fn homes(alloc: Global, layout: Layout<'_>) -> Result<Vec<SegId>, AllocError>
 /// Keeps each device as the port of its root has it.
 fn keep_states<P: Returned>(states: &mut Vec<DeviceState>, homes: &Vec<SegId>, ports: &mut Vec<P>)
     requires { vec_len states.old + vec_len homes.now ≤ vec_capacity states.old }
-    ensures kept { map target_state states.new.items ≡ map target_state states.old.items ++ states_from 0 homes.now.items (map (λ p. (P.port p).world) ports.old.items) }
+    ensures kept { states.new.items ≡ states.old.items ++ states_from 0 homes.now.items (map (λ p. (P.port p).world) ports.old.items) }
     ensures there { (k : ℕ) → k < vec_len homes.now → IsThere (map (λ p. (P.port p).world) ports.old.items) (slice_index homes.now.items k) k }
     ensures logs { map (λ p. (P.port p).log) ports.new.items ≡ map (λ p. (P.port p).log) ports.old.items }
 {
@@ -124,7 +122,7 @@ fn keep_states<P: Returned>(states: &mut Vec<DeviceState>, homes: &Vec<SegId>, p
 
 /// Takes out the device of this number, as the port of this bus has it.
 fn take_from<P: Returned>(ports: &mut Vec<P>, home: SegId, number: usize) -> Option<DeviceState>
-    ensures value { option_map target_state result ≡ state_at (map (λ p. (P.port p).world) ports.old.items) home number }
+    ensures value { result ≡ state_at (map (λ p. (P.port p).world) ports.old.items) home number }
     ensures there { IsThere (map (λ p. (P.port p).world) ports.old.items) home number }
     ensures worlds { map (λ p. (P.port p).world) ports.new.items ≡ taken_out (map (λ p. (P.port p).world) ports.old.items) home number }
     ensures logs { map (λ p. (P.port p).log) ports.new.items ≡ map (λ p. (P.port p).log) ports.old.items }

@@ -1,16 +1,15 @@
 ghost use Rattle.std.specs.Prelude.{◌≡◌, ◌<◌, ℕ, Bool, true, length, slice_get, IfOk, IsSome};
-ghost use Rattle.std.specs.Option.{option_map};
+ghost use Rattle.i2c_base.specs.Limits.{MOST_CALLS};
 ghost use Rattle.i2c_base.specs.Phases.{AnswersStart, phase_started, phase_put, phase_got};
 ghost use Rattle.i2c_base.specs.declared.port.Phase.TheVariants.{Idle};
 ghost use Rattle.i2c_base.specs.declared.port.PortCall.TheVariants as call;
 ghost use Rattle.i2c_spec.specs.World.{answer, takes, gives};
-ghost use Rattle.i2c_outside.specs.Devices.{target_state};
 ghost use Rattle.i2c_physics.specs.SimPorts.{opening_port, called};
 
 use crate::phase;
 use crate::room::Returned;
 use crate::sim_world::SimWorld;
-use i2c_base::{Addr, Answer, MuxId, Phase, PortCall, SegId};
+use i2c_base::{Addr, Answer, MOST_CALLS, MuxId, Phase, PortCall, SegId};
 use i2c_board::Accepted;
 use i2c_outside::{DeviceState, Failed, Port};
 use std::alloc::{AllocError, Global};
@@ -26,19 +25,17 @@ pub struct SimPort {
 
 impl Model for SimPort {
     ghost use Rattle.std.specs.Prelude.{◌≤◌, vec_capacity};
+    ghost use Rattle.i2c_base.specs.Limits.{MOST_CALLS};
     ghost use Rattle.i2c_physics.specs.SimPorts.{PortView};
 
     ghost Value = { PortView };
 
     ghost view = { λ p. record { world = p.world; log = p.log.items; phase = p.phase } };
 
-    ghost invariant = { λ p. 2000000 ≤ vec_capacity p.log };
+    ghost invariant = { λ p. MOST_CALLS ≤ vec_capacity p.log };
 }
 
-/// How many calls a port has room for.
-const CALLS: usize = 2_000_000;
-
-// Each of them takes at most 8 bytes of it.
+// Each call of the log takes at most 8 bytes.
 const _: () = prove!(size_of::<PortCall>() <= 8);
 
 impl SimPort {
@@ -48,7 +45,7 @@ impl SimPort {
     {
         Ok(SimPort {
             world: SimWorld::open(alloc, board, root)?,
-            log: Vec::with_capacity(alloc, CALLS)?,
+            log: Vec::with_capacity(alloc, MOST_CALLS)?,
             phase: Phase::Idle,
         })
     }
@@ -62,7 +59,7 @@ impl SimPort {
 
     /// A start goes out. What it is answered.
     pub(crate) fn call_start(&mut self, addr: Addr, reading: bool) -> Answer
-        requires { length self.old.log < 2000000 }
+        requires { length self.old.log < MOST_CALLS }
         ensures answer { result ≡ answer self.old.world addr reading }
         ensures kind { AnswersStart result }
         ensures after { self.new ≡ called self.old (call.Start addr reading) (phase_started reading (answer self.old.world addr reading)) }
@@ -75,7 +72,7 @@ impl SimPort {
 
     /// A byte is put. Whether someone acknowledges it.
     pub(crate) fn call_put(&mut self, byte: u8) -> bool
-        requires { length self.old.log < 2000000 }
+        requires { length self.old.log < MOST_CALLS }
         ensures taken { result ≡ takes self.old.world byte }
         ensures after { self.new ≡ called self.old (call.Put byte) (phase_put (takes self.old.world byte)) }
     {
@@ -87,7 +84,7 @@ impl SimPort {
 
     /// A byte is read, and acknowledged or not.
     pub(crate) fn call_get(&mut self, ack: bool) -> u8
-        requires { length self.old.log < 2000000 }
+        requires { length self.old.log < MOST_CALLS }
         ensures given { result ≡ gives self.old.world }
         ensures after { self.new ≡ called self.old (call.Get ack) (phase_got ack) }
     {
@@ -98,7 +95,7 @@ impl SimPort {
     }
 
     pub(crate) fn call_stop(&mut self)
-        requires { length self.old.log < 2000000 }
+        requires { length self.old.log < MOST_CALLS }
         ensures { self.new ≡ called self.old call.Stop Idle }
     {
         self.world.stop();
@@ -107,7 +104,7 @@ impl SimPort {
     }
 
     pub(crate) fn call_line(&mut self, mux: MuxId, level: u8)
-        requires { length self.old.log < 2000000 }
+        requires { length self.old.log < MOST_CALLS }
         ensures { self.new ≡ called self.old (call.Line mux level) Idle }
     {
         self.world.set_line(mux, level);
@@ -117,7 +114,7 @@ impl SimPort {
 
     /// A call fails: it acts as a stop.
     pub(crate) fn call_fault(&mut self)
-        requires { length self.old.log < 2000000 }
+        requires { length self.old.log < MOST_CALLS }
         ensures { self.new ≡ called self.old call.Fault Idle }
     {
         self.world.stop();

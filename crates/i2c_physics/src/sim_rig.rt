@@ -3,7 +3,6 @@ ghost use Rattle.std.specs.List.{range_with_len};
 ghost use Rattle.i2c_base.specs.declared.port.Phase.{Phase};
 ghost use Rattle.i2c_spec.specs.World.{AreWorldsOf, openings, devices_of};
 ghost use Rattle.i2c_outside.specs.Causes.{Rose, counted};
-ghost use Rattle.i2c_outside.specs.Devices.{target_state};
 ghost use Rattle.i2c_physics.specs.SimPorts.{opening_port};
 ghost use Rattle.i2c_physics.specs.SimRigs.{no_board, none_of, kept_states, kept_logs};
 
@@ -44,7 +43,7 @@ impl SimRig {
 
     /// The devices as the last unplug found them, in file order; none before it.
     pub fn states(&self) -> &[DeviceState]
-        ensures { map target_state result.now ≡ kept_states self.now.kept }
+        ensures { result.now ≡ kept_states self.now.kept }
     {
         match &self.kept {
             Some(kept) => kept.states.as_slice(),

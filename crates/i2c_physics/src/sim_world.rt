@@ -1,11 +1,9 @@
 ghost use Rattle.std.specs.Prelude.{◌≡◌, ◌<◌, true, IsSome, map, IfOk};
-ghost use Rattle.std.specs.Option.{option_map};
 ghost use Rattle.i2c_base.specs.declared.port.PortCall.TheVariants as call;
 ghost use Rattle.i2c_spec.specs.Chips.{chip_opening};
 ghost use Rattle.i2c_spec.specs.Layouts.{board_of};
 ghost use Rattle.i2c_spec.specs.Plain.{IsPlainBoard, IsPlainDevice};
 ghost use Rattle.i2c_spec.specs.World as world;
-ghost use Rattle.i2c_outside.specs.Devices.{target_state};
 ghost use Rattle.i2c_physics.specs.Answering.{chips_say, devices_say};
 ghost use Rattle.i2c_physics.specs.SimRigs.{own_device, owns, without};
 ghost use Rattle.i2c_physics.specs.SimWorlds.{opened_on};
@@ -79,7 +77,7 @@ impl SimWorld {
 
     /// Takes out the device of this number, as the world has it, where it is of this root.
     pub fn take_device(&mut self, number: usize) -> Option<DeviceState>
-        ensures value { option_map target_state result ≡ own_device self.old number }
+        ensures value { result ≡ own_device self.old number }
         ensures has { owns self.old number ≡ true → IsSome result }
         ensures after { self.new ≡ without self.old number }
     {

@@ -1,6 +1,7 @@
 //! The places of the targets of one kind, by number and by address.
 ghost use Rattle.std.specs.Prelude.{◌≡◌, ◌≤◌, length, map, IfOk};
 ghost use Rattle.std.specs.List.{range_with_len};
+ghost use Rattle.i2c_base.specs.Limits.{MOST_DEVICES};
 ghost use Rattle.i2c_physics.specs.Reach.{has_at, wired_at};
 ghost use Rattle.i2c_physics.specs.Sites.{numbers_at};
 
@@ -35,7 +36,7 @@ impl Model for Sites {
 impl Sites {
     /// These places, by number and by address.
     pub fn of(alloc: Global, places: Vec<Place>) -> Result<Self, AllocError>
-        requires { length places.items ≤ 128 }
+        requires { length places.items ≤ MOST_DEVICES }
         ensures { IfOk result (λ sites. sites ≡ places.items) }
     {
         let at = by_address(alloc, &places)?;
@@ -52,7 +53,7 @@ impl Sites {
     /// The numbers of the targets at this address, rising.
     pub fn at(&self, addr: Addr) -> &[u16]
         ensures value { result.now ≡ numbers_at self.now addr }
-        ensures few { length result.now ≤ 128 }
+        ensures few { length result.now ≤ MOST_DEVICES }
     {
         self.at[usize::from(addr.get())].as_slice()
     }
@@ -60,7 +61,7 @@ impl Sites {
 
 /// For each address the numbers of those at it.
 fn by_address(alloc: Global, places: &[Place]) -> Result<Vec<Vec<u16>>, AllocError>
-    requires { length places.now ≤ 128 }
+    requires { length places.now ≤ MOST_DEVICES }
     ensures { IfOk result (λ at. map (λ numbers. numbers.items) at.items ≡ map (numbers_at places.now) (range_with_len 0 128)) }
 {
     let mut at = Vec::with_capacity(alloc, usize::from(ADDRESSES))?;
@@ -73,7 +74,7 @@ fn by_address(alloc: Global, places: &[Place]) -> Result<Vec<Vec<u16>>, AllocErr
 /// The numbers of those at this address.
 #[tactic(auto, using(crate::proofs::NumberLemmas::filter_more))]
 fn numbers_at(alloc: Global, places: &[Place], address: u8) -> Result<Vec<u16>, AllocError>
-    requires { length places.now ≤ 128 }
+    requires { length places.now ≤ MOST_DEVICES }
     ensures { IfOk result (λ numbers. numbers.items ≡ numbers_at places.now address) }
 {
     let mut numbers = Vec::new(alloc);

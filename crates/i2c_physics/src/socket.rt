@@ -2,7 +2,6 @@
 ghost use Rattle.std.specs.Prelude.{◌≡◌, IfOk};
 ghost use Rattle.i2c_spec.specs.Plain.{IsPlainDevice};
 ghost use Rattle.i2c_spec.specs.Targets.{Silent, opening_state};
-ghost use Rattle.i2c_outside.specs.Devices.{target_state};
 
 use i2c_base::{Answer, DeviceSpec, Event, NoMemory, Target};
 use i2c_outside::DeviceState;
@@ -20,11 +19,10 @@ pub struct Socket {
 impl Model for Socket {
     ghost use Rattle.std.specs.Option.{option_map_or};
     ghost use Rattle.i2c_spec.specs.Targets.{TargetState, Silent};
-    ghost use Rattle.i2c_outside.specs.Devices.{target_state};
 
     ghost Value = { TargetState };
 
-    ghost view = { λ s. option_map_or (λ device. target_state device.value) s.device Silent };
+    ghost view = { λ s. option_map_or (λ device. device.value) s.device Silent };
 }
 
 impl Socket {
@@ -50,12 +48,12 @@ impl Socket {
 
     /// Takes out the device.
     pub fn take(&mut self) -> DeviceState
-        ensures taken { target_state result ≡ self.old }
+        ensures taken { result ≡ self.old }
         ensures after { self.new ≡ Silent }
     {
         match self.device.take() {
             Some(device) => Box::into_inner(device),
-            None => DeviceState::Silent,
+            None => DeviceState::silent(),
         }
     }
 }
@@ -65,11 +63,10 @@ impl Target for Socket {
 
     ghost table = { state_table };
 
-    #[tactic(auto, using(crate::proofs::DeviceLemmas::state_after_is, crate::proofs::DeviceLemmas::state_answer_is))]
     fn on(&mut self, event: Event) -> Answer {
         match &mut self.device {
             Some(device) => device.on(event),
-            None => DeviceState::Silent.answer(event),
+            None => DeviceState::silent().answer(event),
         }
     }
 }

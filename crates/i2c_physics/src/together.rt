@@ -2,6 +2,7 @@ ghost use Rattle.std.specs.Prelude.{◌≡◌, ℕ, ◌+◌, ◌<◌, ◌≤◌,
 ghost use Rattle.i2c_base.specs.declared.event.Event.TheVariants as event;
 ghost use Rattle.i2c_base.specs.declared.event.Answer.{Answer};
 ghost use Rattle.i2c_spec.specs.World.{answers, feed, byte_of, has_heard};
+ghost use Rattle.i2c_base.specs.Limits.{MOST_DEVICES};
 ghost use Rattle.i2c_physics.specs.Heard.{numbers_of};
 ghost use Rattle.i2c_physics.specs.Reach.{AreRising, to_those, union_of};
 ghost use Rattle.i2c_physics.specs.Answering.{together_of, start_answer};
@@ -47,7 +48,7 @@ impl Together {
 
 /// Puts the number of a target before the others, where it acknowledges or holds the clock to do so.
 fn hear(heard: &mut Numbers, number: u16, answer: Answer)
-    requires { length heard.old.items < 128 }
+    requires { length heard.old.items < MOST_DEVICES }
     ensures items { heard.new.items ≡ (if has_heard answer then number ∷ heard.old.items else heard.old.items) }
     ensures room { length heard.new.items ≤ length heard.old.items + 1 }
 {
@@ -77,7 +78,7 @@ pub fn tell<T: Target>(
     event: Event,
     heard: &mut Numbers,
 ) -> Together
-    requires few { length targets.old ≤ 128 }
+    requires few { length targets.old ≤ MOST_DEVICES }
     requires rising { AreRising 0 (length targets.old) numbers.now }
     ensures fed { targets.new ≡ feed T.table (to_those numbers.now event) 0 targets.old }
     ensures answered { result ≡ together_of (answers T.table (to_those numbers.now event) 0 targets.old) }
@@ -100,7 +101,7 @@ pub fn tell<T: Target>(
 
 /// Tells of a start those that it calls, and those others that it matters to. What those that are called answer.
 pub fn begin<T: Target>(targets: &mut [T], reach: &mut Reach, reading: bool) -> Together
-    requires few { length targets.old ≤ 128 }
+    requires few { length targets.old ≤ MOST_DEVICES }
     requires started { AreRising 0 (length targets.old) reach.old.started.items }
     requires told { AreRising 0 (length targets.old) reach.old.told.items }
     requires rest { AreRising 0 (length targets.old) reach.old.rest.items }
@@ -119,7 +120,7 @@ pub fn begin<T: Target>(targets: &mut [T], reach: &mut Reach, reading: bool) -> 
 
 /// Tells of a stop those that it reaches: they are started no more, and nobody hears any more.
 pub fn end<T: Target>(targets: &mut [T], reach: &mut Reach)
-    requires few { length targets.old ≤ 128 }
+    requires few { length targets.old ≤ MOST_DEVICES }
     requires told { AreRising 0 (length targets.old) reach.old.told.items }
     ensures fed { targets.new ≡ feed T.table (to_those reach.old.told.items event.Stop) 0 targets.old }
     ensures started { reach.new.started.items ≡ reach.old.rest.items }
@@ -131,7 +132,7 @@ pub fn end<T: Target>(targets: &mut [T], reach: &mut Reach)
 
 /// Tells those who have heard the start of the message of an event. What they answer.
 pub fn pass_on<T: Target>(targets: &mut [T], reach: &mut Reach, event: Event) -> Together
-    requires few { length targets.old ≤ 128 }
+    requires few { length targets.old ≤ MOST_DEVICES }
     requires hearing { AreRising 0 (length targets.old) reach.old.hearing.items }
     ensures fed { targets.new ≡ feed T.table (to_those reach.old.hearing.items event) 0 targets.old }
     ensures answered { result ≡ together_of (answers T.table (to_those reach.old.hearing.items event) 0 targets.old) }

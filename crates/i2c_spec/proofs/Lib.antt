@@ -1,8 +1,11 @@
 pub mod AddressLemmas
+pub mod ByteLemmas
 pub mod CostLemmas
 pub mod EepromLemmas
 pub mod HopLemmas
+pub mod Lm75Lemmas
 pub mod PlainLemmas
+pub mod RegsLemmas
 pub mod RuleLemmas
 pub mod SmbusLemmas
 pub mod StateLemmas

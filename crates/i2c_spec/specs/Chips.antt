@@ -9,6 +9,7 @@ use Rattle.i2c_base.specs.declared.event.Event.{Event}
 use Rattle.i2c_base.specs.declared.event.Event.TheVariants as event
 use Rattle.i2c_base.specs.declared.event.Answer.{Answer}
 use Rattle.i2c_base.specs.declared.event.Answer.TheVariants as answer
+use Rattle.i2c_base.specs.Limits.{POLLS}
 use Rattle.i2c_base.specs.Muxes.{facts_of}
 use Rattle.i2c_base.specs.Table.{Table}
 
@@ -18,7 +19,7 @@ pub record ChipView : Type 0 where
   pub control : ℕ
   -- a byte that came, and waits for the stop
   pub waiting : Option ℕ
-  -- an arbitrator is found with its other controller so often, out of `foreign` after each close; 8 is for good
+  -- an arbitrator is found with its other controller so often, out of `foreign` after each close; POLLS is for good
   pub left : ℕ
   pub foreign : ℕ
 
@@ -45,7 +46,7 @@ kept_bits k byte = byte % 2 ^ (facts_of k).bits
 
 -- an arbitrator is free where no other controller is to be found any more
 abbrev pub is_free : ChipView → Bool
-is_free c = not (c.foreign == 8) && (c.left == 0)
+is_free c = not (c.foreign == POLLS) && (c.left == 0)
 
 -- a waiting byte is taken at the stop: bit 0 clear closes an arbitrator, bit 0 set opens it where it is free
 abbrev pub arbitrated : ChipView → ℕ → ChipView
@@ -67,10 +68,10 @@ stopped c (Some byte) = taken c.kind c byte
 
 -- a look at an arbitrator: 1 where it is with its other controller, which then is found once less
 abbrev pub is_foreign : ChipView → Bool
-is_foreign c = (c.foreign == 8) || nat_lt 0 c.left
+is_foreign c = (c.foreign == POLLS) || nat_lt 0 c.left
 
 abbrev pub looked : MuxKind → ChipView → ChipView
-looked k c = if (facts_of k).asks then (if c.foreign == 8 then c else record c { left = c.left - 1 }) else c
+looked k c = if (facts_of k).asks then (if c.foreign == POLLS then c else record c { left = c.left - 1 }) else c
 
 abbrev pub chip_sends : MuxKind → ChipView → ℕ
 chip_sends k c =

@@ -1,8 +1,8 @@
 -- The EEPROMs 24C02, 24C32 and 24C256, by the data sheets of Microchip (24AA02/24LC02B; 24AA32A; 24AA256/24LC256): device
 -- addressing, byte write, page write, acknowledge polling, write protection, read operation. What a refused byte, a start
 -- that comes first, or a start while it is busy leaves behind is this project's own, and so is that `busy` counts starts.
-use Rattle.std.specs.Prelude.{ℕ, ◌+◌, ◌*◌, ◌-◌, ◌/◌, ◌%◌, nat_lt, Bool, true, false, List, [], ◌∷◌, slice_index, slice_set, take, drop, ◌++◌, replicate, is_some, Option, Some, None, unwrap_or, if◌then◌else◌}
-use Rattle.std.specs.List.{list_any}
+use Rattle.std.specs.Prelude.{ℕ, ◌+◌, ◌*◌, ◌-◌, ◌/◌, ◌%◌, nat_lt, Bool, true, false, List, [], ◌∷◌, slice_index, slice_set, take, drop, ◌++◌, replicate, is_some, Option, Some, None, IfSome, unwrap_or, if◌then◌else◌, codes}
+use Rattle.std.specs.List.{AllByRecursion, list_any}
 use Rattle.i2c_base.specs.declared.event.Event.{Event}
 use Rattle.i2c_base.specs.declared.event.Event.TheVariants as event
 use Rattle.i2c_base.specs.declared.event.Answer.{Answer}
@@ -10,8 +10,17 @@ use Rattle.i2c_base.specs.declared.event.Answer.TheVariants as answer
 use Rattle.i2c_base.specs.declared.board.Size.{Size}
 use Rattle.i2c_base.specs.declared.board.Size.TheVariants.{C02, C32, C256}
 use Rattle.i2c_base.specs.Board.{RunView}
+use Rattle.i2c_base.specs.Bytes.{IsByte}
 use Rattle.i2c_base.specs.Table.{Table}
+use Rattle.i2c_spec.specs.Numbers.{NumberKey}
 use Rattle.i2c_spec.specs.Regs.{write_runs}
+
+-- its numbers: what each byte holds, and how many starts it refuses after a write
+abbrev pub fill_key : NumberKey
+fill_key = record { name = codes "fill"; low = 0; high = 255; default = 255 }
+
+abbrev pub busy_key : NumberKey
+busy_key = record { name = codes "busy"; low = 0; high = 255; default = 0 }
 
 -- how many bytes it has, how many places a page has, and whether its address is two bytes long, the high one first
 abbrev pub size_of_eeprom : Size → ℕ
@@ -145,6 +154,10 @@ eeprom_answer x event.Stop = answer.Nothing
 
 abbrev pub eeprom_table : Table EepromView
 eeprom_table = record { after = eeprom_after; answer = eeprom_answer; sends = λ x. eeprom_sends x x.phase; hold = λ x. 0 }
+
+-- what it holds are bytes
+abbrev pub IsEepromOfBytes : EepromView → Type 0
+IsEepromOfBytes x = AllByRecursion IsByte x.memory × AllByRecursion (λ place. IfSome place IsByte) x.waiting
 
 -- every byte is `fill` but for those that are set
 abbrev pub eeprom_opening : Size → ℕ → ℕ → Bool → List RunView → EepromView

@@ -1,12 +1,18 @@
 -- The temperature sensor LM75, by the data sheets of TI (LM75B) and NXP (LM75B): pointer register, temperature register,
 -- configuration register, T-HYST and T-OS registers. A register of two bytes goes high byte first, and its low seven bits are
 -- always 0. Bytes after the last one of a register are this project's own.
-use Rattle.std.specs.Prelude.{ℕ, ◌+◌, ◌*◌, ◌/◌, ◌%◌, ◌==◌, min, Bool, true, false, if◌then◌else◌}
+use Rattle.std.specs.Prelude.{ℕ, ◌+◌, ◌*◌, ◌/◌, ◌%◌, ◌==◌, min, Bool, true, false, if◌then◌else◌, codes}
 use Rattle.i2c_base.specs.declared.event.Event.{Event}
 use Rattle.i2c_base.specs.declared.event.Event.TheVariants as event
 use Rattle.i2c_base.specs.declared.event.Answer.{Answer}
 use Rattle.i2c_base.specs.declared.event.Answer.TheVariants as answer
+use Rattle.i2c_base.specs.Bytes.{IsByte, IsWord}
 use Rattle.i2c_base.specs.Table.{Table}
+use Rattle.i2c_spec.specs.Numbers.{NumberKey}
+
+-- its number: the temperature register
+abbrev pub raw_key : NumberKey
+raw_key = record { name = codes "raw"; low = 0; high = 65535; default = 0 }
 
 -- what has come of the message in progress: nothing, its address, the pointer and k bytes more, or a read whose next byte
 -- is byte k of its register, the high one being byte 0
@@ -104,6 +110,10 @@ lm75_answer x event.Stop = answer.Nothing
 
 abbrev pub lm75_table : Table Lm75View
 lm75_table = record { after = lm75_after; answer = lm75_answer; sends = λ x. lm75_sends x x.phase; hold = λ x. 0 }
+
+-- what it holds are words of two bytes, and a byte
+abbrev pub IsLm75OfBytes : Lm75View → Type 0
+IsLm75OfBytes x = IsWord x.temperature × IsByte x.configuration × IsWord x.hysteresis × IsWord x.limit
 
 -- the limits as at power-up: 75 and 80 degrees
 abbrev pub lm75_opening : ℕ → Lm75View

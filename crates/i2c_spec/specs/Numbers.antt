@@ -1,5 +1,6 @@
 -- The numbers that a board says of its muxes and devices: the key of each, its range, and its value where the board
--- file doesn't say it. What reads, tests or keeps such a number takes its range from here.
+-- file doesn't say it. What reads, tests or keeps such a number takes its range from its key. The keys of a kind of device
+-- stand with the kind's table.
 use Rattle.std.specs.Prelude.{ℕ, ◌≤◌, List, codes}
 use Rattle.i2c_base.specs.Limits.{MOST_CHANNELS, POLLS, FIRST_ADDRESS, LAST_ADDRESS}
 
@@ -23,25 +24,3 @@ channels_key = record { name = codes "channels"; low = 1; high = MOST_CHANNELS; 
 -- of an arbitrator: how often it is found with its other controller
 abbrev pub foreign_key : NumberKey
 foreign_key = record { name = codes "foreign"; low = 0; high = POLLS; default = 0 }
-
--- of an EEPROM: what each byte holds, and how many starts it refuses after a write
-abbrev pub fill_key : NumberKey
-fill_key = record { name = codes "fill"; low = 0; high = 255; default = 255 }
-
-abbrev pub busy_key : NumberKey
-busy_key = record { name = codes "busy"; low = 0; high = 255; default = 0 }
-
--- of an lm75: its temperature register
-abbrev pub raw_key : NumberKey
-raw_key = record { name = codes "raw"; low = 0; high = 65535; default = 0 }
-
--- of a register device: for how many looks it holds the clock
-abbrev pub hold_key : NumberKey
-hold_key = record { name = codes "hold"; low = 0; high = 200; default = 0 }
-
--- of an SMBus device: how many bytes its data have, and what is wrong with its error code
-abbrev pub width_key : NumberKey
-width_key = record { name = codes "width"; low = 0; high = 2; default = 1 }
-
-abbrev pub flip_key : NumberKey
-flip_key = record { name = codes "flip"; low = 0; high = 255; default = 0 }

@@ -1,11 +1,19 @@
 -- The register device: 256 registers behind a pointer that a write sets. This project's own.
-use Rattle.std.specs.Prelude.{ℕ, ◌+◌, ◌%◌, nat_lt, Bool, true, false, List, [], ◌∷◌, length, slice_index, slice_set, take, drop, ◌++◌, replicate, if◌then◌else◌}
+use Rattle.std.specs.Prelude.{ℕ, ◌+◌, ◌%◌, nat_lt, Bool, true, false, List, [], ◌∷◌, length, slice_index, slice_set, take, drop, ◌++◌, replicate, if◌then◌else◌, codes}
+use Rattle.std.specs.List.{AllByRecursion}
 use Rattle.i2c_base.specs.declared.event.Event.{Event}
 use Rattle.i2c_base.specs.declared.event.Event.TheVariants as event
 use Rattle.i2c_base.specs.declared.event.Answer.{Answer}
 use Rattle.i2c_base.specs.declared.event.Answer.TheVariants as answer
 use Rattle.i2c_base.specs.Board.{RunView}
+use Rattle.i2c_base.specs.Bytes.{IsByte}
+use Rattle.i2c_base.specs.Limits.{MOST_LOOKS}
 use Rattle.i2c_base.specs.Table.{Table}
+use Rattle.i2c_spec.specs.Numbers.{NumberKey}
+
+-- its number: for how many looks it holds the clock
+abbrev pub hold_key : NumberKey
+hold_key = record { name = codes "hold"; low = 0; high = 200; default = 0 }
 
 -- what has come of the message in progress: nothing, its address, the pointer too, or a read
 pub data RegsPhase : Type 0 where
@@ -18,12 +26,12 @@ pub record RegsView : Type 0 where
   pub phase : RegsPhase
   pub pointer : ℕ
   pub memory : List ℕ
-  -- for how many looks it holds the clock at its address; above 64 the controller gives up
+  -- for how many looks it holds the clock at its address; above MOST_LOOKS the controller gives up
   pub hold : ℕ
 
 -- a controller looks so often at a clock that is held
 abbrev pub is_too_long : ℕ → Bool
-is_too_long hold = nat_lt 64 hold
+is_too_long hold = nat_lt MOST_LOOKS hold
 
 abbrev pub begun : Bool → RegsPhase
 begun false = Pointer
@@ -72,6 +80,10 @@ regs_answer x event.Stop = answer.Nothing
 
 abbrev pub regs_table : Table RegsView
 regs_table = record { after = regs_after; answer = regs_answer; sends = λ x. regs_sends x x.phase; hold = λ x. x.hold }
+
+-- what it holds are bytes
+abbrev pub IsRegsOfBytes : RegsView → Type 0
+IsRegsOfBytes x = AllByRecursion IsByte x.memory
 
 -- memory after a run of `set`, and after all of them, in order
 abbrev pub write_run : List ℕ → RunView → List ℕ

@@ -1,15 +1,25 @@
 -- The SMBus device: 256 registers and a command that says where the data begin. A write is its command, the data and maybe
 -- their error code; a read gives the data and their error code (SMBus 3.2, sections 6.4 and 6.5). That it takes a write without
 -- an error code too, and what it does with too few bytes or too many, is this project's own.
-use Rattle.std.specs.Prelude.{ℕ, ◌+◌, ◌*◌, ◌%◌, ◌==◌, ◌&&◌, min, nat_lt, Bool, true, false, List, [], ◌∷◌, ◌++◌, length, slice_index, slice_set, replicate, bit_xor, if◌then◌else◌}
+use Rattle.std.specs.Prelude.{ℕ, ◌+◌, ◌*◌, ◌%◌, ◌==◌, ◌&&◌, ◌<◌, min, nat_lt, Bool, true, false, List, [], ◌∷◌, ◌++◌, length, slice_index, slice_set, replicate, bit_xor, if◌then◌else◌, codes}
+use Rattle.std.specs.List.{AllByRecursion}
 use Rattle.i2c_base.specs.declared.event.Event.{Event}
 use Rattle.i2c_base.specs.declared.event.Event.TheVariants as event
 use Rattle.i2c_base.specs.declared.event.Answer.{Answer}
 use Rattle.i2c_base.specs.declared.event.Answer.TheVariants as answer
 use Rattle.i2c_base.specs.Board.{RunView}
+use Rattle.i2c_base.specs.Bytes.{IsByte}
 use Rattle.i2c_base.specs.Table.{Table}
+use Rattle.i2c_spec.specs.Numbers.{NumberKey}
 use Rattle.i2c_spec.specs.Regs.{write_runs}
 use Rattle.smb_pec.specs.LongDivision.{pec_with}
+
+-- its numbers: how many bytes its data have, and what is wrong with its error code
+abbrev pub width_key : NumberKey
+width_key = record { name = codes "width"; low = 0; high = 2; default = 1 }
+
+abbrev pub flip_key : NumberKey
+flip_key = record { name = codes "flip"; low = 0; high = 255; default = 0 }
 
 -- what has come of the message in progress: nothing, its address, the command and maybe data, the error code of whole data
 -- too, or a read of which k bytes were read
@@ -163,6 +173,10 @@ smbus_answer x event.Stop = answer.Nothing
 
 abbrev pub smbus_table : Table SmbusView
 smbus_table = record { after = smbus_after; answer = smbus_answer; sends = λ x. smbus_sends x x.phase; hold = λ x. 0 }
+
+-- what it holds are bytes, and its address has seven bits
+abbrev pub IsSmbusOfBytes : SmbusView → Type 0
+IsSmbusOfBytes x = (x.addr < 128) × IsByte x.flip × IsByte x.code × AllByRecursion IsByte x.held × AllByRecursion IsByte x.memory
 
 abbrev pub smbus_opening : ℕ → ℕ → ℕ → List RunView → SmbusView
 smbus_opening addr width flip set = record {

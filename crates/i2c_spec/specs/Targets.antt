@@ -1,6 +1,6 @@
 -- Every device of a board, whatever its kind, as one type of states with one table, and what is so of each kind: a row.
--- A further kind of device adds a case, a line of each function, a row, and the file of its table.
-use Rattle.std.specs.Prelude.{◌≡◌, ℕ, Bool, true, false, ◌⊎◌, List, [], ◌∷◌, Option, Some, None}
+-- A further kind of device adds a case, a line of each function, a row, and the file of its table, which has its keys too.
+use Rattle.std.specs.Prelude.{⊤, ◌≡◌, ℕ, Bool, true, false, ◌⊎◌, List, [], ◌∷◌, Option, Some, None}
 use Rattle.std.specs.List.{AllByRecursion}
 use Rattle.i2c_base.specs.declared.board.DeviceKind.{DeviceKind}
 use Rattle.i2c_base.specs.declared.board.DeviceKind.TheVariants as kind
@@ -9,12 +9,13 @@ use Rattle.i2c_base.specs.declared.event.Event.TheVariants as event
 use Rattle.i2c_base.specs.declared.event.Answer.{Answer}
 use Rattle.i2c_base.specs.declared.event.Answer.TheVariants as answer
 use Rattle.i2c_base.specs.Board.{DeviceView, RunView}
+use Rattle.i2c_base.specs.Bytes.{IsByte}
 use Rattle.i2c_base.specs.Table.{Table}
-use Rattle.i2c_spec.specs.Numbers.{NumberKey, IsFor, fill_key, busy_key, raw_key, hold_key, width_key, flip_key}
-use Rattle.i2c_spec.specs.Eeprom.{EepromView, eeprom_after, eeprom_answer, eeprom_sends, eeprom_opening, size_of_eeprom}
-use Rattle.i2c_spec.specs.Lm75.{Lm75View, lm75_after, lm75_answer, lm75_sends, lm75_opening}
-use Rattle.i2c_spec.specs.SmbusDevice.{SmbusView, smbus_after, smbus_answer, smbus_sends, smbus_opening}
-use Rattle.i2c_spec.specs.Regs.{RegsView, regs_after, regs_answer, regs_sends, regs_opening, is_too_long}
+use Rattle.i2c_spec.specs.Numbers.{NumberKey, IsFor}
+use Rattle.i2c_spec.specs.Eeprom.{EepromView, IsEepromOfBytes, fill_key, busy_key, eeprom_after, eeprom_answer, eeprom_sends, eeprom_opening, size_of_eeprom}
+use Rattle.i2c_spec.specs.Lm75.{Lm75View, IsLm75OfBytes, raw_key, lm75_after, lm75_answer, lm75_sends, lm75_opening}
+use Rattle.i2c_spec.specs.SmbusDevice.{SmbusView, IsSmbusOfBytes, width_key, flip_key, smbus_after, smbus_answer, smbus_sends, smbus_opening}
+use Rattle.i2c_spec.specs.Regs.{RegsView, IsRegsOfBytes, hold_key, regs_after, regs_answer, regs_sends, regs_opening, is_too_long}
 
 pub data TargetState : Type 0 where
   Eeprom : (x : EepromView) → TargetState
@@ -61,6 +62,15 @@ state_hold Silent = 0
 
 abbrev pub state_table : Table TargetState
 state_table = record { after = state_after; answer = state_answer; sends = state_sends; hold = state_hold }
+
+-- what a device holds are bytes, and words of two, and an address that it keeps has seven bits: then the AND of one byte that
+-- is sent and the idle wires is that byte
+abbrev pub HoldsBytes : TargetState → Type 0
+HoldsBytes (Eeprom x) = IsEepromOfBytes x
+HoldsBytes (Lm75 x) = IsLm75OfBytes x
+HoldsBytes (Regs x) = IsRegsOfBytes x
+HoldsBytes (Smbus x) = IsSmbusOfBytes x
+HoldsBytes Silent = ⊤
 
 -- what is so of a device by its kind: its numbers, each with its key; the size of the memory that `set` writes, where it
 -- has one; and its state at the opening, at its address and with what is set
@@ -115,3 +125,16 @@ pub record IsFairTable {X : Type 0} (t : Table X) : Type 0 where
   pub puts : (x : X) (byte : ℕ) → IsAckOrNack (t.answer x (event.Put byte))
   pub other : (x : X) → t.answer x event.Other ≡ answer.Nothing
   pub stop : (x : X) → t.answer x event.Stop ≡ answer.Nothing
+
+-- what is put is a byte
+abbrev pub IsByteEvent : Event → Type 0
+IsByteEvent (event.Put byte) = IsByte byte
+IsByteEvent (event.Start reading) = ⊤
+IsByteEvent (event.Get ack) = ⊤
+IsByteEvent event.Other = ⊤
+IsByteEvent event.Stop = ⊤
+
+-- where a target holds bytes, it goes on to, and sends one
+pub record KeepsBytes {X : Type 0} (t : Table X) (Holds : X → Type 0) : Type 0 where
+  pub after : (x : X) (e : Event) → IsByteEvent e → Holds x → Holds (t.after x e)
+  pub sends : (x : X) → Holds x → IsByte (t.sends x)

@@ -7,7 +7,8 @@ ghost use Rattle.i2c_spec.specs.Eeprom.{eeprom_table};
 ghost use Rattle.i2c_spec.specs.Lm75.{lm75_table};
 ghost use Rattle.i2c_spec.specs.SmbusDevice.{smbus_table};
 ghost use Rattle.i2c_spec.specs.Chips.{chip_table, chip_opening};
-ghost use Rattle.i2c_spec.specs.Targets.{IsFairTable, IsQuiet, state_table, opening_state};
+ghost use Rattle.i2c_spec.specs.Plain.{IsPlainDevice};
+ghost use Rattle.i2c_spec.specs.Targets.{IsFairTable, IsQuiet, HoldsBytes, KeepsBytes, state_table, opening_state};
 
 /// After a stop the register device stays as it is until its next start, and it sends what it says.
 pub fn regs_are_fair()
@@ -37,6 +38,12 @@ pub fn chips_are_fair()
 /// After a stop a device stays as it is until its next start, and it sends what it says.
 pub fn states_are_fair()
     ensures { IsFairTable state_table }
+{}
+
+/// What a device holds are bytes: as its board opens it, after each event that puts a byte or none, and in what it sends.
+pub fn devices_hold_bytes()
+    ensures opened { (d : DeviceView) → IsPlainDevice d → HoldsBytes (opening_state d) }
+    ensures kept { KeepsBytes state_table HoldsBytes }
 {}
 
 /// Every target is opened so that starts for others and stops leave it as it is.

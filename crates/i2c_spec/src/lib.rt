@@ -25,8 +25,8 @@ mod tree;
 pub use cost::Bill;
 pub use device_memory::{eeprom_bytes, eeprom_page, is_wide, write_runs};
 pub use fair_targets::{
-    chips_are_fair, eeproms_are_fair, lm75s_are_fair, openings_are_quiet, regs_are_fair,
-    smbus_devices_are_fair, states_are_fair,
+    chips_are_fair, devices_hold_bytes, eeproms_are_fair, lm75s_are_fair, openings_are_quiet,
+    regs_are_fair, smbus_devices_are_fair, states_are_fair,
 };
 pub use flat_world::{done_with, errno_of, refusal};
 pub use hop::Hop;

@@ -3,10 +3,10 @@ ghost use Rattle.i2c_spec.specs.Tree.{end_of};
 
 use crate::{Hop, Layout};
 use arrayvec::ArrayVec;
-use i2c_base::{MuxId, MuxSpec, SegId, Way};
+use i2c_base::{MuxId, MuxSpec, POLLS, SegId, Way};
 
-/// An arbitrator that is so often found with its other controller stays there.
-const FOREIGN_FOR_GOOD: u8 = 8;
+/// An arbitrator that is found with its other controller as often as it is asked stays there.
+const FOREIGN_FOR_GOOD: u8 = POLLS;
 
 /// The bus at the end of these hops from a bus, nearest first.
 #[tactic(auto, using(crate::proofs::HopLemmas::end_of_last))]

@@ -1,11 +1,10 @@
 -- What a text says of a board, it says once: it is a board or is refused, and for one cause. No induction.
-use Rattle.std.proofs.Common.{◌≡◌, ℕ, List, Result, Ok, Err, refl, sym, ap, subst, ◌∙◌}
+use Rattle.std.proofs.Common.{◌≡◌, ℕ, List, Result, Ok, Err, sym, ap, subst, ◌∙◌}
 use Rattle.i2c_base.specs.Board.{BoardView}
-use Rattle.i2c_base.specs.declared.rules.RuleBroken.{RuleBroken}
 use Rattle.i2c_spec.specs.Rules.{MeetsRules, TellsBroken}
 use Rattle.i2c_boardtext.specs.BoardText.{board_of}
 use Rattle.i2c_boardtext.specs.declared.fault.BoardFault.{BoardFault}
-use Rattle.i2c_top.specs.Boards.{IsAccepted, IsBroken, IsRejected}
+use Rattle.i2c_top.specs.Boards.{IsAccepted, IsRejected}
 use Rattle.i2c_top.specs.declared.status.BoardRefusal.{BoardRefusal}
 use Rattle.i2c_top.specs.declared.status.BoardRefusal.TheVariants as refusal
 use Rattle.i2c_topo.proofs.BrokenLemmas.{broken_breaks, one_broken}

@@ -1,6 +1,7 @@
 -- The files decide one status: of two that they are a cause of, both are the same.
 use Rattle.std.proofs.Common.{◌≡◌, ℕ, ◌<◌, ◌≤◌, ◌⊎◌, inl, inr, List, length, Option, Some, Result, Ok, Err, refl, sym, ◌∙◌, ap, subst, arith}
 use Rattle.std.proofs.lemmas.Bool.{cases_order}
+use Rattle.i2c_base.specs.Board.{BoardView}
 use Rattle.i2c_top.specs.Boards.{IsAccepted, IsRejected}
 use Rattle.i2c_top.specs.Checks.{HasAccepted, HasRejected, IsCheckCause}
 use Rattle.i2c_top.specs.Files.{Files}
@@ -8,7 +9,7 @@ use Rattle.i2c_top.specs.Replays.{Names, script_name, HasScript, HasBadScript, H
 use Rattle.i2c_top.specs.Requests.{Request, Replay, Check, NoForm, IsCause}
 use Rattle.i2c_top.specs.Runs.{MOST_COST}
 use Rattle.caller_core.specs.Scripts.{Place, script_read, commands_of}
-use Rattle.caller_core.specs.View.{CommandView}
+use Rattle.caller_core.specs.View.{CommandView, script_on}
 use Rattle.i2c_top.specs.Schedules.{schedule_read}
 use Rattle.i2c_top.specs.declared.status.BoardRefusal.{BoardRefusal}
 use Rattle.i2c_top.specs.declared.status.Status.{Status}
@@ -29,10 +30,10 @@ one_why file name why why_now b n =
 not_both : (r : Result (List CommandView) Place) (cs : List CommandView) (p : Place) → r ≡ Ok cs → r ≡ Err p → ⊥
 not_both r cs p e f = absurd (let h : Ok cs ≡ Err p = sym e ∙ f in cc)
 
-no_script : (file : Files) (name : List ℕ) (line word : ℕ) → HasScript file name → HasBadScript file name line word → ⊥
-no_script file name line word s b =
-    not_both (script_read b.text) (commands_of s.text) (record { line = line; word = word })
-    (ap script_read (sym (one_text (file name) s.text b.text s.there b.there)) ∙ s.read) b.read
+no_script : (file : Files) (board : BoardView) (name : List ℕ) (line word : ℕ) → HasScript file board name → HasBadScript file board name line word → ⊥
+no_script file board name line word s b =
+    not_both (script_read (script_on board b.text)) (commands_of (script_on board s.text)) (record { line = line; word = word })
+    (ap (λ t. script_read (script_on board t)) (sym (one_text (file name) s.text b.text s.there b.there)) ∙ s.read) b.read
 
 not_words : (r : Result (List ℕ) ℕ) (cs : List ℕ) (w : ℕ) → r ≡ Ok cs → r ≡ Err w → ⊥
 not_words r cs w e f = absurd (let h : Ok cs ≡ Err w = sym e ∙ f in cc)
@@ -48,13 +49,13 @@ place_or p (Err q) = q
 abbrev at_line : ℕ → Place → Status
 at_line c p = status.Script c p.line p.word
 
-one_place : (file : Files) (name : List ℕ) (c line word line_now word_now : ℕ) → HasBadScript file name line word → HasBadScript file name line_now word_now
+one_place : (file : Files) (board : BoardView) (name : List ℕ) (c line word line_now word_now : ℕ) → HasBadScript file board name line word → HasBadScript file board name line_now word_now
     → status.Script c line_now word_now ≡ status.Script c line word
-one_place file name c line word line_now word_now b n =
+one_place file board name c line word line_now word_now b n =
     let p : Place = record { line = line; word = word } in
     let q : Place = record { line = line_now; word = word_now } in
     let same : n.text ≡ b.text = one_text (file name) n.text b.text n.there b.there in
-    ap (at_line c) (ap (place_or p) (sym n.read ∙ ap script_read same ∙ b.read))
+    ap (at_line c) (ap (place_or p) (sym n.read ∙ ap (λ t. script_read (script_on board t)) same ∙ b.read))
 
 abbrev word_or : ℕ → Result (List ℕ) ℕ → ℕ
 word_or w (Ok cs) = w
@@ -87,13 +88,13 @@ record DecideScript (file : Files) (names : Names) (s : Status) : Type 0 where
   word : ℕ
   same : s ≡ status.Script caller line word
   earlier : HasScriptsBefore file names caller
-  script : HasBadScript file (script_name names.scripts caller) line word
+  script : HasBadScript file earlier.board.board (script_name names.scripts caller) line word
 
 record DecideSchedule (file : Files) (names : Names) (s : Status) : Type 0 where
   word : ℕ
   same : s ≡ status.Schedule word
   board : HasAccepted file names.board
-  scripts : HasScripts file names.scripts (length names.scripts)
+  scripts : HasScripts file board.board names.scripts (length names.scripts)
   schedule : HasBadSchedule file names.schedule (length names.scripts) word
 
 record DecideCost (file : Files) (names : Names) (s : Status) : Type 0 where
@@ -131,42 +132,51 @@ agree_texts file names s r (inr a) (inr b) =
     b.same ∙ ap (λ n. status.Cost n) (b.files.same ∙ one_cost file names b.files.texts a.files.texts ∙ sym a.files.same) ∙ sym a.same
 
 -- one script is the first that isn't in the grammar
-no_earlier : (file : Files) (names : List (List ℕ)) (c n line word : ℕ) → c < n → HasScripts file names n → HasBadScript file (script_name names c) line word → ⊥
-no_earlier file names c n line word below good bad = no_script file (script_name names c) line word (good c below) bad
+no_earlier : (file : Files) (board : BoardView) (names : List (List ℕ)) (c n line word : ℕ) → c < n → HasScripts file board names n → HasBadScript file board (script_name names c) line word → ⊥
+no_earlier file board names c n line word below good bad = no_script file board (script_name names c) line word (good c below) bad
 
-one_script : (file : Files) (names : Names) (c d line word line_now word_now : ℕ) → HasScriptsBefore file names c → HasBadScript file (script_name names.scripts c) line word
-    → HasScriptsBefore file names d → HasBadScript file (script_name names.scripts d) line_now word_now → (c ≡ d) ⊎ ((c < d) ⊎ (d < c)) → status.Script d line_now word_now ≡ status.Script c line word
-one_script file names c d line word line_now word_now a bad b bad_now (inl same) =
-    let here : HasBadScript file (script_name names.scripts c) line_now word_now = subst (λ x. HasBadScript file (script_name names.scripts x) line_now word_now) (sym same) bad_now in
-    ap (λ x. status.Script x line_now word_now) (sym same) ∙ one_place file (script_name names.scripts c) c line word line_now word_now bad here
-one_script file names c d line word line_now word_now a bad b bad_now (inr (inl below)) = absurd (no_earlier file names.scripts c d line word below b.before bad)
-one_script file names c d line word line_now word_now a bad b bad_now (inr (inr below)) = absurd (no_earlier file names.scripts d c line_now word_now below a.before bad_now)
+one_script : (file : Files) (board : BoardView) (names : List (List ℕ)) (c d line word line_now word_now : ℕ) → HasScripts file board names c → HasBadScript file board (script_name names c) line word
+    → HasScripts file board names d → HasBadScript file board (script_name names d) line_now word_now → (c ≡ d) ⊎ ((c < d) ⊎ (d < c)) → status.Script d line_now word_now ≡ status.Script c line word
+one_script file board names c d line word line_now word_now good bad good_now bad_now (inl same) =
+    let here : HasBadScript file board (script_name names c) line_now word_now = subst (λ x. HasBadScript file board (script_name names x) line_now word_now) (sym same) bad_now in
+    ap (λ x. status.Script x line_now word_now) (sym same) ∙ one_place file board (script_name names c) c line word line_now word_now bad here
+one_script file board names c d line word line_now word_now good bad good_now bad_now (inr (inl below)) = absurd (no_earlier file board names c d line word below good_now bad)
+one_script file board names c d line word line_now word_now good bad good_now bad_now (inr (inr below)) = absurd (no_earlier file board names d c line_now word_now below good bad_now)
+
+-- what is read over the board of the file is read over one board
+bad_on : (file : Files) (names : Names) (caller line word : ℕ) (a b : HasAccepted file names.board) → HasBadScript file a.board (script_name names.scripts caller) line word
+    → HasBadScript file b.board (script_name names.scripts caller) line word
+bad_on file names caller line word a b bad = subst (λ k. HasBadScript file k (script_name names.scripts caller) line word) (one_board_in file names.board a b) bad
 
 agree_script : (file : Files) (names : Names) (s r : Status) → DecideScript file names s → DecideScript file names r → r ≡ s
 agree_script file names s r a b =
-    b.same ∙ one_script file names a.caller b.caller a.line a.word b.line b.word a.earlier a.script b.earlier b.script (cases_order a.caller b.caller) ∙ sym a.same
+    let board = a.earlier.board in
+    let good = subst (λ k. HasScripts file k names.scripts b.caller) (one_board_in file names.board b.earlier.board board) b.earlier.before in
+    let bad = bad_on file names b.caller b.line b.word b.earlier.board board b.script in
+    b.same ∙ one_script file board.board names.scripts a.caller b.caller a.line a.word b.line b.word a.earlier.before a.script good bad (cases_order a.caller b.caller) ∙ sym a.same
 
-all_earlier : (file : Files) (names : Names) (caller line word : ℕ) → HasScripts file names.scripts (length names.scripts) → HasScriptsBefore file names caller
-    → HasBadScript file (script_name names.scripts caller) line word → ⊥
-all_earlier file names caller line word good earlier bad = no_earlier file names.scripts caller (length names.scripts) line word earlier.known good bad
+all_earlier : (file : Files) (names : Names) (caller line word : ℕ) (board : HasAccepted file names.board) → HasScripts file board.board names.scripts (length names.scripts)
+    → (earlier : HasScriptsBefore file names caller) → HasBadScript file earlier.board.board (script_name names.scripts caller) line word → ⊥
+all_earlier file names caller line word board good earlier bad =
+    no_earlier file board.board names.scripts caller (length names.scripts) line word earlier.known good (bad_on file names caller line word earlier.board board bad)
 
 agree : (file : Files) (names : Names) (s r : Status) → Decide file names s → Decide file names r → r ≡ s
 agree file names s r (inl a) (inl b) = agree_texts file names s r a b
 agree file names s r (inl a) (inr (inl b)) = absurd (no_board file names.board b.why (texts_of file names s a).board b.board)
-agree file names s r (inl a) (inr (inr (inl b))) = absurd (all_earlier file names b.caller b.line b.word (texts_of file names s a).scripts b.earlier b.script)
+agree file names s r (inl a) (inr (inr (inl b))) = absurd (all_earlier file names b.caller b.line b.word (texts_of file names s a).board (texts_of file names s a).scripts b.earlier b.script)
 agree file names s r (inl a) (inr (inr (inr b))) = absurd (no_schedule file names.schedule (length names.scripts) b.word (texts_of file names s a).schedule b.schedule)
 agree file names s r (inr (inl a)) (inl b) = absurd (no_board file names.board a.why (texts_of file names r b).board a.board)
 agree file names s r (inr (inl a)) (inr (inl b)) =
     b.same ∙ ap (λ w. status.Board w) (one_why file names.board a.why b.why a.board b.board) ∙ sym a.same
 agree file names s r (inr (inl a)) (inr (inr (inl b))) = absurd (no_board file names.board a.why b.earlier.board a.board)
 agree file names s r (inr (inl a)) (inr (inr (inr b))) = absurd (no_board file names.board a.why b.board a.board)
-agree file names s r (inr (inr (inl a))) (inl b) = absurd (all_earlier file names a.caller a.line a.word (texts_of file names r b).scripts a.earlier a.script)
+agree file names s r (inr (inr (inl a))) (inl b) = absurd (all_earlier file names a.caller a.line a.word (texts_of file names r b).board (texts_of file names r b).scripts a.earlier a.script)
 agree file names s r (inr (inr (inl a))) (inr (inl b)) = absurd (no_board file names.board b.why a.earlier.board b.board)
 agree file names s r (inr (inr (inl a))) (inr (inr (inl b))) = agree_script file names s r a b
-agree file names s r (inr (inr (inl a))) (inr (inr (inr b))) = absurd (all_earlier file names a.caller a.line a.word b.scripts a.earlier a.script)
+agree file names s r (inr (inr (inl a))) (inr (inr (inr b))) = absurd (all_earlier file names a.caller a.line a.word b.board b.scripts a.earlier a.script)
 agree file names s r (inr (inr (inr a))) (inl b) = absurd (no_schedule file names.schedule (length names.scripts) a.word (texts_of file names r b).schedule a.schedule)
 agree file names s r (inr (inr (inr a))) (inr (inl b)) = absurd (no_board file names.board b.why a.board b.board)
-agree file names s r (inr (inr (inr a))) (inr (inr (inl b))) = absurd (all_earlier file names b.caller b.line b.word a.scripts b.earlier b.script)
+agree file names s r (inr (inr (inr a))) (inr (inr (inl b))) = absurd (all_earlier file names b.caller b.line b.word a.board a.scripts b.earlier b.script)
 agree file names s r (inr (inr (inr a))) (inr (inr (inr b))) =
     b.same ∙ ap (λ w. status.Schedule w) (one_word file names.schedule (length names.scripts) a.word b.word a.schedule b.schedule) ∙ sym a.same
 

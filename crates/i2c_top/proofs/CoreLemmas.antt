@@ -41,8 +41,8 @@ use Rattle.bus_journal.specs.View.{JournalView}
 use Rattle.caller_core.specs.Callers.{IsOpened, board_of, owed_by}
 use Rattle.caller_core.proofs.FairLemmas.{left_at_first}
 use Rattle.caller_core.specs.Scripts.{asked_by, left_of, cost_of_script}
-use Rattle.caller_core.specs.View.{ScriptView, CallerView}
-use Rattle.i2c_top.specs.Runs.{script_on, asks_by, AreOpened, texts_of, cost_of_texts, callers_of, MOST_COST, IsOver}
+use Rattle.caller_core.specs.View.{ScriptView, CallerView, script_on}
+use Rattle.i2c_top.specs.Runs.{asks_by, AreOpened, texts_of, cost_of_texts, callers_of, MOST_COST, IsOver}
 use Rattle.i2c_top.proofs.RunLemmas.{same_asks}
 
 -- a script as a caller
@@ -257,6 +257,11 @@ module _ {P : Type 0} (g : PortGhosts P) (b : BoardView) (x : Parts P CallerView
           absurd (omega (arith, number, first, low, above))))
           ∙ ap (λ (o : Option (List ℕ)). option_map_or (λ text. asked_by (script_on b text) rs) o None) (sym (slice_get_past (texts_of (callers_of x)) c (omega (arith, count, above))))
 
+  own-at : (c : ℕ) (s : CallerView) → slice_get (callers_of x) c ≡ Some s → s.script ≡ script_on b s.script.text
+  own-at c s here =
+      let y = from (λ (t : Seat CallerView). t.caller) seats c s here in
+      subst (λ (t : CallerView). t.script ≡ script_on b t.script.text) y.2 (own-script c y.0 y.1)
+
   -- a caller that is through
   through-at : (v : CoreState ScriptView) → AllThrough asked_by g.tells (left v) → (c : ℕ) (s : CallerView) → slice_get (callers_of x) c ≡ Some s
       → (asked_by (script_on b s.script.text) s.taken ≡ None) × IsThrough asked_by g.tells (left v) c s.taken
@@ -290,6 +295,7 @@ module _ {P : Type 0} (g : PortGhosts P) (b : BoardView) (x : Parts P CallerView
       record {
         plain = plain;
         rules = rules;
+        own = own-at;
         stepwise = subst (λ (a : Asks). IsStepwise b MOST_CALLERS a past) asks-same told.stepwise;
         rests = subst (λ (a : Asks). (now b a past).due ≡ None) asks-same told.rests;
         followed = follows;

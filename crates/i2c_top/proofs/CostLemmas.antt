@@ -5,8 +5,8 @@ use Rattle.std.proofs.lemmas.List.Sums.{sum_by-cons}
 use Rattle.i2c_base.specs.Board.{BoardView}
 use Rattle.caller_core.specs.Callers.{IsOpened}
 use Rattle.caller_core.specs.Scripts.{cost_of_script}
-use Rattle.caller_core.specs.View.{CallerView}
-use Rattle.i2c_top.specs.Runs.{script_on, AreOpened, texts_of, cost_of_texts}
+use Rattle.caller_core.specs.View.{CallerView, script_on}
+use Rattle.i2c_top.specs.Runs.{AreOpened, texts_of, cost_of_texts}
 
 abbrev pub cost_of_opened : CallerView → ℕ
 cost_of_opened s = cost_of_script s.script

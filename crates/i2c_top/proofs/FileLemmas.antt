@@ -9,17 +9,15 @@ use Rattle.std.proofs.lemmas.Option.{unwrap_or-slice_get}
 use Rattle.i2c_base.specs.Board.{BoardView}
 use Rattle.caller_core.specs.Callers.{IsOpened}
 use Rattle.caller_core.specs.Scripts.{script_read, commands_of}
-use Rattle.caller_core.specs.View.{CallerView}
+use Rattle.caller_core.specs.View.{CallerView, script_on}
 use Rattle.i2c_top.specs.Boards.{IsAccepted, IsRejected}
 use Rattle.i2c_top.specs.Files.{Files, bytes_in}
 use Rattle.i2c_top.specs.Readings.{IsAcceptedIn, IsRejectedIn, IsScriptIn, AreScriptsIn, IsScheduleIn, HasRead, IsRefusedAt, IsRefusedScript, IsBadBoard, IsBadScript, IsBadSchedule, IsTooDear}
 use Rattle.i2c_outside.specs.Causes.{Rose}
-use Rattle.i2c_top.specs.Checks.{HasAccepted, HasRejected}
 use Rattle.i2c_top.specs.Replays.{Names, script_name, HasScript, HasBadScript, HasScripts, HasBadSchedule, HasScriptsBefore, HasTexts, texts_in, cost_in, IsFileRefusal}
 use Rattle.i2c_top.specs.Runs.{texts_of, cost_of_texts}
 use Rattle.i2c_top.specs.Schedules.{schedule_read}
 use Rattle.i2c_top.specs.Traces.{ShelfView, KeepsBut}
-use Rattle.i2c_top.specs.declared.status.BoardRefusal.{BoardRefusal}
 use Rattle.i2c_top.specs.declared.status.Status.{Status}
 use Rattle.i2c_top.specs.declared.status.Status.TheVariants as status
 
@@ -42,7 +40,7 @@ board_rejected tells file name text reads reads_now s there h =
     (λ b. record { why = b.why; same = b.same; is_bad = λ t. record { text = text; there = there t; is_rejected = b.is_bad } }) h
 
 pub script_in : (file : Files) (name text : List ℕ) (b : BoardView) (r : Result CallerView Status) → file name ≡ Some text → IfOk r (IsOpened b text)
-    → OnOk r (script_read text ≡ Ok (commands_of text)) → IfOk r (λ s. IsScriptIn file name s.script.text)
+    → OnOk r (script_read (script_on b text) ≡ Ok (commands_of (script_on b text))) → IfOk r (λ s. IsScriptIn file b name s.script.text)
 script_in file name text b (Ok s) there o read = record { has = record { text = text; there = there; read = read }; same = o.text_is }
 script_in file name text b (Err s) there o read = tt
 
@@ -52,18 +50,18 @@ own_text b text (Ok s) o = record { board_is = o.board_is; text_is = refl; untak
 own_text b text (Err e) o = tt
 
 -- the bytes of a script's file are its text
-bytes_are : (file file_now : Files) (name text : List ℕ) → ((n : List ℕ) → file_now n ≡ file n) → IsScriptIn file_now name text → text ≡ bytes_in file name
-bytes_are file file_now name text same is = is.same ∙ ap (λ o. unwrap_or o []) (sym is.has.there ∙ same name)
+bytes_are : (file file_now : Files) (b : BoardView) (name text : List ℕ) → ((n : List ℕ) → file_now n ≡ file n) → IsScriptIn file_now b name text → text ≡ bytes_in file name
+bytes_are file file_now b name text same is = is.same ∙ ap (λ o. unwrap_or o []) (sym is.has.there ∙ same name)
 
 -- one script more
-scripts_pushed : (file file_now : Files) (names : List (List ℕ)) (n : ℕ) (text : List ℕ) → ((name : List ℕ) → file_now name ≡ file name) → HasScripts file names n
-    → IsScriptIn file_now (script_name names n) text → HasScripts file names (n + 1)
-scripts_pushed file file_now names n text same read is c below = by (cases_lt c n)
+scripts_pushed : (file file_now : Files) (b : BoardView) (names : List (List ℕ)) (n : ℕ) (text : List ℕ) → ((name : List ℕ) → file_now name ≡ file name) → HasScripts file b names n
+    → IsScriptIn file_now b (script_name names n) text → HasScripts file b names (n + 1)
+scripts_pushed file file_now b names n text same read is c below = by (cases_lt c n)
   where
-    by : (c < n) ⊎ (n ≤ c) → HasScript file (script_name names c)
+    by : (c < n) ⊎ (n ≤ c) → HasScript file b (script_name names c)
     by (inl less) = read c less
     by (inr least) =
-        subst (λ x. HasScript file (script_name names x)) (let e : n ≡ c = omega (arith, below, least) in e)
+        subst (λ x. HasScript file b (script_name names x)) (let e : n ≡ c = omega (arith, below, least) in e)
         (record { text = is.has.text; there = sym (same (script_name names n)) ∙ is.has.there; read = is.has.read })
 
 texts_pushed : (file : Files) (names : List (List ℕ)) (n : ℕ) → n < length names → texts_in file (take (n + 1) names) ≡ texts_in file (take n names) ++ bytes_in file (script_name names n) ∷ []
@@ -73,23 +71,23 @@ texts_pushed file names n below =
 
 more_scripts : (tells : Bool) (file file_now : Files) (names : List (List ℕ)) (b : BoardView) (scripts : List CallerView) (s : CallerView) → ((n : List ℕ) → file_now n ≡ file n)
     → length scripts < length names → AreScriptsIn tells file names b scripts → IsOpened b s.script.text s
-    → (IsTrue tells → IsScriptIn file_now (script_name names (length scripts)) s.script.text) → AreScriptsIn tells file names b (scripts ++ s ∷ [])
+    → (IsTrue tells → IsScriptIn file_now b (script_name names (length scripts)) s.script.text) → AreScriptsIn tells file names b (scripts ++ s ∷ [])
 more_scripts tells file file_now names b scripts s same below are opened is =
     record {
       opened = All-push (λ x. IsOpened b x.script.text x) scripts s are.opened opened;
-      read = λ t. subst (HasScripts file names) (sym (length-append scripts (s ∷ []))) (scripts_pushed file file_now names (length scripts) s.script.text same (are.read t) (is t));
+      read = λ t. subst (HasScripts file b names) (sym (length-append scripts (s ∷ []))) (scripts_pushed file file_now b names (length scripts) s.script.text same (are.read t) (is t));
       same = λ t. map_push (λ (x : CallerView). x.script.text) scripts s ∙ ap (λ xs. xs ++ s.script.text ∷ []) (are.same t)
-          ∙ ap (λ x. texts_in file (take (length scripts) names) ++ x ∷ []) (bytes_are file file_now (script_name names (length scripts)) s.script.text same (is t))
+          ∙ ap (λ x. texts_in file (take (length scripts) names) ++ x ∷ []) (bytes_are file file_now b (script_name names (length scripts)) s.script.text same (is t))
           ∙ sym (texts_pushed file names (length scripts) below) ∙ ap (λ n. texts_in file (take n names)) (sym (length-append scripts (s ∷ [])));
     }
 
 pub scripts_more : (tells : Bool) (file file_now : Files) (names : List (List ℕ)) (b : BoardView) (scripts scripts_now : List CallerView) (s : CallerView) (n : ℕ) (name : List ℕ)
     → ((name_now : List ℕ) → file_now name_now ≡ file name_now) → length scripts ≡ n → n < length names → name ≡ script_name names n → scripts_now ≡ scripts ++ s ∷ []
-    → AreScriptsIn tells file names b scripts → IsOpened b s.script.text s → (IsTrue tells → IsScriptIn file_now name s.script.text) → AreScriptsIn tells file names b scripts_now
+    → AreScriptsIn tells file names b scripts → IsOpened b s.script.text s → (IsTrue tells → IsScriptIn file_now b name s.script.text) → AreScriptsIn tells file names b scripts_now
 scripts_more tells file file_now names b scripts scripts_now s n name same count below named pushed are opened is =
     subst (AreScriptsIn tells file names b) (sym pushed)
     (more_scripts tells file file_now names b scripts s same (subst (λ k. k < length names) (sym count) below) are opened
-    (λ t. subst (λ x. IsScriptIn file_now x s.script.text) (named ∙ ap (script_name names) (sym count)) (is t)))
+    (λ t. subst (λ x. IsScriptIn file_now b x s.script.text) (named ∙ ap (script_name names) (sym count)) (is t)))
 
 pub one_more : {X : Type 0} (xs xs_now : List X) (x : X) (n : ℕ) → xs_now ≡ xs ++ x ∷ [] → length xs ≡ n → length xs_now ≡ n + 1
 one_more xs xs_now x n pushed count = ap length pushed ∙ length-append xs (x ∷ []) ∙ ap (λ k. k + 1) count
@@ -100,14 +98,14 @@ same_texts file file_now same [] = refl
 same_texts file file_now same (n ∷ ns) =
     ap (λ o. unwrap_or o [] ∷ texts_in file_now ns) (same n) ∙ ap (λ xs. bytes_in file n ∷ xs) (same_texts file file_now same ns)
 
-same_scripts : (file file_now : Files) → ((n : List ℕ) → file_now n ≡ file n) → (names : List (List ℕ)) (n : ℕ) → HasScripts file_now names n → HasScripts file names n
-same_scripts file file_now same names n has c below =
+same_scripts : (file file_now : Files) → ((n : List ℕ) → file_now n ≡ file n) → (b : BoardView) (names : List (List ℕ)) (n : ℕ) → HasScripts file_now b names n → HasScripts file b names n
+same_scripts file file_now same b names n has c below =
     let h = has c below in record { text = h.text; there = sym (same (script_name names c)) ∙ h.there; read = h.read }
 
 -- all scripts that were read
 pub all_scripts : (tells : Bool) (file file_now : Files) (names : List (List ℕ)) (b : BoardView) (scripts : List CallerView) → ((n : List ℕ) → file_now n ≡ file n)
-    → length scripts ≡ length names → AreScriptsIn tells file_now names b scripts → IsTrue tells → HasScripts file names (length names)
-all_scripts tells file file_now names b scripts same count are t = same_scripts file file_now same names (length names) (subst (HasScripts file_now names) count (are.read t))
+    → length scripts ≡ length names → AreScriptsIn tells file_now names b scripts → IsTrue tells → HasScripts file b names (length names)
+all_scripts tells file file_now names b scripts same count are t = same_scripts file file_now same b names (length names) (subst (HasScripts file_now b names) count (are.read t))
 
 -- what was read after other files is what was there at first
 pub has_read : (first second third : Files) (names : Names) (tells : Bool) (b : BoardView) (scripts : List CallerView) (words : List ℕ) → ((n : List ℕ) → second n ≡ first n)
@@ -117,7 +115,7 @@ pub has_read : (first second third : Files) (names : Names) (tells : Bool) (b : 
 has_read first second third names tells b scripts words same same_again t board count are callers known schedule =
     record {
       board_in = board;
-      scripts = same_scripts first second same names.scripts (length names.scripts) (subst (HasScripts second names.scripts) count (are.read t));
+      scripts = same_scripts first second same b names.scripts (length names.scripts) (subst (HasScripts second b names.scripts) count (are.read t));
       texts_are = are.same t ∙ ap (texts_in second) (take_all (length scripts) names.scripts (omega (arith, count))) ∙ same_texts first second same names.scripts;
       schedule_in = subst (λ n. IsScheduleIn first names.schedule n words) known (record {
         has = record { text = schedule.has.text; words = schedule.has.words; there = sym (same names.schedule) ∙ sym (same_again names.schedule) ∙ schedule.has.there; read = schedule.has.read };
@@ -132,7 +130,11 @@ schedule_in file name text callers (Err e) words_of there read = tt
 
 -- what was read is what the files have
 abbrev pub has_texts : (file : Files) (names : Names) (b : BoardView) (texts : List (List ℕ)) (words : List ℕ) → HasRead file names b texts words → HasTexts file names
-has_texts file names b texts words read = record { board = read.board_in.has; scripts = read.scripts; schedule = read.schedule_in.has }
+has_texts file names b texts words read = record {
+  board = read.board_in.has;
+  scripts = subst (λ k. HasScripts file k names.scripts (length names.scripts)) read.board_in.same read.scripts;
+  schedule = read.schedule_in.has;
+}
 
 -- so is what it costs
 pub cost_read : (file : Files) (names : Names) (b : BoardView) (texts : List (List ℕ)) (words : List ℕ) (read : HasRead file names b texts words)
@@ -154,17 +156,17 @@ passed_on (Ok v) x P h p = tt
 passed_on (Err y) x P h p = subst P (sym h) p
 
 -- a bad script of a file that is the same
-same_bad : (file file_now : Files) (name : List ℕ) (line word : ℕ) → ((n : List ℕ) → file_now n ≡ file n) → HasBadScript file_now name line word → HasBadScript file name line word
-same_bad file file_now name line word same b = record { text = b.text; there = sym (same name) ∙ b.there; read = b.read }
+same_bad : (file file_now : Files) (b : BoardView) (name : List ℕ) (line word : ℕ) → ((n : List ℕ) → file_now n ≡ file n) → HasBadScript file_now b name line word → HasBadScript file b name line word
+same_bad file file_now b name line word same bad = record { text = bad.text; there = sym (same name) ∙ bad.there; read = bad.read }
 
 -- a script was refused behind those before it
-pub script_refused : (tells : Bool) (file file_now : Files) (names : List (List ℕ)) (reads reads_mid reads_now : ℕ → ℕ) (n : ℕ) (s : Status) (name : List ℕ) → name ≡ script_name names n
+pub script_refused : (tells : Bool) (file file_now : Files) (board : BoardView) (names : List (List ℕ)) (reads reads_mid reads_now : ℕ → ℕ) (n : ℕ) (s : Status) (name : List ℕ) → name ≡ script_name names n
     → n < length names
-    → ((name : List ℕ) → file_now name ≡ file name) → (IsTrue tells → HasScripts file names n)
+    → ((name : List ℕ) → file_now name ≡ file name) → (IsTrue tells → HasScripts file board names n)
     → ((place : ℕ) → ((3 ≤ place) × (place < 3 + n) → ⊥) → reads_mid place ≡ reads place) → ((place : ℕ) → (place ≡ 3 + n → ⊥) → reads_now place ≡ reads_mid place)
-    → IsRefusedAt (3 + n) (IsBadScript n (λ line word. IsTrue tells → HasBadScript file_now name line word)) (reads_mid (3 + n)) (reads_now (3 + n)) s
-    → IsRefusedScript tells file names reads reads_now s
-script_refused tells file file_now names reads reads_mid reads_now n s name named known same before kept kept_now refused =
+    → IsRefusedAt (3 + n) (IsBadScript n (λ line word. IsTrue tells → HasBadScript file_now board name line word)) (reads_mid (3 + n)) (reads_now (3 + n)) s
+    → IsRefusedScript tells file board names reads reads_now s
+script_refused tells file file_now board names reads reads_mid reads_now n s name named known same before kept kept_now refused =
     record {
       caller = n;
       known = known;
@@ -173,22 +175,26 @@ script_refused tells file file_now names reads reads_mid reads_now n s name name
       refused = by refused;
     }
   where
-    by : IsRefusedAt (3 + n) (IsBadScript n (λ line word. IsTrue tells → HasBadScript file_now name line word)) (reads_mid (3 + n)) (reads_now (3 + n)) s
-        → IsRefusedAt (3 + n) (IsBadScript n (λ line word. IsTrue tells → HasBadScript file (script_name names n) line word)) (reads (3 + n)) (reads_now (3 + n)) s
+    by : IsRefusedAt (3 + n) (IsBadScript n (λ line word. IsTrue tells → HasBadScript file_now board name line word)) (reads_mid (3 + n)) (reads_now (3 + n)) s
+        → IsRefusedAt (3 + n) (IsBadScript n (λ line word. IsTrue tells → HasBadScript file board (script_name names n) line word)) (reads (3 + n)) (reads_now (3 + n)) s
     by (inl r) = inl (r.0, subst (λ (k : ℕ). Rose k (reads_now (3 + n))) (kept (3 + n) (λ p. absurd (omega (arith, p.1)))) r.1)
     by (inr (inl m)) = inr (inl m)
-    by (inr (inr b)) = inr (inr (record { line = b.line; word = b.word; same = b.same; is_bad = λ t. subst (λ x. HasBadScript file x b.line b.word) named (same_bad file file_now name b.line b.word same (b.is_bad t)) }))
+    by (inr (inr b)) = inr (inr (record { line = b.line; word = b.word; same = b.same; is_bad = λ t. subst (λ x. HasBadScript file board x b.line b.word) named (same_bad file file_now board name b.line b.word same (b.is_bad t)) }))
 
 -- what the board's reading left is what a script's refusal says
-pub scripts_refusal : (tells : Bool) (file file_now : Files) (names : Names) (reads reads_mid reads_now : ℕ → ℕ) (s : Status) → ((name : List ℕ) → file_now name ≡ file name)
-    → ((place : ℕ) → (place ≡ 1 → ⊥) → reads_mid place ≡ reads place) → (IsTrue tells → HasAccepted file names.board)
-    → IsRefusedScript tells file_now names.scripts reads_mid reads_now s → IsFileRefusal tells file names reads reads_now s
-scripts_refusal tells file file_now names reads reads_mid reads_now s same kept board r = by r.refused
+pub scripts_refusal : (tells : Bool) (file file_now : Files) (b : BoardView) (names : Names) (reads reads_mid reads_now : ℕ → ℕ) (s : Status) → ((name : List ℕ) → file_now name ≡ file name)
+    → ((place : ℕ) → (place ≡ 1 → ⊥) → reads_mid place ≡ reads place) → (IsTrue tells → IsAcceptedIn file names.board b)
+    → IsRefusedScript tells file_now b names.scripts reads_mid reads_now s → IsFileRefusal tells file names reads reads_now s
+scripts_refusal tells file file_now b names reads reads_mid reads_now s same kept board r = by r.refused
   where
     earlier : IsTrue tells → HasScriptsBefore file names r.caller
-    earlier t = record { known = r.known; board = board t; before = same_scripts file file_now same names.scripts r.caller (r.before t) }
+    earlier t = record {
+      known = r.known;
+      board = (board t).has;
+      before = subst (λ k. HasScripts file k names.scripts r.caller) (board t).same (same_scripts file file_now same b names.scripts r.caller (r.before t));
+    }
 
-    by : IsRefusedAt (3 + r.caller) (IsBadScript r.caller (λ line word. IsTrue tells → HasBadScript file_now (script_name names.scripts r.caller) line word))
+    by : IsRefusedAt (3 + r.caller) (IsBadScript r.caller (λ line word. IsTrue tells → HasBadScript file_now b (script_name names.scripts r.caller) line word))
         (reads_mid (3 + r.caller)) (reads_now (3 + r.caller)) s
         → IsFileRefusal tells file names reads reads_now s
     by (inl h) =
@@ -200,24 +206,32 @@ scripts_refusal tells file file_now names reads reads_mid reads_now s same kept 
           λ t. inr (inl (record { caller = r.caller; at = refl; earlier = earlier t })),
         )
     by (inr (inl m)) = subst (IsFileRefusal tells file names reads reads_now) (sym m) tt
-    by (inr (inr b)) =
-        subst (IsFileRefusal tells file names reads reads_now) (sym b.same)
-        (λ t. (earlier t, same_bad file file_now (script_name names.scripts r.caller) b.line b.word same (b.is_bad t)))
+    by (inr (inr n)) =
+        subst (IsFileRefusal tells file names reads reads_now) (sym n.same) (λ t. (
+          earlier t,
+          subst (λ k. HasBadScript file k (script_name names.scripts r.caller) n.line n.word) (board t).same
+              (same_bad file file_now b (script_name names.scripts r.caller) n.line n.word same (n.is_bad t)),
+        ))
+
+-- scripts in the grammar over a board are so over the board of the file
+scripts_on : (file : Files) (b : BoardView) (names : Names) (board : IsAcceptedIn file names.board b) → HasScripts file b names.scripts (length names.scripts)
+    → HasScripts file board.has.board names.scripts (length names.scripts)
+scripts_on file b names board scripts = subst (λ k. HasScripts file k names.scripts (length names.scripts)) board.same scripts
 
 -- and a schedule's
-pub schedule_refusal : (tells : Bool) (file file_now : Files) (names : Names) (reads reads_mid reads_now : ℕ → ℕ) (callers : ℕ) (s : Status) → callers ≡ length names.scripts
-    → ((name : List ℕ) → file_now name ≡ file name) → reads_mid 2 ≡ reads 2 → (IsTrue tells → HasAccepted file names.board)
-    → (IsTrue tells → HasScripts file names.scripts (length names.scripts))
+pub schedule_refusal : (tells : Bool) (file file_now : Files) (b : BoardView) (names : Names) (reads reads_mid reads_now : ℕ → ℕ) (callers : ℕ) (s : Status) → callers ≡ length names.scripts
+    → ((name : List ℕ) → file_now name ≡ file name) → reads_mid 2 ≡ reads 2 → (IsTrue tells → IsAcceptedIn file names.board b)
+    → (IsTrue tells → HasScripts file b names.scripts (length names.scripts))
     → IsRefusedAt 2 (IsBadSchedule (λ word. IsTrue tells → HasBadSchedule file_now names.schedule callers word)) (reads_mid 2) (reads_now 2) s
     → IsFileRefusal tells file names reads reads_now s
-schedule_refusal tells file file_now names reads reads_mid reads_now callers s count same kept board scripts (inl h) =
+schedule_refusal tells file file_now b names reads reads_mid reads_now callers s count same kept board scripts (inl h) =
     subst (IsFileRefusal tells file names reads reads_now) (sym h.0)
-    (record { named = record { first = omega arith; last = omega arith }; rose = subst (λ (k : ℕ). Rose k (reads_now 2)) kept h.1 }, λ t. inr (inr (refl, board t, scripts t)))
-schedule_refusal tells file file_now names reads reads_mid reads_now callers s count same kept board scripts (inr (inl m)) = subst (IsFileRefusal tells file names reads reads_now) (sym m) tt
-schedule_refusal tells file file_now names reads reads_mid reads_now callers s count same kept board scripts (inr (inr b)) =
-    subst (IsFileRefusal tells file names reads reads_now) (sym b.same)
-    (λ t. let h = b.is_bad t in
-    (board t, scripts t, subst (λ n. HasBadSchedule file names.schedule n b.word) count (record { text = h.text; there = sym (same names.schedule) ∙ h.there; fault = h.fault })))
+    (record { named = record { first = omega arith; last = omega arith }; rose = subst (λ (k : ℕ). Rose k (reads_now 2)) kept h.1 }, λ t. inr (inr (refl, (board t).has, scripts_on file b names (board t) (scripts t))))
+schedule_refusal tells file file_now b names reads reads_mid reads_now callers s count same kept board scripts (inr (inl m)) = subst (IsFileRefusal tells file names reads reads_now) (sym m) tt
+schedule_refusal tells file file_now b names reads reads_mid reads_now callers s count same kept board scripts (inr (inr n)) =
+    subst (IsFileRefusal tells file names reads reads_now) (sym n.same)
+    (λ t. let h = n.is_bad t in
+    ((board t).has, scripts_on file b names (board t) (scripts t), subst (λ k. HasBadSchedule file names.schedule k n.word) count (record { text = h.text; there = sym (same names.schedule) ∙ h.there; fault = h.fault })))
 
 -- and a cost that is too much
 pub cost_refusal : (tells : Bool) (file : Files) (names : Names) (reads reads_now : ℕ → ℕ) (b : BoardView) (texts : List (List ℕ)) (words : List ℕ) (s : Status)

@@ -32,8 +32,8 @@ use Rattle.journal_laws.specs.Left.{LeavesDevices, worlds_of}
 use Rattle.journal_laws.proofs.Laws.{replies-kept, legal-with, devices-left, complete-then, strangers-end}
 use Rattle.caller_core.specs.Callers.{board_of}
 use Rattle.caller_core.specs.Scripts.{asked_by, left_of, commands_of, section_text}
-use Rattle.caller_core.specs.View.{CallerView}
-use Rattle.i2c_top.specs.Runs.{script_on, asks_by, printed_by, texts_of, section_of, IsOver, HasRun}
+use Rattle.caller_core.specs.View.{CallerView, ScriptView, script_on}
+use Rattle.i2c_top.specs.Runs.{asks_by, printed_by, texts_of, section_of, IsOver, HasRun}
 
 -- two ways of asking that give the same are one
 pub same_asks : (f g : Asks) → ((c : ℕ) (rs : List Reply) → f c rs ≡ g c rs) → f ≡ g
@@ -157,16 +157,17 @@ module _ (b : BoardView) (callers : List CallerView) (many : ℕ) (words : List 
   are_worlds = subst (λ (ws : List World). AreWorldsOf b ws) (sym worlds_are) left_by.worlds
 
   -- what a caller has printed is what its replies in the journal make it print
-  section_at : (c : ℕ) → c < count → slice_get (map section_of callers) c ≡ Some (text_of (printed_by texts) journal c)
+  section_at : (c : ℕ) → c < count → slice_get (map section_of callers) c ≡ Some (text_of (printed_by b texts) journal c)
   section_at c known =
       let s = caller_at c known in
       slice_get-map section_of callers c ∙ ap (option_map section_of) s.1
-      ∙ ap (λ (rs : List Reply). Some (section_text (commands_of s.0.script.text) rs)) (over.taken c s.0 s.1 ∙ settled-told b asks past c)
-      ∙ ap (λ o. Some (option_map_or (λ text. section_text (commands_of text) (replies past c)) o [])) (sym (text_at c s.0 s.1))
+      ∙ ap (λ (rs : List Reply). Some (section_text (commands_of s.0.script) rs)) (over.taken c s.0 s.1 ∙ settled-told b asks past c)
+      ∙ ap (λ (k : ScriptView). Some (section_text (commands_of k) (replies past c))) (over.own c s.0 s.1)
+      ∙ ap (λ o. Some (option_map_or (λ text. section_text (commands_of (script_on b text)) (replies past c)) o [])) (sym (text_at c s.0 s.1))
 
-  sections_are : map section_of callers ≡ map (text_of (printed_by texts) journal) (range_with_len 0 count)
+  sections_are : map section_of callers ≡ map (text_of (printed_by b texts) journal) (range_with_len 0 count)
   sections_are =
-      listed (text_of (printed_by texts) journal) (map section_of callers) count
+      listed (text_of (printed_by b texts) journal) (map section_of callers) count
       (length-map callers section_of ∙ sym (length-map callers (λ (s : CallerView). s.script.text))) section_at
 
   -- THE RUN of callers that are over

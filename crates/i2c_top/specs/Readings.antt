@@ -20,9 +20,9 @@ pub record IsAcceptedIn (file : Files) (name : List ℕ) (board : BoardView) : T
 abbrev pub IsRejectedIn : Bool → Files → List ℕ → BoardRefusal → Type 0
 IsRejectedIn tells file name why = IsTrue tells → HasRejected file name why
 
--- the text is that of a file, and in the grammar
-pub record IsScriptIn (file : Files) (name text : List ℕ) : Type 0 where
-  pub has : HasScript file name
+-- the text is that of a file, and in the grammar, where it is read over a board
+pub record IsScriptIn (file : Files) (board : BoardView) (name text : List ℕ) : Type 0 where
+  pub has : HasScript file board name
   pub same : text ≡ has.text
 
 -- the callers are those that the words of a file name
@@ -33,13 +33,13 @@ pub record IsScheduleIn (file : Files) (name : List ℕ) (callers : ℕ) (words 
 -- the first scripts are opened over a board; where the files are told they are there, with these texts, and in the grammar
 pub record AreScriptsIn (tells : Bool) (file : Files) (names : List (List ℕ)) (board : BoardView) (scripts : List CallerView) : Type 0 where
   pub opened : AreOpened board scripts
-  pub read : IsTrue tells → HasScripts file names (length scripts)
+  pub read : IsTrue tells → HasScripts file board names (length scripts)
   pub same : IsTrue tells → texts_of scripts ≡ texts_in file (take (length scripts) names)
 
 -- the files are there, and this is the board, the scripts' texts and the schedule's callers
 pub record HasRead (file : Files) (names : Names) (board : BoardView) (texts : List (List ℕ)) (words : List ℕ) : Type 0 where
   pub board_in : IsAcceptedIn file names.board board
-  pub scripts : HasScripts file names.scripts (length names.scripts)
+  pub scripts : HasScripts file board names.scripts (length names.scripts)
   pub texts_are : texts ≡ texts_in file names.scripts
   pub schedule_in : IsScheduleIn file names.schedule (length names.scripts) words
 
@@ -64,13 +64,13 @@ pub record IsBadSchedule (why : ℕ → Type 0) (s : Status) : Type 0 where
   pub same : s ≡ status.Schedule word
   pub is_bad : why word
 
--- a script was refused: those before it are in the grammar, and what is read behind it was not read
-pub record IsRefusedScript (tells : Bool) (file : Files) (names : List (List ℕ)) (reads reads_now : ℕ → ℕ) (s : Status) : Type 0 where
+-- a script was refused over a board: those before it are in the grammar, and what is read behind it was not read
+pub record IsRefusedScript (tells : Bool) (file : Files) (board : BoardView) (names : List (List ℕ)) (reads reads_now : ℕ → ℕ) (s : Status) : Type 0 where
   pub caller : ℕ
   pub known : caller < length names
-  pub before : IsTrue tells → HasScripts file names caller
+  pub before : IsTrue tells → HasScripts file board names caller
   pub kept : (place : ℕ) → 3 + caller < place → reads_now place ≡ reads place
-  pub refused : IsRefusedAt (3 + caller) (IsBadScript caller (λ line word. IsTrue tells → HasBadScript file (script_name names caller) line word))
+  pub refused : IsRefusedAt (3 + caller) (IsBadScript caller (λ line word. IsTrue tells → HasBadScript file board (script_name names caller) line word))
       (reads (3 + caller)) (reads_now (3 + caller)) s
 
 -- the scripts cost so much, which is too much

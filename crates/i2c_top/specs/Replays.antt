@@ -5,9 +5,9 @@ use Rattle.i2c_base.specs.Board.{BoardView}
 use Rattle.i2c_top.specs.Checks.{HasAccepted, HasRejected}
 use Rattle.i2c_top.specs.Files.{Files, bytes_in}
 use Rattle.caller_core.specs.Scripts.{script_read, commands_of}
+use Rattle.caller_core.specs.View.{script_on}
 use Rattle.i2c_top.specs.Runs.{cost_of_texts, MOST_COST}
 use Rattle.i2c_top.specs.Schedules.{schedule_read}
-use Rattle.i2c_top.specs.declared.status.BoardRefusal.{BoardRefusal}
 use Rattle.i2c_top.specs.declared.status.Status.{Status}
 use Rattle.i2c_top.specs.declared.status.Status.TheVariants as status
 
@@ -30,21 +30,21 @@ pub record IsPlaceIn (names : Names) (place : ℕ) : Type 0 where
   pub first : 1 ≤ place
   pub last : place < 3 + length names.scripts
 
--- a script's file is there, and in the grammar
-pub record HasScript (file : Files) (name : List ℕ) : Type 0 where
+-- a script's file is there, and in the grammar, where it is read over a board
+pub record HasScript (file : Files) (b : BoardView) (name : List ℕ) : Type 0 where
   pub text : List ℕ
   pub there : file name ≡ Some text
-  pub read : script_read text ≡ Ok (commands_of text)
+  pub read : script_read (script_on b text) ≡ Ok (commands_of (script_on b text))
 
 -- it is there, and this line is its first that is not in the grammar, with its refused word
-pub record HasBadScript (file : Files) (name : List ℕ) (line word : ℕ) : Type 0 where
+pub record HasBadScript (file : Files) (b : BoardView) (name : List ℕ) (line word : ℕ) : Type 0 where
   pub text : List ℕ
   pub there : file name ≡ Some text
-  pub read : script_read text ≡ Err (record { line = line; word = word })
+  pub read : script_read (script_on b text) ≡ Err (record { line = line; word = word })
 
 -- the files of the first so many scripts are there, and in the grammar
-abbrev pub HasScripts : Files → List (List ℕ) → ℕ → Type 0
-HasScripts file names n = (c : ℕ) → c < n → HasScript file (script_name names c)
+abbrev pub HasScripts : Files → BoardView → List (List ℕ) → ℕ → Type 0
+HasScripts file b names n = (c : ℕ) → c < n → HasScript file b (script_name names c)
 
 -- the scripts' texts
 abbrev pub texts_in : Files → List (List ℕ) → List (List ℕ)
@@ -66,7 +66,7 @@ pub record HasBadSchedule (file : Files) (name : List ℕ) (callers word : ℕ) 
 -- the files are there, and well formed
 pub record HasTexts (file : Files) (names : Names) : Type 0 where
   pub board : HasAccepted file names.board
-  pub scripts : HasScripts file names.scripts (length names.scripts)
+  pub scripts : HasScripts file board.board names.scripts (length names.scripts)
   pub schedule : HasSchedule file names.schedule (length names.scripts)
 
 -- what the scripts cost over a board
@@ -88,15 +88,16 @@ pub record HasDearFiles (file : Files) (names : Names) (cost : ℕ) : Type 0 whe
 pub record HasScriptsBefore (file : Files) (names : Names) (caller : ℕ) : Type 0 where
   pub known : caller < length names.scripts
   pub board : HasAccepted file names.board
-  pub before : HasScripts file names.scripts caller
+  pub before : HasScripts file board.board names.scripts caller
 
 -- what the files say where `replay` ends with a status that they decide: success, and each refusal of a file's text
 abbrev pub IsReplayCause : Files → Names → Status → Type 0
 IsReplayCause file names status.Ok = HasFiles file names
 IsReplayCause file names (status.Board why) = HasRejected file names.board why
-IsReplayCause file names (status.Script caller line word) = HasScriptsBefore file names caller × HasBadScript file (script_name names.scripts caller) line word
+IsReplayCause file names (status.Script caller line word) =
+    (earlier : HasScriptsBefore file names caller) × HasBadScript file earlier.board.board (script_name names.scripts caller) line word
 IsReplayCause file names (status.Schedule word) =
-    HasAccepted file names.board × HasScripts file names.scripts (length names.scripts) × HasBadSchedule file names.schedule (length names.scripts) word
+    (board : HasAccepted file names.board) × HasScripts file board.board names.scripts (length names.scripts) × HasBadSchedule file names.schedule (length names.scripts) word
 IsReplayCause file names (status.Cost cost) = HasDearFiles file names cost
 IsReplayCause file names _ = ⊥
 
@@ -111,7 +112,7 @@ pub record IsScriptInTurn (file : Files) (names : Names) (place : ℕ) : Type 0 
 abbrev pub IsReadInTurn : Files → Names → ℕ → Type 0
 IsReadInTurn file names place =
     (place ≡ 1) ⊎ (IsScriptInTurn file names place
-    ⊎ ((place ≡ 2) × HasAccepted file names.board × HasScripts file names.scripts (length names.scripts)))
+    ⊎ ((place ≡ 2) × (board : HasAccepted file names.board) × HasScripts file board.board names.scripts (length names.scripts)))
 
 -- a file at one of these places was not read, and its count shows it
 pub record IsUnread (places : ℕ → Type 0) (reads reads_now : ℕ → ℕ) (place : ℕ) : Type 0 where

@@ -23,19 +23,15 @@ use Rattle.bus_core.specs.declared.bus.Parts.{Parts}
 use Rattle.bus_core.specs.declared.seat.Seat.{Seat}
 use Rattle.caller_core.specs.Callers.{IsOpened}
 use Rattle.caller_core.specs.Scripts.{asked_by, commands_of, cost_of_script, section_text}
-use Rattle.caller_core.specs.View.{ScriptView, CallerView}
-
--- the script of a text, over a board
-abbrev pub script_on : BoardView → List ℕ → ScriptView
-script_on b text = record { board = b; text = text }
+use Rattle.caller_core.specs.View.{CallerView, script_on}
 
 -- what a caller asks for, by the text of its script, which stands at its number; nobody has another number
 abbrev pub asks_by : BoardView → List (List ℕ) → Asks
 asks_by b texts c replies = option_map_or (λ text. asked_by (script_on b text) replies) (slice_get texts c) None
 
 -- what it prints after these replies
-abbrev pub printed_by : List (List ℕ) → ℕ → List Reply → List ℕ
-printed_by texts c replies = option_map_or (λ text. section_text (commands_of text) replies) (slice_get texts c) []
+abbrev pub printed_by : BoardView → List (List ℕ) → ℕ → List Reply → List ℕ
+printed_by b texts c replies = option_map_or (λ text. section_text (commands_of (script_on b text)) replies) (slice_get texts c) []
 
 -- scripts that are opened over a board and have taken nothing
 abbrev pub AreOpened : BoardView → List CallerView → Type 0
@@ -47,7 +43,7 @@ texts_of scripts = map (λ s. s.script.text) scripts
 
 -- what a caller has printed
 abbrev pub section_of : CallerView → List ℕ
-section_of s = section_text (commands_of s.script.text) s.taken
+section_of s = section_text (commands_of s.script) s.taken
 
 -- what the scripts of these texts cost over a board, all together
 abbrev pub cost_of_texts : BoardView → List (List ℕ) → ℕ
@@ -66,6 +62,7 @@ callers_of parts = map (λ (s : Seat CallerView). s.caller) parts.seats.items
 pub record IsOver (b : BoardView) (callers : List CallerView) (many : ℕ) (words : List ℕ) (journal : List Entry) (worlds : List World) (logs : List (List PortCall)) : Type 0 where
   pub plain : IsPlainBoard b
   pub rules : MeetsRules b
+  pub own : (c : ℕ) (s : CallerView) → slice_get callers c ≡ Some s → s.script ≡ script_on b s.script.text
   pub stepwise : IsStepwise b many (asks_by b (texts_of callers)) (reverse journal)
   pub rests : (now b (asks_by b (texts_of callers)) (reverse journal)).due ≡ None
   pub followed : Follows words journal
@@ -81,7 +78,7 @@ pub record IsOver (b : BoardView) (callers : List CallerView) (many : ℕ) (word
 -- it is complete, and follows the schedule whose words name these callers; these are the calls of its ports, and the
 -- devices that it leaves
 pub record IsRunOf (b : BoardView) (texts : List (List ℕ)) (words bytes : List ℕ) (logs : List (List PortCall)) (states : List TargetState) (journal : List Entry) : Type 0 where
-  pub reported : bytes ≡ report_of (printed_by texts) (length texts) journal
+  pub reported : bytes ≡ report_of (printed_by b texts) (length texts) journal
   pub legal : IsLegal b (length texts) (asks_by b texts) (reverse journal)
   pub stepwise : IsStepwise b (length texts) (asks_by b texts) (reverse journal)
   pub complete : IsComplete b (length texts) (asks_by b texts) (reverse journal)

@@ -4,6 +4,7 @@ ghost use Rattle.i2c_boardtext.specs.BoardText.{board_of};
 ghost use Rattle.i2c_outside.specs.Causes.{Rose};
 ghost use Rattle.caller_core.specs.Callers.{IsOpened};
 ghost use Rattle.caller_core.specs.Scripts.{script_read, commands_of};
+ghost use Rattle.caller_core.specs.View.{script_on};
 ghost use Rattle.i2c_top.specs.Boards.{IsAccepted, IsRejected};
 ghost use Rattle.i2c_top.specs.Forms.{ArePlaced, names_told};
 ghost use Rattle.i2c_top.specs.Names.{AreNamesFrom};
@@ -94,8 +95,8 @@ fn accepted_of(alloc: Global, text: &[u8]) -> Result<Accepted, Status>
 fn script_of(alloc: Global, board: &Accepted, text: Vec<u8>, caller: u8) -> Result<Script, Status>
     requires { length text.items ≤ 2 ^ 28 }
     ensures opened { IfOk result (IsOpened board.now text.items) }
-    ensures read { OnOk result (script_read text.items ≡ Ok (commands_of text.items)) }
-    ensures refused { IfErr result (λ e. (e ≡ status.Memory) ⊎ IsBadScript caller (λ line word. script_read text.items ≡ Err (record { line = line; word = word })) e) }
+    ensures read { OnOk result (script_read (script_on board.now text.items) ≡ Ok (commands_of (script_on board.now text.items))) }
+    ensures refused { IfErr result (λ e. (e ≡ status.Memory) ⊎ IsBadScript caller (λ line word. script_read (script_on board.now text.items) ≡ Err (record { line = line; word = word })) e) }
 {
     match Script::open(alloc, board, text) {
         Ok(script) => Ok(script),
@@ -140,8 +141,8 @@ fn script_in<S: Shelf>(
     requires named { slice_get (S.words shelf.old) (3 + caller) ≡ Some name.now }
     ensures kept { KeepsBut (λ p. p ≡ 3 + caller) (shelf_view S.Shelf shelf.old) (shelf_view S.Shelf shelf.new) }
     ensures opened { IfOk result (λ s. IsOpened board.now s.script.text s) }
-    ensures script { IsTrue S.tells → IfOk result (λ s. IsScriptIn (S.file shelf.old) name.now s.script.text) }
-    ensures refused { IfErr result (IsRefusedAt (3 + caller) (IsBadScript caller (λ line word. IsTrue S.tells → HasBadScript (S.file shelf.old) name.now line word))
+    ensures script { IsTrue S.tells → IfOk result (λ s. IsScriptIn (S.file shelf.old) board.now name.now s.script.text) }
+    ensures refused { IfErr result (IsRefusedAt (3 + caller) (IsBadScript caller (λ line word. IsTrue S.tells → HasBadScript (S.file shelf.old) board.now name.now line word))
         (S.faults shelf.old (3 + caller)) (S.faults shelf.new (3 + caller))) }
 {
     let text = bytes_at(alloc, shelf, SCRIPT + caller, name)?;
@@ -177,7 +178,7 @@ fn scripts_in<S: Shelf>(
     ensures kept { KeepsBut (λ p. (3 ≤ p) × (p < 3 + length names.now)) (shelf_view S.Shelf shelf.old) (shelf_view S.Shelf shelf.new) }
     ensures count { IfOk result (λ scripts. length scripts.items ≡ length names.now) }
     ensures scripts { IfOk result (λ scripts. AreScriptsIn S.tells (S.file shelf.old) (map string_bytes names.now) board.now scripts.items) }
-    ensures refused { IfErr result (IsRefusedScript S.tells (S.file shelf.old) (map string_bytes names.now) (S.faults shelf.old) (S.faults shelf.new)) }
+    ensures refused { IfErr result (IsRefusedScript S.tells (S.file shelf.old) board.now (map string_bytes names.now) (S.faults shelf.old) (S.faults shelf.new)) }
 {
     let mut scripts = Vec::new(alloc);
     for caller in 0..names.len() {

@@ -1,11 +1,11 @@
 ghost use Rattle.std.specs.Prelude.{◌≡◌, ◌≤◌, ◌%◌, ◌^◌};
 ghost use Rattle.i2c_spec.specs.Chips.{chip_opening, chip_sends, is_open, at_level, looked, stopped, arbitrated, bit_of};
 
-use i2c_base::{Answer, ChannelCode, Event, MuxKind, MuxSpec, Target};
+use i2c_base::{Answer, ChannelCode, Event, MuxKind, MuxSpec, POLLS, Target};
 use std::marker::Model;
 
-/// An arbitrator that is so often found with its other controller stays there.
-const FOREIGN_FOR_GOOD: u8 = 8;
+/// An arbitrator that is found with its other controller as often as it is asked stays there.
+const FOREIGN_FOR_GOOD: u8 = POLLS;
 
 /// The chip of a mux, or the line of a gpio mux. A byte that is written to a chip takes effect at the stop.
 #[derive(Drop)]

@@ -6,7 +6,7 @@ ghost use Rattle.i2c_spec.specs.Targets as target;
 ghost use Rattle.i2c_spec.specs.Targets.{opening_state};
 ghost use Rattle.tgt_small.specs.Registers.{IsRegs};
 
-use i2c_base::{Answer, DeviceKind, DeviceSpec, Event, Target};
+use i2c_base::{Answer, DeviceKind, DeviceSpec, Event, MOST_LOOKS, Target};
 use i2c_spec::write_runs;
 use std::marker::Model;
 
@@ -25,9 +25,6 @@ enum Awaits {
 
 /// How many registers there are.
 const REGISTERS: usize = 256;
-
-/// A controller looks so often at a clock that is held.
-const LOOKS: u8 = 64;
 
 /// The register device: 256 registers behind a pointer, which the first byte of a write sets and which moves on
 /// after each byte that is written or read, from the last register to the first.
@@ -103,7 +100,7 @@ impl Regs {
         ensures answer { result ≡ regs_answer self.old (event.Start reading) }
         ensures after { self.new ≡ regs_after self.old (event.Start reading) }
     {
-        if self.hold > LOOKS {
+        if self.hold > MOST_LOOKS {
             self.awaits = Awaits::Start;
             return Answer::Slow;
         }

@@ -2,6 +2,7 @@
 use Rattle.std.specs.Prelude.{ℕ, ◌+◌, ◌-◌, ◌*◌, List, [], ◌∷◌, length, map, slice_index_or, unwrap_or, Option, Some, None, Result, Ok, Err, codes}
 use Rattle.i2c_base.specs.declared.reply.Reply.{Reply}
 use Rattle.i2c_base.specs.declared.reply.Reply.TheVariants as reply
+use Rattle.i2c_base.specs.Limits.{I2C_BLOCK_LIMIT}
 use Rattle.i2c_base.specs.Transfer.{TransferView}
 use Rattle.smb_emul.specs.Calls.{messages_of_call, value_of_call}
 use Rattle.smb_emul.specs.declared.call.SmbCall.{SmbCall}
@@ -15,12 +16,12 @@ use Rattle.tool_words.specs.declared.cmd.GetMode.{GetMode}
 use Rattle.tool_words.specs.declared.cmd.GetMode.TheVariants as mode
 use Rattle.tool_run.specs.Texts.{byte_words, byte_word, double_word, fail_text}
 
--- no MODE is `b`, and no LEN is 32
+-- no MODE is `b`, and no LEN is the most
 abbrev pub mode_of : Get → GetMode
 mode_of g = unwrap_or g.mode mode.Byte
 
 abbrev pub len_of : Get → ℕ
-len_of g = unwrap_or g.len 32
+len_of g = unwrap_or g.len I2C_BLOCK_LIMIT
 
 -- the calls that read a register; `c` sends its number, and then receives a byte
 abbrev pub register_ops : ℕ → GetMode → ℕ → List SmbOp

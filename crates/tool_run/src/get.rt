@@ -15,13 +15,10 @@ ghost use Rattle.tool_words.specs.declared.cmd.Cmd.TheVariants as cmd;
 
 use crate::text::{Text, push_byte_words, push_double_word, push_word};
 use bus_journal::{ReplyHead, errno_name};
-use i2c_base::{Errno, Reply, Transfer};
+use i2c_base::{Errno, I2C_BLOCK_LIMIT, Reply, Transfer};
 use packed::Packed;
 use smb_emul::{SmbCall, SmbFail, SmbOp, SmbValue, put_messages, value_read};
 use tool_words::{Get, GetMode};
-
-/// How many bytes a block has where none are asked for.
-const BLOCK: u8 = 32;
 
 /// The most bytes of an answer that is no block: a wrong error code.
 const MOST_BESIDE: usize = 26;
@@ -38,7 +35,7 @@ fn mode_of(get: &Get) -> GetMode
 fn len_of(get: &Get) -> u8
     ensures { result ≡ len_of get.now }
 {
-    get.len.unwrap_or(BLOCK)
+    get.len.unwrap_or(I2C_BLOCK_LIMIT)
 }
 
 // The call at a place of those that read a register.

@@ -22,20 +22,23 @@ abbrev pub some_command : Result Cmd ℕ → Result (Option Cmd) ℕ
 some_command (Ok c) = Ok (Some c)
 some_command (Err k) = Err k
 
-abbrev pub words_read : List Word → Result (Option Cmd) ℕ
-words_read ws = if is_command ws then some_command (follow_words script_lines 0 ws) else Ok None
+-- what words are read as, and a line, where a block of the board has at most `limit` bytes
+abbrev pub words_read : (limit : ℕ) → List Word → Result (Option Cmd) ℕ
+words_read limit ws = if is_command ws then some_command (follow_words (script_lines limit) 0 ws) else Ok None
 
-abbrev pub line_read : List ℕ → Result (Option Cmd) ℕ
-line_read line = words_read (words_of line)
+abbrev pub line_read : (limit : ℕ) → List ℕ → Result (Option Cmd) ℕ
+line_read limit line = words_read limit (words_of line)
 
--- whatever words are read: they are a line of the grammar exactly where they are read as what it means
+-- whatever the limit and the words: they are a line of the grammar exactly where they are read as what it means
 abbrev pub ReadsLines : Type 0
-ReadsLines = (ws : List Word) (c : Cmd) → (follow_words script_lines 0 ws ≡ Ok c → IsLine script_lines ws c) × (IsLine script_lines ws c → follow_words script_lines 0 ws ≡ Ok c)
+ReadsLines =
+    (limit : ℕ) (ws : List Word) (c : Cmd)
+    → (follow_words (script_lines limit) 0 ws ≡ Ok c → IsLine (script_lines limit) ws c) × (IsLine (script_lines limit) ws c → follow_words (script_lines limit) 0 ws ≡ Ok c)
 
 -- where word k is refused, the k words before it are the longest front that begins a line
 abbrev pub RefusesBehindLongest : Type 0
-RefusesBehindLongest = (ws : List Word) (k : ℕ) → follow_words script_lines 0 ws ≡ Err k → IsLongest script_lines ws k
+RefusesBehindLongest = (limit : ℕ) (ws : List Word) (k : ℕ) → follow_words (script_lines limit) 0 ws ≡ Err k → IsLongest (script_lines limit) ws k
 
 -- what a line means is in range
 abbrev pub MeansInRange : Type 0
-MeansInRange = (ws : List Word) (c : Cmd) → IsLine script_lines ws c → IsInRange c
+MeansInRange = (limit : ℕ) (ws : List Word) (c : Cmd) → IsLine (script_lines limit) ws c → IsInRange c

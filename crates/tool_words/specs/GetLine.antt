@@ -1,6 +1,7 @@
 -- The line `i2cget [-f] -y BUS ADDR [REG [MODE [LEN]]]` (i2c-tools, i2cget(8)), as a tree and as the reader that follows it.
 use Rattle.std.specs.Prelude.{ℕ, ◌+◌, Bool, true, false, List, Option, Some, None, Result, Ok, if◌then◌else◌, codes}
 use Rattle.std.specs.Str.{bytes_eq}
+use Rattle.i2c_base.specs.Limits.{I2C_BLOCK_LIMIT}
 use Rattle.tool_words.specs.LineSets.{Word, LineSet, ends, class, word, maybe}
 use Rattle.tool_words.specs.Numbers.{number_in}
 use Rattle.tool_words.specs.Options.{bus_number, address, byte, force_and_yes, options_at}
@@ -26,7 +27,7 @@ get_mode w =
 
 -- LEN
 abbrev pub block_len : Word → Option ℕ
-block_len = number_in 1 32
+block_len = number_in 1 I2C_BLOCK_LIMIT
 
 module _ (force : Bool) (bus addr : ℕ) where
   abbrev pub got : Option ℕ → Option GetMode → Bool → Option ℕ → Cmd

@@ -6,6 +6,7 @@ use crate::cmd::{Cmd, Get, GetMode};
 use crate::fault::WordRefused;
 use crate::options::options;
 use crate::reader::{address_at, is_over, is_text, number_at};
+use i2c_base::I2C_BLOCK_LIMIT;
 
 // The mode that a word names, and whether with an error code.
 fn get_mode(word: &[u8]) -> Option<(GetMode, bool)>
@@ -64,7 +65,7 @@ fn read_len(words: &[&[u8]], at: u16, get: Get, mode: (GetMode, bool)) -> Result
     }
     match mode {
         (GetMode::I2cBlock, false) => {
-            let len = Some(number_at(words, at, 1, 32)? as u8);
+            let len = Some(number_at(words, at, 1, u16::from(I2C_BLOCK_LIMIT))? as u8);
             if !is_over(words, at + 1) {
                 return Err(WordRefused(at + 1));
             }

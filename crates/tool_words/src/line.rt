@@ -10,9 +10,9 @@ use crate::front::split_words;
 use crate::get_line::read_get;
 use crate::reader::is_at;
 
-// Reads the words of a command.
-fn read_command(words: &[&[u8]]) -> Result<Cmd, WordRefused>
-    ensures { result ≡ script_line_at (texts words.now) }
+// Reads the words of a command, over a board with this block limit.
+fn read_command(words: &[&[u8]], limit: u8) -> Result<Cmd, WordRefused>
+    ensures { result ≡ script_line_at limit (texts words.now) }
 {
     if is_at(words, 0, b"i2cget") {
         read_get(words)
@@ -34,16 +34,21 @@ fn is_command(words: &[&[u8]]) -> bool
     }
 }
 
-/// Reads a line of a script: none where it is empty or a comment. `words` is room for its words.
-pub fn read_line<'a>(words: &mut Vec<&'a [u8]>, line: &'a [u8]) -> Result<Option<Cmd>, LineFault>
-    ensures { MatchResult result (λ o. line_read line.now ≡ Ok o) (FaultIs (line_read line.now)) }
+/// Reads a line of a script: none where it is empty or a comment. `words` is room for its words, and `limit` the block
+/// limit of the board, 1 to 255 bytes, which bounds no line that is in force.
+pub fn read_line<'a>(
+    words: &mut Vec<&'a [u8]>,
+    line: &'a [u8],
+    limit: u8,
+) -> Result<Option<Cmd>, LineFault>
+    ensures { MatchResult result (λ o. line_read limit line.now ≡ Ok o) (FaultIs (line_read limit line.now)) }
 {
     split_words(words, line)?;
     let words = words.as_slice();
     if !is_command(words) {
         return Ok(None);
     }
-    match read_command(words) {
+    match read_command(words, limit) {
         Ok(command) => Ok(Some(command)),
         Err(refused) => Err(LineFault::Word(refused.0)),
     }

@@ -1,9 +1,10 @@
 -- A root's world and the flat world stay the same at the devices of the root: through a start, a byte, and a stop.
-use Rattle.std.proofs.Common.{◌≡◌, ℕ, ◌+◌, Bool, true, false, cond, ◌||◌, List, [], ◌∷◌, ◌++◌, Option, Some, None, eqb, refl, sym, ◌∙◌, ap, subst}
-use Rattle.std.specs.Prelude.{slice_get}
+use Rattle.std.proofs.Common.{◌≡◌, ℕ, ◌+◌, Bool, true, false, cond, ◌||◌, List, [], ◌∷◌, ◌++◌, Option, Some, None, eqb, refl, sym, ◌∙◌, ap, subst, mod-eq_of_lt}
+use Rattle.std.specs.Prelude.{bit_and, slice_get}
 use Rattle.std.specs.List.{list_any, list_all}
 use Rattle.std.specs.Option.{option_map, option_map_or}
 use Rattle.std.proofs.lemmas.Bool.{eqb-true, eq-eqb}
+use Rattle.std.proofs.lemmas.Grind.{and_numeral}
 use Rattle.std.proofs.lemmas.List.Elements.{recursion_from_All}
 use Rattle.i2c_base.specs.declared.event.Event.{Event}
 use Rattle.i2c_base.specs.declared.event.Event.TheVariants as event
@@ -17,20 +18,39 @@ use Rattle.i2c_base.specs.Board.{BoardView, DeviceView}
 use Rattle.i2c_base.specs.Bytes.{IsByte, AreBytes}
 use Rattle.i2c_spec.specs.Tree.{root_of, hops, of_device}
 use Rattle.i2c_spec.specs.Chips.{ChipView, chip_table}
-use Rattle.i2c_spec.specs.Targets.{TargetState, IsQuiet, state_table, state_answer}
+use Rattle.i2c_spec.specs.Targets.{TargetState, HoldsBytes, IsByteEvent, IsQuiet, state_table, state_answer}
 use Rattle.i2c_spec.specs.Messages.{MessageView}
 use Rattle.i2c_spec.specs.World.{World, opens_hop, joins_device, given, feed, answers, is_ack, is_slow, has_heard, start_event, device_start, start_chips, start_devices, heard_of, hearers, some_answer, answer as world_answer, is_chip, is_device, to_chips, to_devices, hearing_answers, takes, byte_of, and_of, gives, stop_event, after}
 use Rattle.i2c_spec.specs.Flat.{FlatListener, is_it, is_member, put_named, flat_start, to_current, to_named, answer_of, acknowledged, flat_after, flat_listener}
 use Rattle.i2c_spec.specs.Conversation.{world_listener, talk}
-use Rattle.bus_laws.specs.Alike.{IsOf, HoldsBytes, listening, Same, LeadsTo, ToldAlike}
+use Rattle.bus_laws.specs.Alike.{IsOf, listening, Same, LeadsTo, ToldAlike}
 use Rattle.bus_laws.proofs.tree.Slots.{eqb-apart}
 use Rattle.bus_laws.proofs.world.Feed.{hears, feed-same, heard-none, unheard, some_answer-append}
 use Rattle.bus_laws.proofs.world.Reach.{and_left, start_heard, other_state}
 use Rattle.bus_laws.proofs.world.Control.{started-chips}
 use Rattle.bus_laws.proofs.device.Talk.{IsFollowing, talk-alike}
-use Rattle.i2c_spec.proofs.StateLemmas.{stopped-quiet}
-use Rattle.bus_laws.proofs.device.States.{slow_heard, ack_heard, byte_and, sends-byte, IsByteEvent, after-bytes}
+use Rattle.i2c_spec.proofs.StateLemmas.{stopped-quiet, after-bytes, sends-byte}
 use Rattle.bus_laws.proofs.device.Hears.{fed-at, map-alike, map-from, answers-quiet, answers-alone, one_answer, heard-alone, heard-missing, answer-alone}
+
+-- ANSWERS
+-- who is slow, or acknowledges, has heard
+slow_heard : (a : Answer) → has_heard a ≡ false → is_slow a ≡ false
+slow_heard answer.Ack e = refl
+slow_heard answer.Nack e = refl
+slow_heard answer.Slow e = absurd (let f : true ≡ false = e in cc)
+slow_heard (answer.Byte byte) e = refl
+slow_heard answer.Nothing e = refl
+
+ack_heard : (a : Answer) → has_heard a ≡ false → is_ack a ≡ false
+ack_heard answer.Ack e = absurd (let f : true ≡ false = e in cc)
+ack_heard answer.Nack e = refl
+ack_heard answer.Slow e = refl
+ack_heard (answer.Byte byte) e = refl
+ack_heard answer.Nothing e = refl
+
+-- the AND of a byte and the idle wires
+byte_and : (n : ℕ) → IsByte n → bit_and n 255 ≡ n
+byte_and n small = and_numeral n 254 refl ∙ mod-eq_of_lt small
 
 -- EVENTS
 pub is_it-some : (o : Option ℕ) (d : ℕ) → is_it o d ≡ true → o ≡ Some d

@@ -17,19 +17,18 @@ use Rattle.i2c_base.specs.Table.{Table}
 use Rattle.i2c_spec.specs.Tree.{of_device, home_of_mux, addr_of_mux, IsAlong}
 use Rattle.i2c_spec.specs.TreeFacts.{IsTree}
 use Rattle.i2c_spec.specs.Plain.{IsPlainBoard, IsPlainDevice}
-use Rattle.i2c_spec.specs.Targets.{TargetState, IsQuiet, state_table, opening_state}
+use Rattle.i2c_spec.specs.Targets.{TargetState, HoldsBytes, IsQuiet, state_table, opening_state}
 use Rattle.i2c_spec.specs.Messages.{MessageView}
 use Rattle.i2c_spec.specs.World.{World, is_joined, joins_device, given, feed, answers, answer_with, has_heard, start_event, device_start, start_chips, start_devices, heard_of, hearers, is_device, to_devices, stop_event, after, opening_world}
 use Rattle.i2c_spec.specs.Flat.{FlatListener, idle, is_it, is_member, put_named, answer_of, flat_start, to_current, to_named, flat_after, flat_listener}
 use Rattle.i2c_spec.specs.Conversation.{world_listener, talk}
-use Rattle.bus_laws.specs.Alike.{IsOf, HoldsBytes, Same, IsControl, IsUnnamed}
+use Rattle.bus_laws.specs.Alike.{IsOf, Same, IsControl, IsUnnamed}
 use Rattle.bus_laws.proofs.world.TalkLaws.{IsLater, talk-keeps}
 use Rattle.bus_laws.proofs.world.Feed.{hears, feed-same, heard-none}
 use Rattle.bus_laws.proofs.world.Reach.{start_heard, other_state}
 use Rattle.bus_laws.proofs.world.Hears.{swap_along, device_address}
 use Rattle.bus_laws.proofs.world.BoardFacts.{get_within}
-use Rattle.i2c_spec.proofs.StateLemmas.{opening-quiet}
-use Rattle.bus_laws.proofs.device.States.{opening-bytes}
+use Rattle.i2c_spec.proofs.StateLemmas.{opening-quiet, opening-bytes}
 use Rattle.bus_laws.proofs.device.Hears.{fed-at, map-same}
 use Rattle.bus_laws.proofs.device.Same.{joined_of, stop-same}
 use Rattle.bus_laws.proofs.device.Stops.{world-settled}

@@ -1,6 +1,6 @@
 use Rattle.std.proofs.Common.{◌≡◌, ◌+◌, ◌-◌, ◌≤◌, length, drop}
 use Rattle.tool_words.specs.Fronts.{lines_of}
-use Rattle.caller_core.specs.Scripts.{script_read, lines_read, behind_commands}
+use Rattle.caller_core.specs.Scripts.{text_read, lines_read, behind_commands}
 use Rattle.caller_core.proofs.script.read_script.Given as goal
 
 abbrev pub decreases-loop-at : goal.decreases-loop-at
@@ -11,5 +11,5 @@ invariant-loop-at l =
     record {
       within : l.at ≤ length l.text;
       count : l.number ≤ l.at;
-      same : behind_commands l.commands (lines_read (l.number + 1) (length l.commands) (lines_of (drop l.at l.text))) ≡ script_read l.text;
+      same : behind_commands l.commands (lines_read l.limit (l.number + 1) (length l.commands) (lines_of (drop l.at l.text))) ≡ text_read l.limit l.text;
     }

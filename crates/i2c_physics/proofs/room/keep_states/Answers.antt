@@ -3,7 +3,6 @@ use Rattle.std.specs.Prelude.{option_to_list}
 use Rattle.std.proofs.lemmas.Bool.{cases_lt}
 use Rattle.std.proofs.lemmas.List.{drop_more}
 use Rattle.std.proofs.lemmas.Option.{get_or_from_slice_get, slice_get-get_or}
-use Rattle.i2c_outside.specs.Devices.{target_state}
 use Rattle.i2c_physics.specs.SimRigs.{states_from, IsThere}
 use Rattle.i2c_physics.proofs.TakeLemmas.{one-kept, there-before}
 use Rattle.i2c_physics.proofs.room.keep_states.Goals as goal
@@ -18,7 +17,7 @@ loop-number-preserved g c =
     let ws = map (λ p. (g.P.Returned.port p).world) c.loop-number.ports.items in
     let vs = map (λ p. (g.P.Returned.port p).world) c.take_from.new.ports.items in
     let us = map (λ p. (g.P.Returned.port p).world) c.args.ports.now.items in
-    let all = map target_state c.args.states.now.items ++ states_from 0 homes us in
+    let all = c.args.states.now.items ++ states_from 0 homes us in
     let low : n < length homes = subst (λ hs. n < length hs) c.deref-home-items.ensures.value c.loop-number-test.true in
     let is : home ≡ slice_index homes n =
     c.home-item.is ∙ ap (λ hs. get_or hs n home) c.deref-home-items.ensures.value

@@ -1,9 +1,8 @@
 use Rattle.std.proofs.Common.{◌≡◌, map, ◌∙◌, ap, subst, arith}
 use Rattle.std.specs.Prelude.{IsSome, slice_get}
 use Rattle.std.proofs.Math.Seq.{map-set_same}
-use Rattle.i2c_outside.specs.Devices.{target_state}
 use Rattle.i2c_physics.specs.SimRigs.{own_device, state_at, taken_out, without}
-use Rattle.i2c_physics.proofs.TakeLemmas.{none-taken, one-taken, at-home, is-home, some_mapped}
+use Rattle.i2c_physics.proofs.TakeLemmas.{none-taken, one-taken, at-home, is-home}
 use Rattle.i2c_physics.proofs.room.take_from.Goals as goal
 
 pub returns-then-home-len-clause-worlds : goal.returns-then-home-len-clause-worlds
@@ -25,7 +24,7 @@ returns-clause-there g c w there own =
     ∙ is-home (λ p. (g.P.Returned.port p).world) c.args.ports.now.items c.from-home.result c.index_mut.result.now w (omega arith)
     (ap (λ h. slice_get (map (λ p. (g.P.Returned.port p).world) c.args.ports.now.items) h) at ∙ there) in
     let some = c.take_device.ensures.has (rw same own) in
-    subst IsSome (returns-clause-value g c) (some_mapped target_state c.take_device.result some)
+    subst IsSome (returns-clause-value g c) some
 
 pub returns-clause-worlds : goal.returns-clause-worlds
 returns-clause-worlds g c =

@@ -10,9 +10,9 @@ use Rattle.i2c_top.proofs.files.read_files.Goals as goal
 pub returns-in_err-scripts-clause-refused : goal.returns-in_err-scripts-clause-refused
 returns-in_err-scripts-clause-refused g c =
     passed_on c.from_residual-in_err-scripts.result c.in_err-scripts.field-0.0 _ c.from_residual-in_err-scripts.ensures.1
-    (scripts_refusal g.S.Shelf.tells (g.S.Shelf.file c.args.shelf.now) (g.S.Shelf.file c.read_accepted.new.shelf) (names_told c.args.names.now) (g.S.Shelf.faults c.args.shelf.now)
+    (scripts_refusal g.S.Shelf.tells (g.S.Shelf.file c.args.shelf.now) (g.S.Shelf.file c.read_accepted.new.shelf) c.in_ok-board.board (names_told c.args.names.now) (g.S.Shelf.faults c.args.shelf.now)
     (g.S.Shelf.faults c.read_accepted.new.shelf) (g.S.Shelf.faults c.scripts_in.new.shelf) c.in_err-scripts.field-0.0 c.read_accepted.ensures.kept.files c.read_accepted.ensures.kept.others
-    (λ t. (c.in_ok-board.ensures.board t).has) c.in_err-scripts.ensures.refused)
+    c.in_ok-board.ensures.board c.in_err-scripts.ensures.refused)
 
 pub returns-in_err-words-clause-refused : goal.returns-in_err-words-clause-refused
 returns-in_err-words-clause-refused g c =
@@ -20,11 +20,11 @@ returns-in_err-words-clause-refused g c =
     let count = c.in_ok-scripts.ensures.count ∙ sym (length-map c.args.names.now.scripts.now string_bytes) in
     let file = g.S.Shelf.file c.args.shelf.now in
     passed_on c.from_residual-in_err-words.result c.in_err-words.field-0.0 _ c.from_residual-in_err-words.ensures.1
-    (schedule_refusal g.S.Shelf.tells file (g.S.Shelf.file c.scripts_in.new.shelf) names (g.S.Shelf.faults c.args.shelf.now) (g.S.Shelf.faults c.scripts_in.new.shelf)
+    (schedule_refusal g.S.Shelf.tells file (g.S.Shelf.file c.scripts_in.new.shelf) c.in_ok-board.board names (g.S.Shelf.faults c.args.shelf.now) (g.S.Shelf.faults c.scripts_in.new.shelf)
     (g.S.Shelf.faults c.schedule_in.new.shelf) c.callers_of.result c.in_err-words.field-0.0 (c.callers_of.ensures ∙ ap length c.as_slice.ensures.value ∙ count)
     (λ n. c.scripts_in.ensures.kept.files n ∙ c.read_accepted.ensures.kept.files n)
     (c.scripts_in.ensures.kept.others 2 (λ p. absurd (omega (arith, p.0))) ∙ c.read_accepted.ensures.kept.others 2 (λ e. absurd (omega (arith, e))))
-    (λ t. (c.in_ok-board.ensures.board t).has)
+    c.in_ok-board.ensures.board
     (all_scripts g.S.Shelf.tells file (g.S.Shelf.file c.read_accepted.new.shelf) names.scripts c.in_ok-board.board c.in_ok-scripts.scripts.items c.read_accepted.ensures.kept.files count c.in_ok-scripts.ensures.scripts)
     c.in_err-words.ensures.refused)
 

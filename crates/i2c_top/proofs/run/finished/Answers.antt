@@ -14,7 +14,7 @@ use Rattle.bus_core.specs.State.{AllThrough, CoreState, CoreTold, has_caller}
 use Rattle.bus_core.proofs.Told.{roots-told}
 use Rattle.caller_core.specs.Scripts.{asked_by}
 use Rattle.caller_core.specs.View.{CallerView, ScriptView}
-use Rattle.i2c_top.specs.Runs.{AreOpened, texts_of, cost_of_texts}
+use Rattle.i2c_top.specs.Runs.{texts_of, cost_of_texts}
 use Rattle.i2c_top.proofs.CoreLemmas.{script_row, may-open, words-placed, texts-same, ports-count, left, is-left, core-over}
 use Rattle.i2c_top.proofs.run.finished.Goals as goal
 

@@ -2,13 +2,13 @@ use Rattle.std.proofs.Common.{ap, sym, ◌∙◌}
 use Rattle.tool_run.specs.Replies.{replies_of}
 use Rattle.caller_core.specs.Progress.{progress, asked_at}
 use Rattle.caller_core.specs.Scripts.{asked_by}
-use Rattle.caller_core.specs.View.{CallerView}
+use Rattle.caller_core.specs.View.{CallerView, script_on}
 use Rattle.caller_core.proofs.TurnLemmas.{is_running, all_over, run_in_range}
 use Rattle.caller_core.proofs.caller.ScriptCaller.refill.Goals as goal
 
 pub next-requires-clause-range : goal.next-requires-clause-range
 next-requires-clause-range c =
-    run_in_range c.self.inside.text.value.items c.self.inside.commands (replies_of c.self.inside.taken.items) c.self.inside.place c.self.inside.from c.in-Some.run' c.self.invariant.whole
+    run_in_range (script_on c.self.inside.board.value c.self.inside.text.value.items) c.self.inside.commands (replies_of c.self.inside.taken.items) c.self.inside.place c.self.inside.from c.in-Some.run' c.self.invariant.whole
     (is_running c.self.inside.commands (replies_of c.self.inside.taken.items) c.self.inside.place c.self.inside.from c.self.inside.run c.in-Some.run' c.self.invariant.at c.in-Some.is)
 
 pub next-requires-clause-more : goal.next-requires-clause-more

@@ -24,7 +24,7 @@ pub push_command-requires-clause-range : goal.push_command-requires-clause-range
 push_command-requires-clause-range c =
     let s = c.self.inside in
     subst (λ (x : RunView). IsInRange x.cmd) (sym c.take.ensures.after)
-    (run_in_range s.text.value.items s.commands (replies_of s.taken.items) s.place s.from c.in-Some.run' c.self.invariant.whole
+    (run_in_range (record { board = s.board.value; text = s.text.value.items }) s.commands (replies_of s.taken.items) s.place s.from c.in-Some.run' c.self.invariant.whole
     (is_running s.commands (replies_of s.taken.items) s.place s.from s.run c.in-Some.run' c.self.invariant.at c.in-Some.is))
 
 pub push_command-requires-clause-replies : goal.push_command-requires-clause-replies
