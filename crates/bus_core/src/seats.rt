@@ -102,6 +102,7 @@ pub fn pass_line<C: Caller>(
 }
 
 /// Makes the settle that comes next for the seat at a place, with its entry; tells whether one does.
+#[inline(always)]
 pub fn settle<C: Caller>(
     seats: &mut Vec<Seat<C>>,
     place: usize,

@@ -50,6 +50,7 @@ impl Journal {
     }
 
     /// Puts an entry at the end. It takes no memory.
+    #[inline(always)]
     pub fn push(&mut self, entry: &EntryRef<'_>)
         requires room { 0 < self.old.room }
         requires room_bytes { length entry.now.bytes.now ≤ self.old.room_bytes }

@@ -30,6 +30,7 @@ pub fn errno_name<'a>(errno: Errno) -> &'a [u8]
 }
 
 // A space and a lock.
+#[inline(always)]
 fn push_lock(out: &mut Vec<u8>, lock: LockId) -> Result<(), NoMemory>
     ensures { OnOk result (out.new.items ≡ out.old.items ++ (codes " " ++ lock_text lock)) }
 {

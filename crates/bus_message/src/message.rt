@@ -50,6 +50,7 @@ pub struct Told {
 }
 
 // The end of a message that ended early, or is the last of its transfer: with a stop after so many calls.
+#[inline(always)]
 fn stopped<P: Port>(port: &mut P, calls: u16, end: End, heard: bool) -> Told
     requires phase { MayStop (P.phase port.old) }
     requires room { IsTrue P.tells → length (P.log port.old) < MOST_CALLS }

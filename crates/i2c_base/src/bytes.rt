@@ -1,5 +1,6 @@
 ghost use Rattle.std.specs.Prelude.{◌≡◌, ℕ, ◌+◌, ◌<◌, ◌≤◌, List, [], ◌∷◌, ◌++◌, length};
 
+use crate::empty;
 use arrayvec::ArrayVec;
 use std::marker::Model;
 
@@ -50,7 +51,7 @@ impl<const N: usize> ByteStore<N> {
     pub fn clear(&mut self)
         ensures { self.new ≡ [] }
     {
-        self.items.clear();
+        empty(&mut self.items);
     }
 
     pub fn as_slice(&self) -> &[u8]

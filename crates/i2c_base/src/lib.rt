@@ -16,6 +16,7 @@ mod event;
 mod flags;
 mod ids;
 mod limits;
+mod lists;
 mod memory;
 mod mux_facts;
 mod port;
@@ -38,6 +39,7 @@ pub use limits::{
     MOST_DEVICES, MOST_LENGTH, MOST_LOOKS, MOST_MESSAGES, MOST_MUXES, MOST_ROOTS, POLLS,
     the_code_has_these_limits,
 };
+pub use lists::empty;
 pub use memory::NoMemory;
 pub use mux_facts::{ChannelCode, MuxFacts};
 pub use port::{Phase, PortCall};

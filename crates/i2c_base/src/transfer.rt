@@ -27,7 +27,7 @@ pub struct Msg {
 }
 
 impl Msg {
-    ghost use Rattle.i2c_base.specs.Transfer.{is_read, is_counted};
+    ghost use Rattle.i2c_base.specs.Transfer.{is_read, is_counted, size_of};
 
     /// It is a read.
     pub fn is_read(&self) -> bool
@@ -41,6 +41,18 @@ impl Msg {
         ensures { result ≡ is_counted self.now }
     {
         self.flags.contains(MsgFlags::RECV_LEN)
+    }
+
+    /// How many bytes it stands for in the sum of its transfer.
+    pub fn size(&self) -> usize
+        ensures value { result ≡ size_of self.now }
+        ensures small { result < 2 ^ 16 }
+    {
+        if self.is_counted() {
+            COUNTED_SIZE
+        } else {
+            self.len as usize
+        }
     }
 }
 
@@ -200,24 +212,12 @@ impl Transfer {
 /// How many bytes a counted read stands for.
 const COUNTED_SIZE: usize = 258;
 
-// How many bytes a message stands for in the sum of its transfer.
-fn size(msg: &Msg) -> usize
-    ensures value { result ≡ size_of msg.now }
-    ensures small { result < 2 ^ 16 }
-{
-    if msg.is_counted() {
-        COUNTED_SIZE
-    } else {
-        msg.len as usize
-    }
-}
-
 // Whether one more message of this length and size is within the limits.
 fn has_room(msgs: &[Msg], len: usize, size_more: usize) -> bool
     requires { sum_by size_of msgs.now ≤ limits.MOST_BYTES }
     ensures { IsTrue result ↔ HasRoom msgs.now len size_more }
 {
-    let sum: usize = msgs.iter().map(size).sum();
+    let sum: usize = msgs.iter().map(Msg::size).sum();
     msgs.len() < MOST_MESSAGES && len <= MOST_LENGTH && size_more <= MOST_BYTES - sum
 }
 

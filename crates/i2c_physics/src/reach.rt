@@ -6,7 +6,7 @@ ghost use Rattle.i2c_physics.specs.Reach.{is_among, AreRising, joins_at, address
 use crate::place::Place;
 use crate::sites::{Sites, is_at};
 use arrayvec::ArrayVec;
-use i2c_base::{Addr, MOST_DEVICES};
+use i2c_base::{Addr, MOST_DEVICES, empty};
 use tgt_mux::Chip;
 
 /// Numbers of targets of one kind, rising; the devices are the most.
@@ -44,6 +44,7 @@ impl Reach {
 
     /// Finds whom a start at this address is told to: those that it calls, and the started ones that it is an `Other` for.
     /// A target that wasn't started is quiet.
+    #[inline(always)]
     pub fn call(&mut self, chips: &[Chip], sites: &Sites, addr: Addr)
         ensures told { self.new.told.items ≡ addressed chips.now sites.now addr }
         ensures rest { self.new.rest.items ≡ others chips.now sites.now addr self.old.started.items }
@@ -55,6 +56,7 @@ impl Reach {
     }
 
     /// Finds which of the started ones a stop reaches, and which it doesn't.
+    #[inline(always)]
     pub fn part(&mut self, chips: &[Chip], sites: &Sites)
         ensures told { self.new.told.items ≡ filter (joins_at chips.now sites.now) self.old.started.items }
         ensures rest { self.new.rest.items ≡ filter (λ k. not (joins_at chips.now sites.now k)) self.old.started.items }
@@ -70,6 +72,7 @@ impl Reach {
     }
 
     /// Those that a start calls were started, of so many targets.
+    #[inline(always)]
     pub fn add_told(&mut self, count: usize)
         requires few { count ≤ MOST_DEVICES }
         requires started { AreRising 0 count self.old.started.items }
@@ -90,7 +93,7 @@ impl Reach {
         ensures started { self.new.started.items ≡ self.old.rest.items }
         ensures hearing { self.new.hearing.items ≡ [] }
     {
-        self.hearing.clear();
+        empty(&mut self.hearing);
         write_over(&mut self.started, self.rest.as_slice());
     }
 }
@@ -100,7 +103,7 @@ fn write_over(list: &mut Numbers, numbers: &[u16])
     requires { length numbers.now ≤ MOST_DEVICES }
     ensures { list.new.items ≡ numbers.now }
 {
-    list.clear();
+    empty(list);
     for number in numbers {
         list.push(*number);
     }
@@ -134,6 +137,7 @@ fn joins_at(chips: &[Chip], places: &[Place], number: u16) -> bool
 }
 
 /// Those that a start at this address calls: they have it, and are joined.
+#[inline(always)]
 fn addressed(chips: &[Chip], sites: &Sites, addr: Addr, called: &mut Numbers)
     ensures { called.new.items ≡ addressed chips.now sites.now addr }
 {
@@ -141,11 +145,12 @@ fn addressed(chips: &[Chip], sites: &Sites, addr: Addr, called: &mut Numbers)
 }
 
 /// Those of these numbers that are joined.
+#[inline(always)]
 fn joined(chips: &[Chip], places: &[Place], numbers: &[u16], joined: &mut Numbers)
     requires { length numbers.now ≤ MOST_DEVICES }
     ensures { joined.new.items ≡ filter (joins_at chips.now places.now) numbers.now }
 {
-    joined.clear();
+    empty(joined);
     for number in numbers {
         if joins_at(chips, places, *number) {
             joined.push(*number);
@@ -154,11 +159,12 @@ fn joined(chips: &[Chip], places: &[Place], numbers: &[u16], joined: &mut Number
 }
 
 /// Those of these numbers that are joined and have another address.
+#[inline(always)]
 fn others(chips: &[Chip], places: &[Place], addr: Addr, numbers: &[u16], rest: &mut Numbers)
     requires { length numbers.now ≤ MOST_DEVICES }
     ensures { rest.new.items ≡ others chips.now places.now addr numbers.now }
 {
-    rest.clear();
+    empty(rest);
     for number in numbers {
         if !is_at(places, *number, addr.get()) && joins_at(chips, places, *number) {
             rest.push(*number);
@@ -167,6 +173,7 @@ fn others(chips: &[Chip], places: &[Place], addr: Addr, numbers: &[u16], rest: &
 }
 
 /// Those of these numbers that are joined, and those that aren't.
+#[inline(always)]
 fn parted(
     chips: &[Chip],
     places: &[Place],
@@ -178,8 +185,8 @@ fn parted(
     ensures joined { joined.new.items ≡ filter (joins_at chips.now places.now) numbers.now }
     ensures apart { apart.new.items ≡ filter (λ k. not (joins_at chips.now places.now k)) numbers.now }
 {
-    joined.clear();
-    apart.clear();
+    empty(joined);
+    empty(apart);
     for number in numbers {
         if joins_at(chips, places, *number) {
             joined.push(*number);
@@ -197,6 +204,7 @@ fn has_all(numbers: &[u16], others: &[u16]) -> bool
 }
 
 /// Adds these numbers, of so many. Only where there are some of both is more to be looked at than the two lists.
+#[inline(always)]
 #[tactic(auto, using(crate::proofs::NumberLemmas::either_none, crate::proofs::NumberLemmas::either_has))]
 fn add_all(numbers: &mut Numbers, count: usize, added: &[u16], room: &mut Numbers)
     requires few { count ≤ MOST_DEVICES }
@@ -224,7 +232,7 @@ fn union_of(count: usize, first: &[u16], second: &[u16], numbers: &mut Numbers)
     requires { count ≤ MOST_DEVICES }
     ensures { numbers.new.items ≡ union_of count first.now second.now }
 {
-    numbers.clear();
+    empty(numbers);
     for number in 0..count as u16 {
         let found = is_in_either(first, second, number);
         push_if(numbers, found, number);

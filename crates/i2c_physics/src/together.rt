@@ -8,7 +8,7 @@ ghost use Rattle.i2c_physics.specs.Reach.{AreRising, to_those, union_of};
 ghost use Rattle.i2c_physics.specs.Answering.{together_of, start_answer};
 
 use crate::reach::{Numbers, Reach};
-use i2c_base::{Answer, Event, Target};
+use i2c_base::{Answer, Event, Target, empty};
 
 /// What several targets answer to a call together.
 #[derive(Clone, Copy)]
@@ -72,6 +72,7 @@ fn sent(answer: Answer) -> u8
 
 /// Tells those targets of an event whose numbers these are, joins what they answer, and lists who has heard. It goes from
 /// the last one back, so that those come out by number.
+#[inline(always)]
 pub fn tell<T: Target>(
     targets: &mut [T],
     numbers: &[u16],
@@ -85,7 +86,7 @@ pub fn tell<T: Target>(
     ensures heard { heard.new.items ≡ numbers_of (answers T.table (to_those numbers.now event) 0 targets.old) }
 {
     let mut together = Together::silence();
-    heard.clear();
+    empty(heard);
     let mut left = numbers.len();
     while left > 0 {
         left -= 1;

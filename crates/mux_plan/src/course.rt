@@ -188,6 +188,7 @@ impl Course {
     }
 
     /// The action of a task that is a step, which is never Done.
+    #[inline(always)]
     pub fn action(&self, task: Task) -> Action
         requires planned { IsPlanned self.now (task ∷ []) }
         requires step { IsStep (task ∷ []) }

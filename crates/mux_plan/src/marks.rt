@@ -89,6 +89,7 @@ fn mark_switch(dues: &mut Dues, tasks: &[Task], on: SegId, outcome: &Outcome<'_>
 }
 
 /// Which marks change where a message or the line of a piece of work above these tasks has this outcome.
+#[inline(always)]
 pub fn mark_work(dues: &mut Dues, tasks: &[Task], work: &Work, outcome: &Outcome<'_>)
     requires few { length tasks.now < 32 }
     requires empty { dues.old.items ≡ [] }

@@ -201,7 +201,7 @@ impl Parts {
         ensures course { self.new.course ≡ self.old.course }
     {
         let came = work.came(left, outcome);
-        if self.is_forward() && work.decides(came) {
+        if work.decides(came) && self.is_forward() {
             self.stack.push(Task::Settle(work.verdict(left, outcome)));
         }
         self.came = came;

@@ -15,7 +15,7 @@ use crate::parts::Parts;
 use crate::stack::Stack;
 use crate::{Action, Came, Course, Outcome, Task, Work};
 use arrayvec::ArrayVec;
-use i2c_base::{Errno, MuxId, SegId, Transfer};
+use i2c_base::{Errno, MuxId, SegId, Transfer, empty};
 use i2c_board::{Accepted, Board};
 use i2c_spec::refusal;
 use std::marker::Model;
@@ -153,7 +153,7 @@ impl Walk {
         ensures dues { (ms : List MessageView) → length ms ≡ self.old.course.count
             → dues.new.items ≡ dues_after (first_act (seen (slots_of marks.now) (walk_of board.now ms self.old))) (first_note (seen (slots_of marks.now) (walk_of board.now ms self.old))) (outcome_of outcome.now) }
     {
-        dues.clear();
+        empty(dues);
         self.parts.look(board, marks);
         self.parts.mark(dues, outcome);
         self.parts.act(outcome);

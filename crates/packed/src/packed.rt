@@ -76,6 +76,7 @@ impl<H: Drop> Packed<H> {
     }
 
     /// Puts a head and its bytes at the end. It takes no memory.
+    #[inline(always)]
     pub fn push(&mut self, head: H, bytes: &[u8])
         requires room { 0 < self.old.room }
         requires room_bytes { length bytes.now ≤ self.old.room_bytes }
