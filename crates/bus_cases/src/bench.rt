@@ -57,7 +57,7 @@ fn answer_words<R: Files + Print + AllocGlobal>(rt: &R, front: &str, words: &str
 fn answer_transfers<R: Files + Print + AllocGlobal>(rt: &R, front: &str, text: &str) -> Result<()> {
     let (_, name) = front.split_once(' ').context("a board")?;
     let board = boards::read(rt, name)?;
-    transfers::answer_all(rt, board.board(), text)
+    transfers::answer_all(rt, &board, text)
 }
 
 /// Answers a worked example by a line of the same front, up to its colon, with an answer for each word or transfer.

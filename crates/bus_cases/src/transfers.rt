@@ -1,41 +1,25 @@
 //! Transfers in the flat world, and their replies, as text.
 
-ghost use Rattle.std.specs.Prelude.{◌≤◌, IfOk, vec_len};
-
 use crate::words::address;
 use anyhow::{Context, Error, Result, bail};
+use flat_world::Flat;
 use i2c_base::{Cut, Kind, Reply, Transfer};
-use i2c_board::Board;
-use i2c_plain::{Device, flat};
+use i2c_board::Accepted;
 use std::alloc::{AllocError, Global};
 
 /// Does transfers with a semicolon between them, one after the other, on the devices of a board as they are opened, and
 /// prints each reply. How a transfer is written stands at `transfer_of`.
-pub fn answer_all<R: Print + AllocGlobal>(rt: &R, board: &Board, transfers: &str) -> Result<()> {
+pub fn answer_all<R: Print + AllocGlobal>(rt: &R, board: &Accepted, transfers: &str) -> Result<()> {
     let alloc = rt.alloc();
-    let mut devices = open_devices(alloc, board)?;
+    let Ok(mut flat) = Flat::open(alloc, board) else {
+        return Err(Error::from(AllocError));
+    };
     for text in transfers.split(';') {
         let (transfer, cut) = transfer_of(alloc, text).context(format_args!("{text:?}"))?;
-        let (reply, left) = flat(alloc, board.layout(), devices, &transfer, cut)?;
-        devices = left;
-        let text = reply_text(alloc, &reply)?;
+        let text = reply_text(alloc, &flat.apply(&transfer, cut))?;
         print!(rt; " {text}")?;
     }
     Ok(())
-}
-
-// The devices of a board as they are opened.
-fn open_devices(alloc: Global, board: &Board) -> Result<Vec<Device>>
-    ensures { IfOk result (λ devices. vec_len devices ≤ 128) }
-{
-    let mut devices = Vec::new(alloc);
-    for spec in board.devices() {
-        let Ok(device) = Device::open(alloc, spec) else {
-            return Err(Error::from(AllocError));
-        };
-        devices.push(device)?;
-    }
-    Ok(devices)
 }
 
 // A plain transfer, and where it is cut off. It is written as its bus, then `@way` where it is cut off on the way, or

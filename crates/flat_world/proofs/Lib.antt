@@ -1,0 +1,6 @@
+pub mod FeedLemmas
+pub mod FitLemmas
+pub mod FlatLemmas
+pub mod NamedLemmas
+pub mod SendingLemmas
+pub mod TransferLemmas

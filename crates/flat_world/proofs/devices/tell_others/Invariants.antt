@@ -1,0 +1,8 @@
+use Rattle.std.proofs.Common.{◌≡◌, take}
+use Rattle.i2c_spec.specs.World.{feed}
+use Rattle.flat_world.specs.Devices.{to_others}
+use Rattle.flat_world.proofs.devices.tell_others.Given as goal
+
+-- those so far have been told
+abbrev pub invariant-loop-number : goal.invariant-loop-number
+invariant-loop-number g l = l.targets ≡ feed g.T.Target.table (to_others l.one (take l.number-index l.numbers) l.event) 0 l.fn.targets

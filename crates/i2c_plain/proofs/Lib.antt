@@ -1,4 +1,0 @@
-pub mod FitLemmas
-pub mod GiveLemmas
-pub mod TalkLemmas
-pub mod TransferTalkLemmas

@@ -1,2 +1,0 @@
-pub mod FlatStates
-pub mod PlainTalks
