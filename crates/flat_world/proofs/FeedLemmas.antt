@@ -12,7 +12,7 @@ use Rattle.i2c_base.specs.Table.{Table}
 use Rattle.i2c_spec.specs.World.{feed, given}
 use Rattle.i2c_spec.specs.Targets.{TargetState, state_table}
 use Rattle.i2c_spec.specs.Flat.{FlatListener, is_it, is_member, flat_start, to_current, answer_of}
-use Rattle.i2c_physics.proofs.TogetherLemmas.{feed-same}
+use Rattle.i2c_spec.proofs.FeedLemmas.{feed-same}
 use Rattle.flat_world.specs.Devices.{to_others, answer_in}
 use Rattle.flat_world.proofs.NamedLemmas.{is_member-push}
 

@@ -16,7 +16,7 @@ use Rattle.i2c_spec.specs.World.{feed, has_heard}
 use Rattle.i2c_spec.specs.Conversation.{Listener, Said, TalkTold, AllTold, is_at, silence, say, with_byte, told, is_empty, is_good, with_read, talk_all}
 use Rattle.i2c_spec.specs.Conversation as spec
 use Rattle.i2c_spec.specs.Flat.{FlatListener, flat_start, to_named, flat_listener, acknowledged, answer_of, put_named, is_it}
-use Rattle.i2c_physics.proofs.TogetherLemmas.{feed-same}
+use Rattle.i2c_spec.proofs.FeedLemmas.{feed-same}
 use Rattle.flat_world.specs.Devices.{add_once, once, once_each, started, once_listener, behind_start}
 use Rattle.flat_world.specs.Sending.{Ended, with_got, failed, ended, puts, gets, gets_one_more, gets_by_count, gets_counted, moved, by_answer, sent, all_of}
 use Rattle.flat_world.proofs.NamedLemmas.{is_member-once}

@@ -28,7 +28,8 @@ use Rattle.i2c_physics.proofs.NumberLemmas.{and_true, filter-among, rising-filte
 use Rattle.i2c_physics.proofs.OwnLemmas.{other-apart, joined-own, length-seen, feed-seen, answers-seen}
 use Rattle.i2c_physics.proofs.PlaceLemmas.{chip-started, chip-stopped, device-started, device-stopped}
 use Rattle.i2c_physics.proofs.ReachLemmas.{reached-sent, stopped-fed, reached-stopped, started-fed, started-heard, reached-started}
-use Rattle.i2c_physics.proofs.TogetherLemmas.{feed-same, answers-same, length-feed}
+use Rattle.i2c_spec.proofs.FeedLemmas.{feed-same}
+use Rattle.i2c_physics.proofs.TogetherLemmas.{answers-same, length-feed}
 use Rattle.i2c_physics.proofs.WorldLemmas.{chip-hears, device-hears, hearers_told}
 
 -- what is told, as of the fields

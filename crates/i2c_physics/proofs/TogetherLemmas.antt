@@ -11,6 +11,7 @@ use Rattle.i2c_base.specs.declared.event.Event.{Event}
 use Rattle.i2c_base.specs.declared.event.Answer.{Answer}
 use Rattle.i2c_base.specs.Table.{Table}
 use Rattle.i2c_spec.specs.World.{feed, given, answers, answer_with}
+use Rattle.i2c_spec.proofs.FeedLemmas.{feed-same}
 use Rattle.i2c_physics.specs.Reach.{AreRising, to_those}
 use Rattle.i2c_physics.proofs.NumberLemmas.{rising-apart, rising-drop}
 
@@ -22,14 +23,6 @@ pub same_number : (n : ℕ) → (n == n) ≡ true
 same_number n = elim (eqb_tells n n) [ inl x ↦ x.0 | inr x ↦ absurd (x.1 refl) ]
 
 module _ {X : Type 0} (t : Table X) where
-  -- targets see only the events of their own numbers
-  pub feed-same : (f g : ℕ → Option Event) (k : ℕ) (xs : List X)
-      → ((j : ℕ) → k ≤ j → j < k + length xs → g j ≡ f j) → feed t g k xs ≡ feed t f k xs
-  feed-same f g k [] same = refl
-  feed-same f g k (x ∷ xs) same =
-      ap (λ o. given t o x ∷ feed t g (k + 1) xs) (same k (omega arith) (omega arith))
-      ∙ ap (λ rest. given t (f k) x ∷ rest) (feed-same f g (k + 1) xs (λ j low high. same j (omega arith) (omega arith)))
-
   pub answers-same : (f g : ℕ → Option Event) (k : ℕ) (xs : List X)
       → ((j : ℕ) → k ≤ j → j < k + length xs → g j ≡ f j) → answers t g k xs ≡ answers t f k xs
   answers-same f g k [] same = refl
@@ -57,7 +50,7 @@ module _ {X : Type 0} (t : Table X) where
   fed_more f g event j zero (x ∷ xs) d within same some =
       let head : g j ≡ Some event = ap g (sym (add-zero j)) ∙ some in
       ap (λ o. given t o x ∷ feed t g (j + 1) xs) head
-      ∙ ap (λ rest. t.after x event ∷ rest) (feed-same f g (j + 1) xs (λ k low high. same k (λ e. absurd (omega (arith, e)))))
+      ∙ ap (λ rest. t.after x event ∷ rest) (feed-same t f g (j + 1) xs (λ k low high. same k (λ e. absurd (omega (arith, e)))))
   fed_more f g event j (suc i) (x ∷ xs) d within same some =
       let at : j + 1 + i ≡ j + suc i = omega arith in
       ap (λ o. given t o x ∷ feed t g (j + 1) xs) (same j (λ e. absurd (omega (arith, e))))

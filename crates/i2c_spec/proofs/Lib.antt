@@ -2,6 +2,7 @@ pub mod AddressLemmas
 pub mod ByteLemmas
 pub mod CostLemmas
 pub mod EepromLemmas
+pub mod FeedLemmas
 pub mod HopLemmas
 pub mod Lm75Lemmas
 pub mod PlainLemmas
