@@ -1,14 +1,12 @@
-use anyhow::{Result, bail};
 use i2c_board::Accepted;
 use i2c_boardtext::read_board;
-use std::alloc::Global;
 use std::rt::Files;
 use std::{fs, io};
 
 /// The board of the file `NAME.toml`.
-pub fn read<R: Files + AllocGlobal>(rt: &R, name: &str) -> Result<Accepted> {
+pub fn read<R: Files + Print + AllocGlobal>(rt: &R, name: &str) -> io::Result<Accepted> {
     let text = text_of(rt, name)?;
-    sealed(rt.alloc(), text.as_slice())
+    sealed(rt, text.as_slice())
 }
 
 fn text_of<R: Files + AllocGlobal>(rt: &R, name: &str) -> io::Result<Vec<u8>> {
@@ -17,13 +15,16 @@ fn text_of<R: Files + AllocGlobal>(rt: &R, name: &str) -> io::Result<Vec<u8>> {
 }
 
 // The board that a text spells, which meets the rules.
-fn sealed(alloc: Global, text: &[u8]) -> Result<Accepted> {
-    let board = match read_board(alloc, text) {
+fn sealed<R: Print + AllocGlobal>(rt: &R, text: &[u8]) -> io::Result<Accepted> {
+    let board = match read_board(rt.alloc(), text) {
         Ok(board) => board,
-        Err(fault) => bail!("{fault:?}"),
+        Err(fault) => {
+            print!(rt; " {fault:?}")?;
+            return Err(io::Error::other("no board"));
+        }
     };
     if board.layout().first_broken().is_some() {
-        bail!("a rule is broken");
+        return Err(io::Error::other("a rule is broken"));
     }
     Ok(Accepted::seal(board))
 }

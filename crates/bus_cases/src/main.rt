@@ -14,15 +14,14 @@
 //! - `calls`: prints the calls on each port, as the rig kept them
 //! - `device N EVENT..`: prints what device N, as the rig kept it, answers to these events
 //! - `mute`: what the program's own output answers where what is behind it takes nothing
-//! - `locks`: a lock that is taken, marked and freed
 //! - `entry LINE`: reads a line of a journal back, and prints the line of its entry, or that it tells none
 //!
 //! Then come worked examples of what stands below the core. Each is a front, a colon and words, and is answered by a line
 //! of the same front with an answer for each word:
 //!
-//! - `chip KIND:` events for the chip of a mux (`chips::answer`)
-//! - `tree BOARD:` questions on the tree of a board of `data/` (`trees::answer`)
-//! - `wires BOARD:` events on the wires of its first root (`wires::answer`)
+//! - `chip KIND:` events for the chip of a mux (`chips::answer_all`)
+//! - `tree BOARD:` questions on the tree of a board of `data/` (`trees::answer_all`)
+//! - `wires BOARD:` events on the wires of its first root (`wires::answer_all`)
 //! - `flat BOARD:` transfers in the flat world, with a semicolon between them (`transfers::answer_all`)
 //!
 //! Lines that are empty or begin with `#` are for the reader. The file `stdout` has what is due, by hand: the answers of
@@ -36,7 +35,6 @@ mod boards;
 mod case;
 mod chips;
 mod entries;
-mod locks;
 mod mute;
 mod show;
 mod table;
@@ -45,7 +43,6 @@ mod trees;
 mod wires;
 mod words;
 
-use anyhow::Result;
 use std::io;
 use std::rt::Files;
 use std::sync::Wait;
@@ -57,15 +54,22 @@ fn take<H: Files + Print + AllocGlobal + Threads + Wait + Sync>(
     rt: &H,
     table: &mut Table,
     line: io::Result<String>,
-) -> Result<()> {
-    table.take(rt, rt.alloc(), line?.as_str())
+) -> io::Result<()> {
+    table.take(rt, line?.as_str())
 }
 
-fn main(rt: HostRuntime) -> Result<()> {
-    let alloc = rt.alloc();
-    let mut table = Table::new(alloc);
-    for line in rt.lines(alloc) {
-        take(&rt, &mut table, line)?;
+// Takes each line of the table.
+fn take_all<H: Input + Files + Print + AllocGlobal + Threads + Wait + Sync>(
+    rt: &H,
+    table: &mut Table,
+) -> io::Result<()> {
+    for line in rt.lines(rt.alloc()) {
+        take(rt, table, line)?;
     }
     Ok(())
+}
+
+fn main(rt: HostRuntime) -> io::Result<()> {
+    let mut table = Table::new(rt.alloc());
+    take_all(&rt, &mut table)
 }

@@ -1,20 +1,24 @@
-use crate::case::Called;
+use crate::case::{Called, number_of};
 use i2c_base::{Answer, Event, PortCall, Target};
+use i2c_outside::DeviceState;
 use std::alloc::{AllocError, Global};
 use std::io;
 
 /// The most places of a command line.
 const PLACES: u8 = 16;
 
-// A text, line by line.
-fn print_text(rt: &impl Print, text: &[u8]) -> io::Result<()> {
-    match str::from_utf8(text) {
-        Ok(text) => {
-            for line in text.lines() {
-                println!(rt; "  {line}")?;
-            }
-            Ok(())
-        }
+// The lines of a text.
+fn print_lines(rt: &impl Print, text: &str) -> io::Result<()> {
+    for line in text.lines() {
+        println!(rt; "  {line}")?;
+    }
+    Ok(())
+}
+
+// What was written, line by line.
+fn print_written(rt: &impl Print, written: &[u8]) -> io::Result<()> {
+    match str::from_utf8(written) {
+        Ok(text) => print_lines(rt, text),
         Err(_) => println!(rt; "  no text"),
     }
 }
@@ -30,7 +34,7 @@ fn print_faults(rt: &impl Print, what: &str, count: u64) -> io::Result<()> {
 // The faults of the shelf at each place.
 fn print_shelf(rt: &impl Print, called: &Called) -> io::Result<()> {
     for place in 0..PLACES {
-        let count = called.shelf.faults(place);
+        let count = called.outside.shelf.faults(place);
         if count != 0 {
             println!(rt; "faults at place {place}: {count}")?;
         }
@@ -38,19 +42,24 @@ fn print_shelf(rt: &impl Print, called: &Called) -> io::Result<()> {
     Ok(())
 }
 
-/// How a call ended, what was written, and what was counted.
-pub fn print_called(rt: &impl Print, called: &Called) -> io::Result<()> {
-    let written = called.sink.bytes();
-    println!(rt; "status {}, {} bytes", called.status.code(), written.len())?;
-    print_text(rt, written)?;
+// What was counted: the faults, and the plugs of the rig.
+fn print_counts(rt: &impl Print, called: &Called) -> io::Result<()> {
     print_shelf(rt, called)?;
-    print_faults(rt, "the output", called.sink.faults())?;
-    print_faults(rt, "the rig", called.rig.faults())?;
+    print_faults(rt, "the output", called.outside.sink.faults())?;
+    print_faults(rt, "the rig", called.outside.rig.faults())?;
     println!(rt;
         "plugs {}, unplugs {}",
-        called.rig.plugs(),
-        called.rig.unplugs()
+        called.outside.rig.plugs(),
+        called.outside.rig.unplugs()
     )
+}
+
+/// How a call ended, what was written, and what was counted.
+pub fn print_called(rt: &impl Print, called: &Called) -> io::Result<()> {
+    let written = called.outside.sink.bytes();
+    println!(rt; "status {}, {} bytes", called.status.code(), written.len())?;
+    print_written(rt, written)?;
+    print_counts(rt, called)
 }
 
 // The direction of a message.
@@ -74,7 +83,7 @@ fn call_text(alloc: Global, call: PortCall) -> Result<String, AllocError> {
 
 /// The calls on each port.
 pub fn print_calls(rt: &impl Print, alloc: Global, called: &Called) -> io::Result<()> {
-    for (port, calls) in called.rig.logs().iter().enumerate() {
+    for (port, calls) in called.outside.rig.logs().iter().enumerate() {
         println!(rt; "port {port}")?;
         for call in calls.iter() {
             println!(rt; "  {}", call_text(alloc, *call)?)?;
@@ -94,36 +103,51 @@ fn event_of(word: &str) -> Option<Event> {
     }
 }
 
-fn answer_text(alloc: Global, answer: Answer) -> Result<String, AllocError> {
+// What a device answers to an event.
+fn print_answer(rt: &impl Print, word: &str, answer: Answer) -> io::Result<()> {
     match answer {
-        Answer::Ack => format!(in alloc; "ack"),
-        Answer::Nack => format!(in alloc; "nack"),
-        Answer::Slow => format!(in alloc; "slow"),
-        Answer::Byte(byte) => format!(in alloc; "{byte:#04x}"),
-        Answer::Nothing => format!(in alloc; "nothing"),
+        Answer::Ack => println!(rt; "  {word}: ack"),
+        Answer::Nack => println!(rt; "  {word}: nack"),
+        Answer::Slow => println!(rt; "  {word}: slow"),
+        Answer::Byte(byte) => println!(rt; "  {word}: {byte:#04x}"),
+        Answer::Nothing => println!(rt; "  {word}: nothing"),
     }
 }
 
-/// What a device answers to these events, one after the other.
-pub fn print_answers(
-    rt: &impl Print,
-    alloc: Global,
-    called: &Called,
-    device: usize,
-    events: &[String],
-) -> io::Result<()> {
-    let Some(state) = called.rig.states().get(device) else {
-        return println!(rt; "no device {device}");
-    };
-    let Ok(mut state) = state.copied(alloc) else {
-        return Err(io::Error::from(AllocError));
-    };
-    println!(rt; "device {device}")?;
-    for word in events {
-        match event_of(word.as_str()) {
-            Some(event) => println!(rt; "  {word}: {}", answer_text(alloc, state.on(event))?)?,
+fn print_each(rt: &impl Print, device: &mut DeviceState, words: &str) -> io::Result<()> {
+    for word in words.split_whitespace() {
+        match event_of(word) {
+            Some(event) => print_answer(rt, word, device.on(event))?,
             None => println!(rt; "  {word} is no event")?,
         }
     }
     Ok(())
+}
+
+// What a copy of a device answers.
+fn print_copied(
+    rt: &impl Print,
+    alloc: Global,
+    device: &DeviceState,
+    words: &str,
+) -> io::Result<()> {
+    match device.copied(alloc) {
+        Ok(mut copy) => print_each(rt, &mut copy, words),
+        Err(_) => Err(io::Error::from(AllocError)),
+    }
+}
+
+/// What the device of a number answers to the events of the words behind it, one after the other.
+pub fn print_answers(
+    rt: &impl Print,
+    alloc: Global,
+    called: &Called,
+    words: &str,
+) -> io::Result<()> {
+    let (number, words) = words.split_once(' ').unwrap_or((words, ""));
+    println!(rt; "device {number}")?;
+    match called.outside.rig.states().get(number_of(number)? as usize) {
+        Some(device) => print_copied(rt, alloc, device, words),
+        None => println!(rt; "no device {number}"),
+    }
 }

@@ -1,10 +1,8 @@
 use crate::bench::answer_line;
-use crate::case::{Called, Case, Files as Shelf, call, first_other, number_of};
+use crate::case::{Called, Case, Files as Shelf, call, first_other, words_of};
 use crate::entries::print_entry;
-use crate::locks::print_locks;
 use crate::mute::print_mute;
 use crate::show::{print_answers, print_called, print_calls};
-use anyhow::{Context, Result};
 use std::alloc::{AllocError, Global};
 use std::collections::BTreeMap;
 use std::io;
@@ -22,12 +20,24 @@ pub struct Table {
     called: Option<Called>,
 }
 
-fn words_of(alloc: Global, text: &str) -> Result<Vec<String>, AllocError> {
-    let mut words = Vec::new(alloc);
-    for word in text.split_whitespace() {
-        words.push(String::from_str(alloc, word)?)?;
+// The first smaller output that doesn't hold the front of what a call wrote, or that there is none.
+fn print_fronts<H: Print + Threads + Wait + Sync>(
+    rt: &H,
+    alloc: Global,
+    files: &Shelf,
+    called: &Called,
+) -> io::Result<()> {
+    match first_other(rt, alloc, files, called)? {
+        None => println!(rt; "each smaller output holds the front"),
+        Some(room) => println!(rt; "an output of {room} bytes holds no such front"),
     }
-    Ok(words)
+}
+
+// A line of a file.
+fn add_line(bytes: &mut Vec<u8>, line: &str) -> Result<(), AllocError> {
+    bytes.extend_from_slice(line.as_bytes())?;
+    bytes.push(b'\n')?;
+    Ok(())
 }
 
 impl Table {
@@ -44,25 +54,33 @@ impl Table {
     pub fn take<H: Files + Print + AllocGlobal + Threads + Wait + Sync>(
         &mut self,
         rt: &H,
-        alloc: Global,
         line: &str,
-    ) -> Result<()> {
-        match self.file.take() {
-            Some((name, bytes)) => Ok(self.take_file_line(name, bytes, line)?),
-            None if line.is_empty() || line.starts_with('#') => Ok(()),
-            None if line.contains(':') => answer_line(rt, line).context(format_args!("{line:?}")),
-            None => Ok(self.take_command(rt, alloc, line)?),
+    ) -> io::Result<()> {
+        if self.file.is_some() {
+            Ok(self.take_file_line(line)?)
+        } else if line.is_empty() || line.starts_with('#') {
+            Ok(())
+        } else if line.contains(':') {
+            answer_line(rt, line)
+        } else {
+            self.take_command(rt, rt.alloc(), line)
         }
     }
 
-    fn take_file_line(&mut self, name: String, mut bytes: Vec<u8>, line: &str) -> io::Result<()> {
+    fn take_file_line(&mut self, line: &str) -> Result<(), AllocError> {
         if line == "." {
-            self.files.insert(name, bytes)?;
-            return Ok(());
+            return self.end_file();
         }
-        bytes.extend_from_slice(line.as_bytes())?;
-        bytes.push(b'\n')?;
-        self.file = Some((name, bytes));
+        match &mut self.file {
+            Some((_, bytes)) => add_line(bytes, line),
+            None => Ok(()),
+        }
+    }
+
+    fn end_file(&mut self) -> Result<(), AllocError> {
+        if let Some((name, bytes)) = self.file.take() {
+            self.files.insert(name, bytes)?;
+        }
         Ok(())
     }
 
@@ -74,24 +92,25 @@ impl Table {
     ) -> io::Result<()> {
         let (command, rest) = line.split_once(' ').unwrap_or((line, ""));
         match command {
-            "file" => self.begin_file(alloc, rest),
-            "case" => {
-                self.case = Case::new(alloc);
-                self.called = None;
-                println!(rt; "== {rest}")
-            }
-            "reads" | "writes" | "fails" | "room" | "stuck" => self.case.set(alloc, command, rest),
+            "file" => Ok(self.begin_file(alloc, rest)?),
+            "case" => self.begin_case(rt, alloc, rest),
+            "reads" | "writes" | "fails" | "room" | "stuck" => self.case.set(command, rest),
             "call" => self.call(rt, alloc, rest),
             "mute" => print_mute(rt),
-            "locks" => print_locks(rt, alloc),
             "entry" => print_entry(rt, alloc, rest),
             _ => self.show(rt, alloc, command, rest),
         }
     }
 
-    fn begin_file(&mut self, alloc: Global, name: &str) -> io::Result<()> {
+    fn begin_file(&mut self, alloc: Global, name: &str) -> Result<(), AllocError> {
         self.file = Some((String::from_str(alloc, name)?, Vec::new(alloc)));
         Ok(())
+    }
+
+    fn begin_case(&mut self, rt: &impl Print, alloc: Global, name: &str) -> io::Result<()> {
+        self.case = Case::new(alloc);
+        self.called = None;
+        println!(rt; "== {name}")
     }
 
     fn call<H: Print + Threads + Wait + Sync>(
@@ -100,9 +119,21 @@ impl Table {
         alloc: Global,
         words: &str,
     ) -> io::Result<()> {
-        let called = call(rt, alloc, &self.case, &self.files, words_of(alloc, words)?)?;
-        print_called(rt, &called)?;
-        self.called = Some(called);
+        self.make_call(rt, alloc, words)?;
+        match &self.called {
+            Some(called) => print_called(rt, called),
+            None => Ok(()),
+        }
+    }
+
+    fn make_call<H: Threads + Wait + Sync>(
+        &mut self,
+        rt: &H,
+        alloc: Global,
+        words: &str,
+    ) -> Result<(), AllocError> {
+        let words = words_of(alloc, words)?;
+        self.called = Some(call(rt, alloc, &self.case, &self.files, words)?);
         Ok(())
     }
 
@@ -118,22 +149,9 @@ impl Table {
             return println!(rt; "no call stands before {command}");
         };
         match command {
-            "fronts" => match first_other(rt, alloc, &self.files, called)? {
-                None => println!(rt; "each smaller output holds the front"),
-                Some(room) => println!(rt; "an output of {room} bytes holds no such front"),
-            },
+            "fronts" => print_fronts(rt, alloc, &self.files, called),
             "calls" => print_calls(rt, alloc, called),
-            "device" => {
-                let (device, events) = rest.split_once(' ').unwrap_or((rest, ""));
-                let events = words_of(alloc, events)?;
-                print_answers(
-                    rt,
-                    alloc,
-                    called,
-                    number_of(device)? as usize,
-                    events.as_slice(),
-                )
-            }
+            "device" => print_answers(rt, alloc, called, rest),
             _ => println!(rt; "{command} is no line of a table"),
         }
     }

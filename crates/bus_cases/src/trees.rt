@@ -1,74 +1,109 @@
-ghost use Rattle.std.specs.Prelude.{◌<◌, IfOk};
+ghost use Rattle.std.specs.Prelude.{◌<◌};
 ghost use Rattle.i2c_spec.specs.Tree.{buses};
 
-use crate::words::address;
-use anyhow::{Context, Result};
-use i2c_base::SegId;
+use crate::words::byte;
+use i2c_base::{Addr, SegId};
 use i2c_board::{Board, Grant, Way};
-use std::alloc::{AllocError, Global};
+use std::io;
 
-/// Answers a word: `BUS` asks for the way to a bus, `BUS/ADDR` where an address leads on it, `BUS/ADDR!` where it leads
-/// by force, and `BUS<HIGH` whether the bus is below another.
-pub fn answer(alloc: Global, board: &Board, word: &str) -> Result<String> {
-    if let Some((bus, target)) = word.split_once('/') {
-        return granted(alloc, board, seg(board, bus)?, target);
-    }
-    if let Some((low, high)) = word.split_once('<') {
-        let below = board.is_below(seg(board, low)?, seg(board, high)?);
-        return Ok(format!(in alloc; "{below}")?);
-    }
-    Ok(way(alloc, board, seg(board, word)?)?)
+/// What a word asks about the buses of these numbers.
+#[derive(Clone, Copy)]
+enum Question {
+    /// The way to a bus.
+    Way(u16),
+    /// Where the address of this byte leads on a bus, or where it leads by force.
+    Grant(u16, u8, bool),
+    /// Whether the first bus is below the second.
+    IsBelow(u16, u16),
 }
 
-// The bus of a number.
-fn seg(board: &Board, bus: &str) -> Result<SegId>
-    ensures { IfOk result (λ seg. seg < buses board.now) }
-{
-    let number = bus.parse::<u16>().context("a number")?;
-    board.seg(number).context("no such bus")
+/// Answers words: `BUS` asks for the way to a bus, `BUS/ADDR` where an address leads on it, `BUS/ADDR!` where it leads by
+/// force, and `BUS<HIGH` whether the bus is below another.
+pub fn answer_all(rt: &impl Print, board: &Board, words: &str) -> io::Result<()> {
+    for word in words.split_whitespace() {
+        print!(rt; " ")?;
+        answer(rt, board, word)?;
+    }
+    Ok(())
+}
+
+fn answer(rt: &impl Print, board: &Board, word: &str) -> io::Result<()> {
+    match question_of(word) {
+        Some(Question::Way(bus)) => print_way(rt, board, bus),
+        Some(Question::Grant(bus, addr, force)) => print_grant(rt, board, bus, addr, force),
+        Some(Question::IsBelow(low, high)) => print_below(rt, board, low, high),
+        None => print!(rt; "{word} asks nothing"),
+    }
+}
+
+fn question_of(word: &str) -> Option<Question> {
+    if let Some((bus, target)) = word.split_once('/') {
+        return grant_of(bus, target);
+    }
+    if let Some((low, high)) = word.split_once('<') {
+        return Some(Question::IsBelow(number(low)?, number(high)?));
+    }
+    Some(Question::Way(number(word)?))
+}
+
+fn grant_of(bus: &str, target: &str) -> Option<Question> {
+    match target.strip_suffix('!') {
+        Some(target) => Some(Question::Grant(number(bus)?, byte(target)?, true)),
+        None => Some(Question::Grant(number(bus)?, byte(target)?, false)),
+    }
+}
+
+fn number(word: &str) -> Option<u16> {
+    word.parse().ok()
 }
 
 // Where an address leads.
-fn granted(alloc: Global, board: &Board, seg: SegId, target: &str) -> Result<String>
-    requires { seg < buses board.now }
-{
-    let (addr, force) = match target.strip_suffix('!') {
-        Some(addr) => (addr, true),
-        None => (target, false),
+fn print_grant(rt: &impl Print, board: &Board, bus: u16, addr: u8, force: bool) -> io::Result<()> {
+    let (Some(seg), Some(addr)) = (board.seg(bus), Addr::new(addr)) else {
+        return print!(rt; "no bus {bus} or address {addr:02x}");
     };
-    match board.grant(seg, address(addr)?, force) {
-        Grant::Named(device) => Ok(format!(in alloc; "d{}", device.0)?),
-        Grant::Nobody => Ok(String::from_str(alloc, "nobody")?),
-        Grant::Busy => Ok(String::from_str(alloc, "busy")?),
+    match board.grant(seg, addr, force) {
+        Grant::Named(device) => print!(rt; "d{}", device.0),
+        Grant::Nobody => print!(rt; "nobody"),
+        Grant::Busy => print!(rt; "busy"),
+    }
+}
+
+// Whether a bus is below another.
+fn print_below(rt: &impl Print, board: &Board, low: u16, high: u16) -> io::Result<()> {
+    match (board.seg(low), board.seg(high)) {
+        (Some(low), Some(high)) => print!(rt; "{}", board.is_below(low, high)),
+        _ => print!(rt; "no bus {low} or {high}"),
     }
 }
 
 // The buses of the path to a bus, from the root, with the mux and the channel before each; and what bars the way.
-fn way(alloc: Global, board: &Board, seg: SegId) -> Result<String, AllocError>
-    requires { seg < buses board.now }
-{
-    let mut way = path(alloc, board, seg)?;
+fn print_way(rt: &impl Print, board: &Board, bus: u16) -> io::Result<()> {
+    let Some(seg) = board.seg(bus) else {
+        return print!(rt; "no bus {bus}");
+    };
+    print_path(rt, board, seg)?;
     match board.way(seg) {
-        Way::Clear => {}
-        Way::NoAck(mux) => write!(way, ":no-ack-m{}", mux.0)?,
-        Way::Held(mux) => write!(way, ":held-m{}", mux.0)?,
+        Way::Clear => Ok(()),
+        Way::NoAck(mux) => print!(rt; ":no-ack-m{}", mux.0),
+        Way::Held(mux) => print!(rt; ":held-m{}", mux.0),
     }
-    Ok(way)
 }
 
-// The buses from the root to a bus, each behind its mux and channel.
-fn path(alloc: Global, board: &Board, seg: SegId) -> Result<String, AllocError>
+// The buses from the root to a bus.
+fn print_path(rt: &impl Print, board: &Board, seg: SegId) -> io::Result<()>
     requires { seg < buses board.now }
 {
-    let mut path = String::new(alloc);
     for bus in board.path(seg).iter() {
-        let over = board.seg(bus.0).and_then(|bus| board.over(bus));
-        if let Some((mux, channel)) = over {
-            let hop = format!(in alloc; "-m{}.{channel}-", mux.0)?;
-            path.push_str(hop.as_str())?;
-        }
-        let number = bus.0;
-        write!(path, "{number}")?;
+        print_hop(rt, board, bus.0)?;
     }
-    Ok(path)
+    Ok(())
+}
+
+// A bus, behind its mux and channel.
+fn print_hop(rt: &impl Print, board: &Board, bus: u16) -> io::Result<()> {
+    match board.seg(bus).and_then(|seg| board.over(seg)) {
+        Some((mux, channel)) => print!(rt; "-m{}.{channel}-{bus}", mux.0),
+        None => print!(rt; "{bus}"),
+    }
 }

@@ -1,29 +1,23 @@
-use anyhow::{Context, Result};
 use i2c_base::{Addr, Answer};
-use std::alloc::{AllocError, Global};
+use std::io;
 
 /// A byte in two hexadecimal digits.
-pub fn byte(word: &str) -> Result<u8> {
-    u8::from_str_radix(word, 16).context("a byte")
+pub fn byte(word: &str) -> Option<u8> {
+    u8::from_str_radix(word, 16).ok()
 }
 
 /// An address in hexadecimal digits.
-pub fn address(word: &str) -> Result<Addr> {
-    Addr::new(byte(word)?).context("an address")
+pub fn addr(word: &str) -> Option<Addr> {
+    Addr::new(byte(word)?)
 }
 
-/// What a target answers, or the wires.
-pub fn said(alloc: Global, answer: Answer) -> Result<String, AllocError> {
+/// Prints what a target answers, or the wires.
+pub fn print_said(rt: &impl Print, answer: Answer) -> io::Result<()> {
     match answer {
-        Answer::Ack => String::from_str(alloc, "ack"),
-        Answer::Nack => String::from_str(alloc, "nack"),
-        Answer::Slow => String::from_str(alloc, "slow"),
-        Answer::Byte(byte) => format!(in alloc; "{byte:02x}"),
-        Answer::Nothing => String::from_str(alloc, "."),
+        Answer::Ack => print!(rt; "ack"),
+        Answer::Nack => print!(rt; "nack"),
+        Answer::Slow => print!(rt; "slow"),
+        Answer::Byte(byte) => print!(rt; "{byte:02x}"),
+        Answer::Nothing => print!(rt; "."),
     }
-}
-
-/// Whether a byte was acknowledged.
-pub fn taken(taken: bool) -> Answer {
-    if taken { Answer::Ack } else { Answer::Nack }
 }

@@ -1,7 +1,0 @@
-use denote.Param.Send.{sendable}
-use Rattle.i2c_physics.proofs.SendLemmas.{fail_port-send}
-use Rattle.bus_cases.proofs.case.call.Goals as goal
-
--- a port may go to another thread, with all that it holds
-pub top-status-requires-send-R-P : goal.top-status-requires-send-R-P
-top-status-requires-send-R-P g c κs within = search (sendable, fail_port-send)
