@@ -14,8 +14,8 @@ fn text_of<R: Files + AllocGlobal>(rt: &R, name: &str) -> io::Result<Vec<u8>> {
     fs::read(rt, path.as_str())
 }
 
-// The board that a text spells, which meets the rules.
-fn sealed<R: Print + AllocGlobal>(rt: &R, text: &[u8]) -> io::Result<Accepted> {
+/// The board that a text spells, which meets the rules.
+pub fn sealed<R: Print + AllocGlobal>(rt: &R, text: &[u8]) -> io::Result<Accepted> {
     let board = match read_board(rt.alloc(), text) {
         Ok(board) => board,
         Err(fault) => {

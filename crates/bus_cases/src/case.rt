@@ -46,6 +46,13 @@ impl Case {
         Case::of_room(alloc, 4096)
     }
 
+    /// This call on the first port fails.
+    pub fn failing(alloc: Global, number: u32) -> Result<Self, AllocError> {
+        let mut case = Case::new(alloc);
+        case.fails.push((SegId(0), number))?;
+        Ok(case)
+    }
+
     // Nothing fails in an output of this room.
     fn of_room(alloc: Global, room: usize) -> Self {
         Case {
@@ -123,8 +130,8 @@ pub fn words_of(alloc: Global, text: &str) -> Result<Vec<String>, AllocError> {
     Ok(words)
 }
 
-// The same words again.
-fn copied(alloc: Global, words: &[String]) -> Result<Vec<String>, AllocError>
+/// The same words again.
+pub fn copied(alloc: Global, words: &[String]) -> Result<Vec<String>, AllocError>
     ensures { IfOk result (λ v. map string_bytes v.items ≡ map string_bytes words.now) }
 {
     let mut copy = Vec::new(alloc);

@@ -1,6 +1,7 @@
 use crate::bench::answer_line;
 use crate::case::{Called, Case, Files as Shelf, call, first_other, words_of};
 use crate::entries::print_entry;
+use crate::interleavings::{Race, print_interleavings};
 use crate::mute::print_mute;
 use crate::show::{print_answers, print_called, print_calls};
 use std::alloc::{AllocError, Global};
@@ -21,7 +22,7 @@ pub struct Table {
 }
 
 // The first smaller output that doesn't hold the front of what a call wrote, or that there is none.
-fn print_fronts<H: Print + Threads + Wait + Sync>(
+fn print_fronts<H: Print + AllocGlobal + Threads + Wait + Sync>(
     rt: &H,
     alloc: Global,
     files: &Shelf,
@@ -84,7 +85,7 @@ impl Table {
         Ok(())
     }
 
-    fn take_command<H: Print + Threads + Wait + Sync>(
+    fn take_command<H: Print + AllocGlobal + Threads + Wait + Sync>(
         &mut self,
         rt: &H,
         alloc: Global,
@@ -113,7 +114,7 @@ impl Table {
         println!(rt; "== {name}")
     }
 
-    fn call<H: Print + Threads + Wait + Sync>(
+    fn call<H: Print + AllocGlobal + Threads + Wait + Sync>(
         &mut self,
         rt: &H,
         alloc: Global,
@@ -138,7 +139,7 @@ impl Table {
     }
 
     /// Prints what the last call left.
-    fn show<H: Print + Threads + Wait + Sync>(
+    fn show<H: Print + AllocGlobal + Threads + Wait + Sync>(
         &self,
         rt: &H,
         alloc: Global,
@@ -149,6 +150,7 @@ impl Table {
             return println!(rt; "no call stands before {command}");
         };
         match command {
+            "interleavings" => print_interleavings(rt, Race::open(rt, &self.files, called)?),
             "fronts" => print_fronts(rt, alloc, &self.files, called),
             "calls" => print_calls(rt, alloc, called),
             "device" => print_answers(rt, alloc, called, rest),
