@@ -151,7 +151,11 @@ impl<'r> World<'r> {
 
 impl Race {
     /// The race of a call over these files.
-    pub fn open<R: Print + AllocGlobal>(rt: &R, files: &Files, called: &Called) -> io::Result<Self> {
+    pub fn open<R: Print + AllocGlobal>(
+        rt: &R,
+        files: &Files,
+        called: &Called,
+    ) -> io::Result<Self> {
         let words = called.words.as_slice();
         let board = boards::sealed(rt, text_of(files, word_at(words, 1)).as_bytes())?;
         Ok(Race {
@@ -182,10 +186,12 @@ impl Race {
     /// Whether the replies of a run are those of the flat world, its devices are left as there, and no transfer is left.
     fn agrees(&self, alloc: Global, called: &Called, journal: &str) -> Result<bool, AllocError> {
         let mut world = World::open(alloc, self)?;
-        Ok(matches!(called.status, Status::Ok)
-            && world.follow(alloc, journal)
-            && world.is_over(alloc)
-            && world.has_left(alloc, called.outside.rig.states()))
+        Ok(
+            matches!(called.status, Status::Ok)
+                && world.follow(alloc, journal)
+                && world.is_over(alloc)
+                && world.has_left(alloc, called.outside.rig.states()),
+        )
     }
 }
 
@@ -209,7 +215,10 @@ impl Tally {
     }
 
     fn count(&mut self, journal: &str, agrees: bool) {
-        let replies = journal.lines().filter(|line| line.starts_with("settle ")).count();
+        let replies = journal
+            .lines()
+            .filter(|line| line.starts_with("settle "))
+            .count();
         self.replies = self.replies.saturating_add(replies as u64);
         self.runs = self.runs.saturating_add(1);
         if !agrees {
