@@ -25,6 +25,13 @@ module _ {X Y : Type 0} (told : List X → List Y) (all : List X) where
       let whole : length came + length (x ∷ rest) ≡ length all = sym (length-append came (x ∷ rest)) ∙ ap length over.goes in
       omega (arith, whole)
 
+  -- .. both as a loop has them: its iterator stepped
+  pub room-next : (came items rest : List X) (x : X) (count room : ℕ) (out : List Y) → GoesOver told all came items count out room → items ≡ x ∷ rest → length (told came) ≡ length came → length out < room
+  room-next came items rest x count room out over steps same = over-room came rest x count room out (subst (λ (xs : List X). GoesOver told all came xs count out room) steps over) same
+
+  pub below-next : (came items rest : List X) (x : X) (count room : ℕ) (out : List Y) → GoesOver told all came items count out room → items ≡ x ∷ rest → length came < length all
+  below-next came items rest x count room out over steps = over-below came rest x count room out (subst (λ (xs : List X). GoesOver told all came xs count out room) steps over)
+
   pub over-one : (came rest : List X) (x : X) (y : Y) (count less room : ℕ) (out : List Y) → GoesOver told all came (x ∷ rest) count out room → less + 1 ≡ count
       → told (came ++ x ∷ []) ≡ told came ++ y ∷ [] → GoesOver told all (came ++ x ∷ []) rest less (out ++ y ∷ []) room
   over-one came rest x y count less room out over one tells =

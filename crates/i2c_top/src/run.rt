@@ -25,8 +25,8 @@ fn by_root<P: Port>(alloc: Global, ports: Vec<P>, roots: usize) -> Result<Vec<(S
 {
     let mut by_root = Vec::with_capacity(alloc, roots)?;
     for port in ports {
-        let root = SegId(by_root.len() as u16);
-        by_root.push_reserved((root, port));
+        let number = by_root.len() as u16;
+        by_root.push_reserved((SegId(number), port));
     }
     Ok(by_root)
 }

@@ -1,3 +1,4 @@
+use Rattle.std.proofs.lemmas.Grind.{common_steps}
 use Rattle.std.proofs.Common.{◌≡◌, sym, ap, subst, ◌∙◌, arith, length}
 use Rattle.std.specs.Prelude.{string_bytes}
 use Rattle.std.proofs.lemmas.List.{length-map}
@@ -60,3 +61,42 @@ returns-clause-read g c =
     let count = c.in_ok-scripts.ensures.count ∙ sym (length-map c.args.names.now.scripts.now string_bytes) in
     λ t. has_read _ _ _ names g.S.Shelf.tells c.in_ok-board.board c.in_ok-scripts.scripts.items c.in_ok-words.words.items c.read_accepted.ensures.kept.files c.scripts_in.ensures.kept.files t
     (c.in_ok-board.ensures.board t) count c.in_ok-scripts.ensures.scripts c.callers_of.result (c.callers_of.ensures ∙ ap length c.as_slice.ensures.value ∙ count) (c.in_ok-words.ensures.schedule t)
+
+pub scripts_in-requires-clause-few : goal.scripts_in-requires-clause-few
+scripts_in-requires-clause-few g c = grind (arith, common_steps)
+
+pub callers_of-requires : goal.callers_of-requires
+callers_of-requires g c = grind (arith, common_steps)
+
+pub check_cost-requires : goal.check_cost-requires
+check_cost-requires g c = grind (arith, common_steps)
+
+pub returns-in_err-words-clause-kept : goal.returns-in_err-words-clause-kept
+returns-in_err-words-clause-kept g c = grind (arith, common_steps)
+
+pub returns-clause-few : goal.returns-clause-few
+returns-clause-few g c = grind (arith, common_steps)
+
+pub returns-clause-cheap : goal.returns-clause-cheap
+returns-clause-cheap g c = grind (arith, common_steps)
+
+pub returns-in_err-board-clause-kept : goal.returns-in_err-board-clause-kept
+returns-in_err-board-clause-kept g c = grind (arith, common_steps)
+
+pub returns-in_err-board-clause-unreached : goal.returns-in_err-board-clause-unreached
+returns-in_err-board-clause-unreached g c = grind (arith, common_steps)
+
+pub returns-in_err-scripts-clause-kept : goal.returns-in_err-scripts-clause-kept
+returns-in_err-scripts-clause-kept g c = grind (arith, common_steps)
+
+pub returns-in_err-scripts-clause-unreached : goal.returns-in_err-scripts-clause-unreached
+returns-in_err-scripts-clause-unreached g c = grind (arith, common_steps)
+
+pub returns-in_err-words-clause-unreached : goal.returns-in_err-words-clause-unreached
+returns-in_err-words-clause-unreached g c = grind (arith, common_steps)
+
+pub returns-in_err-check_cost-clause-unreached : goal.returns-in_err-check_cost-clause-unreached
+returns-in_err-check_cost-clause-unreached g c = grind (arith, common_steps)
+
+pub returns-in_err-board-clause-refused : goal.returns-in_err-board-clause-refused
+returns-in_err-board-clause-refused g c = grind (arith, common_steps)

@@ -1,3 +1,4 @@
+use Rattle.std.proofs.lemmas.Grind.{common_steps}
 use Rattle.std.proofs.Common.{sym, subst, inl, inr, arith, refl, map, ◌<◌}
 use Rattle.std.specs.Prelude.{string_bytes}
 use Rattle.std.proofs.lemmas.List.{length-map}
@@ -42,3 +43,9 @@ loop-caller-preserved g c =
           (subst (λ n. at.caller < n) (sym (length-map c.args.names.now string_bytes)) c.loop-caller-test.true) c.name_of-name.ensures.value c.in_ok-push.ensures.items at.invariant.scripts
           c.in_ok-script.ensures.opened c.in_ok-script.ensures.script;
     }
+
+pub script_in-requires-clause-named : goal.script_in-requires-clause-named
+script_in-requires-clause-named g c = grind (arith, common_steps)
+
+pub returns-clause-kept : goal.returns-clause-kept
+returns-clause-kept g c = grind (arith, common_steps)

@@ -1,3 +1,5 @@
+use Rattle.std.proofs.Common.{arith}
+use Rattle.std.proofs.lemmas.Grind.{common_steps}
 use Rattle.i2c_top.specs.Requests.{Check, NoForm}
 use Rattle.i2c_top.specs.Traces.{rig_view}
 use Rattle.i2c_top.proofs.EndingLemmas.{ended_formless, ended_same}
@@ -16,3 +18,30 @@ returns-in-Check-clause-ended g c = checked g c
 
 pub returns-in-NoForm-clause-ended : goal.returns-in-NoForm-clause-ended
 returns-in-NoForm-clause-ended g c = formless g c
+
+pub replay_call-requires-clause-some : goal.replay_call-requires-clause-some
+replay_call-requires-clause-some g c = grind (arith, common_steps)
+
+pub replay_call-requires-clause-most : goal.replay_call-requires-clause-most
+replay_call-requires-clause-most g c = grind (arith, common_steps)
+
+pub replay_call-requires-clause-board : goal.replay_call-requires-clause-board
+replay_call-requires-clause-board g c = grind (arith, common_steps)
+
+pub replay_call-requires-clause-schedule : goal.replay_call-requires-clause-schedule
+replay_call-requires-clause-schedule g c = grind (arith, common_steps)
+
+pub replay_call-requires-clause-scripts : goal.replay_call-requires-clause-scripts
+replay_call-requires-clause-scripts g c = grind (arith, common_steps)
+
+pub returns-in-Replay-clause-ended : goal.returns-in-Replay-clause-ended
+returns-in-Replay-clause-ended g c = grind (arith, common_steps)
+
+pub returns-in-Replay-clause-unplugged : goal.returns-in-Replay-clause-unplugged
+returns-in-Replay-clause-unplugged g c = grind (arith, common_steps)
+
+pub returns-in-Replay-clause-success : goal.returns-in-Replay-clause-success
+returns-in-Replay-clause-success g c = grind (arith, common_steps)
+
+pub returns-in-Replay-clause-checked : goal.returns-in-Replay-clause-checked
+returns-in-Replay-clause-checked g c = grind (arith, common_steps)

@@ -1,5 +1,16 @@
+use Rattle.std.proofs.lemmas.Grind.{common_steps}
+use Rattle.std.proofs.Common.{arith}
 use Rattle.i2c_top.proofs.ReplayLemmas.{has_files, has_reports, replay_done, replay_failed}
 use Rattle.i2c_top.proofs.replay.replay.Goals as goal
+
+pub returns-in_err-board-clause-kept : goal.returns-in_err-board-clause-kept
+returns-in_err-board-clause-kept g c = c.read_files.ensures.kept
+
+pub returns-in_err-board-clause-refused : goal.returns-in_err-board-clause-refused
+returns-in_err-board-clause-refused g c = grind (arith, common_steps)
+
+pub returns-clause-kept : goal.returns-clause-kept
+returns-clause-kept g c = c.read_files.ensures.kept
 
 pub returns-clause-report : goal.returns-clause-report
 returns-clause-report g c =
