@@ -1,5 +1,5 @@
 -- A command that is read is in range: its words are a line of the grammar, and what that means is in range.
-use Rattle.std.proofs.Common.{◌≡◌, ℕ, Bool, true, false, cond, List, Option, Some, None, refl, ap, ◌∙◌}
+use Rattle.std.proofs.Common.{◌≡◌, ℕ, Bool, true, false, cond, List, Some, None, refl, ap, ◌∙◌}
 use Rattle.std.specs.Prelude.{Result, Ok, Err}
 use Rattle.tool_words.specs.Commands.{ReadsLines, MeansInRange, is_command, some_command, line_read}
 use Rattle.tool_words.specs.Fronts.{words_of}

@@ -42,13 +42,6 @@ struct Tally {
     differ: u64,
 }
 
-/// The flat world, and what the two callers ask for in it.
-#[derive(Drop)]
-struct World<'r> {
-    flat: Flat<'r>,
-    askers: [Asker<'r>; 2],
-}
-
 /// The word at a place of a call.
 fn word_at(words: &[String], place: usize) -> &str {
     match words.get(place) {
@@ -91,62 +84,61 @@ fn is_settle(alloc: Global, caller: u8, reply: Reply, cut: Cut, line: &str) -> b
     }
 }
 
-impl<'r> World<'r> {
-    fn open(alloc: Global, race: &'r Race) -> Result<Self, AllocError> {
-        let flat = Flat::open(alloc, &race.board).map_err(|_| AllocError)?;
-        let asker = |place| Asker::of(text_of(&race.files, word_at(race.words.as_slice(), place)));
-        Ok(World {
-            flat,
-            askers: [asker(3), asker(4)],
-        })
-    }
+/// Does the next transfer of a caller in the flat world, where it has one, and gives the reply.
+fn reply_of(
+    alloc: Global,
+    flat: &mut Flat<'_>,
+    askers: &mut [Asker<'_>],
+    caller: u8,
+    cut: Cut,
+) -> Option<Reply> {
+    let Some(asker) = askers.get_mut(usize::from(caller)) else {
+        return None;
+    };
+    let Some(transfer) = asker.next(alloc) else {
+        return None;
+    };
+    let reply = flat.apply(&transfer, cut);
+    asker.take(alloc, &reply);
+    Some(reply)
+}
 
-    /// Does the next transfer of a caller, where it has one, and gives the reply.
-    fn reply(&mut self, alloc: Global, caller: u8, cut: Cut) -> Option<Reply> {
-        let asker = self.askers.get_mut(usize::from(caller))?;
-        let reply = self.flat.apply(&asker.next(alloc)?, cut);
-        asker.take(alloc, &reply);
-        Some(reply)
+/// Does what a line of a journal settles in the flat world too. Whether the line is the one of that reply; of other lines,
+/// whether they tell an entry.
+fn follow_line(alloc: Global, flat: &mut Flat<'_>, askers: &mut [Asker<'_>], line: &str) -> bool {
+    match read_entry(alloc, line.as_bytes()) {
+        Ok(Entry::Settle { caller, cut, .. }) => match reply_of(alloc, flat, askers, caller, cut) {
+            Some(reply) => is_settle(alloc, caller, reply, cut, line),
+            None => false,
+        },
+        Ok(_) => true,
+        Err(_) => false,
     }
+}
 
-    /// Does what a line of a journal settles. Whether the line is the one of that reply; of other lines, whether they tell
-    /// an entry.
-    fn follow_line(&mut self, alloc: Global, line: &str) -> bool {
-        match read_entry(alloc, line.as_bytes()) {
-            Ok(Entry::Settle { caller, cut, .. }) => match self.reply(alloc, caller, cut) {
-                Some(reply) => is_settle(alloc, caller, reply, cut, line),
-                None => false,
-            },
-            Ok(_) => true,
-            Err(_) => false,
+/// Does what a journal settles. Whether each of its lines is as it is due.
+fn follow(alloc: Global, flat: &mut Flat<'_>, askers: &mut [Asker<'_>], journal: &str) -> bool {
+    for line in journal.lines() {
+        if !follow_line(alloc, flat, askers, line) {
+            return false;
         }
     }
+    true
+}
 
-    /// Does what a journal settles. Whether each of its lines is as it is due.
-    fn follow(&mut self, alloc: Global, journal: &str) -> bool {
-        for line in journal.lines() {
-            if !self.follow_line(alloc, line) {
-                return false;
-            }
+/// No caller has a transfer left to ask for.
+fn are_over(alloc: Global, askers: &[Asker<'_>]) -> bool {
+    askers.iter().all(|asker| asker.next(alloc).is_none())
+}
+
+/// These devices are in the same states.
+fn same_devices(alloc: Global, devices: &[DeviceState], others: &[DeviceState]) -> bool {
+    for (one, other) in devices.iter().zip(others.iter()) {
+        if !same_device(alloc, one, other) {
+            return false;
         }
-        true
     }
-
-    /// No caller has a transfer left to ask for.
-    fn is_over(&self, alloc: Global) -> bool {
-        self.askers.iter().all(|asker| asker.next(alloc).is_none())
-    }
-
-    /// These devices are left.
-    fn has_left(&self, alloc: Global, devices: &[DeviceState]) -> bool {
-        let own = self.flat.states();
-        for (one, other) in own.iter().zip(devices.iter()) {
-            if !same_device(alloc, one, other) {
-                return false;
-            }
-        }
-        own.len() == devices.len()
-    }
+    devices.len() == others.len()
 }
 
 impl Race {
@@ -183,14 +175,24 @@ impl Race {
         call(rt, alloc, case, &self.files, words)
     }
 
+    /// A script of the two, which was asked for nothing yet.
+    fn asker(&self, place: usize) -> Asker<'_> {
+        Asker::of(text_of(&self.files, word_at(self.words.as_slice(), place)))
+    }
+
     /// Whether the replies of a run are those of the flat world, its devices are left as there, and no transfer is left.
     fn agrees(&self, alloc: Global, called: &Called, journal: &str) -> Result<bool, AllocError> {
-        let mut world = World::open(alloc, self)?;
+        let Ok(mut flat) = Flat::open(alloc, &self.board) else {
+            return Err(AllocError);
+        };
+        let mut askers = [self.asker(3), self.asker(4)];
+        if !follow(alloc, &mut flat, &mut askers, journal) {
+            return Ok(false);
+        }
         Ok(
             matches!(called.status, Status::Ok)
-                && world.follow(alloc, journal)
-                && world.is_over(alloc)
-                && world.has_left(alloc, called.outside.rig.states()),
+                && are_over(alloc, &askers)
+                && same_devices(alloc, flat.states(), called.outside.rig.states()),
         )
     }
 }
