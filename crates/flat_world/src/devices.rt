@@ -29,7 +29,7 @@ pub struct Devices {
 
 impl Model for Devices {
     ghost use Rattle.i2c_spec.specs.Flat.{FlatListener};
-        ghost use Rattle.flat_world.specs.Devices.{AreNamed};
+    ghost use Rattle.flat_world.specs.Devices.{AreNamed};
 
     ghost Value = { FlatListener };
 
