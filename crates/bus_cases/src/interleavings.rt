@@ -231,7 +231,7 @@ impl Tally {
     fn print(&self, rt: &impl Print, what: &str) -> io::Result<()> {
         let (runs, journals) = (self.runs, self.journals.len());
         let (replies, differ) = (self.replies, self.differ);
-        println!(rt; "{runs} {what}: {journals} journals, {replies} replies, {differ} differ")
+        print!(rt; "{runs} {what}: {journals} journals, {replies} replies, {differ} differ")
     }
 }
 
@@ -292,12 +292,15 @@ fn each_failing_call<H: Threads + Wait + Sync>(
     Ok(tally)
 }
 
-/// Runs the two callers of a call with each call on the first port failing in turn, and then by each short schedule, and
-/// prints how many of the runs aren't those of the flat world.
+/// Runs the two callers of a call by each short schedule, and by its own one with each call on the first port failing in turn,
+/// and prints in a line how many of the runs aren't those of the flat world.
 pub fn print_interleavings<H: Print + AllocGlobal + Threads + Wait + Sync>(
     rt: &H,
     mut race: Race,
 ) -> io::Result<()> {
-    each_failing_call(rt, rt.alloc(), &race)?.print(rt, "failing calls")?;
-    each_schedule(rt, rt.alloc(), &mut race)?.print(rt, "schedules")
+    let failing = each_failing_call(rt, rt.alloc(), &race)?;
+    each_schedule(rt, rt.alloc(), &mut race)?.print(rt, "schedules")?;
+    print!(rt; "; ")?;
+    failing.print(rt, "failing calls")?;
+    println!(rt;)
 }

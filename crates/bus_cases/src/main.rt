@@ -15,9 +15,9 @@
 //! - `device N EVENT..`: prints what device N, as the rig kept it, answers to these events
 //! - `mute`: what the program's own output answers where what is behind it takes nothing
 //! - `entry LINE`: reads a line of a journal back, and prints the line of its entry, or that it tells none
-//! - `interleavings`: replays the two scripts of the last call with each call on the first port failing in turn, and by each
-//!   schedule of 1 to 12 words. Prints of both how many runs there were, how many of their journals are different, how many
-//!   replies they have, and how many of the runs aren't those of the flat world
+//! - `interleavings`: replays the two scripts of the last call by each schedule of 1 to 12 words, and by their own with each
+//!   call on the first port failing in turn. Prints of both, in a line, how many runs there were, how many of their journals
+//!   are different, how many replies they have, and how many of the runs aren't those of the flat world
 //!
 //! Then come worked examples of what stands below the core. Each is a front, a colon and words, and is answered by a line
 //! of the same front with an answer for each word:

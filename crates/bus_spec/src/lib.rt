@@ -4,12 +4,10 @@
 //! The definitions stand in `specs/`, a file for each subject. A journal's past is read newest entry first.
 #![tactic(auto)]
 
-mod holding;
 mod paths;
 mod rows;
 mod walk_rows;
 
-pub use holding::holder_of;
 pub use paths::{
     a_job_stands_between_its_locks, a_journal_keeps_the_walk_rule, each_walk_keeps_the_walk_rule,
 };
