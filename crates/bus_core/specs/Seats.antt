@@ -1,5 +1,6 @@
 -- What the steps of a core leave of a seat.
 use Rattle.std.specs.Prelude.{◌≡◌, ℕ, ◌+◌, ◌<◌, ◌≤◌, Bool, true, false, List, [], ◌∷◌, ◌++◌, length, set, take, sum_by, Option, Some, None, slice_get, if◌then◌else◌}
+use Rattle.i2c_base.specs.Limits.{MOST_BYTES}
 use Rattle.i2c_base.specs.declared.caller.Caller.{Ghosts as CallerGhosts}
 use Rattle.i2c_base.specs.declared.entry.End.{End}
 use Rattle.i2c_base.specs.declared.entry.Entry.TheVariants as entry
@@ -105,7 +106,7 @@ pub record MayHear {C : Type 0} (next : Sending) (reading : Bool) (bytes : List 
   pub wrote : s.written ≡ sum_by written_of (take s.sent s.transfer.msgs)
   pub part : 0 < next.part
   pub more : is_call_through next.purpose e ≡ true → s.sent < length s.transfer.msgs
-  pub room : next.purpose ≡ purpose.Call → reading ≡ true → length s.replies.got + length bytes ≤ 4096
+  pub room : next.purpose ≡ purpose.Call → reading ≡ true → length s.replies.got + length bytes ≤ MOST_BYTES
 
 -- the reads of the caller's own messages are kept
 abbrev pub got_heard : Purpose → Bool → List ℕ → List ℕ → List ℕ

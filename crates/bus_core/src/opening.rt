@@ -10,7 +10,7 @@ ghost use Rattle.bus_core.specs.Opens.{numbers_in, MayOpen, IsOpenedWith, IsFres
 use crate::parts::CoreParts;
 use crate::seat::Seat;
 use bus_journal::Journal;
-use i2c_base::{ByteList, Caller, NoMemory, SegId};
+use i2c_base::{ByteList, Caller, MOST_CALLERS, NoMemory, SegId};
 use i2c_board::{Accepted, Board};
 use i2c_outside::Port;
 use mux_plan::Dues;
@@ -51,7 +51,7 @@ fn seat_of<P: Port, C: Caller>(
 fn no_places(alloc: Global) -> Result<Vec<Option<u8>>, NoMemory>
     ensures { IfOk result (λ places. places.items ≡ replicate MOST_CALLERS None) }
 {
-    let places = vec![in alloc; None; 8]?;
+    let places = vec![in alloc; None; usize::from(MOST_CALLERS)]?;
     Ok(places)
 }
 

@@ -1,4 +1,5 @@
 ghost use Rattle.std.specs.Prelude.{◌≡◌, ◌+◌, ◌≤◌, ◌++◌, [], length};
+ghost use Rattle.i2c_base.specs.Limits.{MOST_BYTES};
 ghost use Rattle.bus_core.specs.Replies.{reply_decided};
 
 use i2c_base::{Bytes, Errno, Reply};
@@ -59,7 +60,7 @@ impl Replies {
 
     /// Puts bytes that were read at the end.
     pub fn extend(&mut self, bytes: &[u8])
-        requires { length self.old.got + length bytes.now ≤ 4096 }
+        requires { length self.old.got + length bytes.now ≤ MOST_BYTES }
         ensures { self.new ≡ record self.old { got = self.old.got ++ bytes.now } }
     {
         match &mut self.read {

@@ -1,4 +1,5 @@
 ghost use Rattle.std.specs.Prelude.{◌≡◌, ◌≢◌, ◌+◌, ◌<◌, ◌≤◌, ℕ, true, false, List, [], ◌∷◌, ◌++◌, length, take, sum_by, Option, None, Some, IfSome, slice_get, if◌then◌else◌};
+ghost use Rattle.i2c_base.specs.Limits.{MOST_BYTES};
 ghost use Rattle.i2c_base.specs.declared.reply.Cut.TheVariants as cut_at;
 ghost use Rattle.i2c_base.specs.declared.entry.Purpose.TheVariants as purpose;
 ghost use Rattle.std.specs.List.{list_any};
@@ -225,7 +226,7 @@ impl<C: Caller> Seat<C> {
 
     /// Keeps what a message of the caller's own has read.
     pub fn gather(&mut self, why: Purpose, reading: bool, bytes: &[u8])
-        requires { why ≡ purpose.Call → reading ≡ true → length self.old.replies.got + length bytes.now ≤ 4096 }
+        requires { why ≡ purpose.Call → reading ≡ true → length self.old.replies.got + length bytes.now ≤ MOST_BYTES }
         ensures got { self.new.replies ≡ record self.old.replies { got = got_heard why reading bytes.now self.old.replies.got } }
         ensures same { self.new ≡ record self.old { replies = self.new.replies } }
     {

@@ -1,4 +1,5 @@
 ghost use Rattle.std.specs.Prelude.{◌≡◌, ◌+◌, ◌<◌, ◌≤◌, true, false, length, None, Some, Option};
+ghost use Rattle.i2c_base.specs.Limits.{MOST_LENGTH};
 ghost use Rattle.i2c_base.specs.declared.errno.Errno.{Errno};
 ghost use Rattle.i2c_base.specs.Board.{BoardView};
 ghost use Rattle.i2c_base.specs.declared.reply.Cut.TheVariants as cut_at;
@@ -199,7 +200,7 @@ pub fn say<P: Port, C: Caller>(
 
 /// The entry of a message, of which this came.
 pub fn message_entry<'a>(caller: u8, next: &Sending, sent: &Sent, bytes: &'a [u8]) -> EntryRef<'a>
-    requires { length bytes.now ≤ 512 }
+    requires { length bytes.now ≤ MOST_LENGTH }
     ensures seen { entry_seen result ≡ entry.Message caller next.now.bus next.now.purpose next.now.part next.now.parts sent.now.addr sent.now.reading bytes.now sent.now.heard sent.now.end }
     ensures bytes { result.bytes.now ≡ bytes.now }
     ensures few { length result.bytes.now ≤ most_bytes result.head }

@@ -1,5 +1,6 @@
 -- The entry that an entry with borrowed bytes stands for, and how many bytes it may have.
 use Rattle.std.specs.Prelude.{ℕ, List, []}
+use Rattle.i2c_base.specs.Limits.{MOST_BYTES, MOST_LENGTH}
 use Rattle.i2c_base.specs.declared.reply.Reply.{Reply}
 use Rattle.i2c_base.specs.declared.reply.Reply.TheVariants as reply
 use Rattle.i2c_base.specs.declared.entry.Entry.{Entry}
@@ -34,12 +35,12 @@ bytes_replied (reply.Err errno) = []
 -- a transfer reads at most 4,096 bytes, a message has at most 512, and no other entry has any
 abbrev pub most_read : ReplyHead → ℕ
 most_read answer.Done = 0
-most_read answer.Read = 4096
+most_read answer.Read = MOST_BYTES
 most_read (answer.Err errno) = 0
 
 abbrev pub most_bytes : Head → ℕ
 most_bytes (head.Take caller lock) = 0
 most_bytes (head.Free caller lock) = 0
-most_bytes (head.Message caller bus purpose part parts addr reading heard end) = 512
+most_bytes (head.Message caller bus purpose part parts addr reading heard end) = MOST_LENGTH
 most_bytes (head.Line caller mux level failed) = 0
 most_bytes (head.Settle caller a cut) = most_read a

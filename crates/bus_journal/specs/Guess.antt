@@ -2,6 +2,7 @@
 -- some entry, whose text is another line.
 use Rattle.std.specs.Prelude.{ℕ, ◌+◌, ◌-◌, ◌*◌, ◌%◌, nat_lt, Bool, cond, ◌==◌, ◌&&◌, ◌||◌, List, [], ◌∷◌, length, take, drop, get_or, Option, Some, None}
 use Rattle.bus_spec.specs.Lines.{errno_text}
+use Rattle.i2c_base.specs.Limits.{MOST_BYTES, MOST_LENGTH}
 use Rattle.i2c_base.specs.declared.ids.LockId.{LockId}
 use Rattle.i2c_base.specs.declared.ids.LockId.TheVariants as lock
 use Rattle.i2c_base.specs.declared.ids.Node.{Node}
@@ -100,7 +101,7 @@ errno_of text =
 unfoldable pub reply_of : List ℕ → Reply
 reply_of text =
     cond (byte_at 0 text == 100) reply.Done
-    (cond (byte_at 0 text == 114) (reply.Read (take 4096 (bytes_of (drop 4 text)))) (reply.Err (errno_of text)))
+    (cond (byte_at 0 text == 114) (reply.Read (take MOST_BYTES (bytes_of (drop 4 text)))) (reply.Err (errno_of text)))
 
 unfoldable pub behind_reply : List ℕ → List ℕ
 behind_reply text =
@@ -129,7 +130,7 @@ message_of text =
     let bytes = drop 4 addr in
     let heard = drop 8 (behind_list bytes) in
     entry.Message (caller_of text) (number_of bus) (purpose_of purpose) (number_of part % 256) (number_of parts % 256)
-    (get_or (bytes_of addr) 0 0) (byte_at 0 words == 114) (take 512 (bytes_of bytes)) (heard_of heard) (end_of (behind_heard heard))
+    (get_or (bytes_of addr) 0 0) (byte_at 0 words == 114) (take MOST_LENGTH (bytes_of bytes)) (heard_of heard) (end_of (behind_heard heard))
 
 unfoldable pub line_of : List ℕ → Entry
 line_of text =

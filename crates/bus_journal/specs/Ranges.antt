@@ -3,6 +3,7 @@ use Rattle.std.specs.Prelude.{⊤, ◌≡◌, ℕ, ◌<◌, ◌≤◌, List, len
 use Rattle.bus_spec.specs.Lines.{entry_line}
 use Rattle.i2c_base.specs.Addr.{IsTargetAddress}
 use Rattle.i2c_base.specs.Bytes.{AreBytes}
+use Rattle.i2c_base.specs.Limits.{MOST_BYTES, MOST_LENGTH}
 use Rattle.i2c_base.specs.declared.ids.LockId.{LockId}
 use Rattle.i2c_base.specs.declared.ids.LockId.TheVariants as lock
 use Rattle.i2c_base.specs.declared.ids.Node.{Node}
@@ -51,7 +52,7 @@ IsRun most bytes = AreBytes bytes × (length bytes ≤ most)
 
 -- a transfer reads at most 4,096 bytes
 abbrev pub IsReply : Reply → Type 0
-IsReply (reply.Read bytes) = IsRun 4096 bytes
+IsReply (reply.Read bytes) = IsRun MOST_BYTES bytes
 IsReply _ = ⊤
 
 abbrev pub IsCut : Cut → Type 0
@@ -66,7 +67,7 @@ pub record IsMessage (caller bus : ℕ) (purpose : Purpose) (part parts addr : �
   pub part_is : IsSmall part
   pub parts_is : IsSmall parts
   pub addr_is : IsTargetAddress addr
-  pub bytes_is : IsRun 512 bytes
+  pub bytes_is : IsRun MOST_LENGTH bytes
   pub heard_is : IsHeard heard
   pub end_is : IsEnd end
 

@@ -2,6 +2,7 @@ ghost use Rattle.std.specs.Prelude.{◌≡◌, ◌⊎◌, take, drop, IfOk};
 ghost use Rattle.bus_spec.specs.Lines.{entry_line};
 ghost use Rattle.bus_journal.specs.Guess.{caller_of, behind_number, bytes_of, lock_of, purpose_of, behind_purpose, heard_of, behind_heard, end_of, errno_of, reply_of, behind_reply, cut_of, behind_list, message_of, line_of, settle_of, entry_of};
 ghost use Rattle.bus_journal.specs.Ranges.{IsEntry};
+ghost use Rattle.i2c_base.specs.Limits.{MOST_LENGTH};
 ghost use Rattle.i2c_base.specs.declared.entry.Entry.{Entry};
 
 use crate::cursor::Cursor;
@@ -147,7 +148,7 @@ fn read_cut(text: &mut Cursor) -> Cut
 // The bytes of a message, from their bracket on.
 #[tactic(auto, using(std::proofs::lemmas::Bool::Decides::nat_tests), unfolding(crate::specs::Guess::behind_list))]
 fn read_list(text: &mut Cursor) -> ByteList
-    ensures bytes { result ≡ take 512 (bytes_of text.old) }
+    ensures bytes { result ≡ take MOST_LENGTH (bytes_of text.old) }
     ensures rest { text.new ≡ behind_list text.old }
 {
     let bytes = text.bytes();

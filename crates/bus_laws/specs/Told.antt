@@ -1,6 +1,7 @@
 -- What a journal tells of the worlds: which channels are open. It knows nothing of walks and callers.
 use Rattle.std.specs.Prelude.{◌≡◌, ℕ, ◌≤◌, true, false, ◌⊎◌, length, Option, Some, None, slice_get}
 use Rattle.i2c_base.specs.Board.{BoardView}
+use Rattle.i2c_base.specs.Limits.{POLLS}
 use Rattle.i2c_spec.specs.Tree.{Hop, root_of, home_of_mux, is_absent, is_held, of_mux}
 use Rattle.i2c_spec.specs.Chips.{ChipView, is_open, is_free}
 use Rattle.i2c_spec.specs.World.{World}
@@ -33,7 +34,7 @@ pub record ChipsTold (b : BoardView) (v : Slots) (chips : ℕ → Option ChipVie
   pub opened : (p : ℕ) (h : Hop) → (v p).slot ≡ Selected h
       → (x : ChipView) × (chips h.mux ≡ Some x) × (is_open x h.channel ≡ true) × (home_of_mux b h.mux ≡ p) × (is_absent b h.mux ≡ false) × (is_held b h.mux ≡ false)
   -- an arbitrator that is asked is found taken at most so many times more, or is held for good; one that was found free is free
-  pub polled : (p : ℕ) (h : Hop) (n : ℕ) (x : ChipView) → (v p).slot ≡ Polled h n → chips h.mux ≡ Some x → (x.left ≤ n) ⊎ (x.foreign ≡ 8)
+  pub polled : (p : ℕ) (h : Hop) (n : ℕ) (x : ChipView) → (v p).slot ≡ Polled h n → chips h.mux ≡ Some x → (x.left ≤ n) ⊎ (x.foreign ≡ POLLS)
   pub found : (p : ℕ) (h : Hop) (x : ChipView) → (v p).slot ≡ Found h → chips h.mux ≡ Some x → is_free x ≡ true
   pub asked : (p : ℕ) (h : Hop) (n : ℕ) → (v p).slot ≡ Polled h n → home_of_mux b h.mux ≡ p
   pub free : (p : ℕ) (h : Hop) → (v p).slot ≡ Found h → home_of_mux b h.mux ≡ p

@@ -1,6 +1,6 @@
 -- Where a conversation over a port stands while it is had, and what a read gives.
-use Rattle.std.specs.Prelude.{◌≡◌, ℕ, ◌+◌, ◌<◌, ◌≤◌, true, false, List, ◌++◌, Option, length, reverse, MatchBool}
-use Rattle.i2c_base.specs.Fitting.{count_of}
+use Rattle.std.specs.Prelude.{◌≡◌, ℕ, ◌<◌, ◌≤◌, true, false, List, ◌++◌, Option, length, reverse}
+use Rattle.i2c_base.specs.Limits.{LARGEST_BLOCK, MOST_LENGTH}
 use Rattle.i2c_base.specs.declared.port.PortCall.{PortCall}
 use Rattle.i2c_base.specs.declared.port.PortCall.TheVariants as call
 use Rattle.i2c_base.specs.declared.entry.End.TheVariants as end
@@ -26,10 +26,10 @@ pub record Reaches (whole : TalkTold World) (left : Said World → TalkTold Worl
 -- length tells, and it moves at most 512
 pub record IsSendable (limit : ℕ) (m : MessageView) : Type 0 where
   pub low : 1 ≤ limit
-  pub high : limit ≤ 255
+  pub high : limit ≤ LARGEST_BLOCK
   pub some : m.reading ≡ true → 0 < m.len
   pub written : length m.bytes ≤ m.len
-  pub short : bytes_most limit m ≤ 512
+  pub short : bytes_most limit m ≤ MOST_LENGTH
 
 -- what is left behind a count of 0 or above the limit: one byte more, and a stop
 abbrev pub over_limit : Option ℕ → Said World → TalkTold World

@@ -1,6 +1,6 @@
 ghost use Rattle.std.specs.Prelude.{◌≡◌, ◌⊎◌, ℕ, ◌+◌, ◌<◌, ◌≤◌, ◌==◌, ◌||◌, nat_lt, true, false, List, [], None, length, IsTrue};
 ghost use Rattle.i2c_base.specs.Fitting.{count_of};
-ghost use Rattle.i2c_base.specs.Limits.{MOST_CALLS};
+ghost use Rattle.i2c_base.specs.Limits.{LARGEST_BLOCK, MOST_CALLS, MOST_LENGTH};
 ghost use Rattle.i2c_base.specs.Phases.{MayStart, MayStop, AnswersStart, phase_started};
 ghost use Rattle.i2c_base.specs.declared.port.Phase.{Phase};
 ghost use Rattle.i2c_base.specs.declared.port.PortCall.{PortCall};
@@ -103,7 +103,7 @@ fn through<P: Port>(port: &mut P, calls: u16, last: bool) -> Told
 fn put_all<P: Port>(port: &mut P, bytes: &[u8], last: bool, sent: &mut ByteList) -> Told
     requires phase { P.phase port.old ≡ Phase.Writing }
     requires none { sent.old ≡ [] }
-    requires short { length bytes.now ≤ 512 }
+    requires short { length bytes.now ≤ MOST_LENGTH }
     requires room { IsTrue P.tells → length (P.log port.old) + length bytes.now < MOST_CALLS }
     ensures start { MayStart (P.phase port.new) }
     ensures idle { (P.phase port.new ≡ Phase.Idle) ⊎ ((last ≡ false) × (result.end ≡ End.Ok)) }
@@ -142,7 +142,7 @@ fn get_all<P: Port>(port: &mut P, calls: u16, len: u16, last: bool, got: &mut By
     requires phase { P.phase port.old ≡ Phase.Reading }
     requires some { 0 < len }
     requires calls { calls ≤ 2 }
-    requires short { length got.old + len ≤ 512 }
+    requires short { length got.old + len ≤ MOST_LENGTH }
     requires room { IsTrue P.tells → length (P.log port.old) + len < MOST_CALLS }
     ensures start { MayStart (P.phase port.new) }
     ensures idle { (P.phase port.new ≡ Phase.Idle) ⊎ ((last ≡ false) × (result.end ≡ End.Ok)) }
@@ -216,8 +216,8 @@ fn get_counted<P: Port>(port: &mut P, limit: u16, len: u16, last: bool, got: &mu
     requires phase { P.phase port.old ≡ Phase.Reading }
     requires none { got.old ≡ [] }
     requires some { 0 < len }
-    requires limit { (1 ≤ limit) × (limit ≤ 255) }
-    requires short { limit + len ≤ 512 }
+    requires limit { (1 ≤ limit) × (limit ≤ LARGEST_BLOCK) }
+    requires short { limit + len ≤ MOST_LENGTH }
     requires room { IsTrue P.tells → length (P.log port.old) + limit + len < MOST_CALLS }
     ensures start { MayStart (P.phase port.new) }
     ensures idle { (P.phase port.new ≡ Phase.Idle) ⊎ ((last ≡ false) × (result.end ≡ End.Ok)) }

@@ -1,4 +1,5 @@
 ghost use Rattle.std.specs.Prelude.{◌≡◌, ◌<◌, ◌≤◌, ℕ, true, length, take, drop, sum_by, ◌+◌};
+ghost use Rattle.i2c_base.specs.Limits.{LARGEST_BLOCK};
 ghost use Rattle.i2c_base.specs.Transfer.{written_of};
 ghost use Rattle.core_laws.specs.Sends.{call_message, ends_with, is_call_through};
 ghost use Rattle.bus_message.specs.Talks.{IsSendable};
@@ -99,7 +100,7 @@ impl<'a> CallOf<'a> {
         requires more { self.now.sent < length self.now.transfer.msgs }
         requires wrote { self.now.written ≡ sum_by written_of (take self.now.sent self.now.transfer.msgs) }
         ensures value { result ≡ call_message self.now.transfer self.now.sent }
-        ensures sendable { (limit : ℕ) → 1 ≤ limit → limit ≤ 255 → IsSendable limit result }
+        ensures sendable { (limit : ℕ) → 1 ≤ limit → limit ≤ LARGEST_BLOCK → IsSendable limit result }
     {
         let msg = self.transfer.msgs()[usize::from(self.sent)];
         let len = written_len(&msg);

@@ -2,7 +2,7 @@ ghost use Rattle.std.specs.Prelude.{◌≡◌, ℕ, ◌+◌, ◌<◌, ◌≤◌,
 ghost use Rattle.i2c_base.specs.declared.entry.End.{End};
 ghost use Rattle.i2c_base.specs.declared.entry.Purpose.TheVariants as purpose;
 ghost use Rattle.i2c_base.specs.declared.transfer.Msg.{Msg};
-ghost use Rattle.i2c_base.specs.Limits.{MOST_CALLS};
+ghost use Rattle.i2c_base.specs.Limits.{LARGEST_BLOCK, MOST_CALLS};
 ghost use Rattle.i2c_base.specs.Phases.{MayStart};
 ghost use Rattle.i2c_base.specs.Transfer.{TransferView, is_read};
 ghost use Rattle.i2c_spec.specs.Messages.{message_with};
@@ -70,7 +70,7 @@ fn switch<P: Port>(
     bytes: &mut ByteList,
 ) -> Told
     requires start { MayStart (P.phase port.old) }
-    requires limit { (1 ≤ limit) × (limit ≤ 255) }
+    requires limit { (1 ≤ limit) × (limit ≤ LARGEST_BLOCK) }
     requires room { IsTrue P.tells → length (P.log port.old) + bytes_most limit (control_message addr byte) + 2 ≤ MOST_CALLS }
     ensures said { (root : ℕ) → Said P.tells limit (control_message addr byte) true (socket_of P.Port (root, port.old)) (socket_of P.Port (root, port.new)) bytes.new result.heard result.end }
     ensures gives { result.end ≡ End.Ok → (control_message addr byte).reading ≡ true → Gives limit (control_message addr byte) bytes.new }
@@ -203,7 +203,7 @@ pub fn send<P: Port>(
 
     // A read that went through gave all that it asks for.
     ensures gives { result.end ≡ End.Ok → result.reading ≡ true → Gives (block_limit board.now) (wire_message call.now next.now result.addr) bytes.new }
-    ensures read { is_call_through next.now.purpose result.end ≡ true → (m : Msg) → slice_get call.now.transfer.msgs call.now.sent ≡ Some m → is_read m ≡ true → Gives 255 (message_with m []) bytes.new }
+    ensures read { is_call_through next.now.purpose result.end ≡ true → (m : Msg) → slice_get call.now.transfer.msgs call.now.sent ≡ Some m → is_read m ≡ true → Gives LARGEST_BLOCK (message_with m []) bytes.new }
 {
     send_on(board, &mut ports[at].1, call, next, bytes)
 }

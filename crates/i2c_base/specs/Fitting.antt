@@ -1,6 +1,7 @@
 -- Which reply a transfer may get.
 use Rattle.std.specs.Prelude.{⊤, ◌≡◌, ℕ, ◌+◌, ◌≤◌, true, false, List, [], ◌∷◌, length, drop, MatchBool}
 use Rattle.std.specs.List.{list_any}
+use Rattle.i2c_base.specs.Limits.{LARGEST_BLOCK}
 use Rattle.i2c_base.specs.declared.transfer.Msg.{Msg}
 use Rattle.i2c_base.specs.declared.reply.Reply.{Reply}
 use Rattle.i2c_base.specs.declared.reply.Reply.TheVariants.{Done, Read, Err}
@@ -12,7 +13,7 @@ count_of [] = 0
 count_of (c ∷ bytes) = c
 
 abbrev pub FitsCounted : Msg → List ℕ → Type 0
-FitsCounted m bytes = (1 ≤ count_of bytes) × (count_of bytes ≤ 255) × (m.len + count_of bytes ≤ length bytes)
+FitsCounted m bytes = (1 ≤ count_of bytes) × (count_of bytes ≤ LARGEST_BLOCK) × (m.len + count_of bytes ≤ length bytes)
 
 -- these bytes are what the reads of these messages give, one after the other
 abbrev pub FitsReads : List Msg → List ℕ → Type 0

@@ -10,6 +10,10 @@ MOST_ROOTS = 8
 abbrev pub MOST_MUXES : ℕ
 MOST_MUXES = 32
 
+-- from a root to a bus there are at most so many buses, both included
+abbrev pub MOST_ON_PATH : ℕ
+MOST_ON_PATH = MOST_MUXES + 1
+
 abbrev pub MOST_DEVICES : ℕ
 MOST_DEVICES = 128
 
@@ -42,6 +46,10 @@ MOST_BYTES = 4096
 -- a block has at most so many bytes (SMBus 2.0 section 5.5.7)
 abbrev pub BLOCK_LIMIT : ℕ
 BLOCK_LIMIT = 32
+
+-- no block has more bytes, whatever the board's block limit is, since its count is one byte (SMBus 3.2 section 6.5.7)
+abbrev pub LARGEST_BLOCK : ℕ
+LARGEST_BLOCK = 255
 
 -- a block that a command asks for by its length has at most so many bytes, whatever the board's block limit is (Linux
 -- i2c.h: I2C_SMBUS_BLOCK_MAX)

@@ -8,6 +8,9 @@ pub const MOST_ROOTS: usize = 8;
 /// The most muxes of a board.
 pub const MOST_MUXES: usize = 32;
 
+/// The most buses from a root to a bus, both included.
+pub const MOST_ON_PATH: usize = MOST_MUXES + 1;
+
 /// The most devices of a board.
 pub const MOST_DEVICES: usize = 128;
 
@@ -29,6 +32,9 @@ pub const MOST_BYTES: usize = 4096;
 /// The most bytes of a block (SMBus 2.0 section 5.5.7).
 pub const BLOCK_LIMIT: u8 = 32;
 
+/// The most bytes of a block on any board, since its count is one byte (SMBus 3.2 section 6.5.7).
+pub const LARGEST_BLOCK: u8 = 255;
+
 /// The most bytes of a block that is asked for by its length, whatever the board's block limit is (Linux i2c.h:
 /// I2C_SMBUS_BLOCK_MAX).
 pub const I2C_BLOCK_LIMIT: u8 = 32;
@@ -48,9 +54,9 @@ pub const MOST_CALLS: usize = 2_000_000;
 /// Each limit of the code is the one of its name in the definitions.
 pub fn the_code_has_these_limits()
     ensures board { (code.MOST_ROOTS ≡ limit.MOST_ROOTS) × (code.MOST_MUXES ≡ limit.MOST_MUXES) × (code.MOST_DEVICES ≡ limit.MOST_DEVICES) }
-    ensures tree { (code.MOST_CHANNELS ≡ limit.MOST_CHANNELS) × (code.MOST_DEPTH ≡ limit.MOST_DEPTH) }
+    ensures tree { (code.MOST_ON_PATH ≡ limit.MOST_ON_PATH) × (code.MOST_CHANNELS ≡ limit.MOST_CHANNELS) × (code.MOST_DEPTH ≡ limit.MOST_DEPTH) }
     ensures transfer { (code.MOST_MESSAGES ≡ limit.MOST_MESSAGES) × (code.MOST_LENGTH ≡ limit.MOST_LENGTH) × (code.MOST_BYTES ≡ limit.MOST_BYTES) }
-    ensures block { (code.BLOCK_LIMIT ≡ limit.BLOCK_LIMIT) × (code.I2C_BLOCK_LIMIT ≡ limit.I2C_BLOCK_LIMIT) }
+    ensures block { (code.BLOCK_LIMIT ≡ limit.BLOCK_LIMIT) × (code.LARGEST_BLOCK ≡ limit.LARGEST_BLOCK) × (code.I2C_BLOCK_LIMIT ≡ limit.I2C_BLOCK_LIMIT) }
     ensures asked { (code.POLLS ≡ limit.POLLS) × (code.MOST_LOOKS ≡ limit.MOST_LOOKS) }
     ensures run { (code.MOST_CALLERS ≡ limit.MOST_CALLERS) × (code.MOST_CALLS ≡ limit.MOST_CALLS) }
 {}

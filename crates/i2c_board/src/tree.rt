@@ -2,7 +2,7 @@ ghost use Rattle.std.specs.Prelude.{◌≡◌, ◌<◌, ◌↔◌, length, SomeI
 
 use crate::Board;
 use arrayvec::ArrayVec;
-use i2c_base::{Addr, BLOCK_LIMIT, Grant, MuxId, SegId, Way};
+use i2c_base::{Addr, BLOCK_LIMIT, Grant, MOST_ON_PATH, MuxId, SegId, Way};
 
 impl Board {
     ghost use Rattle.i2c_spec.specs.Tree.{buses, over, path, root_of, is_below};
@@ -42,7 +42,7 @@ impl Board {
     }
 
     /// The buses from the root to a bus, the bus included.
-    pub fn path(&self, seg: SegId) -> ArrayVec<SegId, 33>
+    pub fn path(&self, seg: SegId) -> ArrayVec<SegId, MOST_ON_PATH>
         requires { seg < buses self.now }
         ensures { result.items ≡ path self.now seg }
     {

@@ -1,5 +1,6 @@
 ghost use Rattle.std.specs.Prelude.{◌≡◌, ◌≤◌, length};
 ghost use Rattle.std.specs.List.{list_any};
+ghost use Rattle.i2c_base.specs.Limits.{MOST_BYTES};
 ghost use Rattle.i2c_base.specs.Transfer.{is_read};
 ghost use Rattle.i2c_spec.specs.Flat as spec;
 ghost use Rattle.i2c_spec.specs.Grant.{grant_of, is_busy};
@@ -79,7 +80,7 @@ pub fn errno_of(end: End) -> Option<Errno>
 
 /// The reply of a transfer that went through: what its reads gave, where one of its messages reads, else Done.
 pub fn done_with(transfer: &Transfer, got: &[u8]) -> Reply
-    requires { length got.now ≤ 4096 }
+    requires { length got.now ≤ MOST_BYTES }
     ensures { result ≡ spec.done_with transfer.now got.now }
 {
     if reads(transfer) {

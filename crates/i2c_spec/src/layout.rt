@@ -3,7 +3,7 @@ ghost use Rattle.i2c_spec.specs.Tree as spec;
 
 use crate::Hop;
 use arrayvec::ArrayVec;
-use i2c_base::{DeviceSpec, LockMode, MuxId, MuxSpec, RootSpec, SegId};
+use i2c_base::{DeviceSpec, LockMode, MOST_MUXES, MuxId, MuxSpec, RootSpec, SegId};
 
 /// The parts of a board, borrowed: what the tree, the grant of an address and the topology rules read of it.
 #[derive(Clone, Copy)]
@@ -28,7 +28,7 @@ impl Layout<'_> {
     }
 
     /// The muxes over a bus, nearest first.
-    pub fn hops(&self, seg: SegId) -> ArrayVec<Hop, 32>
+    pub fn hops(&self, seg: SegId) -> ArrayVec<Hop, MOST_MUXES>
         requires { IsPlainBoard (board_of self.now) }
         ensures { result.items ≡ hops (board_of self.now) seg }
     {
@@ -39,7 +39,7 @@ impl Layout<'_> {
 
     /// Puts the muxes over a bus, nearest first, in the place of what the list had.
     #[tactic(auto, using(crate::proofs::HopLemmas::hop_steps, crate::proofs::PlainLemmas::buses_le))]
-    pub fn find_hops(&self, seg: SegId, found: &mut ArrayVec<Hop, 32>)
+    pub fn find_hops(&self, seg: SegId, found: &mut ArrayVec<Hop, MOST_MUXES>)
         requires { IsPlainBoard (board_of self.now) }
         ensures { found.new.items ≡ hops (board_of self.now) seg }
     {

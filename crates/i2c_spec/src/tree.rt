@@ -3,7 +3,7 @@ ghost use Rattle.i2c_spec.specs.Tree.{end_of};
 
 use crate::{Hop, Layout};
 use arrayvec::ArrayVec;
-use i2c_base::{MuxId, MuxSpec, POLLS, SegId, Way};
+use i2c_base::{MOST_ON_PATH, MuxId, MuxSpec, POLLS, SegId, Way};
 
 /// An arbitrator that is found with its other controller as often as it is asked stays there.
 const FOREIGN_FOR_GOOD: u8 = POLLS;
@@ -34,7 +34,7 @@ impl Layout<'_> {
     }
 
     /// The buses from the root to a bus, the bus included.
-    pub fn path(&self, seg: SegId) -> ArrayVec<SegId, 33>
+    pub fn path(&self, seg: SegId) -> ArrayVec<SegId, MOST_ON_PATH>
         requires { IsPlainBoard (board_of self.now) }
         ensures { result.items ≡ path (board_of self.now) seg }
     {

@@ -8,6 +8,10 @@ use Rattle.mux_plan.specs.declared.task.Work.TheVariants as work
 use Rattle.mux_plan.specs.declared.task.Task.{Task}
 use Rattle.mux_plan.specs.declared.task.Task.TheVariants.{Enter, Lock, Free, Rest, Line, Settle, AwaitClose, AwaitSelect, AwaitWork, AwaitDeselect}
 
+-- a stack has room for so many tasks, and as many marks may change at once
+abbrev pub STACK_ROOM : ℕ
+STACK_ROOM = 32
+
 -- no mux has more channels than a mux may have
 abbrev pub IsNarrow : Hop → Type 0
 IsNarrow h = h.channel < MOST_CHANNELS
@@ -21,14 +25,14 @@ IsNarrowWork (work.Clear on mux kind) = Unit {0}
 abbrev pub Fits : ℕ → Task → ℕ → Type 0
 Fits d (Enter n w) k = IsNarrowWork w × (n ≤ d) × (k ≤ 6 * n + 5)
 Fits d (Lock m n w) k = IsNarrowWork w × (n ≤ m) × (m ≤ d) × (k ≤ 5 * n + m)
-Fits d (Free l) k = k < 32
+Fits d (Free l) k = k < STACK_ROOM
 Fits d (Rest left w) k = IsNarrowWork w × (k ≤ 6 * d + 5)
 Fits d (Line w) k = IsNarrowWork w × (k ≤ 6 * d + 5)
-Fits d (Settle v) k = k < 32
+Fits d (Settle v) k = k < STACK_ROOM
 Fits d (AwaitClose n h m w) k = IsNarrowWork w × IsNarrow h × (n ≤ d) × (k + 1 ≤ 6 * n)
 Fits d (AwaitSelect n h w) k = IsNarrowWork w × IsNarrow h × (n ≤ d) × (k + 1 ≤ 6 * n)
 Fits d (AwaitWork n h) k = (n ≤ d) × (k + 1 ≤ 6 * n)
-Fits d (AwaitDeselect h was) k = k < 32
+Fits d (AwaitDeselect h was) k = k < STACK_ROOM
 
 abbrev pub IsPlaced : ℕ → List Task → Type 0
 IsPlaced d [] = Unit {0}

@@ -14,7 +14,7 @@ ghost use Rattle.mux_plan.specs.declared.task.Action.TheVariants.{Done};
 
 use crate::{Action, Task, Work};
 use arrayvec::ArrayVec;
-use i2c_base::{LockId, MuxId, MuxKind, SegId};
+use i2c_base::{LockId, MOST_MUXES, MuxId, MuxKind, SegId};
 use i2c_board::{Accepted, Board};
 use i2c_spec::{Hop, end_of};
 use std::marker::Model;
@@ -25,7 +25,7 @@ use std::marker::Model;
 pub struct Course {
     pub root: SegId,
     /// The muxes over the bus, nearest first.
-    pub path: ArrayVec<Hop, 32>,
+    pub path: ArrayVec<Hop, MOST_MUXES>,
     pub bus: SegId,
     /// How many messages the transfer has.
     pub count: u8,

@@ -2,7 +2,9 @@ ghost use Rattle.std.specs.Prelude.{◌≡◌, ℕ, ◌+◌, ◌<◌, ◌≤◌,
 ghost use Rattle.i2c_spec.specs.Messages.{MessageView};
 ghost use Rattle.mux_plan.specs.Plans.{CourseView, job_of, note_of, outcome_of};
 ghost use Rattle.mux_plan.specs.Marks.{all_marked, dues_on, dues_of_job};
+ghost use Rattle.mux_plan.specs.Rooms.{STACK_ROOM};
 
+use crate::stack::STACK_ROOM;
 use crate::{Outcome, Task, Work};
 use arrayvec::ArrayVec;
 use i2c_base::{End, MuxId, SegId};
@@ -15,11 +17,11 @@ pub struct Due {
 }
 
 /// The marks that a step changes, the one that is set first in front.
-pub type Dues = ArrayVec<Due, 32>;
+pub type Dues = ArrayVec<Due, STACK_ROOM>;
 
 // A failure marks each mux that may be left open: from the nearest deselect up those that these tasks wait for.
 fn mark_open(dues: &mut Dues, tasks: &[Task])
-    requires { length dues.old.items + length tasks.now ≤ 32 }
+    requires { length dues.old.items + length tasks.now ≤ STACK_ROOM }
     ensures value { dues.new.items ≡ dues.old.items ++ all_marked (note_of (reverse tasks.now)).marks }
     ensures few { length dues.new.items ≤ length dues.old.items + length tasks.now }
 {
@@ -49,7 +51,7 @@ fn mark_open(dues: &mut Dues, tasks: &[Task])
 
 // A mux on the bus may be open from now on.
 fn mark(dues: &mut Dues, on: SegId, mux: MuxId)
-    requires { length dues.old.items < 32 }
+    requires { length dues.old.items < STACK_ROOM }
     ensures { dues.new.items ≡ dues.old.items ++ record { on = on; mark = Some mux } ∷ [] }
 {
     dues.push(Due {
@@ -60,7 +62,7 @@ fn mark(dues: &mut Dues, on: SegId, mux: MuxId)
 
 // None is, from now on.
 fn clear(dues: &mut Dues, on: SegId)
-    requires { length dues.old.items < 32 }
+    requires { length dues.old.items < STACK_ROOM }
     ensures { dues.new.items ≡ dues.old.items ++ record { on = on; mark = None } ∷ [] }
 {
     dues.push(Due { on, mark: None });
@@ -68,7 +70,7 @@ fn clear(dues: &mut Dues, on: SegId)
 
 // A mux on this bus was switched above these tasks: no mark is left where the port didn't fail.
 fn mark_switch(dues: &mut Dues, tasks: &[Task], on: SegId, outcome: &Outcome<'_>)
-    requires few { length tasks.now < 32 }
+    requires few { length tasks.now < STACK_ROOM }
     requires empty { dues.old.items ≡ [] }
     ensures { dues.new.items ≡ dues_on on (note_of (reverse tasks.now)).marks (outcome_of outcome.now) }
 {
@@ -91,7 +93,7 @@ fn mark_switch(dues: &mut Dues, tasks: &[Task], on: SegId, outcome: &Outcome<'_>
 /// Which marks change where a message or the line of a piece of work above these tasks has this outcome.
 #[inline(always)]
 pub fn mark_work(dues: &mut Dues, tasks: &[Task], work: &Work, outcome: &Outcome<'_>)
-    requires few { length tasks.now < 32 }
+    requires few { length tasks.now < STACK_ROOM }
     requires empty { dues.old.items ≡ [] }
     ensures { (c : CourseView) (ms : List MessageView) → dues.new.items ≡ dues_of_job (job_of c ms work.now) (note_of (reverse tasks.now)).marks (outcome_of outcome.now) }
 {

@@ -9,7 +9,7 @@ ghost use Rattle.bus_spec.specs.Grammar.{at_bus, lost as lost_of, is_over, first
 ghost use Rattle.mux_plan.specs.Plans.{CourseView, job_of, came_of, outcome_of, note_of, on_bus, tree_of, action_of, slots_of, part_task, crossed_tasks, switch_of};
 ghost use Rattle.mux_plan.specs.Plans as plans;
 ghost use Rattle.mux_plan.specs.Marks.{dues_after};
-ghost use Rattle.mux_plan.specs.Rooms.{IsNarrow, IsNarrowWork, IsPlanned, IsReady, IsStep};
+ghost use Rattle.mux_plan.specs.Rooms.{IsNarrow, IsNarrowWork, IsPlanned, IsReady, IsStep, STACK_ROOM};
 ghost use Rattle.mux_plan.specs.declared.task.Task.TheVariants.{Enter, Lock, Rest, AwaitClose, AwaitSelect, AwaitWork};
 ghost use Rattle.mux_plan.specs.declared.task.Action.TheVariants.{Done};
 
@@ -90,7 +90,7 @@ impl Parts {
         place: u8,
         work: &Work,
     ) -> Work
-        requires room { length self.old.stack + 2 ≤ 32 }
+        requires room { length self.old.stack + 2 ≤ STACK_ROOM }
         ensures next { result ≡ switch_of board.now hop.now (slice_index_or marks.now hop.now.on None) }
         ensures narrow { IsNarrow hop.now → IsNarrowWork result }
         ensures stack { self.new.stack ≡ crossed_tasks hop.now (slice_index_or marks.now hop.now.on None) place work.now result self.old.stack }
@@ -107,7 +107,7 @@ impl Parts {
 
     // No mux is left to cross.
     fn reach(&mut self, work: &Work)
-        requires room { length self.old.stack < 32 }
+        requires room { length self.old.stack < STACK_ROOM }
         ensures tree { (b : BoardView) (ms : List MessageView) (out : JobOutcome) → length ms ≡ self.old.course.count
             → tree_of b ms self.new.course self.new.stack out ≡ at_bus (job_of self.old.course ms work.now) (note_of self.old.stack) (tree_of b ms self.old.course self.old.stack) }
         ensures planned { (n : ℕ) → IsPlanned self.old.course (Enter n work.now ∷ self.old.stack) → IsPlanned self.new.course self.new.stack }
@@ -233,7 +233,7 @@ impl Parts {
     /// Which marks change where the step on the top has this outcome.
     pub fn mark(&self, dues: &mut Dues, outcome: &Outcome<'_>)
         requires step { IsStep self.now.stack }
-        requires few { length self.now.stack ≤ 32 }
+        requires few { length self.now.stack ≤ STACK_ROOM }
         requires empty { dues.old.items ≡ [] }
         ensures { (b : BoardView) (ms : List MessageView) (out : JobOutcome)
             → dues.new.items ≡ dues_after (first_act (tree_of b ms self.now.course self.now.stack out)) (first_note (tree_of b ms self.now.course self.now.stack out)) (outcome_of outcome.now) }

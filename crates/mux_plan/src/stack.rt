@@ -1,12 +1,16 @@
 ghost use Rattle.std.specs.Prelude.{◌≡◌, ◌<◌, true, false, List, [], ◌∷◌, length, reverse, drop, IfSome, IfNone};
+ghost use Rattle.mux_plan.specs.Rooms.{STACK_ROOM};
 
 use arrayvec::ArrayVec;
 use std::marker::Model;
 
+/// How many tasks a stack has room for.
+pub const STACK_ROOM: usize = 32;
+
 /// The tasks of a walk. A contract sees the list of them, the one on the top first.
 #[derive(Drop)]
 pub struct Stack<T> {
-    items: ArrayVec<T, 32>,
+    items: ArrayVec<T, STACK_ROOM>,
 }
 
 impl<T> Model for Stack<T> {
@@ -36,7 +40,7 @@ impl<T: Copy + Default> Stack<T> {
 
     /// Puts a task on the top.
     pub fn push(&mut self, task: T)
-        requires { length self.old < 32 }
+        requires { length self.old < STACK_ROOM }
         ensures { self.new ≡ task ∷ self.old }
     {
         self.items.push(task);

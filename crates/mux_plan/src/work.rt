@@ -1,4 +1,5 @@
 ghost use Rattle.std.specs.Prelude.{◌≡◌, ◌<◌, ◌^◌, ◌==◌, ℕ, List, length};
+ghost use Rattle.i2c_base.specs.Limits.{MOST_CHANNELS};
 ghost use Rattle.i2c_spec.specs.Chips.{select_value};
 ghost use Rattle.i2c_spec.specs.Messages.{MessageView};
 ghost use Rattle.bus_spec.specs.Walk as walk;
@@ -20,7 +21,7 @@ pub enum Follow {
 
 // The byte that selects a channel, or the level of a gpio mux.
 fn select_byte(hop: &Hop) -> u8
-    requires { hop.now.channel < 8 }
+    requires { hop.now.channel < MOST_CHANNELS }
     ensures { result ≡ select_value hop.now.kind hop.now.channel }
 {
     match hop.kind.facts().code {

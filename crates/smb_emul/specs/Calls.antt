@@ -1,5 +1,6 @@
 -- What is read off the row of a call: its messages, the bytes that its error code is of, and its value.
 use Rattle.std.specs.Prelude.{⊤, ℕ, ◌+◌, ◌-◌, ◌*◌, ◌≤◌, ◌==◌, ◌&&◌, Bool, true, false, Option, Some, None, Result, Ok, Err, List, [], ◌∷◌, ◌++◌, length, take, drop, slice_index, if◌then◌else◌}
+use Rattle.i2c_base.specs.Limits.{I2C_BLOCK_LIMIT, LARGEST_BLOCK}
 use Rattle.i2c_base.specs.Transfer.{TransferView, written, plain_read, counted_read}
 use Rattle.i2c_base.specs.declared.reply.Reply.{Reply}
 use Rattle.i2c_base.specs.declared.reply.Reply.TheVariants as reply
@@ -48,16 +49,16 @@ HasBlock (op.ReadByte c) = ⊤
 HasBlock (op.WriteWord c v) = ⊤
 HasBlock (op.ReadWord c) = ⊤
 HasBlock (op.ProcCall c v) = ⊤
-HasBlock (op.BlockWrite c bytes) = IsBlockLength 255 (length bytes.now)
+HasBlock (op.BlockWrite c bytes) = IsBlockLength LARGEST_BLOCK (length bytes.now)
 HasBlock (op.BlockRead c) = ⊤
-HasBlock (op.BlockProc c bytes) = IsBlockLength 255 (length bytes.now)
-HasBlock (op.I2cBlockWrite c bytes) = IsBlockLength 32 (length bytes.now)
-HasBlock (op.I2cBlockRead c n) = IsBlockLength 32 n
+HasBlock (op.BlockProc c bytes) = IsBlockLength LARGEST_BLOCK (length bytes.now)
+HasBlock (op.I2cBlockWrite c bytes) = IsBlockLength I2C_BLOCK_LIMIT (length bytes.now)
+HasBlock (op.I2cBlockRead c n) = IsBlockLength I2C_BLOCK_LIMIT n
 
 -- a plain read asks for 1 to 32 bytes
 abbrev pub IsShortRead : ReadShape → Type 0
 IsShortRead read.Nothing = ⊤
-IsShortRead (read.Plain n) = IsBlockLength 32 n
+IsShortRead (read.Plain n) = IsBlockLength I2C_BLOCK_LIMIT n
 IsShortRead read.Counted = ⊤
 
 -- the call has an error code

@@ -1,5 +1,6 @@
 //! The bytes of a call's write, with its block left where it lies.
 
+ghost use Rattle.i2c_base.specs.Limits.{LARGEST_BLOCK};
 ghost use Rattle.std.specs.Prelude.{◌≤◌, length};
 
 use crate::SmbOp;
@@ -11,7 +12,7 @@ pub(crate) struct Written<'b> {
     pub head: ByteStore<3>,
     pub block: &'b [u8],
     ghost few: { length head ≤ 3 },
-    ghost short: { length block.now ≤ 255 },
+    ghost short: { length block.now ≤ LARGEST_BLOCK },
 }
 
 impl<'b> Written<'b> {
@@ -61,7 +62,7 @@ impl<'b> Written<'b> {
 
     // A command byte, a count and the block.
     fn counted(command: u8, block: &'b [u8]) -> Self
-        requires { length block.now ≤ 255 }
+        requires { length block.now ≤ LARGEST_BLOCK }
         ensures { written_bytes result ≡ command ∷ counted_block block.now }
     {
         Self::behind(&[command, block.len() as u8], block)
@@ -70,7 +71,7 @@ impl<'b> Written<'b> {
     // A block behind these bytes.
     fn behind(bytes: &[u8], block: &'b [u8]) -> Self
         requires head { length bytes.now ≤ 3 }
-        requires short { length block.now ≤ 255 }
+        requires short { length block.now ≤ LARGEST_BLOCK }
         ensures { written_bytes result ≡ bytes.now ++ block.now }
     {
         let mut head = ByteStore::new();
