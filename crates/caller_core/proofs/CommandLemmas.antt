@@ -9,7 +9,7 @@ use Rattle.tool_words.specs.Fronts.{words_of, lines_of}
 use Rattle.tool_words.specs.LineSets.{Word, follow_words}
 use Rattle.tool_words.specs.Lines.{script_lines, IsInRange}
 use Rattle.tool_words.specs.declared.cmd.Cmd.{Cmd}
-use Rattle.tool_words.proofs.LineLemmas.{reads_lines, means_in_range}
+use Rattle.tool_words.proofs.CommandLemmas.{reads_lines, means_in_range}
 use Rattle.caller_core.specs.View.{CommandView, ScriptView}
 use Rattle.caller_core.specs.Scripts.{Place, command_of, at_most, lines_read, behind_commands, behind_line_read, commands_or_none, text_read, commands_of}
 

@@ -14,9 +14,9 @@ use Rattle.smb_emul.specs.declared.call.SmbCall.{SmbCall}
 use Rattle.smb_emul.specs.declared.call.SmbFail.TheVariants.{Pec}
 use Rattle.smb_emul.specs.declared.call.SmbOp.{SmbOp}
 use Rattle.smb_emul.specs.declared.call.SmbOp.TheVariants as op
-use Rattle.tool_words.specs.declared.cmd.Get.{Get}
-use Rattle.tool_words.specs.declared.cmd.GetMode.{GetMode}
-use Rattle.tool_words.specs.declared.cmd.GetMode.TheVariants as mode
+use Rattle.tool_words.specs.declared.cmd.get.Get.{Get}
+use Rattle.tool_words.specs.declared.cmd.get.GetMode.{GetMode}
+use Rattle.tool_words.specs.declared.cmd.get.GetMode.TheVariants as mode
 use Rattle.tool_run.specs.Gets.{mode_of, len_of, ops_by, get_ops, get_call, get_transfers, op_at, block_of_value, block_in, block_most}
 use Rattle.tool_run.specs.Replies.{reply_of, replies_of}
 

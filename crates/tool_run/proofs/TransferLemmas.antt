@@ -22,8 +22,8 @@ use Rattle.smb_pec.proofs.TableLemmas.{code_is_byte}
 use Rattle.tool_words.specs.Lines.{IsInRange}
 use Rattle.tool_words.specs.declared.cmd.Cmd.{Cmd}
 use Rattle.tool_words.specs.declared.cmd.Cmd.TheVariants as cmd
-use Rattle.tool_words.specs.declared.cmd.GetMode.{GetMode}
-use Rattle.tool_words.specs.declared.cmd.GetMode.TheVariants as mode
+use Rattle.tool_words.specs.declared.cmd.get.GetMode.{GetMode}
+use Rattle.tool_words.specs.declared.cmd.get.GetMode.TheVariants as mode
 use Rattle.tool_run.specs.Gets.{mode_of, len_of, ops_by, get_ops, get_call, op_at}
 use Rattle.tool_run.specs.Replies.{most_brought}
 use Rattle.tool_run.specs.Tools.{transfers_of}

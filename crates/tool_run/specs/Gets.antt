@@ -11,9 +11,9 @@ use Rattle.smb_emul.specs.declared.call.SmbOp.{SmbOp}
 use Rattle.smb_emul.specs.declared.call.SmbOp.TheVariants as op
 use Rattle.smb_emul.specs.Value.{ValueView}
 use Rattle.smb_emul.specs.Value as value
-use Rattle.tool_words.specs.declared.cmd.Get.{Get}
-use Rattle.tool_words.specs.declared.cmd.GetMode.{GetMode}
-use Rattle.tool_words.specs.declared.cmd.GetMode.TheVariants as mode
+use Rattle.tool_words.specs.declared.cmd.get.Get.{Get}
+use Rattle.tool_words.specs.declared.cmd.get.GetMode.{GetMode}
+use Rattle.tool_words.specs.declared.cmd.get.GetMode.TheVariants as mode
 use Rattle.tool_run.specs.Texts.{byte_words, byte_word, double_word, fail_text}
 
 -- no MODE is `b`, and no LEN is the most

@@ -18,7 +18,7 @@ use bus_journal::{ReplyHead, errno_name};
 use i2c_base::{Errno, I2C_BLOCK_LIMIT, Reply, Transfer};
 use packed::Packed;
 use smb_emul::{SmbCall, SmbFail, SmbOp, SmbValue, put_messages, value_read};
-use tool_words::{Get, GetMode};
+use tool_words::cmd::{Get, GetMode};
 
 /// The most bytes of an answer that is no block: a wrong error code.
 const MOST_BESIDE: usize = 26;

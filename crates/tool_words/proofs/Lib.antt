@@ -1,8 +1,8 @@
 pub mod AliveLemmas
+pub mod CommandLemmas
 pub mod DigitLemmas
 pub mod FrontLemmas
-pub mod GetLemmas
+pub mod GrammarLemmas
 pub mod JoinedLemmas
 pub mod LineLemmas
 pub mod LineSetLemmas
-pub mod OptionLemmas

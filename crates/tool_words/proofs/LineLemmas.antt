@@ -1,39 +1,44 @@
--- The lines of a script: the laws of their set, and its reader. There is no induction.
-use Rattle.std.proofs.Common.{Err, ◌≡◌, ℕ, true, List, Some, None, Ok, sym, ap, ◌∙◌, cond, arith}
-use Rattle.tool_words.specs.LineSets.{Word, follow_words}
-use Rattle.tool_words.specs.Lines.{script_lines, script_line_at}
-use Rattle.tool_words.specs.Commands.{is_command, some_command, words_read, line_read, ReadsLines, RefusesBehindLongest, MeansInRange}
-use Rattle.tool_words.specs.Fronts.{words_of}
-use Rattle.tool_words.specs.declared.cmd.Cmd.{Cmd}
-use Rattle.tool_words.proofs.LineSetLemmas.{IsAlive, line_followed, followed_line, refused_longest}
-use Rattle.tool_words.proofs.GetLemmas.{alive_get, follow_get, get_in_range}
+-- What each line of the grammar means is in range.
+use Rattle.std.proofs.Common.{ℕ, ◌^◌, ◌<◌, ◌≤◌, Bool, false, Option, Some, None, arith}
+use Rattle.std.specs.Prelude.{IfSome}
+use Rattle.tool_words.specs.Lines.{got, get_len, get_reg, get_bus, get_words, grammar, IsInRange}
+use Rattle.tool_words.specs.declared.cmd.get.GetMode.{GetMode}
+use Rattle.tool_words.specs.declared.cmd.get.GetMode.TheVariants as mode
+use Rattle.tool_words.proofs.GrammarLemmas.{AllEnds, IsBetween, number_between, options_end}
 
-alive_lines : (limit : ℕ) → IsAlive (script_lines limit)
-alive_lines limit = alive_get
+-- ---- i2cget
 
-pub follow_lines : (limit : ℕ) (ws : List Word) → follow_words (script_lines limit) 0 ws ≡ script_line_at limit ws
-follow_lines limit ws = follow_get ws
+module _ (force : Bool) (bus addr : ℕ) (on : IsBetween 0 65535 bus) (to : IsBetween 8 119 addr) where
+  got_fits : (reg : Option ℕ) (m : Option GetMode) (pec : Bool) (len : Option ℕ) → IfSome reg (λ r. r < 2 ^ 8) → IfSome len (λ n. (1 ≤ n) × (n ≤ 32)) → IsInRange (got force bus addr reg m pec len)
+  got_fits reg m pec len r l = record { bus = omega (arith, on.to_high); addr = (to.from_low, to.to_high); reg = r; len = l }
 
-pub reads_lines : ReadsLines
-reads_lines limit ws c = (followed_line (script_lines limit) 0 ws c, line_followed (script_lines limit) 0 ws c)
+  len_fits : (reg : ℕ) (m : GetMode × Bool) → reg < 2 ^ 8 → AllEnds IsInRange (get_len force bus addr reg m)
+  unfolding get_len
+  len_fits reg (mode.I2cBlock, false) r = (
+    got_fits (Some reg) (Some mode.I2cBlock) false None r tt,
+    λ w len is. let l = number_between 1 32 w len is in
+        got_fits (Some reg) (Some mode.I2cBlock) false (Some len) r (l.from_low, l.to_high),
+  )
+  len_fits reg (m, pec) r = got_fits (Some reg) (Some m) pec None r tt
 
-pub refuses_behind_longest : RefusesBehindLongest
-refuses_behind_longest limit ws k refused =
-    let alive : IsAlive (script_lines limit) = alive_lines limit in
-    let stop = refused_longest (script_lines limit) 0 ws k alive.live alive.some refused in
-    let same : k ≡ stop.count = omega (arith, stop.place) in
-    rw same stop.longest
+  reg_fits : AllEnds IsInRange (get_reg force bus addr)
+  unfolding get_reg
+  reg_fits = (
+    got_fits None None false None tt tt,
+    λ w reg is. let r : reg < 2 ^ 8 = omega (arith, (number_between 0 255 w reg is).to_high) in
+        (got_fits (Some reg) None false None r tt, λ x m is_mode. len_fits reg m r),
+  )
 
-pub means_in_range : MeansInRange
-means_in_range limit = get_in_range
+bus_fits : (force : Bool) → AllEnds IsInRange (get_bus force)
+unfolding get_bus
+bus_fits force w bus is x addr is_addr = reg_fits force bus addr (number_between 0 65535 w bus is) (number_between 8 119 x addr is_addr)
 
--- what a line is read as whose words are a command
-command_words : (limit : ℕ) (line : List ℕ) (ws : List Word) → ws ≡ words_of line → is_command ws ≡ true → line_read limit line ≡ some_command (script_line_at limit ws)
-command_words limit line ws same is =
-    ap (words_read limit) (sym same) ∙ ap (λ b. cond b (some_command (follow_words (script_lines limit) 0 ws)) (Ok None)) is ∙ ap some_command (follow_lines limit ws)
+get_fits : AllEnds IsInRange get_words
+unfolding get_words
+get_fits = options_end IsInRange get_bus bus_fits
 
-pub command_read : (limit : ℕ) (line : List ℕ) (ws : List Word) (c : Cmd) → ws ≡ words_of line → is_command ws ≡ true → script_line_at limit ws ≡ Ok c → line_read limit line ≡ Ok (Some c)
-command_read limit line ws c same is e = command_words limit line ws same is ∙ ap some_command e
+-- ---- the lines of a script
 
-pub command_refused : (limit : ℕ) (line : List ℕ) (ws : List Word) (k : ℕ) → ws ≡ words_of line → is_command ws ≡ true → script_line_at limit ws ≡ Err k → line_read limit line ≡ Err k
-command_refused limit line ws k same is e = command_words limit line ws same is ∙ ap some_command e
+pub lines_fit : (limit : ℕ) → AllEnds IsInRange (grammar limit)
+unfolding grammar
+lines_fit limit = get_fits

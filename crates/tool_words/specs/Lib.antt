@@ -1,6 +1,6 @@
 pub mod Commands
 pub mod Fronts
-pub mod GetLine
+pub mod Grammars
 pub mod LineSets
 pub mod Lines
 pub mod Numbers

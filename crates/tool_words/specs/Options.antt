@@ -1,25 +1,26 @@
--- What several lines begin with: BUS and ADDR, and their options.
-use Rattle.std.specs.Prelude.{ℕ, ◌+◌, Bool, true, false, List, Option, Result, Ok, Err, if◌then◌else◌, codes}
+-- What several lines have in common: their options, BUS, ADDR and REG.
+use Rattle.std.specs.Prelude.{ℕ, ◌+◌, Bool, true, false, List, Result, Ok, Err, if◌then◌else◌, codes, refl}
 use Rattle.i2c_base.specs.Limits.{FIRST_ADDRESS, LAST_ADDRESS}
-use Rattle.tool_words.specs.LineSets.{Word, LineSet, word, either}
+use Rattle.tool_words.specs.Grammars.{Class, Grammar, word, word_or}
+use Rattle.tool_words.specs.LineSets.{Word}
 use Rattle.tool_words.specs.Numbers.{number_in}
 use Rattle.tool_words.specs.Readers.{is_at}
 
 -- BUS, ADDR and REG
-abbrev pub bus_number : Word → Option ℕ
-bus_number = number_in 0 65535
+abbrev pub bus_number : Class ℕ
+bus_number = record { of = number_in 0 65535; sample = codes "0"; means = 0; fits = refl }
 
-abbrev pub address : Word → Option ℕ
-address = number_in FIRST_ADDRESS LAST_ADDRESS
+abbrev pub address : Class ℕ
+address = record { of = number_in FIRST_ADDRESS LAST_ADDRESS; sample = codes "8"; means = 8; fits = refl }
 
-abbrev pub byte : Word → Option ℕ
-byte = number_in 0 255
+abbrev pub byte : Class ℕ
+byte = record { of = number_in 0 255; sample = codes "0"; means = 0; fits = refl }
 
--- `-f` or not, and `-y`, in any order
-abbrev pub force_and_yes : {A : Type 0} → (Bool → LineSet A) → LineSet A
+-- `-f` or not, and `-y`, in any order, and what follows them
+unfoldable pub force_and_yes : {A : Type 0} → (Bool → Grammar A) → Grammar A
 force_and_yes k =
-    either (word (codes "-f") (word (codes "-y") (k true)))
-    (word (codes "-y") (either (word (codes "-f") (k true)) (k false)))
+    word_or (codes "-f") (word (codes "-y") (k true))
+    (word (codes "-y") (word_or (codes "-f") (k true) (k false)))
 
 -- the place behind a `-y` that stands at i, `-f` being before it
 abbrev pub yes_at : List Word → ℕ → Result (Bool × ℕ) ℕ

@@ -1,38 +1,30 @@
-use i2c_base::Addr;
+ghost use Rattle.std.specs.Prelude.{◌≡◌};
+ghost use Rattle.tool_words.specs.Grammars.{read_at};
+ghost use Rattle.tool_words.specs.Lines.{grammar};
+ghost use Rattle.tool_words.specs.Readers.{texts};
 
-/// How `i2cget` reads a register.
-#[derive(Clone, Copy)]
-pub enum GetMode {
-    /// A byte: `b`, or no MODE.
-    Byte,
-    /// A word, low byte first: `w`.
-    Word,
-    /// The register's number is sent alone, and then a byte is received: `c`.
-    SendReceive,
-    /// A block that comes behind its count: `s`.
-    Block,
-    /// A block of so many bytes as are asked for: `i`.
-    I2cBlock,
-}
+mod get;
 
-/// The line `i2cget [-f] -y BUS ADDR [REG [MODE [LEN]]]`. None stands for what is missing.
-#[derive(Clone, Copy)]
-pub struct Get {
-    /// A device that a driver is bound to is read as well: `-f`.
-    pub force: bool,
-    pub bus: u16,
-    pub addr: Addr,
-    pub reg: Option<u8>,
-    pub mode: Option<GetMode>,
-    /// With an error code: the `p` behind MODE.
-    pub pec: bool,
-    /// How many bytes the block of `i` has, 1 to 32.
-    pub len: Option<u8>,
-}
+use crate::fault::WordRefused;
+use crate::reader::is_at;
+use get::read_get;
+pub use get::{Get, GetMode};
 
 /// A command of a script.
 #[derive(Clone, Copy)]
 pub enum Cmd {
     /// Reads a register, or the next byte where none is named.
     Get(Get),
+}
+
+/// Reads the words of a command by the first of them, over a board with this block limit.
+#[tactic(auto, unfolding(crate::specs::Lines::grammar))]
+pub(crate) fn read_command(words: &[&[u8]], limit: u8) -> Result<Cmd, WordRefused>
+    ensures { result ≡ read_at (grammar limit) (texts words.now) 0 }
+{
+    if is_at(words, 0, b"i2cget") {
+        read_get(words)
+    } else {
+        Err(WordRefused(0))
+    }
 }

@@ -1,12 +1,10 @@
 ghost use Rattle.std.specs.Prelude.{◌≡◌, ◌≤◌, IfOk};
 ghost use Rattle.std.specs.Str.{bytes_eq};
-ghost use Rattle.i2c_base.specs.Limits.{FIRST_ADDRESS, LAST_ADDRESS};
 ghost use Rattle.tool_words.specs.Numbers.{number_in};
 ghost use Rattle.tool_words.specs.Readers.{texts, one_at, is_at, is_over};
 
 use crate::fault::WordRefused;
 use crate::number::number_in;
-use i2c_base::Addr;
 
 /// The word is that text.
 pub fn is_text(word: &[u8], text: &[u8]) -> bool
@@ -42,17 +40,6 @@ pub fn number_at(words: &[&[u8]], at: u16, low: u16, high: u16) -> Result<u16, W
             Some(number) => Ok(number),
             None => Err(WordRefused(at)),
         },
-        None => Err(WordRefused(at)),
-    }
-}
-
-/// The address in the word at a place.
-pub fn address_at(words: &[&[u8]], at: u16) -> Result<Addr, WordRefused>
-    ensures { result ≡ one_at (number_in FIRST_ADDRESS LAST_ADDRESS) (texts words.now) at }
-{
-    let number = number_at(words, at, u16::from(Addr::FIRST), u16::from(Addr::LAST))?;
-    match Addr::new(number as u8) {
-        Some(addr) => Ok(addr),
         None => Err(WordRefused(at)),
     }
 }

@@ -1,4 +1,4 @@
-use Rattle.tool_words.proofs.LineLemmas.{reads_lines}
+use Rattle.tool_words.proofs.CommandLemmas.{reads_lines}
 use Rattle.tool_words.proofs.laws.each_line_is_read.Goals as goal
 
 pub returns : goal.returns

@@ -2,7 +2,7 @@ use Rattle.std.proofs.Common.{◌≡◌, true, sym, ◌∙◌}
 use Rattle.tool_words.specs.Commands.{is_command}
 use Rattle.tool_words.specs.Fronts.{words_of}
 use Rattle.tool_words.specs.Readers.{texts}
-use Rattle.tool_words.proofs.LineLemmas.{command_read, command_refused}
+use Rattle.tool_words.proofs.CommandLemmas.{command_read, command_refused}
 use Rattle.tool_words.proofs.line.read_line.Goals as goal
 
 pub returns-in-Ok : goal.returns-in-Ok
