@@ -1,4 +1,3 @@
-pub mod AliveLemmas
 pub mod CommandLemmas
 pub mod DigitLemmas
 pub mod FrontLemmas
@@ -6,3 +5,4 @@ pub mod GrammarLemmas
 pub mod JoinedLemmas
 pub mod LineLemmas
 pub mod LineSetLemmas
+pub mod OptionLemmas

@@ -4,7 +4,8 @@ use Rattle.std.specs.Prelude.{IfSome}
 use Rattle.tool_words.specs.Lines.{got, get_len, get_reg, get_bus, get_words, grammar, IsInRange}
 use Rattle.tool_words.specs.declared.cmd.get.GetMode.{GetMode}
 use Rattle.tool_words.specs.declared.cmd.get.GetMode.TheVariants as mode
-use Rattle.tool_words.proofs.GrammarLemmas.{AllEnds, IsBetween, number_between, options_end}
+use Rattle.tool_words.proofs.GrammarLemmas.{AllEnds}
+use Rattle.tool_words.proofs.OptionLemmas.{IsBetween, number_between, options_end}
 
 -- ---- i2cget
 

@@ -1,12 +1,8 @@
 -- Following the words through any set of lines without dead ends finds the line, or the longest front that begins one.
 -- The inductions go over the words.
-use Rattle.std.proofs.Common.{◌≡◌, ℕ, zero, suc, ◌+◌, ◌≤◌, Bool, true, false, List, [], ◌∷◌, ◌++◌, length, take, drop, Option, Some, None, Result, Ok, Err, cond, nat_le, refl, ap, ◌∙◌, arith, inl, inr}
-use Rattle.std.specs.Prelude.{slice_get}
-use Rattle.std.proofs.lemmas.Bool.{cases_Bool, le-leb, lt-leb}
-use Rattle.std.proofs.Math.Dec.{leb-suc-suc}
-use Rattle.std.specs.Str.{bytes_eq}
-use Rattle.tool_words.specs.LineSets.{Word, LineSet, nothing, node, IsLine, Begins, IsLongest, goes_on, ended, follow_words, class, word, either, maybe, ends, or_lines, behind}
-use Rattle.tool_words.specs.Readers.{◌>>=◌, of_word, is_at}
+use Rattle.std.proofs.Common.{◌≡◌, ℕ, zero, suc, ◌+◌, ◌≤◌, true, false, List, [], ◌∷◌, ◌++◌, length, take, Option, Some, None, Result, Ok, Err, cond, refl, ap, arith, inl, inr}
+use Rattle.std.proofs.lemmas.Bool.{cases_Bool}
+use Rattle.tool_words.specs.LineSets.{Word, LineSet, nothing, node, IsLine, Begins, IsLongest, goes_on, ended, follow_words}
 
 -- each place that can be reached leads to the end of some line
 abbrev pub IsLive : {A : Type 0} → LineSet A → Type 0
@@ -93,59 +89,3 @@ refused_longest (node e f) i (w ∷ ws) k live some h =
           record { count = suc more.count; place = omega (arith, more.place); longest = longer e f w ws more.count more.longest }
       | inr isnt ↦ record { count = 0; place = omega (arith, err_is i k (rw isnt at h)); longest = stops e f w ws live.0 isnt }
     ]
-
--- how each way to write a set is followed from the word at a place on
-class_step : {A B : Type 0} (o : Option B) (k : B → LineSet A) (p : ℕ) (ws : List Word) → ((b : B) → goes_on (k b) ≡ true)
-    → cond (goes_on (behind k o)) (follow_words (behind k o) (p + 1) ws) (Err p) ≡ (ended o p >>= λ b. follow_words (k b) (p + 1) ws)
-class_step None k p ws some = refl
-class_step (Some b) k p ws some = rw (some b)
-
-pub follow_class : {A B : Type 0} (of : Word → Option B) (k : B → LineSet A) (p i : ℕ) (ws : List Word) → ((b : B) → goes_on (k b) ≡ true)
-    → follow_words (class of k) p (drop i ws) ≡ (ended (of_word of (slice_get ws i)) p >>= λ b. follow_words (k b) (p + 1) (drop (suc i) ws))
-follow_class of k p zero [] some = refl
-follow_class of k p (suc i) [] some = refl
-follow_class of k p zero (w ∷ ws) some = class_step (of w) k p ws some
-follow_class of k p (suc i) (w ∷ ws) some = follow_class of k p i ws some
-
-word_or_step : {A : Type 0} (b : Bool) (g h : LineSet A) (p : ℕ) (ws : List Word) → goes_on g ≡ true
-    → cond (goes_on (or_lines (behind (λ (u : Unit {0}). g) (cond b (Some tt) None)) h)) (follow_words (or_lines (behind (λ (u : Unit {0}). g) (cond b (Some tt) None)) h) (p + 1) ws) (Err p)
-    ≡ cond b (follow_words g (p + 1) ws) (cond (goes_on h) (follow_words h (p + 1) ws) (Err p))
-word_or_step b nothing h p ws some = absurd cc
-word_or_step true (node e f) h p ws some = refl
-word_or_step false (node e f) h p ws some = refl
-
--- that word and what follows it, or else a line of h
-pub follow_word_or : {A : Type 0} (text : Word) (g h : LineSet A) (p i : ℕ) (ws : List Word) → goes_on g ≡ true → goes_on h ≡ true
-    → follow_words (either (word text g) h) p (drop i ws) ≡ cond (is_at text ws i) (follow_words g (p + 1) (drop (suc i) ws)) (follow_words h p (drop i ws))
-follow_word_or text g nothing p i ws some other = absurd cc
-follow_word_or text g (node d k) p zero [] some other = refl
-follow_word_or text g (node d k) p (suc i) [] some other = refl
-follow_word_or text g (node d k) p zero (w ∷ ws) some other = word_or_step (bytes_eq w text) g (k w) p ws some
-follow_word_or text g (node d k) p (suc i) (w ∷ ws) some other = follow_word_or text g (node d k) p i ws some other
-
-alone_step : {A : Type 0} (b : Bool) (g : LineSet A) (p : ℕ) (ws : List Word) → goes_on g ≡ true
-    → cond (goes_on (behind (λ (u : Unit {0}). g) (cond b (Some tt) None))) (follow_words (behind (λ (u : Unit {0}). g) (cond b (Some tt) None)) (p + 1) ws) (Err p)
-    ≡ cond b (follow_words g (p + 1) ws) (Err p)
-alone_step true g p ws some = rw some
-alone_step false g p ws some = refl
-
-pub follow_word : {A : Type 0} (text : Word) (g : LineSet A) (p i : ℕ) (ws : List Word) → goes_on g ≡ true
-    → follow_words (word text g) p (drop i ws) ≡ cond (is_at text ws i) (follow_words g (p + 1) (drop (suc i) ws)) (Err p)
-follow_word text g p zero [] some = refl
-follow_word text g p (suc i) [] some = refl
-follow_word text g p zero (w ∷ ws) some = alone_step (bytes_eq w text) g p ws some
-follow_word text g p (suc i) (w ∷ ws) some = follow_word text g p i ws some
-
-pub follow_maybe : {A : Type 0} (a : A) (g : LineSet A) (p i : ℕ) (ws : List Word) → goes_on g ≡ true
-    → follow_words (maybe a g) p (drop i ws) ≡ cond (nat_le (length ws) i) (Ok a) (follow_words g p (drop i ws))
-follow_maybe a nothing p i ws some = absurd cc
-follow_maybe a (node d k) p zero [] some = refl
-follow_maybe a (node d k) p (suc i) [] some = rw (le-leb 0 (suc i) (omega arith))
-follow_maybe a (node d k) p zero (w ∷ ws) some = rw (lt-leb (suc (length ws)) 0 (omega arith))
-follow_maybe a (node d k) p (suc i) (w ∷ ws) some = follow_maybe a (node d k) p i ws some ∙ rw (leb-suc-suc (length ws) i)
-
-pub follow_ends : {A : Type 0} (a : A) (p i : ℕ) (ws : List Word) → follow_words (ends a) p (drop i ws) ≡ cond (nat_le (length ws) i) (Ok a) (Err p)
-follow_ends a p zero [] = refl
-follow_ends a p (suc i) [] = rw (le-leb 0 (suc i) (omega arith))
-follow_ends a p zero (w ∷ ws) = rw (lt-leb (suc (length ws)) 0 (omega arith))
-follow_ends a p (suc i) (w ∷ ws) = follow_ends a p i ws ∙ rw (leb-suc-suc (length ws) i)

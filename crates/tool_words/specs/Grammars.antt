@@ -1,7 +1,7 @@
 -- How a set of lines is written, and how its lines are read. No set that is written so has a dead end.
-use Rattle.std.specs.Prelude.{◌≡◌, ℕ, ◌+◌, List, Option, Some, Result, Ok, Err, if◌then◌else◌}
-use Rattle.tool_words.specs.LineSets.{Word, LineSet, either}
-use Rattle.tool_words.specs.LineSets as set
+use Rattle.std.specs.Prelude.{◌≡◌, ℕ, ◌+◌, List, Option, Some, None, Result, Ok, Err, if◌then◌else◌}
+use Rattle.std.specs.Str.{bytes_eq}
+use Rattle.tool_words.specs.LineSets.{Word, LineSet, nothing, node}
 use Rattle.tool_words.specs.Readers.{◌>>=◌, one_at, is_at, is_over, over_at}
 
 -- a class of words, what each of them means, and one of them
@@ -24,13 +24,26 @@ pub data Grammar (A : Type 0) : Type 1 where
   -- nothing, and then the line means a, or else the rest
   maybe : A → Grammar A → Grammar A
 
--- the lines that are written so
+-- what a line that ends where a set begins means, and what may follow a word there
+abbrev pub end_of : {A : Type 0} → LineSet A → Option A
+end_of nothing = None
+end_of (node e f) = e
+
+abbrev pub next_of : {A : Type 0} → LineSet A → Word → LineSet A
+next_of nothing w = nothing
+next_of (node e f) w = f w
+
+abbrev pub behind : {A B : Type 0} → (B → LineSet A) → Option B → LineSet A
+behind k None = nothing
+behind k (Some b) = k b
+
+-- the lines of a grammar
 abbrev pub line_set : {A : Type 0} → Grammar A → LineSet A
-line_set (ends a) = set.ends a
-line_set (word text g) = set.word text (line_set g)
-line_set (word_or text g h) = either (set.word text (line_set g)) (line_set h)
-line_set (class c k) = set.class c.of (λ b. line_set (k b))
-line_set (maybe a g) = set.maybe a (line_set g)
+line_set (ends a) = node (Some a) (λ w. nothing)
+line_set (word text g) = node None (λ w. if bytes_eq w text then line_set g else nothing)
+line_set (word_or text g h) = node (end_of (line_set h)) (λ w. if bytes_eq w text then line_set g else next_of (line_set h) w)
+line_set (class c k) = node None (λ w. behind (λ b. line_set (k b)) (c.of w))
+line_set (maybe a g) = node (Some a) (next_of (line_set g))
 
 -- what the words from place i on mean, or the place of the first that is refused: they are read from left to right
 abbrev pub read_at : {A : Type 0} → Grammar A → List Word → ℕ → Result A ℕ

@@ -146,7 +146,7 @@ fn read_bus(words: &[&[u8]], at: u16, force: bool) -> Result<Cmd, WordRefused>
 }
 
 /// Reads what stands behind the first word.
-#[tactic(auto, unfolding(crate::specs::Lines::get_words), using(crate::proofs::GrammarLemmas::options_read))]
+#[tactic(auto, unfolding(crate::specs::Lines::get_words), using(crate::proofs::OptionLemmas::options_read))]
 pub fn read_get(words: &[&[u8]]) -> Result<Cmd, WordRefused>
     ensures { result ≡ read_at get_words (texts words.now) 1 }
 {
