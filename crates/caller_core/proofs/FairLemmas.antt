@@ -7,7 +7,8 @@ use Rattle.i2c_base.specs.Board.{BoardView}
 use Rattle.i2c_base.specs.Transfer.{TransferView}
 use Rattle.i2c_spec.specs.Cost.{full_cost, steps_of, cost_of}
 use Rattle.i2c_spec.specs.Tree.{hops, buses}
-use Rattle.tool_run.proofs.TransferLemmas.{IsAsk, asks_at}
+use Rattle.tool_run.proofs.ToolLemmas.{asks_at}
+use Rattle.tool_run.proofs.TransferLemmas.{IsAsk}
 use Rattle.caller_core.specs.Callers.{ScriptsAreFair}
 use Rattle.caller_core.specs.Progress.{Progress, progress, asked_at}
 use Rattle.caller_core.specs.Scripts.{commands_of, asked_by, left_of, cost_of_script}

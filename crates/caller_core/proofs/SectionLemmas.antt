@@ -12,7 +12,7 @@ use Rattle.tool_words.specs.Commands.{line_read}
 use Rattle.tool_words.specs.Fronts.{is_blank, begins_word, begins_feed, onto_first, words_of, behind_space, joined_words, lines_of}
 use Rattle.tool_words.specs.declared.cmd.Cmd.{Cmd}
 use Rattle.tool_run.specs.Tools.{answer_text, is_over}
-use Rattle.tool_run.proofs.LineLemmas.{answer_line}
+use Rattle.tool_run.proofs.ToolLemmas.{answer_line}
 use Rattle.caller_core.specs.Progress.{Answered, Progress, begun, next_turn, replied_to, replied, progress}
 use Rattle.caller_core.specs.Scripts.{Place, command_of, at_most, lines_read, behind_commands, behind_line_read, commands_or_none, script_read, commands_of, command_text}
 use Rattle.caller_core.specs.Sections.{SectionsHaveNoJournalLine}

@@ -17,7 +17,7 @@ use Rattle.tool_words.specs.Lines.{IsInRange}
 use Rattle.tool_run.specs.Replies.{reply_of, replies_of}
 use Rattle.tool_run.specs.Tools.{transfers_of, ends_early, is_over}
 use Rattle.tool_run.specs.View.{RunView}
-use Rattle.tool_run.proofs.TransferLemmas.{asks_some}
+use Rattle.tool_run.proofs.ToolLemmas.{asks_some}
 use Rattle.caller_core.specs.Kept.{IsAt, run_of}
 use Rattle.caller_core.specs.Progress.{Answered, Progress, next_turn, replied_to, progress, next_of, asked_at}
 use Rattle.caller_core.specs.Scripts.{commands_of, command_text, section_text}

@@ -1,4 +1,5 @@
 pub mod AnswerLemmas
 pub mod GetLemmas
 pub mod LineLemmas
+pub mod ToolLemmas
 pub mod TransferLemmas

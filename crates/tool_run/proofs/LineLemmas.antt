@@ -1,4 +1,4 @@
--- An answer is one line, and not the line `journal`.
+-- The text of a value is one line, and not the line `journal`.
 use Rattle.std.proofs.Common.{◌≡◌, ℕ, ◌<◌, ◌/◌, ◌%◌, false, List, [], ◌∷◌, ◌++◌, ◌==◌, codes, get_or, refl, ap, arith}
 use Rattle.std.specs.Prelude.{Result, Ok, Err}
 use Rattle.std.specs.List.{flat_map}
@@ -9,16 +9,11 @@ use Rattle.bus_journal.proofs.LineFeeds.{line-append}
 use Rattle.bus_spec.specs.Lines.{hex_digit, two_digits, errno_text}
 use Rattle.i2c_base.specs.declared.errno.Errno.{Errno}
 use Rattle.i2c_base.specs.declared.errno.Errno.TheVariants.{Eio, Enxio, Ebadf, Ebusy, Enodev, Einval, Eproto, Ebadmsg, Eopnotsupp, Etimedout, Eremoteio}
-use Rattle.i2c_base.specs.declared.reply.Reply.{Reply}
 use Rattle.smb_emul.specs.declared.call.SmbFail.{SmbFail}
 use Rattle.smb_emul.specs.declared.call.SmbFail.TheVariants as fail
 use Rattle.smb_emul.specs.Value.{ValueView}
 use Rattle.smb_emul.specs.Value as value
-use Rattle.tool_words.specs.declared.cmd.Cmd.{Cmd}
-use Rattle.tool_words.specs.declared.cmd.Cmd.TheVariants as cmd
-use Rattle.tool_run.specs.Gets.{result_text, value_text}
-use Rattle.tool_run.specs.Texts.{byte_word, double_word, spaced_word, byte_words, fail_text}
-use Rattle.tool_run.specs.Tools.{answer_text}
+use Rattle.tool_run.specs.Texts.{byte_word, double_word, spaced_word, byte_words, fail_text, value_text, result_text}
 
 digit : (n : ℕ) → (hex_digit n == 10) ≡ false
 digit n = grind (arith, nat_tests)
@@ -60,7 +55,7 @@ value_line (value.word w) = record { one = line-append (codes "0x") (two_digits 
 value_line (value.block []) = record { one = refl; other = others [] 0 refl (omega arith) }
 value_line (value.block (b ∷ bs)) = record { one = line-append (byte_word b) (flat_map spaced_word bs) (word b) (spaced bs); other = others (byte_words (b ∷ bs)) 48 refl (omega arith) }
 
-result_line : (r : Result ValueView SmbFail) → IsSectionLine (result_text r)
+pub result_line : (r : Result ValueView SmbFail) → IsSectionLine (result_text r)
 result_line (Ok v) = value_line v
 result_line (Err (fail.Errno e)) = errno e
 result_line (Err (fail.Pec got want)) =
@@ -68,6 +63,3 @@ result_line (Err (fail.Pec got want)) =
       one = line-append (codes "EBADMSG got ") (byte_word got ++ (codes " want " ++ byte_word want)) refl (line-append (byte_word got) (codes " want " ++ byte_word want) (word got) (line-append (codes " want ") (byte_word want) refl (word want)));
       other = others (fail_text (fail.Pec got want)) 69 refl (omega arith);
     }
-
-pub answer_line : (c : Cmd) (replies : List Reply) → IsSectionLine (answer_text c replies)
-answer_line (cmd.Get g) replies = result_line _

@@ -1,33 +1,24 @@
--- The transfers of a command are within the limits, and no reply to one brings more than it stands for.
-use Rattle.std.proofs.Common.{◌≡◌, ℕ, zero, suc, ◌+◌, ◌*◌, ◌^◌, ◌<◌, ◌≤◌, Bool, true, false, cond, List, [], ◌∷◌, length, drop, get_or, Option, Some, None, refl, sym, ap, subst, ◌∙◌, length-drop, arith}
-use Rattle.std.specs.Prelude.{All, IfSome, MatchBool, sum_by, unwrap_or, slice_get}
-use Rattle.std.proofs.lemmas.List.{length-map}
+-- The transfer of an SMBus call is within the limits, and no reply to a transfer brings more than it stands for.
+use Rattle.std.proofs.Common.{◌≡◌, ℕ, zero, suc, ◌+◌, ◌*◌, ◌<◌, ◌≤◌, Bool, true, false, cond, List, [], ◌∷◌, ◌++◌, length, take, drop, get_or, Option, Some, None, refl, ap, subst, length-drop, arith, add-one}
+use Rattle.std.specs.Prelude.{All, IfSome, MatchBool, sum_by}
+use Rattle.std.proofs.Math.Seq.{take-length}
+use Rattle.std.proofs.lemmas.List.{length-append}
 use Rattle.std.proofs.lemmas.List.Sums.{sum_by-cons}
-use Rattle.std.proofs.lemmas.List.Elements.{All-nil, All-cons, All-head, All-tail}
-use Rattle.std.proofs.lemmas.Option.{slice_get_within}
-use Rattle.i2c_base.specs.Bytes.{IsByte}
+use Rattle.std.proofs.lemmas.List.Elements.{All-nil, All-cons, All-head, All-tail, All-append, All-get_or}
+use Rattle.i2c_base.specs.Bytes.{IsByte, AreBytes}
 use Rattle.i2c_base.specs.Fitting.{Fits, FitsReads, FitsCounted, count_of}
-use Rattle.i2c_base.specs.Transfer.{TransferView, IsTransfer, IsMessage, is_read, is_counted, size_of, written, plain_read, counted_read}
+use Rattle.i2c_base.specs.Transfer.{TransferView, IsTransfer, IsMessage, is_read, is_counted, size_of, written_of, written, plain_read, counted_read}
 use Rattle.i2c_base.specs.declared.reply.Reply.{Reply}
 use Rattle.i2c_base.specs.declared.reply.Reply.TheVariants as reply
 use Rattle.i2c_base.specs.declared.transfer.Msg.{Msg}
+use Rattle.i2c_spec.specs.declared.smbus_row.ReadShape.{ReadShape}
+use Rattle.i2c_spec.specs.declared.smbus_row.ReadShape.TheVariants as read
 use Rattle.bus_journal.specs.Borrowed.{bytes_replied}
-use Rattle.smb_emul.specs.Calls.{messages_of_call}
+use Rattle.smb_emul.specs.Calls.{messages_of_call, call_row, is_coded, write_messages, read_messages, bytes_sent, code_sent, IsBlockLength, IsShortRead}
 use Rattle.smb_emul.specs.declared.call.SmbCall.{SmbCall}
-use Rattle.smb_emul.specs.declared.call.SmbOp.{SmbOp}
-use Rattle.smb_emul.specs.declared.call.SmbOp.TheVariants as op
 use Rattle.smb_pec.specs.LongDivision.{pec}
-use Rattle.smb_pec.proofs.DivisionLemmas.{pec_more}
-use Rattle.smb_pec.proofs.TableLemmas.{code_is_byte}
-use Rattle.tool_words.specs.Lines.{IsInRange}
-use Rattle.tool_words.specs.declared.cmd.Cmd.{Cmd}
-use Rattle.tool_words.specs.declared.cmd.Cmd.TheVariants as cmd
-use Rattle.tool_words.specs.declared.cmd.get.GetMode.{GetMode}
-use Rattle.tool_words.specs.declared.cmd.get.GetMode.TheVariants as mode
-use Rattle.tool_run.specs.Gets.{mode_of, len_of, ops_by, get_ops, get_call, op_at}
+use Rattle.smb_pec.proofs.TableLemmas.{code_is_byte, code_more}
 use Rattle.tool_run.specs.Replies.{most_brought}
-use Rattle.tool_run.specs.Tools.{transfers_of}
-use Rattle.tool_run.proofs.GetLemmas.{transfer_there}
 
 -- ---- what a reply brings
 
@@ -52,150 +43,115 @@ brings_few t reply.Done keeps fits = omega arith
 brings_few t (reply.Read bytes) keeps fits = few_read t.msgs bytes keeps.each fits.1
 brings_few t (reply.Err errno) keeps fits = omega arith
 
--- ---- what a command asks for
+-- ---- what a call asks for
 
-code_of_two : (a b : ℕ) → a < 256 → b < 256 → pec (a ∷ b ∷ []) < 256
-code_of_two a b small byte =
-    let none : pec [] ≡ 0 = refl in
-    let one : pec (a ∷ []) < 256 = rw (pec_more [] a small) (code_is_byte (pec []) a (omega (arith, none)) small) in
-    rw (pec_more (a ∷ []) b byte) (code_is_byte (pec (a ∷ [])) b one byte)
+-- an error code is a byte. The induction goes over how many bytes it is of
+code_so_far : (bytes : List ℕ) (n : ℕ) → AreBytes bytes → n ≤ length bytes → pec (take n bytes) < 256
+code_so_far bytes zero each within = let none : pec [] ≡ 0 = refl in omega (arith, none)
+code_so_far bytes (suc n) each within =
+    let byte : IsByte (get_or bytes n 0) = All-get_or IsByte bytes n 0 (omega (arith, within)) each in
+    let code : pec (take n bytes) < 256 = code_so_far bytes n each (omega (arith, within)) in
+    let more : pec (take (n + 1) bytes) < 256 = subst (λ c. c < 256) (code_more bytes n (pec (take n bytes)) (omega (arith, within)) byte refl) (code_is_byte (pec (take n bytes)) (get_or bytes n 0) code byte) in
+    rw (← add-one n) more
 
-is_written : (addr n : ℕ) → n ≤ 2 → IsMessage (written addr n)
-is_written addr n few = (omega (arith, few), λ e. cc, λ e. cc)
+code_byte : (bytes : List ℕ) → AreBytes bytes → pec bytes < 256
+code_byte bytes each = rw (take-length bytes) at (code_so_far bytes (length bytes) each (omega arith))
 
-is_plain_read : (addr n : ℕ) → 0 < n → n ≤ 33 → IsMessage (plain_read addr n)
-is_plain_read addr n some few = (omega (arith, few), λ e. cc, λ e. omega (arith, some))
+one_byte : (b : ℕ) → b < 256 → AreBytes (b ∷ [])
+one_byte b small = All-cons IsByte b [] small (All-nil IsByte)
 
-is_counted_read : (addr : ℕ) (extra : Bool) → IsMessage (counted_read addr extra)
-is_counted_read addr true = (omega arith, λ e. (refl, omega arith, omega arith), λ e. omega arith)
-is_counted_read addr false = (omega arith, λ e. (refl, omega arith, omega arith), λ e. omega arith)
+-- bytes that a call may write: a command byte, a count, and a block
+pub record IsShortWrite (bytes : List ℕ) : Type 0 where
+  pub each : AreBytes bytes
+  pub few : length bytes ≤ 257
+
+-- with its error code there is one more
+record IsSent (out : List ℕ) : Type 0 where
+  each : AreBytes out
+  few : length out ≤ 258
+
+without_code : (bytes : List ℕ) → IsShortWrite bytes → IsSent (bytes ++ [])
+without_code bytes short = record { each = All-append IsByte bytes [] short.each (All-nil IsByte); few = omega (arith, short.few, length-append bytes []) }
+
+is_sent : (addr : ℕ) (coded : Bool) (r : ReadShape) (bytes : List ℕ) → addr ≤ 119 → IsShortWrite bytes → IsSent (bytes ++ code_sent addr coded r bytes)
+is_sent addr true read.Nothing bytes near short =
+    let code : ℕ = pec (2 * addr ∷ bytes) in
+    let byte : code < 256 = code_byte (2 * addr ∷ bytes) (All-cons IsByte (2 * addr) bytes (omega (arith, near)) short.each) in
+    record { each = All-append IsByte bytes (code ∷ []) short.each (one_byte code byte); few = omega (arith, short.few, length-append bytes (code ∷ [])) }
+is_sent addr false read.Nothing bytes near short = without_code bytes short
+is_sent addr coded (read.Plain n) bytes near short = without_code bytes short
+is_sent addr coded read.Counted bytes near short = without_code bytes short
 
 one_message : (m : Msg) → IsMessage m → All IsMessage (m ∷ [])
 one_message m is = All-cons IsMessage m [] is (All-nil IsMessage)
 
-one_byte : (b : ℕ) → b < 2 ^ 8 → All IsByte (b ∷ [])
-one_byte b small = All-cons IsByte b [] small (All-nil IsByte)
+is_written : (addr n : ℕ) → n ≤ 258 → IsMessage (written addr n)
+is_written addr n few = (omega (arith, few), λ e. cc, λ e. cc)
 
-received_fits : (addr n : ℕ) → 0 < n → n ≤ 33 → IsTransfer (plain_read addr n ∷ []) []
-received_fits addr n some few =
-    record { count = omega arith; each = one_message (plain_read addr n) (is_plain_read addr n some few); size = omega (arith, few); written = refl; bytes = All-nil IsByte }
-
-read_fits : (addr reg n : ℕ) → reg < 2 ^ 8 → 0 < n → n ≤ 33 → IsTransfer (written addr 1 ∷ plain_read addr n ∷ []) (reg ∷ [])
-read_fits addr reg n byte some few =
+written_fits : (addr : ℕ) (out : List ℕ) → IsSent out → IsTransfer (written addr (length out) ∷ []) out
+written_fits addr out sent =
     record {
       count = omega arith;
-      each = All-cons IsMessage (written addr 1) (plain_read addr n ∷ []) (is_written addr 1 (omega arith)) (one_message (plain_read addr n) (is_plain_read addr n some few));
-      size = omega (arith, few);
-      written = refl;
-      bytes = one_byte reg byte;
+      each = one_message (written addr (length out)) (is_written addr (length out) sent.few);
+      size = omega (arith, sent.few);
+      written = omega arith;
+      bytes = sent.each;
     }
 
-counted_fits : (addr reg : ℕ) (extra : Bool) → reg < 2 ^ 8 → IsTransfer (written addr 1 ∷ counted_read addr extra ∷ []) (reg ∷ [])
-counted_fits addr reg true byte =
+-- a message that a call reads by
+record IsRead (m : Msg) : Type 0 where
+  message : IsMessage m
+  size : size_of m ≤ 258
+  writes : written_of m ≡ 0
+
+plain_is_read : (addr : ℕ) (coded : Bool) (n : ℕ) → IsBlockLength 32 n → IsRead (plain_read addr (cond coded (n + 1) n))
+plain_is_read addr true n short = record { message = (omega (arith, short.1), λ e. cc, λ e. omega arith); size = omega (arith, short.1); writes = refl }
+plain_is_read addr false n short = record { message = (omega (arith, short.1), λ e. cc, λ e. omega (arith, short.0)); size = omega (arith, short.1); writes = refl }
+
+counted_is_read : (addr : ℕ) (extra : Bool) → IsRead (counted_read addr extra)
+counted_is_read addr true = record { message = (omega arith, λ e. (refl, omega arith, omega arith), λ e. omega arith); size = omega arith; writes = refl }
+counted_is_read addr false = record { message = (omega arith, λ e. (refl, omega arith, omega arith), λ e. omega arith); size = omega arith; writes = refl }
+
+read_fits : (m : Msg) → IsRead m → IsTransfer (m ∷ []) []
+read_fits m is =
     record {
       count = omega arith;
-      each = All-cons IsMessage (written addr 1) (counted_read addr true ∷ []) (is_written addr 1 (omega arith)) (one_message (counted_read addr true) (is_counted_read addr true));
-      size = omega arith;
-      written = refl;
-      bytes = one_byte reg byte;
+      each = one_message m is.message;
+      size = omega (arith, is.size, sum_by-cons size_of m []);
+      written = omega (arith, is.writes, sum_by-cons written_of m []);
+      bytes = All-nil IsByte;
     }
-counted_fits addr reg false byte =
+
+both_fit : (addr : ℕ) (out : List ℕ) (m : Msg) → IsSent out → IsRead m → IsTransfer (written addr (length out) ∷ m ∷ []) out
+both_fit addr out m sent is =
     record {
       count = omega arith;
-      each = All-cons IsMessage (written addr 1) (counted_read addr false ∷ []) (is_written addr 1 (omega arith)) (one_message (counted_read addr false) (is_counted_read addr false));
-      size = omega arith;
-      written = refl;
-      bytes = one_byte reg byte;
+      each = All-cons IsMessage (written addr (length out)) (m ∷ []) (is_written addr (length out) sent.few) (one_message m is.message);
+      size = omega (arith, sent.few, is.size, sum_by-cons size_of (written addr (length out)) (m ∷ []), sum_by-cons size_of m []);
+      written = omega (arith, is.writes, sum_by-cons written_of (written addr (length out)) (m ∷ []), sum_by-cons written_of m []);
+      bytes = sent.each;
     }
+
+row_fits : (addr : ℕ) (coded : Bool) (r : ReadShape) (write : Option (List ℕ)) → addr ≤ 119 → IfSome write IsShortWrite → IsShortRead r
+    → IsTransfer (write_messages addr coded r write ++ read_messages addr coded r) (bytes_sent addr coded r write)
+row_fits addr coded read.Nothing None near short reads = record { count = omega arith; each = All-nil IsMessage; size = omega arith; written = refl; bytes = All-nil IsByte }
+row_fits addr coded read.Nothing (Some bytes) near short reads = written_fits addr (bytes ++ code_sent addr coded read.Nothing bytes) (is_sent addr coded read.Nothing bytes near short)
+row_fits addr coded (read.Plain n) None near short reads = read_fits (plain_read addr (cond coded (n + 1) n)) (plain_is_read addr coded n reads)
+row_fits addr coded (read.Plain n) (Some bytes) near short reads =
+    both_fit addr (bytes ++ []) (plain_read addr (cond coded (n + 1) n)) (without_code bytes short) (plain_is_read addr coded n reads)
+row_fits addr coded read.Counted None near short reads = read_fits (counted_read addr coded) (counted_is_read addr coded)
+row_fits addr coded read.Counted (Some bytes) near short reads = both_fit addr (bytes ++ []) (counted_read addr coded) (without_code bytes short) (counted_is_read addr coded)
 
 -- a transfer within the limits, which has messages
 pub record IsAsk (t : TransferView) : Type 0 where
   pub fits : IsTransfer t.msgs t.out
   pub sends : 0 < length t.msgs
 
-module _ (bus addr : ℕ) (force : Bool) (near : addr ≤ 119) where
-  abbrev call_by : Bool → SmbOp → SmbCall
-  call_by coded o = record { bus = bus; addr = addr; force = force; pec = coded; op = o }
+-- so is that of any call with short writes and reads
+pub call_asks : (call : SmbCall) → call.addr ≤ 119 → IfSome (call_row call.op).write IsShortWrite → IsShortRead (call_row call.op).read
+    → 0 < length (messages_of_call call).msgs → IsAsk (messages_of_call call)
+call_asks call near short reads some =
+    record { fits = row_fits call.addr (is_coded call) (call_row call.op).read (call_row call.op).write near short reads; sends = some }
 
-  sent_fits : (coded : Bool) (reg : ℕ) → reg < 2 ^ 8 → IsAsk (messages_of_call (call_by coded (op.SendByte reg)))
-  sent_fits true reg byte =
-      record {
-        fits = record {
-          count = omega arith;
-          each = one_message (written addr 2) (is_written addr 2 (omega arith));
-          size = omega arith;
-          written = refl;
-          bytes = All-cons IsByte reg (pec (2 * addr ∷ reg ∷ []) ∷ []) byte (one_byte (pec (2 * addr ∷ reg ∷ [])) (code_of_two (2 * addr) reg (omega (arith, near)) byte));
-        };
-        sends = omega arith;
-      }
-  sent_fits false reg byte =
-      record {
-        fits = record { count = omega arith; each = one_message (written addr 1) (is_written addr 1 (omega arith)); size = omega arith; written = refl; bytes = one_byte reg byte };
-        sends = omega arith;
-      }
-
-  byte_fits : (coded : Bool) (reg : ℕ) → reg < 2 ^ 8 → IsAsk (messages_of_call (call_by coded (op.ReadByte reg)))
-  byte_fits true reg byte = record { fits = read_fits addr reg 2 byte (omega arith) (omega arith); sends = omega arith }
-  byte_fits false reg byte = record { fits = read_fits addr reg 1 byte (omega arith) (omega arith); sends = omega arith }
-
-  word_fits : (coded : Bool) (reg : ℕ) → reg < 2 ^ 8 → IsAsk (messages_of_call (call_by coded (op.ReadWord reg)))
-  word_fits true reg byte = record { fits = read_fits addr reg 3 byte (omega arith) (omega arith); sends = omega arith }
-  word_fits false reg byte = record { fits = read_fits addr reg 2 byte (omega arith) (omega arith); sends = omega arith }
-
-  block_fits : (coded : Bool) (reg : ℕ) → reg < 2 ^ 8 → IsAsk (messages_of_call (call_by coded (op.BlockRead reg)))
-  block_fits true reg byte = record { fits = counted_fits addr reg true byte; sends = omega arith }
-  block_fits false reg byte = record { fits = counted_fits addr reg false byte; sends = omega arith }
-
-  i2c_fits : (coded : Bool) (reg len : ℕ) → reg < 2 ^ 8 → (1 ≤ len) × (len ≤ 32) → IsAsk (messages_of_call (call_by coded (op.I2cBlockRead reg len)))
-  i2c_fits true reg len byte few = record { fits = read_fits addr reg len byte (omega (arith, few.0)) (omega (arith, few.1)); sends = omega arith }
-  i2c_fits false reg len byte few = record { fits = read_fits addr reg len byte (omega (arith, few.0)) (omega (arith, few.1)); sends = omega arith }
-
-  received : (coded : Bool) → IsAsk (messages_of_call (call_by coded op.ReceiveByte))
-  received true = record { fits = received_fits addr 2 (omega arith) (omega arith); sends = omega arith }
-  received false = record { fits = received_fits addr 1 (omega arith) (omega arith); sends = omega arith }
-
-  op_fits : (coded : Bool) (reg : Option ℕ) (m : GetMode) (len k : ℕ) → k < length (ops_by reg m len) → IfSome reg (λ r. r < 2 ^ 8) → (1 ≤ len) × (len ≤ 32)
-      → IsAsk (messages_of_call (call_by coded (get_or (ops_by reg m len) k op.ReceiveByte)))
-  op_fits coded None m len zero within byte few = received coded
-  op_fits coded None m len (suc k) within byte few = absurd (omega (arith, within))
-  op_fits coded (Some reg) mode.Byte len zero within byte few = byte_fits coded reg byte
-  op_fits coded (Some reg) mode.Byte len (suc k) within byte few = absurd (omega (arith, within))
-  op_fits coded (Some reg) mode.Word len zero within byte few = word_fits coded reg byte
-  op_fits coded (Some reg) mode.Word len (suc k) within byte few = absurd (omega (arith, within))
-  op_fits coded (Some reg) mode.SendReceive len zero within byte few = sent_fits coded reg byte
-  op_fits coded (Some reg) mode.SendReceive len (suc zero) within byte few = received coded
-  op_fits coded (Some reg) mode.SendReceive len (suc (suc k)) within byte few = absurd (omega (arith, within))
-  op_fits coded (Some reg) mode.Block len zero within byte few = block_fits coded reg byte
-  op_fits coded (Some reg) mode.Block len (suc k) within byte few = absurd (omega (arith, within))
-  op_fits coded (Some reg) mode.I2cBlock len zero within byte few = i2c_fits coded reg len byte few
-  op_fits coded (Some reg) mode.I2cBlock len (suc k) within byte few = absurd (omega (arith, within))
-
-some_same : (a b : TransferView) → Some a ≡ Some b → a ≡ b
-some_same a b e = cc
-
-len_between : (len : Option ℕ) → IfSome len (λ n. (1 ≤ n) × (n ≤ 32)) → (1 ≤ unwrap_or len 32) × (unwrap_or len 32 ≤ 32)
-len_between None h = (omega arith, omega arith)
-len_between (Some n) h = h
-
-pub asks_at : (c : Cmd) (k : ℕ) (t : TransferView) → IsInRange c → slice_get (transfers_of c) k ≡ Some t → IsAsk t
-asks_at (cmd.Get g) k t range at =
-    let within : k < length (transfers_of (cmd.Get g)) = slice_get_within (transfers_of (cmd.Get g)) k t at in
-    let there : t ≡ messages_of_call (get_call g (op_at g k)) = some_same t (messages_of_call (get_call g (op_at g k))) (sym at ∙ transfer_there g k within) in
-    subst IsAsk (sym there)
-    (op_fits g.bus g.addr g.force (omega (arith, range.addr.1)) g.pec g.reg (mode_of g) (len_of g) k (omega (arith, within, length-map (get_ops g) (λ o. messages_of_call (get_call g o)))) range.reg (len_between g.len range.len))
-
--- a command asks for one transfer or two
-count_by : (reg : Option ℕ) (m : GetMode) (len : ℕ) → (0 < length (ops_by reg m len)) × (length (ops_by reg m len) ≤ 2)
-count_by None m len = (omega arith, omega arith)
-count_by (Some reg) mode.Byte len = (omega arith, omega arith)
-count_by (Some reg) mode.Word len = (omega arith, omega arith)
-count_by (Some reg) mode.SendReceive len = (omega arith, omega arith)
-count_by (Some reg) mode.Block len = (omega arith, omega arith)
-count_by (Some reg) mode.I2cBlock len = (omega arith, omega arith)
-
-pub asks_some : (c : Cmd) → 0 < length (transfers_of c)
-asks_some (cmd.Get g) = omega (arith, (count_by g.reg (mode_of g) (len_of g)).0, length-map (get_ops g) (λ o. messages_of_call (get_call g o)))
-
-pub asks_few : (c : Cmd) → length (transfers_of c) ≤ 2
-asks_few (cmd.Get g) = omega (arith, (count_by g.reg (mode_of g) (len_of g)).1, length-map (get_ops g) (λ o. messages_of_call (get_call g o)))
+pub short_byte : (b : ℕ) → b < 256 → IsShortWrite (b ∷ [])
+short_byte b small = record { each = one_byte b small; few = omega arith }

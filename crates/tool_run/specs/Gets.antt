@@ -1,20 +1,17 @@
 -- i2cget: the SMBus calls of its mode, and what it prints (i2c-tools, i2cget(8); SMBus 3.2, section 6.5).
-use Rattle.std.specs.Prelude.{ℕ, ◌+◌, ◌-◌, ◌*◌, List, [], ◌∷◌, length, map, slice_index_or, unwrap_or, Option, Some, None, Result, Ok, Err, codes}
+use Rattle.std.specs.Prelude.{ℕ, ◌+◌, ◌-◌, ◌*◌, List, [], ◌∷◌, length, map, slice_index_or, unwrap_or, Option, Some, None}
 use Rattle.i2c_base.specs.declared.reply.Reply.{Reply}
 use Rattle.i2c_base.specs.declared.reply.Reply.TheVariants as reply
 use Rattle.i2c_base.specs.Limits.{I2C_BLOCK_LIMIT}
 use Rattle.i2c_base.specs.Transfer.{TransferView}
 use Rattle.smb_emul.specs.Calls.{messages_of_call, value_of_call}
 use Rattle.smb_emul.specs.declared.call.SmbCall.{SmbCall}
-use Rattle.smb_emul.specs.declared.call.SmbFail.{SmbFail}
 use Rattle.smb_emul.specs.declared.call.SmbOp.{SmbOp}
 use Rattle.smb_emul.specs.declared.call.SmbOp.TheVariants as op
-use Rattle.smb_emul.specs.Value.{ValueView}
-use Rattle.smb_emul.specs.Value as value
 use Rattle.tool_words.specs.declared.cmd.get.Get.{Get}
 use Rattle.tool_words.specs.declared.cmd.get.GetMode.{GetMode}
 use Rattle.tool_words.specs.declared.cmd.get.GetMode.TheVariants as mode
-use Rattle.tool_run.specs.Texts.{byte_words, byte_word, double_word, fail_text}
+use Rattle.tool_run.specs.Texts.{result_text}
 
 -- no MODE is `b`, and no LEN is the most
 abbrev pub mode_of : Get → GetMode
@@ -45,17 +42,7 @@ get_call g o = record { bus = g.bus; addr = g.addr; force = g.force; pec = g.pec
 abbrev pub get_transfers : Get → List TransferView
 get_transfers g = map (λ o. messages_of_call (get_call g o)) (get_ops g)
 
--- the value of the last call that was replied to, or why there is none
-abbrev pub value_text : ValueView → List ℕ
-value_text value.done = codes "ok"
-value_text (value.byte b) = byte_word b
-value_text (value.word w) = double_word w
-value_text (value.block bytes) = byte_words bytes
-
-abbrev pub result_text : Result ValueView SmbFail → List ℕ
-result_text (Ok v) = value_text v
-result_text (Err e) = fail_text e
-
+-- its answer is the value of the last call that was replied to, or why there is none
 abbrev pub op_at : Get → ℕ → SmbOp
 op_at g k = slice_index_or (get_ops g) k op.ReceiveByte
 
@@ -64,18 +51,7 @@ get_answer g replies =
     let last = length replies - 1 in
     result_text (value_of_call (get_call g (op_at g last)) (slice_index_or replies last reply.Done))
 
--- the block that was read, if any
-abbrev pub block_of_value : ValueView → List ℕ
-block_of_value value.done = []
-block_of_value (value.byte b) = []
-block_of_value (value.word w) = []
-block_of_value (value.block bytes) = bytes
-
-abbrev pub block_in : Result ValueView SmbFail → List ℕ
-block_in (Ok v) = block_of_value v
-block_in (Err e) = []
-
--- it has at most so many bytes
+-- the block that is read has at most so many bytes
 abbrev pub block_most : GetMode → ℕ → ℕ
 block_most mode.Byte len = 0
 block_most mode.Word len = 0

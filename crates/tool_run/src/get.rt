@@ -7,9 +7,9 @@ ghost use Rattle.bus_journal.specs.Borrowed.{reply_by};
 ghost use Rattle.smb_emul.specs.Calls.{messages_of_call, value_of_call};
 ghost use Rattle.smb_emul.specs.Value.{value_seen, outcome_seen};
 ghost use Rattle.tool_words.specs.Lines.{IsGetInRange};
-ghost use Rattle.tool_run.specs.Gets.{mode_of, len_of, register_ops, get_ops, op_at, get_call, get_transfers, get_answer, result_text, value_text, block_of_value, block_in, get_most};
+ghost use Rattle.tool_run.specs.Gets.{mode_of, len_of, register_ops, get_ops, op_at, get_call, get_transfers, get_answer, get_most};
 ghost use Rattle.tool_run.specs.Replies.{replies_of};
-ghost use Rattle.tool_run.specs.Texts.{fail_text};
+ghost use Rattle.tool_run.specs.Texts.{fail_text, value_text, result_text, block_of_value, block_in};
 ghost use Rattle.tool_run.specs.Tools.{AreReplies, is_error};
 ghost use Rattle.tool_words.specs.declared.cmd.Cmd.TheVariants as cmd;
 

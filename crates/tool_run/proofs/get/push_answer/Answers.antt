@@ -4,9 +4,11 @@ use Rattle.i2c_base.specs.Fitting.{Fits}
 use Rattle.i2c_base.specs.declared.reply.Reply.{Reply}
 use Rattle.i2c_base.specs.declared.reply.Reply.TheVariants as reply
 use Rattle.smb_emul.specs.Calls.{messages_of_call, value_of_call}
-use Rattle.tool_run.specs.Gets.{get_call, op_at, result_text}
+use Rattle.tool_run.specs.Gets.{get_call, op_at}
 use Rattle.tool_run.specs.Replies.{replies_of}
-use Rattle.tool_run.proofs.GetLemmas.{last_kept, transfer_there}
+use Rattle.tool_run.specs.Texts.{result_text}
+use Rattle.tool_run.proofs.AnswerLemmas.{last_kept}
+use Rattle.tool_run.proofs.GetLemmas.{transfer_there}
 use Rattle.tool_run.proofs.get.push_answer.Goals as goal
 
 pub push_reply-requires-clause-fits : goal.push_reply-requires-clause-fits

@@ -4,8 +4,9 @@ use Rattle.i2c_base.specs.declared.reply.Reply.TheVariants as reply
 use Rattle.bus_journal.specs.Borrowed.{reply_by}
 use Rattle.bus_journal.specs.declared.borrowed.ReplyHead.{ReplyHead}
 use Rattle.smb_emul.specs.Calls.{messages_of_call, value_of_call}
-use Rattle.tool_run.specs.Gets.{get_call, op_at, block_in}
-use Rattle.tool_run.proofs.GetLemmas.{block_short}
+use Rattle.tool_run.specs.Gets.{get_call, op_at}
+use Rattle.tool_run.specs.Texts.{block_in}
+use Rattle.tool_run.proofs.GetLemmas.{get_short}
 use Rattle.tool_run.proofs.get.push_reply.Goals as goal
 
 pub push_outcome-requires : goal.push_outcome-requires
@@ -16,7 +17,7 @@ push_outcome-requires c =
     let fits = subst (λ (a : ReplyHead). Fits (messages_of_call (get_call g (op_at g k))) (reply_by a bytes)) c.in-Read.is c.requires.fits in
     let call = c.call_of-call.ensures ∙ ap (get_call g) c.op_at-op.ensures in
     let seen = c.value_read.ensures ∙ ap (λ x. value_of_call x (reply.Read bytes)) call in
-    omega (arith, c.requires.room, block_short g k bytes c.requires.within fits, ap (λ o. length (block_in o)) seen)
+    omega (arith, c.requires.room, get_short g k c.requires.within bytes fits, ap (λ o. length (block_in o)) seen)
 
 pub returns-in-Read-clause-room : goal.returns-in-Read-clause-room
 returns-in-Read-clause-room c =
@@ -26,4 +27,4 @@ returns-in-Read-clause-room c =
     let fits = subst (λ (a : ReplyHead). Fits (messages_of_call (get_call g (op_at g k))) (reply_by a bytes)) c.in-Read.is c.requires.fits in
     let call = c.call_of-call.ensures ∙ ap (get_call g) c.op_at-op.ensures in
     let seen = c.value_read.ensures ∙ ap (λ x. value_of_call x (reply.Read bytes)) call in
-    omega (arith, c.push_outcome.ensures.room, block_short g k bytes c.requires.within fits, ap (λ o. length (block_in o)) seen)
+    omega (arith, c.push_outcome.ensures.room, get_short g k c.requires.within bytes fits, ap (λ o. length (block_in o)) seen)
