@@ -24,7 +24,7 @@ pub data Grammar (A : Type 0) : Type 1 where
   -- nothing, and then the line means a, or else the rest
   maybe : A → Grammar A → Grammar A
 
--- what a line that ends where a set begins means, and what may follow a word there
+-- what a line means that ends where a set begins, and what may follow each word there
 abbrev pub end_of : {A : Type 0} → LineSet A → Option A
 end_of nothing = None
 end_of (node e f) = e

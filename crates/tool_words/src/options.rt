@@ -48,7 +48,7 @@ pub fn address_at(words: &[&[u8]], at: u16) -> Result<Addr, WordRefused>
     }
 }
 
-/// The number of a register in the word at a place.
+/// The byte in the word at a place, as the number of a register is.
 pub fn byte_at(words: &[&[u8]], at: u16) -> Result<u8, WordRefused>
     ensures { result ≡ one_at byte.of (texts words.now) at }
 {
