@@ -1,5 +1,4 @@
 pub mod Causes
-pub mod Devices
 pub mod LineCalls
 pub mod Shelves
 pub mod Sinks

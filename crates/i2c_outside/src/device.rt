@@ -2,7 +2,6 @@ ghost use Rattle.std.specs.Prelude.{◌≡◌, IfOk};
 ghost use Rattle.i2c_spec.specs.Plain.{IsPlainDevice};
 ghost use Rattle.i2c_spec.specs.Targets as target;
 ghost use Rattle.i2c_spec.specs.Targets.{opening_state, silent_answer, state_answer};
-ghost use Rattle.i2c_outside.specs.Devices.{target_state};
 
 use i2c_base::{Answer, DeviceKind, DeviceSpec, Event, NoMemory, Target};
 use std::alloc::Global;
@@ -28,11 +27,18 @@ pub struct DeviceState {
 
 impl Model for DeviceState {
     ghost use Rattle.i2c_spec.specs.Targets.{TargetState};
-    ghost use Rattle.i2c_outside.specs.Devices.{target_state};
+    ghost use Rattle.i2c_spec.specs.Targets as target;
+    ghost use Rattle.i2c_outside.specs.declared.device.Device.TheVariants as kind;
 
     ghost Value = { TargetState };
 
-    ghost view = { λ d. target_state d.device };
+    ghost view = { λ d. elim d.device [
+      | kind.Eeprom x ↦ target.Eeprom x
+      | kind.Lm75 x ↦ target.Lm75 x
+      | kind.Regs x ↦ target.Regs x
+      | kind.Smbus x ↦ target.Smbus x
+      | kind.Silent ↦ target.Silent
+    ] };
 }
 
 impl DeviceState {
@@ -42,10 +48,17 @@ impl DeviceState {
         ensures { IfOk result (λ d. d ≡ opening_state spec.now) }
     {
         let device = match spec.kind {
-            DeviceKind::Eeprom { .. } => Device::Eeprom(Eeprom::open(alloc, spec)?),
-            DeviceKind::Lm75 { .. } => Device::Lm75(Lm75::open(spec)),
-            DeviceKind::Regs { .. } => Device::Regs(Regs::open(spec)),
-            DeviceKind::Smbus { .. } => Device::Smbus(SmbusDevice::open(spec)),
+            DeviceKind::Eeprom {
+                size,
+                fill,
+                busy,
+                wp,
+            } => { Device::Eeprom(Eeprom::open(alloc, size, fill, busy, wp, &spec.set)?) }
+            DeviceKind::Lm75 { raw } => Device::Lm75(Lm75::open(raw)),
+            DeviceKind::Regs { hold } => Device::Regs(Regs::open(hold, &spec.set)),
+            DeviceKind::Smbus { width, flip } => {
+                Device::Smbus(SmbusDevice::open(spec.addr, width, flip, &spec.set))
+            }
         };
         Ok(DeviceState { device })
     }
@@ -76,14 +89,23 @@ impl DeviceState {
     pub fn copied(&self, alloc: Global) -> Result<Self, NoMemory>
         ensures { IfOk result (λ d. d ≡ self.now) }
     {
-        let device = match &self.device {
-            Device::Eeprom(eeprom) => Device::Eeprom(eeprom.copied(alloc)?),
-            Device::Lm75(lm75) => Device::Lm75(lm75.copied()),
-            Device::Regs(regs) => Device::Regs(regs.copied()),
-            Device::Smbus(smbus) => Device::Smbus(smbus.copied()),
-            Device::Silent => Device::Silent,
-        };
-        Ok(DeviceState { device })
+        Ok(DeviceState {
+            device: self.device.copied(alloc)?,
+        })
+    }
+}
+
+impl Device {
+    fn copied(&self, alloc: Global) -> Result<Self, NoMemory>
+        ensures { IfOk result (λ d. d ≡ self.now) }
+    {
+        match self {
+            Device::Eeprom(eeprom) => Ok(Device::Eeprom(eeprom.copied(alloc)?)),
+            Device::Lm75(lm75) => Ok(Device::Lm75(lm75.copied())),
+            Device::Regs(regs) => Ok(Device::Regs(regs.copied())),
+            Device::Smbus(smbus) => Ok(Device::Smbus(smbus.copied())),
+            Device::Silent => Ok(Device::Silent),
+        }
     }
 }
 

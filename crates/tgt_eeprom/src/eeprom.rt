@@ -1,12 +1,14 @@
 ghost use Rattle.std.specs.Prelude.{◌≡◌, ◌≤◌, All, IfOk, length, replicate};
 ghost use Rattle.i2c_base.specs.declared.event.Event.TheVariants as event;
-ghost use Rattle.i2c_spec.specs.Plain.{IsPlainDevice, IsPlainRun};
+ghost use Rattle.i2c_spec.specs.Plain.{IsPlainRun};
 ghost use Rattle.i2c_spec.specs.Regs.{write_runs};
+ghost use Rattle.i2c_spec.specs.Eeprom as phase;
 ghost use Rattle.i2c_spec.specs.Eeprom.{
   clear_to,
   eeprom_table,
   eeprom_after,
   eeprom_answer,
+  eeprom_opening,
   eeprom_sends,
   none_waiting,
   page_of_eeprom,
@@ -18,11 +20,8 @@ ghost use Rattle.i2c_spec.specs.Eeprom.{
   with_waiting,
   taken_in,
 };
-ghost use Rattle.i2c_spec.specs.Targets as target;
-ghost use Rattle.i2c_spec.specs.Targets.{opening_state};
-ghost use Rattle.tgt_eeprom.specs.Eeproms.{IsEeprom, phase_of};
 
-use i2c_base::{Answer, DeviceKind, DeviceSpec, Event, NoMemory, Run, Size, Target};
+use i2c_base::{Answer, Event, NoMemory, Run, Size, Target};
 use i2c_spec::{eeprom_bytes, eeprom_page, is_wide, write_runs};
 use std::alloc::Global;
 use std::marker::Model;
@@ -59,44 +58,60 @@ pub struct Eeprom {
 }
 
 impl Model for Eeprom {
-    ghost use Rattle.std.specs.Prelude.{length};
-    ghost use Rattle.i2c_spec.specs.Eeprom.{EepromView};
-    ghost use Rattle.tgt_eeprom.specs.Eeproms.{IsSized, phase_of};
+    ghost use Rattle.std.specs.Prelude.{◌≡◌, ◌<◌, None, Some, length};
+    ghost use Rattle.i2c_spec.specs.Eeprom.{EepromView, page_of_eeprom, size_of_eeprom};
+    ghost use Rattle.i2c_spec.specs.Eeprom as phase;
+    ghost use Rattle.tgt_eeprom.specs.declared.eeprom.Awaits.TheVariants as await;
 
     ghost Value = { EepromView };
 
-    ghost view = { λ e. record { size = e.size; phase = phase_of e.awaits; pointer = e.pointer; memory = e.memory.items; waiting = e.waiting.items; left = e.left; busy = e.busy; wp = e.wp } };
+    ghost view = { λ e. record {
+      size = e.size;
+      phase = elim e.awaits [
+        | await.Start ↦ phase.Idle
+        | await.Place ↦ phase.Address None
+        | await.LowByte high ↦ phase.Address (Some high)
+        | await.Byte ↦ phase.Data
+        | await.Get ↦ phase.Read
+      ];
+      pointer = e.pointer;
+      memory = e.memory.items;
+      waiting = e.waiting.items;
+      left = e.left;
+      busy = e.busy;
+      wp = e.wp;
+    } };
 
-    ghost invariant = { λ e. IsSized e.size e.pointer (length e.memory.items) (length e.waiting.items) };
+    // The memory has the size of its kind, each place of a page can wait, and the pointer is at a byte.
+    ghost invariant = { λ e.
+        (length e.memory.items ≡ size_of_eeprom e.size)
+        × (length e.waiting.items ≡ page_of_eeprom e.size)
+        × (e.pointer < size_of_eeprom e.size) };
 }
 
 impl Eeprom {
-    /// The EEPROM as its board says that it is opened: every byte as it was filled but for those that are set.
-    pub fn open(alloc: Global, spec: &DeviceSpec) -> Result<Self, NoMemory>
-        requires plain { IsPlainDevice spec.now }
-        requires eeprom { IsEeprom spec.now.kind }
-        ensures { IfOk result (λ e. target.Eeprom e ≡ opening_state spec.now) }
+    /// The EEPROM at the opening: every byte as it was filled but for those that are set.
+    pub fn open(
+        alloc: Global,
+        size: Size,
+        fill: u8,
+        busy: u8,
+        wp: bool,
+        set: &[Run],
+    ) -> Result<Self, NoMemory>
+        requires { All (IsPlainRun (size_of_eeprom size)) set.now }
+        ensures { IfOk result (λ e. e ≡ eeprom_opening size fill busy wp set.now) }
     {
-        match spec.kind {
-            DeviceKind::Eeprom {
-                size,
-                fill,
-                busy,
-                wp,
-            } => {
-                Ok(Eeprom {
-                    size,
-                    awaits: Awaits::Start,
-                    pointer: 0,
-                    memory: filled(alloc, size, fill, &spec.set)?,
-                    waiting: empty_page(alloc, size)?,
-                    left: 0,
-                    busy,
-                    wp,
-                })
-            }
-            _ => unreachable!(),
-        }
+        Ok(Eeprom {
+            size,
+            awaits: Awaits::Start,
+            pointer: 0,
+            memory: filled(alloc, size, fill, set)?,
+            waiting: empty_page(alloc, size)?,
+            left: 0,
+            busy,
+            wp,
+        })
     }
 
     /// The byte that the next read would give.
@@ -142,12 +157,19 @@ impl Eeprom {
         })
     }
 
-    /// The message in progress has come to this, and no byte waits.
-    fn clear_to(&mut self, awaits: Awaits)
-        ensures { self.new ≡ clear_to self.old (phase_of awaits) }
+    /// No byte waits any more.
+    fn drop_waiting(&mut self)
+        ensures { self.new ≡ clear_to self.old self.old.phase }
     {
-        self.awaits = awaits;
         self.waiting.fill(None);
+    }
+
+    /// The message in progress is over, and no byte waits.
+    fn end(&mut self)
+        ensures { self.new ≡ clear_to self.old phase.Idle }
+    {
+        self.awaits = Awaits::Start;
+        self.drop_waiting();
     }
 
     fn begin(&mut self, reading: bool) -> Answer
@@ -156,10 +178,11 @@ impl Eeprom {
     {
         if self.left > 0 {
             self.left -= 1;
-            self.clear_to(Awaits::Start);
+            self.end();
             return Answer::Nack;
         }
-        self.clear_to(if reading { Awaits::Get } else { Awaits::Place });
+        self.awaits = if reading { Awaits::Get } else { Awaits::Place };
+        self.drop_waiting();
         Answer::Ack
     }
 
@@ -207,7 +230,7 @@ impl Eeprom {
             }
             Awaits::Byte => {
                 if self.wp {
-                    self.clear_to(Awaits::Start);
+                    self.end();
                     return Answer::Nack;
                 }
                 self.wait(byte);
@@ -251,7 +274,7 @@ impl Eeprom {
             self.left = self.busy;
         }
         self.write_waiting();
-        self.clear_to(Awaits::Start);
+        self.end();
     }
 }
 
@@ -295,7 +318,7 @@ impl Target for Eeprom {
             Event::Put(byte) => self.put(byte),
             Event::Get { ack } => self.get(ack),
             Event::Other => {
-                self.clear_to(Awaits::Start);
+                self.end();
                 Answer::Nothing
             }
             Event::Stop => {

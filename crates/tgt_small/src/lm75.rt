@@ -1,10 +1,10 @@
 ghost use Rattle.std.specs.Prelude.{◌≡◌, ◌%◌, ◌<◌, ◌^◌};
 ghost use Rattle.i2c_base.specs.declared.event.Event.TheVariants as event;
-ghost use Rattle.i2c_spec.specs.Plain.{IsPlainDevice};
 ghost use Rattle.i2c_spec.specs.Lm75.{
   lm75_table,
   lm75_after,
   lm75_answer,
+  lm75_opening,
   lm75_sends,
   register_sends,
   register_written,
@@ -12,11 +12,8 @@ ghost use Rattle.i2c_spec.specs.Lm75.{
   word_written,
   high_bits,
 };
-ghost use Rattle.i2c_spec.specs.Targets as target;
-ghost use Rattle.i2c_spec.specs.Targets.{opening_state};
-ghost use Rattle.tgt_small.specs.Sensors.{IsLm75};
 
-use i2c_base::{Answer, DeviceKind, DeviceSpec, Event, Target};
+use i2c_base::{Answer, Event, Target};
 use std::marker::Model;
 
 /// What an LM75 awaits of the message in progress.
@@ -51,30 +48,38 @@ pub struct Lm75 {
 
 impl Model for Lm75 {
     ghost use Rattle.i2c_spec.specs.Lm75.{Lm75View};
-    ghost use Rattle.tgt_small.specs.Sensors.{sensor_phase_of};
+    ghost use Rattle.i2c_spec.specs.Lm75 as phase;
+    ghost use Rattle.tgt_small.specs.declared.lm75.Awaits.TheVariants as await;
 
     ghost Value = { Lm75View };
 
-    ghost view = { λ x. record { phase = sensor_phase_of x.awaits; pointer = x.pointer; temperature = x.temperature; configuration = x.configuration; hysteresis = x.hysteresis; limit = x.limit } };
+    ghost view = { λ x. record {
+      phase = elim x.awaits [
+        | await.Start ↦ phase.Idle
+        | await.Pointer ↦ phase.Pointer
+        | await.Byte k ↦ phase.Data k
+        | await.Get k ↦ phase.Read k
+      ];
+      pointer = x.pointer;
+      temperature = x.temperature;
+      configuration = x.configuration;
+      hysteresis = x.hysteresis;
+      limit = x.limit;
+    } };
 }
 
 impl Lm75 {
-    /// The sensor as its board says that it is opened.
-    pub fn open(spec: &DeviceSpec) -> Self
-        requires plain { IsPlainDevice spec.now }
-        requires lm75 { IsLm75 spec.now.kind }
-        ensures { target.Lm75 result ≡ opening_state spec.now }
+    /// The sensor at power-up, with this temperature.
+    pub fn open(raw: u16) -> Self
+        ensures { result ≡ lm75_opening raw }
     {
-        match spec.kind {
-            DeviceKind::Lm75 { raw } => Lm75 {
-                awaits: Awaits::Start,
-                pointer: 0,
-                temperature: high_bits(raw),
-                configuration: 0,
-                hysteresis: HYSTERESIS,
-                limit: LIMIT,
-            },
-            _ => unreachable!(),
+        Lm75 {
+            awaits: Awaits::Start,
+            pointer: 0,
+            temperature: high_bits(raw),
+            configuration: 0,
+            hysteresis: HYSTERESIS,
+            limit: LIMIT,
         }
     }
 

@@ -1,12 +1,9 @@
-ghost use Rattle.std.specs.Prelude.{◌≡◌};
-ghost use Rattle.i2c_spec.specs.Plain.{IsPlainDevice};
-ghost use Rattle.i2c_spec.specs.Regs.{regs_table, regs_after, regs_answer, regs_sends};
+ghost use Rattle.std.specs.Prelude.{◌≡◌, All};
+ghost use Rattle.i2c_spec.specs.Plain.{IsPlainRun};
+ghost use Rattle.i2c_spec.specs.Regs.{regs_table, regs_after, regs_answer, regs_opening, regs_sends};
 ghost use Rattle.i2c_base.specs.declared.event.Event.TheVariants as event;
-ghost use Rattle.i2c_spec.specs.Targets as target;
-ghost use Rattle.i2c_spec.specs.Targets.{opening_state};
-ghost use Rattle.tgt_small.specs.Registers.{IsRegs};
 
-use i2c_base::{Answer, DeviceKind, DeviceSpec, Event, MOST_LOOKS, Target};
+use i2c_base::{Answer, Event, MOST_LOOKS, Run, Target};
 use i2c_spec::write_runs;
 use std::marker::Model;
 
@@ -38,27 +35,32 @@ pub struct Regs {
 
 impl Model for Regs {
     ghost use Rattle.i2c_spec.specs.Regs.{RegsView};
+    ghost use Rattle.i2c_spec.specs.Regs as phase;
+    ghost use Rattle.tgt_small.specs.declared.registers.Awaits.TheVariants as await;
 
     ghost Value = { RegsView };
 
-    ghost use Rattle.tgt_small.specs.Registers.{phase_of};
-
-    ghost view = { λ r. record { phase = phase_of r.awaits; pointer = r.pointer; memory = r.memory; hold = r.hold } };
+    ghost view = { λ r. record {
+      phase = elim r.awaits [
+        | await.Start ↦ phase.Idle
+        | await.Pointer ↦ phase.Pointer
+        | await.Byte ↦ phase.Data
+        | await.Get ↦ phase.Read
+      ];
+      pointer = r.pointer;
+      memory = r.memory;
+      hold = r.hold;
+    } };
 }
 
 impl Regs {
-    /// The device as its board says that it is opened: every register 0 but for those that are set.
-    pub fn open(spec: &DeviceSpec) -> Self
-        requires plain { IsPlainDevice spec.now }
-        requires regs { IsRegs spec.now.kind }
-        ensures { target.Regs result ≡ opening_state spec.now }
+    /// The device at the opening: every register 0 but for those that are set.
+    pub fn open(hold: u8, set: &[Run]) -> Self
+        requires { All (IsPlainRun 256) set.now }
+        ensures { result ≡ regs_opening hold set.now }
     {
-        let hold = match spec.kind {
-            DeviceKind::Regs { hold } => hold,
-            _ => unreachable!(),
-        };
         let mut memory = [0; REGISTERS];
-        write_runs(&mut memory, &spec.set);
+        write_runs(&mut memory, set);
         Regs {
             awaits: Awaits::Start,
             pointer: 0,

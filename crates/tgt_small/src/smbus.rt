@@ -1,12 +1,13 @@
-ghost use Rattle.std.specs.Prelude.{◌≡◌, ◌<◌, ◌≤◌, false, length};
+ghost use Rattle.std.specs.Prelude.{◌≡◌, ◌<◌, ◌≤◌, All, false, length};
 ghost use Rattle.i2c_base.specs.declared.event.Event.TheVariants as event;
-ghost use Rattle.i2c_spec.specs.Plain.{IsPlainDevice};
+ghost use Rattle.i2c_spec.specs.Plain.{IsPlainRun};
 ghost use Rattle.i2c_spec.specs.SmbusDevice.{
   Data,
   Read,
   smbus_table,
   smbus_after,
   smbus_answer,
+  smbus_opening,
   smbus_put,
   smbus_put_answer,
   smbus_sends,
@@ -21,11 +22,8 @@ ghost use Rattle.i2c_spec.specs.SmbusDevice.{
   takes_effect,
   with_effect,
 };
-ghost use Rattle.i2c_spec.specs.Targets as target;
-ghost use Rattle.i2c_spec.specs.Targets.{opening_state};
-ghost use Rattle.tgt_small.specs.SmbusDevices.{IsSmbus};
 
-use i2c_base::{Addr, Answer, ByteStore, DeviceKind, DeviceSpec, Event, Target};
+use i2c_base::{Addr, Answer, ByteStore, Event, Run, Target};
 use i2c_spec::write_runs;
 use smb_pec::pec_with;
 use std::marker::Model;
@@ -65,31 +63,44 @@ pub struct SmbusDevice {
 }
 
 impl Model for SmbusDevice {
-    ghost use Rattle.i2c_spec.specs.SmbusDevice.{SmbusView};
-    ghost use Rattle.tgt_small.specs.SmbusDevices.{IsWithin, smbus_phase_of};
+    ghost use Rattle.std.specs.Prelude.{◌≤◌, length};
+    ghost use Rattle.i2c_spec.specs.SmbusDevice.{SmbusView, data_length, first_held};
+    ghost use Rattle.i2c_spec.specs.SmbusDevice as phase;
+    ghost use Rattle.tgt_small.specs.declared.smbus.Awaits.TheVariants as await;
 
     ghost Value = { SmbusView };
 
-    ghost view = { λ x. record { addr = x.addr; width = x.width; flip = x.flip; phase = smbus_phase_of x.awaits; command = x.command; code = x.code; held = x.held; memory = x.memory } };
+    ghost view = { λ x. record {
+      addr = x.addr;
+      width = x.width;
+      flip = x.flip;
+      phase = elim x.awaits [
+        | await.Start ↦ phase.Idle
+        | await.Command ↦ phase.Command
+        | await.Data ↦ phase.Data
+        | await.End ↦ phase.Checked
+        | await.Get k ↦ phase.Read k
+      ];
+      command = x.command;
+      code = x.code;
+      held = x.held;
+      memory = x.memory;
+    } };
 
-    ghost invariant = { λ x. IsWithin x.width x.held };
+    // No more bytes are held than the data have.
+    ghost invariant = { λ x. length x.held ≤ data_length x.width (first_held x.held) };
 }
 
 impl SmbusDevice {
-    /// The device as its board says that it is opened: every register 0 but for those that are set.
-    pub fn open(spec: &DeviceSpec) -> Self
-        requires plain { IsPlainDevice spec.now }
-        requires smbus { IsSmbus spec.now.kind }
-        ensures { target.Smbus result ≡ opening_state spec.now }
+    /// The device at the opening: every register 0 but for those that are set.
+    pub fn open(addr: Addr, width: u8, flip: u8, set: &[Run]) -> Self
+        requires { All (IsPlainRun 256) set.now }
+        ensures { result ≡ smbus_opening addr width flip set.now }
     {
-        let (width, flip) = match spec.kind {
-            DeviceKind::Smbus { width, flip } => (width, flip),
-            _ => unreachable!(),
-        };
         let mut memory = [0; REGISTERS];
-        write_runs(&mut memory, &spec.set);
+        write_runs(&mut memory, set);
         SmbusDevice {
-            addr: spec.addr,
+            addr,
             width,
             flip,
             awaits: Awaits::Start,

@@ -1,2 +1,0 @@
-pub mod Eeproms
-pub use Rattle.i2c_spec.specs.Eeprom
