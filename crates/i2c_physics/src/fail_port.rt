@@ -41,10 +41,9 @@ impl FailPort {
     ) -> Result<Self, AllocError>
         ensures { IfOk result (λ p. p ≡ opening_fails board.now calls.now root) }
     {
-        Ok(FailPort {
-            sim: SimPort::open(alloc, board, root)?,
-            fails: numbers_on(alloc, calls, root)?,
-        })
+        let fails = numbers_on(alloc, calls, root)?;
+        let sim = SimPort::open(alloc, board, root)?;
+        Ok(FailPort { sim, fails })
     }
 
     /// The next call fails, where its number is listed.

@@ -148,7 +148,7 @@ fn open_ports(
     let count = board.board().roots().len() as u16;
     let mut ports = Vec::with_capacity(alloc, usize::from(count))?;
     for root in 0..count {
-        ports.push(FailPort::open(alloc, board, SegId(root), calls)?)?;
+        ports.push_reserved(FailPort::open(alloc, board, SegId(root), calls)?);
     }
     Ok(ports)
 }

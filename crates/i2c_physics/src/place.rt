@@ -1,10 +1,10 @@
-ghost use Rattle.std.specs.Prelude.{◌≡◌, map, IfOk};
+ghost use Rattle.std.specs.Prelude.{◌≡◌, IfOk};
 ghost use Rattle.std.specs.List.{list_all};
 ghost use Rattle.i2c_spec.specs.Grant.{has_address};
 ghost use Rattle.i2c_spec.specs.Layouts.{board_of};
 ghost use Rattle.i2c_spec.specs.Plain.{IsPlainBoard};
 ghost use Rattle.i2c_spec.specs.World.{opens_hop};
-ghost use Rattle.i2c_physics.specs.Places.{place_on, mux_place, device_place, joins};
+ghost use Rattle.i2c_physics.specs.Places.{place_on, joins};
 
 use i2c_base::{Addr, SegId};
 use i2c_spec::{Hop, Layout};
@@ -32,7 +32,7 @@ impl Model for Place {
 
 impl Place {
     /// The place on this bus, of a target that is there or isn't.
-    fn open(
+    pub fn open(
         alloc: Global,
         layout: Layout<'_>,
         root: SegId,
@@ -90,34 +90,4 @@ fn opens(chips: &[Chip], hop: &Hop) -> bool
         Some(chip) => chip.opens(hop.channel),
         None => false,
     }
-}
-
-/// The places of the muxes, by number.
-pub fn mux_places(alloc: Global, layout: Layout<'_>, root: SegId) -> Result<Vec<Place>, AllocError>
-    requires { IsPlainBoard (board_of layout) }
-    ensures { IfOk result (λ places. places.items ≡ map (mux_place (board_of layout.entry) root) layout.entry.muxes.now) }
-{
-    let mut places = Vec::with_capacity(alloc, layout.muxes.len())?;
-    for mux in layout.muxes {
-        let there = !mux.absent && mux.addr.is_some();
-        places.push(Place::open(alloc, layout, root, mux.bus, mux.addr, there)?)?;
-    }
-    Ok(places)
-}
-
-/// The places of the devices, by number.
-pub fn device_places(
-    alloc: Global,
-    layout: Layout<'_>,
-    root: SegId,
-) -> Result<Vec<Place>, AllocError>
-    requires { IsPlainBoard (board_of layout) }
-    ensures { IfOk result (λ places. places.items ≡ map (device_place (board_of layout.entry) root) layout.entry.devices.now) }
-{
-    let mut places = Vec::with_capacity(alloc, layout.devices.len())?;
-    for device in layout.devices {
-        let addr = Some(device.addr);
-        places.push(Place::open(alloc, layout, root, device.bus, addr, true)?)?;
-    }
-    Ok(places)
 }

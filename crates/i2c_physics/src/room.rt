@@ -101,7 +101,7 @@ fn homes(alloc: Global, layout: Layout<'_>) -> Result<Vec<SegId>, AllocError>
 {
     let mut homes = Vec::with_capacity(alloc, layout.devices.len())?;
     for device in layout.devices {
-        homes.push(layout.root(device.bus))?;
+        homes.push_reserved(layout.root(device.bus));
     }
     Ok(homes)
 }

@@ -43,9 +43,11 @@ impl SimPort {
     pub(crate) fn open(alloc: Global, board: &Accepted, root: SegId) -> Result<Self, AllocError>
         ensures { IfOk result (λ p. p ≡ opening_port board.now root) }
     {
+        let log = Vec::with_capacity(alloc, MOST_CALLS)?;
+        let world = SimWorld::open(alloc, board, root)?;
         Ok(SimPort {
-            world: SimWorld::open(alloc, board, root)?,
-            log: Vec::with_capacity(alloc, MOST_CALLS)?,
+            world,
+            log,
             phase: Phase::Idle,
         })
     }

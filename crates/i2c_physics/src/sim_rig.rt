@@ -87,8 +87,8 @@ impl SimRig {
         ensures { self.new ≡ record self.old { plugs = counted self.old.plugs; room = None; kept = None } }
     {
         self.plugs = self.plugs.saturating_add(1);
-        self.room = None;
-        self.kept = None;
+        drop(self.room.take());
+        drop(self.kept.take());
     }
 
     /// It is refused, and a fault is counted.
@@ -106,7 +106,8 @@ impl SimRig {
         ensures ok { OnOk result (self.new ≡ record self.old { room = Some board.now }) }
         ensures err { OnErr result (self.new ≡ self.old) }
     {
-        self.room = Some(Room::open(alloc, board)?);
+        let room = Room::open(alloc, board)?;
+        drop(self.room.replace(room));
         Ok(())
     }
 
@@ -125,7 +126,7 @@ impl SimRig {
     {
         self.unplugs = self.unplugs.saturating_add(1);
         if let Some(room) = self.room.take() {
-            self.kept = Some(room.keep(ports));
+            drop(self.kept.replace(room.keep(ports)));
         }
     }
 }
@@ -204,7 +205,7 @@ fn open_ports(alloc: Global, board: &Accepted) -> Result<Vec<SimPort>, AllocErro
     let count = board.board().roots().len() as u16;
     let mut ports = Vec::with_capacity(alloc, usize::from(count))?;
     for root in 0..count {
-        ports.push(SimPort::open(alloc, board, SegId(root))?)?;
+        ports.push_reserved(SimPort::open(alloc, board, SegId(root))?);
     }
     Ok(ports)
 }

@@ -8,7 +8,6 @@ ghost use Rattle.i2c_physics.specs.Answering.{chips_say, devices_say};
 ghost use Rattle.i2c_physics.specs.SimRigs.{own_device, owns, without};
 ghost use Rattle.i2c_physics.specs.SimWorlds.{opened_on};
 
-use crate::place::{device_places, mux_places};
 use crate::reach::Reach;
 use crate::sites::{Sites, is_wired};
 use crate::socket::Socket;
@@ -62,13 +61,17 @@ impl SimWorld {
     {
         let layout = board.board().layout();
         openings_are_quiet();
+        let mux_places = Sites::of_muxes(alloc, layout, root)?;
+        let device_places = Sites::of_devices(alloc, layout, root)?;
+        let chips = open_chips(alloc, layout.muxes)?;
+        let devices = open_devices(alloc, layout, root)?;
         Ok(SimWorld {
             board: Snapshot::of(board),
             root,
-            mux_places: Sites::of(alloc, mux_places(alloc, layout, root)?)?,
-            device_places: Sites::of(alloc, device_places(alloc, layout, root)?)?,
-            chips: open_chips(alloc, layout.muxes)?,
-            devices: open_devices(alloc, layout, root)?,
+            mux_places,
+            device_places,
+            chips,
+            devices,
             chip_reach: Reach::none(),
             device_reach: Reach::none(),
             busy: false,
@@ -175,7 +178,7 @@ fn open_devices(alloc: Global, layout: Layout<'_>, root: SegId) -> Result<Vec<So
 {
     let mut devices = Vec::with_capacity(alloc, layout.devices.len())?;
     for device in layout.devices {
-        devices.push(open_device(alloc, layout, root, device)?)?;
+        devices.push_reserved(open_device(alloc, layout, root, device)?);
     }
     Ok(devices)
 }

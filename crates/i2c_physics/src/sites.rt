@@ -2,11 +2,15 @@
 ghost use Rattle.std.specs.Prelude.{◌≡◌, ◌≤◌, length, map, IfOk};
 ghost use Rattle.std.specs.List.{range_with_len};
 ghost use Rattle.i2c_base.specs.Limits.{MOST_DEVICES};
+ghost use Rattle.i2c_spec.specs.Layouts.{board_of};
+ghost use Rattle.i2c_spec.specs.Plain.{IsPlainBoard};
+ghost use Rattle.i2c_physics.specs.Places.{device_place, mux_place};
 ghost use Rattle.i2c_physics.specs.Reach.{has_at, wired_at};
 ghost use Rattle.i2c_physics.specs.Sites.{numbers_at};
 
 use crate::place::Place;
-use i2c_base::Addr;
+use i2c_base::{Addr, SegId};
+use i2c_spec::Layout;
 use std::alloc::{AllocError, Global};
 use std::marker::Model;
 
@@ -35,12 +39,38 @@ impl Model for Sites {
 
 impl Sites {
     /// These places, by number and by address.
-    pub fn of(alloc: Global, places: Vec<Place>) -> Result<Self, AllocError>
+    fn of(alloc: Global, places: Vec<Place>) -> Result<Self, AllocError>
         requires { length places.items ≤ MOST_DEVICES }
         ensures { IfOk result (λ sites. sites ≡ places.items) }
     {
         let at = by_address(alloc, &places)?;
         Ok(Sites { places, at })
+    }
+
+    /// The places of the muxes.
+    pub fn of_muxes(alloc: Global, layout: Layout<'_>, root: SegId) -> Result<Self, AllocError>
+        requires { IsPlainBoard (board_of layout) }
+        ensures { IfOk result (λ sites. sites ≡ map (mux_place (board_of layout.entry) root) layout.entry.muxes.now) }
+    {
+        let mut places = Vec::with_capacity(alloc, layout.muxes.len())?;
+        for mux in layout.muxes {
+            let there = !mux.absent && mux.addr.is_some();
+            places.push_reserved(Place::open(alloc, layout, root, mux.bus, mux.addr, there)?);
+        }
+        Sites::of(alloc, places)
+    }
+
+    /// The places of the devices.
+    pub fn of_devices(alloc: Global, layout: Layout<'_>, root: SegId) -> Result<Self, AllocError>
+        requires { IsPlainBoard (board_of layout) }
+        ensures { IfOk result (λ sites. sites ≡ map (device_place (board_of layout.entry) root) layout.entry.devices.now) }
+    {
+        let mut places = Vec::with_capacity(alloc, layout.devices.len())?;
+        for device in layout.devices {
+            let addr = Some(device.addr);
+            places.push_reserved(Place::open(alloc, layout, root, device.bus, addr, true)?);
+        }
+        Sites::of(alloc, places)
     }
 
     /// The places, by number.
@@ -66,7 +96,7 @@ fn by_address(alloc: Global, places: &[Place]) -> Result<Vec<Vec<u16>>, AllocErr
 {
     let mut at = Vec::with_capacity(alloc, usize::from(ADDRESSES))?;
     for address in 0..ADDRESSES {
-        at.push(numbers_at(alloc, places, address)?)?;
+        at.push_reserved(numbers_at(alloc, places, address)?);
     }
     Ok(at)
 }

@@ -1,11 +1,15 @@
+use Rattle.std.proofs.Common.{[], ◌∷◌, ◌++◌, ◌+◌, ap, sym, ◌∙◌}
 use Rattle.i2c_physics.specs.FailPorts.{opening_fails}
 use Rattle.i2c_physics.proofs.TogetherLemmas.{listed_more}
 use Rattle.i2c_physics.proofs.fail_rig.open_ports.Goals as goal
 
 pub loop-root-preserved : goal.loop-root-preserved
 loop-root-preserved c =
-    let more = listed_more (opening_fails c.args.board.now c.args.calls.now) c.loop-root.root in
     let was = c.loop-root.invariant in
-    let item = c.in_ok-open.ensures in
-    let now = c.in_ok-push.ensures.items in
-    cc
+    record {
+      opened =
+          c.push_reserved.ensures.items ∙ ap (λ port. c.loop-root.ports.items ++ port ∷ []) c.in_ok-open.ensures
+          ∙ ap (λ ports. ports ++ opening_fails c.args.board.now c.args.calls.now c.loop-root.root ∷ []) was.opened ∙ sym (listed_more (opening_fails c.args.board.now c.args.calls.now) c.loop-root.root);
+      count = c.push_reserved.ensures.len ∙ ap (λ count. count + 1) was.count;
+      room = rw c.push_reserved.ensures.capacity was.room;
+    }

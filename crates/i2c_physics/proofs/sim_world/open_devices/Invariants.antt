@@ -1,7 +1,10 @@
-use Rattle.std.proofs.Common.{◌≡◌, map, take}
+use Rattle.std.proofs.Common.{◌≡◌, ◌≤◌, length, map, take, vec_capacity}
 use Rattle.i2c_spec.specs.Layouts.{board_of}
 use Rattle.i2c_physics.specs.SimWorlds.{opened_on}
 use Rattle.i2c_physics.proofs.sim_world.open_devices.Given as goal
 
 abbrev pub invariant-loop-device : goal.invariant-loop-device
-invariant-loop-device l = l.devices.items ≡ map (opened_on (board_of l.fn.layout) l.root) (take l.device-index (board_of l.fn.layout).devices)
+invariant-loop-device l = record {
+  opened : l.devices.items ≡ map (opened_on (board_of l.fn.layout) l.root) (take l.device-index (board_of l.fn.layout).devices);
+  room : length (board_of l.fn.layout).devices ≤ vec_capacity l.devices;
+}

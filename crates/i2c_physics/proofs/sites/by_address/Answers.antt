@@ -1,4 +1,4 @@
-use Rattle.std.proofs.Common.{[], ◌∷◌, ◌++◌, ap, map, sym, ◌∙◌}
+use Rattle.std.proofs.Common.{[], ◌∷◌, ◌++◌, ◌+◌, ap, map, sym, ◌∙◌}
 use Rattle.std.proofs.lemmas.List.{map-append}
 use Rattle.i2c_physics.specs.Sites.{numbers_at}
 use Rattle.i2c_physics.proofs.TogetherLemmas.{listed_more}
@@ -8,6 +8,12 @@ pub loop-address-preserved : goal.loop-address-preserved
 loop-address-preserved c =
     let at = numbers_at c.args.places.now in
     let address = c.loop-address.address in
-    ap (map (λ numbers. numbers.items)) c.in_ok-push.ensures.items ∙ map-append _ c.loop-address.at.items _
-    ∙ ap (λ listed. map (λ numbers. numbers.items) c.loop-address.at.items ++ listed ∷ []) c.in_ok-numbers_at.ensures
-    ∙ ap (λ listed. listed ++ at address ∷ []) c.loop-address.invariant ∙ sym (listed_more at address)
+    let was = c.loop-address.invariant in
+    record {
+      listed =
+          ap (map (λ numbers. numbers.items)) c.push_reserved.ensures.items ∙ map-append _ c.loop-address.at.items _
+          ∙ ap (λ listed. map (λ numbers. numbers.items) c.loop-address.at.items ++ listed ∷ []) c.in_ok-numbers_at.ensures
+          ∙ ap (λ listed. listed ++ at address ∷ []) was.listed ∙ sym (listed_more at address);
+      count = c.push_reserved.ensures.len ∙ ap (λ count. count + 1) was.count;
+      room = rw c.push_reserved.ensures.capacity was.room;
+    }

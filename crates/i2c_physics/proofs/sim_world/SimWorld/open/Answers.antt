@@ -12,8 +12,8 @@ use Rattle.i2c_physics.proofs.sim_world.SimWorld.open.Goals as goal
 pub invariant_of-result : goal.invariant_of-result
 invariant_of-result c =
     let plain : IsPlainBoard c.of.result.value = search rules in
-    let chips : c.in_ok-open_chips.field-0.items ≡ map chip_opening c.of.result.value.muxes = search rules in
-    let states : c.in_ok-open_devices.field-0.items ≡ map (opened_on c.of.result.value c.args.root) c.of.result.value.devices = search rules in
+    let chips : c.in_ok-chips.chips.items ≡ map chip_opening c.of.result.value.muxes = search rules in
+    let states : c.in_ok-devices.devices.items ≡ map (opened_on c.of.result.value c.args.root) c.of.result.value.devices = search rules in
     record {
       plain = plain;
       mux_places = search rules;
