@@ -59,11 +59,13 @@ impl FailPort {
 fn numbers_on(alloc: Global, calls: &[(SegId, u32)], root: SegId) -> Result<Vec<u32>, AllocError>
     ensures { IfOk result (λ numbers. numbers.items ≡ fails_on calls.now root) }
 {
-    calls
-        .iter()
-        .filter(|call| call.0 == root)
-        .map(|call| call.1)
-        .collect(alloc)
+    let mut numbers = Vec::new(alloc);
+    for call in calls {
+        if call.0 == root {
+            numbers.push(call.1)?;
+        }
+    }
+    Ok(numbers)
 }
 
 impl Returned for FailPort {

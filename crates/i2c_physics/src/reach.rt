@@ -50,9 +50,10 @@ impl Reach {
         ensures rest { self.new.rest.items ≡ others chips.now sites.now addr self.old.started.items }
         ensures started { self.new.started ≡ self.old.started }
     {
+        let places = sites.as_slice();
+        joined(chips, places, sites.at(addr), &mut self.told);
         let started = self.started.as_slice();
-        addressed(chips, sites, addr, &mut self.told);
-        others(chips, sites.as_slice(), addr, started, &mut self.rest);
+        others(chips, places, addr, started, &mut self.rest);
     }
 
     /// Finds which of the started ones a stop reaches, and which it doesn't.
@@ -134,14 +135,6 @@ fn joins_at(chips: &[Chip], places: &[Place], number: u16) -> bool
         Some(place) => place.joins(chips),
         None => false,
     }
-}
-
-/// Those that a start at this address calls: they have it, and are joined.
-#[inline(always)]
-fn addressed(chips: &[Chip], sites: &Sites, addr: Addr, called: &mut Numbers)
-    ensures { called.new.items ≡ addressed chips.now sites.now addr }
-{
-    joined(chips, sites.as_slice(), sites.at(addr), called);
 }
 
 /// Those of these numbers that are joined.

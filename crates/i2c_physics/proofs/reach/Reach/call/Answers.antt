@@ -2,11 +2,11 @@ use Rattle.std.proofs.Common.{length, ap, ◌∙◌}
 use Rattle.std.specs.List.{filter, range_with_len}
 use Rattle.i2c_physics.specs.Reach.{joins_at, has_at}
 use Rattle.i2c_physics.proofs.NumberLemmas.{filter_both}
-use Rattle.i2c_physics.proofs.reach.addressed.Goals as goal
+use Rattle.i2c_physics.proofs.reach.Reach.call.Goals as goal
 
-pub returns : goal.returns
-returns c =
+pub returns-clause-told : goal.returns-clause-told
+returns-clause-told c =
     let chips = c.args.chips.now in
     let places = c.args.sites.now in
-    c.joined.ensures ∙ ap (λ ps. filter (joins_at chips ps) c.at.result.now) c.as_slice.ensures ∙ ap (filter (joins_at chips places)) c.at.ensures.value
+    c.joined.ensures ∙ ap (λ ps. filter (joins_at chips ps) c.at.result.now) c.as_slice-places.ensures ∙ ap (filter (joins_at chips places)) c.at.ensures.value
     ∙ filter_both (has_at c.args.addr places) (joins_at chips places) (range_with_len 0 (length places))

@@ -1,0 +1,6 @@
+use Rattle.std.proofs.Common.{◌≡◌, take}
+use Rattle.i2c_physics.specs.FailPorts.{fails_on}
+use Rattle.i2c_physics.proofs.fail_port.numbers_on.Given as goal
+
+abbrev pub invariant-loop-call : goal.invariant-loop-call
+invariant-loop-call l = l.numbers.items ≡ fails_on (take l.call-index l.calls) l.root
