@@ -24,3 +24,9 @@ returns-clause-sent g c =
     by : (acked : Bool) (m : ℕ) → then_some acked (node.Chip m) ≡ (if acked then Some (node.Chip m) else None)
     by true m = refl
     by false m = refl
+
+pub returns-clause-reading : goal.returns-clause-reading
+returns-clause-reading c = grind (arith, common_steps)
+
+pub returns-clause-gives : goal.returns-clause-gives
+returns-clause-gives c = grind (arith, common_steps)
