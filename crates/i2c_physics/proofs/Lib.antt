@@ -1,3 +1,4 @@
+pub mod FailLemmas
 pub mod FeedLemmas
 pub mod LineLemmas
 pub mod NumberLemmas
@@ -7,6 +8,7 @@ pub mod PlugLemmas
 pub mod ReachLemmas
 pub mod RigLemmas
 pub mod SiteLemmas
+pub mod StepLemmas
 pub mod TogetherLemmas
 pub mod WorldLemmas
 pub mod TakeLemmas

@@ -1,4 +1,4 @@
-use Rattle.std.proofs.Common.{◌≡◌, ◌<◌, ◌++◌, ◌∷◌, [], vec_len, vec_capacity, arith, rules}
+use Rattle.std.proofs.Common.{◌≡◌, ◌<◌, ◌++◌, ◌∷◌, [], vec_len, vec_capacity, append-nil, sym, arith, rules}
 use Rattle.std.proofs.lemmas.List.{length-append}
 use Rattle.i2c_physics.proofs.RigLemmas.{count-kept, one-more-kept}
 use Rattle.i2c_physics.proofs.room.keep_logs.Goals as goal
@@ -15,4 +15,11 @@ loop-port-preserved-in-Some g c = record {
       let ok = c.push.ensures.succeeds room in
       let more : c.push.new.self.items ≡ c.loop-port.logs.items ++ c.into_log.result ∷ [] = search rules in
       one-more-kept _ _ _ _ _ _ _ _ was more c.into_log.ensures;
+}
+
+pub loop-port-init : goal.loop-port-init
+loop-port-init g c = record {
+  grown = omega arith;
+  whole = omega (arith, c.into_iter-port-iterator.ensures.into_iter_gives.1);
+  kept = λ room. sym (append-nil _);
 }

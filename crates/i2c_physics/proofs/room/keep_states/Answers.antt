@@ -1,7 +1,7 @@
-use Rattle.std.proofs.Common.{◌≡◌, ◌<◌, ◌+◌, ◌++◌, ◌∷◌, length, map, drop, get_or, slice_index, inl, inr, append-nil, sym, ◌∙◌, ap, subst, arith}
+use Rattle.std.proofs.Common.{◌≡◌, ◌<◌, ◌≤◌, ◌+◌, ◌++◌, ◌∷◌, length, map, drop, get_or, slice_index, inl, inr, append-nil, refl, sym, ◌∙◌, ap, subst, arith}
 use Rattle.std.specs.Prelude.{option_to_list}
 use Rattle.std.proofs.lemmas.Bool.{cases_lt}
-use Rattle.std.proofs.lemmas.List.{drop_more}
+use Rattle.std.proofs.lemmas.List.{drop_all, drop_more}
 use Rattle.std.proofs.lemmas.Option.{get_or_from_slice_get, slice_get-get_or}
 use Rattle.i2c_physics.specs.SimRigs.{states_from, IsThere}
 use Rattle.i2c_physics.proofs.TakeLemmas.{one-kept, there-before}
@@ -44,3 +44,32 @@ loop-number-preserved g c =
         logs = c.take_from.ensures.logs ∙ was.logs;
       }
     ]
+
+pub loop-number-init : goal.loop-number-init
+loop-number-init g c = record {
+  grown = omega arith;
+  most = omega arith;
+  kept = refl;
+  there = λ k under. absurd (omega (arith, under));
+  before = λ home k there. there;
+  logs = refl;
+}
+
+pub push_reserved-requires : goal.push_reserved-requires
+push_reserved-requires g c =
+    omega (arith, c.loop-number.invariant.grown, c.loop-number.invariant.most, c.loop-number-test.true, c.deref-home-items.ensures.len, c.requires)
+
+pub returns-clause-kept : goal.returns-clause-kept
+returns-clause-kept g c =
+    let n = c.loop-number.number in
+    let homes = c.args.homes.now.items in
+    let ws = map (λ p. (g.P.Returned.port p).world) c.loop-number.ports.items in
+    let over = subst (λ hs. length hs ≤ n) c.deref-home-items.ensures.value c.loop-number-test.false in
+    sym (append-nil c.loop-number.states.items)
+    ∙ ap (λ hs. c.loop-number.states.items ++ states_from n hs ws) (sym (drop_all n homes over)) ∙ c.loop-number.invariant.kept
+
+pub returns-clause-there : goal.returns-clause-there
+returns-clause-there g c = λ k under. c.loop-number.invariant.there k (omega (arith, under, c.loop-number-test.false, c.deref-home-items.ensures.len))
+
+pub returns-clause-logs : goal.returns-clause-logs
+returns-clause-logs g c = c.loop-number.invariant.logs

@@ -1,15 +1,36 @@
-use Rattle.std.proofs.Common.{◌≡◌, ◌<◌, true, Some, length, set, refl, sym, ◌∙◌, ap, arith}
+use Rattle.std.proofs.Common.{◌≡◌, ◌<◌, Bool, true, false, Some, None, length, set, refl, sym, ◌∙◌, ap, arith}
+use Rattle.std.specs.Prelude.{if◌then◌else◌, slice_get, slice_set}
 use Rattle.std.proofs.lemmas.List.{length-set}
 use Rattle.i2c_spec.specs.World.{World}
 use Rattle.i2c_spec.specs.Targets.{Silent, state_table}
 use Rattle.i2c_physics.proofs.LineLemmas.{quiet-in-place}
 use Rattle.i2c_physics.specs.Reach.{wired_at}
-use Rattle.i2c_physics.specs.SimRigs.{own_device, without}
+use Rattle.i2c_physics.specs.SimRigs.{own_device, owns, without}
 use Rattle.i2c_physics.specs.SimWorlds.{is_own}
 use Rattle.i2c_physics.proofs.FeedLemmas.{world_of}
 use Rattle.i2c_physics.proofs.OwnLemmas.{wired-own, own-low}
 use Rattle.i2c_physics.proofs.TakeLemmas.{own-is, without-is}
 use Rattle.i2c_physics.proofs.sim_world.SimWorld.take_device.Goals as goal
+
+is_of_other : (c : goal.Then-not-is_wired) → owns c.args.self.now c.args.number ≡ false
+is_of_other c =
+    let s = c.self.inside in
+    sym (ap (λ (w : World). owns w c.args.number) c.self.view_is)
+    ∙ sym (wired-own s.board.value s.root s.device_places c.self.invariant.device_places c.args.number)
+    ∙ ap (λ places. wired_at places c.args.number) (sym c.as_slice.ensures) ∙ sym c.is_wired.ensures ∙ c.if-not-is_wired.true
+
+pub returns-then-not-is_wired-clause-value : goal.returns-then-not-is_wired-clause-value
+returns-then-not-is_wired-clause-value c =
+    let w = c.args.self.now in
+    ap (λ (own : Bool). if own then slice_get w.devices c.args.number else None) (sym (is_of_other c))
+
+pub returns-then-not-is_wired-clause-has : goal.returns-then-not-is_wired-clause-has
+returns-then-not-is_wired-clause-has c = λ owned. sym (is_of_other c) ∙ owned
+
+pub returns-then-not-is_wired-clause-after : goal.returns-then-not-is_wired-clause-after
+returns-then-not-is_wired-clause-after c =
+    let w = c.args.self.now in
+    ap (λ (own : Bool). record w { devices = if own then slice_set w.devices c.args.number Silent else w.devices }) (sym (is_of_other c))
 
 is_of_root : (c : goal.After-self-1) → is_own c.self.inside.board.value c.self.inside.root c.args.number ≡ true
 is_of_root c =
@@ -50,3 +71,6 @@ invariant_of-self c =
           low (record { other = refl; stop = refl }) inv.devices_reached);
       reached_own = inv.reached_own;
     }
+
+pub returns-clause-has : goal.returns-clause-has
+returns-clause-has c = λ owned. refl

@@ -1,0 +1,36 @@
+-- A call on a port of which some calls fail: what it answers, and the port after it.
+use Rattle.std.proofs.Common.{◌≡◌, ℕ, List, Bool, true, false, Ok, Err, Result, sym, ◌∙◌, ap}
+use Rattle.std.specs.Prelude.{if◌then◌else◌}
+use Rattle.i2c_base.specs.declared.port.Phase.{Phase}
+use Rattle.i2c_base.specs.declared.port.Phase.TheVariants.{Idle}
+use Rattle.i2c_base.specs.declared.port.PortCall.{PortCall}
+use Rattle.i2c_base.specs.declared.port.PortCall.TheVariants as call
+use Rattle.i2c_outside.specs.declared.failed.Failed.{Failed}
+use Rattle.i2c_physics.specs.FailPorts.{FailView, after_next, fails_next, said}
+use Rattle.i2c_physics.specs.SimPorts.{PortView, called}
+
+pub said-failed : {T : Type 0} (p : FailView) (x : T) (b : Bool) → b ≡ true → b ≡ fails_next p → Err (record {}) ≡ said p x
+said-failed {T} p x b failed is =
+    let answer : Bool → Result T Failed = λ c. if c then Err (record {}) else Ok x in
+    ap answer (sym failed ∙ is)
+
+pub said-passed : {T : Type 0} (p : FailView) (x y : T) (b : Bool) → b ≡ false → b ≡ fails_next p → y ≡ x → Ok y ≡ said p x
+said-passed {T} p x y b passed is same =
+    let ok : T → Result T Failed = λ z. Ok z in
+    let answer : Bool → Result T Failed = λ c. if c then Err (record {}) else Ok x in
+    ap ok same ∙ ap answer (sym passed ∙ is)
+
+module _ (p : FailView) (sim new : PortView) (fails : List ℕ) (c : PortCall) (b : Bool) (is : b ≡ fails_next p)
+    (view : record { port = sim; fails = fails } ≡ p) where
+  pub after-failed : (phase : Phase) → b ≡ true → new ≡ called sim call.Fault Idle → record { port = new; fails = fails } ≡ after_next p c phase
+  after-failed phase failed after =
+      ap (λ (q : PortView). record { port = q; fails = fails }) after
+      ∙ ap (λ (v : FailView). record v { port = called v.port call.Fault Idle }) view
+      ∙ ap (λ (f : Bool). record p { port = if f then called p.port call.Fault Idle else called p.port c phase }) (sym failed ∙ is)
+
+  pub after-passed
+      : (phase : PortView → Phase) → b ≡ false → new ≡ called sim c (phase sim) → record { port = new; fails = fails } ≡ after_next p c (phase p.port)
+  after-passed phase passed after =
+      ap (λ (q : PortView). record { port = q; fails = fails }) after
+      ∙ ap (λ (v : FailView). record v { port = called v.port c (phase v.port) }) view
+      ∙ ap (λ (f : Bool). record p { port = if f then called p.port call.Fault Idle else called p.port c (phase p.port) }) (sym passed ∙ is)

@@ -1,0 +1,40 @@
+-- One element more of a list that is gone through, and what stands at a place of a list.
+use Rattle.std.proofs.Common.{◌≡◌, ℕ, ◌+◌, ◌<◌, ◌++◌, List, [], ◌∷◌, length, map, take, get_or, Bool, true, false, cond, Option, Some, None, Bor, append-nil, sym, ◌∙◌, ap}
+use Rattle.std.specs.List.{filter, slice_get}
+use Rattle.std.specs.Option.{option_map_or}
+use Rattle.std.specs.Slice.{IsItemAt}
+use Rattle.std.proofs.lemmas.List.{map-append, take_more}
+use Rattle.std.proofs.lemmas.List.Elements.{filter_more}
+use Rattle.std.proofs.lemmas.Option.{slice_get-get_or, slice_get_past}
+
+-- what is made of each element, where one more is made
+pub mapped-more
+    : {X Y : Type 0} (f : X → Y) (xs : List X) (i : ℕ) (x : X) (ys more : List Y) (y : Y) → i < length xs → x ≡ get_or xs i x
+    → ys ≡ map f (take i xs) → y ≡ f x → more ≡ ys ++ y ∷ [] → more ≡ map f (take (i + 1) xs)
+mapped-more {X} {Y} f xs i x ys more y low is before one grown =
+    grown ∙ ap (λ (z : Y). ys ++ z ∷ []) (one ∙ ap f is) ∙ ap (λ (zs : List Y). zs ++ f (get_or xs i x) ∷ []) before
+    ∙ sym (map-append f (take i xs) (get_or xs i x ∷ [])) ∙ ap (map f) (sym (take_more xs i x low))
+
+-- the elements that pass a test, where one more is kept, and where it is left out
+pub kept-more
+    : (p : ℕ → Bool) (xs : List ℕ) (i : ℕ) (b : Bool) (old new : List ℕ) → i < length xs → b ≡ true → b ≡ p (get_or xs i 0)
+    → old ≡ filter p (take i xs) → new ≡ old ++ get_or xs i 0 ∷ [] → new ≡ filter p (take (i + 1) xs)
+kept-more p xs i b old new low kept is before grown =
+    let x = get_or xs i 0 in
+    grown ∙ ap (λ (ys : List ℕ). ys ++ x ∷ []) before ∙ ap (λ (c : Bool). filter p (take i xs) ++ cond c (x ∷ []) []) (sym kept ∙ is)
+    ∙ sym (filter_more p xs i 0 low)
+
+pub left-more
+    : (p : ℕ → Bool) (xs : List ℕ) (i : ℕ) (b : Bool) (old : List ℕ) → i < length xs → b ≡ false → b ≡ p (get_or xs i 0)
+    → old ≡ filter p (take i xs) → old ≡ filter p (take (i + 1) xs)
+left-more p xs i b old low left is before =
+    let x = get_or xs i 0 in
+    before ∙ sym (append-nil (filter p (take i xs))) ∙ ap (λ (c : Bool). filter p (take i xs) ++ cond c (x ∷ []) []) (sym left ∙ is)
+    ∙ sym (filter_more p xs i 0 low)
+
+-- what is asked of the element that a place lends is asked of the element there
+pub at-place
+    : {X : Type 0} (f : X → Bool) (xs : List X) (k : ℕ) (o : Option (Bor X)) → IsItemAt xs k o
+    → option_map_or (λ p. f p.now) o false ≡ option_map_or f (slice_get xs k) false
+at-place {X} f xs k None at = sym (ap (λ (o : Option X). option_map_or f o false) (slice_get_past xs k at.3))
+at-place {X} f xs k (Some p) at = ap f at.1 ∙ sym (ap (λ (o : Option X). option_map_or f o false) (slice_get-get_or xs k p.now at.3.0))
