@@ -66,9 +66,9 @@ impl Room {
     pub fn open(alloc: Global, board: &Accepted) -> Result<Self, AllocError>
         ensures { IfOk result (λ room. room ≡ board.now) }
     {
+        let logs = Vec::with_capacity(alloc, board.board().roots().len())?;
         let homes = homes(alloc, board.board().layout())?;
         let states = Vec::with_capacity(alloc, homes.len())?;
-        let logs = Vec::with_capacity(alloc, board.board().roots().len())?;
         Ok(Room {
             board: Snapshot::of(board),
             homes,
