@@ -81,7 +81,7 @@ impl DeviceState {
             Device::Lm75(lm75) => lm75.copied().on(event),
             Device::Regs(regs) => regs.copied().on(event),
             Device::Smbus(smbus) => smbus.answer(event),
-            Device::Silent => silent(event),
+            Device::Silent => silence(event),
         }
     }
 
@@ -120,13 +120,13 @@ impl Target for DeviceState {
             Device::Lm75(lm75) => lm75.on(event),
             Device::Regs(regs) => regs.on(event),
             Device::Smbus(smbus) => smbus.on(event),
-            Device::Silent => silent(event),
+            Device::Silent => silence(event),
         }
     }
 }
 
-// What a device answers that acknowledges nothing.
-fn silent(event: Event) -> Answer
+/// What the place of a device that was taken out answers: it acknowledges nothing.
+pub fn silence(event: Event) -> Answer
     ensures { result ≡ silent_answer event }
 {
     match event {

@@ -17,7 +17,7 @@ mod sink;
 mod stdout_sink;
 mod vec_sink;
 
-pub use device::DeviceState;
+pub use device::{DeviceState, silence};
 pub use failed::{Failed, ReadFail, RigFail};
 pub use file_shelf::FileShelf;
 pub use gate::{Gate, OpenGate, Point};

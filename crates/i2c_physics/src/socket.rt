@@ -4,7 +4,7 @@ ghost use Rattle.i2c_spec.specs.Plain.{IsPlainDevice};
 ghost use Rattle.i2c_spec.specs.Targets.{Silent, opening_state};
 
 use i2c_base::{Answer, DeviceSpec, Event, NoMemory, Target};
-use i2c_outside::DeviceState;
+use i2c_outside::{DeviceState, silence};
 use std::alloc::{AllocError, Global};
 use std::marker::Model;
 
@@ -66,7 +66,7 @@ impl Target for Socket {
     fn on(&mut self, event: Event) -> Answer {
         match &mut self.device {
             Some(device) => device.on(event),
-            None => DeviceState::silent().answer(event),
+            None => silence(event),
         }
     }
 }

@@ -1,9 +1,30 @@
-use Rattle.std.proofs.Common.{◌≡◌, map, ◌∙◌, ap, subst, arith}
+use Rattle.std.proofs.Common.{◌≡◌, ◌≤◌, List, Some, None, length, map, sym, refl, ◌∙◌, ap, subst, arith}
 use Rattle.std.specs.Prelude.{IsSome, slice_get}
 use Rattle.std.proofs.Math.Seq.{map-set_same}
-use Rattle.i2c_physics.specs.SimRigs.{own_device, state_at, taken_out, without}
+use Rattle.std.proofs.lemmas.List.{length-map}
+use Rattle.std.proofs.lemmas.Option.{slice_get_past}
+use Rattle.i2c_spec.specs.World.{World}
+use Rattle.i2c_physics.specs.SimRigs.{device_of, own_device, state_at, taken_out, without}
 use Rattle.i2c_physics.proofs.TakeLemmas.{none-taken, one-taken, at-home, is-home}
 use Rattle.i2c_physics.proofs.room.take_from.Goals as goal
+
+pub returns-then-home-len-clause-value : goal.returns-then-home-len-clause-value
+returns-then-home-len-clause-value g c =
+    let ws = map (λ p. (g.P.Returned.port p).world) c.args.ports.now.items in
+    let at : c.from-home.result ≡ c.args.home = c.from-home.ensures ∙ c.home.view_is in
+    let past : length ws ≤ c.args.home = omega (arith, at, length-map c.args.ports.now.items (λ p. (g.P.Returned.port p).world), c.len.ensures, c.if-home-len.true) in
+    ap (λ o. device_of o c.args.number) (sym (slice_get_past ws c.args.home past))
+
+pub returns-then-home-len-clause-there : goal.returns-then-home-len-clause-there
+returns-then-home-len-clause-there g c w there own =
+    let ws = map (λ p. (g.P.Returned.port p).world) c.args.ports.now.items in
+    let at : c.from-home.result ≡ c.args.home = c.from-home.ensures ∙ c.home.view_is in
+    let past : length ws ≤ c.args.home = omega (arith, at, length-map c.args.ports.now.items (λ p. (g.P.Returned.port p).world), c.len.ensures, c.if-home-len.true) in
+    let none : None ≡ Some w = sym (slice_get_past ws c.args.home past) ∙ there in
+    absurd cc
+
+pub returns-then-home-len-clause-logs : goal.returns-then-home-len-clause-logs
+returns-then-home-len-clause-logs g c = refl
 
 pub returns-then-home-len-clause-worlds : goal.returns-then-home-len-clause-worlds
 returns-then-home-len-clause-worlds g c =
