@@ -1,9 +1,8 @@
-use Rattle.std.proofs.Common.{◌≡◌, ◌≤◌, List, Some, None, length, map, sym, refl, ◌∙◌, ap, subst, arith}
+use Rattle.std.proofs.Common.{◌≡◌, ◌≤◌, Some, None, length, map, sym, refl, ◌∙◌, ap, subst, arith}
 use Rattle.std.specs.Prelude.{IsSome, slice_get}
 use Rattle.std.proofs.Math.Seq.{map-set_same}
 use Rattle.std.proofs.lemmas.List.{length-map}
 use Rattle.std.proofs.lemmas.Option.{slice_get_past}
-use Rattle.i2c_spec.specs.World.{World}
 use Rattle.i2c_physics.specs.SimRigs.{device_of, own_device, state_at, taken_out, without}
 use Rattle.i2c_physics.proofs.TakeLemmas.{none-taken, one-taken, at-home, is-home}
 use Rattle.i2c_physics.proofs.room.take_from.Goals as goal
