@@ -109,7 +109,7 @@ pub fn devices_of(alloc: Global, buses: u16, rows: &[Value]) -> Result<Vec<Devic
     for value in rows {
         let index = devices.len() as u16;
         let device = device_of(alloc, row(value), buses, index)?;
-        devices.push(device)?;
+        devices.push_reserved(device);
     }
     Ok(devices)
 }

@@ -139,7 +139,7 @@ pub fn muxes_of(alloc: Global, roots: u16, rows: &[Value]) -> Result<Vec<MuxSpec
         buses += u16::from(mux.channels);
         // The checker finds the type of the address only where it is named.
         let _chip: Option<Addr> = mux.addr;
-        muxes.push(mux)?;
+        muxes.push_reserved(mux);
     }
     Ok(muxes)
 }

@@ -44,7 +44,7 @@ pub fn roots_of(alloc: Global, rows: &[Value]) -> Result<Vec<RootSpec>, BoardFau
     let mut roots = Vec::with_capacity(alloc, rows.len())?;
     for value in rows {
         let index = roots.len() as u16;
-        roots.push(root_at(value, index)?)?;
+        roots.push_reserved(root_at(value, index)?);
     }
     Ok(roots)
 }

@@ -25,20 +25,14 @@ fn start(value: &Value) -> u16
     (number(value) % 65536) as u16
 }
 
-fn each_byte(alloc: Global, values: &[Value]) -> Result<Vec<u8>, AllocError>
-    ensures { IfOk result (λ bytes. bytes.items ≡ map (λ v. cut_byte (view v)) values.now) }
-{
-    let mut bytes = Vec::with_capacity(alloc, values.len())?;
-    for value in values {
-        bytes.push(byte(value))?;
-    }
-    Ok(bytes)
-}
-
 fn bytes_of(alloc: Global, values: &[Value]) -> Result<Vec<u8>, AllocError>
     ensures { IfOk result (λ bytes. bytes.items ≡ map cut_byte (map view values.now)) }
 {
-    each_byte(alloc, values)
+    let mut bytes = Vec::with_capacity(alloc, values.len())?;
+    for value in values {
+        bytes.push_reserved(byte(value));
+    }
+    Ok(bytes)
 }
 
 fn run_of(alloc: Global, values: &[Value]) -> Result<Run, AllocError>
@@ -71,21 +65,14 @@ fn run(alloc: Global, value: &Value) -> Result<Run, AllocError>
     }
 }
 
-fn each_run(alloc: Global, values: &[Value]) -> Result<Vec<Run>, AllocError>
-    ensures { IfOk result (λ runs. runs.items ≡ map (λ v. cut_run (view v)) values.now) }
-{
-    let mut runs = Vec::with_capacity(alloc, values.len())?;
-    for value in values {
-        let next = run(alloc, value)?;
-        runs.push(next)?;
-    }
-    Ok(runs)
-}
-
 fn runs_of(alloc: Global, values: &[Value]) -> Result<Vec<Run>, AllocError>
     ensures { IfOk result (λ runs. runs.items ≡ map cut_run (map view values.now)) }
 {
-    each_run(alloc, values)
+    let mut runs = Vec::with_capacity(alloc, values.len())?;
+    for value in values {
+        runs.push_reserved(run(alloc, value)?);
+    }
+    Ok(runs)
 }
 
 fn runs_at(alloc: Global, value: &Value) -> Result<Vec<Run>, AllocError>

@@ -14,14 +14,15 @@ pub loop-value-preserved : goal.loop-value-preserved
 loop-value-preserved c =
     let before = c.loop-value.devices.items in
     let device = c.in_ok-device.device in
-    let same : c.push.new.self.items ≡ before ++ device ∷ [] = c.in_ok-push.ensures.items in
+    let same : c.push_reserved.new.self.items ≡ before ++ device ∷ [] = c.push_reserved.ensures.items in
     let within : c.loop-value.value-index < length c.args.rows.now = omega arith in
     record {
       count = rw (same, length-append before (device ∷ [])) (omega (arith, c.loop-value.invariant.count));
+      room = rw c.push_reserved.ensures.capacity c.loop-value.invariant.room;
       plain = rw same (All-push IsPlainDevice before device c.loop-value.invariant.plain c.in_ok-device.ensures.plain);
       placed = rw same (All-push (IsOn c.args.buses) before device c.loop-value.invariant.placed c.in_ok-device.ensures.placed);
       told =
-          read_more Device (λ before. device_of c.args.buses) before c.push.new.self.items device (devices_of c.args.buses (rows_of c.args.rows.now))
+          read_more Device (λ before. device_of c.args.buses) before c.push_reserved.new.self.items device (devices_of c.args.buses (rows_of c.args.rows.now))
           c.args.rows.now c.loop-value.value-index c.value-item.result (table_view c.row.result.now) c.len-index.result within
           c.value-item.is c.row.ensures (omega arith) c.in_ok-device.ensures.exact same c.loop-value.invariant.told;
     }

@@ -1,4 +1,4 @@
-use Rattle.std.proofs.Common.{◌≡◌, length, drop}
+use Rattle.std.proofs.Common.{◌≡◌, ◌≤◌, length, drop, vec_capacity}
 use Rattle.std.specs.Prelude.{All}
 use Rattle.i2c_spec.specs.Plain.{IsPlainDevice}
 use Rattle.i2c_boardtext.specs.BoardText.{each, device_of, devices_of}
@@ -10,6 +10,7 @@ use Rattle.i2c_boardtext.proofs.device.devices_of.Given as goal
 abbrev pub invariant-loop-value : goal.invariant-loop-value
 invariant-loop-value l = record {
   count : length l.devices.items ≡ l.value-index;
+  room : length l.rows ≤ vec_capacity l.devices;
   plain : All IsPlainDevice l.devices.items;
   placed : All (IsOn l.buses) l.devices.items;
   told : each Device (λ before. device_of l.buses) l.devices.items (rows_of (drop l.value-index l.rows)) ≡ devices_of l.buses (rows_of l.rows);

@@ -17,7 +17,7 @@ loop-value-preserved c =
     let mux = c.in_ok-mux.mux in
     let roots = c.args.roots in
     let all = c.loop-value.invariant in
-    let same : c.push.new.self.items ≡ before ++ mux ∷ [] = c.in_ok-push.ensures.items in
+    let same : c.push_reserved.new.self.items ≡ before ++ mux ∷ [] = c.push_reserved.ensures.items in
     let within : c.loop-value.value-index < length c.args.rows.now = omega arith in
     let few = few_channels mux c.in_ok-mux.ensures.plain in
     let more : buses_of roots (before ++ mux ∷ []) ≡ buses_of roots before + mux.channels = buses_of-push roots before mux in
@@ -26,10 +26,11 @@ loop-value-preserved c =
       buses = rw (same, more) (omega (arith, all.buses, c.from-buses.ensures));
       few = omega (arith, few, all.few, c.from-buses.ensures);
       some = omega (arith, all.some);
+      room = rw c.push_reserved.ensures.capacity c.loop-value.invariant.room;
       plain = rw same (All-push IsPlainMux before mux all.plain c.in_ok-mux.ensures.plain);
       planted = rw same (planted-push roots before mux all.planted (rw (← all.buses) c.in_ok-mux.ensures.placed));
       told =
-          read_more Mux (λ before. mux_of (buses_of roots before)) before c.push.new.self.items mux (muxes_of roots (rows_of c.args.rows.now))
+          read_more Mux (λ before. mux_of (buses_of roots before)) before c.push_reserved.new.self.items mux (muxes_of roots (rows_of c.args.rows.now))
           c.args.rows.now c.loop-value.value-index c.value-item.result (row_of c.value-item.result) c.len-index.result within
           c.value-item.is refl (omega arith) (ap (λ n. placed Mux c.len-index.result (mux_of n (row_of c.value-item.result))) (sym all.buses) ∙ sym c.in_ok-mux.ensures.value) same all.told;
     }

@@ -1,4 +1,4 @@
-use Rattle.std.proofs.Common.{◌≡◌, ◌+◌, ◌*◌, ◌≤◌, length, drop}
+use Rattle.std.proofs.Common.{◌≡◌, ◌+◌, ◌*◌, ◌≤◌, length, drop, vec_capacity}
 use Rattle.std.specs.Prelude.{All, reverse}
 use Rattle.i2c_spec.specs.Plain.{IsPlainMux, IsPlanted}
 use Rattle.i2c_spec.specs.Tree.{buses_of}
@@ -11,6 +11,7 @@ use Rattle.i2c_boardtext.proofs.mux.muxes_of.Given as goal
 abbrev pub invariant-loop-value : goal.invariant-loop-value
 invariant-loop-value l = record {
   count : length l.muxes.items ≡ l.value-index;
+  room : length l.rows ≤ vec_capacity l.muxes;
   buses : l.buses ≡ buses_of l.fn.roots l.muxes.items;
   few : l.buses ≤ 8 + 8 * l.value-index;
   some : 1 ≤ l.buses;

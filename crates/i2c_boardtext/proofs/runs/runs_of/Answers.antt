@@ -1,11 +1,15 @@
-use Rattle.std.proofs.Common.{◌≡◌, ◌∙◌, map}
-use Rattle.std.proofs.lemmas.Result.{IfOk-weaker}
+use Rattle.std.proofs.Common.{◌∙◌, ap, map, arith}
+use Rattle.std.proofs.lemmas.List.{take_all}
 use Rattle.toml.specs.View.{view}
+use Rattle.i2c_boardtext.specs.Cuts.{cut_run}
 use Rattle.i2c_boardtext.proofs.DataLemmas.{mapped}
 use Rattle.i2c_boardtext.proofs.runs.runs_of.Goals as goal
-use Rattle.i2c_boardtext.specs.Cuts.{cut_run}
+
+pub push_reserved-requires : goal.push_reserved-requires
+push_reserved-requires c = omega (arith, c.loop-value.invariant.count, c.loop-value.invariant.room, c.loop-value-test.true)
 
 pub returns : goal.returns
 returns c =
-    let vs = c.args.values.now in
-    IfOk-weaker c.each_run.result (λ x. x.items ≡ map (λ v. cut_run (view v)) vs) (λ x. x.items ≡ map cut_run (map view vs)) (λ x same. same ∙ mapped cut_run vs) c.each_run.ensures
+    let values = c.args.values.now in
+    c.loop-value.invariant.read ∙ ap (map (λ v. cut_run (view v))) (take_all c.loop-value.value-index values (omega (arith, c.loop-value-test.false)))
+    ∙ mapped cut_run values
