@@ -1,5 +1,8 @@
 use Rattle.std.proofs.Common.{◌∙◌, ap}
 use Rattle.i2c_physics.proofs.FailLemmas.{listed-more, unlisted-more}
+use Rattle.std.proofs.lemmas.List.{take_all}
+use Rattle.std.proofs.Common.{arith}
+use Rattle.i2c_physics.specs.FailPorts.{fails_on}
 use Rattle.i2c_physics.proofs.fail_port.numbers_on.Goals as goal
 use Rattle.i2c_physics.proofs.fail_port.numbers_on.Goals.{then-eq+in_ok-push, else-eq}
 
@@ -16,3 +19,8 @@ loop-call-preserved c =
           ap (λ v. v.items) w.numbers-is
           ∙ unlisted-more calls c.args.root i c.call-item.result c.eq.result old c.loop-call-test.true c.call-item.is c.eq.ensures c.loop-call.invariant w.if-eq.false
     ]
+
+pub returns : goal.returns
+returns c =
+    c.loop-call.invariant
+    ∙ ap (λ calls. fails_on calls c.args.root) (take_all c.loop-call.call-index c.args.calls.now (omega (arith, c.loop-call-test.false)))

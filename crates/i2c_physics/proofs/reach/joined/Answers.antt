@@ -2,6 +2,8 @@ use Rattle.std.proofs.Common.{[], ◌∷◌, length, ap, ◌∙◌, get_or, arit
 use Rattle.std.proofs.lemmas.List.{length-append}
 use Rattle.i2c_physics.specs.Reach.{joins_at}
 use Rattle.i2c_physics.proofs.StepLemmas.{kept-more, left-more}
+use Rattle.std.proofs.lemmas.List.{take_all}
+use Rattle.std.specs.List.{filter}
 use Rattle.i2c_physics.proofs.reach.joined.Goals as goal
 use Rattle.i2c_physics.proofs.reach.joined.Goals.{then-joins_at, else-joins_at}
 
@@ -25,3 +27,8 @@ loop-number-preserved c =
             joined = same ∙ left-more joins c.args.numbers.now i c.joins_at.result old c.loop-number-test.true w.if-joins_at.false c.joins_at.ensures was.joined;
           }
     ]
+
+pub returns : goal.returns
+returns c =
+    c.loop-number.invariant.joined
+    ∙ ap (filter (joins_at c.args.chips.now c.args.places.now)) (take_all c.loop-number.number-index c.args.numbers.now (omega (arith, c.loop-number-test.false)))

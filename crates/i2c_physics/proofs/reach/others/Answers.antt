@@ -3,6 +3,8 @@ use Rattle.std.specs.Prelude.{◌&&◌}
 use Rattle.std.proofs.lemmas.List.{length-append}
 use Rattle.i2c_physics.specs.Reach.{has_at, joins_at}
 use Rattle.i2c_physics.proofs.StepLemmas.{kept-more, left-more}
+use Rattle.std.proofs.lemmas.List.{take_all}
+use Rattle.i2c_physics.specs.Reach.{others}
 use Rattle.i2c_physics.proofs.reach.others.Goals as goal
 use Rattle.i2c_physics.proofs.reach.others.Goals.{then-not-is_at+then-joins_at, else-not-is_at, else-not-is_at-via-then-not-is_at+else-joins_at, else-not-is_at-via-else-not-is_at}
 
@@ -41,3 +43,8 @@ loop-number-preserved c =
             others = same ∙ left-more test numbers i false old low refl out was.others;
           }
     ]
+
+pub returns : goal.returns
+returns c =
+    c.loop-number.invariant.others
+    ∙ ap (others c.args.chips.now c.args.places.now c.args.addr) (take_all c.loop-number.number-index c.args.numbers.now (omega (arith, c.loop-number-test.false)))

@@ -1,5 +1,5 @@
 use Rattle.std.proofs.Common.{[], ◌∷◌, ◌++◌, length, get_or, ap, sym, ◌∙◌, arith}
-use Rattle.std.proofs.lemmas.List.{length-append, take_more}
+use Rattle.std.proofs.lemmas.List.{length-append, take_all, take_more}
 use Rattle.i2c_physics.proofs.reach.write_over.Goals as goal
 
 pub loop-number-preserved : goal.loop-number-preserved
@@ -13,3 +13,6 @@ loop-number-preserved c =
       few = omega (arith, was.few, ap length c.push.ensures.items ∙ length-append old more);
       written = c.push.ensures.items ∙ ap (λ ns. ns ++ more) was.written ∙ sym (take_more numbers i 0 c.loop-number-test.true);
     }
+
+pub returns : goal.returns
+returns c = c.loop-number.invariant.written ∙ take_all c.loop-number.number-index c.args.numbers.now (omega (arith, c.loop-number-test.false))

@@ -3,6 +3,8 @@ use Rattle.i2c_base.specs.Board.{DeviceView}
 use Rattle.i2c_spec.specs.Layouts.{board_of}
 use Rattle.i2c_spec.specs.Tree.{root_of}
 use Rattle.i2c_physics.proofs.StepLemmas.{mapped-more}
+use Rattle.std.proofs.lemmas.List.{take_all}
+use Rattle.std.proofs.Common.{map}
 use Rattle.i2c_physics.proofs.room.homes.Goals as goal
 
 pub push_reserved-requires : goal.push_reserved-requires
@@ -18,3 +20,9 @@ loop-device-preserved c =
       count = c.push_reserved.ensures.len ∙ ap (λ n. n + 1) was.count;
       room = rw c.push_reserved.ensures.capacity was.room;
     }
+
+pub returns : goal.returns
+returns c =
+    c.loop-device.invariant.found
+    ∙ ap (map (λ (d : DeviceView). root_of (board_of c.args.layout) d.bus))
+    (take_all c.loop-device.device-index c.args.layout.devices.now (omega (arith, c.loop-device-test.false)))

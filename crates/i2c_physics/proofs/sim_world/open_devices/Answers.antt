@@ -2,6 +2,8 @@ use Rattle.std.proofs.Common.{◌+◌, ◌∙◌, ap, arith}
 use Rattle.i2c_spec.specs.Layouts.{board_of}
 use Rattle.i2c_physics.specs.SimWorlds.{opened_on}
 use Rattle.i2c_physics.proofs.StepLemmas.{mapped-more}
+use Rattle.std.proofs.lemmas.List.{take_all}
+use Rattle.std.proofs.Common.{map}
 use Rattle.i2c_physics.proofs.sim_world.open_devices.Goals as goal
 
 pub push_reserved-requires : goal.push_reserved-requires
@@ -17,3 +19,9 @@ loop-device-preserved c =
       count = c.push_reserved.ensures.len ∙ ap (λ n. n + 1) was.count;
       room = rw c.push_reserved.ensures.capacity was.room;
     }
+
+pub returns : goal.returns
+returns c =
+    c.loop-device.invariant.opened
+    ∙ ap (map (opened_on (board_of c.args.layout) c.args.root))
+    (take_all c.loop-device.device-index c.args.layout.devices.now (omega (arith, c.loop-device-test.false)))
