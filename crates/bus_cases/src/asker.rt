@@ -1,22 +1,24 @@
 //! A caller without a core: what its script asks for next.
 
-use i2c_base::{BLOCK_LIMIT, Kind, Reply, Transfer};
+use crate::words::parted;
+use i2c_base::{Kind, Reply, Transfer};
 use std::alloc::Global;
 use tool_run::ToolRun;
 use tool_words::{each_field_is_in_range, each_line_is_read, read_line};
 
-/// What is left of a script, and how many transfers of its first line were replied to.
+/// What is left of a script, how many transfers of its first line were replied to, and the block limit of its board.
 #[derive(Clone, Copy)]
 pub struct Asker<'s> {
-    pub rest: &'s str,
-    pub taken: u16,
+    rest: &'s str,
+    taken: u16,
+    limit: u8,
 }
 
 /// The transfer at a place, from 0, of those that a line of a script asks for.
-fn transfer_at(alloc: Global, line: &str, place: u16) -> Option<Transfer> {
+fn transfer_at(alloc: Global, line: &str, limit: u8, place: u16) -> Option<Transfer> {
     each_line_is_read();
     each_field_is_in_range();
-    let Ok(Some(command)) = read_line(&mut Vec::new(alloc), line.as_bytes(), BLOCK_LIMIT) else {
+    let Ok(Some(command)) = read_line(&mut Vec::new(alloc), line.as_bytes(), limit) else {
         return None;
     };
     let run = ToolRun::open(command);
@@ -30,17 +32,18 @@ fn transfer_at(alloc: Global, line: &str, place: u16) -> Option<Transfer> {
 
 impl<'s> Asker<'s> {
     /// A script whose lines were not asked yet.
-    pub fn of(script: &'s str) -> Self {
+    pub fn of(script: &'s str, limit: u8) -> Self {
         Asker {
             rest: script,
             taken: 0,
+            limit,
         }
     }
 
     /// What it asks for next, none where its script is used up.
     pub fn next(&self, alloc: Global) -> Option<Transfer> {
         let (line, _) = self.rest.split_once('\n')?;
-        transfer_at(alloc, line, self.taken)
+        transfer_at(alloc, line, self.limit, self.taken)
     }
 
     /// Takes a reply. A line is over with its last transfer, and with one that fails.
@@ -48,7 +51,8 @@ impl<'s> Asker<'s> {
         self.taken = self.taken.saturating_add(1);
         if matches!(reply, Reply::Err(_)) || self.next(alloc).is_none() {
             self.taken = 0;
-            self.rest = self.rest.split_once('\n').map_or("", |(_, rest)| rest);
+            let (_, rest) = parted(self.rest, '\n');
+            self.rest = rest;
         }
     }
 }

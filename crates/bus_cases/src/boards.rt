@@ -1,30 +1,18 @@
 use i2c_board::Accepted;
 use i2c_boardtext::read_board;
+use i2c_topo::accept;
+use std::alloc::Global;
+use std::fs;
 use std::rt::Files;
-use std::{fs, io};
 
-/// The board of the file `NAME.toml`.
-pub fn read<R: Files + Print + AllocGlobal>(rt: &R, name: &str) -> io::Result<Accepted> {
-    let text = text_of(rt, name)?;
-    sealed(rt, text.as_slice())
+/// The board of the file `NAME.toml`, none where it can't be read.
+pub fn read<R: Files + AllocGlobal>(rt: &R, name: &str) -> Option<Accepted> {
+    let path = format!(in rt.alloc(); "{name}.toml").ok()?;
+    let text = fs::read(rt, path.as_str()).ok()?;
+    accepted(rt.alloc(), text.as_slice())
 }
 
-fn text_of<R: Files + AllocGlobal>(rt: &R, name: &str) -> io::Result<Vec<u8>> {
-    let path = format!(in rt.alloc(); "{name}.toml")?;
-    fs::read(rt, path.as_str())
-}
-
-/// The board that a text spells, which meets the rules.
-pub fn sealed<R: Print + AllocGlobal>(rt: &R, text: &[u8]) -> io::Result<Accepted> {
-    let board = match read_board(rt.alloc(), text) {
-        Ok(board) => board,
-        Err(fault) => {
-            print!(rt; " {fault:?}")?;
-            return Err(io::Error::other("no board"));
-        }
-    };
-    if board.layout().first_broken().is_some() {
-        return Err(io::Error::other("a rule is broken"));
-    }
-    Ok(Accepted::seal(board))
+/// The board that a text spells, none where it breaks a rule.
+pub fn accepted(alloc: Global, text: &[u8]) -> Option<Accepted> {
+    accept(read_board(alloc, text).ok()?).ok()
 }

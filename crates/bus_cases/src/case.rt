@@ -1,12 +1,12 @@
-ghost use Rattle.std.specs.Prelude.{◌≡◌, map, string_bytes, IfOk};
+ghost use Rattle.std.specs.Prelude.{◌≡◌, map, string_bytes, IfOk, IfSome, OnSome};
 
+use crate::words::parted;
 use i2c_base::SegId;
 use i2c_outside::{MapShelf, OpenGate, VecSink};
 use i2c_physics::FailRig;
 use i2c_top::{Status, top};
 use std::alloc::{AllocError, Global};
 use std::collections::BTreeMap;
-use std::io;
 use std::sync::Wait;
 use std::thread::Threads;
 
@@ -32,9 +32,9 @@ pub struct Outside {
     pub rig: FailRig,
 }
 
-/// A call that was made, and what it left.
+/// A call: its words, and what it left the last time that it was made.
 #[derive(Drop)]
-pub struct Called {
+pub struct Call {
     pub words: Vec<String>,
     pub status: Status,
     pub outside: Outside,
@@ -43,29 +43,24 @@ pub struct Called {
 impl Case {
     /// Nothing fails.
     pub fn new(alloc: Global) -> Self {
-        Case::of_room(alloc, 4096)
-    }
-
-    /// This call on the first port fails.
-    pub fn failing(alloc: Global, number: u32) -> Result<Self, AllocError> {
-        let mut case = Case::new(alloc);
-        case.fails.push((SegId(0), number))?;
-        Ok(case)
-    }
-
-    // Nothing fails in an output of this room.
-    fn of_room(alloc: Global, room: usize) -> Self {
         Case {
             reads: Vec::new(alloc),
             writes: Vec::new(alloc),
-            room,
+            room: 4096,
             is_stuck: false,
             fails: Vec::new(alloc),
         }
     }
 
-    /// Adds reads, writes or calls on ports that fail, sets the room, or else that the rig is stuck.
-    pub fn set(&mut self, what: &str, value: &str) -> io::Result<()> {
+    /// Of the calls on ports this one fails alone, on the first port. None where memory is wanting.
+    pub fn fail_at(&mut self, number: u32) -> Option<()> {
+        self.fails.clear();
+        self.fails.push((SegId(0), number)).ok()
+    }
+
+    /// Adds reads, writes or calls on ports that fail, sets the room, or else that the rig is stuck. None where a number is
+    /// not one, or memory is wanting.
+    pub fn set(&mut self, what: &str, value: &str) -> Option<()> {
         match what {
             "reads" => add_numbers(&mut self.reads, value),
             "writes" => add_numbers(&mut self.writes, value),
@@ -73,65 +68,47 @@ impl Case {
             "room" => self.set_room(value),
             _ => {
                 self.is_stuck = true;
-                Ok(())
+                Some(())
             }
         }
     }
 
-    fn set_room(&mut self, value: &str) -> io::Result<()> {
-        self.room = number_of(value)? as usize;
-        Ok(())
+    fn set_room(&mut self, value: &str) -> Option<()> {
+        self.room = value.parse().ok()?;
+        Some(())
     }
 }
 
-impl Called {
-    /// It was cut off by an output of this room, which holds a front of what was due.
-    fn is_front(&self, room: usize, due: &[u8]) -> bool {
-        let written = self.outside.sink.bytes();
-        matches!(self.status, Status::Write)
-            && self.outside.sink.faults() == 1
-            && written.len() == room
-            && due.starts_with(written)
-    }
-}
-
-/// The number that a word spells.
-pub fn number_of(word: &str) -> io::Result<u32> {
-    word.parse().map_err(|_| io::Error::other("no number"))
-}
-
-fn add_numbers(numbers: &mut Vec<u32>, text: &str) -> io::Result<()> {
+fn add_numbers(numbers: &mut Vec<u32>, text: &str) -> Option<()> {
     for word in text.split_whitespace() {
-        numbers.push(number_of(word)?)?;
+        numbers.push(word.parse().ok()?).ok()?;
     }
-    Ok(())
+    Some(())
 }
 
 // The call on a port that a word names, by its root and number with a point between them.
-fn call_of(word: &str) -> io::Result<(SegId, u32)> {
-    let (root, number) = word.split_once('.').unwrap_or(("", word));
-    let root = root.parse().map_err(|_| io::Error::other("no root"))?;
-    Ok((SegId(root), number_of(number)?))
+fn call_of(word: &str) -> Option<(SegId, u32)> {
+    let (root, number) = parted(word, '.');
+    Some((SegId(root.parse().ok()?), number.parse().ok()?))
 }
 
-fn add_calls(calls: &mut Vec<(SegId, u32)>, text: &str) -> io::Result<()> {
+fn add_calls(calls: &mut Vec<(SegId, u32)>, text: &str) -> Option<()> {
     for word in text.split_whitespace() {
-        calls.push(call_of(word)?)?;
+        calls.push(call_of(word)?).ok()?;
     }
-    Ok(())
+    Some(())
 }
 
-/// The words of a text.
-pub fn words_of(alloc: Global, text: &str) -> Result<Vec<String>, AllocError> {
-    let mut words = Vec::new(alloc);
+// Adds the words of a text.
+fn add_words(words: &mut Vec<String>, alloc: Global, text: &str) -> Option<()> {
     for word in text.split_whitespace() {
-        words.push(String::from_str(alloc, word)?)?;
+        words.push(String::from_str(alloc, word).ok()?).ok()?;
     }
-    Ok(words)
+    Some(())
 }
 
-/// The same words again.
-pub fn copied(alloc: Global, words: &[String]) -> Result<Vec<String>, AllocError>
+// The same words again.
+fn copied(alloc: Global, words: &[String]) -> Result<Vec<String>, AllocError>
     ensures { IfOk result (λ v. map string_bytes v.items ≡ map string_bytes words.now) }
 {
     let mut copy = Vec::new(alloc);
@@ -142,33 +119,41 @@ pub fn copied(alloc: Global, words: &[String]) -> Result<Vec<String>, AllocError
 }
 
 // A shelf over these words and files.
-fn shelf_of(case: &Case, files: &Files, words: Vec<String>) -> Result<MapShelf, AllocError>
-    ensures { IfOk result (λ s. map string_bytes s.words.items ≡ map string_bytes words.items) }
+fn shelf_of(alloc: Global, case: &Case, files: &Files, words: &[String]) -> Option<MapShelf>
+    ensures { IfSome result (λ s. map string_bytes s.words.items ≡ map string_bytes words.now) }
 {
-    let files = files.clone()?;
-    Ok(MapShelf::new(words, files, case.reads.clone()?))
+    let fails = case.reads.clone().ok()?;
+    let files = files.clone().ok()?;
+    Some(MapShelf::new(copied(alloc, words).ok()?, files, fails))
 }
 
-fn sink_of(alloc: Global, case: &Case) -> Result<VecSink, AllocError> {
-    let fails = case.writes.clone()?;
-    VecSink::open(alloc, case.room, fails).map_err(|_| AllocError)
+fn sink_of(alloc: Global, case: &Case) -> Option<VecSink> {
+    VecSink::open(alloc, case.room, case.writes.clone().ok()?).ok()
 }
 
-fn rig_of(case: &Case) -> Result<FailRig, AllocError> {
-    Ok(FailRig::new(case.is_stuck, case.fails.clone()?))
+fn rig_of(case: &Case) -> Option<FailRig> {
+    Some(FailRig::new(case.is_stuck, case.fails.clone().ok()?))
 }
 
-// The outside of a call with these words.
-fn open(alloc: Global, case: &Case, files: &Files, words: &[String]) -> Result<Outside, AllocError>
-    ensures { IfOk result (λ o. map string_bytes o.shelf.words.items ≡ map string_bytes words.now) }
-{
-    let shelf = shelf_of(case, files, copied(alloc, words)?)?;
-    let sink = sink_of(alloc, case)?;
-    Ok(Outside {
-        shelf,
-        sink,
-        rig: rig_of(case)?,
-    })
+impl Outside {
+    // With no words and no files.
+    fn new(alloc: Global) -> Option<Self> {
+        Some(Outside {
+            sink: VecSink::open(alloc, 0, Vec::new(alloc)).ok()?,
+            shelf: MapShelf::new(Vec::new(alloc), BTreeMap::new(alloc), Vec::new(alloc)),
+            rig: FailRig::new(false, Vec::new(alloc)),
+        })
+    }
+
+    // As it is before a call with these words.
+    fn reset(&mut self, alloc: Global, case: &Case, files: &Files, words: &[String]) -> Option<()>
+        ensures { OnSome result (map string_bytes self.new.shelf.words.items ≡ map string_bytes words.now) }
+    {
+        self.rig = rig_of(case)?;
+        self.sink = sink_of(alloc, case)?;
+        self.shelf = shelf_of(alloc, case, files, words)?;
+        Some(())
+    }
 }
 
 // Calls the top with these words over their outside.
@@ -191,48 +176,67 @@ fn call_over<H: Threads + Wait + Sync>(
     )
 }
 
-/// Calls the top with these words over these files.
-pub fn call<H: Threads + Wait + Sync>(
-    rt: &H,
-    alloc: Global,
-    case: &Case,
-    files: &Files,
-    words: Vec<String>,
-) -> Result<Called, AllocError> {
-    let mut outside = open(alloc, case, files, words.as_slice())?;
-    let status = call_over(rt, alloc, words.as_slice(), &mut outside);
-    Ok(Called {
-        words,
-        status,
-        outside,
-    })
-}
-
-// The same call over an output of this room is cut off behind the front of what this one wrote.
-fn is_front_of<H: Threads + Wait + Sync>(
-    rt: &H,
-    alloc: Global,
-    files: &Files,
-    called: &Called,
-    room: usize,
-) -> Result<bool, AllocError> {
-    let words = copied(alloc, called.words.as_slice())?;
-    let case = Case::of_room(alloc, room);
-    let other = call(rt, alloc, &case, files, words)?;
-    Ok(other.is_front(room, called.outside.sink.bytes()))
-}
-
-/// The first smaller output with which the same call isn't cut off behind the front of what this one wrote.
-pub fn first_other<H: Threads + Wait + Sync>(
-    rt: &H,
-    alloc: Global,
-    files: &Files,
-    called: &Called,
-) -> Result<Option<usize>, AllocError> {
-    for room in 0..called.outside.sink.bytes().len() {
-        if !is_front_of(rt, alloc, files, called, room)? {
-            return Ok(Some(room));
-        }
+impl Call {
+    /// A call with no words, which wasn't made. None where memory is wanting, as in each of these.
+    pub fn new(alloc: Global) -> Option<Self> {
+        Some(Call {
+            outside: Outside::new(alloc)?,
+            status: Status::Ok,
+            words: Vec::new(alloc),
+        })
     }
-    Ok(None)
+
+    /// Has the words of this text.
+    pub fn read_words(&mut self, alloc: Global, text: &str) -> Option<()> {
+        self.words.clear();
+        add_words(&mut self.words, alloc, text)
+    }
+
+    /// Has the words of another call.
+    pub fn copy_words(&mut self, alloc: Global, other: &Call) -> Option<()> {
+        self.words = copied(alloc, other.words.as_slice()).ok()?;
+        Some(())
+    }
+
+    /// Calls the top over these files.
+    pub fn make<H: Threads + Wait + Sync>(
+        &mut self,
+        rt: &H,
+        alloc: Global,
+        case: &Case,
+        files: &Files,
+    ) -> Option<()> {
+        self.outside
+            .reset(alloc, case, files, self.words.as_slice())?;
+        self.status = call_over(rt, alloc, self.words.as_slice(), &mut self.outside);
+        Some(())
+    }
+
+    // It was cut off by an output of this room, which holds a front of what was due.
+    fn is_front(&self, room: usize, due: &[u8]) -> bool {
+        let written = self.outside.sink.bytes();
+        matches!(self.status, Status::Write)
+            && self.outside.sink.faults() == 1
+            && written.len() == room
+            && due.starts_with(written)
+    }
+
+    /// Makes the call again for each output smaller than what was due, up to the first one with which it isn't cut off
+    /// behind the front of that.
+    pub fn first_other<H: Threads + Wait + Sync>(
+        &mut self,
+        rt: &H,
+        alloc: Global,
+        case: &mut Case,
+        files: &Files,
+        due: &[u8],
+    ) -> Option<usize> {
+        for room in 0..due.len() {
+            case.room = room;
+            if self.make(rt, alloc, case, files).is_none() || !self.is_front(room, due) {
+                return Some(room);
+            }
+        }
+        None
+    }
 }

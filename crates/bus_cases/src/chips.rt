@@ -1,18 +1,7 @@
-use crate::words::{byte, print_said};
-use i2c_base::{Addr, Answer, Event, Idle, LockMode, MuxKind, MuxSpec, SegId, Target};
-use std::io;
+use crate::page::Page;
+use crate::words::{byte, put_said};
+use i2c_base::{Addr, Event, Idle, LockMode, MuxKind, MuxSpec, SegId, Target};
 use tgt_mux::Chip;
-
-/// What a word asks of a chip.
-#[derive(Clone, Copy)]
-enum Question {
-    /// Which channels are open.
-    Channels,
-    /// A line is set to a level.
-    Level(u8),
-    /// What it answers to an event.
-    On(Event),
-}
 
 // The kind of a chip, and how many channels it has.
 fn kind_of(name: &str) -> Option<(MuxKind, u8)> {
@@ -45,60 +34,62 @@ fn open(subject: &str) -> Option<Chip> {
 /// Answers words about a chip, which is named as `open` tells. `w` and `r` are a start with the chip's address, to write
 /// and to read, `o` a start for another, `+` and `-` a read that is acknowledged or isn't, `.` a stop, two hexadecimal
 /// digits a byte that is put, and `=N` the level N of a line. `?` asks which channels are open.
-pub fn answer_all(rt: &impl Print, subject: &str, words: &str) -> io::Result<()> {
+pub fn answer_all(page: &mut Page, subject: &str, words: &str) {
     match open(subject) {
-        Some(mut chip) => answer_each(rt, &mut chip, words),
-        None => print!(rt; " no chip"),
+        Some(mut chip) => answer_each(page, &mut chip, words),
+        None => page.put(" no chip"),
     }
 }
 
-fn answer_each(rt: &impl Print, chip: &mut Chip, words: &str) -> io::Result<()> {
+fn answer_each(page: &mut Page, chip: &mut Chip, words: &str) {
     for word in words.split_whitespace() {
-        print!(rt; " ")?;
-        answer(rt, chip, word)?;
+        page.put(" ");
+        answer(page, chip, word);
     }
-    Ok(())
 }
 
-fn answer(rt: &impl Print, chip: &mut Chip, word: &str) -> io::Result<()> {
-    match question_of(word) {
-        Some(Question::Channels) => print_channels(rt, chip),
-        Some(Question::Level(level)) => {
-            chip.set_level(level);
-            print_said(rt, Answer::Nothing)
+fn answer(page: &mut Page, chip: &mut Chip, word: &str) {
+    if word == "?" {
+        put_channels(page, chip);
+    } else if let Some(level) = word.strip_prefix('=') {
+        set_level(page, chip, level);
+    } else {
+        match event_of(word) {
+            Some(event) => put_said(page, chip.on(event)),
+            None => page.put("no event"),
         }
-        Some(Question::On(event)) => print_said(rt, chip.on(event)),
-        None => print!(rt; "{word} asks nothing"),
     }
 }
 
-fn question_of(word: &str) -> Option<Question> {
+fn event_of(word: &str) -> Option<Event> {
     match word {
-        "?" => Some(Question::Channels),
-        "w" => Some(Question::On(Event::Start { reading: false })),
-        "r" => Some(Question::On(Event::Start { reading: true })),
-        "o" => Some(Question::On(Event::Other)),
-        "+" => Some(Question::On(Event::Get { ack: true })),
-        "-" => Some(Question::On(Event::Get { ack: false })),
-        "." => Some(Question::On(Event::Stop)),
-        _ => level_or_byte(word),
+        "w" => Some(Event::Start { reading: false }),
+        "r" => Some(Event::Start { reading: true }),
+        "o" => Some(Event::Other),
+        "+" => Some(Event::Get { ack: true }),
+        "-" => Some(Event::Get { ack: false }),
+        "." => Some(Event::Stop),
+        _ => Some(Event::Put(byte(word)?)),
     }
 }
 
-fn level_or_byte(word: &str) -> Option<Question> {
-    match word.strip_prefix('=') {
-        Some(level) => Some(Question::Level(byte(level)?)),
-        None => Some(Question::On(Event::Put(byte(word)?))),
+// Sets the line to a level.
+fn set_level(page: &mut Page, chip: &mut Chip, level: &str) {
+    match byte(level) {
+        Some(level) => {
+            chip.set_level(level);
+            page.put(".");
+        }
+        None => page.put("no level"),
     }
 }
 
 // The channels that are open, of the nine that are counted from 0 to 8.
-fn print_channels(rt: &impl Print, chip: &Chip) -> io::Result<()> {
-    print!(rt; "open")?;
+fn put_channels(page: &mut Page, chip: &Chip) {
+    page.put("open");
     for channel in 0..9u8 {
         if chip.is_open(channel) {
-            print!(rt; ",{channel}")?;
+            page.put_number(",", u64::from(channel));
         }
     }
-    Ok(())
 }

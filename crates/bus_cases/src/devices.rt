@@ -5,7 +5,7 @@ use i2c_outside::DeviceState;
 use std::alloc::Global;
 
 /// How many bytes are read of each device: as many as a register device has.
-const LONG: u16 = 256;
+const LENGTH: u16 = 256;
 
 fn same_answer(one: Answer, other: Answer) -> bool {
     match (one, other) {
@@ -18,17 +18,29 @@ fn same_answer(one: Answer, other: Answer) -> bool {
     }
 }
 
-/// Both answer alike to a start that reads, and to so many gets.
-pub fn same_device(alloc: Global, one: &DeviceState, other: &DeviceState) -> bool {
-    let (Ok(mut one), Ok(mut other)) = (one.copied(alloc), other.copied(alloc)) else {
-        return false;
-    };
-    let mut event = Event::Start { reading: true };
-    for _ in 0..LONG {
-        if !same_answer(one.on(event), other.on(event)) {
+// Both answer alike to an event.
+fn same_at(one: &mut DeviceState, other: &mut DeviceState, event: Event) -> bool {
+    same_answer(one.on(event), other.on(event))
+}
+
+// Both answer alike to so many gets.
+fn same_bytes(one: &mut DeviceState, other: &mut DeviceState) -> bool {
+    for _ in 0..LENGTH {
+        if !same_at(one, other, Event::Get { ack: true }) {
             return false;
         }
-        event = Event::Get { ack: true };
     }
-    same_answer(one.on(Event::Stop), other.on(Event::Stop))
+    true
+}
+
+/// Both answer alike to a start that reads, to a get for each byte, and to a stop.
+pub fn same_device(alloc: Global, one: &DeviceState, other: &DeviceState) -> bool {
+    match (one.copied(alloc), other.copied(alloc)) {
+        (Ok(mut one), Ok(mut other)) => {
+            same_at(&mut one, &mut other, Event::Start { reading: true })
+                && same_bytes(&mut one, &mut other)
+                && same_at(&mut one, &mut other, Event::Stop)
+        }
+        _ => false,
+    }
 }

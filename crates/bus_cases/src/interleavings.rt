@@ -2,17 +2,17 @@
 
 use crate::asker::Asker;
 use crate::boards;
-use crate::case::{Called, Case, Files, call, copied};
+use crate::case::{Call, Case, Files};
 use crate::devices::same_device;
+use crate::page::Page;
 use bus_journal::{entry_text, read_entry};
 use flat_world::Flat;
 use i2c_base::{Cut, Entry, Reply};
 use i2c_board::Accepted;
 use i2c_outside::DeviceState;
 use i2c_top::Status;
-use std::alloc::{AllocError, Global};
+use std::alloc::Global;
 use std::collections::BTreeSet;
-use std::io;
 use std::sync::Wait;
 use std::thread::Threads;
 
@@ -20,16 +20,20 @@ use std::thread::Threads;
 /// their first one.
 const SCHEDULES: u16 = 8192;
 
+/// How many binary digits such a number has at most.
+const DIGITS: u8 = 13;
+
 /// No run makes so many calls on a port.
 const MANY_CALLS: u32 = 1000;
 
-/// Two callers over a board: the words of their call, which are `replay` and the names of the files of the board, of the
-/// schedule and of the two scripts.
+/// Two callers over a board: their call, whose words are `replay` and the names of the files of the board, of the schedule
+/// and of the two scripts; and what fails in it.
 #[derive(Drop)]
-pub struct Race {
+struct Race {
     board: Accepted,
     files: Files,
-    words: Vec<String>,
+    case: Case,
+    call: Call,
 }
 
 /// What came of some runs.
@@ -58,20 +62,28 @@ fn text_of<'f>(files: &'f Files, name: &str) -> &'f str {
     }
 }
 
-/// The words of the schedule of a number.
-fn schedule_of(alloc: Global, number: u16) -> Result<Vec<u8>, AllocError> {
-    let digits = format!(in alloc; "{number:b}")?;
-    let mut words = Vec::new(alloc);
-    for digit in digits.as_bytes().iter().skip(1) {
-        words.push(*digit)?;
-        words.push(b' ')?;
+/// Adds the number of a caller, of the first or the second one.
+fn add_word(words: &mut Vec<u8>, is_second: bool) -> Option<()> {
+    let word = if is_second { b"1 " } else { b"0 " };
+    words.extend_from_slice(word).ok()
+}
+
+/// Puts the words of the schedule of a number in the place of these, the last one first.
+fn put_schedule(words: &mut Vec<u8>, number: u16) -> Option<()> {
+    words.clear();
+    let mut rest = number;
+    for _ in 0..DIGITS {
+        if rest > 1 {
+            add_word(words, rest % 2 == 1)?;
+        }
+        rest /= 2;
     }
-    Ok(words)
+    Some(())
 }
 
 /// The journal of a report.
-fn journal_of(called: &Called) -> Option<&str> {
-    let report = str::from_utf8(called.outside.sink.bytes()).ok()?;
+fn journal_of(call: &Call) -> Option<&str> {
+    let report = str::from_utf8(call.outside.sink.bytes()).ok()?;
     let (_, journal) = report.split_once("\njournal\n")?;
     journal.strip_suffix("end\n")
 }
@@ -128,7 +140,12 @@ fn follow(alloc: Global, flat: &mut Flat<'_>, askers: &mut [Asker<'_>], journal:
 
 /// No caller has a transfer left to ask for.
 fn are_over(alloc: Global, askers: &[Asker<'_>]) -> bool {
-    askers.iter().all(|asker| asker.next(alloc).is_none())
+    for asker in askers {
+        if asker.next(alloc).is_some() {
+            return false;
+        }
+    }
+    true
 }
 
 /// These devices are in the same states.
@@ -142,58 +159,70 @@ fn same_devices(alloc: Global, devices: &[DeviceState], others: &[DeviceState]) 
 }
 
 impl Race {
-    /// The race of a call over these files.
-    pub fn open<R: Print + AllocGlobal>(
-        rt: &R,
-        files: &Files,
-        called: &Called,
-    ) -> io::Result<Self> {
-        let words = called.words.as_slice();
-        let board = boards::sealed(rt, text_of(files, word_at(words, 1)).as_bytes())?;
-        Ok(Race {
-            board,
-            files: files.clone()?,
-            words: copied(rt.alloc(), words)?,
+    /// A race over these files, on the board of a call. None where memory is wanting, as in each of these.
+    fn open(alloc: Global, files: &Files, call: &Call) -> Option<Self> {
+        let words = call.words.as_slice();
+        Some(Race {
+            board: boards::accepted(alloc, text_of(files, word_at(words, 1)).as_bytes())?,
+            files: files.clone().ok()?,
+            case: Case::new(alloc),
+            call: Call::new(alloc)?,
         })
     }
 
-    /// Has these words in the file of the schedule.
-    fn set_schedule(&mut self, alloc: Global, words: Vec<u8>) -> Result<(), AllocError> {
-        let name = String::from_str(alloc, word_at(self.words.as_slice(), 2))?;
-        self.files.insert(name, words)?;
-        Ok(())
+    /// Makes the call.
+    fn run<H: Threads + Wait + Sync>(&mut self, rt: &H, alloc: Global) -> Option<()> {
+        self.call.make(rt, alloc, &self.case, &self.files)
     }
 
-    /// Makes the call.
-    fn run<H: Threads + Wait + Sync>(
-        &self,
+    /// Makes the call by the schedule of a number.
+    fn run_schedule<H: Threads + Wait + Sync>(
+        &mut self,
         rt: &H,
         alloc: Global,
-        case: &Case,
-    ) -> Result<Called, AllocError> {
-        let words = copied(alloc, self.words.as_slice())?;
-        call(rt, alloc, case, &self.files, words)
+        number: u16,
+    ) -> Option<()> {
+        let name = word_at(self.call.words.as_slice(), 2);
+        put_schedule(self.files.get_mut(name)?, number)?;
+        self.run(rt, alloc)
+    }
+
+    /// Makes the call with this call on the first port failing.
+    fn run_failing<H: Threads + Wait + Sync>(
+        &mut self,
+        rt: &H,
+        alloc: Global,
+        number: u32,
+    ) -> Option<()> {
+        self.case.fail_at(number)?;
+        self.run(rt, alloc)
+    }
+
+    fn journal(&self) -> &str {
+        journal_of(&self.call).unwrap_or("")
     }
 
     /// A script of the two, which was asked for nothing yet.
     fn asker(&self, place: usize) -> Asker<'_> {
-        Asker::of(text_of(&self.files, word_at(self.words.as_slice(), place)))
+        let script = text_of(&self.files, word_at(self.call.words.as_slice(), place));
+        Asker::of(script, self.board.board().limit())
     }
 
     /// Whether the replies of a run are those of the flat world, its devices are left as there, and no transfer is left.
-    fn agrees(&self, alloc: Global, called: &Called, journal: &str) -> Result<bool, AllocError> {
-        let Ok(mut flat) = Flat::open(alloc, &self.board) else {
-            return Err(AllocError);
-        };
+    fn is_followed(&self, alloc: Global, flat: &mut Flat<'_>) -> bool {
         let mut askers = [self.asker(3), self.asker(4)];
-        if !follow(alloc, &mut flat, &mut askers, journal) {
-            return Ok(false);
+        matches!(self.call.status, Status::Ok)
+            && follow(alloc, flat, &mut askers, self.journal())
+            && are_over(alloc, &askers)
+            && same_devices(alloc, flat.states(), self.call.outside.rig.states())
+    }
+
+    /// The run is that of the flat world.
+    fn agrees(&self, alloc: Global) -> bool {
+        match Flat::open(alloc, &self.board) {
+            Ok(mut flat) => self.is_followed(alloc, &mut flat),
+            Err(_) => false,
         }
-        Ok(
-            matches!(called.status, Status::Ok)
-                && are_over(alloc, &askers)
-                && same_devices(alloc, flat.states(), called.outside.rig.states()),
-        )
     }
 }
 
@@ -208,44 +237,33 @@ impl Tally {
     }
 
     /// Counts a run.
-    fn add(&mut self, alloc: Global, race: &Race, called: &Called) -> Result<(), AllocError> {
-        let journal = journal_of(called).unwrap_or("");
-        let agrees = race.agrees(alloc, called, journal)?;
-        self.count(journal, agrees);
-        self.journals.insert(String::from_str(alloc, journal)?)?;
-        Ok(())
+    fn add(&mut self, alloc: Global, race: &Race) -> Option<()> {
+        self.count(race.journal(), race.agrees(alloc));
+        let journal = String::from_str(alloc, race.journal()).ok()?;
+        self.journals.insert(journal).ok()?;
+        Some(())
     }
 
     fn count(&mut self, journal: &str, agrees: bool) {
-        let replies = journal
-            .lines()
-            .filter(|line| line.starts_with("settle "))
-            .count();
-        self.replies = self.replies.saturating_add(replies as u64);
+        for line in journal.lines() {
+            if line.starts_with("settle ") {
+                self.replies = self.replies.saturating_add(1);
+            }
+        }
         self.runs = self.runs.saturating_add(1);
         if !agrees {
             self.differ = self.differ.saturating_add(1);
         }
     }
 
-    fn print(&self, rt: &impl Print, what: &str) -> io::Result<()> {
-        let (runs, journals) = (self.runs, self.journals.len());
-        let (replies, differ) = (self.replies, self.differ);
-        print!(rt; "{runs} {what}: {journals} journals, {replies} replies, {differ} differ")
+    fn put(&self, page: &mut Page, what: &str) {
+        page.put_number("", self.runs);
+        page.put(what);
+        page.put_number(": ", self.journals.len() as u64);
+        page.put_number(" journals, ", self.replies);
+        page.put_number(" replies, ", self.differ);
+        page.put(" differ");
     }
-}
-
-/// Runs the callers by the schedule of a number.
-fn count_schedule<H: Threads + Wait + Sync>(
-    rt: &H,
-    alloc: Global,
-    race: &mut Race,
-    number: u16,
-    tally: &mut Tally,
-) -> Result<(), AllocError> {
-    race.set_schedule(alloc, schedule_of(alloc, number)?)?;
-    let called = race.run(rt, alloc, &Case::new(alloc))?;
-    tally.add(alloc, race, &called)
 }
 
 /// Runs the callers by each short schedule.
@@ -253,54 +271,71 @@ fn each_schedule<H: Threads + Wait + Sync>(
     rt: &H,
     alloc: Global,
     race: &mut Race,
-) -> Result<Tally, AllocError> {
-    let mut tally = Tally::new(alloc);
-    for number in 2..SCHEDULES {
-        count_schedule(rt, alloc, race, number, &mut tally)?;
-    }
-    Ok(tally)
-}
-
-/// Runs the callers with this call on the first port failing. Whether it was made: an entry tells of it then.
-fn count_failing_call<H: Threads + Wait + Sync>(
-    rt: &H,
-    alloc: Global,
-    race: &Race,
-    number: u32,
     tally: &mut Tally,
-) -> Result<bool, AllocError> {
-    let called = race.run(rt, alloc, &Case::failing(alloc, number)?)?;
-    let is_made = journal_of(&called).unwrap_or("").contains(" cut");
-    if is_made {
-        tally.add(alloc, race, &called)?;
+) -> Option<()> {
+    for number in 2..SCHEDULES {
+        race.run_schedule(rt, alloc, number)?;
+        tally.add(alloc, race)?;
     }
-    Ok(is_made)
+    Some(())
 }
 
-/// Runs the callers with each call on the first port failing in turn, up to the first that isn't made.
+/// Runs the callers with each call on the first port failing in turn, up to the first that isn't made: of a call that was,
+/// an entry tells.
 fn each_failing_call<H: Threads + Wait + Sync>(
     rt: &H,
     alloc: Global,
-    race: &Race,
-) -> Result<Tally, AllocError> {
-    let mut tally = Tally::new(alloc);
+    race: &mut Race,
+    tally: &mut Tally,
+) -> Option<()> {
     for number in 0..MANY_CALLS {
-        if !count_failing_call(rt, alloc, race, number, &mut tally)? {
+        race.run_failing(rt, alloc, number)?;
+        if !race.journal().contains(" cut") {
             break;
         }
+        tally.add(alloc, race)?;
     }
-    Ok(tally)
+    Some(())
+}
+
+/// Runs the callers by their own schedule with each call failing, and then by each short one.
+fn run_all<H: Threads + Wait + Sync>(
+    rt: &H,
+    alloc: Global,
+    race: &mut Race,
+    failing: &mut Tally,
+    scheduled: &mut Tally,
+) -> Option<()> {
+    each_failing_call(rt, alloc, race, failing)?;
+    race.case = Case::new(alloc);
+    each_schedule(rt, alloc, race, scheduled)
+}
+
+/// Puts in a line what came of all runs of a race.
+fn put_runs<H: Threads + Wait + Sync>(rt: &H, page: &mut Page, alloc: Global, race: &mut Race) {
+    let mut failing = Tally::new(alloc);
+    let mut scheduled = Tally::new(alloc);
+    page.require(run_all(rt, alloc, race, &mut failing, &mut scheduled).is_some());
+    scheduled.put(page, " schedules");
+    page.put("; ");
+    failing.put(page, " failing calls");
+    page.put("\n");
 }
 
 /// Runs the two callers of a call by each short schedule, and by its own one with each call on the first port failing in turn,
-/// and prints in a line how many of the runs aren't those of the flat world.
-pub fn print_interleavings<H: Print + AllocGlobal + Threads + Wait + Sync>(
+/// and puts in a line how many of the runs aren't those of the flat world.
+pub fn put_interleavings<H: Threads + Wait + Sync>(
     rt: &H,
-    mut race: Race,
-) -> io::Result<()> {
-    let failing = each_failing_call(rt, rt.alloc(), &race)?;
-    each_schedule(rt, rt.alloc(), &mut race)?.print(rt, "schedules")?;
-    print!(rt; "; ")?;
-    failing.print(rt, "failing calls")?;
-    println!(rt;)
+    page: &mut Page,
+    alloc: Global,
+    files: &Files,
+    call: &Call,
+) {
+    match Race::open(alloc, files, call) {
+        Some(mut race) => {
+            page.require(race.call.copy_words(alloc, call).is_some());
+            put_runs(rt, page, alloc, &mut race);
+        }
+        None => page.require(false),
+    }
 }

@@ -10,7 +10,7 @@
 //! - `call WORD..`: calls the top with these words, and prints the status, what was written, each count of faults that
 //!   isn't 0, and how often the rig was plugged and unplugged
 //! - `fronts`: makes the call again for each smaller output, and prints whether each time it ends with one fault of
-//!   the output, which holds the front of what was written
+//!   the output, which holds the front of what was written; the last of them is then the last call
 //! - `calls`: prints the calls on each port, as the rig kept them
 //! - `device N EVENT..`: prints what device N, as the rig kept it, answers to these events
 //! - `mute`: what the program's own output answers where what is behind it takes nothing
@@ -42,6 +42,7 @@ mod devices;
 mod entries;
 mod interleavings;
 mod mute;
+mod page;
 mod show;
 mod table;
 mod transfers;
@@ -49,33 +50,41 @@ mod trees;
 mod wires;
 mod words;
 
+use page::Page;
+use std::alloc::AllocError;
 use std::io;
 use std::rt::Files;
 use std::sync::Wait;
 use std::thread::Threads;
 use table::Table;
 
-// Takes a line that was read.
+// Takes a line that was read, and prints what it asks for.
 fn take<H: Files + Print + AllocGlobal + Threads + Wait + Sync>(
     rt: &H,
     table: &mut Table,
+    page: &mut Page,
     line: io::Result<String>,
 ) -> io::Result<()> {
-    table.take(rt, line?.as_str())
+    table.take(rt, page, line?.as_str());
+    page.print(rt)
 }
 
 // Takes each line of the table.
 fn take_all<H: Input + Files + Print + AllocGlobal + Threads + Wait + Sync>(
     rt: &H,
     table: &mut Table,
+    page: &mut Page,
 ) -> io::Result<()> {
     for line in rt.lines(rt.alloc()) {
-        take(rt, table, line)?;
+        take(rt, table, page, line)?;
     }
     Ok(())
 }
 
 fn main(rt: HostRuntime) -> io::Result<()> {
-    let mut table = Table::new(rt.alloc());
-    take_all(&rt, &mut table)
+    let mut page = Page::new(rt.alloc());
+    match Table::new(rt.alloc()) {
+        Some(mut table) => take_all(&rt, &mut table, &mut page),
+        None => Err(io::Error::from(AllocError)),
+    }
 }

@@ -1,3 +1,4 @@
+use crate::page::Page;
 use i2c_outside::{Sink, StdoutSink};
 use std::fmt::Display;
 use std::io;
@@ -24,14 +25,14 @@ impl Print for Mute {
 }
 
 /// What the program's own output answers where what is behind it takes nothing, and the faults that it counts.
-pub fn print_mute(rt: &impl Print) -> io::Result<()> {
+pub fn put_mute(page: &mut Page) {
     let mut sink = StdoutSink::new(&Mute);
-    let answer = match sink.write(b"a line\n") {
-        Ok(_) => "taken",
-        Err(_) => "fault",
-    };
-    println!(rt;
-        "a sink over an output that takes nothing: {answer}, faults {}",
-        sink.faults()
-    )
+    page.put("a sink over an output that takes nothing: ");
+    page.put(if sink.write(b"a line\n").is_ok() {
+        "taken"
+    } else {
+        "fault"
+    });
+    page.put_number(", faults ", sink.faults());
+    page.put("\n");
 }

@@ -1,95 +1,102 @@
-use crate::case::{Called, number_of};
+use crate::case::Call;
+use crate::page::Page;
+use crate::words::parted;
 use i2c_base::{Answer, Event, PortCall, Target};
 use i2c_outside::DeviceState;
-use std::alloc::{AllocError, Global};
-use std::io;
+use std::alloc::Global;
 
 /// The most places of a command line.
 const PLACES: u8 = 16;
 
 // The lines of a text.
-fn print_lines(rt: &impl Print, text: &str) -> io::Result<()> {
+fn put_lines(page: &mut Page, text: &str) {
     for line in text.lines() {
-        println!(rt; "  {line}")?;
-    }
-    Ok(())
-}
-
-// What was written, line by line.
-fn print_written(rt: &impl Print, written: &[u8]) -> io::Result<()> {
-    match str::from_utf8(written) {
-        Ok(text) => print_lines(rt, text),
-        Err(_) => println!(rt; "  no text"),
+        page.put("  ");
+        page.put_line(line);
     }
 }
 
 // A count of faults, where there are any.
-fn print_faults(rt: &impl Print, what: &str, count: u64) -> io::Result<()> {
+fn put_faults(page: &mut Page, what: &str, count: u64) {
     if count != 0 {
-        println!(rt; "faults of {what}: {count}")?;
+        page.put("faults ");
+        page.put_number(what, count);
+        page.put("\n");
     }
-    Ok(())
 }
 
 // The faults of the shelf at each place.
-fn print_shelf(rt: &impl Print, called: &Called) -> io::Result<()> {
+fn put_shelf(page: &mut Page, call: &Call) {
     for place in 0..PLACES {
-        let count = called.outside.shelf.faults(place);
-        if count != 0 {
-            println!(rt; "faults at place {place}: {count}")?;
-        }
+        put_place(page, place, call.outside.shelf.faults(place));
     }
-    Ok(())
+}
+
+// The faults of a place, where there are any.
+fn put_place(page: &mut Page, place: u8, count: u64) {
+    if count != 0 {
+        page.put_number("faults at place ", u64::from(place));
+        page.put_number(": ", count);
+        page.put("\n");
+    }
 }
 
 // What was counted: the faults, and the plugs of the rig.
-fn print_counts(rt: &impl Print, called: &Called) -> io::Result<()> {
-    print_shelf(rt, called)?;
-    print_faults(rt, "the output", called.outside.sink.faults())?;
-    print_faults(rt, "the rig", called.outside.rig.faults())?;
-    println!(rt;
-        "plugs {}, unplugs {}",
-        called.outside.rig.plugs(),
-        called.outside.rig.unplugs()
-    )
+fn put_counts(page: &mut Page, call: &Call) {
+    put_shelf(page, call);
+    put_faults(page, "of the output: ", call.outside.sink.faults());
+    put_faults(page, "of the rig: ", call.outside.rig.faults());
+    page.put_number("plugs ", call.outside.rig.plugs());
+    page.put_number(", unplugs ", call.outside.rig.unplugs());
+    page.put("\n");
 }
 
 /// How a call ended, what was written, and what was counted.
-pub fn print_called(rt: &impl Print, called: &Called) -> io::Result<()> {
-    let written = called.outside.sink.bytes();
-    println!(rt; "status {}, {} bytes", called.status.code(), written.len())?;
-    print_written(rt, written)?;
-    print_counts(rt, called)
+pub fn put_call(page: &mut Page, call: &Call) {
+    let written = call.outside.sink.bytes();
+    page.put_number("status ", u64::from(call.status.code()));
+    page.put_number(", ", written.len() as u64);
+    page.put_line(" bytes");
+    put_lines(page, str::from_utf8(written).unwrap_or("no text"));
+    put_counts(page, call);
 }
 
-// The direction of a message.
-fn direction(reading: bool) -> &'static str {
-    if reading { "r" } else { "w" }
-}
-
-fn call_text(alloc: Global, call: PortCall) -> Result<String, AllocError> {
+// A call on a port.
+fn put_port_call(page: &mut Page, call: PortCall) {
     match call {
         PortCall::Start(addr, reading) => {
-            format!(in alloc; "start {} {:#04x}", direction(reading), addr.get())
+            page.put(if reading { "start r 0x" } else { "start w 0x" });
+            page.put_byte(addr.get());
         }
-        PortCall::Put(byte) => format!(in alloc; "put {byte:#04x}"),
-        PortCall::Get(true) => format!(in alloc; "get"),
-        PortCall::Get(false) => format!(in alloc; "get the last"),
-        PortCall::Stop => format!(in alloc; "stop"),
-        PortCall::Line(mux, level) => format!(in alloc; "line {} {level}", mux.0),
-        PortCall::Fault => format!(in alloc; "fault"),
+        PortCall::Put(byte) => {
+            page.put("put 0x");
+            page.put_byte(byte);
+        }
+        PortCall::Get(ack) => page.put(if ack { "get" } else { "get the last" }),
+        PortCall::Stop => page.put("stop"),
+        PortCall::Line(mux, level) => {
+            page.put_number("line ", u64::from(mux.0));
+            page.put_number(" ", u64::from(level));
+        }
+        PortCall::Fault => page.put("fault"),
+    }
+}
+
+fn put_port(page: &mut Page, calls: &[PortCall]) {
+    for call in calls {
+        page.put("  ");
+        put_port_call(page, *call);
+        page.put("\n");
     }
 }
 
 /// The calls on each port.
-pub fn print_calls(rt: &impl Print, alloc: Global, called: &Called) -> io::Result<()> {
-    for (port, calls) in called.outside.rig.logs().iter().enumerate() {
-        println!(rt; "port {port}")?;
-        for call in calls.iter() {
-            println!(rt; "  {}", call_text(alloc, *call)?)?;
-        }
+pub fn put_calls(page: &mut Page, call: &Call) {
+    for (port, calls) in call.outside.rig.logs().iter().enumerate() {
+        page.put_number("port ", port as u64);
+        page.put("\n");
+        put_port(page, calls.as_slice());
     }
-    Ok(())
 }
 
 // The event of a word.
@@ -104,50 +111,52 @@ fn event_of(word: &str) -> Option<Event> {
 }
 
 // What a device answers to an event.
-fn print_answer(rt: &impl Print, word: &str, answer: Answer) -> io::Result<()> {
+fn put_answer(page: &mut Page, answer: Answer) {
     match answer {
-        Answer::Ack => println!(rt; "  {word}: ack"),
-        Answer::Nack => println!(rt; "  {word}: nack"),
-        Answer::Slow => println!(rt; "  {word}: slow"),
-        Answer::Byte(byte) => println!(rt; "  {word}: {byte:#04x}"),
-        Answer::Nothing => println!(rt; "  {word}: nothing"),
+        Answer::Ack => page.put("ack"),
+        Answer::Nack => page.put("nack"),
+        Answer::Slow => page.put("slow"),
+        Answer::Byte(byte) => {
+            page.put("0x");
+            page.put_byte(byte);
+        }
+        Answer::Nothing => page.put("nothing"),
     }
 }
 
-fn print_each(rt: &impl Print, device: &mut DeviceState, words: &str) -> io::Result<()> {
+// What a device answers to the event of each word.
+fn put_each(page: &mut Page, device: &mut DeviceState, words: &str) {
     for word in words.split_whitespace() {
+        page.put("  ");
+        page.put(word);
+        page.put(": ");
         match event_of(word) {
-            Some(event) => print_answer(rt, word, device.on(event))?,
-            None => println!(rt; "  {word} is no event")?,
+            Some(event) => put_answer(page, device.on(event)),
+            None => page.put("no event"),
         }
+        page.put("\n");
     }
-    Ok(())
+}
+
+fn device_of<'c>(call: &'c Call, number: &str) -> Option<&'c DeviceState> {
+    call.outside.rig.states().get(number.parse::<usize>().ok()?)
 }
 
 // What a copy of a device answers.
-fn print_copied(
-    rt: &impl Print,
-    alloc: Global,
-    device: &DeviceState,
-    words: &str,
-) -> io::Result<()> {
+fn put_copied(page: &mut Page, alloc: Global, device: &DeviceState, words: &str) {
     match device.copied(alloc) {
-        Ok(mut copy) => print_each(rt, &mut copy, words),
-        Err(_) => Err(io::Error::from(AllocError)),
+        Ok(mut copy) => put_each(page, &mut copy, words),
+        Err(_) => page.require(false),
     }
 }
 
 /// What the device of a number answers to the events of the words behind it, one after the other.
-pub fn print_answers(
-    rt: &impl Print,
-    alloc: Global,
-    called: &Called,
-    words: &str,
-) -> io::Result<()> {
-    let (number, words) = words.split_once(' ').unwrap_or((words, ""));
-    println!(rt; "device {number}")?;
-    match called.outside.rig.states().get(number_of(number)? as usize) {
-        Some(device) => print_copied(rt, alloc, device, words),
-        None => println!(rt; "no device {number}"),
+pub fn put_answers(page: &mut Page, alloc: Global, call: &Call, words: &str) {
+    let (number, words) = parted(words, ' ');
+    page.put("device ");
+    page.put_line(number);
+    match device_of(call, number) {
+        Some(device) => put_copied(page, alloc, device, words),
+        None => page.put_line("  not there"),
     }
 }

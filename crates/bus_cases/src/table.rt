@@ -1,12 +1,13 @@
 use crate::bench::answer_line;
-use crate::case::{Called, Case, Files as Shelf, call, first_other, words_of};
-use crate::entries::print_entry;
-use crate::interleavings::{Race, print_interleavings};
-use crate::mute::print_mute;
-use crate::show::{print_answers, print_called, print_calls};
-use std::alloc::{AllocError, Global};
+use crate::case::{Call, Case, Files as Shelf};
+use crate::entries::put_entry;
+use crate::interleavings::put_interleavings;
+use crate::mute::put_mute;
+use crate::page::Page;
+use crate::show::{put_answers, put_call, put_calls};
+use crate::words::parted;
+use std::alloc::Global;
 use std::collections::BTreeMap;
-use std::io;
 use std::rt::Files;
 use std::sync::Wait;
 use std::thread::Threads;
@@ -16,145 +17,165 @@ use std::thread::Threads;
 pub struct Table {
     files: Shelf,
     /// The file whose lines come.
-    file: Option<(String, Vec<u8>)>,
+    file: Option<String>,
     case: Case,
-    called: Option<Called>,
+    call: Call,
+    is_called: bool,
 }
 
-// The first smaller output that doesn't hold the front of what a call wrote, or that there is none.
-fn print_fronts<H: Print + AllocGlobal + Threads + Wait + Sync>(
-    rt: &H,
-    alloc: Global,
-    files: &Shelf,
-    called: &Called,
-) -> io::Result<()> {
-    match first_other(rt, alloc, files, called)? {
-        None => println!(rt; "each smaller output holds the front"),
-        Some(room) => println!(rt; "an output of {room} bytes holds no such front"),
-    }
-}
-
-// A line of a file.
-fn add_line(bytes: &mut Vec<u8>, line: &str) -> Result<(), AllocError> {
-    bytes.extend_from_slice(line.as_bytes())?;
-    bytes.push(b'\n')?;
-    Ok(())
+// Adds a line to a file.
+fn add_line(bytes: &mut Vec<u8>, line: &str) -> bool {
+    bytes.extend_from_slice(line.as_bytes()).is_ok() && bytes.push(b'\n').is_ok()
 }
 
 impl Table {
-    pub fn new(alloc: Global) -> Self {
-        Table {
+    /// None where memory is wanting.
+    pub fn new(alloc: Global) -> Option<Self> {
+        Some(Table {
+            call: Call::new(alloc)?,
             files: BTreeMap::new(alloc),
             file: None,
             case: Case::new(alloc),
-            called: None,
-        }
+            is_called: false,
+        })
     }
 
     /// Takes a line, and does what it asks for.
-    pub fn take<H: Files + Print + AllocGlobal + Threads + Wait + Sync>(
+    pub fn take<H: Files + AllocGlobal + Threads + Wait + Sync>(
         &mut self,
         rt: &H,
+        page: &mut Page,
         line: &str,
-    ) -> io::Result<()> {
+    ) {
         if self.file.is_some() {
-            Ok(self.take_file_line(line)?)
-        } else if line.is_empty() || line.starts_with('#') {
-            Ok(())
-        } else if line.contains(':') {
-            answer_line(rt, line)
-        } else {
-            self.take_command(rt, rt.alloc(), line)
+            self.take_file_line(page, line);
+        } else if line.contains(':') && !line.starts_with('#') {
+            answer_line(rt, page, line);
+        } else if !line.is_empty() && !line.starts_with('#') {
+            self.take_command(rt, page, rt.alloc(), line);
         }
     }
 
-    fn take_file_line(&mut self, line: &str) -> Result<(), AllocError> {
+    fn take_file_line(&mut self, page: &mut Page, line: &str) {
         if line == "." {
-            return self.end_file();
-        }
-        match &mut self.file {
-            Some((_, bytes)) => add_line(bytes, line),
-            None => Ok(()),
+            self.file = None;
+        } else {
+            page.require(self.has_added(line));
         }
     }
 
-    fn end_file(&mut self) -> Result<(), AllocError> {
-        if let Some((name, bytes)) = self.file.take() {
-            self.files.insert(name, bytes)?;
+    // Adds a line to the file whose lines come.
+    fn has_added(&mut self, line: &str) -> bool {
+        match &self.file {
+            Some(name) => match self.files.get_mut(name.as_str()) {
+                Some(bytes) => add_line(bytes, line),
+                None => false,
+            },
+            None => false,
         }
-        Ok(())
     }
 
-    fn take_command<H: Print + AllocGlobal + Threads + Wait + Sync>(
+    fn take_command<H: Threads + Wait + Sync>(
         &mut self,
         rt: &H,
+        page: &mut Page,
         alloc: Global,
         line: &str,
-    ) -> io::Result<()> {
-        let (command, rest) = line.split_once(' ').unwrap_or((line, ""));
+    ) {
+        let (command, rest) = parted(line, ' ');
         match command {
-            "file" => Ok(self.begin_file(alloc, rest)?),
-            "case" => self.begin_case(rt, alloc, rest),
-            "reads" | "writes" | "fails" | "room" | "stuck" => self.case.set(command, rest),
-            "call" => self.call(rt, alloc, rest),
-            "mute" => print_mute(rt),
-            "entry" => print_entry(rt, alloc, rest),
-            _ => self.show(rt, alloc, command, rest),
+            "file" => page.require(self.begin_file(alloc, rest).is_some()),
+            "case" => self.begin_case(page, alloc, rest),
+            "call" => self.make_call(rt, page, alloc, rest),
+            "mute" => put_mute(page),
+            "entry" => put_entry(page, alloc, rest),
+            "reads" | "writes" | "fails" | "room" | "stuck" => {
+                page.require(self.case.set(command, rest).is_some())
+            }
+            _ => self.show(rt, page, alloc, command, rest),
         }
     }
 
-    fn begin_file(&mut self, alloc: Global, name: &str) -> Result<(), AllocError> {
-        self.file = Some((String::from_str(alloc, name)?, Vec::new(alloc)));
-        Ok(())
+    fn begin_file(&mut self, alloc: Global, name: &str) -> Option<()> {
+        self.file = Some(String::from_str(alloc, name).ok()?);
+        self.files
+            .insert(String::from_str(alloc, name).ok()?, Vec::new(alloc))
+            .ok()?;
+        Some(())
     }
 
-    fn begin_case(&mut self, rt: &impl Print, alloc: Global, name: &str) -> io::Result<()> {
+    fn begin_case(&mut self, page: &mut Page, alloc: Global, name: &str) {
         self.case = Case::new(alloc);
-        self.called = None;
-        println!(rt; "== {name}")
-    }
-
-    fn call<H: Print + AllocGlobal + Threads + Wait + Sync>(
-        &mut self,
-        rt: &H,
-        alloc: Global,
-        words: &str,
-    ) -> io::Result<()> {
-        self.make_call(rt, alloc, words)?;
-        match &self.called {
-            Some(called) => print_called(rt, called),
-            None => Ok(()),
-        }
+        self.is_called = false;
+        page.put("== ");
+        page.put_line(name);
     }
 
     fn make_call<H: Threads + Wait + Sync>(
         &mut self,
         rt: &H,
+        page: &mut Page,
         alloc: Global,
         words: &str,
-    ) -> Result<(), AllocError> {
-        let words = words_of(alloc, words)?;
-        self.called = Some(call(rt, alloc, &self.case, &self.files, words)?);
-        Ok(())
+    ) {
+        self.is_called = self.has_called(rt, alloc, words).is_some();
+        page.require(self.is_called);
+        put_call(page, &self.call);
     }
 
-    /// Prints what the last call left.
-    fn show<H: Print + AllocGlobal + Threads + Wait + Sync>(
-        &self,
+    fn has_called<H: Threads + Wait + Sync>(
+        &mut self,
         rt: &H,
+        alloc: Global,
+        words: &str,
+    ) -> Option<()> {
+        self.call.read_words(alloc, words)?;
+        self.call.make(rt, alloc, &self.case, &self.files)
+    }
+
+    // Puts what the last call left.
+    fn show<H: Threads + Wait + Sync>(
+        &mut self,
+        rt: &H,
+        page: &mut Page,
         alloc: Global,
         command: &str,
         rest: &str,
-    ) -> io::Result<()> {
-        let Some(called) = &self.called else {
-            return println!(rt; "no call stands before {command}");
-        };
+    ) {
+        page.require(self.is_called);
         match command {
-            "interleavings" => print_interleavings(rt, Race::open(rt, &self.files, called)?),
-            "fronts" => print_fronts(rt, alloc, &self.files, called),
-            "calls" => print_calls(rt, alloc, called),
-            "device" => print_answers(rt, alloc, called, rest),
-            _ => println!(rt; "{command} is no line of a table"),
+            "interleavings" => put_interleavings(rt, page, alloc, &self.files, &self.call),
+            "fronts" => self.put_fronts(rt, page, alloc),
+            "calls" => put_calls(page, &self.call),
+            "device" => put_answers(page, alloc, &self.call, rest),
+            _ => page.require(false),
+        }
+    }
+
+    // The first smaller output that doesn't hold the front of what a call wrote, or that there is none.
+    fn put_fronts<H: Threads + Wait + Sync>(&mut self, rt: &H, page: &mut Page, alloc: Global) {
+        match Vec::from_slice(alloc, self.call.outside.sink.bytes()) {
+            Ok(due) => self.put_first_other(rt, page, alloc, due.as_slice()),
+            Err(_) => page.require(false),
+        }
+    }
+
+    fn put_first_other<H: Threads + Wait + Sync>(
+        &mut self,
+        rt: &H,
+        page: &mut Page,
+        alloc: Global,
+        due: &[u8],
+    ) {
+        match self
+            .call
+            .first_other(rt, alloc, &mut self.case, &self.files, due)
+        {
+            None => page.put_line("each smaller output holds the front"),
+            Some(room) => {
+                page.put_number("an output with no such front: ", room as u64);
+                page.put("\n");
+            }
         }
     }
 }

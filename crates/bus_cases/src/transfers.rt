@@ -1,34 +1,34 @@
 //! Transfers in the flat world, and their replies.
 
-use crate::words::{addr, byte};
+use crate::page::Page;
+use crate::words::{addr, byte, parted};
 use flat_world::Flat;
 use i2c_base::{Addr, ByteList, Cut, Kind, MOST_LENGTH, Reply, Transfer};
 use i2c_board::Accepted;
-use std::alloc::AllocError;
-use std::io;
+use std::alloc::Global;
 
 /// Does transfers with a semicolon between them, one after the other, on the devices of a board as they are opened, and
-/// prints each reply. How a transfer is written stands at `read_transfer`.
-pub fn answer_all<R: Print + AllocGlobal>(
-    rt: &R,
-    board: &Accepted,
-    transfers: &str,
-) -> io::Result<()> {
-    let Ok(mut flat) = Flat::open(rt.alloc(), board) else {
-        return Err(io::Error::from(AllocError));
-    };
-    for text in transfers.split(';') {
-        answer(rt, &mut flat, text)?;
+/// puts each reply. How a transfer is written stands at `read_transfer`.
+pub fn answer_all(page: &mut Page, alloc: Global, board: &Accepted, transfers: &str) {
+    match Flat::open(alloc, board) {
+        Ok(mut flat) => answer_each(page, &mut flat, transfers),
+        Err(_) => page.require(false),
     }
-    Ok(())
 }
 
-// Does a transfer, and prints its reply.
-fn answer(rt: &impl Print, flat: &mut Flat<'_>, text: &str) -> io::Result<()> {
+fn answer_each(page: &mut Page, flat: &mut Flat<'_>, transfers: &str) {
+    for text in transfers.split(';') {
+        page.put(" ");
+        answer(page, flat, text);
+    }
+}
+
+// Does a transfer, and puts its reply.
+fn answer(page: &mut Page, flat: &mut Flat<'_>, text: &str) {
     let mut transfer = Transfer::new(0, Kind::Plain, false);
     match read_transfer(&mut transfer, text) {
-        Some(cut) => print_reply(rt, &flat.apply(&transfer, cut)),
-        None => print!(rt; " {text:?} is no transfer"),
+        Some(cut) => put_reply(page, &flat.apply(&transfer, cut)),
+        None => page.put("no transfer"),
     }
 }
 
@@ -46,35 +46,49 @@ fn read_transfer(transfer: &mut Transfer, text: &str) -> Option<Cut> {
 }
 
 fn front_of(front: &str) -> Option<(u16, Cut)> {
-    match front.split_once('@') {
-        Some((bus, place)) => Some((bus.parse::<u16>().ok()?, cut_of(place)?)),
-        None => Some((front.parse::<u16>().ok()?, Cut::No)),
+    let (bus, place) = parted(front, '@');
+    Some((bus.parse().ok()?, cut_of(place)?))
+}
+
+// The place of a cut, none where it is empty.
+fn cut_of(place: &str) -> Option<Cut> {
+    match place {
+        "" => Some(Cut::No),
+        "way" => Some(Cut::Way),
+        _ => cut_in(place),
     }
 }
 
-// The place of a cut.
-fn cut_of(place: &str) -> Option<Cut> {
-    if place == "way" {
-        return Some(Cut::Way);
-    }
-    let (msg, call) = place.split_once('.')?;
+// The place of a cut in a message.
+fn cut_in(place: &str) -> Option<Cut> {
+    let (msg, call) = parted(place, '.');
     Some(Cut::At {
-        msg: msg.parse::<u8>().ok()?,
-        call: call.parse::<u16>().ok()?,
+        msg: msg.parse().ok()?,
+        call: call.parse().ok()?,
     })
 }
 
 // Adds the message of a word.
 fn add(transfer: &mut Transfer, word: &str) -> Option<()> {
-    if let Some(message) = word.strip_prefix('w') {
-        let (to, bytes) = message.split_once('=')?;
-        add_write(transfer, addr(to)?, bytes)
-    } else if let Some(from) = word.strip_prefix('r') {
-        transfer.add_read(addr(from)?, 1).ok()
-    } else {
-        let from = word.strip_prefix('c')?;
-        transfer.add_counted(addr(from)?, false).ok()
+    let (message, digits) = parted(word, '=');
+    match message.strip_prefix('w') {
+        Some(to) => add_write(transfer, addr(to)?, digits),
+        None => add_read(transfer, message),
     }
+}
+
+fn add_read(transfer: &mut Transfer, message: &str) -> Option<()> {
+    match message.strip_prefix('r') {
+        Some(from) => transfer.add_read(addr(from)?, 1).ok(),
+        None => transfer
+            .add_counted(addr(message.strip_prefix('c')?)?, false)
+            .ok(),
+    }
+}
+
+// The byte that two digits spell.
+fn spelt(digits: &[u8]) -> Option<u8> {
+    byte(str::from_utf8(digits).ok()?)
 }
 
 // Adds a write of the bytes that these digits spell, two a byte.
@@ -84,24 +98,22 @@ fn add_write(transfer: &mut Transfer, to: Addr, digits: &str) -> Option<()> {
         if bytes.as_slice().len() == MOST_LENGTH {
             return None;
         }
-        bytes.push(byte(str::from_utf8(pair).ok()?)?);
+        bytes.push(spelt(pair)?);
     }
     transfer.add_write(to, bytes.as_slice()).ok()
 }
 
 // A reply: the bytes that were read, `done`, or the error.
-fn print_reply(rt: &impl Print, reply: &Reply) -> io::Result<()> {
+fn put_reply(page: &mut Page, reply: &Reply) {
     match reply {
-        Reply::Done => print!(rt; " done"),
-        Reply::Read(bytes) => print_bytes(rt, bytes.as_slice()),
-        Reply::Err(errno) => print!(rt; " {errno:?}"),
+        Reply::Done => page.put("done"),
+        Reply::Read(bytes) => put_bytes(page, bytes.as_slice()),
+        Reply::Err(errno) => page.put_debug(errno),
     }
 }
 
-fn print_bytes(rt: &impl Print, bytes: &[u8]) -> io::Result<()> {
-    print!(rt; " ")?;
+fn put_bytes(page: &mut Page, bytes: &[u8]) {
     for byte in bytes {
-        print!(rt; "{byte:02x}")?;
+        page.put_byte(*byte);
     }
-    Ok(())
 }

@@ -1,109 +1,109 @@
-ghost use Rattle.std.specs.Prelude.{◌<◌};
+ghost use Rattle.std.specs.Prelude.{◌<◌, IfSome};
 ghost use Rattle.i2c_spec.specs.Tree.{buses};
 
-use crate::words::byte;
-use i2c_base::{Addr, SegId};
+use crate::page::Page;
+use crate::words::addr;
+use i2c_base::SegId;
 use i2c_board::{Board, Grant, Way};
-use std::io;
-
-/// What a word asks about the buses of these numbers.
-#[derive(Clone, Copy)]
-enum Question {
-    /// The way to a bus.
-    Way(u16),
-    /// Where the address of this byte leads on a bus, or where it leads by force.
-    Grant(u16, u8, bool),
-    /// Whether the first bus is below the second.
-    IsBelow(u16, u16),
-}
 
 /// Answers words: `BUS` asks for the way to a bus, `BUS/ADDR` where an address leads on it, `BUS/ADDR!` where it leads by
 /// force, and `BUS<HIGH` whether the bus is below another.
-pub fn answer_all(rt: &impl Print, board: &Board, words: &str) -> io::Result<()> {
+pub fn answer_all(page: &mut Page, board: &Board, words: &str) {
     for word in words.split_whitespace() {
-        print!(rt; " ")?;
-        answer(rt, board, word)?;
-    }
-    Ok(())
-}
-
-fn answer(rt: &impl Print, board: &Board, word: &str) -> io::Result<()> {
-    match question_of(word) {
-        Some(Question::Way(bus)) => print_way(rt, board, bus),
-        Some(Question::Grant(bus, addr, force)) => print_grant(rt, board, bus, addr, force),
-        Some(Question::IsBelow(low, high)) => print_below(rt, board, low, high),
-        None => print!(rt; "{word} asks nothing"),
+        page.put(" ");
+        answer(page, board, word);
     }
 }
 
-fn question_of(word: &str) -> Option<Question> {
+fn answer(page: &mut Page, board: &Board, word: &str) {
     if let Some((bus, target)) = word.split_once('/') {
-        return grant_of(bus, target);
-    }
-    if let Some((low, high)) = word.split_once('<') {
-        return Some(Question::IsBelow(number(low)?, number(high)?));
-    }
-    Some(Question::Way(number(word)?))
-}
-
-fn grant_of(bus: &str, target: &str) -> Option<Question> {
-    match target.strip_suffix('!') {
-        Some(target) => Some(Question::Grant(number(bus)?, byte(target)?, true)),
-        None => Some(Question::Grant(number(bus)?, byte(target)?, false)),
+        put_grant(page, board, bus, target);
+    } else if let Some((low, high)) = word.split_once('<') {
+        put_below(page, board, low, high);
+    } else {
+        put_way(page, board, word);
     }
 }
 
-fn number(word: &str) -> Option<u16> {
-    word.parse().ok()
+// The bus of a number.
+fn seg_of(board: &Board, number: &str) -> Option<SegId>
+    ensures { IfSome result (λ seg. seg < buses board.now) }
+{
+    board.seg(number.parse().ok()?)
 }
 
-// Where an address leads.
-fn print_grant(rt: &impl Print, board: &Board, bus: u16, addr: u8, force: bool) -> io::Result<()> {
-    let (Some(seg), Some(addr)) = (board.seg(bus), Addr::new(addr)) else {
-        return print!(rt; "no bus {bus} or address {addr:02x}");
-    };
-    match board.grant(seg, addr, force) {
-        Grant::Named(device) => print!(rt; "d{}", device.0),
-        Grant::Nobody => print!(rt; "nobody"),
-        Grant::Busy => print!(rt; "busy"),
+// Where an address leads on a bus.
+fn put_grant(page: &mut Page, board: &Board, bus: &str, target: &str) {
+    let forced = target.strip_suffix('!');
+    match (seg_of(board, bus), addr(forced.unwrap_or(target))) {
+        (Some(seg), Some(addr)) => put_owner(page, board.grant(seg, addr, forced.is_some())),
+        _ => page.put("no bus or address"),
+    }
+}
+
+fn put_owner(page: &mut Page, grant: Grant) {
+    match grant {
+        Grant::Named(device) => page.put_number("d", u64::from(device.0)),
+        Grant::Nobody => page.put("nobody"),
+        Grant::Busy => page.put("busy"),
     }
 }
 
 // Whether a bus is below another.
-fn print_below(rt: &impl Print, board: &Board, low: u16, high: u16) -> io::Result<()> {
-    match (board.seg(low), board.seg(high)) {
-        (Some(low), Some(high)) => print!(rt; "{}", board.is_below(low, high)),
-        _ => print!(rt; "no bus {low} or {high}"),
+fn put_below(page: &mut Page, board: &Board, low: &str, high: &str) {
+    match (seg_of(board, low), seg_of(board, high)) {
+        (Some(low), Some(high)) => page.put(if board.is_below(low, high) {
+            "true"
+        } else {
+            "false"
+        }),
+        _ => page.put("no two buses"),
     }
 }
 
 // The buses of the path to a bus, from the root, with the mux and the channel before each; and what bars the way.
-fn print_way(rt: &impl Print, board: &Board, bus: u16) -> io::Result<()> {
-    let Some(seg) = board.seg(bus) else {
-        return print!(rt; "no bus {bus}");
-    };
-    print_path(rt, board, seg)?;
-    match board.way(seg) {
-        Way::Clear => Ok(()),
-        Way::NoAck(mux) => print!(rt; ":no-ack-m{}", mux.0),
-        Way::Held(mux) => print!(rt; ":held-m{}", mux.0),
+fn put_way(page: &mut Page, board: &Board, bus: &str) {
+    match seg_of(board, bus) {
+        Some(seg) => {
+            put_path(page, board, seg);
+            put_bar(page, board.way(seg));
+        }
+        None => page.put("no bus"),
+    }
+}
+
+fn put_bar(page: &mut Page, way: Way) {
+    match way {
+        Way::Clear => {}
+        Way::NoAck(mux) => page.put_number(":no-ack-m", u64::from(mux.0)),
+        Way::Held(mux) => page.put_number(":held-m", u64::from(mux.0)),
     }
 }
 
 // The buses from the root to a bus.
-fn print_path(rt: &impl Print, board: &Board, seg: SegId) -> io::Result<()>
+fn put_path(page: &mut Page, board: &Board, seg: SegId)
     requires { seg < buses board.now }
 {
     for bus in board.path(seg).iter() {
-        print_hop(rt, board, bus.0)?;
+        put_hop(page, board, bus.0);
     }
-    Ok(())
 }
 
 // A bus, behind its mux and channel.
-fn print_hop(rt: &impl Print, board: &Board, bus: u16) -> io::Result<()> {
-    match board.seg(bus).and_then(|seg| board.over(seg)) {
-        Some((mux, channel)) => print!(rt; "-m{}.{channel}-{bus}", mux.0),
-        None => print!(rt; "{bus}"),
+fn put_hop(page: &mut Page, board: &Board, bus: u16) {
+    match board.seg(bus) {
+        Some(seg) => put_over(page, board, seg),
+        None => page.put("no bus"),
     }
+}
+
+fn put_over(page: &mut Page, board: &Board, seg: SegId)
+    requires { seg < buses board.now }
+{
+    if let Some((mux, channel)) = board.over(seg) {
+        page.put_number("-m", u64::from(mux.0));
+        page.put_number(".", u64::from(channel));
+        page.put("-");
+    }
+    page.put_number("", u64::from(seg.0));
 }

@@ -1,20 +1,28 @@
-use crate::words::{addr, byte, print_said};
-use i2c_base::{Answer, MuxId, PortCall};
+use crate::page::Page;
+use crate::words::{addr, byte, put_said};
+use i2c_base::{Answer, MuxId, PortCall, SegId};
+use i2c_board::Accepted;
 use i2c_physics::SimWorld;
-use std::io;
+use std::alloc::Global;
 
-/// Answers words: `wADDR` and `rADDR` are starts, to write and to read, two hexadecimal digits a byte that is put, `+`
+/// Answers words about the wires of the first root of a board, as they are opened: `wADDR` and `rADDR` are starts, to write and to read, two hexadecimal digits a byte that is put, `+`
 /// and `-` a read that is acknowledged or isn't, `.` a stop, `!` a call that fails, which acts as one, and `mN=K` the
 /// line of mux N at level K.
-pub fn answer_all(rt: &impl Print, world: &mut SimWorld, words: &str) -> io::Result<()> {
+pub fn answer_all(page: &mut Page, alloc: Global, board: &Accepted, words: &str) {
+    match SimWorld::open(alloc, board, SegId(0)) {
+        Ok(mut world) => answer_each(page, &mut world, words),
+        Err(_) => page.require(false),
+    }
+}
+
+fn answer_each(page: &mut Page, world: &mut SimWorld, words: &str) {
     for word in words.split_whitespace() {
-        print!(rt; " ")?;
+        page.put(" ");
         match call_of(word) {
-            Some(call) => print_said(rt, answer(world, call))?,
-            None => print!(rt; "{word} is no call")?,
+            Some(call) => put_said(page, answer(world, call)),
+            None => page.put("no call"),
         }
     }
-    Ok(())
 }
 
 fn call_of(word: &str) -> Option<PortCall> {

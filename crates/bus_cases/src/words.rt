@@ -1,9 +1,17 @@
+use crate::page::Page;
 use i2c_base::{Addr, Answer};
-use std::io;
 
 /// A byte in two hexadecimal digits.
 pub fn byte(word: &str) -> Option<u8> {
     u8::from_str_radix(word, 16).ok()
+}
+
+/// What stands before and behind the first of these in a text. Where there is none, nothing stands behind.
+pub fn parted(text: &str, at: char) -> (&str, &str) {
+    match text.split_once(at) {
+        Some(parts) => parts,
+        None => (text, ""),
+    }
 }
 
 /// An address in hexadecimal digits.
@@ -11,13 +19,13 @@ pub fn addr(word: &str) -> Option<Addr> {
     Addr::new(byte(word)?)
 }
 
-/// Prints what a target answers, or the wires.
-pub fn print_said(rt: &impl Print, answer: Answer) -> io::Result<()> {
+/// Puts what a target answers, or the wires.
+pub fn put_said(page: &mut Page, answer: Answer) {
     match answer {
-        Answer::Ack => print!(rt; "ack"),
-        Answer::Nack => print!(rt; "nack"),
-        Answer::Slow => print!(rt; "slow"),
-        Answer::Byte(byte) => print!(rt; "{byte:02x}"),
-        Answer::Nothing => print!(rt; "."),
+        Answer::Ack => page.put("ack"),
+        Answer::Nack => page.put("nack"),
+        Answer::Slow => page.put("slow"),
+        Answer::Byte(byte) => page.put_byte(byte),
+        Answer::Nothing => page.put("."),
     }
 }

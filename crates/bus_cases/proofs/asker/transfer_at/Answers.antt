@@ -1,10 +1,9 @@
 use Rattle.std.proofs.Common.{ap, ◌∙◌}
 use Rattle.std.specs.Prelude.{Ok}
-use Rattle.i2c_base.specs.Limits.{BLOCK_LIMIT}
 use Rattle.bus_cases.proofs.ReadLemmas.{read_in_range}
 use Rattle.bus_cases.proofs.asker.transfer_at.Goals as goal
 
 pub put-requires-clause-range : goal.put-requires-clause-range
 put-requires-clause-range c =
-    rw c.open-run.ensures (read_in_range c.each_line_is_read.ensures c.each_field_is_in_range.ensures BLOCK_LIMIT c.as_bytes.result.now c.in-Ok-Some.command
+    rw c.open-run.ensures (read_in_range c.each_line_is_read.ensures c.each_field_is_in_range.ensures c.args.limit c.as_bytes.result.now c.in-Ok-Some.command
     (c.in-Ok-Some.ensures ∙ ap Ok c.in-Ok-Some.field-0-is))
