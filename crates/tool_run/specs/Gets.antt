@@ -2,7 +2,7 @@
 use Rattle.std.specs.Prelude.{ℕ, ◌+◌, ◌-◌, ◌*◌, List, [], ◌∷◌, length, map, slice_index_or, unwrap_or, Option, Some, None}
 use Rattle.i2c_base.specs.declared.reply.Reply.{Reply}
 use Rattle.i2c_base.specs.declared.reply.Reply.TheVariants as reply
-use Rattle.i2c_base.specs.Limits.{I2C_BLOCK_LIMIT}
+use Rattle.i2c_base.specs.Limits.{I2C_BLOCK_LIMIT, LARGEST_BLOCK}
 use Rattle.i2c_base.specs.Transfer.{TransferView}
 use Rattle.smb_emul.specs.Calls.{messages_of_call, value_of_call}
 use Rattle.smb_emul.specs.declared.call.SmbCall.{SmbCall}
@@ -56,7 +56,7 @@ abbrev pub block_most : GetMode → ℕ → ℕ
 block_most mode.Byte len = 0
 block_most mode.Word len = 0
 block_most mode.SendReceive len = 0
-block_most mode.Block len = 255
+block_most mode.Block len = LARGEST_BLOCK
 block_most mode.I2cBlock len = len
 
 -- an answer has at most so many bytes: a wrong error code has 26, and a byte of a block 5

@@ -15,16 +15,13 @@ ghost use Rattle.tool_words.specs.declared.cmd.Cmd.TheVariants as cmd;
 
 use crate::text::{Text, push_byte_words, push_double_word, push_word};
 use bus_journal::{ReplyHead, errno_name};
-use i2c_base::{Errno, I2C_BLOCK_LIMIT, Reply, Transfer};
+use i2c_base::{Errno, I2C_BLOCK_LIMIT, LARGEST_BLOCK, Reply, Transfer};
 use packed::Packed;
 use smb_emul::{SmbCall, SmbFail, SmbOp, SmbValue, put_messages, value_read};
 use tool_words::cmd::{Get, GetMode};
 
 /// The most bytes of an answer that is no block: a wrong error code.
 const MOST_BESIDE: usize = 26;
-
-/// The most bytes of a block that comes with its count.
-const MOST_COUNT: usize = 255;
 
 fn mode_of(get: &Get) -> GetMode
     ensures { result ≡ mode_of get.now }
@@ -205,7 +202,7 @@ pub fn most(get: &Get) -> usize
     ensures small { result ≤ 2000 }
 {
     let block = match mode_of(get) {
-        GetMode::Block => MOST_COUNT,
+        GetMode::Block => usize::from(LARGEST_BLOCK),
         GetMode::I2cBlock => usize::from(len_of(get)),
         _ => 0,
     };
