@@ -222,7 +222,7 @@ impl Call {
     }
 
     /// Makes the call again for each output smaller than what was due, up to the first one with which it isn't cut off
-    /// behind the front of that.
+    /// behind the front of that. The case is left with the room of the last one.
     pub fn first_other<H: Threads + Wait + Sync>(
         &mut self,
         rt: &H,

@@ -10,7 +10,7 @@
 //! - `call WORD..`: calls the top with these words, and prints the status, what was written, each count of faults that
 //!   isn't 0, and how often the rig was plugged and unplugged
 //! - `fronts`: makes the call again for each smaller output, and prints whether each time it ends with one fault of
-//!   the output, which holds the front of what was written; the last of them is then the last call
+//!   the output, which holds the front of what was written; the case is left with the last of these outputs and its call
 //! - `calls`: prints the calls on each port, as the rig kept them
 //! - `device N EVENT..`: prints what device N, as the rig kept it, answers to these events
 //! - `mute`: what the program's own output answers where what is behind it takes nothing
