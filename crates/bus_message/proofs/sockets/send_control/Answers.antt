@@ -27,7 +27,7 @@ returns-clause-sent g c =
     by false m = refl
 
 pub returns-clause-reading : goal.returns-clause-reading
-returns-clause-reading c = grind (arith, common_steps)
+returns-clause-reading g c = grind (arith, common_steps)
 
 pub returns-clause-gives : goal.returns-clause-gives
-returns-clause-gives c = grind (arith, common_steps)
+returns-clause-gives g c = grind (arith, common_steps)
