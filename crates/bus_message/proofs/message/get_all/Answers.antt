@@ -36,3 +36,93 @@ returns-clause-told g c =
     (omega (arith, c.loop-count-test.false)) (omega arith)
     (c.loop-count.invariant.said tells _
     (cut_after c.through.result.end (c.args.calls + c.loop-count.count) (λ q e. omega (arith, c.through.ensures.place q e))) whole before r))
+
+pub returns-in-Err-clause-start : goal.returns-in-Err-clause-start
+returns-in-Err-clause-start g c = grind (arith, common_steps)
+
+pub returns-in-Err-clause-idle : goal.returns-in-Err-clause-idle
+returns-in-Err-clause-idle g c = grind (arith, common_steps)
+
+pub returns-in-Err-clause-log : goal.returns-in-Err-clause-log
+returns-in-Err-clause-log g c = grind (arith, common_steps)
+
+pub returns-in-Err-clause-later : goal.returns-in-Err-clause-later
+returns-in-Err-clause-later g c = grind (arith, common_steps)
+
+pub returns-in-Err-clause-heard : goal.returns-in-Err-clause-heard
+returns-in-Err-clause-heard g c = grind (arith, common_steps)
+
+pub returns-in-Err-clause-few : goal.returns-in-Err-clause-few
+returns-in-Err-clause-few g c = grind (arith, common_steps)
+
+pub returns-in-Err-clause-whole : goal.returns-in-Err-clause-whole
+returns-in-Err-clause-whole g c = grind (arith, common_steps)
+
+pub returns-in-Err-clause-first : goal.returns-in-Err-clause-first
+returns-in-Err-clause-first g c = grind (arith, common_steps)
+
+pub returns-in-Err-clause-behind : goal.returns-in-Err-clause-behind
+returns-in-Err-clause-behind g c = grind (arith, common_steps)
+
+pub returns-in-Err-clause-place : goal.returns-in-Err-clause-place
+returns-in-Err-clause-place g c = grind (arith, common_steps)
+
+pub returns-in-Err-clause-cause : goal.returns-in-Err-clause-cause
+returns-in-Err-clause-cause g c = grind (arith, common_steps)
+
+pub returns-clause-start : goal.returns-clause-start
+returns-clause-start g c = c.through.ensures.start
+
+pub returns-clause-idle : goal.returns-clause-idle
+returns-clause-idle g c = c.through.ensures.idle
+
+pub returns-clause-heard : goal.returns-clause-heard
+returns-clause-heard g c = c.through.ensures.heard
+
+pub returns-clause-log : goal.returns-clause-log
+returns-clause-log g c = grind (arith, common_steps)
+
+pub returns-clause-later : goal.returns-clause-later
+returns-clause-later g c = grind (arith, common_steps)
+
+pub returns-clause-few : goal.returns-clause-few
+returns-clause-few g c = grind (arith, common_steps)
+
+pub returns-clause-whole : goal.returns-clause-whole
+returns-clause-whole g c = grind (arith, common_steps)
+
+pub returns-clause-first : goal.returns-clause-first
+returns-clause-first g c = grind (arith, common_steps)
+
+pub returns-clause-behind : goal.returns-clause-behind
+returns-clause-behind g c = grind (arith, common_steps)
+
+pub returns-clause-place : goal.returns-clause-place
+returns-clause-place g c = grind (arith, common_steps)
+
+pub returns-clause-cause : goal.returns-clause-cause
+returns-clause-cause g c = grind (arith, common_steps)
+
+pub loop-count-init : goal.loop-count-init
+loop-count-init g c = grind (arith, common_steps)
+
+pub get-requires-clause-phase : goal.get-requires-clause-phase
+get-requires-clause-phase g c = grind (arith, common_steps)
+
+pub get-requires-clause-room : goal.get-requires-clause-room
+get-requires-clause-room g c = grind (arith, common_steps)
+
+pub through-requires : goal.through-requires
+through-requires g c = grind (arith, common_steps)
+
+pub overflow_add-calls : goal.overflow_add-calls
+overflow_add-calls g c = grind (arith, common_steps)
+
+pub overflow_add-count : goal.overflow_add-count
+overflow_add-count g c = grind (arith, common_steps)
+
+pub loop-count-smaller : goal.loop-count-smaller
+loop-count-smaller g c = grind (arith, common_steps)
+
+pub overflow_add-result : goal.overflow_add-result
+overflow_add-result g c = grind (arith, common_steps)

@@ -1,3 +1,4 @@
+use Rattle.std.proofs.lemmas.Grind.{common_steps}
 use Rattle.std.proofs.Common.{◌≡◌, ℕ, ◌∙◌, ap, subst, arith}
 use Rattle.i2c_spec.specs.Flat.{block_limit}
 use Rattle.i2c_spec.specs.Messages.{MessageView}
@@ -35,3 +36,18 @@ returns-clause-read g c =
     gave-read v.transfer v.sent m is (block_limit c.args.board.now) 255 c.send_on.new.bytes (omega arith)
     (λ h. subst (λ (x : MessageView). Gives (block_limit c.args.board.now) x c.send_on.new.bytes) its
     (c.send_on.ensures.gives own.1 (c.send_on.ensures.reading ∙ ap (λ (x : MessageView). x.reading) its ∙ h))) reads
+
+pub returns-clause-count : goal.returns-clause-count
+returns-clause-count g c = grind (arith, common_steps)
+
+pub returns-clause-addr : goal.returns-clause-addr
+returns-clause-addr g c = c.send_on.ensures.addr
+
+pub returns-clause-reading : goal.returns-clause-reading
+returns-clause-reading g c = c.send_on.ensures.reading
+
+pub returns-clause-chip : goal.returns-clause-chip
+returns-clause-chip g c = c.send_on.ensures.chip
+
+pub returns-clause-gives : goal.returns-clause-gives
+returns-clause-gives g c = c.send_on.ensures.gives

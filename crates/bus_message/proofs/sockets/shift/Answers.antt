@@ -1,4 +1,5 @@
-use Rattle.std.proofs.Common.{◌<◌, ℕ, length, subst, refl}
+use Rattle.std.proofs.lemmas.Grind.{common_steps}
+use Rattle.std.proofs.Common.{◌<◌, ℕ, length, subst, refl, arith}
 use Rattle.std.proofs.lemmas.List.{map-set}
 use Rattle.i2c_base.specs.Limits.{MOST_CALLS}
 use Rattle.i2c_outside.specs.LineCalls.{HasLine}
@@ -30,3 +31,6 @@ returns-clause-set g c =
       map-set (socket_of g.P.Port) xs c.args.at new,
       record { root = refl; idle = c.shift_line.ensures.idle; world = c.shift_line.ensures.world; log = c.shift_line.ensures.log },
     )
+
+pub returns-clause-count : goal.returns-clause-count
+returns-clause-count g c = grind (arith, common_steps)
