@@ -1,4 +1,5 @@
-use Rattle.std.proofs.Common.{◌≡◌, ℕ, ◌+◌, ◌^◌, ◌<◌, List, get_or, length, Option, arith, ap, ◌∙◌}
+use Rattle.std.proofs.lemmas.Grind.{common_steps}
+use Rattle.std.proofs.Common.{◌≡◌, ℕ, ◌+◌, ◌^◌, ◌<◌, List, get_or, length, Option, arith, ap, ◌∙◌, refl}
 use Rattle.std.specs.Option.{option_map_or}
 use Rattle.i2c_base.specs.Transfer.{TransferView}
 use Rattle.i2c_spec.specs.Cost.{cost_of}
@@ -6,7 +7,7 @@ use Rattle.tool_run.specs.Replies.{most_brought}
 use Rattle.tool_run.specs.Tools.{transfers_of}
 use Rattle.tool_run.specs.View.{RunView}
 use Rattle.caller_core.specs.Roots.{names_root}
-use Rattle.caller_core.proofs.RootLemmas.{named_bit, bits_more, transfer_bit, sum_more}
+use Rattle.caller_core.proofs.RootLemmas.{no_bits, named_bit, bits_more, transfer_bit, sum_more}
 use Rattle.caller_core.proofs.totals.totals_of_command.Goals as goal
 
 pub loop-at-preserved : goal.loop-at-preserved
@@ -27,3 +28,48 @@ loop-at-preserved c =
       few_bytes = omega (arith, c.loop-at.invariant.few_bytes, c.most_brought.ensures.few);
       roots = bits_more (names_root b) ts i t c.loop-at.totals.roots c.root_bit.result within at c.loop-at.invariant.roots (transfer_bit b t c.root_bit.result bit);
     }
+
+pub put-requires-clause-range : goal.put-requires-clause-range
+put-requires-clause-range c = grind (arith, common_steps)
+
+pub put-requires-clause-more : goal.put-requires-clause-more
+put-requires-clause-more c = grind (arith, common_steps)
+
+pub overflow_add-totals : goal.overflow_add-totals
+overflow_add-totals c = grind (arith, common_steps)
+
+pub overflow_add-totals-in-loop-at : goal.overflow_add-totals-in-loop-at
+overflow_add-totals-in-loop-at c = grind (arith, common_steps)
+
+pub overflow_add-totals-in-loop-at-2 : goal.overflow_add-totals-in-loop-at-2
+overflow_add-totals-in-loop-at-2 c = grind (arith, common_steps)
+
+pub loop-at-smaller : goal.loop-at-smaller
+loop-at-smaller c = grind (arith, common_steps)
+
+pub root_bit-requires : goal.root_bit-requires
+root_bit-requires c = c.bill-bill.ensures.few
+
+pub returns-clause-cost : goal.returns-clause-cost
+returns-clause-cost c = grind (arith, common_steps)
+
+pub returns-clause-small : goal.returns-clause-small
+returns-clause-small c = grind (arith, common_steps)
+
+pub returns-clause-replies : goal.returns-clause-replies
+returns-clause-replies c = grind (arith, common_steps)
+
+pub returns-clause-few : goal.returns-clause-few
+returns-clause-few c = grind (arith, common_steps)
+
+pub returns-clause-bytes : goal.returns-clause-bytes
+returns-clause-bytes c = grind (arith, common_steps)
+
+pub returns-clause-few_bytes : goal.returns-clause-few_bytes
+returns-clause-few_bytes c = grind (arith, common_steps)
+
+pub returns-clause-roots : goal.returns-clause-roots
+returns-clause-roots c = grind (arith, common_steps)
+
+pub loop-at-init : goal.loop-at-init
+loop-at-init c = record { cost = refl; small = omega arith; replies = refl; few = refl; bytes = refl; few_bytes = omega arith; roots = no_bits (names_root c.args.board.now) }

@@ -1,3 +1,4 @@
+use Rattle.std.proofs.lemmas.Grind.{common_steps}
 use Rattle.std.proofs.Common.{◌+◌, List, length, drop, Some, true, false, arith, ap, sym, subst, ◌∙◌}
 use Rattle.std.proofs.lemmas.List.Sums.{sum_by-cons}
 use Rattle.std.specs.Prelude.{sum_by}
@@ -107,3 +108,33 @@ returns-in_default-clause-room c =
     let s = c.self.inside in
     let k = taking (record { board = s.board.value; text = s.text.value.items }) s.commands s.taken s.printed s.place s.from s.run s.totals.cost s.totals.roots c.args.reply.now c.args.self.now c.self.invariant c.self.view_is c.requires.fits c.requires.room in
     absurd (never s.run _ c.in_default.is k.turn.runs)
+
+pub push-requires-clause-room : goal.push-requires-clause-room
+push-requires-clause-room c = grind (arith, common_steps)
+
+pub push-requires-clause-short : goal.push-requires-clause-short
+push-requires-clause-short c = grind (arith, common_steps)
+
+pub take-requires : goal.take-requires
+take-requires c = grind (arith, common_steps)
+
+pub get-requires : goal.get-requires
+get-requires c = grind (arith, common_steps)
+
+pub returns-then-take-clause-script : goal.returns-then-take-clause-script
+returns-then-take-clause-script c = grind (arith, common_steps)
+
+pub returns-then-take-clause-taken : goal.returns-then-take-clause-taken
+returns-then-take-clause-taken c = grind (arith, common_steps)
+
+pub returns-else-take-clause-script : goal.returns-else-take-clause-script
+returns-else-take-clause-script c = grind (arith, common_steps)
+
+pub returns-else-take-clause-taken : goal.returns-else-take-clause-taken
+returns-else-take-clause-taken c = grind (arith, common_steps)
+
+pub returns-in_default-clause-script : goal.returns-in_default-clause-script
+returns-in_default-clause-script c = grind (arith, common_steps)
+
+pub returns-in_default-clause-taken : goal.returns-in_default-clause-taken
+returns-in_default-clause-taken c = grind (arith, common_steps)
