@@ -1,16 +1,20 @@
 use Rattle.std.proofs.lemmas.Grind.{common_steps}
-use Rattle.std.proofs.Common.{◌≡◌, ℕ, ◌∙◌, ap, subst, arith}
+use Rattle.std.proofs.Common.{◌≡◌, ℕ, ◌+◌, ◌≤◌, length, ◌∙◌, ap, subst, arith}
+use Rattle.i2c_base.specs.Limits.{MOST_CALLS}
+use Rattle.i2c_base.specs.Phases.{MayStart}
 use Rattle.i2c_spec.specs.Flat.{block_limit}
+use Rattle.bus_laws.specs.Costs.{bytes_most}
+use Rattle.core_laws.specs.Spots.{Socket}
 use Rattle.i2c_spec.specs.Messages.{MessageView}
 use Rattle.i2c_base.specs.declared.entry.End.TheVariants as end
 use Rattle.i2c_base.specs.declared.entry.Purpose.{Purpose}
 use Rattle.i2c_base.specs.declared.entry.Purpose.TheVariants as purpose
 use Rattle.core_laws.specs.Sends.{Sending, call_message, message_for}
-use Rattle.bus_message.specs.Calls.{CallView}
+use Rattle.bus_message.specs.Calls.{CallView, wire_message}
 use Rattle.core_laws.specs.Talks.{Gives}
 use Rattle.std.proofs.lemmas.List.{map-set}
 use Rattle.bus_message.specs.Sockets.{socket_of}
-use Rattle.bus_message.proofs.SocketLemmas.{socket-here, gave-read, call-through}
+use Rattle.bus_message.proofs.SocketLemmas.{socket-here, socket-is, gave-read, call-through}
 use Rattle.bus_message.proofs.sockets.send.Goals as goal
 
 pub returns-clause-set : goal.returns-clause-set
@@ -51,3 +55,18 @@ returns-clause-chip g c = c.send_on.ensures.chip
 
 pub returns-clause-gives : goal.returns-clause-gives
 returns-clause-gives g c = c.send_on.ensures.gives
+
+pub send_on-requires-clause-next : goal.send_on-requires-clause-next
+send_on-requires-clause-next g c κs within = c.requires.next
+
+pub send_on-requires-clause-start : goal.send_on-requires-clause-start
+send_on-requires-clause-start g c κs within =
+    subst (λ (x : Socket). MayStart x.phase)
+    (socket-is g.P.Port c.args.ports.now.items c.args.at c.index_mut.result.now c.index_mut.ensures.value c.requires.may.socket c.requires.may.here)
+    c.requires.may.start
+
+pub send_on-requires-clause-room : goal.send_on-requires-clause-room
+send_on-requires-clause-room g c κs within =
+    λ tell. subst (λ (x : Socket). (addr : ℕ) → length x.log + bytes_most (block_limit c.args.board.now) (wire_message c.args.call.now c.args.next.now addr) + 2 ≤ MOST_CALLS)
+    (socket-is g.P.Port c.args.ports.now.items c.args.at c.index_mut.result.now c.index_mut.ensures.value c.requires.may.socket c.requires.may.here)
+    (c.requires.may.room tell)

@@ -1,7 +1,8 @@
 use Rattle.std.proofs.lemmas.Grind.{common_steps}
-use Rattle.std.proofs.Common.{◌<◌, ℕ, length, subst, refl, arith}
+use Rattle.std.proofs.Common.{◌≡◌, ◌<◌, ℕ, length, subst, refl, arith}
 use Rattle.std.proofs.lemmas.List.{map-set}
 use Rattle.i2c_base.specs.Limits.{MOST_CALLS}
+use Rattle.i2c_base.specs.declared.port.Phase.TheVariants.{Idle}
 use Rattle.i2c_outside.specs.LineCalls.{HasLine}
 use Rattle.core_laws.specs.Spots.{Socket}
 use Rattle.bus_message.specs.Sockets.{socket_of}
@@ -34,3 +35,9 @@ returns-clause-set g c =
 
 pub returns-clause-count : goal.returns-clause-count
 returns-clause-count g c = grind (arith, common_steps)
+
+pub shift_line-requires-clause-idle : goal.shift_line-requires-clause-idle
+shift_line-requires-clause-idle g c κs within =
+    subst (λ (x : Socket). x.phase ≡ Idle)
+    (socket-is g.P.Port c.args.ports.now.items c.args.at c.index_mut.result.now c.index_mut.ensures.value c.requires.may.socket c.requires.may.here)
+    c.requires.may.idle
