@@ -12,8 +12,9 @@ use Rattle.i2c_base.specs.declared.entry.Purpose.TheVariants as purpose
 use Rattle.core_laws.specs.Sends.{Sending, call_message, message_for}
 use Rattle.bus_message.specs.Calls.{CallView, wire_message}
 use Rattle.core_laws.specs.Talks.{Gives}
-use Rattle.std.proofs.lemmas.List.{map-set}
-use Rattle.bus_message.specs.Sockets.{socket_of}
+use Rattle.std.proofs.lemmas.List.{map-set, length-map}
+use Rattle.std.proofs.lemmas.Option.{slice_get_within}
+use Rattle.bus_message.specs.Sockets.{socket_of, sockets_of}
 use Rattle.bus_message.proofs.SocketLemmas.{socket-here, socket-is, gave-read, call-through}
 use Rattle.bus_message.proofs.sockets.send.Goals as goal
 
@@ -70,3 +71,7 @@ send_on-requires-clause-room g c κs within =
     λ tell. subst (λ (x : Socket). (addr : ℕ) → length x.log + bytes_most (block_limit c.args.board.now) (wire_message c.args.call.now c.args.next.now addr) + 2 ≤ MOST_CALLS)
     (socket-is g.P.Port c.args.ports.now.items c.args.at c.index_mut.result.now c.index_mut.ensures.value c.requires.may.socket c.requires.may.here)
     (c.requires.may.room tell)
+
+pub index_mut-requires : goal.index_mut-requires
+index_mut-requires g c =
+    omega (arith, slice_get_within (sockets_of g.P.Port c.args.ports.now.items) c.args.at c.requires.may.socket c.requires.may.here, length-map c.args.ports.now.items (socket_of g.P.Port))

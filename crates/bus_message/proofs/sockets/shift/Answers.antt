@@ -1,11 +1,12 @@
 use Rattle.std.proofs.lemmas.Grind.{common_steps}
 use Rattle.std.proofs.Common.{◌≡◌, ◌<◌, ℕ, length, subst, refl, arith}
-use Rattle.std.proofs.lemmas.List.{map-set}
+use Rattle.std.proofs.lemmas.List.{map-set, length-map}
+use Rattle.std.proofs.lemmas.Option.{slice_get_within}
 use Rattle.i2c_base.specs.Limits.{MOST_CALLS}
 use Rattle.i2c_base.specs.declared.port.Phase.TheVariants.{Idle}
 use Rattle.i2c_outside.specs.LineCalls.{HasLine}
 use Rattle.core_laws.specs.Spots.{Socket}
-use Rattle.bus_message.specs.Sockets.{socket_of}
+use Rattle.bus_message.specs.Sockets.{socket_of, sockets_of}
 use Rattle.bus_message.proofs.SocketLemmas.{socket-here, socket-is}
 use Rattle.bus_message.proofs.sockets.shift.Goals as goal
 
@@ -41,3 +42,7 @@ shift_line-requires-clause-idle g c κs within =
     subst (λ (x : Socket). x.phase ≡ Idle)
     (socket-is g.P.Port c.args.ports.now.items c.args.at c.index_mut.result.now c.index_mut.ensures.value c.requires.may.socket c.requires.may.here)
     c.requires.may.idle
+
+pub index_mut-requires : goal.index_mut-requires
+index_mut-requires g c =
+    omega (arith, slice_get_within (sockets_of g.P.Port c.args.ports.now.items) c.args.at c.requires.may.socket c.requires.may.here, length-map c.args.ports.now.items (socket_of g.P.Port))
