@@ -1,4 +1,5 @@
-use Rattle.std.proofs.Common.{◌≡◌, ◌∙◌, ap}
+use Rattle.std.proofs.Common.{◌≡◌, ◌∙◌, ap, ℕ, ◌<◌, subst, sym}
+use Rattle.std.proofs.lemmas.Option.{slice_get_within}
 use Rattle.bus_core.specs.Kept.{roots_of}
 use Rattle.bus_core.specs.Seats.{HasFreed, MayEnd}
 use Rattle.bus_core.specs.declared.seat.Seat.{Seat}
@@ -29,3 +30,12 @@ pub returns-clause-number : goal.returns-clause-number
 returns-clause-number g c =
     has_read c.args.seats.now.items c.args.place c.requires.seat c.index_mut-seat.result.now c.requires.here c.index_mut-seat.ensures.value
     (λ s. c.end.new.self.number ≡ s.number) (c.end.ensures.number ∙ ap (λ (s : Seat g.row.C.Denot). s.number) c.pass.ensures.same)
+
+pub index_mut-seat-requires : goal.index_mut-seat-requires
+index_mut-seat-requires g c =
+    subst (λ (n : ℕ). c.args.place < n) (sym c.args.seats.now.ok.0) (slice_get_within c.args.seats.now.items c.args.place c.requires.seat c.requires.here)
+
+pub pass-requires : goal.pass-requires
+pass-requires g c =
+    (of_read c.args.seats.now.items c.args.place c.requires.seat c.index_mut-seat.result.now c.requires.here c.index_mut-seat.ensures.value
+    (MayEnd g.C.Caller c.args.board.now (roots_of c.args.ports.now)) c.requires.is_so).seated.counted

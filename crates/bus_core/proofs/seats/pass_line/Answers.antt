@@ -1,8 +1,9 @@
-use Rattle.std.proofs.Common.{◌≡◌, ◌∙◌, ap}
+use Rattle.std.proofs.Common.{◌≡◌, ◌∙◌, ap, ℕ, ◌<◌, subst, sym}
+use Rattle.std.proofs.lemmas.Option.{slice_get_within}
 use Rattle.i2c_base.specs.declared.reply.Cut.{Cut}
 use Rattle.bus_spec.specs.Walk.{Lined}
-use Rattle.bus_core.specs.Seats.{WentOn, cut_of_line, dues_of}
-use Rattle.bus_core.proofs.SeatLemmas.{has_read, reseated}
+use Rattle.bus_core.specs.Seats.{IsCounted, WentOn, cut_of_line, dues_of}
+use Rattle.bus_core.proofs.SeatLemmas.{has_read, of_read, reseated}
 use Rattle.bus_core.proofs.seats.pass_line.Goals.{then-failed, else-failed}
 use Rattle.bus_core.proofs.seats.pass_line.Goals as goal
 
@@ -26,3 +27,10 @@ pub returns-clause-dues : goal.returns-clause-dues
 returns-clause-dues g c =
     has_read c.args.seats.now.items c.args.place c.requires.seat c.index_mut-seat.result.now c.requires.here c.index_mut-seat.ensures.value
     (λ s. c.go_on.new.dues.items ≡ dues_of c.args.board.now c.args.locks.now (Lined c.args.failed) s) c.go_on.ensures.dues
+
+pub index_mut-seat-requires : goal.index_mut-seat-requires
+index_mut-seat-requires g c =
+    subst (λ (n : ℕ). c.args.place < n) (sym c.args.seats.now.ok.0) (slice_get_within c.args.seats.now.items c.args.place c.requires.seat c.requires.here)
+
+pub go_on-requires : goal.go_on-requires
+go_on-requires g c = of_read c.args.seats.now.items c.args.place c.requires.seat c.index_mut-seat.result.now c.requires.here c.index_mut-seat.ensures.value IsCounted c.requires.is_so
