@@ -14,18 +14,6 @@ use Rattle.bus_core.specs.declared.seat.Seat.{Seat}
 pub read_here : {X : Type 0} (xs : List X) (i : ℕ) (x y : X) → slice_get xs i ≡ Some x → y ≡ get_or xs i y → y ≡ x
 read_here xs i x y here read = read ∙ get_or_from_slice_get xs i x y here
 
--- a place has one seat
-pub one_seat : {X : Type 0} (xs : List X) (i : ℕ) (x y : X) → slice_get xs i ≡ Some x → slice_get xs i ≡ Some y → x ≡ y
-one_seat xs i x y a b = (let f : Some x ≡ Some y = sym a ∙ b in cc)
-
--- what is known of the seat at a place is known of the one that is there; and the one that was changed is that one
-pub known_of : {C : Type 0} (IsSo : Seat C → Type 0) (seats : List (Seat C)) (place : ℕ) (s : Seat C) → HasSeat IsSo seats place → slice_get seats place ≡ Some s → IsSo s
-known_of IsSo seats place s has here = subst IsSo (one_seat seats place has.seat s has.here here) has.is_so
-
-pub changed_of : {C : Type 0} (IsNow : Seat C → Seat C → Type 0) (old new : List (Seat C)) (place : ℕ) (s : Seat C) → (r : Reseated IsNow old new place)
-    → slice_get old place ≡ Some s → IsNow s r.after
-changed_of IsNow old new place s r here = subst (λ (x : Seat _). IsNow x r.after) (one_seat old place r.before s r.here here) r.is_now
-
 module _ {C : Type 0} (seats : List (Seat C)) (place : ℕ) (s old : Seat C) (here : slice_get seats place ≡ Some s) (read : old ≡ get_or seats place old) where
   -- what is known of the seat there is known of the one that was read, and back
   pub of_read : (IsSo : Seat C → Type 0) → IsSo s → IsSo old

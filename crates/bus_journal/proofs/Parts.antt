@@ -33,9 +33,6 @@ is_digit-at d small = grind (arith, nat_tests)
 less_48 : (d : ℕ) → (48 + d) - 48 ≡ d
 less_48 d = omega arith
 
-small_16 : (n : ℕ) → n < 65536 → n % 65536 ≡ n
-small_16 n small = omega arith
-
 pub small_8 : (n : ℕ) → n < 256 → n % 256 ≡ n
 small_8 n small = omega arith
 

@@ -125,13 +125,6 @@ counted_goes cut last limit len byte s =
 abbrev counted_next : Option ℕ → Bool → ℕ → ℕ → World → Said World → TalkTold World
 counted_next cut last limit len w s = counted_goes cut last limit len (gives w) s
 
-pub count_failed : (whole : TalkTold World) (last : Bool) (limit len : ℕ) (before : List PortCall) (count : ℕ) (got : List ℕ) (w w_new : World) (log log_new : List PortCall)
-    → w_new ≡ after w call.Fault → log_new ≡ log ++ call.Fault ∷ []
-    → Reaches whole (gets_counted world_listener (Some count) last limit len) before count got w log
-    → TellsTalk whole got (end.Cut count) w_new before log_new
-count_failed whole last limit len before count got w w_new log log_new world_is log_is r =
-    failed whole (call.Get true) (counted_next (Some count) last limit len) before count got w w_new log log_new world_is log_is r
-
 count_came : (whole : TalkTold World) (cut : Option ℕ) (last : Bool) (limit len byte : ℕ) (next : Said World → TalkTold World) (before : List PortCall) (count : ℕ) (got : List ℕ) (w w_new : World) (log log_new : List PortCall)
     → byte ≡ gives w → ((s : Said World) → counted_goes cut last limit len byte s ≡ next (with_byte s byte))
     → ((k : ℕ) → cut ≡ Some k → count + 1 ≤ k) → w_new ≡ after w (call.Get true) → log_new ≡ log ++ call.Get true ∷ []
@@ -167,13 +160,6 @@ count_within whole cut last limit len byte rest before count got w w_new log log
 -- the byte behind a count that no block has
 abbrev over_next : Option ℕ → World → Said World → TalkTold World
 over_next cut w s = ended world_listener cut true (with_byte s (gives w)) end.Proto
-
-pub over_failed : (whole : TalkTold World) (before : List PortCall) (count : ℕ) (got : List ℕ) (w w_new : World) (log log_new : List PortCall)
-    → w_new ≡ after w call.Fault → log_new ≡ log ++ call.Fault ∷ []
-    → Reaches whole (over_limit (Some count)) before count got w log
-    → TellsTalk whole got (end.Cut count) w_new before log_new
-over_failed whole before count got w w_new log log_new world_is log_is r =
-    failed whole (call.Get false) (over_next (Some count)) before count got w w_new log log_new world_is log_is r
 
 pub over_went : (whole : TalkTold World) (cut : Option ℕ) (byte : ℕ) (before : List PortCall) (count : ℕ) (got : List ℕ) (w w_new : World) (log log_new : List PortCall)
     → byte ≡ gives w

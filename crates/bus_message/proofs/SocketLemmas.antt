@@ -1,5 +1,5 @@
 -- What a message on one port shows of its transfer, and of a list of ports. No induction.
-use Rattle.std.proofs.Common.{◌≡◌, ◌<◌, ◌≤◌, ◌+◌, ◌-◌, ℕ, zero, suc, Bool, true, false, List, [], length, get_or, Option, Some, None, refl, sym, ◌∙◌, ap, subst, arith}
+use Rattle.std.proofs.Common.{◌≡◌, ◌<◌, ◌≤◌, ◌+◌, ℕ, Bool, true, false, List, [], length, get_or, Option, Some, refl, sym, ◌∙◌, ap, subst, arith}
 use Rattle.std.specs.Prelude.{slice_get, take, drop, sum_by, MatchBool}
 use Rattle.std.proofs.lemmas.List.{length-map}
 use Rattle.std.proofs.lemmas.Option.{slice_get-map, slice_get-get_or, slice_get_within}
@@ -16,13 +16,10 @@ use Rattle.i2c_base.specs.Transfer.{TransferView, is_read, written_of}
 use Rattle.i2c_outside.specs.declared.port.Port.{Ghosts as PortGhosts}
 use Rattle.i2c_spec.specs.Flat.{block_limit}
 use Rattle.i2c_spec.specs.Grant.{grant_of}
-use Rattle.i2c_spec.specs.Messages.{MessageView, message_with, messages_of}
-use Rattle.i2c_spec.specs.Tree.{Hop}
-use Rattle.bus_spec.specs.Walk.{Job, Call, Select, Clear, message_of, nth_message, select_message}
-use Rattle.bus_laws.specs.Costs.{bytes_most}
+use Rattle.i2c_spec.specs.Messages.{MessageView, message_with}
 use Rattle.core_laws.specs.Sends.{heard_for}
 use Rattle.core_laws.specs.Spots.{Socket}
-use Rattle.core_laws.specs.Sends.{Sending, IsMessageOf, call_message, control_message, message_for, is_call_through}
+use Rattle.core_laws.specs.Sends.{call_message, is_call_through}
 use Rattle.bus_message.specs.Sockets.{Said, SentOn, socket_of, sockets_of}
 use Rattle.core_laws.specs.Talks.{Gives}
 use Rattle.bus_message.proofs.PartwayLemmas.{nth_is}
@@ -85,28 +82,3 @@ call-through purpose.Call end.Refused h = absurd (let f : false ≡ true = h in 
 call-through purpose.Call end.Proto h = absurd (let f : false ≡ true = h in cc)
 call-through purpose.Call (end.Cut q) h = absurd (let f : false ≡ true = h in cc)
 call-through (purpose.Control m) e h = absurd (let f : false ≡ true = h in cc)
-
--- the message that goes over the port moves as many bytes as the walk's, to whatever address
-control-most : (limit addr : ℕ) (o : Option ℕ) → bytes_most limit (control_message addr o) ≡ 1
-control-most limit addr (Some byte) = refl
-control-most limit addr None = refl
-
-select-most : (b : BoardView) (h : Hop) (limit left : ℕ) → bytes_most limit (select_message b h left) ≡ 1
-select-most b h limit zero = refl
-select-most b h limit (suc left) = refl
-
-pub most-of : (b : BoardView) (t : TransferView) (gone : ℕ) (job : Job) (left : ℕ) (next : Sending) → IsMessageOf job left next
-    → ((bus : ℕ) (ms : List MessageView) → job ≡ Call bus ms → (ms ≡ messages_of t) × (gone + suc left ≡ length ms)) → (addr : ℕ)
-    → bytes_most (block_limit b) (message_for t gone next.purpose next.control addr) ≡ bytes_most (block_limit b) (message_of b job left)
-most-of b t gone (Select h) left next of whose addr =
-    ap (λ (y : Purpose). bytes_most (block_limit b) (message_for t gone y next.control addr)) of.for_purpose
-    ∙ control-most (block_limit b) addr next.control ∙ sym (select-most b h (block_limit b) left)
-most-of b t gone (Clear on mux kind) left next of whose addr =
-    ap (λ (y : Purpose). bytes_most (block_limit b) (message_for t gone y next.control addr)) of.for_purpose
-    ∙ control-most (block_limit b) addr next.control
-most-of b t gone (Call bus ms) left next of whose addr =
-    let own : (ms ≡ messages_of t) × (gone + suc left ≡ length ms) = whose bus ms refl in
-    let place : gone ≡ length ms - 1 - left = (let h : gone + suc left ≡ length ms = own.1 in omega (arith, h)) in
-    ap (λ (y : Purpose). bytes_most (block_limit b) (message_for t gone y next.control addr)) of.for_purpose
-    ∙ ap (λ (xs : List MessageView). bytes_most (block_limit b) (nth_message xs gone)) (sym own.0)
-    ∙ ap (λ (i : ℕ). bytes_most (block_limit b) (nth_message ms i)) place

@@ -145,7 +145,3 @@ abbrev pub least_read : ReadShape → ℕ
 least_read read.Nothing = 0
 least_read (read.Plain n) = n
 least_read read.Counted = 2
-
--- so many bytes are enough for a value, behind which there may be an error code
-abbrev pub IsEnough : Bool → ValueShape → ℕ → Type 0
-IsEnough coded shape len = (bytes_needed shape + (if coded then 1 else 0) ≤ len) × (len ≤ 258)

@@ -80,9 +80,6 @@ cut_plain xs m is within kept =
     let inside : m < length xs = omega arith in
     at_feed xs (m + 1) is within ∙ ap (λ line. line ∷ lines_of (drop (m + 1 + 1) xs)) (return_at xs m inside ∙ ap (λ s. cond s (take m xs) (take (m + 1) xs)) t)
 
-pub cut_empty : (xs : List ℕ) → feed_at xs ≡ 0 → 0 < length xs → lines_of xs ≡ take 0 xs ∷ lines_of (drop 1 xs)
-cut_empty xs is within = at_feed xs 0 is within
-
 pub cut_over : (xs : List ℕ) → feed_at xs ≡ length xs → 0 < length xs → lines_of xs ≡ take (feed_at xs) xs ∷ lines_of (drop (feed_at xs) xs)
 cut_over xs is within =
     let rest : drop (feed_at xs) xs ≡ [] = ap (λ k. drop k xs) is ∙ drop_all (length xs) xs (omega arith) in
