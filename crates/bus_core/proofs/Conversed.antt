@@ -21,7 +21,7 @@ use Rattle.bus_spec.specs.Readings.{message_cut}
 use Rattle.bus_spec.specs.Stepwise.{reply_by}
 use Rattle.bus_spec.specs.Walk.{Job, Call, Send, Settle, Passed, WalkTree}
 use Rattle.bus_spec.specs.Walk as walk
-use Rattle.bus_laws.specs.Spent.{bytes_given}
+use Rattle.bus_laws.specs.Costs.{bytes_given}
 use Rattle.bus_laws.proofs.walk.Next.{quiet-next}
 use Rattle.bus_message.specs.Sockets.{sockets_of}
 use Rattle.bus_message.specs.declared.sending.Sent.{Sent}

@@ -14,7 +14,7 @@ use Rattle.i2c_base.specs.Fitting.{Fits}
 use Rattle.i2c_base.specs.Transfer.{written_of}
 use Rattle.bus_journal.specs.Borrowed.{bytes_replied}
 use Rattle.bus_journal.specs.View.{JournalView}
-use Rattle.bus_laws.specs.Spent.{bytes_given}
+use Rattle.bus_laws.specs.Costs.{bytes_given}
 use Rattle.bus_spec.specs.Grammar.{is_over, seen, rest_of}
 use Rattle.bus_spec.specs.Readings.{message_cut}
 use Rattle.bus_spec.specs.Slots.{Slots}

@@ -30,7 +30,7 @@ use Rattle.bus_spec.specs.Stepwise.{reply_by}
 use Rattle.bus_spec.specs.Walk.{Act, Job, Shift, Settle, Lined, Passed, WalkTree, job_bus, line_mux, line_level}
 use Rattle.bus_laws.specs.Jobs.{IsJobOf}
 use Rattle.bus_laws.specs.Next.{HasLineIn}
-use Rattle.bus_laws.specs.Spent.{bytes_given}
+use Rattle.bus_laws.specs.Costs.{bytes_given}
 use Rattle.bus_laws.proofs.Laws.{next-line, quiet-next}
 use Rattle.bus_laws.proofs.past.Laws.{past-stands}
 use Rattle.bus_message.specs.Sockets.{sockets_of, MayShift, Shifted}

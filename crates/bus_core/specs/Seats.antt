@@ -17,7 +17,7 @@ use Rattle.i2c_base.specs.Transfer.{IsTransfer, TransferView, written_of}
 use Rattle.i2c_spec.specs.Messages.{messages_of}
 use Rattle.i2c_spec.specs.Tree.{buses, root_of}
 use Rattle.bus_journal.specs.View.{JournalView}
-use Rattle.bus_laws.specs.Spent.{bytes_given}
+use Rattle.bus_laws.specs.Costs.{bytes_given}
 use Rattle.bus_spec.specs.Grammar.{is_over, first_note, seen, plain, walk_for}
 use Rattle.bus_spec.specs.Readings.{message_cut}
 use Rattle.bus_spec.specs.Stepwise.{reply_by}

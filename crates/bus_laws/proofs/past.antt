@@ -14,10 +14,3 @@ pub mod NextLine
 pub mod Others
 pub mod Stays
 pub mod Known
-pub mod GoesOn
-pub mod Budgets
-pub mod Spent
-pub mod Fits
-pub mod Together
-pub mod Failures
-pub mod OneEntry

@@ -2,5 +2,3 @@
 pub mod Coming
 pub mod Turns
 pub mod Following
-pub mod Whole
-pub mod Unique

@@ -2,7 +2,6 @@
 pub mod LineFacts
 pub mod Feed
 pub mod TalkLaws
-pub mod CutTalks
 pub mod TalkSizes
 pub mod TalkReads
 pub mod Reach

@@ -17,7 +17,6 @@ pub mod Others
 pub mod Waiting
 pub mod Coming
 pub mod Following
-pub mod Spent
 -- The devices of a root's world and of the flat world.
 pub mod Alike
 -- What is known of the step that comes next.

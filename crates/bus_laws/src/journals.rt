@@ -8,7 +8,6 @@ ghost use Rattle.i2c_spec.specs.History.{Asks};
 ghost use Rattle.bus_spec.specs.Past.{mark};
 ghost use Rattle.bus_spec.specs.Stepwise.{IsStepwise};
 ghost use Rattle.bus_spec.specs.Legal.{KeepsLocks, KeepsSettles, KeepsWhole};
-ghost use Rattle.bus_laws.specs.Spent.{KeepsFits};
 ghost use Rattle.bus_laws.specs.Reach.{AsksForMessages, KeepsClosed, KeepsPathsOpen};
 
 use i2c_spec::an_accepted_board_is_a_tree;
@@ -69,12 +68,4 @@ pub fn no_message_stands_inside_a_transfer()
 /// transfer steps on the bus.
 pub fn each_settle_stands_where_it_is_decided()
     ensures { (b : BoardView) (callers : ℕ) (asks : Asks) (past : List Entry) → AsksForMessages asks → IsStepwise b callers asks past → KeepsSettles b asks past }
-{}
-
-/// Each reply that is settled is one that its transfer may get: what was read is what its messages ask for, of a counted
-/// read as many bytes as it counted.
-///
-/// A transfer without a message would send one that nobody asked for; and a settle that might not come may tell any reply.
-pub fn each_reply_fits_its_transfer()
-    ensures { (b : BoardView) (callers : ℕ) (asks : Asks) (past : List Entry) → AsksForMessages asks → IsStepwise b callers asks past → KeepsFits asks past }
 {}

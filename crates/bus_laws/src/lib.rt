@@ -6,20 +6,15 @@
 //! other crates cite are passed on by `proofs/Laws.antt`.
 #![tactic(auto)]
 
-mod costs;
 mod devices;
 mod following;
 mod journals;
 mod next;
 mod others;
 mod targets;
-mod unique;
 mod waiting;
 mod walks;
 
-pub use costs::{
-    all_callers_stay_within_their_bounds, no_caller_exceeds_its_cost, no_transfer_exceeds_its_cost,
-};
 pub use devices::{
     a_control_message_leaves_the_devices, a_message_is_heard_the_same,
     a_message_leaves_other_devices, a_transfer_ends_in_a_stop,
@@ -29,8 +24,7 @@ pub use following::{a_loop_follows, one_step_more};
 pub use journals::{
     an_open_mux_is_selected_or_marked, each_journal_keeps_its_locks,
     each_mark_is_on_a_bus_of_the_board, each_message_finds_its_path_open,
-    each_reply_fits_its_transfer, each_settle_stands_where_it_is_decided,
-    no_message_stands_inside_a_transfer,
+    each_settle_stands_where_it_is_decided, no_message_stands_inside_a_transfer,
 };
 pub use next::{
     the_next_control_message_reaches_its_mux, the_next_line_is_of_a_gpio_mux,
@@ -40,11 +34,7 @@ pub use others::{
     an_entry_leaves_the_other_callers, the_next_step_stays, who_asks_for_nothing_never_steps,
 };
 pub use targets::each_message_reaches_its_target;
-pub use unique::{a_caller_alone_has_one_journal, a_schedule_has_one_journal};
-pub use waiting::{
-    each_caller_goes_on_or_is_stuck, not_all_wait, some_caller_can_go_on, who_can_go_on_is_ready,
-    who_is_stuck_waits,
-};
+pub use waiting::{not_all_wait, who_is_stuck_waits};
 pub use walks::{
     each_walk_holds_its_locks, each_walk_keeps_its_path_open, each_walk_keeps_to_its_cost,
     each_walk_settles_once, each_walk_stays_on_its_root,

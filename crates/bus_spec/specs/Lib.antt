@@ -10,12 +10,9 @@ pub mod Failures
 pub mod Tells
 pub mod Stepwise
 pub mod Legal
-pub mod Paths
-pub mod WalkRule
 pub mod Schedule
 pub mod Play
 pub mod Rows
-pub mod WalkRows
 pub mod Lines
 pub mod Report
 pub use Rattle.i2c_spec.specs.Tree

@@ -4,13 +4,8 @@
 //! The definitions stand in `specs/`, a file for each subject. A journal's past is read newest entry first.
 #![tactic(auto)]
 
-mod paths;
 mod rows;
-mod walk_rows;
 
-pub use paths::{
-    a_job_stands_between_its_locks, a_journal_keeps_the_walk_rule, each_walk_keeps_the_walk_rule,
-};
 pub use rows::{
     a_failed_close_fails_its_transfer, a_failed_deselect_is_mended_by_a_close,
     a_failed_way_marks_both_muxes, a_failed_way_of_a_deselect_keeps_the_reply,
@@ -20,7 +15,4 @@ pub use rows::{
     a_read_takes_the_wires_once, an_absent_inner_mux_settles_at_its_select,
     an_arbitrator_is_found_free_at_the_eighth_poll, an_effect_before_a_failure_stays,
     one_failing_call_fails_at_most_its_transfer,
-};
-pub use walk_rows::{
-    an_arbitrator_is_asked_and_a_line_is_shifted, these_are_no_walks, these_are_walks,
 };

@@ -7,7 +7,7 @@ use Rattle.i2c_base.specs.Transfer.{TransferView, is_read}
 use Rattle.bus_spec.specs.Walk.{Job, Call, Select, Clear}
 use Rattle.bus_spec.specs.Past.{got_after}
 use Rattle.bus_spec.specs.Stepwise.{reply_by}
-use Rattle.bus_laws.specs.Spent.{bytes_given}
+use Rattle.bus_laws.specs.Costs.{bytes_given}
 
 -- a message adds its own bytes at most
 pub got-grows : (job : Job) (reading : Bool) (bytes got : List ℕ) → length (got_after job reading bytes got) ≤ length got + length bytes

@@ -15,7 +15,7 @@ use Rattle.bus_spec.specs.Walk.{Call, Free, Send, Settle, Passed, WalkTree, Ends
 use Rattle.bus_spec.specs.Grammar.{seen, is_over, rest_of, walk_for}
 use Rattle.bus_spec.specs.Stepwise.{reply_by}
 use Rattle.bus_laws.specs.Runs.{InLocks}
-use Rattle.bus_laws.specs.Spent.{bytes_given}
+use Rattle.bus_laws.specs.Costs.{bytes_given}
 use Rattle.mux_plan.specs.Plans.{slots_of}
 use Rattle.bus_laws.specs.Holds.{HoldsLocks, IsLockOf}
 use Rattle.seg_locks.specs.Locks.{with_holder}

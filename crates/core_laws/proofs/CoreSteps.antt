@@ -22,8 +22,7 @@ use Rattle.bus_spec.specs.Grammar.{seen, is_over, first_note, rest_of}
 use Rattle.bus_spec.specs.Readings.{message_cut}
 use Rattle.bus_spec.specs.Past.{got_after}
 use Rattle.bus_spec.specs.Stepwise.{reply_by, IsBelow}
-use Rattle.bus_laws.specs.Costs.{weight_at}
-use Rattle.bus_laws.specs.Spent.{bytes_given}
+use Rattle.bus_laws.specs.Costs.{bytes_given, weight_at}
 use Rattle.bus_laws.specs.Runs.{InLocks}
 use Rattle.mux_plan.specs.Plans.{slots_of}
 use Rattle.bus_laws.specs.Holds.{HoldsLocks, SendsIn, IsLockOf}

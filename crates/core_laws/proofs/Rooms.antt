@@ -10,8 +10,7 @@ use Rattle.i2c_spec.specs.Cost.{cost_of}
 use Rattle.bus_spec.specs.Walk.{Job, Act, Take, Free, Send, Shift, Settle}
 use Rattle.bus_spec.specs.Past.{got_after}
 use Rattle.bus_spec.specs.Stepwise.{reply_by}
-use Rattle.bus_laws.specs.Costs.{weight_at}
-use Rattle.bus_laws.specs.Spent.{bytes_given}
+use Rattle.bus_laws.specs.Costs.{bytes_given, weight_at}
 use Rattle.bus_laws.proofs.walk.Next.{quiet-next, within-next}
 use Rattle.mux_plan.specs.Plans.{slots_of}
 use Rattle.core_laws.specs.Core.{Place, has_reply, pending, IsGoing, CoreKept, Run, Whole}

@@ -27,9 +27,9 @@ use Rattle.bus_spec.specs.Stepwise.{May, IsStepwise}
 use Rattle.bus_spec.specs.Report.{report_lines, text_of}
 use Rattle.bus_laws.specs.Reach.{AsksForMessages, AsksWithinLimits}
 use Rattle.bus_laws.proofs.Laws.{lines-locked, settled-told}
-use Rattle.journal_laws.specs.Ends.{IsDone}
-use Rattle.journal_laws.specs.Left.{LeavesDevices, worlds_of}
-use Rattle.journal_laws.proofs.Laws.{replies-kept, legal-with, devices-left, complete-then, strangers-end}
+use Rattle.flat_laws.specs.Ends.{IsDone}
+use Rattle.flat_laws.specs.Left.{LeavesDevices, worlds_of}
+use Rattle.flat_laws.proofs.Laws.{replies-kept, legal-with, devices-left, complete-then, strangers-end}
 use Rattle.caller_core.specs.Callers.{board_of}
 use Rattle.caller_core.specs.Scripts.{asked_by, left_of, commands_of, section_text}
 use Rattle.caller_core.specs.View.{CallerView, ScriptView, script_on}

@@ -1,8 +1,8 @@
--- The laws that the crates above cite.
-pub mod Laws
--- The devices and the replies of a whole past are those of the flat world.
-pub mod device
+-- The paths of a walk are the lists of the walk rule.
+pub mod walk
 -- What the entries of a past tell together.
 pub mod past
+-- One journal at most that follows a schedule.
+pub mod schedule
 -- Worked examples.
 pub mod worked

@@ -1,13 +1,16 @@
--- The readings, the walks of each caller, what they leave, and all rules together.
+-- The readings, who goes on, what is spent, all rules as steps, and what failures do.
 pub mod Ports
 pub mod Places
 pub mod Flight
-pub mod First
-pub mod Walks
+pub mod CutTalks
+pub mod GoesOn
+pub mod Budgets
+pub mod Spent
+pub mod Fits
+pub mod Together
+pub mod Failures
+pub mod OneEntry
 pub mod Counts
-pub mod Left
-pub mod Legal
-pub mod Ends
 pub mod Follow
 pub mod Layers
 pub mod Due

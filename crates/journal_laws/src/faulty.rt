@@ -11,7 +11,7 @@ ghost use Rattle.bus_spec.specs.Past.{calls_of, mark};
 ghost use Rattle.bus_spec.specs.Stepwise.{IsStepwise};
 ghost use Rattle.bus_spec.specs.Legal.{IsLegal};
 ghost use Rattle.bus_laws.specs.Reach.{AsksForMessages, AsksWithinLimits};
-ghost use Rattle.journal_laws.specs.Counts.{failures, faults_in, remotes};
+ghost use Rattle.journal_laws.specs.Counts.{failed_on, failures, faults_in, remotes};
 ghost use Rattle.journal_laws.specs.Faulty.{HasClosed, NoneCloses, PassesBy, KeepsCuts};
 
 use i2c_spec::an_accepted_board_is_a_tree;
@@ -59,6 +59,21 @@ pub fn one_failure_fails_one_reply_at_most()
         → remotes past ≤ sum_by (λ r. faults_in (calls_of b asks past r)) (range_with_len 0 (length b.roots)) }
     ensures legal { (b : BoardView) (callers : ℕ) (asks : Asks) (past : List Entry) → IsPlainBoard b → MeetsRules b → AsksForMessages asks → AsksWithinLimits asks
         → IsLegal b callers asks past → remotes past ≤ failures past }
+{
+    an_accepted_board_is_a_tree();
+}
+
+/// On each root as many messages and line steps failed by the port as calls of that port did: one call that fails is told
+/// in one entry.
+///
+/// An entry that could not come where it does may tell a failure of no call; and on which root a line step is made is known only
+/// on an accepted board, of transfers with a message. The legal form has one premise more, that of the law that a legal
+/// journal is stepwise.
+pub fn each_fault_is_a_failed_entry()
+    ensures stepwise { (b : BoardView) (callers : ℕ) (asks : Asks) (past : List Entry) → IsPlainBoard b → MeetsRules b → AsksForMessages asks → IsStepwise b callers asks past
+        → (r : ℕ) → faults_in (calls_of b asks past r) ≡ failed_on b r past }
+    ensures legal { (b : BoardView) (callers : ℕ) (asks : Asks) (past : List Entry) → IsPlainBoard b → MeetsRules b → AsksForMessages asks → AsksWithinLimits asks
+        → IsLegal b callers asks past → (r : ℕ) → faults_in (calls_of b asks past r) ≡ failed_on b r past }
 {
     an_accepted_board_is_a_tree();
 }

@@ -47,7 +47,7 @@ use Rattle.journal_laws.specs.Faulty.{is_on_way, failed_on_way, CutAt, KeepsCuts
 use Rattle.journal_laws.proofs.past.Places.{walk-left}
 use Rattle.journal_laws.proofs.past.Due.{due-told, not-done}
 use Rattle.journal_laws.proofs.past.Marked.{sends, shifts}
-use Rattle.journal_laws.proofs.past.Ends.{holds-nothing}
+use Rattle.flat_laws.proofs.past.Ends.{holds-nothing}
 use Rattle.journal_laws.proofs.past.FailLaw.{FailsSettle, current-fails}
 
 -- WHAT A STEP DECIDES

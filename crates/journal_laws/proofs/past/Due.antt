@@ -26,7 +26,7 @@ use Rattle.bus_laws.proofs.past.StandsStep.{at_same}
 use Rattle.bus_laws.proofs.past.StandsEntries.{first_is}
 use Rattle.bus_laws.proofs.past.Asked.{current-asked, past-asked, settled-told}
 use Rattle.bus_laws.proofs.past.Placed.{no_settle}
-use Rattle.journal_laws.proofs.past.First.{due_settles}
+use Rattle.flat_laws.proofs.past.First.{due_settles}
 use Rattle.journal_laws.proofs.past.Layers.{other_replies}
 use Rattle.journal_laws.proofs.past.Places.{walk-left}
 

@@ -16,8 +16,8 @@ use Rattle.bus_spec.specs.Readings.{MessageEntry}
 use Rattle.bus_spec.specs.Tells.{TellsMessage, TellsLine, Tells}
 use Rattle.bus_spec.specs.Places.{outcome_of}
 use Rattle.bus_spec.specs.Legal.{Step, Leads, replies_in, AreWalks, none, whole, front}
-use Rattle.journal_laws.proofs.past.Walks.{reply_at, replies_first}
-use Rattle.bus_spec.proofs.WalkLemmas.{tells_none}
+use Rattle.flat_laws.proofs.past.Walks.{reply_at, replies_first}
+use Rattle.flat_laws.proofs.past.Walks.{tells_none}
 
 -- what a message of the next step tells before it is sent: where it goes, why, which part it is of how many, and its
 -- direction

@@ -19,7 +19,7 @@ use Rattle.bus_spec.specs.Places.{outcome_of, walk_left}
 use Rattle.bus_spec.specs.Legal.{Step, Leads, replies_in, AreWalks, none, whole, front, steps_in, KeepsWalks}
 use Rattle.bus_laws.proofs.tree.Slots.{eqb-apart}
 use Rattle.bus_laws.proofs.past.Asked.{settled-told}
-use Rattle.journal_laws.proofs.past.Walks.{reply_at, replies_first, replies_more}
+use Rattle.flat_laws.proofs.past.Walks.{reply_at, replies_first, replies_more}
 use Rattle.journal_laws.proofs.past.Follow.{at_hand, Follow, under-way, begins, walks-follow}
 use Rattle.journal_laws.proofs.past.Places.{walk-left}
 

@@ -26,10 +26,10 @@ use Rattle.bus_laws.proofs.past.Laws.{past-stands, holder-told}
 use Rattle.bus_laws.proofs.past.Placed.{cut-told, settles-kept}
 use Rattle.bus_laws.proofs.past.Whole.{some_is}
 use Rattle.journal_laws.specs.Layers.{BelongsTo}
-use Rattle.journal_laws.proofs.device.Law.{replies-kept}
+use Rattle.flat_laws.proofs.device.Law.{replies-kept}
 use Rattle.journal_laws.proofs.past.Layers.{own_replies, other_replies, walks-tell, walks-due}
 use Rattle.journal_laws.proofs.past.Due.{IsDue, IsParted, due-told, tells-due, parts, stays-parted}
-use Rattle.journal_laws.proofs.past.Legal.{legal-with}
+use Rattle.flat_laws.proofs.past.Legal.{legal-with}
 
 -- THE REPLIES of a prefix are those of its history
 last_same : (rs qs : List Reply) (r q : Reply) → rs ++ r ∷ [] ≡ qs ++ q ∷ [] → (rs ≡ qs) × (r ≡ q)

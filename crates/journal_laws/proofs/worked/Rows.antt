@@ -14,11 +14,11 @@ use Rattle.bus_spec.specs.Stepwise.{IsStepwise}
 use Rattle.bus_laws.specs.Lines.{LinesAreLocked}
 use Rattle.bus_laws.specs.Reach.{AsksForMessages, AsksWithinLimits}
 use Rattle.bus_laws.proofs.world.LineFacts.{lines-locked}
-use Rattle.journal_laws.specs.Ends.{IsDone}
+use Rattle.flat_laws.specs.Ends.{IsDone}
 use Rattle.journal_laws.specs.Worked.{IsWorkedOut}
-use Rattle.journal_laws.proofs.device.Law.{replies-kept}
-use Rattle.journal_laws.proofs.past.Ends.{complete-then}
-use Rattle.journal_laws.proofs.past.Legal.{legal-with}
+use Rattle.flat_laws.proofs.device.Law.{replies-kept}
+use Rattle.flat_laws.proofs.past.Ends.{complete-then}
+use Rattle.flat_laws.proofs.past.Legal.{legal-with}
 use Rattle.journal_laws.proofs.past.Play.{played-steps}
 use Rattle.journal_laws.proofs.worked.Checks.{all-below, asks-each, follows_words, follows}
 

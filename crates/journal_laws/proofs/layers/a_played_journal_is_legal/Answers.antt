@@ -1,6 +1,6 @@
 use Rattle.bus_laws.proofs.world.LineFacts.{lines-locked}
-use Rattle.journal_laws.proofs.device.Law.{replies-kept}
-use Rattle.journal_laws.proofs.past.Legal.{legal-with}
+use Rattle.flat_laws.proofs.device.Law.{replies-kept}
+use Rattle.flat_laws.proofs.past.Legal.{legal-with}
 use Rattle.journal_laws.proofs.past.Play.{played-steps}
 use Rattle.bus_spec.specs.Play.{played}
 use Rattle.std.specs.Prelude.{reverse}

@@ -3,7 +3,7 @@ use Rattle.std.proofs.Common.{ℕ, ◌<◌, ◌++◌, [], ◌∷◌, replicate, 
 use Rattle.bus_spec.specs.Past.{now}
 use Rattle.bus_spec.specs.Play.{played, transfers_of, none_fails, fails_at}
 use Rattle.bus_spec.specs.Rows as row
-use Rattle.journal_laws.specs.Ends.{IsDone}
+use Rattle.flat_laws.specs.Ends.{IsDone}
 use Rattle.journal_laws.proofs.worked.Boards.{mux-locked-plain, mux-locked-rules, parent-locked-plain, parent-locked-rules, absent-inner-plain, absent-inner-rules, absent-outer-plain, absent-outer-rules, chain-plain, chain-rules, arbitrator-plain, arbitrator-rules, read-within}
 use Rattle.journal_laws.proofs.worked.Checks.{only-one, only-two}
 use Rattle.journal_laws.proofs.worked.Rows.{IsAskable, worked-out}

@@ -1,5 +1,0 @@
-use Rattle.bus_laws.proofs.past.Fits.{fits-kept}
-use Rattle.bus_laws.proofs.journals.each_reply_fits_its_transfer.Goals as goal
-
-pub returns : goal.returns
-returns c = λ b callers asks past some steps. fits-kept b asks some callers past steps

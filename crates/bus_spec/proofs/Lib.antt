@@ -1,3 +1,0 @@
--- Paths of a walk: each piece of the grammar keeps its rule, and so does the walk of a transfer.
-pub mod PathLemmas
-pub mod WalkLemmas

@@ -1,0 +1,6 @@
+-- The laws that the crates above cite.
+pub mod Laws
+-- The devices and the replies of a whole past are those of the flat world.
+pub mod device
+-- What the entries of a past tell together.
+pub mod past

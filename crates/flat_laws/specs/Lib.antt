@@ -1,0 +1,4 @@
+-- A transfer message by message, what a whole journal leaves of the devices, and when its callers are through.
+pub mod Parts
+pub mod Left
+pub mod Ends

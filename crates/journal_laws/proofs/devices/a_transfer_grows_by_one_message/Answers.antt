@@ -1,5 +1,0 @@
-use Rattle.journal_laws.proofs.device.Parts.{part-grows}
-use Rattle.journal_laws.proofs.devices.a_transfer_grows_by_one_message.Goals as goal
-
-pub returns : goal.returns
-returns c = part-grows

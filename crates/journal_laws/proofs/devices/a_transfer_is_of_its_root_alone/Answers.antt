@@ -1,5 +1,0 @@
-use Rattle.journal_laws.proofs.device.Flat.{flat-same, flat-elsewhere}
-use Rattle.journal_laws.proofs.devices.a_transfer_is_of_its_root_alone.Goals as goal
-
-pub returns : goal.returns
-returns c = record { same = flat-same; others = flat-elsewhere }

@@ -1,5 +1,0 @@
-use Rattle.journal_laws.proofs.device.Parts.{part-whole}
-use Rattle.journal_laws.proofs.devices.the_messages_that_were_sent_are_the_transfer.Goals as goal
-
-pub returns : goal.returns
-returns c = part-whole

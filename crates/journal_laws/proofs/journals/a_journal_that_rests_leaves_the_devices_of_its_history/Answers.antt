@@ -1,8 +1,0 @@
-use Rattle.bus_laws.proofs.world.LineFacts.{lines-locked}
-use Rattle.journal_laws.proofs.past.Left.{devices-left}
-use Rattle.journal_laws.proofs.journals.a_journal_that_rests_leaves_the_devices_of_its_history.Goals as goal
-
-pub returns : goal.returns
-returns c =
-    λ b callers asks past plain rules some limits steps rests.
-    devices-left b (c.an_accepted_board_is_a_tree.ensures b plain rules) plain (lines-locked b rules) asks some limits callers past steps rests

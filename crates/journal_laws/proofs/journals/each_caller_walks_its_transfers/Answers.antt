@@ -1,6 +1,0 @@
-use Rattle.journal_laws.proofs.past.Walks.{walks-kept}
-use Rattle.journal_laws.proofs.journals.each_caller_walks_its_transfers.Goals as goal
-
-pub returns : goal.returns
-returns c =
-    λ b callers asks past some steps none_due. walks-kept b asks some callers past steps none_due

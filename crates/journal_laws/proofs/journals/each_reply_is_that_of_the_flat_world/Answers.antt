@@ -1,8 +1,0 @@
-use Rattle.bus_laws.proofs.world.LineFacts.{lines-locked}
-use Rattle.journal_laws.proofs.device.Law.{replies-kept}
-use Rattle.journal_laws.proofs.journals.each_reply_is_that_of_the_flat_world.Goals as goal
-
-pub returns : goal.returns
-returns c =
-    λ b callers asks past plain rules some limits steps.
-    replies-kept b (c.an_accepted_board_is_a_tree.ensures b plain rules) plain (lines-locked b rules) asks some limits callers past steps

@@ -1,0 +1,243 @@
+-- One step of a walk pays for itself: its entry, the bytes of it and the calls that it makes. No induction but over the
+-- messages of a transfer.
+use Rattle.std.proofs.Common.{◌≡◌, ℕ, zero, suc, ◌+◌, ◌*◌, ◌-◌, ◌<◌, ◌≤◌, Bool, true, false, cond, List, [], ◌∷◌, ◌++◌, length, length-append, Option, Some, None, refl, sym, ◌∙◌, ap, subst, ◌⊎◌, inl, inr, arith}
+use Rattle.std.specs.Prelude.{take, drop, nat_lt}
+use Rattle.std.specs.List.{list_any}
+use Rattle.std.proofs.lemmas.List.{length-take}
+use Rattle.std.proofs.Math.Nat.{min-le_left}
+use Rattle.i2c_base.specs.declared.errno.Errno.{Errno}
+use Rattle.i2c_base.specs.declared.ids.Node.{Node}
+use Rattle.i2c_base.specs.declared.entry.End.{End}
+use Rattle.i2c_base.specs.declared.entry.Purpose.{Purpose}
+use Rattle.i2c_base.specs.declared.entry.Entry.{Entry}
+use Rattle.i2c_base.specs.declared.entry.Entry.TheVariants as entry
+use Rattle.i2c_base.specs.declared.reply.Reply.{Reply}
+use Rattle.i2c_base.specs.declared.reply.Reply.TheVariants as reply
+use Rattle.i2c_base.specs.declared.transfer.Msg.{Msg}
+use Rattle.i2c_base.specs.Board.{BoardView}
+use Rattle.i2c_base.specs.Transfer.{TransferView, is_read, written_of}
+use Rattle.i2c_spec.specs.Tree.{buses, hops, root_of}
+use Rattle.i2c_spec.specs.TreeFacts.{IsTree}
+use Rattle.i2c_spec.specs.Rules.{MeetsRules}
+use Rattle.i2c_spec.specs.Messages.{MessageView, messages_from}
+use Rattle.i2c_spec.specs.Conversation.{world_listener}
+use Rattle.i2c_spec.specs.Flat.{block_limit, done_with}
+use Rattle.i2c_spec.specs.Cost.{full_cost, steps_of, cost_of}
+use Rattle.i2c_spec.specs.History.{Asks}
+use Rattle.bus_spec.specs.Walk.{Job, Call, Select, Clear, Act, Take, Free, Send, Shift, Settle, Passed, Sent, Lined, WalkTree, job_bus, message_of, is_last, nth_message}
+use Rattle.bus_spec.specs.Grammar.{walk_for, seen, first_act, first_note, rest_of}
+use Rattle.bus_spec.specs.Readings.{caller_of}
+use Rattle.bus_spec.specs.Past.{Now, current, now, step, talk_of, cut_of, got_after, sent_by, lined_by}
+use Rattle.bus_spec.specs.Stepwise.{May, IsNext, IsStepwise, reply_by}
+use Rattle.bus_laws.specs.Reach.{AsksForMessages}
+use Rattle.bus_laws.specs.Runs.{IsCall}
+use Rattle.bus_laws.specs.Settles.{IsBefore, Settles}
+use Rattle.bus_laws.specs.Calls.{CallsOf, IsAsked}
+use Rattle.bus_laws.specs.Costs.{IsWithin, bytes_given}
+use Rattle.bus_laws.specs.Others.{ahead}
+use Rattle.journal_laws.specs.Spent.{bytes_in, calls_for}
+use Rattle.bus_laws.proofs.world.TalkSizes.{talk-sized}
+use Rattle.bus_laws.proofs.walk.CostLaw.{walk-within}
+use Rattle.bus_laws.proofs.walk.SettleLaw.{walk-settles}
+use Rattle.bus_laws.proofs.walk.Next.{within-next, settles-taken, settles-freed, settles-sent, settles-shifted, settles-settled}
+use Rattle.bus_laws.proofs.past.StandsStep.{at_same}
+use Rattle.bus_laws.proofs.past.StandsEntries.{first_is}
+use Rattle.bus_laws.proofs.past.Asked.{settles_seen, current-asked, past-asked}
+
+-- the entry that settles is still to come
+abbrev pub to_settle : Bool → ℕ
+to_settle done = cond done 0 1
+
+-- A WALK and what is left to spend on it, with one for its settle
+pub record IsBudget (b : BoardView) (done : Bool) (w : WalkTree) (most : ℕ) : Type 0 where
+  pub left : ℕ
+  pub settles : Settles done w
+  pub within : IsWithin b w left
+  pub owes : left + to_settle done ≤ most
+
+cost_some : (b : BoardView) (t : TransferView) → 1 ≤ cost_of b t
+cost_some b t = by (nat_lt t.bus (buses b))
+  where
+    by : (x : Bool) → 1 ≤ cond x (1 + full_cost (hops b t.bus) (steps_of b t)) 1
+    by true = omega arith
+    by false = omega arith
+
+pub budget-begins : (b : BoardView) → IsTree b → MeetsRules b → (t : TransferView) → 0 < length t.msgs → IsBudget b false (walk_for b t) (cost_of b t)
+budget-begins b tree rules t some =
+    record { left = cost_of b t - 1; settles = walk-settles b t; within = walk-within b tree rules t some; owes = omega (arith, cost_some b t) }
+
+-- a message has no more bytes than it says
+short_from : (ms : List Msg) (out : List ℕ) (i : ℕ) → length (nth_message (messages_from ms out) i).bytes ≤ (nth_message (messages_from ms out) i).len
+short_from [] out i = omega arith
+short_from (m ∷ ms) out zero = by (is_read m) (subst (λ (k : ℕ). k ≤ written_of m) (sym (length-take (written_of m) out)) (min-le_left (written_of m) (length out)))
+  where
+    by : (reading : Bool) → length (take (written_of m) out) ≤ cond reading 0 m.len → length (take (written_of m) out) ≤ m.len
+    by true h = omega (arith, h)
+    by false h = h
+short_from (m ∷ ms) out (suc i) = short_from ms (drop (written_of m) out) i
+
+abbrev IsShort : MessageView → Type 0
+IsShort m = length m.bytes ≤ m.len
+
+-- a reply gives no more bytes than were read
+few_done : (t : TransferView) (got : List ℕ) → length (bytes_given (done_with t got)) ≤ length got
+few_done t got = by (list_any is_read t.msgs)
+  where
+    by : (x : Bool) → length (bytes_given (cond x (reply.Read got) reply.Done)) ≤ length got
+    by true = omega arith
+    by false = omega arith
+
+few_given : (verdict : Option Errno) (t : Option TransferView) (got : List ℕ) → length (bytes_given (reply_by verdict t got)) ≤ length got
+few_given (Some e) t got = omega arith
+few_given None None got = omega arith
+few_given None (Some t) got = few_done t got
+
+few_got : (job : Job) (reading : Bool) (bytes got : List ℕ) → length (got_after job reading bytes got) ≤ length got + length bytes
+few_got (Call bus ms) true bytes got = omega (arith, length-append got bytes)
+few_got (Call bus ms) false bytes got = omega arith
+few_got (Select h) reading bytes got = omega arith
+few_got (Clear on mux kind) reading bytes got = omega arith
+
+-- behind the settle come none of the caller's messages
+got_stays : (job : Job) (reading : Bool) (bytes got : List ℕ) (done : Bool) → done ≡ true → IsBefore done job → got_after job reading bytes got ≡ got
+got_stays (Call bus ms) reading bytes got done d before = absurd (let f : true ≡ false = sym d ∙ before in cc)
+got_stays (Select h) reading bytes got done d before = refl
+got_stays (Clear on mux kind) reading bytes got done d before = refl
+
+-- what a message and a line step leave of what their caller has read
+pub message-got : (b : BoardView) (asks : Asks) (n : Now) (c bus : ℕ) (why : Purpose) (part parts addr : ℕ) (reading : Bool) (bytes : List ℕ) (heard : Option Node) (en : End) (job : Job) (left : ℕ)
+    → IsNext b asks n c (Send job left) → (step b asks n (entry.Message c bus why part parts addr reading bytes heard en)).got c ≡ got_after job reading bytes (n.got c)
+message-got b asks n c bus why part parts addr reading bytes heard en job left next =
+    ap (λ (o : Option Act). (sent_by b n c o (first_note (current b asks n c)) reading bytes en).got c) next ∙ at_same n.got c (got_after job reading bytes (n.got c))
+
+pub line-got : (b : BoardView) (asks : Asks) (n : Now) (c mux level : ℕ) (failed : Bool) (job : Job) → IsNext b asks n c (Shift job)
+    → (step b asks n (entry.Line c mux level failed)).got c ≡ n.got c
+line-got b asks n c mux level failed job next = ap (λ (o : Option Act). (lined_by b n o (first_note (current b asks n c)) failed).got c) next
+
+-- what an entry of a caller leaves of its budget
+pub record IsPaid (b : BoardView) (asks : Asks) (n : Now) (e : Entry) (done : Bool) (most : ℕ) : Type 0 where
+  pub after : Bool
+  pub rest : ℕ
+  pub kept : IsBudget b after ((step b asks n e).walk (caller_of e)) rest
+  pub entries : 1 + rest ≤ most
+  pub bytes : length (bytes_in e) + length ((step b asks n e).got (caller_of e)) + 2 * rest ≤ length (n.got (caller_of e)) + 2 * most
+  pub calls : calls_for b n (first_act (current b asks n (caller_of e))) e + 2 * rest ≤ 2 * most
+  -- behind the settle nothing is left of what was read
+  pub emptied : after ≡ true → (done ≡ true → n.got (caller_of e) ≡ []) → (step b asks n e).got (caller_of e) ≡ []
+  -- it settles a reply, or none
+  pub replies : ((after ≡ done) × ((step b asks n e).settled (caller_of e) ≡ n.settled (caller_of e)))
+      ⊎ ((done ≡ false) × (after ≡ true) × (r : Reply) × ((step b asks n e).settled (caller_of e) ≡ n.settled (caller_of e) ++ r ∷ []))
+
+budget_of : (b : BoardView) (done : Bool) (w u : WalkTree) (m : ℕ) → u ≡ w → Settles done w → IsWithin b w m → IsBudget b done u (m + to_settle done)
+budget_of b done w u m same settles within =
+    record {
+      left = m;
+      settles = subst (λ (x : WalkTree). Settles done x) (sym same) settles;
+      within = subst (λ (x : WalkTree). IsWithin b x m) (sym same) within;
+      owes = omega arith;
+    }
+
+module _ (b : BoardView) (asks : Asks) (some : AsksForMessages asks) (callers : ℕ) (past : List Entry) (steps : IsStepwise b callers asks past) where
+  abbrev n : Now
+  n = now b asks past
+
+  short_sent : (c : ℕ) (job : Job) (left : ℕ) → IsNext b asks n c (Send job left) → IsShort (message_of b job left)
+  short_sent c (Call bus messages) left next =
+      let asked : IsAsked b asks c (current b asks n c) (n.settled c) = current-asked b asks some n (past-asked b asks some callers past steps) c in
+      let at = first_is (current b asks n c) (Send (Call bus messages) left) next in
+      let call : IsCall b asked.whose bus messages = (subst (λ (w : WalkTree). CallsOf b asked.whose w) at.2 asked.calls).0 in
+      subst (λ (ms : List MessageView). IsShort (nth_message ms (length messages - 1 - left))) (sym call.same_messages)
+      (short_from asked.whose.msgs asked.whose.out (length messages - 1 - left))
+  short_sent c (Select h) zero next = omega arith
+  short_sent c (Select h) (suc left) next = omega arith
+  short_sent c (Clear on mux kind) left next = omega arith
+
+  pub budget-pays : (e : Entry) → May b callers asks n e → (done : Bool) (most : ℕ) → IsBudget b done (ahead b asks n (caller_of e)) most → IsPaid b asks n e done most
+  budget-pays (entry.Take c l) may done most budget =
+      let w : WalkTree = ahead b asks n c in
+      let h = within-next b n.slot w budget.left budget.within (Take l) may.2 in
+      record {
+        after = done;
+        rest = h.0 + to_settle done;
+        kept = budget_of b done (rest_of (seen n.slot w) Passed) ((step b asks n (entry.Take c l)).walk c) h.0 (at_same n.walk c (rest_of (seen n.slot w) Passed))
+            (settles-taken done n.slot w budget.settles l may.2).1 (h.2 Passed);
+        entries = omega (arith, h.1, budget.owes);
+        bytes = omega (arith, h.1, budget.owes);
+        calls = (let none : calls_for b n (first_act (current b asks n c)) (entry.Take c l) ≡ 0 = ap (λ (o : Option Act). calls_for b n o (entry.Take c l)) may.2 in omega (arith, none, h.1, budget.owes));
+        emptied = λ d was. was d;
+        replies = inl (refl, refl);
+      }
+  budget-pays (entry.Free c l) may done most budget =
+      let w : WalkTree = ahead b asks n c in
+      let h = within-next b n.slot w budget.left budget.within (Free l) may.2 in
+      record {
+        after = done;
+        rest = h.0 + to_settle done;
+        kept = budget_of b done (rest_of (seen n.slot w) Passed) ((step b asks n (entry.Free c l)).walk c) h.0 (at_same n.walk c (rest_of (seen n.slot w) Passed))
+            (settles-freed done n.slot w budget.settles l may.2).1 (h.2 Passed);
+        entries = omega (arith, h.1, budget.owes);
+        bytes = omega (arith, h.1, budget.owes);
+        calls = (let none : calls_for b n (first_act (current b asks n c)) (entry.Free c l) ≡ 0 = ap (λ (o : Option Act). calls_for b n o (entry.Free c l)) may.2 in omega (arith, none, h.1, budget.owes));
+        emptied = λ d was. was d;
+        replies = inl (refl, refl);
+      }
+  budget-pays (entry.Settle c r cut) may done most budget =
+      let w : WalkTree = ahead b asks n c in
+      let h = within-next b n.slot w budget.left budget.within (Settle may.2) may.3 in
+      let s = settles-settled done (seen n.slot w) (settles_seen n.slot done w budget.settles) may.2 may.3 in
+      let unsettled : to_settle done ≡ 1 = ap to_settle s.0 in
+      let few : length (bytes_given r) ≤ length (n.got c) = subst (λ (x : Reply). length (bytes_given x) ≤ length (n.got c)) (sym may.4) (few_given may.2 (asks c (n.settled c)) (n.got c)) in
+      let empty : length ((step b asks n (entry.Settle c r cut)).got c) ≡ 0 = ap (λ (xs : List ℕ). length xs) (at_same n.got c []) in
+      record {
+        after = true;
+        rest = h.0 + 0;
+        kept = budget_of b true (rest_of (seen n.slot w) Passed) ((step b asks n (entry.Settle c r cut)).walk c) h.0 (at_same n.walk c (rest_of (seen n.slot w) Passed)) s.2 (h.2 Passed);
+        entries = omega (arith, h.1, budget.owes, unsettled);
+        bytes = omega (arith, h.1, budget.owes, unsettled, few, empty);
+        calls = (let none : calls_for b n (first_act (current b asks n c)) (entry.Settle c r cut) ≡ 0 = ap (λ (o : Option Act). calls_for b n o (entry.Settle c r cut)) may.3 in omega (arith, none, h.1, budget.owes, unsettled));
+        emptied = λ d was. at_same n.got c [];
+        replies = inr (s.0, refl, r, at_same n.settled c (n.settled c ++ r ∷ []));
+      }
+  budget-pays (entry.Line c mux level failed) may done most budget =
+      let w : WalkTree = ahead b asks n c in
+      let e : Entry = entry.Line c mux level failed in
+      let h = within-next b n.slot w budget.left budget.within (Shift may.2.0) may.2.1 in
+      let one : calls_for b n (first_act (current b asks n c)) e ≡ 1 = ap (λ (o : Option Act). calls_for b n o e) may.2.1 in
+      let same : (step b asks n e).got c ≡ n.got c = line-got b asks n c mux level failed may.2.0 may.2.1 in
+      let few : length ((step b asks n e).got c) ≡ length (n.got c) = ap (λ (xs : List ℕ). length xs) same in
+      record {
+        after = done;
+        rest = h.0 + to_settle done;
+        kept = budget_of b done (rest_of (seen n.slot w) (Lined failed)) ((step b asks n e).walk c) h.0 (at_same n.walk c (rest_of (seen n.slot w) (Lined failed)))
+            (settles-shifted done n.slot w budget.settles may.2.0 may.2.1 failed).2 (h.2 (Lined failed));
+        entries = omega (arith, h.1, budget.owes);
+        bytes = omega (arith, h.1, budget.owes, few);
+        calls = omega (arith, one, h.1, budget.owes);
+        emptied = λ d was. same ∙ was d;
+        replies = inl (refl, ap (λ (o : Option Act). (lined_by b n o (first_note (current b asks n c)) failed).settled c) may.2.1);
+      }
+  budget-pays (entry.Message c bus why part parts addr reading bytes heard en) may done most budget =
+      let w : WalkTree = ahead b asks n c in
+      let e : Entry = entry.Message c bus why part parts addr reading bytes heard en in
+      let job : Job = may.2.0 in
+      let left : ℕ = may.2.1 in
+      let m : MessageView = message_of b job left in
+      let h = within-next b n.slot w budget.left budget.within (Send job left) may.2.2 in
+      let size = talk-sized world_listener (cut_of en) (block_limit b) (omega arith) (n.worlds (root_of b (job_bus job))) m (short_sent c job left may.2.2) (is_last job left) in
+      let made : calls_for b n (first_act (current b asks n c)) e ≡ length (talk_of b n job left en).calls = ap (λ (o : Option Act). calls_for b n o e) may.2.2 in
+      let told : length bytes ≡ length (talk_of b n job left en).bytes = ap (λ (xs : List ℕ). length xs) may.2.3.bytes_told in
+      let got : (step b asks n e).got c ≡ got_after job reading bytes (n.got c) =
+      message-got b asks n c bus why part parts addr reading bytes heard en job left may.2.2 in
+      let few : length ((step b asks n e).got c) ≤ length (n.got c) + length bytes =
+      subst (λ (xs : List ℕ). length xs ≤ length (n.got c) + length bytes) (sym got) (few_got job reading bytes (n.got c)) in
+      record {
+        after = done;
+        rest = h.0 + to_settle done;
+        kept = budget_of b done (rest_of (seen n.slot w) (Sent en bytes)) ((step b asks n e).walk c) h.0 (at_same n.walk c (rest_of (seen n.slot w) (Sent en bytes)))
+            ((settles-sent done n.slot w budget.settles job left may.2.2).1 en bytes).2 (h.2 (Sent en bytes));
+        entries = omega (arith, h.1, budget.owes);
+        bytes = omega (arith, h.1, budget.owes, few, told, size.0);
+        calls = omega (arith, made, size.1, h.1, budget.owes);
+        emptied = λ d was. got ∙ got_stays job reading bytes (n.got c) done d (settles-sent done n.slot w budget.settles job left may.2.2).0 ∙ was d;
+        replies = inl (refl, ap (λ (o : Option Act). (sent_by b n c o (first_note (current b asks n c)) reading bytes en).settled c) may.2.2);
+      }

@@ -1,0 +1,3 @@
+-- Paths of a walk: each piece of the grammar keeps its rule, and so does the walk of a transfer.
+pub mod Paths
+pub mod Rule

@@ -1,0 +1,164 @@
+-- The walk of a transfer in the rule's own words (Linux i2c-topology): which whole lists of steps it is. The list of a job is
+-- put together of the lists of the jobs that it needs on the bus before the mux.
+use Rattle.std.specs.Prelude.{◌≡◌, ℕ, zero, suc, Bool, true, false, ◌&&◌, List, [], ◌∷◌, ◌++◌, map, reverse, Option, Some, None, MatchBool}
+use Rattle.i2c_base.specs.declared.ids.LockId.{LockId}
+use Rattle.i2c_base.specs.declared.errno.Errno.{Errno}
+use Rattle.i2c_base.specs.declared.entry.Entry.{Entry}
+use Rattle.i2c_base.specs.declared.reply.Reply.{Reply}
+use Rattle.i2c_base.specs.Board.{BoardView}
+use Rattle.i2c_base.specs.Transfer.{TransferView}
+use Rattle.i2c_spec.specs.Tree.{Hop, hops, root_of, locks_of}
+use Rattle.i2c_spec.specs.Messages.{messages_of}
+use Rattle.i2c_spec.specs.Flat.{refusal}
+use Rattle.bus_spec.specs.Walk.{Job, Call, Select, Clear, Act, Take, Free, Send, Shift, Settle, ActOutcome, JobOutcome, Good, Refused, Unsent, Failed, MarkOf, Ends, Then, Go, On, Last, Over, goes, job_outcome, verdict_of, decides, is_line, more_of}
+use Rattle.bus_spec.specs.Slots.{mark_in}
+use Rattle.bus_spec.specs.Grammar.{kind_of, plain}
+use Rattle.bus_spec.specs.Tells.{Tells}
+use Rattle.bus_spec.specs.Past.{Now, is_due}
+use Rattle.bus_spec.specs.Places.{outcome_of}
+use Rattle.journal_laws.specs.Paths.{PathStep, Saw, Did, act_of, Rule}
+use Rattle.bus_spec.specs.Legal.{Step, replies_in}
+
+-- A JOB ON THE BUS ITSELF. Behind its last message or line step there is the settle, directly, where it decides
+abbrev pub settle_where : Bool → Option Errno → List (Option Act)
+settle_where true verdict = Some (Settle verdict) ∷ []
+settle_where false verdict = []
+
+abbrev pub IsJobEnd : Job → Bool → ℕ → ActOutcome → List PathStep → JobOutcome → Type 0
+IsJobEnd job forward left last steps out =
+    (map act_of steps ≡ settle_where (forward && decides job (job_outcome job left last)) (verdict_of job left last)) × (out ≡ job_outcome job left last)
+
+-- which message of a job follows one behind which so many may come
+abbrev pub next_by : Go → ℕ → Option ℕ
+next_by On left = Some left
+next_by Last left = Some zero
+next_by Over left = None
+
+abbrev pub next_message : Job → ℕ → ActOutcome → Option ℕ
+next_message job zero out = None
+next_message job (suc left) out = next_by (goes job left out) left
+
+abbrev pub NextOr : Option ℕ → (ℕ → Type 0) → Type 0 → Type 0
+NextOr None more end = end
+NextOr (Some left) more end = more left
+
+-- its messages, one after the other
+abbrev pub AreMessages : Job → Bool → ℕ → List PathStep → JobOutcome → Type 0
+AreMessages job forward left [] out = ⊥
+AreMessages job forward left (Saw ask mark ∷ steps) out = ⊥
+AreMessages job forward left (Did act o ∷ steps) out =
+    (act ≡ Send job left) × NextOr (next_message job left o) (λ next. AreMessages job forward next steps out) (IsJobEnd job forward left o steps out)
+
+-- its line step
+abbrev pub IsLineStep : Job → Bool → List PathStep → JobOutcome → Type 0
+IsLineStep job forward [] out = ⊥
+IsLineStep job forward (Saw ask mark ∷ steps) out = ⊥
+IsLineStep job forward (Did act o ∷ steps) out = (act ≡ Shift job) × IsJobEnd job forward zero o steps out
+
+abbrev pub AtBus : Rule
+AtBus job forward steps out = MatchBool (is_line job) (IsLineStep job forward steps out) (AreMessages job forward (more_of job) steps out)
+
+-- FULL: the locks are taken, the job is done, and the locks are freed in reverse order
+pub record IsLocked (locks : List LockId) (on : Rule) (job : Job) (forward : Bool) (steps : List PathStep) (out : JobOutcome) : Type 0 where
+  pub takes : List PathStep
+  pub middle : List PathStep
+  pub frees : List PathStep
+  pub all : steps ≡ takes ++ (middle ++ frees)
+  pub taken : map act_of takes ≡ map (λ l. Some (Take l)) locks
+  pub job_done : on job forward middle out
+  pub freed : map act_of frees ≡ map (λ l. Some (Free l)) (reverse locks)
+
+-- INNER, behind a mux: where its bus carries a mark, the marked mux is closed; the channel is selected; the job is done on the
+-- mux's bus; the mux is deselected. Each part is a job of its own on that bus. A deselect is on no way to the messages
+pub record IsOpened (h : Hop) (on : Rule) (job : Job) (forward : Bool) (steps : List PathStep) (out : JobOutcome) : Type 0 where
+  pub done : List PathStep
+  pub deselected : List PathStep
+  pub last : JobOutcome
+  pub all : steps ≡ done ++ deselected
+  pub job_done : on job forward done out
+  pub deselect_done : on (Clear h.on h.mux h.kind) false deselected last
+
+-- the job goes on only where the select was good: without it, neither the job is done nor the mux is deselected
+abbrev pub IfGood : JobOutcome → Type 0 → List PathStep → JobOutcome → Type 0
+IfGood Good goes_on rest out = goes_on
+IfGood Refused goes_on rest out = (rest ≡ []) × (out ≡ Unsent)
+IfGood Unsent goes_on rest out = (rest ≡ []) × (out ≡ Unsent)
+IfGood Failed goes_on rest out = (rest ≡ []) × (out ≡ Failed)
+
+pub record IsChosen (h : Hop) (on : Rule) (job : Job) (forward : Bool) (steps : List PathStep) (out : JobOutcome) : Type 0 where
+  pub selected : List PathStep
+  pub rest : List PathStep
+  pub came : JobOutcome
+  pub all : steps ≡ selected ++ rest
+  pub select_done : on (Select h) forward selected came
+  pub goes_on : IfGood came (IsOpened h on job forward rest out) rest out
+
+-- and only where the close was sent and didn't fail by the port, acknowledged or not
+abbrev pub IfSent : JobOutcome → Type 0 → List PathStep → JobOutcome → Type 0
+IfSent Good goes_on rest out = goes_on
+IfSent Refused goes_on rest out = goes_on
+IfSent Unsent goes_on rest out = (rest ≡ []) × (out ≡ Unsent)
+IfSent Failed goes_on rest out = (rest ≡ []) × (out ≡ Failed)
+
+abbrev pub IsClosed : BoardView → Hop → Rule → Bool → Option ℕ → List PathStep → JobOutcome → Type 0
+IsClosed b h on forward None closed came = (closed ≡ []) × (came ≡ Good)
+IsClosed b h on forward (Some m) closed came = on (Clear h.on m (kind_of b m)) forward closed came
+
+pub record IsBehindMux (b : BoardView) (h : Hop) (on : Rule) (job : Job) (forward : Bool) (steps : List PathStep) (out : JobOutcome) : Type 0 where
+  pub mark : Option ℕ
+  pub closed : List PathStep
+  pub rest : List PathStep
+  pub came : JobOutcome
+  pub all : steps ≡ Saw (MarkOf h.on) mark ∷ (closed ++ rest)
+  pub close_done : IsClosed b h on forward mark closed came
+  pub goes_on : IfSent came (IsChosen h on job forward rest out) rest out
+
+-- on the bus of a parent-locked mux the part is the inner one, on that of a mux-locked mux the full one
+abbrev pub IsPart : Bool → List LockId → Rule → Rule
+IsPart true locks on = on
+IsPart false locks on = IsLocked locks on
+
+-- at a root, and of a line step on any bus, it is the job itself
+abbrev pub IsInner : BoardView → ℕ → List Hop → Rule
+IsInner b root [] job forward steps out = AtBus job forward steps out
+IsInner b root (h ∷ hs) job forward steps out =
+    MatchBool (is_line job) (AtBus job forward steps out) (IsBehindMux b h (IsPart h.parent (locks_of root hs) (IsInner b root hs)) job forward steps out)
+
+abbrev pub IsFull : BoardView → ℕ → List Hop → Rule
+IsFull b root hs = IsLocked (locks_of root hs) (IsInner b root hs)
+
+-- THE WALK OF A TRANSFER: the full one of its messages on its bus; one settle where it is refused
+abbrev pub IsWalkBy : BoardView → TransferView → Option Errno → List PathStep → Type 0
+IsWalkBy b t (Some e) steps = map act_of steps ≡ Some (Settle (Some e)) ∷ []
+IsWalkBy b t None steps = (out : JobOutcome) × IsFull b (root_of b t.bus) (hops b t.bus) (Call t.bus (messages_of t)) true steps out
+
+abbrev pub IsWalk : BoardView → TransferView → List PathStep → Type 0
+IsWalk b t steps = IsWalkBy b t (refusal b t) steps
+
+-- THE STEPS OF A CALLER. A look is answered by what is known of its bus where the next entry stands; an entry is the step that
+-- is done there, tells all of it, and what came of it
+abbrev pub TellsAct : BoardView → Now → Act → Entry → Type 0
+TellsAct b n act e = Tells b n (Then act plain (λ o. Ends)) e
+
+abbrev pub AreTold : BoardView → List PathStep → List Step → Type 0
+AreTold b [] steps = steps ≡ []
+AreTold b (Saw (MarkOf p) mark ∷ ps) [] = ⊥
+AreTold b (Saw (MarkOf p) mark ∷ ps) (s ∷ steps) = (mark ≡ mark_in (s.before.slot p).slot) × AreTold b ps (s ∷ steps)
+AreTold b (Did act out ∷ ps) [] = ⊥
+AreTold b (Did act out ∷ ps) (s ∷ steps) = TellsAct b s.before act s.entry × (out ≡ outcome_of s.entry) × AreTold b ps steps
+
+abbrev pub first_done : List PathStep → Option Act
+first_done [] = None
+first_done (Saw ask mark ∷ ps) = None
+first_done (Did act out ∷ ps) = Some act
+
+-- they are the walks of what the caller asks for, one after the other, each behind the replies of those before; the last one
+-- may be the front of a walk, which doesn't end before a settle
+pub data AreTransfers (b : BoardView) (asks : List Reply → Option TransferView) : List Reply → List Step → Type 0 where
+  no_more : (rs : List Reply) → AreTransfers b asks rs []
+  one_more : (rs : List Reply) (t : TransferView) (walk : List PathStep) (mine rest all : List Step) (r : Reply)
+      → asks rs ≡ Some t → IsWalk b t walk → AreTold b walk mine → replies_in mine ≡ r ∷ []
+      → AreTransfers b asks (rs ++ r ∷ []) rest → all ≡ mine ++ rest → AreTransfers b asks rs all
+  under_way : (rs : List Reply) (t : TransferView) (front rest : List PathStep) (mine : List Step)
+      → asks rs ≡ Some t → IsWalk b t (front ++ rest) → AreTold b front mine → is_due (first_done rest) ≡ false
+      → AreTransfers b asks rs mine

@@ -1,0 +1,47 @@
+//! The walk tree, which says what comes next, has the paths that the walk rule lists whole.
+ghost use Rattle.std.specs.Prelude.{◌↔◌, ℕ, List, [], ◌++◌, Option};
+ghost use Rattle.i2c_base.specs.declared.entry.Entry.{Entry};
+ghost use Rattle.i2c_base.specs.declared.reply.Reply.{Reply};
+ghost use Rattle.i2c_base.specs.Board.{BoardView};
+ghost use Rattle.i2c_base.specs.Transfer.{TransferView};
+ghost use Rattle.i2c_spec.specs.Tree.{Hop};
+ghost use Rattle.i2c_spec.specs.History.{Asks};
+ghost use Rattle.bus_spec.specs.Walk.{Job, JobOutcome, Note, WalkTree, Ends};
+ghost use Rattle.bus_spec.specs.Grammar.{full, inner, walk_for};
+ghost use Rattle.bus_spec.specs.Legal.{Step, AreWalks, steps_in, KeepsWalks};
+ghost use Rattle.journal_laws.specs.Paths.{PathStep, IsPath, IsDoneBy};
+ghost use Rattle.journal_laws.specs.WalkRule.{IsFull, IsInner, IsWalk, AreTransfers};
+
+/// A job with locks of its own takes all of them, in the order of `locks_of`, before anything else; then comes the whole
+/// of the job; then the same locks are freed, the last one taken first.
+///
+/// It is so on each path to the end of the walk, whatever its looks are answered and whatever comes of its steps, with no
+/// premise. One whose locks are held goes through its four parts: the close of a marked mux, the select, the job on the bus
+/// before the mux, the deselect.
+pub fn a_job_stands_between_its_locks()
+    ensures full { (b : BoardView) (root : ℕ) (hs : List Hop) (job : Job) (note : Note) (k : JobOutcome → WalkTree) (steps : List PathStep)
+        → IsPath steps (full b root hs job note k) Ends → IsDoneBy (IsFull b root hs) job note k steps }
+    ensures inner { (b : BoardView) (root : ℕ) (hs : List Hop) (job : Job) (note : Note) (k : JobOutcome → WalkTree) (steps : List PathStep)
+        → IsPath steps (inner b root hs job note k) Ends → IsDoneBy (IsInner b root hs) job note k steps }
+{}
+
+/// The paths of a transfer's walk are exactly the lists of the walk rule; those that end on the way are exactly their fronts.
+///
+/// No premise is needed.
+pub fn each_walk_keeps_the_walk_rule()
+    ensures whole { (b : BoardView) (t : TransferView) (steps : List PathStep) → IsPath steps (walk_for b t) Ends ↔ IsWalk b t steps }
+    ensures front { (b : BoardView) (t : TransferView) (steps : List PathStep)
+        → ((left : WalkTree) × IsPath steps (walk_for b t) left) ↔ ((rest : List PathStep) × IsWalk b t (steps ++ rest)) }
+{}
+
+/// The entries of a caller are walks of the tree exactly where they are, one after the other, what the walk rule lists for
+/// what the caller asks for next, the last one maybe a front. So a journal keeps its walks exactly where each caller's entries
+/// do.
+///
+/// No premise is needed.
+pub fn a_journal_keeps_the_walk_rule()
+    ensures caller { (b : BoardView) (asks : List Reply → Option TransferView) (replies : List Reply) (steps : List Step)
+        → AreWalks b asks replies steps ↔ AreTransfers b asks replies steps }
+    ensures journal { (b : BoardView) (asks : Asks) (past : List Entry)
+        → KeepsWalks b asks past ↔ ((c : ℕ) → AreTransfers b (asks c) [] (steps_in b asks c past)) }
+{}
