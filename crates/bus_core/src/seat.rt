@@ -2,12 +2,11 @@ ghost use Rattle.std.specs.Prelude.{◌≡◌, ◌≢◌, ◌+◌, ◌<◌, ◌�
 ghost use Rattle.i2c_base.specs.Limits.{MOST_BYTES};
 ghost use Rattle.i2c_base.specs.declared.reply.Cut.TheVariants as cut_at;
 ghost use Rattle.i2c_base.specs.declared.entry.Purpose.TheVariants as purpose;
-ghost use Rattle.std.specs.List.{list_any};
 ghost use Rattle.i2c_base.specs.Board.{BoardView};
 ghost use Rattle.i2c_base.specs.declared.reply.Reply.{Reply};
 ghost use Rattle.i2c_base.specs.Fitting.{Fits};
 ghost use Rattle.i2c_base.specs.Need.{Covers};
-ghost use Rattle.i2c_base.specs.Transfer.{IsTransfer, TransferView, written_of, is_read};
+ghost use Rattle.i2c_base.specs.Transfer.{IsTransfer, TransferView, written_of};
 ghost use Rattle.i2c_spec.specs.Messages.{messages_of};
 ghost use Rattle.i2c_spec.specs.Tree.{buses, root_of};
 ghost use Rattle.bus_spec.specs.Grammar.{is_over, first_note, seen, walk_for};
@@ -30,7 +29,7 @@ ghost use Rattle.bus_core.specs.Seats.{MayEnd, HasEnded, MayHear, got_heard};
 
 use crate::replies::{Decided, Replies};
 use bus_message::{CallOf, Sending, Sent};
-use i2c_base::{Caller, Cut, End, Errno, Grant, Kind, Msg, Purpose, Reply, SegId, Transfer};
+use i2c_base::{Caller, Cut, End, Errno, Grant, Kind, Purpose, Reply, SegId, Transfer};
 use i2c_board::Accepted;
 use i2c_outside::Port;
 use mux_plan::{Action, Dues, Outcome, Walk};
@@ -55,20 +54,6 @@ pub struct Seat<C> {
     pub decided: Option<Decided>,
     /// Where a failed call on the port cut it off, as the caller's last entry tells.
     pub cut: Cut,
-}
-
-// How many bytes a message writes.
-fn written_len(msg: &Msg) -> u16
-    ensures { result ≡ written_of msg.now }
-{
-    if msg.is_read() { 0 } else { msg.len }
-}
-
-// One of its messages reads.
-fn reads(transfer: &Transfer) -> bool
-    ensures { result ≡ list_any is_read transfer.now.msgs }
-{
-    transfer.msgs().iter().any(Msg::is_read)
 }
 
 // The cut that a message tells for a settle directly behind it: where the transfer was cut off by a failed call on
@@ -220,7 +205,7 @@ impl<C: Caller> Seat<C> {
         ensures same { self.new ≡ record self.old { sent = self.new.sent; written = self.new.written } }
     {
         let msg = self.transfer.msgs()[usize::from(self.sent)];
-        self.written += written_len(&msg);
+        self.written += msg.written();
         self.sent += 1;
     }
 
@@ -266,7 +251,7 @@ impl<C: Caller> Seat<C> {
                 Decided::Failed
             }
             None => {
-                if reads(&self.transfer) {
+                if self.transfer.reads() {
                     Decided::Read
                 } else {
                     Decided::Done

@@ -5,7 +5,7 @@ ghost use Rattle.core_laws.specs.Sends.{call_message, ends_with, is_call_through
 ghost use Rattle.bus_message.specs.Talks.{IsSendable};
 
 use crate::message::Message;
-use i2c_base::{Addr, End, Grant, Msg, Node, Purpose, SegId, Transfer};
+use i2c_base::{Addr, End, Grant, Node, Purpose, SegId, Transfer};
 use std::marker::Model;
 
 /// A message that a walk sends next. A contract sees the record of these parts.
@@ -87,13 +87,6 @@ fn part(bytes: &[u8], start: usize, len: usize) -> &[u8]
     part
 }
 
-// How many bytes a message writes.
-fn written_len(msg: &Msg) -> u16
-    ensures { result ≡ written_of msg.now }
-{
-    if msg.is_read() { 0 } else { msg.len }
-}
-
 impl<'a> CallOf<'a> {
     /// The next message of its transfer.
     pub fn message(&self) -> Message<'_>
@@ -103,7 +96,7 @@ impl<'a> CallOf<'a> {
         ensures sendable { (limit : ℕ) → 1 ≤ limit → limit ≤ LARGEST_BLOCK → IsSendable limit result }
     {
         let msg = self.transfer.msgs()[usize::from(self.sent)];
-        let len = written_len(&msg);
+        let len = msg.written();
         Message {
             addr: msg.addr,
             reading: msg.is_read(),

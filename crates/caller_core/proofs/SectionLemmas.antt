@@ -9,7 +9,8 @@ use Rattle.i2c_spec.specs.Flat.{block_limit}
 use Rattle.bus_journal.specs.Reports.{IsLine, ended, IsSectionLine, HasNoJournalLine}
 use Rattle.bus_journal.proofs.LineFeeds.{line-append}
 use Rattle.tool_words.specs.Commands.{line_read}
-use Rattle.tool_words.specs.Fronts.{is_blank, begins_word, begins_feed, onto_first, words_of, behind_space, joined_words, lines_of}
+use Rattle.tool_words.specs.Words.{begins_with_word, onto_first}
+use Rattle.tool_words.specs.Fronts.{is_blank, begins_feed, words_of, behind_space, joined_words, lines_of}
 use Rattle.tool_words.specs.declared.cmd.Cmd.{Cmd}
 use Rattle.tool_run.specs.Tools.{answer_text, is_over}
 use Rattle.tool_run.proofs.ToolLemmas.{answer_line}
@@ -49,9 +50,9 @@ words_are_lines [] h = All-nil IsLine
 words_are_lines (b ∷ bs) h =
     let p : IsOnto b bs = first_and_rest b bs h in
     let more : All IsLine (words_of bs) = words_are_lines bs p.rest in
-    elim (is_blank b) as (λ t. All IsLine (cond t (words_of bs) (cond (begins_word bs) (onto_first b (words_of bs)) ((b ∷ []) ∷ words_of bs)))) [
+    elim (is_blank b) as (λ t. All IsLine (cond t (words_of bs) (cond (begins_with_word is_blank bs) (onto_first b (words_of bs)) ((b ∷ []) ∷ words_of bs)))) [
       | true ↦ more
-      | false ↦ elim (begins_word bs) as (λ t. All IsLine (cond t (onto_first b (words_of bs)) ((b ∷ []) ∷ words_of bs))) [
+      | false ↦ elim (begins_with_word is_blank bs) as (λ t. All IsLine (cond t (onto_first b (words_of bs)) ((b ∷ []) ∷ words_of bs))) [
         | true ↦ onto_lines b (words_of bs) p.first more
         | false ↦ All-cons IsLine (b ∷ []) (words_of bs) (or_from _ _ p.first refl) more
       ]

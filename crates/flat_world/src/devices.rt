@@ -7,7 +7,7 @@ ghost use Rattle.i2c_spec.specs.Flat as flat;
 ghost use Rattle.i2c_spec.specs.Layouts.{board_of};
 ghost use Rattle.i2c_spec.specs.Plain.{IsPlainBoard};
 ghost use Rattle.i2c_spec.specs.Targets.{opening_state};
-ghost use Rattle.i2c_spec.specs.World.{byte_of, feed, has_heard, is_ack};
+ghost use Rattle.i2c_spec.specs.World.{feed, has_heard, is_ack};
 ghost use Rattle.flat_world.specs.Devices.{AreNamed, add_once, answer_in, behind_start, started, to_others};
 
 use arrayvec::ArrayVec;
@@ -104,7 +104,7 @@ impl Devices {
         ensures after { self.new ≡ behind_start.after self.old (call.Get ack) }
     {
         let answer = tell(&mut self.states, self.current, Event::Get { ack });
-        sent(answer)
+        answer.sent()
     }
 
     /// A stop goes to all that were named. A call that fails acts as one.
@@ -204,15 +204,5 @@ fn acknowledged(answer: Answer) -> Answer
     match answer {
         Answer::Ack | Answer::Slow => answer,
         Answer::Nack | Answer::Byte(_) | Answer::Nothing => Answer::Nack,
-    }
-}
-
-/// The byte that a device sends, which is all ones where it sends none.
-fn sent(answer: Answer) -> u8
-    ensures { result ≡ byte_of answer }
-{
-    match answer {
-        Answer::Byte(byte) => byte,
-        Answer::Ack | Answer::Nack | Answer::Slow | Answer::Nothing => 0xff,
     }
 }

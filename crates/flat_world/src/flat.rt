@@ -1,6 +1,4 @@
 ghost use Rattle.std.specs.Prelude.{◌≡◌, IfOk};
-ghost use Rattle.std.specs.List.{list_any};
-ghost use Rattle.i2c_base.specs.Transfer.{is_read};
 ghost use Rattle.i2c_spec.specs.Flat as spec;
 ghost use Rattle.i2c_spec.specs.Layouts.{board_of};
 ghost use Rattle.i2c_spec.specs.Plain.{IsPlainBoard};
@@ -9,7 +7,7 @@ ghost use Rattle.flat_world.specs.Worlds.{opened};
 use crate::devices::Devices;
 use crate::site::Site;
 use crate::transfer::send_all;
-use i2c_base::{Bytes, Cut, End, Errno, Msg, NoMemory, Reply, SegId, Transfer, Way};
+use i2c_base::{Bytes, Cut, End, Errno, NoMemory, Reply, SegId, Transfer, Way};
 use i2c_board::Accepted;
 use i2c_outside::DeviceState;
 use i2c_spec::{Layout, errno_of, refusal};
@@ -91,16 +89,9 @@ fn reply_of(transfer: &Transfer, end: End, got: Bytes) -> Reply
     if let Some(errno) = errno_of(end) {
         return Reply::Err(errno);
     }
-    if reads(transfer) {
+    if transfer.reads() {
         Reply::Read(got)
     } else {
         Reply::Done
     }
-}
-
-/// One of its messages reads.
-fn reads(transfer: &Transfer) -> bool
-    ensures { result ≡ list_any is_read transfer.now.msgs }
-{
-    transfer.msgs().iter().any(Msg::is_read)
 }

@@ -12,7 +12,7 @@ ghost use Rattle.flat_world.specs.Sending.{all_with};
 use crate::devices::Devices;
 use crate::message::send;
 use crate::site::Site;
-use i2c_base::{Bytes, Cut, End, Msg, Transfer};
+use i2c_base::{Bytes, Cut, End, Transfer};
 
 /// Sends the messages of a transfer, one after the other, until one doesn't go through. How the last one ended; what
 /// they read is put into `got`.
@@ -30,7 +30,7 @@ pub fn send_all(
     let msgs = transfer.msgs();
     let mut rest = transfer.out();
     for (i, msg) in msgs.iter().enumerate() {
-        let (bytes, behind) = rest.split_at(written(msg));
+        let (bytes, behind) = rest.split_at(usize::from(msg.written()));
         rest = behind;
         let last = i + 1 == msgs.len();
         let end = send(
@@ -57,13 +57,6 @@ fn is_good(end: End) -> bool
         End::Ok => true,
         End::Nack | End::Slow | End::Refused | End::Proto | End::Cut(_) => false,
     }
-}
-
-/// How many bytes a message writes.
-fn written(msg: &Msg) -> usize
-    ensures { result ≡ written_of msg.now }
-{
-    if msg.is_read() { 0 } else { msg.len as usize }
 }
 
 /// The place of failure in message `i`.

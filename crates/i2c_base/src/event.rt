@@ -1,5 +1,5 @@
 ghost use Rattle.std.specs.Prelude.{◌≡◌};
-ghost use Rattle.i2c_base.specs.Table.{Table};
+ghost use Rattle.i2c_base.specs.Table.{Table, byte_of};
 
 /// What a target sees of the wires, a byte at a time (UM10204 section 3.1).
 #[derive(Clone, Copy)]
@@ -24,6 +24,18 @@ pub enum Answer {
     Slow,
     Byte(u8),
     Nothing,
+}
+
+impl Answer {
+    /// The byte that it puts on the wires, which is all ones where it sends none.
+    pub fn sent(self) -> u8
+        ensures { result ≡ byte_of self }
+    {
+        match self {
+            Answer::Byte(byte) => byte,
+            Answer::Ack | Answer::Nack | Answer::Slow | Answer::Nothing => 0xff,
+        }
+    }
 }
 
 /// Something on the wires with an address of its own.

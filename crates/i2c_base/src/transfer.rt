@@ -27,7 +27,7 @@ pub struct Msg {
 }
 
 impl Msg {
-    ghost use Rattle.i2c_base.specs.Transfer.{is_read, is_counted, size_of};
+    ghost use Rattle.i2c_base.specs.Transfer.{is_read, is_counted, size_of, written_of};
 
     /// It is a read.
     pub fn is_read(&self) -> bool
@@ -41,6 +41,13 @@ impl Msg {
         ensures { result ≡ is_counted self.now }
     {
         self.flags.contains(MsgFlags::RECV_LEN)
+    }
+
+    /// How many bytes it writes.
+    pub fn written(&self) -> u16
+        ensures { result ≡ written_of self.now }
+    {
+        if self.is_read() { 0 } else { self.len }
     }
 
     /// How many bytes it stands for in the sum of its transfer.
@@ -84,7 +91,8 @@ impl Model for Transfer {
 }
 
 impl Transfer {
-    ghost use Rattle.i2c_base.specs.Transfer.{HasRoom, IsTransfer, with_message, written, plain_read, counted_read, COUNTED_SIZE};
+    ghost use Rattle.std.specs.List.{list_any};
+    ghost use Rattle.i2c_base.specs.Transfer.{HasRoom, IsTransfer, with_message, written, plain_read, counted_read, is_read, COUNTED_SIZE};
 
     /// A transfer with no message yet. With `force` it goes to devices that a driver is bound to as well.
     pub fn new(bus: u16, kind: Kind, force: bool) -> Self
@@ -198,6 +206,13 @@ impl Transfer {
         ensures kept { IsTransfer self.now.msgs self.now.out }
     {
         self.msgs.as_slice()
+    }
+
+    /// One of its messages reads.
+    pub fn reads(&self) -> bool
+        ensures { result ≡ list_any is_read self.now.msgs }
+    {
+        self.msgs().iter().any(Msg::is_read)
     }
 
     /// The bytes of its writes, one after the other.

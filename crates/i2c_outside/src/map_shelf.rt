@@ -1,10 +1,9 @@
 ghost use Rattle.std.specs.Prelude.{◌≡◌, ◌≢◌, ◌↔◌, ℕ, ◌^◌, ◌≤◌, true, List, Some, Err, IfOk, OnErr, IsTrue, map, length, replicate, slice_get, slice_index, slice_set, string_bytes};
 ghost use Rattle.i2c_outside.specs.Causes.{Rose, counted};
 ghost use Rattle.i2c_outside.specs.Shelves.{held, is_refused};
-ghost use Rattle.i2c_outside.specs.Sinks.{is_listed};
 
 use crate::shelf::{LARGEST, PLACES};
-use crate::{ReadFail, Shelf};
+use crate::{ReadFail, Shelf, is_listed};
 use std::alloc::Global;
 use std::collections::BTreeMap;
 
@@ -39,15 +38,6 @@ impl MapShelf {
     {
         self.faults[usize::from(place)]
     }
-
-    /// The next read is to fail, whatever it reads.
-    fn is_told_to_fail(&self) -> bool
-        ensures { result ≡ is_listed self.now.fails.items self.now.reads }
-    {
-        self.fails
-            .iter()
-            .any(|number| u64::from(*number) == self.reads)
-    }
 }
 
 impl Shelf for MapShelf {
@@ -78,7 +68,7 @@ impl Shelf for MapShelf {
         ensures fault { result ≡ Err ReadFail.Failed → self.new.faults ≡ slice_set self.old.faults place (counted (slice_index self.old.faults place)) }
         ensures calm { result ≢ Err ReadFail.Failed → self.new.faults ≡ self.old.faults }
     {
-        let told_to_fail = self.is_told_to_fail();
+        let told_to_fail = is_listed(self.fails.as_slice(), self.reads);
         self.reads = self.reads.saturating_add(1);
         match self.files.get(name) {
             Some(bytes) if !told_to_fail && bytes.len() <= LARGEST => {

@@ -1,8 +1,8 @@
 ghost use Rattle.std.specs.Prelude.{◌≡◌, ◌↔◌, ◌-◌, ◌<◌, ◌≤◌, ◌++◌, [], true, IfOk, OnOk, OnErr, IsOk, length, min, take};
 ghost use Rattle.i2c_outside.specs.Causes.{HasCause, counted};
-ghost use Rattle.i2c_outside.specs.Sinks.{taken_of, is_listed};
+ghost use Rattle.i2c_outside.specs.Sinks.{taken_of};
 
-use crate::{Failed, Sink};
+use crate::{Failed, Sink, is_listed};
 use i2c_base::NoMemory;
 use std::alloc::Global;
 use std::marker::Model;
@@ -56,15 +56,6 @@ impl VecSink {
         self.faults
     }
 
-    /// The next write is to fail, whatever its piece.
-    fn is_told_to_fail(&self) -> bool
-        ensures { result ≡ is_listed self.now.fails self.now.writes }
-    {
-        self.fails
-            .iter()
-            .any(|number| u64::from(*number) == self.writes)
-    }
-
     /// How many bytes fit, of so many.
     fn fitting(&self, count: usize) -> usize
         ensures { result ≡ min count (self.now.size - length self.now.bytes) }
@@ -98,7 +89,7 @@ impl Sink for VecSink {
         ensures calm { OnOk result (self.new.faults ≡ self.old.faults) }
         ensures fault { OnErr result (self.new.faults ≡ counted self.old.faults) }
     {
-        let count = if self.is_told_to_fail() {
+        let count = if is_listed(self.fails.as_slice(), self.writes) {
             0
         } else {
             self.fitting(piece.len())

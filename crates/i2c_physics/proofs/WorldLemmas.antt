@@ -9,10 +9,10 @@ use Rattle.i2c_base.specs.declared.ids.Node.TheVariants as node
 use Rattle.i2c_base.specs.declared.event.Event.{Event}
 use Rattle.i2c_base.specs.declared.event.Event.TheVariants as event
 use Rattle.i2c_base.specs.declared.event.Answer.{Answer}
-use Rattle.i2c_base.specs.Table.{Table}
+use Rattle.i2c_base.specs.Table.{Table, byte_of}
 use Rattle.i2c_spec.specs.Chips.{ChipView, chip_table}
 use Rattle.i2c_spec.specs.Targets.{TargetState, state_table}
-use Rattle.i2c_spec.specs.World.{World, answers, answer_with, has_heard, heard_of, hearers, start_chips, start_devices, and_of, byte_of, gives, to_chips, to_devices, is_chip, is_device}
+use Rattle.i2c_spec.specs.World.{World, answers, answer_with, has_heard, heard_of, hearers, start_chips, start_devices, and_of, gives, to_chips, to_devices, is_chip, is_device}
 use Rattle.i2c_spec.proofs.StateLemmas.{gives-same}
 use Rattle.i2c_physics.specs.Heard.{numbers_of, nodes_of}
 use Rattle.i2c_physics.specs.Places.{event_if}

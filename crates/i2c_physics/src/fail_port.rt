@@ -11,7 +11,7 @@ use crate::SimPort;
 use crate::room::Returned;
 use i2c_base::{Addr, Answer, MuxId, PortCall, SegId};
 use i2c_board::Accepted;
-use i2c_outside::{DeviceState, Failed, Port};
+use i2c_outside::{DeviceState, Failed, Port, is_listed};
 use std::alloc::{AllocError, Global};
 use std::marker::Model;
 
@@ -50,8 +50,7 @@ impl FailPort {
     fn fails_next(&self) -> bool
         ensures { result ≡ fails_next self.now }
     {
-        let number = self.sim.calls();
-        self.fails.iter().any(|listed| *listed as usize == number)
+        is_listed(self.fails.as_slice(), self.sim.calls() as u64)
     }
 }
 

@@ -1,7 +1,7 @@
 ghost use Rattle.std.specs.Prelude.{◌≡◌, ℕ, ◌+◌, ◌<◌, ◌≤◌, List, [], ◌∷◌, length, if◌then◌else◌};
 ghost use Rattle.i2c_base.specs.declared.event.Event.TheVariants as event;
 ghost use Rattle.i2c_base.specs.declared.event.Answer.{Answer};
-ghost use Rattle.i2c_spec.specs.World.{answers, feed, byte_of, has_heard};
+ghost use Rattle.i2c_spec.specs.World.{answers, feed, has_heard};
 ghost use Rattle.i2c_base.specs.Limits.{MOST_DEVICES};
 ghost use Rattle.i2c_physics.specs.Heard.{numbers_of};
 ghost use Rattle.i2c_physics.specs.Reach.{AreRising, to_those, union_of};
@@ -37,7 +37,7 @@ impl Together {
     fn add(&mut self, answer: Answer)
         ensures { (k : ℕ) (xs : List (ℕ × Answer)) → self.old ≡ together_of xs → self.new ≡ together_of ((k, answer) ∷ xs) }
     {
-        self.byte = sent(answer) & self.byte;
+        self.byte = answer.sent() & self.byte;
         match answer {
             Answer::Ack => self.acked = true,
             Answer::Slow => self.slow = true,
@@ -57,16 +57,6 @@ fn hear(heard: &mut Numbers, number: u16, answer: Answer)
         Answer::Ack | Answer::Slow if heard.len() == 0 => heard.push(number),
         Answer::Ack | Answer::Slow => heard.insert(0, number),
         Answer::Nack | Answer::Byte(_) | Answer::Nothing => {}
-    }
-}
-
-/// The byte that a target puts on the wires, which is all ones where it sends none.
-fn sent(answer: Answer) -> u8
-    ensures { result ≡ byte_of answer }
-{
-    match answer {
-        Answer::Byte(byte) => byte,
-        Answer::Ack | Answer::Nack | Answer::Slow | Answer::Nothing => 0xff,
     }
 }
 

@@ -14,8 +14,8 @@ use Rattle.i2c_base.specs.declared.event.Answer.{Answer}
 use Rattle.i2c_base.specs.declared.event.Answer.TheVariants as answer
 use Rattle.i2c_spec.specs.Plain.{IsPlainRun, IsPlainDevice}
 use Rattle.i2c_spec.specs.Regs.{is_too_long}
+use Rattle.i2c_base.specs.Table.{byte_of}
 use Rattle.i2c_spec.specs.Targets.{TargetState, Eeprom, Lm75, Regs, Smbus, Silent, state_table, state_after, state_answer, state_sends, state_hold, IsQuiet, IsAckOrNack, IsStartAnswer, IsFairTable, HoldsBytes, IsByteEvent, KeepsBytes, FitsKind, row_of_kind, opening_state}
-use Rattle.i2c_spec.specs.World.{byte_of}
 use Rattle.i2c_spec.proofs.ByteLemmas.{RunsHoldBytes}
 use Rattle.i2c_spec.proofs.EepromLemmas.{eeprom_fair, eeprom_keep_bytes, eeprom_opening-quiet, eeprom_opening-bytes}
 use Rattle.i2c_spec.proofs.Lm75Lemmas.{lm75_fair, lm75_keep_bytes, lm75_opening-bytes}

@@ -27,7 +27,8 @@ use Rattle.i2c_base.specs.Transfer.{TransferView, is_read}
 use Rattle.i2c_spec.specs.Tree.{buses, root_of}
 use Rattle.i2c_spec.specs.Grant.{grant_of, is_busy, named_of, way_of}
 use Rattle.i2c_spec.specs.Targets.{TargetState, state_table}
-use Rattle.i2c_spec.specs.World.{feed, has_heard, is_ack, byte_of}
+use Rattle.i2c_base.specs.Table.{byte_of}
+use Rattle.i2c_spec.specs.World.{feed, has_heard, is_ack}
 use Rattle.i2c_spec.specs.Messages.{messages_of}
 use Rattle.i2c_spec.specs.Conversation.{Listener, AllTold, talk_all}
 

@@ -13,7 +13,7 @@ use Rattle.i2c_base.specs.declared.event.Answer.TheVariants.{Ack, Nack, Slow, By
 use Rattle.i2c_base.specs.declared.port.PortCall.{PortCall}
 use Rattle.i2c_base.specs.declared.port.PortCall.TheVariants as call
 use Rattle.i2c_base.specs.Board.{BoardView}
-use Rattle.i2c_base.specs.Table.{Table}
+use Rattle.i2c_base.specs.Table.{Table, byte_of}
 use Rattle.i2c_spec.specs.Tree.{Hop, hops, root_of, of_device, is_absent, home_of_mux, addr_of_mux}
 use Rattle.i2c_spec.specs.Grant.{has_address}
 use Rattle.i2c_spec.specs.Chips.{ChipView, chip_table, chip_opening, is_open, at_level}
@@ -143,13 +143,6 @@ abbrev pub takes : World → ℕ → Bool
 takes w byte = some_answer is_ack (hearing_answers w (event.Put byte))
 
 -- a byte that is read is the bitwise AND of what is sent
-abbrev pub byte_of : Answer → ℕ
-byte_of (Byte byte) = byte
-byte_of Ack = 255
-byte_of Nack = 255
-byte_of Slow = 255
-byte_of Nothing = 255
-
 abbrev pub and_of : List (ℕ × Answer) → ℕ
 and_of [] = 255
 and_of (x ∷ xs) = bit_and (byte_of x.1) (and_of xs)

@@ -1,7 +1,6 @@
 ghost use Rattle.std.specs.Prelude.{◌≡◌, ◌≤◌, length};
 ghost use Rattle.std.specs.List.{list_any};
 ghost use Rattle.i2c_base.specs.Limits.{MOST_BYTES};
-ghost use Rattle.i2c_base.specs.Transfer.{is_read};
 ghost use Rattle.i2c_spec.specs.Flat as spec;
 ghost use Rattle.i2c_spec.specs.Grant.{grant_of, is_busy};
 ghost use Rattle.i2c_spec.specs.Layouts.{board_of};
@@ -83,18 +82,11 @@ pub fn done_with(transfer: &Transfer, got: &[u8]) -> Reply
     requires { length got.now ≤ MOST_BYTES }
     ensures { result ≡ spec.done_with transfer.now got.now }
 {
-    if reads(transfer) {
+    if transfer.reads() {
         let mut bytes = Bytes::new();
         bytes.extend(got);
         Reply::Read(bytes)
     } else {
         Reply::Done
     }
-}
-
-// One of its messages reads.
-fn reads(transfer: &Transfer) -> bool
-    ensures { result ≡ list_any is_read transfer.now.msgs }
-{
-    transfer.msgs().iter().any(Msg::is_read)
 }

@@ -1,6 +1,5 @@
 -- The words of a schedule, one after the other. The inductions go over its bytes.
-use Rattle.std.proofs.Common.{◌≡◌, ℕ, ◌+◌, ◌-◌, ◌<◌, ◌≤◌, Bool, true, false, List, [], ◌∷◌, ◌++◌, length, take, drop, Some, None, Result, Ok, Err, refl, sym, ap, subst, ◌∙◌, arith, cond, not, ◌&&◌, append_assoc}
-use Rattle.std.proofs.Common.{add-one}
+use Rattle.std.proofs.Common.{◌≡◌, ℕ, ◌+◌, ◌-◌, ◌<◌, ◌≤◌, Bool, true, false, List, [], ◌∷◌, ◌++◌, length, Some, None, Result, Ok, Err, refl, sym, ap, subst, ◌∙◌, arith, cond, ◌&&◌, append_assoc}
 use Rattle.std.proofs.lemmas.List.{length-append}
 use Rattle.std.specs.Prelude.{All, ◌↔◌, nat_le, nat_lt}
 use Rattle.std.proofs.lemmas.List.Elements.{All-push}
@@ -9,33 +8,7 @@ use Rattle.std.proofs.lemmas.Bool.{and_from, and_parts, leb-true, ltb-true, le-l
 use Rattle.std.proofs.lemmas.Fmt.{decimal_digit}
 use Rattle.std.proofs.lemmas.Option.{same_Some, none-some}
 use Rattle.i2c_base.specs.Limits.{MOST_CALLERS}
-use Rattle.i2c_top.specs.Schedules.{caller_named, is_white, starts_entry, in_front, entries_of, entry_len, caller_at, behind_callers, behind_entry, callers_from}
-
--- a text that begins with a word is that word and the words behind it
-glued : (s : Bool) (b m : ℕ) (bs : List ℕ) (ws : List (List ℕ)) → (s ≡ true → ws ≡ take m bs ∷ entries_of (drop m bs)) → (s ≡ false → m ≡ 0) → ws ≡ entries_of bs
-    → cond s (in_front b ws) ((b ∷ []) ∷ ws) ≡ take (m + 1) (b ∷ bs) ∷ entries_of (drop (m + 1) (b ∷ bs))
-glued true b m bs ws some none same = rw add-one (ap (in_front b) (some refl))
-glued false b m bs ws some none same = rw (add-one, none refl) (ap (λ x. (b ∷ []) ∷ x) same)
-
-none_len : (bs : List ℕ) → starts_entry bs ≡ false → entry_len bs ≡ 0
-none_len [] e = refl
-none_len (b ∷ bs) e =
-    (elim (is_white b) as (λ s. not s ≡ false → cond s 0 (entry_len bs + 1) ≡ 0) [ true ↦ λ h. refl | false ↦ λ h. cc ]) e
-
-pub entries_first : (xs : List ℕ) → starts_entry xs ≡ true → entries_of xs ≡ take (entry_len xs) xs ∷ entries_of (drop (entry_len xs) xs)
-entries_first [] e = cc
-entries_first (b ∷ bs) e =
-    (elim (is_white b) as (λ s. not s ≡ true
-    → cond s (entries_of bs) (cond (starts_entry bs) (in_front b (entries_of bs)) ((b ∷ []) ∷ entries_of bs))
-    ≡ take (cond s 0 (entry_len bs + 1)) (b ∷ bs) ∷ entries_of (drop (cond s 0 (entry_len bs + 1)) (b ∷ bs))) [
-      | true ↦ λ h. cc
-      | false ↦ λ h. glued (starts_entry bs) b (entry_len bs) bs (entries_of bs) (entries_first bs) (none_len bs) refl
-    ]) e
-
-pub some_entry : (xs : List ℕ) → starts_entry xs ≡ true → 0 < entry_len xs
-some_entry [] e = cc
-some_entry (b ∷ bs) e =
-    (elim (is_white b) as (λ s. not s ≡ true → 0 < cond s 0 (entry_len bs + 1)) [ true ↦ λ h. cc | false ↦ λ h. omega arith ]) e
+use Rattle.i2c_top.specs.Schedules.{caller_named, caller_at, behind_callers, behind_entry, callers_from}
 
 -- what stands in front of what is read
 behind_two : (cs : List ℕ) (c : ℕ) (r : Result (List ℕ) ℕ) → behind_callers cs (behind_callers (c ∷ []) r) ≡ behind_callers (cs ++ c ∷ []) r

@@ -1,35 +1,18 @@
 -- A schedule: words between white space, each the number of the caller that is to step.
-use Rattle.std.specs.Prelude.{⊤, ◌≡◌, ◌↔◌, ℕ, ◌+◌, ◌-◌, ◌<◌, ◌≤◌, ◌==◌, nat_le, nat_lt, Bool, false, not, ◌&&◌, ◌||◌, List, [], ◌∷◌, ◌++◌, Option, Some, None, Result, Ok, Err, if◌then◌else◌}
+use Rattle.std.specs.Prelude.{⊤, ◌≡◌, ◌↔◌, ℕ, ◌+◌, ◌-◌, ◌<◌, ◌≤◌, ◌==◌, nat_le, nat_lt, Bool, ◌&&◌, ◌||◌, List, [], ◌∷◌, ◌++◌, Option, Some, None, Result, Ok, Err, if◌then◌else◌}
 use Rattle.std.specs.Fmt.{decimal}
 use Rattle.i2c_base.specs.Limits.{MOST_CALLERS}
+use Rattle.tool_words.specs.Words.{words_between}
 use Rattle.i2c_top.specs.declared.schedule.ScheduleFault.{ScheduleFault}
 use Rattle.i2c_top.specs.declared.schedule.ScheduleFault.TheVariants as schedule_fault
 
--- a space, a tab, a line feed and a carriage return
+-- white space: a space, a tab, a line feed and a carriage return
 abbrev pub is_white : ℕ → Bool
 is_white b = (b == 32) || (b == 9) || (b == 10) || (b == 13)
 
-abbrev pub starts_entry : List ℕ → Bool
-starts_entry [] = false
-starts_entry (b ∷ bs) = not (is_white b)
-
--- a byte in front of the first word
-abbrev pub in_front : ℕ → List (List ℕ) → List (List ℕ)
-in_front b [] = (b ∷ []) ∷ []
-in_front b (w ∷ ws) = (b ∷ w) ∷ ws
-
 -- the words of a schedule: runs of bytes between white space
 abbrev pub entries_of : List ℕ → List (List ℕ)
-entries_of [] = []
-entries_of (b ∷ bs) =
-    if is_white b then entries_of bs
-    else if starts_entry bs then in_front b (entries_of bs)
-    else (b ∷ []) ∷ entries_of bs
-
--- so many bytes stand before the first white space
-abbrev pub entry_len : List ℕ → ℕ
-entry_len [] = 0
-entry_len (b ∷ bs) = if is_white b then 0 else entry_len bs + 1
+entries_of text = words_between is_white text
 
 -- there are so few callers that each number is one digit: the caller that a word names, among so many
 abbrev pub caller_named : ℕ → List ℕ → Option ℕ

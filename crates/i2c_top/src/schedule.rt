@@ -1,8 +1,9 @@
 ghost use Rattle.std.specs.Prelude.{◌≡◌, ◌<◌, ◌≤◌, ◌∷◌, true, length, All, Some, None, Ok, OnOk, OnErr, IfOk, IfErr, IfSome};
-ghost use Rattle.i2c_top.specs.Schedules.{is_white, starts_entry, entries_of, entry_len, caller_named, WordsAreNumbers, caller_at, schedule_read, MOST_ENTRIES, IsScheduleFault};
+ghost use Rattle.i2c_top.specs.Schedules.{is_white, caller_named, WordsAreNumbers, caller_at, schedule_read, MOST_ENTRIES, IsScheduleFault};
 ghost use Rattle.i2c_top.specs.declared.schedule.ScheduleFault.TheVariants as schedule_fault;
 
 use std::alloc::{AllocFailed, Global};
+use tool_words::{Gap, first_word, skip_gaps};
 
 /// The most words of a schedule.
 const MOST_ENTRIES: usize = 1_000_000;
@@ -23,52 +24,15 @@ impl<T: Drop> From<AllocFailed<T>> for ScheduleFault {
     }
 }
 
-fn is_white(byte: u8) -> bool
-    ensures { result ≡ is_white byte }
-{
-    byte == b' ' || byte == b'\t' || byte == b'\n' || byte == b'\r'
-}
+// The white space between the words of a schedule.
+struct White;
 
-// How long the word is with which a text begins.
-fn entry_len(text: &[u8]) -> usize
-    ensures value { result ≡ entry_len text.now }
-    ensures within { result ≤ length text.now }
-{
-    let mut len = 0;
-    for byte in text {
-        if is_white(*byte) {
-            return len;
-        }
-        len += 1;
+impl Gap for White {
+    ghost gaps = { is_white };
+
+    fn is_gap(byte: u8) -> bool {
+        byte == b' ' || byte == b'\t' || byte == b'\n' || byte == b'\r'
     }
-    len
-}
-
-// The word with which a text begins, and what stands behind it.
-#[tactic(auto, using(crate::proofs::ScheduleLemmas::entries_first, crate::proofs::ScheduleLemmas::some_entry))]
-fn first_entry(text: &[u8]) -> (&[u8], &[u8])
-    requires { starts_entry text.now ≡ true }
-    ensures split { entries_of text.now ≡ result.0.now ∷ entries_of result.1.now }
-    ensures shorter { length result.1.now < length text.now }
-{
-    let len = entry_len(text);
-    text.split_at(len)
-}
-
-// A text without the white space with which it begins.
-fn skip_white(text: &[u8]) -> &[u8]
-    ensures words { entries_of result.now ≡ entries_of text.now }
-    ensures begins { 0 < length result.now → starts_entry result.now ≡ true }
-    ensures within { length result.now ≤ length text.now }
-{
-    let mut rest = text;
-    while let Some((first, behind)) = rest.split_first() {
-        if !is_white(*first) {
-            return rest;
-        }
-        rest = behind;
-    }
-    rest
 }
 
 // The caller that a word names, among so many.
@@ -123,11 +87,11 @@ pub fn read_schedule(alloc: Global, text: &[u8], callers: u8) -> Result<Vec<u8>,
     ensures fault { IfErr result (IsScheduleFault (schedule_read callers text.now)) }
 {
     let mut words = Vec::new(alloc);
-    let mut rest = skip_white(text);
+    let mut rest = skip_gaps::<White>(text);
     while !rest.is_empty() {
-        let (word, behind) = first_entry(rest);
+        let (word, behind) = first_word::<White>(rest);
         words.push(next_caller(callers, words.len(), word)?)?;
-        rest = skip_white(behind);
+        rest = skip_gaps::<White>(behind);
     }
     Ok(words)
 }

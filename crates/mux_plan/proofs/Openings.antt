@@ -6,7 +6,7 @@ use Rattle.i2c_base.specs.declared.errno.Errno.{Errno}
 use Rattle.i2c_base.specs.Board.{BoardView}
 use Rattle.i2c_spec.specs.Tree.{Hop, locks_of}
 use Rattle.i2c_spec.specs.Messages.{MessageView}
-use Rattle.bus_spec.specs.Walk.{Job, Act, ActOutcome, JobOutcome, Good, Refused, Unsent, Failed, Note, WalkTree, Ends, Look, Then, MarkOf, Go, goes, is_line, more_of}
+use Rattle.bus_spec.specs.Walk.{Job, Act, ActOutcome, JobOutcome, Good, Note, WalkTree, Ends, Look, Then, MarkOf, Go, goes, is_line, more_of}
 use Rattle.bus_spec.specs.Walk as walk
 use Rattle.bus_spec.specs.Slots.{Slots, mark_in}
 use Rattle.bus_spec.specs.Grammar.{Doer, plain, over, by_go, locked, part, messages, at_bus, closing, chosen, behind, inner, seen, first_act, rest_of}

@@ -1,9 +1,10 @@
--- The first line and the first word of a text. The inductions go over its bytes.
-use Rattle.std.proofs.Common.{◌≡◌, ℕ, ◌+◌, ◌<◌, Bool, true, false, List, [], ◌∷◌, ◌++◌, length, take, drop, refl, sym, ap, ◌∙◌, arith, cond, eqb, ◌&&◌, not}
+-- The first line of a text. The inductions go over its bytes.
+use Rattle.std.proofs.Common.{◌≡◌, ℕ, ◌+◌, ◌<◌, Bool, true, false, List, [], ◌∷◌, ◌++◌, length, take, drop, refl, sym, ap, ◌∙◌, arith, cond, eqb, ◌&&◌}
 use Rattle.std.proofs.Common.{add-one, get_or}
 use Rattle.std.proofs.lemmas.Bool.Decides.{nat_tests}
 use Rattle.std.proofs.lemmas.List.{drop_more, drop_all, take_more}
-use Rattle.tool_words.specs.Fronts.{is_blank, begins_word, onto_first, words_of, word_len, lines_of, feed_at}
+use Rattle.tool_words.specs.Words.{onto_first}
+use Rattle.tool_words.specs.Fronts.{lines_of, feed_at}
 
 -- the bytes without a carriage return at their end
 abbrev without_return : List ℕ → List ℕ
@@ -84,32 +85,6 @@ pub cut_over : (xs : List ℕ) → feed_at xs ≡ length xs → 0 < length xs �
 cut_over xs is within =
     let rest : drop (feed_at xs) xs ≡ [] = ap (λ k. drop k xs) is ∙ drop_all (length xs) xs (omega arith) in
     cut_whole xs (take (feed_at xs) xs) (drop (feed_at xs) xs) within refl refl ∙ ap (cut (take (feed_at xs) xs)) rest ∙ ap (λ x. take (feed_at xs) xs ∷ lines_of x) (sym rest)
-
--- a text that begins with a word is that word and the words behind it
-glued : (s : Bool) (b m : ℕ) (bs : List ℕ) (ws : List (List ℕ)) → (s ≡ true → ws ≡ take m bs ∷ words_of (drop m bs)) → (s ≡ false → m ≡ 0) → ws ≡ words_of bs
-    → cond s (onto_first b ws) ((b ∷ []) ∷ ws) ≡ take (m + 1) (b ∷ bs) ∷ words_of (drop (m + 1) (b ∷ bs))
-glued true b m bs ws some none same = rw add-one (ap (onto_first b) (some refl))
-glued false b m bs ws some none same = rw (add-one, none refl) (ap (λ x. (b ∷ []) ∷ x) same)
-
-none_len : (bs : List ℕ) → begins_word bs ≡ false → word_len bs ≡ 0
-none_len [] e = refl
-none_len (b ∷ bs) e =
-    (elim (is_blank b) as (λ s. not s ≡ false → cond s 0 (word_len bs + 1) ≡ 0) [ true ↦ λ h. refl | false ↦ λ h. cc ]) e
-
-pub words_first : (xs : List ℕ) → begins_word xs ≡ true → words_of xs ≡ take (word_len xs) xs ∷ words_of (drop (word_len xs) xs)
-words_first [] e = cc
-words_first (b ∷ bs) e =
-    (elim (is_blank b) as (λ s. not s ≡ true
-    → cond s (words_of bs) (cond (begins_word bs) (onto_first b (words_of bs)) ((b ∷ []) ∷ words_of bs))
-    ≡ take (cond s 0 (word_len bs + 1)) (b ∷ bs) ∷ words_of (drop (cond s 0 (word_len bs + 1)) (b ∷ bs))) [
-      | true ↦ λ h. cc
-      | false ↦ λ h. glued (begins_word bs) b (word_len bs) bs (words_of bs) (words_first bs) (none_len bs) refl
-    ]) e
-
-pub some_len : (xs : List ℕ) → begins_word xs ≡ true → 0 < word_len xs
-some_len [] e = cc
-some_len (b ∷ bs) e =
-    (elim (is_blank b) as (λ s. not s ≡ true → 0 < cond s 0 (word_len bs + 1)) [ true ↦ λ h. cc | false ↦ λ h. omega arith ]) e
 
 feed_more : (b : ℕ) (bs ys : List ℕ) → ys ≡ b ∷ bs → eqb b 10 ≡ false → feed_at ys ≡ feed_at bs + 1
 feed_more b bs ys e h = ap feed_at e ∙ ap (λ s. cond s 0 (feed_at bs + 1)) h

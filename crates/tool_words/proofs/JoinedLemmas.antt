@@ -2,7 +2,8 @@
 use Rattle.std.proofs.Common.{◌≡◌, ℕ, inl, inr, Bool, true, false, cond, List, [], ◌∷◌, refl, sym, ap, subst, ◌∙◌}
 use Rattle.std.specs.Prelude.{◌==◌, ◌&&◌, ◌||◌, not}
 use Rattle.std.proofs.lemmas.Bool.Decides.{eqb_tells}
-use Rattle.tool_words.specs.Fronts.{is_blank, begins_word, onto_first, words_of, joined_words, is_joined}
+use Rattle.tool_words.specs.Words.{begins_with_word, onto_first}
+use Rattle.tool_words.specs.Fronts.{is_blank, words_of, joined_words, is_joined}
 
 -- a byte in front of the first word, and a word in front of the others
 onto_joined : (b : ℕ) (w : List ℕ) (ws : List (List ℕ)) → joined_words (onto_first b (w ∷ ws)) ≡ b ∷ joined_words (w ∷ ws)
@@ -18,8 +19,8 @@ record IsSame (b : ℕ) (bs : List ℕ) : Type 0 where
   some : IsSome (words_of (b ∷ bs))
   same : joined_words (words_of (b ∷ bs)) ≡ b ∷ bs
 
-words_by : (b : ℕ) (bs : List ℕ) → is_blank b ≡ false → words_of (b ∷ bs) ≡ cond (begins_word bs) (onto_first b (words_of bs)) ((b ∷ []) ∷ words_of bs)
-words_by b bs e = ap (λ s. cond s (words_of bs) (cond (begins_word bs) (onto_first b (words_of bs)) ((b ∷ []) ∷ words_of bs))) e
+words_by : (b : ℕ) (bs : List ℕ) → is_blank b ≡ false → words_of (b ∷ bs) ≡ cond (begins_with_word is_blank bs) (onto_first b (words_of bs)) ((b ∷ []) ∷ words_of bs)
+words_by b bs e = ap (λ s. cond s (words_of bs) (cond (begins_with_word is_blank bs) (onto_first b (words_of bs)) ((b ∷ []) ∷ words_of bs))) e
 
 word_goes_on : (b c : ℕ) (cs : List ℕ) → is_blank b ≡ false → is_blank c ≡ false → IsSame c cs → IsSame b (c ∷ cs)
 word_goes_on b c cs e f h =

@@ -6,3 +6,4 @@ pub mod JoinedLemmas
 pub mod LineLemmas
 pub mod LineSetLemmas
 pub mod OptionLemmas
+pub mod WordLemmas

@@ -1,30 +1,14 @@
 -- A text as lines, and a line as words.
 use Rattle.std.specs.Prelude.{ℕ, ◌+◌, ◌==◌, Bool, true, false, not, ◌&&◌, ◌||◌, List, [], ◌∷◌, ◌++◌, if◌then◌else◌}
 use Rattle.std.specs.List.{flat_map}
+use Rattle.tool_words.specs.Words.{onto_first, words_between}
 
 abbrev pub is_blank : ℕ → Bool
 is_blank b = (b == 32) || (b == 9)
 
-abbrev pub begins_word : List ℕ → Bool
-begins_word [] = false
-begins_word (b ∷ bs) = not (is_blank b)
-
--- a byte in front of the first piece, or a piece of its own
-abbrev pub onto_first : ℕ → List (List ℕ) → List (List ℕ)
-onto_first b [] = (b ∷ []) ∷ []
-onto_first b (p ∷ ps) = (b ∷ p) ∷ ps
-
--- words stand between spaces and tabs
+-- the words of a line stand between spaces and tabs
 abbrev pub words_of : List ℕ → List (List ℕ)
-words_of [] = []
-words_of (b ∷ bs) =
-    if is_blank b then words_of bs
-    else if begins_word bs then onto_first b (words_of bs)
-    else (b ∷ []) ∷ words_of bs
-
-abbrev pub word_len : List ℕ → ℕ
-word_len [] = 0
-word_len (b ∷ bs) = if is_blank b then 0 else word_len bs + 1
+words_of line = words_between is_blank line
 
 -- words with one space between each two
 abbrev pub behind_space : List ℕ → List ℕ

@@ -6,3 +6,4 @@ pub mod Lines
 pub mod Numbers
 pub mod Options
 pub mod Readers
+pub mod Words

@@ -1,66 +1,20 @@
 ghost use Rattle.std.specs.Prelude.{◌≡◌, ◌<◌, ◌≤◌, ◌∷◌, ◌++◌, true, length, take, drop, OnOk};
 ghost use Rattle.std.specs.List.{flat_map};
-ghost use Rattle.tool_words.specs.Fronts.{is_blank, word_len, words_of, behind_space, joined_words, is_joined, begins_word, lines_of, feed_at};
+ghost use Rattle.tool_words.specs.Fronts.{is_blank, words_of, behind_space, joined_words, is_joined, lines_of, feed_at};
 ghost use Rattle.tool_words.specs.Readers.{texts};
 
+use crate::words::{Gap, first_word, skip_gaps};
 use i2c_base::NoMemory;
 
-fn is_blank(byte: u8) -> bool
-    ensures { result ≡ is_blank byte }
-{
-    byte == b' ' || byte == b'\t'
-}
+// The blanks between the words of a line.
+struct Blank;
 
-// How long the word is with which a text begins.
-fn word_len(text: &[u8]) -> usize
-    ensures value { result ≡ word_len text.now }
-    ensures within { result ≤ length text.now }
-{
-    let mut len = 0;
-    for byte in text {
-        if is_blank(*byte) {
-            return len;
-        }
-        len += 1;
+impl Gap for Blank {
+    ghost gaps = { is_blank };
+
+    fn is_gap(byte: u8) -> bool {
+        byte == b' ' || byte == b'\t'
     }
-    len
-}
-
-// A text begins with a word.
-fn begins_word(text: &[u8]) -> bool
-    ensures { result ≡ begins_word text.now }
-{
-    match text.first() {
-        Some(first) => !is_blank(*first),
-        None => false,
-    }
-}
-
-// The word with which a text begins, and what stands behind it.
-#[tactic(auto, using(crate::proofs::FrontLemmas::words_first, crate::proofs::FrontLemmas::some_len))]
-fn first_word(text: &[u8]) -> (&[u8], &[u8])
-    requires { begins_word text.now ≡ true }
-    ensures split { words_of text.now ≡ result.0.now ∷ words_of result.1.now }
-    ensures shorter { length result.1.now < length text.now }
-{
-    let len = word_len(text);
-    text.split_at(len)
-}
-
-// A text without the blanks with which it begins.
-fn skip_blanks(text: &[u8]) -> &[u8]
-    ensures words { words_of result.now ≡ words_of text.now }
-    ensures begins { 0 < length result.now → begins_word result.now ≡ true }
-    ensures within { length result.now ≤ length text.now }
-{
-    let mut rest = text;
-    while let Some((first, behind)) = rest.split_first() {
-        if !is_blank(*first) {
-            return rest;
-        }
-        rest = behind;
-    }
-    rest
 }
 
 /// Puts the words of a line, which stand between spaces and tabs, in place of those that are there.
@@ -68,11 +22,11 @@ pub fn split_words<'a>(words: &mut Vec<&'a [u8]>, line: &'a [u8]) -> Result<(), 
     ensures { OnOk result (texts words.new.items ≡ words_of line.now) }
 {
     words.clear();
-    let mut rest = skip_blanks(line);
+    let mut rest = skip_gaps::<Blank>(line);
     while !rest.is_empty() {
-        let (word, behind) = first_word(rest);
+        let (word, behind) = first_word::<Blank>(rest);
         words.push(word)?;
-        rest = skip_blanks(behind);
+        rest = skip_gaps::<Blank>(behind);
     }
     Ok(())
 }
@@ -81,12 +35,12 @@ pub fn split_words<'a>(words: &mut Vec<&'a [u8]>, line: &'a [u8]) -> Result<(), 
 fn push_spaced(out: &mut Vec<u8>, text: &[u8]) -> Result<(), NoMemory>
     ensures { OnOk result (out.new.items ≡ out.old.items ++ flat_map behind_space (words_of text.now)) }
 {
-    let mut rest = skip_blanks(text);
+    let mut rest = skip_gaps::<Blank>(text);
     while !rest.is_empty() {
-        let (word, behind) = first_word(rest);
+        let (word, behind) = first_word::<Blank>(rest);
         out.push(b' ')?;
         out.extend_from_slice(word)?;
-        rest = skip_blanks(behind);
+        rest = skip_gaps::<Blank>(behind);
     }
     Ok(())
 }
@@ -112,11 +66,11 @@ pub fn is_joined(line: &[u8]) -> bool
 pub fn push_echo(out: &mut Vec<u8>, line: &[u8]) -> Result<(), NoMemory>
     ensures { OnOk result (out.new.items ≡ out.old.items ++ joined_words (words_of line.now)) }
 {
-    let rest = skip_blanks(line);
+    let rest = skip_gaps::<Blank>(line);
     if rest.is_empty() {
         return Ok(());
     }
-    let (word, behind) = first_word(rest);
+    let (word, behind) = first_word::<Blank>(rest);
     out.extend_from_slice(word)?;
     push_spaced(out, behind)
 }

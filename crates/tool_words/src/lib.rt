@@ -5,7 +5,8 @@
 //! the first word that the grammar refuses (`line_read` of `specs/Commands.antt`); a line is read exactly where it is in
 //! the grammar (`each_line_is_read`), and a refused word stands behind the longest front that begins a line
 //! (`the_refused_word_is_behind_the_longest_front`); `cut_line` tells the first line of a text, and `push_echo` prints a
-//! line's words (`specs/Fronts.antt`).
+//! line's words (`specs/Fronts.antt`). `skip_gaps` and `first_word` take the words off any text, with whatever bytes a
+//! `Gap` says between them (`specs/Words.antt`).
 #![tactic(auto)]
 
 pub mod cmd;
@@ -16,6 +17,7 @@ mod line;
 mod number;
 mod options;
 mod reader;
+mod words;
 
 pub use cmd::Cmd;
 pub use fault::LineFault;
@@ -24,3 +26,4 @@ pub use laws::{
     each_field_is_in_range, each_line_is_read, the_refused_word_is_behind_the_longest_front,
 };
 pub use line::read_line;
+pub use words::{Gap, first_word, skip_gaps};

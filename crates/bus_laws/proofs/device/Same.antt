@@ -20,7 +20,8 @@ use Rattle.i2c_spec.specs.Tree.{root_of, hops, of_device}
 use Rattle.i2c_spec.specs.Chips.{ChipView, chip_table}
 use Rattle.i2c_spec.specs.Targets.{TargetState, HoldsBytes, IsByteEvent, IsQuiet, state_table, state_answer}
 use Rattle.i2c_spec.specs.Messages.{MessageView}
-use Rattle.i2c_spec.specs.World.{World, opens_hop, joins_device, given, feed, answers, is_ack, is_slow, has_heard, start_event, device_start, start_chips, start_devices, heard_of, hearers, some_answer, answer as world_answer, is_chip, is_device, to_chips, to_devices, hearing_answers, takes, byte_of, and_of, gives, stop_event, after}
+use Rattle.i2c_base.specs.Table.{byte_of}
+use Rattle.i2c_spec.specs.World.{World, opens_hop, joins_device, given, feed, answers, is_ack, is_slow, has_heard, start_event, device_start, start_chips, start_devices, heard_of, hearers, some_answer, answer as world_answer, is_chip, is_device, to_chips, to_devices, hearing_answers, takes, and_of, gives, stop_event, after}
 use Rattle.i2c_spec.specs.Flat.{FlatListener, is_it, is_member, put_named, flat_start, to_current, to_named, answer_of, acknowledged, flat_after, flat_listener}
 use Rattle.i2c_spec.specs.Conversation.{world_listener, talk}
 use Rattle.bus_laws.specs.Alike.{IsOf, listening, Same, LeadsTo, ToldAlike}

@@ -20,7 +20,8 @@ use Rattle.i2c_spec.specs.TreeFacts.{IsTree}
 use Rattle.i2c_spec.specs.Grant.{some_chip, some_device, some_bound, named_by, named_of}
 use Rattle.i2c_spec.specs.Targets.{TargetState, state_table, state_answer}
 use Rattle.i2c_spec.specs.Messages.{MessageView, messages_of}
-use Rattle.i2c_spec.specs.World.{World, given, feed, has_heard, is_ack, byte_of}
+use Rattle.i2c_base.specs.Table.{byte_of}
+use Rattle.i2c_spec.specs.World.{World, given, feed, has_heard, is_ack}
 use Rattle.i2c_spec.specs.Flat.{FlatListener, idle, is_it, is_member, put_named, flat_start, to_current, to_named, answer_of, acknowledged, flat_after, flat_listener, granted_on, block_limit, cut_in, errno_of, or_done, barred, flat_by, flat_messages, flat}
 use Rattle.i2c_spec.specs.Conversation.{TalkTold, AllTold, talk, talk_all, is_empty, is_good, with_read}
 use Rattle.bus_laws.specs.Alike.{IsOf, listening, Same, ToldAlike, IsUnnamed}

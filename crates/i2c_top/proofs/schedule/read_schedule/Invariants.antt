@@ -1,6 +1,7 @@
 use Rattle.std.proofs.Common.{◌≡◌, ◌<◌, ◌≤◌, true, length}
 use Rattle.std.specs.Prelude.{All}
-use Rattle.i2c_top.specs.Schedules.{starts_entry, entries_of, behind_callers, callers_from, schedule_read, MOST_ENTRIES}
+use Rattle.tool_words.specs.Words.{begins_with_word}
+use Rattle.i2c_top.specs.Schedules.{is_white, entries_of, behind_callers, callers_from, schedule_read, MOST_ENTRIES}
 use Rattle.i2c_top.proofs.schedule.read_schedule.Given as goal
 
 abbrev pub decreases-loop-rest : goal.decreases-loop-rest
@@ -9,7 +10,7 @@ decreases-loop-rest l = length l.rest
 abbrev pub invariant-loop-rest : goal.invariant-loop-rest
 invariant-loop-rest l =
     record {
-      begins : 0 < length l.rest → starts_entry l.rest ≡ true;
+      begins : 0 < length l.rest → begins_with_word is_white l.rest ≡ true;
       within : length l.words.items ≤ MOST_ENTRIES;
       below : All (λ c. c < l.fn.callers) l.words.items;
       same : behind_callers l.words.items (callers_from l.fn.callers (length l.words.items) (entries_of l.rest)) ≡ schedule_read l.fn.callers l.fn.text;

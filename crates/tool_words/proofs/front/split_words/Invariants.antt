@@ -1,5 +1,6 @@
 use Rattle.std.proofs.Common.{◌≡◌, ◌<◌, ◌++◌, true, length}
-use Rattle.tool_words.specs.Fronts.{begins_word, words_of}
+use Rattle.tool_words.specs.Words.{begins_with_word}
+use Rattle.tool_words.specs.Fronts.{is_blank, words_of}
 use Rattle.tool_words.specs.Readers.{texts}
 use Rattle.tool_words.proofs.front.split_words.Given as goal
 
@@ -8,4 +9,4 @@ decreases-loop-rest l = length l.rest
 
 abbrev pub invariant-loop-rest : goal.invariant-loop-rest
 invariant-loop-rest l =
-    record { begins : 0 < length l.rest → begins_word l.rest ≡ true; same : texts l.words.items ++ words_of l.rest ≡ words_of l.fn.line }
+    record { begins : 0 < length l.rest → begins_with_word is_blank l.rest ≡ true; same : texts l.words.items ++ words_of l.rest ≡ words_of l.fn.line }

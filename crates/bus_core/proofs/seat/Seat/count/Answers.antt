@@ -11,4 +11,4 @@ overflow_add-self g c =
     let most = written_within s.transfer s.sent s.written c.requires.more c.requires.wrote kept
     m c.msgs.result.now c.from.result c.index-msgs-from.is c.msgs.ensures.value c.from.ensures in
     let out = written_size s.transfer.msgs kept.each in
-    omega (arith, most, out, kept.written, kept.size, c.written_len.ensures, c.requires.more)
+    omega (arith, most, out, kept.written, kept.size, c.written.ensures, c.requires.more)

@@ -1,4 +1,4 @@
-use Rattle.std.proofs.Common.{Err, refl, ap, ◌∙◌, arith}
+use Rattle.std.proofs.Common.{Err, ap, ◌∙◌, arith}
 use Rattle.i2c_outside.specs.Causes.{counted}
 use Rattle.i2c_physics.proofs.fail_rig.FailRigRig.plug.Goals as goal
 
