@@ -10,7 +10,6 @@ use Rattle.bus_spec.specs.Grammar.{is_over}
 use Rattle.bus_spec.specs.Walk.{WalkTree}
 use Rattle.bus_laws.specs.Ready.{IsStuck}
 use Rattle.bus_laws.specs.Waiting.{IsHeldUp}
-use Rattle.core_laws.proofs.Core.{map_from}
 use Rattle.core_laws.proofs.Laws.{held-up-stuck}
 use Rattle.core_laws.specs.Steps.{next_of}
 use Rattle.mux_plan.specs.Plans.{slots_of}
@@ -25,8 +24,9 @@ use Rattle.bus_core.specs.declared.seat.Seat.{Seat}
 use Rattle.bus_core.specs.declared.steps.StepAnswer.{StepAnswer}
 use Rattle.bus_core.specs.declared.steps.StepAnswer.TheVariants as answer
 use Rattle.bus_core.proofs.Kept.{place-here}
-use Rattle.bus_core.proofs.Locks.{over-ends, same_seat}
-use Rattle.bus_core.proofs.SeatLemmas.{there}
+use Rattle.bus_core.proofs.Locks.{same_seat}
+use Rattle.bus_laws.proofs.past.StandsFacts.{over_ends}
+use Rattle.i2c_base.proofs.ListLemmas.{there, map_from}
 
 -- an answer that isn't Stepped
 pub waits-by : (P : Type 0) (r : StepAnswer) → (r ≡ answer.Stepped → ⊥) → ((l : LockId) (h : ℕ) → r ≡ answer.Blocked l h → P) → (r ≡ answer.Finished → P) → P
@@ -36,7 +36,7 @@ waits-by P answer.Finished not blocked finished = finished refl
 
 -- a walk that is over has no step
 pub over-none : (v : LocksView) (w : WalkTree) → is_over w ≡ true → next_of v w ≡ None
-over-none v w over = ap (next_of v) (over-ends w over)
+over-none v w over = ap (next_of v) (over_ends w over)
 
 module _ {P C S : Type 0} (g : PortGhosts P) (c : CallerGhosts C S) (x : CoreParts P C) (kept : IsKept g c x) (placed : ArePlaced x.places.items (scripts_of c x.seats.items))
     (caller place : ℕ) (at : slice_get x.places.items caller ≡ Some (Some place)) where

@@ -1,9 +1,8 @@
 -- A message of the caller at a place: it may be sent, heard and settled.
-use Rattle.std.proofs.Common.{◌≡◌, ◌⊎◌, ℕ, suc, ◌+◌, ◌<◌, ◌≤◌, ◌==◌, Bool, true, false, List, [], ◌∷◌, length, set, take, Option, Some, None, refl, sym, ◌∙◌, ap, subst, arith, inl, inr}
+use Rattle.std.proofs.Common.{◌≡◌, ◌⊎◌, ℕ, suc, ◌+◌, ◌<◌, ◌≤◌, Bool, true, false, List, [], ◌∷◌, length, set, take, Option, Some, refl, sym, ◌∙◌, ap, subst, arith, inl, inr}
 use Rattle.std.specs.Prelude.{slice_get, nat_lt, ◌&&◌}
 use Rattle.std.specs.List.{AllByRecursion}
 use Rattle.std.proofs.lemmas.Bool.{lt-ltb, ltb-true}
-use Rattle.std.proofs.lemmas.Bool.Decides.{eqb_tells}
 use Rattle.std.proofs.lemmas.List.{length-set}
 use Rattle.i2c_base.specs.declared.caller.Caller.{Ghosts as CallerGhosts}
 use Rattle.i2c_base.specs.declared.entry.End.TheVariants as end
@@ -30,7 +29,7 @@ use Rattle.bus_message.specs.Sockets.{socket_of}
 use Rattle.bus_message.specs.declared.sending.Sent.{Sent}
 use Rattle.bus_message.proofs.SocketLemmas.{call-through}
 use Rattle.mux_plan.proofs.Dues.{tells-after, on-after}
-use Rattle.mux_plan.proofs.OpensFit.{length-messages}
+use Rattle.i2c_spec.proofs.MessageLemmas.{length-messages}
 use Rattle.mux_plan.specs.declared.marks.Due.{Due}
 use Rattle.mux_plan.specs.Marks.{applied, IsSwitchedOn, MayMark, AreOn}
 use Rattle.mux_plan.specs.Plans.{slots_of}
@@ -40,7 +39,7 @@ use Rattle.core_laws.specs.Owed.{message_most}
 use Rattle.core_laws.specs.Sends.{Sending, IsMessageOf, message_for}
 use Rattle.core_laws.specs.Spots.{Socket}
 use Rattle.core_laws.specs.Steps.{next_of, AreMarked, KeepsPort}
-use Rattle.core_laws.proofs.Core.{map_at, map_from, lone_act, not_over, locks-here, owes-here, going-on, stands-here}
+use Rattle.core_laws.proofs.Core.{lone_act, not_over, locks-here, owes-here, going-on, stands-here}
 use Rattle.core_laws.proofs.CoreSteps.{none_owed}
 use Rattle.core_laws.proofs.Laws.{send-root, send-most, send-last, send-wants, call-wants, held-wants, port-start, log-message, bytes-message, room-one}
 use Rattle.bus_core.specs.Kept.{roots_of, IsSeated, run_of, whole_of, IsKept}
@@ -53,49 +52,29 @@ use Rattle.bus_core.specs.declared.seat.Seat.{Seat}
 use Rattle.bus_core.proofs.Kept.{place-here, seated-here}
 use Rattle.bus_core.proofs.ReadsRoom.{reads-room}
 use Rattle.bus_core.proofs.Heard.{undecided}
+use Rattle.i2c_spec.specs.Conversation.{is_it}
+use Rattle.i2c_spec.proofs.MessageLemmas.{is_it-some, is_it-at}
+use Rattle.std.proofs.lemmas.Bool.{and_parts}
+use Rattle.i2c_base.proofs.ListLemmas.{map_from}
+use Rattle.i2c_base.proofs.ListLemmas.{map_at}
 
 pub length-applied : (ds : List Due) (marks : List (Option ℕ)) → length (applied ds marks) ≡ length marks
 length-applied [] marks = refl
 length-applied (d ∷ ds) marks = length-applied ds (set marks d.on d.mark) ∙ length-set marks d.on d.mark
 
 -- the lock of the muxes on a bus is there, and this caller has it
-abbrev pub is_own : Option ℕ → ℕ → Bool
-is_own None c = false
-is_own (Some h) c = h == c
-
 abbrev pub holds_mux : LocksView → ℕ → ℕ → Bool
-holds_mux v c on = nat_lt on (length v.depths) && is_own (holder_in v (lock.Mux on)) c
-
-both-true : (a b : Bool) → (a && b) ≡ true → (a ≡ true) × (b ≡ true)
-both-true true true e = (refl, refl)
-both-true true false e = absurd (let f : false ≡ true = e in cc)
-both-true false b e = absurd (let f : false ≡ true = e in cc)
-
-own-is : (o : Option ℕ) (c : ℕ) → o ≡ Some c → is_own o c ≡ true
-own-is None c e = absurd (let f : None ≡ Some c = e in cc)
-own-is (Some h) c e =
-    let same : h ≡ c = (let f : Some h ≡ Some c = e in cc) in
-    elim (eqb_tells h c) [
-      | inl is ↦ is.0
-      | inr other ↦ absurd (other.1 same)
-    ]
-
-own-of : (o : Option ℕ) (c : ℕ) → is_own o c ≡ true → o ≡ Some c
-own-of None c e = absurd (let f : false ≡ true = e in cc)
-own-of (Some h) c e = elim (eqb_tells h c) [
-  | inl is ↦ ap Some is.1
-  | inr other ↦ absurd (let f : false ≡ true = sym other.0 ∙ e in cc)
-]
+holds_mux v c on = nat_lt on (length v.depths) && is_it (holder_in v (lock.Mux on)) c
 
 mux-held : (v : LocksView) (c on : ℕ) → IsLockIn v (lock.Mux on) → holder_in v (lock.Mux on) ≡ Some c → holds_mux v c on ≡ true
 mux-held v c on low held =
-    ap (λ (x : Bool). x && is_own (holder_in v (lock.Mux on)) c) (lt-ltb on (length v.depths) low) ∙ own-is (holder_in v (lock.Mux on)) c held
+    ap (λ (x : Bool). x && is_it (holder_in v (lock.Mux on)) c) (lt-ltb on (length v.depths) low) ∙ is_it-at (holder_in v (lock.Mux on)) c held
 
 pub dues-held : (v : LocksView) (c : ℕ) (ds : List Due) → AreOn (holds_mux v c) ds → AreHeld v c ds
 dues-held v c [] all = tt
 dues-held v c (d ∷ ds) all = (
-  let b = both-true (nat_lt d.on (length v.depths)) (is_own (holder_in v (lock.Mux d.on)) c) all.0 in
-      record { there = ltb-true d.on (length v.depths) b.0; held = own-of (holder_in v (lock.Mux d.on)) c b.1 },
+  let b = and_parts (nat_lt d.on (length v.depths)) (is_it (holder_in v (lock.Mux d.on)) c) all.0 in
+      record { there = ltb-true d.on (length v.depths) b.0; held = is_it-some (holder_in v (lock.Mux d.on)) c b.1 },
   dues-held v c ds all.1,
 )
 

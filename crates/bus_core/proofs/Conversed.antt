@@ -21,7 +21,6 @@ use Rattle.bus_spec.specs.Readings.{message_cut}
 use Rattle.bus_spec.specs.Stepwise.{reply_by}
 use Rattle.bus_spec.specs.Walk.{Job, Call, Send, Settle, Passed, WalkTree}
 use Rattle.bus_spec.specs.Walk as walk
-use Rattle.bus_laws.specs.Costs.{bytes_given}
 use Rattle.bus_laws.proofs.walk.Next.{quiet-next}
 use Rattle.bus_message.specs.Sockets.{sockets_of}
 use Rattle.bus_message.specs.declared.sending.Sent.{Sent}
@@ -44,6 +43,7 @@ use Rattle.bus_core.proofs.Kept.{fair, place-here, seated-here, kept-whole, step
 use Rattle.bus_core.proofs.Converse.{goes, on-bus, calls, call-left, few, marks2, is-sent}
 use Rattle.bus_core.proofs.Heard.{heard-place, heard-got, heard-seated, settle-first, settled-place, settled-seated}
 use Rattle.bus_core.proofs.Stepped.{roots-stay, seat-is, seat-now, set-at, set-set, stepped-two}
+use Rattle.i2c_base.specs.Need.{bytes_given}
 
 module _ {P C S : Type 0} (g : PortGhosts P) (c : CallerGhosts C S) (x : CoreParts P C) (kept : IsKept g c x) (place : ℕ) (s : Seat C) (here : slice_get x.seats.items place ≡ Some s)
     (job : Job) (more : ℕ) (next : Sending) (first : next_of x.locks (walk_left x.board.now s) ≡ Some (Send job more)) (of : IsMessageOf job more next)

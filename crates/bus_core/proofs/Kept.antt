@@ -22,7 +22,7 @@ use Rattle.bus_message.specs.Sockets.{sockets_of}
 use Rattle.core_laws.specs.Core.{Place, Run, IsFairRun, Whole, CoreKept, numbers_of}
 use Rattle.std.proofs.lemmas.List.{map-set}
 use Rattle.std.proofs.lemmas.List.{length-append}
-use Rattle.core_laws.proofs.Core.{map_at, set_same, at_set}
+use Rattle.core_laws.proofs.Core.{set_same, at_set}
 use Rattle.core_laws.proofs.Laws.{turn-one}
 use Rattle.core_laws.specs.Spots.{Socket}
 use Rattle.seg_locks.specs.Locks.{LocksView}
@@ -31,6 +31,7 @@ use Rattle.bus_core.specs.Opening.{IsSetUp, HasRoot}
 use Rattle.bus_core.specs.Places.{place_of, places_of, script_of, scripts_of, script_at, asks_of, left_of}
 use Rattle.bus_core.specs.declared.parts.CoreParts.{CoreParts}
 use Rattle.bus_core.specs.declared.seat.Seat.{Seat}
+use Rattle.i2c_base.proofs.ListLemmas.{map_at}
 
 -- of what a number names: it is one of the scripts
 script-found : {S : Type 0} (scripts : List (ℕ × S)) (n : ℕ) (s : S) → script_at scripts n ≡ Some s → (i : ℕ) × (m : ℕ) × (slice_get scripts i ≡ Some (m, s))

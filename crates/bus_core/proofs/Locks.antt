@@ -13,7 +13,7 @@ use Rattle.bus_spec.specs.Grammar.{is_over}
 use Rattle.i2c_base.specs.declared.reply.Reply.{Reply}
 use Rattle.i2c_base.specs.Transfer.{TransferView}
 use Rattle.bus_spec.specs.Grammar.{walk_for}
-use Rattle.bus_spec.specs.Walk.{Act, Take, Free, Passed, WalkTree, Ends, Look, Then}
+use Rattle.bus_spec.specs.Walk.{Act, Take, Free, Passed, WalkTree, Ends}
 use Rattle.core_laws.proofs.Core.{locks-here, owes-here}
 use Rattle.bus_message.specs.Sockets.{sockets_of}
 use Rattle.core_laws.specs.Behind.{with_place, passed, begun_with}
@@ -30,6 +30,7 @@ use Rattle.bus_core.specs.declared.parts.CoreParts.{CoreParts}
 use Rattle.bus_core.specs.declared.seat.Seat.{Seat}
 use Rattle.bus_core.proofs.Reseating.{seated_on}
 use Rattle.bus_core.proofs.Kept.{fair, place-here, seated-here, asks-here, wired-here, kept-whole, stepped-one}
+use Rattle.bus_laws.proofs.past.StandsFacts.{over_ends}
 
 -- who stands at a place is one
 pub same_seat : {C : Type 0} (seats : List (Seat C)) (place : ℕ) (s t : Seat C) → slice_get seats place ≡ Some s → slice_get seats place ≡ Some t → s ≡ t
@@ -60,12 +61,6 @@ same_place p q number taken owed transfer tree sent got cut =
     ∙ ap (λ (y : ℕ). record q { sent = y; got = p.got; cut = p.cut }) sent
     ∙ ap (λ (y : List ℕ). record q { got = y; cut = p.cut }) got
     ∙ ap (λ (y : Cut). record q { cut = y }) cut
-
--- a walk that is over has no step
-pub over-ends : (w : WalkTree) → is_over w ≡ true → w ≡ Ends
-over-ends Ends e = refl
-over-ends (Look ask next) e = absurd (let f : false ≡ true = e in cc)
-over-ends (Then act note next) e = absurd (let f : false ≡ true = e in cc)
 
 -- what is owed is one reply
 pub one-owed : (o : Option Decided) (rs : RepliesView) → has_reply (owed_by o rs) ≡ true → (r : Reply) × (owed_by o rs ≡ r ∷ [])
@@ -179,7 +174,7 @@ module _ {P C S : Type 0} (g : PortGhosts P) (c : CallerGhosts C S) (x : CorePar
               (core-ended run (fair g c x kept) whole kept.kept place p ls n (stands-here run whole kept.kept place p at) new.journal.room l first ends owed.0 owed.1 (sym room) y (sym asks ∙ is))
           by None is asks owed its =
               by-whole its.number its.handed.script (begun_with p (p.taken ++ p.owed) p.transfer Ends)
-              (ended-place c x.board.now owed.0 s t its (p.taken ++ p.owed) (ap (λ (rs : List Reply). c.taken s.caller ++ rs) owed.1) p.transfer Ends (its.stays is) (over-ends (walk_left x.board.now t) (its.loaded.none is))) _ _
+              (ended-place c x.board.now owed.0 s t its (p.taken ++ p.owed) (ap (λ (rs : List Reply). c.taken s.caller ++ rs) owed.1) p.transfer Ends (its.stays is) (over_ends (walk_left x.board.now t) (its.loaded.none is))) _ _
               (core-finished run (fair g c x kept) whole kept.kept place p ls n (stands-here run whole kept.kept place p at) new.journal.room l first ends owed.0 owed.1 (sym room) (sym asks ∙ is))
 
       pub free-kept : IsKept g c new × HasStepped g c place x new

@@ -29,7 +29,6 @@ use Rattle.bus_laws.specs.Ready.{IsStuck}
 use Rattle.bus_laws.specs.Waiting.{IsHeldUp}
 use Rattle.bus_laws.proofs.Laws.{does-next}
 use Rattle.bus_laws.proofs.past.Others.{others-stay}
-use Rattle.core_laws.proofs.Core.{map_at, map_from}
 use Rattle.core_laws.proofs.Laws.{all-finished, asks-finished, finished-over}
 use Rattle.core_laws.specs.Core.{Place, Whole, IsFairRun, trees_of, spot_of}
 use Rattle.mux_plan.specs.Plans.{slots_of}
@@ -43,8 +42,10 @@ use Rattle.bus_core.specs.declared.parts.CoreParts.{CoreParts}
 use Rattle.bus_core.specs.declared.seat.Seat.{Seat}
 use Rattle.bus_core.proofs.Advances.{stuck-by}
 use Rattle.bus_core.proofs.Kept.{fair, place-here}
-use Rattle.bus_core.proofs.Locks.{over-ends, same_seat}
-use Rattle.bus_core.proofs.SeatLemmas.{there}
+use Rattle.bus_core.proofs.Locks.{same_seat}
+use Rattle.bus_laws.proofs.past.StandsFacts.{over_ends}
+use Rattle.i2c_base.proofs.ListLemmas.{there, map_from}
+use Rattle.i2c_base.proofs.ListLemmas.{map_at}
 
 -- who asks for nothing has a walk that is over
 pub silent-ends : (b : BoardView) (callers : ℕ) (asks : Asks) (c : ℕ) → ((rs : List Reply) → asks c rs ≡ None) → (past : List Entry) → IsStepwise b callers asks past
@@ -177,7 +178,7 @@ module _ {P C S : Type 0} (g : PortGhosts P) (c : CallerGhosts C S) (x : CorePar
         let done = all-finished (run_of g c x) whole core.kept.kept held-up i (place_of c b s.0) here in
         let number : s.0.number ≡ n = ap (λ (y : ℕ × List Reply). y.0) s.2 in
         let replies : c.taken s.0.caller ≡ taken = ap (λ (y : ℕ × List Reply). y.1) s.2 in
-        let over : walk_left b s.0 ≡ Ends = over-ends (walk_left b s.0) (finished-over (run_of g c x) whole core.kept.kept i (place_of c b s.0) here (asks-finished (run_of g c x) whole core.kept.kept i (place_of c b s.0) here done.0)) in
+        let over : walk_left b s.0 ≡ Ends = over_ends (walk_left b s.0) (finished-over (run_of g c x) whole core.kept.kept i (place_of c b s.0) here (asks-finished (run_of g c x) whole core.kept.kept i (place_of c b s.0) here done.0)) in
         let told : (tell : IsTrue g.tells) → CallerTold b asks (now b asks past) s.0.number (walk_left b s.0) (c.taken s.0.caller ++ (place_of c b s.0).owed) (place_of c b s.0).got s.0.cut =
         (λ tell. (core.kept.kept.told tell).spots_told i (spot_of (place_of c b s.0)) (map_at spot_of whole.places i (place_of c b s.0) here)) in
         record {

@@ -1,5 +1,5 @@
 -- A core that was just opened is kept: each caller's first transfer is loaded, and nothing was done.
-use Rattle.std.proofs.Common.{◌≡◌, ℕ, ◌+◌, ◌*◌, ◌<◌, ◌≤◌, true, false, List, [], ◌∷◌, length, reverse, map, Option, Some, None, refl, sym, ◌∙◌, ap, subst, arith}
+use Rattle.std.proofs.Common.{◌≡◌, ℕ, ◌+◌, ◌*◌, ◌<◌, ◌≤◌, List, [], ◌∷◌, length, reverse, map, Option, Some, None, refl, sym, ◌∙◌, ap, subst, arith}
 use Rattle.std.specs.Prelude.{slice_get}
 use Rattle.std.specs.Option.{option_map_or}
 use Rattle.std.specs.List.{sum_by}
@@ -18,14 +18,13 @@ use Rattle.i2c_spec.specs.Rules.{MeetsRules}
 use Rattle.i2c_spec.specs.World.{opening_world}
 use Rattle.bus_journal.specs.View.{JournalView}
 use Rattle.bus_message.specs.Sockets.{socket_of}
-use Rattle.bus_spec.specs.Grammar.{is_over, walk_for}
+use Rattle.bus_spec.specs.Grammar.{walk_for}
 use Rattle.bus_spec.specs.Past.{begun}
-use Rattle.bus_spec.specs.Walk.{WalkTree, Ends, Look, Then}
+use Rattle.bus_spec.specs.Walk.{WalkTree, Ends}
 use Rattle.core_laws.specs.Core.{Place, Run, IsFairRun, Whole, SeatKept}
 use Rattle.core_laws.specs.Opens.{AreDepths, IsOpened}
 use Rattle.core_laws.specs.Owed.{total}
 use Rattle.core_laws.specs.Spots.{Socket}
-use Rattle.core_laws.proofs.Core.{map_at, map_from}
 use Rattle.core_laws.proofs.Laws.{core-opened, seat-loaded, seat-over}
 use Rattle.seg_locks.specs.Locks.{opened}
 use Rattle.bus_core.specs.Kept.{roots_of, run_of, whole_of, IsCore}
@@ -38,11 +37,9 @@ use Rattle.bus_core.specs.declared.seat.Seat.{Seat}
 use Rattle.bus_core.proofs.Kept.{fair-run, script-own}
 use Rattle.bus_core.proofs.SeatLemmas.{asks_or_not}
 use Rattle.bus_core.proofs.Seating.{seated-all}
-
-over_ends : (w : WalkTree) → is_over w ≡ true → w ≡ Ends
-over_ends Ends e = refl
-over_ends (Look ask next) e = absurd (let f : false ≡ true = e in cc)
-over_ends (Then a note next) e = absurd (let f : false ≡ true = e in cc)
+use Rattle.bus_laws.proofs.past.StandsFacts.{over_ends}
+use Rattle.i2c_base.proofs.ListLemmas.{map_from}
+use Rattle.i2c_base.proofs.ListLemmas.{map_at}
 
 -- where a caller begins
 abbrev starting : ℕ → TransferView → WalkTree → Place

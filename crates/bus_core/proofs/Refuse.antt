@@ -27,7 +27,8 @@ use Rattle.bus_core.specs.Seats.{MayRefuse, IsRefusedIn}
 use Rattle.bus_core.specs.declared.parts.CoreParts.{CoreParts}
 use Rattle.bus_core.specs.declared.seat.Seat.{Seat}
 use Rattle.bus_core.proofs.Kept.{fair, place-here, seated-here, asks-here, wired-here, new-scripts, kept-whole}
-use Rattle.bus_core.proofs.Locks.{over-ends, ended-place}
+use Rattle.bus_core.proofs.Locks.{ended-place}
+use Rattle.bus_laws.proofs.past.StandsFacts.{over_ends}
 
 module _ {P C S : Type 0} (g : PortGhosts P) (c : CallerGhosts C S) (x : CoreParts P C) (kept : IsKept g c x) (place : ℕ) (s : Seat C) (here : slice_get x.seats.items place ≡ Some s)
     (errno : Errno) (first : next_of x.locks (walk_left x.board.now s) ≡ Some (Settle (Some errno))) where
@@ -121,5 +122,5 @@ module _ {P C S : Type 0} (g : PortGhosts P) (c : CallerGhosts C S) (x : CorePar
             (core-lone run (fair g c x kept) whole kept.kept place p ls n (stands-here run whole kept.kept place p at) new.journal.room (Some errno) first (sym refused.room) (answer.Err errno) refl y (sym asks ∙ is))
         by None is =
             by-whole (begun_with p replies p.transfer Ends)
-            (ended-place c x.board.now (answer.Err errno) s t refused.ended replies refl p.transfer Ends (refused.ended.stays is) (over-ends (walk_left x.board.now t) (refused.ended.loaded.none is))) [] (n - 1)
+            (ended-place c x.board.now (answer.Err errno) s t refused.ended replies refl p.transfer Ends (refused.ended.stays is) (over_ends (walk_left x.board.now t) (refused.ended.loaded.none is))) [] (n - 1)
             (core-lone-finished run (fair g c x kept) whole kept.kept place p ls n (stands-here run whole kept.kept place p at) new.journal.room (Some errno) first (sym refused.room) (answer.Err errno) refl (sym asks ∙ is))

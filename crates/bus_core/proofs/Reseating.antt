@@ -1,5 +1,5 @@
 -- A seat behind two steps on it, by what each of them leaves.
-use Rattle.std.proofs.Common.{◌≡◌, ◌⊎◌, ◌<◌, ℕ, ◌+◌, ◌≤◌, Bool, true, false, List, [], ◌∷◌, ◌++◌, length, Option, Some, refl, sym, ◌∙◌, ap, subst, arith}
+use Rattle.std.proofs.Common.{◌≡◌, ◌⊎◌, ◌<◌, ℕ, ◌+◌, ◌≤◌, Bool, true, false, List, [], ◌∷◌, ◌++◌, length, Option, Some, refl, sym, ◌∙◌, ap, subst}
 use Rattle.std.specs.Prelude.{take, sum_by, if◌then◌else◌}
 use Rattle.i2c_base.specs.declared.caller.Caller.{Ghosts as CallerGhosts}
 use Rattle.i2c_base.specs.declared.entry.End.{End}
@@ -12,9 +12,7 @@ use Rattle.i2c_base.specs.declared.reply.Reply.TheVariants as reply
 use Rattle.i2c_base.specs.Board.{BoardView}
 use Rattle.i2c_base.specs.Fitting.{Fits}
 use Rattle.i2c_base.specs.Transfer.{written_of}
-use Rattle.bus_journal.specs.Borrowed.{bytes_replied}
 use Rattle.bus_journal.specs.View.{JournalView}
-use Rattle.bus_laws.specs.Costs.{bytes_given}
 use Rattle.bus_spec.specs.Grammar.{is_over, seen, rest_of}
 use Rattle.bus_spec.specs.Readings.{message_cut}
 use Rattle.bus_spec.specs.Slots.{Slots}
@@ -29,7 +27,7 @@ use Rattle.seg_locks.specs.Locks.{LocksView}
 use Rattle.bus_core.specs.Kept.{IsSeated}
 use Rattle.bus_core.specs.Places.{walk_left, owed_by}
 use Rattle.bus_core.specs.Replies.{reply_decided}
-use Rattle.bus_core.specs.Seats.{WentOn, got_heard, HasHeard, HasSettled, HasEnded, HasFreed, MayEnd, MayHear, MayRefuse}
+use Rattle.bus_core.specs.Seats.{WentOn, got_heard, HasHeard, HasSettled, HasEnded, HasFreed, MayEnd, MayRefuse}
 use Rattle.bus_core.specs.declared.replies.Decided.{Decided}
 use Rattle.bus_core.specs.declared.seat.Seat.{Seat}
 use Rattle.bus_core.proofs.There.{there-behind}
@@ -39,12 +37,6 @@ pub still_going : (v : Slots) (w : WalkTree) (out : ActOutcome) → is_over (res
 still_going v Ends out h = absurd (let f : true ≡ false = h in cc)
 still_going v (Look ask next) out h = refl
 still_going v (Then act note next) out h = refl
-
--- the bytes of a reply that a journal has
-pub same_bytes : (r : Reply) → bytes_replied r ≡ bytes_given r
-same_bytes reply.Done = refl
-same_bytes (reply.Read bytes) = refl
-same_bytes (reply.Err errno) = refl
 
 module _ {C : Type 0} (b : BoardView) (v : LocksView) (s m t : Seat C) where
   -- it counts a message, and goes on
@@ -127,19 +119,6 @@ module _ {C S : Type 0} (c : CallerGhosts C S) (b : BoardView) (v : LocksView) (
       seated_same Passed
       (subst (λ (x : Seat C). x ≡ record s { walk = x.walk; replies = x.replies; decided = x.decided; cut = x.cut }) (sym on.same) refl)
       on.walk on.course
-
-  -- .. a message that it hears
-  pub seated_heard : (next : Sending) (reading : Bool) (bytes : List ℕ) (e : End) → MayHear next reading bytes e s → HasHeard b v next reading bytes e s t → IsSeated c b roots t
-  seated_heard next reading bytes e may on =
-      seated_behind (Sent e bytes)
-      (subst (λ (x : Seat C). x ≡ record s { walk = x.walk; sent = x.sent; written = x.written; replies = x.replies; decided = x.decided; cut = x.cut }) (sym on.same) refl)
-      on.wrote
-      (subst (λ (x : Seat C). t.sent ≤ length x.transfer.msgs) (sym on.same) (within (is_call_through next.purpose e) refl on.gone))
-      on.walk on.course
-    where
-      within : (through : Bool) → is_call_through next.purpose e ≡ through → t.sent ≡ (if through then s.sent + 1 else s.sent) → t.sent ≤ length s.transfer.msgs
-      within true is gone = (let low = may.more is in omega (arith, low, gone))
-      within false is gone = omega (arith, gone, seated.within)
 
 module _ {C S : Type 0} (c : CallerGhosts C S) (b : BoardView) (v : LocksView) (roots : List ℕ) (s m t : Seat C) where
   -- what has ended the walk behind a step has ended it for the caller

@@ -9,12 +9,14 @@ use Rattle.i2c_base.specs.declared.caller.Caller.{Ghosts as CallerGhosts}
 use Rattle.i2c_base.specs.Board.{BoardView}
 use Rattle.i2c_base.specs.Limits.{MOST_CALLERS}
 use Rattle.core_laws.specs.Table.{AreDistinct}
-use Rattle.core_laws.proofs.Core.{map_at, map_from, at_set}
-use Rattle.core_laws.proofs.Steps.{set_elsewhere}
+use Rattle.core_laws.proofs.Core.{at_set}
 use Rattle.bus_core.specs.Opens.{numbers_in, callers_scripts, without_place, IsFreshSeat, IsSeatOf, AreSeated}
 use Rattle.bus_core.specs.Places.{script_of, scripts_of}
 use Rattle.bus_core.specs.declared.seat.Seat.{Seat}
-use Rattle.bus_core.proofs.SeatLemmas.{there}
+use Rattle.i2c_base.proofs.ListLemmas.{there, map_from}
+use Rattle.i2c_base.proofs.ListLemmas.{map_at}
+use Rattle.i2c_base.proofs.ListLemmas.{set_elsewhere}
+use Rattle.i2c_base.proofs.ListLemmas.{set_here}
 
 -- a list with one more at its end
 push_at : {X : Type 0} (xs : List X) (y z : X) (i : ℕ) → slice_get (xs ++ y ∷ []) i ≡ Some z → ((i ≡ length xs) × (y ≡ z)) ⊎ (slice_get xs i ≡ Some z)
@@ -33,11 +35,6 @@ push_here [] ys y = refl
 push_here (x ∷ xs) ys y = push_here xs ys y
 
 -- the new one at a place within a list
-put_here : {X : Type 0} (xs : List X) (i : ℕ) (y : X) → i < length xs → slice_get (set xs i y) i ≡ Some y
-put_here [] i y low = absurd (omega (arith, low))
-put_here (x ∷ xs) zero y low = refl
-put_here (x ∷ xs) (suc i) y low = put_here xs i y (omega (arith, low))
-
 -- two lists of one length whose places are the same
 same_lists : {X : Type 0} (xs ys : List X) → length xs ≡ length ys → ((i : ℕ) (x y : X) → slice_get xs i ≡ Some x → slice_get ys i ≡ Some y → x ≡ y) → xs ≡ ys
 same_lists [] [] e each = refl
@@ -116,7 +113,7 @@ module _ {C S : Type 0} (c : CallerGhosts C S) (b : BoardView) (roots : List ℕ
               elim (push_at seats s t i at) [
                 | inl e ↦ subst (λ (u : Seat C). slice_get (set places x.0 (Some count)) u.number ≡ Some (Some i)) e.1
                     (subst (λ (n : ℕ). slice_get (set places x.0 (Some count)) n ≡ Some (Some i)) (sym fresh.number_is)
-                    (put_here places x.0 (Some count) low ∙ ap (λ (n : ℕ). Some (Some n)) (sym (e.0 ∙ counted))))
+                    (set_here places x.0 (Some count) low ∙ ap (λ (n : ℕ). Some (Some n)) (sym (e.0 ∙ counted))))
                 | inr old ↦ (let named : slice_get places t.number ≡ Some (Some i) = seated.named i t old in
                     let none = unplaced in
                     set_elsewhere places x.0 t.number (Some count)

@@ -12,13 +12,14 @@ use Rattle.bus_spec.specs.Schedule.{is_settle}
 use Rattle.bus_spec.specs.Stepwise.{IsStepwise}
 use Rattle.bus_message.specs.Sockets.{sockets_of}
 use Rattle.core_laws.specs.Spots.{Socket}
-use Rattle.core_laws.proofs.Core.{map_at, set_same}
+use Rattle.core_laws.proofs.Core.{set_same}
 use Rattle.core_laws.proofs.Laws.{turn-two}
 use Rattle.bus_core.specs.Kept.{roots_of, asks_in, IsKept, HasStepped}
 use Rattle.bus_core.specs.Seats.{HasSeat, Reseated}
 use Rattle.bus_core.specs.declared.parts.CoreParts.{CoreParts}
 use Rattle.bus_core.specs.declared.seat.Seat.{Seat}
 use Rattle.bus_core.proofs.Kept.{new-scripts}
+use Rattle.i2c_base.proofs.ListLemmas.{map_at}
 
 -- a later element at a place stands for an earlier one
 pub set-set : {X : Type 0} (xs : List X) (i : ℕ) (x y : X) → set (set xs i x) i y ≡ set xs i y

@@ -30,7 +30,6 @@ use Rattle.bus_spec.specs.Stepwise.{reply_by}
 use Rattle.bus_spec.specs.Walk.{Act, Job, Shift, Settle, Lined, Passed, WalkTree, job_bus, line_mux, line_level}
 use Rattle.bus_laws.specs.Jobs.{IsJobOf}
 use Rattle.bus_laws.specs.Next.{HasLineIn}
-use Rattle.bus_laws.specs.Costs.{bytes_given}
 use Rattle.bus_laws.proofs.Laws.{next-line, quiet-next}
 use Rattle.bus_laws.proofs.past.Laws.{past-stands}
 use Rattle.bus_message.specs.Sockets.{sockets_of, MayShift, Shifted}
@@ -55,6 +54,7 @@ use Rattle.bus_core.proofs.Kept.{fair, place-here, seated-here, kept-whole, step
 use Rattle.bus_core.proofs.Converse.{port, length-applied, holds_mux, dues-held, switched-on, marks-on}
 use Rattle.bus_core.proofs.Heard.{went-on-place, went-on-seated, settle-first, settled-place, settled-seated}
 use Rattle.bus_core.proofs.Stepped.{roots-stay, seat-is, seat-now, set-at, set-set, stepped-two}
+use Rattle.i2c_base.specs.Need.{bytes_given}
 
 -- a gpio mux is switched by a line
 by-line : (o : Option MuxSpec) → unwrap_or (option_map (λ (m : MuxSpec). Some m.kind) o) None ≡ Some Gpio → unwrap_or (option_map (λ (m : MuxSpec). (facts_of m.kind).by_line) o) false ≡ true

@@ -14,7 +14,6 @@ use Rattle.bus_laws.specs.Ready.{IsStuck}
 use Rattle.bus_spec.specs.Grammar.{first_act}
 use Rattle.bus_spec.specs.Past.{current}
 use Rattle.bus_message.specs.Sockets.{socket_of}
-use Rattle.core_laws.proofs.Core.{map_at, map_from}
 use Rattle.core_laws.proofs.Laws.{finished-asks, free-ready, next-same}
 use Rattle.core_laws.specs.Steps.{next_of}
 use Rattle.bus_core.specs.Answers.{HasAdded, WaitsFor, HasUsedUp, IsLeast}
@@ -33,6 +32,8 @@ use Rattle.bus_core.proofs.Advances.{numbered, over-none, has-made}
 use Rattle.bus_core.proofs.Kept.{place-here}
 use Rattle.bus_core.proofs.Locks.{same_seat}
 use Rattle.bus_core.proofs.Loops.{come-refl, stuck-below}
+use Rattle.i2c_base.proofs.ListLemmas.{map_from}
+use Rattle.i2c_base.proofs.ListLemmas.{map_at}
 
 -- a number that a caller has stands at a place
 has-at : {S : Type 0} (scripts : List (ℕ × S)) (n : ℕ) → has_caller scripts n ≡ true → (i : ℕ) × (s : S) × (slice_get scripts i ≡ Some (n, s))

@@ -17,7 +17,6 @@ use Rattle.i2c_base.specs.Transfer.{IsTransfer, TransferView, written_of}
 use Rattle.i2c_spec.specs.Messages.{messages_of}
 use Rattle.i2c_spec.specs.Tree.{buses, root_of}
 use Rattle.bus_journal.specs.View.{JournalView}
-use Rattle.bus_laws.specs.Costs.{bytes_given}
 use Rattle.bus_spec.specs.Grammar.{is_over, first_note, seen, plain, walk_for}
 use Rattle.bus_spec.specs.Readings.{message_cut}
 use Rattle.bus_spec.specs.Stepwise.{reply_by}
@@ -37,6 +36,7 @@ use Rattle.bus_message.specs.Sockets.{SentOn, MaySend}
 use Rattle.bus_message.specs.declared.sending.Sent.{Sent}
 use Rattle.i2c_base.specs.declared.tree.Grant.{Grant}
 use Rattle.bus_core.specs.declared.seat.Seat.{Seat}
+use Rattle.i2c_base.specs.Need.{bytes_given}
 
 -- the seat at a place is another one, which stands to it like this; all others stay
 pub record Reseated {C : Type 0} (IsNow : Seat C → Seat C → Type 0) (old new : List (Seat C)) (place : ℕ) : Type 0 where

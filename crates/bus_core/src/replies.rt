@@ -26,12 +26,12 @@ impl Model for Replies {
     ghost use Rattle.std.specs.Prelude.{◌≡◌};
     ghost use Rattle.i2c_base.specs.declared.errno.Errno.TheVariants as errno;
     ghost use Rattle.i2c_base.specs.declared.reply.Reply.TheVariants as reply;
-    ghost use Rattle.bus_journal.specs.Borrowed.{bytes_replied};
+    ghost use Rattle.i2c_base.specs.Need.{bytes_given};
     ghost use Rattle.bus_core.specs.Replies.{RepliesView, IsRead, IsErr, errno_in};
 
     ghost Value = { RepliesView };
 
-    ghost view = { λ r. record { got = bytes_replied r.read; errno = errno_in r.failed errno.Eio } };
+    ghost view = { λ r. record { got = bytes_given r.read; errno = errno_in r.failed errno.Eio } };
 
     ghost invariant = { λ r. IsRead r.read × IsErr r.failed × (r.done ≡ reply.Done) };
 }

@@ -51,7 +51,7 @@ decimal-line n = digits_onto-line 64 n [] refl
 hex_digit-line : (n : ℕ) → (hex_digit n == 10) ≡ false
 hex_digit-line n = grind (arith, nat_tests)
 
-two_digits-line : (byte : ℕ) → IsLine (two_digits byte)
+pub two_digits-line : (byte : ℕ) → IsLine (two_digits byte)
 two_digits-line byte =
     line-cons (hex_digit (byte / 16)) (hex_digit (byte % 16) ∷ []) (hex_digit-line (byte / 16)) (line-cons (hex_digit (byte % 16)) [] (hex_digit-line (byte % 16)) refl)
 

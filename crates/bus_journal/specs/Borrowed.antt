@@ -1,5 +1,5 @@
 -- The entry that an entry with borrowed bytes stands for, and how many bytes it may have.
-use Rattle.std.specs.Prelude.{ℕ, List, []}
+use Rattle.std.specs.Prelude.{ℕ, List}
 use Rattle.i2c_base.specs.Limits.{MOST_BYTES, MOST_LENGTH}
 use Rattle.i2c_base.specs.declared.reply.Reply.{Reply}
 use Rattle.i2c_base.specs.declared.reply.Reply.TheVariants as reply
@@ -25,12 +25,6 @@ entry_by (head.Settle caller a cut) bytes = entry.Settle caller (reply_by a byte
 
 abbrev pub entry_seen : EntryRef → Entry
 entry_seen seen = entry_by seen.head seen.bytes.now
-
--- the bytes of a reply
-abbrev pub bytes_replied : Reply → List ℕ
-bytes_replied reply.Done = []
-bytes_replied (reply.Read bytes) = bytes
-bytes_replied (reply.Err errno) = []
 
 -- a transfer reads at most 4,096 bytes, a message has at most 512, and no other entry has any
 abbrev pub most_read : ReplyHead → ℕ

@@ -1,6 +1,7 @@
 ghost use Rattle.std.specs.Prelude.{◌≡◌, ◌≤◌, length};
 ghost use Rattle.i2c_base.specs.declared.entry.Entry.TheVariants as entry;
-ghost use Rattle.bus_journal.specs.Borrowed.{entry_seen, reply_by, bytes_replied, most_bytes, most_read};
+ghost use Rattle.bus_journal.specs.Borrowed.{entry_seen, reply_by, most_bytes, most_read};
+ghost use Rattle.i2c_base.specs.Need.{bytes_given};
 
 use i2c_base::{
     Addr, ByteStore, Cut, End, Entry, Errno, LockId, MuxId, Node, Purpose, Reply, SegId,
@@ -81,7 +82,7 @@ fn reply_of(answer: ReplyHead, bytes: &[u8]) -> Reply
 /// A reply without its bytes, and those.
 pub fn split_reply(reply: &Reply) -> (ReplyHead, &[u8])
     ensures same { reply_by result.0 result.1.now ≡ reply.now }
-    ensures bytes { result.1.now ≡ bytes_replied reply.now }
+    ensures bytes { result.1.now ≡ bytes_given reply.now }
     ensures few { length result.1.now ≤ most_read result.0 }
 {
     match reply {
@@ -95,7 +96,7 @@ impl<'a> EntryRef<'a> {
     /// The entry of a settle, whose bytes are left in its reply.
     pub fn settle(caller: u8, reply: &'a Reply, cut: Cut) -> Self
         ensures seen { entry_seen result ≡ entry.Settle caller reply.now cut }
-        ensures bytes { result.bytes.now ≡ bytes_replied reply.now }
+        ensures bytes { result.bytes.now ≡ bytes_given reply.now }
         ensures few { length result.bytes.now ≤ most_bytes result.head }
     {
         let (answer, bytes) = split_reply(reply);

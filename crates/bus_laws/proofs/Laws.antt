@@ -21,4 +21,3 @@ pub use Rattle.bus_laws.proofs.walk.SettleLaw.{walk-settles, walk-starts}
 pub use Rattle.bus_laws.proofs.walk.Waits.{all-ended}
 pub use Rattle.bus_laws.proofs.world.BoardFacts.{get_within}
 pub use Rattle.bus_laws.proofs.world.LineFacts.{lines-locked}
-pub use Rattle.bus_laws.proofs.world.Sends.{length-messages}

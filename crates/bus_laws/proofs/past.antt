@@ -14,3 +14,4 @@ pub mod NextLine
 pub mod Others
 pub mod Stays
 pub mod Known
+pub mod Bytes

@@ -7,8 +7,9 @@ use Rattle.i2c_base.specs.Board.{BoardView}
 use Rattle.i2c_spec.specs.Tree.{root_of, of_device}
 use Rattle.i2c_spec.specs.Targets.{TargetState, HoldsBytes, IsQuiet, state_table}
 use Rattle.i2c_spec.specs.World.{World, joins_device, start_chips, heard_of}
-use Rattle.i2c_spec.specs.Flat.{FlatListener, is_it, is_member}
+use Rattle.i2c_spec.specs.Flat.{FlatListener, is_member}
 use Rattle.i2c_spec.specs.Conversation.{TalkTold, is_good}
+use Rattle.i2c_spec.specs.Conversation.{is_it}
 
 -- device d stands on a bus of root r
 abbrev pub IsOf : BoardView → ℕ → ℕ → Type 0

@@ -9,9 +9,10 @@ ghost use Rattle.i2c_spec.specs.Plain.{IsPlainBoard};
 ghost use Rattle.i2c_spec.specs.Targets.{TargetState, opening_state};
 ghost use Rattle.i2c_spec.specs.Messages.{MessageView};
 ghost use Rattle.i2c_spec.specs.World.{World, is_joined, opening_world};
-ghost use Rattle.i2c_spec.specs.Flat.{FlatListener, idle, is_it, flat_listener, granted_on, flat};
+ghost use Rattle.i2c_spec.specs.Flat.{FlatListener, idle, flat_listener, granted_on, flat};
 ghost use Rattle.i2c_spec.specs.Conversation.{world_listener, talk};
 ghost use Rattle.bus_laws.specs.Alike.{IsOf, Same, LeadsTo, IsControl, ToldAlike, EndsTransfer, IsUnnamed};
+ghost use Rattle.i2c_spec.specs.Conversation.{is_it};
 
 /// A root's world and the flat world are opened with the same devices.
 pub fn both_worlds_open_the_same()

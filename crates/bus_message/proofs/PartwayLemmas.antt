@@ -1,11 +1,10 @@
 -- A transfer partway: its next message, with its bytes. The induction goes over its messages.
-use Rattle.std.proofs.Common.{◌≡◌, ◌<◌, ◌≤◌, ◌+◌, ℕ, suc, zero, List, [], ◌∷◌, length, refl, sym, ◌∙◌, ap, subst, arith}
+use Rattle.std.proofs.Common.{◌≡◌, ◌<◌, ◌≤◌, ◌+◌, ℕ, suc, zero, List, [], ◌∷◌, length, refl, sym, ◌∙◌, ap, arith}
 use Rattle.std.specs.Prelude.{take, drop, get_or, sum_by}
 use Rattle.std.proofs.lemmas.List.{take_more, drop-drop}
-use Rattle.std.proofs.lemmas.List.Elements.{All-get_or}
 use Rattle.std.proofs.lemmas.List.Sums.{sum_by-cons, sum_by_push, sum_by-take-le}
 use Rattle.i2c_base.specs.declared.transfer.Msg.{Msg}
-use Rattle.i2c_base.specs.Transfer.{IsTransfer, IsMessage, TransferView, written_of}
+use Rattle.i2c_base.specs.Transfer.{IsTransfer, TransferView, written_of}
 use Rattle.i2c_spec.specs.Messages.{message_with, messages_from, messages_of}
 use Rattle.bus_spec.specs.Walk.{nth_message}
 
@@ -42,7 +41,3 @@ module _ (t : TransferView) (sent wrote : ℕ) (more : sent < length t.msgs) (co
   written_within =
       let both : sum_by written_of (take sent t.msgs) + written_of (get_or t.msgs sent m) ≤ sum_by written_of t.msgs = sum_within written_of t.msgs sent m more in
       omega (arith, both, fits.written, counts, ap written_of here)
-
-  -- is a message as each of the transfer
-  pub is_message : IsMessage m
-  is_message = subst IsMessage (sym here) (All-get_or IsMessage t.msgs sent m more fits.each)

@@ -8,17 +8,17 @@ use Rattle.i2c_base.specs.declared.port.PortCall.TheVariants as call
 use Rattle.i2c_base.specs.declared.entry.End.{End}
 use Rattle.i2c_base.specs.declared.entry.End.TheVariants as end
 use Rattle.i2c_spec.specs.World.{World, after}
-use Rattle.i2c_spec.specs.Conversation.{Said, TalkTold, world_listener, is_at, say, told, with_byte, call_then}
+use Rattle.i2c_spec.specs.Conversation.{Said, TalkTold, world_listener, is_it, say, told, with_byte, call_then}
 use Rattle.bus_spec.specs.Past.{cut_of}
 use Rattle.core_laws.specs.Talks.{TellsTalk}
 use Rattle.bus_message.specs.Talks.{Stands, Reaches}
 
 -- a place of failure that is behind this one, and this one
-not_here : (cut : Option ℕ) (n : ℕ) → ((k : ℕ) → cut ≡ Some k → n + 1 ≤ k) → is_at cut n ≡ false
+not_here : (cut : Option ℕ) (n : ℕ) → ((k : ℕ) → cut ≡ Some k → n + 1 ≤ k) → is_it cut n ≡ false
 not_here None n behind = refl
 not_here (Some k) n behind = let h = behind k refl in grind (arith, nat_tests)
 
-is_here : (n : ℕ) → is_at (Some n) n ≡ true
+is_here : (n : ℕ) → is_it (Some n) n ≡ true
 is_here n = grind (arith, nat_tests)
 
 -- the place of failure that an end tells
@@ -58,12 +58,12 @@ said_more s before count got w log c at =
 
 -- a call that goes through
 call_went : (whole : TalkTold World) (cut : Option ℕ) (c : PortCall) (next : World → Said World → TalkTold World) (before : List PortCall) (count : ℕ) (got : List ℕ) (w : World) (log : List PortCall)
-    → is_at cut count ≡ false
+    → is_it cut count ≡ false
     → Reaches whole (λ s. call_then world_listener cut s c (next s.now)) before count got w log
     → Reaches whole (next w) before (count + 1) got (after w c) (log ++ c ∷ [])
 call_went whole cut c next before count got w log goes r =
     let s : Said World = r.said in
-    let test : is_at cut (length s.calls) ≡ false = ap (is_at cut) (sym r.stands.calls) ∙ goes in
+    let test : is_it cut (length s.calls) ≡ false = ap (is_it cut) (sym r.stands.calls) ∙ goes in
     record {
       said = say world_listener s c;
       stands = said_more s before count got w log c r.stands;
@@ -78,7 +78,7 @@ call_failed : (whole : TalkTold World) (c : PortCall) (next : World → Said Wor
     → TellsTalk whole got (end.Cut count) (after w call.Fault) before (log ++ call.Fault ∷ [])
 call_failed whole c next before count got w log r =
     let s : Said World = r.said in
-    let test : is_at (Some count) (length s.calls) ≡ true = ap (is_at (Some count)) (sym r.stands.calls) ∙ is_here count in
+    let test : is_it (Some count) (length s.calls) ≡ true = ap (is_it (Some count)) (sym r.stands.calls) ∙ is_here count in
     let same : whole ≡ told (say world_listener s call.Fault) (end.Cut (length s.calls)) =
     r.same ∙ ap (λ b. cond b (told (say world_listener s call.Fault) (end.Cut (length s.calls))) (next s.now (say world_listener s c))) test in
     record {

@@ -1,12 +1,10 @@
 -- Scripts are fair callers.
-use Rattle.std.proofs.Common.{◌≡◌, ◌+◌, ◌≤◌, true, false, cond, List, [], length, Some, subst, arith}
-use Rattle.std.specs.Prelude.{All, nat_lt}
+use Rattle.std.proofs.Common.{◌≡◌, List, [], length, Some, subst}
+use Rattle.std.specs.Prelude.{All}
 use Rattle.std.proofs.lemmas.List.Elements.{All-head}
 use Rattle.i2c_base.specs.declared.reply.Reply.{Reply}
-use Rattle.i2c_base.specs.Board.{BoardView}
 use Rattle.i2c_base.specs.Transfer.{TransferView}
-use Rattle.i2c_spec.specs.Cost.{full_cost, steps_of, cost_of}
-use Rattle.i2c_spec.specs.Tree.{hops, buses}
+use Rattle.i2c_spec.specs.Cost.{cost_of}
 use Rattle.tool_run.proofs.ToolLemmas.{asks_at}
 use Rattle.tool_run.proofs.TransferLemmas.{IsAsk}
 use Rattle.caller_core.specs.Callers.{ScriptsAreFair}
@@ -15,6 +13,7 @@ use Rattle.caller_core.specs.Scripts.{commands_of, asked_by, left_of, cost_of_sc
 use Rattle.caller_core.specs.View.{CommandView, ScriptView}
 use Rattle.caller_core.proofs.CommandLemmas.{IsRead, commands_are_read}
 use Rattle.caller_core.proofs.ProgressLemmas.{IsNext, is_next, left_all, sum_start, sum_falls}
+use Rattle.i2c_spec.proofs.CostLemmas.{cost_some}
 
 -- what commands in range ask for
 pub asked_from : (cs : List CommandView) (rs : List Reply) (t : TransferView) → All IsRead cs → asked_at (progress cs rs) ≡ Some t → IsAsk t
@@ -26,9 +25,6 @@ asked_from cs rs t all e =
 
 asked : (s : ScriptView) (rs : List Reply) (t : TransferView) → asked_by s rs ≡ Some t → IsAsk t
 asked s rs t e = asked_from (commands_of s) rs t (commands_are_read s).fits e
-
-cost_some : (b : BoardView) (t : TransferView) → 1 ≤ cost_of b t
-cost_some b t = elim (nat_lt t.bus (buses b)) as (λ v. 1 ≤ cond v (1 + full_cost (hops b t.bus) (steps_of b t)) 1) [ true ↦ omega arith | false ↦ omega arith ]
 
 pub scripts_fair : ScriptsAreFair
 scripts_fair =

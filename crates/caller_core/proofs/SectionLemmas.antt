@@ -1,6 +1,6 @@
 -- The section of a script is whole lines, of which none is `journal`.
-use Rattle.std.proofs.Common.{◌≡◌, ℕ, ◌+◌, Bool, true, false, cond, List, [], ◌∷◌, ◌++◌, length, get_or, codes, Some, None, Result, Ok, Err, refl, sym, ap, subst, ◌∙◌, append_assoc, arith}
-use Rattle.std.specs.Prelude.{All, ◌==◌, ◌&&◌, ◌||◌}
+use Rattle.std.proofs.Common.{◌≡◌, ℕ, ◌+◌, true, false, cond, List, [], ◌∷◌, ◌++◌, length, get_or, codes, Some, None, Result, Ok, Err, refl, sym, ap, subst, ◌∙◌, append_assoc, arith}
+use Rattle.std.specs.Prelude.{All, ◌==◌, ◌&&◌}
 use Rattle.std.specs.List.{flat_map, fold, list_any}
 use Rattle.std.proofs.lemmas.Bool.{or_from}
 use Rattle.std.proofs.lemmas.List.Elements.{All-nil, All-cons, All-head, All-tail, All-append}
@@ -18,6 +18,7 @@ use Rattle.caller_core.specs.Progress.{Answered, Progress, begun, next_turn, rep
 use Rattle.caller_core.specs.Scripts.{Place, command_of, at_most, lines_read, behind_commands, behind_line_read, commands_or_none, script_read, commands_of, command_text}
 use Rattle.caller_core.specs.Sections.{SectionsHaveNoJournalLine}
 use Rattle.caller_core.specs.View.{CommandView, ScriptView}
+use Rattle.std.proofs.lemmas.Bool.{or_parts}
 
 -- ---- no line feed stands in a line, its words, and what is printed of them
 
@@ -25,12 +26,8 @@ record IsOnto (b : ℕ) (bs : List ℕ) : Type 0 where
   first : (b == 10) ≡ false
   rest : IsLine bs
 
-parts_by : (x y : Bool) → (x || y) ≡ false → (x ≡ false) × (y ≡ false)
-parts_by true y e = absurd cc
-parts_by false y e = (refl, e)
-
 first_and_rest : (b : ℕ) (bs : List ℕ) → IsLine (b ∷ bs) → IsOnto b bs
-first_and_rest b bs h = let p = parts_by (b == 10) (list_any (λ c. c == 10) bs) h in record { first = p.0; rest = p.1 }
+first_and_rest b bs h = let p = or_parts (b == 10) (list_any (λ c. c == 10) bs) h in record { first = p.0; rest = p.1 }
 
 onto_lines : (b : ℕ) (ls : List (List ℕ)) → (b == 10) ≡ false → All IsLine ls → All IsLine (onto_first b ls)
 onto_lines b [] e h = All-cons IsLine (b ∷ []) [] (or_from _ _ e refl) (All-nil IsLine)

@@ -11,7 +11,7 @@ use Rattle.i2c_base.specs.Need.{Covers}
 use Rattle.i2c_base.specs.Transfer.{TransferView}
 use Rattle.i2c_base.specs.declared.reply.Reply.{Reply}
 use Rattle.packed.specs.View.{PackedView}
-use Rattle.bus_journal.specs.Borrowed.{reply_by, bytes_replied}
+use Rattle.bus_journal.specs.Borrowed.{reply_by}
 use Rattle.bus_journal.specs.declared.borrowed.ReplyHead.{ReplyHead}
 use Rattle.tool_words.specs.declared.cmd.Cmd.{Cmd}
 use Rattle.tool_run.specs.Replies.{reply_of, replies_of, most_brought}
@@ -27,6 +27,7 @@ use Rattle.caller_core.proofs.CommandLemmas.{IsRead, commands_are_read, commands
 use Rattle.caller_core.proofs.FairLemmas.{asked_from}
 use Rattle.caller_core.proofs.ProgressLemmas.{sum_falls}
 use Rattle.caller_core.proofs.TurnLemmas.{IsTurn, is_turn, answered, own_more, at_next, at_same, section_over, section_stays, left_over, left_stays, replies_push}
+use Rattle.i2c_base.specs.Need.{bytes_given}
 
 run_same : (a b : RunView) → Some a ≡ Some b → a ≡ b
 run_same a b e = cc
@@ -71,7 +72,7 @@ pub record IsTaking (cs : List CommandView) (rs : List Reply) (place from : ℕ)
   pub transfer : TransferView
   pub next : asked_at (progress cs rs) ≡ Some transfer
   pub fits : Fits transfer r
-  pub few : length (bytes_replied r) ≤ most_brought transfer
+  pub few : length (bytes_given r) ≤ most_brought transfer
   pub count : length cs ≤ 1000
   pub at : IsAt cs rs place from run
   pub turn : IsTurn cs rs place from run transfer
@@ -81,7 +82,7 @@ pub record IsTaking (cs : List CommandView) (rs : List Reply) (place from : ℕ)
 pub record IsKept (cs : List CommandView) (taken : PackedView ReplyHead) (printed : TextView) (place from : ℕ) (run : Option RunView) (r : Reply) (then : PackedView ReplyHead) : Type 0 where
   pub taking : IsTaking cs (replies_of taken.items) place from run printed.room r
   pub now : replies_of then.items ≡ replies_of taken.items ++ r ∷ []
-  pub bytes : then.room_bytes + length (bytes_replied r) ≡ taken.room_bytes
+  pub bytes : then.room_bytes + length (bytes_given r) ≡ taken.room_bytes
 
 -- the command that runs tells whether the one whose turn it is is over
 pub tells_over : (cs : List CommandView) (rs : List Reply) (place from : ℕ) (o : Option RunView) (t : TransferView) (run : RunView) (u : IsTurn cs rs place from o t) (r : Reply) (told is : Bool) → o ≡ Some run
@@ -124,7 +125,7 @@ module _ (script : ScriptView) (cs : List CommandView) (taken : PackedView Reply
   pub kept_behind : (view : CallerView) → IsCaller script cs taken printed place from run cost roots
       → record { script = script; taken = replies_of taken.items; spare = record { replies = taken.room; bytes = printed.room } } ≡ view
       → (t : TransferView) × (asked_by view.script view.taken ≡ Some t) × Fits t r → Covers view.spare (owed_by view.script view.taken)
-      → (answer : ReplyHead) (bytes : List ℕ) (then : PackedView ReplyHead) → reply_by answer bytes ≡ r → bytes ≡ bytes_replied r
+      → (answer : ReplyHead) (bytes : List ℕ) (then : PackedView ReplyHead) → reply_by answer bytes ≡ r → bytes ≡ bytes_given r
       → then.items ≡ taken.items ++ (answer, bytes) ∷ [] → then.room_bytes + length bytes ≡ taken.room_bytes
       → IsKept cs taken printed place from run r then
   kept_behind view is seen asks covers answer bytes then same these items room_bytes =
@@ -156,7 +157,7 @@ module _ (script : ScriptView) (cs : List CommandView) (taken : PackedView Reply
 
   -- what it keeps, where the command is over and where it isn't
   module _ (then : PackedView ReplyHead) (text : TextView) (k : IsTaking cs (replies_of taken.items) place from run printed.room r) (was : IsCaller script cs taken printed place from run cost roots)
-      (now : replies_of then.items ≡ replies_of taken.items ++ r ∷ []) (one : then.room + 1 ≡ taken.room) (bytes : then.room_bytes + length (bytes_replied r) ≡ taken.room_bytes) where
+      (now : replies_of then.items ≡ replies_of taken.items ++ r ∷ []) (one : then.room + 1 ≡ taken.room) (bytes : then.room_bytes + length (bytes_given r) ≡ taken.room_bytes) where
     room_then : sum_left (λ t. 1) (progress cs (replies_of then.items)) ≤ then.room
     room_then = omega (arith, one, was.room, sum_falls (λ t. 1) cs (replies_of taken.items) r k.transfer k.next, ap (λ xs. sum_left (λ t. 1) (progress cs xs)) now)
 

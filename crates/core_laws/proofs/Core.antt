@@ -1,5 +1,5 @@
 -- A step of one caller keeps the whole: what changes at its place is shown, and all else stays. No induction but over lists.
-use Rattle.std.proofs.Common.{◌≡◌, ℕ, zero, suc, ◌+◌, ◌*◌, ◌<◌, ◌≤◌, false, IsTrue, List, [], ◌∷◌, length, map, set, get_or, Option, Some, None, refl, sym, ◌∙◌, ap, subst, ◌⊎◌, inl, inr, arith}
+use Rattle.std.proofs.Common.{◌≡◌, ℕ, zero, suc, ◌+◌, ◌*◌, ◌<◌, ◌≤◌, false, IsTrue, List, [], ◌∷◌, length, set, get_or, Option, Some, None, refl, sym, ◌∙◌, ap, subst, ◌⊎◌, inl, inr, arith}
 use Rattle.std.specs.Prelude.{slice_get}
 use Rattle.std.proofs.lemmas.Bool.Decides.{eqb_tells}
 use Rattle.std.proofs.lemmas.List.{length-set, map-set}
@@ -15,7 +15,7 @@ use Rattle.bus_spec.specs.Grammar.{seen, is_over, first_act}
 use Rattle.bus_laws.specs.Holds.{HoldsLocks}
 use Rattle.seg_locks.specs.Locks.{LocksView}
 use Rattle.core_laws.specs.Spots.{Spot, Socket, IsTold, AreNumbered, AreRooted}
-use Rattle.core_laws.proofs.Steps.{set_here, set_elsewhere}
+use Rattle.core_laws.proofs.Steps.{set_here}
 use Rattle.core_laws.specs.Core.{Place, spot_of, numbers_of, trees_of, spots_of, pending, has_reply, IsLone, Run, Whole, StandsAt, IsGoing, SeatKept, CoreKept}
 use Rattle.core_laws.specs.Seats.{IsLeft}
 use Rattle.core_laws.specs.Steps.{next_of}
@@ -24,21 +24,14 @@ use Rattle.core_laws.specs.Owed.{total}
 use Rattle.core_laws.specs.Sockets.{SocketKept, HoldsAt}
 use Rattle.core_laws.specs.Table.{AreDistinct, TableKept}
 use Rattle.core_laws.proofs.Owed.{total-set}
+use Rattle.i2c_base.proofs.ListLemmas.{map_from}
+use Rattle.i2c_base.proofs.ListLemmas.{set_elsewhere}
+use Rattle.i2c_base.proofs.ListLemmas.{map_at}
 
 pub set_same : {X : Type 0} (xs : List X) (i : ℕ) (x : X) → slice_get xs i ≡ Some x → set xs i x ≡ xs
 set_same [] i x h = refl
 set_same (y ∷ ys) zero x h = ap (λ (z : _). z ∷ ys) (let f : Some y ≡ Some x = h in let g : x ≡ y = cc in g)
 set_same (y ∷ ys) (suc i) x h = ap (λ (zs : List _). y ∷ zs) (set_same ys i x h)
-
-pub map_at : {X Y : Type 0} (f : X → Y) (xs : List X) (i : ℕ) (x : X) → slice_get xs i ≡ Some x → slice_get (map f xs) i ≡ Some (f x)
-map_at f [] i x h = absurd (let g : None ≡ Some x = h in cc)
-map_at f (y ∷ ys) zero x h = (let g : Some y ≡ Some x = h in let e : y ≡ x = cc in ap (λ (z : _). Some (f z)) e)
-map_at f (y ∷ ys) (suc i) x h = map_at f ys i x h
-
-pub map_from : {X Y : Type 0} (f : X → Y) (xs : List X) (i : ℕ) (y : Y) → slice_get (map f xs) i ≡ Some y → (x : X) × (slice_get xs i ≡ Some x) × (f x ≡ y)
-map_from f [] i y h = absurd (let g : None ≡ Some y = h in cc)
-map_from f (x ∷ xs) zero y h = (x, refl, (let g : Some (f x) ≡ Some y = h in cc))
-map_from f (x ∷ xs) (suc i) y h = map_from f xs i y h
 
 pub at_set : {X : Type 0} (xs : List X) (i k : ℕ) (x y : X) → slice_get (set xs i x) k ≡ Some y → ((k ≡ i) × (x ≡ y)) ⊎ ((k ≡ i → ⊥) × (slice_get xs k ≡ Some y))
 at_set xs i k x y h =

@@ -15,7 +15,6 @@ use Rattle.bus_spec.specs.Walk.{Call, Free, Send, Settle, Passed, WalkTree, Ends
 use Rattle.bus_spec.specs.Grammar.{seen, is_over, rest_of, walk_for}
 use Rattle.bus_spec.specs.Stepwise.{reply_by}
 use Rattle.bus_laws.specs.Runs.{InLocks}
-use Rattle.bus_laws.specs.Costs.{bytes_given}
 use Rattle.mux_plan.specs.Plans.{slots_of}
 use Rattle.bus_laws.specs.Holds.{HoldsLocks, IsLockOf}
 use Rattle.seg_locks.specs.Locks.{with_holder}
@@ -35,6 +34,7 @@ use Rattle.core_laws.proofs.CoreSteps.{less-owed}
 use Rattle.core_laws.proofs.Going.{settle-errs, settle-lone}
 use Rattle.core_laws.proofs.Loads.{seat-loaded, seat-over}
 use Rattle.core_laws.proofs.Owed.{owes-end}
+use Rattle.i2c_base.specs.Need.{bytes_given}
 
 ends_holding : (b : BoardView) (ls : List LockId) (w : WalkTree) → is_over w ≡ true → HoldsLocks b ls w → ls ≡ []
 ends_holding b ls Ends over h = h

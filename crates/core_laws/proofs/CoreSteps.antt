@@ -22,7 +22,7 @@ use Rattle.bus_spec.specs.Grammar.{seen, is_over, first_note, rest_of}
 use Rattle.bus_spec.specs.Readings.{message_cut}
 use Rattle.bus_spec.specs.Past.{got_after}
 use Rattle.bus_spec.specs.Stepwise.{reply_by, IsBelow}
-use Rattle.bus_laws.specs.Costs.{bytes_given, weight_at}
+use Rattle.bus_laws.specs.Costs.{weight_at}
 use Rattle.bus_laws.specs.Runs.{InLocks}
 use Rattle.mux_plan.specs.Plans.{slots_of}
 use Rattle.bus_laws.specs.Holds.{HoldsLocks, SendsIn, IsLockOf}
@@ -38,7 +38,7 @@ use Rattle.core_laws.specs.Sockets.{IsInside, SocketKept}
 use Rattle.core_laws.specs.Steps.{next_of, behind_of, IsSaid}
 use Rattle.core_laws.specs.Table.{TableKept}
 use Rattle.core_laws.proofs.Core.{are-numbered, core-stepped, set_same, going-on, left-on, spot-here, tree-here, number-here}
-use Rattle.core_laws.proofs.Bytes.{got-grows, given-few}
+use Rattle.bus_laws.proofs.past.Bytes.{got-grows, given-few}
 use Rattle.core_laws.proofs.Holding.{holder-goes, holds-taken, holds-freed, holds-sent}
 use Rattle.core_laws.proofs.ToldSteps.{message-keeps, message-settles}
 use Rattle.core_laws.proofs.Marked.{said-table}
@@ -48,6 +48,7 @@ use Rattle.core_laws.proofs.Sockets.{sockets-still, sockets-spoken, inside-behin
 use Rattle.core_laws.proofs.Table.{take-table, free-table, lock-there}
 use Rattle.core_laws.proofs.WalkSteps.{call-is, left-taken, left-freed}
 use Rattle.core_laws.proofs.Turns.{rooted-kept}
+use Rattle.i2c_base.specs.Need.{bytes_given}
 
 pub none_owed : (rs : List Reply) → has_reply rs ≡ false → rs ≡ []
 none_owed [] e = refl
@@ -197,7 +198,7 @@ module _ (run : Run) (fair : IsFairRun run) (whole : Whole) (core : CoreKept run
       core-settled =
           let weight : 1 + message_most run.board job more ≤ n = pays.0 in
           let one : 1 ≤ n - (1 + message_most run.board job more) = one_left in
-          let gives : length (bytes_given reply) ≤ length got = (let few = given-few verdict p.transfer got in let same : length (bytes_given reply) ≡ length (bytes_given (reply_by verdict (Some p.transfer) got)) = ap (λ (r : Reply). length (bytes_given r)) decided in omega (arith, few, same)) in
+          let gives : length (bytes_given reply) ≤ length got = (let few = given-few verdict (Some p.transfer) got in let same : length (bytes_given reply) ≡ length (bytes_given (reply_by verdict (Some p.transfer) got)) = ap (λ (r : Reply). length (bytes_given r)) decided in omega (arith, few, same)) in
           core-stepped run whole core place p settled_place stands.here refl n settled_less 2 stands.owing (omega (arith, weight, one))
           ls settled_seat (record whole.locks { marks = marks }) table_now (set whole.sockets at new) (rooted-kept whole.sockets core.once at old new sent.port sent.keeps.root)
           (ports settled_less (omega (arith, weight, one)) after (free_after sent.keeps.idle)) (settle ∷ message ∷ whole.past)

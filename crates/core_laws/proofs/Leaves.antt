@@ -1,18 +1,13 @@
 -- What a message leaves of its transfer, whichever it is and however it ended, and the reply that fits. No induction.
-use Rattle.std.proofs.Common.{◌≡◌, ℕ, ◌+◌, Bool, true, false, cond, List, Option, Some, None, refl, sym, subst, ◌⊎◌, inl, inr}
-use Rattle.std.specs.List.{list_any}
-use Rattle.i2c_base.specs.declared.errno.Errno.{Errno}
+use Rattle.std.proofs.Common.{◌≡◌, ℕ, ◌+◌, Bool, cond, List, Some, refl, sym, subst, ◌⊎◌, inl, inr}
 use Rattle.i2c_base.specs.declared.entry.End.{End}
 use Rattle.i2c_base.specs.declared.entry.End.TheVariants as end
 use Rattle.i2c_base.specs.declared.entry.Purpose.TheVariants as purpose
-use Rattle.i2c_base.specs.declared.reply.Reply.TheVariants as reply
 use Rattle.i2c_base.specs.Board.{BoardView}
-use Rattle.i2c_base.specs.Fitting.{Fits, FitsReads}
-use Rattle.i2c_base.specs.Transfer.{TransferView, is_read}
+use Rattle.i2c_base.specs.Transfer.{TransferView}
 use Rattle.bus_spec.specs.Walk.{Job, Call, Select, Clear, Send, Sent, WalkTree}
 use Rattle.bus_spec.specs.Slots.{Slots}
 use Rattle.bus_spec.specs.Grammar.{seen, first_act, rest_of}
-use Rattle.bus_spec.specs.Stepwise.{reply_by}
 use Rattle.core_laws.specs.Seats.{IsLeft}
 use Rattle.core_laws.specs.Sends.{is_call_through, gone_after}
 use Rattle.core_laws.proofs.WalkSteps.{SendLeaves, select-leaves, clear-leaves, went-leaves, ended-leaves}
@@ -37,12 +32,3 @@ message-leaves b t v w settled sent is (Call bus ms) more first e bytes =
           (went-leaves b t v w settled sent is bus ms more first bytes)
       | inr bad ↦ inr (ended-leaves b t v w settled sent is bus ms more first e bytes bad)
     ]
-
-fits_by : (t : TransferView) (got : List ℕ) (r : Bool) → list_any is_read t.msgs ≡ r → FitsReads t.msgs got → Fits t (cond r (reply.Read got) reply.Done)
-fits_by t got true e fits = (e, fits)
-fits_by t got false e fits = e
-
--- the reply that its settle decides fits
-pub reply-fits : (t : TransferView) (got : List ℕ) (verdict : Option Errno) → (verdict ≡ None → FitsReads t.msgs got) → Fits t (reply_by verdict (Some t) got)
-reply-fits t got (Some e) all = tt
-reply-fits t got None all = fits_by t got (list_any is_read t.msgs) refl (all refl)

@@ -7,7 +7,6 @@ pub mod WalkSteps
 pub mod Leaves
 pub mod Sockets
 pub mod Owed
-pub mod Bytes
 pub mod Turns
 pub mod ToldSteps
 pub mod Marked

@@ -1,24 +1,21 @@
 -- The table behind a message or a line step.
-use Rattle.std.proofs.Common.{◌≡◌, ℕ, List, Option, Some, None, refl, subst}
+use Rattle.std.proofs.Common.{◌≡◌, ℕ, List, Option, Some, None, subst}
 use Rattle.std.specs.Prelude.{slice_index_or}
 use Rattle.i2c_base.specs.declared.ids.LockId.{LockId}
 use Rattle.i2c_base.specs.Board.{BoardView}
 use Rattle.bus_spec.specs.Walk.{Job, Act, Send, Shift, ActOutcome, WalkTree}
-use Rattle.bus_spec.specs.Slots.{mark_in, after_job}
+use Rattle.bus_spec.specs.Slots.{after_job}
 use Rattle.bus_spec.specs.Grammar.{seen, first_note}
-use Rattle.mux_plan.specs.Plans.{slots_of, slot_of, slots_after, TellsMarks}
+use Rattle.mux_plan.specs.Plans.{slots_of, slots_after, TellsMarks}
 use Rattle.bus_laws.specs.Holds.{HoldsLocks}
 use Rattle.seg_locks.specs.Locks.{LocksView}
 use Rattle.core_laws.specs.Table.{TableKept}
 use Rattle.core_laws.specs.Steps.{next_of, AreMarked}
 use Rattle.core_laws.proofs.Holding.{home_seen, holds-sent, holds-shifted, home-after, home-told, mark-table}
-
-mark_of : (o : Option ℕ) → mark_in (slot_of o) ≡ o
-mark_of None = refl
-mark_of (Some m) = refl
+use Rattle.mux_plan.proofs.Openings.{mark_slot}
 
 tells_own : (marks : List (Option ℕ)) → TellsMarks (slots_of marks) marks
-tells_own marks = record { at = λ p low. mark_of (slice_index_or marks p None) }
+tells_own marks = record { at = λ p low. mark_slot (slice_index_or marks p None) }
 
 module _ (b : BoardView) (v : LocksView) (numbers : List ℕ) (held : List (List LockId)) (table : TableKept b v numbers held) (ls : List LockId) (w : WalkTree) (holds : HoldsLocks b ls w) where
   told : (act : Act) → next_of v w ≡ Some act → (out : ActOutcome) (marks : List (Option ℕ)) → AreMarked b w v out marks

@@ -26,8 +26,9 @@ use Rattle.core_laws.specs.Owed.{total}
 use Rattle.core_laws.specs.Opens.{IsOpened}
 use Rattle.bus_laws.specs.Stands.{IsOnce}
 use Rattle.core_laws.specs.Table.{TableKept}
-use Rattle.core_laws.proofs.Core.{holds-at, map_from}
+use Rattle.core_laws.proofs.Core.{holds-at}
 use Rattle.core_laws.proofs.Holding.{mark_of_slot}
+use Rattle.i2c_base.proofs.ListLemmas.{map_from}
 
 abbrev nobody_has : Option ℕ
 nobody_has = None

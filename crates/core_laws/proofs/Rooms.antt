@@ -10,16 +10,17 @@ use Rattle.i2c_spec.specs.Cost.{cost_of}
 use Rattle.bus_spec.specs.Walk.{Job, Act, Take, Free, Send, Shift, Settle}
 use Rattle.bus_spec.specs.Past.{got_after}
 use Rattle.bus_spec.specs.Stepwise.{reply_by}
-use Rattle.bus_laws.specs.Costs.{bytes_given, weight_at}
+use Rattle.bus_laws.specs.Costs.{weight_at}
 use Rattle.bus_laws.proofs.walk.Next.{quiet-next, within-next}
 use Rattle.mux_plan.specs.Plans.{slots_of}
 use Rattle.core_laws.specs.Core.{Place, has_reply, pending, IsGoing, CoreKept, Run, Whole}
 use Rattle.core_laws.specs.Owed.{total, message_most}
 use Rattle.core_laws.specs.Spots.{Socket}
 use Rattle.core_laws.specs.Steps.{next_of}
-use Rattle.core_laws.proofs.Bytes.{got-grows, given-few}
+use Rattle.bus_laws.proofs.past.Bytes.{got-grows, given-few}
 use Rattle.core_laws.proofs.Core.{owes-here, pending-set, stands-here, going-on}
 use Rattle.core_laws.proofs.Owed.{total-set}
+use Rattle.i2c_base.specs.Need.{bytes_given}
 
 -- a part is no more than the sum
 part-owed : (owes : List ℕ) (place n : ℕ) → slice_get owes place ≡ Some n → n ≤ total owes
@@ -114,7 +115,7 @@ module _ (run : Run) (whole : Whole) (core : CoreKept run whole) where
         pub bytes-settle : (reading : Bool) (verdict : Option Errno) (reply : Reply) → reply ≡ reply_by verdict (Some p.transfer) (got_after job reading bytes p.got)
             → length bytes + length (bytes_given reply) ≤ whole.room_bytes
         bytes-settle reading verdict reply decided =
-            let gives = given-few verdict p.transfer (got_after job reading bytes p.got) in
+            let gives = given-few verdict (Some p.transfer) (got_after job reading bytes p.got) in
             let same : length (bytes_given reply) ≡ length (bytes_given (reply_by verdict (Some p.transfer) (got_after job reading bytes p.got))) = ap (λ (r : Reply). length (bytes_given r)) decided in
             let grows = got-grows job reading bytes p.got in
             let all : 2 * total whole.owes + pending whole.places ≤ whole.room_bytes = core.bytes_left in

@@ -41,9 +41,10 @@ use Rattle.bus_laws.proofs.past.Next.{call-reaches, control-switches}
 use Rattle.bus_laws.proofs.past.StandsStep.{at_same, at_other}
 use Rattle.seg_locks.specs.Locks.{LocksView}
 use Rattle.core_laws.specs.Spots.{Spot, SpotTold, Socket, SocketTold, IsTold, AreNumbered, AreRooted}
-use Rattle.core_laws.proofs.Steps.{set_here, set_elsewhere, own-ahead, spots-kept}
+use Rattle.core_laws.proofs.Steps.{set_here, own-ahead, spots-kept}
 use Rattle.core_laws.specs.Sends.{Sending, IsMessageOf, IsChipAddress, IsHeard, HasSent, message_for, ends_with}
 use Rattle.core_laws.proofs.MessageTold.{call-hears, control-hears, call-message, control-message, last-is}
+use Rattle.i2c_base.proofs.ListLemmas.{set_elsewhere}
 
 -- who settles next behind a step, by what is left of the walk
 abbrev pub due_at : ℕ → Option Act → Option ℕ

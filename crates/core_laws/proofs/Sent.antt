@@ -16,7 +16,7 @@ use Rattle.bus_spec.specs.Stepwise.{reply_by}
 use Rattle.bus_laws.specs.Runs.{IsCall}
 use Rattle.bus_laws.proofs.past.Placed.{no_settle}
 use Rattle.bus_laws.proofs.walk.Reads.{message-reads}
-use Rattle.bus_laws.proofs.world.Sends.{length-messages}
+use Rattle.i2c_spec.proofs.MessageLemmas.{length-messages}
 use Rattle.mux_plan.specs.Plans.{slots_of}
 use Rattle.core_laws.specs.Core.{Place, has_reply, IsGoing, CoreKept, Run, Whole, IsSent}
 use Rattle.core_laws.specs.Seats.{IsLeft, IsDecided}
@@ -25,10 +25,11 @@ use Rattle.core_laws.specs.Steps.{next_of, behind_of}
 use Rattle.core_laws.specs.Talks.{Gives}
 use Rattle.core_laws.proofs.Core.{owes-here, stands-here, going-on, left-on}
 use Rattle.core_laws.proofs.CoreSteps.{none_owed}
-use Rattle.core_laws.proofs.Leaves.{is_ok, message-leaves, reply-fits}
+use Rattle.core_laws.proofs.Leaves.{is_ok, message-leaves}
 use Rattle.core_laws.proofs.WalkSteps.{SettlesNext, call-is, ended-leaves, line-leaves}
 use Rattle.core_laws.specs.Spots.{Socket}
 use Rattle.i2c_base.specs.declared.ids.Node.{Node}
+use Rattle.bus_laws.proofs.past.Bytes.{reply-fits}
 
 module _ (run : Run) (whole : Whole) (core : CoreKept run whole)
     (place : ℕ) (p : Place) (here : slice_get whole.places place ≡ Some p)

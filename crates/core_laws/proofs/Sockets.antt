@@ -23,11 +23,12 @@ use Rattle.mux_plan.specs.Plans.{slots_of}
 use Rattle.bus_laws.specs.Holds.{HoldsLocks}
 use Rattle.seg_locks.specs.Locks.{LocksView, holder_in}
 use Rattle.core_laws.specs.Spots.{Socket, AreRooted}
-use Rattle.core_laws.proofs.Steps.{set_here, set_elsewhere}
+use Rattle.core_laws.proofs.Steps.{set_here}
 use Rattle.core_laws.specs.Table.{AreDistinct, TableKept}
 use Rattle.core_laws.specs.Sockets.{IsInside, IsFree, SocketKept, HoldsAt}
 use Rattle.core_laws.proofs.Table.{set_at, one_place}
 use Rattle.core_laws.proofs.Holding.{holds-shifted}
+use Rattle.i2c_base.proofs.ListLemmas.{set_elsewhere}
 
 -- who is inside holds its root's lock
 inside-holds : (b : BoardView) (ls : List LockId) (w : WalkTree) (r : ℕ) → IsInside b w r → HoldsLocks b ls w → InLocks (lock.Bus r) ls

@@ -32,18 +32,12 @@ use Rattle.bus_laws.specs.Holds.{IsLockOf}
 use Rattle.bus_laws.proofs.past.Others.{others-stay}
 use Rattle.seg_locks.specs.Locks.{LocksView, holder_in, with_holder}
 use Rattle.core_laws.specs.Spots.{Spot, SpotTold, LocksTold, Socket, IsTold, AreNumbered}
+use Rattle.i2c_base.proofs.ListLemmas.{set_elsewhere}
 
 pub set_here : {X : Type 0} (xs : List X) (i : ℕ) (x y : X) → slice_get (set xs i x) i ≡ Some y → x ≡ y
 set_here [] i x y h = absurd (let f : None ≡ Some y = h in cc)
 set_here (z ∷ zs) zero x y h = (let f : Some x ≡ Some y = h in cc)
 set_here (z ∷ zs) (suc i) x y h = set_here zs i x y h
-
-pub set_elsewhere : {X : Type 0} (xs : List X) (i k : ℕ) (x : X) → (k ≡ i → ⊥) → slice_get (set xs i x) k ≡ slice_get xs k
-set_elsewhere [] i k x h = refl
-set_elsewhere (y ∷ ys) zero zero x h = absurd (h refl)
-set_elsewhere (y ∷ ys) zero (suc k) x h = refl
-set_elsewhere (y ∷ ys) (suc i) zero x h = refl
-set_elsewhere (y ∷ ys) (suc i) (suc k) x h = set_elsewhere ys i k x (λ e. h (ap suc e))
 
 -- ALL CALLERS where one of them has made an entry: its own spot is new, the others' are as they were
 pub spots-kept : (b : BoardView) (callers : ℕ) (asks : Asks) (n : Now) (e : Entry) (spots : List Spot) → AreNumbered callers spots

@@ -16,10 +16,10 @@ use Rattle.seg_locks.specs.Locks.{holder_in}
 use Rattle.core_laws.specs.Spots.{SpotTold, IsTold}
 use Rattle.core_laws.specs.Core.{Place, spot_of, spots_of, numbers_of, IsLone, CoreKept, Run, Whole}
 use Rattle.core_laws.specs.Steps.{next_of}
-use Rattle.core_laws.proofs.Core.{map_at}
 use Rattle.bus_laws.specs.Holds.{IsLockOf}
 use Rattle.core_laws.proofs.Table.{lock-there}
 use Rattle.core_laws.proofs.Wants.{take-wants}
+use Rattle.i2c_base.proofs.ListLemmas.{map_at}
 
 module _ (run : Run) (whole : Whole) (core : CoreKept run whole) (tell : IsTrue run.tells) (place : ℕ) (p : Place) (here : slice_get whole.places place ≡ Some p) where
   told : IsTold run.board run.callers run.asks whole.past (spots_of whole.places) whole.locks whole.sockets None

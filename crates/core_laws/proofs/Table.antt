@@ -13,10 +13,11 @@ use Rattle.bus_laws.specs.Runs.{InLocks}
 use Rattle.bus_laws.proofs.past.Laws.{below_each}
 use Rattle.bus_laws.specs.Holds.{IsLockOf, IsMarkOn}
 use Rattle.seg_locks.specs.Locks.{LocksView, holder_in, rank_in, with_holder}
-use Rattle.core_laws.proofs.Steps.{set_here, set_elsewhere, word_set}
+use Rattle.core_laws.proofs.Steps.{set_here, word_set}
 use Rattle.bus_laws.specs.Stands.{IsOnce}
 use Rattle.bus_laws.proofs.past.StandsStep.{lock_tells}
 use Rattle.core_laws.specs.Table.{AreDistinct, IsHeldBy, TableKept}
+use Rattle.i2c_base.proofs.ListLemmas.{set_elsewhere}
 
 -- a place that is there is set
 pub set_at : {X : Type 0} (xs : List X) (i : ℕ) (x y : X) → slice_get xs i ≡ Some y → slice_get (set xs i x) i ≡ Some x
@@ -98,9 +99,6 @@ module _ (b : BoardView) (v : LocksView) (numbers : List ℕ) (held : List (List
           home = λ p. subst (λ (ms : List (Option ℕ)). IsMarkOn b p (slice_index_or ms p None)) (sym (marks_set l (Some c))) (kept.home p);
         }
       where
-        locks_now : List (List LockId)
-        locks_now = set held place (l ∷ ls)
-
         named : (k : LockId) (d : ℕ) → holder_in (with_holder v l (Some c)) k ≡ Some d → IsHeldBy numbers (set held place (l ∷ ls)) k d
         named k d h =
             elim (lock_tells l k) [

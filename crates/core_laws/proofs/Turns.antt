@@ -14,7 +14,8 @@ use Rattle.bus_spec.specs.Schedule.{is_settle}
 use Rattle.bus_laws.specs.Others.{ahead}
 use Rattle.bus_laws.specs.Coming.{IsTurn}
 use Rattle.core_laws.specs.Spots.{Spot, Socket, AreNumbered, AreRooted}
-use Rattle.core_laws.proofs.Steps.{set_here, set_elsewhere}
+use Rattle.core_laws.proofs.Steps.{set_here}
+use Rattle.i2c_base.proofs.ListLemmas.{set_elsewhere}
 
 -- a place of the new list is one of the old list, of the same number
 spot-was : (spots : List Spot) (place : ℕ) (x new : Spot) → slice_get spots place ≡ Some x → new.number ≡ x.number

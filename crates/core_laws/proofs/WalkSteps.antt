@@ -30,7 +30,7 @@ use Rattle.bus_laws.proofs.walk.Jobs.{walk-stays}
 use Rattle.bus_laws.proofs.past.StandsEntries.{first_is}
 use Rattle.bus_laws.proofs.walk.Next.{jobs-next, job-shifted, calls-next, call-sent, settles-taken, settles-freed, settles-sent, first-taken, first-freed, first-selected, first-cleared, first-sent}
 use Rattle.bus_laws.proofs.walk.Next.{settles-settled, quiet-next, what_follows, call-goes-on, seen-first}
-use Rattle.bus_laws.proofs.world.Sends.{length-messages}
+use Rattle.i2c_spec.proofs.MessageLemmas.{length-messages}
 use Rattle.core_laws.specs.Seats.{Counts, IsLeft, IsDecided}
 
 -- a step that no look stands before

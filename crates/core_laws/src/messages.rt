@@ -10,13 +10,14 @@ ghost use Rattle.bus_spec.specs.Past.{got_after};
 ghost use Rattle.bus_spec.specs.Readings.{message_cut};
 ghost use Rattle.bus_spec.specs.Stepwise.{reply_by};
 ghost use Rattle.bus_spec.specs.Walk.{Job, Send, Sent};
-ghost use Rattle.bus_laws.specs.Costs.{bytes_given, weight_at};
+ghost use Rattle.bus_laws.specs.Costs.{weight_at};
 ghost use Rattle.core_laws.specs.Behind.{with_place, message_entry, spoken, settled_with};
 ghost use Rattle.core_laws.specs.Core.{Place, Run, Whole, has_reply, IsFairRun, StandsAt, IsSent, CoreKept};
 ghost use Rattle.core_laws.specs.Seats.{IsLeft, IsDecided};
 ghost use Rattle.core_laws.specs.Sends.{Sending, gone_after};
 ghost use Rattle.core_laws.specs.Spots.{Socket};
 ghost use Rattle.core_laws.specs.Steps.{behind_of};
+ghost use Rattle.i2c_base.specs.Need.{bytes_given};
 
 /// What is kept stays so over a message, and over one that decides, with its settle behind it.
 pub fn the_whole_over_a_message()

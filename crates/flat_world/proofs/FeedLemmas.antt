@@ -11,10 +11,11 @@ use Rattle.i2c_base.specs.declared.event.Answer.TheVariants as answer
 use Rattle.i2c_base.specs.Table.{Table}
 use Rattle.i2c_spec.specs.World.{feed, given}
 use Rattle.i2c_spec.specs.Targets.{TargetState, state_table}
-use Rattle.i2c_spec.specs.Flat.{FlatListener, is_it, is_member, flat_start, to_current, answer_of}
+use Rattle.i2c_spec.specs.Flat.{FlatListener, is_member, flat_start, to_current, answer_of}
 use Rattle.i2c_spec.proofs.FeedLemmas.{feed-same}
 use Rattle.flat_world.specs.Devices.{to_others, answer_in}
 use Rattle.flat_world.proofs.NamedLemmas.{is_member-push}
+use Rattle.i2c_spec.specs.Conversation.{is_it}
 
 -- devices that are read, told of an event and kept
 pub states_told : (f : ℕ → Option Event) (old read told new : List TargetState) → read ≡ old → told ≡ feed state_table f 0 read → new ≡ told

@@ -11,7 +11,7 @@ use Rattle.i2c_base.specs.declared.entry.End.TheVariants as end
 use Rattle.i2c_base.specs.Transfer.{IsMessage, is_read, is_counted, size_of, COUNTED_SIZE}
 use Rattle.i2c_spec.specs.Messages.{MessageView, message_with}
 use Rattle.flat_world.specs.Sending.{all_with, all_of}
-use Rattle.i2c_spec.specs.Conversation.{Listener, Said, TalkTold, AllTold, is_at, silence, say, told, with_byte, call_then, ended, gets, gets_counted, by_answer, data_of, talk, with_read}
+use Rattle.i2c_spec.specs.Conversation.{Listener, Said, TalkTold, AllTold, is_it, silence, say, told, with_byte, call_then, ended, gets, gets_counted, by_answer, data_of, talk, with_read}
 
 module _ {W : Type 0} (l : Listener W) (cut : Option ℕ) where
   -- a call has no bytes of its own
@@ -21,7 +21,7 @@ module _ {W : Type 0} (l : Listener W) (cut : Option ℕ) where
 
   call_fits : (t : Said W) (c : PortCall) (next : Said W → TalkTold W) (n : ℕ) → length t.bytes ≤ n
       → length (next (say l t c)).bytes ≤ n → length (call_then l cut t c next).bytes ≤ n
-  call_fits t c next n p q = either (is_at cut (length t.calls)) (told (say l t call.Fault) (end.Cut (length t.calls))) (next (say l t c)) n p q
+  call_fits t c next n p q = either (is_it cut (length t.calls)) (told (say l t call.Fault) (end.Cut (length t.calls))) (next (say l t c)) n p q
 
   ended_fits : (stops : Bool) (t : Said W) (e : End) (n : ℕ) → length t.bytes ≤ n → length (ended l cut stops t e).bytes ≤ n
   ended_fits true t e n p = call_fits t call.Stop (λ s. told s e) n p p
@@ -61,7 +61,7 @@ module _ {W : Type 0} (l : Listener W) (cut : Option ℕ) where
       → length (gets_counted l cut last limit len t).bytes ≤ n
   counted_fits last limit len t n two none room some =
       let s = say l t (call.Get true) in
-      either (is_at cut (length t.calls)) (told (say l t call.Fault) (end.Cut (length t.calls))) _ n (omega arith)
+      either (is_it cut (length t.calls)) (told (say l t call.Fault) (end.Cut (length t.calls))) _ n (omega arith)
       (by_count last limit len (l.gives t.now) s s n none two room some ((eqb (l.gives t.now) 0) || nat_lt limit (l.gives t.now)) (good_count limit (l.gives t.now)))
 
   -- a message that reads

@@ -15,18 +15,11 @@ use Rattle.i2c_spec.specs.Grant.{grant_of, named_by, some_chip, some_device, som
 use Rattle.i2c_spec.specs.Plain.{IsPlainBoard}
 use Rattle.i2c_spec.specs.Flat.{is_member}
 use Rattle.flat_world.specs.Devices.{AreNamed, once}
-
-or_false : (b : Bool) → (b || false) ≡ b
-or_false true = refl
-or_false false = refl
+use Rattle.std.proofs.Math.Bool.{or-false}
+use Rattle.std.proofs.lemmas.Bool.{or_parts}
 
 pub is_member-push : (k n : ℕ) (ns : List ℕ) → is_member k (ns ++ n ∷ []) ≡ (is_member k ns || eqb n k)
-is_member-push k n ns = list_any-append (λ m. eqb m k) ns (n ∷ []) ∙ ap (λ b. is_member k ns || b) (or_false (eqb n k))
-
-neither : (b c : Bool) → (b || c) ≡ false → (b ≡ false) × (c ≡ false)
-neither false false e = (refl, refl)
-neither true c e = absurd (let f : true ≡ false = e in cc)
-neither false true e = absurd (let f : true ≡ false = e in cc)
+is_member-push k n ns = list_any-append (λ m. eqb m k) ns (n ∷ []) ∙ ap (λ b. is_member k ns || b) (or-false (eqb n k))
 
 -- a number isn't among those before it
 all_at : (P : ℕ → Type 0) (ns : List ℕ) (i d : ℕ) → AllByRecursion P ns → i < length ns → P (get_or ns i d)
@@ -52,7 +45,7 @@ none_distinct = IsDistinct-from_apart eqb [] (λ i j d low high. absurd (omega a
 distinct_push : (ns : List ℕ) (n : ℕ) → IsDistinct eqb ns → is_member n ns ≡ false → IsDistinct eqb (ns ++ n ∷ [])
 distinct_push [] n apart new = IsDistinct-cons eqb n [] tt none_distinct
 distinct_push (m ∷ ns) n apart new =
-    let each = neither (eqb m n) (is_member n ns) new in
+    let each = or_parts (eqb m n) (is_member n ns) new in
     IsDistinct-cons eqb m (ns ++ n ∷ []) (all_push (λ k. eqb m k ≡ false) ns n (IsDistinct-head eqb m ns apart) each.0) (distinct_push ns n (IsDistinct-tail eqb m ns apart) each.1)
 
 pub named_push : (ns : List ℕ) (n : ℕ) → AreNamed ns → n < MOST_DEVICES → is_member n ns ≡ false → AreNamed (ns ++ n ∷ [])

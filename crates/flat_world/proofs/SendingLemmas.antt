@@ -13,25 +13,18 @@ use Rattle.i2c_base.specs.Limits.{BLOCK_LIMIT}
 use Rattle.i2c_spec.specs.Messages.{MessageView}
 use Rattle.i2c_spec.specs.Targets.{TargetState, state_table}
 use Rattle.i2c_spec.specs.World.{feed, has_heard}
-use Rattle.i2c_spec.specs.Conversation.{Listener, Said, TalkTold, AllTold, is_at, silence, say, with_byte, told, is_empty, is_good, with_read, talk_all}
+use Rattle.i2c_spec.specs.Conversation.{Listener, Said, TalkTold, AllTold, silence, say, with_byte, told, is_empty, is_good, with_read, talk_all}
 use Rattle.i2c_spec.specs.Conversation as spec
-use Rattle.i2c_spec.specs.Flat.{FlatListener, flat_start, to_named, flat_listener, acknowledged, answer_of, put_named, is_it}
+use Rattle.i2c_spec.specs.Flat.{FlatListener, flat_start, to_named, flat_listener, acknowledged, answer_of, put_named}
 use Rattle.i2c_spec.proofs.FeedLemmas.{feed-same}
 use Rattle.flat_world.specs.Devices.{add_once, once, once_each, started, once_listener, behind_start}
 use Rattle.flat_world.specs.Sending.{Ended, with_got, failed, ended, puts, gets, gets_one_more, gets_by_count, gets_counted, moved, by_answer, sent, all_of}
 use Rattle.flat_world.proofs.NamedLemmas.{is_member-once}
-
--- a call behind the start of a message
-abbrev IsFollowing : PortCall → Type 0
-IsFollowing (call.Start a reading) = ⊥
-IsFollowing (call.Line m level) = ⊥
-IsFollowing (call.Put byte) = Unit {0}
-IsFollowing (call.Get ack) = Unit {0}
-IsFollowing call.Stop = Unit {0}
-IsFollowing call.Fault = Unit {0}
+use Rattle.i2c_spec.proofs.MessageLemmas.{IsLater}
+use Rattle.i2c_spec.specs.Conversation.{is_it}
 
 module _ {W V : Type 0} (l : Listener W) (k : Listener V) (h : W → V) (cut : Option ℕ)
-    (after : (w : W) (c : PortCall) → IsFollowing c → k.after (h w) c ≡ h (l.after w c))
+    (after : (w : W) (c : PortCall) → IsLater c → k.after (h w) c ≡ h (l.after w c))
     (takes : (w : W) (byte : ℕ) → k.takes (h w) byte ≡ l.takes w byte)
     (gives : (w : W) → k.gives (h w) ≡ l.gives w) where
   -- how a message ended, and all that was read behind these bytes
@@ -45,9 +38,9 @@ module _ {W V : Type 0} (l : Listener W) (k : Listener V) (h : W → V) (cut : O
   failed_is t n e = ap (λ v. record { now = v; end = end.Cut n }) (after t.now call.Fault tt) ∙ ap (λ i. record { now = h (l.after t.now call.Fault); end = end.Cut i }) e
 
   by_place : (t : Said W) (n : ℕ) (c : PortCall) (next : Ended V) (then : TalkTold W) → n ≡ length t.calls → next ≡ shown then
-      → cond (is_at cut n) (failed k n (h t.now)) next ≡ shown (cond (is_at cut (length t.calls)) (told (say l t call.Fault) (end.Cut (length t.calls))) then)
+      → cond (is_it cut n) (failed k n (h t.now)) next ≡ shown (cond (is_it cut (length t.calls)) (told (say l t call.Fault) (end.Cut (length t.calls))) then)
   by_place t n c next then e same =
-      ap (λ i. cond (is_at cut i) (failed k n (h t.now)) next) e ∙ by (is_at cut (length t.calls))
+      ap (λ i. cond (is_it cut i) (failed k n (h t.now)) next) e ∙ by (is_it cut (length t.calls))
     where
       by : (b : Bool) → cond b (failed k n (h t.now)) next ≡ shown (cond b (told (say l t call.Fault) (end.Cut (length t.calls))) then)
       by true = failed_is t n e
@@ -77,9 +70,9 @@ module _ {W V : Type 0} (l : Listener W) (k : Listener V) (h : W → V) (cut : O
 
   module _ (before : List ℕ) where
     read_by : (t : Said W) (n : ℕ) (next : AllTold V) (then : TalkTold W) → n ≡ length t.calls → next ≡ read before then
-        → cond (is_at cut n) (with_got (before ++ t.bytes) (failed k n (h t.now))) next ≡ read before (cond (is_at cut (length t.calls)) (told (say l t call.Fault) (end.Cut (length t.calls))) then)
+        → cond (is_it cut n) (with_got (before ++ t.bytes) (failed k n (h t.now))) next ≡ read before (cond (is_it cut (length t.calls)) (told (say l t call.Fault) (end.Cut (length t.calls))) then)
     read_by t n next then e same =
-        ap (λ i. cond (is_at cut i) (with_got (before ++ t.bytes) (failed k n (h t.now))) next) e ∙ by (is_at cut (length t.calls))
+        ap (λ i. cond (is_it cut i) (with_got (before ++ t.bytes) (failed k n (h t.now))) next) e ∙ by (is_it cut (length t.calls))
       where
         by : (b : Bool) → cond b (with_got (before ++ t.bytes) (failed k n (h t.now))) next ≡ read before (cond b (told (say l t call.Fault) (end.Cut (length t.calls))) then)
         by true = ap (with_got (before ++ t.bytes)) (failed_is t n e)
@@ -88,7 +81,7 @@ module _ {W V : Type 0} (l : Listener W) (k : Listener V) (h : W → V) (cut : O
     -- an end reads nothing more
     ended_bytes : (stops : Bool) (t : Said W) (e : End) → (spec.ended l cut stops t e).bytes ≡ t.bytes
     ended_bytes false t e = refl
-    ended_bytes true t e = by (is_at cut (length t.calls))
+    ended_bytes true t e = by (is_it cut (length t.calls))
       where
         by : (b : Bool) → (cond b (told (say l t call.Fault) (end.Cut (length t.calls))) (told (say l t call.Stop) e)).bytes ≡ t.bytes
         by true = refl
@@ -179,10 +172,10 @@ module _ {W V : Type 0} (l : Listener W) (k : Listener V) (h : W → V) (cut : O
 cut_first : {V : Type 0} (b : Bool) (x y : V) → b ≡ true → cond b x y ≡ x
 cut_first b x y e = ap (λ test. cond test x y) e
 
-pub puts_cut : {V : Type 0} (l : Listener V) (cut : Option ℕ) (last : Bool) (bytes : List ℕ) (i calls : ℕ) (v : V) → i < length bytes → is_at cut calls ≡ true
+pub puts_cut : {V : Type 0} (l : Listener V) (cut : Option ℕ) (last : Bool) (bytes : List ℕ) (i calls : ℕ) (v : V) → i < length bytes → is_it cut calls ≡ true
     → puts l cut last (drop i bytes) calls v ≡ failed l calls v
 puts_cut l cut last bytes i calls v within here =
-    at_drop_more (λ bs. puts l cut last bs calls v) bytes i 0 within ∙ cut_first (is_at cut calls) (failed l calls v) _ here
+    at_drop_more (λ bs. puts l cut last bs calls v) bytes i 0 within ∙ cut_first (is_it cut calls) (failed l calls v) _ here
 
 -- a transfer so far, or at its end, as h shows it
 abbrev shown_all : (FlatListener → FlatListener) → AllTold FlatListener → AllTold FlatListener
@@ -190,7 +183,7 @@ shown_all h a = record { bytes = a.bytes; now = h a.now; end = a.end }
 
 -- one message
 module _ (granted : ℕ → Option ℕ) (l : Listener FlatListener) (h : FlatListener → FlatListener)
-    (after : (f : FlatListener) (c : PortCall) → IsFollowing c → behind_start.after (h f) c ≡ h (l.after f c))
+    (after : (f : FlatListener) (c : PortCall) → IsLater c → behind_start.after (h f) c ≡ h (l.after f c))
     (takes : (f : FlatListener) (byte : ℕ) → behind_start.takes (h f) byte ≡ l.takes f byte)
     (gives : (f : FlatListener) → behind_start.gives (h f) ≡ l.gives f)
     (starts : (f : FlatListener) (a : ℕ) (reading : Bool) → started (granted a) reading (h f) ≡ h (l.after f (call.Start a reading)))
@@ -198,8 +191,8 @@ module _ (granted : ℕ → Option ℕ) (l : Listener FlatListener) (h : FlatLis
   sent_is : (cut : Option ℕ) (last : Bool) (m : MessageView) (before : List ℕ) (f : FlatListener)
       → sent (granted m.addr) cut last m before (h f) ≡ shown_all h (all_of before m (spec.talk l BLOCK_LIMIT f m last cut))
   sent_is cut last m before f =
-      ap (λ (v : FlatListener). cond (is_at cut 0) (record { bytes = before; now = v; end = end.Cut 0 }) (by_answer behind_start cut last m (acknowledged (answer_of (h f).states (granted m.addr) (event.Start m.reading))) before (started (granted m.addr) m.reading (h f)))) (after f call.Fault tt)
-      ∙ by (is_at cut 0)
+      ap (λ (v : FlatListener). cond (is_it cut 0) (record { bytes = before; now = v; end = end.Cut 0 }) (by_answer behind_start cut last m (acknowledged (answer_of (h f).states (granted m.addr) (event.Start m.reading))) before (started (granted m.addr) m.reading (h f)))) (after f call.Fault tt)
+      ∙ by (is_it cut 0)
     where
       t : Said FlatListener
       t = say l (silence f) (call.Start m.addr m.reading)
@@ -221,7 +214,7 @@ pub sent-once : (granted : ℕ → Option ℕ) (cut : Option ℕ) (last : Bool) 
     → sent (granted m.addr) cut last m before f ≡ all_of before m (spec.talk (once_listener granted) BLOCK_LIMIT f m last cut)
 sent-once granted = sent_is granted (once_listener granted) (λ f. f) same (λ f byte. refl) (λ f. refl) (λ f a reading. refl) (λ f a reading. refl)
   where
-    same : (f : FlatListener) (c : PortCall) → IsFollowing c → behind_start.after f c ≡ (once_listener granted).after f c
+    same : (f : FlatListener) (c : PortCall) → IsLater c → behind_start.after f c ≡ (once_listener granted).after f c
     same f (call.Start a reading) follows = absurd follows
     same f (call.Line m level) follows = absurd follows
     same f (call.Put byte) follows = refl
@@ -250,7 +243,7 @@ put_alike None ds = refl
 put_alike (Some d) ds = refl
 
 module _ (granted : ℕ → Option ℕ) where
-  shown_after : (f : FlatListener) (c : PortCall) → IsFollowing c → behind_start.after (once_each f) c ≡ once_each ((flat_listener granted).after f c)
+  shown_after : (f : FlatListener) (c : PortCall) → IsLater c → behind_start.after (once_each f) c ≡ once_each ((flat_listener granted).after f c)
   shown_after f (call.Start a reading) follows = absurd follows
   shown_after f (call.Line m level) follows = absurd follows
   shown_after f (call.Put byte) follows = refl

@@ -13,7 +13,8 @@ use Rattle.i2c_base.specs.Limits.{MOST_DEVICES}
 use Rattle.i2c_spec.specs.Targets.{state_table}
 use Rattle.i2c_spec.specs.World.{feed, has_heard}
 use Rattle.i2c_spec.specs.Conversation.{Listener}
-use Rattle.i2c_spec.specs.Flat.{FlatListener, is_it, is_member, flat_start, flat_after, answer_of, flat_listener}
+use Rattle.i2c_spec.specs.Flat.{FlatListener, is_member, flat_start, flat_after, answer_of, flat_listener}
+use Rattle.i2c_spec.specs.Conversation.{is_it}
 
 -- one more device behind those that were named, where it isn't among them
 abbrev pub add_once : Option ℕ → List ℕ → List ℕ

@@ -9,7 +9,7 @@ use Rattle.i2c_base.specs.declared.entry.End.{End}
 use Rattle.i2c_base.specs.declared.entry.End.TheVariants as end
 use Rattle.i2c_base.specs.Limits.{BLOCK_LIMIT}
 use Rattle.i2c_spec.specs.Messages.{MessageView}
-use Rattle.i2c_spec.specs.Conversation.{Listener, TalkTold, AllTold, is_at, with_read}
+use Rattle.i2c_spec.specs.Conversation.{Listener, TalkTold, AllTold, is_it, with_read}
 use Rattle.i2c_spec.specs.Flat.{FlatListener, acknowledged, answer_of, flat_stopped}
 use Rattle.flat_world.specs.Devices.{started, behind_start}
 
@@ -29,26 +29,26 @@ failed l calls v = record { now = l.after v call.Fault; end = end.Cut calls }
 -- the end: with a stop where the message is the last of its transfer, or ended early
 abbrev pub ended : {V : Type 0} → Listener V → Option ℕ → ℕ → Bool → V → End → Ended V
 ended l cut calls stops v e =
-    if stops then (if is_at cut calls then failed l calls v else record { now = l.after v call.Stop; end = e })
+    if stops then (if is_it cut calls then failed l calls v else record { now = l.after v call.Stop; end = e })
     else record { now = v; end = e }
 
 abbrev pub puts : {V : Type 0} → Listener V → Option ℕ → Bool → List ℕ → ℕ → V → Ended V
 puts l cut last [] calls v = ended l cut calls last v end.Ok
 puts l cut last (b ∷ bs) calls v =
-    if is_at cut calls then failed l calls v
+    if is_it cut calls then failed l calls v
     else if l.takes v b then puts l cut last bs (calls + 1) (l.after v (call.Put b))
     else ended l cut (calls + 1) true (l.after v (call.Put b)) end.Refused
 
 abbrev pub gets : {V : Type 0} → Listener V → Option ℕ → Bool → ℕ → ℕ → List ℕ → V → AllTold V
 gets l cut last zero calls got v = with_got got (ended l cut calls last v end.Ok)
 gets l cut last (suc n) calls got v =
-    if is_at cut calls then with_got got (failed l calls v)
+    if is_it cut calls then with_got got (failed l calls v)
     else gets l cut last n (calls + 1) (got ++ l.gives v ∷ []) (l.after v (call.Get (nat_lt 0 n)))
 
 -- behind a count that no block has: it is the third call
 abbrev pub gets_one_more : {V : Type 0} → Listener V → Option ℕ → List ℕ → V → AllTold V
 gets_one_more l cut got v =
-    if is_at cut 2 then with_got got (failed l 2 v)
+    if is_it cut 2 then with_got got (failed l 2 v)
     else with_got (got ++ l.gives v ∷ []) (ended l cut 3 true (l.after v (call.Get false)) end.Proto)
 
 abbrev pub gets_by_count : {V : Type 0} → Listener V → Option ℕ → Bool → ℕ → ℕ → List ℕ → V → AllTold V
@@ -58,7 +58,7 @@ gets_by_count l cut last len count got v =
 
 abbrev pub gets_counted : {V : Type 0} → Listener V → Option ℕ → Bool → ℕ → List ℕ → V → AllTold V
 gets_counted l cut last len got v =
-    if is_at cut 1 then with_got got (failed l 1 v)
+    if is_it cut 1 then with_got got (failed l 1 v)
     else gets_by_count l cut last len (l.gives v) (got ++ l.gives v ∷ []) (l.after v (call.Get true))
 
 abbrev pub moved : {V : Type 0} → Listener V → Option ℕ → Bool → MessageView → List ℕ → V → AllTold V
@@ -76,7 +76,7 @@ by_answer l cut last m answer.Nothing got v = with_got got (ended l cut 1 true v
 -- one message, whose address leads to this device, or to nobody
 abbrev pub sent : Option ℕ → Option ℕ → Bool → MessageView → List ℕ → FlatListener → AllTold FlatListener
 sent granted cut last m got f =
-    if is_at cut 0 then record { bytes = got; now = flat_stopped f; end = end.Cut 0 }
+    if is_it cut 0 then record { bytes = got; now = flat_stopped f; end = end.Cut 0 }
     else by_answer behind_start cut last m (acknowledged (answer_of f.states granted (event.Start m.reading))) got (started granted m.reading f)
 
 -- a transfer so far: what its reads gave, the listener, and how its last message ended

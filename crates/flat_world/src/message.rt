@@ -4,7 +4,7 @@ ghost use Rattle.std.specs.Prelude.{◌≡◌, ◌+◌, ◌^◌, ◌<◌, ◌≤
 ghost use Rattle.i2c_base.specs.Limits.{MOST_BYTES, MOST_DEVICES, MOST_LENGTH};
 ghost use Rattle.i2c_base.specs.Transfer.{IsMessage, is_read, size_of, written_of};
 ghost use Rattle.i2c_base.specs.declared.entry.End.TheVariants as end;
-ghost use Rattle.i2c_spec.specs.Conversation.{is_at};
+ghost use Rattle.i2c_spec.specs.Conversation.{is_it};
 ghost use Rattle.i2c_spec.specs.Messages.{message_with};
 ghost use Rattle.flat_world.specs.Devices.{behind_start};
 ghost use Rattle.flat_world.specs.Sending as spec;
@@ -14,7 +14,7 @@ use i2c_base::{Answer, BLOCK_LIMIT, Bytes, End, Msg};
 
 /// The call after so many fails.
 fn is_cut(cut: Option<u16>, calls: u16) -> bool
-    ensures { result ≡ is_at cut calls }
+    ensures { result ≡ is_it cut calls }
 {
     match cut {
         Some(place) => place == calls,

@@ -1,3 +1,5 @@
-pub mod TransferLemmas
+pub mod FittingLemmas
+pub mod ListLemmas
 pub mod MuxLemmas
 pub mod SendLemmas
+pub mod TransferLemmas

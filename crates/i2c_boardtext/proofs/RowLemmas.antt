@@ -1,11 +1,10 @@
 -- The tables of an array beside the members that the definitions speak of.
-use Rattle.std.proofs.Common.{◌≡◌, ℕ, ◌+◌, ◌<◌, ◌≤◌, true, List, [], ◌∷◌, ◌++◌, length, map, drop, get_or, arith, ap, ◌∙◌, sym, subst}
+use Rattle.std.proofs.Common.{◌≡◌, ℕ, ◌+◌, ◌<◌, ◌≤◌, true, List, [], ◌∷◌, ◌++◌, length, map, drop, get_or, ap, ◌∙◌, sym, subst}
 use Rattle.std.proofs.lemmas.List.{drop_more, at_drop_all}
-use Rattle.std.proofs.lemmas.List.Elements.{All-append, All-cons}
 use Rattle.std.proofs.lemmas.List.Folds.{list_all-map}
 use Rattle.std.proofs.lemmas.List.Sums.{AllPass-from_list_all}
 use Rattle.std.specs.Option.{is_some}
-use Rattle.std.specs.Prelude.{Result, Ok, Err, All, IsErrAnd}
+use Rattle.std.specs.Prelude.{Result, Ok, Err, IsErrAnd}
 use Rattle.toml.specs.Data.{Data, Members, as_table}
 use Rattle.toml.specs.View.{view}
 use Rattle.toml.specs.declared.value.Value.{Value}
@@ -84,6 +83,3 @@ fault_read {X = X} look name read before whole vs i v ms n e r within at row ind
     ∙ ap (λ w. placed name (length before) (read before (row_of w))) at in
     let failed = fails_on e (placed name (length before) (read before (row_of (get_or vs i v)))) f (subst (λ p. Fails e p) here fails) in
     gives_err look r e whole is (subst (λ p. Fails e p) (sym (next_row name read before vs i v within) ∙ told) failed)
-
-pub All-push : {X : Type 0} (P : X → Type 0) (xs : List X) (x : X) → All P xs → P x → All P (xs ++ x ∷ [])
-All-push P xs x all last = All-append P xs (x ∷ []) all (All-cons P x [] last (λ k d within. absurd (omega arith)))

@@ -15,6 +15,7 @@ use Rattle.i2c_physics.specs.Reach.{IsReach}
 use Rattle.i2c_physics.specs.SimWorlds.{opened_on}
 use Rattle.i2c_physics.proofs.FeedLemmas.{world_of}
 use Rattle.i2c_physics.proofs.OwnLemmas.{seen-opened}
+use Rattle.i2c_base.proofs.ListLemmas.{set_here}
 
 some_same : {A : Type 0} {x y : A} → Some x ≡ Some y → x ≡ y
 some_same e = cc
@@ -74,11 +75,6 @@ pub opened-is : (b : BoardView) (root : ℕ) (chips : List ChipView) (states : L
 opened-is b root chips states heard_chips heard_devices are states_are deaf_chips deaf_devices =
     rw (deaf_chips, deaf_devices, are, seen-opened b root b.devices states states_are) refl
 
-got_set : {A : Type 0} (xs : List A) (i : ℕ) (y : A) → i < length xs → slice_get (set xs i y) i ≡ Some y
-got_set [] i y low = absurd (omega arith)
-got_set (x ∷ xs) zero y low = refl
-got_set (x ∷ xs) (suc i) y low = got_set xs i y (omega arith)
-
 got_other : {A : Type 0} (xs : List A) (i k : ℕ) (y : A) → k ≢ i → slice_get (set xs i y) k ≡ slice_get xs k
 got_other [] i k y ne = refl
 got_other (x ∷ xs) zero zero y ne = absurd (ne refl)
@@ -96,7 +92,7 @@ quiet-in-place t xs m y started hearing low quiet reached =
       hearing_rise = rw (length-set xs m y) reached.hearing_rise;
       hearing_started = reached.hearing_started;
       quiet = λ k x got out. elim (eqb_tells k m) [
-        | inl same ↦ (let e : Some y ≡ Some x = sym (ap (slice_get (set xs m y)) same.1 ∙ got_set xs m y low) ∙ got in subst (IsQuiet t) (some_same e) quiet)
+        | inl same ↦ (let e : Some y ≡ Some x = sym (ap (slice_get (set xs m y)) same.1 ∙ set_here xs m y low) ∙ got in subst (IsQuiet t) (some_same e) quiet)
         | inr other ↦ reached.quiet k x (sym (got_other xs m k y other.1) ∙ got) out
       ];
     }
@@ -105,7 +101,7 @@ set_quiet : (chips : List ChipView) (m level : ℕ) (c : ChipView) → slice_get
     → slice_get (set chips m (at_level c level)) k ≡ Some x → ((y : ChipView) → slice_get chips k ≡ Some y → IsQuiet chip_table y) → IsQuiet chip_table x
 set_quiet chips m level c is low k x got quiet =
     elim (eqb_tells k m) [
-      | inl same ↦ (let e : Some (at_level c level) ≡ Some x = sym (ap (slice_get (set chips m (at_level c level))) same.1 ∙ got_set chips m (at_level c level) low) ∙ got in
+      | inl same ↦ (let e : Some (at_level c level) ≡ Some x = sym (ap (slice_get (set chips m (at_level c level))) same.1 ∙ set_here chips m (at_level c level) low) ∙ got in
           subst (IsQuiet chip_table) (some_same e) (level_quiet c level (quiet c (ap (slice_get chips) same.1 ∙ is))))
       | inr other ↦ quiet x (sym (got_other chips m k (at_level c level) other.1) ∙ got)
     ]

@@ -7,6 +7,8 @@ use Rattle.std.proofs.lemmas.Bool.Decides.{eqb_tells}
 use Rattle.std.proofs.lemmas.List.{map-id}
 use Rattle.std.proofs.lemmas.List.FromFn.{filter_of_map_range_with_len_more}
 use Rattle.i2c_physics.specs.Reach.{is_among, AreRising, union_of}
+use Rattle.std.proofs.Math.Bool.{or-false}
+use Rattle.std.proofs.Math.Bool.{and-false}
 
 -- one number more
 pub filter_more : (p : ℕ → Bool) (n : ℕ) → filter p (range_with_len 0 (n + 1)) ≡ filter p (range_with_len 0 n) ++ cond (p n) (n ∷ []) []
@@ -71,16 +73,12 @@ rising-apart low high (n ∷ ns) r k lower =
     let differs : (n == k) ≡ false = ne_eqb n k (λ e. absurd (omega (arith, e, r.0))) in
     rw differs (rising-apart (n + 1) high ns r.2 k (omega (arith, r.0)))
 
-and_false : (b : Bool) → (b && false) ≡ false
-and_false true = refl
-and_false false = refl
-
 among_same : (p : ℕ → Bool) (b : Bool) (n k : ℕ) (ns kept : List ℕ) → p n ≡ b → is_among kept k ≡ (is_among ns k && p k)
     → (n == k) ≡ true → n ≡ k → is_among (cond b (n ∷ kept) kept) k ≡ (((n == k) || is_among ns k) && p k)
 among_same p true n k ns kept is rest same e = let now : p k ≡ true = ap p (sym e) ∙ is in rw (same, now) refl
 among_same p false n k ns kept is rest same e =
     let now : p k ≡ false = ap p (sym e) ∙ is in
-    rest ∙ rw (same, now) (and_false (is_among ns k))
+    rest ∙ rw (same, now) (and-false (is_among ns k))
 
 among_other : (p : ℕ → Bool) (b : Bool) (n k : ℕ) (ns kept : List ℕ) → is_among kept k ≡ (is_among ns k && p k)
     → (n == k) ≡ false → is_among (cond b (n ∷ kept) kept) k ≡ (((n == k) || is_among ns k) && p k)
@@ -158,12 +156,8 @@ pub either_none : (count : ℕ) (none ns : List ℕ) → length none ≡ 0 → A
 either_none count [] ns empty r = sym (among_itself 0 count count ns r (omega arith))
 either_none count (n ∷ none) ns empty r = absurd (omega arith)
 
-or_none : (b : Bool) → (b || false) ≡ b
-or_none true = refl
-or_none false = refl
-
 or_has : (ns ms : List ℕ) → list_all (is_among ns) ms ≡ true → (k : ℕ) → (is_among ns k || is_among ms k) ≡ is_among ns k
-or_has ns [] all k = or_none (is_among ns k)
+or_has ns [] all k = or-false (is_among ns k)
 or_has ns (m ∷ ms) all k =
     let both = and_true (is_among ns m) (list_all (is_among ns) ms) all in
     elim (eqb_tells m k) [

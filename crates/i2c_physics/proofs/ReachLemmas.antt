@@ -20,23 +20,15 @@ use Rattle.i2c_physics.specs.Places.{PlaceView, event_if}
 use Rattle.i2c_physics.specs.Reach.{is_among, AreRising, to_those, joins_at, has_at, addressed, others, union_of, IsReach}
 use Rattle.i2c_physics.proofs.NumberLemmas.{rising-filter, rising-of_range, rising-lower, among-filter, among-range}
 use Rattle.i2c_physics.proofs.TogetherLemmas.{length-feed}
+use Rattle.std.proofs.Math.Bool.{or-true}
+use Rattle.std.proofs.lemmas.Bool.{or_parts}
+use Rattle.std.proofs.lemmas.Option.{same_Some}
 
 true_false : true ≡ false → ⊥
 true_false e = cc
 
 some_none : {A : Type 0} (x : A) → Some x ≡ None → ⊥
 some_none x e = cc
-
-some_same : {A : Type 0} (x y : A) → Some x ≡ Some y → x ≡ y
-some_same x y e = cc
-
-or_true : (b : Bool) → (b || true) ≡ true
-or_true true = refl
-or_true false = refl
-
-or_false : (b c : Bool) → (b || c) ≡ false → (b ≡ false) × (c ≡ false)
-or_false true c e = absurd (true_false e)
-or_false false c e = (refl, e)
 
 some_if : (b : Bool) (e : Event) → IsSome (event_if b e) → b ≡ true
 some_if true e is = refl
@@ -156,7 +148,7 @@ module _ {X : Type 0} (t : Table X) where
   quiet-fed f xs told each k y is out =
       elim (slice_get_cases xs k).1 [
         | inl x ↦ (let new : Some (given t (f k) x.0) ≡ Some y = sym (fed_get t f 0 k xs ∙ ap (option_map (given t (f (0 + k)))) x.2 ∙ ap (λ m. Some (given t (f m) x.0)) (zero-add k)) ∙ is in
-            subst (IsQuiet t) (some_same _ _ new) (each k x.0 x.2 out))
+            subst (IsQuiet t) (same_Some _ _ new) (each k x.0 x.2 out))
         | inr none ↦ absurd (some_none _ (sym is ∙ fed_get t f 0 k xs ∙ ap (option_map (given t (f (0 + k)))) none.1))
       ]
 
@@ -267,7 +259,7 @@ module _ {X : Type 0} (t : Table X) (xs : List X) (started hearing : List ℕ) (
 
     out_of_both : (k : ℕ) → k < length xs → is_among (union_of (length xs) started (addressed chips places a)) k ≡ false
         → (is_among started k ≡ false) × (is_among (addressed chips places a) k ≡ false)
-    out_of_both k low out = or_false (is_among started k) (is_among (addressed chips places a) k) (sym (among_either k low) ∙ out)
+    out_of_both k low out = or_parts (is_among started k) (is_among (addressed chips places a) k) (sym (among_either k low) ∙ out)
 
     still_quiet : (k : ℕ) (x : X) → slice_get xs k ≡ Some x → is_among (union_of (length xs) started (addressed chips places a)) k ≡ false
         → IsQuiet t (given t (to_those (addressed chips places a) (event.Start reading) k) x)
@@ -300,7 +292,7 @@ module _ {X : Type 0} (t : Table X) (xs : List X) (started hearing : List ℕ) (
           hearing_started = λ k heard.
               let told = heard-told t (to_those (addressed chips places a) (event.Start reading)) 0 k xs heard in
               let is = some_if (is_among (addressed chips places a) k) (event.Start reading) told.0 in
-              among_either k (omega (arith, told.1)) ∙ rw is (or_true (is_among started k));
+              among_either k (omega (arith, told.1)) ∙ rw is (or-true (is_among started k));
           quiet = quiet-fed t (to_those (others chips places a started) event.Other) (feed t (to_those (addressed chips places a) (event.Start reading)) 0 xs)
               (union_of (length xs) started (addressed chips places a)) quiet_others;
         }

@@ -6,13 +6,7 @@ use Rattle.i2c_spec.specs.World.{World}
 use Rattle.i2c_physics.specs.SimRigs.{own_device, owns, state_at, states_from, taken_out, without, IsThere}
 use Rattle.i2c_physics.specs.SimWorlds.{seen_on}
 use Rattle.i2c_physics.proofs.OwnLemmas.{seen-get, seen-set}
-
-get-set_other : {A : Type 0} (xs : List A) (k j : ℕ) (x : A) → (j ≡ k → ⊥) → slice_get (set xs k x) j ≡ slice_get xs j
-get-set_other [] k j x other = refl
-get-set_other (y ∷ ys) zero zero x other = absurd (other refl)
-get-set_other (y ∷ ys) zero (suc j) x other = refl
-get-set_other (y ∷ ys) (suc k) zero x other = refl
-get-set_other (y ∷ ys) (suc k) (suc j) x other = get-set_other ys k j x (λ e. other (ap suc e))
+use Rattle.i2c_base.proofs.ListLemmas.{set_elsewhere}
 
 get-set_some : {A : Type 0} (xs : List A) (k j : ℕ) (x : A) → IsSome (slice_get (set xs k x) j) → IsSome (slice_get xs j)
 get-set_some [] k j x some = some
@@ -23,7 +17,7 @@ get-set_some (y ∷ ys) (suc k) (suc j) x some = get-set_some ys k j x some
 
 -- of a world; where the device is of another root nothing is taken out
 others_stay : {A : Type 0} (taken : Bool) (xs : List A) (k j : ℕ) (x : A) → (j ≡ k → ⊥) → slice_get (if taken then set xs k x else xs) j ≡ slice_get xs j
-others_stay true xs k j x other = get-set_other xs k j x other
+others_stay true xs k j x other = set_elsewhere xs k j x other
 others_stay false xs k j x other = refl
 
 some_before : {A : Type 0} (taken own : Bool) (xs : List A) (k j : ℕ) (x : A) → IsSome (if own then slice_get (if taken then set xs k x else xs) j else None)

@@ -1,6 +1,6 @@
 -- An address stands on no two targets of which one's bus lies on the other's path: the rule over pairs of items
 -- says so of numbers, and each target is one of the items. The one induction goes over the hops of a bus.
-use Rattle.std.proofs.Common.{◌≡◌, ℕ, zero, suc, ◌+◌, ◌-◌, ◌<◌, inl, inr, ◌==◌, nat_lt, Bool, true, false, ◌||◌, List, [], ◌∷◌, length, Option, Some, None, option_map, slice_get, refl, sym, ap, ◌∙◌, arith, rules}
+use Rattle.std.proofs.Common.{◌≡◌, ℕ, zero, suc, ◌+◌, ◌-◌, ◌<◌, inl, inr, ◌==◌, nat_lt, true, false, ◌||◌, List, [], ◌∷◌, length, Option, Some, None, option_map, slice_get, refl, sym, ap, ◌∙◌, arith, rules}
 use Rattle.std.specs.List.{list_any}
 use Rattle.std.specs.Option.{unwrap_or}
 use Rattle.std.proofs.lemmas.Bool.{cases_order, eq-eqb, false≢true}
@@ -13,10 +13,7 @@ use Rattle.i2c_spec.specs.Rules.{items, home_at, addr_at, clashes, NoPair, Meets
 use Rattle.i2c_spec.specs.TreeFacts.{home_of, addr_of, IsTree}
 use Rattle.i2c_spec.specs.Plain.{IsPlainBoard}
 use Rattle.i2c_spec.proofs.TreeLemmas.{tree_leads, tree_tail, tree_apart, tree_hop, tree_within, tree_channel, tree_root_over, tree_root_is, tree_root_same, tree_root_hops}
-
-or_true : (x : Bool) → (x || true) ≡ true
-or_true true = refl
-or_true false = refl
+use Rattle.std.proofs.Math.Bool.{or-true}
 
 -- what is said of buses, as the tests of the rules have it
 is_crossed : (u : ℕ) (hs : List Hop) → Crosses u hs → list_any (λ h. h.on == u) hs ≡ true
@@ -24,14 +21,14 @@ is_crossed u [] c = absurd c
 is_crossed u (h ∷ hs) c =
     elim c [
       | inl here ↦ ap (λ t. t || list_any (λ (g : Hop). g.on == u) hs) (eq-eqb h.on u here)
-      | inr behind ↦ rw (is_crossed u hs behind) (or_true (h.on == u))
+      | inr behind ↦ rw (is_crossed u hs behind) (or-true (h.on == u))
     ]
 
 is_on_path_over : (b : BoardView) (u t : ℕ) → IsOver b u t → is_on_path b t u ≡ true
 is_on_path_over b u t over =
     elim over [
       | inl here ↦ ap (λ x. x || is_below b t u) (eq-eqb u t here)
-      | inr crossed ↦ rw (is_crossed u (hops b t) crossed) (or_true (u == t))
+      | inr crossed ↦ rw (is_crossed u (hops b t) crossed) (or-true (u == t))
     ]
 
 is_along_both : (b : BoardView) (s t : ℕ) → IsAlong b s t → (is_along b s t ≡ true) × (is_along b t s ≡ true)
@@ -39,10 +36,10 @@ is_along_both b s t along =
     elim along [
       | inl over ↦
           let e = is_on_path_over b s t over in
-          (rw e (or_true (is_on_path b s t)), rw e refl)
+          (rw e (or-true (is_on_path b s t)), rw e refl)
       | inr over ↦
           let e = is_on_path_over b t s over in
-          (rw e refl, rw e (or_true (is_on_path b t s)))
+          (rw e refl, rw e (or-true (is_on_path b t s)))
     ]
 
 -- the place of a target among the items

@@ -1,17 +1,17 @@
 -- What a job costs at the end of few hops fits in a number: an induction over the hops, each at most twelve times what is
 -- below it. And an accepted board has few hops over a bus: the depth is that of the bus that the nearest of them stands
 -- on, and one more.
-use Rattle.std.proofs.Common.{◌≡◌, ℕ, zero, suc, ◌+◌, ◌*◌, ◌^◌, ◌<◌, ◌≤◌, nat_le, Bool, true, false, cond, List, [], ◌∷◌, length, refl, sym, ◌∙◌, ap, subst, arith, rules, inl}
+use Rattle.std.proofs.Common.{◌≡◌, ℕ, zero, suc, ◌+◌, ◌*◌, ◌^◌, ◌<◌, ◌≤◌, nat_le, nat_lt, Bool, true, false, cond, List, [], ◌∷◌, length, refl, sym, ◌∙◌, ap, subst, arith, rules, inl}
 use Rattle.std.proofs.lemmas.Bool.Decides.{nat_tests}
 use Rattle.std.specs.Prelude.{All, sum_by, get_or}
 use Rattle.std.proofs.lemmas.List.Sums.{sum_by-le}
 use Rattle.i2c_base.specs.declared.transfer.Msg.{Msg}
 use Rattle.i2c_base.specs.Limits.{BLOCK_LIMIT, MOST_LENGTH, MOST_MESSAGES}
-use Rattle.i2c_base.specs.Transfer.{IsMessage, is_counted}
+use Rattle.i2c_base.specs.Transfer.{TransferView, IsMessage, is_counted}
 use Rattle.i2c_base.specs.Board.{BoardView}
 use Rattle.i2c_base.specs.Muxes.{facts_of}
-use Rattle.i2c_spec.specs.Tree.{Hop, hops, depth, locks_of, home_of_mux, IsAmongHops}
-use Rattle.i2c_spec.specs.Cost.{bytes_of, lock_steps, behind_by, inner_cost}
+use Rattle.i2c_spec.specs.Tree.{Hop, hops, buses, depth, locks_of, home_of_mux, IsAmongHops}
+use Rattle.i2c_spec.specs.Cost.{bytes_of, lock_steps, behind_by, inner_cost, full_cost, steps_of, cost_of}
 use Rattle.i2c_spec.specs.Plain.{IsPlainBoard}
 use Rattle.i2c_spec.specs.Rules.{MeetsRules}
 use Rattle.i2c_spec.proofs.AddressLemmas.{tree_of}
@@ -78,3 +78,7 @@ hops_few b s plain meets = by (hops b s) refl
         let test : nat_le 4 (length hs) ≡ false = ap (λ (xs : List Hop). nat_le 4 (length xs)) (sym rest) ∙ below in
         let short : length hs < 4 = search (rules, nat_tests) in
         omega (arith, short)
+
+-- each transfer costs something
+pub cost_some : (b : BoardView) (t : TransferView) → 1 ≤ cost_of b t
+cost_some b t = elim (nat_lt t.bus (buses b)) as (λ v. 1 ≤ cond v (1 + full_cost (hops b t.bus) (steps_of b t)) 1) [ true ↦ omega arith | false ↦ omega arith ]

@@ -5,6 +5,7 @@ pub mod EepromLemmas
 pub mod FeedLemmas
 pub mod HopLemmas
 pub mod Lm75Lemmas
+pub mod MessageLemmas
 pub mod PlainLemmas
 pub mod RegsLemmas
 pub mod RuleLemmas

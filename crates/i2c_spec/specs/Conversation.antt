@@ -35,9 +35,10 @@ pub record TalkTold (W : Type 0) : Type 0 where
   pub now : W
   pub end : End
 
-abbrev pub is_at : Option ℕ → ℕ → Bool
-is_at None n = false
-is_at (Some k) n = k == n
+-- it is this number
+abbrev pub is_it : Option ℕ → ℕ → Bool
+is_it None n = false
+is_it (Some k) n = k == n
 
 abbrev pub silence : {W : Type 0} → W → Said W
 silence w = record { calls = []; bytes = []; now = w }
@@ -54,7 +55,7 @@ told t e = record { calls = t.calls; bytes = t.bytes; now = t.now; end = e }
 -- a call and what follows it; at the place of the cut it fails, and nothing follows
 abbrev pub call_then : {W : Type 0} → Listener W → Option ℕ → Said W → PortCall → (Said W → TalkTold W) → TalkTold W
 call_then l cut t c next =
-    if is_at cut (length t.calls) then told (say l t call.Fault) (end.Cut (length t.calls)) else next (say l t c)
+    if is_it cut (length t.calls) then told (say l t call.Fault) (end.Cut (length t.calls)) else next (say l t c)
 
 -- the end: with a stop where the message is the last of its transfer, or ended early
 abbrev pub ended : {W : Type 0} → Listener W → Option ℕ → Bool → Said W → End → TalkTold W

@@ -30,7 +30,7 @@ use Rattle.i2c_spec.specs.Targets.{TargetState, state_table}
 use Rattle.i2c_base.specs.Table.{byte_of}
 use Rattle.i2c_spec.specs.World.{feed, has_heard, is_ack}
 use Rattle.i2c_spec.specs.Messages.{messages_of}
-use Rattle.i2c_spec.specs.Conversation.{Listener, AllTold, talk_all}
+use Rattle.i2c_spec.specs.Conversation.{Listener, AllTold, is_it, talk_all}
 
 -- the devices, those that the transfer has named so far, and the one that listens to the message in progress
 pub record FlatListener : Type 0 where
@@ -40,10 +40,6 @@ pub record FlatListener : Type 0 where
 
 abbrev pub idle : List TargetState → FlatListener
 idle states = record { states = states; named = []; current = None }
-
-abbrev pub is_it : Option ℕ → ℕ → Bool
-is_it None d = false
-is_it (Some k) d = k == d
 
 abbrev pub is_member : ℕ → List ℕ → Bool
 is_member d ds = list_any (λ k. k == d) ds

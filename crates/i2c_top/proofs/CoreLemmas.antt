@@ -44,6 +44,7 @@ use Rattle.caller_core.specs.Scripts.{asked_by, left_of, cost_of_script}
 use Rattle.caller_core.specs.View.{ScriptView, CallerView, script_on}
 use Rattle.i2c_top.specs.Runs.{asks_by, AreOpened, texts_of, cost_of_texts, callers_of, MOST_COST, IsOver}
 use Rattle.i2c_top.proofs.RunLemmas.{same_asks}
+use Rattle.i2c_base.proofs.ListLemmas.{there, map_from, map_at}
 
 -- a script as a caller
 abbrev pub script_row : CallerGhosts CallerView ScriptView
@@ -72,21 +73,6 @@ number-here m (x ∷ xs) (suc i) low = number-here (m + 1) xs i (omega (arith, l
 all-at : {X : Type 0} (P : X → Type 0) (xs : List X) (i : ℕ) (x : X) → All P xs → slice_get xs i ≡ Some x → P x
 all-at P xs i x all here = subst P (get_or_from_slice_get xs i x x here) (All-get_or P xs i x (slice_get_within xs i x here) all)
 
-at : {X Y : Type 0} (f : X → Y) (xs : List X) (i : ℕ) (x : X) → slice_get xs i ≡ Some x → slice_get (map f xs) i ≡ Some (f x)
-at f [] i x h = absurd (let g : None ≡ Some x = h in cc)
-at {X} f (y ∷ ys) zero x h = (let g : Some y ≡ Some x = h in let e : y ≡ x = cc in ap (λ (z : X). Some (f z)) e)
-at f (y ∷ ys) (suc i) x h = at f ys i x h
-
-from : {X Y : Type 0} (f : X → Y) (xs : List X) (i : ℕ) (y : Y) → slice_get (map f xs) i ≡ Some y → (x : X) × (slice_get xs i ≡ Some x) × (f x ≡ y)
-from f [] i y h = absurd (let g : None ≡ Some y = h in cc)
-from f (x ∷ xs) zero y h = (x, refl, (let g : Some (f x) ≡ Some y = h in cc))
-from f (x ∷ xs) (suc i) y h = from f xs i y h
-
-has : {X : Type 0} (xs : List X) (i : ℕ) → i < length xs → (x : X) × (slice_get xs i ≡ Some x)
-has [] i low = absurd (omega (arith, low))
-has (x ∷ xs) zero low = (x, refl)
-has (x ∷ xs) (suc i) low = has xs i (omega (arith, low))
-
 pub twice : {X Y Z : Type 0} (f : Y → Z) (g : X → Y) (xs : List X) → map f (map g xs) ≡ map (λ x. f (g x)) xs
 twice f g [] = refl
 twice {X} {Y} {Z} f g (x ∷ xs) = ap (λ (zs : List Z). f (g x) ∷ zs) (twice f g xs)
@@ -111,7 +97,7 @@ opening-at : {P : Type 0} (world : P → World) (b : BoardView) (ports : List P)
 opening-at world b ports same i p here =
     let low : i < length ports = slice_get_within ports i p here in
     let count : length ports ≡ length b.roots = sym (length-map ports world) ∙ ap length same ∙ length-map (range_with_len 0 (length b.roots)) (opening_world b) ∙ length-range_with_len 0 (length b.roots) in
-    let mapped = from (opening_world b) (range_with_len 0 (length b.roots)) i (world p) (ap (λ (ws : List World). slice_get ws i) (sym same) ∙ at world ports i p here) in
+    let mapped = map_from (opening_world b) (range_with_len 0 (length b.roots)) i (world p) (ap (λ (ws : List World). slice_get ws i) (sym same) ∙ map_at world ports i p here) in
     let number : mapped.0 ≡ 0 + i = sym (get_or_from_slice_get (range_with_len 0 (length b.roots)) i mapped.0 0 mapped.1) ∙ get_or-range_with_len 0 (length b.roots) i 0 (omega (arith, low, count)) in
     sym mapped.2 ∙ ap (opening_world b) (let z : 0 + i ≡ i = omega (arith) in number ∙ z)
 
@@ -152,18 +138,18 @@ module _ {P : Type 0} (g : PortGhosts P) (b : BoardView) (plain : IsPlainBoard b
   words-placed words named =
       All-from_get_or (λ n. has_caller (callers_scripts script_row (enumerate_from 0 scripts)) n ≡ true) words 0
       (λ i low.
-      let w = has words i low in
+      let w = there words i low in
       let is = get_or_from_slice_get words i w.0 0 w.1 in
       let below : w.0 < length scripts = all-at (λ c. c < length scripts) words i w.0 named w.1 in
-      let s = has scripts w.0 below in
+      let s = there scripts w.0 below in
       subst (λ (n : ℕ). has_caller (callers_scripts script_row (enumerate_from 0 scripts)) n ≡ true) (sym is)
-      (has-by (callers_scripts script_row (enumerate_from 0 scripts)) w.0 w.0 s.0.script (at (λ (y : ℕ × CallerView). (y.0, y.1.script)) (enumerate_from 0 scripts) w.0 (w.0, s.0) (numbered-here w.0 s.0 s.1))))
+      (has-by (callers_scripts script_row (enumerate_from 0 scripts)) w.0 w.0 s.0.script (map_at (λ (y : ℕ × CallerView). (y.0, y.1.script)) (enumerate_from 0 scripts) w.0 (w.0, s.0) (numbered-here w.0 s.0 s.1))))
     where
       numbered-here : (i : ℕ) (s : CallerView) → slice_get scripts i ≡ Some s → slice_get (enumerate_from 0 scripts) i ≡ Some (i, s)
       numbered-here i s here =
           let low : i < length scripts = slice_get_within scripts i s here in
           let many : length (enumerate_from 0 scripts) ≡ length scripts = length-enumerate_from 0 scripts in
-          let y = has (enumerate_from 0 scripts) i (omega (arith, low, many)) in
+          let y = there (enumerate_from 0 scripts) i (omega (arith, low, many)) in
           let r = numbered-at 0 scripts i y.0 y.1 in
           let number = r.0 in
           let first : y.0.0 ≡ i = omega (arith, number) in
@@ -207,8 +193,8 @@ module _ {P : Type 0} (g : PortGhosts P) (b : BoardView) (x : Parts P CallerView
   -- the seat of each number has the script of that number
   seat-at : (i : ℕ) (s : Seat CallerView) → slice_get seats i ≡ Some s → (s.number ≡ i) × (y : CallerView) × (slice_get scripts i ≡ Some y) × (s.caller.script ≡ y.script)
   seat-at i s here =
-      let there = ap (λ (ys : List (ℕ × ScriptView)). slice_get ys i) (sym same) ∙ at (script_of script_row) seats i s here in
-      let y = from (λ (y : ℕ × CallerView). (y.0, y.1.script)) (enumerate_from 0 scripts) i (s.number, s.caller.script) there in
+      let there = ap (λ (ys : List (ℕ × ScriptView)). slice_get ys i) (sym same) ∙ map_at (script_of script_row) seats i s here in
+      let y = map_from (λ (y : ℕ × CallerView). (y.0, y.1.script)) (enumerate_from 0 scripts) i (s.number, s.caller.script) there in
       let r = numbered-at 0 scripts i y.0 y.1 in
       let number : s.number ≡ y.0.0 = ap (λ (z : ℕ × ScriptView). z.0) (sym y.2) in
       let first = r.0 in
@@ -233,7 +219,7 @@ module _ {P : Type 0} (g : PortGhosts P) (b : BoardView) (x : Parts P CallerView
       ∙ alone (λ (s : CallerView). s.script.text) 0 scripts
 
   text-at : (i : ℕ) (s : Seat CallerView) → slice_get seats i ≡ Some s → slice_get (texts_of (callers_of x)) i ≡ Some s.caller.script.text
-  text-at i s here = at (λ (t : CallerView). t.script.text) (callers_of x) i s.caller (at (λ (t : Seat CallerView). t.caller) seats i s here)
+  text-at i s here = map_at (λ (t : CallerView). t.script.text) (callers_of x) i s.caller (map_at (λ (t : Seat CallerView). t.caller) seats i s here)
 
   -- they ask for what their texts ask for
   asks-same : asks ≡ asks_by b (texts_of (callers_of x))
@@ -241,7 +227,7 @@ module _ {P : Type 0} (g : PortGhosts P) (b : BoardView) (x : Parts P CallerView
     where
       by : (c : ℕ) (rs : List Reply) → (c < length seats) ⊎ (length seats ≤ c) → asks c rs ≡ asks_by b (texts_of (callers_of x)) c rs
       by c rs (inl below) =
-          let s = has seats c below in
+          let s = there seats c below in
           ap (λ (o : Option ScriptView). option_map_or (λ k. asked_by k rs) o None) (own-found c s.0 s.1)
           ∙ ap (λ (k : ScriptView). asked_by k rs) (own-script c s.0 s.1)
           ∙ ap (λ (o : Option (List ℕ)). option_map_or (λ text. asked_by (script_on b text) rs) o None) (sym (text-at c s.0 s.1))
@@ -250,7 +236,7 @@ module _ {P : Type 0} (g : PortGhosts P) (b : BoardView) (x : Parts P CallerView
           ap (λ (o : Option ScriptView). option_map_or (λ k. asked_by k rs) o None)
           (script-none (scripts_of script_row seats) c
           (λ i s here.
-          let z = from (script_of script_row) seats i (c, s) here in
+          let z = map_from (script_of script_row) seats i (c, s) here in
           let number : z.0.number ≡ c = ap (λ (q : ℕ × ScriptView). q.0) z.2 in
           let first = (seat-at i z.0 z.1).0 in
           let low : i < length seats = slice_get_within seats i z.0 z.1 in
@@ -259,16 +245,16 @@ module _ {P : Type 0} (g : PortGhosts P) (b : BoardView) (x : Parts P CallerView
 
   own-at : (c : ℕ) (s : CallerView) → slice_get (callers_of x) c ≡ Some s → s.script ≡ script_on b s.script.text
   own-at c s here =
-      let y = from (λ (t : Seat CallerView). t.caller) seats c s here in
+      let y = map_from (λ (t : Seat CallerView). t.caller) seats c s here in
       subst (λ (t : CallerView). t.script ≡ script_on b t.script.text) y.2 (own-script c y.0 y.1)
 
   -- a caller that is through
   through-at : (v : CoreState ScriptView) → AllThrough asked_by g.tells (left v) → (c : ℕ) (s : CallerView) → slice_get (callers_of x) c ≡ Some s
       → (asked_by (script_on b s.script.text) s.taken ≡ None) × IsThrough asked_by g.tells (left v) c s.taken
   through-at v through c s here =
-      let y = from (λ (t : Seat CallerView). t.caller) seats c s here in
+      let y = map_from (λ (t : Seat CallerView). t.caller) seats c s here in
       let number = (seat-at c y.0 y.1).0 in
-      let own = through c y.0.number y.0.caller.taken (at (λ (t : Seat CallerView). (t.number, t.caller.taken)) seats c y.0 y.1) in
+      let own = through c y.0.number y.0.caller.taken (map_at (λ (t : Seat CallerView). (t.number, t.caller.taken)) seats c y.0 y.1) in
       let mine = subst (λ (n : ℕ). IsThrough asked_by g.tells (left v) n y.0.caller.taken) number own in
       let done : asked_by (script_on b y.0.caller.script.text) y.0.caller.taken ≡ None =
       ap (λ (k : ScriptView). asked_by k y.0.caller.taken) (sym (own-script c y.0 y.1))
@@ -279,7 +265,7 @@ module _ {P : Type 0} (g : PortGhosts P) (b : BoardView) (x : Parts P CallerView
   port-at : (ports : List P) → roots_of x.ports.items ≡ roots_of (enumerate_from 0 ports) → (r : ℕ) → r < length ports → (p : ℕ × P) × (slice_get x.ports.items r ≡ Some p) × (p.0 ≡ r)
   port-at ports roots r low =
       let root = ap (λ (ns : List ℕ). slice_get ns r) roots ∙ number-here 0 ports r low in
-      let p = from (λ (q : ℕ × P). q.0) x.ports.items r (0 + r) root in
+      let p = map_from (λ (q : ℕ × P). q.0) x.ports.items r (0 + r) root in
       let number = p.2 in
       (p.0, p.1, omega (arith, number))
 
@@ -307,13 +293,13 @@ module _ {P : Type 0} (g : PortGhosts P) (b : BoardView) (x : Parts P CallerView
         worlds_count = length-map x.ports.items (λ (p : ℕ × P). g.world p.1) ∙ ports-count x ports roots ∙ count;
         world = λ r low.
             let p = port-at ports roots r (omega (arith, low, count)) in
-            at (λ (q : ℕ × P). g.world q.1) x.ports.items r p.0 p.1
+            map_at (λ (q : ℕ × P). g.world q.1) x.ports.items r p.0 p.1
             ∙ ap (λ (w : World). Some w) (subst (λ (a : Asks). g.world p.0.1 ≡ world_at b a past r) asks-same
-            (told.worlds r r (g.world p.0.1) (at (λ (q : ℕ × P). (q.0, g.world q.1)) x.ports.items r p.0 p.1 ∙ ap (λ (k : ℕ). Some (k, g.world p.0.1)) p.2)));
+            (told.worlds r r (g.world p.0.1) (map_at (λ (q : ℕ × P). (q.0, g.world q.1)) x.ports.items r p.0 p.1 ∙ ap (λ (k : ℕ). Some (k, g.world p.0.1)) p.2)));
         logs_count = length-map x.ports.items (λ (p : ℕ × P). g.log p.1) ∙ ports-count x ports roots ∙ count;
         log = λ r low.
             let p = port-at ports roots r (omega (arith, low, count)) in
-            at (λ (q : ℕ × P). g.log q.1) x.ports.items r p.0 p.1
+            map_at (λ (q : ℕ × P). g.log q.1) x.ports.items r p.0 p.1
             ∙ ap (λ (w : List PortCall). Some w) (subst (λ (a : Asks). g.log p.0.1 ≡ calls_of b a past r) asks-same
-            (told.logs r r (g.log p.0.1) (at (λ (q : ℕ × P). (q.0, g.log q.1)) x.ports.items r p.0 p.1 ∙ ap (λ (k : ℕ). Some (k, g.log p.0.1)) p.2)));
+            (told.logs r r (g.log p.0.1) (map_at (λ (q : ℕ × P). (q.0, g.log q.1)) x.ports.items r p.0 p.1 ∙ ap (λ (k : ℕ). Some (k, g.log p.0.1)) p.2)));
       }

@@ -51,15 +51,6 @@ module _ {X Y : Type 0} (told : List X → List Y) (all : List X) where
       (subst (λ (n : ℕ). GoesOver told all (came ++ x ∷ []) rest less (out ++ y ∷ []) n) (sym same)
       (over-one came rest x y count less room out (subst (λ (xs : List X). GoesOver told all came xs count out room) steps over) one tells))
 
-  -- all came
-  pub over-all : (came rest : List X) (count room : ℕ) (out : List Y) → GoesOver told all came rest count out room → count ≡ 0 → out ≡ told all
-  over-all came [] count room out over none = over.so_far ∙ ap told (sym (append-none came) ∙ over.goes)
-    where
-      append-none : (xs : List X) → xs ++ [] ≡ xs
-      append-none [] = refl
-      append-none (x ∷ xs) = ap (λ (ys : List X). x ∷ ys) (append-none xs)
-  over-all came (x ∷ rest) count room out over none = absurd (let counted : count ≡ suc (length rest) = over.counted in omega (arith, counted, none))
-
 -- numbers go on behind the last
 pub numbered-push : {X : Type 0} (n : ℕ) (xs : List X) (x : X) → enumerate_from n (xs ++ x ∷ []) ≡ enumerate_from n xs ++ (n + length xs, x) ∷ []
 numbered-push n [] x = ap (λ (k : ℕ). (k, x) ∷ []) (omega (arith))

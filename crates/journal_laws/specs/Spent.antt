@@ -16,7 +16,7 @@ use Rattle.bus_spec.specs.Readings.{of_message, caller_of, Everywhere}
 use Rattle.bus_spec.specs.Past.{Now, current, now, calls_of, talk_of}
 use Rattle.bus_spec.specs.Places.{transfer_at}
 use Rattle.bus_spec.specs.Schedule.{turns}
-use Rattle.bus_laws.specs.Costs.{bytes_given}
+use Rattle.i2c_base.specs.Need.{bytes_given}
 
 -- the bytes of an entry: of its message, or of the reply that it settles
 abbrev pub bytes_in : Entry → List ℕ

@@ -18,7 +18,7 @@ use Rattle.mux_plan.specs.Plans.{CourseView, job_of, note_of, on_bus, tree_of, p
 use Rattle.mux_plan.specs.Rooms.{IsStep, IsReady}
 
 -- the mark that is told is the one that is seen
-mark_slot : (x : Option ℕ) → mark_in (slot_of x) ≡ x
+pub mark_slot : (x : Option ℕ) → mark_in (slot_of x) ≡ x
 mark_slot (Some m) = refl
 mark_slot None = refl
 

@@ -1,14 +1,11 @@
 -- The muxes over a bus of an accepted board: each on one of the first eight channels.
-use Rattle.std.proofs.Common.{◌≡◌, ℕ, suc, ◌<◌, List, [], ◌∷◌, length, drop, refl, ap, arith, inl, inr}
+use Rattle.std.proofs.Common.{ℕ, ◌<◌, List, [], ◌∷◌, refl, arith, inl, inr}
 use Rattle.std.specs.List.{All}
 use Rattle.std.proofs.lemmas.List.Elements.{All-nil, All-cons}
-use Rattle.i2c_base.specs.declared.transfer.Msg.{Msg}
 use Rattle.i2c_base.specs.Board.{BoardView}
-use Rattle.i2c_base.specs.Transfer.{written_of}
 use Rattle.i2c_spec.specs.Tree.{Hop, hops, buses, IsAmongHops}
 use Rattle.i2c_spec.specs.Plain.{IsPlainBoard}
 use Rattle.i2c_spec.specs.Rules.{MeetsRules}
-use Rattle.i2c_spec.specs.Messages.{messages_from}
 use Rattle.i2c_spec.proofs.AddressLemmas.{tree_of}
 use Rattle.i2c_spec.proofs.PlainLemmas.{channels_of_mux_le}
 use Rattle.mux_plan.specs.Rooms.{IsNarrow}
@@ -20,8 +17,3 @@ all_among P (h ∷ hs) f = All-cons P h hs (f h (inl refl)) (all_among P hs (λ 
 pub path_narrow : (b : BoardView) (s : ℕ) → IsPlainBoard b → MeetsRules b → s < buses b → All IsNarrow (hops b s)
 path_narrow b s plain meets there =
     all_among IsNarrow (hops b s) (λ h among. omega (arith, (tree_of b plain meets).within s h there among, channels_of_mux_le b h.mux plain))
-
--- a transfer has a message with bytes for each of its messages
-pub length-messages : (ms : List Msg) (out : List ℕ) → length (messages_from ms out) ≡ length ms
-length-messages [] out = refl
-length-messages (m ∷ ms) out = ap suc (length-messages ms (drop (written_of m) out))

@@ -1,12 +1,10 @@
 -- The text of a value is one line, and not the line `journal`.
-use Rattle.std.proofs.Common.{◌≡◌, ℕ, ◌<◌, ◌/◌, ◌%◌, false, List, [], ◌∷◌, ◌++◌, ◌==◌, codes, get_or, refl, ap, arith}
+use Rattle.std.proofs.Common.{◌≡◌, ℕ, ◌<◌, ◌/◌, ◌%◌, List, [], ◌∷◌, ◌++◌, codes, get_or, refl, ap, arith}
 use Rattle.std.specs.Prelude.{Result, Ok, Err}
 use Rattle.std.specs.List.{flat_map}
-use Rattle.std.proofs.lemmas.Bool.{or_from}
-use Rattle.std.proofs.lemmas.Bool.Decides.{nat_tests}
 use Rattle.bus_journal.specs.Reports.{IsLine, IsSectionLine}
-use Rattle.bus_journal.proofs.LineFeeds.{line-append}
-use Rattle.bus_spec.specs.Lines.{hex_digit, two_digits, errno_text}
+use Rattle.bus_journal.proofs.LineFeeds.{line-append, two_digits-line}
+use Rattle.bus_spec.specs.Lines.{two_digits, errno_text}
 use Rattle.i2c_base.specs.declared.errno.Errno.{Errno}
 use Rattle.i2c_base.specs.declared.errno.Errno.TheVariants.{Eio, Enxio, Ebadf, Ebusy, Enodev, Einval, Eproto, Ebadmsg, Eopnotsupp, Etimedout, Eremoteio}
 use Rattle.smb_emul.specs.declared.call.SmbFail.{SmbFail}
@@ -15,18 +13,12 @@ use Rattle.smb_emul.specs.Value.{ValueView}
 use Rattle.smb_emul.specs.Value as value
 use Rattle.tool_run.specs.Texts.{byte_word, double_word, spaced_word, byte_words, fail_text, value_text, result_text}
 
-digit : (n : ℕ) → (hex_digit n == 10) ≡ false
-digit n = grind (arith, nat_tests)
-
-digits : (byte : ℕ) → IsLine (two_digits byte)
-digits byte = or_from _ _ (digit (byte / 16)) (or_from _ _ (digit (byte % 16)) refl)
-
 word : (b : ℕ) → IsLine (byte_word b)
-word b = line-append (codes "0x") (two_digits b) refl (digits b)
+word b = line-append (codes "0x") (two_digits b) refl (two_digits-line b)
 
 spaced : (bytes : List ℕ) → IsLine (flat_map spaced_word bytes)
 spaced [] = refl
-spaced (b ∷ bs) = line-append (spaced_word b) (flat_map spaced_word bs) (line-append (codes " 0x") (two_digits b) refl (digits b)) (spaced bs)
+spaced (b ∷ bs) = line-append (spaced_word b) (flat_map spaced_word bs) (line-append (codes " 0x") (two_digits b) refl (two_digits-line b)) (spaced bs)
 
 -- a text whose first sign isn't a j
 others : (text : List ℕ) (c : ℕ) → get_or text 0 0 ≡ c → (c < 106) → ¬ (text ≡ codes "journal")
@@ -51,7 +43,7 @@ errno Eremoteio = record { one = refl; other = others (errno_text Eremoteio) 69 
 value_line : (v : ValueView) → IsSectionLine (value_text v)
 value_line value.done = record { one = refl; other = others_above (codes "ok") 111 refl (omega arith) }
 value_line (value.byte b) = record { one = word b; other = others (byte_word b) 48 refl (omega arith) }
-value_line (value.word w) = record { one = line-append (codes "0x") (two_digits (w / 256) ++ two_digits (w % 256)) refl (line-append (two_digits (w / 256)) (two_digits (w % 256)) (digits (w / 256)) (digits (w % 256))); other = others (double_word w) 48 refl (omega arith) }
+value_line (value.word w) = record { one = line-append (codes "0x") (two_digits (w / 256) ++ two_digits (w % 256)) refl (line-append (two_digits (w / 256)) (two_digits (w % 256)) (two_digits-line (w / 256)) (two_digits-line (w % 256))); other = others (double_word w) 48 refl (omega arith) }
 value_line (value.block []) = record { one = refl; other = others [] 0 refl (omega arith) }
 value_line (value.block (b ∷ bs)) = record { one = line-append (byte_word b) (flat_map spaced_word bs) (word b) (spaced bs); other = others (byte_words (b ∷ bs)) 48 refl (omega arith) }
 

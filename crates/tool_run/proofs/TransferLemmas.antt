@@ -1,46 +1,31 @@
 -- The transfer of an SMBus call is within the limits, and no reply to a transfer brings more than it stands for.
-use Rattle.std.proofs.Common.{◌≡◌, ℕ, zero, suc, ◌+◌, ◌*◌, ◌<◌, ◌≤◌, Bool, true, false, cond, List, [], ◌∷◌, ◌++◌, length, take, drop, get_or, Option, Some, None, refl, ap, subst, length-drop, arith, add-one}
-use Rattle.std.specs.Prelude.{All, IfSome, MatchBool, sum_by}
+use Rattle.std.proofs.Common.{◌≡◌, ℕ, zero, suc, ◌+◌, ◌*◌, ◌<◌, ◌≤◌, Bool, true, false, cond, List, [], ◌∷◌, ◌++◌, length, take, get_or, Option, Some, None, refl, subst, arith, add-one}
+use Rattle.std.specs.Prelude.{All, IfSome}
 use Rattle.std.proofs.Math.Seq.{take-length}
 use Rattle.std.proofs.lemmas.List.{length-append}
 use Rattle.std.proofs.lemmas.List.Sums.{sum_by-cons}
-use Rattle.std.proofs.lemmas.List.Elements.{All-nil, All-cons, All-head, All-tail, All-append, All-get_or}
+use Rattle.std.proofs.lemmas.List.Elements.{All-nil, All-cons, All-append, All-get_or}
 use Rattle.i2c_base.specs.Bytes.{IsByte, AreBytes}
-use Rattle.i2c_base.specs.Fitting.{Fits, FitsReads, FitsCounted, count_of}
-use Rattle.i2c_base.specs.Transfer.{TransferView, IsTransfer, IsMessage, is_read, is_counted, size_of, written_of, written, plain_read, counted_read}
+use Rattle.i2c_base.specs.Fitting.{Fits}
+use Rattle.i2c_base.specs.Transfer.{TransferView, IsTransfer, IsMessage, size_of, written_of, written, plain_read, counted_read}
 use Rattle.i2c_base.specs.declared.reply.Reply.{Reply}
 use Rattle.i2c_base.specs.declared.reply.Reply.TheVariants as reply
 use Rattle.i2c_base.specs.declared.transfer.Msg.{Msg}
 use Rattle.i2c_spec.specs.declared.smbus_row.ReadShape.{ReadShape}
 use Rattle.i2c_spec.specs.declared.smbus_row.ReadShape.TheVariants as read
-use Rattle.bus_journal.specs.Borrowed.{bytes_replied}
 use Rattle.smb_emul.specs.Calls.{messages_of_call, call_row, is_coded, write_messages, read_messages, bytes_sent, code_sent, IsBlockLength, IsShortRead}
 use Rattle.smb_emul.specs.declared.call.SmbCall.{SmbCall}
 use Rattle.smb_pec.specs.LongDivision.{pec}
 use Rattle.smb_pec.proofs.TableLemmas.{code_is_byte, code_more}
 use Rattle.tool_run.specs.Replies.{most_brought}
+use Rattle.i2c_base.specs.Need.{bytes_given}
+use Rattle.i2c_base.proofs.FittingLemmas.{reads-size}
 
 -- ---- what a reply brings
 
-few_read : (ms : List Msg) (bytes : List ℕ) → All IsMessage ms → FitsReads ms bytes → length bytes ≤ sum_by size_of ms
-few_read [] bytes each fits = let none : length bytes ≡ 0 = ap length fits in omega (arith, none)
-few_read (m ∷ ms) bytes each fits =
-    let here : IsMessage m = All-head IsMessage m ms each in
-    let more : (rest : List ℕ) → FitsReads ms rest → length rest ≤ sum_by size_of ms = λ rest f. few_read ms rest (All-tail IsMessage m ms each) f in
-    let all : length bytes ≤ size_of m + sum_by size_of ms = (elim (is_read m) as (λ b. is_read m ≡ b → MatchBool b (MatchBool (is_counted m) (FitsCounted m bytes × FitsReads ms (drop (m.len + count_of bytes) bytes)) ((m.len ≤ length bytes) × FitsReads ms (drop m.len bytes))) (FitsReads ms bytes)
-    → length bytes ≤ size_of m + sum_by size_of ms) [
-      | false ↦ λ e f. let k = more bytes f in omega (arith, k)
-      | true ↦ λ e. (elim (is_counted m) as (λ b. is_counted m ≡ b → MatchBool b (FitsCounted m bytes × FitsReads ms (drop (m.len + count_of bytes) bytes)) ((m.len ≤ length bytes) × FitsReads ms (drop m.len bytes))
-          → length bytes ≤ cond b 258 m.len + sum_by size_of ms) [
-            | false ↦ λ e f. let k = more (drop m.len bytes) f.1 in omega (arith, k, f.0, length-drop m.len bytes)
-            | true ↦ λ e f. let k = more (drop (m.len + count_of bytes) bytes) f.1 in omega (arith, k, f.0.1, (here.1 e).2, length-drop (m.len + count_of bytes) bytes)
-          ]) refl
-    ]) refl fits in
-    omega (arith, all, sum_by-cons size_of m ms)
-
-pub brings_few : (t : TransferView) (r : Reply) → IsTransfer t.msgs t.out → Fits t r → length (bytes_replied r) ≤ most_brought t
+pub brings_few : (t : TransferView) (r : Reply) → IsTransfer t.msgs t.out → Fits t r → length (bytes_given r) ≤ most_brought t
 brings_few t reply.Done keeps fits = omega arith
-brings_few t (reply.Read bytes) keeps fits = few_read t.msgs bytes keeps.each fits.1
+brings_few t (reply.Read bytes) keeps fits = reads-size t.msgs bytes keeps.each fits.1
 brings_few t (reply.Err errno) keeps fits = omega arith
 
 -- ---- what a call asks for

@@ -17,6 +17,7 @@ use Rattle.i2c_spec.specs.World.{World, opens_hop, is_joined, joins_device}
 use Rattle.bus_laws.specs.Alike.{LeadsTo}
 use Rattle.bus_laws.proofs.world.Reach.{and_left, and_right}
 use Rattle.bus_laws.proofs.world.Calls.{any_at, on_or_below, busy_below, no_chip}
+use Rattle.std.proofs.Math.Bool.{or-true}
 
 -- two buses over one bus lie along each other
 crossed_along : (b : BoardView) → IsTree b → (hs : List Hop) (s u v : ℕ) → hops b s ≡ hs → Crosses u hs → Crosses v hs → IsAlong b u v
@@ -190,12 +191,8 @@ module _ (w : World) (tree : IsTree w.board) (s : ℕ) (along : (u : ℕ) → is
             (ap (λ (z : Bool). some_chip w.board a (λ u. is_below w.board u s) || z)
             (any_at (λ (x : DeviceView). eqb x.addr a && is_below w.board x.bus s) w.board.devices d r.0 r.1
             (and_from (eqb r.0.addr a) (is_below w.board r.0.bus s) r.2 (ap (λ (i : ℕ). is_below w.board i s) (sym bus) ∙ below)))
-            ∙ or_true (some_chip w.board a (λ u. is_below w.board u s)))))
+            ∙ or-true (some_chip w.board a (λ u. is_below w.board u s)))))
       ]
-    where
-      or_true : (p : Bool) → (p || true) ≡ true
-      or_true true = refl
-      or_true false = refl
 
   granted_leads : LeadsTo w a (granted_on w.board s force a)
   granted_leads =

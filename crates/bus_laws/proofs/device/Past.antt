@@ -59,7 +59,7 @@ pub record DecidesNext (b : BoardView) (asks : Asks) (n : Now) (c : ℕ) (cut : 
   pub bars : Bars b whose cut verdict
 
 -- a walk that settles next has not settled
-settles_next : (w : WalkTree) (done : Bool) (verdict : Option Errno) → Settles done w → first_act w ≡ Some (Settle verdict) → done ≡ false
+pub settles_next : (w : WalkTree) (done : Bool) (verdict : Option Errno) → Settles done w → first_act w ≡ Some (Settle verdict) → done ≡ false
 settles_next w done verdict h first =
     let at = first_is w (Settle verdict) first in
     let s : Settles done (Then (Settle verdict) at.0 at.1) = subst (λ (x : WalkTree). Settles done x) at.2 h in

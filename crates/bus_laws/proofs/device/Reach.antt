@@ -1,11 +1,8 @@
 -- Whom each message of a walk reaches: the device that its bus and address grant, its mux chip, or nobody. No induction.
-use Rattle.std.proofs.Common.{◌≡◌, ℕ, zero, suc, ◌+◌, Bool, true, false, cond, not, List, [], ◌∷◌, ◌++◌, Option, Some, None, eqb, refl, sym, ◌∙◌, ap, subst, ◌⊎◌, inl, inr}
+use Rattle.std.proofs.Common.{◌≡◌, ℕ, zero, suc, Bool, true, false, cond, not, List, [], ◌∷◌, ◌++◌, Option, Some, None, refl, sym, ◌∙◌, ap, subst, ◌⊎◌, inl, inr}
 use Rattle.std.specs.Prelude.{slice_get}
-use Rattle.std.specs.Option.{option_map_or}
 use Rattle.i2c_base.specs.declared.board.MuxKind.{MuxKind}
 use Rattle.i2c_base.specs.declared.event.Event.TheVariants as event
-use Rattle.i2c_base.specs.declared.event.Answer.{Answer}
-use Rattle.i2c_base.specs.declared.event.Answer.TheVariants as answer
 use Rattle.i2c_base.specs.declared.entry.End.{End}
 use Rattle.i2c_base.specs.declared.entry.End.TheVariants as end
 use Rattle.i2c_base.specs.declared.entry.Purpose.{Purpose}
@@ -15,15 +12,15 @@ use Rattle.i2c_base.specs.declared.ids.Node.{Node}
 use Rattle.i2c_base.specs.declared.ids.Node.TheVariants as node
 use Rattle.i2c_base.specs.declared.tree.Grant.{Grant}
 use Rattle.i2c_base.specs.declared.tree.Grant.TheVariants as grant
-use Rattle.i2c_base.specs.Board.{BoardView, DeviceView}
+use Rattle.i2c_base.specs.Board.{BoardView}
 use Rattle.i2c_base.specs.Transfer.{TransferView}
-use Rattle.i2c_spec.specs.Tree.{Hop, hops, root_of, of_device, home_of_mux, addr_of_mux, is_absent, IsAmongHops}
+use Rattle.i2c_spec.specs.Tree.{Hop, hops, root_of, home_of_mux, addr_of_mux, is_absent, IsAmongHops}
 use Rattle.i2c_spec.specs.TreeFacts.{IsTree, IsHop}
 use Rattle.i2c_spec.specs.Plain.{IsPlainBoard}
 use Rattle.i2c_spec.specs.Grant.{grant_of, named_of}
-use Rattle.i2c_spec.specs.Targets.{TargetState, state_table, state_answer}
+use Rattle.i2c_spec.specs.Targets.{TargetState}
 use Rattle.i2c_spec.specs.Messages.{MessageView}
-use Rattle.i2c_spec.specs.World.{World, joins_device, start_event, device_start, start_devices, has_heard, heard_of, hearers}
+use Rattle.i2c_spec.specs.World.{World, start_devices, has_heard, heard_of, hearers}
 use Rattle.i2c_spec.specs.Flat.{answer_of, granted_on}
 use Rattle.bus_spec.specs.Walk.{Mark, Job, Call, Select, Clear, job_bus, job_purpose, message_of, chip_address, is_gpio}
 use Rattle.bus_spec.specs.Slots.{Slots, Selected}
@@ -33,60 +30,19 @@ use Rattle.bus_spec.specs.Legal.{starts, start_failed, IsHeardBy, IsHeardByChip,
 use Rattle.bus_laws.specs.Runs.{IsMuxOf, MaySend}
 use Rattle.bus_laws.specs.Told.{WorldTold}
 use Rattle.bus_laws.specs.Alike.{listening, LeadsTo, IsControl}
-use Rattle.bus_laws.proofs.world.Feed.{hears, heard-none}
-use Rattle.bus_laws.proofs.world.Reach.{world_of, start_heard, other_state}
+use Rattle.bus_laws.proofs.world.Reach.{world_of}
 use Rattle.bus_laws.proofs.world.Hears.{control_hearers}
 use Rattle.bus_laws.proofs.world.Law.{world-is, along_here, joined_here}
 use Rattle.bus_laws.proofs.world.Sends.{call_not_busy}
 use Rattle.bus_laws.proofs.world.BoardFacts.{mux_at, get_same_length, has_address_of, has_chip-is}
-use Rattle.bus_laws.proofs.device.Hears.{heard-alone, heard-missing}
 use Rattle.bus_laws.proofs.device.Grant.{granted-leads}
 use Rattle.bus_laws.proofs.device.Stay.{chip-control}
+use Rattle.bus_laws.proofs.device.Leads.{answer_at, devices_heard}
 
 -- WHO HEARS, where an address leads to one device
-abbrev answer_at : Option TargetState → Bool → Answer
-answer_at o reading = option_map_or (λ (x : TargetState). state_answer x (event.Start reading)) o answer.Nothing
-
-listens : (k : ℕ) (h : Bool) → cond h (node.Device k ∷ []) [] ≡ listening (cond h (Some k) None)
-listens k true = refl
-listens k false = refl
-
 module _ (w : World) (a : ℕ) (granted : Option ℕ) (leads : LeadsTo w a granted) (reading : Bool) where
-  hears_only : (d : ℕ) (x : TargetState) → hears state_table (device_start w a reading d) x ≡ true → granted ≡ Some d
-  hears_only d x h =
-      let g = start_heard state_table x (joins_device w d) (of_device (λ (y : DeviceView). eqb y.addr a) false w.board d) reading (other_state x) h in
-      leads.found d g.0 g.1
-
-  only_hears : (k : ℕ) → granted ≡ Some k → (i : ℕ) (x : TargetState) → slice_get w.devices i ≡ Some x → hears state_table (device_start w a reading i) x ≡ true → i ≡ k
-  only_hears k e i x at h = (let g : Some i ≡ Some k = sym (hears_only i x h) ∙ e in cc)
-
-  starts_at : (k : ℕ) → granted ≡ Some k → device_start w a reading k ≡ Some (event.Start reading)
-  starts_at k e =
-      ap (λ (j : Bool). start_event j (of_device (λ (y : DeviceView). eqb y.addr a) false w.board k) reading) (leads.joined k e)
-      ∙ ap (λ (t : Bool). start_event true t reading) (leads.addressed k e)
-
-  devices_heard : (o : Option ℕ) → granted ≡ o
-      → heard_of node.Device (start_devices w a reading) ≡ listening (cond (has_heard (answer_of w.devices o (event.Start reading))) o None)
-  devices_heard None e =
-      heard-none state_table node.Device (device_start w a reading) 0 w.devices (λ i x at. silent (0 + i) x (hears state_table (device_start w a reading (0 + i)) x) refl)
-    where
-      silent : (n : ℕ) (x : TargetState) (t : Bool) → hears state_table (device_start w a reading n) x ≡ t → t ≡ false
-      silent n x false h = refl
-      silent n x true h = absurd (let g : None ≡ Some n = sym e ∙ hears_only n x h in cc)
-  devices_heard (Some k) e = by (slice_get w.devices k) refl
-    where
-      by : (o : Option TargetState) → slice_get w.devices k ≡ o
-          → heard_of node.Device (start_devices w a reading) ≡ listening (cond (has_heard (answer_at (slice_get w.devices k) reading)) (Some k) None)
-      by None at =
-          heard-missing state_table (device_start w a reading) w.devices k (event.Start reading) (starts_at k e) (only_hears k e) node.Device at
-          ∙ ap (λ (o : Option TargetState). listening (cond (has_heard (answer_at o reading)) (Some k) None)) (sym at)
-      by (Some x) at =
-          heard-alone state_table (device_start w a reading) w.devices k (event.Start reading) (starts_at k e) (only_hears k e) node.Device x at
-          ∙ listens k (has_heard (state_answer x (event.Start reading)))
-          ∙ ap (λ (o : Option TargetState). listening (cond (has_heard (answer_at o reading)) (Some k) None)) (sym at)
-
   pub leads-hearers : hearers w a reading ≡ listening (cond (has_heard (answer_of w.devices granted (event.Start reading))) granted None)
-  leads-hearers = ap (λ (xs : List Node). xs ++ heard_of node.Device (start_devices w a reading)) (leads.chips reading) ∙ devices_heard granted refl
+  leads-hearers = ap (λ (xs : List Node). xs ++ heard_of node.Device (start_devices w a reading)) (leads.chips reading) ∙ devices_heard w a granted leads reading granted refl
 
 -- WHAT AN ENTRY TELLS of who has heard
 told_hearers : (w : World) (addr : ℕ) (reading : Bool) (heard : Option Node) (e : End) → start_failed e ≡ false → HearsIn w addr reading heard e
@@ -131,7 +87,7 @@ named_is (grant.Named k) d e = (let f : Some k ≡ Some d = e in let g : k ≡ d
 named_is grant.Nobody d e = absurd (let f : None ≡ Some d = e in cc)
 named_is grant.Busy d e = absurd (let f : None ≡ Some d = e in cc)
 
-starts-is : (o : Option TargetState) (reading : Bool) → starts o reading ≡ has_heard (answer_at o reading)
+starts-is : (o : Option TargetState) (reading : Bool) → starts o reading ≡ has_heard (answer_at o (event.Start reading))
 starts-is None reading = refl
 starts-is (Some x) reading = refl
 

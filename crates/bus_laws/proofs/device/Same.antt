@@ -1,9 +1,9 @@
 -- A root's world and the flat world stay the same at the devices of the root: through a start, a byte, and a stop.
-use Rattle.std.proofs.Common.{◌≡◌, ℕ, ◌+◌, Bool, true, false, cond, ◌||◌, List, [], ◌∷◌, ◌++◌, Option, Some, None, eqb, refl, sym, ◌∙◌, ap, subst, mod-eq_of_lt}
+use Rattle.std.proofs.Common.{◌≡◌, ℕ, ◌+◌, Bool, true, false, cond, ◌||◌, List, [], ◌++◌, Option, Some, None, eqb, refl, sym, ◌∙◌, ap, subst, mod-eq_of_lt}
 use Rattle.std.specs.Prelude.{bit_and, slice_get}
 use Rattle.std.specs.List.{list_any, list_all}
-use Rattle.std.specs.Option.{option_map, option_map_or}
-use Rattle.std.proofs.lemmas.Bool.{eqb-true, eq-eqb}
+use Rattle.std.specs.Option.{option_map}
+use Rattle.std.proofs.lemmas.Bool.{eqb-true}
 use Rattle.std.proofs.lemmas.Grind.{and_numeral}
 use Rattle.std.proofs.lemmas.List.Elements.{recursion_from_All}
 use Rattle.i2c_base.specs.declared.event.Event.{Event}
@@ -22,48 +22,29 @@ use Rattle.i2c_spec.specs.Targets.{TargetState, HoldsBytes, IsByteEvent, IsQuiet
 use Rattle.i2c_spec.specs.Messages.{MessageView}
 use Rattle.i2c_base.specs.Table.{byte_of}
 use Rattle.i2c_spec.specs.World.{World, opens_hop, joins_device, given, feed, answers, is_ack, is_slow, has_heard, start_event, device_start, start_chips, start_devices, heard_of, hearers, some_answer, answer as world_answer, is_chip, is_device, to_chips, to_devices, hearing_answers, takes, and_of, gives, stop_event, after}
-use Rattle.i2c_spec.specs.Flat.{FlatListener, is_it, is_member, put_named, flat_start, to_current, to_named, answer_of, acknowledged, flat_after, flat_listener}
+use Rattle.i2c_spec.specs.Flat.{FlatListener, is_member, put_named, flat_start, to_current, to_named, answer_of, acknowledged, flat_after, flat_listener}
 use Rattle.i2c_spec.specs.Conversation.{world_listener, talk}
 use Rattle.bus_laws.specs.Alike.{IsOf, listening, Same, LeadsTo, ToldAlike}
 use Rattle.bus_laws.proofs.tree.Slots.{eqb-apart}
-use Rattle.bus_laws.proofs.world.Feed.{hears, feed-same, heard-none, unheard, some_answer-append}
-use Rattle.bus_laws.proofs.world.Reach.{and_left, start_heard, other_state}
+use Rattle.bus_laws.proofs.world.Feed.{feed-same, unheard, some_answer-append}
+use Rattle.bus_laws.proofs.world.Reach.{and_left}
 use Rattle.bus_laws.proofs.world.Control.{started-chips}
-use Rattle.bus_laws.proofs.device.Talk.{IsFollowing, talk-alike}
+use Rattle.bus_laws.proofs.device.Talk.{talk-alike}
 use Rattle.i2c_spec.proofs.StateLemmas.{stopped-quiet, after-bytes, sends-byte}
-use Rattle.bus_laws.proofs.device.Hears.{fed-at, map-alike, map-from, answers-quiet, answers-alone, one_answer, heard-alone, heard-missing, answer-alone}
+use Rattle.bus_laws.proofs.device.Hears.{fed-at, map-alike, map-from, answers-quiet, answers-alone, one_answer, heard-missing, answer-alone}
+use Rattle.i2c_spec.proofs.MessageLemmas.{IsFollowing}
+use Rattle.i2c_spec.specs.Conversation.{is_it}
+use Rattle.i2c_spec.proofs.MessageLemmas.{is_it-some, is_it-at}
+use Rattle.std.proofs.Math.Bool.{or-false}
+use Rattle.bus_laws.proofs.world.Hears.{slow_is_heard, ack_is_heard}
+use Rattle.bus_laws.proofs.device.Leads.{answer_at, starts_at, only_hears, devices_heard}
 
 -- ANSWERS
--- who is slow, or acknowledges, has heard
-slow_heard : (a : Answer) → has_heard a ≡ false → is_slow a ≡ false
-slow_heard answer.Ack e = refl
-slow_heard answer.Nack e = refl
-slow_heard answer.Slow e = absurd (let f : true ≡ false = e in cc)
-slow_heard (answer.Byte byte) e = refl
-slow_heard answer.Nothing e = refl
-
-ack_heard : (a : Answer) → has_heard a ≡ false → is_ack a ≡ false
-ack_heard answer.Ack e = absurd (let f : true ≡ false = e in cc)
-ack_heard answer.Nack e = refl
-ack_heard answer.Slow e = refl
-ack_heard (answer.Byte byte) e = refl
-ack_heard answer.Nothing e = refl
-
 -- the AND of a byte and the idle wires
 byte_and : (n : ℕ) → IsByte n → bit_and n 255 ≡ n
 byte_and n small = and_numeral n 254 refl ∙ mod-eq_of_lt small
 
 -- EVENTS
-pub is_it-some : (o : Option ℕ) (d : ℕ) → is_it o d ≡ true → o ≡ Some d
-is_it-some None d e = absurd (let f : false ≡ true = e in cc)
-is_it-some (Some k) d e = ap Some (eqb-true k d e)
-
-pub is_it-at : (o : Option ℕ) (d : ℕ) → o ≡ Some d → is_it o d ≡ true
-is_it-at o d e = ap (λ (x : Option ℕ). is_it x d) e ∙ eq-eqb d d refl
-
-or_false : (t : Bool) → (t || false) ≡ t
-or_false true = refl
-or_false false = refl
 
 -- the device that is named last is a member, and whoever was
 member_put : (o : Option ℕ) (ds : List ℕ) (d : ℕ) → is_member d (put_named o ds) ≡ (is_it o d || is_member d ds)
@@ -126,11 +107,7 @@ no_chip_listens (Some k) m = refl
 
 device_listens : (o : Option ℕ) (d : ℕ) → list_any (is_device d) (listening o) ≡ is_it o d
 device_listens None d = refl
-device_listens (Some k) d = or_false (eqb k d)
-
-listens : (k : ℕ) (h : Bool) → cond h (node.Device k ∷ []) [] ≡ listening (cond h (Some k) None)
-listens k true = refl
-listens k false = refl
+device_listens (Some k) d = or-false (eqb k d)
 
 pick : (a : Answer) → cond (is_slow a) answer.Slow (cond (is_ack a) answer.Ack answer.Nack) ≡ acknowledged a
 pick answer.Ack = refl
@@ -138,10 +115,6 @@ pick answer.Nack = refl
 pick answer.Slow = refl
 pick (answer.Byte byte) = refl
 pick answer.Nothing = refl
-
--- what one device answers, as the flat world tells it
-abbrev answer_at : Option TargetState → Event → Answer
-answer_at o e = option_map_or (λ (x : TargetState). state_answer x e) o answer.Nothing
 
 module _ (b : BoardView) (r : ℕ) (w : World) (f : FlatListener) (s : Same b r w f) where
   -- THE START
@@ -162,42 +135,16 @@ module _ (b : BoardView) (r : ℕ) (w : World) (f : FlatListener) (s : Same b r 
         by false t false true ej et ei en = absurd (let g : false ≡ true = sym ej ∙ s.joined d en in cc)
         by false t false false ej et ei en = refl
 
-    hears_only : (d : ℕ) (x : TargetState) → hears state_table (device_start w a reading d) x ≡ true → granted ≡ Some d
-    hears_only d x h =
-        let g = start_heard state_table x (joins_device w d) (of_device (λ (y : DeviceView). eqb y.addr a) false w.board d) reading (other_state x) h in
-        leads.found d g.0 g.1
-
-    starts_at : (k : ℕ) → granted ≡ Some k → device_start w a reading k ≡ Some (event.Start reading)
-    starts_at k e =
-        ap (λ (j : Bool). start_event j (of_device (λ (y : DeviceView). eqb y.addr a) false w.board k) reading) (leads.joined k e)
-        ∙ ap (λ (t : Bool). start_event true t reading) (leads.addressed k e)
-
     -- the world's device k is the flat world's
     device_same : (k : ℕ) → granted ≡ Some k → slice_get w.devices k ≡ slice_get f.states k
     device_same k e = s.states k (joined_of b r w s.board s.root k (leads.joined k e))
 
-    only_hears : (k : ℕ) → granted ≡ Some k → (i : ℕ) (x : TargetState) → slice_get w.devices i ≡ Some x → hears state_table (device_start w a reading i) x ≡ true → i ≡ k
-    only_hears k e i x at h = (let g : Some i ≡ Some k = sym (hears_only i x h) ∙ e in cc)
-
     start_devices-heard : (o : Option ℕ) → granted ≡ o
         → heard_of node.Device (start_devices w a reading) ≡ listening (cond (has_heard (answer_of f.states o (event.Start reading))) o None)
-    start_devices-heard None e =
-        heard-none state_table node.Device (device_start w a reading) 0 w.devices (λ i x at. silent (0 + i) x (hears state_table (device_start w a reading (0 + i)) x) refl)
-      where
-        silent : (n : ℕ) (x : TargetState) (t : Bool) → hears state_table (device_start w a reading n) x ≡ t → t ≡ false
-        silent n x false h = refl
-        silent n x true h = absurd (let g : None ≡ Some n = sym e ∙ hears_only n x h in cc)
-    start_devices-heard (Some k) e = by (slice_get f.states k) refl
-      where
-        by : (o : Option TargetState) → slice_get f.states k ≡ o
-            → heard_of node.Device (start_devices w a reading) ≡ listening (cond (has_heard (answer_at (slice_get f.states k) (event.Start reading))) (Some k) None)
-        by None at =
-            heard-missing state_table (device_start w a reading) w.devices k (event.Start reading) (starts_at k e) (only_hears k e) node.Device (device_same k e ∙ at)
-            ∙ ap (λ (o : Option TargetState). listening (cond (has_heard (answer_at o (event.Start reading))) (Some k) None)) (sym at)
-        by (Some x) at =
-            heard-alone state_table (device_start w a reading) w.devices k (event.Start reading) (starts_at k e) (only_hears k e) node.Device x (device_same k e ∙ at)
-            ∙ listens k (has_heard (state_answer x (event.Start reading)))
-            ∙ ap (λ (o : Option TargetState). listening (cond (has_heard (answer_at o (event.Start reading))) (Some k) None)) (sym at)
+    start_devices-heard None e = devices_heard w a granted leads reading None e
+    start_devices-heard (Some k) e =
+        devices_heard w a granted leads reading (Some k) e
+        ∙ ap (λ (o : Option TargetState). listening (cond (has_heard (answer_at o (event.Start reading))) (Some k) None)) (device_same k e)
 
     start_devices-said : (test : Answer → Bool) → ((x : Answer) → has_heard x ≡ false → test x ≡ false) → (o : Option ℕ) → granted ≡ o
         → some_answer test (start_devices w a reading) ≡ test (answer_of f.states o (event.Start reading))
@@ -208,10 +155,10 @@ module _ (b : BoardView) (r : ℕ) (w : World) (f : FlatListener) (s : Same b r 
         by : (o : Option TargetState) → slice_get f.states k ≡ o → some_answer test (start_devices w a reading) ≡ test (answer_at (slice_get f.states k) (event.Start reading))
         by None at =
             unheard node.Device test implies (start_devices w a reading)
-            (heard-missing state_table (device_start w a reading) w.devices k (event.Start reading) (starts_at k e) (only_hears k e) node.Device (device_same k e ∙ at))
+            (heard-missing state_table (device_start w a reading) w.devices k (event.Start reading) (starts_at w a granted leads reading k e) (only_hears w a granted leads reading k e) node.Device (device_same k e ∙ at))
             ∙ sym (implies answer.Nothing refl) ∙ ap (λ (o : Option TargetState). test (answer_at o (event.Start reading))) (sym at)
         by (Some x) at =
-            answer-alone state_table (device_start w a reading) w.devices k (event.Start reading) (starts_at k e) (only_hears k e) test implies x (device_same k e ∙ at)
+            answer-alone state_table (device_start w a reading) w.devices k (event.Start reading) (starts_at w a granted leads reading k e) (only_hears w a granted leads reading k e) test implies x (device_same k e ∙ at)
             ∙ ap (λ (o : Option TargetState). test (answer_at o (event.Start reading))) (sym at)
 
     start_said : (test : Answer → Bool) → ((x : Answer) → has_heard x ≡ false → test x ≡ false)
@@ -223,8 +170,8 @@ module _ (b : BoardView) (r : ℕ) (w : World) (f : FlatListener) (s : Same b r 
 
     pub start-answer : world_answer w a reading ≡ acknowledged (answer_of f.states granted (event.Start reading))
     start-answer =
-        ap (λ (t : Bool). cond t answer.Slow (cond (some_answer is_ack (start_chips w a reading ++ start_devices w a reading)) answer.Ack answer.Nack)) (start_said is_slow slow_heard)
-        ∙ ap (λ (t : Bool). cond (is_slow (answer_of f.states granted (event.Start reading))) answer.Slow (cond t answer.Ack answer.Nack)) (start_said is_ack ack_heard)
+        ap (λ (t : Bool). cond t answer.Slow (cond (some_answer is_ack (start_chips w a reading ++ start_devices w a reading)) answer.Ack answer.Nack)) (start_said is_slow slow_is_heard)
+        ∙ ap (λ (t : Bool). cond (is_slow (answer_of f.states granted (event.Start reading))) answer.Slow (cond t answer.Ack answer.Nack)) (start_said is_ack ack_is_heard)
         ∙ pick (answer_of f.states granted (event.Start reading))
 
     start_hearing : hearers w a reading ≡ listening (cond (has_heard (answer_of f.states granted (event.Start reading))) granted None)
@@ -316,7 +263,7 @@ module _ (b : BoardView) (r : ℕ) (w : World) (f : FlatListener) (s : Same b r 
     where
       one : (k : ℕ) (y : Option TargetState) → some_answer is_ack (one_answer state_table k (event.Put byte) y) ≡ is_ack (answer_at y (event.Put byte))
       one k None = refl
-      one k (Some x) = or_false (is_ack (state_answer x (event.Put byte)))
+      one k (Some x) = or-false (is_ack (state_answer x (event.Put byte)))
 
       by : (o : Option ℕ) → some_answer is_ack (said_of o (event.Put byte)) ≡ is_ack (answer_of f.states o (event.Put byte))
       by None = refl

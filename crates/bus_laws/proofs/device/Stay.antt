@@ -20,10 +20,10 @@ use Rattle.i2c_spec.specs.Plain.{IsPlainBoard, IsPlainDevice}
 use Rattle.i2c_spec.specs.Targets.{TargetState, HoldsBytes, IsQuiet, state_table, opening_state}
 use Rattle.i2c_spec.specs.Messages.{MessageView}
 use Rattle.i2c_spec.specs.World.{World, is_joined, joins_device, given, feed, answers, answer_with, has_heard, start_event, device_start, start_chips, start_devices, heard_of, hearers, is_device, to_devices, stop_event, after, opening_world}
-use Rattle.i2c_spec.specs.Flat.{FlatListener, idle, is_it, is_member, put_named, answer_of, flat_start, to_current, to_named, flat_after, flat_listener}
+use Rattle.i2c_spec.specs.Flat.{FlatListener, idle, is_member, put_named, answer_of, flat_start, to_current, to_named, flat_after, flat_listener}
 use Rattle.i2c_spec.specs.Conversation.{world_listener, talk}
 use Rattle.bus_laws.specs.Alike.{IsOf, Same, IsControl, IsUnnamed}
-use Rattle.bus_laws.proofs.world.TalkLaws.{IsLater, talk-keeps}
+use Rattle.bus_laws.proofs.world.TalkLaws.{talk-keeps}
 use Rattle.bus_laws.proofs.world.Feed.{hears, feed-same, heard-none}
 use Rattle.bus_laws.proofs.world.Reach.{start_heard, other_state}
 use Rattle.bus_laws.proofs.world.Hears.{swap_along, device_address}
@@ -32,6 +32,8 @@ use Rattle.i2c_spec.proofs.StateLemmas.{opening-quiet, opening-bytes}
 use Rattle.bus_laws.proofs.device.Hears.{fed-at, map-same}
 use Rattle.bus_laws.proofs.device.Same.{joined_of, stop-same}
 use Rattle.bus_laws.proofs.device.Stops.{world-settled}
+use Rattle.i2c_spec.proofs.MessageLemmas.{IsLater}
+use Rattle.i2c_spec.specs.Conversation.{is_it}
 
 -- no device is among the chips that hear
 no_device_named : (d : ℕ) (xs : List (ℕ × Answer)) → list_any (is_device d) (heard_of node.Chip xs) ≡ false

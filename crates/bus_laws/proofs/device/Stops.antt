@@ -10,7 +10,7 @@ use Rattle.i2c_base.specs.declared.entry.End.TheVariants as end
 use Rattle.i2c_spec.specs.Messages.{MessageView}
 use Rattle.i2c_spec.specs.World.{World}
 use Rattle.i2c_spec.specs.Flat.{FlatListener, idle, flat_listener}
-use Rattle.i2c_spec.specs.Conversation.{Listener, world_listener, Said, TalkTold, is_at, silence, say, with_byte, told, call_then, ended, puts, gets, gets_counted, by_answer, talk}
+use Rattle.i2c_spec.specs.Conversation.{Listener, world_listener, Said, TalkTold, is_it, silence, say, with_byte, told, call_then, ended, puts, gets, gets_counted, by_answer, talk}
 use Rattle.bus_laws.specs.Alike.{EndsTransfer}
 
 module _ {W : Type 0} (l : Listener W) (Q : W → Type 0) (stops : (u : W) → Q (l.after u call.Stop)) (faults : (u : W) → Q (l.after u call.Fault)) (last : Bool) where
@@ -23,7 +23,7 @@ module _ {W : Type 0} (l : Listener W) (Q : W → Type 0) (stops : (u : W) → Q
 
   then_settled : (cut : Option ℕ) (t : Said W) (c : PortCall) (next : Said W → TalkTold W) → IsSettled (next (say l t c)) → IsSettled (call_then l cut t c next)
   then_settled cut t c next h =
-      cond_settled (is_at cut (length t.calls)) (told (say l t call.Fault) (end.Cut (length t.calls))) (next (say l t c)) (λ over. faults t.now) h
+      cond_settled (is_it cut (length t.calls)) (told (say l t call.Fault) (end.Cut (length t.calls))) (next (say l t c)) (λ over. faults t.now) h
 
   ended_early : (cut : Option ℕ) (t : Said W) (e : End) → IsSettled (ended l cut true t e)
   ended_early cut t e = then_settled cut t call.Stop (λ s. told s e) (λ over. stops t.now)

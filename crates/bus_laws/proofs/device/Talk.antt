@@ -9,17 +9,9 @@ use Rattle.i2c_base.specs.declared.port.PortCall.TheVariants as call
 use Rattle.i2c_base.specs.declared.entry.End.{End}
 use Rattle.i2c_base.specs.declared.entry.End.TheVariants as end
 use Rattle.i2c_spec.specs.Messages.{MessageView}
-use Rattle.i2c_spec.specs.Conversation.{Listener, Said, TalkTold, is_at, silence, say, with_byte, told, call_then, ended, puts, gets, gets_counted, by_answer, talk}
+use Rattle.i2c_spec.specs.Conversation.{Listener, Said, TalkTold, is_it, silence, say, with_byte, told, call_then, ended, puts, gets, gets_counted, by_answer, talk}
 use Rattle.bus_laws.specs.Alike.{ToldAlike}
-
--- a call behind the start of a message, whose byte fits
-abbrev pub IsFollowing : (ℕ → Type 0) → PortCall → Type 0
-IsFollowing Fits (call.Start a reading) = ⊥
-IsFollowing Fits (call.Line m level) = ⊥
-IsFollowing Fits (call.Put byte) = Fits byte
-IsFollowing Fits (call.Get ack) = Unit {0}
-IsFollowing Fits call.Stop = Unit {0}
-IsFollowing Fits call.Fault = Unit {0}
+use Rattle.i2c_spec.proofs.MessageLemmas.{IsFollowing}
 
 -- what two messages have said so far
 record SaidAlike {W V : Type 0} (R : W → V → Type 0) (t : Said W) (u : Said V) : Type 0 where
@@ -55,8 +47,8 @@ module _ {W V : Type 0} (l : Listener W) (k : Listener V) (R : W → V → Type 
       → ((s : Said W) (z : Said V) → SaidAlike R s z → ToldAlike R (next s) (then z)) → ToldAlike R (call_then l cut t c next) (call_then k cut u c then)
   then_alike cut t u c next then later s goes_on =
       let place : length t.calls ≡ length u.calls = ap (λ (cs : List PortCall). length cs) s.calls in
-      cond_alike (is_at cut (length t.calls)) (is_at cut (length u.calls)) (told (say l t call.Fault) (end.Cut (length t.calls))) (next (say l t c))
-      (told (say k u call.Fault) (end.Cut (length u.calls))) (then (say k u c)) (ap (λ (n : ℕ). is_at cut n) place)
+      cond_alike (is_it cut (length t.calls)) (is_it cut (length u.calls)) (told (say l t call.Fault) (end.Cut (length t.calls))) (next (say l t c))
+      (told (say k u call.Fault) (end.Cut (length u.calls))) (then (say k u c)) (ap (λ (n : ℕ). is_it cut n) place)
       (told_said (say l t call.Fault) (say k u call.Fault) (end.Cut (length t.calls)) (end.Cut (length u.calls)) (ap (λ (n : ℕ). end.Cut n) place) (said t u call.Fault tt s))
       (goes_on (say l t c) (say k u c) (said t u c later s))
 
@@ -137,7 +129,7 @@ module _ {W V : Type 0} (l : Listener W) (k : Listener V) (R : W → V → Type 
       → l.answer w m.addr m.reading ≡ k.answer v m.addr m.reading
       → ToldAlike R (talk l limit w m last cut) (talk k limit v m last cut)
   talk-alike limit w v m last cut all fault start same =
-      cond_alike (is_at cut 0) (is_at cut 0) (told (say l (silence w) call.Fault) (end.Cut 0))
+      cond_alike (is_it cut 0) (is_it cut 0) (told (say l (silence w) call.Fault) (end.Cut 0))
       (by_answer l cut last limit m (l.answer w m.addr m.reading) (say l (silence w) (call.Start m.addr m.reading)))
       (told (say k (silence v) call.Fault) (end.Cut 0))
       (by_answer k cut last limit m (k.answer v m.addr m.reading) (say k (silence v) (call.Start m.addr m.reading))) refl

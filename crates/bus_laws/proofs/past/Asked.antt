@@ -7,7 +7,6 @@ use Rattle.i2c_base.specs.declared.entry.Entry.TheVariants as entry
 use Rattle.i2c_base.specs.declared.entry.Purpose.{Purpose}
 use Rattle.i2c_base.specs.declared.reply.Reply.{Reply}
 use Rattle.i2c_base.specs.Board.{BoardView}
-use Rattle.i2c_base.specs.declared.transfer.Kind.TheVariants as transfer_kind
 use Rattle.i2c_base.specs.Transfer.{TransferView}
 use Rattle.i2c_spec.specs.Tree.{root_of}
 use Rattle.i2c_spec.specs.TreeFacts.{IsTree}
@@ -30,7 +29,7 @@ use Rattle.bus_laws.specs.Calls.{CallsOf, IsAsked}
 use Rattle.bus_laws.proofs.past.StandsFacts.{current-stands}
 use Rattle.bus_laws.proofs.past.StandsStep.{at_same, at_other, send_known}
 use Rattle.bus_laws.proofs.past.StandsEntries.{first_is}
-use Rattle.bus_laws.proofs.past.Laws.{past-stands, open-kept}
+use Rattle.bus_laws.proofs.past.Laws.{nobody, past-stands, open-kept}
 use Rattle.bus_laws.proofs.walk.SettleLaw.{walk-settles}
 use Rattle.bus_laws.proofs.walk.Calls.{walk-calls, calls_seen}
 use Rattle.bus_laws.proofs.device.Reach.{send-reaches}
@@ -153,10 +152,7 @@ step_asked b asks some callers n all (entry.Message c bus purpose part parts add
     subst (λ (o : Option Act). AllAsked b asks (changed_at n.walk c (rest_of (current b asks n c) (Sent e bytes))) (sent_by b n c o (first_note (current b asks n c)) reading bytes e).settled) (sym may.2.2)
     (sent_asked b asks some n all c may.2.0 may.2.1 e bytes may.2.2)
 
--- THE INDUCTION. A transfer that nobody asks for: nobody is under way at the opening
-pub nobody : TransferView
-nobody = record { bus = 0; kind = transfer_kind.Plain; force = false; msgs = []; out = [] }
-
+-- THE INDUCTION. Nobody is under way at the opening
 opening-asked : (b : BoardView) (asks : Asks) → AllAsked b asks (opening b).walk (opening b).settled
 opening-asked b asks c = record { whose = nobody; done = true; calls = tt; settles = refl; asked = λ f. absurd (let g : true ≡ false = f in cc) }
 

@@ -9,7 +9,7 @@ use Rattle.i2c_base.specs.declared.entry.Entry.{Entry}
 use Rattle.i2c_base.specs.declared.entry.Entry.TheVariants as entry
 use Rattle.i2c_base.specs.Board.{BoardView}
 use Rattle.i2c_base.specs.Transfer.{TransferView}
-use Rattle.i2c_spec.specs.Tree.{Hop, hops, root_of, home_of_mux, Crosses, IsAmongHops, IsOver}
+use Rattle.i2c_spec.specs.Tree.{Hop, hops, root_of, home_of_mux, IsAmongHops, IsOver}
 use Rattle.i2c_spec.specs.TreeFacts.{IsTree}
 use Rattle.i2c_spec.specs.Plain.{IsPlainBoard}
 use Rattle.i2c_spec.specs.World.{opens_hop}
@@ -32,6 +32,7 @@ use Rattle.bus_laws.proofs.past.StandsFacts.{current-stands}
 use Rattle.bus_laws.proofs.past.StandsStep.{send_known}
 use Rattle.bus_laws.proofs.past.StandsEntries.{first_is, step-stands}
 use Rattle.bus_laws.proofs.past.StandsOpening.{opening-stands}
+use Rattle.bus_laws.proofs.world.Reach.{crossing_hop}
 
 -- what a sent or a lined step leaves of the locks
 sent_holder : (b : BoardView) (n : Now) (c : ℕ) (o : Option Act) (note : Note) (reading : Bool) (bytes : List ℕ) (e : End) (l : LockId)
@@ -52,14 +53,6 @@ lined_holder b n (Some (Shift job)) note failed l = refl
 lined_holder b n (Some (Settle verdict)) note failed l = refl
 
 -- the mux that stands on a bus that is crossed
-hop_on : (q : ℕ) (hs : List Hop) → Crosses q hs → (g : Hop) × IsAmongHops g hs × (g.on ≡ q)
-hop_on q [] crossed = absurd crossed
-hop_on q (h ∷ hs) crossed =
-    elim crossed [
-      | inl here ↦ (h, inl refl, here)
-      | inr there ↦ (let g = hop_on q hs there in (g.0, inr g.1, g.2))
-    ]
-
 -- who has a lock, as the takes and frees tell
 pub holder-told : (b : BoardView) (asks : Asks) (past : List Entry) (l : LockId) → (now b asks past).holder l ≡ holder past l
 holder-told b asks [] l = refl
@@ -79,7 +72,7 @@ below_each b l (j ∷ js) k below i =
     elim i [ inl e ↦ subst (λ (x : LockId). rank b l < rank b x) (sym e) below.0 | inr more ↦ below_each b l js k below.1 more ]
 
 -- a transfer that nobody asks for: nobody is under way at the opening
-nobody : TransferView
+pub nobody : TransferView
 nobody = record { bus = 0; kind = transfer_kind.Plain; force = false; msgs = []; out = [] }
 
 module _ (b : BoardView) (tree : IsTree b) (plain : IsPlainBoard b) (lines : LinesAreLocked b) (asks : Asks) (some : AsksForMessages asks) (callers : ℕ) where
@@ -175,7 +168,7 @@ module _ (b : BoardView) (tree : IsTree b) (plain : IsPlainBoard b) (lines : Lin
       on_its_path q s on_path other locked =
           elim on_path [
             | inl same ↦ absurd (other same)
-            | inr crossed ↦ (let g = hop_on q (hops b s) crossed in subst (λ (p : ℕ). holder past (lock.Mux p) ≡ Some c) g.2 (locked g.0 g.1))
+            | inr crossed ↦ (let g = crossing_hop q (hops b s) crossed in subst (λ (p : ℕ). holder past (lock.Mux p) ≡ Some c) g.2 (locked g.0 g.1))
           ]
 
       -- what the caller counts among its locks it has

@@ -80,7 +80,7 @@ marks_home b held w (k ∷ ms) v fail homes =
     slot_home b (set_marks ms v) k.on (Marked k.mux) (marks_home b held w ms v fail.1 homes)
     (λ m e. subst (λ (i : ℕ). home_of_mux b i ≡ k.on) (let f : Marked k.mux ≡ Marked m = e in cc) fail.0.at_home)
 
-select_unmarked : (h : Hop) (left : ℕ) (bytes : List ℕ) → mark_in (select_slot h left bytes) ≡ None
+pub select_unmarked : (h : Hop) (left : ℕ) (bytes : List ℕ) → mark_in (select_slot h left bytes) ≡ None
 select_unmarked h zero bytes = refl
 select_unmarked h (suc zero) bytes = by (eqb (first_byte bytes) 0)
   where

@@ -80,10 +80,11 @@ module _ (b : BoardView) (asks : Asks) (some : AsksForMessages asks) (callers : 
   abbrev n : Now
   n = now b asks past
 
-  asked : (d : ℕ) → IsAsked b asks d (current b asks n d) (n.settled d)
+  abbrev pub asked : (d : ℕ) → IsAsked b asks d (current b asks n d) (n.settled d)
   asked d = current-asked b asks some n (past-asked b asks some callers past steps) d
 
-  rest_settles : (d : ℕ) (act : Act) (first : IsNext b asks n d act)
+  -- what is left of a walk settles as the whole
+  pub rest_settles : (d : ℕ) (act : Act) (first : IsNext b asks n d act)
       → (note : Note) × (next : ActOutcome → WalkTree) × (current b asks n d ≡ Then act note next) × Settles (asked d).done (Then act note next)
   rest_settles d act first =
       let at = first_is (current b asks n d) act first in

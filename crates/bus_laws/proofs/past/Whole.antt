@@ -1,6 +1,6 @@
 -- No other message or line step of a root stands between two messages of one transfer: whoever is inside holds the
 -- root's lock and sends next. The inductions go over the entries.
-use Rattle.std.proofs.Common.{◌≡◌, ℕ, zero, suc, Bool, true, false, cond, ◌&&◌, ◌||◌, List, [], ◌∷◌, ◌++◌, Option, Some, None, eqb, refl, sym, ◌∙◌, ap, subst, ◌⊎◌, inl, inr, arith}
+use Rattle.std.proofs.Common.{◌≡◌, ℕ, zero, suc, Bool, true, false, cond, ◌&&◌, List, [], ◌∷◌, ◌++◌, Option, Some, None, eqb, refl, sym, ◌∙◌, ap, subst, ◌⊎◌, inl, inr, arith}
 use Rattle.std.specs.List.{list_any, AllByRecursion}
 use Rattle.std.proofs.lemmas.Bool.{eqb-true, eq-eqb}
 use Rattle.std.proofs.lemmas.Bool.Decides.{eqb_tells}
@@ -36,6 +36,9 @@ use Rattle.bus_laws.proofs.past.StandsStep.{at_same, at_other}
 use Rattle.bus_laws.proofs.past.StandsEntries.{first_is}
 use Rattle.bus_laws.proofs.past.Laws.{past-stands}
 use Rattle.bus_laws.proofs.past.Asked.{current-asked, past-asked}
+use Rattle.std.proofs.lemmas.Bool.{and_parts}
+use Rattle.std.proofs.lemmas.Option.{same_Some}
+use Rattle.std.proofs.lemmas.Bool.{or_parts}
 
 -- whose messages have begun and not ended sends the next one next, and holds the root's lock
 pub record IsInside (b : BoardView) (r : ℕ) (walk : WalkTree) (held : List LockId) : Type 0 where
@@ -54,9 +57,6 @@ pub goes_on_from : (v : Slots) (x w : WalkTree) (act : Act) → first_act w ≡ 
 goes_on_from v x Ends act e = absurd (let f : None ≡ Some act = e in cc)
 goes_on_from v x (Look ask next) act e = absurd (let f : None ≡ Some act = e in cc)
 goes_on_from v x (Then a note next) act e = e
-
-pub some_is : {X : Type 0} (x y : X) → Some x ≡ Some y → x ≡ y
-some_is x y e = cc
 
 -- a message that went through, whatever may follow
 pub goes_alike : (bus : ℕ) (ms : List MessageView) (left more : ℕ) (e : End) (bytes : List ℕ)
@@ -84,7 +84,7 @@ module _ (b : BoardView) (tree : IsTree b) (plain : IsPlainBoard b) (lines : Lin
 
   -- two callers don't hold one lock
   pub alone : (c d : ℕ) (l : LockId) → InLocks l (n.held c) → InLocks l (n.held d) → d ≡ c
-  alone c d l i j = sym (some_is c d (sym (stands.holds c l i) ∙ stands.holds d l j))
+  alone c d l i j = sym (same_Some c d (sym (stands.holds c l i) ∙ stands.holds d l j))
 
   module _ (d : ℕ) where
     cs : CallerStands b (n.held d) (current b asks n d) n.slot
@@ -133,7 +133,7 @@ module _ (b : BoardView) (tree : IsTree b) (plain : IsPlainBoard b) (lines : Lin
         → ((bus : ℕ) (ms : List MessageView) (left : ℕ) → act ≡ Send (Call bus ms) left → root_of b bus ≡ r → ⊥) → c ≡ d → ⊥
     other_caller r c d act e next no_call same =
         let mine = inside_next r c e in
-        let is = some_is act (Send (Call (inside r c e).bus (inside r c e).messages) (inside r c e).left)
+        let is = same_Some act (Send (Call (inside r c e).bus (inside r c e).messages) (inside r c e).left)
         (sym next ∙ ap (λ (i : ℕ). first_act (current b asks n i)) (sym same) ∙ mine) in
         no_call (inside r c e).bus (inside r c e).messages (inside r c e).left is (inside r c e).root
 
@@ -190,7 +190,7 @@ module _ (b : BoardView) (tree : IsTree b) (plain : IsPlainBoard b) (lines : Lin
         by_on : (t : Bool) → is_on (goes (Call bus ms) (suc left) (Sent e bytes)) ≡ t
             → IsInside b (root_of b bus) (changed_at n.walk d (rest_of (current b asks n d) (Sent e bytes)) c) (n.held c)
         by_on true on =
-            let same : d ≡ c = some_is d c (sym (more_follow bus ms left (Sent e bytes) d (n.inside (root_of b bus)) ∙ ap (λ (t : Bool). cond t (Some d) None) on) ∙ is) in
+            let same : d ≡ c = same_Some d c (sym (more_follow bus ms left (Sent e bytes) d (n.inside (root_of b bus)) ∙ ap (λ (t : Bool). cond t (Some d) None) on) ∙ is) in
             subst (λ (i : ℕ). IsInside b (root_of b bus) (changed_at n.walk d (rest_of (current b asks n d) (Sent e bytes)) i) (n.held i)) same
             (call_on d bus ms left e bytes next on)
         by_on false off =
@@ -248,16 +248,6 @@ Between n c r = (n.inside r ≡ Some c) ⊎ (n.due ≡ Some c)
 -- entries of the root are messages of the caller's
 abbrev IsOwn : BoardView → ℕ → ℕ → Entry → Type 0
 IsOwn b r c e = is_on_root b r e ≡ true → is_call_of b r c e ≡ true
-
-and_both : (x y : Bool) → (x && y) ≡ true → (x ≡ true) × (y ≡ true)
-and_both true true e = (refl, refl)
-and_both true false e = absurd (let f : false ≡ true = e in cc)
-and_both false y e = absurd (let f : false ≡ true = e in cc)
-
-or_neither : (x y : Bool) → (x || y) ≡ false → (x ≡ false) × (y ≡ false)
-or_neither false false e = (refl, refl)
-or_neither false true e = absurd (let f : true ≡ false = e in cc)
-or_neither true y e = absurd (let f : true ≡ false = e in cc)
 
 stepwise_front : (b : BoardView) (callers : ℕ) (asks : Asks) (later earlier : List Entry) → IsStepwise b callers asks (later ++ earlier) → IsStepwise b callers asks earlier
 stepwise_front b callers asks [] earlier steps = steps
@@ -334,7 +324,7 @@ module _ (b : BoardView) (tree : IsTree b) (plain : IsPlainBoard b) (lines : Lin
     due_only (entry.Settle d x cut) may due no_settle =
         elim may.1 [
           | inl none ↦ (let f : None ≡ Some c = sym none ∙ due in cc)
-          | inr mine ↦ (let same : d ≡ c = some_is d c (sym mine ∙ due) in
+          | inr mine ↦ (let same : d ≡ c = same_Some d c (sym mine ∙ due) in
               let f : true ≡ false = sym (eq-eqb d c same) ∙ no_settle in cc)
         ]
 
@@ -348,7 +338,7 @@ module _ (b : BoardView) (tree : IsTree b) (plain : IsPlainBoard b) (lines : Lin
         subst (λ (i : ℕ). InLocks (lock.Bus i) (here.held d)) root_is (sent_rooted b tree plain lines asks some callers past steps d job left next) in
         let same : d ≡ c = alone b tree plain lines asks some callers past steps c d (lock.Bus r) mine theirs in
         let act : Send job left ≡ Send (Call (inside r c is).bus (inside r c is).messages) (inside r c is).left =
-        some_is (Send job left) (Send (Call (inside r c is).bus (inside r c is).messages) (inside r c is).left)
+        same_Some (Send job left) (Send (Call (inside r c is).bus (inside r c is).messages) (inside r c is).left)
         (sym next ∙ ap (λ (i : ℕ). first_act (current b asks here i)) same ∙ inside_next b tree plain lines asks some callers past steps inside r c is) in
         (same, subst (λ (j : Job). is_call (job_purpose j) ≡ true) (sym (let f : job ≡ Call (inside r c is).bus (inside r c is).messages = cc in f)) refl)
 
@@ -370,7 +360,7 @@ module _ (b : BoardView) (tree : IsTree b) (plain : IsPlainBoard b) (lines : Lin
         subst (λ (i : ℕ). InLocks (lock.Bus i) (here.held d)) root_is (line_may b tree plain lines asks some callers past steps d job next).1.rooted in
         let same : d ≡ c = alone b tree plain lines asks some callers past steps c d (lock.Bus r) mine theirs in
         let act : Shift job ≡ Send (Call (inside r c is).bus (inside r c is).messages) (inside r c is).left =
-        some_is (Shift job) (Send (Call (inside r c is).bus (inside r c is).messages) (inside r c is).left)
+        same_Some (Shift job) (Send (Call (inside r c is).bus (inside r c is).messages) (inside r c is).left)
         (sym next ∙ ap (λ (i : ℕ). first_act (current b asks here i)) same ∙ inside_next b tree plain lines asks some callers past steps inside r c is) in cc
 
     one_between : (x : Entry) → May b callers asks here x → is_settle_of c x ≡ false → Between here c r
@@ -424,13 +414,13 @@ module _ (b : BoardView) (tree : IsTree b) (plain : IsPlainBoard b) (lines : Lin
       first_between (entry.Line d mux level failed) call steps = absurd (let f : false ≡ true = call in cc)
       first_between (entry.Settle d y cut) call steps = absurd (let f : false ≡ true = call in cc)
       first_between (entry.Message d bus purpose part parts addr reading bytes heard e) call steps =
-          let outer = and_both (eqb d c && is_call purpose) (eqb (root_of b bus) r) call in
-          let inner = and_both (eqb d c) (is_call purpose) outer.0 in
+          let outer = and_parts (eqb d c && is_call purpose) (eqb (root_of b bus) r) call in
+          let inner = and_parts (eqb d c) (is_call purpose) outer.0 in
           subst (λ (i : ℕ). Between (now b asks (entry.Message d bus purpose part parts addr reading bytes heard e ∷ earlier)) i r) (eqb-true d c inner.0)
           (subst (λ (i : ℕ). Between (now b asks (entry.Message d bus purpose part parts addr reading bytes heard e ∷ earlier)) d i) (eqb-true (root_of b bus) r outer.1)
           (entry_between earlier steps.1 d bus purpose part parts addr reading bytes heard e steps.0 inner.1))
   walk_on c r x earlier call (e ∷ middle) steps none =
-      let each = or_neither (is_settle_of c e) (list_any (is_settle_of c) middle) none in
+      let each = or_parts (is_settle_of c e) (list_any (is_settle_of c) middle) none in
       let before = walk_on c r x earlier call middle steps.1 each.1 in
       let more = one_between (middle ++ x ∷ earlier) steps.1 c r e steps.0 each.0 before.0 in
       (more.0, (more.1, before.1))

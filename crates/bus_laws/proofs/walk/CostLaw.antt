@@ -28,8 +28,8 @@ use Rattle.bus_laws.proofs.tree.Law.{refusal-none}
 use Rattle.bus_laws.proofs.world.BoardFacts.{mux_at}
 use Rattle.bus_laws.proofs.world.LineFacts.{wanted}
 use Rattle.bus_laws.proofs.walk.MessageFacts.{nth-next}
-use Rattle.bus_laws.proofs.world.Sends.{length-messages}
-use Rattle.bus_laws.proofs.past.Whole.{some_is}
+use Rattle.i2c_spec.proofs.MessageLemmas.{length-messages}
+use Rattle.std.proofs.lemmas.Option.{same_Some}
 
 -- more is enough where less is
 pub within_more : (b : BoardView) (w : WalkTree) (n m : ℕ) → n ≤ m → IsWithin b w n → IsWithin b w m
@@ -302,7 +302,7 @@ arbitrators_passed b tree rules s h among arbitrator =
     let wants : wants_parent spec.0.kind ≡ true = ap wants_parent spec.2 ∙ (arbitrator_row h.kind arbitrator).wants_parent in
     let same : Some (is_parent spec.0.lock) ≡ Some h.parent =
     sym (ap (λ (o : Option MuxSpec). unwrap_or (option_map (λ (x : MuxSpec). Some (is_parent x.lock)) o) None) spec.1) ∙ hop.parent in
-    sym (some_is (is_parent spec.0.lock) h.parent same) ∙ wanted (wants_parent spec.0.kind) (is_parent spec.0.lock) wants wrong
+    sym (same_Some (is_parent spec.0.lock) h.parent same) ∙ wanted (wants_parent spec.0.kind) (is_parent spec.0.lock) wants wrong
 
 -- WHAT THE MESSAGES of a transfer weigh
 abbrev weight_of : ℕ → List MessageView → ℕ

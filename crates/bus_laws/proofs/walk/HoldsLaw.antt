@@ -174,9 +174,6 @@ module _ (b : BoardView) (tree : IsTree b) (root : ℕ) where
       home : home_of_mux b h.mux ≡ h.on
       home = (tree.hop s h among).home
 
-      sub_if : (t : Bool) (l : LockId) → InLocks l (cond t (locks_of root hs) []) → InLocks l (lock.Mux h.on ∷ cond t (locks_of root hs) [])
-      sub_if t l i = inr i
-
       -- a control job on the bus of the hop
       module _ (held : List LockId) (locks : (l : LockId) → InLocks l (locks_of root (h ∷ hs)) → InLocks l held) (ranks : (l : LockId) → InLocks l held → floor ≤ rank b l) where
         mine : InLocks (lock.Mux h.on) held

@@ -13,6 +13,7 @@ use Rattle.i2c_spec.specs.World.{has_chip}
 use Rattle.bus_spec.specs.Walk.{is_gpio, is_arbitrator, chip_address}
 use Rattle.bus_laws.specs.Runs.{IsMuxOf, answers}
 use Rattle.bus_laws.proofs.world.ChipLaws.{IsBelow, HasChannel}
+use Rattle.std.proofs.Math.Bool.{and-false}
 
 -- the mux of a number, with its kind
 told_mux : (o : Option MuxSpec) (k : MuxKind) → unwrap_or (option_map (λ (m : MuxSpec). Some m.kind) o) None ≡ Some k
@@ -104,8 +105,4 @@ pub absent_silent : (b : BoardView) (m : ℕ) → is_absent b m ≡ true → ans
 absent_silent b m gone = ap (λ (t : Bool). not t && not (is_held b m)) gone
 
 pub held_silent : (b : BoardView) (m : ℕ) → is_held b m ≡ true → answers b m ≡ false
-held_silent b m held = ap (λ (t : Bool). not (is_absent b m) && not t) held ∙ and_false (not (is_absent b m))
-  where
-    and_false : (t : Bool) → (t && false) ≡ false
-    and_false true = refl
-    and_false false = refl
+held_silent b m held = ap (λ (t : Bool). not (is_absent b m) && not t) held ∙ and-false (not (is_absent b m))

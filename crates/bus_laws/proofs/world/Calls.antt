@@ -24,43 +24,33 @@ use Rattle.i2c_spec.specs.Messages.{MessageView}
 use Rattle.i2c_spec.specs.Conversation.{world_listener, talk}
 use Rattle.i2c_spec.specs.World.{World, after, given, feed, is_joined, chip_start, start_chips, start_devices, joins_chip, stop_event, hearers, has_heard, heard_of, is_chip, to_chips}
 use Rattle.bus_laws.proofs.world.Feed.{hears, feed-same, heard-none}
-use Rattle.bus_laws.proofs.world.TalkLaws.{IsLater, talk-keeps}
+use Rattle.bus_laws.proofs.world.TalkLaws.{talk-keeps}
 use Rattle.bus_laws.proofs.world.Reach.{world_of}
 use Rattle.bus_laws.proofs.world.Hears.{chip_along}
 use Rattle.bus_laws.proofs.world.Control.{NoneWaits, stop_quiet, started-chips}
+use Rattle.i2c_spec.proofs.MessageLemmas.{IsLater}
+use Rattle.std.proofs.Math.Bool.{or-true}
 
 -- GRANTS: facts as tests
 pub any_at : {X : Type 0} (test : X → Bool) (xs : List X) (i : ℕ) (x : X) → slice_get xs i ≡ Some x → test x ≡ true → list_any test xs ≡ true
 any_at test [] i x e t = absurd (let f : None ≡ Some x = e in cc)
 any_at test (y ∷ ys) zero x e t = ap (λ (b : Bool). b || list_any test ys) (ap test (let f : Some y ≡ Some x = e in let g : y ≡ x = cc in g) ∙ t)
-any_at test (y ∷ ys) (suc i) x e t = ap (λ (b : Bool). test y || b) (any_at test ys i x e t) ∙ or_true (test y)
-  where
-    or_true : (p : Bool) → (p || true) ≡ true
-    or_true true = refl
-    or_true false = refl
+any_at test (y ∷ ys) (suc i) x e t = ap (λ (b : Bool). test y || b) (any_at test ys i x e t) ∙ or-true (test y)
 
 pub crosses_any : (u : ℕ) (hs : List Hop) → Crosses u hs → list_any (λ (h : Hop). eqb h.on u) hs ≡ true
 crosses_any u [] c = absurd c
 crosses_any u (h ∷ hs) c =
     elim c [
       | inl e ↦ ap (λ (b : Bool). b || list_any (λ (g : Hop). eqb g.on u) hs) (eq-eqb h.on u e)
-      | inr more ↦ ap (λ (b : Bool). eqb h.on u || b) (crosses_any u hs more) ∙ or_true (eqb h.on u)
+      | inr more ↦ ap (λ (b : Bool). eqb h.on u || b) (crosses_any u hs more) ∙ or-true (eqb h.on u)
     ]
-  where
-    or_true : (p : Bool) → (p || true) ≡ true
-    or_true true = refl
-    or_true false = refl
 
 pub over_on_path : (b : BoardView) (s u : ℕ) → IsOver b u s → is_on_path b s u ≡ true
 over_on_path b s u over =
     elim over [
       | inl e ↦ ap (λ (t : Bool). t || is_below b s u) (eq-eqb u s e)
-      | inr c ↦ ap (λ (t : Bool). eqb u s || t) (crosses_any u (hops b s) c) ∙ or_true (eqb u s)
+      | inr c ↦ ap (λ (t : Bool). eqb u s || t) (crosses_any u (hops b s) c) ∙ or-true (eqb u s)
     ]
-  where
-    or_true : (p : Bool) → (p || true) ≡ true
-    or_true true = refl
-    or_true false = refl
 
 -- along the bus: on its path, or below it
 pub on_or_below : (b : BoardView) (s u : ℕ) → IsAlong b s u → (is_on_path b s u ≡ true) ⊎ (is_below b u s ≡ true)

@@ -23,7 +23,7 @@ use Rattle.i2c_spec.specs.TreeFacts.{IsTree}
 use Rattle.i2c_spec.specs.Chips.{ChipView, chip_table, chip_after, chip_sends, is_open, looked, taken, stopped as chip_stopped}
 use Rattle.i2c_spec.specs.Targets.{TargetState, state_table}
 use Rattle.i2c_spec.specs.Messages.{MessageView, write_byte, read_byte}
-use Rattle.i2c_spec.specs.Conversation.{Said, TalkTold, world_listener, is_at, silence, say, told, ended, puts, gets, by_answer, talk}
+use Rattle.i2c_spec.specs.Conversation.{Said, TalkTold, world_listener, is_it, silence, say, told, ended, puts, gets, by_answer, talk}
 use Rattle.i2c_spec.specs.World.{World, after, stopped, sent_on, given, feed, answers, opens_hop, is_joined, has_chip, joins_chip, start_event, stop_event, chip_start, device_start, hearers, takes, gives, and_of, some_answer, is_ack, to_chips, to_devices, answer as world_answer}
 use Rattle.bus_laws.proofs.world.Feed.{feed-get, feed-same, GivesOne, answers-none, answers-one, some_answer-append, some_answer-at}
 use Rattle.bus_laws.proofs.world.Reach.{world_of}
@@ -168,11 +168,11 @@ module _ (b : BoardView) (tree : IsTree b) (r s : ℕ) (cs : List ChipView) (ds 
   pub absent_talk : (limit : ℕ) (message : MessageView) (cut : Option ℕ) → message.addr ≡ a → has_chip b m ≡ false
       → IsQuiet (talk world_listener limit (world_of b r cs ds hs busy) message true cut)
   absent_talk limit message cut to absent =
-      subst (λ (j : ℕ). IsQuiet (cond (is_at cut 0)
+      subst (λ (j : ℕ). IsQuiet (cond (is_it cut 0)
       (told (say world_listener (silence (world_of b r cs ds hs busy)) call.Fault) (end.Cut 0))
       (by_answer world_listener cut true limit message (world_answer (world_of b r cs ds hs busy) j message.reading)
       (say world_listener (silence (world_of b r cs ds hs busy)) (call.Start j message.reading))))) (sym to)
-      (on_cond IsQuiet (is_at cut 0)
+      (on_cond IsQuiet (is_it cut 0)
       (told (say world_listener (silence (world_of b r cs ds hs busy)) call.Fault) (end.Cut 0))
       (by_answer world_listener cut true limit message (world_answer (world_of b r cs ds hs busy) a message.reading)
       (say world_listener (silence (world_of b r cs ds hs busy)) (call.Start a message.reading)))
@@ -180,7 +180,7 @@ module _ (b : BoardView) (tree : IsTree b) (r s : ℕ) (cs : List ChipView) (ds 
       (subst (λ (x : Answer). IsQuiet (by_answer world_listener cut true limit message x (say world_listener (silence (world_of b r cs ds hs busy)) (call.Start a message.reading))))
       (sym (control_answer b tree r s cs ds hs busy along m a message.reading chip addr home joined at ∙ ap (λ (t : Bool). cond t answer.Ack answer.Nack) absent))
       (subst (λ (u : World). IsQuiet (ended world_listener cut true (record { calls = call.Start a message.reading ∷ []; bytes = []; now = u }) end.Nack)) (sym (begun-is message.reading))
-      (on_cond IsQuiet (is_at cut 1)
+      (on_cond IsQuiet (is_it cut 1)
       (told (say world_listener (record { calls = call.Start a message.reading ∷ []; bytes = []; now = begun message.reading }) call.Fault) (end.Cut 1))
       (told (say world_listener (record { calls = call.Start a message.reading ∷ []; bytes = []; now = begun message.reading }) call.Stop) end.Nack)
       (record { same = begun_stopped message.reading; early = inr (inr refl) })
@@ -284,14 +284,14 @@ module _ (b : BoardView) (tree : IsTree b) (r s : ℕ) (cs : List ChipView) (ds 
     put_ended : (byte : ℕ) (cut : Option ℕ)
         → Writes cs m byte (ended world_listener cut true (record { calls = call.Put byte ∷ call.Start a false ∷ []; bytes = byte ∷ []; now = after (listening false) (call.Put byte) }) end.Ok)
     put_ended byte cut =
-        on_cond (Writes cs m byte) (is_at cut 2)
+        on_cond (Writes cs m byte) (is_it cut 2)
         (told (say world_listener (record { calls = call.Put byte ∷ call.Start a false ∷ []; bytes = byte ∷ []; now = after (listening false) (call.Put byte) }) call.Fault) (end.Cut 2))
         (told (say world_listener (record { calls = call.Put byte ∷ call.Start a false ∷ []; bytes = byte ∷ []; now = after (listening false) (call.Put byte) }) call.Stop) end.Ok)
         (inr (put_done byte, inr refl)) (inr (put_done byte, inl refl))
 
     put_sent : (byte : ℕ) (cut : Option ℕ) → Writes cs m byte (puts world_listener cut true (byte ∷ []) (heard_start false (listening false)))
     put_sent byte cut =
-        on_cond (Writes cs m byte) (is_at cut 1)
+        on_cond (Writes cs m byte) (is_it cut 1)
         (told (say world_listener (heard_start false (listening false)) call.Fault) (end.Cut 1))
         (cond (takes (listening false) byte)
         (ended world_listener cut true (record { calls = call.Put byte ∷ call.Start a false ∷ []; bytes = byte ∷ []; now = after (listening false) (call.Put byte) }) end.Ok)
@@ -304,7 +304,7 @@ module _ (b : BoardView) (tree : IsTree b) (r s : ℕ) (cs : List ChipView) (ds 
 
     pub write-talk : (limit byte : ℕ) (cut : Option ℕ) → Writes cs m byte (talk world_listener limit (world_of b r cs ds hs busy) (write_byte a byte) true cut)
     write-talk limit byte cut =
-        on_cond (Writes cs m byte) (is_at cut 0)
+        on_cond (Writes cs m byte) (is_it cut 0)
         (told (say world_listener (silence (world_of b r cs ds hs busy)) call.Fault) (end.Cut 0))
         (by_answer world_listener cut true limit (write_byte a byte) (world_answer (world_of b r cs ds hs busy) a false)
         (heard_start false (after (world_of b r cs ds hs busy) (call.Start a false))))
@@ -324,11 +324,11 @@ module _ (b : BoardView) (tree : IsTree b) (r s : ℕ) (cs : List ChipView) (ds 
 
     get_sent : (cut : Option ℕ) → Reads cs m (chip_sends chip.kind chip) (gets world_listener cut true 1 (heard_start true (listening true)))
     get_sent cut =
-        on_cond (Reads cs m (chip_sends chip.kind chip)) (is_at cut 1)
+        on_cond (Reads cs m (chip_sends chip.kind chip)) (is_it cut 1)
         (told (say world_listener (heard_start true (listening true)) call.Fault) (end.Cut 1))
         (ended world_listener cut true got_one end.Ok)
         (inl (listening_stopped true, inr refl))
-        (on_cond (Reads cs m (chip_sends chip.kind chip)) (is_at cut 2)
+        (on_cond (Reads cs m (chip_sends chip.kind chip)) (is_it cut 2)
         (told (say world_listener got_one call.Fault) (end.Cut 2))
         (told (say world_listener got_one call.Stop) end.Ok)
         (inr (get_done, inr refl))
@@ -336,7 +336,7 @@ module _ (b : BoardView) (tree : IsTree b) (r s : ℕ) (cs : List ChipView) (ds 
 
     pub read-talk : (limit : ℕ) (cut : Option ℕ) → Reads cs m (chip_sends chip.kind chip) (talk world_listener limit (world_of b r cs ds hs busy) (read_byte a) true cut)
     read-talk limit cut =
-        on_cond (Reads cs m (chip_sends chip.kind chip)) (is_at cut 0)
+        on_cond (Reads cs m (chip_sends chip.kind chip)) (is_it cut 0)
         (told (say world_listener (silence (world_of b r cs ds hs busy)) call.Fault) (end.Cut 0))
         (by_answer world_listener cut true limit (read_byte a) (world_answer (world_of b r cs ds hs busy) a true)
         (heard_start true (after (world_of b r cs ds hs busy) (call.Start a true))))

@@ -7,6 +7,7 @@ use Rattle.i2c_base.specs.declared.event.Answer.{Answer}
 use Rattle.i2c_base.specs.declared.ids.Node.{Node}
 use Rattle.i2c_base.specs.Table.{Table}
 use Rattle.i2c_spec.specs.World.{given, feed, answers, answer_with, has_heard, heard_of, some_answer}
+use Rattle.std.proofs.Math.Bool.{or-true}
 
 pub length-feed : {X : Type 0} (t : Table X) (f : ℕ → Option Event) (k : ℕ) (xs : List X) → length (feed t f k xs) ≡ length xs
 length-feed t f k [] = refl
@@ -140,7 +141,7 @@ some_answer-at t f test k (y ∷ ys) m e given_e zero x at place passes =
 some_answer-at t f test k (y ∷ ys) m e given_e (suc i) x at place passes =
     more (f k) ∙ ap (λ (b : Bool). head (f k) || b)
     (some_answer-at t f test (k + 1) ys m e given_e i x at (let e3 : k + 1 + i ≡ k + suc i = omega arith in e3 ∙ place) passes)
-    ∙ or_true (head (f k))
+    ∙ or-true (head (f k))
   where
     head : Option Event → Bool
     head None = false
@@ -149,7 +150,3 @@ some_answer-at t f test k (y ∷ ys) m e given_e (suc i) x at place passes =
     more : (o : Option Event) → some_answer test (answer_with t o k y (answers t f (k + 1) ys)) ≡ (head o || some_answer test (answers t f (k + 1) ys))
     more None = refl
     more (Some g) = refl
-
-    or_true : (p : Bool) → (p || true) ≡ true
-    or_true true = refl
-    or_true false = refl

@@ -19,6 +19,7 @@ use Rattle.i2c_spec.specs.Targets.{TargetState, state_table}
 use Rattle.i2c_spec.specs.World.{World, is_joined, has_chip, joins_chip, joins_device, start_event, chip_start, device_start, start_chips, start_devices, answers, answer_with, is_ack, is_slow, has_heard, heard_of, hearers, some_answer, answer as world_answer}
 use Rattle.bus_laws.proofs.world.Feed.{hears, heard-none, heard-one, unheard, some_answer-append, some_answer-at}
 use Rattle.bus_laws.proofs.world.Reach.{world_of, and_right, start_heard, other_state, address_is}
+use Rattle.std.proofs.Math.Bool.{or-false}
 
 pub swap_along : (b : BoardView) (s t : ℕ) → IsAlong b s t → IsAlong b t s
 swap_along b s t a = elim a [ inl x ↦ inr x | inr x ↦ inl x ]
@@ -28,14 +29,14 @@ pub device_address : (a : ℕ) (o : Option DeviceView) → unwrap_or (option_map
 device_address a None e = absurd (let f : false ≡ true = e in cc)
 device_address a (Some d) e = ap Some (eqb-true d.addr a e)
 
-slow_is_heard : (a : Answer) → has_heard a ≡ false → is_slow a ≡ false
+pub slow_is_heard : (a : Answer) → has_heard a ≡ false → is_slow a ≡ false
 slow_is_heard answer.Ack e = refl
 slow_is_heard answer.Nack e = refl
 slow_is_heard answer.Slow e = absurd (let f : true ≡ false = e in cc)
 slow_is_heard (answer.Byte byte) e = refl
 slow_is_heard answer.Nothing e = refl
 
-ack_is_heard : (a : Answer) → has_heard a ≡ false → is_ack a ≡ false
+pub ack_is_heard : (a : Answer) → has_heard a ≡ false → is_ack a ≡ false
 ack_is_heard answer.Ack e = absurd (let f : true ≡ false = e in cc)
 ack_is_heard answer.Nack e = refl
 ack_is_heard answer.Slow e = refl
@@ -149,14 +150,10 @@ module _ (b : BoardView) (tree : IsTree b) (r s : ℕ) (cs : List ChipView) (ds 
         ap (λ (t : Bool). cond t answer.Slow (cond (some_answer is_ack (start_chips (world_of b r cs ds hs busy) a reading ++ start_devices (world_of b r cs ds hs busy) a reading)) answer.Ack answer.Nack)) no_slow
         ∙ ap (λ (t : Bool). cond t answer.Ack answer.Nack) acked
       where
-        or_false : (t : Bool) → (t || false) ≡ t
-        or_false true = refl
-        or_false false = refl
-
         acked : some_answer is_ack (start_chips (world_of b r cs ds hs busy) a reading ++ start_devices (world_of b r cs ds hs busy) a reading) ≡ has_chip b m
         acked =
             some_answer-append is_ack (start_chips (world_of b r cs ds hs busy) a reading) (start_devices (world_of b r cs ds hs busy) a reading)
             ∙ ap (λ (t : Bool). some_answer is_ack (start_chips (world_of b r cs ds hs busy) a reading) || t)
             (unheard node.Device is_ack ack_is_heard (start_devices (world_of b r cs ds hs busy) a reading) control_devices)
-            ∙ or_false (some_answer is_ack (start_chips (world_of b r cs ds hs busy) a reading))
+            ∙ or-false (some_answer is_ack (start_chips (world_of b r cs ds hs busy) a reading))
             ∙ some_ack (has_chip b m) refl

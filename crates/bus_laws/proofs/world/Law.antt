@@ -21,11 +21,12 @@ use Rattle.i2c_spec.specs.History.{changed_at}
 use Rattle.bus_spec.specs.Slots.{Slots, Selected}
 use Rattle.bus_laws.specs.Told.{chip_in, Explains, ChipsTold, WorldTold}
 use Rattle.bus_laws.proofs.world.Feed.{length-feed}
-use Rattle.bus_laws.proofs.world.TalkLaws.{IsLater, talk-keeps}
+use Rattle.bus_laws.proofs.world.TalkLaws.{talk-keeps}
 use Rattle.bus_laws.proofs.world.Reach.{world_of, all_of, joined_along}
 use Rattle.bus_laws.proofs.world.Control.{NoneWaits, Changes}
 use Rattle.bus_laws.proofs.world.ChipLaws.{SameSort}
 use Rattle.bus_laws.proofs.world.Slots.{Turns}
+use Rattle.i2c_spec.proofs.MessageLemmas.{IsLater}
 
 -- a world is its parts
 pub whole : (b : BoardView) (r : ℕ) (w : World) → w.board ≡ b → w.root ≡ r → w ≡ world_of b r w.chips w.devices w.hearing w.busy

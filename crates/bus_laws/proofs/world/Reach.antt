@@ -61,7 +61,7 @@ behind_on_path b tree (h ∷ hs) s g at a =
     ]
 
 -- a crossed bus has a hop that stands on it
-crossing_hop : (u : ℕ) (hs : List Hop) → Crosses u hs → (g : Hop) × IsAmongHops g hs × (g.on ≡ u)
+pub crossing_hop : (u : ℕ) (hs : List Hop) → Crosses u hs → (g : Hop) × IsAmongHops g hs × (g.on ≡ u)
 crossing_hop u [] c = absurd c
 crossing_hop u (h ∷ hs) c =
     elim c [ inl e ↦ (h, inl refl, e) | inr more ↦ (let r = crossing_hop u hs more in (r.0, inr r.1, r.2)) ]

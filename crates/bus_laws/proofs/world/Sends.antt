@@ -1,5 +1,5 @@
 -- The world law for a message of a walk: the jobs together.
-use Rattle.std.proofs.Common.{◌≡◌, ℕ, zero, suc, ◌-◌, ◌<◌, Bool, true, false, cond, not, ◌||◌, List, [], ◌∷◌, length, Option, eqb, refl, sym, ◌∙◌, ap, subst, inl, inr, arith}
+use Rattle.std.proofs.Common.{◌≡◌, ℕ, zero, suc, ◌-◌, ◌<◌, Bool, true, false, cond, not, List, [], ◌∷◌, length, Option, eqb, refl, sym, ◌∙◌, ap, subst, inl, inr, arith}
 use Rattle.std.specs.Prelude.{slice_get, drop}
 use Rattle.std.specs.List.{list_any}
 use Rattle.std.proofs.lemmas.Bool.Decides.{eqb_tells}
@@ -29,6 +29,8 @@ use Rattle.bus_laws.proofs.world.Reach.{and_left}
 use Rattle.bus_laws.proofs.world.Law.{world-is, along_here, talk_framed, world_replaced}
 use Rattle.bus_laws.proofs.world.Jobs.{told_equal, close-told, select-told, poll-told}
 use Rattle.bus_laws.proofs.world.Calls.{call-chips}
+use Rattle.i2c_spec.proofs.MessageLemmas.{length-messages}
+use Rattle.std.proofs.lemmas.Bool.{or_parts}
 
 busy_is : (g : Grant) → g ≡ grant.Busy → is_busy g ≡ true
 busy_is g e = ap is_busy e
@@ -38,22 +40,10 @@ nth_not_busy : (b : BoardView) (s : ℕ) (force : Bool) (ms : List Msg) (out : L
     → grant_of b s (nth_message (messages_from ms out) i).addr force ≡ grant.Busy → ⊥
 nth_not_busy b s force [] out i below none busy = absurd (omega arith)
 nth_not_busy b s force (m ∷ ms) out zero below none busy =
-    let f : true ≡ false = sym (busy_is (grant_of b s m.addr force) busy) ∙ or_left (is_busy (grant_of b s m.addr force)) (list_any (λ (x : Msg). is_busy (grant_of b s x.addr force)) ms) none in cc
-  where
-    or_left : (p q : Bool) → (p || q) ≡ false → p ≡ false
-    or_left true q e = e
-    or_left false q e = refl
+    let f : true ≡ false = sym (busy_is (grant_of b s m.addr force) busy) ∙ (or_parts (is_busy (grant_of b s m.addr force)) (list_any (λ (x : Msg). is_busy (grant_of b s x.addr force)) ms) none).0 in cc
 nth_not_busy b s force (m ∷ ms) out (suc i) below none busy =
     nth_not_busy b s force ms (drop (written_of m) out) i (omega arith)
-    (or_right (is_busy (grant_of b s m.addr force)) (list_any (λ (x : Msg). is_busy (grant_of b s x.addr force)) ms) none) busy
-  where
-    or_right : (p q : Bool) → (p || q) ≡ false → q ≡ false
-    or_right true q e = absurd (let f : true ≡ false = e in cc)
-    or_right false q e = e
-
-pub length-messages : (ms : List Msg) (out : List ℕ) → length (messages_from ms out) ≡ length ms
-length-messages [] out = refl
-length-messages (m ∷ ms) out = ap suc (length-messages ms (drop (written_of m) out))
+    (or_parts (is_busy (grant_of b s m.addr force)) (list_any (λ (x : Msg). is_busy (grant_of b s x.addr force)) ms) none).1 busy
 
 -- each message of a caller goes to an address that isn't busy
 pub call_not_busy : (b : BoardView) (whose : TransferView) (bus : ℕ) (ms : List MessageView) (left : ℕ) → IsCall b whose bus ms

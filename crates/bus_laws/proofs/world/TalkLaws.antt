@@ -7,18 +7,10 @@ use Rattle.i2c_base.specs.declared.port.PortCall.TheVariants as call
 use Rattle.i2c_base.specs.declared.entry.End.{End}
 use Rattle.i2c_base.specs.declared.entry.End.TheVariants as end
 use Rattle.i2c_spec.specs.Messages.{MessageView}
-use Rattle.i2c_spec.specs.Conversation.{Listener, Said, TalkTold, is_at, silence, say, with_byte, told, call_then, ended, puts, gets, gets_counted, by_answer, talk}
+use Rattle.i2c_spec.specs.Conversation.{Listener, Said, TalkTold, is_it, silence, say, with_byte, told, call_then, ended, puts, gets, gets_counted, by_answer, talk}
+use Rattle.i2c_spec.proofs.MessageLemmas.{IsLater}
 
--- a call behind the start of a message
-abbrev pub IsLater : PortCall → Type 0
-IsLater (call.Start a reading) = ⊥
-IsLater (call.Line m level) = ⊥
-IsLater (call.Put byte) = Unit {0}
-IsLater (call.Get ack) = Unit {0}
-IsLater call.Stop = Unit {0}
-IsLater call.Fault = Unit {0}
-
--- .. that didn't fail
+-- a call behind the start of a message that didn't fail
 abbrev pub IsMade : PortCall → Type 0
 IsMade (call.Put byte) = Unit {0}
 IsMade (call.Get ack) = Unit {0}
@@ -46,7 +38,7 @@ module _ {W : Type 0} (l : Listener W) (P : W → List PortCall → Type 0) (R :
   then_ends : (cut : Option ℕ) (t : Said W) (c : PortCall) (next : Said W → TalkTold W) → IsMade c → P t.now t.calls
       → ((s : Said W) → P s.now s.calls → Ended (next s)) → Ended (call_then l cut t c next)
   then_ends cut t c next made h goes_on =
-      cond_ends (is_at cut (length t.calls)) (told (say l t call.Fault) (end.Cut (length t.calls))) (next (say l t c))
+      cond_ends (is_it cut (length t.calls)) (told (say l t call.Fault) (end.Cut (length t.calls))) (next (say l t c))
       (fails t.now t.calls h) (goes_on (say l t c) (goes t.now t.calls c made h))
 
   ended_ends : (cut : Option ℕ) (stops : Bool) (t : Said W) (e : End) → IsOwnEnd e → P t.now t.calls → Ended (ended l cut stops t e)
@@ -95,7 +87,7 @@ module _ {W : Type 0} (l : Listener W) (P : W → List PortCall → Type 0) (R :
   pub talk-ends : (limit : ℕ) (w : W) (m : MessageView) (last : Bool) (cut : Option ℕ)
       → R (l.after w call.Fault) (call.Fault ∷ []) (end.Cut 0) → P (l.after w (call.Start m.addr m.reading)) (call.Start m.addr m.reading ∷ []) → Ended (talk l limit w m last cut)
   talk-ends limit w m last cut fault start =
-      cond_ends (is_at cut 0) (told (say l (silence w) call.Fault) (end.Cut 0))
+      cond_ends (is_it cut 0) (told (say l (silence w) call.Fault) (end.Cut 0))
       (by_answer l cut last limit m (l.answer w m.addr m.reading) (say l (silence w) (call.Start m.addr m.reading)))
       fault (answer_ends cut last limit m (l.answer w m.addr m.reading) (say l (silence w) (call.Start m.addr m.reading)) start)
 

@@ -9,7 +9,7 @@ use Rattle.i2c_base.specs.declared.port.PortCall.TheVariants as call
 use Rattle.i2c_base.specs.declared.entry.End.{End}
 use Rattle.i2c_base.specs.declared.entry.End.TheVariants as end
 use Rattle.i2c_spec.specs.Messages.{MessageView}
-use Rattle.i2c_spec.specs.Conversation.{Listener, Said, TalkTold, is_at, silence, say, with_byte, told, call_then, ended, puts, gets, gets_counted, by_answer, talk}
+use Rattle.i2c_spec.specs.Conversation.{Listener, Said, TalkTold, is_it, silence, say, with_byte, told, call_then, ended, puts, gets, gets_counted, by_answer, talk}
 use Rattle.bus_laws.proofs.world.TalkSizes.{good_count}
 
 -- as many bytes as it asks for; of a counted read first how many more come, within the limit
@@ -22,7 +22,7 @@ module _ {W : Type 0} (l : Listener W) (cut : Option ℕ) where
   IfThrough P u = u.end ≡ end.Ok → P u.bytes
 
   then_through : (P : List ℕ → Type 0) (t : Said W) (c : PortCall) (next : Said W → TalkTold W) → IfThrough P (next (say l t c)) → IfThrough P (call_then l cut t c next)
-  then_through P t c next h = by (is_at cut (length t.calls))
+  then_through P t c next h = by (is_it cut (length t.calls))
     where
       by : (x : Bool) → IfThrough P (cond x (told (say l t call.Fault) (end.Cut (length t.calls))) (next (say l t c)))
       by true = λ e. absurd (let f : end.Cut (length t.calls) ≡ end.Ok = e in cc)

@@ -9,7 +9,7 @@ use Rattle.i2c_base.specs.declared.port.PortCall.TheVariants as call
 use Rattle.i2c_base.specs.declared.entry.End.{End}
 use Rattle.i2c_base.specs.declared.entry.End.TheVariants as end
 use Rattle.i2c_spec.specs.Messages.{MessageView}
-use Rattle.i2c_spec.specs.Conversation.{Listener, Said, TalkTold, is_at, silence, say, with_byte, told, call_then, ended, puts, gets, gets_counted, by_answer, talk}
+use Rattle.i2c_spec.specs.Conversation.{Listener, Said, TalkTold, is_it, silence, say, with_byte, told, call_then, ended, puts, gets, gets_counted, by_answer, talk}
 use Rattle.bus_laws.specs.Costs.{bytes_most}
 
 -- a good count
@@ -38,7 +38,7 @@ module _ {W : Type 0} (l : Listener W) (cut : Option ℕ) where
   then_sized : (t : Said W) (c : PortCall) (next : Said W → TalkTold W) (most : ℕ) → length (next (say l t c)).bytes ≤ length t.bytes + most
       → length (next (say l t c)).calls ≤ length t.calls + most + 1 → IsSized t most (call_then l cut t c next)
   then_sized t c next most bytes calls =
-      cond_sized t most (is_at cut (length t.calls)) (told (say l t call.Fault) (end.Cut (length t.calls))) (next (say l t c))
+      cond_sized t most (is_it cut (length t.calls)) (told (say l t call.Fault) (end.Cut (length t.calls))) (next (say l t c))
       (λ e. record { bytes = omega arith; calls = omega arith }) (λ e. record { bytes = bytes; calls = calls })
 
   ended_sized : (stops : Bool) (t : Said W) (e : End) → IsSized t 0 (ended l cut stops t e)
@@ -117,7 +117,7 @@ module _ {W : Type 0} (l : Listener W) (cut : Option ℕ) where
       let all : IsSized (silence w) (suc (bytes_most limit m)) (talk l limit w m last cut) =
       then_sized (silence w) (call.Start m.addr m.reading) (λ t. by_answer l cut last limit m (l.answer w m.addr m.reading) t) (suc (bytes_most limit m))
       (omega (arith, own.bytes)) (omega (arith, own.calls)) in
-      (sized_bytes (is_at cut 0) own.bytes, omega (arith, all.calls))
+      (sized_bytes (is_it cut 0) own.bytes, omega (arith, all.calls))
     where
       sized_bytes : (x : Bool) → length (by_answer l cut last limit m (l.answer w m.addr m.reading) (say l (silence w) (call.Start m.addr m.reading))).bytes ≤ 0 + bytes_most limit m
           → length (cond x (told (say l (silence w) call.Fault) (end.Cut 0)) (by_answer l cut last limit m (l.answer w m.addr m.reading) (say l (silence w) (call.Start m.addr m.reading)))).bytes ≤ bytes_most limit m

@@ -35,8 +35,8 @@ use Rattle.bus_laws.specs.Settles.{CallGoesOn}
 use Rattle.bus_laws.specs.Alike.{IsOf, Same, LeadsTo, EndsTransfer}
 use Rattle.bus_laws.proofs.tree.Slots.{eqb-apart}
 use Rattle.bus_laws.proofs.past.StandsStep.{at_same, at_other}
-use Rattle.bus_laws.proofs.world.Sends.{length-messages}
-use Rattle.bus_laws.proofs.past.Whole.{some_is, goes_on_from, call_goes, other_caller, own_call, past-inside}
+use Rattle.i2c_spec.proofs.MessageLemmas.{length-messages}
+use Rattle.bus_laws.proofs.past.Whole.{goes_on_from, call_goes, other_caller, own_call, past-inside}
 use Rattle.flat_laws.proofs.past.First.{call_first, past-stage}
 use Rattle.bus_laws.proofs.walk.VerdictLaw.{LetThrough, call-clear}
 use Rattle.bus_laws.proofs.walk.MessageFacts.{message-bytes, nth-next, part-next}
@@ -44,6 +44,7 @@ use Rattle.bus_laws.proofs.device.Stay.{same-elsewhere}
 use Rattle.flat_laws.proofs.device.Flat.{flat-elsewhere}
 use Rattle.flat_laws.proofs.device.Said.{IsSaid, reply-is, said-more, left_states, said-whole, same-whole}
 use Rattle.flat_laws.proofs.device.Stand.{IsDueWith, IsInsideWith, DevicesStand, inside_stays}
+use Rattle.std.proofs.lemmas.Option.{same_Some}
 
 -- a message of a caller's is followed by the next where it went through
 goes_good : (bus : ℕ) (ms : List MessageView) (left : ℕ) (e : End) (bytes : List ℕ) → is_on (goes (Call bus ms) left (Sent e bytes)) ≡ is_good e
@@ -111,9 +112,9 @@ module _ (b : BoardView) (tree : IsTree b) (plain : IsPlainBoard b) (lines : Lin
         by_inside (Some c) is =
             let own = own_call b tree plain lines asks some callers past steps c root d job left is next refl in
             let i : IsInsideWith b asks n s.ahead root d = subst (λ (k : ℕ). IsInsideWith b asks n s.ahead root k) (sym own.0) (s.said root c is) in
-            let same : i.whose ≡ t = some_is i.whose t (sym i.asked ∙ asked) in
+            let same : i.whose ≡ t = same_Some i.whose t (sym i.asked ∙ asked) in
             let act : Send job left ≡ Send (Call i.whose.bus (messages_of i.whose)) i.left =
-            some_is (Send job left) (Send (Call i.whose.bus (messages_of i.whose)) i.left)
+            same_Some (Send job left) (Send (Call i.whose.bus (messages_of i.whose)) i.left)
             (sym next ∙ goes_on_from n.slot (begun b (asks d (n.settled d))) (n.walk d) (Send (Call i.whose.bus (messages_of i.whose)) i.left) i.sends) in
             let as_many : i.left ≡ left = (let f : Send job left ≡ Send (Call i.whose.bus (messages_of i.whose)) i.left = act in cc) in
             subst (λ (k : ℕ). IsSaid b s.ahead t (n.worlds root) (n.got d) k) as_many
@@ -187,7 +188,7 @@ module _ (b : BoardView) (tree : IsTree b) (plain : IsPlainBoard b) (lines : Lin
           ];
           said = λ r c is_in. elim (eqb_tells r root) [
             | inl same ↦ subst (λ (i : ℕ). IsInsideWith b asks m s.ahead i c) (sym same.1)
-                (subst (λ (i : ℕ). IsInsideWith b asks m s.ahead root i) (some_is d c (sym inside_here ∙ ap (λ (i : ℕ). m.inside i) (sym same.1) ∙ is_in)) said_here)
+                (subst (λ (i : ℕ). IsInsideWith b asks m s.ahead root i) (same_Some d c (sym inside_here ∙ ap (λ (i : ℕ). m.inside i) (sym same.1) ∙ is_in)) said_here)
             | inr ne ↦ other_said s.ahead (λ k i apart own. refl) r c ne.1 is_in
           ];
         }
@@ -280,7 +281,7 @@ module _ (b : BoardView) (tree : IsTree b) (plain : IsPlainBoard b) (lines : Lin
             ahead = after;
             replies = s.replies;
             free = λ z. absurd (let f : Some d ≡ None = sym (ap (λ (o : Option Act). cond (is_due o) (Some d) None) settles_here) ∙ z in cc);
-            due = λ c z. subst (λ (i : ℕ). IsDueWith b asks m h after i) (some_is d c (sym (ap (λ (o : Option Act). cond (is_due o) (Some d) None) settles_here) ∙ z)) due_here;
+            due = λ c z. subst (λ (i : ℕ). IsDueWith b asks m h after i) (same_Some d c (sym (ap (λ (o : Option Act). cond (is_due o) (Some d) None) settles_here) ∙ z)) due_here;
             rest = λ r out. elim (eqb_tells r root) [
               | inl same ↦ subst (λ (i : ℕ). Same b i (m.worlds i) (idle after)) (sym same.1)
                   (subst (λ (w : World). Same b root w (idle after)) (sym world_now)

@@ -22,16 +22,18 @@ use Rattle.i2c_spec.specs.Targets.{TargetState, state_table, state_answer}
 use Rattle.i2c_spec.specs.Messages.{MessageView, messages_of}
 use Rattle.i2c_base.specs.Table.{byte_of}
 use Rattle.i2c_spec.specs.World.{World, given, feed, has_heard, is_ack}
-use Rattle.i2c_spec.specs.Flat.{FlatListener, idle, is_it, is_member, put_named, flat_start, to_current, to_named, answer_of, acknowledged, flat_after, flat_listener, granted_on, block_limit, cut_in, errno_of, or_done, barred, flat_by, flat_messages, flat}
+use Rattle.i2c_spec.specs.Flat.{FlatListener, idle, is_member, put_named, flat_start, to_current, to_named, answer_of, acknowledged, flat_after, flat_listener, granted_on, block_limit, cut_in, errno_of, or_done, barred, flat_by, flat_messages, flat}
 use Rattle.i2c_spec.specs.Conversation.{TalkTold, AllTold, talk, talk_all, is_empty, is_good, with_read}
 use Rattle.bus_laws.specs.Alike.{IsOf, listening, Same, ToldAlike, IsUnnamed}
 use Rattle.flat_laws.specs.Parts.{talk_part, FlatSame}
 use Rattle.bus_laws.proofs.world.Reach.{and_right}
-use Rattle.bus_laws.proofs.device.Talk.{IsFollowing, talk-alike}
+use Rattle.bus_laws.proofs.device.Talk.{talk-alike}
 use Rattle.bus_laws.proofs.device.Hears.{fed-at}
 use Rattle.bus_laws.proofs.device.Grant.{path_over, position_at}
-use Rattle.bus_laws.proofs.device.Same.{is_it-some}
+use Rattle.i2c_spec.proofs.MessageLemmas.{is_it-some}
 use Rattle.bus_laws.proofs.device.Stay.{talk-unnamed}
+use Rattle.i2c_spec.proofs.MessageLemmas.{IsFollowing}
+use Rattle.i2c_spec.specs.Conversation.{is_it}
 
 -- WHOSE DEVICES
 -- a bus over another has its root

@@ -33,7 +33,7 @@ use Rattle.bus_laws.specs.Settles.{NoSettle}
 use Rattle.bus_laws.specs.Alike.{LeadsTo}
 use Rattle.bus_laws.proofs.past.StandsStep.{at_same, at_other}
 use Rattle.bus_laws.proofs.past.Asked.{settled-told}
-use Rattle.bus_laws.proofs.past.Whole.{some_is, goes_on_from}
+use Rattle.bus_laws.proofs.past.Whole.{goes_on_from}
 use Rattle.flat_laws.proofs.past.First.{not_inside}
 use Rattle.bus_laws.proofs.past.Placed.{starts_seen, no_settle, past-due}
 use Rattle.bus_laws.proofs.walk.SettleLaw.{walk-starts}
@@ -42,6 +42,7 @@ use Rattle.bus_laws.proofs.device.Past.{CallNext, DecidesNext, call-next, select
 use Rattle.bus_laws.proofs.device.Stay.{opening-same}
 use Rattle.flat_laws.proofs.device.Stand.{IsDueWith, DevicesStand, stands_still, lock_stands, line_stands, control_stands}
 use Rattle.flat_laws.proofs.device.Calls.{call_stands}
+use Rattle.std.proofs.lemmas.Option.{same_Some}
 
 module _ (b : BoardView) (tree : IsTree b) (plain : IsPlainBoard b) (lines : LinesAreLocked b) (asks : Asks) (some : AsksForMessages asks) (limits : AsksWithinLimits asks) (callers : ℕ)
     (past : List Entry) (steps : IsStepwise b callers asks past) (h : History) (s : DevicesStand b asks (now b asks past) h) where
@@ -99,7 +100,7 @@ module _ (b : BoardView) (tree : IsTree b) (plain : IsPlainBoard b) (lines : Lin
       by_due : IsDueWith b asks n h s.ahead d → (t : TransferView) × (asks d (n.settled d) ≡ Some t) × (flat b h.states t cut ≡ record { reply = r; states = s.ahead })
       by_due i =
           let act : Settle verdict ≡ Settle i.verdict =
-          some_is (Settle verdict) (Settle i.verdict) (sym next ∙ goes_on_from n.slot (begun b (asks d (n.settled d))) (n.walk d) (Settle i.verdict) i.settles) in
+          same_Some (Settle verdict) (Settle i.verdict) (sym next ∙ goes_on_from n.slot (begun b (asks d (n.settled d))) (n.walk d) (Settle i.verdict) i.settles) in
           let same : verdict ≡ i.verdict = cc in (
             i.whose,
             i.asked,
@@ -121,7 +122,7 @@ module _ (b : BoardView) (tree : IsTree b) (plain : IsPlainBoard b) (lines : Lin
           let walk_is : current b asks n d ≡ seen n.slot (walk_by b t (Some e)) =
           ap (λ (z : Bool). seen n.slot (cond z (begun b (asks d (n.settled d))) (n.walk d))) over
           ∙ ap (λ (o : Option TransferView). seen n.slot (begun b o)) asked ∙ ap (λ (o : Option Errno). seen n.slot (walk_by b t o)) barred_is in
-          let same : Settle verdict ≡ Settle (Some e) = some_is (Settle verdict) (Settle (Some e)) (sym next ∙ ap (λ (w : WalkTree). first_act w) walk_is) in
+          let same : Settle verdict ≡ Settle (Some e) = same_Some (Settle verdict) (Settle (Some e)) (sym next ∙ ap (λ (w : WalkTree). first_act w) walk_is) in
           let verdict_is : verdict ≡ Some e = cc in (
             t,
             asked,

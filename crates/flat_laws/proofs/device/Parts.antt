@@ -15,14 +15,7 @@ use Rattle.bus_laws.specs.Alike.{Same, LeadsTo, ToldAlike, EndsTransfer}
 use Rattle.flat_laws.specs.Parts.{talk_part, talk_more, GrowsAlike}
 use Rattle.bus_laws.proofs.device.Same.{message-alike}
 use Rattle.bus_laws.proofs.device.Stops.{flat-settled}
-
-and_true : (t : Bool) → (t && true) ≡ t
-and_true true = refl
-and_true false = refl
-
-and_false : (t : Bool) → (t && false) ≡ false
-and_false true = refl
-and_false false = refl
+use Rattle.std.proofs.Math.Bool.{and-true, and-false}
 
 not_empty : (ms : List MessageView) (m : MessageView) → is_empty (ms ++ m ∷ []) ≡ false
 not_empty [] m = refl
@@ -40,7 +33,7 @@ module _ {W : Type 0} (l : Listener W) (limit : ℕ) (cuts : ℕ → Option ℕ)
   pub part-all : (w : W) (ms : List MessageView) (i : ℕ) (got : List ℕ) → talk_part l limit w ms true i cuts got ≡ talk_all l limit w ms i cuts got
   part-all w [] i got = refl
   part-all w (m ∷ ms) i got =
-      ap (λ (last : Bool). told_then got m (talk l limit w m last (cuts i)) (λ t. talk_part l limit t.now ms true (i + 1) cuts (with_read got m t))) (and_true (is_empty ms))
+      ap (λ (last : Bool). told_then got m (talk l limit w m last (cuts i)) (λ t. talk_part l limit t.now ms true (i + 1) cuts (with_read got m t))) (and-true (is_empty ms))
       ∙ ap (λ (all : AllTold W). cond (is_good (talk l limit w m (is_empty ms) (cuts i)).end) all
       (all_told got m (talk l limit w m (is_empty ms) (cuts i)) (talk l limit w m (is_empty ms) (cuts i)).end))
       (part-all (talk l limit w m (is_empty ms) (cuts i)).now ms (i + 1) (with_read got m (talk l limit w m (is_empty ms) (cuts i))))
@@ -70,7 +63,7 @@ module _ {W : Type 0} (l : Listener W) (limit : ℕ) (cuts : ℕ → Option ℕ)
       (let e : i + 1 + length xs ≡ i + suc (length xs) = omega arith in e)
       ∙ ap (λ (last : Bool). talk_more l limit m ends (cuts (i + suc (length xs)))
       (told_then got x (talk l limit w x last (cuts i)) (λ t. talk_part l limit t.now xs false (i + 1) cuts (with_read got x t))))
-      (sym (and_false (is_empty xs)))
+      (sym (and-false (is_empty xs)))
     where
       by : (good : Bool) → is_good (talk l limit w x false (cuts i)).end ≡ good
           → talk_part l limit (talk l limit w x false (cuts i)).now (xs ++ m ∷ []) ends (i + 1) cuts (with_read got x (talk l limit w x false (cuts i)))
@@ -112,8 +105,8 @@ module _ {W : Type 0} (l : Listener W) (limit : ℕ) (cuts : ℕ → Option ℕ)
       ap (λ (last : Bool). told_then got m (talk l limit w m last (cuts i)) (λ t. talk_all l limit t.now (ms ++ y ∷ rest) (i + 1) cuts (with_read got m t))) (more_empty ms)
       ∙ by (is_good (talk l limit w m false (cuts i)).end) refl
       (part-stops (talk l limit w m false (cuts i)).now ms y rest (i + 1) (with_read got m (talk l limit w m false (cuts i))))
-      (sym (ap (λ (last : Bool). is_good (told_then got m (talk l limit w m last (cuts i)) (λ t. talk_part l limit t.now ms false (i + 1) cuts (with_read got m t))).end) (and_false (is_empty ms))) ∙ bad)
-      ∙ ap (λ (last : Bool). told_then got m (talk l limit w m last (cuts i)) (λ t. talk_part l limit t.now ms false (i + 1) cuts (with_read got m t))) (sym (and_false (is_empty ms)))
+      (sym (ap (λ (last : Bool). is_good (told_then got m (talk l limit w m last (cuts i)) (λ t. talk_part l limit t.now ms false (i + 1) cuts (with_read got m t))).end) (and-false (is_empty ms))) ∙ bad)
+      ∙ ap (λ (last : Bool). told_then got m (talk l limit w m last (cuts i)) (λ t. talk_part l limit t.now ms false (i + 1) cuts (with_read got m t))) (sym (and-false (is_empty ms)))
     where
       more_empty : (xs : List MessageView) → is_empty (xs ++ y ∷ rest) ≡ false
       more_empty [] = refl

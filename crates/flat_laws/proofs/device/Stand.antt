@@ -30,12 +30,13 @@ use Rattle.bus_laws.specs.Lines.{LinesAreLocked}
 use Rattle.bus_laws.specs.Reach.{AsksForMessages}
 use Rattle.bus_laws.specs.Alike.{IsOf, Same, IsControl}
 use Rattle.bus_laws.proofs.past.StandsStep.{at_same, at_other}
-use Rattle.bus_laws.proofs.past.Whole.{some_is, own_call, no_line}
+use Rattle.bus_laws.proofs.past.Whole.{own_call, no_line}
 use Rattle.flat_laws.proofs.past.First.{due_settles, not_inside}
 use Rattle.bus_laws.proofs.walk.VerdictLaw.{bars-flat}
 use Rattle.bus_laws.proofs.device.Past.{DecidesNext, line-decides}
 use Rattle.bus_laws.proofs.device.Stay.{control-same, line-same, fault-same}
 use Rattle.flat_laws.proofs.device.Said.{IsSaid, said-elsewhere}
+use Rattle.std.proofs.lemmas.Option.{same_Some}
 
 -- a caller's settle is due: the flat world has done its transfer, and left these devices
 pub record IsDueWith (b : BoardView) (asks : Asks) (n : Now) (h : History) (ahead : List TargetState) (c : ℕ) : Type 0 where
@@ -123,7 +124,7 @@ bars_due b asks n m h ahead d cut verdict next settled cut_is same first =
 
 -- whose settle is due behind a step
 due_of : (d c : ℕ) (t : Bool) → cond t (Some d) None ≡ Some c → (t ≡ true) × (c ≡ d)
-due_of d c true e = (refl, sym (some_is d c e))
+due_of d c true e = (refl, sym (same_Some d c e))
 due_of d c false e = absurd (let f : None ≡ Some c = e in cc)
 
 -- a control message changes no root's messages

@@ -28,10 +28,11 @@ use Rattle.flat_laws.specs.Left.{calls_behind}
 use Rattle.bus_laws.proofs.tree.Slots.{eqb-apart}
 use Rattle.bus_laws.proofs.past.StandsStep.{at_same, at_other}
 use Rattle.bus_laws.proofs.past.StandsEntries.{first_is}
-use Rattle.bus_laws.proofs.world.Sends.{length-messages}
-use Rattle.bus_laws.proofs.past.Asked.{current-asked, past-asked}
+use Rattle.i2c_spec.proofs.MessageLemmas.{length-messages}
 use Rattle.bus_laws.proofs.walk.First.{settled-first, walk-first, first_seen}
-use Rattle.bus_laws.proofs.past.Whole.{AreInside, Between, past-inside, some_is, alone, sent_rooted, call_goes, inside_next, other_caller, entry_between}
+use Rattle.bus_laws.proofs.past.Whole.{AreInside, Between, past-inside, alone, sent_rooted, call_goes, inside_next, other_caller, entry_between}
+use Rattle.bus_laws.proofs.past.Placed.{rest_settles, asked as asked_past}
+use Rattle.std.proofs.lemmas.Option.{same_Some}
 
 -- so many messages stand before the one that comes next
 abbrev pub Counts : WalkTree → ℕ → Type 0
@@ -86,15 +87,8 @@ module _ (b : BoardView) (tree : IsTree b) (plain : IsPlainBoard b) (lines : Lin
   inside : AreInside b n
   inside = past-inside b tree plain lines asks some callers past steps
 
-  asked : (d : ℕ) → IsAsked b asks d (current b asks n d) (n.settled d)
-  asked d = current-asked b asks some n (past-asked b asks some callers past steps) d
-
-  -- what is left of a walk settles as the whole
-  rest_settles : (d : ℕ) (act : Act) (first : IsNext b asks n d act)
-      → (note : Note) × (next : ActOutcome → WalkTree) × (current b asks n d ≡ Then act note next) × Settles (asked d).done (Then act note next)
-  rest_settles d act first =
-      let at = first_is (current b asks n d) act first in
-      (at.0, at.1, at.2, subst (λ (w : WalkTree). Settles (asked d).done w) at.2 (asked d).settles)
+  abbrev asked : (d : ℕ) → IsAsked b asks d (current b asks n d) (n.settled d)
+  asked d = asked_past b asks some callers past steps d
 
   -- who does something else is not inside
   pub not_inside : (d : ℕ) (act : Act) → IsNext b asks n d act → ((bus : ℕ) (ms : List MessageView) (left : ℕ) → act ≡ Send (Call bus ms) left → ⊥) → (r : ℕ) → n.inside r ≡ Some d → ⊥
@@ -132,7 +126,7 @@ module _ (b : BoardView) (tree : IsTree b) (plain : IsPlainBoard b) (lines : Lin
         elim (stage d) [
           | inl i ↦ (let mine = inside i.0 d i.1 in
               let act : Send (Call bus ms) left ≡ Send (Call mine.bus mine.messages) mine.left =
-              some_is (Send (Call bus ms) left) (Send (Call mine.bus mine.messages) mine.left) (sym next ∙ inside_next b tree plain lines asks some callers past steps inside i.0 d i.1) in
+              same_Some (Send (Call bus ms) left) (Send (Call mine.bus mine.messages) mine.left) (sym next ∙ inside_next b tree plain lines asks some callers past steps inside i.0 d i.1) in
               let same : bus ≡ mine.bus = (let f : Send (Call bus ms) left ≡ Send (Call mine.bus mine.messages) mine.left = act in cc) in
               inl (ap (λ (k : ℕ). n.inside k) (ap (λ (s : ℕ). root_of b s) same ∙ mine.root) ∙ i.1))
           | inr f ↦ inr (first_left d bus ms left next f.0, (nothing_sent d none f.1).0)
@@ -230,7 +224,7 @@ module _ (b : BoardView) (tree : IsTree b) (plain : IsPlainBoard b) (lines : Lin
         by : (t : Bool) → Some (cond t (Send (Call bus ms) l) (Settle (verdict_of (Call bus ms) (suc l) (Sent e bytes)))) ≡ Some (Send (Call s2 ms2) left2) → k + suc left2 ≡ length ms2
         by false f = absurd (let g : Some (Settle (verdict_of (Call bus ms) (suc l) (Sent e bytes))) ≡ Some (Send (Call s2 ms2) left2) = f in cc)
         by true f =
-            let g : Send (Call bus ms) l ≡ Send (Call s2 ms2) left2 = some_is (Send (Call bus ms) l) (Send (Call s2 ms2) left2) f in
+            let g : Send (Call bus ms) l ≡ Send (Call s2 ms2) left2 = same_Some (Send (Call bus ms) l) (Send (Call s2 ms2) left2) f in
             let same : ms ≡ ms2 = cc in
             let as_many : l ≡ left2 = cc in
             let many : length ms ≡ length ms2 = ap (λ (xs : List MessageView). length xs) same in
@@ -247,12 +241,12 @@ module _ (b : BoardView) (tree : IsTree b) (plain : IsPlainBoard b) (lines : Lin
         (own_stage d (step b asks n (entry.Free d l)) (sent_by_now d) (Free l) Passed refl may.1 may.2 (λ bus ms left f. let g : Free l ≡ Send (Call bus ms) left = f in cc) (λ note rest f. f)
         (at_same n.walk d (rest_of (current b asks n d) Passed)) refl)
     step_stage (entry.Settle d r cut) may =
-        let s = rest_settles d (Settle may.2) may.3 in
+        let s = rest_settles b asks some callers past steps d (Settle may.2) may.3 in
         others_stay d (step b asks n (entry.Settle d r cut)) (λ c. cond (eqb d c) 0 (sent_by_now c)) (λ c ne. count_settle d c (sent_by_now c) ne)
         (λ i ne. at_other n.walk d (rest_of (current b asks n d) Passed) i ne) (λ i ne. at_other n.got d [] i ne) (λ k i ne is. is)
         (λ i ne due. elim may.1 [
           | inl none ↦ (let f : None ≡ Some i = sym none ∙ due in cc)
-          | inr mine ↦ ne (some_is i d (sym due ∙ mine))
+          | inr mine ↦ ne (same_Some i d (sym due ∙ mine))
         ])
         (inr (
           subst (λ (w : WalkTree). FirstCalls w) (sym (at_same n.walk d (rest_of (current b asks n d) Passed) ∙ ap (λ (w : WalkTree). rest_of w Passed) s.2)) (settled-first (s.1 Passed) s.3.2),
@@ -282,7 +276,7 @@ module _ (b : BoardView) (tree : IsTree b) (plain : IsPlainBoard b) (lines : Lin
         rest_first false due same = absurd (let f : None ≡ Some d = same in cc)
         rest_first true due same =
             let v = due_settles (first_act (changed_at n.walk d (rest_of (current b asks n d) (Sent e bytes)) d)) due in
-            let s = rest_settles d (Send may.2.0 may.2.1) may.2.2 in
+            let s = rest_settles b asks some callers past steps d (Send may.2.0 may.2.1) may.2.2 in
             settle_first (changed_at n.walk d (rest_of (current b asks n d) (Sent e bytes)) d) (asked d).done v.0
             (subst (λ (w : WalkTree). Settles (asked d).done w) (sym (at_same n.walk d (rest_of (current b asks n d) (Sent e bytes)) ∙ ap (λ (w : WalkTree). rest_of w (Sent e bytes)) s.2))
             (s.3.1 e bytes).1) v.1

@@ -34,7 +34,7 @@ use Rattle.bus_laws.specs.Reach.{AsksForMessages, AsksWithinLimits}
 use Rattle.bus_laws.specs.Stands.{Stands}
 use Rattle.bus_laws.specs.Alike.{Same}
 use Rattle.flat_laws.specs.Left.{said_so_far, calls_behind, AreLeft, AreLeftInside, KeepsDevices, worlds_of, LeavesDevices}
-use Rattle.bus_laws.proofs.world.TalkLaws.{IsLater, talk-keeps}
+use Rattle.bus_laws.proofs.world.TalkLaws.{talk-keeps}
 use Rattle.bus_laws.proofs.world.Feed.{length-feed}
 use Rattle.bus_laws.proofs.world.BoardFacts.{get_within, get_same_length}
 use Rattle.bus_laws.proofs.past.Laws.{past-stands}
@@ -45,6 +45,7 @@ use Rattle.bus_laws.proofs.walk.MessageFacts.{length-around}
 use Rattle.flat_laws.proofs.device.Said.{IsSaid}
 use Rattle.flat_laws.proofs.device.Stand.{IsInsideWith}
 use Rattle.flat_laws.proofs.device.Law.{StandsWith, past-devices}
+use Rattle.i2c_spec.proofs.MessageLemmas.{IsLater}
 
 -- HOW MANY devices there are doesn't change
 abbrev IsSoMany : ℕ → FlatListener → Type 0

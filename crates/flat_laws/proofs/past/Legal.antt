@@ -1,14 +1,13 @@
 -- A stepwise past in which no settle is due keeps every rule of a legal journal, with the one on replies.
 use Rattle.std.proofs.Common.{◌≡◌, ℕ, ◌<◌, List, [], ◌∷◌, None}
 use Rattle.i2c_base.specs.declared.entry.Entry.{Entry}
-use Rattle.i2c_base.specs.declared.entry.Entry.TheVariants as entry
 use Rattle.i2c_base.specs.Board.{BoardView}
 use Rattle.i2c_spec.specs.TreeFacts.{IsTree}
 use Rattle.i2c_spec.specs.Plain.{IsPlainBoard}
 use Rattle.i2c_spec.specs.History.{Asks}
 use Rattle.bus_spec.specs.Readings.{caller_of, Everywhere}
-use Rattle.bus_spec.specs.Past.{Now, now}
-use Rattle.bus_spec.specs.Stepwise.{May, IsStepwise}
+use Rattle.bus_spec.specs.Past.{now}
+use Rattle.bus_spec.specs.Stepwise.{IsStepwise}
 use Rattle.bus_spec.specs.Legal.{KeepsReplies, IsLegal}
 use Rattle.bus_laws.specs.Lines.{LinesAreLocked}
 use Rattle.bus_laws.specs.Reach.{AsksForMessages}
@@ -17,17 +16,11 @@ use Rattle.bus_laws.proofs.past.Asked.{reach-kept}
 use Rattle.bus_laws.proofs.past.Whole.{whole-kept}
 use Rattle.bus_laws.proofs.past.Placed.{settles-kept}
 use Rattle.flat_laws.proofs.past.Walks.{walks-kept}
-
-caller_known : (b : BoardView) (callers : ℕ) (asks : Asks) (n : Now) (e : Entry) → May b callers asks n e → caller_of e < callers
-caller_known b callers asks n (entry.Take c l) may = may.0
-caller_known b callers asks n (entry.Free c l) may = may.0
-caller_known b callers asks n (entry.Message c bus purpose part parts addr reading bytes heard e) may = may.0
-caller_known b callers asks n (entry.Line c mux level failed) may = may.0
-caller_known b callers asks n (entry.Settle c r cut) may = may.0
+use Rattle.bus_laws.proofs.past.Known.{entry_known}
 
 callers_known : (b : BoardView) (callers : ℕ) (asks : Asks) (past : List Entry) → IsStepwise b callers asks past → Everywhere (λ e before. caller_of e < callers) past
 callers_known b callers asks [] steps = tt
-callers_known b callers asks (e ∷ past) steps = (caller_known b callers asks (now b asks past) e steps.0, callers_known b callers asks past steps.1)
+callers_known b callers asks (e ∷ past) steps = (entry_known b callers asks (now b asks past) e steps.0, callers_known b callers asks past steps.1)
 
 pub legal-with : (b : BoardView) → IsTree b → IsPlainBoard b → LinesAreLocked b → (asks : Asks) → AsksForMessages asks → (callers : ℕ) (past : List Entry)
     → IsStepwise b callers asks past → (now b asks past).due ≡ None → KeepsReplies b asks past → IsLegal b callers asks past

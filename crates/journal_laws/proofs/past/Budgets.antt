@@ -1,39 +1,36 @@
 -- One step of a walk pays for itself: its entry, the bytes of it and the calls that it makes. No induction but over the
 -- messages of a transfer.
-use Rattle.std.proofs.Common.{◌≡◌, ℕ, zero, suc, ◌+◌, ◌*◌, ◌-◌, ◌<◌, ◌≤◌, Bool, true, false, cond, List, [], ◌∷◌, ◌++◌, length, length-append, Option, Some, None, refl, sym, ◌∙◌, ap, subst, ◌⊎◌, inl, inr, arith}
-use Rattle.std.specs.Prelude.{take, drop, nat_lt}
-use Rattle.std.specs.List.{list_any}
+use Rattle.std.proofs.Common.{◌≡◌, ℕ, zero, suc, ◌+◌, ◌*◌, ◌-◌, ◌<◌, ◌≤◌, Bool, true, false, cond, List, [], ◌∷◌, ◌++◌, length, Option, refl, sym, ◌∙◌, ap, subst, ◌⊎◌, inl, inr, arith}
+use Rattle.std.specs.Prelude.{take, drop}
 use Rattle.std.proofs.lemmas.List.{length-take}
 use Rattle.std.proofs.Math.Nat.{min-le_left}
-use Rattle.i2c_base.specs.declared.errno.Errno.{Errno}
 use Rattle.i2c_base.specs.declared.ids.Node.{Node}
 use Rattle.i2c_base.specs.declared.entry.End.{End}
 use Rattle.i2c_base.specs.declared.entry.Purpose.{Purpose}
 use Rattle.i2c_base.specs.declared.entry.Entry.{Entry}
 use Rattle.i2c_base.specs.declared.entry.Entry.TheVariants as entry
 use Rattle.i2c_base.specs.declared.reply.Reply.{Reply}
-use Rattle.i2c_base.specs.declared.reply.Reply.TheVariants as reply
 use Rattle.i2c_base.specs.declared.transfer.Msg.{Msg}
 use Rattle.i2c_base.specs.Board.{BoardView}
 use Rattle.i2c_base.specs.Transfer.{TransferView, is_read, written_of}
-use Rattle.i2c_spec.specs.Tree.{buses, hops, root_of}
+use Rattle.i2c_spec.specs.Tree.{root_of}
 use Rattle.i2c_spec.specs.TreeFacts.{IsTree}
 use Rattle.i2c_spec.specs.Rules.{MeetsRules}
 use Rattle.i2c_spec.specs.Messages.{MessageView, messages_from}
 use Rattle.i2c_spec.specs.Conversation.{world_listener}
-use Rattle.i2c_spec.specs.Flat.{block_limit, done_with}
-use Rattle.i2c_spec.specs.Cost.{full_cost, steps_of, cost_of}
+use Rattle.i2c_spec.specs.Flat.{block_limit}
+use Rattle.i2c_spec.specs.Cost.{cost_of}
 use Rattle.i2c_spec.specs.History.{Asks}
 use Rattle.bus_spec.specs.Walk.{Job, Call, Select, Clear, Act, Take, Free, Send, Shift, Settle, Passed, Sent, Lined, WalkTree, job_bus, message_of, is_last, nth_message}
 use Rattle.bus_spec.specs.Grammar.{walk_for, seen, first_act, first_note, rest_of}
 use Rattle.bus_spec.specs.Readings.{caller_of}
 use Rattle.bus_spec.specs.Past.{Now, current, now, step, talk_of, cut_of, got_after, sent_by, lined_by}
-use Rattle.bus_spec.specs.Stepwise.{May, IsNext, IsStepwise, reply_by}
+use Rattle.bus_spec.specs.Stepwise.{May, IsNext, IsStepwise}
 use Rattle.bus_laws.specs.Reach.{AsksForMessages}
 use Rattle.bus_laws.specs.Runs.{IsCall}
 use Rattle.bus_laws.specs.Settles.{IsBefore, Settles}
 use Rattle.bus_laws.specs.Calls.{CallsOf, IsAsked}
-use Rattle.bus_laws.specs.Costs.{IsWithin, bytes_given}
+use Rattle.bus_laws.specs.Costs.{IsWithin}
 use Rattle.bus_laws.specs.Others.{ahead}
 use Rattle.journal_laws.specs.Spent.{bytes_in, calls_for}
 use Rattle.bus_laws.proofs.world.TalkSizes.{talk-sized}
@@ -43,6 +40,9 @@ use Rattle.bus_laws.proofs.walk.Next.{within-next, settles-taken, settles-freed,
 use Rattle.bus_laws.proofs.past.StandsStep.{at_same}
 use Rattle.bus_laws.proofs.past.StandsEntries.{first_is}
 use Rattle.bus_laws.proofs.past.Asked.{settles_seen, current-asked, past-asked}
+use Rattle.i2c_base.specs.Need.{bytes_given}
+use Rattle.i2c_spec.proofs.CostLemmas.{cost_some}
+use Rattle.bus_laws.proofs.past.Bytes.{got-grows, given-few}
 
 -- the entry that settles is still to come
 abbrev pub to_settle : Bool → ℕ
@@ -54,13 +54,6 @@ pub record IsBudget (b : BoardView) (done : Bool) (w : WalkTree) (most : ℕ) : 
   pub settles : Settles done w
   pub within : IsWithin b w left
   pub owes : left + to_settle done ≤ most
-
-cost_some : (b : BoardView) (t : TransferView) → 1 ≤ cost_of b t
-cost_some b t = by (nat_lt t.bus (buses b))
-  where
-    by : (x : Bool) → 1 ≤ cond x (1 + full_cost (hops b t.bus) (steps_of b t)) 1
-    by true = omega arith
-    by false = omega arith
 
 pub budget-begins : (b : BoardView) → IsTree b → MeetsRules b → (t : TransferView) → 0 < length t.msgs → IsBudget b false (walk_for b t) (cost_of b t)
 budget-begins b tree rules t some =
@@ -80,24 +73,6 @@ abbrev IsShort : MessageView → Type 0
 IsShort m = length m.bytes ≤ m.len
 
 -- a reply gives no more bytes than were read
-few_done : (t : TransferView) (got : List ℕ) → length (bytes_given (done_with t got)) ≤ length got
-few_done t got = by (list_any is_read t.msgs)
-  where
-    by : (x : Bool) → length (bytes_given (cond x (reply.Read got) reply.Done)) ≤ length got
-    by true = omega arith
-    by false = omega arith
-
-few_given : (verdict : Option Errno) (t : Option TransferView) (got : List ℕ) → length (bytes_given (reply_by verdict t got)) ≤ length got
-few_given (Some e) t got = omega arith
-few_given None None got = omega arith
-few_given None (Some t) got = few_done t got
-
-few_got : (job : Job) (reading : Bool) (bytes got : List ℕ) → length (got_after job reading bytes got) ≤ length got + length bytes
-few_got (Call bus ms) true bytes got = omega (arith, length-append got bytes)
-few_got (Call bus ms) false bytes got = omega arith
-few_got (Select h) reading bytes got = omega arith
-few_got (Clear on mux kind) reading bytes got = omega arith
-
 -- behind the settle come none of the caller's messages
 got_stays : (job : Job) (reading : Bool) (bytes got : List ℕ) (done : Bool) → done ≡ true → IsBefore done job → got_after job reading bytes got ≡ got
 got_stays (Call bus ms) reading bytes got done d before = absurd (let f : true ≡ false = sym d ∙ before in cc)
@@ -186,7 +161,7 @@ module _ (b : BoardView) (asks : Asks) (some : AsksForMessages asks) (callers : 
       let h = within-next b n.slot w budget.left budget.within (Settle may.2) may.3 in
       let s = settles-settled done (seen n.slot w) (settles_seen n.slot done w budget.settles) may.2 may.3 in
       let unsettled : to_settle done ≡ 1 = ap to_settle s.0 in
-      let few : length (bytes_given r) ≤ length (n.got c) = subst (λ (x : Reply). length (bytes_given x) ≤ length (n.got c)) (sym may.4) (few_given may.2 (asks c (n.settled c)) (n.got c)) in
+      let few : length (bytes_given r) ≤ length (n.got c) = subst (λ (x : Reply). length (bytes_given x) ≤ length (n.got c)) (sym may.4) (given-few may.2 (asks c (n.settled c)) (n.got c)) in
       let empty : length ((step b asks n (entry.Settle c r cut)).got c) ≡ 0 = ap (λ (xs : List ℕ). length xs) (at_same n.got c []) in
       record {
         after = true;
@@ -229,7 +204,7 @@ module _ (b : BoardView) (asks : Asks) (some : AsksForMessages asks) (callers : 
       let got : (step b asks n e).got c ≡ got_after job reading bytes (n.got c) =
       message-got b asks n c bus why part parts addr reading bytes heard en job left may.2.2 in
       let few : length ((step b asks n e).got c) ≤ length (n.got c) + length bytes =
-      subst (λ (xs : List ℕ). length xs ≤ length (n.got c) + length bytes) (sym got) (few_got job reading bytes (n.got c)) in
+      subst (λ (xs : List ℕ). length xs ≤ length (n.got c) + length bytes) (sym got) (got-grows job reading bytes (n.got c)) in
       record {
         after = done;
         rest = h.0 + to_settle done;

@@ -2,7 +2,6 @@
 -- bytes of a write, and over the bytes that are left to read.
 use Rattle.std.proofs.Common.{◌≡◌, ℕ, zero, suc, ◌+◌, ◌-◌, Bool, true, false, cond, ◌||◌, List, [], ◌∷◌, ◌++◌, length, Option, Some, None, eqb, ltb, refl, sym, ◌∙◌, ap, ◌⊎◌, inl, inr, append_assoc}
 use Rattle.std.specs.List.{AllByRecursion}
-use Rattle.std.proofs.lemmas.Bool.Decides.{eqb_tells}
 use Rattle.i2c_base.specs.declared.event.Answer.{Answer}
 use Rattle.i2c_base.specs.declared.event.Answer.TheVariants as answer
 use Rattle.i2c_base.specs.declared.port.PortCall.{PortCall}
@@ -10,8 +9,9 @@ use Rattle.i2c_base.specs.declared.port.PortCall.TheVariants as call
 use Rattle.i2c_base.specs.declared.entry.End.{End}
 use Rattle.i2c_base.specs.declared.entry.End.TheVariants as end
 use Rattle.i2c_spec.specs.Messages.{MessageView}
-use Rattle.i2c_spec.specs.Conversation.{Listener, Said, TalkTold, is_at, silence, say, with_byte, told, call_then, ended, puts, gets, gets_counted, by_answer, talk}
+use Rattle.i2c_spec.specs.Conversation.{Listener, Said, TalkTold, is_it, silence, say, with_byte, told, call_then, ended, puts, gets, gets_counted, by_answer, talk}
 use Rattle.bus_laws.proofs.world.TalkLaws.{IsOwnEnd}
+use Rattle.i2c_spec.proofs.MessageLemmas.{is_it-some}
 
 -- a call that didn't fail
 abbrev pub Went : PortCall → Type 0
@@ -43,10 +43,6 @@ all_more : (xs : List PortCall) (c : PortCall) → AllByRecursion Went xs → We
 all_more [] c all went = (went, tt)
 all_more (x ∷ xs) c all went = (all.0, all_more xs c all.1 went)
 
-is_place : (cut : Option ℕ) (n : ℕ) → is_at cut n ≡ true → cut ≡ Some n
-is_place None n e = absurd (let f : false ≡ true = e in cc)
-is_place (Some k) n e = elim (eqb_tells k n) [ inl h ↦ ap Some h.1 | inr h ↦ absurd (let f : false ≡ true = sym h.0 ∙ e in cc) ]
-
 module _ {W : Type 0} (l : Listener W) (cut : Option ℕ) where
   abbrev Fronts : Said W → TalkTold W → TalkTold W → Type 0
   Fronts t u whole = IsFront cut t.calls u whole
@@ -67,16 +63,16 @@ module _ {W : Type 0} (l : Listener W) (cut : Option ℕ) where
         grown = sub.grown ∙ sym (append_assoc sub.more (c ∷ []) t.calls);
         went = all_more sub.more c sub.went went;
         own_end = sub.own_end;
-        either = by (is_at cut (length t.calls)) refl;
+        either = by (is_it cut (length t.calls)) refl;
       }
     where
-      by : (x : Bool) → is_at cut (length t.calls) ≡ x
+      by : (x : Bool) → is_it cut (length t.calls) ≡ x
           → (cond x (told (say l t call.Fault) (end.Cut (length t.calls))) (next (say l t c)) ≡ whole (say l t c))
           ⊎ BreaksOff cut t.calls (sub.more ++ c ∷ []) (cond x (told (say l t call.Fault) (end.Cut (length t.calls))) (next (say l t c)))
       by true e =
           inr (record {
             place = length t.calls;
-            cut_is = is_place cut (length t.calls) e;
+            cut_is = is_it-some cut (length t.calls) e;
             ended_so = refl;
             own = [];
             said = refl;

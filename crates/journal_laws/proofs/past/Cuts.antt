@@ -45,10 +45,12 @@ use Rattle.bus_laws.proofs.walk.SettleLaw.{walk-starts}
 use Rattle.journal_laws.specs.Counts.{is_failed}
 use Rattle.journal_laws.specs.Faulty.{is_on_way, failed_on_way, CutAt, KeepsCuts}
 use Rattle.journal_laws.proofs.past.Places.{walk-left}
-use Rattle.journal_laws.proofs.past.Due.{due-told, not-done}
+use Rattle.journal_laws.proofs.past.Due.{due-told}
 use Rattle.journal_laws.proofs.past.Marked.{sends, shifts}
 use Rattle.flat_laws.proofs.past.Ends.{holds-nothing}
 use Rattle.journal_laws.proofs.past.FailLaw.{FailsSettle, current-fails}
+use Rattle.bus_laws.proofs.past.StandsFacts.{over_ends}
+use Rattle.bus_laws.proofs.device.Past.{settles_next}
 
 -- WHAT A STEP DECIDES
 decided-verdict : (note : Note) (job : Job) (left : ℕ) (out : ActOutcome) (w : WalkTree) (v : Option Errno) → IsDecided note job left out w → first_act w ≡ Some (Settle v)
@@ -146,11 +148,6 @@ is_live : (w : WalkTree) (act : Act) → first_act w ≡ Some act → is_over w 
 is_live Ends act e = absurd (let f : None ≡ Some act = e in cc)
 is_live (Look ask next) act e = refl
 is_live (Then a note next) act e = refl
-
-over_ends : (w : WalkTree) → is_over w ≡ true → w ≡ Ends
-over_ends Ends e = refl
-over_ends (Look ask next) e = absurd (let f : false ≡ true = e in cc)
-over_ends (Then act note next) e = absurd (let f : false ≡ true = e in cc)
 
 all_true : (x y z : Bool) → x ≡ false → y ≡ true → (not x && (y || z)) ≡ true
 all_true true y z p q = absurd (let f : true ≡ false = p in cc)
@@ -493,7 +490,7 @@ module _ (b : BoardView) (tree : IsTree b) (plain : IsPlainBoard b) (lines : Lin
         by false live =
             elim ((cuts-stand past steps c).after is) [
               | inl h ↦ ((let f : Some (Settle verdict) ≡ Some (Settle (Some errno.Eremoteio)) = sym (next_first live) ∙ h.0 in let g : verdict ≡ Some errno.Eremoteio = cc in g), h.1)
-              | inr settled ↦ absurd (let f : true ≡ false = not-done then_walk true verdict settled (next_first live) in cc)
+              | inr settled ↦ absurd (let f : true ≡ false = settles_next then_walk true verdict settled (next_first live) in cc)
             ]
 
     -- which is due there

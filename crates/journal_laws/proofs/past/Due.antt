@@ -29,6 +29,7 @@ use Rattle.bus_laws.proofs.past.Placed.{no_settle}
 use Rattle.flat_laws.proofs.past.First.{due_settles}
 use Rattle.journal_laws.proofs.past.Layers.{other_replies}
 use Rattle.journal_laws.proofs.past.Places.{walk-left}
+use Rattle.bus_laws.proofs.device.Past.{settles_next}
 
 -- what a settle that is due is of
 pub record IsDue (b : BoardView) (asks : Asks) (past : List Entry) (c : ℕ) : Type 0 where
@@ -46,11 +47,6 @@ accepted_by b t note (Select h) left out w verdict granted way goes first =
     elim goes [ inl quiet ↦ absurd (no_settle w verdict quiet first) | inr decided ↦ (way decided.0).0 ]
 accepted_by b t note (Clear on mux kind) left out w verdict granted way goes first =
     elim goes [ inl quiet ↦ absurd (no_settle w verdict quiet first) | inr decided ↦ (way decided.0).0 ]
-
-pub not-done : (w : WalkTree) (done : Bool) (verdict : Option Errno) → Settles done w → first_act w ≡ Some (Settle verdict) → done ≡ false
-not-done w done verdict settles first =
-    let at = first_is w (Settle verdict) first in
-    (subst (λ (x : WalkTree). Settles done x) at.2 settles).0
 
 pub by-due : (t : Bool) (d c : ℕ) → cond t (Some d) None ≡ Some c → (t ≡ true) × (d ≡ c)
 by-due true d c e = (refl, (let f : Some d ≡ Some c = e in cc))
@@ -86,7 +82,7 @@ module _ (b : BoardView) (asks : Asks) (some : AsksForMessages asks) (callers : 
           first = will.1;
           transfer = own.whose;
           asked = ap (λ (rs : List Reply). asks d rs) (sym (settled-told b asks past d))
-              ∙ own.asked (not-done (at.1 (Sent e bytes)) own.done will.0 (settles.1 e bytes).1 first);
+              ∙ own.asked (settles_next (at.1 (Sent e bytes)) own.done will.0 (settles.1 e bytes).1 first);
           accepted = accepted_by b own.whose at.0 job left (Sent e bytes) (at.1 (Sent e bytes)) will.0 calls.0 calls.1 (settles.1 e bytes).0 first;
         }
 
@@ -104,7 +100,7 @@ module _ (b : BoardView) (asks : Asks) (some : AsksForMessages asks) (callers : 
           first = will.1;
           transfer = own.whose;
           asked = ap (λ (rs : List Reply). asks d rs) (sym (settled-told b asks past d))
-              ∙ own.asked (not-done (at.1 (Lined failed)) own.done will.0 (settles failed).1 first);
+              ∙ own.asked (settles_next (at.1 (Lined failed)) own.done will.0 (settles failed).1 first);
           accepted = elim (settles failed).0 [
             | inl quiet ↦ absurd (no_settle (at.1 (Lined failed)) will.0 quiet first)
             | inr decided ↦ (calls.0 decided.0).0

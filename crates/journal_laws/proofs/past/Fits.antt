@@ -1,7 +1,6 @@
 -- Each reply that is settled is one that its transfer may get. The induction goes over the entries.
 use Rattle.std.proofs.Common.{◌≡◌, ℕ, zero, suc, ◌+◌, ◌-◌, ◌<◌, Bool, true, false, cond, List, [], ◌∷◌, ◌++◌, length, Option, Some, None, refl, sym, ◌∙◌, ap, subst, ◌⊎◌, inl, inr, arith}
 use Rattle.std.specs.Prelude.{take}
-use Rattle.std.specs.List.{list_any}
 use Rattle.std.proofs.lemmas.Bool.Decides.{eqb_tells}
 use Rattle.std.proofs.Math.Seq.{take-length}
 use Rattle.i2c_base.specs.declared.transfer.Msg.{Msg}
@@ -11,10 +10,9 @@ use Rattle.i2c_base.specs.declared.entry.End.TheVariants as end
 use Rattle.i2c_base.specs.declared.entry.Entry.{Entry}
 use Rattle.i2c_base.specs.declared.entry.Entry.TheVariants as entry
 use Rattle.i2c_base.specs.declared.reply.Reply.{Reply}
-use Rattle.i2c_base.specs.declared.reply.Reply.TheVariants as reply
 use Rattle.i2c_base.specs.Board.{BoardView}
 use Rattle.i2c_base.specs.Fitting.{Fits, FitsReads}
-use Rattle.i2c_base.specs.Transfer.{TransferView, is_read}
+use Rattle.i2c_base.specs.Transfer.{TransferView}
 use Rattle.i2c_spec.specs.Tree.{root_of}
 use Rattle.i2c_spec.specs.Messages.{MessageView, messages_of}
 use Rattle.i2c_spec.specs.Conversation.{world_listener}
@@ -34,7 +32,7 @@ use Rattle.bus_laws.specs.Jobs.{EachJob}
 use Rattle.bus_laws.specs.Calls.{CallsOf, FirstCalls}
 use Rattle.bus_laws.specs.Others.{ahead}
 use Rattle.journal_laws.specs.Spent.{FitsAt, KeepsFits}
-use Rattle.bus_laws.proofs.world.Sends.{length-messages}
+use Rattle.i2c_spec.proofs.MessageLemmas.{length-messages}
 use Rattle.bus_laws.proofs.world.TalkReads.{GaveRead, talk-reads}
 use Rattle.bus_laws.proofs.walk.SettleLaw.{walk-settles, walk-starts}
 use Rattle.bus_laws.proofs.walk.Calls.{walk-calls}
@@ -44,10 +42,12 @@ use Rattle.bus_laws.proofs.walk.Reads.{message-reads}
 use Rattle.bus_laws.proofs.walk.Next.{seen-first, jobs-next, job-shifted, calls-next, call-sent, settles-taken, settles-freed, settles-sent, settles-shifted, settles-settled, quiet-next, what_follows, call-follows, first-taken, first-freed, first-selected, first-cleared, first-shifted, first-sent}
 use Rattle.bus_laws.proofs.past.StandsStep.{at_same}
 use Rattle.bus_laws.proofs.past.StandsFacts.{over_ends}
-use Rattle.bus_laws.proofs.past.Asked.{nobody, settles_seen, settled-told, sent_settled, lined_settled}
+use Rattle.bus_laws.proofs.past.Asked.{settles_seen, settled-told, sent_settled, lined_settled}
 use Rattle.bus_laws.proofs.past.Known.{never}
 use Rattle.bus_laws.proofs.past.Others.{IsUntouched, entry-elsewhere}
 use Rattle.journal_laws.proofs.past.Budgets.{message-got, line-got}
+use Rattle.bus_laws.proofs.past.Laws.{nobody}
+use Rattle.bus_laws.proofs.past.Bytes.{reply-fits}
 
 -- HOW FAR a walk is with its caller's messages: none was sent
 record SendsNone (w : WalkTree) (got : List ℕ) (done : Bool) : Type 0 where
@@ -306,14 +306,6 @@ module _ (b : BoardView) (asks : List Reply → Option TransferView) (v : Slots)
       by not_done (inr (inr (inr behind))) none = absurd (let f : false ≡ true = sym not_done ∙ behind.settled in cc)
 
 -- the reply that a settle decides fits
-reply_fits : (t : TransferView) (got : List ℕ) (verdict : Option Errno) → (verdict ≡ None → FitsReads t.msgs got) → Fits t (reply_by verdict (Some t) got)
-reply_fits t got (Some e) all = tt
-reply_fits t got None all = by (list_any is_read t.msgs) refl (all refl)
-  where
-    by : (r : Bool) → list_any is_read t.msgs ≡ r → FitsReads t.msgs got → Fits t (cond r (reply.Read got) reply.Done)
-    by true e fits = (e, fits)
-    by false e fits = e
-
 module _ (b : BoardView) (asks : Asks) (some : AsksForMessages asks) (callers : ℕ) where
   abbrev ReadsAt : List Entry → ℕ → WalkTree → Type 0
   ReadsAt past c w = IsReading b (asks c) w ((now b asks past).settled c) ((now b asks past).got c)
@@ -466,7 +458,7 @@ module _ (b : BoardView) (asks : Asks) (some : AsksForMessages asks) (callers : 
       let f : Some is.whose ≡ Some t = sym fit.0 ∙ ap (asks c) (settled-told b asks past c) ∙ asked in
       let same : is.whose ≡ t = cc in
       subst (λ (x : Reply). Fits t x) (sym (may.4 ∙ ap (λ (o : Option TransferView). reply_by may.2 o (n.got c)) (fit.0 ∙ ap Some same)))
-      (reply_fits t (n.got c) may.2 (λ none. subst (λ (u : TransferView). FitsReads u.msgs (n.got c)) same (fit.1 none)))
+      (reply-fits t (n.got c) may.2 (λ none. subst (λ (u : TransferView). FitsReads u.msgs (n.got c)) same (fit.1 none)))
 
   pub fits-kept : (past : List Entry) → IsStepwise b callers asks past → KeepsFits asks past
   fits-kept [] steps = tt

@@ -34,9 +34,6 @@ module _ (b : BoardView) (asks : List Reply → Option TransferView) where
   abbrev hand_behind : List Reply → WalkTree → List Step → WalkTree
   hand_behind rs w ss = at_hand b asks (rs ++ replies_in ss) (walk_behind rs w ss)
 
-  rest_at : Step → WalkTree → WalkTree
-  rest_at s w = rest_of (seen s.before.slot w) (outcome_of s.entry)
-
   replies_shift : (rs : List Reply) (s : Step) (ss : List Step) → (rs ++ reply_at s.entry) ++ replies_in ss ≡ rs ++ replies_in (s ∷ ss)
   replies_shift rs s ss =
       append_assoc rs (reply_at s.entry) (replies_in ss) ∙ ap (λ (xs : List Reply). rs ++ xs) (sym (replies_first s.before s.entry ss))

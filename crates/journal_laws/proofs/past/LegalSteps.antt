@@ -3,7 +3,6 @@
 use Rattle.std.proofs.Common.{◌≡◌, ℕ, ◌<◌, true, false, List, [], ◌∷◌, ◌++◌, Option, Some, None, refl, sym, ◌∙◌, ap, subst, ◌⊎◌, inl, inr}
 use Rattle.std.specs.Option.{option_and_then}
 use Rattle.std.proofs.lemmas.Bool.Decides.{eqb_tells}
-use Rattle.i2c_base.specs.declared.ids.LockId.{LockId}
 use Rattle.i2c_base.specs.declared.entry.Entry.{Entry}
 use Rattle.i2c_base.specs.declared.entry.Entry.TheVariants as entry
 use Rattle.i2c_base.specs.declared.reply.Reply.{Reply}
@@ -14,22 +13,22 @@ use Rattle.i2c_spec.specs.TreeFacts.{IsTree}
 use Rattle.i2c_spec.specs.Plain.{IsPlainBoard}
 use Rattle.i2c_spec.specs.History.{Asks, History, history, one_more, with_told, changed_at}
 use Rattle.i2c_spec.specs.Flat.{flat}
-use Rattle.bus_spec.specs.Readings.{rank, caller_of, replies, order, Everywhere}
+use Rattle.bus_spec.specs.Readings.{caller_of, replies, order, Everywhere}
 use Rattle.bus_spec.specs.Past.{Now, now, is_due}
-use Rattle.bus_spec.specs.Stepwise.{TellsNext, IsBelow, reply_by, May, IsStepwise}
+use Rattle.bus_spec.specs.Stepwise.{TellsNext, reply_by, May, IsStepwise}
 use Rattle.bus_spec.specs.Legal.{LocksAt, KeepsLocks, IsPlaced, SettleAt, KeepsSettles, KeepsReplies, IsLegal}
 use Rattle.bus_laws.specs.Lines.{LinesAreLocked}
 use Rattle.bus_laws.specs.Reach.{AsksForMessages, AsksWithinLimits}
-use Rattle.bus_laws.specs.Runs.{InLocks}
 use Rattle.bus_laws.proofs.past.StandsStep.{at_same, at_other}
 use Rattle.bus_laws.proofs.past.Laws.{past-stands, holder-told}
 use Rattle.bus_laws.proofs.past.Placed.{cut-told, settles-kept}
-use Rattle.bus_laws.proofs.past.Whole.{some_is}
 use Rattle.journal_laws.specs.Layers.{BelongsTo}
 use Rattle.flat_laws.proofs.device.Law.{replies-kept}
 use Rattle.journal_laws.proofs.past.Layers.{own_replies, other_replies, walks-tell, walks-due}
 use Rattle.journal_laws.proofs.past.Due.{IsDue, IsParted, due-told, tells-due, parts, stays-parted}
 use Rattle.flat_laws.proofs.past.Legal.{legal-with}
+use Rattle.std.proofs.lemmas.Option.{same_Some}
+use Rattle.bus_laws.proofs.tree.Falls.{is_below_all}
 
 -- THE REPLIES of a prefix are those of its history
 last_same : (rs qs : List Reply) (r q : Reply) → rs ++ r ∷ [] ≡ qs ++ q ∷ [] → (rs ≡ qs) × (r ≡ q)
@@ -56,7 +55,7 @@ module _ (b : BoardView) (asks : Asks) where
       by (Some t) f = (
         (flat b h.states t cut).reply,
         (let g : Some (with_told h c (flat b h.states t cut)) ≡ Some told = f in
-            ap (λ (x : History). x.replies) (sym (some_is (with_told h c (flat b h.states t cut)) told g))),
+            ap (λ (x : History). x.replies) (sym (same_Some (with_told h c (flat b h.states t cut)) told g))),
       )
 
   pub replies-front : (e : Entry) (past : List Entry) → KeepsReplies b asks (e ∷ past) → KeepsReplies b asks past
@@ -83,10 +82,6 @@ module _ (b : BoardView) (asks : Asks) where
                   ∙ ap (λ (f : ℕ → List Reply). f d) more.1 ∙ at_other h.replies c (h.replies c ++ more.0 ∷ []) d (λ f. other.1 (sym f))
             ];
           }
-
-below_all : (b : BoardView) (l : LockId) (held : List LockId) → ((k : LockId) → InLocks k held → rank b l < rank b k) → IsBelow b l held
-below_all b l [] each = tt
-below_all b l (k ∷ ks) each = (each k (inl refl), below_all b l ks (λ j i. each j (inr i)))
 
 module _ (b : BoardView) (tree : IsTree b) (plain : IsPlainBoard b) (lines : LinesAreLocked b) (asks : Asks) (some : AsksForMessages asks)
     (limits : AsksWithinLimits asks) (callers : ℕ) where
@@ -128,7 +123,7 @@ module _ (b : BoardView) (tree : IsTree b) (plain : IsPlainBoard b) (lines : Lin
       none_due (entry.Take c l) tells whole (λ r cut e. let f : entry.Take c l ≡ entry.Settle c r cut = e in cc),
       tells,
       holder-told b asks past l ∙ locks.0,
-      below_all b l (n.held c) (λ k i. locks.1 k (sym (holder-told b asks past k) ∙ (past-stands b tree plain lines asks some callers past steps).holds c k i)),
+      is_below_all b l (n.held c) (λ k i. locks.1 k (sym (holder-told b asks past k) ∙ (past-stands b tree plain lines asks some callers past steps).holds c k i)),
     )
     may_come (entry.Free c l) known locks tells at whole keeps =
         (known, none_due (entry.Free c l) tells whole (λ r cut e. let f : entry.Free c l ≡ entry.Settle c r cut = e in cc), tells)
@@ -158,7 +153,7 @@ module _ (b : BoardView) (tree : IsTree b) (plain : IsPlainBoard b) (lines : Lin
         reply_is =
             (last_same (replies past c) (replies past c) r decided
             (sym (own_replies b asks past c (entry.Settle c r cut) refl) ∙ keeps.same c
-            ∙ ap (λ (h : History). h.replies c) (some_is keeps.told might.told (sym keeps.defined ∙ might.defined))
+            ∙ ap (λ (h : History). h.replies c) (same_Some keeps.told might.told (sym keeps.defined ∙ might.defined))
             ∙ sym (might.same c) ∙ own_replies b asks past c (entry.Settle c decided cut) refl)).1
 
   -- THE INDUCTION

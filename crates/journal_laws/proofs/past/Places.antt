@@ -1,20 +1,20 @@
 -- The fold over a past has each reading of a place: what a caller's walk has left, and the mark of each bus. The induction
 -- goes over the entries.
-use Rattle.std.proofs.Common.{◌≡◌, ℕ, zero, suc, Bool, true, false, cond, eqb, List, [], ◌∷◌, Option, Some, None, refl, sym, ◌∙◌, ap, inl, inr}
+use Rattle.std.proofs.Common.{◌≡◌, ℕ, Bool, true, false, cond, eqb, List, [], ◌∷◌, Option, Some, None, refl, sym, ◌∙◌, ap, inl, inr}
 use Rattle.std.proofs.lemmas.Bool.Decides.{eqb_tells}
 use Rattle.i2c_base.specs.declared.entry.End.{End}
 use Rattle.i2c_base.specs.declared.entry.End.TheVariants as end
 use Rattle.i2c_base.specs.declared.entry.Entry.{Entry}
 use Rattle.i2c_base.specs.declared.entry.Entry.TheVariants as entry
 use Rattle.i2c_base.specs.Board.{BoardView}
-use Rattle.i2c_spec.specs.Tree.{Hop}
 use Rattle.i2c_spec.specs.History.{Asks, changed_at}
-use Rattle.bus_spec.specs.Walk.{Mark, Job, Call, Select, Clear, Act, Take, Free, Send, Shift, Settle, ActOutcome, Passed, Sent, Lined, Note, WalkTree, first_byte}
-use Rattle.bus_spec.specs.Slots.{Slots, MuxSlot, Clean, Selected, Marked, Polled, Found, mark_in, set_marks, select_slot, with_slot, after_job}
+use Rattle.bus_spec.specs.Walk.{Mark, Job, Call, Select, Clear, Act, Take, Free, Send, Shift, Settle, ActOutcome, Passed, Sent, Lined, Note, WalkTree}
+use Rattle.bus_spec.specs.Slots.{Slots, MuxSlot, Clean, Selected, Marked, mark_in, set_marks, select_slot, with_slot, after_job}
 use Rattle.bus_spec.specs.Grammar.{first_act, first_note, rest_of}
 use Rattle.bus_spec.specs.Readings.{caller_of}
 use Rattle.bus_spec.specs.Past.{Now, now, current, mark, sent_by, lined_by}
 use Rattle.bus_spec.specs.Places.{walk_left, mark_among, mark_after, mark_sent, mark_lined, mark_by, mark_left, is_cut}
+use Rattle.bus_laws.proofs.past.Marks.{select_unmarked}
 
 -- a caller's walk
 pub walk-left : (b : BoardView) (asks : Asks) (past : List Entry) (c : ℕ) → (now b asks past).walk c ≡ walk_left b asks past c
@@ -54,24 +54,11 @@ marked_among [] v p = refl
 marked_among (m ∷ ms) v p =
     written (set_marks ms v) m.on p (Marked m.mux) (Some m.mux) refl ∙ ap (λ (o : Option ℕ). cond (eqb p m.on) (Some m.mux) o) (marked_among ms v p)
 
-unmarked : (h : Hop) (left : ℕ) (bytes : List ℕ) → mark_in (select_slot h left bytes) ≡ None
-unmarked h zero bytes = refl
-unmarked h (suc zero) bytes = by (eqb (first_byte bytes) 0)
-  where
-    by : (t : Bool) → mark_in (cond t (Found h) Clean) ≡ None
-    by true = refl
-    by false = refl
-unmarked h (suc (suc left)) bytes = by (eqb (first_byte bytes) 0)
-  where
-    by : (t : Bool) → mark_in (cond t (Found h) (Polled h left)) ≡ None
-    by true = refl
-    by false = refl
-
 -- a message, and a line step
 sent_mark : (job : Job) (left : ℕ) (marks : List Mark) (e : End) (bytes : List ℕ) (v : Slots) (p : ℕ)
     → mark_in (after_job job left marks (Sent e bytes) v p).slot ≡ mark_after job marks (is_cut e) p (mark_in (v p).slot)
 sent_mark (Call bus ms) left marks e bytes v p = refl
-sent_mark (Select h) left marks end.Ok bytes v p = written v h.on p (select_slot h left bytes) None (unmarked h left bytes)
+sent_mark (Select h) left marks end.Ok bytes v p = written v h.on p (select_slot h left bytes) None (select_unmarked h left bytes)
 sent_mark (Select h) left marks end.Nack bytes v p = written v h.on p Clean None refl
 sent_mark (Select h) left marks end.Slow bytes v p = written v h.on p Clean None refl
 sent_mark (Select h) left marks end.Refused bytes v p = written v h.on p Clean None refl

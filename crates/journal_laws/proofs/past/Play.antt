@@ -3,7 +3,6 @@
 use Rattle.std.proofs.Common.{◌≡◌, ℕ, zero, suc, ◌+◌, ◌-◌, ◌<◌, ◌≤◌, ◌≢◌, nat_lt, arith, find, Bool, true, false, cond, eqb, ◌||◌, List, [], ◌∷◌, length, reverse, Option, Some, None, refl, sym, ◌∙◌, ap, subst, ◌⊎◌, inl, inr}
 use Rattle.std.specs.Prelude.{slice_get}
 use Rattle.std.specs.List.{range_with_len, AllByRecursion}
-use Rattle.std.proofs.lemmas.Bool.{eqb-true}
 use Rattle.std.proofs.lemmas.Bool.Decides.{eqb_tells}
 use Rattle.std.proofs.lemmas.List.{reverse-reverse}
 use Rattle.i2c_base.specs.declared.errno.Errno.{Errno}
@@ -26,7 +25,7 @@ use Rattle.i2c_spec.specs.TreeFacts.{IsTree}
 use Rattle.i2c_spec.specs.Plain.{IsPlainBoard}
 use Rattle.i2c_spec.specs.Messages.{MessageView}
 use Rattle.i2c_spec.specs.World.{World, hearers}
-use Rattle.i2c_spec.specs.Conversation.{Listener, Said, TalkTold, world_listener, is_at, silence, say, with_byte, told, call_then, ended, puts, gets, gets_counted, data_of, by_answer, talk}
+use Rattle.i2c_spec.specs.Conversation.{Listener, Said, TalkTold, world_listener, is_it, silence, say, with_byte, told, call_then, ended, puts, gets, gets_counted, data_of, by_answer, talk}
 use Rattle.i2c_spec.specs.Flat.{block_limit}
 use Rattle.i2c_spec.specs.History.{Asks}
 use Rattle.bus_spec.specs.Walk.{Job, Call, Select, Clear, Act, Take, Free, Send, Shift, Settle, job_bus, job_purpose, part_of, parts_of, line_level, message_of, is_last}
@@ -41,25 +40,22 @@ use Rattle.bus_laws.specs.Reach.{AsksForMessages}
 use Rattle.bus_laws.specs.Next.{who_hears, chip_where}
 use Rattle.bus_laws.proofs.past.Next.{call-reaches, control-switches}
 use Rattle.bus_laws.proofs.past.Ready.{takes-below}
-use Rattle.bus_laws.proofs.past.Whole.{some_is}
 use Rattle.journal_laws.specs.Layers.{FailsAs}
 use Rattle.journal_laws.proofs.past.Due.{due-told, due-known, due-settles}
+use Rattle.i2c_spec.proofs.MessageLemmas.{is_it-some}
+use Rattle.std.proofs.lemmas.Option.{same_Some}
 
 -- A MESSAGE that a call cuts off ends so, or it is as if no call failed
-at_some : (o : Option ℕ) (n : ℕ) → is_at o n ≡ true → Some n ≡ o
-at_some None n e = absurd (let f : false ≡ true = e in cc)
-at_some (Some k) n e = ap Some (sym (eqb-true k n e))
-
 module _ (l : Listener World) (cut : Option ℕ) where
   abbrev Cuts : TalkTold World → TalkTold World → Type 0
   Cuts x y = (cut_of x.end ≡ cut) ⊎ ((cut_of x.end ≡ None) × (x ≡ y))
 
   cuts-call : (t : Said World) (c : PortCall) (f g : Said World → TalkTold World) → Cuts (f (say l t c)) (g (say l t c))
       → Cuts (call_then l cut t c f) (call_then l None t c g)
-  cuts-call t c f g more = by (is_at cut (length t.calls)) refl
+  cuts-call t c f g more = by (is_it cut (length t.calls)) refl
     where
-      by : (z : Bool) → is_at cut (length t.calls) ≡ z → Cuts (cond z (told (say l t call.Fault) (end.Cut (length t.calls))) (f (say l t c))) (g (say l t c))
-      by true e = inl (at_some cut (length t.calls) e)
+      by : (z : Bool) → is_it cut (length t.calls) ≡ z → Cuts (cond z (told (say l t call.Fault) (end.Cut (length t.calls))) (f (say l t c))) (g (say l t c))
+      by true e = inl (sym (is_it-some cut (length t.calls) e))
       by false e = more
 
   cuts-ended : (stops : Bool) (t : Said World) (e : End) → cut_of e ≡ None → Cuts (ended l cut stops t e) (ended l None stops t e)
@@ -299,12 +295,12 @@ module _ (b : BoardView) (tree : IsTree b) (plain : IsPlainBoard b) (lines : Lin
             elim due [
               | inl none ↦ none
               | inr own ↦ (let h = due-told b asks some callers past c steps own in
-                  absurd (other h.verdict (some_is act (Settle h.verdict) (sym next ∙ due-settles b asks past c h))))
+                  absurd (other h.verdict (same_Some act (Settle h.verdict) (sym next ∙ due-settles b asks past c h))))
             ]
 
         may_take : (l : LockId) → (o : Option ℕ) → n.holder l ≡ o → IsNext b asks n c (Take l) → take_if o (entry.Take c l) ≡ Some e → May b callers asks n e
         may_take l None free next adds =
-            subst (λ (x : Entry). May b callers asks n x) (some_is (entry.Take c l) e adds)
+            subst (λ (x : Entry). May b callers asks n x) (same_Some (entry.Take c l) e adds)
             (known, none_due (Take l) next (λ v f. let g : Take l ≡ Settle v = f in cc), next, free, takes-below b tree plain lines asks some callers past steps c l next)
         may_take l (Some d) has next adds = absurd (let f : None ≡ Some e = adds in cc)
 
@@ -312,17 +308,17 @@ module _ (b : BoardView) (tree : IsTree b) (plain : IsPlainBoard b) (lines : Lin
         by None next adds = absurd (let f : None ≡ Some e = adds in cc)
         by (Some (Take l)) next adds = may_take l (n.holder l) refl next adds
         by (Some (Free l)) next adds =
-            subst (λ (x : Entry). May b callers asks n x) (some_is (entry.Free c l) e adds)
+            subst (λ (x : Entry). May b callers asks n x) (same_Some (entry.Free c l) e adds)
             (known, none_due (Free l) next (λ v f. let g : Free l ≡ Settle v = f in cc), next)
         by (Some (Send job left)) next adds =
-            subst (λ (x : Entry). May b callers asks n x) (some_is (message_entry b n c job left (played_talk b fails n job left)) e adds)
+            subst (λ (x : Entry). May b callers asks n x) (same_Some (message_entry b n c job left (played_talk b fails n job left)) e adds)
             (may-message c job left (played_talk b fails n job left) (next_failing b fails n job left) refl known
             (none_due (Send job left) next (λ v f. let g : Send job left ≡ Settle v = f in cc)) next)
         by (Some (Shift job)) next adds =
-            subst (λ (x : Entry). May b callers asks n x) (some_is _ e adds)
+            subst (λ (x : Entry). May b callers asks n x) (same_Some _ e adds)
             (known, none_due (Shift job) next (λ v f. let g : Shift job ≡ Settle v = f in cc), (job, next, record { of_mux = refl; to_level = refl }))
         by (Some (Settle verdict)) next adds =
-            subst (λ (x : Entry). May b callers asks n x) (some_is (entry.Settle c (reply_by verdict (asks c (n.settled c)) (n.got c)) (n.cut c)) e adds)
+            subst (λ (x : Entry). May b callers asks n x) (same_Some (entry.Settle c (reply_by verdict (asks c (n.settled c)) (n.got c)) (n.cut c)) e adds)
             (known, due, verdict, next, refl, refl)
 
   -- A JOURNAL THAT IS PLAYED
@@ -394,9 +390,9 @@ module _ (b : BoardView) (asks : Asks) (callers : ℕ) (n : Now) (fails : Failin
       by (Some (Take l)) adds = tt
       by (Some (Free l)) adds = tt
       by (Some (Settle verdict)) adds = tt
-      by (Some (Shift job)) adds = subst (λ (x : Entry). FailsAs b fails n (Some (Shift job)) x) (some_is _ e adds) refl
+      by (Some (Shift job)) adds = subst (λ (x : Entry). FailsAs b fails n (Some (Shift job)) x) (same_Some _ e adds) refl
       by (Some (Send job left)) adds =
-          subst (λ (x : Entry). FailsAs b fails n (Some (Send job left)) x) (some_is (message_entry b n c job left (played_talk b fails n job left)) e adds)
+          subst (λ (x : Entry). FailsAs b fails n (Some (Send job left)) x) (same_Some (message_entry b n c job left (played_talk b fails n job left)) e adds)
           (sym (cut_is job left (next_failing b fails n job left) refl))
 
   adds_next : (c : ℕ) (act : Act) → IsNext b asks n c act → next_entry b asks fails n c ≡ entry_by b asks fails n c (Some act)

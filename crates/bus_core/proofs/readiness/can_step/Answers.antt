@@ -8,8 +8,9 @@ use Rattle.bus_core.specs.Kept.{run_of, whole_of}
 use Rattle.bus_core.specs.Places.{walk_left, place_of}
 use Rattle.bus_core.proofs.ActionLemmas.{take-of, some-act, none-of}
 use Rattle.bus_core.proofs.Kept.{place-here, seated-here}
-use Rattle.bus_core.proofs.SeatLemmas.{there, none-told, some-told}
+use Rattle.bus_core.proofs.SeatLemmas.{none-told, some-told}
 use Rattle.bus_core.proofs.readiness.can_step.Goals as goal
+use Rattle.i2c_base.proofs.ListLemmas.{there}
 
 pub next_action-requires : goal.next_action-requires
 next_action-requires g c =

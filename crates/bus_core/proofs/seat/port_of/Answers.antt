@@ -2,10 +2,10 @@ use Rattle.std.proofs.Common.{◌≡◌, ◌<◌, ℕ, length, get_or, sym, ◌�
 use Rattle.std.proofs.lemmas.Bool.Decides.{eqb_tells}
 use Rattle.std.proofs.lemmas.List.{length-map}
 use Rattle.std.proofs.lemmas.Option.{get_or_from_slice_get, slice_get_within}
-use Rattle.core_laws.proofs.Core.{map_from}
 use Rattle.bus_core.specs.Kept.{roots_of}
 use Rattle.bus_core.proofs.SeatLemmas.{told_apart}
 use Rattle.bus_core.proofs.seat.port_of.Goals as goal
+use Rattle.i2c_base.proofs.ListLemmas.{map_from}
 
 pub loop-place-preserved : goal.loop-place-preserved
 loop-place-preserved g c =

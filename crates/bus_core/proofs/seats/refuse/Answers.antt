@@ -1,12 +1,12 @@
 use Rattle.std.proofs.Common.{◌≡◌, ◌∷◌, [], ◌++◌, length, Some, sym, ◌∙◌, ap, subst, arith}
 use Rattle.i2c_base.specs.declared.entry.Entry.{Entry}
 use Rattle.i2c_base.specs.declared.reply.Reply.TheVariants as reply
-use Rattle.bus_journal.specs.Borrowed.{bytes_replied}
 use Rattle.bus_core.specs.Kept.{roots_of}
 use Rattle.bus_core.specs.Seats.{MayRefuse, IsCounted, IsRefusedIn}
 use Rattle.bus_core.proofs.SeatLemmas.{of_read, reseated}
 use Rattle.bus_core.proofs.Reseating.{settled, settle_entry, may_end_refused, refused}
 use Rattle.bus_core.proofs.seats.refuse.Goals as goal
+use Rattle.i2c_base.specs.Need.{bytes_given}
 
 pub push-requires-clause-room : goal.push-requires-clause-room
 push-requires-clause-room g c =
@@ -54,6 +54,6 @@ returns g c =
                 ∙ ap (λ (e : Entry). c.args.journal.now.entries ++ e ∷ [])
                 (c.settle.ensures.seen ∙ settle_entry old c.decide-decided.new.self (Some c.decide-decided.result) c.reply.result.now (reply.Err c.args.errno) d.same got);
             room = c.push.ensures.room;
-            room_bytes = (let none : length c.settle.result.bytes.now ≡ 0 = ap length (c.settle.ensures.bytes ∙ ap bytes_replied got) in omega (arith, none, c.push.ensures.room_bytes));
+            room_bytes = (let none : length c.settle.result.bytes.now ≡ 0 = ap length (c.settle.ensures.bytes ∙ ap bytes_given got) in omega (arith, none, c.push.ensures.room_bytes));
           });
     }

@@ -2,15 +2,15 @@ use Rattle.std.proofs.Common.{◌≡◌, ℕ, ◌+◌, true, false, List, ◌∷
 use Rattle.std.proofs.lemmas.List.{set-get_or}
 use Rattle.i2c_base.specs.declared.entry.Entry.{Entry}
 use Rattle.i2c_base.specs.declared.errno.Errno.{Errno}
-use Rattle.bus_journal.specs.Borrowed.{bytes_replied}
 use Rattle.bus_spec.specs.Stepwise.{reply_by}
 use Rattle.bus_spec.specs.Walk.{Settle}
 use Rattle.core_laws.specs.Steps.{next_of}
 use Rattle.bus_core.specs.Places.{walk_left}
 use Rattle.bus_core.specs.Seats.{MaySettle, IsCounted, IsSettledIn}
 use Rattle.bus_core.proofs.SeatLemmas.{of_read, has_read, reseated}
-use Rattle.bus_core.proofs.Reseating.{settled, settle_entry, same_bytes}
+use Rattle.bus_core.proofs.Reseating.{settled, settle_entry}
 use Rattle.bus_core.proofs.seats.settle.Goals as goal
+use Rattle.i2c_base.specs.Need.{bytes_given}
 
 pub returns-in_default : goal.returns-in_default
 returns-in_default g c =
@@ -34,7 +34,7 @@ push-requires-clause-room_bytes g c =
     let may = of_read c.args.seats.now.items c.args.place c.requires.seat c.index_mut-seat.result.now c.requires.here c.index_mut-seat.ensures.value
     (MaySettle c.args.board.now c.args.locks.now c.args.journal.now) c.requires.is_so in
     let room = (may.room c.in-Some.verdict (c.in-Some.ensures.some c.args.board.now c.args.locks.now)).1 in
-    rw (c.settle.ensures.bytes, c.reply.ensures, c.decide-decided.ensures.reply, same_bytes) room
+    rw (c.settle.ensures.bytes, c.reply.ensures, c.decide-decided.ensures.reply) room
 
 pub pass-requires : goal.pass-requires
 pass-requires g c =
@@ -61,6 +61,6 @@ returns-clause-settled g c =
                 ∙ ap (λ (e : Entry). c.args.journal.now.entries ++ e ∷ [])
                 (c.settle.ensures.seen ∙ settle_entry old m (Some c.decide-decided.result) c.reply.result.now (reply_by verdict (Some old.transfer) old.replies.got) d.same got);
             room = c.push.ensures.room;
-            room_bytes = ap (λ (xs : List ℕ). c.push.new.self.room_bytes + length xs) (sym (c.settle.ensures.bytes ∙ ap bytes_replied got ∙ same_bytes (reply_by verdict (Some old.transfer) old.replies.got))) ∙ c.push.ensures.room_bytes;
+            room_bytes = ap (λ (xs : List ℕ). c.push.new.self.room_bytes + length xs) (sym (c.settle.ensures.bytes ∙ ap bytes_given got)) ∙ c.push.ensures.room_bytes;
           }),
     )

@@ -10,9 +10,9 @@ use Rattle.bus_core.specs.declared.parts.CoreParts.{CoreParts}
 use Rattle.bus_core.specs.declared.steps.StepAnswer.TheVariants as answer
 use Rattle.bus_core.proofs.ActionLemmas.{take-of, free-of, send-of, line-of, settle-of}
 use Rattle.bus_core.proofs.Kept.{place-here, seated-here}
-use Rattle.bus_core.proofs.SeatLemmas.{there}
 use Rattle.bus_core.proofs.steps.step.Goals.{in-Take+in_default, in-Free, in-Send, in-Line, in-Settle}
 use Rattle.bus_core.proofs.steps.step.Goals as goal
+use Rattle.i2c_base.proofs.ListLemmas.{there}
 
 pub next_action-next-requires : goal.next_action-next-requires
 next_action-next-requires g c =

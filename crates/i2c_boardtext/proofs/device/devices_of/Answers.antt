@@ -6,9 +6,9 @@ use Rattle.i2c_boardtext.specs.BoardText.{device_of, devices_of}
 use Rattle.i2c_boardtext.specs.Rows.{rows_of, IsOn}
 use Rattle.i2c_boardtext.specs.declared.fault.TableName.TheVariants.{Device}
 use Rattle.std.proofs.lemmas.List.{length-append}
-use Rattle.i2c_boardtext.proofs.RowLemmas.{All-push}
 use Rattle.i2c_base.specs.declared.board.DeviceSpec.{DeviceSpec}
 use Rattle.i2c_spec.specs.Plain.{IsPlainDevice}
+use Rattle.std.proofs.lemmas.List.Elements.{All-push}
 
 pub loop-value-preserved : goal.loop-value-preserved
 loop-value-preserved c =

@@ -7,7 +7,7 @@ use Rattle.mux_plan.specs.declared.task.Task.{Task}
 use Rattle.mux_plan.specs.declared.task.Task.TheVariants.{Lock}
 use Rattle.mux_plan.specs.declared.task.Work.TheVariants as work
 use Rattle.mux_plan.specs.Plans.{CourseView, came_of, tree_of}
-use Rattle.mux_plan.proofs.OpensFit.{length-messages}
+use Rattle.i2c_spec.proofs.MessageLemmas.{length-messages}
 use Rattle.mux_plan.proofs.walk.Walk.begin.Goals as goal
 
 pub returns-clause-count : goal.returns-clause-count

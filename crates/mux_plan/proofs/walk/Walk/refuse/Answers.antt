@@ -2,7 +2,7 @@ use Rattle.std.proofs.Common.{List, length, sym, ◌∙◌, ap}
 use Rattle.i2c_spec.specs.Messages.{messages_of}
 use Rattle.mux_plan.specs.declared.task.Task.{Task}
 use Rattle.mux_plan.specs.Plans.{CourseView, came_of, tree_of}
-use Rattle.mux_plan.proofs.OpensFit.{length-messages}
+use Rattle.i2c_spec.proofs.MessageLemmas.{length-messages}
 use Rattle.mux_plan.proofs.walk.Walk.refuse.Goals as goal
 
 pub returns-clause-count : goal.returns-clause-count
