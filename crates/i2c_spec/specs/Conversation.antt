@@ -40,6 +40,7 @@ abbrev pub is_it : Option ℕ → ℕ → Bool
 is_it None n = false
 is_it (Some k) n = k == n
 
+-- a message before its first call, and with one call more
 abbrev pub silence : {W : Type 0} → W → Said W
 silence w = record { calls = []; bytes = []; now = w }
 

@@ -19,6 +19,11 @@ words_between is_gap (b ∷ bs) =
     else if begins_with_word is_gap bs then onto_first b (words_between is_gap bs)
     else (b ∷ []) ∷ words_between is_gap bs
 
+-- a text without the gaps with which it begins
+abbrev pub behind_gaps : (ℕ → Bool) → List ℕ → List ℕ
+behind_gaps is_gap [] = []
+behind_gaps is_gap (b ∷ bs) = if is_gap b then behind_gaps is_gap bs else b ∷ bs
+
 -- so many bytes stand before the first gap
 abbrev pub gap_at : (ℕ → Bool) → List ℕ → ℕ
 gap_at is_gap [] = 0

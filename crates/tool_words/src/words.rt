@@ -1,5 +1,5 @@
-ghost use Rattle.std.specs.Prelude.{◌≡◌, ℕ, ◌<◌, ◌≤◌, Bool, ◌∷◌, true, length};
-ghost use Rattle.tool_words.specs.Words.{begins_with_word, words_between, gap_at};
+ghost use Rattle.std.specs.Prelude.{◌≡◌, ℕ, ◌<◌, ◌≤◌, Bool, ◌∷◌, true, length, take, drop};
+ghost use Rattle.tool_words.specs.Words.{begins_with_word, behind_gaps, words_between, gap_at};
 
 /// The bytes that stand between the words of a text.
 pub trait Gap {
@@ -30,6 +30,8 @@ fn gap_at<G: Gap>(text: &[u8]) -> usize
 #[tactic(auto, using(crate::proofs::WordLemmas::words_first, crate::proofs::WordLemmas::some_len))]
 pub fn first_word<G: Gap>(text: &[u8]) -> (&[u8], &[u8])
     requires { begins_with_word G.gaps text.now ≡ true }
+    ensures word { result.0.now ≡ take (gap_at G.gaps text.now) text.now }
+    ensures behind { result.1.now ≡ drop (gap_at G.gaps text.now) text.now }
     ensures split { words_between G.gaps text.now ≡ result.0.now ∷ words_between G.gaps result.1.now }
     ensures shorter { length result.1.now < length text.now }
 {
@@ -39,6 +41,7 @@ pub fn first_word<G: Gap>(text: &[u8]) -> (&[u8], &[u8])
 
 /// A text without the gaps with which it begins.
 pub fn skip_gaps<G: Gap>(text: &[u8]) -> &[u8]
+    ensures value { result.now ≡ behind_gaps G.gaps text.now }
     ensures words { words_between G.gaps result.now ≡ words_between G.gaps text.now }
     ensures begins { 0 < length result.now → begins_with_word G.gaps result.now ≡ true }
     ensures within { length result.now ≤ length text.now }
