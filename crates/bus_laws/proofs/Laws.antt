@@ -1,4 +1,4 @@
--- The laws that the crates above cite, each passed on from the file that proves it.
+-- Laws that crates above cite, each passed on from the file that proves it. Others are cited from their files.
 pub use Rattle.bus_laws.proofs.past.Asked.{settled-told}
 pub use Rattle.bus_laws.proofs.past.Marks.{mark-there}
 pub use Rattle.bus_laws.proofs.past.Known.{callers-known, does-next}

@@ -1,4 +1,4 @@
--- The laws that the crates above cite.
+-- Laws that crates above cite.
 pub mod Laws
 -- The tree law: what a walk keeps of locks and slots, whatever its steps give.
 pub mod tree

@@ -1,4 +1,4 @@
--- The laws that the crates above cite.
+-- Laws that crates above cite.
 pub mod Laws
 -- The devices and the replies of a whole past are those of the flat world.
 pub mod device
