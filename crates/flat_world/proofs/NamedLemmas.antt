@@ -10,7 +10,7 @@ use Rattle.i2c_base.specs.Board.{BoardView, DeviceView}
 use Rattle.i2c_base.specs.Limits.{MOST_DEVICES}
 use Rattle.i2c_base.specs.declared.tree.Grant.{Grant}
 use Rattle.i2c_base.specs.declared.tree.Grant.TheVariants as grant
-use Rattle.i2c_spec.specs.Tree.{is_on_path, is_below}
+use Rattle.i2c_spec.specs.Tree.{is_on_path, is_below, is_aside}
 use Rattle.i2c_spec.specs.Grant.{grant_of, named_by, some_chip, some_device, some_bound}
 use Rattle.i2c_spec.specs.Plain.{IsPlainBoard}
 use Rattle.i2c_spec.specs.Flat.{is_member}
@@ -109,18 +109,18 @@ by_place : (n : ℕ) (o : Option ℕ) → IfSome o (λ d. d < 0 + n) → IsBelow
 by_place n None p = tt
 by_place n (Some d) p = omega (arith, p)
 
-by_tests : (n : ℕ) (g : Grant) (p q r : Bool) → IsBelow n g → IsBelow n (cond p grant.Busy (cond q grant.Busy (cond r grant.Busy g)))
-by_tests n g true q r h = tt
-by_tests n g false true r h = tt
-by_tests n g false false true h = tt
-by_tests n g false false false h = h
+or_busy : (n : ℕ) (g : Grant) (test : Bool) → IsBelow n g → IsBelow n (cond test grant.Busy g)
+or_busy n g true h = tt
+or_busy n g false h = h
 
 pub granted_small : (b : BoardView) (s a : ℕ) (force : Bool) (d : ℕ) → IsPlainBoard b → grant_of b s a force ≡ grant.Named d → d < MOST_DEVICES
 granted_small b s a force d plain e =
     let n = length b.devices in
     let test : DeviceView → Bool = λ x. eqb x.addr a && is_on_path b s x.bus in
     let within : IsBelow n (grant_of b s a force) =
-    by_tests n (named_by (position_from test 0 b.devices)) (some_chip b a (is_on_path b s)) (some_chip b a (λ u. is_below b u s) || some_device b a (λ u. is_below b u s))
-    (not force && some_bound b a (is_on_path b s)) (by_place n (position_from test 0 b.devices) (position_below test 0 b.devices)) in
+    or_busy n _ (some_chip b a (is_on_path b s))
+    (or_busy n _ (some_chip b a (λ u. is_below b u s) || some_device b a (λ u. is_below b u s))
+    (or_busy n _ (some_chip b a (is_aside b s) || some_device b a (is_aside b s))
+    (or_busy n _ (not force && some_bound b a (is_on_path b s)) (by_place n (position_from test 0 b.devices) (position_below test 0 b.devices))))) in
     let here : d < n = subst (IsBelow n) e within in
     omega (arith, here, plain.most_devices)

@@ -1,3 +1,4 @@
+//! What each kind of mux is like, in one row of facts.
 ghost use Rattle.std.specs.Prelude.{◌≡◌, ◌≤◌};
 ghost use Rattle.i2c_base.specs.Muxes.{facts_of, switch_of, IsNarrowCode};
 
@@ -31,6 +32,8 @@ pub struct MuxFacts {
     pub asks: bool,
     /// It has to be parent-locked (Linux i2c-topology).
     pub wants_parent: bool,
+    /// It may keep its last channel when idle.
+    pub may_stay: bool,
 }
 
 // A switch of so many channels, one bit for each.
@@ -44,6 +47,7 @@ fn switch_of(channels: u8) -> MuxFacts
         by_line: false,
         asks: false,
         wants_parent: false,
+        may_stay: true,
     }
 }
 
@@ -64,6 +68,7 @@ impl MuxKind {
                 by_line: false,
                 asks: false,
                 wants_parent: false,
+                may_stay: true,
             },
             MuxKind::Pca9541 => MuxFacts {
                 channels: Some(1),
@@ -72,6 +77,7 @@ impl MuxKind {
                 by_line: false,
                 asks: true,
                 wants_parent: true,
+                may_stay: false,
             },
             MuxKind::Gpio => MuxFacts {
                 channels: None,
@@ -80,6 +86,7 @@ impl MuxKind {
                 by_line: true,
                 asks: false,
                 wants_parent: true,
+                may_stay: false,
             },
         }
     }

@@ -1,4 +1,5 @@
 pub mod AddressLemmas
+pub mod AsideLemmas
 pub mod ByteLemmas
 pub mod CostLemmas
 pub mod EepromLemmas
@@ -13,3 +14,4 @@ pub mod SmbusLemmas
 pub mod StateLemmas
 pub mod TreeLemmas
 pub mod SendLemmas
+pub mod IdleLemmas

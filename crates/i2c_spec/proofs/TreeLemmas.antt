@@ -9,7 +9,7 @@ use Rattle.std.proofs.lemmas.Option.{slice_get_within, same_Some}
 use Rattle.i2c_base.specs.declared.board.MuxKind.{MuxKind}
 use Rattle.i2c_base.specs.declared.board.MuxSpec.{MuxSpec}
 use Rattle.i2c_base.specs.Board.{BoardView}
-use Rattle.i2c_spec.specs.Tree.{of_mux, Hop, hops, buses, buses_of, hop_at, hops_of, end_of, root_of, is_parent, Crosses, IsAmongHops, IsApart, IsOver, is_below}
+use Rattle.i2c_spec.specs.Tree.{of_mux, Hop, hops, buses, buses_of, hop_at, hops_of, end_of, root_of, is_parent, is_staying, Crosses, IsAmongHops, IsApart, IsOver, is_below}
 use Rattle.i2c_spec.specs.Plain.{IsPlanted}
 use Rattle.i2c_spec.specs.TreeFacts.{IsHop}
 use Rattle.i2c_spec.proofs.HopLemmas.{buses_of-cons, buses_of-reverse, hops_of-cross, hops_of-pass}
@@ -83,7 +83,7 @@ end_is roots (m ∷ before) s planted there =
     ]
 
 -- over a root is no hop
-root_hops_of : (roots : ℕ) (ms : List MuxSpec) (s : ℕ) → s < roots → hops_of roots ms s ≡ []
+pub root_hops_of : (roots : ℕ) (ms : List MuxSpec) (s : ℕ) → s < roots → hops_of roots ms s ≡ []
 root_hops_of roots [] s root = refl
 root_hops_of roots (m ∷ before) s root =
     hops_of-pass roots m before s (omega arith) ∙ root_hops_of roots before s root
@@ -100,6 +100,7 @@ record IsHopIn (roots : ℕ) (inside : Type 0) (muxes : List MuxSpec) (h : Hop) 
   pub on : spec.bus ≡ h.on
   pub parent : is_parent spec.lock ≡ h.parent
   pub kind : spec.kind ≡ h.kind
+  pub stays : is_staying spec.idle ≡ h.stays
   pub bus : h.bus ≡ buses_of roots (take h.mux muxes) + h.channel
   pub bound : inside → h.channel < spec.channels
 
@@ -123,6 +124,7 @@ IsHopIn_more roots inner outer muxes m h into is =
       on = is.on;
       parent = is.parent;
       kind = is.kind;
+      stays = is.stays;
       bus = is.bus ∙ ap (λ ms. buses_of roots ms + h.channel) (sym (take-append-le h.mux muxes (m ∷ []) (omega arith)));
       bound = λ o. is.bound (into o);
     }
@@ -140,6 +142,7 @@ IsHopIn_here roots before m s cross =
       on = refl;
       parent = refl;
       kind = refl;
+      stays = refl;
       bus =
           let first : buses_of roots (take (length before) (reverse before ++ m ∷ [])) ≡ buses_of roots before =
           ap (buses_of roots) front ∙ buses_of-reverse roots before in
@@ -170,17 +173,17 @@ hop_is roots (m ∷ before) s h planted among =
     ])
 
 -- hops are the same where their parts are
-hop_of_parts : ℕ → ℕ → ℕ → ℕ → Bool → MuxKind → Hop
-hop_of_parts bus mux channel on parent kind = record { bus = bus; mux = mux; channel = channel; on = on; parent = parent; kind = kind }
+hop_of_parts : ℕ → ℕ → ℕ → ℕ → Bool → MuxKind → Bool → Hop
+hop_of_parts bus mux channel on parent kind stays = record { bus = bus; mux = mux; channel = channel; on = on; parent = parent; kind = kind; stays = stays }
 
 same_parts : (g h : Hop) → g.mux ≡ h.mux → g.channel ≡ h.channel → g.bus ≡ h.bus → g.on ≡ h.on → g.parent ≡ h.parent
-    → g.kind ≡ h.kind → hop_of_parts g.bus g.mux g.channel g.on g.parent g.kind ≡ hop_of_parts h.bus h.mux h.channel h.on h.parent h.kind
-same_parts g h mux channel bus on parent kind = cc
+    → g.kind ≡ h.kind → g.stays ≡ h.stays → hop_of_parts g.bus g.mux g.channel g.on g.parent g.kind g.stays ≡ hop_of_parts h.bus h.mux h.channel h.on h.parent h.kind h.stays
+same_parts g h mux channel bus on parent kind stays = cc
 
 same_hop : (g h : Hop) → g.mux ≡ h.mux → g.channel ≡ h.channel → g.bus ≡ h.bus → g.on ≡ h.on → g.parent ≡ h.parent
-    → g.kind ≡ h.kind → g ≡ h
+    → g.kind ≡ h.kind → g.stays ≡ h.stays → g ≡ h
 unfolding hop_of_parts
-same_hop g h mux channel bus on parent kind = same_parts g h mux channel bus on parent kind
+same_hop g h mux channel bus on parent kind stays = same_parts g h mux channel bus on parent kind stays
 
 module _ (b : BoardView) (planted : IsPlanted (length b.roots) (reverse b.muxes)) where
   hop_in : (s : ℕ) (h : Hop) → IsAmongHops h (hops b s) → IsHopIn (length b.roots) (s < buses b) b.muxes h
@@ -220,6 +223,7 @@ module _ (b : BoardView) (planted : IsPlanted (length b.roots) (reverse b.muxes)
         home = rw found is.on;
         parent = rw found (ap Some is.parent);
         kind = rw found (ap Some is.kind);
+        stays = rw found is.stays;
       }
 
   pub tree_within : (s : ℕ) (h : Hop) → s < buses b → IsAmongHops h (hops b s) → h.channel < of_mux (λ m. m.channels) 0 b h.mux
@@ -240,6 +244,7 @@ module _ (b : BoardView) (planted : IsPlanted (length b.roots) (reverse b.muxes)
       (sym one.on ∙ ap (λ (m : MuxSpec). m.bus) spec ∙ other.on)
       (sym one.parent ∙ ap (λ (m : MuxSpec). is_parent m.lock) spec ∙ other.parent)
       (sym one.kind ∙ ap (λ (m : MuxSpec). m.kind) spec ∙ other.kind)
+      (sym one.stays ∙ ap (λ (m : MuxSpec). is_staying m.idle) spec ∙ other.stays)
 
   pub tree_root_over : (s : ℕ) → IsOver b (root_of b s) s
   tree_root_over s = end_over s (hops b s)

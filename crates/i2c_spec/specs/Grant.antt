@@ -6,7 +6,7 @@ use Rattle.i2c_base.specs.declared.tree.Grant.TheVariants as grant
 use Rattle.i2c_base.specs.declared.tree.Way.{Way}
 use Rattle.i2c_base.specs.declared.tree.Way.TheVariants as way
 use Rattle.i2c_base.specs.Board.{BoardView}
-use Rattle.i2c_spec.specs.Tree.{Hop, hops, is_on_path, is_below, is_absent, is_held}
+use Rattle.i2c_spec.specs.Tree.{Hop, hops, is_on_path, is_below, is_aside, is_absent, is_held}
 
 abbrev pub has_address : ℕ → Option ℕ → Bool
 has_address a None = false
@@ -26,13 +26,15 @@ abbrev pub named_by : Option ℕ → Grant
 named_by None = grant.Nobody
 named_by (Some d) = grant.Named d
 
--- An address on a bus is busy where a mux chip on the path has it, or a chip or device below the bus, or, unless
--- forced, a bound device on the path; else it leads to the device on the path that has it, or to nobody.
+-- An address on a bus is busy where a mux chip on the path has it, or a chip or device below the bus, or one behind a mux
+-- beside the path that stays as it is, or, unless forced, a bound device on the path; else it leads to the device on the path
+-- that has it, or to nobody.
 -- (Linux i2c-core: i2c_check_addr_busy looks at the parents and the children of an adapter in the same way.)
 abbrev pub grant_of : BoardView → ℕ → ℕ → Bool → Grant
 grant_of b s a force =
     if some_chip b a (is_on_path b s) then grant.Busy
     else if some_chip b a (λ u. is_below b u s) || some_device b a (λ u. is_below b u s) then grant.Busy
+    else if some_chip b a (is_aside b s) || some_device b a (is_aside b s) then grant.Busy
     else if not force && some_bound b a (is_on_path b s) then grant.Busy
     else named_by (position_from (λ d. (d.addr == a) && is_on_path b s d.bus) 0 b.devices)
 

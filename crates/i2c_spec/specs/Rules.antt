@@ -1,18 +1,16 @@
 -- Which boards are accepted: the five topology rules (after the warnings of Linux i2c-topology), each a sentence
 -- over pairs of items or over single items. Items are the muxes in file order, then the devices.
-use Rattle.std.specs.Prelude.{◌≡◌, ℕ, ◌+◌, ◌-◌, ◌<◌, ◌≤◌, ◌==◌, nat_lt, nat_le, Bool, true, false, not, ◌&&◌, List, [], length, reverse, slice_get, Option, Some, None, if◌then◌else◌}
+use Rattle.std.specs.Prelude.{◌≡◌, ℕ, zero, suc, ◌+◌, ◌-◌, ◌<◌, ◌≤◌, ◌==◌, nat_lt, nat_le, Bool, true, false, not, ◌&&◌, ◌||◌, List, [], length, reverse, slice_get, Option, Some, None, if◌then◌else◌}
 use Rattle.std.specs.List.{filter}
 use Rattle.std.specs.Option.{option_map}
 use Rattle.i2c_base.specs.declared.board.MuxKind.{MuxKind}
-use Rattle.i2c_base.specs.declared.board.Idle.{Idle}
-use Rattle.i2c_base.specs.declared.board.Idle.TheVariants.{Disconnect, AsIs}
 use Rattle.i2c_base.specs.declared.rules.Item.{Item}
 use Rattle.i2c_base.specs.declared.rules.Item.TheVariants as item
 use Rattle.i2c_base.specs.declared.rules.RuleBroken.{RuleBroken}
 use Rattle.i2c_base.specs.Board.{BoardView}
 use Rattle.i2c_base.specs.Limits.{MOST_DEPTH}
 use Rattle.i2c_base.specs.Muxes.{facts_of}
-use Rattle.i2c_spec.specs.Tree.{Hop, hops, depth, is_parent, is_along, of_mux, of_device}
+use Rattle.i2c_spec.specs.Tree.{Hop, hops, root_of, crosses_mux, depth, is_parent, is_along, is_left_open, of_mux, of_device}
 
 abbrev pub items : BoardView → ℕ
 items b = length b.muxes + length b.devices
@@ -54,13 +52,27 @@ wants_parent k = (facts_of k).wants_parent
 abbrev pub is_wrongly_locked : BoardView → ℕ → Bool
 is_wrongly_locked b m = of_mux (λ x. wants_parent x.kind && not (is_parent x.lock)) false b m
 
--- Rule 5, every mux disconnects when idle: a mux that stays as it is
-abbrev pub stays : Idle → Bool
-stays Disconnect = false
-stays AsIs = true
+-- Rule 5, a mux that stays as it is is a switch, and no address below it stands outside it on the same root. One of the
+-- first n passes
+abbrev pub some_below : (ℕ → Bool) → ℕ → Bool
+some_below test zero = false
+some_below test (suc n) = some_below test n || test n
 
-abbrev pub is_left_open : BoardView → ℕ → Bool
-is_left_open b m = of_mux (λ x. stays x.idle) false b m
+-- item i is below mux m; item j of the same root isn't, and has its address
+abbrev pub is_shared : BoardView → ℕ → ℕ → ℕ → Bool
+is_shared b m i j =
+    is_same_address (addr_at b i) (addr_at b j)
+    && ((root_of b (home_at b i) == root_of b (home_at b j)) && (crosses_mux m (hops b (home_at b i)) && not (crosses_mux m (hops b (home_at b j)))))
+
+abbrev pub stands_outside : BoardView → ℕ → ℕ → Bool
+stands_outside b m i = some_below (is_shared b m i) (items b)
+
+abbrev pub may_stay : BoardView → ℕ → Bool
+may_stay b m = of_mux (λ x. (facts_of x.kind).may_stay) true b m
+
+-- a mux that stays as it is, though its kind may not, or though an address below it stands outside
+abbrev pub breaks_idle : BoardView → ℕ → Bool
+breaks_idle b m = is_left_open b m && (not (may_stay b m) || some_below (stands_outside b m) (items b))
 
 -- no two items, no mux
 abbrev pub NoPair : (ℕ → ℕ → Bool) → ℕ → Type 0
@@ -75,7 +87,7 @@ pub record MeetsRules (b : BoardView) : Type 0 where
   pub depths : NoneOf (is_too_deep b) (length b.muxes)
   pub locks : NoneOf (is_locked_under b) (length b.muxes)
   pub parents : NoneOf (is_wrongly_locked b) (length b.muxes)
-  pub idles : NoneOf (is_left_open b) (length b.muxes)
+  pub idles : NoneOf (breaks_idle b) (length b.muxes)
 
 -- the first pair at fault has the least first item, then the least second; a single item is the least
 pub record IsFirstPair (test : ℕ → ℕ → Bool) (n i j : ℕ) : Type 0 where
@@ -94,15 +106,22 @@ pub record IsFirstOne (test : ℕ → Bool) (n i : ℕ) : Type 0 where
 abbrev pub last_mux : List Hop → Option ℕ
 last_mux hs = option_map (λ h. h.mux) (slice_get (reverse hs) 0)
 
+-- what rule 5 names beside mux i: the mux again where its kind may not stay, else the first item below it whose address
+-- stands outside
+pub record SecondOf (b : BoardView) (i j : ℕ) : Type 0 where
+  pub again : may_stay b i ≡ false → j ≡ i
+  pub shared : may_stay b i ≡ true → IsFirstOne (stands_outside b i) (items b) j
+
 -- this rule is the first that the board breaks, and these are its items: of rule 1 the two that clash, of rule 3
--- the mux-locked mux nearest the root and the parent-locked one, of the others the mux, twice
+-- the mux-locked mux nearest the root and the parent-locked one, of rule 5 the mux and what it names, of the others the
+-- mux, twice
 pub record IsFirstBroken (b : BoardView) (rule i j : ℕ) : Type 0 where
   pub known : (1 ≤ rule) × (rule ≤ 5)
   pub first : rule ≡ 1 → IsFirstPair (clashes b) (items b) i j
   pub second : rule ≡ 2 → IsFirstOne (is_too_deep b) (length b.muxes) j × (i ≡ j)
   pub third : rule ≡ 3 → IsFirstOne (is_locked_under b) (length b.muxes) j × (last_mux (locked_over b j) ≡ Some i)
   pub fourth : rule ≡ 4 → IsFirstOne (is_wrongly_locked b) (length b.muxes) j × (i ≡ j)
-  pub fifth : rule ≡ 5 → IsFirstOne (is_left_open b) (length b.muxes) j × (i ≡ j)
+  pub fifth : rule ≡ 5 → IsFirstOne (breaks_idle b) (length b.muxes) i × SecondOf b i j
   -- the rules before it hold
   pub addresses_hold : 1 < rule → NoPair (clashes b) (items b)
   pub depths_hold : 2 < rule → NoneOf (is_too_deep b) (length b.muxes)

@@ -1,11 +1,13 @@
 -- The board as a tree of buses (Linux i2c-topology). Buses are numbered: the roots first, then each mux's
 -- channels, in the order of the board file.
-use Rattle.std.specs.Prelude.{◌≡◌, ℕ, ◌+◌, ◌-◌, ◌==◌, nat_le, nat_lt, Bool, true, false, ◌||◌, ◌⊎◌, List, [], ◌∷◌, length, map, reverse, Option, None, Some, unwrap_or, slice_get, if◌then◌else◌}
+use Rattle.std.specs.Prelude.{◌≡◌, ℕ, ◌+◌, ◌-◌, ◌==◌, nat_le, nat_lt, Bool, true, false, not, ◌&&◌, ◌||◌, ◌⊎◌, List, [], ◌∷◌, length, map, reverse, Option, None, Some, unwrap_or, slice_get, if◌then◌else◌}
 use Rattle.std.specs.Option.{option_map}
 use Rattle.std.specs.List.{sum_by, list_any}
 use Rattle.i2c_base.specs.declared.board.LockMode.{LockMode}
 use Rattle.i2c_base.specs.declared.board.LockMode.TheVariants.{Parent, Mux}
 use Rattle.i2c_base.specs.declared.board.MuxKind.{MuxKind}
+use Rattle.i2c_base.specs.declared.board.Idle.{Idle}
+use Rattle.i2c_base.specs.declared.board.Idle.TheVariants.{Disconnect, AsIs}
 use Rattle.i2c_base.specs.declared.board.MuxSpec.{MuxSpec}
 use Rattle.i2c_base.specs.declared.ids.LockId.{LockId}
 use Rattle.i2c_base.specs.declared.ids.LockId.TheVariants as lock
@@ -23,6 +25,8 @@ pub record Hop : Type 0 where
   -- it is parent-locked
   pub parent : Bool
   pub kind : MuxKind
+  -- it stays as it is when idle
+  pub stays : Bool
 
 -- how many buses there are with these muxes
 abbrev pub buses_of : ℕ → List MuxSpec → ℕ
@@ -35,10 +39,15 @@ abbrev pub is_parent : LockMode → Bool
 is_parent Parent = true
 is_parent Mux = false
 
+-- the mux keeps its last channel when idle
+abbrev pub is_staying : Idle → Bool
+is_staying Disconnect = false
+is_staying AsIs = true
+
 -- the hop over bus s, which is a channel of the mux that comes behind these muxes
 abbrev pub hop_at : ℕ → List MuxSpec → MuxSpec → ℕ → Hop
 hop_at roots before m s =
-    record { bus = s; mux = length before; channel = s - buses_of roots before; on = m.bus; parent = is_parent m.lock; kind = m.kind }
+    record { bus = s; mux = length before; channel = s - buses_of roots before; on = m.bus; parent = is_parent m.lock; kind = m.kind; stays = is_staying m.idle }
 
 -- one more in front, where the test says so
 abbrev pub put_if : {X : Type 0} → Bool → X → List X → List X
@@ -91,6 +100,18 @@ is_on_path b s u = (u == s) || is_below b s u
 abbrev pub is_along : BoardView → ℕ → ℕ → Bool
 is_along b s t = is_on_path b s t || is_on_path b t s
 
+-- these hops cross mux m
+abbrev pub crosses_mux : ℕ → List Hop → Bool
+crosses_mux m hs = list_any (λ h. h.mux == m) hs
+
+-- a hop through a mux that stays as it is, and isn't over the path of s
+abbrev pub is_kept_hop : BoardView → ℕ → Hop → Bool
+is_kept_hop b s h = h.stays && not (crosses_mux h.mux (hops b s))
+
+-- bus u is aside of s: on the same root, below a mux that stays as it is and isn't over the path of s
+abbrev pub is_aside : BoardView → ℕ → ℕ → Bool
+is_aside b s u = (root_of b u == root_of b s) && list_any (is_kept_hop b s) (hops b u)
+
 -- what the board says of mux m
 abbrev pub of_mux : {X : Type 0} → (MuxSpec → X) → X → BoardView → ℕ → X
 of_mux f missing b m = unwrap_or (option_map f (slice_get b.muxes m)) missing
@@ -101,6 +122,10 @@ is_absent b m = of_mux (λ x. x.absent) true b m
 
 abbrev pub is_held : BoardView → ℕ → Bool
 is_held b m = of_mux (λ x. x.foreign == POLLS) false b m
+
+-- it stays as it is when idle
+abbrev pub is_left_open : BoardView → ℕ → Bool
+is_left_open b m = of_mux (λ x. is_staying x.idle) false b m
 
 -- the bus that it stands on, and its address
 abbrev pub home_of_mux : BoardView → ℕ → ℕ
@@ -134,6 +159,10 @@ IsOver b u t = (u ≡ t) ⊎ Crosses u (hops b t)
 
 abbrev pub IsAlong : BoardView → ℕ → ℕ → Type 0
 IsAlong b s t = IsOver b s t ⊎ IsOver b t s
+
+-- what may be joined while a message is sent on bus s: what lies along it, and what is aside of it
+abbrev pub MayJoin : BoardView → ℕ → ℕ → Type 0
+MayJoin b s u = IsAlong b s u ⊎ (is_aside b s u ≡ true)
 
 -- no two of these hops stand on one bus
 abbrev pub IsApart : List Hop → Type 0

@@ -1,4 +1,5 @@
-ghost use Rattle.std.specs.Prelude.{◌≡◌, ◌==◌, ◌&&◌, option_map};
+//! To whom an address on a bus leads.
+ghost use Rattle.std.specs.Prelude.{◌≡◌, ◌==◌, ◌&&◌, ◌||◌, option_map};
 ghost use Rattle.std.specs.List.{position_from};
 ghost use Rattle.i2c_spec.specs.Grant as spec;
 
@@ -8,11 +9,11 @@ use i2c_base::{Addr, DevId, Grant, SegId};
 impl Layout<'_> {
     ghost use Rattle.i2c_spec.specs.Layouts.{board_of};
     ghost use Rattle.i2c_spec.specs.Plain.{IsPlainBoard};
-    ghost use Rattle.i2c_spec.specs.Tree.{is_below, is_on_path};
+    ghost use Rattle.i2c_spec.specs.Tree.{is_aside, is_below, is_on_path};
     ghost use Rattle.i2c_spec.specs.Grant.{grant_of, some_chip, some_device, some_bound};
 
-    /// To whom an address on a bus leads. It is busy where a mux chip on the path has it, or a chip or device
-    /// below the bus, or, unless forced, a bound device on the path.
+    /// To whom an address on a bus leads. It is busy where a mux chip on the path has it, or a chip or device below the bus, or
+    /// one behind a mux beside the path that stays as it is, or, unless forced, a bound device on the path.
     pub fn grant(&self, seg: SegId, addr: Addr, force: bool) -> Grant
         requires { IsPlainBoard (board_of self.now) }
         ensures { result ≡ grant_of (board_of self.now) seg addr force }
@@ -20,6 +21,7 @@ impl Layout<'_> {
         if self.chip_on_path(seg, addr)
             || self.chip_below(seg, addr)
             || self.device_below(seg, addr)
+            || self.is_used_aside(seg, addr)
         {
             return Grant::Busy;
         }
@@ -51,6 +53,31 @@ impl Layout<'_> {
         ensures { result ≡ some_device (board_of self.now) addr (λ u. is_below (board_of self.now) u seg) }
     {
         self.devices.iter().any(|device| device.addr == addr && self.is_below(device.bus, seg))
+    }
+
+    // A chip or a device aside of the bus has the address. Few boards have a mux that stays as it is.
+    fn is_used_aside(&self, seg: SegId, addr: Addr) -> bool
+        requires { IsPlainBoard (board_of self.now) }
+        ensures { result ≡ some_chip (board_of self.now) addr (is_aside (board_of self.now) seg) || some_device (board_of self.now) addr (is_aside (board_of self.now) seg) }
+    {
+        if !self.has_staying() {
+            return false;
+        }
+        self.chip_aside(seg, addr) || self.device_aside(seg, addr)
+    }
+
+    fn chip_aside(&self, seg: SegId, addr: Addr) -> bool
+        requires { IsPlainBoard (board_of self.now) }
+        ensures { result ≡ some_chip (board_of self.now) addr (is_aside (board_of self.now) seg) }
+    {
+        self.muxes.iter().any(|mux| has_address(addr, mux.addr) && self.is_aside(seg, mux.bus))
+    }
+
+    fn device_aside(&self, seg: SegId, addr: Addr) -> bool
+        requires { IsPlainBoard (board_of self.now) }
+        ensures { result ≡ some_device (board_of self.now) addr (is_aside (board_of self.now) seg) }
+    {
+        self.devices.iter().any(|device| device.addr == addr && self.is_aside(seg, device.bus))
     }
 
     fn bound_on_path(&self, seg: SegId, addr: Addr) -> bool

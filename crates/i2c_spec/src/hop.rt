@@ -1,3 +1,4 @@
+//! A step of a path: the mux between a bus and the one that it stands on.
 ghost use Rattle.std.specs.Prelude.{◌≡◌};
 
 use i2c_base::{MuxId, MuxKind, SegId};
@@ -16,6 +17,8 @@ pub struct Hop {
     /// The mux is parent-locked.
     pub parent: bool,
     pub kind: MuxKind,
+    /// The mux keeps its last channel when idle.
+    pub stays: bool,
 }
 
 impl Model for Hop {
@@ -23,9 +26,9 @@ impl Model for Hop {
 
     ghost Value = { HopView };
 
-    ghost view = { λ h. record { bus = h.bus; mux = h.mux; channel = h.channel; on = h.on; parent = h.parent; kind = h.kind } };
+    ghost view = { λ h. record { bus = h.bus; mux = h.mux; channel = h.channel; on = h.on; parent = h.parent; kind = h.kind; stays = h.stays } };
 
-    ghost inverse = { λ h. record { bus = h.bus; mux = h.mux; channel = h.channel; on = h.on; parent = h.parent; kind = h.kind } };
+    ghost inverse = { λ h. record { bus = h.bus; mux = h.mux; channel = h.channel; on = h.on; parent = h.parent; kind = h.kind; stays = h.stays } };
 }
 
 /// The blank of an unused place.
@@ -38,6 +41,7 @@ impl Default for Hop {
             on: SegId(0),
             parent: false,
             kind: MuxKind::Gpio,
+            stays: false,
         }
     }
 }

@@ -1,9 +1,10 @@
+//! The parts of a board, borrowed, over which the calls of its tree are made.
 ghost use Rattle.std.specs.Prelude.{◌≡◌, ◌<◌, ◌^◌};
 ghost use Rattle.i2c_spec.specs.Tree as spec;
 
 use crate::Hop;
 use arrayvec::ArrayVec;
-use i2c_base::{DeviceSpec, LockMode, MOST_MUXES, MuxId, MuxSpec, RootSpec, SegId};
+use i2c_base::{DeviceSpec, Idle, LockMode, MOST_MUXES, MuxId, MuxSpec, RootSpec, SegId};
 
 /// The parts of a board, borrowed: what the tree, the grant of an address and the topology rules read of it.
 #[derive(Clone, Copy)]
@@ -60,11 +61,19 @@ impl Layout<'_> {
                     on: mux.bus,
                     parent: is_parent(mux.lock),
                     kind: mux.kind,
+                    stays: is_staying(mux.idle),
                 });
                 at = mux.bus;
             }
         }
     }
+}
+
+/// The mux keeps its last channel when idle.
+pub(crate) fn is_staying(idle: Idle) -> bool
+    ensures { result ≡ spec.is_staying idle }
+{
+    matches!(idle, Idle::AsIs)
 }
 
 /// The mux is parent-locked.

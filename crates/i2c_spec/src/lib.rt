@@ -14,6 +14,7 @@ mod fair_targets;
 mod flat_world;
 mod grant;
 mod hop;
+mod idle;
 mod laws;
 mod layout;
 mod smbus_row;

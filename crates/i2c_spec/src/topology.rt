@@ -1,9 +1,10 @@
+//! The topology rules, and the first that a board breaks.
 ghost use Rattle.std.specs.Prelude.{◌≡◌, ◌<◌, IfNone, IfSome, length};
 ghost use Rattle.i2c_spec.specs.Rules as spec;
 
 use crate::Layout;
 use crate::layout::is_parent;
-use i2c_base::{Addr, DevId, Idle, Item, MOST_DEPTH, MuxId, RuleBroken, SegId};
+use i2c_base::{Addr, DevId, Item, MOST_DEPTH, MuxId, RuleBroken, SegId};
 
 /// The topology rules over single muxes.
 #[derive(Clone, Copy)]
@@ -14,7 +15,7 @@ enum MuxRule {
     Lock,
     /// Rule 4: gpio muxes and arbitrators are parent-locked.
     Parent,
-    /// Rule 5: every mux disconnects when idle.
+    /// Rule 5: a mux that stays as it is is a switch, and no address below it stands outside it.
     Idle,
 }
 
@@ -53,7 +54,12 @@ impl Layout<'_> {
             return Some(twice(4, mux));
         }
         let mux = self.first_mux(MuxRule::Idle)?;
-        Some(twice(5, mux))
+        let second = self.second_of(mux);
+        Some(RuleBroken {
+            rule: 5,
+            first: Item::Mux(mux),
+            second: self.item(second),
+        })
     }
 
     /// The first two items, muxes before devices, that have one address although one's bus is on the path of
@@ -93,7 +99,7 @@ impl Layout<'_> {
             && self.is_along(self.home(one), self.home(other))
     }
 
-    fn items(&self) -> usize
+    pub(crate) fn items(&self) -> usize
         requires { IsPlainBoard (board_of self.now) }
         ensures { result ≡ items (board_of self.now) }
     {
@@ -112,7 +118,7 @@ impl Layout<'_> {
         }
     }
 
-    fn home(&self, place: usize) -> SegId
+    pub(crate) fn home(&self, place: usize) -> SegId
         ensures { result ≡ home_at (board_of self.now) place }
     {
         if place < self.muxes.len() {
@@ -124,7 +130,7 @@ impl Layout<'_> {
         }
     }
 
-    fn addr(&self, place: usize) -> Option<Addr>
+    pub(crate) fn addr(&self, place: usize) -> Option<Addr>
         ensures { result ≡ addr_at (board_of self.now) place }
     {
         if place < self.muxes.len() {
@@ -157,7 +163,7 @@ impl Layout<'_> {
             MuxRule::Lock => self.mux_locked_over(mux).is_some(),
             MuxRule::Parent => self.mux(mux).is_some_and(|spec| spec.kind.facts().wants_parent
                 && !is_parent(spec.lock)),
-            MuxRule::Idle => self.mux(mux).is_some_and(|spec| stays(spec.idle)),
+            MuxRule::Idle => self.breaks_idle(mux),
         }
     }
 
@@ -200,18 +206,11 @@ fn twice(rule: u8, mux: MuxId) -> RuleBroken
     }
 }
 
-fn is_same_address(one: Option<Addr>, other: Option<Addr>) -> bool
+pub(crate) fn is_same_address(one: Option<Addr>, other: Option<Addr>) -> bool
     ensures { result ≡ spec.is_same_address one other }
 {
     match (one, other) {
         (Some(one), Some(other)) => one == other,
         _ => false,
     }
-}
-
-/// Whether a mux stays as it is when idle.
-fn stays(idle: Idle) -> bool
-    ensures { result ≡ spec.stays idle }
-{
-    matches!(idle, Idle::AsIs)
 }

@@ -1,6 +1,8 @@
+//! The tree of buses: paths, roots, and what is below or aside of a bus.
 ghost use Rattle.std.specs.Prelude.{◌≡◌, slice_get, option_copied};
 ghost use Rattle.i2c_spec.specs.Tree.{end_of};
 
+use crate::layout::is_staying;
 use crate::{Hop, Layout};
 use arrayvec::ArrayVec;
 use i2c_base::{MOST_ON_PATH, MuxId, MuxSpec, POLLS, SegId, Way};
@@ -20,9 +22,10 @@ pub fn end_of(seg: SegId, hops: &[Hop]) -> SegId
 }
 
 impl Layout<'_> {
+    ghost use Rattle.std.specs.List.{list_any};
     ghost use Rattle.i2c_spec.specs.Layouts.{board_of};
     ghost use Rattle.i2c_spec.specs.Plain.{IsPlainBoard};
-    ghost use Rattle.i2c_spec.specs.Tree.{over, path, depth, root_of, is_below, is_on_path, is_along, is_absent, is_held};
+    ghost use Rattle.i2c_spec.specs.Tree.{hops, crosses_mux, is_kept_hop, is_aside, over, path, depth, root_of, is_below, is_on_path, is_along, is_absent, is_held, is_staying};
     ghost use Rattle.i2c_spec.specs.Grant.{way_of};
 
     /// The mux over a bus, none for a root.
@@ -97,6 +100,58 @@ impl Layout<'_> {
         ensures { result ≡ is_along (board_of self.now) one other }
     {
         self.is_on_path(one, other) || self.is_on_path(other, one)
+    }
+
+    /// Whether a mux is crossed on the way from a bus.
+    pub(crate) fn crosses(&self, seg: SegId, mux: MuxId) -> bool
+        requires { IsPlainBoard (board_of self.now) }
+        ensures { result ≡ crosses_mux mux (hops (board_of self.now) seg) }
+    {
+        self.hops(seg).iter().any(|hop| hop.mux == mux)
+    }
+
+    /// Whether some mux stays as it is.
+    pub(crate) fn has_staying(&self) -> bool
+        ensures { result ≡ list_any (λ m. is_staying m.idle) self.now.muxes.now }
+    {
+        self.muxes.iter().any(|mux| is_staying(mux.idle))
+    }
+
+    // Whether a mux that stays as it is, and isn't over the path of a bus, is over another bus.
+    fn is_below_kept(&self, seg: SegId, other: SegId) -> bool
+        requires { IsPlainBoard (board_of self.now) }
+        ensures { result ≡ list_any (is_kept_hop (board_of self.now) seg) (hops (board_of self.now) other) }
+    {
+        self.hops(other)
+            .iter()
+            .any(|hop| hop.stays && !self.crosses(seg, hop.mux))
+    }
+
+    /// Whether `other` is aside of a bus: on the same root, below a mux that stays as it is and isn't over the path.
+    pub fn is_aside(&self, seg: SegId, other: SegId) -> bool
+        requires { IsPlainBoard (board_of self.now) }
+        ensures { result ≡ is_aside (board_of self.now) seg other }
+    {
+        if seg == other {
+            return false;
+        }
+        if usize::from(other.0) < self.roots.len() {
+            return false;
+        }
+        self.hangs_aside(seg, other)
+    }
+
+    // The same, by the muxes over both. Apart, since the lists of them cost who doesn't need them.
+    #[inline(never)]
+    #[tactic(auto, using(crate::proofs::AsideLemmas::unkept_aside))]
+    fn hangs_aside(&self, seg: SegId, other: SegId) -> bool
+        requires { IsPlainBoard (board_of self.now) }
+        ensures { result ≡ is_aside (board_of self.now) seg other }
+    {
+        if !self.is_below_kept(seg, other) {
+            return false;
+        }
+        self.root(other) == self.root(seg)
     }
 
     /// Whether a mux's chip is absent, or there is no such mux.

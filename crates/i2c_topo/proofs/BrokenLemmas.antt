@@ -1,12 +1,12 @@
 -- A board breaks one rule first: two refusals that tell of it are the same, and it doesn't meet the rules. One case for
 -- each rule. No induction.
-use Rattle.std.proofs.Common.{◌≡◌, ℕ, zero, suc, ◌<◌, Bool, refl, sym, ap, subst, ◌∙◌, arith}
+use Rattle.std.proofs.Common.{◌≡◌, ℕ, zero, suc, ◌<◌, Bool, true, false, refl, sym, ap, subst, ◌∙◌, arith}
 use Rattle.std.specs.Prelude.{length, Some, unwrap_or}
 use Rattle.std.proofs.lemmas.Bool.{false≢true}
 use Rattle.i2c_base.specs.Board.{BoardView}
 use Rattle.i2c_base.specs.declared.rules.Item.{Item}
 use Rattle.i2c_base.specs.declared.rules.RuleBroken.{RuleBroken}
-use Rattle.i2c_spec.specs.Rules.{MeetsRules, TellsBroken, IsFirstBroken, IsFirstPair, IsFirstOne, NoPair, NoneOf, clashes, items, item_at, is_too_deep, is_locked_under, is_wrongly_locked, is_left_open, last_mux, locked_over}
+use Rattle.i2c_spec.specs.Rules.{MeetsRules, TellsBroken, IsFirstBroken, IsFirstPair, IsFirstOne, SecondOf, NoPair, NoneOf, clashes, items, item_at, is_too_deep, is_locked_under, is_wrongly_locked, may_stay, stands_outside, breaks_idle, last_mux, locked_over}
 
 -- a rule by its number holds
 record Holds (b : BoardView) (rule : ℕ) : Type 0 where
@@ -14,7 +14,7 @@ record Holds (b : BoardView) (rule : ℕ) : Type 0 where
   second : rule ≡ 2 → NoneOf (is_too_deep b) (length b.muxes)
   third : rule ≡ 3 → NoneOf (is_locked_under b) (length b.muxes)
   fourth : rule ≡ 4 → NoneOf (is_wrongly_locked b) (length b.muxes)
-  fifth : rule ≡ 5 → NoneOf (is_left_open b) (length b.muxes)
+  fifth : rule ≡ 5 → NoneOf (breaks_idle b) (length b.muxes)
 
 no_pair : (test : ℕ → ℕ → Bool) (n i j : ℕ) → IsFirstPair test n i j → NoPair test n → ⊥
 no_pair test n i j f none = false≢true (sym (none i j f.order f.within) ∙ f.broken)
@@ -28,7 +28,7 @@ broken_holds b (suc zero) i j f h = no_pair (clashes b) (items b) i j (f.first r
 broken_holds b (suc (suc zero)) i j f h = no_one (is_too_deep b) (length b.muxes) j (f.second refl).0 (h.second refl)
 broken_holds b (suc (suc (suc zero))) i j f h = no_one (is_locked_under b) (length b.muxes) j (f.third refl).0 (h.third refl)
 broken_holds b (suc (suc (suc (suc zero)))) i j f h = no_one (is_wrongly_locked b) (length b.muxes) j (f.fourth refl).0 (h.fourth refl)
-broken_holds b (suc (suc (suc (suc (suc zero))))) i j f h = no_one (is_left_open b) (length b.muxes) j (f.fifth refl).0 (h.fifth refl)
+broken_holds b (suc (suc (suc (suc (suc zero))))) i j f h = no_one (breaks_idle b) (length b.muxes) i (f.fifth refl).0 (h.fifth refl)
 broken_holds b (suc (suc (suc (suc (suc (suc n)))))) i j f h = omega (arith, f.known.1)
 
 -- a board that is told broken doesn't meet the rules
@@ -92,6 +92,17 @@ under b i j k l same one other =
     let over : Some i ≡ Some k = sym one ∙ ap (λ m. last_mux (locked_over b m)) same ∙ other in
     record { first = ap (λ o. unwrap_or o i) over; second = same }
 
+-- what rule 5 names beside a mux is one
+named : (b : BoardView) (i j k l : ℕ) → i ≡ k → SecondOf b i j → SecondOf b k l → Same i j k l
+named b i j k l same one other = by (may_stay b i) refl
+  where
+    here : SecondOf b i l
+    here = subst (λ m. SecondOf b m l) (sym same) other
+
+    by : (t : Bool) → may_stay b i ≡ t → Same i j k l
+    by true e = record { first = same; second = one_first (stands_outside b i) (items b) j l (one.shared e) (here.shared e) }
+    by false e = record { first = same; second = one.again e ∙ sym (here.again e) }
+
 same_items : (b : BoardView) (rule i j k l : ℕ) → IsFirstBroken b rule i j → IsFirstBroken b rule k l → Same i j k l
 same_items b zero i j k l f g = absurd (omega (arith, f.known.0))
 same_items b (suc zero) i j k l f g = one_pair (clashes b) (items b) i j k l (f.first refl) (g.first refl)
@@ -102,7 +113,7 @@ same_items b (suc (suc (suc zero))) i j k l f g =
 same_items b (suc (suc (suc (suc zero)))) i j k l f g =
     twice i j k l (one_first (is_wrongly_locked b) (length b.muxes) j l (f.fourth refl).0 (g.fourth refl).0) (f.fourth refl).1 (g.fourth refl).1
 same_items b (suc (suc (suc (suc (suc zero))))) i j k l f g =
-    twice i j k l (one_first (is_left_open b) (length b.muxes) j l (f.fifth refl).0 (g.fifth refl).0) (f.fifth refl).1 (g.fifth refl).1
+    named b i j k l (one_first (breaks_idle b) (length b.muxes) i k (f.fifth refl).0 (g.fifth refl).0) (f.fifth refl).1 (g.fifth refl).1
 same_items b (suc (suc (suc (suc (suc (suc n)))))) i j k l f g = absurd (omega (arith, f.known.1))
 
 broken_of : (rule rule_now : ℕ) (one one_now other other_now : Item) → rule ≡ rule_now → one ≡ one_now → other ≡ other_now

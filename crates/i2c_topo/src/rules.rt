@@ -1,3 +1,4 @@
+//! An accepted board, or the first rule that it breaks.
 ghost use Rattle.std.specs.Prelude.{◌≡◌, ◌↔◌, IsOk, IfOk, IfErr};
 ghost use Rattle.i2c_spec.specs.Rules.{MeetsRules, TellsBroken};
 
@@ -13,7 +14,10 @@ use i2c_board::{Accepted, Board};
 /// 3. No parent-locked mux stands below a mux-locked one, which would not hold the root for it over select, transfer
 ///    and deselect. Told are the mux-locked mux nearest the root, and the first parent-locked one that stands below one.
 /// 4. Gpio muxes and arbitrators are parent-locked. Told is the first one that isn't, twice.
-/// 5. Every mux disconnects when idle. Told is the first one that stays as it is, twice.
+/// 5. A mux that stays as it is when idle is a pca9548, pca9546 or pca9544, and no item below it, on a bus behind its
+///    channels or under such a bus, has the address of an item of the same root that isn't: its channel may be open while
+///    that one is spoken to. Told is the first one that breaks this; with it the mux again where its kind is another, else
+///    the first item below it whose address stands outside.
 ///
 /// It takes no memory. A refused board is dropped.
 #[tactic(auto, using(crate::proofs::BrokenLemmas::broken_breaks))]
