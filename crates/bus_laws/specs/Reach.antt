@@ -6,11 +6,10 @@ use Rattle.i2c_base.specs.declared.entry.Entry.{Entry}
 use Rattle.i2c_base.specs.declared.reply.Reply.{Reply}
 use Rattle.i2c_base.specs.Board.{BoardView}
 use Rattle.i2c_base.specs.Transfer.{TransferView, IsTransfer}
-use Rattle.i2c_spec.specs.Tree.{Hop, hops, root_of, home_of_mux, IsOver}
+use Rattle.i2c_spec.specs.Tree.{Hop, hops, root_of, home_of_mux, is_left_open, IsOver}
 use Rattle.i2c_spec.specs.Chips.{ChipView, is_open}
 use Rattle.i2c_spec.specs.World.{opens_hop}
 use Rattle.i2c_spec.specs.History.{Asks}
-use Rattle.bus_spec.specs.Slots.{Selected}
 use Rattle.bus_spec.specs.Readings.{MessageEntry, OfMessage, holder, Everywhere}
 use Rattle.bus_spec.specs.Past.{now, mark, world_at}
 use Rattle.bus_spec.specs.Tells.{HearsIn}
@@ -23,20 +22,17 @@ AsksForMessages asks = (c : ℕ) (rs : List Reply) (t : TransferView) → asks c
 abbrev pub AsksWithinLimits : Asks → Type 0
 AsksWithinLimits asks = (c : ℕ) (rs : List Reply) (t : TransferView) → asks c rs ≡ Some t → IsTransfer t.msgs t.out
 
--- a channel is selected: by a caller that has the lock of the mux's bus, and hasn't closed it yet
-pub record IsSelectedBy (b : BoardView) (asks : Asks) (past : List Entry) (m c : ℕ) : Type 0 where
-  pub hop : Hop
-  pub selected : ((now b asks past).slot (home_of_mux b m)).slot ≡ Selected hop
-  pub of_mux : hop.mux ≡ m
-  pub of_channel : hop.channel ≡ c
-  pub caller : ℕ
-  pub locked : holder past (lock.Mux (home_of_mux b m)) ≡ Some caller
+-- a channel is the one that its mux keeps: one that stays as it is, or one that a caller has selected, who has the lock of
+-- its bus and hasn't closed it yet
+pub record IsKeptOpen (b : BoardView) (asks : Asks) (past : List Entry) (m c : ℕ) : Type 0 where
+  pub kept : ((now b asks past).slot (home_of_mux b m)).kept m ≡ Some c
+  pub whose : (is_left_open b m ≡ true) ⊎ ((caller : ℕ) × (holder past (lock.Mux (home_of_mux b m)) ≡ Some caller))
 
--- an open channel is selected, or its mux is the mark of its bus
+-- an open channel is kept, or its mux is the mark of its bus
 abbrev pub KeepsClosed : BoardView → Asks → List Entry → Type 0
 KeepsClosed b asks past =
     (m c : ℕ) (x : ChipView) → slice_get (world_at b asks past (root_of b (home_of_mux b m))).chips m ≡ Some x → is_open x c ≡ true
-    → IsSelectedBy b asks past m c ⊎ (mark b asks past (home_of_mux b m) ≡ Some m)
+    → IsKeptOpen b asks past m c ⊎ (mark b asks past (home_of_mux b m) ≡ Some m)
 
 -- at a message every mux over its bus has the path's channel open, and who has heard it is who hears its start; its
 -- caller has the root's lock, and that of each other bus on the path

@@ -11,9 +11,11 @@ use Rattle.i2c_base.specs.Board.{BoardView}
 use Rattle.i2c_spec.specs.Tree.{Hop, hops, buses, root_of, home_of_mux, is_absent, is_held, of_mux, IsAmongHops}
 use Rattle.i2c_base.specs.Transfer.{TransferView}
 use Rattle.i2c_spec.specs.Messages.{MessageView, messages_of}
+use Rattle.i2c_spec.specs.Tree.{is_left_open}
+use Rattle.i2c_spec.specs.History.{changed_at}
 use Rattle.i2c_spec.specs.Flat.{refusal}
-use Rattle.bus_spec.specs.Walk.{Mark, Job, Call, Select, Clear, Take, Free, Send, Shift, Settle, ActOutcome, Passed, Sent, Lined, MarkOf, WalkTree, Ends, Look, Then, job_bus, first_byte, is_arbitrator, is_line}
-use Rattle.bus_spec.specs.Slots.{Slots, At, MuxSlot, Clean, Selected, Marked, Polled, Found, mark_in, with_slot, after_job}
+use Rattle.bus_spec.specs.Walk.{Mark, Job, Call, Select, Clear, Take, Free, Send, Shift, Settle, ActOutcome, Passed, Sent, Lined, ask_bus, WalkTree, Ends, Look, Then, job_bus, first_byte, is_arbitrator, is_line, is_gpio}
+use Rattle.bus_spec.specs.Slots.{Slots, At, MuxSlot, Clean, Marked, Polled, Found, answer_to, after_job}
 use Rattle.bus_spec.specs.Grammar.{kind_of}
 use Rattle.bus_spec.specs.Stepwise.{IsBelow}
 
@@ -30,7 +32,6 @@ answers b m = not (is_absent b m) && not (is_held b m)
 abbrev pub IsShut : MuxSlot → Type 0
 IsShut Clean = Unit {0}
 IsShut (Marked m) = Unit {0}
-IsShut (Selected h) = ⊥
 IsShut (Polled h more) = ⊥
 IsShut (Found h) = ⊥
 
@@ -38,15 +39,35 @@ IsShut (Found h) = ⊥
 abbrev pub IsMuxOf : BoardView → ℕ → MuxKind → Type 0
 IsMuxOf b m kind = of_mux (λ x. Some x.kind) None b m ≡ Some kind
 
+-- it lets a job through: a line always does, a chip where it answers
+abbrev pub LetsThrough : BoardView → ℕ → Type 0
+LetsThrough b m = (is_gpio (kind_of b m) ≡ true) ⊎ (answers b m ≡ true)
+
+-- a mux on this bus that stays as it is, and lets a job through
+abbrev pub IsKept : BoardView → ℕ → ℕ → Type 0
+IsKept b p m = (home_of_mux b m ≡ p) × (is_left_open b m ≡ true) × LetsThrough b m
+
+-- each mux but this one with an open channel is such a one
+abbrev pub OthersKept : BoardView → ℕ → ℕ → At → Type 0
+OthersKept b p m s = (n c : ℕ) → (n ≡ m → ⊥) → s.kept n ≡ Some c → IsKept b p n
+
+-- the channel of this hop is open; every other mux with an open channel is one that stays as it is
+pub record IsOpenOn (b : BoardView) (g : Hop) (s : At) : Type 0 where
+  pub clean : s.slot ≡ Clean
+  pub kept : s.kept g.mux ≡ Some g.channel
+  pub others : OthersKept b g.on g.mux s
+
 -- what a taken lock may find on its bus
 pub record IsRest (b : BoardView) (p : ℕ) (s : At) : Type 0 where
   pub shut : IsShut s.slot
   pub home : (m : ℕ) → s.slot ≡ Marked m → home_of_mux b m ≡ p
   pub known : (m : ℕ) → s.slot ≡ Marked m → IsMuxOf b m (kind_of b m)
+  -- an open channel is of a mux on it that stays as it is
+  pub stay : (m c : ℕ) → s.kept m ≡ Some c → IsKept b p m
 
 -- the bus of a mux lock has this slot when it is taken
 abbrev pub taken_slots : LockId → At → Slots → Slots
-taken_slots (lock.Mux p) s v = with_slot v p s.slot
+taken_slots (lock.Mux p) s v = changed_at v p s
 taken_slots (lock.Bus r) s v = v
 
 abbrev pub RestOf : BoardView → LockId → At → Type 0
@@ -91,20 +112,19 @@ abbrev pub FindsPoll : Hop → ℕ → MuxSlot → Type 0
 FindsPoll h zero s = s ≡ Found h
 FindsPoll h (suc left) s = (s ≡ Polled h left) ⊎ ((left ≡ 7) × (s ≡ Clean))
 
-abbrev pub FindsSelect : Bool → Hop → ℕ → MuxSlot → Type 0
-FindsSelect true h left s = FindsPoll h left s
-FindsSelect false h left s = (left ≡ 0) × (s ≡ Clean)
+abbrev pub FindsSelect : Bool → Hop → ℕ → At → Type 0
+FindsSelect true h left x = FindsPoll h left x.slot × (x.kept h.mux ≡ None)
+FindsSelect false h left x = (left ≡ 0) × (x.slot ≡ Clean)
 
 abbrev pub FindsOpen : ℕ → MuxSlot → Type 0
-FindsOpen m (Selected h) = h.mux ≡ m
 FindsOpen m (Marked k) = k ≡ m
-FindsOpen m Clean = ⊥
+FindsOpen m Clean = Unit {0}
 FindsOpen m (Polled h more) = ⊥
 FindsOpen m (Found h) = ⊥
 
 abbrev pub Finds : BoardView → Job → ℕ → Slots → Type 0
 Finds b (Call bus messages) left v = Unit {0}
-Finds b (Select h) left v = FindsSelect (is_arbitrator h.kind) h left (v h.on).slot × IsAmongHops h (hops b h.bus) × (h.bus < buses b)
+Finds b (Select h) left v = FindsSelect (is_arbitrator h.kind) h left (v h.on) × IsAmongHops h (hops b h.bus) × (h.bus < buses b)
 Finds b (Clear on mux kind) left v = FindsOpen mux (v on).slot × (home_of_mux b mux ≡ on) × IsMuxOf b mux kind
 
 -- the lock of the job's own bus is held, and its own mark is the first, and the only one on that bus
@@ -123,7 +143,6 @@ Owns (Clear on mux kind) marks held = InLocks (lock.Mux on) held × HeadsMarks o
 -- a mark on a bus forgets nothing that may be open there
 abbrev pub IsOfMux : ℕ → MuxSlot → Type 0
 IsOfMux m Clean = Unit {0}
-IsOfMux m (Selected h) = h.mux ≡ m
 IsOfMux m (Marked k) = k ≡ m
 IsOfMux m (Polled h more) = h.mux ≡ m
 IsOfMux m (Found h) = h.mux ≡ m
@@ -151,7 +170,7 @@ IsGranted b whose (Clear on mux kind) = Unit {0}
 -- a message may be sent
 pub record MaySend (b : BoardView) (whose : TransferView) (job : Job) (left : ℕ) (marks : List Mark) (held : List LockId) (v : Slots) : Type 0 where
   -- every mux over its bus is selected, and its lock is held; so is the root's
-  pub reached : (g : Hop) → IsAmongHops g (hops b (job_bus job)) → ((v g.on).slot ≡ Selected g) × InLocks (lock.Mux g.on) held
+  pub reached : (g : Hop) → IsAmongHops g (hops b (job_bus job)) → IsOpenOn b g (v g.on) × InLocks (lock.Mux g.on) held
   pub rooted : InLocks (lock.Bus (root_of b (job_bus job))) held
   pub finds : Finds b job left v
   pub owns : Owns job marks held
@@ -170,7 +189,7 @@ pub record MayShift (b : BoardView) (job : Job) (marks : List Mark) (held : List
 -- the walk of a transfer runs from these locks and this knowledge, whatever its steps give
 abbrev pub Runs : BoardView → TransferView → List LockId → Slots → WalkTree → Type 0
 Runs b whose held v Ends = held ≡ []
-Runs b whose held v (Look (MarkOf p) next) = InLocks (lock.Mux p) held × Runs b whose held v (next (mark_in (v p).slot))
+Runs b whose held v (Look ask next) = InLocks (lock.Mux (ask_bus ask)) held × Runs b whose held v (next (answer_to v ask))
 Runs b whose held v (Then (Take l) note next) =
     IsBelow b l held × ((s : At) → RestOf b l s → Runs b whose (l ∷ held) (taken_slots l s v) (next Passed))
 Runs b whose held v (Then (Free l) note next) =

@@ -1,8 +1,9 @@
+//! The devices of a root, beside those of the flat world, message by message.
 ghost use Rattle.std.specs.Prelude.{◌≡◌, ℕ, Bool, true, false, List, [], map, Option, Some, slice_get};
 ghost use Rattle.i2c_base.specs.declared.tree.Grant.TheVariants as grant;
 ghost use Rattle.i2c_base.specs.Board.{BoardView};
 ghost use Rattle.i2c_base.specs.Bytes.{AreBytes};
-ghost use Rattle.i2c_spec.specs.Tree.{home_of_mux, addr_of_mux, IsAlong};
+ghost use Rattle.i2c_spec.specs.Tree.{home_of_mux, addr_of_mux, MayJoin};
 ghost use Rattle.i2c_spec.specs.TreeFacts.{IsTree};
 ghost use Rattle.i2c_spec.specs.Grant.{grant_of};
 ghost use Rattle.i2c_spec.specs.Plain.{IsPlainBoard};
@@ -21,11 +22,11 @@ pub fn both_worlds_open_the_same()
 
 /// On a joined bus an address that isn't busy leads to the device that the bus grants, and to nobody else.
 ///
-/// All that is joined lies along the bus, and the path of the bus is open: what is then joined and has the address is
-/// granted, what is granted is joined and has it, and no mux chip hears it.
+/// All that is joined lies along the bus or is aside of it, and the path of the bus is open: what is then joined and has the
+/// address is granted, what is granted is joined and has it, and no mux chip hears it.
 pub fn an_address_leads_to_the_granted_device()
     ensures { (b : BoardView) (w : World) (s a : ℕ) (force : Bool) → w.board ≡ b → IsTree b
-        → ((u : ℕ) → is_joined w u ≡ true → IsAlong b s u) → is_joined w s ≡ true
+        → ((u : ℕ) → is_joined w u ≡ true → MayJoin b s u) → is_joined w s ≡ true
         → (grant_of b s a force ≡ grant.Busy → ⊥) → LeadsTo w a (granted_on b s force a) }
 {}
 
@@ -49,7 +50,7 @@ pub fn a_transfer_ends_in_a_stop()
 
 /// A message that switches a mux is heard by no device, and leaves all devices of its root as they are between transfers.
 pub fn a_control_message_leaves_the_devices()
-    ensures unheard { (b : BoardView) (w : World) (s m a : ℕ) → w.board ≡ b → IsTree b → ((u : ℕ) → is_joined w u ≡ true → IsAlong b s u)
+    ensures unheard { (b : BoardView) (w : World) (s m a : ℕ) → w.board ≡ b → IsTree b → ((u : ℕ) → is_joined w u ≡ true → MayJoin b s u)
         → addr_of_mux b m ≡ Some a → home_of_mux b m ≡ s → IsControl w a }
     ensures same { (b : BoardView) (r limit : ℕ) (w : World) (xs : List TargetState) (m : MessageView) (cut : Option ℕ) → Same b r w (idle xs) → IsControl w m.addr
         → Same b r (talk world_listener limit w m true cut).now (idle xs) }

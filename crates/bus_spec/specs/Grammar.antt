@@ -1,6 +1,6 @@
 -- The walk of a transfer, piece by piece. Each piece does a job and goes on with what comes of it; what does the
 -- job on the bus that a mux stands on is an argument, so parent-locked and mux-locked muxes differ in `part` alone.
-use Rattle.std.specs.Prelude.{ℕ, zero, suc, Bool, true, false, ◌&&◌, List, [], ◌∷◌, Option, Some, None, if◌then◌else◌}
+use Rattle.std.specs.Prelude.{ℕ, zero, suc, ◌==◌, Bool, true, false, ◌&&◌, List, [], ◌∷◌, Option, Some, None, if◌then◌else◌}
 use Rattle.i2c_base.specs.declared.board.MuxKind.{MuxKind}
 use Rattle.i2c_base.specs.declared.board.MuxKind.TheVariants.{Pca9548}
 use Rattle.i2c_base.specs.declared.ids.LockId.{LockId}
@@ -10,8 +10,8 @@ use Rattle.i2c_base.specs.Transfer.{TransferView}
 use Rattle.i2c_spec.specs.Tree.{Hop, hops, root_of, locks_of, of_mux}
 use Rattle.i2c_spec.specs.Messages.{messages_of}
 use Rattle.i2c_spec.specs.Flat.{refusal}
-use Rattle.bus_spec.specs.Walk.{Job, Call, Select, Clear, Act, Take, Free, Send, Shift, Settle, ActOutcome, JobOutcome, Good, Refused, Unsent, Failed, Note, MarkOf, WalkTree, Ends, Look, Then, Go, On, Last, Over, goes, job_outcome, verdict_of, decides, is_line, more_of}
-use Rattle.bus_spec.specs.Slots.{Slots, mark_in}
+use Rattle.bus_spec.specs.Walk.{KeptOf, Job, Call, Select, Clear, Act, Take, Free, Send, Shift, Settle, ActOutcome, JobOutcome, Good, Refused, Unsent, Failed, Note, MarkOf, WalkTree, Ends, Look, Then, Go, On, Last, Over, goes, job_outcome, verdict_of, decides, is_line, more_of}
+use Rattle.bus_spec.specs.Slots.{Slots, answer_to}
 
 -- what does a job, with what a failure marks, and goes on
 abbrev pub Doer : Type 0
@@ -93,16 +93,28 @@ abbrev pub closing : BoardView → Hop → Doer → Note → (JobOutcome → Wal
 closing b h on note k w None = w
 closing b h on note k w (Some m) = on (Clear h.on m (kind_of b m)) (with_mark h.on m note) (λ o. if_sent o w k)
 
--- the job, and the deselect behind it, whatever came of the job
+-- behind the job the deselect, whatever came of the job; a mux that stays as it is keeps its channel
+abbrev pub left_behind : Bool → Hop → Doer → (JobOutcome → WalkTree) → JobOutcome → WalkTree
+left_behind true h on k out = k out
+left_behind false h on k out = on (Clear h.on h.mux h.kind) (aside h) (λ o. k out)
+
 abbrev pub opened : Hop → Doer → Doer
-opened h on job note k = on job note (λ out. on (Clear h.on h.mux h.kind) (aside h) (λ o. k out))
+opened h on job note k = on job note (left_behind h.stays h on k)
 
 -- the select, and behind it the job; a select that isn't good is not followed by a deselect
 abbrev pub chosen : Hop → Doer → Doer
 chosen h on job note k = on (Select h) (with_mark h.on h.mux note) (λ o. if_good o (opened h on job note k) k)
 
+-- a mux that stays as it is, and keeps the channel, isn't selected
+abbrev pub keeps : Hop → Option ℕ → Bool
+keeps h None = false
+keeps h (Some c) = h.stays && (c == h.channel)
+
+abbrev pub crossed : Hop → Doer → Job → Note → (JobOutcome → WalkTree) → Option ℕ → WalkTree
+crossed h on job note k kept = if keeps h kept then opened h on job note k else chosen h on job note k
+
 abbrev pub behind : BoardView → Hop → Doer → Doer
-behind b h on job note k = Look (MarkOf h.on) (closing b h on note k (chosen h on job note k))
+behind b h on job note k = Look (MarkOf h.on) (closing b h on note k (Look (KeptOf h.on h.mux) (crossed h on job note k)))
 
 -- a job at the end of these hops, whose locks are held; a line step needs no way
 abbrev pub inner : BoardView → ℕ → List Hop → Doer
@@ -125,7 +137,7 @@ walk_for b t = walk_by b t (refusal b t)
 -- the looks at the front of a walk, answered by what is known
 abbrev pub seen : Slots → WalkTree → WalkTree
 seen v Ends = Ends
-seen v (Look (MarkOf p) next) = seen v (next (mark_in (v p).slot))
+seen v (Look ask next) = seen v (next (answer_to v ask))
 seen v (Then act note next) = Then act note next
 
 abbrev pub is_over : WalkTree → Bool

@@ -7,7 +7,7 @@ use Rattle.i2c_base.specs.declared.board.MuxKind.{MuxKind}
 use Rattle.i2c_base.specs.declared.board.MuxKind.TheVariants.{Pca9548, Pca9546, Pca9541, Gpio}
 use Rattle.i2c_base.specs.declared.board.LockMode.{LockMode}
 use Rattle.i2c_base.specs.declared.board.LockMode.TheVariants.{Parent, Mux}
-use Rattle.i2c_base.specs.declared.board.Idle.TheVariants.{Disconnect}
+use Rattle.i2c_base.specs.declared.board.Idle.TheVariants.{Disconnect, AsIs}
 use Rattle.i2c_base.specs.declared.board.DeviceKind.TheVariants as kind
 use Rattle.i2c_base.specs.declared.ids.LockId.TheVariants as lock
 use Rattle.i2c_base.specs.declared.ids.Node.TheVariants.{Device, Chip}
@@ -16,7 +16,7 @@ use Rattle.i2c_base.specs.declared.entry.Entry.TheVariants as entry
 use Rattle.i2c_base.specs.declared.entry.End.TheVariants as end
 use Rattle.i2c_base.specs.declared.entry.Purpose.TheVariants as purpose
 use Rattle.i2c_base.specs.declared.errno.Errno.{Errno}
-use Rattle.i2c_base.specs.declared.errno.Errno.TheVariants.{Enxio, Etimedout, Eremoteio}
+use Rattle.i2c_base.specs.declared.errno.Errno.TheVariants.{Ebusy, Enxio, Etimedout, Eremoteio}
 use Rattle.i2c_base.specs.declared.reply.Reply.TheVariants as reply
 use Rattle.i2c_base.specs.declared.reply.Cut.{Cut}
 use Rattle.i2c_base.specs.declared.reply.Cut.TheVariants as cut
@@ -223,3 +223,44 @@ switched (e ∷ rest) = of_message [] (λ m. if is_call m.purpose then [] else m
 -- A register behind a parent-locked mux is read twice, and one call of the port fails
 abbrev pub two_reads : Failing → List Entry
 two_reads fails = played parent_locked (transfers_of ((read 1 0x30 0 ∷ read 1 0x30 0 ∷ []) ∷ [])) fails (replicate 20 0)
+
+-- a mux that stays as it is: it is read behind twice, and then another channel; two of them on one bus beside one that
+-- disconnects
+abbrev pub as_is : MuxKind → ℕ → ℕ → ℕ → LockMode → MuxSpec
+as_is kind bus addr channels lock = record (mux kind bus addr channels lock false) { idle = AsIs }
+
+abbrev pub parent : LockMode
+parent = Parent
+
+abbrev pub keeping : LockMode → BoardView
+keeping lock = board (as_is Pca9548 0 0x70 8 lock ∷ []) two_devices
+
+abbrev pub kept_journal : List Entry
+kept_journal =
+    take_mux 0 0 ∷ take_bus 0 ∷ control 0 0 0 0x70 1 ∷ reads 0 1 0x30 0 0x11 1 ++ free_bus 0 ∷ free_mux 0 0
+    ∷ take_mux 0 0 ∷ take_bus 0 ∷ reads 0 1 0x30 0 0x11 1 ++ free_bus 0 ∷ free_mux 0 0
+    ∷ take_mux 0 0 ∷ take_bus 0 ∷ control 0 0 0 0x70 2 ∷ nobody 0 2 0x31 ++ free_bus 0 ∷ free_mux 0 0 ∷ []
+
+-- buses 1 to 8 behind the first, 9 to 12 behind the second, 13 to 16 behind the third, which disconnects
+abbrev pub three_beside : BoardView
+three_beside =
+    board (as_is Pca9548 0 0x70 8 Parent ∷ as_is Pca9546 0 0x71 4 Parent ∷ mux Pca9546 0 0x72 4 Parent false ∷ [])
+    (regs 1 0x30 0 0x11 ∷ regs 9 0x31 0 0x22 ∷ regs 13 0x32 0 0x33 ∷ [])
+
+abbrev pub beside_journal : List Entry
+beside_journal =
+    take_mux 0 0 ∷ take_bus 0 ∷ control 0 0 0 0x70 1 ∷ reads 0 1 0x30 0 0x11 0 ++ free_bus 0 ∷ free_mux 0 0
+    ∷ take_mux 0 0 ∷ take_bus 0 ∷ control 0 0 1 0x71 1 ∷ reads 0 9 0x31 0 0x22 1 ++ free_bus 0 ∷ free_mux 0 0
+    ∷ take_mux 0 0 ∷ take_bus 0 ∷ control 0 0 2 0x72 1 ∷ reads 0 13 0x32 0 0x33 2 ++ control 0 0 2 0x72 0 ∷ free_bus 0 ∷ free_mux 0 0
+    ∷ take_mux 0 0 ∷ take_bus 0 ∷ reads 0 1 0x30 0 0x11 0 ++ free_bus 0 ∷ free_mux 0 0
+    ∷ fails 0 Ebusy cut.No ∷ []
+
+-- a select of a kept mux fails by the port: the mux is closed first, and selected again
+abbrev pub select_cut : ℕ → ℕ → ℕ → ℕ → ℕ → ℕ → Entry
+select_cut c bus m addr q byte = entry.Message c bus (purpose.Control m) 1 1 addr false [] (Some (Chip m)) (end.Cut q)
+
+abbrev pub forgotten_journal : List Entry
+forgotten_journal =
+    take_mux 0 0 ∷ take_bus 0 ∷ control 0 0 0 0x70 1 ∷ reads 0 1 0x30 0 0x11 1 ++ free_bus 0 ∷ free_mux 0 0
+    ∷ take_mux 0 0 ∷ take_bus 0 ∷ select_cut 0 0 0 0x70 1 2 ∷ fails 0 Eremoteio cut.Way ∷ free_bus 0 ∷ free_mux 0 0
+    ∷ take_mux 0 0 ∷ take_bus 0 ∷ control 0 0 0 0x70 0 ∷ control 0 0 0 0x70 1 ∷ reads 0 1 0x30 0 0x11 1 ++ free_bus 0 ∷ free_mux 0 0 ∷ []

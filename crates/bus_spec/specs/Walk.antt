@@ -62,6 +62,7 @@ pub record Note : Type 0 where
 -- a question is no step: what the journal tells where the walk stands answers it
 pub data Ask : Type 0 where
   MarkOf : (bus : ℕ) → Ask
+  KeptOf : (bus : ℕ) → (mux : ℕ) → Ask
 
 pub data WalkTree : Type 0 where
   Ends : WalkTree
@@ -236,3 +237,8 @@ decides (Clear on mux kind) Good = false
 decides (Clear on mux kind) Refused = false
 decides (Clear on mux kind) Unsent = false
 decides (Clear on mux kind) Failed = true
+
+-- the bus that a question is about
+abbrev pub ask_bus : Ask → ℕ
+ask_bus (MarkOf p) = p
+ask_bus (KeptOf p m) = p

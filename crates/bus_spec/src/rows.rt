@@ -110,3 +110,21 @@ pub fn a_lock_belongs_to_the_caller_of_its_last_take()
     ensures muxes_held { holder (reverse (take 8 row.mux_locked_journal)) (lock.Mux 0) ≡ Some 0 }
     ensures all_freed { holder (reverse row.mux_locked_journal) (lock.Mux 0) ≡ None }
 {}
+
+/// A mux that stays as it is isn't selected again where its channel is kept, and never deselected.
+pub fn a_kept_channel_is_not_selected_again()
+    ensures { played (row.keeping row.parent) (transfers_of ((row.read 1 0x30 0 ∷ row.read 1 0x30 0 ∷ row.read 2 0x31 0 ∷ []) ∷ [])) none_fails
+        (replicate 24 0) ≡ row.kept_journal }
+{}
+
+/// Two muxes on one bus keep a channel each, beside one that disconnects; an address behind a kept channel is busy elsewhere.
+pub fn two_muxes_keep_their_channels()
+    ensures { played row.three_beside (transfers_of ((row.read 1 0x30 0 ∷ row.read 9 0x31 0 ∷ row.read 13 0x32 0 ∷ row.read 1 0x30 0 ∷ row.read 9 0x30 0 ∷ []) ∷ [])) none_fails
+        (replicate 40 0) ≡ row.beside_journal }
+{}
+
+/// A select that fails forgets the channel: the mux is closed and selected again.
+pub fn a_failed_select_forgets_the_channel()
+    ensures { played (row.keeping row.parent) (transfers_of ((row.read 1 0x30 0 ∷ row.read 2 0x31 0 ∷ row.read 1 0x30 0 ∷ []) ∷ [])) (fails_at 0 9)
+        (replicate 30 0) ≡ row.forgotten_journal }
+{}

@@ -10,7 +10,7 @@ use Rattle.i2c_base.specs.declared.entry.End.TheVariants as end
 use Rattle.i2c_base.specs.Transfer.{TransferView}
 use Rattle.i2c_spec.specs.Tree.{Hop}
 use Rattle.i2c_spec.specs.Messages.{messages_of}
-use Rattle.bus_spec.specs.Walk.{Job, Call, Select, Clear, Take, Free, Send, Shift, Settle, Passed, Sent, Lined, MarkOf}
+use Rattle.bus_spec.specs.Walk.{Job, Call, Select, Clear, Take, Free, Send, Shift, Settle, Passed, Sent, Lined, MarkOf, KeptOf}
 use Rattle.journal_laws.specs.Paths.{PathStep, Saw, Did}
 use Rattle.bus_spec.specs.Rows as row
 
@@ -30,15 +30,19 @@ did_settle verdict = Did (Settle verdict) Passed
 abbrev pub sees : Option ℕ → PathStep
 sees mark = Saw (MarkOf 0) mark
 
+-- no channel is kept
+abbrev pub shut : PathStep
+shut = Saw (KeptOf 0 0) None
+
 -- a register behind the first channel of the board's mux, parent-locked and mux-locked
 abbrev pub deep : TransferView
 deep = row.read 1 0x30 0
 
 abbrev pub hop : Hop
-hop = record { bus = 1; mux = 0; channel = 0; on = 0; parent = true; kind = Pca9548 }
+hop = record { bus = 1; mux = 0; channel = 0; on = 0; parent = true; stays = false; kind = Pca9548 }
 
 abbrev pub loose_hop : Hop
-loose_hop = record { bus = 1; mux = 0; channel = 0; on = 0; parent = false; kind = Pca9548 }
+loose_hop = record { bus = 1; mux = 0; channel = 0; on = 0; parent = false; stays = false; kind = Pca9548 }
 
 abbrev pub call : Job
 call = Call 1 (messages_of deep)
@@ -63,18 +67,18 @@ closed_once = did_send close 0 end.Ok (0 ∷ [])
 
 -- THESE KEEP IT. The four parts but the close, between the locks
 abbrev pub whole_walk : List PathStep
-whole_walk = both_taken ++ sees None ∷ selected_once ∷ both_read ++ closed_once ∷ both_freed
+whole_walk = both_taken ++ sees None ∷ shut ∷ selected_once ∷ both_read ++ closed_once ∷ both_freed
 
 -- on the bus of a mux-locked mux each part takes the root's lock anew
 abbrev pub parts_walk : List PathStep
 parts_walk =
-    did_take (lock.Mux 0) ∷ sees None ∷ did_take (lock.Bus 0) ∷ did_send (Select loose_hop) 0 end.Ok (1 ∷ []) ∷ did_free (lock.Bus 0)
+    did_take (lock.Mux 0) ∷ sees None ∷ shut ∷ did_take (lock.Bus 0) ∷ did_send (Select loose_hop) 0 end.Ok (1 ∷ []) ∷ did_free (lock.Bus 0)
     ∷ did_take (lock.Bus 0) ∷ both_read ++ did_free (lock.Bus 0)
     ∷ did_take (lock.Bus 0) ∷ closed_once ∷ did_free (lock.Bus 0) ∷ did_free (lock.Mux 0) ∷ []
 
 -- the marked mux is closed first, also where nobody acknowledges it
 abbrev pub closed_walk : List PathStep
-closed_walk = both_taken ++ sees (Some 0) ∷ did_send close 0 end.Nack [] ∷ selected_once ∷ both_read ++ closed_once ∷ both_freed
+closed_walk = both_taken ++ sees (Some 0) ∷ did_send close 0 end.Nack [] ∷ shut ∷ selected_once ∷ both_read ++ closed_once ∷ both_freed
 
 -- a close that failed by the port leaves out all that would follow it
 abbrev pub unclosed_walk : List PathStep
@@ -82,11 +86,11 @@ unclosed_walk = both_taken ++ sees (Some 0) ∷ did_send close 0 (end.Cut 0) [] 
 
 -- a select that is refused leaves out the job and the deselect
 abbrev pub unselected_walk : List PathStep
-unselected_walk = both_taken ++ sees None ∷ did_send (Select hop) 0 end.Nack [] ∷ did_settle (Some Enxio) ∷ both_freed
+unselected_walk = both_taken ++ sees None ∷ shut ∷ did_send (Select hop) 0 end.Nack [] ∷ did_settle (Some Enxio) ∷ both_freed
 
 -- a deselect follows a job that failed, and fails nothing by itself
 abbrev pub deselected_walk : List PathStep
-deselected_walk = both_taken ++ sees None ∷ selected_once ∷ did_send call 1 end.Nack [] ∷ did_settle (Some Enxio) ∷ did_send close 0 (end.Cut 2) (0 ∷ []) ∷ both_freed
+deselected_walk = both_taken ++ sees None ∷ shut ∷ selected_once ∷ did_send call 1 end.Nack [] ∷ did_settle (Some Enxio) ∷ did_send close 0 (end.Cut 2) (0 ∷ []) ∷ both_freed
 
 -- a transfer to a bus that isn't there is one settle
 abbrev pub nowhere : TransferView
@@ -97,15 +101,15 @@ refused_walk = did_settle (Some Enodev) ∷ []
 
 -- THESE BREAK IT. The root's lock is taken first; it is freed between the messages; it is freed last
 abbrev pub root_first : List PathStep
-root_first = did_take (lock.Bus 0) ∷ did_take (lock.Mux 0) ∷ sees None ∷ selected_once ∷ both_read ++ closed_once ∷ both_freed
+root_first = did_take (lock.Bus 0) ∷ did_take (lock.Mux 0) ∷ sees None ∷ shut ∷ selected_once ∷ both_read ++ closed_once ∷ both_freed
 
 abbrev pub unlocked_between : List PathStep
 unlocked_between =
-    both_taken ++ sees None ∷ selected_once ∷ did_send call 1 end.Ok (0 ∷ []) ∷ did_free (lock.Bus 0) ∷ did_take (lock.Bus 0)
+    both_taken ++ sees None ∷ shut ∷ selected_once ∷ did_send call 1 end.Ok (0 ∷ []) ∷ did_free (lock.Bus 0) ∷ did_take (lock.Bus 0)
     ∷ did_send call 0 end.Ok (0x11 ∷ []) ∷ did_settle None ∷ closed_once ∷ both_freed
 
 abbrev pub freed_in_order : List PathStep
-freed_in_order = both_taken ++ sees None ∷ selected_once ∷ both_read ++ closed_once ∷ did_free (lock.Mux 0) ∷ did_free (lock.Bus 0) ∷ []
+freed_in_order = both_taken ++ sees None ∷ shut ∷ selected_once ∷ both_read ++ closed_once ∷ did_free (lock.Mux 0) ∷ did_free (lock.Bus 0) ∷ []
 
 -- the close is left out; the select follows a close that failed
 abbrev pub close_left_out : List PathStep
@@ -116,21 +120,21 @@ over_a_failed_close = both_taken ++ sees (Some 0) ∷ did_send close 0 (end.Cut 
 
 -- a deselect follows a select that was refused; it is left out behind a job
 abbrev pub deselect_of_none : List PathStep
-deselect_of_none = both_taken ++ sees None ∷ did_send (Select hop) 0 end.Nack [] ∷ did_settle (Some Enxio) ∷ closed_once ∷ both_freed
+deselect_of_none = both_taken ++ sees None ∷ shut ∷ did_send (Select hop) 0 end.Nack [] ∷ did_settle (Some Enxio) ∷ closed_once ∷ both_freed
 
 abbrev pub deselect_left_out : List PathStep
-deselect_left_out = both_taken ++ sees None ∷ selected_once ∷ both_read ++ both_freed
+deselect_left_out = both_taken ++ sees None ∷ shut ∷ selected_once ∷ both_read ++ both_freed
 
 -- the second message follows one that nobody acknowledged; the settle comes a step late
 abbrev pub over_a_nack : List PathStep
-over_a_nack = both_taken ++ sees None ∷ selected_once ∷ did_send call 1 end.Nack [] ∷ did_send call 0 end.Ok (0x11 ∷ []) ∷ did_settle None ∷ closed_once ∷ both_freed
+over_a_nack = both_taken ++ sees None ∷ shut ∷ selected_once ∷ did_send call 1 end.Nack [] ∷ did_send call 0 end.Ok (0x11 ∷ []) ∷ did_settle None ∷ closed_once ∷ both_freed
 
 abbrev pub settle_moved : List PathStep
-settle_moved = both_taken ++ sees None ∷ selected_once ∷ did_send call 1 end.Ok (0 ∷ []) ∷ did_send call 0 end.Ok (0x11 ∷ []) ∷ closed_once ∷ did_settle None ∷ both_freed
+settle_moved = both_taken ++ sees None ∷ shut ∷ selected_once ∷ did_send call 1 end.Ok (0 ∷ []) ∷ did_send call 0 end.Ok (0x11 ∷ []) ∷ closed_once ∷ did_settle None ∷ both_freed
 
 -- ANOTHER WAY TO SWITCH. An arbitrator is asked until it is found free, and then switched; after eight polls it is given up
 abbrev pub polled_hop : Hop
-polled_hop = record { bus = 1; mux = 0; channel = 0; on = 0; parent = true; kind = Pca9541 }
+polled_hop = record { bus = 1; mux = 0; channel = 0; on = 0; parent = true; stays = false; kind = Pca9541 }
 
 abbrev pub behind_arbitrator : TransferView
 behind_arbitrator = row.read 1 0x20 5
@@ -140,22 +144,22 @@ finds left byte = did_send (Select polled_hop) left end.Ok (byte ∷ [])
 
 abbrev pub polled_walk : List PathStep
 polled_walk =
-    both_taken ++ sees None ∷ finds 8 1 ∷ finds 7 0 ∷ finds 0 1
+    both_taken ++ sees None ∷ shut ∷ finds 8 1 ∷ finds 7 0 ∷ finds 0 1
     ∷ did_send (Call 1 (messages_of behind_arbitrator)) 1 end.Ok (5 ∷ []) ∷ did_send (Call 1 (messages_of behind_arbitrator)) 0 end.Ok (0x7e ∷ []) ∷ did_settle None
     ∷ did_send (Clear 0 0 Pca9541) 0 end.Ok (0 ∷ []) ∷ both_freed
 
 abbrev pub given_up_walk : List PathStep
 given_up_walk =
-    both_taken ++ sees None ∷ finds 8 1 ∷ finds 7 1 ∷ finds 6 1 ∷ finds 5 1 ∷ finds 4 1 ∷ finds 3 1 ∷ finds 2 1 ∷ finds 1 1
+    both_taken ++ sees None ∷ shut ∷ finds 8 1 ∷ finds 7 1 ∷ finds 6 1 ∷ finds 5 1 ∷ finds 4 1 ∷ finds 3 1 ∷ finds 2 1 ∷ finds 1 1
     ∷ did_settle (Some Etimedout) ∷ both_freed
 
 -- it is switched though the poll found it taken
 abbrev pub switched_while_taken : List PathStep
-switched_while_taken = both_taken ++ sees None ∷ finds 8 1 ∷ finds 0 1 ∷ did_settle None ∷ both_freed
+switched_while_taken = both_taken ++ sees None ∷ shut ∷ finds 8 1 ∷ finds 0 1 ∷ did_settle None ∷ both_freed
 
 -- a gpio mux is switched by its line; the messages follow a line step that failed
 abbrev pub line_hop : Hop
-line_hop = record { bus = 2; mux = 0; channel = 1; on = 0; parent = true; kind = Gpio }
+line_hop = record { bus = 2; mux = 0; channel = 1; on = 0; parent = true; stays = false; kind = Gpio }
 
 abbrev pub behind_gpio : TransferView
 behind_gpio = row.read 2 0x20 5
@@ -168,7 +172,7 @@ line_reads =
     did_send (Call 2 (messages_of behind_gpio)) 1 end.Ok (5 ∷ []) ∷ did_send (Call 2 (messages_of behind_gpio)) 0 end.Ok (0x7e ∷ []) ∷ did_settle None ∷ []
 
 abbrev pub line_walk : List PathStep
-line_walk = both_taken ++ sees None ∷ shifted (Select line_hop) false ∷ line_reads ++ shifted (Clear 0 0 Gpio) false ∷ both_freed
+line_walk = both_taken ++ sees None ∷ shut ∷ shifted (Select line_hop) false ∷ line_reads ++ shifted (Clear 0 0 Gpio) false ∷ both_freed
 
 abbrev pub over_a_failed_line : List PathStep
-over_a_failed_line = both_taken ++ sees None ∷ shifted (Select line_hop) true ∷ line_reads ++ shifted (Clear 0 0 Gpio) false ∷ both_freed
+over_a_failed_line = both_taken ++ sees None ∷ shut ∷ shifted (Select line_hop) true ∷ line_reads ++ shifted (Clear 0 0 Gpio) false ∷ both_freed

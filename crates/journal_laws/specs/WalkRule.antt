@@ -10,9 +10,9 @@ use Rattle.i2c_base.specs.Transfer.{TransferView}
 use Rattle.i2c_spec.specs.Tree.{Hop, hops, root_of, locks_of}
 use Rattle.i2c_spec.specs.Messages.{messages_of}
 use Rattle.i2c_spec.specs.Flat.{refusal}
-use Rattle.bus_spec.specs.Walk.{Job, Call, Select, Clear, Act, Take, Free, Send, Shift, Settle, ActOutcome, JobOutcome, Good, Refused, Unsent, Failed, MarkOf, Ends, Then, Go, On, Last, Over, goes, job_outcome, verdict_of, decides, is_line, more_of}
-use Rattle.bus_spec.specs.Slots.{mark_in}
-use Rattle.bus_spec.specs.Grammar.{kind_of, plain}
+use Rattle.bus_spec.specs.Walk.{Job, Call, Select, Clear, Act, Take, Free, Send, Shift, Settle, ActOutcome, JobOutcome, Good, Refused, Unsent, Failed, MarkOf, Ends, Then, Go, On, Last, Over, goes, job_outcome, verdict_of, decides, is_line, more_of, KeptOf}
+use Rattle.bus_spec.specs.Slots.{answer_to}
+use Rattle.bus_spec.specs.Grammar.{kind_of, plain, keeps}
 use Rattle.bus_spec.specs.Tells.{Tells}
 use Rattle.bus_spec.specs.Past.{Now, is_due}
 use Rattle.bus_spec.specs.Places.{outcome_of}
@@ -69,14 +69,18 @@ pub record IsLocked (locks : List LockId) (on : Rule) (job : Job) (forward : Boo
   pub freed : map act_of frees ≡ map (λ l. Some (Free l)) (reverse locks)
 
 -- INNER, behind a mux: where its bus carries a mark, the marked mux is closed; the channel is selected; the job is done on the
--- mux's bus; the mux is deselected. Each part is a job of its own on that bus. A deselect is on no way to the messages
+-- mux's bus; the mux is deselected, where it doesn't stay as it is. Each part is a job of its own on that bus. A deselect is on
+-- no way to the messages
+abbrev pub IsLeft : Bool → Hop → Rule → List PathStep → Type 0
+IsLeft true h on deselected = deselected ≡ []
+IsLeft false h on deselected = (last : JobOutcome) × on (Clear h.on h.mux h.kind) false deselected last
+
 pub record IsOpened (h : Hop) (on : Rule) (job : Job) (forward : Bool) (steps : List PathStep) (out : JobOutcome) : Type 0 where
   pub done : List PathStep
   pub deselected : List PathStep
-  pub last : JobOutcome
   pub all : steps ≡ done ++ deselected
   pub job_done : on job forward done out
-  pub deselect_done : on (Clear h.on h.mux h.kind) false deselected last
+  pub left : IsLeft h.stays h on deselected
 
 -- the job goes on only where the select was good: without it, neither the job is done nor the mux is deselected
 abbrev pub IfGood : JobOutcome → Type 0 → List PathStep → JobOutcome → Type 0
@@ -92,6 +96,16 @@ pub record IsChosen (h : Hop) (on : Rule) (job : Job) (forward : Bool) (steps : 
   pub all : steps ≡ selected ++ rest
   pub select_done : on (Select h) forward selected came
   pub goes_on : IfGood came (IsOpened h on job forward rest out) rest out
+
+-- a mux that stays as it is, and keeps the channel, isn't selected
+abbrev pub IsCrossed : Hop → Rule → Option ℕ → Job → Bool → List PathStep → JobOutcome → Type 0
+IsCrossed h on kept job forward steps out = MatchBool (keeps h kept) (IsOpened h on job forward steps out) (IsChosen h on job forward steps out)
+
+pub record IsPassed (h : Hop) (on : Rule) (job : Job) (forward : Bool) (steps : List PathStep) (out : JobOutcome) : Type 0 where
+  pub kept : Option ℕ
+  pub rest : List PathStep
+  pub all : steps ≡ Saw (KeptOf h.on h.mux) kept ∷ rest
+  pub crossed : IsCrossed h on kept job forward rest out
 
 -- and only where the close was sent and didn't fail by the port, acknowledged or not
 abbrev pub IfSent : JobOutcome → Type 0 → List PathStep → JobOutcome → Type 0
@@ -111,7 +125,7 @@ pub record IsBehindMux (b : BoardView) (h : Hop) (on : Rule) (job : Job) (forwar
   pub came : JobOutcome
   pub all : steps ≡ Saw (MarkOf h.on) mark ∷ (closed ++ rest)
   pub close_done : IsClosed b h on forward mark closed came
-  pub goes_on : IfSent came (IsChosen h on job forward rest out) rest out
+  pub goes_on : IfSent came (IsPassed h on job forward rest out) rest out
 
 -- on the bus of a parent-locked mux the part is the inner one, on that of a mux-locked mux the full one
 abbrev pub IsPart : Bool → List LockId → Rule → Rule
@@ -142,8 +156,8 @@ TellsAct b n act e = Tells b n (Then act plain (λ o. Ends)) e
 
 abbrev pub AreTold : BoardView → List PathStep → List Step → Type 0
 AreTold b [] steps = steps ≡ []
-AreTold b (Saw (MarkOf p) mark ∷ ps) [] = ⊥
-AreTold b (Saw (MarkOf p) mark ∷ ps) (s ∷ steps) = (mark ≡ mark_in (s.before.slot p).slot) × AreTold b ps (s ∷ steps)
+AreTold b (Saw ask answer ∷ ps) [] = ⊥
+AreTold b (Saw ask answer ∷ ps) (s ∷ steps) = (answer ≡ answer_to s.before.slot ask) × AreTold b ps (s ∷ steps)
 AreTold b (Did act out ∷ ps) [] = ⊥
 AreTold b (Did act out ∷ ps) (s ∷ steps) = TellsAct b s.before act s.entry × (out ≡ outcome_of s.entry) × AreTold b ps steps
 

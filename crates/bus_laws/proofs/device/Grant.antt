@@ -9,14 +9,14 @@ use Rattle.i2c_base.specs.declared.ids.Node.TheVariants as node
 use Rattle.i2c_base.specs.declared.tree.Grant.{Grant}
 use Rattle.i2c_base.specs.declared.tree.Grant.TheVariants as grant
 use Rattle.i2c_base.specs.Board.{BoardView, DeviceView}
-use Rattle.i2c_spec.specs.Tree.{Hop, hops, root_of, of_device, is_below, is_on_path, Crosses, IsAmongHops, IsOver, IsAlong}
+use Rattle.i2c_spec.specs.Tree.{Hop, hops, root_of, of_device, is_below, is_on_path, is_aside, Crosses, IsAmongHops, IsOver, IsAlong, MayJoin}
 use Rattle.i2c_spec.specs.TreeFacts.{IsTree, home_of, addr_of}
 use Rattle.i2c_spec.specs.Grant.{some_chip, some_device, some_bound, named_by, grant_of, named_of}
 use Rattle.i2c_spec.specs.Flat.{granted_on}
 use Rattle.i2c_spec.specs.World.{World, opens_hop, is_joined, joins_device}
 use Rattle.bus_laws.specs.Alike.{LeadsTo}
 use Rattle.bus_laws.proofs.world.Reach.{and_left, and_right}
-use Rattle.bus_laws.proofs.world.Calls.{any_at, on_or_below, busy_below, no_chip}
+use Rattle.bus_laws.proofs.world.Calls.{any_at, on_or_below, busy_below, busy_aside, no_chip}
 use Rattle.std.proofs.Math.Bool.{or-true}
 
 -- two buses over one bus lie along each other
@@ -110,12 +110,13 @@ module _ {X : Type 0} (test : X → Bool) where
       by true f rest = absurd (let here : Some k ≡ None = sym (ap (λ (t : Bool). cond t (Some k) (position_from test (k + 1) ys)) f) ∙ e in cc)
       by false f rest = rest (sym (ap (λ (t : Bool). cond t (Some k) (position_from test (k + 1) ys)) f) ∙ e)
 
-not_busy-names : (p q z : Bool) (g : Grant) → (cond p grant.Busy (cond q grant.Busy (cond z grant.Busy g)) ≡ grant.Busy → ⊥)
-    → cond p grant.Busy (cond q grant.Busy (cond z grant.Busy g)) ≡ g
-not_busy-names true q z g free = absurd (free refl)
-not_busy-names false true z g free = absurd (free refl)
-not_busy-names false false true g free = absurd (free refl)
-not_busy-names false false false g free = refl
+not_busy-names : (p q y z : Bool) (g : Grant) → (cond p grant.Busy (cond q grant.Busy (cond y grant.Busy (cond z grant.Busy g))) ≡ grant.Busy → ⊥)
+    → cond p grant.Busy (cond q grant.Busy (cond y grant.Busy (cond z grant.Busy g))) ≡ g
+not_busy-names true q y z g free = absurd (free refl)
+not_busy-names false true y z g free = absurd (free refl)
+not_busy-names false false true z g free = absurd (free refl)
+not_busy-names false false false true g free = absurd (free refl)
+not_busy-names false false false false g free = refl
 
 named_back : (o : Option ℕ) → named_of (named_by o) ≡ o
 named_back None = refl
@@ -125,7 +126,7 @@ device_there : (o : Option DeviceView) (test : DeviceView → Bool) → unwrap_o
 device_there None test e = absurd (let f : false ≡ true = e in cc)
 device_there (Some x) test e = (x, refl, e)
 
-module _ (w : World) (tree : IsTree w.board) (s : ℕ) (along : (u : ℕ) → is_joined w u ≡ true → IsAlong w.board s u) (joined : is_joined w s ≡ true)
+module _ (w : World) (tree : IsTree w.board) (s : ℕ) (along : (u : ℕ) → is_joined w u ≡ true → MayJoin w.board s u) (joined : is_joined w s ≡ true)
     (a : ℕ) (force : Bool) (not_busy : grant_of w.board s a force ≡ grant.Busy → ⊥) where
   abbrev fits : DeviceView → Bool
   fits d = eqb d.addr a && is_on_path w.board s d.bus
@@ -134,6 +135,7 @@ module _ (w : World) (tree : IsTree w.board) (s : ℕ) (along : (u : ℕ) → is
   granted-is =
       ap (λ (g : Grant). named_of g)
       (not_busy-names (some_chip w.board a (is_on_path w.board s)) (some_chip w.board a (λ u. is_below w.board u s) || some_device w.board a (λ u. is_below w.board u s))
+      (some_chip w.board a (is_aside w.board s) || some_device w.board a (is_aside w.board s))
       (not force && some_bound w.board a (is_on_path w.board s)) (named_by (position_from fits 0 w.board.devices)) not_busy)
       ∙ named_back (position_from fits 0 w.board.devices)
 
@@ -185,13 +187,20 @@ module _ (w : World) (tree : IsTree w.board) (s : ℕ) (along : (u : ℕ) → is
   joined_granted d j t =
       let r = device_there (slice_get w.board.devices d) (λ (x : DeviceView). eqb x.addr a) t in
       let bus : of_device (λ (y : DeviceView). y.bus) 0 w.board d ≡ r.0.bus = bus_at d r.0 r.1 in
-      elim (on_or_below w.board s (of_device (λ (y : DeviceView). y.bus) 0 w.board d) (along (of_device (λ (y : DeviceView). y.bus) 0 w.board d) j)) [
-        | inl on ↦ path_granted d r.0 r.1 r.2 (ap (λ (i : ℕ). is_on_path w.board s i) (sym bus) ∙ on)
-        | inr below ↦ absurd (not_busy (busy_below w.board s a force
-            (ap (λ (z : Bool). some_chip w.board a (λ u. is_below w.board u s) || z)
-            (any_at (λ (x : DeviceView). eqb x.addr a && is_below w.board x.bus s) w.board.devices d r.0 r.1
-            (and_from (eqb r.0.addr a) (is_below w.board r.0.bus s) r.2 (ap (λ (i : ℕ). is_below w.board i s) (sym bus) ∙ below)))
-            ∙ or-true (some_chip w.board a (λ u. is_below w.board u s)))))
+      elim (along (of_device (λ (y : DeviceView). y.bus) 0 w.board d) j) [
+        | inl lies ↦ elim (on_or_below w.board s (of_device (λ (y : DeviceView). y.bus) 0 w.board d) lies) [
+          | inl on ↦ path_granted d r.0 r.1 r.2 (ap (λ (i : ℕ). is_on_path w.board s i) (sym bus) ∙ on)
+          | inr below ↦ absurd (not_busy (busy_below w.board s a force
+              (ap (λ (z : Bool). some_chip w.board a (λ u. is_below w.board u s) || z)
+              (any_at (λ (x : DeviceView). eqb x.addr a && is_below w.board x.bus s) w.board.devices d r.0 r.1
+              (and_from (eqb r.0.addr a) (is_below w.board r.0.bus s) r.2 (ap (λ (i : ℕ). is_below w.board i s) (sym bus) ∙ below)))
+              ∙ or-true (some_chip w.board a (λ u. is_below w.board u s)))))
+        ]
+        | inr aside ↦ absurd (not_busy (busy_aside w.board s a force
+            (ap (λ (z : Bool). some_chip w.board a (is_aside w.board s) || z)
+            (any_at (λ (x : DeviceView). eqb x.addr a && is_aside w.board s x.bus) w.board.devices d r.0 r.1
+            (and_from (eqb r.0.addr a) (is_aside w.board s r.0.bus) r.2 (ap (λ (i : ℕ). is_aside w.board s i) (sym bus) ∙ aside)))
+            ∙ or-true (some_chip w.board a (is_aside w.board s)))))
       ]
 
   granted_leads : LeadsTo w a (granted_on w.board s force a)
@@ -204,8 +213,8 @@ module _ (w : World) (tree : IsTree w.board) (s : ℕ) (along : (u : ℕ) → is
       }
 
 -- where all that is joined lies along a joined bus, an address on it that isn't busy leads to the device that it grants
-pub granted-leads : (b : BoardView) (w : World) (s a : ℕ) (force : Bool) → w.board ≡ b → IsTree b → ((u : ℕ) → is_joined w u ≡ true → IsAlong b s u) → is_joined w s ≡ true
+pub granted-leads : (b : BoardView) (w : World) (s a : ℕ) (force : Bool) → w.board ≡ b → IsTree b → ((u : ℕ) → is_joined w u ≡ true → MayJoin b s u) → is_joined w s ≡ true
     → (grant_of b s a force ≡ grant.Busy → ⊥) → LeadsTo w a (granted_on b s force a)
 granted-leads b w s a force board =
-    subst (λ (x : BoardView). IsTree x → ((u : ℕ) → is_joined w u ≡ true → IsAlong x s u) → is_joined w s ≡ true → (grant_of x s a force ≡ grant.Busy → ⊥) → LeadsTo w a (granted_on x s force a))
+    subst (λ (x : BoardView). IsTree x → ((u : ℕ) → is_joined w u ≡ true → MayJoin x s u) → is_joined w s ≡ true → (grant_of x s a force ≡ grant.Busy → ⊥) → LeadsTo w a (granted_on x s force a))
     board (λ tree along joined free. granted_leads w tree s along joined a force free)

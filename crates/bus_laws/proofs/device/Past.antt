@@ -106,7 +106,7 @@ module _ (b : BoardView) (tree : IsTree b) (plain : IsPlainBoard b) (lines : Lin
         rooted = m.rooted;
         leads = call-leads b tree plain n.slot n.worlds stands.told asked.whose bus ms left (at (Call bus ms) left first).0.marks (n.held c)
             (record { reached = m.reached; rooted = m.rooted; finds = m.finds; owns = m.owns; may_fail = m.may_fail; granted = (calls (Call bus ms) left first).0; by_message = m.by_message });
-        through = open-through b n.slot n.worlds stands.told bus (λ g a. (m.reached g a).0);
+        through = open-through b tree n.slot n.worlds stands.told bus (λ g a. (m.reached g a).0);
       }
 
   -- a control message comes next: no device hears it
@@ -173,7 +173,7 @@ module _ (b : BoardView) (tree : IsTree b) (plain : IsPlainBoard b) (lines : Lin
       (ap (λ (w : WalkTree). first_act w) (sym (rest_is (Send (Select h) left) a.0 a.1 (Sent e bytes) a.2)) ∙ settling)
       (λ forward decided ends. (
       let way = (calls (Select h) left first).1 forward in
-      select-bars b tree asked.whose way.0 h way.1 (open-through b n.slot n.worlds stands.told h.on (λ g i. (m.reached g i).0)) left e bytes
+      select-bars b tree asked.whose way.0 h way.1 (open-through b tree n.slot n.worlds stands.told h.on (λ g i. (m.reached g i).0)) left e bytes
       (can_give (Select h) left first e bytes end_told bytes_told) decided ends))
 
   pub clear-decides : (on mux : ℕ) (kind : _) (left : ℕ) (first : IsNext b asks n c (Send (Clear on mux kind) left)) (e : End) (bytes : List ℕ) (verdict : Option Errno)

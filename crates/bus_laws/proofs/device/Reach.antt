@@ -23,11 +23,11 @@ use Rattle.i2c_spec.specs.Messages.{MessageView}
 use Rattle.i2c_spec.specs.World.{World, start_devices, has_heard, heard_of, hearers}
 use Rattle.i2c_spec.specs.Flat.{answer_of, granted_on}
 use Rattle.bus_spec.specs.Walk.{Mark, Job, Call, Select, Clear, job_bus, job_purpose, message_of, chip_address, is_gpio}
-use Rattle.bus_spec.specs.Slots.{Slots, Selected}
+use Rattle.bus_spec.specs.Slots.{Slots}
 use Rattle.bus_spec.specs.Readings.{MessageEntry}
 use Rattle.bus_spec.specs.Tells.{HearsIn, heard_list}
 use Rattle.bus_spec.specs.Legal.{starts, start_failed, IsHeardBy, IsHeardByChip, by_purpose}
-use Rattle.bus_laws.specs.Runs.{IsMuxOf, MaySend}
+use Rattle.bus_laws.specs.Runs.{IsOpenOn, IsMuxOf, MaySend}
 use Rattle.bus_laws.specs.Told.{WorldTold}
 use Rattle.bus_laws.specs.Alike.{listening, LeadsTo, IsControl}
 use Rattle.bus_laws.proofs.world.Reach.{world_of}
@@ -160,7 +160,7 @@ module _ (b : BoardView) (tree : IsTree b) (plain : IsPlainBoard b) (v : Slots) 
       (call_not_busy b whose bus ms left may.granted))
 
   module _ (m on : ℕ) (kind : MuxKind) (known : IsMuxOf b m kind) (line : is_gpio kind ≡ false) (home : home_of_mux b m ≡ on)
-      (reached : (g : Hop) → IsAmongHops g (hops b on) → (v g.on).slot ≡ Selected g) where
+      (reached : (g : Hop) → IsAmongHops g (hops b on) → IsOpenOn b g (v g.on)) where
     -- a control message goes to its chip, and to no device
     pub control-leads : IsControl (ws (root_of b on)) (chip_address b m)
     control-leads =
@@ -188,7 +188,7 @@ module _ (b : BoardView) (tree : IsTree b) (plain : IsPlainBoard b) (v : Slots) 
 
   -- a control message has the address of its mux, whose chip alone hears it, where it is there
   control_both : (m on : ℕ) (kind : MuxKind) → IsMuxOf b m kind → is_gpio kind ≡ false → home_of_mux b m ≡ on
-      → ((g : Hop) → IsAmongHops g (hops b on) → (v g.on).slot ≡ Selected g) → (reading : Bool) (k a : ℕ) → m ≡ k → a ≡ chip_address b m
+      → ((g : Hop) → IsAmongHops g (hops b on) → IsOpenOn b g (v g.on)) → (reading : Bool) (k a : ℕ) → m ≡ k → a ≡ chip_address b m
       → (addr_of_mux b k ≡ Some a) × (hearers (ws (root_of b on)) a reading ≡ cond (not (is_absent b k)) (node.Chip k ∷ []) [])
   control_both m on kind known line home reached reading k a same addr =
       subst (λ (i : ℕ). (addr_of_mux b i ≡ Some a) × (hearers (ws (root_of b on)) a reading ≡ cond (not (is_absent b i)) (node.Chip i ∷ []) [])) same

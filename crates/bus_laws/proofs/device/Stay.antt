@@ -14,7 +14,7 @@ use Rattle.i2c_base.specs.declared.ids.Node.{Node}
 use Rattle.i2c_base.specs.declared.ids.Node.TheVariants as node
 use Rattle.i2c_base.specs.Board.{BoardView, DeviceView}
 use Rattle.i2c_base.specs.Table.{Table}
-use Rattle.i2c_spec.specs.Tree.{of_device, home_of_mux, addr_of_mux, IsAlong}
+use Rattle.i2c_spec.specs.Tree.{of_device, home_of_mux, addr_of_mux, MayJoin}
 use Rattle.i2c_spec.specs.TreeFacts.{IsTree}
 use Rattle.i2c_spec.specs.Plain.{IsPlainBoard, IsPlainDevice}
 use Rattle.i2c_spec.specs.Targets.{TargetState, HoldsBytes, IsQuiet, state_table, opening_state}
@@ -25,8 +25,8 @@ use Rattle.i2c_spec.specs.Conversation.{world_listener, talk}
 use Rattle.bus_laws.specs.Alike.{IsOf, Same, IsControl, IsUnnamed}
 use Rattle.bus_laws.proofs.world.TalkLaws.{talk-keeps}
 use Rattle.bus_laws.proofs.world.Feed.{hears, feed-same, heard-none}
-use Rattle.bus_laws.proofs.world.Reach.{start_heard, other_state}
-use Rattle.bus_laws.proofs.world.Hears.{swap_along, device_address}
+use Rattle.bus_laws.proofs.world.Reach.{control_alone, start_heard, other_state}
+use Rattle.bus_laws.proofs.world.Hears.{device_address}
 use Rattle.bus_laws.proofs.world.BoardFacts.{get_within}
 use Rattle.i2c_spec.proofs.StateLemmas.{opening-quiet, opening-bytes}
 use Rattle.bus_laws.proofs.device.Hears.{fed-at, map-same}
@@ -174,15 +174,14 @@ fault-same b r w xs s =
     (stop-same b r w (idle xs) s (λ a. None))
 
 -- no device along its bus has the address of a mux chip there
-pub chip-control : (b : BoardView) (w : World) (s m a : ℕ) → w.board ≡ b → IsTree b → ((u : ℕ) → is_joined w u ≡ true → IsAlong b s u)
+pub chip-control : (b : BoardView) (w : World) (s m a : ℕ) → w.board ≡ b → IsTree b → ((u : ℕ) → is_joined w u ≡ true → MayJoin b s u)
     → addr_of_mux b m ≡ Some a → home_of_mux b m ≡ s → IsControl w a
 chip-control b w s m a board =
-    subst (λ (x : BoardView). IsTree x → ((u : ℕ) → is_joined w u ≡ true → IsAlong x s u) → addr_of_mux x m ≡ Some a → home_of_mux x m ≡ s → IsControl w a) board
+    subst (λ (x : BoardView). IsTree x → ((u : ℕ) → is_joined w u ≡ true → MayJoin x s u) → addr_of_mux x m ≡ Some a → home_of_mux x m ≡ s → IsControl w a) board
     (λ tree along addr home d j t.
     (let same : node.Device d ≡ node.Chip m =
-    tree.addresses (node.Device d) (node.Chip m) a (device_address a (slice_get w.board.devices d) t) addr
-    (swap_along w.board (home_of_mux w.board m) (of_device (λ (y : DeviceView). y.bus) 0 w.board d)
-    (subst (λ (i : ℕ). IsAlong w.board i (of_device (λ (y : DeviceView). y.bus) 0 w.board d)) (sym home) (along (of_device (λ (y : DeviceView). y.bus) 0 w.board d) j))) in
+    control_alone w.board tree m a addr (node.Device d) (device_address a (slice_get w.board.devices d) t)
+    (subst (λ (i : ℕ). MayJoin w.board i (of_device (λ (y : DeviceView). y.bus) 0 w.board d)) (sym home) (along (of_device (λ (y : DeviceView). y.bus) 0 w.board d) j)) in
     absurd (cc)))
 
 -- OTHER ROOTS

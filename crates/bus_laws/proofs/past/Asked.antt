@@ -13,8 +13,8 @@ use Rattle.i2c_spec.specs.TreeFacts.{IsTree}
 use Rattle.i2c_spec.specs.Plain.{IsPlainBoard}
 use Rattle.i2c_spec.specs.World.{World}
 use Rattle.i2c_spec.specs.History.{Asks, changed_at}
-use Rattle.bus_spec.specs.Walk.{Mark, Job, Call, Select, Clear, Act, Take, Free, Send, Shift, Settle, ActOutcome, Passed, Sent, Lined, Note, MarkOf, WalkTree, Ends, Look, Then, job_bus, job_purpose}
-use Rattle.bus_spec.specs.Slots.{Slots, mark_in, after_job}
+use Rattle.bus_spec.specs.Walk.{Mark, Job, Call, Select, Clear, Act, Take, Free, Send, Shift, Settle, ActOutcome, Passed, Sent, Lined, Note, WalkTree, Ends, Look, Then, job_bus, job_purpose}
+use Rattle.bus_spec.specs.Slots.{Slots, answer_to, after_job}
 use Rattle.bus_spec.specs.Grammar.{walk_for, seen, is_over, first_act, first_note, rest_of}
 use Rattle.bus_spec.specs.Readings.{MessageEntry, OfMessage, replies}
 use Rattle.bus_spec.specs.Past.{Now, begun, current, opening, step, now, world_at, sent_by, lined_by}
@@ -37,7 +37,7 @@ use Rattle.bus_laws.proofs.device.Reach.{send-reaches}
 -- the looks in front of a walk change nothing
 pub settles_seen : (slots : Slots) (done : Bool) (w : WalkTree) → Settles done w → Settles done (seen slots w)
 settles_seen slots done Ends h = h
-settles_seen slots done (Look (MarkOf p) next) h = settles_seen slots done (next (mark_in (slots p).slot)) (h (mark_in (slots p).slot))
+settles_seen slots done (Look ask next) h = settles_seen slots done (next (answer_to slots ask)) (h (answer_to slots ask))
 settles_seen slots done (Then act note next) h = h
 
 -- each caller's walk is of what it asks for

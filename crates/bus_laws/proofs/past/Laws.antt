@@ -9,24 +9,24 @@ use Rattle.i2c_base.specs.declared.entry.Entry.{Entry}
 use Rattle.i2c_base.specs.declared.entry.Entry.TheVariants as entry
 use Rattle.i2c_base.specs.Board.{BoardView}
 use Rattle.i2c_base.specs.Transfer.{TransferView}
-use Rattle.i2c_spec.specs.Tree.{Hop, hops, root_of, home_of_mux, IsAmongHops, IsOver}
+use Rattle.i2c_spec.specs.Tree.{Hop, hops, root_of, home_of_mux, is_left_open, IsAmongHops, IsOver}
 use Rattle.i2c_spec.specs.TreeFacts.{IsTree}
 use Rattle.i2c_spec.specs.Plain.{IsPlainBoard}
 use Rattle.i2c_spec.specs.World.{opens_hop}
 use Rattle.i2c_spec.specs.History.{Asks}
 use Rattle.bus_spec.specs.Walk.{Job, Act, Take, Free, Send, Shift, Settle, ActOutcome, Passed, Note, WalkTree, Then, job_bus}
-use Rattle.bus_spec.specs.Slots.{MuxSlot, Clean, Selected, Marked, Polled, Found, mark_in, after_job}
+use Rattle.bus_spec.specs.Slots.{mark_in, after_job}
 use Rattle.bus_spec.specs.Grammar.{first_act, first_note}
 use Rattle.bus_spec.specs.Readings.{OfMessage, rank, holder, is_lock}
-use Rattle.bus_spec.specs.Past.{Now, current, now, world_at, sent_by, lined_by}
+use Rattle.bus_spec.specs.Past.{Now, current, now, mark, world_at, sent_by, lined_by}
 use Rattle.bus_spec.specs.Stepwise.{IsBelow, May, IsStepwise}
 use Rattle.bus_spec.specs.Tells.{HearsIn}
 use Rattle.bus_spec.specs.Legal.{LocksAt, KeepsLocks}
-use Rattle.bus_laws.specs.Runs.{InLocks, IsShut, LeavesShut, CanSend, MaySend, Runs}
+use Rattle.bus_laws.specs.Runs.{InLocks, LeavesShut, CanSend, MaySend, Runs}
 use Rattle.bus_laws.specs.Told.{Explains}
 use Rattle.bus_laws.specs.Lines.{LinesAreLocked}
 use Rattle.bus_laws.specs.Stands.{Stands, CallerStands}
-use Rattle.bus_laws.specs.Reach.{AsksForMessages, IsSelectedBy, KeepsClosed, HasItsPath, KeepsPathsOpen}
+use Rattle.bus_laws.specs.Reach.{AsksForMessages, IsKeptOpen, KeepsClosed, HasItsPath, KeepsPathsOpen}
 use Rattle.bus_laws.proofs.world.Law.{path_open}
 use Rattle.bus_laws.proofs.past.StandsFacts.{current-stands}
 use Rattle.bus_laws.proofs.past.StandsStep.{send_known}
@@ -103,31 +103,22 @@ module _ (b : BoardView) (tree : IsTree b) (plain : IsPlainBoard b) (lines : Lin
   locks-kept (e ∷ past) steps = (locks_at e past (past-stands past steps.1) steps.0, locks-kept past steps.1)
 
   -- CLOSED
-  explained : (past : List Entry) (m c : ℕ) → Stands b (now b asks past) → (s : MuxSlot) → ((now b asks past).slot (home_of_mux b m)).slot ≡ s → Explains s m c
-      → IsSelectedBy b asks past m c ⊎ (mark_in s ≡ Some m)
-  explained past m c stands (Selected h) at e =
-      by_holder ((now b asks past).holder (lock.Mux (home_of_mux b m))) refl
+  explained : (past : List Entry) (m c : ℕ) → Stands b (now b asks past) → Explains ((now b asks past).slot (home_of_mux b m)) m c
+      → IsKeptOpen b asks past m c ⊎ (mark b asks past (home_of_mux b m) ≡ Some m)
+  explained past m c stands e =
+      elim e [
+        | inl keeps ↦ inl (record { kept = keeps; whose = by_holder ((now b asks past).holder (lock.Mux (home_of_mux b m))) refl keeps })
+        | inr marked ↦ inr (ap mark_in marked)
+      ]
     where
-      by_holder : (o : Option ℕ) → (now b asks past).holder (lock.Mux (home_of_mux b m)) ≡ o → IsSelectedBy b asks past m c ⊎ (mark_in (Selected h) ≡ Some m)
-      by_holder None none = absurd (subst (λ (x : MuxSlot). IsShut x) at (stands.shut (home_of_mux b m) none).shut)
-      by_holder (Some k) has =
-          inl (record {
-            hop = h;
-            selected = at;
-            of_mux = e.0;
-            of_channel = e.1;
-            caller = k;
-            locked = sym (holder-told b asks past (lock.Mux (home_of_mux b m))) ∙ has;
-          })
-  explained past m c stands (Marked k) at e = inr (ap (λ (i : ℕ). Some i) e)
-  explained past m c stands Clean at e = absurd e
-  explained past m c stands (Polled h more) at e = absurd e
-  explained past m c stands (Found h) at e = absurd e
+      by_holder : (o : Option ℕ) → (now b asks past).holder (lock.Mux (home_of_mux b m)) ≡ o → ((now b asks past).slot (home_of_mux b m)).kept m ≡ Some c
+          → (is_left_open b m ≡ true) ⊎ ((caller : ℕ) × (holder past (lock.Mux (home_of_mux b m)) ≡ Some caller))
+      by_holder None none keeps = inl ((stands.shut (home_of_mux b m) none).stay m c keeps).1
+      by_holder (Some k) has keeps = inr (k, sym (holder-told b asks past (lock.Mux (home_of_mux b m))) ∙ has)
 
   pub closed-kept : (past : List Entry) → IsStepwise b callers asks past → KeepsClosed b asks past
   closed-kept past steps m c x at opens =
-      explained past m c (past-stands past steps) ((now b asks past).slot (home_of_mux b m)).slot refl
-      ((past-stands past steps).told.told.only m c x at opens)
+      explained past m c (past-stands past steps) ((past-stands past steps).told.told.only m c x at opens)
 
   -- OPEN PATHS
   open_at : (e : Entry) (past : List Entry) → Stands b (now b asks past) → May b callers asks (now b asks past) e → OfMessage (HasItsPath b asks past) e

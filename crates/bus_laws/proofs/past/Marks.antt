@@ -14,10 +14,10 @@ use Rattle.i2c_base.specs.Board.{BoardView}
 use Rattle.i2c_spec.specs.Tree.{Hop, buses, buses_of, home_of_mux}
 use Rattle.i2c_spec.specs.TreeFacts.{IsTree}
 use Rattle.i2c_spec.specs.Plain.{IsPlainBoard, IsPlanted}
-use Rattle.i2c_spec.specs.History.{Asks}
+use Rattle.i2c_spec.specs.History.{Asks, changed_at}
 use Rattle.i2c_spec.proofs.HopLemmas.{buses_of-cons, buses_of-reverse}
 use Rattle.bus_spec.specs.Walk.{Mark, Job, Call, Select, Clear, Act, Send, Shift, ActOutcome, Passed, Sent, Lined, Note, WalkTree, first_byte}
-use Rattle.bus_spec.specs.Slots.{Slots, At, MuxSlot, Clean, Selected, Marked, Polled, Found, mark_in, with_slot, set_marks, select_slot, after_select, after_clear, after_job}
+use Rattle.bus_spec.specs.Slots.{Slots, At, MuxSlot, Clean, Marked, Polled, Found, mark_in, turned, turned_at, set_marks, polled_slot, select_told, after_select, after_clear, after_job}
 use Rattle.bus_spec.specs.Grammar.{first_note}
 use Rattle.bus_spec.specs.Past.{Now, current, now, mark, sent_by, lined_by}
 use Rattle.bus_spec.specs.Stepwise.{IsNext, IsStepwise}
@@ -26,7 +26,7 @@ use Rattle.bus_laws.specs.Lines.{LinesAreLocked}
 use Rattle.bus_laws.specs.Stands.{CallerStands}
 use Rattle.bus_laws.specs.Reach.{AsksForMessages}
 use Rattle.bus_laws.proofs.world.BoardFacts.{get_within}
-use Rattle.bus_laws.proofs.tree.Slots.{with_slot-same, with_slot-other, marked_slot}
+use Rattle.bus_laws.proofs.tree.Slots.{changed-same, changed-other, marked_slot}
 use Rattle.bus_laws.proofs.past.StandsFacts.{current-stands}
 use Rattle.bus_laws.proofs.past.StandsEntries.{first_is}
 use Rattle.bus_laws.proofs.past.Laws.{past-stands}
@@ -63,31 +63,30 @@ home_there b plain m = by (slice_get b.muxes m) refl
 abbrev AreHome : BoardView → Slots → Type 0
 AreHome b v = (p m : ℕ) → (v p).slot ≡ Marked m → home_of_mux b m ≡ p
 
-slot_home : (b : BoardView) (v : Slots) (on : ℕ) (s : MuxSlot) → AreHome b v → ((m : ℕ) → s ≡ Marked m → home_of_mux b m ≡ on) → AreHome b (with_slot v on s)
-slot_home b v on s homes own p m at =
+slot_home : (b : BoardView) (v : Slots) (on : ℕ) (x : At) → AreHome b v → ((m : ℕ) → x.slot ≡ Marked m → home_of_mux b m ≡ on) → AreHome b (changed_at v on x)
+slot_home b v on x homes own p m at =
     elim (eqb_tells p on) [
-      | inl h ↦ own m (sym (ap (λ (x : At). x.slot) (with_slot-same v on s)) ∙ ap (λ (q : ℕ). (with_slot v on s q).slot) (sym h.1) ∙ at) ∙ sym h.1
-      | inr h ↦ homes p m (sym (ap (λ (x : At). x.slot) (with_slot-other v on p s h.1)) ∙ at)
+      | inl h ↦ own m (sym (ap (λ (y : At). y.slot) (changed-same v on x)) ∙ ap (λ (q : ℕ). (changed_at v on x q).slot) (sym h.1) ∙ at) ∙ sym h.1
+      | inr h ↦ homes p m (sym (ap (λ (y : At). y.slot) (changed-other v on p x h.1)) ∙ at)
     ]
 
-clean_home : (b : BoardView) (v : Slots) (on : ℕ) (s : MuxSlot) → AreHome b v → mark_in s ≡ None → AreHome b (with_slot v on s)
-clean_home b v on s homes none =
-    slot_home b v on s homes (λ m e. absurd (let f : None ≡ Some m = sym none ∙ ap mark_in e in cc))
+clean_home : (b : BoardView) (v : Slots) (on mux : ℕ) (s : MuxSlot) (c : Option ℕ) → AreHome b v → mark_in s ≡ None → AreHome b (turned v on mux s c)
+clean_home b v on mux s c homes none =
+    slot_home b v on (turned_at (v on) mux s c) homes (λ m e. absurd (let f : None ≡ Some m = sym none ∙ ap mark_in e in cc))
 
 marks_home : (b : BoardView) (held : List LockId) (w : Slots) (ms : List Mark) (v : Slots) → MayFail b ms held w → AreHome b v → AreHome b (set_marks ms v)
 marks_home b held w [] v fail homes = homes
 marks_home b held w (k ∷ ms) v fail homes =
-    slot_home b (set_marks ms v) k.on (Marked k.mux) (marks_home b held w ms v fail.1 homes)
+    slot_home b (set_marks ms v) k.on (turned_at (v k.on) k.mux (Marked k.mux) None) (marks_home b held w ms v fail.1 homes)
     (λ m e. subst (λ (i : ℕ). home_of_mux b i ≡ k.on) (let f : Marked k.mux ≡ Marked m = e in cc) fail.0.at_home)
 
-pub select_unmarked : (h : Hop) (left : ℕ) (bytes : List ℕ) → mark_in (select_slot h left bytes) ≡ None
-select_unmarked h zero bytes = refl
-select_unmarked h (suc zero) bytes = by (eqb (first_byte bytes) 0)
+pub poll_unmarked : (h : Hop) (left : ℕ) (bytes : List ℕ) → mark_in (polled_slot h left bytes) ≡ None
+poll_unmarked h zero bytes = by (eqb (first_byte bytes) 0)
   where
     by : (t : Bool) → mark_in (cond t (Found h) Clean) ≡ None
     by true = refl
     by false = refl
-select_unmarked h (suc (suc left)) bytes = by (eqb (first_byte bytes) 0)
+poll_unmarked h (suc left) bytes = by (eqb (first_byte bytes) 0)
   where
     by : (t : Bool) → mark_in (cond t (Found h) (Polled h left)) ≡ None
     by true = refl
@@ -97,32 +96,36 @@ module _ (b : BoardView) (held : List LockId) (w : Slots) (marks : List Mark) (f
   failed_home : AreHome b (set_marks marks v)
   failed_home = marks_home b held w marks v fail homes
 
+  told_home : (h : Hop) (left : ℕ) (bytes : List ℕ) → AreHome b (select_told h left bytes v)
+  told_home h zero bytes = clean_home b v h.on h.mux Clean (Some h.channel) homes refl
+  told_home h (suc left) bytes = clean_home b v h.on h.mux (polled_slot h left bytes) None homes (poll_unmarked h left bytes)
+
   select_home : (h : Hop) (left : ℕ) (out : ActOutcome) → AreHome b (after_select h left marks out v)
-  select_home h left (Sent end.Ok bytes) = clean_home b v h.on (select_slot h left bytes) homes (select_unmarked h left bytes)
-  select_home h left (Sent end.Nack bytes) = clean_home b v h.on Clean homes refl
-  select_home h left (Sent end.Slow bytes) = clean_home b v h.on Clean homes refl
-  select_home h left (Sent end.Refused bytes) = clean_home b v h.on Clean homes refl
-  select_home h left (Sent end.Proto bytes) = clean_home b v h.on Clean homes refl
+  select_home h left (Sent end.Ok bytes) = told_home h left bytes
+  select_home h left (Sent end.Nack bytes) = clean_home b v h.on h.mux Clean None homes refl
+  select_home h left (Sent end.Slow bytes) = clean_home b v h.on h.mux Clean None homes refl
+  select_home h left (Sent end.Refused bytes) = clean_home b v h.on h.mux Clean None homes refl
+  select_home h left (Sent end.Proto bytes) = clean_home b v h.on h.mux Clean None homes refl
   select_home h left (Sent (end.Cut q) bytes) = failed_home
   select_home h left (Lined true) = failed_home
-  select_home h left (Lined false) = clean_home b v h.on (Selected h) homes refl
+  select_home h left (Lined false) = clean_home b v h.on h.mux Clean (Some h.channel) homes refl
   select_home h left Passed = homes
 
-  clear_home : (on : ℕ) (out : ActOutcome) → AreHome b (after_clear on marks out v)
-  clear_home on (Sent end.Ok bytes) = clean_home b v on Clean homes refl
-  clear_home on (Sent end.Nack bytes) = clean_home b v on Clean homes refl
-  clear_home on (Sent end.Slow bytes) = clean_home b v on Clean homes refl
-  clear_home on (Sent end.Refused bytes) = clean_home b v on Clean homes refl
-  clear_home on (Sent end.Proto bytes) = clean_home b v on Clean homes refl
-  clear_home on (Sent (end.Cut q) bytes) = failed_home
-  clear_home on (Lined true) = failed_home
-  clear_home on (Lined false) = clean_home b v on Clean homes refl
-  clear_home on Passed = homes
+  clear_home : (on mux : ℕ) (out : ActOutcome) → AreHome b (after_clear on mux marks out v)
+  clear_home on mux (Sent end.Ok bytes) = clean_home b v on mux Clean None homes refl
+  clear_home on mux (Sent end.Nack bytes) = clean_home b v on mux Clean None homes refl
+  clear_home on mux (Sent end.Slow bytes) = clean_home b v on mux Clean None homes refl
+  clear_home on mux (Sent end.Refused bytes) = clean_home b v on mux Clean None homes refl
+  clear_home on mux (Sent end.Proto bytes) = clean_home b v on mux Clean None homes refl
+  clear_home on mux (Sent (end.Cut q) bytes) = failed_home
+  clear_home on mux (Lined true) = failed_home
+  clear_home on mux (Lined false) = clean_home b v on mux Clean None homes refl
+  clear_home on mux Passed = homes
 
   job_home : (job : Job) (left : ℕ) (out : ActOutcome) → AreHome b (after_job job left marks out v)
   job_home (Call bus ms) left out = homes
   job_home (Select h) left out = select_home h left out
-  job_home (Clear on mux kind) left out = clear_home on out
+  job_home (Clear on mux kind) left out = clear_home on mux out
 
 -- EVERY PAST
 module _ (b : BoardView) (tree : IsTree b) (plain : IsPlainBoard b) (lines : LinesAreLocked b) (asks : Asks) (some : AsksForMessages asks) (callers : ℕ) where

@@ -12,8 +12,8 @@ use Rattle.i2c_base.specs.Board.{BoardView}
 use Rattle.i2c_base.specs.Transfer.{TransferView}
 use Rattle.i2c_spec.specs.Flat.{refusal}
 use Rattle.i2c_spec.specs.History.{Asks, changed_at}
-use Rattle.bus_spec.specs.Walk.{Job, Call, Select, Clear, Act, Take, Free, Send, Shift, Settle, ActOutcome, Passed, Sent, Lined, Note, MarkOf, WalkTree, Ends, Look, Then, goes, verdict_of}
-use Rattle.bus_spec.specs.Slots.{Slots, mark_in}
+use Rattle.bus_spec.specs.Walk.{Job, Call, Select, Clear, Act, Take, Free, Send, Shift, Settle, ActOutcome, Passed, Sent, Lined, Note, WalkTree, Ends, Look, Then, goes, verdict_of}
+use Rattle.bus_spec.specs.Slots.{Slots, answer_to}
 use Rattle.bus_spec.specs.Grammar.{seen, is_over, first_act, first_note, rest_of}
 use Rattle.bus_spec.specs.Readings.{caller_of, replies, last_cut, cut_told}
 use Rattle.bus_spec.specs.Past.{Now, begun, current, step, now, is_on, is_due, sent_by, lined_by, with_due, moved}
@@ -31,7 +31,7 @@ use Rattle.bus_laws.proofs.past.Asked.{current-asked, past-asked, settled-told}
 -- a walk that settles nothing next
 pub starts_seen : (v : Slots) (w : WalkTree) → NoSettle w → NoSettle (seen v w)
 starts_seen v Ends h = h
-starts_seen v (Look (MarkOf p) next) h = starts_seen v (next (mark_in (v p).slot)) (h (mark_in (v p).slot))
+starts_seen v (Look ask next) h = starts_seen v (next (answer_to v ask)) (h (answer_to v ask))
 starts_seen v (Then act note next) h = h
 
 pub no_settle : (w : WalkTree) (verdict : Option Errno) → NoSettle w → first_act w ≡ Some (Settle verdict) → ⊥

@@ -9,8 +9,8 @@ use Rattle.i2c_base.specs.Board.{BoardView}
 use Rattle.i2c_spec.specs.TreeFacts.{IsTree}
 use Rattle.i2c_spec.specs.Plain.{IsPlainBoard}
 use Rattle.i2c_spec.specs.History.{Asks}
-use Rattle.bus_spec.specs.Walk.{Act, Take, Free, Send, Shift, Settle, Passed, MarkOf, WalkTree, Ends, Look, Then}
-use Rattle.bus_spec.specs.Slots.{Slots, At, mark_in}
+use Rattle.bus_spec.specs.Walk.{Act, Take, Free, Send, Shift, Settle, Passed, WalkTree, Ends, Look, Then}
+use Rattle.bus_spec.specs.Slots.{Slots, At, answer_to}
 use Rattle.bus_spec.specs.Grammar.{seen, is_over, first_act}
 use Rattle.bus_spec.specs.Readings.{rank, holder, is_lock}
 use Rattle.bus_spec.specs.Past.{Now, begun, current, now}
@@ -46,7 +46,7 @@ holders_known b callers asks (entry.Settle d r cut ∷ past) steps l c has = hol
 -- a walk behind its looks has ended, or has a step
 pub act_or_end : (v : Slots) (w : WalkTree) → (seen v w ≡ Ends) ⊎ ((act : Act) × (first_act (seen v w) ≡ Some act))
 act_or_end v Ends = inl refl
-act_or_end v (Look (MarkOf p) next) = act_or_end v (next (mark_in (v p).slot))
+act_or_end v (Look ask next) = act_or_end v (next (answer_to v ask))
 act_or_end v (Then act note next) = inr (act, refl)
 
 -- a caller has a next step, and doesn't wait with it for a lock

@@ -14,7 +14,7 @@ use Rattle.i2c_spec.specs.World.{World, after}
 use Rattle.i2c_spec.specs.Flat.{block_limit}
 use Rattle.i2c_spec.specs.History.{Asks, changed_at}
 use Rattle.bus_spec.specs.Walk.{Mark, Job, Act, Take, Free, Send, Shift, Settle, ActOutcome, Passed, Sent, Lined, Note, WalkTree, Ends, Look, Then, job_bus}
-use Rattle.bus_spec.specs.Slots.{Slots, At, with_slot, after_job}
+use Rattle.bus_spec.specs.Slots.{Slots, At, after_job}
 use Rattle.bus_spec.specs.Grammar.{first_act, first_note, rest_of}
 use Rattle.bus_spec.specs.Past.{Now, current, step, talk_of, held_by, without, line_call, cut_of, moved, with_due, sent_by, lined_by}
 use Rattle.bus_spec.specs.Stepwise.{May}
@@ -23,7 +23,7 @@ use Rattle.bus_laws.specs.Told.{WorldTold}
 use Rattle.bus_laws.specs.Lines.{LinesAreLocked}
 use Rattle.bus_laws.specs.Reach.{AsksForMessages}
 use Rattle.bus_laws.specs.Stands.{CallerStands, StandsIn, Stands, IsOnce}
-use Rattle.bus_laws.proofs.tree.Slots.{with_slot-same, with_slot-other}
+use Rattle.bus_laws.proofs.tree.Slots.{changed-same, changed-other}
 use Rattle.bus_laws.proofs.world.Sends.{told-send}
 use Rattle.bus_laws.proofs.world.Lines.{told-shift}
 use Rattle.bus_laws.proofs.past.StandsFacts.{current-stands}
@@ -73,8 +73,8 @@ module _ (b : BoardView) (tree : IsTree b) (plain : IsPlainBoard b) (lines : Lin
       elim i [ inl e ↦ absurd (let f : lock.Mux p ≡ lock.Bus r = e in cc) | inr more ↦ cur.agree p more ]
   taken_agree (lock.Mux q) p i =
       elim (eqb_tells p q) [
-        | inl h ↦ ap (λ (j : ℕ). with_slot cur.view q (n.slot q).slot j) h.1 ∙ with_slot-same cur.view q (n.slot q).slot ∙ ap n.slot (sym h.1)
-        | inr h ↦ with_slot-other cur.view q p (n.slot q).slot h.1
+        | inl h ↦ ap (λ (j : ℕ). changed_at cur.view q (n.slot q) j) h.1 ∙ changed-same cur.view q (n.slot q) ∙ ap n.slot (sym h.1)
+        | inr h ↦ changed-other cur.view q p (n.slot q) h.1
             ∙ elim i [ inl e ↦ absurd (h.1 (let f : lock.Mux p ≡ lock.Mux q = e in cc)) | inr more ↦ cur.agree p more ]
       ]
 

@@ -1,13 +1,13 @@
 -- One caller and the others: what a step of a walk does to the locks and to what is known of the buses.
-use Rattle.std.proofs.Common.{◌≡◌, ℕ, Bool, true, false, cond, List, [], Option, Some, None, refl, sym, subst}
+use Rattle.std.proofs.Common.{◌≡◌, ℕ, Bool, true, false, cond, List, [], Option, Some, None, refl, sym, ap, subst}
 use Rattle.i2c_base.specs.declared.ids.LockId.{LockId}
 use Rattle.i2c_base.specs.declared.ids.LockId.TheVariants as lock
 use Rattle.i2c_base.specs.Board.{BoardView}
 use Rattle.i2c_base.specs.Transfer.{TransferView}
 use Rattle.i2c_spec.specs.TreeFacts.{IsTree}
 use Rattle.i2c_spec.specs.History.{Asks}
-use Rattle.bus_spec.specs.Walk.{MarkOf, WalkTree, Ends, Look, Then}
-use Rattle.bus_spec.specs.Slots.{Slots, At, mark_in}
+use Rattle.bus_spec.specs.Walk.{Ask, MarkOf, KeptOf, ask_bus, WalkTree, Ends, Look, Then}
+use Rattle.bus_spec.specs.Slots.{Slots, At, answer_to, mark_in}
 use Rattle.bus_spec.specs.Grammar.{walk_for, seen, is_over}
 use Rattle.bus_spec.specs.Past.{Now, begun, current}
 use Rattle.bus_laws.specs.Runs.{InLocks, Runs}
@@ -17,13 +17,18 @@ use Rattle.bus_laws.specs.Stands.{CallerStands, Stands}
 use Rattle.bus_laws.specs.Others.{ahead}
 use Rattle.bus_laws.proofs.tree.Law.{walk-runs}
 
+-- what answers a question is told of its bus
+pub answer_alike : (ask : Ask) (v w : Slots) → v (ask_bus ask) ≡ w (ask_bus ask) → answer_to v ask ≡ answer_to w ask
+answer_alike (MarkOf p) v w e = ap (λ (x : At). mark_in x.slot) e
+answer_alike (KeptOf p m) v w e = ap (λ (x : At). x.kept m) e
+
 -- the looks in front of a walk change nothing where what is looked at is known
 pub runs_seen : (b : BoardView) (whose : TransferView) (held : List LockId) (view slots : Slots) → ((p : ℕ) → InLocks (lock.Mux p) held → view p ≡ slots p)
     → (w : WalkTree) → Runs b whose held view w → Runs b whose held view (seen slots w)
 runs_seen b whose held view slots agree Ends runs = runs
-runs_seen b whose held view slots agree (Look (MarkOf p) next) runs =
-    runs_seen b whose held view slots agree (next (mark_in (slots p).slot))
-    (subst (λ (x : At). Runs b whose held view (next (mark_in x.slot))) (agree p runs.0) runs.1)
+runs_seen b whose held view slots agree (Look ask next) runs =
+    runs_seen b whose held view slots agree (next (answer_to slots ask))
+    (subst (λ (m : Option ℕ). Runs b whose held view (next m)) (answer_alike ask view slots (agree (ask_bus ask) runs.0)) runs.1)
 runs_seen b whose held view slots agree (Then act note next) runs = runs
 
 -- a walk that is over has ended

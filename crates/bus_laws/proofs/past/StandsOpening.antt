@@ -10,7 +10,7 @@ use Rattle.i2c_base.specs.Board.{BoardView}
 use Rattle.i2c_base.specs.Transfer.{TransferView}
 use Rattle.i2c_spec.specs.Chips.{ChipView, is_open, chip_opening}
 use Rattle.i2c_spec.specs.World.{opening_world}
-use Rattle.bus_spec.specs.Slots.{Clean, Selected, Marked, Polled, Found, all_clean}
+use Rattle.bus_spec.specs.Slots.{Clean, Marked, Polled, Found, all_clean}
 use Rattle.bus_spec.specs.Past.{opening}
 use Rattle.bus_laws.specs.Told.{IsChipOf, WorldTold}
 use Rattle.bus_laws.specs.Stands.{Stands}
@@ -48,7 +48,7 @@ opening_told b =
       rest = λ r i x e. (let s = opening_chip b i x e in ap (λ (y : ChipView). y.waiting) s.2);
       told = record {
         kept = λ m x e. told_kept b m x e;
-        opened = λ p h e. absurd (let f : Clean ≡ Selected h = e in cc);
+        opened = λ m c e. absurd (let f : None ≡ Some c = e in cc);
         polled = λ p h n x e at. absurd (let f : Clean ≡ Polled h n = e in cc);
         found = λ p h x e at. absurd (let f : Clean ≡ Found h = e in cc);
         asked = λ p h n e. absurd (let f : Clean ≡ Polled h n = e in cc);
@@ -69,6 +69,7 @@ opening-stands b nobody =
         shut = tt;
         home = λ m f. absurd (let g : Clean ≡ Marked m = f in cc);
         known = λ m f. absurd (let g : Clean ≡ Marked m = f in cc);
+        stay = λ m c e. absurd (let f : None ≡ Some c = e in cc);
       };
       told = opening_told b;
     }

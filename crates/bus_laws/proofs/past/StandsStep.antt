@@ -1,5 +1,5 @@
 -- One more entry keeps what stands: a step of one caller, and all the others as they were.
-use Rattle.std.proofs.Common.{◌≡◌, ℕ, zero, Bool, true, false, cond, List, [], ◌∷◌, Option, Some, None, refl, sym, ◌∙◌, ap, subst, ◌⊎◌, inl, inr}
+use Rattle.std.proofs.Common.{◌≡◌, ℕ, zero, suc, Bool, true, false, cond, List, [], ◌∷◌, Option, Some, None, refl, sym, ◌∙◌, ap, subst, ◌⊎◌, inl, inr}
 use Rattle.std.proofs.lemmas.Bool.Decides.{eqb_tells}
 use Rattle.i2c_base.specs.declared.ids.LockId.{LockId}
 use Rattle.i2c_base.specs.declared.ids.LockId.TheVariants as lock
@@ -10,12 +10,13 @@ use Rattle.i2c_spec.specs.Tree.{Hop}
 use Rattle.i2c_spec.specs.World.{World}
 use Rattle.i2c_spec.specs.History.{changed_at}
 use Rattle.bus_spec.specs.Walk.{Mark, Job, Call, Select, Clear, ActOutcome, Passed, Sent, Lined, WalkTree, is_arbitrator}
-use Rattle.bus_spec.specs.Slots.{Slots, At, MuxSlot, Clean, Selected, with_slot, set_marks, after_job, after_select, after_clear, select_slot}
+use Rattle.bus_spec.specs.Slots.{Slots, At, MuxSlot, Clean, Marked, polled_slot, turned_at, set_marks, select_told, after_job, after_select, after_clear}
+use Rattle.bus_spec.specs.Slots as slots
 use Rattle.bus_spec.specs.Readings.{is_lock}
-use Rattle.bus_laws.specs.Runs.{InLocks, IsRest, IsOfMux, FindsOpen, FindsSelect, Finds, MayFail, Owns, MaySend, MayShift}
+use Rattle.bus_laws.specs.Runs.{IsOpenOn, InLocks, IsRest, IsOfMux, FindsOpen, FindsSelect, Finds, MayFail, Owns, MaySend, MayShift}
 use Rattle.bus_laws.specs.Stands.{CallerStands, StandsIn, IsOnce}
 use Rattle.bus_laws.specs.Told.{WorldTold}
-use Rattle.bus_laws.proofs.tree.Slots.{with_slot-other, with_slot-along, set_marks-along}
+use Rattle.bus_laws.proofs.tree.Slots.{changed-other, turned-other, turned-along, set_marks-along}
 
 -- the test of two locks tells whether they are one
 pub lock_tells : (l k : LockId) → ((is_lock l k ≡ true) × (l ≡ k)) ⊎ ((is_lock l k ≡ false) × (l ≡ k → ⊥))
@@ -39,67 +40,75 @@ marks_off_held : (b : BoardView) (held : List LockId) (v : Slots) (ms : List Mar
     → (w : Slots) → set_marks ms w p ≡ w p
 marks_off_held b held v [] p fail off w = refl
 marks_off_held b held v (m ∷ ms) p fail off w =
-    with_slot-other (set_marks ms w) m.on p _ (λ e. off (subst (λ (q : ℕ). InLocks (lock.Mux q) held) (sym e) fail.0.locked))
+    changed-other (set_marks ms w) m.on p (turned_at (w m.on) m.mux (Marked m.mux) None) (λ e. off (subst (λ (q : ℕ). InLocks (lock.Mux q) held) (sym e) fail.0.locked))
     ∙ marks_off_held b held v ms p fail.1 off w
 
 module _ (b : BoardView) (held : List LockId) (v : Slots) (marks : List Mark) (p : ℕ) (fail : MayFail b marks held v) (off : InLocks (lock.Mux p) held → ⊥) where
-  own_off : (on : ℕ) (s : MuxSlot) (w : Slots) → InLocks (lock.Mux on) held → with_slot w on s p ≡ w p
-  own_off on s w locked = with_slot-other w on p s (λ e. off (subst (λ (q : ℕ). InLocks (lock.Mux q) held) (sym e) locked))
+  own_off : (on mux : ℕ) (s : MuxSlot) (c : Option ℕ) (w : Slots) → InLocks (lock.Mux on) held → slots.turned w on mux s c p ≡ w p
+  own_off on mux s c w locked = turned-other w on mux p s c (λ e. off (subst (λ (q : ℕ). InLocks (lock.Mux q) held) (sym e) locked))
+
+  told_off : (h : Hop) (left : ℕ) (bytes : List ℕ) (w : Slots) → InLocks (lock.Mux h.on) held → select_told h left bytes w p ≡ w p
+  told_off h zero bytes w locked = own_off h.on h.mux Clean (Some h.channel) w locked
+  told_off h (suc left) bytes w locked = own_off h.on h.mux (polled_slot h left bytes) None w locked
 
   select_off : (h : Hop) (left : ℕ) (out : ActOutcome) (w : Slots) → InLocks (lock.Mux h.on) held → after_select h left marks out w p ≡ w p
-  select_off h left (Sent end.Ok bytes) w locked = own_off h.on (select_slot h left bytes) w locked
-  select_off h left (Sent end.Nack bytes) w locked = own_off h.on Clean w locked
-  select_off h left (Sent end.Slow bytes) w locked = own_off h.on Clean w locked
-  select_off h left (Sent end.Refused bytes) w locked = own_off h.on Clean w locked
-  select_off h left (Sent end.Proto bytes) w locked = own_off h.on Clean w locked
+  select_off h left (Sent end.Ok bytes) w locked = told_off h left bytes w locked
+  select_off h left (Sent end.Nack bytes) w locked = own_off h.on h.mux Clean None w locked
+  select_off h left (Sent end.Slow bytes) w locked = own_off h.on h.mux Clean None w locked
+  select_off h left (Sent end.Refused bytes) w locked = own_off h.on h.mux Clean None w locked
+  select_off h left (Sent end.Proto bytes) w locked = own_off h.on h.mux Clean None w locked
   select_off h left (Sent (end.Cut q) bytes) w locked = marks_off_held b held v marks p fail off w
   select_off h left (Lined true) w locked = marks_off_held b held v marks p fail off w
-  select_off h left (Lined false) w locked = own_off h.on (Selected h) w locked
+  select_off h left (Lined false) w locked = own_off h.on h.mux Clean (Some h.channel) w locked
   select_off h left Passed w locked = refl
 
-  clear_off : (on : ℕ) (out : ActOutcome) (w : Slots) → InLocks (lock.Mux on) held → after_clear on marks out w p ≡ w p
-  clear_off on (Sent end.Ok bytes) w locked = own_off on Clean w locked
-  clear_off on (Sent end.Nack bytes) w locked = own_off on Clean w locked
-  clear_off on (Sent end.Slow bytes) w locked = own_off on Clean w locked
-  clear_off on (Sent end.Refused bytes) w locked = own_off on Clean w locked
-  clear_off on (Sent end.Proto bytes) w locked = own_off on Clean w locked
-  clear_off on (Sent (end.Cut q) bytes) w locked = marks_off_held b held v marks p fail off w
-  clear_off on (Lined true) w locked = marks_off_held b held v marks p fail off w
-  clear_off on (Lined false) w locked = own_off on Clean w locked
-  clear_off on Passed w locked = refl
+  clear_off : (on mux : ℕ) (out : ActOutcome) (w : Slots) → InLocks (lock.Mux on) held → after_clear on mux marks out w p ≡ w p
+  clear_off on mux (Sent end.Ok bytes) w locked = own_off on mux Clean None w locked
+  clear_off on mux (Sent end.Nack bytes) w locked = own_off on mux Clean None w locked
+  clear_off on mux (Sent end.Slow bytes) w locked = own_off on mux Clean None w locked
+  clear_off on mux (Sent end.Refused bytes) w locked = own_off on mux Clean None w locked
+  clear_off on mux (Sent end.Proto bytes) w locked = own_off on mux Clean None w locked
+  clear_off on mux (Sent (end.Cut q) bytes) w locked = marks_off_held b held v marks p fail off w
+  clear_off on mux (Lined true) w locked = marks_off_held b held v marks p fail off w
+  clear_off on mux (Lined false) w locked = own_off on mux Clean None w locked
+  clear_off on mux Passed w locked = refl
 
   pub job_off : (job : Job) (left : ℕ) (out : ActOutcome) (w : Slots) → Owns job marks held → after_job job left marks out w p ≡ w p
   job_off (Call bus ms) left out w owns = refl
   job_off (Select h) left out w owns = select_off h left out w owns.0
-  job_off (Clear on mux kind) left out w owns = clear_off on out w owns.0
+  job_off (Clear on mux kind) left out w owns = clear_off on mux out w owns.0
 
 -- and is the same step where what is known is the same
+told_same : (h : Hop) (left : ℕ) (bytes : List ℕ) (v w : Slots) (p : ℕ) → v p ≡ w p → select_told h left bytes v p ≡ select_told h left bytes w p
+told_same h zero bytes v w p e = turned-along v w h.on h.mux p Clean (Some h.channel) e
+told_same h (suc left) bytes v w p e = turned-along v w h.on h.mux p (polled_slot h left bytes) None e
+
 select_same : (h : Hop) (left : ℕ) (marks : List Mark) (out : ActOutcome) (v w : Slots) (p : ℕ) → v p ≡ w p → after_select h left marks out v p ≡ after_select h left marks out w p
-select_same h left marks (Sent end.Ok bytes) v w p e = with_slot-along v w h.on p (select_slot h left bytes) e
-select_same h left marks (Sent end.Nack bytes) v w p e = with_slot-along v w h.on p Clean e
-select_same h left marks (Sent end.Slow bytes) v w p e = with_slot-along v w h.on p Clean e
-select_same h left marks (Sent end.Refused bytes) v w p e = with_slot-along v w h.on p Clean e
-select_same h left marks (Sent end.Proto bytes) v w p e = with_slot-along v w h.on p Clean e
+select_same h left marks (Sent end.Ok bytes) v w p e = told_same h left bytes v w p e
+select_same h left marks (Sent end.Nack bytes) v w p e = turned-along v w h.on h.mux p Clean None e
+select_same h left marks (Sent end.Slow bytes) v w p e = turned-along v w h.on h.mux p Clean None e
+select_same h left marks (Sent end.Refused bytes) v w p e = turned-along v w h.on h.mux p Clean None e
+select_same h left marks (Sent end.Proto bytes) v w p e = turned-along v w h.on h.mux p Clean None e
 select_same h left marks (Sent (end.Cut q) bytes) v w p e = set_marks-along marks v w p e
 select_same h left marks (Lined true) v w p e = set_marks-along marks v w p e
-select_same h left marks (Lined false) v w p e = with_slot-along v w h.on p (Selected h) e
+select_same h left marks (Lined false) v w p e = turned-along v w h.on h.mux p Clean (Some h.channel) e
 select_same h left marks Passed v w p e = e
 
-clear_same : (on : ℕ) (marks : List Mark) (out : ActOutcome) (v w : Slots) (p : ℕ) → v p ≡ w p → after_clear on marks out v p ≡ after_clear on marks out w p
-clear_same on marks (Sent end.Ok bytes) v w p e = with_slot-along v w on p Clean e
-clear_same on marks (Sent end.Nack bytes) v w p e = with_slot-along v w on p Clean e
-clear_same on marks (Sent end.Slow bytes) v w p e = with_slot-along v w on p Clean e
-clear_same on marks (Sent end.Refused bytes) v w p e = with_slot-along v w on p Clean e
-clear_same on marks (Sent end.Proto bytes) v w p e = with_slot-along v w on p Clean e
-clear_same on marks (Sent (end.Cut q) bytes) v w p e = set_marks-along marks v w p e
-clear_same on marks (Lined true) v w p e = set_marks-along marks v w p e
-clear_same on marks (Lined false) v w p e = with_slot-along v w on p Clean e
-clear_same on marks Passed v w p e = e
+clear_same : (on mux : ℕ) (marks : List Mark) (out : ActOutcome) (v w : Slots) (p : ℕ) → v p ≡ w p → after_clear on mux marks out v p ≡ after_clear on mux marks out w p
+clear_same on mux marks (Sent end.Ok bytes) v w p e = turned-along v w on mux p Clean None e
+clear_same on mux marks (Sent end.Nack bytes) v w p e = turned-along v w on mux p Clean None e
+clear_same on mux marks (Sent end.Slow bytes) v w p e = turned-along v w on mux p Clean None e
+clear_same on mux marks (Sent end.Refused bytes) v w p e = turned-along v w on mux p Clean None e
+clear_same on mux marks (Sent end.Proto bytes) v w p e = turned-along v w on mux p Clean None e
+clear_same on mux marks (Sent (end.Cut q) bytes) v w p e = set_marks-along marks v w p e
+clear_same on mux marks (Lined true) v w p e = set_marks-along marks v w p e
+clear_same on mux marks (Lined false) v w p e = turned-along v w on mux p Clean None e
+clear_same on mux marks Passed v w p e = e
 
 pub job_same : (job : Job) (left : ℕ) (marks : List Mark) (out : ActOutcome) (v w : Slots) (p : ℕ) → v p ≡ w p → after_job job left marks out v p ≡ after_job job left marks out w p
 job_same (Call bus ms) left marks out v w p e = e
 job_same (Select h) left marks out v w p e = select_same h left marks out v w p e
-job_same (Clear on mux kind) left marks out v w p e = clear_same on marks out v w p e
+job_same (Clear on mux kind) left marks out v w p e = clear_same on mux marks out v w p e
 
 -- what a caller knows is so, so what it may do from what it knows it may do
 module _ (b : BoardView) (held : List LockId) (v w : Slots) (agree : (p : ℕ) → InLocks (lock.Mux p) held → v p ≡ w p) where
@@ -113,13 +122,13 @@ module _ (b : BoardView) (held : List LockId) (v w : Slots) (agree : (p : ℕ) �
   finds_known : (job : Job) (left : ℕ) (marks : List Mark) → Owns job marks held → Finds b job left v → Finds b job left w
   finds_known (Call bus ms) left marks owns f = tt
   finds_known (Select h) left marks owns f =
-      (subst (λ (x : At). FindsSelect (is_arbitrator h.kind) h left x.slot) (agree h.on owns.0) f.0, f.1, f.2)
+      (subst (λ (x : At). FindsSelect (is_arbitrator h.kind) h left x) (agree h.on owns.0) f.0, f.1, f.2)
   finds_known (Clear on mux kind) left marks owns f = (subst (λ (x : At). FindsOpen mux x.slot) (agree on owns.0) f.0, f.1, f.2)
 
   pub send_known : (whose : TransferView) (job : Job) (left : ℕ) (marks : List Mark) → MaySend b whose job left marks held v → MaySend b whose job left marks held w
   send_known whose job left marks may =
       record {
-        reached = λ g a. (sym (ap (λ (x : At). x.slot) (agree g.on (may.reached g a).1)) ∙ (may.reached g a).0, (may.reached g a).1);
+        reached = λ g a. (subst (λ (x : At). IsOpenOn b g x) (agree g.on (may.reached g a).1) (may.reached g a).0, (may.reached g a).1);
         rooted = may.rooted;
         finds = finds_known job left marks may.owns may.finds;
         owns = may.owns;

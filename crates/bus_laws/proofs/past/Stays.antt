@@ -9,8 +9,8 @@ use Rattle.i2c_base.specs.Board.{BoardView}
 use Rattle.i2c_base.specs.Transfer.{TransferView}
 use Rattle.i2c_spec.specs.TreeFacts.{IsTree}
 use Rattle.i2c_spec.specs.History.{Asks}
-use Rattle.bus_spec.specs.Walk.{Job, Act, Send, Shift, ActOutcome, Sent, Lined, MarkOf, WalkTree, Ends, Look, Then}
-use Rattle.bus_spec.specs.Slots.{Slots, At, mark_in, after_job}
+use Rattle.bus_spec.specs.Walk.{Job, Act, Send, Shift, ActOutcome, Sent, Lined, ask_bus, WalkTree, Ends, Look, Then}
+use Rattle.bus_spec.specs.Slots.{Slots, answer_to, after_job}
 use Rattle.bus_spec.specs.Grammar.{seen, first_act, first_note}
 use Rattle.bus_spec.specs.Readings.{caller_of}
 use Rattle.bus_spec.specs.Past.{Now, current, step, sent_by, lined_by}
@@ -19,7 +19,7 @@ use Rattle.bus_laws.specs.Runs.{InLocks, MaySend, MayShift, CanSend, CanShift, R
 use Rattle.bus_laws.specs.Lines.{LinesAreLocked}
 use Rattle.bus_laws.specs.Reach.{AsksForMessages}
 use Rattle.bus_laws.specs.Stands.{Stands}
-use Rattle.bus_laws.proofs.past.StandsFacts.{ahead-stands, current-stands}
+use Rattle.bus_laws.proofs.past.StandsFacts.{answer_alike, ahead-stands, current-stands}
 use Rattle.bus_laws.proofs.past.StandsStep.{job_off, send_known, shift_known}
 use Rattle.bus_laws.proofs.past.StandsEntries.{first_is}
 use Rattle.bus_laws.specs.Others.{ahead, CallerTold}
@@ -29,10 +29,11 @@ use Rattle.bus_laws.proofs.past.Others.{others-stay}
 seen_same : (b : BoardView) (whose : TransferView) (held : List LockId) (view v w : Slots) → ((p : ℕ) → InLocks (lock.Mux p) held → view p ≡ v p) → ((p : ℕ) → InLocks (lock.Mux p) held → v p ≡ w p)
     → (t : WalkTree) → Runs b whose held view t → seen v t ≡ seen w t
 seen_same b whose held view v w agree same Ends runs = refl
-seen_same b whose held view v w agree same (Look (MarkOf p) next) runs =
-    ap (λ (x : At). seen v (next (mark_in x.slot))) (sym (agree p runs.0))
-    ∙ seen_same b whose held view v w agree same (next (mark_in (view p).slot)) runs.1
-    ∙ ap (λ (x : At). seen w (next (mark_in x.slot))) (agree p runs.0 ∙ same p runs.0)
+seen_same b whose held view v w agree same (Look ask next) runs =
+    let told : view (ask_bus ask) ≡ v (ask_bus ask) = agree (ask_bus ask) runs.0 in
+    ap (λ (x : Option ℕ). seen v (next x)) (sym (answer_alike ask view v told))
+    ∙ seen_same b whose held view v w agree same (next (answer_to view ask)) runs.1
+    ∙ ap (λ (x : Option ℕ). seen w (next x)) (answer_alike ask view w (told ∙ same (ask_bus ask) runs.0))
 seen_same b whose held view v w agree same (Then act note next) runs = refl
 
 module _ (b : BoardView) (tree : IsTree b) (lines : LinesAreLocked b) (asks : Asks) (some : AsksForMessages asks) (n : Now) (stands : Stands b n) where

@@ -1,7 +1,9 @@
 -- A job on the bus itself: one line step, or its messages. The induction goes over the messages that may follow.
-use Rattle.std.proofs.Common.{◌≡◌, ℕ, zero, suc, ◌<◌, Bool, true, false, cond, ◌&&◌, List, [], ◌∷◌, Option, eqb, refl, sym, ◌∙◌, ap, subst, inl, inr, arith}
+use Rattle.std.proofs.Common.{◌≡◌, ℕ, zero, suc, ◌<◌, Bool, true, false, cond, ◌&&◌, List, [], ◌∷◌, Option, Some, None, eqb, refl, sym, ◌∙◌, ap, subst, inl, inr, arith}
 use Rattle.std.proofs.lemmas.Bool.{eqb-false, eq-eqb}
 use Rattle.std.proofs.lemmas.Bool.Decides.{eqb_tells}
+use Rattle.i2c_spec.specs.History.{changed_at}
+use Rattle.std.proofs.Math.Path.{fun_ext}
 use Rattle.i2c_base.specs.declared.ids.LockId.{LockId}
 use Rattle.i2c_base.specs.declared.ids.LockId.TheVariants as lock
 use Rattle.i2c_base.specs.declared.entry.End.{End}
@@ -14,11 +16,11 @@ use Rattle.i2c_spec.specs.Tree.{Hop, hops, root_of, Crosses, IsAmongHops, buses}
 use Rattle.i2c_spec.specs.TreeFacts.{IsTree}
 use Rattle.i2c_spec.specs.Messages.{MessageView}
 use Rattle.bus_spec.specs.Walk.{Mark, Job, Call, Select, Clear, ActOutcome, Passed, Sent, Lined, JobOutcome, Good, Refused, Failed, Note, WalkTree, Go, On, Last, Over, goes, first_byte, job_outcome, sent_outcome, verdict_of, decides, is_gpio, is_arbitrator}
-use Rattle.bus_spec.specs.Slots.{Slots, At, MuxSlot, Clean, Selected, Marked, Polled, Found, with_slot, set_marks, after_job}
+use Rattle.bus_spec.specs.Slots.{Slots, At, MuxSlot, Clean, Marked, Polled, Found, turned, turned_at, set_marks, after_job}
 use Rattle.bus_spec.specs.Grammar.{settled, over, by_go, messages}
-use Rattle.bus_laws.specs.Runs.{InLocks, answers, CanSend, CanSelect, FindsSelect, CanGoThrough, HeadsMarks, IsUnmarked, IsOfMux, MayFail, Owns, MaySend, Runs}
+use Rattle.bus_laws.specs.Runs.{IsOpenOn, InLocks, answers, CanSend, CanSelect, FindsSelect, CanGoThrough, HeadsMarks, IsUnmarked, IsOfMux, MayFail, Owns, MaySend, Runs}
 use Rattle.bus_laws.proofs.world.BoardFacts.{absent_silent, held_silent}
-use Rattle.bus_laws.proofs.tree.Slots.{with_slot-same, with_slot-other, set_marks-along}
+use Rattle.bus_laws.proofs.tree.Slots.{eqb-apart, turned-same, turned-other, set_marks-along, set_marks-other}
 use Rattle.bus_laws.proofs.tree.Doers.{After, CanJob, job_after}
 
 -- a settle in between changes nothing
@@ -90,21 +92,25 @@ module _ (b : BoardView) (whose : TransferView) (bus : ℕ) (ms : List MessageVi
 
 -- SELECTS
 
--- knowledge that agrees but for the own bus
-abbrev IsSameOff : ℕ → Slots → Slots → Type 0
-IsSameOff on v w = (p : ℕ) → (p ≡ on → ⊥) → v p ≡ w p
+-- knowledge that agrees but for the slot of the own bus, and the channel of the own mux
+record IsSameOff (on mux : ℕ) (v w : Slots) : Type 0 where
+  off : (p : ℕ) → (p ≡ on → ⊥) → v p ≡ w p
+  kept : (n : ℕ) → (n ≡ mux → ⊥) → (v on).kept n ≡ (w on).kept n
 
-fail_along : (b : BoardView) (held : List LockId) (on : ℕ) (v w : Slots) (ms : List Mark) → IsSameOff on v w → IsUnmarked on ms
+same_all : (on mux : ℕ) (v : Slots) → IsSameOff on mux v v
+same_all on mux v = record { off = λ p ne. refl; kept = λ n ne. refl }
+
+fail_along : (b : BoardView) (held : List LockId) (on mux : ℕ) (v w : Slots) (ms : List Mark) → IsSameOff on mux v w → IsUnmarked on ms
     → MayFail b ms held w → MayFail b ms held v
-fail_along b held on v w [] same un fail = tt
-fail_along b held on v w (m ∷ ms) same un fail =
-    let at : v m.on ≡ w m.on = same m.on (λ e. un.0 (sym e)) in (
+fail_along b held on mux v w [] same un fail = tt
+fail_along b held on mux v w (m ∷ ms) same un fail =
+    let at : v m.on ≡ w m.on = same.off m.on (λ e. un.0 (sym e)) in (
       record { locked = fail.0.locked; at_home = fail.0.at_home; forgets = subst (λ (x : At). IsOfMux m.mux x.slot) (sym at) fail.0.forgets },
-      fail_along b held on v w ms same un.1 fail.1,
+      fail_along b held on mux v w ms same un.1 fail.1,
     )
 
 -- the own mark is of the own mux, whatever is known of the own bus
-fail_own : (b : BoardView) (held : List LockId) (on mux : ℕ) (v w : Slots) (ms : List Mark) → IsSameOff on v w → HeadsMarks on mux ms
+fail_own : (b : BoardView) (held : List LockId) (on mux : ℕ) (v w : Slots) (ms : List Mark) → IsSameOff on mux v w → HeadsMarks on mux ms
     → IsOfMux mux (v on).slot → MayFail b ms held w → MayFail b ms held v
 fail_own b held on mux v w [] same heads own fail = absurd heads
 fail_own b held on mux v w (m ∷ ms) same heads own fail = (
@@ -113,46 +119,71 @@ fail_own b held on mux v w (m ∷ ms) same heads own fail = (
     at_home = fail.0.at_home;
     forgets = subst (λ (p : ℕ). IsOfMux m.mux (v p).slot) (sym heads.0) (subst (λ (x : ℕ). IsOfMux x (v on).slot) (sym heads.1) own);
   },
-  fail_along b held on v w ms same heads.2 fail.1,
+  fail_along b held on mux v w ms same heads.2 fail.1,
 )
 
-with_slot-alike : (on : ℕ) (v w : Slots) (s : MuxSlot) → IsSameOff on v w → (p : ℕ) → with_slot v on s p ≡ with_slot w on s p
-with_slot-alike on v w s same p =
-    elim (eqb_tells p on) [
-      | inl h ↦ ap (λ t. cond t (record { slot = s }) (v p)) h.0 ∙ sym (ap (λ t. cond t (record { slot = s }) (w p)) h.0)
-      | inr h ↦ with_slot-other v on p s h.1 ∙ same p h.1 ∙ sym (with_slot-other w on p s h.1)
+abbrev at_with : MuxSlot → (ℕ → Option ℕ) → At
+at_with s k = record { slot = s; kept = k }
+
+changed_alike : (f g : ℕ → Option ℕ) (m : ℕ) (c : Option ℕ) → ((n : ℕ) → (n ≡ m → ⊥) → f n ≡ g n) → (n : ℕ) → changed_at f m c n ≡ changed_at g m c n
+changed_alike f g m c same n =
+    elim (eqb_tells n m) [
+      | inl h ↦ ap (λ (t : Bool). cond t c (f n)) h.0 ∙ sym (ap (λ (t : Bool). cond t c (g n)) h.0)
+      | inr h ↦ ap (λ (t : Bool). cond t c (f n)) h.0 ∙ same n h.1 ∙ sym (ap (λ (t : Bool). cond t c (g n)) h.0)
     ]
 
-set_marks-alike : (on mux : ℕ) (v w : Slots) (ms : List Mark) → IsSameOff on v w → HeadsMarks on mux ms → (p : ℕ) → set_marks ms v p ≡ set_marks ms w p
+turned_alike : (x y : At) (m : ℕ) (s : MuxSlot) (c : Option ℕ) → ((n : ℕ) → (n ≡ m → ⊥) → x.kept n ≡ y.kept n) → turned_at x m s c ≡ turned_at y m s c
+turned_alike x y m s c same = ap (λ (k : ℕ → Option ℕ). at_with s k) (fun_ext (changed_alike x.kept y.kept m c same))
+
+turned-alike : (on m : ℕ) (v w : Slots) (s : MuxSlot) (c : Option ℕ) → IsSameOff on m v w → (p : ℕ) → turned v on m s c p ≡ turned w on m s c p
+turned-alike on m v w s c same p =
+    elim (eqb_tells p on) [
+      | inl h ↦ ap (λ t. cond t (turned_at (v on) m s c) (v p)) h.0 ∙ turned_alike (v on) (w on) m s c same.kept
+          ∙ sym (ap (λ t. cond t (turned_at (w on) m s c) (w p)) h.0)
+      | inr h ↦ turned-other v on m p s c h.1 ∙ same.off p h.1 ∙ sym (turned-other w on m p s c h.1)
+    ]
+
+set_marks-alike : (on mux : ℕ) (v w : Slots) (ms : List Mark) → IsSameOff on mux v w → HeadsMarks on mux ms → (p : ℕ) → set_marks ms v p ≡ set_marks ms w p
 set_marks-alike on mux v w [] same heads p = absurd heads
 set_marks-alike on mux v w (m ∷ ms) same heads p =
     elim (eqb_tells p on) [
       | inl h ↦ (let at : p ≡ m.on = h.1 ∙ sym heads.0 in
-          ap (λ t. cond t (record { slot = Marked m.mux }) (set_marks ms v p)) (eq-eqb p m.on at)
-          ∙ sym (ap (λ t. cond t (record { slot = Marked m.mux }) (set_marks ms w p)) (eq-eqb p m.on at)))
-      | inr h ↦ set_marks-along (m ∷ ms) v w p (same p h.1)
+          let kept : (n : ℕ) → (n ≡ m.mux → ⊥) → (v m.on).kept n ≡ (w m.on).kept n =
+          λ n ne. subst (λ (i : ℕ). (v i).kept n ≡ (w i).kept n) (sym heads.0) (same.kept n (λ e. ne (e ∙ sym heads.1))) in
+          ap (λ t. cond t (turned_at (v m.on) m.mux (Marked m.mux) None) (set_marks ms v p)) (eq-eqb p m.on at)
+          ∙ turned_alike (v m.on) (w m.on) m.mux (Marked m.mux) None kept
+          ∙ sym (ap (λ t. cond t (turned_at (w m.on) m.mux (Marked m.mux) None) (set_marks ms w p)) (eq-eqb p m.on at)))
+      | inr h ↦ set_marks-along (m ∷ ms) v w p (same.off p h.1)
     ]
 
 no_mux_lock : (root p : ℕ) → InLocks (lock.Mux p) (lock.Bus root ∷ []) → ⊥
 no_mux_lock root p i = elim i [ inl e ↦ (let f : lock.Mux p ≡ lock.Bus root = e in cc) | inr more ↦ more ]
 
-same_after : (on : ℕ) (v w : Slots) (s : MuxSlot) → IsSameOff on v w → IsSameOff on (with_slot v on s) w
-same_after on v w s same p ne = with_slot-other v on p s ne ∙ same p ne
+same_after : (on mux : ℕ) (v w : Slots) (s : MuxSlot) → IsSameOff on mux v w → IsSameOff on mux (turned v on mux s None) w
+same_after on mux v w s same =
+    record {
+      off = λ p ne. turned-other v on mux p s None ne ∙ same.off p ne;
+      kept = λ n ne. ap (λ (x : At). x.kept n) (turned-same v on mux s None)
+          ∙ ap (λ (t : Bool). cond t None ((v on).kept n)) (eqb-apart n mux ne) ∙ same.kept n ne;
+    }
 
-slot_at : (v : Slots) (on : ℕ) (s : MuxSlot) → (with_slot v on s on).slot ≡ s
-slot_at v on s = ap (λ (x : At). x.slot) (with_slot-same v on s)
+none_at : (v : Slots) (on mux : ℕ) (s : MuxSlot) → (turned v on mux s None on).kept mux ≡ None
+none_at v on mux s = ap (λ (x : At). x.kept mux) (turned-same v on mux s None) ∙ ap (λ (t : Bool). cond t None ((v on).kept mux)) (eq-eqb mux mux refl)
+
+slot_at : (v : Slots) (on mux : ℕ) (s : MuxSlot) → (turned v on mux s None on).slot ≡ s
+slot_at v on mux s = ap (λ (x : At). x.slot) (turned-same v on mux s None)
 
 module _ (b : BoardView) (whose : TransferView) (tree : IsTree b) (root : ℕ) (h : Hop) (note : Note) (k : JobOutcome → WalkTree) (held : List LockId) (first : Slots)
-    (reached : (g : Hop) → IsAmongHops g (hops b h.on) → ((first g.on).slot ≡ Selected g) × InLocks (lock.Mux g.on) held)
+    (reached : (g : Hop) → IsAmongHops g (hops b h.on) → IsOpenOn b g (first g.on) × InLocks (lock.Mux g.on) held)
     (rooted : InLocks (lock.Bus (root_of b h.on)) held)
     (owns : Owns (Select h) note.marks held) (among : IsAmongHops h (hops b h.bus)) (there : h.bus < buses b)
     (fail : MayFail b note.marks held first) (no_line : is_gpio h.kind ≡ false)
     (goes_on : (o : JobOutcome) (w : Slots) → After b [] (lock.Bus root ∷ []) (Select h) note.marks first o w → Runs b whose held w (k o)) where
-  select_may : (v : Slots) (left : ℕ) → IsSameOff h.on v first → IsOfMux h.mux (v h.on).slot
-      → FindsSelect (is_arbitrator h.kind) h left (v h.on).slot → MaySend b whose (Select h) left note.marks held v
+  select_may : (v : Slots) (left : ℕ) → IsSameOff h.on h.mux v first → IsOfMux h.mux (v h.on).slot
+      → FindsSelect (is_arbitrator h.kind) h left (v h.on) → MaySend b whose (Select h) left note.marks held v
   select_may v left same own finds =
       record {
-        reached = λ g a. (ap (λ (x : At). x.slot) (same g.on (own_apart b tree h.on g a)) ∙ (reached g a).0, (reached g a).1);
+        reached = λ g a. (subst (λ (x : At). IsOpenOn b g x) (sym (same.off g.on (own_apart b tree h.on g a))) (reached g a).0, (reached g a).1);
         rooted = rooted;
         finds = (finds, among, there);
         owns = owns;
@@ -161,23 +192,23 @@ module _ (b : BoardView) (whose : TransferView) (tree : IsTree b) (root : ℕ) (
         by_message = no_line;
       }
 
-  select_good : (v : Slots) → IsSameOff h.on v first → answers b h.mux ≡ true → Runs b whose held (with_slot v h.on (Selected h)) (k Good)
+  select_good : (v : Slots) → IsSameOff h.on h.mux v first → answers b h.mux ≡ true → Runs b whose held (turned v h.on h.mux Clean (Some h.channel)) (k Good)
   select_good v same ans =
-      goes_on Good (with_slot v h.on (Selected h)) (record {
-        off = λ p off. with_slot-alike h.on v first (Selected h) same p;
+      goes_on Good (turned v h.on h.mux Clean (Some h.channel)) (record {
+        off = λ p off. turned-alike h.on h.mux v first Clean (Some h.channel) same p;
         rest = λ p i. absurd (no_mux_lock root p i);
         can = inr (tt, ans);
       })
 
-  select_refused : (v : Slots) → IsSameOff h.on v first → answers b h.mux ≡ false → Runs b whose held (with_slot v h.on Clean) (k Refused)
+  select_refused : (v : Slots) → IsSameOff h.on h.mux v first → answers b h.mux ≡ false → Runs b whose held (turned v h.on h.mux Clean None) (k Refused)
   select_refused v same ans =
-      goes_on Refused (with_slot v h.on Clean) (record {
-        off = λ p off. with_slot-alike h.on v first Clean same p;
+      goes_on Refused (turned v h.on h.mux Clean None) (record {
+        off = λ p off. turned-alike h.on h.mux v first Clean None same p;
         rest = λ p i. absurd (no_mux_lock root p i);
         can = (no_line, tt, ans);
       })
 
-  select_failed : (v : Slots) → IsSameOff h.on v first → Runs b whose held (set_marks note.marks v) (k Failed)
+  select_failed : (v : Slots) → IsSameOff h.on h.mux v first → Runs b whose held (set_marks note.marks v) (k Failed)
   select_failed v same =
       goes_on Failed (set_marks note.marks v) (record {
         off = λ p off. set_marks-alike h.on h.mux v first note.marks same owns.1 p;
@@ -186,22 +217,22 @@ module _ (b : BoardView) (whose : TransferView) (tree : IsTree b) (root : ℕ) (
       })
 
   -- a message that doesn't go through ends the job, whichever one it is
-  select_ends : (v : Slots) (left : ℕ) (e : End) (bytes : List ℕ) → IsSameOff h.on v first → (e ≡ end.Ok → ⊥) → CanSelect b h left e bytes
+  select_ends : (v : Slots) (left : ℕ) (e : End) (bytes : List ℕ) → IsSameOff h.on h.mux v first → (e ≡ end.Ok → ⊥) → CanSelect b h left e bytes
       → Runs b whose held (after_job (Select h) left note.marks (Sent e bytes) v) (over (Select h) left note k (Sent e bytes))
   select_ends v left end.Ok bytes same bad can = absurd (bad refl)
-  select_ends v left end.Nack bytes same bad can = over-runs b whose held (with_slot v h.on Clean) (Select h) left note k (Sent end.Nack bytes) (select_refused v same (absent_silent b h.mux can))
+  select_ends v left end.Nack bytes same bad can = over-runs b whose held (turned v h.on h.mux Clean None) (Select h) left note k (Sent end.Nack bytes) (select_refused v same (absent_silent b h.mux can))
   select_ends v left end.Slow bytes same bad can = absurd can
   select_ends v left end.Refused bytes same bad can = absurd can
   select_ends v left end.Proto bytes same bad can = absurd can
   select_ends v left (end.Cut q) bytes same bad can = over-runs b whose held (set_marks note.marks v) (Select h) left note k (Sent (end.Cut q) bytes) (select_failed v same)
 
   -- the write is the last message
-  select_last : (v : Slots) → IsSameOff h.on v first → MaySend b whose (Select h) zero note.marks held v
+  select_last : (v : Slots) → IsSameOff h.on h.mux v first → MaySend b whose (Select h) zero note.marks held v
       → Runs b whose held v (messages zero (Select h) note k)
   select_last v same may = (may, ends)
     where
       ends : (out : ActOutcome) → CanSend b (Select h) zero out → Runs b whose held (after_job (Select h) zero note.marks out v) (over (Select h) zero note k out)
-      ends (Sent end.Ok bytes) can = over-runs b whose held (with_slot v h.on (Selected h)) (Select h) zero note k (Sent end.Ok bytes) (select_good v same can)
+      ends (Sent end.Ok bytes) can = over-runs b whose held (turned v h.on h.mux Clean (Some h.channel)) (Select h) zero note k (Sent end.Ok bytes) (select_good v same can)
       ends (Sent end.Nack bytes) can = select_ends v zero end.Nack bytes same (λ e. let f : end.Nack ≡ end.Ok = e in cc) can
       ends (Sent end.Slow bytes) can = select_ends v zero end.Slow bytes same (λ e. let f : end.Slow ≡ end.Ok = e in cc) can
       ends (Sent end.Refused bytes) can = select_ends v zero end.Refused bytes same (λ e. let f : end.Refused ≡ end.Ok = e in cc) can
@@ -211,35 +242,35 @@ module _ (b : BoardView) (whose : TransferView) (tree : IsTree b) (root : ℕ) (
       ends Passed can = absurd can
 
   -- a poll that went through: the arbitrator is free and is switched, or it is asked again while polls are left
-  polled_free : (v : Slots) → IsSameOff h.on v first → is_arbitrator h.kind ≡ true
-      → Runs b whose held (with_slot v h.on (Found h)) (messages zero (Select h) note k)
+  polled_free : (v : Slots) → IsSameOff h.on h.mux v first → is_arbitrator h.kind ≡ true
+      → Runs b whose held (turned v h.on h.mux (Found h) None) (messages zero (Select h) note k)
   polled_free v same arb =
-      let at : (with_slot v h.on (Found h) h.on).slot ≡ Found h = slot_at v h.on (Found h) in
-      let same2 : IsSameOff h.on (with_slot v h.on (Found h)) first = same_after h.on v first (Found h) same in
-      select_last (with_slot v h.on (Found h)) same2
-      (select_may (with_slot v h.on (Found h)) zero same2
+      let at : (turned v h.on h.mux (Found h) None h.on).slot ≡ Found h = slot_at v h.on h.mux (Found h) in
+      let same2 : IsSameOff h.on h.mux (turned v h.on h.mux (Found h) None) first = same_after h.on h.mux v first (Found h) same in
+      select_last (turned v h.on h.mux (Found h) None) same2
+      (select_may (turned v h.on h.mux (Found h) None) zero same2
       (subst (λ (s : MuxSlot). IsOfMux h.mux s) (sym at) refl)
-      (subst (λ (t : Bool). FindsSelect t h zero (with_slot v h.on (Found h) h.on).slot) (sym arb) at))
+      (subst (λ (t : Bool). FindsSelect t h zero (turned v h.on h.mux (Found h) None h.on)) (sym arb) (at, none_at v h.on h.mux (Found h))))
 
-  last_poll : (v : Slots) (bytes : List ℕ) → IsSameOff h.on v first → is_arbitrator h.kind ≡ true
+  last_poll : (v : Slots) (bytes : List ℕ) → IsSameOff h.on h.mux v first → is_arbitrator h.kind ≡ true
       → CanGoThrough b h (suc zero) bytes → (t : Bool) → eqb (first_byte bytes) 0 ≡ t
-      → Runs b whose held (with_slot v h.on (cond t (Found h) Clean))
+      → Runs b whose held (turned v h.on h.mux (cond t (Found h) Clean) None)
       (by_go (cond t Last Over) (messages zero (Select h) note k) (messages zero (Select h) note k) (over (Select h) (suc zero) note k (Sent end.Ok bytes)))
   last_poll v bytes same arb can true e = polled_free v same arb
   last_poll v bytes same arb can false e =
       let ans : answers b h.mux ≡ false = elim can [ inl z ↦ absurd (eqb-false (first_byte bytes) 0 e z) | inr a ↦ held_silent b h.mux a.1 ] in
-      over-runs b whose held (with_slot v h.on Clean) (Select h) (suc zero) note k (Sent end.Ok bytes) (select_refused v same ans)
+      over-runs b whose held (turned v h.on h.mux Clean None) (Select h) (suc zero) note k (Sent end.Ok bytes) (select_refused v same ans)
 
-  more_polls : is_arbitrator h.kind ≡ true → (left : ℕ) (v : Slots) (bytes : List ℕ) → IsSameOff h.on v first
+  more_polls : is_arbitrator h.kind ≡ true → (left : ℕ) (v : Slots) (bytes : List ℕ) → IsSameOff h.on h.mux v first
       → (t : Bool) → eqb (first_byte bytes) 0 ≡ t
-      → Runs b whose held (with_slot v h.on (Polled h left)) (messages (suc left) (Select h) note k)
-      → Runs b whose held (with_slot v h.on (cond t (Found h) (Polled h left)))
+      → Runs b whose held (turned v h.on h.mux (Polled h left) None) (messages (suc left) (Select h) note k)
+      → Runs b whose held (turned v h.on h.mux (cond t (Found h) (Polled h left)) None)
       (by_go (cond t Last On) (messages (suc left) (Select h) note k) (messages zero (Select h) note k) (over (Select h) (suc (suc left)) note k (Sent end.Ok bytes)))
   more_polls arb left v bytes same true e next = polled_free v same arb
   more_polls arb left v bytes same false e next = next
 
   -- the induction over the polls that may follow
-  polls : is_arbitrator h.kind ≡ true → (left : ℕ) (v : Slots) → IsSameOff h.on v first → MaySend b whose (Select h) (suc left) note.marks held v
+  polls : is_arbitrator h.kind ≡ true → (left : ℕ) (v : Slots) → IsSameOff h.on h.mux v first → MaySend b whose (Select h) (suc left) note.marks held v
       → Runs b whose held v (messages (suc left) (Select h) note k)
   polls arb zero v same may = (may, ends)
     where
@@ -256,18 +287,18 @@ module _ (b : BoardView) (whose : TransferView) (tree : IsTree b) (root : ℕ) (
       ends Passed can = absurd can
   polls arb (suc left) v same may = (may, ends (polls arb left))
     where
-      ends : ((w : Slots) → IsSameOff h.on w first → MaySend b whose (Select h) (suc left) note.marks held w → Runs b whose held w (messages (suc left) (Select h) note k))
+      ends : ((w : Slots) → IsSameOff h.on h.mux w first → MaySend b whose (Select h) (suc left) note.marks held w → Runs b whose held w (messages (suc left) (Select h) note k))
           → (out : ActOutcome) → CanSend b (Select h) (suc (suc left)) out
           → Runs b whose held (after_job (Select h) (suc (suc left)) note.marks out v)
           (by_go (goes (Select h) (suc left) out) (messages (suc left) (Select h) note k) (messages zero (Select h) note k) (over (Select h) (suc (suc left)) note k out))
       ends again (Sent end.Ok bytes) can =
-          let at : (with_slot v h.on (Polled h left) h.on).slot ≡ Polled h left = slot_at v h.on (Polled h left) in
-          let same2 : IsSameOff h.on (with_slot v h.on (Polled h left)) first = same_after h.on v first (Polled h left) same in
+          let at : (turned v h.on h.mux (Polled h left) None h.on).slot ≡ Polled h left = slot_at v h.on h.mux (Polled h left) in
+          let same2 : IsSameOff h.on h.mux (turned v h.on h.mux (Polled h left) None) first = same_after h.on h.mux v first (Polled h left) same in
           more_polls arb left v bytes same (eqb (first_byte bytes) 0) refl
-          (again (with_slot v h.on (Polled h left)) same2
-          (select_may (with_slot v h.on (Polled h left)) (suc left) same2
+          (again (turned v h.on h.mux (Polled h left) None) same2
+          (select_may (turned v h.on h.mux (Polled h left) None) (suc left) same2
           (subst (λ (s : MuxSlot). IsOfMux h.mux s) (sym at) refl)
-          (subst (λ (t : Bool). FindsSelect t h (suc left) (with_slot v h.on (Polled h left) h.on).slot) (sym arb) (inl at))))
+          (subst (λ (t : Bool). FindsSelect t h (suc left) (turned v h.on h.mux (Polled h left) None h.on)) (sym arb) (inl at, none_at v h.on h.mux (Polled h left)))))
       ends again (Sent end.Nack bytes) can = select_ends v (suc (suc left)) end.Nack bytes same (λ e. let f : end.Nack ≡ end.Ok = e in cc) can
       ends again (Sent end.Slow bytes) can = select_ends v (suc (suc left)) end.Slow bytes same (λ e. let f : end.Slow ≡ end.Ok = e in cc) can
       ends again (Sent end.Refused bytes) can = select_ends v (suc (suc left)) end.Refused bytes same (λ e. let f : end.Refused ≡ end.Ok = e in cc) can
@@ -277,24 +308,24 @@ module _ (b : BoardView) (whose : TransferView) (tree : IsTree b) (root : ℕ) (
       ends again Passed can = absurd can
 
   -- the whole select, with polls or without
-  pub select_runs : (t : Bool) → is_arbitrator h.kind ≡ t → IsOfMux h.mux (first h.on).slot → (first h.on).slot ≡ Clean
+  pub select_runs : (t : Bool) → is_arbitrator h.kind ≡ t → IsOfMux h.mux (first h.on).slot → (first h.on).slot ≡ Clean → (is_arbitrator h.kind ≡ true → (first h.on).kept h.mux ≡ None)
       → Runs b whose held first (messages (cond t 8 0) (Select h) note k)
-  select_runs true arb own clean =
-      polls arb 7 first (λ p ne. refl)
-      (select_may first 8 (λ p ne. refl) own (subst (λ (t : Bool). FindsSelect t h 8 (first h.on).slot) (sym arb) (inr (refl, clean))))
-  select_runs false arb own clean =
-      select_last first (λ p ne. refl)
-      (select_may first zero (λ p ne. refl) own (subst (λ (t : Bool). FindsSelect t h zero (first h.on).slot) (sym arb) (refl, clean)))
+  select_runs true arb own clean shut =
+      polls arb 7 first (same_all h.on h.mux first)
+      (select_may first 8 (same_all h.on h.mux first) own (subst (λ (t : Bool). FindsSelect t h 8 (first h.on)) (sym arb) (inr (refl, clean), shut arb)))
+  select_runs false arb own clean shut =
+      select_last first (same_all h.on h.mux first)
+      (select_may first zero (same_all h.on h.mux first) own (subst (λ (t : Bool). FindsSelect t h zero (first h.on)) (sym arb) (refl, clean)))
 
 -- CLOSES
 
 module _ (b : BoardView) (whose : TransferView) (root : ℕ) (on mux : ℕ) (kind : MuxKind) (note : Note) (k : JobOutcome → WalkTree) (held : List LockId) (first : Slots)
     (no_line : is_gpio kind ≡ false)
     (goes_on : (o : JobOutcome) (w : Slots) → After b [] (lock.Bus root ∷ []) (Clear on mux kind) note.marks first o w → Runs b whose held w (k o)) where
-  clear_sent : (o : JobOutcome) → CanJob b [] (Clear on mux kind) o → ((p : ℕ) → with_slot first on Clean p ≡ job_after (Clear on mux kind) note.marks o first p)
-      → Runs b whose held (with_slot first on Clean) (k o)
+  clear_sent : (o : JobOutcome) → CanJob b [] (Clear on mux kind) o → ((p : ℕ) → turned first on mux Clean None p ≡ job_after (Clear on mux kind) note.marks o first p)
+      → Runs b whose held (turned first on mux Clean None) (k o)
   clear_sent o can off =
-      goes_on o (with_slot first on Clean) (record { off = λ p h. off p; rest = λ p i. absurd (no_mux_lock root p i); can = can })
+      goes_on o (turned first on mux Clean None) (record { off = λ p h. off p; rest = λ p i. absurd (no_mux_lock root p i); can = can })
 
   clear_failed : Runs b whose held (set_marks note.marks first) (k Failed)
   clear_failed =
@@ -302,11 +333,11 @@ module _ (b : BoardView) (whose : TransferView) (root : ℕ) (on mux : ℕ) (kin
 
   clear_over : (out : ActOutcome) → CanSend b (Clear on mux kind) zero out
       → Runs b whose held (after_job (Clear on mux kind) zero note.marks out first) (over (Clear on mux kind) zero note k out)
-  clear_over (Sent end.Ok bytes) can = over-runs b whose held (with_slot first on Clean) (Clear on mux kind) zero note k (Sent end.Ok bytes) (clear_sent Good (inr (tt, tt)) (λ p. refl))
-  clear_over (Sent end.Nack bytes) can = over-runs b whose held (with_slot first on Clean) (Clear on mux kind) zero note k (Sent end.Nack bytes) (clear_sent Refused (no_line, tt, tt) (λ p. refl))
-  clear_over (Sent end.Slow bytes) can = over-runs b whose held (with_slot first on Clean) (Clear on mux kind) zero note k (Sent end.Slow bytes) (clear_sent Refused (no_line, tt, tt) (λ p. refl))
-  clear_over (Sent end.Refused bytes) can = over-runs b whose held (with_slot first on Clean) (Clear on mux kind) zero note k (Sent end.Refused bytes) (clear_sent Refused (no_line, tt, tt) (λ p. refl))
-  clear_over (Sent end.Proto bytes) can = over-runs b whose held (with_slot first on Clean) (Clear on mux kind) zero note k (Sent end.Proto bytes) (clear_sent Refused (no_line, tt, tt) (λ p. refl))
+  clear_over (Sent end.Ok bytes) can = over-runs b whose held (turned first on mux Clean None) (Clear on mux kind) zero note k (Sent end.Ok bytes) (clear_sent Good (inr (tt, tt)) (λ p. refl))
+  clear_over (Sent end.Nack bytes) can = over-runs b whose held (turned first on mux Clean None) (Clear on mux kind) zero note k (Sent end.Nack bytes) (clear_sent Refused (no_line, tt, tt) (λ p. refl))
+  clear_over (Sent end.Slow bytes) can = over-runs b whose held (turned first on mux Clean None) (Clear on mux kind) zero note k (Sent end.Slow bytes) (clear_sent Refused (no_line, tt, tt) (λ p. refl))
+  clear_over (Sent end.Refused bytes) can = over-runs b whose held (turned first on mux Clean None) (Clear on mux kind) zero note k (Sent end.Refused bytes) (clear_sent Refused (no_line, tt, tt) (λ p. refl))
+  clear_over (Sent end.Proto bytes) can = over-runs b whose held (turned first on mux Clean None) (Clear on mux kind) zero note k (Sent end.Proto bytes) (clear_sent Refused (no_line, tt, tt) (λ p. refl))
   clear_over (Sent (end.Cut q) bytes) can = over-runs b whose held (set_marks note.marks first) (Clear on mux kind) zero note k (Sent (end.Cut q) bytes) clear_failed
   clear_over (Lined failed) can = absurd can
   clear_over Passed can = absurd can

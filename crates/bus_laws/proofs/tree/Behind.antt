@@ -1,6 +1,6 @@
 -- A job behind one mux: the close of a marked mux, the select, the job, the deselect. What does a job on the bus that
 -- the mux stands on is given, and runs.
-use Rattle.std.proofs.Common.{◌≡◌, ℕ, ◌<◌, true, false, List, [], ◌∷◌, Option, Some, None, refl, sym, ◌∙◌, ap, subst, ◌⊎◌, inl, inr, arith}
+use Rattle.std.proofs.Common.{◌≡◌, ℕ, ◌<◌, ◌&&◌, Bool, cond, eqb, true, false, List, [], ◌∷◌, Option, Some, None, refl, sym, ◌∙◌, ap, subst, ◌⊎◌, inl, inr, arith}
 use Rattle.std.specs.Prelude.{unwrap_or, slice_get}
 use Rattle.std.specs.Option.{option_map}
 use Rattle.std.specs.List.{AllByRecursion}
@@ -13,12 +13,17 @@ use Rattle.i2c_base.specs.Board.{BoardView}
 use Rattle.i2c_base.specs.Transfer.{TransferView}
 use Rattle.i2c_spec.specs.Tree.{Hop, hops, buses, root_of, locks_of, home_of_mux, Crosses, IsAmongHops}
 use Rattle.i2c_spec.specs.TreeFacts.{IsTree, IsHop}
-use Rattle.bus_spec.specs.Walk.{Mark, Job, Select, Clear, JobOutcome, Good, Refused, Unsent, Failed, Note, WalkTree, job_bus, is_line, is_gpio}
-use Rattle.bus_spec.specs.Slots.{Slots, At, MuxSlot, Clean, Selected, Marked, mark_in, with_slot, set_marks}
-use Rattle.bus_spec.specs.Grammar.{Doer, aside, with_mark, if_sent, if_good, kind_of, closing, opened, chosen, behind}
-use Rattle.bus_laws.specs.Runs.{InLocks, IsShut, IsRest, IsMuxOf, FindsOpen, IsUnmarked, IsOfMux, MayFail, Owns, IsGranted, Runs}
+use Rattle.i2c_spec.specs.Tree.{is_left_open}
+use Rattle.i2c_spec.specs.History.{changed_at}
+use Rattle.std.proofs.lemmas.Bool.{eq-eqb, eqb-true}
+use Rattle.std.proofs.lemmas.Bool.Decides.{eqb_tells}
+use Rattle.bus_laws.proofs.world.Reach.{and_left, and_right}
+use Rattle.bus_spec.specs.Walk.{Look, KeptOf, Mark, Job, Select, Clear, JobOutcome, Good, Refused, Unsent, Failed, Note, WalkTree, job_bus, is_line, is_gpio, is_arbitrator}
+use Rattle.bus_spec.specs.Slots.{Slots, At, MuxSlot, Clean, Marked, mark_in, turned, turned_at, set_marks}
+use Rattle.bus_spec.specs.Grammar.{Doer, aside, with_mark, if_sent, if_good, kind_of, closing, left_behind, opened, chosen, keeps, crossed, behind}
+use Rattle.bus_laws.specs.Runs.{answers, IsOpenOn, OthersKept, IsKept, LetsThrough, InLocks, IsShut, IsRest, IsMuxOf, FindsOpen, IsUnmarked, IsOfMux, MayFail, Owns, IsGranted, Runs}
 use Rattle.bus_laws.specs.Lines.{LinesAreLocked}
-use Rattle.bus_laws.proofs.tree.Slots.{with_slot-same, with_slot-other, set_marks-along, set_marks-head, shut_clean, marked_slot}
+use Rattle.bus_laws.proofs.tree.Slots.{changed-other, eqb-apart, turned-same, turned-other, set_marks-other, set_marks-along, set_marks-head, shut_clean, marked_slot}
 use Rattle.bus_laws.proofs.tree.Doers.{Responds, AllRespond, CanJob, job_after, OwnsOff, FindsFirst, CallUnmarked, IsPassed, Before, After, DoerRuns}
 use Rattle.bus_laws.proofs.tree.Base.{crosses_below}
 use Rattle.bus_laws.proofs.tree.Path.{job_after-off, job_after-along, job_after-unsent, job_after-failed, finds_along, fail_along, unmarked_off, marks_tail, owns_off_tail, own_crosses, can_more, bus_among, sub_locks}
@@ -29,22 +34,61 @@ told_kind : (o : Option MuxSpec) (k : MuxKind) → unwrap_or (option_map (λ (m 
 told_kind None k e = (let f : None ≡ Some k = e in cc)
 told_kind (Some x) k e = (let f : Some x.kind ≡ Some k = e in cc)
 
--- what a slot that may be found at rest leaves, by what it is
-rest_clean : (b : BoardView) (p : ℕ) (x : At) → x.slot ≡ Clean → IsRest b p x
-rest_clean b p x e =
+-- the channels of the muxes on a bus, of which one is changed
+kept_other : (f : ℕ → Option ℕ) (m n : ℕ) (c : Option ℕ) → (n ≡ m → ⊥) → changed_at f m c n ≡ f n
+kept_other f m n c ne = ap (λ (t : Bool). cond t c (f n)) (eqb-apart n m ne)
+
+kept_own : (f : ℕ → Option ℕ) (m n : ℕ) (c : Option ℕ) → n ≡ m → changed_at f m c n ≡ c
+kept_own f m n c e = ap (λ (t : Bool). cond t c (f n)) (eq-eqb n m e)
+
+others_stay : (b : BoardView) (p m : ℕ) (x : At) → OthersKept b p m x → (n c : ℕ) → changed_at x.kept m None n ≡ Some c → IsKept b p n
+others_stay b p m x others n c e =
+    elim (eqb_tells n m) [
+      | inl h ↦ absurd (let f : None ≡ Some c = sym (kept_own x.kept m n None h.1) ∙ e in cc)
+      | inr h ↦ others n c h.1 (sym (kept_other x.kept m n None h.1) ∙ e)
+    ]
+
+-- what may be found at rest: this mux was shut; it is marked; or it stays as it is
+rest_shut : (b : BoardView) (p m : ℕ) (x : At) → OthersKept b p m x → IsRest b p (turned_at x m Clean None)
+rest_shut b p m x others =
     record {
-      shut = subst (λ (s : MuxSlot). IsShut s) (sym e) tt;
-      home = λ m f. absurd (let g : Clean ≡ Marked m = sym e ∙ f in cc);
-      known = λ m f. absurd (let g : Clean ≡ Marked m = sym e ∙ f in cc);
+      shut = tt;
+      home = λ n f. absurd (let g : Clean ≡ Marked n = f in cc);
+      known = λ n f. absurd (let g : Clean ≡ Marked n = f in cc);
+      stay = others_stay b p m x others;
     }
 
-rest_marked : (b : BoardView) (p m : ℕ) (x : At) → x.slot ≡ Marked m → home_of_mux b m ≡ p → IsMuxOf b m (kind_of b m) → IsRest b p x
-rest_marked b p m x e home known =
+rest_marked : (b : BoardView) (p m : ℕ) (x : At) → OthersKept b p m x → home_of_mux b m ≡ p → IsMuxOf b m (kind_of b m) → IsRest b p (turned_at x m (Marked m) None)
+rest_marked b p m x others home known =
     record {
-      shut = subst (λ (s : MuxSlot). IsShut s) (sym e) tt;
-      home = λ n f. subst (λ (i : ℕ). home_of_mux b i ≡ p) (let g : Marked m ≡ Marked n = sym e ∙ f in cc) home;
-      known = λ n f. subst (λ (i : ℕ). IsMuxOf b i (kind_of b i)) (let g : Marked m ≡ Marked n = sym e ∙ f in cc) known;
+      shut = tt;
+      home = λ n f. subst (λ (i : ℕ). home_of_mux b i ≡ p) (let g : Marked m ≡ Marked n = f in cc) home;
+      known = λ n f. subst (λ (i : ℕ). IsMuxOf b i (kind_of b i)) (let g : Marked m ≡ Marked n = f in cc) known;
+      stay = others_stay b p m x others;
     }
+
+rest_open : (b : BoardView) (h : Hop) (x : At) → IsOpenOn b h x → IsKept b h.on h.mux → IsRest b h.on x
+rest_open b h x is_open own =
+    record {
+      shut = subst (λ (s : MuxSlot). IsShut s) (sym is_open.clean) tt;
+      home = λ n f. absurd (let g : Clean ≡ Marked n = sym is_open.clean ∙ f in cc);
+      known = λ n f. absurd (let g : Clean ≡ Marked n = sym is_open.clean ∙ f in cc);
+      stay = λ n c e. elim (eqb_tells n h.mux) [
+        | inl q ↦ subst (λ (i : ℕ). IsKept b h.on i) (sym q.1) own
+        | inr q ↦ is_open.others n c q.1 e
+      ];
+    }
+
+open_of : (b : BoardView) (h : Hop) (x : At) → OthersKept b h.on h.mux x → IsOpenOn b h (turned_at x h.mux Clean (Some h.channel))
+open_of b h x others =
+    record {
+      clean = refl;
+      kept = kept_own x.kept h.mux h.mux (Some h.channel) refl;
+      others = λ n c ne e. others n c ne (sym (kept_other x.kept h.mux n (Some h.channel) ne) ∙ e);
+    }
+
+others_rest : (b : BoardView) (p m : ℕ) (x : At) → IsRest b p x → OthersKept b p m x
+others_rest b p m x rest n c ne e = rest.stay n c e
 
 slot_of : (x y : At) (s : MuxSlot) → x ≡ y → y.slot ≡ s → x.slot ≡ s
 slot_of x y s e f = ap (λ (z : At). z.slot) e ∙ f
@@ -86,6 +130,9 @@ module _ (b : BoardView) (whose : TransferView) (tree : IsTree b) (lines : Lines
   own_root : is_gpio h.kind ≡ true → InLocks (lock.Bus root) (locks_of root hs)
   own_root gpio =
       line_root h.mux is_hop.home (ap is_gpio (told_kind (slice_get b.muxes h.mux) h.kind is_hop.kind) ∙ gpio)
+
+  own_kind : kind_of b h.mux ≡ h.kind
+  own_kind = told_kind (slice_get b.muxes h.mux) h.kind is_hop.kind
 
   own_known : IsMuxOf b h.mux (kind_of b h.mux)
   own_known = is_hop.kind ∙ ap Some (sym (told_kind (slice_get b.muxes h.mux) h.kind is_hop.kind))
@@ -147,46 +194,49 @@ module _ (b : BoardView) (whose : TransferView) (tree : IsTree b) (lines : Lines
   abbrev own_mark : Mark
   own_mark = record { on = h.on; mux = h.mux }
 
+  own_kept : is_left_open b h.mux ≡ true → Responds b h → IsKept b h.on h.mux
+  own_kept stays responds = (is_hop.home, stays, subst (λ (kind : MuxKind). (is_gpio kind ≡ true) ⊎ (answers b h.mux ≡ true)) (sym own_kind) responds)
+
   -- THE DESELECT: whatever came of the job, what goes on runs
-  clear_rest : (o : JobOutcome) (x y : Slots) → ((is_gpio h.kind ≡ true) ⊎ AllRespond b hs)
+  clear_rest : (o : JobOutcome) (x y : Slots) → IsOpenOn b h (x h.on) → ((is_gpio h.kind ≡ true) ⊎ AllRespond b hs)
       → CanJob b hs (Clear h.on h.mux h.kind) o → y h.on ≡ job_after (Clear h.on h.mux h.kind) (aside h).marks o x h.on → IsRest b h.on (y h.on)
-  clear_rest Good x y way c e = rest_clean b h.on (y h.on) (slot_of (y h.on) (record { slot = Clean }) Clean (e ∙ with_slot-same x h.on Clean) refl)
-  clear_rest Refused x y way c e = rest_clean b h.on (y h.on) (slot_of (y h.on) (record { slot = Clean }) Clean (e ∙ with_slot-same x h.on Clean) refl)
-  clear_rest Unsent x y way c e =
+  clear_rest Good x y is_open way c e = subst (λ (z : At). IsRest b h.on z) (sym (e ∙ turned-same x h.on h.mux Clean None)) (rest_shut b h.on h.mux (x h.on) is_open.others)
+  clear_rest Refused x y is_open way c e = subst (λ (z : At). IsRest b h.on z) (sym (e ∙ turned-same x h.on h.mux Clean None)) (rest_shut b h.on h.mux (x h.on) is_open.others)
+  clear_rest Unsent x y is_open way c e =
       absurd (elim way [ inl gpio ↦ (let f : true ≡ false = sym gpio ∙ c.0 in cc) | inr all ↦ c.1 all ])
-  clear_rest Failed x y way c e =
-      rest_marked b h.on h.mux (y h.on)
-      (slot_of (y h.on) (record { slot = Marked h.mux }) (Marked h.mux) (e ∙ set_marks-head (record { on = h.on; mux = h.mux }) [] x) refl) is_hop.home own_known
+  clear_rest Failed x y is_open way c e =
+      subst (λ (z : At). IsRest b h.on z) (sym (e ∙ set_marks-head (record { on = h.on; mux = h.mux }) [] x))
+      (rest_marked b h.on h.mux (x h.on) is_open.others is_hop.home own_known)
 
   same_lock : (p : ℕ) → lock.Mux p ≡ lock.Mux h.on → h.on ≡ p
   same_lock p e = cc
 
-  clear_after : (out o : JobOutcome) (x y : Slots) → ((p : ℕ) → (Crosses p (h ∷ hs) → ⊥) → x p ≡ job_after job note.marks out v p)
+  clear_after : (out o : JobOutcome) (x y : Slots) → IsOpenOn b h (x h.on) → ((p : ℕ) → (Crosses p (h ∷ hs) → ⊥) → x p ≡ job_after job note.marks out v p)
       → CanJob b (h ∷ hs) job out → ((is_gpio h.kind ≡ true) ⊎ AllRespond b hs)
       → After b hs (sub_locks root h hs) (Clear h.on h.mux h.kind) (aside h).marks x o y → Runs b whose held y (k out)
-  clear_after out o x y same can way after =
+  clear_after out o x y is_open same can way after =
       goes_on out y (record {
         off = λ p off. after.off p (off_tail p off)
             ∙ job_after-off (Clear h.on h.mux h.kind) (aside h).marks o x p (not_on p off) ((not_on p off, tt))
             ∙ same p off;
         rest = λ p i. elim i [
-          | inl e ↦ subst (λ (q : ℕ). IsRest b q (y q)) (same_lock p e) (clear_rest o x y way after.can (after.off h.on off_on))
+          | inl e ↦ subst (λ (q : ℕ). IsRest b q (y q)) (same_lock p e) (clear_rest o x y is_open way after.can (after.off h.on off_on))
           | inr more ↦ after.rest p more
         ];
         can = can;
       })
 
-  clear_before : (x : Slots) → ((p : ℕ) → InLocks (lock.Mux p) (sub_locks root h hs) → IsRest b p (x p)) → (x h.on).slot ≡ Selected h
+  clear_before : (x : Slots) → ((p : ℕ) → InLocks (lock.Mux p) (sub_locks root h hs) → IsRest b p (x p)) → IsOpenOn b h (x h.on)
       → Before b whose root hs (sub_locks root h hs) floor (Clear h.on h.mux h.kind) (aside h).marks held x
-  clear_before x rest selected =
+  clear_before x rest is_open =
       control_before x (Clear h.on h.mux h.kind) (record { on = h.on; mux = h.mux }) [] rest refl off_on
-      (subst (λ (s : MuxSlot). FindsOpen h.mux s) (sym selected) refl, is_hop.home, is_hop.kind) refl is_hop.home
-      (subst (λ (s : MuxSlot). IsOfMux h.mux s) (sym selected) refl)
+      (subst (λ (s : MuxSlot). FindsOpen h.mux s) (sym is_open.clean) tt, is_hop.home, is_hop.kind) refl is_hop.home
+      (subst (λ (s : MuxSlot). IsOfMux h.mux s) (sym is_open.clean) tt)
       (own_held, (refl, refl, tt)) tt tt tt tt own_root
 
-  -- THE JOB, behind a select that was good
-  job_before : (w : Slots) → Like w → (w h.on).slot ≡ Selected h → Before b whose root hs (sub_locks root h hs) floor job note.marks held w
-  job_before w like selected =
+  -- THE JOB, where the channel is open
+  job_before : (w : Slots) → Like w → IsOpenOn b h (w h.on) → Before b whose root hs (sub_locks root h hs) floor job note.marks held w
+  job_before w like is_open =
       record {
         locks = λ l i. before.locks l (inr i);
         ranks = before.ranks;
@@ -196,11 +246,11 @@ module _ (b : BoardView) (whose : TransferView) (tree : IsTree b) (lines : Lines
         owns_off = owns_off_tail job h hs before.owns_off;
         way = λ g a. elim (before.way g a) [
           | inl among_hops ↦ elim among_hops [
-            | inl e ↦ inr (subst (λ (x : Hop). IsPassed held w hs x) (sym e) (record { selected = selected; locked = own_held; off = off_on }))
+            | inl e ↦ inr (subst (λ (x : Hop). IsPassed b held w hs x) (sym e) (record { selected = is_open; locked = own_held; off = off_on }))
             | inr more ↦ inl more
           ]
           | inr passed ↦ inr (record {
-            selected = slot_of (w g.on) (v g.on) (Selected g) (like.off g.on passed.off) passed.selected;
+            selected = subst (λ (x : At). IsOpenOn b g x) (sym (like.off g.on passed.off)) passed.selected;
             locked = passed.locked;
             off = off_tail g.on passed.off;
           })
@@ -213,22 +263,38 @@ module _ (b : BoardView) (whose : TransferView) (tree : IsTree b) (lines : Lines
         line_rooted = λ l. absurd (let f : false ≡ true = sym no_line ∙ l in cc);
       }
 
-  job_done : (w : Slots) → Like w → (w h.on).slot ≡ Selected h → Responds b h → ((is_gpio h.kind ≡ true) ⊎ AllRespond b hs)
+  -- what goes on behind the job: a mux that stays as it is keeps its channel, any other is deselected
+  behind_job : (t : Bool) → h.stays ≡ t → Responds b h → (t ≡ false → (is_gpio h.kind ≡ true) ⊎ AllRespond b hs)
+      → (out : JobOutcome) (x : Slots) → IsOpenOn b h (x h.on) → ((p : ℕ) → InLocks (lock.Mux p) (sub_locks root h hs) → IsRest b p (x p))
+      → ((p : ℕ) → (Crosses p (h ∷ hs) → ⊥) → x p ≡ job_after job note.marks out v p) → CanJob b (h ∷ hs) job out
+      → Runs b whose held x (left_behind t h on k out)
+  behind_job true stays responds way out x is_open rest off can =
+      goes_on out x (record {
+        off = off;
+        rest = λ p i. elim i [
+          | inl e ↦ subst (λ (q : ℕ). IsRest b q (x q)) (same_lock p e) (rest_open b h (x h.on) is_open (own_kept (is_hop.stays ∙ stays) responds))
+          | inr more ↦ rest p more
+        ];
+        can = can;
+      })
+  behind_job false stays responds way out x is_open rest off can =
+      sub (Clear h.on h.mux h.kind) (aside h) (λ o. k out) held x (clear_before x rest is_open)
+      (λ o y done. clear_after out o x y is_open off can (way refl) done)
+
+  job_done : (w : Slots) → Like w → IsOpenOn b h (w h.on) → Responds b h → (h.stays ≡ false → (is_gpio h.kind ≡ true) ⊎ AllRespond b hs)
       → (out : JobOutcome) (x : Slots) → After b hs (sub_locks root h hs) job note.marks w out x
-      → Runs b whose held x (on (Clear h.on h.mux h.kind) (aside h) (λ o. k out))
-  job_done w like selected responds way out x after =
+      → Runs b whose held x (left_behind h.stays h on k out)
+  job_done w like is_open responds way out x after =
       let own_stays : x h.on ≡ w h.on =
       after.off h.on off_on ∙ job_after-off job note.marks out w h.on (λ own. own_crosses job (h ∷ hs) h.on before.owns_off own (inl refl)) own_unmarked in
-      let still : (x h.on).slot ≡ Selected h = slot_of (x h.on) (w h.on) (Selected h) own_stays selected in
-      sub (Clear h.on h.mux h.kind) (aside h) (λ o. k out) held x (clear_before x after.rest still)
-      (λ o y done. clear_after out o x y
+      behind_job h.stays refl responds way out x (subst (λ (z : At). IsOpenOn b h z) (sym own_stays) is_open) after.rest
       (λ p off. after.off p (off_tail p off) ∙ job_after-along job note.marks out w v p (like.off p off))
-      (can_more b h hs job out responds after.can) way done)
+      (can_more b h hs job out responds after.can)
 
-  opened-runs : (w : Slots) → Like w → (w h.on).slot ≡ Selected h → Responds b h → ((is_gpio h.kind ≡ true) ⊎ AllRespond b hs)
+  opened-runs : (w : Slots) → Like w → IsOpenOn b h (w h.on) → Responds b h → (h.stays ≡ false → (is_gpio h.kind ≡ true) ⊎ AllRespond b hs)
       → Runs b whose held w (opened h on job note k)
-  opened-runs w like selected responds way =
-      sub job note (λ out. on (Clear h.on h.mux h.kind) (aside h) (λ o. k out)) held w (job_before w like selected) (job_done w like selected responds way)
+  opened-runs w like is_open responds way =
+      sub job note (left_behind h.stays h on k) held w (job_before w like is_open) (job_done w like is_open responds way)
 
   -- THE SELECT, where the bus is clean
   like_select : (u w : Slots) (o : JobOutcome) → Like u → After b hs (sub_locks root h hs) (Select h) (own_mark ∷ note.marks) u o w
@@ -240,75 +306,107 @@ module _ (b : BoardView) (whose : TransferView) (tree : IsTree b) (lines : Lines
       }
     where
       left : (o : JobOutcome) → (o ≡ Failed → ⊥) → (p : ℕ) → (p ≡ h.on → ⊥) → job_after (Select h) (own_mark ∷ note.marks) o u p ≡ u p
-      left Good bad p ne = with_slot-other u h.on p (Selected h) ne
-      left Refused bad p ne = with_slot-other u h.on p Clean ne
+      left Good bad p ne = turned-other u h.on h.mux p Clean (Some h.channel) ne
+      left Refused bad p ne = turned-other u h.on h.mux p Clean None ne
       left Unsent bad p ne = refl
       left Failed bad p ne = absurd (bad refl)
 
-  lost_after : (o : JobOutcome) (w : Slots) → Like w → IsRest b h.on (w h.on) → CanJob b (h ∷ hs) job Unsent → Runs b whose held w (k Unsent)
-  lost_after o w like rest can =
+  lost_after : (w : Slots) → Like w → IsRest b h.on (w h.on) → CanJob b (h ∷ hs) job Unsent → Runs b whose held w (k Unsent)
+  lost_after w like rest can =
       goes_on Unsent w (record {
         off = λ p off. like.off p off ∙ sym (job_after-unsent job note.marks v p);
         rest = λ p i. elim i [ inl e ↦ subst (λ (q : ℕ). IsRest b q (w q)) (same_lock p e) rest | inr more ↦ like.rest p more ];
         can = can;
       })
 
-  failed_after : (u w : Slots) (m : Mark) → Like u → m.on ≡ h.on → home_of_mux b m.mux ≡ h.on → IsMuxOf b m.mux (kind_of b m.mux)
+  failed_after : (u w : Slots) (m : Mark) → Like u → IsRest b h.on (u h.on) → m.on ≡ h.on → home_of_mux b m.mux ≡ h.on → IsMuxOf b m.mux (kind_of b m.mux)
       → ((p : ℕ) → (Crosses p hs → ⊥) → w p ≡ set_marks (m ∷ note.marks) u p) → ((p : ℕ) → InLocks (lock.Mux p) (sub_locks root h hs) → IsRest b p (w p))
       → Runs b whose held w (k Failed)
-  failed_after u w m like on_bus home known marked rest =
+  failed_after u w m like own_rest on_bus home known marked rest =
       goes_on Failed w (record {
         off = λ p off. marked p (off_tail p off)
-            ∙ with_slot-other (set_marks note.marks u) m.on p (Marked m.mux) (λ e. not_on p off (e ∙ on_bus))
+            ∙ changed-other (set_marks note.marks u) m.on p (turned_at (u m.on) m.mux (Marked m.mux) None) (λ e. not_on p off (e ∙ on_bus))
             ∙ set_marks-along note.marks u v p (like.off p off)
             ∙ sym (job_after-failed job note.marks v p before.call_unmarked);
         rest = λ p i. elim i [
           | inl e ↦ subst (λ (q : ℕ). IsRest b q (w q)) (same_lock p e)
-              (rest_marked b h.on m.mux (w h.on) (slot_of (w h.on) (record { slot = Marked m.mux }) (Marked m.mux) (own_marked h.on (sym on_bus)) refl) home known)
+              (subst (λ (z : At). IsRest b h.on z) (sym own_marked) (rest_marked b h.on m.mux (u h.on) (others_rest b h.on m.mux (u h.on) own_rest) home known))
           | inr more ↦ rest p more
         ];
         can = tt;
       })
     where
-      own_marked : (q : ℕ) → q ≡ m.on → w h.on ≡ record { slot = Marked m.mux }
-      own_marked q e = marked h.on off_on ∙ ap (λ (i : ℕ). set_marks (m ∷ note.marks) u i) (sym on_bus) ∙ set_marks-head m note.marks u
+      own_marked : w h.on ≡ turned_at (u h.on) m.mux (Marked m.mux) None
+      own_marked =
+          marked h.on off_on ∙ ap (λ (i : ℕ). set_marks (m ∷ note.marks) u i) (sym on_bus) ∙ set_marks-head m note.marks u
+          ∙ ap (λ (i : ℕ). turned_at (u i) m.mux (Marked m.mux) None) on_bus
 
-  select_before : (u : Slots) → Like u → (u h.on).slot ≡ Clean → Before b whose root hs (sub_locks root h hs) floor (Select h) (own_mark ∷ note.marks) held u
-  select_before u like clean =
-      control_before u (Select h) own_mark note.marks like.rest refl off_on (clean, among_own, bus_there) refl is_hop.home
+  select_before : (u : Slots) → Like u → IsRest b h.on (u h.on) → (u h.on).slot ≡ Clean → Before b whose root hs (sub_locks root h hs) floor (Select h) (own_mark ∷ note.marks) held u
+  select_before u like rest clean =
+      control_before u (Select h) own_mark note.marks like.rest refl off_on ((clean, arb_shut), among_own, bus_there) refl is_hop.home
       (subst (λ (s : MuxSlot). IsOfMux h.mux s) (sym clean) tt)
       (own_held, (refl, refl, own_unmarked)) tt tt (fail_at u like) marks_off own_root
+    where
+      none : (kept : Option ℕ) → (u h.on).kept h.mux ≡ kept → is_left_open b h.mux ≡ false → kept ≡ None
+      none None e shut = refl
+      none (Some c) e shut = absurd (let f : false ≡ true = sym shut ∙ (rest.stay h.mux c e).1 in cc)
 
-  chosen_done : (u : Slots) → Like u → (u h.on).slot ≡ Clean → (o : JobOutcome) (w : Slots)
+      arb_shut : is_arbitrator h.kind ≡ true → (u h.on).kept h.mux ≡ None
+      arb_shut arb = none ((u h.on).kept h.mux) refl (tree.asking h.mux (ap is_arbitrator own_kind ∙ arb))
+
+  chosen_done : (u : Slots) → Like u → IsRest b h.on (u h.on) → (o : JobOutcome) (w : Slots)
       → After b hs (sub_locks root h hs) (Select h) (own_mark ∷ note.marks) u o w → Runs b whose held w (if_good o (opened h on job note k) k)
-  chosen_done u like clean Good w after =
+  chosen_done u like rest Good w after =
       opened-runs w (like_select u w Good like after (λ e. let f : Good ≡ Failed = e in cc))
-      (slot_of (w h.on) (record { slot = Selected h }) (Selected h) (after.off h.on off_on ∙ with_slot-same u h.on (Selected h)) refl)
+      (subst (λ (z : At). IsOpenOn b h z) (sym (after.off h.on off_on ∙ turned-same u h.on h.mux Clean (Some h.channel)))
+      (open_of b h (u h.on) (others_rest b h.on h.mux (u h.on) rest)))
       (elim after.can [ inl gpio ↦ inl gpio | inr sent ↦ inr sent.1 ])
-      (elim after.can [ inl gpio ↦ inl gpio | inr sent ↦ inr sent.0 ])
-  chosen_done u like clean Refused w after =
-      lost_after Refused w (like_select u w Refused like after (λ e. let f : Refused ≡ Failed = e in cc))
-      (rest_clean b h.on (w h.on) (slot_of (w h.on) (record { slot = Clean }) Clean (after.off h.on off_on ∙ with_slot-same u h.on Clean) refl)) (
+      (λ stays. elim after.can [ inl gpio ↦ inl gpio | inr sent ↦ inr sent.0 ])
+  chosen_done u like rest Refused w after =
+      lost_after w (like_select u w Refused like after (λ e. let f : Refused ≡ Failed = e in cc))
+      (subst (λ (z : At). IsRest b h.on z) (sym (after.off h.on off_on ∙ turned-same u h.on h.mux Clean None))
+      (rest_shut b h.on h.mux (u h.on) (others_rest b h.on h.mux (u h.on) rest))) (
         no_line,
         λ all. elim all.0 [
           | inl gpio ↦ (let f : true ≡ false = sym gpio ∙ after.can.0 in cc)
           | inr ans ↦ (let f : true ≡ false = sym ans ∙ after.can.2 in cc)
         ],
       )
-  chosen_done u like clean Unsent w after =
-      lost_after Unsent w (like_select u w Unsent like after (λ e. let f : Unsent ≡ Failed = e in cc))
-      (rest_clean b h.on (w h.on) (slot_of (w h.on) (u h.on) Clean (after.off h.on off_on) clean))
+  chosen_done u like rest Unsent w after =
+      lost_after w (like_select u w Unsent like after (λ e. let f : Unsent ≡ Failed = e in cc))
+      (subst (λ (z : At). IsRest b h.on z) (sym (after.off h.on off_on)) rest)
       (no_line, λ all. after.can.1 all.1)
-  chosen_done u like clean Failed w after =
-      failed_after u w own_mark like refl is_hop.home own_known (λ p off. after.off p off) after.rest
+  chosen_done u like rest Failed w after =
+      failed_after u w own_mark like rest refl is_hop.home own_known (λ p off. after.off p off) after.rest
 
-  chosen-runs : (u : Slots) → Like u → (u h.on).slot ≡ Clean → Runs b whose held u (chosen h on job note k)
-  chosen-runs u like clean =
-      sub (Select h) (with_mark h.on h.mux note) (λ o. if_good o (opened h on job note k) k) held u (select_before u like clean) (chosen_done u like clean)
+  chosen-runs : (u : Slots) → Like u → IsRest b h.on (u h.on) → (u h.on).slot ≡ Clean → Runs b whose held u (chosen h on job note k)
+  chosen-runs u like rest clean =
+      sub (Select h) (with_mark h.on h.mux note) (λ o. if_good o (opened h on job note k) k) held u (select_before u like rest clean) (chosen_done u like rest)
+
+  -- THE LOOK at the channel that the mux keeps
+  crossed-runs : (u : Slots) → Like u → IsRest b h.on (u h.on) → (u h.on).slot ≡ Clean → (kept : Option ℕ) → (u h.on).kept h.mux ≡ kept
+      → Runs b whose held u (crossed h on job note k kept)
+  crossed-runs u like rest clean None e = chosen-runs u like rest clean
+  crossed-runs u like rest clean (Some c) e = by (h.stays && eqb c h.channel) refl
+    where
+      by : (t : Bool) → (h.stays && eqb c h.channel) ≡ t → Runs b whose held u (cond t (opened h on job note k) (chosen h on job note k))
+      by false f = chosen-runs u like rest clean
+      by true f =
+          let own : IsKept b h.on h.mux = rest.stay h.mux c e in
+          opened-runs u like
+          (record { clean = clean; kept = e ∙ ap Some (eqb-true c h.channel (and_right h.stays (eqb c h.channel) f)); others = others_rest b h.on h.mux (u h.on) rest })
+          (subst (λ (kind : MuxKind). (is_gpio kind ≡ true) ⊎ (answers b h.mux ≡ true)) own_kind own.2)
+          (λ n. absurd (let g : true ≡ false = sym (and_left h.stays (eqb c h.channel) f) ∙ n in cc))
+
+  look-runs : (u : Slots) → Like u → IsRest b h.on (u h.on) → (u h.on).slot ≡ Clean → Runs b whose held u (Look (KeptOf h.on h.mux) (crossed h on job note k))
+  look-runs u like rest clean = (own_held, crossed-runs u like rest clean ((u h.on).kept h.mux) refl)
 
   -- THE CLOSE of a marked mux comes first
   like_now : Like v
   like_now = record { off = λ p off. refl; rest = λ p i. before.rest p (inr i) }
+
+  rest_now : IsRest b h.on (v h.on)
+  rest_now = before.rest h.on (inl refl)
 
   abbrev close_mark : ℕ → Mark
   close_mark m = record { on = h.on; mux = m }
@@ -316,38 +414,43 @@ module _ (b : BoardView) (whose : TransferView) (tree : IsTree b) (lines : Lines
   close_before : (m : ℕ) → (v h.on).slot ≡ Marked m
       → Before b whose root hs (sub_locks root h hs) floor (Clear h.on m (kind_of b m)) (close_mark m ∷ note.marks) held v
   close_before m marked =
-      let home : home_of_mux b m ≡ h.on = (before.rest h.on (inl refl)).home m marked in
+      let home : home_of_mux b m ≡ h.on = rest_now.home m marked in
       control_before v (Clear h.on m (kind_of b m)) (close_mark m) note.marks (λ p i. before.rest p (inr i)) refl off_on
-      (subst (λ (s : MuxSlot). FindsOpen m s) (sym marked) refl, home, (before.rest h.on (inl refl)).known m marked) refl home
+      (subst (λ (s : MuxSlot). FindsOpen m s) (sym marked) refl, home, rest_now.known m marked) refl home
       (subst (λ (s : MuxSlot). IsOfMux m s) (sym marked) refl)
       (own_held, (refl, refl, own_unmarked)) tt tt before.may_fail marks_off (λ l. line_root m home l)
 
-  like_closed : (m : ℕ) (w : Slots) → ((p : ℕ) → (Crosses p hs → ⊥) → w p ≡ with_slot v h.on Clean p)
+  like_closed : (m : ℕ) (w : Slots) → ((p : ℕ) → (Crosses p hs → ⊥) → w p ≡ turned v h.on m Clean None p)
       → ((p : ℕ) → InLocks (lock.Mux p) (sub_locks root h hs) → IsRest b p (w p)) → Like w
   like_closed m w off rest =
-      record { off = λ p o. off p (off_tail p o) ∙ with_slot-other v h.on p Clean (not_on p o); rest = rest }
+      record { off = λ p o. off p (off_tail p o) ∙ turned-other v h.on m p Clean None (not_on p o); rest = rest }
+
+  -- the bus is clean behind it, and the mux that was marked is shut
+  after_close : (m : ℕ) (w : Slots) → ((p : ℕ) → (Crosses p hs → ⊥) → w p ≡ turned v h.on m Clean None p)
+      → ((p : ℕ) → InLocks (lock.Mux p) (sub_locks root h hs) → IsRest b p (w p)) → Runs b whose held w (Look (KeptOf h.on h.mux) (crossed h on job note k))
+  after_close m w off rest =
+      let own : w h.on ≡ turned_at (v h.on) m Clean None = off h.on off_on ∙ turned-same v h.on m Clean None in
+      look-runs w (like_closed m w off rest)
+      (subst (λ (z : At). IsRest b h.on z) (sym own) (rest_shut b h.on m (v h.on) (others_rest b h.on m (v h.on) rest_now)))
+      (slot_of (w h.on) (turned_at (v h.on) m Clean None) Clean own refl)
 
   closed : (m : ℕ) → (v h.on).slot ≡ Marked m → (o : JobOutcome) (w : Slots)
       → After b hs (sub_locks root h hs) (Clear h.on m (kind_of b m)) (close_mark m ∷ note.marks) v o w
-      → Runs b whose held w (if_sent o (chosen h on job note k) k)
-  closed m marked Good w after =
-      chosen-runs w (like_closed m w (λ p off. after.off p off) after.rest)
-      (slot_of (w h.on) (record { slot = Clean }) Clean (after.off h.on off_on ∙ with_slot-same v h.on Clean) refl)
-  closed m marked Refused w after =
-      chosen-runs w (like_closed m w (λ p off. after.off p off) after.rest)
-      (slot_of (w h.on) (record { slot = Clean }) Clean (after.off h.on off_on ∙ with_slot-same v h.on Clean) refl)
+      → Runs b whose held w (if_sent o (Look (KeptOf h.on h.mux) (crossed h on job note k)) k)
+  closed m marked Good w after = after_close m w (λ p off. after.off p off) after.rest
+  closed m marked Refused w after = after_close m w (λ p off. after.off p off) after.rest
   closed m marked Unsent w after =
-      lost_after Unsent w (record { off = λ p off. after.off p (off_tail p off); rest = after.rest })
-      (subst (λ (x : At). IsRest b h.on x) (sym (after.off h.on off_on)) (before.rest h.on (inl refl)))
+      lost_after w (record { off = λ p off. after.off p (off_tail p off); rest = after.rest })
+      (subst (λ (x : At). IsRest b h.on x) (sym (after.off h.on off_on)) rest_now)
       (no_line, λ all. after.can.1 all.1)
   closed m marked Failed w after =
-      failed_after v w (close_mark m) like_now refl ((before.rest h.on (inl refl)).home m marked) ((before.rest h.on (inl refl)).known m marked) (λ p off. after.off p off) after.rest
+      failed_after v w (close_mark m) like_now rest_now refl (rest_now.home m marked) (rest_now.known m marked) (λ p off. after.off p off) after.rest
 
-  closing-runs : (mark : Option ℕ) → mark_in (v h.on).slot ≡ mark → Runs b whose held v (closing b h on note k (chosen h on job note k) mark)
-  closing-runs None e = chosen-runs v like_now (shut_clean (v h.on).slot (before.rest h.on (inl refl)).shut e)
+  closing-runs : (mark : Option ℕ) → mark_in (v h.on).slot ≡ mark → Runs b whose held v (closing b h on note k (Look (KeptOf h.on h.mux) (crossed h on job note k)) mark)
+  closing-runs None e = look-runs v like_now rest_now (shut_clean (v h.on).slot rest_now.shut e)
   closing-runs (Some m) e =
       let marked : (v h.on).slot ≡ Marked m = marked_slot (v h.on).slot m e in
-      sub (Clear h.on m (kind_of b m)) (with_mark h.on m note) (λ o. if_sent o (chosen h on job note k) k) held v (close_before m marked) (closed m marked)
+      sub (Clear h.on m (kind_of b m)) (with_mark h.on m note) (λ o. if_sent o (Look (KeptOf h.on h.mux) (crossed h on job note k)) k) held v (close_before m marked) (closed m marked)
 
   pub behind-runs : Runs b whose held v (behind b h on job note k)
   behind-runs = (own_held, closing-runs (mark_in (v h.on).slot) refl)

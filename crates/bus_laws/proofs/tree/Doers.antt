@@ -1,17 +1,17 @@
 -- What does a job at the end of some hops, and what it needs and leaves. `ls` are the locks of these hops that are
 -- held, `floor` the least rank among the held ones.
-use Rattle.std.proofs.Common.{◌≡◌, ℕ, ◌<◌, ◌≤◌, Bool, true, false, List, [], ◌∷◌, ◌⊎◌}
+use Rattle.std.proofs.Common.{◌≡◌, ℕ, ◌<◌, ◌≤◌, Bool, true, false, List, [], ◌∷◌, Some, None, ◌⊎◌}
 use Rattle.std.specs.List.{AllByRecursion}
 use Rattle.i2c_base.specs.declared.ids.LockId.{LockId}
 use Rattle.i2c_base.specs.declared.ids.LockId.TheVariants as lock
 use Rattle.i2c_base.specs.Board.{BoardView}
 use Rattle.i2c_base.specs.Transfer.{TransferView}
 use Rattle.i2c_spec.specs.Tree.{Hop, hops, buses, root_of, locks_of, home_of_mux, Crosses, IsAmongHops}
-use Rattle.bus_spec.specs.Walk.{Mark, Job, Call, Select, Clear, JobOutcome, Good, Refused, Unsent, Failed, Note, WalkTree, job_bus, is_line, is_gpio}
-use Rattle.bus_spec.specs.Slots.{Slots, Clean, Selected, with_slot, set_marks}
+use Rattle.bus_spec.specs.Walk.{Mark, Job, Call, Select, Clear, JobOutcome, Good, Refused, Unsent, Failed, Note, WalkTree, job_bus, is_line, is_gpio, is_arbitrator}
+use Rattle.bus_spec.specs.Slots.{Slots, At, Clean, turned, set_marks}
 use Rattle.bus_spec.specs.Grammar.{Doer}
 use Rattle.bus_spec.specs.Readings.{rank}
-use Rattle.bus_laws.specs.Runs.{InLocks, answers, IsRest, IsMuxOf, FindsOpen, Owns, MayFail, IsGranted, Runs}
+use Rattle.bus_laws.specs.Runs.{IsOpenOn, InLocks, answers, IsRest, IsMuxOf, FindsOpen, Owns, MayFail, IsGranted, Runs}
 
 -- a hop lets a job through: a line always does, a chip where it answers
 abbrev pub Responds : BoardView → Hop → Type 0
@@ -24,12 +24,12 @@ AllRespond b (h ∷ hs) = Responds b h × AllRespond b hs
 -- what a job leaves off its path
 abbrev pub job_after : Job → List Mark → JobOutcome → Slots → Slots
 job_after (Call bus messages) marks o v = v
-job_after (Select h) marks Good v = with_slot v h.on (Selected h)
-job_after (Select h) marks Refused v = with_slot v h.on Clean
+job_after (Select h) marks Good v = turned v h.on h.mux Clean (Some h.channel)
+job_after (Select h) marks Refused v = turned v h.on h.mux Clean None
 job_after (Select h) marks Unsent v = v
 job_after (Select h) marks Failed v = set_marks marks v
-job_after (Clear on mux kind) marks Good v = with_slot v on Clean
-job_after (Clear on mux kind) marks Refused v = with_slot v on Clean
+job_after (Clear on mux kind) marks Good v = turned v on mux Clean None
+job_after (Clear on mux kind) marks Refused v = turned v on mux Clean None
 job_after (Clear on mux kind) marks Unsent v = v
 job_after (Clear on mux kind) marks Failed v = set_marks marks v
 
@@ -57,15 +57,19 @@ CallUnmarked (Call bus messages) marks = marks ≡ []
 CallUnmarked (Select h) marks = Unit {0}
 CallUnmarked (Clear on mux kind) marks = Unit {0}
 
+-- the bus is clean, and an arbitrator that is to be asked is shut
+abbrev pub IsFresh : Hop → At → Type 0
+IsFresh h x = (x.slot ≡ Clean) × (is_arbitrator h.kind ≡ true → x.kept h.mux ≡ None)
+
 -- what a job finds on its own bus before its first step
 abbrev pub FindsFirst : BoardView → Job → Slots → Type 0
 FindsFirst b (Call bus messages) v = Unit {0}
-FindsFirst b (Select h) v = ((v h.on).slot ≡ Clean) × IsAmongHops h (hops b h.bus) × (h.bus < buses b)
+FindsFirst b (Select h) v = IsFresh h (v h.on) × IsAmongHops h (hops b h.bus) × (h.bus < buses b)
 FindsFirst b (Clear on mux kind) v = FindsOpen mux (v on).slot × (home_of_mux b mux ≡ on) × IsMuxOf b mux kind
 
 -- a hop over the job's bus is behind the walk already: selected, its lock held, and none of the hops before it
-pub record IsPassed (held : List LockId) (v : Slots) (hs : List Hop) (g : Hop) : Type 0 where
-  pub selected : (v g.on).slot ≡ Selected g
+pub record IsPassed (b : BoardView) (held : List LockId) (v : Slots) (hs : List Hop) (g : Hop) : Type 0 where
+  pub selected : IsOpenOn b g (v g.on)
   pub locked : InLocks (lock.Mux g.on) held
   pub off : Crosses g.on hs → ⊥
 
@@ -76,7 +80,7 @@ pub record Before (b : BoardView) (whose : TransferView) (root : ℕ) (hs : List
   pub finds : FindsFirst b job v
   pub owns : Owns job marks held
   pub owns_off : OwnsOff job hs
-  pub way : (g : Hop) → IsAmongHops g (hops b (job_bus job)) → IsAmongHops g hs ⊎ IsPassed held v hs g
+  pub way : (g : Hop) → IsAmongHops g (hops b (job_bus job)) → IsAmongHops g hs ⊎ IsPassed b held v hs g
   pub same_root : root_of b (job_bus job) ≡ root
   pub may_fail : MayFail b marks held v
   pub marks_off : AllByRecursion (λ (m : Mark). Crosses m.on hs → ⊥) marks

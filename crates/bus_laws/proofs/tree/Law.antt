@@ -16,12 +16,13 @@ use Rattle.i2c_spec.specs.Messages.{messages_of}
 use Rattle.i2c_spec.specs.Flat.{refusal, is_plain, is_smbus_only}
 use Rattle.i2c_spec.specs.Grant.{grant_of, is_busy}
 use Rattle.bus_spec.specs.Walk.{Mark, Job, Call, Select, Clear, JobOutcome, Note, WalkTree, Ends, Then, Free, is_line}
-use Rattle.bus_spec.specs.Slots.{Slots, At, with_slot}
+use Rattle.bus_spec.specs.Slots.{Slots, At}
 use Rattle.bus_spec.specs.Grammar.{Doer, plain, locked, part, inner, behind, at_bus, walk_by, walk_for}
 use Rattle.bus_spec.specs.Readings.{rank}
-use Rattle.bus_laws.specs.Runs.{InLocks, IsRest, RestOf, LeavesShut, taken_slots, Owns, MayFail, Runs}
+use Rattle.bus_laws.specs.Runs.{IsOpenOn, InLocks, IsRest, RestOf, LeavesShut, taken_slots, Owns, MayFail, Runs}
 use Rattle.bus_laws.specs.Lines.{LinesAreLocked}
-use Rattle.bus_laws.proofs.tree.Slots.{with_slot-same, with_slot-other}
+use Rattle.i2c_spec.specs.History.{changed_at}
+use Rattle.bus_laws.proofs.tree.Slots.{changed-same, changed-other}
 use Rattle.bus_laws.proofs.tree.Doers.{Before, After, DoerRuns}
 use Rattle.bus_laws.proofs.tree.Path.{job_after-along, finds_along, fail_along, own_crosses, locks_cross, bus_runs, line_runs, ground, sub_locks}
 use Rattle.bus_laws.proofs.tree.Falls.{Falls, floor_after, gathered, is_below_all, in_gathered, of_gathered, path_falls, path_floor}
@@ -29,7 +30,7 @@ use Rattle.bus_laws.proofs.tree.Behind.{behind-runs}
 
 -- taking a lock of the path changes what is known on the path alone
 taken-off : (hs : List Hop) (l : LockId) (s : At) (v : Slots) → ((p : ℕ) → l ≡ lock.Mux p → Crosses p hs) → (p : ℕ) → (Crosses p hs → ⊥) → taken_slots l s v p ≡ v p
-taken-off hs (lock.Mux q) s v crossing p off = with_slot-other v q p s.slot (λ e. off (subst (λ (i : ℕ). Crosses i hs) (sym e) (crossing q refl)))
+taken-off hs (lock.Mux q) s v crossing p off = changed-other v q p s (λ e. off (subst (λ (i : ℕ). Crosses i hs) (sym e) (crossing q refl)))
 taken-off hs (lock.Bus r) s v crossing p off = refl
 
 taken_rest : (b : BoardView) (l : LockId) (s : At) (v : Slots) (got : List LockId) → RestOf b l s
@@ -38,9 +39,9 @@ taken_rest b (lock.Bus r) s v got at_rest rest p i =
     elim i [ inl e ↦ absurd (let f : lock.Mux p ≡ lock.Bus r = e in cc) | inr more ↦ rest p more ]
 taken_rest b (lock.Mux q) s v got at_rest rest p i =
     elim (eqb_tells p q) [
-      | inl h ↦ subst (λ (x : At). IsRest b p x) (sym (ap (λ (j : ℕ). with_slot v q s.slot j) h.1 ∙ with_slot-same v q s.slot))
+      | inl h ↦ subst (λ (x : At). IsRest b p x) (sym (ap (λ (j : ℕ). changed_at v q s j) h.1 ∙ changed-same v q s))
           (subst (λ (j : ℕ). IsRest b j s) (sym h.1) at_rest)
-      | inr h ↦ subst (λ (x : At). IsRest b p x) (sym (with_slot-other v q p s.slot h.1))
+      | inr h ↦ subst (λ (x : At). IsRest b p x) (sym (changed-other v q p s h.1))
           (elim i [ inl e ↦ absurd (h.1 (let f : lock.Mux p ≡ lock.Mux q = e in cc)) | inr more ↦ rest p more ])
     ]
 
@@ -79,7 +80,7 @@ module _ (b : BoardView) (whose : TransferView) (root : ℕ) (hs : List Hop) whe
         way = λ g a. elim (before.way g a) [
           | inl still ↦ inl still
           | inr passed ↦ inr (record {
-            selected = ap (λ (x : At). x.slot) (taken-off hs l s v crossing g.on passed.off) ∙ passed.selected;
+            selected = subst (λ (x : At). IsOpenOn b g x) (sym (taken-off hs l s v crossing g.on passed.off)) passed.selected;
             locked = inr passed.locked;
             off = passed.off;
           })

@@ -1,5 +1,5 @@
 -- A job at the end of a path of hops. The induction goes over the hops.
-use Rattle.std.proofs.Common.{◌≡◌, ℕ, zero, suc, ◌-◌, Bool, true, false, cond, List, [], ◌∷◌, length, refl, sym, ap, subst, inl, inr}
+use Rattle.std.proofs.Common.{◌≡◌, ℕ, zero, suc, ◌-◌, Bool, true, false, cond, List, [], ◌∷◌, length, Some, None, refl, sym, ap, subst, inl, inr}
 use Rattle.std.specs.List.{AllByRecursion}
 use Rattle.i2c_base.specs.declared.ids.LockId.{LockId}
 use Rattle.i2c_base.specs.declared.ids.LockId.TheVariants as lock
@@ -9,11 +9,11 @@ use Rattle.i2c_base.specs.Transfer.{TransferView}
 use Rattle.i2c_spec.specs.Tree.{Hop, hops, root_of, locks_of, Crosses, IsAmongHops}
 use Rattle.i2c_spec.specs.TreeFacts.{IsTree}
 use Rattle.bus_spec.specs.Walk.{Mark, Job, Call, Select, Clear, Shift, ActOutcome, Passed, Sent, Lined, JobOutcome, Good, Refused, Unsent, Failed, Note, WalkTree, Then, job_bus, is_line, is_arbitrator, more_of}
-use Rattle.bus_spec.specs.Slots.{Slots, At, MuxSlot, Clean, Selected, with_slot, set_marks, after_job}
+use Rattle.bus_spec.specs.Slots.{Slots, At, MuxSlot, Clean, turned, set_marks, after_job}
 use Rattle.bus_spec.specs.Grammar.{over, messages, at_bus}
-use Rattle.bus_laws.specs.Runs.{InLocks, IsRest, CanShift, Finds, FindsOpen, FindsSelect, IsUnmarked, IsOfMux, MayFail, Runs}
-use Rattle.bus_laws.proofs.tree.Slots.{with_slot-other, with_slot-along, set_marks-other, set_marks-along}
-use Rattle.bus_laws.proofs.tree.Doers.{Responds, CanJob, job_after, OwnsOff, FindsFirst, CallUnmarked, Before, After}
+use Rattle.bus_laws.specs.Runs.{IsOpenOn, InLocks, IsRest, CanShift, Finds, FindsOpen, FindsSelect, IsUnmarked, IsOfMux, MayFail, Runs}
+use Rattle.bus_laws.proofs.tree.Slots.{turned-other, turned-along, set_marks-other, set_marks-along}
+use Rattle.bus_laws.proofs.tree.Doers.{IsFresh, Responds, CanJob, job_after, OwnsOff, FindsFirst, CallUnmarked, Before, After}
 use Rattle.bus_laws.proofs.tree.Base.{over-runs, call_runs, select_runs, clear_runs}
 
 -- a job's own bus; a call has none
@@ -25,24 +25,24 @@ OwnIs (Clear on mux kind) p = p ≡ on
 -- off its own bus, and where it marks nothing, a job leaves what was known
 pub job_after-off : (job : Job) (marks : List Mark) (o : JobOutcome) (v : Slots) (p : ℕ) → (OwnIs job p → ⊥) → IsUnmarked p marks → job_after job marks o v p ≡ v p
 job_after-off (Call bus ms) marks o v p own un = refl
-job_after-off (Select h) marks Good v p own un = with_slot-other v h.on p (Selected h) own
-job_after-off (Select h) marks Refused v p own un = with_slot-other v h.on p Clean own
+job_after-off (Select h) marks Good v p own un = turned-other v h.on h.mux p Clean (Some h.channel) own
+job_after-off (Select h) marks Refused v p own un = turned-other v h.on h.mux p Clean None own
 job_after-off (Select h) marks Unsent v p own un = refl
 job_after-off (Select h) marks Failed v p own un = set_marks-other marks v p un
-job_after-off (Clear on mux kind) marks Good v p own un = with_slot-other v on p Clean own
-job_after-off (Clear on mux kind) marks Refused v p own un = with_slot-other v on p Clean own
+job_after-off (Clear on mux kind) marks Good v p own un = turned-other v on mux p Clean None own
+job_after-off (Clear on mux kind) marks Refused v p own un = turned-other v on mux p Clean None own
 job_after-off (Clear on mux kind) marks Unsent v p own un = refl
 job_after-off (Clear on mux kind) marks Failed v p own un = set_marks-other marks v p un
 
 -- what a job leaves at a bus comes from that bus
 pub job_after-along : (job : Job) (marks : List Mark) (o : JobOutcome) (v w : Slots) (p : ℕ) → v p ≡ w p → job_after job marks o v p ≡ job_after job marks o w p
 job_after-along (Call bus ms) marks o v w p e = e
-job_after-along (Select h) marks Good v w p e = with_slot-along v w h.on p (Selected h) e
-job_after-along (Select h) marks Refused v w p e = with_slot-along v w h.on p Clean e
+job_after-along (Select h) marks Good v w p e = turned-along v w h.on h.mux p Clean (Some h.channel) e
+job_after-along (Select h) marks Refused v w p e = turned-along v w h.on h.mux p Clean None e
 job_after-along (Select h) marks Unsent v w p e = e
 job_after-along (Select h) marks Failed v w p e = set_marks-along marks v w p e
-job_after-along (Clear on mux kind) marks Good v w p e = with_slot-along v w on p Clean e
-job_after-along (Clear on mux kind) marks Refused v w p e = with_slot-along v w on p Clean e
+job_after-along (Clear on mux kind) marks Good v w p e = turned-along v w on mux p Clean None e
+job_after-along (Clear on mux kind) marks Refused v w p e = turned-along v w on mux p Clean None e
 job_after-along (Clear on mux kind) marks Unsent v w p e = e
 job_after-along (Clear on mux kind) marks Failed v w p e = set_marks-along marks v w p e
 
@@ -59,7 +59,7 @@ job_after-failed (Clear on mux kind) marks v p un = refl
 -- what a job finds on its own bus, and what its marks forget, moves along equal knowledge
 pub finds_along : (b : BoardView) (job : Job) (v w : Slots) → ((p : ℕ) → OwnIs job p → v p ≡ w p) → FindsFirst b job v → FindsFirst b job w
 finds_along b (Call bus ms) v w same f = tt
-finds_along b (Select h) v w same f = (subst (λ (x : At). x.slot ≡ Clean) (same h.on refl) f.0, f.1, f.2)
+finds_along b (Select h) v w same f = (subst (λ (x : At). IsFresh h x) (same h.on refl) f.0, f.1, f.2)
 finds_along b (Clear on mux kind) v w same f = (subst (λ (x : At). FindsOpen mux x.slot) (same on refl) f.0, f.1, f.2)
 
 pub fail_along : (b : BoardView) (held : List LockId) (hs : List Hop) (v w : Slots) (ms : List Mark)
@@ -128,7 +128,7 @@ locks_cross root (h ∷ hs) p i =
 line_finds : (b : BoardView) (job : Job) (v : Slots) → is_line job ≡ true → FindsFirst b job v → Finds b job zero v
 line_finds b (Call bus ms) v l f = tt
 line_finds b (Select h) v l f =
-    (subst (λ (t : Bool). FindsSelect t h zero (v h.on).slot) (sym (line_row h.kind l).asks) (refl, f.0), f.1, f.2)
+    (subst (λ (t : Bool). FindsSelect t h zero (v h.on)) (sym (line_row h.kind l).asks) (refl, f.0.0), f.1, f.2)
 line_finds b (Clear on mux kind) v l f = f
 
 module _ (b : BoardView) (whose : TransferView) (root : ℕ) (hs : List Hop) (ls : List LockId) (floor : ℕ)
@@ -156,13 +156,13 @@ module _ (b : BoardView) (whose : TransferView) (root : ℕ) (hs : List Hop) (ls
   line_out (Select h) note k held v l before goes_on (Lined true) can =
       over-runs b whose held (set_marks note.marks v) (Select h) zero note k (Lined true) (line_done (Select h) note k held v l before goes_on Failed tt)
   line_out (Select h) note k held v l before goes_on (Lined false) can =
-      over-runs b whose held (with_slot v h.on (Selected h)) (Select h) zero note k (Lined false) (line_done (Select h) note k held v l before goes_on Good (inl l))
+      over-runs b whose held (turned v h.on h.mux Clean (Some h.channel)) (Select h) zero note k (Lined false) (line_done (Select h) note k held v l before goes_on Good (inl l))
   line_out (Select h) note k held v l before goes_on (Sent e bytes) can = absurd can
   line_out (Select h) note k held v l before goes_on Passed can = absurd can
   line_out (Clear on mux kind) note k held v l before goes_on (Lined true) can =
       over-runs b whose held (set_marks note.marks v) (Clear on mux kind) zero note k (Lined true) (line_done (Clear on mux kind) note k held v l before goes_on Failed tt)
   line_out (Clear on mux kind) note k held v l before goes_on (Lined false) can =
-      over-runs b whose held (with_slot v on Clean) (Clear on mux kind) zero note k (Lined false) (line_done (Clear on mux kind) note k held v l before goes_on Good (inl l))
+      over-runs b whose held (turned v on mux Clean None) (Clear on mux kind) zero note k (Lined false) (line_done (Clear on mux kind) note k held v l before goes_on Good (inl l))
   line_out (Clear on mux kind) note k held v l before goes_on (Sent e bytes) can = absurd can
   line_out (Clear on mux kind) note k held v l before goes_on Passed can = absurd can
 
@@ -187,7 +187,7 @@ module _ (b : BoardView) (whose : TransferView) (root : ℕ) (hs : List Hop) (ls
 
 arrived : (b : BoardView) (whose : TransferView) (root floor : ℕ) (job : Job) (marks : List Mark) (held : List LockId) (v : Slots)
     → Before b whose root [] (lock.Bus root ∷ []) floor job marks held v
-    → (g : Hop) → IsAmongHops g (hops b (job_bus job)) → ((v g.on).slot ≡ Selected g) × InLocks (lock.Mux g.on) held
+    → (g : Hop) → IsAmongHops g (hops b (job_bus job)) → IsOpenOn b g (v g.on) × InLocks (lock.Mux g.on) held
 arrived b whose root floor job marks held v before g a =
     elim (before.way g a) [ inl none ↦ absurd none | inr passed ↦ (passed.selected, passed.locked) ]
 
@@ -222,7 +222,7 @@ root_runs b whose tree root floor (Select h) note k held v l before goes_on =
     (arrived b whose root floor (Select h) note.marks held v before)
     (bus_held b whose root floor (Select h) note.marks held v before)
     before.owns before.finds.1 before.finds.2 before.may_fail l goes_on
-    (is_arbitrator h.kind) refl (own_shut h (v h.on).slot before.finds.0) before.finds.0
+    (is_arbitrator h.kind) refl (own_shut h (v h.on).slot before.finds.0.0) before.finds.0.0 before.finds.0.1
 root_runs b whose tree root floor (Clear on mux kind) note k held v l before goes_on =
     clear_runs b whose root on mux kind note k held v l goes_on
     (record {

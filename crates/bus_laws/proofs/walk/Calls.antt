@@ -9,8 +9,8 @@ use Rattle.i2c_spec.specs.Tree.{Hop, hops, root_of, locks_of, IsAmongHops}
 use Rattle.i2c_spec.specs.Messages.{messages_of}
 use Rattle.i2c_spec.specs.Flat.{refusal}
 use Rattle.bus_spec.specs.Walk.{Job, Call, Select, Clear, Send, ActOutcome, JobOutcome, Good, Refused, Unsent, Failed, Note, WalkTree, Ends, Look, Then, Go, On, Last, Over, goes, job_outcome, verdict_of, decides, is_line, more_of}
-use Rattle.bus_spec.specs.Slots.{Slots, mark_in}
-use Rattle.bus_spec.specs.Grammar.{Doer, settled, over, by_go, messages, at_bus, locked, part, with_mark, aside, if_sent, if_good, kind_of, closing, opened, chosen, behind, inner, walk_by, walk_for, plain, seen}
+use Rattle.bus_spec.specs.Slots.{Slots, answer_to}
+use Rattle.bus_spec.specs.Grammar.{Doer, settled, over, by_go, messages, at_bus, locked, part, with_mark, aside, if_sent, if_good, kind_of, closing, left_behind, opened, chosen, keeps, crossed, behind, inner, walk_by, walk_for, plain, seen}
 use Rattle.bus_spec.specs.Walk as walk
 use Rattle.bus_laws.specs.Runs.{IsGranted}
 use Rattle.bus_laws.specs.Calls.{IsOnWay, CallsOf}
@@ -74,13 +74,25 @@ module _ (b : BoardView) (t : TransferView) where
   aside_way : (h : Hop) (job : Job) → IsOnWay b t (aside h) job
   aside_way h job f = absurd (let g : false ≡ true = f in cc)
 
+  -- what is behind the job
+  left_calls : (stays : Bool) (h : Hop) (on : Doer) (k : JobOutcome → WalkTree) → DoerCalls on → ((o : JobOutcome) → CallsOf b t (k o)) → (out : JobOutcome) → CallsOf b t (left_behind stays h on k out)
+  left_calls true h on k hon hk out = hk out
+  left_calls false h on k hon hk out = hon (Clear h.on h.mux h.kind) (aside h) (λ x. k out) tt (aside_way h (Clear h.on h.mux h.kind)) (λ x. hk out)
+
+  opened_calls : (h : Hop) (on : Doer) → DoerCalls on → DoerCalls (opened h on)
+  opened_calls h on hon job note k granted way hk = hon job note (left_behind h.stays h on k) granted way (left_calls h.stays h on k hon hk)
+
   chosen_calls : (h : Hop) (on : Doer) → IsAmongHops h (hops b t.bus) → DoerCalls on → DoerCalls (chosen h on)
   chosen_calls h on among hon job note k granted way hk =
       hon (Select h) (with_mark h.on h.mux note) (λ o. if_good o (opened h on job note k) k) tt (λ f. ((way f).0, among))
-      (λ o. good_calls o (opened h on job note k) k
-      (hon job note (λ out. on (Clear h.on h.mux h.kind) (aside h) (λ x. k out)) granted way
-      (λ out. hon (Clear h.on h.mux h.kind) (aside h) (λ x. k out) tt (aside_way h (Clear h.on h.mux h.kind)) (λ x. hk out)))
-      hk)
+      (λ o. good_calls o (opened h on job note k) k (opened_calls h on hon job note k granted way hk) hk)
+
+  crossed_calls : (h : Hop) (on : Doer) → IsAmongHops h (hops b t.bus) → DoerCalls on → (m : Option ℕ) → DoerCalls (λ job note k. crossed h on job note k m)
+  crossed_calls h on among hon m job note k granted way hk = by (keeps h m)
+    where
+      by : (x : Bool) → CallsOf b t (cond x (opened h on job note k) (chosen h on job note k))
+      by true = opened_calls h on hon job note k granted way hk
+      by false = chosen_calls h on among hon job note k granted way hk
 
   closing_calls : (h : Hop) (on : Doer) (note : Note) (k : JobOutcome → WalkTree) (w : WalkTree) → (note.forward ≡ true → refusal b t ≡ None) → DoerCalls on → ((o : JobOutcome) → CallsOf b t (k o)) → CallsOf b t w
       → (m : Option ℕ) → CallsOf b t (closing b h on note k w m)
@@ -90,7 +102,7 @@ module _ (b : BoardView) (t : TransferView) where
 
   behind_calls : (h : Hop) (on : Doer) → IsAmongHops h (hops b t.bus) → DoerCalls on → DoerCalls (behind b h on)
   behind_calls h on among hon job note k granted way hk =
-      closing_calls h on note k (chosen h on job note k) (λ f. (way f).0) hon hk (chosen_calls h on among hon job note k granted way hk)
+      closing_calls h on note k (Look (walk.KeptOf h.on h.mux) (crossed h on job note k)) (λ f. (way f).0) hon hk (λ m. crossed_calls h on among hon m job note k granted way hk)
 
   inner_calls : (root : ℕ) (hs : List Hop) → ((g : Hop) → IsAmongHops g hs → IsAmongHops g (hops b t.bus)) → DoerCalls (inner b root hs)
   inner_calls root [] among job note k granted way hk = bus_calls job note k granted way hk
@@ -116,5 +128,5 @@ walk-calls b t some = by (refusal b t) refl
 -- the looks in front of a walk change nothing
 pub calls_seen : (b : BoardView) (t : TransferView) (slots : Slots) (w : WalkTree) → CallsOf b t w → CallsOf b t (seen slots w)
 calls_seen b t slots Ends h = tt
-calls_seen b t slots (Look (walk.MarkOf p) next) h = calls_seen b t slots (next (mark_in (slots p).slot)) (h (mark_in (slots p).slot))
+calls_seen b t slots (Look ask next) h = calls_seen b t slots (next (answer_to slots ask)) (h (answer_to slots ask))
 calls_seen b t slots (Then act note next) h = h

@@ -21,8 +21,8 @@ use Rattle.i2c_spec.specs.Messages.{MessageView, messages_from, messages_of}
 use Rattle.i2c_spec.specs.Flat.{refusal, block_limit}
 use Rattle.i2c_spec.specs.Cost.{lock_steps, behind_by, behind_cost, inner_cost, full_cost, bytes_of, steps_of, cost_of}
 use Rattle.i2c_base.specs.Limits.{POLLS}
-use Rattle.bus_spec.specs.Walk.{Job, Call, Select, Clear, Free, Send, Shift, ActOutcome, JobOutcome, Good, Refused, Unsent, Failed, Note, WalkTree, Ends, Look, Then, Go, On, Last, Over, goes, job_outcome, verdict_of, decides, is_line, is_gpio, is_arbitrator, more_of, nth_message}
-use Rattle.bus_spec.specs.Grammar.{Doer, plain, settled, over, by_go, messages, at_bus, locked, part, with_mark, aside, if_sent, if_good, kind_of, closing, opened, chosen, behind, inner, full, walk_by, walk_for}
+use Rattle.bus_spec.specs.Walk.{Job, Call, Select, Clear, Free, Send, Shift, ActOutcome, JobOutcome, Good, Refused, Unsent, Failed, Note, KeptOf, WalkTree, Ends, Look, Then, Go, On, Last, Over, goes, job_outcome, verdict_of, decides, is_line, is_gpio, is_arbitrator, more_of, nth_message}
+use Rattle.bus_spec.specs.Grammar.{Doer, plain, settled, over, by_go, messages, at_bus, locked, part, with_mark, aside, if_sent, if_good, kind_of, closing, left_behind, opened, chosen, keeps, crossed, behind, inner, full, walk_by, walk_for}
 use Rattle.bus_laws.specs.Costs.{bytes_most, weight_at, IsWithin, ArbitratorsArePassed}
 use Rattle.bus_laws.proofs.tree.Law.{refusal-none}
 use Rattle.bus_laws.proofs.world.BoardFacts.{mux_at}
@@ -132,8 +132,12 @@ module _ (b : BoardView) (h : Hop) (on : Doer) (cost : Job → ℕ) (sub : DoerW
   deselect_within : (out : JobOutcome) → IsWithin b (on (Clear h.on h.mux h.kind) (aside h) (λ o. k out)) (clear_cost + n)
   deselect_within out = sub (Clear h.on h.mux h.kind) (aside h) (λ o. k out) n (λ o. goes_on out)
 
+  left_within : (stays : Bool) (out : JobOutcome) → IsWithin b (left_behind stays h on k out) (clear_cost + n)
+  left_within true out = within_more b (k out) n (clear_cost + n) (omega arith) (goes_on out)
+  left_within false out = deselect_within out
+
   opened_within : IsWithin b (opened h on job note k) (cost job + (clear_cost + n))
-  opened_within = sub job note (λ out. on (Clear h.on h.mux h.kind) (aside h) (λ o. k out)) (clear_cost + n) deselect_within
+  opened_within = sub job note (left_behind h.stays h on k) (clear_cost + n) (left_within h.stays)
 
   abbrev job_total : ℕ
   job_total = cost job + (clear_cost + n)
@@ -147,18 +151,28 @@ module _ (b : BoardView) (h : Hop) (on : Doer) (cost : Job → ℕ) (sub : DoerW
   chosen_within : IsWithin b (chosen h on job note k) (select_cost + job_total)
   chosen_within = sub (Select h) (with_mark h.on h.mux note) (λ o. if_good o (opened h on job note k) k) job_total good_within
 
-  sent_within : (o : JobOutcome) → IsWithin b (if_sent o (chosen h on job note k) k) (select_cost + job_total)
-  sent_within Good = chosen_within
-  sent_within Refused = chosen_within
+  crossed_within : (m : Option ℕ) → IsWithin b (crossed h on job note k m) (select_cost + job_total)
+  crossed_within m = by (keeps h m)
+    where
+      by : (x : Bool) → IsWithin b (cond x (opened h on job note k) (chosen h on job note k)) (select_cost + job_total)
+      by true = within_more b (opened h on job note k) job_total (select_cost + job_total) (omega arith) opened_within
+      by false = chosen_within
+
+  abbrev passing : WalkTree
+  passing = Look (KeptOf h.on h.mux) (crossed h on job note k)
+
+  sent_within : (o : JobOutcome) → IsWithin b (if_sent o passing k) (select_cost + job_total)
+  sent_within Good = crossed_within
+  sent_within Refused = crossed_within
   sent_within Unsent = within_more b (k Unsent) n (select_cost + job_total) (omega arith) (goes_on Unsent)
   sent_within Failed = within_more b (k Failed) n (select_cost + job_total) (omega arith) (goes_on Failed)
 
-  closing_within : (m : Option ℕ) → IsWithin b (closing b h on note k (chosen h on job note k) m) (close_cost + (select_cost + job_total))
-  closing_within None = within_more b (chosen h on job note k) (select_cost + job_total) (close_cost + (select_cost + job_total)) (omega arith) chosen_within
+  closing_within : (m : Option ℕ) → IsWithin b (closing b h on note k passing m) (close_cost + (select_cost + job_total))
+  closing_within None = within_more b passing (select_cost + job_total) (close_cost + (select_cost + job_total)) (omega arith) crossed_within
   closing_within (Some m) =
-      within_more b (on (Clear h.on m (kind_of b m)) (with_mark h.on m note) (λ o. if_sent o (chosen h on job note k) k)) (cost (Clear h.on m (kind_of b m)) + (select_cost + job_total))
+      within_more b (on (Clear h.on m (kind_of b m)) (with_mark h.on m note) (λ o. if_sent o passing k)) (cost (Clear h.on m (kind_of b m)) + (select_cost + job_total))
       (close_cost + (select_cost + job_total)) (omega (arith, closes m))
-      (sub (Clear h.on m (kind_of b m)) (with_mark h.on m note) (λ o. if_sent o (chosen h on job note k) k) (select_cost + job_total) sent_within)
+      (sub (Clear h.on m (kind_of b m)) (with_mark h.on m note) (λ o. if_sent o passing k) (select_cost + job_total) sent_within)
 
   pub behind_within : IsWithin b (behind b h on job note k) (close_cost + (select_cost + job_total))
   behind_within = closing_within

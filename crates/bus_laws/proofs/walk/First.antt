@@ -8,9 +8,9 @@ use Rattle.i2c_base.specs.Transfer.{TransferView}
 use Rattle.i2c_spec.specs.Tree.{Hop, hops, root_of, locks_of}
 use Rattle.i2c_spec.specs.Messages.{MessageView, messages_of}
 use Rattle.i2c_spec.specs.Flat.{refusal}
-use Rattle.bus_spec.specs.Walk.{Job, Call, Select, Clear, Take, Free, Send, Shift, Settle, ActOutcome, Passed, Sent, Lined, JobOutcome, Good, Refused, Unsent, Failed, Note, MarkOf, WalkTree, Ends, Look, Then, Go, On, Last, Over, goes, job_outcome, verdict_of, decides, is_line, more_of}
-use Rattle.bus_spec.specs.Slots.{Slots, mark_in}
-use Rattle.bus_spec.specs.Grammar.{Doer, settled, over, by_go, messages, at_bus, locked, part, with_mark, aside, if_sent, if_good, kind_of, closing, opened, chosen, behind, inner, walk_by, walk_for, plain, seen}
+use Rattle.bus_spec.specs.Walk.{Job, Call, Select, Clear, Take, Free, Send, Shift, Settle, ActOutcome, Passed, Sent, Lined, JobOutcome, Good, Refused, Unsent, Failed, Note, KeptOf, WalkTree, Ends, Look, Then, Go, On, Last, Over, goes, job_outcome, verdict_of, decides, is_line, more_of}
+use Rattle.bus_spec.specs.Slots.{Slots, answer_to}
+use Rattle.bus_spec.specs.Grammar.{Doer, settled, over, by_go, messages, at_bus, locked, part, with_mark, aside, if_sent, if_good, kind_of, closing, left_behind, opened, chosen, keeps, crossed, behind, inner, walk_by, walk_for, plain, seen}
 use Rattle.bus_laws.specs.Settles.{Settles}
 use Rattle.bus_laws.specs.Calls.{FirstCalls}
 
@@ -99,13 +99,24 @@ good_first Unsent w k hw hk = hk Unsent
 good_first Failed w k hw hk = hk Failed
 
 module _ (b : BoardView) where
+  left_first : (stays : Bool) (h : Hop) (on : Doer) (k : JobOutcome → WalkTree) → DoerFirst on → ((o : JobOutcome) → FirstCalls (k o)) → (out : JobOutcome) → FirstCalls (left_behind stays h on k out)
+  left_first true h on k hon hk out = hk out
+  left_first false h on k hon hk out = hon (Clear h.on h.mux h.kind) (aside h) (λ x. k out) (λ x. hk out)
+
+  opened_first : (h : Hop) (on : Doer) → DoerFirst on → DoerFirst (opened h on)
+  opened_first h on hon job note k hk = hon job note (left_behind h.stays h on k) (left_first h.stays h on k hon hk)
+
   chosen_first : (h : Hop) (on : Doer) → DoerFirst on → DoerFirst (chosen h on)
   chosen_first h on hon job note k hk =
       hon (Select h) (with_mark h.on h.mux note) (λ o. if_good o (opened h on job note k) k)
-      (λ o. good_first o (opened h on job note k) k
-      (hon job note (λ out. on (Clear h.on h.mux h.kind) (aside h) (λ x. k out))
-      (λ out. hon (Clear h.on h.mux h.kind) (aside h) (λ x. k out) (λ x. hk out)))
-      hk)
+      (λ o. good_first o (opened h on job note k) k (opened_first h on hon job note k hk) hk)
+
+  crossed_first : (h : Hop) (on : Doer) → DoerFirst on → (m : Option ℕ) → DoerFirst (λ job note k. crossed h on job note k m)
+  crossed_first h on hon m job note k hk = by (keeps h m)
+    where
+      by : (x : Bool) → FirstCalls (cond x (opened h on job note k) (chosen h on job note k))
+      by true = opened_first h on hon job note k hk
+      by false = chosen_first h on hon job note k hk
 
   closing_first : (h : Hop) (on : Doer) (note : Note) (k : JobOutcome → WalkTree) (w : WalkTree) → DoerFirst on → ((o : JobOutcome) → FirstCalls (k o)) → FirstCalls w
       → (m : Option ℕ) → FirstCalls (closing b h on note k w m)
@@ -117,9 +128,9 @@ module _ (b : BoardView) where
   inner_first root [] job note k hk = bus_first job note k hk
   inner_first root (h ∷ hs) job note k hk =
       by (is_line job)
-      (closing_first h (part h.parent (locks_of root hs) (inner b root hs)) note k (chosen h (part h.parent (locks_of root hs) (inner b root hs)) job note k)
+      (closing_first h (part h.parent (locks_of root hs) (inner b root hs)) note k (Look (KeptOf h.on h.mux) (crossed h (part h.parent (locks_of root hs) (inner b root hs)) job note k))
       (part_first h.parent (locks_of root hs) (inner b root hs) (inner_first root hs)) hk
-      (chosen_first h (part h.parent (locks_of root hs) (inner b root hs)) (part_first h.parent (locks_of root hs) (inner b root hs) (inner_first root hs)) job note k hk))
+      (λ m. crossed_first h (part h.parent (locks_of root hs) (inner b root hs)) (part_first h.parent (locks_of root hs) (inner b root hs) (inner_first root hs)) m job note k hk))
     where
       by : (x : Bool) → FirstCalls (behind b h (part h.parent (locks_of root hs) (inner b root hs)) job note k)
           → FirstCalls (cond x (at_bus job note k) (behind b h (part h.parent (locks_of root hs) (inner b root hs)) job note k))
@@ -139,5 +150,5 @@ walk-first b t = by (refusal b t)
 -- the looks in front of a walk change nothing
 pub first_seen : (slots : Slots) (w : WalkTree) → FirstCalls w → FirstCalls (seen slots w)
 first_seen slots Ends h = tt
-first_seen slots (Look (MarkOf p) next) h = first_seen slots (next (mark_in (slots p).slot)) (h (mark_in (slots p).slot))
+first_seen slots (Look ask next) h = first_seen slots (next (answer_to slots ask)) (h (answer_to slots ask))
 first_seen slots (Then act note next) h = h

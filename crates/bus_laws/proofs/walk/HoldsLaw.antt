@@ -15,23 +15,25 @@ use Rattle.i2c_spec.specs.Tree.{Hop, hops, buses, root_of, locks_of, home_of_mux
 use Rattle.i2c_spec.specs.TreeFacts.{IsTree}
 use Rattle.i2c_spec.specs.Messages.{messages_of}
 use Rattle.i2c_spec.specs.Flat.{refusal}
-use Rattle.bus_spec.specs.Walk.{Mark, Job, Call, Select, Clear, Free, Send, Shift, ActOutcome, JobOutcome, Good, Refused, Unsent, Failed, Note, WalkTree, Ends, Then, Go, On, Last, Over, goes, job_bus, job_outcome, verdict_of, decides, is_line, is_gpio, more_of}
-use Rattle.bus_spec.specs.Grammar.{Doer, plain, settled, over, by_go, messages, at_bus, locked, part, with_mark, aside, if_sent, if_good, kind_of, closing, opened, chosen, behind, inner, walk_by, walk_for}
+use Rattle.bus_spec.specs.Walk.{Mark, Job, Call, Select, Clear, Free, Send, Shift, ActOutcome, JobOutcome, Good, Refused, Unsent, Failed, Note, KeptOf, WalkTree, Ends, Look, Then, Go, On, Last, Over, goes, job_bus, job_outcome, verdict_of, decides, is_line, is_gpio, more_of}
+use Rattle.bus_spec.specs.Grammar.{Doer, plain, settled, over, by_go, messages, at_bus, locked, part, with_mark, aside, if_sent, if_good, kind_of, closing, left_behind, opened, chosen, keeps, crossed, behind, inner, walk_by, walk_for}
 use Rattle.bus_spec.specs.Readings.{rank}
-use Rattle.bus_laws.specs.Runs.{InLocks}
+use Rattle.bus_laws.specs.Runs.{InLocks, IsUnmarked}
 use Rattle.bus_laws.specs.Lines.{LinesAreLocked}
 use Rattle.bus_laws.proofs.world.BoardFacts.{mux_at}
 use Rattle.bus_laws.proofs.tree.Law.{refusal-none}
 use Rattle.bus_laws.proofs.tree.Path.{ground, sub_locks, bus_among}
 use Rattle.bus_laws.proofs.tree.Falls.{Falls, floor_after, gathered, is_below_all, in_gathered, path_falls, path_floor}
-use Rattle.bus_laws.specs.Holds.{IsLockOf, IsMarkOn, OwnHeld, MarksHeld, SendsIn, HoldsLocks}
+use Rattle.bus_laws.specs.Holds.{IsLockOf, IsMarkOn, OwnHeld, MarksHeld, AreApart, SendsIn, HoldsLocks}
 
 -- what a job at the end of some hops needs: `ls` are the locks of these hops that are held, `floor` the least rank held
 record Needs (b : BoardView) (root : ℕ) (hs : List Hop) (ls : List LockId) (floor : ℕ) (job : Job) (marks : List Mark) (held : List LockId) : Type 0 where
   locks : (l : LockId) → InLocks l ls → InLocks l held
   ranks : (l : LockId) → InLocks l held → floor ≤ rank b l
-  own : OwnHeld job held
+  own : OwnHeld b job held
   marked : MarksHeld b marks held
+  apart : AreApart marks
+  off : (g : Hop) → IsAmongHops g hs → IsUnmarked g.on marks
   same_root : root_of b (job_bus job) ≡ root
   line_rooted : is_line job ≡ true → InLocks (lock.Bus root) (locks_of root hs)
 
@@ -82,10 +84,10 @@ module _ (b : BoardView) (held : List LockId) where
   good_holds Failed w k hw hk = hk Failed
 
 -- LOCKS
-own_more : (l : LockId) (job : Job) (held : List LockId) → OwnHeld job held → OwnHeld job (l ∷ held)
-own_more l (Call bus ms) held o = tt
-own_more l (Select h) held o = inr o
-own_more l (Clear on mux kind) held o = inr o
+own_more : (b : BoardView) (l : LockId) (job : Job) (held : List LockId) → OwnHeld b job held → OwnHeld b job (l ∷ held)
+own_more b l (Call bus ms) held o = tt
+own_more b l (Select h) held o = (inr o.0, o.1, o.2)
+own_more b l (Clear on mux kind) held o = (inr o.0, o.1)
 
 marks_more : (b : BoardView) (l : LockId) (held : List LockId) (ms : List Mark) → MarksHeld b ms held → MarksHeld b ms (l ∷ held)
 marks_more b l held [] h = tt
@@ -106,8 +108,10 @@ module _ (b : BoardView) (root : ℕ) (hs : List Hop) where
                 | inl e ↦ subst (λ (x : LockId). rank b l ≤ rank b x) (sym e) (omega arith)
                 | inr more ↦ (let floor_j : floor ≤ rank b j = before.ranks j more in omega (arith, falls.0, floor_j))
               ];
-              own = own_more l job held before.own;
+              own = own_more b l job held before.own;
               marked = marks_more b l held note.marks before.marked;
+              apart = before.apart;
+              off = before.off;
               same_root = before.same_root;
               line_rooted = before.line_rooted;
             })
@@ -123,9 +127,21 @@ module _ (b : BoardView) (root : ℕ) (hs : List Hop) where
         ranks = before.ranks;
         own = before.own;
         marked = before.marked;
+        apart = before.apart;
+        off = before.off;
         same_root = before.same_root;
         line_rooted = before.line_rooted;
       }) hk
+
+-- each hop stands before the bus that it leads to
+before_it : (b : BoardView) → IsTree b → (hs : List Hop) (s : ℕ) → hops b s ≡ hs → (g : Hop) → IsAmongHops g hs → g.on < s
+before_it b tree [] s at g among = absurd among
+before_it b tree (h ∷ hs) s at g among =
+    let leads : (h.bus ≡ s) × (h.on < s) = tree.leads s h hs at in
+    elim among [
+      | inl same ↦ subst (λ (x : Hop). x.on < s) (sym same) leads.1
+      | inr more ↦ (let less : g.on < h.on = before_it b tree hs h.on (tree.tail s h hs at) g more in omega (arith, less, leads.1))
+    ]
 
 module _ (b : BoardView) (tree : IsTree b) (root : ℕ) where
   -- the locks of a path are the board's
@@ -174,24 +190,31 @@ module _ (b : BoardView) (tree : IsTree b) (root : ℕ) where
       home : home_of_mux b h.mux ≡ h.on
       home = (tree.hop s h among).home
 
+      -- the hops before it stand on other buses
+      below : (g : Hop) → IsAmongHops g hs → g.on ≡ h.on → ⊥
+      below g a e = (let less : g.on < h.on = before_it b tree hs h.on (tree.tail s h hs at) g a in omega (arith, less, e))
+
       -- a control job on the bus of the hop
       module _ (held : List LockId) (locks : (l : LockId) → InLocks l (locks_of root (h ∷ hs)) → InLocks l held) (ranks : (l : LockId) → InLocks l held → floor ≤ rank b l) where
         mine : InLocks (lock.Mux h.on) held
         mine = locks (lock.Mux h.on) (inl refl)
 
-        switch : (job : Job) (marks : List Mark) → OwnHeld job held → job_bus job ≡ h.on → MarksHeld b marks held → (is_line job ≡ true → InLocks (lock.Bus root) (locks_of root hs))
+        switch : (job : Job) (marks : List Mark) → OwnHeld b job held → job_bus job ≡ h.on → MarksHeld b marks held → AreApart marks → ((g : Hop) → IsAmongHops g hs → IsUnmarked g.on marks) → (is_line job ≡ true → InLocks (lock.Bus root) (locks_of root hs))
             → Needs b root hs (sub_locks root h hs) floor job marks held
-        switch job marks own bus marked line =
+        switch job marks own bus marked apart off line =
             record {
               locks = λ l i. locks l (inr i);
               ranks = ranks;
               own = own;
               marked = marked;
+              apart = apart;
+              off = off;
               same_root = ap (root_of b) bus ∙ on_root;
               line_rooted = line;
             }
 
-        module _ (job : Job) (note : Note) (k : JobOutcome → WalkTree) (no_line : is_line job ≡ false) (own : OwnHeld job held) (marked : MarksHeld b note.marks held)
+        module _ (job : Job) (note : Note) (k : JobOutcome → WalkTree) (no_line : is_line job ≡ false) (own : OwnHeld b job held) (marked : MarksHeld b note.marks held)
+            (marks_apart : AreApart note.marks) (marks_off : (g : Hop) → IsAmongHops g (h ∷ hs) → IsUnmarked g.on note.marks)
             (job_root : root_of b (job_bus job) ≡ root) (hk : (o : JobOutcome) → HoldsLocks b held (k o)) where
           job_before : Needs b root hs (sub_locks root h hs) floor job note.marks held
           job_before =
@@ -200,39 +223,57 @@ module _ (b : BoardView) (tree : IsTree b) (root : ℕ) where
                 ranks = ranks;
                 own = own;
                 marked = marked;
+                apart = marks_apart;
+                off = λ g a. marks_off g (inr a);
                 same_root = job_root;
                 line_rooted = λ l. absurd (let f : false ≡ true = sym no_line ∙ l in cc);
               }
 
+          left_holds : (stays : Bool) (out : JobOutcome) → HoldsLocks b held (left_behind stays h on k out)
+          left_holds true out = hk out
+          left_holds false out =
+              sub (Clear h.on h.mux h.kind) (aside h) (λ o. k out) held
+              (switch (Clear h.on h.mux h.kind) (aside h).marks (mine, home) refl ((mine, home), tt) (tt, tt) (λ g a. (below g a, tt)) (λ l. line_lock h hs h.mux (tree.tail s h hs at) home (ap is_gpio kind_is ∙ l)))
+              (λ o. hk out)
+
           opened_holds : HoldsLocks b held (opened h on job note k)
-          opened_holds =
-              sub job note (λ out. on (Clear h.on h.mux h.kind) (aside h) (λ o. k out)) held job_before
-              (λ out. sub (Clear h.on h.mux h.kind) (aside h) (λ o. k out) held
-              (switch (Clear h.on h.mux h.kind) (aside h).marks mine refl ((mine, home), tt) (λ l. line_lock h hs h.mux (tree.tail s h hs at) home (ap is_gpio kind_is ∙ l)))
-              (λ o. hk out))
+          opened_holds = sub job note (left_behind h.stays h on k) held job_before (left_holds h.stays)
 
           chosen_holds : HoldsLocks b held (chosen h on job note k)
           chosen_holds =
               sub (Select h) (with_mark h.on h.mux note) (λ o. if_good o (opened h on job note k) k) held
-              (switch (Select h) (with_mark h.on h.mux note).marks mine refl ((mine, home), marked) (λ l. line_lock h hs h.mux (tree.tail s h hs at) home (ap is_gpio kind_is ∙ l)))
+              (switch (Select h) (with_mark h.on h.mux note).marks (mine, home, (tree.hop s h among).mux) refl ((mine, home), marked) (marks_off h (inl refl), marks_apart) (λ g a. (below g a, marks_off g (inr a))) (λ l. line_lock h hs h.mux (tree.tail s h hs at) home (ap is_gpio kind_is ∙ l)))
               (λ o. good_holds b held o (opened h on job note k) k opened_holds hk)
 
-          closing_holds : (m : Option ℕ) → IsMarkOn b h.on m → HoldsLocks b held (closing b h on note k (chosen h on job note k) m)
-          closing_holds None is = chosen_holds
+          crossed_holds : (m : Option ℕ) → HoldsLocks b held (crossed h on job note k m)
+          crossed_holds m = by (keeps h m)
+            where
+              by : (x : Bool) → HoldsLocks b held (cond x (opened h on job note k) (chosen h on job note k))
+              by true = opened_holds
+              by false = chosen_holds
+
+          abbrev passing : WalkTree
+          passing = Look (KeptOf h.on h.mux) (crossed h on job note k)
+
+          passing_holds : HoldsLocks b held passing
+          passing_holds = (mine, home, λ m is. crossed_holds m)
+
+          closing_holds : (m : Option ℕ) → IsMarkOn b h.on m → HoldsLocks b held (closing b h on note k passing m)
+          closing_holds None is = passing_holds
           closing_holds (Some m) is =
-              sub (Clear h.on m (kind_of b m)) (with_mark h.on m note) (λ o. if_sent o (chosen h on job note k) k) held
-              (switch (Clear h.on m (kind_of b m)) (with_mark h.on m note).marks mine refl ((mine, is), marked) (λ l. line_lock h hs m (tree.tail s h hs at) is l))
-              (λ o. sent_holds b held o (chosen h on job note k) k chosen_holds hk)
+              sub (Clear h.on m (kind_of b m)) (with_mark h.on m note) (λ o. if_sent o passing k) held
+              (switch (Clear h.on m (kind_of b m)) (with_mark h.on m note).marks (mine, is) refl ((mine, is), marked) (marks_off h (inl refl), marks_apart) (λ g a. (below g a, marks_off g (inr a))) (λ l. line_lock h hs m (tree.tail s h hs at) is l))
+              (λ o. sent_holds b held o passing k passing_holds hk)
 
           behind_holds : HoldsLocks b held (behind b h on job note k)
-          behind_holds = (mine, closing_holds)
+          behind_holds = (mine, tt, closing_holds)
 
     -- THE INDUCTION over the hops
     inner_holds : (hs : List Hop) (s : ℕ) → hops b s ≡ hs → s < buses b → root_of b s ≡ root → root < length b.roots → DoerHolds b root hs (locks_of root hs) (ground hs) (inner b root hs)
     inner_holds [] s at there same rooted =
         λ job note k held before hk.
         bus_holds b held job note k
-        (record { rooted = subst (λ (r : ℕ). InLocks (lock.Bus r) held) (sym before.same_root) (before.locks (lock.Bus root) (inl refl)); own = before.own; marked = before.marked }) hk
+        (record { rooted = subst (λ (r : ℕ). InLocks (lock.Bus r) held) (sym before.same_root) (before.locks (lock.Bus root) (inl refl)); own = before.own; marked = before.marked; apart = before.apart }) hk
     inner_holds (h ∷ hs) s at there same rooted =
         λ job note k held before hk.
         by job note k held before hk (is_line job) refl
@@ -252,9 +293,10 @@ module _ (b : BoardView) (tree : IsTree b) (root : ℕ) where
               rooted = subst (λ (r : ℕ). InLocks (lock.Bus r) held) (sym before.same_root) (before.locks (lock.Bus root) (before.line_rooted line));
               own = before.own;
               marked = before.marked;
+              apart = before.apart;
             }) hk
         by job note k held before hk false line sub =
-            behind_holds h hs s at there same (ground (h ∷ hs)) (part h.parent (locks_of root hs) (inner b root hs)) sub held before.locks before.ranks job note k line before.own before.marked
+            behind_holds h hs s at there same (ground (h ∷ hs)) (part h.parent (locks_of root hs) (inner b root hs)) sub held before.locks before.ranks job note k line before.own before.marked before.apart before.off
             before.same_root hk
 
 -- the whole walk of a transfer holds no lock before it and behind it
@@ -274,6 +316,8 @@ walk-holds b tree lines t = by (refusal b t) refl
           ranks = λ l i. absurd i;
           own = tt;
           marked = tt;
+          apart = tt;
+          off = λ g a. tt;
           same_root = refl;
           line_rooted = λ l. absurd (let f : false ≡ true = l in cc);
         })

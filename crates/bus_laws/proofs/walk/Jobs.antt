@@ -13,8 +13,8 @@ use Rattle.i2c_spec.specs.Tree.{Hop, hops, buses, root_of, locks_of, IsAmongHops
 use Rattle.i2c_spec.specs.TreeFacts.{IsTree}
 use Rattle.i2c_spec.specs.Messages.{messages_of}
 use Rattle.i2c_spec.specs.Flat.{refusal}
-use Rattle.bus_spec.specs.Walk.{Job, Call, Select, Clear, Take, Free, Send, Shift, Settle, ActOutcome, JobOutcome, Good, Refused, Unsent, Failed, Note, WalkTree, Ends, Look, Then, Go, On, Last, Over, goes, job_outcome, verdict_of, decides, is_line, more_of}
-use Rattle.bus_spec.specs.Grammar.{Doer, settled, over, by_go, messages, at_bus, locked, part, with_mark, aside, if_sent, if_good, kind_of, closing, opened, chosen, behind, inner, walk_by, walk_for, plain}
+use Rattle.bus_spec.specs.Walk.{Job, Call, Select, Clear, Take, Free, Send, Shift, Settle, ActOutcome, JobOutcome, Good, Refused, Unsent, Failed, Note, WalkTree, Ends, Look, Then, Go, On, Last, Over, goes, job_outcome, verdict_of, decides, is_line, more_of, KeptOf}
+use Rattle.bus_spec.specs.Grammar.{Doer, settled, over, by_go, messages, at_bus, locked, part, with_mark, aside, if_sent, if_good, kind_of, closing, left_behind, opened, chosen, keeps, crossed, behind, inner, walk_by, walk_for, plain}
 use Rattle.bus_laws.specs.Jobs.{EachJob, IsJobOf}
 use Rattle.bus_laws.proofs.world.BoardFacts.{mux_at}
 use Rattle.bus_laws.proofs.tree.Law.{refusal-none}
@@ -79,13 +79,24 @@ module _ (b : BoardView) (P : Job → Type 0) where
   good_jobs Unsent w k hw hk = hk Unsent
   good_jobs Failed w k hw hk = hk Failed
 
+  left_jobs : (stays : Bool) (h : Hop) (on : Doer) (k : JobOutcome → WalkTree) → Switches b P h → DoerJobs on → ((o : JobOutcome) → EachJob P (k o)) → (out : JobOutcome) → EachJob P (left_behind stays h on k out)
+  left_jobs true h on k switches hon hk out = hk out
+  left_jobs false h on k switches hon hk out = hon (Clear h.on h.mux h.kind) (aside h) (λ x. k out) switches.deselect (λ x. hk out)
+
+  opened_jobs : (h : Hop) (on : Doer) → Switches b P h → DoerJobs on → DoerJobs (opened h on)
+  opened_jobs h on switches hon job note k own hk = hon job note (left_behind h.stays h on k) own (left_jobs h.stays h on k switches hon hk)
+
   chosen_jobs : (h : Hop) (on : Doer) → Switches b P h → DoerJobs on → DoerJobs (chosen h on)
   chosen_jobs h on switches hon job note k own hk =
       hon (Select h) (with_mark h.on h.mux note) (λ o. if_good o (opened h on job note k) k) switches.select
-      (λ o. good_jobs o (opened h on job note k) k
-      (hon job note (λ out. on (Clear h.on h.mux h.kind) (aside h) (λ x. k out)) own
-      (λ out. hon (Clear h.on h.mux h.kind) (aside h) (λ x. k out) switches.deselect (λ x. hk out)))
-      hk)
+      (λ o. good_jobs o (opened h on job note k) k (opened_jobs h on switches hon job note k own hk) hk)
+
+  crossed_jobs : (h : Hop) (on : Doer) → Switches b P h → DoerJobs on → (m : Option ℕ) → DoerJobs (λ job note k. crossed h on job note k m)
+  crossed_jobs h on switches hon m job note k own hk = by (keeps h m)
+    where
+      by : (x : Bool) → EachJob P (cond x (opened h on job note k) (chosen h on job note k))
+      by true = opened_jobs h on switches hon job note k own hk
+      by false = chosen_jobs h on switches hon job note k own hk
 
   closing_jobs : (h : Hop) (on : Doer) (note : Note) (k : JobOutcome → WalkTree) (w : WalkTree) → Switches b P h → DoerJobs on → ((o : JobOutcome) → EachJob P (k o)) → EachJob P w
       → (m : Option ℕ) → EachJob P (closing b h on note k w m)
@@ -95,7 +106,7 @@ module _ (b : BoardView) (P : Job → Type 0) where
 
   behind_jobs : (h : Hop) (on : Doer) → Switches b P h → DoerJobs on → DoerJobs (behind b h on)
   behind_jobs h on switches hon job note k own hk =
-      closing_jobs h on note k (chosen h on job note k) switches hon hk (chosen_jobs h on switches hon job note k own hk)
+      closing_jobs h on note k (Look (KeptOf h.on h.mux) (crossed h on job note k)) switches hon hk (λ m. crossed_jobs h on switches hon m job note k own hk)
 
   inner_jobs : (root : ℕ) (hs : List Hop) → ((g : Hop) → IsAmongHops g hs → Switches b P g) → DoerJobs (inner b root hs)
   inner_jobs root [] switches job note k own hk = bus_jobs job note k own hk

@@ -9,8 +9,8 @@ use Rattle.i2c_base.specs.Board.{BoardView}
 use Rattle.i2c_base.specs.Transfer.{TransferView}
 use Rattle.i2c_spec.specs.Tree.{Hop}
 use Rattle.i2c_spec.specs.Messages.{MessageView}
-use Rattle.bus_spec.specs.Walk.{Job, Call, Select, Clear, Act, Take, Free, Send, Shift, Settle, ActOutcome, Passed, Sent, Lined, MarkOf, Note, WalkTree, Ends, Look, Then, decides, more_of, is_line, sent_outcome, ok_outcome, sent_errno, ok_errno, Good}
-use Rattle.bus_spec.specs.Slots.{Slots, mark_in}
+use Rattle.bus_spec.specs.Walk.{Job, Call, Select, Clear, Act, Take, Free, Send, Shift, Settle, ActOutcome, Passed, Sent, Lined, Note, WalkTree, Ends, Look, Then, decides, more_of, is_line, sent_outcome, ok_outcome, sent_errno, ok_errno, Good}
+use Rattle.bus_spec.specs.Slots.{Slots, answer_to}
 use Rattle.bus_spec.specs.Grammar.{seen, first_act, rest_of}
 use Rattle.bus_laws.specs.Runs.{IsCall}
 use Rattle.bus_laws.specs.Costs.{weight_at, IsWithin}
@@ -46,7 +46,7 @@ seen-first v (Then a note next) act first = refl
 -- WEIGHTS: a step leaves of the bound what it doesn't weigh
 within_seen : (b : BoardView) (v : Slots) (w : WalkTree) (n : ℕ) → IsWithin b w n → IsWithin b (seen v w) n
 within_seen b v Ends n h = h
-within_seen b v (Look (MarkOf p) next) n h = within_seen b v (next (mark_in (v p).slot)) n (h (mark_in (v p).slot))
+within_seen b v (Look ask next) n h = within_seen b v (next (answer_to v ask)) n (h (answer_to v ask))
 within_seen b v (Then act note next) n h = h
 
 pub within-next : (b : BoardView) (v : Slots) (w : WalkTree) (n : ℕ) → IsWithin b w n → (act : Act) → first_act (seen v w) ≡ Some act
@@ -59,7 +59,7 @@ within-next b v w n within act first =
 module _ (P : Job → Type 0) where
   jobs_seen : (v : Slots) (w : WalkTree) → EachJob P w → EachJob P (seen v w)
   jobs_seen v Ends h = h
-  jobs_seen v (Look (MarkOf p) next) h = jobs_seen v (next (mark_in (v p).slot)) (h (mark_in (v p).slot))
+  jobs_seen v (Look ask next) h = jobs_seen v (next (answer_to v ask)) (h (answer_to v ask))
   jobs_seen v (Then act note next) h = h
 
   jobs_behind : (act : Act) (note : Note) (next : ActOutcome → WalkTree) → EachJob P (Then act note next) → (out : ActOutcome) → EachJob P (next out)

@@ -9,8 +9,8 @@ use Rattle.i2c_base.specs.Transfer.{TransferView}
 use Rattle.i2c_spec.specs.Tree.{Hop, hops, root_of, locks_of}
 use Rattle.i2c_spec.specs.Messages.{MessageView, messages_of}
 use Rattle.i2c_spec.specs.Flat.{refusal}
-use Rattle.bus_spec.specs.Walk.{Job, Call, Select, Clear, Free, Send, Shift, Settle, ActOutcome, Sent, Lined, JobOutcome, Good, Refused, Unsent, Failed, Note, WalkTree, Ends, Then, Go, On, Last, Over, goes, job_outcome, verdict_of, decides, is_line, more_of}
-use Rattle.bus_spec.specs.Grammar.{Doer, plain, settled, over, by_go, messages, at_bus, locked, part, with_mark, aside, if_sent, if_good, kind_of, closing, opened, chosen, behind, inner, walk_by, walk_for, first_act}
+use Rattle.bus_spec.specs.Walk.{Job, Call, Select, Clear, Free, Send, Shift, Settle, ActOutcome, Sent, Lined, JobOutcome, Good, Refused, Unsent, Failed, Note, WalkTree, Ends, Then, Go, On, Last, Over, goes, job_outcome, verdict_of, decides, is_line, more_of, KeptOf, Look}
+use Rattle.bus_spec.specs.Grammar.{Doer, plain, settled, over, by_go, messages, at_bus, locked, part, with_mark, aside, if_sent, if_good, kind_of, closing, left_behind, opened, chosen, keeps, crossed, behind, inner, walk_by, walk_for, first_act}
 use Rattle.bus_laws.specs.Settles.{EndsJob, IsDecided, NoSettle, IsBefore, GoesOn, Settles}
 
 -- a job on the way to the caller's messages has settled their transfer, where it ended so
@@ -237,9 +237,13 @@ module _ (b : BoardView) (h : Hop) (on : Doer) (sub : DoerSettles on) (job : Job
       sub (Clear h.on h.mux h.kind) (aside h) (λ o. k out) (behind_job note.forward job out done) (λ e. absurd (let f : false ≡ true = e in cc)) tt
       (λ o. starts out) (λ o. goes_on out)
 
+  left : (stays : Bool) (out : JobOutcome) → NoSettle (left_behind stays h on k out) × Settles (behind_job note.forward job out done) (left_behind stays h on k out)
+  left true out = (starts out, goes_on out)
+  left false out = deselect out
+
   opened-settles : NoSettle (opened h on job note k) × Settles done (opened h on job note k)
   opened-settles =
-      sub job note (λ out. on (Clear h.on h.mux h.kind) (aside h) (λ o. k out)) done before forward (λ o. (deselect o).0) (λ o. (deselect o).1)
+      sub job note (left_behind h.stays h on k) done before forward (λ o. (left h.stays o).0) (λ o. (left h.stays o).1)
 
   good_no : (o : JobOutcome) → NoSettle (if_good o (opened h on job note k) k)
   good_no Good = opened-settles.0
@@ -257,22 +261,35 @@ module _ (b : BoardView) (h : Hop) (on : Doer) (sub : DoerSettles on) (job : Job
   chosen-settles =
       sub (Select h) (with_mark h.on h.mux note) (λ o. if_good o (opened h on job note k) k) done before tt good_no good_goes
 
-  sent_no : (o : JobOutcome) → NoSettle (if_sent o (chosen h on job note k) k)
-  sent_no Good = chosen-settles.0
-  sent_no Refused = chosen-settles.0
+  crossed-settles : (m : Option ℕ) → NoSettle (crossed h on job note k m) × Settles done (crossed h on job note k m)
+  crossed-settles m = by (keeps h m)
+    where
+      by : (x : Bool) → NoSettle (cond x (opened h on job note k) (chosen h on job note k)) × Settles done (cond x (opened h on job note k) (chosen h on job note k))
+      by true = opened-settles
+      by false = chosen-settles
+
+  abbrev passing : WalkTree
+  passing = Look (KeptOf h.on h.mux) (crossed h on job note k)
+
+  passing-settles : NoSettle passing × Settles done passing
+  passing-settles = (λ m. (crossed-settles m).0, λ m. (crossed-settles m).1)
+
+  sent_no : (o : JobOutcome) → NoSettle (if_sent o passing k)
+  sent_no Good = passing-settles.0
+  sent_no Refused = passing-settles.0
   sent_no Unsent = starts Unsent
   sent_no Failed = starts Failed
 
-  sent_goes : (m : ℕ) (o : JobOutcome) → Settles (behind_job note.forward (Clear h.on m (kind_of b m)) o done) (if_sent o (chosen h on job note k) k)
-  sent_goes m Good = subst (λ (t : Bool). Settles t (chosen h on job note k)) (sym (still note.forward done before)) chosen-settles.1
-  sent_goes m Refused = subst (λ (t : Bool). Settles t (chosen h on job note k)) (sym (still note.forward done before)) chosen-settles.1
+  sent_goes : (m : ℕ) (o : JobOutcome) → Settles (behind_job note.forward (Clear h.on m (kind_of b m)) o done) (if_sent o passing k)
+  sent_goes m Good = subst (λ (t : Bool). Settles t passing) (sym (still note.forward done before)) passing-settles.1
+  sent_goes m Refused = subst (λ (t : Bool). Settles t passing) (sym (still note.forward done before)) passing-settles.1
   sent_goes m Unsent = lost_goes
   sent_goes m Failed = failed_goes
 
-  closing-settles : (m : Option ℕ) → NoSettle (closing b h on note k (chosen h on job note k) m) × Settles done (closing b h on note k (chosen h on job note k) m)
-  closing-settles None = chosen-settles
+  closing-settles : (m : Option ℕ) → NoSettle (closing b h on note k passing m) × Settles done (closing b h on note k passing m)
+  closing-settles None = passing-settles
   closing-settles (Some m) =
-      sub (Clear h.on m (kind_of b m)) (with_mark h.on m note) (λ o. if_sent o (chosen h on job note k) k) done before tt sent_no (sent_goes m)
+      sub (Clear h.on m (kind_of b m)) (with_mark h.on m note) (λ o. if_sent o passing k) done before tt sent_no (sent_goes m)
 
   mux-settles : NoSettle (behind b h on job note k) × Settles done (behind b h on job note k)
   mux-settles = (λ m. (closing-settles m).0, λ m. (closing-settles m).1)

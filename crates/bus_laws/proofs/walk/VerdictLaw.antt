@@ -1,6 +1,6 @@
 -- What a step decides is what the flat world answers: a select that isn't good tells the first mux over the bus that
 -- lets nothing through, and where the caller's messages are sent all let them through. The inductions go over hops.
-use Rattle.std.proofs.Common.{◌≡◌, ℕ, zero, suc, Bool, true, false, cond, List, [], ◌∷◌, ◌++◌, reverse, Option, Some, None, eqb, refl, sym, ◌∙◌, ap, inl, inr, append-nil}
+use Rattle.std.proofs.Common.{subst, ◌≡◌, ℕ, zero, suc, Bool, true, false, cond, List, [], ◌∷◌, ◌++◌, reverse, Option, Some, None, eqb, refl, sym, ◌∙◌, ap, inl, inr, append-nil}
 use Rattle.std.proofs.lemmas.Bool.{eq-eqb}
 use Rattle.std.proofs.lemmas.List.{reverse-append, append_assoc}
 use Rattle.i2c_base.specs.declared.entry.End.{End}
@@ -15,16 +15,16 @@ use Rattle.i2c_base.specs.declared.tree.Way.{Way}
 use Rattle.i2c_base.specs.declared.tree.Way.TheVariants as way
 use Rattle.i2c_base.specs.Board.{BoardView}
 use Rattle.i2c_base.specs.Transfer.{TransferView}
-use Rattle.i2c_spec.specs.Tree.{Hop, hops, is_absent, is_held, IsAmongHops}
+use Rattle.i2c_spec.specs.Tree.{Hop, hops, is_absent, is_held, IsAmongHops, home_of_mux}
 use Rattle.i2c_spec.specs.TreeFacts.{IsTree}
 use Rattle.i2c_spec.specs.Grant.{way_through, way_of}
 use Rattle.i2c_spec.specs.Targets.{TargetState}
 use Rattle.i2c_spec.specs.Flat.{refusal, is_way_cut, way_errno, first_of, barred, flat_by, flat}
 use Rattle.i2c_spec.specs.World.{World}
 use Rattle.bus_spec.specs.Walk.{Job, Call, Select, Clear, Sent, Lined, is_line, On, Last, Over, first_byte, goes, on_if_more, job_outcome, verdict_of, decides}
-use Rattle.bus_spec.specs.Slots.{Slots, Selected}
+use Rattle.bus_spec.specs.Slots.{Slots}
 use Rattle.bus_spec.specs.Readings.{message_cut}
-use Rattle.bus_laws.specs.Runs.{CanGoThrough, CanSelect}
+use Rattle.bus_laws.specs.Runs.{CanGoThrough, CanSelect, IsOpenOn}
 use Rattle.bus_laws.specs.Told.{WorldTold}
 use Rattle.bus_laws.specs.Settles.{EndsJob}
 
@@ -87,8 +87,11 @@ module _ (b : BoardView) (tree : IsTree b) (s : ℕ) (h : Hop) (among : IsAmongH
       ∙ ap (λ (t : Bool). cond t (way.Held h.mux) (way_through b (reverse way_here.0))) held
 
 -- where the path is open, all muxes over it let a message through
-pub open-through : (b : BoardView) (v : Slots) (ws : ℕ → World) → WorldTold b v ws → (s : ℕ) → ((g : Hop) → IsAmongHops g (hops b s) → (v g.on).slot ≡ Selected g) → LetThrough b (hops b s)
-open-through b v ws world s reached g a = (let o = world.told.opened g.on g (reached g a) in (o.4, o.5))
+pub open-through : (b : BoardView) → IsTree b → (v : Slots) (ws : ℕ → World) → WorldTold b v ws → (s : ℕ) → ((g : Hop) → IsAmongHops g (hops b s) → IsOpenOn b g (v g.on)) → LetThrough b (hops b s)
+open-through b tree v ws world s reached g a =
+    let home : home_of_mux b g.mux ≡ g.on = (tree.hop s g a).home in
+    let o = world.told.opened g.mux g.channel (subst (λ (i : ℕ). (v i).kept g.mux ≡ Some g.channel) (sym home) (reached g a).kept) in
+    (o.3, o.4)
 
 -- THE VERDICT
 -- a step settles with this error, which is what bars the transfer in the flat world

@@ -4,20 +4,25 @@ use Rattle.std.specs.Prelude.{slice_get}
 use Rattle.std.proofs.lemmas.Option.{slice_get_within}
 use Rattle.i2c_base.specs.declared.ids.LockId.{LockId}
 use Rattle.i2c_base.specs.Board.{BoardView}
-use Rattle.bus_spec.specs.Walk.{Act, Take, MarkOf, WalkTree, Ends, Look, Then}
-use Rattle.bus_spec.specs.Slots.{Slots, mark_in}
+use Rattle.bus_spec.specs.Walk.{Act, Take, Ask, MarkOf, KeptOf, WalkTree, Ends, Look, Then}
+use Rattle.bus_spec.specs.Slots.{Slots, answer_to, mark_in}
 use Rattle.bus_spec.specs.Grammar.{seen, first_act}
 use Rattle.bus_spec.specs.Readings.{rank}
 use Rattle.bus_spec.specs.Stepwise.{IsBelow}
 use Rattle.bus_laws.specs.Runs.{InLocks}
 use Rattle.bus_laws.proofs.past.Laws.{below_each}
-use Rattle.bus_laws.specs.Holds.{IsMarkOn, HoldsLocks}
+use Rattle.bus_laws.specs.Holds.{IsMarkOn, MayAnswer, HoldsLocks}
 use Rattle.bus_laws.specs.Waiting.{LocksKept, IsHeldUp}
+
+-- what is known may answer every question
+answers : (b : BoardView) (v : Slots) → ((p : ℕ) → IsMarkOn b p (mark_in (v p).slot)) → (ask : Ask) → MayAnswer b ask (answer_to v ask)
+answers b v marks (MarkOf p) = marks p
+answers b v marks (KeptOf p m) = tt
 
 -- the looks in front of a walk leave what it holds
 pub holds_seen : (b : BoardView) (held : List LockId) (v : Slots) → ((p : ℕ) → IsMarkOn b p (mark_in (v p).slot)) → (w : WalkTree) → HoldsLocks b held w → HoldsLocks b held (seen v w)
 holds_seen b held v marks Ends h = h
-holds_seen b held v marks (Look (MarkOf p) next) h = holds_seen b held v marks (next (mark_in (v p).slot)) (h.1 (mark_in (v p).slot) (marks p))
+holds_seen b held v marks (Look ask next) h = holds_seen b held v marks (next (answer_to v ask)) (h.2 (answer_to v ask) (answers b v marks ask))
 holds_seen b held v marks (Then act note next) h = h
 
 -- a walk that has ended holds nothing; one that takes a lock takes a lower one than it holds
@@ -34,7 +39,7 @@ below b held (Then act note next) h l e =
 
 no_look : (v : Slots) (w : WalkTree) (m : _) (n : _) → seen v w ≡ Look m n → ⊥
 no_look v Ends m n e = (let f : Ends ≡ Look m n = e in cc)
-no_look v (Look (MarkOf p) next) m n e = no_look v (next (mark_in (v p).slot)) m n e
+no_look v (Look ask next) m n e = no_look v (next (answer_to v ask)) m n e
 no_look v (Then act note next) m n e = (let f : Then act note next ≡ Look m n = e in cc)
 
 module _ (b : BoardView) (trees : List WalkTree) (held : List (List LockId)) (numbers : List ℕ) (holder : LockId → Option ℕ) (v : Slots) (kept : LocksKept b trees held numbers holder v)

@@ -15,7 +15,7 @@ use Rattle.i2c_base.specs.declared.board.MuxSpec.{MuxSpec}
 use Rattle.i2c_base.specs.declared.tree.Grant.{Grant}
 use Rattle.i2c_base.specs.declared.tree.Grant.TheVariants as grant
 use Rattle.i2c_base.specs.Board.{BoardView, DeviceView}
-use Rattle.i2c_spec.specs.Tree.{Hop, hops, home_of_mux, addr_of_mux, is_below, is_on_path, Crosses, IsOver, IsAlong}
+use Rattle.i2c_spec.specs.Tree.{Hop, hops, home_of_mux, addr_of_mux, is_below, is_on_path, is_aside, Crosses, IsOver, IsAlong, MayJoin}
 use Rattle.i2c_spec.specs.TreeFacts.{IsTree}
 use Rattle.i2c_spec.specs.Grant.{has_address, some_chip, some_device, some_bound, named_by, grant_of}
 use Rattle.i2c_spec.specs.Chips.{ChipView, chip_table}
@@ -68,33 +68,43 @@ chip_test : (a : ℕ) (m : MuxSpec) (on : ℕ → Bool) → m.addr ≡ Some a �
 chip_test a m on e t =
     ap (λ (o : Option ℕ). has_address a o && on m.bus) e ∙ ap (λ (u : Bool). u && on m.bus) (eq-eqb a a refl) ∙ t
 
-busy_path : (b : BoardView) (s a : ℕ) (force : Bool) → some_chip b a (is_on_path b s) ≡ true → grant_of b s a force ≡ grant.Busy
-busy_path b s a force e =
-    ap (λ (t : Bool). cond t grant.Busy (cond (some_chip b a (λ u. is_below b u s) || some_device b a (λ u. is_below b u s)) grant.Busy
-    (cond (not force && some_bound b a (is_on_path b s)) grant.Busy (named_by (position_from (λ (d : DeviceView). eqb d.addr a && is_on_path b s d.bus) 0 b.devices))))) e
-
 either : (t : Bool) (x : Grant) → x ≡ grant.Busy → cond t grant.Busy x ≡ grant.Busy
 either true x e = refl
 either false x e = e
 
+sooner : (t : Bool) (x : Grant) → t ≡ true → cond t grant.Busy x ≡ grant.Busy
+sooner t x e = ap (λ (c : Bool). cond c grant.Busy x) e
+
+busy_path : (b : BoardView) (s a : ℕ) (force : Bool) → some_chip b a (is_on_path b s) ≡ true → grant_of b s a force ≡ grant.Busy
+busy_path b s a force e = sooner (some_chip b a (is_on_path b s)) _ e
+
 pub busy_below : (b : BoardView) (s a : ℕ) (force : Bool) → (some_chip b a (λ u. is_below b u s) || some_device b a (λ u. is_below b u s)) ≡ true → grant_of b s a force ≡ grant.Busy
 busy_below b s a force e =
-    either (some_chip b a (is_on_path b s)) _
-    (ap (λ (t : Bool). cond t grant.Busy
-    (cond (not force && some_bound b a (is_on_path b s)) grant.Busy (named_by (position_from (λ (d : DeviceView). eqb d.addr a && is_on_path b s d.bus) 0 b.devices)))) e)
+    either (some_chip b a (is_on_path b s)) _ (sooner (some_chip b a (λ u. is_below b u s) || some_device b a (λ u. is_below b u s)) _ e)
 
-pub busy_chip : (b : BoardView) (s a : ℕ) (force : Bool) (n : ℕ) → addr_of_mux b n ≡ Some a → IsAlong b s (home_of_mux b n) → grant_of b s a force ≡ grant.Busy
-busy_chip b s a force n addr along =
+pub busy_aside : (b : BoardView) (s a : ℕ) (force : Bool) → (some_chip b a (is_aside b s) || some_device b a (is_aside b s)) ≡ true → grant_of b s a force ≡ grant.Busy
+busy_aside b s a force e =
+    either (some_chip b a (is_on_path b s)) _ (either (some_chip b a (λ u. is_below b u s) || some_device b a (λ u. is_below b u s)) _
+    (sooner (some_chip b a (is_aside b s) || some_device b a (is_aside b s)) _ e))
+
+pub busy_chip : (b : BoardView) (s a : ℕ) (force : Bool) (n : ℕ) → addr_of_mux b n ≡ Some a → MayJoin b s (home_of_mux b n) → grant_of b s a force ≡ grant.Busy
+busy_chip b s a force n addr may =
     let m = addressed a (slice_get b.muxes n) addr in
     let bus : home_of_mux b n ≡ m.0.bus = ap (λ (o : Option MuxSpec). unwrap_or (option_map (λ (x : MuxSpec). x.bus) o) 0) m.1 in
-    elim (on_or_below b s (home_of_mux b n) along) [
-      | inl on ↦ busy_path b s a force
-          (any_at (λ (x : MuxSpec). has_address a x.addr && is_on_path b s x.bus) b.muxes n m.0 m.1
-          (chip_test a m.0 (is_on_path b s) m.2 (ap (is_on_path b s) (sym bus) ∙ on)))
-      | inr below ↦ busy_below b s a force
-          (ap (λ (t : Bool). t || some_device b a (λ u. is_below b u s))
-          (any_at (λ (x : MuxSpec). has_address a x.addr && is_below b x.bus s) b.muxes n m.0 m.1
-          (chip_test a m.0 (λ u. is_below b u s) m.2 (ap (λ u. is_below b u s) (sym bus) ∙ below))))
+    elim may [
+      | inl along ↦ elim (on_or_below b s (home_of_mux b n) along) [
+        | inl on ↦ busy_path b s a force
+            (any_at (λ (x : MuxSpec). has_address a x.addr && is_on_path b s x.bus) b.muxes n m.0 m.1
+            (chip_test a m.0 (is_on_path b s) m.2 (ap (is_on_path b s) (sym bus) ∙ on)))
+        | inr below ↦ busy_below b s a force
+            (ap (λ (t : Bool). t || some_device b a (λ u. is_below b u s))
+            (any_at (λ (x : MuxSpec). has_address a x.addr && is_below b x.bus s) b.muxes n m.0 m.1
+            (chip_test a m.0 (λ u. is_below b u s) m.2 (ap (λ u. is_below b u s) (sym bus) ∙ below))))
+      ]
+      | inr aside ↦ busy_aside b s a force
+          (ap (λ (t : Bool). t || some_device b a (is_aside b s))
+          (any_at (λ (x : MuxSpec). has_address a x.addr && is_aside b s x.bus) b.muxes n m.0 m.1
+          (chip_test a m.0 (is_aside b s) m.2 (ap (is_aside b s) (sym bus) ∙ aside))))
     ]
 
 -- NO CHIP HEARS
@@ -107,7 +117,7 @@ no_chip_named i (x ∷ xs) = by_heard (has_heard x.1) ∙ no_chip_named i xs
     by_heard false = refl
 
 module _ (b : BoardView) (tree : IsTree b) (r s : ℕ) (cs : List ChipView) (ds : List TargetState) (hs : List Node) (busy : Bool)
-    (along : (u : ℕ) → is_joined (world_of b r cs ds hs busy) u ≡ true → IsAlong b s u)
+    (along : (u : ℕ) → is_joined (world_of b r cs ds hs busy) u ≡ true → MayJoin b s u)
     (a : ℕ) (force : Bool) (not_busy : grant_of b s a force ≡ grant.Busy → ⊥) (reading : Bool) where
   pub no_chip : heard_of node.Chip (start_chips (world_of b r cs ds hs busy) a reading) ≡ []
   no_chip =
@@ -147,7 +157,7 @@ later_chipless cs none u call.Fault l f = (stopped_chips cs u none f.0 ∙ f.0, 
 
 -- a caller's message leaves the chips as they are
 pub call-chips : (b : BoardView) (tree : IsTree b) (r s : ℕ) (cs : List ChipView) (ds : List TargetState) (hs : List Node) (busy : Bool)
-    → ((u : ℕ) → is_joined (world_of b r cs ds hs busy) u ≡ true → IsAlong b s u)
+    → ((u : ℕ) → is_joined (world_of b r cs ds hs busy) u ≡ true → MayJoin b s u)
     → (force : Bool) (limit : ℕ) (m : MessageView) (last : Bool) (cut : Option ℕ) → (grant_of b s m.addr force ≡ grant.Busy → ⊥) → NoneWaits cs
     → (talk world_listener limit (world_of b r cs ds hs busy) m last cut).now.chips ≡ cs
 call-chips b tree r s cs ds hs busy along force limit m last cut not_busy none =

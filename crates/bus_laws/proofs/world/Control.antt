@@ -25,6 +25,7 @@ use Rattle.i2c_spec.specs.Targets.{TargetState, state_table}
 use Rattle.i2c_spec.specs.Messages.{MessageView, write_byte, read_byte}
 use Rattle.i2c_spec.specs.Conversation.{Said, TalkTold, world_listener, is_it, silence, say, told, ended, puts, gets, by_answer, talk}
 use Rattle.i2c_spec.specs.World.{World, after, stopped, sent_on, given, feed, answers, opens_hop, is_joined, has_chip, joins_chip, start_event, stop_event, chip_start, device_start, hearers, takes, gives, and_of, some_answer, is_ack, to_chips, to_devices, answer as world_answer}
+use Rattle.i2c_spec.specs.Tree.{MayJoin}
 use Rattle.bus_laws.proofs.world.Feed.{feed-get, feed-same, GivesOne, answers-none, answers-one, some_answer-append, some_answer-at}
 use Rattle.bus_laws.proofs.world.Reach.{world_of}
 use Rattle.bus_laws.proofs.world.Hears.{control_hearers, control_answer}
@@ -139,7 +140,7 @@ Reads cs m sends t =
     ⊎ (Changes cs t.now.chips m look × (((t.end ≡ end.Ok) × (t.bytes ≡ bit_and sends 255 ∷ [])) ⊎ (t.end ≡ end.Cut 2)))
 
 module _ (b : BoardView) (tree : IsTree b) (r s : ℕ) (cs : List ChipView) (ds : List TargetState) (hs : List Node) (busy : Bool)
-    (along : (u : ℕ) → is_joined (world_of b r cs ds hs busy) u ≡ true → IsAlong b s u)
+    (along : (u : ℕ) → is_joined (world_of b r cs ds hs busy) u ≡ true → MayJoin b s u)
     (m a : ℕ) (chip : ChipView) (addr : addr_of_mux b m ≡ Some a) (home : home_of_mux b m ≡ s)
     (joined : is_joined (world_of b r cs ds hs busy) s ≡ true) (at : slice_get cs m ≡ Some chip) (none : NoneWaits cs) where
   -- the world behind the start

@@ -14,11 +14,12 @@ use Rattle.i2c_base.specs.Board.{BoardView, DeviceView}
 use Rattle.i2c_spec.specs.Tree.{home_of_mux, addr_of_mux, of_device, IsAlong}
 use Rattle.i2c_spec.specs.TreeFacts.{IsTree, home_of, addr_of}
 use Rattle.i2c_spec.specs.Grant.{has_address}
+use Rattle.i2c_spec.specs.Tree.{MayJoin}
 use Rattle.i2c_spec.specs.Chips.{ChipView, chip_table, chip_answer}
 use Rattle.i2c_spec.specs.Targets.{TargetState, state_table}
 use Rattle.i2c_spec.specs.World.{World, is_joined, has_chip, joins_chip, joins_device, start_event, chip_start, device_start, start_chips, start_devices, answers, answer_with, is_ack, is_slow, has_heard, heard_of, hearers, some_answer, answer as world_answer}
 use Rattle.bus_laws.proofs.world.Feed.{hears, heard-none, heard-one, unheard, some_answer-append, some_answer-at}
-use Rattle.bus_laws.proofs.world.Reach.{world_of, and_right, start_heard, other_state, address_is}
+use Rattle.bus_laws.proofs.world.Reach.{world_of, control_alone, and_right, start_heard, other_state, address_is}
 use Rattle.std.proofs.Math.Bool.{or-false}
 
 pub swap_along : (b : BoardView) (s t : ℕ) → IsAlong b s t → IsAlong b t s
@@ -59,17 +60,17 @@ chips_not_slow f k (x ∷ xs) = by_event (f k) ∙ chips_not_slow f (k + 1) xs
     by_event (Some e) = ap (λ (t : Bool). t || some_answer is_slow (answers chip_table f (k + 1) xs)) (chip_not_slow x e)
 
 module _ (b : BoardView) (tree : IsTree b) (r s : ℕ) (cs : List ChipView) (ds : List TargetState) (hs : List Node) (busy : Bool)
-    (along : (u : ℕ) → is_joined (world_of b r cs ds hs busy) u ≡ true → IsAlong b s u) where
+    (along : (u : ℕ) → is_joined (world_of b r cs ds hs busy) u ≡ true → MayJoin b s u) where
   -- a chip that hears is joined, has the address, and stands along the message's bus
   pub chip_along : (a n : ℕ) (reading : Bool) (x : ChipView) → hears chip_table (chip_start (world_of b r cs ds hs busy) a reading n) x ≡ true
-      → (addr_of b (node.Chip n) ≡ Some a) × IsAlong b s (home_of b (node.Chip n))
+      → (addr_of b (node.Chip n) ≡ Some a) × MayJoin b s (home_of b (node.Chip n))
   chip_along a n reading x h =
       let w : World = world_of b r cs ds hs busy in
       let f = start_heard chip_table x (joins_chip w n) (has_address a (addr_of_mux b n)) reading refl h in
       (address_is a (addr_of_mux b n) f.1, along (home_of_mux b n) (and_right (has_chip b n) (is_joined w (home_of_mux b n)) f.0))
 
   pub device_along : (a n : ℕ) (reading : Bool) (x : TargetState) → hears state_table (device_start (world_of b r cs ds hs busy) a reading n) x ≡ true
-      → (addr_of b (node.Device n) ≡ Some a) × IsAlong b s (home_of b (node.Device n))
+      → (addr_of b (node.Device n) ≡ Some a) × MayJoin b s (home_of b (node.Device n))
   device_along a n reading x h =
       let w : World = world_of b r cs ds hs busy in
       let f = start_heard state_table x (joins_device w n) (of_device (λ (d : DeviceView). eqb d.addr a) false b n) reading (other_state x) h in
@@ -77,9 +78,9 @@ module _ (b : BoardView) (tree : IsTree b) (r s : ℕ) (cs : List ChipView) (ds 
 
   module _ (m a : ℕ) (reading : Bool) (x : ChipView) (addr : addr_of_mux b m ≡ Some a) (home : home_of_mux b m ≡ s)
       (joined : is_joined (world_of b r cs ds hs busy) s ≡ true) (at : slice_get cs m ≡ Some x) where
-    only_own : (n : ℕ) (name : Node) → addr_of b name ≡ Some a → IsAlong b s (home_of b name) → name ≡ node.Chip m
+    only_own : (n : ℕ) (name : Node) → addr_of b name ≡ Some a → MayJoin b s (home_of b name) → name ≡ node.Chip m
     only_own n name named on_path =
-        tree.addresses name (node.Chip m) a named addr (subst (λ (i : ℕ). IsAlong b (home_of b name) i) (sym home) (swap_along b s (home_of b name) on_path))
+        control_alone b tree m a addr name named (subst (λ (i : ℕ). MayJoin b i (home_of b name)) (sym home) on_path)
 
     chip_hears : (c : Bool) → hears chip_table (start_event (c && true) true reading) x ≡ c
     chip_hears true = refl

@@ -19,22 +19,39 @@ use Rattle.i2c_spec.specs.Conversation.{TalkTold, world_listener, talk}
 use Rattle.i2c_spec.specs.World.{World, has_chip}
 use Rattle.i2c_spec.specs.History.{changed_at}
 use Rattle.bus_spec.specs.Walk.{Mark, Select, Clear, Sent, is_gpio, is_arbitrator, chip_address}
-use Rattle.bus_spec.specs.Slots.{Slots, At, MuxSlot, Clean, Selected, Marked, Polled, Found, with_slot, set_marks, polled_slot, after_job}
-use Rattle.bus_laws.specs.Runs.{answers, CanSelect, CanGoThrough, IsMuxOf, IsOfMux, FindsPoll, HeadsMarks, MayFail}
-use Rattle.bus_laws.specs.Told.{chip_in, IsChipOf, Explains, ChipsTold, WorldTold}
-use Rattle.bus_laws.proofs.tree.Slots.{with_slot-same, with_slot-other, set_marks-head}
+use Rattle.std.proofs.Math.Path.{fun_ext}
+use Rattle.bus_spec.specs.Slots.{Slots, At, MuxSlot, Clean, Marked, Polled, Found, turned, turned_at, set_marks, polled_slot, after_job}
+use Rattle.bus_laws.specs.Runs.{IsOpenOn, answers, CanSelect, CanGoThrough, IsMuxOf, IsOfMux, FindsPoll, HeadsMarks, MayFail}
+use Rattle.bus_laws.specs.Told.{chip_in, IsChipOf}
+use Rattle.bus_laws.specs.Told.{Explains, ChipsTold, WorldTold}
+use Rattle.bus_laws.proofs.tree.Slots.{turned-same, turned-other, set_marks-head}
 use Rattle.bus_laws.proofs.world.Control.{looked_opens, put_byte, Changes, Quiet, absent-talk, Writes, Reads, taken_byte, look, write-talk, read-talk}
 use Rattle.bus_laws.proofs.world.ChipLaws.{HasChannel, OpensOne, select_opens, close_opens, SameSort, taken_sort, looked_sort}
-use Rattle.bus_laws.proofs.world.Slots.{set_marks-only, told-marks, SlotTold, told-turned}
+use Rattle.bus_laws.proofs.world.Slots.{set_marks-only, told-marks, MuxTold, told-turned}
 use Rattle.bus_laws.proofs.world.BoardFacts.{mux_at, get_same_length, has_address_of, has_chip-is, not_held, foreign_few, held-is, foreign-is, answers-is}
 use Rattle.bus_laws.proofs.world.Law.{world-is, along_here, joined_here, talk_framed, replaced-chip, same_changes, still_none, world_replaced}
+
+-- a channel that is told twice
+changed_twice : (f : ℕ → Option ℕ) (m : ℕ) (c d : Option ℕ) → (n : ℕ) → changed_at (changed_at f m c) m d n ≡ changed_at f m d n
+changed_twice f m c d n = by (eqb n m)
+  where
+    by : (t : Bool) → cond t d (cond t c (f n)) ≡ cond t d (f n)
+    by true = refl
+    by false = refl
+
+at_with : MuxSlot → (ℕ → Option ℕ) → At
+at_with s k = record { slot = s; kept = k }
+
+turned_twice : (x : At) (m : ℕ) (s t : MuxSlot) (c d : Option ℕ) → turned_at x m t d ≡ turned_at (turned_at x m s c) m t d
+unfolding at_with
+turned_twice x m s t c d = sym (ap (λ (k : ℕ → Option ℕ). at_with t k) (fun_ext (changed_twice x.kept m c d)))
 
 -- equal chips are told alike
 pub told_equal : (b : BoardView) (v : Slots) (old new : ℕ → Option ChipView) → ((m : ℕ) → new m ≡ old m) → ChipsTold b v old → ChipsTold b v new
 told_equal b v old new same told =
     record {
       kept = λ m x e. told.kept m x (sym (same m) ∙ e);
-      opened = λ p h e. (let o = told.opened p h e in (o.0, same h.mux ∙ o.1, o.2, o.3, o.4, o.5));
+      opened = λ m c e. (let o = told.opened m c e in (o.0, same m ∙ o.1, o.2, o.3, o.4));
       polled = λ p h n x e at. told.polled p h n x e (sym (same h.mux) ∙ at);
       found = λ p h x e at. told.found p h x e (sym (same h.mux) ∙ at);
       asked = told.asked;
@@ -86,7 +103,7 @@ held_or_left x foreign few =
 
 module _ (b : BoardView) (tree : IsTree b) (plain : IsPlainBoard b) (v : Slots) (ws : ℕ → World) (world : WorldTold b v ws)
     (p m : ℕ) (kind : MuxKind) (known : IsMuxOf b m kind) (line : is_gpio kind ≡ false) (home : home_of_mux b m ≡ p)
-    (reached : (g : Hop) → IsAmongHops g (hops b p) → (v g.on).slot ≡ Selected g)
+    (reached : (g : Hop) → IsAmongHops g (hops b p) → IsOpenOn b g (v g.on))
     (held : List LockId) (marks : List Mark) (fail : MayFail b marks held v) (heads : HeadsMarks p m marks) (own : IsOfMux m (v p).slot)
     (limit : ℕ) (cut : Option ℕ) where
   spec : MuxSpec
@@ -154,15 +171,15 @@ module _ (b : BoardView) (tree : IsTree b) (plain : IsPlainBoard b) (v : Slots) 
   no_line x e = ap is_gpio (kind-of x e) ∙ line
 
   -- one chip changed, and the slot of its bus
-  turn : (message : MessageView) (u : Slots) (s : MuxSlot) (f : ChipView → ChipView) → Changes (ws (root_of b p)).chips (sent message).now.chips m f
-      → ((x : ChipView) → chip_in b ws m ≡ Some x → SameSort x (f x)) → (u p).slot ≡ s → ((q : ℕ) → (q ≡ p → ⊥) → u q ≡ v q) → SlotTold b (chip_in b ws) m f s
+  turn : (message : MessageView) (u : Slots) (s : MuxSlot) (now : Option ℕ) (f : ChipView → ChipView) → Changes (ws (root_of b p)).chips (sent message).now.chips m f
+      → ((x : ChipView) → chip_in b ws m ≡ Some x → SameSort x (f x)) → u p ≡ turned_at (v p) m s now → ((q : ℕ) → (q ≡ p → ⊥) → u q ≡ v q) → MuxTold b (chip_in b ws) m f s now
       → WorldTold b u (changed_at ws (root_of b p) (sent message).now)
-  turn message u s f changes sort here others slot =
+  turn message u s now f changes sort here others slot =
       world_replaced b v u ws (root_of b p) (sent message).now world (framed message)
       (still_none (ws (root_of b p)).chips (sent message).now.chips m f changes (λ x e. sort x (in_world x e)) (world.rest (root_of b p)))
-      (told-turned b v u (chip_in b ws) (chip_in b (changed_at ws (root_of b p) (sent message).now)) m f s
+      (told-turned b v u (chip_in b ws) (chip_in b (changed_at ws (root_of b p) (sent message).now)) m f s now
       (replaced-chip b ws (root_of b p) (sent message).now m f root_home changes)
-      (ap (λ (i : ℕ). (u i).slot) home ∙ here) (λ q ne. others q (λ e. ne (e ∙ sym home))) own_home sort slot world.told)
+      (ap u home ∙ here ∙ ap (λ (i : ℕ). turned_at (v i) m s now) (sym home)) (λ q ne. others q (λ e. ne (e ∙ sym home))) own_home sort slot world.told)
 
   -- nothing changed but marks
   mark_only : (message : MessageView) → (sent message).now.chips ≡ (ws (root_of b p)).chips
@@ -175,14 +192,20 @@ module _ (b : BoardView) (tree : IsTree b) (plain : IsPlainBoard b) (v : Slots) 
       ∙ each_same (chip_in b ws i) (eqb i m))
       (told-marks b v (set_marks marks v) (chip_in b ws) (set_marks-only b held v marks fail) world.told))
 
-  own_marked : (set_marks marks v (home_of_mux b m)).slot ≡ Marked m
+  own_marked : set_marks marks v (home_of_mux b m) ≡ turned_at (v (home_of_mux b m)) m (Marked m) None
   own_marked = by_head marks heads
     where
-      by_head : (ms : List Mark) → HeadsMarks p m ms → (set_marks ms v (home_of_mux b m)).slot ≡ Marked m
+      by_head : (ms : List Mark) → HeadsMarks p m ms → set_marks ms v (home_of_mux b m) ≡ turned_at (v (home_of_mux b m)) m (Marked m) None
       by_head [] h = absurd h
       by_head (x ∷ xs) h =
-          ap (λ (i : ℕ). (set_marks (x ∷ xs) v i).slot) (home ∙ sym h.0)
-          ∙ ap (λ (y : At). y.slot) (set_marks-head x xs v) ∙ ap Marked h.1
+          ap (λ (i : ℕ). set_marks (x ∷ xs) v i) (home ∙ sym h.0) ∙ set_marks-head x xs v
+          ∙ ap (λ (i : ℕ). turned_at (v i) x.mux (Marked x.mux) None) (h.0 ∙ sym home)
+          ∙ ap (λ (i : ℕ). turned_at (v (home_of_mux b m)) i (Marked i) None) h.1
+
+  own_again : set_marks marks v (home_of_mux b m) ≡ turned_at (set_marks marks v (home_of_mux b m)) m (Marked m) None
+  own_again =
+      own_marked ∙ turned_twice (v (home_of_mux b m)) m (Marked m) (Marked m) None None
+      ∙ ap (λ (x : At). turned_at x m (Marked m) None) (sym own_marked)
 
   -- a chip changed, and its mux is marked: whatever it is now, the mark tells of it
   marked_turn : (message : MessageView) (f : ChipView → ChipView) → Changes (ws (root_of b p)).chips (sent message).now.chips m f
@@ -191,28 +214,28 @@ module _ (b : BoardView) (tree : IsTree b) (plain : IsPlainBoard b) (v : Slots) 
   marked_turn message f changes sort here =
       world_replaced b v (set_marks marks v) ws (root_of b p) (sent message).now world (framed message)
       (still_none (ws (root_of b p)).chips (sent message).now.chips m f changes (λ x e. sort x (in_world x e)) (world.rest (root_of b p)))
-      (told-turned b (set_marks marks v) (set_marks marks v) (chip_in b ws) (chip_in b (changed_at ws (root_of b p) (sent message).now)) m f (Marked m)
+      (told-turned b (set_marks marks v) (set_marks marks v) (chip_in b ws) (chip_in b (changed_at ws (root_of b p) (sent message).now)) m f (Marked m) None
       (replaced-chip b ws (root_of b p) (sent message).now m f root_home changes)
-      own_marked (λ q ne. refl)
-      (subst (λ (s : MuxSlot). IsOfMux m s) (sym own_marked) refl) sort
+      own_again (λ q ne. refl)
+      (subst (λ (x : At). IsOfMux m x.slot) (sym own_marked) refl) sort
       (record {
-        opened = λ h e. absurd (let g : Marked m ≡ Selected h = e in cc);
+        opened = λ c e. absurd (let g : None ≡ Some c = e in cc);
         polled = λ h n e. absurd (let g : Marked m ≡ Polled h n = e in cc);
         found = λ h e. absurd (let g : Marked m ≡ Found h = e in cc);
-        only = λ c x at opens. refl;
+        only = λ c x at opens. inr refl;
         absent = λ c x gone at. absurd (let g : true ≡ false = sym gone ∙ here in cc);
       })
       (told-marks b v (set_marks marks v) (chip_in b ws) (set_marks-only b held v marks fail) world.told))
 
   -- nobody acknowledged: the mux is absent, and nothing is open on its bus
   nack_clean : (message : MessageView) → is_absent b m ≡ true → (sent message).now.chips ≡ (ws (root_of b p)).chips
-      → WorldTold b (with_slot v p Clean) (changed_at ws (root_of b p) (sent message).now)
+      → WorldTold b (turned v p m Clean None) (changed_at ws (root_of b p) (sent message).now)
   nack_clean message gone same =
-      turn message (with_slot v p Clean) Clean (λ x. x) (same_changes (ws (root_of b p)).chips (sent message).now.chips m same)
+      turn message (turned v p m Clean None) Clean None (λ x. x) (same_changes (ws (root_of b p)).chips (sent message).now.chips m same)
       (λ x at. record { kind = refl; foreign = refl; left = λ h. h; waiting = λ e. e })
-      (ap (λ (y : At). y.slot) (with_slot-same v p Clean)) (λ q ne. with_slot-other v p q Clean ne)
+      (turned-same v p m Clean None) (λ q ne. turned-other v p m q Clean None ne)
       (record {
-        opened = λ h e. absurd (let g : Clean ≡ Selected h = e in cc);
+        opened = λ c e. absurd (let g : None ≡ Some c = e in cc);
         polled = λ h n e. absurd (let g : Clean ≡ Polled h n = e in cc);
         found = λ h e. absurd (let g : Clean ≡ Found h = e in cc);
         only = λ c x at opens. absurd (let g : false ≡ true = sym (world.told.absent m c x gone at) ∙ opens in cc);
@@ -221,13 +244,13 @@ module _ (b : BoardView) (tree : IsTree b) (plain : IsPlainBoard b) (v : Slots) 
 
   -- THE CLOSE
   close_done : (message : MessageView) → Changes (ws (root_of b p)).chips (sent message).now.chips m (taken_byte close_value)
-      → WorldTold b (with_slot v p Clean) (changed_at ws (root_of b p) (sent message).now)
+      → WorldTold b (turned v p m Clean None) (changed_at ws (root_of b p) (sent message).now)
   close_done message changes =
-      turn message (with_slot v p Clean) Clean (taken_byte close_value) changes
+      turn message (turned v p m Clean None) Clean None (taken_byte close_value) changes
       (λ x at. taken_sort x.kind x close_value (no_line x at))
-      (ap (λ (y : At). y.slot) (with_slot-same v p Clean)) (λ q ne. with_slot-other v p q Clean ne)
+      (turned-same v p m Clean None) (λ q ne. turned-other v p m q Clean None ne)
       (record {
-        opened = λ h e. absurd (let g : Clean ≡ Selected h = e in cc);
+        opened = λ c e. absurd (let g : None ≡ Some c = e in cc);
         polled = λ h n e. absurd (let g : Clean ≡ Polled h n = e in cc);
         found = λ h e. absurd (let g : Clean ≡ Found h = e in cc);
         only = λ c x at opens. absurd (let g : false ≡ true = sym (close_opens x.kind x c (no_line x at)) ∙ opens in cc);
@@ -268,16 +291,18 @@ module _ (b : BoardView) (tree : IsTree b) (plain : IsPlainBoard b) (v : Slots) 
 
   -- THE SELECT
   module _ (h : Hop) (same_on : h.on ≡ p) (same_mux : h.mux ≡ m) (same_kind : h.kind ≡ kind) (has : HasChannel kind h.channel) where
-    slot_here : (s : MuxSlot) → (with_slot v h.on s p).slot ≡ s
-    slot_here s = ap (λ (i : ℕ). (with_slot v h.on s i).slot) (sym same_on) ∙ ap (λ (y : At). y.slot) (with_slot-same v h.on s)
+    slot_here : (s : MuxSlot) (now : Option ℕ) → turned v h.on h.mux s now p ≡ turned_at (v p) m s now
+    slot_here s now =
+        ap (λ (i : ℕ). turned v i h.mux s now p) same_on ∙ ap (λ (i : ℕ). turned v p i s now p) same_mux ∙ turned-same v p m s now
 
-    slot_there : (s : MuxSlot) (q : ℕ) → (q ≡ p → ⊥) → with_slot v h.on s q ≡ v q
-    slot_there s q ne = with_slot-other v h.on q s (λ e. ne (e ∙ same_on))
+    slot_there : (s : MuxSlot) (now : Option ℕ) (q : ℕ) → (q ≡ p → ⊥) → turned v h.on h.mux s now q ≡ v q
+    slot_there s now q ne = turned-other v h.on h.mux q s now (λ e. ne (e ∙ same_on))
 
     nack_here : (message : MessageView) → is_absent b m ≡ true → (sent message).now.chips ≡ (ws (root_of b p)).chips
-        → WorldTold b (with_slot v h.on Clean) (changed_at ws (root_of b p) (sent message).now)
+        → WorldTold b (turned v h.on h.mux Clean None) (changed_at ws (root_of b p) (sent message).now)
     nack_here message gone same =
-        subst (λ (i : ℕ). WorldTold b (with_slot v i Clean) (changed_at ws (root_of b p) (sent message).now)) (sym same_on) (nack_clean message gone same)
+        subst (λ (i : ℕ). WorldTold b (turned v i h.mux Clean None) (changed_at ws (root_of b p) (sent message).now)) (sym same_on)
+        (subst (λ (i : ℕ). WorldTold b (turned v p i Clean None) (changed_at ws (root_of b p) (sent message).now)) (sym same_mux) (nack_clean message gone same))
 
     -- the write
     abbrev value : ℕ
@@ -291,23 +316,22 @@ module _ (b : BoardView) (tree : IsTree b) (plain : IsPlainBoard b) (v : Slots) 
 
     select_done : ((x : ChipView) → chip_in b ws m ≡ Some x → is_arbitrator kind ≡ true → is_free x ≡ true) → is_absent b m ≡ false → is_held b m ≡ false
         → Changes (ws (root_of b p)).chips (sent select_message).now.chips m (taken_byte (select_value h.kind h.channel))
-        → WorldTold b (with_slot v h.on (Selected h)) (changed_at ws (root_of b p) (sent select_message).now)
+        → WorldTold b (turned v h.on h.mux Clean (Some h.channel)) (changed_at ws (root_of b p) (sent select_message).now)
     select_done free here held_not changes =
-        turn select_message (with_slot v h.on (Selected h)) (Selected h) (taken_byte (select_value h.kind h.channel)) changes
+        turn select_message (turned v h.on h.mux Clean (Some h.channel)) Clean (Some h.channel) (taken_byte (select_value h.kind h.channel)) changes
         (λ x at. taken_sort x.kind x (select_value h.kind h.channel) (no_line x at))
-        (slot_here (Selected h)) (slot_there (Selected h))
+        (slot_here Clean (Some h.channel)) (slot_there Clean (Some h.channel))
         (record {
-          opened = λ g e. (let f : h ≡ g = (let e2 : Selected h ≡ Selected g = e in cc) in (
-            ap (λ (i : Hop). i.mux) (sym f) ∙ same_mux,
+          opened = λ c e. (let f : h.channel ≡ c = (let e2 : Some h.channel ≡ Some c = e in cc) in (
             chip.0,
             chip-told,
-            subst (λ (i : Hop). is_open (taken_byte (select_value h.kind h.channel) chip.0) i.channel ≡ true) f (opens chip.0 chip-told).opened,
+            subst (λ (i : ℕ). is_open (taken_byte (select_value h.kind h.channel) chip.0) i ≡ true) f (opens chip.0 chip-told).opened,
             here,
             held_not,
           ));
-          polled = λ g n e. absurd (let f : Selected h ≡ Polled g n = e in cc);
-          found = λ g e. absurd (let f : Selected h ≡ Found g = e in cc);
-          only = λ c x at open_now. (same_mux, (opens x at).only c open_now);
+          polled = λ g n e. absurd (let f : Clean ≡ Polled g n = e in cc);
+          found = λ g e. absurd (let f : Clean ≡ Found g = e in cc);
+          only = λ c x at open_now. inl (ap Some ((opens x at).only c open_now));
           absent = λ c x gone at. absurd (let f : true ≡ false = sym gone ∙ here in cc);
         })
       where
@@ -356,7 +380,7 @@ module _ (b : BoardView) (tree : IsTree b) (plain : IsPlainBoard b) (v : Slots) 
     select-told free held_not bytes = select_by free held_not (is_absent b m) refl bytes
 
     -- a poll
-    module _ (arb : is_arbitrator kind ≡ true) (n : ℕ) (finds : FindsPoll h (suc n) (v h.on).slot) where
+    module _ (arb : is_arbitrator kind ≡ true) (n : ℕ) (finds : FindsPoll h (suc n) (v h.on).slot) (shut : (v h.on).kept h.mux ≡ None) where
       abbrev poll_message : MessageView
       poll_message = read_byte (chip_address b m)
 
@@ -381,22 +405,23 @@ module _ (b : BoardView) (tree : IsTree b) (plain : IsPlainBoard b) (v : Slots) 
       -- nothing is open while it is asked
       shut_now : (c : ℕ) (x : ChipView) → chip_in b ws m ≡ Some x → is_open (look x) c ≡ true → ⊥
       shut_now c x at opens =
-          let explained : Explains (v h.on).slot m c =
-          subst (λ (i : ℕ). Explains (v i).slot m c) (home ∙ sym same_on) (world.told.only m c x at (sym (looked_opens x.kind x c) ∙ opens)) in
-          elim finds [
-            | inl polled ↦ subst (λ (s : MuxSlot). Explains s m c) polled explained
-            | inr first ↦ subst (λ (s : MuxSlot). Explains s m c) first.1 explained
+          elim (subst (λ (i : ℕ). Explains (v i) m c) (home ∙ sym same_on) (world.told.only m c x at (sym (looked_opens x.kind x c) ∙ opens))) [
+            | inl keeps ↦ (let f : None ≡ Some c = sym shut ∙ ap (λ (i : ℕ). (v h.on).kept i) same_mux ∙ keeps in cc)
+            | inr mark ↦ elim finds [
+              | inl polled ↦ (let f : Polled h n ≡ Marked m = sym polled ∙ mark in cc)
+              | inr first ↦ (let f : Clean ≡ Marked m = sym first.1 ∙ mark in cc)
+            ]
           ]
 
-      poll_turn : (s : MuxSlot) → is_absent b m ≡ false → Changes (ws (root_of b p)).chips (sent poll_message).now.chips m look → SlotTold b (chip_in b ws) m look s
-          → WorldTold b (with_slot v h.on s) (changed_at ws (root_of b p) (sent poll_message).now)
+      poll_turn : (s : MuxSlot) → is_absent b m ≡ false → Changes (ws (root_of b p)).chips (sent poll_message).now.chips m look → MuxTold b (chip_in b ws) m look s None
+          → WorldTold b (turned v h.on h.mux s None) (changed_at ws (root_of b p) (sent poll_message).now)
       poll_turn s here changes slot =
-          turn poll_message (with_slot v h.on s) s look changes (λ x at. looked_sort x.kind x) (slot_here s) (slot_there s) slot
+          turn poll_message (turned v h.on h.mux s None) s None look changes (λ x at. looked_sort x.kind x) (slot_here s None) (slot_there s None) slot
 
-      polled_slot-told : (k : ℕ) → n ≡ suc k → is_absent b m ≡ false → SlotTold b (chip_in b ws) m look (Polled h k)
+      polled_slot-told : (k : ℕ) → n ≡ suc k → is_absent b m ≡ false → MuxTold b (chip_in b ws) m look (Polled h k) None
       polled_slot-told k at_k here =
           record {
-            opened = λ g e. absurd (let f : Polled h k ≡ Selected g = e in cc);
+            opened = λ c e. absurd (let f : None ≡ Some c = e in cc);
             polled = λ g j e. (let f : (h ≡ g) × (k ≡ j) = (let e2 : Polled h k ≡ Polled g j = e in (cc, cc)) in (
               ap (λ (i : Hop). i.mux) (sym f.0) ∙ same_mux,
               λ x at. subst (λ (i : ℕ). ((look x).left ≤ i) ⊎ ((look x).foreign ≡ 8)) f.1
@@ -407,10 +432,10 @@ module _ (b : BoardView) (tree : IsTree b) (plain : IsPlainBoard b) (v : Slots) 
             absent = λ c x gone at. absurd (let f : true ≡ false = sym gone ∙ here in cc);
           }
 
-      found_slot-told : is_foreign chip.0 ≡ false → is_absent b m ≡ false → SlotTold b (chip_in b ws) m look (Found h)
+      found_slot-told : is_foreign chip.0 ≡ false → is_absent b m ≡ false → MuxTold b (chip_in b ws) m look (Found h) None
       found_slot-told free here =
           record {
-            opened = λ g e. absurd (let f : Found h ≡ Selected g = e in cc);
+            opened = λ c e. absurd (let f : None ≡ Some c = e in cc);
             polled = λ g j e. absurd (let f : Found h ≡ Polled g j = e in cc);
             found = λ g e. (let f : h ≡ g = (let e2 : Found h ≡ Found g = e in cc) in (
               ap (λ (i : Hop). i.mux) (sym f) ∙ same_mux,
@@ -421,10 +446,10 @@ module _ (b : BoardView) (tree : IsTree b) (plain : IsPlainBoard b) (v : Slots) 
             absent = λ c x gone at. absurd (let f : true ≡ false = sym gone ∙ here in cc);
           }
 
-      clean_slot-told : is_absent b m ≡ false → SlotTold b (chip_in b ws) m look Clean
+      clean_slot-told : is_absent b m ≡ false → MuxTold b (chip_in b ws) m look Clean None
       clean_slot-told here =
           record {
-            opened = λ g e. absurd (let f : Clean ≡ Selected g = e in cc);
+            opened = λ c e. absurd (let f : None ≡ Some c = e in cc);
             polled = λ g j e. absurd (let f : Clean ≡ Polled g j = e in cc);
             found = λ g e. absurd (let f : Clean ≡ Found g = e in cc);
             only = λ c x at opens. absurd (shut_now c x at opens);
@@ -453,7 +478,7 @@ module _ (b : BoardView) (tree : IsTree b) (plain : IsPlainBoard b) (v : Slots) 
 
       through_by : is_absent b m ≡ false → Changes (ws (root_of b p)).chips (sent poll_message).now.chips m look
           → (k : ℕ) → n ≡ k → (t : Bool) → is_foreign chip.0 ≡ t
-          → WorldTold b (with_slot v h.on (polled_slot h k (cond t 1 0 ∷ []))) (changed_at ws (root_of b p) (sent poll_message).now) × CanGoThrough b h (suc k) (cond t 1 0 ∷ [])
+          → WorldTold b (turned v h.on h.mux (polled_slot h k (cond t 1 0 ∷ [])) None) (changed_at ws (root_of b p) (sent poll_message).now) × CanGoThrough b h (suc k) (cond t 1 0 ∷ [])
       through_by here changes zero at_k true foreign = (
         poll_turn Clean here changes (clean_slot-told here),
         inr (held_now here (held_or_left chip.0 foreign (subst (λ (i : ℕ). (chip.0.left ≤ i) ⊎ (chip.0.foreign ≡ 8)) at_k (few_left chip.0 chip-told)))),

@@ -1,6 +1,6 @@
 -- The world law: what is known of the buses stays so through a message or a line step of a walk, and the step gives
 -- what the tree law counts on.
-use Rattle.std.proofs.Common.{◌≡◌, ℕ, Bool, true, false, cond, ◌&&◌, List, length, Option, Some, None, eqb, refl, sym, ◌∙◌, ap, inl, inr}
+use Rattle.std.proofs.Common.{◌≡◌, ℕ, Bool, true, false, cond, ◌&&◌, List, length, Option, Some, None, eqb, refl, sym, ◌∙◌, ap, subst, inl, inr}
 use Rattle.std.specs.Prelude.{slice_get}
 use Rattle.std.specs.List.{list_all}
 use Rattle.std.specs.Option.{option_map, option_map_or}
@@ -18,11 +18,14 @@ use Rattle.i2c_spec.specs.Messages.{MessageView}
 use Rattle.i2c_spec.specs.Conversation.{world_listener, talk}
 use Rattle.i2c_spec.specs.World.{World, after, opens_hop, is_joined, joins_chip, chip_start, to_chips, stop_event}
 use Rattle.i2c_spec.specs.History.{changed_at}
-use Rattle.bus_spec.specs.Slots.{Slots, Selected}
-use Rattle.bus_laws.specs.Told.{chip_in, Explains, ChipsTold, WorldTold}
+use Rattle.i2c_spec.specs.Tree.{MayJoin}
+use Rattle.bus_spec.specs.Slots.{Slots, At, Marked, mark_in}
+use Rattle.bus_laws.specs.Runs.{IsOpenOn}
+use Rattle.bus_laws.specs.Told.{chip_in}
+use Rattle.bus_laws.specs.Told.{Explains, ChipsTold, WorldTold}
 use Rattle.bus_laws.proofs.world.Feed.{length-feed}
 use Rattle.bus_laws.proofs.world.TalkLaws.{talk-keeps}
-use Rattle.bus_laws.proofs.world.Reach.{world_of, all_of, joined_along}
+use Rattle.bus_laws.proofs.world.Reach.{world_of, all_of, joined_may}
 use Rattle.bus_laws.proofs.world.Control.{NoneWaits, Changes}
 use Rattle.bus_laws.proofs.world.ChipLaws.{SameSort}
 use Rattle.bus_laws.proofs.world.Slots.{Turns}
@@ -35,7 +38,7 @@ whole b r w eb er =
     ∙ ap (λ (i : ℕ). world_of b i w.chips w.devices w.hearing w.busy) er
 
 module _ (b : BoardView) (tree : IsTree b) (plain : IsPlainBoard b) (v : Slots) (ws : ℕ → World) (world : WorldTold b v ws) (s : ℕ)
-    (reached : (g : Hop) → IsAmongHops g (hops b s) → (v g.on).slot ≡ Selected g) where
+    (reached : (g : Hop) → IsAmongHops g (hops b s) → IsOpenOn b g (v g.on)) where
   abbrev r : ℕ
   r = root_of b s
 
@@ -46,20 +49,21 @@ module _ (b : BoardView) (tree : IsTree b) (plain : IsPlainBoard b) (v : Slots) 
   world-is = whole b (root_of b s) (ws (root_of b s)) (world.board (root_of b s)) (world.root (root_of b s))
 
   only_here : (m c : ℕ) (x : ChipView) → root_of b (home_of_mux b m) ≡ root_of b s → slice_get (ws (root_of b s)).chips m ≡ Some x → is_open x c ≡ true
-      → Explains (v (home_of_mux b m)).slot m c
+      → Explains (v (home_of_mux b m)) m c
   only_here m c x root at opens = world.told.only m c x (ap (λ (i : ℕ). slice_get (ws i).chips m) root ∙ at) opens
 
-  -- what is joined lies along the message's bus, which is joined itself
-  pub along_here : (u : ℕ) → is_joined w u ≡ true → IsAlong b s u
+  -- what is joined lies along the message's bus, which is joined itself, or is aside of it
+  pub along_here : (u : ℕ) → is_joined w u ≡ true → MayJoin b s u
   along_here u e =
-      joined_along b tree v (root_of b s) s (ws (root_of b s)).chips refl reached only_here
+      joined_may b tree v (root_of b s) s (ws (root_of b s)).chips refl reached only_here
       (ws (root_of b s)).devices (ws (root_of b s)).hearing (ws (root_of b s)).busy u e
 
   hop_open : (g : Hop) → IsAmongHops g (hops b s) → opens_hop (ws (root_of b s)).chips g ≡ true
   hop_open g a =
-      let o = world.told.opened g.on g (reached g a) in
+      let home : home_of_mux b g.mux ≡ g.on = (tree.hop s g a).home in
+      let o = world.told.opened g.mux g.channel (subst (λ (i : ℕ). (v i).kept g.mux ≡ Some g.channel) (sym home) (reached g a).kept) in
       let at : slice_get (ws (root_of b s)).chips g.mux ≡ Some o.0 =
-      ap (λ (i : ℕ). slice_get (ws i).chips g.mux) (sym (ap (λ (i : ℕ). root_of b i) o.3 ∙ tree.root_same s g a)) ∙ o.1 in
+      ap (λ (i : ℕ). slice_get (ws i).chips g.mux) (sym (ap (λ (i : ℕ). root_of b i) home ∙ tree.root_same s g a)) ∙ o.1 in
       ap (λ (c : Option ChipView). option_map_or (λ (x : ChipView). is_open x g.channel) c false) at ∙ o.2
 
   pub path_open : list_all (opens_hop (ws (root_of b s)).chips) (hops b s) ≡ true

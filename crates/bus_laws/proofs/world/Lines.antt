@@ -20,14 +20,15 @@ use Rattle.i2c_spec.specs.Chips.{ChipView, is_open, at_level, select_by}
 use Rattle.i2c_spec.specs.World.{World, after, set_level, stopped}
 use Rattle.i2c_spec.specs.History.{changed_at}
 use Rattle.bus_spec.specs.Walk.{Mark, Job, Call, Select, Clear, Lined, job_bus, is_gpio}
-use Rattle.bus_spec.specs.Slots.{Slots, At, MuxSlot, Clean, Selected, Polled, Found, with_slot, set_marks, after_job}
+use Rattle.bus_spec.specs.Slots.{Slots, At, MuxSlot, Clean, Polled, Found, turned, turned_at, set_marks, after_job}
 use Rattle.bus_spec.specs.Past.{line_call}
 use Rattle.bus_laws.specs.Runs.{IsMuxOf, IsOfMux, MayFail, MayShift}
-use Rattle.bus_laws.specs.Told.{chip_in, WorldTold}
-use Rattle.bus_laws.proofs.tree.Slots.{with_slot-same, with_slot-other}
+use Rattle.bus_laws.specs.Told.{chip_in}
+use Rattle.bus_laws.specs.Told.{WorldTold}
+use Rattle.bus_laws.proofs.tree.Slots.{turned-same, turned-other}
 use Rattle.bus_laws.proofs.world.Control.{Changes, stopped-chips}
 use Rattle.bus_laws.proofs.world.ChipLaws.{level_opens, level_closes, SameSort}
-use Rattle.bus_laws.proofs.world.Slots.{set_marks-only, told-marks, SlotTold, told-turned}
+use Rattle.bus_laws.proofs.world.Slots.{set_marks-only, told-marks, MuxTold, told-turned}
 use Rattle.bus_laws.proofs.world.BoardFacts.{mux_at, get_same_length, plain_mux, not_held}
 use Rattle.bus_laws.proofs.world.Law.{whole, replaced-chip, still_none, world_replaced}
 use Rattle.bus_laws.proofs.world.Jobs.{told_equal}
@@ -102,18 +103,18 @@ module _ (b : BoardView) (plain : IsPlainBoard b) (v : Slots) (ws : ℕ → Worl
       ap (λ (j : MuxKind). (facts_of j).code) kind ∙ (line_row k by_line).code
 
   -- the line is set
-  line_turn : (level : ℕ) (u : Slots) (s : MuxSlot) → (u p).slot ≡ s → ((q : ℕ) → (q ≡ p → ⊥) → u q ≡ v q) → SlotTold b (chip_in b ws) m (λ x. at_level x level) s
+  line_turn : (level : ℕ) (u : Slots) (s : MuxSlot) (now : Option ℕ) → u p ≡ turned_at (v p) m s now → ((q : ℕ) → (q ≡ p → ⊥) → u q ≡ v q) → MuxTold b (chip_in b ws) m (λ x. at_level x level) s now
       → WorldTold b u (changed_at ws (root_of b p) (record (ws (root_of b p)) { chips = set_level (ws (root_of b p)).chips m level }))
-  line_turn level u s here others slot =
+  line_turn level u s now here others slot =
       world_replaced b v u ws (root_of b p) (record (ws (root_of b p)) { chips = set_level (ws (root_of b p)).chips m level }) world
       (world.board (root_of b p), world.root (root_of b p), length-level (ws (root_of b p)).chips m level ∙ world.count (root_of b p))
       (still_none (ws (root_of b p)).chips (set_level (ws (root_of b p)).chips m level) m (λ x. at_level x level)
       (level_changes (ws (root_of b p)).chips m level) (λ x e. level_sort x level) (world.rest (root_of b p)))
       (told-turned b v u (chip_in b ws) (chip_in b (changed_at ws (root_of b p) (record (ws (root_of b p)) { chips = set_level (ws (root_of b p)).chips m level }))) m
-      (λ x. at_level x level) s
+      (λ x. at_level x level) s now
       (replaced-chip b ws (root_of b p) (record (ws (root_of b p)) { chips = set_level (ws (root_of b p)).chips m level }) m (λ x. at_level x level) root_home
       (level_changes (ws (root_of b p)).chips m level))
-      (ap (λ (i : ℕ). (u i).slot) home ∙ here) (λ q ne. others q (λ e. ne (e ∙ sym home)))
+      (ap u home ∙ here ∙ ap (λ (i : ℕ). turned_at (v i) m s now) (sym home)) (λ q ne. others q (λ e. ne (e ∙ sym home)))
       (subst (λ (i : ℕ). IsOfMux m (v i).slot) (sym home) own) (λ x e. level_sort x level) slot world.told)
 
   -- the call failed, and changed no level
@@ -129,11 +130,11 @@ module _ (b : BoardView) (plain : IsPlainBoard b) (v : Slots) (ws : ℕ → Worl
       (same_chip_in b ws (root_of b p) (stopped (ws (root_of b p))) same)
       (told-marks b v (set_marks marks v) (chip_in b ws) (set_marks-only b held v marks fail) world.told))
 
-  line_closed : WorldTold b (with_slot v p Clean) (changed_at ws (root_of b p) (record (ws (root_of b p)) { chips = set_level (ws (root_of b p)).chips m 0 }))
+  line_closed : WorldTold b (turned v p m Clean None) (changed_at ws (root_of b p) (record (ws (root_of b p)) { chips = set_level (ws (root_of b p)).chips m 0 }))
   line_closed =
-      line_turn 0 (with_slot v p Clean) Clean (ap (λ (y : At). y.slot) (with_slot-same v p Clean)) (λ q ne. with_slot-other v p q Clean ne)
+      line_turn 0 (turned v p m Clean None) Clean None (turned-same v p m Clean None) (λ q ne. turned-other v p m q Clean None ne)
       (record {
-        opened = λ h e. absurd (let g : Clean ≡ Selected h = e in cc);
+        opened = λ c e. absurd (let g : None ≡ Some c = e in cc);
         polled = λ h n e. absurd (let g : Clean ≡ Polled h n = e in cc);
         found = λ h e. absurd (let g : Clean ≡ Found h = e in cc);
         only = λ c x at opens. absurd (let g : false ≡ true = sym (level_closes x c) ∙ opens in cc);
@@ -141,26 +142,25 @@ module _ (b : BoardView) (plain : IsPlainBoard b) (v : Slots) (ws : ℕ → Worl
       })
 
   line_opened : (h : Hop) → h.mux ≡ m → h.on ≡ p
-      → WorldTold b (with_slot v h.on (Selected h)) (changed_at ws (root_of b p) (record (ws (root_of b p)) { chips = set_level (ws (root_of b p)).chips m (h.channel + 1) }))
+      → WorldTold b (turned v h.on h.mux Clean (Some h.channel)) (changed_at ws (root_of b p) (record (ws (root_of b p)) { chips = set_level (ws (root_of b p)).chips m (h.channel + 1) }))
   line_opened h same_mux same_on =
       let s = mux_at b m k known in
       let chip = get_same_length (ws (root_of b p)).chips b.muxes m s.0 (world.count (root_of b p)) s.1 in
       let told : chip_in b ws m ≡ Some chip.0 = ap (λ (i : ℕ). slice_get (ws i).chips m) root_home ∙ chip.1 in
-      line_turn (h.channel + 1) (with_slot v h.on (Selected h)) (Selected h)
-      (ap (λ (i : ℕ). (with_slot v h.on (Selected h) i).slot) (sym same_on) ∙ ap (λ (y : At). y.slot) (with_slot-same v h.on (Selected h)))
-      (λ q ne. with_slot-other v h.on q (Selected h) (λ e. ne (e ∙ same_on)))
+      line_turn (h.channel + 1) (turned v h.on h.mux Clean (Some h.channel)) Clean (Some h.channel)
+      (ap (λ (i : ℕ). turned v i h.mux Clean (Some h.channel) p) same_on ∙ ap (λ (i : ℕ). turned v p i Clean (Some h.channel) p) same_mux ∙ turned-same v p m Clean (Some h.channel))
+      (λ q ne. turned-other v h.on h.mux q Clean (Some h.channel) (λ e. ne (e ∙ same_on)))
       (record {
-        opened = λ g e. (let f : h ≡ g = (let e2 : Selected h ≡ Selected g = e in cc) in (
-          ap (λ (i : Hop). i.mux) (sym f) ∙ same_mux,
+        opened = λ c e. (let f : h.channel ≡ c = (let e2 : Some h.channel ≡ Some c = e in cc) in (
           chip.0,
           told,
-          subst (λ (i : Hop). is_open (at_level chip.0 (h.channel + 1)) i.channel ≡ true) f (level_opens chip.0 h.channel (code-of chip.0 told)).opened,
+          subst (λ (i : ℕ). is_open (at_level chip.0 (h.channel + 1)) i ≡ true) f (level_opens chip.0 h.channel (code-of chip.0 told)).opened,
           line_here b plain m k known by_line,
           not_held b plain m k known (line_row k by_line).asks,
         ));
-        polled = λ g n e. absurd (let f : Selected h ≡ Polled g n = e in cc);
-        found = λ g e. absurd (let f : Selected h ≡ Found g = e in cc);
-        only = λ c x at opens. (same_mux, (level_opens x h.channel (code-of x at)).only c opens);
+        polled = λ g n e. absurd (let f : Clean ≡ Polled g n = e in cc);
+        found = λ g e. absurd (let f : Clean ≡ Found g = e in cc);
+        only = λ c x at opens. inl (ap Some ((level_opens x h.channel (code-of x at)).only c opens));
         absent = λ c x gone at. absurd (let f : true ≡ false = sym gone ∙ line_here b plain m k known by_line in cc);
       })
 
@@ -170,12 +170,12 @@ pub told-shift : (b : BoardView) → IsTree b → IsPlainBoard b → (v : Slots)
 told-shift b tree plain v ws world (Call bus ms) marks held may failed = absurd (let f : false ≡ true = may.by_line in cc)
 told-shift b tree plain v ws world (Select h) marks held may true =
     let hop : IsHop b h = tree.hop h.bus h may.finds.1 in
-    line_failed b plain v ws world h.on h.mux h.kind hop.kind may.by_line hop.home held marks may.may_fail (own_select _ h zero (v h.on).slot may.finds.0)
+    line_failed b plain v ws world h.on h.mux h.kind hop.kind may.by_line hop.home held marks may.may_fail (own_select _ h zero (v h.on) may.finds.0)
 told-shift b tree plain v ws world (Select h) marks held may false =
     let hop : IsHop b h = tree.hop h.bus h may.finds.1 in
-    subst (λ (n : ℕ). WorldTold b (with_slot v h.on (Selected h)) (changed_at ws (root_of b h.on) (record (ws (root_of b h.on)) { chips = set_level (ws (root_of b h.on)).chips h.mux n })))
+    subst (λ (n : ℕ). WorldTold b (turned v h.on h.mux Clean (Some h.channel)) (changed_at ws (root_of b h.on) (record (ws (root_of b h.on)) { chips = set_level (ws (root_of b h.on)).chips h.mux n })))
     (sym (ap (λ (v : ChannelCode). select_by v h.channel) (line_row h.kind may.by_line).code))
-    (line_opened b plain v ws world h.on h.mux h.kind hop.kind may.by_line hop.home held marks may.may_fail (own_select _ h zero (v h.on).slot may.finds.0) h refl refl)
+    (line_opened b plain v ws world h.on h.mux h.kind hop.kind may.by_line hop.home held marks may.may_fail (own_select _ h zero (v h.on) may.finds.0) h refl refl)
 told-shift b tree plain v ws world (Clear on mux kind) marks held may true =
     line_failed b plain v ws world on mux kind may.finds.2 may.by_line may.finds.1 held marks may.may_fail (own_open mux (v on).slot may.finds.0)
 told-shift b tree plain v ws world (Clear on mux kind) marks held may false =

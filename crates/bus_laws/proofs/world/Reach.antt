@@ -1,22 +1,26 @@
--- Who is joined while a message is sent: only buses along the message's own. The induction goes over the hops of the
--- bus that is joined.
-use Rattle.std.proofs.Common.{◌≡◌, ℕ, Bool, true, false, ◌&&◌, List, [], ◌∷◌, Option, Some, None, eqb, refl, sym, ◌∙◌, ap, subst, ◌⊎◌, inl, inr}
+-- Who is joined while a message is sent: what lies along its bus, and what is aside of it, where muxes keep channels. The
+-- inductions go over hops.
+use Rattle.std.proofs.Common.{◌≡◌, ℕ, Bool, true, false, not, ◌&&◌, ◌||◌, List, [], ◌∷◌, Option, Some, None, eqb, refl, sym, ◌∙◌, ap, subst, ◌⊎◌, inl, inr}
 use Rattle.std.specs.Prelude.{slice_get}
-use Rattle.std.specs.List.{list_all}
+use Rattle.std.specs.List.{list_all, list_any}
 use Rattle.std.specs.Option.{option_map_or}
-use Rattle.std.proofs.lemmas.Bool.{eqb-true}
+use Rattle.std.proofs.lemmas.Bool.{eqb-true, eq-eqb}
+use Rattle.std.proofs.lemmas.Bool.Decides.{eqb_tells}
+use Rattle.std.proofs.Math.Bool.{or-true}
 use Rattle.i2c_base.specs.declared.event.Event.TheVariants as event
 use Rattle.i2c_base.specs.declared.ids.Node.{Node}
+use Rattle.i2c_base.specs.declared.ids.Node.TheVariants as node
 use Rattle.i2c_base.specs.Board.{BoardView}
 use Rattle.i2c_base.specs.Table.{Table}
-use Rattle.i2c_spec.specs.Tree.{Hop, hops, root_of, home_of_mux, end_of, Crosses, IsAmongHops, IsOver, IsAlong}
-use Rattle.i2c_spec.specs.TreeFacts.{IsTree}
+use Rattle.i2c_spec.specs.Tree.{Hop, hops, root_of, home_of_mux, addr_of_mux, end_of, crosses_mux, is_kept_hop, Crosses, IsAmongHops, IsApart, IsOver, IsAlong, MayJoin}
+use Rattle.i2c_spec.specs.TreeFacts.{IsTree, home_of, addr_of}
 use Rattle.i2c_spec.specs.Grant.{has_address}
 use Rattle.i2c_spec.specs.Chips.{ChipView, is_open}
 use Rattle.i2c_spec.specs.Targets.{TargetState, state_answer}
 use Rattle.i2c_spec.proofs.StateLemmas.{states_fair}
 use Rattle.i2c_spec.specs.World.{World, opens_hop, is_joined, start_event, has_heard}
-use Rattle.bus_spec.specs.Slots.{Slots, MuxSlot, Selected}
+use Rattle.bus_spec.specs.Slots.{Slots, MuxSlot, Clean, Marked}
+use Rattle.bus_laws.specs.Runs.{IsOpenOn}
 use Rattle.bus_laws.specs.Told.{Explains}
 use Rattle.bus_laws.proofs.world.Feed.{hears}
 
@@ -73,48 +77,169 @@ over_more b s u h hs at tail over =
       | inr c ↦ inr (subst (λ (xs : List Hop). Crosses s xs) tail c)
     ]))
 
+-- on different buses: two hops of one path on one bus are one
+crosses_of : (g : Hop) (hs : List Hop) → IsAmongHops g hs → Crosses g.on hs
+crosses_of g [] a = absurd a
+crosses_of g (h ∷ hs) a = elim a [ inl e ↦ inl (ap (λ (x : Hop). x.on) (sym e)) | inr more ↦ inr (crosses_of g hs more) ]
+
+one_on : (hs : List Hop) (g h : Hop) → IsApart hs → IsAmongHops g hs → IsAmongHops h hs → g.on ≡ h.on → g ≡ h
+one_on [] g h apart ag ah e = absurd ag
+one_on (x ∷ xs) g h apart ag ah e =
+    elim ag [
+      | inl eg ↦ elim ah [
+        | inl eh ↦ eg ∙ sym eh
+        | inr mh ↦ absurd (apart.0 (subst (λ (i : ℕ). Crosses i xs) (sym e ∙ ap (λ (y : Hop). y.on) eg) (crosses_of h xs mh)))
+      ]
+      | inr mg ↦ elim ah [
+        | inl eh ↦ absurd (apart.0 (subst (λ (i : ℕ). Crosses i xs) (e ∙ ap (λ (y : Hop). y.on) eh) (crosses_of g xs mg)))
+        | inr mh ↦ one_on xs g h apart.1 mg mh e
+      ]
+    ]
+
+-- a mux that is crossed, read back
+mux_hop : (m : ℕ) (hs : List Hop) → crosses_mux m hs ≡ true → (g : Hop) × IsAmongHops g hs × (g.mux ≡ m)
+mux_hop m [] e = absurd (let f : false ≡ true = e in cc)
+mux_hop m (h ∷ hs) e = by (eqb h.mux m) refl (mux_hop m hs)
+  where
+    by : (t : Bool) → eqb h.mux m ≡ t → (crosses_mux m hs ≡ true → (g : Hop) × IsAmongHops g hs × (g.mux ≡ m)) → (g : Hop) × IsAmongHops g (h ∷ hs) × (g.mux ≡ m)
+    by true f rest = (h, inl refl, eqb-true h.mux m f)
+    by false f rest = (let r = rest (sym (ap (λ (t : Bool). t || crosses_mux m hs) f) ∙ e) in (r.0, inr r.1, r.2))
+
+-- a mux of which no hop of a path is isn't crossed by it
+not_among : (m : ℕ) (hs : List Hop) → ((g : Hop) → IsAmongHops g hs → g.mux ≡ m → ⊥) → crosses_mux m hs ≡ false
+not_among m hs none = by (crosses_mux m hs) refl
+  where
+    by : (t : Bool) → crosses_mux m hs ≡ t → crosses_mux m hs ≡ false
+    by true e = absurd (let r = mux_hop m hs e in none r.0 r.1 r.2)
+    by false e = e
+
+kept_here : (b : BoardView) (s : ℕ) (h : Hop) (hs : List Hop) → h.stays ≡ true → crosses_mux h.mux (hops b s) ≡ false
+    → list_any (is_kept_hop b s) (h ∷ hs) ≡ true
+kept_here b s h hs stays off =
+    ap (λ (t : Bool). (t && not (crosses_mux h.mux (hops b s))) || list_any (is_kept_hop b s) hs) stays
+    ∙ ap (λ (t : Bool). not t || list_any (is_kept_hop b s) hs) off
+
+kept_more : (b : BoardView) (s : ℕ) (h : Hop) (hs : List Hop) → list_any (is_kept_hop b s) hs ≡ true → list_any (is_kept_hop b s) (h ∷ hs) ≡ true
+kept_more b s h hs e = ap (λ (t : Bool). is_kept_hop b s h || t) e ∙ or-true (is_kept_hop b s h)
+
+-- along the bus, or with a kept hop that isn't over it
+abbrev Joins : BoardView → ℕ → ℕ → List Hop → Type 0
+Joins b s u hs = IsAlong b s u ⊎ (list_any (is_kept_hop b s) hs ≡ true)
+
 module _ (b : BoardView) (tree : IsTree b) (v : Slots) (r s : ℕ) (cs : List ChipView)
     (rooted : root_of b s ≡ r)
-    (reached : (g : Hop) → IsAmongHops g (hops b s) → (v g.on).slot ≡ Selected g)
-    (only : (m c : ℕ) (x : ChipView) → root_of b (home_of_mux b m) ≡ r → slice_get cs m ≡ Some x → is_open x c ≡ true → Explains (v (home_of_mux b m)).slot m c) where
-  -- the hop over a joined bus that stands on the message's path is a hop of the path
-  same_hop : (h g : Hop) → (u : ℕ) → IsAmongHops h (hops b u) → root_of b h.on ≡ r → IsAmongHops g (hops b s) → g.on ≡ h.on → opens_hop cs h ≡ true → g ≡ h
-  same_hop h g u a root_h in_path on opened =
+    (reached : (g : Hop) → IsAmongHops g (hops b s) → IsOpenOn b g (v g.on))
+    (only : (m c : ℕ) (x : ChipView) → root_of b (home_of_mux b m) ≡ r → slice_get cs m ≡ Some x → is_open x c ≡ true → Explains (v (home_of_mux b m)) m c) where
+  -- an open hop that stands on a bus of the message's path has its channel kept, and that bus has no mark
+  kept_at : (h g : Hop) → (u : ℕ) → IsAmongHops h (hops b u) → root_of b h.on ≡ r → IsAmongHops g (hops b s) → g.on ≡ h.on → opens_hop cs h ≡ true
+      → (v g.on).kept h.mux ≡ Some h.channel
+  kept_at h g u a root_h in_path on opened =
       let chip = open_chip h.channel (slice_get cs h.mux) opened in
       let home : home_of_mux b h.mux ≡ h.on = (tree.hop u h a).home in
-      let explained : Explains (v (home_of_mux b h.mux)).slot h.mux h.channel =
-      only h.mux h.channel chip.0 (ap (λ (i : ℕ). root_of b i) home ∙ root_h) chip.1 chip.2 in
-      let at : (v (home_of_mux b h.mux)).slot ≡ Selected g = ap (λ (i : ℕ). (v i).slot) (home ∙ sym on) ∙ reached g in_path in
-      let told : (g.mux ≡ h.mux) × (g.channel ≡ h.channel) = subst (λ (x : MuxSlot). Explains x h.mux h.channel) at explained in
-      tree.channel s u g h in_path a told.0 told.1
+      let at : home_of_mux b h.mux ≡ g.on = home ∙ sym on in
+      let explained : Explains (v g.on) h.mux h.channel =
+      subst (λ (i : ℕ). Explains (v i) h.mux h.channel) at (only h.mux h.channel chip.0 (ap (λ (i : ℕ). root_of b i) home ∙ root_h) chip.1 chip.2) in
+      elim explained [
+        | inl kept ↦ kept
+        | inr mark ↦ absurd (let f : Clean ≡ Marked h.mux = sym (reached g in_path).clean ∙ mark in cc)
+      ]
 
-  along : (hs : List Hop) (u : ℕ) → hops b u ≡ hs → root_of b u ≡ r → ((h : Hop) → IsAmongHops h hs → opens_hop cs h ≡ true) → IsAlong b s u
-  along [] u at root_u all =
+  -- it is a hop of the path, or one of another mux, which stays as it is and isn't over the path
+  same_or_kept : (h g : Hop) → (u : ℕ) → IsAmongHops h (hops b u) → root_of b h.on ≡ r → IsAmongHops g (hops b s) → g.on ≡ h.on → opens_hop cs h ≡ true
+      → (g ≡ h) ⊎ ((h.stays ≡ true) × (crosses_mux h.mux (hops b s) ≡ false))
+  same_or_kept h g u a root_h in_path on opened =
+      let kept : (v g.on).kept h.mux ≡ Some h.channel = kept_at h g u a root_h in_path on opened in
+      elim (eqb_tells h.mux g.mux) [
+        | inl same ↦ (let told : Some h.channel ≡ Some g.channel =
+            sym kept ∙ ap (λ (i : ℕ). (v g.on).kept i) same.1 ∙ (reached g in_path).kept in
+            inl (tree.channel s u g h in_path a (sym same.1) (let f : h.channel ≡ g.channel = cc in sym f)))
+        | inr other ↦ inr (
+          sym (tree.hop u h a).stays ∙ ((reached g in_path).others h.mux h.channel other.1 kept).1,
+          not_among h.mux (hops b s) (λ x among e. other.1 (sym e ∙ ap (λ (y : Hop). y.mux) (one_on (hops b s) x g (tree.apart s) among in_path
+              (sym (tree.hop s x among).home ∙ ap (λ (i : ℕ). home_of_mux b i) e ∙ (tree.hop u h a).home ∙ sym on)))),
+        )
+      ]
+
+  joins : (hs : List Hop) (u : ℕ) → hops b u ≡ hs → root_of b u ≡ r → ((h : Hop) → IsAmongHops h hs → opens_hop cs h ≡ true) → Joins b s u hs
+  joins [] u at root_u all =
       let is_root : root_of b u ≡ u = ap (λ (xs : List Hop). end_of u xs) at in
-      inr (subst (λ (i : ℕ). IsOver b i s) (rooted ∙ sym root_u ∙ is_root) (tree.root_over s))
-  along (h ∷ hs) u at root_u all =
+      inl (inr (subst (λ (i : ℕ). IsOver b i s) (rooted ∙ sym root_u ∙ is_root) (tree.root_over s)))
+  joins (h ∷ hs) u at root_u all =
       let tail : hops b h.on ≡ hs = tree.tail u h hs at in
       let a : IsAmongHops h (hops b u) = subst (λ (xs : List Hop). IsAmongHops h xs) (sym at) (inl refl) in
       let root_h : root_of b h.on ≡ r = tree.root_same u h a ∙ root_u in
-      elim (along hs h.on tail root_h (λ g i. all g (inr i))) [
-        | inl s_over ↦ inl (over_more b s u h hs at tail s_over)
-        | inr on_over ↦ elim on_over [
-          | inl e ↦ inl (over_more b s u h hs at tail (inl (sym e)))
-          | inr c ↦ (let g = crossing_hop h.on (hops b s) c in
-              let same : g.0 ≡ h = same_hop h g.0 u a root_h g.1 g.2 (all h (inl refl)) in
-              let bus : g.0.bus ≡ u = ap (λ (x : Hop). x.bus) same ∙ (tree.leads u h hs at).0 in
-              inr (elim (behind_on_path b tree (hops b s) s g.0 refl g.1) [
-                | inl e ↦ inl (sym bus ∙ e)
-                | inr c2 ↦ inr (subst (λ (i : ℕ). Crosses i (hops b s)) bus c2)
-              ]))
+      elim (joins hs h.on tail root_h (λ g i. all g (inr i))) [
+        | inr aside ↦ inr (kept_more b s h hs aside)
+        | inl along ↦ elim along [
+          | inl s_over ↦ inl (inl (over_more b s u h hs at tail s_over))
+          | inr on_over ↦ elim on_over [
+            | inl e ↦ inl (inl (over_more b s u h hs at tail (inl (sym e))))
+            | inr c ↦ (let g = crossing_hop h.on (hops b s) c in
+                elim (same_or_kept h g.0 u a root_h g.1 g.2 (all h (inl refl))) [
+                  | inl same ↦ (let bus : g.0.bus ≡ u = ap (λ (x : Hop). x.bus) same ∙ (tree.leads u h hs at).0 in
+                      inl (inr (elim (behind_on_path b tree (hops b s) s g.0 refl g.1) [
+                        | inl e ↦ inl (sym bus ∙ e)
+                        | inr c2 ↦ inr (subst (λ (i : ℕ). Crosses i (hops b s)) bus c2)
+                      ])))
+                  | inr kept ↦ inr (kept_here b s h hs kept.0 kept.1)
+                ])
+          ]
         ]
       ]
 
-  -- what is joined lies along the message's bus
-  pub joined_along : (ds : List TargetState) (hs : List Node) (busy : Bool) (u : ℕ) → is_joined (world_of b r cs ds hs busy) u ≡ true → IsAlong b s u
-  joined_along ds hs busy u e =
-      along (hops b u) u refl (eqb-true (root_of b u) r (and_left (eqb (root_of b u) r) (list_all (opens_hop cs) (hops b u)) e))
-      (λ h a. all_among (opens_hop cs) (hops b u) h (and_right (eqb (root_of b u) r) (list_all (opens_hop cs) (hops b u)) e) a)
+  -- what is joined lies along the message's bus, or is aside of it
+  pub joined_may : (ds : List TargetState) (hs : List Node) (busy : Bool) (u : ℕ) → is_joined (world_of b r cs ds hs busy) u ≡ true → MayJoin b s u
+  joined_may ds hs busy u e =
+      let root_u : root_of b u ≡ r = eqb-true (root_of b u) r (and_left (eqb (root_of b u) r) (list_all (opens_hop cs) (hops b u)) e) in
+      elim (joins (hops b u) u refl root_u (λ h a. all_among (opens_hop cs) (hops b u) h (and_right (eqb (root_of b u) r) (list_all (opens_hop cs) (hops b u)) e) a)) [
+        | inl along ↦ inl along
+        | inr kept ↦ inr (ap (λ (t : Bool). t && list_any (is_kept_hop b s) (hops b u)) (eq-eqb (root_of b u) (root_of b s) (root_u ∙ sym rooted)) ∙ kept)
+      ]
+
+-- A CONTROL MESSAGE: the chip alone has its address among what may be joined on its bus
+kept_hop : (b : BoardView) (s : ℕ) (hs : List Hop) → list_any (is_kept_hop b s) hs ≡ true
+    → (g : Hop) × IsAmongHops g hs × (g.stays ≡ true) × (crosses_mux g.mux (hops b s) ≡ false)
+kept_hop b s [] e = absurd (let f : false ≡ true = e in cc)
+kept_hop b s (h ∷ hs) e = by (is_kept_hop b s h) refl (kept_hop b s hs)
+  where
+    not_false : (t : Bool) → not t ≡ true → t ≡ false
+    not_false true f = (let g : false ≡ true = f in cc)
+    not_false false f = refl
+
+    by : (t : Bool) → is_kept_hop b s h ≡ t
+        → (list_any (is_kept_hop b s) hs ≡ true → (g : Hop) × IsAmongHops g hs × (g.stays ≡ true) × (crosses_mux g.mux (hops b s) ≡ false))
+        → (g : Hop) × IsAmongHops g (h ∷ hs) × (g.stays ≡ true) × (crosses_mux g.mux (hops b s) ≡ false)
+    by true f rest = (
+      h,
+      inl refl,
+      and_left h.stays (not (crosses_mux h.mux (hops b s))) f,
+      not_false (crosses_mux h.mux (hops b s)) (and_right h.stays (not (crosses_mux h.mux (hops b s))) f),
+    )
+    by false f rest = (let r = rest (sym (ap (λ (t : Bool). t || list_any (is_kept_hop b s) hs) f) ∙ e) in (r.0, inr r.1, r.2, r.3))
+
+among_is : (g : Hop) (hs : List Hop) → IsAmongHops g hs → crosses_mux g.mux hs ≡ true
+among_is g [] a = absurd a
+among_is g (h ∷ hs) a =
+    elim a [
+      | inl e ↦ ap (λ (t : Bool). t || crosses_mux g.mux hs) (eq-eqb h.mux g.mux (ap (λ (x : Hop). x.mux) (sym e)))
+      | inr more ↦ ap (λ (t : Bool). eqb h.mux g.mux || t) (among_is g hs more) ∙ or-true (eqb h.mux g.mux)
+    ]
+
+pub control_alone : (b : BoardView) → IsTree b → (m a : ℕ) → addr_of_mux b m ≡ Some a → (x : Node) → addr_of b x ≡ Some a
+    → MayJoin b (home_of_mux b m) (home_of b x) → x ≡ node.Chip m
+control_alone b tree m a addr x named may =
+    elim may [
+      | inl along ↦ tree.addresses x (node.Chip m) a named addr (swap along)
+      | inr aside ↦ absurd (
+          let s : ℕ = home_of_mux b m in
+          let root : root_of b (home_of b x) ≡ root_of b s =
+          eqb-true (root_of b (home_of b x)) (root_of b s) (and_left (eqb (root_of b (home_of b x)) (root_of b s)) (list_any (is_kept_hop b s) (hops b (home_of b x))) aside) in
+          let g = kept_hop b s (hops b (home_of b x)) (and_right (eqb (root_of b (home_of b x)) (root_of b s)) (list_any (is_kept_hop b s) (hops b (home_of b x))) aside) in
+          tree.aside g.0.mux x (node.Chip m) a ((tree.hop (home_of b x) g.0 g.1).stays ∙ g.2) named addr root (among_is g.0 (hops b (home_of b x)) g.1) g.3)
+    ]
+  where
+    swap : IsAlong b (home_of_mux b m) (home_of b x) → IsAlong b (home_of b x) (home_of_mux b m)
+    swap along = elim along [ inl o ↦ inr o | inr o ↦ inl o ]
 
 -- a start is heard only where the target is joined and has the address
 pub start_heard : {X : Type 0} (t : Table X) (x : X) (j a reading : Bool) → has_heard (t.answer x event.Other) ≡ false

@@ -20,9 +20,10 @@ use Rattle.i2c_spec.specs.Conversation.{TalkTold, world_listener, talk}
 use Rattle.i2c_spec.specs.World.{World}
 use Rattle.i2c_spec.specs.History.{changed_at}
 use Rattle.bus_spec.specs.Walk.{Mark, Job, Call, Select, Clear, Sent, job_bus, is_arbitrator, message_of, nth_message, is_last}
-use Rattle.bus_spec.specs.Slots.{Slots, MuxSlot, Clean, Selected, Marked, Polled, Found, after_job}
+use Rattle.bus_spec.specs.Slots.{Slots, At, MuxSlot, Clean, Marked, Polled, Found, after_job}
 use Rattle.bus_laws.specs.Runs.{CanSend, IsOfMux, FindsOpen, FindsPoll, FindsSelect, IsCall, MaySend}
-use Rattle.bus_laws.specs.Told.{chip_in, WorldTold}
+use Rattle.bus_laws.specs.Told.{chip_in}
+use Rattle.bus_laws.specs.Told.{WorldTold}
 use Rattle.bus_laws.proofs.world.BoardFacts.{mux_at, get_same_length, not_held, held-is, foreign-is, has_channel}
 use Rattle.bus_laws.proofs.tree.Law.{refusal-none}
 use Rattle.bus_laws.proofs.world.Reach.{and_left}
@@ -70,14 +71,13 @@ own_poll h zero s f = subst (λ (x : MuxSlot). IsOfMux h.mux x) (sym f) refl
 own_poll h (suc left) s f =
     elim f [ inl p ↦ subst (λ (x : MuxSlot). IsOfMux h.mux x) (sym p) refl | inr c ↦ subst (λ (x : MuxSlot). IsOfMux h.mux x) (sym c.1) tt ]
 
-pub own_select : (t : Bool) (h : Hop) (left : ℕ) (s : MuxSlot) → FindsSelect t h left s → IsOfMux h.mux s
-own_select true h left s f = own_poll h left s f
-own_select false h left s f = subst (λ (x : MuxSlot). IsOfMux h.mux x) (sym f.1) tt
+pub own_select : (t : Bool) (h : Hop) (left : ℕ) (x : At) → FindsSelect t h left x → IsOfMux h.mux x.slot
+own_select true h left x f = own_poll h left x.slot f.0
+own_select false h left x f = subst (λ (s : MuxSlot). IsOfMux h.mux s) (sym f.1) tt
 
 pub own_open : (m : ℕ) (s : MuxSlot) → FindsOpen m s → IsOfMux m s
-own_open m (Selected h) f = f
 own_open m (Marked k) f = f
-own_open m Clean f = absurd f
+own_open m Clean f = tt
 own_open m (Polled h n) f = absurd f
 own_open m (Found h) f = absurd f
 
@@ -115,35 +115,35 @@ module _ (b : BoardView) (tree : IsTree b) (plain : IsPlainBoard b) (v : Slots) 
         tt,
       )
 
-  write_free : (h : Hop) (u : Bool) → FindsSelect u h zero (v h.on).slot → u ≡ true → (v h.on).slot ≡ Found h
-  write_free h true f e = f
+  write_free : (h : Hop) (u : Bool) → FindsSelect u h zero (v h.on) → u ≡ true → (v h.on).slot ≡ Found h
+  write_free h true f e = f.0
   write_free h false f e = absurd (let g : false ≡ true = e in cc)
 
-  write_not_held : (h : Hop) (u : Bool) → is_arbitrator h.kind ≡ u → FindsSelect u h zero (v h.on).slot → IsHop b h → is_held b h.mux ≡ false
+  write_not_held : (h : Hop) (u : Bool) → is_arbitrator h.kind ≡ u → FindsSelect u h zero (v h.on) → IsHop b h → is_held b h.mux ≡ false
   write_not_held h true arb f hop =
       let s = mux_at b h.mux h.kind hop.kind in
       let x = get_same_length (ws (root_of b (home_of_mux b h.mux))).chips b.muxes h.mux s.0 (world.count (root_of b (home_of_mux b h.mux))) s.1 in
       held-is b h.mux s.0 s.1
       ∙ ap (λ (n : ℕ). eqb n 8) (sym (foreign-is b h.mux s.0 s.1) ∙ (world.told.kept h.mux x.0 x.1).foreign)
-      ∙ free_not_held x.0 (world.told.found h.on h x.0 f x.1)
+      ∙ free_not_held x.0 (world.told.found h.on h x.0 f.0 x.1)
   write_not_held h false arb f hop = not_held b plain h.mux h.kind hop.kind arb
 
   select_kept : (h : Hop) (left : ℕ) (t : Bool) → is_arbitrator h.kind ≡ t → MaySend b whose (Select h) left marks held v → Keeps (Select h) left
   select_kept h zero t arb may =
       let hop : IsHop b h = tree.hop h.bus h may.finds.1 in
-      let finds : FindsSelect t h zero (v h.on).slot = subst (λ (u : Bool). FindsSelect u h zero (v h.on).slot) arb may.finds.0 in
+      let finds : FindsSelect t h zero (v h.on) = subst (λ (u : Bool). FindsSelect u h zero (v h.on)) arb may.finds.0 in
       select-told b tree plain v ws world h.on h.mux h.kind hop.kind may.by_message hop.home (λ g a. (may.reached g a).0) held marks may.may_fail may.owns.1
-      (own_select t h zero (v h.on).slot finds) limit cut h refl refl refl (has_channel b plain h hop (tree.within h.bus h may.finds.2 may.finds.1))
+      (own_select t h zero (v h.on) finds) limit cut h refl refl refl (has_channel b plain h hop (tree.within h.bus h may.finds.2 may.finds.1))
       (λ x at is_arb. world.told.found h.on h x (write_free h t finds (sym arb ∙ is_arb)) at)
       (write_not_held h t arb finds hop)
       (sent_of (Select h) zero).bytes
   select_kept h (suc n) true arb may =
       let hop : IsHop b h = tree.hop h.bus h may.finds.1 in
-      let finds : FindsPoll h (suc n) (v h.on).slot = subst (λ (u : Bool). FindsSelect u h (suc n) (v h.on).slot) arb may.finds.0 in
+      let finds : FindsSelect true h (suc n) (v h.on) = subst (λ (u : Bool). FindsSelect u h (suc n) (v h.on)) arb may.finds.0 in
       poll-told b tree plain v ws world h.on h.mux h.kind hop.kind may.by_message hop.home (λ g a. (may.reached g a).0) held marks may.may_fail may.owns.1
-      (own_poll h (suc n) (v h.on).slot finds) limit cut h refl refl refl (has_channel b plain h hop (tree.within h.bus h may.finds.2 may.finds.1)) arb n finds
+      (own_poll h (suc n) (v h.on).slot finds.0) limit cut h refl refl refl (has_channel b plain h hop (tree.within h.bus h may.finds.2 may.finds.1)) arb n finds.0 finds.1
   select_kept h (suc n) false arb may =
-      absurd (let f : FindsSelect false h (suc n) (v h.on).slot = subst (λ (u : Bool). FindsSelect u h (suc n) (v h.on).slot) arb may.finds.0 in
+      absurd (let f : FindsSelect false h (suc n) (v h.on) = subst (λ (u : Bool). FindsSelect u h (suc n) (v h.on)) arb may.finds.0 in
       let g : suc n ≡ 0 = f.0 in omega arith)
 
   clear_kept : (on mux : ℕ) (kind : MuxKind) (left : ℕ) → MaySend b whose (Clear on mux kind) left marks held v → Keeps (Clear on mux kind) left

@@ -15,7 +15,7 @@ use Rattle.i2c_base.specs.declared.reply.Cut.{Cut}
 use Rattle.i2c_base.specs.declared.tree.Grant.TheVariants as grant
 use Rattle.i2c_base.specs.Board.{BoardView, DeviceView}
 use Rattle.i2c_base.specs.Transfer.{TransferView}
-use Rattle.i2c_spec.specs.Tree.{Hop, hops, root_of, is_below, is_on_path, Crosses, IsAmongHops, IsOver}
+use Rattle.i2c_spec.specs.Tree.{Hop, hops, root_of, is_below, is_on_path, Crosses, IsAmongHops, IsOver, is_aside}
 use Rattle.i2c_spec.specs.TreeFacts.{IsTree}
 use Rattle.i2c_spec.specs.Grant.{some_chip, some_device, some_bound, named_by, named_of}
 use Rattle.i2c_spec.specs.Targets.{TargetState, state_table, state_answer}
@@ -50,18 +50,20 @@ pub over-root : (b : BoardView) → IsTree b → (s u : ℕ) → IsOver b u s �
 over-root b tree s u over =
     elim over [ inl e ↦ ap (λ (i : ℕ). root_of b i) e | inr c ↦ root_crossed b tree (hops b s) s u refl c ]
 
-names_passed : (p q z : Bool) (o : Option ℕ) (d : ℕ) → named_of (cond p grant.Busy (cond q grant.Busy (cond z grant.Busy (named_by o)))) ≡ Some d → o ≡ Some d
-names_passed true q z o d e = absurd (let f : None ≡ Some d = e in cc)
-names_passed false true z o d e = absurd (let f : None ≡ Some d = e in cc)
-names_passed false false true o d e = absurd (let f : None ≡ Some d = e in cc)
-names_passed false false false None d e = absurd (let f : None ≡ Some d = e in cc)
-names_passed false false false (Some k) d e = e
+names_passed : (p q y z : Bool) (o : Option ℕ) (d : ℕ) → named_of (cond p grant.Busy (cond q grant.Busy (cond y grant.Busy (cond z grant.Busy (named_by o))))) ≡ Some d → o ≡ Some d
+names_passed true q y z o d e = absurd (let f : None ≡ Some d = e in cc)
+names_passed false true y z o d e = absurd (let f : None ≡ Some d = e in cc)
+names_passed false false true z o d e = absurd (let f : None ≡ Some d = e in cc)
+names_passed false false false true o d e = absurd (let f : None ≡ Some d = e in cc)
+names_passed false false false false None d e = absurd (let f : None ≡ Some d = e in cc)
+names_passed false false false false (Some k) d e = e
 
 -- a device that a bus grants is one of its root
 pub granted-own : (b : BoardView) → IsTree b → (s a : ℕ) (force : Bool) (d : ℕ) → granted_on b s force a ≡ Some d → IsOf b (root_of b s) d
 granted-own b tree s a force d e =
     let first : position_from (λ (x : DeviceView). eqb x.addr a && is_on_path b s x.bus) 0 b.devices ≡ Some d =
     names_passed (some_chip b a (is_on_path b s)) (some_chip b a (λ u. is_below b u s) || some_device b a (λ u. is_below b u s))
+    (some_chip b a (is_aside b s) || some_device b a (is_aside b s))
     (not force && some_bound b a (is_on_path b s)) (position_from (λ (x : DeviceView). eqb x.addr a && is_on_path b s x.bus) 0 b.devices) d e in
     let r = position_at (λ (x : DeviceView). eqb x.addr a && is_on_path b s x.bus) 0 b.devices d first in
     let at : slice_get b.devices d ≡ Some r.1 = ap (λ (i : ℕ). slice_get b.devices i) (r.2 ∙ zero-add r.0) ∙ r.3 in

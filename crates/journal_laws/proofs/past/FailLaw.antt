@@ -12,9 +12,9 @@ use Rattle.i2c_spec.specs.Tree.{Hop, hops, root_of, locks_of}
 use Rattle.i2c_spec.specs.Messages.{messages_of}
 use Rattle.i2c_spec.specs.Flat.{refusal}
 use Rattle.i2c_spec.specs.History.{Asks}
-use Rattle.bus_spec.specs.Walk.{Job, Call, Select, Clear, Take, Free, Send, Shift, Settle, ActOutcome, Sent, Lined, JobOutcome, Good, Refused, Unsent, Failed, Note, MarkOf, WalkTree, Ends, Look, Then, Go, On, Last, Over, goes, job_outcome, verdict_of, decides, is_line, more_of}
-use Rattle.bus_spec.specs.Slots.{Slots, mark_in}
-use Rattle.bus_spec.specs.Grammar.{Doer, plain, settled, over, by_go, messages, at_bus, locked, part, with_mark, aside, if_sent, if_good, kind_of, closing, opened, chosen, behind, inner, walk_by, walk_for, seen, is_over, first_act, rest_of}
+use Rattle.bus_spec.specs.Walk.{Job, Call, Select, Clear, Take, Free, Send, Shift, Settle, ActOutcome, Sent, Lined, JobOutcome, Good, Refused, Unsent, Failed, Note, KeptOf, WalkTree, Ends, Look, Then, Go, On, Last, Over, goes, job_outcome, verdict_of, decides, is_line, more_of}
+use Rattle.bus_spec.specs.Slots.{Slots, answer_to}
+use Rattle.bus_spec.specs.Grammar.{Doer, plain, settled, over, by_go, messages, at_bus, locked, part, with_mark, aside, if_sent, if_good, kind_of, closing, left_behind, opened, chosen, keeps, crossed, behind, inner, walk_by, walk_for, seen, is_over, first_act, rest_of}
 use Rattle.bus_spec.specs.Past.{begun, current, now}
 use Rattle.bus_spec.specs.Places.{outcome_of, walk_left}
 use Rattle.journal_laws.proofs.past.Places.{walk-left}
@@ -118,14 +118,22 @@ fails-if_sent Refused w k h more = h
 fails-if_sent Unsent w k h more = more Unsent
 fails-if_sent Failed w k h more = more Failed
 
+fails-behind : (stays : Bool) (h : Hop) (on : Doer) → DoerFails on → (k : JobOutcome → WalkTree) → ((o : JobOutcome) → FailsSettle (k o)) → (out : JobOutcome) → FailsSettle (left_behind stays h on k out)
+fails-behind true h on each k more out = more out
+fails-behind false h on each k more out = each (Clear h.on h.mux h.kind) (aside h) (λ o. k out) (λ o. more out)
+
 fails-opened : (h : Hop) (on : Doer) → DoerFails on → DoerFails (opened h on)
 fails-opened h on each job note k more =
-    each job note (λ out. on (Clear h.on h.mux h.kind) (aside h) (λ o. k out)) (λ out. each (Clear h.on h.mux h.kind) (aside h) (λ o. k out) (λ o. more out))
+    each job note (left_behind h.stays h on k) (fails-behind h.stays h on each k more)
 
 fails-chosen : (h : Hop) (on : Doer) → DoerFails on → DoerFails (chosen h on)
 fails-chosen h on each job note k more =
     each (Select h) (with_mark h.on h.mux note) (λ o. if_good o (opened h on job note k) k)
     (λ o. fails-if_good o (opened h on job note k) k (fails-opened h on each job note k more) more)
+
+fails-crossed : (h : Hop) (on : Doer) → DoerFails on → (m : Option ℕ) → DoerFails (λ job note k. crossed h on job note k m)
+fails-crossed h on each m job note k more =
+    fails-if (keeps h m) (opened h on job note k) (chosen h on job note k) (fails-opened h on each job note k more) (fails-chosen h on each job note k more)
 
 fails-closing : (b : BoardView) (h : Hop) (on : Doer) → DoerFails on → (note : Note) (k : JobOutcome → WalkTree) (w : WalkTree)
     → ((o : JobOutcome) → FailsSettle (k o)) → FailsSettle w → (m : Option ℕ) → FailsSettle (closing b h on note k w m)
@@ -139,8 +147,8 @@ fails-inner b root (h ∷ hs) =
     let below = fails-part h.parent (locks_of root hs) (inner b root hs) (fails-inner b root hs) in
     λ job note k more.
     fails-if (is_line job) (at_bus job note k) (behind b h (part h.parent (locks_of root hs) (inner b root hs)) job note k) (fails-at_bus job note k more)
-    (λ m. fails-closing b h (part h.parent (locks_of root hs) (inner b root hs)) below note k (chosen h (part h.parent (locks_of root hs) (inner b root hs)) job note k) more
-    (fails-chosen h (part h.parent (locks_of root hs) (inner b root hs)) below job note k more) m)
+    (λ m. fails-closing b h (part h.parent (locks_of root hs) (inner b root hs)) below note k (Look (KeptOf h.on h.mux) (crossed h (part h.parent (locks_of root hs) (inner b root hs)) job note k)) more
+    (λ x. fails-crossed h (part h.parent (locks_of root hs) (inner b root hs)) below x job note k more) m)
 
 fails-walk : (b : BoardView) (t : TransferView) → FailsSettle (walk_for b t)
 fails-walk b t = by (refusal b t)
@@ -153,7 +161,7 @@ fails-walk b t = by (refusal b t)
 -- EVERY WALK of a past
 fails-seen : (v : Slots) (w : WalkTree) → FailsSettle w → FailsSettle (seen v w)
 fails-seen v Ends h = h
-fails-seen v (Look (MarkOf p) next) h = fails-seen v (next (mark_in (v p).slot)) (h (mark_in (v p).slot))
+fails-seen v (Look ask next) h = fails-seen v (next (answer_to v ask)) (h (answer_to v ask))
 fails-seen v (Then act note next) h = h
 
 fails-rest : (w : WalkTree) (out : ActOutcome) → FailsSettle w → FailsSettle (rest_of w out)

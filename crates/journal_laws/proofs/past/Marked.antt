@@ -11,7 +11,7 @@ use Rattle.i2c_spec.specs.TreeFacts.{IsTree}
 use Rattle.i2c_spec.specs.Plain.{IsPlainBoard}
 use Rattle.i2c_spec.specs.History.{Asks}
 use Rattle.bus_spec.specs.Walk.{Mark, Job, Call, Select, Clear, Act, Send, Shift, ActOutcome, WalkTree, job_bus, is_arbitrator}
-use Rattle.bus_spec.specs.Slots.{Slots, MuxSlot, Clean, Selected, Marked, Polled, Found, mark_in, after_job}
+use Rattle.bus_spec.specs.Slots.{Slots, At, MuxSlot, Clean, Marked, Polled, Found, mark_in, after_job}
 use Rattle.bus_spec.specs.Grammar.{first_act, first_note}
 use Rattle.bus_spec.specs.Readings.{OfMessage, caller_of}
 use Rattle.bus_spec.specs.Past.{Now, current, now, mark}
@@ -47,19 +47,19 @@ module _ (p m : ℕ) where
   no_poll h (suc left) finds =
       elim finds [ inl e ↦ (let f : Marked m ≡ Polled h left = e in cc) | inr e ↦ (let f : Marked m ≡ Clean = e.1 in cc) ]
 
-  no_select : (t : Bool) (h : Hop) (left : ℕ) → FindsSelect t h left (Marked m) → ⊥
-  no_select true h left finds = no_poll h left finds
-  no_select false h left finds = (let f : Marked m ≡ Clean = finds.1 in cc)
+  no_select : (t : Bool) (h : Hop) (left : ℕ) (x : At) → FindsSelect t h left x → x.slot ≡ Marked m → ⊥
+  no_select true h left x finds at = no_poll h left (subst (λ (s : MuxSlot). FindsPoll h left s) at finds.0)
+  no_select false h left x finds at = (let f : Marked m ≡ Clean = sym at ∙ finds.1 in cc)
 
   abbrev StaysOr : Option Act → Job → List Mark → Bool → Type 0
   StaysOr act job marks failed = (mark_after job marks failed p (Some m) ≡ Some m) ⊎ (Closes p m act × (failed ≡ false))
 
   stays-select : (h : Hop) (left : ℕ) (act : Option Act) (v : Slots) (marks : List Mark) → mark_among marks p (Some m) ≡ Some m → (v p).slot ≡ Marked m
-      → FindsSelect (is_arbitrator h.kind) h left (v h.on).slot → (failed : Bool) → StaysOr act (Select h) marks failed
+      → FindsSelect (is_arbitrator h.kind) h left (v h.on) → (failed : Bool) → StaysOr act (Select h) marks failed
   stays-select h left act v marks stays at finds true = inl stays
   stays-select h left act v marks stays at finds false =
       elim (eqb_tells p h.on) [
-        | inl e ↦ absurd (no_select (is_arbitrator h.kind) h left (subst (λ (s : MuxSlot). FindsSelect (is_arbitrator h.kind) h left s) (ap (λ (q : ℕ). (v q).slot) (sym e.1) ∙ at) finds))
+        | inl e ↦ absurd (no_select (is_arbitrator h.kind) h left (v h.on) finds (ap (λ (q : ℕ). (v q).slot) (sym e.1) ∙ at))
         | inr e ↦ inl (ap (λ (t : Bool). cond t None (Some m)) e.0)
       ]
 
@@ -174,7 +174,7 @@ module _ (b : BoardView) (tree : IsTree b) (plain : IsPlainBoard b) (lines : Lin
   passes (entry.Message c bus why part parts addr reading bytes heard x) past steps p m marked = λ g among same.
       let may = steps.0.2 in
       let there : IsAmongHops g (hops b (job_bus may.0)) = subst (λ (s : ℕ). IsAmongHops g (hops b s)) may.3.on_bus among in
-      let selected : ((now b asks past).slot g.on).slot ≡ Selected g = ((sends past steps.1 c may.0 may.1 may.2).reached g there).0 in
+      let selected : ((now b asks past).slot g.on).slot ≡ Clean = ((sends past steps.1 c may.0 may.1 may.2).reached g there).0.clean in
       let f : None ≡ Some m = sym (ap mark_in selected) ∙ ap (λ (q : ℕ). mark b asks past q) same ∙ marked in cc
 
   pub passes-until : (e : Entry) (later past : List Entry) → IsStepwise b callers asks (e ∷ (later ++ past)) → (p m : ℕ) → mark b asks past p ≡ Some m → NoneCloses b asks p m later past

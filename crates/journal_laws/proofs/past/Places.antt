@@ -1,20 +1,21 @@
 -- The fold over a past has each reading of a place: what a caller's walk has left, and the mark of each bus. The induction
 -- goes over the entries.
-use Rattle.std.proofs.Common.{◌≡◌, ℕ, Bool, true, false, cond, eqb, List, [], ◌∷◌, Option, Some, None, refl, sym, ◌∙◌, ap, inl, inr}
+use Rattle.std.proofs.Common.{◌≡◌, ℕ, zero, suc, Bool, true, false, cond, eqb, List, [], ◌∷◌, Option, Some, None, refl, sym, ◌∙◌, ap, inl, inr}
 use Rattle.std.proofs.lemmas.Bool.Decides.{eqb_tells}
 use Rattle.i2c_base.specs.declared.entry.End.{End}
 use Rattle.i2c_base.specs.declared.entry.End.TheVariants as end
 use Rattle.i2c_base.specs.declared.entry.Entry.{Entry}
 use Rattle.i2c_base.specs.declared.entry.Entry.TheVariants as entry
 use Rattle.i2c_base.specs.Board.{BoardView}
+use Rattle.i2c_spec.specs.Tree.{Hop}
 use Rattle.i2c_spec.specs.History.{Asks, changed_at}
 use Rattle.bus_spec.specs.Walk.{Mark, Job, Call, Select, Clear, Act, Take, Free, Send, Shift, Settle, ActOutcome, Passed, Sent, Lined, Note, WalkTree}
-use Rattle.bus_spec.specs.Slots.{Slots, MuxSlot, Clean, Selected, Marked, mark_in, set_marks, select_slot, with_slot, after_job}
+use Rattle.bus_spec.specs.Slots.{Slots, At, MuxSlot, Clean, Marked, mark_in, set_marks, polled_slot, select_told, turned_at, turned, after_job}
 use Rattle.bus_spec.specs.Grammar.{first_act, first_note, rest_of}
 use Rattle.bus_spec.specs.Readings.{caller_of}
 use Rattle.bus_spec.specs.Past.{Now, now, current, mark, sent_by, lined_by}
 use Rattle.bus_spec.specs.Places.{walk_left, mark_among, mark_after, mark_sent, mark_lined, mark_by, mark_left, is_cut}
-use Rattle.bus_laws.proofs.past.Marks.{select_unmarked}
+use Rattle.bus_laws.proofs.past.Marks.{poll_unmarked}
 
 -- a caller's walk
 pub walk-left : (b : BoardView) (asks : Asks) (past : List Entry) (c : ℕ) → (now b asks past).walk c ≡ walk_left b asks past c
@@ -42,42 +43,50 @@ walk-left b asks (e ∷ past) c = by e (walk-left b asks past c)
     by (entry.Message d bus why part parts addr reading bytes heard e2) before = turned d (Sent e2 bytes) before
 
 -- what a slot says where it is written
-written : (v : Slots) (on p : ℕ) (s : MuxSlot) (m : Option ℕ) → mark_in s ≡ m → mark_in (with_slot v on s p).slot ≡ cond (eqb p on) m (mark_in (v p).slot)
-written v on p s m told =
+written : (v : Slots) (on p : ℕ) (x : At) (m : Option ℕ) → mark_in x.slot ≡ m → mark_in (changed_at v on x p).slot ≡ cond (eqb p on) m (mark_in (v p).slot)
+written v on p x m told =
     elim (eqb_tells p on) [
-      | inl h ↦ ap (λ (t : Bool). mark_in (cond t (record { slot = s }) (v p)).slot) h.0 ∙ told ∙ sym (ap (λ (t : Bool). cond t m (mark_in (v p).slot)) h.0)
-      | inr h ↦ ap (λ (t : Bool). mark_in (cond t (record { slot = s }) (v p)).slot) h.0 ∙ sym (ap (λ (t : Bool). cond t m (mark_in (v p).slot)) h.0)
+      | inl h ↦ ap (λ (t : Bool). mark_in (cond t x (v p)).slot) h.0 ∙ told ∙ sym (ap (λ (t : Bool). cond t m (mark_in (v p).slot)) h.0)
+      | inr h ↦ ap (λ (t : Bool). mark_in (cond t x (v p)).slot) h.0 ∙ sym (ap (λ (t : Bool). cond t m (mark_in (v p).slot)) h.0)
     ]
 
 marked_among : (ms : List Mark) (v : Slots) (p : ℕ) → mark_in (set_marks ms v p).slot ≡ mark_among ms p (mark_in (v p).slot)
 marked_among [] v p = refl
 marked_among (m ∷ ms) v p =
-    written (set_marks ms v) m.on p (Marked m.mux) (Some m.mux) refl ∙ ap (λ (o : Option ℕ). cond (eqb p m.on) (Some m.mux) o) (marked_among ms v p)
+    written (set_marks ms v) m.on p (turned_at (v m.on) m.mux (Marked m.mux) None) (Some m.mux) refl ∙ ap (λ (o : Option ℕ). cond (eqb p m.on) (Some m.mux) o) (marked_among ms v p)
+
+-- a mux turned
+turned_mark : (v : Slots) (on mux p : ℕ) (s : MuxSlot) (c : Option ℕ) → mark_in s ≡ None → mark_in (turned v on mux s c p).slot ≡ cond (eqb p on) None (mark_in (v p).slot)
+turned_mark v on mux p s c none = written v on p (turned_at (v on) mux s c) None none
+
+selected_mark : (h : Hop) (left : ℕ) (bytes : List ℕ) (v : Slots) (p : ℕ) → mark_in (select_told h left bytes v p).slot ≡ cond (eqb p h.on) None (mark_in (v p).slot)
+selected_mark h zero bytes v p = turned_mark v h.on h.mux p Clean (Some h.channel) refl
+selected_mark h (suc left) bytes v p = turned_mark v h.on h.mux p (polled_slot h left bytes) None (poll_unmarked h left bytes)
 
 -- a message, and a line step
 sent_mark : (job : Job) (left : ℕ) (marks : List Mark) (e : End) (bytes : List ℕ) (v : Slots) (p : ℕ)
     → mark_in (after_job job left marks (Sent e bytes) v p).slot ≡ mark_after job marks (is_cut e) p (mark_in (v p).slot)
 sent_mark (Call bus ms) left marks e bytes v p = refl
-sent_mark (Select h) left marks end.Ok bytes v p = written v h.on p (select_slot h left bytes) None (select_unmarked h left bytes)
-sent_mark (Select h) left marks end.Nack bytes v p = written v h.on p Clean None refl
-sent_mark (Select h) left marks end.Slow bytes v p = written v h.on p Clean None refl
-sent_mark (Select h) left marks end.Refused bytes v p = written v h.on p Clean None refl
-sent_mark (Select h) left marks end.Proto bytes v p = written v h.on p Clean None refl
+sent_mark (Select h) left marks end.Ok bytes v p = selected_mark h left bytes v p
+sent_mark (Select h) left marks end.Nack bytes v p = turned_mark v h.on h.mux p Clean None refl
+sent_mark (Select h) left marks end.Slow bytes v p = turned_mark v h.on h.mux p Clean None refl
+sent_mark (Select h) left marks end.Refused bytes v p = turned_mark v h.on h.mux p Clean None refl
+sent_mark (Select h) left marks end.Proto bytes v p = turned_mark v h.on h.mux p Clean None refl
 sent_mark (Select h) left marks (end.Cut q) bytes v p = marked_among marks v p
-sent_mark (Clear on m kind) left marks end.Ok bytes v p = written v on p Clean None refl
-sent_mark (Clear on m kind) left marks end.Nack bytes v p = written v on p Clean None refl
-sent_mark (Clear on m kind) left marks end.Slow bytes v p = written v on p Clean None refl
-sent_mark (Clear on m kind) left marks end.Refused bytes v p = written v on p Clean None refl
-sent_mark (Clear on m kind) left marks end.Proto bytes v p = written v on p Clean None refl
+sent_mark (Clear on m kind) left marks end.Ok bytes v p = turned_mark v on m p Clean None refl
+sent_mark (Clear on m kind) left marks end.Nack bytes v p = turned_mark v on m p Clean None refl
+sent_mark (Clear on m kind) left marks end.Slow bytes v p = turned_mark v on m p Clean None refl
+sent_mark (Clear on m kind) left marks end.Refused bytes v p = turned_mark v on m p Clean None refl
+sent_mark (Clear on m kind) left marks end.Proto bytes v p = turned_mark v on m p Clean None refl
 sent_mark (Clear on m kind) left marks (end.Cut q) bytes v p = marked_among marks v p
 
 lined_mark : (job : Job) (marks : List Mark) (failed : Bool) (v : Slots) (p : ℕ)
     → mark_in (after_job job 0 marks (Lined failed) v p).slot ≡ mark_after job marks failed p (mark_in (v p).slot)
 lined_mark (Call bus ms) marks failed v p = refl
 lined_mark (Select h) marks true v p = marked_among marks v p
-lined_mark (Select h) marks false v p = written v h.on p (Selected h) None refl
+lined_mark (Select h) marks false v p = turned_mark v h.on h.mux p Clean (Some h.channel) refl
 lined_mark (Clear on m kind) marks true v p = marked_among marks v p
-lined_mark (Clear on m kind) marks false v p = written v on p Clean None refl
+lined_mark (Clear on m kind) marks false v p = turned_mark v on m p Clean None refl
 
 -- the mark of a bus
 module _ (b : BoardView) (n : Now) (c p : ℕ) (note : Note) where

@@ -6,10 +6,11 @@ use Rattle.i2c_base.specs.declared.ids.LockId.{LockId}
 use Rattle.i2c_base.specs.declared.errno.Errno.{Errno}
 use Rattle.i2c_base.specs.Board.{BoardView}
 use Rattle.i2c_spec.specs.Tree.{Hop, locks_of}
-use Rattle.bus_spec.specs.Walk.{Job, Select, Clear, Act, Take, Free, Send, Shift, Settle, ActOutcome, Passed, JobOutcome, Good, Refused, Unsent, Failed, Note, Ask, MarkOf, WalkTree, Ends, Look, Then, Go, On, Last, Over, goes, job_outcome, verdict_of, decides, is_line, more_of}
-use Rattle.bus_spec.specs.Grammar.{Doer, plain, settled, over, by_go, messages, at_bus, locked, part, with_mark, aside, if_sent, if_good, kind_of, closing, opened, chosen, behind, inner, full}
+use Rattle.bus_spec.specs.Walk.{Job, Select, Clear, Act, Take, Free, Send, Shift, Settle, ActOutcome, Passed, JobOutcome, Good, Refused, Unsent, Failed, Note, Ask, MarkOf, KeptOf, WalkTree, Ends, Look, Then, Go, On, Last, Over, goes, job_outcome, verdict_of, decides, is_line, more_of}
+use Rattle.bus_spec.specs.Grammar.{Doer, plain, settled, over, by_go, messages, at_bus, locked, part, with_mark, aside, if_sent, if_good, kind_of, closing, left_behind, opened, chosen, crossed, behind, inner, full}
+use Rattle.bus_spec.specs.Grammar as grammar
 use Rattle.journal_laws.specs.Paths.{Rule, PathStep, Saw, Did, IsPath, act_of, IsDoneBy}
-use Rattle.journal_laws.specs.WalkRule.{settle_where, IsJobEnd, next_by, next_message, NextOr, AreMessages, IsLineStep, AtBus, IsLocked, IsOpened, IfGood, IsChosen, IfSent, IsClosed, IsBehindMux, IsPart, IsInner, IsFull}
+use Rattle.journal_laws.specs.WalkRule.{settle_where, IsJobEnd, next_by, next_message, NextOr, AreMessages, IsLineStep, AtBus, IsLocked, IsLeft, IsOpened, IsCrossed, IsPassed, IfGood, IsChosen, IfSent, IsClosed, IsBehindMux, IsPart, IsInner, IsFull}
 
 pub path_append : (xs ys : List PathStep) (u v w : WalkTree) → IsPath xs u v → IsPath ys v w → IsPath (xs ++ ys) u w
 path_append [] ys u v w p q = subst (λ (x : WalkTree). IsPath ys x w) (sym p) q
@@ -317,25 +318,36 @@ module _ (on : Doer) (rule : Rule) (keeps : Keeps on rule) where
       )
 
   -- THE PARTS of a job behind a mux
+  splits-left : (stays : Bool) (h : Hop) (o : JobOutcome) (k : JobOutcome → WalkTree) (steps : List PathStep) → IsPath steps (left_behind stays h on k o) Ends
+      → (done : List PathStep) × (rest : List PathStep) × (steps ≡ done ++ rest) × IsLeft stays h rule done × IsPath rest (k o) Ends
+  splits-left true h o k steps path = ([], steps, refl, refl, path)
+  splits-left false h o k steps path =
+      let t = keeps.splits (Clear h.on h.mux h.kind) (aside h) (λ x. k o) steps path in
+      (t.done, t.rest, t.all, (t.out, t.kept), t.goes_on)
+
+  leads-left : (stays : Bool) (h : Hop) (o : JobOutcome) (steps : List PathStep) → IsLeft stays h rule steps → (k : JobOutcome → WalkTree) → IsPath steps (left_behind stays h on k o) (k o)
+  leads-left true h o steps kept k = subst (λ (xs : List PathStep). IsPath xs (k o) (k o)) (sym kept) refl
+  leads-left false h o steps kept k = keeps.leads (Clear h.on h.mux h.kind) (aside h) steps kept.0 kept.1 (λ x. k o)
+
   splits-opened : (h : Hop) (job : Job) (note : Note) → Splits (opened h on job note) (IsOpened h rule job note.forward)
   splits-opened h job note k steps path =
-      let s = keeps.splits job note (λ out. on (Clear h.on h.mux h.kind) (aside h) (λ o. k out)) steps path in
-      let t = keeps.splits (Clear h.on h.mux h.kind) (aside h) (λ o. k s.out) s.rest s.goes_on in
+      let s = keeps.splits job note (left_behind h.stays h on k) steps path in
+      let t = splits-left h.stays h s.out k s.rest s.goes_on in
       record {
         out = s.out;
-        done = s.done ++ t.done;
-        rest = t.rest;
-        all = s.all ∙ ap (λ (xs : List PathStep). s.done ++ xs) t.all ∙ sym (append_assoc s.done t.done t.rest);
-        kept = record { done = s.done; deselected = t.done; last = t.out; all = refl; job_done = s.kept; deselect_done = t.kept };
-        goes_on = t.goes_on;
+        done = s.done ++ t.0;
+        rest = t.1;
+        all = s.all ∙ ap (λ (xs : List PathStep). s.done ++ xs) t.2 ∙ sym (append_assoc s.done t.0 t.1);
+        kept = record { done = s.done; deselected = t.0; all = refl; job_done = s.kept; left = t.3 };
+        goes_on = t.4;
       }
 
   leads-opened : (h : Hop) (job : Job) (note : Note) → Leads (opened h on job note) (IsOpened h rule job note.forward)
   leads-opened h job note steps out kept k =
       subst (λ (xs : List PathStep). IsPath xs (opened h on job note k) (k out)) (sym kept.all)
-      (path_append kept.done kept.deselected (opened h on job note k) (on (Clear h.on h.mux h.kind) (aside h) (λ o. k out)) (k out)
-      (keeps.leads job note kept.done out kept.job_done (λ out. on (Clear h.on h.mux h.kind) (aside h) (λ o. k out)))
-      (keeps.leads (Clear h.on h.mux h.kind) (aside h) kept.deselected kept.last kept.deselect_done (λ o. k out)))
+      (path_append kept.done kept.deselected (opened h on job note k) (left_behind h.stays h on k out) (k out)
+      (keeps.leads job note kept.done out kept.job_done (left_behind h.stays h on k))
+      (leads-left h.stays h out kept.deselected kept.left k))
 
   splits-if_good : (o : JobOutcome) (A : Task) (P : List PathStep → JobOutcome → Type 0) → Splits A P → Splits (λ k. if_good o (A k) k) (λ rest out. IfGood o (P rest out) rest out)
   splits-if_good Good A P a = a
@@ -384,6 +396,39 @@ module _ (on : Doer) (rule : Rule) (keeps : Keeps on rule) where
       (keeps.leads (Select h) (with_mark h.on h.mux note) kept.selected kept.came kept.select_done (λ o. if_good o (opened h on job note k) k))
       (leads-if_good kept.came (opened h on job note) (IsOpened h rule job note.forward) (leads-opened h job note) kept.rest out kept.goes_on k))
 
+  -- the second look
+  splits-crossed : (h : Hop) (m : Option ℕ) (job : Job) (note : Note) → Splits (λ k. crossed h on job note k m) (IsCrossed h rule m job note.forward)
+  splits-crossed h m job note =
+      splits-if (grammar.keeps h m) (opened h on job note) (chosen h on job note) (IsOpened h rule job note.forward) (IsChosen h rule job note.forward)
+      (splits-opened h job note) (splits-chosen h job note)
+
+  leads-crossed : (h : Hop) (m : Option ℕ) (job : Job) (note : Note) → Leads (λ k. crossed h on job note k m) (IsCrossed h rule m job note.forward)
+  leads-crossed h m job note =
+      leads-if (grammar.keeps h m) (opened h on job note) (chosen h on job note) (IsOpened h rule job note.forward) (IsChosen h rule job note.forward)
+      (leads-opened h job note) (leads-chosen h job note)
+
+  abbrev passing : Hop → Job → Note → Task
+  passing h job note k = Look (KeptOf h.on h.mux) (crossed h on job note k)
+
+  splits-passed : (h : Hop) (job : Job) (note : Note) → Splits (passing h job note) (IsPassed h rule job note.forward)
+  splits-passed h job note k [] path = absurd (let f : passing h job note k ≡ Ends = path in cc)
+  splits-passed h job note k (Did a o ∷ steps) path = absurd path
+  splits-passed h job note k (Saw ask m ∷ steps) path =
+      let s = splits-crossed h m job note k steps path.1 in
+      record {
+        out = s.out;
+        done = Saw ask m ∷ s.done;
+        rest = s.rest;
+        all = ap (λ (xs : List PathStep). Saw ask m ∷ xs) s.all;
+        kept = record { kept = m; rest = s.done; all = ap (λ (x : Ask). Saw x m ∷ s.done) path.0; crossed = s.kept };
+        goes_on = s.goes_on;
+      }
+
+  leads-passed : (h : Hop) (job : Job) (note : Note) → Leads (passing h job note) (IsPassed h rule job note.forward)
+  leads-passed h job note steps out kept k =
+      subst (λ (xs : List PathStep). IsPath xs (passing h job note k) (k out)) (sym kept.all)
+      (refl, leads-crossed h kept.kept job note kept.rest out kept.crossed k)
+
   module _ (b : BoardView) (h : Hop) (job : Job) (note : Note) where
     -- what comes behind the look for a mark
     record ClosedThen (mark : Option ℕ) (steps : List PathStep) (out : JobOutcome) : Type 0 where
@@ -392,11 +437,11 @@ module _ (on : Doer) (rule : Rule) (keeps : Keeps on rule) where
       pub came : JobOutcome
       pub all : steps ≡ closed ++ rest
       pub close_done : IsClosed b h rule note.forward mark closed came
-      pub goes_on : IfSent came (IsChosen h rule job note.forward rest out) rest out
+      pub goes_on : IfSent came (IsPassed h rule job note.forward rest out) rest out
 
-    splits-closing : (mark : Option ℕ) → Splits (λ k. closing b h on note k (chosen h on job note k) mark) (ClosedThen mark)
+    splits-closing : (mark : Option ℕ) → Splits (λ k. closing b h on note k (passing h job note k) mark) (ClosedThen mark)
     splits-closing None k steps path =
-        let s = splits-chosen h job note k steps path in
+        let s = splits-passed h job note k steps path in
         record {
           out = s.out;
           done = s.done;
@@ -406,8 +451,8 @@ module _ (on : Doer) (rule : Rule) (keeps : Keeps on rule) where
           goes_on = s.goes_on;
         }
     splits-closing (Some m) k steps path =
-        let s = keeps.splits (Clear h.on m (kind_of b m)) (with_mark h.on m note) (λ o. if_sent o (chosen h on job note k) k) steps path in
-        let t = splits-if_sent s.out (chosen h on job note) (IsChosen h rule job note.forward) (splits-chosen h job note) k s.rest s.goes_on in
+        let s = keeps.splits (Clear h.on m (kind_of b m)) (with_mark h.on m note) (λ o. if_sent o (passing h job note k) k) steps path in
+        let t = splits-if_sent s.out (passing h job note) (IsPassed h rule job note.forward) (splits-passed h job note) k s.rest s.goes_on in
         record {
           out = t.out;
           done = s.done ++ t.done;
@@ -417,17 +462,17 @@ module _ (on : Doer) (rule : Rule) (keeps : Keeps on rule) where
           goes_on = t.goes_on;
         }
 
-    leads-closing : (mark : Option ℕ) → Leads (λ k. closing b h on note k (chosen h on job note k) mark) (ClosedThen mark)
+    leads-closing : (mark : Option ℕ) → Leads (λ k. closing b h on note k (passing h job note k) mark) (ClosedThen mark)
     leads-closing None steps out kept k =
-        subst (λ (xs : List PathStep). IsPath xs (chosen h on job note k) (k out))
+        subst (λ (xs : List PathStep). IsPath xs (passing h job note k) (k out))
         (sym (kept.all ∙ ap (λ (xs : List PathStep). xs ++ kept.rest) kept.close_done.0))
-        (leads-chosen h job note kept.rest out
-        (subst (λ (o : JobOutcome). IfSent o (IsChosen h rule job note.forward kept.rest out) kept.rest out) kept.close_done.1 kept.goes_on) k)
+        (leads-passed h job note kept.rest out
+        (subst (λ (o : JobOutcome). IfSent o (IsPassed h rule job note.forward kept.rest out) kept.rest out) kept.close_done.1 kept.goes_on) k)
     leads-closing (Some m) steps out kept k =
-        subst (λ (xs : List PathStep). IsPath xs (closing b h on note k (chosen h on job note k) (Some m)) (k out)) (sym kept.all)
-        (path_append kept.closed kept.rest (closing b h on note k (chosen h on job note k) (Some m)) (if_sent kept.came (chosen h on job note k) k) (k out)
-        (keeps.leads (Clear h.on m (kind_of b m)) (with_mark h.on m note) kept.closed kept.came kept.close_done (λ o. if_sent o (chosen h on job note k) k))
-        (leads-if_sent kept.came (chosen h on job note) (IsChosen h rule job note.forward) (leads-chosen h job note) kept.rest out kept.goes_on k))
+        subst (λ (xs : List PathStep). IsPath xs (closing b h on note k (passing h job note k) (Some m)) (k out)) (sym kept.all)
+        (path_append kept.closed kept.rest (closing b h on note k (passing h job note k) (Some m)) (if_sent kept.came (passing h job note k) k) (k out)
+        (keeps.leads (Clear h.on m (kind_of b m)) (with_mark h.on m note) kept.closed kept.came kept.close_done (λ o. if_sent o (passing h job note k) k))
+        (leads-if_sent kept.came (passing h job note) (IsPassed h rule job note.forward) (leads-passed h job note) kept.rest out kept.goes_on k))
 
     splits-behind : Splits (behind b h on job note) (IsBehindMux b h rule job note.forward)
     splits-behind k [] path = absurd (let f : behind b h on job note k ≡ Ends = path in cc)

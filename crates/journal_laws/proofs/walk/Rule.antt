@@ -10,8 +10,8 @@ use Rattle.i2c_base.specs.Transfer.{TransferView}
 use Rattle.i2c_spec.specs.Tree.{hops, root_of}
 use Rattle.i2c_spec.specs.Messages.{messages_of}
 use Rattle.i2c_spec.specs.Flat.{refusal}
-use Rattle.bus_spec.specs.Walk.{Call, Act, Settle, ActOutcome, Note, MarkOf, WalkTree, Ends, Look, Then}
-use Rattle.bus_spec.specs.Slots.{mark_in}
+use Rattle.bus_spec.specs.Walk.{Call, Act, Settle, ActOutcome, Note, WalkTree, Ends, Look, Then}
+use Rattle.bus_spec.specs.Slots.{answer_to}
 use Rattle.bus_spec.specs.Grammar.{plain, walk_by, walk_for, seen, first_act, rest_of}
 use Rattle.bus_spec.specs.Past.{Now, is_due}
 use Rattle.bus_spec.specs.Places.{outcome_of}
@@ -99,10 +99,10 @@ Told b steps w left = (ps : List PathStep) × IsPath ps w left × AreTold b ps s
 first_told : (b : BoardView) (s : Step) (steps : List Step) (left w : WalkTree) → Tells b s.before (seen s.before.slot w) s.entry
     → Told b steps (rest_of (seen s.before.slot w) (outcome_of s.entry)) left → Told b (s ∷ steps) w left
 first_told b s steps left Ends tells more = absurd (tells_none b s.before s.entry tells)
-first_told b s steps left (Look (MarkOf p) next) tells more =
-    let m : Option ℕ = mark_in (s.before.slot p).slot in
+first_told b s steps left (Look ask next) tells more =
+    let m : Option ℕ = answer_to s.before.slot ask in
     let t = first_told b s steps left (next m) tells more in
-    (Saw (MarkOf p) m ∷ t.0, (refl, t.1), (refl, t.2))
+    (Saw ask m ∷ t.0, (refl, t.1), (refl, t.2))
 first_told b s steps left (Then act note next) tells more =
     (Did act (outcome_of s.entry) ∷ more.0, (refl, more.1), (tells_act b s.before act note next s.entry tells, refl, more.2))
 
@@ -113,10 +113,10 @@ leads-told b (s ∷ steps) w left leads =
 
 told-leads : (b : BoardView) (ps : List PathStep) (steps : List Step) (w left : WalkTree) → IsPath ps w left → AreTold b ps steps → Leads b w steps left
 told-leads b [] steps w left path told = subst (λ (ss : List Step). Leads b w ss left) (sym told) (sym path)
-told-leads b (Saw (MarkOf p) m ∷ ps) [] w left path told = absurd told
-told-leads b (Saw (MarkOf p) m ∷ ps) (s ∷ steps) Ends left path told = absurd path
-told-leads b (Saw (MarkOf p) m ∷ ps) (s ∷ steps) (Then act note next) left path told = absurd path
-told-leads b (Saw (MarkOf p) m ∷ ps) (s ∷ steps) (Look ask next) left path told =
+told-leads b (Saw asked m ∷ ps) [] w left path told = absurd told
+told-leads b (Saw asked m ∷ ps) (s ∷ steps) Ends left path told = absurd path
+told-leads b (Saw asked m ∷ ps) (s ∷ steps) (Then act note next) left path told = absurd path
+told-leads b (Saw asked m ∷ ps) (s ∷ steps) (Look ask next) left path told =
     subst (λ (a : _). Leads b (Look a next) (s ∷ steps) left) path.0
     (subst (λ (x : Option ℕ). Leads b (next x) (s ∷ steps) left) told.0 (told-leads b ps (s ∷ steps) (next m) left path.1 told.1))
 told-leads b (Did act out ∷ ps) [] w left path told = absurd told

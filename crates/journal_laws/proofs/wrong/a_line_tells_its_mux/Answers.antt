@@ -1,4 +1,4 @@
-use Rattle.std.proofs.Common.{◌≡◌, ℕ, true, [], Option, Some, ap, arith}
+use Rattle.std.proofs.Common.{false, ◌≡◌, ℕ, true, [], Option, Some, ap, arith}
 use Rattle.i2c_base.specs.declared.board.MuxKind.TheVariants.{Gpio}
 use Rattle.bus_spec.specs.Rows as row
 use Rattle.bus_spec.specs.Walk.{Act, Select, Shift}
@@ -9,7 +9,7 @@ use Rattle.journal_laws.proofs.wrong.a_line_tells_its_mux.Goals as goal
 
 -- the line step that comes next
 abbrev shifts : Option Act
-shifts = Some (Shift (Select (record { bus = 2; mux = 0; channel = 1; on = 0; parent = true; kind = Gpio })))
+shifts = Some (Shift (Select (record { bus = 2; mux = 0; channel = 1; on = 0; parent = true; stays = false; kind = Gpio })))
 
 pub returns : goal.returns
 returns c =
