@@ -27,6 +27,7 @@ use Rattle.bus_core.proofs.Kept.{place-here}
 use Rattle.bus_core.proofs.Locks.{same_seat}
 use Rattle.bus_laws.proofs.past.StandsFacts.{over_ends}
 use Rattle.i2c_base.proofs.ListLemmas.{there, map_from}
+use Rattle.core_laws.specs.Spots.{seen_of}
 
 -- an answer that isn't Stepped
 pub waits-by : (P : Type 0) (r : StepAnswer) → (r ≡ answer.Stepped → ⊥) → ((l : LockId) (h : ℕ) → r ≡ answer.Blocked l h → P) → (r ≡ answer.Finished → P) → P
@@ -55,7 +56,7 @@ module _ {P C S : Type 0} (g : PortGhosts P) (c : CallerGhosts C S) (x : CorePar
       let same : from.0 ≡ s = same_seat x.seats.items place from.0 s from.1 here in
       ap (λ (y : Seat C). y.number) (sym same) ∙ ap (λ (y : ℕ × S). y.0) from.2
 
-  pub stuck-by : (s : Seat C) → slice_get x.seats.items place ≡ Some s → IsHeldUp (holder_in x.locks) (slots_of x.locks.marks) (walk_left x.board.now s) → IsTrue g.tells
+  pub stuck-by : (s : Seat C) → slice_get x.seats.items place ≡ Some s → IsHeldUp (holder_in x.locks) (slots_of (seen_of x.locks)) (walk_left x.board.now s) → IsTrue g.tells
       → IsStuck x.board.now (asks_in c x) (reverse x.journal.entries) caller
   stuck-by s here up tell =
       subst (λ (n : ℕ). IsStuck x.board.now (asks_in c x) (reverse x.journal.entries) n) (numbered s here)

@@ -32,18 +32,19 @@ use Rattle.mux_plan.proofs.Dues.{tells-after, on-after}
 use Rattle.i2c_spec.proofs.MessageLemmas.{length-messages}
 use Rattle.mux_plan.specs.declared.marks.Due.{Due}
 use Rattle.mux_plan.specs.Marks.{applied, IsSwitchedOn, MayMark, AreOn}
-use Rattle.mux_plan.specs.Plans.{slots_of}
+use Rattle.mux_plan.specs.Plans.{SeenView, slots_of}
 use Rattle.seg_locks.specs.Locks.{LocksView, holder_in, IsLockIn}
 use Rattle.core_laws.specs.Core.{Place, Run, Whole, IsSent, IsGoing, has_reply}
 use Rattle.core_laws.specs.Owed.{message_most}
 use Rattle.core_laws.specs.Sends.{Sending, IsMessageOf, message_for}
-use Rattle.core_laws.specs.Spots.{Socket}
+use Rattle.core_laws.specs.Spots.{seen_of, Socket}
+use Rattle.core_laws.specs.Wants.{WantsIn}
 use Rattle.core_laws.specs.Steps.{next_of, AreMarked, KeepsPort}
 use Rattle.core_laws.proofs.Core.{lone_act, not_over, locks-here, owes-here, going-on, stands-here}
 use Rattle.core_laws.proofs.CoreSteps.{none_owed}
-use Rattle.core_laws.proofs.Laws.{send-root, send-most, send-last, send-wants, call-wants, held-wants, port-start, log-message, bytes-message, room-one}
+use Rattle.core_laws.proofs.Laws.{kept-after, length-applied_kept, send-root, send-most, send-last, send-wants, call-wants, held-wants, port-start, log-message, bytes-message, room-one}
 use Rattle.bus_core.specs.Kept.{roots_of, IsSeated, run_of, whole_of, IsKept}
-use Rattle.bus_core.specs.Marks.{AreHeld}
+use Rattle.bus_core.specs.Marks.{AreHeld, words_after}
 use Rattle.bus_core.specs.Places.{walk_left, got_by, place_of}
 use Rattle.bus_core.specs.declared.replies.Decided.{Decided}
 use Rattle.bus_core.specs.Seats.{MaySpeak, HasSpoken, MayHear, dues_of}
@@ -87,10 +88,10 @@ module _ (v : LocksView) (c : ℕ) (ls : List LockId) (own : (l : LockId) → In
   marks-on b [] all = tt
   marks-on b (m ∷ ms) all = (on-held m.on all.0.0, marks-on b ms all.1)
 
-  pub switched-on : (job : Job) → OwnHeld job ls → IsSwitchedOn (holds_mux v c) job
-  switched-on (Call bus ms) h = tt
-  switched-on (Select h) among = on-held h.on among
-  switched-on (Clear on mux kind) among = on-held on among
+  pub switched-on : (b : BoardView) (job : Job) → OwnHeld b job ls → IsSwitchedOn (holds_mux v c) job
+  switched-on b (Call bus ms) h = tt
+  switched-on b (Select h) own = on-held h.on own.0
+  switched-on b (Clear on mux kind) own = on-held on own.0
 
 -- a message of the caller's own is one of a call
 is_call : (job : Job) → job_purpose job ≡ purpose.Call → (bus : ℕ) × (ms : List MessageView) × (job ≡ Call bus ms)
@@ -130,12 +131,12 @@ module _ {P C S : Type 0} (g : PortGhosts P) (c : CallerGhosts C S) (x : CorePar
 
   module _ (job : Job) (more : ℕ) (next : Sending) (first : next_of x.locks (walk_left b s) ≡ Some (Send job more)) (of : IsMessageOf job more next) where
     pub goes : is_over (walk_left b s) ≡ false
-    goes = not_over (slots_of x.locks.marks) (walk_left b s) (Send job more) first
+    goes = not_over (slots_of (seen_of x.locks)) (walk_left b s) (Send job more) first
 
     pub on-bus : s.transfer.bus < buses b
     on-bus = elim (its.there goes) [
       | inl low ↦ low
-      | inr lone ↦ absurd (let l = lone_act b (slots_of x.locks.marks) (walk_left b s) lone (Send job more) first in let f : Send job more ≡ Settle l.0 = l.1 in cc)
+      | inr lone ↦ absurd (let l = lone_act b (slots_of (seen_of x.locks)) (walk_left b s) lone (Send job more) first in let f : Send job more ≡ Settle l.0 = l.1 in cc)
     ]
 
     job-of : IsJobOf b s.transfer job
@@ -185,8 +186,8 @@ module _ {P C S : Type 0} (g : PortGhosts P) (c : CallerGhosts C S) (x : CorePar
       pub message-bytes : length bytes ≤ x.journal.room_bytes
       message-bytes = bytes-message run whole kept.kept place p at job more first bytes few
 
-      abbrev pub marks2 : List (Option ℕ)
-      marks2 = applied (dues_of b x.locks (walk.Sent sent.end bytes) s) x.locks.marks
+      abbrev pub words2 : SeenView
+      words2 = words_after (dues_of b x.locks (walk.Sent sent.end bytes) s) (seen_of x.locks)
 
       keeps : KeepsPort b g.tells job more bytes sent.end spoken.before spoken.after
       keeps =
@@ -201,13 +202,18 @@ module _ {P C S : Type 0} (g : PortGhosts P) (c : CallerGhosts C S) (x : CorePar
             grows = λ tell. subst (λ (n : ℕ). length spoken.after.log ≤ length spoken.before.log + (n + 2)) (most sent.addr) (spoken.sent_on.spoke.grows tell);
           }
 
-      marked : AreMarked b p.tree x.locks (walk.Sent sent.end bytes) marks2
+      marked : AreMarked b p.tree x.locks (walk.Sent sent.end bytes) words2
       marked = record {
         all = length-applied (dues_of b x.locks (walk.Sent sent.end bytes) s) x.locks.marks ∙ kept.kept.table.marked;
-        marked = λ y told. tells-after (next_of x.locks p.tree) (first_note (seen (slots_of x.locks.marks) p.tree)) (walk.Sent sent.end bytes) y x.locks.marks told;
+        counted = length-applied_kept (dues_of b x.locks (walk.Sent sent.end bytes) s) x.locks.kept ∙ kept.kept.table.kept;
+        marked = λ y told. tells-after (next_of x.locks p.tree) (first_note (seen (slots_of (seen_of x.locks)) p.tree)) (walk.Sent sent.end bytes) y x.locks.marks told;
+        kept = λ y told.
+            kept-after b (locks-here run whole kept.kept place p at).0 (next_of x.locks p.tree) (first_note (seen (slots_of (seen_of x.locks)) p.tree)) (walk.Sent sent.end bytes)
+            (subst (λ (o : Option _). WantsIn b (locks-here run whole kept.kept place p at).0 o (first_note (seen (slots_of (seen_of x.locks)) p.tree))) (sym first) (send-wants run whole kept.kept place p at job more first))
+            y x.locks.kept kept.kept.table.kept told;
       }
 
-      pub is-sent : IsSent run whole p job more next s.port spoken.before spoken.after sent.addr sent.reading bytes sent.heard sent.end marks2
+      pub is-sent : IsSent run whole p job more next s.port spoken.before spoken.after sent.addr sent.reading bytes sent.heard sent.end words2
       is-sent = record {
         first = first;
         of = of;
@@ -225,9 +231,9 @@ module _ {P C S : Type 0} (g : PortGhosts P) (c : CallerGhosts C S) (x : CorePar
           let has = held-wants run whole kept.kept place p at own.0 own.1 in
           let sends = send-wants run whole kept.kept place p at job more first in
           dues-held x.locks s.number (dues_of b x.locks (walk.Sent sent.end bytes) s)
-          (on-after (holds_mux x.locks s.number) (next_of x.locks p.tree) (first_note (seen (slots_of x.locks.marks) p.tree)) (walk.Sent sent.end bytes)
-          (subst (λ (o : Option _). MayMark (holds_mux x.locks s.number) o (first_note (seen (slots_of x.locks.marks) p.tree))) (sym first)
-          (switched-on x.locks s.number own.0 has job sends.own, marks-on x.locks s.number own.0 has b (first_note (seen (slots_of x.locks.marks) p.tree)).marks sends.marked)))
+          (on-after (holds_mux x.locks s.number) (next_of x.locks p.tree) (first_note (seen (slots_of (seen_of x.locks)) p.tree)) (walk.Sent sent.end bytes)
+          (subst (λ (o : Option _). MayMark (holds_mux x.locks s.number) o (first_note (seen (slots_of (seen_of x.locks)) p.tree))) (sym first)
+          (switched-on x.locks s.number own.0 has b job sends.own, marks-on x.locks s.number own.0 has b (first_note (seen (slots_of (seen_of x.locks)) p.tree)).marks sends.marked)))
 
       -- what it read has room
       partway : has_reply p.owed ≡ false → FitsReads (take s.sent s.transfer.msgs) s.replies.got

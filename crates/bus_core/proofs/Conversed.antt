@@ -24,13 +24,13 @@ use Rattle.bus_spec.specs.Walk as walk
 use Rattle.bus_laws.proofs.walk.Next.{quiet-next}
 use Rattle.bus_message.specs.Sockets.{sockets_of}
 use Rattle.bus_message.specs.declared.sending.Sent.{Sent}
-use Rattle.mux_plan.specs.Plans.{slots_of}
+use Rattle.mux_plan.specs.Plans.{SeenView, slots_of}
 use Rattle.seg_locks.specs.Locks.{LocksView}
 use Rattle.core_laws.specs.Behind.{message_entry, spoken}
 use Rattle.core_laws.specs.Core.{Place, Run, Whole, has_reply}
 use Rattle.core_laws.specs.Seats.{IsLeft, IsDecided}
 use Rattle.core_laws.specs.Sends.{Sending, IsMessageOf, gone_after}
-use Rattle.core_laws.specs.Spots.{Socket}
+use Rattle.core_laws.specs.Spots.{turned_to, Socket}
 use Rattle.core_laws.specs.Steps.{next_of, behind_of}
 use Rattle.core_laws.proofs.Core.{locks-here, owes-here, not_over}
 use Rattle.core_laws.proofs.Laws.{stands-here, sent-leaves, core-message, core-settled, room-message, bytes-settle}
@@ -40,7 +40,7 @@ use Rattle.bus_core.specs.Seats.{HasSeat, Reseated, HasSpoken, HasHeard, MaySett
 use Rattle.bus_core.specs.declared.parts.CoreParts.{CoreParts}
 use Rattle.bus_core.specs.declared.seat.Seat.{Seat}
 use Rattle.bus_core.proofs.Kept.{fair, place-here, seated-here, kept-whole, stepped-one}
-use Rattle.bus_core.proofs.Converse.{goes, on-bus, calls, call-left, few, marks2, is-sent}
+use Rattle.bus_core.proofs.Converse.{goes, on-bus, calls, call-left, few, words2, is-sent}
 use Rattle.bus_core.proofs.Heard.{heard-place, heard-got, heard-seated, settle-first, settled-place, settled-seated}
 use Rattle.bus_core.proofs.Stepped.{roots-stay, seat-is, seat-now, set-at, set-set, stepped-two}
 use Rattle.i2c_base.specs.Need.{bytes_given}
@@ -67,11 +67,11 @@ module _ {P C S : Type 0} (g : PortGhosts P) (c : CallerGhosts C S) (x : CorePar
   abbrev n : ℕ
   n = (owes-here run whole kept.kept place p at).0
 
-  abbrev marks : List (Option ℕ)
-  marks = marks2 g c x kept place s here job more next first of sockets2 bytes sent said
+  abbrev words : SeenView
+  words = words2 g c x kept place s here job more next first of sockets2 bytes sent said
 
   abbrev pub locks2 : LocksView
-  locks2 = record x.locks { marks = marks }
+  locks2 = turned_to x.locks words
 
   abbrev behind : WalkTree
   behind = behind_of x.locks p.tree (walk.Sent sent.end bytes)
@@ -87,7 +87,7 @@ module _ {P C S : Type 0} (g : PortGhosts P) (c : CallerGhosts C S) (x : CorePar
 
   leaves : (IsLeft run.board p.transfer (has_reply p.owed) gone behind × (p.owed ≡ [] → FitsReads (take gone p.transfer.msgs) got))
       ⊎ ((has_reply p.owed ≡ false) × (verdict : Option Errno) × IsDecided run.board p.transfer verdict behind × ((reply : Reply) → reply ≡ reply_by verdict (Some p.transfer) got → Fits p.transfer reply))
-  leaves = sent-leaves run whole kept.kept place p at job more next s.port said.before said.after sent.addr sent.reading bytes sent.heard sent.end marks
+  leaves = sent-leaves run whole kept.kept place p at job more next s.port said.before said.after sent.addr sent.reading bytes sent.heard sent.end words
       (is-sent g c x kept place s here job more next first of sockets2 bytes sent said)
 
   place-is : place_of c x.board.now t ≡ spoken whole p job next sent.reading bytes sent.end gone
@@ -104,7 +104,7 @@ module _ {P C S : Type 0} (g : PortGhosts P) (c : CallerGhosts C S) (x : CorePar
 
   -- the settle is none where the message decides nothing
   quiet : IsLeft run.board p.transfer (has_reply p.owed) gone behind → (verdict : Option Errno) → next_of locks2 (walk_left x.board.now t) ≡ Some (Settle verdict) → ⊥
-  quiet is verdict comes = quiet-next (slots_of marks) behind is.quiet verdict (subst (λ (w : WalkTree). next_of locks2 w ≡ Some (Settle verdict)) heard.walk comes)
+  quiet is verdict comes = quiet-next (slots_of words) behind is.quiet verdict (subst (λ (w : WalkTree). next_of locks2 w ≡ Some (Settle verdict)) heard.walk comes)
 
   module _ (j : JournalView) (entries : j.entries ≡ x.journal.entries ++ message_entry p next sent.addr sent.reading bytes sent.heard sent.end ∷ []) (room : j.room + 1 ≡ x.journal.room)
       (room_bytes : j.room_bytes + length bytes ≡ x.journal.room_bytes) where
@@ -139,7 +139,7 @@ module _ {P C S : Type 0} (g : PortGhosts P) (c : CallerGhosts C S) (x : CorePar
         where
           by : IsLeft run.board p.transfer (has_reply p.owed) gone behind → (p.owed ≡ [] → FitsReads (take gone p.transfer.msgs) got) → IsKept g c new × HasStepped g c place x new
           by left partway =
-              let core = core-message run (fair g c x kept) whole kept.kept place p ls n (stands-here run whole kept.kept place p at) j.room job more next s.port said.before said.after sent.addr sent.reading bytes sent.heard sent.end marks
+              let core = core-message run (fair g c x kept) whole kept.kept place p ls n (stands-here run whole kept.kept place p at) j.room job more next s.port said.before said.after sent.addr sent.reading bytes sent.heard sent.end words
               (is-sent g c x kept place s here job more next first of sockets2 bytes sent said) gone left partway (sym room) j.room_bytes (sym room_bytes) in
               let number : t.number ≡ s.number = ap (λ (y : Seat C). y.number) heard.same in
               let script : c.script t.caller ≡ c.script s.caller = ap (λ (y : Seat C). c.script y.caller) heard.same in
@@ -168,7 +168,7 @@ module _ {P C S : Type 0} (g : PortGhosts P) (c : CallerGhosts C S) (x : CorePar
               let message = message_entry p next sent.addr sent.reading bytes sent.heard sent.end in
               let settle = entry.Settle s.number reply (message_cut next.purpose next.part sent.end) in
               let rooms : x.journal.room ≡ new.journal.room + 2 = (let a = made.room in omega (arith, a, room)) in
-              let core = core-settled run (fair g c x kept) whole kept.kept place p ls n (stands-here run whole kept.kept place p at) new.journal.room job more next s.port said.before said.after sent.addr sent.reading bytes sent.heard sent.end marks
+              let core = core-settled run (fair g c x kept) whole kept.kept place p ls n (stands-here run whole kept.kept place p at) new.journal.room job more next s.port said.before said.after sent.addr sent.reading bytes sent.heard sent.end words
               (is-sent g c x kept place s here job more next first of sockets2 bytes sent said) gone due decides unsettled reply decided (fits reply decided) rooms new.journal.room_bytes
               (let a = made.room_bytes in omega (arith, a, room_bytes)) in
               let number : u.number ≡ s.number = ap (λ (y : Seat C). y.number) made.settled.same ∙ ap (λ (y : Seat C). y.number) heard.same in
@@ -176,7 +176,7 @@ module _ {P C S : Type 0} (g : PortGhosts P) (c : CallerGhosts C S) (x : CorePar
               let all : new.journal.entries ≡ x.journal.entries ++ message ∷ settle ∷ [] =
               made.entries ∙ ap (λ (ys : List Entry). ys ++ entry.Settle t.number reply t.cut ∷ []) entries ∙ append_assoc x.journal.entries (message ∷ []) (entry.Settle t.number reply t.cut ∷ [])
               ∙ ap (λ (y : Seat C). x.journal.entries ++ message ∷ entry.Settle y.number reply y.cut ∷ []) heard.same in
-              let seated2 = settled-seated c x.board.now locks2 (roots_of x.ports.items) verdict t u made.settled seated (not_over (slots_of marks) (walk_left x.board.now t) (Settle verdict) made.next)
+              let seated2 = settled-seated c x.board.now locks2 (roots_of x.ports.items) verdict t u made.settled seated (not_over (slots_of words) (walk_left x.board.now t) (Settle verdict) made.next)
               (subst (λ (y : Seat C). y.transfer.bus < buses x.board.now) (sym heard.same) (on-bus g c x kept place s here job more next first of)) in
               let place2 = settled-place c x.board.now locks2 (roots_of x.ports.items) verdict t u made.settled reply refl first2
               ∙ ap (λ (q : Place). record q { tree = rest_of q.tree Passed; owed = reply ∷ []; got = []; cut = cut_at.No }) place-is in (

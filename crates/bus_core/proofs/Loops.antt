@@ -46,6 +46,7 @@ use Rattle.bus_core.proofs.Locks.{same_seat}
 use Rattle.bus_laws.proofs.past.StandsFacts.{over_ends}
 use Rattle.i2c_base.proofs.ListLemmas.{there, map_from}
 use Rattle.i2c_base.proofs.ListLemmas.{map_at}
+use Rattle.core_laws.specs.Spots.{seen_of}
 
 -- who asks for nothing has a walk that is over
 pub silent-ends : (b : BoardView) (callers : ℕ) (asks : Asks) (c : ℕ) → ((rs : List Reply) → asks c rs ≡ None) → (past : List Entry) → IsStepwise b callers asks past
@@ -163,13 +164,13 @@ module _ {P C S : Type 0} (g : PortGhosts P) (c : CallerGhosts C S) (x : CorePar
     abbrev whole : Whole
     whole = whole_of g c x core.kept.held core.kept.owes
 
-    held-up : (i : ℕ) (w : WalkTree) → slice_get (trees_of whole.places) i ≡ Some w → IsHeldUp (holder_in x.locks) (slots_of x.locks.marks) w
+    held-up : (i : ℕ) (w : WalkTree) → slice_get (trees_of whole.places) i ≡ Some w → IsHeldUp (holder_in x.locks) (slots_of (seen_of x.locks)) w
     held-up i w at =
         let p = map_from (λ (y : Place). y.tree) whole.places i w at in
         let s = map_from (place_of c b) x.seats.items i p.0 p.1 in
         let its = up s.0.number i (core.placed.named i s.0.number (c.script s.0.caller) (map_at (script_of c) x.seats.items i s.0 s.1)) in
         let same : its.seat ≡ s.0 = same_seat x.seats.items i its.seat s.0 its.here s.1 in
-        subst (IsHeldUp (holder_in x.locks) (slots_of x.locks.marks)) (ap (walk_left b) same ∙ ap (λ (y : Place). y.tree) s.2 ∙ p.2) its.waits
+        subst (IsHeldUp (holder_in x.locks) (slots_of (seen_of x.locks))) (ap (walk_left b) same ∙ ap (λ (y : Place). y.tree) s.2 ∙ p.2) its.waits
 
     pub all-through : AllThrough c.asked g.tells (state_of g c x)
     all-through i n taken at =

@@ -183,7 +183,7 @@ module _ {P C S : Type 0} (p : PortGhosts P) (c : CallerGhosts C S) (x : CorePar
       let covers = may.covers in
       omega (arith, same, covers)
 
-  module _ (depths : List ℕ) (deep : AreDepths b depths) (locks : x.locks ≡ opened depths (length b.roots)) (blank : x.journal ≡ record { entries = []; room = limit; room_bytes = 2 * limit }) where
+  module _ (depths : List ℕ) (deep : AreDepths b depths) (locks : x.locks ≡ opened depths (length b.roots) (length b.muxes)) (blank : x.journal ≡ record { entries = []; room = limit; room_bytes = 2 * limit }) where
     is-opened : IsOpened run whole
     is-opened = record {
       nothing = ap (λ (j : JournalView). reverse j.entries) blank;

@@ -31,6 +31,7 @@ use Rattle.bus_core.specs.Seats.{WentOn, got_heard, HasHeard, HasSettled, HasEnd
 use Rattle.bus_core.specs.declared.replies.Decided.{Decided}
 use Rattle.bus_core.specs.declared.seat.Seat.{Seat}
 use Rattle.bus_core.proofs.There.{there-behind}
+use Rattle.core_laws.specs.Spots.{seen_of}
 
 -- a walk that goes on behind a step went on before it
 pub still_going : (v : Slots) (w : WalkTree) (out : ActOutcome) → is_over (rest_of (seen v w) out) ≡ false → is_over w ≡ false
@@ -90,11 +91,11 @@ module _ {C S : Type 0} (c : CallerGhosts C S) (b : BoardView) (v : LocksView) (
         counted = seated.counted ∙ ap (λ (x : CourseView). x.count) (sym course);
         wrote = wrote;
         within = within;
-        plugged = λ on bus. seated.plugged (still_going (slots_of v.marks) (walk_left b s) out (ap is_over (sym walk ∙ ap (walk_left b) same) ∙ on)) bus;
+        plugged = λ on bus. seated.plugged (still_going (slots_of (seen_of v)) (walk_left b s) out (ap is_over (sym walk ∙ ap (walk_left b) same) ∙ on)) bus;
         there = λ on.
             let tree = sym walk ∙ ap (walk_left b) same in
             subst (λ (w : WalkTree). (s.transfer.bus < buses b) ⊎ IsLone b w) tree
-            (there-behind b v s.transfer.bus (walk_left b s) out (seated.there (still_going (slots_of v.marks) (walk_left b s) out (ap is_over tree ∙ on))) (ap is_over tree ∙ on));
+            (there-behind b v s.transfer.bus (walk_left b s) out (seated.there (still_going (slots_of (seen_of v)) (walk_left b s) out (ap is_over tree ∙ on))) (ap is_over tree ∙ on));
         spare = seated.spare;
       }) wrote within
 

@@ -34,18 +34,19 @@ use Rattle.bus_laws.proofs.Laws.{next-line, quiet-next}
 use Rattle.bus_laws.proofs.past.Laws.{past-stands}
 use Rattle.bus_message.specs.Sockets.{sockets_of, MayShift, Shifted}
 use Rattle.mux_plan.proofs.Dues.{tells-after, on-after}
-use Rattle.mux_plan.specs.Marks.{applied, MayMark}
-use Rattle.mux_plan.specs.Plans.{slots_of}
+use Rattle.mux_plan.specs.Marks.{MayMark}
+use Rattle.mux_plan.specs.Plans.{SeenView, slots_of}
 use Rattle.seg_locks.specs.Locks.{LocksView}
 use Rattle.core_laws.specs.Behind.{line_entry, switched}
 use Rattle.core_laws.specs.Core.{Place, Run, Whole, IsShifted, has_reply}
 use Rattle.core_laws.specs.Seats.{IsLeft, IsDecided}
-use Rattle.core_laws.specs.Spots.{Socket}
+use Rattle.core_laws.specs.Spots.{seen_of, turned_to, Socket}
+use Rattle.core_laws.specs.Wants.{WantsIn}
 use Rattle.core_laws.specs.Steps.{next_of, behind_of, AreMarked}
 use Rattle.core_laws.proofs.Core.{lone_act, locks-here, owes-here, not_over}
-use Rattle.core_laws.proofs.Laws.{stands-here, lined-leaves, core-lined, core-line-settled, room-line, room-one, log-line, line-wants, shift-wants, shift-root, held-wants, next-same}
+use Rattle.core_laws.proofs.Laws.{kept-after, length-applied_kept, stands-here, lined-leaves, core-lined, core-line-settled, room-line, room-one, log-line, line-wants, shift-wants, shift-root, held-wants, next-same}
 use Rattle.bus_core.specs.Kept.{roots_of, IsSeated, run_of, whole_of, IsKept, HasStepped}
-use Rattle.bus_core.specs.Marks.{AreHeld}
+use Rattle.bus_core.specs.Marks.{AreHeld, words_after}
 use Rattle.bus_core.specs.Places.{walk_left, place_of}
 use Rattle.bus_core.specs.Seats.{HasSeat, Reseated, WentOn, MaySettle, IsSettledIn, dues_of, cut_of_line}
 use Rattle.bus_core.specs.declared.parts.CoreParts.{CoreParts}
@@ -97,12 +98,12 @@ module _ {P C S : Type 0} (g : PortGhosts P) (c : CallerGhosts C S) (x : CorePar
   its = seated-here g c x kept place s here
 
   goes : is_over (walk_left x.board.now s) ≡ false
-  goes = not_over (slots_of x.locks.marks) (walk_left x.board.now s) (Shift job) first
+  goes = not_over (slots_of (seen_of x.locks)) (walk_left x.board.now s) (Shift job) first
 
   on-bus : s.transfer.bus < buses x.board.now
   on-bus = elim (its.there goes) [
     | inl low ↦ low
-    | inr lone ↦ absurd (let l = lone_act x.board.now (slots_of x.locks.marks) (walk_left x.board.now s) lone (Shift job) first in let f : Shift job ≡ Settle l.0 = l.1 in cc)
+    | inr lone ↦ absurd (let l = lone_act x.board.now (slots_of (seen_of x.locks)) (walk_left x.board.now s) lone (Shift job) first in let f : Shift job ≡ Settle l.0 = l.1 in cc)
   ]
 
   job-of : IsJobOf x.board.now s.transfer job
@@ -146,15 +147,15 @@ module _ {P C S : Type 0} (g : PortGhosts P) (c : CallerGhosts C S) (x : CorePar
         let has = held-wants run whole kept.kept place p at own.0 own.1 in
         let sends = shift-wants run whole kept.kept place p at job first in
         dues-held x.locks s.number (dues_of x.board.now x.locks (Lined failed) s)
-        (on-after (holds_mux x.locks s.number) (next_of x.locks p.tree) (first_note (seen (slots_of x.locks.marks) p.tree)) (Lined failed)
-        (subst (λ (o : Option Act). MayMark (holds_mux x.locks s.number) o (first_note (seen (slots_of x.locks.marks) p.tree))) (sym first)
-        (switched-on x.locks s.number own.0 has job sends.own, marks-on x.locks s.number own.0 has x.board.now (first_note (seen (slots_of x.locks.marks) p.tree)).marks sends.marked)))
+        (on-after (holds_mux x.locks s.number) (next_of x.locks p.tree) (first_note (seen (slots_of (seen_of x.locks)) p.tree)) (Lined failed)
+        (subst (λ (o : Option Act). MayMark (holds_mux x.locks s.number) o (first_note (seen (slots_of (seen_of x.locks)) p.tree))) (sym first)
+        (switched-on x.locks s.number own.0 has x.board.now job sends.own, marks-on x.locks s.number own.0 has x.board.now (first_note (seen (slots_of (seen_of x.locks)) p.tree)).marks sends.marked)))
 
-    abbrev marks : List (Option ℕ)
-    marks = applied (dues_of x.board.now x.locks (Lined failed) s) x.locks.marks
+    abbrev words : SeenView
+    words = words_after (dues_of x.board.now x.locks (Lined failed) s) (seen_of x.locks)
 
     abbrev locks2 : LocksView
-    locks2 = record x.locks { marks = marks }
+    locks2 = turned_to x.locks words
 
     abbrev behind : WalkTree
     behind = behind_of x.locks p.tree (Lined failed)
@@ -170,7 +171,7 @@ module _ {P C S : Type 0} (g : PortGhosts P) (c : CallerGhosts C S) (x : CorePar
       seated = went-on-seated c x.board.now x.locks (roots_of x.ports.items) (Lined failed) (cut_of_line failed) s t went its goes on-bus
 
       quiet : IsLeft run.board p.transfer (has_reply p.owed) p.sent behind → (verdict : Option Errno) → next_of locks2 (walk_left x.board.now t) ≡ Some (Settle verdict) → ⊥
-      quiet is verdict comes = quiet-next (slots_of marks) behind is.quiet verdict (subst (λ (w : WalkTree). next_of locks2 w ≡ Some (Settle verdict)) went.walk comes)
+      quiet is verdict comes = quiet-next (slots_of words) behind is.quiet verdict (subst (λ (w : WalkTree). next_of locks2 w ≡ Some (Settle verdict)) went.walk comes)
 
       verdict-is : (err : Errno) → IsDecided run.board p.transfer (Some err) behind → (verdict : Option Errno) → next_of locks2 (walk_left x.board.now t) ≡ Some (Settle verdict) → verdict ≡ Some err
       verdict-is err decides verdict comes =
@@ -195,13 +196,18 @@ module _ {P C S : Type 0} (g : PortGhosts P) (c : CallerGhosts C S) (x : CorePar
           roots : roots_of new.ports.items ≡ roots_of x.ports.items
           roots = roots-stay g x.ports.items new.ports.items s.port old now port_here sockets shifted.root
 
-          marked : AreMarked x.board.now p.tree x.locks (Lined failed) marks
+          marked : AreMarked x.board.now p.tree x.locks (Lined failed) words
           marked = record {
             all = length-applied (dues_of x.board.now x.locks (Lined failed) s) x.locks.marks ∙ kept.kept.table.marked;
-            marked = λ y told. tells-after (next_of x.locks p.tree) (first_note (seen (slots_of x.locks.marks) p.tree)) (Lined failed) y x.locks.marks told;
+            counted = length-applied_kept (dues_of x.board.now x.locks (Lined failed) s) x.locks.kept ∙ kept.kept.table.kept;
+            marked = λ y told. tells-after (next_of x.locks p.tree) (first_note (seen (slots_of (seen_of x.locks)) p.tree)) (Lined failed) y x.locks.marks told;
+            kept = λ y told.
+                kept-after x.board.now (locks-here run whole kept.kept place p at).0 (next_of x.locks p.tree) (first_note (seen (slots_of (seen_of x.locks)) p.tree)) (Lined failed)
+                (subst (λ (o : Option Act). WantsIn x.board.now (locks-here run whole kept.kept place p at).0 o (first_note (seen (slots_of (seen_of x.locks)) p.tree))) (sym first) (shift-wants run whole kept.kept place p at job first))
+                y x.locks.kept kept.kept.table.kept told;
           }
 
-          is-shifted : IsShifted run whole p job s.port old now failed marks
+          is-shifted : IsShifted run whole p job s.port old now failed words
           is-shifted = record {
             first = first;
             port = port_here;
@@ -221,7 +227,7 @@ module _ {P C S : Type 0} (g : PortGhosts P) (c : CallerGhosts C S) (x : CorePar
             where
               by : IsLeft run.board p.transfer (has_reply p.owed) p.sent behind → IsKept g c new × HasStepped g c place x new
               by left =
-                  let core = core-lined run (fair g c x kept) whole kept.kept place p ls n (stands-here run whole kept.kept place p at) j.room job s.port old now failed marks is-shifted left (sym room) in
+                  let core = core-lined run (fair g c x kept) whole kept.kept place p ls n (stands-here run whole kept.kept place p at) j.room job s.port old now failed words is-shifted left (sym room) in
                   let number : t.number ≡ s.number = ap (λ (y : Seat C). y.number) went.same in
                   let script : c.script t.caller ≡ c.script s.caller = ap (λ (y : Seat C). c.script y.caller) went.same in
                   let all = ap (λ (y : JournalView). y.entries) journal ∙ entries in (
@@ -249,14 +255,14 @@ module _ {P C S : Type 0} (g : PortGhosts P) (c : CallerGhosts C S) (x : CorePar
                   let settle = entry.Settle s.number (answer.Err err) (cut_told (line_entry p job failed)) in
                   let rooms : x.journal.room ≡ new.journal.room + 2 = (let a = made.room in omega (arith, a, room)) in
                   let bytes : new.journal.room_bytes ≡ x.journal.room_bytes = (let a = made.room_bytes in omega (arith, a, zeros, room_bytes)) in
-                  let core = core-line-settled run (fair g c x kept) whole kept.kept place p ls n (stands-here run whole kept.kept place p at) new.journal.room job s.port old now failed marks is-shifted err decides unsettled rooms in
+                  let core = core-line-settled run (fair g c x kept) whole kept.kept place p ls n (stands-here run whole kept.kept place p at) new.journal.room job s.port old now failed words is-shifted err decides unsettled rooms in
                   let number : u.number ≡ s.number = ap (λ (y : Seat C). y.number) made.settled.same ∙ ap (λ (y : Seat C). y.number) went.same in
                   let script : c.script u.caller ≡ c.script s.caller = ap (λ (y : Seat C). c.script y.caller) made.settled.same ∙ ap (λ (y : Seat C). c.script y.caller) went.same in
                   let all : new.journal.entries ≡ x.journal.entries ++ line ∷ settle ∷ [] =
                   made.entries ∙ ap (λ (r : Reply). j.entries ++ entry.Settle t.number r t.cut ∷ []) reply
                   ∙ ap (λ (ys : List Entry). ys ++ entry.Settle t.number (answer.Err err) t.cut ∷ []) entries ∙ append_assoc x.journal.entries (line ∷ []) (entry.Settle t.number (answer.Err err) t.cut ∷ [])
                   ∙ ap (λ (y : Seat C). x.journal.entries ++ line ∷ entry.Settle y.number (answer.Err err) y.cut ∷ []) went.same in
-                  let seated2 = settled-seated c x.board.now locks2 (roots_of x.ports.items) verdict t u made.settled seated (not_over (slots_of marks) (walk_left x.board.now t) (Settle verdict) made.next)
+                  let seated2 = settled-seated c x.board.now locks2 (roots_of x.ports.items) verdict t u made.settled seated (not_over (slots_of words) (walk_left x.board.now t) (Settle verdict) made.next)
                   (subst (λ (y : Seat C). y.transfer.bus < buses x.board.now) (sym went.same) on-bus) in
                   let place2 = settled-place c x.board.now locks2 (roots_of x.ports.items) verdict t u made.settled (answer.Err err) reply first2
                   ∙ ap (λ (q : Place). record q { tree = rest_of q.tree Passed; owed = answer.Err err ∷ []; got = []; cut = cut_at.No }) place-is in (

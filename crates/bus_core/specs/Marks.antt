@@ -1,8 +1,10 @@
--- Marks that may be written.
+-- Marks and kept channels that may be written.
 use Rattle.std.specs.Prelude.{◌≡◌, ℕ, ◌<◌, List, length, Some}
 use Rattle.std.specs.List.{AllByRecursion}
 use Rattle.i2c_base.specs.declared.ids.LockId.TheVariants as lock
 use Rattle.mux_plan.specs.declared.marks.Due.{Due}
+use Rattle.mux_plan.specs.Plans.{SeenView}
+use Rattle.mux_plan.specs.Marks.{applied, applied_kept}
 use Rattle.seg_locks.specs.Locks.{LocksView, holder_in}
 
 -- the bus of a mark is there, and the caller has its lock
@@ -12,3 +14,7 @@ pub record IsHeldDue (v : LocksView) (caller : ℕ) (d : Due) : Type 0 where
 
 abbrev pub AreHeld : LocksView → ℕ → List Due → Type 0
 AreHeld v caller dues = AllByRecursion (IsHeldDue v caller) dues
+
+-- what lock words tell with these changes
+abbrev pub words_after : List Due → SeenView → SeenView
+words_after dues s = record { marks = applied dues s.marks; kept = applied_kept dues s.kept }

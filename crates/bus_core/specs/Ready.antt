@@ -9,12 +9,13 @@ use Rattle.seg_locks.specs.Locks.{holder_in}
 use Rattle.bus_core.specs.Places.{walk_left}
 use Rattle.bus_core.specs.declared.parts.CoreParts.{CoreParts}
 use Rattle.bus_core.specs.declared.seat.Seat.{Seat}
+use Rattle.core_laws.specs.Spots.{seen_of}
 
 -- the walk of the caller at a place has ended, or takes a lock that somebody has
 pub record IsHeldUpAt {P C : Type 0} (x : CoreParts P C) (place : ℕ) : Type 0 where
   pub seat : Seat C
   pub here : slice_get x.seats.items place ≡ Some seat
-  pub waits : IsHeldUp (holder_in x.locks) (slots_of x.locks.marks) (walk_left x.board.now seat)
+  pub waits : IsHeldUp (holder_in x.locks) (slots_of (seen_of x.locks)) (walk_left x.board.now seat)
 
 -- it has a step, and where that takes a lock nobody has it
 pub record CanStepAt {P C : Type 0} (x : CoreParts P C) (place : ℕ) : Type 0 where

@@ -23,7 +23,7 @@ use Rattle.bus_spec.specs.Stepwise.{reply_by}
 use Rattle.bus_spec.specs.Walk.{ActOutcome, Passed, Settle, Then, Ends}
 use Rattle.bus_spec.specs.Walk as walk
 use Rattle.core_laws.specs.Sends.{Sending, message_for, ends_with, IsChipAddress, is_call_through}
-use Rattle.core_laws.specs.Spots.{Socket}
+use Rattle.core_laws.specs.Spots.{seen_of, Socket}
 use Rattle.core_laws.specs.Steps.{GivesBytes, next_of, behind_of}
 use Rattle.mux_plan.specs.declared.marks.Due.{Due}
 use Rattle.mux_plan.specs.Marks.{dues_after}
@@ -60,7 +60,7 @@ pub record WentOn {C : Type 0} (b : BoardView) (v : LocksView) (out : ActOutcome
 
 -- the marks that such a step changes
 abbrev pub dues_of : {C : Type 0} → BoardView → LocksView → ActOutcome → Seat C → List Due
-dues_of b v out s = dues_after (next_of v (walk_left b s)) (first_note (seen (slots_of v.marks) (walk_left b s))) out
+dues_of b v out s = dues_after (next_of v (walk_left b s)) (first_note (seen (slots_of (seen_of v)) (walk_left b s))) out
 
 -- a reply was handed to its caller, which has room for it
 pub record IsHanded {C S : Type 0} (c : CallerGhosts C S) (r : Reply) (s t : Seat C) : Type 0 where

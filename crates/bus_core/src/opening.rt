@@ -1,3 +1,4 @@
+//! A core over a board, its ports and its callers, as it is opened.
 ghost use Rattle.std.specs.Prelude.{◌≡◌, ◌<◌, ℕ, length, None, Some, replicate, slice_get, IfOk};
 ghost use Rattle.std.specs.List.{All};
 ghost use Rattle.i2c_base.specs.Limits.{MOST_CALLERS};
@@ -95,7 +96,9 @@ pub fn open<'b, P: Port, C: Caller>(
     let start = Snapshot::of(&ports);
     let journal = Journal::with_room(alloc, limit as usize, 2 * limit)?;
     let depths = depths(alloc, board)?;
-    let locks = Locks::open(alloc, depths.as_slice(), board.board().roots().len() as u8)?;
+    let roots = board.board().roots().len() as u8;
+    let muxes = board.board().muxes().len() as u8;
+    let locks = Locks::open(alloc, depths.as_slice(), roots, muxes)?;
     let (seats, places) = seats_of(alloc, board, ports.as_slice(), callers)?;
     Ok(CoreParts {
         board,

@@ -1,3 +1,4 @@
+//! A caller in the core, and where it stands.
 ghost use Rattle.std.specs.Prelude.{◌≡◌, ◌≢◌, ◌+◌, ◌<◌, ◌≤◌, ℕ, true, false, List, [], ◌∷◌, ◌++◌, length, take, sum_by, Option, None, Some, IfSome, slice_get, if◌then◌else◌};
 ghost use Rattle.i2c_base.specs.Limits.{MOST_BYTES};
 ghost use Rattle.i2c_base.specs.declared.reply.Cut.TheVariants as cut_at;
@@ -26,7 +27,9 @@ ghost use Rattle.bus_core.specs.Opening.{HasRoot};
 ghost use Rattle.bus_core.specs.Places.{walk_left, owed_by, got_by};
 ghost use Rattle.bus_core.specs.Replies.{reply_decided};
 ghost use Rattle.bus_core.specs.Seats.{MayEnd, HasEnded, MayHear, got_heard};
+ghost use Rattle.core_laws.specs.Spots.{seen_of};
 
+use crate::marks::seen as words_of;
 use crate::replies::{Decided, Replies};
 use bus_message::{CallOf, Sending, Sent};
 use i2c_base::{Caller, Cut, End, Errno, Grant, Kind, Purpose, Reply, SegId, Transfer};
@@ -107,16 +110,16 @@ impl<C: Caller> Seat<C> {
         }
     }
 
-    /// The next action of its walk, where each bus has this mark: Done exactly where the walk is over.
+    /// The next action of its walk, where the lock words answer its looks: Done exactly where the walk is over.
     pub fn next(&self, board: &Accepted, locks: &Locks) -> Action
         requires { length (messages_of self.now.transfer) ≡ self.now.walk.course.count }
         ensures first { result ≡ action_of (next_of locks.now (walk_left board.now self.now)) }
         ensures over { result ≡ action.Done → is_over (walk_left board.now self.now) ≡ true }
     {
-        self.walk.next(board.board(), locks.marks())
+        self.walk.next(board.board(), &words_of(locks))
     }
 
-    /// The settle that comes next of its walk, if one does, whatever marks there are: why its reply is an error, or none.
+    /// The settle that comes next of its walk, if one does, whatever the lock words are: why its reply is an error, or none.
     pub fn settles(&self) -> Option<Option<Errno>>
         ensures some { (b : BoardView) (v : LocksView) → IfSome result (λ verdict. next_of v (walk_left b self.now) ≡ Some (Settle verdict)) }
         ensures none { (b : BoardView) (v : LocksView) (verdict : Option Errno) → result ≡ None → next_of v (walk_left b self.now) ≡ Some (Settle verdict) → ⊥ }
@@ -124,16 +127,16 @@ impl<C: Caller> Seat<C> {
         self.walk.settles()
     }
 
-    /// Goes on in its walk behind that action, which had this outcome, and tells the marks that it changes.
+    /// Goes on in its walk behind that action, which had this outcome, and tells what it changes of the lock words.
     pub fn go_on(&mut self, board: &Accepted, locks: &Locks, outcome: &Outcome<'_>, dues: &mut Dues)
         requires { length (messages_of self.old.transfer) ≡ self.old.walk.course.count }
         ensures walk { walk_left board.now self.new ≡ behind_of locks.now (walk_left board.now self.old) (outcome_of outcome.now) }
         ensures same { self.new ≡ record self.old { walk = self.new.walk } }
         ensures course { self.new.walk.course ≡ self.old.walk.course }
-        ensures dues { dues.new.items ≡ dues_after (next_of locks.now (walk_left board.now self.old)) (first_note (seen (slots_of locks.now.marks) (walk_left board.now self.old))) (outcome_of outcome.now) }
+        ensures dues { dues.new.items ≡ dues_after (next_of locks.now (walk_left board.now self.old)) (first_note (seen (slots_of (seen_of locks.now)) (walk_left board.now self.old))) (outcome_of outcome.now) }
     {
         self.walk
-            .report(board.board(), locks.marks(), outcome, dues);
+            .report(board.board(), &words_of(locks), outcome, dues);
     }
 
     /// Goes on in its walk behind a lock or a settle, which tell no cut.

@@ -14,7 +14,7 @@ use Rattle.bus_spec.specs.Slots.{Slots}
 use Rattle.bus_spec.specs.Grammar.{seen, is_over, first_act}
 use Rattle.bus_laws.specs.Holds.{HoldsLocks}
 use Rattle.seg_locks.specs.Locks.{LocksView}
-use Rattle.core_laws.specs.Spots.{Spot, Socket, IsTold, AreNumbered, AreRooted}
+use Rattle.core_laws.specs.Spots.{seen_of, Spot, Socket, IsTold, AreNumbered, AreRooted}
 use Rattle.core_laws.proofs.Steps.{set_here}
 use Rattle.core_laws.specs.Core.{Place, spot_of, numbers_of, trees_of, spots_of, pending, has_reply, IsLone, Run, Whole, StandsAt, IsGoing, SeatKept, CoreKept}
 use Rattle.core_laws.specs.Seats.{IsLeft}
@@ -102,13 +102,13 @@ module _ (run : Run) (whole : Whole) (core : CoreKept run whole) where
   -- a walk that has a next step goes on; where that isn't its settle, it is a transfer's that wasn't refused
   module _ (place : ℕ) (p : Place) (ls : List LockId) (n : ℕ) (stands : StandsAt whole place p ls n) (act : Act) (first : next_of whole.locks p.tree ≡ Some act) where
     pub going-on : IsGoing run p n
-    going-on = (core.seats place p ls n stands).going (not_over (slots_of whole.locks.marks) p.tree act first)
+    going-on = (core.seats place p ls n stands).going (not_over (slots_of (seen_of whole.locks)) p.tree act first)
 
     pub left-on : ((verdict : Option Errno) → act ≡ Settle verdict → ⊥) → IsLeft run.board p.transfer (has_reply p.owed) p.sent p.tree
     left-on other =
         elim going-on.is_left [
           | inl is ↦ is
-          | inr lone ↦ (let a = lone_act run.board (slots_of whole.locks.marks) p.tree lone.0 act first in absurd (other a.0 a.1))
+          | inr lone ↦ (let a = lone_act run.board (slots_of (seen_of whole.locks)) p.tree lone.0 act first in absurd (other a.0 a.1))
         ]
 
   -- each walk with what it holds

@@ -18,12 +18,13 @@ use Rattle.bus_laws.specs.Runs.{InLocks}
 use Rattle.mux_plan.specs.Plans.{slots_of}
 use Rattle.bus_laws.specs.Holds.{HoldsLocks, IsLockOf}
 use Rattle.seg_locks.specs.Locks.{with_holder}
-use Rattle.core_laws.specs.Spots.{Spot, IsTold}
+use Rattle.core_laws.specs.Spots.{seen_of, Spot, IsTold}
 use Rattle.core_laws.specs.Behind.{with_place, begun_with}
 use Rattle.core_laws.specs.Core.{Place, spot_of, numbers_of, trees_of, spots_of, has_reply, IsLone, IsGoing, SeatKept, CoreKept, Run, IsFairRun, Whole, StandsAt}
 use Rattle.core_laws.specs.Owed.{OwesUpTo, total}
 use Rattle.core_laws.specs.Steps.{next_of, behind_of}
 use Rattle.core_laws.specs.Table.{TableKept}
+use Rattle.core_laws.proofs.Looks.{looks-same}
 use Rattle.core_laws.proofs.Core.{are-numbered, core-stepped, set_same, going-on, spot-here, tree-here, number-here}
 use Rattle.core_laws.proofs.Holding.{holds-freed}
 use Rattle.core_laws.proofs.Sockets.{sockets-still}
@@ -52,7 +53,7 @@ module _ (run : Run) (fair : IsFairRun run) (whole : Whole) (core : CoreKept run
     its = going-on run whole core place p ls n stands (Free l) first
 
     freeing : (rest : List LockId) × (ls ≡ l ∷ rest) × HoldsLocks run.board rest (behind_of whole.locks p.tree Passed)
-    freeing = holds-freed run.board whole.locks.marks core.table.home ls p.tree seat.holds l first
+    freeing = holds-freed run.board (seen_of whole.locks) core.table.home ls p.tree seat.holds l first
 
     nothing : freeing.0 ≡ []
     nothing = ends_holding run.board freeing.0 (behind_of whole.locks p.tree Passed) ends freeing.2
@@ -78,7 +79,7 @@ module _ (run : Run) (fair : IsFairRun run) (whole : Whole) (core : CoreKept run
         omega (arith, f, same)
 
     pays : (1 ≤ n) × (run.left p.number p.taken - cost_of run.board p.transfer ≤ n - 1)
-    pays = owes-end run.board p.tree (not (has_reply p.owed)) (run.left p.number p.taken - cost_of run.board p.transfer) n its.owes (slots_of whole.locks.marks) (Free l) first
+    pays = owes-end run.board p.tree (not (has_reply p.owed)) (run.left p.number p.taken - cost_of run.board p.transfer) n its.owes (slots_of (seen_of whole.locks)) (Free l) first
 
     covers : run.left p.number replies ≤ n - 1
     covers = (let f = falls in let g = pays.1 in omega (arith, f, g))
@@ -90,11 +91,11 @@ module _ (run : Run) (fair : IsFairRun run) (whole : Whole) (core : CoreKept run
         let one : 1 ≤ n = pays.0 in
         core-stepped run whole core place p new stands.here (ap (λ (q : Place). q.number) is) n (n - 1) 1 stands.owing (omega (arith, one)) [] kept
         (with_holder whole.locks l None) (free-table run.board whole.locks (numbers_of whole.places) whole.held core.table core.distinct place p.number ls stands.holding (number-here run whole core place p stands.here) l [] only) whole.sockets core.once
-        (sockets-still run.board run.tells (trees_of whole.places) place p.tree new.tree (tree-here run whole core place p stands.here) whole.sockets (total whole.owes) (total (set whole.owes place (n - 1))) (less-owed whole.owes place n (n - 1) stands.owing (omega arith)) core.sockets_kept (slots_of whole.locks.marks) (Free l) first
+        (sockets-still run.board run.tells (trees_of whole.places) place p.tree new.tree (tree-here run whole core place p stands.here) whole.sockets (total whole.owes) (total (set whole.owes place (n - 1))) (less-owed whole.owes place n (n - 1) stands.owing (omega arith)) core.sockets_kept (slots_of (seen_of whole.locks)) (Free l) first
         (λ bus ms k f. let g : Free l ≡ Send (Call bus ms) k = f in cc))
         (entry.Free p.number l ∷ whole.past)
         (λ tell. subst (λ (s : Spot). IsTold run.board run.callers run.asks (entry.Free p.number l ∷ whole.past) (set (spots_of whole.places) place s) (with_holder whole.locks l None) whole.sockets None) (sym (ap spot_of is))
-        (told-end run.board fair.tree fair.plain fair.lines run.asks fair.sends run.callers whole.past (spots_of whole.places) whole.locks whole.sockets (core.told tell) (are-numbered run whole core) place (spot_of p) (spot-here run whole core place p stands.here)
+        (told-end run.board fair.tree fair.plain fair.lines run.asks fair.sends run.callers whole.past (spots_of whole.places) whole.locks whole.sockets (core.told tell) (are-numbered run whole core) place (spot_of p) (spot-here run whole core place p stands.here) (looks-same run whole core tell place p ls n stands)
         (behind_of whole.locks p.tree Passed) refl ends new.tree l there first loads))
         room2 rooms 0 (let same : length new.got ≡ length p.got = ap (λ (q : Place). length q.got) is in omega (arith, same)) whole.room_bytes (omega arith)
 
@@ -122,7 +123,7 @@ module _ (run : Run) (fair : IsFairRun run) (whole : Whole) (core : CoreKept run
     lone_is = settle-lone run whole core place p stands.here verdict first
 
     lone_ends : is_over (behind_of whole.locks p.tree Passed) ≡ true
-    lone_ends = ap (λ (w : WalkTree). is_over (rest_of (seen (slots_of whole.locks.marks) w) Passed)) lone_is.0.is
+    lone_ends = ap (λ (w : WalkTree). is_over (rest_of (seen (slots_of (seen_of whole.locks)) w) Passed)) lone_is.0.is
 
     lone_verdict : verdict ≡ Some lone_is.0.errno
     lone_verdict = settle-errs run whole core place p stands.here verdict first
@@ -165,11 +166,11 @@ module _ (run : Run) (fair : IsFairRun run) (whole : Whole) (core : CoreKept run
         let one : 1 ≤ n = lone_pays.0 in
         core-stepped run whole core place p new stands.here (ap (λ (q : Place). q.number) is) n (n - 1) 1 stands.owing (omega (arith, one)) [] kept
         whole.locks (subst (λ (h : List (List LockId)). TableKept run.board whole.locks (numbers_of whole.places) h) (sym (set_same whole.held place [] (stands.holding ∙ ap (λ (ks : List LockId). Some ks) lone_empty))) core.table) whole.sockets core.once
-        (sockets-still run.board run.tells (trees_of whole.places) place p.tree new.tree (tree-here run whole core place p stands.here) whole.sockets (total whole.owes) (total (set whole.owes place (n - 1))) (less-owed whole.owes place n (n - 1) stands.owing (omega arith)) core.sockets_kept (slots_of whole.locks.marks) (Settle verdict) first
+        (sockets-still run.board run.tells (trees_of whole.places) place p.tree new.tree (tree-here run whole core place p stands.here) whole.sockets (total whole.owes) (total (set whole.owes place (n - 1))) (less-owed whole.owes place n (n - 1) stands.owing (omega arith)) core.sockets_kept (slots_of (seen_of whole.locks)) (Settle verdict) first
         (λ bus ms k f. let g : Settle verdict ≡ Send (Call bus ms) k = f in cc))
         (lone_entry ∷ whole.past)
         (λ tell. subst (λ (s : Spot). IsTold run.board run.callers run.asks (lone_entry ∷ whole.past) (set (spots_of whole.places) place s) whole.locks whole.sockets None) (sym (ap spot_of is))
-        (told-lone run.board fair.tree fair.plain fair.lines run.asks fair.sends run.callers whole.past (spots_of whole.places) whole.locks whole.sockets (core.told tell) (are-numbered run whole core) place (spot_of p) (spot-here run whole core place p stands.here)
+        (told-lone run.board fair.tree fair.plain fair.lines run.asks fair.sends run.callers whole.past (spots_of whole.places) whole.locks whole.sockets (core.told tell) (are-numbered run whole core) place (spot_of p) (spot-here run whole core place p stands.here) (looks-same run whole core tell place p ls n stands)
         (behind_of whole.locks p.tree Passed) refl lone_ends new.tree verdict first lone_is.1 refused decided loads))
         room2 rooms 0 (let none : length new.got ≡ 0 = ap (λ (q : Place). length q.got) is in omega (arith, none)) whole.room_bytes (omega arith)
 

@@ -16,6 +16,7 @@ use Rattle.core_laws.specs.Seats.{IsLeft}
 use Rattle.core_laws.specs.Steps.{next_of, behind_of}
 use Rattle.core_laws.proofs.Core.{owes-here, stands-here, going-on, left-on}
 use Rattle.core_laws.proofs.WalkSteps.{left-freed}
+use Rattle.core_laws.specs.Spots.{seen_of}
 
 module _ (run : Run) (whole : Whole) (core : CoreKept run whole) (place : ℕ) (p : Place) (here : slice_get whole.places place ≡ Some p) where
   module _ (act : Act) (first : next_of whole.locks p.tree ≡ Some act) where
@@ -36,12 +37,12 @@ module _ (run : Run) (whole : Whole) (core : CoreKept run whole) (place : ℕ) (
       let left : IsLeft run.board p.transfer (has_reply p.owed) p.sent p.tree =
       left-on run whole core place p _ _ (stands-here run whole core place p here) (Free l) first (λ verdict is. let f : Free l ≡ Settle verdict = is in cc) in
       subst (λ (w : WalkTree). Settles (has_reply p.owed) w) (over_ends (behind_of whole.locks p.tree Passed) ends)
-      (left-freed run.board p.transfer (slots_of whole.locks.marks) p.tree (has_reply p.owed) p.sent left l first).settles
+      (left-freed run.board p.transfer (slots_of (seen_of whole.locks)) p.tree (has_reply p.owed) p.sent left l first).settles
 
   -- A SETTLE THAT COMES NEXT is the lone one of a transfer that is refused
   pub settle-lone : (verdict : Option Errno) → next_of whole.locks p.tree ≡ Some (Settle verdict) → IsLone run.board p.tree × (p.owed ≡ [])
   settle-lone verdict first =
-      elim (its (Settle verdict) first).is_left [ inl is ↦ absurd (quiet-next (slots_of whole.locks.marks) p.tree is.quiet verdict first) | inr lone ↦ lone ]
+      elim (its (Settle verdict) first).is_left [ inl is ↦ absurd (quiet-next (slots_of (seen_of whole.locks)) p.tree is.quiet verdict first) | inr lone ↦ lone ]
 
   -- .. and has its errno
   pub settle-errs : (verdict : Option Errno) (first : next_of whole.locks p.tree ≡ Some (Settle verdict)) → verdict ≡ Some (settle-lone verdict first).0.errno

@@ -8,17 +8,19 @@ use Rattle.i2c_base.specs.declared.errno.Errno.{Errno}
 use Rattle.i2c_base.specs.declared.entry.End.TheVariants as end
 use Rattle.i2c_base.specs.Board.{BoardView}
 use Rattle.i2c_spec.specs.Tree.{Hop, buses}
+use Rattle.i2c_spec.specs.History.{changed_at}
 use Rattle.bus_spec.specs.Walk.{Mark, Job, Call, Select, Clear, Act, Take, Free, Send, Shift, Settle, ActOutcome, Passed, Sent, Lined, Note, WalkTree, Ends, Look, Then, first_byte}
-use Rattle.bus_spec.specs.Slots.{Slots, At, MuxSlot, Clean, Selected, Marked, Polled, Found, mark_in, with_slot, set_marks, select_slot, after_job}
+use Rattle.bus_spec.specs.Slots.{Slots, At, MuxSlot, Clean, Marked, Polled, Found, mark_in, turned_at, turned, set_marks, polled_slot, select_told, after_job}
 use Rattle.bus_spec.specs.Grammar.{seen, is_over, first_act, first_note, rest_of}
 use Rattle.bus_spec.specs.Stepwise.{IsBelow}
 use Rattle.bus_laws.specs.Runs.{InLocks}
 use Rattle.bus_laws.proofs.past.StandsEntries.{first_is}
-use Rattle.bus_laws.proofs.tree.Slots.{with_slot-same, with_slot-other}
-use Rattle.mux_plan.specs.Plans.{slots_of, slot_of, TellsMarks}
+use Rattle.bus_laws.proofs.tree.Slots.{changed-same, changed-other}
+use Rattle.mux_plan.specs.Plans.{SeenView, mark_on, slots_of, slot_of, TellsMarks}
 use Rattle.bus_laws.specs.Holds.{IsLockOf, IsMarkOn, MarksHeld, SendsIn, HoldsLocks}
 use Rattle.bus_laws.proofs.walk.Waits.{holds_seen}
 use Rattle.seg_locks.specs.Locks.{LocksView}
+use Rattle.core_laws.specs.Spots.{turned_to}
 use Rattle.core_laws.specs.Table.{TableKept}
 
 -- who holds a lock has not ended
@@ -31,12 +33,12 @@ pub mark_of_slot : (b : BoardView) (p : ℕ) (o : Option ℕ) → IsMarkOn b p o
 mark_of_slot b p None h = h
 mark_of_slot b p (Some m) h = h
 
-module _ (b : BoardView) (marks : List (Option ℕ)) (home : (p : ℕ) → IsMarkOn b p (slice_index_or marks p None)) (ls : List LockId) (w : WalkTree) (holds : HoldsLocks b ls w) where
+module _ (b : BoardView) (words : SeenView) (home : (p : ℕ) → IsMarkOn b p (mark_on words p)) (ls : List LockId) (w : WalkTree) (holds : HoldsLocks b ls w) where
   abbrev pub v : Slots
-  v = slots_of marks
+  v = slots_of words
 
   pub home_seen : (p : ℕ) → IsMarkOn b p (mark_in (v p).slot)
-  home_seen p = mark_of_slot b p (slice_index_or marks p None) (home p)
+  home_seen p = mark_of_slot b p (mark_on words p) (home p)
 
   here : HoldsLocks b ls (seen v w)
   here = holds_seen b ls v home_seen w holds
@@ -84,50 +86,56 @@ module _ (b : BoardView) (ls : List LockId) where
   abbrev pub AreHome : Slots → Type 0
   AreHome y = (p : ℕ) → IsMarkOn b p (mark_in (y p).slot)
 
-  home_set : (y : Slots) (q : ℕ) (s : MuxSlot) → AreHome y → IsMarkOn b q (mark_in s) → AreHome (with_slot y q s)
-  home_set y q s all own p =
+  home_set : (y : Slots) (q : ℕ) (x : At) → AreHome y → IsMarkOn b q (mark_in x.slot) → AreHome (changed_at y q x)
+  home_set y q x all own p =
       elim (eqb_tells p q) [
-        | inl h ↦ subst (λ (k : ℕ). IsMarkOn b k (mark_in (with_slot y q s k).slot)) (sym h.1)
-            (subst (λ (x : At). IsMarkOn b q (mark_in x.slot)) (sym (with_slot-same y q s)) own)
-        | inr h ↦ subst (λ (x : At). IsMarkOn b p (mark_in x.slot)) (sym (with_slot-other y q p s h.1)) (all p)
+        | inl h ↦ subst (λ (k : ℕ). IsMarkOn b k (mark_in (changed_at y q x k).slot)) (sym h.1)
+            (subst (λ (z : At). IsMarkOn b q (mark_in z.slot)) (sym (changed-same y q x)) own)
+        | inr h ↦ subst (λ (z : At). IsMarkOn b p (mark_in z.slot)) (sym (changed-other y q p x h.1)) (all p)
       ]
+
+  home_turn : (y : Slots) (q m : ℕ) (s : MuxSlot) (c : Option ℕ) → AreHome y → IsMarkOn b q (mark_in s) → AreHome (turned y q m s c)
+  home_turn y q m s c all own = home_set y q (turned_at (y q) m s c) all own
 
   home_marks : (ms : List Mark) → MarksHeld b ms ls → (y : Slots) → AreHome y → AreHome (set_marks ms y)
   home_marks [] held y all = all
-  home_marks (m ∷ ms) held y all = home_set (set_marks ms y) m.on (Marked m.mux) (home_marks ms held.1 y all) held.0.1
+  home_marks (m ∷ ms) held y all = home_set (set_marks ms y) m.on (turned_at (y m.on) m.mux (Marked m.mux) None) (home_marks ms held.1 y all) held.0.1
 
-  home_poll : (q : ℕ) (h : Hop) (left : ℕ) (bytes : List ℕ) → IsMarkOn b q (mark_in (select_slot h left bytes))
-  home_poll q h zero bytes = tt
-  home_poll q h (suc zero) bytes = cases (eqb (first_byte bytes) 0)
+  home_poll : (q : ℕ) (h : Hop) (left : ℕ) (bytes : List ℕ) → IsMarkOn b q (mark_in (polled_slot h left bytes))
+  home_poll q h zero bytes = cases (eqb (first_byte bytes) 0)
     where
       cases : (t : Bool) → IsMarkOn b q (mark_in (cond t (Found h) Clean))
       cases true = tt
       cases false = tt
-  home_poll q h (suc (suc left)) bytes = cases (eqb (first_byte bytes) 0)
+  home_poll q h (suc left) bytes = cases (eqb (first_byte bytes) 0)
     where
       cases : (t : Bool) → IsMarkOn b q (mark_in (cond t (Found h) (Polled h left)))
       cases true = tt
       cases false = tt
 
+  home_through : (h : Hop) (left : ℕ) (bytes : List ℕ) (y : Slots) → AreHome y → AreHome (select_told h left bytes y)
+  home_through h zero bytes y all = home_turn y h.on h.mux Clean (Some h.channel) all tt
+  home_through h (suc left) bytes y all = home_turn y h.on h.mux (polled_slot h left bytes) None all (home_poll h.on h left bytes)
+
   pub home-after : (job : Job) (left : ℕ) (ms : List Mark) → MarksHeld b ms ls → (out : ActOutcome) (y : Slots) → AreHome y → AreHome (after_job job left ms out y)
   home-after (Call bus messages) left ms held out y all = all
   home-after (Select h) left ms held Passed y all = all
   home-after (Select h) left ms held (Lined true) y all = home_marks ms held y all
-  home-after (Select h) left ms held (Lined false) y all = home_set y h.on (Selected h) all tt
-  home-after (Select h) left ms held (Sent end.Ok bytes) y all = home_set y h.on (select_slot h left bytes) all (home_poll h.on h left bytes)
-  home-after (Select h) left ms held (Sent end.Nack bytes) y all = home_set y h.on Clean all tt
-  home-after (Select h) left ms held (Sent end.Slow bytes) y all = home_set y h.on Clean all tt
-  home-after (Select h) left ms held (Sent end.Refused bytes) y all = home_set y h.on Clean all tt
-  home-after (Select h) left ms held (Sent end.Proto bytes) y all = home_set y h.on Clean all tt
+  home-after (Select h) left ms held (Lined false) y all = home_turn y h.on h.mux Clean (Some h.channel) all tt
+  home-after (Select h) left ms held (Sent end.Ok bytes) y all = home_through h left bytes y all
+  home-after (Select h) left ms held (Sent end.Nack bytes) y all = home_turn y h.on h.mux Clean None all tt
+  home-after (Select h) left ms held (Sent end.Slow bytes) y all = home_turn y h.on h.mux Clean None all tt
+  home-after (Select h) left ms held (Sent end.Refused bytes) y all = home_turn y h.on h.mux Clean None all tt
+  home-after (Select h) left ms held (Sent end.Proto bytes) y all = home_turn y h.on h.mux Clean None all tt
   home-after (Select h) left ms held (Sent (end.Cut q) bytes) y all = home_marks ms held y all
   home-after (Clear on mux kind) left ms held Passed y all = all
   home-after (Clear on mux kind) left ms held (Lined true) y all = home_marks ms held y all
-  home-after (Clear on mux kind) left ms held (Lined false) y all = home_set y on Clean all tt
-  home-after (Clear on mux kind) left ms held (Sent end.Ok bytes) y all = home_set y on Clean all tt
-  home-after (Clear on mux kind) left ms held (Sent end.Nack bytes) y all = home_set y on Clean all tt
-  home-after (Clear on mux kind) left ms held (Sent end.Slow bytes) y all = home_set y on Clean all tt
-  home-after (Clear on mux kind) left ms held (Sent end.Refused bytes) y all = home_set y on Clean all tt
-  home-after (Clear on mux kind) left ms held (Sent end.Proto bytes) y all = home_set y on Clean all tt
+  home-after (Clear on mux kind) left ms held (Lined false) y all = home_turn y on mux Clean None all tt
+  home-after (Clear on mux kind) left ms held (Sent end.Ok bytes) y all = home_turn y on mux Clean None all tt
+  home-after (Clear on mux kind) left ms held (Sent end.Nack bytes) y all = home_turn y on mux Clean None all tt
+  home-after (Clear on mux kind) left ms held (Sent end.Slow bytes) y all = home_turn y on mux Clean None all tt
+  home-after (Clear on mux kind) left ms held (Sent end.Refused bytes) y all = home_turn y on mux Clean None all tt
+  home-after (Clear on mux kind) left ms held (Sent end.Proto bytes) y all = home_turn y on mux Clean None all tt
   home-after (Clear on mux kind) left ms held (Sent (end.Cut q) bytes) y all = home_marks ms held y all
 
 -- marks that tell of home slots are of muxes at home
@@ -138,9 +146,21 @@ home-told b y marks all tells p =
       | inr h ↦ subst (λ (o : Option ℕ). IsMarkOn b p o) (sym (get_or_past marks p None (let e = h.1 in omega (arith, e)))) tt
     ]
 
--- THE TABLE where marks are new
+-- THE TABLE where marks and kept channels are new
 pub mark-table : (b : BoardView) (v : LocksView) (numbers : List ℕ) (held : List (List LockId)) → TableKept b v numbers held
-    → (marks_now : List (Option ℕ)) → length marks_now ≡ buses b → ((p : ℕ) → IsMarkOn b p (slice_index_or marks_now p None))
-    → TableKept b (record v { marks = marks_now }) numbers held
-mark-table b v numbers held kept marks_now all home =
-    record { counted = kept.counted; roots = kept.roots; muxes = kept.muxes; marked = all; deep = kept.deep; ranked = kept.ranked; named = kept.named; has = kept.has; once = kept.once; home = home }
+    → (words : SeenView) → length words.marks ≡ buses b → length words.kept ≡ length b.muxes → ((p : ℕ) → IsMarkOn b p (mark_on words p))
+    → TableKept b (turned_to v words) numbers held
+mark-table b v numbers held kept words all counted home =
+    record {
+      counted = kept.counted;
+      roots = kept.roots;
+      muxes = kept.muxes;
+      marked = all;
+      kept = counted;
+      deep = kept.deep;
+      ranked = kept.ranked;
+      named = kept.named;
+      has = kept.has;
+      once = kept.once;
+      home = home;
+    }

@@ -9,6 +9,8 @@ pub mod Sockets
 pub mod Owed
 pub mod Turns
 pub mod ToldSteps
+pub mod LockWords
+pub mod Looks
 pub mod Marked
 pub mod Core
 pub mod Seats

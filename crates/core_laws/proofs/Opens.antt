@@ -20,7 +20,7 @@ use Rattle.bus_laws.specs.Holds.{IsLockOf, IsMarkOn, HoldsLocks}
 use Rattle.bus_laws.specs.Waiting.{LocksKept, IsHeldUp}
 use Rattle.bus_laws.proofs.walk.Waits.{all-ended}
 use Rattle.seg_locks.specs.Locks.{LocksView, holder_in, rank_in}
-use Rattle.core_laws.specs.Spots.{Spot, SpotTold, IsTold}
+use Rattle.core_laws.specs.Spots.{seen_of, Spot, SpotTold, IsTold}
 use Rattle.core_laws.specs.Core.{Place, spot_of, numbers_of, trees_of, spots_of, pending, SeatKept, CoreKept, Run, Whole}
 use Rattle.core_laws.specs.Owed.{total}
 use Rattle.core_laws.specs.Opens.{IsOpened}
@@ -61,6 +61,9 @@ module _ (run : Run) (whole : Whole) (o : IsOpened run whole) where
   unmarked : (q : ℕ) → slice_index_or whole.locks.marks q None ≡ None
   unmarked q = ap (λ (w : LocksView). slice_index_or w.marks q None) o.locks_free ∙ none_at (length o.depths) q
 
+  unkept : (m : ℕ) → slice_index_or whole.locks.kept m None ≡ None
+  unkept m = ap (λ (w : LocksView). slice_index_or w.kept m None) o.locks_free ∙ none_at (length run.board.muxes) m
+
   ranks : (l : LockId) → IsLockOf run.board l → rank_in whole.locks l ≡ rank run.board l
   ranks (lock.Bus r) is = refl
   ranks (lock.Mux q) is = ap (λ (w : LocksView). slice_index_or w.depths q 0 + 1) o.locks_free ∙ ap (λ (k : ℕ). k + 1) (o.deep.each q is)
@@ -75,6 +78,7 @@ module _ (run : Run) (whole : Whole) (o : IsOpened run whole) where
         roots = ap (λ (w : LocksView). length w.roots) o.locks_free ∙ length-replicate (length run.board.roots) nobody_has;
         muxes = ap (λ (w : LocksView). length w.buses) o.locks_free ∙ length-replicate (length o.depths) nobody_has ∙ o.deep.all;
         marked = ap (λ (w : LocksView). length w.marks) o.locks_free ∙ length-replicate (length o.depths) nobody_has ∙ o.deep.all;
+        kept = ap (λ (w : LocksView). length w.kept) o.locks_free ∙ length-replicate (length run.board.muxes) nobody_has;
         deep = ap (λ (w : LocksView). length w.depths) o.locks_free ∙ o.deep.all;
         ranked = ranks;
         named = λ l c h. absurd (let f : None ≡ Some c = sym (nobody l) ∙ h in cc);
@@ -97,7 +101,7 @@ module _ (run : Run) (whole : Whole) (o : IsOpened run whole) where
               got_is = sym fresh.2;
               cut_is = sym fresh.3;
             }));
-        locks_told = record { roots = table.roots; muxes = table.muxes; holder = λ l is. nobody l; mark = λ q. sym (unmarked q) };
+        locks_told = record { roots = table.roots; muxes = table.muxes; holder = λ l is. nobody l; mark = λ q. sym (unmarked q); kept = λ m. sym (unkept m) };
         ports_told = λ k y at. record { world = (o.worlds tell k y at).0; log = (o.worlds tell k y at).1 };
       }
 
@@ -123,7 +127,7 @@ module _ (run : Run) (whole : Whole) (o : IsOpened run whole) where
 
 -- who is ready: where no walk has a step that isn't held up, all have ended
 module _ (run : Run) (whole : Whole) (core : CoreKept run whole) where
-  pub locks-kept : LocksKept run.board (trees_of whole.places) whole.held (numbers_of whole.places) (holder_in whole.locks) (slots_of whole.locks.marks)
+  pub locks-kept : LocksKept run.board (trees_of whole.places) whole.held (numbers_of whole.places) (holder_in whole.locks) (slots_of (seen_of whole.locks))
   locks-kept =
       record {
         counted = core.table.counted ∙ length-map whole.places (λ (p : Place). p.number) ∙ sym (length-map whole.places (λ (p : Place). p.tree));
@@ -133,6 +137,6 @@ module _ (run : Run) (whole : Whole) (core : CoreKept run whole) where
         has = λ l c h. (let at = core.table.named l c h in (at.place, at.locks, at.here, at.number, at.among));
       }
 
-  pub none-ready : ((i : ℕ) (w : WalkTree) → slice_get (trees_of whole.places) i ≡ Some w → IsHeldUp (holder_in whole.locks) (slots_of whole.locks.marks) w)
-      → (i : ℕ) (w : WalkTree) → slice_get (trees_of whole.places) i ≡ Some w → first_act (seen (slots_of whole.locks.marks) w) ≡ None
-  none-ready all = all-ended run.board (trees_of whole.places) whole.held (numbers_of whole.places) (holder_in whole.locks) (slots_of whole.locks.marks) locks-kept all
+  pub none-ready : ((i : ℕ) (w : WalkTree) → slice_get (trees_of whole.places) i ≡ Some w → IsHeldUp (holder_in whole.locks) (slots_of (seen_of whole.locks)) w)
+      → (i : ℕ) (w : WalkTree) → slice_get (trees_of whole.places) i ≡ Some w → first_act (seen (slots_of (seen_of whole.locks)) w) ≡ None
+  none-ready all = all-ended run.board (trees_of whole.places) whole.held (numbers_of whole.places) (holder_in whole.locks) (slots_of (seen_of whole.locks)) locks-kept all

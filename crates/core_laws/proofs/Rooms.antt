@@ -15,7 +15,7 @@ use Rattle.bus_laws.proofs.walk.Next.{quiet-next, within-next}
 use Rattle.mux_plan.specs.Plans.{slots_of}
 use Rattle.core_laws.specs.Core.{Place, has_reply, pending, IsGoing, CoreKept, Run, Whole}
 use Rattle.core_laws.specs.Owed.{total, message_most}
-use Rattle.core_laws.specs.Spots.{Socket}
+use Rattle.core_laws.specs.Spots.{seen_of, Socket}
 use Rattle.core_laws.specs.Steps.{next_of}
 use Rattle.bus_laws.proofs.past.Bytes.{got-grows, given-few}
 use Rattle.core_laws.proofs.Core.{owes-here, pending-set, stands-here, going-on}
@@ -61,7 +61,7 @@ module _ (run : Run) (whole : Whole) (core : CoreKept run whole) where
     owes-next : (act : Act) → next_of whole.locks p.tree ≡ Some act → weight_at run.board act + settle_due p.owed ≤ n
     owes-next act first =
         let its : IsGoing run p n = going-on run whole core place p _ n (stands-here run whole core place p here) act first in
-        let next = within-next run.board (slots_of whole.locks.marks) p.tree its.owes.ahead its.owes.within act first in
+        let next = within-next run.board (slots_of (seen_of whole.locks)) p.tree its.owes.ahead its.owes.within act first in
         let light : weight_at run.board act + next.0 ≤ its.owes.ahead = next.1 in
         let most : its.owes.ahead + settle_due p.owed + (run.left p.number p.taken - cost_of run.board p.transfer) ≤ n = its.owes.most in
         omega (arith, light, most)
@@ -75,7 +75,7 @@ module _ (run : Run) (whole : Whole) (core : CoreKept run whole) where
     room-one (Settle verdict) first =
         (let its : IsGoing run p n = going-on run whole core place p _ n (stands-here run whole core place p here) (Settle verdict) first in
         elim its.is_left [
-          | inl is ↦ absurd (quiet-next (slots_of whole.locks.marks) p.tree is.quiet verdict first)
+          | inl is ↦ absurd (quiet-next (slots_of (seen_of whole.locks)) p.tree is.quiet verdict first)
           | inr lone ↦ (let w : 0 + settle_due p.owed ≤ n = owes-next (Settle verdict) first in
               let one : settle_due p.owed ≡ settle_due [] = ap settle_due lone.1 in
               omega (arith, w, one, low, core.room_left))

@@ -30,8 +30,7 @@ use Rattle.bus_spec.specs.Readings.{cut_told, message_cut}
 use Rattle.bus_spec.specs.Past.{Now, current, now, mark, step, sent, sent_by, lined, lined_by, line_call, moved, with_due, talk_of, is_due, got_after, cut_of}
 use Rattle.bus_spec.specs.Stepwise.{IsNext, IsStepwise, reply_by}
 use Rattle.bus_spec.specs.Tells.{HearsIn, heard_list, TellsMessage}
-use Rattle.mux_plan.specs.Plans.{slots_of, slots_after, TellsMarks}
-use Rattle.mux_plan.proofs.Openings.{seen-marks}
+use Rattle.mux_plan.specs.Plans.{SeenView, slots_of, slots_after, TellsMarks}
 use Rattle.bus_laws.specs.Lines.{LinesAreLocked}
 use Rattle.bus_laws.specs.Settles.{NoSettle}
 use Rattle.bus_laws.specs.Reach.{AsksForMessages}
@@ -40,7 +39,7 @@ use Rattle.bus_laws.proofs.past.Marks.{mark-there}
 use Rattle.bus_laws.proofs.past.Next.{call-reaches, control-switches}
 use Rattle.bus_laws.proofs.past.StandsStep.{at_same, at_other}
 use Rattle.seg_locks.specs.Locks.{LocksView}
-use Rattle.core_laws.specs.Spots.{Spot, SpotTold, Socket, SocketTold, IsTold, AreNumbered, AreRooted}
+use Rattle.core_laws.specs.Spots.{seen_of, turned_to, TellsKept, Spot, SpotTold, Socket, SocketTold, IsTold, AreNumbered, AreRooted}
 use Rattle.core_laws.proofs.Steps.{set_here, own-ahead, spots-kept}
 use Rattle.core_laws.specs.Sends.{Sending, IsMessageOf, IsChipAddress, IsHeard, HasSent, message_for, ends_with}
 use Rattle.core_laws.proofs.MessageTold.{call-hears, control-hears, call-message, control-message, last-is}
@@ -103,7 +102,8 @@ module _ (b : BoardView) (tree : IsTree b) (plain : IsPlainBoard b) (lines : Lin
             ]
 
   module _ (past : List Entry) (spots : List Spot) (v : LocksView) (sockets : List Socket) (due : Option ℕ)
-      (told : IsTold b callers asks past spots v sockets due) (numbered : AreNumbered callers spots) (place : ℕ) (x : Spot) (here : slice_get spots place ≡ Some x) where
+      (told : IsTold b callers asks past spots v sockets due) (numbered : AreNumbered callers spots) (place : ℕ) (x : Spot) (here : slice_get spots place ≡ Some x)
+      (sees : seen (now b asks past).slot x.tree ≡ seen (slots_of (seen_of v)) x.tree) where
     abbrev n : Now
     n = now b asks past
 
@@ -119,19 +119,19 @@ module _ (b : BoardView) (tree : IsTree b) (plain : IsPlainBoard b) (lines : Lin
     tells_here : TellsMarks n.slot v.marks
     tells_here = record { at = λ p h. told.locks_told.mark p }
 
-    -- the marks answer its looks
-    current-is : current b asks n c ≡ seen (slots_of v.marks) x.tree
-    current-is = ap (seen n.slot) own.walk ∙ seen-marks n.slot v.marks told.locks_told.mark x.tree
+    -- the lock words answer its looks
+    current-is : current b asks n c ≡ seen (slots_of (seen_of v)) x.tree
+    current-is = ap (seen n.slot) own.walk ∙ sees
 
-    next-is : (act : Act) → first_act (seen (slots_of v.marks) x.tree) ≡ Some act → IsNext b asks n c act
+    next-is : (act : Act) → first_act (seen (slots_of (seen_of v)) x.tree) ≡ Some act → IsNext b asks n c act
     next-is act first = ap (λ (w : WalkTree). first_act w) current-is ∙ first
 
-    rest-is : (out : ActOutcome) (w : WalkTree) → w ≡ rest_of (seen (slots_of v.marks) x.tree) out → rest_of (current b asks n c) out ≡ w
+    rest-is : (out : ActOutcome) (w : WalkTree) → w ≡ rest_of (seen (slots_of (seen_of v)) x.tree) out → rest_of (current b asks n c) out ≡ w
     rest-is out w is = ap (λ (t : WalkTree). rest_of t out) current-is ∙ sym is
 
     -- A MESSAGE of a job was sent on the root of a socket
     module _ (none : due ≡ None) (once : AreRooted sockets) (at : ℕ) (old new : Socket) (port_here : slice_get sockets at ≡ Some old)
-        (job : Job) (left : ℕ) (first : first_act (seen (slots_of v.marks) x.tree) ≡ Some (Send job left)) (next : Sending) (of : IsMessageOf job left next) (rooted : old.root ≡ root_of b (job_bus job))
+        (job : Job) (left : ℕ) (first : first_act (seen (slots_of (seen_of v)) x.tree) ≡ Some (Send job left)) (next : Sending) (of : IsMessageOf job left next) (rooted : old.root ≡ root_of b (job_bus job))
         (t : TransferView) (gone : ℕ)
         (whose : (bus : ℕ) (ms : List MessageView) → job ≡ Call bus ms → (asks c (x.taken ++ x.owed) ≡ Some t) × (bus ≡ t.bus) × (ms ≡ messages_of t) × (gone + suc left ≡ length ms))
         (addr : ℕ) (reading : Bool) (bytes : List ℕ) (heard : Option Node) (e : End)
@@ -251,8 +251,9 @@ module _ (b : BoardView) (tree : IsTree b) (plain : IsPlainBoard b) (lines : Lin
       step_is : step b asks n said ≡ behind
       step_is = ap (λ (a : Option Act). with_due c (moved b asks n (sent_by b n c a (first_note (current b asks n c)) reading bytes e) c said (Sent e bytes))) is_next
 
-      module _ (w : WalkTree) (is : w ≡ rest_of (seen (slots_of v.marks) x.tree) (Sent e bytes)) (goes : is_over w ≡ false) (marks_now : List (Option ℕ)) (all : length marks_now ≡ buses b)
-          (marked : (y : Slots) → TellsMarks y v.marks → TellsMarks (slots_after (Some (Send job left)) (first_note (seen (slots_of v.marks) x.tree)) (Sent e bytes) y) marks_now) where
+      module _ (w : WalkTree) (is : w ≡ rest_of (seen (slots_of (seen_of v)) x.tree) (Sent e bytes)) (goes : is_over w ≡ false) (words : SeenView) (all : length words.marks ≡ buses b)
+          (marked : (y : Slots) → TellsMarks y v.marks → TellsMarks (slots_after (Some (Send job left)) (first_note (seen (slots_of (seen_of v)) x.tree)) (Sent e bytes) y) words.marks)
+          (kept : (y : Slots) → TellsKept b y v.kept → TellsKept b (slots_after (Some (Send job left)) (first_note (seen (slots_of (seen_of v)) x.tree)) (Sent e bytes) y) words.kept) where
         abbrev pub spot_behind : Spot
         spot_behind = record x { tree = w; got = got_after job reading bytes x.got; cut = message_cut next.purpose next.part e }
 
@@ -268,12 +269,16 @@ module _ (b : BoardView) (tree : IsTree b) (plain : IsPlainBoard b) (lines : Lin
               cut_is = at_same n.cut c (cut_told said);
             }
 
-        marked_later : TellsMarks behind.slot marks_now
+        marked_later : TellsMarks behind.slot words.marks
         marked_later =
-            subst (λ (y : WalkTree). TellsMarks (after_job job left (first_note y).marks (Sent e bytes) n.slot) marks_now) (sym current-is) (marked n.slot tells_here)
+            subst (λ (y : WalkTree). TellsMarks (after_job job left (first_note y).marks (Sent e bytes) n.slot) words.marks) (sym current-is) (marked n.slot tells_here)
+
+        kept_later : TellsKept b behind.slot words.kept
+        kept_later =
+            subst (λ (y : WalkTree). TellsKept b (after_job job left (first_note y).marks (Sent e bytes) n.slot) words.kept) (sym current-is) (kept n.slot told.locks_told.kept)
 
         pub told-said : (later : Option ℕ) → due_at c (first_act w) ≡ later
-            → IsTold b callers asks (said ∷ past) (set spots place spot_behind) (record v { marks = marks_now }) (set sockets at new) later
+            → IsTold b callers asks (said ∷ past) (set spots place spot_behind) (turned_to v words) (set sockets at new) later
         told-said later due_is =
             record {
               stepwise = steps;
@@ -283,7 +288,8 @@ module _ (b : BoardView) (tree : IsTree b) (plain : IsPlainBoard b) (lines : Lin
                 roots = told.locks_told.roots;
                 muxes = told.locks_told.muxes;
                 holder = λ l there. told.locks_told.holder l there ∙ sym (ap (λ (k : Now). k.holder l) step_is);
-                mark = marks-told (said ∷ past) steps marks_now all (subst (λ (k : Now). TellsMarks k.slot marks_now) (sym step_is) marked_later);
+                mark = marks-told (said ∷ past) steps words.marks all (subst (λ (k : Now). TellsMarks k.slot words.marks) (sym step_is) marked_later);
+                kept = subst (λ (k : Now). TellsKept b k.slot words.kept) (sym step_is) kept_later;
               };
               ports_told = sockets-said n (step b asks n said) sockets once told.ports_told at old new port_here has.root talked.now talked.calls
                   (ap (λ (k : Now). k.worlds) step_is ∙ ap (λ (k : ℕ). changed_at n.worlds k talked.now) (sym rooted))
@@ -293,17 +299,17 @@ module _ (b : BoardView) (tree : IsTree b) (plain : IsPlainBoard b) (lines : Lin
             }
 
         -- nothing is decided by it
-        pub told-message : NoSettle w → IsTold b callers asks (said ∷ past) (set spots place spot_behind) (record v { marks = marks_now }) (set sockets at new) None
+        pub told-message : NoSettle w → IsTold b callers asks (said ∷ past) (set spots place spot_behind) (turned_to v words) (set sockets at new) None
         told-message quiet = told-said None (quiet_due c w quiet)
 
         -- .. or its caller's settle is due
         pub told-decided : (verdict : Option Errno) → first_act w ≡ Some (Settle verdict)
-            → IsTold b callers asks (said ∷ past) (set spots place spot_behind) (record v { marks = marks_now }) (set sockets at new) (Some c)
+            → IsTold b callers asks (said ∷ past) (set spots place spot_behind) (turned_to v words) (set sockets at new) (Some c)
         told-decided verdict settles = told-said (Some c) (ap (λ (a : Option Act). due_at c a) settles)
 
     -- A LINE STEP on the root of a socket
     module _ (none : due ≡ None) (once : AreRooted sockets) (at : ℕ) (old new : Socket) (port_here : slice_get sockets at ≡ Some old)
-        (job : Job) (first : first_act (seen (slots_of v.marks) x.tree) ≡ Some (Shift job)) (rooted : old.root ≡ root_of b (job_bus job)) (failed : Bool)
+        (job : Job) (first : first_act (seen (slots_of (seen_of v)) x.tree) ≡ Some (Shift job)) (rooted : old.root ≡ root_of b (job_bus job)) (failed : Bool)
         (same_root : new.root ≡ old.root) (world_now : new.world ≡ after old.world (line_call job failed)) (log_now : new.log ≡ old.log ++ line_call job failed ∷ []) where
       abbrev line_r : ℕ
       line_r = root_of b (job_bus job)
@@ -323,8 +329,9 @@ module _ (b : BoardView) (tree : IsTree b) (plain : IsPlainBoard b) (lines : Lin
       line_step_is : step b asks n shifted ≡ line_behind
       line_step_is = ap (λ (a : Option Act). with_due c (moved b asks n (lined_by b n a (first_note (current b asks n c)) failed) c shifted (Lined failed))) line_next
 
-      module _ (w : WalkTree) (is : w ≡ rest_of (seen (slots_of v.marks) x.tree) (Lined failed)) (goes : is_over w ≡ false) (marks_now : List (Option ℕ)) (all : length marks_now ≡ buses b)
-          (marked : (y : Slots) → TellsMarks y v.marks → TellsMarks (slots_after (Some (Shift job)) (first_note (seen (slots_of v.marks) x.tree)) (Lined failed) y) marks_now) where
+      module _ (w : WalkTree) (is : w ≡ rest_of (seen (slots_of (seen_of v)) x.tree) (Lined failed)) (goes : is_over w ≡ false) (words : SeenView) (all : length words.marks ≡ buses b)
+          (marked : (y : Slots) → TellsMarks y v.marks → TellsMarks (slots_after (Some (Shift job)) (first_note (seen (slots_of (seen_of v)) x.tree)) (Lined failed) y) words.marks)
+          (kept : (y : Slots) → TellsKept b y v.kept → TellsKept b (slots_after (Some (Shift job)) (first_note (seen (slots_of (seen_of v)) x.tree)) (Lined failed) y) words.kept) where
         abbrev pub spot_shifted : Spot
         spot_shifted = record x { tree = w; cut = cut_told shifted }
 
@@ -340,12 +347,16 @@ module _ (b : BoardView) (tree : IsTree b) (plain : IsPlainBoard b) (lines : Lin
               cut_is = at_same n.cut c (cut_told shifted);
             }
 
-        line_marked : TellsMarks line_behind.slot marks_now
+        line_marked : TellsMarks line_behind.slot words.marks
         line_marked =
-            subst (λ (y : WalkTree). TellsMarks (after_job job zero (first_note y).marks (Lined failed) n.slot) marks_now) (sym current-is) (marked n.slot tells_here)
+            subst (λ (y : WalkTree). TellsMarks (after_job job zero (first_note y).marks (Lined failed) n.slot) words.marks) (sym current-is) (marked n.slot tells_here)
+
+        line_kept : TellsKept b line_behind.slot words.kept
+        line_kept =
+            subst (λ (y : WalkTree). TellsKept b (after_job job zero (first_note y).marks (Lined failed) n.slot) words.kept) (sym current-is) (kept n.slot told.locks_told.kept)
 
         pub told-shifted : (later : Option ℕ) → due_at c (first_act w) ≡ later
-            → IsTold b callers asks (shifted ∷ past) (set spots place spot_shifted) (record v { marks = marks_now }) (set sockets at new) later
+            → IsTold b callers asks (shifted ∷ past) (set spots place spot_shifted) (turned_to v words) (set sockets at new) later
         told-shifted later due_is =
             let w_is : after old.world (line_call job failed) ≡ after (n.worlds line_r) (line_call job failed) =
             ap (λ (y : World). after y (line_call job failed)) ((told.ports_told at old port_here).world ∙ ap n.worlds rooted) in
@@ -357,7 +368,8 @@ module _ (b : BoardView) (tree : IsTree b) (plain : IsPlainBoard b) (lines : Lin
                 roots = told.locks_told.roots;
                 muxes = told.locks_told.muxes;
                 holder = λ l there. told.locks_told.holder l there ∙ sym (ap (λ (k : Now). k.holder l) line_step_is);
-                mark = marks-told (shifted ∷ past) line_steps marks_now all (subst (λ (k : Now). TellsMarks k.slot marks_now) (sym line_step_is) line_marked);
+                mark = marks-told (shifted ∷ past) line_steps words.marks all (subst (λ (k : Now). TellsMarks k.slot words.marks) (sym line_step_is) line_marked);
+                kept = subst (λ (k : Now). TellsKept b k.slot words.kept) (sym line_step_is) line_kept;
               };
               ports_told = sockets-said n (step b asks n shifted) sockets once told.ports_told at old new port_here same_root (after (n.worlds line_r) (line_call job failed)) (line_call job failed ∷ [])
                   (ap (λ (k : Now). k.worlds) line_step_is ∙ ap (λ (k : ℕ). changed_at n.worlds k (after (n.worlds line_r) (line_call job failed))) (sym rooted))
@@ -366,16 +378,16 @@ module _ (b : BoardView) (tree : IsTree b) (plain : IsPlainBoard b) (lines : Lin
                   log_now;
             }
 
-        pub told-line : NoSettle w → IsTold b callers asks (shifted ∷ past) (set spots place spot_shifted) (record v { marks = marks_now }) (set sockets at new) None
+        pub told-line : NoSettle w → IsTold b callers asks (shifted ∷ past) (set spots place spot_shifted) (turned_to v words) (set sockets at new) None
         told-line quiet = told-shifted None (quiet_due c w quiet)
 
         pub told-line-decided : (verdict : Option Errno) → first_act w ≡ Some (Settle verdict)
-            → IsTold b callers asks (shifted ∷ past) (set spots place spot_shifted) (record v { marks = marks_now }) (set sockets at new) (Some c)
+            → IsTold b callers asks (shifted ∷ past) (set spots place spot_shifted) (turned_to v words) (set sockets at new) (Some c)
         told-line-decided verdict settles = told-shifted (Some c) (ap (λ (a : Option Act). due_at c a) settles)
 
     -- THE SETTLE that the step before decides: the caller isn't told yet
-    module _ (waits : due ≡ Some c) (verdict : Option Errno) (first : first_act (seen (slots_of v.marks) x.tree) ≡ Some (Settle verdict)) (unpaid : x.owed ≡ []) (t : TransferView) (asked : asks c x.taken ≡ Some t)
-        (reply : Reply) (decided : reply ≡ reply_by verdict (Some t) x.got) (w : WalkTree) (is : w ≡ rest_of (seen (slots_of v.marks) x.tree) Passed) (goes : is_over w ≡ false) where
+    module _ (waits : due ≡ Some c) (verdict : Option Errno) (first : first_act (seen (slots_of (seen_of v)) x.tree) ≡ Some (Settle verdict)) (unpaid : x.owed ≡ []) (t : TransferView) (asked : asks c x.taken ≡ Some t)
+        (reply : Reply) (decided : reply ≡ reply_by verdict (Some t) x.got) (w : WalkTree) (is : w ≡ rest_of (seen (slots_of (seen_of v)) x.tree) Passed) (goes : is_over w ≡ false) where
       abbrev pub settled : Entry
       settled = entry.Settle c reply x.cut
 
@@ -402,6 +414,6 @@ module _ (b : BoardView) (tree : IsTree b) (plain : IsPlainBoard b) (lines : Lin
                   got_is = at_same n.got c [];
                   cut_is = at_same n.cut c (cut_told settled);
                 });
-            locks_told = record { roots = told.locks_told.roots; muxes = told.locks_told.muxes; holder = told.locks_told.holder; mark = told.locks_told.mark };
+            locks_told = record { roots = told.locks_told.roots; muxes = told.locks_told.muxes; holder = told.locks_told.holder; mark = told.locks_told.mark; kept = told.locks_told.kept };
             ports_told = λ k y is_at. record { world = (told.ports_told k y is_at).world; log = (told.ports_told k y is_at).log };
           }

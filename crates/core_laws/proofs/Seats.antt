@@ -1,6 +1,6 @@
 -- The seat of a caller whose walk goes on behind a step, and behind its settle. No induction.
-use Rattle.std.proofs.Common.{◌≡◌, ℕ, ◌-◌, ◌≤◌, Bool, true, false, List, [], ◌∷◌, Option, Some, None, refl, sym, ◌∙◌, ap, subst, inl}
-use Rattle.std.specs.Prelude.{take, not, slice_index_or}
+use Rattle.std.proofs.Common.{◌≡◌, ℕ, ◌-◌, ◌≤◌, Bool, true, false, List, [], ◌∷◌, Option, Some, refl, sym, ◌∙◌, ap, subst, inl}
+use Rattle.std.specs.Prelude.{take, not}
 use Rattle.i2c_base.specs.declared.ids.LockId.{LockId}
 use Rattle.i2c_base.specs.declared.errno.Errno.{Errno}
 use Rattle.i2c_base.specs.declared.reply.Reply.{Reply}
@@ -13,7 +13,7 @@ use Rattle.bus_spec.specs.Grammar.{seen, is_over, first_act, rest_of}
 use Rattle.bus_laws.specs.Holds.{IsMarkOn, HoldsLocks}
 use Rattle.bus_laws.specs.Runs.{InLocks}
 use Rattle.bus_laws.proofs.walk.Next.{seen-first}
-use Rattle.mux_plan.specs.Plans.{slots_of}
+use Rattle.mux_plan.specs.Plans.{mark_on, SeenView, slots_of}
 use Rattle.core_laws.specs.Core.{Place, Run, has_reply, IsGoing, SeatKept}
 use Rattle.core_laws.specs.Owed.{OwesUpTo}
 use Rattle.core_laws.specs.Seats.{IsLeft, IsDecided}
@@ -37,22 +37,22 @@ module _ (run : Run) (p : Place) (n : ℕ) (its : IsGoing run p n) (ls : List Lo
       }
 
   -- A WALK THAT SETTLES NEXT, and its settle: its reply is owed
-  module _ (marks : List (Option ℕ)) (home : (q : ℕ) → IsMarkOn run.board q (slice_index_or marks q None)) (verdict : Option Errno) (decides : IsDecided run.board p.transfer verdict w)
+  module _ (words : SeenView) (home : (q : ℕ) → IsMarkOn run.board q (mark_on words q)) (verdict : Option Errno) (decides : IsDecided run.board p.transfer verdict w)
       (l : LockId) (among : InLocks l ls) (unsettled : has_reply p.owed ≡ false) (less : ℕ) (owes : OwesAt run p w (not (has_reply p.owed)) less) where
     abbrev pub after : WalkTree
     after = rest_of w Passed
 
-    look : seen (slots_of marks) w ≡ w
-    look = seen-first (slots_of marks) w (Settle verdict) decides.first
+    look : seen (slots_of words) w ≡ w
+    look = seen-first (slots_of words) w (Settle verdict) decides.first
 
-    settles : first_act (seen (slots_of marks) w) ≡ Some (Settle verdict)
+    settles : first_act (seen (slots_of words) w) ≡ Some (Settle verdict)
     settles = ap (λ (x : WalkTree). first_act x) look ∙ decides.first
 
     after_holds : HoldsLocks run.board ls after
-    after_holds = subst (λ (x : WalkTree). HoldsLocks run.board ls (rest_of x Passed)) look (holds-settled run.board marks home ls w holds verdict settles)
+    after_holds = subst (λ (x : WalkTree). HoldsLocks run.board ls (rest_of x Passed)) look (holds-settled run.board words home ls w holds verdict settles)
 
-    paid : (1 ≤ less) × OwesAt run p (rest_of (seen (slots_of marks) w) Passed) false (less - 1)
-    paid = owes-settle run.board w (run.left p.number p.taken - cost_of run.board p.transfer) less (subst (λ (u : Bool). OwesAt run p w u less) (ap not unsettled) owes) (slots_of marks) verdict settles
+    paid : (1 ≤ less) × OwesAt run p (rest_of (seen (slots_of words) w) Passed) false (less - 1)
+    paid = owes-settle run.board w (run.left p.number p.taken - cost_of run.board p.transfer) less (subst (λ (u : Bool). OwesAt run p w u less) (ap not unsettled) owes) (slots_of words) verdict settles
 
     pub settled-pays : 1 ≤ less
     settled-pays = paid.0
@@ -66,7 +66,7 @@ module _ (run : Run) (p : Place) (n : ℕ) (its : IsGoing run p n) (ls : List Lo
           over = λ o. absurd (let f : false ≡ true = sym settled-goes ∙ o in cc);
           going = λ g. record {
             asked = its.asked;
-            is_left = inl (subst (λ (x : WalkTree). IsLeft run.board p.transfer true gone (rest_of x Passed)) look (left-settled run.board p.transfer verdict w (slots_of marks) gone decides));
+            is_left = inl (subst (λ (x : WalkTree). IsLeft run.board p.transfer true gone (rest_of x Passed)) look (left-settled run.board p.transfer verdict w (slots_of words) gone decides));
             partway = λ f. absurd (let h : reply ∷ [] ≡ [] = f in cc);
             emptied = λ f. refl;
             fits = λ r f. subst (λ (x : Reply). Fits p.transfer x) (let h : reply ∷ [] ≡ r ∷ [] = f in cc) fits;

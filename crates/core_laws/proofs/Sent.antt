@@ -17,7 +17,7 @@ use Rattle.bus_laws.specs.Runs.{IsCall}
 use Rattle.bus_laws.proofs.past.Placed.{no_settle}
 use Rattle.bus_laws.proofs.walk.Reads.{message-reads}
 use Rattle.i2c_spec.proofs.MessageLemmas.{length-messages}
-use Rattle.mux_plan.specs.Plans.{slots_of}
+use Rattle.mux_plan.specs.Plans.{SeenView, slots_of}
 use Rattle.core_laws.specs.Core.{Place, has_reply, IsGoing, CoreKept, Run, Whole, IsSent}
 use Rattle.core_laws.specs.Seats.{IsLeft, IsDecided}
 use Rattle.core_laws.specs.Sends.{Sending, message_for, call_message, gone_after}
@@ -27,14 +27,14 @@ use Rattle.core_laws.proofs.Core.{owes-here, stands-here, going-on, left-on}
 use Rattle.core_laws.proofs.CoreSteps.{none_owed}
 use Rattle.core_laws.proofs.Leaves.{is_ok, message-leaves}
 use Rattle.core_laws.proofs.WalkSteps.{SettlesNext, call-is, ended-leaves, line-leaves}
-use Rattle.core_laws.specs.Spots.{Socket}
+use Rattle.core_laws.specs.Spots.{seen_of, Socket}
 use Rattle.i2c_base.specs.declared.ids.Node.{Node}
 use Rattle.bus_laws.proofs.past.Bytes.{reply-fits}
 
 module _ (run : Run) (whole : Whole) (core : CoreKept run whole)
     (place : ℕ) (p : Place) (here : slice_get whole.places place ≡ Some p)
-    (job : Job) (more : ℕ) (next : Sending) (at : ℕ) (old new : Socket) (addr : ℕ) (reading : Bool) (bytes : List ℕ) (heard : Option Node) (e : End) (marks : List (Option ℕ))
-    (is_sent : IsSent run whole p job more next at old new addr reading bytes heard e marks) where
+    (job : Job) (more : ℕ) (next : Sending) (at : ℕ) (old new : Socket) (addr : ℕ) (reading : Bool) (bytes : List ℕ) (heard : Option Node) (e : End) (words : SeenView)
+    (is_sent : IsSent run whole p job more next at old new addr reading bytes heard e words) where
   abbrev behind : WalkTree
   behind = behind_of whole.locks p.tree (Sent e bytes)
 
@@ -53,7 +53,7 @@ module _ (run : Run) (whole : Whole) (core : CoreKept run whole)
   -- a message of the caller's that went through
   module _ (bus : ℕ) (ms : List MessageView) (is : job ≡ Call bus ms) where
     call : (has_reply p.owed ≡ false) × IsCall run.board p.transfer bus ms × (p.sent + suc more ≡ length ms)
-    call = call-is run.board p.transfer (slots_of whole.locks.marks) p.tree (has_reply p.owed) p.sent its_left bus ms more (subst (λ (j : Job). next_of whole.locks p.tree ≡ Some (Send j more)) is is_sent.first)
+    call = call-is run.board p.transfer (slots_of (seen_of whole.locks)) p.tree (has_reply p.owed) p.sent its_left bus ms more (subst (λ (j : Job). next_of whole.locks p.tree ≡ Some (Send j more)) is is_sent.first)
 
     many : length ms ≡ length p.transfer.msgs
     many = ap (λ (xs : List MessageView). length xs) call.1.same_messages ∙ length-messages p.transfer.msgs p.transfer.out
@@ -93,7 +93,7 @@ module _ (run : Run) (whole : Whole) (core : CoreKept run whole)
       ended : (bus : ℕ) (ms : List MessageView) → job ≡ Call bus ms → (e ≡ end.Ok → ⊥) → ⊥
       ended bus ms is bad =
           let s : SettlesNext run.board p.transfer (has_reply p.owed) (Call bus ms) more e behind =
-          ended-leaves run.board p.transfer (slots_of whole.locks.marks) p.tree (has_reply p.owed) p.sent its_left bus ms more (subst (λ (j : Job). next_of whole.locks p.tree ≡ Some (Send j more)) is is_sent.first) e bytes bad in
+          ended-leaves run.board p.transfer (slots_of (seen_of whole.locks)) p.tree (has_reply p.owed) p.sent its_left bus ms more (subst (λ (j : Job). next_of whole.locks p.tree ≡ Some (Send j more)) is is_sent.first) e bytes bad in
           no_settle behind s.1 leaves.quiet s.2.first
 
       by : (j : Job) → job ≡ j → Fit job
@@ -105,7 +105,7 @@ module _ (run : Run) (whole : Whole) (core : CoreKept run whole)
   pub sent-leaves : (IsLeft run.board p.transfer (has_reply p.owed) gone behind × (p.owed ≡ [] → FitsReads (take gone p.transfer.msgs) got))
       ⊎ ((has_reply p.owed ≡ false) × (verdict : Option Errno) × IsDecided run.board p.transfer verdict behind × ((reply : Reply) → reply ≡ reply_by verdict (Some p.transfer) got → Fits p.transfer reply))
   sent-leaves =
-      elim (message-leaves run.board p.transfer (slots_of whole.locks.marks) p.tree (has_reply p.owed) p.sent its_left job more is_sent.first e bytes) [
+      elim (message-leaves run.board p.transfer (slots_of (seen_of whole.locks)) p.tree (has_reply p.owed) p.sent its_left job more is_sent.first e bytes) [
         | inl leaves ↦ inl (leaves, partway-behind leaves)
         | inr s ↦ inr (
           s.0,
@@ -122,5 +122,5 @@ pub lined-leaves : (run : Run) (whole : Whole) → CoreKept run whole → (place
     ⊎ ((has_reply p.owed ≡ false) × (err : Errno) × IsDecided run.board p.transfer (Some err) (behind_of whole.locks p.tree (Lined failed)))
 lined-leaves run whole core place p here job first failed =
     let stands = stands-here run whole core place p here in
-    line-leaves run.board p.transfer (slots_of whole.locks.marks) p.tree (has_reply p.owed) p.sent
+    line-leaves run.board p.transfer (slots_of (seen_of whole.locks)) p.tree (has_reply p.owed) p.sent
     (left-on run whole core place p _ _ stands (Shift job) first (λ verdict is. let f : Shift job ≡ Settle verdict = is in cc)) job first failed

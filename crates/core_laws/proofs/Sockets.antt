@@ -22,7 +22,7 @@ use Rattle.bus_laws.proofs.walk.Next.{settles-sent}
 use Rattle.mux_plan.specs.Plans.{slots_of}
 use Rattle.bus_laws.specs.Holds.{HoldsLocks}
 use Rattle.seg_locks.specs.Locks.{LocksView, holder_in}
-use Rattle.core_laws.specs.Spots.{Socket, AreRooted}
+use Rattle.core_laws.specs.Spots.{seen_of, Socket, AreRooted}
 use Rattle.core_laws.proofs.Steps.{set_here}
 use Rattle.core_laws.specs.Table.{AreDistinct, TableKept}
 use Rattle.core_laws.specs.Sockets.{IsInside, IsFree, SocketKept, HoldsAt}
@@ -97,7 +97,7 @@ module _ (b : BoardView) (tells : Bool) (trees : List WalkTree) (place : ℕ) (w
 -- A LINE STEP that comes next finds its port idle: whoever were inside would hold the same root's lock
 pub line-idle : (b : BoardView) (tells : Bool) (owed : ℕ) (trees : List WalkTree) (numbers : List ℕ) (held : List (List LockId)) (v : LocksView) → TableKept b v numbers held → AreDistinct numbers
     → ((i : ℕ) (w : WalkTree) → slice_get trees i ≡ Some w → HoldsAt b numbers held i w)
-    → (place : ℕ) (w : WalkTree) → slice_get trees place ≡ Some w → (job : Job) → first_act (seen (slots_of v.marks) w) ≡ Some (Shift job)
+    → (place : ℕ) (w : WalkTree) → slice_get trees place ≡ Some w → (job : Job) → first_act (seen (slots_of (seen_of v)) w) ≡ Some (Shift job)
     → (x : Socket) → x.root ≡ root_of b (job_bus job) → SocketKept b tells owed trees x → x.phase ≡ Idle
 line-idle b tells owed trees numbers held v table distinct each place w here job first x root kept = by kept.free
   where
@@ -108,7 +108,7 @@ line-idle b tells owed trees numbers held v table distinct each place w here job
     own = each place w here
 
     mine : holder_in v (lock.Bus (root_of b (job_bus job))) ≡ Some own.number
-    mine = table.has place own.locks own.number own.here own.numbered (lock.Bus (root_of b (job_bus job))) (holds-shifted b v.marks table.home own.locks w own.holds job first).0.rooted
+    mine = table.has place own.locks own.number own.here own.numbered (lock.Bus (root_of b (job_bus job))) (holds-shifted b (seen_of v) table.home own.locks w own.holds job first).0.rooted
 
     by : IsFree b trees x → x.phase ≡ Idle
     by (inl idle) = idle
@@ -118,7 +118,7 @@ line-idle b tells owed trees numbers held v table distinct each place w here job
         let both : Some own.number ≡ Some other.number = sym mine ∙ ap (λ (k : ℕ). holder_in v (lock.Bus k)) (sym root) ∙ theirs in
         let one : own.number ≡ other.number = cc in
         let same : s.0 ≡ place = distinct s.0 place other.number other.numbered (own.numbered ∙ ap (λ (k : ℕ). Some k) one) in
-        absurd (not-inside b (slots_of v.marks) w x.root (Shift job) first (λ bus ms left e k. let f : Shift job ≡ Send (Call bus ms) left = e in cc)
+        absurd (not-inside b (slots_of (seen_of v)) w x.root (Shift job) first (λ bus ms left e k. let f : Shift job ≡ Send (Call bus ms) left = e in cc)
         (subst (λ (z : WalkTree). IsInside b z x.root) (one_place trees s.0 place s.1 w s.2 here same) s.3))
 
 -- A MESSAGE leaves its port idle, or its caller inside: it is idle where it was the last, or ended

@@ -10,7 +10,7 @@ use Rattle.i2c_base.specs.declared.entry.Entry.TheVariants as entry
 use Rattle.i2c_base.specs.declared.reply.Reply.{Reply}
 use Rattle.i2c_base.specs.declared.reply.Cut.TheVariants as cut_at
 use Rattle.i2c_base.specs.Board.{BoardView}
-use Rattle.i2c_spec.specs.Tree.{buses}
+use Rattle.i2c_spec.specs.Tree.{buses, home_of_mux}
 use Rattle.i2c_spec.specs.TreeFacts.{IsTree}
 use Rattle.i2c_spec.specs.Plain.{IsPlainBoard}
 use Rattle.i2c_spec.specs.History.{Asks}
@@ -26,12 +26,11 @@ use Rattle.bus_laws.specs.Reach.{AsksForMessages}
 use Rattle.bus_laws.proofs.past.Ready.{takes-below}
 use Rattle.bus_laws.proofs.past.StandsStep.{at_same}
 use Rattle.mux_plan.specs.Plans.{slots_of}
-use Rattle.mux_plan.proofs.Openings.{seen-marks}
 use Rattle.bus_laws.specs.Others.{ahead}
 use Rattle.bus_laws.specs.Holds.{IsLockOf}
 use Rattle.bus_laws.proofs.past.Others.{others-stay}
 use Rattle.seg_locks.specs.Locks.{LocksView, holder_in, with_holder}
-use Rattle.core_laws.specs.Spots.{Spot, SpotTold, LocksTold, Socket, IsTold, AreNumbered}
+use Rattle.core_laws.specs.Spots.{seen_of, Spot, SpotTold, LocksTold, Socket, IsTold, AreNumbered}
 use Rattle.i2c_base.proofs.ListLemmas.{set_elsewhere}
 
 pub set_here : {X : Type 0} (xs : List X) (i : ℕ) (x y : X) → slice_get (set xs i x) i ≡ Some y → x ≡ y
@@ -81,6 +80,7 @@ locks-set b n m v told (lock.Bus r) is who holders slots =
       muxes = told.muxes;
       holder = λ k also. held-now b n v told (lock.Bus r) is who k also ∙ sym (holders k);
       mark = λ p. ap (λ (f : Slots). mark_in (f p).slot) slots ∙ told.mark p;
+      kept = λ m. ap (λ (f : Slots). (f (home_of_mux b m)).kept m) slots ∙ told.kept m;
     }
 locks-set b n m v told (lock.Mux p) is who holders slots =
     record {
@@ -88,11 +88,13 @@ locks-set b n m v told (lock.Mux p) is who holders slots =
       muxes = length-set v.buses p who ∙ told.muxes;
       holder = λ k also. held-now b n v told (lock.Mux p) is who k also ∙ sym (holders k);
       mark = λ q. ap (λ (f : Slots). mark_in (f q).slot) slots ∙ told.mark q;
+      kept = λ m. ap (λ (f : Slots). (f (home_of_mux b m)).kept m) slots ∙ told.kept m;
     }
 
 -- THE STEPS
 module _ (b : BoardView) (tree : IsTree b) (plain : IsPlainBoard b) (lines : LinesAreLocked b) (asks : Asks) (some : AsksForMessages asks) (callers : ℕ) (past : List Entry) (spots : List Spot) (v : LocksView) (sockets : List Socket)
-    (told : IsTold b callers asks past spots v sockets None) (numbered : AreNumbered callers spots) (place : ℕ) (x : Spot) (here : slice_get spots place ≡ Some x) where
+    (told : IsTold b callers asks past spots v sockets None) (numbered : AreNumbered callers spots) (place : ℕ) (x : Spot) (here : slice_get spots place ≡ Some x)
+    (sees : seen (now b asks past).slot x.tree ≡ seen (slots_of (seen_of v)) x.tree) where
   abbrev n : Now
   n = now b asks past
 
@@ -105,11 +107,11 @@ module _ (b : BoardView) (tree : IsTree b) (plain : IsPlainBoard b) (lines : Lin
   known : c < callers
   known = numbered.below place x here
 
-  -- the marks answer its looks
-  current-is : current b asks n c ≡ seen (slots_of v.marks) x.tree
-  current-is = ap (seen n.slot) own.walk ∙ seen-marks n.slot v.marks told.locks_told.mark x.tree
+  -- the lock words answer its looks
+  current-is : current b asks n c ≡ seen (slots_of (seen_of v)) x.tree
+  current-is = ap (seen n.slot) own.walk ∙ sees
 
-  module _ (w : WalkTree) (is : w ≡ rest_of (seen (slots_of v.marks) x.tree) Passed) (goes : is_over w ≡ false) where
+  module _ (w : WalkTree) (is : w ≡ rest_of (seen (slots_of (seen_of v)) x.tree) Passed) (goes : is_over w ≡ false) where
     abbrev behind : Spot
     behind = record x { tree = w; cut = cut_at.No }
 
@@ -117,7 +119,7 @@ module _ (b : BoardView) (tree : IsTree b) (plain : IsPlainBoard b) (lines : Lin
     walk-is e f = f ∙ ap (λ (t : WalkTree). rest_of t Passed) current-is ∙ sym is
 
     -- A LOCK IS TAKEN that nobody has
-    pub told-take : (l : LockId) → IsLockOf b l → first_act (seen (slots_of v.marks) x.tree) ≡ Some (Take l) → holder_in v l ≡ None
+    pub told-take : (l : LockId) → IsLockOf b l → first_act (seen (slots_of (seen_of v)) x.tree) ≡ Some (Take l) → holder_in v l ≡ None
         → IsTold b callers asks (entry.Take c l ∷ past) (set spots place behind) (with_holder v l (Some c)) sockets None
     told-take l there first free =
         let e : Entry = entry.Take c l in
@@ -138,7 +140,7 @@ module _ (b : BoardView) (tree : IsTree b) (plain : IsPlainBoard b) (lines : Lin
         }
 
     -- A LOCK IS FREED
-    pub told-free : (l : LockId) → IsLockOf b l → first_act (seen (slots_of v.marks) x.tree) ≡ Some (Free l)
+    pub told-free : (l : LockId) → IsLockOf b l → first_act (seen (slots_of (seen_of v)) x.tree) ≡ Some (Free l)
         → IsTold b callers asks (entry.Free c l ∷ past) (set spots place behind) (with_holder v l None) sockets None
     told-free l there first =
         let e : Entry = entry.Free c l in
@@ -158,7 +160,7 @@ module _ (b : BoardView) (tree : IsTree b) (plain : IsPlainBoard b) (lines : Lin
         }
 
   -- a walk that ends: the reply is handed over, and what is asked for next is ahead
-  module _ (w : WalkTree) (is : w ≡ rest_of (seen (slots_of v.marks) x.tree) Passed) (ends : is_over w ≡ true) (new : WalkTree) where
+  module _ (w : WalkTree) (is : w ≡ rest_of (seen (slots_of (seen_of v)) x.tree) Passed) (ends : is_over w ≡ true) (new : WalkTree) where
     begun-ahead : (m : Now) (replies : List Reply) → m.walk c ≡ w → m.settled c ≡ replies → new ≡ begun b (asks c replies) → ahead b asks m c ≡ new
     begun-ahead m replies here settled loads =
         ap (λ (y : WalkTree). cond (is_over y) (begun b (asks c (m.settled c))) y) here
@@ -170,7 +172,7 @@ module _ (b : BoardView) (tree : IsTree b) (plain : IsPlainBoard b) (lines : Lin
     ended-is e f = f ∙ ap (λ (t : WalkTree). rest_of t Passed) current-is ∙ sym is
 
     -- THE LAST LOCK IS FREED
-    pub told-end : (l : LockId) → IsLockOf b l → first_act (seen (slots_of v.marks) x.tree) ≡ Some (Free l) → new ≡ begun b (asks c (x.taken ++ x.owed))
+    pub told-end : (l : LockId) → IsLockOf b l → first_act (seen (slots_of (seen_of v)) x.tree) ≡ Some (Free l) → new ≡ begun b (asks c (x.taken ++ x.owed))
         → IsTold b callers asks (entry.Free c l ∷ past) (set spots place (record x { tree = new; taken = x.taken ++ x.owed; owed = []; cut = cut_at.No })) (with_holder v l None) sockets None
     told-end l there first loads =
         let e : Entry = entry.Free c l in
@@ -190,7 +192,7 @@ module _ (b : BoardView) (tree : IsTree b) (plain : IsPlainBoard b) (lines : Lin
         }
 
     -- A TRANSFER IS REFUSED: its lone settle is its walk
-    pub told-lone : (verdict : Option Errno) → first_act (seen (slots_of v.marks) x.tree) ≡ Some (Settle verdict) → x.owed ≡ [] → (r : Reply) → r ≡ reply_by verdict (asks c x.taken) x.got
+    pub told-lone : (verdict : Option Errno) → first_act (seen (slots_of (seen_of v)) x.tree) ≡ Some (Settle verdict) → x.owed ≡ [] → (r : Reply) → r ≡ reply_by verdict (asks c x.taken) x.got
         → new ≡ begun b (asks c (x.taken ++ r ∷ []))
         → IsTold b callers asks (entry.Settle c r x.cut ∷ past) (set spots place (record x { tree = new; taken = x.taken ++ r ∷ []; owed = []; got = []; cut = cut_at.No })) v sockets None
     told-lone verdict first none r decided loads =
@@ -208,6 +210,6 @@ module _ (b : BoardView) (tree : IsTree b) (plain : IsPlainBoard b) (lines : Lin
                 got_is = at_same n.got c [];
                 cut_is = at_same n.cut c (cut_told e);
               });
-          locks_told = record { roots = told.locks_told.roots; muxes = told.locks_told.muxes; holder = told.locks_told.holder; mark = told.locks_told.mark };
+          locks_told = record { roots = told.locks_told.roots; muxes = told.locks_told.muxes; holder = told.locks_told.holder; mark = told.locks_told.mark; kept = told.locks_told.kept };
           ports_told = λ k y at. record { world = (told.ports_told k y at).world; log = (told.ports_told k y at).log };
         }

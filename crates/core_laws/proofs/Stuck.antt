@@ -8,15 +8,16 @@ use Rattle.bus_spec.specs.Readings.{holder}
 use Rattle.bus_spec.specs.Past.{current, is_due, now}
 use Rattle.bus_laws.proofs.past.Laws.{holder-told}
 use Rattle.mux_plan.specs.Plans.{slots_of}
-use Rattle.mux_plan.proofs.Openings.{seen-marks}
 use Rattle.bus_laws.specs.Ready.{IsStuck}
 use Rattle.bus_laws.specs.Others.{ahead}
 use Rattle.bus_laws.specs.Waiting.{IsHeldUp}
 use Rattle.seg_locks.specs.Locks.{holder_in}
-use Rattle.core_laws.specs.Spots.{SpotTold, IsTold}
+use Rattle.core_laws.specs.Spots.{seen_of, SpotTold, IsTold}
 use Rattle.core_laws.specs.Core.{Place, spot_of, spots_of, numbers_of, IsLone, CoreKept, Run, Whole}
 use Rattle.core_laws.specs.Steps.{next_of}
 use Rattle.bus_laws.specs.Holds.{IsLockOf}
+use Rattle.core_laws.proofs.Core.{stands-here}
+use Rattle.core_laws.proofs.Looks.{looks-same}
 use Rattle.core_laws.proofs.Table.{lock-there}
 use Rattle.core_laws.proofs.Wants.{take-wants}
 use Rattle.i2c_base.proofs.ListLemmas.{map_at}
@@ -30,12 +31,12 @@ module _ (run : Run) (whole : Whole) (core : CoreKept run whole) (tell : IsTrue 
 
   -- the next step in memory is the one that the journal tells
   pub next-same : first_act (current run.board run.asks (now run.board run.asks whole.past) p.number) ≡ next_of whole.locks p.tree
-  next-same = ap (λ (w : WalkTree). first_act (seen (now run.board run.asks whole.past).slot w)) own.walk ∙ ap (λ (w : WalkTree). first_act w) (seen-marks (now run.board run.asks whole.past).slot whole.locks.marks told.locks_told.mark p.tree)
+  next-same = ap (λ (w : WalkTree). first_act (seen (now run.board run.asks whole.past).slot w)) own.walk ∙ ap (λ (w : WalkTree). first_act w) (looks-same run whole core tell place p _ _ (stands-here run whole core place p here))
 
   holder-same : (l : LockId) (c : ℕ) → holder_in whole.locks l ≡ Some c → holder whole.past l ≡ Some c
   holder-same l c h = sym (holder-told run.board run.asks whole.past l) ∙ sym (told.locks_told.holder l (lock-there run.board whole.locks (numbers_of whole.places) whole.held core.table l c h)) ∙ h
 
-  pub held-up-stuck : IsHeldUp (holder_in whole.locks) (slots_of whole.locks.marks) p.tree → IsStuck run.board run.asks whole.past p.number
+  pub held-up-stuck : IsHeldUp (holder_in whole.locks) (slots_of (seen_of whole.locks)) p.tree → IsStuck run.board run.asks whole.past p.number
   held-up-stuck (inl none) = inr (next-same ∙ none)
   held-up-stuck (inr w) = inl (w.0, w.1, next-same ∙ w.2, holder-same w.0 w.1 w.3)
 

@@ -65,6 +65,10 @@ module _ (b : BoardView) (v : LocksView) (numbers : List ℕ) (held : List (List
   marks_set (lock.Bus r) who = refl
   marks_set (lock.Mux p) who = refl
 
+  kept_set : (l : LockId) (who : Option ℕ) → (with_holder v l who).kept ≡ v.kept
+  kept_set (lock.Bus r) who = refl
+  kept_set (lock.Mux p) who = refl
+
   depths_set : (l : LockId) (who : Option ℕ) → (with_holder v l who).depths ≡ v.depths
   depths_set (lock.Bus r) who = refl
   depths_set (lock.Mux p) who = refl
@@ -91,6 +95,7 @@ module _ (b : BoardView) (v : LocksView) (numbers : List ℕ) (held : List (List
           roots = roots_set l (Some c);
           muxes = muxes_set l (Some c);
           marked = ap (λ (ms : List (Option ℕ)). length ms) (marks_set l (Some c)) ∙ kept.marked;
+          kept = ap (λ (cs : List (Option ℕ)). length cs) (kept_set l (Some c)) ∙ kept.kept;
           deep = ap (λ (ds : List ℕ). length ds) (depths_set l (Some c)) ∙ kept.deep;
           ranked = λ k at. rank_set l (Some c) k ∙ kept.ranked k at;
           named = named;
@@ -153,6 +158,7 @@ module _ (b : BoardView) (v : LocksView) (numbers : List ℕ) (held : List (List
           roots = roots_set l None;
           muxes = muxes_set l None;
           marked = ap (λ (ms : List (Option ℕ)). length ms) (marks_set l None) ∙ kept.marked;
+          kept = ap (λ (cs : List (Option ℕ)). length cs) (kept_set l None) ∙ kept.kept;
           deep = ap (λ (ds : List ℕ). length ds) (depths_set l None) ∙ kept.deep;
           ranked = λ k at. rank_set l None k ∙ kept.ranked k at;
           named = named;

@@ -22,7 +22,7 @@ use Rattle.bus_laws.specs.Holds.{IsLockOf, SendsIn}
 use Rattle.bus_laws.specs.Runs.{InLocks, IsCall}
 use Rattle.seg_locks.specs.Locks.{LocksView, IsLockIn, IsBelowHeld, holder_in, rank_in}
 use Rattle.core_laws.specs.Core.{Place, numbers_of, has_reply, SeatKept, CoreKept, Run, Whole, trees_of}
-use Rattle.core_laws.specs.Spots.{Socket}
+use Rattle.core_laws.specs.Spots.{seen_of, Socket}
 use Rattle.core_laws.specs.Steps.{next_of}
 use Rattle.core_laws.specs.Table.{TableKept}
 use Rattle.core_laws.proofs.Core.{locks-here, number-here, owes-here, seat-here, stands-here, tree-here, holds-at, left-on}
@@ -58,7 +58,7 @@ module _ (run : Run) (whole : Whole) (core : CoreKept run whole)
   -- A LOCK THAT COMES NEXT is of the board, and lower than each that its caller has
   pub take-wants : (l : LockId) → next_of whole.locks p.tree ≡ Some (Take l) → IsLockIn whole.locks l × IsLockOf run.board l × IsBelowHeld whole.locks p.number l
   take-wants l first =
-      let takes = holds-taken run.board whole.locks.marks core.table.home own.0 p.tree seat.holds l first in (
+      let takes = holds-taken run.board (seen_of whole.locks) core.table.home own.0 p.tree seat.holds l first in (
         lock-in run.board whole.locks (numbers_of whole.places) whole.held core.table l takes.0,
         takes.0,
         (λ k has. (let low : rank run.board l < rank run.board k = below-all run.board whole.locks (numbers_of whole.places) whole.held core.table core.distinct place p.number own.0 own.1 numbered l takes.1 k has in
@@ -70,7 +70,7 @@ module _ (run : Run) (whole : Whole) (core : CoreKept run whole)
   -- A LOCK THAT IS FREED NEXT is its caller's
   pub free-wants : (l : LockId) → next_of whole.locks p.tree ≡ Some (Free l) → IsLockIn whole.locks l × (holder_in whole.locks l ≡ Some p.number)
   free-wants l first =
-      let frees = holds-freed run.board whole.locks.marks core.table.home own.0 p.tree seat.holds l first in
+      let frees = holds-freed run.board (seen_of whole.locks) core.table.home own.0 p.tree seat.holds l first in
       held-wants own.0 own.1 l (subst (λ (ks : List LockId). InLocks l ks) (sym frees.1) (inl refl))
 
   -- A LINE STEP THAT COMES NEXT finds its port idle
@@ -80,11 +80,11 @@ module _ (run : Run) (whole : Whole) (core : CoreKept run whole)
       place p.tree (tree-here run whole core place p here) job first old rooted (core.sockets_kept at old port)
 
   -- A MESSAGE OR A LINE STEP THAT COMES NEXT has the locks held that it needs, and is done behind the transfer's root
-  pub send-wants : (job : Job) (more : ℕ) → next_of whole.locks p.tree ≡ Some (Send job more) → SendsIn run.board job (first_note (seen (slots_of whole.locks.marks) p.tree)).marks own.0
-  send-wants job more first = (holds-sent run.board whole.locks.marks core.table.home own.0 p.tree seat.holds job more first).0
+  pub send-wants : (job : Job) (more : ℕ) → next_of whole.locks p.tree ≡ Some (Send job more) → SendsIn run.board job (first_note (seen (slots_of (seen_of whole.locks)) p.tree)).marks own.0
+  send-wants job more first = (holds-sent run.board (seen_of whole.locks) core.table.home own.0 p.tree seat.holds job more first).0
 
-  pub shift-wants : (job : Job) → next_of whole.locks p.tree ≡ Some (Shift job) → SendsIn run.board job (first_note (seen (slots_of whole.locks.marks) p.tree)).marks own.0
-  shift-wants job first = (holds-shifted run.board whole.locks.marks core.table.home own.0 p.tree seat.holds job first).0
+  pub shift-wants : (job : Job) → next_of whole.locks p.tree ≡ Some (Shift job) → SendsIn run.board job (first_note (seen (slots_of (seen_of whole.locks)) p.tree)).marks own.0
+  shift-wants job first = (holds-shifted run.board (seen_of whole.locks) core.table.home own.0 p.tree seat.holds job first).0
 
   pub send-left : (job : Job) (more : ℕ) → next_of whole.locks p.tree ≡ Some (Send job more) → IsLeft run.board p.transfer (has_reply p.owed) p.sent p.tree
   send-left job more first = left-on run whole core place p _ _ (stands-here run whole core place p here) (Send job more) first (λ verdict is. let f : Send job more ≡ Settle verdict = is in cc)
@@ -93,15 +93,15 @@ module _ (run : Run) (whole : Whole) (core : CoreKept run whole)
   shift-left job first = left-on run whole core place p _ _ (stands-here run whole core place p here) (Shift job) first (λ verdict is. let f : Shift job ≡ Settle verdict = is in cc)
 
   pub send-root : (job : Job) (more : ℕ) → next_of whole.locks p.tree ≡ Some (Send job more) → IsJobOf run.board p.transfer job
-  send-root job more first = job-sent (IsJobOf run.board p.transfer) (slots_of whole.locks.marks) p.tree (send-left job more first).jobs job more first
+  send-root job more first = job-sent (IsJobOf run.board p.transfer) (slots_of (seen_of whole.locks)) p.tree (send-left job more first).jobs job more first
 
   pub shift-root : (job : Job) → next_of whole.locks p.tree ≡ Some (Shift job) → IsJobOf run.board p.transfer job
-  shift-root job first = (job-shifted (IsJobOf run.board p.transfer) (slots_of whole.locks.marks) p.tree (shift-left job first).jobs job first).1
+  shift-root job first = (job-shifted (IsJobOf run.board p.transfer) (slots_of (seen_of whole.locks)) p.tree (shift-left job first).jobs job first).1
 
   -- A MESSAGE OF THE CALLER'S is the one behind those that went through, and its transfer hasn't settled
   pub call-wants : (bus : ℕ) (ms : List MessageView) (more : ℕ) → next_of whole.locks p.tree ≡ Some (Send (Call bus ms) more)
       → (has_reply p.owed ≡ false) × IsCall run.board p.transfer bus ms × (p.sent + suc more ≡ length ms)
-  call-wants bus ms more first = call-is run.board p.transfer (slots_of whole.locks.marks) p.tree (has_reply p.owed) p.sent (send-left (Call bus ms) more first) bus ms more first
+  call-wants bus ms more first = call-is run.board p.transfer (slots_of (seen_of whole.locks)) p.tree (has_reply p.owed) p.sent (send-left (Call bus ms) more first) bus ms more first
 
   -- WHICH MESSAGE IT IS, of what the caller has in hand: its bytes at most, and whether a stop follows it
   module _ (job : Job) (more : ℕ) (first : next_of whole.locks p.tree ≡ Some (Send job more)) (next : Sending) (of : IsMessageOf job more next) where

@@ -33,6 +33,7 @@ use Rattle.core_laws.specs.Sends.{Sending, IsMessageOf}
 use Rattle.core_laws.specs.Sockets.{SocketKept}
 use Rattle.core_laws.specs.Steps.{next_of, HasSaid, GivesBytes, KeepsPort, AreMarked}
 use Rattle.core_laws.specs.Table.{AreDistinct, TableKept}
+use Rattle.mux_plan.specs.Plans.{SeenView}
 
 -- a caller with its seat; behind its settle its reply is owed, and it has read nothing more
 pub record Place : Type 0 where
@@ -143,21 +144,21 @@ pub record CoreKept (run : Run) (whole : Whole) : Type 0 where
 
 -- a message comes next of a caller's walk, and was sent over the port at a place
 pub record IsSent (run : Run) (whole : Whole) (p : Place) (job : Job) (more : ℕ) (next : Sending) (at : ℕ) (old new : Socket)
-    (addr : ℕ) (reading : Bool) (bytes : List ℕ) (heard : Option Node) (e : End) (marks : List (Option ℕ)) : Type 0 where
+    (addr : ℕ) (reading : Bool) (bytes : List ℕ) (heard : Option Node) (e : End) (words : SeenView) : Type 0 where
   pub first : next_of whole.locks p.tree ≡ Some (Send job more)
   pub of : IsMessageOf job more next
   pub port : slice_get whole.sockets at ≡ Some old
   pub keeps : KeepsPort run.board run.tells job more bytes e old new
   pub gives : GivesBytes run.board p.transfer p.sent next addr reading bytes e
   pub shows : IsTrue run.tells → HasSaid run.board p.transfer p.sent next old new addr bytes heard e
-  pub marked : AreMarked run.board p.tree whole.locks (Sent e bytes) marks
+  pub marked : AreMarked run.board p.tree whole.locks (Sent e bytes) words
 
 -- a line step comes next of it, and was done there
-pub record IsShifted (run : Run) (whole : Whole) (p : Place) (job : Job) (at : ℕ) (old new : Socket) (failed : Bool) (marks : List (Option ℕ)) : Type 0 where
+pub record IsShifted (run : Run) (whole : Whole) (p : Place) (job : Job) (at : ℕ) (old new : Socket) (failed : Bool) (words : SeenView) : Type 0 where
   pub first : next_of whole.locks p.tree ≡ Some (Shift job)
   pub port : slice_get whole.sockets at ≡ Some old
   pub rooted : old.root ≡ root_of run.board (job_bus job)
   pub root : new.root ≡ old.root
   pub idle : new.phase ≡ Idle
   pub shows : IsTrue run.tells → (new.world ≡ after old.world (line_call job failed)) × (new.log ≡ old.log ++ line_call job failed ∷ [])
-  pub marked : AreMarked run.board p.tree whole.locks (Lined failed) marks
+  pub marked : AreMarked run.board p.tree whole.locks (Lined failed) words

@@ -10,3 +10,4 @@ pub mod Steps
 pub mod Core
 pub mod Behind
 pub mod Opens
+pub mod Wants

@@ -18,8 +18,8 @@ pub record AreDepths (b : BoardView) (depths : List ℕ) : Type 0 where
   pub all : length depths ≡ buses b
   pub each : (p : ℕ) → p < buses b → slice_index_or depths p 0 ≡ depth b p
 
--- each caller has its first transfer loaded; nobody has a lock, and no bus is marked; each port is idle, and its world is
--- that of its root
+-- each caller has its first transfer loaded; nobody has a lock, no bus is marked, and no mux has a channel open; each port
+-- is idle, and its world is that of its root
 pub record IsOpened (run : Run) (whole : Whole) : Type 0 where
   pub nothing : whole.past ≡ []
   pub distinct : AreDistinct (numbers_of whole.places)
@@ -29,7 +29,7 @@ pub record IsOpened (run : Run) (whole : Whole) : Type 0 where
   pub none_held : whole.held ≡ map (λ p. []) whole.places
   pub depths : List ℕ
   pub deep : AreDepths run.board depths
-  pub locks_free : whole.locks ≡ opened depths (length run.board.roots)
+  pub locks_free : whole.locks ≡ opened depths (length run.board.roots) (length run.board.muxes)
   pub fresh : (i : ℕ) (p : Place) → slice_get whole.places i ≡ Some p → (p.taken ≡ []) × (p.owed ≡ []) × (p.got ≡ []) × (p.cut ≡ cut_at.No)
   pub loads : (i : ℕ) (p : Place) → slice_get whole.places i ≡ Some p → p.tree ≡ begun run.board (run.asks p.number [])
   pub seats : (i : ℕ) (p : Place) (n : ℕ) → slice_get whole.places i ≡ Some p → slice_get whole.owes i ≡ Some n → SeatKept run p [] n

@@ -9,13 +9,14 @@ use Rattle.i2c_base.specs.declared.port.PortCall.{PortCall}
 use Rattle.i2c_base.specs.Board.{BoardView}
 use Rattle.i2c_spec.specs.History.{Asks}
 use Rattle.i2c_spec.specs.World.{World}
-use Rattle.i2c_spec.specs.Tree.{buses}
+use Rattle.i2c_spec.specs.Tree.{buses, home_of_mux}
 use Rattle.bus_spec.specs.Walk.{WalkTree}
-use Rattle.bus_spec.specs.Slots.{mark_in}
+use Rattle.bus_spec.specs.Slots.{Slots, mark_in}
 use Rattle.bus_spec.specs.Past.{Now, now}
 use Rattle.bus_spec.specs.Stepwise.{IsStepwise}
 use Rattle.bus_laws.specs.Others.{CallerTold}
 use Rattle.bus_laws.specs.Holds.{IsLockOf}
+use Rattle.mux_plan.specs.Plans.{SeenView}
 use Rattle.seg_locks.specs.Locks.{LocksView, holder_in}
 
 -- a caller: its number, what is left of its walk, its replies, those that it is still to be handed, what was read, and a cut
@@ -31,12 +32,24 @@ pub record Spot : Type 0 where
 abbrev pub SpotTold : BoardView → Asks → Now → Spot → Type 0
 SpotTold b asks n x = CallerTold b asks n x.number x.tree (x.taken ++ x.owed) x.got x.cut
 
--- the journal tells the holders and the marks of these lock words
+-- what these lock words tell of marks and of kept channels, and the lock words that tell this
+abbrev pub seen_of : LocksView → SeenView
+seen_of v = record { marks = v.marks; kept = v.kept }
+
+abbrev pub turned_to : LocksView → SeenView → LocksView
+turned_to v s = record v { marks = s.marks; kept = s.kept }
+
+-- these channels, by mux, tell what is known of the bus of each
+abbrev pub TellsKept : BoardView → Slots → List (Option ℕ) → Type 0
+TellsKept b v kept = (m : ℕ) → (v (home_of_mux b m)).kept m ≡ slice_index_or kept m None
+
+-- the journal tells the holders, the marks and the kept channels of these lock words
 pub record LocksTold (b : BoardView) (n : Now) (v : LocksView) : Type 0 where
   pub roots : length v.roots ≡ length b.roots
   pub muxes : length v.buses ≡ buses b
   pub holder : (l : LockId) → IsLockOf b l → holder_in v l ≡ n.holder l
   pub mark : (p : ℕ) → mark_in (n.slot p).slot ≡ slice_index_or v.marks p None
+  pub kept : TellsKept b n.slot v.kept
 
 -- a port by its root: what it has come to and what was called, the oldest first
 pub record Socket : Type 0 where

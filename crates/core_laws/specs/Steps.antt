@@ -16,20 +16,20 @@ use Rattle.bus_spec.specs.Walk.{Job, Call, Act, Send, Shift, ActOutcome, WalkTre
 use Rattle.bus_spec.specs.Slots.{Slots}
 use Rattle.bus_spec.specs.Grammar.{seen, first_act, first_note, rest_of}
 use Rattle.bus_spec.specs.Past.{line_call}
-use Rattle.mux_plan.specs.Plans.{slots_of, slots_after, TellsMarks}
+use Rattle.mux_plan.specs.Plans.{SeenView, slots_of, slots_after, TellsMarks}
 use Rattle.seg_locks.specs.Locks.{LocksView}
-use Rattle.core_laws.specs.Spots.{Spot, Socket}
+use Rattle.core_laws.specs.Spots.{seen_of, TellsKept, Spot, Socket}
 use Rattle.core_laws.specs.Talks.{Gives}
 use Rattle.core_laws.specs.Owed.{message_most}
 use Rattle.core_laws.specs.Sends.{Sending, IsMessageOf, IsChipAddress, HasSent, message_for, ends_with}
 
--- what comes next of a walk where each bus has this mark
+-- what comes next of a walk, where lock words answer its looks
 abbrev pub next_of : LocksView → WalkTree → Option Act
-next_of v w = first_act (seen (slots_of v.marks) w)
+next_of v w = first_act (seen (slots_of (seen_of v)) w)
 
 -- .. and what is left behind it
 abbrev pub behind_of : LocksView → WalkTree → ActOutcome → WalkTree
-behind_of v w out = rest_of (seen (slots_of v.marks) w) out
+behind_of v w out = rest_of (seen (slots_of (seen_of v)) w) out
 
 -- the message of a job was sent on the root of this socket; the caller's own is one of this transfer, of which so many went through
 pub record IsSaid (b : BoardView) (asks : Asks) (x : Spot) (v : LocksView) (t : TransferView) (gone : ℕ) (job : Job) (left : ℕ) (next : Sending) (old new : Socket)
@@ -51,10 +51,12 @@ pub record IsLined (b : BoardView) (x : Spot) (v : LocksView) (job : Job) (old n
   pub world : new.world ≡ after old.world (line_call job failed)
   pub log : new.log ≡ old.log ++ line_call job failed ∷ []
 
--- the marks behind a step
-pub record AreMarked (b : BoardView) (w : WalkTree) (v : LocksView) (out : ActOutcome) (marks : List (Option ℕ)) : Type 0 where
-  pub all : length marks ≡ buses b
-  pub marked : (y : Slots) → TellsMarks y v.marks → TellsMarks (slots_after (next_of v w) (first_note (seen (slots_of v.marks) w)) out y) marks
+-- the marks and the kept channels behind a step
+pub record AreMarked (b : BoardView) (w : WalkTree) (v : LocksView) (out : ActOutcome) (words : SeenView) : Type 0 where
+  pub all : length words.marks ≡ buses b
+  pub counted : length words.kept ≡ length b.muxes
+  pub marked : (y : Slots) → TellsMarks y v.marks → TellsMarks (slots_after (next_of v w) (first_note (seen (slots_of (seen_of v)) w)) out y) words.marks
+  pub kept : (y : Slots) → TellsKept b y v.kept → TellsKept b (slots_after (next_of v w) (first_note (seen (slots_of (seen_of v)) w)) out y) words.kept
 
 -- what ports that tell show of a message
 pub record HasSaid (b : BoardView) (t : TransferView) (gone : ℕ) (next : Sending) (old new : Socket) (addr : ℕ) (bytes : List ℕ) (heard : Option Node) (e : End) : Type 0 where

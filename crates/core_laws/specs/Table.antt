@@ -27,6 +27,7 @@ pub record TableKept (b : BoardView) (v : LocksView) (numbers : List ℕ) (held 
   pub roots : length v.roots ≡ length b.roots
   pub muxes : length v.buses ≡ buses b
   pub marked : length v.marks ≡ buses b
+  pub kept : length v.kept ≡ length b.muxes
   pub deep : length v.depths ≡ buses b
   pub ranked : (l : LockId) → IsLockOf b l → rank_in v l ≡ rank b l
   pub named : (l : LockId) (c : ℕ) → holder_in v l ≡ Some c → IsHeldBy numbers held l c

@@ -12,6 +12,7 @@ mod messages;
 mod opening;
 mod ready;
 mod refusals;
+mod words;
 
 pub use lines::the_whole_over_a_line;
 pub use locks::the_whole_over_locks;
@@ -19,3 +20,4 @@ pub use messages::{a_message_fits, the_whole_over_a_message};
 pub use opening::an_opening_keeps_the_whole;
 pub use ready::someone_is_ready;
 pub use refusals::the_whole_over_a_refusal;
+pub use words::{changed_channels_are_told, lock_words_answer_each_look};

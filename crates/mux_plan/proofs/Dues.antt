@@ -6,19 +6,20 @@ use Rattle.std.proofs.lemmas.List.{length-set, get_or-set_other}
 use Rattle.std.proofs.lemmas.Grind.{get_or-set_at}
 use Rattle.i2c_base.specs.declared.entry.End.TheVariants as end
 use Rattle.i2c_spec.specs.Tree.{Hop}
+use Rattle.i2c_spec.specs.History.{changed_at}
 use Rattle.bus_spec.specs.Walk.{Mark, Job, Call, Select, Clear, Act, ActOutcome, Passed, Sent, Lined, Note, first_byte}
 use Rattle.bus_spec.specs.Walk as walk
-use Rattle.bus_spec.specs.Slots.{MuxSlot, Clean, Selected, Marked, Polled, Found, Slots, mark_in, with_slot, set_marks, select_slot, after_select, after_clear, after_job}
+use Rattle.bus_spec.specs.Slots.{MuxSlot, Clean, Marked, Polled, Found, At, Slots, mark_in, turned_at, turned, set_marks, polled_slot, select_told, after_select, after_clear, after_job}
 use Rattle.mux_plan.specs.declared.marks.Due.{Due}
-use Rattle.mux_plan.specs.Marks.{marked, all_marked, dues_on, dues_of_job, dues_after, applied, IsSwitchedOn, MayMark, AreOn}
+use Rattle.mux_plan.specs.Marks.{marked, all_marked, left_open, dues_on, dues_of_job, dues_after, applied, IsSwitchedOn, MayMark, AreOn}
 use Rattle.mux_plan.specs.Plans.{TellsMarks, slots_after}
 
 applied-push : (ds : List Due) (d : Due) (marks : List (Option ℕ)) → applied (ds ++ d ∷ []) marks ≡ set (applied ds marks) d.on d.mark
 applied-push [] d marks = refl
 applied-push (x ∷ xs) d marks = applied-push xs d (set marks x.on x.mark)
 
-tells-set : (v : Slots) (marks : List (Option ℕ)) (on : ℕ) (mark : Option ℕ) (slot : MuxSlot) → mark_in slot ≡ mark → TellsMarks v marks → TellsMarks (with_slot v on slot) (set marks on mark)
-tells-set v marks on mark slot is told = record {
+tells-set : (v : Slots) (marks : List (Option ℕ)) (on : ℕ) (mark : Option ℕ) (x : At) → mark_in x.slot ≡ mark → TellsMarks v marks → TellsMarks (changed_at v on x) (set marks on mark)
+tells-set v marks on mark x is told = record {
   at = λ p low.
       let all : length (set marks on mark) ≡ length marks = length-set marks on mark in
       elim (eqb_tells p on) [
@@ -27,20 +28,19 @@ tells-set v marks on mark slot is told = record {
       ];
 }
 
-tells_due : (ds : List Due) (d : Due) (marks : List (Option ℕ)) (v : Slots) (slot : MuxSlot) → mark_in slot ≡ d.mark → TellsMarks v (applied ds marks)
-    → TellsMarks (with_slot v d.on slot) (applied (ds ++ d ∷ []) marks)
-tells_due ds d marks v slot is told =
-    subst (λ (xs : List (Option ℕ)). TellsMarks (with_slot v d.on slot) xs) (sym (applied-push ds d marks)) (tells-set v (applied ds marks) d.on d.mark slot is told)
+tells_due : (ds : List Due) (d : Due) (marks : List (Option ℕ)) (v : Slots) (x : At) → mark_in x.slot ≡ d.mark → TellsMarks v (applied ds marks)
+    → TellsMarks (changed_at v d.on x) (applied (ds ++ d ∷ []) marks)
+tells_due ds d marks v x is told =
+    subst (λ (xs : List (Option ℕ)). TellsMarks (changed_at v d.on x) xs) (sym (applied-push ds d marks)) (tells-set v (applied ds marks) d.on d.mark x is told)
 
--- a select that goes through leaves no mark
-no-mark : (h : Hop) (left : ℕ) (bytes : List ℕ) → mark_in (select_slot h left bytes) ≡ None
-no-mark h zero bytes = refl
-no-mark h (suc zero) bytes = by (first_byte bytes == 0)
+-- a poll that goes through leaves no mark
+no-mark : (h : Hop) (left : ℕ) (bytes : List ℕ) → mark_in (polled_slot h left bytes) ≡ None
+no-mark h zero bytes = by (first_byte bytes == 0)
   where
     by : (free : Bool) → mark_in (if free then Found h else Clean) ≡ None
     by true = refl
     by false = refl
-no-mark h (suc (suc left)) bytes = by (first_byte bytes == 0)
+no-mark h (suc left) bytes = by (first_byte bytes == 0)
   where
     by : (free : Bool) → mark_in (if free then Found h else Polled h left) ≡ None
     by true = refl
@@ -48,40 +48,45 @@ no-mark h (suc (suc left)) bytes = by (first_byte bytes == 0)
 
 tells-all : (ms : List Mark) (marks : List (Option ℕ)) (v : Slots) → TellsMarks v marks → TellsMarks (set_marks ms v) (applied (all_marked ms) marks)
 tells-all [] marks v told = told
-tells-all (m ∷ ms) marks v told = tells_due (all_marked ms) (marked m) marks (set_marks ms v) (Marked m.mux) refl (tells-all ms marks v told)
+tells-all (m ∷ ms) marks v told = tells_due (all_marked ms) (marked m) marks (set_marks ms v) (turned_at (v m.on) m.mux (Marked m.mux) None) refl (tells-all ms marks v told)
 
-tells-one : (v : Slots) (marks : List (Option ℕ)) (on : ℕ) (slot : MuxSlot) → mark_in slot ≡ None → TellsMarks v marks → TellsMarks (with_slot v on slot) (set marks on None)
-tells-one v marks on slot none told = tells-set v marks on None slot none told
+tells-one : (v : Slots) (marks : List (Option ℕ)) (on mux : ℕ) (slot : MuxSlot) (c : Option ℕ) → mark_in slot ≡ None → TellsMarks v marks
+    → TellsMarks (turned v on mux slot c) (set marks on None)
+tells-one v marks on mux slot c none told = tells-set v marks on None (turned_at (v on) mux slot c) none told
+
+tells-through : (h : Hop) (left : ℕ) (bytes : List ℕ) (v : Slots) (marks : List (Option ℕ)) → TellsMarks v marks → TellsMarks (select_told h left bytes v) (set marks h.on None)
+tells-through h zero bytes v marks told = tells-one v marks h.on h.mux Clean (Some h.channel) refl told
+tells-through h (suc left) bytes v marks told = tells-one v marks h.on h.mux (polled_slot h left bytes) None (no-mark h left bytes) told
 
 tells-select : (h : Hop) (left : ℕ) (ms : List Mark) (out : ActOutcome) (v : Slots) (marks : List (Option ℕ)) → TellsMarks v marks
-    → TellsMarks (after_select h left ms out v) (applied (dues_on h.on ms out) marks)
+    → TellsMarks (after_select h left ms out v) (applied (dues_on h.on h.mux (left_open h left out) ms out) marks)
 tells-select h left ms Passed v marks told = told
-tells-select h left ms (Sent end.Ok bytes) v marks told = tells-one v marks h.on (select_slot h left bytes) (no-mark h left bytes) told
-tells-select h left ms (Sent end.Nack bytes) v marks told = tells-one v marks h.on Clean refl told
-tells-select h left ms (Sent end.Slow bytes) v marks told = tells-one v marks h.on Clean refl told
-tells-select h left ms (Sent end.Refused bytes) v marks told = tells-one v marks h.on Clean refl told
-tells-select h left ms (Sent end.Proto bytes) v marks told = tells-one v marks h.on Clean refl told
+tells-select h left ms (Sent end.Ok bytes) v marks told = tells-through h left bytes v marks told
+tells-select h left ms (Sent end.Nack bytes) v marks told = tells-one v marks h.on h.mux Clean None refl told
+tells-select h left ms (Sent end.Slow bytes) v marks told = tells-one v marks h.on h.mux Clean None refl told
+tells-select h left ms (Sent end.Refused bytes) v marks told = tells-one v marks h.on h.mux Clean None refl told
+tells-select h left ms (Sent end.Proto bytes) v marks told = tells-one v marks h.on h.mux Clean None refl told
 tells-select h left ms (Sent (end.Cut q) bytes) v marks told = tells-all ms marks v told
 tells-select h left ms (Lined true) v marks told = tells-all ms marks v told
-tells-select h left ms (Lined false) v marks told = tells-one v marks h.on (Selected h) refl told
+tells-select h left ms (Lined false) v marks told = tells-one v marks h.on h.mux Clean (Some h.channel) refl told
 
-tells-clear : (on : ℕ) (ms : List Mark) (out : ActOutcome) (v : Slots) (marks : List (Option ℕ)) → TellsMarks v marks
-    → TellsMarks (after_clear on ms out v) (applied (dues_on on ms out) marks)
-tells-clear on ms Passed v marks told = told
-tells-clear on ms (Sent end.Ok bytes) v marks told = tells-one v marks on Clean refl told
-tells-clear on ms (Sent end.Nack bytes) v marks told = tells-one v marks on Clean refl told
-tells-clear on ms (Sent end.Slow bytes) v marks told = tells-one v marks on Clean refl told
-tells-clear on ms (Sent end.Refused bytes) v marks told = tells-one v marks on Clean refl told
-tells-clear on ms (Sent end.Proto bytes) v marks told = tells-one v marks on Clean refl told
-tells-clear on ms (Sent (end.Cut q) bytes) v marks told = tells-all ms marks v told
-tells-clear on ms (Lined true) v marks told = tells-all ms marks v told
-tells-clear on ms (Lined false) v marks told = tells-one v marks on Clean refl told
+tells-clear : (on mux : ℕ) (ms : List Mark) (out : ActOutcome) (v : Slots) (marks : List (Option ℕ)) → TellsMarks v marks
+    → TellsMarks (after_clear on mux ms out v) (applied (dues_on on mux None ms out) marks)
+tells-clear on mux ms Passed v marks told = told
+tells-clear on mux ms (Sent end.Ok bytes) v marks told = tells-one v marks on mux Clean None refl told
+tells-clear on mux ms (Sent end.Nack bytes) v marks told = tells-one v marks on mux Clean None refl told
+tells-clear on mux ms (Sent end.Slow bytes) v marks told = tells-one v marks on mux Clean None refl told
+tells-clear on mux ms (Sent end.Refused bytes) v marks told = tells-one v marks on mux Clean None refl told
+tells-clear on mux ms (Sent end.Proto bytes) v marks told = tells-one v marks on mux Clean None refl told
+tells-clear on mux ms (Sent (end.Cut q) bytes) v marks told = tells-all ms marks v told
+tells-clear on mux ms (Lined true) v marks told = tells-all ms marks v told
+tells-clear on mux ms (Lined false) v marks told = tells-one v marks on mux Clean None refl told
 
 tells-job : (job : Job) (left : ℕ) (ms : List Mark) (out : ActOutcome) (v : Slots) (marks : List (Option ℕ)) → TellsMarks v marks
-    → TellsMarks (after_job job left ms out v) (applied (dues_of_job job ms out) marks)
+    → TellsMarks (after_job job left ms out v) (applied (dues_of_job job left ms out) marks)
 tells-job (Call bus messages) left ms out v marks told = told
 tells-job (Select h) left ms out v marks told = tells-select h left ms out v marks told
-tells-job (Clear on mux kind) left ms out v marks told = tells-clear on ms out v marks told
+tells-job (Clear on mux kind) left ms out v marks told = tells-clear on mux ms out v marks told
 
 pub tells-after : (act : Option Act) (note : Note) (out : ActOutcome) (v : Slots) (marks : List (Option ℕ)) → TellsMarks v marks
     → TellsMarks (slots_after act note out v) (applied (dues_after act note out) marks)
@@ -100,26 +105,26 @@ on-all : (held : ℕ → Bool) (ms : List Mark) → AllByRecursion (λ m. held m
 on-all held [] all = all
 on-all held (m ∷ ms) all = on-due held (all_marked ms) (marked m) all.0 (on-all held ms all.1)
 
-on-switch : (held : ℕ → Bool) (on : ℕ) (ms : List Mark) (out : ActOutcome) → held on ≡ true → AllByRecursion (λ m. held m.on ≡ true) ms → AreOn held (dues_on on ms out)
-on-switch held on ms Passed is all = tt
-on-switch held on ms (Sent end.Ok bytes) is all = (is, tt)
-on-switch held on ms (Sent end.Nack bytes) is all = (is, tt)
-on-switch held on ms (Sent end.Slow bytes) is all = (is, tt)
-on-switch held on ms (Sent end.Refused bytes) is all = (is, tt)
-on-switch held on ms (Sent end.Proto bytes) is all = (is, tt)
-on-switch held on ms (Sent (end.Cut q) bytes) is all = on-all held ms all
-on-switch held on ms (Lined true) is all = on-all held ms all
-on-switch held on ms (Lined false) is all = (is, tt)
+on-switch : (held : ℕ → Bool) (on mux : ℕ) (c : Option ℕ) (ms : List Mark) (out : ActOutcome) → held on ≡ true → AllByRecursion (λ m. held m.on ≡ true) ms → AreOn held (dues_on on mux c ms out)
+on-switch held on mux c ms Passed is all = tt
+on-switch held on mux c ms (Sent end.Ok bytes) is all = (is, tt)
+on-switch held on mux c ms (Sent end.Nack bytes) is all = (is, tt)
+on-switch held on mux c ms (Sent end.Slow bytes) is all = (is, tt)
+on-switch held on mux c ms (Sent end.Refused bytes) is all = (is, tt)
+on-switch held on mux c ms (Sent end.Proto bytes) is all = (is, tt)
+on-switch held on mux c ms (Sent (end.Cut q) bytes) is all = on-all held ms all
+on-switch held on mux c ms (Lined true) is all = on-all held ms all
+on-switch held on mux c ms (Lined false) is all = (is, tt)
 
-on-job : (held : ℕ → Bool) (job : Job) (ms : List Mark) (out : ActOutcome) → IsSwitchedOn held job → AllByRecursion (λ m. held m.on ≡ true) ms → AreOn held (dues_of_job job ms out)
-on-job held (Call bus messages) ms out is all = tt
-on-job held (Select h) ms out is all = on-switch held h.on ms out is all
-on-job held (Clear on mux kind) ms out is all = on-switch held on ms out is all
+on-job : (held : ℕ → Bool) (job : Job) (left : ℕ) (ms : List Mark) (out : ActOutcome) → IsSwitchedOn held job → AllByRecursion (λ m. held m.on ≡ true) ms → AreOn held (dues_of_job job left ms out)
+on-job held (Call bus messages) left ms out is all = tt
+on-job held (Select h) left ms out is all = on-switch held h.on h.mux (left_open h left out) ms out is all
+on-job held (Clear on mux kind) left ms out is all = on-switch held on mux None ms out is all
 
 pub on-after : (held : ℕ → Bool) (act : Option Act) (note : Note) (out : ActOutcome) → MayMark held act note → AreOn held (dues_after act note out)
 on-after held None note out may = tt
 on-after held (Some (walk.Take l)) note out may = tt
 on-after held (Some (walk.Free l)) note out may = tt
-on-after held (Some (walk.Send job left)) note out may = on-job held job note.marks out may.0 may.1
-on-after held (Some (walk.Shift job)) note out may = on-job held job note.marks out may.0 may.1
+on-after held (Some (walk.Send job left)) note out may = on-job held job left note.marks out may.0 may.1
+on-after held (Some (walk.Shift job)) note out may = on-job held job zero note.marks out may.0 may.1
 on-after held (Some (walk.Settle verdict)) note out may = tt

@@ -7,7 +7,7 @@ use Rattle.bus_spec.specs.Walk.{ActOutcome, JobOutcome}
 use Rattle.bus_spec.specs.Grammar.{first_act, first_note, locked, inner}
 use Rattle.mux_plan.specs.declared.task.Work.{Work}
 use Rattle.mux_plan.specs.declared.task.Task.{Task}
-use Rattle.mux_plan.specs.declared.task.Task.TheVariants.{Enter, Lock, Free, Rest, Line, Settle, AwaitClose, AwaitSelect, AwaitWork, AwaitDeselect}
+use Rattle.mux_plan.specs.declared.task.Task.TheVariants.{Enter, Lock, Free, Rest, Line, Settle, AwaitClose, Pass, AwaitSelect, AwaitWork, AwaitDeselect}
 use Rattle.mux_plan.specs.Plans.{CourseView, job_of, note_of, tree_of}
 use Rattle.mux_plan.specs.Marks.{dues_after}
 use Rattle.mux_plan.specs.Rooms.{IsStep}
@@ -33,6 +33,7 @@ module _ (b : BoardView) (ms : List MessageView) (c : CourseView) (out : JobOutc
   dues-other (Line w) ts step no_message no_line = absurd (no_line w refl)
   dues-other (Settle x) ts step no_message no_line = refl
   dues-other (AwaitClose n g m w) ts step no_message no_line = absurd step
+  dues-other (Pass n g w) ts step no_message no_line = absurd step
   dues-other (AwaitSelect n g w) ts step no_message no_line = absurd step
   dues-other (AwaitWork n g) ts step no_message no_line = absurd step
   dues-other (AwaitDeselect g was) ts step no_message no_line = absurd step

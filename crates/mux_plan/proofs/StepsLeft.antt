@@ -7,7 +7,7 @@ use Rattle.bus_spec.specs.Walk.{Job, JobOutcome, Note, WalkTree, Then, is_line, 
 use Rattle.bus_spec.specs.Walk as walk
 use Rattle.bus_spec.specs.Grammar.{over, locked, part, messages, at_bus, behind, inner, is_over}
 use Rattle.mux_plan.specs.declared.task.Task.{Task}
-use Rattle.mux_plan.specs.declared.task.Task.TheVariants.{Enter, Lock, Free, Rest, Line, Settle, AwaitClose, AwaitSelect, AwaitWork, AwaitDeselect}
+use Rattle.mux_plan.specs.declared.task.Task.TheVariants.{Enter, Lock, Free, Rest, Line, Settle, AwaitClose, Pass, AwaitSelect, AwaitWork, AwaitDeselect}
 use Rattle.mux_plan.specs.Plans.{CourseView, job_of, note_of, tree_of}
 use Rattle.mux_plan.specs.Rooms.{IsReady}
 
@@ -43,6 +43,7 @@ module _ (b : BoardView) (ms : List MessageView) (c : CourseView) where
   goes_on (Line w) ts out ready = refl
   goes_on (Settle x) ts out ready = refl
   goes_on (AwaitClose n g m w) ts out ready = absurd ready
+  goes_on (Pass n g w) ts out ready = refl
   goes_on (AwaitSelect n g w) ts out ready = absurd ready
   goes_on (AwaitWork n g) ts out ready = absurd ready
   goes_on (AwaitDeselect g was) ts out ready = absurd ready

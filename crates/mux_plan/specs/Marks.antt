@@ -1,53 +1,75 @@
--- The marks that a step changes.
-use Rattle.std.specs.Prelude.{⊤, ◌≡◌, ℕ, Bool, true, List, [], ◌∷◌, ◌++◌, Option, Some, None, set, if◌then◌else◌}
+-- What a step changes of the lock words: marks, and the channels that muxes keep open.
+use Rattle.std.specs.Prelude.{⊤, ◌≡◌, ℕ, zero, suc, Bool, true, List, [], ◌∷◌, ◌++◌, Option, Some, None, set, if◌then◌else◌}
 use Rattle.std.specs.List.{AllByRecursion}
 use Rattle.i2c_base.specs.declared.entry.End.TheVariants as end
+use Rattle.i2c_spec.specs.Tree.{Hop}
 use Rattle.bus_spec.specs.Walk.{Mark, Job, Call, Select, Clear, Act, ActOutcome, Passed, Sent, Lined, Note}
 use Rattle.bus_spec.specs.Walk as walk
 use Rattle.mux_plan.specs.declared.marks.Due.{Due}
 
--- the bus has no mark from now on; or that of a mux that may be open
-abbrev pub cleared : ℕ → Due
-cleared on = record { on = on; mark = None }
+-- the bus has no mark from now on, and the mux this channel open; or the mux may be open
+abbrev pub cleared : ℕ → ℕ → Option ℕ → Due
+cleared on mux channel = record { on = on; mark = None; mux = mux; channel = channel }
 
 abbrev pub marked : Mark → Due
-marked m = record { on = m.on; mark = Some m.mux }
+marked m = record { on = m.on; mark = Some m.mux; mux = m.mux; channel = None }
 
 -- the marks of a failure; the first of several on one bus counts, so it is set last
 abbrev pub all_marked : List Mark → List Due
 all_marked [] = []
 all_marked (m ∷ ms) = all_marked ms ++ marked m ∷ []
 
--- what is marked or cleared behind a message or line step that switches on this bus
-abbrev pub dues_on : ℕ → List Mark → ActOutcome → List Due
-dues_on on marks Passed = []
-dues_on on marks (Sent end.Ok bytes) = cleared on ∷ []
-dues_on on marks (Sent end.Nack bytes) = cleared on ∷ []
-dues_on on marks (Sent end.Slow bytes) = cleared on ∷ []
-dues_on on marks (Sent end.Refused bytes) = cleared on ∷ []
-dues_on on marks (Sent end.Proto bytes) = cleared on ∷ []
-dues_on on marks (Sent (end.Cut q) bytes) = all_marked marks
-dues_on on marks (Lined failed) = if failed then all_marked marks else cleared on ∷ []
+-- the channel that a select leaves open: a poll opens none
+abbrev pub last_open : Hop → ℕ → Option ℕ
+last_open h zero = Some h.channel
+last_open h (suc left) = None
+
+abbrev pub left_open : Hop → ℕ → ActOutcome → Option ℕ
+left_open h left Passed = None
+left_open h left (Sent end.Ok bytes) = last_open h left
+left_open h left (Sent end.Nack bytes) = None
+left_open h left (Sent end.Slow bytes) = None
+left_open h left (Sent end.Refused bytes) = None
+left_open h left (Sent end.Proto bytes) = None
+left_open h left (Sent (end.Cut q) bytes) = None
+left_open h left (Lined failed) = if failed then None else Some h.channel
+
+-- what is marked or cleared behind a message or line step that turns this mux, which has this channel open where the port
+-- didn't fail
+abbrev pub dues_on : ℕ → ℕ → Option ℕ → List Mark → ActOutcome → List Due
+dues_on on mux c marks Passed = []
+dues_on on mux c marks (Sent end.Ok bytes) = cleared on mux c ∷ []
+dues_on on mux c marks (Sent end.Nack bytes) = cleared on mux c ∷ []
+dues_on on mux c marks (Sent end.Slow bytes) = cleared on mux c ∷ []
+dues_on on mux c marks (Sent end.Refused bytes) = cleared on mux c ∷ []
+dues_on on mux c marks (Sent end.Proto bytes) = cleared on mux c ∷ []
+dues_on on mux c marks (Sent (end.Cut q) bytes) = all_marked marks
+dues_on on mux c marks (Lined failed) = if failed then all_marked marks else cleared on mux c ∷ []
 
 -- behind one of a job; the caller's own messages switch nothing
-abbrev pub dues_of_job : Job → List Mark → ActOutcome → List Due
-dues_of_job (Call bus messages) marks out = []
-dues_of_job (Select h) marks out = dues_on h.on marks out
-dues_of_job (Clear on mux kind) marks out = dues_on on marks out
+abbrev pub dues_of_job : Job → ℕ → List Mark → ActOutcome → List Due
+dues_of_job (Call bus messages) left marks out = []
+dues_of_job (Select h) left marks out = dues_on h.on h.mux (left_open h left out) marks out
+dues_of_job (Clear on mux kind) left marks out = dues_on on mux None marks out
 
 -- behind a step, which marks so much where it fails by the port
 abbrev pub dues_after : Option Act → Note → ActOutcome → List Due
 dues_after None note out = []
 dues_after (Some (walk.Take l)) note out = []
 dues_after (Some (walk.Free l)) note out = []
-dues_after (Some (walk.Send job left)) note out = dues_of_job job note.marks out
-dues_after (Some (walk.Shift job)) note out = dues_of_job job note.marks out
+dues_after (Some (walk.Send job left)) note out = dues_of_job job left note.marks out
+dues_after (Some (walk.Shift job)) note out = dues_of_job job zero note.marks out
 dues_after (Some (walk.Settle verdict)) note out = []
 
 -- the marks of all buses, with these changes, the first one first; a bus that isn't there has no mark
 abbrev pub applied : List Due → List (Option ℕ) → List (Option ℕ)
 applied [] marks = marks
 applied (d ∷ ds) marks = applied ds (set marks d.on d.mark)
+
+-- the channels of all muxes, with these changes; a mux that isn't there keeps none
+abbrev pub applied_kept : List Due → List (Option ℕ) → List (Option ℕ)
+applied_kept [] kept = kept
+applied_kept (d ∷ ds) kept = applied_kept ds (set kept d.mux d.channel)
 
 -- the bus that a control message or a line step switches on is held, and each that its failure marks
 abbrev pub IsSwitchedOn : (ℕ → Bool) → Job → Type 0

@@ -6,10 +6,10 @@ use Rattle.i2c_base.specs.Board.{BoardView}
 use Rattle.i2c_spec.specs.Tree.{Hop, locks_of}
 use Rattle.i2c_spec.specs.Chips.{select_value, close_value}
 use Rattle.i2c_spec.specs.Messages.{MessageView}
-use Rattle.bus_spec.specs.Walk.{Job, Call, Select, Clear, Act, ActOutcome, JobOutcome, Note, WalkTree, Go, Ends, Then, job_bus, job_purpose, part_of, parts_of, line_mux, line_level}
+use Rattle.bus_spec.specs.Walk.{Job, Call, Select, Clear, Act, ActOutcome, JobOutcome, Note, WalkTree, KeptOf, Go, Ends, Look, Then, job_bus, job_purpose, part_of, parts_of, line_mux, line_level}
 use Rattle.bus_spec.specs.Walk as walk
 use Rattle.bus_spec.specs.Slots.{MuxSlot, Clean, Marked, Slots, mark_in, after_job}
-use Rattle.bus_spec.specs.Grammar.{Doer, plain, over, locked, part, messages, with_mark, aside, if_sent, if_good, opened, chosen, inner, kind_of, seen, first_act}
+use Rattle.bus_spec.specs.Grammar.{Doer, plain, over, locked, part, messages, with_mark, aside, if_sent, if_good, opened, crossed, inner, kind_of, seen, first_act}
 use Rattle.mux_plan.specs.declared.task.Work.{Work}
 use Rattle.mux_plan.specs.declared.task.Work.TheVariants as work
 use Rattle.mux_plan.specs.declared.task.Came.{Came}
@@ -17,7 +17,7 @@ use Rattle.mux_plan.specs.declared.task.Came.TheVariants as came
 use Rattle.mux_plan.specs.declared.work.Follow.{Follow}
 use Rattle.mux_plan.specs.declared.work.Follow.TheVariants as follow
 use Rattle.mux_plan.specs.declared.task.Task.{Task}
-use Rattle.mux_plan.specs.declared.task.Task.TheVariants.{Enter, Lock, Free, Rest, Line, Settle, AwaitClose, AwaitSelect, AwaitWork, AwaitDeselect}
+use Rattle.mux_plan.specs.declared.task.Task.TheVariants.{Enter, Lock, Free, Rest, Line, Settle, AwaitClose, Pass, AwaitSelect, AwaitWork, AwaitDeselect}
 use Rattle.mux_plan.specs.declared.task.Outcome.{Outcome}
 use Rattle.mux_plan.specs.declared.task.Outcome.TheVariants as outcome
 use Rattle.mux_plan.specs.declared.task.Action.{Action}
@@ -67,6 +67,7 @@ note_of (Rest left w ∷ ts) = note_of ts
 note_of (Line w ∷ ts) = note_of ts
 note_of (Settle v ∷ ts) = note_of ts
 note_of (AwaitClose n h m w ∷ ts) = with_mark h.on m (note_of ts)
+note_of (Pass n h w ∷ ts) = note_of ts
 note_of (AwaitSelect n h w ∷ ts) = with_mark h.on h.mux (note_of ts)
 note_of (AwaitWork n h ∷ ts) = note_of ts
 note_of (AwaitDeselect h was ∷ ts) = aside h
@@ -86,7 +87,8 @@ tree_of b ms c (Rest left w ∷ ts) out = messages left (job_of c ms w) (note_of
 tree_of b ms c (Line w ∷ ts) out = Then (walk.Shift (job_of c ms w)) (note_of ts) (over (job_of c ms w) zero (note_of ts) (tree_of b ms c ts))
 tree_of b ms c (Settle v ∷ ts) out = Then (walk.Settle v) plain (λ o. tree_of b ms c ts out)
 tree_of b ms c (AwaitClose n h m w ∷ ts) out =
-    if_sent out (chosen h (on_bus b c n h) (job_of c ms w) (note_of ts) (tree_of b ms c ts)) (tree_of b ms c ts)
+    if_sent out (Look (KeptOf h.on h.mux) (crossed h (on_bus b c n h) (job_of c ms w) (note_of ts) (tree_of b ms c ts))) (tree_of b ms c ts)
+tree_of b ms c (Pass n h w ∷ ts) out = Look (KeptOf h.on h.mux) (crossed h (on_bus b c n h) (job_of c ms w) (note_of ts) (tree_of b ms c ts))
 tree_of b ms c (AwaitSelect n h w ∷ ts) out =
     if_good out (opened h (on_bus b c n h) (job_of c ms w) (note_of ts) (tree_of b ms c ts)) (tree_of b ms c ts)
 tree_of b ms c (AwaitWork n h ∷ ts) out = on_bus b c n h (Clear h.on h.mux h.kind) (aside h) (λ o. tree_of b ms c ts out)
@@ -97,19 +99,33 @@ abbrev pub part_task : Bool → ℕ → Work → Task
 part_task true n w = Enter n w
 part_task false n w = Lock n n w
 
--- the job that comes first at a mux: a marked one is closed, else the channel is selected
-abbrev pub switch_of : BoardView → Hop → Option ℕ → Work
-switch_of b h None = work.Select h
-switch_of b h (Some m) = work.Clear h.on m (kind_of b m)
+-- the job that comes first at a mux: the channel is selected, but where the mux keeps it open
+abbrev pub choice_of : Hop → Bool → Work → Work
+choice_of h true w = w
+choice_of h false w = work.Select h
 
--- what waits for that job
-abbrev pub wait_task : Hop → Option ℕ → ℕ → Work → Task
-wait_task h None n w = AwaitSelect n h w
-wait_task h (Some m) n w = AwaitClose n h m w
+-- .. and a marked one is closed before
+abbrev pub switch_of : BoardView → Hop → Option ℕ → Bool → Work → Work
+switch_of b h None kept w = choice_of h kept w
+switch_of b h (Some m) kept w = work.Clear h.on m (kind_of b m)
+
+-- what waits for that job, above these tasks: nothing where no select is made
+abbrev pub select_tasks : Hop → Bool → ℕ → Work → List Task → List Task
+select_tasks h true n w ts = ts
+select_tasks h false n w ts = AwaitSelect n h w ∷ ts
+
+abbrev pub wait_tasks : Hop → Option ℕ → Bool → ℕ → Work → List Task → List Task
+wait_tasks h None kept n w ts = select_tasks h kept n w ts
+wait_tasks h (Some m) kept n w ts = AwaitClose n h m w ∷ ts
 
 -- the stack behind a mux that was crossed; the job of a parent-locked one is still to come
-abbrev pub crossed_tasks : Hop → Option ℕ → ℕ → Work → Work → List Task → List Task
-crossed_tasks h mark n w next ts = if h.parent then wait_task h mark n w ∷ ts else Lock n n next ∷ wait_task h mark n w ∷ ts
+abbrev pub crossed_tasks : Hop → Option ℕ → Bool → ℕ → Work → Work → List Task → List Task
+crossed_tasks h mark kept n w next ts = if h.parent then wait_tasks h mark kept n w ts else Lock n n next ∷ wait_tasks h mark kept n w ts
+
+-- what waits for the work behind a mux: a mux that stays as it is is not deselected
+abbrev pub work_tasks : Bool → ℕ → Hop → List Task → List Task
+work_tasks true n h ts = ts
+work_tasks false n h ts = AwaitWork n h ∷ ts
 
 -- the first of the locks at the end of these hops, and whether more follow it
 abbrev pub first_lock : ℕ → List Hop → LockId
@@ -129,6 +145,7 @@ is_deselect (Rest left w) = false
 is_deselect (Line w) = false
 is_deselect (Settle v) = false
 is_deselect (AwaitClose n h m w) = false
+is_deselect (Pass n h w) = false
 is_deselect (AwaitSelect n h w) = false
 is_deselect (AwaitWork n h) = false
 is_deselect (AwaitDeselect h was) = true
@@ -137,13 +154,24 @@ is_deselect (AwaitDeselect h was) = true
 abbrev pub walk_of : BoardView → List MessageView → WalkView → WalkTree
 walk_of b ms w = tree_of b ms w.course w.tasks w.came
 
--- what is known of the muxes on each bus, by the mark that each bus has
+-- what lock words tell: the mark of each bus, and the channel that each mux keeps open
+pub record SeenView : Type 0 where
+  pub marks : List (Option ℕ)
+  pub kept : List (Option ℕ)
+
+abbrev pub mark_on : SeenView → ℕ → Option ℕ
+mark_on s p = slice_index_or s.marks p None
+
+abbrev pub kept_of : SeenView → ℕ → Option ℕ
+kept_of s m = slice_index_or s.kept m None
+
+-- what is known of the muxes on each bus, by what lock words tell
 abbrev pub slot_of : Option ℕ → MuxSlot
 slot_of (Some m) = Marked m
 slot_of None = Clean
 
-abbrev pub slots_of : List (Option ℕ) → Slots
-slots_of marks p = record { slot = slot_of (slice_index_or marks p None) }
+abbrev pub slots_of : SeenView → Slots
+slots_of s p = record { slot = slot_of (mark_on s p); kept = kept_of s }
 
 -- these marks tell what is known of the bus of each
 pub record TellsMarks (v : Slots) (marks : List (Option ℕ)) : Type 0 where
@@ -169,8 +197,8 @@ control_of (Select h) left = select_byte h left
 control_of (Clear on mux kind) left = Some close_value
 
 -- the first step of a job at a place, with nothing behind it
-abbrev pub first_at : BoardView → List MessageView → CourseView → List (Option ℕ) → ℕ → Work → Option Act
-first_at b ms c marks n w = first_act (seen (slots_of marks) (tree_of b ms c (Enter n w ∷ []) walk.Good))
+abbrev pub first_at : BoardView → List MessageView → CourseView → SeenView → ℕ → Work → Option Act
+first_at b ms c s n w = first_act (seen (slots_of s) (tree_of b ms c (Enter n w ∷ []) walk.Good))
 
 -- a step of the grammar, as the caller is told it
 abbrev pub action_of : Option Act → Action

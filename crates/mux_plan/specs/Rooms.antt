@@ -6,7 +6,7 @@ use Rattle.mux_plan.specs.Plans.{CourseView}
 use Rattle.mux_plan.specs.declared.task.Work.{Work}
 use Rattle.mux_plan.specs.declared.task.Work.TheVariants as work
 use Rattle.mux_plan.specs.declared.task.Task.{Task}
-use Rattle.mux_plan.specs.declared.task.Task.TheVariants.{Enter, Lock, Free, Rest, Line, Settle, AwaitClose, AwaitSelect, AwaitWork, AwaitDeselect}
+use Rattle.mux_plan.specs.declared.task.Task.TheVariants.{Enter, Lock, Free, Rest, Line, Settle, AwaitClose, Pass, AwaitSelect, AwaitWork, AwaitDeselect}
 
 -- a stack has room for so many tasks, and as many marks may change at once
 abbrev pub STACK_ROOM : ℕ
@@ -30,6 +30,7 @@ Fits d (Rest left w) k = IsNarrowWork w × (k ≤ 6 * d + 5)
 Fits d (Line w) k = IsNarrowWork w × (k ≤ 6 * d + 5)
 Fits d (Settle v) k = k < STACK_ROOM
 Fits d (AwaitClose n h m w) k = IsNarrowWork w × IsNarrow h × (n ≤ d) × (k + 1 ≤ 6 * n)
+Fits d (Pass n h w) k = IsNarrowWork w × IsNarrow h × (n ≤ d) × (k + 1 ≤ 6 * n)
 Fits d (AwaitSelect n h w) k = IsNarrowWork w × IsNarrow h × (n ≤ d) × (k + 1 ≤ 6 * n)
 Fits d (AwaitWork n h) k = (n ≤ d) × (k + 1 ≤ 6 * n)
 Fits d (AwaitDeselect h was) k = k < STACK_ROOM
@@ -48,6 +49,7 @@ IsReady (Rest left w ∷ ts) = Unit {0}
 IsReady (Line w ∷ ts) = Unit {0}
 IsReady (Settle v ∷ ts) = Unit {0}
 IsReady (AwaitClose n h m w ∷ ts) = ⊥
+IsReady (Pass n h w ∷ ts) = Unit {0}
 IsReady (AwaitSelect n h w ∷ ts) = ⊥
 IsReady (AwaitWork n h ∷ ts) = ⊥
 IsReady (AwaitDeselect h was ∷ ts) = ⊥
@@ -62,6 +64,7 @@ IsStep (Rest left w ∷ ts) = Unit {0}
 IsStep (Line w ∷ ts) = Unit {0}
 IsStep (Settle v ∷ ts) = Unit {0}
 IsStep (AwaitClose n h m w ∷ ts) = ⊥
+IsStep (Pass n h w ∷ ts) = ⊥
 IsStep (AwaitSelect n h w ∷ ts) = ⊥
 IsStep (AwaitWork n h ∷ ts) = ⊥
 IsStep (AwaitDeselect h was ∷ ts) = ⊥

@@ -1,3 +1,4 @@
+//! The way of a transfer, and the first step on it.
 ghost use Rattle.std.specs.Prelude.{◌≡◌, ◌≢◌, ◌+◌, ◌<◌, ◌≤◌, ◌⊎◌, ℕ, true, false, List, [], ◌∷◌, length, drop, None, All, IfSome, IfNone, slice_index_or};
 ghost use Rattle.i2c_base.specs.Board.{BoardView};
 ghost use Rattle.i2c_base.specs.Limits.{MOST_DEPTH};
@@ -5,14 +6,14 @@ ghost use Rattle.i2c_spec.specs.Messages.{MessageView};
 ghost use Rattle.i2c_spec.specs.Tree.{buses, hops, root_of};
 ghost use Rattle.bus_spec.specs.Walk.{JobOutcome, is_line};
 ghost use Rattle.bus_spec.specs.Walk as walk;
-ghost use Rattle.bus_spec.specs.Grammar.{at_bus, first_act, kind_of as kind_at};
-ghost use Rattle.mux_plan.specs.Plans.{CourseView, job_of, tree_of, note_of, first_lock, locks_on, switch_of, wait_task, action_of, first_at};
+ghost use Rattle.bus_spec.specs.Grammar.{at_bus, first_act, keeps, seen as seen_by, kind_of as kind_at};
+ghost use Rattle.mux_plan.specs.Plans.{CourseView, job_of, tree_of, note_of, first_lock, locks_on, mark_on, kept_of, slots_of, choice_of, switch_of, action_of, first_at};
 ghost use Rattle.mux_plan.specs.Rooms.{IsNarrow, IsNarrowWork, IsPlanned, IsStep};
 ghost use Rattle.mux_plan.specs.declared.task.Task.{Task};
-ghost use Rattle.mux_plan.specs.declared.task.Task.TheVariants.{Enter};
+ghost use Rattle.mux_plan.specs.declared.task.Task.TheVariants.{Enter, Pass};
 ghost use Rattle.mux_plan.specs.declared.task.Action.TheVariants.{Done};
 
-use crate::{Action, Task, Work};
+use crate::{Action, Seen, Task, Work};
 use arrayvec::ArrayVec;
 use i2c_base::{LockId, MOST_MUXES, MuxId, MuxKind, SegId};
 use i2c_board::{Accepted, Board};
@@ -41,13 +42,6 @@ impl Model for Course {
     ghost inverse = { λ c. record { root = c.root; path = record { items = c.path }; bus = c.bus; count = c.count } };
 }
 
-// The mark that the lock of the muxes on the bus of this one carries.
-fn mark_at(marks: &[Option<MuxId>], hop: &Hop) -> Option<MuxId>
-    ensures { result ≡ slice_index_or marks.now hop.now.on None }
-{
-    marks.get(usize::from(hop.on.0)).copied().flatten()
-}
-
 // The kind of a mux, where the board has it.
 fn kind_of(board: &Board, mux: MuxId) -> MuxKind
     ensures { result ≡ kind_at board.now mux }
@@ -65,36 +59,29 @@ pub fn is_parent(hop: &Hop) -> bool
     hop.parent
 }
 
-/// What comes first at a mux: a marked one is closed, else the channel is selected.
-pub fn switch(board: &Board, marks: &[Option<MuxId>], hop: &Hop) -> Work
-    ensures value { result ≡ switch_of board.now hop.now (slice_index_or marks.now hop.now.on None) }
-    ensures narrow { IsNarrow hop.now → IsNarrowWork result }
+/// What comes first at a mux that isn't to be closed: the channel is selected, but where the mux keeps it open.
+pub fn choice(seen: &Seen<'_>, hop: &Hop, work: &Work) -> Work
+    ensures value { result ≡ choice_of hop.now (keeps hop.now (kept_of seen.now hop.now.mux)) work.now }
+    ensures narrow { IsNarrow hop.now → IsNarrowWork work.now → IsNarrowWork result }
 {
-    match mark_at(marks, hop) {
-        None => Work::Select(*hop),
+    if seen.keeps(hop) {
+        *work
+    } else {
+        Work::Select(*hop)
+    }
+}
+
+/// What comes first at a mux: a marked one is closed.
+pub fn switch(board: &Board, seen: &Seen<'_>, hop: &Hop, work: &Work) -> Work
+    ensures value { result ≡ switch_of board.now hop.now (mark_on seen.now hop.now.on) (keeps hop.now (kept_of seen.now hop.now.mux)) work.now }
+    ensures narrow { IsNarrow hop.now → IsNarrowWork work.now → IsNarrowWork result }
+{
+    match seen.mark(hop) {
+        None => choice(seen, hop, work),
         Some(mux) => Work::Clear {
             on: hop.on,
             mux,
             kind: kind_of(board, mux),
-        },
-    }
-}
-
-/// What waits for that.
-pub fn waiting(marks: &[Option<MuxId>], hop: &Hop, place: u8, work: &Work) -> Task
-    ensures { result ≡ wait_task hop.now (slice_index_or marks.now hop.now.on None) place work.now }
-{
-    match mark_at(marks, hop) {
-        None => Task::AwaitSelect {
-            place,
-            hop: *hop,
-            work: *work,
-        },
-        Some(mux) => Task::AwaitClose {
-            place,
-            hop: *hop,
-            mux,
-            work: *work,
         },
     }
 }
@@ -163,11 +150,11 @@ impl Course {
         }
     }
 
-    /// The first step of a piece of work on the bus at a place, where these marks answer the looks on its way.
-    pub fn ahead(&self, board: &Board, marks: &[Option<MuxId>], place: u8, work: Work) -> Task
+    /// The first step of a piece of work on the bus at a place, where this answers the looks on its way.
+    pub fn ahead(&self, board: &Board, seen: &Seen<'_>, place: u8, work: Work) -> Task
         requires planned { IsPlanned self.now (Enter place work ∷ []) }
         ensures first { (ms : List MessageView) → length ms ≡ self.now.count
-            → first_act (tree_of board.now ms self.now (result ∷ []) walk.Good) ≡ first_at board.now ms self.now marks.now place work }
+            → first_act (tree_of board.now ms self.now (result ∷ []) walk.Good) ≡ first_at board.now ms self.now seen.now place work }
         ensures step { (ts : List Task) → IsStep (result ∷ ts) }
         ensures planned { IsPlanned self.now (result ∷ []) }
     {
@@ -175,7 +162,7 @@ impl Course {
         let mut work = work;
         'muxes: while let Some(hop) = self.crossed(place, &work) {
             place += 1;
-            work = switch(board, marks, &hop);
+            work = switch(board, seen, &hop, &work);
             if !is_parent(&hop) {
                 return Task::Lock {
                     from: place,
@@ -185,6 +172,34 @@ impl Course {
             }
         }
         self.base(work)
+    }
+
+    /// The first step of a piece of work behind the close of a marked mux on the bus at this place.
+    pub fn ahead_behind(
+        &self,
+        board: &Board,
+        seen: &Seen<'_>,
+        place: u8,
+        hop: &Hop,
+        work: &Work,
+    ) -> Task
+        requires planned { IsPlanned self.now (Pass place hop.now work.now ∷ []) }
+        ensures first { (ms : List MessageView) → length ms ≡ self.now.count
+            → first_act (tree_of board.now ms self.now (result ∷ []) walk.Good)
+            ≡ first_act (seen_by (slots_of seen.now) (tree_of board.now ms self.now (Pass place hop.now work.now ∷ []) walk.Good)) }
+        ensures step { (ts : List Task) → IsStep (result ∷ ts) }
+        ensures planned { IsPlanned self.now (result ∷ []) }
+    {
+        let next = choice(seen, hop, work);
+        if is_parent(hop) {
+            self.ahead(board, seen, place, next)
+        } else {
+            Task::Lock {
+                from: place,
+                place,
+                work: next,
+            }
+        }
     }
 
     /// The action of a task that is a step, which is never Done.
@@ -213,6 +228,7 @@ impl Course {
             Task::Settle(verdict) => Action::Settle(verdict),
             Task::Enter { .. }
             | Task::AwaitClose { .. }
+            | Task::Pass { .. }
             | Task::AwaitSelect { .. }
             | Task::AwaitWork { .. }
             | Task::AwaitDeselect { .. } => Action::Done,

@@ -1,7 +1,8 @@
 //! The walk of a transfer: which lock, message or line a caller takes next, on a bus behind any muxes.
 //!
 //! Its public contract: a `Walk` stands for a tree of `bus_spec`'s grammar, `next` is the first step of that tree
-//! behind its looks, and `report` leaves what follows the step's outcome, and tells which marks change behind it.
+//! behind its looks, and `report` leaves what follows the step's outcome, and tells which marks and kept channels change
+//! behind it.
 //! Definitions: `specs/Plans.antt`, `specs/Marks.antt`, and the grammar itself in `bus_spec`. Standard: Linux i2c-topology.
 #![tactic(auto)]
 
@@ -9,14 +10,16 @@ mod course;
 mod laws;
 mod marks;
 mod parts;
+mod seen;
 mod stack;
 mod task;
 mod walk;
 mod work;
 
 pub(crate) use course::Course;
-pub use laws::{changed_marks_are_told, marks_answer_each_look};
+pub use laws::changed_marks_are_told;
 pub use marks::{Due, Dues};
+pub use seen::Seen;
 pub use task::{Action, Outcome};
 pub(crate) use task::{Came, Task, Work};
 pub use walk::Walk;

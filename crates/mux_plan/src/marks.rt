@@ -1,22 +1,27 @@
+//! Which marks and kept channels a step changes.
 ghost use Rattle.std.specs.Prelude.{◌≡◌, ℕ, ◌+◌, ◌<◌, ◌≤◌, List, [], ◌∷◌, ◌++◌, Some, None, length, reverse};
 ghost use Rattle.i2c_spec.specs.Messages.{MessageView};
 ghost use Rattle.mux_plan.specs.Plans.{CourseView, job_of, note_of, outcome_of};
-ghost use Rattle.mux_plan.specs.Marks.{all_marked, dues_on, dues_of_job};
-ghost use Rattle.mux_plan.specs.Rooms.{STACK_ROOM};
+ghost use Rattle.mux_plan.specs.Marks.{all_marked, left_open, dues_on, dues_of_job};
+ghost use Rattle.mux_plan.specs.Rooms.{IsNarrow, IsNarrowWork, STACK_ROOM};
 
 use crate::stack::STACK_ROOM;
 use crate::{Outcome, Task, Work};
 use arrayvec::ArrayVec;
 use i2c_base::{End, MuxId, SegId};
+use i2c_spec::Hop;
 
-/// A mark that a bus gets, or loses: a mux on it that may have been left open.
+/// A mux was turned: the bus that it stands on gets a mark, that of a mux which may have been left open, or loses it, and
+/// the mux has this channel open.
 #[derive(Clone, Copy, Default)]
 pub struct Due {
     pub on: SegId,
     pub mark: Option<MuxId>,
+    pub mux: MuxId,
+    pub channel: Option<u8>,
 }
 
-/// The marks that a step changes, the one that is set first in front.
+/// The muxes that a step turns, the one that is set first in front.
 pub type Dues = ArrayVec<Due, STACK_ROOM>;
 
 // A failure marks each mux that may be left open: from the nearest deselect up those that these tasks wait for.
@@ -45,6 +50,7 @@ fn mark_open(dues: &mut Dues, tasks: &[Task])
         | Task::Rest { .. }
         | Task::Line { .. }
         | Task::Settle(_)
+        | Task::Pass { .. }
         | Task::AwaitWork { .. } => mark_open(dues, below),
     }
 }
@@ -52,54 +58,79 @@ fn mark_open(dues: &mut Dues, tasks: &[Task])
 // A mux on the bus may be open from now on.
 fn mark(dues: &mut Dues, on: SegId, mux: MuxId)
     requires { length dues.old.items < STACK_ROOM }
-    ensures { dues.new.items ≡ dues.old.items ++ record { on = on; mark = Some mux } ∷ [] }
+    ensures { dues.new.items ≡ dues.old.items ++ record { on = on; mark = Some mux; mux = mux; channel = None } ∷ [] }
 {
     dues.push(Due {
         on,
         mark: Some(mux),
+        mux,
+        channel: None,
     });
 }
 
-// None is, from now on.
-fn clear(dues: &mut Dues, on: SegId)
-    requires { length dues.old.items < STACK_ROOM }
-    ensures { dues.new.items ≡ dues.old.items ++ record { on = on; mark = None } ∷ [] }
+// The channel that a select leaves open whose message or line had this outcome: a poll opens none.
+fn left_open(hop: &Hop, left: u8, outcome: &Outcome<'_>) -> Option<u8>
+    requires { IsNarrow hop.now }
+    ensures { result ≡ left_open hop.now left (outcome_of outcome.now) }
 {
-    dues.push(Due { on, mark: None });
+    let through = match outcome {
+        Outcome::Passed => false,
+        Outcome::Sent { end, .. } => *end == End::Ok && left == 0,
+        Outcome::Lined { failed } => !*failed,
+    };
+    through.then_some(hop.channel as u8)
 }
 
-// A mux on this bus was switched above these tasks: no mark is left where the port didn't fail.
-fn mark_switch(dues: &mut Dues, tasks: &[Task], on: SegId, outcome: &Outcome<'_>)
+// A mux on this bus was turned above these tasks. Where the port didn't fail no mark is left, and this channel is open.
+fn turn(
+    dues: &mut Dues,
+    tasks: &[Task],
+    on: SegId,
+    mux: MuxId,
+    channel: Option<u8>,
+    outcome: &Outcome<'_>,
+)
     requires few { length tasks.now < STACK_ROOM }
     requires empty { dues.old.items ≡ [] }
-    ensures { dues.new.items ≡ dues_on on (note_of (reverse tasks.now)).marks (outcome_of outcome.now) }
+    ensures { dues.new.items ≡ dues_on on mux channel (note_of (reverse tasks.now)).marks (outcome_of outcome.now) }
 {
-    match outcome {
-        Outcome::Passed => {}
-        Outcome::Sent { end, .. } => match end {
-            End::Ok | End::Nack | End::Slow | End::Refused | End::Proto => clear(dues, on),
-            End::Cut(_) => mark_open(dues, tasks),
-        },
-        Outcome::Lined { failed } => {
-            if *failed {
-                mark_open(dues, tasks);
-            } else {
-                clear(dues, on);
-            }
-        }
+    let failed = match outcome {
+        Outcome::Passed => return,
+        Outcome::Sent { end, .. } => matches!(end, End::Cut(_)),
+        Outcome::Lined { failed } => *failed,
+    };
+    if failed {
+        mark_open(dues, tasks);
+    } else {
+        dues.push(Due {
+            on,
+            mark: None,
+            mux,
+            channel,
+        });
     }
 }
 
-/// Which marks change where a message or the line of a piece of work above these tasks has this outcome.
+/// Which muxes are turned where a message of a piece of work above these tasks, which so many more may follow, or its
+/// line has this outcome.
 #[inline(always)]
-pub fn mark_work(dues: &mut Dues, tasks: &[Task], work: &Work, outcome: &Outcome<'_>)
+pub fn mark_work(dues: &mut Dues, tasks: &[Task], left: u8, work: &Work, outcome: &Outcome<'_>)
     requires few { length tasks.now < STACK_ROOM }
     requires empty { dues.old.items ≡ [] }
-    ensures { (c : CourseView) (ms : List MessageView) → dues.new.items ≡ dues_of_job (job_of c ms work.now) (note_of (reverse tasks.now)).marks (outcome_of outcome.now) }
+    requires narrow { IsNarrowWork work.now }
+    ensures { (c : CourseView) (ms : List MessageView)
+        → dues.new.items ≡ dues_of_job (job_of c ms work.now) left (note_of (reverse tasks.now)).marks (outcome_of outcome.now) }
 {
     match work {
         Work::Call => {}
-        Work::Select(hop) => mark_switch(dues, tasks, hop.on, outcome),
-        Work::Clear { on, .. } => mark_switch(dues, tasks, *on, outcome),
+        Work::Select(hop) => turn(
+            dues,
+            tasks,
+            hop.on,
+            hop.mux,
+            left_open(hop, left, outcome),
+            outcome,
+        ),
+        Work::Clear { on, mux, .. } => turn(dues, tasks, *on, *mux, None, outcome),
     }
 }

@@ -1,23 +1,24 @@
-ghost use Rattle.std.specs.Prelude.{◌≡◌, ◌+◌, ◌<◌, ◌≤◌, ℕ, true, false, List, [], ◌∷◌, length, Option, None, Some, IfSome, slice_index_or};
+//! A walk as a stack of tasks.
+ghost use Rattle.std.specs.Prelude.{◌≡◌, ◌+◌, ◌<◌, ◌≤◌, ℕ, true, false, List, [], ◌∷◌, length, Option, None, Some, IfSome};
 ghost use Rattle.std.specs.List.{list_any};
 ghost use Rattle.i2c_base.specs.Board.{BoardView};
 ghost use Rattle.i2c_spec.specs.Messages.{MessageView};
 ghost use Rattle.i2c_base.specs.declared.errno.Errno.{Errno};
 ghost use Rattle.bus_spec.specs.Slots.{Slots};
-ghost use Rattle.bus_spec.specs.Walk.{JobOutcome, ActOutcome, Settle};
-ghost use Rattle.bus_spec.specs.Grammar.{at_bus, lost as lost_of, is_over, first_act, first_note, chosen, opened, over, seen, rest_of};
-ghost use Rattle.mux_plan.specs.Plans.{CourseView, job_of, came_of, outcome_of, note_of, on_bus, tree_of, action_of, slots_of, part_task, crossed_tasks, switch_of};
+ghost use Rattle.bus_spec.specs.Walk.{JobOutcome, ActOutcome, Settle, Look, KeptOf};
+ghost use Rattle.bus_spec.specs.Grammar.{at_bus, lost as lost_of, is_over, first_act, first_note, keeps, crossed, opened, over, seen as seen_by, rest_of};
+ghost use Rattle.mux_plan.specs.Plans.{CourseView, job_of, came_of, outcome_of, note_of, on_bus, tree_of, action_of, slots_of, mark_on, kept_of, part_task, select_tasks, wait_tasks, work_tasks, crossed_tasks, choice_of, switch_of};
 ghost use Rattle.mux_plan.specs.Plans as plans;
 ghost use Rattle.mux_plan.specs.Marks.{dues_after};
 ghost use Rattle.mux_plan.specs.Rooms.{IsNarrow, IsNarrowWork, IsPlanned, IsReady, IsStep, STACK_ROOM};
-ghost use Rattle.mux_plan.specs.declared.task.Task.TheVariants.{Enter, Lock, Rest, AwaitClose, AwaitSelect, AwaitWork};
+ghost use Rattle.mux_plan.specs.declared.task.Task.TheVariants.{Enter, Lock, Rest, Pass, AwaitClose, AwaitSelect, AwaitWork};
 ghost use Rattle.mux_plan.specs.declared.task.Action.TheVariants.{Done};
 
-use crate::course::{is_parent, switch, waiting};
+use crate::course::{choice, is_parent, switch};
 use crate::marks::{Dues, mark_work};
 use crate::stack::Stack;
 use crate::work::Follow;
-use crate::{Action, Came, Course, Outcome, Task, Work};
+use crate::{Action, Came, Course, Outcome, Seen, Task, Work};
 use i2c_base::{Errno, MuxId};
 use i2c_board::Board;
 use i2c_spec::Hop;
@@ -81,24 +82,53 @@ impl Parts {
         self.came = Came::Good;
     }
 
-    // At a mux the work waits. Gives what comes first there, which takes the locks of a mux-locked one.
-    fn cross(
-        &mut self,
-        board: &Board,
-        marks: &[Option<MuxId>],
-        hop: &Hop,
-        place: u8,
-        work: &Work,
-    ) -> Work
-        requires room { length self.old.stack + 2 ≤ STACK_ROOM }
-        ensures next { result ≡ switch_of board.now hop.now (slice_index_or marks.now hop.now.on None) }
-        ensures narrow { IsNarrow hop.now → IsNarrowWork result }
-        ensures stack { self.new.stack ≡ crossed_tasks hop.now (slice_index_or marks.now hop.now.on None) place work.now result self.old.stack }
+    // The work waits for the select, but where the mux keeps its channel open.
+    fn wait_select(&mut self, seen: &Seen<'_>, hop: &Hop, place: u8, work: &Work)
+        requires room { length self.old.stack < STACK_ROOM }
+        ensures few { length self.new.stack ≤ length self.old.stack + 1 }
+        ensures stack { self.new.stack ≡ select_tasks hop.now (keeps hop.now (kept_of seen.now hop.now.mux)) place work.now self.old.stack }
         ensures course { self.new.course ≡ self.old.course }
         ensures came { self.new.came ≡ self.old.came }
     {
-        let next = switch(board, marks, hop);
-        self.stack.push(waiting(marks, hop, place, work));
+        if !seen.keeps(hop) {
+            self.stack.push(Task::AwaitSelect {
+                place,
+                hop: *hop,
+                work: *work,
+            });
+        }
+    }
+
+    // The work waits for what comes first at a mux.
+    fn wait(&mut self, seen: &Seen<'_>, hop: &Hop, place: u8, work: &Work)
+        requires room { length self.old.stack < STACK_ROOM }
+        ensures few { length self.new.stack ≤ length self.old.stack + 1 }
+        ensures stack { self.new.stack ≡ wait_tasks hop.now (mark_on seen.now hop.now.on) (keeps hop.now (kept_of seen.now hop.now.mux)) place work.now self.old.stack }
+        ensures course { self.new.course ≡ self.old.course }
+        ensures came { self.new.came ≡ self.old.came }
+    {
+        match seen.mark(hop) {
+            None => self.wait_select(seen, hop, place, work),
+            Some(mux) => self.stack.push(Task::AwaitClose {
+                place,
+                hop: *hop,
+                mux,
+                work: *work,
+            }),
+        }
+    }
+
+    // At a mux the work waits. Gives what comes first there, which takes the locks of a mux-locked one.
+    fn cross(&mut self, board: &Board, seen: &Seen<'_>, hop: &Hop, place: u8, work: &Work) -> Work
+        requires room { length self.old.stack + 2 ≤ STACK_ROOM }
+        ensures next { result ≡ switch_of board.now hop.now (mark_on seen.now hop.now.on) (keeps hop.now (kept_of seen.now hop.now.mux)) work.now }
+        ensures narrow { IsNarrow hop.now → IsNarrowWork work.now → IsNarrowWork result }
+        ensures stack { self.new.stack ≡ crossed_tasks hop.now (mark_on seen.now hop.now.on) (keeps hop.now (kept_of seen.now hop.now.mux)) place work.now result self.old.stack }
+        ensures course { self.new.course ≡ self.old.course }
+        ensures came { self.new.came ≡ self.old.came }
+    {
+        let next = switch(board, seen, hop, work);
+        self.wait(seen, hop, place, work);
         if !is_parent(hop) {
             self.stack.push(part(false, place, &next));
         }
@@ -121,11 +151,11 @@ impl Parts {
 
     /// Begins a piece of work on the bus at a place: the looks at the muxes on its way are answered, and the first step
     /// is on the top.
-    pub fn enter(&mut self, board: &Board, marks: &[Option<MuxId>], place: u8, work: Work)
+    pub fn enter(&mut self, board: &Board, seen: &Seen<'_>, place: u8, work: Work)
         requires planned { IsPlanned self.old.course (Enter place work ∷ self.old.stack) }
         ensures tree { (ms : List MessageView) (out : JobOutcome) → length ms ≡ self.old.course.count
             → tree_of board.now ms self.new.course self.new.stack out
-            ≡ seen (slots_of marks.now) (tree_of board.now ms self.old.course (Enter place work ∷ self.old.stack) out) }
+            ≡ seen_by (slots_of seen.now) (tree_of board.now ms self.old.course (Enter place work ∷ self.old.stack) out) }
         ensures planned { IsPlanned self.new.course self.new.stack }
         ensures step { IsStep self.new.stack }
         ensures course { self.new.course ≡ self.old.course }
@@ -135,7 +165,7 @@ impl Parts {
         let mut work = work;
         'muxes: while let Some(hop) = self.course.crossed(place, &work) {
             place += 1;
-            work = self.cross(board, marks, &hop, place, &work);
+            work = self.cross(board, seen, &hop, place, &work);
             if !is_parent(&hop) {
                 return;
             }
@@ -143,13 +173,34 @@ impl Parts {
         self.reach(&work);
     }
 
+    // Goes on behind the close of a marked mux: the look at the kept channel is answered, and those on the way of what
+    // comes then.
+    fn pass(&mut self, board: &Board, seen: &Seen<'_>, place: u8, hop: &Hop, work: &Work)
+        requires planned { IsPlanned self.old.course (Pass place hop.now work.now ∷ self.old.stack) }
+        ensures tree { (ms : List MessageView) (out : JobOutcome) → length ms ≡ self.old.course.count
+            → tree_of board.now ms self.new.course self.new.stack out
+            ≡ seen_by (slots_of seen.now) (tree_of board.now ms self.old.course (Pass place hop.now work.now ∷ self.old.stack) out) }
+        ensures planned { IsPlanned self.new.course self.new.stack }
+        ensures step { IsStep self.new.stack }
+        ensures course { self.new.course ≡ self.old.course }
+        ensures came { self.new.came ≡ self.old.came }
+    {
+        let next = choice(seen, hop, work);
+        self.wait_select(seen, hop, place, work);
+        if is_parent(hop) {
+            self.enter(board, seen, place, next);
+        } else {
+            self.stack.push(part(false, place, &next));
+        }
+    }
+
     /// Answers the looks in front of the next step.
-    pub fn look(&mut self, board: &Board, marks: &[Option<MuxId>])
+    pub fn look(&mut self, board: &Board, seen: &Seen<'_>)
         requires planned { IsPlanned self.old.course self.old.stack }
         requires ready { IsReady self.old.stack }
         ensures tree { (ms : List MessageView) (out : JobOutcome) → length ms ≡ self.old.course.count
             → tree_of board.now ms self.new.course self.new.stack out
-            ≡ seen (slots_of marks.now) (tree_of board.now ms self.old.course self.old.stack out) }
+            ≡ seen_by (slots_of seen.now) (tree_of board.now ms self.old.course self.old.stack out) }
         ensures planned { IsPlanned self.new.course self.new.stack }
         ensures step { IsStep self.new.stack }
         ensures course { self.new.course ≡ self.old.course }
@@ -158,9 +209,16 @@ impl Parts {
         let Some(task) = self.stack.top() else {
             return;
         };
-        if let Task::Enter { place, work } = task {
-            self.stack.drop_top();
-            self.enter(board, marks, place, work);
+        match task {
+            Task::Enter { place, work } => {
+                self.stack.drop_top();
+                self.enter(board, seen, place, work);
+            }
+            Task::Pass { place, hop, work } => {
+                self.stack.drop_top();
+                self.pass(board, seen, place, &hop, &work);
+            }
+            _ => {}
         }
     }
 
@@ -232,6 +290,7 @@ impl Parts {
 
     /// Which marks change where the step on the top has this outcome.
     pub fn mark(&self, dues: &mut Dues, outcome: &Outcome<'_>)
+        requires planned { IsPlanned self.now.course self.now.stack }
         requires step { IsStep self.now.stack }
         requires few { length self.now.stack ≤ STACK_ROOM }
         requires empty { dues.old.items ≡ [] }
@@ -242,8 +301,8 @@ impl Parts {
             return;
         };
         match top {
-            Task::Rest { work, .. } => mark_work(dues, below, work, outcome),
-            Task::Line { work } => mark_work(dues, below, work, outcome),
+            Task::Rest { left, work } => mark_work(dues, below, *left, work, outcome),
+            Task::Line { work } => mark_work(dues, below, 0, work, outcome),
             _ => {}
         }
     }
@@ -268,25 +327,38 @@ impl Parts {
             Task::Free(_) | Task::Settle(_) => {}
             Task::Enter { .. }
             | Task::AwaitClose { .. }
+            | Task::Pass { .. }
             | Task::AwaitSelect { .. }
             | Task::AwaitWork { .. }
             | Task::AwaitDeselect { .. } => {}
         }
     }
 
-    // A marked mux was closed: the channel is selected.
-    fn select(&mut self, place: u8, hop: Hop, mux: MuxId, work: Work)
+    // A marked mux was closed: the look at the kept channel comes next.
+    fn closed(&mut self, place: u8, hop: Hop, mux: MuxId, work: Work)
         requires planned { IsPlanned self.old.course (AwaitClose place hop mux work ∷ self.old.stack) }
         ensures tree { (b : BoardView) (ms : List MessageView) (out : JobOutcome)
             → tree_of b ms self.new.course self.new.stack out
-            ≡ chosen hop (on_bus b self.old.course place hop) (job_of self.old.course ms work) (note_of self.old.stack) (tree_of b ms self.old.course self.old.stack) }
+            ≡ Look (KeptOf hop.on hop.mux) (crossed hop (on_bus b self.old.course place hop) (job_of self.old.course ms work) (note_of self.old.stack) (tree_of b ms self.old.course self.old.stack)) }
         ensures planned { IsPlanned self.new.course self.new.stack }
         ensures ready { IsReady self.new.stack }
         ensures course { self.new.course ≡ self.old.course }
         ensures came { self.new.came ≡ self.old.came }
     {
-        self.stack.push(Task::AwaitSelect { place, hop, work });
-        self.stack.push(part(hop.parent, place, &Work::Select(hop)));
+        self.stack.push(Task::Pass { place, hop, work });
+    }
+
+    // The mux waits for the work behind it, but where it stays as it is.
+    fn wait_work(&mut self, place: u8, hop: &Hop)
+        requires room { length self.old.stack < STACK_ROOM }
+        ensures few { length self.new.stack ≤ length self.old.stack + 1 }
+        ensures stack { self.new.stack ≡ work_tasks hop.now.stays place hop.now self.old.stack }
+        ensures course { self.new.course ≡ self.old.course }
+        ensures came { self.new.came ≡ self.old.came }
+    {
+        if !hop.stays {
+            self.stack.push(Task::AwaitWork { place, hop: *hop });
+        }
     }
 
     // The channel is selected: the work is done.
@@ -300,8 +372,8 @@ impl Parts {
         ensures course { self.new.course ≡ self.old.course }
         ensures came { self.new.came ≡ self.old.came }
     {
-        self.stack.push(Task::AwaitWork { place, hop });
-        self.stack.push(part(hop.parent, place, &work));
+        self.wait_work(place, &hop);
+        self.stack.push(part(is_parent(&hop), place, &work));
     }
 
     // The work is done: the mux is deselected, whatever came of it.
@@ -369,7 +441,8 @@ impl Parts {
             | Task::Free(_)
             | Task::Rest { .. }
             | Task::Line { .. }
-            | Task::Settle(_) => false,
+            | Task::Settle(_)
+            | Task::Pass { .. } => false,
         }
     }
 
@@ -386,7 +459,7 @@ impl Parts {
     {
         match self.came {
             Came::Good | Came::Refused => {
-                self.select(place, hop, mux, work);
+                self.closed(place, hop, mux, work);
                 false
             }
             Came::Unsent | Came::Failed => true,
@@ -439,9 +512,9 @@ impl Parts {
     /// The settle on the top, if one is there: why the reply is an error, or none.
     pub fn settles(&self) -> Option<Option<Errno>>
         requires ready { IsReady self.now.stack }
-        ensures some { (b : BoardView) (ms : List MessageView) (v : Slots) → IfSome result (λ verdict. first_act (seen v (tree_of b ms self.now.course self.now.stack (came_of self.now.came))) ≡ Some (Settle verdict)) }
+        ensures some { (b : BoardView) (ms : List MessageView) (v : Slots) → IfSome result (λ verdict. first_act (seen_by v (tree_of b ms self.now.course self.now.stack (came_of self.now.came))) ≡ Some (Settle verdict)) }
         ensures none { (b : BoardView) (ms : List MessageView) (v : Slots) (verdict : Option Errno) → result ≡ None
-            → first_act (seen v (tree_of b ms self.now.course self.now.stack (came_of self.now.came))) ≡ Some (Settle verdict) → ⊥ }
+            → first_act (seen_by v (tree_of b ms self.now.course self.now.stack (came_of self.now.came))) ≡ Some (Settle verdict) → ⊥ }
     {
         let Some(task) = self.stack.top() else {
             return None;
@@ -452,12 +525,12 @@ impl Parts {
         }
     }
 
-    /// The first action, where these marks answer the looks in front of it. Done exactly where no task is left.
-    pub fn first(&self, board: &Board, marks: &[Option<MuxId>]) -> Action
+    /// The first action, where this answers the looks in front of it. Done exactly where no task is left.
+    pub fn first(&self, board: &Board, seen: &Seen<'_>) -> Action
         requires planned { IsPlanned self.now.course self.now.stack }
         requires ready { IsReady self.now.stack }
         ensures first { (ms : List MessageView) → length ms ≡ self.now.course.count
-            → result ≡ action_of (first_act (seen (slots_of marks.now) (tree_of board.now ms self.now.course self.now.stack (came_of self.now.came)))) }
+            → result ≡ action_of (first_act (seen_by (slots_of seen.now) (tree_of board.now ms self.now.course self.now.stack (came_of self.now.came)))) }
         ensures over { result ≡ Done → self.now.stack ≡ [] }
     {
         let Some(task) = self.stack.top() else {
@@ -465,7 +538,11 @@ impl Parts {
         };
         match task {
             Task::Enter { place, work } => {
-                let step = self.course.ahead(board, marks, place, work);
+                let step = self.course.ahead(board, seen, place, work);
+                self.course.action(step)
+            }
+            Task::Pass { place, hop, work } => {
+                let step = self.course.ahead_behind(board, seen, place, &hop, &work);
                 self.course.action(step)
             }
             step => self.course.action(step),

@@ -1,3 +1,4 @@
+//! The tasks of a walk, its actions and their outcomes.
 use i2c_base::{End, Errno, LockId, MuxId, MuxKind, Purpose, SegId};
 use i2c_spec::Hop;
 
@@ -59,6 +60,13 @@ pub enum Task {
         place: u8,
         hop: Hop,
         mux: MuxId,
+        work: Work,
+    },
+    /// The close of a marked mux was sent: the channel is selected, but where the mux of the hop, on the bus at this place,
+    /// keeps it open; then the work is done.
+    Pass {
+        place: u8,
+        hop: Hop,
         work: Work,
     },
     /// Waits for the select.

@@ -1,3 +1,4 @@
+//! The walk of a transfer, step by step.
 ghost use Rattle.std.specs.Prelude.{◌≡◌, ◌<◌, true, List, length, Option, None, Some, IsSome, IfSome};
 ghost use Rattle.i2c_base.specs.Board.{BoardView};
 ghost use Rattle.i2c_spec.specs.Messages.{MessageView, messages_of};
@@ -5,7 +6,7 @@ ghost use Rattle.i2c_spec.specs.Tree.{buses, root_of};
 ghost use Rattle.i2c_base.specs.declared.errno.Errno.{Errno};
 ghost use Rattle.bus_spec.specs.Slots.{Slots};
 ghost use Rattle.bus_spec.specs.Walk.{Call, Ends, Settle};
-ghost use Rattle.bus_spec.specs.Grammar.{walk_by, walk_for, is_over, seen, first_act, first_note, rest_of};
+ghost use Rattle.bus_spec.specs.Grammar.{walk_by, walk_for, is_over, seen as seen_by, first_act, first_note, rest_of};
 ghost use Rattle.mux_plan.specs.Marks.{dues_after};
 ghost use Rattle.mux_plan.specs.Plans.{walk_of, slots_of, action_of, outcome_of};
 ghost use Rattle.mux_plan.specs.declared.task.Action.TheVariants.{Done};
@@ -13,9 +14,9 @@ ghost use Rattle.mux_plan.specs.declared.task.Action.TheVariants.{Done};
 use crate::marks::Dues;
 use crate::parts::Parts;
 use crate::stack::Stack;
-use crate::{Action, Came, Course, Outcome, Task, Work};
+use crate::{Action, Came, Course, Outcome, Seen, Task, Work};
 use arrayvec::ArrayVec;
-use i2c_base::{Errno, MuxId, SegId, Transfer, empty};
+use i2c_base::{Errno, SegId, Transfer, empty};
 use i2c_board::{Accepted, Board};
 use i2c_spec::refusal;
 use std::marker::Model;
@@ -113,20 +114,20 @@ impl Walk {
         }
     }
 
-    /// The next action, where each bus has this mark: the first step of the walk behind its looks. Done exactly where
-    /// the walk is over.
-    pub fn next(&self, board: &Board, marks: &[Option<MuxId>]) -> Action
+    /// The next action, where this is told of marks and kept channels: the first step of the walk behind its looks. Done
+    /// exactly where the walk is over.
+    pub fn next(&self, board: &Board, seen: &Seen<'_>) -> Action
         ensures first { (ms : List MessageView) → length ms ≡ self.now.course.count
-            → result ≡ action_of (first_act (seen (slots_of marks.now) (walk_of board.now ms self.now))) }
+            → result ≡ action_of (first_act (seen_by (slots_of seen.now) (walk_of board.now ms self.now))) }
         ensures over { result ≡ Done → (b : BoardView) (ms : List MessageView) → is_over (walk_of b ms self.now) ≡ true }
     {
-        self.parts.first(board, marks)
+        self.parts.first(board, seen)
     }
 
     /// The settle that comes next, if one does: why the reply is an error, or none. A settle has no look in front.
     pub fn settles(&self) -> Option<Option<Errno>>
-        ensures some { (b : BoardView) (ms : List MessageView) (v : Slots) → IfSome result (λ verdict. first_act (seen v (walk_of b ms self.now)) ≡ Some (Settle verdict)) }
-        ensures none { (b : BoardView) (ms : List MessageView) (v : Slots) (verdict : Option Errno) → result ≡ None → first_act (seen v (walk_of b ms self.now)) ≡ Some (Settle verdict) → ⊥ }
+        ensures some { (b : BoardView) (ms : List MessageView) (v : Slots) → IfSome result (λ verdict. first_act (seen_by v (walk_of b ms self.now)) ≡ Some (Settle verdict)) }
+        ensures none { (b : BoardView) (ms : List MessageView) (v : Slots) (verdict : Option Errno) → result ≡ None → first_act (seen_by v (walk_of b ms self.now)) ≡ Some (Settle verdict) → ⊥ }
     {
         self.parts.settles()
     }
@@ -138,23 +139,17 @@ impl Walk {
         self.parts.is_over()
     }
 
-    /// Goes on behind the next action, which had this outcome. Each bus has this mark before it; which marks change
-    /// behind it is told in the place of what `dues` had.
-    pub fn report(
-        &mut self,
-        board: &Board,
-        marks: &[Option<MuxId>],
-        outcome: &Outcome<'_>,
-        dues: &mut Dues,
-    )
+    /// Goes on behind the next action, which had this outcome. This is told of marks and kept channels before it;
+    /// which of them change behind it is told in the place of what `dues` had.
+    pub fn report(&mut self, board: &Board, seen: &Seen<'_>, outcome: &Outcome<'_>, dues: &mut Dues)
         ensures tree { (ms : List MessageView) → length ms ≡ self.old.course.count
-            → walk_of board.now ms self.new ≡ rest_of (seen (slots_of marks.now) (walk_of board.now ms self.old)) (outcome_of outcome.now) }
+            → walk_of board.now ms self.new ≡ rest_of (seen_by (slots_of seen.now) (walk_of board.now ms self.old)) (outcome_of outcome.now) }
         ensures course { self.new.course ≡ self.old.course }
         ensures dues { (ms : List MessageView) → length ms ≡ self.old.course.count
-            → dues.new.items ≡ dues_after (first_act (seen (slots_of marks.now) (walk_of board.now ms self.old))) (first_note (seen (slots_of marks.now) (walk_of board.now ms self.old))) (outcome_of outcome.now) }
+            → dues.new.items ≡ dues_after (first_act (seen_by (slots_of seen.now) (walk_of board.now ms self.old))) (first_note (seen_by (slots_of seen.now) (walk_of board.now ms self.old))) (outcome_of outcome.now) }
     {
         empty(dues);
-        self.parts.look(board, marks);
+        self.parts.look(board, seen);
         self.parts.mark(dues, outcome);
         self.parts.act(outcome);
         self.parts.resume();

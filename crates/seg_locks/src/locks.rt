@@ -1,6 +1,7 @@
+//! The lock words of a board.
 ghost use Rattle.std.specs.Prelude.{◌≡◌, ◌<◌, ◌≤◌, All, None, Some, IfOk, IfErr, OnOk, OnErr};
 ghost use Rattle.i2c_base.specs.Limits.{MOST_CALLERS};
-ghost use Rattle.seg_locks.specs.Locks.{opened, IsDepth, IsLockIn, IsMuxLock, IsBelowHeld, holder_in, mark_at, rank_in, with_holder, with_mark};
+ghost use Rattle.seg_locks.specs.Locks.{opened, IsDepth, IsLockIn, IsMuxLock, IsBelowHeld, holder_in, mark_at, kept_by, rank_in, with_holder, with_mark, with_kept};
 
 use i2c_base::{LockId, MuxId, NoMemory};
 use std::alloc::Global;
@@ -12,13 +13,14 @@ pub struct Held {
     pub holder: u8,
 }
 
-/// The lock words of a board. A contract sees who has each lock, and the mark of each bus.
+/// The lock words of a board. A contract sees who has each lock, the mark of each bus, and what each mux has open.
 #[derive(Drop)]
 pub struct Locks {
     depths: Vec<u8>,
     roots: Vec<Option<u8>>,
     buses: Vec<Option<u8>>,
     marks: Vec<Option<MuxId>>,
+    kept: Vec<Option<u8>>,
 }
 
 impl Model for Locks {
@@ -28,22 +30,23 @@ impl Model for Locks {
 
     ghost Value = { LocksView };
 
-    ghost view = { λ l. record { depths = l.depths.items; roots = l.roots.items; buses = l.buses.items; marks = l.marks.items } };
+    ghost view = { λ l. record { depths = l.depths.items; roots = l.roots.items; buses = l.buses.items; marks = l.marks.items; kept = l.kept.items } };
 
     ghost invariant = { λ l. (vec_len l.buses ≡ vec_len l.depths) × (vec_len l.marks ≡ vec_len l.depths) × All IsDepth l.depths.items };
 }
 
 impl Locks {
-    /// The locks of a board with so many roots, whose buses have so many muxes over them. Nobody has one.
-    pub fn open(alloc: Global, depths: &[u8], roots: u8) -> Result<Self, NoMemory>
+    /// The locks of a board with so many roots and muxes, whose buses have so many muxes over them. Nobody has one.
+    pub fn open(alloc: Global, depths: &[u8], roots: u8, muxes: u8) -> Result<Self, NoMemory>
         requires deep { All IsDepth depths.now }
-        ensures { IfOk result (λ l. l ≡ opened depths.now roots) }
+        ensures { IfOk result (λ l. l ≡ opened depths.now roots muxes) }
     {
         Ok(Locks {
             depths: depths.to_vec(alloc)?,
             roots: vec![in alloc; None; usize::from(roots)]?,
             buses: vec![in alloc; None; depths.len()]?,
             marks: vec![in alloc; None; depths.len()]?,
+            kept: vec![in alloc; None; usize::from(muxes)]?,
         })
     }
 
@@ -67,6 +70,20 @@ impl Locks {
             LockId::Bus(_) => None,
             LockId::Mux(bus) => self.marks[usize::from(bus.0)],
         }
+    }
+
+    /// The channel that a mux keeps open. A mux that the board doesn't have keeps none.
+    pub fn kept(&self, mux: MuxId) -> Option<u8>
+        ensures { result ≡ kept_by self.now mux }
+    {
+        self.kept.get(usize::from(mux.0)).copied().flatten()
+    }
+
+    /// The channel that each mux keeps open.
+    pub fn kept_channels(&self) -> &[Option<u8>]
+        ensures { result.now ≡ self.now.kept }
+    {
+        self.kept.as_slice()
     }
 
     /// The mark of each bus.
@@ -134,6 +151,19 @@ impl Locks {
         match lock {
             LockId::Bus(_) => {}
             LockId::Mux(bus) => self.marks[usize::from(bus.0)] = mark,
+        }
+    }
+
+    /// The caller, who has the lock of the muxes on the bus of a mux, says which channel that one has open from now on.
+    pub fn set_kept(&mut self, caller: u8, lock: LockId, mux: MuxId, channel: Option<u8>)
+        requires there { IsLockIn self.old lock }
+        requires caller { caller < MOST_CALLERS }
+        requires held { holder_in self.old lock ≡ Some caller }
+        requires mux { IsMuxLock lock }
+        ensures { self.new ≡ with_kept self.old mux channel }
+    {
+        if let Some(word) = self.kept.get_mut(usize::from(mux.0)) {
+            *word = channel;
         }
     }
 

@@ -1,13 +1,13 @@
 use Rattle.std.proofs.Common.{◌≡◌, drop}
-use Rattle.mux_plan.specs.Marks.{applied}
-use Rattle.bus_core.specs.Marks.{AreHeld}
+use Rattle.core_laws.specs.Spots.{seen_of, turned_to}
+use Rattle.bus_core.specs.Marks.{AreHeld, words_after}
 use Rattle.bus_core.proofs.marks.set_marks.Given as goal
 
--- the marks behind what is left are those behind all
+-- the words behind what is left are those behind all
 abbrev pub invariant-loop-due : goal.invariant-loop-due
 invariant-loop-due l =
     record {
-      same : l.locks ≡ record l.fn.locks { marks = l.locks.marks };
-      told : applied (drop l.due-index l.dues) l.locks.marks ≡ applied l.dues l.fn.locks.marks;
+      same : l.locks ≡ turned_to l.fn.locks (seen_of l.locks);
+      told : words_after (drop l.due-index l.dues) (seen_of l.locks) ≡ words_after l.dues (seen_of l.fn.locks);
       held : AreHeld l.fn.locks l.caller (drop l.due-index l.dues);
     }

@@ -17,8 +17,10 @@ returns-clause-core g c =
     subst (λ (xs : List _). AreSeated g.C.Caller b (roots_of xs) c.args.callers.items (length c.args.callers.items) c.in_ok-seats.seats.items c.in_ok-seats.places.items)
     c.as_slice-2.ensures.value c.in_ok-seats.ensures in
     let roots : length c.roots.result.now ≡ length b.roots = ap length c.roots.ensures.value ∙ ap (λ (x : BoardView). length x.roots) c.board.ensures.value in
-    let locks : c.in_ok-locks.locks ≡ opened c.in_ok-depths.depths.items (length b.roots) =
-    c.in_ok-locks.ensures ∙ ap (λ (ds : List ℕ). opened ds (length c.roots.result.now)) c.as_slice.ensures.value ∙ ap (opened c.in_ok-depths.depths.items) roots in
+    let muxes : length c.muxes.result.now ≡ length b.muxes = ap length c.muxes.ensures.value ∙ ap (λ (x : BoardView). length x.muxes) c.board-2.ensures.value in
+    let locks : c.in_ok-locks.locks ≡ opened c.in_ok-depths.depths.items (length b.roots) (length b.muxes) =
+    c.in_ok-locks.ensures ∙ ap (λ (ds : List ℕ). opened ds (length c.roots.result.now) (length c.muxes.result.now)) c.as_slice.ensures.value
+    ∙ ap (λ (n : ℕ). opened c.in_ok-depths.depths.items n (length c.muxes.result.now)) roots ∙ ap (opened c.in_ok-depths.depths.items (length b.roots)) muxes in
     opened-core g.P.Port g.C.Caller _ c.args.callers.items c.args.limit c.requires plain c.board.ensures.rules seated c.in_ok-depths.depths.items c.in_ok-depths.ensures.are locks c.in_ok-journal.ensures
 
 pub returns-clause-opened : goal.returns-clause-opened

@@ -4,10 +4,9 @@ use Rattle.i2c_base.specs.Limits.{MOST_CALLERS}
 use Rattle.i2c_base.specs.declared.entry.Entry.{Entry}
 use Rattle.i2c_base.specs.declared.entry.Entry.TheVariants as entry
 use Rattle.mux_plan.specs.declared.marks.Due.{Due}
-use Rattle.mux_plan.specs.Marks.{applied}
 use Rattle.bus_spec.specs.Walk as walk
 use Rattle.seg_locks.specs.Locks.{LocksView}
-use Rattle.bus_core.specs.Marks.{AreHeld}
+use Rattle.bus_core.specs.Marks.{words_after, AreHeld}
 use Rattle.bus_core.specs.Seats.{HasHeard, MayHear, MaySettle, dues_of}
 use Rattle.bus_core.specs.declared.seat.Seat.{Seat}
 use Rattle.bus_core.proofs.Kept.{number-small}
@@ -15,6 +14,7 @@ use Rattle.bus_core.proofs.Converse.{may-speak, may-hear, message-room, message-
 use Rattle.bus_core.proofs.Conversed.{may-settle, conversed}
 use Rattle.bus_core.proofs.Stepped.{seat-is, seat-now, set-at}
 use Rattle.bus_core.proofs.steps.converse.Goals as goal
+use Rattle.core_laws.specs.Spots.{turned_to, seen_of}
 
 pub say-caller-requires-after_bounds : goal.say-caller-requires-after_bounds
 say-caller-requires-after_bounds g c κs within =
@@ -91,8 +91,8 @@ settle-requires g c =
     let dues : c.as_slice-3.result.now ≡ dues_of x.board.now x.locks (walk.Sent out.end bytes) s =
     c.as_slice-3.ensures.value ∙ seat-is (λ (y : Seat _). c.hear.new.dues.items ≡ dues_of x.board.now x.locks (walk.Sent out.end c.as_slice-2.result.now) y) x.seats.items c.args.place s next.comes.here c.hear.ensures.dues
     ∙ ap (λ (ys : List ℕ). dues_of x.board.now x.locks (walk.Sent out.end ys) s) c.as_slice-2.ensures.value in
-    let locks : c.set_marks.new.locks ≡ record x.locks { marks = applied (dues_of x.board.now x.locks (walk.Sent out.end bytes) s) x.locks.marks } =
-    c.set_marks.ensures ∙ ap (λ (ds : List Due). record x.locks { marks = applied ds x.locks.marks }) dues in
+    let locks : c.set_marks.new.locks ≡ turned_to x.locks (words_after (dues_of x.board.now x.locks (walk.Sent out.end bytes) s) (seen_of x.locks)) =
+    c.set_marks.ensures ∙ ap (λ (ds : List Due). turned_to x.locks (words_after ds (seen_of x.locks))) dues in
     let entries = c.push.ensures.entries
     ∙ ap (λ (e : Entry). x.journal.entries ++ e ∷ [])
     (c.message_entry.ensures.seen
@@ -122,8 +122,8 @@ returns g c =
     let dues : c.as_slice-3.result.now ≡ dues_of x.board.now x.locks (walk.Sent out.end bytes) s =
     c.as_slice-3.ensures.value ∙ seat-is (λ (y : Seat _). c.hear.new.dues.items ≡ dues_of x.board.now x.locks (walk.Sent out.end c.as_slice-2.result.now) y) x.seats.items c.args.place s next.comes.here c.hear.ensures.dues
     ∙ ap (λ (ys : List ℕ). dues_of x.board.now x.locks (walk.Sent out.end ys) s) c.as_slice-2.ensures.value in
-    let locks : c.set_marks.new.locks ≡ record x.locks { marks = applied (dues_of x.board.now x.locks (walk.Sent out.end bytes) s) x.locks.marks } =
-    c.set_marks.ensures ∙ ap (λ (ds : List Due). record x.locks { marks = applied ds x.locks.marks }) dues in
+    let locks : c.set_marks.new.locks ≡ turned_to x.locks (words_after (dues_of x.board.now x.locks (walk.Sent out.end bytes) s) (seen_of x.locks)) =
+    c.set_marks.ensures ∙ ap (λ (ds : List Due). turned_to x.locks (words_after ds (seen_of x.locks))) dues in
     let entries = c.push.ensures.entries
     ∙ ap (λ (e : Entry). x.journal.entries ++ e ∷ [])
     (c.message_entry.ensures.seen

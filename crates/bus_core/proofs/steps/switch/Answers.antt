@@ -5,15 +5,15 @@ use Rattle.i2c_base.specs.declared.entry.Entry.TheVariants as entry
 use Rattle.bus_message.specs.Sockets.{MayShift, Shifted, sockets_of}
 use Rattle.bus_spec.specs.Walk.{Lined, line_mux, line_level}
 use Rattle.mux_plan.specs.declared.marks.Due.{Due}
-use Rattle.mux_plan.specs.Marks.{applied}
 use Rattle.seg_locks.specs.Locks.{LocksView}
-use Rattle.bus_core.specs.Marks.{AreHeld}
+use Rattle.bus_core.specs.Marks.{words_after, AreHeld}
 use Rattle.bus_core.specs.Seats.{WentOn, MaySettle, dues_of, cut_of_line}
 use Rattle.bus_core.specs.declared.seat.Seat.{Seat}
 use Rattle.bus_core.proofs.Kept.{number-small, seated-here}
 use Rattle.bus_core.proofs.Switch.{may-shift, line-room, line-dues-own, line-may-settle, line-done}
 use Rattle.bus_core.proofs.Stepped.{seat-is, seat-now, set-at}
 use Rattle.bus_core.proofs.steps.switch.Goals as goal
+use Rattle.core_laws.specs.Spots.{turned_to, seen_of}
 
 pub shift-failed-requires-clause-may : goal.shift-failed-requires-clause-may
 shift-failed-requires-clause-may g c κs within =
@@ -66,8 +66,8 @@ settle-requires g c =
     let set_is = c.pass_line.ensures.set in
     let t = set_is.after in
     let went : WentOn x.board.now x.locks (Lined failed) (cut_of_line failed) s t = seat-now _ x.seats.items c.pass_line.new.seats.items c.args.place s next.comes.here set_is in
-    let locks : c.set_marks.new.locks ≡ record x.locks { marks = applied (dues_of x.board.now x.locks (Lined failed) s) x.locks.marks } =
-    c.set_marks.ensures ∙ ap (λ (ds : List Due). record x.locks { marks = applied ds x.locks.marks }) dues in
+    let locks : c.set_marks.new.locks ≡ turned_to x.locks (words_after (dues_of x.board.now x.locks (Lined failed) s) (seen_of x.locks)) =
+    c.set_marks.ensures ∙ ap (λ (ds : List Due). turned_to x.locks (words_after ds (seen_of x.locks))) dues in
     let entries : c.push.new.self.entries ≡ x.journal.entries ++ entry.Line s.number (line_mux next.job) (line_level next.job) failed ∷ [] = c.push.ensures.entries
     ∙ ap (λ (k : ℕ). x.journal.entries ++ entry.Line k c.args.mux c.args.level failed ∷ []) whose.0
     ∙ ap (λ (m : ℕ). x.journal.entries ++ entry.Line s.number m c.args.level failed ∷ []) (sym next.of_mux)
@@ -91,8 +91,8 @@ returns g c =
     let set_is = c.pass_line.ensures.set in
     let t = set_is.after in
     let went : WentOn x.board.now x.locks (Lined failed) (cut_of_line failed) s t = seat-now _ x.seats.items c.pass_line.new.seats.items c.args.place s next.comes.here set_is in
-    let locks : c.set_marks.new.locks ≡ record x.locks { marks = applied (dues_of x.board.now x.locks (Lined failed) s) x.locks.marks } =
-    c.set_marks.ensures ∙ ap (λ (ds : List Due). record x.locks { marks = applied ds x.locks.marks }) dues in
+    let locks : c.set_marks.new.locks ≡ turned_to x.locks (words_after (dues_of x.board.now x.locks (Lined failed) s) (seen_of x.locks)) =
+    c.set_marks.ensures ∙ ap (λ (ds : List Due). turned_to x.locks (words_after ds (seen_of x.locks))) dues in
     let entries : c.push.new.self.entries ≡ x.journal.entries ++ entry.Line s.number (line_mux next.job) (line_level next.job) failed ∷ [] = c.push.ensures.entries
     ∙ ap (λ (k : ℕ). x.journal.entries ++ entry.Line k c.args.mux c.args.level failed ∷ []) whose.0
     ∙ ap (λ (m : ℕ). x.journal.entries ++ entry.Line s.number m c.args.level failed ∷ []) (sym next.of_mux)

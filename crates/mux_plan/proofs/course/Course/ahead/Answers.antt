@@ -11,7 +11,7 @@ pub returns-then-not-is_parent-clause-first : goal.returns-then-not-is_parent-cl
 returns-then-not-is_parent-clause-first c = λ ms long.
     let b = c.args.board.now in
     let course = c.args.self.now in
-    let marks = c.args.marks.now in
+    let marks = c.args.seen.now in
     ap (λ (w : Work). first_act (tree_of b ms course (Lock (c.muxes.place + 1) (c.muxes.place + 1) w ∷ []) Good))
     c.switch-work.ensures.value
     ∙ first_at-lock b ms course marks c.muxes.place c.muxes.work c.in-Some.hop c.in-Some.ensures.at (c.in-Some.ensures.message ms) (sym (c.if-not-is_parent.ensures))
@@ -23,7 +23,7 @@ muxes-preserved c = record {
   same = λ ms.
       let b = c.args.board.now in
       let course = c.args.self.now in
-      let marks = c.args.marks.now in
+      let marks = c.args.seen.now in
       ap (λ (w : Work). first_at b ms course marks (c.muxes.place + 1) w)
       c.switch-work.ensures.value
       ∙ first_at-next b ms course marks c.muxes.place c.muxes.work c.in-Some.hop c.in-Some.ensures.at (c.in-Some.ensures.message ms) (sym (c.if-not-is_parent.ensures))
@@ -32,6 +32,6 @@ muxes-preserved c = record {
 
 pub returns-clause-first : goal.returns-clause-first
 returns-clause-first c = λ ms long.
-    first_at-bus c.args.board.now ms c.args.self.now c.args.marks.now c.muxes.place c.muxes.work c.base.result
+    first_at-bus c.args.board.now ms c.args.self.now c.args.seen.now c.muxes.place c.muxes.work c.base.result
     (c.in_default.ensures.none ms) (c.base.ensures.tree c.args.board.now ms [] Good long)
     ∙ c.muxes.invariant.same ms

@@ -14,8 +14,8 @@ invariant-muxes l = record {
   course : l.self.course ≡ l.fn.self.course;
   came : l.self.came ≡ l.fn.self.came;
   same : (ms : List MessageView) (out : JobOutcome)
-      → seen (slots_of l.marks) (tree_of l.board ms l.self.course (Enter l.place l.work ∷ l.self.stack) out)
-      ≡ seen (slots_of l.marks) (tree_of l.board ms l.fn.self.course (Enter l.fn.place l.fn.work ∷ l.fn.self.stack) out);
+      → seen (slots_of l.seen) (tree_of l.board ms l.self.course (Enter l.place l.work ∷ l.self.stack) out)
+      ≡ seen (slots_of l.seen) (tree_of l.board ms l.fn.self.course (Enter l.fn.place l.fn.work ∷ l.fn.self.stack) out);
 }
 
 abbrev pub decreases-muxes : goal.decreases-muxes

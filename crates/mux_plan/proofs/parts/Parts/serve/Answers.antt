@@ -1,15 +1,25 @@
-use Rattle.std.proofs.Common.{List, ◌∷◌, refl, ◌∙◌, ap}
+use Rattle.std.proofs.Common.{Bool, List, ◌∷◌, ◌∙◌, ap}
 use Rattle.mux_plan.specs.declared.task.Task.{Task}
-use Rattle.mux_plan.specs.declared.task.Task.TheVariants.{AwaitWork}
-use Rattle.mux_plan.specs.Plans.{part_task}
-use Rattle.mux_plan.proofs.Rooms.{planned-part}
+use Rattle.mux_plan.specs.Plans.{CourseView, tree_of, part_task, work_tasks}
+use Rattle.mux_plan.proofs.Openings.{opened_tree}
+use Rattle.mux_plan.proofs.Rooms.{planned-work}
 use Rattle.mux_plan.proofs.parts.Parts.serve.Goals as goal
+
+pub returns-clause-tree : goal.returns-clause-tree
+returns-clause-tree c = λ b ms out.
+    let s = c.args.self.now in
+    let h = c.args.hop in
+    ap (λ (ts : List Task). tree_of b ms c.wait_work.new.self.course ts out)
+    (c.push.ensures ∙ ap (λ (t : Task). t ∷ c.wait_work.new.self.stack) (c.part.ensures ∙ ap (λ (t : Bool). part_task t c.args.place c.args.work) c.is_parent.ensures) ∙ ap (λ (ts : List Task). part_task h.parent c.args.place c.args.work ∷ ts) c.wait_work.ensures.stack)
+    ∙ ap (λ (x : CourseView). tree_of b ms x (part_task h.parent c.args.place c.args.work ∷ work_tasks h.stays c.args.place h s.stack) out) c.wait_work.ensures.course
+    ∙ opened_tree b ms s.course c.args.hop c.args.place c.args.work s.stack out
 
 pub returns-clause-planned : goal.returns-clause-planned
 returns-clause-planned c =
     let s = c.args.self.now in
     let p = c.requires.planned in
+    let h = c.args.hop in
     let fits = p.placed.0 in
-    planned-part s.course s.course c.hop.inside.parent c.args.place c.args.work (AwaitWork c.args.place c.args.hop) s.stack c.push-2.new.self
-    (record { deep = p.deep; narrow = p.narrow; placed = p.placed.1 }) fits.0 fits.2 fits.3 (fits.2, fits.3) refl
-    (c.push-2.ensures ∙ ap (λ (t : Task). t ∷ c.push.new.self) c.part.ensures ∙ ap (λ (ts : List Task). part_task c.hop.inside.parent c.args.place c.args.work ∷ ts) c.push.ensures)
+    planned-work s.course c.wait_work.new.self.course h.parent h.stays c.args.place c.args.work c.args.hop s.stack c.push.new.self
+    (record { deep = p.deep; narrow = p.narrow; placed = p.placed.1 }) fits.0 fits.2 fits.3 c.wait_work.ensures.course
+    (c.push.ensures ∙ ap (λ (t : Task). t ∷ c.wait_work.new.self.stack) (c.part.ensures ∙ ap (λ (t : Bool). part_task t c.args.place c.args.work) c.is_parent.ensures) ∙ ap (λ (ts : List Task). part_task h.parent c.args.place c.args.work ∷ ts) c.wait_work.ensures.stack)
