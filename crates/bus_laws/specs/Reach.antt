@@ -1,18 +1,19 @@
 -- What every journal keeps of the wires: which channels are open, and which are at a message.
-use Rattle.std.specs.Prelude.{◌≡◌, ℕ, ◌<◌, true, ◌⊎◌, List, Some, length, slice_get}
+use Rattle.std.specs.Prelude.{◌≡◌, ℕ, ◌<◌, true, false, ◌⊎◌, List, Some, length}
 use Rattle.std.specs.List.{list_all}
 use Rattle.i2c_base.specs.declared.ids.LockId.TheVariants as lock
 use Rattle.i2c_base.specs.declared.entry.Entry.{Entry}
 use Rattle.i2c_base.specs.declared.reply.Reply.{Reply}
 use Rattle.i2c_base.specs.Board.{BoardView}
 use Rattle.i2c_base.specs.Transfer.{TransferView, IsTransfer}
-use Rattle.i2c_spec.specs.Tree.{Hop, hops, root_of, home_of_mux, is_left_open, IsOver}
+use Rattle.i2c_spec.specs.Tree.{hops, root_of, home_of_mux, is_left_open, IsOver}
 use Rattle.i2c_spec.specs.Chips.{ChipView, is_open}
 use Rattle.i2c_spec.specs.World.{opens_hop}
 use Rattle.i2c_spec.specs.History.{Asks}
 use Rattle.bus_spec.specs.Readings.{MessageEntry, OfMessage, holder, Everywhere}
-use Rattle.bus_spec.specs.Past.{now, mark, world_at}
+use Rattle.bus_spec.specs.Past.{mark, kept_channel, world_at}
 use Rattle.bus_spec.specs.Tells.{HearsIn}
+use Rattle.bus_laws.specs.Told.{chip_in}
 
 -- each transfer that a caller asks for has a message
 abbrev pub AsksForMessages : Asks → Type 0
@@ -22,17 +23,17 @@ AsksForMessages asks = (c : ℕ) (rs : List Reply) (t : TransferView) → asks c
 abbrev pub AsksWithinLimits : Asks → Type 0
 AsksWithinLimits asks = (c : ℕ) (rs : List Reply) (t : TransferView) → asks c rs ≡ Some t → IsTransfer t.msgs t.out
 
--- a channel is the one that its mux keeps: one that stays as it is, or one that a caller has selected, who has the lock of
--- its bus and hasn't closed it yet
-pub record IsKeptOpen (b : BoardView) (asks : Asks) (past : List Entry) (m c : ℕ) : Type 0 where
-  pub kept : ((now b asks past).slot (home_of_mux b m)).kept m ≡ Some c
-  pub whose : (is_left_open b m ≡ true) ⊎ ((caller : ℕ) × (holder past (lock.Mux (home_of_mux b m)) ≡ Some caller))
+-- a mux has exactly the channel open that it keeps, or none where it keeps none, as its chip stands in the world of its root.
+-- One that disconnects keeps a channel only while a caller has the lock of its bus
+pub record KeepsItsChannel (b : BoardView) (asks : Asks) (past : List Entry) (m : ℕ) : Type 0 where
+  pub opened : (c : ℕ) → kept_channel b asks past m ≡ Some c → (x : ChipView) × (chip_in b (world_at b asks past) m ≡ Some x) × (is_open x c ≡ true)
+  pub only : (c : ℕ) (x : ChipView) → chip_in b (world_at b asks past) m ≡ Some x → is_open x c ≡ true → kept_channel b asks past m ≡ Some c
+  pub locked : is_left_open b m ≡ false → (c : ℕ) → kept_channel b asks past m ≡ Some c
+      → (caller : ℕ) × (holder past (lock.Mux (home_of_mux b m)) ≡ Some caller)
 
--- an open channel is kept, or its mux is the mark of its bus
+-- each mux is the mark of its bus, or keeps its channel
 abbrev pub KeepsClosed : BoardView → Asks → List Entry → Type 0
-KeepsClosed b asks past =
-    (m c : ℕ) (x : ChipView) → slice_get (world_at b asks past (root_of b (home_of_mux b m))).chips m ≡ Some x → is_open x c ≡ true
-    → IsKeptOpen b asks past m c ⊎ (mark b asks past (home_of_mux b m) ≡ Some m)
+KeepsClosed b asks past = (m : ℕ) → (mark b asks past (home_of_mux b m) ≡ Some m) ⊎ KeepsItsChannel b asks past m
 
 -- at a message every mux over its bus has the path's channel open, and who has heard it is who hears its start; its
 -- caller has the root's lock, and that of each other bus on the path

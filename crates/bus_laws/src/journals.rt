@@ -20,12 +20,13 @@ pub fn each_journal_keeps_its_locks()
     an_accepted_board_is_a_tree();
 }
 
-/// A mux is open only while the caller that has the lock of its bus has selected it, or while it is the mark of that
-/// lock. It may stay closed in either case.
+/// Each mux has exactly the channel open that it keeps, or none where it keeps none; of the mark of a bus alone nothing is
+/// said. A mux that stays as it is may keep a channel while nobody is on the bus; one that disconnects keeps one only while
+/// a caller has the lock of its bus (Linux i2c-topology).
 ///
 /// On a board that isn't accepted one select could open channels of two muxes. Entries that might not come may free a lock
 /// behind a select. A message in each transfer is what the tree law is shown of.
-pub fn an_open_mux_is_selected_or_marked()
+pub fn each_mux_keeps_its_channel_or_is_marked()
     ensures { (b : BoardView) (callers : ℕ) (asks : Asks) (past : List Entry) → IsPlainBoard b → MeetsRules b → AsksForMessages asks → IsStepwise b callers asks past → KeepsClosed b asks past }
 {
     an_accepted_board_is_a_tree();

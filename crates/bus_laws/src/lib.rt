@@ -22,8 +22,8 @@ pub use devices::{
 };
 pub use following::{a_loop_follows, one_step_more};
 pub use journals::{
-    an_open_mux_is_selected_or_marked, each_journal_keeps_its_locks,
-    each_mark_is_on_a_bus_of_the_board, each_message_finds_its_path_open,
+    each_journal_keeps_its_locks, each_mark_is_on_a_bus_of_the_board,
+    each_message_finds_its_path_open, each_mux_keeps_its_channel_or_is_marked,
     each_settle_stands_where_it_is_decided, no_message_stands_inside_a_transfer,
 };
 pub use next::{

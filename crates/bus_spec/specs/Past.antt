@@ -13,7 +13,7 @@ use Rattle.i2c_base.specs.declared.reply.Cut.{Cut}
 use Rattle.i2c_base.specs.declared.reply.Cut.TheVariants as cut
 use Rattle.i2c_base.specs.Board.{BoardView}
 use Rattle.i2c_base.specs.Transfer.{TransferView}
-use Rattle.i2c_spec.specs.Tree.{root_of}
+use Rattle.i2c_spec.specs.Tree.{root_of, home_of_mux}
 use Rattle.i2c_spec.specs.World.{World, after, opening_world}
 use Rattle.i2c_spec.specs.Conversation.{TalkTold, talk, world_listener}
 use Rattle.i2c_spec.specs.Flat.{block_limit}
@@ -201,6 +201,10 @@ now b asks (e ∷ past) = step b asks (now b asks past) e
 -- the mark of the muxes on a bus
 abbrev pub mark : BoardView → Asks → List Entry → ℕ → Option ℕ
 mark b asks past p = mark_in ((now b asks past).slot p).slot
+
+-- the channel that a mux keeps
+abbrev pub kept_channel : BoardView → Asks → List Entry → ℕ → Option ℕ
+kept_channel b asks past m = ((now b asks past).slot (home_of_mux b m)).kept m
 
 -- the world of a root, and the calls of its port, in order
 abbrev pub world_at : BoardView → Asks → List Entry → ℕ → World

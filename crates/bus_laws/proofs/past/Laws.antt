@@ -1,6 +1,7 @@
 -- What every stepwise past keeps. The induction goes over its entries.
 use Rattle.std.proofs.Common.{◌≡◌, ℕ, ◌<◌, Bool, true, false, cond, List, [], ◌∷◌, Option, Some, None, refl, sym, ◌∙◌, ap, subst, ◌⊎◌, inl, inr}
 use Rattle.std.specs.List.{list_all}
+use Rattle.std.proofs.lemmas.Bool.Decides.{eqb_tells}
 use Rattle.i2c_base.specs.declared.ids.LockId.{LockId}
 use Rattle.i2c_base.specs.declared.ids.LockId.TheVariants as lock
 use Rattle.i2c_base.specs.declared.entry.End.{End}
@@ -15,18 +16,17 @@ use Rattle.i2c_spec.specs.Plain.{IsPlainBoard}
 use Rattle.i2c_spec.specs.World.{opens_hop}
 use Rattle.i2c_spec.specs.History.{Asks}
 use Rattle.bus_spec.specs.Walk.{Job, Act, Take, Free, Send, Shift, Settle, ActOutcome, Passed, Note, WalkTree, Then, job_bus}
-use Rattle.bus_spec.specs.Slots.{mark_in, after_job}
+use Rattle.bus_spec.specs.Slots.{MuxSlot, Clean, Marked, Polled, Found, mark_in, after_job}
 use Rattle.bus_spec.specs.Grammar.{first_act, first_note}
 use Rattle.bus_spec.specs.Readings.{OfMessage, rank, holder, is_lock}
-use Rattle.bus_spec.specs.Past.{Now, current, now, mark, world_at, sent_by, lined_by}
+use Rattle.bus_spec.specs.Past.{Now, current, now, kept_channel, world_at, sent_by, lined_by}
 use Rattle.bus_spec.specs.Stepwise.{IsBelow, May, IsStepwise}
 use Rattle.bus_spec.specs.Tells.{HearsIn}
 use Rattle.bus_spec.specs.Legal.{LocksAt, KeepsLocks}
 use Rattle.bus_laws.specs.Runs.{InLocks, LeavesShut, CanSend, MaySend, Runs}
-use Rattle.bus_laws.specs.Told.{Explains}
 use Rattle.bus_laws.specs.Lines.{LinesAreLocked}
 use Rattle.bus_laws.specs.Stands.{Stands, CallerStands}
-use Rattle.bus_laws.specs.Reach.{AsksForMessages, IsKeptOpen, KeepsClosed, HasItsPath, KeepsPathsOpen}
+use Rattle.bus_laws.specs.Reach.{AsksForMessages, KeepsItsChannel, KeepsClosed, HasItsPath, KeepsPathsOpen}
 use Rattle.bus_laws.proofs.world.Law.{path_open}
 use Rattle.bus_laws.proofs.past.StandsFacts.{current-stands}
 use Rattle.bus_laws.proofs.past.StandsStep.{send_known}
@@ -66,6 +66,14 @@ holder-told b asks (entry.Line c mux level failed ∷ past) l =
     ∙ holder-told b asks past l
 holder-told b asks (entry.Settle c r cut ∷ past) l = holder-told b asks past l
 
+-- a mux is the mark of its bus, or it isn't
+marked_or : (s : MuxSlot) (m : ℕ) → (s ≡ Marked m) ⊎ (s ≡ Marked m → ⊥)
+marked_or Clean m = inr (λ e. let f : Clean ≡ Marked m = e in cc)
+marked_or (Marked k) m =
+    elim (eqb_tells k m) [ inl h ↦ inl (ap Marked h.1) | inr h ↦ inr (λ e. h.1 (let f : Marked k ≡ Marked m = e in cc)) ]
+marked_or (Polled h more) m = inr (λ e. let f : Polled h more ≡ Marked m = e in cc)
+marked_or (Found h) m = inr (λ e. let f : Found h ≡ Marked m = e in cc)
+
 pub below_each : (b : BoardView) (l : LockId) (held : List LockId) (k : LockId) → IsBelow b l held → InLocks k held → rank b l < rank b k
 below_each b l [] k below i = absurd i
 below_each b l (j ∷ js) k below i =
@@ -103,22 +111,25 @@ module _ (b : BoardView) (tree : IsTree b) (plain : IsPlainBoard b) (lines : Lin
   locks-kept (e ∷ past) steps = (locks_at e past (past-stands past steps.1) steps.0, locks-kept past steps.1)
 
   -- CLOSED
-  explained : (past : List Entry) (m c : ℕ) → Stands b (now b asks past) → Explains ((now b asks past).slot (home_of_mux b m)) m c
-      → IsKeptOpen b asks past m c ⊎ (mark b asks past (home_of_mux b m) ≡ Some m)
-  explained past m c stands e =
-      elim e [
-        | inl keeps ↦ inl (record { kept = keeps; whose = by_holder ((now b asks past).holder (lock.Mux (home_of_mux b m))) refl keeps })
-        | inr marked ↦ inr (ap mark_in marked)
-      ]
+  keeps_channel : (past : List Entry) (m : ℕ) → Stands b (now b asks past) → (((now b asks past).slot (home_of_mux b m)).slot ≡ Marked m → ⊥) → KeepsItsChannel b asks past m
+  keeps_channel past m stands unmarked =
+      record {
+        opened = λ c keeps. (let o = stands.told.told.opened m c keeps in (o.0, o.1, o.2));
+        only = λ c x at opens. elim (stands.told.told.only m c x at opens) [ inl keeps ↦ keeps | inr marked ↦ absurd (unmarked marked) ];
+        locked = λ leaves c keeps. by_holder ((now b asks past).holder (lock.Mux (home_of_mux b m))) refl leaves c keeps;
+      }
     where
-      by_holder : (o : Option ℕ) → (now b asks past).holder (lock.Mux (home_of_mux b m)) ≡ o → ((now b asks past).slot (home_of_mux b m)).kept m ≡ Some c
-          → (is_left_open b m ≡ true) ⊎ ((caller : ℕ) × (holder past (lock.Mux (home_of_mux b m)) ≡ Some caller))
-      by_holder None none keeps = inl ((stands.shut (home_of_mux b m) none).stay m c keeps).1
-      by_holder (Some k) has keeps = inr (k, sym (holder-told b asks past (lock.Mux (home_of_mux b m))) ∙ has)
+      by_holder : (o : Option ℕ) → (now b asks past).holder (lock.Mux (home_of_mux b m)) ≡ o → is_left_open b m ≡ false → (c : ℕ) → kept_channel b asks past m ≡ Some c
+          → (caller : ℕ) × (holder past (lock.Mux (home_of_mux b m)) ≡ Some caller)
+      by_holder None none leaves c keeps = absurd (let f : false ≡ true = sym leaves ∙ ((stands.shut (home_of_mux b m) none).stay m c keeps).1 in cc)
+      by_holder (Some k) has leaves c keeps = (k, sym (holder-told b asks past (lock.Mux (home_of_mux b m))) ∙ has)
 
   pub closed-kept : (past : List Entry) → IsStepwise b callers asks past → KeepsClosed b asks past
-  closed-kept past steps m c x at opens =
-      explained past m c (past-stands past steps) ((past-stands past steps).told.told.only m c x at opens)
+  closed-kept past steps m =
+      elim (marked_or ((now b asks past).slot (home_of_mux b m)).slot m) [
+        | inl marked ↦ inl (ap mark_in marked)
+        | inr unmarked ↦ inr (keeps_channel past m (past-stands past steps) unmarked)
+      ]
 
   -- OPEN PATHS
   open_at : (e : Entry) (past : List Entry) → Stands b (now b asks past) → May b callers asks (now b asks past) e → OfMessage (HasItsPath b asks past) e

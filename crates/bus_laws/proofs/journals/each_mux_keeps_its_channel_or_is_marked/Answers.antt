@@ -1,6 +1,6 @@
 use Rattle.bus_laws.proofs.world.LineFacts.{lines-locked}
 use Rattle.bus_laws.proofs.past.Laws.{closed-kept}
-use Rattle.bus_laws.proofs.journals.an_open_mux_is_selected_or_marked.Goals as goal
+use Rattle.bus_laws.proofs.journals.each_mux_keeps_its_channel_or_is_marked.Goals as goal
 
 pub returns : goal.returns
 returns c =
