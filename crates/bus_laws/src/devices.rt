@@ -1,12 +1,13 @@
 //! The devices of a root, beside those of the flat world, message by message.
-ghost use Rattle.std.specs.Prelude.{◌≡◌, ℕ, Bool, true, false, List, [], map, Option, Some, slice_get};
+ghost use Rattle.std.specs.Prelude.{◌≡◌, ℕ, Bool, true, false, ◌||◌, List, [], map, Option, Some, slice_get};
 ghost use Rattle.i2c_base.specs.declared.tree.Grant.TheVariants as grant;
-ghost use Rattle.i2c_base.specs.Board.{BoardView};
+ghost use Rattle.i2c_base.specs.Board.{BoardView, DeviceView};
 ghost use Rattle.i2c_base.specs.Bytes.{AreBytes};
-ghost use Rattle.i2c_spec.specs.Tree.{home_of_mux, addr_of_mux, MayJoin};
+ghost use Rattle.i2c_spec.specs.Tree.{home_of_mux, addr_of_mux, is_on_path, is_aside, MayJoin};
 ghost use Rattle.i2c_spec.specs.TreeFacts.{IsTree};
-ghost use Rattle.i2c_spec.specs.Grant.{grant_of};
+ghost use Rattle.i2c_spec.specs.Grant.{some_chip, some_device, grant_of};
 ghost use Rattle.i2c_spec.specs.Plain.{IsPlainBoard};
+ghost use Rattle.i2c_spec.specs.Rules.{MeetsRules};
 ghost use Rattle.i2c_spec.specs.Targets.{TargetState, opening_state};
 ghost use Rattle.i2c_spec.specs.Messages.{MessageView};
 ghost use Rattle.i2c_spec.specs.World.{World, is_joined, opening_world};
@@ -14,6 +15,8 @@ ghost use Rattle.i2c_spec.specs.Flat.{FlatListener, idle, flat_listener, granted
 ghost use Rattle.i2c_spec.specs.Conversation.{world_listener, talk};
 ghost use Rattle.bus_laws.specs.Alike.{IsOf, Same, LeadsTo, IsControl, ToldAlike, EndsTransfer, IsUnnamed};
 ghost use Rattle.i2c_spec.specs.Conversation.{is_it};
+
+use i2c_spec::an_accepted_board_is_a_tree;
 
 /// A root's world and the flat world are opened with the same devices.
 pub fn both_worlds_open_the_same()
@@ -29,6 +32,18 @@ pub fn an_address_leads_to_the_granted_device()
         → ((u : ℕ) → is_joined w u ≡ true → MayJoin b s u) → is_joined w s ≡ true
         → (grant_of b s a force ≡ grant.Busy → ⊥) → LeadsTo w a (granted_on b s force a) }
 {}
+
+/// A kept channel beside a bus takes no device from anybody: no chip and no device aside of the bus has the address of a
+/// device on the bus's path. So an address that is busy because it stands aside of the bus would have named no device.
+///
+/// On a board that isn't accepted a target below a mux that stays as it is may have the address of a device outside. A
+/// device that isn't on the path may itself be aside of the bus.
+pub fn a_kept_channel_takes_no_device()
+    ensures { (b : BoardView) (s d : ℕ) (x : DeviceView) → IsPlainBoard b → MeetsRules b → slice_get b.devices d ≡ Some x → is_on_path b s x.bus ≡ true
+        → (some_chip b x.addr (is_aside b s) || some_device b x.addr (is_aside b s)) ≡ false }
+{
+    an_accepted_board_is_a_tree();
+}
 
 /// A message says the same in the world of its root as in the flat world: its calls, its bytes and its end.
 ///

@@ -16,8 +16,8 @@ mod waiting;
 mod walks;
 
 pub use devices::{
-    a_control_message_leaves_the_devices, a_message_is_heard_the_same,
-    a_message_leaves_other_devices, a_transfer_ends_in_a_stop,
+    a_control_message_leaves_the_devices, a_kept_channel_takes_no_device,
+    a_message_is_heard_the_same, a_message_leaves_other_devices, a_transfer_ends_in_a_stop,
     an_address_leads_to_the_granted_device, both_worlds_open_the_same,
 };
 pub use following::{a_loop_follows, one_step_more};

@@ -4,18 +4,20 @@ use Rattle.std.proofs.Common.{◌≡◌, ℕ, zero, suc, ◌+◌, Bool, true, fa
 use Rattle.std.specs.Prelude.{slice_get, unwrap_or}
 use Rattle.std.specs.List.{list_any, list_all, position_from}
 use Rattle.std.specs.Option.{option_map}
-use Rattle.std.proofs.lemmas.Bool.{eqb-true, and_from}
+use Rattle.std.proofs.lemmas.Bool.{eqb-true, eq-eqb, and_from}
+use Rattle.i2c_base.specs.declared.board.MuxSpec.{MuxSpec}
+use Rattle.i2c_base.specs.declared.ids.Node.{Node}
 use Rattle.i2c_base.specs.declared.ids.Node.TheVariants as node
 use Rattle.i2c_base.specs.declared.tree.Grant.{Grant}
 use Rattle.i2c_base.specs.declared.tree.Grant.TheVariants as grant
 use Rattle.i2c_base.specs.Board.{BoardView, DeviceView}
 use Rattle.i2c_spec.specs.Tree.{Hop, hops, root_of, of_device, is_below, is_on_path, is_aside, Crosses, IsAmongHops, IsOver, IsAlong, MayJoin}
 use Rattle.i2c_spec.specs.TreeFacts.{IsTree, home_of, addr_of}
-use Rattle.i2c_spec.specs.Grant.{some_chip, some_device, some_bound, named_by, grant_of, named_of}
+use Rattle.i2c_spec.specs.Grant.{has_address, some_chip, some_device, some_bound, named_by, grant_of, named_of}
 use Rattle.i2c_spec.specs.Flat.{granted_on}
 use Rattle.i2c_spec.specs.World.{World, opens_hop, is_joined, joins_device}
 use Rattle.bus_laws.specs.Alike.{LeadsTo}
-use Rattle.bus_laws.proofs.world.Reach.{and_left, and_right}
+use Rattle.bus_laws.proofs.world.Reach.{and_left, and_right, aside_apart, address_is}
 use Rattle.bus_laws.proofs.world.Calls.{any_at, on_or_below, busy_below, busy_aside, no_chip}
 use Rattle.std.proofs.Math.Bool.{or-true}
 
@@ -126,6 +128,13 @@ device_there : (o : Option DeviceView) (test : DeviceView → Bool) → unwrap_o
 device_there None test e = absurd (let f : false ≡ true = e in cc)
 device_there (Some x) test e = (x, refl, e)
 
+-- what is said of a device that is there
+bus_at : (b : BoardView) (d : ℕ) (x : DeviceView) → slice_get b.devices d ≡ Some x → of_device (λ (y : DeviceView). y.bus) 0 b d ≡ x.bus
+bus_at b d x at = ap (λ (o : Option DeviceView). unwrap_or (option_map (λ (y : DeviceView). y.bus) o) 0) at
+
+addr_at : (b : BoardView) (a d : ℕ) (x : DeviceView) → slice_get b.devices d ≡ Some x → eqb x.addr a ≡ true → addr_of b (node.Device d) ≡ Some a
+addr_at b a d x at e = ap (λ (o : Option DeviceView). unwrap_or (option_map (λ (y : DeviceView). Some y.addr) o) None) at ∙ ap Some (eqb-true x.addr a e)
+
 module _ (w : World) (tree : IsTree w.board) (s : ℕ) (along : (u : ℕ) → is_joined w u ≡ true → MayJoin w.board s u) (joined : is_joined w s ≡ true)
     (a : ℕ) (force : Bool) (not_busy : grant_of w.board s a force ≡ grant.Busy → ⊥) where
   abbrev fits : DeviceView → Bool
@@ -139,13 +148,6 @@ module _ (w : World) (tree : IsTree w.board) (s : ℕ) (along : (u : ℕ) → is
       (not force && some_bound w.board a (is_on_path w.board s)) (named_by (position_from fits 0 w.board.devices)) not_busy)
       ∙ named_back (position_from fits 0 w.board.devices)
 
-  -- what is said of a device that is there
-  bus_at : (d : ℕ) (x : DeviceView) → slice_get w.board.devices d ≡ Some x → of_device (λ (y : DeviceView). y.bus) 0 w.board d ≡ x.bus
-  bus_at d x at = ap (λ (o : Option DeviceView). unwrap_or (option_map (λ (y : DeviceView). y.bus) o) 0) at
-
-  addr_at : (d : ℕ) (x : DeviceView) → slice_get w.board.devices d ≡ Some x → eqb x.addr a ≡ true → addr_of w.board (node.Device d) ≡ Some a
-  addr_at d x at e = ap (λ (o : Option DeviceView). unwrap_or (option_map (λ (y : DeviceView). Some y.addr) o) None) at ∙ ap Some (eqb-true x.addr a e)
-
   -- a device that is granted: it is there, has the address, and stands on the path
   granted_there : (d : ℕ) → granted_on w.board s force a ≡ Some d → (x : DeviceView) × (slice_get w.board.devices d ≡ Some x) × (fits x ≡ true)
   granted_there d e =
@@ -155,7 +157,7 @@ module _ (w : World) (tree : IsTree w.board) (s : ℕ) (along : (u : ℕ) → is
   granted_joined : (d : ℕ) → granted_on w.board s force a ≡ Some d → joins_device w d ≡ true
   granted_joined d e =
       let r = granted_there d e in
-      ap (λ (i : ℕ). is_joined w i) (bus_at d r.0 r.1)
+      ap (λ (i : ℕ). is_joined w i) (bus_at w.board d r.0 r.1)
       ∙ joined_over w tree s r.0.bus joined (path_over w.board s r.0.bus (and_right (eqb r.0.addr a) (is_on_path w.board s r.0.bus) r.2))
 
   granted_addressed : (d : ℕ) → granted_on w.board s force a ≡ Some d → of_device (λ (x : DeviceView). eqb x.addr a) false w.board d ≡ true
@@ -177,16 +179,16 @@ module _ (w : World) (tree : IsTree w.board) (s : ℕ) (along : (u : ℕ) → is
           let along_each : IsAlong w.board r.0.bus x.bus =
           over_along w.board tree s r.0.bus x.bus (path_over w.board s r.0.bus (and_right (eqb r.0.addr a) (is_on_path w.board s r.0.bus) r.2)) (path_over w.board s x.bus on) in
           let homes : IsAlong w.board (home_of w.board (node.Device n)) (home_of w.board (node.Device d)) =
-          subst (λ (i : ℕ). IsAlong w.board i (home_of w.board (node.Device d))) (sym (bus_at n r.0 r.1))
-          (subst (λ (i : ℕ). IsAlong w.board r.0.bus i) (sym (bus_at d x at)) along_each) in
+          subst (λ (i : ℕ). IsAlong w.board i (home_of w.board (node.Device d))) (sym (bus_at w.board n r.0 r.1))
+          (subst (λ (i : ℕ). IsAlong w.board r.0.bus i) (sym (bus_at w.board d x at)) along_each) in
           let same : node.Device n ≡ node.Device d =
-          tree.addresses (node.Device n) (node.Device d) a (addr_at n r.0 r.1 (and_left (eqb r.0.addr a) (is_on_path w.board s r.0.bus) r.2)) (addr_at d x at addr) homes in
+          tree.addresses (node.Device n) (node.Device d) a (addr_at w.board a n r.0 r.1 (and_left (eqb r.0.addr a) (is_on_path w.board s r.0.bus) r.2)) (addr_at w.board a d x at addr) homes in
           e ∙ (let f : n ≡ d = cc in ap Some f)
 
   joined_granted : (d : ℕ) → joins_device w d ≡ true → of_device (λ (x : DeviceView). eqb x.addr a) false w.board d ≡ true → granted_on w.board s force a ≡ Some d
   joined_granted d j t =
       let r = device_there (slice_get w.board.devices d) (λ (x : DeviceView). eqb x.addr a) t in
-      let bus : of_device (λ (y : DeviceView). y.bus) 0 w.board d ≡ r.0.bus = bus_at d r.0 r.1 in
+      let bus : of_device (λ (y : DeviceView). y.bus) 0 w.board d ≡ r.0.bus = bus_at w.board d r.0 r.1 in
       elim (along (of_device (λ (y : DeviceView). y.bus) 0 w.board d) j) [
         | inl lies ↦ elim (on_or_below w.board s (of_device (λ (y : DeviceView). y.bus) 0 w.board d) lies) [
           | inl on ↦ path_granted d r.0 r.1 r.2 (ap (λ (i : ℕ). is_on_path w.board s i) (sym bus) ∙ on)
@@ -218,3 +220,30 @@ pub granted-leads : (b : BoardView) (w : World) (s a : ℕ) (force : Bool) → w
 granted-leads b w s a force board =
     subst (λ (x : BoardView). IsTree x → ((u : ℕ) → is_joined w u ≡ true → MayJoin x s u) → is_joined w s ≡ true → (grant_of x s a force ≡ grant.Busy → ⊥) → LeadsTo w a (granted_on x s force a))
     board (λ tree along joined free. granted_leads w tree s along joined a force free)
+
+-- A KEPT CHANNEL beside the path
+any_none : {X : Type 0} (test : X → Bool) (xs : List X) → ((i : ℕ) (x : X) → slice_get xs i ≡ Some x → test x ≡ true → ⊥) → list_any test xs ≡ false
+any_none test [] none = refl
+any_none {X} test (y ∷ ys) none = by (test y) refl (any_none test ys (λ i x at. none (suc i) x at))
+  where
+    by : (t : Bool) → test y ≡ t → list_any test ys ≡ false → (t || list_any test ys) ≡ false
+    by true e rest = absurd (none 0 y refl e)
+    by false e rest = rest
+
+pub none-aside : (b : BoardView) → IsTree b → (s d : ℕ) (x : DeviceView) → slice_get b.devices d ≡ Some x → is_on_path b s x.bus ≡ true
+    → (some_chip b x.addr (is_aside b s) || some_device b x.addr (is_aside b s)) ≡ false
+none-aside b tree s d x at on =
+    ap (λ (t : Bool). t || some_device b x.addr (is_aside b s))
+    (any_none (λ (m : MuxSpec). has_address x.addr m.addr && is_aside b s m.bus) b.muxes
+    (λ i m there e. apart (node.Chip i) m.bus (ap (λ (o : Option MuxSpec). unwrap_or (option_map (λ (y : MuxSpec). y.bus) o) 0) there)
+    (ap (λ (o : Option MuxSpec). unwrap_or (option_map (λ (y : MuxSpec). y.addr) o) None) there ∙ address_is x.addr m.addr (and_left (has_address x.addr m.addr) (is_aside b s m.bus) e))
+    (and_right (has_address x.addr m.addr) (is_aside b s m.bus) e)))
+    ∙ any_none (λ (y : DeviceView). eqb y.addr x.addr && is_aside b s y.bus) b.devices
+    (λ i y there e. apart (node.Device i) y.bus (bus_at b i y there) (addr_at b x.addr i y there (and_left (eqb y.addr x.addr) (is_aside b s y.bus) e))
+    (and_right (eqb y.addr x.addr) (is_aside b s y.bus) e))
+  where
+    apart : (n : Node) (u : ℕ) → home_of b n ≡ u → addr_of b n ≡ Some x.addr → is_aside b s u ≡ true → ⊥
+    apart n u home addr aside =
+        aside_apart b tree s x.addr n (node.Device d) addr (addr_at b x.addr d x at (eq-eqb x.addr x.addr refl))
+        (ap (λ (i : ℕ). is_aside b s i) home ∙ aside)
+        (subst (λ (i : ℕ). IsOver b i s) (sym (bus_at b d x at)) (path_over b s x.bus on))

@@ -12,14 +12,14 @@ use Rattle.i2c_base.specs.declared.ids.Node.{Node}
 use Rattle.i2c_base.specs.declared.ids.Node.TheVariants as node
 use Rattle.i2c_base.specs.Board.{BoardView}
 use Rattle.i2c_base.specs.Table.{Table}
-use Rattle.i2c_spec.specs.Tree.{Hop, hops, root_of, home_of_mux, addr_of_mux, end_of, crosses_mux, is_kept_hop, Crosses, IsAmongHops, IsApart, IsOver, IsAlong, MayJoin}
+use Rattle.i2c_spec.specs.Tree.{Hop, hops, root_of, home_of_mux, addr_of_mux, end_of, crosses_mux, is_kept_hop, is_aside, Crosses, IsAmongHops, IsApart, IsOver, IsAlong, MayJoin}
 use Rattle.i2c_spec.specs.TreeFacts.{IsTree, home_of, addr_of}
 use Rattle.i2c_spec.specs.Grant.{has_address}
 use Rattle.i2c_spec.specs.Chips.{ChipView, is_open}
 use Rattle.i2c_spec.specs.Targets.{TargetState, state_answer}
 use Rattle.i2c_spec.proofs.StateLemmas.{states_fair}
 use Rattle.i2c_spec.specs.World.{World, opens_hop, is_joined, start_event, has_heard}
-use Rattle.bus_spec.specs.Slots.{Slots, MuxSlot, Clean, Marked}
+use Rattle.bus_spec.specs.Slots.{Slots, Clean, Marked}
 use Rattle.bus_laws.specs.Runs.{IsOpenOn}
 use Rattle.bus_laws.specs.Told.{Explains}
 use Rattle.bus_laws.proofs.world.Feed.{hears}
@@ -225,17 +225,49 @@ among_is g (h ∷ hs) a =
       | inr more ↦ ap (λ (t : Bool). eqb h.mux g.mux || t) (among_is g hs more) ∙ or-true (eqb h.mux g.mux)
     ]
 
+-- the hops over a bus of a path are hops of that path
+crosses_up : (b : BoardView) → IsTree b → (m : ℕ) (hs : List Hop) (s t : ℕ) → hops b s ≡ hs → Crosses t hs → crosses_mux m (hops b t) ≡ true → crosses_mux m hs ≡ true
+crosses_up b tree m [] s t at c e = absurd c
+crosses_up b tree m (h ∷ hs) s t at c e =
+    let tail : hops b h.on ≡ hs = tree.tail s h hs at in
+    elim c [
+      | inl here ↦ ap (λ (u : Bool). eqb h.mux m || u) (ap (λ (xs : List Hop). crosses_mux m xs) (sym tail ∙ ap (λ (i : ℕ). hops b i) here) ∙ e) ∙ or-true (eqb h.mux m)
+      | inr more ↦ ap (λ (u : Bool). eqb h.mux m || u) (crosses_up b tree m hs h.on t tail more e) ∙ or-true (eqb h.mux m)
+    ]
+
+off_path : (b : BoardView) → IsTree b → (m s t : ℕ) → IsOver b t s → crosses_mux m (hops b s) ≡ false → crosses_mux m (hops b t) ≡ false
+off_path b tree m s t over off = by (crosses_mux m (hops b t)) refl
+  where
+    by : (u : Bool) → crosses_mux m (hops b t) ≡ u → u ≡ false
+    by true e =
+        elim over [
+          | inl here ↦ sym e ∙ ap (λ (i : ℕ). crosses_mux m (hops b i)) here ∙ off
+          | inr c ↦ sym (crosses_up b tree m (hops b s) s t refl c e) ∙ off
+        ]
+    by false e = refl
+
+root_over : (b : BoardView) → IsTree b → (s t : ℕ) → IsOver b t s → root_of b t ≡ root_of b s
+root_over b tree s t over =
+    elim over [
+      | inl here ↦ ap (λ (i : ℕ). root_of b i) here
+      | inr c ↦ (let g = crossing_hop t (hops b s) c in ap (λ (i : ℕ). root_of b i) (sym g.2) ∙ tree.root_same s g.0 g.1)
+    ]
+
+-- what is aside of a bus has the address of nothing on that bus's path
+pub aside_apart : (b : BoardView) → IsTree b → (s a : ℕ) (x y : Node) → addr_of b x ≡ Some a → addr_of b y ≡ Some a → is_aside b s (home_of b x) ≡ true → IsOver b (home_of b y) s → ⊥
+aside_apart b tree s a x y of_x of_y aside over =
+    let root : root_of b (home_of b x) ≡ root_of b s =
+    eqb-true (root_of b (home_of b x)) (root_of b s) (and_left (eqb (root_of b (home_of b x)) (root_of b s)) (list_any (is_kept_hop b s) (hops b (home_of b x))) aside) in
+    let g = kept_hop b s (hops b (home_of b x)) (and_right (eqb (root_of b (home_of b x)) (root_of b s)) (list_any (is_kept_hop b s) (hops b (home_of b x))) aside) in
+    tree.aside g.0.mux x y a ((tree.hop (home_of b x) g.0 g.1).stays ∙ g.2) of_x of_y (root ∙ sym (root_over b tree s (home_of b y) over))
+    (among_is g.0 (hops b (home_of b x)) g.1) (off_path b tree g.0.mux s (home_of b y) over g.3)
+
 pub control_alone : (b : BoardView) → IsTree b → (m a : ℕ) → addr_of_mux b m ≡ Some a → (x : Node) → addr_of b x ≡ Some a
     → MayJoin b (home_of_mux b m) (home_of b x) → x ≡ node.Chip m
 control_alone b tree m a addr x named may =
     elim may [
       | inl along ↦ tree.addresses x (node.Chip m) a named addr (swap along)
-      | inr aside ↦ absurd (
-          let s : ℕ = home_of_mux b m in
-          let root : root_of b (home_of b x) ≡ root_of b s =
-          eqb-true (root_of b (home_of b x)) (root_of b s) (and_left (eqb (root_of b (home_of b x)) (root_of b s)) (list_any (is_kept_hop b s) (hops b (home_of b x))) aside) in
-          let g = kept_hop b s (hops b (home_of b x)) (and_right (eqb (root_of b (home_of b x)) (root_of b s)) (list_any (is_kept_hop b s) (hops b (home_of b x))) aside) in
-          tree.aside g.0.mux x (node.Chip m) a ((tree.hop (home_of b x) g.0 g.1).stays ∙ g.2) named addr root (among_is g.0 (hops b (home_of b x)) g.1) g.3)
+      | inr aside ↦ absurd (aside_apart b tree (home_of_mux b m) a x (node.Chip m) named addr aside (inl refl))
     ]
   where
     swap : IsAlong b (home_of_mux b m) (home_of b x) → IsAlong b (home_of b x) (home_of_mux b m)
