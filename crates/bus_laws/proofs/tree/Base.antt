@@ -20,7 +20,7 @@ use Rattle.bus_spec.specs.Slots.{Slots, At, MuxSlot, Clean, Marked, Polled, Foun
 use Rattle.bus_spec.specs.Grammar.{settled, over, by_go, messages}
 use Rattle.bus_laws.specs.Runs.{IsOpenOn, InLocks, answers, CanSend, CanSelect, FindsSelect, CanGoThrough, HeadsMarks, IsUnmarked, IsOfMux, MayFail, Owns, MaySend, Runs}
 use Rattle.bus_laws.proofs.world.BoardFacts.{absent_silent, held_silent}
-use Rattle.bus_laws.proofs.tree.Slots.{eqb-apart, turned-same, turned-other, set_marks-along, set_marks-other}
+use Rattle.bus_laws.proofs.tree.Slots.{eqb-apart, turned-same, turned-other, set_marks-along}
 use Rattle.bus_laws.proofs.tree.Doers.{After, CanJob, job_after}
 
 -- a settle in between changes nothing

@@ -20,10 +20,10 @@ use Rattle.std.proofs.lemmas.Bool.Decides.{eqb_tells}
 use Rattle.bus_laws.proofs.world.Reach.{and_left, and_right}
 use Rattle.bus_spec.specs.Walk.{Look, KeptOf, Mark, Job, Select, Clear, JobOutcome, Good, Refused, Unsent, Failed, Note, WalkTree, job_bus, is_line, is_gpio, is_arbitrator}
 use Rattle.bus_spec.specs.Slots.{Slots, At, MuxSlot, Clean, Marked, mark_in, turned, turned_at, set_marks}
-use Rattle.bus_spec.specs.Grammar.{Doer, aside, with_mark, if_sent, if_good, kind_of, closing, left_behind, opened, chosen, keeps, crossed, behind}
-use Rattle.bus_laws.specs.Runs.{answers, IsOpenOn, OthersKept, IsKept, LetsThrough, InLocks, IsShut, IsRest, IsMuxOf, FindsOpen, IsUnmarked, IsOfMux, MayFail, Owns, IsGranted, Runs}
+use Rattle.bus_spec.specs.Grammar.{Doer, aside, with_mark, if_sent, if_good, kind_of, closing, left_behind, opened, chosen, crossed, behind}
+use Rattle.bus_laws.specs.Runs.{answers, IsOpenOn, OthersKept, IsKept, InLocks, IsShut, IsRest, IsMuxOf, FindsOpen, IsUnmarked, IsOfMux, MayFail, Owns, IsGranted, Runs}
 use Rattle.bus_laws.specs.Lines.{LinesAreLocked}
-use Rattle.bus_laws.proofs.tree.Slots.{changed-other, eqb-apart, turned-same, turned-other, set_marks-other, set_marks-along, set_marks-head, shut_clean, marked_slot}
+use Rattle.bus_laws.proofs.tree.Slots.{changed-other, eqb-apart, turned-same, turned-other, set_marks-along, set_marks-head, shut_clean, marked_slot}
 use Rattle.bus_laws.proofs.tree.Doers.{Responds, AllRespond, CanJob, job_after, OwnsOff, FindsFirst, CallUnmarked, IsPassed, Before, After, DoerRuns}
 use Rattle.bus_laws.proofs.tree.Base.{crosses_below}
 use Rattle.bus_laws.proofs.tree.Path.{job_after-off, job_after-along, job_after-unsent, job_after-failed, finds_along, fail_along, unmarked_off, marks_tail, owns_off_tail, own_crosses, can_more, bus_among, sub_locks}

@@ -1,7 +1,7 @@
 -- A caller's message leaves the chips alone: no chip along its bus has its address. The inductions go over lists.
-use Rattle.std.proofs.Common.{◌≡◌, ℕ, zero, suc, ◌+◌, Bool, true, false, cond, not, ◌&&◌, ◌||◌, List, [], ◌∷◌, ◌++◌, Option, Some, None, eqb, refl, sym, ◌∙◌, ap, ◌⊎◌, inl, inr}
+use Rattle.std.proofs.Common.{◌≡◌, ℕ, zero, suc, ◌+◌, Bool, true, false, cond, ◌&&◌, ◌||◌, List, [], ◌∷◌, ◌++◌, Option, Some, None, eqb, refl, sym, ◌∙◌, ap, ◌⊎◌, inl, inr}
 use Rattle.std.specs.Prelude.{slice_get, unwrap_or}
-use Rattle.std.specs.List.{list_any, position_from}
+use Rattle.std.specs.List.{list_any}
 use Rattle.std.specs.Option.{option_map}
 use Rattle.std.proofs.lemmas.Bool.{eq-eqb}
 use Rattle.i2c_base.specs.declared.event.Event.{Event}
@@ -14,10 +14,10 @@ use Rattle.i2c_base.specs.declared.ids.Node.TheVariants as node
 use Rattle.i2c_base.specs.declared.board.MuxSpec.{MuxSpec}
 use Rattle.i2c_base.specs.declared.tree.Grant.{Grant}
 use Rattle.i2c_base.specs.declared.tree.Grant.TheVariants as grant
-use Rattle.i2c_base.specs.Board.{BoardView, DeviceView}
+use Rattle.i2c_base.specs.Board.{BoardView}
 use Rattle.i2c_spec.specs.Tree.{Hop, hops, home_of_mux, addr_of_mux, is_below, is_on_path, is_aside, Crosses, IsOver, IsAlong, MayJoin}
 use Rattle.i2c_spec.specs.TreeFacts.{IsTree}
-use Rattle.i2c_spec.specs.Grant.{has_address, some_chip, some_device, some_bound, named_by, grant_of}
+use Rattle.i2c_spec.specs.Grant.{has_address, some_chip, some_device, grant_of}
 use Rattle.i2c_spec.specs.Chips.{ChipView, chip_table}
 use Rattle.i2c_spec.specs.Targets.{TargetState}
 use Rattle.i2c_spec.specs.Messages.{MessageView}

@@ -18,7 +18,7 @@ use Rattle.i2c_base.specs.Muxes.{facts_of}
 use Rattle.i2c_base.specs.declared.ids.Node.{Node}
 use Rattle.i2c_base.specs.declared.ids.Node.TheVariants as node
 use Rattle.i2c_base.specs.Board.{BoardView}
-use Rattle.i2c_spec.specs.Tree.{Hop, hops, root_of, home_of_mux, addr_of_mux, IsAlong}
+use Rattle.i2c_spec.specs.Tree.{Hop, hops, root_of, home_of_mux, addr_of_mux}
 use Rattle.i2c_spec.specs.TreeFacts.{IsTree}
 use Rattle.i2c_spec.specs.Chips.{ChipView, chip_table, chip_after, chip_sends, is_open, looked, taken, stopped as chip_stopped}
 use Rattle.i2c_spec.specs.Targets.{TargetState, state_table}

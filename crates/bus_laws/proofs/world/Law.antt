@@ -10,7 +10,7 @@ use Rattle.i2c_base.specs.declared.port.PortCall.{PortCall}
 use Rattle.i2c_base.specs.declared.port.PortCall.TheVariants as call
 use Rattle.i2c_base.specs.declared.event.Event.TheVariants as event
 use Rattle.i2c_base.specs.Board.{BoardView}
-use Rattle.i2c_spec.specs.Tree.{Hop, hops, root_of, home_of_mux, IsAmongHops, IsAlong}
+use Rattle.i2c_spec.specs.Tree.{Hop, hops, root_of, home_of_mux, IsAmongHops}
 use Rattle.i2c_spec.specs.TreeFacts.{IsTree}
 use Rattle.i2c_spec.specs.Plain.{IsPlainBoard}
 use Rattle.i2c_spec.specs.Chips.{ChipView, chip_table, is_open}
@@ -19,7 +19,7 @@ use Rattle.i2c_spec.specs.Conversation.{world_listener, talk}
 use Rattle.i2c_spec.specs.World.{World, after, opens_hop, is_joined, joins_chip, chip_start, to_chips, stop_event}
 use Rattle.i2c_spec.specs.History.{changed_at}
 use Rattle.i2c_spec.specs.Tree.{MayJoin}
-use Rattle.bus_spec.specs.Slots.{Slots, At, Marked, mark_in}
+use Rattle.bus_spec.specs.Slots.{Slots}
 use Rattle.bus_laws.specs.Runs.{IsOpenOn}
 use Rattle.bus_laws.specs.Told.{chip_in}
 use Rattle.bus_laws.specs.Told.{Explains, ChipsTold, WorldTold}

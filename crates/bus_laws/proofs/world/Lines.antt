@@ -20,7 +20,7 @@ use Rattle.i2c_spec.specs.Chips.{ChipView, is_open, at_level, select_by}
 use Rattle.i2c_spec.specs.World.{World, after, set_level, stopped}
 use Rattle.i2c_spec.specs.History.{changed_at}
 use Rattle.bus_spec.specs.Walk.{Mark, Job, Call, Select, Clear, Lined, job_bus, is_gpio}
-use Rattle.bus_spec.specs.Slots.{Slots, At, MuxSlot, Clean, Polled, Found, turned, turned_at, set_marks, after_job}
+use Rattle.bus_spec.specs.Slots.{Slots, MuxSlot, Clean, Polled, Found, turned, turned_at, set_marks, after_job}
 use Rattle.bus_spec.specs.Past.{line_call}
 use Rattle.bus_laws.specs.Runs.{IsMuxOf, IsOfMux, MayFail, MayShift}
 use Rattle.bus_laws.specs.Told.{chip_in}

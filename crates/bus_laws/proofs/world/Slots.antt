@@ -9,10 +9,10 @@ use Rattle.i2c_spec.specs.Tree.{Hop, home_of_mux, is_absent, is_held}
 use Rattle.i2c_spec.specs.Chips.{ChipView, is_open, is_free}
 use Rattle.i2c_spec.specs.History.{changed_at}
 use Rattle.bus_spec.specs.Walk.{Mark}
-use Rattle.bus_spec.specs.Slots.{Slots, At, MuxSlot, Clean, Marked, Polled, Found, turned_at, set_marks}
+use Rattle.bus_spec.specs.Slots.{Slots, At, MuxSlot, Marked, Polled, Found, turned_at, set_marks}
 use Rattle.bus_laws.specs.Runs.{IsOfMux, MayFail}
 use Rattle.bus_laws.specs.Told.{Explains, ChipsTold}
-use Rattle.bus_laws.proofs.tree.Slots.{eqb-apart, changed-same, changed-other}
+use Rattle.bus_laws.proofs.tree.Slots.{eqb-apart, changed-other}
 use Rattle.bus_laws.specs.Told.{IsChipOf}
 use Rattle.bus_laws.proofs.world.ChipLaws.{SameSort}
 
