@@ -3,7 +3,7 @@ pub mod LineFacts
 pub mod Feed
 pub mod TalkLaws
 pub mod TalkSizes
-pub mod TalkReads
+pub mod TalkThrough
 pub mod Reach
 pub mod Hears
 pub mod Control

@@ -1,18 +1,24 @@
 -- What stands at a place of a journal, each by a reading of its own: one sentence that a reader can follow down the lines
 -- without the others. `Past` folds them together, since they need each other; a law says that the fold has each of them.
-use Rattle.std.specs.Prelude.{ℕ, ◌==◌, Bool, true, false, List, [], ◌∷◌, Option, Some, None, if◌then◌else◌}
+use Rattle.std.specs.Prelude.{ℕ, ◌==◌, Bool, true, false, not, ◌&&◌, List, [], ◌∷◌, Option, Some, None, if◌then◌else◌}
+use Rattle.std.specs.List.{position_from, range_with_len}
 use Rattle.i2c_base.specs.declared.entry.Entry.{Entry}
 use Rattle.i2c_base.specs.declared.entry.Entry.TheVariants as entry
 use Rattle.i2c_base.specs.declared.entry.End.{End}
 use Rattle.i2c_base.specs.declared.entry.End.TheVariants as end
+use Rattle.i2c_base.specs.declared.entry.Purpose.{Purpose}
+use Rattle.i2c_base.specs.declared.entry.Purpose.TheVariants as purpose
 use Rattle.i2c_base.specs.Board.{BoardView}
 use Rattle.i2c_base.specs.Transfer.{TransferView}
+use Rattle.i2c_spec.specs.Tree.{of_mux}
+use Rattle.i2c_spec.specs.Chips.{opens}
 use Rattle.i2c_spec.specs.Messages.{MessageView}
+use Rattle.i2c_spec.specs.Conversation.{is_good}
 use Rattle.i2c_spec.specs.World.{World, after_all, opening_world}
 use Rattle.i2c_spec.specs.History.{Asks}
 use Rattle.bus_spec.specs.Walk.{Mark, Job, Call, Act, Send, Shift, ActOutcome, Passed, Sent, Lined, Note, WalkTree, Ends, job_bus, message_of}
 use Rattle.bus_spec.specs.Grammar.{first_act, first_note, rest_of}
-use Rattle.bus_spec.specs.Readings.{of_message, caller_of, replies}
+use Rattle.bus_spec.specs.Readings.{MessageEntry, of_message, caller_of, replies}
 use Rattle.bus_spec.specs.Past.{now, current, calls_of}
 
 -- the transfer in flight: what a caller asks for after the replies that it has settled before
@@ -72,3 +78,31 @@ abbrev pub mark_left : BoardView → Asks → List Entry → ℕ → Option ℕ
 mark_left b asks [] p = None
 mark_left b asks (e ∷ past) p =
     mark_by (first_act (current b asks (now b asks past) (caller_of e))) (first_note (current b asks (now b asks past) (caller_of e))) e p (mark_left b asks past p)
+
+-- the channel of a mux that a byte, or a level, opens by the table of its kind: the first one that is open at it
+abbrev pub channel_opened : BoardView → ℕ → ℕ → Option ℕ
+channel_opened b m control = of_mux (λ x. position_from (opens x.kind control) 0 (range_with_len 0 x.channels)) None b m
+
+abbrev pub channel_written : BoardView → ℕ → List ℕ → Option ℕ
+channel_written b m [] = None
+channel_written b m (byte ∷ bytes) = channel_opened b m byte
+
+-- a message to a mux opens a channel where it went through, and was no poll; a line step where it didn't fail
+abbrev pub kept_sent : BoardView → ℕ → MessageEntry → Option ℕ
+kept_sent b m e = if is_good e.end && not e.reading then channel_written b m e.bytes else None
+
+abbrev pub kept_lined : BoardView → ℕ → ℕ → Bool → Option ℕ
+kept_lined b m level failed = if failed then None else channel_opened b m level
+
+abbrev pub switches : ℕ → Purpose → Bool
+switches m purpose.Call = false
+switches m (purpose.Control mux) = mux == m
+
+abbrev pub kept_by : BoardView → ℕ → Entry → Option ℕ → Option ℕ
+kept_by b m (entry.Line c mux level failed) old = if mux == m then kept_lined b m level failed else old
+kept_by b m e old = of_message old (λ x. if switches m x.purpose then kept_sent b m x else old) e
+
+-- the channel that a mux keeps: what the last message or line step that switches it tells, by its own bytes or level alone
+abbrev pub kept_left : BoardView → List Entry → ℕ → Option ℕ
+kept_left b [] m = None
+kept_left b (e ∷ past) m = kept_by b m e (kept_left b past m)

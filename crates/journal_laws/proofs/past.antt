@@ -17,6 +17,7 @@ pub mod Due
 pub mod LegalSteps
 pub mod Play
 pub mod Marked
+pub mod Kept
 pub mod FailLaw
 pub mod Cuts
 pub mod Remotes

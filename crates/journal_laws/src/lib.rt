@@ -34,8 +34,9 @@ pub use paths::{
     a_job_stands_between_its_locks, a_journal_keeps_the_walk_rule, each_walk_keeps_the_walk_rule,
 };
 pub use readings::{
-    each_mark_is_the_last_one_made, each_message_is_the_one_in_flight,
-    each_walk_is_what_its_entries_left, each_world_is_that_of_its_calls, settled_is_replies,
+    each_kept_channel_is_the_last_one_told, each_mark_is_the_last_one_made,
+    each_message_is_the_one_in_flight, each_walk_is_what_its_entries_left,
+    each_world_is_that_of_its_calls, settled_is_replies,
 };
 pub use rows::the_worked_journals_keep_every_rule;
 pub use unique::{

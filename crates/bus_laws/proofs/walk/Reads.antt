@@ -7,7 +7,7 @@ use Rattle.i2c_base.specs.Fitting.{FitsReads, FitsCounted, count_of}
 use Rattle.i2c_base.specs.Transfer.{TransferView, is_read, is_counted, written_of}
 use Rattle.i2c_spec.specs.Messages.{MessageView, messages_from, messages_of}
 use Rattle.bus_spec.specs.Walk.{nth_message}
-use Rattle.bus_laws.proofs.world.TalkReads.{GaveRead}
+use Rattle.bus_laws.proofs.world.TalkThrough.{GaveRead}
 
 -- the bytes that were read, and those of one message more, which reads or doesn't
 abbrev pub read_more : List ℕ → Bool → List ℕ → List ℕ

@@ -139,6 +139,55 @@ pub select_opens : (k : MuxKind) (x : ChipView) (channel : ℕ) → x.kind ≡ k
     → (is_arbitrator k ≡ true → is_free x ≡ true) → OpensOne (taken k (put_byte (select_value k channel) x) (select_value k channel)) channel
 select_opens k x channel kind line has free = select_by_code k x channel kind (facts_of k).code refl (facts_fit k) line has free
 
+-- LINES: the level opens one channel or none
+pub level_opens : (x : ChipView) (channel : ℕ) → (facts_of x.kind).code ≡ Level → OpensOne (at_level x (channel + 1)) channel
+level_opens x channel code =
+    record {
+      opened = ap (λ (v : ChannelCode). opens_by v (channel + 1) channel) code ∙ eq-eqb (channel + 1) (channel + 1) refl;
+      only = λ c e. (let f : channel + 1 ≡ c + 1 = eqb-true (channel + 1) (c + 1) (sym (ap (λ (v : ChannelCode). opens_by v (channel + 1) c) code) ∙ e) in omega arith);
+    }
+
+-- VALUES: what selects a channel opens it alone as it is, before the chip has cut it down to its bits
+abbrev at_value : MuxKind → ℕ → ChipView
+at_value k value = record { kind = k; control = value; waiting = None; left = 0; foreign = 0 }
+
+number_whole : (n c : ℕ) → n ≤ 3 → c < 2 ^ n → (2 ^ n + c) % 2 ^ suc n ≡ 2 ^ n + c
+number_whole zero c p below = (let e : (1 + c) % 2 ≡ 1 + c = omega arith in e)
+number_whole (suc zero) c p below = (let e : (2 + c) % 4 ≡ 2 + c = omega arith in e)
+number_whole (suc (suc zero)) c p below = (let e : (4 + c) % 8 ≡ 4 + c = omega arith in e)
+number_whole (suc (suc (suc zero))) c p below = (let e : (8 + c) % 16 ≡ 8 + c = omega arith in e)
+number_whole (suc (suc (suc (suc n)))) c p below = absurd (omega arith)
+
+pub value_opens : (k : MuxKind) (channel : ℕ) → HasChannel k channel → OpensOne (at_value k (select_value k channel)) channel
+value_opens k channel has = by_code (facts_of k).code refl (facts_fit k)
+  where
+    by_code : (code : ChannelCode) → (facts_of k).code ≡ code → FitsCode code (facts_of k) → OpensOne (at_value k (select_value k channel)) channel
+    by_code Bits at fits =
+        opens_power (at_value k (select_value k channel)) (select_value k channel) channel
+        (opens_at k (at_value k 0) channel refl Bits at (select_value k channel)) (ap (λ (v : ChannelCode). select_by v channel) at)
+    by_code (Number n) at fits =
+        let value = 2 ^ n + channel in
+        let within : channel < 2 ^ n = below k (at_value k 0) channel refl (2 ^ n) fits.0 has in
+        let whole : value % 2 ^ suc n ≡ value = number_whole n channel fits.4 within in
+        let bits = mux_bits n channel fits.4 within in
+        let number : value % 2 ^ n ≡ channel = ap (λ (i : ℕ). i % 2 ^ n) (sym whole) ∙ bits.1 in
+        subst (λ (i : ℕ). OpensOne (at_value k i) channel) (sym (ap (λ (v : ChannelCode). select_by v channel) at))
+        (record {
+          opened = opens_at k (at_value k 0) channel refl (Number n) at value channel
+              ∙ ap (λ (t : Bool). t && eqb (value % 2 ^ n) channel) (ap (λ (i : ℕ). bit_of i n) (sym whole) ∙ bits.0) ∙ eq-eqb (value % 2 ^ n) channel number;
+          only = λ c e. sym number ∙ eqb-true (value % 2 ^ n) c
+              (and_right (bit_of value n) (eqb (value % 2 ^ n) c) (sym (opens_at k (at_value k 0) channel refl (Number n) at value c) ∙ e));
+        })
+    by_code Alone at fits =
+        let only_one : channel ≡ 0 = (let l : channel < 1 = below k (at_value k 0) channel refl 1 fits.0 has in omega arith) in
+        subst (λ (i : ℕ). OpensOne (at_value k i) channel) (sym (ap (λ (v : ChannelCode). select_by v channel) at))
+        (record {
+          opened = opens_at k (at_value k 0) channel refl Alone at 1 channel ∙ eq-eqb channel 0 only_one;
+          only = λ c e. only_one ∙ sym (eqb-true c 0 (sym (opens_at k (at_value k 0) channel refl Alone at 1 c) ∙ e));
+        })
+    by_code Level at fits =
+        subst (λ (i : ℕ). OpensOne (at_value k i) channel) (sym (ap (λ (v : ChannelCode). select_by v channel) at)) (level_opens (at_value k 0) channel at)
+
 -- CLOSES: no channel is open
 pub shut_at_zero : (code : ChannelCode) (c : ℕ) → opens_by code 0 c ≡ false
 shut_at_zero Bits c = bit_zero c
@@ -154,14 +203,6 @@ close_opens k x c line = by_facts (facts_of k).asks (facts_of k).by_line (facts_
     by_facts false false bits e =
         ap (λ (n : ℕ). opens_by (facts_of x.kind).code n c) (zero-mod (2 ^ bits)) ∙ shut_at_zero (facts_of x.kind).code c
     by_facts false true bits e = absurd (let f : true ≡ false = e in cc)
-
--- LINES: the level opens one channel or none
-pub level_opens : (x : ChipView) (channel : ℕ) → (facts_of x.kind).code ≡ Level → OpensOne (at_level x (channel + 1)) channel
-level_opens x channel code =
-    record {
-      opened = ap (λ (v : ChannelCode). opens_by v (channel + 1) channel) code ∙ eq-eqb (channel + 1) (channel + 1) refl;
-      only = λ c e. (let f : channel + 1 ≡ c + 1 = eqb-true (channel + 1) (c + 1) (sym (ap (λ (v : ChannelCode). opens_by v (channel + 1) c) code) ∙ e) in omega arith);
-    }
 
 pub level_closes : (x : ChipView) (c : ℕ) → is_open (at_level x 0) c ≡ false
 level_closes x c = shut_at_zero (facts_of x.kind).code c

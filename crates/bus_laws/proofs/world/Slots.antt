@@ -16,10 +16,11 @@ use Rattle.bus_laws.proofs.tree.Slots.{eqb-apart, changed-other}
 use Rattle.bus_laws.specs.Told.{IsChipOf}
 use Rattle.bus_laws.proofs.world.ChipLaws.{SameSort}
 
-kept_other : (f : ℕ → Option ℕ) (m n : ℕ) (c : Option ℕ) → (n ≡ m → ⊥) → changed_at f m c n ≡ f n
+-- one mux's channel is changed
+pub kept_other : (f : ℕ → Option ℕ) (m n : ℕ) (c : Option ℕ) → (n ≡ m → ⊥) → changed_at f m c n ≡ f n
 kept_other f m n c ne = ap (λ (t : Bool). cond t c (f n)) (eqb-apart n m ne)
 
-kept_own : (f : ℕ → Option ℕ) (m n : ℕ) (c : Option ℕ) → n ≡ m → changed_at f m c n ≡ c
+pub kept_own : (f : ℕ → Option ℕ) (m n : ℕ) (c : Option ℕ) → n ≡ m → changed_at f m c n ≡ c
 kept_own f m n c e = ap (λ (t : Bool). cond t c (f n)) (eq-eqb n m e)
 
 -- at each bus nothing changes, or a mark comes that forgets nothing
@@ -57,7 +58,7 @@ kept_same : (x y : At) (m : ℕ) (c : Option ℕ) → y ≡ x → y.kept m ≡ c
 kept_same x y m c e f = ap (λ (z : At). z.kept m) (sym e) ∙ f
 
 -- the marked mux is the one that the slot is of
-of_marked : (k m : ℕ) (s : MuxSlot) → IsOfMux k s → s ≡ Marked m → k ≡ m
+pub of_marked : (k m : ℕ) (s : MuxSlot) → IsOfMux k s → s ≡ Marked m → k ≡ m
 of_marked k m s is e = sym (let f : IsOfMux k (Marked m) = subst (λ (t : MuxSlot). IsOfMux k t) e is in f)
 
 pub told-marks : (b : BoardView) (v w : Slots) (chips : ℕ → Option ChipView) → MarksOnly b v w → ChipsTold b v chips → ChipsTold b w chips

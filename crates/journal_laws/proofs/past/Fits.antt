@@ -33,7 +33,7 @@ use Rattle.bus_laws.specs.Calls.{CallsOf, FirstCalls}
 use Rattle.bus_laws.specs.Others.{ahead}
 use Rattle.journal_laws.specs.Spent.{FitsAt, KeepsFits}
 use Rattle.i2c_spec.proofs.MessageLemmas.{length-messages}
-use Rattle.bus_laws.proofs.world.TalkReads.{GaveRead, talk-reads}
+use Rattle.bus_laws.proofs.world.TalkThrough.{GaveRead, talk-reads}
 use Rattle.bus_laws.proofs.walk.SettleLaw.{walk-settles, walk-starts}
 use Rattle.bus_laws.proofs.walk.Calls.{walk-calls}
 use Rattle.bus_laws.proofs.walk.Jobs.{walk-jobs}

@@ -1,4 +1,5 @@
--- What a message that reads, and went through, gives. The induction goes over the bytes that are left to read.
+-- What a message tells that went through: of a write all of its bytes, of a read as many as it asks for. The inductions go
+-- over the bytes of a write, and over those that are left to read.
 use Rattle.std.proofs.Common.{◌≡◌, ℕ, zero, suc, ◌+◌, ◌-◌, ◌≤◌, Bool, true, false, cond, ◌||◌, List, [], ◌∷◌, ◌++◌, length, Option, eqb, ltb, refl, sym, ◌∙◌, ap, arith, append-nil, append_assoc}
 use Rattle.std.specs.Prelude.{MatchBool}
 use Rattle.i2c_base.specs.Fitting.{count_of}
@@ -9,7 +10,7 @@ use Rattle.i2c_base.specs.declared.port.PortCall.TheVariants as call
 use Rattle.i2c_base.specs.declared.entry.End.{End}
 use Rattle.i2c_base.specs.declared.entry.End.TheVariants as end
 use Rattle.i2c_spec.specs.Messages.{MessageView}
-use Rattle.i2c_spec.specs.Conversation.{Listener, Said, TalkTold, is_it, silence, say, with_byte, told, call_then, ended, puts, gets, gets_counted, by_answer, talk}
+use Rattle.i2c_spec.specs.Conversation.{Listener, Said, TalkTold, is_it, silence, say, with_byte, told, call_then, ended, puts, gets, gets_counted, data_of, by_answer, talk}
 use Rattle.bus_laws.proofs.world.TalkSizes.{good_count}
 
 -- as many bytes as it asks for; of a counted read first how many more come, within the limit
@@ -75,21 +76,57 @@ module _ {W : Type 0} (l : Listener W) (cut : Option ℕ) where
   plain_gave : (limit len : ℕ) (bytes : List ℕ) → Grown [] len bytes → GaveRead limit false len bytes
   plain_gave limit len bytes g = ap (λ (xs : List ℕ). length xs) g.1 ∙ g.2
 
-  answer_through : (last : Bool) (limit : ℕ) (m : MessageView) → m.reading ≡ true → (a : Answer) (t : Said W) → t.bytes ≡ []
-      → IfThrough (GaveRead limit m.counted m.len) (by_answer l cut last limit m a t)
-  answer_through last limit m reads answer.Ack t empty = by m.reading reads m.counted
+  -- the bytes go on, or nobody acknowledged
+  answer_through : (P : List ℕ → Type 0) (last : Bool) (limit : ℕ) (m : MessageView) (a : Answer) (t : Said W)
+      → IfThrough P (data_of l cut last limit m t) → IfThrough P (by_answer l cut last limit m a t)
+  answer_through P last limit m answer.Ack t inside = inside
+  answer_through P last limit m answer.Slow t inside = never_through P t end.Slow (λ e. let f : end.Slow ≡ end.Ok = e in cc)
+  answer_through P last limit m answer.Nack t inside = never_through P t end.Nack (λ e. let f : end.Nack ≡ end.Ok = e in cc)
+  answer_through P last limit m (answer.Byte byte) t inside = never_through P t end.Nack (λ e. let f : end.Nack ≡ end.Ok = e in cc)
+  answer_through P last limit m answer.Nothing t inside = never_through P t end.Nack (λ e. let f : end.Nack ≡ end.Ok = e in cc)
+
+  talk_through : (P : List ℕ → Type 0) (limit : ℕ) (w : W) (m : MessageView) (last : Bool)
+      → ((t : Said W) → t.bytes ≡ [] → IfThrough P (data_of l cut last limit m t)) → IfThrough P (talk l limit w m last cut)
+  talk_through P limit w m last inside =
+      then_through P (silence w) (call.Start m.addr m.reading) (λ t. by_answer l cut last limit m (l.answer w m.addr m.reading) t)
+      (answer_through P last limit m (l.answer w m.addr m.reading) (say l (silence w) (call.Start m.addr m.reading))
+      (inside (say l (silence w) (call.Start m.addr m.reading)) refl))
+
+  -- READS
+  read_through : (last : Bool) (limit : ℕ) (m : MessageView) → m.reading ≡ true → (t : Said W) → t.bytes ≡ []
+      → IfThrough (GaveRead limit m.counted m.len) (data_of l cut last limit m t)
+  read_through last limit m reads t empty = by m.reading reads m.counted
     where
       by : (reading : Bool) → reading ≡ true → (counted : Bool)
           → IfThrough (GaveRead limit counted m.len) (cond reading (cond counted (gets_counted l cut last limit m.len t) (gets l cut last m.len t)) (puts l cut last m.bytes t))
       by true e true = counted_through last limit m.len t empty
       by true e false = λ ok. (let g = gets_through last m.len t ok in plain_gave limit m.len (gets l cut last m.len t).bytes (g.0, g.1 ∙ ap (λ (xs : List ℕ). xs ++ g.0) empty, g.2))
       by false e counted = absurd (let f : false ≡ true = e in cc)
-  answer_through last limit m reads answer.Slow t empty = never_through (GaveRead limit m.counted m.len) t end.Slow (λ e. let f : end.Slow ≡ end.Ok = e in cc)
-  answer_through last limit m reads answer.Nack t empty = never_through (GaveRead limit m.counted m.len) t end.Nack (λ e. let f : end.Nack ≡ end.Ok = e in cc)
-  answer_through last limit m reads (answer.Byte byte) t empty = never_through (GaveRead limit m.counted m.len) t end.Nack (λ e. let f : end.Nack ≡ end.Ok = e in cc)
-  answer_through last limit m reads answer.Nothing t empty = never_through (GaveRead limit m.counted m.len) t end.Nack (λ e. let f : end.Nack ≡ end.Ok = e in cc)
 
   pub talk-reads : (limit : ℕ) (w : W) (m : MessageView) (last : Bool) → m.reading ≡ true → (talk l limit w m last cut).end ≡ end.Ok → GaveRead limit m.counted m.len (talk l limit w m last cut).bytes
-  talk-reads limit w m last reads =
-      then_through (GaveRead limit m.counted m.len) (silence w) (call.Start m.addr m.reading) (λ t. by_answer l cut last limit m (l.answer w m.addr m.reading) t)
-      (answer_through last limit m reads (l.answer w m.addr m.reading) (say l (silence w) (call.Start m.addr m.reading)) refl)
+  talk-reads limit w m last reads = talk_through (GaveRead limit m.counted m.len) limit w m last (read_through last limit m reads)
+
+  -- WRITES
+  puts_through : (last : Bool) (bytes : List ℕ) (t : Said W) → IfThrough (λ xs. xs ≡ t.bytes ++ bytes) (puts l cut last bytes t)
+  puts_through last [] t = ended_through (λ xs. xs ≡ t.bytes ++ []) last t end.Ok (λ e. sym (append-nil t.bytes))
+  puts_through last (b ∷ bs) t =
+      let s : Said W = say l t (call.Put b) in
+      then_through (λ xs. xs ≡ t.bytes ++ b ∷ bs) t (call.Put b) (λ u. cond (l.takes t.now b) (puts l cut last bs (with_byte u b)) (ended l cut true u end.Refused))
+      (by s (l.takes t.now b) (λ ok. puts_through last bs (with_byte s b) ok ∙ append_assoc t.bytes (b ∷ []) bs))
+    where
+      by : (s : Said W) (taken : Bool) → IfThrough (λ xs. xs ≡ t.bytes ++ b ∷ bs) (puts l cut last bs (with_byte s b))
+          → IfThrough (λ xs. xs ≡ t.bytes ++ b ∷ bs) (cond taken (puts l cut last bs (with_byte s b)) (ended l cut true s end.Refused))
+      by s true rest = rest
+      by s false rest = never_through (λ xs. xs ≡ t.bytes ++ b ∷ bs) s end.Refused (λ e. let f : end.Refused ≡ end.Ok = e in cc)
+
+  write_through : (last : Bool) (limit : ℕ) (m : MessageView) → m.reading ≡ false → (t : Said W) → t.bytes ≡ []
+      → IfThrough (λ xs. xs ≡ m.bytes) (data_of l cut last limit m t)
+  write_through last limit m writes t empty = by m.reading writes
+    where
+      by : (reading : Bool) → reading ≡ false
+          → IfThrough (λ xs. xs ≡ m.bytes) (cond reading (cond m.counted (gets_counted l cut last limit m.len t) (gets l cut last m.len t)) (puts l cut last m.bytes t))
+      by true e = absurd (let f : true ≡ false = e in cc)
+      by false e = λ ok. puts_through last m.bytes t ok ∙ ap (λ (xs : List ℕ). xs ++ m.bytes) empty
+
+  pub talk-writes : (limit : ℕ) (w : W) (m : MessageView) (last : Bool) → m.reading ≡ false → (talk l limit w m last cut).end ≡ end.Ok → (talk l limit w m last cut).bytes ≡ m.bytes
+  talk-writes limit w m last writes = talk_through (λ xs. xs ≡ m.bytes) limit w m last (write_through last limit m writes)

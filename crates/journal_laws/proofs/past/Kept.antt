@@ -1,0 +1,257 @@
+-- The channel that a mux keeps is the one that its last message or line step tells by its own byte or level, where the mux
+-- isn't marked. The inductions go over the channels of a mux, and over the entries.
+use Rattle.std.proofs.Common.{◌≡◌, ℕ, zero, suc, ◌+◌, ◌<◌, ◌≤◌, ◌≢◌, Bool, true, false, cond, not, ◌&&◌, eqb, List, [], ◌∷◌, Option, Some, None, refl, sym, ◌∙◌, ap, subst, ◌⊎◌, inl, inr, arith}
+use Rattle.std.specs.Prelude.{slice_get, unwrap_or}
+use Rattle.std.specs.List.{position_from, range_with_len}
+use Rattle.std.specs.Option.{option_map}
+use Rattle.std.proofs.lemmas.Bool.Decides.{eqb_tells}
+use Rattle.i2c_base.specs.declared.board.MuxSpec.{MuxSpec}
+use Rattle.i2c_base.specs.declared.board.MuxKind.{MuxKind}
+use Rattle.i2c_base.specs.declared.ids.LockId.{LockId}
+use Rattle.i2c_base.specs.declared.entry.End.{End}
+use Rattle.i2c_base.specs.declared.entry.End.TheVariants as end
+use Rattle.i2c_base.specs.declared.entry.Entry.{Entry}
+use Rattle.i2c_base.specs.declared.entry.Entry.TheVariants as entry
+use Rattle.i2c_base.specs.declared.entry.Purpose.{Purpose}
+use Rattle.i2c_base.specs.Board.{BoardView}
+use Rattle.i2c_base.specs.Transfer.{TransferView}
+use Rattle.i2c_base.specs.Muxes.{facts_of}
+use Rattle.i2c_spec.specs.Tree.{Hop, root_of, home_of_mux, of_mux}
+use Rattle.i2c_spec.specs.TreeFacts.{IsTree, IsHop}
+use Rattle.i2c_spec.specs.Plain.{IsPlainBoard}
+use Rattle.i2c_spec.specs.Chips.{opens, select_value, close_value}
+use Rattle.i2c_spec.specs.Conversation.{world_listener, is_good}
+use Rattle.i2c_spec.specs.Flat.{block_limit}
+use Rattle.i2c_spec.specs.History.{Asks}
+use Rattle.bus_spec.specs.Walk.{Mark, Job, Call, Select, Clear, Act, Send, Shift, Sent, Lined, Note, job_bus, job_purpose, message_of, is_last, is_arbitrator, line_mux, line_level}
+use Rattle.bus_spec.specs.Slots.{Slots, At, MuxSlot, Clean, Marked, turned, set_marks, polled_slot, after_job}
+use Rattle.bus_spec.specs.Grammar.{first_note}
+use Rattle.bus_spec.specs.Past.{Now, current, now, kept_channel, cut_of, sent_by, lined_by}
+use Rattle.bus_spec.specs.Places.{channel_opened, channel_written, switches, kept_left, is_cut}
+use Rattle.bus_spec.specs.Stepwise.{IsStepwise}
+use Rattle.bus_laws.specs.Runs.{IsOfMux, FindsSelect, HeadsMarks, MayFail, MaySend, MayShift}
+use Rattle.bus_laws.specs.Lines.{LinesAreLocked}
+use Rattle.bus_laws.specs.Reach.{AsksForMessages}
+use Rattle.bus_laws.proofs.tree.Slots.{turned-same, turned-other, set_marks-head}
+use Rattle.bus_laws.proofs.world.BoardFacts.{mux_at, has_channel}
+use Rattle.bus_laws.proofs.world.ChipLaws.{OpensOne, value_opens, shut_at_zero}
+use Rattle.bus_laws.proofs.world.Sends.{own_select, own_open}
+use Rattle.bus_laws.proofs.world.Slots.{kept_own, kept_other, of_marked, set_marks-only}
+use Rattle.bus_laws.proofs.world.TalkThrough.{talk-writes}
+use Rattle.journal_laws.specs.Faulty.{Closes, HasClosed}
+use Rattle.journal_laws.proofs.past.Marked.{sends, shifts}
+
+-- THE FIRST CHANNEL that is open: the only one, or none
+first_is : (test : ℕ → Bool) (n i c : ℕ) → i ≤ c → c < i + n → test c ≡ true → ((d : ℕ) → test d ≡ true → c ≡ d) → position_from test i (range_with_len i n) ≡ Some c
+first_is test zero i c low high here only = absurd (omega (arith, low, high))
+first_is test (suc n) i c low high here only =
+    elim (eqb_tells i c) [
+      | inl same ↦ ap (λ (t : Bool). cond t (Some i) (position_from test (i + 1) (range_with_len (i + 1) n))) (ap test same.1 ∙ here) ∙ ap Some same.1
+      | inr other ↦ (let ne : i ≢ c = other.1 in
+          by (test i) refl ne (first_is test n (i + 1) c (omega (arith, low, ne)) (omega (arith, high)) here only))
+    ]
+  where
+    by : (t : Bool) → test i ≡ t → i ≢ c → position_from test (i + 1) (range_with_len (i + 1) n) ≡ Some c
+        → cond (test i) (Some i) (position_from test (i + 1) (range_with_len (i + 1) n)) ≡ Some c
+    by true e ne rest = absurd (ne (sym (only i e)))
+    by false e ne rest = ap (λ (t : Bool). cond t (Some i) (position_from test (i + 1) (range_with_len (i + 1) n))) e ∙ rest
+
+first_none : (test : ℕ → Bool) (n i : ℕ) → ((d : ℕ) → test d ≡ false) → position_from test i (range_with_len i n) ≡ None
+first_none test zero i shut = refl
+first_none test (suc n) i shut =
+    ap (λ (t : Bool). cond t (Some i) (position_from test (i + 1) (range_with_len (i + 1) n))) (shut i) ∙ first_none test n (i + 1) shut
+
+-- what a select writes opens its channel, what a close writes opens none
+select_channel : (b : BoardView) → IsPlainBoard b → (h : Hop) → IsHop b h → h.channel < of_mux (λ m. m.channels) 0 b h.mux
+    → channel_opened b h.mux (select_value h.kind h.channel) ≡ Some h.channel
+select_channel b plain h hop within =
+    let s = mux_at b h.mux h.kind hop.kind in
+    let value : ℕ = select_value h.kind h.channel in
+    let alone : OpensOne _ h.channel = value_opens h.kind h.channel (has_channel b plain h hop within) in
+    let few : h.channel < s.0.channels = subst (λ (n : ℕ). h.channel < n) (ap (λ (o : Option MuxSpec). unwrap_or (option_map (λ (x : MuxSpec). x.channels) o) 0) s.1) within in
+    ap (λ (o : Option MuxSpec). unwrap_or (option_map (λ (x : MuxSpec). position_from (opens x.kind value) 0 (range_with_len 0 x.channels)) o) None) s.1
+    ∙ ap (λ (k : MuxKind). position_from (opens k value) 0 (range_with_len 0 s.0.channels)) s.2
+    ∙ first_is (opens h.kind value) s.0.channels 0 h.channel (omega arith) (omega (arith, few)) alone.opened alone.only
+
+close_channel : (b : BoardView) (m : ℕ) → channel_opened b m close_value ≡ None
+close_channel b m = by (slice_get b.muxes m)
+  where
+    by : (o : Option MuxSpec) → unwrap_or (option_map (λ (x : MuxSpec). position_from (opens x.kind close_value) 0 (range_with_len 0 x.channels)) o) None ≡ None
+    by None = refl
+    by (Some x) = first_none (opens x.kind close_value) x.channels 0 (λ d. shut_at_zero (facts_of x.kind).code d)
+
+-- ONE STEP of mux k on a bus, which tells this of each mux that it switches
+abbrev Reads : BoardView → Slots → (ℕ → Option ℕ) → ℕ → Type 0
+Reads b v told m = ((v (home_of_mux b m)).slot ≡ Marked m) ⊎ ((v (home_of_mux b m)).kept m ≡ told m)
+
+abbrev after_told : ℕ → (ℕ → Option ℕ) → (ℕ → Option ℕ) → ℕ → Option ℕ
+after_told k new old m = cond (eqb k m) (new m) (old m)
+
+module _ (b : BoardView) (v : Slots) (k on : ℕ) (home : home_of_mux b k ≡ on) (own : IsOfMux k (v on).slot)
+    (new old : ℕ → Option ℕ) (so : (m : ℕ) → Reads b v old m) where
+  told_own : after_told k new old k ≡ new k
+  told_own = elim (eqb_tells k k) [
+    | inl h ↦ ap (λ (t : Bool). cond t (new k) (old k)) h.0
+    | inr h ↦ absurd (h.1 refl)
+  ]
+
+  -- it turns its mux
+  turned-reads : (s : MuxSlot) (c : Option ℕ) → new k ≡ c → (m : ℕ) → Reads b (turned v on k s c) (after_told k new old) m
+  turned-reads s c is m =
+      elim (eqb_tells k m) [
+        | inl same ↦ subst (λ (i : ℕ). Reads b (turned v on k s c) (after_told k new old) i) same.1
+            (inr (ap (λ (p : ℕ). (turned v on k s c p).kept k) home ∙ ap (λ (x : At). x.kept k) (turned-same v on k s c)
+            ∙ kept_own (v on).kept k k c refl ∙ sym is ∙ sym told_own))
+        | inr other ↦
+            let told_old : after_told k new old m ≡ old m = ap (λ (t : Bool). cond t (new m) (old m)) other.0 in
+            elim (eqb_tells (home_of_mux b m) on) [
+              | inl here ↦ elim (so m) [
+                | inl marked ↦ absurd (other.1 (of_marked k m (v on).slot own (ap (λ (p : ℕ). (v p).slot) (sym here.1) ∙ marked)))
+                | inr kept ↦ inr (ap (λ (p : ℕ). (turned v on k s c p).kept m) here.1 ∙ ap (λ (x : At). x.kept m) (turned-same v on k s c)
+                    ∙ kept_other (v on).kept k m c (λ e. other.1 (sym e)) ∙ ap (λ (p : ℕ). (v p).kept m) (sym here.1) ∙ kept ∙ sym told_old)
+              ]
+              | inr far ↦ (let same : turned v on k s c (home_of_mux b m) ≡ v (home_of_mux b m) = turned-other v on k (home_of_mux b m) s c far.1 in
+                  elim (so m) [
+                    | inl marked ↦ inl (ap (λ (x : At). x.slot) same ∙ marked)
+                    | inr kept ↦ inr (ap (λ (x : At). x.kept m) same ∙ kept ∙ sym told_old)
+                  ])
+            ]
+      ]
+
+  -- it fails by the port, and marks its mux and others
+  heads_marked : (marks : List Mark) → HeadsMarks on k marks → (set_marks marks v on).slot ≡ Marked k
+  heads_marked [] heads = absurd heads
+  heads_marked (x ∷ marks) heads =
+      ap (λ (p : ℕ). (set_marks (x ∷ marks) v p).slot) (sym heads.0) ∙ ap (λ (y : At). y.slot) (set_marks-head x marks v) ∙ ap Marked heads.1
+
+  failed-reads : (held : List LockId) (marks : List Mark) → MayFail b marks held v → HeadsMarks on k marks → (m : ℕ) → Reads b (set_marks marks v) (after_told k new old) m
+  failed-reads held marks fail heads m =
+      elim (eqb_tells k m) [
+        | inl same ↦ subst (λ (i : ℕ). Reads b (set_marks marks v) (after_told k new old) i) same.1
+            (inl (ap (λ (p : ℕ). (set_marks marks v p).slot) home ∙ heads_marked marks heads))
+        | inr other ↦
+            let told_old : after_told k new old m ≡ old m = ap (λ (t : Bool). cond t (new m) (old m)) other.0 in
+            elim (set_marks-only b held v marks fail (home_of_mux b m)) [
+              | inl same ↦ elim (so m) [
+                | inl marked ↦ inl (ap (λ (x : At). x.slot) same ∙ marked)
+                | inr kept ↦ inr (ap (λ (x : At). x.kept m) same ∙ kept ∙ sym told_old)
+              ]
+              | inr mark ↦ elim (eqb_tells m mark.mux) [
+                | inl its ↦ inl (ap (λ (x : At). x.slot) mark.is ∙ ap Marked (sym its.1))
+                | inr off ↦ elim (so m) [
+                  | inl marked ↦ absurd (off.1 (sym (of_marked mark.mux m (v (home_of_mux b m)).slot mark.forgets marked)))
+                  | inr kept ↦ inr (ap (λ (x : At). x.kept m) mark.is ∙ kept_other (v (home_of_mux b m)).kept mark.mux m None off.1 ∙ kept ∙ sym told_old)
+                ]
+              ]
+            ]
+      ]
+
+-- A MESSAGE, AND A LINE STEP
+abbrev sent_told : BoardView → Bool → List ℕ → End → ℕ → Option ℕ
+sent_told b reading bytes e m = cond (is_good e && not reading) (channel_written b m bytes) None
+
+abbrev lined_told : BoardView → ℕ → Bool → ℕ → Option ℕ
+lined_told b level failed m = cond failed None (channel_opened b m level)
+
+module _ (b : BoardView) (tree : IsTree b) (plain : IsPlainBoard b) (v : Slots) (old : ℕ → Option ℕ) (so : (m : ℕ) → Reads b v old m)
+    (held : List LockId) (marks : List Mark) where
+  -- a message that went through tells what was written
+  abbrev TellsWritten : Job → ℕ → Bool → List ℕ → Type 0
+  TellsWritten job left reading bytes = (message_of b job left).reading ≡ false → bytes ≡ (message_of b job left).bytes
+
+  module _ (whose : TransferView) where
+    select-reads : (h : Hop) (left : ℕ) → MaySend b whose (Select h) left marks held v → (reading : Bool) → reading ≡ (message_of b (Select h) left).reading → (bytes : List ℕ) (e : End)
+        → (e ≡ end.Ok → TellsWritten (Select h) left reading bytes) → (m : ℕ)
+        → Reads b (after_job (Select h) left marks (Sent e bytes) v) (after_told h.mux (sent_told b reading bytes e) old) m
+    select-reads h left may reading is bytes e written m = by left e may is written
+      where
+        hop : IsHop b h
+        hop = tree.hop h.bus h may.finds.1
+
+        turns : (n : ℕ) (x : End) (s : MuxSlot) (c : Option ℕ) → FindsSelect (is_arbitrator h.kind) h n (v h.on) → sent_told b reading bytes x h.mux ≡ c
+            → Reads b (turned v h.on h.mux s c) (after_told h.mux (sent_told b reading bytes x) old) m
+        turns n x s c finds told = turned-reads b v h.mux h.on hop.home (own_select (is_arbitrator h.kind) h n (v h.on) finds) (sent_told b reading bytes x) old so s c told m
+
+        by : (n : ℕ) (x : End) → MaySend b whose (Select h) n marks held v → reading ≡ (message_of b (Select h) n).reading → (x ≡ end.Ok → TellsWritten (Select h) n reading bytes)
+            → Reads b (after_job (Select h) n marks (Sent x bytes) v) (after_told h.mux (sent_told b reading bytes x) old) m
+        by zero end.Ok ready writing told =
+            turns zero end.Ok Clean (Some h.channel) ready.finds.0
+            (ap (λ (t : Bool). cond (not t) (channel_written b h.mux bytes) None) writing ∙ ap (channel_written b h.mux) (told refl refl)
+            ∙ select_channel b plain h hop (tree.within h.bus h ready.finds.2 ready.finds.1))
+        by (suc n) end.Ok ready polling told =
+            turns (suc n) end.Ok (polled_slot h n bytes) None ready.finds.0 (ap (λ (t : Bool). cond (not t) (channel_written b h.mux bytes) None) polling)
+        by n end.Nack ready direction told = turns n end.Nack Clean None ready.finds.0 refl
+        by n end.Slow ready direction told = turns n end.Slow Clean None ready.finds.0 refl
+        by n end.Refused ready direction told = turns n end.Refused Clean None ready.finds.0 refl
+        by n end.Proto ready direction told = turns n end.Proto Clean None ready.finds.0 refl
+        by n (end.Cut q) ready direction told =
+            failed-reads b v h.mux h.on hop.home (own_select (is_arbitrator h.kind) h n (v h.on) ready.finds.0) (sent_told b reading bytes (end.Cut q)) old so held marks ready.may_fail ready.owns.1 m
+
+    clear-reads : (on mux : ℕ) (kind : MuxKind) (left : ℕ) → MaySend b whose (Clear on mux kind) left marks held v → (reading : Bool) → reading ≡ false → (bytes : List ℕ) (e : End)
+        → (e ≡ end.Ok → TellsWritten (Clear on mux kind) left reading bytes) → (m : ℕ)
+        → Reads b (after_job (Clear on mux kind) left marks (Sent e bytes) v) (after_told mux (sent_told b reading bytes e) old) m
+    clear-reads on mux kind left may reading writing bytes e written m = by e written
+      where
+        turns : (x : End) → sent_told b reading bytes x mux ≡ None → Reads b (turned v on mux Clean None) (after_told mux (sent_told b reading bytes x) old) m
+        turns x told = turned-reads b v mux on may.finds.1 (own_open mux (v on).slot may.finds.0) (sent_told b reading bytes x) old so Clean None told m
+
+        by : (x : End) → (x ≡ end.Ok → TellsWritten (Clear on mux kind) left reading bytes)
+            → Reads b (after_job (Clear on mux kind) left marks (Sent x bytes) v) (after_told mux (sent_told b reading bytes x) old) m
+        by end.Ok told =
+            turns end.Ok (ap (λ (t : Bool). cond (not t) (channel_written b mux bytes) None) writing ∙ ap (channel_written b mux) (told refl refl) ∙ close_channel b mux)
+        by end.Nack told = turns end.Nack refl
+        by end.Slow told = turns end.Slow refl
+        by end.Refused told = turns end.Refused refl
+        by end.Proto told = turns end.Proto refl
+        by (end.Cut q) told =
+            failed-reads b v mux on may.finds.1 (own_open mux (v on).slot may.finds.0) (sent_told b reading bytes (end.Cut q)) old so held marks may.may_fail may.owns.1 m
+
+    sent-reads : (job : Job) (left : ℕ) → MaySend b whose job left marks held v → (reading : Bool) → reading ≡ (message_of b job left).reading → (bytes : List ℕ) (e : End)
+        → (e ≡ end.Ok → TellsWritten job left reading bytes) → (m : ℕ)
+        → Reads b (after_job job left marks (Sent e bytes) v) (λ n. cond (switches n (job_purpose job)) (sent_told b reading bytes e n) (old n)) m
+    sent-reads (Call bus ms) left may reading is bytes e written m = so m
+    sent-reads (Select h) left may reading is bytes e written m = select-reads h left may reading is bytes e written m
+    sent-reads (Clear on mux kind) left may reading is bytes e written m = clear-reads on mux kind left may reading is bytes e written m
+
+  lined-reads : (job : Job) → MayShift b job marks held v → (failed : Bool) → (m : ℕ)
+      → Reads b (after_job job zero marks (Lined failed) v) (after_told (line_mux job) (lined_told b (line_level job) failed) old) m
+  lined-reads (Call bus ms) may failed m = absurd (let f : false ≡ true = may.by_line in cc)
+  lined-reads (Select h) may true m =
+      failed-reads b v h.mux h.on (tree.hop h.bus h may.finds.1).home (own_select (is_arbitrator h.kind) h zero (v h.on) may.finds.0) (lined_told b (select_value h.kind h.channel) true) old so held marks may.may_fail may.owns.1 m
+  lined-reads (Select h) may false m =
+      turned-reads b v h.mux h.on (tree.hop h.bus h may.finds.1).home (own_select (is_arbitrator h.kind) h zero (v h.on) may.finds.0) (lined_told b (select_value h.kind h.channel) false) old so Clean (Some h.channel)
+      (select_channel b plain h (tree.hop h.bus h may.finds.1) (tree.within h.bus h may.finds.2 may.finds.1)) m
+  lined-reads (Clear on mux kind) may true m =
+      failed-reads b v mux on may.finds.1 (own_open mux (v on).slot may.finds.0) (lined_told b close_value true) old so held marks may.may_fail may.owns.1 m
+  lined-reads (Clear on mux kind) may false m =
+      turned-reads b v mux on may.finds.1 (own_open mux (v on).slot may.finds.0) (lined_told b close_value false) old so Clean None (close_channel b mux) m
+
+-- EVERY PAST
+module _ (b : BoardView) (tree : IsTree b) (plain : IsPlainBoard b) (lines : LinesAreLocked b) (asks : Asks) (some : AsksForMessages asks) (callers : ℕ) where
+  pub kept-reads : (past : List Entry) → IsStepwise b callers asks past → (m : ℕ) → Reads b (now b asks past).slot (kept_left b past) m
+  kept-reads [] steps m = inr refl
+  kept-reads (entry.Take c l ∷ past) steps m = kept-reads past steps.1 m
+  kept-reads (entry.Free c l ∷ past) steps m = kept-reads past steps.1 m
+  kept-reads (entry.Settle c r cut ∷ past) steps m = kept-reads past steps.1 m
+  kept-reads (entry.Line c mux level failed ∷ past) steps m =
+      let n : Now = now b asks past in
+      let note : Note = first_note (current b asks n c) in
+      let job : Job = steps.0.2.0 in
+      let tells = steps.0.2.2 in
+      subst (λ (i : ℕ). Reads b (now b asks (entry.Line c mux level failed ∷ past)).slot (after_told i (lined_told b level failed) (kept_left b past)) m) (sym tells.of_mux)
+      (subst (λ (i : ℕ). Reads b (now b asks (entry.Line c mux level failed ∷ past)).slot (after_told (line_mux job) (lined_told b i failed) (kept_left b past)) m) (sym tells.to_level)
+      (subst (λ (o : Option Act). Reads b (lined_by b n o note failed).slot (after_told (line_mux job) (lined_told b (line_level job) failed) (kept_left b past)) m) (sym steps.0.2.1)
+      (lined-reads b tree plain n.slot (kept_left b past) (kept-reads past steps.1) (n.held c) note.marks job
+      (shifts b tree plain lines asks some callers past steps.1 c job steps.0.2.1) failed m)))
+  kept-reads (entry.Message c bus why part parts addr reading bytes heard e ∷ past) steps m =
+      let n : Now = now b asks past in
+      let note : Note = first_note (current b asks n c) in
+      let job : Job = steps.0.2.0 in
+      let left : ℕ = steps.0.2.1 in
+      let tells = steps.0.2.3 in
+      subst (λ (w : Purpose). Reads b (now b asks (entry.Message c bus why part parts addr reading bytes heard e ∷ past)).slot (λ i. cond (switches i w) (sent_told b reading bytes e i) (kept_left b past i)) m)
+      (sym tells.for_purpose)
+      (subst (λ (o : Option Act). Reads b (sent_by b n c o note reading bytes e).slot (λ i. cond (switches i (job_purpose job)) (sent_told b reading bytes e i) (kept_left b past i)) m) (sym steps.0.2.2)
+      (sent-reads b tree plain n.slot (kept_left b past) (kept-reads past steps.1) (n.held c) note.marks _ job left
+      (sends b tree plain lines asks some callers past steps.1 c job left steps.0.2.2) reading tells.in_direction bytes e
+      (λ ok writes. tells.bytes_told ∙ talk-writes world_listener (cut_of e) (block_limit b) (n.worlds (root_of b (job_bus job))) (message_of b job left) (is_last job left) writes (sym tells.end_told ∙ ok)) m))
