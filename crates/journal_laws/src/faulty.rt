@@ -1,13 +1,13 @@
 //! Port calls that fail: what they mark stays marked until it is closed, and what they cut.
 ghost use Rattle.std.specs.List.{sum_by, range_with_len};
-ghost use Rattle.std.specs.Prelude.{length, ◌≡◌, ℕ, ◌≤◌, ◌⊎◌, List, ◌∷◌, ◌++◌, Some};
+ghost use Rattle.std.specs.Prelude.{length, ◌≡◌, ℕ, ◌≤◌, ◌⊎◌, List, ◌∷◌, ◌++◌, Some, None};
 ghost use Rattle.i2c_base.specs.Board.{BoardView};
 ghost use Rattle.i2c_base.specs.declared.entry.Entry.{Entry};
 ghost use Rattle.i2c_spec.specs.Plain.{IsPlainBoard};
 ghost use Rattle.i2c_spec.specs.Rules.{MeetsRules};
 ghost use Rattle.i2c_spec.specs.History.{Asks};
 ghost use Rattle.bus_spec.specs.Readings.{OfMessage};
-ghost use Rattle.bus_spec.specs.Past.{calls_of, mark};
+ghost use Rattle.bus_spec.specs.Past.{calls_of, kept_channel, mark};
 ghost use Rattle.bus_spec.specs.Stepwise.{IsStepwise};
 ghost use Rattle.bus_spec.specs.Legal.{IsLegal};
 ghost use Rattle.bus_laws.specs.Reach.{AsksForMessages, AsksWithinLimits};
@@ -17,16 +17,22 @@ ghost use Rattle.journal_laws.specs.Faulty.{HasClosed, NoneCloses, PassesBy, Kee
 use i2c_spec::an_accepted_board_is_a_tree;
 
 /// A mark stays, whoever steps and whatever fails, until a close of the marked mux was sent without failing by the port; and
-/// until then no message goes through a mux on its bus.
+/// until then no message goes through a mux on its bus. A marked mux keeps no channel, and behind such a close it has none
+/// either: which one it had open before is forgotten.
 ///
-/// A mux that may be open is the mark of its bus, by the law on open muxes. A journal whose entries need not come where they do
-/// could select over the mark; and what a step finds on its bus is known only on an accepted board, of transfers with a
-/// message. The legal form has one premise more, that of the law that a legal journal is stepwise.
+/// A mux that may be open is the mark of its bus, by the law on what a mux keeps. A journal whose entries need not come where
+/// they do could select over the mark, or close a mux on another bus; and what a step finds on its bus is known only on an
+/// accepted board, of transfers with a message. The legal form has one premise more, that of the law that a legal journal is
+/// stepwise.
 pub fn a_mark_stays_until_its_mux_is_closed()
     ensures stays { (b : BoardView) (callers : ℕ) (asks : Asks) (e : Entry) (past : List Entry) → IsPlainBoard b → MeetsRules b → AsksForMessages asks → IsStepwise b callers asks (e ∷ past)
         → (p m : ℕ) → mark b asks past p ≡ Some m → (mark b asks (e ∷ past) p ≡ Some m) ⊎ HasClosed b asks p m e past }
     ensures passed_by { (b : BoardView) (callers : ℕ) (asks : Asks) (e : Entry) (later past : List Entry) → IsPlainBoard b → MeetsRules b → AsksForMessages asks
         → IsStepwise b callers asks (e ∷ (later ++ past)) → (p m : ℕ) → mark b asks past p ≡ Some m → NoneCloses b asks p m later past → OfMessage (PassesBy b p) e }
+    ensures unkept { (b : BoardView) (callers : ℕ) (asks : Asks) (past : List Entry) → IsPlainBoard b → MeetsRules b → AsksForMessages asks → IsStepwise b callers asks past
+        → (p m : ℕ) → mark b asks past p ≡ Some m → kept_channel b asks past m ≡ None }
+    ensures closed { (b : BoardView) (callers : ℕ) (asks : Asks) (e : Entry) (past : List Entry) → IsPlainBoard b → MeetsRules b → AsksForMessages asks → IsStepwise b callers asks (e ∷ past)
+        → (p m : ℕ) → HasClosed b asks p m e past → kept_channel b asks (e ∷ past) m ≡ None }
     ensures legal { (b : BoardView) (callers : ℕ) (asks : Asks) (more : List Entry) (e : Entry) (later past : List Entry) → IsPlainBoard b → MeetsRules b → AsksForMessages asks → AsksWithinLimits asks
         → IsLegal b callers asks (more ++ e ∷ (later ++ past)) → (p m : ℕ) → mark b asks past p ≡ Some m → NoneCloses b asks p m later past → OfMessage (PassesBy b p) e }
 {

@@ -1,5 +1,5 @@
--- Each mark is on the bus that its mux stands on, and that is a bus of the board. The inductions go over the muxes, the
--- marks of one step, and the entries.
+-- Each mark is on the bus that its mux stands on, that is a bus of the board, and the mux keeps no channel. The inductions
+-- go over the muxes, the marks of one step, and the entries.
 use Rattle.std.proofs.Common.{◌≡◌, ℕ, zero, suc, ◌-◌, ◌<◌, Bool, true, false, cond, List, [], ◌∷◌, length, reverse, get_or, Option, Some, None, eqb, refl, sym, ◌∙◌, ap, subst, inl, inr, arith}
 use Rattle.std.proofs.lemmas.Bool.Decides.{eqb_tells}
 use Rattle.std.proofs.lemmas.List.{get_or-reverse, length-reverse}
@@ -19,13 +19,14 @@ use Rattle.i2c_spec.proofs.HopLemmas.{buses_of-cons, buses_of-reverse}
 use Rattle.bus_spec.specs.Walk.{Mark, Job, Call, Select, Clear, Act, Send, Shift, ActOutcome, Passed, Sent, Lined, Note, WalkTree, first_byte}
 use Rattle.bus_spec.specs.Slots.{Slots, At, MuxSlot, Clean, Marked, Polled, Found, mark_in, turned, turned_at, set_marks, polled_slot, select_told, after_select, after_clear, after_job}
 use Rattle.bus_spec.specs.Grammar.{first_note}
-use Rattle.bus_spec.specs.Past.{Now, current, now, mark, sent_by, lined_by}
+use Rattle.bus_spec.specs.Past.{Now, current, now, mark, kept_channel, sent_by, lined_by}
 use Rattle.bus_spec.specs.Stepwise.{IsNext, IsStepwise}
 use Rattle.bus_laws.specs.Runs.{CanSend, CanShift, MayFail, MaySend, MayShift, Runs}
 use Rattle.bus_laws.specs.Lines.{LinesAreLocked}
 use Rattle.bus_laws.specs.Stands.{CallerStands}
 use Rattle.bus_laws.specs.Reach.{AsksForMessages}
 use Rattle.bus_laws.proofs.world.BoardFacts.{get_within}
+use Rattle.bus_laws.proofs.world.Slots.{kept_own}
 use Rattle.bus_laws.proofs.tree.Slots.{changed-same, changed-other, marked_slot}
 use Rattle.bus_laws.proofs.past.StandsFacts.{current-stands}
 use Rattle.bus_laws.proofs.past.StandsEntries.{first_is}
@@ -59,15 +60,22 @@ home_there b plain m = by (slice_get b.muxes m) refl
         (listed_home (length b.roots) b.muxes m s plain.planted at)
 
 -- MARKS
--- each is on the bus that its mux stands on
-abbrev AreHome : BoardView → Slots → Type 0
-AreHome b v = (p m : ℕ) → (v p).slot ≡ Marked m → home_of_mux b m ≡ p
+-- a mark on this bus: its mux stands there, and keeps no channel
+abbrev IsHome : BoardView → ℕ → At → ℕ → Type 0
+IsHome b p x m = (home_of_mux b m ≡ p) × (x.kept m ≡ None)
 
-slot_home : (b : BoardView) (v : Slots) (on : ℕ) (x : At) → AreHome b v → ((m : ℕ) → x.slot ≡ Marked m → home_of_mux b m ≡ on) → AreHome b (changed_at v on x)
+abbrev AreHome : BoardView → Slots → Type 0
+AreHome b v = (p m : ℕ) → (v p).slot ≡ Marked m → IsHome b p (v p) m
+
+slot_home : (b : BoardView) (v : Slots) (on : ℕ) (x : At) → AreHome b v → ((m : ℕ) → x.slot ≡ Marked m → IsHome b on x m) → AreHome b (changed_at v on x)
 slot_home b v on x homes own p m at =
     elim (eqb_tells p on) [
-      | inl h ↦ own m (sym (ap (λ (y : At). y.slot) (changed-same v on x)) ∙ ap (λ (q : ℕ). (changed_at v on x q).slot) (sym h.1) ∙ at) ∙ sym h.1
-      | inr h ↦ homes p m (sym (ap (λ (y : At). y.slot) (changed-other v on p x h.1)) ∙ at)
+      | inl h ↦ (let here : changed_at v on x p ≡ x = ap (λ (q : ℕ). changed_at v on x q) h.1 ∙ changed-same v on x in
+          let o = own m (sym (ap (λ (y : At). y.slot) here) ∙ at) in
+          (o.0 ∙ sym h.1, ap (λ (y : At). y.kept m) here ∙ o.1))
+      | inr h ↦ (let there : changed_at v on x p ≡ v p = changed-other v on p x h.1 in
+          let o = homes p m (sym (ap (λ (y : At). y.slot) there) ∙ at) in
+          (o.0, ap (λ (y : At). y.kept m) there ∙ o.1))
     ]
 
 clean_home : (b : BoardView) (v : Slots) (on mux : ℕ) (s : MuxSlot) (c : Option ℕ) → AreHome b v → mark_in s ≡ None → AreHome b (turned v on mux s c)
@@ -78,7 +86,8 @@ marks_home : (b : BoardView) (held : List LockId) (w : Slots) (ms : List Mark) (
 marks_home b held w [] v fail homes = homes
 marks_home b held w (k ∷ ms) v fail homes =
     slot_home b (set_marks ms v) k.on (turned_at (v k.on) k.mux (Marked k.mux) None) (marks_home b held w ms v fail.1 homes)
-    (λ m e. subst (λ (i : ℕ). home_of_mux b i ≡ k.on) (let f : Marked k.mux ≡ Marked m = e in cc) fail.0.at_home)
+    (λ m e. (let same : k.mux ≡ m = (let f : Marked k.mux ≡ Marked m = e in cc) in
+    (subst (λ (i : ℕ). home_of_mux b i ≡ k.on) same fail.0.at_home, kept_own (v k.on).kept k.mux m None (sym same))))
 
 pub poll_unmarked : (h : Hop) (left : ℕ) (bytes : List ℕ) → mark_in (polled_slot h left bytes) ≡ None
 poll_unmarked h zero bytes = by (eqb (first_byte bytes) 0)
@@ -171,8 +180,13 @@ module _ (b : BoardView) (tree : IsTree b) (plain : IsPlainBoard b) (lines : Lin
       (now b asks past).slot (marks-home past steps.1) steps.0.2.0 0 (Lined failed))
 
   pub mark-home : (past : List Entry) → IsStepwise b callers asks past → (p m : ℕ) → mark b asks past p ≡ Some m → home_of_mux b m ≡ p
-  mark-home past steps p m at = marks-home past steps p m (marked_slot ((now b asks past).slot p).slot m at)
+  mark-home past steps p m at = (marks-home past steps p m (marked_slot ((now b asks past).slot p).slot m at)).0
+
+  pub mark-keeps-none : (past : List Entry) → IsStepwise b callers asks past → (p m : ℕ) → mark b asks past p ≡ Some m → kept_channel b asks past m ≡ None
+  mark-keeps-none past steps p m at =
+      let home = marks-home past steps p m (marked_slot ((now b asks past).slot p).slot m at) in
+      ap (λ (q : ℕ). ((now b asks past).slot q).kept m) home.0 ∙ home.1
 
   pub mark-there : (past : List Entry) → IsStepwise b callers asks past → (p m : ℕ) → mark b asks past p ≡ Some m → p < buses b
   mark-there past steps p m at =
-      subst (λ (i : ℕ). i < buses b) (marks-home past steps p m (marked_slot ((now b asks past).slot p).slot m at)) (home_there b plain m)
+      subst (λ (i : ℕ). i < buses b) (mark-home past steps p m at) (home_there b plain m)
