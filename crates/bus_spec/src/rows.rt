@@ -7,6 +7,7 @@ ghost use Rattle.i2c_base.specs.declared.reply.Cut.TheVariants as cut;
 ghost use Rattle.i2c_spec.specs.History.{history};
 ghost use Rattle.i2c_base.specs.declared.ids.LockId.TheVariants as lock;
 ghost use Rattle.bus_spec.specs.Readings.{holder, order};
+ghost use Rattle.bus_spec.specs.Places.{kept_left};
 ghost use Rattle.bus_spec.specs.Play.{played, transfers_of, none_fails, fails_at};
 ghost use Rattle.bus_spec.specs.Rows as row;
 
@@ -127,4 +128,20 @@ pub fn two_muxes_keep_their_channels()
 pub fn a_failed_select_forgets_the_channel()
     ensures { played (row.keeping row.parent) (transfers_of ((row.read 1 0x30 0 ∷ row.read 2 0x31 0 ∷ row.read 1 0x30 0 ∷ []) ∷ [])) (fails_at 0 9)
         (replicate 30 0) ≡ row.forgotten_journal }
+{}
+
+/// A mux keeps the channel of its last select, until another channel is selected, the mux is closed, or a select fails or
+/// isn't acknowledged.
+///
+/// Each mux on a bus keeps a channel of its own. That of a gpio mux is told by the level of its line. A poll opens none.
+pub fn a_mux_keeps_the_channel_of_its_last_select()
+    ensures each { (kept_left row.three_beside (reverse row.beside_journal) 0 ∷ kept_left row.three_beside (reverse row.beside_journal) 1 ∷ kept_left row.three_beside (reverse row.beside_journal) 2 ∷ [])
+        ≡ Some 0 ∷ Some 0 ∷ None ∷ [] }
+    ensures selected { kept_left row.three_beside (reverse (take 19 row.beside_journal)) 2 ≡ Some 0 }
+    ensures another { kept_left (row.keeping row.parent) (reverse row.kept_journal) 0 ≡ Some 1 }
+    ensures failed { kept_left (row.keeping row.parent) (reverse (take 11 row.forgotten_journal)) 0 ≡ None }
+    ensures mended { kept_left (row.keeping row.parent) (reverse row.forgotten_journal) 0 ≡ Some 0 }
+    ensures nobody { (kept_left row.absent_inner (reverse (take 5 row.absent_inner_journal)) 0 ∷ kept_left row.absent_inner (reverse (take 5 row.absent_inner_journal)) 1 ∷ []) ≡ Some 0 ∷ None ∷ [] }
+    ensures line { (kept_left row.gpio (reverse (take 3 row.gpio_journal)) 0 ∷ kept_left row.gpio (reverse row.gpio_journal) 0 ∷ []) ≡ Some 1 ∷ None ∷ [] }
+    ensures polled { (kept_left (row.arbitrator 7) (reverse (take 10 row.arbitrator_journal)) 0 ∷ kept_left (row.arbitrator 7) (reverse (take 11 row.arbitrator_journal)) 0 ∷ []) ≡ None ∷ Some 0 ∷ [] }
 {}

@@ -132,3 +132,47 @@ one_after_the_other =
     row.take_mux 0 0 ∷ row.take_bus 0 ∷ row.control 0 0 0 0x70 1 ∷ row.free_bus 0 ∷ row.take_bus 0 ∷ row.reads 0 1 0x30 0 0x11 1
     ++ row.free_bus 0 ∷ row.take_bus 0 ∷ row.control 0 0 0 0x70 0 ∷ row.free_bus 0 ∷ row.free_mux 0 0
     ∷ row.take_bus 1 ∷ row.reads 1 0 0x20 5 0x7e 0 ++ row.free_bus 1 ∷ []
+
+-- MUXES THAT STAY AS THEY ARE. The first channel is read behind, then the second, then the first again
+abbrev pub keeping : BoardView
+keeping = row.keeping row.parent
+
+abbrev pub keep_asks : Asks
+keep_asks = transfers_of ((row.read 1 0x30 0 ∷ row.read 2 0x31 0 ∷ row.read 1 0x30 0 ∷ []) ∷ [])
+
+abbrev pub first_kept : List Entry
+first_kept = row.take_mux 0 0 ∷ row.take_bus 0 ∷ row.control 0 0 0 0x70 1 ∷ row.reads 0 1 0x30 0 0x11 1 ++ row.free_bus 0 ∷ row.free_mux 0 0 ∷ []
+
+-- the second channel is kept, and the third transfer has taken its locks: no rule is broken yet. Then it sends its message,
+-- as if the first channel were still kept
+abbrev pub behind_another_channel : List Entry
+behind_another_channel =
+    reverse (first_kept ++ row.take_mux 0 0 ∷ row.take_bus 0 ∷ row.control 0 0 0 0x70 2 ∷ row.nobody 0 2 0x31 ++ row.free_bus 0 ∷ row.free_mux 0 0
+    ∷ row.take_mux 0 0 ∷ row.take_bus 0 ∷ [])
+
+abbrev pub select_left_out : List Entry
+select_left_out = entry.Message 0 1 purpose.Call 1 2 0x30 false [] None end.Nack ∷ behind_another_channel
+
+-- the second select fails by the port, and the third transfer has taken its locks. It sends its message as if there were no
+-- mark; or it closes the mux, and then sends it as if the first channel were still kept
+abbrev pub behind_a_failed_select : List Entry
+behind_a_failed_select = reverse (take 16 row.forgotten_journal)
+
+abbrev pub kept_over_the_mark : List Entry
+kept_over_the_mark = asks_register 0 1 0x30 0 1 ∷ behind_a_failed_select
+
+abbrev pub kept_over_the_close : List Entry
+kept_over_the_close = entry.Message 0 1 purpose.Call 1 2 0x30 false [] None end.Nack ∷ row.control 0 0 0 0x70 0 ∷ behind_a_failed_select
+
+-- what asks twice for the same channel selects it twice; or the mux is deselected
+abbrev pub same_asks : Asks
+same_asks = transfers_of ((row.read 1 0x30 0 ∷ row.read 1 0x30 0 ∷ []) ∷ [])
+
+abbrev pub behind_the_kept_channel : List Entry
+behind_the_kept_channel = reverse (first_kept ++ row.take_mux 0 0 ∷ row.take_bus 0 ∷ [])
+
+abbrev pub selected_again : List Entry
+selected_again = row.control 0 0 0 0x70 1 ∷ behind_the_kept_channel
+
+abbrev pub deselected : List Entry
+deselected = row.control 0 0 0 0x70 0 ∷ reverse (take 6 first_kept)

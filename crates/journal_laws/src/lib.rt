@@ -47,11 +47,12 @@ pub use walk_rows::{
     an_arbitrator_is_asked_and_a_line_is_shifted, these_are_no_walks, these_are_walks,
 };
 pub use wrong::{
-    a_closed_channel_lets_nothing_through, a_failed_message_tells_its_part, a_forgotten_mark,
-    a_line_tells_its_mux, a_lock_is_taken_by_one_caller, a_marked_mux_is_closed_first,
-    a_message_tells_its_direction, a_message_tells_its_part, a_message_tells_its_target,
-    a_mux_is_deselected, a_mux_locked_mux_frees_its_root, a_schedule_is_not_ignored,
-    a_select_is_a_transfer_of_its_own, a_settle_comes_at_once, another_message_stands_outside,
-    locks_are_taken_towards_the_root, no_select_before_the_close, nobody_steps_before_a_settle,
-    the_lock_is_held_through_a_transfer,
+    a_closed_channel_lets_nothing_through, a_failed_message_tells_its_part,
+    a_failed_select_forgets_what_was_kept, a_forgotten_mark, a_line_tells_its_mux,
+    a_lock_is_taken_by_one_caller, a_marked_mux_is_closed_first, a_message_tells_its_direction,
+    a_message_tells_its_part, a_message_tells_its_target, a_mux_is_deselected,
+    a_mux_locked_mux_frees_its_root, a_mux_that_stays_is_left_alone, a_schedule_is_not_ignored,
+    a_select_is_a_transfer_of_its_own, a_settle_comes_at_once, another_channel_is_selected_first,
+    another_message_stands_outside, locks_are_taken_towards_the_root, no_select_before_the_close,
+    nobody_steps_before_a_settle, the_lock_is_held_through_a_transfer,
 };

@@ -6,14 +6,17 @@ ghost use Rattle.journal_laws.specs.Worked.{IsWorkedOut};
 
 use bus_spec::{
     a_failed_close_fails_its_transfer, a_failed_deselect_is_mended_by_a_close,
-    a_failed_way_marks_both_muxes, a_held_arbitrator_is_given_up_after_eight_polls,
+    a_failed_select_forgets_the_channel, a_failed_way_marks_both_muxes,
+    a_held_arbitrator_is_given_up_after_eight_polls, a_kept_channel_is_not_selected_again,
     a_mux_locked_read_lets_another_in, a_parent_locked_read_lets_nobody_in,
     an_absent_inner_mux_settles_at_its_select, an_arbitrator_is_found_free_at_the_eighth_poll,
+    two_muxes_keep_their_channels,
 };
 use i2c_spec::an_accepted_board_is_a_tree;
 
 /// Each worked journal is legal and complete for its scripts, and follows its schedule: two callers that come in between
-/// each other or wait, a mux that is absent, an arbitrator that is found free or held, and port calls that fail.
+/// each other or wait, a mux that is absent, an arbitrator that is found free or held, muxes that keep their channels, and
+/// port calls that fail.
 ///
 /// None of them has a premise.
 pub fn the_worked_journals_keep_every_rule()
@@ -27,6 +30,9 @@ pub fn the_worked_journals_keep_every_rule()
     ensures two_marks { IsWorkedOut row.absent_outer ((row.read 9 0x20 0 ∷ row.read 9 0x20 0 ∷ []) ∷ []) [] row.two_marks_journal }
     ensures failed_way { IsWorkedOut row.chain ((row.read 13 0x40 0 ∷ []) ∷ []) []
         (played row.chain (transfers_of ((row.read 13 0x40 0 ∷ []) ∷ [])) (fails_at 0 18) (replicate 60 0)) }
+    ensures kept { IsWorkedOut (row.keeping row.parent) ((row.read 1 0x30 0 ∷ row.read 1 0x30 0 ∷ row.read 2 0x31 0 ∷ []) ∷ []) [] row.kept_journal }
+    ensures beside { IsWorkedOut row.three_beside ((row.read 1 0x30 0 ∷ row.read 9 0x31 0 ∷ row.read 13 0x32 0 ∷ row.read 1 0x30 0 ∷ row.read 9 0x30 0 ∷ []) ∷ []) [] row.beside_journal }
+    ensures forgotten { IsWorkedOut (row.keeping row.parent) ((row.read 1 0x30 0 ∷ row.read 2 0x31 0 ∷ row.read 1 0x30 0 ∷ []) ∷ []) [] row.forgotten_journal }
 {
     an_accepted_board_is_a_tree();
     a_mux_locked_read_lets_another_in();
@@ -37,4 +43,7 @@ pub fn the_worked_journals_keep_every_rule()
     a_failed_deselect_is_mended_by_a_close();
     a_failed_close_fails_its_transfer();
     a_failed_way_marks_both_muxes();
+    a_kept_channel_is_not_selected_again();
+    two_muxes_keep_their_channels();
+    a_failed_select_forgets_the_channel();
 }

@@ -61,6 +61,10 @@ a-switch : (kind : MuxKind) (n : ℕ) (bus addr : ℕ) (lock : LockMode) (absent
     → IsPlainMux (row.mux kind bus addr n lock absent)
 a-switch kind n bus addr lock absent named channels chip foreign = record { channels = channels; chip = chip; address = named; foreign = foreign }
 
+a-staying : (kind : MuxKind) (n : ℕ) (bus addr : ℕ) (lock : LockMode) → IsTargetAddress addr → FitsChannels kind n → FitsChip kind (Some addr) false → FitsForeign kind 0
+    → IsPlainMux (row.as_is kind bus addr n lock)
+a-staying kind n bus addr lock named channels chip foreign = record { channels = channels; chip = chip; address = named; foreign = foreign }
+
 both-devices : AllByRecursion IsPlainDevice row.two_devices
 both-devices = (a-device 0 0x20 5 0x7e (omega arith, omega arith) (omega arith) (omega arith), (a-device 1 0x30 0 0x11 (omega arith, omega arith) (omega arith) (omega arith), tt))
 
@@ -117,3 +121,22 @@ arbitrator-plain foreign few =
 
 pub arbitrator-rules : (foreign : ℕ) → MeetsRules (row.arbitrator foreign)
 arbitrator-rules foreign = record { addresses = no-pair _ _ refl; depths = none-of _ _ refl; locks = none-of _ _ refl; parents = none-of _ _ refl; idles = none-of _ _ refl }
+
+pub keeping-plain : IsPlainBoard (row.keeping row.parent)
+keeping-plain =
+    plain (row.as_is Pca9548 0 0x70 8 Parent ∷ []) row.two_devices (omega arith) (omega arith)
+    (a-staying Pca9548 8 0 0x70 Parent (omega arith, omega arith) refl refl refl, tt) both-devices (omega arith, tt) (omega arith, (omega arith, tt))
+
+pub keeping-rules : MeetsRules (row.keeping row.parent)
+keeping-rules = record { addresses = no-pair _ _ refl; depths = none-of _ _ refl; locks = none-of _ _ refl; parents = none-of _ _ refl; idles = none-of _ _ refl }
+
+pub three-beside-plain : IsPlainBoard row.three_beside
+three-beside-plain =
+    plain (row.as_is Pca9548 0 0x70 8 Parent ∷ row.as_is Pca9546 0 0x71 4 Parent ∷ row.mux Pca9546 0 0x72 4 Parent false ∷ [])
+    (row.regs 1 0x30 0 0x11 ∷ row.regs 9 0x31 0 0x22 ∷ row.regs 13 0x32 0 0x33 ∷ []) (omega arith) (omega arith)
+    (a-staying Pca9548 8 0 0x70 Parent (omega arith, omega arith) refl refl refl, (a-staying Pca9546 4 0 0x71 Parent (omega arith, omega arith) refl refl refl, (a-switch Pca9546 4 0 0x72 Parent false (omega arith, omega arith) refl refl refl, tt)))
+    (a-device 1 0x30 0 0x11 (omega arith, omega arith) (omega arith) (omega arith), (a-device 9 0x31 0 0x22 (omega arith, omega arith) (omega arith) (omega arith), (a-device 13 0x32 0 0x33 (omega arith, omega arith) (omega arith) (omega arith), tt)))
+    (omega arith, (omega arith, (omega arith, tt))) (omega arith, (omega arith, (omega arith, tt)))
+
+pub three-beside-rules : MeetsRules row.three_beside
+three-beside-rules = record { addresses = no-pair _ _ refl; depths = none-of _ _ refl; locks = none-of _ _ refl; parents = none-of _ _ refl; idles = none-of _ _ refl }

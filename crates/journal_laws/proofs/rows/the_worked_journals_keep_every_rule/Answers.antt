@@ -4,7 +4,7 @@ use Rattle.bus_spec.specs.Past.{now}
 use Rattle.bus_spec.specs.Play.{played, transfers_of, none_fails, fails_at}
 use Rattle.bus_spec.specs.Rows as row
 use Rattle.flat_laws.specs.Ends.{IsDone}
-use Rattle.journal_laws.proofs.worked.Boards.{mux-locked-plain, mux-locked-rules, parent-locked-plain, parent-locked-rules, absent-inner-plain, absent-inner-rules, absent-outer-plain, absent-outer-rules, chain-plain, chain-rules, arbitrator-plain, arbitrator-rules, read-within}
+use Rattle.journal_laws.proofs.worked.Boards.{mux-locked-plain, mux-locked-rules, parent-locked-plain, parent-locked-rules, absent-inner-plain, absent-inner-rules, absent-outer-plain, absent-outer-rules, chain-plain, chain-rules, arbitrator-plain, arbitrator-rules, keeping-plain, keeping-rules, three-beside-plain, three-beside-rules, read-within}
 use Rattle.journal_laws.proofs.worked.Checks.{only-one, only-two}
 use Rattle.journal_laws.proofs.worked.Rows.{IsAskable, worked-out}
 use Rattle.journal_laws.proofs.rows.the_worked_journals_keep_every_rule.Goals as goal
@@ -33,4 +33,10 @@ returns c =
           (fails_at 0 0) (replicate 20 0) refl row.two_marks_journal c.a_failed_way_marks_both_muxes.ensures (only-one (IsDone (transfers_of ((row.read 9 0x20 0 ∷ row.read 9 0x20 0 ∷ []) ∷ [])) (now row.absent_outer (transfers_of ((row.read 9 0x20 0 ∷ row.read 9 0x20 0 ∷ []) ∷ [])) (reverse row.two_marks_journal))) (refl, refl)) ([]) refl;
       failed_way = worked-out row.chain (c.an_accepted_board_is_a_tree.ensures row.chain chain-plain chain-rules) chain-plain chain-rules ((row.read 13 0x40 0 ∷ []) ∷ []) (((asked 13 0x40 0 (omega arith)), tt), tt)
           (fails_at 0 18) (replicate 60 0) refl (played row.chain (transfers_of ((row.read 13 0x40 0 ∷ []) ∷ [])) (fails_at 0 18) (replicate 60 0)) refl (only-one (IsDone (transfers_of ((row.read 13 0x40 0 ∷ []) ∷ [])) (now row.chain (transfers_of ((row.read 13 0x40 0 ∷ []) ∷ [])) (reverse (played row.chain (transfers_of ((row.read 13 0x40 0 ∷ []) ∷ [])) (fails_at 0 18) (replicate 60 0))))) (refl, refl)) ([]) refl;
+      kept = worked-out (row.keeping row.parent) (c.an_accepted_board_is_a_tree.ensures (row.keeping row.parent) keeping-plain keeping-rules) keeping-plain keeping-rules ((row.read 1 0x30 0 ∷ row.read 1 0x30 0 ∷ row.read 2 0x31 0 ∷ []) ∷ []) (((asked 1 0x30 0 (omega arith)), ((asked 1 0x30 0 (omega arith)), ((asked 2 0x31 0 (omega arith)), tt))), tt)
+          none_fails (replicate 24 0) refl row.kept_journal c.a_kept_channel_is_not_selected_again.ensures (only-one (IsDone (transfers_of ((row.read 1 0x30 0 ∷ row.read 1 0x30 0 ∷ row.read 2 0x31 0 ∷ []) ∷ [])) (now (row.keeping row.parent) (transfers_of ((row.read 1 0x30 0 ∷ row.read 1 0x30 0 ∷ row.read 2 0x31 0 ∷ []) ∷ [])) (reverse row.kept_journal))) (refl, refl)) ([]) refl;
+      beside = worked-out row.three_beside (c.an_accepted_board_is_a_tree.ensures row.three_beside three-beside-plain three-beside-rules) three-beside-plain three-beside-rules ((row.read 1 0x30 0 ∷ row.read 9 0x31 0 ∷ row.read 13 0x32 0 ∷ row.read 1 0x30 0 ∷ row.read 9 0x30 0 ∷ []) ∷ []) (((asked 1 0x30 0 (omega arith)), ((asked 9 0x31 0 (omega arith)), ((asked 13 0x32 0 (omega arith)), ((asked 1 0x30 0 (omega arith)), ((asked 9 0x30 0 (omega arith)), tt))))), tt)
+          none_fails (replicate 40 0) refl row.beside_journal c.two_muxes_keep_their_channels.ensures (only-one (IsDone (transfers_of ((row.read 1 0x30 0 ∷ row.read 9 0x31 0 ∷ row.read 13 0x32 0 ∷ row.read 1 0x30 0 ∷ row.read 9 0x30 0 ∷ []) ∷ [])) (now row.three_beside (transfers_of ((row.read 1 0x30 0 ∷ row.read 9 0x31 0 ∷ row.read 13 0x32 0 ∷ row.read 1 0x30 0 ∷ row.read 9 0x30 0 ∷ []) ∷ [])) (reverse row.beside_journal))) (refl, refl)) ([]) refl;
+      forgotten = worked-out (row.keeping row.parent) (c.an_accepted_board_is_a_tree.ensures (row.keeping row.parent) keeping-plain keeping-rules) keeping-plain keeping-rules ((row.read 1 0x30 0 ∷ row.read 2 0x31 0 ∷ row.read 1 0x30 0 ∷ []) ∷ []) (((asked 1 0x30 0 (omega arith)), ((asked 2 0x31 0 (omega arith)), ((asked 1 0x30 0 (omega arith)), tt))), tt)
+          (fails_at 0 9) (replicate 30 0) refl row.forgotten_journal c.a_failed_select_forgets_the_channel.ensures (only-one (IsDone (transfers_of ((row.read 1 0x30 0 ∷ row.read 2 0x31 0 ∷ row.read 1 0x30 0 ∷ []) ∷ [])) (now (row.keeping row.parent) (transfers_of ((row.read 1 0x30 0 ∷ row.read 2 0x31 0 ∷ row.read 1 0x30 0 ∷ []) ∷ [])) (reverse row.forgotten_journal))) (refl, refl)) ([]) refl;
     }
