@@ -134,8 +134,8 @@ one_after_the_other =
     ∷ row.take_bus 1 ∷ row.reads 1 0 0x20 5 0x7e 0 ++ row.free_bus 1 ∷ []
 
 -- MUXES THAT STAY AS THEY ARE. The first channel is read behind, then the second, then the first again
-abbrev pub keeping : BoardView
-keeping = row.keeping row.parent
+abbrev pub kept_board : BoardView
+kept_board = row.keeping row.parent
 
 abbrev pub keep_asks : Asks
 keep_asks = transfers_of ((row.read 1 0x30 0 ∷ row.read 2 0x31 0 ∷ row.read 1 0x30 0 ∷ []) ∷ [])

@@ -66,20 +66,20 @@ pub fn a_forgotten_mark()
 /// Where a mux that stays as it is keeps another channel, no message goes out before a select: the channel that was kept
 /// before isn't kept any more.
 pub fn another_channel_is_selected_first()
-    ensures { (callers : ℕ) → IsLegal wrong.keeping callers wrong.keep_asks wrong.select_left_out → ⊥ }
+    ensures { (callers : ℕ) → IsLegal wrong.kept_board callers wrong.keep_asks wrong.select_left_out → ⊥ }
 {}
 
 /// A channel that was kept is forgotten where a select of its mux fails by the port: no message goes out over the mark, nor
 /// straight behind the close.
 pub fn a_failed_select_forgets_what_was_kept()
-    ensures mark { (callers : ℕ) → IsLegal wrong.keeping callers wrong.keep_asks wrong.kept_over_the_mark → ⊥ }
-    ensures close { (callers : ℕ) → IsLegal wrong.keeping callers wrong.keep_asks wrong.kept_over_the_close → ⊥ }
+    ensures mark { (callers : ℕ) → IsLegal wrong.kept_board callers wrong.keep_asks wrong.kept_over_the_mark → ⊥ }
+    ensures close { (callers : ℕ) → IsLegal wrong.kept_board callers wrong.keep_asks wrong.kept_over_the_close → ⊥ }
 {}
 
 /// A mux that stays as it is is left alone: its kept channel isn't selected again, and it isn't deselected.
 pub fn a_mux_that_stays_is_left_alone()
-    ensures again { (callers : ℕ) → IsLegal wrong.keeping callers wrong.same_asks wrong.selected_again → ⊥ }
-    ensures deselected { (callers : ℕ) → IsLegal wrong.keeping callers wrong.same_asks wrong.deselected → ⊥ }
+    ensures again { (callers : ℕ) → IsLegal wrong.kept_board callers wrong.same_asks wrong.selected_again → ⊥ }
+    ensures deselected { (callers : ℕ) → IsLegal wrong.kept_board callers wrong.same_asks wrong.deselected → ⊥ }
 {}
 
 /// A message to one device is not told as one to its neighbour, though the neighbour would have heard it.

@@ -9,24 +9,24 @@ use Rattle.bus_spec.specs.Legal.{steps_in}
 use Rattle.journal_laws.proofs.past.Follow.{Head, walks-follow, head_in, head_by, head-told}
 use Rattle.bus_spec.specs.Rows as row
 use Rattle.bus_spec.specs.Walk.{Select, Clear, Send}
-use Rattle.journal_laws.specs.Wrong.{keeping, keep_asks, behind_a_failed_select, kept_over_the_mark, kept_over_the_close}
+use Rattle.journal_laws.specs.Wrong.{kept_board, keep_asks, behind_a_failed_select, kept_over_the_mark, kept_over_the_close}
 use Rattle.journal_laws.proofs.wrong.a_failed_select_forgets_what_was_kept.Goals as goal
 
 pub returns : goal.returns
 returns c =
     record {
       mark = λ callers legal.
-          (let steps = walks-follow keeping (keep_asks 0) [] (steps_in keeping keep_asks 0 kept_over_the_mark) (legal.walks 0) in
+          (let steps = walks-follow kept_board (keep_asks 0) [] (steps_in kept_board keep_asks 0 kept_over_the_mark) (legal.walks 0) in
           let told = steps.1.1.1.1.1.1.1.1.1.1.1.1.1.1.1.1.0 in
           let next = Some (Send (Clear 0 0 Pca9548) 0) in
           let m : MessageEntry = record { caller = 0; bus = 1; purpose = purpose.Call; part = 1; parts = 2; addr = 0x30; reading = false; bytes = 0 ∷ []; heard = Some (Device 1); end = end.Ok } in
-          let same : head_in m ≡ head_by keeping next = head-told keeping (now keeping keep_asks behind_a_failed_select) next told.0 told.1 m told.2 told.3 in
+          let same : head_in m ≡ head_by kept_board next = head-told kept_board (now kept_board keep_asks behind_a_failed_select) next told.0 told.1 m told.2 told.3 in
           let f : purpose.Call ≡ purpose.Control 0 = ap (λ (h : Head). h.purpose) same in cc);
       close = λ callers legal.
-          (let steps = walks-follow keeping (keep_asks 0) [] (steps_in keeping keep_asks 0 kept_over_the_close) (legal.walks 0) in
+          (let steps = walks-follow kept_board (keep_asks 0) [] (steps_in kept_board keep_asks 0 kept_over_the_close) (legal.walks 0) in
           let told = steps.1.1.1.1.1.1.1.1.1.1.1.1.1.1.1.1.1.0 in
           let next = Some (Send (Select (record { bus = 1; mux = 0; channel = 0; on = 0; parent = true; stays = true; kind = Pca9548 })) 0) in
           let m : MessageEntry = record { caller = 0; bus = 1; purpose = purpose.Call; part = 1; parts = 2; addr = 0x30; reading = false; bytes = []; heard = None; end = end.Nack } in
-          let same : head_in m ≡ head_by keeping next = head-told keeping (now keeping keep_asks (row.control 0 0 0 0x70 0 ∷ behind_a_failed_select)) next told.0 told.1 m told.2 told.3 in
+          let same : head_in m ≡ head_by kept_board next = head-told kept_board (now kept_board keep_asks (row.control 0 0 0 0x70 0 ∷ behind_a_failed_select)) next told.0 told.1 m told.2 told.3 in
           let f : purpose.Call ≡ purpose.Control 0 = ap (λ (h : Head). h.purpose) same in cc);
     }
