@@ -4,6 +4,7 @@ pub mod StandsStep
 pub mod StandsEntries
 pub mod StandsOpening
 pub mod Laws
+pub mod Closed
 pub mod Marks
 pub mod Asked
 pub mod Whole

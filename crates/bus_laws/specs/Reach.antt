@@ -12,6 +12,7 @@ use Rattle.i2c_spec.specs.World.{opens_hop}
 use Rattle.i2c_spec.specs.History.{Asks}
 use Rattle.bus_spec.specs.Readings.{MessageEntry, OfMessage, holder, Everywhere}
 use Rattle.bus_spec.specs.Past.{mark, kept_channel, world_at}
+use Rattle.bus_spec.specs.Places.{switched_by}
 use Rattle.bus_spec.specs.Tells.{HearsIn}
 use Rattle.bus_laws.specs.Told.{chip_in}
 
@@ -24,12 +25,12 @@ abbrev pub AsksWithinLimits : Asks → Type 0
 AsksWithinLimits asks = (c : ℕ) (rs : List Reply) (t : TransferView) → asks c rs ≡ Some t → IsTransfer t.msgs t.out
 
 -- a mux has exactly the channel open that it keeps, or none where it keeps none, as its chip stands in the world of its root.
--- One that disconnects keeps a channel only while a caller has the lock of its bus
+-- One that disconnects keeps a channel only while the caller that switched it last has the lock of its bus
 pub record KeepsItsChannel (b : BoardView) (asks : Asks) (past : List Entry) (m : ℕ) : Type 0 where
   pub opened : (c : ℕ) → kept_channel b asks past m ≡ Some c → (x : ChipView) × (chip_in b (world_at b asks past) m ≡ Some x) × (is_open x c ≡ true)
   pub only : (c : ℕ) (x : ChipView) → chip_in b (world_at b asks past) m ≡ Some x → is_open x c ≡ true → kept_channel b asks past m ≡ Some c
   pub locked : is_left_open b m ≡ false → (c : ℕ) → kept_channel b asks past m ≡ Some c
-      → (caller : ℕ) × (holder past (lock.Mux (home_of_mux b m)) ≡ Some caller)
+      → (caller : ℕ) × (switched_by past m ≡ Some caller) × (holder past (lock.Mux (home_of_mux b m)) ≡ Some caller)
 
 -- each mux is the mark of its bus, or keeps its channel
 abbrev pub KeepsClosed : BoardView → Asks → List Entry → Type 0

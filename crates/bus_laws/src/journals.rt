@@ -21,8 +21,8 @@ pub fn each_journal_keeps_its_locks()
 }
 
 /// Each mux has exactly the channel open that it keeps, or none where it keeps none; of the mark of a bus alone nothing is
-/// said. A mux that stays as it is may keep a channel while nobody is on the bus; one that disconnects keeps one only while
-/// a caller has the lock of its bus (Linux i2c-topology).
+/// said. A mux that stays as it is may keep a channel while nobody is on the bus. One that disconnects keeps one only while
+/// the caller that selected it has the lock of its bus, between that select and the deselect (Linux i2c-topology).
 ///
 /// On a board that isn't accepted one select could open channels of two muxes. Entries that might not come may free a lock
 /// behind a select. A message in each transfer is what the tree law is shown of.

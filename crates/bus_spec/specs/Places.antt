@@ -18,7 +18,7 @@ use Rattle.i2c_spec.specs.World.{World, after_all, opening_world}
 use Rattle.i2c_spec.specs.History.{Asks}
 use Rattle.bus_spec.specs.Walk.{Mark, Job, Call, Act, Send, Shift, ActOutcome, Passed, Sent, Lined, Note, WalkTree, Ends, job_bus, message_of}
 use Rattle.bus_spec.specs.Grammar.{first_act, first_note, rest_of}
-use Rattle.bus_spec.specs.Readings.{MessageEntry, of_message, caller_of, replies}
+use Rattle.bus_spec.specs.Readings.{of_message, caller_of, replies}
 use Rattle.bus_spec.specs.Past.{now, current, calls_of}
 
 -- the transfer in flight: what a caller asks for after the replies that it has settled before
@@ -87,22 +87,26 @@ abbrev pub channel_written : BoardView → ℕ → List ℕ → Option ℕ
 channel_written b m [] = None
 channel_written b m (byte ∷ bytes) = channel_opened b m byte
 
--- a message to a mux opens a channel where it went through, and was no poll; a line step where it didn't fail
-abbrev pub kept_sent : BoardView → ℕ → MessageEntry → Option ℕ
-kept_sent b m e = if is_good e.end && not e.reading then channel_written b m e.bytes else None
-
-abbrev pub kept_lined : BoardView → ℕ → ℕ → Bool → Option ℕ
-kept_lined b m level failed = if failed then None else channel_opened b m level
-
+-- a message of a select or a close of a mux, or a step of its line
 abbrev pub switches : ℕ → Purpose → Bool
 switches m purpose.Call = false
 switches m (purpose.Control mux) = mux == m
 
-abbrev pub kept_by : BoardView → ℕ → Entry → Option ℕ → Option ℕ
-kept_by b m (entry.Line c mux level failed) old = if mux == m then kept_lined b m level failed else old
-kept_by b m e old = of_message old (λ x. if switches m x.purpose then kept_sent b m x else old) e
+abbrev pub is_switch_of : ℕ → Entry → Bool
+is_switch_of m (entry.Line c mux level failed) = mux == m
+is_switch_of m e = of_message false (λ x. switches m x.purpose) e
 
--- the channel that a mux keeps: what the last message or line step that switches it tells, by its own bytes or level alone
+-- the caller that switched a mux last
+abbrev pub switched_by : List Entry → ℕ → Option ℕ
+switched_by [] m = None
+switched_by (e ∷ past) m = if is_switch_of m e then Some (caller_of e) else switched_by past m
+
+-- a message to a mux opens a channel where it went through, and was no poll; a line step where it didn't fail
+abbrev pub kept_told : BoardView → ℕ → Entry → Option ℕ
+kept_told b m (entry.Line c mux level failed) = if failed then None else channel_opened b m level
+kept_told b m e = of_message None (λ x. if is_good x.end && not x.reading then channel_written b m x.bytes else None) e
+
+-- the channel that a mux keeps: what the last message or line step that switches it tells, by its own byte or level alone
 abbrev pub kept_left : BoardView → List Entry → ℕ → Option ℕ
 kept_left b [] m = None
-kept_left b (e ∷ past) m = kept_by b m e (kept_left b past m)
+kept_left b (e ∷ past) m = if is_switch_of m e then kept_told b m e else kept_left b past m

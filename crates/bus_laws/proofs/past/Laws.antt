@@ -1,7 +1,6 @@
 -- What every stepwise past keeps. The induction goes over its entries.
-use Rattle.std.proofs.Common.{◌≡◌, ℕ, ◌<◌, Bool, true, false, cond, List, [], ◌∷◌, Option, Some, None, refl, sym, ◌∙◌, ap, subst, ◌⊎◌, inl, inr}
+use Rattle.std.proofs.Common.{◌≡◌, ℕ, zero, ◌<◌, Bool, true, false, cond, List, [], ◌∷◌, Option, Some, None, refl, sym, ◌∙◌, ap, subst, inl, inr}
 use Rattle.std.specs.List.{list_all}
-use Rattle.std.proofs.lemmas.Bool.Decides.{eqb_tells}
 use Rattle.i2c_base.specs.declared.ids.LockId.{LockId}
 use Rattle.i2c_base.specs.declared.ids.LockId.TheVariants as lock
 use Rattle.i2c_base.specs.declared.entry.End.{End}
@@ -10,32 +9,32 @@ use Rattle.i2c_base.specs.declared.entry.Entry.{Entry}
 use Rattle.i2c_base.specs.declared.entry.Entry.TheVariants as entry
 use Rattle.i2c_base.specs.Board.{BoardView}
 use Rattle.i2c_base.specs.Transfer.{TransferView}
-use Rattle.i2c_spec.specs.Tree.{Hop, hops, root_of, home_of_mux, is_left_open, IsAmongHops, IsOver}
+use Rattle.i2c_spec.specs.Tree.{Hop, hops, root_of, IsAmongHops, IsOver}
 use Rattle.i2c_spec.specs.TreeFacts.{IsTree}
 use Rattle.i2c_spec.specs.Plain.{IsPlainBoard}
 use Rattle.i2c_spec.specs.World.{opens_hop}
 use Rattle.i2c_spec.specs.History.{Asks}
-use Rattle.bus_spec.specs.Walk.{Job, Act, Take, Free, Send, Shift, Settle, ActOutcome, Passed, Note, WalkTree, Then, job_bus}
-use Rattle.bus_spec.specs.Slots.{MuxSlot, Clean, Marked, Polled, Found, mark_in, after_job}
+use Rattle.bus_spec.specs.Walk.{Job, Act, Take, Free, Send, Shift, Settle, ActOutcome, Passed, Note, WalkTree, job_bus}
+use Rattle.bus_spec.specs.Slots.{after_job}
 use Rattle.bus_spec.specs.Grammar.{first_act, first_note}
 use Rattle.bus_spec.specs.Readings.{OfMessage, rank, holder, is_lock}
-use Rattle.bus_spec.specs.Past.{Now, current, now, kept_channel, world_at, sent_by, lined_by}
-use Rattle.bus_spec.specs.Stepwise.{IsBelow, May, IsStepwise}
-use Rattle.bus_spec.specs.Tells.{HearsIn}
+use Rattle.bus_spec.specs.Past.{Now, current, now, world_at, sent_by, lined_by}
+use Rattle.bus_spec.specs.Stepwise.{IsBelow, IsNext, May, IsStepwise}
+use Rattle.bus_spec.specs.Tells.{TellsMessage, HearsIn}
 use Rattle.bus_spec.specs.Legal.{LocksAt, KeepsLocks}
-use Rattle.bus_laws.specs.Runs.{InLocks, LeavesShut, CanSend, MaySend, Runs}
+use Rattle.bus_laws.specs.Runs.{InLocks, LeavesShut, CanSend, CanShift, MaySend, MayShift, Runs}
 use Rattle.bus_laws.specs.Lines.{LinesAreLocked}
 use Rattle.bus_laws.specs.Stands.{Stands, CallerStands}
-use Rattle.bus_laws.specs.Reach.{AsksForMessages, KeepsItsChannel, KeepsClosed, HasItsPath, KeepsPathsOpen}
+use Rattle.bus_laws.specs.Reach.{AsksForMessages, HasItsPath, KeepsPathsOpen}
 use Rattle.bus_laws.proofs.world.Law.{path_open}
 use Rattle.bus_laws.proofs.past.StandsFacts.{current-stands}
-use Rattle.bus_laws.proofs.past.StandsStep.{send_known}
+use Rattle.bus_laws.proofs.past.StandsStep.{send_known, shift_known}
 use Rattle.bus_laws.proofs.past.StandsEntries.{first_is, step-stands}
 use Rattle.bus_laws.proofs.past.StandsOpening.{opening-stands}
 use Rattle.bus_laws.proofs.world.Reach.{crossing_hop}
 
 -- what a sent or a lined step leaves of the locks
-sent_holder : (b : BoardView) (n : Now) (c : ℕ) (o : Option Act) (note : Note) (reading : Bool) (bytes : List ℕ) (e : End) (l : LockId)
+pub sent_holder : (b : BoardView) (n : Now) (c : ℕ) (o : Option Act) (note : Note) (reading : Bool) (bytes : List ℕ) (e : End) (l : LockId)
     → (sent_by b n c o note reading bytes e).holder l ≡ n.holder l
 sent_holder b n c None note reading bytes e l = refl
 sent_holder b n c (Some (Take k)) note reading bytes e l = refl
@@ -44,7 +43,7 @@ sent_holder b n c (Some (Send job left)) note reading bytes e l = refl
 sent_holder b n c (Some (Shift job)) note reading bytes e l = refl
 sent_holder b n c (Some (Settle verdict)) note reading bytes e l = refl
 
-lined_holder : (b : BoardView) (n : Now) (o : Option Act) (note : Note) (failed : Bool) (l : LockId) → (lined_by b n o note failed).holder l ≡ n.holder l
+pub lined_holder : (b : BoardView) (n : Now) (o : Option Act) (note : Note) (failed : Bool) (l : LockId) → (lined_by b n o note failed).holder l ≡ n.holder l
 lined_holder b n None note failed l = refl
 lined_holder b n (Some (Take k)) note failed l = refl
 lined_holder b n (Some (Free k)) note failed l = refl
@@ -52,7 +51,6 @@ lined_holder b n (Some (Send job left)) note failed l = refl
 lined_holder b n (Some (Shift job)) note failed l = refl
 lined_holder b n (Some (Settle verdict)) note failed l = refl
 
--- the mux that stands on a bus that is crossed
 -- who has a lock, as the takes and frees tell
 pub holder-told : (b : BoardView) (asks : Asks) (past : List Entry) (l : LockId) → (now b asks past).holder l ≡ holder past l
 holder-told b asks [] l = refl
@@ -65,14 +63,6 @@ holder-told b asks (entry.Line c mux level failed ∷ past) l =
     lined_holder b (now b asks past) (first_act (current b asks (now b asks past) c)) (first_note (current b asks (now b asks past) c)) failed l
     ∙ holder-told b asks past l
 holder-told b asks (entry.Settle c r cut ∷ past) l = holder-told b asks past l
-
--- a mux is the mark of its bus, or it isn't
-marked_or : (s : MuxSlot) (m : ℕ) → (s ≡ Marked m) ⊎ (s ≡ Marked m → ⊥)
-marked_or Clean m = inr (λ e. let f : Clean ≡ Marked m = e in cc)
-marked_or (Marked k) m =
-    elim (eqb_tells k m) [ inl h ↦ inl (ap Marked h.1) | inr h ↦ inr (λ e. h.1 (let f : Marked k ≡ Marked m = e in cc)) ]
-marked_or (Polled h more) m = inr (λ e. let f : Polled h more ≡ Marked m = e in cc)
-marked_or (Found h) m = inr (λ e. let f : Found h ≡ Marked m = e in cc)
 
 pub below_each : (b : BoardView) (l : LockId) (held : List LockId) (k : LockId) → IsBelow b l held → InLocks k held → rank b l < rank b k
 below_each b l [] k below i = absurd i
@@ -89,6 +79,33 @@ module _ (b : BoardView) (tree : IsTree b) (plain : IsPlainBoard b) (lines : Lin
   past-stands [] steps = opening-stands b nobody
   past-stands (e ∷ past) steps =
       step-stands b tree plain lines asks some callers (now b asks past) (past-stands past steps.1) e steps.0
+
+  -- THE NEXT STEP
+  module _ (past : List Entry) (steps : IsStepwise b callers asks past) (c : ℕ) where
+    abbrev n : Now
+    n = now b asks past
+
+    pub cur : CallerStands b (n.held c) (current b asks n c) n.slot
+    cur = current-stands b tree lines asks some n c (past-stands past steps)
+
+    -- what the next message, and the next line step, finds
+    pub sends : (job : Job) (left : ℕ) → IsNext b asks n c (Send job left) → MaySend b cur.whose job left (first_note (current b asks n c)).marks (n.held c) n.slot
+    sends job left next =
+        let at = first_is (current b asks n c) (Send job left) next in
+        let runs : MaySend b cur.whose job left at.0.marks (n.held c) cur.view
+        × ((out : ActOutcome) → CanSend b job left out → Runs b cur.whose (n.held c) (after_job job left at.0.marks out cur.view) (at.1 out)) =
+        subst (λ (w : WalkTree). Runs b cur.whose (n.held c) cur.view w) at.2 cur.runs in
+        subst (λ (w : WalkTree). MaySend b cur.whose job left (first_note w).marks (n.held c) n.slot) (sym at.2)
+        (send_known b (n.held c) cur.view n.slot cur.agree cur.whose job left at.0.marks runs.0)
+
+    pub shifts : (job : Job) → IsNext b asks n c (Shift job) → MayShift b job (first_note (current b asks n c)).marks (n.held c) n.slot
+    shifts job next =
+        let at = first_is (current b asks n c) (Shift job) next in
+        let runs : MayShift b job at.0.marks (n.held c) cur.view
+        × ((out : ActOutcome) → CanShift b job out → Runs b cur.whose (n.held c) (after_job job zero at.0.marks out cur.view) (at.1 out)) =
+        subst (λ (w : WalkTree). Runs b cur.whose (n.held c) cur.view w) at.2 cur.runs in
+        subst (λ (w : WalkTree). MayShift b job (first_note w).marks (n.held c) n.slot) (sym at.2)
+        (shift_known b (n.held c) cur.view n.slot cur.agree job at.0.marks runs.0)
 
   -- LOCKS
   locks_at : (e : Entry) (past : List Entry) → Stands b (now b asks past) → May b callers asks (now b asks past) e → LocksAt b e past
@@ -110,61 +127,34 @@ module _ (b : BoardView) (tree : IsTree b) (plain : IsPlainBoard b) (lines : Lin
   locks-kept [] steps = tt
   locks-kept (e ∷ past) steps = (locks_at e past (past-stands past steps.1) steps.0, locks-kept past steps.1)
 
-  -- CLOSED
-  keeps_channel : (past : List Entry) (m : ℕ) → Stands b (now b asks past) → (((now b asks past).slot (home_of_mux b m)).slot ≡ Marked m → ⊥) → KeepsItsChannel b asks past m
-  keeps_channel past m stands unmarked =
-      record {
-        opened = λ c keeps. (let o = stands.told.told.opened m c keeps in (o.0, o.1, o.2));
-        only = λ c x at opens. elim (stands.told.told.only m c x at opens) [ inl keeps ↦ keeps | inr marked ↦ absurd (unmarked marked) ];
-        locked = λ leaves c keeps. by_holder ((now b asks past).holder (lock.Mux (home_of_mux b m))) refl leaves c keeps;
-      }
-    where
-      by_holder : (o : Option ℕ) → (now b asks past).holder (lock.Mux (home_of_mux b m)) ≡ o → is_left_open b m ≡ false → (c : ℕ) → kept_channel b asks past m ≡ Some c
-          → (caller : ℕ) × (holder past (lock.Mux (home_of_mux b m)) ≡ Some caller)
-      by_holder None none leaves c keeps = absurd (let f : false ≡ true = sym leaves ∙ ((stands.shut (home_of_mux b m) none).stay m c keeps).1 in cc)
-      by_holder (Some k) has leaves c keeps = (k, sym (holder-told b asks past (lock.Mux (home_of_mux b m))) ∙ has)
-
-  pub closed-kept : (past : List Entry) → IsStepwise b callers asks past → KeepsClosed b asks past
-  closed-kept past steps m =
-      elim (marked_or ((now b asks past).slot (home_of_mux b m)).slot m) [
-        | inl marked ↦ inl (ap mark_in marked)
-        | inr unmarked ↦ inr (keeps_channel past m (past-stands past steps) unmarked)
-      ]
-
   -- OPEN PATHS
-  open_at : (e : Entry) (past : List Entry) → Stands b (now b asks past) → May b callers asks (now b asks past) e → OfMessage (HasItsPath b asks past) e
-  open_at (entry.Take c l) past stands may = tt
-  open_at (entry.Free c l) past stands may = tt
-  open_at (entry.Line c mux level failed) past stands may = tt
-  open_at (entry.Settle c r cut) past stands may = tt
-  open_at (entry.Message c bus purpose part parts addr reading bytes heard e) past stands may =
+  open_at : (e : Entry) (past : List Entry) → IsStepwise b callers asks (e ∷ past) → OfMessage (HasItsPath b asks past) e
+  open_at (entry.Take c l) past steps = tt
+  open_at (entry.Free c l) past steps = tt
+  open_at (entry.Line c mux level failed) past steps = tt
+  open_at (entry.Settle c r cut) past steps = tt
+  open_at (entry.Message c bus purpose part parts addr reading bytes heard e) past steps =
       record {
-        path_open = subst (λ (s : ℕ). list_all (opens_hop (world_at b asks past (root_of b s)).chips) (hops b s) ≡ true) (sym may.2.3.on_bus)
-            (path_open b tree plain n.slot n.worlds stands.told (job_bus job) (λ g a. (sends.reached g a).0));
-        heard_told = subst (λ (s : ℕ). HearsIn (world_at b asks past (root_of b s)) addr reading heard e) (sym may.2.3.on_bus) may.2.3.heard_told;
-        rooted = subst (λ (s : ℕ). holder past (lock.Bus (root_of b s)) ≡ Some c) (sym may.2.3.on_bus) (has (lock.Bus (root_of b (job_bus job))) sends.rooted);
-        locked = subst (λ (s : ℕ). (q : ℕ) → IsOver b q s → (q ≡ s → ⊥) → holder past (lock.Mux q) ≡ Some c) (sym may.2.3.on_bus)
-            (λ q on_path other. on_its_path q (job_bus job) on_path other (λ g a. has (lock.Mux g.on) (sends.reached g a).1));
+        path_open = subst (λ (s : ℕ). list_all (opens_hop (world_at b asks past (root_of b s)).chips) (hops b s) ≡ true) (sym tells.on_bus)
+            (path_open b tree plain (now b asks past).slot (now b asks past).worlds stands.told (job_bus job) (λ g a. (may.reached g a).0));
+        heard_told = subst (λ (s : ℕ). HearsIn (world_at b asks past (root_of b s)) addr reading heard e) (sym tells.on_bus) tells.heard_told;
+        rooted = subst (λ (s : ℕ). holder past (lock.Bus (root_of b s)) ≡ Some c) (sym tells.on_bus) (has (lock.Bus (root_of b (job_bus job))) may.rooted);
+        locked = subst (λ (s : ℕ). (q : ℕ) → IsOver b q s → (q ≡ s → ⊥) → holder past (lock.Mux q) ≡ Some c) (sym tells.on_bus)
+            (λ q on_path other. on_its_path q (job_bus job) on_path other (λ g a. has (lock.Mux g.on) (may.reached g a).1));
       }
     where
-      n : Now
-      n = now b asks past
+      stands : Stands b (now b asks past)
+      stands = past-stands past steps.1
 
       job : Job
-      job = may.2.0
+      job = steps.0.2.0
 
-      cur : CallerStands b (n.held c) (current b asks n c) n.slot
-      cur = current-stands b tree lines asks some n c stands
+      tells : TellsMessage b (now b asks past) job steps.0.2.1
+          (record { caller = c; bus = bus; purpose = purpose; part = part; parts = parts; addr = addr; reading = reading; bytes = bytes; heard = heard; end = e })
+      tells = steps.0.2.3
 
-      at : (note : Note) × (next : ActOutcome → WalkTree) × (current b asks n c ≡ Then (Send job may.2.1) note next)
-      at = first_is (current b asks n c) (Send job may.2.1) may.2.2
-
-      runs : MaySend b cur.whose job may.2.1 at.0.marks (n.held c) cur.view
-          × ((out : ActOutcome) → CanSend b job may.2.1 out → Runs b cur.whose (n.held c) (after_job job may.2.1 at.0.marks out cur.view) (at.1 out))
-      runs = subst (λ (w : WalkTree). Runs b cur.whose (n.held c) cur.view w) at.2 cur.runs
-
-      sends : MaySend b cur.whose job may.2.1 at.0.marks (n.held c) n.slot
-      sends = send_known b (n.held c) cur.view n.slot cur.agree cur.whose job may.2.1 at.0.marks runs.0
+      may : MaySend b (cur past steps.1 c).whose job steps.0.2.1 (first_note (current b asks (now b asks past) c)).marks ((now b asks past).held c) (now b asks past).slot
+      may = sends past steps.1 c job steps.0.2.1 steps.0.2.2
 
       on_its_path : (q s : ℕ) → IsOver b q s → (q ≡ s → ⊥) → ((g : Hop) → IsAmongHops g (hops b s) → holder past (lock.Mux g.on) ≡ Some c) → holder past (lock.Mux q) ≡ Some c
       on_its_path q s on_path other locked =
@@ -174,9 +164,9 @@ module _ (b : BoardView) (tree : IsTree b) (plain : IsPlainBoard b) (lines : Lin
           ]
 
       -- what the caller counts among its locks it has
-      has : (l : LockId) → InLocks l (n.held c) → holder past l ≡ Some c
+      has : (l : LockId) → InLocks l ((now b asks past).held c) → holder past l ≡ Some c
       has l counted = sym (holder-told b asks past l) ∙ stands.holds c l counted
 
   pub open-kept : (past : List Entry) → IsStepwise b callers asks past → KeepsPathsOpen b asks past
   open-kept [] steps = tt
-  open-kept (e ∷ past) steps = (open_at e past (past-stands past steps.1) steps.0, open-kept past steps.1)
+  open-kept (e ∷ past) steps = (open_at e past steps, open-kept past steps.1)

@@ -16,21 +16,18 @@ use Rattle.i2c_spec.specs.TreeFacts.{IsTree}
 use Rattle.i2c_spec.specs.Plain.{IsPlainBoard, IsPlanted}
 use Rattle.i2c_spec.specs.History.{Asks, changed_at}
 use Rattle.i2c_spec.proofs.HopLemmas.{buses_of-cons, buses_of-reverse}
-use Rattle.bus_spec.specs.Walk.{Mark, Job, Call, Select, Clear, Act, Send, Shift, ActOutcome, Passed, Sent, Lined, Note, WalkTree, first_byte}
+use Rattle.bus_spec.specs.Walk.{Mark, Job, Call, Select, Clear, Act, ActOutcome, Passed, Sent, Lined, Note, first_byte}
 use Rattle.bus_spec.specs.Slots.{Slots, At, MuxSlot, Clean, Marked, Polled, Found, mark_in, turned, turned_at, set_marks, polled_slot, select_told, after_select, after_clear, after_job}
 use Rattle.bus_spec.specs.Grammar.{first_note}
-use Rattle.bus_spec.specs.Past.{Now, current, now, mark, kept_channel, sent_by, lined_by}
-use Rattle.bus_spec.specs.Stepwise.{IsNext, IsStepwise}
-use Rattle.bus_laws.specs.Runs.{CanSend, CanShift, MayFail, MaySend, MayShift, Runs}
+use Rattle.bus_spec.specs.Past.{current, now, mark, kept_channel, sent_by, lined_by}
+use Rattle.bus_spec.specs.Stepwise.{IsStepwise}
+use Rattle.bus_laws.specs.Runs.{MayFail}
 use Rattle.bus_laws.specs.Lines.{LinesAreLocked}
-use Rattle.bus_laws.specs.Stands.{CallerStands}
 use Rattle.bus_laws.specs.Reach.{AsksForMessages}
 use Rattle.bus_laws.proofs.world.BoardFacts.{get_within}
 use Rattle.bus_laws.proofs.world.Slots.{kept_own}
 use Rattle.bus_laws.proofs.tree.Slots.{changed-same, changed-other, marked_slot}
-use Rattle.bus_laws.proofs.past.StandsFacts.{current-stands}
-use Rattle.bus_laws.proofs.past.StandsEntries.{first_is}
-use Rattle.bus_laws.proofs.past.Laws.{past-stands}
+use Rattle.bus_laws.proofs.past.Laws.{sends, shifts}
 
 -- THE BUS OF A MUX comes before its channels
 planted_home : (roots : ℕ) (ms : List MuxSpec) (k : ℕ) (d : MuxSpec) → IsPlanted roots ms → k < length ms → (get_or ms k d).bus < buses_of roots ms
@@ -138,30 +135,6 @@ module _ (b : BoardView) (held : List LockId) (w : Slots) (marks : List Mark) (f
 
 -- EVERY PAST
 module _ (b : BoardView) (tree : IsTree b) (plain : IsPlainBoard b) (lines : LinesAreLocked b) (asks : Asks) (some : AsksForMessages asks) (callers : ℕ) where
-  -- what a message or line step marks where it fails by the port
-  module _ (past : List Entry) (steps : IsStepwise b callers asks past) (c : ℕ) where
-    abbrev n : Now
-    n = now b asks past
-
-    cur : CallerStands b (n.held c) (current b asks n c) n.slot
-    cur = current-stands b tree lines asks some n c (past-stands b tree plain lines asks some callers past steps)
-
-    sent_fail : (job : Job) (left : ℕ) → IsNext b asks n c (Send job left) → MayFail b (first_note (current b asks n c)).marks (n.held c) cur.view
-    sent_fail job left first =
-        let at = first_is (current b asks n c) (Send job left) first in
-        let runs : MaySend b cur.whose job left at.0.marks (n.held c) cur.view
-        × ((out : ActOutcome) → CanSend b job left out → Runs b cur.whose (n.held c) (after_job job left at.0.marks out cur.view) (at.1 out)) =
-        subst (λ (w : WalkTree). Runs b cur.whose (n.held c) cur.view w) at.2 cur.runs in
-        subst (λ (w : WalkTree). MayFail b (first_note w).marks (n.held c) cur.view) (sym at.2) runs.0.may_fail
-
-    lined_fail : (job : Job) → IsNext b asks n c (Shift job) → MayFail b (first_note (current b asks n c)).marks (n.held c) cur.view
-    lined_fail job first =
-        let at = first_is (current b asks n c) (Shift job) first in
-        let runs : MayShift b job at.0.marks (n.held c) cur.view
-        × ((out : ActOutcome) → CanShift b job out → Runs b cur.whose (n.held c) (after_job job 0 at.0.marks out cur.view) (at.1 out)) =
-        subst (λ (w : WalkTree). Runs b cur.whose (n.held c) cur.view w) at.2 cur.runs in
-        subst (λ (w : WalkTree). MayFail b (first_note w).marks (n.held c) cur.view) (sym at.2) runs.0.may_fail
-
   -- THE INDUCTION over the entries
   pub marks-home : (past : List Entry) → IsStepwise b callers asks past → AreHome b (now b asks past).slot
   marks-home [] steps = λ p m e. absurd (let f : Clean ≡ Marked m = e in cc)
@@ -171,12 +144,12 @@ module _ (b : BoardView) (tree : IsTree b) (plain : IsPlainBoard b) (lines : Lin
   marks-home (entry.Message c bus purpose part parts addr reading bytes heard e ∷ past) steps =
       let note : Note = first_note (current b asks (now b asks past) c) in
       subst (λ (o : Option Act). AreHome b (sent_by b (now b asks past) c o note reading bytes e).slot) (sym steps.0.2.2)
-      (job_home b ((now b asks past).held c) (cur past steps.1 c).view note.marks (sent_fail past steps.1 c steps.0.2.0 steps.0.2.1 steps.0.2.2)
+      (job_home b ((now b asks past).held c) (now b asks past).slot note.marks (sends b tree plain lines asks some callers past steps.1 c steps.0.2.0 steps.0.2.1 steps.0.2.2).may_fail
       (now b asks past).slot (marks-home past steps.1) steps.0.2.0 steps.0.2.1 (Sent e bytes))
   marks-home (entry.Line c mux level failed ∷ past) steps =
       let note : Note = first_note (current b asks (now b asks past) c) in
       subst (λ (o : Option Act). AreHome b (lined_by b (now b asks past) o note failed).slot) (sym steps.0.2.1)
-      (job_home b ((now b asks past).held c) (cur past steps.1 c).view note.marks (lined_fail past steps.1 c steps.0.2.0 steps.0.2.1)
+      (job_home b ((now b asks past).held c) (now b asks past).slot note.marks (shifts b tree plain lines asks some callers past steps.1 c steps.0.2.0 steps.0.2.1).may_fail
       (now b asks past).slot (marks-home past steps.1) steps.0.2.0 0 (Lined failed))
 
   pub mark-home : (past : List Entry) → IsStepwise b callers asks past → (p m : ℕ) → mark b asks past p ≡ Some m → home_of_mux b m ≡ p

@@ -46,7 +46,7 @@ use Rattle.journal_laws.specs.Counts.{is_failed}
 use Rattle.journal_laws.specs.Faulty.{is_on_way, failed_on_way, CutAt, KeepsCuts}
 use Rattle.journal_laws.proofs.past.Places.{walk-left}
 use Rattle.journal_laws.proofs.past.Due.{due-told}
-use Rattle.journal_laws.proofs.past.Marked.{sends, shifts}
+use Rattle.bus_laws.proofs.past.Laws.{sends, shifts}
 use Rattle.flat_laws.proofs.past.Ends.{holds-nothing}
 use Rattle.journal_laws.proofs.past.FailLaw.{FailsSettle, current-fails}
 use Rattle.bus_laws.proofs.past.StandsFacts.{over_ends}

@@ -39,7 +39,7 @@ use Rattle.bus_laws.proofs.world.Sends.{own_select, own_open}
 use Rattle.bus_laws.proofs.world.Slots.{kept_own, kept_other, of_marked, set_marks-only}
 use Rattle.bus_laws.proofs.world.TalkThrough.{talk-writes}
 use Rattle.journal_laws.specs.Faulty.{Closes, HasClosed}
-use Rattle.journal_laws.proofs.past.Marked.{sends, shifts}
+use Rattle.bus_laws.proofs.past.Laws.{sends, shifts}
 
 -- THE FIRST CHANNEL that is open: the only one, or none
 first_is : (test : ℕ → Bool) (n i c : ℕ) → i ≤ c → c < i + n → test c ≡ true → ((d : ℕ) → test d ≡ true → c ≡ d) → position_from test i (range_with_len i n) ≡ Some c

@@ -10,22 +10,18 @@ use Rattle.i2c_spec.specs.Tree.{Hop, hops, IsAmongHops}
 use Rattle.i2c_spec.specs.TreeFacts.{IsTree}
 use Rattle.i2c_spec.specs.Plain.{IsPlainBoard}
 use Rattle.i2c_spec.specs.History.{Asks}
-use Rattle.bus_spec.specs.Walk.{Mark, Job, Call, Select, Clear, Act, Send, Shift, ActOutcome, WalkTree, job_bus, is_arbitrator}
-use Rattle.bus_spec.specs.Slots.{Slots, At, MuxSlot, Clean, Marked, Polled, Found, mark_in, after_job}
+use Rattle.bus_spec.specs.Walk.{Mark, Job, Call, Select, Clear, Act, Send, Shift, job_bus, is_arbitrator}
+use Rattle.bus_spec.specs.Slots.{Slots, At, MuxSlot, Clean, Marked, Polled, Found, mark_in}
 use Rattle.bus_spec.specs.Grammar.{first_act, first_note}
 use Rattle.bus_spec.specs.Readings.{OfMessage, caller_of}
 use Rattle.bus_spec.specs.Past.{Now, current, now, mark}
 use Rattle.bus_spec.specs.Places.{mark_among, mark_after, mark_sent, mark_lined, mark_by, is_cut}
 use Rattle.bus_spec.specs.Stepwise.{IsNext, IsStepwise}
-use Rattle.bus_laws.specs.Runs.{FindsPoll, FindsSelect, FindsOpen, IsOfMux, CanSend, CanShift, MayFail, MaySend, MayShift, Runs}
+use Rattle.bus_laws.specs.Runs.{FindsPoll, FindsSelect, FindsOpen, IsOfMux, MayFail}
 use Rattle.bus_laws.specs.Lines.{LinesAreLocked}
-use Rattle.bus_laws.specs.Stands.{CallerStands}
 use Rattle.bus_laws.specs.Reach.{AsksForMessages}
 use Rattle.bus_laws.proofs.tree.Slots.{marked_slot}
-use Rattle.bus_laws.proofs.past.StandsFacts.{current-stands}
-use Rattle.bus_laws.proofs.past.StandsStep.{send_known, shift_known}
-use Rattle.bus_laws.proofs.past.StandsEntries.{first_is}
-use Rattle.bus_laws.proofs.past.Laws.{past-stands}
+use Rattle.bus_laws.proofs.past.Laws.{sends, shifts}
 use Rattle.journal_laws.specs.Faulty.{Closes, HasClosed, NoneCloses, PassesBy}
 use Rattle.journal_laws.proofs.past.Places.{mark-left}
 
@@ -78,28 +74,6 @@ module _ (b : BoardView) (tree : IsTree b) (plain : IsPlainBoard b) (lines : Lin
     abbrev n : Now
     n = now b asks past
 
-    pub cur : CallerStands b (n.held c) (current b asks n c) n.slot
-    cur = current-stands b tree lines asks some n c (past-stands b tree plain lines asks some callers past steps)
-
-    -- what the next message, and the next line step, finds
-    pub sends : (job : Job) (left : ℕ) → IsNext b asks n c (Send job left) → MaySend b cur.whose job left (first_note (current b asks n c)).marks (n.held c) n.slot
-    sends job left next =
-        let at = first_is (current b asks n c) (Send job left) next in
-        let runs : MaySend b cur.whose job left at.0.marks (n.held c) cur.view
-        × ((out : ActOutcome) → CanSend b job left out → Runs b cur.whose (n.held c) (after_job job left at.0.marks out cur.view) (at.1 out)) =
-        subst (λ (w : WalkTree). Runs b cur.whose (n.held c) cur.view w) at.2 cur.runs in
-        subst (λ (w : WalkTree). MaySend b cur.whose job left (first_note w).marks (n.held c) n.slot) (sym at.2)
-        (send_known b (n.held c) cur.view n.slot cur.agree cur.whose job left at.0.marks runs.0)
-
-    pub shifts : (job : Job) → IsNext b asks n c (Shift job) → MayShift b job (first_note (current b asks n c)).marks (n.held c) n.slot
-    shifts job next =
-        let at = first_is (current b asks n c) (Shift job) next in
-        let runs : MayShift b job at.0.marks (n.held c) cur.view
-        × ((out : ActOutcome) → CanShift b job out → Runs b cur.whose (n.held c) (after_job job zero at.0.marks out cur.view) (at.1 out)) =
-        subst (λ (w : WalkTree). Runs b cur.whose (n.held c) cur.view w) at.2 cur.runs in
-        subst (λ (w : WalkTree). MayShift b job (first_note w).marks (n.held c) n.slot) (sym at.2)
-        (shift_known b (n.held c) cur.view n.slot cur.agree job at.0.marks runs.0)
-
     module _ (p m : ℕ) (marked : mark b asks past p ≡ Some m) where
       at_mark : (n.slot p).slot ≡ Marked m
       at_mark = marked_slot (n.slot p).slot m marked
@@ -108,11 +82,11 @@ module _ (b : BoardView) (tree : IsTree b) (plain : IsPlainBoard b) (lines : Lin
           → StaysOr p m (Some (Send job left)) job (first_note (current b asks n c)).marks failed
       stays-sent (Call bus ms) left next failed = inl refl
       stays-sent (Select h) left next failed =
-          let may = sends (Select h) left next in
+          let may = sends b tree plain lines asks some callers past steps c (Select h) left next in
           stays-select p m h left (Some (Send (Select h) left)) n.slot (first_note (current b asks n c)).marks
           (among_stays p m b (n.held c) n.slot (first_note (current b asks n c)).marks may.may_fail at_mark) at_mark may.finds.0 failed
       stays-sent (Clear on mux kind) left next failed =
-          let may = sends (Clear on mux kind) left next in
+          let may = sends b tree plain lines asks some callers past steps c (Clear on mux kind) left next in
           stays-clear p m on mux kind (Some (Send (Clear on mux kind) left)) n.slot (first_note (current b asks n c)).marks
           (among_stays p m b (n.held c) n.slot (first_note (current b asks n c)).marks may.may_fail at_mark) at_mark may.finds.0 (λ e. e) failed
 
@@ -120,11 +94,11 @@ module _ (b : BoardView) (tree : IsTree b) (plain : IsPlainBoard b) (lines : Lin
           → StaysOr p m (Some (Shift job)) job (first_note (current b asks n c)).marks failed
       stays-lined (Call bus ms) next failed = inl refl
       stays-lined (Select h) next failed =
-          let may = shifts (Select h) next in
+          let may = shifts b tree plain lines asks some callers past steps c (Select h) next in
           stays-select p m h zero (Some (Shift (Select h))) n.slot (first_note (current b asks n c)).marks
           (among_stays p m b (n.held c) n.slot (first_note (current b asks n c)).marks may.may_fail at_mark) at_mark may.finds.0 failed
       stays-lined (Clear on mux kind) next failed =
-          let may = shifts (Clear on mux kind) next in
+          let may = shifts b tree plain lines asks some callers past steps c (Clear on mux kind) next in
           stays-clear p m on mux kind (Some (Shift (Clear on mux kind))) n.slot (first_note (current b asks n c)).marks
           (among_stays p m b (n.held c) n.slot (first_note (current b asks n c)).marks may.may_fail at_mark) at_mark may.finds.0 (λ e. e) failed
 
@@ -174,7 +148,7 @@ module _ (b : BoardView) (tree : IsTree b) (plain : IsPlainBoard b) (lines : Lin
   passes (entry.Message c bus why part parts addr reading bytes heard x) past steps p m marked = λ g among same.
       let may = steps.0.2 in
       let there : IsAmongHops g (hops b (job_bus may.0)) = subst (λ (s : ℕ). IsAmongHops g (hops b s)) may.3.on_bus among in
-      let selected : ((now b asks past).slot g.on).slot ≡ Clean = ((sends past steps.1 c may.0 may.1 may.2).reached g there).0.clean in
+      let selected : ((now b asks past).slot g.on).slot ≡ Clean = ((sends b tree plain lines asks some callers past steps.1 c may.0 may.1 may.2).reached g there).0.clean in
       let f : None ≡ Some m = sym (ap mark_in selected) ∙ ap (λ (q : ℕ). mark b asks past q) same ∙ marked in cc
 
   pub passes-until : (e : Entry) (later past : List Entry) → IsStepwise b callers asks (e ∷ (later ++ past)) → (p m : ℕ) → mark b asks past p ≡ Some m → NoneCloses b asks p m later past

@@ -31,7 +31,7 @@ use Rattle.bus_laws.proofs.past.Placed.{cut-told}
 use Rattle.journal_laws.specs.Counts.{count_if, is_failed, faults_in, failed_on, failures, has_remote, remotes}
 use Rattle.journal_laws.proofs.past.Due.{by-due}
 use Rattle.journal_laws.proofs.past.Counts.{counts-kept}
-use Rattle.journal_laws.proofs.past.Marked.{sends}
+use Rattle.bus_laws.proofs.past.Laws.{sends}
 use Rattle.journal_laws.proofs.past.Cuts.{cut-is, cut-at, failed-says, failed-due}
 
 -- the test of a reply

@@ -1,5 +1,5 @@
 use Rattle.bus_laws.proofs.world.LineFacts.{lines-locked}
-use Rattle.bus_laws.proofs.past.Laws.{closed-kept}
+use Rattle.bus_laws.proofs.past.Closed.{closed-kept}
 use Rattle.bus_laws.proofs.journals.each_mux_keeps_its_channel_or_is_marked.Goals as goal
 
 pub returns : goal.returns
