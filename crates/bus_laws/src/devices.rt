@@ -33,8 +33,8 @@ pub fn an_address_leads_to_the_granted_device()
         → (grant_of b s a force ≡ grant.Busy → ⊥) → LeadsTo w a (granted_on b s force a) }
 {}
 
-/// A kept channel beside a bus takes no device from anybody: no chip and no device aside of the bus has the address of a
-/// device on the bus's path. So an address that is busy because it stands aside of the bus would have named no device.
+/// A kept channel beside a bus takes no device from anybody. No chip and no device aside of the bus has the address of a
+/// device on the bus's path, so an address that is busy because it stands aside of the bus would have named no device.
 ///
 /// On a board that isn't accepted a target below a mux that stays as it is may have the address of a device outside. A
 /// device that isn't on the path may itself be aside of the bus.

@@ -34,7 +34,7 @@ pub fn each_mark_is_the_last_one_made()
     ensures { (b : BoardView) (asks : Asks) (past : List Entry) (p : ℕ) → mark b asks past p ≡ mark_left b asks past p }
 {}
 
-/// The channel that a mux keeps is what the last message or line step that switches it tells by its own byte or level: a
+/// The channel that a mux keeps is what the last message or line step that switches it tells by its own byte or level. A
 /// select that went through opens its channel, and every other one leaves none. Of the mark of a bus nothing is said: the
 /// message that marked it may have been one to another mux, on the way of its own.
 ///
