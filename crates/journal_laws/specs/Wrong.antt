@@ -164,7 +164,7 @@ kept_over_the_mark = asks_register 0 1 0x30 0 1 ∷ behind_a_failed_select
 abbrev pub kept_over_the_close : List Entry
 kept_over_the_close = entry.Message 0 1 purpose.Call 1 2 0x30 false [] None end.Nack ∷ row.control 0 0 0 0x70 0 ∷ behind_a_failed_select
 
--- what asks twice for the same channel selects it twice; or the mux is deselected
+-- the same channel is read behind twice, and selected twice; or the mux is deselected behind the first read
 abbrev pub same_asks : Asks
 same_asks = transfers_of ((row.read 1 0x30 0 ∷ row.read 1 0x30 0 ∷ []) ∷ [])
 
