@@ -1,4 +1,5 @@
--- Where nothing is aside of a bus: the short ways of the search for what is. The inductions go over hops, and over muxes.
+-- The short ways of the searches in a grant: where nothing is aside of a bus, and where one search does for two places. The
+-- inductions go over hops, over muxes, and over the items of a search.
 use Rattle.std.proofs.Common.{◌≡◌, ℕ, ◌<◌, nat_le, Bool, true, false, not, cond, eqb, ◌&&◌, ◌||◌, List, [], ◌∷◌, length, reverse, refl, sym, ap, ◌∙◌, inl, inr}
 use Rattle.std.specs.List.{list_any}
 use Rattle.std.proofs.Math.Bool.{and-false, or-true}
@@ -74,3 +75,18 @@ pub none_used : (b : BoardView) (s a : ℕ) → stays_in b.muxes ≡ false → (
 none_used b s a none =
     ap (λ (t : Bool). t || some_device b a (is_aside b s)) (nowhere (λ (m : MuxSpec). has_address a m.addr) (λ m. is_aside b s m.bus) b.muxes (λ m. none_aside b none s m.bus))
     ∙ nowhere (λ (d : DeviceView). eqb d.addr a) (λ d. is_aside b s d.bus) b.devices (λ d. none_aside b none s d.bus)
+
+-- one search for either of two places
+pub any_either : {X : Type 0} (test on other : X → Bool) (xs : List X)
+    → list_any (λ x. test x && (on x || other x)) xs ≡ (list_any (λ x. test x && on x) xs || list_any (λ x. test x && other x) xs)
+any_either test on other [] = refl
+any_either test on other (x ∷ xs) =
+    ap (λ (t : Bool). (test x && (on x || other x)) || t) (any_either test on other xs)
+    ∙ by (test x) (on x) (other x) (list_any (λ y. test y && on y) xs) (list_any (λ y. test y && other y) xs)
+  where
+    by : (t p q a c : Bool) → ((t && (p || q)) || (a || c)) ≡ ((t && p) || a) || ((t && q) || c)
+    by false p q a c = refl
+    by true true q a c = refl
+    by true false true true c = refl
+    by true false true false c = refl
+    by true false false a c = refl

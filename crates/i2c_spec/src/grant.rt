@@ -1,6 +1,6 @@
 //! To whom an address on a bus leads.
 ghost use Rattle.std.specs.Prelude.{◌≡◌, ◌==◌, ◌&&◌, ◌||◌, option_map};
-ghost use Rattle.std.specs.List.{position_from};
+ghost use Rattle.std.specs.List.{list_any, position_from};
 ghost use Rattle.i2c_spec.specs.Grant as spec;
 
 use crate::Layout;
@@ -18,8 +18,7 @@ impl Layout<'_> {
         requires { IsPlainBoard (board_of self.now) }
         ensures { result ≡ grant_of (board_of self.now) seg addr force }
     {
-        if self.chip_on_path(seg, addr)
-            || self.chip_below(seg, addr)
+        if self.chip_along(seg, addr)
             || self.device_below(seg, addr)
             || self.is_used_aside(seg, addr)
         {
@@ -34,18 +33,20 @@ impl Layout<'_> {
         }
     }
 
-    fn chip_on_path(&self, seg: SegId, addr: Addr) -> bool
+    // A chip on the path or below the bus has the address: one search for both.
+    fn chip_along(&self, seg: SegId, addr: Addr) -> bool
         requires { IsPlainBoard (board_of self.now) }
-        ensures { result ≡ some_chip (board_of self.now) addr (is_on_path (board_of self.now) seg) }
+        ensures { result ≡ some_chip (board_of self.now) addr (is_on_path (board_of self.now) seg) || some_chip (board_of self.now) addr (λ u. is_below (board_of self.now) u seg) }
     {
-        self.muxes.iter().any(|mux| has_address(addr, mux.addr) && self.is_on_path(seg, mux.bus))
+        self.meets_chip(seg, addr)
     }
 
-    fn chip_below(&self, seg: SegId, addr: Addr) -> bool
+    fn meets_chip(&self, seg: SegId, addr: Addr) -> bool
         requires { IsPlainBoard (board_of self.now) }
-        ensures { result ≡ some_chip (board_of self.now) addr (λ u. is_below (board_of self.now) u seg) }
+        ensures { result ≡ list_any (λ m. spec.has_address addr m.addr && (is_on_path (board_of self.now) seg m.bus || is_below (board_of self.now) m.bus seg)) self.now.muxes.now }
     {
-        self.muxes.iter().any(|mux| has_address(addr, mux.addr) && self.is_below(mux.bus, seg))
+        self.muxes.iter().any(|mux| has_address(addr, mux.addr)
+            && (self.is_on_path(seg, mux.bus) || self.is_below(mux.bus, seg)))
     }
 
     fn device_below(&self, seg: SegId, addr: Addr) -> bool
