@@ -6,3 +6,4 @@ pub mod StepsLeft
 pub mod Dues
 pub mod MarksTold
 pub mod OpensFit
+mod StackLemmas

@@ -12,6 +12,7 @@ ghost use Rattle.mux_plan.specs.Rooms.{IsNarrow, IsNarrowWork, IsPlanned, IsStep
 ghost use Rattle.mux_plan.specs.declared.task.Task.{Task};
 ghost use Rattle.mux_plan.specs.declared.task.Task.TheVariants.{Enter, Pass};
 ghost use Rattle.mux_plan.specs.declared.task.Action.TheVariants.{Done};
+ghost use Rattle.mux_plan.specs.declared.task.Work.TheVariants as work;
 
 use crate::{Action, Seen, Task, Work};
 use arrayvec::ArrayVec;
@@ -60,7 +61,7 @@ pub fn is_parent(hop: &Hop) -> bool
 }
 
 /// What comes first at a mux that isn't to be closed: the channel is selected, but where the mux keeps it open.
-pub fn choice(seen: &Seen<'_>, hop: &Hop, work: &Work) -> Work
+fn choice(seen: &Seen<'_>, hop: &Hop, work: &Work) -> Work
     ensures value { result ≡ choice_of hop.now (keeps hop.now (kept_of seen.now hop.now.mux)) work.now }
     ensures narrow { IsNarrow hop.now → IsNarrowWork work.now → IsNarrowWork result }
 {
@@ -71,18 +72,26 @@ pub fn choice(seen: &Seen<'_>, hop: &Hop, work: &Work) -> Work
     }
 }
 
+/// The close of a marked mux on the bus of this one.
+pub fn close(board: &Board, hop: &Hop, mux: MuxId) -> Work
+    ensures value { result ≡ work.Clear hop.now.on mux (kind_at board.now mux) }
+    ensures narrow { IsNarrowWork result }
+{
+    Work::Clear {
+        on: hop.on,
+        mux,
+        kind: kind_of(board, mux),
+    }
+}
+
 /// What comes first at a mux: a marked one is closed.
-pub fn switch(board: &Board, seen: &Seen<'_>, hop: &Hop, work: &Work) -> Work
+fn switch(board: &Board, seen: &Seen<'_>, hop: &Hop, work: &Work) -> Work
     ensures value { result ≡ switch_of board.now hop.now (mark_on seen.now hop.now.on) (keeps hop.now (kept_of seen.now hop.now.mux)) work.now }
     ensures narrow { IsNarrow hop.now → IsNarrowWork work.now → IsNarrowWork result }
 {
     match seen.mark(hop) {
         None => choice(seen, hop, work),
-        Some(mux) => Work::Clear {
-            on: hop.on,
-            mux,
-            kind: kind_of(board, mux),
-        },
+        Some(mux) => close(board, hop, mux),
     }
 }
 
@@ -151,6 +160,7 @@ impl Course {
     }
 
     /// The first step of a piece of work on the bus at a place, where this answers the looks on its way.
+    #[inline(always)]
     pub fn ahead(&self, board: &Board, seen: &Seen<'_>, place: u8, work: Work) -> Task
         requires planned { IsPlanned self.now (Enter place work ∷ []) }
         ensures first { (ms : List MessageView) → length ms ≡ self.now.count
@@ -174,7 +184,9 @@ impl Course {
         self.base(work)
     }
 
-    /// The first step of a piece of work behind the close of a marked mux on the bus at this place.
+    /// The first step of a piece of work behind the close of a marked mux on the bus at this place. Apart, since few walks
+    /// come here.
+    #[inline(never)]
     pub fn ahead_behind(
         &self,
         board: &Board,
@@ -204,28 +216,28 @@ impl Course {
 
     /// The action of a task that is a step, which is never Done.
     #[inline(always)]
-    pub fn action(&self, task: Task) -> Action
-        requires planned { IsPlanned self.now (task ∷ []) }
-        requires step { IsStep (task ∷ []) }
+    pub fn action(&self, task: &Task) -> Action
+        requires planned { IsPlanned self.now (task.now ∷ []) }
+        requires step { IsStep (task.now ∷ []) }
         ensures first { (b : BoardView) (ms : List MessageView) → length ms ≡ self.now.count
-            → result ≡ action_of (first_act (tree_of b ms self.now (task ∷ []) walk.Good)) }
+            → result ≡ action_of (first_act (tree_of b ms self.now (task.now ∷ []) walk.Good)) }
         ensures more { result ≢ Done }
     {
         match task {
-            Task::Lock { from, .. } => Action::Take(self.lock_at(from)),
-            Task::Free(lock) => Action::Free(lock),
+            Task::Lock { from, .. } => Action::Take(self.lock_at(*from)),
+            Task::Free(lock) => Action::Free(*lock),
             Task::Rest { left, work } => Action::Send {
                 bus: work.bus(self.bus),
                 purpose: work.purpose(),
-                part: work.part(left, self.count),
+                part: work.part(*left, self.count),
                 parts: work.parts(self.count),
-                control: work.control(left),
+                control: work.control(*left),
             },
             Task::Line { work } => Action::Line {
                 mux: work.line_mux(),
                 level: work.line_level(),
             },
-            Task::Settle(verdict) => Action::Settle(verdict),
+            Task::Settle(verdict) => Action::Settle(*verdict),
             Task::Enter { .. }
             | Task::AwaitClose { .. }
             | Task::Pass { .. }

@@ -10,6 +10,7 @@ mod course;
 mod laws;
 mod marks;
 mod parts;
+mod row;
 mod seen;
 mod stack;
 mod task;

@@ -14,7 +14,7 @@ ghost use Rattle.mux_plan.specs.Rooms.{IsNarrow, IsNarrowWork, IsPlanned, IsRead
 ghost use Rattle.mux_plan.specs.declared.task.Task.TheVariants.{Enter, Lock, Rest, Pass, AwaitClose, AwaitSelect, AwaitWork};
 ghost use Rattle.mux_plan.specs.declared.task.Action.TheVariants.{Done};
 
-use crate::course::{choice, is_parent, switch};
+use crate::course::{close, is_parent};
 use crate::marks::{Dues, mark_work};
 use crate::stack::Stack;
 use crate::work::Follow;
@@ -82,26 +82,32 @@ impl Parts {
         self.came = Came::Good;
     }
 
-    // The work waits for the select, but where the mux keeps its channel open.
-    fn wait_select(&mut self, seen: &Seen<'_>, hop: &Hop, place: u8, work: &Work)
+    // The work waits for the select, which is given, but where the mux keeps its channel open: then the work itself is.
+    fn wait_select(&mut self, seen: &Seen<'_>, hop: &Hop, place: u8, work: &Work) -> Work
         requires room { length self.old.stack < STACK_ROOM }
+        ensures next { result ≡ choice_of hop.now (keeps hop.now (kept_of seen.now hop.now.mux)) work.now }
+        ensures narrow { IsNarrow hop.now → IsNarrowWork work.now → IsNarrowWork result }
         ensures few { length self.new.stack ≤ length self.old.stack + 1 }
         ensures stack { self.new.stack ≡ select_tasks hop.now (keeps hop.now (kept_of seen.now hop.now.mux)) place work.now self.old.stack }
         ensures course { self.new.course ≡ self.old.course }
         ensures came { self.new.came ≡ self.old.came }
     {
-        if !seen.keeps(hop) {
-            self.stack.push(Task::AwaitSelect {
-                place,
-                hop: *hop,
-                work: *work,
-            });
+        if seen.keeps(hop) {
+            return *work;
         }
+        self.stack.push(Task::AwaitSelect {
+            place,
+            hop: *hop,
+            work: *work,
+        });
+        Work::Select(*hop)
     }
 
-    // The work waits for what comes first at a mux.
-    fn wait(&mut self, seen: &Seen<'_>, hop: &Hop, place: u8, work: &Work)
+    // The work waits for what comes first at a mux, which is given.
+    fn wait(&mut self, board: &Board, seen: &Seen<'_>, hop: &Hop, place: u8, work: &Work) -> Work
         requires room { length self.old.stack < STACK_ROOM }
+        ensures next { result ≡ switch_of board.now hop.now (mark_on seen.now hop.now.on) (keeps hop.now (kept_of seen.now hop.now.mux)) work.now }
+        ensures narrow { IsNarrow hop.now → IsNarrowWork work.now → IsNarrowWork result }
         ensures few { length self.new.stack ≤ length self.old.stack + 1 }
         ensures stack { self.new.stack ≡ wait_tasks hop.now (mark_on seen.now hop.now.on) (keeps hop.now (kept_of seen.now hop.now.mux)) place work.now self.old.stack }
         ensures course { self.new.course ≡ self.old.course }
@@ -109,16 +115,20 @@ impl Parts {
     {
         match seen.mark(hop) {
             None => self.wait_select(seen, hop, place, work),
-            Some(mux) => self.stack.push(Task::AwaitClose {
-                place,
-                hop: *hop,
-                mux,
-                work: *work,
-            }),
+            Some(mux) => {
+                self.stack.push(Task::AwaitClose {
+                    place,
+                    hop: *hop,
+                    mux,
+                    work: *work,
+                });
+                close(board, hop, mux)
+            }
         }
     }
 
     // At a mux the work waits. Gives what comes first there, which takes the locks of a mux-locked one.
+    #[inline(always)]
     fn cross(&mut self, board: &Board, seen: &Seen<'_>, hop: &Hop, place: u8, work: &Work) -> Work
         requires room { length self.old.stack + 2 ≤ STACK_ROOM }
         ensures next { result ≡ switch_of board.now hop.now (mark_on seen.now hop.now.on) (keeps hop.now (kept_of seen.now hop.now.mux)) work.now }
@@ -127,8 +137,7 @@ impl Parts {
         ensures course { self.new.course ≡ self.old.course }
         ensures came { self.new.came ≡ self.old.came }
     {
-        let next = switch(board, seen, hop, work);
-        self.wait(seen, hop, place, work);
+        let next = self.wait(board, seen, hop, place, work);
         if !is_parent(hop) {
             self.stack.push(part(false, place, &next));
         }
@@ -151,6 +160,7 @@ impl Parts {
 
     /// Begins a piece of work on the bus at a place: the looks at the muxes on its way are answered, and the first step
     /// is on the top.
+    #[inline(always)]
     pub fn enter(&mut self, board: &Board, seen: &Seen<'_>, place: u8, work: Work)
         requires planned { IsPlanned self.old.course (Enter place work ∷ self.old.stack) }
         ensures tree { (ms : List MessageView) (out : JobOutcome) → length ms ≡ self.old.course.count
@@ -174,7 +184,8 @@ impl Parts {
     }
 
     // Goes on behind the close of a marked mux: the look at the kept channel is answered, and those on the way of what
-    // comes then.
+    // comes then. Apart, since few walks come here.
+    #[inline(never)]
     fn pass(&mut self, board: &Board, seen: &Seen<'_>, place: u8, hop: &Hop, work: &Work)
         requires planned { IsPlanned self.old.course (Pass place hop.now work.now ∷ self.old.stack) }
         ensures tree { (ms : List MessageView) (out : JobOutcome) → length ms ≡ self.old.course.count
@@ -185,8 +196,7 @@ impl Parts {
         ensures course { self.new.course ≡ self.old.course }
         ensures came { self.new.came ≡ self.old.came }
     {
-        let next = choice(seen, hop, work);
-        self.wait_select(seen, hop, place, work);
+        let next = self.wait_select(seen, hop, place, work);
         if is_parent(hop) {
             self.enter(board, seen, place, next);
         } else {
@@ -206,17 +216,22 @@ impl Parts {
         ensures course { self.new.course ≡ self.old.course }
         ensures came { self.new.came ≡ self.old.came }
     {
-        let Some(task) = self.stack.top() else {
+        let Some(task) = self.stack.peek() else {
             return;
         };
         match task {
             Task::Enter { place, work } => {
+                let place = *place;
+                let work = *work;
                 self.stack.drop_top();
                 self.enter(board, seen, place, work);
             }
             Task::Pass { place, hop, work } => {
+                let place = *place;
+                let hop = *hop;
+                let work = *work;
                 self.stack.drop_top();
-                self.pass(board, seen, place, &hop, &work);
+                self.pass(board, &seen.again(), place, &hop, &work);
             }
             _ => {}
         }
@@ -317,14 +332,29 @@ impl Parts {
         ensures planned { IsPlanned self.new.course self.new.stack }
         ensures course { self.new.course ≡ self.old.course }
     {
-        let Some(task) = self.stack.pop() else {
+        let Some(task) = self.stack.peek() else {
             return;
         };
         match task {
-            Task::Lock { from, place, work } => self.lock(from, place, work),
-            Task::Rest { left, work } => self.message(left, work, outcome),
-            Task::Line { work } => self.end(0, work, outcome),
-            Task::Free(_) | Task::Settle(_) => {}
+            Task::Lock { from, place, work } => {
+                let from = *from;
+                let place = *place;
+                let work = *work;
+                self.stack.drop_top();
+                self.lock(from, place, work);
+            }
+            Task::Rest { left, work } => {
+                let left = *left;
+                let work = *work;
+                self.stack.drop_top();
+                self.message(left, work, outcome);
+            }
+            Task::Line { work } => {
+                let work = *work;
+                self.stack.drop_top();
+                self.end(0, work, outcome);
+            }
+            Task::Free(_) | Task::Settle(_) => self.stack.drop_top(),
             Task::Enter { .. }
             | Task::AwaitClose { .. }
             | Task::Pass { .. }
@@ -409,7 +439,7 @@ impl Parts {
         ensures ready { result ≡ false → IsReady self.new.stack }
         ensures less { result ≡ true → length self.new.stack < length self.old.stack }
     {
-        let Some(task) = self.stack.top() else {
+        let Some(task) = self.stack.peek() else {
             return false;
         };
         match task {
@@ -419,19 +449,29 @@ impl Parts {
                 mux,
                 work,
             } => {
+                let place = *place;
+                let hop = *hop;
+                let mux = *mux;
+                let work = *work;
                 self.stack.drop_top();
                 self.wake_close(place, hop, mux, work)
             }
             Task::AwaitSelect { place, hop, work } => {
+                let place = *place;
+                let hop = *hop;
+                let work = *work;
                 self.stack.drop_top();
                 self.wake_select(place, hop, work)
             }
             Task::AwaitWork { place, hop } => {
+                let place = *place;
+                let hop = *hop;
                 self.stack.drop_top();
                 self.deselect(place, hop);
                 false
             }
             Task::AwaitDeselect { came, .. } => {
+                let came = *came;
                 self.stack.drop_top();
                 self.came = came;
                 true
@@ -516,11 +556,11 @@ impl Parts {
         ensures none { (b : BoardView) (ms : List MessageView) (v : Slots) (verdict : Option Errno) → result ≡ None
             → first_act (seen_by v (tree_of b ms self.now.course self.now.stack (came_of self.now.came))) ≡ Some (Settle verdict) → ⊥ }
     {
-        let Some(task) = self.stack.top() else {
+        let Some(task) = self.stack.peek() else {
             return None;
         };
         match task {
-            Task::Settle(verdict) => Some(verdict),
+            Task::Settle(verdict) => Some(*verdict),
             _ => None,
         }
     }
@@ -533,17 +573,18 @@ impl Parts {
             → result ≡ action_of (first_act (seen_by (slots_of seen.now) (tree_of board.now ms self.now.course self.now.stack (came_of self.now.came)))) }
         ensures over { result ≡ Done → self.now.stack ≡ [] }
     {
-        let Some(task) = self.stack.top() else {
+        let Some(task) = self.stack.peek() else {
             return Action::Done;
         };
         match task {
             Task::Enter { place, work } => {
-                let step = self.course.ahead(board, seen, place, work);
-                self.course.action(step)
+                let step = self.course.ahead(board, seen, *place, *work);
+                self.course.action(&step)
             }
             Task::Pass { place, hop, work } => {
-                let step = self.course.ahead_behind(board, seen, place, &hop, &work);
-                self.course.action(step)
+                let again = seen.again();
+                let step = self.course.ahead_behind(board, &again, *place, hop, work);
+                self.course.action(&step)
             }
             step => self.course.action(step),
         }

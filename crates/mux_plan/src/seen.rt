@@ -24,6 +24,17 @@ impl<'a> Model for Seen<'a> {
 }
 
 impl<'a> Seen<'a> {
+    /// The same once more: for a call that isn't made often, so that what is handed to the others needs no place in memory.
+    #[inline(always)]
+    pub fn again(&self) -> Seen<'a>
+        ensures { result ≡ self.now }
+    {
+        Seen {
+            marks: self.marks,
+            kept: self.kept,
+        }
+    }
+
     /// The mark that the lock of the muxes on the bus of this one carries.
     pub fn mark(&self, hop: &Hop) -> Option<MuxId>
         ensures { result ≡ mark_on self.now hop.now.on }
@@ -42,9 +53,12 @@ impl<'a> Seen<'a> {
     pub fn keeps(&self, hop: &Hop) -> bool
         ensures { result ≡ keeps hop.now (kept_of self.now hop.now.mux) }
     {
+        if !hop.stays {
+            return false;
+        }
         match self.channel(hop.mux) {
             None => false,
-            Some(channel) => hop.stays && u16::from(channel) == hop.channel,
+            Some(channel) => u16::from(channel) == hop.channel,
         }
     }
 }

@@ -1,7 +1,8 @@
+//! The stack of a walk.
 ghost use Rattle.std.specs.Prelude.{◌≡◌, ◌<◌, true, false, List, [], ◌∷◌, length, reverse, drop, IfSome, IfNone};
 ghost use Rattle.mux_plan.specs.Rooms.{STACK_ROOM};
 
-use arrayvec::ArrayVec;
+use crate::row::Row;
 use std::marker::Model;
 
 /// How many tasks a stack has room for.
@@ -10,7 +11,7 @@ pub const STACK_ROOM: usize = 32;
 /// The tasks of a walk. A contract sees the list of them, the one on the top first.
 #[derive(Drop)]
 pub struct Stack<T> {
-    items: ArrayVec<T, STACK_ROOM>,
+    items: Row<T, STACK_ROOM>,
 }
 
 impl<T> Model for Stack<T> {
@@ -18,16 +19,14 @@ impl<T> Model for Stack<T> {
 
     ghost Value = { List T };
 
-    ghost view = { λ s. reverse s.items.items };
+    ghost view = { λ s. reverse s.items };
 }
 
 impl<T: Copy + Default> Stack<T> {
     pub fn new() -> Self
         ensures { result ≡ [] }
     {
-        Stack {
-            items: ArrayVec::new(),
-        }
+        Stack { items: Row::new() }
     }
 
     /// Leaves this task alone.
@@ -46,20 +45,11 @@ impl<T: Copy + Default> Stack<T> {
         self.items.push(task);
     }
 
-    /// Takes the task on the top off, if there is one.
-    pub fn pop(&mut self) -> Option<T>
-        ensures some { IfSome result (λ task. self.old ≡ task ∷ self.new) }
-        ensures none { IfNone result (self.old ≡ []) }
-        ensures left { IfNone result (self.new ≡ []) }
-    {
-        self.items.pop()
-    }
-
     /// Takes the task on the top off, which isn't looked at.
     pub fn drop_top(&mut self)
         ensures { self.new ≡ drop 1 self.old }
     {
-        let _ = self.items.pop();
+        self.items.drop_last();
     }
 
     /// The tasks, the one on the top last.
@@ -82,14 +72,14 @@ impl<T: Copy + Default> Stack<T> {
         ensures empty { result ≡ true → self.now ≡ [] }
         ensures some { result ≡ false → 0 < length self.now }
     {
-        self.items.is_empty()
+        self.items.as_slice().is_empty()
     }
 
     /// The task on the top, if there is one.
-    pub fn top(&self) -> Option<T>
-        ensures some { IfSome result (λ task. self.now ≡ task ∷ drop 1 self.now) }
+    pub fn peek(&self) -> Option<&T>
+        ensures some { IfSome result (λ task. self.now ≡ task.now ∷ drop 1 self.now) }
         ensures none { IfNone result (self.now ≡ []) }
     {
-        self.items.last().copied()
+        self.items.as_slice().last()
     }
 }

@@ -2,7 +2,8 @@ use Rattle.std.proofs.Common.{List, [], refl, ◌∷◌, drop, sym, ◌∙◌, a
 use Rattle.bus_spec.specs.Walk.{Good}
 use Rattle.bus_spec.specs.Grammar.{keeps, seen, first_act}
 use Rattle.mux_plan.specs.declared.task.Task.{Task}
-use Rattle.mux_plan.specs.Plans.{tree_of, came_of, slots_of, kept_of, choice_of, action_of}
+use Rattle.mux_plan.specs.declared.task.Task.TheVariants.{Pass}
+use Rattle.mux_plan.specs.Plans.{SeenView, tree_of, came_of, slots_of, kept_of, choice_of, action_of}
 use Rattle.mux_plan.specs.Rooms.{IsReady}
 use Rattle.mux_plan.proofs.Openings.{first_at-any, first_of-step, first_at-pass, ready-step}
 use Rattle.mux_plan.proofs.parts.Parts.first.Goals as goal
@@ -24,7 +25,7 @@ returns-in_default-task-clause-first c = λ ms long.
     let v = slots_of c.args.seen.now in
     let e = c.in-Some.ensures.some in
     c.action-in_default-task.ensures.first b ms long
-    ∙ ap action_of (sym (first_of-step b ms s.course v c.in-Some.task (drop 1 s.stack) (came_of s.came) (ready-step c.in-Some.task (drop 1 s.stack) (subst IsReady e c.requires.ready) c.in_default-task.not-Enter c.in_default-task.not-Pass))
+    ∙ ap action_of (sym (first_of-step b ms s.course v c.in-Some.task.now (drop 1 s.stack) (came_of s.came) (ready-step c.in-Some.task.now (drop 1 s.stack) (subst IsReady e c.requires.ready) c.in_default-task.not-Enter c.in_default-task.not-Pass))
     ∙ ap (λ (ts : List Task). first_act (seen v (tree_of b ms s.course ts (came_of s.came)))) (sym e))
 
 pub returns-in-Pass-clause-first : goal.returns-in-Pass-clause-first
@@ -32,9 +33,10 @@ returns-in-Pass-clause-first c = λ ms long.
     let s = c.args.self.now in
     let b = c.args.board.now in
     let w = c.in-Pass in
-    let seen_now = c.args.seen.now in
+    let again = c.again-again.result in
     c.action-in-Pass.ensures.first b ms long
     ∙ ap action_of (c.ahead_behind-step.ensures.first ms long
-    ∙ sym (first_at-pass b ms s.course seen_now w.place w.work (choice_of w.hop (keeps w.hop (kept_of seen_now w.hop.mux)) w.work) w.hop w.hop.parent refl refl [] Good)
-    ∙ first_at-pass b ms s.course seen_now w.place w.work (choice_of w.hop (keeps w.hop (kept_of seen_now w.hop.mux)) w.work) w.hop w.hop.parent refl refl (drop 1 s.stack) (came_of s.came)
-    ∙ ap (λ (ts : List Task). first_act (seen (slots_of seen_now) (tree_of b ms s.course ts (came_of s.came)))) (sym (c.in-Some.ensures.some ∙ ap (λ (t : Task). t ∷ drop 1 s.stack) w.is)))
+    ∙ sym (first_at-pass b ms s.course again w.place w.work (choice_of w.hop (keeps w.hop (kept_of again w.hop.mux)) w.work) w.hop w.hop.parent refl refl [] Good)
+    ∙ first_at-pass b ms s.course again w.place w.work (choice_of w.hop (keeps w.hop (kept_of again w.hop.mux)) w.work) w.hop w.hop.parent refl refl (drop 1 s.stack) (came_of s.came)
+    ∙ ap (λ (x : SeenView). first_act (seen (slots_of x) (tree_of b ms s.course (Pass w.place w.hop w.work ∷ drop 1 s.stack) (came_of s.came)))) c.again-again.ensures
+    ∙ ap (λ (ts : List Task). first_act (seen (slots_of c.args.seen.now) (tree_of b ms s.course ts (came_of s.came)))) (sym (c.in-Some.ensures.some ∙ ap (λ (t : Task). t ∷ drop 1 s.stack) w.is)))
