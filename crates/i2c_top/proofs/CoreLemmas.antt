@@ -1,6 +1,6 @@
 -- The callers of a run on their seats: what a core is opened with, and what it is when all are through.
-use Rattle.std.proofs.Common.{◌≡◌, ◌⊎◌, ℕ, zero, suc, ◌+◌, ◌<◌, ◌≤◌, true, IsTrue, List, [], ◌∷◌, length, map, reverse, All, Option, Some, None, inl, inr, refl, sym, ◌∙◌, ap, subst, arith}
-use Rattle.std.specs.Prelude.{slice_get}
+use Rattle.std.proofs.Common.{◌≡◌, ◌⊎◌, ℕ, zero, suc, ◌+◌, ◌<◌, ◌≤◌, true, IsTrue, List, [], ◌∷◌, length, map, reverse, All, Option, Some, None, Result, Ok, Err, inl, inr, refl, sym, ◌∙◌, ap, subst, arith}
+use Rattle.std.specs.Prelude.{IfOk, slice_get}
 use Rattle.std.specs.List.{enumerate_from, range_with_len, sum_by}
 use Rattle.std.specs.Option.{option_map_or}
 use Rattle.std.proofs.lemmas.Bool.{cases_lt}
@@ -25,24 +25,24 @@ use Rattle.i2c_spec.specs.Tree.{root_of}
 use Rattle.i2c_spec.specs.World.{World, opening_world, openings}
 use Rattle.i2c_spec.proofs.TreeLemmas.{tree_root_is}
 use Rattle.bus_spec.specs.Past.{now, world_at, calls_of}
-use Rattle.bus_spec.specs.Schedule.{Follows}
 use Rattle.bus_spec.specs.Stepwise.{IsStepwise}
 use Rattle.bus_spec.specs.Walk.{Ends}
 use Rattle.bus_core.specs.Kept.{roots_of}
-use Rattle.bus_core.specs.Opens.{MayOpen, callers_scripts}
+use Rattle.bus_core.specs.Opening.{Opening}
+use Rattle.bus_core.specs.Opens.{MayOpen, callers_scripts, opening_of}
 use Rattle.bus_core.specs.Places.{script_of, scripts_of, script_at, asks_of}
-use Rattle.bus_core.specs.State.{AllThrough, CoreState, CoreTold, IsThrough, has_caller, logs_of, taken_of, worlds_of}
+use Rattle.bus_core.specs.State.{AllThrough, CoreState, CoreTold, IsThrough, has_caller, logs_of, roots_in, taken_of, worlds_of}
 use Rattle.bus_core.specs.declared.bus.Parts.{Parts}
 use Rattle.bus_core.specs.declared.seat.Seat.{Seat}
 use Rattle.bus_core.proofs.Kept.{script-own}
 use Rattle.bus_core.proofs.Loops.{script-none}
-use Rattle.bus_core.proofs.Told.{has-by}
+use Rattle.bus_core.proofs.Told.{has-by, roots-told}
 use Rattle.bus_journal.specs.View.{JournalView}
 use Rattle.caller_core.specs.Callers.{IsOpened, board_of, owed_by}
 use Rattle.caller_core.proofs.FairLemmas.{left_at_first}
 use Rattle.caller_core.specs.Scripts.{asked_by, left_of, cost_of_script}
 use Rattle.caller_core.specs.View.{ScriptView, CallerView, script_on}
-use Rattle.i2c_top.specs.Runs.{asks_by, AreOpened, texts_of, cost_of_texts, callers_of, MOST_COST, IsOver}
+use Rattle.i2c_top.specs.Runs.{asks_by, AreOpened, texts_of, cost_of_texts, callers_of, MOST_COST, IsCoreOf, IsOver}
 use Rattle.i2c_top.proofs.RunLemmas.{same_asks}
 use Rattle.i2c_base.proofs.ListLemmas.{there, map_from, map_at}
 
@@ -273,10 +273,10 @@ module _ {P : Type 0} (g : PortGhosts P) (b : BoardView) (x : Parts P CallerView
   past = reverse x.journal.entries
 
   -- THE END: all are through
-  pub core-over : (ports : List P) (words : List ℕ) (v : CoreState ScriptView) → IsPlainBoard b → MeetsRules b → (IsTrue g.tells → CoreTold asked_by (left v)) → AllThrough asked_by g.tells (left v) → roots_of x.ports.items ≡ roots_of (enumerate_from 0 ports)
-      → length ports ≡ length b.roots → Follows words x.journal.entries → IsTrue g.tells
-      → IsOver b (callers_of x) MOST_CALLERS words x.journal.entries (map (λ (p : ℕ × P). g.world p.1) x.ports.items) (map (λ (p : ℕ × P). g.log p.1) x.ports.items)
-  core-over ports words v plain rules core_told through roots count follows tells =
+  core-over : (ports : List P) (v : CoreState ScriptView) → IsPlainBoard b → MeetsRules b → (IsTrue g.tells → CoreTold asked_by (left v)) → AllThrough asked_by g.tells (left v) → roots_of x.ports.items ≡ roots_of (enumerate_from 0 ports)
+      → length ports ≡ length b.roots → IsTrue g.tells
+      → IsOver b (callers_of x) MOST_CALLERS x.journal.entries (map (λ (p : ℕ × P). g.world p.1) x.ports.items) (map (λ (p : ℕ × P). g.log p.1) x.ports.items)
+  core-over ports v plain rules core_told through roots count tells =
       let told = core_told tells in
       record {
         plain = plain;
@@ -284,7 +284,6 @@ module _ {P : Type 0} (g : PortGhosts P) (b : BoardView) (x : Parts P CallerView
         own = own-at;
         stepwise = subst (λ (a : Asks). IsStepwise b MOST_CALLERS a past) asks-same told.stepwise;
         rests = subst (λ (a : Asks). (now b a past).due ≡ None) asks-same told.rests;
-        followed = follows;
         taken = λ c s here.
             subst (λ (a : Asks). s.taken ≡ (now b a past).settled c) asks-same (sym ((through-at v through c s here).1.settled tells));
         ended = λ c s here.
@@ -303,3 +302,43 @@ module _ {P : Type 0} (g : PortGhosts P) (b : BoardView) (x : Parts P CallerView
             ∙ ap (λ (w : List PortCall). Some w) (subst (λ (a : Asks). g.log p.0.1 ≡ calls_of b a past r) asks-same
             (told.logs r r (g.log p.0.1) (map_at (λ (q : ℕ × P). (q.0, g.log q.1)) x.ports.items r p.0 p.1 ∙ ap (λ (k : ℕ). Some (k, g.log p.0.1)) p.2)));
       }
+
+-- a core that was opened with the scripts and ports by their numbers is one of them
+pub core-opened : {P E : Type 0} (g : PortGhosts P) (b : BoardView) → IsPlainBoard b → MeetsRules b → (scripts : List CallerView) → AreOpened b scripts → (ports : List P) → length ports ≡ length b.roots
+    → (by_root : List (ℕ × P)) (by_number : List (ℕ × CallerView)) → by_root ≡ enumerate_from 0 ports → by_number ≡ enumerate_from 0 scripts → (r : Result (CoreState ScriptView) E)
+    → IfOk r (λ core. core.opening ≡ opening_of g script_row b by_root by_number) → IfOk r (λ core. core.worlds ≡ worlds_of g.world by_root) → IfOk r (IsCoreOf b scripts ports)
+core-opened g b plain rules scripts opened ports count by_root by_number roots_are numbers_are (Ok core) opening worlds =
+    record {
+      plain = plain;
+      rules = rules;
+      opened = opened;
+      count = count;
+      board = ap (λ (o : Opening ScriptView). o.board) opening;
+      scripts_are = ap (λ (o : Opening ScriptView). o.scripts) opening ∙ ap (callers_scripts script_row) numbers_are;
+      roots = ap (map (λ (w : ℕ × World). w.0)) worlds ∙ roots-told g.world by_root ∙ ap roots_of roots_are;
+    }
+core-opened g b plain rules scripts opened ports count by_root by_number roots_are numbers_are (Err e) opening worlds = tt
+
+-- a core that was opened with scripts and ports, ran, and was taken apart
+module _ {P : Type 0} (g : PortGhosts P) (b : BoardView) (scripts : List CallerView) (ports : List P) (core ran : CoreState ScriptView) (x : Parts P CallerView) (of : IsCoreOf b scripts ports core)
+    (opening : ran.opening ≡ core.opening) (roots_kept : roots_in ran ≡ roots_in core) (scripts_left : scripts_of script_row x.seats.items ≡ ran.opening.scripts) (worlds_left : worlds_of g.world x.ports.items ≡ ran.worlds) where
+  same : scripts_of script_row x.seats.items ≡ map (λ (y : ℕ × CallerView). (y.0, y.1.script)) (enumerate_from 0 scripts)
+  same = scripts_left ∙ ap (λ (o : Opening ScriptView). o.scripts) opening ∙ of.scripts_are
+
+  roots : roots_of x.ports.items ≡ roots_of (enumerate_from 0 ports)
+  roots = sym (roots-told g.world x.ports.items) ∙ ap (map (λ (w : ℕ × World). w.0)) worlds_left ∙ roots_kept ∙ of.roots
+
+  -- its callers are over, if all were through
+  pub apart-over : taken_of script_row x.seats.items ≡ ran.taken → x.journal ≡ ran.journal → logs_of g.log x.ports.items ≡ ran.logs → (IsTrue g.tells → CoreTold asked_by ran) → AllThrough asked_by g.tells ran → IsTrue g.tells
+      → IsOver b (callers_of x) MOST_CALLERS x.journal.entries (map (λ (p : ℕ × P). g.world p.1) x.ports.items) (map (λ (p : ℕ × P). g.log p.1) x.ports.items)
+  apart-over taken journal logs told through tells =
+      let is_left : ran ≡ left g b x scripts of.opened same ran = is-left g b x scripts of.opened same ran (ap (λ (o : Opening ScriptView). o.board) opening ∙ of.board) scripts_left taken journal worlds_left logs in
+      core-over g b x scripts of.opened same ports ran of.plain of.rules (λ tell. subst (λ (v : CoreState ScriptView). CoreTold asked_by v) is_left (told tell))
+      (subst (λ (v : CoreState ScriptView). AllThrough asked_by g.tells v) is_left through) roots of.count tells
+
+  -- .. with their texts, and a port for each root
+  pub apart-texts : texts_of (callers_of x) ≡ texts_of scripts
+  apart-texts = texts-same g b x scripts of.opened same
+
+  pub apart-ports : length x.ports.items ≡ length ports
+  apart-ports = ports-count x ports roots

@@ -1,5 +1,4 @@
--- A run that is over: its journal is legal, complete and follows the schedule, and the ports and the devices are what it
--- tells. The induction goes over the entries.
+-- A run that is over: its journal is legal and complete, and the ports and the devices are what it tells. The induction goes over the entries.
 use Rattle.std.proofs.Common.{◌≡◌, ℕ, ◌<◌, ◌≤◌, ◌⊎◌, inl, inr, List, [], ◌∷◌, length, map, reverse, get_or, Option, Some, None, sym, ◌∙◌, ap, subst, arith, cond, zero-add}
 use Rattle.std.specs.Prelude.{slice_get}
 use Rattle.std.specs.List.{range_with_len}
@@ -33,7 +32,7 @@ use Rattle.flat_laws.proofs.Laws.{replies-kept, legal-with, devices-left, comple
 use Rattle.caller_core.specs.Callers.{board_of}
 use Rattle.caller_core.specs.Scripts.{asked_by, left_of, commands_of, section_text}
 use Rattle.caller_core.specs.View.{CallerView, ScriptView, script_on}
-use Rattle.i2c_top.specs.Runs.{asks_by, printed_by, texts_of, section_of, IsOver, HasRun}
+use Rattle.i2c_top.specs.Runs.{asks_by, printed_by, texts_of, section_of, IsOver, IsRunOf}
 
 -- two ways of asking that give the same are one
 pub same_asks : (f g : Asks) → ((c : ℕ) (rs : List Reply) → f c rs ≡ g c rs) → f ≡ g
@@ -88,8 +87,8 @@ of_asks b texts P each c rs t e = by (slice_get texts c) e
     by None k = absurd (let h : None ≡ Some t = k in cc)
     by (Some text) k = each text rs t k
 
-module _ (b : BoardView) (callers : List CallerView) (many : ℕ) (words : List ℕ) (journal : List Entry) (worlds : List World) (logs : List (List PortCall))
-    (fair : IsFairCaller asked_by left_of board_of) (over : IsOver b callers many words journal worlds logs) where
+module _ (b : BoardView) (callers : List CallerView) (many : ℕ) (journal : List Entry) (worlds : List World) (logs : List (List PortCall))
+    (fair : IsFairCaller asked_by left_of board_of) (over : IsOver b callers many journal worlds logs) where
   abbrev texts : List (List ℕ)
   texts = texts_of callers
 
@@ -172,20 +171,16 @@ module _ (b : BoardView) (callers : List CallerView) (many : ℕ) (words : List 
 
   -- THE RUN of callers that are over
   pub run-over : (bytes : List ℕ) (kept_logs : List (List PortCall)) (states : List TargetState) → bytes ≡ report_lines (map section_of callers) journal
-      → (AreWorldsOf b worlds → states ≡ devices_of b worlds) → (AreWorldsOf b worlds → kept_logs ≡ logs) → HasRun b texts words bytes kept_logs states
+      → (AreWorldsOf b worlds → states ≡ devices_of b worlds) → (AreWorldsOf b worlds → kept_logs ≡ logs) → IsRunOf b texts bytes kept_logs states journal
   run-over bytes kept_logs states printed kept logged =
       record {
-        journal = journal;
-        is_run = record {
-          reported = printed ∙ ap (λ (xs : List (List ℕ)). report_lines xs journal) sections_are;
-          legal = legal-with b (tree_of b over.plain over.rules) over.plain (lines-locked b over.rules) asks some count past stepwise over.rests
-              (replies-kept b (tree_of b over.plain over.rules) over.plain (lines-locked b over.rules) asks some limits count past stepwise);
-          stepwise = stepwise;
-          complete = complete-then b (tree_of b over.plain over.rules) over.plain (lines-locked b over.rules) asks some count past stepwise is_done;
-          followed = over.followed;
-          called = logged are_worlds ∙ logs_are;
-          told = left_by.told;
-          replayed = left_by.defined;
-          left = kept are_worlds ∙ ap (devices_of b) worlds_are ∙ left_by.states;
-        };
+        reported = printed ∙ ap (λ (xs : List (List ℕ)). report_lines xs journal) sections_are;
+        legal = legal-with b (tree_of b over.plain over.rules) over.plain (lines-locked b over.rules) asks some count past stepwise over.rests
+            (replies-kept b (tree_of b over.plain over.rules) over.plain (lines-locked b over.rules) asks some limits count past stepwise);
+        stepwise = stepwise;
+        complete = complete-then b (tree_of b over.plain over.rules) over.plain (lines-locked b over.rules) asks some count past stepwise is_done;
+        called = logged are_worlds ∙ logs_are;
+        told = left_by.told;
+        replayed = left_by.defined;
+        left = kept are_worlds ∙ ap (devices_of b) worlds_are ∙ left_by.states;
       }

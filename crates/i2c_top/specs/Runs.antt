@@ -1,7 +1,7 @@
 -- What a run of callers comes to: the report of a journal that is legal and complete and follows the schedule, the calls of
 -- that journal in the ports' logs, and the devices that its history leaves.
 use Rattle.std.specs.Prelude.{◌≡◌, ℕ, ◌<◌, List, [], reverse, length, map, All, slice_get, None, Some}
-use Rattle.std.specs.List.{range_with_len, sum_by}
+use Rattle.std.specs.List.{enumerate_from, range_with_len, sum_by}
 use Rattle.std.specs.Option.{option_map_or}
 use Rattle.i2c_base.specs.declared.entry.Entry.{Entry}
 use Rattle.i2c_base.specs.declared.port.PortCall.{PortCall}
@@ -19,11 +19,13 @@ use Rattle.bus_spec.specs.Legal.{IsLegal, IsComplete}
 use Rattle.bus_spec.specs.Stepwise.{IsStepwise}
 use Rattle.bus_spec.specs.Schedule.{Follows}
 use Rattle.bus_spec.specs.Report.{report_of}
+use Rattle.bus_core.specs.Kept.{roots_of}
+use Rattle.bus_core.specs.State.{CoreState, roots_in}
 use Rattle.bus_core.specs.declared.bus.Parts.{Parts}
 use Rattle.bus_core.specs.declared.seat.Seat.{Seat}
 use Rattle.caller_core.specs.Callers.{IsOpened}
 use Rattle.caller_core.specs.Scripts.{asked_by, commands_of, cost_of_script, section_text}
-use Rattle.caller_core.specs.View.{CallerView, script_on}
+use Rattle.caller_core.specs.View.{CallerView, ScriptView, script_on}
 
 -- what a caller asks for, by the text of its script, which stands at its number; nobody has another number
 abbrev pub asks_by : BoardView → List (List ℕ) → Asks
@@ -53,19 +55,28 @@ cost_of_texts b texts = sum_by (λ text. cost_of_script (script_on b text)) text
 abbrev pub MOST_COST : ℕ
 MOST_COST = 1000000
 
+-- a core over an accepted board that was opened with these scripts and ports, each by its number
+pub record IsCoreOf {P : Type 0} (b : BoardView) (scripts : List CallerView) (ports : List P) (core : CoreState ScriptView) : Type 0 where
+  pub plain : IsPlainBoard b
+  pub rules : MeetsRules b
+  pub opened : AreOpened b scripts
+  pub count : length ports ≡ length b.roots
+  pub board : core.opening.board ≡ b
+  pub scripts_are : core.opening.scripts ≡ map (λ (y : ℕ × CallerView). (y.0, y.1.script)) (enumerate_from 0 scripts)
+  pub roots : roots_in core ≡ roots_of (enumerate_from 0 ports)
+
 -- the callers of a core that was taken apart, in the order of their seats
 abbrev pub callers_of : {P : Type 0} → Parts P CallerView → List CallerView
 callers_of parts = map (λ (s : Seat CallerView). s.caller) parts.seats.items
 
 -- the callers of a run that is over, on an accepted board, the worlds and the logs of its ports, and its journal, which was
 -- stepwise for at least so many callers
-pub record IsOver (b : BoardView) (callers : List CallerView) (many : ℕ) (words : List ℕ) (journal : List Entry) (worlds : List World) (logs : List (List PortCall)) : Type 0 where
+pub record IsOver (b : BoardView) (callers : List CallerView) (many : ℕ) (journal : List Entry) (worlds : List World) (logs : List (List PortCall)) : Type 0 where
   pub plain : IsPlainBoard b
   pub rules : MeetsRules b
   pub own : (c : ℕ) (s : CallerView) → slice_get callers c ≡ Some s → s.script ≡ script_on b s.script.text
   pub stepwise : IsStepwise b many (asks_by b (texts_of callers)) (reverse journal)
   pub rests : (now b (asks_by b (texts_of callers)) (reverse journal)).due ≡ None
-  pub followed : Follows words journal
   pub taken : (c : ℕ) (s : CallerView) → slice_get callers c ≡ Some s → s.taken ≡ (now b (asks_by b (texts_of callers)) (reverse journal)).settled c
   pub ended : (c : ℕ) (s : CallerView) → slice_get callers c ≡ Some s → (now b (asks_by b (texts_of callers)) (reverse journal)).walk c ≡ Ends
   pub done : (c : ℕ) (s : CallerView) → slice_get callers c ≡ Some s → asked_by (script_on b s.script.text) s.taken ≡ None
@@ -75,20 +86,19 @@ pub record IsOver (b : BoardView) (callers : List CallerView) (many : ℕ) (word
   pub log : (r : ℕ) → r < length b.roots → slice_get logs r ≡ Some (calls_of b (asks_by b (texts_of callers)) (reverse journal) r)
 
 -- these bytes are the report of this journal, the oldest entry first; it is legal, and each entry might come where it did;
--- it is complete, and follows the schedule whose words name these callers; these are the calls of its ports, and the
--- devices that it leaves
-pub record IsRunOf (b : BoardView) (texts : List (List ℕ)) (words bytes : List ℕ) (logs : List (List PortCall)) (states : List TargetState) (journal : List Entry) : Type 0 where
+-- it is complete; these are the calls of its ports, and the devices that it leaves
+pub record IsRunOf (b : BoardView) (texts : List (List ℕ)) (bytes : List ℕ) (logs : List (List PortCall)) (states : List TargetState) (journal : List Entry) : Type 0 where
   pub reported : bytes ≡ report_of (printed_by b texts) (length texts) journal
   pub legal : IsLegal b (length texts) (asks_by b texts) (reverse journal)
   pub stepwise : IsStepwise b (length texts) (asks_by b texts) (reverse journal)
   pub complete : IsComplete b (length texts) (asks_by b texts) (reverse journal)
-  pub followed : Follows words journal
   pub called : logs ≡ map (calls_of b (asks_by b texts) (reverse journal)) (range_with_len 0 (length b.roots))
   pub told : History
   pub replayed : history b (asks_by b texts) (order (reverse journal)) ≡ Some told
   pub left : states ≡ told.states
 
--- there is such a journal
+-- there is such a journal, which follows the schedule whose words name these callers
 pub record HasRun (b : BoardView) (texts : List (List ℕ)) (words bytes : List ℕ) (logs : List (List PortCall)) (states : List TargetState) : Type 0 where
   pub journal : List Entry
-  pub is_run : IsRunOf b texts words bytes logs states journal
+  pub is_run : IsRunOf b texts bytes logs states journal
+  pub followed : Follows words journal

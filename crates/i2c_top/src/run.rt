@@ -4,7 +4,8 @@ ghost use Rattle.i2c_base.specs.Limits.{MOST_ROOTS, MOST_CALLERS};
 ghost use Rattle.i2c_base.specs.declared.port.Phase.{Phase};
 ghost use Rattle.i2c_outside.specs.Causes.{Rose, counted};
 ghost use Rattle.i2c_spec.specs.World.{openings};
-ghost use Rattle.i2c_top.specs.Runs.{AreOpened, texts_of, cost_of_texts, callers_of, MOST_COST, IsOver, HasRun};
+ghost use Rattle.bus_spec.specs.Schedule.{Follows};
+ghost use Rattle.i2c_top.specs.Runs.{AreOpened, texts_of, cost_of_texts, callers_of, MOST_COST, IsCoreOf, IsOver, HasRun};
 ghost use Rattle.i2c_top.specs.declared.status.Status.TheVariants as status;
 
 use crate::Status;
@@ -57,6 +58,31 @@ fn alone<P: Port>(ports: Vec<(SegId, P)>, room: Vec<P>) -> Vec<P>
     alone
 }
 
+// A core of the scripts and the ports, each by its number, which has made no step.
+fn opened<'b, P: Port>(
+    alloc: Global,
+    board: &'b Accepted,
+    scripts: Vec<Script>,
+    ports: Vec<P>,
+) -> Result<BusCore<'b, P, Script>, NoMemory>
+    requires opened { AreOpened board.now scripts.items }
+    requires few { length scripts.items ≤ MOST_CALLERS }
+    requires cheap { cost_of_texts board.now (texts_of scripts.items) ≤ MOST_COST }
+    requires count { length ports.items ≡ length board.now.roots }
+    requires idle { All (λ p. P.phase p ≡ Phase.Idle) ports.items }
+    requires empty { IsTrue P.tells → All (λ p. P.log p ≡ []) ports.items }
+    requires worlds { IsTrue P.tells → map P.world ports.items ≡ openings board.now }
+    ensures of { IfOk result (IsCoreOf board.now scripts.items ports.items) }
+    ensures entries { IfOk result (λ core. core.journal.entries ≡ []) }
+{
+    scripts_are_fair();
+    let limit = cost_of(board, scripts.as_slice()) as u32;
+    let roots = board.board().roots().len();
+    let ports = by_root(alloc, ports, roots)?;
+    let callers = by_number(alloc, scripts)?;
+    BusCore::open(alloc, board, ports, callers, limit)
+}
+
 // What is left of the core when the callers have followed the schedule and each script is used up.
 fn finished<P: Port>(
     alloc: Global,
@@ -73,16 +99,12 @@ fn finished<P: Port>(
     requires idle { All (λ p. P.phase p ≡ Phase.Idle) ports.items }
     requires empty { IsTrue P.tells → All (λ p. P.log p ≡ []) ports.items }
     requires worlds { IsTrue P.tells → map P.world ports.items ≡ openings board.now }
-    ensures over { IsTrue P.tells → IfOk result (λ parts. IsOver board.now (callers_of parts) MOST_CALLERS words.now parts.journal.entries (map (λ p. P.world p.1) parts.ports.items) (map (λ p. P.log p.1) parts.ports.items)) }
+    ensures over { IsTrue P.tells → IfOk result (λ parts. IsOver board.now (callers_of parts) MOST_CALLERS parts.journal.entries (map (λ p. P.world p.1) parts.ports.items) (map (λ p. P.log p.1) parts.ports.items)) }
+    ensures followed { IsTrue P.tells → IfOk result (λ parts. Follows words.now parts.journal.entries) }
     ensures texts { IfOk result (λ parts. texts_of (callers_of parts) ≡ texts_of scripts.items) }
     ensures ports { IfOk result (λ parts. length parts.ports.items ≡ length ports.items) }
 {
-    scripts_are_fair();
-    let limit = cost_of(board, scripts.as_slice()) as u32;
-    let roots = board.board().roots().len();
-    let ports = by_root(alloc, ports, roots)?;
-    let callers = by_number(alloc, scripts)?;
-    let mut core = BusCore::open(alloc, board, ports, callers, limit)?;
+    let mut core = opened(alloc, board, scripts, ports)?;
     core.follow(words);
     Ok(core.take_apart())
 }

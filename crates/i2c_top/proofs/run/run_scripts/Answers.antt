@@ -32,8 +32,12 @@ returns-clause-run g c =
     let states = g.R.Rig.states c.unplug-2.new.self in
     let kept_logs = g.R.Rig.logs c.unplug-2.new.self in
     subst (λ (texts : List (List ℕ)). HasRun b texts c.args.words.now bytes kept_logs states) c.in-Ok-finished.ensures.texts
-    (run-over b (callers_of parts) MOST_CALLERS c.args.words.now journal worlds logs scripts_fair over bytes kept_logs states printed
-    (subst (λ (k : BoardView). AreWorldsOf k worlds → states ≡ devices_of k worlds) board
-    (subst (λ (ws : List World). AreWorldsOf (g.R.Rig.board_of c.plug.new.self) ws → states ≡ devices_of (g.R.Rig.board_of c.plug.new.self) ws) given (c.unplug-2.ensures.states tells tell)))
-    (λ are. subst (λ (k : BoardView). AreWorldsOf k worlds → kept_logs ≡ map row.log c.alone.result.items) board
-    (subst (λ (ws : List World). AreWorldsOf (g.R.Rig.board_of c.plug.new.self) ws → kept_logs ≡ map row.log c.alone.result.items) given (c.unplug-2.ensures.logs tells tell)) are ∙ logged))
+    (record {
+      journal = journal;
+      is_run = run-over b (callers_of parts) MOST_CALLERS journal worlds logs scripts_fair over bytes kept_logs states printed
+          (subst (λ (k : BoardView). AreWorldsOf k worlds → states ≡ devices_of k worlds) board
+          (subst (λ (ws : List World). AreWorldsOf (g.R.Rig.board_of c.plug.new.self) ws → states ≡ devices_of (g.R.Rig.board_of c.plug.new.self) ws) given (c.unplug-2.ensures.states tells tell)))
+          (λ are. subst (λ (k : BoardView). AreWorldsOf k worlds → kept_logs ≡ map row.log c.alone.result.items) board
+          (subst (λ (ws : List World). AreWorldsOf (g.R.Rig.board_of c.plug.new.self) ws → kept_logs ≡ map row.log c.alone.result.items) given (c.unplug-2.ensures.logs tells tell)) are ∙ logged);
+      followed = c.in-Ok-finished.ensures.followed tell;
+    })
