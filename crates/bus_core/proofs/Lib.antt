@@ -1,6 +1,6 @@
 -- The step of a walk that an action tells; the seat at a place, and what two steps leave of one; a step of the caller at
 -- a place, and all else that stays: locks, messages, lines, refusals; who can step, and callers that step one after the
--- other; and the opening.
+-- other; the opening; and that a core may go to another thread.
 pub mod ActionLemmas
 pub mod There
 pub mod SeatLemmas
@@ -19,3 +19,4 @@ pub mod Loops
 pub mod Told
 pub mod Opened
 pub mod Seating
+pub mod SendLemmas
