@@ -1,0 +1,2 @@
+-- That threads may share a desk.
+pub mod SendLemmas
