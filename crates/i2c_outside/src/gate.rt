@@ -1,7 +1,7 @@
 use i2c_base::LockId;
 
 /// What a step did.
-#[derive(Clone, Copy)]
+#[derive(Clone, Copy, PartialEq, Eq)]
 pub enum Point {
     Took(LockId),
     Freed(LockId),

@@ -16,6 +16,7 @@ mod rig;
 mod shelf;
 mod sink;
 mod stdout_sink;
+mod turn_gate;
 mod vec_sink;
 
 pub use device::{DeviceState, silence};
@@ -32,4 +33,5 @@ pub use sink::Sink;
 pub use stdout_sink::StdoutSink;
 pub use tgt_eeprom::Eeprom;
 pub use tgt_small::{Lm75, Regs};
+pub use turn_gate::TurnGate;
 pub use vec_sink::VecSink;
