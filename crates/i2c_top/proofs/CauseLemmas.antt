@@ -1,11 +1,11 @@
 -- The files decide one status: of two that they are a cause of, both are the same.
-use Rattle.std.proofs.Common.{◌≡◌, ℕ, ◌<◌, ◌≤◌, ◌⊎◌, inl, inr, List, length, Option, Some, Result, Ok, Err, refl, sym, ◌∙◌, ap, subst, arith}
+use Rattle.std.proofs.Common.{◌≡◌, ℕ, ◌<◌, ◌≤◌, ◌⊎◌, inl, inr, List, length, Option, None, Some, Result, Ok, Err, refl, sym, ◌∙◌, ap, subst, arith}
 use Rattle.std.proofs.lemmas.Bool.{cases_order}
 use Rattle.i2c_base.specs.Board.{BoardView}
 use Rattle.i2c_top.specs.Boards.{IsAccepted, IsRejected}
 use Rattle.i2c_top.specs.Checks.{HasAccepted, HasRejected, IsCheckCause}
 use Rattle.i2c_top.specs.Files.{Files}
-use Rattle.i2c_top.specs.Replays.{Names, script_name, HasScript, HasBadScript, HasScripts, HasSchedule, HasBadSchedule, HasTexts, HasFiles, HasDearFiles, HasScriptsBefore, cost_in, IsReplayCause}
+use Rattle.i2c_top.specs.Replays.{Names, script_name, HasScript, HasBadScript, HasScripts, HasSchedule, HasBadSchedule, HasOrder, HasBadOrder, HasTexts, HasFiles, HasDearFiles, HasScriptsBefore, cost_in, IsReplayCause}
 use Rattle.i2c_top.specs.Requests.{Request, Replay, Check, NoForm, IsCause}
 use Rattle.i2c_top.specs.Runs.{MOST_COST}
 use Rattle.caller_core.specs.Scripts.{Place, script_read, commands_of}
@@ -42,6 +42,10 @@ no_schedule : (file : Files) (name : List ℕ) (callers word : ℕ) → HasSched
 no_schedule file name callers word s b =
     not_words (schedule_read callers b.text) s.words word (ap (schedule_read callers) (sym (one_text (file name) s.text b.text s.there b.there)) ∙ s.read) b.fault
 
+no_order : (file : Files) (schedule : Option (List ℕ)) (callers word : ℕ) → HasOrder file schedule callers → HasBadOrder file schedule callers word → ⊥
+no_order file None callers word has bad = bad
+no_order file (Some name) callers word has bad = no_schedule file name callers word has bad
+
 abbrev place_or : Place → Result (List CommandView) Place → Place
 place_or p (Ok cs) = p
 place_or p (Err q) = q
@@ -64,6 +68,10 @@ word_or w (Err v) = v
 one_word : (file : Files) (name : List ℕ) (callers word word_now : ℕ) → HasBadSchedule file name callers word → HasBadSchedule file name callers word_now → word_now ≡ word
 one_word file name callers word word_now b n =
     ap (word_or word) (sym n.fault ∙ ap (schedule_read callers) (one_text (file name) n.text b.text n.there b.there) ∙ b.fault)
+
+one_order : (file : Files) (schedule : Option (List ℕ)) (callers word word_now : ℕ) → HasBadOrder file schedule callers word → HasBadOrder file schedule callers word_now → word_now ≡ word
+one_order file None callers word word_now b n = absurd b
+one_order file (Some name) callers word word_now b n = one_word file name callers word word_now b n
 
 one_board_in : (file : Files) (name : List ℕ) (a b : HasAccepted file name) → a.board ≡ b.board
 one_board_in file name a b =
@@ -95,7 +103,7 @@ record DecideSchedule (file : Files) (names : Names) (s : Status) : Type 0 where
   same : s ≡ status.Schedule word
   board : HasAccepted file names.board
   scripts : HasScripts file board.board names.scripts (length names.scripts)
-  schedule : HasBadSchedule file names.schedule (length names.scripts) word
+  schedule : HasBadOrder file names.schedule (length names.scripts) word
 
 record DecideCost (file : Files) (names : Names) (s : Status) : Type 0 where
   cost : ℕ
@@ -164,7 +172,7 @@ agree : (file : Files) (names : Names) (s r : Status) → Decide file names s �
 agree file names s r (inl a) (inl b) = agree_texts file names s r a b
 agree file names s r (inl a) (inr (inl b)) = absurd (no_board file names.board b.why (texts_of file names s a).board b.board)
 agree file names s r (inl a) (inr (inr (inl b))) = absurd (all_earlier file names b.caller b.line b.word (texts_of file names s a).board (texts_of file names s a).scripts b.earlier b.script)
-agree file names s r (inl a) (inr (inr (inr b))) = absurd (no_schedule file names.schedule (length names.scripts) b.word (texts_of file names s a).schedule b.schedule)
+agree file names s r (inl a) (inr (inr (inr b))) = absurd (no_order file names.schedule (length names.scripts) b.word (texts_of file names s a).schedule b.schedule)
 agree file names s r (inr (inl a)) (inl b) = absurd (no_board file names.board a.why (texts_of file names r b).board a.board)
 agree file names s r (inr (inl a)) (inr (inl b)) =
     b.same ∙ ap (λ w. status.Board w) (one_why file names.board a.why b.why a.board b.board) ∙ sym a.same
@@ -174,11 +182,11 @@ agree file names s r (inr (inr (inl a))) (inl b) = absurd (all_earlier file name
 agree file names s r (inr (inr (inl a))) (inr (inl b)) = absurd (no_board file names.board b.why a.earlier.board b.board)
 agree file names s r (inr (inr (inl a))) (inr (inr (inl b))) = agree_script file names s r a b
 agree file names s r (inr (inr (inl a))) (inr (inr (inr b))) = absurd (all_earlier file names a.caller a.line a.word b.board b.scripts a.earlier a.script)
-agree file names s r (inr (inr (inr a))) (inl b) = absurd (no_schedule file names.schedule (length names.scripts) a.word (texts_of file names r b).schedule a.schedule)
+agree file names s r (inr (inr (inr a))) (inl b) = absurd (no_order file names.schedule (length names.scripts) a.word (texts_of file names r b).schedule a.schedule)
 agree file names s r (inr (inr (inr a))) (inr (inl b)) = absurd (no_board file names.board b.why a.board b.board)
 agree file names s r (inr (inr (inr a))) (inr (inr (inl b))) = absurd (all_earlier file names b.caller b.line b.word a.board a.scripts b.earlier b.script)
 agree file names s r (inr (inr (inr a))) (inr (inr (inr b))) =
-    b.same ∙ ap (λ w. status.Schedule w) (one_word file names.schedule (length names.scripts) a.word b.word a.schedule b.schedule) ∙ sym a.same
+    b.same ∙ ap (λ w. status.Schedule w) (one_order file names.schedule (length names.scripts) a.word b.word a.schedule b.schedule) ∙ sym a.same
 
 replay_cause : (file : Files) (names : Names) (s r : Status) → IsReplayCause file names s → IsReplayCause file names r → r ≡ s
 replay_cause file names s r h k = agree file names s r (decided file names s h) (decided file names r k)

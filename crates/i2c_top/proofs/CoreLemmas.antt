@@ -1,6 +1,6 @@
 -- The callers of a run on their seats: what a core is opened with, and what it is when all are through.
 use Rattle.std.proofs.Common.{◌≡◌, ◌⊎◌, ℕ, zero, suc, ◌+◌, ◌<◌, ◌≤◌, true, IsTrue, List, [], ◌∷◌, length, map, reverse, All, Option, Some, None, Result, Ok, Err, inl, inr, refl, sym, ◌∙◌, ap, subst, arith}
-use Rattle.std.specs.Prelude.{IfOk, slice_get}
+use Rattle.std.specs.Prelude.{IfOk, slice_get, unwrap_or}
 use Rattle.std.specs.List.{enumerate_from, range_with_len, sum_by}
 use Rattle.std.specs.Option.{option_map_or}
 use Rattle.std.proofs.lemmas.Bool.{cases_lt}
@@ -25,6 +25,7 @@ use Rattle.i2c_spec.specs.Tree.{root_of}
 use Rattle.i2c_spec.specs.World.{World, opening_world, openings}
 use Rattle.i2c_spec.proofs.TreeLemmas.{tree_root_is}
 use Rattle.bus_spec.specs.Past.{now, world_at, calls_of}
+use Rattle.bus_spec.specs.Schedule.{Follows}
 use Rattle.bus_spec.specs.Stepwise.{IsStepwise}
 use Rattle.bus_spec.specs.Walk.{Ends}
 use Rattle.bus_core.specs.Kept.{roots_of}
@@ -42,7 +43,9 @@ use Rattle.caller_core.specs.Callers.{IsOpened, board_of, owed_by}
 use Rattle.caller_core.proofs.FairLemmas.{left_at_first}
 use Rattle.caller_core.specs.Scripts.{asked_by, left_of, cost_of_script}
 use Rattle.caller_core.specs.View.{ScriptView, CallerView, script_on}
-use Rattle.i2c_top.specs.Runs.{asks_by, AreOpened, texts_of, cost_of_texts, callers_of, MOST_COST, IsCoreOf, IsOver}
+use Rattle.i2c_top.specs.Cores.{IsCoreOf, IsLeftOf}
+use Rattle.i2c_top.specs.Readings.{AreNamed}
+use Rattle.i2c_top.specs.Runs.{asks_by, AreOpened, texts_of, cost_of_texts, callers_of, MOST_COST, IsOver, KeepsOrder}
 use Rattle.i2c_top.proofs.RunLemmas.{same_asks}
 use Rattle.i2c_base.proofs.ListLemmas.{there, map_from, map_at}
 
@@ -319,26 +322,35 @@ core-opened g b plain rules scripts opened ports count by_root by_number roots_a
     }
 core-opened g b plain rules scripts opened ports count by_root by_number roots_are numbers_are (Err e) opening worlds = tt
 
--- a core that was opened with scripts and ports, ran, and was taken apart
-module _ {P : Type 0} (g : PortGhosts P) (b : BoardView) (scripts : List CallerView) (ports : List P) (core ran : CoreState ScriptView) (x : Parts P CallerView) (of : IsCoreOf b scripts ports core)
-    (opening : ran.opening ≡ core.opening) (roots_kept : roots_in ran ≡ roots_in core) (scripts_left : scripts_of script_row x.seats.items ≡ ran.opening.scripts) (worlds_left : worlds_of g.world x.ports.items ≡ ran.worlds) where
-  same : scripts_of script_row x.seats.items ≡ map (λ (y : ℕ × CallerView). (y.0, y.1.script)) (enumerate_from 0 scripts)
-  same = scripts_left ∙ ap (λ (o : Opening ScriptView). o.scripts) opening ∙ of.scripts_are
+-- a core that was opened with scripts and ports, ran until all were through, and was taken apart
+pub taken-apart : {P : Type 0} (g : PortGhosts P) (b : BoardView) (scripts : List CallerView) (ports : List P) (words : Option (List ℕ)) (core ran : CoreState ScriptView) (x : Parts P CallerView)
+    → IsCoreOf b scripts ports core → ran.opening ≡ core.opening → roots_in ran ≡ roots_in core → scripts_of script_row x.seats.items ≡ ran.opening.scripts → taken_of script_row x.seats.items ≡ ran.taken
+    → worlds_of g.world x.ports.items ≡ ran.worlds → logs_of g.log x.ports.items ≡ ran.logs → x.journal ≡ ran.journal → (IsTrue g.tells → CoreTold asked_by ran) → AllThrough asked_by g.tells ran
+    → (IsTrue g.tells → KeepsOrder words ran.journal.entries) → IsLeftOf g b scripts ports words x
+taken-apart g b scripts ports words core ran x of opening roots_kept scripts_left taken worlds logs journal told through ordered =
+    record {
+      over = λ tells.
+          core-over g b x scripts of.opened same ports ran of.plain of.rules (λ tell. subst (λ (v : CoreState ScriptView). CoreTold asked_by v) is_left (told tell))
+          (subst (λ (v : CoreState ScriptView). AllThrough asked_by g.tells v) is_left through) roots of.count tells;
+      ordered = λ tells. subst (λ (j : JournalView). KeepsOrder words j.entries) (sym journal) (ordered tells);
+      texts = texts-same g b x scripts of.opened same;
+      count = ports-count x ports roots;
+    }
+  where
+    same : scripts_of script_row x.seats.items ≡ map (λ (y : ℕ × CallerView). (y.0, y.1.script)) (enumerate_from 0 scripts)
+    same = scripts_left ∙ ap (λ (o : Opening ScriptView). o.scripts) opening ∙ of.scripts_are
 
-  roots : roots_of x.ports.items ≡ roots_of (enumerate_from 0 ports)
-  roots = sym (roots-told g.world x.ports.items) ∙ ap (map (λ (w : ℕ × World). w.0)) worlds_left ∙ roots_kept ∙ of.roots
+    roots : roots_of x.ports.items ≡ roots_of (enumerate_from 0 ports)
+    roots = sym (roots-told g.world x.ports.items) ∙ ap (map (λ (w : ℕ × World). w.0)) worlds ∙ roots_kept ∙ of.roots
 
-  -- its callers are over, if all were through
-  pub apart-over : taken_of script_row x.seats.items ≡ ran.taken → x.journal ≡ ran.journal → logs_of g.log x.ports.items ≡ ran.logs → (IsTrue g.tells → CoreTold asked_by ran) → AllThrough asked_by g.tells ran → IsTrue g.tells
-      → IsOver b (callers_of x) MOST_CALLERS x.journal.entries (map (λ (p : ℕ × P). g.world p.1) x.ports.items) (map (λ (p : ℕ × P). g.log p.1) x.ports.items)
-  apart-over taken journal logs told through tells =
-      let is_left : ran ≡ left g b x scripts of.opened same ran = is-left g b x scripts of.opened same ran (ap (λ (o : Opening ScriptView). o.board) opening ∙ of.board) scripts_left taken journal worlds_left logs in
-      core-over g b x scripts of.opened same ports ran of.plain of.rules (λ tell. subst (λ (v : CoreState ScriptView). CoreTold asked_by v) is_left (told tell))
-      (subst (λ (v : CoreState ScriptView). AllThrough asked_by g.tells v) is_left through) roots of.count tells
+    is_left : ran ≡ left g b x scripts of.opened same ran
+    is_left = is-left g b x scripts of.opened same ran (ap (λ (o : Opening ScriptView). o.board) opening ∙ of.board) scripts_left taken journal worlds logs
 
-  -- .. with their texts, and a port for each root
-  pub apart-texts : texts_of (callers_of x) ≡ texts_of scripts
-  apart-texts = texts-same g b x scripts of.opened same
+-- without a schedule nobody is named, and any order is kept
+pub named-all : (callers : ℕ) (words : Option (List ℕ)) → AreNamed callers words → All (λ c. c < callers) (unwrap_or words [])
+named-all callers None named = λ k d low. absurd (omega (arith, low))
+named-all callers (Some words) named = named
 
-  pub apart-ports : length x.ports.items ≡ length ports
-  apart-ports = ports-count x ports roots
+pub order-kept : (words : Option (List ℕ)) (journal : List Entry) → Follows (unwrap_or words []) journal → KeepsOrder words journal
+order-kept None journal follows = tt
+order-kept (Some words) journal follows = follows

@@ -114,12 +114,14 @@ left_of request rig rig_now Refused untouched = inl untouched
 left_of request rig rig_now (Unread place) untouched = inl untouched
 
 own_write : (request : Request) → IsOwnStatus request status.Write
-own_write (Replay names) = λ cost e. absurd (let k : status.Write ≡ status.Cost cost = e in cc)
+own_write (Replay names) =
+    record { cost = λ cost e. absurd (let k : status.Write ≡ status.Cost cost = e in cc); schedule = λ word e. absurd (let k : status.Write ≡ status.Schedule word = e in cc) }
 own_write (Check board) = tt
 own_write NoForm = tt
 
 own_memory : (request : Request) → IsOwnStatus request status.Memory
-own_memory (Replay names) = λ cost e. absurd (let k : status.Memory ≡ status.Cost cost = e in cc)
+own_memory (Replay names) =
+    record { cost = λ cost e. absurd (let k : status.Memory ≡ status.Cost cost = e in cc); schedule = λ word e. absurd (let k : status.Memory ≡ status.Schedule word = e in cc) }
 own_memory (Check board) = tt
 own_memory NoForm = tt
 

@@ -1,5 +1,5 @@
 -- What came of reading a file, from what came of its text.
-use Rattle.std.proofs.Common.{◌≡◌, ℕ, ◌+◌, ◌<◌, ◌≤◌, ◌⊎◌, inl, inr, Bool, IsTrue, List, [], ◌∷◌, ◌++◌, length, take, get_or, Some, unwrap_or, Result, Ok, Err, refl, sym, ap, subst, ◌∙◌, arith}
+use Rattle.std.proofs.Common.{◌≡◌, ℕ, ◌+◌, ◌<◌, ◌≤◌, ◌⊎◌, inl, inr, Bool, IsTrue, List, [], ◌∷◌, ◌++◌, length, take, get_or, Option, None, Some, unwrap_or, Result, Ok, Err, refl, sym, ap, subst, ◌∙◌, arith}
 use Rattle.std.specs.Prelude.{IfOk, OnOk, IfErr}
 use Rattle.std.specs.Result.{IsErrAnd}
 use Rattle.std.proofs.lemmas.Bool.{cases_lt}
@@ -12,12 +12,14 @@ use Rattle.caller_core.specs.Scripts.{script_read, commands_of}
 use Rattle.caller_core.specs.View.{CallerView, script_on}
 use Rattle.i2c_top.specs.Boards.{IsAccepted, IsRejected}
 use Rattle.i2c_top.specs.Files.{Files, bytes_in}
-use Rattle.i2c_top.specs.Readings.{IsAcceptedIn, IsRejectedIn, IsScriptIn, AreScriptsIn, IsScheduleIn, HasRead, IsRefusedAt, IsRefusedScript, IsBadBoard, IsBadScript, IsBadSchedule, IsTooDear}
+use Rattle.i2c_top.specs.Readings.{IsAcceptedIn, IsRejectedIn, IsScriptIn, AreScriptsIn, IsScheduleIn, IsOrderIn, HasRead, IsRefusedAt, IsRefusedScript, IsRefusedOrder, IsBadBoard, IsBadScript, IsTooDear}
 use Rattle.i2c_outside.specs.Causes.{Rose}
-use Rattle.i2c_top.specs.Replays.{Names, script_name, HasScript, HasBadScript, HasScripts, HasBadSchedule, HasScriptsBefore, HasTexts, texts_in, cost_in, IsFileRefusal}
+use Rattle.i2c_top.specs.Replays.{Names, script_name, HasScript, HasBadScript, HasScripts, HasBadSchedule, HasScriptsBefore, HasTexts, first_script, texts_in, cost_in, IsScheduleAt, KeepsAfter, KeepsUnreached, IsFileRefusal}
+use Rattle.i2c_top.specs.Requests.{names_of}
 use Rattle.i2c_top.specs.Runs.{texts_of, cost_of_texts}
 use Rattle.i2c_top.specs.Schedules.{schedule_read}
 use Rattle.i2c_top.specs.Traces.{ShelfView, KeepsBut}
+use Rattle.i2c_top.specs.declared.status.BoardRefusal.{BoardRefusal}
 use Rattle.i2c_top.specs.declared.status.Status.{Status}
 use Rattle.i2c_top.specs.declared.status.Status.TheVariants as status
 
@@ -107,20 +109,23 @@ pub all_scripts : (tells : Bool) (file file_now : Files) (names : List (List ℕ
     → length scripts ≡ length names → AreScriptsIn tells file_now names b scripts → IsTrue tells → HasScripts file b names (length names)
 all_scripts tells file file_now names b scripts same count are t = same_scripts file file_now same b names (length names) (subst (HasScripts file_now b names) count (are.read t))
 
+-- so of a schedule, where there is one
+same_order : (file file_now : Files) → ((n : List ℕ) → file_now n ≡ file n) → (schedule : Option (List ℕ)) (callers : ℕ) (words : Option (List ℕ)) → IsOrderIn file_now schedule callers words → IsOrderIn file schedule callers words
+same_order file file_now same None callers words is = record { has = tt; same = is.same }
+same_order file file_now same (Some name) callers words is =
+    record { has = record { text = is.has.text; words = is.has.words; there = sym (same name) ∙ is.has.there; read = is.has.read }; same = is.same }
+
 -- what was read after other files is what was there at first
-pub has_read : (first second third : Files) (names : Names) (tells : Bool) (b : BoardView) (scripts : List CallerView) (words : List ℕ) → ((n : List ℕ) → second n ≡ first n)
+pub has_read : (first second third : Files) (names : Names) (tells : Bool) (b : BoardView) (scripts : List CallerView) (words : Option (List ℕ)) → ((n : List ℕ) → second n ≡ first n)
     → ((n : List ℕ) → third n ≡ second n) → IsTrue tells → IsAcceptedIn first names.board b → length scripts ≡ length names.scripts → AreScriptsIn tells second names.scripts b scripts
     → (callers : ℕ) → callers ≡ length names.scripts
-    → IsScheduleIn third names.schedule callers words → HasRead first names b (texts_of scripts) words
-has_read first second third names tells b scripts words same same_again t board count are callers known schedule =
+    → IsOrderIn third names.schedule callers words → HasRead first names b (texts_of scripts) words
+has_read first second third names tells b scripts words same same_again t board count are callers known order =
     record {
       board_in = board;
       scripts = same_scripts first second same b names.scripts (length names.scripts) (subst (HasScripts second b names.scripts) count (are.read t));
       texts_are = are.same t ∙ ap (texts_in second) (take_all (length scripts) names.scripts (omega (arith, count))) ∙ same_texts first second same names.scripts;
-      schedule_in = subst (λ n. IsScheduleIn first names.schedule n words) known (record {
-        has = record { text = schedule.has.text; words = schedule.has.words; there = sym (same names.schedule) ∙ sym (same_again names.schedule) ∙ schedule.has.there; read = schedule.has.read };
-        same = schedule.same;
-      });
+      order_in = subst (λ n. IsOrderIn first names.schedule n words) known (same_order first third (λ n. same_again n ∙ same n) names.schedule callers words order);
     }
 
 pub schedule_in : (file : Files) (name text : List ℕ) (callers : ℕ) {X : Type 0} (r : Result X Status) (words_of : X → List ℕ) → file name ≡ Some text
@@ -129,15 +134,15 @@ schedule_in file name text callers (Ok x) words_of there read = record { has = r
 schedule_in file name text callers (Err e) words_of there read = tt
 
 -- what was read is what the files have
-abbrev pub has_texts : (file : Files) (names : Names) (b : BoardView) (texts : List (List ℕ)) (words : List ℕ) → HasRead file names b texts words → HasTexts file names
+abbrev pub has_texts : (file : Files) (names : Names) (b : BoardView) (texts : List (List ℕ)) (words : Option (List ℕ)) → HasRead file names b texts words → HasTexts file names
 has_texts file names b texts words read = record {
   board = read.board_in.has;
   scripts = subst (λ k. HasScripts file k names.scripts (length names.scripts)) read.board_in.same read.scripts;
-  schedule = read.schedule_in.has;
+  schedule = read.order_in.has;
 }
 
 -- so is what it costs
-pub cost_read : (file : Files) (names : Names) (b : BoardView) (texts : List (List ℕ)) (words : List ℕ) (read : HasRead file names b texts words)
+pub cost_read : (file : Files) (names : Names) (b : BoardView) (texts : List (List ℕ)) (words : Option (List ℕ)) (read : HasRead file names b texts words)
     → cost_of_texts b texts ≡ cost_in file names read.board_in.has.board
 cost_read file names b texts words read = ap (λ x. cost_of_texts x texts) read.board_in.same ∙ ap (cost_of_texts read.board_in.has.board) read.texts_are
 
@@ -160,13 +165,13 @@ same_bad : (file file_now : Files) (b : BoardView) (name : List ℕ) (line word 
 same_bad file file_now b name line word same bad = record { text = bad.text; there = sym (same name) ∙ bad.there; read = bad.read }
 
 -- a script was refused behind those before it
-pub script_refused : (tells : Bool) (file file_now : Files) (board : BoardView) (names : List (List ℕ)) (reads reads_mid reads_now : ℕ → ℕ) (n : ℕ) (s : Status) (name : List ℕ) → name ≡ script_name names n
+pub script_refused : (first : ℕ) (tells : Bool) (file file_now : Files) (board : BoardView) (names : List (List ℕ)) (reads reads_mid reads_now : ℕ → ℕ) (n : ℕ) (s : Status) (name : List ℕ) → name ≡ script_name names n
     → n < length names
     → ((name : List ℕ) → file_now name ≡ file name) → (IsTrue tells → HasScripts file board names n)
-    → ((place : ℕ) → ((3 ≤ place) × (place < 3 + n) → ⊥) → reads_mid place ≡ reads place) → ((place : ℕ) → (place ≡ 3 + n → ⊥) → reads_now place ≡ reads_mid place)
-    → IsRefusedAt (3 + n) (IsBadScript n (λ line word. IsTrue tells → HasBadScript file_now board name line word)) (reads_mid (3 + n)) (reads_now (3 + n)) s
-    → IsRefusedScript tells file board names reads reads_now s
-script_refused tells file file_now board names reads reads_mid reads_now n s name named known same before kept kept_now refused =
+    → ((place : ℕ) → ((first ≤ place) × (place < first + n) → ⊥) → reads_mid place ≡ reads place) → ((place : ℕ) → (place ≡ first + n → ⊥) → reads_now place ≡ reads_mid place)
+    → IsRefusedAt (first + n) (IsBadScript n (λ line word. IsTrue tells → HasBadScript file_now board name line word)) (reads_mid (first + n)) (reads_now (first + n)) s
+    → IsRefusedScript first tells file board names reads reads_now s
+script_refused first tells file file_now board names reads reads_mid reads_now n s name named known same before kept kept_now refused =
     record {
       caller = n;
       known = known;
@@ -175,18 +180,29 @@ script_refused tells file file_now board names reads reads_mid reads_now n s nam
       refused = by refused;
     }
   where
-    by : IsRefusedAt (3 + n) (IsBadScript n (λ line word. IsTrue tells → HasBadScript file_now board name line word)) (reads_mid (3 + n)) (reads_now (3 + n)) s
-        → IsRefusedAt (3 + n) (IsBadScript n (λ line word. IsTrue tells → HasBadScript file board (script_name names n) line word)) (reads (3 + n)) (reads_now (3 + n)) s
-    by (inl r) = inl (r.0, subst (λ (k : ℕ). Rose k (reads_now (3 + n))) (kept (3 + n) (λ p. absurd (omega (arith, p.1)))) r.1)
+    by : IsRefusedAt (first + n) (IsBadScript n (λ line word. IsTrue tells → HasBadScript file_now board name line word)) (reads_mid (first + n)) (reads_now (first + n)) s
+        → IsRefusedAt (first + n) (IsBadScript n (λ line word. IsTrue tells → HasBadScript file board (script_name names n) line word)) (reads (first + n)) (reads_now (first + n)) s
+    by (inl r) = inl (r.0, subst (λ (k : ℕ). Rose k (reads_now (first + n))) (kept (first + n) (λ p. absurd (omega (arith, p.1)))) r.1)
     by (inr (inl m)) = inr (inl m)
     by (inr (inr b)) = inr (inr (record { line = b.line; word = b.word; same = b.same; is_bad = λ t. subst (λ x. HasBadScript file board x b.line b.word) named (same_bad file file_now board name b.line b.word same (b.is_bad t)) }))
+
+-- the scripts stand behind the board
+pub first_low : (schedule : Option (List ℕ)) → 2 ≤ first_script schedule
+first_low None = omega arith
+first_low (Some name) = omega arith
 
 -- what the board's reading left is what a script's refusal says
 pub scripts_refusal : (tells : Bool) (file file_now : Files) (b : BoardView) (names : Names) (reads reads_mid reads_now : ℕ → ℕ) (s : Status) → ((name : List ℕ) → file_now name ≡ file name)
     → ((place : ℕ) → (place ≡ 1 → ⊥) → reads_mid place ≡ reads place) → (IsTrue tells → IsAcceptedIn file names.board b)
-    → IsRefusedScript tells file_now b names.scripts reads_mid reads_now s → IsFileRefusal tells file names reads reads_now s
+    → IsRefusedScript (first_script names.schedule) tells file_now b names.scripts reads_mid reads_now s → IsFileRefusal tells file names reads reads_now s
 scripts_refusal tells file file_now b names reads reads_mid reads_now s same kept board r = by r.refused
   where
+    first : ℕ
+    first = first_script names.schedule
+
+    low : 2 ≤ first
+    low = first_low names.schedule
+
     earlier : IsTrue tells → HasScriptsBefore file names r.caller
     earlier t = record {
       known = r.known;
@@ -194,14 +210,14 @@ scripts_refusal tells file file_now b names reads reads_mid reads_now s same kep
       before = subst (λ k. HasScripts file k names.scripts r.caller) (board t).same (same_scripts file file_now same b names.scripts r.caller (r.before t));
     }
 
-    by : IsRefusedAt (3 + r.caller) (IsBadScript r.caller (λ line word. IsTrue tells → HasBadScript file_now b (script_name names.scripts r.caller) line word))
-        (reads_mid (3 + r.caller)) (reads_now (3 + r.caller)) s
+    by : IsRefusedAt (first + r.caller) (IsBadScript r.caller (λ line word. IsTrue tells → HasBadScript file_now b (script_name names.scripts r.caller) line word))
+        (reads_mid (first + r.caller)) (reads_now (first + r.caller)) s
         → IsFileRefusal tells file names reads reads_now s
     by (inl h) =
         subst (IsFileRefusal tells file names reads reads_now) (sym h.0) (
           record {
-            named = record { first = omega arith; last = omega (arith, r.known) };
-            rose = subst (λ (k : ℕ). Rose k (reads_now (3 + r.caller))) (kept (3 + r.caller) (λ e. absurd (omega (arith, e)))) h.1;
+            named = record { first = omega (arith, low); last = omega (arith, r.known) };
+            rose = subst (λ (k : ℕ). Rose k (reads_now (first + r.caller))) (kept (first + r.caller) (λ e. absurd (omega (arith, e, low)))) h.1;
           },
           λ t. inr (inl (record { caller = r.caller; at = refl; earlier = earlier t })),
         )
@@ -218,24 +234,83 @@ scripts_on : (file : Files) (b : BoardView) (names : Names) (board : IsAcceptedI
     → HasScripts file board.has.board names.scripts (length names.scripts)
 scripts_on file b names board scripts = subst (λ k. HasScripts file k names.scripts (length names.scripts)) board.same scripts
 
--- and a schedule's
-pub schedule_refusal : (tells : Bool) (file file_now : Files) (b : BoardView) (names : Names) (reads reads_mid reads_now : ℕ → ℕ) (callers : ℕ) (s : Status) → callers ≡ length names.scripts
-    → ((name : List ℕ) → file_now name ≡ file name) → reads_mid 2 ≡ reads 2 → (IsTrue tells → IsAcceptedIn file names.board b)
-    → (IsTrue tells → HasScripts file b names.scripts (length names.scripts))
-    → IsRefusedAt 2 (IsBadSchedule (λ word. IsTrue tells → HasBadSchedule file_now names.schedule callers word)) (reads_mid 2) (reads_now 2) s
-    → IsFileRefusal tells file names reads reads_now s
-schedule_refusal tells file file_now b names reads reads_mid reads_now callers s count same kept board scripts (inl h) =
+-- the schedule stands before the scripts
+pub schedule_before : (schedule : Option (List ℕ)) (place : ℕ) → IsScheduleAt schedule place → (place ≡ 2) × (place < first_script schedule)
+schedule_before None place at = absurd at
+schedule_before (Some name) place at = (at, omega (arith, at))
+
+-- and a schedule's, where there is one
+pub order_refusal : (tells : Bool) (file file_now : Files) (b : BoardView) (board_name : List ℕ) (schedule : Option (List ℕ)) (scripts : List (List ℕ)) (reads reads_mid reads_now : ℕ → ℕ) (callers : ℕ) (s : Status)
+    → callers ≡ length scripts → ((name : List ℕ) → file_now name ≡ file name) → ((place : ℕ) → IsScheduleAt schedule place → reads_mid place ≡ reads place) → (IsTrue tells → IsAcceptedIn file board_name b)
+    → (IsTrue tells → HasScripts file b scripts (length scripts)) → IsRefusedOrder tells file_now schedule callers reads_mid reads_now s
+    → IsFileRefusal tells file (names_of board_name schedule scripts) reads reads_now s
+order_refusal tells file file_now b board_name None scripts reads reads_mid reads_now callers s count same kept board has refused = absurd refused
+order_refusal tells file file_now b board_name (Some name) scripts reads reads_mid reads_now callers s count same kept board has (inl h) =
+    let names = names_of board_name (Some name) scripts in
     subst (IsFileRefusal tells file names reads reads_now) (sym h.0)
-    (record { named = record { first = omega arith; last = omega arith }; rose = subst (λ (k : ℕ). Rose k (reads_now 2)) kept h.1 }, λ t. inr (inr (refl, (board t).has, scripts_on file b names (board t) (scripts t))))
-schedule_refusal tells file file_now b names reads reads_mid reads_now callers s count same kept board scripts (inr (inl m)) = subst (IsFileRefusal tells file names reads reads_now) (sym m) tt
-schedule_refusal tells file file_now b names reads reads_mid reads_now callers s count same kept board scripts (inr (inr n)) =
-    subst (IsFileRefusal tells file names reads reads_now) (sym n.same)
-    (λ t. let h = n.is_bad t in
-    ((board t).has, scripts_on file b names (board t) (scripts t), subst (λ k. HasBadSchedule file names.schedule k n.word) count (record { text = h.text; there = sym (same names.schedule) ∙ h.there; fault = h.fault })))
+    (record { named = record { first = omega arith; last = omega arith }; rose = subst (λ (k : ℕ). Rose k (reads_now 2)) (kept 2 refl) h.1 }, λ t. inr (inr (refl, (board t).has, scripts_on file b names (board t) (has t))))
+order_refusal tells file file_now b board_name (Some name) scripts reads reads_mid reads_now callers s count same kept board has (inr (inl m)) =
+    subst (IsFileRefusal tells file (names_of board_name (Some name) scripts) reads reads_now) (sym m) tt
+order_refusal tells file file_now b board_name (Some name) scripts reads reads_mid reads_now callers s count same kept board has (inr (inr n)) =
+    let names = names_of board_name (Some name) scripts in
+    subst (IsFileRefusal tells file names reads reads_now) (sym n.same) (
+      refl,
+      λ t. let h = n.is_bad t in
+          ((board t).has, scripts_on file b names (board t) (has t), subst (λ k. HasBadSchedule file name k n.word) count (record { text = h.text; there = sym (same name) ∙ h.there; fault = h.fault })),
+    )
 
 -- and a cost that is too much
-pub cost_refusal : (tells : Bool) (file : Files) (names : Names) (reads reads_now : ℕ → ℕ) (b : BoardView) (texts : List (List ℕ)) (words : List ℕ) (s : Status)
+pub cost_refusal : (tells : Bool) (file : Files) (names : Names) (reads reads_now : ℕ → ℕ) (b : BoardView) (texts : List (List ℕ)) (words : Option (List ℕ)) (s : Status)
     → (IsTrue tells → HasRead file names b texts words) → IsTooDear (cost_of_texts b texts) s → IsFileRefusal tells file names reads reads_now s
 cost_refusal tells file names reads reads_now b texts words s read d =
     subst (IsFileRefusal tells file names reads reads_now) (sym d.same)
     (d.dear, λ t. record { texts = has_texts file names b texts words (read t); same = cost_read file names b texts words (read t); dear = d.dear })
+
+-- what a refusal comes before was not read: behind the board nothing was,
+pub board_unreached : (schedule : Option (List ℕ)) (of : BoardRefusal → Type 0) (reads reads_now : ℕ → ℕ) (s : Status) → ((place : ℕ) → (place ≡ 1 → ⊥) → reads_now place ≡ reads place)
+    → IsRefusedAt 1 (IsBadBoard of) (reads 1) (reads_now 1) s → KeepsUnreached schedule reads reads_now s
+board_unreached schedule of reads reads_now s kept refused =
+    elim refused [
+      | inl h ↦ subst (KeepsUnreached schedule reads reads_now) (sym h.0) behind
+      | inr (inl m) ↦ subst (KeepsUnreached schedule reads reads_now) (sym m) tt
+      | inr (inr b) ↦ subst (KeepsUnreached schedule reads reads_now) (sym b.same) behind
+    ]
+  where
+    behind : KeepsAfter schedule reads reads_now 1
+    behind other after = by after.1
+      where
+        by : IsScheduleAt schedule other ⊎ (1 < other) → reads_now other ≡ reads other
+        by (inl at) = kept other (λ e. let two = (schedule_before schedule other at).0 in absurd (omega (arith, e, two)))
+        by (inr later) = kept other (λ e. absurd (omega (arith, e, later)))
+
+-- .. behind a script not the later ones nor the schedule,
+pub scripts_unreached : (schedule : Option (List ℕ)) (tells : Bool) (file : Files) (b : BoardView) (names : List (List ℕ)) (reads reads_mid reads_now : ℕ → ℕ) (s : Status)
+    → ((place : ℕ) → (place ≡ 1 → ⊥) → reads_mid place ≡ reads place) → ((place : ℕ) → ((first_script schedule ≤ place) × (place < first_script schedule + length names) → ⊥) → reads_now place ≡ reads_mid place)
+    → IsRefusedScript (first_script schedule) tells file b names reads_mid reads_now s → KeepsUnreached schedule reads reads_now s
+scripts_unreached schedule tells file b names reads reads_mid reads_now s kept kept_now r =
+    elim r.refused [
+      | inl h ↦ subst (KeepsUnreached schedule reads reads_now) (sym h.0) behind
+      | inr (inl m) ↦ subst (KeepsUnreached schedule reads reads_now) (sym m) tt
+      | inr (inr b) ↦ subst (KeepsUnreached schedule reads reads_now) (sym b.same) behind
+    ]
+  where
+    low : 2 ≤ first_script schedule
+    low = first_low schedule
+
+    behind : KeepsAfter schedule reads reads_now (first_script schedule + r.caller)
+    behind other after = by after.1
+      where
+        by : IsScheduleAt schedule other ⊎ (first_script schedule + r.caller < other) → reads_now other ≡ reads other
+        by (inl at) =
+            let two = schedule_before schedule other at in
+            kept_now other (λ h. absurd (omega (arith, h.0, two.1))) ∙ kept other (λ e. absurd (omega (arith, e, two.0)))
+        by (inr later) = r.kept other later ∙ kept other (λ e. absurd (omega (arith, e, later, low)))
+
+-- .. and behind the schedule there is nothing
+pub order_unreached : (schedule : Option (List ℕ)) (tells : Bool) (file : Files) (callers : ℕ) (reads reads_mid reads_now : ℕ → ℕ) (s : Status) → IsRefusedOrder tells file schedule callers reads_mid reads_now s
+    → KeepsUnreached schedule reads reads_now s
+order_unreached None tells file callers reads reads_mid reads_now s refused = absurd refused
+order_unreached (Some name) tells file callers reads reads_mid reads_now s (inl h) =
+    subst (KeepsUnreached (Some name) reads reads_now) (sym h.0) (λ other after. absurd (after.0 refl))
+order_unreached (Some name) tells file callers reads reads_mid reads_now s (inr (inl m)) = subst (KeepsUnreached (Some name) reads reads_now) (sym m) tt
+order_unreached (Some name) tells file callers reads reads_mid reads_now s (inr (inr b)) = subst (KeepsUnreached (Some name) reads reads_now) (sym b.same) tt

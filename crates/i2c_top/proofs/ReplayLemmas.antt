@@ -1,12 +1,12 @@
--- How a call of `replay` ends: its report, and what its status tells. No induction.
-use Rattle.std.proofs.Common.{◌≡◌, ℕ, ◌≤◌, ◌⊎◌, inl, inr, false, IsTrue, List, Result, Ok, Err, sym, ap, subst}
+-- How a call of `replay` or `run` ends: its report, and what its status tells. No induction.
+use Rattle.std.proofs.Common.{◌≡◌, ℕ, ◌≤◌, ◌⊎◌, inl, inr, false, IsTrue, List, length, Option, None, Some, Result, Ok, Err, sym, ap, subst}
 use Rattle.std.specs.Prelude.{IfOk, IfErr, OnOk}
 use Rattle.i2c_base.specs.declared.port.PortCall.{PortCall}
 use Rattle.i2c_base.specs.Board.{BoardView}
 use Rattle.i2c_spec.specs.Targets.{TargetState}
 use Rattle.i2c_outside.specs.Causes.{Rose, counted}
 use Rattle.i2c_top.specs.Endings.{CameToSuccess, CameToRefusal}
-use Rattle.i2c_top.specs.Readings.{HasRead}
+use Rattle.i2c_top.specs.Readings.{HasRead, IsOrderIn}
 use Rattle.i2c_top.specs.Files.{Files}
 use Rattle.i2c_top.specs.Replays.{Names, HasFiles, texts_in}
 use Rattle.i2c_top.specs.Reports.{HasReport}
@@ -17,12 +17,12 @@ use Rattle.i2c_top.specs.declared.status.Status.{Status}
 use Rattle.i2c_top.specs.declared.status.Status.TheVariants as status
 use Rattle.i2c_top.proofs.FileLemmas.{has_texts, cost_read}
 
-abbrev pub has_files : (file : Files) (names : Names) (b : BoardView) (texts : List (List ℕ)) (words : List ℕ) → HasRead file names b texts words → cost_of_texts b texts ≤ MOST_COST → HasFiles file names
+abbrev pub has_files : (file : Files) (names : Names) (b : BoardView) (texts : List (List ℕ)) (words : Option (List ℕ)) → HasRead file names b texts words → cost_of_texts b texts ≤ MOST_COST → HasFiles file names
 has_files file names b texts words read cheap =
     record { texts = has_texts file names b texts words read; cheap = subst (λ n. n ≤ MOST_COST) (cost_read file names b texts words read) cheap }
 
 -- the run of what was read is the report that the files ask for
-has_report : (file : Files) (names : Names) (b : BoardView) (texts : List (List ℕ)) (words bytes : List ℕ) (logs : List (List PortCall)) (states : List TargetState)
+has_report : (file : Files) (names : Names) (b : BoardView) (texts : List (List ℕ)) (words : Option (List ℕ)) (bytes : List ℕ) (logs : List (List PortCall)) (states : List TargetState)
     → HasRead file names b texts words → cost_of_texts b texts ≤ MOST_COST → HasRun b texts words bytes logs states → HasReport file names bytes logs states
 has_report file names b texts words bytes logs states read cheap run =
     record {
@@ -31,15 +31,27 @@ has_report file names b texts words bytes logs states read cheap run =
           let board : BoardView = read.board_in.has.board in
           let over : HasRun board texts words bytes logs states = subst (λ x. HasRun x texts words bytes logs states) read.board_in.same run in
           let of : HasRun board (texts_in file names.scripts) words bytes logs states = subst (λ ts. HasRun board ts words bytes logs states) read.texts_are over in
-          subst (λ ws. HasRun board (texts_in file names.scripts) ws bytes logs states) read.schedule_in.same of;
+          subst (λ ws. HasRun board (texts_in file names.scripts) ws bytes logs states) read.order_in.same of;
     }
 
-pub has_reports : {X E : Type 0} (r : Result X E) (bytes_of : X → List ℕ) (file : Files) (names : Names) (b : BoardView) (texts : List (List ℕ)) (words : List ℕ)
+unread_order : (file : Files) (schedule : Option (List ℕ)) (callers : ℕ) (words : Option (List ℕ)) → schedule ≡ None → IsOrderIn file schedule callers words → words ≡ None
+unread_order file None callers words free is = is.same
+unread_order file (Some name) callers words free is = absurd (let h : Some name ≡ None = free in cc)
+
+pub has_reports : {X E : Type 0} (r : Result X E) (bytes_of : X → List ℕ) (file : Files) (names : Names) (b : BoardView) (texts : List (List ℕ)) (words : Option (List ℕ))
     (logs : List (List PortCall)) (states : List TargetState) (rig ports : Type 0) → HasRead file names b texts words → cost_of_texts b texts ≤ MOST_COST
-    → (given : List ℕ) → given ≡ words → (rig → ports → IfOk r (λ x. HasRun b texts given (bytes_of x) logs states)) → IfOk r (λ x. rig → ports → HasReport file names (bytes_of x) logs states)
-has_reports (Ok x) bytes_of file names b texts words logs states rig ports read cheap given same run =
-    λ r p. has_report file names b texts words (bytes_of x) logs states read cheap (subst (λ ws. HasRun b texts ws (bytes_of x) logs states) same (run r p))
-has_reports (Err e) bytes_of file names b texts words logs states rig ports read cheap given same run = tt
+    → (rig → ports → IfOk r (λ x. HasRun b texts words (bytes_of x) logs states)) → IfOk r (λ x. rig → ports → HasReport file names (bytes_of x) logs states)
+has_reports (Ok x) bytes_of file names b texts words logs states rig ports read cheap run =
+    λ r p. has_report file names b texts words (bytes_of x) logs states read cheap (run r p)
+has_reports (Err e) bytes_of file names b texts words logs states rig ports read cheap run = tt
+
+-- without a schedule no order was asked for
+pub has_free_reports : {X E : Type 0} (r : Result X E) (bytes_of : X → List ℕ) (file : Files) (names : Names) (b : BoardView) (texts : List (List ℕ)) (words : Option (List ℕ))
+    (logs : List (List PortCall)) (states : List TargetState) (rig ports : Type 0) → names.schedule ≡ None → HasRead file names b texts words → cost_of_texts b texts ≤ MOST_COST
+    → (rig → ports → IfOk r (λ x. HasRun b texts None (bytes_of x) logs states)) → IfOk r (λ x. rig → ports → HasReport file names (bytes_of x) logs states)
+has_free_reports r bytes_of file names b texts words logs states rig ports free read cheap run =
+    has_reports r bytes_of file names b texts words logs states rig ports read cheap
+    (λ g p. subst (λ ws. IfOk r (λ x. HasRun b texts ws (bytes_of x) logs states)) (sym (unread_order file names.schedule (length names.scripts) words free read.order_in)) (run g p))
 
 -- a run that ended is a success of the request
 pub replay_done : {X : Type 0} (names : Names) (shelf shelf_now : ShelfView) (rig rig_now : RigView) (r : Result X Status) → (IsTrue shelf.tells → HasFiles shelf.file names)
@@ -57,7 +69,10 @@ replay_done names shelf shelf_now rig rig_now (Ok x) files plugs unplugs plugged
       own = record {
         usage = λ e served. let k : status.Ok ≡ status.Usage = e in cc;
         unserved = λ un. absurd (un tt);
-        own = λ cost e. absurd (let k : status.Ok ≡ status.Cost cost = e in cc);
+        own = record {
+          cost = λ cost e. absurd (let k : status.Ok ≡ status.Cost cost = e in cc);
+          schedule = λ word e. absurd (let k : status.Ok ≡ status.Schedule word = e in cc);
+        };
       };
     }
 replay_done names shelf shelf_now rig rig_now (Err e) files plugs unplugs plugged = tt
@@ -77,7 +92,10 @@ not_plugged names shelf shelf_now rig rig_now files plugs unplugs plugged rose =
       own = record {
         usage = λ e served. let k : status.Rig ≡ status.Usage = e in cc;
         unserved = λ un. absurd (un tt);
-        own = λ cost e. absurd (let k : status.Rig ≡ status.Cost cost = e in cc);
+        own = record {
+          cost = λ cost e. absurd (let k : status.Rig ≡ status.Cost cost = e in cc);
+          schedule = λ word e. absurd (let k : status.Rig ≡ status.Schedule word = e in cc);
+        };
       };
     }
 
@@ -96,7 +114,10 @@ no_room names shelf shelf_now rig rig_now plugs plugged =
       own = record {
         usage = λ e served. let k : status.Memory ≡ status.Usage = e in cc;
         unserved = λ un. absurd (un tt);
-        own = λ cost e. absurd (let k : status.Memory ≡ status.Cost cost = e in cc);
+        own = record {
+          cost = λ cost e. absurd (let k : status.Memory ≡ status.Cost cost = e in cc);
+          schedule = λ word e. absurd (let k : status.Memory ≡ status.Schedule word = e in cc);
+        };
       };
     }
 

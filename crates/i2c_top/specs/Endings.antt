@@ -2,7 +2,7 @@
 use Rattle.std.specs.Prelude.{⊤, ◌≡◌, ◌≢◌, ℕ, ◌⊎◌, IsTrue, List, [], ◌++◌}
 use Rattle.i2c_outside.specs.Causes.{Rose}
 use Rattle.i2c_top.specs.Replays.{IsUnread, KeepsUnreached}
-use Rattle.i2c_top.specs.Requests.{Request, IsServed, IsPlaceOf, IsStatusOf, IsCause, IsCalm, KeepsShelf, IsTold, IsTraced, IsAnswer, file_name}
+use Rattle.i2c_top.specs.Requests.{Request, IsServed, IsPlaceOf, IsStatusOf, IsCause, IsCalm, KeepsShelf, IsTold, IsTraced, IsAnswer, file_name, schedule_of}
 use Rattle.i2c_top.specs.Status.{Class, Done, Misused, Refused, Unread, NoRig, Silent, class_of, refusal_text}
 use Rattle.i2c_top.specs.Traces.{ShelfView, OutputView, RigView, Outside}
 use Rattle.i2c_top.specs.Written.{HasFront}
@@ -27,7 +27,7 @@ pub record CameTo (request : Request) (shelf shelf_now : ShelfView) (rig rig_now
   pub told : IsTrue shelf.tells → IsTold shelf.file request s
   pub shown : IsShown request shelf shelf_now rig rig_now s
   pub unwritten : s ≢ status.Write
-  pub unreached : KeepsUnreached shelf.faults shelf_now.faults s
+  pub unreached : KeepsUnreached (schedule_of request) shelf.faults shelf_now.faults s
   pub traced : IsTraced request rig rig_now s
 
 -- the same of the status that a call ends with, which is one of the request's: the output may have failed, and counted it
@@ -36,7 +36,7 @@ pub record IsCaused (request : Request) (old new : Outside) (s : Status) : Type 
   pub told : IsTrue old.shelf.tells → IsTold old.shelf.file request s
   pub shown : IsShown request old.shelf new.shelf old.rig new.rig s
   pub write : s ≡ status.Write → Rose old.sink.faults new.sink.faults
-  pub unreached : KeepsUnreached old.shelf.faults new.shelf.faults s
+  pub unreached : KeepsUnreached (schedule_of request) old.shelf.faults new.shelf.faults s
   pub traced : IsTraced request old.rig new.rig s
 
 -- a success that was come to

@@ -1,11 +1,11 @@
 -- One file of a call that is read: what came of it.
-use Rattle.std.specs.Prelude.{◌≡◌, ℕ, ◌+◌, ◌<◌, ◌⊎◌, Bool, IsTrue, List, length, take}
+use Rattle.std.specs.Prelude.{⊤, All, Option, None, Some, ◌≡◌, ℕ, ◌+◌, ◌<◌, ◌⊎◌, Bool, IsTrue, List, length, take}
 use Rattle.i2c_base.specs.Board.{BoardView}
 use Rattle.i2c_outside.specs.Causes.{Rose}
 use Rattle.i2c_top.specs.Checks.{HasAccepted, HasRejected}
 use Rattle.i2c_top.specs.Files.{Files}
 use Rattle.caller_core.specs.View.{CallerView}
-use Rattle.i2c_top.specs.Replays.{Names, script_name, HasScript, HasBadScript, HasScripts, HasSchedule, texts_in}
+use Rattle.i2c_top.specs.Replays.{Names, script_name, HasScript, HasBadScript, HasScripts, HasSchedule, HasBadSchedule, HasOrder, words_in, texts_in}
 use Rattle.i2c_top.specs.Runs.{AreOpened, texts_of, MOST_COST}
 use Rattle.i2c_top.specs.declared.status.BoardRefusal.{BoardRefusal}
 use Rattle.i2c_top.specs.declared.status.Status.{Status}
@@ -36,12 +36,22 @@ pub record AreScriptsIn (tells : Bool) (file : Files) (names : List (List ℕ)) 
   pub read : IsTrue tells → HasScripts file board names (length scripts)
   pub same : IsTrue tells → texts_of scripts ≡ texts_in file (take (length scripts) names)
 
+-- .. of a schedule, where there is one
+pub record IsOrderIn (file : Files) (schedule : Option (List ℕ)) (callers : ℕ) (words : Option (List ℕ)) : Type 0 where
+  pub has : HasOrder file schedule callers
+  pub same : words ≡ words_in file schedule callers has
+
+-- they are fewer than so many
+abbrev pub AreNamed : ℕ → Option (List ℕ) → Type 0
+AreNamed callers None = ⊤
+AreNamed callers (Some words) = All (λ c. c < callers) words
+
 -- the files are there, and this is the board, the scripts' texts and the schedule's callers
-pub record HasRead (file : Files) (names : Names) (board : BoardView) (texts : List (List ℕ)) (words : List ℕ) : Type 0 where
+pub record HasRead (file : Files) (names : Names) (board : BoardView) (texts : List (List ℕ)) (words : Option (List ℕ)) : Type 0 where
   pub board_in : IsAcceptedIn file names.board board
   pub scripts : HasScripts file board names.scripts (length names.scripts)
   pub texts_are : texts ≡ texts_in file names.scripts
-  pub schedule_in : IsScheduleIn file names.schedule (length names.scripts) words
+  pub order_in : IsOrderIn file names.schedule (length names.scripts) words
 
 -- the file at this place was not read, or there was no memory, or what was read was bad
 abbrev pub IsRefusedAt : ℕ → (Status → Type 0) → ℕ → ℕ → Status → Type 0
@@ -64,14 +74,20 @@ pub record IsBadSchedule (why : ℕ → Type 0) (s : Status) : Type 0 where
   pub same : s ≡ status.Schedule word
   pub is_bad : why word
 
--- a script was refused over a board: those before it are in the grammar, and what is read behind it was not read
-pub record IsRefusedScript (tells : Bool) (file : Files) (board : BoardView) (names : List (List ℕ)) (reads reads_now : ℕ → ℕ) (s : Status) : Type 0 where
+-- the schedule was refused, where there is one
+abbrev pub IsRefusedOrder : Bool → Files → Option (List ℕ) → ℕ → (ℕ → ℕ) → (ℕ → ℕ) → Status → Type 0
+IsRefusedOrder tells file None callers reads reads_now s = ⊥
+IsRefusedOrder tells file (Some name) callers reads reads_now s = IsRefusedAt 2 (IsBadSchedule (λ word. IsTrue tells → HasBadSchedule file name callers word)) (reads 2) (reads_now 2) s
+
+-- a script was refused over a board, of those whose files stand from this place on: those before it are in the grammar, and
+-- what is read behind it was not read
+pub record IsRefusedScript (first : ℕ) (tells : Bool) (file : Files) (board : BoardView) (names : List (List ℕ)) (reads reads_now : ℕ → ℕ) (s : Status) : Type 0 where
   pub caller : ℕ
   pub known : caller < length names
   pub before : IsTrue tells → HasScripts file board names caller
-  pub kept : (place : ℕ) → 3 + caller < place → reads_now place ≡ reads place
-  pub refused : IsRefusedAt (3 + caller) (IsBadScript caller (λ line word. IsTrue tells → HasBadScript file board (script_name names caller) line word))
-      (reads (3 + caller)) (reads_now (3 + caller)) s
+  pub kept : (place : ℕ) → first + caller < place → reads_now place ≡ reads place
+  pub refused : IsRefusedAt (first + caller) (IsBadScript caller (λ line word. IsTrue tells → HasBadScript file board (script_name names caller) line word))
+      (reads (first + caller)) (reads_now (first + caller)) s
 
 -- the scripts cost so much, which is too much
 pub record IsTooDear (cost : ℕ) (s : Status) : Type 0 where

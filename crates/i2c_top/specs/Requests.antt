@@ -1,8 +1,8 @@
 -- What the words of a call ask for, and what the files say where it ends with a status.
-use Rattle.std.specs.Prelude.{⊤, ◌≡◌, ℕ, ◌<◌, ◌⊎◌, IsTrue, List, []}
+use Rattle.std.specs.Prelude.{⊤, ◌≡◌, ℕ, ◌<◌, ◌⊎◌, IsTrue, List, [], Option, None, Some}
 use Rattle.i2c_top.specs.Checks.{IsCheckCause, IsCheckStatus, HasCheck}
 use Rattle.i2c_top.specs.Files.{Files}
-use Rattle.i2c_top.specs.Replays.{Names, HasFiles, IsPlaceIn, IsReplayCause, IsReadInTurn, name_at}
+use Rattle.i2c_top.specs.Replays.{Names, HasFiles, IsPlaceIn, IsScheduleAt, IsReplayCause, IsReadInTurn, name_at}
 use Rattle.i2c_top.specs.Reports.{HasReport}
 use Rattle.i2c_top.specs.Runs.{MOST_COST}
 use Rattle.i2c_top.specs.Status.{Class, Done, Misused, Refused, Unread, NoRig, Silent, class_of}
@@ -11,18 +11,21 @@ use Rattle.i2c_outside.specs.Causes.{Rose}
 use Rattle.i2c_top.specs.declared.status.Status.{Status}
 use Rattle.i2c_top.specs.declared.status.Status.TheVariants as status
 
--- to replay 1 to 8 scripts over a board, by the names of the files; to check the board of a file; or nothing, since the
+-- to replay 1 to 8 scripts over a board, by the names of the files, or to run them, which is a replay without a schedule; to check the board of a file; or nothing, since the
 -- words are in no form in force
 pub data Request : Type 0 where
   Replay : (names : Names) → Request
   Check : (board : List ℕ) → Request
   NoForm : Request
 
-abbrev pub names_of : List ℕ → List ℕ → List (List ℕ) → Names
+abbrev pub names_of : List ℕ → Option (List ℕ) → List (List ℕ) → Names
 names_of board schedule scripts = record { board = board; schedule = schedule; scripts = scripts }
 
 abbrev pub replay_of : List ℕ → List ℕ → List (List ℕ) → Request
-replay_of board schedule scripts = Replay (names_of board schedule scripts)
+replay_of board schedule scripts = Replay (names_of board (Some schedule) scripts)
+
+abbrev pub run_of : List ℕ → List (List ℕ) → Request
+run_of board scripts = Replay (names_of board None scripts)
 
 -- it is in a form in force: to replay scripts, or to check a board
 abbrev pub IsServed : Request → Type 0
@@ -42,9 +45,20 @@ UsesRig (Replay names) = ⊤
 UsesRig (Check board) = ⊥
 UsesRig NoForm = ⊥
 
--- the statuses that it may end with: a cost that is told is above the limit
+-- the schedule of it, where there is one
+abbrev pub schedule_of : Request → Option (List ℕ)
+schedule_of (Replay names) = names.schedule
+schedule_of (Check board) = None
+schedule_of NoForm = None
+
+-- the statuses of a replay: a cost that is told is above the limit, and a word that is told is of a schedule
+pub record IsReplayStatus (names : Names) (s : Status) : Type 0 where
+  pub cost : (cost : ℕ) → s ≡ status.Cost cost → MOST_COST < cost
+  pub schedule : (word : ℕ) → s ≡ status.Schedule word → IsScheduleAt names.schedule 2
+
+-- the statuses that it may end with
 abbrev pub IsOwnStatus : Request → Status → Type 0
-IsOwnStatus (Replay names) s = (cost : ℕ) → s ≡ status.Cost cost → MOST_COST < cost
+IsOwnStatus (Replay names) s = IsReplayStatus names s
 IsOwnStatus (Check board) s = IsCheckStatus s
 IsOwnStatus NoForm s = ⊤
 

@@ -1,7 +1,7 @@
--- What a run of callers comes to: the report of a journal that is legal and complete and follows the schedule, the calls of
--- that journal in the ports' logs, and the devices that its history leaves.
-use Rattle.std.specs.Prelude.{◌≡◌, ℕ, ◌<◌, List, [], reverse, length, map, All, slice_get, None, Some}
-use Rattle.std.specs.List.{enumerate_from, range_with_len, sum_by}
+-- What a run of callers comes to: the report of a journal that is legal and complete and follows the schedule, where there
+-- is one; the calls of that journal in the ports' logs; and the devices that its history leaves.
+use Rattle.std.specs.Prelude.{⊤, Option, ◌≡◌, ℕ, ◌<◌, List, [], reverse, length, map, All, slice_get, None, Some}
+use Rattle.std.specs.List.{range_with_len, sum_by}
 use Rattle.std.specs.Option.{option_map_or}
 use Rattle.i2c_base.specs.declared.entry.Entry.{Entry}
 use Rattle.i2c_base.specs.declared.port.PortCall.{PortCall}
@@ -19,13 +19,11 @@ use Rattle.bus_spec.specs.Legal.{IsLegal, IsComplete}
 use Rattle.bus_spec.specs.Stepwise.{IsStepwise}
 use Rattle.bus_spec.specs.Schedule.{Follows}
 use Rattle.bus_spec.specs.Report.{report_of}
-use Rattle.bus_core.specs.Kept.{roots_of}
-use Rattle.bus_core.specs.State.{CoreState, roots_in}
 use Rattle.bus_core.specs.declared.bus.Parts.{Parts}
 use Rattle.bus_core.specs.declared.seat.Seat.{Seat}
 use Rattle.caller_core.specs.Callers.{IsOpened}
 use Rattle.caller_core.specs.Scripts.{asked_by, commands_of, cost_of_script, section_text}
-use Rattle.caller_core.specs.View.{CallerView, ScriptView, script_on}
+use Rattle.caller_core.specs.View.{CallerView, script_on}
 
 -- what a caller asks for, by the text of its script, which stands at its number; nobody has another number
 abbrev pub asks_by : BoardView → List (List ℕ) → Asks
@@ -54,16 +52,6 @@ cost_of_texts b texts = sum_by (λ text. cost_of_script (script_on b text)) text
 -- scripts that cost no more are run
 abbrev pub MOST_COST : ℕ
 MOST_COST = 1000000
-
--- a core over an accepted board that was opened with these scripts and ports, each by its number
-pub record IsCoreOf {P : Type 0} (b : BoardView) (scripts : List CallerView) (ports : List P) (core : CoreState ScriptView) : Type 0 where
-  pub plain : IsPlainBoard b
-  pub rules : MeetsRules b
-  pub opened : AreOpened b scripts
-  pub count : length ports ≡ length b.roots
-  pub board : core.opening.board ≡ b
-  pub scripts_are : core.opening.scripts ≡ map (λ (y : ℕ × CallerView). (y.0, y.1.script)) (enumerate_from 0 scripts)
-  pub roots : roots_in core ≡ roots_of (enumerate_from 0 ports)
 
 -- the callers of a core that was taken apart, in the order of their seats
 abbrev pub callers_of : {P : Type 0} → Parts P CallerView → List CallerView
@@ -97,8 +85,13 @@ pub record IsRunOf (b : BoardView) (texts : List (List ℕ)) (bytes : List ℕ) 
   pub replayed : history b (asks_by b texts) (order (reverse journal)) ≡ Some told
   pub left : states ≡ told.states
 
--- there is such a journal, which follows the schedule whose words name these callers
-pub record HasRun (b : BoardView) (texts : List (List ℕ)) (words bytes : List ℕ) (logs : List (List PortCall)) (states : List TargetState) : Type 0 where
+-- it follows the schedule whose words name these callers, where there is one; else they came in any order
+abbrev pub KeepsOrder : Option (List ℕ) → List Entry → Type 0
+KeepsOrder None journal = ⊤
+KeepsOrder (Some words) journal = Follows words journal
+
+-- there is such a journal, which keeps the order that is asked for
+pub record HasRun (b : BoardView) (texts : List (List ℕ)) (words : Option (List ℕ)) (bytes : List ℕ) (logs : List (List PortCall)) (states : List TargetState) : Type 0 where
   pub journal : List Entry
   pub is_run : IsRunOf b texts bytes logs states journal
-  pub followed : Follows words journal
+  pub ordered : KeepsOrder words journal

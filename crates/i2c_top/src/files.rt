@@ -1,4 +1,5 @@
 ghost use Rattle.std.specs.Prelude.{◌≡◌, ◌≢◌, ℕ, ◌+◌, ◌<◌, ◌≤◌, ◌^◌, ◌⊎◌, List, length, map, Some, Ok, Err, slice_get, string_bytes, All, OnOk, IfOk, IfErr, IsTrue};
+ghost use Rattle.std.specs.Option.{option_map};
 ghost use Rattle.i2c_base.specs.Limits.{MOST_CALLERS};
 ghost use Rattle.i2c_boardtext.specs.BoardText.{board_of};
 ghost use Rattle.i2c_outside.specs.Causes.{Rose};
@@ -6,11 +7,11 @@ ghost use Rattle.caller_core.specs.Callers.{IsOpened};
 ghost use Rattle.caller_core.specs.Scripts.{script_read, commands_of};
 ghost use Rattle.caller_core.specs.View.{script_on};
 ghost use Rattle.i2c_top.specs.Boards.{IsAccepted, IsRejected};
-ghost use Rattle.i2c_top.specs.Forms.{ArePlaced, names_told};
+ghost use Rattle.i2c_top.specs.Forms.{ArePlaced, IsScheduleWord, names_told};
 ghost use Rattle.i2c_top.specs.Names.{AreNamesFrom};
-ghost use Rattle.i2c_top.specs.Readings.{IsAcceptedIn, IsRejectedIn, IsScriptIn, AreScriptsIn, IsScheduleIn, HasRead, IsRefusedAt, IsRefusedScript, IsBadBoard, IsBadScript, IsBadSchedule};
+ghost use Rattle.i2c_top.specs.Readings.{IsAcceptedIn, IsRejectedIn, IsScriptIn, AreScriptsIn, IsScheduleIn, IsOrderIn, AreNamed, HasRead, IsRefusedAt, IsRefusedScript, IsRefusedOrder, IsBadBoard, IsBadScript, IsBadSchedule};
 ghost use Rattle.i2c_top.specs.Checks.{HasRejected};
-ghost use Rattle.i2c_top.specs.Replays.{script_name, HasBadScript, HasBadSchedule, IsPlaceIn, KeepsUnreached, IsFileRefusal};
+ghost use Rattle.i2c_top.specs.Replays.{script_name, HasBadScript, HasBadSchedule, IsPlaceIn, IsScheduleAt, KeepsUnreached, IsFileRefusal};
 ghost use Rattle.i2c_top.specs.Requests.{Replay};
 ghost use Rattle.i2c_top.specs.Runs.{AreOpened, texts_of, cost_of_texts, MOST_COST};
 ghost use Rattle.i2c_top.specs.Schedules.{schedule_read};
@@ -18,7 +19,7 @@ ghost use Rattle.i2c_top.specs.Traces.{KeepsBut, shelf_view};
 ghost use Rattle.i2c_top.specs.declared.status.Status.TheVariants as status;
 
 use crate::cost::check_cost;
-use crate::request::{BOARD, ReplayNames, SCHEDULE, SCRIPT};
+use crate::request::{BOARD, ReplayNames, SCHEDULE};
 use crate::schedule::{ScheduleFault, read_schedule};
 use crate::{BoardRefusal, Status};
 use caller_core::{Script, ScriptFault};
@@ -28,12 +29,13 @@ use i2c_outside::{ReadFail, Shelf};
 use i2c_topo::accept;
 use std::alloc::Global;
 
-/// What the files of a replay say: the board, the scripts, and the callers that the schedule's words name.
+/// What the files of a replay say: the board, the scripts, and the callers that the schedule's words name, where there is
+/// a schedule.
 #[derive(Drop)]
 pub struct ReplayFiles {
     pub board: Accepted,
     pub scripts: Vec<Script>,
-    pub words: Vec<u8>,
+    pub words: Option<Vec<u8>>,
 }
 
 // Reads the file at a place of the words.
@@ -129,23 +131,25 @@ pub fn read_accepted<S: Shelf>(alloc: Global, shelf: &mut S, name: &str) -> Resu
     accepted_of(alloc, text.as_slice())
 }
 
-// Reads the file of the script with this number.
+// Reads the file of the script with this number, of those whose files stand from a place on.
 fn script_in<S: Shelf>(
     alloc: Global,
     board: &Accepted,
     shelf: &mut S,
+    first: u8,
     caller: u8,
     name: &str,
 ) -> Result<Script, Status>
+    requires low { first ≤ 3 }
     requires few { caller < MOST_CALLERS }
-    requires named { slice_get (S.words shelf.old) (3 + caller) ≡ Some name.now }
-    ensures kept { KeepsBut (λ p. p ≡ 3 + caller) (shelf_view S.Shelf shelf.old) (shelf_view S.Shelf shelf.new) }
+    requires named { slice_get (S.words shelf.old) (first + caller) ≡ Some name.now }
+    ensures kept { KeepsBut (λ p. p ≡ first + caller) (shelf_view S.Shelf shelf.old) (shelf_view S.Shelf shelf.new) }
     ensures opened { IfOk result (λ s. IsOpened board.now s.script.text s) }
     ensures script { IsTrue S.tells → IfOk result (λ s. IsScriptIn (S.file shelf.old) board.now name.now s.script.text) }
-    ensures refused { IfErr result (IsRefusedAt (3 + caller) (IsBadScript caller (λ line word. IsTrue S.tells → HasBadScript (S.file shelf.old) board.now name.now line word))
-        (S.faults shelf.old (3 + caller)) (S.faults shelf.new (3 + caller))) }
+    ensures refused { IfErr result (IsRefusedAt (first + caller) (IsBadScript caller (λ line word. IsTrue S.tells → HasBadScript (S.file shelf.old) board.now name.now line word))
+        (S.faults shelf.old (first + caller)) (S.faults shelf.new (first + caller))) }
 {
-    let text = bytes_at(alloc, shelf, SCRIPT + caller, name)?;
+    let text = bytes_at(alloc, shelf, first + caller, name)?;
     script_of(alloc, board, text, caller)
 }
 
@@ -166,24 +170,26 @@ fn callers_of(scripts: &[Script]) -> u8
     scripts.len() as u8
 }
 
-// Reads the scripts' files one after the other: the scripts, or the first refusal.
+// Reads the scripts' files, which stand from a place on, one after the other: the scripts, or the first refusal.
 fn scripts_in<S: Shelf>(
     alloc: Global,
     board: &Accepted,
     shelf: &mut S,
+    first: u8,
     names: &[String],
 ) -> Result<Vec<Script>, Status>
+    requires low { first ≤ 3 }
     requires few { length names.now ≤ MOST_CALLERS }
-    requires named { AreNamesFrom 3 (S.words shelf.old) (map string_bytes names.now) }
-    ensures kept { KeepsBut (λ p. (3 ≤ p) × (p < 3 + length names.now)) (shelf_view S.Shelf shelf.old) (shelf_view S.Shelf shelf.new) }
+    requires named { AreNamesFrom first (S.words shelf.old) (map string_bytes names.now) }
+    ensures kept { KeepsBut (λ p. (first ≤ p) × (p < first + length names.now)) (shelf_view S.Shelf shelf.old) (shelf_view S.Shelf shelf.new) }
     ensures count { IfOk result (λ scripts. length scripts.items ≡ length names.now) }
     ensures scripts { IfOk result (λ scripts. AreScriptsIn S.tells (S.file shelf.old) (map string_bytes names.now) board.now scripts.items) }
-    ensures refused { IfErr result (IsRefusedScript S.tells (S.file shelf.old) board.now (map string_bytes names.now) (S.faults shelf.old) (S.faults shelf.new)) }
+    ensures refused { IfErr result (IsRefusedScript first S.tells (S.file shelf.old) board.now (map string_bytes names.now) (S.faults shelf.old) (S.faults shelf.new)) }
 {
     let mut scripts = Vec::new(alloc);
     for caller in 0..names.len() {
         let name = name_of(names, caller);
-        let script = script_in(alloc, board, shelf, caller as u8, name)?;
+        let script = script_in(alloc, board, shelf, first, caller as u8, name)?;
         scripts.push(script)?;
     }
     Ok(scripts)
@@ -206,6 +212,25 @@ fn schedule_in<S: Shelf>(
     words_of(alloc, text.as_slice(), callers)
 }
 
+// The same, where there is a schedule.
+fn order_in<S: Shelf>(
+    alloc: Global,
+    shelf: &mut S,
+    callers: u8,
+    schedule: Option<&str>,
+) -> Result<Option<Vec<u8>>, Status>
+    requires named { IsScheduleWord (S.words shelf.old) (option_map (λ s. s.now) schedule) }
+    ensures kept { KeepsBut (IsScheduleAt (option_map (λ s. s.now) schedule.entry)) (shelf_view S.Shelf shelf.old) (shelf_view S.Shelf shelf.new) }
+    ensures named { IfOk result (λ words. AreNamed callers (option_map (λ v. v.items) words)) }
+    ensures order { IsTrue S.tells → IfOk result (λ words. IsOrderIn (S.file shelf.old) (option_map (λ s. s.now) schedule.entry) callers (option_map (λ v. v.items) words)) }
+    ensures refused { IfErr result (IsRefusedOrder S.tells (S.file shelf.old) (option_map (λ s. s.now) schedule.entry) callers (S.faults shelf.old) (S.faults shelf.new)) }
+{
+    match schedule {
+        None => Ok(None),
+        Some(name) => Ok(Some(schedule_in(alloc, shelf, callers, name)?)),
+    }
+}
+
 /// Reads the files in the order board, scripts, schedule, and tests the cost: what they say, or the first refusal.
 pub fn read_files<S: Shelf>(
     alloc: Global,
@@ -216,15 +241,15 @@ pub fn read_files<S: Shelf>(
     ensures kept { KeepsBut (IsPlaceIn (names_told names.now)) (shelf_view S.Shelf shelf.old) (shelf_view S.Shelf shelf.new) }
     ensures opened { IfOk result (λ f. AreOpened f.board f.scripts.items) }
     ensures few { IfOk result (λ f. length f.scripts.items ≤ MOST_CALLERS) }
-    ensures named { IfOk result (λ f. All (λ c. c < length f.scripts.items) f.words.items) }
+    ensures named { IfOk result (λ f. AreNamed (length f.scripts.items) (option_map (λ v. v.items) f.words)) }
     ensures cheap { IfOk result (λ f. cost_of_texts f.board (texts_of f.scripts.items) ≤ MOST_COST) }
-    ensures read { IsTrue S.tells → IfOk result (λ f. HasRead (S.file shelf.old) (names_told names.now) f.board (texts_of f.scripts.items) f.words.items) }
-    ensures unreached { IfErr result (KeepsUnreached (S.faults shelf.old) (S.faults shelf.new)) }
+    ensures read { IsTrue S.tells → IfOk result (λ f. HasRead (S.file shelf.old) (names_told names.now) f.board (texts_of f.scripts.items) (option_map (λ v. v.items) f.words)) }
+    ensures unreached { IfErr result (KeepsUnreached (names_told names.now).schedule (S.faults shelf.old) (S.faults shelf.new)) }
     ensures refused { IfErr result (IsFileRefusal S.tells (S.file shelf.old) (names_told names.now) (S.faults shelf.old) (S.faults shelf.new)) }
 {
     let board = read_accepted(alloc, shelf, names.board)?;
-    let scripts = scripts_in(alloc, &board, shelf, names.scripts)?;
-    let words = schedule_in(alloc, shelf, callers_of(scripts.as_slice()), names.schedule)?;
+    let scripts = scripts_in(alloc, &board, shelf, names.first_script(), names.scripts)?;
+    let words = order_in(alloc, shelf, callers_of(scripts.as_slice()), names.schedule)?;
     check_cost(&board, scripts.as_slice())?;
     Ok(ReplayFiles {
         board,

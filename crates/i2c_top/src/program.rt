@@ -11,7 +11,7 @@ ghost use Rattle.i2c_top.specs.declared.status.Status.TheVariants as status;
 use crate::Status;
 use crate::check::check_call;
 use crate::ending::refuse_words;
-use crate::replay::replay_call;
+use crate::replay::{replay_call, run_call};
 use crate::request::{ReplayNames, Request, request_of};
 use i2c_outside::{Gate, Rig, Shelf, Sink};
 use std::alloc::Global;
@@ -20,17 +20,18 @@ use std::thread::Threads;
 
 /// Does what the program does: `words` are the command line without the program's name, and the shelf's words.
 ///
-/// `Usage` is told exactly where the words are neither `replay` with a board, a schedule and 1 to 8 scripts nor `check`
-/// with a board, each a name that isn't empty and doesn't begin with `-`; then nothing is read or plugged. The other
-/// statuses are those of `replay_call` and of `check_call`.
+/// `Usage` is told exactly where the words are neither `run` with a board and 1 to 8 scripts, nor `replay` with a board, a
+/// schedule and as many scripts, nor `check` with a board, each a name that isn't empty and doesn't begin with `-`; then
+/// nothing is read or plugged. The other statuses are those of `run_call`, `replay_call` and `check_call`. It returns where
+/// they do: nothing says that of `run_call`.
 pub fn top<H: Threads + Wait + Sync, S: Shelf, K: Sink, R: Rig, G: Gate + Sync>(
-    _rt: &H,
+    rt: &H,
     alloc: Global,
     words: &[String],
     shelf: &mut S,
     sink: &mut K,
     rig: &mut R,
-    _gate: &G,
+    gate: &G,
 ) -> Status
     requires { S.words shelf.old ≡ map string_bytes words.now }
 
@@ -52,7 +53,10 @@ pub fn top<H: Threads + Wait + Sync, S: Shelf, K: Sink, R: Rig, G: Gate + Sync>(
                 schedule,
                 scripts,
             },
-        ) => { replay_call(alloc, board, schedule, scripts, shelf, sink, rig) }
+        ) => match schedule {
+            None => run_call(rt, alloc, board, scripts, shelf, sink, rig, gate),
+            Some(schedule) => replay_call(alloc, board, schedule, scripts, shelf, sink, rig),
+        },
         Request::Check { board } => check_call(alloc, board, shelf, sink),
         Request::NoForm => refuse_words(sink),
     }

@@ -13,7 +13,7 @@ returns-in_err-script-clause-refused g c =
     let file = g.S.Shelf.file c.args.shelf.now in
     let names = map string_bytes c.args.names.now in
     passed_on c.from_residual.result c.in_err-script.field-0.0 _ c.from_residual.ensures.1
-    (script_refused g.S.Shelf.tells file (g.S.Shelf.file at.shelf) c.args.board.now names (g.S.Shelf.faults c.args.shelf.now) (g.S.Shelf.faults at.shelf) (g.S.Shelf.faults c.script_in.new.shelf) at.caller
+    (script_refused c.args.first g.S.Shelf.tells file (g.S.Shelf.file at.shelf) c.args.board.now names (g.S.Shelf.faults c.args.shelf.now) (g.S.Shelf.faults at.shelf) (g.S.Shelf.faults c.script_in.new.shelf) at.caller
     c.in_err-script.field-0.0 c.name_of-name.result.now c.name_of-name.ensures.value (subst (λ n. at.caller < n) (sym (length-map c.args.names.now string_bytes)) c.loop-caller-test.true)
     at.invariant.kept.files (λ t. subst (HasScripts file c.args.board.now names) at.invariant.count (at.invariant.scripts.read t)) at.invariant.kept.others c.script_in.ensures.kept.others c.in_err-script.ensures.refused)
 
@@ -23,7 +23,7 @@ returns-in_err-push-clause-refused g c =
     let file = g.S.Shelf.file c.args.shelf.now in
     let names = map string_bytes c.args.names.now in
     passed_on c.from_residual-in_err-push.result status.Memory _ c.from_residual-in_err-push.ensures.1
-    (script_refused g.S.Shelf.tells file (g.S.Shelf.file at.shelf) c.args.board.now names (g.S.Shelf.faults c.args.shelf.now) (g.S.Shelf.faults at.shelf) (g.S.Shelf.faults c.script_in.new.shelf) at.caller
+    (script_refused c.args.first g.S.Shelf.tells file (g.S.Shelf.file at.shelf) c.args.board.now names (g.S.Shelf.faults c.args.shelf.now) (g.S.Shelf.faults at.shelf) (g.S.Shelf.faults c.script_in.new.shelf) at.caller
     status.Memory c.name_of-name.result.now c.name_of-name.ensures.value (subst (λ n. at.caller < n) (sym (length-map c.args.names.now string_bytes)) c.loop-caller-test.true)
     at.invariant.kept.files (λ t. subst (HasScripts file c.args.board.now names) at.invariant.count (at.invariant.scripts.read t)) at.invariant.kept.others c.script_in.ensures.kept.others (inr (inl refl)))
 

@@ -8,6 +8,6 @@ abbrev pub invariant-loop-caller : goal.invariant-loop-caller
 invariant-loop-caller g l =
     record {
       count : length l.scripts.items ≡ l.caller;
-      kept : KeepsBut (λ p. (3 ≤ p) × (p < 3 + l.caller)) (shelf_view g.S.Shelf l.initial.shelf) (shelf_view g.S.Shelf l.shelf);
+      kept : KeepsBut (λ p. (l.first ≤ p) × (p < l.first + l.caller)) (shelf_view g.S.Shelf l.initial.shelf) (shelf_view g.S.Shelf l.shelf);
       scripts : AreScriptsIn g.S.Shelf.tells (g.S.Shelf.file l.initial.shelf) (map string_bytes l.names) l.board l.scripts.items;
     }

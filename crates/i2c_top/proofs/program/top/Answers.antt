@@ -34,14 +34,38 @@ replay_call-requires-clause-schedule g c = grind (arith, common_steps)
 pub replay_call-requires-clause-scripts : goal.replay_call-requires-clause-scripts
 replay_call-requires-clause-scripts g c = grind (arith, common_steps)
 
-pub returns-in-Replay-clause-ended : goal.returns-in-Replay-clause-ended
-returns-in-Replay-clause-ended g c = grind (arith, common_steps)
+pub run_call-requires-clause-some : goal.run_call-requires-clause-some
+run_call-requires-clause-some g c = grind (arith, common_steps)
 
-pub returns-in-Replay-clause-unplugged : goal.returns-in-Replay-clause-unplugged
-returns-in-Replay-clause-unplugged g c = grind (arith, common_steps)
+pub run_call-requires-clause-most : goal.run_call-requires-clause-most
+run_call-requires-clause-most g c = grind (arith, common_steps)
 
-pub returns-in-Replay-clause-success : goal.returns-in-Replay-clause-success
-returns-in-Replay-clause-success g c = grind (arith, common_steps)
+pub run_call-requires-clause-board : goal.run_call-requires-clause-board
+run_call-requires-clause-board g c = grind (arith, common_steps)
 
-pub returns-in-Replay-clause-checked : goal.returns-in-Replay-clause-checked
-returns-in-Replay-clause-checked g c = grind (arith, common_steps)
+pub run_call-requires-clause-scripts : goal.run_call-requires-clause-scripts
+run_call-requires-clause-scripts g c = grind (arith, common_steps)
+
+pub returns-in-None-clause-ended : goal.returns-in-None-clause-ended
+returns-in-None-clause-ended g c = grind (arith, common_steps)
+
+pub returns-in-None-clause-unplugged : goal.returns-in-None-clause-unplugged
+returns-in-None-clause-unplugged g c = grind (arith, common_steps)
+
+pub returns-in-None-clause-success : goal.returns-in-None-clause-success
+returns-in-None-clause-success g c = grind (arith, common_steps)
+
+pub returns-in-None-clause-checked : goal.returns-in-None-clause-checked
+returns-in-None-clause-checked g c = grind (arith, common_steps)
+
+pub returns-in-Some-clause-ended : goal.returns-in-Some-clause-ended
+returns-in-Some-clause-ended g c = grind (arith, common_steps)
+
+pub returns-in-Some-clause-unplugged : goal.returns-in-Some-clause-unplugged
+returns-in-Some-clause-unplugged g c = grind (arith, common_steps)
+
+pub returns-in-Some-clause-success : goal.returns-in-Some-clause-success
+returns-in-Some-clause-success g c = grind (arith, common_steps)
+
+pub returns-in-Some-clause-checked : goal.returns-in-Some-clause-checked
+returns-in-Some-clause-checked g c = grind (arith, common_steps)

@@ -16,7 +16,7 @@ pub returns-clause-report : goal.returns-clause-report
 returns-clause-report g c =
     let run = c.run_scripts.ensures in
     λ shelf. has_reports c.run_scripts.result (λ v. v.items) _ _ _ _ _ (g.R.Rig.logs c.run_scripts.new.rig) (g.R.Rig.states c.run_scripts.new.rig) _ _
-    (c.in_ok-board.ensures.read shelf) c.in_ok-board.ensures.cheap c.as_slice.result.now c.as_slice.ensures.value run.run
+    (c.in_ok-board.ensures.read shelf) c.in_ok-board.ensures.cheap run.run
 
 pub returns-clause-done : goal.returns-clause-done
 returns-clause-done g c =

@@ -3,7 +3,7 @@ use Rattle.std.specs.Prelude.{vec_len, vec_capacity}
 use Rattle.std.specs.List.{enumerate_from}
 use Rattle.std.proofs.lemmas.List.FromFn.{length-enumerate_from}
 use Rattle.i2c_top.proofs.Numbering.{numbered-next, so-many, over-next, room-next, below-next}
-use Rattle.i2c_top.proofs.run.by_root.Goals as goal
+use Rattle.i2c_top.proofs.callers.by_root.Goals as goal
 
 pub overflow_cast-number : goal.overflow_cast-number
 overflow_cast-number g c =

@@ -1,29 +1,31 @@
-use Rattle.std.proofs.Common.{◌≡◌, ℕ, List, map, sym, ◌∙◌, ap, subst}
+use Rattle.std.specs.Prelude.{IfOk}
+use Rattle.std.proofs.Common.{◌≡◌, ℕ, List, Result, map, sym, ◌∙◌, ap, subst}
 use Rattle.i2c_base.specs.declared.port.PortCall.{PortCall}
-use Rattle.i2c_base.specs.Board.{BoardView}
 use Rattle.i2c_base.specs.Limits.{MOST_CALLERS}
 use Rattle.i2c_spec.specs.World.{World, AreWorldsOf, devices_of}
 use Rattle.bus_core.specs.declared.seat.Seat.{Seat}
 use Rattle.bus_spec.specs.Report.{report_lines}
 use Rattle.caller_core.specs.View.{CallerView}
 use Rattle.caller_core.proofs.FairLemmas.{scripts_fair}
+use Rattle.bus_core.specs.declared.bus.Parts.{Parts}
+use Rattle.i2c_top.specs.Cores.{IsLeftOf}
 use Rattle.i2c_top.specs.Runs.{section_of, callers_of, HasRun}
 use Rattle.i2c_top.proofs.CoreLemmas.{twice}
 use Rattle.i2c_top.proofs.RunLemmas.{run-over}
-use Rattle.i2c_top.proofs.run.run_scripts.Goals as goal
+use Rattle.i2c_top.proofs.run.reported.Goals as goal
 
 pub returns-clause-run : goal.returns-clause-run
 returns-clause-run g c =
-    λ tells tell.
-    let parts = c.in-Ok-finished.parts in
-    let b = c.args.board.now in
-    let over = c.in-Ok-finished.ensures.over tell in
+    λ tells tell scripts ports words kept.
+    let parts = c.in-Ok.parts in
+    let left : IsLeftOf g.R.P.Port (g.R.Rig.board_of c.args.rig.now) scripts ports words parts =
+    subst (λ (r : Result (Parts _ CallerView) _). IfOk r (IsLeftOf g.R.P.Port (g.R.Rig.board_of c.args.rig.now) scripts ports words)) c.in-Ok.is kept in
+    let b = g.R.Rig.board_of c.args.rig.now in
     let row = g.R.P.Port in
     let journal = parts.journal.entries in
     let bytes = c.in_ok-report_of_callers.field-0.items in
     let worlds : List World = map (λ p. row.world p.1) parts.ports.items in
     let logs : List (List PortCall) = map (λ p. row.log p.1) parts.ports.items in
-    let board = c.in-Ok.ensures.board in
     let given : map row.world c.alone.result.items ≡ worlds = ap (map row.world) c.alone.ensures ∙ twice row.world (λ p. p.1) parts.ports.items in
     let logged : map row.log c.alone.result.items ≡ logs = ap (map row.log) c.alone.ensures ∙ twice row.log (λ p. p.1) parts.ports.items in
     let printed : bytes ≡ report_lines (map section_of (callers_of parts)) journal =
@@ -31,13 +33,11 @@ returns-clause-run g c =
     ∙ ap (λ (xs : List (List ℕ)). report_lines xs journal) (sym (twice section_of (λ (s : Seat CallerView). s.caller) parts.seats.items)) in
     let states = g.R.Rig.states c.unplug-2.new.self in
     let kept_logs = g.R.Rig.logs c.unplug-2.new.self in
-    subst (λ (texts : List (List ℕ)). HasRun b texts c.args.words.now bytes kept_logs states) c.in-Ok-finished.ensures.texts
+    subst (λ (texts : List (List ℕ)). HasRun b texts words bytes kept_logs states) left.texts
     (record {
       journal = journal;
-      is_run = run-over b (callers_of parts) MOST_CALLERS journal worlds logs scripts_fair over bytes kept_logs states printed
-          (subst (λ (k : BoardView). AreWorldsOf k worlds → states ≡ devices_of k worlds) board
-          (subst (λ (ws : List World). AreWorldsOf (g.R.Rig.board_of c.plug.new.self) ws → states ≡ devices_of (g.R.Rig.board_of c.plug.new.self) ws) given (c.unplug-2.ensures.states tells tell)))
-          (λ are. subst (λ (k : BoardView). AreWorldsOf k worlds → kept_logs ≡ map row.log c.alone.result.items) board
-          (subst (λ (ws : List World). AreWorldsOf (g.R.Rig.board_of c.plug.new.self) ws → kept_logs ≡ map row.log c.alone.result.items) given (c.unplug-2.ensures.logs tells tell)) are ∙ logged);
-      followed = c.in-Ok-finished.ensures.followed tell;
+      is_run = run-over b (callers_of parts) MOST_CALLERS journal worlds logs scripts_fair (left.over tell) bytes kept_logs states printed
+          (subst (λ (ws : List World). AreWorldsOf b ws → states ≡ devices_of b ws) given (c.unplug-2.ensures.states tells tell))
+          (λ are. subst (λ (ws : List World). AreWorldsOf b ws → kept_logs ≡ map row.log c.alone.result.items) given (c.unplug-2.ensures.logs tells tell) are ∙ logged);
+      ordered = left.ordered tell;
     })

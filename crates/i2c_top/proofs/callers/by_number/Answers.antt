@@ -8,7 +8,7 @@ use Rattle.std.specs.Prelude.{List}
 use Rattle.caller_core.specs.View.{CallerView}
 use Rattle.i2c_base.specs.Limits.{MOST_CALLERS}
 use Rattle.i2c_top.proofs.Numbering.{GoesOver, numbered-next, so-many, over-next, over-room, over-below}
-use Rattle.i2c_top.proofs.run.by_number.Goals as goal
+use Rattle.i2c_top.proofs.callers.by_number.Goals as goal
 
 pub overflow_cast-number : goal.overflow_cast-number
 overflow_cast-number c =
