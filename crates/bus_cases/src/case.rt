@@ -2,7 +2,7 @@ ghost use Rattle.std.specs.Prelude.{◌≡◌, map, string_bytes, IfOk, IfSome, 
 
 use crate::words::parted;
 use i2c_base::SegId;
-use i2c_outside::{MapShelf, OpenGate, VecSink};
+use i2c_outside::{Gate, MapShelf, OpenGate, VecSink};
 use i2c_physics::FailRig;
 use i2c_top::{Status, top};
 use std::alloc::{AllocError, Global};
@@ -156,12 +156,13 @@ impl Outside {
     }
 }
 
-// Calls the top with these words over their outside.
-fn call_over<H: Threads + Wait + Sync>(
+// Calls the top with these words over their outside; each step of a running thread passes the gate.
+fn call_over<H: Threads + Wait + Sync, G: Gate + Sync>(
     rt: &H,
     alloc: Global,
     words: &[String],
     outside: &mut Outside,
+    gate: &G,
 ) -> Status
     requires { map string_bytes outside.old.shelf.words.items ≡ map string_bytes words.now }
 {
@@ -172,7 +173,7 @@ fn call_over<H: Threads + Wait + Sync>(
         &mut outside.shelf,
         &mut outside.sink,
         &mut outside.rig,
-        &OpenGate,
+        gate,
     )
 }
 
@@ -206,10 +207,29 @@ impl Call {
         case: &Case,
         files: &Files,
     ) -> Option<()> {
+        self.make_under(rt, alloc, case, files, &OpenGate)
+    }
+
+    /// .. and has each step of a running thread pass a gate.
+    pub fn make_under<H: Threads + Wait + Sync, G: Gate + Sync>(
+        &mut self,
+        rt: &H,
+        alloc: Global,
+        case: &Case,
+        files: &Files,
+        gate: &G,
+    ) -> Option<()> {
         self.outside
             .reset(alloc, case, files, self.words.as_slice())?;
-        self.status = call_over(rt, alloc, self.words.as_slice(), &mut self.outside);
+        self.status = call_over(rt, alloc, self.words.as_slice(), &mut self.outside, gate);
         Some(())
+    }
+
+    /// The report that was written: the sections of the callers, and the lines of the journal.
+    pub fn report(&self) -> Option<(&str, &str)> {
+        let report = str::from_utf8(self.outside.sink.bytes()).ok()?;
+        let (sections, journal) = report.split_once("\njournal\n")?;
+        Some((sections, journal.strip_suffix("end\n")?))
     }
 
     // It was cut off by an output of this room, which holds a front of what was due.

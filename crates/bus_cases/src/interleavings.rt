@@ -1,4 +1,5 @@
-//! Two callers by every short schedule, and with each call of the port failing in turn, beside the flat world.
+//! Two callers by every short schedule, with each call of the port failing in turn, and as running threads, beside the flat
+//! world.
 
 use crate::asker::Asker;
 use crate::boards;
@@ -27,7 +28,7 @@ const DIGITS: u8 = 13;
 const MANY_CALLS: u32 = 1000;
 
 /// Two callers over a board: their call, whose words are `replay` and the names of the files of the board, of the schedule
-/// and of the two scripts; and what fails in it.
+/// and of the two scripts, or `run` and those names without a schedule's; and what fails in it.
 #[derive(Drop)]
 struct Race {
     board: Accepted,
@@ -40,6 +41,7 @@ struct Race {
 #[derive(Drop)]
 struct Tally {
     runs: u64,
+    sections: BTreeSet<String>,
     journals: BTreeSet<String>,
     replies: u64,
     /// How many of the runs aren't those of the flat world.
@@ -79,13 +81,6 @@ fn put_schedule(words: &mut Vec<u8>, number: u16) -> Option<()> {
         rest /= 2;
     }
     Some(())
-}
-
-/// The journal of a report.
-fn journal_of(call: &Call) -> Option<&str> {
-    let report = str::from_utf8(call.outside.sink.bytes()).ok()?;
-    let (_, journal) = report.split_once("\njournal\n")?;
-    journal.strip_suffix("end\n")
 }
 
 /// The line of a settle is this one.
@@ -198,19 +193,35 @@ impl Race {
         self.run(rt, alloc)
     }
 
+    /// The sections and the journal of the report, empty where there is none.
+    fn report(&self) -> (&str, &str) {
+        self.call.report().unwrap_or(("", ""))
+    }
+
     fn journal(&self) -> &str {
-        journal_of(&self.call).unwrap_or("")
+        let (_, journal) = self.report();
+        journal
+    }
+
+    /// The place of the first script among the words.
+    fn first_script(&self) -> usize {
+        if word_at(self.call.words.as_slice(), 0) == "run" {
+            2
+        } else {
+            3
+        }
     }
 
     /// A script of the two, which was asked for nothing yet.
-    fn asker(&self, place: usize) -> Asker<'_> {
+    fn asker(&self, caller: usize) -> Asker<'_> {
+        let place = self.first_script().saturating_add(caller);
         let script = text_of(&self.files, word_at(self.call.words.as_slice(), place));
         Asker::of(script, self.board.board().limit())
     }
 
     /// Whether the replies of a run are those of the flat world, its devices are left as there, and no transfer is left.
     fn is_followed(&self, alloc: Global, flat: &mut Flat<'_>) -> bool {
-        let mut askers = [self.asker(3), self.asker(4)];
+        let mut askers = [self.asker(0), self.asker(1)];
         matches!(self.call.status, Status::Ok)
             && follow(alloc, flat, &mut askers, self.journal())
             && are_over(alloc, &askers)
@@ -230,6 +241,7 @@ impl Tally {
     fn new(alloc: Global) -> Self {
         Tally {
             runs: 0,
+            sections: BTreeSet::new(alloc),
             journals: BTreeSet::new(alloc),
             replies: 0,
             differ: 0,
@@ -239,8 +251,13 @@ impl Tally {
     /// Counts a run.
     fn add(&mut self, alloc: Global, race: &Race) -> Option<()> {
         self.count(race.journal(), race.agrees(alloc));
-        let journal = String::from_str(alloc, race.journal()).ok()?;
-        self.journals.insert(journal).ok()?;
+        let (sections, journal) = race.report();
+        self.sections
+            .insert(String::from_str(alloc, sections).ok()?)
+            .ok()?;
+        self.journals
+            .insert(String::from_str(alloc, journal).ok()?)
+            .ok()?;
         Some(())
     }
 
@@ -335,6 +352,67 @@ pub fn put_interleavings<H: Threads + Wait + Sync>(
         Some(mut race) => {
             page.require(race.call.copy_words(alloc, call).is_some());
             put_runs(rt, page, alloc, &mut race);
+        }
+        None => page.require(false),
+    }
+}
+
+/// Runs the callers so many times.
+fn run_again<H: Threads + Wait + Sync>(
+    rt: &H,
+    alloc: Global,
+    race: &mut Race,
+    tally: &mut Tally,
+    times: u32,
+) -> Option<()> {
+    for _ in 0..times {
+        race.run(rt, alloc)?;
+        tally.add(alloc, race)?;
+    }
+    Some(())
+}
+
+impl Tally {
+    fn put_again(&self, page: &mut Page, is_apart: bool) {
+        page.put_number("", self.runs);
+        page.put_number(" runs: ", self.replies);
+        page.put_number(" replies, ", self.differ);
+        page.put(" differ");
+        if is_apart {
+            page.put_number(", sections of so many kinds: ", self.sections.len() as u64);
+        }
+        page.put("\n");
+    }
+}
+
+fn put_race<H: Threads + Wait + Sync>(
+    rt: &H,
+    page: &mut Page,
+    alloc: Global,
+    race: &mut Race,
+    times: u32,
+    is_apart: bool,
+) {
+    let mut tally = Tally::new(alloc);
+    page.require(run_again(rt, alloc, race, &mut tally, times).is_some());
+    tally.put_again(page, is_apart);
+}
+
+/// Runs the two callers of a call so many times, and puts in a line how many of the runs aren't those of the flat world; and
+/// where the callers share no device, of how many kinds their sections are.
+pub fn put_again<H: Threads + Wait + Sync>(
+    rt: &H,
+    page: &mut Page,
+    alloc: Global,
+    files: &Files,
+    call: &Call,
+    times: u32,
+    is_apart: bool,
+) {
+    match Race::open(alloc, files, call) {
+        Some(mut race) => {
+            page.require(race.call.copy_words(alloc, call).is_some());
+            put_race(rt, page, alloc, &mut race, times, is_apart);
         }
         None => page.require(false),
     }

@@ -18,6 +18,12 @@
 //! - `interleavings`: replays the two scripts of the last call by each schedule of 1 to 12 words, and by their own with each
 //!   call on the first port failing in turn. Prints of both, in a line, how many runs there were, how many of their journals
 //!   are different, how many replies they have, and how many of the runs aren't those of the flat world
+//! - `words WORD..`: the words of a call that isn't made yet, for the three that follow
+//! - `again N`: makes the call of two callers so many times, and prints how many replies the runs have, and how many of them
+//!   aren't those of the flat world
+//! - `apart N`: the same of callers that share no device, and of how many kinds their sections are
+//! - `turns HELD OTHER`: makes the call with a gate at the free of the first root, where caller HELD is held until caller OTHER
+//!   has settled twice. Prints whether a hold was in vain, the sections, and where the second settle of OTHER stands
 //!
 //! Then come worked examples of what stands below the core. Each is a front, a colon and words, and is answered by a line
 //! of the same front with an answer for each word:
@@ -47,6 +53,7 @@ mod show;
 mod table;
 mod transfers;
 mod trees;
+mod turns;
 mod wires;
 mod words;
 

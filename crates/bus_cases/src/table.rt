@@ -1,10 +1,11 @@
 use crate::bench::answer_line;
 use crate::case::{Call, Case, Files as Shelf};
 use crate::entries::put_entry;
-use crate::interleavings::put_interleavings;
+use crate::interleavings::{put_again, put_interleavings};
 use crate::mute::put_mute;
 use crate::page::Page;
 use crate::show::{put_answers, put_call, put_calls};
+use crate::turns::put_turns;
 use crate::words::parted;
 use std::alloc::Global;
 use std::collections::BTreeMap;
@@ -87,6 +88,8 @@ impl Table {
             "file" => page.require(self.begin_file(alloc, rest).is_some()),
             "case" => self.begin_case(page, alloc, rest),
             "call" => self.make_call(rt, page, alloc, rest),
+            "words" => self.read_words(page, alloc, rest),
+            "turns" => self.put_turns(rt, page, alloc, rest),
             "mute" => put_mute(page),
             "entry" => put_entry(page, alloc, rest),
             "reads" | "writes" | "fails" | "room" | "stuck" => {
@@ -133,6 +136,44 @@ impl Table {
         self.call.make(rt, alloc, &self.case, &self.files)
     }
 
+    // Has the words of a call that isn't made yet.
+    fn read_words(&mut self, page: &mut Page, alloc: Global, words: &str) {
+        self.is_called = self.call.read_words(alloc, words).is_some();
+        page.require(self.is_called);
+    }
+
+    // Makes the call with callers of these two numbers that take turns.
+    fn put_turns<H: Threads + Wait + Sync>(
+        &mut self,
+        rt: &H,
+        page: &mut Page,
+        alloc: Global,
+        numbers: &str,
+    ) {
+        let (held, other) = parted(numbers, ' ');
+        match (held.parse(), other.parse()) {
+            (Ok(held), Ok(other)) => {
+                put_turns(rt, page, alloc, &self.files, &mut self.call, held, other)
+            }
+            _ => page.require(false),
+        }
+    }
+
+    // Makes the call so many times.
+    fn put_again<H: Threads + Wait + Sync>(
+        &self,
+        rt: &H,
+        page: &mut Page,
+        alloc: Global,
+        times: &str,
+        is_apart: bool,
+    ) {
+        match times.parse() {
+            Ok(times) => put_again(rt, page, alloc, &self.files, &self.call, times, is_apart),
+            Err(_) => page.require(false),
+        }
+    }
+
     // Puts what the last call left.
     fn show<H: Threads + Wait + Sync>(
         &mut self,
@@ -145,6 +186,8 @@ impl Table {
         page.require(self.is_called);
         match command {
             "interleavings" => put_interleavings(rt, page, alloc, &self.files, &self.call),
+            "again" => self.put_again(rt, page, alloc, rest, false),
+            "apart" => self.put_again(rt, page, alloc, rest, true),
             "fronts" => self.put_fronts(rt, page, alloc),
             "calls" => put_calls(page, &self.call),
             "device" => put_answers(page, alloc, &self.call, rest),
