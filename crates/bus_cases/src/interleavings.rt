@@ -281,6 +281,18 @@ impl Tally {
         page.put_number(" replies, ", self.differ);
         page.put(" differ");
     }
+
+    /// The runs in a line; of callers that share no device with the number of kinds of their sections.
+    fn put_again(&self, page: &mut Page, is_apart: bool) {
+        page.put_number("", self.runs);
+        page.put_number(" runs: ", self.replies);
+        page.put_number(" replies, ", self.differ);
+        page.put(" differ");
+        if is_apart {
+            page.put_number("; kinds of sections: ", self.sections.len() as u64);
+        }
+        page.put("\n");
+    }
 }
 
 /// Runs the callers by each short schedule.
@@ -372,19 +384,7 @@ fn run_again<H: Threads + Wait + Sync>(
     Some(())
 }
 
-impl Tally {
-    fn put_again(&self, page: &mut Page, is_apart: bool) {
-        page.put_number("", self.runs);
-        page.put_number(" runs: ", self.replies);
-        page.put_number(" replies, ", self.differ);
-        page.put(" differ");
-        if is_apart {
-            page.put_number(", sections of so many kinds: ", self.sections.len() as u64);
-        }
-        page.put("\n");
-    }
-}
-
+/// Puts in a line what came of so many runs of a race.
 fn put_race<H: Threads + Wait + Sync>(
     rt: &H,
     page: &mut Page,

@@ -1,6 +1,5 @@
 ghost use Rattle.std.specs.Prelude.{◌≡◌, ◌≤◌, ◌⊎◌, ℕ, List, [], false, true, Option, None, Err, IfOk, OnOk, IfErr, OnErr, IsTrue, length, map, vec_capacity};
 ghost use Rattle.std.specs.Option.{option_map};
-ghost use Rattle.i2c_base.specs.Board.{BoardView};
 ghost use Rattle.i2c_base.specs.Limits.{MOST_CALLERS};
 ghost use Rattle.i2c_outside.specs.Causes.{Rose, counted};
 ghost use Rattle.caller_core.specs.View.{CallerView};
