@@ -1,6 +1,5 @@
-use i2c_board::Accepted;
+use i2c_board::{Accepted, accept};
 use i2c_boardtext::read_board;
-use i2c_topo::accept;
 use std::alloc::Global;
 use std::fs;
 use std::rt::Files;

@@ -1,3 +1,5 @@
+//! A board that meets the topology rules, and what a transfer costs on it.
+
 ghost use Rattle.std.specs.Prelude.{◌≡◌, ◌<◌, ◌^◌, IfSome};
 ghost use Rattle.i2c_base.specs.Limits.{MOST_ROOTS};
 

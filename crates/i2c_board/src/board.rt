@@ -1,3 +1,5 @@
+//! A board: its roots, muxes and devices, with their limits.
+
 ghost use Rattle.std.specs.Prelude.{◌≡◌, List};
 ghost use Rattle.i2c_base.specs.declared.board.RootSpec.{RootSpec};
 ghost use Rattle.i2c_base.specs.declared.board.MuxSpec.{MuxSpec};

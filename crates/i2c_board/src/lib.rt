@@ -1,13 +1,18 @@
-//! Boards: the buses of a board as a tree, to whom an address leads, and whether a way is clear.
+//! Boards: the buses of a board as a tree, to whom an address leads, whether a way is clear, and which boards are accepted.
 //!
-//! Its public contract: each call of `Board` is the definition of its name in `i2c_spec`, and an `Accepted`
-//! board meets the five topology rules and tells what a transfer costs on it. Standard: Linux i2c-topology.
+//! Its public contract: each call of `Board` is the definition of its name in `i2c_spec`, and `accept` answers Ok exactly
+//! where a board meets the five topology rules, and else the first rule that it breaks, with the two items at fault. An
+//! `Accepted` board meets the rules, and tells what a transfer costs on it. Definitions: `specs/Tree.antt`,
+//! `specs/Grant.antt` and `specs/Rules.antt` of `i2c_spec`. Standard: Linux i2c-topology, "I2C muxes and complex
+//! topologies".
 #![tactic(auto)]
 
 mod accepted;
 mod board;
+mod rules;
 mod tree;
 
 pub use accepted::Accepted;
 pub use board::Board;
-pub use i2c_base::{Grant, Way};
+pub use i2c_base::{Grant, Item, RuleBroken, Way};
+pub use rules::accept;

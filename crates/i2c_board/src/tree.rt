@@ -1,3 +1,5 @@
+//! The tree calls of a board: its buses, the paths to them, to whom an address leads, and whether a way is clear.
+
 ghost use Rattle.std.specs.Prelude.{◌≡◌, ◌<◌, ◌↔◌, length, SomeIff, IsNone, option_map};
 
 use crate::Board;

@@ -7,7 +7,7 @@ use Rattle.i2c_boardtext.specs.declared.fault.BoardFault.{BoardFault}
 use Rattle.i2c_top.specs.Boards.{IsAccepted, IsRejected}
 use Rattle.i2c_top.specs.declared.status.BoardRefusal.{BoardRefusal}
 use Rattle.i2c_top.specs.declared.status.BoardRefusal.TheVariants as refusal
-use Rattle.i2c_topo.proofs.BrokenLemmas.{broken_breaks, one_broken}
+use Rattle.i2c_board.proofs.BrokenLemmas.{broken_breaks, one_broken}
 
 -- a result is one
 both : (r : Result BoardView BoardFault) (b : BoardView) (f : BoardFault) → r ≡ Ok b → r ≡ Err f → ⊥

@@ -23,10 +23,9 @@ use crate::request::{BOARD, ReplayNames, SCHEDULE};
 use crate::schedule::{ScheduleFault, read_schedule};
 use crate::{BoardRefusal, Status};
 use caller_core::{Script, ScriptFault};
-use i2c_board::{Accepted, Board};
+use i2c_board::{Accepted, Board, accept};
 use i2c_boardtext::BoardFault;
 use i2c_outside::{ReadFail, Shelf};
-use i2c_topo::accept;
 use std::alloc::Global;
 
 /// What the files of a replay say: the board, the scripts, and the callers that the schedule's words name, where there is

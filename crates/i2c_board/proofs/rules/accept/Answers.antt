@@ -1,7 +1,7 @@
 use Rattle.std.proofs.Common.{arith}
 use Rattle.std.proofs.lemmas.Grind.{common_steps}
-use Rattle.i2c_topo.proofs.BrokenLemmas.{broken_breaks}
-use Rattle.i2c_topo.proofs.rules.accept.Goals as goal
+use Rattle.i2c_board.proofs.BrokenLemmas.{broken_breaks}
+use Rattle.i2c_board.proofs.rules.accept.Goals as goal
 
 pub seal-requires : goal.seal-requires
 seal-requires c = grind (arith, common_steps)

@@ -1,9 +1,10 @@
-//! An accepted board, or the first rule that it breaks.
+//! The topology rules of a board, and its acceptance: the board, or the first rule that it breaks.
+
 ghost use Rattle.std.specs.Prelude.{◌≡◌, ◌↔◌, IsOk, IfOk, IfErr};
 ghost use Rattle.i2c_spec.specs.Rules.{MeetsRules, TellsBroken};
 
+use crate::{Accepted, Board};
 use i2c_base::RuleBroken;
-use i2c_board::{Accepted, Board};
 
 /// The same board, accepted; or the first rule that it breaks, with the two items at fault. The rules are asked
 /// in this order, after the warnings of Linux i2c-topology. Items are the muxes in file order, then the devices.
