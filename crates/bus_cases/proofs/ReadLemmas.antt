@@ -1,11 +1,11 @@
 -- A command that is read is in range: its words are a line of the grammar, and what that means is in range.
 use Rattle.std.proofs.Common.{◌≡◌, ℕ, Bool, true, false, cond, List, Some, None, refl, ap, ◌∙◌}
 use Rattle.std.specs.Prelude.{Result, Ok, Err}
-use Rattle.tool_words.specs.Commands.{ReadsLines, MeansInRange, is_command, some_command, line_read}
-use Rattle.tool_words.specs.Fronts.{words_of}
-use Rattle.tool_words.specs.LineSets.{Word, follow_words}
-use Rattle.tool_words.specs.Lines.{script_lines, IsInRange}
-use Rattle.tool_words.specs.declared.cmd.Cmd.{Cmd}
+use Rattle.tools.specs.Lines.{ReadsLines, MeansInRange, is_command, some_command, line_read}
+use Rattle.tools.specs.Splits.{words_of}
+use Rattle.tools.specs.LineSets.{Word, follow_words}
+use Rattle.tools.specs.Trees.{script_lines, IsInRange}
+use Rattle.tools.specs.declared.cmd.Cmd.{Cmd}
 
 module _ (reads : ReadsLines) (means : MeansInRange) (limit : ℕ) where
   words_in_range : (ws : List Word) (c : Cmd) (b : Bool) (r : Result Cmd ℕ) → follow_words (script_lines limit) 0 ws ≡ r

@@ -3,8 +3,7 @@
 use crate::words::parted;
 use i2c_base::{Kind, Reply, Transfer};
 use std::alloc::Global;
-use tool_run::ToolRun;
-use tool_words::{each_field_is_in_range, each_line_is_read, read_line};
+use tools::{ToolRun, each_field_is_in_range, each_line_is_read, read_line};
 
 /// What is left of a script, how many transfers of its first line were replied to, and the block limit of its board.
 #[derive(Clone, Copy)]

@@ -4,12 +4,12 @@ use Rattle.std.specs.Prelude.{All, nat_le}
 use Rattle.std.proofs.lemmas.Bool.Decides.{nat_tests}
 use Rattle.std.proofs.lemmas.List.Elements.{All-nil, All-cons}
 use Rattle.i2c_spec.specs.Flat.{block_limit}
-use Rattle.tool_words.specs.Commands.{is_command, some_command, line_read}
-use Rattle.tool_words.specs.Fronts.{words_of, lines_of}
-use Rattle.tool_words.specs.LineSets.{Word, follow_words}
-use Rattle.tool_words.specs.Lines.{script_lines, IsInRange}
-use Rattle.tool_words.specs.declared.cmd.Cmd.{Cmd}
-use Rattle.tool_words.proofs.CommandLemmas.{reads_lines, means_in_range}
+use Rattle.tools.specs.Lines.{is_command, some_command, line_read}
+use Rattle.tools.specs.Splits.{words_of, lines_of}
+use Rattle.tools.specs.LineSets.{Word, follow_words}
+use Rattle.tools.specs.Trees.{script_lines, IsInRange}
+use Rattle.tools.specs.declared.cmd.Cmd.{Cmd}
+use Rattle.tools.proofs.LineLemmas.{reads_lines, means_in_range}
 use Rattle.caller_core.specs.View.{CommandView, ScriptView}
 use Rattle.caller_core.specs.Scripts.{Place, command_of, at_most, lines_read, behind_commands, behind_line_read, commands_or_none, text_read, commands_of}
 

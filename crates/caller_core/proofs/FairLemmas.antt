@@ -5,8 +5,8 @@ use Rattle.std.proofs.lemmas.List.Elements.{All-head}
 use Rattle.i2c_base.specs.declared.reply.Reply.{Reply}
 use Rattle.i2c_base.specs.Transfer.{TransferView}
 use Rattle.i2c_spec.specs.Cost.{cost_of}
-use Rattle.tool_run.proofs.ToolLemmas.{asks_at}
-use Rattle.tool_run.proofs.TransferLemmas.{IsAsk}
+use Rattle.tools.proofs.CommandLemmas.{asks_at}
+use Rattle.tools.proofs.TransferLemmas.{IsAsk}
 use Rattle.caller_core.specs.Callers.{ScriptsAreFair}
 use Rattle.caller_core.specs.Progress.{Progress, progress, asked_at}
 use Rattle.caller_core.specs.Scripts.{commands_of, asked_by, left_of, cost_of_script}

@@ -8,7 +8,7 @@ use Rattle.std.proofs.lemmas.List.Sums.{fold_push, sum_by-cons, sum_by-drop_more
 use Rattle.std.proofs.lemmas.Option.{slice_get_within, get_or_from_slice_get}
 use Rattle.i2c_base.specs.Transfer.{TransferView}
 use Rattle.i2c_base.specs.declared.reply.Reply.{Reply}
-use Rattle.tool_run.specs.Tools.{transfers_of, is_over}
+use Rattle.tools.specs.Commands.{transfers_of, is_over}
 use Rattle.caller_core.specs.Progress.{Answered, Progress, begun, next_turn, replied_to, replied, progress, next_of, asked_at, sum_of_command, sum_from, sum_left}
 use Rattle.caller_core.specs.View.{CommandView}
 

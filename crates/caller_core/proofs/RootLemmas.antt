@@ -12,7 +12,7 @@ use Rattle.std.proofs.lemmas.Nat.Bits.{bit_at-zero, bit_at_or, bit_at-pow_same, 
 use Rattle.i2c_base.specs.Board.{BoardView}
 use Rattle.i2c_base.specs.Transfer.{TransferView}
 use Rattle.i2c_spec.specs.Tree.{buses, root_of, root_named}
-use Rattle.tool_run.specs.Tools.{transfers_of}
+use Rattle.tools.specs.Commands.{transfers_of}
 use Rattle.caller_core.specs.Roots.{names_root, command_names, HasBits}
 use Rattle.caller_core.specs.View.{CommandView}
 

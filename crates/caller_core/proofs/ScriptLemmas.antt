@@ -2,12 +2,12 @@
 use Rattle.std.proofs.Common.{◌≡◌, ℕ, ◌+◌, ◌≤◌, List, [], ◌∷◌, ◌++◌, length, take, drop, Some, None, Result, Ok, Err, refl, sym, ap, ◌∙◌, append_assoc, length-append, subst, arith}
 use Rattle.std.specs.Prelude.{All}
 use Rattle.std.proofs.lemmas.List.{drop-drop}
-use Rattle.tool_words.specs.Fronts.{words_of, joined_words, lines_of}
-use Rattle.tool_words.specs.Commands.{line_read}
-use Rattle.tool_words.specs.Readers.{FaultIs}
-use Rattle.tool_words.specs.declared.cmd.Cmd.{Cmd}
-use Rattle.tool_words.specs.declared.fault.LineFault.{LineFault}
-use Rattle.tool_words.specs.declared.fault.LineFault.TheVariants as line_fault
+use Rattle.tools.specs.Splits.{words_of, joined_words, lines_of}
+use Rattle.tools.specs.Lines.{line_read}
+use Rattle.tools.specs.Readers.{FaultIs}
+use Rattle.tools.specs.declared.cmd.Cmd.{Cmd}
+use Rattle.tools.specs.declared.fault.LineFault.{LineFault}
+use Rattle.tools.specs.declared.fault.LineFault.TheVariants as line_fault
 use Rattle.caller_core.specs.View.{CommandView}
 use Rattle.caller_core.specs.Scripts.{Place, command_of, at_most, lines_read, behind_commands, behind_line_read, fault_at, ScriptFaultIs, commands_or_none, text_read}
 use Rattle.caller_core.specs.ScriptSteps.{IsStep, IsRefused}

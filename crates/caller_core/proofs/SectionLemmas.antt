@@ -8,12 +8,12 @@ use Rattle.i2c_base.specs.declared.reply.Reply.{Reply}
 use Rattle.i2c_spec.specs.Flat.{block_limit}
 use Rattle.bus_journal.specs.Reports.{IsLine, ended, IsSectionLine, HasNoJournalLine}
 use Rattle.bus_journal.proofs.LineFeeds.{line-append}
-use Rattle.tool_words.specs.Commands.{line_read}
-use Rattle.tool_words.specs.Words.{begins_with_word, onto_first}
-use Rattle.tool_words.specs.Fronts.{is_blank, begins_feed, words_of, behind_space, joined_words, lines_of}
-use Rattle.tool_words.specs.declared.cmd.Cmd.{Cmd}
-use Rattle.tool_run.specs.Tools.{answer_text, is_over}
-use Rattle.tool_run.proofs.ToolLemmas.{answer_line}
+use Rattle.tools.specs.Lines.{line_read}
+use Rattle.tools.specs.Words.{begins_with_word, onto_first}
+use Rattle.tools.specs.Splits.{is_blank, begins_feed, words_of, behind_space, joined_words, lines_of}
+use Rattle.tools.specs.declared.cmd.Cmd.{Cmd}
+use Rattle.tools.specs.Commands.{answer_text, is_over}
+use Rattle.tools.proofs.CommandLemmas.{answer_line}
 use Rattle.caller_core.specs.Progress.{Answered, Progress, begun, next_turn, replied_to, replied, progress}
 use Rattle.caller_core.specs.Scripts.{Place, command_of, at_most, lines_read, behind_commands, behind_line_read, commands_or_none, script_read, commands_of, command_text}
 use Rattle.caller_core.specs.Sections.{SectionsHaveNoJournalLine}

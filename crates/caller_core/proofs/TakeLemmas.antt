@@ -13,11 +13,11 @@ use Rattle.i2c_base.specs.declared.reply.Reply.{Reply}
 use Rattle.packed.specs.View.{PackedView}
 use Rattle.bus_journal.specs.Borrowed.{reply_by}
 use Rattle.bus_journal.specs.declared.borrowed.ReplyHead.{ReplyHead}
-use Rattle.tool_words.specs.declared.cmd.Cmd.{Cmd}
-use Rattle.tool_run.specs.Replies.{reply_of, replies_of, most_brought}
-use Rattle.tool_run.specs.Tools.{AreReplies, transfers_of, is_over}
-use Rattle.tool_run.specs.View.{RunView, TextView}
-use Rattle.tool_run.proofs.TransferLemmas.{IsAsk, brings_few}
+use Rattle.tools.specs.declared.cmd.Cmd.{Cmd}
+use Rattle.tools.specs.Replies.{reply_of, replies_of, most_brought}
+use Rattle.tools.specs.Commands.{AreReplies, transfers_of, is_over}
+use Rattle.tools.specs.View.{RunView, TextView}
+use Rattle.tools.proofs.TransferLemmas.{IsAsk, brings_few}
 use Rattle.caller_core.specs.Callers.{need_at, owed_by}
 use Rattle.caller_core.specs.Kept.{IsCaller, IsAt, run_of}
 use Rattle.caller_core.specs.Progress.{progress, asked_at, sum_left}

@@ -13,11 +13,11 @@ use Rattle.std.proofs.lemmas.List.Elements.{All-get_or}
 use Rattle.i2c_base.specs.Transfer.{TransferView}
 use Rattle.i2c_base.specs.declared.reply.Reply.{Reply}
 use Rattle.bus_journal.specs.declared.borrowed.ReplyHead.{ReplyHead}
-use Rattle.tool_words.specs.Lines.{IsInRange}
-use Rattle.tool_run.specs.Replies.{reply_of, replies_of}
-use Rattle.tool_run.specs.Tools.{transfers_of, ends_early, is_over}
-use Rattle.tool_run.specs.View.{RunView}
-use Rattle.tool_run.proofs.ToolLemmas.{asks_some}
+use Rattle.tools.specs.Trees.{IsInRange}
+use Rattle.tools.specs.Replies.{reply_of, replies_of}
+use Rattle.tools.specs.Commands.{transfers_of, ends_early, is_over}
+use Rattle.tools.specs.View.{RunView}
+use Rattle.tools.proofs.CommandLemmas.{asks_some}
 use Rattle.caller_core.specs.Kept.{IsAt, run_of}
 use Rattle.caller_core.specs.Progress.{Answered, Progress, next_turn, replied_to, progress, next_of, asked_at}
 use Rattle.caller_core.specs.Scripts.{commands_of, command_text, section_text}

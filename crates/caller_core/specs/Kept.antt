@@ -4,10 +4,10 @@ use Rattle.std.specs.Option.{option_map}
 use Rattle.i2c_base.specs.declared.reply.Reply.{Reply}
 use Rattle.packed.specs.View.{PackedView}
 use Rattle.bus_journal.specs.declared.borrowed.ReplyHead.{ReplyHead}
-use Rattle.tool_run.specs.Replies.{replies_of, most_brought}
-use Rattle.tool_run.specs.Tools.{transfers_of}
-use Rattle.tool_run.specs.View.{RunView, TextView}
-use Rattle.tool_words.specs.declared.cmd.Cmd.{Cmd}
+use Rattle.tools.specs.Replies.{replies_of, most_brought}
+use Rattle.tools.specs.Commands.{transfers_of}
+use Rattle.tools.specs.View.{RunView, TextView}
+use Rattle.tools.specs.declared.cmd.Cmd.{Cmd}
 use Rattle.caller_core.specs.Progress.{progress, sum_left}
 use Rattle.caller_core.specs.View.{CommandView, ScriptView}
 use Rattle.caller_core.specs.Scripts.{commands_of, cost_of_script, section_text}

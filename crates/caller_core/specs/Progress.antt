@@ -3,7 +3,7 @@ use Rattle.std.specs.Prelude.{ℕ, ◌+◌, List, [], ◌∷◌, ◌++◌, lengt
 use Rattle.std.specs.List.{fold, sum_by}
 use Rattle.i2c_base.specs.Transfer.{TransferView}
 use Rattle.i2c_base.specs.declared.reply.Reply.{Reply}
-use Rattle.tool_run.specs.Tools.{transfers_of, is_over}
+use Rattle.tools.specs.Commands.{transfers_of, is_over}
 use Rattle.caller_core.specs.View.{CommandView}
 
 -- a command with the replies that it took

@@ -5,7 +5,7 @@ use Rattle.std.specs.Int.{bit_at}
 use Rattle.i2c_base.specs.Board.{BoardView}
 use Rattle.i2c_base.specs.Transfer.{TransferView}
 use Rattle.i2c_spec.specs.Tree.{buses, root_of}
-use Rattle.tool_run.specs.Tools.{transfers_of}
+use Rattle.tools.specs.Commands.{transfers_of}
 use Rattle.caller_core.specs.View.{CommandView}
 
 -- the transfer's bus hangs from root r; a bus that the board lacks names no root

@@ -5,12 +5,12 @@ use Rattle.i2c_base.specs.Transfer.{TransferView}
 use Rattle.i2c_base.specs.declared.reply.Reply.{Reply}
 use Rattle.i2c_spec.specs.Cost.{cost_of}
 use Rattle.i2c_spec.specs.Flat.{block_limit}
-use Rattle.tool_words.specs.Commands.{line_read}
-use Rattle.tool_words.specs.Fronts.{words_of, joined_words, lines_of}
-use Rattle.tool_words.specs.declared.cmd.Cmd.{Cmd}
-use Rattle.tool_words.specs.declared.fault.LineFault.{LineFault}
-use Rattle.tool_words.specs.declared.fault.LineFault.TheVariants as line_fault
-use Rattle.tool_run.specs.Tools.{answer_text, most_of}
+use Rattle.tools.specs.Lines.{line_read}
+use Rattle.tools.specs.Splits.{words_of, joined_words, lines_of}
+use Rattle.tools.specs.declared.cmd.Cmd.{Cmd}
+use Rattle.tools.specs.declared.fault.LineFault.{LineFault}
+use Rattle.tools.specs.declared.fault.LineFault.TheVariants as line_fault
+use Rattle.tools.specs.Commands.{answer_text, most_of}
 use Rattle.caller_core.specs.Progress.{Answered, progress, asked_at, sum_of_command, sum_left}
 use Rattle.caller_core.specs.View.{CommandView, ScriptView}
 use Rattle.caller_core.specs.declared.script.ScriptFault.{ScriptFault}

@@ -1,8 +1,8 @@
 ghost use Rattle.std.specs.Prelude.{◌≡◌, ◌+◌, ◌<◌, ◌≤◌, ◌^◌, ◌++◌, [], length, drop, slice_get, Ok, IfOk, IfErr, OnOk};
 ghost use Rattle.std.specs.Option.{option_map};
-ghost use Rattle.tool_words.specs.Lines.{IsInRange};
-ghost use Rattle.tool_run.specs.Replies.{replies_of};
-ghost use Rattle.tool_run.specs.Tools.{AreReplies, most_of};
+ghost use Rattle.tools.specs.Trees.{IsInRange};
+ghost use Rattle.tools.specs.Replies.{replies_of};
+ghost use Rattle.tools.specs.Commands.{AreReplies, most_of};
 ghost use Rattle.caller_core.specs.Callers.{IsOpened, ScriptsAreFair};
 ghost use Rattle.caller_core.specs.Kept.{run_of};
 ghost use Rattle.caller_core.specs.Roots.{HasRoots};
@@ -20,7 +20,7 @@ use packed::Packed;
 use std::alloc::Global;
 use std::marker::Model;
 use std::snapshot::Snapshot;
-use tool_run::{Text, ToolRun};
+use tools::{Text, ToolRun};
 
 /// What a script is opened with, as contracts see it: the board and the text. No value of it is made.
 pub struct ScriptData {}
@@ -51,7 +51,7 @@ pub struct Script {
 }
 
 impl Model for Script {
-    ghost use Rattle.tool_run.specs.Replies.{replies_of};
+    ghost use Rattle.tools.specs.Replies.{replies_of};
     ghost use Rattle.caller_core.specs.View.{CallerView};
     ghost use Rattle.caller_core.specs.Kept.{IsCaller};
 

@@ -3,7 +3,7 @@ ghost use Rattle.std.specs.Prelude.{◌≡◌, ◌<◌, [], ◌∷◌, ◌++◌,
 use i2c_base::NoMemory;
 use std::alloc::Global;
 use std::marker::Model;
-use tool_words::Cmd;
+use tools::Cmd;
 
 // A command, and where its words lie.
 #[derive(Clone, Copy)]

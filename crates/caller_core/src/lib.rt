@@ -6,7 +6,7 @@
 //! prints has a line `journal` (`no_section_has_a_journal_line`). Definitions:
 //! `specs/Progress.antt` (which command a reply goes to), `specs/Scripts.antt` (a script), `specs/Callers.antt` (a script as
 //! a caller), `specs/Roots.antt` (the roots that it names), `specs/View.antt` (what contracts see); what each command asks
-//! for and prints is in `tool_run`.
+//! for and prints is in `tools`.
 #![tactic(auto)]
 
 mod caller;

@@ -1,7 +1,7 @@
 ghost use Rattle.std.specs.Prelude.{◌≡◌, ◌+◌, ◌^◌, ◌<◌, ◌≤◌, ◌∷◌, Ok, length, take, drop, All, IfOk, IfErr, OnOk, MatchResult};
-ghost use Rattle.tool_words.specs.Commands.{line_read};
-ghost use Rattle.tool_words.specs.Fronts.{lines_of};
-ghost use Rattle.tool_words.specs.Readers.{FaultIs};
+ghost use Rattle.tools.specs.Lines.{line_read};
+ghost use Rattle.tools.specs.Splits.{lines_of};
+ghost use Rattle.tools.specs.Readers.{FaultIs};
 ghost use Rattle.caller_core.specs.Scripts.{text_read, at_most, ScriptFaultIs, fault_at};
 ghost use Rattle.caller_core.specs.ScriptSteps.{IsStep, IsRefused};
 ghost use Rattle.caller_core.specs.declared.script.ScriptFault.TheVariants.{Memory as NoRoomForScript};
@@ -9,7 +9,7 @@ ghost use Rattle.caller_core.specs.declared.script.ScriptFault.TheVariants.{Memo
 use crate::commands::Commands;
 use i2c_base::NoMemory;
 use std::alloc::{AllocError, Global};
-use tool_words::{Cmd, LineFault, cut_line, is_joined, push_echo, read_line};
+use tools::{Cmd, LineFault, cut_line, is_joined, push_echo, read_line};
 
 /// The most commands of a script.
 const MOST_COMMANDS: usize = 1000;

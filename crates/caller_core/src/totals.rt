@@ -5,9 +5,9 @@ ghost use Rattle.std.specs.List.{sum_by};
 ghost use Rattle.std.specs.Option.{option_map_or};
 ghost use Rattle.i2c_base.specs.Limits.{MOST_ROOTS, MOST_BYTES};
 ghost use Rattle.i2c_spec.specs.Cost.{cost_of};
-ghost use Rattle.tool_words.specs.Lines.{IsInRange};
-ghost use Rattle.tool_run.specs.Replies.{most_brought};
-ghost use Rattle.tool_run.specs.Tools.{transfers_of};
+ghost use Rattle.tools.specs.Trees.{IsInRange};
+ghost use Rattle.tools.specs.Replies.{most_brought};
+ghost use Rattle.tools.specs.Commands.{transfers_of};
 ghost use Rattle.caller_core.specs.Progress.{sum_of_command};
 ghost use Rattle.caller_core.specs.Roots.{HasBits, HasRoots, names_root};
 ghost use Rattle.caller_core.specs.Scripts.{room_of};
@@ -15,8 +15,7 @@ ghost use Rattle.caller_core.specs.Scripts.{room_of};
 use crate::commands::Commands;
 use i2c_base::{Kind, SegId, Transfer};
 use i2c_board::Accepted;
-use tool_run::{ToolRun, most_brought};
-use tool_words::Cmd;
+use tools::{Cmd, ToolRun, most_brought};
 
 /// Sums over transfers: their cost, how many they are, the bytes that their replies may have, and a bit for each root
 /// that they name.

@@ -5,7 +5,7 @@ use Rattle.std.specs.List.{list_all}
 use Rattle.std.specs.Option.{option_map}
 use Rattle.std.specs.Str.{bytes_eq}
 use Rattle.i2c_base.specs.Limits.{MOST_CALLERS}
-use Rattle.tool_words.specs.Commands.{word_at}
+use Rattle.tools.specs.Readers.{word_at}
 use Rattle.i2c_top.specs.Names.{AreNamesFrom}
 use Rattle.i2c_top.specs.Replays.{Names, first_script}
 use Rattle.i2c_top.specs.Requests.{Request, names_of, replay_of, run_of, Replay, Check, NoForm}

@@ -2,7 +2,7 @@
 use Rattle.std.specs.Prelude.{⊤, ◌≡◌, ◌↔◌, ℕ, ◌+◌, ◌-◌, ◌<◌, ◌≤◌, ◌==◌, nat_le, nat_lt, Bool, ◌&&◌, ◌||◌, List, [], ◌∷◌, ◌++◌, Option, Some, None, Result, Ok, Err, if◌then◌else◌}
 use Rattle.std.specs.Fmt.{decimal}
 use Rattle.i2c_base.specs.Limits.{MOST_CALLERS}
-use Rattle.tool_words.specs.Words.{words_between}
+use Rattle.tools.specs.Words.{words_between}
 use Rattle.i2c_top.specs.declared.schedule.ScheduleFault.{ScheduleFault}
 use Rattle.i2c_top.specs.declared.schedule.ScheduleFault.TheVariants as schedule_fault
 

@@ -1,6 +1,6 @@
 ghost use Rattle.std.specs.Prelude.{◌≡◌, ◌<◌, ◌≤◌, length, drop, map, string_bytes};
 ghost use Rattle.std.specs.List.{list_all};
-ghost use Rattle.tool_words.specs.Commands.{word_at};
+ghost use Rattle.tools.specs.Readers.{word_at};
 ghost use Rattle.i2c_top.specs.Endings.{name_in};
 ghost use Rattle.i2c_top.specs.Forms.{is_name, is_replay, is_run, is_check, request_in, asked, names_told, ArePlaced};
 ghost use Rattle.i2c_top.specs.Replays.{first_script, name_at, script_name};

@@ -3,7 +3,7 @@ ghost use Rattle.i2c_top.specs.Schedules.{is_white, caller_named, WordsAreNumber
 ghost use Rattle.i2c_top.specs.declared.schedule.ScheduleFault.TheVariants as schedule_fault;
 
 use std::alloc::{AllocFailed, Global};
-use tool_words::{Gap, first_word, skip_gaps};
+use tools::{Gap, first_word, skip_gaps};
 
 /// The most words of a schedule.
 const MOST_ENTRIES: usize = 1_000_000;

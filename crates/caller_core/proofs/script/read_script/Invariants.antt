@@ -1,5 +1,5 @@
 use Rattle.std.proofs.Common.{◌≡◌, ◌+◌, ◌-◌, ◌≤◌, length, drop}
-use Rattle.tool_words.specs.Fronts.{lines_of}
+use Rattle.tools.specs.Splits.{lines_of}
 use Rattle.caller_core.specs.Scripts.{text_read, lines_read, behind_commands}
 use Rattle.caller_core.proofs.script.read_script.Given as goal
 

@@ -1,7 +1,7 @@
 use Rattle.std.proofs.lemmas.Grind.{common_steps}
 use Rattle.std.proofs.Common.{ℕ, ◌+◌, ◌<◌, List, length, arith, ap, ◌∙◌, refl}
 use Rattle.i2c_spec.specs.Cost.{cost_of}
-use Rattle.tool_run.specs.Replies.{most_brought}
+use Rattle.tools.specs.Replies.{most_brought}
 use Rattle.caller_core.specs.Progress.{sum_of_command}
 use Rattle.caller_core.specs.Roots.{command_names}
 use Rattle.caller_core.specs.View.{CommandView}

@@ -1,7 +1,7 @@
 use Rattle.std.proofs.Common.{◌≡◌, ◌*◌, ◌^◌, ◌≤◌, take, sum_by}
 use Rattle.i2c_base.specs.Limits.{MOST_BYTES}
 use Rattle.i2c_spec.specs.Cost.{cost_of}
-use Rattle.tool_run.specs.Replies.{most_brought}
+use Rattle.tools.specs.Replies.{most_brought}
 use Rattle.caller_core.specs.Progress.{sum_of_command}
 use Rattle.caller_core.specs.Roots.{HasRoots}
 use Rattle.caller_core.proofs.totals.totals_of.Given as goal

@@ -3,9 +3,9 @@ use Rattle.std.proofs.Common.{◌≡◌, ℕ, ◌+◌, ◌^◌, ◌<◌, List, g
 use Rattle.std.specs.Option.{option_map_or}
 use Rattle.i2c_base.specs.Transfer.{TransferView}
 use Rattle.i2c_spec.specs.Cost.{cost_of}
-use Rattle.tool_run.specs.Replies.{most_brought}
-use Rattle.tool_run.specs.Tools.{transfers_of}
-use Rattle.tool_run.specs.View.{RunView}
+use Rattle.tools.specs.Replies.{most_brought}
+use Rattle.tools.specs.Commands.{transfers_of}
+use Rattle.tools.specs.View.{RunView}
 use Rattle.caller_core.specs.Roots.{names_root}
 use Rattle.caller_core.proofs.RootLemmas.{no_bits, named_bit, bits_more, transfer_bit, sum_more}
 use Rattle.caller_core.proofs.totals.totals_of_command.Goals as goal

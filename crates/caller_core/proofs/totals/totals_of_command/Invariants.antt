@@ -1,8 +1,8 @@
 use Rattle.std.proofs.Common.{◌≡◌, ◌*◌, ◌^◌, ◌≤◌, take, sum_by}
 use Rattle.i2c_base.specs.Limits.{MOST_BYTES}
 use Rattle.i2c_spec.specs.Cost.{cost_of}
-use Rattle.tool_run.specs.Replies.{most_brought}
-use Rattle.tool_run.specs.Tools.{transfers_of}
+use Rattle.tools.specs.Replies.{most_brought}
+use Rattle.tools.specs.Commands.{transfers_of}
 use Rattle.caller_core.specs.Roots.{HasBits, names_root}
 use Rattle.caller_core.proofs.totals.totals_of_command.Given as goal
 

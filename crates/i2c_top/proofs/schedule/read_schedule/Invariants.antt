@@ -1,6 +1,6 @@
 use Rattle.std.proofs.Common.{◌≡◌, ◌<◌, ◌≤◌, true, length}
 use Rattle.std.specs.Prelude.{All}
-use Rattle.tool_words.specs.Words.{begins_with_word}
+use Rattle.tools.specs.Words.{begins_with_word}
 use Rattle.i2c_top.specs.Schedules.{is_white, entries_of, behind_callers, callers_from, schedule_read, MOST_ENTRIES}
 use Rattle.i2c_top.proofs.schedule.read_schedule.Given as goal
 

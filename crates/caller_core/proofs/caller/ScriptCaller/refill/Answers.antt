@@ -1,5 +1,5 @@
 use Rattle.std.proofs.Common.{ap, sym, ◌∙◌}
-use Rattle.tool_run.specs.Replies.{replies_of}
+use Rattle.tools.specs.Replies.{replies_of}
 use Rattle.caller_core.specs.Progress.{progress, asked_at}
 use Rattle.caller_core.specs.Scripts.{asked_by}
 use Rattle.caller_core.specs.View.{CallerView, script_on}

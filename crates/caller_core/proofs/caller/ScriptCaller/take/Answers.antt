@@ -3,10 +3,10 @@ use Rattle.std.proofs.Common.{◌+◌, List, length, drop, Some, true, false, ar
 use Rattle.std.proofs.lemmas.List.Sums.{sum_by-cons}
 use Rattle.std.specs.Prelude.{sum_by}
 use Rattle.i2c_base.specs.declared.reply.Reply.{Reply}
-use Rattle.tool_words.specs.Lines.{IsInRange}
-use Rattle.tool_run.specs.Replies.{replies_of, most_brought}
-use Rattle.tool_run.specs.Tools.{AreReplies, most_of}
-use Rattle.tool_run.specs.View.{RunView}
+use Rattle.tools.specs.Trees.{IsInRange}
+use Rattle.tools.specs.Replies.{replies_of, most_brought}
+use Rattle.tools.specs.Commands.{AreReplies, most_of}
+use Rattle.tools.specs.View.{RunView}
 use Rattle.caller_core.specs.Kept.{IsCaller}
 use Rattle.caller_core.specs.Scripts.{room_of}
 use Rattle.caller_core.specs.View.{CommandView}

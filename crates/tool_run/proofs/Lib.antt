@@ -1,5 +1,0 @@
-pub mod AnswerLemmas
-pub mod GetLemmas
-pub mod LineLemmas
-pub mod ToolLemmas
-pub mod TransferLemmas

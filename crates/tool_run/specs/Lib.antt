@@ -1,5 +1,0 @@
-pub mod Gets
-pub mod Replies
-pub mod Texts
-pub mod Tools
-pub mod View

@@ -1,0 +1,29 @@
+-- What is so of every command: a row for each.
+use Rattle.std.proofs.Common.{◌≡◌, ℕ, ◌<◌, List, length, Some, subst}
+use Rattle.std.specs.Prelude.{All, slice_get}
+use Rattle.std.proofs.lemmas.Option.{slice_get_within, get_or_from_slice_get}
+use Rattle.bus_journal.specs.Reports.{IsSectionLine}
+use Rattle.i2c_base.specs.declared.reply.Reply.{Reply}
+use Rattle.i2c_base.specs.Transfer.{TransferView}
+use Rattle.tools.specs.Trees.{IsInRange}
+use Rattle.tools.specs.declared.cmd.Cmd.{Cmd}
+use Rattle.tools.specs.declared.cmd.Cmd.TheVariants as cmd
+use Rattle.tools.specs.Commands.{transfers_of, answer_text}
+use Rattle.tools.proofs.GetLemmas.{get_asks, get_some}
+use Rattle.tools.proofs.ValueLemmas.{result_line}
+use Rattle.tools.proofs.TransferLemmas.{IsAsk}
+
+-- it asks for transfers within the limits
+asks : (c : Cmd) → IsInRange c → All IsAsk (transfers_of c)
+asks (cmd.Get g) range = get_asks g range
+
+-- it asks for something
+pub asks_some : (c : Cmd) → 0 < length (transfers_of c)
+asks_some (cmd.Get g) = get_some g
+
+-- its answer is one line, and not the line `journal`
+pub answer_line : (c : Cmd) (replies : List Reply) → IsSectionLine (answer_text c replies)
+answer_line (cmd.Get g) replies = result_line _
+
+pub asks_at : (c : Cmd) (k : ℕ) (t : TransferView) → IsInRange c → slice_get (transfers_of c) k ≡ Some t → IsAsk t
+asks_at c k t range at = subst IsAsk (get_or_from_slice_get (transfers_of c) k t t at) (asks c range k t (slice_get_within (transfers_of c) k t at))

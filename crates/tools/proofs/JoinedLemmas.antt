@@ -1,0 +1,89 @@
+-- A line whose words have one space between each two is printed as it is.
+use Rattle.std.proofs.Common.{◌≡◌, ℕ, inl, inr, Bool, true, false, cond, List, [], ◌∷◌, refl, sym, ap, subst, ◌∙◌}
+use Rattle.std.specs.Prelude.{◌==◌, ◌&&◌, ◌||◌, not}
+use Rattle.std.proofs.lemmas.Bool.Decides.{eqb_tells}
+use Rattle.tools.specs.Words.{begins_with_word, onto_first}
+use Rattle.tools.specs.Splits.{is_blank, words_of, joined_words, is_joined}
+
+-- a byte in front of the first word, and a word in front of the others
+onto_joined : (b : ℕ) (w : List ℕ) (ws : List (List ℕ)) → joined_words (onto_first b (w ∷ ws)) ≡ b ∷ joined_words (w ∷ ws)
+onto_joined b w ws = refl
+
+record IsSome (ws : List (List ℕ)) : Type 0 where
+  first : List ℕ
+  rest : List (List ℕ)
+  is : ws ≡ first ∷ rest
+
+-- behind a byte of a word, the line is its words, of which there are some
+record IsSame (b : ℕ) (bs : List ℕ) : Type 0 where
+  some : IsSome (words_of (b ∷ bs))
+  same : joined_words (words_of (b ∷ bs)) ≡ b ∷ bs
+
+words_by : (b : ℕ) (bs : List ℕ) → is_blank b ≡ false → words_of (b ∷ bs) ≡ cond (begins_with_word is_blank bs) (onto_first b (words_of bs)) ((b ∷ []) ∷ words_of bs)
+words_by b bs e = ap (λ s. cond s (words_of bs) (cond (begins_with_word is_blank bs) (onto_first b (words_of bs)) ((b ∷ []) ∷ words_of bs))) e
+
+word_goes_on : (b c : ℕ) (cs : List ℕ) → is_blank b ≡ false → is_blank c ≡ false → IsSame c cs → IsSame b (c ∷ cs)
+word_goes_on b c cs e f h =
+    let w : List ℕ = h.some.first in
+    let ws : List (List ℕ) = h.some.rest in
+    let all : words_of (b ∷ c ∷ cs) ≡ onto_first b (w ∷ ws) =
+    words_by b (c ∷ cs) e ∙ ap (λ s. cond (not s) (onto_first b (words_of (c ∷ cs))) ((b ∷ []) ∷ words_of (c ∷ cs))) f ∙ ap (onto_first b) h.some.is in
+    record {
+      some = record { first = b ∷ w; rest = ws; is = all };
+      same = ap joined_words all ∙ onto_joined b w ws ∙ ap (λ x. b ∷ joined_words x) (sym h.some.is) ∙ ap (λ x. b ∷ x) h.same;
+    }
+
+word_over : (b c : ℕ) (cs : List ℕ) → is_blank b ≡ false → is_blank c ≡ false → IsSame c cs → IsSame b (32 ∷ c ∷ cs)
+word_over b c cs e f h =
+    let w : List ℕ = h.some.first in
+    let ws : List (List ℕ) = h.some.rest in
+    let all : words_of (b ∷ 32 ∷ c ∷ cs) ≡ (b ∷ []) ∷ w ∷ ws = words_by b (32 ∷ c ∷ cs) e ∙ ap (λ x. (b ∷ []) ∷ x) h.some.is in
+    record {
+      some = record { first = b ∷ []; rest = w ∷ ws; is = all };
+      same = ap joined_words all ∙ ap (λ x. b ∷ 32 ∷ joined_words x) (sym h.some.is) ∙ ap (λ x. b ∷ 32 ∷ x) h.same;
+    }
+
+-- a byte that is no space, where the line is as it is printed: it is none of a tab either
+record IsPlain (c : ℕ) (more : Bool) : Type 0 where
+  blank : is_blank c ≡ false
+  follows : more ≡ true
+
+plain_by : (c : ℕ) (spaced more : Bool) → (c == 32) ≡ false → cond (c == 32) spaced (cond (c == 9) false more) ≡ true → IsPlain c more
+plain_by c spaced more e h =
+    let rest : cond (c == 9) false more ≡ true = ap (λ s. cond s spaced (cond (c == 9) false more)) (sym e) ∙ h in
+    (elim (c == 9) as (λ t. (c == 9) ≡ t → cond t false more ≡ true → IsPlain c more) [
+      | true ↦ λ is k. absurd cc
+      | false ↦ λ is k. record { blank = ap (λ x. x || (c == 9)) e ∙ is; follows = k }
+    ]) refl rest
+
+plain_start : (d : ℕ) (spaced more : Bool) → cond (d == 32) (not true && spaced) (cond (d == 9) false more) ≡ true → IsPlain d more
+plain_start d spaced more h =
+    (elim (d == 32) as (λ t. (d == 32) ≡ t → cond t false (cond (d == 9) false more) ≡ true → IsPlain d more) [
+      | true ↦ λ is k. absurd cc
+      | false ↦ λ is k. plain_by d true more is (ap (λ t. cond t true (cond (d == 9) false more)) is ∙ k)
+    ]) refl h
+
+-- what follows a byte of a word
+same_behind : (b : ℕ) (bs : List ℕ) → is_blank b ≡ false → is_joined false bs ≡ true → IsSame b bs
+same_behind b [] e h = record { some = record { first = b ∷ []; rest = []; is = words_by b [] e }; same = ap joined_words (words_by b [] e) }
+same_behind b (c ∷ []) e h =
+    (elim (c == 32) as (λ t. (c == 32) ≡ t → cond t false (cond (c == 9) false true) ≡ true → IsSame b (c ∷ [])) [
+      | true ↦ λ is k. absurd cc
+      | false ↦ λ is k. let p : IsPlain c true = plain_by c false true is (ap (λ t. cond t false (cond (c == 9) false true)) is ∙ k) in word_goes_on b c [] e p.blank (same_behind c [] p.blank refl)
+    ]) refl h
+same_behind b (c ∷ d ∷ ds) e h =
+    elim (eqb_tells c 32) [
+      | inl x ↦
+          let spaced : is_joined true (d ∷ ds) ≡ true = ap (λ t. cond t (is_joined true (d ∷ ds)) (cond (c == 9) false (is_joined false (d ∷ ds)))) (sym x.0) ∙ h in
+          let p : IsPlain d (is_joined false ds) = plain_start d (is_joined true ds) (is_joined false ds) spaced in
+          subst (λ (n : ℕ). IsSame b (n ∷ d ∷ ds)) (sym x.1) (word_over b d ds e p.blank (same_behind d ds p.blank p.follows))
+      | inr x ↦
+          let p : IsPlain c (is_joined false (d ∷ ds)) = plain_by c (is_joined true (d ∷ ds)) (is_joined false (d ∷ ds)) x.0 h in
+          word_goes_on b c (d ∷ ds) e p.blank (same_behind c (d ∷ ds) p.blank p.follows)
+    ]
+
+pub joined_same : (line : List ℕ) → is_joined true line ≡ true → joined_words (words_of line) ≡ line
+joined_same [] h = refl
+joined_same (b ∷ bs) h =
+    let p : IsPlain b (is_joined false bs) = plain_start b (is_joined true bs) (is_joined false bs) h in
+    (same_behind b bs p.blank p.follows).same

@@ -1,0 +1,14 @@
+pub mod AnswerLemmas
+pub mod CommandLemmas
+pub mod DigitLemmas
+pub mod GetLemmas
+pub mod GrammarLemmas
+pub mod JoinedLemmas
+pub mod LineLemmas
+pub mod LineSetLemmas
+pub mod OptionLemmas
+pub mod RangeLemmas
+pub mod SplitLemmas
+pub mod TransferLemmas
+pub mod ValueLemmas
+pub mod WordLemmas

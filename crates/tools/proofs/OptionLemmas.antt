@@ -1,0 +1,40 @@
+-- What lines have in common: a number in a word is in its range, and the options are read before what follows them.
+use Rattle.std.proofs.Common.{◌≡◌, ℕ, ◌+◌, ◌≤◌, Bool, true, false, List, Option, Some, None, Result, Ok, Err, cond, codes, refl, arith}
+use Rattle.std.proofs.lemmas.Bool.Decides.{nat_tests}
+use Rattle.tools.specs.Grammars.{Grammar, read_at}
+use Rattle.tools.specs.LineSets.{Word}
+use Rattle.tools.specs.Numbers.{number_of, number_in, within}
+use Rattle.tools.specs.Options.{force_and_yes, options_at}
+use Rattle.tools.specs.Readers.{◌>>=◌, is_at}
+use Rattle.tools.proofs.GrammarLemmas.{AllEnds}
+
+-- a number in a word is within its range
+pub record IsBetween (low high n : ℕ) : Type 0 where
+  pub from_low : low ≤ n
+  pub to_high : n ≤ high
+
+between : (low high n : ℕ) (o : Option ℕ) → within low high o ≡ Some n → IsBetween low high n
+between low high n None e = absurd cc
+between low high n (Some v) e = record { from_low = grind (arith, nat_tests); to_high = grind (arith, nat_tests) }
+
+pub number_between : (low high : ℕ) (w : Word) (n : ℕ) → number_in low high w ≡ Some n → IsBetween low high n
+number_between low high w n e = between low high n (number_of w) e
+
+options_shape : {A B : Type 0} (a b c d : Bool) (x y z : A) (p q : ℕ) (f : A → Result B ℕ)
+    → cond a (cond b (f x) (Err p)) (cond c (cond d (f y) (f z)) (Err q)) ≡ (cond a (cond b (Ok x) (Err p)) (cond c (cond d (Ok y) (Ok z)) (Err q)) >>= f)
+options_shape true true c d x y z p q f = refl
+options_shape true false c d x y z p q f = refl
+options_shape false b true true x y z p q f = refl
+options_shape false b true false x y z p q f = refl
+options_shape false b false d x y z p q f = refl
+
+-- the options are read, and then what follows them
+pub options_read : {A : Type 0} (k : Bool → Grammar A) (ws : List Word) (i : ℕ) → read_at (force_and_yes k) ws i ≡ (options_at ws i >>= λ o. read_at (k o.0) ws o.1)
+unfolding options_at force_and_yes
+options_read k ws i =
+    options_shape (is_at (codes "-f") ws i) (is_at (codes "-y") ws (i + 1)) (is_at (codes "-y") ws i) (is_at (codes "-f") ws (i + 1))
+    (true, i + 1 + 1) (true, i + 1 + 1) (false, i + 1) (i + 1) i (λ o. read_at (k o.0) ws o.1)
+
+pub options_end : {A : Type 0} (P : A → Type 0) (k : Bool → Grammar A) → ((f : Bool) → AllEnds P (k f)) → AllEnds P (force_and_yes k)
+unfolding force_and_yes
+options_end P k h = (h true, (h true, h false))

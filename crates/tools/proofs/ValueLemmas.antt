@@ -1,0 +1,57 @@
+-- The text of a value is one line, and not the line `journal`.
+use Rattle.std.proofs.Common.{◌≡◌, ℕ, ◌<◌, ◌/◌, ◌%◌, List, [], ◌∷◌, ◌++◌, codes, get_or, refl, ap, arith}
+use Rattle.std.specs.Prelude.{Result, Ok, Err}
+use Rattle.std.specs.List.{flat_map}
+use Rattle.bus_journal.specs.Reports.{IsLine, IsSectionLine}
+use Rattle.bus_journal.proofs.LineFeeds.{line-append, two_digits-line}
+use Rattle.bus_spec.specs.Lines.{two_digits, errno_text}
+use Rattle.i2c_base.specs.declared.errno.Errno.{Errno}
+use Rattle.i2c_base.specs.declared.errno.Errno.TheVariants.{Eio, Enxio, Ebadf, Ebusy, Enodev, Einval, Eproto, Ebadmsg, Eopnotsupp, Etimedout, Eremoteio}
+use Rattle.smb_emul.specs.declared.call.SmbFail.{SmbFail}
+use Rattle.smb_emul.specs.declared.call.SmbFail.TheVariants as fail
+use Rattle.smb_emul.specs.Value.{ValueView}
+use Rattle.smb_emul.specs.Value as value
+use Rattle.tools.specs.Values.{byte_word, double_word, spaced_word, byte_words, fail_text, value_text, result_text}
+
+word : (b : ℕ) → IsLine (byte_word b)
+word b = line-append (codes "0x") (two_digits b) refl (two_digits-line b)
+
+spaced : (bytes : List ℕ) → IsLine (flat_map spaced_word bytes)
+spaced [] = refl
+spaced (b ∷ bs) = line-append (spaced_word b) (flat_map spaced_word bs) (line-append (codes " 0x") (two_digits b) refl (two_digits-line b)) (spaced bs)
+
+-- a text whose first sign isn't a j
+others : (text : List ℕ) (c : ℕ) → get_or text 0 0 ≡ c → (c < 106) → ¬ (text ≡ codes "journal")
+others text c first low e = let h : get_or text 0 0 ≡ 106 = ap (λ xs. get_or xs 0 0) e in omega (arith, h, first, low)
+
+others_above : (text : List ℕ) (c : ℕ) → get_or text 0 0 ≡ c → (106 < c) → ¬ (text ≡ codes "journal")
+others_above text c first high e = let h : get_or text 0 0 ≡ 106 = ap (λ xs. get_or xs 0 0) e in omega (arith, h, first, high)
+
+errno : (e : Errno) → IsSectionLine (errno_text e)
+errno Eio = record { one = refl; other = others (errno_text Eio) 69 refl (omega arith) }
+errno Enxio = record { one = refl; other = others (errno_text Enxio) 69 refl (omega arith) }
+errno Ebadf = record { one = refl; other = others (errno_text Ebadf) 69 refl (omega arith) }
+errno Ebusy = record { one = refl; other = others (errno_text Ebusy) 69 refl (omega arith) }
+errno Enodev = record { one = refl; other = others (errno_text Enodev) 69 refl (omega arith) }
+errno Einval = record { one = refl; other = others (errno_text Einval) 69 refl (omega arith) }
+errno Eproto = record { one = refl; other = others (errno_text Eproto) 69 refl (omega arith) }
+errno Ebadmsg = record { one = refl; other = others (errno_text Ebadmsg) 69 refl (omega arith) }
+errno Eopnotsupp = record { one = refl; other = others (errno_text Eopnotsupp) 69 refl (omega arith) }
+errno Etimedout = record { one = refl; other = others (errno_text Etimedout) 69 refl (omega arith) }
+errno Eremoteio = record { one = refl; other = others (errno_text Eremoteio) 69 refl (omega arith) }
+
+value_line : (v : ValueView) → IsSectionLine (value_text v)
+value_line value.done = record { one = refl; other = others_above (codes "ok") 111 refl (omega arith) }
+value_line (value.byte b) = record { one = word b; other = others (byte_word b) 48 refl (omega arith) }
+value_line (value.word w) = record { one = line-append (codes "0x") (two_digits (w / 256) ++ two_digits (w % 256)) refl (line-append (two_digits (w / 256)) (two_digits (w % 256)) (two_digits-line (w / 256)) (two_digits-line (w % 256))); other = others (double_word w) 48 refl (omega arith) }
+value_line (value.block []) = record { one = refl; other = others [] 0 refl (omega arith) }
+value_line (value.block (b ∷ bs)) = record { one = line-append (byte_word b) (flat_map spaced_word bs) (word b) (spaced bs); other = others (byte_words (b ∷ bs)) 48 refl (omega arith) }
+
+pub result_line : (r : Result ValueView SmbFail) → IsSectionLine (result_text r)
+result_line (Ok v) = value_line v
+result_line (Err (fail.Errno e)) = errno e
+result_line (Err (fail.Pec got want)) =
+    record {
+      one = line-append (codes "EBADMSG got ") (byte_word got ++ (codes " want " ++ byte_word want)) refl (line-append (byte_word got) (codes " want " ++ byte_word want) (word got) (line-append (codes " want ") (byte_word want) refl (word want)));
+      other = others (fail_text (fail.Pec got want)) 69 refl (omega arith);
+    }

@@ -1,0 +1,11 @@
+use Rattle.std.proofs.Common.{◌++◌, codes, sym, ap, ◌∙◌}
+use Rattle.tools.specs.Values.{byte_word, fail_text}
+use Rattle.tools.proofs.AnswerLemmas.{four_pieces}
+use Rattle.tools.proofs.get.push_fail.Goals as goal
+
+pub returns-in-Pec-clause-bytes : goal.returns-in-Pec-clause-bytes
+returns-in-Pec-clause-bytes c =
+    c.push_word-in-Pec.ensures.bytes
+    ∙ ap (λ t. t ++ byte_word c.in-Pec.want) (c.push-in-Pec.ensures.bytes ∙ ap (λ t. t ++ codes " want ") (c.push_word.ensures.bytes ∙ ap (λ t. t ++ byte_word c.in-Pec.got) c.push.ensures.bytes))
+    ∙ four_pieces c.args.out.now.bytes (codes "EBADMSG got ") (byte_word c.in-Pec.got) (codes " want ") (byte_word c.in-Pec.want)
+    ∙ ap (λ f. c.args.out.now.bytes ++ fail_text f) (sym c.in-Pec.is)

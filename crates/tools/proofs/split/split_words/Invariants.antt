@@ -1,0 +1,12 @@
+use Rattle.std.proofs.Common.{◌≡◌, ◌<◌, ◌++◌, true, length}
+use Rattle.tools.specs.Words.{begins_with_word}
+use Rattle.tools.specs.Splits.{is_blank, words_of}
+use Rattle.tools.specs.Readers.{texts}
+use Rattle.tools.proofs.split.split_words.Given as goal
+
+abbrev pub decreases-loop-rest : goal.decreases-loop-rest
+decreases-loop-rest l = length l.rest
+
+abbrev pub invariant-loop-rest : goal.invariant-loop-rest
+invariant-loop-rest l =
+    record { begins : 0 < length l.rest → begins_with_word is_blank l.rest ≡ true; same : texts l.words.items ++ words_of l.rest ≡ words_of l.fn.line }

@@ -1,0 +1,37 @@
+-- What a tool asks for, when it is over, and what it prints: a row for each command.
+use Rattle.std.specs.Prelude.{◌≡◌, ℕ, ◌+◌, ◌-◌, ◌<◌, ◌≤◌, ◌==◌, Bool, ◌||◌, List, length, slice_get, Some}
+use Rattle.i2c_base.specs.Fitting.{Fits}
+use Rattle.i2c_base.specs.declared.reply.Reply.{Reply}
+use Rattle.i2c_base.specs.Transfer.{TransferView}
+use Rattle.tools.specs.declared.cmd.Cmd.{Cmd}
+use Rattle.tools.specs.declared.cmd.Cmd.TheVariants as cmd
+use Rattle.tools.specs.View.{RunView}
+use Rattle.tools.specs.Gets.{get_transfers, get_answer, get_most}
+use Rattle.tools.specs.Replies.{is_error}
+
+-- its transfers, where none fails
+abbrev pub transfers_of : Cmd → List TransferView
+transfers_of (cmd.Get g) = get_transfers g
+
+-- the reply of transfer k ends it before its last one
+abbrev pub ends_early : Cmd → ℕ → Reply → Bool
+ends_early (cmd.Get g) k r = is_error r
+
+-- it is over with the reply of transfer k
+abbrev pub is_over : Cmd → ℕ → Reply → Bool
+is_over c k r = ends_early c k r || (k + 1 == length (transfers_of c))
+
+-- what it prints of its replies once it is over
+abbrev pub answer_text : Cmd → List Reply → List ℕ
+answer_text (cmd.Get g) replies = get_answer g replies
+
+-- a command that is over has these replies, of which there are some, and the last is one that its transfer may get
+pub record AreReplies (run : RunView) (replies : List Reply) : Type 0 where
+  pub count : length replies ≡ run.taken
+  pub some : 0 < run.taken
+  pub within : run.taken ≤ length (transfers_of run.cmd)
+  pub last : (t : TransferView) (r : Reply) → slice_get (transfers_of run.cmd) (run.taken - 1) ≡ Some t → slice_get replies (run.taken - 1) ≡ Some r → Fits t r
+
+-- no answer has more bytes
+abbrev pub most_of : Cmd → ℕ
+most_of (cmd.Get g) = get_most g

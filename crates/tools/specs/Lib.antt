@@ -1,0 +1,14 @@
+pub mod Commands
+pub mod Gets
+pub mod Grammars
+pub mod LineSets
+pub mod Lines
+pub mod Numbers
+pub mod Options
+pub mod Readers
+pub mod Replies
+pub mod Splits
+pub mod Trees
+pub mod Values
+pub mod View
+pub mod Words

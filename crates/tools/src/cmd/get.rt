@@ -1,0 +1,155 @@
+ghost use Rattle.std.specs.Prelude.{◌≡◌, ℕ, ◌<◌, ◌≤◌, false, None, Some};
+ghost use Rattle.tools.specs.Grammars.{read_at};
+ghost use Rattle.tools.specs.Trees.{mode_named, get_len, get_reg, get_bus, get_words};
+ghost use Rattle.tools.specs.Readers.{texts, one_at};
+
+use crate::cmd::Cmd;
+use crate::fault::WordRefused;
+use crate::options::{address_at, bus_at, byte_at, options};
+use crate::reader::{is_over, is_text, number_at};
+use i2c_base::{Addr, I2C_BLOCK_LIMIT};
+
+/// How `i2cget` reads a register.
+#[derive(Clone, Copy)]
+pub enum GetMode {
+    /// A byte: `b`, or no MODE.
+    Byte,
+    /// A word, low byte first: `w`.
+    Word,
+    /// The register's number is sent alone, and then a byte is received: `c`.
+    SendReceive,
+    /// A block that comes behind its count: `s`.
+    Block,
+    /// A block of so many bytes as are asked for: `i`.
+    I2cBlock,
+}
+
+/// The line `i2cget [-f] -y BUS ADDR [REG [MODE [LEN]]]`. None stands for what is missing.
+#[derive(Clone, Copy)]
+pub struct Get {
+    /// A device that a driver is bound to is read as well: `-f`.
+    pub force: bool,
+    pub bus: u16,
+    pub addr: Addr,
+    pub reg: Option<u8>,
+    pub mode: Option<GetMode>,
+    /// With an error code: the `p` behind MODE.
+    pub pec: bool,
+    /// How many bytes the block of `i` has, 1 to 32.
+    pub len: Option<u8>,
+}
+
+// The mode that a word names, and whether with an error code.
+fn mode_named(word: &[u8]) -> Option<(GetMode, bool)>
+    ensures { result ≡ mode_named word.now }
+{
+    if is_text(word, b"b") {
+        Some((GetMode::Byte, false))
+    } else if is_text(word, b"w") {
+        Some((GetMode::Word, false))
+    } else if is_text(word, b"c") {
+        Some((GetMode::SendReceive, false))
+    } else if is_text(word, b"s") {
+        Some((GetMode::Block, false))
+    } else if is_text(word, b"i") {
+        Some((GetMode::I2cBlock, false))
+    } else if is_text(word, b"bp") {
+        Some((GetMode::Byte, true))
+    } else if is_text(word, b"wp") {
+        Some((GetMode::Word, true))
+    } else if is_text(word, b"cp") {
+        Some((GetMode::SendReceive, true))
+    } else if is_text(word, b"sp") {
+        Some((GetMode::Block, true))
+    } else {
+        None
+    }
+}
+
+// The mode that the word at a place names.
+fn mode_at(words: &[&[u8]], at: u16) -> Result<(GetMode, bool), WordRefused>
+    ensures { result ≡ one_at mode_named (texts words.now) at }
+{
+    match words.get(usize::from(at)) {
+        Some(word) => match mode_named(*word) {
+            Some(mode) => Ok(mode),
+            None => Err(WordRefused(at)),
+        },
+        None => Err(WordRefused(at)),
+    }
+}
+
+// Reads what stands behind MODE: LEN, which may be missing, behind `i`, and nothing behind another.
+#[tactic(auto, unfolding(crate::specs::Trees::get_len))]
+fn read_len(words: &[&[u8]], at: u16, get: Get, mode: (GetMode, bool)) -> Result<Cmd, WordRefused>
+    requires { at < 9 }
+    ensures { (reg : ℕ) → get.reg ≡ Some reg → result ≡ read_at (get_len get.force get.bus get.addr reg mode) (texts words.now) at }
+{
+    let get = Get {
+        mode: Some(mode.0),
+        pec: mode.1,
+        len: None,
+        ..get
+    };
+    if is_over(words, at) {
+        return Ok(Cmd::Get(get));
+    }
+    match mode {
+        (GetMode::I2cBlock, false) => {
+            let len = Some(number_at(words, at, 1, u16::from(I2C_BLOCK_LIMIT))? as u8);
+            if !is_over(words, at + 1) {
+                return Err(WordRefused(at + 1));
+            }
+            Ok(Cmd::Get(Get { len, ..get }))
+        }
+        _ => Err(WordRefused(at)),
+    }
+}
+
+// Reads what stands behind ADDR.
+#[tactic(auto, unfolding(crate::specs::Trees::get_reg))]
+fn read_reg(words: &[&[u8]], at: u16, get: Get) -> Result<Cmd, WordRefused>
+    requires near { at < 7 }
+    requires bare { (get.reg ≡ None) × (get.mode ≡ None) × (get.pec ≡ false) × (get.len ≡ None) }
+    ensures { result ≡ read_at (get_reg get.force get.bus get.addr) (texts words.now) at }
+{
+    if is_over(words, at) {
+        return Ok(Cmd::Get(get));
+    }
+    let reg = Some(byte_at(words, at)?);
+    let get = Get { reg, ..get };
+    if is_over(words, at + 1) {
+        return Ok(Cmd::Get(get));
+    }
+    let mode = mode_at(words, at + 1)?;
+    read_len(words, at + 2, get, mode)
+}
+
+// Reads what stands behind the options.
+#[tactic(auto, unfolding(crate::specs::Trees::get_bus))]
+fn read_bus(words: &[&[u8]], at: u16, force: bool) -> Result<Cmd, WordRefused>
+    requires { at < 5 }
+    ensures { result ≡ read_at (get_bus force) (texts words.now) at }
+{
+    let bus = bus_at(words, at)?;
+    let addr = address_at(words, at + 1)?;
+    let get = Get {
+        force,
+        bus,
+        addr,
+        reg: None,
+        mode: None,
+        pec: false,
+        len: None,
+    };
+    read_reg(words, at + 2, get)
+}
+
+/// Reads what stands behind the first word.
+#[tactic(auto, unfolding(crate::specs::Trees::get_words), using(crate::proofs::OptionLemmas::options_read))]
+pub fn read_get(words: &[&[u8]]) -> Result<Cmd, WordRefused>
+    ensures { result ≡ read_at get_words (texts words.now) 1 }
+{
+    let (force, at) = options(words, 1)?;
+    read_bus(words, at, force)
+}

@@ -1,0 +1,16 @@
+ghost use Rattle.tools.specs.Lines.{MeansInRange, ReadsLines, RefusesBehindLongest};
+
+/// Words are a line of the grammar exactly where they are read, and then they are read as what it means.
+pub fn each_line_is_read()
+    ensures { ReadsLines }
+{}
+
+/// Where a word is refused, the words before it begin a line of the grammar, and no longer front of the words does.
+pub fn the_refused_word_is_behind_the_longest_front()
+    ensures { RefusesBehindLongest }
+{}
+
+/// What a line of the grammar means is in range.
+pub fn each_field_is_in_range()
+    ensures { MeansInRange }
+{}

@@ -1,0 +1,41 @@
+ghost use Rattle.std.specs.Prelude.{◌≡◌, Ok, MatchResult};
+ghost use Rattle.tools.specs.Lines.{is_command, line_read};
+ghost use Rattle.tools.specs.Splits.{words_of};
+ghost use Rattle.tools.specs.Readers.{texts, FaultIs};
+
+use crate::cmd::{Cmd, read_command};
+use crate::fault::{LineFault, WordRefused};
+use crate::split::split_words;
+
+// The words are a command: there are some, and the first doesn't begin with `#`.
+fn is_command(words: &[&[u8]]) -> bool
+    ensures { result ≡ is_command (texts words.now) }
+{
+    match words.first() {
+        None => false,
+        Some(word) => match word.first() {
+            None => true,
+            Some(byte) => *byte != b'#',
+        },
+    }
+}
+
+/// Reads a line of a script: none where it is empty or a comment. `words` is room for its words, and `limit` the block
+/// limit of the board, 1 to 255 bytes.
+pub fn read_line<'a>(
+    words: &mut Vec<&'a [u8]>,
+    line: &'a [u8],
+    limit: u8,
+) -> Result<Option<Cmd>, LineFault>
+    ensures { MatchResult result (λ o. line_read limit line.now ≡ Ok o) (FaultIs (line_read limit line.now)) }
+{
+    split_words(words, line)?;
+    let words = words.as_slice();
+    if !is_command(words) {
+        return Ok(None);
+    }
+    match read_command(words, limit) {
+        Ok(command) => Ok(Some(command)),
+        Err(refused) => Err(LineFault::Word(refused.0)),
+    }
+}

@@ -1,0 +1,104 @@
+ghost use Rattle.std.specs.Prelude.{◌≡◌, ◌+◌, ◌<◌, ◌≤◌, ◌++◌, length, drop, slice_index_or};
+ghost use Rattle.tools.specs.Trees.{IsInRange};
+ghost use Rattle.tools.specs.Replies.{replies_of};
+ghost use Rattle.tools.specs.Commands.{AreReplies, transfers_of, is_over, answer_text, most_of};
+
+use crate::text::Text;
+use crate::{Cmd, get};
+use bus_journal::ReplyHead;
+use i2c_base::{Reply, Transfer};
+use packed::Packed;
+use std::marker::Model;
+
+/// A command that runs. A contract sees it, and how many of its transfers were replied to. The replies themselves stay
+/// with its caller.
+#[derive(Clone, Copy)]
+pub struct ToolRun {
+    cmd: Cmd,
+    taken: u16,
+}
+
+impl Model for ToolRun {
+    ghost use Rattle.tools.specs.View.{RunView};
+
+    ghost Value = { RunView };
+
+    ghost view = { λ r. record { cmd = r.cmd; taken = r.taken } };
+
+    ghost inverse = { λ r. record { cmd = r.cmd; taken = r.taken } };
+}
+
+impl ToolRun {
+    /// A command that begins.
+    pub fn open(cmd: Cmd) -> Self
+        ensures { result ≡ record { cmd = cmd; taken = 0 } }
+    {
+        ToolRun { cmd, taken: 0 }
+    }
+
+    /// How many transfers it asks for where none fails.
+    pub fn count(&self) -> u16
+        ensures value { result ≡ length (transfers_of self.now.cmd) }
+        ensures few { result ≤ 2 }
+    {
+        match &self.cmd {
+            Cmd::Get(get) => get::count(get),
+        }
+    }
+
+    /// Puts its transfer at a place, from 0, in place of another.
+    pub fn put(&self, at: u16, transfer: &mut Transfer)
+        requires range { IsInRange self.now.cmd }
+        requires more { at < length (transfers_of self.now.cmd) }
+        ensures { transfer.new ≡ slice_index_or (transfers_of self.now.cmd) at transfer.new }
+    {
+        match &self.cmd {
+            Cmd::Get(get) => get::put_transfer(get, at, transfer),
+        }
+    }
+
+    /// Puts its next transfer in place of another.
+    pub fn next(&self, transfer: &mut Transfer)
+        requires range { IsInRange self.now.cmd }
+        requires more { self.now.taken < length (transfers_of self.now.cmd) }
+        ensures { transfer.new ≡ slice_index_or (transfers_of self.now.cmd) self.now.taken transfer.new }
+    {
+        self.put(self.taken, transfer);
+    }
+
+    /// Takes the reply of its next transfer. Tells whether it is over.
+    pub fn take(&mut self, reply: &Reply) -> bool
+        requires more { self.old.taken < length (transfers_of self.old.cmd) }
+        ensures over { result ≡ is_over self.old.cmd self.old.taken reply.now }
+        ensures after { self.new ≡ record self.old { taken = self.old.taken + 1 } }
+    {
+        self.taken += 1;
+        let is_last = self.taken == self.count();
+        match &self.cmd {
+            Cmd::Get(_) => get::ends_early(reply) || is_last,
+        }
+    }
+
+    /// Prints what it answers to its replies, which are those of a store from a place on, once it is over.
+    pub fn print(&self, replies: &Packed<ReplyHead>, from: usize, out: &mut Text)
+        requires range { IsInRange self.now.cmd }
+        requires replies { AreReplies self.now (drop from (replies_of replies.now.items)) }
+        requires room { most_of self.now.cmd ≤ out.old.room }
+        ensures bytes { out.new.bytes ≡ out.old.bytes ++ answer_text self.now.cmd (drop from (replies_of replies.now.items)) }
+        ensures room { out.old.room ≤ out.new.room + most_of self.now.cmd }
+    {
+        match &self.cmd {
+            Cmd::Get(get) => get::push_answer(out, get, self.taken, replies, from),
+        }
+    }
+
+    /// The most bytes that it prints.
+    pub fn most(&self) -> usize
+        ensures value { result ≡ most_of self.now.cmd }
+        ensures small { result ≤ 2000 }
+    {
+        match &self.cmd {
+            Cmd::Get(get) => get::most(get),
+        }
+    }
+}

@@ -1,0 +1,110 @@
+ghost use Rattle.std.specs.Prelude.{◌≡◌, ◌<◌, ◌≤◌, ◌∷◌, ◌++◌, true, length, take, drop, OnOk};
+ghost use Rattle.std.specs.List.{flat_map};
+ghost use Rattle.tools.specs.Splits.{is_blank, words_of, behind_space, joined_words, is_joined, lines_of, feed_at};
+ghost use Rattle.tools.specs.Readers.{texts};
+
+use crate::words::{Gap, first_word, skip_gaps};
+use i2c_base::NoMemory;
+
+// The blanks between the words of a line.
+struct Blank;
+
+impl Gap for Blank {
+    ghost gaps = { is_blank };
+
+    fn is_gap(byte: u8) -> bool {
+        byte == b' ' || byte == b'\t'
+    }
+}
+
+/// Puts the words of a line, which stand between spaces and tabs, in place of those that are there.
+pub fn split_words<'a>(words: &mut Vec<&'a [u8]>, line: &'a [u8]) -> Result<(), NoMemory>
+    ensures { OnOk result (texts words.new.items ≡ words_of line.now) }
+{
+    words.clear();
+    let mut rest = skip_gaps::<Blank>(line);
+    while !rest.is_empty() {
+        let (word, behind) = first_word::<Blank>(rest);
+        words.push(word)?;
+        rest = skip_gaps::<Blank>(behind);
+    }
+    Ok(())
+}
+
+// Puts the words of a text at the end, with a space before each.
+fn push_spaced(out: &mut Vec<u8>, text: &[u8]) -> Result<(), NoMemory>
+    ensures { OnOk result (out.new.items ≡ out.old.items ++ flat_map behind_space (words_of text.now)) }
+{
+    let mut rest = skip_gaps::<Blank>(text);
+    while !rest.is_empty() {
+        let (word, behind) = first_word::<Blank>(rest);
+        out.push(b' ')?;
+        out.extend_from_slice(word)?;
+        rest = skip_gaps::<Blank>(behind);
+    }
+    Ok(())
+}
+
+/// A line has nothing but words with one space between each two, so that it is printed as it is.
+pub fn is_joined(line: &[u8]) -> bool
+    ensures test { result ≡ is_joined true line.now }
+    ensures same { result ≡ true → joined_words (words_of line.now) ≡ line.now }
+{
+    let mut at_start = true;
+    for byte in line {
+        match *byte {
+            b' ' if at_start => return false,
+            b' ' => at_start = true,
+            b'\t' => return false,
+            _ => at_start = false,
+        }
+    }
+    !at_start
+}
+
+/// Puts the words of a line at the end, with one space between each two.
+pub fn push_echo(out: &mut Vec<u8>, line: &[u8]) -> Result<(), NoMemory>
+    ensures { OnOk result (out.new.items ≡ out.old.items ++ joined_words (words_of line.now)) }
+{
+    let rest = skip_gaps::<Blank>(line);
+    if rest.is_empty() {
+        return Ok(());
+    }
+    let (word, behind) = first_word::<Blank>(rest);
+    out.extend_from_slice(word)?;
+    push_spaced(out, behind)
+}
+
+// How many bytes stand before the first line feed of a text.
+#[tactic(auto, using(crate::proofs::SplitLemmas::feed_at_more))]
+fn feed_at(text: &[u8]) -> usize
+    ensures value { result ≡ feed_at text.now }
+    ensures within { result ≤ length text.now }
+{
+    for at in 0..text.len() {
+        if text[at] == b'\n' {
+            return at;
+        }
+    }
+    text.len()
+}
+
+/// How long the first line of a text is, without its end and with it.
+#[tactic(auto, using(crate::proofs::SplitLemmas::cut_over, crate::proofs::SplitLemmas::cut_plain, crate::proofs::SplitLemmas::cut_returned))]
+pub fn cut_line(text: &[u8]) -> (usize, usize)
+    requires { 0 < length text.now }
+    ensures split { lines_of text.now ≡ take result.0 text.now ∷ lines_of (drop result.1 text.now) }
+    ensures inside { result.0 ≤ result.1 }
+    ensures some { 0 < result.1 }
+    ensures within { result.1 ≤ length text.now }
+{
+    let feed = feed_at(text);
+    if feed == text.len() {
+        return (feed, feed);
+    }
+    if feed > 0 && text[feed - 1] == b'\r' {
+        (feed - 1, feed + 1)
+    } else {
+        (feed, feed + 1)
+    }
+}
