@@ -4,8 +4,8 @@ use Rattle.std.specs.Prelude.{Result, Ok, Err}
 use Rattle.tools.specs.Lines.{ReadsLines, MeansInRange, is_command, some_command, line_read}
 use Rattle.tools.specs.Splits.{words_of}
 use Rattle.tools.specs.LineSets.{Word, follow_words}
-use Rattle.tools.specs.Trees.{script_lines, IsInRange}
-use Rattle.tools.specs.declared.cmd.Cmd.{Cmd}
+use Rattle.tools.specs.Commands.{script_lines, IsInRange}
+use Rattle.tools.specs.declared.command.Cmd.{Cmd}
 
 module _ (reads : ReadsLines) (means : MeansInRange) (limit : ℕ) where
   words_in_range : (ws : List Word) (c : Cmd) (b : Bool) (r : Result Cmd ℕ) → follow_words (script_lines limit) 0 ws ≡ r

@@ -7,8 +7,8 @@ use Rattle.i2c_spec.specs.Flat.{block_limit}
 use Rattle.tools.specs.Lines.{is_command, some_command, line_read}
 use Rattle.tools.specs.Splits.{words_of, lines_of}
 use Rattle.tools.specs.LineSets.{Word, follow_words}
-use Rattle.tools.specs.Trees.{script_lines, IsInRange}
-use Rattle.tools.specs.declared.cmd.Cmd.{Cmd}
+use Rattle.tools.specs.Commands.{script_lines, IsInRange}
+use Rattle.tools.specs.declared.command.Cmd.{Cmd}
 use Rattle.tools.proofs.LineLemmas.{reads_lines, means_in_range}
 use Rattle.caller_core.specs.View.{CommandView, ScriptView}
 use Rattle.caller_core.specs.Scripts.{Place, command_of, at_most, lines_read, behind_commands, behind_line_read, commands_or_none, text_read, commands_of}

@@ -5,7 +5,7 @@ use Rattle.std.proofs.lemmas.List.{drop-drop}
 use Rattle.tools.specs.Splits.{words_of, joined_words, lines_of}
 use Rattle.tools.specs.Lines.{line_read}
 use Rattle.tools.specs.Readers.{FaultIs}
-use Rattle.tools.specs.declared.cmd.Cmd.{Cmd}
+use Rattle.tools.specs.declared.command.Cmd.{Cmd}
 use Rattle.tools.specs.declared.fault.LineFault.{LineFault}
 use Rattle.tools.specs.declared.fault.LineFault.TheVariants as line_fault
 use Rattle.caller_core.specs.View.{CommandView}

@@ -11,7 +11,7 @@ use Rattle.bus_journal.proofs.LineFeeds.{line-append}
 use Rattle.tools.specs.Lines.{line_read}
 use Rattle.tools.specs.Words.{begins_with_word, onto_first}
 use Rattle.tools.specs.Splits.{is_blank, begins_feed, words_of, behind_space, joined_words, lines_of}
-use Rattle.tools.specs.declared.cmd.Cmd.{Cmd}
+use Rattle.tools.specs.declared.command.Cmd.{Cmd}
 use Rattle.tools.specs.Commands.{answer_text, is_over}
 use Rattle.tools.proofs.CommandLemmas.{answer_line}
 use Rattle.caller_core.specs.Progress.{Answered, Progress, begun, next_turn, replied_to, replied, progress}

@@ -13,7 +13,7 @@ use Rattle.i2c_base.specs.declared.reply.Reply.{Reply}
 use Rattle.packed.specs.View.{PackedView}
 use Rattle.bus_journal.specs.Borrowed.{reply_by}
 use Rattle.bus_journal.specs.declared.borrowed.ReplyHead.{ReplyHead}
-use Rattle.tools.specs.declared.cmd.Cmd.{Cmd}
+use Rattle.tools.specs.declared.command.Cmd.{Cmd}
 use Rattle.tools.specs.Replies.{reply_of, replies_of, most_brought}
 use Rattle.tools.specs.Commands.{AreReplies, transfers_of, is_over}
 use Rattle.tools.specs.View.{RunView, TextView}

@@ -13,9 +13,8 @@ use Rattle.std.proofs.lemmas.List.Elements.{All-get_or}
 use Rattle.i2c_base.specs.Transfer.{TransferView}
 use Rattle.i2c_base.specs.declared.reply.Reply.{Reply}
 use Rattle.bus_journal.specs.declared.borrowed.ReplyHead.{ReplyHead}
-use Rattle.tools.specs.Trees.{IsInRange}
 use Rattle.tools.specs.Replies.{reply_of, replies_of}
-use Rattle.tools.specs.Commands.{transfers_of, ends_early, is_over}
+use Rattle.tools.specs.Commands.{IsInRange, transfers_of, ends_early, is_over}
 use Rattle.tools.specs.View.{RunView}
 use Rattle.tools.proofs.CommandLemmas.{asks_some}
 use Rattle.caller_core.specs.Kept.{IsAt, run_of}

@@ -7,7 +7,7 @@ use Rattle.bus_journal.specs.declared.borrowed.ReplyHead.{ReplyHead}
 use Rattle.tools.specs.Replies.{replies_of, most_brought}
 use Rattle.tools.specs.Commands.{transfers_of}
 use Rattle.tools.specs.View.{RunView, TextView}
-use Rattle.tools.specs.declared.cmd.Cmd.{Cmd}
+use Rattle.tools.specs.declared.command.Cmd.{Cmd}
 use Rattle.caller_core.specs.Progress.{progress, sum_left}
 use Rattle.caller_core.specs.View.{CommandView, ScriptView}
 use Rattle.caller_core.specs.Scripts.{commands_of, cost_of_script, section_text}

@@ -7,7 +7,7 @@ use Rattle.i2c_spec.specs.Cost.{cost_of}
 use Rattle.i2c_spec.specs.Flat.{block_limit}
 use Rattle.tools.specs.Lines.{line_read}
 use Rattle.tools.specs.Splits.{words_of, joined_words, lines_of}
-use Rattle.tools.specs.declared.cmd.Cmd.{Cmd}
+use Rattle.tools.specs.declared.command.Cmd.{Cmd}
 use Rattle.tools.specs.declared.fault.LineFault.{LineFault}
 use Rattle.tools.specs.declared.fault.LineFault.TheVariants as line_fault
 use Rattle.tools.specs.Commands.{answer_text, most_of}

@@ -1,8 +1,9 @@
+//! A script as a caller of the bus: it asks for what its commands ask for, takes the replies, and prints the answers.
+
 ghost use Rattle.std.specs.Prelude.{◌≡◌, ◌+◌, ◌<◌, ◌≤◌, ◌^◌, ◌++◌, [], length, drop, slice_get, Ok, IfOk, IfErr, OnOk};
 ghost use Rattle.std.specs.Option.{option_map};
-ghost use Rattle.tools.specs.Trees.{IsInRange};
 ghost use Rattle.tools.specs.Replies.{replies_of};
-ghost use Rattle.tools.specs.Commands.{AreReplies, most_of};
+ghost use Rattle.tools.specs.Commands.{IsInRange, AreReplies, most_of};
 ghost use Rattle.caller_core.specs.Callers.{IsOpened, ScriptsAreFair};
 ghost use Rattle.caller_core.specs.Kept.{run_of};
 ghost use Rattle.caller_core.specs.Roots.{HasRoots};

@@ -1,3 +1,5 @@
+//! The commands of a script, each with its words as they are printed.
+
 ghost use Rattle.std.specs.Prelude.{◌≡◌, ◌<◌, [], ◌∷◌, ◌++◌, length, slice_index_or, OnOk};
 
 use i2c_base::NoMemory;

@@ -3,8 +3,8 @@
 ghost use Rattle.std.specs.Prelude.{◌≡◌, ℕ, false, Some, None, List, [], ◌∷◌};
 ghost use Rattle.i2c_base.specs.declared.errno.Errno.TheVariants.{Enxio};
 ghost use Rattle.i2c_base.specs.declared.reply.Reply.TheVariants.{Done, Read, Err};
-ghost use Rattle.tools.specs.declared.cmd.Cmd.TheVariants.{Get};
-ghost use Rattle.tools.specs.declared.cmd.get.GetMode.TheVariants.{SendReceive};
+ghost use Rattle.tools.specs.declared.command.Cmd.TheVariants.{Get};
+ghost use Rattle.tools.specs.declared.command.get.GetMode.TheVariants.{SendReceive};
 ghost use Rattle.caller_core.specs.Progress.{progress};
 ghost use Rattle.caller_core.specs.View.{CommandView};
 

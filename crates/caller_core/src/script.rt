@@ -1,3 +1,5 @@
+//! The text of a script: its commands, or the first word of it that is refused.
+
 ghost use Rattle.std.specs.Prelude.{◌≡◌, ◌+◌, ◌^◌, ◌<◌, ◌≤◌, ◌∷◌, Ok, length, take, drop, All, IfOk, IfErr, OnOk, MatchResult};
 ghost use Rattle.tools.specs.Lines.{line_read};
 ghost use Rattle.tools.specs.Splits.{lines_of};

@@ -1,14 +1,11 @@
 -- How long the value of an SMBus call is, and of which reply it is.
-use Rattle.std.proofs.Common.{◌≡◌, ℕ, ◌+◌, ◌-◌, ◌<◌, ◌≤◌, Bool, true, false, cond, List, [], ◌++◌, length, take, drop, get_or, Ok, Err, sym, ap, ◌∙◌, append_assoc, length-take, length-drop, arith}
+use Rattle.std.proofs.Common.{◌≡◌, ℕ, ◌+◌, ◌-◌, ◌<◌, ◌≤◌, Bool, true, false, cond, List, [], length, take, drop, get_or, Ok, Err, sym, ap, ◌∙◌, length-take, length-drop, arith}
 use Rattle.std.specs.Prelude.{◌==◌}
 use Rattle.std.proofs.lemmas.List.{get_or-map, get_or-drop, length-map}
 use Rattle.i2c_base.specs.Fitting.{Fits, count_of}
-use Rattle.i2c_base.specs.declared.errno.Errno.{Errno}
-use Rattle.i2c_base.specs.declared.errno.Errno.TheVariants.{Eio, Enxio, Ebadf, Ebusy, Enodev, Einval, Eproto, Ebadmsg, Eopnotsupp, Etimedout, Eremoteio}
 use Rattle.i2c_base.specs.declared.reply.Reply.TheVariants as reply
 use Rattle.i2c_spec.specs.SmbusCalls.{block_read_row}
 use Rattle.i2c_spec.specs.declared.smbus_row.CallRow.{CallRow}
-use Rattle.bus_spec.specs.Lines.{errno_text}
 use Rattle.bus_journal.specs.declared.borrowed.ReplyHead.{ReplyHead}
 use Rattle.smb_emul.specs.Calls.{messages_of_call, value_of_call, call_row, is_coded, read_value, wanted_code, value_by}
 use Rattle.smb_emul.specs.declared.call.SmbCall.{SmbCall}
@@ -17,22 +14,6 @@ use Rattle.smb_emul.specs.declared.call.SmbOp.{SmbOp}
 use Rattle.smb_emul.specs.declared.call.SmbOp.TheVariants as op
 use Rattle.tools.specs.Replies.{reply_of, replies_of}
 use Rattle.tools.specs.Values.{block_of_value, block_in}
-
-pub errno_short : (e : Errno) → length (errno_text e) ≤ 26
-errno_short Eio = omega arith
-errno_short Enxio = omega arith
-errno_short Ebadf = omega arith
-errno_short Ebusy = omega arith
-errno_short Enodev = omega arith
-errno_short Einval = omega arith
-errno_short Eproto = omega arith
-errno_short Ebadmsg = omega arith
-errno_short Eopnotsupp = omega arith
-errno_short Etimedout = omega arith
-errno_short Eremoteio = omega arith
-
-pub four_pieces : (o a b c d : List ℕ) → (((o ++ a) ++ b) ++ c) ++ d ≡ o ++ (a ++ (b ++ (c ++ d)))
-four_pieces o a b c d = append_assoc ((o ++ a) ++ b) c d ∙ append_assoc (o ++ a) b (c ++ d) ∙ append_assoc o a (b ++ (c ++ d))
 
 -- ---- how long a block is
 

@@ -5,13 +5,18 @@ use Rattle.std.proofs.lemmas.Option.{slice_get_within, get_or_from_slice_get}
 use Rattle.bus_journal.specs.Reports.{IsSectionLine}
 use Rattle.i2c_base.specs.declared.reply.Reply.{Reply}
 use Rattle.i2c_base.specs.Transfer.{TransferView}
-use Rattle.tools.specs.Trees.{IsInRange}
-use Rattle.tools.specs.declared.cmd.Cmd.{Cmd}
-use Rattle.tools.specs.declared.cmd.Cmd.TheVariants as cmd
-use Rattle.tools.specs.Commands.{transfers_of, answer_text}
-use Rattle.tools.proofs.GetLemmas.{get_asks, get_some}
-use Rattle.tools.proofs.ValueLemmas.{result_line}
+use Rattle.tools.specs.Commands.{grammar, IsInRange, transfers_of, answer_text}
+use Rattle.tools.specs.declared.command.Cmd.{Cmd}
+use Rattle.tools.specs.declared.command.Cmd.TheVariants as cmd
+use Rattle.tools.proofs.GetLemmas.{get_fits, get_asks, get_some}
+use Rattle.tools.proofs.GrammarLemmas.{AllEnds}
 use Rattle.tools.proofs.TransferLemmas.{IsAsk}
+use Rattle.tools.proofs.ValueLemmas.{result_line}
+
+-- what its line means is in range
+pub lines_fit : (limit : ℕ) → AllEnds IsInRange (grammar limit)
+unfolding grammar
+lines_fit limit = get_fits
 
 -- it asks for transfers within the limits
 asks : (c : Cmd) → IsInRange c → All IsAsk (transfers_of c)

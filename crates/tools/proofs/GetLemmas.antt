@@ -1,5 +1,5 @@
--- i2cget: its calls are within the limits, and the blocks that they read are short.
-use Rattle.std.proofs.Common.{◌≡◌, ℕ, ◌^◌, ◌<◌, ◌≤◌, Bool, length, Option, Some, None, refl, ap, ◌∙◌, arith}
+-- i2cget: what its line means is in range, its calls are within the limits, and the blocks that they read are short.
+use Rattle.std.proofs.Common.{◌≡◌, ℕ, ◌^◌, ◌<◌, ◌≤◌, Bool, false, length, Option, Some, None, refl, ap, ◌∙◌, arith}
 use Rattle.std.specs.Prelude.{All, IfSome, slice_get, option_map, unwrap_or}
 use Rattle.std.specs.List.{AllByRecursion}
 use Rattle.std.proofs.lemmas.List.{length-map}
@@ -9,13 +9,48 @@ use Rattle.i2c_base.specs.Transfer.{TransferView}
 use Rattle.smb_emul.specs.Calls.{messages_of_call, IsBlockLength}
 use Rattle.smb_emul.specs.declared.call.SmbOp.{SmbOp}
 use Rattle.smb_emul.specs.declared.call.SmbOp.TheVariants as op
-use Rattle.tools.specs.Trees.{IsGetInRange}
-use Rattle.tools.specs.declared.cmd.get.Get.{Get}
-use Rattle.tools.specs.declared.cmd.get.GetMode.{GetMode}
-use Rattle.tools.specs.declared.cmd.get.GetMode.TheVariants as mode
-use Rattle.tools.specs.Gets.{mode_of, len_of, ops_by, get_ops, get_call, get_transfers, op_at, block_most}
+use Rattle.tools.specs.Commands.{IsInRange}
+use Rattle.tools.specs.Gets.{got, get_len, get_reg, get_bus, get_words, IsGetInRange, mode_of, len_of, ops_by, get_ops, get_call, get_transfers, op_at, block_most}
+use Rattle.tools.specs.declared.command.get.Get.{Get}
+use Rattle.tools.specs.declared.command.get.GetMode.{GetMode}
+use Rattle.tools.specs.declared.command.get.GetMode.TheVariants as mode
 use Rattle.tools.proofs.AnswerLemmas.{IsShort, call_by, no_block, i2c_block, count_block}
+use Rattle.tools.proofs.GrammarLemmas.{AllEnds}
+use Rattle.tools.proofs.OptionLemmas.{IsBetween, number_between, options_end}
 use Rattle.tools.proofs.TransferLemmas.{IsAsk, call_asks, short_byte}
+
+-- ---- its line
+
+module _ (force : Bool) (bus addr : ℕ) (on : IsBetween 0 65535 bus) (to : IsBetween 8 119 addr) where
+  got_fits : (reg : Option ℕ) (m : Option GetMode) (pec : Bool) (len : Option ℕ) → IfSome reg (λ r. r < 2 ^ 8) → IfSome len (λ n. (1 ≤ n) × (n ≤ 32)) → IsInRange (got force bus addr reg m pec len)
+  got_fits reg m pec len r l = record { bus = omega (arith, on.to_high); addr = (to.from_low, to.to_high); reg = r; len = l }
+
+  len_fits : (reg : ℕ) (m : GetMode × Bool) → reg < 2 ^ 8 → AllEnds IsInRange (get_len force bus addr reg m)
+  unfolding get_len
+  len_fits reg (mode.I2cBlock, false) r = (
+    got_fits (Some reg) (Some mode.I2cBlock) false None r tt,
+    λ w len is. let l = number_between 1 32 w len is in
+        got_fits (Some reg) (Some mode.I2cBlock) false (Some len) r (l.from_low, l.to_high),
+  )
+  len_fits reg (m, pec) r = got_fits (Some reg) (Some m) pec None r tt
+
+  reg_fits : AllEnds IsInRange (get_reg force bus addr)
+  unfolding get_reg
+  reg_fits = (
+    got_fits None None false None tt tt,
+    λ w reg is. let r : reg < 2 ^ 8 = omega (arith, (number_between 0 255 w reg is).to_high) in
+        (got_fits (Some reg) None false None r tt, λ x m is_mode. len_fits reg m r),
+  )
+
+bus_fits : (force : Bool) → AllEnds IsInRange (get_bus force)
+unfolding get_bus
+bus_fits force w bus is x addr is_addr = reg_fits force bus addr (number_between 0 65535 w bus is) (number_between 8 119 x addr is_addr)
+
+pub get_fits : AllEnds IsInRange get_words
+unfolding get_words
+get_fits = options_end IsInRange get_bus bus_fits
+
+-- ---- its calls
 
 module _ (bus addr : ℕ) (force pec : Bool) where
   abbrev Asks : SmbOp → Type 0

@@ -7,7 +7,6 @@ pub mod JoinedLemmas
 pub mod LineLemmas
 pub mod LineSetLemmas
 pub mod OptionLemmas
-pub mod RangeLemmas
 pub mod SplitLemmas
 pub mod TransferLemmas
 pub mod ValueLemmas

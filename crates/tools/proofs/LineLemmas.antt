@@ -4,10 +4,10 @@ use Rattle.tools.specs.Lines.{is_command, some_command, words_read, line_read, R
 use Rattle.tools.specs.Splits.{words_of}
 use Rattle.tools.specs.Grammars.{read_at}
 use Rattle.tools.specs.LineSets.{Word, follow_words}
-use Rattle.tools.specs.Trees.{grammar, script_lines, IsInRange}
-use Rattle.tools.specs.declared.cmd.Cmd.{Cmd}
+use Rattle.tools.specs.Commands.{grammar, script_lines, IsInRange}
+use Rattle.tools.specs.declared.command.Cmd.{Cmd}
+use Rattle.tools.proofs.CommandLemmas.{lines_fit}
 use Rattle.tools.proofs.GrammarLemmas.{alive, follow, means}
-use Rattle.tools.proofs.RangeLemmas.{lines_fit}
 use Rattle.tools.proofs.LineSetLemmas.{IsAlive, line_followed, followed_line, refused_longest}
 
 pub reads_lines : ReadsLines

@@ -1,5 +1,5 @@
--- The text of a value is one line, and not the line `journal`.
-use Rattle.std.proofs.Common.{◌≡◌, ℕ, ◌<◌, ◌/◌, ◌%◌, List, [], ◌∷◌, ◌++◌, codes, get_or, refl, ap, arith}
+-- The text of a value is one line, and not the line `journal`; that of an error is short.
+use Rattle.std.proofs.Common.{◌≡◌, ℕ, ◌<◌, ◌≤◌, ◌/◌, ◌%◌, List, [], ◌∷◌, ◌++◌, codes, length, get_or, refl, ap, ◌∙◌, append_assoc, arith}
 use Rattle.std.specs.Prelude.{Result, Ok, Err}
 use Rattle.std.specs.List.{flat_map}
 use Rattle.bus_journal.specs.Reports.{IsLine, IsSectionLine}
@@ -55,3 +55,23 @@ result_line (Err (fail.Pec got want)) =
       one = line-append (codes "EBADMSG got ") (byte_word got ++ (codes " want " ++ byte_word want)) refl (line-append (byte_word got) (codes " want " ++ byte_word want) (word got) (line-append (codes " want ") (byte_word want) refl (word want)));
       other = others (fail_text (fail.Pec got want)) 69 refl (omega arith);
     }
+
+-- ---- how long it is, and its pieces
+
+-- the name of an error is short
+pub errno_short : (e : Errno) → length (errno_text e) ≤ 26
+errno_short Eio = omega arith
+errno_short Enxio = omega arith
+errno_short Ebadf = omega arith
+errno_short Ebusy = omega arith
+errno_short Enodev = omega arith
+errno_short Einval = omega arith
+errno_short Eproto = omega arith
+errno_short Ebadmsg = omega arith
+errno_short Eopnotsupp = omega arith
+errno_short Etimedout = omega arith
+errno_short Eremoteio = omega arith
+
+-- a text that is put together piece by piece
+pub four_pieces : (o a b c d : List ℕ) → (((o ++ a) ++ b) ++ c) ++ d ≡ o ++ (a ++ (b ++ (c ++ d)))
+four_pieces o a b c d = append_assoc ((o ++ a) ++ b) c d ∙ append_assoc (o ++ a) b (c ++ d) ∙ append_assoc o a (b ++ (c ++ d))

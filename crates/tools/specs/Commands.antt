@@ -1,13 +1,31 @@
--- What a tool asks for, when it is over, and what it prints: a row for each command.
-use Rattle.std.specs.Prelude.{◌≡◌, ℕ, ◌+◌, ◌-◌, ◌<◌, ◌≤◌, ◌==◌, Bool, ◌||◌, List, length, slice_get, Some}
+-- What each command is: its line, the range of what it means, what it asks for, when it is over, and what it prints. A row
+-- for each.
+use Rattle.std.specs.Prelude.{◌≡◌, ℕ, ◌+◌, ◌-◌, ◌<◌, ◌≤◌, ◌==◌, Bool, ◌||◌, List, length, slice_get, Some, codes}
 use Rattle.i2c_base.specs.Fitting.{Fits}
-use Rattle.i2c_base.specs.declared.reply.Reply.{Reply}
 use Rattle.i2c_base.specs.Transfer.{TransferView}
-use Rattle.tools.specs.declared.cmd.Cmd.{Cmd}
-use Rattle.tools.specs.declared.cmd.Cmd.TheVariants as cmd
-use Rattle.tools.specs.View.{RunView}
-use Rattle.tools.specs.Gets.{get_transfers, get_answer, get_most}
+use Rattle.i2c_base.specs.declared.reply.Reply.{Reply}
+use Rattle.tools.specs.Gets.{get_words, IsGetInRange, get_transfers, get_answer, get_most}
+use Rattle.tools.specs.Grammars.{Grammar, line_set, word}
+use Rattle.tools.specs.LineSets.{LineSet}
 use Rattle.tools.specs.Replies.{is_error}
+use Rattle.tools.specs.View.{RunView}
+use Rattle.tools.specs.declared.command.Cmd.{Cmd}
+use Rattle.tools.specs.declared.command.Cmd.TheVariants as cmd
+
+-- ---- the lines of a script
+
+-- the grammar, where a block of the board has at most `limit` bytes; no line in force has a block that is written
+unfoldable pub grammar : (limit : ℕ) → Grammar Cmd
+grammar limit = word (codes "i2cget") get_words
+
+abbrev pub script_lines : (limit : ℕ) → LineSet Cmd
+script_lines limit = line_set (grammar limit)
+
+-- each field of a command is in its range
+abbrev pub IsInRange : Cmd → Type 0
+IsInRange (cmd.Get g) = IsGetInRange g
+
+-- ---- a command that runs
 
 -- its transfers, where none fails
 abbrev pub transfers_of : Cmd → List TransferView

@@ -8,7 +8,6 @@ pub mod Options
 pub mod Readers
 pub mod Replies
 pub mod Splits
-pub mod Trees
 pub mod Values
 pub mod View
 pub mod Words

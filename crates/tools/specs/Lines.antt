@@ -2,8 +2,8 @@
 use Rattle.std.specs.Prelude.{◌≡◌, ℕ, ◌==◌, Bool, false, not, List, [], ◌∷◌, Option, Some, None, Result, Ok, Err, if◌then◌else◌}
 use Rattle.tools.specs.Splits.{words_of}
 use Rattle.tools.specs.LineSets.{Word, IsLine, IsLongest, follow_words}
-use Rattle.tools.specs.Trees.{script_lines, IsInRange}
-use Rattle.tools.specs.declared.cmd.Cmd.{Cmd}
+use Rattle.tools.specs.Commands.{script_lines, IsInRange}
+use Rattle.tools.specs.declared.command.Cmd.{Cmd}
 
 -- a line without words is no command, nor is one whose first word begins with `#`
 abbrev pub begins_comment : Word → Bool

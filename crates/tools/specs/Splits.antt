@@ -1,4 +1,4 @@
--- A text as lines, and a line as words.
+-- A text as lines, a line as words, and words joined again.
 use Rattle.std.specs.Prelude.{ℕ, ◌+◌, ◌==◌, Bool, true, false, not, ◌&&◌, ◌||◌, List, [], ◌∷◌, ◌++◌, if◌then◌else◌}
 use Rattle.std.specs.List.{flat_map}
 use Rattle.tools.specs.Words.{onto_first, words_between}

@@ -1,3 +1,5 @@
+//! Which word of a line is refused, and why a line was not read.
+
 ghost use Rattle.std.specs.Prelude.{◌≡◌, ℕ};
 
 use i2c_base::NoMemory;

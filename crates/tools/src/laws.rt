@@ -1,3 +1,5 @@
+//! The laws of the lines of a script: what it means that one is read, or refused at a word.
+
 ghost use Rattle.tools.specs.Lines.{MeansInRange, ReadsLines, RefusesBehindLongest};
 
 /// Words are a line of the grammar exactly where they are read, and then they are read as what it means.

@@ -3,35 +3,35 @@
 //!
 //! Its public contract, in three parts:
 //!
-//! - Lines. The grammar is one tree (`grammar` of `specs/Trees.antt`, written by `specs/Grammars.antt`), and its lines
+//! - Lines. The grammar is one tree (`grammar` of `specs/Commands.antt`, written by `specs/Grammars.antt`), and its lines
 //!   are a set (`script_lines`, with `specs/LineSets.antt`). `read_line` gives exactly the command of a line, or the first
 //!   word that the grammar refuses (`line_read` of `specs/Lines.antt`); a line is read exactly where it is in the grammar
 //!   (`each_line_is_read`), and a refused word stands behind the longest front that begins a line
 //!   (`the_refused_word_is_behind_the_longest_front`).
 //! - Commands. A `ToolRun` asks for the transfers of its command in order, until the last of them or a reply that ends it,
 //!   and prints what `answer_text` says of its replies; the room for that is told before. `specs/Commands.antt` has a row
-//!   for each command; `specs/Gets.antt` is `i2cget`; `specs/Values.antt` tells how values are printed.
+//!   for each command, whose own definitions are a file beside it (of `i2cget`, `specs/Gets.antt`); `specs/Values.antt` tells
+//!   how values are printed.
 //! - Texts. `cut_line` tells the first line of a text, and `push_echo` prints a line's words (`specs/Splits.antt`).
 //!   `skip_gaps` and `first_word` take the words off any text, with whatever bytes a `Gap` says between them
 //!   (`specs/Words.antt`).
 #![tactic(auto)]
 
-pub mod cmd;
+pub mod command;
 mod examples;
 mod fault;
-mod get;
 mod laws;
 mod line;
 mod number;
 mod options;
 mod reader;
 mod replies;
-mod run;
 mod split;
 mod text;
+mod value;
 mod words;
 
-pub use cmd::Cmd;
+pub use command::{Cmd, ToolRun};
 pub use examples::{
     a_block_is_printed_without_its_count, a_word_is_printed_high_byte_first,
     a_wrong_code_is_told_with_the_right_one, an_error_ends_a_command,
@@ -43,7 +43,6 @@ pub use laws::{
 };
 pub use line::read_line;
 pub use replies::most_brought;
-pub use run::ToolRun;
 pub use split::{cut_line, is_joined, push_echo};
 pub use text::Text;
 pub use words::{Gap, first_word, skip_gaps};

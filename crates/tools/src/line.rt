@@ -1,9 +1,11 @@
+//! A line of a script: the command that it is read as, or its first refused word.
+
 ghost use Rattle.std.specs.Prelude.{◌≡◌, Ok, MatchResult};
 ghost use Rattle.tools.specs.Lines.{is_command, line_read};
 ghost use Rattle.tools.specs.Splits.{words_of};
 ghost use Rattle.tools.specs.Readers.{texts, FaultIs};
 
-use crate::cmd::{Cmd, read_command};
+use crate::command::{Cmd, read_command};
 use crate::fault::{LineFault, WordRefused};
 use crate::split::split_words;
 

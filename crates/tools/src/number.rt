@@ -1,3 +1,5 @@
+//! Numbers in words: decimal, or `0x` and hexadecimal digits.
+
 ghost use Rattle.std.specs.Prelude.{◌≡◌, ℕ, ◌<◌, ◌≤◌, ◌&&◌, drop, length, Some, IfSome};
 ghost use Rattle.std.specs.Fmt.{decimal};
 ghost use Rattle.tools.specs.Numbers.{decimal_digit, hexadecimal_digit, digit_of, base_of, digits_on, within, number_of, number_in, is_hexadecimal, is_decimal};

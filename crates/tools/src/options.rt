@@ -1,3 +1,5 @@
+//! What several lines have in common: their options, BUS, ADDR and REG.
+
 ghost use Rattle.std.specs.Prelude.{◌≡◌, ◌+◌, ◌<◌, ◌≤◌, IfOk};
 ghost use Rattle.tools.specs.Options.{bus_number, address, byte, options_at};
 ghost use Rattle.tools.specs.Readers.{texts, one_at};

@@ -1,3 +1,5 @@
+//! The words of a line by their places: a given word, a number, or none.
+
 ghost use Rattle.std.specs.Prelude.{◌≡◌, ◌≤◌, IfOk};
 ghost use Rattle.std.specs.Str.{bytes_eq};
 ghost use Rattle.tools.specs.Numbers.{number_in};

@@ -1,3 +1,5 @@
+//! How many bytes the reply of a transfer may bring.
+
 ghost use Rattle.std.specs.Prelude.{◌≡◌, ◌≤◌};
 ghost use Rattle.i2c_base.specs.Limits.{MOST_BYTES};
 ghost use Rattle.tools.specs.Replies.{most_brought};

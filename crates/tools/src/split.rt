@@ -1,3 +1,5 @@
+//! A text split into lines, a line split into words, and its words joined again.
+
 ghost use Rattle.std.specs.Prelude.{◌≡◌, ◌<◌, ◌≤◌, ◌∷◌, ◌++◌, true, length, take, drop, OnOk};
 ghost use Rattle.std.specs.List.{flat_map};
 ghost use Rattle.tools.specs.Splits.{is_blank, words_of, behind_space, joined_words, is_joined, lines_of, feed_at};

@@ -1,9 +1,7 @@
-ghost use Rattle.std.specs.Prelude.{◌≡◌, ◌+◌, ◌*◌, ◌≤◌, [], ◌∷◌, ◌++◌, length, OnOk, codes};
-ghost use Rattle.std.specs.List.{flat_map};
-ghost use Rattle.bus_spec.specs.Lines.{two_digits};
-ghost use Rattle.tools.specs.Values.{byte_word, double_word, spaced_word, byte_words};
+//! Bytes that grow at their end, as what a command prints does.
 
-use bus_journal::hex_digit;
+ghost use Rattle.std.specs.Prelude.{◌≡◌, ◌+◌, ◌≤◌, [], ◌∷◌, ◌++◌, length, OnOk};
+
 use i2c_base::NoMemory;
 use std::alloc::Global;
 use std::marker::Model;
@@ -66,66 +64,4 @@ impl Text {
     {
         self.bytes.push_reserved(byte);
     }
-}
-
-// Puts a byte as a word at the end, with a space before it.
-fn push_spaced_word(out: &mut Text, byte: u8)
-    requires { 5 ≤ out.old.room }
-    ensures bytes { out.new.bytes ≡ out.old.bytes ++ spaced_word byte }
-    ensures room { out.old.room ≤ out.new.room + 5 }
-{
-    out.push(&[b' ', b'0', b'x', hex_digit(byte / 16), hex_digit(byte % 16)]);
-}
-
-/// Puts a byte as a word at the end.
-pub fn push_word(out: &mut Text, byte: u8)
-    requires { 4 ≤ out.old.room }
-    ensures bytes { out.new.bytes ≡ out.old.bytes ++ byte_word byte }
-    ensures room { out.old.room ≤ out.new.room + 4 }
-{
-    out.push_byte(b'0');
-    out.push_byte(b'x');
-    out.push_byte(hex_digit(byte / 16));
-    out.push_byte(hex_digit(byte % 16));
-}
-
-// Puts bytes as words at the end, with a space before each.
-fn push_spaced_words(out: &mut Text, bytes: &[u8])
-    requires { 5 * length bytes.now ≤ out.old.room }
-    ensures bytes { out.new.bytes ≡ out.old.bytes ++ flat_map spaced_word bytes.now }
-    ensures room { out.old.room ≤ out.new.room + 5 * length bytes.now }
-{
-    for byte in bytes {
-        push_spaced_word(out, *byte);
-    }
-}
-
-/// Puts bytes as words at the end, with a space between each two.
-pub fn push_byte_words(out: &mut Text, bytes: &[u8])
-    requires { 5 * length bytes.now ≤ out.old.room }
-    ensures bytes { out.new.bytes ≡ out.old.bytes ++ byte_words bytes.now }
-    ensures room { out.old.room ≤ out.new.room + 5 * length bytes.now }
-{
-    if let Some((first, rest)) = bytes.split_first() {
-        push_word(out, *first);
-        push_spaced_words(out, rest);
-    }
-}
-
-/// Puts a word of two bytes at the end.
-pub fn push_double_word(out: &mut Text, word: u16)
-    requires { 6 ≤ out.old.room }
-    ensures bytes { out.new.bytes ≡ out.old.bytes ++ double_word word }
-    ensures room { out.old.room ≤ out.new.room + 6 }
-{
-    let high = (word / 256) as u8;
-    let low = (word % 256) as u8;
-    out.push(&[
-        b'0',
-        b'x',
-        hex_digit(high / 16),
-        hex_digit(high % 16),
-        hex_digit(low / 16),
-        hex_digit(low % 16),
-    ]);
 }

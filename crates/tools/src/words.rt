@@ -1,3 +1,5 @@
+//! The words of any text, by the bytes that stand between them.
+
 ghost use Rattle.std.specs.Prelude.{◌≡◌, ℕ, ◌<◌, ◌≤◌, Bool, ◌∷◌, true, length, take, drop};
 ghost use Rattle.tools.specs.Words.{begins_with_word, behind_gaps, words_between, gap_at};
 

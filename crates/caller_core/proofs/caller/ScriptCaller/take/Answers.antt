@@ -3,9 +3,8 @@ use Rattle.std.proofs.Common.{◌+◌, List, length, drop, Some, true, false, ar
 use Rattle.std.proofs.lemmas.List.Sums.{sum_by-cons}
 use Rattle.std.specs.Prelude.{sum_by}
 use Rattle.i2c_base.specs.declared.reply.Reply.{Reply}
-use Rattle.tools.specs.Trees.{IsInRange}
 use Rattle.tools.specs.Replies.{replies_of, most_brought}
-use Rattle.tools.specs.Commands.{AreReplies, most_of}
+use Rattle.tools.specs.Commands.{IsInRange, AreReplies, most_of}
 use Rattle.tools.specs.View.{RunView}
 use Rattle.caller_core.specs.Kept.{IsCaller}
 use Rattle.caller_core.specs.Scripts.{room_of}

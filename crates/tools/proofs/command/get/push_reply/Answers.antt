@@ -7,7 +7,7 @@ use Rattle.smb_emul.specs.Calls.{messages_of_call, value_of_call}
 use Rattle.tools.specs.Gets.{get_call, op_at}
 use Rattle.tools.specs.Values.{block_in}
 use Rattle.tools.proofs.GetLemmas.{get_short}
-use Rattle.tools.proofs.get.push_reply.Goals as goal
+use Rattle.tools.proofs.command.get.push_reply.Goals as goal
 
 pub push_outcome-requires : goal.push_outcome-requires
 push_outcome-requires c =

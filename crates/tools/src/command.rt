@@ -1,14 +1,40 @@
-ghost use Rattle.std.specs.Prelude.{◌≡◌, ◌+◌, ◌<◌, ◌≤◌, ◌++◌, length, drop, slice_index_or};
-ghost use Rattle.tools.specs.Trees.{IsInRange};
-ghost use Rattle.tools.specs.Replies.{replies_of};
-ghost use Rattle.tools.specs.Commands.{AreReplies, transfers_of, is_over, answer_text, most_of};
+//! The commands of a script, a row for each: the words that it is read from, what it asks for, and what it prints.
 
+ghost use Rattle.std.specs.Prelude.{◌≡◌, ◌+◌, ◌<◌, ◌≤◌, ◌++◌, length, drop, slice_index_or};
+ghost use Rattle.tools.specs.Commands.{grammar, IsInRange, AreReplies, transfers_of, is_over, answer_text, most_of};
+ghost use Rattle.tools.specs.Grammars.{read_at};
+ghost use Rattle.tools.specs.Readers.{texts};
+ghost use Rattle.tools.specs.Replies.{replies_of};
+
+mod get;
+
+use crate::fault::WordRefused;
+use crate::reader::is_at;
 use crate::text::Text;
-use crate::{Cmd, get};
 use bus_journal::ReplyHead;
+pub use get::{Get, GetMode};
 use i2c_base::{Reply, Transfer};
 use packed::Packed;
 use std::marker::Model;
+
+/// A command of a script.
+#[derive(Clone, Copy)]
+pub enum Cmd {
+    /// Reads a register, or the next byte where none is named.
+    Get(Get),
+}
+
+/// Reads the words of a command by the first of them, over a board with this block limit.
+#[tactic(auto, unfolding(crate::specs::Commands::grammar))]
+pub(crate) fn read_command(words: &[&[u8]], limit: u8) -> Result<Cmd, WordRefused>
+    ensures { result ≡ read_at (grammar limit) (texts words.now) 0 }
+{
+    if is_at(words, 0, b"i2cget") {
+        get::read_get(words)
+    } else {
+        Err(WordRefused(0))
+    }
+}
 
 /// A command that runs. A contract sees it, and how many of its transfers were replied to. The replies themselves stay
 /// with its caller.

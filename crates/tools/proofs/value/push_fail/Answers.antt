@@ -1,7 +1,7 @@
 use Rattle.std.proofs.Common.{◌++◌, codes, sym, ap, ◌∙◌}
 use Rattle.tools.specs.Values.{byte_word, fail_text}
-use Rattle.tools.proofs.AnswerLemmas.{four_pieces}
-use Rattle.tools.proofs.get.push_fail.Goals as goal
+use Rattle.tools.proofs.ValueLemmas.{four_pieces}
+use Rattle.tools.proofs.value.push_fail.Goals as goal
 
 pub returns-in-Pec-clause-bytes : goal.returns-in-Pec-clause-bytes
 returns-in-Pec-clause-bytes c =

@@ -9,7 +9,7 @@ use Rattle.tools.specs.Replies.{replies_of}
 use Rattle.tools.specs.Values.{result_text}
 use Rattle.tools.proofs.AnswerLemmas.{last_kept}
 use Rattle.tools.proofs.GetLemmas.{transfer_there}
-use Rattle.tools.proofs.get.push_answer.Goals as goal
+use Rattle.tools.proofs.command.get.push_answer.Goals as goal
 
 pub push_reply-requires-clause-fits : goal.push_reply-requires-clause-fits
 push_reply-requires-clause-fits c =

@@ -1,7 +1,7 @@
 use Rattle.std.proofs.Common.{◌≡◌, ◌+◌, ◌*◌, ◌≤◌, ◌++◌, take}
 use Rattle.std.specs.List.{flat_map}
 use Rattle.tools.specs.Values.{spaced_word}
-use Rattle.tools.proofs.text.push_spaced_words.Given as goal
+use Rattle.tools.proofs.value.push_spaced_words.Given as goal
 
 abbrev pub invariant-loop-byte : goal.invariant-loop-byte
 invariant-loop-byte l =
