@@ -1,3 +1,4 @@
+//! Worked examples of the parts of a board, each told apart by the front of its line.
 use crate::page::Page;
 use crate::words::parted;
 use crate::{boards, chips, transfers, trees, wires};

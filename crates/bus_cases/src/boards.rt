@@ -1,3 +1,4 @@
+//! The boards of the cases, read from a file or a text.
 use i2c_board::{Accepted, accept};
 use i2c_boardtext::read_board;
 use std::alloc::Global;

@@ -1,3 +1,4 @@
+//! A case: what fails outside of the program, and a call that is made with it.
 ghost use Rattle.std.specs.Prelude.{◌≡◌, map, string_bytes, IfOk, IfSome, OnSome};
 
 use crate::words::parted;

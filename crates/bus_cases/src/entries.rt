@@ -1,3 +1,4 @@
+//! Worked examples of journal lines that are read back.
 use crate::page::Page;
 use bus_journal::{entry_text, read_entry};
 use i2c_base::Entry;

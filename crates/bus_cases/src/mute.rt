@@ -1,3 +1,4 @@
+//! An output that takes nothing, under the program's own sink.
 use crate::page::Page;
 use i2c_outside::{Sink, StdoutSink};
 use std::fmt::Display;

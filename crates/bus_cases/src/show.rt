@@ -1,3 +1,4 @@
+//! What a call left, as text: its status, its output, what was counted, the ports' logs and the devices.
 use crate::case::Call;
 use crate::page::Page;
 use crate::words::parted;

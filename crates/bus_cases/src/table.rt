@@ -1,3 +1,4 @@
+//! The table of cases, read line by line.
 use crate::bench::answer_line;
 use crate::case::{Call, Case, Files as Shelf};
 use crate::entries::put_entry;

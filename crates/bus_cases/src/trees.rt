@@ -1,3 +1,4 @@
+//! Worked examples of the tree of buses: ways, grants, and what is below what.
 ghost use Rattle.std.specs.Prelude.{◌<◌, IfSome};
 ghost use Rattle.i2c_spec.specs.Tree.{buses};
 

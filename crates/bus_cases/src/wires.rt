@@ -1,3 +1,4 @@
+//! Worked examples of the wires of a root, call by call.
 use crate::page::Page;
 use crate::words::{addr, byte, put_said};
 use i2c_base::{Answer, MuxId, PortCall, SegId};

@@ -1,3 +1,4 @@
+//! The words of the worked examples: bytes, addresses and answers.
 use crate::page::Page;
 use i2c_base::{Addr, Answer};
 

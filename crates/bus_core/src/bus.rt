@@ -1,3 +1,4 @@
+//! `BusCore`: callers and ports over a board, opened, stepped and taken apart.
 ghost use Rattle.std.specs.Prelude.{◌≡◌, ℕ, true, IsTrue, [], All, None, IfOk, IfSome};
 ghost use Rattle.i2c_base.specs.declared.ids.LockId.{LockId};
 ghost use Rattle.bus_spec.specs.Schedule.{Follows};

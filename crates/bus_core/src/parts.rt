@@ -1,3 +1,4 @@
+//! The parts of a core, which each of its steps works on.
 use crate::seat::Seat;
 use bus_journal::Journal;
 use i2c_base::{ByteList, SegId};

@@ -1,3 +1,4 @@
+//! Which caller can make a step.
 ghost use Rattle.std.specs.Prelude.{◌≡◌, ◌<◌, true, false, length, None, IfSome};
 ghost use Rattle.bus_core.specs.Kept.{IsKept, IsCore};
 ghost use Rattle.bus_core.specs.Ready.{IsHeldUpAt, CanStepAt, IsLeastReady, AllHeldUp};

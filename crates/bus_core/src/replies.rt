@@ -1,3 +1,4 @@
+//! The reply of a transfer in progress, gathered as its reads come.
 ghost use Rattle.std.specs.Prelude.{◌≡◌, ◌+◌, ◌≤◌, ◌++◌, [], length};
 ghost use Rattle.i2c_base.specs.Limits.{MOST_BYTES};
 ghost use Rattle.bus_core.specs.Replies.{reply_decided};

@@ -1,3 +1,4 @@
+//! Many steps: by a schedule, and then until each script is used up.
 ghost use Rattle.std.specs.Prelude.{◌≡◌, ℕ, ◌<◌, true, false, IsTrue, List, [], All, Some, slice_get};
 ghost use Rattle.bus_spec.specs.Schedule.{Follows};
 ghost use Rattle.i2c_base.specs.Limits.{MOST_CALLERS};

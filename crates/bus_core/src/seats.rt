@@ -1,3 +1,4 @@
+//! The seats of a core, and how the one at a place goes on behind each kind of step.
 ghost use Rattle.std.specs.Prelude.{◌≡◌, ◌+◌, ◌<◌, ◌≤◌, true, false, length, None, Some, Option};
 ghost use Rattle.i2c_base.specs.Limits.{MOST_LENGTH};
 ghost use Rattle.i2c_base.specs.declared.errno.Errno.{Errno};

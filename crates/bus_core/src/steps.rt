@@ -1,3 +1,4 @@
+//! One step of a caller: a lock, a message, a line or a settle.
 ghost use Rattle.std.specs.Prelude.{◌≡◌, ◌<◌, ℕ, true, length, None, Some};
 ghost use Rattle.i2c_base.specs.declared.ids.LockId.{LockId};
 ghost use Rattle.bus_spec.specs.Grammar.{is_over};

@@ -1,3 +1,4 @@
+//! Entries of the journal whose bytes lie elsewhere.
 ghost use Rattle.std.specs.Prelude.{◌≡◌, ◌≤◌, length};
 ghost use Rattle.i2c_base.specs.declared.entry.Entry.TheVariants as entry;
 ghost use Rattle.bus_journal.specs.Borrowed.{entry_seen, reply_by, most_bytes, most_read};

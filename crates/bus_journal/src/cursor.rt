@@ -1,3 +1,4 @@
+//! A text that is read from its front, byte by byte and number by number.
 ghost use Rattle.std.specs.Prelude.{◌≡◌, ◌<◌, ◌-◌, ◌%◌, true, false, [], ◌∷◌, length, take, drop, None, IfSome, OnSome};
 ghost use Rattle.bus_journal.specs.Guess.{byte_at, is_digit, is_hex, hex_value, number_from, number_of, behind_number, bytes_of, behind_bytes};
 

@@ -1,3 +1,4 @@
+//! The journal: its entries, the oldest first, in room that was made beforehand.
 ghost use Rattle.std.specs.Prelude.{◌≡◌, ◌+◌, ◌<◌, ◌≤◌, ◌↔◌, [], ◌∷◌, ◌++◌, length, slice_index_or, IsTrue, IfOk};
 ghost use Rattle.std.specs.List.{All};
 ghost use Rattle.bus_journal.specs.Borrowed.{entry_seen, most_bytes};

@@ -1,3 +1,4 @@
+//! A line of the journal, read back as its entry.
 ghost use Rattle.std.specs.Prelude.{◌≡◌, ◌⊎◌, take, drop, IfOk};
 ghost use Rattle.bus_spec.specs.Lines.{entry_line};
 ghost use Rattle.bus_journal.specs.Guess.{caller_of, behind_number, bytes_of, lock_of, purpose_of, behind_purpose, heard_of, behind_heard, end_of, errno_of, reply_of, behind_reply, cut_of, behind_list, message_of, line_of, settle_of, entry_of};

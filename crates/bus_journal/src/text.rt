@@ -1,3 +1,4 @@
+//! Bytes and numbers, put at the end of a text.
 ghost use Rattle.std.specs.Prelude.{◌≡◌, ℕ, ◌<◌, ◌++◌, OnOk};
 ghost use Rattle.std.specs.Fmt.{decimal};
 ghost use Rattle.bus_spec.specs.Lines.{hex_digit, two_digits, joined, spaced, spaced_digits};

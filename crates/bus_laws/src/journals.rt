@@ -1,3 +1,4 @@
+//! Laws of whole journals: locks, open paths, kept channels and marks, and where each settle stands.
 ghost use Rattle.std.specs.Prelude.{◌≡◌, ℕ, ◌<◌, List, Some};
 ghost use Rattle.i2c_base.specs.Board.{BoardView};
 ghost use Rattle.i2c_base.specs.declared.entry.Entry.{Entry};

@@ -1,3 +1,4 @@
+//! What the next entry of a caller can be: whom its message reaches, and which lock it takes.
 ghost use Rattle.std.specs.Prelude.{◌≡◌, ℕ, List, None};
 ghost use Rattle.i2c_base.specs.declared.ids.LockId.{LockId};
 ghost use Rattle.i2c_base.specs.Board.{BoardView};

@@ -1,3 +1,4 @@
+//! The reach rule: who hears each message of a journal.
 ghost use Rattle.std.specs.Prelude.{ℕ, List};
 ghost use Rattle.i2c_base.specs.Board.{BoardView};
 ghost use Rattle.i2c_base.specs.declared.entry.Entry.{Entry};

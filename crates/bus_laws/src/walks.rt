@@ -1,3 +1,4 @@
+//! Laws of the walk of one transfer, from its first lock to its last.
 ghost use Rattle.i2c_base.specs.Board.{BoardView};
 ghost use Rattle.i2c_base.specs.Transfer.{TransferView};
 ghost use Rattle.i2c_spec.specs.TreeFacts.{IsTree};

@@ -1,3 +1,4 @@
+//! One line step: the line of a gpio mux is set to a level.
 ghost use Rattle.std.specs.Prelude.{◌≡◌, ◌<◌, ◌≤◌, true, [], ◌∷◌, ◌++◌, length, IsTrue};
 ghost use Rattle.i2c_base.specs.Limits.{MOST_CALLS};
 ghost use Rattle.i2c_base.specs.declared.port.Phase.{Phase};

@@ -1,3 +1,4 @@
+//! One message on a port: a start, its bytes, and how it ended.
 ghost use Rattle.std.specs.Prelude.{◌≡◌, ◌⊎◌, ℕ, ◌+◌, ◌<◌, ◌≤◌, ◌==◌, ◌||◌, nat_lt, true, false, List, [], None, length, IsTrue};
 ghost use Rattle.i2c_base.specs.Fitting.{count_of};
 ghost use Rattle.i2c_base.specs.Limits.{LARGEST_BLOCK, MOST_CALLS, MOST_LENGTH};

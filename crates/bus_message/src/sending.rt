@@ -1,3 +1,4 @@
+//! Which message a walk sends next, and how far a caller's transfer has come.
 ghost use Rattle.std.specs.Prelude.{◌≡◌, ◌<◌, ◌≤◌, ℕ, true, length, take, drop, sum_by, ◌+◌};
 ghost use Rattle.i2c_base.specs.Limits.{LARGEST_BLOCK};
 ghost use Rattle.i2c_base.specs.Transfer.{written_of};

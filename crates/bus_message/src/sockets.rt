@@ -1,3 +1,4 @@
+//! The ports of a core by their places, and what a walk sends on one of them.
 ghost use Rattle.std.specs.Prelude.{◌≡◌, ℕ, ◌+◌, ◌<◌, ◌≤◌, true, false, [], Some, IsTrue, length, set, slice_get};
 ghost use Rattle.i2c_base.specs.declared.entry.End.{End};
 ghost use Rattle.i2c_base.specs.declared.entry.Purpose.TheVariants as purpose;

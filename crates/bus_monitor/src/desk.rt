@@ -1,3 +1,4 @@
+//! A core that threads share, one at a time.
 ghost use Rattle.std.specs.Prelude.{◌≡◌, true};
 ghost use Rattle.bus_core.specs.State.{has_caller, roots_in};
 

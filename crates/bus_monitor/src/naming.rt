@@ -1,3 +1,4 @@
+//! A name in the type of a core for what it was opened with.
 use std::marker::Brand;
 
 /// What a core was opened with, and the roots of its ports, by a name.

@@ -1,3 +1,4 @@
+//! A worker thread for each caller: they are started, and joined.
 ghost use Rattle.std.specs.Prelude.{◌≡◌, true, IsTrue};
 ghost use Rattle.std.specs.Thread.{IsSend, IsSync};
 ghost use Rattle.bus_core.specs.State.{AllThrough, CoreTold, has_caller, roots_in};

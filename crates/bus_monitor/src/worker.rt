@@ -1,3 +1,4 @@
+//! The work of one thread: its caller is stepped to the end of its script.
 ghost use Rattle.std.specs.Prelude.{◌≡◌, true};
 ghost use Rattle.bus_core.specs.State.{has_caller};
 

@@ -1,3 +1,4 @@
+//! A lock that is taken or freed keeps what is kept between two steps of the core.
 ghost use Rattle.std.specs.Prelude.{◌≡◌, ℕ, ◌+◌, ◌-◌, List, [], ◌∷◌, ◌++◌, Some, None, false, true, take};
 ghost use Rattle.i2c_base.specs.declared.entry.Entry.TheVariants as entry;
 ghost use Rattle.i2c_base.specs.declared.ids.LockId.{LockId};

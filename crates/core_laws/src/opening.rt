@@ -1,3 +1,4 @@
+//! At the opening of a core all is so that is kept between two steps of it.
 ghost use Rattle.core_laws.specs.Core.{Run, Whole, CoreKept};
 ghost use Rattle.core_laws.specs.Opens.{IsOpened};
 

@@ -1,3 +1,4 @@
+//! The settle of a refused transfer keeps what is kept between two steps of the core.
 ghost use Rattle.std.specs.Prelude.{◌≡◌, ℕ, ◌+◌, ◌-◌, List, Option, [], ◌∷◌, ◌++◌, Some, None};
 ghost use Rattle.i2c_base.specs.declared.entry.Entry.TheVariants as entry;
 ghost use Rattle.i2c_base.specs.declared.errno.Errno.{Errno};

@@ -1,3 +1,4 @@
+//! Laws of one transfer in the flat world: message by message, and on its root alone.
 ghost use Rattle.std.specs.Prelude.{◌≡◌, ℕ, ◌<◌, Bool, true, false, List, [], ◌∷◌, ◌++◌, length, Option, slice_get};
 ghost use Rattle.i2c_base.specs.declared.reply.Cut.{Cut};
 ghost use Rattle.i2c_base.specs.Board.{BoardView};

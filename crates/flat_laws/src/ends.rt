@@ -1,3 +1,4 @@
+//! What is so of a journal whose walks have ended.
 ghost use Rattle.std.specs.Prelude.{◌≡◌, ℕ, ◌<◌, List, [], Some, None};
 ghost use Rattle.i2c_base.specs.declared.ids.LockId.{LockId};
 ghost use Rattle.i2c_base.specs.Board.{BoardView};

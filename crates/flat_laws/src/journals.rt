@@ -1,3 +1,4 @@
+//! A journal beside the flat world: its walks, the devices that it leaves, and its replies.
 ghost use Rattle.std.specs.Prelude.{◌≡◌, ℕ, List, None};
 ghost use Rattle.i2c_base.specs.Board.{BoardView};
 ghost use Rattle.i2c_base.specs.declared.entry.Entry.{Entry};

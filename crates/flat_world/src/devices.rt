@@ -1,3 +1,4 @@
+//! The devices of the flat world during a transfer.
 ghost use Rattle.std.specs.Prelude.{◌≡◌, ◌<◌, Some, map, IfOk, IfSome, eqb, if◌then◌else◌};
 ghost use Rattle.std.specs.List.{IsDistinct};
 ghost use Rattle.i2c_base.specs.Limits.{MOST_DEVICES};

@@ -1,3 +1,4 @@
+//! `Flat`, the flat world, which does one transfer at a time.
 ghost use Rattle.std.specs.Prelude.{◌≡◌, IfOk};
 ghost use Rattle.i2c_spec.specs.Flat as spec;
 ghost use Rattle.i2c_spec.specs.Layouts.{board_of};

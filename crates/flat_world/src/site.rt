@@ -1,3 +1,4 @@
+//! Where a transfer is sent, and to whom an address leads there.
 ghost use Rattle.std.specs.Prelude.{◌≡◌, ◌<◌, IfSome};
 ghost use Rattle.i2c_base.specs.Limits.{MOST_DEVICES};
 ghost use Rattle.i2c_spec.specs.Flat.{granted_on};

@@ -1,3 +1,4 @@
+//! The 7-bit address of a target.
 ghost use Rattle.std.specs.Prelude.{◌≡◌, ℕ, ◌↔◌, ◌≤◌, IsSome, IfSome};
 ghost use Rattle.i2c_base.specs.Addr.{IsTargetAddress};
 

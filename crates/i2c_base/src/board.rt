@@ -1,3 +1,4 @@
+//! A board as data: its roots, its muxes and its devices.
 ghost use Rattle.std.specs.Prelude.{ℕ};
 
 use crate::{Addr, SegId};

@@ -1,3 +1,4 @@
+//! Lists of bytes with a fixed room, which take no memory.
 ghost use Rattle.std.specs.Prelude.{◌≡◌, ℕ, ◌+◌, ◌<◌, ◌≤◌, List, [], ◌∷◌, ◌++◌, length};
 
 use crate::empty;

@@ -1,3 +1,4 @@
+//! The trait of a caller, who asks for transfers and takes their replies.
 ghost use Rattle.std.specs.Prelude.{◌≡◌, ℕ, true, false, List, [], ◌∷◌, ◌++◌, Option, Some, None, OnOk};
 ghost use Rattle.i2c_base.specs.Board.{BoardView};
 ghost use Rattle.i2c_base.specs.Transfer.{TransferView};

@@ -1,3 +1,4 @@
+//! The entries of the journal.
 use crate::{Addr, ByteList, Cut, LockId, MuxId, Node, Reply, SegId};
 
 /// Why a message is sent.

@@ -1,3 +1,4 @@
+//! Why a transfer or a command failed, by Linux's names and numbers.
 ghost use Rattle.std.specs.Prelude.{◌≡◌};
 ghost use Rattle.i2c_base.specs.Errno.{number_of};
 

@@ -1,3 +1,4 @@
+//! What a target sees of the wires, what it answers, and the trait of a target.
 ghost use Rattle.std.specs.Prelude.{◌≡◌};
 ghost use Rattle.i2c_base.specs.Table.{Table, byte_of};
 

@@ -1,3 +1,4 @@
+//! The flags of a message, with Linux's bits.
 ghost use Rattle.std.specs.Prelude.{⊤, ◌≡◌, [], ◌∷◌, codes};
 
 use bitflags::{Flag, Flags, bitflag_items};

@@ -1,3 +1,4 @@
+//! The numbers of buses, muxes and devices, and the names of locks and of targets.
 ghost use Rattle.std.specs.Prelude.{ℕ};
 
 use std::marker::Model;

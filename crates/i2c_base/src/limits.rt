@@ -1,3 +1,4 @@
+//! The limits of boards, transfers, blocks and callers.
 ghost use Rattle.std.specs.Prelude.{◌≡◌};
 ghost use Rattle.i2c_base.specs.Limits as limit;
 ghost use Rattle.i2c_base.specs.declared.limits.TheConstants as code;

@@ -1,3 +1,4 @@
+//! How a list with a fixed room is emptied.
 ghost use Rattle.std.specs.Prelude.{◌≡◌, []};
 
 use arrayvec::ArrayVec;

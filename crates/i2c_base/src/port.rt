@@ -1,3 +1,4 @@
+//! The calls on a port, and what its wires have come to.
 use crate::{Addr, MuxId};
 
 /// A call on a port, as its log keeps it.

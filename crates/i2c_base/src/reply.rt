@@ -1,3 +1,4 @@
+//! The reply of a transfer, and where a failed call on the port cut it off.
 ghost use Rattle.std.specs.Prelude.{◌≡◌};
 
 use crate::{Bytes, Errno};

@@ -1,3 +1,4 @@
+//! The first topology rule that a board breaks, and the two items at fault.
 use crate::{DevId, MuxId};
 
 /// A part of the board that a topology rule speaks of.

@@ -1,3 +1,4 @@
+//! Messages, and the transfers that they make up.
 ghost use Rattle.std.specs.Prelude.{◌≡◌, ◌+◌, ◌^◌, ◌<◌, ◌≤◌, ◌↔◌, [], ◌∷◌, ◌++◌, length, sum_by, IsTrue, IsOk, OnOk, OnErr};
 ghost use Rattle.arrayvec.specs.ArrayVec.{array_vec_len};
 ghost use Rattle.i2c_base.specs.Bytes.{AreBytes};

@@ -1,3 +1,4 @@
+//! To whom an address leads, and whether the muxes on the way let a message through.
 use crate::{DevId, MuxId};
 
 /// To whom an address on a bus leads.

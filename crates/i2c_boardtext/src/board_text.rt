@@ -1,3 +1,4 @@
+//! From the text of a board file to its board, or to its first fault.
 ghost use Rattle.std.specs.Prelude.{◌≡◌, ◌≤◌};
 ghost use Rattle.toml.specs.View.{table_view};
 ghost use Rattle.i2c_base.specs.Limits.{MOST_BUSES};

@@ -1,3 +1,4 @@
+//! The kinds of device, and the keys that each of them has.
 ghost use Rattle.std.specs.Prelude.{◌≡◌, ◌+◌, ◌<◌, ◌≤◌, ◌++◌, length, map};
 ghost use Rattle.toml.specs.View.{view, table_view};
 ghost use Rattle.i2c_spec.specs.Targets.{FitsKind};

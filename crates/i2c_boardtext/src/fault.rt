@@ -1,3 +1,4 @@
+//! Why a text is no board.
 ghost use Rattle.std.specs.Prelude.{◌≡◌};
 ghost use Rattle.i2c_boardtext.specs.BoardText.{placed_fault};
 

@@ -1,3 +1,4 @@
+//! The keys of a board file, and which of them each table may have.
 ghost use Rattle.std.specs.Prelude.{◌≡◌, ◌<◌};
 ghost use Rattle.toml.specs.View.{table_view};
 ghost use Rattle.i2c_boardtext.specs.Keys.{bus_rule, set_rule, top_rules, root_rules, chip_mux, arbitrator_mux, line_mux, mux_rules};

@@ -1,3 +1,4 @@
+//! The words that are values: what a root offers, lock modes, idle states and kinds of mux.
 ghost use Rattle.std.specs.Prelude.{◌≡◌};
 ghost use Rattle.toml.specs.View.{view};
 ghost use Rattle.i2c_boardtext.specs.Items.{named_in};

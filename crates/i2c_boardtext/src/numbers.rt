@@ -1,3 +1,4 @@
+//! The numbers of muxes and devices: key, range and default.
 ghost use Rattle.std.specs.Prelude.{◌≡◌};
 ghost use Rattle.toml.specs.View.{table_view};
 ghost use Rattle.i2c_spec.specs.Numbers.{IsFor};

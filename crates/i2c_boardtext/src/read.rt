@@ -1,3 +1,4 @@
+//! What stands at the keys of a table: flags, words, an address, a bus.
 ghost use Rattle.std.specs.Prelude.{◌≡◌, ◌<◌, true, false, codes};
 ghost use Rattle.toml.specs.Data.{get_member};
 ghost use Rattle.toml.specs.View.{view, table_view};

@@ -1,3 +1,4 @@
+//! The tables of roots, each read as its root.
 ghost use Rattle.std.specs.Prelude.{◌≡◌, ◌≤◌, IfOk, length};
 ghost use Rattle.toml.specs.View.{table_view};
 ghost use Rattle.i2c_base.specs.Limits.{MOST_ROOTS};

@@ -1,3 +1,4 @@
+//! The rules of keys: whether a key is required, and how its value is tested.
 ghost use Rattle.std.specs.Prelude.{◌≡◌, map, bytes_eq, string_bytes};
 ghost use Rattle.std.specs.List.{list_all, list_any};
 ghost use Rattle.std.specs.BTreeMap.{keys};

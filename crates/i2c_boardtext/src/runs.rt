@@ -1,3 +1,4 @@
+//! The runs of bytes that are written into a device's memory.
 ghost use Rattle.std.specs.Prelude.{◌≡◌, ◌≤◌, ◌%◌, true, map, All, IfOk, codes};
 ghost use Rattle.toml.specs.Data.{get_member};
 ghost use Rattle.toml.specs.View.{view, table_view};

@@ -1,3 +1,4 @@
+//! The top of a document: its arrays of roots, muxes and devices.
 ghost use Rattle.std.specs.Prelude.{◌≡◌, ◌≤◌, None, IfOk, length};
 ghost use Rattle.toml.specs.View.{table_view};
 ghost use Rattle.i2c_boardtext.specs.BoardText.{seen, limit_fault, top_of};

@@ -1,3 +1,4 @@
+//! Why a call outside of the program failed: a read, a write, a plug, or a call on a port.
 ghost use Rattle.std.specs.Prelude.{◌≡◌};
 ghost use Rattle.i2c_outside.specs.declared.failed.ReadFail.TheVariants.{Memory as NoRoomToRead};
 ghost use Rattle.i2c_outside.specs.declared.failed.RigFail.TheVariants.{Memory as NoRoomToPlug};

@@ -1,3 +1,4 @@
+//! A shelf over the files of a file system.
 ghost use Rattle.std.specs.Prelude.{◌≡◌, ◌≤◌, false, None, map, replicate, slice_index, string_bytes};
 
 use crate::shelf::{LARGEST, PLACES};

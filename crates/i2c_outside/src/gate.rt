@@ -1,3 +1,4 @@
+//! The trait of a gate, which is told of each step of a running thread.
 use i2c_base::LockId;
 
 /// What a step did.

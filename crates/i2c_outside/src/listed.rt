@@ -1,3 +1,4 @@
+//! Whether a call is listed among those that fail.
 ghost use Rattle.std.specs.Prelude.{◌≡◌};
 ghost use Rattle.i2c_outside.specs.Sinks as spec;
 

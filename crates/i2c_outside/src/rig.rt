@@ -1,3 +1,4 @@
+//! The trait of a rig, which gives the ports of a board and takes them back.
 ghost use Rattle.std.specs.Prelude.{◌≡◌, ℕ, ◌≤◌, [], true, false, Bool, List, Err, OnOk, OnErr, IfOk, IsTrue, All, length, map, vec_len};
 ghost use Rattle.i2c_base.specs.Board.{BoardView};
 ghost use Rattle.i2c_spec.specs.Targets.{TargetState};

@@ -1,3 +1,4 @@
+//! The trait of a sink, where the output goes.
 ghost use Rattle.std.specs.Prelude.{◌≡◌, ℕ, ◌<◌, ◌≤◌, ◌++◌, Bool, List, IfOk, OnErr, IsTrue, length, take};
 ghost use Rattle.i2c_outside.specs.Causes.{HasCause};
 

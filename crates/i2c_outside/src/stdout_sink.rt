@@ -1,3 +1,4 @@
+//! A sink over the standard output.
 ghost use Rattle.std.specs.Prelude.{◌≡◌, [], false};
 
 use crate::{Failed, Sink};

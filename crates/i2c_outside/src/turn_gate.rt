@@ -1,3 +1,4 @@
+//! A gate at which two callers take turns.
 use crate::{Gate, Point};
 use std::sync::atomic::{AtomicU64, Ordering};
 use std::thread;

@@ -1,3 +1,4 @@
+//! A sink in memory, with limited room, whose writes fail where it is told.
 ghost use Rattle.std.specs.Prelude.{◌≡◌, ◌↔◌, ◌-◌, ◌<◌, ◌≤◌, ◌++◌, [], true, IfOk, OnOk, OnErr, IsOk, length, min, take};
 ghost use Rattle.i2c_outside.specs.Causes.{HasCause, counted};
 ghost use Rattle.i2c_outside.specs.Sinks.{taken_of};

@@ -1,3 +1,4 @@
+//! A port of which the listed calls fail.
 ghost use Rattle.std.specs.Prelude.{◌≡◌, ◌<◌, ℕ, true, length, IfOk};
 ghost use Rattle.i2c_base.specs.Limits.{MOST_CALLS};
 ghost use Rattle.i2c_base.specs.Phases.{MayStart, MayPut, MayGet, MayStop, MayLine, phase_started, phase_put, phase_got};

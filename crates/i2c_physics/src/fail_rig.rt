@@ -1,3 +1,4 @@
+//! A rig whose plugs, or calls on its ports, fail where it is told.
 ghost use Rattle.std.specs.Prelude.{◌≡◌, ◌≢◌, ◌↔◌, ◌⊎◌, ℕ, ◌≤◌, [], true, List, Option, Some, None, Err, OnErr, IfOk, length, map, is_some, unwrap_or};
 ghost use Rattle.std.specs.List.{range_with_len};
 ghost use Rattle.std.specs.Option.{option_map_or};

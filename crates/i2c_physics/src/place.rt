@@ -1,3 +1,4 @@
+//! Where a target stands, and whether it is joined to the wires.
 ghost use Rattle.std.specs.Prelude.{◌≡◌, IfOk};
 ghost use Rattle.std.specs.List.{list_all};
 ghost use Rattle.i2c_spec.specs.Grant.{has_address};

@@ -1,3 +1,4 @@
+//! Which targets a message has reached, and whom a call goes to.
 ghost use Rattle.std.specs.Prelude.{◌≡◌, ◌<◌, ◌≤◌, ◌+◌, ◌++◌, ◌&&◌, ◌||◌, [], ◌∷◌, not, length, if◌then◌else◌};
 ghost use Rattle.std.specs.List.{filter, list_all};
 ghost use Rattle.i2c_base.specs.Limits.{MOST_DEVICES};

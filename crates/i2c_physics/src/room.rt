@@ -1,3 +1,4 @@
+//! What a rig holds after an unplug, and the room for it.
 ghost use Rattle.std.specs.Prelude.{◌≡◌, ◌<◌, ◌≤◌, ◌+◌, ◌++◌, ℕ, true, map, length, slice_index, vec_len, vec_capacity, IfOk, IsSome, Some};
 ghost use Rattle.i2c_base.specs.Board.{BoardView};
 ghost use Rattle.i2c_spec.specs.World.{World, AreWorldsOf, devices_of};

@@ -1,3 +1,4 @@
+//! A port of the simulated world, which never fails.
 ghost use Rattle.std.specs.Prelude.{◌≡◌, ◌<◌, ℕ, Bool, true, length, slice_get, IfOk, IsSome};
 ghost use Rattle.i2c_base.specs.Limits.{MOST_CALLS};
 ghost use Rattle.i2c_base.specs.Phases.{AnswersStart, phase_started, phase_put, phase_got};

@@ -1,3 +1,4 @@
+//! The rig of the simulated world, which takes every board.
 ghost use Rattle.std.specs.Prelude.{◌≡◌, ◌≢◌, ◌↔◌, ℕ, ◌≤◌, [], true, false, List, Option, Some, None, Err, OnOk, OnErr, IfOk, IsTrue, All, length, map, replicate, is_some, unwrap_or, vec_len};
 ghost use Rattle.std.specs.List.{range_with_len};
 ghost use Rattle.i2c_base.specs.declared.port.Phase.{Phase};

@@ -1,3 +1,4 @@
+//! The world of one root: its chips and devices, and what its wires have come to.
 ghost use Rattle.std.specs.Prelude.{◌≡◌, ◌<◌, true, IsSome, map, IfOk};
 ghost use Rattle.i2c_base.specs.declared.port.PortCall.TheVariants as call;
 ghost use Rattle.i2c_spec.specs.Chips.{chip_opening};

@@ -1,3 +1,4 @@
+//! What a transfer asks for: how many steps it can take, and on which root.
 ghost use Rattle.std.specs.Prelude.{◌≡◌, ◌+◌, ◌-◌, ◌*◌, ◌^◌, ◌<◌, ◌≤◌, All, length, IfSome};
 ghost use Rattle.std.specs.List.{sum_by};
 ghost use Rattle.i2c_base.specs.Limits as limits;

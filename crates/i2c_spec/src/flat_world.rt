@@ -1,3 +1,4 @@
+//! The reply of a transfer: why it is refused, how it fails, and what its reads gave.
 ghost use Rattle.std.specs.Prelude.{◌≡◌, ◌≤◌, length};
 ghost use Rattle.std.specs.List.{list_any};
 ghost use Rattle.i2c_base.specs.Limits.{MOST_BYTES};

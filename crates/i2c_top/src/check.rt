@@ -1,3 +1,4 @@
+//! The call `check`: what a board has, or why it is refused.
 ghost use Rattle.std.specs.Prelude.{◌≡◌, ◌++◌, Some, slice_get, OnOk, IfOk, IfErr, IsTrue};
 ghost use Rattle.std.specs.Fmt.{decimal};
 ghost use Rattle.i2c_top.specs.Checks.{HasCheck, HasChecked, accepted_text};

@@ -1,3 +1,4 @@
+//! The limit on what the scripts of a run cost together.
 ghost use Rattle.std.specs.Prelude.{◌≡◌, ◌<◌, ◌≤◌, length, OnOk, IfErr};
 ghost use Rattle.i2c_base.specs.Limits.{MOST_CALLERS};
 ghost use Rattle.i2c_top.specs.Readings.{IsTooDear};

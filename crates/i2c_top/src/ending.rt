@@ -1,3 +1,4 @@
+//! How a call ends: it writes the text of a success, or the line of a refusal.
 ghost use Rattle.std.specs.Prelude.{◌≡◌, ◌⊎◌, [], IfOk, IfErr};
 ghost use Rattle.i2c_top.specs.Endings.{IsWritten, IsRefusalWritten, name_in};
 ghost use Rattle.i2c_top.specs.Forms.{asked};

@@ -1,3 +1,4 @@
+//! `top`: what the program does with the words of its command line.
 ghost use Rattle.std.specs.Prelude.{◌≡◌, ℕ, List, map, string_bytes, IsTrue};
 ghost use Rattle.i2c_top.specs.Checks.{HasChecked};
 ghost use Rattle.i2c_top.specs.Endings.{HasEnded};

@@ -1,3 +1,4 @@
+//! The lines that refusals write.
 ghost use Rattle.std.specs.Prelude.{◌≡◌, ◌++◌, OnOk, IfOk};
 ghost use Rattle.std.specs.Fmt.{decimal};
 ghost use Rattle.i2c_top.specs.Status.{table_text, placed_text, limit_text, fault_text, item_text, broken_text, board_text, refusal_text};

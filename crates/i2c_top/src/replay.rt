@@ -1,3 +1,4 @@
+//! The calls `replay` and `run`: scripts over a board, and their report.
 ghost use Rattle.std.specs.Prelude.{◌≡◌, ◌≤◌, length, map, None, Some, slice_get, string_bytes, OnOk, IfOk, IfErr, IsTrue};
 ghost use Rattle.i2c_base.specs.Limits.{MOST_CALLERS};
 ghost use Rattle.i2c_top.specs.Endings.{CameToSuccess, CameToRefusal, HasEnded};

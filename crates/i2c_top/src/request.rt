@@ -1,3 +1,4 @@
+//! What the words of a command line ask for.
 ghost use Rattle.std.specs.Prelude.{◌≡◌, ◌<◌, ◌≤◌, length, drop, map, string_bytes};
 ghost use Rattle.std.specs.List.{list_all};
 ghost use Rattle.tools.specs.Readers.{word_at};

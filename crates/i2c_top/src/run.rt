@@ -1,3 +1,4 @@
+//! Scripts over the ports of a rig, which is plugged before them and unplugged after.
 ghost use Rattle.std.specs.Prelude.{◌≡◌, ◌≤◌, ◌⊎◌, ℕ, List, [], false, true, Option, None, Err, IfOk, OnOk, IfErr, OnErr, IsTrue, length, map, vec_capacity};
 ghost use Rattle.std.specs.Option.{option_map};
 ghost use Rattle.i2c_base.specs.Limits.{MOST_CALLERS};

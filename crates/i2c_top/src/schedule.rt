@@ -1,3 +1,4 @@
+//! The schedule, read as the callers that its words name.
 ghost use Rattle.std.specs.Prelude.{◌≡◌, ◌<◌, ◌≤◌, ◌∷◌, true, length, All, Some, None, Ok, OnOk, OnErr, IfOk, IfErr, IfSome};
 ghost use Rattle.i2c_top.specs.Schedules.{is_white, caller_named, WordsAreNumbers, caller_at, schedule_read, MOST_ENTRIES, IsScheduleFault};
 ghost use Rattle.i2c_top.specs.declared.schedule.ScheduleFault.TheVariants as schedule_fault;

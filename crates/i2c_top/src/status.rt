@@ -1,3 +1,4 @@
+//! How a call of the program ended, and its exit status.
 ghost use Rattle.std.specs.Prelude.{◌≡◌};
 ghost use Rattle.i2c_top.specs.Status.{code_of};
 ghost use Rattle.i2c_top.specs.declared.status.Status.TheVariants.{Memory as NoRoomToRun};

@@ -1,3 +1,4 @@
+//! The pieces of work of a walk: what each sends or sets, and how it goes on.
 ghost use Rattle.std.specs.Prelude.{◌≡◌, ◌<◌, ◌^◌, ◌==◌, ℕ, List, length};
 ghost use Rattle.i2c_base.specs.Limits.{MOST_CHANNELS};
 ghost use Rattle.i2c_spec.specs.Chips.{select_value};

@@ -1,3 +1,4 @@
+//! `Packed`: heads, and the bytes of all of them in one store.
 ghost use Rattle.std.specs.Prelude.{◌≡◌, ℕ, ◌+◌, ◌-◌, ◌<◌, ◌≤◌, ◌^◌, ◌↔◌, List, [], ◌∷◌, ◌++◌, length, slice_index_or, IsTrue, IfOk, OnOk, vec_len, vec_capacity};
 
 use std::alloc::{AllocError, Global};

@@ -1,3 +1,4 @@
+//! The packet error code of bytes, from byte to byte.
 ghost use Rattle.std.specs.Prelude.{◌≡◌};
 ghost use Rattle.smb_pec.specs.LongDivision.{pec, pec_with, CodeIsByte, CodeRunsAlong};
 

@@ -1,3 +1,4 @@
+//! An EEPROM: its pages, its pointer, and the bytes of a write that wait for its stop.
 ghost use Rattle.std.specs.Prelude.{◌≡◌, ◌≤◌, All, IfOk, length, replicate};
 ghost use Rattle.i2c_base.specs.declared.event.Event.TheVariants as event;
 ghost use Rattle.i2c_spec.specs.Plain.{IsPlainRun};

@@ -1,3 +1,4 @@
+//! The chip of a mux, or the line of a gpio mux: which of its channels are open.
 ghost use Rattle.std.specs.Prelude.{◌≡◌, ◌≤◌, ◌%◌, ◌^◌};
 ghost use Rattle.i2c_spec.specs.Chips.{chip_opening, chip_sends, is_open, at_level, looked, stopped, arbitrated, bit_of};
 

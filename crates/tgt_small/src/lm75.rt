@@ -1,3 +1,4 @@
+//! The temperature sensor LM75: four registers behind a pointer.
 ghost use Rattle.std.specs.Prelude.{◌≡◌, ◌%◌, ◌<◌, ◌^◌};
 ghost use Rattle.i2c_base.specs.declared.event.Event.TheVariants as event;
 ghost use Rattle.i2c_spec.specs.Lm75.{

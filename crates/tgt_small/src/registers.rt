@@ -1,3 +1,4 @@
+//! The register device: 256 registers behind a pointer.
 ghost use Rattle.std.specs.Prelude.{◌≡◌, All};
 ghost use Rattle.i2c_spec.specs.Plain.{IsPlainRun};
 ghost use Rattle.i2c_spec.specs.Regs.{regs_table, regs_after, regs_answer, regs_opening, regs_sends};

@@ -1,3 +1,4 @@
+//! The SMBus device: data behind a command, with an error code.
 ghost use Rattle.std.specs.Prelude.{◌≡◌, ◌<◌, ◌≤◌, All, false, length};
 ghost use Rattle.i2c_base.specs.declared.event.Event.TheVariants as event;
 ghost use Rattle.i2c_spec.specs.Plain.{IsPlainRun};
