@@ -42,7 +42,7 @@ pub fn pass<C: Caller>(
     seat.number
 }
 
-/// .. behind a lock that is freed. Where that ends its walk, its reply is handed over, and the next transfer is loaded.
+/// Advances past a freed lock; at the walk's end delivers the reply and loads the next transfer.
 pub fn pass_free<P: Port, C: Caller>(
     seats: &mut Vec<Seat<C>>,
     place: usize,

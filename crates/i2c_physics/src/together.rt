@@ -91,7 +91,7 @@ pub fn tell<T: Target>(
     together
 }
 
-/// Tells of a start those that it calls, and those others that it matters to. What those that are called answer.
+/// Delivers a start to all that is addressed or still started; gives the wired AND of the addressed ones' answers.
 pub fn begin<T: Target>(targets: &mut [T], reach: &mut Reach, reading: bool) -> Together
     requires few { length targets.old ≤ MOST_DEVICES }
     requires started { AreRising 0 (length targets.old) reach.old.started.items }
