@@ -1,15 +1,16 @@
 -- The step of a walk that an action tells.
-use Rattle.std.proofs.Common.{◌≡◌, ℕ, Option, Some, None, refl, sym}
+use Rattle.std.proofs.Common.{◌≡◌, ℕ, Option, Some, None, refl, subst}
 use Rattle.i2c_base.specs.declared.ids.LockId.{LockId}
 use Rattle.i2c_base.specs.declared.errno.Errno.{Errno}
-use Rattle.bus_spec.specs.Walk.{Job, Act, Take, Free, Send, Shift, Settle, job_bus, job_purpose, part_of, parts_of, line_mux, line_level}
-use Rattle.mux_plan.specs.Plans.{action_of, control_of}
+use Rattle.bus_spec.specs.Walk.{Job, Act, Take, Free, Send, Shift, Settle, line_mux, line_level}
+use Rattle.mux_plan.specs.Plans.{action_of, next_msg}
 use Rattle.mux_plan.specs.declared.task.Action.{Action}
 use Rattle.mux_plan.specs.declared.task.Action.TheVariants as action
-use Rattle.core_laws.specs.Sends.{Sending, IsMessageOf}
+use Rattle.mux_plan.specs.declared.task.NextMsg.{NextMsg}
+use Rattle.core_laws.specs.Sends.{IsMessageOf}
 
 abbrev sending : Job → ℕ → Action
-sending job left = action.Send (job_bus job) (job_purpose job) (part_of job left) (parts_of job) (control_of job left)
+sending job left = action.Send (next_msg job left)
 
 pub take-of : (o : Option Act) (l : LockId) → action_of o ≡ action.Take l → o ≡ Some (Take l)
 take-of None l e = absurd (let f : action.Done ≡ action.Take l = e in cc)
@@ -44,26 +45,21 @@ line-of (Some (Shift job)) m level e = (let f : action.Line (line_mux job) (line
 line-of (Some (Settle w)) m level e = absurd (let f : action.Settle w ≡ action.Line m level = e in cc)
 
 -- the message that comes next
-pub send-of : (o : Option Act) (next : Sending) → action_of o ≡ action.Send next.bus next.purpose next.part next.parts next.control
+pub send-of : (o : Option Act) (next : NextMsg) → action_of o ≡ action.Send next
     → (job : Job) × (left : ℕ) × (o ≡ Some (Send job left)) × IsMessageOf job left next
-send-of None n e = absurd (let f : action.Done ≡ action.Send n.bus n.purpose n.part n.parts n.control = e in cc)
-send-of (Some (Take k)) n e = absurd (let f : action.Take k ≡ action.Send n.bus n.purpose n.part n.parts n.control = e in cc)
-send-of (Some (Free k)) n e = absurd (let f : action.Free k ≡ action.Send n.bus n.purpose n.part n.parts n.control = e in cc)
+send-of None n e = absurd (let f : action.Done ≡ action.Send n = e in cc)
+send-of (Some (Take k)) n e = absurd (let f : action.Take k ≡ action.Send n = e in cc)
+send-of (Some (Free k)) n e = absurd (let f : action.Free k ≡ action.Send n = e in cc)
 send-of (Some (Send job left)) n e =
-    let f : sending job left ≡ action.Send n.bus n.purpose n.part n.parts n.control = e in (
+    let f : sending job left ≡ action.Send n = e in
+    let is : next_msg job left ≡ n = cc in (
       job,
       left,
       refl,
-      record {
-        on_bus = (let g : job_bus job ≡ n.bus = cc in sym g);
-        for_purpose = (let g : job_purpose job ≡ n.purpose = cc in sym g);
-        as_part = (let g : part_of job left ≡ n.part = cc in sym g);
-        of_parts = (let g : parts_of job ≡ n.parts = cc in sym g);
-        with_byte = (let g : control_of job left ≡ n.control = cc in sym g);
-      },
+      subst (λ (m : NextMsg). IsMessageOf job left m) is (record { on_bus = refl; for_purpose = refl; as_part = refl; of_parts = refl; with_byte = refl }),
     )
-send-of (Some (Shift job)) n e = absurd (let f : action.Line (line_mux job) (line_level job) ≡ action.Send n.bus n.purpose n.part n.parts n.control = e in cc)
-send-of (Some (Settle w)) n e = absurd (let f : action.Settle w ≡ action.Send n.bus n.purpose n.part n.parts n.control = e in cc)
+send-of (Some (Shift job)) n e = absurd (let f : action.Line (line_mux job) (line_level job) ≡ action.Send n = e in cc)
+send-of (Some (Settle w)) n e = absurd (let f : action.Settle w ≡ action.Send n = e in cc)
 
 -- where an action is told there is a step, and where none is told there is none
 pub some-act : (o : Option Act) → (action_of o ≡ action.Done → ⊥) → (act : Act) × (o ≡ Some act)

@@ -1,9 +1,9 @@
 -- A message of the caller at a place: it may be sent, heard and settled.
-use Rattle.std.proofs.Common.{◌≡◌, ◌⊎◌, ℕ, suc, ◌+◌, ◌<◌, ◌≤◌, Bool, true, false, List, [], ◌∷◌, length, set, take, Option, Some, refl, sym, ◌∙◌, ap, subst, arith, inl, inr}
+use Rattle.std.proofs.Common.{◌≡◌, ◌⊎◌, ℕ, suc, ◌+◌, ◌<◌, ◌≤◌, Bool, true, false, List, [], ◌∷◌, length, get_or, set, take, Option, Some, refl, sym, ◌∙◌, ap, subst, arith, inl, inr}
 use Rattle.std.specs.Prelude.{slice_get, nat_lt, ◌&&◌}
 use Rattle.std.specs.List.{AllByRecursion}
 use Rattle.std.proofs.lemmas.Bool.{lt-ltb, ltb-true}
-use Rattle.std.proofs.lemmas.List.{length-set}
+use Rattle.std.proofs.lemmas.List.{length-set, map-set}
 use Rattle.i2c_base.specs.declared.caller.Caller.{Ghosts as CallerGhosts}
 use Rattle.i2c_base.specs.declared.entry.End.TheVariants as end
 use Rattle.i2c_base.specs.declared.entry.Purpose.{Purpose}
@@ -13,6 +13,7 @@ use Rattle.i2c_base.specs.declared.ids.LockId.TheVariants as lock
 use Rattle.i2c_base.specs.declared.port.Phase.TheVariants.{Idle}
 use Rattle.i2c_base.specs.Board.{BoardView}
 use Rattle.i2c_base.specs.Limits.{MOST_CALLS}
+use Rattle.i2c_base.specs.Transfer.{IsTransfer}
 use Rattle.i2c_outside.specs.declared.port.Port.{Ghosts as PortGhosts}
 use Rattle.i2c_spec.specs.Flat.{block_limit}
 use Rattle.i2c_spec.specs.Messages.{MessageView, messages_of}
@@ -21,13 +22,13 @@ use Rattle.bus_spec.specs.Grammar.{is_over, first_note, seen}
 use Rattle.i2c_base.specs.Fitting.{FitsReads}
 use Rattle.bus_spec.specs.Walk.{Job, Call, Select, Clear, Send, Settle, Mark, job_purpose, part_of}
 use Rattle.bus_spec.specs.Walk as walk
-use Rattle.bus_laws.specs.Costs.{bytes_most}
+use Rattle.i2c_spec.specs.Messages.{bytes_most}
 use Rattle.bus_laws.specs.Holds.{MarksHeld, OwnHeld}
 use Rattle.bus_laws.specs.Jobs.{IsJobOf}
 use Rattle.bus_laws.specs.Runs.{IsCall, InLocks}
-use Rattle.bus_message.specs.Sockets.{socket_of}
-use Rattle.bus_message.specs.declared.sending.Sent.{Sent}
-use Rattle.bus_message.proofs.SocketLemmas.{call-through}
+use Rattle.bus_message.specs.Ports.{socket_of, sockets_of}
+use Rattle.bus_message.specs.declared.message.MsgResult.{MsgResult}
+use Rattle.bus_message.proofs.PortLemmas.{call-through, socket-here}
 use Rattle.mux_plan.proofs.Dues.{tells-after, on-after}
 use Rattle.i2c_spec.proofs.MessageLemmas.{length-messages}
 use Rattle.mux_plan.specs.declared.marks.Due.{Due}
@@ -36,8 +37,11 @@ use Rattle.mux_plan.specs.Plans.{SeenView, slots_of}
 use Rattle.seg_locks.specs.Locks.{LocksView, holder_in, IsLockIn}
 use Rattle.core_laws.specs.Core.{Place, Run, Whole, IsSent, IsGoing, has_reply}
 use Rattle.core_laws.specs.Owed.{message_most}
-use Rattle.core_laws.specs.Sends.{Sending, IsMessageOf, message_for}
-use Rattle.core_laws.specs.Spots.{seen_of, Socket}
+use Rattle.mux_plan.specs.declared.task.NextMsg.{NextMsg}
+use Rattle.core_laws.specs.Sends.{IsMessageOf}
+use Rattle.bus_message.specs.Sends.{NextSent, message_for}
+use Rattle.core_laws.specs.Spots.{seen_of}
+use Rattle.bus_message.specs.Ports.{Socket}
 use Rattle.core_laws.specs.Wants.{WantsIn}
 use Rattle.core_laws.specs.Steps.{next_of, AreMarked, KeepsPort}
 use Rattle.core_laws.proofs.Core.{lone_act, not_over, locks-here, owes-here, going-on, stands-here}
@@ -129,7 +133,7 @@ module _ {P C S : Type 0} (g : PortGhosts P) (c : CallerGhosts C S) (x : CorePar
     port = (let f = map_from (λ (q : ℕ × P). q.0) x.ports.items s.port (root_of b s.transfer.bus) (its.plugged goes low) in
         (socket_of g f.0, map_at (socket_of g) x.ports.items s.port f.0 f.1, f.2))
 
-  module _ (job : Job) (more : ℕ) (next : Sending) (first : next_of x.locks (walk_left b s) ≡ Some (Send job more)) (of : IsMessageOf job more next) where
+  module _ (job : Job) (more : ℕ) (next : NextMsg) (first : next_of x.locks (walk_left b s) ≡ Some (Send job more)) (of : IsMessageOf job more next) where
     pub goes : is_over (walk_left b s) ≡ false
     goes = not_over (slots_of (seen_of x.locks)) (walk_left b s) (Send job more) first
 
@@ -161,11 +165,11 @@ module _ {P C S : Type 0} (g : PortGhosts P) (c : CallerGhosts C S) (x : CorePar
     may-speak =
         let y = port goes on-bus in
         record {
-          may = λ grant. record {
-            socket = y.0;
-            here = y.1;
+          socket = y.0;
+          here = y.1;
+          may = record {
             start = port-start run whole kept.kept s.port y.0 y.1;
-            room = λ tell addr.
+            room = λ addr tell.
                 let room : length y.0.log + (message_most b job more + 2) ≤ MOST_CALLS = log-message run whole kept.kept place p at job more first tell s.port y.0 y.1 in
                 let same = most addr in
                 omega (arith, room, same);
@@ -179,9 +183,9 @@ module _ {P C S : Type 0} (g : PortGhosts P) (c : CallerGhosts C S) (x : CorePar
     message-room = room-one run whole kept.kept place p at (Send job more) first
 
     -- IT WAS SENT
-    module _ (sockets2 : List Socket) (bytes : List ℕ) (sent : Sent) (spoken : HasSpoken b g.tells next whole.sockets sockets2 bytes sent s) where
+    module _ (sockets2 : List Socket) (bytes : List ℕ) (sent : MsgResult) (spoken : HasSpoken b g.tells next whole.sockets sockets2 bytes sent s) where
       pub few : length bytes ≤ message_most b job more
-      few = subst (λ (n : ℕ). length bytes ≤ n) (most sent.addr) spoken.sent_on.spoke.few
+      few = subst (λ (n : ℕ). length bytes ≤ n) (most sent.addr) spoken.sent.spoke.few
 
       pub message-bytes : length bytes ≤ x.journal.room_bytes
       message-bytes = bytes-message run whole kept.kept place p at job more first bytes few
@@ -195,11 +199,11 @@ module _ {P C S : Type 0} (g : PortGhosts P) (c : CallerGhosts C S) (x : CorePar
           let same : spoken.before ≡ y.0 = (let f : Some spoken.before ≡ Some y.0 = sym spoken.here ∙ y.1 in cc) in
           record {
             rooted = ap (λ (z : Socket). z.root) same ∙ y.2 ∙ sym job-of.rooted;
-            root = spoken.sent_on.spoke.root;
-            start = spoken.sent_on.spoke.start;
-            idle = subst (λ (l : Bool). (spoken.after.phase ≡ Idle) ⊎ ((l ≡ false) × (sent.end ≡ end.Ok))) (send-last run whole kept.kept place p at job more first next of) spoken.sent_on.spoke.idle;
+            root = spoken.sent.spoke.root;
+            start = spoken.sent.spoke.start;
+            idle = subst (λ (l : Bool). (spoken.after.phase ≡ Idle) ⊎ ((l ≡ false) × (sent.end ≡ end.Ok))) (send-last run whole kept.kept place p at job more first next of) spoken.sent.spoke.idle;
             few = few;
-            grows = λ tell. subst (λ (n : ℕ). length spoken.after.log ≤ length spoken.before.log + (n + 2)) (most sent.addr) (spoken.sent_on.spoke.grows tell);
+            grows = λ tell. subst (λ (n : ℕ). length spoken.after.log ≤ length spoken.before.log + (n + 2)) (most sent.addr) (spoken.sent.spoke.grows tell);
           }
 
       marked : AreMarked b p.tree x.locks (walk.Sent sent.end bytes) words2
@@ -219,8 +223,8 @@ module _ {P C S : Type 0} (g : PortGhosts P) (c : CallerGhosts C S) (x : CorePar
         of = of;
         port = spoken.here;
         keeps = keeps;
-        gives = spoken.gives;
-        shows = λ tell. record { to_addr = spoken.addr; chip = spoken.chip; has = spoken.sent_on.sent tell };
+        gives = record { direction = spoken.sent.reading; gives = spoken.sent.gives };
+        shows = λ tell. record { to_addr = spoken.sent.addr; chip = spoken.sent.chip; has = spoken.sent.has tell };
         marked = marked;
       }
 
@@ -250,5 +254,19 @@ module _ {P C S : Type 0} (g : PortGhosts P) (c : CallerGhosts C S) (x : CorePar
         more = λ through. (call-left (call-through next.purpose sent.end through).0).1;
         room = λ call reads.
             reads-room s.transfer s.sent (block_limit b) s.replies.got bytes (spoken.whole call) (call-left call).1 (omega arith) (partway (call-left call).0)
-            (subst (λ (y : Purpose). length bytes ≤ bytes_most (block_limit b) (message_for s.transfer s.sent y next.control sent.addr)) call spoken.sent_on.spoke.few);
+            (subst (λ (y : Purpose). length bytes ≤ bytes_most (block_limit b) (message_for s.transfer s.sent y next.control sent.addr)) call spoken.sent.spoke.few);
       }
+
+-- what was sent on the port that was read at the place of a seat's root
+pub spoken-at : {P C : Type 0} (g : PortGhosts P) (b : BoardView) (next : NextMsg) (ports : List (ℕ × P)) (s : Seat C) (y : Socket) → slice_get (sockets_of g ports) s.port ≡ Some y
+    → (q : ℕ × P) → q ≡ get_or ports s.port q → (now : P) (bytes : List ℕ) (r : MsgResult) → NextSent b g.tells s.transfer s.sent next (socket_of g q) (socket_of g (q.0, now)) bytes r
+    → (next.purpose ≡ purpose.Call → IsTransfer s.transfer.msgs s.transfer.out) → HasSpoken b g.tells next (sockets_of g ports) (sockets_of g (set ports s.port (q.0, now))) bytes r s
+spoken-at g b next ports s y here q read now bytes r sent whole =
+    record {
+      before = socket_of g q;
+      after = socket_of g (q.0, now);
+      here = socket-here g ports s.port q read y here;
+      set_is = map-set (socket_of g) ports s.port (q.0, now);
+      sent = sent;
+      whole = whole;
+    }

@@ -22,32 +22,34 @@ use Rattle.bus_spec.specs.Stepwise.{reply_by}
 use Rattle.bus_spec.specs.Walk.{Job, Call, Send, Settle, Passed, WalkTree}
 use Rattle.bus_spec.specs.Walk as walk
 use Rattle.bus_laws.proofs.walk.Next.{quiet-next}
-use Rattle.bus_message.specs.Sockets.{sockets_of}
-use Rattle.bus_message.specs.declared.sending.Sent.{Sent}
+use Rattle.bus_message.specs.Ports.{sockets_of}
+use Rattle.bus_message.specs.declared.message.MsgResult.{MsgResult}
 use Rattle.mux_plan.specs.Plans.{SeenView, slots_of}
 use Rattle.seg_locks.specs.Locks.{LocksView}
 use Rattle.core_laws.specs.Behind.{message_entry, spoken}
 use Rattle.core_laws.specs.Core.{Place, Run, Whole, has_reply}
 use Rattle.core_laws.specs.Seats.{IsLeft, IsDecided}
-use Rattle.core_laws.specs.Sends.{Sending, IsMessageOf, gone_after}
-use Rattle.core_laws.specs.Spots.{turned_to, Socket}
+use Rattle.mux_plan.specs.declared.task.NextMsg.{NextMsg}
+use Rattle.core_laws.specs.Sends.{IsMessageOf, gone_after}
+use Rattle.core_laws.specs.Spots.{turned_to}
+use Rattle.bus_message.specs.Ports.{Socket}
 use Rattle.core_laws.specs.Steps.{next_of, behind_of}
 use Rattle.core_laws.proofs.Core.{locks-here, owes-here, not_over}
 use Rattle.core_laws.proofs.Laws.{stands-here, sent-leaves, core-message, core-settled, room-message, bytes-settle}
 use Rattle.bus_core.specs.Kept.{roots_of, IsSeated, run_of, whole_of, IsKept, HasStepped}
 use Rattle.bus_core.specs.Places.{walk_left, place_of}
-use Rattle.bus_core.specs.Seats.{HasSeat, Reseated, HasSpoken, HasHeard, MaySettle, IsSettledIn}
+use Rattle.bus_core.specs.Seats.{HasSpoken, HasHeard, MaySettle, IsSettledIn}
 use Rattle.bus_core.specs.declared.parts.CoreParts.{CoreParts}
 use Rattle.bus_core.specs.declared.seat.Seat.{Seat}
 use Rattle.bus_core.proofs.Kept.{fair, place-here, seated-here, kept-whole, stepped-one}
 use Rattle.bus_core.proofs.Converse.{goes, on-bus, calls, call-left, few, words2, is-sent}
 use Rattle.bus_core.proofs.Heard.{heard-place, heard-got, heard-seated, settle-first, settled-place, settled-seated}
-use Rattle.bus_core.proofs.Stepped.{roots-stay, seat-is, seat-now, set-at, set-set, stepped-two}
+use Rattle.bus_core.proofs.Stepped.{roots-stay, stepped-two}
 use Rattle.i2c_base.specs.Need.{bytes_given}
 
 module _ {P C S : Type 0} (g : PortGhosts P) (c : CallerGhosts C S) (x : CoreParts P C) (kept : IsKept g c x) (place : ℕ) (s : Seat C) (here : slice_get x.seats.items place ≡ Some s)
-    (job : Job) (more : ℕ) (next : Sending) (first : next_of x.locks (walk_left x.board.now s) ≡ Some (Send job more)) (of : IsMessageOf job more next)
-    (sockets2 : List Socket) (bytes : List ℕ) (sent : Sent) (said : HasSpoken x.board.now g.tells next (sockets_of g x.ports.items) sockets2 bytes sent s)
+    (job : Job) (more : ℕ) (next : NextMsg) (first : next_of x.locks (walk_left x.board.now s) ≡ Some (Send job more)) (of : IsMessageOf job more next)
+    (sockets2 : List Socket) (bytes : List ℕ) (sent : MsgResult) (said : HasSpoken x.board.now g.tells next (sockets_of g x.ports.items) sockets2 bytes sent s)
     (t : Seat C) (heard : HasHeard x.board.now x.locks next sent.reading bytes sent.end s t) where
   abbrev run : Run
   run = run_of g c x
@@ -127,7 +129,7 @@ module _ {P C S : Type 0} (g : PortGhosts P) (c : CallerGhosts C S) (x : CorePar
       sockets = ports ∙ said.set_is
 
       roots : roots_of new.ports.items ≡ roots_of x.ports.items
-      roots = roots-stay g x.ports.items new.ports.items s.port said.before said.after said.here sockets said.sent_on.spoke.root
+      roots = roots-stay g x.ports.items new.ports.items s.port said.before said.after said.here sockets said.sent.spoke.root
 
       -- NO SETTLE came
       pub conversed-quiet : new.seats.items ≡ set x.seats.items place t → new.journal ≡ j → ((verdict : Option Errno) → next_of locks2 (walk_left x.board.now t) ≡ Some (Settle verdict) → ⊥)
@@ -187,19 +189,14 @@ module _ {P C S : Type 0} (g : PortGhosts P) (c : CallerGhosts C S) (x : CorePar
               )
 
       -- EITHER, as it is told
-      module _ (seats1 : List (Seat C)) (seats1_is : seats1 ≡ set x.seats.items place t) where
-        here1 : slice_get seats1 place ≡ Some t
-        here1 = ap (λ (ys : List (Seat C)). slice_get ys place) seats1_is ∙ set-at x.seats.items place s t here
-
-        pub conversed : (came : Bool) → (came ≡ true → (verdict : Option Errno) × Reseated (IsSettledIn x.board.now new.locks verdict j new.journal) seats1 new.seats.items place)
-            → (came ≡ false → HasSeat (λ y. (verdict : Option Errno) → next_of new.locks (walk_left x.board.now y) ≡ Some (Settle verdict) → ⊥) seats1 place)
-            → (came ≡ false → (new.seats.items ≡ seats1) × (new.journal ≡ j)) → IsKept g c new × HasStepped g c place x new
-        conversed true made none stays =
-            let m = made refl in
-            conversed-settled m.0 m.1.after (m.1.set_is ∙ ap (λ (ys : List (Seat C)). set ys place m.1.after) seats1_is ∙ set-set x.seats.items place t m.1.after)
-            (subst (λ (v : LocksView). IsSettledIn x.board.now v m.0 j new.journal t m.1.after) locks (seat-now (IsSettledIn x.board.now new.locks m.0 j new.journal) seats1 new.seats.items place t here1 m.1))
-        conversed false made none stays =
-            let st = stays refl in
-            conversed-quiet (st.0 ∙ seats1_is) st.1
-            (λ verdict comes. seat-is (λ (y : Seat C). (w : Option Errno) → next_of new.locks (walk_left x.board.now y) ≡ Some (Settle w) → ⊥) seats1 place t here1 (none refl) verdict
-            (subst (λ (v : LocksView). next_of v (walk_left x.board.now t) ≡ Some (Settle verdict)) (sym locks) comes))
+      pub conversed : (u : Seat C) → new.seats.items ≡ set x.seats.items place u → (came : Bool)
+          → (came ≡ true → (verdict : Option Errno) × IsSettledIn x.board.now new.locks verdict j new.journal t u)
+          → (came ≡ false → (verdict : Option Errno) → next_of new.locks (walk_left x.board.now t) ≡ Some (Settle verdict) → ⊥)
+          → (came ≡ false → (u ≡ t) × (new.journal ≡ j)) → IsKept g c new × HasStepped g c place x new
+      conversed u seats true made none stays =
+          let m = made refl in
+          conversed-settled m.0 u seats (subst (λ (v : LocksView). IsSettledIn x.board.now v m.0 j new.journal t u) locks m.1)
+      conversed u seats false made none stays =
+          let st = stays refl in
+          conversed-quiet (seats ∙ ap (set x.seats.items place) st.0) st.1
+          (λ verdict comes. none refl verdict (subst (λ (v : LocksView). next_of v (walk_left x.board.now t) ≡ Some (Settle verdict)) (sym locks) comes))

@@ -20,11 +20,13 @@ use Rattle.bus_spec.specs.Readings.{message_cut}
 use Rattle.bus_spec.specs.Stepwise.{reply_by}
 use Rattle.bus_spec.specs.Walk.{Job, Call, Select, Clear, Settle, Passed, ActOutcome, WalkTree, Ends, Look, Then, job_purpose}
 use Rattle.bus_spec.specs.Walk as walk
-use Rattle.bus_message.proofs.SocketLemmas.{call-through}
+use Rattle.bus_message.proofs.PortLemmas.{call-through}
 use Rattle.mux_plan.specs.Plans.{CourseView}
 use Rattle.seg_locks.specs.Locks.{LocksView}
 use Rattle.core_laws.specs.Core.{Place, has_reply}
-use Rattle.core_laws.specs.Sends.{Sending, IsMessageOf, is_call_through, gone_after}
+use Rattle.mux_plan.specs.declared.task.NextMsg.{NextMsg}
+use Rattle.core_laws.specs.Sends.{IsMessageOf, gone_after}
+use Rattle.mux_plan.specs.Plans.{is_call_through}
 use Rattle.core_laws.specs.Steps.{next_of, behind_of}
 use Rattle.bus_core.specs.Kept.{IsSeated}
 use Rattle.bus_core.specs.Places.{walk_left, owed_by, got_by, place_of}
@@ -72,7 +74,7 @@ place_with c b s t q is owed w sent got o tr se go =
 
 module _ {C S : Type 0} (c : CallerGhosts C S) (b : BoardView) (v : LocksView) (roots : List ℕ) where
   -- A MESSAGE
-  module _ (job : Job) (more : ℕ) (next : Sending) (of : IsMessageOf job more next) (reading : Bool) (bytes : List ℕ) (e : End) (s t : Seat C) (heard : HasHeard b v next reading bytes e s t)
+  module _ (job : Job) (more : ℕ) (next : NextMsg) (of : IsMessageOf job more next) (reading : Bool) (bytes : List ℕ) (e : End) (s t : Seat C) (heard : HasHeard b v next reading bytes e s t)
       (none : (bus : ℕ) (ms : List MessageView) → job ≡ Call bus ms → has_reply (owed_by s.decided s.replies) ≡ false) where
     replies : t.replies ≡ record s.replies { got = got_heard (job_purpose job) reading bytes s.replies.got }
     replies = heard.got ∙ ap (λ (y : Purpose). record s.replies { got = got_heard y reading bytes s.replies.got }) of.for_purpose

@@ -18,13 +18,13 @@ use Rattle.bus_spec.specs.Schedule.{is_settle}
 use Rattle.bus_spec.specs.Readings.{caller_of}
 use Rattle.bus_spec.specs.Stepwise.{IsStepwise}
 use Rattle.bus_laws.proofs.Laws.{lines-locked}
-use Rattle.bus_message.specs.Sockets.{sockets_of}
+use Rattle.bus_message.specs.Ports.{sockets_of}
 use Rattle.core_laws.specs.Core.{Place, Run, IsFairRun, Whole, CoreKept, numbers_of}
 use Rattle.std.proofs.lemmas.List.{map-set}
 use Rattle.std.proofs.lemmas.List.{length-append}
 use Rattle.core_laws.proofs.Core.{set_same, at_set}
 use Rattle.core_laws.proofs.Laws.{turn-one}
-use Rattle.core_laws.specs.Spots.{Socket}
+use Rattle.bus_message.specs.Ports.{Socket}
 use Rattle.seg_locks.specs.Locks.{LocksView}
 use Rattle.bus_core.specs.Kept.{roots_of, IsSeated, asks_in, left_in, run_of, whole_of, IsKept, HasStepped}
 use Rattle.bus_core.specs.Opening.{IsSetUp, HasRoot}

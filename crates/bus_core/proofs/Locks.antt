@@ -15,7 +15,7 @@ use Rattle.i2c_base.specs.Transfer.{TransferView}
 use Rattle.bus_spec.specs.Grammar.{walk_for}
 use Rattle.bus_spec.specs.Walk.{Act, Take, Free, Passed, WalkTree, Ends}
 use Rattle.core_laws.proofs.Core.{locks-here, owes-here}
-use Rattle.bus_message.specs.Sockets.{sockets_of}
+use Rattle.bus_message.specs.Ports.{sockets_of}
 use Rattle.core_laws.specs.Behind.{with_place, passed, begun_with}
 use Rattle.core_laws.specs.Core.{Place, Run, Whole, CoreKept, has_reply}
 use Rattle.core_laws.specs.Steps.{next_of, behind_of}
@@ -25,7 +25,7 @@ use Rattle.bus_core.specs.Kept.{roots_of, IsSeated, run_of, whole_of, IsKept, Co
 use Rattle.bus_core.specs.Places.{walk_left, owed_by, got_by, place_of}
 use Rattle.bus_core.specs.Replies.{RepliesView, reply_decided}
 use Rattle.bus_core.specs.declared.replies.Decided.{Decided}
-use Rattle.bus_core.specs.Seats.{HasSeat, WentOn, MayEnd, HasFreed, HasEnded}
+use Rattle.bus_core.specs.Seats.{WentOn, MayEnd, HasFreed, HasEnded}
 use Rattle.bus_core.specs.declared.parts.CoreParts.{CoreParts}
 use Rattle.bus_core.specs.declared.seat.Seat.{Seat}
 use Rattle.bus_core.proofs.Reseating.{seated_on}
@@ -35,9 +35,6 @@ use Rattle.bus_laws.proofs.past.StandsFacts.{over_ends}
 -- who stands at a place is one
 pub same_seat : {C : Type 0} (seats : List (Seat C)) (place : ℕ) (s t : Seat C) → slice_get seats place ≡ Some s → slice_get seats place ≡ Some t → s ≡ t
 same_seat seats place s t at to = (let f : Some s ≡ Some t = sym at ∙ to in cc)
-
-pub seat_so : {C : Type 0} (Q : Seat C → Type 0) (seats : List (Seat C)) (place : ℕ) (s : Seat C) → slice_get seats place ≡ Some s → HasSeat Q seats place → Q s
-seat_so Q seats place s at so = subst Q (same_seat seats place so.seat s so.here at) so.is_so
 
 -- a lock that nobody has is given
 pub is_given : {A B : Type 0} (Q : Type 0) (R : B → Type 0) (r : Result A B) → OnOk r Q → IfErr r R → ((h : B) → R h → ⊥) → Q
@@ -132,6 +129,14 @@ module _ {P C S : Type 0} (g : PortGhosts P) (c : CallerGhosts C S) (x : CorePar
       fits = λ r owed. (sym (asks-here g c x kept place s here (c.taken s.caller)) ∙ going-asks run whole kept.kept place p at (Free l) first, going-fits run whole kept.kept place p at (Free l) first r owed);
       wired = λ rs t. wired-here g c x kept place s here rs t;
     }
+
+    -- its number stays, whether its walk goes on or has ended
+    pub freed-number : (t : Seat C) → HasFreed c x.board.now x.locks (roots_of x.ports.items) s t → t.number ≡ s.number
+    freed-number t freed = by (is_over (behind_of x.locks (walk_left x.board.now s) Passed)) refl
+      where
+        by : (over : Bool) → is_over (behind_of x.locks (walk_left x.board.now s) Passed) ≡ over → t.number ≡ s.number
+        by true ends = (let owed = one-owed s.decided s.replies (end-owes run whole kept.kept place p at l first ends) in (freed.ended ends owed.0 owed.1).number)
+        by false goes = ap (λ (y : Seat C). y.number) (freed.on goes).same
 
     module _ (new : CoreParts P C) (t : Seat C) (same_board : new.board ≡ x.board) (seats : new.seats.items ≡ set x.seats.items place t)
         (freed : HasFreed c x.board.now x.locks (roots_of x.ports.items) s t) (locks : new.locks ≡ with_holder x.locks l None) (ports : new.ports ≡ x.ports)

@@ -17,14 +17,14 @@ use Rattle.i2c_spec.specs.Plain.{IsPlainBoard}
 use Rattle.i2c_spec.specs.Rules.{MeetsRules}
 use Rattle.i2c_spec.specs.World.{opening_world}
 use Rattle.bus_journal.specs.View.{JournalView}
-use Rattle.bus_message.specs.Sockets.{socket_of}
+use Rattle.bus_message.specs.Ports.{socket_of}
 use Rattle.bus_spec.specs.Grammar.{walk_for}
 use Rattle.bus_spec.specs.Past.{begun}
 use Rattle.bus_spec.specs.Walk.{WalkTree, Ends}
 use Rattle.core_laws.specs.Core.{Place, Run, IsFairRun, Whole, SeatKept}
 use Rattle.core_laws.specs.Opens.{AreDepths, IsOpened}
 use Rattle.core_laws.specs.Owed.{total}
-use Rattle.core_laws.specs.Spots.{Socket}
+use Rattle.bus_message.specs.Ports.{Socket}
 use Rattle.core_laws.proofs.Laws.{core-opened, seat-loaded, seat-over}
 use Rattle.seg_locks.specs.Locks.{opened}
 use Rattle.bus_core.specs.Kept.{roots_of, run_of, whole_of, IsCore}

@@ -9,9 +9,9 @@ use Rattle.i2c_base.specs.Fitting.{FitsReads}
 use Rattle.i2c_base.specs.Limits.{MOST_BYTES}
 use Rattle.i2c_base.specs.Transfer.{IsTransfer, IsMessage, TransferView, is_counted, size_of, written_of, COUNTED_SIZE}
 use Rattle.i2c_spec.specs.Messages.{message_with}
-use Rattle.bus_laws.specs.Costs.{bytes_most}
+use Rattle.i2c_spec.specs.Messages.{bytes_most}
 use Rattle.bus_message.proofs.PartwayLemmas.{nth_is}
-use Rattle.core_laws.specs.Sends.{call_message}
+use Rattle.bus_message.specs.Sends.{call_message}
 use Rattle.i2c_base.proofs.FittingLemmas.{reads-size}
 
 sum_within : (ms : List Msg) (i : ℕ) (d : Msg) → i < length ms → sum_by size_of (take i ms) + size_of (get_or ms i d) ≤ sum_by size_of ms

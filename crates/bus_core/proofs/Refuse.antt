@@ -15,7 +15,7 @@ use Rattle.i2c_outside.specs.declared.port.Port.{Ghosts as PortGhosts}
 use Rattle.bus_spec.specs.Grammar.{plain, walk_for}
 use Rattle.bus_spec.specs.Stepwise.{IsStepwise}
 use Rattle.bus_spec.specs.Walk.{Settle, Then, Ends}
-use Rattle.bus_message.specs.Sockets.{sockets_of}
+use Rattle.bus_message.specs.Ports.{sockets_of}
 use Rattle.core_laws.specs.Behind.{with_place, begun_with}
 use Rattle.core_laws.specs.Core.{Place, Run, Whole, CoreKept, IsLone}
 use Rattle.core_laws.specs.Steps.{next_of}

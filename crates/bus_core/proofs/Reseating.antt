@@ -20,7 +20,8 @@ use Rattle.bus_spec.specs.Stepwise.{reply_by}
 use Rattle.bus_spec.specs.Walk.{WalkTree, Look, ActOutcome, Passed, Sent, Then, Ends}
 use Rattle.i2c_spec.specs.Tree.{buses}
 use Rattle.core_laws.specs.Core.{IsLone}
-use Rattle.core_laws.specs.Sends.{Sending, is_call_through}
+use Rattle.mux_plan.specs.declared.task.NextMsg.{NextMsg}
+use Rattle.mux_plan.specs.Plans.{is_call_through}
 use Rattle.core_laws.specs.Steps.{behind_of}
 use Rattle.mux_plan.specs.Plans.{CourseView, slots_of}
 use Rattle.seg_locks.specs.Locks.{LocksView}
@@ -41,7 +42,7 @@ still_going v (Then act note next) out h = refl
 
 module _ {C : Type 0} (b : BoardView) (v : LocksView) (s m t : Seat C) where
   -- it counts a message, and goes on
-  pub heard : (next : Sending) (reading : Bool) (bytes : List ℕ) (e : End)
+  pub heard : (next : NextMsg) (reading : Bool) (bytes : List ℕ) (e : End)
       → m ≡ record s { sent = m.sent; written = m.written; replies = m.replies; cut = message_cut next.purpose next.part e } → t ≡ record m { walk = t.walk }
       → m.sent ≡ (if is_call_through next.purpose e then s.sent + 1 else s.sent) → m.replies ≡ record s.replies { got = got_heard next.purpose reading bytes s.replies.got }
       → m.written ≡ sum_by written_of (take m.sent m.transfer.msgs)

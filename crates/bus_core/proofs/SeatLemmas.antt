@@ -6,32 +6,11 @@ use Rattle.std.proofs.lemmas.Bool.Decides.{eqb_tells}
 use Rattle.i2c_base.specs.declared.reply.Reply.{Reply}
 use Rattle.bus_core.specs.Places.{owed_by}
 use Rattle.bus_core.specs.Replies.{RepliesView, reply_decided}
-use Rattle.bus_core.specs.Seats.{HasSeat, Reseated}
 use Rattle.bus_core.specs.declared.replies.Decided.{Decided}
-use Rattle.bus_core.specs.declared.seat.Seat.{Seat}
 
 -- what was read at a place is what the list has there
 pub read_here : {X : Type 0} (xs : List X) (i : ℕ) (x y : X) → slice_get xs i ≡ Some x → y ≡ get_or xs i y → y ≡ x
 read_here xs i x y here read = read ∙ get_or_from_slice_get xs i x y here
-
-module _ {C : Type 0} (seats : List (Seat C)) (place : ℕ) (s old : Seat C) (here : slice_get seats place ≡ Some s) (read : old ≡ get_or seats place old) where
-  -- what is known of the seat there is known of the one that was read, and back
-  pub of_read : (IsSo : Seat C → Type 0) → IsSo s → IsSo old
-  of_read IsSo so = subst IsSo (sym (read_here seats place s old here read)) so
-
-  pub has_read : (IsSo : Seat C → Type 0) → IsSo old → HasSeat IsSo seats place
-  has_read IsSo so = record { seat = s; here = here; is_so = subst IsSo (read_here seats place s old here read) so }
-
-  -- another one is there now
-  pub reseated : (IsNow : Seat C → Seat C → Type 0) (new : Seat C) → IsNow old new → Reseated IsNow seats (set seats place new) place
-  reseated IsNow new now =
-      record {
-        before = s;
-        after = new;
-        here = here;
-        set_is = refl;
-        is_now = subst (λ (x : Seat C). IsNow x new) (read_here seats place s old here read) now;
-      }
 
 -- numbers that a test tells apart differ
 pub told_apart : (a b : ℕ) → nat_eq a b ≡ false → a ≡ b → ⊥

@@ -10,34 +10,15 @@ use Rattle.bus_spec.specs.Legal.{is_stepping}
 use Rattle.bus_spec.specs.Readings.{caller_of}
 use Rattle.bus_spec.specs.Schedule.{is_settle}
 use Rattle.bus_spec.specs.Stepwise.{IsStepwise}
-use Rattle.bus_message.specs.Sockets.{sockets_of}
-use Rattle.core_laws.specs.Spots.{Socket}
+use Rattle.bus_message.specs.Ports.{sockets_of}
+use Rattle.bus_message.specs.Ports.{Socket}
 use Rattle.core_laws.proofs.Core.{set_same}
 use Rattle.core_laws.proofs.Laws.{turn-two}
 use Rattle.bus_core.specs.Kept.{roots_of, asks_in, IsKept, HasStepped}
-use Rattle.bus_core.specs.Seats.{HasSeat, Reseated}
 use Rattle.bus_core.specs.declared.parts.CoreParts.{CoreParts}
 use Rattle.bus_core.specs.declared.seat.Seat.{Seat}
 use Rattle.bus_core.proofs.Kept.{new-scripts}
 use Rattle.i2c_base.proofs.ListLemmas.{map_at}
-
--- a later element at a place stands for an earlier one
-pub set-set : {X : Type 0} (xs : List X) (i : ℕ) (x y : X) → set (set xs i x) i y ≡ set xs i y
-set-set [] i x y = refl
-set-set (z ∷ zs) zero x y = refl
-set-set (z ∷ zs) (suc i) x y = ap (λ (ys : List _). z ∷ ys) (set-set zs i x y)
-
-pub set-at : {X : Type 0} (xs : List X) (i : ℕ) (x y : X) → slice_get xs i ≡ Some x → slice_get (set xs i y) i ≡ Some y
-set-at [] i x y h = absurd (let f : None ≡ Some x = h in cc)
-set-at (z ∷ zs) zero x y h = refl
-set-at (z ∷ zs) (suc i) x y h = set-at zs i x y h
-
--- who stands at a place is one
-pub seat-is : {C : Type 0} (IsSo : Seat C → Type 0) (seats : List (Seat C)) (place : ℕ) (s : Seat C) → slice_get seats place ≡ Some s → HasSeat IsSo seats place → IsSo s
-seat-is IsSo seats place s at so = (let is : so.seat ≡ s = (let f : Some so.seat ≡ Some s = sym so.here ∙ at in cc) in subst IsSo is so.is_so)
-
-pub seat-now : {C : Type 0} (IsNow : Seat C → Seat C → Type 0) (old new : List (Seat C)) (place : ℕ) (s : Seat C) → slice_get old place ≡ Some s → (r : Reseated IsNow old new place) → IsNow s r.after
-seat-now IsNow old new place s at r = (let is : r.before ≡ s = (let f : Some r.before ≡ Some s = sym r.here ∙ at in cc) in subst (λ (y : Seat _). IsNow y r.after) is r.is_now)
 
 -- the roots of ports are those of what is told of them
 sockets-roots : {P : Type 0} (g : PortGhosts P) (ports : List (ℕ × P)) → map (λ (y : Socket). y.root) (sockets_of g ports) ≡ roots_of ports

@@ -32,7 +32,7 @@ use Rattle.bus_laws.specs.Jobs.{IsJobOf}
 use Rattle.bus_laws.specs.Next.{HasLineIn}
 use Rattle.bus_laws.proofs.Laws.{next-line, quiet-next}
 use Rattle.bus_laws.proofs.past.Laws.{past-stands}
-use Rattle.bus_message.specs.Sockets.{sockets_of, MayShift, Shifted}
+use Rattle.bus_message.specs.Ports.{sockets_of, MayShift, Shifted}
 use Rattle.mux_plan.proofs.Dues.{tells-after, on-after}
 use Rattle.mux_plan.specs.Marks.{MayMark}
 use Rattle.mux_plan.specs.Plans.{SeenView, slots_of}
@@ -40,7 +40,8 @@ use Rattle.seg_locks.specs.Locks.{LocksView}
 use Rattle.core_laws.specs.Behind.{line_entry, switched}
 use Rattle.core_laws.specs.Core.{Place, Run, Whole, IsShifted, has_reply}
 use Rattle.core_laws.specs.Seats.{IsLeft, IsDecided}
-use Rattle.core_laws.specs.Spots.{seen_of, turned_to, Socket}
+use Rattle.core_laws.specs.Spots.{seen_of, turned_to}
+use Rattle.bus_message.specs.Ports.{Socket}
 use Rattle.core_laws.specs.Wants.{WantsIn}
 use Rattle.core_laws.specs.Steps.{next_of, behind_of, AreMarked}
 use Rattle.core_laws.proofs.Core.{lone_act, locks-here, owes-here, not_over}
@@ -48,13 +49,13 @@ use Rattle.core_laws.proofs.Laws.{kept-after, length-applied_kept, stands-here, 
 use Rattle.bus_core.specs.Kept.{roots_of, IsSeated, run_of, whole_of, IsKept, HasStepped}
 use Rattle.bus_core.specs.Marks.{AreHeld, words_after}
 use Rattle.bus_core.specs.Places.{walk_left, place_of}
-use Rattle.bus_core.specs.Seats.{HasSeat, Reseated, WentOn, MaySettle, IsSettledIn, dues_of, cut_of_line}
+use Rattle.bus_core.specs.Seats.{WentOn, MaySettle, IsSettledIn, dues_of, cut_of_line}
 use Rattle.bus_core.specs.declared.parts.CoreParts.{CoreParts}
 use Rattle.bus_core.specs.declared.seat.Seat.{Seat}
 use Rattle.bus_core.proofs.Kept.{fair, place-here, seated-here, kept-whole, stepped-one}
 use Rattle.bus_core.proofs.Converse.{port, length-applied, holds_mux, dues-held, switched-on, marks-on}
 use Rattle.bus_core.proofs.Heard.{went-on-place, went-on-seated, settle-first, settled-place, settled-seated}
-use Rattle.bus_core.proofs.Stepped.{roots-stay, seat-is, seat-now, set-at, set-set, stepped-two}
+use Rattle.bus_core.proofs.Stepped.{roots-stay, stepped-two}
 use Rattle.i2c_base.specs.Need.{bytes_given}
 
 -- a gpio mux is switched by a line
@@ -109,7 +110,7 @@ module _ {P C S : Type 0} (g : PortGhosts P) (c : CallerGhosts C S) (x : CorePar
   job-of : IsJobOf x.board.now s.transfer job
   job-of = shift-root run whole kept.kept place p at job first
 
-  plug : (y : Socket) × (slice_get whole.sockets s.port ≡ Some y) × (y.root ≡ root_of x.board.now s.transfer.bus)
+  pub plug : (y : Socket) × (slice_get whole.sockets s.port ≡ Some y) × (y.root ≡ root_of x.board.now s.transfer.bus)
   plug = port g c x kept place s here goes on-bus
 
   rooted : plug.0.root ≡ root_of x.board.now (job_bus job)
@@ -126,10 +127,8 @@ module _ {P C S : Type 0} (g : PortGhosts P) (c : CallerGhosts C S) (x : CorePar
       let root = ap (λ (w : World). w.root) world ∙ stands.told.root plug.0.root in
       line-in x.board.now plug.0.world (line_mux job) (line_level job) board (subst (λ (r : ℕ). HasLineIn x.board.now r (line_mux job) (line_level job)) (sym (root ∙ rooted)) has)
 
-  pub may-shift : (mux level : ℕ) → line_mux job ≡ mux → line_level job ≡ level → MayShift g.tells mux level whole.sockets s.port
+  pub may-shift : (mux level : ℕ) → line_mux job ≡ mux → line_level job ≡ level → MayShift g.tells mux level plug.0
   may-shift mux level of_mux to_level = record {
-    socket = plug.0;
-    here = plug.1;
     idle = line-wants run whole kept.kept place p at job first s.port plug.0 plug.1 rooted;
     has = λ tell. subst (λ (l : ℕ). HasLine plug.0.world mux l) to_level (subst (λ (m : ℕ). HasLine plug.0.world m (line_level job)) of_mux (line-there tell));
     room = λ tell. (let room = log-line run whole kept.kept place p at job first tell s.port plug.0 plug.1 in omega (arith, room));
@@ -273,19 +272,14 @@ module _ {P C S : Type 0} (g : PortGhosts P) (c : CallerGhosts C S) (x : CorePar
                   )
 
           -- EITHER, as it is told
-          module _ (seats1 : List (Seat C)) (seats1_is : seats1 ≡ set x.seats.items place t) where
-            here1 : slice_get seats1 place ≡ Some t
-            here1 = ap (λ (ys : List (Seat C)). slice_get ys place) seats1_is ∙ set-at x.seats.items place s t here
-
-            pub line-done : (came : Bool) → (came ≡ true → (verdict : Option Errno) × Reseated (IsSettledIn x.board.now new.locks verdict j new.journal) seats1 new.seats.items place)
-                → (came ≡ false → HasSeat (λ y. (verdict : Option Errno) → next_of new.locks (walk_left x.board.now y) ≡ Some (Settle verdict) → ⊥) seats1 place)
-                → (came ≡ false → (new.seats.items ≡ seats1) × (new.journal ≡ j)) → IsKept g c new × HasStepped g c place x new
-            line-done true made none stays =
-                let m = made refl in
-                switched-settled m.0 m.1.after (m.1.set_is ∙ ap (λ (ys : List (Seat C)). set ys place m.1.after) seats1_is ∙ set-set x.seats.items place t m.1.after)
-                (subst (λ (v : LocksView). IsSettledIn x.board.now v m.0 j new.journal t m.1.after) locks (seat-now (IsSettledIn x.board.now new.locks m.0 j new.journal) seats1 new.seats.items place t here1 m.1))
-            line-done false made none stays =
-                let st = stays refl in
-                switched-quiet (st.0 ∙ seats1_is) st.1
-                (λ verdict comes. seat-is (λ (y : Seat C). (w : Option Errno) → next_of new.locks (walk_left x.board.now y) ≡ Some (Settle w) → ⊥) seats1 place t here1 (none refl) verdict
-                (subst (λ (v : LocksView). next_of v (walk_left x.board.now t) ≡ Some (Settle verdict)) (sym locks) comes))
+          pub line-done : (u : Seat C) → new.seats.items ≡ set x.seats.items place u → (came : Bool)
+              → (came ≡ true → (verdict : Option Errno) × IsSettledIn x.board.now new.locks verdict j new.journal t u)
+              → (came ≡ false → (verdict : Option Errno) → next_of new.locks (walk_left x.board.now t) ≡ Some (Settle verdict) → ⊥)
+              → (came ≡ false → (u ≡ t) × (new.journal ≡ j)) → IsKept g c new × HasStepped g c place x new
+          line-done u seats true made none stays =
+              let m = made refl in
+              switched-settled m.0 u seats (subst (λ (v : LocksView). IsSettledIn x.board.now v m.0 j new.journal t u) locks m.1)
+          line-done u seats false made none stays =
+              let st = stays refl in
+              switched-quiet (seats ∙ ap (set x.seats.items place) st.0) st.1
+              (λ verdict comes. none refl verdict (subst (λ (v : LocksView). next_of v (walk_left x.board.now t) ≡ Some (Settle verdict)) (sym locks) comes))

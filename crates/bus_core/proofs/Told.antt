@@ -13,7 +13,7 @@ use Rattle.i2c_spec.specs.World.{World}
 use Rattle.bus_laws.specs.Ready.{IsStuck}
 use Rattle.bus_spec.specs.Grammar.{first_act}
 use Rattle.bus_spec.specs.Past.{current}
-use Rattle.bus_message.specs.Sockets.{socket_of}
+use Rattle.bus_message.specs.Ports.{socket_of}
 use Rattle.core_laws.proofs.Laws.{finished-asks, free-ready, next-same}
 use Rattle.core_laws.specs.Steps.{next_of}
 use Rattle.bus_core.specs.Answers.{HasAdded, WaitsFor, HasUsedUp, IsLeast}

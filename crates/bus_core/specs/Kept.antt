@@ -15,9 +15,10 @@ use Rattle.bus_spec.specs.Grammar.{is_over}
 use Rattle.bus_spec.specs.Schedule.{Turn}
 use Rattle.bus_spec.specs.Walk.{Job, Act, Send, Shift, line_mux, line_level}
 use Rattle.bus_laws.specs.Coming.{IsTurn}
-use Rattle.bus_message.specs.Sockets.{sockets_of}
+use Rattle.bus_message.specs.Ports.{sockets_of}
 use Rattle.core_laws.specs.Core.{Run, Whole, CoreKept, IsLone}
-use Rattle.core_laws.specs.Sends.{Sending, IsMessageOf}
+use Rattle.mux_plan.specs.declared.task.NextMsg.{NextMsg}
+use Rattle.core_laws.specs.Sends.{IsMessageOf}
 use Rattle.core_laws.specs.Steps.{next_of}
 use Rattle.i2c_outside.specs.declared.port.Port.{Ghosts as PortGhosts}
 use Rattle.bus_core.specs.Opening.{IsSetUp}
@@ -77,7 +78,7 @@ pub record ComesAt {P C : Type 0} (x : CoreParts P C) (place : ℕ) (act : Act) 
   pub next : next_of x.locks (walk_left x.board.now seat) ≡ Some act
 
 -- this message comes next of it
-pub record HasMessage {P C : Type 0} (x : CoreParts P C) (place : ℕ) (next : Sending) : Type 0 where
+pub record HasMessage {P C : Type 0} (x : CoreParts P C) (place : ℕ) (next : NextMsg) : Type 0 where
   pub job : Job
   pub left : ℕ
   pub comes : ComesAt x place (Send job left)
@@ -108,6 +109,11 @@ pub record HasStepped {P C S : Type 0} (p : PortGhosts P) (c : CallerGhosts C S)
   pub room : new.journal.room < old.journal.room
   pub counted : length new.journal.entries + new.journal.room ≡ length old.journal.entries + old.journal.room
   pub turn : IsTrue p.tells → (s : Seat C) → slice_get old.seats.items place ≡ Some s → HasTurn old.board.now (asks_in c old) s.number old.journal.entries new.journal.entries
+
+-- .. and all is kept behind it
+pub record HasMadeStep {P C S : Type 0} (p : PortGhosts P) (c : CallerGhosts C S) (place : ℕ) (old new : CoreParts P C) : Type 0 where
+  pub kept : IsKept p c new
+  pub stepped : HasStepped p c place old new
 
 -- the place of each caller among the seats, by its number; none for a number that no caller has
 pub record ArePlaced {S : Type 0} (places : List (Option ℕ)) (scripts : List (ℕ × S)) : Type 0 where

@@ -4,6 +4,7 @@ use Rattle.std.specs.Option.{option_map_or}
 use Rattle.i2c_base.specs.declared.caller.Caller.{Ghosts as CallerGhosts}
 use Rattle.i2c_base.specs.declared.reply.Reply.{Reply}
 use Rattle.i2c_base.specs.Board.{BoardView}
+use Rattle.i2c_base.specs.Need.{Covers}
 use Rattle.i2c_base.specs.Transfer.{TransferView}
 use Rattle.i2c_spec.specs.History.{Asks}
 use Rattle.i2c_spec.specs.Messages.{messages_of}
@@ -62,3 +63,11 @@ asks_of asked scripts n rs = option_map_or (λ s. asked s rs) (script_at scripts
 
 abbrev pub left_of : {S : Type 0} → (S → List Reply → ℕ) → List (ℕ × S) → ℕ → List Reply → ℕ
 left_of left scripts n rs = option_map_or (λ s. left s rs) (script_at scripts n) 0
+
+-- what its caller asks for next, by the replies that it has taken
+abbrev pub asked_next : {C S : Type 0} → CallerGhosts C S → Seat C → Option TransferView
+asked_next c s = c.asked (c.script s.caller) (c.taken s.caller)
+
+-- its caller has room for the replies that it is still to take
+abbrev pub HasSpare : {C S : Type 0} → CallerGhosts C S → Seat C → Type 0
+HasSpare c s = Covers (c.spare s.caller) (c.owed (c.script s.caller) (c.taken s.caller))

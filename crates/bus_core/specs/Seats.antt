@@ -22,8 +22,11 @@ use Rattle.bus_spec.specs.Readings.{message_cut}
 use Rattle.bus_spec.specs.Stepwise.{reply_by}
 use Rattle.bus_spec.specs.Walk.{ActOutcome, Passed, Settle, Then, Ends}
 use Rattle.bus_spec.specs.Walk as walk
-use Rattle.core_laws.specs.Sends.{Sending, message_for, ends_with, IsChipAddress, is_call_through}
-use Rattle.core_laws.specs.Spots.{seen_of, Socket}
+use Rattle.mux_plan.specs.declared.task.NextMsg.{NextMsg}
+use Rattle.bus_message.specs.Sends.{message_for, IsChipAddress}
+use Rattle.mux_plan.specs.Plans.{ends_with, is_call_through}
+use Rattle.core_laws.specs.Spots.{seen_of}
+use Rattle.bus_message.specs.Ports.{Socket}
 use Rattle.core_laws.specs.Steps.{GivesBytes, next_of, behind_of}
 use Rattle.mux_plan.specs.declared.marks.Due.{Due}
 use Rattle.mux_plan.specs.Marks.{dues_after}
@@ -32,25 +35,10 @@ use Rattle.seg_locks.specs.Locks.{LocksView}
 use Rattle.bus_core.specs.Kept.{IsSeated}
 use Rattle.bus_core.specs.Opening.{HasRoot}
 use Rattle.bus_core.specs.Places.{walk_left, owed_by, got_by}
-use Rattle.bus_message.specs.Sockets.{SentOn, MaySend}
-use Rattle.bus_message.specs.declared.sending.Sent.{Sent}
-use Rattle.i2c_base.specs.declared.tree.Grant.{Grant}
+use Rattle.bus_message.specs.Sends.{MaySend, NextSent}
+use Rattle.bus_message.specs.declared.message.MsgResult.{MsgResult}
 use Rattle.bus_core.specs.declared.seat.Seat.{Seat}
 use Rattle.i2c_base.specs.Need.{bytes_given}
-
--- the seat at a place is another one, which stands to it like this; all others stay
-pub record Reseated {C : Type 0} (IsNow : Seat C → Seat C → Type 0) (old new : List (Seat C)) (place : ℕ) : Type 0 where
-  pub before : Seat C
-  pub after : Seat C
-  pub here : slice_get old place ≡ Some before
-  pub set_is : new ≡ set old place after
-  pub is_now : IsNow before after
-
--- there is a seat at a place, like this
-pub record HasSeat {C : Type 0} (IsSo : Seat C → Type 0) (seats : List (Seat C)) (place : ℕ) : Type 0 where
-  pub seat : Seat C
-  pub here : slice_get seats place ≡ Some seat
-  pub is_so : IsSo seat
 
 -- it went on in its walk behind a step with this outcome, and its caller's last entry tells this cut
 pub record WentOn {C : Type 0} (b : BoardView) (v : LocksView) (out : ActOutcome) (cut : Cut) (s t : Seat C) : Type 0 where
@@ -101,7 +89,7 @@ pub record HasFreed {C S : Type 0} (c : CallerGhosts C S) (b : BoardView) (v : L
   pub seated : IsSeated c b roots t
 
 -- it may hear a message of its walk: one of the caller's is left where it went through, and what it read has room
-pub record MayHear {C : Type 0} (next : Sending) (reading : Bool) (bytes : List ℕ) (e : End) (s : Seat C) : Type 0 where
+pub record MayHear {C : Type 0} (next : NextMsg) (reading : Bool) (bytes : List ℕ) (e : End) (s : Seat C) : Type 0 where
   pub counted : IsCounted s
   pub wrote : s.written ≡ sum_by written_of (take s.sent s.transfer.msgs)
   pub part : 0 < next.part
@@ -114,7 +102,7 @@ got_heard purpose.Call reading bytes got = if reading then got ++ bytes else got
 got_heard (purpose.Control m) reading bytes got = got
 
 -- it heard a message, and went on behind it: one of the caller's that went through is counted
-pub record HasHeard {C : Type 0} (b : BoardView) (v : LocksView) (next : Sending) (reading : Bool) (bytes : List ℕ) (e : End) (s t : Seat C) : Type 0 where
+pub record HasHeard {C : Type 0} (b : BoardView) (v : LocksView) (next : NextMsg) (reading : Bool) (bytes : List ℕ) (e : End) (s t : Seat C) : Type 0 where
   pub same : t ≡ record s { walk = t.walk; sent = t.sent; written = t.written; replies = t.replies; cut = message_cut next.purpose next.part e }
   pub gone : t.sent ≡ (if is_call_through next.purpose e then s.sent + 1 else s.sent)
   pub got : t.replies ≡ record s.replies { got = got_heard next.purpose reading bytes s.replies.got }
@@ -165,20 +153,19 @@ abbrev pub cut_of_line : Bool → Cut
 cut_of_line failed = if failed then cut_at.Way else cut_at.No
 
 -- the message that comes next may be sent over the port of its root: one of the caller's own is left
-pub record MaySpeak {C : Type 0} (b : BoardView) (tells : Bool) (next : Sending) (sockets : List Socket) (s : Seat C) : Type 0 where
-  pub may : (g : Grant) → MaySend b tells (record { transfer = s.transfer; sent = s.sent; written = s.written; grant = g }) next sockets s.port
+pub record MaySpeak {C : Type 0} (b : BoardView) (tells : Bool) (next : NextMsg) (sockets : List Socket) (s : Seat C) : Type 0 where
+  pub socket : Socket
+  pub here : slice_get sockets s.port ≡ Some socket
+  pub may : MaySend b tells s.transfer s.sent next socket
   pub on_bus : next.purpose ≡ purpose.Call → s.transfer.bus < buses b
   pub more : next.purpose ≡ purpose.Call → s.sent < length s.transfer.msgs
   pub wrote : s.written ≡ sum_by written_of (take s.sent s.transfer.msgs)
 
 -- it was sent there, and no other port is another
-pub record HasSpoken {C : Type 0} (b : BoardView) (tells : Bool) (next : Sending) (old new : List Socket) (bytes : List ℕ) (sent : Sent) (s : Seat C) : Type 0 where
+pub record HasSpoken {C : Type 0} (b : BoardView) (tells : Bool) (next : NextMsg) (old new : List Socket) (bytes : List ℕ) (r : MsgResult) (s : Seat C) : Type 0 where
   pub before : Socket
   pub after : Socket
   pub here : slice_get old s.port ≡ Some before
   pub set_is : new ≡ set old s.port after
-  pub sent_on : SentOn b tells s.transfer next.purpose (message_for s.transfer s.sent next.purpose next.control sent.addr) (ends_with next.purpose next.part next.parts) before after bytes sent.heard sent.end
-  pub addr : sent.addr ≡ (message_for s.transfer s.sent next.purpose next.control sent.addr).addr
-  pub chip : IsChipAddress b next.purpose sent.addr
-  pub gives : GivesBytes b s.transfer s.sent next sent.addr sent.reading bytes sent.end
+  pub sent : NextSent b tells s.transfer s.sent next before after bytes r
   pub whole : next.purpose ≡ purpose.Call → IsTransfer s.transfer.msgs s.transfer.out

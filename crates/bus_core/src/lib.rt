@@ -9,6 +9,7 @@
 //! `specs/Opening.antt` (what never changes), and the records of `core_laws`. Standard: Linux i2c-topology.
 #![tactic(auto)]
 
+mod advance;
 mod bus;
 mod marks;
 mod opening;
@@ -17,7 +18,6 @@ mod readiness;
 mod replies;
 mod running;
 mod seat;
-mod seats;
 mod steps;
 
 pub use bus::{BusCore, Parts};

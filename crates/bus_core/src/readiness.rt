@@ -4,8 +4,7 @@ ghost use Rattle.bus_core.specs.Kept.{IsKept, IsCore};
 ghost use Rattle.bus_core.specs.Ready.{IsHeldUpAt, CanStepAt, IsLeastReady, AllHeldUp};
 
 use crate::parts::CoreParts;
-use crate::seats::next_action;
-use i2c_base::Caller;
+use i2c_base::{Caller, MOST_CALLERS};
 use i2c_outside::Port;
 use mux_plan::Action;
 
@@ -16,9 +15,9 @@ fn can_step<P: Port, C: Caller>(parts: &CoreParts<'_, P, C>, place: usize) -> bo
     ensures can { result ≡ true → CanStepAt parts.now place }
     ensures held_up { result ≡ false → IsHeldUpAt parts.now place }
 {
-    match &next_action(&parts.seats, place, parts.board, &parts.locks) {
+    match parts.seats[place].next(parts.board, &parts.locks) {
         Action::Done => false,
-        Action::Take(lock) => parts.locks.holder(*lock).is_none(),
+        Action::Take(lock) => parts.locks.holder(lock).is_none(),
         _ => true,
     }
 }
@@ -29,7 +28,7 @@ pub fn ready<P: Port, C: Caller>(parts: &CoreParts<'_, P, C>) -> Option<u8>
     ensures some { IfSome result (IsLeastReady parts.now) }
     ensures none { result ≡ None → AllHeldUp parts.now }
 {
-    for number in 0..8u8 {
+    for number in 0..MOST_CALLERS {
         if let Some(place) = parts.places[usize::from(number)] {
             if can_step(parts, usize::from(place)) {
                 return Some(number);

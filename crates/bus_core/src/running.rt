@@ -8,10 +8,9 @@ ghost use Rattle.bus_core.specs.Runs.{HasMade, HasMadeLeast, HasWaited, KeepsSch
 ghost use Rattle.bus_core.specs.State.{AllThrough, state_of};
 
 use crate::parts::CoreParts;
-use crate::seats::is_over;
 use crate::steps::{StepAnswer, step};
 use bus_laws::a_loop_follows;
-use i2c_base::Caller;
+use i2c_base::{Caller, MOST_CALLERS};
 use i2c_outside::Port;
 
 /// Makes the next step of a caller, if it can make one; tells whether it did.
@@ -40,7 +39,7 @@ fn is_through<P: Port, C: Caller>(parts: &CoreParts<'_, P, C>, number: u8) -> bo
     ensures there { result ≡ false → HasPlace parts.now.places.items number }
 {
     match parts.places[usize::from(number)] {
-        Some(place) => is_over(&parts.seats, usize::from(place)),
+        Some(place) => parts.seats[usize::from(place)].walk.is_over(),
         None => true,
     }
 }
@@ -52,7 +51,7 @@ fn advance_least<P: Port, C: Caller>(parts: &mut CoreParts<'_, P, C>) -> bool
     ensures made { result ≡ true → HasMadeLeast P.Port C.Caller parts.old parts.new }
     ensures none { result ≡ false → (parts.new ≡ parts.old) × AllHeldUp parts.old }
 {
-    for number in 0..8u8 {
+    for number in 0..MOST_CALLERS {
         if !is_through(parts, number) && advance(parts, number) {
             return true;
         }

@@ -1,41 +1,40 @@
 //! A caller in the core, and where it stands.
-ghost use Rattle.std.specs.Prelude.{◌≡◌, ◌≢◌, ◌+◌, ◌<◌, ◌≤◌, ℕ, true, false, List, [], ◌∷◌, ◌++◌, length, take, sum_by, Option, None, Some, IfSome, slice_get, if◌then◌else◌};
+ghost use Rattle.std.specs.Prelude.{◌≡◌, ◌≢◌, ◌+◌, ◌<◌, ◌≤◌, true, false, [], ◌∷◌, ◌++◌, length, take, sum_by, Option, None, Some, IfSome, slice_get, if◌then◌else◌};
 ghost use Rattle.i2c_base.specs.Limits.{MOST_BYTES};
 ghost use Rattle.i2c_base.specs.declared.reply.Cut.TheVariants as cut_at;
 ghost use Rattle.i2c_base.specs.declared.entry.Purpose.TheVariants as purpose;
 ghost use Rattle.i2c_base.specs.Board.{BoardView};
 ghost use Rattle.i2c_base.specs.declared.reply.Reply.{Reply};
 ghost use Rattle.i2c_base.specs.Fitting.{Fits};
-ghost use Rattle.i2c_base.specs.Need.{Covers};
 ghost use Rattle.i2c_base.specs.Transfer.{IsTransfer, TransferView, written_of};
+ghost use Rattle.i2c_spec.specs.Grant.{grant_of};
 ghost use Rattle.i2c_spec.specs.Messages.{messages_of};
 ghost use Rattle.i2c_spec.specs.Tree.{buses, root_of};
-ghost use Rattle.bus_spec.specs.Grammar.{is_over, first_note, seen, walk_for};
+ghost use Rattle.bus_spec.specs.Grammar.{is_over, seen, walk_for};
 ghost use Rattle.bus_spec.specs.Readings.{message_cut};
 ghost use Rattle.bus_spec.specs.Stepwise.{reply_by};
 ghost use Rattle.i2c_base.specs.declared.errno.Errno.{Errno};
 ghost use Rattle.bus_spec.specs.Walk.{Ends, Passed, Settle};
 ghost use Rattle.seg_locks.specs.Locks.{LocksView};
-ghost use Rattle.bus_message.specs.Calls.{HasNext};
-ghost use Rattle.core_laws.specs.Sends.{is_call_through};
+ghost use Rattle.bus_message.specs.Cursors.{HasNext};
+ghost use Rattle.bus_message.specs.Sends.{call_message};
+ghost use Rattle.mux_plan.specs.Plans.{is_call_through};
 ghost use Rattle.core_laws.specs.Steps.{next_of, behind_of};
 ghost use Rattle.mux_plan.specs.declared.task.Action.TheVariants as action;
-ghost use Rattle.mux_plan.specs.Marks.{dues_after};
-ghost use Rattle.mux_plan.specs.Plans.{slots_of, action_of, outcome_of};
+ghost use Rattle.mux_plan.specs.Plans.{action_of, outcome_of};
 ghost use Rattle.bus_core.specs.Kept.{IsSeated, roots_of};
 ghost use Rattle.bus_core.specs.Opening.{HasRoot};
-ghost use Rattle.bus_core.specs.Places.{walk_left, owed_by, got_by};
+ghost use Rattle.bus_core.specs.Places.{HasSpare, asked_next, owed_by, walk_left};
 ghost use Rattle.bus_core.specs.Replies.{reply_decided};
-ghost use Rattle.bus_core.specs.Seats.{MayEnd, HasEnded, MayHear, got_heard};
-ghost use Rattle.core_laws.specs.Spots.{seen_of};
+ghost use Rattle.bus_core.specs.Seats.{HasEnded, MayEnd, MayHear, dues_of, got_heard};
 
 use crate::marks::seen as words_of;
 use crate::replies::{Decided, Replies};
-use bus_message::{CallOf, Sending, Sent};
+use bus_message::{MsgResult, TransferCursor};
 use i2c_base::{Caller, Cut, End, Errno, Grant, Kind, Purpose, Reply, SegId, Transfer};
 use i2c_board::Accepted;
 use i2c_outside::Port;
-use mux_plan::{Action, Dues, Outcome, Walk};
+use mux_plan::{Action, Dues, NextMsg, Outcome, Walk};
 use seg_locks::Locks;
 
 /// A caller, and where it stands on the bus.
@@ -128,64 +127,53 @@ impl<C: Caller> Seat<C> {
     }
 
     /// Goes on in its walk behind that action, which had this outcome, and tells what it changes of the lock words.
-    pub fn go_on(&mut self, board: &Accepted, locks: &Locks, outcome: &Outcome<'_>, dues: &mut Dues)
+    pub fn advance_walk(
+        &mut self,
+        board: &Accepted,
+        locks: &Locks,
+        outcome: &Outcome<'_>,
+        dues: &mut Dues,
+    )
         requires { length (messages_of self.old.transfer) ≡ self.old.walk.course.count }
         ensures walk { walk_left board.now self.new ≡ behind_of locks.now (walk_left board.now self.old) (outcome_of outcome.now) }
         ensures same { self.new ≡ record self.old { walk = self.new.walk } }
         ensures course { self.new.walk.course ≡ self.old.walk.course }
-        ensures dues { dues.new.items ≡ dues_after (next_of locks.now (walk_left board.now self.old)) (first_note (seen (slots_of (seen_of locks.now)) (walk_left board.now self.old))) (outcome_of outcome.now) }
+        ensures dues { dues.new.items ≡ dues_of board.now locks.now (outcome_of outcome.now) self.old }
     {
         self.walk
             .report(board.board(), &words_of(locks), outcome, dues);
     }
 
     /// Goes on in its walk behind a lock or a settle, which tell no cut.
-    pub fn pass(&mut self, board: &Accepted, locks: &Locks, dues: &mut Dues)
+    pub fn lock_done(&mut self, board: &Accepted, locks: &Locks, dues: &mut Dues)
         requires { length (messages_of self.old.transfer) ≡ self.old.walk.course.count }
         ensures walk { walk_left board.now self.new ≡ behind_of locks.now (walk_left board.now self.old) Passed }
         ensures same { self.new ≡ record self.old { walk = self.new.walk; cut = cut_at.No } }
         ensures course { self.new.walk.course ≡ self.old.walk.course }
     {
-        self.go_on(board, locks, &Outcome::Passed, dues);
+        self.advance_walk(board, locks, &Outcome::Passed, dues);
         self.cut = Cut::No;
     }
 
-    /// Its transfer, as far as the next message goes.
-    pub fn call(&self, board: &Accepted) -> CallOf<'_>
-        requires on_bus { self.now.transfer.bus < buses board.now }
-        requires more { self.now.sent < length self.now.transfer.msgs }
-        requires wrote { self.now.written ≡ sum_by written_of (take self.now.sent self.now.transfer.msgs) }
-        ensures value { result ≡ record { transfer = self.now.transfer; sent = self.now.sent; written = self.now.written; grant = result.grant } }
-        ensures next { HasNext board.now result }
-        ensures whole { IsTransfer self.now.transfer.msgs self.now.transfer.out }
+    // To whom its next message leads; a control message, which is none of its own, to nobody.
+    fn grant(&self, board: &Accepted, next: &NextMsg) -> Grant
+        requires on_bus { next.now.purpose ≡ purpose.Call → self.now.transfer.bus < buses board.now }
+        requires more { next.now.purpose ≡ purpose.Call → self.now.sent < length self.now.transfer.msgs }
+        ensures whole { next.now.purpose ≡ purpose.Call → IsTransfer self.now.transfer.msgs self.now.transfer.out }
+        ensures grants { next.now.purpose ≡ purpose.Call → result ≡ grant_of board.now self.now.transfer.bus (call_message self.now.transfer self.now.sent).addr self.now.transfer.force }
     {
-        let msg = self.transfer.msgs()[usize::from(self.sent)];
-        let transfer = &self.transfer;
-        let grant = board
-            .board()
-            .grant(SegId(transfer.bus()), msg.addr, transfer.force());
-        CallOf {
-            transfer,
-            sent: self.sent,
-            written: self.written,
-            grant,
-        }
-    }
-
-    /// Its transfer beside a control message, which is none of its own.
-    pub fn aside(&self) -> CallOf<'_>
-        ensures { result ≡ record { transfer = self.now.transfer; sent = self.now.sent; written = self.now.written; grant = result.grant } }
-    {
-        CallOf {
-            transfer: &self.transfer,
-            sent: self.sent,
-            written: self.written,
-            grant: Grant::Nobody,
+        match next.purpose {
+            Purpose::Call => {
+                let msg = self.transfer.msgs()[usize::from(self.sent)];
+                let bus = SegId(self.transfer.bus());
+                board.board().grant(bus, msg.addr, self.transfer.force())
+            }
+            Purpose::Control(_) => Grant::Nobody,
         }
     }
 
     /// Its transfer, as far as the message goes that comes next of its walk.
-    pub fn call_for(&self, board: &Accepted, next: &Sending) -> CallOf<'_>
+    pub fn cursor(&self, board: &Accepted, next: &NextMsg) -> TransferCursor<'_>
         requires on_bus { next.now.purpose ≡ purpose.Call → self.now.transfer.bus < buses board.now }
         requires more { next.now.purpose ≡ purpose.Call → self.now.sent < length self.now.transfer.msgs }
         requires wrote { self.now.written ≡ sum_by written_of (take self.now.sent self.now.transfer.msgs) }
@@ -193,9 +181,11 @@ impl<C: Caller> Seat<C> {
         ensures next { next.now.purpose ≡ purpose.Call → HasNext board.now result }
         ensures whole { next.now.purpose ≡ purpose.Call → IsTransfer self.now.transfer.msgs self.now.transfer.out }
     {
-        match next.purpose {
-            Purpose::Call => self.call(board),
-            Purpose::Control(_) => self.aside(),
+        TransferCursor {
+            transfer: &self.transfer,
+            sent: self.sent,
+            written: self.written,
+            grant: self.grant(board, next),
         }
     }
 
@@ -229,16 +219,16 @@ impl<C: Caller> Seat<C> {
     }
 
     /// Counts a message of its walk, of which this came: one of the caller's that went through.
-    pub fn hear(&mut self, next: &Sending, sent: &Sent, bytes: &[u8])
-        requires { MayHear next.now sent.now.reading bytes.now sent.now.end self.old }
-        ensures gone { self.new.sent ≡ (if is_call_through next.now.purpose sent.now.end then self.old.sent + 1 else self.old.sent) }
-        ensures got { self.new.replies ≡ record self.old.replies { got = got_heard next.now.purpose sent.now.reading bytes.now self.old.replies.got } }
+    pub fn record_msg(&mut self, next: &NextMsg, msg: &MsgResult, bytes: &[u8])
+        requires { MayHear next.now msg.now.reading bytes.now msg.now.end self.old }
+        ensures gone { self.new.sent ≡ (if is_call_through next.now.purpose msg.now.end then self.old.sent + 1 else self.old.sent) }
+        ensures got { self.new.replies ≡ record self.old.replies { got = got_heard next.now.purpose msg.now.reading bytes.now self.old.replies.got } }
         ensures wrote { self.new.written ≡ sum_by written_of (take self.new.sent self.new.transfer.msgs) }
-        ensures same { self.new ≡ record self.old { sent = self.new.sent; written = self.new.written; replies = self.new.replies; cut = message_cut next.now.purpose next.now.part sent.now.end } }
+        ensures same { self.new ≡ record self.old { sent = self.new.sent; written = self.new.written; replies = self.new.replies; cut = message_cut next.now.purpose next.now.part msg.now.end } }
     {
-        self.cut = cut_by(next.purpose, next.part, sent.end);
-        self.gather(next.purpose, sent.reading, bytes);
-        if next.went_through(sent.end) {
+        self.cut = cut_by(next.purpose, next.part, msg.end);
+        self.gather(next.purpose, msg.reading, bytes);
+        if next.went_through(msg.end) {
             self.count();
         }
     }
@@ -267,12 +257,12 @@ impl<C: Caller> Seat<C> {
 
     /// Hands the reply that its transfer was settled with to the caller.
     pub fn hand(&mut self, decided: Decided)
-        requires fits { (C.asked (C.script self.old.caller) (C.taken self.old.caller) ≡ Some self.old.transfer) × Fits self.old.transfer (reply_decided decided self.old.replies) }
-        requires room { Covers (C.spare self.old.caller) (C.owed (C.script self.old.caller) (C.taken self.old.caller)) }
+        requires fits { (asked_next C.Caller self.old ≡ Some self.old.transfer) × Fits self.old.transfer (reply_decided decided self.old.replies) }
+        requires room { HasSpare C.Caller self.old }
         ensures same { self.new ≡ record self.old { caller = self.new.caller } }
         ensures script { C.script self.new.caller ≡ C.script self.old.caller }
         ensures taken { C.taken self.new.caller ≡ C.taken self.old.caller ++ reply_decided decided self.old.replies ∷ [] }
-        ensures room { Covers (C.spare self.new.caller) (C.owed (C.script self.new.caller) (C.taken self.new.caller)) }
+        ensures room { HasSpare C.Caller self.new }
     {
         self.caller.take(self.replies.reply(decided));
     }
@@ -281,9 +271,9 @@ impl<C: Caller> Seat<C> {
     pub fn load<P: Port>(&mut self, board: &Accepted, ports: &[(SegId, P)])
         requires over { is_over (walk_left board.now self.old) ≡ true }
         requires counted { length (messages_of self.old.transfer) ≡ self.old.walk.course.count }
-        ensures some { (t : TransferView) → C.asked (C.script self.old.caller) (C.taken self.old.caller) ≡ Some t → (self.new.transfer ≡ t) × (walk_left board.now self.new ≡ walk_for board.now t) }
-        ensures none { C.asked (C.script self.old.caller) (C.taken self.old.caller) ≡ None → is_over (walk_left board.now self.new) ≡ true }
-        ensures stays { C.asked (C.script self.old.caller) (C.taken self.old.caller) ≡ None → self.new.transfer ≡ self.old.transfer }
+        ensures some { (t : TransferView) → asked_next C.Caller self.old ≡ Some t → (self.new.transfer ≡ t) × (walk_left board.now self.new ≡ walk_for board.now t) }
+        ensures none { asked_next C.Caller self.old ≡ None → is_over (walk_left board.now self.new) ≡ true }
+        ensures stays { asked_next C.Caller self.old ≡ None → self.new.transfer ≡ self.old.transfer }
         ensures same { self.new ≡ record self.old { transfer = self.new.transfer; walk = self.new.walk; port = self.new.port; sent = 0; written = 0; replies = self.new.replies; decided = None } }
         ensures cleared { self.new.replies.got ≡ [] }
         ensures counted { length (messages_of self.new.transfer) ≡ self.new.walk.course.count }

@@ -1,39 +1,56 @@
 //! One step of a caller: a lock, a message, a line or a settle.
-ghost use Rattle.std.specs.Prelude.{◌≡◌, ◌<◌, ℕ, true, length, None, Some};
+ghost use Rattle.std.specs.Prelude.{◌≡◌, ◌<◌, ◌≤◌, ℕ, length, None};
+ghost use Rattle.i2c_base.specs.Limits.{MOST_LENGTH};
+ghost use Rattle.i2c_base.specs.declared.entry.Entry.TheVariants as entry;
 ghost use Rattle.i2c_base.specs.declared.ids.LockId.{LockId};
-ghost use Rattle.bus_spec.specs.Grammar.{is_over};
+ghost use Rattle.bus_journal.specs.Borrowed.{entry_seen, most_bytes};
 ghost use Rattle.bus_spec.specs.Walk as act;
 ghost use Rattle.seg_locks.specs.Locks.{holder_in};
-ghost use Rattle.bus_core.specs.Kept.{IsKept, ComesAt, HasMessage, HasShift, HasStepped};
+ghost use Rattle.bus_core.specs.Kept.{IsKept, ComesAt, HasMadeStep, HasMessage, HasShift, HasStepped};
 ghost use Rattle.bus_core.specs.Steps.{IsBlockedAt, HasEndedAt};
 ghost use Rattle.bus_core.specs.declared.steps.StepAnswer.TheVariants as answer;
 
 use crate::marks::set_marks;
 use crate::parts::CoreParts;
-use crate::seats::{
-    hear, message_entry, next_action, pass, pass_free, pass_line, refuse, say, settle, whose,
-};
 use bus_journal::{EntryRef, Head};
-use bus_message::{Sending, shift};
+use bus_message::{MsgResult, send_next, shift_line};
 use i2c_base::{Caller, Errno, LockId, MuxId};
 use i2c_outside::Port;
-use mux_plan::Action;
+use mux_plan::{Action, NextMsg};
+
+// The entry of a message, of which this came.
+fn message_entry<'a>(caller: u8, next: &NextMsg, msg: &MsgResult, bytes: &'a [u8]) -> EntryRef<'a>
+    requires { length bytes.now ≤ MOST_LENGTH }
+    ensures seen { entry_seen result ≡ entry.Message caller next.now.bus next.now.purpose next.now.part next.now.parts msg.now.addr msg.now.reading bytes.now msg.now.heard msg.now.end }
+    ensures bytes { result.bytes.now ≡ bytes.now }
+    ensures few { length result.bytes.now ≤ most_bytes result.head }
+{
+    EntryRef {
+        head: Head::Message {
+            caller,
+            bus: next.bus,
+            purpose: next.purpose,
+            part: next.part,
+            parts: next.parts,
+            addr: msg.addr,
+            reading: msg.reading,
+            heard: msg.heard,
+            end: msg.end,
+        },
+        bytes,
+    }
+}
 
 // Takes the lock that comes next, which is free.
 fn take<P: Port, C: Caller>(parts: &mut CoreParts<'_, P, C>, place: usize, lock: &LockId)
     requires kept { IsKept P.Port C.Caller parts.old }
     requires next { ComesAt parts.old place (act.Take lock.now) }
     requires free { holder_in parts.old.locks lock.now ≡ None }
-    ensures kept { IsKept P.Port C.Caller parts.new }
-    ensures stepped { HasStepped P.Port C.Caller place parts.old parts.new }
+    ensures { HasMadeStep P.Port C.Caller place parts.old parts.new }
 {
-    let caller = pass(
-        &mut parts.seats,
-        place,
-        parts.board,
-        &parts.locks,
-        &mut parts.dues,
-    );
+    let seat = &mut parts.seats[place];
+    seat.lock_done(parts.board, &parts.locks, &mut parts.dues);
+    let caller = seat.number;
     parts.journal.push(&EntryRef {
         head: Head::Take {
             caller,
@@ -48,17 +65,16 @@ fn take<P: Port, C: Caller>(parts: &mut CoreParts<'_, P, C>, place: usize, lock:
 fn free<P: Port, C: Caller>(parts: &mut CoreParts<'_, P, C>, place: usize, lock: &LockId)
     requires kept { IsKept P.Port C.Caller parts.old }
     requires next { ComesAt parts.old place (act.Free lock.now) }
-    ensures kept { IsKept P.Port C.Caller parts.new }
-    ensures stepped { HasStepped P.Port C.Caller place parts.old parts.new }
+    ensures { HasMadeStep P.Port C.Caller place parts.old parts.new }
 {
-    let caller = pass_free(
-        &mut parts.seats,
-        place,
+    let seat = &mut parts.seats[place];
+    seat.free_done(
         parts.board,
         &parts.locks,
         parts.ports.as_slice(),
         &mut parts.dues,
     );
+    let caller = seat.number;
     parts.journal.push(&EntryRef {
         head: Head::Free {
             caller,
@@ -70,35 +86,33 @@ fn free<P: Port, C: Caller>(parts: &mut CoreParts<'_, P, C>, place: usize, lock:
 }
 
 // Sends the message that comes next, with its entry, and the settle that it decides.
-fn converse<P: Port, C: Caller>(parts: &mut CoreParts<'_, P, C>, place: usize, next: &Sending)
+fn send_and_record<P: Port, C: Caller>(
+    parts: &mut CoreParts<'_, P, C>,
+    place: usize,
+    next: &NextMsg,
+)
     requires kept { IsKept P.Port C.Caller parts.old }
     requires next { HasMessage parts.old place next.now }
-    ensures kept { IsKept P.Port C.Caller parts.new }
-    ensures stepped { HasStepped P.Port C.Caller place parts.old parts.new }
+    ensures { HasMadeStep P.Port C.Caller place parts.old parts.new }
 {
-    let (caller, sent) = say(
-        &parts.seats,
-        place,
-        parts.board,
-        &mut parts.ports,
-        next,
-        &mut parts.bytes,
-    );
-    parts.journal.push(&message_entry(caller, next, &sent, parts.bytes.as_slice()));
-    hear(
-        &mut parts.seats,
-        place,
+    let seat = &mut parts.seats[place];
+    let cursor = seat.cursor(parts.board, next);
+    let port = &mut parts.ports[seat.port].1;
+    let msg = send_next(parts.board, port, &cursor, next, &mut parts.bytes);
+    let bytes = parts.bytes.as_slice();
+    parts
+        .journal
+        .push(&message_entry(seat.number, next, &msg, bytes));
+    seat.message_done(
         parts.board,
         &parts.locks,
         next,
-        &sent,
-        parts.bytes.as_slice(),
+        &msg,
+        bytes,
         &mut parts.dues,
     );
-    set_marks(&mut parts.locks, caller, parts.dues.as_slice());
-    settle(
-        &mut parts.seats,
-        place,
+    set_marks(&mut parts.locks, seat.number, parts.dues.as_slice());
+    seat.settle(
         parts.board,
         &parts.locks,
         &mut parts.journal,
@@ -110,11 +124,11 @@ fn converse<P: Port, C: Caller>(parts: &mut CoreParts<'_, P, C>, place: usize, n
 fn switch<P: Port, C: Caller>(parts: &mut CoreParts<'_, P, C>, place: usize, mux: MuxId, level: u8)
     requires kept { IsKept P.Port C.Caller parts.old }
     requires next { HasShift parts.old place mux level }
-    ensures kept { IsKept P.Port C.Caller parts.new }
-    ensures stepped { HasStepped P.Port C.Caller place parts.old parts.new }
+    ensures { HasMadeStep P.Port C.Caller place parts.old parts.new }
 {
-    let (caller, port) = whose(&parts.seats, place);
-    let failed = shift(&mut parts.ports, port, mux, level);
+    let seat = &mut parts.seats[place];
+    let failed = shift_line(&mut parts.ports[seat.port].1, mux, level);
+    let caller = seat.number;
     parts.journal.push(&EntryRef {
         head: Head::Line {
             caller,
@@ -124,18 +138,9 @@ fn switch<P: Port, C: Caller>(parts: &mut CoreParts<'_, P, C>, place: usize, mux
         },
         bytes: &[],
     });
-    pass_line(
-        &mut parts.seats,
-        place,
-        parts.board,
-        &parts.locks,
-        failed,
-        &mut parts.dues,
-    );
+    seat.line_done(parts.board, &parts.locks, failed, &mut parts.dues);
     set_marks(&mut parts.locks, caller, parts.dues.as_slice());
-    settle(
-        &mut parts.seats,
-        place,
+    seat.settle(
         parts.board,
         &parts.locks,
         &mut parts.journal,
@@ -143,39 +148,22 @@ fn switch<P: Port, C: Caller>(parts: &mut CoreParts<'_, P, C>, place: usize, mux
     );
 }
 
-// Settles the refused transfer of the caller at a place, and loads its next one.
-fn turn_down<P: Port, C: Caller>(parts: &mut CoreParts<'_, P, C>, place: usize, errno: Errno)
-    requires kept { IsKept P.Port C.Caller parts.old }
-    requires next { ComesAt parts.old place (act.Settle (Some errno)) }
-    ensures kept { IsKept P.Port C.Caller parts.new }
-    ensures stepped { HasStepped P.Port C.Caller place parts.old parts.new }
-{
-    refuse(
-        &mut parts.seats,
-        place,
-        parts.board,
-        &parts.locks,
-        parts.ports.as_slice(),
-        &mut parts.journal,
-        &mut parts.dues,
-        errno,
-    );
-}
-
-// Settles the transfer of the caller at a place, which takes no lock: it is refused, since a settle without an error
-// stands directly behind its message.
-fn settle_alone<P: Port, C: Caller>(
-    parts: &mut CoreParts<'_, P, C>,
-    place: usize,
-    verdict: Option<Errno>,
-)
+// Settles the refused transfer of the caller at a place, and loads its next one. A settle without an error stands
+// directly behind its message, so none comes by itself.
+fn refuse<P: Port, C: Caller>(parts: &mut CoreParts<'_, P, C>, place: usize, verdict: Option<Errno>)
     requires kept { IsKept P.Port C.Caller parts.old }
     requires next { ComesAt parts.old place (act.Settle verdict) }
-    ensures kept { IsKept P.Port C.Caller parts.new }
-    ensures stepped { HasStepped P.Port C.Caller place parts.old parts.new }
+    ensures { HasMadeStep P.Port C.Caller place parts.old parts.new }
 {
     if let Some(errno) = verdict {
-        turn_down(parts, place, errno);
+        parts.seats[place].refuse(
+            parts.board,
+            &parts.locks,
+            parts.ports.as_slice(),
+            &mut parts.journal,
+            &mut parts.dues,
+            errno,
+        );
     }
 }
 
@@ -200,7 +188,7 @@ pub fn step<P: Port, C: Caller>(parts: &mut CoreParts<'_, P, C>, place: usize) -
     ensures blocked { (l : LockId) (h : ℕ) → result ≡ answer.Blocked l h → (parts.new ≡ parts.old) × IsBlockedAt parts.old place l h }
     ensures finished { result ≡ answer.Finished → (parts.new ≡ parts.old) × HasEndedAt parts.old place }
 {
-    let next = next_action(&parts.seats, place, parts.board, &parts.locks);
+    let next = parts.seats[place].next(parts.board, &parts.locks);
     match &next {
         Action::Done => return StepAnswer::Finished,
         Action::Take(lock) => {
@@ -213,24 +201,9 @@ pub fn step<P: Port, C: Caller>(parts: &mut CoreParts<'_, P, C>, place: usize) -
             take(parts, place, lock);
         }
         Action::Free(lock) => free(parts, place, lock),
-        Action::Send {
-            bus,
-            purpose,
-            part,
-            parts: count,
-            control,
-        } => {
-            let next = Sending {
-                bus: *bus,
-                purpose: *purpose,
-                part: *part,
-                parts: *count,
-                control: *control,
-            };
-            converse(parts, place, &next);
-        }
+        Action::Send(next) => send_and_record(parts, place, next),
         Action::Line { mux, level } => switch(parts, place, *mux, *level),
-        Action::Settle(verdict) => settle_alone(parts, place, *verdict),
+        Action::Settle(verdict) => refuse(parts, place, *verdict),
     }
     StepAnswer::Stepped
 }

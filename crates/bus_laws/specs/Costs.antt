@@ -1,14 +1,10 @@
 -- How many steps and bytes a walk has at most, and the bytes of its reply; a settle belongs to the step before it.
-use Rattle.std.specs.Prelude.{◌≡◌, ℕ, ◌+◌, ◌≤◌, true, List, Option, if◌then◌else◌}
+use Rattle.std.specs.Prelude.{◌≡◌, ℕ, ◌+◌, ◌≤◌, true, List, Option}
 use Rattle.i2c_base.specs.Board.{BoardView}
 use Rattle.i2c_spec.specs.Tree.{Hop, IsAmongHops}
-use Rattle.i2c_spec.specs.Messages.{MessageView}
+use Rattle.i2c_spec.specs.Messages.{bytes_most}
 use Rattle.i2c_spec.specs.Flat.{block_limit}
 use Rattle.bus_spec.specs.Walk.{Act, Take, Free, Send, Shift, Settle, ActOutcome, WalkTree, Ends, Look, Then, is_arbitrator, message_of}
-
--- the bytes that a message moves at most: of a counted read as many as the limit allows, and those beside
-abbrev pub bytes_most : ℕ → MessageView → ℕ
-bytes_most limit m = if m.counted then limit + m.len else m.len
 
 -- what one step weighs: a lock or a line is one, a message is one and one more for each of its bytes
 abbrev pub weight_at : BoardView → Act → ℕ

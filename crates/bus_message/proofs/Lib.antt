@@ -1,5 +1,6 @@
 pub mod TalkLemmas
 pub mod MessageLemmas
+pub mod EndLemmas
 -- The next message of a transfer partway.
 pub mod PartwayLemmas
-pub mod SocketLemmas
+pub mod PortLemmas

@@ -12,7 +12,7 @@ use Rattle.i2c_base.specs.declared.entry.End.TheVariants as end
 use Rattle.i2c_spec.specs.Messages.{MessageView}
 use Rattle.i2c_spec.specs.World.{World, after, answer as world_answer, has_heard, takes, gives}
 use Rattle.i2c_spec.specs.Conversation.{Said, TalkTold, world_listener, silence, with_byte, call_then, ended, puts, gets, gets_counted, data_of, by_answer, talk}
-use Rattle.core_laws.specs.Talks.{TellsTalk}
+use Rattle.bus_message.specs.Talks.{TellsTalk}
 use Rattle.bus_message.specs.Talks.{Reaches, over_limit}
 use Rattle.bus_message.proofs.TalkLemmas.{reaches_same, byte_more, went, failed}
 
@@ -136,6 +136,13 @@ count_came whole cut last limit len byte next before count got w w_new log log_n
     (λ s. ap (λ b. counted_goes cut last limit len b s) (sym given) ∙ goes s)
     (went whole cut (call.Get true) (counted_next cut last limit len) before count got w w_new log log_new behind world_is log_is r))
 
+pub count_failed : (whole : TalkTold World) (last : Bool) (limit len : ℕ) (before : List PortCall) (count : ℕ) (got : List ℕ) (w w_new : World) (log log_new : List PortCall)
+    → w_new ≡ after w call.Fault → log_new ≡ log ++ call.Fault ∷ []
+    → Reaches whole (gets_counted world_listener (Some count) last limit len) before count got w log
+    → TellsTalk whole got (end.Cut count) w_new before log_new
+count_failed whole last limit len before count got w w_new log log_new world_is log_is r =
+    failed whole (call.Get true) (counted_next (Some count) last limit len) before count got w w_new log log_new world_is log_is r
+
 pub count_over : (whole : TalkTold World) (cut : Option ℕ) (last : Bool) (limit len byte : ℕ) (before : List PortCall) (count : ℕ) (got : List ℕ) (w w_new : World) (log log_new : List PortCall)
     → byte ≡ gives w → ((byte == 0) || nat_lt limit byte) ≡ true
     → ((k : ℕ) → cut ≡ Some k → count + 1 ≤ k) → w_new ≡ after w (call.Get true) → log_new ≡ log ++ call.Get true ∷ []
@@ -160,6 +167,13 @@ count_within whole cut last limit len byte rest before count got w w_new log log
 -- the byte behind a count that no block has
 abbrev over_next : Option ℕ → World → Said World → TalkTold World
 over_next cut w s = ended world_listener cut true (with_byte s (gives w)) end.Proto
+
+pub over_failed : (whole : TalkTold World) (before : List PortCall) (count : ℕ) (got : List ℕ) (w w_new : World) (log log_new : List PortCall)
+    → w_new ≡ after w call.Fault → log_new ≡ log ++ call.Fault ∷ []
+    → Reaches whole (over_limit (Some count)) before count got w log
+    → TellsTalk whole got (end.Cut count) w_new before log_new
+over_failed whole before count got w w_new log log_new world_is log_is r =
+    failed whole (call.Get false) (over_next (Some count)) before count got w w_new log log_new world_is log_is r
 
 pub over_went : (whole : TalkTold World) (cut : Option ℕ) (byte : ℕ) (before : List PortCall) (count : ℕ) (got : List ℕ) (w w_new : World) (log log_new : List PortCall)
     → byte ≡ gives w

@@ -1,6 +1,6 @@
 -- One step more of a conversation with the world of a root. Each lemma goes from where it stands by one call, by a
 -- byte, or to its end.
-use Rattle.std.proofs.Common.{◌≡◌, ℕ, ◌+◌, ◌≤◌, true, false, cond, List, [], ◌∷◌, ◌++◌, length, reverse, Option, Some, None, refl, sym, ap, ◌∙◌, arith, append_assoc}
+use Rattle.std.proofs.Common.{◌≡◌, ℕ, zero, suc, ◌+◌, ◌≤◌, true, false, cond, List, [], ◌∷◌, ◌++◌, length, reverse, Option, Some, None, refl, sym, ap, ◌∙◌, arith, append_assoc}
 use Rattle.std.proofs.lemmas.List.{reverse-append}
 use Rattle.std.proofs.lemmas.Bool.Decides.{nat_tests}
 use Rattle.i2c_base.specs.declared.port.PortCall.{PortCall}
@@ -10,7 +10,8 @@ use Rattle.i2c_base.specs.declared.entry.End.TheVariants as end
 use Rattle.i2c_spec.specs.World.{World, after}
 use Rattle.i2c_spec.specs.Conversation.{Said, TalkTold, world_listener, is_it, say, told, with_byte, call_then}
 use Rattle.bus_spec.specs.Past.{cut_of}
-use Rattle.core_laws.specs.Talks.{TellsTalk}
+use Rattle.bus_spec.specs.Legal.{start_failed}
+use Rattle.bus_message.specs.Talks.{TellsTalk}
 use Rattle.bus_message.specs.Talks.{Stands, Reaches}
 
 -- a place of failure that is behind this one, and this one
@@ -29,6 +30,16 @@ cut_after end.Nack n behind k is = absurd (cc)
 cut_after end.Slow n behind k is = absurd (cc)
 cut_after end.Refused n behind k is = absurd (cc)
 cut_after end.Proto n behind k is = absurd (cc)
+
+-- where a call behind the start failed, the start itself did not
+pub started : (e : End) → ((q : ℕ) → e ≡ end.Cut q → 1 ≤ q) → start_failed e ≡ true → ⊥
+started (end.Cut zero) behind f = (let low : 1 ≤ 0 = behind 0 refl in omega (arith, low))
+started (end.Cut (suc q)) behind f = (let h : false ≡ true = f in cc)
+started end.Ok behind f = (let h : false ≡ true = f in cc)
+started end.Nack behind f = (let h : false ≡ true = f in cc)
+started end.Slow behind f = (let h : false ≡ true = f in cc)
+started end.Refused behind f = (let h : false ≡ true = f in cc)
+started end.Proto behind f = (let h : false ≡ true = f in cc)
 
 -- what is left, told in another way
 pub reaches_same : (whole : TalkTold World) (left next : Said World → TalkTold World) (before : List PortCall) (count : ℕ) (got : List ℕ) (w : World) (log : List PortCall)

@@ -1,4 +1,5 @@
 -- One message, and one line step, over the port of a root.
 pub mod Talks
-pub mod Calls
-pub mod Sockets
+pub mod Ports
+pub mod Sends
+pub mod Cursors

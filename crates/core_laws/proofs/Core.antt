@@ -14,7 +14,8 @@ use Rattle.bus_spec.specs.Slots.{Slots}
 use Rattle.bus_spec.specs.Grammar.{seen, is_over, first_act}
 use Rattle.bus_laws.specs.Holds.{HoldsLocks}
 use Rattle.seg_locks.specs.Locks.{LocksView}
-use Rattle.core_laws.specs.Spots.{seen_of, Spot, Socket, IsTold, AreNumbered, AreRooted}
+use Rattle.core_laws.specs.Spots.{seen_of, Spot, IsTold, AreNumbered, AreRooted}
+use Rattle.bus_message.specs.Ports.{Socket}
 use Rattle.core_laws.proofs.Steps.{set_here}
 use Rattle.core_laws.specs.Core.{Place, spot_of, numbers_of, trees_of, spots_of, pending, has_reply, IsLone, Run, Whole, StandsAt, IsGoing, SeatKept, CoreKept}
 use Rattle.core_laws.specs.Seats.{IsLeft}

@@ -15,7 +15,8 @@ use Rattle.bus_spec.specs.Walk.{Job, Call, Send, Shift, Settle, Passed, Lined, A
 use Rattle.bus_spec.specs.Grammar.{seen, is_over, first_note, rest_of}
 use Rattle.mux_plan.specs.Plans.{SeenView, slots_of}
 use Rattle.bus_laws.specs.Holds.{HoldsLocks, SendsIn}
-use Rattle.core_laws.specs.Spots.{turned_to, seen_of, Socket}
+use Rattle.core_laws.specs.Spots.{turned_to, seen_of}
+use Rattle.bus_message.specs.Ports.{Socket}
 use Rattle.core_laws.specs.Behind.{with_place, line_entry, switched, settled_with}
 use Rattle.core_laws.specs.Core.{Place, spot_of, numbers_of, trees_of, spots_of, has_reply, IsGoing, SeatKept, CoreKept, Run, IsFairRun, Whole, StandsAt, IsShifted}
 use Rattle.core_laws.specs.Owed.{OwesUpTo, total}

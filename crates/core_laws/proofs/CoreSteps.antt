@@ -27,13 +27,14 @@ use Rattle.bus_laws.specs.Runs.{InLocks}
 use Rattle.mux_plan.specs.Plans.{SeenView, slots_of}
 use Rattle.bus_laws.specs.Holds.{HoldsLocks, SendsIn, IsLockOf}
 use Rattle.seg_locks.specs.Locks.{holder_in, with_holder}
-use Rattle.core_laws.specs.Spots.{turned_to, seen_of, Socket}
+use Rattle.core_laws.specs.Spots.{turned_to, seen_of}
+use Rattle.bus_message.specs.Ports.{Socket}
 use Rattle.core_laws.proofs.Steps.{told-take, told-free}
 use Rattle.core_laws.specs.Behind.{with_place, passed, message_entry, spoken, settled_with}
 use Rattle.core_laws.specs.Core.{Place, spot_of, numbers_of, trees_of, spots_of, has_reply, IsGoing, SeatKept, CoreKept, Run, IsFairRun, Whole, StandsAt, IsSent}
 use Rattle.core_laws.specs.Owed.{OwesUpTo, total, message_most}
 use Rattle.core_laws.specs.Seats.{IsLeft, IsDecided}
-use Rattle.core_laws.specs.Sends.{Sending}
+use Rattle.mux_plan.specs.declared.task.NextMsg.{NextMsg}
 use Rattle.core_laws.specs.Sockets.{IsInside, SocketKept}
 use Rattle.core_laws.specs.Steps.{next_of, behind_of, IsSaid}
 use Rattle.core_laws.specs.Table.{TableKept}
@@ -72,7 +73,7 @@ module _ (run : Run) (fair : IsFairRun run) (whole : Whole) (core : CoreKept run
   seat = core.seats place p ls n stands
 
   -- A MESSAGE
-  module _ (job : Job) (more : ℕ) (next : Sending) (at : ℕ) (old new : Socket) (addr : ℕ) (reading : Bool) (bytes : List ℕ) (heard : Option Node) (e : End) (words : SeenView)
+  module _ (job : Job) (more : ℕ) (next : NextMsg) (at : ℕ) (old new : Socket) (addr : ℕ) (reading : Bool) (bytes : List ℕ) (heard : Option Node) (e : End) (words : SeenView)
       (sent : IsSent run whole p job more next at old new addr reading bytes heard e words) (gone : ℕ) where
     abbrev pub behind : WalkTree
     behind = behind_of whole.locks p.tree (Sent e bytes)

@@ -9,7 +9,8 @@ use Rattle.bus_spec.specs.Walk.{Job, Call, Select, Clear, Send, Sent, WalkTree}
 use Rattle.bus_spec.specs.Slots.{Slots}
 use Rattle.bus_spec.specs.Grammar.{seen, first_act, rest_of}
 use Rattle.core_laws.specs.Seats.{IsLeft}
-use Rattle.core_laws.specs.Sends.{is_call_through, gone_after}
+use Rattle.mux_plan.specs.Plans.{is_call_through}
+use Rattle.core_laws.specs.Sends.{gone_after}
 use Rattle.core_laws.proofs.WalkSteps.{SendLeaves, select-leaves, clear-leaves, went-leaves, ended-leaves}
 
 pub is_ok : (x : End) → (x ≡ end.Ok) ⊎ (x ≡ end.Ok → ⊥)

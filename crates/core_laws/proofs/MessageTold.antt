@@ -15,7 +15,7 @@ use Rattle.i2c_base.specs.declared.tree.Grant.{Grant}
 use Rattle.i2c_base.specs.declared.tree.Grant.TheVariants as grant
 use Rattle.i2c_base.specs.Board.{BoardView}
 use Rattle.i2c_spec.specs.Flat.{block_limit}
-use Rattle.bus_laws.specs.Costs.{bytes_most}
+use Rattle.i2c_spec.specs.Messages.{bytes_most}
 use Rattle.core_laws.specs.Owed.{message_most}
 use Rattle.i2c_spec.specs.Grant.{grant_of, named_of}
 use Rattle.i2c_spec.specs.Tree.{Hop, addr_of_mux}
@@ -26,24 +26,22 @@ use Rattle.bus_spec.specs.Tells.{HearsIn, heard_list}
 use Rattle.bus_spec.specs.Legal.{starts, start_failed}
 use Rattle.mux_plan.specs.Plans.{control_of}
 use Rattle.bus_laws.specs.Next.{chip_where, who_hears, heard_where}
-use Rattle.core_laws.specs.Sends.{Sending, IsMessageOf, IsHeard, heard_of, heard_for, control_message, message_for, ends_with}
+use Rattle.mux_plan.specs.declared.task.NextMsg.{NextMsg}
+use Rattle.core_laws.specs.Sends.{IsMessageOf}
+use Rattle.bus_message.specs.Sends.{IsHeard, device_of, control_message, message_for}
+use Rattle.mux_plan.specs.Plans.{ends_with}
 use Rattle.i2c_base.specs.Transfer.{TransferView}
 
 -- who is told to have heard a message is the one who hears its start
-named_is : (w : World) (reading : Bool) (g : Grant) → heard_of g (is_some (heard_where w reading (named_of g))) ≡ heard_where w reading (named_of g)
+named_is : (w : World) (reading : Bool) (g : Grant)
+    → cond (is_some (heard_where w reading (named_of g))) (device_of g) None ≡ heard_where w reading (named_of g)
 named_is w reading (grant.Named d) = by_start (starts (slice_get w.devices d) reading)
   where
-    by_start : (t : Bool) → heard_of (grant.Named d) (is_some (cond t (Some (node.Device d)) None)) ≡ cond t (Some (node.Device d)) None
+    by_start : (t : Bool) → cond (is_some (cond t (Some (node.Device d)) None)) (Some (node.Device d)) None ≡ cond t (Some (node.Device d)) None
     by_start true = refl
     by_start false = refl
 named_is w reading grant.Nobody = refl
 named_is w reading grant.Busy = refl
-
-unheard_is : (why : Purpose) (g : Grant) → heard_for why g false ≡ None
-unheard_is purpose.Call (grant.Named d) = refl
-unheard_is purpose.Call grant.Nobody = refl
-unheard_is purpose.Call grant.Busy = refl
-unheard_is (purpose.Control m) g = refl
 
 hears_in : (w : World) (addr : ℕ) (reading : Bool) (heard : Option Node) (e : End) → (start_failed e ≡ false → hearers w addr reading ≡ heard_list heard)
     → (start_failed e ≡ true → heard ≡ None) → HearsIn w addr reading heard e
@@ -62,8 +60,8 @@ pub call-hears : (b : BoardView) (t : TransferView) (m : MessageView) (w : World
     → HearsIn w m.addr m.reading heard e
 call-hears b t m w heard e hears there answered =
     hears_in w m.addr m.reading heard e
-    (λ fine. there ∙ ap heard_list (sym (hears.named ∙ ap (heard_of granted) (hears.answered fine ∙ answered) ∙ named_is w m.reading granted)))
-    (λ failed. hears.named ∙ ap (heard_of granted) (hears.failed failed) ∙ unheard_is purpose.Call granted)
+    (λ fine. there ∙ ap heard_list (sym (hears.named ∙ ap (λ (t : Bool). cond t (device_of granted) None) (hears.answered fine ∙ answered) ∙ named_is w m.reading granted)))
+    (λ failed. hears.named ∙ ap (λ (t : Bool). cond t (device_of granted) None) (hears.failed failed))
   where
     granted : Grant
     granted = grant_of b t.bus m.addr t.force
@@ -94,7 +92,7 @@ clear_is b on mux kind left addr e = ap (λ (a : ℕ). control_message a (contro
 chip_address_is : (b : BoardView) (m addr a : ℕ) → addr_of_mux b m ≡ Some a → addr ≡ a → addr ≡ chip_address b m
 chip_address_is b m addr a at e = e ∙ sym (ap (λ (o : Option ℕ). unwrap_or o 0) at)
 
-pub control-message : (b : BoardView) (t : TransferView) (sent : ℕ) (job : Job) (left m addr a : ℕ) (next : Sending) → IsMessageOf job left next → job_purpose job ≡ purpose.Control m
+pub control-message : (b : BoardView) (t : TransferView) (sent : ℕ) (job : Job) (left m addr a : ℕ) (next : NextMsg) → IsMessageOf job left next → job_purpose job ≡ purpose.Control m
     → addr_of_mux b m ≡ Some a → addr ≡ a → message_for t sent next.purpose next.control addr ≡ message_of b job left
 control-message b t sent (Call bus ms) left m addr a next of why at e = absurd (let f : purpose.Call ≡ purpose.Control m = why in cc)
 control-message b t sent (Select h) left m addr a next of why at e =
@@ -104,7 +102,7 @@ control-message b t sent (Clear on mux kind) left m addr a next of why at e =
     ap (λ (p : Purpose). message_for t sent p next.control addr) of.for_purpose ∙ ap (λ (o : Option ℕ). control_message addr o) of.with_byte
     ∙ clear_is b on mux kind left addr (chip_address_is b mux addr a (ap (addr_of_mux b) (let f : purpose.Control mux ≡ purpose.Control m = why in let g : mux ≡ m = cc in g) ∙ at) e)
 
-pub call-message : (b : BoardView) (t : TransferView) (sent : ℕ) (bus : ℕ) (ms : List MessageView) (left addr : ℕ) (next : Sending) → IsMessageOf (Call bus ms) left next
+pub call-message : (b : BoardView) (t : TransferView) (sent : ℕ) (bus : ℕ) (ms : List MessageView) (left addr : ℕ) (next : NextMsg) → IsMessageOf (Call bus ms) left next
     → ms ≡ messages_of t → sent + suc left ≡ length ms → message_for t sent next.purpose next.control addr ≡ message_of b (Call bus ms) left
 call-message b t sent bus ms left addr next of same count =
     ap (λ (p : Purpose). message_for t sent p next.control addr) of.for_purpose
@@ -116,7 +114,7 @@ moves_alike : (limit a c : ℕ) (o : Option ℕ) → bytes_most limit (control_m
 moves_alike limit a c (Some byte) = refl
 moves_alike limit a c None = refl
 
-pub message-moves : (b : BoardView) (t : TransferView) (sent : ℕ) (job : Job) (left : ℕ) (next : Sending) (addr : ℕ) → IsMessageOf job left next
+pub message-moves : (b : BoardView) (t : TransferView) (sent : ℕ) (job : Job) (left : ℕ) (next : NextMsg) (addr : ℕ) → IsMessageOf job left next
     → ((bus : ℕ) (ms : List MessageView) → job ≡ Call bus ms → (ms ≡ messages_of t) × (sent + suc left ≡ length ms))
     → bytes_most (block_limit b) (message_for t sent next.purpose next.control addr) ≡ message_most b job left
 message-moves b t sent (Call bus ms) left next addr of owns = ap (bytes_most (block_limit b)) (call-message b t sent bus ms left addr next of (owns bus ms refl).0 (owns bus ms refl).1)
@@ -132,7 +130,7 @@ last_of : (sent left n : ℕ) → sent + suc left ≡ n → eqb (n - left) n ≡
 last_of sent zero n count = eq-eqb (n - 0) n (omega (arith, count))
 last_of sent (suc left) n count = eqb-apart (n - suc left) n (λ e. omega (arith, count, e)) ∙ sym (eqb-apart (suc left) 0 (λ e. omega (arith, e)))
 
-pub last-is : (job : Job) (left : ℕ) (next : Sending) → IsMessageOf job left next
+pub last-is : (job : Job) (left : ℕ) (next : NextMsg) → IsMessageOf job left next
     → ((bus : ℕ) (ms : List MessageView) → job ≡ Call bus ms → (sent : ℕ) × (sent + suc left ≡ length ms)) → ends_with next.purpose next.part next.parts ≡ is_last job left
 last-is (Call bus ms) left next of counts =
     ap (λ (p : Purpose). ends_with p next.part next.parts) of.for_purpose ∙ ap (λ (k : ℕ). eqb k next.parts) of.as_part ∙ ap (λ (k : ℕ). eqb (length ms - left) k) of.of_parts

@@ -15,7 +15,8 @@ use Rattle.bus_laws.proofs.walk.Next.{quiet-next, within-next}
 use Rattle.mux_plan.specs.Plans.{slots_of}
 use Rattle.core_laws.specs.Core.{Place, has_reply, pending, IsGoing, CoreKept, Run, Whole}
 use Rattle.core_laws.specs.Owed.{total, message_most}
-use Rattle.core_laws.specs.Spots.{seen_of, Socket}
+use Rattle.core_laws.specs.Spots.{seen_of}
+use Rattle.bus_message.specs.Ports.{Socket}
 use Rattle.core_laws.specs.Steps.{next_of}
 use Rattle.bus_laws.proofs.past.Bytes.{got-grows, given-few}
 use Rattle.core_laws.proofs.Core.{owes-here, pending-set, stands-here, going-on}

@@ -39,9 +39,13 @@ use Rattle.bus_laws.proofs.past.Marks.{mark-there}
 use Rattle.bus_laws.proofs.past.Next.{call-reaches, control-switches}
 use Rattle.bus_laws.proofs.past.StandsStep.{at_same, at_other}
 use Rattle.seg_locks.specs.Locks.{LocksView}
-use Rattle.core_laws.specs.Spots.{seen_of, turned_to, TellsKept, Spot, SpotTold, Socket, SocketTold, IsTold, AreNumbered, AreRooted}
+use Rattle.core_laws.specs.Spots.{seen_of, turned_to, TellsKept, Spot, SpotTold, SocketTold, IsTold, AreNumbered, AreRooted}
+use Rattle.bus_message.specs.Ports.{Socket}
 use Rattle.core_laws.proofs.Steps.{set_here, own-ahead, spots-kept}
-use Rattle.core_laws.specs.Sends.{Sending, IsMessageOf, IsChipAddress, IsHeard, HasSent, message_for, ends_with}
+use Rattle.mux_plan.specs.declared.task.NextMsg.{NextMsg}
+use Rattle.core_laws.specs.Sends.{IsMessageOf}
+use Rattle.bus_message.specs.Sends.{IsChipAddress, IsHeard, HasSent, message_for}
+use Rattle.mux_plan.specs.Plans.{ends_with}
 use Rattle.core_laws.proofs.MessageTold.{call-hears, control-hears, call-message, control-message, last-is}
 use Rattle.i2c_base.proofs.ListLemmas.{set_elsewhere}
 
@@ -131,7 +135,7 @@ module _ (b : BoardView) (tree : IsTree b) (plain : IsPlainBoard b) (lines : Lin
 
     -- A MESSAGE of a job was sent on the root of a socket
     module _ (none : due ≡ None) (once : AreRooted sockets) (at : ℕ) (old new : Socket) (port_here : slice_get sockets at ≡ Some old)
-        (job : Job) (left : ℕ) (first : first_act (seen (slots_of (seen_of v)) x.tree) ≡ Some (Send job left)) (next : Sending) (of : IsMessageOf job left next) (rooted : old.root ≡ root_of b (job_bus job))
+        (job : Job) (left : ℕ) (first : first_act (seen (slots_of (seen_of v)) x.tree) ≡ Some (Send job left)) (next : NextMsg) (of : IsMessageOf job left next) (rooted : old.root ≡ root_of b (job_bus job))
         (t : TransferView) (gone : ℕ)
         (whose : (bus : ℕ) (ms : List MessageView) → job ≡ Call bus ms → (asks c (x.taken ++ x.owed) ≡ Some t) × (bus ≡ t.bus) × (ms ≡ messages_of t) × (gone + suc left ≡ length ms))
         (addr : ℕ) (reading : Bool) (bytes : List ℕ) (heard : Option Node) (e : End)

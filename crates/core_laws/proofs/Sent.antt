@@ -20,20 +20,23 @@ use Rattle.i2c_spec.proofs.MessageLemmas.{length-messages}
 use Rattle.mux_plan.specs.Plans.{SeenView, slots_of}
 use Rattle.core_laws.specs.Core.{Place, has_reply, IsGoing, CoreKept, Run, Whole, IsSent}
 use Rattle.core_laws.specs.Seats.{IsLeft, IsDecided}
-use Rattle.core_laws.specs.Sends.{Sending, message_for, call_message, gone_after}
+use Rattle.mux_plan.specs.declared.task.NextMsg.{NextMsg}
+use Rattle.bus_message.specs.Sends.{message_for, call_message}
+use Rattle.core_laws.specs.Sends.{gone_after}
 use Rattle.core_laws.specs.Steps.{next_of, behind_of}
-use Rattle.core_laws.specs.Talks.{Gives}
+use Rattle.bus_message.specs.Talks.{Gives}
 use Rattle.core_laws.proofs.Core.{owes-here, stands-here, going-on, left-on}
 use Rattle.core_laws.proofs.CoreSteps.{none_owed}
 use Rattle.core_laws.proofs.Leaves.{is_ok, message-leaves}
 use Rattle.core_laws.proofs.WalkSteps.{SettlesNext, call-is, ended-leaves, line-leaves}
-use Rattle.core_laws.specs.Spots.{seen_of, Socket}
+use Rattle.core_laws.specs.Spots.{seen_of}
+use Rattle.bus_message.specs.Ports.{Socket}
 use Rattle.i2c_base.specs.declared.ids.Node.{Node}
 use Rattle.bus_laws.proofs.past.Bytes.{reply-fits}
 
 module _ (run : Run) (whole : Whole) (core : CoreKept run whole)
     (place : ℕ) (p : Place) (here : slice_get whole.places place ≡ Some p)
-    (job : Job) (more : ℕ) (next : Sending) (at : ℕ) (old new : Socket) (addr : ℕ) (reading : Bool) (bytes : List ℕ) (heard : Option Node) (e : End) (words : SeenView)
+    (job : Job) (more : ℕ) (next : NextMsg) (at : ℕ) (old new : Socket) (addr : ℕ) (reading : Bool) (bytes : List ℕ) (heard : Option Node) (e : End) (words : SeenView)
     (is_sent : IsSent run whole p job more next at old new addr reading bytes heard e words) where
   abbrev behind : WalkTree
   behind = behind_of whole.locks p.tree (Sent e bytes)

@@ -22,7 +22,8 @@ use Rattle.bus_laws.proofs.walk.Next.{settles-sent}
 use Rattle.mux_plan.specs.Plans.{slots_of}
 use Rattle.bus_laws.specs.Holds.{HoldsLocks}
 use Rattle.seg_locks.specs.Locks.{LocksView, holder_in}
-use Rattle.core_laws.specs.Spots.{seen_of, Socket, AreRooted}
+use Rattle.core_laws.specs.Spots.{seen_of, AreRooted}
+use Rattle.bus_message.specs.Ports.{Socket}
 use Rattle.core_laws.proofs.Steps.{set_here}
 use Rattle.core_laws.specs.Table.{AreDistinct, TableKept}
 use Rattle.core_laws.specs.Sockets.{IsInside, IsFree, SocketKept, HoldsAt}

@@ -30,7 +30,8 @@ use Rattle.bus_laws.specs.Others.{ahead}
 use Rattle.bus_laws.specs.Holds.{IsLockOf}
 use Rattle.bus_laws.proofs.past.Others.{others-stay}
 use Rattle.seg_locks.specs.Locks.{LocksView, holder_in, with_holder}
-use Rattle.core_laws.specs.Spots.{seen_of, Spot, SpotTold, LocksTold, Socket, IsTold, AreNumbered}
+use Rattle.core_laws.specs.Spots.{seen_of, Spot, SpotTold, LocksTold, IsTold, AreNumbered}
+use Rattle.bus_message.specs.Ports.{Socket}
 use Rattle.i2c_base.proofs.ListLemmas.{set_elsewhere}
 
 pub set_here : {X : Type 0} (xs : List X) (i : ℕ) (x y : X) → slice_get (set xs i x) i ≡ Some y → x ≡ y

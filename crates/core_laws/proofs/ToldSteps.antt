@@ -25,8 +25,9 @@ use Rattle.bus_laws.specs.Reach.{AsksForMessages}
 use Rattle.bus_laws.proofs.walk.Next.{seen-first}
 use Rattle.mux_plan.specs.Plans.{SeenView, slots_of, slots_after, TellsMarks}
 use Rattle.seg_locks.specs.Locks.{LocksView}
-use Rattle.core_laws.specs.Spots.{seen_of, turned_to, TellsKept, Spot, Socket, IsTold, AreNumbered, AreRooted}
-use Rattle.core_laws.specs.Sends.{Sending}
+use Rattle.core_laws.specs.Spots.{seen_of, turned_to, TellsKept, Spot, IsTold, AreNumbered, AreRooted}
+use Rattle.bus_message.specs.Ports.{Socket}
+use Rattle.mux_plan.specs.declared.task.NextMsg.{NextMsg}
 use Rattle.core_laws.specs.Steps.{next_of, behind_of, IsSaid, IsLined, AreMarked}
 use Rattle.core_laws.proofs.Said.{told-message, told-decided, told-line, told-line-decided, told-settle}
 use Rattle.core_laws.proofs.Table.{set_at}
@@ -45,7 +46,7 @@ module _ (b : BoardView) (tree : IsTree b) (plain : IsPlainBoard b) (lines : Lin
       → (y : Slots) → TellsKept b y v.kept → TellsKept b (slots_after (Some act) (first_note (seen (slots_of (seen_of v)) x.tree)) out y) words.kept
   kept_by act out words first are y tells = subst (λ (a : Option Act). TellsKept b (slots_after a (first_note (seen (slots_of (seen_of v)) x.tree)) out y) words.kept) first (are.kept y tells)
 
-  module _ (t : TransferView) (gone : ℕ) (job : Job) (left : ℕ) (next : Sending) (addr : ℕ) (reading : Bool) (bytes : List ℕ) (heard : Option Node) (e : End)
+  module _ (t : TransferView) (gone : ℕ) (job : Job) (left : ℕ) (next : NextMsg) (addr : ℕ) (reading : Bool) (bytes : List ℕ) (heard : Option Node) (e : End)
       (said : IsSaid b asks x v t gone job left next old new addr reading bytes heard e) (goes : is_over (behind_of v x.tree (Sent e bytes)) ≡ false)
       (words : SeenView) (are : AreMarked b x.tree v (Sent e bytes) words) where
     abbrev pub message : Entry

@@ -13,7 +13,8 @@ use Rattle.bus_spec.specs.Legal.{is_stepping}
 use Rattle.bus_spec.specs.Schedule.{is_settle}
 use Rattle.bus_laws.specs.Others.{ahead}
 use Rattle.bus_laws.specs.Coming.{IsTurn}
-use Rattle.core_laws.specs.Spots.{Spot, Socket, AreNumbered, AreRooted}
+use Rattle.core_laws.specs.Spots.{Spot, AreNumbered, AreRooted}
+use Rattle.bus_message.specs.Ports.{Socket}
 use Rattle.core_laws.proofs.Steps.{set_here}
 use Rattle.i2c_base.proofs.ListLemmas.{set_elsewhere}
 

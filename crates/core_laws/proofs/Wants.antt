@@ -9,8 +9,11 @@ use Rattle.i2c_spec.specs.Tree.{buses, root_of}
 use Rattle.bus_spec.specs.Readings.{rank}
 use Rattle.i2c_spec.specs.Flat.{block_limit}
 use Rattle.i2c_spec.specs.Messages.{MessageView, messages_of}
-use Rattle.bus_laws.specs.Costs.{bytes_most}
-use Rattle.core_laws.specs.Sends.{Sending, IsMessageOf, message_for, ends_with}
+use Rattle.i2c_spec.specs.Messages.{bytes_most}
+use Rattle.mux_plan.specs.declared.task.NextMsg.{NextMsg}
+use Rattle.core_laws.specs.Sends.{IsMessageOf}
+use Rattle.bus_message.specs.Sends.{message_for}
+use Rattle.mux_plan.specs.Plans.{ends_with}
 use Rattle.core_laws.proofs.MessageTold.{message-moves, last-is}
 use Rattle.bus_spec.specs.Walk.{Take, Free, Send, Shift, Settle, Job, Call, job_bus, is_last}
 use Rattle.bus_spec.specs.Grammar.{seen, first_note}
@@ -22,7 +25,8 @@ use Rattle.bus_laws.specs.Holds.{IsLockOf, SendsIn}
 use Rattle.bus_laws.specs.Runs.{InLocks, IsCall}
 use Rattle.seg_locks.specs.Locks.{LocksView, IsLockIn, IsBelowHeld, holder_in, rank_in}
 use Rattle.core_laws.specs.Core.{Place, numbers_of, has_reply, SeatKept, CoreKept, Run, Whole, trees_of}
-use Rattle.core_laws.specs.Spots.{seen_of, Socket}
+use Rattle.core_laws.specs.Spots.{seen_of}
+use Rattle.bus_message.specs.Ports.{Socket}
 use Rattle.core_laws.specs.Steps.{next_of}
 use Rattle.core_laws.specs.Table.{TableKept}
 use Rattle.core_laws.proofs.Core.{locks-here, number-here, owes-here, seat-here, stands-here, tree-here, holds-at, left-on}
@@ -104,7 +108,7 @@ module _ (run : Run) (whole : Whole) (core : CoreKept run whole)
   call-wants bus ms more first = call-is run.board p.transfer (slots_of (seen_of whole.locks)) p.tree (has_reply p.owed) p.sent (send-left (Call bus ms) more first) bus ms more first
 
   -- WHICH MESSAGE IT IS, of what the caller has in hand: its bytes at most, and whether a stop follows it
-  module _ (job : Job) (more : ℕ) (first : next_of whole.locks p.tree ≡ Some (Send job more)) (next : Sending) (of : IsMessageOf job more next) where
+  module _ (job : Job) (more : ℕ) (first : next_of whole.locks p.tree ≡ Some (Send job more)) (next : NextMsg) (of : IsMessageOf job more next) where
     counted : (bus : ℕ) (ms : List MessageView) → job ≡ Call bus ms → (ms ≡ messages_of p.transfer) × (p.sent + suc more ≡ length ms)
     counted bus ms is = (let c = call-wants bus ms more (subst (λ (j : Job). next_of whole.locks p.tree ≡ Some (Send j more)) is first) in (c.1.same_messages, c.2))
 

@@ -13,7 +13,7 @@ use Rattle.bus_spec.specs.Grammar.{rest_of}
 use Rattle.bus_spec.specs.Past.{got_after}
 use Rattle.bus_spec.specs.Readings.{cut_told, message_cut}
 use Rattle.core_laws.specs.Core.{Place, Whole}
-use Rattle.core_laws.specs.Sends.{Sending}
+use Rattle.mux_plan.specs.declared.task.NextMsg.{NextMsg}
 use Rattle.core_laws.specs.Steps.{behind_of}
 
 -- this is there now, and holds and owes so much
@@ -29,14 +29,14 @@ abbrev pub begun_with : Place → List Reply → TransferView → WalkTree → P
 begun_with p replies t w = record p { taken = replies; owed = []; transfer = t; tree = w; sent = 0; got = []; cut = cut_at.No }
 
 -- the entry of a message of the caller there, and that of a line step
-abbrev pub message_entry : Place → Sending → ℕ → Bool → List ℕ → Option Node → End → Entry
+abbrev pub message_entry : Place → NextMsg → ℕ → Bool → List ℕ → Option Node → End → Entry
 message_entry p next addr reading bytes heard e = entry.Message p.number next.bus next.purpose next.part next.parts addr reading bytes heard e
 
 abbrev pub line_entry : Place → Job → Bool → Entry
 line_entry p job failed = entry.Line p.number (line_mux job) (line_level job) failed
 
 -- a message was sent, with which so many of the caller's went through
-abbrev pub spoken : Whole → Place → Job → Sending → Bool → List ℕ → End → ℕ → Place
+abbrev pub spoken : Whole → Place → Job → NextMsg → Bool → List ℕ → End → ℕ → Place
 spoken whole p job next reading bytes e gone =
     record p { tree = behind_of whole.locks p.tree (Sent e bytes); sent = gone; got = got_after job reading bytes p.got; cut = message_cut next.purpose next.part e }
 

@@ -26,10 +26,12 @@ use Rattle.bus_laws.specs.Holds.{HoldsLocks}
 use Rattle.bus_laws.specs.Lines.{LinesAreLocked}
 use Rattle.bus_laws.specs.Reach.{AsksForMessages}
 use Rattle.seg_locks.specs.Locks.{LocksView}
-use Rattle.core_laws.specs.Spots.{Spot, Socket, IsTold, AreRooted}
+use Rattle.core_laws.specs.Spots.{Spot, IsTold, AreRooted}
+use Rattle.bus_message.specs.Ports.{Socket}
 use Rattle.core_laws.specs.Owed.{OwesUpTo, total}
 use Rattle.core_laws.specs.Seats.{IsLeft}
-use Rattle.core_laws.specs.Sends.{Sending, IsMessageOf}
+use Rattle.mux_plan.specs.declared.task.NextMsg.{NextMsg}
+use Rattle.core_laws.specs.Sends.{IsMessageOf}
 use Rattle.core_laws.specs.Sockets.{SocketKept}
 use Rattle.core_laws.specs.Steps.{next_of, HasSaid, GivesBytes, KeepsPort, AreMarked}
 use Rattle.core_laws.specs.Table.{AreDistinct, TableKept}
@@ -143,7 +145,7 @@ pub record CoreKept (run : Run) (whole : Whole) : Type 0 where
   pub told : IsTrue run.tells → IsTold run.board run.callers run.asks whole.past (spots_of whole.places) whole.locks whole.sockets None
 
 -- a message comes next of a caller's walk, and was sent over the port at a place
-pub record IsSent (run : Run) (whole : Whole) (p : Place) (job : Job) (more : ℕ) (next : Sending) (at : ℕ) (old new : Socket)
+pub record IsSent (run : Run) (whole : Whole) (p : Place) (job : Job) (more : ℕ) (next : NextMsg) (at : ℕ) (old new : Socket)
     (addr : ℕ) (reading : Bool) (bytes : List ℕ) (heard : Option Node) (e : End) (words : SeenView) : Type 0 where
   pub first : next_of whole.locks p.tree ≡ Some (Send job more)
   pub of : IsMessageOf job more next

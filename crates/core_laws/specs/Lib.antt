@@ -1,6 +1,5 @@
 -- The core over plain lists: callers with their walks, ports, lock words, and what is kept of them between two steps.
 pub mod Spots
-pub mod Talks
 pub mod Sends
 pub mod Table
 pub mod Seats

@@ -8,7 +8,8 @@ use Rattle.i2c_spec.specs.Tree.{buses, depth}
 use Rattle.i2c_spec.specs.World.{opening_world}
 use Rattle.bus_spec.specs.Past.{begun}
 use Rattle.seg_locks.specs.Locks.{opened}
-use Rattle.core_laws.specs.Spots.{Socket, AreRooted}
+use Rattle.bus_message.specs.Ports.{Socket}
+use Rattle.core_laws.specs.Spots.{AreRooted}
 use Rattle.core_laws.specs.Core.{Place, numbers_of, Run, Whole, SeatKept}
 use Rattle.core_laws.specs.Owed.{total}
 use Rattle.core_laws.specs.Table.{AreDistinct}

@@ -4,7 +4,8 @@ use Rattle.std.specs.List.{sum_by}
 use Rattle.i2c_base.specs.Board.{BoardView}
 use Rattle.i2c_spec.specs.Flat.{block_limit}
 use Rattle.bus_spec.specs.Walk.{Job, WalkTree, message_of}
-use Rattle.bus_laws.specs.Costs.{IsWithin, bytes_most}
+use Rattle.bus_laws.specs.Costs.{IsWithin}
+use Rattle.i2c_spec.specs.Messages.{bytes_most}
 
 -- the walk under way, its settle, and what is left to ask for behind it
 pub record OwesUpTo (b : BoardView) (w : WalkTree) (unsettled : Bool) (behind n : ℕ) : Type 0 where

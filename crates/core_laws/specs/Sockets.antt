@@ -10,7 +10,7 @@ use Rattle.i2c_spec.specs.Messages.{MessageView}
 use Rattle.bus_spec.specs.Walk.{Call, Send, WalkTree}
 use Rattle.bus_spec.specs.Grammar.{first_act}
 use Rattle.bus_laws.specs.Holds.{HoldsLocks}
-use Rattle.core_laws.specs.Spots.{Socket}
+use Rattle.bus_message.specs.Ports.{Socket}
 
 -- a message of the caller's comes next on this root, whatever is known of the buses
 pub record IsInside (b : BoardView) (w : WalkTree) (root : ℕ) : Type 0 where

@@ -4,11 +4,8 @@ use Rattle.i2c_base.specs.declared.entry.Entry.{Entry}
 use Rattle.i2c_base.specs.declared.ids.LockId.{LockId}
 use Rattle.i2c_base.specs.declared.reply.Reply.{Reply}
 use Rattle.i2c_base.specs.declared.reply.Cut.{Cut}
-use Rattle.i2c_base.specs.declared.port.Phase.{Phase}
-use Rattle.i2c_base.specs.declared.port.PortCall.{PortCall}
 use Rattle.i2c_base.specs.Board.{BoardView}
 use Rattle.i2c_spec.specs.History.{Asks}
-use Rattle.i2c_spec.specs.World.{World}
 use Rattle.i2c_spec.specs.Tree.{buses, home_of_mux}
 use Rattle.bus_spec.specs.Walk.{WalkTree}
 use Rattle.bus_spec.specs.Slots.{Slots, mark_in}
@@ -17,6 +14,7 @@ use Rattle.bus_spec.specs.Stepwise.{IsStepwise}
 use Rattle.bus_laws.specs.Others.{CallerTold}
 use Rattle.bus_laws.specs.Holds.{IsLockOf}
 use Rattle.mux_plan.specs.Plans.{SeenView}
+use Rattle.bus_message.specs.Ports.{Socket}
 use Rattle.seg_locks.specs.Locks.{LocksView, holder_in}
 
 -- a caller: its number, what is left of its walk, its replies, those that it is still to be handed, what was read, and a cut
@@ -50,13 +48,6 @@ pub record LocksTold (b : BoardView) (n : Now) (v : LocksView) : Type 0 where
   pub holder : (l : LockId) → IsLockOf b l → holder_in v l ≡ n.holder l
   pub mark : (p : ℕ) → mark_in (n.slot p).slot ≡ slice_index_or v.marks p None
   pub kept : TellsKept b n.slot v.kept
-
--- a port by its root: what it has come to and what was called, the oldest first
-pub record Socket : Type 0 where
-  pub root : ℕ
-  pub world : World
-  pub log : List PortCall
-  pub phase : Phase
 
 -- the journal tells the world and the calls of a port
 pub record SocketTold (n : Now) (x : Socket) : Type 0 where

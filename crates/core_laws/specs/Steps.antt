@@ -18,10 +18,14 @@ use Rattle.bus_spec.specs.Grammar.{seen, first_act, first_note, rest_of}
 use Rattle.bus_spec.specs.Past.{line_call}
 use Rattle.mux_plan.specs.Plans.{SeenView, slots_of, slots_after, TellsMarks}
 use Rattle.seg_locks.specs.Locks.{LocksView}
-use Rattle.core_laws.specs.Spots.{seen_of, TellsKept, Spot, Socket}
-use Rattle.core_laws.specs.Talks.{Gives}
+use Rattle.core_laws.specs.Spots.{seen_of, TellsKept, Spot}
+use Rattle.bus_message.specs.Ports.{Socket}
+use Rattle.bus_message.specs.Talks.{Gives}
 use Rattle.core_laws.specs.Owed.{message_most}
-use Rattle.core_laws.specs.Sends.{Sending, IsMessageOf, IsChipAddress, HasSent, message_for, ends_with}
+use Rattle.mux_plan.specs.declared.task.NextMsg.{NextMsg}
+use Rattle.core_laws.specs.Sends.{IsMessageOf}
+use Rattle.bus_message.specs.Sends.{IsChipAddress, HasSent, message_for}
+use Rattle.mux_plan.specs.Plans.{ends_with}
 
 -- what comes next of a walk, where lock words answer its looks
 abbrev pub next_of : LocksView → WalkTree → Option Act
@@ -32,7 +36,7 @@ abbrev pub behind_of : LocksView → WalkTree → ActOutcome → WalkTree
 behind_of v w out = rest_of (seen (slots_of (seen_of v)) w) out
 
 -- the message of a job was sent on the root of this socket; the caller's own is one of this transfer, of which so many went through
-pub record IsSaid (b : BoardView) (asks : Asks) (x : Spot) (v : LocksView) (t : TransferView) (gone : ℕ) (job : Job) (left : ℕ) (next : Sending) (old new : Socket)
+pub record IsSaid (b : BoardView) (asks : Asks) (x : Spot) (v : LocksView) (t : TransferView) (gone : ℕ) (job : Job) (left : ℕ) (next : NextMsg) (old new : Socket)
     (addr : ℕ) (reading : Bool) (bytes : List ℕ) (heard : Option Node) (e : End) : Type 0 where
   pub first : next_of v x.tree ≡ Some (Send job left)
   pub of : IsMessageOf job left next
@@ -59,13 +63,13 @@ pub record AreMarked (b : BoardView) (w : WalkTree) (v : LocksView) (out : ActOu
   pub kept : (y : Slots) → TellsKept b y v.kept → TellsKept b (slots_after (next_of v w) (first_note (seen (slots_of (seen_of v)) w)) out y) words.kept
 
 -- what ports that tell show of a message
-pub record HasSaid (b : BoardView) (t : TransferView) (gone : ℕ) (next : Sending) (old new : Socket) (addr : ℕ) (bytes : List ℕ) (heard : Option Node) (e : End) : Type 0 where
+pub record HasSaid (b : BoardView) (t : TransferView) (gone : ℕ) (next : NextMsg) (old new : Socket) (addr : ℕ) (bytes : List ℕ) (heard : Option Node) (e : End) : Type 0 where
   pub to_addr : addr ≡ (message_for t gone next.purpose next.control addr).addr
   pub chip : IsChipAddress b next.purpose addr
   pub has : HasSent b t next.purpose (message_for t gone next.purpose next.control addr) (ends_with next.purpose next.part next.parts) old new bytes heard e
 
 -- what every port gives by a message: it goes in its direction, and where it reads and went through it gives what it asks for
-pub record GivesBytes (b : BoardView) (t : TransferView) (gone : ℕ) (next : Sending) (addr : ℕ) (reading : Bool) (bytes : List ℕ) (e : End) : Type 0 where
+pub record GivesBytes (b : BoardView) (t : TransferView) (gone : ℕ) (next : NextMsg) (addr : ℕ) (reading : Bool) (bytes : List ℕ) (e : End) : Type 0 where
   pub direction : reading ≡ (message_for t gone next.purpose next.control addr).reading
   pub gives : e ≡ end.Ok → reading ≡ true → Gives (block_limit b) (message_for t gone next.purpose next.control addr) bytes
 

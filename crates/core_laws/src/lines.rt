@@ -11,7 +11,8 @@ ghost use Rattle.bus_spec.specs.Walk.{Job, Shift, job_bus};
 ghost use Rattle.core_laws.specs.Behind.{with_place, line_entry, switched, settled_with};
 ghost use Rattle.core_laws.specs.Core.{Place, Run, Whole, has_reply, IsFairRun, StandsAt, IsShifted, CoreKept};
 ghost use Rattle.core_laws.specs.Seats.{IsLeft, IsDecided};
-ghost use Rattle.core_laws.specs.Spots.{turned_to, Socket};
+ghost use Rattle.core_laws.specs.Spots.{turned_to};
+ghost use Rattle.bus_message.specs.Ports.{Socket};
 ghost use Rattle.core_laws.specs.Steps.{next_of};
 ghost use Rattle.mux_plan.specs.Plans.{SeenView};
 

@@ -1,5 +1,5 @@
 -- A message with its bytes, as it goes over the wires.
-use Rattle.std.specs.Prelude.{ℕ, Bool, true, false, List, [], ◌∷◌, take, drop}
+use Rattle.std.specs.Prelude.{ℕ, ◌+◌, Bool, true, false, List, [], ◌∷◌, take, drop, if◌then◌else◌}
 use Rattle.i2c_base.specs.declared.transfer.Msg.{Msg}
 use Rattle.i2c_base.specs.Transfer.{TransferView, is_read, is_counted, written_of}
 
@@ -30,3 +30,7 @@ write_byte addr byte = record { addr = addr; reading = false; counted = false; l
 
 abbrev pub read_byte : ℕ → MessageView
 read_byte addr = record { addr = addr; reading = true; counted = false; len = 1; bytes = [] }
+
+-- the bytes that a message moves at most: of a counted read as many as the limit allows, and those beside
+abbrev pub bytes_most : ℕ → MessageView → ℕ
+bytes_most limit m = if m.counted then limit + m.len else m.len

@@ -1,5 +1,9 @@
 -- What a stack of tasks stands for: a walk of the grammar. Each kind of task is one line.
-use Rattle.std.specs.Prelude.{◌≡◌, ◌<◌, ℕ, zero, suc, Bool, true, false, List, [], ◌∷◌, length, drop, Option, Some, None, slice_index_or, if◌then◌else◌}
+use Rattle.std.specs.Prelude.{◌≡◌, ◌<◌, ℕ, zero, suc, ◌==◌, Bool, true, false, List, [], ◌∷◌, length, drop, Option, Some, None, slice_index_or, if◌then◌else◌}
+use Rattle.i2c_base.specs.declared.entry.End.{End}
+use Rattle.i2c_base.specs.declared.entry.End.TheVariants as end
+use Rattle.i2c_base.specs.declared.entry.Purpose.{Purpose}
+use Rattle.i2c_base.specs.declared.entry.Purpose.TheVariants as purpose
 use Rattle.i2c_base.specs.declared.ids.LockId.{LockId}
 use Rattle.i2c_base.specs.declared.ids.LockId.TheVariants as lock
 use Rattle.i2c_base.specs.Board.{BoardView}
@@ -20,6 +24,7 @@ use Rattle.mux_plan.specs.declared.task.Task.{Task}
 use Rattle.mux_plan.specs.declared.task.Task.TheVariants.{Enter, Lock, Free, Rest, Line, Settle, AwaitClose, Pass, AwaitSelect, AwaitWork, AwaitDeselect}
 use Rattle.mux_plan.specs.declared.task.Outcome.{Outcome}
 use Rattle.mux_plan.specs.declared.task.Outcome.TheVariants as outcome
+use Rattle.mux_plan.specs.declared.task.NextMsg.{NextMsg}
 use Rattle.mux_plan.specs.declared.task.Action.{Action}
 use Rattle.mux_plan.specs.declared.task.Action.TheVariants as action
 
@@ -200,11 +205,30 @@ control_of (Clear on mux kind) left = Some close_value
 abbrev pub first_at : BoardView → List MessageView → CourseView → SeenView → ℕ → Work → Option Act
 first_at b ms c s n w = first_act (seen (slots_of s) (tree_of b ms c (Enter n w ∷ []) walk.Good))
 
+-- the message of a job that so many more may follow, as it is sent next
+abbrev pub next_msg : Job → ℕ → NextMsg
+next_msg job left = record { bus = job_bus job; purpose = job_purpose job; part = part_of job left; parts = parts_of job; control = control_of job left }
+
+-- a stop follows it: each control message is a transfer of its own
+abbrev pub ends_with : Purpose → ℕ → ℕ → Bool
+ends_with purpose.Call part parts = part == parts
+ends_with (purpose.Control m) part parts = true
+
+-- a message of the caller's own transfer went through
+abbrev pub is_call_through : Purpose → End → Bool
+is_call_through purpose.Call end.Ok = true
+is_call_through purpose.Call end.Nack = false
+is_call_through purpose.Call end.Slow = false
+is_call_through purpose.Call end.Refused = false
+is_call_through purpose.Call end.Proto = false
+is_call_through purpose.Call (end.Cut q) = false
+is_call_through (purpose.Control m) e = false
+
 -- a step of the grammar, as the caller is told it
 abbrev pub action_of : Option Act → Action
 action_of None = action.Done
 action_of (Some (walk.Take l)) = action.Take l
 action_of (Some (walk.Free l)) = action.Free l
-action_of (Some (walk.Send job left)) = action.Send (job_bus job) (job_purpose job) (part_of job left) (parts_of job) (control_of job left)
+action_of (Some (walk.Send job left)) = action.Send (next_msg job left)
 action_of (Some (walk.Shift job)) = action.Line (line_mux job) (line_level job)
 action_of (Some (walk.Settle verdict)) = action.Settle verdict

@@ -14,7 +14,7 @@ ghost use Rattle.mux_plan.specs.declared.task.Task.TheVariants.{Enter, Pass};
 ghost use Rattle.mux_plan.specs.declared.task.Action.TheVariants.{Done};
 ghost use Rattle.mux_plan.specs.declared.task.Work.TheVariants as work;
 
-use crate::{Action, Seen, Task, Work};
+use crate::{Action, NextMsg, Seen, Task, Work};
 use arrayvec::ArrayVec;
 use i2c_base::{LockId, MOST_MUXES, MuxId, MuxKind, SegId};
 use i2c_board::{Accepted, Board};
@@ -226,13 +226,13 @@ impl Course {
         match task {
             Task::Lock { from, .. } => Action::Take(self.lock_at(*from)),
             Task::Free(lock) => Action::Free(*lock),
-            Task::Rest { left, work } => Action::Send {
+            Task::Rest { left, work } => Action::Send(NextMsg {
                 bus: work.bus(self.bus),
                 purpose: work.purpose(),
                 part: work.part(*left, self.count),
                 parts: work.parts(self.count),
                 control: work.control(*left),
-            },
+            }),
             Task::Line { work } => Action::Line {
                 mux: work.line_mux(),
                 level: work.line_level(),

@@ -21,6 +21,6 @@ pub(crate) use course::Course;
 pub use laws::changed_marks_are_told;
 pub use marks::{Due, Dues};
 pub use seen::Seen;
-pub use task::{Action, Outcome};
+pub use task::{Action, NextMsg, Outcome};
 pub(crate) use task::{Came, Task, Work};
 pub use walk::Walk;

@@ -1,4 +1,7 @@
 //! The tasks of a walk, its actions and their outcomes.
+ghost use Rattle.std.specs.Prelude.{◌≡◌};
+ghost use Rattle.mux_plan.specs.Plans.{ends_with, is_call_through};
+
 use i2c_base::{End, Errno, LockId, MuxId, MuxKind, Purpose, SegId};
 use i2c_spec::Hop;
 
@@ -94,21 +97,44 @@ impl Default for Task {
     }
 }
 
+/// A message that is sent next.
+#[derive(Clone, Copy)]
+pub struct NextMsg {
+    pub bus: SegId,
+    pub purpose: Purpose,
+    /// Which message of its transfer it is, from 1, and how many those are.
+    pub part: u8,
+    pub parts: u8,
+    /// The byte that a control message writes; none for a poll, which reads one, and for a caller's message.
+    pub control: Option<u8>,
+}
+
+impl NextMsg {
+    /// A stop follows it, if it doesn't end early: a control message is a transfer of its own.
+    pub fn is_last(&self) -> bool
+        ensures { result ≡ ends_with self.now.purpose self.now.part self.now.parts }
+    {
+        match self.purpose {
+            Purpose::Call => self.part == self.parts,
+            Purpose::Control(_) => true,
+        }
+    }
+
+    /// It is one of the caller's own messages, and went through if it ended so.
+    pub fn went_through(&self, end: End) -> bool
+        ensures { result ≡ is_call_through self.now.purpose end }
+    {
+        matches!((self.purpose, end), (Purpose::Call, End::Ok))
+    }
+}
+
 /// What a caller does next.
 #[derive(Clone, Copy)]
 pub enum Action {
     Take(LockId),
     Free(LockId),
     /// One message is sent.
-    Send {
-        bus: SegId,
-        purpose: Purpose,
-        /// Which message of its transfer it is, from 1, and how many those are.
-        part: u8,
-        parts: u8,
-        /// The byte that a control message writes; none for a poll, which reads one, and for a caller's message.
-        control: Option<u8>,
-    },
+    Send(NextMsg),
     /// The line of a gpio mux is set to a level.
     Line {
         mux: MuxId,

@@ -23,7 +23,8 @@ use Rattle.i2c_spec.specs.Cost.{lock_steps, behind_by, behind_cost, inner_cost, 
 use Rattle.i2c_base.specs.Limits.{POLLS}
 use Rattle.bus_spec.specs.Walk.{Job, Call, Select, Clear, Free, Send, Shift, ActOutcome, JobOutcome, Good, Refused, Unsent, Failed, Note, KeptOf, WalkTree, Ends, Look, Then, Go, On, Last, Over, goes, job_outcome, verdict_of, decides, is_line, is_gpio, is_arbitrator, more_of, nth_message}
 use Rattle.bus_spec.specs.Grammar.{Doer, plain, settled, over, by_go, messages, at_bus, locked, part, with_mark, aside, if_sent, if_good, kind_of, closing, left_behind, opened, chosen, keeps, crossed, behind, inner, full, walk_by, walk_for}
-use Rattle.bus_laws.specs.Costs.{bytes_most, weight_at, IsWithin, ArbitratorsArePassed}
+use Rattle.i2c_spec.specs.Messages.{bytes_most}
+use Rattle.bus_laws.specs.Costs.{weight_at, IsWithin, ArbitratorsArePassed}
 use Rattle.bus_laws.proofs.tree.Law.{refusal-none}
 use Rattle.bus_laws.proofs.world.BoardFacts.{mux_at}
 use Rattle.bus_laws.proofs.world.LineFacts.{wanted}

@@ -10,7 +10,7 @@ use Rattle.i2c_base.specs.declared.entry.End.{End}
 use Rattle.i2c_base.specs.declared.entry.End.TheVariants as end
 use Rattle.i2c_spec.specs.Messages.{MessageView}
 use Rattle.i2c_spec.specs.Conversation.{Listener, Said, TalkTold, is_it, silence, say, with_byte, told, call_then, ended, puts, gets, gets_counted, by_answer, talk}
-use Rattle.bus_laws.specs.Costs.{bytes_most}
+use Rattle.i2c_spec.specs.Messages.{bytes_most}
 
 -- a good count
 pub good_count : (byte limit : ℕ) → (eqb byte 0 || ltb limit byte) ≡ false → (1 ≤ byte) × (byte ≤ limit)

@@ -1,110 +1,132 @@
-use Rattle.std.proofs.Common.{◌≡◌, ◌<◌, ◌++◌, [], ◌∷◌, ℕ, List, refl, sym, ◌∙◌, ap, subst, set, arith}
-use Rattle.std.specs.Prelude.{slice_get}
+use Rattle.std.proofs.Common.{◌≡◌, ◌<◌, ◌++◌, [], ◌∷◌, ℕ, List, Some, length, refl, sym, ◌∙◌, ap, subst, arith}
+use Rattle.std.proofs.lemmas.List.{length-map, map-set}
+use Rattle.std.proofs.lemmas.Option.{slice_get_within}
 use Rattle.i2c_base.specs.Limits.{MOST_CALLERS}
 use Rattle.i2c_base.specs.declared.entry.Entry.TheVariants as entry
-use Rattle.bus_message.specs.Sockets.{MayShift, Shifted, sockets_of}
-use Rattle.bus_spec.specs.Walk.{Lined, line_mux, line_level}
+use Rattle.bus_message.specs.Ports.{Socket, MayShift, Shifted, socket_of, sockets_of}
+use Rattle.bus_message.proofs.PortLemmas.{socket-here, socket-is}
 use Rattle.mux_plan.specs.declared.marks.Due.{Due}
+use Rattle.bus_spec.specs.Walk.{Lined, Shift, line_mux, line_level}
 use Rattle.seg_locks.specs.Locks.{LocksView}
+use Rattle.core_laws.specs.Spots.{turned_to, seen_of}
+use Rattle.core_laws.specs.Steps.{next_of}
 use Rattle.bus_core.specs.Marks.{words_after, AreHeld}
-use Rattle.bus_core.specs.Seats.{WentOn, MaySettle, dues_of, cut_of_line}
+use Rattle.bus_core.specs.Places.{walk_left}
+use Rattle.bus_core.specs.Seats.{IsCounted, MaySettle, dues_of}
 use Rattle.bus_core.specs.declared.seat.Seat.{Seat}
 use Rattle.bus_core.proofs.Kept.{number-small, seated-here}
-use Rattle.bus_core.proofs.Switch.{may-shift, line-room, line-dues-own, line-may-settle, line-done}
-use Rattle.bus_core.proofs.Stepped.{seat-is, seat-now, set-at}
+use Rattle.bus_core.proofs.SeatLemmas.{read_here}
+use Rattle.bus_core.proofs.Switch.{may-shift, line-room, line-dues-own, line-may-settle, line-done, plug}
 use Rattle.bus_core.proofs.steps.switch.Goals as goal
-use Rattle.core_laws.specs.Spots.{turned_to, seen_of}
 
-pub shift-failed-requires-clause-may : goal.shift-failed-requires-clause-may
-shift-failed-requires-clause-may g c κs within =
+pub index_mut-requires : goal.index_mut-requires
+index_mut-requires g c =
     let x = c.args.parts.now in
-    let next = c.requires.next in
-    let s = next.comes.seat in
-    let whose : (c.whose-caller.result.0 ≡ s.number) × (c.whose-caller.result.1 ≡ s.port) = seat-is (λ (y : Seat _). (c.whose-caller.result.0 ≡ y.number) × (c.whose-caller.result.1 ≡ y.port)) x.seats.items c.args.place s next.comes.here c.whose-caller.ensures in
-    subst (λ (i : ℕ). MayShift g.P.Port.tells c.args.mux c.args.level (sockets_of g.P.Port x.ports.items) i) (sym whose.1)
-    (may-shift g.P.Port g.C.Caller x c.requires.kept c.args.place s next.comes.here next.job next.comes.next c.args.mux c.args.level next.of_mux next.to_level)
+    let need = c.requires.next in
+    let old = c.index_mut-seat.result.now in
+    let is = read_here x.seats.items c.args.place need.comes.seat old need.comes.here c.index_mut-seat.ensures.value in
+    let here = need.comes.here ∙ ap Some (sym is) in
+    let first = subst (λ (y : Seat _). next_of x.locks (walk_left x.board.now y) ≡ Some (Shift need.job)) (sym is) need.comes.next in
+    let plugged = plug g.P.Port g.C.Caller x c.requires.kept c.args.place old here need.job first in
+    omega (arith, slice_get_within (sockets_of g.P.Port x.ports.items) old.port plugged.0 plugged.1, length-map x.ports.items (socket_of g.P.Port))
+
+pub shift_line-failed-requires-after_bounds : goal.shift_line-failed-requires-after_bounds
+shift_line-failed-requires-after_bounds g c κs within root =
+    let x = c.args.parts.now in
+    let need = c.requires.next in
+    let old = c.index_mut-seat.result.now in
+    let is = read_here x.seats.items c.args.place need.comes.seat old need.comes.here c.index_mut-seat.ensures.value in
+    let here = need.comes.here ∙ ap Some (sym is) in
+    let first = subst (λ (y : Seat _). next_of x.locks (walk_left x.board.now y) ≡ Some (Shift need.job)) (sym is) need.comes.next in
+    let plugged = plug g.P.Port g.C.Caller x c.requires.kept c.args.place old here need.job first in
+    let q = c.index_mut.result.now in
+    let at : plugged.0 ≡ socket_of g.P.Port q = socket-is g.P.Port x.ports.items old.port q c.index_mut.ensures.value plugged.0 plugged.1 in
+    let may = subst (λ (y : Socket). MayShift g.P.Port.tells c.args.mux c.args.level y) at
+    (may-shift g.P.Port g.C.Caller x c.requires.kept c.args.place old here need.job first c.args.mux c.args.level need.of_mux need.to_level) in
+    record { idle = may.idle; has = may.has; room = may.room }
 
 pub push-requires-clause-room : goal.push-requires-clause-room
 push-requires-clause-room g c =
-    let next = c.requires.next in
-    line-room g.P.Port g.C.Caller c.args.parts.now c.requires.kept c.args.place next.comes.seat next.comes.here next.job next.comes.next
-
-pub pass_line-requires : goal.pass_line-requires
-pass_line-requires g c =
-    let next = c.requires.next in
-    record { seat = next.comes.seat; here = next.comes.here; is_so = (seated-here g.P.Port g.C.Caller c.args.parts.now c.requires.kept c.args.place next.comes.seat next.comes.here).counted }
-
-pub set_marks-requires-clause-caller : goal.set_marks-requires-clause-caller
-set_marks-requires-clause-caller g c =
     let x = c.args.parts.now in
-    let next = c.requires.next in
-    let s = next.comes.seat in
-    let whose : (c.whose-caller.result.0 ≡ s.number) × (c.whose-caller.result.1 ≡ s.port) = seat-is (λ (y : Seat _). (c.whose-caller.result.0 ≡ y.number) × (c.whose-caller.result.1 ≡ y.port)) x.seats.items c.args.place s next.comes.here c.whose-caller.ensures in
-    subst (λ (n : ℕ). n < MOST_CALLERS) (sym whose.0) (number-small g.P.Port g.C.Caller x c.requires.kept c.args.place s next.comes.here)
+    let need = c.requires.next in
+    let old = c.index_mut-seat.result.now in
+    let is = read_here x.seats.items c.args.place need.comes.seat old need.comes.here c.index_mut-seat.ensures.value in
+    let here = need.comes.here ∙ ap Some (sym is) in
+    let first = subst (λ (y : Seat _). next_of x.locks (walk_left x.board.now y) ≡ Some (Shift need.job)) (sym is) need.comes.next in
+    line-room g.P.Port g.C.Caller x c.requires.kept c.args.place old here need.job first
 
-pub set_marks-requires-clause-held : goal.set_marks-requires-clause-held
-set_marks-requires-clause-held g c =
+pub line_done-requires : goal.line_done-requires
+line_done-requires g c =
     let x = c.args.parts.now in
-    let next = c.requires.next in
-    let s = next.comes.seat in
-    let whose : (c.whose-caller.result.0 ≡ s.number) × (c.whose-caller.result.1 ≡ s.port) = seat-is (λ (y : Seat _). (c.whose-caller.result.0 ≡ y.number) × (c.whose-caller.result.1 ≡ y.port)) x.seats.items c.args.place s next.comes.here c.whose-caller.ensures in
-    let failed = c.shift-failed.result in
-    let dues : c.as_slice.result.now ≡ dues_of x.board.now x.locks (Lined failed) s =
-    c.as_slice.ensures.value ∙ seat-is (λ (y : Seat _). c.pass_line.new.dues.items ≡ dues_of x.board.now x.locks (Lined failed) y) x.seats.items c.args.place s next.comes.here c.pass_line.ensures.dues in
-    subst (λ (n : ℕ). AreHeld x.locks n c.as_slice.result.now) (sym whose.0)
-    (subst (λ (ds : List Due). AreHeld x.locks s.number ds) (sym dues) (line-dues-own g.P.Port g.C.Caller x c.requires.kept c.args.place s next.comes.here next.job next.comes.next failed))
+    let need = c.requires.next in
+    let old = c.index_mut-seat.result.now in
+    let is = read_here x.seats.items c.args.place need.comes.seat old need.comes.here c.index_mut-seat.ensures.value in
+    let here = need.comes.here ∙ ap Some (sym is) in
+    let first = subst (λ (y : Seat _). next_of x.locks (walk_left x.board.now y) ≡ Some (Shift need.job)) (sym is) need.comes.next in
+    (seated-here g.P.Port g.C.Caller x c.requires.kept c.args.place old here).counted
+
+pub set_marks-requires : goal.set_marks-requires
+set_marks-requires g c =
+    let x = c.args.parts.now in
+    let need = c.requires.next in
+    let old = c.index_mut-seat.result.now in
+    let is = read_here x.seats.items c.args.place need.comes.seat old need.comes.here c.index_mut-seat.ensures.value in
+    let here = need.comes.here ∙ ap Some (sym is) in
+    let first = subst (λ (y : Seat _). next_of x.locks (walk_left x.board.now y) ≡ Some (Shift need.job)) (sym is) need.comes.next in
+    let failed = c.shift_line-failed.result in
+    let t = c.line_done.new.self in
+    let dues : c.as_slice.result.now ≡ dues_of x.board.now x.locks (Lined failed) old = c.as_slice.ensures.value ∙ c.line_done.ensures.dues in
+    record {
+      caller = number-small g.P.Port g.C.Caller x c.requires.kept c.args.place old here;
+      held = subst (λ (ds : List Due). AreHeld x.locks old.number ds) (sym dues) (line-dues-own g.P.Port g.C.Caller x c.requires.kept c.args.place old here need.job first failed);
+    }
 
 pub settle-requires : goal.settle-requires
 settle-requires g c =
     let x = c.args.parts.now in
-    let next = c.requires.next in
-    let s = next.comes.seat in
-    let whose : (c.whose-caller.result.0 ≡ s.number) × (c.whose-caller.result.1 ≡ s.port) = seat-is (λ (y : Seat _). (c.whose-caller.result.0 ≡ y.number) × (c.whose-caller.result.1 ≡ y.port)) x.seats.items c.args.place s next.comes.here c.whose-caller.ensures in
-    let failed = c.shift-failed.result in
-    let dues : c.as_slice.result.now ≡ dues_of x.board.now x.locks (Lined failed) s =
-    c.as_slice.ensures.value ∙ seat-is (λ (y : Seat _). c.pass_line.new.dues.items ≡ dues_of x.board.now x.locks (Lined failed) y) x.seats.items c.args.place s next.comes.here c.pass_line.ensures.dues in
-    let set_is = c.pass_line.ensures.set in
-    let t = set_is.after in
-    let went : WentOn x.board.now x.locks (Lined failed) (cut_of_line failed) s t = seat-now _ x.seats.items c.pass_line.new.seats.items c.args.place s next.comes.here set_is in
-    let locks : c.set_marks.new.locks ≡ turned_to x.locks (words_after (dues_of x.board.now x.locks (Lined failed) s) (seen_of x.locks)) =
+    let need = c.requires.next in
+    let old = c.index_mut-seat.result.now in
+    let is = read_here x.seats.items c.args.place need.comes.seat old need.comes.here c.index_mut-seat.ensures.value in
+    let here = need.comes.here ∙ ap Some (sym is) in
+    let first = subst (λ (y : Seat _). next_of x.locks (walk_left x.board.now y) ≡ Some (Shift need.job)) (sym is) need.comes.next in
+    let failed = c.shift_line-failed.result in
+    let t = c.line_done.new.self in
+    let dues : c.as_slice.result.now ≡ dues_of x.board.now x.locks (Lined failed) old = c.as_slice.ensures.value ∙ c.line_done.ensures.dues in
+    let locks : c.set_marks.new.locks ≡ turned_to x.locks (words_after (dues_of x.board.now x.locks (Lined failed) old) (seen_of x.locks)) =
     c.set_marks.ensures ∙ ap (λ (ds : List Due). turned_to x.locks (words_after ds (seen_of x.locks))) dues in
-    let entries : c.push.new.self.entries ≡ x.journal.entries ++ entry.Line s.number (line_mux next.job) (line_level next.job) failed ∷ [] = c.push.ensures.entries
-    ∙ ap (λ (k : ℕ). x.journal.entries ++ entry.Line k c.args.mux c.args.level failed ∷ []) whose.0
-    ∙ ap (λ (m : ℕ). x.journal.entries ++ entry.Line s.number m c.args.level failed ∷ []) (sym next.of_mux)
-    ∙ ap (λ (l : ℕ). x.journal.entries ++ entry.Line s.number (line_mux next.job) l failed ∷ []) (sym next.to_level) in
+    let entries : c.push.new.self.entries ≡ x.journal.entries ++ entry.Line old.number (line_mux need.job) (line_level need.job) failed ∷ [] = c.push.ensures.entries
+    ∙ ap (λ (m : ℕ). x.journal.entries ++ entry.Line old.number m c.args.level failed ∷ []) (sym need.of_mux)
+    ∙ ap (λ (l : ℕ). x.journal.entries ++ entry.Line old.number (line_mux need.job) l failed ∷ []) (sym need.to_level) in
     let room_bytes : c.push.new.self.room_bytes ≡ x.journal.room_bytes = (let b = c.push.ensures.room_bytes in omega (arith, b)) in
-    record {
-      seat = t;
-      here = ap (λ (ys : List (Seat _)). slice_get ys c.args.place) set_is.set_is ∙ set-at x.seats.items c.args.place s t next.comes.here;
-      is_so = subst (λ (v : LocksView). MaySettle x.board.now v c.push.new.self t) (sym locks) (line-may-settle g.P.Port g.C.Caller x c.requires.kept c.args.place s next.comes.here next.job next.comes.next failed t went c.push.new.self entries c.push.ensures.room room_bytes);
-    }
+    subst (λ (v : LocksView). MaySettle x.board.now v c.push.new.self t) (sym locks)
+    (line-may-settle g.P.Port g.C.Caller x c.requires.kept c.args.place old here need.job first failed t c.line_done.ensures.went c.push.new.self entries c.push.ensures.room room_bytes)
 
 pub returns : goal.returns
 returns g c =
     let x = c.args.parts.now in
-    let next = c.requires.next in
-    let s = next.comes.seat in
-    let whose : (c.whose-caller.result.0 ≡ s.number) × (c.whose-caller.result.1 ≡ s.port) = seat-is (λ (y : Seat _). (c.whose-caller.result.0 ≡ y.number) × (c.whose-caller.result.1 ≡ y.port)) x.seats.items c.args.place s next.comes.here c.whose-caller.ensures in
-    let failed = c.shift-failed.result in
-    let dues : c.as_slice.result.now ≡ dues_of x.board.now x.locks (Lined failed) s =
-    c.as_slice.ensures.value ∙ seat-is (λ (y : Seat _). c.pass_line.new.dues.items ≡ dues_of x.board.now x.locks (Lined failed) y) x.seats.items c.args.place s next.comes.here c.pass_line.ensures.dues in
-    let set_is = c.pass_line.ensures.set in
-    let t = set_is.after in
-    let went : WentOn x.board.now x.locks (Lined failed) (cut_of_line failed) s t = seat-now _ x.seats.items c.pass_line.new.seats.items c.args.place s next.comes.here set_is in
-    let locks : c.set_marks.new.locks ≡ turned_to x.locks (words_after (dues_of x.board.now x.locks (Lined failed) s) (seen_of x.locks)) =
+    let need = c.requires.next in
+    let old = c.index_mut-seat.result.now in
+    let is = read_here x.seats.items c.args.place need.comes.seat old need.comes.here c.index_mut-seat.ensures.value in
+    let here = need.comes.here ∙ ap Some (sym is) in
+    let first = subst (λ (y : Seat _). next_of x.locks (walk_left x.board.now y) ≡ Some (Shift need.job)) (sym is) need.comes.next in
+    let plugged = plug g.P.Port g.C.Caller x c.requires.kept c.args.place old here need.job first in
+    let failed = c.shift_line-failed.result in
+    let t = c.line_done.new.self in
+    let dues : c.as_slice.result.now ≡ dues_of x.board.now x.locks (Lined failed) old = c.as_slice.ensures.value ∙ c.line_done.ensures.dues in
+    let locks : c.set_marks.new.locks ≡ turned_to x.locks (words_after (dues_of x.board.now x.locks (Lined failed) old) (seen_of x.locks)) =
     c.set_marks.ensures ∙ ap (λ (ds : List Due). turned_to x.locks (words_after ds (seen_of x.locks))) dues in
-    let entries : c.push.new.self.entries ≡ x.journal.entries ++ entry.Line s.number (line_mux next.job) (line_level next.job) failed ∷ [] = c.push.ensures.entries
-    ∙ ap (λ (k : ℕ). x.journal.entries ++ entry.Line k c.args.mux c.args.level failed ∷ []) whose.0
-    ∙ ap (λ (m : ℕ). x.journal.entries ++ entry.Line s.number m c.args.level failed ∷ []) (sym next.of_mux)
-    ∙ ap (λ (l : ℕ). x.journal.entries ++ entry.Line s.number (line_mux next.job) l failed ∷ []) (sym next.to_level) in
+    let entries : c.push.new.self.entries ≡ x.journal.entries ++ entry.Line old.number (line_mux need.job) (line_level need.job) failed ∷ [] = c.push.ensures.entries
+    ∙ ap (λ (m : ℕ). x.journal.entries ++ entry.Line old.number m c.args.level failed ∷ []) (sym need.of_mux)
+    ∙ ap (λ (l : ℕ). x.journal.entries ++ entry.Line old.number (line_mux need.job) l failed ∷ []) (sym need.to_level) in
     let room_bytes : c.push.new.self.room_bytes ≡ x.journal.room_bytes = (let b = c.push.ensures.room_bytes in omega (arith, b)) in
-    let port = c.shift-failed.ensures.set in
-    let shifted : Shifted g.P.Port.tells (line_mux next.job) (line_level next.job) failed port.0 port.1 =
-    subst (λ (l : ℕ). Shifted g.P.Port.tells (line_mux next.job) l failed port.0 port.1) (sym next.to_level)
-    (subst (λ (m : ℕ). Shifted g.P.Port.tells m c.args.level failed port.0 port.1) (sym next.of_mux) port.4) in
-    let all = line-done g.P.Port g.C.Caller x c.requires.kept c.args.place s next.comes.here next.job next.comes.next failed t went c.push.new.self entries c.push.ensures.room room_bytes
-    (record x { ports = c.shift-failed.new.ports; seats = c.settle.new.seats; locks = c.set_marks.new.locks; journal = c.settle.new.journal; dues = c.settle.new.dues }) refl locks port.0 port.1
-    (ap (slice_get (sockets_of g.P.Port x.ports.items)) (sym whose.1) ∙ port.2)
-    (port.3 ∙ ap (λ (i : ℕ). set (sockets_of g.P.Port x.ports.items) i port.1) whose.1) shifted refl refl
-    c.pass_line.new.seats.items set_is.set_is c.settle.result c.settle.ensures.settled c.settle.ensures.none c.settle.ensures.stays in
+    let q = c.index_mut.result.now in
+    let shifted : Shifted g.P.Port.tells (line_mux need.job) (line_level need.job) failed (socket_of g.P.Port q) (socket_of g.P.Port (q.0, c.shift_line-failed.new.port)) =
+    subst (λ (l : ℕ). Shifted g.P.Port.tells (line_mux need.job) l failed (socket_of g.P.Port q) (socket_of g.P.Port (q.0, c.shift_line-failed.new.port))) (sym need.to_level)
+    (subst (λ (m : ℕ). Shifted g.P.Port.tells m c.args.level failed (socket_of g.P.Port q) (socket_of g.P.Port (q.0, c.shift_line-failed.new.port))) (sym need.of_mux)
+    (c.shift_line-failed.ensures.shifted q.0)) in
+    let all = line-done g.P.Port g.C.Caller x c.requires.kept c.args.place old here need.job first failed t c.line_done.ensures.went c.push.new.self entries c.push.ensures.room room_bytes
+    (record x { ports = _; seats = _; locks = c.set_marks.new.locks; journal = c.settle.new.journal; dues = c.settle.new.dues }) refl locks (socket_of g.P.Port q) (socket_of g.P.Port (q.0, c.shift_line-failed.new.port))
+    (socket-here g.P.Port x.ports.items old.port q c.index_mut.ensures.value plugged.0 plugged.1)
+    (map-set (socket_of g.P.Port) x.ports.items old.port (q.0, c.shift_line-failed.new.port)) shifted refl refl
+    c.settle.new.self refl c.settle.result c.settle.ensures.settled c.settle.ensures.none c.settle.ensures.stays in
     record { kept = all.0; stepped = all.1 }

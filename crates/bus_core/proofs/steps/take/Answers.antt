@@ -1,58 +1,64 @@
 use Rattle.std.proofs.Common.{◌≡◌, ℕ, ◌<◌, [], ◌∷◌, ◌++◌, Some, None, refl, sym, ◌∙◌, ap, subst, arith}
-use Rattle.i2c_base.specs.declared.entry.Entry.TheVariants as entry
 use Rattle.i2c_base.specs.Limits.{MOST_CALLERS}
-use Rattle.bus_spec.specs.Walk.{Take}
+use Rattle.i2c_base.specs.declared.entry.Entry.TheVariants as entry
+use Rattle.i2c_base.specs.declared.reply.Cut.TheVariants as cut_at
+use Rattle.bus_spec.specs.Walk.{Passed}
 use Rattle.seg_locks.specs.Locks.{IsBelowHeld, holder_in, with_holder}
 use Rattle.seg_locks.specs.declared.locks.Held.{Held}
 use Rattle.core_laws.proofs.Laws.{take-wants}
 use Rattle.bus_core.specs.Kept.{run_of, whole_of}
 use Rattle.bus_core.specs.Places.{place_of}
+use Rattle.bus_core.specs.Seats.{IsCounted, WentOn}
 use Rattle.bus_core.specs.declared.seat.Seat.{Seat}
 use Rattle.bus_core.proofs.Kept.{place-here, number-small, seated-here}
-use Rattle.bus_core.proofs.Locks.{seat_so, is_given, comes-here, take-room, take-kept, take-stepped}
+use Rattle.bus_core.proofs.Locks.{is_given, take-room, take-kept, take-stepped}
+use Rattle.bus_core.proofs.SeatLemmas.{read_here}
 use Rattle.bus_core.proofs.steps.take.Goals as goal
 
-pub pass-caller-requires : goal.pass-caller-requires
-pass-caller-requires g c =
-    let next = c.requires.next in
-    record { seat = next.seat; here = next.here; is_so = (seated-here g.P.Port g.C.Caller c.args.parts.now c.requires.kept c.args.place next.seat next.here).counted }
+pub lock_done-requires : goal.lock_done-requires
+lock_done-requires g c =
+    let x = c.args.parts.now in
+    let s = c.requires.next.seat in
+    subst IsCounted (sym (read_here x.seats.items c.args.place s c.index_mut-seat.result.now c.requires.next.here c.index_mut-seat.ensures.value))
+    (seated-here g.P.Port g.C.Caller x c.requires.kept c.args.place s c.requires.next.here).counted
 
 pub push-requires-clause-room : goal.push-requires-clause-room
 push-requires-clause-room g c = take-room g.P.Port g.C.Caller c.args.parts.now c.requires.kept c.args.place c.requires.next.seat c.requires.next.here c.args.lock.now c.requires.next.next
 
-pub take-requires-clause-there : goal.take-requires-clause-there
-take-requires-clause-there g c =
-    let next = c.requires.next in
-    (take-wants (run_of g.P.Port g.C.Caller c.args.parts.now) (whole_of g.P.Port g.C.Caller c.args.parts.now c.requires.kept.held c.requires.kept.owes) c.requires.kept.kept c.args.place
-    (place_of g.C.Caller c.args.parts.now.board.now next.seat) (place-here g.P.Port g.C.Caller c.args.parts.now c.requires.kept c.args.place next.seat next.here) c.args.lock.now next.next).0
-
-pub take-requires-clause-caller : goal.take-requires-clause-caller
-take-requires-clause-caller g c =
-    let number = c.pass-caller.ensures.number in
-    subst (λ (n : ℕ). n < MOST_CALLERS) (sym number.is_so) (number-small g.P.Port g.C.Caller c.args.parts.now c.requires.kept c.args.place number.seat number.here)
-
-pub take-requires-clause-below : goal.take-requires-clause-below
-take-requires-clause-below g c =
-    let number = c.pass-caller.ensures.number in
+pub take-requires : goal.take-requires
+take-requires g c =
     let x = c.args.parts.now in
-    subst (λ (n : ℕ). IsBelowHeld x.locks n c.args.lock.now) (sym number.is_so)
-    (take-wants (run_of g.P.Port g.C.Caller x) (whole_of g.P.Port g.C.Caller x c.requires.kept.held c.requires.kept.owes) c.requires.kept.kept c.args.place
-    (place_of g.C.Caller x.board.now number.seat) (place-here g.P.Port g.C.Caller x c.requires.kept c.args.place number.seat number.here) c.args.lock.now
-    (comes-here g.P.Port g.C.Caller x c.requires.kept c.args.place number.seat number.here (Take c.args.lock.now) c.requires.next)).2
+    let s = c.requires.next.seat in
+    let here = c.requires.next.here in
+    let number : c.lock_done.new.self.number ≡ s.number =
+    ap (λ (y : Seat _). y.number) c.lock_done.ensures.same
+    ∙ ap (λ (y : Seat _). y.number) (read_here x.seats.items c.args.place s c.index_mut-seat.result.now here c.index_mut-seat.ensures.value) in
+    let wants = take-wants (run_of g.P.Port g.C.Caller x) (whole_of g.P.Port g.C.Caller x c.requires.kept.held c.requires.kept.owes) c.requires.kept.kept c.args.place
+    (place_of g.C.Caller x.board.now s) (place-here g.P.Port g.C.Caller x c.requires.kept c.args.place s here) c.args.lock.now c.requires.next.next in
+    record {
+      there = wants.0;
+      caller = subst (λ (n : ℕ). n < MOST_CALLERS) (sym number) (number-small g.P.Port g.C.Caller x c.requires.kept c.args.place s here);
+      below = subst (λ (n : ℕ). IsBelowHeld x.locks n c.args.lock.now) (sym number) wants.2;
+    }
 
 pub returns : goal.returns
 returns g c =
     let x = c.args.parts.now in
-    let set = c.pass-caller.ensures.set in
-    let number : c.pass-caller.result ≡ set.before.number = seat_so (λ (s : Seat _). c.pass-caller.result ≡ s.number) x.seats.items c.args.place set.before set.here c.pass-caller.ensures.number in
-    let first = comes-here g.P.Port g.C.Caller x c.requires.kept c.args.place set.before set.here (Take c.args.lock.now) c.requires.next in
-    let given : c.take.new.self ≡ with_holder x.locks c.args.lock.now (Some c.pass-caller.result) =
-    is_given (c.take.new.self ≡ with_holder x.locks c.args.lock.now (Some c.pass-caller.result)) (λ (h : Held). holder_in x.locks c.args.lock.now ≡ Some h.holder) c.take.result
+    let s = c.requires.next.seat in
+    let here = c.requires.next.here in
+    let t = c.lock_done.new.self in
+    let is = read_here x.seats.items c.args.place s c.index_mut-seat.result.now here c.index_mut-seat.ensures.value in
+    let went : WentOn x.board.now x.locks Passed cut_at.No s t =
+    subst (λ (y : Seat _). WentOn x.board.now x.locks Passed cut_at.No y t) is
+    (record { same = c.lock_done.ensures.same; walk = c.lock_done.ensures.walk; course = c.lock_done.ensures.course }) in
+    let number : t.number ≡ s.number = ap (λ (y : Seat _). y.number) went.same in
+    let given : c.take.new.self ≡ with_holder x.locks c.args.lock.now (Some t.number) =
+    is_given (c.take.new.self ≡ with_holder x.locks c.args.lock.now (Some t.number)) (λ (h : Held). holder_in x.locks c.args.lock.now ≡ Some h.holder) c.take.result
     c.take.ensures.taken c.take.ensures.held (λ h is. let f : None ≡ Some h.holder = sym c.requires.free ∙ is in cc) in
     let locks = given ∙ ap (λ (n : ℕ). with_holder x.locks c.args.lock.now (Some n)) number in
     let entries = c.push.ensures.entries ∙ ap (λ (n : ℕ). x.journal.entries ++ entry.Take n c.args.lock.now ∷ []) number in
     let bytes : c.push.new.self.room_bytes ≡ x.journal.room_bytes = (let b = c.push.ensures.room_bytes in omega (arith, b)) in
     record {
-      kept = take-kept g.P.Port g.C.Caller x c.requires.kept c.args.place set.before set.here c.args.lock.now first c.requires.free _ set.after refl set.set_is set.is_now locks refl entries c.push.ensures.room bytes;
-      stepped = take-stepped g.P.Port g.C.Caller x c.requires.kept c.args.place set.before set.here c.args.lock.now first c.requires.free _ set.after refl set.set_is set.is_now locks refl entries c.push.ensures.room bytes refl refl;
+      kept = take-kept g.P.Port g.C.Caller x c.requires.kept c.args.place s here c.args.lock.now c.requires.next.next c.requires.free _ t refl refl went locks refl entries c.push.ensures.room bytes;
+      stepped = take-stepped g.P.Port g.C.Caller x c.requires.kept c.args.place s here c.args.lock.now c.requires.next.next c.requires.free _ t refl refl went locks refl entries c.push.ensures.room bytes refl refl;
     }

@@ -1,17 +1,31 @@
 use Rattle.std.proofs.Common.{◌≡◌, ◌+◌, ◌-◌, Some, ◌∙◌, ap, arith, rules, length, length-append}
 use Rattle.std.proofs.lemmas.Grind.{common_steps}
 use Rattle.i2c_base.specs.Fitting.{count_of}
+use Rattle.i2c_base.specs.declared.entry.End.TheVariants as end
 use Rattle.i2c_base.specs.declared.port.PortCall.{PortCall}
+use Rattle.i2c_spec.specs.Conversation.{ended}
+use Rattle.bus_message.specs.Talks.{ending, getting}
+use Rattle.bus_message.proofs.EndLemmas.{fault-ends, rest-ends}
 use Rattle.bus_message.proofs.MessageLemmas.{get_failed, get_went, get_done, acknowledges, count_stays}
 use Rattle.bus_message.proofs.TalkLemmas.{cut_after}
 use Rattle.bus_message.proofs.message.get_all.Goals as goal
 
-pub returns-in-Err-clause-told : goal.returns-in-Err-clause-told
-returns-in-Err-clause-told g c =
-    λ tells whole before r.
+pub returns-in-Err-clause-ended : goal.returns-in-Err-clause-ended
+returns-in-Err-clause-ended g c =
+    fault-ends g.P.Port c.args.last (getting c.args.last c.args.len) c.args.calls c.args.len c.args.got.now c.args.port.now c.loop-count.port c.get.new.self c.loop-count.got
+    (λ tells. omega (arith, c.loop-count.invariant.log tells, c.loop-count-test.true)) c.loop-count.invariant.later (c.args.calls + c.loop-count.count)
+    (omega arith) (omega (arith, c.loop-count-test.true)) (omega (arith, c.loop-count.invariant.got, c.loop-count-test.true)) c.in-Err.ensures.failed
+    c.in-Err.ensures.log_failed c.in-Err.ensures.later c.in-Err.ensures.cause
+    (λ tells whole before r.
     get_failed whole c.args.last (c.args.len - c.loop-count.count) (c.args.len - (c.loop-count.count + 1)) before (c.args.calls + c.loop-count.count) c.loop-count.got _ _ _ _
     (omega (arith, c.loop-count-test.true)) (c.in-Err.ensures.world_failed tells) (c.in-Err.ensures.log_failed tells)
-    (c.loop-count.invariant.said tells (Some (c.args.calls + c.loop-count.count)) (λ k e. search (rules, e)) whole before r)
+    (c.loop-count.invariant.said tells (Some (c.args.calls + c.loop-count.count)) (λ k e. search (rules, e)) whole before r))
+
+pub returns-in-Err-clause-whole : goal.returns-in-Err-clause-whole
+returns-in-Err-clause-whole g c = grind (arith, common_steps)
+
+pub returns-in-Err-clause-first : goal.returns-in-Err-clause-first
+returns-in-Err-clause-first g c = grind (arith, common_steps)
 
 pub loop-count-preserved : goal.loop-count-preserved
 loop-count-preserved g c = record {
@@ -22,86 +36,31 @@ loop-count-preserved g c = record {
   later = search rules;
   said = λ tells cut behind whole before r.
       let one : c.args.calls + (c.loop-count.count + 1) ≡ c.args.calls + c.loop-count.count + 1 = omega arith in
-      rw (c.push.ensures, one) (get_went whole cut c.args.last (c.args.len - c.loop-count.count) (c.args.len - (c.loop-count.count + 1)) _ _ before (c.args.calls + c.loop-count.count) c.loop-count.got _ _ _ _
+      rw (c.push.ensures, one) (get_went whole cut c.args.last (c.args.len - c.loop-count.count) (c.args.len - (c.loop-count.count + 1)) _ _ before
+      (c.args.calls + c.loop-count.count) c.loop-count.got _ _ _ _
       (omega (arith, c.loop-count-test.true)) (acknowledges c.loop-count.count c.args.len) (c.in-Ok.ensures.answer tells)
       (λ k e. let h = behind k e in omega (arith, h))
       (c.in-Ok.ensures.world tells) (c.in-Ok.ensures.log tells)
       (c.loop-count.invariant.said tells cut (λ k e. let h = behind k e in omega arith) whole before r));
 }
 
-pub returns-clause-told : goal.returns-clause-told
-returns-clause-told g c =
-    λ tells whole before r. c.through.ensures.told tells whole before _
-    (get_done whole _ c.args.last (c.args.len - c.loop-count.count) before (c.args.calls + c.loop-count.count) _ c.loop-count.got _ _
+pub returns-clause-ended : goal.returns-clause-ended
+returns-clause-ended g c =
+    rest-ends g.P.Port c.args.last (getting c.args.last c.args.len) c.args.calls c.args.len c.args.got.now c.args.port.now c.loop-count.port c.through.new.port c.loop-count.got
+    (λ tells. grind (arith, common_steps)) c.loop-count.invariant.later
+    c.args.last (ending c.args.last end.Ok) _ 0 c.loop-count.got c.through.result (c.through.ensures c.loop-count.got)
+    (λ more. more) (grind (arith, common_steps)) (grind (arith, common_steps)) (grind (arith, common_steps)) (λ tells. grind (arith, common_steps))
+    (λ tells whole before r.
+    get_done whole _ c.args.last (c.args.len - c.loop-count.count) before (c.args.calls + c.loop-count.count) _ c.loop-count.got _ _
     (omega (arith, c.loop-count-test.false)) (omega arith)
     (c.loop-count.invariant.said tells _
-    (cut_after c.through.result.end (c.args.calls + c.loop-count.count) (λ q e. omega (arith, c.through.ensures.place q e))) whole before r))
-
-pub returns-in-Err-clause-start : goal.returns-in-Err-clause-start
-returns-in-Err-clause-start g c = grind (arith, common_steps)
-
-pub returns-in-Err-clause-idle : goal.returns-in-Err-clause-idle
-returns-in-Err-clause-idle g c = grind (arith, common_steps)
-
-pub returns-in-Err-clause-log : goal.returns-in-Err-clause-log
-returns-in-Err-clause-log g c = grind (arith, common_steps)
-
-pub returns-in-Err-clause-later : goal.returns-in-Err-clause-later
-returns-in-Err-clause-later g c = grind (arith, common_steps)
-
-pub returns-in-Err-clause-heard : goal.returns-in-Err-clause-heard
-returns-in-Err-clause-heard g c = grind (arith, common_steps)
-
-pub returns-in-Err-clause-few : goal.returns-in-Err-clause-few
-returns-in-Err-clause-few g c = grind (arith, common_steps)
-
-pub returns-in-Err-clause-whole : goal.returns-in-Err-clause-whole
-returns-in-Err-clause-whole g c = grind (arith, common_steps)
-
-pub returns-in-Err-clause-first : goal.returns-in-Err-clause-first
-returns-in-Err-clause-first g c = grind (arith, common_steps)
-
-pub returns-in-Err-clause-behind : goal.returns-in-Err-clause-behind
-returns-in-Err-clause-behind g c = grind (arith, common_steps)
-
-pub returns-in-Err-clause-place : goal.returns-in-Err-clause-place
-returns-in-Err-clause-place g c = grind (arith, common_steps)
-
-pub returns-in-Err-clause-cause : goal.returns-in-Err-clause-cause
-returns-in-Err-clause-cause g c = grind (arith, common_steps)
-
-pub returns-clause-start : goal.returns-clause-start
-returns-clause-start g c = c.through.ensures.start
-
-pub returns-clause-idle : goal.returns-clause-idle
-returns-clause-idle g c = c.through.ensures.idle
-
-pub returns-clause-heard : goal.returns-clause-heard
-returns-clause-heard g c = c.through.ensures.heard
-
-pub returns-clause-log : goal.returns-clause-log
-returns-clause-log g c = grind (arith, common_steps)
-
-pub returns-clause-later : goal.returns-clause-later
-returns-clause-later g c = grind (arith, common_steps)
-
-pub returns-clause-few : goal.returns-clause-few
-returns-clause-few g c = grind (arith, common_steps)
+    (cut_after c.through.result (c.args.calls + c.loop-count.count) (λ q e. let at = ((c.through.ensures c.loop-count.got).fails.place q e).0 in omega (arith, at))) whole before r))
 
 pub returns-clause-whole : goal.returns-clause-whole
 returns-clause-whole g c = grind (arith, common_steps)
 
 pub returns-clause-first : goal.returns-clause-first
 returns-clause-first g c = grind (arith, common_steps)
-
-pub returns-clause-behind : goal.returns-clause-behind
-returns-clause-behind g c = grind (arith, common_steps)
-
-pub returns-clause-place : goal.returns-clause-place
-returns-clause-place g c = grind (arith, common_steps)
-
-pub returns-clause-cause : goal.returns-clause-cause
-returns-clause-cause g c = grind (arith, common_steps)
 
 pub loop-count-init : goal.loop-count-init
 loop-count-init g c = grind (arith, common_steps)

@@ -1,123 +1,61 @@
-use Rattle.std.proofs.Common.{◌+◌, ◌-◌, sym, ap, ◌∙◌, arith, inl}
+use Rattle.std.proofs.Common.{◌≡◌, true, false, ◌+◌, ◌-◌, [], sym, ap, ◌∙◌, arith, length, length-append}
 use Rattle.std.proofs.lemmas.Grind.{common_steps}
-use Rattle.bus_message.proofs.MessageLemmas.{count_over, count_within}
+use Rattle.i2c_base.specs.declared.port.PortCall.{PortCall}
+use Rattle.bus_message.specs.Talks.{counting, getting, over_limit}
+use Rattle.bus_message.proofs.EndLemmas.{fault-ends, rest-ends}
+use Rattle.bus_message.proofs.MessageLemmas.{count_failed, count_over, count_within}
 use Rattle.bus_message.proofs.TalkLemmas.{cut_after}
 use Rattle.bus_message.proofs.message.get_counted.Goals as goal
+
+pub returns-in-Err-clause-ended : goal.returns-in-Err-clause-ended
+returns-in-Err-clause-ended g c =
+    fault-ends g.P.Port c.args.last (counting c.args.last c.args.limit c.args.len) 1 (c.args.limit + c.args.len) [] c.args.port.now c.args.port.now c.get.new.self c.args.got.now
+    (λ tells. omega arith) (omega arith) 1 (omega arith) (omega arith) (grind (arith, common_steps)) c.in-Err.ensures.failed
+    c.in-Err.ensures.log_failed c.in-Err.ensures.later c.in-Err.ensures.cause
+    (λ tells whole before r.
+    rw c.requires.none (count_failed whole c.args.last c.args.limit c.args.len before 1 [] _ _ _ _ (c.in-Err.ensures.world_failed tells) (c.in-Err.ensures.log_failed tells) r))
+
+pub returns-in-Err-clause-whole : goal.returns-in-Err-clause-whole
+returns-in-Err-clause-whole g c = grind (arith, common_steps)
+
+pub returns-then-is_over-clause-ended : goal.returns-then-is_over-clause-ended
+returns-then-is_over-clause-ended g c =
+    rest-ends g.P.Port c.args.last (counting c.args.last c.args.limit c.args.len) 1 (c.args.limit + c.args.len) [] c.args.port.now c.get.new.self c.get_one_more.new.port c.get_one_more.new.got
+    (λ tells. omega (arith, ap length (c.in-Ok.ensures.log tells), length-append {A = PortCall})) c.in-Ok.ensures.later
+    true over_limit 2 1 c.push.new.self c.get_one_more.result c.get_one_more.ensures.ended
+    (λ no. absurd (let f : true ≡ false = no in cc)) (omega arith) (grind (arith, common_steps)) (grind (arith, common_steps))
+    (λ tells. omega (arith, ap length (c.in-Ok.ensures.log tells), length-append {A = PortCall}))
+    (λ tells whole before r.
+    rw (c.push.ensures, c.requires.none)
+    (count_over whole _ c.args.last c.args.limit c.args.len c.in-Ok.count before 1 _ _ _ _ _ (c.in-Ok.ensures.answer tells)
+    (sym c.is_over.ensures.test ∙ c.if-is_over.true)
+    (cut_after c.get_one_more.result 2 (λ q e. (c.get_one_more.ensures.ended.fails.place q e).0))
+    (c.in-Ok.ensures.world tells) (c.in-Ok.ensures.log tells) r))
+
+pub returns-then-is_over-clause-whole : goal.returns-then-is_over-clause-whole
+returns-then-is_over-clause-whole g c = grind (arith, common_steps)
+
+pub returns-else-is_over-clause-ended : goal.returns-else-is_over-clause-ended
+returns-else-is_over-clause-ended g c =
+    rest-ends g.P.Port c.args.last (counting c.args.last c.args.limit c.args.len) 1 (c.args.limit + c.args.len) [] c.args.port.now c.get.new.self c.get_all.new.port c.get_all.new.got
+    (λ tells. omega (arith, ap length (c.in-Ok.ensures.log tells), length-append {A = PortCall})) c.in-Ok.ensures.later
+    c.args.last (getting c.args.last _) 2 _ c.push.new.self c.get_all.result c.get_all.ensures.ended
+    (λ more. more) (omega arith) (grind (arith, common_steps)) (grind (arith, common_steps)) (λ tells. grind (arith, common_steps))
+    (λ tells whole before r.
+    rw (c.push.ensures, c.requires.none)
+    (count_within whole _ c.args.last c.args.limit c.args.len c.in-Ok.count _ before 1 _ _ _ _ _ (c.in-Ok.ensures.answer tells)
+    (sym c.is_over.ensures.test ∙ c.if-is_over.false) (ap (λ n. n + c.args.len - 1) c.from.ensures)
+    (cut_after c.get_all.result 2 (λ q e. (c.get_all.ensures.ended.fails.place q e).0))
+    (c.in-Ok.ensures.world tells) (c.in-Ok.ensures.log tells) r))
+
+pub returns-else-is_over-clause-whole : goal.returns-else-is_over-clause-whole
+returns-else-is_over-clause-whole g c = grind (arith, common_steps)
 
 pub get_one_more-requires : goal.get_one_more-requires
 get_one_more-requires g c = grind (arith, common_steps)
 
 pub get_all-requires : goal.get_all-requires
 get_all-requires g c = grind (arith, common_steps)
-
-pub returns-in-Err-clause-log : goal.returns-in-Err-clause-log
-returns-in-Err-clause-log g c = grind (arith, common_steps)
-
-pub returns-in-Err-clause-told : goal.returns-in-Err-clause-told
-returns-in-Err-clause-told g c = grind (arith, common_steps)
-
-pub returns-then-is_over-clause-log : goal.returns-then-is_over-clause-log
-returns-then-is_over-clause-log g c = grind (arith, common_steps)
-
-pub returns-then-is_over-clause-told : goal.returns-then-is_over-clause-told
-returns-then-is_over-clause-told g c =
-    λ tells whole before r. c.get_one_more.ensures.told tells whole before
-    (rw (c.push.ensures, c.requires.none) (count_over whole _ c.args.last c.args.limit c.args.len c.in-Ok.count before 1 _ _ _ _ _ (c.in-Ok.ensures.answer tells)
-    (sym c.is_over.ensures.test ∙ c.if-is_over.true)
-    (cut_after c.get_one_more.result.end 2 c.get_one_more.ensures.behind)
-    (c.in-Ok.ensures.world tells) (c.in-Ok.ensures.log tells) r))
-
-pub returns-else-is_over-clause-log : goal.returns-else-is_over-clause-log
-returns-else-is_over-clause-log g c = grind (arith, common_steps)
-
-pub returns-else-is_over-clause-told : goal.returns-else-is_over-clause-told
-returns-else-is_over-clause-told g c =
-    λ tells whole before r. c.get_all.ensures.told tells whole before
-    (rw (c.push.ensures, c.requires.none) (count_within whole _ c.args.last c.args.limit c.args.len c.in-Ok.count _ before 1 _ _ _ _ _ (c.in-Ok.ensures.answer tells)
-    (sym c.is_over.ensures.test ∙ c.if-is_over.false) (ap (λ n. n + c.args.len - 1) c.from.ensures)
-    (cut_after c.get_all.result.end 2 c.get_all.ensures.behind)
-    (c.in-Ok.ensures.world tells) (c.in-Ok.ensures.log tells) r))
-
-pub returns-in-Err-clause-start : goal.returns-in-Err-clause-start
-returns-in-Err-clause-start g c = grind (arith, common_steps)
-
-pub returns-in-Err-clause-idle : goal.returns-in-Err-clause-idle
-returns-in-Err-clause-idle g c = grind (arith, common_steps)
-
-pub returns-in-Err-clause-later : goal.returns-in-Err-clause-later
-returns-in-Err-clause-later g c = grind (arith, common_steps)
-
-pub returns-in-Err-clause-heard : goal.returns-in-Err-clause-heard
-returns-in-Err-clause-heard g c = grind (arith, common_steps)
-
-pub returns-in-Err-clause-few : goal.returns-in-Err-clause-few
-returns-in-Err-clause-few g c = grind (arith, common_steps)
-
-pub returns-in-Err-clause-whole : goal.returns-in-Err-clause-whole
-returns-in-Err-clause-whole g c = grind (arith, common_steps)
-
-pub returns-in-Err-clause-behind : goal.returns-in-Err-clause-behind
-returns-in-Err-clause-behind g c = grind (arith, common_steps)
-
-pub returns-in-Err-clause-place : goal.returns-in-Err-clause-place
-returns-in-Err-clause-place g c = grind (arith, common_steps)
-
-pub returns-in-Err-clause-cause : goal.returns-in-Err-clause-cause
-returns-in-Err-clause-cause g c = grind (arith, common_steps)
-
-pub returns-then-is_over-clause-heard : goal.returns-then-is_over-clause-heard
-returns-then-is_over-clause-heard g c = c.get_one_more.ensures.heard
-
-pub returns-then-is_over-clause-start : goal.returns-then-is_over-clause-start
-returns-then-is_over-clause-start g c = grind (arith, common_steps)
-
-pub returns-then-is_over-clause-later : goal.returns-then-is_over-clause-later
-returns-then-is_over-clause-later g c = grind (arith, common_steps)
-
-pub returns-then-is_over-clause-few : goal.returns-then-is_over-clause-few
-returns-then-is_over-clause-few g c = grind (arith, common_steps)
-
-pub returns-then-is_over-clause-whole : goal.returns-then-is_over-clause-whole
-returns-then-is_over-clause-whole g c = grind (arith, common_steps)
-
-pub returns-then-is_over-clause-behind : goal.returns-then-is_over-clause-behind
-returns-then-is_over-clause-behind g c = grind (arith, common_steps)
-
-pub returns-then-is_over-clause-place : goal.returns-then-is_over-clause-place
-returns-then-is_over-clause-place g c = grind (arith, common_steps)
-
-pub returns-then-is_over-clause-cause : goal.returns-then-is_over-clause-cause
-returns-then-is_over-clause-cause g c = grind (arith, common_steps)
-
-pub returns-then-is_over-clause-idle : goal.returns-then-is_over-clause-idle
-returns-then-is_over-clause-idle g c = inl c.get_one_more.ensures.idle
-
-pub returns-else-is_over-clause-start : goal.returns-else-is_over-clause-start
-returns-else-is_over-clause-start g c = c.get_all.ensures.start
-
-pub returns-else-is_over-clause-idle : goal.returns-else-is_over-clause-idle
-returns-else-is_over-clause-idle g c = c.get_all.ensures.idle
-
-pub returns-else-is_over-clause-heard : goal.returns-else-is_over-clause-heard
-returns-else-is_over-clause-heard g c = c.get_all.ensures.heard
-
-pub returns-else-is_over-clause-later : goal.returns-else-is_over-clause-later
-returns-else-is_over-clause-later g c = grind (arith, common_steps)
-
-pub returns-else-is_over-clause-few : goal.returns-else-is_over-clause-few
-returns-else-is_over-clause-few g c = grind (arith, common_steps)
-
-pub returns-else-is_over-clause-whole : goal.returns-else-is_over-clause-whole
-returns-else-is_over-clause-whole g c = grind (arith, common_steps)
-
-pub returns-else-is_over-clause-behind : goal.returns-else-is_over-clause-behind
-returns-else-is_over-clause-behind g c = grind (arith, common_steps)
-
-pub returns-else-is_over-clause-place : goal.returns-else-is_over-clause-place
-returns-else-is_over-clause-place g c = grind (arith, common_steps)
-
-pub returns-else-is_over-clause-cause : goal.returns-else-is_over-clause-cause
-returns-else-is_over-clause-cause g c = grind (arith, common_steps)
 
 pub get-requires-clause-phase : goal.get-requires-clause-phase
 get-requires-clause-phase g c = grind (arith, common_steps)

@@ -1,75 +1,41 @@
-use Rattle.std.proofs.Common.{arith}
+use Rattle.std.proofs.Common.{◌≡◌, true, ap, arith, refl, length, length-append}
 use Rattle.std.proofs.lemmas.Grind.{common_steps}
-use Rattle.bus_message.proofs.MessageLemmas.{over_went}
+use Rattle.i2c_base.specs.declared.entry.End.TheVariants as end
+use Rattle.i2c_base.specs.declared.port.PortCall.{PortCall}
+use Rattle.i2c_spec.specs.Conversation.{ended}
+use Rattle.bus_message.specs.Talks.{ending, over_limit}
+use Rattle.bus_message.proofs.EndLemmas.{fault-ends, rest-ends}
+use Rattle.bus_message.proofs.MessageLemmas.{over_went, over_failed}
 use Rattle.bus_message.proofs.TalkLemmas.{cut_after}
 use Rattle.bus_message.proofs.message.get_one_more.Goals as goal
 
-pub stopped-requires : goal.stopped-requires
-stopped-requires g c = grind (arith, common_steps)
-
-pub returns-in-Err-clause-log : goal.returns-in-Err-clause-log
-returns-in-Err-clause-log g c = grind (arith, common_steps)
-
-pub returns-in-Err-clause-told : goal.returns-in-Err-clause-told
-returns-in-Err-clause-told g c = grind (arith, common_steps)
-
-pub returns-in-Ok-clause-log : goal.returns-in-Ok-clause-log
-returns-in-Ok-clause-log g c = grind (arith, common_steps)
-
-pub returns-in-Ok-clause-few : goal.returns-in-Ok-clause-few
-returns-in-Ok-clause-few g c = grind (arith, common_steps)
-
-pub returns-in-Ok-clause-told : goal.returns-in-Ok-clause-told
-returns-in-Ok-clause-told g c =
-    λ tells whole before r. c.stopped.ensures.told tells whole before _
-    (rw c.push.ensures (over_went whole _ c.in-Ok.byte before 2 c.args.got.now _ _ _ _ (c.in-Ok.ensures.answer tells)
-    (cut_after c.stopped.result.end 3 (λ q e. omega (arith, c.stopped.ensures.place q e)))
-    (c.in-Ok.ensures.world tells) (c.in-Ok.ensures.log tells) r))
-
-pub returns-in-Err-clause-idle : goal.returns-in-Err-clause-idle
-returns-in-Err-clause-idle g c = grind (arith, common_steps)
-
-pub returns-in-Err-clause-later : goal.returns-in-Err-clause-later
-returns-in-Err-clause-later g c = grind (arith, common_steps)
-
-pub returns-in-Err-clause-heard : goal.returns-in-Err-clause-heard
-returns-in-Err-clause-heard g c = grind (arith, common_steps)
-
-pub returns-in-Err-clause-few : goal.returns-in-Err-clause-few
-returns-in-Err-clause-few g c = grind (arith, common_steps)
+pub returns-in-Err-clause-ended : goal.returns-in-Err-clause-ended
+returns-in-Err-clause-ended g c =
+    fault-ends g.P.Port true over_limit 2 1 c.args.got.now c.args.port.now c.args.port.now c.get.new.self c.args.got.now
+    (λ tells. omega arith) (omega arith) 2 (omega arith) (omega arith) (omega arith) c.in-Err.ensures.failed
+    c.in-Err.ensures.log_failed c.in-Err.ensures.later c.in-Err.ensures.cause
+    (λ tells whole before r. over_failed whole before 2 c.args.got.now _ _ _ _ (c.in-Err.ensures.world_failed tells) (c.in-Err.ensures.log_failed tells) r)
 
 pub returns-in-Err-clause-bad : goal.returns-in-Err-clause-bad
 returns-in-Err-clause-bad g c = grind (arith, common_steps)
 
-pub returns-in-Err-clause-behind : goal.returns-in-Err-clause-behind
-returns-in-Err-clause-behind g c = grind (arith, common_steps)
-
-pub returns-in-Err-clause-place : goal.returns-in-Err-clause-place
-returns-in-Err-clause-place g c = grind (arith, common_steps)
-
-pub returns-in-Err-clause-cause : goal.returns-in-Err-clause-cause
-returns-in-Err-clause-cause g c = grind (arith, common_steps)
-
-pub returns-in-Ok-clause-idle : goal.returns-in-Ok-clause-idle
-returns-in-Ok-clause-idle g c = c.stopped.ensures.idle
-
-pub returns-in-Ok-clause-heard : goal.returns-in-Ok-clause-heard
-returns-in-Ok-clause-heard g c = c.stopped.ensures.heard
-
-pub returns-in-Ok-clause-later : goal.returns-in-Ok-clause-later
-returns-in-Ok-clause-later g c = grind (arith, common_steps)
+pub returns-in-Ok-clause-ended : goal.returns-in-Ok-clause-ended
+returns-in-Ok-clause-ended g c =
+    rest-ends g.P.Port true over_limit 2 1 c.args.got.now c.args.port.now c.get.new.self c.stopped.new.port c.push.new.self
+    (λ tells. omega (arith, ap length (c.in-Ok.ensures.log tells), length-append {A = PortCall})) c.in-Ok.ensures.later
+    true (ending true end.Proto) 3 0 c.push.new.self c.stopped.result (c.stopped.ensures.ended c.push.new.self)
+    (λ no. no) (omega arith) (omega arith) (grind (arith, common_steps))
+    (λ tells. omega (arith, ap length (c.in-Ok.ensures.log tells), length-append {A = PortCall}))
+    (λ tells whole before r.
+    rw c.push.ensures (over_went whole _ c.in-Ok.byte before 2 c.args.got.now _ _ _ _ (c.in-Ok.ensures.answer tells)
+    (cut_after c.stopped.result 3 (λ q e. ((c.stopped.ensures.ended c.push.new.self).fails.place q e).0))
+    (c.in-Ok.ensures.world tells) (c.in-Ok.ensures.log tells) r))
 
 pub returns-in-Ok-clause-bad : goal.returns-in-Ok-clause-bad
 returns-in-Ok-clause-bad g c = grind (arith, common_steps)
 
-pub returns-in-Ok-clause-behind : goal.returns-in-Ok-clause-behind
-returns-in-Ok-clause-behind g c = grind (arith, common_steps)
-
-pub returns-in-Ok-clause-place : goal.returns-in-Ok-clause-place
-returns-in-Ok-clause-place g c = grind (arith, common_steps)
-
-pub returns-in-Ok-clause-cause : goal.returns-in-Ok-clause-cause
-returns-in-Ok-clause-cause g c = grind (arith, common_steps)
+pub stopped-requires : goal.stopped-requires
+stopped-requires g c = grind (arith, common_steps)
 
 pub get-requires-clause-phase : goal.get-requires-clause-phase
 get-requires-clause-phase g c = grind (arith, common_steps)

@@ -1,89 +1,83 @@
-use Rattle.std.proofs.Common.{ap, arith}
+use Rattle.std.proofs.Common.{◌≡◌, true, false, ℕ, ◌+◌, [], refl, sym, ◌∙◌, ap, inl, arith, length, length-append}
 use Rattle.std.proofs.lemmas.Grind.{common_steps}
+use Rattle.i2c_base.specs.declared.entry.End.{End}
+use Rattle.i2c_base.specs.declared.entry.End.TheVariants as end
+use Rattle.i2c_base.specs.declared.port.PortCall.{PortCall}
+use Rattle.i2c_spec.specs.World.{has_heard, answer as answer_of}
+use Rattle.bus_spec.specs.Legal.{start_failed}
+use Rattle.bus_message.proofs.EndLemmas.{idle_starts, rose_from}
 use Rattle.bus_message.proofs.MessageLemmas.{starts}
-use Rattle.bus_message.proofs.TalkLemmas.{cut_after}
+use Rattle.bus_message.proofs.TalkLemmas.{cut_after, started}
 use Rattle.bus_message.proofs.message.send_message.Goals as goal
 
-pub go_on-requires : goal.go_on-requires
-go_on-requires g c = grind (arith, common_steps)
+pub after_start-requires : goal.after_start-requires
+after_start-requires g c = grind (arith, common_steps)
 
-pub returns-in-Err-clause-log : goal.returns-in-Err-clause-log
-returns-in-Err-clause-log g c = grind (arith, common_steps)
+pub returns-in-Err-clause-sent : goal.returns-in-Err-clause-sent
+returns-in-Err-clause-sent g c root =
+    record {
+      addr = grind (arith, common_steps);
+      reading = grind (arith, common_steps);
+      spoke = record {
+        root = refl;
+        start = idle_starts _ c.in-Err.ensures.failed;
+        idle = inl c.in-Err.ensures.failed;
+        grows = λ tells. omega (arith, ap length (c.in-Err.ensures.log_failed tells), length-append {A = PortCall});
+        few = grind (arith, common_steps);
+      };
+      moved = record { read = grind (arith, common_steps); written = grind (arith, common_steps) };
+      told = grind (arith, common_steps);
+      acked = false;
+      named = refl;
+      failed = λ f. refl;
+      answered = λ tells f. absurd (let h : true ≡ false = f in cc);
+    }
 
-pub returns-in-Ok-clause-log : goal.returns-in-Ok-clause-log
-returns-in-Ok-clause-log g c = grind (arith, common_steps)
+pub returns-in-Ok-clause-sent : goal.returns-in-Ok-clause-sent
+returns-in-Ok-clause-sent g c root =
+    let m = c.args.message.now in
+    let done = c.after_start.ensures.ended in
+    record {
+      addr = ap (λ m. m.addr) c.message.view_is;
+      reading = ap (λ m. m.reading) c.message.view_is;
+      spoke = record {
+        root = refl;
+        start = done.start;
+        idle = done.idle;
+        grows = λ tells. omega (arith, done.grows tells, ap length (c.in-Ok.ensures.log tells), length-append {A = PortCall});
+        few = omega (arith, done.few);
+      };
+      moved = c.after_start.ensures.moved;
+      told = λ tells. done.told tells _ _
+          (starts c.args.limit m c.message.inside.addr c.message.inside.reading c.args.last _ c.in-Ok.answer
+          (g.P.Port.world c.args.port.now) (g.P.Port.world c.start.new.self) (g.P.Port.log c.args.port.now) (g.P.Port.log c.start.new.self)
+          (ap (λ m. m.addr) c.message.view_is) (ap (λ m. m.reading) c.message.view_is)
+          (cut_after c.after_start.result 1 (λ q e. (done.fails.place q e).0))
+          (c.in-Ok.ensures.answer tells) (c.in-Ok.ensures.world tells) (c.in-Ok.ensures.log tells));
+      acked = has_heard c.in-Ok.answer;
+      named = c.heard_by.ensures;
+      failed = λ f. absurd (started c.after_start.result (λ q e. (done.fails.place q e).0) f);
+      answered = λ tells f. ap has_heard (c.in-Ok.ensures.answer tells
+          ∙ ap (λ x. answer_of (g.P.Port.world c.args.port.now) x c.message.inside.reading) (ap (λ m. m.addr) c.message.view_is)
+          ∙ ap (answer_of (g.P.Port.world c.args.port.now) m.addr) (ap (λ m. m.reading) c.message.view_is));
+    }
 
-pub returns-in-Ok-clause-told : goal.returns-in-Ok-clause-told
-returns-in-Ok-clause-told g c =
-    λ tells. c.go_on.ensures.told tells _ _
-    (starts c.args.limit c.args.message.now c.message.inside.addr c.message.inside.reading c.args.last _ c.in-Ok.answer
-    (g.P.Port.world c.args.port.now) (g.P.Port.world c.start.new.self) (g.P.Port.log c.args.port.now) (g.P.Port.log c.start.new.self)
-    (ap (λ m. m.addr) c.message.view_is) (ap (λ m. m.reading) c.message.view_is)
-    (cut_after c.go_on.result.end 1 c.go_on.ensures.behind)
-    (c.in-Ok.ensures.answer tells) (c.in-Ok.ensures.world tells) (c.in-Ok.ensures.log tells))
-
-pub returns-in-Err-clause-start : goal.returns-in-Err-clause-start
-returns-in-Err-clause-start g c = grind (arith, common_steps)
-
-pub returns-in-Err-clause-idle : goal.returns-in-Err-clause-idle
-returns-in-Err-clause-idle g c = grind (arith, common_steps)
+pub returns-in-Err-clause-fails : goal.returns-in-Err-clause-fails
+returns-in-Err-clause-fails g c = record { place = λ q e. (let same : 0 ≡ q = cc in (omega arith, omega (arith, same))); cause = λ q e. c.in-Err.ensures.cause }
 
 pub returns-in-Err-clause-later : goal.returns-in-Err-clause-later
-returns-in-Err-clause-later g c = grind (arith, common_steps)
+returns-in-Err-clause-later g c = c.in-Err.ensures.later
 
-pub returns-in-Err-clause-told : goal.returns-in-Err-clause-told
-returns-in-Err-clause-told g c = grind (arith, common_steps)
-
-pub returns-in-Err-clause-heard : goal.returns-in-Err-clause-heard
-returns-in-Err-clause-heard g c = grind (arith, common_steps)
-
-pub returns-in-Err-clause-unheard : goal.returns-in-Err-clause-unheard
-returns-in-Err-clause-unheard g c = grind (arith, common_steps)
-
-pub returns-in-Err-clause-few : goal.returns-in-Err-clause-few
-returns-in-Err-clause-few g c = grind (arith, common_steps)
-
-pub returns-in-Err-clause-read : goal.returns-in-Err-clause-read
-returns-in-Err-clause-read g c = grind (arith, common_steps)
-
-pub returns-in-Err-clause-written : goal.returns-in-Err-clause-written
-returns-in-Err-clause-written g c = grind (arith, common_steps)
-
-pub returns-in-Err-clause-place : goal.returns-in-Err-clause-place
-returns-in-Err-clause-place g c = grind (arith, common_steps)
-
-pub returns-in-Err-clause-cause : goal.returns-in-Err-clause-cause
-returns-in-Err-clause-cause g c = grind (arith, common_steps)
-
-pub returns-in-Ok-clause-start : goal.returns-in-Ok-clause-start
-returns-in-Ok-clause-start g c = c.go_on.ensures.start
-
-pub returns-in-Ok-clause-idle : goal.returns-in-Ok-clause-idle
-returns-in-Ok-clause-idle g c = c.go_on.ensures.idle
-
-pub returns-in-Ok-clause-few : goal.returns-in-Ok-clause-few
-returns-in-Ok-clause-few g c = c.go_on.ensures.few
-
-pub returns-in-Ok-clause-read : goal.returns-in-Ok-clause-read
-returns-in-Ok-clause-read g c = c.go_on.ensures.read
-
-pub returns-in-Ok-clause-written : goal.returns-in-Ok-clause-written
-returns-in-Ok-clause-written g c = c.go_on.ensures.written
-
-pub returns-in-Ok-clause-place : goal.returns-in-Ok-clause-place
-returns-in-Ok-clause-place g c = c.go_on.ensures.place
+pub returns-in-Ok-clause-fails : goal.returns-in-Ok-clause-fails
+returns-in-Ok-clause-fails g c =
+    let done = c.after_start.ensures.ended in
+    record {
+      place = λ q e. (let at = done.fails.place q e in (omega arith, omega (arith, at.1)));
+      cause = λ q e. rose_from _ _ _ c.in-Ok.ensures.later (done.fails.cause q e);
+    }
 
 pub returns-in-Ok-clause-later : goal.returns-in-Ok-clause-later
-returns-in-Ok-clause-later g c = grind (arith, common_steps)
-
-pub returns-in-Ok-clause-heard : goal.returns-in-Ok-clause-heard
-returns-in-Ok-clause-heard g c = grind (arith, common_steps)
-
-pub returns-in-Ok-clause-unheard : goal.returns-in-Ok-clause-unheard
-returns-in-Ok-clause-unheard g c = grind (arith, common_steps)
-
-pub returns-in-Ok-clause-cause : goal.returns-in-Ok-clause-cause
-returns-in-Ok-clause-cause g c = grind (arith, common_steps)
+returns-in-Ok-clause-later g c = omega (arith, c.in-Ok.ensures.later, c.after_start.ensures.ended.later)
 
 pub start-requires-clause-phase : goal.start-requires-clause-phase
 start-requires-clause-phase g c = grind (arith, common_steps)

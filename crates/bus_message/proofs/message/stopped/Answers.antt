@@ -1,57 +1,25 @@
-use Rattle.std.proofs.Common.{arith}
+use Rattle.std.proofs.Common.{true, arith, inl}
 use Rattle.std.proofs.lemmas.Grind.{common_steps}
+use Rattle.i2c_spec.specs.Conversation.{ended}
+use Rattle.bus_message.specs.Talks.{ending}
+use Rattle.bus_message.proofs.EndLemmas.{fault-ends, idle_starts}
 use Rattle.bus_message.proofs.message.stopped.Goals as goal
 
-pub returns-in-Err-clause-told : goal.returns-in-Err-clause-told
-returns-in-Err-clause-told c = grind (arith, common_steps)
+pub returns-in-Err-clause-ended : goal.returns-in-Err-clause-ended
+returns-in-Err-clause-ended g c got =
+    fault-ends g.P.Port true (ending true c.args.end) c.args.calls 0 got c.args.port.now c.args.port.now c.stop.new.self got
+    (λ tells. omega arith) (omega arith) c.args.calls (omega arith) (omega arith) (omega arith) c.stop.ensures.phase
+    c.in-Err.ensures.log_failed c.in-Err.ensures.later c.in-Err.ensures.cause
+    (grind (arith, common_steps))
 
-pub returns-in-Ok-clause-idle : goal.returns-in-Ok-clause-idle
-returns-in-Ok-clause-idle g c = grind (arith, common_steps)
-
-pub returns-in-Ok-clause-log : goal.returns-in-Ok-clause-log
-returns-in-Ok-clause-log g c = grind (arith, common_steps)
-
-pub returns-in-Ok-clause-later : goal.returns-in-Ok-clause-later
-returns-in-Ok-clause-later g c = grind (arith, common_steps)
-
-pub returns-in-Ok-clause-heard : goal.returns-in-Ok-clause-heard
-returns-in-Ok-clause-heard g c = grind (arith, common_steps)
-
-pub returns-in-Ok-clause-good : goal.returns-in-Ok-clause-good
-returns-in-Ok-clause-good g c = grind (arith, common_steps)
-
-pub returns-in-Ok-clause-place : goal.returns-in-Ok-clause-place
-returns-in-Ok-clause-place g c = grind (arith, common_steps)
-
-pub returns-in-Ok-clause-cause : goal.returns-in-Ok-clause-cause
-returns-in-Ok-clause-cause g c = grind (arith, common_steps)
-
-pub returns-in-Err-clause-idle : goal.returns-in-Err-clause-idle
-returns-in-Err-clause-idle g c = grind (arith, common_steps)
-
-pub returns-in-Err-clause-log : goal.returns-in-Err-clause-log
-returns-in-Err-clause-log g c = grind (arith, common_steps)
-
-pub returns-in-Err-clause-later : goal.returns-in-Err-clause-later
-returns-in-Err-clause-later g c = grind (arith, common_steps)
-
-pub returns-in-Err-clause-heard : goal.returns-in-Err-clause-heard
-returns-in-Err-clause-heard g c = grind (arith, common_steps)
-
-pub returns-in-Err-clause-good : goal.returns-in-Err-clause-good
-returns-in-Err-clause-good g c = grind (arith, common_steps)
-
-pub returns-in-Err-clause-place : goal.returns-in-Err-clause-place
-returns-in-Err-clause-place g c = grind (arith, common_steps)
-
-pub returns-in-Err-clause-cause : goal.returns-in-Err-clause-cause
-returns-in-Err-clause-cause g c = grind (arith, common_steps)
-
-pub returns-in-Ok-clause-told : goal.returns-in-Ok-clause-told
-returns-in-Ok-clause-told g c = grind (arith, common_steps)
-
-pub stop-requires-clause-phase : goal.stop-requires-clause-phase
-stop-requires-clause-phase g c = grind (arith, common_steps)
-
-pub stop-requires-clause-room : goal.stop-requires-clause-room
-stop-requires-clause-room g c = grind (arith, common_steps)
+pub returns-in-Ok-clause-ended : goal.returns-in-Ok-clause-ended
+returns-in-Ok-clause-ended g c got =
+    record {
+      start = idle_starts _ c.stop.ensures.phase;
+      idle = inl c.stop.ensures.phase;
+      grows = grind (arith, common_steps);
+      later = c.stop.ensures.later;
+      few = omega arith;
+      fails = record { place = grind (arith, common_steps); cause = grind (arith, common_steps) };
+      told = grind (arith, common_steps);
+    }

@@ -1,0 +1,47 @@
+use Rattle.std.proofs.Common.{◌≡◌, ◌+◌, true, false, List, ℕ, ◌∷◌, [], ◌++◌, length, Some, refl, sym, ◌∙◌, ap, subst}
+use Rattle.i2c_base.specs.Need.{bytes_given}
+use Rattle.i2c_base.specs.declared.entry.Entry.{Entry}
+use Rattle.bus_spec.specs.Stepwise.{reply_by}
+use Rattle.bus_core.specs.Seats.{IsCounted}
+use Rattle.bus_core.proofs.Reseating.{settled, settle_entry}
+use Rattle.bus_core.proofs.seat.Seat.settle.Goals as goal
+
+pub returns-in_default : goal.returns-in_default
+returns-in_default g c =
+    record {
+      settled = λ h. absurd (let f : false ≡ true = h in cc);
+      none = λ h verdict is. c.settles.ensures.none c.args.board.now c.args.locks.now verdict c.in_default.is is;
+      stays = λ h. (refl, refl);
+    }
+
+pub push-requires-clause-room : goal.push-requires-clause-room
+push-requires-clause-room g c = (c.requires.room c.in-Some.verdict (c.in-Some.ensures.some c.args.board.now c.args.locks.now)).0
+
+pub push-requires-clause-room_bytes : goal.push-requires-clause-room_bytes
+push-requires-clause-room_bytes g c =
+    let room = (c.requires.room c.in-Some.verdict (c.in-Some.ensures.some c.args.board.now c.args.locks.now)).1 in
+    rw (c.settle.ensures.bytes, c.reply.ensures, c.decide-decided.ensures.reply) room
+
+pub lock_done-requires : goal.lock_done-requires
+lock_done-requires g c = subst IsCounted (sym c.decide-decided.ensures.same) c.requires.counted
+
+pub returns-clause-settled : goal.returns-clause-settled
+returns-clause-settled g c =
+    λ h.
+    let old = c.args.self.now in
+    let m = c.decide-decided.new.self in
+    let d = c.decide-decided.ensures in
+    let p = c.lock_done.ensures in
+    let verdict = c.in-Some.verdict in
+    let got : c.reply.result.now ≡ reply_by verdict (Some old.transfer) old.replies.got = c.reply.ensures ∙ d.reply in (
+      verdict,
+      record {
+        next = c.in-Some.ensures.some c.args.board.now c.args.locks.now;
+        settled = settled c.args.board.now c.args.locks.now old m c.lock_done.new.self verdict c.decide-decided.result d.same p.same d.reply p.walk p.course;
+        entries = c.push.ensures.entries
+            ∙ ap (λ (e : Entry). c.args.journal.now.entries ++ e ∷ [])
+            (c.settle.ensures.seen ∙ settle_entry old m (Some c.decide-decided.result) c.reply.result.now (reply_by verdict (Some old.transfer) old.replies.got) d.same got);
+        room = c.push.ensures.room;
+        room_bytes = ap (λ (xs : List ℕ). c.push.new.self.room_bytes + length xs) (sym (c.settle.ensures.bytes ∙ ap bytes_given got)) ∙ c.push.ensures.room_bytes;
+      },
+    )

@@ -1,0 +1,108 @@
+//! How a seat goes on behind each kind of step.
+ghost use Rattle.std.specs.Prelude.{◌≡◌, true, false, Option, Some};
+ghost use Rattle.i2c_base.specs.declared.errno.Errno.{Errno};
+ghost use Rattle.bus_spec.specs.Walk.{Settle, Lined, Sent};
+ghost use Rattle.core_laws.specs.Steps.{next_of};
+ghost use Rattle.bus_core.specs.Kept.{roots_of};
+ghost use Rattle.bus_core.specs.Places.{walk_left};
+ghost use Rattle.bus_core.specs.Seats.{HasFreed, HasHeard, IsCounted, IsRefusedIn, IsSettledIn, MayEnd, MayHear, MayRefuse, MaySettle, WentOn, cut_of_line, dues_of};
+
+use crate::seat::Seat;
+use bus_journal::{EntryRef, Journal};
+use bus_message::MsgResult;
+use i2c_base::{Caller, Cut, Errno, SegId};
+use i2c_board::Accepted;
+use i2c_outside::Port;
+use mux_plan::{Dues, NextMsg, Outcome};
+use seg_locks::Locks;
+
+impl<C: Caller> Seat<C> {
+    /// Advances past a freed lock; at the walk's end delivers the reply and loads the next transfer.
+    pub fn free_done<P: Port>(
+        &mut self,
+        board: &Accepted,
+        locks: &Locks,
+        ports: &[(SegId, P)],
+        dues: &mut Dues,
+    )
+        requires { MayEnd C.Caller board.now (roots_of ports.now) self.old }
+        ensures { HasFreed C.Caller board.now locks.now (roots_of ports.now) self.old self.new }
+    {
+        self.lock_done(board, locks, dues);
+        self.end(board, ports);
+    }
+
+    /// .. behind a message, of which this came; tells what it changes of the lock words.
+    pub fn message_done(
+        &mut self,
+        board: &Accepted,
+        locks: &Locks,
+        next: &NextMsg,
+        msg: &MsgResult,
+        bytes: &[u8],
+        dues: &mut Dues,
+    )
+        requires { MayHear next.now msg.now.reading bytes.now msg.now.end self.old }
+        ensures heard { HasHeard board.now locks.now next.now msg.now.reading bytes.now msg.now.end self.old self.new }
+        ensures dues { dues.new.items ≡ dues_of board.now locks.now (Sent msg.now.end bytes.now) self.old }
+    {
+        self.record_msg(next, msg, bytes);
+        let outcome = Outcome::Sent {
+            end: msg.end,
+            bytes,
+        };
+        self.advance_walk(board, locks, &outcome, dues);
+    }
+
+    /// .. behind a line step, which may have failed.
+    pub fn line_done(&mut self, board: &Accepted, locks: &Locks, failed: bool, dues: &mut Dues)
+        requires { IsCounted self.old }
+        ensures went { WentOn board.now locks.now (Lined failed) (cut_of_line failed) self.old self.new }
+        ensures dues { dues.new.items ≡ dues_of board.now locks.now (Lined failed) self.old }
+    {
+        self.cut = if failed { Cut::Way } else { Cut::No };
+        self.advance_walk(board, locks, &Outcome::Lined { failed }, dues);
+    }
+
+    /// Makes the settle that comes next, with its entry; tells whether one does.
+    #[inline(always)]
+    pub fn settle(
+        &mut self,
+        board: &Accepted,
+        locks: &Locks,
+        journal: &mut Journal,
+        dues: &mut Dues,
+    ) -> bool
+        requires { MaySettle board.now locks.now journal.old self.old }
+        ensures settled { result ≡ true → (verdict : Option Errno) × IsSettledIn board.now locks.now verdict journal.old journal.new self.old self.new }
+        ensures none { result ≡ false → (verdict : Option Errno) → next_of locks.now (walk_left board.now self.old) ≡ Some (Settle verdict) → ⊥ }
+        ensures stays { result ≡ false → (self.new ≡ self.old) × (journal.new ≡ journal.old) }
+    {
+        let Some(verdict) = self.settles() else {
+            return false;
+        };
+        let decided = self.decide(verdict);
+        journal.push(&EntryRef::settle(self.number, self.replies.reply(decided), self.cut));
+        self.lock_done(board, locks, dues);
+        true
+    }
+
+    /// Settles its refused transfer, with its entry, hands its error over, and loads the next one.
+    pub fn refuse<P: Port>(
+        &mut self,
+        board: &Accepted,
+        locks: &Locks,
+        ports: &[(SegId, P)],
+        journal: &mut Journal,
+        dues: &mut Dues,
+        errno: Errno,
+    )
+        requires { MayRefuse C.Caller board.now (roots_of ports.now) errno journal.old self.old }
+        ensures { IsRefusedIn C.Caller board.now (roots_of ports.now) errno journal.old journal.new self.old self.new }
+    {
+        let decided = self.decide(Some(errno));
+        journal.push(&EntryRef::settle(self.number, self.replies.reply(decided), self.cut));
+        self.lock_done(board, locks, dues);
+        self.end(board, ports);
+    }
+}

@@ -1,6 +1,0 @@
-use Rattle.std.proofs.Common.{arith}
-use Rattle.std.proofs.lemmas.Grind.{common_steps}
-use Rattle.bus_message.proofs.sockets.say.Goals as goal
-
-pub returns-clause-said : goal.returns-clause-said
-returns-clause-said c = grind (arith, common_steps)
