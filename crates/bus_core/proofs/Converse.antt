@@ -20,7 +20,7 @@ use Rattle.i2c_spec.specs.Messages.{MessageView, messages_of}
 use Rattle.i2c_spec.specs.Tree.{buses, root_of}
 use Rattle.bus_spec.specs.Grammar.{is_over, first_note, seen}
 use Rattle.i2c_base.specs.Fitting.{FitsReads}
-use Rattle.bus_spec.specs.Walk.{Job, Call, Select, Clear, Send, Settle, Mark, job_purpose, part_of}
+use Rattle.bus_spec.specs.Walk.{Job, Call, Select, SwitchOff, off_bus, off_mux, Send, Settle, Mark, job_purpose, part_of}
 use Rattle.bus_spec.specs.Walk as walk
 use Rattle.i2c_spec.specs.Messages.{bytes_most}
 use Rattle.bus_laws.specs.Holds.{MarksHeld, OwnHeld}
@@ -95,18 +95,18 @@ module _ (v : LocksView) (c : ℕ) (ls : List LockId) (own : (l : LockId) → In
   pub switched-on : (b : BoardView) (job : Job) → OwnHeld b job ls → IsSwitchedOn (holds_mux v c) job
   switched-on b (Call bus ms) h = tt
   switched-on b (Select h) own = on-held h.on own.0
-  switched-on b (Clear on mux kind) own = on-held on own.0
+  switched-on b (SwitchOff off) own = on-held (off_bus off) own.0
 
 -- a message of the caller's own is one of a call
 is_call : (job : Job) → job_purpose job ≡ purpose.Call → (bus : ℕ) × (ms : List MessageView) × (job ≡ Call bus ms)
 is_call (Call bus ms) e = (bus, ms, refl)
 is_call (Select h) e = absurd (let f : purpose.Control h.mux ≡ purpose.Call = e in cc)
-is_call (Clear on mux kind) e = absurd (let f : purpose.Control mux ≡ purpose.Call = e in cc)
+is_call (SwitchOff off) e = absurd (let f : purpose.Control (off_mux off) ≡ purpose.Call = e in cc)
 
 part_low : (sent more : ℕ) (j : Job) → ((bus : ℕ) (ms : List MessageView) → j ≡ Call bus ms → sent + suc more ≡ length ms) → 0 < part_of j more
 part_low sent more (Call bus ms) w = (let sum : sent + suc more ≡ length ms = w bus ms refl in omega (arith, sum))
 part_low sent more (Select h) w = omega arith
-part_low sent more (Clear on mux kind) w = omega arith
+part_low sent more (SwitchOff off) w = omega arith
 
 module _ {P C S : Type 0} (g : PortGhosts P) (c : CallerGhosts C S) (x : CoreParts P C) (kept : IsKept g c x) (place : ℕ) (s : Seat C) (here : slice_get x.seats.items place ≡ Some s) where
   abbrev pub b : BoardView

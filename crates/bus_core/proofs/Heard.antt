@@ -18,7 +18,7 @@ use Rattle.bus_spec.specs.Grammar.{is_over, first_act, rest_of}
 use Rattle.bus_spec.specs.Past.{got_after}
 use Rattle.bus_spec.specs.Readings.{message_cut}
 use Rattle.bus_spec.specs.Stepwise.{reply_by}
-use Rattle.bus_spec.specs.Walk.{Job, Call, Select, Clear, Settle, Passed, ActOutcome, WalkTree, Ends, Look, Then, job_purpose}
+use Rattle.bus_spec.specs.Walk.{Job, Call, Select, SwitchOff, Settle, Passed, ActOutcome, WalkTree, Ends, Look, Then, job_purpose}
 use Rattle.bus_spec.specs.Walk as walk
 use Rattle.bus_message.proofs.PortLemmas.{call-through}
 use Rattle.mux_plan.specs.Plans.{CourseView}
@@ -41,16 +41,16 @@ owed_same : (o : Option Decided) (r : RepliesView) (job : Job) (reading : Bool) 
 owed_same None r job reading bytes none = refl
 owed_same (Some d) r (Call bus ms) reading bytes none = absurd (let f : true ≡ false = none bus ms refl in cc)
 owed_same (Some d) r (Select h) reading bytes none = refl
-owed_same (Some d) r (Clear on mux kind) reading bytes none = refl
+owed_same (Some d) r (SwitchOff off) reading bytes none = refl
 
 got_more : (o : Option Decided) (r : RepliesView) (job : Job) (reading : Bool) (bytes : List ℕ) → ((bus : ℕ) (ms : List MessageView) → job ≡ Call bus ms → has_reply (owed_by o r) ≡ false)
     → got_by o (record r { got = got_heard (job_purpose job) reading bytes r.got }) ≡ got_after job reading bytes (got_by o r)
 got_more None r (Call bus ms) reading bytes none = refl
 got_more None r (Select h) reading bytes none = refl
-got_more None r (Clear on mux kind) reading bytes none = refl
+got_more None r (SwitchOff off) reading bytes none = refl
 got_more (Some d) r (Call bus ms) reading bytes none = absurd (let f : true ≡ false = none bus ms refl in cc)
 got_more (Some d) r (Select h) reading bytes none = refl
-got_more (Some d) r (Clear on mux kind) reading bytes none = refl
+got_more (Some d) r (SwitchOff off) reading bytes none = refl
 
 pub undecided : (o : Option Decided) (r : RepliesView) → has_reply (owed_by o r) ≡ false → o ≡ None
 undecided None r e = refl

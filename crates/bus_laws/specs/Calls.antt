@@ -7,7 +7,7 @@ use Rattle.i2c_base.specs.Transfer.{TransferView}
 use Rattle.i2c_spec.specs.Tree.{hops, IsAmongHops}
 use Rattle.i2c_spec.specs.Flat.{refusal}
 use Rattle.i2c_spec.specs.History.{Asks}
-use Rattle.bus_spec.specs.Walk.{Job, Call, Select, Clear, Take, Free, Send, Shift, Settle, ActOutcome, Passed, Sent, Lined, Note, WalkTree, Ends, Look, Then, more_of}
+use Rattle.bus_spec.specs.Walk.{Job, Call, Select, SwitchOff, Take, Free, Send, Shift, Settle, ActOutcome, Passed, Sent, Lined, Note, WalkTree, Ends, Look, Then, more_of}
 use Rattle.bus_laws.specs.Runs.{IsGranted}
 use Rattle.bus_laws.specs.Settles.{Settles}
 
@@ -15,7 +15,7 @@ use Rattle.bus_laws.specs.Settles.{Settles}
 abbrev pub SelectsOver : BoardView → TransferView → Job → Type 0
 SelectsOver b t (Call bus messages) = Unit {0}
 SelectsOver b t (Select h) = IsAmongHops h (hops b t.bus)
-SelectsOver b t (Clear on mux kind) = Unit {0}
+SelectsOver b t (SwitchOff off) = Unit {0}
 
 -- a step on the way to the caller's messages is one of their transfer, which isn't refused
 abbrev pub IsOnWay : BoardView → TransferView → Note → Job → Type 0
@@ -40,7 +40,7 @@ FirstCalls (Then (Take l) note next) = FirstCalls (next Passed)
 FirstCalls (Then (Free l) note next) = FirstCalls (next Passed)
 FirstCalls (Then (Send (Call bus messages) left) note next) = left ≡ more_of (Call bus messages)
 FirstCalls (Then (Send (Select h) left) note next) = (e : End) (bytes : List ℕ) → FirstCalls (next (Sent e bytes))
-FirstCalls (Then (Send (Clear on mux kind) left) note next) = (e : End) (bytes : List ℕ) → FirstCalls (next (Sent e bytes))
+FirstCalls (Then (Send (SwitchOff off) left) note next) = (e : End) (bytes : List ℕ) → FirstCalls (next (Sent e bytes))
 FirstCalls (Then (Shift job) note next) = (failed : Bool) → FirstCalls (next (Lined failed))
 FirstCalls (Then (Settle verdict) note next) = FirstCalls (next Passed)
 

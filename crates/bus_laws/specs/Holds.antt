@@ -6,7 +6,7 @@ use Rattle.i2c_base.specs.declared.ids.LockId.{LockId}
 use Rattle.i2c_base.specs.declared.ids.LockId.TheVariants as lock
 use Rattle.i2c_base.specs.Board.{BoardView}
 use Rattle.i2c_spec.specs.Tree.{buses, root_of, home_of_mux}
-use Rattle.bus_spec.specs.Walk.{Mark, Job, Call, Select, Clear, Take, Free, Send, Shift, Settle, ActOutcome, Passed, Ask, MarkOf, KeptOf, ask_bus, WalkTree, Ends, Look, Then, job_bus}
+use Rattle.bus_spec.specs.Walk.{Mark, Job, Call, Select, SwitchOff, off_bus, off_mux, Take, Free, Send, Shift, Settle, ActOutcome, Passed, Ask, MarkOf, KeptOf, ask_bus, WalkTree, Ends, Look, Then, job_bus}
 use Rattle.bus_spec.specs.Stepwise.{IsBelow}
 use Rattle.bus_laws.specs.Runs.{InLocks, IsUnmarked}
 
@@ -34,7 +34,7 @@ MayAnswer b (KeptOf p mux) m = Unit {0}
 abbrev pub OwnHeld : BoardView → Job → List LockId → Type 0
 OwnHeld b (Call bus messages) held = Unit {0}
 OwnHeld b (Select h) held = InLocks (lock.Mux h.on) held × (home_of_mux b h.mux ≡ h.on) × (h.mux < length b.muxes)
-OwnHeld b (Clear on mux kind) held = InLocks (lock.Mux on) held × (home_of_mux b mux ≡ on)
+OwnHeld b (SwitchOff off) held = InLocks (lock.Mux (off_bus off)) held × (home_of_mux b (off_mux off) ≡ off_bus off)
 
 -- each mark that a failure sets is of a mux at home, whose lock is held
 abbrev pub MarksHeld : BoardView → List Mark → List LockId → Type 0

@@ -14,7 +14,7 @@ use Rattle.i2c_spec.specs.Messages.{MessageView, messages_of}
 use Rattle.i2c_spec.specs.Tree.{is_left_open}
 use Rattle.i2c_spec.specs.History.{changed_at}
 use Rattle.i2c_spec.specs.Flat.{refusal}
-use Rattle.bus_spec.specs.Walk.{Mark, Job, Call, Select, Clear, Take, Free, Send, Shift, Settle, ActOutcome, Passed, Sent, Lined, ask_bus, WalkTree, Ends, Look, Then, job_bus, first_byte, is_arbitrator, is_line, is_gpio}
+use Rattle.bus_spec.specs.Walk.{Mark, Job, Call, Select, SwitchOff, Off, Deselect, Close, off_bus, off_mux, off_kind, Take, Free, Send, Shift, Settle, ActOutcome, Passed, Sent, Lined, ask_bus, WalkTree, Ends, Look, Then, job_bus, first_byte, is_arbitrator, is_line, is_gpio}
 use Rattle.bus_spec.specs.Slots.{Slots, At, MuxSlot, Clean, Marked, Polled, Found, answer_to, after_job}
 use Rattle.bus_spec.specs.Grammar.{kind_of}
 use Rattle.bus_spec.specs.Stepwise.{IsBelow}
@@ -96,7 +96,7 @@ CanSelect b h left (end.Cut q) bytes = Unit {0}
 abbrev pub CanSend : BoardView → Job → ℕ → ActOutcome → Type 0
 CanSend b (Select h) left (Sent e bytes) = CanSelect b h left e bytes
 CanSend b (Call bus messages) left (Sent e bytes) = Unit {0}
-CanSend b (Clear on mux kind) left (Sent e bytes) = Unit {0}
+CanSend b (SwitchOff off) left (Sent e bytes) = Unit {0}
 CanSend b job left (Lined failed) = ⊥
 CanSend b job left Passed = ⊥
 
@@ -106,8 +106,8 @@ CanShift b job (Lined failed) = Unit {0}
 CanShift b job (Sent e bytes) = ⊥
 CanShift b job Passed = ⊥
 
--- what a job finds on its own bus: a select finds it clean, or its arbitrator asked so far; a close finds its mux
--- selected, or marked
+-- what a job finds on its own bus: a select finds it clean, or its arbitrator asked so far; a deselect finds it clean; a
+-- close finds its mux marked
 abbrev pub FindsPoll : Hop → ℕ → MuxSlot → Type 0
 FindsPoll h zero s = s ≡ Found h
 FindsPoll h (suc left) s = (s ≡ Polled h left) ⊎ ((left ≡ 7) × (s ≡ Clean))
@@ -116,16 +116,19 @@ abbrev pub FindsSelect : Bool → Hop → ℕ → At → Type 0
 FindsSelect true h left x = FindsPoll h left x.slot × (x.kept h.mux ≡ None)
 FindsSelect false h left x = (left ≡ 0) × (x.slot ≡ Clean)
 
-abbrev pub FindsOpen : ℕ → MuxSlot → Type 0
-FindsOpen m (Marked k) = k ≡ m
-FindsOpen m Clean = Unit {0}
-FindsOpen m (Polled h more) = ⊥
-FindsOpen m (Found h) = ⊥
+abbrev pub FindsOpen : Off → MuxSlot → Type 0
+FindsOpen (Deselect h) s = s ≡ Clean
+FindsOpen (Close on mux kind) s = s ≡ Marked mux
+
+abbrev pub FindsOff : BoardView → Off → Slots → Type 0
+FindsOff b off v =
+    FindsOpen off (v (off_bus off)).slot × (home_of_mux b (off_mux off) ≡ off_bus off)
+    × IsMuxOf b (off_mux off) (off_kind off)
 
 abbrev pub Finds : BoardView → Job → ℕ → Slots → Type 0
 Finds b (Call bus messages) left v = Unit {0}
 Finds b (Select h) left v = FindsSelect (is_arbitrator h.kind) h left (v h.on) × IsAmongHops h (hops b h.bus) × (h.bus < buses b)
-Finds b (Clear on mux kind) left v = FindsOpen mux (v on).slot × (home_of_mux b mux ≡ on) × IsMuxOf b mux kind
+Finds b (SwitchOff off) left v = FindsOff b off v
 
 -- the lock of the job's own bus is held, and its own mark is the first, and the only one on that bus
 abbrev pub IsUnmarked : ℕ → List Mark → Type 0
@@ -138,7 +141,7 @@ HeadsMarks on mux (m ∷ ms) = (m.on ≡ on) × (m.mux ≡ mux) × IsUnmarked on
 abbrev pub Owns : Job → List Mark → List LockId → Type 0
 Owns (Call bus messages) marks held = Unit {0}
 Owns (Select h) marks held = InLocks (lock.Mux h.on) held × HeadsMarks h.on h.mux marks
-Owns (Clear on mux kind) marks held = InLocks (lock.Mux on) held × HeadsMarks on mux marks
+Owns (SwitchOff off) marks held = InLocks (lock.Mux (off_bus off)) held × HeadsMarks (off_bus off) (off_mux off) marks
 
 -- a mark on a bus forgets nothing that may be open there
 abbrev pub IsOfMux : ℕ → MuxSlot → Type 0
@@ -165,7 +168,7 @@ pub record IsCall (b : BoardView) (whose : TransferView) (bus : ℕ) (messages :
 abbrev pub IsGranted : BoardView → TransferView → Job → Type 0
 IsGranted b whose (Call bus messages) = IsCall b whose bus messages
 IsGranted b whose (Select h) = Unit {0}
-IsGranted b whose (Clear on mux kind) = Unit {0}
+IsGranted b whose (SwitchOff off) = Unit {0}
 
 -- a message may be sent
 pub record MaySend (b : BoardView) (whose : TransferView) (job : Job) (left : ℕ) (marks : List Mark) (held : List LockId) (v : Slots) : Type 0 where

@@ -3,7 +3,7 @@ use Rattle.std.specs.Prelude.{◌≡◌, ℕ, zero, suc, Bool, true, false, ◌�
 use Rattle.i2c_base.specs.declared.entry.End.{End}
 use Rattle.i2c_base.specs.declared.entry.End.TheVariants as end
 use Rattle.i2c_spec.specs.Messages.{MessageView}
-use Rattle.bus_spec.specs.Walk.{Job, Call, Select, Clear, Take, Free, Send, Shift, Settle, ActOutcome, Passed, Sent, Lined, WalkTree, Ends, Look, Then, Note, Over, goes, job_outcome, decides, verdict_of}
+use Rattle.bus_spec.specs.Walk.{Job, Call, Select, SwitchOff, Take, Free, Send, Shift, Settle, ActOutcome, Passed, Sent, Lined, WalkTree, Ends, Look, Then, Note, Over, goes, job_outcome, decides, verdict_of}
 use Rattle.bus_spec.specs.Grammar.{first_act}
 use Rattle.bus_spec.specs.Past.{is_on}
 
@@ -21,7 +21,7 @@ NoSettle (Then (Settle verdict) note next) = ⊥
 abbrev pub IsBefore : Bool → Job → Type 0
 IsBefore done (Call bus messages) = done ≡ false
 IsBefore done (Select h) = Unit {0}
-IsBefore done (Clear on mux kind) = Unit {0}
+IsBefore done (SwitchOff off) = Unit {0}
 
 -- no further message of the job follows this one
 abbrev pub EndsJob : Job → ℕ → ActOutcome → Type 0
@@ -46,7 +46,7 @@ CallGoesOn bus messages zero out w = first_act w ≡ Some (Settle (verdict_of (C
 abbrev pub GoesOn : Note → Job → ℕ → ActOutcome → WalkTree → Type 0
 GoesOn note (Call bus messages) left out w = CallGoesOn bus messages left out w
 GoesOn note (Select h) left out w = IsDecided note (Select h) left out w
-GoesOn note (Clear on mux kind) left out w = IsDecided note (Clear on mux kind) left out w
+GoesOn note (SwitchOff off) left out w = IsDecided note (SwitchOff off) left out w
 
 -- behind a message the walk settles as it decides: without an error only where it was the last of the caller's messages
 -- and went through

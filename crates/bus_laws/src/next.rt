@@ -30,8 +30,8 @@ pub fn the_next_message_reaches_its_target()
     an_accepted_board_is_a_tree();
 }
 
-/// A control message that comes next, a select's or a close's, has the address of its mux. Its start will be heard by that
-/// mux, where it is there, and by nothing else (UM10204 section 3.1.10).
+/// A control message that comes next, which selects, deselects or closes, has the address of its mux. Its start will be
+/// heard by that mux, where it is there, and by nothing else (UM10204 section 3.1.10).
 ///
 /// The answer of the start tells whether it is there.
 pub fn the_next_control_message_reaches_its_mux()

@@ -45,7 +45,7 @@ pub fn each_walk_keeps_to_its_cost()
 
 /// All that a walk sends, and each line that it shifts, is behind its transfer's root.
 ///
-/// It sends its messages, and selects and closes muxes on its path; a mux is closed there too where it is marked.
+/// It sends its messages, and selects and deselects muxes on its path; a mux is closed there too where it is marked.
 pub fn each_walk_stays_on_its_root()
     ensures { (b : BoardView) (t : TransferView) → IsPlainBoard b → MeetsRules b → EachJob (IsJobOf b t) (walk_for b t) }
 {

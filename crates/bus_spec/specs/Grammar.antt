@@ -10,7 +10,7 @@ use Rattle.i2c_base.specs.Transfer.{TransferView}
 use Rattle.i2c_spec.specs.Tree.{Hop, hops, root_of, locks_of, of_mux}
 use Rattle.i2c_spec.specs.Messages.{messages_of}
 use Rattle.i2c_spec.specs.Flat.{refusal}
-use Rattle.bus_spec.specs.Walk.{KeptOf, Job, Call, Select, Clear, Act, Take, Free, Send, Shift, Settle, ActOutcome, JobOutcome, Good, Refused, Unsent, Failed, Note, MarkOf, WalkTree, Ends, Look, Then, Go, On, Last, Over, goes, job_outcome, verdict_of, decides, is_line, more_of}
+use Rattle.bus_spec.specs.Walk.{KeptOf, Job, Call, Select, SwitchOff, Deselect, Close, Act, Take, Free, Send, Shift, Settle, ActOutcome, JobOutcome, Good, Refused, Unsent, Failed, Note, MarkOf, WalkTree, Ends, Look, Then, Go, On, Last, Over, goes, job_outcome, verdict_of, decides, is_line, more_of}
 use Rattle.bus_spec.specs.Slots.{Slots, answer_to}
 
 -- what does a job, with what a failure marks, and goes on
@@ -91,12 +91,12 @@ kind_of b m = of_mux (λ x. x.kind) Pca9548 b m
 -- a marked mux is closed first
 abbrev pub closing : BoardView → Hop → Doer → Note → (JobOutcome → WalkTree) → WalkTree → Option ℕ → WalkTree
 closing b h on note k w None = w
-closing b h on note k w (Some m) = on (Clear h.on m (kind_of b m)) (with_mark h.on m note) (λ o. if_sent o w k)
+closing b h on note k w (Some m) = on (SwitchOff (Close h.on m (kind_of b m))) (with_mark h.on m note) (λ o. if_sent o w k)
 
 -- behind the job the deselect, whatever came of the job; a mux that stays as it is keeps its channel
 abbrev pub left_behind : Bool → Hop → Doer → (JobOutcome → WalkTree) → JobOutcome → WalkTree
 left_behind true h on k out = k out
-left_behind false h on k out = on (Clear h.on h.mux h.kind) (aside h) (λ o. k out)
+left_behind false h on k out = on (SwitchOff (Deselect h)) (aside h) (λ o. k out)
 
 abbrev pub opened : Hop → Doer → Doer
 opened h on job note k = on job note (left_behind h.stays h on k)

@@ -18,7 +18,7 @@ use Rattle.i2c_spec.specs.World.{World, after, opening_world}
 use Rattle.i2c_spec.specs.Conversation.{TalkTold, talk, world_listener}
 use Rattle.i2c_spec.specs.Flat.{block_limit}
 use Rattle.i2c_spec.specs.History.{Asks, changed_at}
-use Rattle.bus_spec.specs.Walk.{Job, Call, Select, Clear, Act, Take, Free, Send, Shift, Settle, ActOutcome, Passed, Sent, Lined, WalkTree, Ends, Note, Go, On, Last, Over, job_bus, message_of, is_last, goes, line_mux, line_level}
+use Rattle.bus_spec.specs.Walk.{Job, Call, Select, SwitchOff, Act, Take, Free, Send, Shift, Settle, ActOutcome, Passed, Sent, Lined, WalkTree, Ends, Note, Go, On, Last, Over, job_bus, message_of, is_last, goes, line_mux, line_level}
 use Rattle.bus_spec.specs.Slots.{Slots, all_clean, mark_in, after_job}
 use Rattle.bus_spec.specs.Grammar.{walk_for, seen, is_over, first_act, first_note, rest_of}
 use Rattle.bus_spec.specs.Readings.{is_lock, cut_told, of_message}
@@ -126,12 +126,12 @@ is_on Over = false
 abbrev pub inside_after : Job → ℕ → ActOutcome → ℕ → Option ℕ → Option ℕ
 inside_after (Call bus messages) left out c old = if (left == 0) then None else if is_on (goes (Call bus messages) left out) then Some c else None
 inside_after (Select h) left out c old = old
-inside_after (Clear on mux kind) left out c old = old
+inside_after (SwitchOff off) left out c old = old
 
 abbrev pub got_after : Job → Bool → List ℕ → List ℕ → List ℕ
 got_after (Call bus messages) reading bytes got = if reading then got ++ bytes else got
 got_after (Select h) reading bytes got = got
-got_after (Clear on mux kind) reading bytes got = got
+got_after (SwitchOff off) reading bytes got = got
 
 abbrev pub sent : BoardView → Now → ℕ → Job → ℕ → Note → Bool → List ℕ → End → TalkTold World → Now
 sent b n c job left note reading bytes e t =

@@ -52,7 +52,7 @@ abbrev pub mark_among : List Mark → ℕ → Option ℕ → Option ℕ
 mark_among [] p old = old
 mark_among (m ∷ ms) p old = if p == m.on then Some m.mux else mark_among ms p old
 
--- a step of a select or a close that fails by the port makes its marks; one that doesn't leaves none on its mux's bus
+-- a step that switches a mux, and fails by the port, makes its marks; one that doesn't fail leaves none on its mux's bus
 abbrev pub mark_after : Job → List Mark → Bool → ℕ → Option ℕ → Option ℕ
 mark_after (Call bus messages) marks failed p old = old
 mark_after job marks failed p old = if failed then mark_among marks p old else if p == job_bus job then None else old
@@ -73,7 +73,7 @@ abbrev pub mark_by : Option Act → Note → Entry → ℕ → Option ℕ → Op
 mark_by act note (entry.Line c mux level failed) p old = mark_lined act note failed p old
 mark_by act note e p old = of_message old (λ m. mark_sent act note (is_cut m.end) p old) e
 
--- the mark of a bus: the mux that a failed step marked there last, if no select or close on that bus went through since
+-- the mark of a bus: the mux that a failed step marked there last, if no mux on that bus was switched since without failing
 abbrev pub mark_left : BoardView → Asks → List Entry → ℕ → Option ℕ
 mark_left b asks [] p = None
 mark_left b asks (e ∷ past) p =
@@ -87,7 +87,7 @@ abbrev pub channel_written : BoardView → ℕ → List ℕ → Option ℕ
 channel_written b m [] = None
 channel_written b m (byte ∷ bytes) = channel_opened b m byte
 
--- a message of a select or a close of a mux, or a step of its line
+-- a message that selects, deselects or closes a mux, or a step of its line
 abbrev pub switches : ℕ → Purpose → Bool
 switches m purpose.Call = false
 switches m (purpose.Control mux) = mux == m

@@ -3,7 +3,7 @@ use Rattle.std.specs.Prelude.{ℕ, zero, suc, ◌==◌, List, [], ◌∷◌, Opt
 use Rattle.i2c_spec.specs.Tree.{Hop}
 use Rattle.i2c_spec.specs.History.{changed_at}
 use Rattle.i2c_base.specs.declared.entry.End.TheVariants as end
-use Rattle.bus_spec.specs.Walk.{Ask, MarkOf, KeptOf, Mark, Job, Call, Select, Clear, ActOutcome, Passed, Sent, Lined, first_byte}
+use Rattle.bus_spec.specs.Walk.{Ask, MarkOf, KeptOf, Mark, Job, Call, Select, SwitchOff, off_bus, off_mux, ActOutcome, Passed, Sent, Lined, first_byte}
 
 -- a bus as a whole: its muxes are as `kept` tells; one of them may have been left open otherwise. An arbitrator that is being
 -- asked may be found taken so many times more, or it was found free
@@ -70,19 +70,19 @@ after_select h left marks (Sent (end.Cut q) bytes) v = set_marks marks v
 after_select h left marks (Lined failed) v = if failed then set_marks marks v else turned v h.on h.mux Clean (Some h.channel)
 after_select h left marks Passed v = v
 
--- a close that was sent, and didn't fail by the port, leaves the mux shut, also where nobody acknowledged it
-abbrev pub after_clear : ℕ → ℕ → List Mark → ActOutcome → Slots → Slots
-after_clear on mux marks (Sent end.Ok bytes) v = shut on mux v
-after_clear on mux marks (Sent end.Nack bytes) v = shut on mux v
-after_clear on mux marks (Sent end.Slow bytes) v = shut on mux v
-after_clear on mux marks (Sent end.Refused bytes) v = shut on mux v
-after_clear on mux marks (Sent end.Proto bytes) v = shut on mux v
-after_clear on mux marks (Sent (end.Cut q) bytes) v = set_marks marks v
-after_clear on mux marks (Lined failed) v = if failed then set_marks marks v else shut on mux v
-after_clear on mux marks Passed v = v
+-- a deselect or a close that was sent, and didn't fail by the port, leaves the mux shut, also where nobody acknowledged it
+abbrev pub after_off : ℕ → ℕ → List Mark → ActOutcome → Slots → Slots
+after_off on mux marks (Sent end.Ok bytes) v = shut on mux v
+after_off on mux marks (Sent end.Nack bytes) v = shut on mux v
+after_off on mux marks (Sent end.Slow bytes) v = shut on mux v
+after_off on mux marks (Sent end.Refused bytes) v = shut on mux v
+after_off on mux marks (Sent end.Proto bytes) v = shut on mux v
+after_off on mux marks (Sent (end.Cut q) bytes) v = set_marks marks v
+after_off on mux marks (Lined failed) v = if failed then set_marks marks v else shut on mux v
+after_off on mux marks Passed v = v
 
 -- what is known after a message or line step of a job, which marks so much where it fails by the port
 abbrev pub after_job : Job → ℕ → List Mark → ActOutcome → Slots → Slots
 after_job (Call bus messages) left marks out v = v
 after_job (Select h) left marks out v = after_select h left marks out v
-after_job (Clear on mux kind) left marks out v = after_clear on mux marks out v
+after_job (SwitchOff off) left marks out v = after_off (off_bus off) (off_mux off) marks out v

@@ -22,12 +22,17 @@ pub record Mark : Type 0 where
   pub on : ℕ
   pub mux : ℕ
 
--- one thing to be done on a bus: the caller's messages; a channel is selected; a mux is closed, after a job on one
--- of its channels or because a mark says that it may be open
+-- a mux is switched off: its channel is deselected, behind a job on it; or it is closed, because a mark says that it may
+-- be open
+pub data Off : Type 0 where
+  Deselect : (hop : Hop) → Off
+  Close : (on : ℕ) → (mux : ℕ) → (kind : MuxKind) → Off
+
+-- one thing to be done on a bus: the caller's messages; a channel is selected; a mux is switched off
 pub data Job : Type 0 where
   Call : (bus : ℕ) → (messages : List MessageView) → Job
   Select : (hop : Hop) → Job
-  Clear : (on : ℕ) → (mux : ℕ) → (kind : MuxKind) → Job
+  SwitchOff : (off : Off) → Job
 
 -- one step of a walk
 pub data Act : Type 0 where
@@ -69,16 +74,29 @@ pub data WalkTree : Type 0 where
   Look : (ask : Ask) → (next : Option ℕ → WalkTree) → WalkTree
   Then : (act : Act) → (note : Note) → (next : ActOutcome → WalkTree) → WalkTree
 
+-- which mux is switched off, and the bus that it stands on: all that a deselect and a close differ in
+abbrev pub off_bus : Off → ℕ
+off_bus (Deselect h) = h.on
+off_bus (Close on mux kind) = on
+
+abbrev pub off_mux : Off → ℕ
+off_mux (Deselect h) = h.mux
+off_mux (Close on mux kind) = mux
+
+abbrev pub off_kind : Off → MuxKind
+off_kind (Deselect h) = h.kind
+off_kind (Close on mux kind) = kind
+
 -- which bus a job is done on, and why
 abbrev pub job_bus : Job → ℕ
 job_bus (Call bus messages) = bus
 job_bus (Select h) = h.on
-job_bus (Clear on mux kind) = on
+job_bus (SwitchOff off) = off_bus off
 
 abbrev pub job_purpose : Job → Purpose
 job_purpose (Call bus messages) = purpose.Call
 job_purpose (Select h) = purpose.Control h.mux
-job_purpose (Clear on mux kind) = purpose.Control mux
+job_purpose (SwitchOff off) = purpose.Control (off_mux off)
 
 abbrev pub is_gpio : MuxKind → Bool
 is_gpio k = (facts_of k).by_line
@@ -90,23 +108,23 @@ is_arbitrator k = (facts_of k).asks
 abbrev pub is_line : Job → Bool
 is_line (Call bus messages) = false
 is_line (Select h) = is_gpio h.kind
-is_line (Clear on mux kind) = is_gpio kind
+is_line (SwitchOff off) = is_gpio (off_kind off)
 
 abbrev pub line_mux : Job → ℕ
 line_mux (Call bus messages) = 0
 line_mux (Select h) = h.mux
-line_mux (Clear on mux kind) = mux
+line_mux (SwitchOff off) = off_mux off
 
 abbrev pub line_level : Job → ℕ
 line_level (Call bus messages) = 0
 line_level (Select h) = select_value h.kind h.channel
-line_level (Clear on mux kind) = close_value
+line_level (SwitchOff off) = close_value
 
 -- how many messages may follow the first one of a job: an arbitrator is asked at most so often before it is switched
 abbrev pub more_of : Job → ℕ
 more_of (Call bus messages) = length messages - 1
 more_of (Select h) = if is_arbitrator h.kind then POLLS else 0
-more_of (Clear on mux kind) = 0
+more_of (SwitchOff off) = 0
 
 -- the message that is sent where so many more may follow
 abbrev pub nth_message : List MessageView → ℕ → MessageView
@@ -124,24 +142,24 @@ select_message b h (suc left) = read_byte (chip_address b h.mux)
 abbrev pub message_of : BoardView → Job → ℕ → MessageView
 message_of b (Call bus messages) left = nth_message messages (length messages - 1 - left)
 message_of b (Select h) left = select_message b h left
-message_of b (Clear on mux kind) left = write_byte (chip_address b mux) close_value
+message_of b (SwitchOff off) left = write_byte (chip_address b (off_mux off)) close_value
 
 -- which message of its transfer it is, from 1, and how many these are: each control message is a transfer of its own
 abbrev pub part_of : Job → ℕ → ℕ
 part_of (Call bus messages) left = length messages - left
 part_of (Select h) left = 1
-part_of (Clear on mux kind) left = 1
+part_of (SwitchOff off) left = 1
 
 abbrev pub parts_of : Job → ℕ
 parts_of (Call bus messages) = length messages
 parts_of (Select h) = 1
-parts_of (Clear on mux kind) = 1
+parts_of (SwitchOff off) = 1
 
 -- it is the last of its transfer, so a stop follows it
 abbrev pub is_last : Job → ℕ → Bool
 is_last (Call bus messages) left = left == 0
 is_last (Select h) left = true
-is_last (Clear on mux kind) left = true
+is_last (SwitchOff off) left = true
 
 -- how a job goes on behind one of its messages: with the next one, with its last one, or not at all
 pub data Go : Type 0 where
@@ -176,7 +194,7 @@ goes (Select h) left (Sent end.Proto bytes) = Over
 goes (Select h) left (Sent (end.Cut q) bytes) = Over
 goes (Select h) left (Lined failed) = Over
 goes (Select h) left Passed = Over
-goes (Clear on mux kind) left out = Over
+goes (SwitchOff off) left out = Over
 
 -- what came of a job whose last message or line step had this outcome: `ok` where the message went through. A poll
 -- that was the last one, though it went through, found the arbitrator taken
@@ -195,7 +213,7 @@ ok_outcome (suc left) = Refused
 abbrev pub good_outcome : Job → ℕ → JobOutcome
 good_outcome (Call bus messages) left = Good
 good_outcome (Select h) left = ok_outcome left
-good_outcome (Clear on mux kind) left = Good
+good_outcome (SwitchOff off) left = Good
 
 abbrev pub job_outcome : Job → ℕ → ActOutcome → JobOutcome
 job_outcome job left (Sent e bytes) = sent_outcome (good_outcome job left) e
@@ -210,7 +228,7 @@ ok_errno (suc left) = Some errno.Etimedout
 abbrev pub good_errno : Job → ℕ → Option Errno
 good_errno (Call bus messages) left = None
 good_errno (Select h) left = ok_errno left
-good_errno (Clear on mux kind) left = None
+good_errno (SwitchOff off) left = None
 
 abbrev pub sent_errno : Option Errno → End → Option Errno
 sent_errno ok end.Ok = ok
@@ -233,10 +251,10 @@ decides (Select h) Good = false
 decides (Select h) Refused = true
 decides (Select h) Unsent = true
 decides (Select h) Failed = true
-decides (Clear on mux kind) Good = false
-decides (Clear on mux kind) Refused = false
-decides (Clear on mux kind) Unsent = false
-decides (Clear on mux kind) Failed = true
+decides (SwitchOff off) Good = false
+decides (SwitchOff off) Refused = false
+decides (SwitchOff off) Unsent = false
+decides (SwitchOff off) Failed = true
 
 -- the bus that a question is about
 abbrev pub ask_bus : Ask → ℕ

@@ -17,7 +17,7 @@ use Rattle.i2c_base.specs.Fitting.{Fits, FitsReads}
 use Rattle.i2c_spec.specs.Cost.{cost_of}
 use Rattle.i2c_spec.specs.Tree.{root_of}
 use Rattle.i2c_spec.specs.Messages.{MessageView, messages_of}
-use Rattle.bus_spec.specs.Walk.{Job, Call, Select, Clear, Take, Free, Send, Settle, Passed, Sent, ActOutcome, WalkTree, job_bus, is_last}
+use Rattle.bus_spec.specs.Walk.{Job, Call, Select, SwitchOff, Take, Free, Send, Settle, Passed, Sent, ActOutcome, WalkTree, job_bus, is_last}
 use Rattle.bus_spec.specs.Grammar.{seen, is_over, first_note, rest_of}
 use Rattle.bus_spec.specs.Readings.{message_cut}
 use Rattle.bus_spec.specs.Past.{got_after}
@@ -145,7 +145,7 @@ module _ (run : Run) (fair : IsFairRun run) (whole : Whole) (core : CoreKept run
               (let c = call-is run.board p.transfer (slots_of (seen_of whole.locks)) p.tree (has_reply p.owed) p.sent its_left bus ms more (subst (λ (x : Job). next_of whole.locks p.tree ≡ Some (Send x more)) j sent.first) in
               absurd (let f : true ≡ false = sym has ∙ c.0 in cc))
           by (Select h) j = ap (λ (x : Job). got_after x reading bytes p.got) j ∙ its.emptied has
-          by (Clear on mux kind) j = ap (λ (x : Job). got_after x reading bytes p.got) j ∙ its.emptied has
+          by (SwitchOff off) j = ap (λ (x : Job). got_after x reading bytes p.got) j ∙ its.emptied has
 
       quiet_seat : SeatKept run quiet_place ls quiet_less
       quiet_seat = seat-behind run p n its ls behind (holds.1 (Sent e bytes)) gone goes leaves got partway got_still (message_cut next.purpose next.part e) quiet_less pays.1

@@ -9,7 +9,7 @@ use Rattle.i2c_base.specs.declared.entry.End.TheVariants as end
 use Rattle.i2c_base.specs.Board.{BoardView}
 use Rattle.i2c_spec.specs.Tree.{Hop, buses}
 use Rattle.i2c_spec.specs.History.{changed_at}
-use Rattle.bus_spec.specs.Walk.{Mark, Job, Call, Select, Clear, Act, Take, Free, Send, Shift, Settle, ActOutcome, Passed, Sent, Lined, Note, WalkTree, Ends, Look, Then, first_byte}
+use Rattle.bus_spec.specs.Walk.{Mark, Job, Call, Select, SwitchOff, off_bus, off_mux, Act, Take, Free, Send, Shift, Settle, ActOutcome, Passed, Sent, Lined, Note, WalkTree, Ends, Look, Then, first_byte}
 use Rattle.bus_spec.specs.Slots.{Slots, At, MuxSlot, Clean, Marked, Polled, Found, mark_in, turned_at, turned, set_marks, polled_slot, select_told, after_job}
 use Rattle.bus_spec.specs.Grammar.{seen, is_over, first_act, first_note, rest_of}
 use Rattle.bus_spec.specs.Stepwise.{IsBelow}
@@ -128,15 +128,15 @@ module _ (b : BoardView) (ls : List LockId) where
   home-after (Select h) left ms held (Sent end.Refused bytes) y all = home_turn y h.on h.mux Clean None all tt
   home-after (Select h) left ms held (Sent end.Proto bytes) y all = home_turn y h.on h.mux Clean None all tt
   home-after (Select h) left ms held (Sent (end.Cut q) bytes) y all = home_marks ms held y all
-  home-after (Clear on mux kind) left ms held Passed y all = all
-  home-after (Clear on mux kind) left ms held (Lined true) y all = home_marks ms held y all
-  home-after (Clear on mux kind) left ms held (Lined false) y all = home_turn y on mux Clean None all tt
-  home-after (Clear on mux kind) left ms held (Sent end.Ok bytes) y all = home_turn y on mux Clean None all tt
-  home-after (Clear on mux kind) left ms held (Sent end.Nack bytes) y all = home_turn y on mux Clean None all tt
-  home-after (Clear on mux kind) left ms held (Sent end.Slow bytes) y all = home_turn y on mux Clean None all tt
-  home-after (Clear on mux kind) left ms held (Sent end.Refused bytes) y all = home_turn y on mux Clean None all tt
-  home-after (Clear on mux kind) left ms held (Sent end.Proto bytes) y all = home_turn y on mux Clean None all tt
-  home-after (Clear on mux kind) left ms held (Sent (end.Cut q) bytes) y all = home_marks ms held y all
+  home-after (SwitchOff off) left ms held Passed y all = all
+  home-after (SwitchOff off) left ms held (Lined true) y all = home_marks ms held y all
+  home-after (SwitchOff off) left ms held (Lined false) y all = home_turn y (off_bus off) (off_mux off) Clean None all tt
+  home-after (SwitchOff off) left ms held (Sent end.Ok bytes) y all = home_turn y (off_bus off) (off_mux off) Clean None all tt
+  home-after (SwitchOff off) left ms held (Sent end.Nack bytes) y all = home_turn y (off_bus off) (off_mux off) Clean None all tt
+  home-after (SwitchOff off) left ms held (Sent end.Slow bytes) y all = home_turn y (off_bus off) (off_mux off) Clean None all tt
+  home-after (SwitchOff off) left ms held (Sent end.Refused bytes) y all = home_turn y (off_bus off) (off_mux off) Clean None all tt
+  home-after (SwitchOff off) left ms held (Sent end.Proto bytes) y all = home_turn y (off_bus off) (off_mux off) Clean None all tt
+  home-after (SwitchOff off) left ms held (Sent (end.Cut q) bytes) y all = home_marks ms held y all
 
 -- marks that tell of home slots are of muxes at home
 pub home-told : (b : BoardView) (y : Slots) (marks : List (Option ℕ)) → ((p : ℕ) → IsMarkOn b p (mark_in (y p).slot)) → TellsMarks y marks → (p : ℕ) → IsMarkOn b p (slice_index_or marks p None)

@@ -5,13 +5,13 @@ use Rattle.i2c_base.specs.declared.entry.End.TheVariants as end
 use Rattle.i2c_base.specs.declared.entry.Purpose.TheVariants as purpose
 use Rattle.i2c_base.specs.Board.{BoardView}
 use Rattle.i2c_base.specs.Transfer.{TransferView}
-use Rattle.bus_spec.specs.Walk.{Job, Call, Select, Clear, Send, Sent, WalkTree}
+use Rattle.bus_spec.specs.Walk.{Job, Call, Select, SwitchOff, Send, Sent, WalkTree}
 use Rattle.bus_spec.specs.Slots.{Slots}
 use Rattle.bus_spec.specs.Grammar.{seen, first_act, rest_of}
 use Rattle.core_laws.specs.Seats.{IsLeft}
 use Rattle.mux_plan.specs.Plans.{is_call_through}
 use Rattle.core_laws.specs.Sends.{gone_after}
-use Rattle.core_laws.proofs.WalkSteps.{SendLeaves, select-leaves, clear-leaves, went-leaves, ended-leaves}
+use Rattle.core_laws.proofs.WalkSteps.{SendLeaves, select-leaves, off-leaves, went-leaves, ended-leaves}
 
 pub is_ok : (x : End) → (x ≡ end.Ok) ⊎ (x ≡ end.Ok → ⊥)
 is_ok end.Ok = inl refl
@@ -26,7 +26,7 @@ pub message-leaves : (b : BoardView) (t : TransferView) (v : Slots) (w : WalkTre
     → (job : Job) (more : ℕ) → first_act (seen v w) ≡ Some (Send job more) → (e : End) (bytes : List ℕ)
     → SendLeaves b t settled (gone_after sent job e) job more e (rest_of (seen v w) (Sent e bytes))
 message-leaves b t v w settled sent is (Select h) more first e bytes = select-leaves b t v w settled sent is h more first e bytes
-message-leaves b t v w settled sent is (Clear on mux kind) more first e bytes = clear-leaves b t v w settled sent is on mux kind more first e bytes
+message-leaves b t v w settled sent is (SwitchOff off) more first e bytes = off-leaves b t v w settled sent is off more first e bytes
 message-leaves b t v w settled sent is (Call bus ms) more first e bytes =
     elim (is_ok e) [
       | inl fine ↦ subst (λ (x : End). SendLeaves b t settled (cond (is_call_through purpose.Call x) (sent + 1) sent) (Call bus ms) more x (rest_of (seen v w) (Sent x bytes))) (sym fine)

@@ -11,7 +11,7 @@ use Rattle.i2c_base.specs.declared.entry.End.TheVariants as end
 use Rattle.i2c_base.specs.Board.{BoardView}
 use Rattle.i2c_spec.specs.Tree.{Hop, home_of_mux}
 use Rattle.i2c_spec.specs.History.{changed_at}
-use Rattle.bus_spec.specs.Walk.{Mark, Job, Call, Select, Clear, Act, ActOutcome, Passed, Sent, Lined, Note, MarkOf, KeptOf, WalkTree, Ends, Look, Then}
+use Rattle.bus_spec.specs.Walk.{Mark, Job, Call, Select, SwitchOff, off_bus, off_mux, Act, ActOutcome, Passed, Sent, Lined, Note, MarkOf, KeptOf, WalkTree, Ends, Look, Then}
 use Rattle.bus_spec.specs.Walk as walk
 use Rattle.bus_spec.specs.Slots.{Slots, At, MuxSlot, Clean, Marked, mark_in, turned_at, turned, set_marks, polled_slot, select_told, after_job}
 use Rattle.bus_spec.specs.Grammar.{seen}
@@ -117,15 +117,15 @@ module _ (b : BoardView) where
     tells-job (Select h) (Sent (end.Cut q) bytes) own = failed
     tells-job (Select h) (Lined true) own = failed
     tells-job (Select h) (Lined false) own = tells-one v kept h.on h.mux Clean (Some h.channel) own.1 (inr (there h.mux own.2)) told
-    tells-job (Clear on mux kind) Passed own = told
-    tells-job (Clear on mux kind) (Sent end.Ok bytes) own = tells-one v kept on mux Clean None own.1 (inl refl) told
-    tells-job (Clear on mux kind) (Sent end.Nack bytes) own = tells-one v kept on mux Clean None own.1 (inl refl) told
-    tells-job (Clear on mux kind) (Sent end.Slow bytes) own = tells-one v kept on mux Clean None own.1 (inl refl) told
-    tells-job (Clear on mux kind) (Sent end.Refused bytes) own = tells-one v kept on mux Clean None own.1 (inl refl) told
-    tells-job (Clear on mux kind) (Sent end.Proto bytes) own = tells-one v kept on mux Clean None own.1 (inl refl) told
-    tells-job (Clear on mux kind) (Sent (end.Cut q) bytes) own = failed
-    tells-job (Clear on mux kind) (Lined true) own = failed
-    tells-job (Clear on mux kind) (Lined false) own = tells-one v kept on mux Clean None own.1 (inl refl) told
+    tells-job (SwitchOff off) Passed own = told
+    tells-job (SwitchOff off) (Sent end.Ok bytes) own = tells-one v kept (off_bus off) (off_mux off) Clean None own.1 (inl refl) told
+    tells-job (SwitchOff off) (Sent end.Nack bytes) own = tells-one v kept (off_bus off) (off_mux off) Clean None own.1 (inl refl) told
+    tells-job (SwitchOff off) (Sent end.Slow bytes) own = tells-one v kept (off_bus off) (off_mux off) Clean None own.1 (inl refl) told
+    tells-job (SwitchOff off) (Sent end.Refused bytes) own = tells-one v kept (off_bus off) (off_mux off) Clean None own.1 (inl refl) told
+    tells-job (SwitchOff off) (Sent end.Proto bytes) own = tells-one v kept (off_bus off) (off_mux off) Clean None own.1 (inl refl) told
+    tells-job (SwitchOff off) (Sent (end.Cut q) bytes) own = failed
+    tells-job (SwitchOff off) (Lined true) own = failed
+    tells-job (SwitchOff off) (Lined false) own = tells-one v kept (off_bus off) (off_mux off) Clean None own.1 (inl refl) told
 
 -- BEHIND A STEP, with its dues
 pub kept-after : (b : BoardView) (held : List LockId) (act : Option Act) (note : Note) (out : ActOutcome) → WantsIn b held act note → (v : Slots) (kept : List (Option ℕ)) → length kept ≡ length b.muxes

@@ -4,7 +4,6 @@ use Rattle.std.proofs.Common.{◌≡◌, ℕ, zero, suc, ◌+◌, ◌-◌, eqb, 
 use Rattle.std.specs.Prelude.{is_some, slice_get}
 use Rattle.std.proofs.lemmas.Bool.{eq-eqb}
 use Rattle.bus_laws.proofs.tree.Slots.{eqb-apart}
-use Rattle.i2c_base.specs.declared.board.MuxKind.{MuxKind}
 use Rattle.i2c_base.specs.declared.ids.Node.{Node}
 use Rattle.i2c_base.specs.declared.ids.Node.TheVariants as node
 use Rattle.i2c_base.specs.declared.entry.End.{End}
@@ -21,7 +20,7 @@ use Rattle.i2c_spec.specs.Grant.{grant_of, named_of}
 use Rattle.i2c_spec.specs.Tree.{Hop, addr_of_mux}
 use Rattle.i2c_spec.specs.Messages.{MessageView, messages_of}
 use Rattle.i2c_spec.specs.World.{World, hearers, has_heard, answer}
-use Rattle.bus_spec.specs.Walk.{Job, Call, Select, Clear, job_purpose, message_of, is_last, nth_message, chip_address}
+use Rattle.bus_spec.specs.Walk.{Job, Call, Select, SwitchOff, Off, off_mux, job_purpose, message_of, is_last, nth_message, chip_address}
 use Rattle.bus_spec.specs.Tells.{HearsIn, heard_list}
 use Rattle.bus_spec.specs.Legal.{starts, start_failed}
 use Rattle.mux_plan.specs.Plans.{control_of}
@@ -85,9 +84,9 @@ select_is : (b : BoardView) (h : Hop) (left addr : ℕ) → addr ≡ chip_addres
 select_is b h zero addr e = ap (λ (a : ℕ). control_message a (control_of (Select h) zero)) e
 select_is b h (suc left) addr e = ap (λ (a : ℕ). control_message a (control_of (Select h) (suc left))) e
 
-clear_is : (b : BoardView) (on mux : ℕ) (kind : MuxKind) (left addr : ℕ) → addr ≡ chip_address b mux
-    → control_message addr (control_of (Clear on mux kind) left) ≡ message_of b (Clear on mux kind) left
-clear_is b on mux kind left addr e = ap (λ (a : ℕ). control_message a (control_of (Clear on mux kind) left)) e
+off_is : (b : BoardView) (off : Off) (left addr : ℕ) → addr ≡ chip_address b (off_mux off)
+    → control_message addr (control_of (SwitchOff off) left) ≡ message_of b (SwitchOff off) left
+off_is b off left addr e = ap (λ (a : ℕ). control_message a (control_of (SwitchOff off) left)) e
 
 chip_address_is : (b : BoardView) (m addr a : ℕ) → addr_of_mux b m ≡ Some a → addr ≡ a → addr ≡ chip_address b m
 chip_address_is b m addr a at e = e ∙ sym (ap (λ (o : Option ℕ). unwrap_or o 0) at)
@@ -98,9 +97,9 @@ control-message b t sent (Call bus ms) left m addr a next of why at e = absurd (
 control-message b t sent (Select h) left m addr a next of why at e =
     ap (λ (p : Purpose). message_for t sent p next.control addr) of.for_purpose ∙ ap (λ (o : Option ℕ). control_message addr o) of.with_byte
     ∙ select_is b h left addr (chip_address_is b h.mux addr a (ap (addr_of_mux b) (let f : purpose.Control h.mux ≡ purpose.Control m = why in let g : h.mux ≡ m = cc in g) ∙ at) e)
-control-message b t sent (Clear on mux kind) left m addr a next of why at e =
+control-message b t sent (SwitchOff off) left m addr a next of why at e =
     ap (λ (p : Purpose). message_for t sent p next.control addr) of.for_purpose ∙ ap (λ (o : Option ℕ). control_message addr o) of.with_byte
-    ∙ clear_is b on mux kind left addr (chip_address_is b mux addr a (ap (addr_of_mux b) (let f : purpose.Control mux ≡ purpose.Control m = why in let g : mux ≡ m = cc in g) ∙ at) e)
+    ∙ off_is b off left addr (chip_address_is b (off_mux off) addr a (ap (addr_of_mux b) (let f : purpose.Control (off_mux off) ≡ purpose.Control m = why in let g : off_mux off ≡ m = cc in g) ∙ at) e)
 
 pub call-message : (b : BoardView) (t : TransferView) (sent : ℕ) (bus : ℕ) (ms : List MessageView) (left addr : ℕ) (next : NextMsg) → IsMessageOf (Call bus ms) left next
     → ms ≡ messages_of t → sent + suc left ≡ length ms → message_for t sent next.purpose next.control addr ≡ message_of b (Call bus ms) left
@@ -121,9 +120,9 @@ message-moves b t sent (Call bus ms) left next addr of owns = ap (bytes_most (bl
 message-moves b t sent (Select h) left next addr of owns =
     ap (λ (p : Purpose). bytes_most (block_limit b) (message_for t sent p next.control addr)) of.for_purpose ∙ ap (λ (o : Option ℕ). bytes_most (block_limit b) (control_message addr o)) of.with_byte
     ∙ moves_alike (block_limit b) addr (chip_address b h.mux) (control_of (Select h) left) ∙ ap (bytes_most (block_limit b)) (select_is b h left (chip_address b h.mux) refl)
-message-moves b t sent (Clear on mux kind) left next addr of owns =
+message-moves b t sent (SwitchOff off) left next addr of owns =
     ap (λ (p : Purpose). bytes_most (block_limit b) (message_for t sent p next.control addr)) of.for_purpose ∙ ap (λ (o : Option ℕ). bytes_most (block_limit b) (control_message addr o)) of.with_byte
-    ∙ moves_alike (block_limit b) addr (chip_address b mux) (control_of (Clear on mux kind) left) ∙ ap (bytes_most (block_limit b)) (clear_is b on mux kind left (chip_address b mux) refl)
+    ∙ moves_alike (block_limit b) addr (chip_address b (off_mux off)) (control_of (SwitchOff off) left) ∙ ap (bytes_most (block_limit b)) (off_is b off left (chip_address b (off_mux off)) refl)
 
 -- a stop follows it exactly where it is the last of its transfer
 last_of : (sent left n : ℕ) → sent + suc left ≡ n → eqb (n - left) n ≡ eqb left 0
@@ -136,4 +135,4 @@ last-is (Call bus ms) left next of counts =
     ap (λ (p : Purpose). ends_with p next.part next.parts) of.for_purpose ∙ ap (λ (k : ℕ). eqb k next.parts) of.as_part ∙ ap (λ (k : ℕ). eqb (length ms - left) k) of.of_parts
     ∙ last_of (counts bus ms refl).0 left (length ms) (counts bus ms refl).1
 last-is (Select h) left next of counts = ap (λ (p : Purpose). ends_with p next.part next.parts) of.for_purpose
-last-is (Clear on mux kind) left next of counts = ap (λ (p : Purpose). ends_with p next.part next.parts) of.for_purpose
+last-is (SwitchOff off) left next of counts = ap (λ (p : Purpose). ends_with p next.part next.parts) of.for_purpose

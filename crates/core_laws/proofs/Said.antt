@@ -23,7 +23,7 @@ use Rattle.i2c_spec.specs.World.{World, hearers, has_heard, answer, after}
 use Rattle.i2c_spec.specs.Conversation.{TalkTold, talk, world_listener}
 use Rattle.i2c_spec.specs.Flat.{block_limit}
 use Rattle.i2c_spec.specs.History.{Asks, changed_at}
-use Rattle.bus_spec.specs.Walk.{Job, Call, Select, Clear, Act, Take, Free, Send, Shift, Settle, ActOutcome, Passed, Sent, Lined, WalkTree, Ends, Look, Then, job_bus, job_purpose, message_of, is_last, line_mux, line_level}
+use Rattle.bus_spec.specs.Walk.{Job, Call, Select, SwitchOff, off_mux, Act, Take, Free, Send, Shift, Settle, ActOutcome, Passed, Sent, Lined, WalkTree, Ends, Look, Then, job_bus, job_purpose, message_of, is_last, line_mux, line_level}
 use Rattle.bus_spec.specs.Slots.{Slots, mark_in, after_job}
 use Rattle.bus_spec.specs.Grammar.{seen, is_over, first_act, first_note, rest_of}
 use Rattle.bus_spec.specs.Readings.{cut_told, message_cut}
@@ -214,7 +214,7 @@ module _ (b : BoardView) (tree : IsTree b) (plain : IsPlainBoard b) (lines : Lin
           by : (j : Job) → job ≡ j → IsSaid
           by (Call bus ms) is = said_call bus ms is
           by (Select h) is = said_control h.mux (ap job_purpose is)
-          by (Clear on mux kind) is = said_control mux (ap job_purpose is)
+          by (SwitchOff off) is = said_control (off_mux off) (ap job_purpose is)
 
       last_is : ends_with next.purpose next.part next.parts ≡ is_last job left
       last_is = last-is job left next of (λ bus ms is. (gone, (whose bus ms is).3))

@@ -10,7 +10,7 @@ use Rattle.i2c_base.specs.declared.reply.Reply.{Reply}
 use Rattle.i2c_base.specs.Fitting.{Fits, FitsReads}
 use Rattle.i2c_spec.specs.Flat.{block_limit}
 use Rattle.i2c_spec.specs.Messages.{MessageView}
-use Rattle.bus_spec.specs.Walk.{Job, Call, Select, Clear, Send, Settle, Sent, WalkTree, job_purpose, Shift, Lined}
+use Rattle.bus_spec.specs.Walk.{Job, Call, Select, SwitchOff, Send, Settle, Sent, WalkTree, job_purpose, Shift, Lined}
 use Rattle.bus_spec.specs.Past.{got_after}
 use Rattle.bus_spec.specs.Stepwise.{reply_by}
 use Rattle.bus_laws.specs.Runs.{IsCall}
@@ -102,7 +102,7 @@ module _ (run : Run) (whole : Whole) (core : CoreKept run whole)
       by : (j : Job) → job ≡ j → Fit job
       by (Call bus ms) is = elim (is_ok e) [ inl fine ↦ through bus ms is fine | inr bad ↦ absurd (ended bus ms is bad) ]
       by (Select h) is = subst (λ (j : Job). Fit j) (sym is) (its.partway none)
-      by (Clear on mux kind) is = subst (λ (j : Job). Fit j) (sym is) (its.partway none)
+      by (SwitchOff off) is = subst (λ (j : Job). Fit j) (sym is) (its.partway none)
 
   -- WHAT A MESSAGE LEAVES: the walk goes on, and what was read fits so far; or its settle comes next, with a reply that fits
   pub sent-leaves : (IsLeft run.board p.transfer (has_reply p.owed) gone behind × (p.owed ≡ [] → FitsReads (take gone p.transfer.msgs) got))

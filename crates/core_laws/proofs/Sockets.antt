@@ -11,7 +11,7 @@ use Rattle.i2c_base.specs.Phases.{MayStart}
 use Rattle.i2c_base.specs.Board.{BoardView}
 use Rattle.i2c_spec.specs.Tree.{root_of}
 use Rattle.i2c_spec.specs.Messages.{MessageView}
-use Rattle.bus_spec.specs.Walk.{Job, Call, Select, Clear, Act, Send, Shift, Sent, WalkTree, Then, job_bus, is_last}
+use Rattle.bus_spec.specs.Walk.{Job, Call, Select, SwitchOff, Act, Send, Shift, Sent, WalkTree, Then, job_bus, is_last}
 use Rattle.bus_spec.specs.Slots.{Slots}
 use Rattle.bus_spec.specs.Grammar.{seen, first_act, rest_of}
 use Rattle.bus_laws.specs.Runs.{InLocks}
@@ -126,7 +126,7 @@ line-idle b tells owed trees numbers held v table distinct each place w here job
 pub inside-behind : (b : BoardView) (settled : Bool) (v : Slots) (w : WalkTree) → Settles settled w → (job : Job) (left : ℕ) → first_act (seen v w) ≡ Some (Send job left)
     → (e : End) (bytes : List ℕ) (r : ℕ) → root_of b (job_bus job) ≡ r → is_last job left ≡ false → e ≡ end.Ok → IsInside b (rest_of (seen v w) (Sent e bytes)) r
 inside-behind b settled v w settles (Select h) left first e bytes r root last fine = absurd (let f : true ≡ false = last in cc)
-inside-behind b settled v w settles (Clear on mux kind) left first e bytes r root last fine = absurd (let f : true ≡ false = last in cc)
+inside-behind b settled v w settles (SwitchOff off) left first e bytes r root last fine = absurd (let f : true ≡ false = last in cc)
 inside-behind b settled v w settles (Call bus ms) zero first e bytes r root last fine = absurd (let f : true ≡ false = last in cc)
 inside-behind b settled v w settles (Call bus ms) (suc left) first e bytes r root last fine =
     subst (λ (x : End). IsInside b (rest_of (seen v w) (Sent x bytes)) r) (sym fine)

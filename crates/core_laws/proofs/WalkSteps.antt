@@ -2,7 +2,6 @@
 -- its place. No induction.
 use Rattle.std.proofs.Common.{◌≡◌, ℕ, ◌<◌, ◌+◌, ◌-◌, zero, suc, Bool, true, false, List, [], ◌∷◌, length, Option, Some, None, refl, sym, ◌∙◌, ap, subst, arith, ◌⊎◌, inl, inr}
 use Rattle.i2c_base.specs.declared.ids.LockId.{LockId}
-use Rattle.i2c_base.specs.declared.board.MuxKind.{MuxKind}
 use Rattle.i2c_base.specs.declared.errno.Errno.{Errno}
 use Rattle.i2c_base.specs.declared.entry.End.{End}
 use Rattle.i2c_base.specs.declared.entry.End.TheVariants as end
@@ -12,7 +11,7 @@ use Rattle.i2c_spec.specs.Flat.{refusal}
 use Rattle.i2c_spec.specs.Messages.{MessageView, messages_of}
 use Rattle.i2c_spec.specs.TreeFacts.{IsTree}
 use Rattle.i2c_spec.specs.Tree.{Hop, hops, root_of}
-use Rattle.bus_spec.specs.Walk.{Job, Call, Select, Clear, Act, Take, Free, Send, Shift, Settle, Passed, Sent, Lined, WalkTree, Ends, Then, Note, is_line, job_outcome, verdict_of, decides}
+use Rattle.bus_spec.specs.Walk.{Job, Call, Select, SwitchOff, Off, Act, Take, Free, Send, Shift, Settle, Passed, Sent, Lined, WalkTree, Ends, Then, Note, is_line, job_outcome, verdict_of, decides}
 use Rattle.bus_spec.specs.Slots.{Slots}
 use Rattle.bus_spec.specs.Grammar as grammar
 use Rattle.bus_spec.specs.Grammar.{full, walk_by, seen, is_over, first_act, rest_of}
@@ -28,7 +27,7 @@ use Rattle.bus_laws.proofs.walk.First.{walk-first, first_seen}
 use Rattle.bus_laws.proofs.past.Asked.{settles_seen}
 use Rattle.bus_laws.proofs.walk.Jobs.{walk-stays}
 use Rattle.bus_laws.proofs.past.StandsEntries.{first_is}
-use Rattle.bus_laws.proofs.walk.Next.{jobs-next, job-shifted, calls-next, call-sent, settles-taken, settles-freed, settles-sent, first-taken, first-freed, first-selected, first-cleared, first-sent}
+use Rattle.bus_laws.proofs.walk.Next.{jobs-next, job-shifted, calls-next, call-sent, settles-taken, settles-freed, settles-sent, first-taken, first-freed, first-selected, first-switched-off, first-sent}
 use Rattle.bus_laws.proofs.walk.Next.{settles-settled, quiet-next, what_follows, call-goes-on, seen-first}
 use Rattle.i2c_spec.proofs.MessageLemmas.{length-messages}
 use Rattle.core_laws.specs.Seats.{Counts, IsLeft, IsDecided}
@@ -144,15 +143,15 @@ module _ (b : BoardView) (t : TransferView) (v : Slots) (w : WalkTree) (settled 
         | inr f ↦ inr (decided (Select h) left first e bytes f)
       ]
 
-  pub clear-leaves : (on mux : ℕ) (kind : MuxKind) (left : ℕ) → first_act (seen v w) ≡ Some (Send (Clear on mux kind) left) → (e : End) (bytes : List ℕ)
-      → SendLeaves b t settled sent (Clear on mux kind) left e (rest_of (seen v w) (Sent e bytes))
-  clear-leaves on mux kind left first e bytes =
-      let goes = (settles-sent settled v w is.settles (Clear on mux kind) left first).1 e bytes in
-      elim (what_follows goes.0 (Clear on mux kind) left e bytes (rest_of (seen v w) (Sent e bytes)) goes.1) [
-        | inl quiet ↦ inl (goes_quiet (Clear on mux kind) left first e bytes sent quiet
-            (λ x. let f = first_still (Send (Clear on mux kind) left) first (λ bus ms k y. let g : Send (Clear on mux kind) left ≡ Send (Call bus ms) k = y in cc) (is.counts x) in
-            inr (first-cleared v w f.0 on mux kind left first e bytes, f.1)))
-        | inr f ↦ inr (decided (Clear on mux kind) left first e bytes f)
+  pub off-leaves : (off : Off) (left : ℕ) → first_act (seen v w) ≡ Some (Send (SwitchOff off) left) → (e : End) (bytes : List ℕ)
+      → SendLeaves b t settled sent (SwitchOff off) left e (rest_of (seen v w) (Sent e bytes))
+  off-leaves off left first e bytes =
+      let goes = (settles-sent settled v w is.settles (SwitchOff off) left first).1 e bytes in
+      elim (what_follows goes.0 (SwitchOff off) left e bytes (rest_of (seen v w) (Sent e bytes)) goes.1) [
+        | inl quiet ↦ inl (goes_quiet (SwitchOff off) left first e bytes sent quiet
+            (λ x. let f = first_still (Send (SwitchOff off) left) first (λ bus ms k y. let g : Send (SwitchOff off) left ≡ Send (Call bus ms) k = y in cc) (is.counts x) in
+            inr (first-switched-off v w f.0 off left first e bytes, f.1)))
+        | inr f ↦ inr (decided (SwitchOff off) left first e bytes f)
       ]
 
   -- a line step: its settle comes next only where it failed
@@ -192,7 +191,7 @@ module _ (b : BoardView) (t : TransferView) (v : Slots) (w : WalkTree) (settled 
       line_errs job true line d = (errno.Eremoteio, refl)
       line_errs (Call bus ms) false line d = absurd (let f : false ≡ true = line in cc)
       line_errs (Select h) false line d = absurd (let f : false ≡ true = d in cc)
-      line_errs (Clear on mux kind) false line d = absurd (let f : false ≡ true = d in cc)
+      line_errs (SwitchOff off) false line d = absurd (let f : false ≡ true = d in cc)
 
   -- a message of the caller's that went through: it is the last one, or the next one follows at once
   pub went-leaves : (bus : ℕ) (ms : List MessageView) (left : ℕ) → first_act (seen v w) ≡ Some (Send (Call bus ms) left) → (bytes : List ℕ)

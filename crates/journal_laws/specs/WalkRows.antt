@@ -10,7 +10,7 @@ use Rattle.i2c_base.specs.declared.entry.End.TheVariants as end
 use Rattle.i2c_base.specs.Transfer.{TransferView}
 use Rattle.i2c_spec.specs.Tree.{Hop}
 use Rattle.i2c_spec.specs.Messages.{messages_of}
-use Rattle.bus_spec.specs.Walk.{Job, Call, Select, Clear, Take, Free, Send, Shift, Settle, Passed, Sent, Lined, MarkOf, KeptOf}
+use Rattle.bus_spec.specs.Walk.{Job, Call, Select, SwitchOff, Deselect, Close, Take, Free, Send, Shift, Settle, Passed, Sent, Lined, MarkOf, KeptOf}
 use Rattle.journal_laws.specs.Paths.{PathStep, Saw, Did}
 use Rattle.bus_spec.specs.Rows as row
 
@@ -47,8 +47,11 @@ loose_hop = record { bus = 1; mux = 0; channel = 0; on = 0; parent = false; stay
 abbrev pub call : Job
 call = Call 1 (messages_of deep)
 
+abbrev pub deselect : Job
+deselect = SwitchOff (Deselect hop)
+
 abbrev pub close : Job
-close = Clear 0 0 Pca9548
+close = SwitchOff (Close 0 0 Pca9548)
 
 abbrev pub both_taken : List PathStep
 both_taken = did_take (lock.Mux 0) ∷ did_take (lock.Bus 0) ∷ []
@@ -62,23 +65,24 @@ both_read = did_send call 1 end.Ok (0 ∷ []) ∷ did_send call 0 end.Ok (0x11 �
 abbrev pub selected_once : PathStep
 selected_once = did_send (Select hop) 0 end.Ok (1 ∷ [])
 
-abbrev pub closed_once : PathStep
-closed_once = did_send close 0 end.Ok (0 ∷ [])
+abbrev pub deselected_once : PathStep
+deselected_once = did_send deselect 0 end.Ok (0 ∷ [])
 
 -- THESE KEEP IT. The four parts but the close, between the locks
 abbrev pub whole_walk : List PathStep
-whole_walk = both_taken ++ sees None ∷ shut ∷ selected_once ∷ both_read ++ closed_once ∷ both_freed
+whole_walk = both_taken ++ sees None ∷ shut ∷ selected_once ∷ both_read ++ deselected_once ∷ both_freed
 
 -- on the bus of a mux-locked mux each part takes the root's lock anew
 abbrev pub parts_walk : List PathStep
 parts_walk =
     did_take (lock.Mux 0) ∷ sees None ∷ shut ∷ did_take (lock.Bus 0) ∷ did_send (Select loose_hop) 0 end.Ok (1 ∷ []) ∷ did_free (lock.Bus 0)
     ∷ did_take (lock.Bus 0) ∷ both_read ++ did_free (lock.Bus 0)
-    ∷ did_take (lock.Bus 0) ∷ closed_once ∷ did_free (lock.Bus 0) ∷ did_free (lock.Mux 0) ∷ []
+    ∷ did_take (lock.Bus 0) ∷ did_send (SwitchOff (Deselect loose_hop)) 0 end.Ok (0 ∷ []) ∷ did_free (lock.Bus 0)
+    ∷ did_free (lock.Mux 0) ∷ []
 
 -- the marked mux is closed first, also where nobody acknowledges it
 abbrev pub closed_walk : List PathStep
-closed_walk = both_taken ++ sees (Some 0) ∷ did_send close 0 end.Nack [] ∷ shut ∷ selected_once ∷ both_read ++ closed_once ∷ both_freed
+closed_walk = both_taken ++ sees (Some 0) ∷ did_send close 0 end.Nack [] ∷ shut ∷ selected_once ∷ both_read ++ deselected_once ∷ both_freed
 
 -- a close that failed by the port leaves out all that would follow it
 abbrev pub unclosed_walk : List PathStep
@@ -90,7 +94,7 @@ unselected_walk = both_taken ++ sees None ∷ shut ∷ did_send (Select hop) 0 e
 
 -- a deselect follows a job that failed, and fails nothing by itself
 abbrev pub deselected_walk : List PathStep
-deselected_walk = both_taken ++ sees None ∷ shut ∷ selected_once ∷ did_send call 1 end.Nack [] ∷ did_settle (Some Enxio) ∷ did_send close 0 (end.Cut 2) (0 ∷ []) ∷ both_freed
+deselected_walk = both_taken ++ sees None ∷ shut ∷ selected_once ∷ did_send call 1 end.Nack [] ∷ did_settle (Some Enxio) ∷ did_send deselect 0 (end.Cut 2) (0 ∷ []) ∷ both_freed
 
 -- a transfer to a bus that isn't there is one settle
 abbrev pub nowhere : TransferView
@@ -101,36 +105,37 @@ refused_walk = did_settle (Some Enodev) ∷ []
 
 -- THESE BREAK IT. The root's lock is taken first; it is freed between the messages; it is freed last
 abbrev pub root_first : List PathStep
-root_first = did_take (lock.Bus 0) ∷ did_take (lock.Mux 0) ∷ sees None ∷ shut ∷ selected_once ∷ both_read ++ closed_once ∷ both_freed
+root_first = did_take (lock.Bus 0) ∷ did_take (lock.Mux 0) ∷ sees None ∷ shut ∷ selected_once ∷ both_read ++ deselected_once ∷ both_freed
 
 abbrev pub unlocked_between : List PathStep
 unlocked_between =
     both_taken ++ sees None ∷ shut ∷ selected_once ∷ did_send call 1 end.Ok (0 ∷ []) ∷ did_free (lock.Bus 0) ∷ did_take (lock.Bus 0)
-    ∷ did_send call 0 end.Ok (0x11 ∷ []) ∷ did_settle None ∷ closed_once ∷ both_freed
+    ∷ did_send call 0 end.Ok (0x11 ∷ []) ∷ did_settle None ∷ deselected_once ∷ both_freed
 
 abbrev pub freed_in_order : List PathStep
-freed_in_order = both_taken ++ sees None ∷ shut ∷ selected_once ∷ both_read ++ closed_once ∷ did_free (lock.Mux 0) ∷ did_free (lock.Bus 0) ∷ []
+freed_in_order = both_taken ++ sees None ∷ shut ∷ selected_once ∷ both_read ++ deselected_once ∷ did_free (lock.Mux 0) ∷ did_free (lock.Bus 0) ∷ []
 
 -- the close is left out; the select follows a close that failed
 abbrev pub close_left_out : List PathStep
-close_left_out = both_taken ++ sees (Some 0) ∷ selected_once ∷ both_read ++ closed_once ∷ both_freed
+close_left_out = both_taken ++ sees (Some 0) ∷ selected_once ∷ both_read ++ deselected_once ∷ both_freed
 
 abbrev pub over_a_failed_close : List PathStep
-over_a_failed_close = both_taken ++ sees (Some 0) ∷ did_send close 0 (end.Cut 0) [] ∷ did_settle (Some Eremoteio) ∷ selected_once ∷ closed_once ∷ both_freed
+over_a_failed_close = both_taken ++ sees (Some 0) ∷ did_send close 0 (end.Cut 0) [] ∷ did_settle (Some Eremoteio) ∷ selected_once ∷ deselected_once ∷ both_freed
 
 -- a deselect follows a select that was refused; it is left out behind a job
 abbrev pub deselect_of_none : List PathStep
-deselect_of_none = both_taken ++ sees None ∷ shut ∷ did_send (Select hop) 0 end.Nack [] ∷ did_settle (Some Enxio) ∷ closed_once ∷ both_freed
+deselect_of_none =
+    both_taken ++ sees None ∷ shut ∷ did_send (Select hop) 0 end.Nack [] ∷ did_settle (Some Enxio) ∷ deselected_once ∷ both_freed
 
 abbrev pub deselect_left_out : List PathStep
 deselect_left_out = both_taken ++ sees None ∷ shut ∷ selected_once ∷ both_read ++ both_freed
 
 -- the second message follows one that nobody acknowledged; the settle comes a step late
 abbrev pub over_a_nack : List PathStep
-over_a_nack = both_taken ++ sees None ∷ shut ∷ selected_once ∷ did_send call 1 end.Nack [] ∷ did_send call 0 end.Ok (0x11 ∷ []) ∷ did_settle None ∷ closed_once ∷ both_freed
+over_a_nack = both_taken ++ sees None ∷ shut ∷ selected_once ∷ did_send call 1 end.Nack [] ∷ did_send call 0 end.Ok (0x11 ∷ []) ∷ did_settle None ∷ deselected_once ∷ both_freed
 
 abbrev pub settle_moved : List PathStep
-settle_moved = both_taken ++ sees None ∷ shut ∷ selected_once ∷ did_send call 1 end.Ok (0 ∷ []) ∷ did_send call 0 end.Ok (0x11 ∷ []) ∷ closed_once ∷ did_settle None ∷ both_freed
+settle_moved = both_taken ++ sees None ∷ shut ∷ selected_once ∷ did_send call 1 end.Ok (0 ∷ []) ∷ did_send call 0 end.Ok (0x11 ∷ []) ∷ deselected_once ∷ did_settle None ∷ both_freed
 
 -- ANOTHER WAY TO SWITCH. An arbitrator is asked until it is found free, and then switched; after eight polls it is given up
 abbrev pub polled_hop : Hop
@@ -146,7 +151,7 @@ abbrev pub polled_walk : List PathStep
 polled_walk =
     both_taken ++ sees None ∷ shut ∷ finds 8 1 ∷ finds 7 0 ∷ finds 0 1
     ∷ did_send (Call 1 (messages_of behind_arbitrator)) 1 end.Ok (5 ∷ []) ∷ did_send (Call 1 (messages_of behind_arbitrator)) 0 end.Ok (0x7e ∷ []) ∷ did_settle None
-    ∷ did_send (Clear 0 0 Pca9541) 0 end.Ok (0 ∷ []) ∷ both_freed
+    ∷ did_send (SwitchOff (Deselect polled_hop)) 0 end.Ok (0 ∷ []) ∷ both_freed
 
 abbrev pub given_up_walk : List PathStep
 given_up_walk =
@@ -171,8 +176,11 @@ abbrev pub line_reads : List PathStep
 line_reads =
     did_send (Call 2 (messages_of behind_gpio)) 1 end.Ok (5 ∷ []) ∷ did_send (Call 2 (messages_of behind_gpio)) 0 end.Ok (0x7e ∷ []) ∷ did_settle None ∷ []
 
+abbrev pub line_deselected : PathStep
+line_deselected = shifted (SwitchOff (Deselect line_hop)) false
+
 abbrev pub line_walk : List PathStep
-line_walk = both_taken ++ sees None ∷ shut ∷ shifted (Select line_hop) false ∷ line_reads ++ shifted (Clear 0 0 Gpio) false ∷ both_freed
+line_walk = both_taken ++ sees None ∷ shut ∷ shifted (Select line_hop) false ∷ line_reads ++ line_deselected ∷ both_freed
 
 abbrev pub over_a_failed_line : List PathStep
-over_a_failed_line = both_taken ++ sees None ∷ shut ∷ shifted (Select line_hop) true ∷ line_reads ++ shifted (Clear 0 0 Gpio) false ∷ both_freed
+over_a_failed_line = both_taken ++ sees None ∷ shut ∷ shifted (Select line_hop) true ∷ line_reads ++ line_deselected ∷ both_freed

@@ -10,7 +10,7 @@ use Rattle.i2c_base.specs.Transfer.{TransferView}
 use Rattle.i2c_spec.specs.Tree.{Hop, hops, root_of, locks_of}
 use Rattle.i2c_spec.specs.Messages.{messages_of}
 use Rattle.i2c_spec.specs.Flat.{refusal}
-use Rattle.bus_spec.specs.Walk.{Job, Call, Select, Clear, Act, Take, Free, Send, Shift, Settle, ActOutcome, JobOutcome, Good, Refused, Unsent, Failed, MarkOf, Ends, Then, Go, On, Last, Over, goes, job_outcome, verdict_of, decides, is_line, more_of, KeptOf}
+use Rattle.bus_spec.specs.Walk.{Job, Call, Select, SwitchOff, Deselect, Close, Act, Take, Free, Send, Shift, Settle, ActOutcome, JobOutcome, Good, Refused, Unsent, Failed, MarkOf, Ends, Then, Go, On, Last, Over, goes, job_outcome, verdict_of, decides, is_line, more_of, KeptOf}
 use Rattle.bus_spec.specs.Slots.{answer_to}
 use Rattle.bus_spec.specs.Grammar.{kind_of, plain, keeps}
 use Rattle.bus_spec.specs.Tells.{Tells}
@@ -73,7 +73,7 @@ pub record IsLocked (locks : List LockId) (on : Rule) (job : Job) (forward : Boo
 -- no way to the messages
 abbrev pub IsLeft : Bool → Hop → Rule → List PathStep → Type 0
 IsLeft true h on deselected = deselected ≡ []
-IsLeft false h on deselected = (last : JobOutcome) × on (Clear h.on h.mux h.kind) false deselected last
+IsLeft false h on deselected = (last : JobOutcome) × on (SwitchOff (Deselect h)) false deselected last
 
 pub record IsOpened (h : Hop) (on : Rule) (job : Job) (forward : Bool) (steps : List PathStep) (out : JobOutcome) : Type 0 where
   pub done : List PathStep
@@ -116,7 +116,7 @@ IfSent Failed goes_on rest out = (rest ≡ []) × (out ≡ Failed)
 
 abbrev pub IsClosed : BoardView → Hop → Rule → Bool → Option ℕ → List PathStep → JobOutcome → Type 0
 IsClosed b h on forward None closed came = (closed ≡ []) × (came ≡ Good)
-IsClosed b h on forward (Some m) closed came = on (Clear h.on m (kind_of b m)) forward closed came
+IsClosed b h on forward (Some m) closed came = on (SwitchOff (Close h.on m (kind_of b m))) forward closed came
 
 pub record IsBehindMux (b : BoardView) (h : Hop) (on : Rule) (job : Job) (forward : Bool) (steps : List PathStep) (out : JobOutcome) : Type 0 where
   pub mark : Option ℕ

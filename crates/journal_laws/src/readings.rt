@@ -28,8 +28,8 @@ pub fn each_walk_is_what_its_entries_left()
     ensures { (b : BoardView) (asks : Asks) (past : List Entry) (c : ℕ) → (now b asks past).walk c ≡ walk_left b asks past c }
 {}
 
-/// The mark of a bus is the mux that a failed step marked there last, if no select or close on the bus went through
-/// since.
+/// The mark of a bus is the mux that a failed step marked there last, if no mux on the bus was switched since without
+/// failing.
 pub fn each_mark_is_the_last_one_made()
     ensures { (b : BoardView) (asks : Asks) (past : List Entry) (p : ℕ) → mark b asks past p ≡ mark_left b asks past p }
 {}

@@ -7,7 +7,7 @@ ghost use Rattle.bus_spec.specs.Rows as row;
 ghost use Rattle.bus_spec.specs.Schedule.{Follows};
 ghost use Rattle.bus_spec.specs.Past.{now};
 ghost use Rattle.bus_spec.specs.Stepwise.{IsNext, IsStepwise};
-ghost use Rattle.bus_spec.specs.Walk.{Clear, Send};
+ghost use Rattle.bus_spec.specs.Walk.{Close, Send, SwitchOff};
 ghost use Rattle.journal_laws.specs.Wrong as wrong;
 
 /// A lock is not taken towards the leaves: the mux's lock after the root's.
@@ -48,7 +48,7 @@ pub fn a_mux_is_deselected()
 
 /// After a deselect that failed, the close of the marked mux comes next, and no select.
 pub fn a_marked_mux_is_closed_first()
-    ensures { IsNext row.parent_locked wrong.two_asks (now row.parent_locked wrong.two_asks wrong.behind_a_failed_deselect) 0 (Send (Clear 0 0 Pca9548) 0) }
+    ensures { IsNext row.parent_locked wrong.two_asks (now row.parent_locked wrong.two_asks wrong.behind_a_failed_deselect) 0 (Send (SwitchOff (Close 0 0 Pca9548)) 0) }
 {}
 
 /// After a deselect that failed, no channel of the marked mux is selected before its close: the next byte that the

@@ -7,9 +7,9 @@ use Rattle.std.proofs.lemmas.Grind.{get_or-set_at}
 use Rattle.i2c_base.specs.declared.entry.End.TheVariants as end
 use Rattle.i2c_spec.specs.Tree.{Hop}
 use Rattle.i2c_spec.specs.History.{changed_at}
-use Rattle.bus_spec.specs.Walk.{Mark, Job, Call, Select, Clear, Act, ActOutcome, Passed, Sent, Lined, Note, first_byte}
+use Rattle.bus_spec.specs.Walk.{Mark, Job, Call, Select, SwitchOff, off_bus, off_mux, Act, ActOutcome, Passed, Sent, Lined, Note, first_byte}
 use Rattle.bus_spec.specs.Walk as walk
-use Rattle.bus_spec.specs.Slots.{MuxSlot, Clean, Marked, Polled, Found, At, Slots, mark_in, turned_at, turned, set_marks, polled_slot, select_told, after_select, after_clear, after_job}
+use Rattle.bus_spec.specs.Slots.{MuxSlot, Clean, Marked, Polled, Found, At, Slots, mark_in, turned_at, turned, set_marks, polled_slot, select_told, after_select, after_off, after_job}
 use Rattle.mux_plan.specs.declared.marks.Due.{Due}
 use Rattle.mux_plan.specs.Marks.{marked, all_marked, left_open, dues_on, dues_of_job, dues_after, applied, IsSwitchedOn, MayMark, AreOn}
 use Rattle.mux_plan.specs.Plans.{TellsMarks, slots_after}
@@ -70,23 +70,23 @@ tells-select h left ms (Sent (end.Cut q) bytes) v marks told = tells-all ms mark
 tells-select h left ms (Lined true) v marks told = tells-all ms marks v told
 tells-select h left ms (Lined false) v marks told = tells-one v marks h.on h.mux Clean (Some h.channel) refl told
 
-tells-clear : (on mux : ℕ) (ms : List Mark) (out : ActOutcome) (v : Slots) (marks : List (Option ℕ)) → TellsMarks v marks
-    → TellsMarks (after_clear on mux ms out v) (applied (dues_on on mux None ms out) marks)
-tells-clear on mux ms Passed v marks told = told
-tells-clear on mux ms (Sent end.Ok bytes) v marks told = tells-one v marks on mux Clean None refl told
-tells-clear on mux ms (Sent end.Nack bytes) v marks told = tells-one v marks on mux Clean None refl told
-tells-clear on mux ms (Sent end.Slow bytes) v marks told = tells-one v marks on mux Clean None refl told
-tells-clear on mux ms (Sent end.Refused bytes) v marks told = tells-one v marks on mux Clean None refl told
-tells-clear on mux ms (Sent end.Proto bytes) v marks told = tells-one v marks on mux Clean None refl told
-tells-clear on mux ms (Sent (end.Cut q) bytes) v marks told = tells-all ms marks v told
-tells-clear on mux ms (Lined true) v marks told = tells-all ms marks v told
-tells-clear on mux ms (Lined false) v marks told = tells-one v marks on mux Clean None refl told
+tells-off : (on mux : ℕ) (ms : List Mark) (out : ActOutcome) (v : Slots) (marks : List (Option ℕ)) → TellsMarks v marks
+    → TellsMarks (after_off on mux ms out v) (applied (dues_on on mux None ms out) marks)
+tells-off on mux ms Passed v marks told = told
+tells-off on mux ms (Sent end.Ok bytes) v marks told = tells-one v marks on mux Clean None refl told
+tells-off on mux ms (Sent end.Nack bytes) v marks told = tells-one v marks on mux Clean None refl told
+tells-off on mux ms (Sent end.Slow bytes) v marks told = tells-one v marks on mux Clean None refl told
+tells-off on mux ms (Sent end.Refused bytes) v marks told = tells-one v marks on mux Clean None refl told
+tells-off on mux ms (Sent end.Proto bytes) v marks told = tells-one v marks on mux Clean None refl told
+tells-off on mux ms (Sent (end.Cut q) bytes) v marks told = tells-all ms marks v told
+tells-off on mux ms (Lined true) v marks told = tells-all ms marks v told
+tells-off on mux ms (Lined false) v marks told = tells-one v marks on mux Clean None refl told
 
 tells-job : (job : Job) (left : ℕ) (ms : List Mark) (out : ActOutcome) (v : Slots) (marks : List (Option ℕ)) → TellsMarks v marks
     → TellsMarks (after_job job left ms out v) (applied (dues_of_job job left ms out) marks)
 tells-job (Call bus messages) left ms out v marks told = told
 tells-job (Select h) left ms out v marks told = tells-select h left ms out v marks told
-tells-job (Clear on mux kind) left ms out v marks told = tells-clear on mux ms out v marks told
+tells-job (SwitchOff off) left ms out v marks told = tells-off (off_bus off) (off_mux off) ms out v marks told
 
 pub tells-after : (act : Option Act) (note : Note) (out : ActOutcome) (v : Slots) (marks : List (Option ℕ)) → TellsMarks v marks
     → TellsMarks (slots_after act note out v) (applied (dues_after act note out) marks)
@@ -119,7 +119,7 @@ on-switch held on mux c ms (Lined false) is all = (is, tt)
 on-job : (held : ℕ → Bool) (job : Job) (left : ℕ) (ms : List Mark) (out : ActOutcome) → IsSwitchedOn held job → AllByRecursion (λ m. held m.on ≡ true) ms → AreOn held (dues_of_job job left ms out)
 on-job held (Call bus messages) left ms out is all = tt
 on-job held (Select h) left ms out is all = on-switch held h.on h.mux (left_open h left out) ms out is all
-on-job held (Clear on mux kind) left ms out is all = on-switch held on mux None ms out is all
+on-job held (SwitchOff off) left ms out is all = on-switch held (off_bus off) (off_mux off) None ms out is all
 
 pub on-after : (held : ℕ → Bool) (act : Option Act) (note : Note) (out : ActOutcome) → MayMark held act note → AreOn held (dues_after act note out)
 on-after held None note out may = tt

@@ -3,7 +3,7 @@ use Rattle.std.specs.Prelude.{⊤, ◌≡◌, ℕ, zero, suc, Bool, true, List, 
 use Rattle.std.specs.List.{AllByRecursion}
 use Rattle.i2c_base.specs.declared.entry.End.TheVariants as end
 use Rattle.i2c_spec.specs.Tree.{Hop}
-use Rattle.bus_spec.specs.Walk.{Mark, Job, Call, Select, Clear, Act, ActOutcome, Passed, Sent, Lined, Note}
+use Rattle.bus_spec.specs.Walk.{Mark, Job, Call, Select, SwitchOff, off_bus, off_mux, Act, ActOutcome, Passed, Sent, Lined, Note}
 use Rattle.bus_spec.specs.Walk as walk
 use Rattle.mux_plan.specs.declared.marks.Due.{Due}
 
@@ -50,7 +50,7 @@ dues_on on mux c marks (Lined failed) = if failed then all_marked marks else cle
 abbrev pub dues_of_job : Job → ℕ → List Mark → ActOutcome → List Due
 dues_of_job (Call bus messages) left marks out = []
 dues_of_job (Select h) left marks out = dues_on h.on h.mux (left_open h left out) marks out
-dues_of_job (Clear on mux kind) left marks out = dues_on on mux None marks out
+dues_of_job (SwitchOff off) left marks out = dues_on (off_bus off) (off_mux off) None marks out
 
 -- behind a step, which marks so much where it fails by the port
 abbrev pub dues_after : Option Act → Note → ActOutcome → List Due
@@ -75,7 +75,7 @@ applied_kept (d ∷ ds) kept = applied_kept ds (set kept d.mux d.channel)
 abbrev pub IsSwitchedOn : (ℕ → Bool) → Job → Type 0
 IsSwitchedOn held (Call bus messages) = ⊤
 IsSwitchedOn held (Select h) = held h.on ≡ true
-IsSwitchedOn held (Clear on mux kind) = held on ≡ true
+IsSwitchedOn held (SwitchOff off) = held (off_bus off) ≡ true
 
 abbrev pub MayMark : (ℕ → Bool) → Option Act → Note → Type 0
 MayMark held None note = ⊤

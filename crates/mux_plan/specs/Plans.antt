@@ -10,7 +10,7 @@ use Rattle.i2c_base.specs.Board.{BoardView}
 use Rattle.i2c_spec.specs.Tree.{Hop, locks_of}
 use Rattle.i2c_spec.specs.Chips.{select_value, close_value}
 use Rattle.i2c_spec.specs.Messages.{MessageView}
-use Rattle.bus_spec.specs.Walk.{Job, Call, Select, Clear, Act, ActOutcome, JobOutcome, Note, WalkTree, KeptOf, Go, Ends, Look, Then, job_bus, job_purpose, part_of, parts_of, line_mux, line_level}
+use Rattle.bus_spec.specs.Walk.{Job, Call, Select, SwitchOff, Deselect, Close, Act, ActOutcome, JobOutcome, Note, WalkTree, KeptOf, Go, Ends, Look, Then, job_bus, job_purpose, part_of, parts_of, line_mux, line_level}
 use Rattle.bus_spec.specs.Walk as walk
 use Rattle.bus_spec.specs.Slots.{MuxSlot, Clean, Marked, Slots, mark_in, after_job}
 use Rattle.bus_spec.specs.Grammar.{Doer, plain, over, locked, part, messages, with_mark, aside, if_sent, if_good, opened, crossed, inner, kind_of, seen, first_act}
@@ -44,7 +44,8 @@ pub record WalkView : Type 0 where
 abbrev pub job_of : CourseView → List MessageView → Work → Job
 job_of c ms work.Call = Call c.bus ms
 job_of c ms (work.Select h) = Select h
-job_of c ms (work.Clear on mux kind) = Clear on mux kind
+job_of c ms (work.Deselect h) = SwitchOff (Deselect h)
+job_of c ms (work.Close on mux kind) = SwitchOff (Close on mux kind)
 
 abbrev pub came_of : Came → JobOutcome
 came_of came.Good = walk.Good
@@ -96,7 +97,7 @@ tree_of b ms c (AwaitClose n h m w ∷ ts) out =
 tree_of b ms c (Pass n h w ∷ ts) out = Look (KeptOf h.on h.mux) (crossed h (on_bus b c n h) (job_of c ms w) (note_of ts) (tree_of b ms c ts))
 tree_of b ms c (AwaitSelect n h w ∷ ts) out =
     if_good out (opened h (on_bus b c n h) (job_of c ms w) (note_of ts) (tree_of b ms c ts)) (tree_of b ms c ts)
-tree_of b ms c (AwaitWork n h ∷ ts) out = on_bus b c n h (Clear h.on h.mux h.kind) (aside h) (λ o. tree_of b ms c ts out)
+tree_of b ms c (AwaitWork n h ∷ ts) out = on_bus b c n h (SwitchOff (Deselect h)) (aside h) (λ o. tree_of b ms c ts out)
 tree_of b ms c (AwaitDeselect h was ∷ ts) out = tree_of b ms c ts (came_of was)
 
 -- the job on the bus at place n: the locks of a mux-locked mux come first
@@ -112,7 +113,7 @@ choice_of h false w = work.Select h
 -- .. and a marked one is closed before
 abbrev pub switch_of : BoardView → Hop → Option ℕ → Bool → Work → Work
 switch_of b h None kept w = choice_of h kept w
-switch_of b h (Some m) kept w = work.Clear h.on m (kind_of b m)
+switch_of b h (Some m) kept w = work.Close h.on m (kind_of b m)
 
 -- what waits for that job, above these tasks: nothing where no select is made
 abbrev pub select_tasks : Hop → Bool → ℕ → Work → List Task → List Task
@@ -199,7 +200,7 @@ select_byte h (suc left) = None
 abbrev pub control_of : Job → ℕ → Option ℕ
 control_of (Call bus ms) left = None
 control_of (Select h) left = select_byte h left
-control_of (Clear on mux kind) left = Some close_value
+control_of (SwitchOff off) left = Some close_value
 
 -- the first step of a job at a place, with nothing behind it
 abbrev pub first_at : BoardView → List MessageView → CourseView → SeenView → ℕ → Work → Option Act

@@ -19,7 +19,8 @@ IsNarrow h = h.channel < MOST_CHANNELS
 abbrev pub IsNarrowWork : Work → Type 0
 IsNarrowWork work.Call = Unit {0}
 IsNarrowWork (work.Select h) = h.channel < MOST_CHANNELS
-IsNarrowWork (work.Clear on mux kind) = Unit {0}
+IsNarrowWork (work.Deselect h) = Unit {0}
+IsNarrowWork (work.Close on mux kind) = Unit {0}
 
 -- a task over k others, on a path over d muxes
 abbrev pub Fits : ℕ → Task → ℕ → Type 0

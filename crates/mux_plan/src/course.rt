@@ -74,10 +74,10 @@ fn choice(seen: &Seen<'_>, hop: &Hop, work: &Work) -> Work
 
 /// The close of a marked mux on the bus of this one.
 pub fn close(board: &Board, hop: &Hop, mux: MuxId) -> Work
-    ensures value { result ≡ work.Clear hop.now.on mux (kind_at board.now mux) }
+    ensures value { result ≡ work.Close hop.now.on mux (kind_at board.now mux) }
     ensures narrow { IsNarrowWork result }
 {
-    Work::Clear {
+    Work::Close {
         on: hop.on,
         mux,
         kind: kind_of(board, mux),

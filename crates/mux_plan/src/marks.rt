@@ -132,6 +132,8 @@ pub fn mark_work(dues: &mut Dues, tasks: &[Task], left: u8, work: &Work, outcome
             left_open(hop, left, outcome),
             outcome,
         ),
-        Work::Clear { on, mux, .. } => turn(dues, tasks, *on, *mux, None, outcome),
+        Work::Deselect(Hop { on, mux, .. }) | Work::Close { on, mux, .. } => {
+            turn(dues, tasks, *on, *mux, None, outcome);
+        }
     }
 }

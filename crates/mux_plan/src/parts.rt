@@ -421,12 +421,8 @@ impl Parts {
             hop,
             came: self.came,
         });
-        let clear = Work::Clear {
-            on: hop.on,
-            mux: hop.mux,
-            kind: hop.kind,
-        };
-        self.stack.push(part(hop.parent, place, &clear));
+        let work = Work::Deselect(hop);
+        self.stack.push(part(hop.parent, place, &work));
     }
 
     // Goes on with what waits on the top, if it does. Tells whether what is below it has to go on too.

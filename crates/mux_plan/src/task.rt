@@ -12,8 +12,10 @@ pub enum Work {
     Call,
     /// A channel is selected.
     Select(Hop),
-    /// A mux is closed: behind a job on one of its channels, or because a mark says that it may be open.
-    Clear {
+    /// It is deselected, behind work on it.
+    Deselect(Hop),
+    /// A mux is closed, because a mark says that it may be open.
+    Close {
         on: SegId,
         mux: MuxId,
         kind: MuxKind,

@@ -55,8 +55,8 @@ impl Work {
     {
         match self {
             Work::Call => false,
-            Work::Select(hop) => hop.kind.facts().by_line,
-            Work::Clear { kind, .. } => kind.facts().by_line,
+            Work::Select(hop) | Work::Deselect(hop) => hop.kind.facts().by_line,
+            Work::Close { kind, .. } => kind.facts().by_line,
         }
     }
 
@@ -67,7 +67,7 @@ impl Work {
         match self {
             Work::Call => count.saturating_sub(1),
             Work::Select(hop) => { if hop.kind.facts().asks { POLLS } else { 0 } }
-            Work::Clear { .. } => 0,
+            Work::Deselect(_) | Work::Close { .. } => 0,
         }
     }
 
@@ -77,8 +77,8 @@ impl Work {
     {
         match self {
             Work::Call => bus,
-            Work::Select(hop) => hop.on,
-            Work::Clear { on, .. } => *on,
+            Work::Select(hop) | Work::Deselect(hop) => hop.on,
+            Work::Close { on, .. } => *on,
         }
     }
 
@@ -88,8 +88,8 @@ impl Work {
     {
         match self {
             Work::Call => Purpose::Call,
-            Work::Select(hop) => Purpose::Control(hop.mux),
-            Work::Clear { mux, .. } => Purpose::Control(*mux),
+            Work::Select(hop) | Work::Deselect(hop) => Purpose::Control(hop.mux),
+            Work::Close { mux, .. } => Purpose::Control(*mux),
         }
     }
 
@@ -99,7 +99,7 @@ impl Work {
     {
         match self {
             Work::Call => count.saturating_sub(left),
-            Work::Select(_) | Work::Clear { .. } => 1,
+            Work::Select(_) | Work::Deselect(_) | Work::Close { .. } => 1,
         }
     }
 
@@ -109,7 +109,7 @@ impl Work {
     {
         match self {
             Work::Call => count,
-            Work::Select(_) | Work::Clear { .. } => 1,
+            Work::Select(_) | Work::Deselect(_) | Work::Close { .. } => 1,
         }
     }
 
@@ -121,7 +121,7 @@ impl Work {
         match self {
             Work::Call => None,
             Work::Select(hop) => (left == 0).then_some(select_byte(hop)),
-            Work::Clear { .. } => Some(0),
+            Work::Deselect(_) | Work::Close { .. } => Some(0),
         }
     }
 
@@ -131,8 +131,8 @@ impl Work {
     {
         match self {
             Work::Call => MuxId(0),
-            Work::Select(hop) => hop.mux,
-            Work::Clear { mux, .. } => *mux,
+            Work::Select(hop) | Work::Deselect(hop) => hop.mux,
+            Work::Close { mux, .. } => *mux,
         }
     }
 
@@ -142,7 +142,7 @@ impl Work {
         ensures { (c : CourseView) (ms : List MessageView) → result ≡ line_level (job_of c ms self.now) }
     {
         match self {
-            Work::Call | Work::Clear { .. } => 0,
+            Work::Call | Work::Deselect(_) | Work::Close { .. } => 0,
             Work::Select(hop) => select_byte(hop),
         }
     }
@@ -168,7 +168,7 @@ impl Work {
                     Follow::Over
                 }
             }
-            Work::Clear { .. } => Follow::Over,
+            Work::Deselect(_) | Work::Close { .. } => Follow::Over,
         }
     }
 
@@ -177,7 +177,7 @@ impl Work {
         ensures { (c : CourseView) (ms : List MessageView) → came_of result ≡ walk.good_outcome (job_of c ms self.now) left }
     {
         match self {
-            Work::Call | Work::Clear { .. } => Came::Good,
+            Work::Call | Work::Deselect(_) | Work::Close { .. } => Came::Good,
             Work::Select(_) => { if left == 0 { Came::Good } else { Came::Refused } }
         }
     }
@@ -202,7 +202,7 @@ impl Work {
         ensures { (c : CourseView) (ms : List MessageView) → result ≡ walk.good_errno (job_of c ms self.now) left }
     {
         match self {
-            Work::Call | Work::Clear { .. } => None,
+            Work::Call | Work::Deselect(_) | Work::Close { .. } => None,
             Work::Select(_) => (left > 0).then_some(Errno::Etimedout),
         }
     }
@@ -231,7 +231,7 @@ impl Work {
         match self {
             Work::Call => true,
             Work::Select(_) => came != Came::Good,
-            Work::Clear { .. } => came == Came::Failed,
+            Work::Deselect(_) | Work::Close { .. } => came == Came::Failed,
         }
     }
 }

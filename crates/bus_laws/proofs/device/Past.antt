@@ -18,7 +18,7 @@ use Rattle.i2c_spec.specs.Messages.{MessageView}
 use Rattle.i2c_spec.specs.World.{hearers}
 use Rattle.i2c_spec.specs.Flat.{granted_on, block_limit}
 use Rattle.i2c_spec.specs.History.{Asks}
-use Rattle.bus_spec.specs.Walk.{Job, Call, Select, Clear, Act, Send, Shift, Settle, ActOutcome, Sent, Lined, Note, WalkTree, Then, job_bus, job_purpose, message_of, chip_address, job_outcome, verdict_of, decides}
+use Rattle.bus_spec.specs.Walk.{Job, Call, Select, SwitchOff, Off, off_bus, off_mux, off_kind, Act, Send, Shift, Settle, ActOutcome, Sent, Lined, Note, WalkTree, Then, job_bus, job_purpose, message_of, chip_address, job_outcome, verdict_of, decides}
 use Rattle.bus_spec.specs.Slots.{after_job}
 use Rattle.bus_spec.specs.Grammar.{first_act, rest_of}
 use Rattle.bus_spec.specs.Readings.{message_cut}
@@ -40,7 +40,7 @@ use Rattle.bus_laws.proofs.device.Reach.{call-leads, control-leads, control-reac
 use Rattle.bus_laws.proofs.world.Sends.{told-send}
 use Rattle.bus_laws.proofs.past.Whole.{line_next}
 use Rattle.bus_laws.proofs.past.Placed.{no_settle}
-use Rattle.bus_laws.proofs.walk.VerdictLaw.{LetThrough, Bars, open-through, select-bars, clear-bars, line-bars}
+use Rattle.bus_laws.proofs.walk.VerdictLaw.{LetThrough, Bars, open-through, select-bars, off-bars, line-bars}
 
 -- a caller's message comes next: it is of the transfer that the caller asks for, its root's lock is held, and its
 -- address leads to what the bus grants
@@ -122,11 +122,12 @@ module _ (b : BoardView) (tree : IsTree b) (plain : IsPlainBoard b) (lines : Lin
       select_leads h left
       (control-leads b tree plain n.slot n.worlds stands.told h.mux h.on h.kind hop.kind m.by_message hop.home (λ g a. (m.reached g a).0))
 
-  pub clear-next : (on mux : ℕ) (kind : _) (left : ℕ) → IsNext b asks n c (Send (Clear on mux kind) left)
-      → IsControl (n.worlds (root_of b (job_bus (Clear on mux kind)))) (message_of b (Clear on mux kind) left).addr
-  clear-next on mux kind left first =
-      let m : MaySend b cs.whose (Clear on mux kind) left (at (Clear on mux kind) left first).0.marks (n.held c) n.slot = may (Clear on mux kind) left first in
-      control-leads b tree plain n.slot n.worlds stands.told mux on kind m.finds.2 m.by_message m.finds.1 (λ g a. (m.reached g a).0)
+  pub off-next : (off : Off) (left : ℕ) → IsNext b asks n c (Send (SwitchOff off) left)
+      → IsControl (n.worlds (root_of b (job_bus (SwitchOff off)))) (message_of b (SwitchOff off) left).addr
+  off-next off left first =
+      let m : MaySend b cs.whose (SwitchOff off) left (at (SwitchOff off) left first).0.marks (n.held c) n.slot = may (SwitchOff off) left first in
+      control-leads b tree plain n.slot n.worlds stands.told (off_mux off) (off_bus off) (off_kind off) m.finds.2 m.by_message m.finds.1
+      (λ g a. (m.reached g a).0)
 
   -- its mux's chip alone does, where it is there
   pub control-next : (job : Job) (left m : ℕ) → job_purpose job ≡ purpose.Control m → IsNext b asks n c (Send job left)
@@ -176,14 +177,15 @@ module _ (b : BoardView) (tree : IsTree b) (plain : IsPlainBoard b) (lines : Lin
       select-bars b tree asked.whose way.0 h way.1 (open-through b tree n.slot n.worlds stands.told h.on (λ g i. (m.reached g i).0)) left e bytes
       (can_give (Select h) left first e bytes end_told bytes_told) decided ends))
 
-  pub clear-decides : (on mux : ℕ) (kind : _) (left : ℕ) (first : IsNext b asks n c (Send (Clear on mux kind) left)) (e : End) (bytes : List ℕ) (verdict : Option Errno)
-      → first_act (rest_of (current b asks n c) (Sent e bytes)) ≡ Some (Settle verdict) → DecidesNext b asks n c (message_cut (purpose.Control mux) 1 e) verdict
-  clear-decides on mux kind left first e bytes verdict settling =
-      let a = at (Clear on mux kind) left first in
-      let s : GoesOn a.0 (Clear on mux kind) left (Sent e bytes) (a.1 (Sent e bytes)) × Settles asked.done (a.1 (Sent e bytes)) = (settles (Clear on mux kind) left first).1 e bytes in
-      decided_next a.0 (Clear on mux kind) left (Sent e bytes) (a.1 (Sent e bytes)) (message_cut (purpose.Control mux) 1 e) verdict s.0 s.1
-      (ap (λ (w : WalkTree). first_act w) (sym (rest_is (Send (Clear on mux kind) left) a.0 a.1 (Sent e bytes) a.2)) ∙ settling)
-      (λ forward decided ends. clear-bars b asked.whose ((calls (Clear on mux kind) left first).1 forward).0 on mux kind left e bytes decided)
+  pub off-decides : (off : Off) (left : ℕ) (first : IsNext b asks n c (Send (SwitchOff off) left)) (e : End) (bytes : List ℕ) (verdict : Option Errno)
+      → first_act (rest_of (current b asks n c) (Sent e bytes)) ≡ Some (Settle verdict) → DecidesNext b asks n c (message_cut (purpose.Control (off_mux off)) 1 e) verdict
+  off-decides off left first e bytes verdict settling =
+      let a = at (SwitchOff off) left first in
+      let s : GoesOn a.0 (SwitchOff off) left (Sent e bytes) (a.1 (Sent e bytes)) × Settles asked.done (a.1 (Sent e bytes)) = (settles (SwitchOff off) left first).1 e bytes in
+      decided_next a.0 (SwitchOff off) left (Sent e bytes) (a.1 (Sent e bytes))
+      (message_cut (purpose.Control (off_mux off)) 1 e) verdict s.0 s.1
+      (ap (λ (w : WalkTree). first_act w) (sym (rest_is (Send (SwitchOff off) left) a.0 a.1 (Sent e bytes) a.2)) ∙ settling)
+      (λ forward decided ends. off-bars b asked.whose ((calls (SwitchOff off) left first).1 forward).0 off left e bytes decided)
 
   pub line-decides : (job : Job) (first : IsNext b asks n c (Shift job)) (failed : Bool) (verdict : Option Errno)
       → first_act (rest_of (current b asks n c) (Lined failed)) ≡ Some (Settle verdict) → DecidesNext b asks n c (cond failed cut_at.Way cut_at.No) verdict

@@ -22,7 +22,7 @@ use Rattle.i2c_spec.specs.Targets.{TargetState}
 use Rattle.i2c_spec.specs.Messages.{MessageView}
 use Rattle.i2c_spec.specs.World.{World, start_devices, has_heard, heard_of, hearers}
 use Rattle.i2c_spec.specs.Flat.{answer_of, granted_on}
-use Rattle.bus_spec.specs.Walk.{Mark, Job, Call, Select, Clear, job_bus, job_purpose, message_of, chip_address, is_gpio}
+use Rattle.bus_spec.specs.Walk.{Mark, Job, Call, Select, SwitchOff, off_bus, off_mux, off_kind, job_bus, job_purpose, message_of, chip_address, is_gpio}
 use Rattle.bus_spec.specs.Slots.{Slots}
 use Rattle.bus_spec.specs.Readings.{MessageEntry}
 use Rattle.bus_spec.specs.Tells.{HearsIn, heard_list}
@@ -203,9 +203,9 @@ module _ (b : BoardView) (tree : IsTree b) (plain : IsPlainBoard b) (v : Slots) 
       let hop : IsHop b h = tree.hop h.bus h may.finds.1 in
       control_both h.mux h.on h.kind hop.kind may.by_message hop.home (λ g a. (may.reached g a).0) (message_of b (Select h) left).reading m (message_of b (Select h) left).addr
       (let f : purpose.Control h.mux ≡ purpose.Control m = is in cc) (select_addr h left)
-  control-reaches whose (Clear on mux kind) left marks held may m is =
-      control_both mux on kind may.finds.2 may.by_message may.finds.1 (λ g a. (may.reached g a).0) (message_of b (Clear on mux kind) left).reading m (chip_address b mux)
-      (let f : purpose.Control mux ≡ purpose.Control m = is in cc) refl
+  control-reaches whose (SwitchOff off) left marks held may m is =
+      control_both (off_mux off) (off_bus off) (off_kind off) may.finds.2 may.by_message may.finds.1 (λ g a. (may.reached g a).0) (message_of b (SwitchOff off) left).reading m (chip_address b (off_mux off))
+      (let f : purpose.Control (off_mux off) ≡ purpose.Control m = is in cc) refl
 
   -- each message reaches whom it is for, or nobody
   pub send-reaches : (whose : TransferView) (job : Job) (left : ℕ) (marks : List Mark) (held : List LockId) → MaySend b whose job left marks held v
@@ -224,6 +224,7 @@ module _ (b : BoardView) (tree : IsTree b) (plain : IsPlainBoard b) (v : Slots) 
       let hop : IsHop b h = tree.hop h.bus h may.finds.1 in
       subst (λ (p : Purpose). by_purpose b (ws (root_of b h.on)) whose.force x p) (sym why)
       (control_heard h.mux h.on h.kind hop.kind may.by_message hop.home (λ g a. (may.reached g a).0) x at (addr ∙ select_addr h left) told)
-  send-reaches whose (Clear on mux kind) left marks held may x at addr why told =
-      subst (λ (p : Purpose). by_purpose b (ws (root_of b on)) whose.force x p) (sym why)
-      (control_heard mux on kind may.finds.2 may.by_message may.finds.1 (λ g a. (may.reached g a).0) x at addr told)
+  send-reaches whose (SwitchOff off) left marks held may x at addr why told =
+      subst (λ (p : Purpose). by_purpose b (ws (root_of b (off_bus off))) whose.force x p) (sym why)
+      (control_heard (off_mux off) (off_bus off) (off_kind off) may.finds.2 may.by_message may.finds.1
+      (λ g a. (may.reached g a).0) x at addr told)

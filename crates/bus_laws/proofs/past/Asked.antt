@@ -13,7 +13,7 @@ use Rattle.i2c_spec.specs.TreeFacts.{IsTree}
 use Rattle.i2c_spec.specs.Plain.{IsPlainBoard}
 use Rattle.i2c_spec.specs.World.{World}
 use Rattle.i2c_spec.specs.History.{Asks, changed_at}
-use Rattle.bus_spec.specs.Walk.{Mark, Job, Call, Select, Clear, Act, Take, Free, Send, Shift, Settle, ActOutcome, Passed, Sent, Lined, Note, WalkTree, Ends, Look, Then, job_bus, job_purpose}
+use Rattle.bus_spec.specs.Walk.{Mark, Job, Call, Select, SwitchOff, Act, Take, Free, Send, Shift, Settle, ActOutcome, Passed, Sent, Lined, Note, WalkTree, Ends, Look, Then, job_bus, job_purpose}
 use Rattle.bus_spec.specs.Slots.{Slots, answer_to, after_job}
 use Rattle.bus_spec.specs.Grammar.{walk_for, seen, is_over, first_act, first_note, rest_of}
 use Rattle.bus_spec.specs.Readings.{MessageEntry, OfMessage, replies}
@@ -209,7 +209,7 @@ module _ (b : BoardView) (tree : IsTree b) (plain : IsPlainBoard b) (lines : Lin
   by_force w x (Call bus ms) o m same why told = subst (λ (y : Bool). by_purpose b w y m m.purpose) (sym (same bus ms refl)) told
   by_force w x (Select h) o m same why told =
       subst (λ (p : Purpose). by_purpose b w (is_forced o) m p) (sym why) (subst (λ (p : Purpose). by_purpose b w x m p) why told)
-  by_force w x (Clear on mux kind) o m same why told =
+  by_force w x (SwitchOff off) o m same why told =
       subst (λ (p : Purpose). by_purpose b w (is_forced o) m p) (sym why) (subst (λ (p : Purpose). by_purpose b w x m p) why told)
 
   granted_as : (x : TransferView) (job : Job) (left : ℕ) (marks : List Mark) (held : List _) (v : Slots) (whose : TransferView) → MaySend b whose job left marks held v → IsGranted b x job

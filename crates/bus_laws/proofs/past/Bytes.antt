@@ -6,7 +6,7 @@ use Rattle.i2c_base.specs.declared.reply.Reply.TheVariants as reply
 use Rattle.i2c_base.specs.Fitting.{Fits, FitsReads}
 use Rattle.i2c_base.specs.Need.{bytes_given}
 use Rattle.i2c_base.specs.Transfer.{TransferView, is_read}
-use Rattle.bus_spec.specs.Walk.{Job, Call, Select, Clear}
+use Rattle.bus_spec.specs.Walk.{Job, Call, Select, SwitchOff}
 use Rattle.bus_spec.specs.Past.{got_after}
 use Rattle.bus_spec.specs.Stepwise.{reply_by}
 
@@ -15,7 +15,7 @@ pub got-grows : (job : Job) (reading : Bool) (bytes got : List ℕ) → length (
 got-grows (Call bus ms) true bytes got = (let all = length-append got bytes in omega (arith, all))
 got-grows (Call bus ms) false bytes got = omega arith
 got-grows (Select h) reading bytes got = omega arith
-got-grows (Clear on mux kind) reading bytes got = omega arith
+got-grows (SwitchOff off) reading bytes got = omega arith
 
 -- a reply gives what was read, or nothing
 pub given-few : (verdict : Option Errno) (o : Option TransferView) (got : List ℕ) → length (bytes_given (reply_by verdict o got)) ≤ length got

@@ -15,7 +15,7 @@ use Rattle.i2c_spec.specs.Tree.{home_of_mux, is_left_open}
 use Rattle.i2c_spec.specs.TreeFacts.{IsTree}
 use Rattle.i2c_spec.specs.Plain.{IsPlainBoard}
 use Rattle.i2c_spec.specs.History.{Asks}
-use Rattle.bus_spec.specs.Walk.{Mark, Job, Call, Select, Clear, Act, Sent, Lined, Note, job_purpose, line_mux}
+use Rattle.bus_spec.specs.Walk.{Mark, Job, Call, Select, SwitchOff, off_bus, off_mux, Act, Sent, Lined, Note, job_purpose, line_mux}
 use Rattle.bus_spec.specs.Slots.{Slots, At, MuxSlot, Clean, Marked, Polled, Found, mark_in, turned, set_marks, polled_slot, after_job}
 use Rattle.bus_spec.specs.Grammar.{first_act, first_note}
 use Rattle.bus_spec.specs.Readings.{holder}
@@ -79,19 +79,19 @@ module _ (m c : ℕ) (v : Slots) (p : ℕ) where
     sent_before whose (Select h) left may off end.Refused bytes keeps = turned_before h.mux h.on Clean None off keeps
     sent_before whose (Select h) left may off end.Proto bytes keeps = turned_before h.mux h.on Clean None off keeps
     sent_before whose (Select h) left may off (end.Cut q) bytes keeps = marks_before b held marks may.may_fail keeps
-    sent_before whose (Clear on mux kind) left may off end.Ok bytes keeps = turned_before mux on Clean None off keeps
-    sent_before whose (Clear on mux kind) left may off end.Nack bytes keeps = turned_before mux on Clean None off keeps
-    sent_before whose (Clear on mux kind) left may off end.Slow bytes keeps = turned_before mux on Clean None off keeps
-    sent_before whose (Clear on mux kind) left may off end.Refused bytes keeps = turned_before mux on Clean None off keeps
-    sent_before whose (Clear on mux kind) left may off end.Proto bytes keeps = turned_before mux on Clean None off keeps
-    sent_before whose (Clear on mux kind) left may off (end.Cut q) bytes keeps = marks_before b held marks may.may_fail keeps
+    sent_before whose (SwitchOff x) left may off end.Ok bytes keeps = turned_before (off_mux x) (off_bus x) Clean None off keeps
+    sent_before whose (SwitchOff x) left may off end.Nack bytes keeps = turned_before (off_mux x) (off_bus x) Clean None off keeps
+    sent_before whose (SwitchOff x) left may off end.Slow bytes keeps = turned_before (off_mux x) (off_bus x) Clean None off keeps
+    sent_before whose (SwitchOff x) left may off end.Refused bytes keeps = turned_before (off_mux x) (off_bus x) Clean None off keeps
+    sent_before whose (SwitchOff x) left may off end.Proto bytes keeps = turned_before (off_mux x) (off_bus x) Clean None off keeps
+    sent_before whose (SwitchOff x) left may off (end.Cut q) bytes keeps = marks_before b held marks may.may_fail keeps
 
     lined_before : (job : Job) → MayShift b job marks held v → eqb (line_mux job) m ≡ false → (failed : Bool) → KeptIn (after_job job zero marks (Lined failed) v) → KeptIn v
     lined_before (Call bus ms) may off failed keeps = keeps
     lined_before (Select h) may off true keeps = marks_before b held marks may.may_fail keeps
     lined_before (Select h) may off false keeps = turned_before h.mux h.on Clean (Some h.channel) off keeps
-    lined_before (Clear on mux kind) may off true keeps = marks_before b held marks may.may_fail keeps
-    lined_before (Clear on mux kind) may off false keeps = turned_before mux on Clean None off keeps
+    lined_before (SwitchOff x) may off true keeps = marks_before b held marks may.may_fail keeps
+    lined_before (SwitchOff x) may off false keeps = turned_before (off_mux x) (off_bus x) Clean None off keeps
 
 -- A step of a mux has the lock of the bus that it stands on
 module _ (b : BoardView) (tree : IsTree b) (m : ℕ) (held : List LockId) (marks : List Mark) (v : Slots) where
@@ -104,12 +104,12 @@ module _ (b : BoardView) (tree : IsTree b) (m : ℕ) (held : List LockId) (marks
   sent_lock : (whose : TransferView) (job : Job) (left : ℕ) → MaySend b whose job left marks held v → switches m (job_purpose job) ≡ true → HasIts
   sent_lock whose (Call bus ms) left may on = absurd (let f : false ≡ true = on in cc)
   sent_lock whose (Select h) left may on = its_lock h.mux h.on (tree.hop h.bus h may.finds.1).home (same_of h.mux m on) may.owns.0
-  sent_lock whose (Clear p mux kind) left may on = its_lock mux p may.finds.1 (same_of mux m on) may.owns.0
+  sent_lock whose (SwitchOff off) left may on = its_lock (off_mux off) (off_bus off) may.finds.1 (same_of (off_mux off) m on) may.owns.0
 
   lined_lock : (job : Job) → MayShift b job marks held v → eqb (line_mux job) m ≡ true → HasIts
   lined_lock (Call bus ms) may on = absurd (let f : false ≡ true = may.by_line in cc)
   lined_lock (Select h) may on = its_lock h.mux h.on (tree.hop h.bus h may.finds.1).home (same_of h.mux m on) may.owns.0
-  lined_lock (Clear p mux kind) may on = its_lock mux p may.finds.1 (same_of mux m on) may.owns.0
+  lined_lock (SwitchOff off) may on = its_lock (off_mux off) (off_bus off) may.finds.1 (same_of (off_mux off) m on) may.owns.0
 
 module _ (b : BoardView) (tree : IsTree b) (plain : IsPlainBoard b) (lines : LinesAreLocked b) (asks : Asks) (some : AsksForMessages asks) (callers : ℕ) where
   -- A MUX THAT DISCONNECTS

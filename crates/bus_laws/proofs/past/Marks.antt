@@ -16,8 +16,8 @@ use Rattle.i2c_spec.specs.TreeFacts.{IsTree}
 use Rattle.i2c_spec.specs.Plain.{IsPlainBoard, IsPlanted}
 use Rattle.i2c_spec.specs.History.{Asks, changed_at}
 use Rattle.i2c_spec.proofs.HopLemmas.{buses_of-cons, buses_of-reverse}
-use Rattle.bus_spec.specs.Walk.{Mark, Job, Call, Select, Clear, Act, ActOutcome, Passed, Sent, Lined, Note, first_byte}
-use Rattle.bus_spec.specs.Slots.{Slots, At, MuxSlot, Clean, Marked, Polled, Found, mark_in, turned, turned_at, set_marks, polled_slot, select_told, after_select, after_clear, after_job}
+use Rattle.bus_spec.specs.Walk.{Mark, Job, Call, Select, SwitchOff, off_bus, off_mux, Act, ActOutcome, Passed, Sent, Lined, Note, first_byte}
+use Rattle.bus_spec.specs.Slots.{Slots, At, MuxSlot, Clean, Marked, Polled, Found, mark_in, turned, turned_at, set_marks, polled_slot, select_told, after_select, after_off, after_job}
 use Rattle.bus_spec.specs.Grammar.{first_note}
 use Rattle.bus_spec.specs.Past.{current, now, mark, kept_channel, sent_by, lined_by}
 use Rattle.bus_spec.specs.Stepwise.{IsStepwise}
@@ -117,21 +117,21 @@ module _ (b : BoardView) (held : List LockId) (w : Slots) (marks : List Mark) (f
   select_home h left (Lined false) = clean_home b v h.on h.mux Clean (Some h.channel) homes refl
   select_home h left Passed = homes
 
-  clear_home : (on mux : ℕ) (out : ActOutcome) → AreHome b (after_clear on mux marks out v)
-  clear_home on mux (Sent end.Ok bytes) = clean_home b v on mux Clean None homes refl
-  clear_home on mux (Sent end.Nack bytes) = clean_home b v on mux Clean None homes refl
-  clear_home on mux (Sent end.Slow bytes) = clean_home b v on mux Clean None homes refl
-  clear_home on mux (Sent end.Refused bytes) = clean_home b v on mux Clean None homes refl
-  clear_home on mux (Sent end.Proto bytes) = clean_home b v on mux Clean None homes refl
-  clear_home on mux (Sent (end.Cut q) bytes) = failed_home
-  clear_home on mux (Lined true) = failed_home
-  clear_home on mux (Lined false) = clean_home b v on mux Clean None homes refl
-  clear_home on mux Passed = homes
+  off_home : (on mux : ℕ) (out : ActOutcome) → AreHome b (after_off on mux marks out v)
+  off_home on mux (Sent end.Ok bytes) = clean_home b v on mux Clean None homes refl
+  off_home on mux (Sent end.Nack bytes) = clean_home b v on mux Clean None homes refl
+  off_home on mux (Sent end.Slow bytes) = clean_home b v on mux Clean None homes refl
+  off_home on mux (Sent end.Refused bytes) = clean_home b v on mux Clean None homes refl
+  off_home on mux (Sent end.Proto bytes) = clean_home b v on mux Clean None homes refl
+  off_home on mux (Sent (end.Cut q) bytes) = failed_home
+  off_home on mux (Lined true) = failed_home
+  off_home on mux (Lined false) = clean_home b v on mux Clean None homes refl
+  off_home on mux Passed = homes
 
   job_home : (job : Job) (left : ℕ) (out : ActOutcome) → AreHome b (after_job job left marks out v)
   job_home (Call bus ms) left out = homes
   job_home (Select h) left out = select_home h left out
-  job_home (Clear on mux kind) left out = clear_home on mux out
+  job_home (SwitchOff off) left out = off_home (off_bus off) (off_mux off) out
 
 -- EVERY PAST
 module _ (b : BoardView) (tree : IsTree b) (plain : IsPlainBoard b) (lines : LinesAreLocked b) (asks : Asks) (some : AsksForMessages asks) (callers : ℕ) where

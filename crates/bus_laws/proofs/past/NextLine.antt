@@ -7,7 +7,7 @@ use Rattle.i2c_base.proofs.MuxLemmas.{gpio_only}
 use Rattle.i2c_spec.specs.Tree.{root_of, of_mux}
 use Rattle.i2c_spec.specs.TreeFacts.{IsTree, IsHop}
 use Rattle.i2c_spec.specs.History.{Asks}
-use Rattle.bus_spec.specs.Walk.{Job, Call, Select, Clear, Shift, WalkTree, Then, job_bus, is_line, line_mux, line_level}
+use Rattle.bus_spec.specs.Walk.{Job, Call, Select, SwitchOff, off_kind, Shift, WalkTree, Then, job_bus, is_line, line_mux, line_level}
 use Rattle.bus_spec.specs.Slots.{Slots}
 use Rattle.bus_spec.specs.Grammar.{first_act}
 use Rattle.bus_spec.specs.Past.{Now, current}
@@ -22,9 +22,9 @@ use Rattle.bus_laws.specs.Next.{HasLineIn}
 module _ (b : BoardView) (tree : IsTree b) where
   line_fits : (job : Job) (v : Slots) → is_line job ≡ true → Finds b job zero v → HasLineIn b (root_of b (job_bus job)) (line_mux job) (line_level job)
   line_fits (Call bus messages) v is finds = absurd (let f : false ≡ true = is in cc)
-  line_fits (Clear on mux kind) v is finds =
+  line_fits (SwitchOff off) v is finds =
       record {
-        is_gpio = finds.2 ∙ ap (λ (k : MuxKind). Some k) (gpio_only kind is);
+        is_gpio = finds.2 ∙ ap (λ (k : MuxKind). Some k) (gpio_only (off_kind off) is);
         on_root = ap (root_of b) finds.1;
         within = omega arith;
       }

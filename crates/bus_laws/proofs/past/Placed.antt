@@ -12,7 +12,7 @@ use Rattle.i2c_base.specs.Board.{BoardView}
 use Rattle.i2c_base.specs.Transfer.{TransferView}
 use Rattle.i2c_spec.specs.Flat.{refusal}
 use Rattle.i2c_spec.specs.History.{Asks, changed_at}
-use Rattle.bus_spec.specs.Walk.{Job, Call, Select, Clear, Act, Take, Free, Send, Shift, Settle, ActOutcome, Passed, Sent, Lined, Note, WalkTree, Ends, Look, Then, goes, verdict_of}
+use Rattle.bus_spec.specs.Walk.{Job, Call, Select, SwitchOff, Act, Take, Free, Send, Shift, Settle, ActOutcome, Passed, Sent, Lined, Note, WalkTree, Ends, Look, Then, goes, verdict_of}
 use Rattle.bus_spec.specs.Slots.{Slots, answer_to}
 use Rattle.bus_spec.specs.Grammar.{seen, is_over, first_act, first_note, rest_of}
 use Rattle.bus_spec.specs.Readings.{caller_of, replies, last_cut, cut_told}
@@ -67,7 +67,7 @@ goes_decided note (Call bus ms) (suc left) out w e = by_on (is_on (goes (Call bu
     by_on true on = inl (sends_next w (Call bus ms) left (e ∙ ap (λ (t : Bool). Some (cond t (Send (Call bus ms) left) (Settle (verdict_of (Call bus ms) (suc left) out)))) on))
     by_on false off = inr (verdict_of (Call bus ms) (suc left) out, e ∙ ap (λ (t : Bool). Some (cond t (Send (Call bus ms) left) (Settle (verdict_of (Call bus ms) (suc left) out)))) off)
 goes_decided note (Select h) left out w e = decided_so note (Select h) left out w e
-goes_decided note (Clear on mux kind) left out w e = decided_so note (Clear on mux kind) left out w e
+goes_decided note (SwitchOff off) left out w e = decided_so note (SwitchOff off) left out w e
 
 -- who would settle next is due
 abbrev pub AreDue : Now → Type 0

@@ -9,8 +9,8 @@ use Rattle.i2c_base.specs.Transfer.{TransferView}
 use Rattle.i2c_spec.specs.Tree.{Hop}
 use Rattle.i2c_spec.specs.World.{World}
 use Rattle.i2c_spec.specs.History.{changed_at}
-use Rattle.bus_spec.specs.Walk.{Mark, Job, Call, Select, Clear, ActOutcome, Passed, Sent, Lined, WalkTree, is_arbitrator}
-use Rattle.bus_spec.specs.Slots.{Slots, At, MuxSlot, Clean, Marked, polled_slot, turned_at, set_marks, select_told, after_job, after_select, after_clear}
+use Rattle.bus_spec.specs.Walk.{Mark, Job, Call, Select, SwitchOff, off_bus, off_mux, ActOutcome, Passed, Sent, Lined, WalkTree, is_arbitrator}
+use Rattle.bus_spec.specs.Slots.{Slots, At, MuxSlot, Clean, Marked, polled_slot, turned_at, set_marks, select_told, after_job, after_select, after_off}
 use Rattle.bus_spec.specs.Slots as slots
 use Rattle.bus_spec.specs.Readings.{is_lock}
 use Rattle.bus_laws.specs.Runs.{IsOpenOn, InLocks, IsRest, IsOfMux, FindsOpen, FindsSelect, Finds, MayFail, Owns, MaySend, MayShift}
@@ -62,21 +62,21 @@ module _ (b : BoardView) (held : List LockId) (v : Slots) (marks : List Mark) (p
   select_off h left (Lined false) w locked = own_off h.on h.mux Clean (Some h.channel) w locked
   select_off h left Passed w locked = refl
 
-  clear_off : (on mux : ℕ) (out : ActOutcome) (w : Slots) → InLocks (lock.Mux on) held → after_clear on mux marks out w p ≡ w p
-  clear_off on mux (Sent end.Ok bytes) w locked = own_off on mux Clean None w locked
-  clear_off on mux (Sent end.Nack bytes) w locked = own_off on mux Clean None w locked
-  clear_off on mux (Sent end.Slow bytes) w locked = own_off on mux Clean None w locked
-  clear_off on mux (Sent end.Refused bytes) w locked = own_off on mux Clean None w locked
-  clear_off on mux (Sent end.Proto bytes) w locked = own_off on mux Clean None w locked
-  clear_off on mux (Sent (end.Cut q) bytes) w locked = marks_off_held b held v marks p fail off w
-  clear_off on mux (Lined true) w locked = marks_off_held b held v marks p fail off w
-  clear_off on mux (Lined false) w locked = own_off on mux Clean None w locked
-  clear_off on mux Passed w locked = refl
+  off_elsewhere : (on mux : ℕ) (out : ActOutcome) (w : Slots) → InLocks (lock.Mux on) held → after_off on mux marks out w p ≡ w p
+  off_elsewhere on mux (Sent end.Ok bytes) w locked = own_off on mux Clean None w locked
+  off_elsewhere on mux (Sent end.Nack bytes) w locked = own_off on mux Clean None w locked
+  off_elsewhere on mux (Sent end.Slow bytes) w locked = own_off on mux Clean None w locked
+  off_elsewhere on mux (Sent end.Refused bytes) w locked = own_off on mux Clean None w locked
+  off_elsewhere on mux (Sent end.Proto bytes) w locked = own_off on mux Clean None w locked
+  off_elsewhere on mux (Sent (end.Cut q) bytes) w locked = marks_off_held b held v marks p fail off w
+  off_elsewhere on mux (Lined true) w locked = marks_off_held b held v marks p fail off w
+  off_elsewhere on mux (Lined false) w locked = own_off on mux Clean None w locked
+  off_elsewhere on mux Passed w locked = refl
 
   pub job_off : (job : Job) (left : ℕ) (out : ActOutcome) (w : Slots) → Owns job marks held → after_job job left marks out w p ≡ w p
   job_off (Call bus ms) left out w owns = refl
   job_off (Select h) left out w owns = select_off h left out w owns.0
-  job_off (Clear on mux kind) left out w owns = clear_off on mux out w owns.0
+  job_off (SwitchOff off) left out w owns = off_elsewhere (off_bus off) (off_mux off) out w owns.0
 
 -- and is the same step where what is known is the same
 told_same : (h : Hop) (left : ℕ) (bytes : List ℕ) (v w : Slots) (p : ℕ) → v p ≡ w p → select_told h left bytes v p ≡ select_told h left bytes w p
@@ -94,21 +94,21 @@ select_same h left marks (Lined true) v w p e = set_marks-along marks v w p e
 select_same h left marks (Lined false) v w p e = turned-along v w h.on h.mux p Clean (Some h.channel) e
 select_same h left marks Passed v w p e = e
 
-clear_same : (on mux : ℕ) (marks : List Mark) (out : ActOutcome) (v w : Slots) (p : ℕ) → v p ≡ w p → after_clear on mux marks out v p ≡ after_clear on mux marks out w p
-clear_same on mux marks (Sent end.Ok bytes) v w p e = turned-along v w on mux p Clean None e
-clear_same on mux marks (Sent end.Nack bytes) v w p e = turned-along v w on mux p Clean None e
-clear_same on mux marks (Sent end.Slow bytes) v w p e = turned-along v w on mux p Clean None e
-clear_same on mux marks (Sent end.Refused bytes) v w p e = turned-along v w on mux p Clean None e
-clear_same on mux marks (Sent end.Proto bytes) v w p e = turned-along v w on mux p Clean None e
-clear_same on mux marks (Sent (end.Cut q) bytes) v w p e = set_marks-along marks v w p e
-clear_same on mux marks (Lined true) v w p e = set_marks-along marks v w p e
-clear_same on mux marks (Lined false) v w p e = turned-along v w on mux p Clean None e
-clear_same on mux marks Passed v w p e = e
+off_same : (on mux : ℕ) (marks : List Mark) (out : ActOutcome) (v w : Slots) (p : ℕ) → v p ≡ w p → after_off on mux marks out v p ≡ after_off on mux marks out w p
+off_same on mux marks (Sent end.Ok bytes) v w p e = turned-along v w on mux p Clean None e
+off_same on mux marks (Sent end.Nack bytes) v w p e = turned-along v w on mux p Clean None e
+off_same on mux marks (Sent end.Slow bytes) v w p e = turned-along v w on mux p Clean None e
+off_same on mux marks (Sent end.Refused bytes) v w p e = turned-along v w on mux p Clean None e
+off_same on mux marks (Sent end.Proto bytes) v w p e = turned-along v w on mux p Clean None e
+off_same on mux marks (Sent (end.Cut q) bytes) v w p e = set_marks-along marks v w p e
+off_same on mux marks (Lined true) v w p e = set_marks-along marks v w p e
+off_same on mux marks (Lined false) v w p e = turned-along v w on mux p Clean None e
+off_same on mux marks Passed v w p e = e
 
 pub job_same : (job : Job) (left : ℕ) (marks : List Mark) (out : ActOutcome) (v w : Slots) (p : ℕ) → v p ≡ w p → after_job job left marks out v p ≡ after_job job left marks out w p
 job_same (Call bus ms) left marks out v w p e = e
 job_same (Select h) left marks out v w p e = select_same h left marks out v w p e
-job_same (Clear on mux kind) left marks out v w p e = clear_same on mux marks out v w p e
+job_same (SwitchOff off) left marks out v w p e = off_same (off_bus off) (off_mux off) marks out v w p e
 
 -- what a caller knows is so, so what it may do from what it knows it may do
 module _ (b : BoardView) (held : List LockId) (v w : Slots) (agree : (p : ℕ) → InLocks (lock.Mux p) held → v p ≡ w p) where
@@ -123,7 +123,7 @@ module _ (b : BoardView) (held : List LockId) (v w : Slots) (agree : (p : ℕ) �
   finds_known (Call bus ms) left marks owns f = tt
   finds_known (Select h) left marks owns f =
       (subst (λ (x : At). FindsSelect (is_arbitrator h.kind) h left x) (agree h.on owns.0) f.0, f.1, f.2)
-  finds_known (Clear on mux kind) left marks owns f = (subst (λ (x : At). FindsOpen mux x.slot) (agree on owns.0) f.0, f.1, f.2)
+  finds_known (SwitchOff off) left marks owns f = (subst (λ (x : At). FindsOpen off x.slot) (agree (off_bus off) owns.0) f.0, f.1, f.2)
 
   pub send_known : (whose : TransferView) (job : Job) (left : ℕ) (marks : List Mark) → MaySend b whose job left marks held v → MaySend b whose job left marks held w
   send_known whose job left marks may =

@@ -17,7 +17,7 @@ use Rattle.i2c_spec.specs.TreeFacts.{IsTree}
 use Rattle.i2c_spec.specs.Plain.{IsPlainBoard}
 use Rattle.i2c_spec.specs.Messages.{MessageView}
 use Rattle.i2c_spec.specs.History.{Asks, changed_at}
-use Rattle.bus_spec.specs.Walk.{Mark, Job, Call, Select, Clear, Act, Take, Free, Send, Shift, Settle, ActOutcome, Passed, Sent, Lined, WalkTree, Ends, Look, Then, goes, verdict_of, job_bus, job_purpose, line_mux, is_line}
+use Rattle.bus_spec.specs.Walk.{Mark, Job, Call, Select, SwitchOff, off_bus, Act, Take, Free, Send, Shift, Settle, ActOutcome, Passed, Sent, Lined, WalkTree, Ends, Look, Then, goes, verdict_of, job_bus, job_purpose, line_mux, is_line}
 use Rattle.bus_spec.specs.Slots.{Slots, after_job}
 use Rattle.bus_spec.specs.Grammar.{seen, is_over, first_act, first_note, rest_of}
 use Rattle.bus_spec.specs.Readings.{is_call, is_call_of, is_settle_of, is_on_root}
@@ -181,8 +181,8 @@ module _ (b : BoardView) (tree : IsTree b) (plain : IsPlainBoard b) (lines : Lin
         → IsInside b (root_of b (job_bus job)) (changed_at n.walk d (rest_of (current b asks n d) (Sent e bytes)) c) (n.held c)
     sent_root d (Select h) left e bytes next c is =
         send_other d (Select h) left e bytes next (root_of b h.on) c is (λ bus ms f. absurd (let g : Select h ≡ Call bus ms = f in cc))
-    sent_root d (Clear on mux kind) left e bytes next c is =
-        send_other d (Clear on mux kind) left e bytes next (root_of b on) c is (λ bus ms f. absurd (let g : Clear on mux kind ≡ Call bus ms = f in cc))
+    sent_root d (SwitchOff off) left e bytes next c is =
+        send_other d (SwitchOff off) left e bytes next (root_of b (off_bus off)) c is (λ bus ms f. absurd (let g : SwitchOff off ≡ Call bus ms = f in cc))
     sent_root d (Call bus ms) zero e bytes next c is = absurd (let f : None ≡ Some c = is in cc)
     sent_root d (Call bus ms) (suc left) e bytes next c is =
         by_on (is_on (goes (Call bus ms) (suc left) (Sent e bytes))) refl
@@ -302,7 +302,7 @@ module _ (b : BoardView) (tree : IsTree b) (plain : IsPlainBoard b) (lines : Lin
       by_job : (job : Job) → IsNext b asks n d (Send job may.2.1) → bus ≡ job_bus job → is_call (job_purpose job) ≡ true
           → Between (step b asks n (entry.Message d bus purpose part parts addr reading bytes heard e)) d (root_of b bus)
       by_job (Select h) next on is = absurd (let f : false ≡ true = is in cc)
-      by_job (Clear p mux kind) next on is = absurd (let f : false ≡ true = is in cc)
+      by_job (SwitchOff off) next on is = absurd (let f : false ≡ true = is in cc)
       by_job (Call s ms) next on is =
           subst (λ (i : ℕ). Between (step b asks n (entry.Message d bus purpose part parts addr reading bytes heard e)) d (root_of b i)) (sym on)
           (subst (λ (o : Option Act). Between (with_due d (moved b asks n (sent_by b n d o (first_note (current b asks n d)) reading bytes e) d (entry.Message d bus purpose part parts addr reading bytes heard e) (Sent e bytes))) d (root_of b s)) (sym next)
@@ -349,7 +349,7 @@ module _ (b : BoardView) (tree : IsTree b) (plain : IsPlainBoard b) (lines : Lin
         by_job : (job : Job) {marks : List Mark} {held : List LockId} {v : Slots} → MayShift b job marks held v → root_of b (home_of_mux b (line_mux job)) ≡ root_of b (job_bus job)
         by_job (Call bus ms) may = absurd (let f : false ≡ true = may.by_line in cc)
         by_job (Select h) may = ap (λ (i : ℕ). root_of b i) (tree.hop h.bus h may.finds.1).home
-        by_job (Clear on mux kind) may = ap (λ (i : ℕ). root_of b i) may.finds.1
+        by_job (SwitchOff off) may = ap (λ (i : ℕ). root_of b i) may.finds.1
 
     -- nobody switches a line of the root
     pub no_line : (d : ℕ) (job : Job) → here.inside r ≡ Some c → IsNext b asks here d (Shift job) → root_of b (job_bus job) ≡ r → ⊥

@@ -9,14 +9,13 @@ use Rattle.i2c_base.specs.declared.ids.LockId.TheVariants as lock
 use Rattle.i2c_base.specs.declared.entry.End.{End}
 use Rattle.i2c_base.specs.declared.entry.End.TheVariants as end
 use Rattle.i2c_base.specs.declared.errno.Errno.{Errno}
-use Rattle.i2c_base.specs.declared.board.MuxKind.{MuxKind}
 use Rattle.i2c_base.specs.Board.{BoardView}
 use Rattle.i2c_base.specs.Transfer.{TransferView}
 use Rattle.i2c_spec.specs.Tree.{Hop, hops, root_of, Crosses, IsAmongHops, buses}
 use Rattle.i2c_spec.specs.TreeFacts.{IsTree}
 use Rattle.i2c_spec.specs.Messages.{MessageView}
-use Rattle.bus_spec.specs.Walk.{Mark, Job, Call, Select, Clear, ActOutcome, Passed, Sent, Lined, JobOutcome, Good, Refused, Failed, Note, WalkTree, Go, On, Last, Over, goes, first_byte, job_outcome, sent_outcome, verdict_of, decides, is_gpio, is_arbitrator}
-use Rattle.bus_spec.specs.Slots.{Slots, At, MuxSlot, Clean, Marked, Polled, Found, turned, turned_at, set_marks, after_job}
+use Rattle.bus_spec.specs.Walk.{Mark, Job, Call, Select, SwitchOff, Off, off_bus, off_mux, off_kind, ActOutcome, Passed, Sent, Lined, JobOutcome, Good, Refused, Failed, Note, WalkTree, Go, On, Last, Over, goes, first_byte, job_outcome, sent_outcome, verdict_of, decides, is_gpio, is_arbitrator}
+use Rattle.bus_spec.specs.Slots.{Slots, At, MuxSlot, Clean, Marked, Polled, Found, turned, turned_at, set_marks, shut, after_job}
 use Rattle.bus_spec.specs.Grammar.{settled, over, by_go, messages}
 use Rattle.bus_laws.specs.Runs.{IsOpenOn, InLocks, answers, CanSend, CanSelect, FindsSelect, CanGoThrough, HeadsMarks, IsUnmarked, IsOfMux, MayFail, Owns, MaySend, Runs}
 use Rattle.bus_laws.proofs.world.BoardFacts.{absent_silent, held_silent}
@@ -317,30 +316,40 @@ module _ (b : BoardView) (whose : TransferView) (tree : IsTree b) (root : ℕ) (
       select_last first (same_all h.on h.mux first)
       (select_may first zero (same_all h.on h.mux first) own (subst (λ (t : Bool). FindsSelect t h zero (first h.on)) (sym arb) (refl, clean)))
 
--- CLOSES
+-- DESELECTS AND CLOSES
 
-module _ (b : BoardView) (whose : TransferView) (root : ℕ) (on mux : ℕ) (kind : MuxKind) (note : Note) (k : JobOutcome → WalkTree) (held : List LockId) (first : Slots)
-    (no_line : is_gpio kind ≡ false)
-    (goes_on : (o : JobOutcome) (w : Slots) → After b [] (lock.Bus root ∷ []) (Clear on mux kind) note.marks first o w → Runs b whose held w (k o)) where
-  clear_sent : (o : JobOutcome) → CanJob b [] (Clear on mux kind) o → ((p : ℕ) → turned first on mux Clean None p ≡ job_after (Clear on mux kind) note.marks o first p)
-      → Runs b whose held (turned first on mux Clean None) (k o)
-  clear_sent o can off =
-      goes_on o (turned first on mux Clean None) (record { off = λ p h. off p; rest = λ p i. absurd (no_mux_lock root p i); can = can })
+module _ (b : BoardView) (whose : TransferView) (root : ℕ) (off : Off) (note : Note) (k : JobOutcome → WalkTree)
+    (held : List LockId) (first : Slots)
+    (no_line : is_gpio (off_kind off) ≡ false)
+    (goes_on : (o : JobOutcome) (w : Slots) → After b [] (lock.Bus root ∷ []) (SwitchOff off) note.marks first o w
+    → Runs b whose held w (k o)) where
+  abbrev left_shut : Slots
+  left_shut = shut (off_bus off) (off_mux off) first
 
-  clear_failed : Runs b whose held (set_marks note.marks first) (k Failed)
-  clear_failed =
+  off_sent : (o : JobOutcome) → CanJob b [] (SwitchOff off) o → ((p : ℕ) → left_shut p ≡ job_after (SwitchOff off) note.marks o first p)
+      → Runs b whose held left_shut (k o)
+  off_sent o can same =
+      goes_on o left_shut (record { off = λ p h. same p; rest = λ p i. absurd (no_mux_lock root p i); can = can })
+
+  off_refused : Runs b whose held left_shut (k Refused)
+  off_refused = off_sent Refused (no_line, tt, tt) (λ p. refl)
+
+  off_failed : Runs b whose held (set_marks note.marks first) (k Failed)
+  off_failed =
       goes_on Failed (set_marks note.marks first) (record { off = λ p h. refl; rest = λ p i. absurd (no_mux_lock root p i); can = tt })
 
-  clear_over : (out : ActOutcome) → CanSend b (Clear on mux kind) zero out
-      → Runs b whose held (after_job (Clear on mux kind) zero note.marks out first) (over (Clear on mux kind) zero note k out)
-  clear_over (Sent end.Ok bytes) can = over-runs b whose held (turned first on mux Clean None) (Clear on mux kind) zero note k (Sent end.Ok bytes) (clear_sent Good (inr (tt, tt)) (λ p. refl))
-  clear_over (Sent end.Nack bytes) can = over-runs b whose held (turned first on mux Clean None) (Clear on mux kind) zero note k (Sent end.Nack bytes) (clear_sent Refused (no_line, tt, tt) (λ p. refl))
-  clear_over (Sent end.Slow bytes) can = over-runs b whose held (turned first on mux Clean None) (Clear on mux kind) zero note k (Sent end.Slow bytes) (clear_sent Refused (no_line, tt, tt) (λ p. refl))
-  clear_over (Sent end.Refused bytes) can = over-runs b whose held (turned first on mux Clean None) (Clear on mux kind) zero note k (Sent end.Refused bytes) (clear_sent Refused (no_line, tt, tt) (λ p. refl))
-  clear_over (Sent end.Proto bytes) can = over-runs b whose held (turned first on mux Clean None) (Clear on mux kind) zero note k (Sent end.Proto bytes) (clear_sent Refused (no_line, tt, tt) (λ p. refl))
-  clear_over (Sent (end.Cut q) bytes) can = over-runs b whose held (set_marks note.marks first) (Clear on mux kind) zero note k (Sent (end.Cut q) bytes) clear_failed
-  clear_over (Lined failed) can = absurd can
-  clear_over Passed can = absurd can
+  off_over : (out : ActOutcome) → CanSend b (SwitchOff off) zero out
+      → Runs b whose held (after_job (SwitchOff off) zero note.marks out first) (over (SwitchOff off) zero note k out)
+  off_over (Sent end.Ok bytes) can =
+      over-runs b whose held left_shut (SwitchOff off) zero note k (Sent end.Ok bytes) (off_sent Good (inr (tt, tt)) (λ p. refl))
+  off_over (Sent end.Nack bytes) can = over-runs b whose held left_shut (SwitchOff off) zero note k (Sent end.Nack bytes) off_refused
+  off_over (Sent end.Slow bytes) can = over-runs b whose held left_shut (SwitchOff off) zero note k (Sent end.Slow bytes) off_refused
+  off_over (Sent end.Refused bytes) can = over-runs b whose held left_shut (SwitchOff off) zero note k (Sent end.Refused bytes) off_refused
+  off_over (Sent end.Proto bytes) can = over-runs b whose held left_shut (SwitchOff off) zero note k (Sent end.Proto bytes) off_refused
+  off_over (Sent (end.Cut q) bytes) can =
+      over-runs b whose held (set_marks note.marks first) (SwitchOff off) zero note k (Sent (end.Cut q) bytes) off_failed
+  off_over (Lined failed) can = absurd can
+  off_over Passed can = absurd can
 
-  pub clear_runs : MaySend b whose (Clear on mux kind) zero note.marks held first → Runs b whose held first (messages zero (Clear on mux kind) note k)
-  clear_runs may = (may, clear_over)
+  pub off_runs : MaySend b whose (SwitchOff off) zero note.marks held first → Runs b whose held first (messages zero (SwitchOff off) note k)
+  off_runs may = (may, off_over)

@@ -18,10 +18,10 @@ use Rattle.i2c_spec.specs.History.{changed_at}
 use Rattle.std.proofs.lemmas.Bool.{eq-eqb, eqb-true}
 use Rattle.std.proofs.lemmas.Bool.Decides.{eqb_tells}
 use Rattle.bus_laws.proofs.world.Reach.{and_left, and_right}
-use Rattle.bus_spec.specs.Walk.{Look, KeptOf, Mark, Job, Select, Clear, JobOutcome, Good, Refused, Unsent, Failed, Note, WalkTree, job_bus, is_line, is_gpio, is_arbitrator}
+use Rattle.bus_spec.specs.Walk.{Look, KeptOf, Mark, Job, Select, SwitchOff, Deselect, Close, JobOutcome, Good, Refused, Unsent, Failed, Note, WalkTree, job_bus, is_line, is_gpio, is_arbitrator}
 use Rattle.bus_spec.specs.Slots.{Slots, At, MuxSlot, Clean, Marked, mark_in, turned, turned_at, set_marks}
 use Rattle.bus_spec.specs.Grammar.{Doer, aside, with_mark, if_sent, if_good, kind_of, closing, left_behind, opened, chosen, crossed, behind}
-use Rattle.bus_laws.specs.Runs.{answers, IsOpenOn, OthersKept, IsKept, InLocks, IsShut, IsRest, IsMuxOf, FindsOpen, IsUnmarked, IsOfMux, MayFail, Owns, IsGranted, Runs}
+use Rattle.bus_laws.specs.Runs.{answers, IsOpenOn, OthersKept, IsKept, InLocks, IsShut, IsRest, IsMuxOf, IsUnmarked, IsOfMux, MayFail, Owns, IsGranted, Runs}
 use Rattle.bus_laws.specs.Lines.{LinesAreLocked}
 use Rattle.bus_laws.proofs.tree.Slots.{changed-other, eqb-apart, turned-same, turned-other, set_marks-along, set_marks-head, shut_clean, marked_slot}
 use Rattle.bus_laws.proofs.tree.Doers.{Responds, AllRespond, CanJob, job_after, OwnsOff, FindsFirst, CallUnmarked, IsPassed, Before, After, DoerRuns}
@@ -198,39 +198,39 @@ module _ (b : BoardView) (whose : TransferView) (tree : IsTree b) (lines : Lines
   own_kept stays responds = (is_hop.home, stays, subst (λ (kind : MuxKind). (is_gpio kind ≡ true) ⊎ (answers b h.mux ≡ true)) (sym own_kind) responds)
 
   -- THE DESELECT: whatever came of the job, what goes on runs
-  clear_rest : (o : JobOutcome) (x y : Slots) → IsOpenOn b h (x h.on) → ((is_gpio h.kind ≡ true) ⊎ AllRespond b hs)
-      → CanJob b hs (Clear h.on h.mux h.kind) o → y h.on ≡ job_after (Clear h.on h.mux h.kind) (aside h).marks o x h.on → IsRest b h.on (y h.on)
-  clear_rest Good x y is_open way c e = subst (λ (z : At). IsRest b h.on z) (sym (e ∙ turned-same x h.on h.mux Clean None)) (rest_shut b h.on h.mux (x h.on) is_open.others)
-  clear_rest Refused x y is_open way c e = subst (λ (z : At). IsRest b h.on z) (sym (e ∙ turned-same x h.on h.mux Clean None)) (rest_shut b h.on h.mux (x h.on) is_open.others)
-  clear_rest Unsent x y is_open way c e =
+  deselect_rest : (o : JobOutcome) (x y : Slots) → IsOpenOn b h (x h.on) → ((is_gpio h.kind ≡ true) ⊎ AllRespond b hs)
+      → CanJob b hs (SwitchOff (Deselect h)) o → y h.on ≡ job_after (SwitchOff (Deselect h)) (aside h).marks o x h.on → IsRest b h.on (y h.on)
+  deselect_rest Good x y is_open way c e = subst (λ (z : At). IsRest b h.on z) (sym (e ∙ turned-same x h.on h.mux Clean None)) (rest_shut b h.on h.mux (x h.on) is_open.others)
+  deselect_rest Refused x y is_open way c e = subst (λ (z : At). IsRest b h.on z) (sym (e ∙ turned-same x h.on h.mux Clean None)) (rest_shut b h.on h.mux (x h.on) is_open.others)
+  deselect_rest Unsent x y is_open way c e =
       absurd (elim way [ inl gpio ↦ (let f : true ≡ false = sym gpio ∙ c.0 in cc) | inr all ↦ c.1 all ])
-  clear_rest Failed x y is_open way c e =
+  deselect_rest Failed x y is_open way c e =
       subst (λ (z : At). IsRest b h.on z) (sym (e ∙ set_marks-head (record { on = h.on; mux = h.mux }) [] x))
       (rest_marked b h.on h.mux (x h.on) is_open.others is_hop.home own_known)
 
   same_lock : (p : ℕ) → lock.Mux p ≡ lock.Mux h.on → h.on ≡ p
   same_lock p e = cc
 
-  clear_after : (out o : JobOutcome) (x y : Slots) → IsOpenOn b h (x h.on) → ((p : ℕ) → (Crosses p (h ∷ hs) → ⊥) → x p ≡ job_after job note.marks out v p)
+  deselect_after : (out o : JobOutcome) (x y : Slots) → IsOpenOn b h (x h.on) → ((p : ℕ) → (Crosses p (h ∷ hs) → ⊥) → x p ≡ job_after job note.marks out v p)
       → CanJob b (h ∷ hs) job out → ((is_gpio h.kind ≡ true) ⊎ AllRespond b hs)
-      → After b hs (sub_locks root h hs) (Clear h.on h.mux h.kind) (aside h).marks x o y → Runs b whose held y (k out)
-  clear_after out o x y is_open same can way after =
+      → After b hs (sub_locks root h hs) (SwitchOff (Deselect h)) (aside h).marks x o y → Runs b whose held y (k out)
+  deselect_after out o x y is_open same can way after =
       goes_on out y (record {
         off = λ p off. after.off p (off_tail p off)
-            ∙ job_after-off (Clear h.on h.mux h.kind) (aside h).marks o x p (not_on p off) ((not_on p off, tt))
+            ∙ job_after-off (SwitchOff (Deselect h)) (aside h).marks o x p (not_on p off) ((not_on p off, tt))
             ∙ same p off;
         rest = λ p i. elim i [
-          | inl e ↦ subst (λ (q : ℕ). IsRest b q (y q)) (same_lock p e) (clear_rest o x y is_open way after.can (after.off h.on off_on))
+          | inl e ↦ subst (λ (q : ℕ). IsRest b q (y q)) (same_lock p e) (deselect_rest o x y is_open way after.can (after.off h.on off_on))
           | inr more ↦ after.rest p more
         ];
         can = can;
       })
 
-  clear_before : (x : Slots) → ((p : ℕ) → InLocks (lock.Mux p) (sub_locks root h hs) → IsRest b p (x p)) → IsOpenOn b h (x h.on)
-      → Before b whose root hs (sub_locks root h hs) floor (Clear h.on h.mux h.kind) (aside h).marks held x
-  clear_before x rest is_open =
-      control_before x (Clear h.on h.mux h.kind) (record { on = h.on; mux = h.mux }) [] rest refl off_on
-      (subst (λ (s : MuxSlot). FindsOpen h.mux s) (sym is_open.clean) tt, is_hop.home, is_hop.kind) refl is_hop.home
+  deselect_before : (x : Slots) → ((p : ℕ) → InLocks (lock.Mux p) (sub_locks root h hs) → IsRest b p (x p)) → IsOpenOn b h (x h.on)
+      → Before b whose root hs (sub_locks root h hs) floor (SwitchOff (Deselect h)) (aside h).marks held x
+  deselect_before x rest is_open =
+      control_before x (SwitchOff (Deselect h)) (record { on = h.on; mux = h.mux }) [] rest refl off_on
+      (is_open.clean, is_hop.home, is_hop.kind) refl is_hop.home
       (subst (λ (s : MuxSlot). IsOfMux h.mux s) (sym is_open.clean) tt)
       (own_held, (refl, refl, tt)) tt tt tt tt own_root
 
@@ -278,8 +278,8 @@ module _ (b : BoardView) (whose : TransferView) (tree : IsTree b) (lines : Lines
         can = can;
       })
   behind_job false stays responds way out x is_open rest off can =
-      sub (Clear h.on h.mux h.kind) (aside h) (λ o. k out) held x (clear_before x rest is_open)
-      (λ o y done. clear_after out o x y is_open off can (way refl) done)
+      sub (SwitchOff (Deselect h)) (aside h) (λ o. k out) held x (deselect_before x rest is_open)
+      (λ o y done. deselect_after out o x y is_open off can (way refl) done)
 
   job_done : (w : Slots) → Like w → IsOpenOn b h (w h.on) → Responds b h → (h.stays ≡ false → (is_gpio h.kind ≡ true) ⊎ AllRespond b hs)
       → (out : JobOutcome) (x : Slots) → After b hs (sub_locks root h hs) job note.marks w out x
@@ -412,11 +412,11 @@ module _ (b : BoardView) (whose : TransferView) (tree : IsTree b) (lines : Lines
   close_mark m = record { on = h.on; mux = m }
 
   close_before : (m : ℕ) → (v h.on).slot ≡ Marked m
-      → Before b whose root hs (sub_locks root h hs) floor (Clear h.on m (kind_of b m)) (close_mark m ∷ note.marks) held v
+      → Before b whose root hs (sub_locks root h hs) floor (SwitchOff (Close h.on m (kind_of b m))) (close_mark m ∷ note.marks) held v
   close_before m marked =
       let home : home_of_mux b m ≡ h.on = rest_now.home m marked in
-      control_before v (Clear h.on m (kind_of b m)) (close_mark m) note.marks (λ p i. before.rest p (inr i)) refl off_on
-      (subst (λ (s : MuxSlot). FindsOpen m s) (sym marked) refl, home, rest_now.known m marked) refl home
+      control_before v (SwitchOff (Close h.on m (kind_of b m))) (close_mark m) note.marks (λ p i. before.rest p (inr i)) refl off_on
+      (marked, home, rest_now.known m marked) refl home
       (subst (λ (s : MuxSlot). IsOfMux m s) (sym marked) refl)
       (own_held, (refl, refl, own_unmarked)) tt tt before.may_fail marks_off (λ l. line_root m home l)
 
@@ -435,7 +435,7 @@ module _ (b : BoardView) (whose : TransferView) (tree : IsTree b) (lines : Lines
       (slot_of (w h.on) (turned_at (v h.on) m Clean None) Clean own refl)
 
   closed : (m : ℕ) → (v h.on).slot ≡ Marked m → (o : JobOutcome) (w : Slots)
-      → After b hs (sub_locks root h hs) (Clear h.on m (kind_of b m)) (close_mark m ∷ note.marks) v o w
+      → After b hs (sub_locks root h hs) (SwitchOff (Close h.on m (kind_of b m))) (close_mark m ∷ note.marks) v o w
       → Runs b whose held w (if_sent o (Look (KeptOf h.on h.mux) (crossed h on job note k)) k)
   closed m marked Good w after = after_close m w (λ p off. after.off p off) after.rest
   closed m marked Refused w after = after_close m w (λ p off. after.off p off) after.rest
@@ -450,7 +450,7 @@ module _ (b : BoardView) (whose : TransferView) (tree : IsTree b) (lines : Lines
   closing-runs None e = look-runs v like_now rest_now (shut_clean (v h.on).slot rest_now.shut e)
   closing-runs (Some m) e =
       let marked : (v h.on).slot ≡ Marked m = marked_slot (v h.on).slot m e in
-      sub (Clear h.on m (kind_of b m)) (with_mark h.on m note) (λ o. if_sent o (Look (KeptOf h.on h.mux) (crossed h on job note k)) k) held v (close_before m marked) (closed m marked)
+      sub (SwitchOff (Close h.on m (kind_of b m))) (with_mark h.on m note) (λ o. if_sent o (Look (KeptOf h.on h.mux) (crossed h on job note k)) k) held v (close_before m marked) (closed m marked)
 
   pub behind-runs : Runs b whose held v (behind b h on job note k)
   behind-runs = (own_held, closing-runs (mark_in (v h.on).slot) refl)

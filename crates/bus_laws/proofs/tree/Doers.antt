@@ -6,12 +6,12 @@ use Rattle.i2c_base.specs.declared.ids.LockId.{LockId}
 use Rattle.i2c_base.specs.declared.ids.LockId.TheVariants as lock
 use Rattle.i2c_base.specs.Board.{BoardView}
 use Rattle.i2c_base.specs.Transfer.{TransferView}
-use Rattle.i2c_spec.specs.Tree.{Hop, hops, buses, root_of, locks_of, home_of_mux, Crosses, IsAmongHops}
-use Rattle.bus_spec.specs.Walk.{Mark, Job, Call, Select, Clear, JobOutcome, Good, Refused, Unsent, Failed, Note, WalkTree, job_bus, is_line, is_gpio, is_arbitrator}
+use Rattle.i2c_spec.specs.Tree.{Hop, hops, buses, root_of, locks_of, Crosses, IsAmongHops}
+use Rattle.bus_spec.specs.Walk.{Mark, Job, Call, Select, SwitchOff, off_bus, off_mux, JobOutcome, Good, Refused, Unsent, Failed, Note, WalkTree, job_bus, is_line, is_gpio, is_arbitrator}
 use Rattle.bus_spec.specs.Slots.{Slots, At, Clean, turned, set_marks}
 use Rattle.bus_spec.specs.Grammar.{Doer}
 use Rattle.bus_spec.specs.Readings.{rank}
-use Rattle.bus_laws.specs.Runs.{IsOpenOn, InLocks, answers, IsRest, IsMuxOf, FindsOpen, Owns, MayFail, IsGranted, Runs}
+use Rattle.bus_laws.specs.Runs.{IsOpenOn, InLocks, answers, IsRest, FindsOff, Owns, MayFail, IsGranted, Runs}
 
 -- a hop lets a job through: a line always does, a chip where it answers
 abbrev pub Responds : BoardView → Hop → Type 0
@@ -28,16 +28,16 @@ job_after (Select h) marks Good v = turned v h.on h.mux Clean (Some h.channel)
 job_after (Select h) marks Refused v = turned v h.on h.mux Clean None
 job_after (Select h) marks Unsent v = v
 job_after (Select h) marks Failed v = set_marks marks v
-job_after (Clear on mux kind) marks Good v = turned v on mux Clean None
-job_after (Clear on mux kind) marks Refused v = turned v on mux Clean None
-job_after (Clear on mux kind) marks Unsent v = v
-job_after (Clear on mux kind) marks Failed v = set_marks marks v
+job_after (SwitchOff off) marks Good v = turned v (off_bus off) (off_mux off) Clean None
+job_after (SwitchOff off) marks Refused v = turned v (off_bus off) (off_mux off) Clean None
+job_after (SwitchOff off) marks Unsent v = v
+job_after (SwitchOff off) marks Failed v = set_marks marks v
 
 -- a select that was sent was answered as its mux answers
 abbrev pub SelectAnswers : BoardView → Job → Bool → Type 0
 SelectAnswers b (Select h) t = answers b h.mux ≡ t
 SelectAnswers b (Call bus messages) t = Unit {0}
-SelectAnswers b (Clear on mux kind) t = Unit {0}
+SelectAnswers b (SwitchOff off) t = Unit {0}
 
 -- which outcomes a job can have: a line isn't refused; what is sent found its way, what is unsent didn't
 abbrev pub CanJob : BoardView → List Hop → Job → JobOutcome → Type 0
@@ -50,12 +50,12 @@ CanJob b hs job Failed = Unit {0}
 abbrev pub OwnsOff : Job → List Hop → Type 0
 OwnsOff (Call bus messages) hs = Unit {0}
 OwnsOff (Select h) hs = Crosses h.on hs → ⊥
-OwnsOff (Clear on mux kind) hs = Crosses on hs → ⊥
+OwnsOff (SwitchOff off) hs = Crosses (off_bus off) hs → ⊥
 
 abbrev pub CallUnmarked : Job → List Mark → Type 0
 CallUnmarked (Call bus messages) marks = marks ≡ []
 CallUnmarked (Select h) marks = Unit {0}
-CallUnmarked (Clear on mux kind) marks = Unit {0}
+CallUnmarked (SwitchOff off) marks = Unit {0}
 
 -- the bus is clean, and an arbitrator that is to be asked is shut
 abbrev pub IsFresh : Hop → At → Type 0
@@ -65,7 +65,7 @@ IsFresh h x = (x.slot ≡ Clean) × (is_arbitrator h.kind ≡ true → x.kept h.
 abbrev pub FindsFirst : BoardView → Job → Slots → Type 0
 FindsFirst b (Call bus messages) v = Unit {0}
 FindsFirst b (Select h) v = IsFresh h (v h.on) × IsAmongHops h (hops b h.bus) × (h.bus < buses b)
-FindsFirst b (Clear on mux kind) v = FindsOpen mux (v on).slot × (home_of_mux b mux ≡ on) × IsMuxOf b mux kind
+FindsFirst b (SwitchOff off) v = FindsOff b off v
 
 -- a hop over the job's bus is behind the walk already: selected, its lock held, and none of the hops before it
 pub record IsPassed (b : BoardView) (held : List LockId) (v : Slots) (hs : List Hop) (g : Hop) : Type 0 where

@@ -15,7 +15,7 @@ use Rattle.i2c_spec.specs.TreeFacts.{IsTree}
 use Rattle.i2c_spec.specs.Messages.{messages_of}
 use Rattle.i2c_spec.specs.Flat.{refusal, is_plain, is_smbus_only}
 use Rattle.i2c_spec.specs.Grant.{grant_of, is_busy}
-use Rattle.bus_spec.specs.Walk.{Mark, Job, Call, Select, Clear, JobOutcome, Note, WalkTree, Ends, Then, Free, is_line}
+use Rattle.bus_spec.specs.Walk.{Mark, Job, Call, Select, SwitchOff, JobOutcome, Note, WalkTree, Ends, Then, Free, is_line}
 use Rattle.bus_spec.specs.Slots.{Slots, At}
 use Rattle.bus_spec.specs.Grammar.{Doer, plain, locked, part, inner, behind, at_bus, walk_by, walk_for}
 use Rattle.bus_spec.specs.Readings.{rank}
@@ -52,7 +52,7 @@ leaves_shut b (lock.Mux p) w rest = rest p refl
 more_owns : (l : LockId) (j : Job) (marks : List Mark) (held : List LockId) → Owns j marks held → Owns j marks (l ∷ held)
 more_owns l (Call bus ms) marks held o = tt
 more_owns l (Select h) marks held o = (inr o.0, o.1)
-more_owns l (Clear on mux kind) marks held o = (inr o.0, o.1)
+more_owns l (SwitchOff off) marks held o = (inr o.0, o.1)
 
 more_fail : (b : BoardView) (l : LockId) (held : List LockId) (v : Slots) (ms : List Mark) → MayFail b ms held v → MayFail b ms (l ∷ held) v
 more_fail b l held v [] f = tt

@@ -8,19 +8,19 @@ use Rattle.i2c_base.specs.Board.{BoardView}
 use Rattle.i2c_base.specs.Transfer.{TransferView}
 use Rattle.i2c_spec.specs.Tree.{Hop, hops, root_of, locks_of, Crosses, IsAmongHops}
 use Rattle.i2c_spec.specs.TreeFacts.{IsTree}
-use Rattle.bus_spec.specs.Walk.{Mark, Job, Call, Select, Clear, Shift, ActOutcome, Passed, Sent, Lined, JobOutcome, Good, Refused, Unsent, Failed, Note, WalkTree, Then, job_bus, is_line, is_arbitrator, more_of}
+use Rattle.bus_spec.specs.Walk.{Mark, Job, Call, Select, SwitchOff, off_bus, off_mux, Shift, ActOutcome, Passed, Sent, Lined, JobOutcome, Good, Refused, Unsent, Failed, Note, WalkTree, Then, job_bus, is_line, is_arbitrator, more_of}
 use Rattle.bus_spec.specs.Slots.{Slots, At, MuxSlot, Clean, turned, set_marks, after_job}
 use Rattle.bus_spec.specs.Grammar.{over, messages, at_bus}
 use Rattle.bus_laws.specs.Runs.{IsOpenOn, InLocks, IsRest, CanShift, Finds, FindsOpen, FindsSelect, IsUnmarked, IsOfMux, MayFail, Runs}
 use Rattle.bus_laws.proofs.tree.Slots.{turned-other, turned-along, set_marks-other, set_marks-along}
 use Rattle.bus_laws.proofs.tree.Doers.{IsFresh, Responds, CanJob, job_after, OwnsOff, FindsFirst, CallUnmarked, Before, After}
-use Rattle.bus_laws.proofs.tree.Base.{over-runs, call_runs, select_runs, clear_runs}
+use Rattle.bus_laws.proofs.tree.Base.{over-runs, call_runs, select_runs, off_runs}
 
 -- a job's own bus; a call has none
 abbrev pub OwnIs : Job → ℕ → Type 0
 OwnIs (Call bus messages) p = ⊥
 OwnIs (Select h) p = p ≡ h.on
-OwnIs (Clear on mux kind) p = p ≡ on
+OwnIs (SwitchOff off) p = p ≡ off_bus off
 
 -- off its own bus, and where it marks nothing, a job leaves what was known
 pub job_after-off : (job : Job) (marks : List Mark) (o : JobOutcome) (v : Slots) (p : ℕ) → (OwnIs job p → ⊥) → IsUnmarked p marks → job_after job marks o v p ≡ v p
@@ -29,10 +29,10 @@ job_after-off (Select h) marks Good v p own un = turned-other v h.on h.mux p Cle
 job_after-off (Select h) marks Refused v p own un = turned-other v h.on h.mux p Clean None own
 job_after-off (Select h) marks Unsent v p own un = refl
 job_after-off (Select h) marks Failed v p own un = set_marks-other marks v p un
-job_after-off (Clear on mux kind) marks Good v p own un = turned-other v on mux p Clean None own
-job_after-off (Clear on mux kind) marks Refused v p own un = turned-other v on mux p Clean None own
-job_after-off (Clear on mux kind) marks Unsent v p own un = refl
-job_after-off (Clear on mux kind) marks Failed v p own un = set_marks-other marks v p un
+job_after-off (SwitchOff off) marks Good v p own un = turned-other v (off_bus off) (off_mux off) p Clean None own
+job_after-off (SwitchOff off) marks Refused v p own un = turned-other v (off_bus off) (off_mux off) p Clean None own
+job_after-off (SwitchOff off) marks Unsent v p own un = refl
+job_after-off (SwitchOff off) marks Failed v p own un = set_marks-other marks v p un
 
 -- what a job leaves at a bus comes from that bus
 pub job_after-along : (job : Job) (marks : List Mark) (o : JobOutcome) (v w : Slots) (p : ℕ) → v p ≡ w p → job_after job marks o v p ≡ job_after job marks o w p
@@ -41,26 +41,26 @@ job_after-along (Select h) marks Good v w p e = turned-along v w h.on h.mux p Cl
 job_after-along (Select h) marks Refused v w p e = turned-along v w h.on h.mux p Clean None e
 job_after-along (Select h) marks Unsent v w p e = e
 job_after-along (Select h) marks Failed v w p e = set_marks-along marks v w p e
-job_after-along (Clear on mux kind) marks Good v w p e = turned-along v w on mux p Clean None e
-job_after-along (Clear on mux kind) marks Refused v w p e = turned-along v w on mux p Clean None e
-job_after-along (Clear on mux kind) marks Unsent v w p e = e
-job_after-along (Clear on mux kind) marks Failed v w p e = set_marks-along marks v w p e
+job_after-along (SwitchOff off) marks Good v w p e = turned-along v w (off_bus off) (off_mux off) p Clean None e
+job_after-along (SwitchOff off) marks Refused v w p e = turned-along v w (off_bus off) (off_mux off) p Clean None e
+job_after-along (SwitchOff off) marks Unsent v w p e = e
+job_after-along (SwitchOff off) marks Failed v w p e = set_marks-along marks v w p e
 
 pub job_after-unsent : (job : Job) (marks : List Mark) (v : Slots) (p : ℕ) → job_after job marks Unsent v p ≡ v p
 job_after-unsent (Call bus ms) marks v p = refl
 job_after-unsent (Select h) marks v p = refl
-job_after-unsent (Clear on mux kind) marks v p = refl
+job_after-unsent (SwitchOff off) marks v p = refl
 
 pub job_after-failed : (job : Job) (marks : List Mark) (v : Slots) (p : ℕ) → CallUnmarked job marks → job_after job marks Failed v p ≡ set_marks marks v p
 job_after-failed (Call bus ms) marks v p un = ap (λ (ms : List Mark). set_marks ms v p) (sym un)
 job_after-failed (Select h) marks v p un = refl
-job_after-failed (Clear on mux kind) marks v p un = refl
+job_after-failed (SwitchOff off) marks v p un = refl
 
 -- what a job finds on its own bus, and what its marks forget, moves along equal knowledge
 pub finds_along : (b : BoardView) (job : Job) (v w : Slots) → ((p : ℕ) → OwnIs job p → v p ≡ w p) → FindsFirst b job v → FindsFirst b job w
 finds_along b (Call bus ms) v w same f = tt
 finds_along b (Select h) v w same f = (subst (λ (x : At). IsFresh h x) (same h.on refl) f.0, f.1, f.2)
-finds_along b (Clear on mux kind) v w same f = (subst (λ (x : At). FindsOpen mux x.slot) (same on refl) f.0, f.1, f.2)
+finds_along b (SwitchOff off) v w same f = (subst (λ (x : At). FindsOpen off x.slot) (same (off_bus off) refl) f.0, f.1, f.2)
 
 pub fail_along : (b : BoardView) (held : List LockId) (hs : List Hop) (v w : Slots) (ms : List Mark)
     → ((p : ℕ) → (Crosses p hs → ⊥) → v p ≡ w p) → AllByRecursion (λ (m : Mark). Crosses m.on hs → ⊥) ms
@@ -82,12 +82,12 @@ marks_tail h hs (m ∷ ms) off = (λ c. off.0 (inr c), marks_tail h hs ms off.1)
 pub owns_off_tail : (job : Job) (h : Hop) (hs : List Hop) → OwnsOff job (h ∷ hs) → OwnsOff job hs
 owns_off_tail (Call bus ms) h hs off = tt
 owns_off_tail (Select g) h hs off = λ c. off (inr c)
-owns_off_tail (Clear on mux kind) h hs off = λ c. off (inr c)
+owns_off_tail (SwitchOff x) h hs off = λ c. off (inr c)
 
 pub own_crosses : (job : Job) (hs : List Hop) (p : ℕ) → OwnsOff job hs → OwnIs job p → Crosses p hs → ⊥
 own_crosses (Call bus ms) hs p off own c = own
 own_crosses (Select g) hs p off own c = off (subst (λ (q : ℕ). Crosses q hs) own c)
-own_crosses (Clear on mux kind) hs p off own c = off (subst (λ (q : ℕ). Crosses q hs) own c)
+own_crosses (SwitchOff x) hs p off own c = off (subst (λ (q : ℕ). Crosses q hs) own c)
 
 -- a job that can have this outcome at the end of some hops can have it behind one more that lets it through
 pub can_more : (b : BoardView) (h : Hop) (hs : List Hop) (job : Job) (o : JobOutcome) → Responds b h → CanJob b hs job o → CanJob b (h ∷ hs) job o
@@ -129,7 +129,7 @@ line_finds : (b : BoardView) (job : Job) (v : Slots) → is_line job ≡ true �
 line_finds b (Call bus ms) v l f = tt
 line_finds b (Select h) v l f =
     (subst (λ (t : Bool). FindsSelect t h zero (v h.on)) (sym (line_row h.kind l).asks) (refl, f.0.0), f.1, f.2)
-line_finds b (Clear on mux kind) v l f = f
+line_finds b (SwitchOff off) v l f = f
 
 module _ (b : BoardView) (whose : TransferView) (root : ℕ) (hs : List Hop) (ls : List LockId) (floor : ℕ)
     (crossing : (p : ℕ) → InLocks (lock.Mux p) ls → Crosses p hs) where
@@ -159,12 +159,12 @@ module _ (b : BoardView) (whose : TransferView) (root : ℕ) (hs : List Hop) (ls
       over-runs b whose held (turned v h.on h.mux Clean (Some h.channel)) (Select h) zero note k (Lined false) (line_done (Select h) note k held v l before goes_on Good (inl l))
   line_out (Select h) note k held v l before goes_on (Sent e bytes) can = absurd can
   line_out (Select h) note k held v l before goes_on Passed can = absurd can
-  line_out (Clear on mux kind) note k held v l before goes_on (Lined true) can =
-      over-runs b whose held (set_marks note.marks v) (Clear on mux kind) zero note k (Lined true) (line_done (Clear on mux kind) note k held v l before goes_on Failed tt)
-  line_out (Clear on mux kind) note k held v l before goes_on (Lined false) can =
-      over-runs b whose held (turned v on mux Clean None) (Clear on mux kind) zero note k (Lined false) (line_done (Clear on mux kind) note k held v l before goes_on Good (inl l))
-  line_out (Clear on mux kind) note k held v l before goes_on (Sent e bytes) can = absurd can
-  line_out (Clear on mux kind) note k held v l before goes_on Passed can = absurd can
+  line_out (SwitchOff off) note k held v l before goes_on (Lined true) can =
+      over-runs b whose held (set_marks note.marks v) (SwitchOff off) zero note k (Lined true) (line_done (SwitchOff off) note k held v l before goes_on Failed tt)
+  line_out (SwitchOff off) note k held v l before goes_on (Lined false) can =
+      over-runs b whose held (turned v (off_bus off) (off_mux off) Clean None) (SwitchOff off) zero note k (Lined false) (line_done (SwitchOff off) note k held v l before goes_on Good (inl l))
+  line_out (SwitchOff off) note k held v l before goes_on (Sent e bytes) can = absurd can
+  line_out (SwitchOff off) note k held v l before goes_on Passed can = absurd can
 
   pub line_runs : ((l : LockId) → InLocks l (locks_of root hs) → InLocks l ls)
       → (job : Job) (note : Note) (k : JobOutcome → WalkTree) (held : List LockId) (v : Slots)
@@ -223,11 +223,11 @@ root_runs b whose tree root floor (Select h) note k held v l before goes_on =
     (bus_held b whose root floor (Select h) note.marks held v before)
     before.owns before.finds.1 before.finds.2 before.may_fail l goes_on
     (is_arbitrator h.kind) refl (own_shut h (v h.on).slot before.finds.0.0) before.finds.0.0 before.finds.0.1
-root_runs b whose tree root floor (Clear on mux kind) note k held v l before goes_on =
-    clear_runs b whose root on mux kind note k held v l goes_on
+root_runs b whose tree root floor (SwitchOff off) note k held v l before goes_on =
+    off_runs b whose root off note k held v l goes_on
     (record {
-      reached = arrived b whose root floor (Clear on mux kind) note.marks held v before;
-      rooted = bus_held b whose root floor (Clear on mux kind) note.marks held v before;
+      reached = arrived b whose root floor (SwitchOff off) note.marks held v before;
+      rooted = bus_held b whose root floor (SwitchOff off) note.marks held v before;
       finds = before.finds;
       owns = before.owns;
       may_fail = before.may_fail;

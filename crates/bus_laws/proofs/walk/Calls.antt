@@ -8,7 +8,7 @@ use Rattle.i2c_base.specs.Transfer.{TransferView}
 use Rattle.i2c_spec.specs.Tree.{Hop, hops, root_of, locks_of, IsAmongHops}
 use Rattle.i2c_spec.specs.Messages.{messages_of}
 use Rattle.i2c_spec.specs.Flat.{refusal}
-use Rattle.bus_spec.specs.Walk.{Job, Call, Select, Clear, Send, ActOutcome, JobOutcome, Good, Refused, Unsent, Failed, Note, WalkTree, Ends, Look, Then, Go, On, Last, Over, goes, job_outcome, verdict_of, decides, is_line, more_of}
+use Rattle.bus_spec.specs.Walk.{Job, Call, Select, SwitchOff, Deselect, Close, Send, ActOutcome, JobOutcome, Good, Refused, Unsent, Failed, Note, WalkTree, Ends, Look, Then, Go, On, Last, Over, goes, job_outcome, verdict_of, decides, is_line, more_of}
 use Rattle.bus_spec.specs.Slots.{Slots, answer_to}
 use Rattle.bus_spec.specs.Grammar.{Doer, settled, over, by_go, messages, at_bus, locked, part, with_mark, aside, if_sent, if_good, kind_of, closing, left_behind, opened, chosen, keeps, crossed, behind, inner, walk_by, walk_for, plain, seen}
 use Rattle.bus_spec.specs.Walk as walk
@@ -77,7 +77,7 @@ module _ (b : BoardView) (t : TransferView) where
   -- what is behind the job
   left_calls : (stays : Bool) (h : Hop) (on : Doer) (k : JobOutcome → WalkTree) → DoerCalls on → ((o : JobOutcome) → CallsOf b t (k o)) → (out : JobOutcome) → CallsOf b t (left_behind stays h on k out)
   left_calls true h on k hon hk out = hk out
-  left_calls false h on k hon hk out = hon (Clear h.on h.mux h.kind) (aside h) (λ x. k out) tt (aside_way h (Clear h.on h.mux h.kind)) (λ x. hk out)
+  left_calls false h on k hon hk out = hon (SwitchOff (Deselect h)) (aside h) (λ x. k out) tt (aside_way h (SwitchOff (Deselect h))) (λ x. hk out)
 
   opened_calls : (h : Hop) (on : Doer) → DoerCalls on → DoerCalls (opened h on)
   opened_calls h on hon job note k granted way hk = hon job note (left_behind h.stays h on k) granted way (left_calls h.stays h on k hon hk)
@@ -98,7 +98,8 @@ module _ (b : BoardView) (t : TransferView) where
       → (m : Option ℕ) → CallsOf b t (closing b h on note k w m)
   closing_calls h on note k w way hon hk hw None = hw
   closing_calls h on note k w way hon hk hw (Some m) =
-      hon (Clear h.on m (kind_of b m)) (with_mark h.on m note) (λ o. if_sent o w k) tt (λ f. (way f, tt)) (λ o. sent_calls o w k hw hk)
+      hon (SwitchOff (Close h.on m (kind_of b m))) (with_mark h.on m note) (λ o. if_sent o w k) tt (λ f. (way f, tt))
+      (λ o. sent_calls o w k hw hk)
 
   behind_calls : (h : Hop) (on : Doer) → IsAmongHops h (hops b t.bus) → DoerCalls on → DoerCalls (behind b h on)
   behind_calls h on among hon job note k granted way hk =

@@ -21,7 +21,7 @@ use Rattle.i2c_spec.specs.Messages.{MessageView, messages_from, messages_of}
 use Rattle.i2c_spec.specs.Flat.{refusal, block_limit}
 use Rattle.i2c_spec.specs.Cost.{lock_steps, behind_by, behind_cost, inner_cost, full_cost, bytes_of, steps_of, cost_of}
 use Rattle.i2c_base.specs.Limits.{POLLS}
-use Rattle.bus_spec.specs.Walk.{Job, Call, Select, Clear, Free, Send, Shift, ActOutcome, JobOutcome, Good, Refused, Unsent, Failed, Note, KeptOf, WalkTree, Ends, Look, Then, Go, On, Last, Over, goes, job_outcome, verdict_of, decides, is_line, is_gpio, is_arbitrator, more_of, nth_message}
+use Rattle.bus_spec.specs.Walk.{Job, Call, Select, SwitchOff, Deselect, Close, Free, Send, Shift, ActOutcome, JobOutcome, Good, Refused, Unsent, Failed, Note, KeptOf, WalkTree, Ends, Look, Then, Go, On, Last, Over, goes, job_outcome, verdict_of, decides, is_line, is_gpio, is_arbitrator, more_of, nth_message}
 use Rattle.bus_spec.specs.Grammar.{Doer, plain, settled, over, by_go, messages, at_bus, locked, part, with_mark, aside, if_sent, if_good, kind_of, closing, left_behind, opened, chosen, keeps, crossed, behind, inner, full, walk_by, walk_for}
 use Rattle.i2c_spec.specs.Messages.{bytes_most}
 use Rattle.bus_laws.specs.Costs.{weight_at, IsWithin, ArbitratorsArePassed}
@@ -122,26 +122,26 @@ locked_within b (l ∷ ls) on cost sub =
     ((2 * length ls + cost job) + (1 + n), omega arith, λ o. rest)
 
 -- ONE MUX: a close, a select, the job and a deselect, each of them done by what does a job on the bus it stands on
-module _ (b : BoardView) (h : Hop) (on : Doer) (cost : Job → ℕ) (sub : DoerWithin b cost on) (close_cost : ℕ) (closes : (m : ℕ) → cost (Clear h.on m (kind_of b m)) ≤ close_cost)
+module _ (b : BoardView) (h : Hop) (on : Doer) (cost : Job → ℕ) (sub : DoerWithin b cost on) (close_cost : ℕ) (closes : (m : ℕ) → cost (SwitchOff (Close h.on m (kind_of b m))) ≤ close_cost)
     (job : Job) (note : Note) (k : JobOutcome → WalkTree) (n : ℕ) (goes_on : (o : JobOutcome) → IsWithin b (k o) n) where
   abbrev select_cost : ℕ
   select_cost = cost (Select h)
 
-  abbrev clear_cost : ℕ
-  clear_cost = cost (Clear h.on h.mux h.kind)
+  abbrev deselect_cost : ℕ
+  deselect_cost = cost (SwitchOff (Deselect h))
 
-  deselect_within : (out : JobOutcome) → IsWithin b (on (Clear h.on h.mux h.kind) (aside h) (λ o. k out)) (clear_cost + n)
-  deselect_within out = sub (Clear h.on h.mux h.kind) (aside h) (λ o. k out) n (λ o. goes_on out)
+  deselect_within : (out : JobOutcome) → IsWithin b (on (SwitchOff (Deselect h)) (aside h) (λ o. k out)) (deselect_cost + n)
+  deselect_within out = sub (SwitchOff (Deselect h)) (aside h) (λ o. k out) n (λ o. goes_on out)
 
-  left_within : (stays : Bool) (out : JobOutcome) → IsWithin b (left_behind stays h on k out) (clear_cost + n)
-  left_within true out = within_more b (k out) n (clear_cost + n) (omega arith) (goes_on out)
+  left_within : (stays : Bool) (out : JobOutcome) → IsWithin b (left_behind stays h on k out) (deselect_cost + n)
+  left_within true out = within_more b (k out) n (deselect_cost + n) (omega arith) (goes_on out)
   left_within false out = deselect_within out
 
-  opened_within : IsWithin b (opened h on job note k) (cost job + (clear_cost + n))
-  opened_within = sub job note (left_behind h.stays h on k) (clear_cost + n) (left_within h.stays)
+  opened_within : IsWithin b (opened h on job note k) (cost job + (deselect_cost + n))
+  opened_within = sub job note (left_behind h.stays h on k) (deselect_cost + n) (left_within h.stays)
 
   abbrev job_total : ℕ
-  job_total = cost job + (clear_cost + n)
+  job_total = cost job + (deselect_cost + n)
 
   good_within : (o : JobOutcome) → IsWithin b (if_good o (opened h on job note k) k) job_total
   good_within Good = opened_within
@@ -171,9 +171,10 @@ module _ (b : BoardView) (h : Hop) (on : Doer) (cost : Job → ℕ) (sub : DoerW
   closing_within : (m : Option ℕ) → IsWithin b (closing b h on note k passing m) (close_cost + (select_cost + job_total))
   closing_within None = within_more b passing (select_cost + job_total) (close_cost + (select_cost + job_total)) (omega arith) crossed_within
   closing_within (Some m) =
-      within_more b (on (Clear h.on m (kind_of b m)) (with_mark h.on m note) (λ o. if_sent o passing k)) (cost (Clear h.on m (kind_of b m)) + (select_cost + job_total))
+      within_more b (on (SwitchOff (Close h.on m (kind_of b m))) (with_mark h.on m note) (λ o. if_sent o passing k)) (cost (SwitchOff (Close h.on m (kind_of b m))) + (select_cost + job_total))
       (close_cost + (select_cost + job_total)) (omega (arith, closes m))
-      (sub (Clear h.on m (kind_of b m)) (with_mark h.on m note) (λ o. if_sent o passing k) (select_cost + job_total) sent_within)
+      (sub (SwitchOff (Close h.on m (kind_of b m))) (with_mark h.on m note) (λ o. if_sent o passing k)
+      (select_cost + job_total) sent_within)
 
   pub behind_within : IsWithin b (behind b h on job note k) (close_cost + (select_cost + job_total))
   behind_within = closing_within
@@ -214,8 +215,8 @@ select_weighs b h zero = refl
 select_weighs b h (suc left) = (let e : weight_from b (Select h) left ≡ 2 * (1 + left) = select_weighs b h left in omega (arith, e))
 
 -- what a close, a select and a deselect weigh by the kind of their mux
-abbrev clear_of : List Hop → MuxKind → ℕ
-clear_of hs kind = cond (is_gpio kind) 1 (inner_cost hs 2)
+abbrev off_cost : List Hop → MuxKind → ℕ
+off_cost hs kind = cond (is_gpio kind) 1 (inner_cost hs 2)
 
 abbrev select_of : List Hop → MuxKind → ℕ
 select_of hs kind = cond (is_gpio kind) 1 (inner_cost hs (2 * (1 + cond (is_arbitrator kind) POLLS 0)))
@@ -223,8 +224,8 @@ select_of hs kind = cond (is_gpio kind) 1 (inner_cost hs (2 * (1 + cond (is_arbi
 select_is : (b : BoardView) (hs : List Hop) (h : Hop) → path_cost b hs (Select h) ≡ select_of hs h.kind
 select_is b hs h = ap (λ (n : ℕ). cond (is_gpio h.kind) 1 (inner_cost hs n)) (select_weighs b h (cond (is_arbitrator h.kind) POLLS 0))
 
-clear_fits : (hs : List Hop) (kind : MuxKind) → clear_of hs kind ≤ inner_cost hs 2
-clear_fits hs kind = by_line (is_gpio kind)
+off_fits : (hs : List Hop) (kind : MuxKind) → off_cost hs kind ≤ inner_cost hs 2
+off_fits hs kind = by_line (is_gpio kind)
   where
     by_line : (t : Bool) → cond t 1 (inner_cost hs 2) ≤ inner_cost hs 2
     by_line true = omega (arith, inner_beside hs 2)
@@ -238,7 +239,7 @@ select_fits hs kind e = by_facts (is_gpio kind) (is_arbitrator kind) e
     by_facts false false e = omega arith
     by_facts false true e = absurd (let f : true ≡ false = e in cc)
 
-parent_fits : (hs : List Hop) (kind : MuxKind) (own : ℕ) → inner_cost hs 2 + (select_of hs kind + (own + clear_of hs kind)) ≤ behind_cost kind (inner_cost hs 2) own
+parent_fits : (hs : List Hop) (kind : MuxKind) (own : ℕ) → inner_cost hs 2 + (select_of hs kind + (own + off_cost hs kind)) ≤ behind_cost kind (inner_cost hs 2) own
 parent_fits hs kind own = by_facts (is_gpio kind) (is_arbitrator kind)
   where
     by_facts : (by_line asks : Bool)
@@ -260,9 +261,9 @@ mux_within : (b : BoardView) (root : ℕ) (h : Hop) (hs : List Hop) (t : Bool) �
     → (job : Job) (note : Note) (k : JobOutcome → WalkTree) (n : ℕ) → is_line job ≡ false → ((o : JobOutcome) → IsWithin b (k o) n)
     → IsWithin b (behind b h (part t (locks_of root hs) (inner b root hs)) job note k) (inner_cost (h ∷ hs) (job_weight b job) + n)
 mux_within b root h hs true parent passed sub job note k n no_line goes_on =
-    within_more b (behind b h (inner b root hs) job note k) (inner_cost hs 2 + (path_cost b hs (Select h) + (path_cost b hs job + (path_cost b hs (Clear h.on h.mux h.kind) + n)))) (inner_cost (h ∷ hs) (job_weight b job) + n)
+    within_more b (behind b h (inner b root hs) job note k) (inner_cost hs 2 + (path_cost b hs (Select h) + (path_cost b hs job + (path_cost b hs (SwitchOff (Deselect h)) + n)))) (inner_cost (h ∷ hs) (job_weight b job) + n)
     (omega (arith, parent_fits hs h.kind (inner_cost hs (job_weight b job)), select_is b hs h, own_steps, all))
-    (behind_within b h (inner b root hs) (path_cost b hs) sub (inner_cost hs 2) (λ m. clear_fits hs (kind_of b m)) job note k n goes_on)
+    (behind_within b h (inner b root hs) (path_cost b hs) sub (inner_cost hs 2) (λ m. off_fits hs (kind_of b m)) job note k n goes_on)
   where
     own_steps : path_cost b hs job ≡ inner_cost hs (job_weight b job)
     own_steps = ap (λ (t : Bool). cond t 1 (inner_cost hs (job_weight b job))) no_line
@@ -271,11 +272,11 @@ mux_within b root h hs true parent passed sub job note k n no_line goes_on =
     all = ap (λ (t : Bool). cond t (behind_cost h.kind (inner_cost hs 2) (inner_cost hs (job_weight b job))) (3 * (lock_steps hs + inner_cost hs 2) + (lock_steps hs + inner_cost hs (job_weight b job)))) parent
 mux_within b root h hs false parent passed sub job note k n no_line goes_on =
     within_more b (behind b h (locked (locks_of root hs) (inner b root hs)) job note k)
-    ((2 * length (locks_of root hs) + inner_cost hs 2) + ((2 * length (locks_of root hs) + path_cost b hs (Select h)) + ((2 * length (locks_of root hs) + path_cost b hs job) + ((2 * length (locks_of root hs) + path_cost b hs (Clear h.on h.mux h.kind)) + n))))
+    ((2 * length (locks_of root hs) + inner_cost hs 2) + ((2 * length (locks_of root hs) + path_cost b hs (Select h)) + ((2 * length (locks_of root hs) + path_cost b hs job) + ((2 * length (locks_of root hs) + path_cost b hs (SwitchOff (Deselect h))) + n))))
     (inner_cost (h ∷ hs) (job_weight b job) + n)
-    (omega (arith, same_locks root hs, select_fits hs h.kind no_arbitrator, select_is b hs h, clear_fits hs h.kind, own_steps, all))
+    (omega (arith, same_locks root hs, select_fits hs h.kind no_arbitrator, select_is b hs h, off_fits hs h.kind, own_steps, all))
     (behind_within b h (locked (locks_of root hs) (inner b root hs)) (λ j. 2 * length (locks_of root hs) + path_cost b hs j) sub (2 * length (locks_of root hs) + inner_cost hs 2)
-    (λ m. omega (arith, clear_fits hs (kind_of b m))) job note k n goes_on)
+    (λ m. omega (arith, off_fits hs (kind_of b m))) job note k n goes_on)
   where
     own_steps : path_cost b hs job ≡ inner_cost hs (job_weight b job)
     own_steps = ap (λ (t : Bool). cond t 1 (inner_cost hs (job_weight b job))) no_line

@@ -8,7 +8,7 @@ use Rattle.i2c_base.specs.Transfer.{TransferView}
 use Rattle.i2c_spec.specs.Tree.{Hop, hops, root_of, locks_of}
 use Rattle.i2c_spec.specs.Messages.{MessageView, messages_of}
 use Rattle.i2c_spec.specs.Flat.{refusal}
-use Rattle.bus_spec.specs.Walk.{Job, Call, Select, Clear, Take, Free, Send, Shift, Settle, ActOutcome, Passed, Sent, Lined, JobOutcome, Good, Refused, Unsent, Failed, Note, KeptOf, WalkTree, Ends, Look, Then, Go, On, Last, Over, goes, job_outcome, verdict_of, decides, is_line, more_of}
+use Rattle.bus_spec.specs.Walk.{Job, Call, Select, SwitchOff, Deselect, Close, Take, Free, Send, Shift, Settle, ActOutcome, Passed, Sent, Lined, JobOutcome, Good, Refused, Unsent, Failed, Note, KeptOf, WalkTree, Ends, Look, Then, Go, On, Last, Over, goes, job_outcome, verdict_of, decides, is_line, more_of}
 use Rattle.bus_spec.specs.Slots.{Slots, answer_to}
 use Rattle.bus_spec.specs.Grammar.{Doer, settled, over, by_go, messages, at_bus, locked, part, with_mark, aside, if_sent, if_good, kind_of, closing, left_behind, opened, chosen, keeps, crossed, behind, inner, walk_by, walk_for, plain, seen}
 use Rattle.bus_laws.specs.Settles.{Settles}
@@ -22,7 +22,7 @@ settled-first (Then (Take l) note next) h = settled-first (next Passed) h.1
 settled-first (Then (Free l) note next) h = settled-first (next Passed) h.1
 settled-first (Then (Send (Call bus ms) left) note next) h = absurd (let f : true ≡ false = h.0 in cc)
 settled-first (Then (Send (Select g) left) note next) h = λ e bytes. settled-first (next (Sent e bytes)) (h.1 e bytes).1
-settled-first (Then (Send (Clear on mux kind) left) note next) h = λ e bytes. settled-first (next (Sent e bytes)) (h.1 e bytes).1
+settled-first (Then (Send (SwitchOff off) left) note next) h = λ e bytes. settled-first (next (Sent e bytes)) (h.1 e bytes).1
 settled-first (Then (Shift job) note next) h = λ failed. settled-first (next (Lined failed)) (h failed).1
 settled-first (Then (Settle verdict) note next) h = absurd (let f : true ≡ false = h.0 in cc)
 
@@ -46,12 +46,12 @@ go_first Over x y z hx hy hz = hz
 abbrev IsControlJob : Job → Type 0
 IsControlJob (Call bus messages) = ⊥
 IsControlJob (Select h) = Unit {0}
-IsControlJob (Clear on mux kind) = Unit {0}
+IsControlJob (SwitchOff off) = Unit {0}
 
 send_first : (job : Job) (left : ℕ) (note : Note) (next : ActOutcome → WalkTree) → IsControlJob job → ((out : ActOutcome) → FirstCalls (next out)) → FirstCalls (Then (Send job left) note next)
 send_first (Call bus ms) left note next control h = absurd control
 send_first (Select g) left note next control h = λ e bytes. h (Sent e bytes)
-send_first (Clear on mux kind) left note next control h = λ e bytes. h (Sent e bytes)
+send_first (SwitchOff off) left note next control h = λ e bytes. h (Sent e bytes)
 
 messages_first : (left : ℕ) (job : Job) (note : Note) (k : JobOutcome → WalkTree) → IsControlJob job → ((o : JobOutcome) → FirstCalls (k o)) → FirstCalls (messages left job note k)
 messages_first zero job note k control hk = send_first job zero note (over job zero note k) control (over_first job zero note k hk)
@@ -72,11 +72,11 @@ bus_first (Select h) note k hk = by (is_line (Select h))
     by : (x : Bool) → FirstCalls (cond x (Then (Shift (Select h)) note (over (Select h) zero note k)) (messages (more_of (Select h)) (Select h) note k))
     by true = λ failed. over_first (Select h) zero note k hk (Lined failed)
     by false = messages_first (more_of (Select h)) (Select h) note k tt hk
-bus_first (Clear on mux kind) note k hk = by (is_line (Clear on mux kind))
+bus_first (SwitchOff off) note k hk = by (is_line (SwitchOff off))
   where
-    by : (x : Bool) → FirstCalls (cond x (Then (Shift (Clear on mux kind)) note (over (Clear on mux kind) zero note k)) (messages (more_of (Clear on mux kind)) (Clear on mux kind) note k))
-    by true = λ failed. over_first (Clear on mux kind) zero note k hk (Lined failed)
-    by false = messages_first (more_of (Clear on mux kind)) (Clear on mux kind) note k tt hk
+    by : (x : Bool) → FirstCalls (cond x (Then (Shift (SwitchOff off)) note (over (SwitchOff off) zero note k)) (messages (more_of (SwitchOff off)) (SwitchOff off) note k))
+    by true = λ failed. over_first (SwitchOff off) zero note k hk (Lined failed)
+    by false = messages_first (more_of (SwitchOff off)) (SwitchOff off) note k tt hk
 
 locked_first : (ls : List LockId) (on : Doer) → DoerFirst on → DoerFirst (locked ls on)
 locked_first [] on hon job note k hk = hon job note k hk
@@ -101,7 +101,7 @@ good_first Failed w k hw hk = hk Failed
 module _ (b : BoardView) where
   left_first : (stays : Bool) (h : Hop) (on : Doer) (k : JobOutcome → WalkTree) → DoerFirst on → ((o : JobOutcome) → FirstCalls (k o)) → (out : JobOutcome) → FirstCalls (left_behind stays h on k out)
   left_first true h on k hon hk out = hk out
-  left_first false h on k hon hk out = hon (Clear h.on h.mux h.kind) (aside h) (λ x. k out) (λ x. hk out)
+  left_first false h on k hon hk out = hon (SwitchOff (Deselect h)) (aside h) (λ x. k out) (λ x. hk out)
 
   opened_first : (h : Hop) (on : Doer) → DoerFirst on → DoerFirst (opened h on)
   opened_first h on hon job note k hk = hon job note (left_behind h.stays h on k) (left_first h.stays h on k hon hk)
@@ -122,7 +122,7 @@ module _ (b : BoardView) where
       → (m : Option ℕ) → FirstCalls (closing b h on note k w m)
   closing_first h on note k w hon hk hw None = hw
   closing_first h on note k w hon hk hw (Some m) =
-      hon (Clear h.on m (kind_of b m)) (with_mark h.on m note) (λ o. if_sent o w k) (λ o. sent_first o w k hw hk)
+      hon (SwitchOff (Close h.on m (kind_of b m))) (with_mark h.on m note) (λ o. if_sent o w k) (λ o. sent_first o w k hw hk)
 
   inner_first : (root : ℕ) (hs : List Hop) → DoerFirst (inner b root hs)
   inner_first root [] job note k hk = bus_first job note k hk

@@ -15,7 +15,7 @@ use Rattle.i2c_spec.specs.Tree.{Hop, hops, buses, root_of, locks_of, home_of_mux
 use Rattle.i2c_spec.specs.TreeFacts.{IsTree}
 use Rattle.i2c_spec.specs.Messages.{messages_of}
 use Rattle.i2c_spec.specs.Flat.{refusal}
-use Rattle.bus_spec.specs.Walk.{Mark, Job, Call, Select, Clear, Free, Send, Shift, ActOutcome, JobOutcome, Good, Refused, Unsent, Failed, Note, KeptOf, WalkTree, Ends, Look, Then, Go, On, Last, Over, goes, job_bus, job_outcome, verdict_of, decides, is_line, is_gpio, more_of}
+use Rattle.bus_spec.specs.Walk.{Mark, Job, Call, Select, SwitchOff, Deselect, Close, Free, Send, Shift, ActOutcome, JobOutcome, Good, Refused, Unsent, Failed, Note, KeptOf, WalkTree, Ends, Look, Then, Go, On, Last, Over, goes, job_bus, job_outcome, verdict_of, decides, is_line, is_gpio, more_of}
 use Rattle.bus_spec.specs.Grammar.{Doer, plain, settled, over, by_go, messages, at_bus, locked, part, with_mark, aside, if_sent, if_good, kind_of, closing, left_behind, opened, chosen, keeps, crossed, behind, inner, walk_by, walk_for}
 use Rattle.bus_spec.specs.Readings.{rank}
 use Rattle.bus_laws.specs.Runs.{InLocks, IsUnmarked}
@@ -87,7 +87,7 @@ module _ (b : BoardView) (held : List LockId) where
 own_more : (b : BoardView) (l : LockId) (job : Job) (held : List LockId) → OwnHeld b job held → OwnHeld b job (l ∷ held)
 own_more b l (Call bus ms) held o = tt
 own_more b l (Select h) held o = (inr o.0, o.1, o.2)
-own_more b l (Clear on mux kind) held o = (inr o.0, o.1)
+own_more b l (SwitchOff off) held o = (inr o.0, o.1)
 
 marks_more : (b : BoardView) (l : LockId) (held : List LockId) (ms : List Mark) → MarksHeld b ms held → MarksHeld b ms (l ∷ held)
 marks_more b l held [] h = tt
@@ -232,8 +232,8 @@ module _ (b : BoardView) (tree : IsTree b) (root : ℕ) where
           left_holds : (stays : Bool) (out : JobOutcome) → HoldsLocks b held (left_behind stays h on k out)
           left_holds true out = hk out
           left_holds false out =
-              sub (Clear h.on h.mux h.kind) (aside h) (λ o. k out) held
-              (switch (Clear h.on h.mux h.kind) (aside h).marks (mine, home) refl ((mine, home), tt) (tt, tt) (λ g a. (below g a, tt)) (λ l. line_lock h hs h.mux (tree.tail s h hs at) home (ap is_gpio kind_is ∙ l)))
+              sub (SwitchOff (Deselect h)) (aside h) (λ o. k out) held
+              (switch (SwitchOff (Deselect h)) (aside h).marks (mine, home) refl ((mine, home), tt) (tt, tt) (λ g a. (below g a, tt)) (λ l. line_lock h hs h.mux (tree.tail s h hs at) home (ap is_gpio kind_is ∙ l)))
               (λ o. hk out)
 
           opened_holds : HoldsLocks b held (opened h on job note k)
@@ -261,8 +261,8 @@ module _ (b : BoardView) (tree : IsTree b) (root : ℕ) where
           closing_holds : (m : Option ℕ) → IsMarkOn b h.on m → HoldsLocks b held (closing b h on note k passing m)
           closing_holds None is = passing_holds
           closing_holds (Some m) is =
-              sub (Clear h.on m (kind_of b m)) (with_mark h.on m note) (λ o. if_sent o passing k) held
-              (switch (Clear h.on m (kind_of b m)) (with_mark h.on m note).marks (mine, is) refl ((mine, is), marked) (marks_off h (inl refl), marks_apart) (λ g a. (below g a, marks_off g (inr a))) (λ l. line_lock h hs m (tree.tail s h hs at) is l))
+              sub (SwitchOff (Close h.on m (kind_of b m))) (with_mark h.on m note) (λ o. if_sent o passing k) held
+              (switch (SwitchOff (Close h.on m (kind_of b m))) (with_mark h.on m note).marks (mine, is) refl ((mine, is), marked) (marks_off h (inl refl), marks_apart) (λ g a. (below g a, marks_off g (inr a))) (λ l. line_lock h hs m (tree.tail s h hs at) is l))
               (λ o. sent_holds b held o passing k passing_holds hk)
 
           behind_holds : HoldsLocks b held (behind b h on job note k)

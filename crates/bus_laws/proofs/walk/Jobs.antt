@@ -13,7 +13,7 @@ use Rattle.i2c_spec.specs.Tree.{Hop, hops, buses, root_of, locks_of, IsAmongHops
 use Rattle.i2c_spec.specs.TreeFacts.{IsTree}
 use Rattle.i2c_spec.specs.Messages.{messages_of}
 use Rattle.i2c_spec.specs.Flat.{refusal}
-use Rattle.bus_spec.specs.Walk.{Job, Call, Select, Clear, Take, Free, Send, Shift, Settle, ActOutcome, JobOutcome, Good, Refused, Unsent, Failed, Note, WalkTree, Ends, Look, Then, Go, On, Last, Over, goes, job_outcome, verdict_of, decides, is_line, more_of, KeptOf}
+use Rattle.bus_spec.specs.Walk.{Job, Call, Select, SwitchOff, Deselect, Close, Take, Free, Send, Shift, Settle, ActOutcome, JobOutcome, Good, Refused, Unsent, Failed, Note, WalkTree, Ends, Look, Then, Go, On, Last, Over, goes, job_outcome, verdict_of, decides, is_line, more_of, KeptOf}
 use Rattle.bus_spec.specs.Grammar.{Doer, settled, over, by_go, messages, at_bus, locked, part, with_mark, aside, if_sent, if_good, kind_of, closing, left_behind, opened, chosen, keeps, crossed, behind, inner, walk_by, walk_for, plain}
 use Rattle.bus_laws.specs.Jobs.{EachJob, IsJobOf}
 use Rattle.bus_laws.proofs.world.BoardFacts.{mux_at}
@@ -22,8 +22,8 @@ use Rattle.bus_laws.proofs.tree.Law.{refusal-none}
 -- it is so of what switches a hop: its select, its deselect, and the close of a mux that is marked on its bus
 pub record Switches (b : BoardView) (P : Job → Type 0) (h : Hop) : Type 0 where
   pub select : P (Select h)
-  pub deselect : P (Clear h.on h.mux h.kind)
-  pub close : (m : ℕ) → P (Clear h.on m (kind_of b m))
+  pub deselect : P (SwitchOff (Deselect h))
+  pub close : (m : ℕ) → P (SwitchOff (Close h.on m (kind_of b m)))
 
 module _ (b : BoardView) (P : Job → Type 0) where
   -- what a doer keeps
@@ -81,7 +81,7 @@ module _ (b : BoardView) (P : Job → Type 0) where
 
   left_jobs : (stays : Bool) (h : Hop) (on : Doer) (k : JobOutcome → WalkTree) → Switches b P h → DoerJobs on → ((o : JobOutcome) → EachJob P (k o)) → (out : JobOutcome) → EachJob P (left_behind stays h on k out)
   left_jobs true h on k switches hon hk out = hk out
-  left_jobs false h on k switches hon hk out = hon (Clear h.on h.mux h.kind) (aside h) (λ x. k out) switches.deselect (λ x. hk out)
+  left_jobs false h on k switches hon hk out = hon (SwitchOff (Deselect h)) (aside h) (λ x. k out) switches.deselect (λ x. hk out)
 
   opened_jobs : (h : Hop) (on : Doer) → Switches b P h → DoerJobs on → DoerJobs (opened h on)
   opened_jobs h on switches hon job note k own hk = hon job note (left_behind h.stays h on k) own (left_jobs h.stays h on k switches hon hk)
@@ -102,7 +102,8 @@ module _ (b : BoardView) (P : Job → Type 0) where
       → (m : Option ℕ) → EachJob P (closing b h on note k w m)
   closing_jobs h on note k w switches hon hk hw None = hw
   closing_jobs h on note k w switches hon hk hw (Some m) =
-      hon (Clear h.on m (kind_of b m)) (with_mark h.on m note) (λ o. if_sent o w k) (switches.close m) (λ o. sent_jobs o w k hw hk)
+      hon (SwitchOff (Close h.on m (kind_of b m))) (with_mark h.on m note) (λ o. if_sent o w k) (switches.close m)
+      (λ o. sent_jobs o w k hw hk)
 
   behind_jobs : (h : Hop) (on : Doer) → Switches b P h → DoerJobs on → DoerJobs (behind b h on)
   behind_jobs h on switches hon job note k own hk =

@@ -1,7 +1,6 @@
 -- A walk one step on: what holds of a walk whatever its steps give holds of what is left behind its next step.
 use Rattle.std.proofs.Common.{◌≡◌, ℕ, zero, suc, ◌+◌, ◌≤◌, Bool, true, false, ◌⊎◌, List, Option, Some, None, refl, sym, subst, inl, inr}
 use Rattle.i2c_base.specs.declared.ids.LockId.{LockId}
-use Rattle.i2c_base.specs.declared.board.MuxKind.{MuxKind}
 use Rattle.i2c_base.specs.declared.errno.Errno.{Errno}
 use Rattle.i2c_base.specs.declared.entry.End.{End}
 use Rattle.i2c_base.specs.declared.entry.End.TheVariants as end
@@ -9,7 +8,7 @@ use Rattle.i2c_base.specs.Board.{BoardView}
 use Rattle.i2c_base.specs.Transfer.{TransferView}
 use Rattle.i2c_spec.specs.Tree.{Hop}
 use Rattle.i2c_spec.specs.Messages.{MessageView}
-use Rattle.bus_spec.specs.Walk.{Job, Call, Select, Clear, Act, Take, Free, Send, Shift, Settle, ActOutcome, Passed, Sent, Lined, Note, WalkTree, Ends, Look, Then, decides, more_of, is_line, sent_outcome, ok_outcome, sent_errno, ok_errno, Good}
+use Rattle.bus_spec.specs.Walk.{Job, Call, Select, SwitchOff, Off, Act, Take, Free, Send, Shift, Settle, ActOutcome, Passed, Sent, Lined, Note, WalkTree, Ends, Look, Then, decides, more_of, is_line, sent_outcome, ok_outcome, sent_errno, ok_errno, Good}
 use Rattle.bus_spec.specs.Slots.{Slots, answer_to}
 use Rattle.bus_spec.specs.Grammar.{seen, first_act, rest_of}
 use Rattle.bus_laws.specs.Runs.{IsCall}
@@ -165,9 +164,9 @@ select_errs h left e decided none =
     by_left zero d n = (let f : false ≡ true = d in cc)
     by_left (suc left) d n = (let f : ok_errno (suc left) ≡ None = n in cc)
 
-clear_errs : (on mux : ℕ) (kind : MuxKind) (e : End) → decides (Clear on mux kind) (sent_outcome Good e) ≡ true → sent_errno None e ≡ None → ⊥
-clear_errs on mux kind e decided none =
-    let f : false ≡ true = subst (λ (x : End). decides (Clear on mux kind) (sent_outcome Good x) ≡ true) (end_good None e none).0 decided in cc
+off_errs : (off : Off) (e : End) → decides (SwitchOff off) (sent_outcome Good e) ≡ true → sent_errno None e ≡ None → ⊥
+off_errs off e decided none =
+    let f : false ≡ true = subst (λ (x : End). decides (SwitchOff off) (sent_outcome Good x) ≡ true) (end_good None e none).0 decided in cc
 
 -- behind a message of the caller's that went through comes the next one at once; behind the last one, and behind any other,
 -- the walk settles next as it decides
@@ -196,10 +195,10 @@ what_follows note (Select g) left e bytes w h =
       | inl quiet ↦ inl quiet
       | inr settle ↦ inr (record { settles = settle.2; whole = λ none. absurd (select_errs g left e settle.1 none) })
     ]
-what_follows note (Clear on mux kind) left e bytes w h =
+what_follows note (SwitchOff off) left e bytes w h =
     elim h [
       | inl quiet ↦ inl quiet
-      | inr settle ↦ inr (record { settles = settle.2; whole = λ none. absurd (clear_errs on mux kind e settle.1 none) })
+      | inr settle ↦ inr (record { settles = settle.2; whole = λ none. absurd (off_errs off e settle.1 none) })
     ]
 
 -- behind a message of the caller's that went through comes the next one at once
@@ -225,11 +224,11 @@ module _ (v : Slots) (w : WalkTree) (firsts : FirstCalls w) where
       let here = at_first FirstCalls (seen v w) (Send (Select h) left) first (first_seen v w firsts) in
       at_rest FirstCalls (seen v w) (Send (Select h) left) first (Sent e bytes) (here e bytes)
 
-  pub first-cleared : (on mux : ℕ) (kind : MuxKind) (left : ℕ) → first_act (seen v w) ≡ Some (Send (Clear on mux kind) left)
+  pub first-switched-off : (off : Off) (left : ℕ) → first_act (seen v w) ≡ Some (Send (SwitchOff off) left)
       → (e : End) (bytes : List ℕ) → FirstCalls (rest_of (seen v w) (Sent e bytes))
-  first-cleared on mux kind left first e bytes =
-      let here = at_first FirstCalls (seen v w) (Send (Clear on mux kind) left) first (first_seen v w firsts) in
-      at_rest FirstCalls (seen v w) (Send (Clear on mux kind) left) first (Sent e bytes) (here e bytes)
+  first-switched-off off left first e bytes =
+      let here = at_first FirstCalls (seen v w) (Send (SwitchOff off) left) first (first_seen v w firsts) in
+      at_rest FirstCalls (seen v w) (Send (SwitchOff off) left) first (Sent e bytes) (here e bytes)
 
   pub first-sent : (bus : ℕ) (messages : List MessageView) (left : ℕ) → first_act (seen v w) ≡ Some (Send (Call bus messages) left) → left ≡ more_of (Call bus messages)
   first-sent bus messages left first = at_first FirstCalls (seen v w) (Send (Call bus messages) left) first (first_seen v w firsts)

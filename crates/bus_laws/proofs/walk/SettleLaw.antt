@@ -9,7 +9,7 @@ use Rattle.i2c_base.specs.Transfer.{TransferView}
 use Rattle.i2c_spec.specs.Tree.{Hop, hops, root_of, locks_of}
 use Rattle.i2c_spec.specs.Messages.{MessageView, messages_of}
 use Rattle.i2c_spec.specs.Flat.{refusal}
-use Rattle.bus_spec.specs.Walk.{Job, Call, Select, Clear, Free, Send, Shift, Settle, ActOutcome, Sent, Lined, JobOutcome, Good, Refused, Unsent, Failed, Note, WalkTree, Ends, Then, Go, On, Last, Over, goes, job_outcome, verdict_of, decides, is_line, more_of, KeptOf, Look}
+use Rattle.bus_spec.specs.Walk.{Job, Call, Select, SwitchOff, Deselect, Close, Free, Send, Shift, Settle, ActOutcome, Sent, Lined, JobOutcome, Good, Refused, Unsent, Failed, Note, WalkTree, Ends, Then, Go, On, Last, Over, goes, job_outcome, verdict_of, decides, is_line, more_of, KeptOf, Look}
 use Rattle.bus_spec.specs.Grammar.{Doer, plain, settled, over, by_go, messages, at_bus, locked, part, with_mark, aside, if_sent, if_good, kind_of, closing, left_behind, opened, chosen, keeps, crossed, behind, inner, walk_by, walk_for, first_act}
 use Rattle.bus_laws.specs.Settles.{EndsJob, IsDecided, NoSettle, IsBefore, GoesOn, Settles}
 
@@ -20,10 +20,10 @@ is_settled (Select h) Good = false
 is_settled (Select h) Refused = true
 is_settled (Select h) Unsent = true
 is_settled (Select h) Failed = true
-is_settled (Clear on mux kind) Good = false
-is_settled (Clear on mux kind) Refused = false
-is_settled (Clear on mux kind) Unsent = true
-is_settled (Clear on mux kind) Failed = true
+is_settled (SwitchOff off) Good = false
+is_settled (SwitchOff off) Refused = false
+is_settled (SwitchOff off) Unsent = true
+is_settled (SwitchOff off) Failed = true
 
 -- what is settled behind a job; one that isn't on the way settles nothing
 abbrev behind_job : Bool → Job → JobOutcome → Bool → Bool
@@ -33,7 +33,7 @@ behind_job forward job o done = cond forward (is_settled job o) done
 abbrev CallsForward : Bool → Job → Type 0
 CallsForward forward (Call bus ms) = forward ≡ true
 CallsForward forward (Select h) = Unit {0}
-CallsForward forward (Clear on mux kind) = Unit {0}
+CallsForward forward (SwitchOff off) = Unit {0}
 
 -- what a doer keeps: it settles once with what goes on, whatever that is
 abbrev DoerSettles : Doer → Type 0
@@ -47,12 +47,12 @@ DoerSettles on =
 lost_settled : (job : Job) → is_settled job Unsent ≡ true
 lost_settled (Call bus ms) = refl
 lost_settled (Select h) = refl
-lost_settled (Clear on mux kind) = refl
+lost_settled (SwitchOff off) = refl
 
 failed_settled : (job : Job) → is_settled job Failed ≡ true
 failed_settled (Call bus ms) = refl
 failed_settled (Select h) = refl
-failed_settled (Clear on mux kind) = refl
+failed_settled (SwitchOff off) = refl
 
 -- nothing is settled behind a job on the way that goes on
 still : (forward done : Bool) → (forward ≡ true → done ≡ false) → cond forward false done ≡ done
@@ -80,20 +80,20 @@ sent_decides (Select h) left end.Slow bytes = refl
 sent_decides (Select h) left end.Refused bytes = refl
 sent_decides (Select h) left end.Proto bytes = refl
 sent_decides (Select h) left (end.Cut q) bytes = refl
-sent_decides (Clear on mux kind) left end.Ok bytes = refl
-sent_decides (Clear on mux kind) left end.Nack bytes = refl
-sent_decides (Clear on mux kind) left end.Slow bytes = refl
-sent_decides (Clear on mux kind) left end.Refused bytes = refl
-sent_decides (Clear on mux kind) left end.Proto bytes = refl
-sent_decides (Clear on mux kind) left (end.Cut q) bytes = refl
+sent_decides (SwitchOff off) left end.Ok bytes = refl
+sent_decides (SwitchOff off) left end.Nack bytes = refl
+sent_decides (SwitchOff off) left end.Slow bytes = refl
+sent_decides (SwitchOff off) left end.Refused bytes = refl
+sent_decides (SwitchOff off) left end.Proto bytes = refl
+sent_decides (SwitchOff off) left (end.Cut q) bytes = refl
 
 lined_decides : (job : Job) (left : ℕ) (failed : Bool)
     → decides job (job_outcome job left (Lined failed)) ≡ is_settled job (job_outcome job left (Lined failed))
 lined_decides (Call bus ms) left failed = refl
 lined_decides (Select h) left true = refl
 lined_decides (Select h) left false = refl
-lined_decides (Clear on mux kind) left true = refl
-lined_decides (Clear on mux kind) left false = refl
+lined_decides (SwitchOff off) left true = refl
+lined_decides (SwitchOff off) left false = refl
 
 or_not : (x done : Bool) → done ≡ false → (x || done) ≡ x
 or_not true done e = refl
@@ -117,7 +117,7 @@ module _ (job : Job) (note : Note) (k : JobOutcome → WalkTree) (done : Bool) (
   is_before : (j : Job) → CallsForward note.forward j → IsBefore done j
   is_before (Call bus ms) f = before f
   is_before (Select h) f = tt
-  is_before (Clear on mux kind) f = tt
+  is_before (SwitchOff off) f = tt
 
   first_message : (left : ℕ) (j : Job) → first_act (messages left j note k) ≡ Some (Send j left)
   first_message zero j = refl
@@ -169,15 +169,15 @@ module _ (job : Job) (note : Note) (k : JobOutcome → WalkTree) (done : Bool) (
   goes_next (Select h) left e bytes f =
       go_decided (Select h) (suc left) (Sent e bytes) (goes (Select h) left (Sent e bytes)) (messages left (Select h) note k) (messages zero (Select h) note k) (over (Select h) (suc left) note k (Sent e bytes))
       (messages_start left (Select h)) tt (λ ends. over_decided (Select h) (suc left) (Sent e bytes) ends)
-  goes_next (Clear on mux kind) left e bytes f =
-      go_decided (Clear on mux kind) (suc left) (Sent e bytes) (goes (Clear on mux kind) left (Sent e bytes)) (messages left (Clear on mux kind) note k) (messages zero (Clear on mux kind) note k)
-      (over (Clear on mux kind) (suc left) note k (Sent e bytes))
-      (messages_start left (Clear on mux kind)) tt (λ ends. over_decided (Clear on mux kind) (suc left) (Sent e bytes) ends)
+  goes_next (SwitchOff off) left e bytes f =
+      go_decided (SwitchOff off) (suc left) (Sent e bytes) (goes (SwitchOff off) left (Sent e bytes)) (messages left (SwitchOff off) note k) (messages zero (SwitchOff off) note k)
+      (over (SwitchOff off) (suc left) note k (Sent e bytes))
+      (messages_start left (SwitchOff off)) tt (λ ends. over_decided (SwitchOff off) (suc left) (Sent e bytes) ends)
 
   goes_over : (j : Job) (out : ActOutcome) → CallsForward note.forward j → GoesOn note j zero out (over j zero note k out)
   goes_over (Call bus ms) out f = over_first bus ms zero out f
   goes_over (Select h) out f = over_decided (Select h) zero out tt
-  goes_over (Clear on mux kind) out f = over_decided (Clear on mux kind) zero out tt
+  goes_over (SwitchOff off) out f = over_decided (SwitchOff off) zero out tt
 
   go_settles : (g : Go) (w x y : WalkTree) → Settles done w → Settles done x → Settles done y → Settles done (by_go g w x y)
   go_settles On w x y hw hx hy = hw
@@ -231,10 +231,10 @@ module _ (b : BoardView) (h : Hop) (on : Doer) (sub : DoerSettles on) (job : Job
   failed_goes : Settles (cond note.forward true done) (k Failed)
   failed_goes = subst (λ (t : Bool). Settles (cond note.forward t done) (k Failed)) (failed_settled job) (goes_on Failed)
 
-  deselect : (out : JobOutcome) → NoSettle (on (Clear h.on h.mux h.kind) (aside h) (λ o. k out))
-      × Settles (behind_job note.forward job out done) (on (Clear h.on h.mux h.kind) (aside h) (λ o. k out))
+  deselect : (out : JobOutcome) → NoSettle (on (SwitchOff (Deselect h)) (aside h) (λ o. k out))
+      × Settles (behind_job note.forward job out done) (on (SwitchOff (Deselect h)) (aside h) (λ o. k out))
   deselect out =
-      sub (Clear h.on h.mux h.kind) (aside h) (λ o. k out) (behind_job note.forward job out done) (λ e. absurd (let f : false ≡ true = e in cc)) tt
+      sub (SwitchOff (Deselect h)) (aside h) (λ o. k out) (behind_job note.forward job out done) (λ e. absurd (let f : false ≡ true = e in cc)) tt
       (λ o. starts out) (λ o. goes_on out)
 
   left : (stays : Bool) (out : JobOutcome) → NoSettle (left_behind stays h on k out) × Settles (behind_job note.forward job out done) (left_behind stays h on k out)
@@ -280,7 +280,8 @@ module _ (b : BoardView) (h : Hop) (on : Doer) (sub : DoerSettles on) (job : Job
   sent_no Unsent = starts Unsent
   sent_no Failed = starts Failed
 
-  sent_goes : (m : ℕ) (o : JobOutcome) → Settles (behind_job note.forward (Clear h.on m (kind_of b m)) o done) (if_sent o passing k)
+  sent_goes : (m : ℕ) (o : JobOutcome)
+      → Settles (behind_job note.forward (SwitchOff (Close h.on m (kind_of b m))) o done) (if_sent o passing k)
   sent_goes m Good = subst (λ (t : Bool). Settles t passing) (sym (still note.forward done before)) passing-settles.1
   sent_goes m Refused = subst (λ (t : Bool). Settles t passing) (sym (still note.forward done before)) passing-settles.1
   sent_goes m Unsent = lost_goes
@@ -289,7 +290,7 @@ module _ (b : BoardView) (h : Hop) (on : Doer) (sub : DoerSettles on) (job : Job
   closing-settles : (m : Option ℕ) → NoSettle (closing b h on note k passing m) × Settles done (closing b h on note k passing m)
   closing-settles None = passing-settles
   closing-settles (Some m) =
-      sub (Clear h.on m (kind_of b m)) (with_mark h.on m note) (λ o. if_sent o passing k) done before tt sent_no (sent_goes m)
+      sub (SwitchOff (Close h.on m (kind_of b m))) (with_mark h.on m note) (λ o. if_sent o passing k) done before tt sent_no (sent_goes m)
 
   mux-settles : NoSettle (behind b h on job note k) × Settles done (behind b h on job note k)
   mux-settles = (λ m. (closing-settles m).0, λ m. (closing-settles m).1)

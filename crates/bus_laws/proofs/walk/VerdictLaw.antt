@@ -21,7 +21,7 @@ use Rattle.i2c_spec.specs.Grant.{way_through, way_of}
 use Rattle.i2c_spec.specs.Targets.{TargetState}
 use Rattle.i2c_spec.specs.Flat.{refusal, is_way_cut, way_errno, first_of, barred, flat_by, flat}
 use Rattle.i2c_spec.specs.World.{World}
-use Rattle.bus_spec.specs.Walk.{Job, Call, Select, Clear, Sent, Lined, is_line, On, Last, Over, first_byte, goes, on_if_more, job_outcome, verdict_of, decides}
+use Rattle.bus_spec.specs.Walk.{Job, Call, Select, SwitchOff, Off, off_mux, Sent, Lined, is_line, On, Last, Over, first_byte, goes, on_if_more, job_outcome, verdict_of, decides}
 use Rattle.bus_spec.specs.Slots.{Slots}
 use Rattle.bus_spec.specs.Readings.{message_cut}
 use Rattle.bus_laws.specs.Runs.{CanGoThrough, CanSelect, IsOpenOn}
@@ -146,16 +146,16 @@ module _ (b : BoardView) (tree : IsTree b) (t : TransferView) (accepted : refusa
   select-bars left end.Proto bytes can decided ends = absurd can
   select-bars left (end.Cut q) bytes can decided ends = failed-bars b t accepted
 
--- a close decides only where it failed by the port
-pub clear-bars : (b : BoardView) (t : TransferView) → refusal b t ≡ None → (on mux : ℕ) (kind : _) (left : ℕ) (e : End) (bytes : List ℕ)
-    → decides (Clear on mux kind) (job_outcome (Clear on mux kind) left (Sent e bytes)) ≡ true
-    → Bars b t (message_cut (purpose.Control mux) 1 e) (verdict_of (Clear on mux kind) left (Sent e bytes))
-clear-bars b t accepted on mux kind left end.Ok bytes decided = absurd (let f : false ≡ true = decided in cc)
-clear-bars b t accepted on mux kind left end.Nack bytes decided = absurd (let f : false ≡ true = decided in cc)
-clear-bars b t accepted on mux kind left end.Slow bytes decided = absurd (let f : false ≡ true = decided in cc)
-clear-bars b t accepted on mux kind left end.Refused bytes decided = absurd (let f : false ≡ true = decided in cc)
-clear-bars b t accepted on mux kind left end.Proto bytes decided = absurd (let f : false ≡ true = decided in cc)
-clear-bars b t accepted on mux kind left (end.Cut q) bytes decided = failed-bars b t accepted
+-- a deselect or a close decides only where it failed by the port
+pub off-bars : (b : BoardView) (t : TransferView) → refusal b t ≡ None → (off : Off) (left : ℕ) (e : End) (bytes : List ℕ)
+    → decides (SwitchOff off) (job_outcome (SwitchOff off) left (Sent e bytes)) ≡ true
+    → Bars b t (message_cut (purpose.Control (off_mux off)) 1 e) (verdict_of (SwitchOff off) left (Sent e bytes))
+off-bars b t accepted off left end.Ok bytes decided = absurd (let f : false ≡ true = decided in cc)
+off-bars b t accepted off left end.Nack bytes decided = absurd (let f : false ≡ true = decided in cc)
+off-bars b t accepted off left end.Slow bytes decided = absurd (let f : false ≡ true = decided in cc)
+off-bars b t accepted off left end.Refused bytes decided = absurd (let f : false ≡ true = decided in cc)
+off-bars b t accepted off left end.Proto bytes decided = absurd (let f : false ≡ true = decided in cc)
+off-bars b t accepted off left (end.Cut q) bytes decided = failed-bars b t accepted
 
 -- so does a line step
 pub line-bars : (b : BoardView) (t : TransferView) → refusal b t ≡ None → (job : Job) (failed : Bool) → is_line job ≡ true → decides job (job_outcome job zero (Lined failed)) ≡ true
@@ -163,8 +163,8 @@ pub line-bars : (b : BoardView) (t : TransferView) → refusal b t ≡ None → 
 line-bars b t accepted (Call bus ms) failed line decided = absurd (let f : false ≡ true = line in cc)
 line-bars b t accepted (Select h) true line decided = failed-bars b t accepted
 line-bars b t accepted (Select h) false line decided = absurd (let f : false ≡ true = decided in cc)
-line-bars b t accepted (Clear on mux kind) true line decided = failed-bars b t accepted
-line-bars b t accepted (Clear on mux kind) false line decided = absurd (let f : false ≡ true = decided in cc)
+line-bars b t accepted (SwitchOff off) true line decided = failed-bars b t accepted
+line-bars b t accepted (SwitchOff off) false line decided = absurd (let f : false ≡ true = decided in cc)
 
 -- the caller's messages are sent where nothing bars them
 pub call-clear : (b : BoardView) (t : TransferView) → refusal b t ≡ None → LetThrough b (hops b t.bus) → (part : ℕ) (e : End) → barred b t (message_cut purpose.Call part e) ≡ None

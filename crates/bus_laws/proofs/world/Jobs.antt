@@ -18,9 +18,9 @@ use Rattle.i2c_spec.specs.Messages.{MessageView, write_byte, read_byte}
 use Rattle.i2c_spec.specs.Conversation.{TalkTold, world_listener, talk}
 use Rattle.i2c_spec.specs.World.{World, has_chip}
 use Rattle.i2c_spec.specs.History.{changed_at}
-use Rattle.bus_spec.specs.Walk.{Mark, Select, Clear, Sent, is_gpio, is_arbitrator, chip_address}
+use Rattle.bus_spec.specs.Walk.{Mark, Select, Sent, is_gpio, is_arbitrator, chip_address}
 use Rattle.std.proofs.Math.Path.{fun_ext}
-use Rattle.bus_spec.specs.Slots.{Slots, At, MuxSlot, Clean, Marked, Polled, Found, turned, turned_at, set_marks, polled_slot, after_job}
+use Rattle.bus_spec.specs.Slots.{Slots, At, MuxSlot, Clean, Marked, Polled, Found, turned, turned_at, set_marks, polled_slot, after_job, after_off}
 use Rattle.bus_laws.specs.Runs.{IsOpenOn, answers, CanSelect, CanGoThrough, IsMuxOf, IsOfMux, FindsPoll, HeadsMarks, MayFail}
 use Rattle.bus_laws.specs.Told.{chip_in, IsChipOf}
 use Rattle.bus_laws.specs.Told.{Explains, ChipsTold, WorldTold}
@@ -261,7 +261,7 @@ module _ (b : BoardView) (tree : IsTree b) (plain : IsPlainBoard b) (v : Slots) 
   close_message = write_byte (chip_address b m) close_value
 
   abbrev Closed : End → List ℕ → Type 0
-  Closed e bytes = WorldTold b (after_job (Clear p m kind) zero marks (Sent e bytes) v) (changed_at ws (root_of b p) (sent close_message).now)
+  Closed e bytes = WorldTold b (after_off p m marks (Sent e bytes) v) (changed_at ws (root_of b p) (sent close_message).now)
 
   close_by : (t : Bool) → is_absent b m ≡ t → (bytes : List ℕ) → Closed (sent close_message).end bytes
   close_by true gone bytes =

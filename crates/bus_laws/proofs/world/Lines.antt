@@ -19,7 +19,7 @@ use Rattle.i2c_spec.specs.Plain.{IsPlainBoard, IsPlainMux, IsChip}
 use Rattle.i2c_spec.specs.Chips.{ChipView, is_open, at_level, select_by}
 use Rattle.i2c_spec.specs.World.{World, after, set_level, stopped}
 use Rattle.i2c_spec.specs.History.{changed_at}
-use Rattle.bus_spec.specs.Walk.{Mark, Job, Call, Select, Clear, Lined, job_bus, is_gpio}
+use Rattle.bus_spec.specs.Walk.{Mark, Job, Call, Select, SwitchOff, off_bus, off_mux, off_kind, Lined, job_bus, is_gpio}
 use Rattle.bus_spec.specs.Slots.{Slots, MuxSlot, Clean, Polled, Found, turned, turned_at, set_marks, after_job}
 use Rattle.bus_spec.specs.Past.{line_call}
 use Rattle.bus_laws.specs.Runs.{IsMuxOf, IsOfMux, MayFail, MayShift}
@@ -176,7 +176,7 @@ told-shift b tree plain v ws world (Select h) marks held may false =
     subst (λ (n : ℕ). WorldTold b (turned v h.on h.mux Clean (Some h.channel)) (changed_at ws (root_of b h.on) (record (ws (root_of b h.on)) { chips = set_level (ws (root_of b h.on)).chips h.mux n })))
     (sym (ap (λ (v : ChannelCode). select_by v h.channel) (line_row h.kind may.by_line).code))
     (line_opened b plain v ws world h.on h.mux h.kind hop.kind may.by_line hop.home held marks may.may_fail (own_select _ h zero (v h.on) may.finds.0) h refl refl)
-told-shift b tree plain v ws world (Clear on mux kind) marks held may true =
-    line_failed b plain v ws world on mux kind may.finds.2 may.by_line may.finds.1 held marks may.may_fail (own_open mux (v on).slot may.finds.0)
-told-shift b tree plain v ws world (Clear on mux kind) marks held may false =
-    line_closed b plain v ws world on mux kind may.finds.2 may.by_line may.finds.1 held marks may.may_fail (own_open mux (v on).slot may.finds.0)
+told-shift b tree plain v ws world (SwitchOff off) marks held may true =
+    line_failed b plain v ws world (off_bus off) (off_mux off) (off_kind off) may.finds.2 may.by_line may.finds.1 held marks may.may_fail (own_open off (v (off_bus off)).slot may.finds.0)
+told-shift b tree plain v ws world (SwitchOff off) marks held may false =
+    line_closed b plain v ws world (off_bus off) (off_mux off) (off_kind off) may.finds.2 may.by_line may.finds.1 held marks may.may_fail (own_open off (v (off_bus off)).slot may.finds.0)

@@ -3,7 +3,6 @@ use Rattle.std.proofs.Common.{◌≡◌, ℕ, zero, suc, ◌-◌, ◌<◌, Bool,
 use Rattle.std.specs.Prelude.{slice_get, drop}
 use Rattle.std.specs.List.{list_any}
 use Rattle.std.proofs.lemmas.Bool.Decides.{eqb_tells}
-use Rattle.i2c_base.specs.declared.board.MuxKind.{MuxKind}
 use Rattle.i2c_base.specs.declared.ids.LockId.{LockId}
 use Rattle.i2c_base.specs.declared.transfer.Msg.{Msg}
 use Rattle.i2c_base.specs.declared.tree.Grant.{Grant}
@@ -19,8 +18,8 @@ use Rattle.i2c_spec.specs.Messages.{MessageView, messages_from, messages_of}
 use Rattle.i2c_spec.specs.Conversation.{TalkTold, world_listener, talk}
 use Rattle.i2c_spec.specs.World.{World}
 use Rattle.i2c_spec.specs.History.{changed_at}
-use Rattle.bus_spec.specs.Walk.{Mark, Job, Call, Select, Clear, Sent, job_bus, is_arbitrator, message_of, nth_message, is_last}
-use Rattle.bus_spec.specs.Slots.{Slots, At, MuxSlot, Clean, Marked, Polled, Found, after_job}
+use Rattle.bus_spec.specs.Walk.{Mark, Job, Call, Select, SwitchOff, Off, Deselect, Close, off_bus, off_mux, off_kind, Sent, job_bus, is_arbitrator, message_of, nth_message, is_last}
+use Rattle.bus_spec.specs.Slots.{Slots, At, MuxSlot, Found, after_job}
 use Rattle.bus_laws.specs.Runs.{CanSend, IsOfMux, FindsOpen, FindsPoll, FindsSelect, IsCall, MaySend}
 use Rattle.bus_laws.specs.Told.{chip_in}
 use Rattle.bus_laws.specs.Told.{WorldTold}
@@ -75,11 +74,9 @@ pub own_select : (t : Bool) (h : Hop) (left : ℕ) (x : At) → FindsSelect t h 
 own_select true h left x f = own_poll h left x.slot f.0
 own_select false h left x f = subst (λ (s : MuxSlot). IsOfMux h.mux s) (sym f.1) tt
 
-pub own_open : (m : ℕ) (s : MuxSlot) → FindsOpen m s → IsOfMux m s
-own_open m (Marked k) f = f
-own_open m Clean f = tt
-own_open m (Polled h n) f = absurd f
-own_open m (Found h) f = absurd f
+pub own_open : (off : Off) (s : MuxSlot) → FindsOpen off s → IsOfMux (off_mux off) s
+own_open (Deselect h) s f = subst (λ (x : MuxSlot). IsOfMux h.mux x) (sym f) tt
+own_open (Close on mux kind) s f = subst (λ (x : MuxSlot). IsOfMux mux x) (sym f) refl
 
 free_not_held : (x : ChipView) → is_free x ≡ true → eqb x.foreign 8 ≡ false
 free_not_held x e = flip (eqb x.foreign 8) (and_left (not (eqb x.foreign 8)) (eqb x.left 0) e)
@@ -146,14 +143,14 @@ module _ (b : BoardView) (tree : IsTree b) (plain : IsPlainBoard b) (v : Slots) 
       absurd (let f : FindsSelect false h (suc n) (v h.on) = subst (λ (u : Bool). FindsSelect u h (suc n) (v h.on)) arb may.finds.0 in
       let g : suc n ≡ 0 = f.0 in omega arith)
 
-  clear_kept : (on mux : ℕ) (kind : MuxKind) (left : ℕ) → MaySend b whose (Clear on mux kind) left marks held v → Keeps (Clear on mux kind) left
-  clear_kept on mux kind left may = (
-    close-told b tree plain v ws world on mux kind may.finds.2 may.by_message may.finds.1 (λ g a. (may.reached g a).0) held marks may.may_fail may.owns.1
-        (own_open mux (v on).slot may.finds.0) limit cut (sent_of (Clear on mux kind) left).bytes,
+  off_kept : (off : Off) (left : ℕ) → MaySend b whose (SwitchOff off) left marks held v → Keeps (SwitchOff off) left
+  off_kept off left may = (
+    close-told b tree plain v ws world (off_bus off) (off_mux off) (off_kind off) may.finds.2 may.by_message may.finds.1 (λ g a. (may.reached g a).0) held marks may.may_fail may.owns.1
+        (own_open off (v (off_bus off)).slot may.finds.0) limit cut (sent_of (SwitchOff off) left).bytes,
     tt,
   )
 
   pub told-send : (job : Job) (left : ℕ) → MaySend b whose job left marks held v → Keeps job left
   told-send (Call bus ms) left may = call_kept bus ms left may
   told-send (Select h) left may = select_kept h left (is_arbitrator h.kind) refl may
-  told-send (Clear on mux kind) left may = clear_kept on mux kind left may
+  told-send (SwitchOff off) left may = off_kept off left may

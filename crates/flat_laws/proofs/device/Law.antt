@@ -20,7 +20,7 @@ use Rattle.i2c_spec.specs.Targets.{TargetState}
 use Rattle.i2c_spec.specs.Messages.{MessageView, messages_of}
 use Rattle.i2c_spec.specs.Flat.{FlatTold, refusal, granted_on, flat}
 use Rattle.i2c_spec.specs.History.{Asks, History, changed_at, with_told, one_more, opening_history, history}
-use Rattle.bus_spec.specs.Walk.{Job, Call, Select, Clear, Act, Take, Free, Send, Settle, Passed, Sent, Lined, WalkTree, job_bus, message_of}
+use Rattle.bus_spec.specs.Walk.{Job, Call, Select, SwitchOff, off_mux, Act, Take, Free, Send, Settle, Passed, Sent, Lined, WalkTree, job_bus, message_of}
 use Rattle.bus_spec.specs.Grammar.{walk_by, first_act, first_note, rest_of, seen, is_over}
 use Rattle.bus_spec.specs.Readings.{order, message_cut}
 use Rattle.bus_spec.specs.Past.{Now, begun, current, step, now, sent, sent_by, lined_by, with_due, moved, talk_of}
@@ -38,7 +38,7 @@ use Rattle.flat_laws.proofs.past.First.{not_inside}
 use Rattle.bus_laws.proofs.past.Placed.{starts_seen, no_settle, past-due}
 use Rattle.bus_laws.proofs.walk.SettleLaw.{walk-starts}
 use Rattle.bus_laws.proofs.walk.VerdictLaw.{LetThrough, refused-barred, bars-flat}
-use Rattle.bus_laws.proofs.device.Past.{CallNext, DecidesNext, call-next, select-next, clear-next, select-decides, clear-decides}
+use Rattle.bus_laws.proofs.device.Past.{CallNext, DecidesNext, call-next, select-next, off-next, select-decides, off-decides}
 use Rattle.bus_laws.proofs.device.Stay.{opening-same}
 use Rattle.flat_laws.proofs.device.Stand.{IsDueWith, DevicesStand, stands_still, lock_stands, line_stands, control_stands}
 use Rattle.flat_laws.proofs.device.Calls.{call_stands}
@@ -60,12 +60,12 @@ module _ (b : BoardView) (tree : IsTree b) (plain : IsPlainBoard b) (lines : Lin
       (λ v first. subst (λ (y : Cut). DecidesNext b asks n d y v)
       (sym (ap (λ (p : Purpose). message_cut p part e) tells.for_purpose ∙ ap (λ (k : ℕ). message_cut (purpose.Control g.mux) k e) tells.as_part))
       (select-decides b tree plain lines asks some callers past steps d g left next e bytes tells.end_told tells.bytes_told v first))
-  message_stands d (Clear on mux kind) left bus purpose_is part parts addr reading bytes heard e none next tells =
-      control_stands b tree plain lines asks some callers past steps h s d (Clear on mux kind) left reading bytes e (entry.Message d bus purpose_is part parts addr reading bytes heard e) none next refl refl
-      (clear-next b tree plain lines asks some callers past steps d on mux kind left next) (λ o. refl) (λ o. refl)
+  message_stands d (SwitchOff off) left bus purpose_is part parts addr reading bytes heard e none next tells =
+      control_stands b tree plain lines asks some callers past steps h s d (SwitchOff off) left reading bytes e (entry.Message d bus purpose_is part parts addr reading bytes heard e) none next refl refl
+      (off-next b tree plain lines asks some callers past steps d off left next) (λ o. refl) (λ o. refl)
       (λ v first. subst (λ (y : Cut). DecidesNext b asks n d y v)
-      (sym (ap (λ (p : Purpose). message_cut p part e) tells.for_purpose ∙ ap (λ (k : ℕ). message_cut (purpose.Control mux) k e) tells.as_part))
-      (clear-decides b tree plain lines asks some callers past steps d on mux kind left next e bytes v first))
+      (sym (ap (λ (p : Purpose). message_cut p part e) tells.for_purpose ∙ ap (λ (k : ℕ). message_cut (purpose.Control (off_mux off)) k e) tells.as_part))
+      (off-decides b tree plain lines asks some callers past steps d off left next e bytes v first))
   message_stands d (Call on ms) left bus purpose_is part parts addr reading bytes heard e none next tells =
       subst (λ (j : Job). IsNext b asks n d (Send j left) → Leads j → LetThrough b (hops b (job_bus j)) → TellsMessage b n j left (record { caller = d; bus = bus; purpose = purpose_is; part = part; parts = parts; addr = addr; reading = reading; bytes = bytes; heard = heard; end = e })
       → DevicesStand b asks (with_due d (moved b asks n (sent b n d j left (first_note (current b asks n d)) reading bytes e (talk_of b n j left e)) d

@@ -14,7 +14,7 @@ use Rattle.i2c_spec.specs.TreeFacts.{IsTree}
 use Rattle.i2c_spec.specs.Plain.{IsPlainBoard}
 use Rattle.i2c_spec.specs.Messages.{MessageView, messages_of}
 use Rattle.i2c_spec.specs.History.{Asks, changed_at}
-use Rattle.bus_spec.specs.Walk.{Job, Call, Select, Clear, Act, Take, Free, Send, Shift, Settle, ActOutcome, Passed, Sent, Lined, Note, WalkTree, Then, goes, verdict_of, job_bus, job_purpose, more_of}
+use Rattle.bus_spec.specs.Walk.{Job, Call, Select, SwitchOff, Act, Take, Free, Send, Shift, Settle, ActOutcome, Passed, Sent, Lined, Note, WalkTree, Then, goes, verdict_of, job_bus, job_purpose, more_of}
 use Rattle.bus_spec.specs.Grammar.{seen, is_over, first_act, first_note, rest_of}
 use Rattle.bus_spec.specs.Readings.{is_call}
 use Rattle.bus_spec.specs.Past.{Now, begun, current, step, now, is_on, is_due, inside_after, got_after, sent, sent_by, lined_by, with_due, moved, talk_of}
@@ -207,9 +207,9 @@ module _ (b : BoardView) (tree : IsTree b) (plain : IsPlainBoard b) (lines : Lin
         own_stage d (sent_now d (Select h) left reading bytes e x) k (Send (Select h) left) (Sent e bytes) (count refl) none next
         (λ bus ms i f. let g : Send (Select h) left ≡ Send (Call bus ms) i = f in cc) (λ note rest f. f e bytes)
         (at_same n.walk d (rest_of (current b asks n d) (Sent e bytes))) (at_same n.got d (n.got d))
-    own_control d (Clear on mux kind) left reading bytes e x k count none next own =
-        own_stage d (sent_now d (Clear on mux kind) left reading bytes e x) k (Send (Clear on mux kind) left) (Sent e bytes) (count refl) none next
-        (λ bus ms i f. let g : Send (Clear on mux kind) left ≡ Send (Call bus ms) i = f in cc) (λ note rest f. f e bytes)
+    own_control d (SwitchOff off) left reading bytes e x k count none next own =
+        own_stage d (sent_now d (SwitchOff off) left reading bytes e x) k (Send (SwitchOff off) left) (Sent e bytes) (count refl) none next
+        (λ bus ms i f. let g : Send (SwitchOff off) left ≡ Send (Call bus ms) i = f in cc) (λ note rest f. f e bytes)
         (at_same n.walk d (rest_of (current b asks n d) (Sent e bytes))) (at_same n.got d (n.got d))
 
     -- behind a message of the caller's all that follow are left

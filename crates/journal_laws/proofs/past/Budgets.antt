@@ -21,7 +21,7 @@ use Rattle.i2c_spec.specs.Conversation.{world_listener}
 use Rattle.i2c_spec.specs.Flat.{block_limit}
 use Rattle.i2c_spec.specs.Cost.{cost_of}
 use Rattle.i2c_spec.specs.History.{Asks}
-use Rattle.bus_spec.specs.Walk.{Job, Call, Select, Clear, Act, Take, Free, Send, Shift, Settle, Passed, Sent, Lined, WalkTree, job_bus, message_of, is_last, nth_message}
+use Rattle.bus_spec.specs.Walk.{Job, Call, Select, SwitchOff, Act, Take, Free, Send, Shift, Settle, Passed, Sent, Lined, WalkTree, job_bus, message_of, is_last, nth_message}
 use Rattle.bus_spec.specs.Grammar.{walk_for, seen, first_act, first_note, rest_of}
 use Rattle.bus_spec.specs.Readings.{caller_of}
 use Rattle.bus_spec.specs.Past.{Now, current, now, step, talk_of, cut_of, got_after, sent_by, lined_by}
@@ -77,7 +77,7 @@ IsShort m = length m.bytes ≤ m.len
 got_stays : (job : Job) (reading : Bool) (bytes got : List ℕ) (done : Bool) → done ≡ true → IsBefore done job → got_after job reading bytes got ≡ got
 got_stays (Call bus ms) reading bytes got done d before = absurd (let f : true ≡ false = sym d ∙ before in cc)
 got_stays (Select h) reading bytes got done d before = refl
-got_stays (Clear on mux kind) reading bytes got done d before = refl
+got_stays (SwitchOff off) reading bytes got done d before = refl
 
 -- what a message and a line step leave of what their caller has read
 pub message-got : (b : BoardView) (asks : Asks) (n : Now) (c bus : ℕ) (why : Purpose) (part parts addr : ℕ) (reading : Bool) (bytes : List ℕ) (heard : Option Node) (en : End) (job : Job) (left : ℕ)
@@ -125,7 +125,7 @@ module _ (b : BoardView) (asks : Asks) (some : AsksForMessages asks) (callers : 
       (short_from asked.whose.msgs asked.whose.out (length messages - 1 - left))
   short_sent c (Select h) zero next = omega arith
   short_sent c (Select h) (suc left) next = omega arith
-  short_sent c (Clear on mux kind) left next = omega arith
+  short_sent c (SwitchOff off) left next = omega arith
 
   pub budget-pays : (e : Entry) → May b callers asks n e → (done : Bool) (most : ℕ) → IsBudget b done (ahead b asks n (caller_of e)) most → IsPaid b asks n e done most
   budget-pays (entry.Take c l) may done most budget =

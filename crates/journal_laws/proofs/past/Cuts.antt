@@ -26,7 +26,7 @@ use Rattle.i2c_spec.specs.Flat.{refusal, is_plain, is_smbus_only}
 use Rattle.i2c_spec.specs.TreeFacts.{IsTree}
 use Rattle.i2c_spec.specs.Plain.{IsPlainBoard}
 use Rattle.i2c_spec.specs.History.{Asks}
-use Rattle.bus_spec.specs.Walk.{Job, Call, Select, Clear, Act, Take, Free, Send, Shift, Settle, ActOutcome, Passed, Sent, Lined, Note, WalkTree, Ends, Look, Then, goes, verdict_of, job_bus, job_purpose}
+use Rattle.bus_spec.specs.Walk.{Job, Call, Select, SwitchOff, Act, Take, Free, Send, Shift, Settle, ActOutcome, Passed, Sent, Lined, Note, WalkTree, Ends, Look, Then, goes, verdict_of, job_bus, job_purpose}
 use Rattle.bus_spec.specs.Grammar.{walk_by, seen, is_over, first_act, first_note, rest_of}
 use Rattle.bus_spec.specs.Readings.{caller_of, is_call, last_cut, cut_told, message_cut}
 use Rattle.bus_spec.specs.Past.{Now, begun, current, now, is_on, sent_by, lined_by}
@@ -75,14 +75,14 @@ settles-verdict note (Call bus ms) (suc left) out w v goes_on first = (by (is_on
     by true e = absurd (let f : Some (Settle v) ≡ Some (Send (Call bus ms) left) = e in cc)
     by false e = (let f : Some (Settle v) ≡ Some (Settle (verdict_of (Call bus ms) (suc left) out)) = e in cc)
 settles-verdict note (Select h) left out w v goes first = decided-verdict note (Select h) left out w v goes first
-settles-verdict note (Clear on mux kind) left out w v goes first = decided-verdict note (Clear on mux kind) left out w v goes first
+settles-verdict note (SwitchOff off) left out w v goes first = decided-verdict note (SwitchOff off) left out w v goes first
 
 -- only a failed call decides EREMOTEIO
 verdict-cut : (job : Job) (left : ℕ) (e : End) (bytes : List ℕ) → verdict_of job left (Sent e bytes) ≡ Some errno.Eremoteio → (q : ℕ) × (e ≡ end.Cut q)
 verdict-cut (Call bus ms) left end.Ok bytes v = absurd (let f : None ≡ Some errno.Eremoteio = v in cc)
 verdict-cut (Select h) zero end.Ok bytes v = absurd (let f : None ≡ Some errno.Eremoteio = v in cc)
 verdict-cut (Select h) (suc left) end.Ok bytes v = absurd (let f : Some errno.Etimedout ≡ Some errno.Eremoteio = v in cc)
-verdict-cut (Clear on mux kind) left end.Ok bytes v = absurd (let f : None ≡ Some errno.Eremoteio = v in cc)
+verdict-cut (SwitchOff off) left end.Ok bytes v = absurd (let f : None ≡ Some errno.Eremoteio = v in cc)
 verdict-cut job left end.Nack bytes v = absurd (let f : Some errno.Enxio ≡ Some errno.Eremoteio = v in cc)
 verdict-cut job left end.Slow bytes v = absurd (let f : Some errno.Etimedout ≡ Some errno.Eremoteio = v in cc)
 verdict-cut job left end.Refused bytes v = absurd (let f : Some errno.Eio ≡ Some errno.Eremoteio = v in cc)
@@ -264,7 +264,7 @@ module _ (b : BoardView) (tree : IsTree b) (plain : IsPlainBoard b) (lines : Lin
           by_job (Call bus ms) zero goes forward way = goes
           by_job (Call bus ms) (suc k) goes forward way = goes
           by_job (Select h) k goes forward way = forward way
-          by_job (Clear on mux kind) k goes forward way = forward way
+          by_job (SwitchOff off) k goes forward way = forward way
 
       sent-stands : (e : End) (bytes : List ℕ) (p : Purpose) (part : ℕ) → p ≡ job_purpose job → (is_over (rest_of w (Sent e bytes)) ≡ true → ⊥)
           → CutStands (rest_of w (Sent e bytes)) (message_cut p part e)

@@ -10,7 +10,7 @@ use Rattle.i2c_base.specs.Transfer.{TransferView}
 use Rattle.i2c_base.specs.declared.reply.Reply.{Reply}
 use Rattle.i2c_spec.specs.Flat.{refusal}
 use Rattle.i2c_spec.specs.History.{Asks}
-use Rattle.bus_spec.specs.Walk.{Job, Call, Select, Clear, Take, Free, Send, Shift, Settle, ActOutcome, Sent, Lined, Note, WalkTree, Then}
+use Rattle.bus_spec.specs.Walk.{Job, Call, Select, SwitchOff, Take, Free, Send, Shift, Settle, ActOutcome, Sent, Lined, Note, WalkTree, Then}
 use Rattle.bus_spec.specs.Grammar.{seen, is_over, first_act, rest_of}
 use Rattle.bus_spec.specs.Readings.{caller_of, replies}
 use Rattle.bus_spec.specs.Past.{Now, begun, current, now, is_due}
@@ -45,7 +45,7 @@ accepted_by : (b : BoardView) (t : TransferView) (note : Note) (job : Job) (left
 accepted_by b t note (Call bus ms) left out w verdict granted way goes first = granted.not_refused
 accepted_by b t note (Select h) left out w verdict granted way goes first =
     elim goes [ inl quiet ↦ absurd (no_settle w verdict quiet first) | inr decided ↦ (way decided.0).0 ]
-accepted_by b t note (Clear on mux kind) left out w verdict granted way goes first =
+accepted_by b t note (SwitchOff off) left out w verdict granted way goes first =
     elim goes [ inl quiet ↦ absurd (no_settle w verdict quiet first) | inr decided ↦ (way decided.0).0 ]
 
 pub by-due : (t : Bool) (d c : ℕ) → cond t (Some d) None ≡ Some c → (t ≡ true) × (d ≡ c)

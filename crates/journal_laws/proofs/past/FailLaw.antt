@@ -12,7 +12,7 @@ use Rattle.i2c_spec.specs.Tree.{Hop, hops, root_of, locks_of}
 use Rattle.i2c_spec.specs.Messages.{messages_of}
 use Rattle.i2c_spec.specs.Flat.{refusal}
 use Rattle.i2c_spec.specs.History.{Asks}
-use Rattle.bus_spec.specs.Walk.{Job, Call, Select, Clear, Take, Free, Send, Shift, Settle, ActOutcome, Sent, Lined, JobOutcome, Good, Refused, Unsent, Failed, Note, KeptOf, WalkTree, Ends, Look, Then, Go, On, Last, Over, goes, job_outcome, verdict_of, decides, is_line, more_of}
+use Rattle.bus_spec.specs.Walk.{Job, Call, Select, SwitchOff, Deselect, Close, Take, Free, Send, Shift, Settle, ActOutcome, Sent, Lined, JobOutcome, Good, Refused, Unsent, Failed, Note, KeptOf, WalkTree, Ends, Look, Then, Go, On, Last, Over, goes, job_outcome, verdict_of, decides, is_line, more_of}
 use Rattle.bus_spec.specs.Slots.{Slots, answer_to}
 use Rattle.bus_spec.specs.Grammar.{Doer, plain, settled, over, by_go, messages, at_bus, locked, part, with_mark, aside, if_sent, if_good, kind_of, closing, left_behind, opened, chosen, keeps, crossed, behind, inner, walk_by, walk_for, seen, is_over, first_act, rest_of}
 use Rattle.bus_spec.specs.Past.{begun, current, now}
@@ -44,7 +44,7 @@ fails-settled false v w h = h
 failed_decides : (job : Job) → decides job Failed ≡ true
 failed_decides (Call bus ms) = refl
 failed_decides (Select h) = refl
-failed_decides (Clear on mux kind) = refl
+failed_decides (SwitchOff off) = refl
 
 settled-first : (x y : Bool) (w : WalkTree) → x ≡ true → y ≡ true → first_act (settled (x && y) (Some Eremoteio) w) ≡ Some (Settle (Some Eremoteio))
 settled-first true true w p q = refl
@@ -68,7 +68,7 @@ module _ (job : Job) (note : Note) (k : JobOutcome → WalkTree) (more : (o : Jo
 cut_over : (job : Job) (left q : ℕ) (bytes : List ℕ) → goes job left (Sent (end.Cut q) bytes) ≡ Over
 cut_over (Call bus ms) left q bytes = refl
 cut_over (Select h) left q bytes = refl
-cut_over (Clear on mux kind) left q bytes = refl
+cut_over (SwitchOff off) left q bytes = refl
 
 fails-go : (g : Go) (x y z : WalkTree) → FailsSettle x → FailsSettle y → FailsSettle z → FailsSettle (by_go g x y z)
 fails-go On x y z p q r = p
@@ -120,7 +120,7 @@ fails-if_sent Failed w k h more = more Failed
 
 fails-behind : (stays : Bool) (h : Hop) (on : Doer) → DoerFails on → (k : JobOutcome → WalkTree) → ((o : JobOutcome) → FailsSettle (k o)) → (out : JobOutcome) → FailsSettle (left_behind stays h on k out)
 fails-behind true h on each k more out = more out
-fails-behind false h on each k more out = each (Clear h.on h.mux h.kind) (aside h) (λ o. k out) (λ o. more out)
+fails-behind false h on each k more out = each (SwitchOff (Deselect h)) (aside h) (λ o. k out) (λ o. more out)
 
 fails-opened : (h : Hop) (on : Doer) → DoerFails on → DoerFails (opened h on)
 fails-opened h on each job note k more =
@@ -139,7 +139,7 @@ fails-closing : (b : BoardView) (h : Hop) (on : Doer) → DoerFails on → (note
     → ((o : JobOutcome) → FailsSettle (k o)) → FailsSettle w → (m : Option ℕ) → FailsSettle (closing b h on note k w m)
 fails-closing b h on each note k w more go None = go
 fails-closing b h on each note k w more go (Some m) =
-    each (Clear h.on m (kind_of b m)) (with_mark h.on m note) (λ o. if_sent o w k) (λ o. fails-if_sent o w k go more)
+    each (SwitchOff (Close h.on m (kind_of b m))) (with_mark h.on m note) (λ o. if_sent o w k) (λ o. fails-if_sent o w k go more)
 
 fails-inner : (b : BoardView) (root : ℕ) (hs : List Hop) → DoerFails (inner b root hs)
 fails-inner b root [] = fails-at_bus

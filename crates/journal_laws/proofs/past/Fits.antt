@@ -18,7 +18,7 @@ use Rattle.i2c_spec.specs.Messages.{MessageView, messages_of}
 use Rattle.i2c_spec.specs.Conversation.{world_listener}
 use Rattle.i2c_spec.specs.Flat.{refusal, block_limit}
 use Rattle.i2c_spec.specs.History.{Asks}
-use Rattle.bus_spec.specs.Walk.{Job, Call, Select, Clear, Act, Take, Free, Send, Shift, Settle, Passed, Sent, Lined, Note, WalkTree, job_outcome, decides, verdict_of, message_of, is_last, is_line, nth_message}
+use Rattle.bus_spec.specs.Walk.{Job, Call, Select, SwitchOff, Act, Take, Free, Send, Shift, Settle, Passed, Sent, Lined, Note, WalkTree, job_outcome, decides, verdict_of, message_of, is_last, is_line, nth_message}
 use Rattle.bus_spec.specs.Slots.{Slots}
 use Rattle.bus_spec.specs.Grammar.{walk_by, seen, is_over, first_act, first_note, rest_of}
 use Rattle.bus_spec.specs.Readings.{caller_of}
@@ -39,7 +39,7 @@ use Rattle.bus_laws.proofs.walk.Calls.{walk-calls}
 use Rattle.bus_laws.proofs.walk.Jobs.{walk-jobs}
 use Rattle.bus_laws.proofs.walk.First.{walk-first}
 use Rattle.bus_laws.proofs.walk.Reads.{message-reads}
-use Rattle.bus_laws.proofs.walk.Next.{seen-first, jobs-next, job-shifted, calls-next, call-sent, settles-taken, settles-freed, settles-sent, settles-shifted, settles-settled, quiet-next, what_follows, call-follows, first-taken, first-freed, first-selected, first-cleared, first-shifted, first-sent}
+use Rattle.bus_laws.proofs.walk.Next.{seen-first, jobs-next, job-shifted, calls-next, call-sent, settles-taken, settles-freed, settles-sent, settles-shifted, settles-settled, quiet-next, what_follows, call-follows, first-taken, first-freed, first-selected, first-switched-off, first-shifted, first-sent}
 use Rattle.bus_laws.proofs.past.StandsStep.{at_same}
 use Rattle.bus_laws.proofs.past.StandsFacts.{over_ends}
 use Rattle.bus_laws.proofs.past.Asked.{settles_seen, settled-told, sent_settled, lined_settled}
@@ -103,8 +103,8 @@ line_errs : (job : Job) (failed : Bool) → is_line job ≡ true → decides job
 line_errs (Call bus ms) failed line d none = (let f : false ≡ true = line in cc)
 line_errs (Select h) true line d none = (let f : verdict_of (Select h) zero (Lined true) ≡ None = none in cc)
 line_errs (Select h) false line d none = (let f : false ≡ true = d in cc)
-line_errs (Clear on mux kind) true line d none = (let f : verdict_of (Clear on mux kind) zero (Lined true) ≡ None = none in cc)
-line_errs (Clear on mux kind) false line d none = (let f : false ≡ true = d in cc)
+line_errs (SwitchOff off) true line d none = (let f : verdict_of (SwitchOff off) zero (Lined true) ≡ None = none in cc)
+line_errs (SwitchOff off) false line d none = (let f : false ≡ true = d in cc)
 
 -- ONE STEP
 module _ (b : BoardView) (asks : List Reply → Option TransferView) (v : Slots) (w : WalkTree) (settled : List Reply) (got : List ℕ) (is : IsReading b asks w settled got) where
@@ -413,9 +413,9 @@ module _ (b : BoardView) (asks : Asks) (some : AsksForMessages asks) (callers : 
           → IsReading b (asks c) (rest_of (seen n.slot w) (Sent en bytes)) (n.settled c) (got_after job reading bytes (n.got c))
       by (Select h) left next tells =
           controlled b (asks c) n.slot w (n.settled c) (n.got c) is (Select h) left next (λ s ms f. let g : Select h ≡ Call s ms = f in cc) en bytes (λ firsts. first-selected n.slot w firsts h left next en bytes)
-      by (Clear on mux kind) left next tells =
-          controlled b (asks c) n.slot w (n.settled c) (n.got c) is (Clear on mux kind) left next (λ s ms f. let g : Clear on mux kind ≡ Call s ms = f in cc) en bytes
-          (λ firsts. first-cleared n.slot w firsts on mux kind left next en bytes)
+      by (SwitchOff off) left next tells =
+          controlled b (asks c) n.slot w (n.settled c) (n.got c) is (SwitchOff off) left next (λ s ms f. let g : SwitchOff off ≡ Call s ms = f in cc) en bytes
+          (λ firsts. first-switched-off n.slot w firsts off left next en bytes)
       by (Call s ms) left next tells =
           called b (asks c) n.slot w (n.settled c) (n.got c) is s ms left next en bytes reading tells.in_direction
           (λ reads fine. subst (λ (xs : List ℕ). GaveRead (block_limit b) (message_of b (Call s ms) left).counted (message_of b (Call s ms) left).len xs) (sym tells.bytes_told)

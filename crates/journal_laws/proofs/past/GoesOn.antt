@@ -15,7 +15,7 @@ use Rattle.i2c_spec.specs.World.{World, hearers}
 use Rattle.i2c_spec.specs.Conversation.{TalkTold, world_listener, talk}
 use Rattle.i2c_spec.specs.Flat.{block_limit}
 use Rattle.i2c_spec.specs.History.{Asks}
-use Rattle.bus_spec.specs.Walk.{Job, Call, Select, Clear, Act, Take, Free, Send, Shift, Settle, job_bus, job_purpose, message_of, is_last, part_of, parts_of, line_mux, line_level}
+use Rattle.bus_spec.specs.Walk.{Job, Call, Select, SwitchOff, off_mux, Act, Take, Free, Send, Shift, Settle, job_bus, job_purpose, message_of, is_last, part_of, parts_of, line_mux, line_level}
 use Rattle.bus_spec.specs.Grammar.{first_act}
 use Rattle.bus_spec.specs.Readings.{caller_of, holder}
 use Rattle.bus_spec.specs.Past.{Now, begun, current, now, talk_of, cut_of}
@@ -113,9 +113,9 @@ module _ (b : BoardView) (tree : IsTree b) (plain : IsPlainBoard b) (lines : Lin
   act_comes c known none (Send (Select h) left) next free =
       message_comes c known none (Select h) left next (chip_where b h.mux)
       (control-switches b tree plain lines asks some callers past steps c (Select h) left h.mux refl next).heard
-  act_comes c known none (Send (Clear on mux kind) left) next free =
-      message_comes c known none (Clear on mux kind) left next (chip_where b mux)
-      (control-switches b tree plain lines asks some callers past steps c (Clear on mux kind) left mux refl next).heard
+  act_comes c known none (Send (SwitchOff off) left) next free =
+      message_comes c known none (SwitchOff off) left next (chip_where b (off_mux off))
+      (control-switches b tree plain lines asks some callers past steps c (SwitchOff off) left (off_mux off) refl next).heard
   act_comes c known none (Shift job) next free =
       record {
         entry = entry.Line c (line_mux job) (line_level job) false;

@@ -23,7 +23,7 @@ use Rattle.i2c_spec.specs.Chips.{opens, select_value, close_value}
 use Rattle.i2c_spec.specs.Conversation.{world_listener, is_good}
 use Rattle.i2c_spec.specs.Flat.{block_limit}
 use Rattle.i2c_spec.specs.History.{Asks}
-use Rattle.bus_spec.specs.Walk.{Mark, Job, Call, Select, Clear, Act, Send, Shift, Sent, Lined, Note, job_bus, job_purpose, message_of, is_last, is_arbitrator, line_mux, line_level}
+use Rattle.bus_spec.specs.Walk.{Mark, Job, Call, Select, SwitchOff, Off, off_bus, off_mux, Act, Send, Shift, Sent, Lined, Note, job_bus, job_purpose, message_of, is_last, is_arbitrator, line_mux, line_level}
 use Rattle.bus_spec.specs.Slots.{Slots, At, MuxSlot, Clean, Marked, turned, set_marks, polled_slot, after_job}
 use Rattle.bus_spec.specs.Grammar.{first_note}
 use Rattle.bus_spec.specs.Past.{Now, current, now, kept_channel, cut_of, sent_by, lined_by}
@@ -187,31 +187,31 @@ module _ (b : BoardView) (tree : IsTree b) (plain : IsPlainBoard b) (v : Slots) 
         by n (end.Cut q) ready direction told =
             failed-reads b v h.mux h.on hop.home (own_select (is_arbitrator h.kind) h n (v h.on) ready.finds.0) (sent_told b reading bytes (end.Cut q)) old so held marks ready.may_fail ready.owns.1 m
 
-    clear-reads : (on mux : ℕ) (kind : MuxKind) (left : ℕ) → MaySend b whose (Clear on mux kind) left marks held v → (reading : Bool) → reading ≡ false → (bytes : List ℕ) (e : End)
-        → (e ≡ end.Ok → TellsWritten (Clear on mux kind) left reading bytes) → (m : ℕ)
-        → Reads b (after_job (Clear on mux kind) left marks (Sent e bytes) v) (after_told mux (sent_told b reading bytes e) old) m
-    clear-reads on mux kind left may reading writing bytes e written m = by e written
+    off-reads : (off : Off) (left : ℕ) → MaySend b whose (SwitchOff off) left marks held v → (reading : Bool) → reading ≡ false → (bytes : List ℕ) (e : End)
+        → (e ≡ end.Ok → TellsWritten (SwitchOff off) left reading bytes) → (m : ℕ)
+        → Reads b (after_job (SwitchOff off) left marks (Sent e bytes) v) (after_told (off_mux off) (sent_told b reading bytes e) old) m
+    off-reads off left may reading writing bytes e written m = by e written
       where
-        turns : (x : End) → sent_told b reading bytes x mux ≡ None → Reads b (turned v on mux Clean None) (after_told mux (sent_told b reading bytes x) old) m
-        turns x told = turned-reads b v mux on may.finds.1 (own_open mux (v on).slot may.finds.0) (sent_told b reading bytes x) old so Clean None told m
+        turns : (x : End) → sent_told b reading bytes x (off_mux off) ≡ None → Reads b (turned v (off_bus off) (off_mux off) Clean None) (after_told (off_mux off) (sent_told b reading bytes x) old) m
+        turns x told = turned-reads b v (off_mux off) (off_bus off) may.finds.1 (own_open off (v (off_bus off)).slot may.finds.0) (sent_told b reading bytes x) old so Clean None told m
 
-        by : (x : End) → (x ≡ end.Ok → TellsWritten (Clear on mux kind) left reading bytes)
-            → Reads b (after_job (Clear on mux kind) left marks (Sent x bytes) v) (after_told mux (sent_told b reading bytes x) old) m
+        by : (x : End) → (x ≡ end.Ok → TellsWritten (SwitchOff off) left reading bytes)
+            → Reads b (after_job (SwitchOff off) left marks (Sent x bytes) v) (after_told (off_mux off) (sent_told b reading bytes x) old) m
         by end.Ok told =
-            turns end.Ok (ap (λ (t : Bool). cond (not t) (channel_written b mux bytes) None) writing ∙ ap (channel_written b mux) (told refl refl) ∙ close_channel b mux)
+            turns end.Ok (ap (λ (t : Bool). cond (not t) (channel_written b (off_mux off) bytes) None) writing ∙ ap (channel_written b (off_mux off)) (told refl refl) ∙ close_channel b (off_mux off))
         by end.Nack told = turns end.Nack refl
         by end.Slow told = turns end.Slow refl
         by end.Refused told = turns end.Refused refl
         by end.Proto told = turns end.Proto refl
         by (end.Cut q) told =
-            failed-reads b v mux on may.finds.1 (own_open mux (v on).slot may.finds.0) (sent_told b reading bytes (end.Cut q)) old so held marks may.may_fail may.owns.1 m
+            failed-reads b v (off_mux off) (off_bus off) may.finds.1 (own_open off (v (off_bus off)).slot may.finds.0) (sent_told b reading bytes (end.Cut q)) old so held marks may.may_fail may.owns.1 m
 
     sent-reads : (job : Job) (left : ℕ) → MaySend b whose job left marks held v → (reading : Bool) → reading ≡ (message_of b job left).reading → (bytes : List ℕ) (e : End)
         → (e ≡ end.Ok → TellsWritten job left reading bytes) → (m : ℕ)
         → Reads b (after_job job left marks (Sent e bytes) v) (λ n. cond (switches n (job_purpose job)) (sent_told b reading bytes e n) (old n)) m
     sent-reads (Call bus ms) left may reading is bytes e written m = so m
     sent-reads (Select h) left may reading is bytes e written m = select-reads h left may reading is bytes e written m
-    sent-reads (Clear on mux kind) left may reading is bytes e written m = clear-reads on mux kind left may reading is bytes e written m
+    sent-reads (SwitchOff off) left may reading is bytes e written m = off-reads off left may reading is bytes e written m
 
   lined-reads : (job : Job) → MayShift b job marks held v → (failed : Bool) → (m : ℕ)
       → Reads b (after_job job zero marks (Lined failed) v) (after_told (line_mux job) (lined_told b (line_level job) failed) old) m
@@ -221,10 +221,10 @@ module _ (b : BoardView) (tree : IsTree b) (plain : IsPlainBoard b) (v : Slots) 
   lined-reads (Select h) may false m =
       turned-reads b v h.mux h.on (tree.hop h.bus h may.finds.1).home (own_select (is_arbitrator h.kind) h zero (v h.on) may.finds.0) (lined_told b (select_value h.kind h.channel) false) old so Clean (Some h.channel)
       (select_channel b plain h (tree.hop h.bus h may.finds.1) (tree.within h.bus h may.finds.2 may.finds.1)) m
-  lined-reads (Clear on mux kind) may true m =
-      failed-reads b v mux on may.finds.1 (own_open mux (v on).slot may.finds.0) (lined_told b close_value true) old so held marks may.may_fail may.owns.1 m
-  lined-reads (Clear on mux kind) may false m =
-      turned-reads b v mux on may.finds.1 (own_open mux (v on).slot may.finds.0) (lined_told b close_value false) old so Clean None (close_channel b mux) m
+  lined-reads (SwitchOff off) may true m =
+      failed-reads b v (off_mux off) (off_bus off) may.finds.1 (own_open off (v (off_bus off)).slot may.finds.0) (lined_told b close_value true) old so held marks may.may_fail may.owns.1 m
+  lined-reads (SwitchOff off) may false m =
+      turned-reads b v (off_mux off) (off_bus off) may.finds.1 (own_open off (v (off_bus off)).slot may.finds.0) (lined_told b close_value false) old so Clean None (close_channel b (off_mux off)) m
 
 -- EVERY PAST
 module _ (b : BoardView) (tree : IsTree b) (plain : IsPlainBoard b) (lines : LinesAreLocked b) (asks : Asks) (some : AsksForMessages asks) (callers : ℕ) where
@@ -268,29 +268,29 @@ module _ (b : BoardView) (tree : IsTree b) (plain : IsPlainBoard b) (lines : Lin
         → (after_job job left marks (Sent e bytes) v p).kept m ≡ None
     sent_shut v marks (Call bus ms) left e bytes closes through = absurd closes
     sent_shut v marks (Select h) left e bytes closes through = absurd closes
-    sent_shut v marks (Clear on mux kind) left end.Ok bytes closes through = shut_at v on mux closes
-    sent_shut v marks (Clear on mux kind) left end.Nack bytes closes through = shut_at v on mux closes
-    sent_shut v marks (Clear on mux kind) left end.Slow bytes closes through = shut_at v on mux closes
-    sent_shut v marks (Clear on mux kind) left end.Refused bytes closes through = shut_at v on mux closes
-    sent_shut v marks (Clear on mux kind) left end.Proto bytes closes through = shut_at v on mux closes
-    sent_shut v marks (Clear on mux kind) left (end.Cut q) bytes closes through = absurd (let f : true ≡ false = through in cc)
+    sent_shut v marks (SwitchOff off) left end.Ok bytes closes through = shut_at v (off_bus off) (off_mux off) closes
+    sent_shut v marks (SwitchOff off) left end.Nack bytes closes through = shut_at v (off_bus off) (off_mux off) closes
+    sent_shut v marks (SwitchOff off) left end.Slow bytes closes through = shut_at v (off_bus off) (off_mux off) closes
+    sent_shut v marks (SwitchOff off) left end.Refused bytes closes through = shut_at v (off_bus off) (off_mux off) closes
+    sent_shut v marks (SwitchOff off) left end.Proto bytes closes through = shut_at v (off_bus off) (off_mux off) closes
+    sent_shut v marks (SwitchOff off) left (end.Cut q) bytes closes through = absurd (let f : true ≡ false = through in cc)
 
     lined_shut : (v : Slots) (marks : List Mark) (job : Job) (failed : Bool) → Closes p m (Some (Shift job)) → failed ≡ false → (after_job job zero marks (Lined failed) v p).kept m ≡ None
     lined_shut v marks (Call bus ms) failed closes through = absurd closes
     lined_shut v marks (Select h) failed closes through = absurd closes
-    lined_shut v marks (Clear on mux kind) true closes through = absurd (let f : true ≡ false = through in cc)
-    lined_shut v marks (Clear on mux kind) false closes through = shut_at v on mux closes
+    lined_shut v marks (SwitchOff off) true closes through = absurd (let f : true ≡ false = through in cc)
+    lined_shut v marks (SwitchOff off) false closes through = shut_at v (off_bus off) (off_mux off) closes
 
-    -- the mux of a close stands on its bus
+    -- a mux that is deselected or closed stands on its bus
     sent_home : (whose : TransferView) (job : Job) (left : ℕ) (marks : List Mark) (held : List LockId) (v : Slots) → MaySend b whose job left marks held v → Closes p m (Some (Send job left)) → home_of_mux b m ≡ p
     sent_home whose (Call bus ms) left marks held v may closes = absurd closes
     sent_home whose (Select h) left marks held v may closes = absurd closes
-    sent_home whose (Clear on mux kind) left marks held v may closes = ap (home_of_mux b) (sym closes.1) ∙ may.finds.1 ∙ closes.0
+    sent_home whose (SwitchOff off) left marks held v may closes = ap (home_of_mux b) (sym closes.1) ∙ may.finds.1 ∙ closes.0
 
     lined_home : (job : Job) (marks : List Mark) (held : List LockId) (v : Slots) → MayShift b job marks held v → Closes p m (Some (Shift job)) → home_of_mux b m ≡ p
     lined_home (Call bus ms) marks held v may closes = absurd closes
     lined_home (Select h) marks held v may closes = absurd closes
-    lined_home (Clear on mux kind) marks held v may closes = ap (home_of_mux b) (sym closes.1) ∙ may.finds.1 ∙ closes.0
+    lined_home (SwitchOff off) marks held v may closes = ap (home_of_mux b) (sym closes.1) ∙ may.finds.1 ∙ closes.0
 
     pub closed-keeps-none : (e : Entry) (past : List Entry) → IsStepwise b callers asks (e ∷ past) → HasClosed b asks p m e past → kept_channel b asks (e ∷ past) m ≡ None
     closed-keeps-none (entry.Take c l) past steps closed = absurd (subst (Closes p m) steps.0.2 closed.0)

@@ -10,7 +10,7 @@ use Rattle.i2c_spec.specs.Tree.{Hop, hops, IsAmongHops}
 use Rattle.i2c_spec.specs.TreeFacts.{IsTree}
 use Rattle.i2c_spec.specs.Plain.{IsPlainBoard}
 use Rattle.i2c_spec.specs.History.{Asks}
-use Rattle.bus_spec.specs.Walk.{Mark, Job, Call, Select, Clear, Act, Send, Shift, job_bus, is_arbitrator}
+use Rattle.bus_spec.specs.Walk.{Mark, Job, Call, Select, SwitchOff, Off, off_bus, off_mux, Act, Send, Shift, job_bus, is_arbitrator}
 use Rattle.bus_spec.specs.Slots.{Slots, At, MuxSlot, Clean, Marked, Polled, Found, mark_in}
 use Rattle.bus_spec.specs.Grammar.{first_act, first_note}
 use Rattle.bus_spec.specs.Readings.{OfMessage, caller_of}
@@ -20,6 +20,7 @@ use Rattle.bus_spec.specs.Stepwise.{IsNext, IsStepwise}
 use Rattle.bus_laws.specs.Runs.{FindsPoll, FindsSelect, FindsOpen, IsOfMux, MayFail}
 use Rattle.bus_laws.specs.Lines.{LinesAreLocked}
 use Rattle.bus_laws.specs.Reach.{AsksForMessages}
+use Rattle.bus_laws.proofs.world.Sends.{own_open}
 use Rattle.bus_laws.proofs.tree.Slots.{marked_slot}
 use Rattle.bus_laws.proofs.past.Laws.{sends, shifts}
 use Rattle.journal_laws.specs.Faulty.{Closes, HasClosed, NoneCloses, PassesBy}
@@ -59,12 +60,14 @@ module _ (p m : ℕ) where
         | inr e ↦ inl (ap (λ (t : Bool). cond t None (Some m)) e.0)
       ]
 
-  stays-clear : (on mux : ℕ) (kind : _) (act : Option Act) (v : Slots) (marks : List Mark) → mark_among marks p (Some m) ≡ Some m → (v p).slot ≡ Marked m
-      → FindsOpen mux (v on).slot → ((on ≡ p) × (mux ≡ m) → Closes p m act) → (failed : Bool) → StaysOr act (Clear on mux kind) marks failed
-  stays-clear on mux kind act v marks stays at finds closes true = inl stays
-  stays-clear on mux kind act v marks stays at finds closes false =
-      elim (eqb_tells p on) [
-        | inl e ↦ (let same : m ≡ mux = subst (λ (s : MuxSlot). FindsOpen mux s) (ap (λ (q : ℕ). (v q).slot) (sym e.1) ∙ at) finds in
+  stays-off : (off : Off) (act : Option Act) (v : Slots) (marks : List Mark) → mark_among marks p (Some m) ≡ Some m → (v p).slot ≡ Marked m
+      → FindsOpen off (v (off_bus off)).slot → ((off_bus off ≡ p) × (off_mux off ≡ m) → Closes p m act) → (failed : Bool)
+      → StaysOr act (SwitchOff off) marks failed
+  stays-off off act v marks stays at finds closes true = inl stays
+  stays-off off act v marks stays at finds closes false =
+      elim (eqb_tells p (off_bus off)) [
+        | inl e ↦ (let same : m ≡ off_mux off =
+            subst (λ (s : MuxSlot). IsOfMux (off_mux off) s) (ap (λ (q : ℕ). (v q).slot) (sym e.1) ∙ at) (own_open off (v (off_bus off)).slot finds) in
             inr (closes (sym e.1, sym same), refl))
         | inr e ↦ inl (ap (λ (t : Bool). cond t None (Some m)) e.0)
       ]
@@ -85,9 +88,9 @@ module _ (b : BoardView) (tree : IsTree b) (plain : IsPlainBoard b) (lines : Lin
           let may = sends b tree plain lines asks some callers past steps c (Select h) left next in
           stays-select p m h left (Some (Send (Select h) left)) n.slot (first_note (current b asks n c)).marks
           (among_stays p m b (n.held c) n.slot (first_note (current b asks n c)).marks may.may_fail at_mark) at_mark may.finds.0 failed
-      stays-sent (Clear on mux kind) left next failed =
-          let may = sends b tree plain lines asks some callers past steps c (Clear on mux kind) left next in
-          stays-clear p m on mux kind (Some (Send (Clear on mux kind) left)) n.slot (first_note (current b asks n c)).marks
+      stays-sent (SwitchOff off) left next failed =
+          let may = sends b tree plain lines asks some callers past steps c (SwitchOff off) left next in
+          stays-off p m off (Some (Send (SwitchOff off) left)) n.slot (first_note (current b asks n c)).marks
           (among_stays p m b (n.held c) n.slot (first_note (current b asks n c)).marks may.may_fail at_mark) at_mark may.finds.0 (λ e. e) failed
 
       stays-lined : (job : Job) → IsNext b asks n c (Shift job) → (failed : Bool)
@@ -97,9 +100,9 @@ module _ (b : BoardView) (tree : IsTree b) (plain : IsPlainBoard b) (lines : Lin
           let may = shifts b tree plain lines asks some callers past steps c (Select h) next in
           stays-select p m h zero (Some (Shift (Select h))) n.slot (first_note (current b asks n c)).marks
           (among_stays p m b (n.held c) n.slot (first_note (current b asks n c)).marks may.may_fail at_mark) at_mark may.finds.0 failed
-      stays-lined (Clear on mux kind) next failed =
-          let may = shifts b tree plain lines asks some callers past steps c (Clear on mux kind) next in
-          stays-clear p m on mux kind (Some (Shift (Clear on mux kind))) n.slot (first_note (current b asks n c)).marks
+      stays-lined (SwitchOff off) next failed =
+          let may = shifts b tree plain lines asks some callers past steps c (SwitchOff off) next in
+          stays-off p m off (Some (Shift (SwitchOff off))) n.slot (first_note (current b asks n c)).marks
           (among_stays p m b (n.held c) n.slot (first_note (current b asks n c)).marks may.may_fail at_mark) at_mark may.finds.0 (λ e. e) failed
 
   -- an entry more leaves a mark, or it is the close

@@ -9,7 +9,7 @@ use Rattle.i2c_base.specs.declared.entry.Entry.TheVariants as entry
 use Rattle.i2c_base.specs.Board.{BoardView}
 use Rattle.i2c_spec.specs.Tree.{Hop}
 use Rattle.i2c_spec.specs.History.{Asks, changed_at}
-use Rattle.bus_spec.specs.Walk.{Mark, Job, Call, Select, Clear, Act, Take, Free, Send, Shift, Settle, ActOutcome, Passed, Sent, Lined, Note, WalkTree}
+use Rattle.bus_spec.specs.Walk.{Mark, Job, Call, Select, SwitchOff, off_bus, off_mux, Act, Take, Free, Send, Shift, Settle, ActOutcome, Passed, Sent, Lined, Note, WalkTree}
 use Rattle.bus_spec.specs.Slots.{Slots, At, MuxSlot, Clean, Marked, mark_in, set_marks, polled_slot, select_told, turned_at, turned, after_job}
 use Rattle.bus_spec.specs.Grammar.{first_act, first_note, rest_of}
 use Rattle.bus_spec.specs.Readings.{caller_of}
@@ -73,20 +73,20 @@ sent_mark (Select h) left marks end.Slow bytes v p = turned_mark v h.on h.mux p 
 sent_mark (Select h) left marks end.Refused bytes v p = turned_mark v h.on h.mux p Clean None refl
 sent_mark (Select h) left marks end.Proto bytes v p = turned_mark v h.on h.mux p Clean None refl
 sent_mark (Select h) left marks (end.Cut q) bytes v p = marked_among marks v p
-sent_mark (Clear on m kind) left marks end.Ok bytes v p = turned_mark v on m p Clean None refl
-sent_mark (Clear on m kind) left marks end.Nack bytes v p = turned_mark v on m p Clean None refl
-sent_mark (Clear on m kind) left marks end.Slow bytes v p = turned_mark v on m p Clean None refl
-sent_mark (Clear on m kind) left marks end.Refused bytes v p = turned_mark v on m p Clean None refl
-sent_mark (Clear on m kind) left marks end.Proto bytes v p = turned_mark v on m p Clean None refl
-sent_mark (Clear on m kind) left marks (end.Cut q) bytes v p = marked_among marks v p
+sent_mark (SwitchOff off) left marks end.Ok bytes v p = turned_mark v (off_bus off) (off_mux off) p Clean None refl
+sent_mark (SwitchOff off) left marks end.Nack bytes v p = turned_mark v (off_bus off) (off_mux off) p Clean None refl
+sent_mark (SwitchOff off) left marks end.Slow bytes v p = turned_mark v (off_bus off) (off_mux off) p Clean None refl
+sent_mark (SwitchOff off) left marks end.Refused bytes v p = turned_mark v (off_bus off) (off_mux off) p Clean None refl
+sent_mark (SwitchOff off) left marks end.Proto bytes v p = turned_mark v (off_bus off) (off_mux off) p Clean None refl
+sent_mark (SwitchOff off) left marks (end.Cut q) bytes v p = marked_among marks v p
 
 lined_mark : (job : Job) (marks : List Mark) (failed : Bool) (v : Slots) (p : ℕ)
     → mark_in (after_job job 0 marks (Lined failed) v p).slot ≡ mark_after job marks failed p (mark_in (v p).slot)
 lined_mark (Call bus ms) marks failed v p = refl
 lined_mark (Select h) marks true v p = marked_among marks v p
 lined_mark (Select h) marks false v p = turned_mark v h.on h.mux p Clean (Some h.channel) refl
-lined_mark (Clear on m kind) marks true v p = marked_among marks v p
-lined_mark (Clear on m kind) marks false v p = turned_mark v on m p Clean None refl
+lined_mark (SwitchOff off) marks true v p = marked_among marks v p
+lined_mark (SwitchOff off) marks false v p = turned_mark v (off_bus off) (off_mux off) p Clean None refl
 
 -- the mark of a bus
 module _ (b : BoardView) (n : Now) (c p : ℕ) (note : Note) where

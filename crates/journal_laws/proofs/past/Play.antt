@@ -28,7 +28,7 @@ use Rattle.i2c_spec.specs.World.{World, hearers}
 use Rattle.i2c_spec.specs.Conversation.{Listener, Said, TalkTold, world_listener, is_it, silence, say, with_byte, told, call_then, ended, puts, gets, gets_counted, data_of, by_answer, talk}
 use Rattle.i2c_spec.specs.Flat.{block_limit}
 use Rattle.i2c_spec.specs.History.{Asks}
-use Rattle.bus_spec.specs.Walk.{Job, Call, Select, Clear, Act, Take, Free, Send, Shift, Settle, job_bus, job_purpose, part_of, parts_of, line_level, message_of, is_last}
+use Rattle.bus_spec.specs.Walk.{Job, Call, Select, SwitchOff, off_mux, Act, Take, Free, Send, Shift, Settle, job_bus, job_purpose, part_of, parts_of, line_level, message_of, is_last}
 use Rattle.bus_spec.specs.Grammar.{first_act}
 use Rattle.bus_spec.specs.Past.{Now, opening, current, now, step, cut_of, talk_of}
 use Rattle.bus_spec.specs.Readings.{MessageEntry, caller_of}
@@ -256,8 +256,8 @@ module _ (b : BoardView) (tree : IsTree b) (plain : IsPlainBoard b) (lines : Lin
         let h = call-reaches b tree plain lines asks some callers past steps c bus ms left next in
         (who_hears b (n.worlds (root_of b bus)) bus h.transfer.force (message_of b (Call bus ms) left).addr (message_of b (Call bus ms) left).reading, h.heard)
     one_hears c (Select g) left next = (chip_where b g.mux, (control-switches b tree plain lines asks some callers past steps c (Select g) left g.mux refl next).heard)
-    one_hears c (Clear on mux kind) left next =
-        (chip_where b mux, (control-switches b tree plain lines asks some callers past steps c (Clear on mux kind) left mux refl next).heard)
+    one_hears c (SwitchOff off) left next =
+        (chip_where b (off_mux off), (control-switches b tree plain lines asks some callers past steps c (SwitchOff off) left (off_mux off) refl next).heard)
 
     -- WHAT PLAY ADDS may come
     may-message : (c : ℕ) (job : Job) (left : ℕ) (t : TalkTold World) (cut : Option ℕ) → t ≡ talk_in b (n.worlds (root_of b (job_bus job))) job left cut

@@ -16,7 +16,7 @@ use Rattle.i2c_spec.specs.Tree.{buses, root_of, home_of_mux}
 use Rattle.i2c_spec.specs.TreeFacts.{IsTree}
 use Rattle.i2c_spec.specs.Plain.{IsPlainBoard}
 use Rattle.i2c_spec.specs.History.{Asks}
-use Rattle.bus_spec.specs.Walk.{Job, Call, Select, Clear, Send, job_bus}
+use Rattle.bus_spec.specs.Walk.{Job, Call, Select, SwitchOff, off_mux, Send, job_bus}
 use Rattle.bus_spec.specs.Grammar.{first_act}
 use Rattle.bus_spec.specs.Readings.{caller_of, cut_told, last_cut, is_on_root}
 use Rattle.bus_spec.specs.Past.{now, calls_of, is_due}
@@ -156,8 +156,8 @@ module _ (b : BoardView) (tree : IsTree b) (plain : IsPlainBoard b) (lines : Lin
   job_there past steps c (Call bus ms) left next = (call-reaches b tree plain lines asks some callers past steps c bus ms left next).there
   job_there past steps c (Select h) left next =
       subst (λ (i : ℕ). i < buses b) (tree.hop h.bus h (sends b tree plain lines asks some callers past steps c (Select h) left next).finds.1).home (home_there b plain h.mux)
-  job_there past steps c (Clear on mux kind) left next =
-      subst (λ (i : ℕ). i < buses b) (sends b tree plain lines asks some callers past steps c (Clear on mux kind) left next).finds.1 (home_there b plain mux)
+  job_there past steps c (SwitchOff off) left next =
+      subst (λ (i : ℕ). i < buses b) (sends b tree plain lines asks some callers past steps c (SwitchOff off) left next).finds.1 (home_there b plain (off_mux off))
 
   one_root : (e : Entry) (past : List Entry) → IsStepwise b callers asks (e ∷ past) → sum_by (λ r. count_if (is_on_root b r e && is_failed e)) roots ≡ count_if (is_failed e)
   one_root (entry.Take c l) past steps = sum_none 0 (length b.roots)

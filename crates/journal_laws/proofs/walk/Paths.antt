@@ -6,7 +6,7 @@ use Rattle.i2c_base.specs.declared.ids.LockId.{LockId}
 use Rattle.i2c_base.specs.declared.errno.Errno.{Errno}
 use Rattle.i2c_base.specs.Board.{BoardView}
 use Rattle.i2c_spec.specs.Tree.{Hop, locks_of}
-use Rattle.bus_spec.specs.Walk.{Job, Select, Clear, Act, Take, Free, Send, Shift, Settle, ActOutcome, Passed, JobOutcome, Good, Refused, Unsent, Failed, Note, Ask, MarkOf, KeptOf, WalkTree, Ends, Look, Then, Go, On, Last, Over, goes, job_outcome, verdict_of, decides, is_line, more_of}
+use Rattle.bus_spec.specs.Walk.{Job, Select, SwitchOff, Deselect, Close, Act, Take, Free, Send, Shift, Settle, ActOutcome, Passed, JobOutcome, Good, Refused, Unsent, Failed, Note, Ask, MarkOf, KeptOf, WalkTree, Ends, Look, Then, Go, On, Last, Over, goes, job_outcome, verdict_of, decides, is_line, more_of}
 use Rattle.bus_spec.specs.Grammar.{Doer, plain, settled, over, by_go, messages, at_bus, locked, part, with_mark, aside, if_sent, if_good, kind_of, closing, left_behind, opened, chosen, crossed, behind, inner, full}
 use Rattle.bus_spec.specs.Grammar as grammar
 use Rattle.journal_laws.specs.Paths.{Rule, PathStep, Saw, Did, IsPath, act_of, IsDoneBy}
@@ -322,12 +322,12 @@ module _ (on : Doer) (rule : Rule) (keeps : Keeps on rule) where
       → (done : List PathStep) × (rest : List PathStep) × (steps ≡ done ++ rest) × IsLeft stays h rule done × IsPath rest (k o) Ends
   splits-left true h o k steps path = ([], steps, refl, refl, path)
   splits-left false h o k steps path =
-      let t = keeps.splits (Clear h.on h.mux h.kind) (aside h) (λ x. k o) steps path in
+      let t = keeps.splits (SwitchOff (Deselect h)) (aside h) (λ x. k o) steps path in
       (t.done, t.rest, t.all, (t.out, t.kept), t.goes_on)
 
   leads-left : (stays : Bool) (h : Hop) (o : JobOutcome) (steps : List PathStep) → IsLeft stays h rule steps → (k : JobOutcome → WalkTree) → IsPath steps (left_behind stays h on k o) (k o)
   leads-left true h o steps kept k = subst (λ (xs : List PathStep). IsPath xs (k o) (k o)) (sym kept) refl
-  leads-left false h o steps kept k = keeps.leads (Clear h.on h.mux h.kind) (aside h) steps kept.0 kept.1 (λ x. k o)
+  leads-left false h o steps kept k = keeps.leads (SwitchOff (Deselect h)) (aside h) steps kept.0 kept.1 (λ x. k o)
 
   splits-opened : (h : Hop) (job : Job) (note : Note) → Splits (opened h on job note) (IsOpened h rule job note.forward)
   splits-opened h job note k steps path =
@@ -451,7 +451,8 @@ module _ (on : Doer) (rule : Rule) (keeps : Keeps on rule) where
           goes_on = s.goes_on;
         }
     splits-closing (Some m) k steps path =
-        let s = keeps.splits (Clear h.on m (kind_of b m)) (with_mark h.on m note) (λ o. if_sent o (passing h job note k) k) steps path in
+        let s = keeps.splits (SwitchOff (Close h.on m (kind_of b m))) (with_mark h.on m note)
+        (λ o. if_sent o (passing h job note k) k) steps path in
         let t = splits-if_sent s.out (passing h job note) (IsPassed h rule job note.forward) (splits-passed h job note) k s.rest s.goes_on in
         record {
           out = t.out;
@@ -471,7 +472,7 @@ module _ (on : Doer) (rule : Rule) (keeps : Keeps on rule) where
     leads-closing (Some m) steps out kept k =
         subst (λ (xs : List PathStep). IsPath xs (closing b h on note k (passing h job note k) (Some m)) (k out)) (sym kept.all)
         (path_append kept.closed kept.rest (closing b h on note k (passing h job note k) (Some m)) (if_sent kept.came (passing h job note k) k) (k out)
-        (keeps.leads (Clear h.on m (kind_of b m)) (with_mark h.on m note) kept.closed kept.came kept.close_done (λ o. if_sent o (passing h job note k) k))
+        (keeps.leads (SwitchOff (Close h.on m (kind_of b m))) (with_mark h.on m note) kept.closed kept.came kept.close_done (λ o. if_sent o (passing h job note k) k))
         (leads-if_sent kept.came (passing h job note) (IsPassed h rule job note.forward) (leads-passed h job note) kept.rest out kept.goes_on k))
 
     splits-behind : Splits (behind b h on job note) (IsBehindMux b h rule job note.forward)

@@ -8,7 +8,7 @@ use Rattle.bus_spec.specs.Past.{now}
 use Rattle.bus_spec.specs.Legal.{steps_in}
 use Rattle.journal_laws.proofs.past.Follow.{Head, walks-follow, head_in, head_by, head-told}
 use Rattle.bus_spec.specs.Rows as row
-use Rattle.bus_spec.specs.Walk.{Select, Clear, Send}
+use Rattle.bus_spec.specs.Walk.{Select, SwitchOff, Close, Send}
 use Rattle.journal_laws.specs.Wrong.{kept_board, keep_asks, behind_a_failed_select, kept_over_the_mark, kept_over_the_close}
 use Rattle.journal_laws.proofs.wrong.a_failed_select_forgets_what_was_kept.Goals as goal
 
@@ -18,7 +18,7 @@ returns c =
       mark = λ callers legal.
           (let steps = walks-follow kept_board (keep_asks 0) [] (steps_in kept_board keep_asks 0 kept_over_the_mark) (legal.walks 0) in
           let told = steps.1.1.1.1.1.1.1.1.1.1.1.1.1.1.1.1.0 in
-          let next = Some (Send (Clear 0 0 Pca9548) 0) in
+          let next = Some (Send (SwitchOff (Close 0 0 Pca9548)) 0) in
           let m : MessageEntry = record { caller = 0; bus = 1; purpose = purpose.Call; part = 1; parts = 2; addr = 0x30; reading = false; bytes = 0 ∷ []; heard = Some (Device 1); end = end.Ok } in
           let same : head_in m ≡ head_by kept_board next = head-told kept_board (now kept_board keep_asks behind_a_failed_select) next told.0 told.1 m told.2 told.3 in
           let f : purpose.Call ≡ purpose.Control 0 = ap (λ (h : Head). h.purpose) same in cc);

@@ -1,8 +1,8 @@
 use Rattle.std.proofs.Common.{◌≡◌, [], Some}
-use Rattle.i2c_base.specs.declared.board.MuxKind.TheVariants.{Pca9548}
+use Rattle.journal_laws.specs.WalkRows.{hop}
 use Rattle.i2c_base.specs.declared.ids.LockId.TheVariants as lock
 use Rattle.bus_spec.specs.Rows as row
-use Rattle.bus_spec.specs.Walk.{Clear, Send, Free}
+use Rattle.bus_spec.specs.Walk.{SwitchOff, Deselect, Send, Free}
 use Rattle.bus_spec.specs.Legal.{steps_in}
 use Rattle.journal_laws.specs.Wrong.{deep_asks, not_deselected}
 use Rattle.journal_laws.proofs.past.Follow.{walks-follow}
@@ -14,6 +14,6 @@ returns c =
       legal = λ callers legal.
           (let steps = walks-follow row.parent_locked (deep_asks 0) [] (steps_in row.parent_locked deep_asks 0 not_deselected) (legal.walks 0) in
           let freed = steps.1.1.1.1.1.1.0 in
-          let f : Some (Send (Clear 0 0 Pca9548) 0) ≡ Some (Free (lock.Bus 0)) = freed in cc);
-      stepwise = λ callers steps. (let f : Some (Send (Clear 0 0 Pca9548) 0) ≡ Some (Free (lock.Bus 0)) = steps.0.2 in cc);
+          let f : Some (Send (SwitchOff (Deselect hop)) 0) ≡ Some (Free (lock.Bus 0)) = freed in cc);
+      stepwise = λ callers steps. (let f : Some (Send (SwitchOff (Deselect hop)) 0) ≡ Some (Free (lock.Bus 0)) = steps.0.2 in cc);
     }

@@ -2,7 +2,7 @@ use Rattle.std.proofs.Common.{◌≡◌, [], ◌∷◌, Some, arith}
 use Rattle.i2c_base.specs.declared.board.MuxKind.TheVariants.{Pca9548}
 use Rattle.i2c_base.specs.declared.entry.End.TheVariants as end
 use Rattle.bus_spec.specs.Rows as row
-use Rattle.bus_spec.specs.Walk.{Clear, Send}
+use Rattle.bus_spec.specs.Walk.{SwitchOff, Close, Send}
 use Rattle.bus_spec.specs.Past.{now}
 use Rattle.bus_spec.specs.Legal.{steps_in}
 use Rattle.journal_laws.specs.Wrong.{two_asks, behind_a_failed_deselect, select_over_the_mark}
@@ -14,6 +14,6 @@ returns c = λ callers byte some legal.
     (let steps = walks-follow row.parent_locked (two_asks 0) [] (steps_in row.parent_locked two_asks 0 (select_over_the_mark byte)) (legal.walks 0) in
     let sent = steps.1.1.1.1.1.1.1.1.1.1.1.0 in
     let closes : byte ∷ [] ≡ 0 ∷ [] =
-    bytes-told row.parent_locked (now row.parent_locked two_asks behind_a_failed_deselect) end.Ok (Some (Send (Clear 0 0 Pca9548) 0)) sent.0 sent.1 (byte ∷ []) sent.2 sent.3.bytes_told in
+    bytes-told row.parent_locked (now row.parent_locked two_asks behind_a_failed_deselect) end.Ok (Some (Send (SwitchOff (Close 0 0 Pca9548)) 0)) sent.0 sent.1 (byte ∷ []) sent.2 sent.3.bytes_told in
     let zero_byte : byte ≡ 0 = cc in
     absurd (omega (arith, some, zero_byte)))
