@@ -8,23 +8,33 @@ use Rattle.i2c_base.specs.declared.reply.Cut.TheVariants as cut
 use Rattle.i2c_base.specs.Board.{BoardView}
 use Rattle.i2c_spec.specs.Tree.{Hop, hops, IsAmongHops}
 use Rattle.i2c_spec.specs.History.{Asks}
-use Rattle.bus_spec.specs.Walk.{Act, Send, Shift, SwitchOff, off_bus, off_mux, Note}
+use Rattle.bus_spec.specs.Walk.{Act, Send, Shift, SwitchOff, Close, off_bus, off_mux, Note}
 use Rattle.bus_spec.specs.Grammar.{is_over, first_act, first_note}
 use Rattle.bus_spec.specs.Readings.{MessageEntry, of_message, is_call, caller_of, Everywhere}
 use Rattle.bus_spec.specs.Past.{current, now}
 use Rattle.journal_laws.specs.Counts.{is_failed}
 
--- MARKS. A step deselects or closes this mux on this bus
+-- MARKS. A step closes this mux on this bus
 abbrev pub Closes : ℕ → ℕ → Option Act → Type 0
-Closes p m (Some (Send (SwitchOff off) left)) = (off_bus off ≡ p) × (off_mux off ≡ m)
-Closes p m (Some (Shift (SwitchOff off))) = (off_bus off ≡ p) × (off_mux off ≡ m)
+Closes p m (Some (Send (SwitchOff (Close on mux kind)) left)) = (on ≡ p) × (mux ≡ m)
+Closes p m (Some (Shift (SwitchOff (Close on mux kind)))) = (on ≡ p) × (mux ≡ m)
 Closes p m act = ⊥
+
+-- .. or it deselects or closes it
+abbrev pub SwitchesOff : ℕ → ℕ → Option Act → Type 0
+SwitchesOff p m (Some (Send (SwitchOff off) left)) = (off_bus off ≡ p) × (off_mux off ≡ m)
+SwitchesOff p m (Some (Shift (SwitchOff off))) = (off_bus off ≡ p) × (off_mux off ≡ m)
+SwitchesOff p m act = ⊥
 
 -- an entry behind a past is such a step that was sent and didn't fail by the port
 abbrev pub HasClosed : BoardView → Asks → ℕ → ℕ → Entry → List Entry → Type 0
 HasClosed b asks p m e past = Closes p m (first_act (current b asks (now b asks past) (caller_of e))) × (is_failed e ≡ false)
 
--- none of these entries behind a past is
+abbrev pub HasSwitchedOff : BoardView → Asks → ℕ → ℕ → Entry → List Entry → Type 0
+HasSwitchedOff b asks p m e past =
+    SwitchesOff p m (first_act (current b asks (now b asks past) (caller_of e))) × (is_failed e ≡ false)
+
+-- none of these entries behind a past is such a close
 abbrev pub NoneCloses : BoardView → Asks → ℕ → ℕ → List Entry → List Entry → Type 0
 NoneCloses b asks p m [] past = Unit {0}
 NoneCloses b asks p m (e ∷ later) past = (HasClosed b asks p m e (later ++ past) → ⊥) × NoneCloses b asks p m later past

@@ -12,13 +12,13 @@ ghost use Rattle.bus_spec.specs.Stepwise.{IsStepwise};
 ghost use Rattle.bus_spec.specs.Legal.{IsLegal};
 ghost use Rattle.bus_laws.specs.Reach.{AsksForMessages, AsksWithinLimits};
 ghost use Rattle.journal_laws.specs.Counts.{failed_on, failures, faults_in, remotes};
-ghost use Rattle.journal_laws.specs.Faulty.{HasClosed, NoneCloses, PassesBy, KeepsCuts};
+ghost use Rattle.journal_laws.specs.Faulty.{HasClosed, HasSwitchedOff, NoneCloses, PassesBy, KeepsCuts};
 
 use i2c_spec::an_accepted_board_is_a_tree;
 
 /// A mark stays, whoever steps and whatever fails, until a close of the marked mux was sent without failing by the port; and
-/// until then no message goes through a mux on its bus. A marked mux keeps no channel, and behind such a close it has none
-/// either: which one it had open before is forgotten.
+/// until then no message goes through a mux on its bus. A marked mux keeps no channel, and behind such a close, or such a
+/// deselect, it has none either: which one it had open before is forgotten.
 ///
 /// A mux that may be open is the mark of its bus, by the law on what a mux keeps. A journal whose entries need not come where
 /// they do could select over the mark, or close a mux on another bus; and what a step finds on its bus is known only on an
@@ -31,8 +31,8 @@ pub fn a_mark_stays_until_its_mux_is_closed()
         → IsStepwise b callers asks (e ∷ (later ++ past)) → (p m : ℕ) → mark b asks past p ≡ Some m → NoneCloses b asks p m later past → OfMessage (PassesBy b p) e }
     ensures unkept { (b : BoardView) (callers : ℕ) (asks : Asks) (past : List Entry) → IsPlainBoard b → MeetsRules b → AsksForMessages asks → IsStepwise b callers asks past
         → (p m : ℕ) → mark b asks past p ≡ Some m → kept_channel b asks past m ≡ None }
-    ensures closed { (b : BoardView) (callers : ℕ) (asks : Asks) (e : Entry) (past : List Entry) → IsPlainBoard b → MeetsRules b → AsksForMessages asks → IsStepwise b callers asks (e ∷ past)
-        → (p m : ℕ) → HasClosed b asks p m e past → kept_channel b asks (e ∷ past) m ≡ None }
+    ensures switched_off { (b : BoardView) (callers : ℕ) (asks : Asks) (e : Entry) (past : List Entry) → IsPlainBoard b → MeetsRules b → AsksForMessages asks → IsStepwise b callers asks (e ∷ past)
+        → (p m : ℕ) → HasSwitchedOff b asks p m e past → kept_channel b asks (e ∷ past) m ≡ None }
     ensures legal { (b : BoardView) (callers : ℕ) (asks : Asks) (more : List Entry) (e : Entry) (later past : List Entry) → IsPlainBoard b → MeetsRules b → AsksForMessages asks → AsksWithinLimits asks
         → IsLegal b callers asks (more ++ e ∷ (later ++ past)) → (p m : ℕ) → mark b asks past p ≡ Some m → NoneCloses b asks p m later past → OfMessage (PassesBy b p) e }
 {

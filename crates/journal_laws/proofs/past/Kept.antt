@@ -38,7 +38,7 @@ use Rattle.bus_laws.proofs.world.ChipLaws.{OpensOne, value_opens, shut_at_zero}
 use Rattle.bus_laws.proofs.world.Sends.{own_select, own_open}
 use Rattle.bus_laws.proofs.world.Slots.{kept_own, kept_other, of_marked, set_marks-only}
 use Rattle.bus_laws.proofs.world.TalkThrough.{talk-writes}
-use Rattle.journal_laws.specs.Faulty.{Closes, HasClosed}
+use Rattle.journal_laws.specs.Faulty.{SwitchesOff, HasSwitchedOff}
 use Rattle.bus_laws.proofs.past.Laws.{sends, shifts}
 
 -- THE FIRST CHANNEL that is open: the only one, or none
@@ -256,7 +256,7 @@ module _ (b : BoardView) (tree : IsTree b) (plain : IsPlainBoard b) (lines : Lin
       (sends b tree plain lines asks some callers past steps.1 c job left steps.0.2.2) reading tells.in_direction bytes e
       (λ ok writes. tells.bytes_told ∙ talk-writes world_listener (cut_of e) (block_limit b) (n.worlds (root_of b (job_bus job))) (message_of b job left) (is_last job left) writes (sym tells.end_told ∙ ok)) m))
 
-  -- A CLOSE that was sent without failing leaves none
+  -- A DESELECT OR A CLOSE that was sent without failing leaves none
   module _ (p m : ℕ) where
     shut_kept : (v : Slots) → (turned v p m Clean None p).kept m ≡ None
     shut_kept v = ap (λ (x : At). x.kept m) (turned-same v p m Clean None) ∙ kept_own (v p).kept m m None refl
@@ -264,7 +264,7 @@ module _ (b : BoardView) (tree : IsTree b) (plain : IsPlainBoard b) (lines : Lin
     shut_at : (v : Slots) (on mux : ℕ) → (on ≡ p) × (mux ≡ m) → (turned v on mux Clean None p).kept m ≡ None
     shut_at v on mux is = ap (λ (i : ℕ). (turned v i mux Clean None p).kept m) is.0 ∙ ap (λ (i : ℕ). (turned v p i Clean None p).kept m) is.1 ∙ shut_kept v
 
-    sent_shut : (v : Slots) (marks : List Mark) (job : Job) (left : ℕ) (e : End) (bytes : List ℕ) → Closes p m (Some (Send job left)) → is_cut e ≡ false
+    sent_shut : (v : Slots) (marks : List Mark) (job : Job) (left : ℕ) (e : End) (bytes : List ℕ) → SwitchesOff p m (Some (Send job left)) → is_cut e ≡ false
         → (after_job job left marks (Sent e bytes) v p).kept m ≡ None
     sent_shut v marks (Call bus ms) left e bytes closes through = absurd closes
     sent_shut v marks (Select h) left e bytes closes through = absurd closes
@@ -275,41 +275,41 @@ module _ (b : BoardView) (tree : IsTree b) (plain : IsPlainBoard b) (lines : Lin
     sent_shut v marks (SwitchOff off) left end.Proto bytes closes through = shut_at v (off_bus off) (off_mux off) closes
     sent_shut v marks (SwitchOff off) left (end.Cut q) bytes closes through = absurd (let f : true ≡ false = through in cc)
 
-    lined_shut : (v : Slots) (marks : List Mark) (job : Job) (failed : Bool) → Closes p m (Some (Shift job)) → failed ≡ false → (after_job job zero marks (Lined failed) v p).kept m ≡ None
+    lined_shut : (v : Slots) (marks : List Mark) (job : Job) (failed : Bool) → SwitchesOff p m (Some (Shift job)) → failed ≡ false → (after_job job zero marks (Lined failed) v p).kept m ≡ None
     lined_shut v marks (Call bus ms) failed closes through = absurd closes
     lined_shut v marks (Select h) failed closes through = absurd closes
     lined_shut v marks (SwitchOff off) true closes through = absurd (let f : true ≡ false = through in cc)
     lined_shut v marks (SwitchOff off) false closes through = shut_at v (off_bus off) (off_mux off) closes
 
     -- a mux that is deselected or closed stands on its bus
-    sent_home : (whose : TransferView) (job : Job) (left : ℕ) (marks : List Mark) (held : List LockId) (v : Slots) → MaySend b whose job left marks held v → Closes p m (Some (Send job left)) → home_of_mux b m ≡ p
+    sent_home : (whose : TransferView) (job : Job) (left : ℕ) (marks : List Mark) (held : List LockId) (v : Slots) → MaySend b whose job left marks held v → SwitchesOff p m (Some (Send job left)) → home_of_mux b m ≡ p
     sent_home whose (Call bus ms) left marks held v may closes = absurd closes
     sent_home whose (Select h) left marks held v may closes = absurd closes
     sent_home whose (SwitchOff off) left marks held v may closes = ap (home_of_mux b) (sym closes.1) ∙ may.finds.1 ∙ closes.0
 
-    lined_home : (job : Job) (marks : List Mark) (held : List LockId) (v : Slots) → MayShift b job marks held v → Closes p m (Some (Shift job)) → home_of_mux b m ≡ p
+    lined_home : (job : Job) (marks : List Mark) (held : List LockId) (v : Slots) → MayShift b job marks held v → SwitchesOff p m (Some (Shift job)) → home_of_mux b m ≡ p
     lined_home (Call bus ms) marks held v may closes = absurd closes
     lined_home (Select h) marks held v may closes = absurd closes
     lined_home (SwitchOff off) marks held v may closes = ap (home_of_mux b) (sym closes.1) ∙ may.finds.1 ∙ closes.0
 
-    pub closed-keeps-none : (e : Entry) (past : List Entry) → IsStepwise b callers asks (e ∷ past) → HasClosed b asks p m e past → kept_channel b asks (e ∷ past) m ≡ None
-    closed-keeps-none (entry.Take c l) past steps closed = absurd (subst (Closes p m) steps.0.2 closed.0)
-    closed-keeps-none (entry.Free c l) past steps closed = absurd (subst (Closes p m) steps.0.2 closed.0)
-    closed-keeps-none (entry.Settle c r cut) past steps closed = absurd (subst (Closes p m) steps.0.3 closed.0)
-    closed-keeps-none (entry.Line c mux level failed) past steps closed =
+    pub shut-keeps-none : (e : Entry) (past : List Entry) → IsStepwise b callers asks (e ∷ past) → HasSwitchedOff b asks p m e past → kept_channel b asks (e ∷ past) m ≡ None
+    shut-keeps-none (entry.Take c l) past steps closed = absurd (subst (SwitchesOff p m) steps.0.2 closed.0)
+    shut-keeps-none (entry.Free c l) past steps closed = absurd (subst (SwitchesOff p m) steps.0.2 closed.0)
+    shut-keeps-none (entry.Settle c r cut) past steps closed = absurd (subst (SwitchesOff p m) steps.0.3 closed.0)
+    shut-keeps-none (entry.Line c mux level failed) past steps closed =
         let n : Now = now b asks past in
         let note : Note = first_note (current b asks n c) in
         let job : Job = steps.0.2.0 in
-        let closes : Closes p m (Some (Shift job)) = subst (Closes p m) steps.0.2.1 closed.0 in
+        let closes : SwitchesOff p m (Some (Shift job)) = subst (SwitchesOff p m) steps.0.2.1 closed.0 in
         ap (λ (i : ℕ). ((now b asks (entry.Line c mux level failed ∷ past)).slot i).kept m)
         (lined_home job note.marks (n.held c) n.slot (shifts b tree plain lines asks some callers past steps.1 c job steps.0.2.1) closes)
         ∙ subst (λ (o : Option Act). ((lined_by b n o note failed).slot p).kept m ≡ None) (sym steps.0.2.1) (lined_shut n.slot note.marks job failed closes closed.1)
-    closed-keeps-none (entry.Message c bus why part parts addr reading bytes heard e) past steps closed =
+    shut-keeps-none (entry.Message c bus why part parts addr reading bytes heard e) past steps closed =
         let n : Now = now b asks past in
         let note : Note = first_note (current b asks n c) in
         let job : Job = steps.0.2.0 in
         let left : ℕ = steps.0.2.1 in
-        let closes : Closes p m (Some (Send job left)) = subst (Closes p m) steps.0.2.2 closed.0 in
+        let closes : SwitchesOff p m (Some (Send job left)) = subst (SwitchesOff p m) steps.0.2.2 closed.0 in
         ap (λ (i : ℕ). ((now b asks (entry.Message c bus why part parts addr reading bytes heard e ∷ past)).slot i).kept m)
         (sent_home _ job left note.marks (n.held c) n.slot (sends b tree plain lines asks some callers past steps.1 c job left steps.0.2.2) closes)
         ∙ subst (λ (o : Option Act). ((sent_by b n c o note reading bytes e).slot p).kept m ≡ None) (sym steps.0.2.2) (sent_shut n.slot note.marks job left e bytes closes closed.1)

@@ -10,7 +10,7 @@ use Rattle.i2c_spec.specs.Tree.{Hop, hops, IsAmongHops}
 use Rattle.i2c_spec.specs.TreeFacts.{IsTree}
 use Rattle.i2c_spec.specs.Plain.{IsPlainBoard}
 use Rattle.i2c_spec.specs.History.{Asks}
-use Rattle.bus_spec.specs.Walk.{Mark, Job, Call, Select, SwitchOff, Off, off_bus, off_mux, Act, Send, Shift, job_bus, is_arbitrator}
+use Rattle.bus_spec.specs.Walk.{Mark, Job, Call, Select, SwitchOff, Off, Deselect, Close, off_bus, Act, Send, Shift, job_bus, is_arbitrator}
 use Rattle.bus_spec.specs.Slots.{Slots, At, MuxSlot, Clean, Marked, Polled, Found, mark_in}
 use Rattle.bus_spec.specs.Grammar.{first_act, first_note}
 use Rattle.bus_spec.specs.Readings.{OfMessage, caller_of}
@@ -20,7 +20,6 @@ use Rattle.bus_spec.specs.Stepwise.{IsNext, IsStepwise}
 use Rattle.bus_laws.specs.Runs.{FindsPoll, FindsSelect, FindsOpen, IsOfMux, MayFail}
 use Rattle.bus_laws.specs.Lines.{LinesAreLocked}
 use Rattle.bus_laws.specs.Reach.{AsksForMessages}
-use Rattle.bus_laws.proofs.world.Sends.{own_open}
 use Rattle.bus_laws.proofs.tree.Slots.{marked_slot}
 use Rattle.bus_laws.proofs.past.Laws.{sends, shifts}
 use Rattle.journal_laws.specs.Faulty.{Closes, HasClosed, NoneCloses, PassesBy}
@@ -60,17 +59,43 @@ module _ (p m : ℕ) where
         | inr e ↦ inl (ap (λ (t : Bool). cond t None (Some m)) e.0)
       ]
 
-  stays-off : (off : Off) (act : Option Act) (v : Slots) (marks : List Mark) → mark_among marks p (Some m) ≡ Some m → (v p).slot ≡ Marked m
-      → FindsOpen off (v (off_bus off)).slot → ((off_bus off ≡ p) × (off_mux off ≡ m) → Closes p m act) → (failed : Bool)
-      → StaysOr act (SwitchOff off) marks failed
-  stays-off off act v marks stays at finds closes true = inl stays
-  stays-off off act v marks stays at finds closes false =
-      elim (eqb_tells p (off_bus off)) [
-        | inl e ↦ (let same : m ≡ off_mux off =
-            subst (λ (s : MuxSlot). IsOfMux (off_mux off) s) (ap (λ (q : ℕ). (v q).slot) (sym e.1) ∙ at) (own_open off (v (off_bus off)).slot finds) in
-            inr (closes (sym e.1, sym same), refl))
+  -- a deselect finds its bus clean
+  stays-deselected : (h : Hop) (act : Option Act) (v : Slots) (marks : List Mark) → mark_among marks p (Some m) ≡ Some m
+      → (v p).slot ≡ Marked m → (v h.on).slot ≡ Clean → (failed : Bool) → StaysOr act (SwitchOff (Deselect h)) marks failed
+  stays-deselected h act v marks stays at clean true = inl stays
+  stays-deselected h act v marks stays at clean false =
+      elim (eqb_tells p h.on) [
+        | inl e ↦ absurd (let f : Marked m ≡ Clean = sym at ∙ ap (λ (q : ℕ). (v q).slot) e.1 ∙ clean in cc)
         | inr e ↦ inl (ap (λ (t : Bool). cond t None (Some m)) e.0)
       ]
+
+  stays-closed : (on mux : ℕ) (kind : _) (act : Option Act) (v : Slots) (marks : List Mark) → mark_among marks p (Some m) ≡ Some m
+      → (v p).slot ≡ Marked m → (v on).slot ≡ Marked mux → ((on ≡ p) × (mux ≡ m) → Closes p m act) → (failed : Bool)
+      → StaysOr act (SwitchOff (Close on mux kind)) marks failed
+  stays-closed on mux kind act v marks stays at marked closes true = inl stays
+  stays-closed on mux kind act v marks stays at marked closes false =
+      elim (eqb_tells p on) [
+        | inl e ↦ (let f : Marked m ≡ Marked mux = sym at ∙ ap (λ (q : ℕ). (v q).slot) e.1 ∙ marked in
+            let same : mux ≡ m = cc in
+            inr (closes (sym e.1, same), refl))
+        | inr e ↦ inl (ap (λ (t : Bool). cond t None (Some m)) e.0)
+      ]
+
+  stays-sent-off : (off : Off) (left : ℕ) (v : Slots) (marks : List Mark) → mark_among marks p (Some m) ≡ Some m
+      → (v p).slot ≡ Marked m → FindsOpen off (v (off_bus off)).slot → (failed : Bool)
+      → StaysOr (Some (Send (SwitchOff off) left)) (SwitchOff off) marks failed
+  stays-sent-off (Deselect h) left v marks stays at finds =
+      stays-deselected h (Some (Send (SwitchOff (Deselect h)) left)) v marks stays at finds
+  stays-sent-off (Close on mux kind) left v marks stays at finds =
+      stays-closed on mux kind (Some (Send (SwitchOff (Close on mux kind)) left)) v marks stays at finds (λ e. e)
+
+  stays-shifted-off : (off : Off) (v : Slots) (marks : List Mark) → mark_among marks p (Some m) ≡ Some m
+      → (v p).slot ≡ Marked m → FindsOpen off (v (off_bus off)).slot → (failed : Bool)
+      → StaysOr (Some (Shift (SwitchOff off))) (SwitchOff off) marks failed
+  stays-shifted-off (Deselect h) v marks stays at finds =
+      stays-deselected h (Some (Shift (SwitchOff (Deselect h)))) v marks stays at finds
+  stays-shifted-off (Close on mux kind) v marks stays at finds =
+      stays-closed on mux kind (Some (Shift (SwitchOff (Close on mux kind)))) v marks stays at finds (λ e. e)
 
 module _ (b : BoardView) (tree : IsTree b) (plain : IsPlainBoard b) (lines : LinesAreLocked b) (asks : Asks) (some : AsksForMessages asks) (callers : ℕ) where
   module _ (past : List Entry) (steps : IsStepwise b callers asks past) (c : ℕ) where
@@ -90,8 +115,8 @@ module _ (b : BoardView) (tree : IsTree b) (plain : IsPlainBoard b) (lines : Lin
           (among_stays p m b (n.held c) n.slot (first_note (current b asks n c)).marks may.may_fail at_mark) at_mark may.finds.0 failed
       stays-sent (SwitchOff off) left next failed =
           let may = sends b tree plain lines asks some callers past steps c (SwitchOff off) left next in
-          stays-off p m off (Some (Send (SwitchOff off) left)) n.slot (first_note (current b asks n c)).marks
-          (among_stays p m b (n.held c) n.slot (first_note (current b asks n c)).marks may.may_fail at_mark) at_mark may.finds.0 (λ e. e) failed
+          stays-sent-off p m off left n.slot (first_note (current b asks n c)).marks
+          (among_stays p m b (n.held c) n.slot (first_note (current b asks n c)).marks may.may_fail at_mark) at_mark may.finds.0 failed
 
       stays-lined : (job : Job) → IsNext b asks n c (Shift job) → (failed : Bool)
           → StaysOr p m (Some (Shift job)) job (first_note (current b asks n c)).marks failed
@@ -102,8 +127,8 @@ module _ (b : BoardView) (tree : IsTree b) (plain : IsPlainBoard b) (lines : Lin
           (among_stays p m b (n.held c) n.slot (first_note (current b asks n c)).marks may.may_fail at_mark) at_mark may.finds.0 failed
       stays-lined (SwitchOff off) next failed =
           let may = shifts b tree plain lines asks some callers past steps c (SwitchOff off) next in
-          stays-off p m off (Some (Shift (SwitchOff off))) n.slot (first_note (current b asks n c)).marks
-          (among_stays p m b (n.held c) n.slot (first_note (current b asks n c)).marks may.may_fail at_mark) at_mark may.finds.0 (λ e. e) failed
+          stays-shifted-off p m off n.slot (first_note (current b asks n c)).marks
+          (among_stays p m b (n.held c) n.slot (first_note (current b asks n c)).marks may.may_fail at_mark) at_mark may.finds.0 failed
 
   -- an entry more leaves a mark, or it is the close
   read_mark : (e : Entry) (past : List Entry) (p m : ℕ) → mark b asks past p ≡ Some m
