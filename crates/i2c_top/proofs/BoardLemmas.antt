@@ -1,10 +1,11 @@
 -- What a text says of a board, it says once: it is a board or is refused, and for one cause. No induction.
-use Rattle.std.proofs.Common.{◌≡◌, ℕ, List, Result, Ok, Err, sym, ap, subst, ◌∙◌}
+use Rattle.std.proofs.Common.{◌≡◌, ℕ, List, Option, Some, Result, Ok, Err, sym, ap, subst, ◌∙◌}
 use Rattle.i2c_base.specs.Board.{BoardView}
 use Rattle.i2c_spec.specs.Rules.{MeetsRules, TellsBroken}
 use Rattle.i2c_boardtext.specs.BoardText.{board_of}
 use Rattle.i2c_boardtext.specs.declared.fault.BoardFault.{BoardFault}
-use Rattle.i2c_top.specs.Boards.{IsAccepted, IsRejected}
+use Rattle.i2c_top.specs.Boards.{IsAccepted, IsRejected, HasAccepted, HasRejected}
+use Rattle.i2c_top.specs.Files.{Files}
 use Rattle.i2c_top.specs.declared.status.BoardRefusal.{BoardRefusal}
 use Rattle.i2c_top.specs.declared.status.BoardRefusal.TheVariants as refusal
 use Rattle.i2c_board.proofs.BrokenLemmas.{broken_breaks, one_broken}
@@ -41,3 +42,19 @@ one_refusal text (refusal.Fault f) (refusal.Rule r) h k = absurd (both (board_of
 one_refusal text (refusal.Rule r) (refusal.Fault f) h k = absurd (both (board_of text) h.board f h.read k.read)
 one_refusal text (refusal.Rule r) (refusal.Rule s) h k =
     ap (λ x. refusal.Rule x) (one_broken k.board r s (subst (λ b. TellsBroken b r) (one_board (board_of text) h.board k.board h.read k.read) h.broken) k.broken)
+
+-- so of its file
+pub one_text : (o : Option (List ℕ)) (a b : List ℕ) → o ≡ Some a → o ≡ Some b → a ≡ b
+one_text o a b e f = let h : Some a ≡ Some b = sym e ∙ f in cc
+
+pub no_board : (file : Files) (name : List ℕ) (why : BoardRefusal) → HasAccepted file name → HasRejected file name why → ⊥
+no_board file name why b n =
+    is_no_rejected b.text b.board why b.is_accepted (subst (λ t. IsRejected t why) (one_text (file name) n.text b.text n.there b.there) n.is_rejected)
+
+pub one_why : (file : Files) (name : List ℕ) (why why_now : BoardRefusal) → HasRejected file name why → HasRejected file name why_now → why_now ≡ why
+one_why file name why why_now b n =
+    one_refusal b.text why_now why (subst (λ t. IsRejected t why_now) (one_text (file name) n.text b.text n.there b.there) n.is_rejected) b.is_rejected
+
+pub one_board_in : (file : Files) (name : List ℕ) (a b : HasAccepted file name) → a.board ≡ b.board
+one_board_in file name a b =
+    one_board_of b.text a.board b.board (subst (λ t. IsAccepted t a.board) (one_text (file name) a.text b.text a.there b.there) a.is_accepted) b.is_accepted

@@ -1,20 +1,14 @@
--- The ending of a call: what is told of it (`HasEnded`) is read off how it came to its end. No induction, by the class of the status.
-use Rattle.std.proofs.Common.{◌≡◌, ℕ, ◌⊎◌, inl, inr, IsTrue, List, [], ◌++◌, length, Result, Ok, Err, refl, sym, ap, ◌∙◌, subst, arith, append-nil}
-use Rattle.std.proofs.lemmas.List.{take_all}
-use Rattle.std.specs.Prelude.{⊤, OnOk, IfOk, IfErr}
+-- The ending of a call of any form: what is told of it (`HasEndedAs`) is read off how it came to its end. No induction, by the
+-- class of the status; of a form it asks for the one law that every row keeps (`DecidesOnce`).
+use Rattle.std.proofs.Common.{◌≡◌, ℕ, ◌⊎◌, inl, inr, Bool, true, false, IsTrue, List, ◌++◌, Result, Ok, Err, refl, sym, ap, ◌∙◌, subst, append-nil}
+use Rattle.std.specs.Prelude.{⊤, IfOk, IfErr}
 use Rattle.i2c_outside.specs.Causes.{Rose}
-use Rattle.i2c_top.specs.Endings.{shown_of, CameTo, CameToSuccess, CameToRefusal, IsCaused, name_in, due_of, name_by_class, IsTextDue, IsStarved, IsWritten, IsRefusalWritten, TellsUsage, HasSaid, HasEnded, HasWritten, IsCutShort}
-use Rattle.i2c_top.specs.Reports.{HasReplayed}
-use Rattle.i2c_top.specs.Checks.{HasChecked}
-use Rattle.i2c_top.specs.Files.{Files}
-use Rattle.i2c_top.specs.Replays.{Names}
-use Rattle.i2c_top.specs.Requests.{Request, Replay, Check, NoForm, IsServed, UsesRig, IsOwnStatus, IsStatusOf, IsCause, IsPlugging, told_of, traced_of, IsAnswer, IsCalm, KeepsShelf}
+use Rattle.i2c_top.specs.Endings.{shown_of, CameTo, CameToSuccess, CameToRefusal, IsCaused, name_in, due_of, IsTextDue, IsStarved, IsWritten, IsRefusalWritten, HasSaid, HasEndedAs, IsCutShort}
+use Rattle.i2c_top.specs.Form.{Form, DecidesOnce, IsStatusOf, own_of, told_of, unreached_of, rig_after, traced_of, IsCalm, KeepsShelf, KeepsSkipped}
 use Rattle.i2c_top.specs.Status.{Class, Done, Misused, Refused, Unread, NoRig, Silent, class_of, refusal_text}
-use Rattle.i2c_top.specs.Traces.{ShelfView, OutputView, RigView, Outside, IsRigLeft}
-use Rattle.i2c_top.specs.Written.{HasFront}
+use Rattle.i2c_top.specs.Traces.{ShelfView, OutputView, RigView, Outside, IsRigLeft, IsTried, IsUnread}
 use Rattle.i2c_top.specs.declared.status.Status.{Status}
 use Rattle.i2c_top.specs.declared.status.Status.TheVariants as status
-use Rattle.i2c_top.proofs.CauseLemmas.{one_cause}
 
 -- the statuses of the classes that have one or two
 abbrev IsNamed : Status → Class → Type 0
@@ -37,314 +31,340 @@ named status.Memory = inr refl
 named status.Rig = refl
 named (status.Schedule word) = tt
 
--- a rig that is plugged is the request's
-plug_uses : (file : Files) (request : Request) → IsServed request → IsPlugging file request → UsesRig request
-plug_uses file (Replay names) served plugging = tt
-plug_uses file (Check board) served plugging = plugging
-plug_uses file NoForm served plugging = plugging
-
--- whatever came of the writing, a front of the text stands there
-pub written_front : (sink sink_now : OutputView) (s : Status) (text : List ℕ) (result : Status) → IsWritten sink sink_now s text result → IsTrue sink.tells
-    → HasFront sink.bytes text sink_now.bytes
-written_front sink sink_now s text result (inl w) t = (length text, omega arith, w.whole t ∙ ap (λ x. sink.bytes ++ x) (sym (take_all (length text) text (omega arith))))
-written_front sink sink_now s text result (inr (inl w)) t = w.front t
-written_front sink sink_now s text result (inr (inr w)) t = (0, omega arith, w.kept t ∙ sym (append-nil sink.bytes))
-
 -- the line of a refusal is due for it, and nothing else
-due_line : (request : Request) (shelf : ShelfView) (rig : RigView) (s : Status) (text : List ℕ) (c : Class) → IsNamed s c → (s ≡ status.Ok → ⊥)
-    → due_of request shelf rig s text c → text ≡ refusal_text s (name_by_class request c)
-due_line request shelf rig s text Done is n h = absurd (n is)
-due_line request shelf rig s text Silent is n h = absurd h
-due_line request shelf rig s text Misused is n h = h
-due_line request shelf rig s text Refused is n h = h
-due_line request shelf rig s text (Unread place) is n h = h
-due_line request shelf rig s text NoRig is n h = h
+due_line : (form : Form) (shelf : ShelfView) (rig : RigView) (s : Status) (text : List ℕ) (c : Class) → IsNamed s c → (s ≡ status.Ok → ⊥)
+    → due_of form shelf rig s text c → text ≡ refusal_text s (name_in shelf.words s)
+due_line form shelf rig s text Done is n h = absurd (n is)
+due_line form shelf rig s text Silent is n h = absurd h
+due_line form shelf rig s text Misused is n h = h
+due_line form shelf rig s text Refused is n h = h
+due_line form shelf rig s text (Unread place) is n h = h
+due_line form shelf rig s text NoRig is n h = h
 
 silent_line : (s : Status) (P : Type 0) → (s ≡ status.Write → ⊥) → (s ≡ status.Memory → ⊥) → (s ≡ status.Write) ⊎ (s ≡ status.Memory) → P
 silent_line s P write memory (inl w) = absurd (write w)
 silent_line s P write memory (inr m) = absurd (memory m)
 
-line_due : (request : Request) (shelf : ShelfView) (rig : RigView) (s : Status) (text : List ℕ) (c : Class) → IsNamed s c → (s ≡ status.Ok → ⊥) → (s ≡ status.Write → ⊥)
-    → (s ≡ status.Memory → ⊥) → text ≡ refusal_text s (name_by_class request c) → due_of request shelf rig s text c
-line_due request shelf rig s text Done is ok write memory h = absurd (ok is)
-line_due request shelf rig s text Silent is ok write memory h = silent_line s ⊥ write memory is
-line_due request shelf rig s text Misused is ok write memory h = h
-line_due request shelf rig s text Refused is ok write memory h = h
-line_due request shelf rig s text (Unread place) is ok write memory h = h
-line_due request shelf rig s text NoRig is ok write memory h = h
+line_due : (form : Form) (shelf : ShelfView) (rig : RigView) (s : Status) (text : List ℕ) (c : Class) → IsNamed s c → (s ≡ status.Ok → ⊥)
+    → (s ≡ status.Write → ⊥) → (s ≡ status.Memory → ⊥) → text ≡ refusal_text s (name_in shelf.words s) → due_of form shelf rig s text c
+line_due form shelf rig s text Done is ok write memory h = absurd (ok is)
+line_due form shelf rig s text Silent is ok write memory h = silent_line s ⊥ write memory is
+line_due form shelf rig s text Misused is ok write memory h = h
+line_due form shelf rig s text Refused is ok write memory h = h
+line_due form shelf rig s text (Unread place) is ok write memory h = h
+line_due form shelf rig s text NoRig is ok write memory h = h
 
-abbrev Line : Request → OutputView → OutputView → Status → Type 0
-Line request sink sink_now r = (r ≡ status.Ok → ⊥) → (r ≡ status.Write → ⊥) → sink_now.bytes ≡ sink.bytes ++ refusal_text r (name_in request r)
+abbrev Line : List (List ℕ) → OutputView → OutputView → Status → Type 0
+Line words sink sink_now r = (r ≡ status.Ok → ⊥) → (r ≡ status.Write → ⊥) → sink_now.bytes ≡ sink.bytes ++ refusal_text r (name_in words r)
 
-line_starved : (request : Request) (sink sink_now : OutputView) (result : Status) → IsTrue sink.tells → IsStarved sink sink_now result → Line request sink sink_now result
-line_starved request sink sink_now result t m = subst (Line request sink sink_now) (sym m.starved) (λ ok cut. m.kept t ∙ sym (append-nil sink.bytes))
+line_starved : (words : List (List ℕ)) (sink sink_now : OutputView) (result : Status) → IsTrue sink.tells → IsStarved sink sink_now result
+    → Line words sink sink_now result
+line_starved words sink sink_now result t m =
+    subst (Line words sink sink_now) (sym m.starved) (λ ok cut. m.kept t ∙ sym (append-nil sink.bytes))
 
 -- a call came to a status, and its text was due and written
-record HasAnswered (request : Request) (old new : Outside) (result : Status) : Type 0 where
+record HasAnswered (form : Form) (old new : Outside) (result : Status) : Type 0 where
   to : Status
   text : List ℕ
-  came : CameTo request old.shelf new.shelf old.rig new.rig to
-  due : IsTextDue request old.shelf new.rig to text
+  came : CameTo form old.shelf new.shelf old.rig new.rig to
+  due : IsTextDue form old.shelf new.rig to text
   written : IsWritten old.sink new.sink to text result
 
 -- or there was no memory for it
-record HasStarved (request : Request) (old new : Outside) (result : Status) : Type 0 where
-  came : CameTo request old.shelf new.shelf old.rig new.rig status.Memory
+record HasStarved (form : Form) (old new : Outside) (result : Status) : Type 0 where
+  to : Status
+  came : CameTo form old.shelf new.shelf old.rig new.rig to
   starved : IsStarved old.sink new.sink result
 
-abbrev IsEnding : Request → Outside → Outside → Status → Type 0
-IsEnding request old new result = HasAnswered request old new result ⊎ HasStarved request old new result
+abbrev IsEnding : Form → Outside → Outside → Status → Type 0
+IsEnding form old new result = HasAnswered form old new result ⊎ HasStarved form old new result
 
 -- the whole of how a call came to its end
-record CameToEnd (request : Request) (old new : Outside) (result : Status) : Type 0 where
-  answers : IsStatusOf request result
-  kept : KeepsShelf request old.shelf new.shelf
-  usage : TellsUsage request old.sink new.sink
-  ending : IsEnding request old new result
+record CameToEnd (form : Form) (old new : Outside) (result : Status) : Type 0 where
+  own : IsStatusOf form result
+  kept : KeepsShelf form old.shelf new.shelf
+  ending : IsEnding form old new result
 
 -- whatever was done to the rig, it was plugged at most once and is not left plugged
-left_of : (request : Request) (rig rig_now : RigView) (c : Class) → traced_of request rig rig_now c → IsRigLeft rig rig_now
-left_of (Replay names) rig rig_now Done used = inr (record { plugs = used.plugs; unplugged = used.unplugged })
-left_of (Check board) rig rig_now Done untouched = inl untouched
-left_of NoForm rig rig_now Done never = absurd never
-left_of request rig rig_now NoRig tried = inr (record { plugs = tried.plugs; unplugged = tried.unplugged })
-left_of request rig rig_now Silent left = left
-left_of request rig rig_now Misused untouched = inl untouched
-left_of request rig rig_now Refused untouched = inl untouched
-left_of request rig rig_now (Unread place) untouched = inl untouched
+left_after : (plugs : Bool) (rig rig_now : RigView) → rig_after plugs rig rig_now → IsRigLeft rig rig_now
+left_after true rig rig_now used = inr (record { plugs = used.plugs; unplugged = used.unplugged })
+left_after false rig rig_now untouched = inl untouched
 
-own_write : (request : Request) → IsOwnStatus request status.Write
-own_write (Replay names) =
-    record { cost = λ cost e. absurd (let k : status.Write ≡ status.Cost cost = e in cc); schedule = λ word e. absurd (let k : status.Write ≡ status.Schedule word = e in cc) }
-own_write (Check board) = tt
-own_write NoForm = tt
+left_of : (form : Form) (rig rig_now : RigView) (c : Class) → traced_of form rig rig_now c → IsRigLeft rig rig_now
+left_of form rig rig_now Done after = left_after form.plugs rig rig_now after
+left_of form rig rig_now NoRig tried = inr (record { plugs = tried.plugs; unplugged = tried.unplugged })
+left_of form rig rig_now Silent left = left
+left_of form rig rig_now Misused never = absurd never
+left_of form rig rig_now Refused untouched = inl untouched
+left_of form rig rig_now (Unread place) untouched = inl untouched
 
-own_memory : (request : Request) → IsOwnStatus request status.Memory
-own_memory (Replay names) =
-    record { cost = λ cost e. absurd (let k : status.Memory ≡ status.Cost cost = e in cc); schedule = λ word e. absurd (let k : status.Memory ≡ status.Schedule word = e in cc) }
-own_memory (Check board) = tt
-own_memory NoForm = tt
-
--- no memory is missed for the line on usage
-unfed : (result : Status) → result ≡ status.Memory → (result ≡ status.Usage) ⊎ (result ≡ status.Write) → ⊥
-unfed result e (inl usage) = let k : status.Memory ≡ status.Usage = sym e ∙ usage in cc
-unfed result e (inr write) = let k : status.Memory ≡ status.Write = sym e ∙ write in cc
-
-module _ (request : Request) (old new : Outside) where
+module _ (form : Form) (decides : DecidesOnce form) (old new : Outside) where
   abbrev Came : Status → Type 0
-  Came s = CameTo request old.shelf new.shelf old.rig new.rig s
+  Came s = CameTo form old.shelf new.shelf old.rig new.rig s
 
   -- what holds of each status that a call comes to, and of Write and Memory in its place, holds of its result
-  by_ending : (result : Status) (P : Status → Type 0) → ((s : Status) → Came s → P s) → ((s : Status) → Came s → Rose old.sink.faults new.sink.faults → P status.Write)
-      → ((s : Status) → Came s → P status.Memory) → IsEnding request old new result → P result
+  by_ending : (result : Status) (P : Status → Type 0) → ((s : Status) → Came s → P s)
+      → ((s : Status) → Came s → Rose old.sink.faults new.sink.faults → P status.Write) → ((s : Status) → Came s → P status.Memory)
+      → IsEnding form old new result → P result
   by_ending result P as_told as_write as_memory (inl a) =
       elim a.written [
         | inl w ↦ subst P (sym w.same) (as_told a.to a.came)
-        | inr (inl w) ↦ subst P (sym w.failed) (as_write a.to a.came w.rose)
-        | inr (inr w) ↦ subst P (sym w.starved) (as_memory a.to a.came)
+        | inr w ↦ subst P (sym w.failed) (as_write a.to a.came w.rose)
       ]
-  by_ending result P as_told as_write as_memory (inr m) = subst P (sym m.starved.starved) (as_memory status.Memory m.came)
+  by_ending result P as_told as_write as_memory (inr m) = subst P (sym m.starved.starved) (as_memory m.to m.came)
 
   -- where no count rose, the call came to what the files are a cause of, or there was no memory
-  came_calmly : (s r : Status) → IsTrue old.shelf.tells → IsServed request → IsCause old.shelf.file request s → IsCalm request old new → (r ≡ status.Write → ⊥) → (c : Class) → IsNamed r c
-      → told_of old.shelf.file request r c → shown_of request old.shelf new.shelf old.rig new.rig c → (r ≡ s) ⊎ (r ≡ status.Memory)
-  came_calmly s r t served cause calm write Done is told shown = inl (one_cause old.shelf.file request s r cause told)
-  came_calmly s r t served cause calm write Refused is told shown = inl (one_cause old.shelf.file request s r cause told)
-  came_calmly s r t served cause calm write Misused is told shown = absurd (shown served)
-  came_calmly s r t served cause calm write (Unread place) is told shown =
-      absurd (calm.shelf place shown.named shown.rose)
-  came_calmly s r t served cause calm write NoRig is told shown = absurd (calm.rig (plug_uses old.shelf.file request served told) shown)
-  came_calmly s r t served cause calm write Silent is told shown =
+  came_calmly : (s r : Status) → form.cause old.shelf.file s → IsCalm form old new → (r ≡ status.Write → ⊥) → (c : Class) → IsNamed r c
+      → told_of form old.shelf.file r c → shown_of form old.shelf new.shelf old.rig new.rig c → (r ≡ s) ⊎ (r ≡ status.Memory)
+  came_calmly s r cause calm write Done is told shown = inl (decides old.shelf.file s r cause told)
+  came_calmly s r cause calm write Refused is told shown = inl (decides old.shelf.file s r cause told)
+  came_calmly s r cause calm write Misused is told shown = absurd shown
+  came_calmly s r cause calm write (Unread place) is told shown = absurd (calm.shelf place shown.named shown.rose)
+  came_calmly s r cause calm write NoRig is told shown = absurd (calm.rig told.0 shown)
+  came_calmly s r cause calm write Silent is told shown =
       elim is [
         | inl w ↦ absurd (write w)
         | inr m ↦ inr m
       ]
 
-  ended_complete : (result : Status) → CameToEnd request old new result → IsTrue old.shelf.tells → IsServed request → (s : Status) → IsCause old.shelf.file request s
-      → IsCalm request old new → (result ≡ s) ⊎ (result ≡ status.Memory)
-  ended_complete result h t served s cause calm =
+  ended_complete : (result : Status) → CameToEnd form old new result → IsTrue old.shelf.tells → (s : Status) → form.cause old.shelf.file s
+      → IsCalm form old new → (result ≡ s) ⊎ (result ≡ status.Memory)
+  ended_complete result h t s cause calm =
       by_ending result (λ r. (r ≡ s) ⊎ (r ≡ status.Memory))
-      (λ r c. came_calmly s r t served cause calm c.unwritten (class_of r) (named r) (c.told t) c.shown)
+      (λ r c. came_calmly s r cause calm c.unwritten (class_of r) (named r) (c.told t) c.shown)
       (λ r c rose. absurd (calm.sink rose)) (λ r c. inr refl) h.ending
 
-  said : (result : Status) → IsEnding request old new result → result ≡ status.Ok → HasSaid request old new
+  said : (result : Status) → IsEnding form old new result → result ≡ status.Ok → HasSaid form old new
   said result (inl a) ok =
       elim a.written [
-        | inl w ↦ record { text = a.text; answer = subst (λ s. IsTextDue request old.shelf new.rig s a.text) (sym w.same ∙ ok) a.due; written = w.whole }
-        | inr (inl w) ↦ absurd (let h : status.Write ≡ status.Ok = sym w.failed ∙ ok in cc)
-        | inr (inr w) ↦ absurd (let h : status.Memory ≡ status.Ok = sym w.starved ∙ ok in cc)
+        | inl w ↦ record {
+          text = a.text;
+          answer = subst (λ s. IsTextDue form old.shelf new.rig s a.text) (sym w.same ∙ ok) a.due;
+          written = w.whole;
+        }
+        | inr w ↦ absurd (let h : status.Write ≡ status.Ok = sym w.failed ∙ ok in cc)
       ]
   said result (inr m) ok = absurd (let h : status.Memory ≡ status.Ok = sym m.starved.starved ∙ ok in cc)
 
-  line_of : (result : Status) → IsEnding request old new result → IsTrue old.sink.tells → Line request old.sink new.sink result
+  line_of : (result : Status) → IsEnding form old new result → IsTrue old.sink.tells → Line old.shelf.words old.sink new.sink result
   line_of result (inl a) t =
       elim a.written [
-        | inl w ↦ subst (Line request old.sink new.sink) (sym w.same)
-            (λ ok cut. w.whole t ∙ ap (λ x. old.sink.bytes ++ x) (due_line request old.shelf new.rig a.to a.text (class_of a.to) (named a.to) ok a.due))
-        | inr (inl w) ↦ λ ok cut. absurd (cut w.failed)
-        | inr (inr w) ↦ line_starved request old.sink new.sink result t w
+        | inl w ↦ subst (Line old.shelf.words old.sink new.sink) (sym w.same) (λ ok cut. w.whole t
+            ∙ ap (λ x. old.sink.bytes ++ x) (due_line form old.shelf new.rig a.to a.text (class_of a.to) (named a.to) ok a.due))
+        | inr w ↦ λ ok cut. absurd (cut w.failed)
       ]
-  line_of result (inr m) t = line_starved request old.sink new.sink result t m.starved
+  line_of result (inr m) t = line_starved old.shelf.words old.sink new.sink result t m.starved
 
-  kept_of : (result : Status) → IsEnding request old new result → IsTrue old.sink.tells → result ≡ status.Memory → new.sink.bytes ≡ old.sink.bytes
+  kept_of : (result : Status) → IsEnding form old new result → IsTrue old.sink.tells → result ≡ status.Memory
+      → new.sink.bytes ≡ old.sink.bytes
   kept_of result (inl a) t e =
       elim a.written [
-        | inl w ↦ absurd (subst (λ s. IsTextDue request old.shelf new.rig s a.text) (sym w.same ∙ e) a.due)
-        | inr (inl w) ↦ absurd (let k : status.Write ≡ status.Memory = sym w.failed ∙ e in cc)
-        | inr (inr w) ↦ w.kept t
+        | inl w ↦ absurd (subst (λ s. IsTextDue form old.shelf new.rig s a.text) (sym w.same ∙ e) a.due)
+        | inr w ↦ absurd (let k : status.Write ≡ status.Memory = sym w.failed ∙ e in cc)
       ]
   kept_of result (inr m) t e = m.starved.kept t
 
   left_with : (s : Status) → Came s → IsRigLeft old.rig new.rig
-  left_with s c = left_of request old.rig new.rig (class_of s) c.traced
+  left_with s c = left_of form old.rig new.rig (class_of s) c.traced
 
   -- the cause of what it came to is that of its result, but where the output failed or there was no memory
-  ended_cause : (result : Status) → CameToEnd request old new result → IsCaused request old new result
+  ended_cause : (result : Status) → CameToEnd form old new result → IsCaused form old new result
   ended_cause result h =
-      by_ending result (λ s. IsStatusOf request s → IsCaused request old new s)
-      (λ s c own. record { own = own; told = c.told; shown = c.shown; write = λ e. absurd (c.unwritten e); unreached = c.unreached; traced = c.traced })
-      (λ s c rose own. record { own = own; told = λ t. tt; shown = tt; write = λ e. rose; unreached = tt; traced = left_with s c })
-      (λ s c own. record { own = own; told = λ t. tt; shown = tt; write = λ e. absurd (let k : status.Memory ≡ status.Write = e in cc); unreached = tt; traced = left_with s c })
-      h.ending h.answers
-
-  ended_cut : (result : Status) → CameToEnd request old new result → result ≡ status.Write → IsCutShort request old new
-  ended_cut result h e = cut h.ending
-    where
-      cut : IsEnding request old new result → IsCutShort request old new
-      cut (inl a) =
-          elim a.written [
-            | inl w ↦ absurd (subst (λ s. IsTextDue request old.shelf new.rig s a.text) (sym w.same ∙ e) a.due)
-            | inr (inl w) ↦ record { to = a.to; text = a.text; came = a.came; due = a.due; front = w.front }
-            | inr (inr w) ↦ absurd (let k : status.Memory ≡ status.Write = sym w.starved ∙ e in cc)
-          ]
-      cut (inr m) = absurd (let k : status.Memory ≡ status.Write = sym m.starved.starved ∙ e in cc)
-
-  ended_written : (result : Status) → CameToEnd request old new result → HasWritten request old new result
-  ended_written result h =
-      record { line = λ t. line_of result h.ending t; kept = λ t. kept_of result h.ending t; usage = h.usage; cut = ended_cut result h }
-
-  -- a success that was written is how the call ended
-  ending_done : (text : List ℕ) (result : Status) → Came status.Ok → (IsTrue old.shelf.tells → IsAnswer request old.shelf.file new.rig text)
-      → IsWritten old.sink new.sink status.Ok text result → IsEnding request old new result
-  ending_done text result came answer written = inl (record { to = status.Ok; text = text; came = came; due = answer; written = written })
-
-  -- and so is a refusal whose line was written
-  ending_refused : (s : Status) (name : List ℕ) (result : Status) → Came s → (s ≡ status.Ok → ⊥) → (s ≡ status.Memory → ⊥) → name ≡ name_in request s
-      → IsWritten old.sink new.sink s (refusal_text s name) result → IsEnding request old new result
-  ending_refused s name result came ok memory is written =
-      inl (record {
-        to = s;
-        text = refusal_text s name;
-        came = came;
-        due = line_due request old.shelf new.rig s (refusal_text s name) (class_of s) (named s) ok came.unwritten memory (ap (refusal_text s) is);
-        written = written;
+      by_ending result (λ s. IsStatusOf form s → IsCaused form old new s)
+      (λ s c own. record {
+        own = own;
+        told = c.told;
+        shown = c.shown;
+        write = λ e. absurd (c.unwritten e);
+        unreached = c.unreached;
+        traced = c.traced;
       })
+      (λ s c rose own. record { own = own; told = λ t. tt; shown = tt; write = λ e. rose; unreached = tt; traced = left_with s c })
+      (λ s c own. record {
+        own = own;
+        told = λ t. tt;
+        shown = tt;
+        write = λ e. absurd (let k : status.Memory ≡ status.Write = e in cc);
+        unreached = tt;
+        traced = left_with s c;
+      })
+      h.ending h.own
 
-  -- a request that isn't served comes to the line on usage, and to nothing else
-  is_usage : (s : Status) → IsStatusOf request s → (s ≡ status.Write → ⊥) → (IsServed request → ⊥) → s ≡ status.Usage
-  is_usage s is unwritten un =
-      elim (is.unserved un) [
-        | inl usage ↦ usage
-        | inr write ↦ absurd (unwritten write)
+  cut_of : (result : Status) → IsEnding form old new result → result ≡ status.Write → IsCutShort form old new
+  cut_of result (inl a) e =
+      elim a.written [
+        | inl w ↦ absurd (subst (λ s. IsTextDue form old.shelf new.rig s a.text) (sym w.same ∙ e) a.due)
+        | inr w ↦ record { to = a.to; text = a.text; came = a.came; due = a.due; front = w.front }
       ]
-
-  -- with no memory for a refusal's line there was a request that is served
-  starved_status : ((IsServed request → ⊥) → ⊥) → IsStatusOf request status.Memory
-  starved_status served =
-      record { usage = λ e. absurd (let k : status.Memory ≡ status.Usage = e in cc); unserved = λ un. absurd (served un); own = own_memory request }
-
-  write_status : IsStatusOf request status.Write
-  write_status = record { usage = λ e. absurd (let k : status.Write ≡ status.Usage = e in cc); unserved = λ un. inr refl; own = own_write request }
-
-  -- what is answered after writing is a status of the request
-  written_status : (s : Status) (text : List ℕ) (result : Status) → IsStatusOf request s → ((result ≡ status.Memory) → (IsServed request → ⊥) → ⊥) → IsWritten old.sink new.sink s text result
-      → IsStatusOf request result
-  written_status s text result is served (inl w) = subst (IsStatusOf request) (sym w.same) is
-  written_status s text result is served (inr (inl w)) = subst (IsStatusOf request) (sym w.failed) write_status
-  written_status s text result is served (inr (inr w)) = subst (IsStatusOf request) (sym w.starved) (starved_status (served w.starved))
-
-  ended_done : (text : List ℕ) (result : Status) → (IsTrue old.shelf.tells → IsAnswer request old.shelf.file new.rig text) → CameToSuccess request old.shelf new.shelf old.rig new.rig
-      → IsWritten old.sink new.sink status.Ok text result → KeepsShelf request old.shelf new.shelf → CameToEnd request old new result
-  ended_done text result answer done written kept =
-      let served : (IsServed request → ⊥) → ⊥ = λ un. (let k : status.Ok ≡ status.Usage = is_usage status.Ok done.own done.came.unwritten un in absurd cc) in
-      record {
-        answers = written_status status.Ok text result done.own (λ e. served) written;
-        kept = kept;
-        usage = λ t un. absurd (served un);
-        ending = ending_done text result done.came answer written;
-      }
-
-  usage_front : (s : Status) (result : Status) → s ≡ status.Usage → IsTrue old.sink.tells → IsWritten old.sink new.sink s (refusal_text s (name_in request s)) result
-      → HasFront old.sink.bytes (refusal_text status.Usage []) new.sink.bytes
-  usage_front s result e t written =
-      subst (λ r. HasFront old.sink.bytes (refusal_text r (name_in request r)) new.sink.bytes) e (written_front old.sink new.sink s (refusal_text s (name_in request s)) result written t)
-
-  ended_refused : (s : Status) (result : Status) → CameToRefusal request old.shelf new.shelf old.rig new.rig s → IsRefusalWritten old.sink new.sink s (name_in request s) result
-      → KeepsShelf request old.shelf new.shelf → CameToEnd request old new result
-  ended_refused s result is (inl m) kept =
-      let came : Came status.Memory = subst Came m.0 is.came in
-      let own : IsStatusOf request status.Memory = subst (IsStatusOf request) m.0 is.own in
-      record {
-        answers = subst (IsStatusOf request) (sym m.1.starved) own;
-        kept = kept;
-        usage = λ t un. (let k : status.Memory ≡ status.Usage = is_usage status.Memory own came.unwritten un in absurd cc);
-        ending = inr (record { came = came; starved = m.1 });
-      }
-  ended_refused s result is (inr w) kept =
-      record {
-        answers = written_status s (refusal_text s (name_in request s)) result is.own (λ e un. unfed result e (w.2 (is_usage s is.own is.came.unwritten un))) w.1;
-        kept = kept;
-        usage = λ t un. usage_front s result (is_usage s is.own is.came.unwritten un) t w.1;
-        ending = ending_refused s (name_in request s) result is.came is.refusal w.0 refl w.1;
-      }
+  cut_of result (inr m) e = absurd (let k : status.Memory ≡ status.Write = sym m.starved.starved ∙ e in cc)
 
   -- what is told of the end of a call
-  ended_told : (result : Status) → CameToEnd request old new result → HasEnded request old new result
+  ended_told : (result : Status) → CameToEnd form old new result → HasEndedAs form old new result
   ended_told result h =
       record {
         cause = ended_cause result h;
         complete = ended_complete result h;
         said = said result h.ending;
-        written = ended_written result h;
+        written = record { line = line_of result h.ending; kept = kept_of result h.ending; cut = cut_of result h.ending };
         kept = h.kept;
       }
 
-  -- what came of a request was told
-  pub ended_by : {X : Type 0} (r : Result X Status) (bytes_of : X → List ℕ) (result : Status) → (IsTrue old.shelf.tells → IfOk r (λ x. IsAnswer request old.shelf.file new.rig (bytes_of x)))
-      → OnOk r (CameToSuccess request old.shelf new.shelf old.rig new.rig) → IfErr r (CameToRefusal request old.shelf new.shelf old.rig new.rig)
-      → IfOk r (λ x. IsWritten old.sink new.sink status.Ok (bytes_of x) result) → IfErr r (λ e. IsRefusalWritten old.sink new.sink e (name_in request e) result)
-      → KeepsShelf request old.shelf new.shelf → HasEnded request old new result
-  ended_by (Ok x) bytes_of result answer done refused written unwritten kept = ended_told result (ended_done (bytes_of x) result answer done written kept)
-  ended_by (Err e) bytes_of result answer done refused written unwritten kept = ended_told result (ended_refused e result refused unwritten kept)
+  -- what is answered after writing is a status of the form
+  own_written : (s : Status) (text : List ℕ) (result : Status) → IsStatusOf form s → IsWritten old.sink new.sink s text result
+      → IsStatusOf form result
+  own_written s text result own (inl w) = subst (IsStatusOf form) (sym w.same) own
+  own_written s text result own (inr w) = subst (IsStatusOf form) (sym w.failed) tt
 
-pub ended_replayed : (names : Names) (old new : Outside) (result : Status) → HasEnded (Replay names) old new result → IsTrue old.shelf.tells → IsTrue old.sink.tells → IsTrue new.rig.tells
-    → IsTrue new.rig.ports_tell → result ≡ status.Ok → HasReplayed old.shelf.file names old.sink.bytes new.sink.bytes new.rig.logs new.rig.states
-ended_replayed names old new result h shelf sink rig ports ok = let s = h.said ok in record { bytes = s.text; report = s.answer shelf rig ports; written = s.written sink }
+  -- a success that was written is how the call ended
+  ended_done : (text : List ℕ) (result : Status) → CameToSuccess form old.shelf new.shelf old.rig new.rig text
+      → IsWritten old.sink new.sink status.Ok text result → CameToEnd form old new result
+  ended_done text result done written =
+      record {
+        own = own_written status.Ok text result tt written;
+        kept = done.kept;
+        ending = inl (record { to = status.Ok; text = text; came = done.came; due = done.answer; written = written });
+      }
 
-pub ended_checked : (name : List ℕ) (old new : Outside) (result : Status) → HasEnded (Check name) old new result → IsTrue old.shelf.tells → IsTrue old.sink.tells → result ≡ status.Ok
-    → HasChecked old.shelf.file name old.sink.bytes new.sink.bytes
-ended_checked name old new result h shelf sink ok = let s = h.said ok in record { text = s.text; check = s.answer shelf; written = s.written sink }
+  -- and so is a refusal whose line was written, or for which there was no memory
+  ended_refused : (s : Status) (result : Status) → CameToRefusal form old.shelf new.shelf old.rig new.rig s
+      → IsRefusalWritten old.sink new.sink s (name_in old.shelf.words s) result → CameToEnd form old new result
+  ended_refused s result is (inl m) =
+      record {
+        own = subst (IsStatusOf form) (sym m.starved) tt;
+        kept = is.kept;
+        ending = inr (record { to = s; came = is.came; starved = m });
+      }
+  ended_refused s result is (inr w) =
+      let line = refusal_text s (name_in old.shelf.words s) in
+      record {
+        own = own_written s line result is.own w.1;
+        kept = is.kept;
+        ending = inl (record {
+          to = s;
+          text = line;
+          came = is.came;
+          due = line_due form old.shelf new.rig s line (class_of s) (named s) is.refusal is.came.unwritten w.0 refl;
+          written = w.1;
+        });
+      }
 
--- of the same request
-pub ended_same : (request request_now : Request) (old new : Outside) (result : Status) → request ≡ request_now → HasEnded request old new result → HasEnded request_now old new result
-ended_same request request_now old new result same h = subst (λ q. HasEnded q old new result) same h
+  -- what came of a form was told, under the words of its call
+  pub ended_by : {X : Type 0} (words : List (List ℕ)) (r : Result X Status) (bytes_of : X → List ℕ) (result : Status)
+      → old.shelf.words ≡ words
+      → IfOk r (λ x. CameToSuccess form old.shelf new.shelf old.rig new.rig (bytes_of x))
+      → IfErr r (CameToRefusal form old.shelf new.shelf old.rig new.rig)
+      → IfOk r (λ x. IsWritten old.sink new.sink status.Ok (bytes_of x) result)
+      → IfErr r (λ e. IsRefusalWritten old.sink new.sink e (name_in words e) result) → HasEndedAs form old new result
+  ended_by words (Ok x) bytes_of result same done refused written unwritten =
+      ended_told result (ended_done (bytes_of x) result done written)
+  ended_by words (Err e) bytes_of result same done refused written unwritten =
+      ended_told result (ended_refused e result refused
+      (subst (λ ws. IsRefusalWritten old.sink new.sink e (name_in ws e) result) (sym same) unwritten))
 
--- words in no form are answered by the line on usage
-pub ended_formless : (shelf : ShelfView) (sink sink_now : OutputView) (rig : RigView) (result : Status) → (result ≡ status.Usage) ⊎ (result ≡ status.Write)
-    → IsWritten sink sink_now status.Usage (refusal_text status.Usage []) result
-    → HasEnded NoForm (record { shelf = shelf; sink = sink; rig = rig }) (record { shelf = shelf; sink = sink_now; rig = rig }) result
-ended_formless shelf sink sink_now rig result told written =
-    ended_told NoForm _ _ result (ended_refused NoForm _ _ status.Usage result
-    (record {
-      came = record {
-        told = λ t. tt;
-        shown = λ served. served;
-        unwritten = λ e. let k : status.Usage ≡ status.Write = e in cc;
-        unreached = λ place. refl;
-        traced = record { plugs = refl; unplugs = refl };
-      };
-      refusal = λ e. let k : status.Usage ≡ status.Ok = e in cc;
-      own = record { usage = λ e served. served; unserved = λ un. inl refl; own = tt };
-    })
-    (inr ((λ e. let k : status.Usage ≡ status.Memory = e in cc), written, (λ e. told)))
-    (record { words = refl; files = λ name. refl; others = λ place no. refl }))
+-- of the same names
+pub ended_same : {N : Type 0} (row : N → Form) (names names_now : N) (old new : Outside) (result : Status) → names ≡ names_now
+    → HasEndedAs (row names) old new result → HasEndedAs (row names_now) old new result
+ended_same row names names_now old new result same h = subst (λ n. HasEndedAs (row n) old new result) same h
+
+-- how a call comes to a status, class by class
+module _ (form : Form) (shelf shelf_now : ShelfView) (rig rig_now : RigView) where
+  -- the files let it succeed, and what is to be done to the rig was done
+  pub came_to_success : (text : List ℕ) → (IsTrue shelf.tells → form.cause shelf.file status.Ok) → rig_after form.plugs rig rig_now
+      → (IsTrue shelf.tells → form.answer shelf.file rig_now text) → KeepsShelf form shelf shelf_now
+      → CameToSuccess form shelf shelf_now rig rig_now text
+  came_to_success text cause after answer kept =
+      record {
+        came = record {
+          told = cause;
+          shown = tt;
+          unwritten = λ e. let k : status.Ok ≡ status.Write = e in cc;
+          unreached = tt;
+          traced = after;
+        };
+        answer = answer;
+        kept = kept;
+      }
+
+  -- the rig was not plugged
+  pub rig_failed : IsTrue form.plugs → (IsTrue shelf.tells → form.cause shelf.file status.Ok) → Rose rig.faults rig_now.faults
+      → IsTried rig rig_now
+      → KeepsShelf form shelf shelf_now → CameToRefusal form shelf shelf_now rig rig_now status.Rig
+  rig_failed plugs cause rose tried kept =
+      record {
+        came = record {
+          told = λ t. (plugs, cause t);
+          shown = rose;
+          unwritten = λ e. let k : status.Rig ≡ status.Write = e in cc;
+          unreached = tt;
+          traced = tried;
+        };
+        refusal = λ e. let k : status.Rig ≡ status.Ok = e in cc;
+        own = plugs;
+        kept = kept;
+      }
+
+  -- there was no memory
+  pub memory_wanting : IsRigLeft rig rig_now → KeepsShelf form shelf shelf_now
+      → CameToRefusal form shelf shelf_now rig rig_now status.Memory
+  memory_wanting left kept =
+      record {
+        came = record {
+          told = λ t. tt;
+          shown = tt;
+          unwritten = λ e. let k : status.Memory ≡ status.Write = e in cc;
+          unreached = tt;
+          traced = left;
+        };
+        refusal = λ e. let k : status.Memory ≡ status.Ok = e in cc;
+        own = tt;
+        kept = kept;
+      }
+
+-- .. before the rig is plugged
+module _ (form : Form) (shelf shelf_now : ShelfView) (rig : RigView) where
+  -- a file was not read
+  pub file_unread : (place : ℕ) → (IsTrue shelf.tells → form.turn shelf.file place)
+      → IsUnread form.reads shelf.faults shelf_now.faults place
+      → KeepsSkipped form shelf.faults shelf_now.faults (status.Read place) → KeepsShelf form shelf shelf_now
+      → CameToRefusal form shelf shelf_now rig rig (status.Read place)
+  file_unread place turn unread skipped kept =
+      record {
+        came = record {
+          told = turn;
+          shown = unread;
+          unwritten = λ e. let k : status.Read place ≡ status.Write = e in cc;
+          unreached = skipped;
+          traced = record { plugs = refl; unplugs = refl };
+        };
+        refusal = λ e. let k : status.Read place ≡ status.Ok = e in cc;
+        own = unread.named;
+        kept = kept;
+      }
+
+  -- a text was refused
+  pub text_refused : (s : Status) → class_of s ≡ Refused → (IsTrue shelf.tells → form.cause shelf.file s) → form.refuses s
+      → KeepsSkipped form shelf.faults shelf_now.faults s → KeepsShelf form shelf shelf_now → CameToRefusal form shelf shelf_now rig rig s
+  text_refused s is cause own skipped kept =
+      record {
+        came = record {
+          told = λ t. subst (told_of form shelf.file s) (sym is) (cause t);
+          shown = subst (shown_of form shelf shelf_now rig rig) (sym is) tt;
+          unwritten = λ e. let k : Silent ≡ Refused = sym (ap class_of e) ∙ is in cc;
+          unreached = subst (unreached_of form shelf.faults shelf_now.faults s) (sym is) skipped;
+          traced = subst (traced_of form rig rig) (sym is) (record { plugs = refl; unplugs = refl });
+        };
+        refusal = λ e. let k : Done ≡ Refused = sym (ap class_of e) ∙ is in cc;
+        own = subst (own_of form s) (sym is) own;
+        kept = kept;
+      }
+
+-- what holds of an outcome beside each rig
+pub for_ok : {X E : Type 0} (r : Result X E) (P : RigView → X → Type 0) → IfOk r (λ x. (rig : RigView) → P rig x) → (rig : RigView)
+    → IfOk r (P rig)
+for_ok (Ok x) P h rig = h rig
+for_ok (Err e) P h rig = tt
+
+pub for_err : {X E : Type 0} (r : Result X E) (P : RigView → E → Type 0) → IfErr r (λ e. (rig : RigView) → P rig e) → (rig : RigView)
+    → IfErr r (P rig)
+for_err (Ok x) P h rig = tt
+for_err (Err e) P h rig = h rig

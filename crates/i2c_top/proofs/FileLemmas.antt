@@ -12,10 +12,10 @@ use Rattle.caller_core.specs.Scripts.{script_read, commands_of}
 use Rattle.caller_core.specs.View.{CallerView, script_on}
 use Rattle.i2c_top.specs.Boards.{IsAccepted, IsRejected}
 use Rattle.i2c_top.specs.Files.{Files, bytes_in}
-use Rattle.i2c_top.specs.Readings.{IsAcceptedIn, IsRejectedIn, IsScriptIn, AreScriptsIn, IsScheduleIn, IsOrderIn, HasRead, IsRefusedAt, IsRefusedScript, IsRefusedOrder, IsBadBoard, IsBadScript, IsTooDear}
+use Rattle.i2c_top.specs.Readings.{IsAcceptedIn, IsRejectedIn, IsScriptIn, AreScriptsIn, IsScheduleIn, IsOrderIn, HasRead, IsRefusedAt, IsRefusedScript, IsRefusedOrder, IsBadBoard, IsBadScript, IsTooDear, IsFileRefusal}
 use Rattle.i2c_outside.specs.Causes.{Rose}
-use Rattle.i2c_top.specs.Replays.{Names, script_name, HasScript, HasBadScript, HasScripts, HasBadSchedule, HasScriptsBefore, HasTexts, first_script, texts_in, cost_in, IsScheduleAt, KeepsAfter, KeepsUnreached, IsFileRefusal}
-use Rattle.i2c_top.specs.Requests.{names_of}
+use Rattle.i2c_top.specs.Scripts.{script_name, HasScript, HasBadScript, HasScripts, HasBadSchedule, texts_in}
+use Rattle.i2c_top.specs.forms.Replays.{Names, names_of, HasScriptsBefore, HasTexts, first_script, cost_in, IsPlaceIn, IsScheduleAt, IsReadAfter, IsSkipped}
 use Rattle.i2c_top.specs.Runs.{texts_of, cost_of_texts}
 use Rattle.i2c_top.specs.Schedules.{schedule_read}
 use Rattle.i2c_top.specs.Traces.{ShelfView, KeepsBut}
@@ -155,6 +155,28 @@ kept_then P Q R a b c f g k h =
       others = λ p no. h.others p (λ q. no (g p q)) ∙ k.others p (λ q. no (f p q));
     }
 
+-- the scripts stand behind the board
+pub first_low : (schedule : Option (List ℕ)) → 2 ≤ first_script schedule
+first_low None = omega arith
+first_low (Some name) = omega arith
+
+-- the schedule stands before the scripts
+pub schedule_before : (schedule : Option (List ℕ)) (place : ℕ) → IsScheduleAt schedule place → (place ≡ 2) × (place < first_script schedule)
+schedule_before None place at = absurd at
+schedule_before (Some name) place at = (at, omega (arith, at))
+
+-- the board, the scripts and the schedule were read, where there is one
+pub all_kept : (names : Names) (a b c d : ShelfView) (first many : ℕ) → first ≡ first_script names.schedule → many ≡ length names.scripts
+    → KeepsBut (λ p. p ≡ 1) a b → KeepsBut (λ p. (first ≤ p) × (p < first + many)) b c → KeepsBut (IsScheduleAt names.schedule) c d
+    → KeepsBut (IsPlaceIn names) a d
+all_kept names a b c d first many is count board scripts schedule =
+    let low = first_low names.schedule in
+    kept_then (IsPlaceIn names) (IsScheduleAt names.schedule) (IsPlaceIn names) a c d (λ p h. h)
+    (λ p at. let before = schedule_before names.schedule p at in record { first = omega (arith, before.0); last = omega (arith, before.1) })
+    (kept_then (λ p. p ≡ 1) (λ p. (first ≤ p) × (p < first + many)) (IsPlaceIn names) a b c
+    (λ p e. record { first = omega (arith, e); last = omega (arith, e, low) })
+    (λ p h. record { first = omega (arith, h.0, is, low); last = omega (arith, h.1, is, count) }) board scripts) schedule
+
 -- a refusal that is passed on
 pub passed_on : {T E : Type 0} (r : Result T E) (x : E) (P : E → Type 0) → IsErrAnd r (λ y. y ≡ x) → P x → IfErr r P
 passed_on (Ok v) x P h p = tt
@@ -185,11 +207,6 @@ script_refused first tells file file_now board names reads reads_mid reads_now n
     by (inl r) = inl (r.0, subst (λ (k : ℕ). Rose k (reads_now (first + n))) (kept (first + n) (λ p. absurd (omega (arith, p.1)))) r.1)
     by (inr (inl m)) = inr (inl m)
     by (inr (inr b)) = inr (inr (record { line = b.line; word = b.word; same = b.same; is_bad = λ t. subst (λ x. HasBadScript file board x b.line b.word) named (same_bad file file_now board name b.line b.word same (b.is_bad t)) }))
-
--- the scripts stand behind the board
-pub first_low : (schedule : Option (List ℕ)) → 2 ≤ first_script schedule
-first_low None = omega arith
-first_low (Some name) = omega arith
 
 -- what the board's reading left is what a script's refusal says
 pub scripts_refusal : (tells : Bool) (file file_now : Files) (b : BoardView) (names : Names) (reads reads_mid reads_now : ℕ → ℕ) (s : Status) → ((name : List ℕ) → file_now name ≡ file name)
@@ -234,11 +251,6 @@ scripts_on : (file : Files) (b : BoardView) (names : Names) (board : IsAcceptedI
     → HasScripts file board.has.board names.scripts (length names.scripts)
 scripts_on file b names board scripts = subst (λ k. HasScripts file k names.scripts (length names.scripts)) board.same scripts
 
--- the schedule stands before the scripts
-pub schedule_before : (schedule : Option (List ℕ)) (place : ℕ) → IsScheduleAt schedule place → (place ≡ 2) × (place < first_script schedule)
-schedule_before None place at = absurd at
-schedule_before (Some name) place at = (at, omega (arith, at))
-
 -- and a schedule's, where there is one
 pub order_refusal : (tells : Bool) (file file_now : Files) (b : BoardView) (board_name : List ℕ) (schedule : Option (List ℕ)) (scripts : List (List ℕ)) (reads reads_mid reads_now : ℕ → ℕ) (callers : ℕ) (s : Status)
     → callers ≡ length scripts → ((name : List ℕ) → file_now name ≡ file name) → ((place : ℕ) → IsScheduleAt schedule place → reads_mid place ≡ reads place) → (IsTrue tells → IsAcceptedIn file board_name b)
@@ -266,14 +278,21 @@ cost_refusal tells file names reads reads_now b texts words s read d =
     subst (IsFileRefusal tells file names reads reads_now) (sym d.same)
     (d.dear, λ t. record { texts = has_texts file names b texts words (read t); same = cost_read file names b texts words (read t); dear = d.dear })
 
--- what a refusal comes before was not read: behind the board nothing was,
+-- what a refusal comes before was not read (`KeepsSkipped` of the row)
+abbrev KeepsRest : Option (List ℕ) → (ℕ → ℕ) → (ℕ → ℕ) → Status → Type 0
+KeepsRest schedule reads reads_now s = (other : ℕ) → IsSkipped schedule s other → reads_now other ≡ reads other
+
+abbrev KeepsAfter : Option (List ℕ) → (ℕ → ℕ) → (ℕ → ℕ) → ℕ → Type 0
+KeepsAfter schedule reads reads_now place = (other : ℕ) → IsReadAfter schedule place other → reads_now other ≡ reads other
+
+-- behind the board nothing was,
 pub board_unreached : (schedule : Option (List ℕ)) (of : BoardRefusal → Type 0) (reads reads_now : ℕ → ℕ) (s : Status) → ((place : ℕ) → (place ≡ 1 → ⊥) → reads_now place ≡ reads place)
-    → IsRefusedAt 1 (IsBadBoard of) (reads 1) (reads_now 1) s → KeepsUnreached schedule reads reads_now s
+    → IsRefusedAt 1 (IsBadBoard of) (reads 1) (reads_now 1) s → KeepsRest schedule reads reads_now s
 board_unreached schedule of reads reads_now s kept refused =
     elim refused [
-      | inl h ↦ subst (KeepsUnreached schedule reads reads_now) (sym h.0) behind
-      | inr (inl m) ↦ subst (KeepsUnreached schedule reads reads_now) (sym m) tt
-      | inr (inr b) ↦ subst (KeepsUnreached schedule reads reads_now) (sym b.same) behind
+      | inl h ↦ subst (KeepsRest schedule reads reads_now) (sym h.0) behind
+      | inr (inl m) ↦ subst (KeepsRest schedule reads reads_now) (sym m) (λ other no. absurd no)
+      | inr (inr b) ↦ subst (KeepsRest schedule reads reads_now) (sym b.same) behind
     ]
   where
     behind : KeepsAfter schedule reads reads_now 1
@@ -286,12 +305,12 @@ board_unreached schedule of reads reads_now s kept refused =
 -- .. behind a script not the later ones nor the schedule,
 pub scripts_unreached : (schedule : Option (List ℕ)) (tells : Bool) (file : Files) (b : BoardView) (names : List (List ℕ)) (reads reads_mid reads_now : ℕ → ℕ) (s : Status)
     → ((place : ℕ) → (place ≡ 1 → ⊥) → reads_mid place ≡ reads place) → ((place : ℕ) → ((first_script schedule ≤ place) × (place < first_script schedule + length names) → ⊥) → reads_now place ≡ reads_mid place)
-    → IsRefusedScript (first_script schedule) tells file b names reads_mid reads_now s → KeepsUnreached schedule reads reads_now s
+    → IsRefusedScript (first_script schedule) tells file b names reads_mid reads_now s → KeepsRest schedule reads reads_now s
 scripts_unreached schedule tells file b names reads reads_mid reads_now s kept kept_now r =
     elim r.refused [
-      | inl h ↦ subst (KeepsUnreached schedule reads reads_now) (sym h.0) behind
-      | inr (inl m) ↦ subst (KeepsUnreached schedule reads reads_now) (sym m) tt
-      | inr (inr b) ↦ subst (KeepsUnreached schedule reads reads_now) (sym b.same) behind
+      | inl h ↦ subst (KeepsRest schedule reads reads_now) (sym h.0) behind
+      | inr (inl m) ↦ subst (KeepsRest schedule reads reads_now) (sym m) (λ other no. absurd no)
+      | inr (inr b) ↦ subst (KeepsRest schedule reads reads_now) (sym b.same) behind
     ]
   where
     low : 2 ≤ first_script schedule
@@ -308,9 +327,9 @@ scripts_unreached schedule tells file b names reads reads_mid reads_now s kept k
 
 -- .. and behind the schedule there is nothing
 pub order_unreached : (schedule : Option (List ℕ)) (tells : Bool) (file : Files) (callers : ℕ) (reads reads_mid reads_now : ℕ → ℕ) (s : Status) → IsRefusedOrder tells file schedule callers reads_mid reads_now s
-    → KeepsUnreached schedule reads reads_now s
+    → KeepsRest schedule reads reads_now s
 order_unreached None tells file callers reads reads_mid reads_now s refused = absurd refused
 order_unreached (Some name) tells file callers reads reads_mid reads_now s (inl h) =
-    subst (KeepsUnreached (Some name) reads reads_now) (sym h.0) (λ other after. absurd (after.0 refl))
-order_unreached (Some name) tells file callers reads reads_mid reads_now s (inr (inl m)) = subst (KeepsUnreached (Some name) reads reads_now) (sym m) tt
-order_unreached (Some name) tells file callers reads reads_mid reads_now s (inr (inr b)) = subst (KeepsUnreached (Some name) reads reads_now) (sym b.same) tt
+    subst (KeepsRest (Some name) reads reads_now) (sym h.0) (λ other after. absurd (after.0 refl))
+order_unreached (Some name) tells file callers reads reads_mid reads_now s (inr (inl m)) = subst (KeepsRest (Some name) reads reads_now) (sym m) (λ other no. absurd no)
+order_unreached (Some name) tells file callers reads reads_mid reads_now s (inr (inr b)) = subst (KeepsRest (Some name) reads reads_now) (sym b.same) (λ other no. absurd no)

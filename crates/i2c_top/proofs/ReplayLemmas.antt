@@ -1,133 +1,137 @@
 -- How a call of `replay` or `run` ends: its report, and what its status tells. No induction.
-use Rattle.std.proofs.Common.{◌≡◌, ℕ, ◌≤◌, ◌⊎◌, inl, inr, false, IsTrue, List, length, Option, None, Some, Result, Ok, Err, sym, ap, subst}
+use Rattle.std.proofs.Common.{◌≡◌, ℕ, ◌<◌, ◌≤◌, ◌⊎◌, inl, inr, false, IsTrue, List, length, Option, None, Some, Result, Ok, Err, refl, sym, ap, subst}
 use Rattle.std.specs.Prelude.{IfOk, IfErr, OnOk}
 use Rattle.i2c_base.specs.declared.port.PortCall.{PortCall}
 use Rattle.i2c_base.specs.Board.{BoardView}
 use Rattle.i2c_spec.specs.Targets.{TargetState}
 use Rattle.i2c_outside.specs.Causes.{Rose, counted}
-use Rattle.i2c_top.specs.Endings.{CameToSuccess, CameToRefusal}
-use Rattle.i2c_top.specs.Readings.{HasRead, IsOrderIn}
+use Rattle.i2c_top.specs.Endings.{CameToSuccess, CameToRefusal, HasEndedAs}
+use Rattle.i2c_top.specs.Readings.{HasRead, IsOrderIn, IsFileRefusal}
 use Rattle.i2c_top.specs.Files.{Files}
-use Rattle.i2c_top.specs.Replays.{Names, HasFiles, texts_in}
-use Rattle.i2c_top.specs.Reports.{HasReport}
-use Rattle.i2c_top.specs.Requests.{Replay}
+use Rattle.i2c_top.specs.Form.{KeepsShelf, KeepsSkipped}
+use Rattle.i2c_top.specs.Scripts.{texts_in}
+use Rattle.i2c_top.specs.forms.Replays.{Names, HasFiles, HasReport, HasReplayed, replay_form}
 use Rattle.i2c_top.specs.Runs.{HasRun, cost_of_texts, MOST_COST}
-use Rattle.i2c_top.specs.Traces.{ShelfView, RigView}
+use Rattle.i2c_top.specs.Traces.{ShelfView, RigView, Outside}
 use Rattle.i2c_top.specs.declared.status.Status.{Status}
 use Rattle.i2c_top.specs.declared.status.Status.TheVariants as status
+use Rattle.i2c_top.proofs.EndingLemmas.{came_to_success, text_refused, file_unread, rig_failed, memory_wanting}
 use Rattle.i2c_top.proofs.FileLemmas.{has_texts, cost_read}
 
-abbrev pub has_files : (file : Files) (names : Names) (b : BoardView) (texts : List (List ℕ)) (words : Option (List ℕ)) → HasRead file names b texts words → cost_of_texts b texts ≤ MOST_COST → HasFiles file names
+abbrev pub has_files : (file : Files) (names : Names) (b : BoardView) (texts : List (List ℕ)) (words : Option (List ℕ))
+    → HasRead file names b texts words → cost_of_texts b texts ≤ MOST_COST → HasFiles file names
 has_files file names b texts words read cheap =
-    record { texts = has_texts file names b texts words read; cheap = subst (λ n. n ≤ MOST_COST) (cost_read file names b texts words read) cheap }
+    record {
+      texts = has_texts file names b texts words read;
+      cheap = subst (λ n. n ≤ MOST_COST) (cost_read file names b texts words read) cheap;
+    }
 
 -- the run of what was read is the report that the files ask for
-has_report : (file : Files) (names : Names) (b : BoardView) (texts : List (List ℕ)) (words : Option (List ℕ)) (bytes : List ℕ) (logs : List (List PortCall)) (states : List TargetState)
-    → HasRead file names b texts words → cost_of_texts b texts ≤ MOST_COST → HasRun b texts words bytes logs states → HasReport file names bytes logs states
+has_report : (file : Files) (names : Names) (b : BoardView) (texts : List (List ℕ)) (words : Option (List ℕ)) (bytes : List ℕ)
+    (logs : List (List PortCall)) (states : List TargetState)
+    → HasRead file names b texts words → cost_of_texts b texts ≤ MOST_COST → HasRun b texts words bytes logs states
+    → HasReport file names bytes logs states
 has_report file names b texts words bytes logs states read cheap run =
     record {
       files = has_files file names b texts words read cheap;
       run =
           let board : BoardView = read.board_in.has.board in
-          let over : HasRun board texts words bytes logs states = subst (λ x. HasRun x texts words bytes logs states) read.board_in.same run in
-          let of : HasRun board (texts_in file names.scripts) words bytes logs states = subst (λ ts. HasRun board ts words bytes logs states) read.texts_are over in
+          let over : HasRun board texts words bytes logs states =
+          subst (λ x. HasRun x texts words bytes logs states) read.board_in.same run in
+          let of : HasRun board (texts_in file names.scripts) words bytes logs states =
+          subst (λ ts. HasRun board ts words bytes logs states) read.texts_are over in
           subst (λ ws. HasRun board (texts_in file names.scripts) ws bytes logs states) read.order_in.same of;
     }
 
-unread_order : (file : Files) (schedule : Option (List ℕ)) (callers : ℕ) (words : Option (List ℕ)) → schedule ≡ None → IsOrderIn file schedule callers words → words ≡ None
+unread_order : (file : Files) (schedule : Option (List ℕ)) (callers : ℕ) (words : Option (List ℕ)) → schedule ≡ None
+    → IsOrderIn file schedule callers words → words ≡ None
 unread_order file None callers words free is = is.same
 unread_order file (Some name) callers words free is = absurd (let h : Some name ≡ None = free in cc)
 
-pub has_reports : {X E : Type 0} (r : Result X E) (bytes_of : X → List ℕ) (file : Files) (names : Names) (b : BoardView) (texts : List (List ℕ)) (words : Option (List ℕ))
-    (logs : List (List PortCall)) (states : List TargetState) (rig ports : Type 0) → HasRead file names b texts words → cost_of_texts b texts ≤ MOST_COST
-    → (rig → ports → IfOk r (λ x. HasRun b texts words (bytes_of x) logs states)) → IfOk r (λ x. rig → ports → HasReport file names (bytes_of x) logs states)
-has_reports (Ok x) bytes_of file names b texts words logs states rig ports read cheap run =
-    λ r p. has_report file names b texts words (bytes_of x) logs states read cheap (run r p)
-has_reports (Err e) bytes_of file names b texts words logs states rig ports read cheap run = tt
+-- files that were refused are a refusal of the form; the rig is not plugged yet
+module _ (names : Names) (shelf shelf_now : ShelfView) (rig : RigView) where
+  pub files_refused : (s : Status) → KeepsShelf (replay_form names) shelf shelf_now
+      → KeepsSkipped (replay_form names) shelf.faults shelf_now.faults s
+      → IsFileRefusal shelf.tells shelf.file names shelf.faults shelf_now.faults s
+      → CameToRefusal (replay_form names) shelf shelf_now rig rig s
+  files_refused status.Memory kept skipped h =
+      memory_wanting (replay_form names) shelf shelf_now rig rig (inl (record { plugs = refl; unplugs = refl })) kept
+  files_refused (status.Read place) kept skipped h = file_unread (replay_form names) shelf shelf_now rig place h.1 h.0 skipped kept
+  files_refused (status.Board why) kept skipped h =
+      text_refused (replay_form names) shelf shelf_now rig (status.Board why) refl h
+      (record {
+        cost = λ cost e. absurd (let k : status.Board why ≡ status.Cost cost = e in cc);
+        schedule = λ word e. absurd (let k : status.Board why ≡ status.Schedule word = e in cc);
+      }) skipped kept
+  files_refused (status.Script caller line word) kept skipped h =
+      text_refused (replay_form names) shelf shelf_now rig (status.Script caller line word) refl h
+      (record {
+        cost = λ cost e. absurd (let k : status.Script caller line word ≡ status.Cost cost = e in cc);
+        schedule = λ other e. absurd (let k : status.Script caller line word ≡ status.Schedule other = e in cc);
+      }) skipped kept
+  files_refused (status.Schedule word) kept skipped h =
+      text_refused (replay_form names) shelf shelf_now rig (status.Schedule word) refl h.1
+      (record {
+        cost = λ cost e. absurd (let k : status.Schedule word ≡ status.Cost cost = e in cc);
+        schedule = λ other e. h.0;
+      }) skipped kept
+  files_refused (status.Cost cost) kept skipped h =
+      text_refused (replay_form names) shelf shelf_now rig (status.Cost cost) refl h.1
+      (record {
+        cost = λ other e. subst (λ n. MOST_COST < n) (let k : status.Cost cost ≡ status.Cost other = e in cc) h.0;
+        schedule = λ word e. absurd (let k : status.Cost cost ≡ status.Schedule word = e in cc);
+      }) skipped kept
+  files_refused _ kept skipped h = absurd h
 
--- without a schedule no order was asked for
-pub has_free_reports : {X E : Type 0} (r : Result X E) (bytes_of : X → List ℕ) (file : Files) (names : Names) (b : BoardView) (texts : List (List ℕ)) (words : Option (List ℕ))
-    (logs : List (List PortCall)) (states : List TargetState) (rig ports : Type 0) → names.schedule ≡ None → HasRead file names b texts words → cost_of_texts b texts ≤ MOST_COST
-    → (rig → ports → IfOk r (λ x. HasRun b texts None (bytes_of x) logs states)) → IfOk r (λ x. rig → ports → HasReport file names (bytes_of x) logs states)
-has_free_reports r bytes_of file names b texts words logs states rig ports free read cheap run =
-    has_reports r bytes_of file names b texts words logs states rig ports read cheap
-    (λ g p. subst (λ ws. IfOk r (λ x. HasRun b texts ws (bytes_of x) logs states)) (sym (unread_order file names.schedule (length names.scripts) words free read.order_in)) (run g p))
+-- a run of files that were read, over the rig
+module _ (names : Names) (shelf shelf_now : ShelfView) (rig rig_now : RigView) (b : BoardView) (texts : List (List ℕ))
+    (words : Option (List ℕ))
+    (read : IsTrue shelf.tells → HasRead shelf.file names b texts words) (cheap : cost_of_texts b texts ≤ MOST_COST)
+    (kept : KeepsShelf (replay_form names) shelf shelf_now) (plugs : rig_now.plugs ≡ counted rig.plugs)
+    (unplugged : rig_now.plugged ≡ false) where
+  files : IsTrue shelf.tells → HasFiles shelf.file names
+  files t = has_files shelf.file names b texts words (read t) cheap
 
--- a run that ended is a success of the request
-pub replay_done : {X : Type 0} (names : Names) (shelf shelf_now : ShelfView) (rig rig_now : RigView) (r : Result X Status) → (IsTrue shelf.tells → HasFiles shelf.file names)
-    → rig_now.plugs ≡ counted rig.plugs → OnOk r (rig_now.unplugs ≡ counted rig.unplugs) → rig_now.plugged ≡ false
-    → OnOk r (CameToSuccess (Replay names) shelf shelf_now rig rig_now)
-replay_done names shelf shelf_now rig rig_now (Ok x) files plugs unplugs plugged =
-    record {
-      came = record {
-        told = files;
-        shown = tt;
-        unwritten = λ e. let k : status.Ok ≡ status.Write = e in cc;
-        unreached = tt;
-        traced = record { plugs = plugs; unplugs = unplugs; unplugged = plugged };
-      };
-      own = record {
-        usage = λ e served. let k : status.Ok ≡ status.Usage = e in cc;
-        unserved = λ un. absurd (un tt);
-        own = record {
-          cost = λ cost e. absurd (let k : status.Ok ≡ status.Cost cost = e in cc);
-          schedule = λ word e. absurd (let k : status.Ok ≡ status.Schedule word = e in cc);
-        };
-      };
-    }
-replay_done names shelf shelf_now rig rig_now (Err e) files plugs unplugs plugged = tt
+  -- one that ended is a success of the form, by its report
+  pub run_done : {X : Type 0} (r : Result X Status) (bytes_of : X → List ℕ) → OnOk r (rig_now.unplugs ≡ counted rig.unplugs)
+      → (IsTrue shelf.tells → IsTrue rig_now.tells → IsTrue rig_now.ports_tell
+      → IfOk r (λ x. HasRun b texts words (bytes_of x) rig_now.logs rig_now.states))
+      → IfOk r (λ x. CameToSuccess (replay_form names) shelf shelf_now rig rig_now (bytes_of x))
+  run_done (Ok x) bytes_of unplugs run =
+      came_to_success (replay_form names) shelf shelf_now rig rig_now (bytes_of x) files
+      (record { plugs = plugs; unplugs = unplugs; unplugged = unplugged })
+      (λ t tells ports.
+      has_report shelf.file names b texts words (bytes_of x) rig_now.logs rig_now.states (read t) cheap (run t tells ports)) kept
+  run_done (Err e) bytes_of unplugs run = tt
 
-not_plugged : (names : Names) (shelf shelf_now : ShelfView) (rig rig_now : RigView) → (IsTrue shelf.tells → HasFiles shelf.file names) → rig_now.plugs ≡ counted rig.plugs
-    → rig_now.unplugs ≡ rig.unplugs → rig_now.plugged ≡ false → Rose rig.faults rig_now.faults → CameToRefusal (Replay names) shelf shelf_now rig rig_now status.Rig
-not_plugged names shelf shelf_now rig rig_now files plugs unplugs plugged rose =
-    record {
-      came = record {
-        told = files;
-        shown = rose;
-        unwritten = λ e. let k : status.Rig ≡ status.Write = e in cc;
-        unreached = tt;
-        traced = record { plugs = plugs; unplugs = unplugs; unplugged = plugged };
-      };
-      refusal = λ e. let k : status.Rig ≡ status.Ok = e in cc;
-      own = record {
-        usage = λ e served. let k : status.Rig ≡ status.Usage = e in cc;
-        unserved = λ un. absurd (un tt);
-        own = record {
-          cost = λ cost e. absurd (let k : status.Rig ≡ status.Cost cost = e in cc);
-          schedule = λ word e. absurd (let k : status.Rig ≡ status.Schedule word = e in cc);
-        };
-      };
-    }
+  -- without a schedule no order was asked for
+  pub free_run_done : {X : Type 0} (r : Result X Status) (bytes_of : X → List ℕ) → names.schedule ≡ None
+      → OnOk r (rig_now.unplugs ≡ counted rig.unplugs)
+      → (IsTrue rig_now.tells → IsTrue rig_now.ports_tell → IfOk r (λ x. HasRun b texts None (bytes_of x) rig_now.logs rig_now.states))
+      → IfOk r (λ x. CameToSuccess (replay_form names) shelf shelf_now rig rig_now (bytes_of x))
+  free_run_done r bytes_of free unplugs run =
+      run_done r bytes_of unplugs (λ t tells ports.
+      subst (λ ws. IfOk r (λ x. HasRun b texts ws (bytes_of x) rig_now.logs rig_now.states))
+      (sym (unread_order shelf.file names.schedule (length names.scripts) words free (read t).order_in)) (run tells ports))
 
-no_room : (names : Names) (shelf shelf_now : ShelfView) (rig rig_now : RigView) → rig_now.plugs ≡ counted rig.plugs → rig_now.plugged ≡ false
-    → CameToRefusal (Replay names) shelf shelf_now rig rig_now status.Memory
-no_room names shelf shelf_now rig rig_now plugs plugged =
-    record {
-      came = record {
-        told = λ t. tt;
-        shown = tt;
-        unwritten = λ e. let k : status.Memory ≡ status.Write = e in cc;
-        unreached = tt;
-        traced = inr (record { plugs = plugs; unplugged = plugged });
-      };
-      refusal = λ e. let k : status.Memory ≡ status.Ok = e in cc;
-      own = record {
-        usage = λ e served. let k : status.Memory ≡ status.Usage = e in cc;
-        unserved = λ un. absurd (un tt);
-        own = record {
-          cost = λ cost e. absurd (let k : status.Memory ≡ status.Cost cost = e in cc);
-          schedule = λ word e. absurd (let k : status.Memory ≡ status.Schedule word = e in cc);
-        };
-      };
-    }
+  -- one that failed is a refusal of it
+  pub run_failed : {X : Type 0} (r : Result X Status) → (r ≡ Err status.Rig → rig_now.unplugs ≡ rig.unplugs)
+      → (r ≡ Err status.Rig → Rose rig.faults rig_now.faults) → IfErr r (λ e. (e ≡ status.Rig) ⊎ (e ≡ status.Memory))
+      → IfErr r (CameToRefusal (replay_form names) shelf shelf_now rig rig_now)
+  run_failed (Ok x) unplugs rose failed = tt
+  run_failed (Err e) unplugs rose (inl h) =
+      let is : ◌≡◌ {A = Result _ Status} (Err e) (Err status.Rig) = ap (λ x. Err x) h in
+      subst (CameToRefusal (replay_form names) shelf shelf_now rig rig_now) (sym h)
+      (rig_failed (replay_form names) shelf shelf_now rig rig_now refl files (rose is)
+      (record { plugs = plugs; unplugs = unplugs is; unplugged = unplugged }) kept)
+  run_failed (Err e) unplugs rose (inr h) =
+      subst (CameToRefusal (replay_form names) shelf shelf_now rig rig_now) (sym h)
+      (memory_wanting (replay_form names) shelf shelf_now rig rig_now (inr (record { plugs = plugs; unplugged = unplugged })) kept)
 
--- one that failed is a refusal of it
-pub replay_failed : {X : Type 0} (names : Names) (shelf shelf_now : ShelfView) (rig rig_now : RigView) (r : Result X Status) → (IsTrue shelf.tells → HasFiles shelf.file names)
-    → rig_now.plugs ≡ counted rig.plugs → rig_now.plugged ≡ false → (r ≡ Err status.Rig → rig_now.unplugs ≡ rig.unplugs) → (r ≡ Err status.Rig → Rose rig.faults rig_now.faults)
-    → IfErr r (λ e. (e ≡ status.Rig) ⊎ (e ≡ status.Memory)) → IfErr r (CameToRefusal (Replay names) shelf shelf_now rig rig_now)
-replay_failed names shelf shelf_now rig rig_now (Ok x) files plugs plugged unplugs rose failed = tt
-replay_failed names shelf shelf_now rig rig_now (Err e) files plugs plugged unplugs rose (inl h) =
-    let is : ◌≡◌ {A = Result _ Status} (Err e) (Err status.Rig) = ap (λ x. Err x) h in
-    subst (CameToRefusal (Replay names) shelf shelf_now rig rig_now) (sym h) (not_plugged names shelf shelf_now rig rig_now files plugs (unplugs is) plugged (rose is))
-replay_failed names shelf shelf_now rig rig_now (Err e) files plugs plugged unplugs rose (inr h) =
-    subst (CameToRefusal (Replay names) shelf shelf_now rig rig_now) (sym h) (no_room names shelf shelf_now rig rig_now plugs plugged)
+-- a success was the report
+pub ended_replayed : (names : Names) (old new : Outside) (result : Status) → HasEndedAs (replay_form names) old new result
+    → IsTrue old.shelf.tells
+    → IsTrue old.sink.tells → IsTrue new.rig.tells → IsTrue new.rig.ports_tell → result ≡ status.Ok
+    → HasReplayed old.shelf.file names old.sink.bytes new.sink.bytes new.rig.logs new.rig.states
+ended_replayed names old new result h shelf sink rig ports ok =
+    let s = h.said ok in record { bytes = s.text; report = s.answer shelf rig ports; written = s.written sink }

@@ -2,10 +2,12 @@
 use Rattle.std.specs.Prelude.{⊤, All, Option, None, Some, ◌≡◌, ℕ, ◌+◌, ◌<◌, ◌⊎◌, Bool, IsTrue, List, length, take}
 use Rattle.i2c_base.specs.Board.{BoardView}
 use Rattle.i2c_outside.specs.Causes.{Rose}
-use Rattle.i2c_top.specs.Checks.{HasAccepted, HasRejected}
+use Rattle.i2c_top.specs.Boards.{HasAccepted, HasRejected}
 use Rattle.i2c_top.specs.Files.{Files}
 use Rattle.caller_core.specs.View.{CallerView}
-use Rattle.i2c_top.specs.Replays.{Names, script_name, HasScript, HasBadScript, HasScripts, HasSchedule, HasBadSchedule, HasOrder, words_in, texts_in}
+use Rattle.i2c_top.specs.Scripts.{script_name, HasScript, HasBadScript, HasScripts, HasSchedule, HasBadSchedule, HasOrder, words_in, texts_in}
+use Rattle.i2c_top.specs.Traces.{IsUnread}
+use Rattle.i2c_top.specs.forms.Replays.{Names, IsPlaceIn, IsScheduleAt, IsReadInTurn, IsReplayCause}
 use Rattle.i2c_top.specs.Runs.{AreOpened, texts_of, MOST_COST}
 use Rattle.i2c_top.specs.declared.status.BoardRefusal.{BoardRefusal}
 use Rattle.i2c_top.specs.declared.status.Status.{Status}
@@ -77,19 +79,38 @@ pub record IsBadSchedule (why : ℕ → Type 0) (s : Status) : Type 0 where
 -- the schedule was refused, where there is one
 abbrev pub IsRefusedOrder : Bool → Files → Option (List ℕ) → ℕ → (ℕ → ℕ) → (ℕ → ℕ) → Status → Type 0
 IsRefusedOrder tells file None callers reads reads_now s = ⊥
-IsRefusedOrder tells file (Some name) callers reads reads_now s = IsRefusedAt 2 (IsBadSchedule (λ word. IsTrue tells → HasBadSchedule file name callers word)) (reads 2) (reads_now 2) s
+IsRefusedOrder tells file (Some name) callers reads reads_now s =
+    IsRefusedAt 2 (IsBadSchedule (λ word. IsTrue tells → HasBadSchedule file name callers word)) (reads 2) (reads_now 2) s
 
 -- a script was refused over a board, of those whose files stand from this place on: those before it are in the grammar, and
 -- what is read behind it was not read
-pub record IsRefusedScript (first : ℕ) (tells : Bool) (file : Files) (board : BoardView) (names : List (List ℕ)) (reads reads_now : ℕ → ℕ) (s : Status) : Type 0 where
+pub record IsRefusedScript (first : ℕ) (tells : Bool) (file : Files) (board : BoardView) (names : List (List ℕ))
+    (reads reads_now : ℕ → ℕ) (s : Status) : Type 0 where
   pub caller : ℕ
   pub known : caller < length names
   pub before : IsTrue tells → HasScripts file board names caller
   pub kept : (place : ℕ) → first + caller < place → reads_now place ≡ reads place
-  pub refused : IsRefusedAt (first + caller) (IsBadScript caller (λ line word. IsTrue tells → HasBadScript file board (script_name names caller) line word))
+  pub refused : IsRefusedAt (first + caller)
+      (IsBadScript caller (λ line word. IsTrue tells → HasBadScript file board (script_name names caller) line word))
       (reads (first + caller)) (reads_now (first + caller)) s
 
 -- the scripts cost so much, which is too much
 pub record IsTooDear (cost : ℕ) (s : Status) : Type 0 where
   pub same : s ≡ status.Cost cost
   pub dear : MOST_COST < cost
+
+-- a refusal of a file's text, by what the files say where they are told
+abbrev pub IsTextRefusal : Bool → Files → Names → Status → Type 0
+IsTextRefusal tells file names (status.Board why) = IsTrue tells → IsReplayCause file names (status.Board why)
+IsTextRefusal tells file names (status.Script caller line word) = IsTrue tells → IsReplayCause file names (status.Script caller line word)
+IsTextRefusal tells file names (status.Schedule word) =
+    IsScheduleAt names.schedule 2 × (IsTrue tells → IsReplayCause file names (status.Schedule word))
+IsTextRefusal tells file names (status.Cost cost) = (MOST_COST < cost) × (IsTrue tells → IsReplayCause file names (status.Cost cost))
+IsTextRefusal tells file names _ = ⊥
+
+-- a refusal of the files: of a text, or by a count
+abbrev pub IsFileRefusal : Bool → Files → Names → (ℕ → ℕ) → (ℕ → ℕ) → Status → Type 0
+IsFileRefusal tells file names reads reads_now (status.Read place) =
+    IsUnread (IsPlaceIn names) reads reads_now place × (IsTrue tells → IsReadInTurn file names place)
+IsFileRefusal tells file names reads reads_now status.Memory = ⊤
+IsFileRefusal tells file names reads reads_now s = IsTextRefusal tells file names s

@@ -86,10 +86,11 @@ board_text (refusal.Rule r) = broken_text r
 abbrev pub unread_text : List ℕ → List ℕ
 unread_text name = codes "cannot read " ++ (name ++ codes "\n")
 
--- the line of a refusal, where `name` is the name of the file that was not read; nothing for the others
+-- the line of a refusal, where `name` is the name of the file that was not read; nothing for the others. The line on usage is
+-- that of no form
 abbrev pub refusal_text : Status → List ℕ → List ℕ
 refusal_text status.Ok name = []
-refusal_text status.Usage name = codes "usage: i2cbus run BOARD SCRIPT... | replay BOARD SCHEDULE SCRIPT... | check BOARD | gen SEED ROOTS LINES\n"
+refusal_text status.Usage name = []
 refusal_text (status.Board why) name = codes "board: " ++ board_text why
 refusal_text (status.Script caller line word) name =
     codes "script " ++ (decimal caller ++ (codes " line " ++ (decimal line ++ (codes " word " ++ (decimal word ++ codes "\n")))))

@@ -2,7 +2,7 @@
 use Rattle.std.specs.Prelude.{◌≡◌, ℕ, ◌⊎◌, Bool, false, List}
 use Rattle.i2c_base.specs.declared.port.PortCall.{PortCall}
 use Rattle.i2c_spec.specs.Targets.{TargetState}
-use Rattle.i2c_outside.specs.Causes.{counted}
+use Rattle.i2c_outside.specs.Causes.{Rose, counted}
 use Rattle.i2c_outside.specs.declared.rig.Rig.{Ghosts as RigGhosts}
 use Rattle.i2c_outside.specs.declared.shelf.Shelf.{Ghosts as ShelfGhosts}
 use Rattle.i2c_outside.specs.declared.sink.Sink.{Ghosts as SinkGhosts}
@@ -23,6 +23,11 @@ pub record KeepsBut (places : ℕ → Type 0) (old new : ShelfView) : Type 0 whe
   pub words : new.words ≡ old.words
   pub files : (name : List ℕ) → new.file name ≡ old.file name
   pub others : (place : ℕ) → (places place → ⊥) → new.faults place ≡ old.faults place
+
+-- a file at one of these places was not read, and its count shows it
+pub record IsUnread (places : ℕ → Type 0) (reads reads_now : ℕ → ℕ) (place : ℕ) : Type 0 where
+  pub named : places place
+  pub rose : Rose (reads place) (reads_now place)
 
 pub record OutputView : Type 0 where
   pub tells : Bool

@@ -7,21 +7,21 @@ ghost use Rattle.i2c_outside.specs.Causes.{Rose};
 ghost use Rattle.caller_core.specs.Callers.{IsOpened};
 ghost use Rattle.caller_core.specs.Scripts.{script_read, commands_of};
 ghost use Rattle.caller_core.specs.View.{script_on};
-ghost use Rattle.i2c_top.specs.Boards.{IsAccepted, IsRejected};
-ghost use Rattle.i2c_top.specs.Forms.{ArePlaced, IsScheduleWord, names_told};
 ghost use Rattle.i2c_top.specs.Names.{AreNamesFrom};
-ghost use Rattle.i2c_top.specs.Readings.{IsAcceptedIn, IsRejectedIn, IsScriptIn, AreScriptsIn, IsScheduleIn, IsOrderIn, AreNamed, HasRead, IsRefusedAt, IsRefusedScript, IsRefusedOrder, IsBadBoard, IsBadScript, IsBadSchedule};
-ghost use Rattle.i2c_top.specs.Checks.{HasRejected};
-ghost use Rattle.i2c_top.specs.Replays.{script_name, HasBadScript, HasBadSchedule, IsPlaceIn, IsScheduleAt, KeepsUnreached, IsFileRefusal};
-ghost use Rattle.i2c_top.specs.Requests.{Replay};
+ghost use Rattle.i2c_top.specs.Readings.{IsAcceptedIn, IsRejectedIn, IsScriptIn, AreScriptsIn, IsScheduleIn, IsOrderIn, AreNamed, HasRead, IsRefusedAt, IsRefusedScript, IsRefusedOrder, IsBadBoard, IsBadScript, IsBadSchedule, IsFileRefusal};
+ghost use Rattle.i2c_top.specs.Boards.{IsAccepted, IsRejected, HasRejected};
+ghost use Rattle.i2c_top.specs.Form.{KeepsSkipped};
+ghost use Rattle.i2c_top.specs.Scripts.{script_name, HasBadScript, HasBadSchedule};
+ghost use Rattle.i2c_top.specs.forms.Replays.{names_told, replay_form, ArePlaced, IsScheduleWord, IsPlaceIn, IsScheduleAt};
 ghost use Rattle.i2c_top.specs.Runs.{AreOpened, texts_of, cost_of_texts, MOST_COST};
 ghost use Rattle.i2c_top.specs.Schedules.{schedule_read};
 ghost use Rattle.i2c_top.specs.Traces.{KeepsBut, shelf_view};
 ghost use Rattle.i2c_top.specs.declared.status.Status.TheVariants as status;
 
 use crate::cost::check_cost;
-use crate::request::{BOARD, ReplayNames, SCHEDULE};
+use crate::names::{ReplayNames, SCHEDULE};
 use crate::schedule::{ScheduleFault, read_schedule};
+use crate::words::BOARD;
 use crate::{BoardRefusal, Status};
 use caller_core::{Script, ScriptFault};
 use i2c_board::{Accepted, Board, accept};
@@ -237,14 +237,14 @@ pub fn read_files<S: Shelf>(
     names: &ReplayNames<'_>,
     shelf: &mut S,
 ) -> Result<ReplayFiles, Status>
-    requires placed { ArePlaced (S.words shelf.old) (Replay (names_told names.now)) }
+    requires placed { ArePlaced (S.words shelf.old) (names_told names.now) }
     ensures kept { KeepsBut (IsPlaceIn (names_told names.now)) (shelf_view S.Shelf shelf.old) (shelf_view S.Shelf shelf.new) }
     ensures opened { IfOk result (λ f. AreOpened f.board f.scripts.items) }
     ensures few { IfOk result (λ f. length f.scripts.items ≤ MOST_CALLERS) }
     ensures named { IfOk result (λ f. AreNamed (length f.scripts.items) (option_map (λ v. v.items) f.words)) }
     ensures cheap { IfOk result (λ f. cost_of_texts f.board (texts_of f.scripts.items) ≤ MOST_COST) }
     ensures read { IsTrue S.tells → IfOk result (λ f. HasRead (S.file shelf.old) (names_told names.now) f.board (texts_of f.scripts.items) (option_map (λ v. v.items) f.words)) }
-    ensures unreached { IfErr result (KeepsUnreached (names_told names.now).schedule (S.faults shelf.old) (S.faults shelf.new)) }
+    ensures unreached { IfErr result (KeepsSkipped (replay_form (names_told names.now)) (S.faults shelf.old) (S.faults shelf.new)) }
     ensures refused { IfErr result (IsFileRefusal S.tells (S.file shelf.old) (names_told names.now) (S.faults shelf.old) (S.faults shelf.new)) }
 {
     let board = read_accepted(alloc, shelf, names.board)?;

@@ -9,9 +9,6 @@ use i2c_base::{Item, NoMemory, RuleBroken};
 use i2c_boardtext::{BoardFault, TableName};
 use std::alloc::Global;
 
-pub const USAGE: &[u8] =
-    b"usage: i2cbus run BOARD SCRIPT... | replay BOARD SCHEDULE SCRIPT... | check BOARD | gen SEED ROOTS LINES\n";
-
 // A number between two texts.
 fn push_around(out: &mut Vec<u8>, before: &[u8], number: u64, after: &[u8]) -> Result<(), NoMemory>
     ensures { OnOk result (out.new.items ≡ out.old.items ++ (before.now ++ (decimal number ++ after.now))) }
@@ -105,8 +102,7 @@ fn push_refusal(out: &mut Vec<u8>, status: Status, name: &[u8]) -> Result<(), No
     ensures { OnOk result (out.new.items ≡ out.old.items ++ refusal_text status name.now) }
 {
     match status {
-        Status::Ok | Status::Write | Status::Memory => Ok(()),
-        Status::Usage => push_bytes(out, USAGE),
+        Status::Ok | Status::Usage | Status::Write | Status::Memory => Ok(()),
         Status::Board(why) => {
             push_bytes(out, b"board: ")?;
             push_board(out, why)

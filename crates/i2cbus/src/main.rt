@@ -3,10 +3,8 @@
 //! It hands the real files, the standard output and a rig to `top`, and ends with the status's number.
 #![tactic(auto)]
 
-ghost use Rattle.std.specs.Prelude.{◌≡◌, map, string_bytes, IfOk};
-ghost use Rattle.i2c_top.specs.Endings.{HasEnded};
-ghost use Rattle.i2c_top.specs.Forms.{request_in};
-ghost use Rattle.i2c_top.specs.Requests.{NoForm};
+ghost use Rattle.std.specs.Prelude.{◌≡◌, None, map, string_bytes, IfOk};
+ghost use Rattle.i2c_top.specs.forms.{request_in, HasEnded};
 ghost use Rattle.i2c_top.specs.Traces.{outside};
 
 use i2c_outside::{FileShelf, OpenGate, Rig, Shelf, Sink, StdoutSink};
@@ -28,7 +26,7 @@ fn words_of<R: Env + AllocGlobal>(rt: &R) -> io::Result<Vec<String>> {
 
 // One empty word, which stands for words that are no text: it is none of the program's forms.
 fn no_words(alloc: Global) -> Result<Vec<String>, AllocError>
-    ensures { IfOk result (λ v. request_in (map string_bytes v.items) ≡ NoForm) }
+    ensures { IfOk result (λ v. request_in (map string_bytes v.items) ≡ None) }
 {
     let mut words = Vec::new(alloc);
     words.push(String::new(alloc))?;

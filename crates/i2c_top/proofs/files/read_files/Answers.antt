@@ -2,11 +2,10 @@ use Rattle.std.proofs.lemmas.Grind.{common_steps}
 use Rattle.std.proofs.Common.{ℕ, sym, ap, subst, ◌∙◌, arith, length}
 use Rattle.std.specs.Prelude.{option_map, string_bytes}
 use Rattle.std.proofs.lemmas.List.{length-map}
-use Rattle.i2c_top.specs.Forms.{names_told}
+use Rattle.i2c_top.specs.forms.Replays.{names_told}
 use Rattle.i2c_top.specs.Readings.{IsRefusedScript, IsTooDear}
-use Rattle.i2c_top.specs.Replays.{IsScheduleAt}
 use Rattle.i2c_top.specs.Runs.{cost_of_texts, texts_of}
-use Rattle.i2c_top.proofs.FileLemmas.{all_scripts, first_low, has_read, passed_on, scripts_refusal, schedule_before, order_refusal, cost_refusal, kept_then, board_unreached, scripts_unreached, order_unreached}
+use Rattle.i2c_top.proofs.FileLemmas.{all_kept, all_scripts, has_read, passed_on, scripts_refusal, schedule_before, order_refusal, cost_refusal, board_unreached, scripts_unreached, order_unreached}
 use Rattle.i2c_top.proofs.files.read_files.Goals as goal
 
 pub returns-in_err-scripts-clause-refused : goal.returns-in_err-scripts-clause-refused
@@ -47,27 +46,13 @@ returns-in_err-check_cost-clause-refused g c =
 
 pub returns-in_err-check_cost-clause-kept : goal.returns-in_err-check_cost-clause-kept
 returns-in_err-check_cost-clause-kept g c =
-    let many = length-map c.args.names.now.scripts.now string_bytes in
-    let schedule = (names_told c.args.names.now).schedule in
-    let low = first_low schedule in
-    let first = c.first_script.ensures in
-    kept_then _ (IsScheduleAt schedule) _ _ _ _ (λ p h. h)
-    (λ p at. let before = schedule_before schedule p at in
-    record { first = omega (arith, before.0); last = omega (arith, before.1) })
-    (kept_then _ _ _ _ _ _ (λ p e. record { first = omega (arith, e); last = omega (arith, e, low) }) (λ p h. record { first = omega (arith, h.0, first, low); last = omega (arith, h.1, first, many) })
-    c.read_accepted.ensures.kept c.scripts_in.ensures.kept) c.order_in.ensures.kept
+    all_kept (names_told c.args.names.now) _ _ _ _ _ _ c.first_script.ensures (sym (length-map c.args.names.now.scripts.now string_bytes))
+    c.read_accepted.ensures.kept c.scripts_in.ensures.kept c.order_in.ensures.kept
 
 pub returns-clause-kept : goal.returns-clause-kept
 returns-clause-kept g c =
-    let many = length-map c.args.names.now.scripts.now string_bytes in
-    let schedule = (names_told c.args.names.now).schedule in
-    let low = first_low schedule in
-    let first = c.first_script.ensures in
-    kept_then _ (IsScheduleAt schedule) _ _ _ _ (λ p h. h)
-    (λ p at. let before = schedule_before schedule p at in
-    record { first = omega (arith, before.0); last = omega (arith, before.1) })
-    (kept_then _ _ _ _ _ _ (λ p e. record { first = omega (arith, e); last = omega (arith, e, low) }) (λ p h. record { first = omega (arith, h.0, first, low); last = omega (arith, h.1, first, many) })
-    c.read_accepted.ensures.kept c.scripts_in.ensures.kept) c.order_in.ensures.kept
+    all_kept (names_told c.args.names.now) _ _ _ _ _ _ c.first_script.ensures (sym (length-map c.args.names.now.scripts.now string_bytes))
+    c.read_accepted.ensures.kept c.scripts_in.ensures.kept c.order_in.ensures.kept
 
 pub returns-clause-read : goal.returns-clause-read
 returns-clause-read g c =

@@ -1,0 +1,16 @@
+use Rattle.i2c_top.proofs.ReplayLemmas.{run_done, run_failed}
+use Rattle.i2c_top.proofs.forms.replay.replay.Goals as goal
+
+pub returns-clause-done : goal.returns-clause-done
+returns-clause-done g c =
+    let read = c.in_ok-board.ensures in
+    let run = c.run_scripts.ensures in
+    run_done _ _ _ _ _ _ _ _ read.read read.cheap c.read_files.ensures.kept run.plugs run.unplugged c.run_scripts.result
+    (λ v. v.items) run.unplugs (λ t. run.run)
+
+pub returns-clause-refused : goal.returns-clause-refused
+returns-clause-refused g c =
+    let read = c.in_ok-board.ensures in
+    let run = c.run_scripts.ensures in
+    run_failed _ _ _ _ _ _ _ _ read.read read.cheap c.read_files.ensures.kept run.plugs run.unplugged c.run_scripts.result
+    run.none run.rig run.failed

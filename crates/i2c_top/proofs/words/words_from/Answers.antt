@@ -1,0 +1,9 @@
+use Rattle.std.proofs.Common.{◌∙◌, ap, sym, map, arith}
+use Rattle.std.proofs.lemmas.List.{take_all, drop-map, length-drop}
+use Rattle.std.specs.Prelude.{string_bytes}
+use Rattle.i2c_top.proofs.words.words_from.Goals as goal
+
+pub returns : goal.returns
+returns c =
+    ap (λ xs. map string_bytes xs) (take_all _ _ (omega (arith, length-drop c.args.place c.args.words.now)))
+    ∙ sym (drop-map string_bytes c.args.place c.args.words.now)

@@ -1,0 +1,51 @@
+-- The forms of the words of a command line, one after the other: what the words of each ask for, and its row. Each has a
+-- file of its own in `forms`.
+use Rattle.std.specs.Prelude.{◌≡◌, ℕ, ◌⊎◌, IsTrue, List, Option, None, Some, codes, if◌then◌else◌}
+use Rattle.tools.specs.Readers.{word_at}
+use Rattle.i2c_top.specs.Endings.{IsWritten, HasEndedAs}
+use Rattle.i2c_top.specs.Form.{Form}
+use Rattle.i2c_top.specs.Traces.{Outside, KeepsBut}
+use Rattle.i2c_top.specs.declared.status.Status.{Status}
+use Rattle.i2c_top.specs.declared.status.Status.TheVariants as status
+use Rattle.i2c_top.specs.forms.Checks.{is_check, check_form}
+use Rattle.i2c_top.specs.forms.Replays.{Names, is_replay, is_run, replay_names, run_names, replay_form}
+pub mod Checks
+pub mod Replays
+
+-- to replay 1 to 8 scripts over a board, by the names of the files, or to run them, which is a replay without a schedule; to
+-- check the board of a file
+pub data Request : Type 0 where
+  Replay : (names : Names) → Request
+  Check : (board : List ℕ) → Request
+
+-- the row of each
+abbrev pub form_of : Request → Form
+form_of (Replay names) = replay_form names
+form_of (Check board) = check_form board
+
+-- what the words ask for, where they are in a form in force
+abbrev pub request_in : List (List ℕ) → Option Request
+request_in words =
+    if is_replay words then Some (Replay (replay_names words))
+    else if is_run words then Some (Replay (run_names words))
+    else if is_check words then Some (Check (word_at words 1)) else None
+
+-- the line on usage
+abbrev pub usage_text : List ℕ
+usage_text = codes "usage: i2cbus run BOARD SCRIPT... | replay BOARD SCHEDULE SCRIPT... | check BOARD | gen SEED ROOTS LINES\n"
+
+-- words in no form are turned down by the line on usage, or a front of it where the output failed; nothing is read or plugged
+pub record IsTurnedDown (old new : Outside) (result : Status) : Type 0 where
+  pub written : IsWritten old.sink new.sink status.Usage usage_text result
+  pub shelf : KeepsBut (λ place. ⊥) old.shelf new.shelf
+  pub rig : new.rig ≡ old.rig
+
+-- how a call ends, by what its words ask for
+abbrev pub HasEnded : Option Request → Outside → Outside → Status → Type 0
+HasEnded None old new result = IsTurnedDown old new result
+HasEnded (Some request) old new result = HasEndedAs (form_of request) old new result
+
+-- the rig is plugged for it
+abbrev pub UsesRig : Option Request → Type 0
+UsesRig None = ⊥
+UsesRig (Some request) = IsTrue (form_of request).plugs
