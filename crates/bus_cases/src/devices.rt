@@ -1,8 +1,8 @@
 //! Whether devices are the same, by what they answer.
 
 use i2c_base::{Answer, Event, Target};
-use i2c_outside::DeviceState;
 use std::alloc::Global;
+use targets::DeviceState;
 
 /// How many bytes are read of each device: as many as a register device has.
 const LENGTH: u16 = 256;

@@ -10,12 +10,12 @@ use bus_journal::{entry_text, read_entry};
 use flat_world::Flat;
 use i2c_base::{Cut, Entry, Reply};
 use i2c_board::Accepted;
-use i2c_outside::DeviceState;
 use i2c_top::Status;
 use std::alloc::Global;
 use std::collections::BTreeSet;
 use std::sync::Wait;
 use std::thread::Threads;
+use targets::DeviceState;
 
 /// The numbers below this one, from 2 on, have each schedule of 1 to 12 words of two callers: as the binary digits behind
 /// their first one.

@@ -3,8 +3,8 @@ use crate::case::Call;
 use crate::page::Page;
 use crate::words::parted;
 use i2c_base::{Answer, Event, PortCall, Target};
-use i2c_outside::DeviceState;
 use std::alloc::Global;
+use targets::DeviceState;
 
 /// The most places of a command line.
 const PLACES: u8 = 16;

@@ -11,7 +11,7 @@ use Rattle.i2c_base.specs.declared.reply.Cut.TheVariants as cut_at
 use Rattle.i2c_base.specs.declared.reply.Reply.{Reply}
 use Rattle.i2c_base.specs.Fitting.{Fits, FitsReads}
 use Rattle.i2c_base.specs.Transfer.{TransferView}
-use Rattle.i2c_outside.specs.declared.port.Port.{Ghosts as PortGhosts}
+use Rattle.ports.specs.declared.port.Port.{Ghosts as PortGhosts}
 use Rattle.i2c_spec.specs.Messages.{MessageView}
 use Rattle.i2c_spec.specs.Tree.{buses}
 use Rattle.bus_journal.specs.View.{JournalView}

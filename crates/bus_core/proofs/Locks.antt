@@ -8,7 +8,7 @@ use Rattle.i2c_base.specs.declared.ids.LockId.{LockId}
 use Rattle.i2c_base.specs.declared.reply.Cut.{Cut}
 use Rattle.i2c_base.specs.declared.reply.Cut.TheVariants as cut_at
 use Rattle.i2c_base.specs.Board.{BoardView}
-use Rattle.i2c_outside.specs.declared.port.Port.{Ghosts as PortGhosts}
+use Rattle.ports.specs.declared.port.Port.{Ghosts as PortGhosts}
 use Rattle.bus_spec.specs.Grammar.{is_over}
 use Rattle.i2c_base.specs.declared.reply.Reply.{Reply}
 use Rattle.i2c_base.specs.Transfer.{TransferView}

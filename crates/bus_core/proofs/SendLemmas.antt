@@ -4,7 +4,7 @@ use denote.RattleType.{RattleType}
 use denote.Ref.{NamedLft}
 use denote.Param.Send.{IsSend, IsSync, sendable, view_send}
 use Rattle.std.proofs.Crossing.{crosses}
-use Rattle.i2c_outside.specs.declared.port.Port as port
+use Rattle.ports.specs.declared.port.Port as port
 use Rattle.i2c_base.specs.declared.caller.Caller as caller
 use Rattle.i2c_base.specs.contracts.transfer.Transfer as transfer
 use Rattle.i2c_board.specs.contracts.accepted.Accepted as accepted

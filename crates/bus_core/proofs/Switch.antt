@@ -18,8 +18,8 @@ use Rattle.i2c_base.specs.Board.{BoardView}
 use Rattle.i2c_base.specs.Limits.{MOST_CALLERS}
 use Rattle.i2c_base.specs.Muxes.{facts_of}
 use Rattle.i2c_base.specs.Transfer.{TransferView}
-use Rattle.i2c_outside.specs.declared.port.Port.{Ghosts as PortGhosts}
-use Rattle.i2c_outside.specs.LineCalls.{HasLine}
+use Rattle.ports.specs.declared.port.Port.{Ghosts as PortGhosts}
+use Rattle.ports.specs.LineCalls.{HasLine}
 use Rattle.i2c_spec.specs.Tree.{buses, root_of, home_of_mux, of_mux}
 use Rattle.i2c_spec.specs.World.{World}
 use Rattle.bus_journal.specs.View.{JournalView}

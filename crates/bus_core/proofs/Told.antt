@@ -8,7 +8,7 @@ use Rattle.i2c_base.specs.declared.ids.LockId.{LockId}
 use Rattle.i2c_base.specs.declared.port.PortCall.{PortCall}
 use Rattle.i2c_base.specs.declared.reply.Reply.{Reply}
 use Rattle.i2c_base.specs.Board.{BoardView}
-use Rattle.i2c_outside.specs.declared.port.Port.{Ghosts as PortGhosts}
+use Rattle.ports.specs.declared.port.Port.{Ghosts as PortGhosts}
 use Rattle.i2c_spec.specs.World.{World}
 use Rattle.bus_laws.specs.Ready.{IsStuck}
 use Rattle.bus_spec.specs.Grammar.{first_act}

@@ -20,7 +20,7 @@ use Rattle.core_laws.specs.Core.{Run, Whole, CoreKept, IsLone}
 use Rattle.mux_plan.specs.declared.task.NextMsg.{NextMsg}
 use Rattle.core_laws.specs.Sends.{IsMessageOf}
 use Rattle.core_laws.specs.Steps.{next_of}
-use Rattle.i2c_outside.specs.declared.port.Port.{Ghosts as PortGhosts}
+use Rattle.ports.specs.declared.port.Port.{Ghosts as PortGhosts}
 use Rattle.bus_core.specs.Opening.{IsSetUp}
 use Rattle.bus_core.specs.Places.{walk_left, places_of, scripts_of, asks_of, left_of}
 use Rattle.bus_core.specs.declared.parts.CoreParts.{CoreParts}

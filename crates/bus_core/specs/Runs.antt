@@ -2,7 +2,7 @@
 use Rattle.std.specs.Prelude.{◌≡◌, ℕ, ◌<◌, IsTrue, List, reverse, Some, slice_get}
 use Rattle.i2c_base.specs.declared.caller.Caller.{Ghosts as CallerGhosts}
 use Rattle.i2c_base.specs.Limits.{MOST_CALLERS}
-use Rattle.i2c_outside.specs.declared.port.Port.{Ghosts as PortGhosts}
+use Rattle.ports.specs.declared.port.Port.{Ghosts as PortGhosts}
 use Rattle.bus_laws.specs.Following.{KeepsTo}
 use Rattle.bus_laws.specs.Ready.{IsStuck}
 use Rattle.bus_core.specs.Kept.{asks_in, HasTurn, HasCome}

@@ -5,7 +5,7 @@ use Rattle.i2c_base.specs.declared.port.PortCall.{PortCall}
 use Rattle.i2c_base.specs.declared.reply.Reply.{Reply}
 use Rattle.i2c_base.specs.Limits.{MOST_CALLERS}
 use Rattle.i2c_base.specs.Transfer.{TransferView}
-use Rattle.i2c_outside.specs.declared.port.Port.{Ghosts as PortGhosts}
+use Rattle.ports.specs.declared.port.Port.{Ghosts as PortGhosts}
 use Rattle.i2c_spec.specs.History.{Asks}
 use Rattle.i2c_spec.specs.World.{World}
 use Rattle.bus_journal.specs.View.{JournalView}

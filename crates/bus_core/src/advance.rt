@@ -12,8 +12,8 @@ use bus_journal::{EntryRef, Journal};
 use bus_message::MsgResult;
 use i2c_base::{Caller, Cut, Errno, SegId};
 use i2c_board::Accepted;
-use i2c_outside::Port;
 use mux_plan::{Dues, NextMsg, Outcome};
+use ports::Port;
 use seg_locks::Locks;
 
 impl<C: Caller> Seat<C> {

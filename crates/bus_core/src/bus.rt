@@ -17,7 +17,7 @@ use crate::steps::{StepAnswer, step};
 use bus_journal::Journal;
 use i2c_base::{Caller, NoMemory, SegId};
 use i2c_board::Accepted;
-use i2c_outside::Port;
+use ports::Port;
 use std::alloc::Global;
 use std::marker::Model;
 

@@ -5,8 +5,8 @@ ghost use Rattle.bus_core.specs.Ready.{IsHeldUpAt, CanStepAt, IsLeastReady, AllH
 
 use crate::parts::CoreParts;
 use i2c_base::{Caller, MOST_CALLERS};
-use i2c_outside::Port;
 use mux_plan::Action;
+use ports::Port;
 
 // The caller at a place isn't blocked, and its script isn't used up.
 fn can_step<P: Port, C: Caller>(parts: &CoreParts<'_, P, C>, place: usize) -> bool

@@ -11,7 +11,7 @@ use crate::parts::CoreParts;
 use crate::steps::{StepAnswer, step};
 use bus_laws::a_loop_follows;
 use i2c_base::{Caller, MOST_CALLERS};
-use i2c_outside::Port;
+use ports::Port;
 
 /// Makes the next step of a caller, if it can make one; tells whether it did.
 pub fn advance<P: Port, C: Caller>(parts: &mut CoreParts<'_, P, C>, caller: u8) -> bool

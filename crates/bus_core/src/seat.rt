@@ -33,8 +33,8 @@ use crate::replies::{Decided, Replies};
 use bus_message::{MsgResult, TransferCursor};
 use i2c_base::{Caller, Cut, End, Errno, Grant, Kind, Purpose, Reply, SegId, Transfer};
 use i2c_board::Accepted;
-use i2c_outside::Port;
 use mux_plan::{Action, Dues, NextMsg, Outcome, Walk};
+use ports::Port;
 use seg_locks::Locks;
 
 /// A caller, and where it stands on the bus.

@@ -15,8 +15,8 @@ use crate::parts::CoreParts;
 use bus_journal::{EntryRef, Head};
 use bus_message::{MsgResult, send_next, shift_line};
 use i2c_base::{Caller, Errno, LockId, MuxId};
-use i2c_outside::Port;
 use mux_plan::{Action, NextMsg};
+use ports::Port;
 
 // The entry of a message, of which this came.
 fn message_entry<'a>(caller: u8, next: &NextMsg, msg: &MsgResult, bytes: &'a [u8]) -> EntryRef<'a>

@@ -10,8 +10,8 @@ use Rattle.i2c_base.specs.declared.entry.End.TheVariants as end
 use Rattle.i2c_spec.specs.World.{World}
 use Rattle.i2c_spec.specs.Conversation.{Said, TalkTold}
 use Rattle.bus_spec.specs.Past.{cut_of}
-use Rattle.i2c_outside.specs.Causes.{Rose, MOST}
-use Rattle.i2c_outside.specs.declared.port.Port.{Ghosts as PortGhosts}
+use Rattle.ports.specs.Causes.{Rose, MOST}
+use Rattle.ports.specs.declared.port.Port.{Ghosts as PortGhosts}
 use Rattle.bus_message.specs.Talks.{MessageEnded, Reaches, TellsTalk}
 
 -- a count that rose rose from before

@@ -15,7 +15,7 @@ use Rattle.i2c_base.specs.declared.tree.Grant.{Grant}
 use Rattle.i2c_base.specs.Board.{BoardView}
 use Rattle.i2c_base.specs.Fitting.{count_of}
 use Rattle.i2c_base.specs.Transfer.{TransferView, is_read, written_of}
-use Rattle.i2c_outside.specs.declared.port.Port.{Ghosts as PortGhosts}
+use Rattle.ports.specs.declared.port.Port.{Ghosts as PortGhosts}
 use Rattle.i2c_spec.specs.Flat.{block_limit}
 use Rattle.i2c_spec.specs.Conversation.{world_listener, talk}
 use Rattle.i2c_spec.specs.Grant.{grant_of}

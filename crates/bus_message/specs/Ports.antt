@@ -14,8 +14,8 @@ use Rattle.i2c_spec.specs.Messages.{MessageView, bytes_most}
 use Rattle.i2c_spec.specs.World.{World, after, answer, has_heard}
 use Rattle.bus_spec.specs.Legal.{start_failed}
 use Rattle.bus_spec.specs.Past.{cut_of}
-use Rattle.i2c_outside.specs.declared.port.Port.{Ghosts as PortGhosts}
-use Rattle.i2c_outside.specs.LineCalls.{HasLine}
+use Rattle.ports.specs.declared.port.Port.{Ghosts as PortGhosts}
+use Rattle.ports.specs.LineCalls.{HasLine}
 use Rattle.bus_message.specs.Talks.{HasMoved, IsSendable, TellsTalk}
 use Rattle.bus_message.specs.declared.message.MsgResult.{MsgResult}
 

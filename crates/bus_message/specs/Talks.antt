@@ -13,8 +13,8 @@ use Rattle.i2c_spec.specs.Messages.{MessageView, bytes_most}
 use Rattle.i2c_spec.specs.World.{World}
 use Rattle.i2c_spec.specs.Conversation.{Said, TalkTold, world_listener, with_byte, call_then, ended, puts, gets, gets_counted, data_of, by_answer}
 use Rattle.bus_spec.specs.Past.{cut_of}
-use Rattle.i2c_outside.specs.Causes.{Rose}
-use Rattle.i2c_outside.specs.declared.port.Port.{Ghosts as PortGhosts}
+use Rattle.ports.specs.Causes.{Rose}
+use Rattle.ports.specs.declared.port.Port.{Ghosts as PortGhosts}
 
 -- a conversation is what was told: its bytes and its end, the world that it leaves, and its calls at the log's end
 pub record TellsTalk (talk : TalkTold World) (got : List ℕ) (ends : End) (world : World) (log_old log_new : List PortCall) : Type 0 where

@@ -1,10 +1,10 @@
 //! One line step: the line of a gpio mux is set to a level.
 ghost use Rattle.std.specs.Prelude.{◌≡◌, ◌≤◌, ℕ, true};
-ghost use Rattle.i2c_outside.specs.Causes.{Rose};
+ghost use Rattle.ports.specs.Causes.{Rose};
 ghost use Rattle.bus_message.specs.Ports.{MayShift, Shifted, socket_of};
 
 use i2c_base::MuxId;
-use i2c_outside::Port;
+use ports::Port;
 
 /// Sets the line of a gpio mux to a level: 0 closes it, level k opens channel k - 1. True where the port failed.
 pub fn shift_line<P: Port>(port: &mut P, mux: MuxId, level: u8) -> bool

@@ -13,7 +13,7 @@ ghost use Rattle.bus_message.specs.Ports.{HasRoom, IsStarted, MessageSent, socke
 ghost use Rattle.bus_message.specs.Talks.{HasFailed, HasMoved, IsSendable, MessageEnded, answered, counting, ending, getting, moving, over_limit, putting};
 
 use i2c_base::{Addr, Answer, ByteList, End, Node};
-use i2c_outside::{Failed, Port};
+use ports::{Failed, Port};
 use std::marker::Model;
 
 /// A message with its bytes, as it goes over the wires. A contract sees the record of these parts.

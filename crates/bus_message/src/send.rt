@@ -14,8 +14,8 @@ use crate::cursor::TransferCursor;
 use crate::message::{Message, MsgResult, send_message};
 use i2c_base::{Addr, ByteList, Grant, MuxId, Node, Purpose};
 use i2c_board::{Accepted, Board};
-use i2c_outside::Port;
 use mux_plan::NextMsg;
+use ports::Port;
 
 // Who hears a caller's message where its start is acknowledged.
 fn device(grant: Grant) -> Option<Node>

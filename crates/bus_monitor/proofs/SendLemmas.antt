@@ -4,7 +4,7 @@ use denote.Ref.{NamedLft}
 use denote.Param.Send.{IsSend, IsSync, sendable}
 use Rattle.std.proofs.Crossing.{crosses}
 use Rattle.i2c_base.specs.declared.caller.Caller as caller
-use Rattle.i2c_outside.specs.declared.port.Port as port
+use Rattle.ports.specs.declared.port.Port as port
 use Rattle.bus_core.proofs.SendLemmas.{core-send}
 use Rattle.bus_monitor.specs.declared.naming.Naming as naming
 use Rattle.bus_monitor.specs.contracts.desk.Named as named

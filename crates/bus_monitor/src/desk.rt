@@ -6,7 +6,8 @@ use crate::naming::Naming;
 use bus_core::{BusCore, StepAnswer};
 use bus_journal::Head;
 use i2c_base::{Caller, Purpose};
-use i2c_outside::{Point, Port};
+use i2c_outside::Point;
+use ports::Port;
 use std::marker::PhantomData;
 use std::sync::{Condvar, Mutex, Wait};
 

@@ -5,7 +5,8 @@ ghost use Rattle.bus_core.specs.State.{has_caller};
 use crate::desk::Desk;
 use crate::naming::Naming;
 use i2c_base::Caller;
-use i2c_outside::{Gate, Port};
+use i2c_outside::Gate;
+use ports::Port;
 use std::sync::Wait;
 
 /// Steps a caller until its script is used up, and waits while it is blocked. After each step the gate is passed, outside

@@ -13,10 +13,10 @@ ghost use Rattle.flat_world.specs.Devices.{AreNamed, add_once, answer_in, behind
 
 use arrayvec::ArrayVec;
 use i2c_base::{Answer, DeviceSpec, Event, MOST_DEVICES, NoMemory, Target};
-use i2c_outside::DeviceState;
 use i2c_spec::Layout;
 use std::alloc::Global;
 use std::marker::Model;
+use targets::DeviceState;
 
 /// The devices during a transfer: their states, which of them it has named, and the one that listens to the message in
 /// progress. Only these hear anything. A contract sees the record of these parts.

@@ -10,10 +10,10 @@ use crate::site::Site;
 use crate::transfer::send_all;
 use i2c_base::{Bytes, Cut, End, Errno, NoMemory, Reply, SegId, Transfer, Way};
 use i2c_board::Accepted;
-use i2c_outside::DeviceState;
 use i2c_spec::{Layout, errno_of, refusal};
 use std::alloc::Global;
 use std::marker::Model;
+use targets::DeviceState;
 
 /// The devices of a board in a world of their own, in which each transfer happens alone: no mux has to be switched, no
 /// lock taken, and nobody else is there. A contract sees the board and the states of its devices, in file order.

@@ -1,8 +1,3 @@
-pub mod Causes
-pub mod LineCalls
+-- What files and an output in memory hold, and which of their calls fail.
 pub mod Shelves
 pub mod Sinks
-pub use Rattle.i2c_spec.specs.Board
-pub use Rattle.i2c_spec.specs.Phases
-pub use Rattle.i2c_spec.specs.Targets
-pub use Rattle.i2c_spec.specs.World

@@ -1,13 +1,9 @@
-//! Why a call outside of the program failed: a read, a write, a plug, or a call on a port.
+//! Why a file was not read, or a rig not plugged.
 ghost use Rattle.std.specs.Prelude.{◌≡◌};
 ghost use Rattle.i2c_outside.specs.declared.failed.ReadFail.TheVariants.{Memory as NoRoomToRead};
 ghost use Rattle.i2c_outside.specs.declared.failed.RigFail.TheVariants.{Memory as NoRoomToPlug};
 
 use std::alloc::{AllocError, AllocFailed};
-
-/// A call failed, and its object counted a fault.
-#[derive(Clone, Copy)]
-pub struct Failed;
 
 /// Why a file was not read.
 #[derive(Clone, Copy)]

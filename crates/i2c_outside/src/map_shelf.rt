@@ -1,6 +1,6 @@
 //! A shelf in memory, whose reads fail where it is told.
 ghost use Rattle.std.specs.Prelude.{◌≡◌, ◌≢◌, ◌↔◌, ℕ, ◌^◌, ◌≤◌, true, List, Some, Err, IfOk, OnErr, IsTrue, map, length, replicate, slice_get, slice_index, slice_set, string_bytes};
-ghost use Rattle.i2c_outside.specs.Causes.{Rose, counted};
+ghost use Rattle.ports.specs.Causes.{Rose, counted};
 ghost use Rattle.i2c_outside.specs.Shelves.{held, is_refused};
 
 use crate::shelf::{LARGEST, PLACES};

@@ -3,12 +3,13 @@ ghost use Rattle.std.specs.Prelude.{◌≡◌, ℕ, ◌≤◌, [], true, false, 
 ghost use Rattle.i2c_base.specs.Board.{BoardView};
 ghost use Rattle.i2c_spec.specs.Targets.{TargetState};
 ghost use Rattle.i2c_spec.specs.World.{World, AreWorldsOf, openings, devices_of};
-ghost use Rattle.i2c_outside.specs.Causes.{Rose, counted};
+ghost use Rattle.ports.specs.Causes.{Rose, counted};
 ghost use Rattle.i2c_base.specs.declared.port.Phase.{Phase};
 ghost use Rattle.i2c_base.specs.declared.port.PortCall.{PortCall};
 
-use crate::{Port, RigFail};
+use crate::RigFail;
 use i2c_board::Accepted;
+use ports::Port;
 use std::alloc::Global;
 
 /// Where the ports of a board come from and go back to.

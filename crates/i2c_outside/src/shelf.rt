@@ -1,6 +1,6 @@
 //! The trait of a shelf: the files that a command line names.
 ghost use Rattle.std.specs.Prelude.{◌≡◌, ◌≢◌, ℕ, ◌^◌, ◌≤◌, Bool, List, Option, Some, Err, IfOk, IsTrue, length, slice_get};
-ghost use Rattle.i2c_outside.specs.Causes.{Rose};
+ghost use Rattle.ports.specs.Causes.{Rose};
 
 use crate::ReadFail;
 use std::alloc::Global;

@@ -1,8 +1,8 @@
 //! The trait of a sink, where the output goes.
 ghost use Rattle.std.specs.Prelude.{◌≡◌, ℕ, ◌<◌, ◌≤◌, ◌++◌, Bool, List, IfOk, OnErr, IsTrue, length, take};
-ghost use Rattle.i2c_outside.specs.Causes.{HasCause};
+ghost use Rattle.ports.specs.Causes.{HasCause};
 
-use crate::Failed;
+use ports::Failed;
 
 /// Where the output goes.
 pub trait Sink {

@@ -1,7 +1,8 @@
 //! A sink over the standard output.
 ghost use Rattle.std.specs.Prelude.{◌≡◌, [], false};
 
-use crate::{Failed, Sink};
+use crate::Sink;
+use ports::Failed;
 
 /// The standard output, or whatever else prints. A write that takes nothing is a fault.
 #[derive(Drop)]

@@ -1,10 +1,11 @@
 //! A sink in memory, with limited room, whose writes fail where it is told.
 ghost use Rattle.std.specs.Prelude.{◌≡◌, ◌↔◌, ◌-◌, ◌<◌, ◌≤◌, ◌++◌, [], true, IfOk, OnOk, OnErr, IsOk, length, min, take};
-ghost use Rattle.i2c_outside.specs.Causes.{HasCause, counted};
+ghost use Rattle.ports.specs.Causes.{HasCause, counted};
 ghost use Rattle.i2c_outside.specs.Sinks.{taken_of};
 
-use crate::{Failed, Sink, is_listed};
+use crate::{Sink, is_listed};
 use i2c_base::NoMemory;
+use ports::Failed;
 use std::alloc::Global;
 use std::marker::Model;
 

@@ -8,7 +8,7 @@ use Rattle.i2c_base.specs.declared.port.Phase.{Phase}
 use Rattle.i2c_base.specs.declared.port.Phase.TheVariants.{Idle}
 use Rattle.i2c_base.specs.declared.port.PortCall.{PortCall}
 use Rattle.i2c_base.specs.declared.port.PortCall.TheVariants as call
-use Rattle.i2c_outside.specs.declared.failed.Failed.{Failed}
+use Rattle.ports.specs.declared.failed.Failed.{Failed}
 use Rattle.i2c_physics.specs.FailPorts.{FailView, after_next, fails_next, fails_on, said}
 use Rattle.i2c_physics.specs.SimPorts.{PortView, called}
 

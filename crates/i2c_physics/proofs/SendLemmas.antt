@@ -2,7 +2,7 @@
 use denote.Param.Send.{IsSend, sendable}
 use Rattle.std.proofs.Crossing.{crosses}
 use Rattle.i2c_spec.proofs.SendLemmas.{hop-send}
-use Rattle.i2c_outside.proofs.SendLemmas.{device-send}
+use Rattle.targets.proofs.SendLemmas.{device-send}
 use Rattle.i2c_physics.specs.contracts.place.Place as Place
 use Rattle.i2c_physics.specs.contracts.reach.Reach as Reach
 use Rattle.i2c_physics.specs.contracts.sites.Sites as Sites

@@ -7,7 +7,7 @@ use Rattle.i2c_base.specs.declared.port.PortCall.{PortCall}
 use Rattle.i2c_base.specs.declared.port.PortCall.TheVariants as call
 use Rattle.i2c_base.specs.Board.{BoardView}
 use Rattle.i2c_outside.specs.Sinks.{is_listed}
-use Rattle.i2c_outside.specs.declared.failed.Failed.{Failed}
+use Rattle.ports.specs.declared.failed.Failed.{Failed}
 use Rattle.i2c_physics.specs.SimPorts.{PortView, opening_port, called}
 
 pub record FailView : Type 0 where

@@ -5,16 +5,18 @@ ghost use Rattle.i2c_base.specs.Phases.{MayStart, MayPut, MayGet, MayStop, MayLi
 ghost use Rattle.i2c_base.specs.declared.port.Phase.TheVariants.{Idle};
 ghost use Rattle.i2c_base.specs.declared.port.PortCall.TheVariants as call;
 ghost use Rattle.i2c_spec.specs.World.{answer, takes, gives};
-ghost use Rattle.i2c_outside.specs.LineCalls.{HasLine};
+ghost use Rattle.ports.specs.LineCalls.{HasLine};
 ghost use Rattle.i2c_physics.specs.FailPorts.{fails_next, said, after_next, failed_calls_in, fails_on, opening_fails};
 
 use crate::SimPort;
 use crate::room::Returned;
 use i2c_base::{Addr, Answer, MuxId, PortCall, SegId};
 use i2c_board::Accepted;
-use i2c_outside::{DeviceState, Failed, Port, is_listed};
+use i2c_outside::is_listed;
+use ports::{Failed, Port};
 use std::alloc::{AllocError, Global};
 use std::marker::Model;
+use targets::DeviceState;
 
 /// The port of one root of a board, of which some calls fail: those whose numbers are listed, the first being 0. Such a
 /// call acts as a stop.

@@ -3,7 +3,7 @@ ghost use Rattle.std.specs.Prelude.{◌≡◌, ◌≢◌, ◌↔◌, ◌⊎◌, 
 ghost use Rattle.std.specs.List.{range_with_len};
 ghost use Rattle.std.specs.Option.{option_map_or};
 ghost use Rattle.i2c_spec.specs.World.{AreWorldsOf, devices_of};
-ghost use Rattle.i2c_outside.specs.Causes.{counted};
+ghost use Rattle.ports.specs.Causes.{counted};
 ghost use Rattle.i2c_physics.specs.FailPorts.{failed_calls_in, opening_fails};
 ghost use Rattle.i2c_physics.specs.SimRigs.{no_board, kept_states, kept_logs};
 
@@ -11,9 +11,10 @@ use crate::FailPort;
 use crate::sim_rig::SimRig;
 use i2c_base::{PortCall, SegId};
 use i2c_board::Accepted;
-use i2c_outside::{DeviceState, Rig, RigFail};
+use i2c_outside::{Rig, RigFail};
 use std::alloc::{AllocError, Global};
 use std::snapshot::Snapshot;
+use targets::DeviceState;
 
 /// The rig of the same boards as `SimRig`, whose plugs fail, or calls on its ports, where it is told.
 #[derive(Drop)]

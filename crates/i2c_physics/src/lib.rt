@@ -2,10 +2,9 @@
 //! come from.
 //!
 //! Its public contract: `SimPort` meets `Port` and tells, so each call acts on the world of its root as `World` of
-//! `i2c_spec` says, and `SimRig` meets `Rig`. Neither ever fails by a fault, but for a plug of a board with a device
-//! of a kind that isn't here yet. `FailPort` and `FailRig` are the same with calls and plugs that fail, exactly those
-//! that are listed. `SimWorld` is that world alone, whose calls may come at any time. Definitions: `World` of
-//! `i2c_spec` (UM10204 section 3.1), `specs/FailPorts.antt`.
+//! `i2c_spec` says, and `SimRig` meets `Rig`. Neither ever fails by a fault. `FailPort` and `FailRig` are the same with
+//! calls and plugs that fail, exactly those that are listed. `SimWorld` is that world alone, whose calls may come at
+//! any time. Definitions: `World` of `i2c_spec` (UM10204 section 3.1), `specs/FailPorts.antt`.
 #![tactic(auto)]
 
 mod fail_port;

@@ -10,11 +10,11 @@ ghost use Rattle.i2c_spec.specs.Tree.{root_of};
 
 use i2c_base::{PortCall, SegId};
 use i2c_board::Accepted;
-use i2c_outside::DeviceState;
 use i2c_spec::Layout;
 use std::alloc::{AllocError, Global};
 use std::marker::Model;
 use std::snapshot::Snapshot;
+use targets::DeviceState;
 
 /// A port that is given back to its rig.
 pub trait Returned: Drop {

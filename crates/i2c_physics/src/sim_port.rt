@@ -12,9 +12,10 @@ use crate::room::Returned;
 use crate::sim_world::SimWorld;
 use i2c_base::{Addr, Answer, MOST_CALLS, MuxId, Phase, PortCall, SegId};
 use i2c_board::Accepted;
-use i2c_outside::{DeviceState, Failed, Port};
+use ports::{Failed, Port};
 use std::alloc::{AllocError, Global};
 use std::marker::Model;
+use targets::DeviceState;
 
 /// The port of one root of a board, with its muxes. It never fails.
 #[derive(Drop)]

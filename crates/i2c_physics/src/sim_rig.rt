@@ -3,7 +3,7 @@ ghost use Rattle.std.specs.Prelude.{◌≡◌, ◌≢◌, ◌↔◌, ℕ, ◌≤
 ghost use Rattle.std.specs.List.{range_with_len};
 ghost use Rattle.i2c_base.specs.declared.port.Phase.{Phase};
 ghost use Rattle.i2c_spec.specs.World.{AreWorldsOf, openings, devices_of};
-ghost use Rattle.i2c_outside.specs.Causes.{Rose, counted};
+ghost use Rattle.ports.specs.Causes.{Rose, counted};
 ghost use Rattle.i2c_physics.specs.SimPorts.{opening_port};
 ghost use Rattle.i2c_physics.specs.SimRigs.{no_board, none_of, kept_states, kept_logs};
 
@@ -11,8 +11,10 @@ use crate::SimPort;
 use crate::room::{Kept, Returned, Room};
 use i2c_base::{PortCall, SegId};
 use i2c_board::Accepted;
-use i2c_outside::{DeviceState, Port, Rig, RigFail};
+use i2c_outside::{Rig, RigFail};
+use ports::Port;
 use std::alloc::{AllocError, Global};
+use targets::DeviceState;
 
 /// The rig of the simulated world. It takes every board, and its ports never fail.
 #[derive(Drop)]

@@ -15,11 +15,11 @@ use crate::socket::Socket;
 use crate::together::{Together, answer_of, begin, end, pass_on};
 use i2c_base::{Addr, Answer, DeviceSpec, Event, MuxId, MuxSpec, SegId};
 use i2c_board::Accepted;
-use i2c_outside::DeviceState;
 use i2c_spec::{Layout, chips_are_fair, openings_are_quiet};
 use std::alloc::{AllocError, Global};
 use std::marker::Model;
 use std::snapshot::Snapshot;
+use targets::DeviceState;
 use tgt_mux::Chip;
 
 /// The world of a root: the chips and devices of the whole board, by number, and what the wires have come to. A

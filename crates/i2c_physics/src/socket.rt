@@ -4,9 +4,9 @@ ghost use Rattle.i2c_spec.specs.Plain.{IsPlainDevice};
 ghost use Rattle.i2c_spec.specs.Targets.{Silent, opening_state};
 
 use i2c_base::{Answer, DeviceSpec, Event, NoMemory, Target};
-use i2c_outside::{DeviceState, silence};
 use std::alloc::{AllocError, Global};
 use std::marker::Model;
+use targets::{DeviceState, silence};
 
 /// A device in its place, or an empty one. A contract sees the state of the device, which is `Silent` for an empty one.
 ///

@@ -16,7 +16,7 @@ use Rattle.i2c_base.specs.declared.port.PortCall.{PortCall}
 use Rattle.i2c_base.specs.declared.reply.Reply.{Reply}
 use Rattle.i2c_base.specs.Board.{BoardView}
 use Rattle.i2c_base.specs.Limits.{MOST_CALLERS}
-use Rattle.i2c_outside.specs.declared.port.Port.{Ghosts as PortGhosts}
+use Rattle.ports.specs.declared.port.Port.{Ghosts as PortGhosts}
 use Rattle.i2c_spec.specs.Fair.{IsFairCaller}
 use Rattle.i2c_spec.specs.History.{Asks}
 use Rattle.i2c_spec.specs.Plain.{IsPlainBoard}

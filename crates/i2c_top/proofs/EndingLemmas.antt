@@ -2,7 +2,7 @@
 -- class of the status; of a form it asks for the one law that every row keeps (`DecidesOnce`).
 use Rattle.std.proofs.Common.{◌≡◌, ℕ, ◌⊎◌, inl, inr, Bool, true, false, IsTrue, List, ◌++◌, Result, Ok, Err, refl, sym, ap, ◌∙◌, subst, append-nil}
 use Rattle.std.specs.Prelude.{⊤, IfOk, IfErr}
-use Rattle.i2c_outside.specs.Causes.{Rose}
+use Rattle.ports.specs.Causes.{Rose}
 use Rattle.i2c_top.specs.Endings.{shown_of, CameTo, CameToSuccess, CameToRefusal, IsCaused, name_in, due_of, IsTextDue, IsStarved, IsWritten, IsRefusalWritten, HasSaid, HasEndedAs, IsCutShort}
 use Rattle.i2c_top.specs.Form.{Form, DecidesOnce, IsStatusOf, own_of, told_of, unreached_of, rig_after, traced_of, IsCalm, KeepsShelf, KeepsSkipped}
 use Rattle.i2c_top.specs.Status.{Class, Done, Misused, Refused, Unread, NoRig, Silent, class_of, refusal_text}

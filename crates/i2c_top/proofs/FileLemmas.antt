@@ -13,7 +13,7 @@ use Rattle.caller_core.specs.View.{CallerView, script_on}
 use Rattle.i2c_top.specs.Boards.{IsAccepted, IsRejected}
 use Rattle.i2c_top.specs.Files.{Files, bytes_in}
 use Rattle.i2c_top.specs.Readings.{IsAcceptedIn, IsRejectedIn, IsScriptIn, AreScriptsIn, IsScheduleIn, IsOrderIn, HasRead, IsRefusedAt, IsRefusedScript, IsRefusedOrder, IsBadBoard, IsBadScript, IsTooDear, IsFileRefusal}
-use Rattle.i2c_outside.specs.Causes.{Rose}
+use Rattle.ports.specs.Causes.{Rose}
 use Rattle.i2c_top.specs.Scripts.{script_name, HasScript, HasBadScript, HasScripts, HasBadSchedule, texts_in}
 use Rattle.i2c_top.specs.forms.Replays.{Names, names_of, HasScriptsBefore, HasTexts, first_script, cost_in, IsPlaceIn, IsScheduleAt, IsReadAfter, IsSkipped}
 use Rattle.i2c_top.specs.Runs.{texts_of, cost_of_texts}

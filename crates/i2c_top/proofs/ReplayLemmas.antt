@@ -4,7 +4,7 @@ use Rattle.std.specs.Prelude.{IfOk, IfErr, OnOk}
 use Rattle.i2c_base.specs.declared.port.PortCall.{PortCall}
 use Rattle.i2c_base.specs.Board.{BoardView}
 use Rattle.i2c_spec.specs.Targets.{TargetState}
-use Rattle.i2c_outside.specs.Causes.{Rose, counted}
+use Rattle.ports.specs.Causes.{Rose, counted}
 use Rattle.i2c_top.specs.Endings.{CameToSuccess, CameToRefusal, HasEndedAs}
 use Rattle.i2c_top.specs.Readings.{HasRead, IsOrderIn, IsFileRefusal}
 use Rattle.i2c_top.specs.Files.{Files}

@@ -1,6 +1,6 @@
 -- How a call of a form ends: what it came to before it wrote, the text that was due, and what came of its writing.
 use Rattle.std.specs.Prelude.{⊤, ◌≡◌, ◌≢◌, ℕ, ◌⊎◌, IsTrue, List, [], ◌++◌}
-use Rattle.i2c_outside.specs.Causes.{Rose}
+use Rattle.ports.specs.Causes.{Rose}
 use Rattle.tools.specs.Readers.{word_at}
 use Rattle.i2c_top.specs.Form.{Form, IsStatusOf, IsCalm, KeepsShelf, KeepsUnreached, IsTold, IsTraced}
 use Rattle.i2c_top.specs.Status.{Class, Done, Misused, Refused, Unread, NoRig, Silent, class_of, refusal_text}

@@ -1,6 +1,6 @@
 -- A form of the words, with its names filled in, as one row of facts. How a call ends is told of any form by its row.
 use Rattle.std.specs.Prelude.{⊤, ◌≡◌, ℕ, Bool, true, false, IsTrue, List}
-use Rattle.i2c_outside.specs.Causes.{Rose}
+use Rattle.ports.specs.Causes.{Rose}
 use Rattle.i2c_top.specs.Files.{Files}
 use Rattle.i2c_top.specs.Status.{Class, Done, Misused, Refused, Unread, NoRig, Silent, class_of}
 use Rattle.i2c_top.specs.Traces.{ShelfView, KeepsBut, Outside, RigView, IsUsed, IsTried, IsRigLeft, IsUntouched}

@@ -1,7 +1,7 @@
 -- One file of a call that is read: what came of it.
 use Rattle.std.specs.Prelude.{⊤, All, Option, None, Some, ◌≡◌, ℕ, ◌+◌, ◌<◌, ◌⊎◌, Bool, IsTrue, List, length, take}
 use Rattle.i2c_base.specs.Board.{BoardView}
-use Rattle.i2c_outside.specs.Causes.{Rose}
+use Rattle.ports.specs.Causes.{Rose}
 use Rattle.i2c_top.specs.Boards.{HasAccepted, HasRejected}
 use Rattle.i2c_top.specs.Files.{Files}
 use Rattle.caller_core.specs.View.{CallerView}

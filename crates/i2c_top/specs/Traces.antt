@@ -2,7 +2,7 @@
 use Rattle.std.specs.Prelude.{◌≡◌, ℕ, ◌⊎◌, Bool, false, List}
 use Rattle.i2c_base.specs.declared.port.PortCall.{PortCall}
 use Rattle.i2c_spec.specs.Targets.{TargetState}
-use Rattle.i2c_outside.specs.Causes.{Rose, counted}
+use Rattle.ports.specs.Causes.{Rose, counted}
 use Rattle.i2c_outside.specs.declared.rig.Rig.{Ghosts as RigGhosts}
 use Rattle.i2c_outside.specs.declared.shelf.Shelf.{Ghosts as ShelfGhosts}
 use Rattle.i2c_outside.specs.declared.sink.Sink.{Ghosts as SinkGhosts}

@@ -3,7 +3,7 @@ ghost use Rattle.std.specs.Prelude.{◌≡◌, ◌≢◌, ℕ, ◌+◌, ◌<◌,
 ghost use Rattle.std.specs.Option.{option_map};
 ghost use Rattle.i2c_base.specs.Limits.{MOST_CALLERS};
 ghost use Rattle.i2c_boardtext.specs.BoardText.{board_of};
-ghost use Rattle.i2c_outside.specs.Causes.{Rose};
+ghost use Rattle.ports.specs.Causes.{Rose};
 ghost use Rattle.caller_core.specs.Callers.{IsOpened};
 ghost use Rattle.caller_core.specs.Scripts.{script_read, commands_of};
 ghost use Rattle.caller_core.specs.View.{script_on};

@@ -2,7 +2,7 @@
 ghost use Rattle.std.specs.Prelude.{◌≡◌, ◌≤◌, ◌⊎◌, ℕ, List, [], false, true, Option, None, Err, IfOk, OnOk, IfErr, OnErr, IsTrue, length, map, vec_capacity};
 ghost use Rattle.std.specs.Option.{option_map};
 ghost use Rattle.i2c_base.specs.Limits.{MOST_CALLERS};
-ghost use Rattle.i2c_outside.specs.Causes.{Rose, counted};
+ghost use Rattle.ports.specs.Causes.{Rose, counted};
 ghost use Rattle.caller_core.specs.View.{CallerView};
 ghost use Rattle.i2c_top.specs.Cores.{AreFresh, IsLeftOf};
 ghost use Rattle.i2c_top.specs.Readings.{AreNamed};
@@ -16,7 +16,8 @@ use bus_core::Parts;
 use caller_core::Script;
 use i2c_base::{NoMemory, SegId};
 use i2c_board::Accepted;
-use i2c_outside::{Gate, Port, Rig, RigFail};
+use i2c_outside::{Gate, Rig, RigFail};
+use ports::Port;
 use std::alloc::Global;
 use std::sync::Wait;
 use std::thread::Threads;

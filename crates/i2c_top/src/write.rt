@@ -1,6 +1,6 @@
 //! A text, written to a sink piece by piece.
 ghost use Rattle.std.specs.Prelude.{◌≡◌, ◌≤◌, ◌++◌, ℕ, length, take, drop, true, false, IsTrue};
-ghost use Rattle.i2c_outside.specs.Causes.{Rose};
+ghost use Rattle.ports.specs.Causes.{Rose};
 ghost use Rattle.i2c_top.specs.Written.{HasFront};
 
 use i2c_outside::Sink;

@@ -1,5 +1,5 @@
 use Rattle.std.proofs.Common.{Err, ap, ◌∙◌, arith}
-use Rattle.i2c_outside.specs.Causes.{counted}
+use Rattle.ports.specs.Causes.{counted}
 use Rattle.i2c_physics.proofs.fail_rig.FailRigRig.plug.Goals as goal
 
 pub returns-then-self-clause-exact : goal.returns-then-self-clause-exact

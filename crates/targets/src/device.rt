@@ -29,7 +29,7 @@ pub struct DeviceState {
 impl Model for DeviceState {
     ghost use Rattle.i2c_spec.specs.Targets.{TargetState};
     ghost use Rattle.i2c_spec.specs.Targets as target;
-    ghost use Rattle.i2c_outside.specs.declared.device.Device.TheVariants as kind;
+    ghost use Rattle.targets.specs.declared.device.Device.TheVariants as kind;
 
     ghost Value = { TargetState };
 

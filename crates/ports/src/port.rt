@@ -3,8 +3,8 @@ ghost use Rattle.std.specs.Prelude.{◌≡◌, ℕ, ◌<◌, ◌≤◌, ◌++◌
 ghost use Rattle.i2c_base.specs.Limits.{MOST_CALLS};
 ghost use Rattle.i2c_base.specs.Phases.{MayStart, MayPut, MayGet, MayStop, MayLine, AnswersStart, phase_started, phase_put, phase_got};
 ghost use Rattle.i2c_spec.specs.World.{World, after, answer, takes, gives};
-ghost use Rattle.i2c_outside.specs.Causes.{HasCause};
-ghost use Rattle.i2c_outside.specs.LineCalls.{HasLine};
+ghost use Rattle.ports.specs.Causes.{HasCause};
+ghost use Rattle.ports.specs.LineCalls.{HasLine};
 ghost use Rattle.i2c_base.specs.declared.port.Phase.{Phase};
 ghost use Rattle.i2c_base.specs.declared.port.PortCall.{PortCall};
 ghost use Rattle.i2c_base.specs.declared.port.PortCall.TheVariants as call;

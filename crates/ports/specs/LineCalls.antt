@@ -1,3 +1,4 @@
+-- What a port asks of a call that switches a mux by its line.
 use Rattle.std.specs.Prelude.{◌≡◌, ℕ, ◌≤◌, true, false}
 use Rattle.i2c_base.specs.Muxes.{facts_of}
 use Rattle.i2c_spec.specs.Tree.{of_mux, root_of, home_of_mux}

@@ -3,8 +3,8 @@ use denote.Param.Send.{IsSend, sendable}
 use Rattle.std.proofs.Crossing.{crosses}
 use Rattle.tgt_eeprom.proofs.SendLemmas.{eeprom-send}
 use Rattle.tgt_small.proofs.SendLemmas.{smbus-send}
-use Rattle.i2c_outside.specs.contracts.device.DeviceState as DeviceState
-use Rattle.i2c_outside.specs.contracts.device.Device as Device
+use Rattle.targets.specs.contracts.device.DeviceState as DeviceState
+use Rattle.targets.specs.contracts.device.Device as Device
 
 kinds-send : IsSend (Device.the_field).row
 kinds-send = search (crosses, sendable, eeprom-send, smbus-send) depth 20

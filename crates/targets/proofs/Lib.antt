@@ -1,0 +1,2 @@
+-- What a device of any kind may do.
+pub mod SendLemmas
