@@ -26,12 +26,12 @@ use Rattle.i2c_spec.specs.Messages.{bytes_most}
 use Rattle.bus_laws.specs.Holds.{MarksHeld, OwnHeld}
 use Rattle.bus_laws.specs.Jobs.{IsJobOf}
 use Rattle.bus_laws.specs.Runs.{IsCall, InLocks}
-use Rattle.bus_message.specs.Ports.{socket_of, sockets_of}
+use Rattle.bus_message.specs.Ports.{root_port, root_ports}
 use Rattle.bus_message.specs.declared.message.MsgResult.{MsgResult}
 use Rattle.bus_message.proofs.PortLemmas.{call-through, socket-here}
-use Rattle.mux_plan.proofs.Dues.{tells-after, on-after}
+use Rattle.mux_plan.proofs.MuxUpdates.{tells-after, on-after}
 use Rattle.i2c_spec.proofs.MessageLemmas.{length-messages}
-use Rattle.mux_plan.specs.declared.marks.Due.{Due}
+use Rattle.mux_plan.specs.declared.marks.MuxUpdate.{MuxUpdate}
 use Rattle.mux_plan.specs.Marks.{applied, IsSwitchedOn, MayMark, AreOn}
 use Rattle.mux_plan.specs.Plans.{SeenView, slots_of}
 use Rattle.seg_locks.specs.Locks.{LocksView, holder_in, IsLockIn}
@@ -41,7 +41,7 @@ use Rattle.mux_plan.specs.declared.task.NextMsg.{NextMsg}
 use Rattle.core_laws.specs.Sends.{IsMessageOf}
 use Rattle.bus_message.specs.Sends.{NextSent, message_for}
 use Rattle.core_laws.specs.Spots.{seen_of}
-use Rattle.bus_message.specs.Ports.{Socket}
+use Rattle.bus_message.specs.Ports.{RootPort}
 use Rattle.core_laws.specs.Wants.{WantsIn}
 use Rattle.core_laws.specs.Steps.{next_of, AreMarked, KeepsPort}
 use Rattle.core_laws.proofs.Core.{lone_act, not_over, locks-here, owes-here, going-on, stands-here}
@@ -51,7 +51,7 @@ use Rattle.bus_core.specs.Kept.{roots_of, IsSeated, run_of, whole_of, IsKept}
 use Rattle.bus_core.specs.Marks.{AreHeld, words_after}
 use Rattle.bus_core.specs.Places.{walk_left, got_by, place_of}
 use Rattle.bus_core.specs.declared.replies.Decided.{Decided}
-use Rattle.bus_core.specs.Seats.{MaySpeak, HasSpoken, MayHear, dues_of}
+use Rattle.bus_core.specs.Seats.{MaySpeak, HasSpoken, MayHear, updates_of}
 use Rattle.bus_core.specs.declared.parts.CoreParts.{CoreParts}
 use Rattle.bus_core.specs.declared.seat.Seat.{Seat}
 use Rattle.bus_core.proofs.Kept.{place-here, seated-here}
@@ -63,7 +63,7 @@ use Rattle.std.proofs.lemmas.Bool.{and_parts}
 use Rattle.i2c_base.proofs.ListLemmas.{map_from}
 use Rattle.i2c_base.proofs.ListLemmas.{map_at}
 
-pub length-applied : (ds : List Due) (marks : List (Option ℕ)) → length (applied ds marks) ≡ length marks
+pub length-applied : (ds : List MuxUpdate) (marks : List (Option ℕ)) → length (applied ds marks) ≡ length marks
 length-applied [] marks = refl
 length-applied (d ∷ ds) marks = length-applied ds (set marks d.on d.mark) ∙ length-set marks d.on d.mark
 
@@ -75,12 +75,12 @@ mux-held : (v : LocksView) (c on : ℕ) → IsLockIn v (lock.Mux on) → holder_
 mux-held v c on low held =
     ap (λ (x : Bool). x && is_it (holder_in v (lock.Mux on)) c) (lt-ltb on (length v.depths) low) ∙ is_it-at (holder_in v (lock.Mux on)) c held
 
-pub dues-held : (v : LocksView) (c : ℕ) (ds : List Due) → AreOn (holds_mux v c) ds → AreHeld v c ds
-dues-held v c [] all = tt
-dues-held v c (d ∷ ds) all = (
+pub updates-held : (v : LocksView) (c : ℕ) (ds : List MuxUpdate) → AreOn (holds_mux v c) ds → AreHeld v c ds
+updates-held v c [] all = tt
+updates-held v c (d ∷ ds) all = (
   let b = and_parts (nat_lt d.on (length v.depths)) (is_it (holder_in v (lock.Mux d.on)) c) all.0 in
       record { there = ltb-true d.on (length v.depths) b.0; held = is_it-some (holder_in v (lock.Mux d.on)) c b.1 },
-  dues-held v c ds all.1,
+  updates-held v c ds all.1,
 )
 
 -- each mark that a step may change is of a bus whose lock is among these
@@ -129,9 +129,9 @@ module _ {P C S : Type 0} (g : PortGhosts P) (c : CallerGhosts C S) (x : CorePar
 
   -- THE PORT of the root of a job that comes next
   module _ (goes : is_over (walk_left b s) ≡ false) (low : s.transfer.bus < buses b) where
-    pub port : (y : Socket) × (slice_get whole.sockets s.port ≡ Some y) × (y.root ≡ root_of b s.transfer.bus)
+    pub port : (y : RootPort) × (slice_get whole.sockets s.port ≡ Some y) × (y.root ≡ root_of b s.transfer.bus)
     port = (let f = map_from (λ (q : ℕ × P). q.0) x.ports.items s.port (root_of b s.transfer.bus) (its.plugged goes low) in
-        (socket_of g f.0, map_at (socket_of g) x.ports.items s.port f.0 f.1, f.2))
+        (root_port g f.0, map_at (root_port g) x.ports.items s.port f.0 f.1, f.2))
 
   module _ (job : Job) (more : ℕ) (next : NextMsg) (first : next_of x.locks (walk_left b s) ≡ Some (Send job more)) (of : IsMessageOf job more next) where
     pub goes : is_over (walk_left b s) ≡ false
@@ -183,7 +183,7 @@ module _ {P C S : Type 0} (g : PortGhosts P) (c : CallerGhosts C S) (x : CorePar
     message-room = room-one run whole kept.kept place p at (Send job more) first
 
     -- IT WAS SENT
-    module _ (sockets2 : List Socket) (bytes : List ℕ) (sent : MsgResult) (spoken : HasSpoken b g.tells next whole.sockets sockets2 bytes sent s) where
+    module _ (sockets2 : List RootPort) (bytes : List ℕ) (sent : MsgResult) (spoken : HasSpoken b g.tells next whole.sockets sockets2 bytes sent s) where
       pub few : length bytes ≤ message_most b job more
       few = subst (λ (n : ℕ). length bytes ≤ n) (most sent.addr) spoken.sent.spoke.few
 
@@ -191,14 +191,14 @@ module _ {P C S : Type 0} (g : PortGhosts P) (c : CallerGhosts C S) (x : CorePar
       message-bytes = bytes-message run whole kept.kept place p at job more first bytes few
 
       abbrev pub words2 : SeenView
-      words2 = words_after (dues_of b x.locks (walk.Sent sent.end bytes) s) (seen_of x.locks)
+      words2 = words_after (updates_of b x.locks (walk.Sent sent.end bytes) s) (seen_of x.locks)
 
       keeps : KeepsPort b g.tells job more bytes sent.end spoken.before spoken.after
       keeps =
           let y = port goes on-bus in
           let same : spoken.before ≡ y.0 = (let f : Some spoken.before ≡ Some y.0 = sym spoken.here ∙ y.1 in cc) in
           record {
-            rooted = ap (λ (z : Socket). z.root) same ∙ y.2 ∙ sym job-of.rooted;
+            rooted = ap (λ (z : RootPort). z.root) same ∙ y.2 ∙ sym job-of.rooted;
             root = spoken.sent.spoke.root;
             start = spoken.sent.spoke.start;
             idle = subst (λ (l : Bool). (spoken.after.phase ≡ Idle) ⊎ ((l ≡ false) × (sent.end ≡ end.Ok))) (send-last run whole kept.kept place p at job more first next of) spoken.sent.spoke.idle;
@@ -208,8 +208,8 @@ module _ {P C S : Type 0} (g : PortGhosts P) (c : CallerGhosts C S) (x : CorePar
 
       marked : AreMarked b p.tree x.locks (walk.Sent sent.end bytes) words2
       marked = record {
-        all = length-applied (dues_of b x.locks (walk.Sent sent.end bytes) s) x.locks.marks ∙ kept.kept.table.marked;
-        counted = length-applied_kept (dues_of b x.locks (walk.Sent sent.end bytes) s) x.locks.kept ∙ kept.kept.table.kept;
+        all = length-applied (updates_of b x.locks (walk.Sent sent.end bytes) s) x.locks.marks ∙ kept.kept.table.marked;
+        counted = length-applied_kept (updates_of b x.locks (walk.Sent sent.end bytes) s) x.locks.kept ∙ kept.kept.table.kept;
         marked = λ y told. tells-after (next_of x.locks p.tree) (first_note (seen (slots_of (seen_of x.locks)) p.tree)) (walk.Sent sent.end bytes) y x.locks.marks told;
         kept = λ y told.
             kept-after b (locks-here run whole kept.kept place p at).0 (next_of x.locks p.tree) (first_note (seen (slots_of (seen_of x.locks)) p.tree)) (walk.Sent sent.end bytes)
@@ -229,12 +229,12 @@ module _ {P C S : Type 0} (g : PortGhosts P) (c : CallerGhosts C S) (x : CorePar
       }
 
       -- the marks that it changes may be written
-      pub dues-own : AreHeld x.locks s.number (dues_of b x.locks (walk.Sent sent.end bytes) s)
-      dues-own =
+      pub updates-own : AreHeld x.locks s.number (updates_of b x.locks (walk.Sent sent.end bytes) s)
+      updates-own =
           let own = locks-here run whole kept.kept place p at in
           let has = held-wants run whole kept.kept place p at own.0 own.1 in
           let sends = send-wants run whole kept.kept place p at job more first in
-          dues-held x.locks s.number (dues_of b x.locks (walk.Sent sent.end bytes) s)
+          updates-held x.locks s.number (updates_of b x.locks (walk.Sent sent.end bytes) s)
           (on-after (holds_mux x.locks s.number) (next_of x.locks p.tree) (first_note (seen (slots_of (seen_of x.locks)) p.tree)) (walk.Sent sent.end bytes)
           (subst (λ (o : Option _). MayMark (holds_mux x.locks s.number) o (first_note (seen (slots_of (seen_of x.locks)) p.tree))) (sym first)
           (switched-on x.locks s.number own.0 has b job sends.own, marks-on x.locks s.number own.0 has b (first_note (seen (slots_of (seen_of x.locks)) p.tree)).marks sends.marked)))
@@ -258,15 +258,15 @@ module _ {P C S : Type 0} (g : PortGhosts P) (c : CallerGhosts C S) (x : CorePar
       }
 
 -- what was sent on the port that was read at the place of a seat's root
-pub spoken-at : {P C : Type 0} (g : PortGhosts P) (b : BoardView) (next : NextMsg) (ports : List (ℕ × P)) (s : Seat C) (y : Socket) → slice_get (sockets_of g ports) s.port ≡ Some y
-    → (q : ℕ × P) → q ≡ get_or ports s.port q → (now : P) (bytes : List ℕ) (r : MsgResult) → NextSent b g.tells s.transfer s.sent next (socket_of g q) (socket_of g (q.0, now)) bytes r
-    → (next.purpose ≡ purpose.Call → IsTransfer s.transfer.msgs s.transfer.out) → HasSpoken b g.tells next (sockets_of g ports) (sockets_of g (set ports s.port (q.0, now))) bytes r s
+pub spoken-at : {P C : Type 0} (g : PortGhosts P) (b : BoardView) (next : NextMsg) (ports : List (ℕ × P)) (s : Seat C) (y : RootPort) → slice_get (root_ports g ports) s.port ≡ Some y
+    → (q : ℕ × P) → q ≡ get_or ports s.port q → (now : P) (bytes : List ℕ) (r : MsgResult) → NextSent b g.tells s.transfer s.sent next (root_port g q) (root_port g (q.0, now)) bytes r
+    → (next.purpose ≡ purpose.Call → IsTransfer s.transfer.msgs s.transfer.out) → HasSpoken b g.tells next (root_ports g ports) (root_ports g (set ports s.port (q.0, now))) bytes r s
 spoken-at g b next ports s y here q read now bytes r sent whole =
     record {
-      before = socket_of g q;
-      after = socket_of g (q.0, now);
+      before = root_port g q;
+      after = root_port g (q.0, now);
       here = socket-here g ports s.port q read y here;
-      set_is = map-set (socket_of g) ports s.port (q.0, now);
+      set_is = map-set (root_port g) ports s.port (q.0, now);
       sent = sent;
       whole = whole;
     }

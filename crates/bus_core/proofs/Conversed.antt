@@ -22,7 +22,7 @@ use Rattle.bus_spec.specs.Stepwise.{reply_by}
 use Rattle.bus_spec.specs.Walk.{Job, Call, Send, Settle, Passed, WalkTree}
 use Rattle.bus_spec.specs.Walk as walk
 use Rattle.bus_laws.proofs.walk.Next.{quiet-next}
-use Rattle.bus_message.specs.Ports.{sockets_of}
+use Rattle.bus_message.specs.Ports.{root_ports}
 use Rattle.bus_message.specs.declared.message.MsgResult.{MsgResult}
 use Rattle.mux_plan.specs.Plans.{SeenView, slots_of}
 use Rattle.seg_locks.specs.Locks.{LocksView}
@@ -32,7 +32,7 @@ use Rattle.core_laws.specs.Seats.{IsLeft, IsDecided}
 use Rattle.mux_plan.specs.declared.task.NextMsg.{NextMsg}
 use Rattle.core_laws.specs.Sends.{IsMessageOf, gone_after}
 use Rattle.core_laws.specs.Spots.{turned_to}
-use Rattle.bus_message.specs.Ports.{Socket}
+use Rattle.bus_message.specs.Ports.{RootPort}
 use Rattle.core_laws.specs.Steps.{next_of, behind_of}
 use Rattle.core_laws.proofs.Core.{locks-here, owes-here, not_over}
 use Rattle.core_laws.proofs.Laws.{stands-here, sent-leaves, core-message, core-settled, room-message, bytes-settle}
@@ -49,7 +49,7 @@ use Rattle.i2c_base.specs.Need.{bytes_given}
 
 module _ {P C S : Type 0} (g : PortGhosts P) (c : CallerGhosts C S) (x : CoreParts P C) (kept : IsKept g c x) (place : ℕ) (s : Seat C) (here : slice_get x.seats.items place ≡ Some s)
     (job : Job) (more : ℕ) (next : NextMsg) (first : next_of x.locks (walk_left x.board.now s) ≡ Some (Send job more)) (of : IsMessageOf job more next)
-    (sockets2 : List Socket) (bytes : List ℕ) (sent : MsgResult) (said : HasSpoken x.board.now g.tells next (sockets_of g x.ports.items) sockets2 bytes sent s)
+    (sockets2 : List RootPort) (bytes : List ℕ) (sent : MsgResult) (said : HasSpoken x.board.now g.tells next (root_ports g x.ports.items) sockets2 bytes sent s)
     (t : Seat C) (heard : HasHeard x.board.now x.locks next sent.reading bytes sent.end s t) where
   abbrev run : Run
   run = run_of g c x
@@ -124,8 +124,8 @@ module _ {P C S : Type 0} (g : PortGhosts P) (c : CallerGhosts C S) (x : CorePar
       ];
     }
 
-    module _ (new : CoreParts P C) (same_board : new.board ≡ x.board) (locks : new.locks ≡ locks2) (ports : sockets_of g new.ports.items ≡ sockets2) (start : new.start ≡ x.start) (places : new.places ≡ x.places) where
-      sockets : sockets_of g new.ports.items ≡ set (sockets_of g x.ports.items) s.port said.after
+    module _ (new : CoreParts P C) (same_board : new.board ≡ x.board) (locks : new.locks ≡ locks2) (ports : root_ports g new.ports.items ≡ sockets2) (start : new.start ≡ x.start) (places : new.places ≡ x.places) where
+      sockets : root_ports g new.ports.items ≡ set (root_ports g x.ports.items) s.port said.after
       sockets = ports ∙ said.set_is
 
       roots : roots_of new.ports.items ≡ roots_of x.ports.items

@@ -21,7 +21,7 @@ use Rattle.bus_spec.specs.Stepwise.{reply_by}
 use Rattle.bus_spec.specs.Walk.{Job, Call, Select, SwitchOff, Settle, Passed, ActOutcome, WalkTree, Ends, Look, Then, job_purpose}
 use Rattle.bus_spec.specs.Walk as walk
 use Rattle.bus_message.proofs.PortLemmas.{call-through}
-use Rattle.mux_plan.specs.Plans.{CourseView}
+use Rattle.mux_plan.specs.Plans.{RouteView}
 use Rattle.seg_locks.specs.Locks.{LocksView}
 use Rattle.core_laws.specs.Core.{Place, has_reply}
 use Rattle.mux_plan.specs.declared.task.NextMsg.{NextMsg}
@@ -105,7 +105,7 @@ module _ {C S : Type 0} (c : CallerGhosts C S) (b : BoardView) (v : LocksView) (
     heard-seated seated going low left =
         let transfer : t.transfer ≡ s.transfer = ap (λ (y : Seat C). y.transfer) heard.same in
         record {
-          counted = ap (λ (y : TransferView). length (messages_of y)) transfer ∙ seated.counted ∙ sym (ap (λ (y : CourseView). y.count) heard.course);
+          counted = ap (λ (y : TransferView). length (messages_of y)) transfer ∙ seated.counted ∙ sym (ap (λ (y : RouteView). y.count) heard.route);
           wrote = heard.wrote;
           within = subst (λ (y : TransferView). t.sent ≤ length y.msgs) (sym transfer) (heard_within seated left (is_call_through next.purpose e) refl heard.gone);
           plugged = λ goes there. subst (λ (y : Seat C). slice_get roots y.port ≡ Some (root_of b y.transfer.bus)) (sym heard.same) (seated.plugged going low);
@@ -123,7 +123,7 @@ module _ {C S : Type 0} (c : CallerGhosts C S) (b : BoardView) (v : LocksView) (
     went-on-seated seated going low =
         let transfer : t.transfer ≡ s.transfer = ap (λ (y : Seat C). y.transfer) went.same in
         record {
-          counted = ap (λ (y : TransferView). length (messages_of y)) transfer ∙ seated.counted ∙ sym (ap (λ (y : CourseView). y.count) went.course);
+          counted = ap (λ (y : TransferView). length (messages_of y)) transfer ∙ seated.counted ∙ sym (ap (λ (y : RouteView). y.count) went.route);
           wrote = subst (λ (y : Seat C). y.written ≡ sum_by written_of (take y.sent y.transfer.msgs)) (sym went.same) seated.wrote;
           within = subst (λ (y : Seat C). y.sent ≤ length y.transfer.msgs) (sym went.same) seated.within;
           plugged = λ goes there. subst (λ (y : Seat C). slice_get roots y.port ≡ Some (root_of b y.transfer.bus)) (sym went.same) (seated.plugged going low);
@@ -145,7 +145,7 @@ module _ {C S : Type 0} (c : CallerGhosts C S) (b : BoardView) (v : LocksView) (
     settled-seated seated going low =
         let transfer : u.transfer ≡ t.transfer = ap (λ (y : Seat C). y.transfer) settled.same in
         record {
-          counted = ap (λ (y : TransferView). length (messages_of y)) transfer ∙ seated.counted ∙ sym (ap (λ (y : CourseView). y.count) settled.course);
+          counted = ap (λ (y : TransferView). length (messages_of y)) transfer ∙ seated.counted ∙ sym (ap (λ (y : RouteView). y.count) settled.route);
           wrote = subst (λ (y : Seat C). y.written ≡ sum_by written_of (take y.sent y.transfer.msgs)) (sym settled.same) seated.wrote;
           within = subst (λ (y : Seat C). y.sent ≤ length y.transfer.msgs) (sym settled.same) seated.within;
           plugged = λ goes there. subst (λ (y : Seat C). slice_get roots y.port ≡ Some (root_of b y.transfer.bus)) (sym settled.same) (seated.plugged going low);

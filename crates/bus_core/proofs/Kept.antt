@@ -18,13 +18,13 @@ use Rattle.bus_spec.specs.Schedule.{is_settle}
 use Rattle.bus_spec.specs.Readings.{caller_of}
 use Rattle.bus_spec.specs.Stepwise.{IsStepwise}
 use Rattle.bus_laws.proofs.Laws.{lines-locked}
-use Rattle.bus_message.specs.Ports.{sockets_of}
+use Rattle.bus_message.specs.Ports.{root_ports}
 use Rattle.core_laws.specs.Core.{Place, Run, IsFairRun, Whole, CoreKept, numbers_of}
 use Rattle.std.proofs.lemmas.List.{map-set}
 use Rattle.std.proofs.lemmas.List.{length-append}
 use Rattle.core_laws.proofs.Core.{set_same, at_set}
 use Rattle.core_laws.proofs.Laws.{turn-one}
-use Rattle.bus_message.specs.Ports.{Socket}
+use Rattle.bus_message.specs.Ports.{RootPort}
 use Rattle.seg_locks.specs.Locks.{LocksView}
 use Rattle.bus_core.specs.Kept.{roots_of, IsSeated, asks_in, left_in, run_of, whole_of, IsKept, HasStepped}
 use Rattle.bus_core.specs.Opening.{IsSetUp, HasRoot}
@@ -156,7 +156,7 @@ module _ {P C S : Type 0} (g : PortGhosts P) (c : CallerGhosts C S) (x : CorePar
             held = held;
             owes = owes;
             locks = new.locks;
-            sockets = sockets_of g new.ports.items;
+            sockets = root_ports g new.ports.items;
           }) → IsKept g c new
       kept-by seated held owes core = record {
         owes = owes;
@@ -165,11 +165,11 @@ module _ {P C S : Type 0} (g : PortGhosts P) (c : CallerGhosts C S) (x : CorePar
             (subst (λ (xs : List (ℕ × S)). IsSetUp c.asked c.left c.board board xs (roots_of new.ports.items)) (sym new-scripts)
             (subst (λ (rs : List ℕ). IsSetUp c.asked c.left c.board board (scripts_of c x.seats.items) rs) (sym roots) kept.set_up));
         kept = by_board (λ (b : _). CoreKept (record { board = b.now; tells = g.tells; asks = asks_in c new; left = left_in c new; callers = MOST_CALLERS })
-            (record { past = reverse new.journal.entries; room = new.journal.room; room_bytes = new.journal.room_bytes; places = places_of c b.now new.seats.items; held = held; owes = owes; locks = new.locks; sockets = sockets_of g new.ports.items }))
+            (record { past = reverse new.journal.entries; room = new.journal.room; room_bytes = new.journal.room_bytes; places = places_of c b.now new.seats.items; held = held; owes = owes; locks = new.locks; sockets = root_ports g new.ports.items }))
             (subst (λ (xs : List (ℕ × S)). CoreKept (record { board = board; tells = g.tells; asks = asks_of c.asked xs; left = left_of c.left xs; callers = MOST_CALLERS })
-            (record { past = reverse new.journal.entries; room = new.journal.room; room_bytes = new.journal.room_bytes; places = places_of c board new.seats.items; held = held; owes = owes; locks = new.locks; sockets = sockets_of g new.ports.items })) (sym new-scripts)
+            (record { past = reverse new.journal.entries; room = new.journal.room; room_bytes = new.journal.room_bytes; places = places_of c board new.seats.items; held = held; owes = owes; locks = new.locks; sockets = root_ports g new.ports.items })) (sym new-scripts)
             (subst (λ (ps : List Place). CoreKept (run_of g c x)
-            (record { past = reverse new.journal.entries; room = new.journal.room; room_bytes = new.journal.room_bytes; places = ps; held = held; owes = owes; locks = new.locks; sockets = sockets_of g new.ports.items }))
+            (record { past = reverse new.journal.entries; room = new.journal.room; room_bytes = new.journal.room_bytes; places = ps; held = held; owes = owes; locks = new.locks; sockets = root_ports g new.ports.items }))
             (sym (ap (places_of c board) seats ∙ map-set (place_of c board) x.seats.items place t)) core));
         seated = λ i u at.
             by_board (λ (b : _). IsSeated c b.now (roots_of new.ports.items) u)
@@ -186,15 +186,15 @@ module _ {P C S : Type 0} (g : PortGhosts P) (c : CallerGhosts C S) (x : CorePar
       -- .. where the plain lists are these
       pub kept-whole : IsSeated c board (roots_of x.ports.items) t → (w : Whole) → CoreKept (run_of g c x) w
           → reverse new.journal.entries ≡ w.past → new.journal.room ≡ w.room → new.journal.room_bytes ≡ w.room_bytes → set whole.places place (place_of c board t) ≡ w.places
-          → new.locks ≡ w.locks → sockets_of g new.ports.items ≡ w.sockets → IsKept g c new
+          → new.locks ≡ w.locks → root_ports g new.ports.items ≡ w.sockets → IsKept g c new
       kept-whole seated w core past room room_bytes places locks sockets =
           kept-by seated w.held w.owes
-          (subst (λ (y : List Entry). CoreKept (run_of g c x) (record w { past = y; room = new.journal.room; room_bytes = new.journal.room_bytes; places = set whole.places place (place_of c board t); locks = new.locks; sockets = sockets_of g new.ports.items })) (sym past)
-          (subst (λ (y : ℕ). CoreKept (run_of g c x) (record w { room = y; room_bytes = new.journal.room_bytes; places = set whole.places place (place_of c board t); locks = new.locks; sockets = sockets_of g new.ports.items })) (sym room)
-          (subst (λ (y : ℕ). CoreKept (run_of g c x) (record w { room_bytes = y; places = set whole.places place (place_of c board t); locks = new.locks; sockets = sockets_of g new.ports.items })) (sym room_bytes)
-          (subst (λ (y : List Place). CoreKept (run_of g c x) (record w { places = y; locks = new.locks; sockets = sockets_of g new.ports.items })) (sym places)
-          (subst (λ (y : LocksView). CoreKept (run_of g c x) (record w { locks = y; sockets = sockets_of g new.ports.items })) (sym locks)
-          (subst (λ (y : List Socket). CoreKept (run_of g c x) (record w { sockets = y })) (sym sockets) core))))))
+          (subst (λ (y : List Entry). CoreKept (run_of g c x) (record w { past = y; room = new.journal.room; room_bytes = new.journal.room_bytes; places = set whole.places place (place_of c board t); locks = new.locks; sockets = root_ports g new.ports.items })) (sym past)
+          (subst (λ (y : ℕ). CoreKept (run_of g c x) (record w { room = y; room_bytes = new.journal.room_bytes; places = set whole.places place (place_of c board t); locks = new.locks; sockets = root_ports g new.ports.items })) (sym room)
+          (subst (λ (y : ℕ). CoreKept (run_of g c x) (record w { room_bytes = y; places = set whole.places place (place_of c board t); locks = new.locks; sockets = root_ports g new.ports.items })) (sym room_bytes)
+          (subst (λ (y : List Place). CoreKept (run_of g c x) (record w { places = y; locks = new.locks; sockets = root_ports g new.ports.items })) (sym places)
+          (subst (λ (y : LocksView). CoreKept (run_of g c x) (record w { locks = y; sockets = root_ports g new.ports.items })) (sym locks)
+          (subst (λ (y : List RootPort). CoreKept (run_of g c x) (record w { sockets = y })) (sym sockets) core))))))
 
       -- A STEP of one entry, which isn't a settle
       pub stepped-one : new.start ≡ x.start → new.places ≡ x.places → (e : Entry) → new.journal.entries ≡ x.journal.entries ++ e ∷ [] → new.journal.room + 1 ≡ x.journal.room

@@ -15,7 +15,7 @@ use Rattle.i2c_base.specs.Transfer.{TransferView}
 use Rattle.bus_spec.specs.Grammar.{walk_for}
 use Rattle.bus_spec.specs.Walk.{Act, Take, Free, Passed, WalkTree, Ends}
 use Rattle.core_laws.proofs.Core.{locks-here, owes-here}
-use Rattle.bus_message.specs.Ports.{sockets_of}
+use Rattle.bus_message.specs.Ports.{root_ports}
 use Rattle.core_laws.specs.Behind.{with_place, passed, begun_with}
 use Rattle.core_laws.specs.Core.{Place, Run, Whole, CoreKept, has_reply}
 use Rattle.core_laws.specs.Steps.{next_of, behind_of}
@@ -112,7 +112,7 @@ module _ {P C S : Type 0} (g : PortGhosts P) (c : CallerGhosts C S) (x : CorePar
       take-kept =
           kept-whole g c x kept place s here new t same_board seats (ap (λ (y : Seat C). y.number) went.same) (ap (λ (y : Seat C). c.script y.caller) went.same) (ap (λ (y : _). roots_of y.items) ports) seated _ core
           (ap reverse entries ∙ reverse-append x.journal.entries (entry.Take s.number l ∷ [])) refl room_bytes
-          (ap (set whole.places place) (went-place c x.board.now s t _ cut_at.No went.same went.walk)) locks (ap (λ (y : _). sockets_of g y.items) ports)
+          (ap (set whole.places place) (went-place c x.board.now s t _ cut_at.No went.same went.walk)) locks (ap (λ (y : _). root_ports g y.items) ports)
 
       pub take-stepped : new.start ≡ x.start → new.places ≡ x.places → HasStepped g c place x new
       take-stepped start places =
@@ -152,7 +152,7 @@ module _ {P C S : Type 0} (g : PortGhosts P) (c : CallerGhosts C S) (x : CorePar
           → CoreKept run (record (with_place whole place q ks m) { past = entry.Free s.number l ∷ whole.past; locks = with_holder x.locks l None; room = new.journal.room })
           → IsKept g c new × HasStepped g c place x new
       by-whole number script q is ks m core = (
-        kept-whole g c x kept place s here new t same_board seats number script roots freed.seated _ core past refl room_bytes (ap (set whole.places place) is) locks (ap (λ (y : _). sockets_of g y.items) ports),
+        kept-whole g c x kept place s here new t same_board seats number script roots freed.seated _ core past refl room_bytes (ap (set whole.places place) is) locks (ap (λ (y : _). root_ports g y.items) ports),
         stepped-one g c x kept place s here new t same_board seats number script roots start places (entry.Free s.number l) entries room refl refl (λ tell. (core.told tell).stepwise),
       )
 

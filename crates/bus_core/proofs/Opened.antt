@@ -17,14 +17,14 @@ use Rattle.i2c_spec.specs.Plain.{IsPlainBoard}
 use Rattle.i2c_spec.specs.Rules.{MeetsRules}
 use Rattle.i2c_spec.specs.World.{opening_world}
 use Rattle.bus_journal.specs.View.{JournalView}
-use Rattle.bus_message.specs.Ports.{socket_of}
+use Rattle.bus_message.specs.Ports.{root_port}
 use Rattle.bus_spec.specs.Grammar.{walk_for}
 use Rattle.bus_spec.specs.Past.{begun}
 use Rattle.bus_spec.specs.Walk.{WalkTree, Ends}
 use Rattle.core_laws.specs.Core.{Place, Run, IsFairRun, Whole, SeatKept}
 use Rattle.core_laws.specs.Opens.{AreDepths, IsOpened}
 use Rattle.core_laws.specs.Owed.{total}
-use Rattle.bus_message.specs.Ports.{Socket}
+use Rattle.bus_message.specs.Ports.{RootPort}
 use Rattle.core_laws.proofs.Laws.{core-opened, seat-loaded, seat-over}
 use Rattle.seg_locks.specs.Locks.{opened}
 use Rattle.bus_core.specs.Kept.{roots_of, run_of, whole_of, IsCore}
@@ -198,11 +198,11 @@ module _ {P C S : Type 0} (p : PortGhosts P) (c : CallerGhosts C S) (x : CorePar
           let of = of-seat i s.0 s.1 in
           subst (λ (n : ℕ). n < MOST_CALLERS) (sym of.fresh.number_is ∙ ap (λ (y : Place). y.number) s.2) (may.below i of.of of.here);
       once = λ i k y z at to same.
-          let q = map_from (socket_of p) x.ports.items i y at in
-          let r = map_from (socket_of p) x.ports.items k z to in
+          let q = map_from (root_port p) x.ports.items i y at in
+          let r = map_from (root_port p) x.ports.items k z to in
           may.once i k z.root
-          (map_at (λ (w : ℕ × P). w.0) x.ports.items i q.0 q.1 ∙ ap (λ (j : ℕ). Some j) (ap (λ (w : Socket). w.root) q.2 ∙ same))
-          (map_at (λ (w : ℕ × P). w.0) x.ports.items k r.0 r.1 ∙ ap (λ (j : ℕ). Some j) (ap (λ (w : Socket). w.root) r.2));
+          (map_at (λ (w : ℕ × P). w.0) x.ports.items i q.0 q.1 ∙ ap (λ (j : ℕ). Some j) (ap (λ (w : RootPort). w.root) q.2 ∙ same))
+          (map_at (λ (w : ℕ × P). w.0) x.ports.items k r.0 r.1 ∙ ap (λ (j : ℕ). Some j) (ap (λ (w : RootPort). w.root) r.2));
       counted = length-map scripts (λ (z : ℕ × S). c.left z.1 []) ∙ length-map seats (script_of c) ∙ sym (length-map seats (place_of c b));
       none_held = refl;
       depths = depths;
@@ -219,11 +219,11 @@ module _ {P C S : Type 0} (p : PortGhosts P) (c : CallerGhosts C S) (x : CorePar
           let s = map_from (place_of c b) seats i q at in
           subst (λ (y : Place). SeatKept run y [] n) s.2 (seat-fresh i s.0 s.1 n owing);
       idle = λ k y at.
-          let q = map_from (socket_of p) x.ports.items k y at in
-          ap (λ (w : Socket). w.phase) (sym q.2) ∙ may.idle k q.0 q.1;
+          let q = map_from (root_port p) x.ports.items k y at in
+          ap (λ (w : RootPort). w.phase) (sym q.2) ∙ may.idle k q.0 q.1;
       worlds = λ tell k y at.
-          let q = map_from (socket_of p) x.ports.items k y at in
-          subst (λ (w : Socket). (w.world ≡ opening_world b w.root) × (w.log ≡ [])) q.2 (may.worlds tell k q.0 q.1);
+          let q = map_from (root_port p) x.ports.items k y at in
+          subst (λ (w : RootPort). (w.world ≡ opening_world b w.root) × (w.log ≡ [])) q.2 (may.worlds tell k q.0 q.1);
       room_left = (let room : x.journal.room ≡ limit = ap (λ (j : JournalView). j.room) blank in let low = few in omega (arith, room, low));
       bytes_left = (let room : x.journal.room_bytes ≡ 2 * limit = ap (λ (j : JournalView). j.room_bytes) blank in let low = few in omega (arith, room, low));
       most = (let most = may.most in let low = few in omega (arith, most, low));

@@ -15,7 +15,7 @@ use Rattle.ports.specs.declared.port.Port.{Ghosts as PortGhosts}
 use Rattle.bus_spec.specs.Grammar.{plain, walk_for}
 use Rattle.bus_spec.specs.Stepwise.{IsStepwise}
 use Rattle.bus_spec.specs.Walk.{Settle, Then, Ends}
-use Rattle.bus_message.specs.Ports.{sockets_of}
+use Rattle.bus_message.specs.Ports.{root_ports}
 use Rattle.core_laws.specs.Behind.{with_place, begun_with}
 use Rattle.core_laws.specs.Core.{Place, Run, Whole, CoreKept, IsLone}
 use Rattle.core_laws.specs.Steps.{next_of}
@@ -105,7 +105,7 @@ module _ {P C S : Type 0} (g : PortGhosts P) (c : CallerGhosts C S) (x : CorePar
     by-whole : (q : Place) → place_of c x.board.now t ≡ q → (ks : List LockId) (m : ℕ) → CoreKept run (record (with_place whole place q ks m) { past = settle ∷ whole.past; room = new.journal.room }) → IsKept g c new × HasStepped g c place x new
     by-whole q is ks m core = (
       kept-whole g c x kept place s here new t same_board seats refused.ended.number refused.ended.handed.script roots refused.seated _ core past refl refused.room_bytes (ap (set whole.places place) is) locks
-          (ap (λ (y : _). sockets_of g y.items) ports),
+          (ap (λ (y : _). root_ports g y.items) ports),
       stepped (λ tell. (record (with_place whole place q ks m) { past = settle ∷ whole.past; room = new.journal.room }, refl, core)),
     )
 

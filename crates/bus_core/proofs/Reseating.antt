@@ -23,7 +23,7 @@ use Rattle.core_laws.specs.Core.{IsLone}
 use Rattle.mux_plan.specs.declared.task.NextMsg.{NextMsg}
 use Rattle.mux_plan.specs.Plans.{is_call_through}
 use Rattle.core_laws.specs.Steps.{behind_of}
-use Rattle.mux_plan.specs.Plans.{CourseView, slots_of}
+use Rattle.mux_plan.specs.Plans.{RouteView, slots_of}
 use Rattle.seg_locks.specs.Locks.{LocksView}
 use Rattle.bus_core.specs.Kept.{IsSeated}
 use Rattle.bus_core.specs.Places.{walk_left, owed_by}
@@ -46,8 +46,8 @@ module _ {C : Type 0} (b : BoardView) (v : LocksView) (s m t : Seat C) where
       → m ≡ record s { sent = m.sent; written = m.written; replies = m.replies; cut = message_cut next.purpose next.part e } → t ≡ record m { walk = t.walk }
       → m.sent ≡ (if is_call_through next.purpose e then s.sent + 1 else s.sent) → m.replies ≡ record s.replies { got = got_heard next.purpose reading bytes s.replies.got }
       → m.written ≡ sum_by written_of (take m.sent m.transfer.msgs)
-      → walk_left b t ≡ behind_of v (walk_left b m) (Sent e bytes) → t.walk.course ≡ m.walk.course → HasHeard b v next reading bytes e s t
-  heard next reading bytes e counted went gone got wrote walk course =
+      → walk_left b t ≡ behind_of v (walk_left b m) (Sent e bytes) → t.walk.route ≡ m.walk.route → HasHeard b v next reading bytes e s t
+  heard next reading bytes e counted went gone got wrote walk route =
       subst (λ (x : Seat C). HasHeard b v next reading bytes e s x) (sym went)
       (record {
         gone = gone;
@@ -55,15 +55,15 @@ module _ {C : Type 0} (b : BoardView) (v : LocksView) (s m t : Seat C) where
         same = ap (λ (x : Seat C). record x { walk = t.walk }) counted;
         walk = ap (walk_left b) (sym went) ∙ walk ∙ ap (λ (x : Seat C). behind_of v (walk_left b x) (Sent e bytes)) counted;
         wrote = wrote;
-        course = course ∙ ap (λ (x : Seat C). x.walk.course) counted;
+        route = route ∙ ap (λ (x : Seat C). x.walk.route) counted;
       })
 
   -- it decides the reply, and goes on
   pub settled : (verdict : Option Errno) (d : Decided)
       → m ≡ record s { replies = m.replies; decided = Some d } → t ≡ record m { walk = t.walk; cut = cut_at.No }
       → reply_decided d m.replies ≡ reply_by verdict (Some s.transfer) s.replies.got
-      → walk_left b t ≡ behind_of v (walk_left b m) Passed → t.walk.course ≡ m.walk.course → HasSettled b v verdict s t
-  settled verdict d decides went replied walk course =
+      → walk_left b t ≡ behind_of v (walk_left b m) Passed → t.walk.route ≡ m.walk.route → HasSettled b v verdict s t
+  settled verdict d decides went replied walk route =
       let all : t ≡ record s { walk = t.walk; replies = m.replies; decided = Some d; cut = cut_at.No } =
       went ∙ ap (λ (x : Seat C). record x { walk = t.walk; cut = cut_at.No }) decides in
       subst (λ (x : Seat C). HasSettled b v verdict s x) (sym all)
@@ -72,7 +72,7 @@ module _ {C : Type 0} (b : BoardView) (v : LocksView) (s m t : Seat C) where
         owed = ap (λ (r : Reply). r ∷ []) replied;
         emptied = refl;
         walk = ap (walk_left b) (sym all) ∙ walk ∙ ap (λ (x : Seat C). behind_of v (walk_left b x) Passed) decides;
-        course = course ∙ ap (λ (x : Seat C). x.walk.course) decides;
+        route = route ∙ ap (λ (x : Seat C). x.walk.route) decides;
       })
 
 -- the entry of a settle, of a seat that has decided
@@ -85,11 +85,11 @@ module _ {C S : Type 0} (c : CallerGhosts C S) (b : BoardView) (v : LocksView) (
   seated_behind : (out : ActOutcome)
       → t ≡ record s { walk = t.walk; sent = t.sent; written = t.written; replies = t.replies; decided = t.decided; cut = t.cut }
       → t.written ≡ sum_by written_of (take t.sent t.transfer.msgs) → t.sent ≤ length t.transfer.msgs
-      → walk_left b t ≡ behind_of v (walk_left b s) out → t.walk.course ≡ s.walk.course → IsSeated c b roots t
-  seated_behind out same wrote within walk course =
+      → walk_left b t ≡ behind_of v (walk_left b s) out → t.walk.route ≡ s.walk.route → IsSeated c b roots t
+  seated_behind out same wrote within walk route =
       subst (λ (x : Seat C). x.written ≡ sum_by written_of (take x.sent x.transfer.msgs) → x.sent ≤ length x.transfer.msgs → IsSeated c b roots x) (sym same)
       (λ wrote within. record {
-        counted = seated.counted ∙ ap (λ (x : CourseView). x.count) (sym course);
+        counted = seated.counted ∙ ap (λ (x : RouteView). x.count) (sym route);
         wrote = wrote;
         within = within;
         plugged = λ on bus. seated.plugged (still_going (slots_of (seen_of v)) (walk_left b s) out (ap is_over (sym walk ∙ ap (walk_left b) same) ∙ on)) bus;
@@ -102,25 +102,25 @@ module _ {C S : Type 0} (c : CallerGhosts C S) (b : BoardView) (v : LocksView) (
 
   -- .. that counts none
   seated_same : (out : ActOutcome) → t ≡ record s { walk = t.walk; replies = t.replies; decided = t.decided; cut = t.cut }
-      → walk_left b t ≡ behind_of v (walk_left b s) out → t.walk.course ≡ s.walk.course → IsSeated c b roots t
-  seated_same out same walk course =
+      → walk_left b t ≡ behind_of v (walk_left b s) out → t.walk.route ≡ s.walk.route → IsSeated c b roots t
+  seated_same out same walk route =
       seated_behind out
       (subst (λ (x : Seat C). x ≡ record s { walk = x.walk; sent = x.sent; written = x.written; replies = x.replies; decided = x.decided; cut = x.cut }) (sym same) refl)
       (subst (λ (x : Seat C). x.written ≡ sum_by written_of (take x.sent x.transfer.msgs)) (sym same) seated.wrote)
       (subst (λ (x : Seat C). x.sent ≤ length x.transfer.msgs) (sym same) seated.within)
-      walk course
+      walk route
 
   pub seated_on : (out : ActOutcome) (cut : Cut) → WentOn b v out cut s t → IsSeated c b roots t
   seated_on out cut on =
       seated_same out
       (subst (λ (x : Seat C). x ≡ record s { walk = x.walk; replies = x.replies; decided = x.decided; cut = x.cut }) (sym on.same) refl)
-      on.walk on.course
+      on.walk on.route
 
   pub seated_settled : (verdict : Option Errno) → HasSettled b v verdict s t → IsSeated c b roots t
   seated_settled verdict on =
       seated_same Passed
       (subst (λ (x : Seat C). x ≡ record s { walk = x.walk; replies = x.replies; decided = x.decided; cut = x.cut }) (sym on.same) refl)
-      on.walk on.course
+      on.walk on.route
 
 module _ {C S : Type 0} (c : CallerGhosts C S) (b : BoardView) (v : LocksView) (roots : List ℕ) (s m t : Seat C) where
   -- what has ended the walk behind a step has ended it for the caller

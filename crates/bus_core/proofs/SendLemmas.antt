@@ -11,9 +11,9 @@ use Rattle.i2c_board.specs.contracts.accepted.Accepted as accepted
 use Rattle.mux_plan.specs.contracts.walk.Walk as walk
 use Rattle.mux_plan.specs.contracts.walk.Walk.TheInside as walk_inside
 use Rattle.mux_plan.specs.contracts.task.Task as task
-use Rattle.mux_plan.specs.contracts.course.Course as course
+use Rattle.mux_plan.specs.contracts.route.Route as route
 use Rattle.mux_plan.specs.contracts.stack.Stack as stack
-use Rattle.mux_plan.specs.contracts.parts.Parts as walk_parts
+use Rattle.mux_plan.specs.contracts.parts.WalkParts as walk_parts
 use Rattle.bus_journal.specs.contracts.journal.Journal as journal
 use Rattle.seg_locks.specs.contracts.locks.Locks as locks
 use Rattle.bus_core.specs.contracts.replies.Replies as replies
@@ -28,15 +28,15 @@ transfer-send = search (sendable, crosses) depth 60 fits 100000
 task-send : IsSend task.the_row
 task-send = search (sendable, crosses) depth 60 fits 100000
 
-course-send : IsSend course.the_row
-course-send = search (sendable, crosses) depth 60 fits 100000
+route-send : IsSend route.the_row
+route-send = search (sendable, crosses) depth 60 fits 100000
 
 stack-send : (T : RattleType) → IsSend T → IsSend (stack.the_row T)
 stack-send T sends = search (sendable, crosses) depth 60 fits 100000
 
 -- a struct without a model stands in another as the row of its fields
 walk_parts-send : IsSend walk_parts.the_field.row
-walk_parts-send = search (sendable, crosses, task-send, course-send, stack-send) depth 60 fits 100000
+walk_parts-send = search (sendable, crosses, task-send, route-send, stack-send) depth 60 fits 100000
 
 walk_inside-send : IsSend walk_inside.the_row
 walk_inside-send = search (sendable, crosses, walk_parts-send) depth 60 fits 100000

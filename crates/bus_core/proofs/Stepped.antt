@@ -10,8 +10,8 @@ use Rattle.bus_spec.specs.Legal.{is_stepping}
 use Rattle.bus_spec.specs.Readings.{caller_of}
 use Rattle.bus_spec.specs.Schedule.{is_settle}
 use Rattle.bus_spec.specs.Stepwise.{IsStepwise}
-use Rattle.bus_message.specs.Ports.{sockets_of}
-use Rattle.bus_message.specs.Ports.{Socket}
+use Rattle.bus_message.specs.Ports.{root_ports}
+use Rattle.bus_message.specs.Ports.{RootPort}
 use Rattle.core_laws.proofs.Core.{set_same}
 use Rattle.core_laws.proofs.Laws.{turn-two}
 use Rattle.bus_core.specs.Kept.{roots_of, asks_in, IsKept, HasStepped}
@@ -21,17 +21,17 @@ use Rattle.bus_core.proofs.Kept.{new-scripts}
 use Rattle.i2c_base.proofs.ListLemmas.{map_at}
 
 -- the roots of ports are those of what is told of them
-sockets-roots : {P : Type 0} (g : PortGhosts P) (ports : List (ℕ × P)) → map (λ (y : Socket). y.root) (sockets_of g ports) ≡ roots_of ports
+sockets-roots : {P : Type 0} (g : PortGhosts P) (ports : List (ℕ × P)) → map (λ (y : RootPort). y.root) (root_ports g ports) ≡ roots_of ports
 sockets-roots g [] = refl
 sockets-roots g (q ∷ qs) = ap (λ (rs : List ℕ). q.0 ∷ rs) (sockets-roots g qs)
 
 -- .. and stay over a step on one
-pub roots-stay : {P : Type 0} (g : PortGhosts P) (old new : List (ℕ × P)) (at : ℕ) (x y : Socket) → slice_get (sockets_of g old) at ≡ Some x → sockets_of g new ≡ set (sockets_of g old) at y → y.root ≡ x.root
+pub roots-stay : {P : Type 0} (g : PortGhosts P) (old new : List (ℕ × P)) (at : ℕ) (x y : RootPort) → slice_get (root_ports g old) at ≡ Some x → root_ports g new ≡ set (root_ports g old) at y → y.root ≡ x.root
     → roots_of new ≡ roots_of old
 roots-stay g old new at x y here is root =
-    sym (sockets-roots g new) ∙ ap (map (λ (z : Socket). z.root)) is ∙ map-set (λ (z : Socket). z.root) (sockets_of g old) at y
-    ∙ ap (set (map (λ (z : Socket). z.root) (sockets_of g old)) at) root
-    ∙ set_same (map (λ (z : Socket). z.root) (sockets_of g old)) at x.root (map_at (λ (z : Socket). z.root) (sockets_of g old) at x here)
+    sym (sockets-roots g new) ∙ ap (map (λ (z : RootPort). z.root)) is ∙ map-set (λ (z : RootPort). z.root) (root_ports g old) at y
+    ∙ ap (set (map (λ (z : RootPort). z.root) (root_ports g old)) at) root
+    ∙ set_same (map (λ (z : RootPort). z.root) (root_ports g old)) at x.root (map_at (λ (z : RootPort). z.root) (root_ports g old) at x here)
     ∙ sockets-roots g old
 
 module _ {P C S : Type 0} (g : PortGhosts P) (c : CallerGhosts C S) (x : CoreParts P C) (kept : IsKept g c x) (place : ℕ) (s : Seat C) (here : slice_get x.seats.items place ≡ Some s)

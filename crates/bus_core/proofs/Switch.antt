@@ -32,8 +32,8 @@ use Rattle.bus_laws.specs.Jobs.{IsJobOf}
 use Rattle.bus_laws.specs.Next.{HasLineIn}
 use Rattle.bus_laws.proofs.Laws.{next-line, quiet-next}
 use Rattle.bus_laws.proofs.past.Laws.{past-stands}
-use Rattle.bus_message.specs.Ports.{sockets_of, MayShift, Shifted}
-use Rattle.mux_plan.proofs.Dues.{tells-after, on-after}
+use Rattle.bus_message.specs.Ports.{root_ports, MayShift, Shifted}
+use Rattle.mux_plan.proofs.MuxUpdates.{tells-after, on-after}
 use Rattle.mux_plan.specs.Marks.{MayMark}
 use Rattle.mux_plan.specs.Plans.{SeenView, slots_of}
 use Rattle.seg_locks.specs.Locks.{LocksView}
@@ -41,7 +41,7 @@ use Rattle.core_laws.specs.Behind.{line_entry, switched}
 use Rattle.core_laws.specs.Core.{Place, Run, Whole, IsShifted, has_reply}
 use Rattle.core_laws.specs.Seats.{IsLeft, IsDecided}
 use Rattle.core_laws.specs.Spots.{seen_of, turned_to}
-use Rattle.bus_message.specs.Ports.{Socket}
+use Rattle.bus_message.specs.Ports.{RootPort}
 use Rattle.core_laws.specs.Wants.{WantsIn}
 use Rattle.core_laws.specs.Steps.{next_of, behind_of, AreMarked}
 use Rattle.core_laws.proofs.Core.{lone_act, locks-here, owes-here, not_over}
@@ -49,11 +49,11 @@ use Rattle.core_laws.proofs.Laws.{kept-after, length-applied_kept, stands-here, 
 use Rattle.bus_core.specs.Kept.{roots_of, IsSeated, run_of, whole_of, IsKept, HasStepped}
 use Rattle.bus_core.specs.Marks.{AreHeld, words_after}
 use Rattle.bus_core.specs.Places.{walk_left, place_of}
-use Rattle.bus_core.specs.Seats.{WentOn, MaySettle, IsSettledIn, dues_of, cut_of_line}
+use Rattle.bus_core.specs.Seats.{WentOn, MaySettle, IsSettledIn, updates_of, cut_of_line}
 use Rattle.bus_core.specs.declared.parts.CoreParts.{CoreParts}
 use Rattle.bus_core.specs.declared.seat.Seat.{Seat}
 use Rattle.bus_core.proofs.Kept.{fair, place-here, seated-here, kept-whole, stepped-one}
-use Rattle.bus_core.proofs.Converse.{port, length-applied, holds_mux, dues-held, switched-on, marks-on}
+use Rattle.bus_core.proofs.Converse.{port, length-applied, holds_mux, updates-held, switched-on, marks-on}
 use Rattle.bus_core.proofs.Heard.{went-on-place, went-on-seated, settle-first, settled-place, settled-seated}
 use Rattle.bus_core.proofs.Stepped.{roots-stay, stepped-two}
 use Rattle.i2c_base.specs.Need.{bytes_given}
@@ -110,7 +110,7 @@ module _ {P C S : Type 0} (g : PortGhosts P) (c : CallerGhosts C S) (x : CorePar
   job-of : IsJobOf x.board.now s.transfer job
   job-of = shift-root run whole kept.kept place p at job first
 
-  pub plug : (y : Socket) × (slice_get whole.sockets s.port ≡ Some y) × (y.root ≡ root_of x.board.now s.transfer.bus)
+  pub plug : (y : RootPort) × (slice_get whole.sockets s.port ≡ Some y) × (y.root ≡ root_of x.board.now s.transfer.bus)
   plug = port g c x kept place s here goes on-bus
 
   rooted : plug.0.root ≡ root_of x.board.now (job_bus job)
@@ -140,18 +140,18 @@ module _ {P C S : Type 0} (g : PortGhosts P) (c : CallerGhosts C S) (x : CorePar
   -- IT WAS DONE
   module _ (failed : Bool) where
     -- the marks that it changes may be written
-    pub line-dues-own : AreHeld x.locks s.number (dues_of x.board.now x.locks (Lined failed) s)
-    line-dues-own =
+    pub line-updates-own : AreHeld x.locks s.number (updates_of x.board.now x.locks (Lined failed) s)
+    line-updates-own =
         let own = locks-here run whole kept.kept place p at in
         let has = held-wants run whole kept.kept place p at own.0 own.1 in
         let sends = shift-wants run whole kept.kept place p at job first in
-        dues-held x.locks s.number (dues_of x.board.now x.locks (Lined failed) s)
+        updates-held x.locks s.number (updates_of x.board.now x.locks (Lined failed) s)
         (on-after (holds_mux x.locks s.number) (next_of x.locks p.tree) (first_note (seen (slots_of (seen_of x.locks)) p.tree)) (Lined failed)
         (subst (λ (o : Option Act). MayMark (holds_mux x.locks s.number) o (first_note (seen (slots_of (seen_of x.locks)) p.tree))) (sym first)
         (switched-on x.locks s.number own.0 has x.board.now job sends.own, marks-on x.locks s.number own.0 has x.board.now (first_note (seen (slots_of (seen_of x.locks)) p.tree)).marks sends.marked)))
 
     abbrev words : SeenView
-    words = words_after (dues_of x.board.now x.locks (Lined failed) s) (seen_of x.locks)
+    words = words_after (updates_of x.board.now x.locks (Lined failed) s) (seen_of x.locks)
 
     abbrev locks2 : LocksView
     locks2 = turned_to x.locks words
@@ -190,15 +190,15 @@ module _ {P C S : Type 0} (g : PortGhosts P) (c : CallerGhosts C S) (x : CorePar
           ];
         }
 
-        module _ (new : CoreParts P C) (same_board : new.board ≡ x.board) (locks : new.locks ≡ locks2) (old : Socket) (now : Socket) (port_here : slice_get (sockets_of g x.ports.items) s.port ≡ Some old)
-            (sockets : sockets_of g new.ports.items ≡ set (sockets_of g x.ports.items) s.port now) (shifted : Shifted g.tells (line_mux job) (line_level job) failed old now) (start : new.start ≡ x.start) (places : new.places ≡ x.places) where
+        module _ (new : CoreParts P C) (same_board : new.board ≡ x.board) (locks : new.locks ≡ locks2) (old : RootPort) (now : RootPort) (port_here : slice_get (root_ports g x.ports.items) s.port ≡ Some old)
+            (sockets : root_ports g new.ports.items ≡ set (root_ports g x.ports.items) s.port now) (shifted : Shifted g.tells (line_mux job) (line_level job) failed old now) (start : new.start ≡ x.start) (places : new.places ≡ x.places) where
           roots : roots_of new.ports.items ≡ roots_of x.ports.items
           roots = roots-stay g x.ports.items new.ports.items s.port old now port_here sockets shifted.root
 
           marked : AreMarked x.board.now p.tree x.locks (Lined failed) words
           marked = record {
-            all = length-applied (dues_of x.board.now x.locks (Lined failed) s) x.locks.marks ∙ kept.kept.table.marked;
-            counted = length-applied_kept (dues_of x.board.now x.locks (Lined failed) s) x.locks.kept ∙ kept.kept.table.kept;
+            all = length-applied (updates_of x.board.now x.locks (Lined failed) s) x.locks.marks ∙ kept.kept.table.marked;
+            counted = length-applied_kept (updates_of x.board.now x.locks (Lined failed) s) x.locks.kept ∙ kept.kept.table.kept;
             marked = λ y told. tells-after (next_of x.locks p.tree) (first_note (seen (slots_of (seen_of x.locks)) p.tree)) (Lined failed) y x.locks.marks told;
             kept = λ y told.
                 kept-after x.board.now (locks-here run whole kept.kept place p at).0 (next_of x.locks p.tree) (first_note (seen (slots_of (seen_of x.locks)) p.tree)) (Lined failed)
@@ -210,7 +210,7 @@ module _ {P C S : Type 0} (g : PortGhosts P) (c : CallerGhosts C S) (x : CorePar
           is-shifted = record {
             first = first;
             port = port_here;
-            rooted = (let same : old ≡ plug.0 = (let f : Some old ≡ Some plug.0 = sym port_here ∙ plug.1 in cc) in ap (λ (z : Socket). z.root) same ∙ rooted);
+            rooted = (let same : old ≡ plug.0 = (let f : Some old ≡ Some plug.0 = sym port_here ∙ plug.1 in cc) in ap (λ (z : RootPort). z.root) same ∙ rooted);
             root = shifted.root;
             idle = shifted.idle;
             shows = λ tell. (shifted.world tell, shifted.log tell);

@@ -13,7 +13,7 @@ use Rattle.i2c_spec.specs.World.{World}
 use Rattle.bus_laws.specs.Ready.{IsStuck}
 use Rattle.bus_spec.specs.Grammar.{first_act}
 use Rattle.bus_spec.specs.Past.{current}
-use Rattle.bus_message.specs.Ports.{socket_of}
+use Rattle.bus_message.specs.Ports.{root_port}
 use Rattle.core_laws.proofs.Laws.{finished-asks, free-ready, next-same}
 use Rattle.core_laws.specs.Steps.{next_of}
 use Rattle.bus_core.specs.Answers.{HasAdded, WaitsFor, HasUsedUp, IsLeast}
@@ -114,11 +114,11 @@ module _ {P C S : Type 0} (g : PortGhosts P) (c : CallerGhosts C S) (x : CorePar
         rests = told.rests;
         worlds = λ k r w at.
             let q = map_from (λ (p : ℕ × P). (p.0, g.world p.1)) x.ports.items k (r, w) at in
-            let its = told.ports_told k (socket_of g q.0) (map_at (socket_of g) x.ports.items k q.0 q.1) in
+            let its = told.ports_told k (root_port g q.0) (map_at (root_port g) x.ports.items k q.0 q.1) in
             sym (ap (λ (z : ℕ × World). z.1) q.2) ∙ its.world ∙ ap (λ (n : ℕ). (now_in c.asked state).worlds n) (ap (λ (z : ℕ × World). z.0) q.2);
         logs = λ k r log at.
             let q = map_from (λ (p : ℕ × P). (p.0, g.log p.1)) x.ports.items k (r, log) at in
-            let its = told.ports_told k (socket_of g q.0) (map_at (socket_of g) x.ports.items k q.0 q.1) in
+            let its = told.ports_told k (root_port g q.0) (map_at (root_port g) x.ports.items k q.0 q.1) in
             sym (ap (λ (z : ℕ × List PortCall). z.1) q.2) ∙ its.log ∙ ap (λ (n : ℕ). reverse ((now_in c.asked state).calls n)) (ap (λ (z : ℕ × List PortCall). z.0) q.2);
       }
 

@@ -15,7 +15,7 @@ use Rattle.bus_spec.specs.Grammar.{is_over}
 use Rattle.bus_spec.specs.Schedule.{Turn}
 use Rattle.bus_spec.specs.Walk.{Job, Act, Send, Shift, line_mux, line_level}
 use Rattle.bus_laws.specs.Coming.{IsTurn}
-use Rattle.bus_message.specs.Ports.{sockets_of}
+use Rattle.bus_message.specs.Ports.{root_ports}
 use Rattle.core_laws.specs.Core.{Run, Whole, CoreKept, IsLone}
 use Rattle.mux_plan.specs.declared.task.NextMsg.{NextMsg}
 use Rattle.core_laws.specs.Sends.{IsMessageOf}
@@ -32,7 +32,7 @@ roots_of ports = map (λ (p : ℕ × _). p.0) ports
 -- a seat: what its walk knows and its counts are those of its transfer; the port of its root is known while it is on a
 -- bus; a transfer on a bus that isn't there is refused; and its caller has room for the replies to come
 pub record IsSeated {C S : Type 0} (c : CallerGhosts C S) (b : BoardView) (roots : List ℕ) (s : Seat C) : Type 0 where
-  pub counted : length (messages_of s.transfer) ≡ s.walk.course.count
+  pub counted : length (messages_of s.transfer) ≡ s.walk.route.count
   pub wrote : s.written ≡ sum_by written_of (take s.sent s.transfer.msgs)
   pub within : s.sent ≤ length s.transfer.msgs
   pub plugged : is_over (walk_left b s) ≡ false → s.transfer.bus < buses b → slice_get roots s.port ≡ Some (root_of b s.transfer.bus)
@@ -60,7 +60,7 @@ whole_of p c x held owes =
       held = held;
       owes = owes;
       locks = x.locks;
-      sockets = sockets_of p x.ports.items;
+      sockets = root_ports p x.ports.items;
     }
 
 -- the whole: what never changes, what is kept of the plain lists, and what each seat keeps

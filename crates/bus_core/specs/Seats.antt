@@ -26,10 +26,10 @@ use Rattle.mux_plan.specs.declared.task.NextMsg.{NextMsg}
 use Rattle.bus_message.specs.Sends.{message_for, IsChipAddress}
 use Rattle.mux_plan.specs.Plans.{ends_with, is_call_through}
 use Rattle.core_laws.specs.Spots.{seen_of}
-use Rattle.bus_message.specs.Ports.{Socket}
+use Rattle.bus_message.specs.Ports.{RootPort}
 use Rattle.core_laws.specs.Steps.{GivesBytes, next_of, behind_of}
-use Rattle.mux_plan.specs.declared.marks.Due.{Due}
-use Rattle.mux_plan.specs.Marks.{dues_after}
+use Rattle.mux_plan.specs.declared.marks.MuxUpdate.{MuxUpdate}
+use Rattle.mux_plan.specs.Marks.{updates_after}
 use Rattle.mux_plan.specs.Plans.{slots_of}
 use Rattle.seg_locks.specs.Locks.{LocksView}
 use Rattle.bus_core.specs.Kept.{IsSeated}
@@ -44,11 +44,11 @@ use Rattle.i2c_base.specs.Need.{bytes_given}
 pub record WentOn {C : Type 0} (b : BoardView) (v : LocksView) (out : ActOutcome) (cut : Cut) (s t : Seat C) : Type 0 where
   pub same : t ≡ record s { walk = t.walk; cut = cut }
   pub walk : walk_left b t ≡ behind_of v (walk_left b s) out
-  pub course : t.walk.course ≡ s.walk.course
+  pub route : t.walk.route ≡ s.walk.route
 
 -- the marks that such a step changes
-abbrev pub dues_of : {C : Type 0} → BoardView → LocksView → ActOutcome → Seat C → List Due
-dues_of b v out s = dues_after (next_of v (walk_left b s)) (first_note (seen (slots_of (seen_of v)) (walk_left b s))) out
+abbrev pub updates_of : {C : Type 0} → BoardView → LocksView → ActOutcome → Seat C → List MuxUpdate
+updates_of b v out s = updates_after (next_of v (walk_left b s)) (first_note (seen (slots_of (seen_of v)) (walk_left b s))) out
 
 -- a reply was handed to its caller, which has room for it
 pub record IsHanded {C S : Type 0} (c : CallerGhosts C S) (r : Reply) (s t : Seat C) : Type 0 where
@@ -73,7 +73,7 @@ pub record HasEnded {C S : Type 0} (c : CallerGhosts C S) (b : BoardView) (r : R
 
 -- its walk knows how many messages its transfer has
 abbrev pub IsCounted : {C : Type 0} → Seat C → Type 0
-IsCounted s = length (messages_of s.transfer) ≡ s.walk.course.count
+IsCounted s = length (messages_of s.transfer) ≡ s.walk.route.count
 
 -- the reply that it was settled with may be handed over, and the next transfer loaded: each root that is asked for has a
 -- port
@@ -108,7 +108,7 @@ pub record HasHeard {C : Type 0} (b : BoardView) (v : LocksView) (next : NextMsg
   pub got : t.replies ≡ record s.replies { got = got_heard next.purpose reading bytes s.replies.got }
   pub walk : walk_left b t ≡ behind_of v (walk_left b s) (walk.Sent e bytes)
   pub wrote : t.written ≡ sum_by written_of (take t.sent t.transfer.msgs)
-  pub course : t.walk.course ≡ s.walk.course
+  pub route : t.walk.route ≡ s.walk.route
 
 -- its reply was settled, and it went on behind the settle
 pub record HasSettled {C : Type 0} (b : BoardView) (v : LocksView) (verdict : Option Errno) (s t : Seat C) : Type 0 where
@@ -116,7 +116,7 @@ pub record HasSettled {C : Type 0} (b : BoardView) (v : LocksView) (verdict : Op
   pub owed : owed_by t.decided t.replies ≡ reply_by verdict (Some s.transfer) s.replies.got ∷ []
   pub emptied : got_by t.decided t.replies ≡ []
   pub walk : walk_left b t ≡ behind_of v (walk_left b s) Passed
-  pub course : t.walk.course ≡ s.walk.course
+  pub route : t.walk.route ≡ s.walk.route
 
 -- the journal has room for the settle that comes next, if one does
 pub record MaySettle {C : Type 0} (b : BoardView) (v : LocksView) (journal : JournalView) (s : Seat C) : Type 0 where
@@ -153,8 +153,8 @@ abbrev pub cut_of_line : Bool → Cut
 cut_of_line failed = if failed then cut_at.Way else cut_at.No
 
 -- the message that comes next may be sent over the port of its root: one of the caller's own is left
-pub record MaySpeak {C : Type 0} (b : BoardView) (tells : Bool) (next : NextMsg) (sockets : List Socket) (s : Seat C) : Type 0 where
-  pub socket : Socket
+pub record MaySpeak {C : Type 0} (b : BoardView) (tells : Bool) (next : NextMsg) (sockets : List RootPort) (s : Seat C) : Type 0 where
+  pub socket : RootPort
   pub here : slice_get sockets s.port ≡ Some socket
   pub may : MaySend b tells s.transfer s.sent next socket
   pub on_bus : next.purpose ≡ purpose.Call → s.transfer.bus < buses b
@@ -162,9 +162,9 @@ pub record MaySpeak {C : Type 0} (b : BoardView) (tells : Bool) (next : NextMsg)
   pub wrote : s.written ≡ sum_by written_of (take s.sent s.transfer.msgs)
 
 -- it was sent there, and no other port is another
-pub record HasSpoken {C : Type 0} (b : BoardView) (tells : Bool) (next : NextMsg) (old new : List Socket) (bytes : List ℕ) (r : MsgResult) (s : Seat C) : Type 0 where
-  pub before : Socket
-  pub after : Socket
+pub record HasSpoken {C : Type 0} (b : BoardView) (tells : Bool) (next : NextMsg) (old new : List RootPort) (bytes : List ℕ) (r : MsgResult) (s : Seat C) : Type 0 where
+  pub before : RootPort
+  pub after : RootPort
   pub here : slice_get old s.port ≡ Some before
   pub set_is : new ≡ set old s.port after
   pub sent : NextSent b tells s.transfer s.sent next before after bytes r

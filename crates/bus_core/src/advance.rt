@@ -5,14 +5,14 @@ ghost use Rattle.bus_spec.specs.Walk.{Settle, Lined, Sent};
 ghost use Rattle.core_laws.specs.Steps.{next_of};
 ghost use Rattle.bus_core.specs.Kept.{roots_of};
 ghost use Rattle.bus_core.specs.Places.{walk_left};
-ghost use Rattle.bus_core.specs.Seats.{HasFreed, HasHeard, IsCounted, IsRefusedIn, IsSettledIn, MayEnd, MayHear, MayRefuse, MaySettle, WentOn, cut_of_line, dues_of};
+ghost use Rattle.bus_core.specs.Seats.{HasFreed, HasHeard, IsCounted, IsRefusedIn, IsSettledIn, MayEnd, MayHear, MayRefuse, MaySettle, WentOn, cut_of_line, updates_of};
 
 use crate::seat::Seat;
 use bus_journal::{EntryRef, Journal};
 use bus_message::MsgResult;
 use i2c_base::{Caller, Cut, Errno, SegId};
 use i2c_board::Accepted;
-use mux_plan::{Dues, NextMsg, Outcome};
+use mux_plan::{MuxUpdates, NextMsg, Outcome};
 use ports::Port;
 use seg_locks::Locks;
 
@@ -23,12 +23,12 @@ impl<C: Caller> Seat<C> {
         board: &Accepted,
         locks: &Locks,
         ports: &[(SegId, P)],
-        dues: &mut Dues,
+        updates: &mut MuxUpdates,
     )
         requires { MayEnd C.Caller board.now (roots_of ports.now) self.old }
         ensures { HasFreed C.Caller board.now locks.now (roots_of ports.now) self.old self.new }
     {
-        self.lock_done(board, locks, dues);
+        self.lock_done(board, locks, updates);
         self.end(board, ports);
     }
 
@@ -40,28 +40,34 @@ impl<C: Caller> Seat<C> {
         next: &NextMsg,
         msg: &MsgResult,
         bytes: &[u8],
-        dues: &mut Dues,
+        updates: &mut MuxUpdates,
     )
         requires { MayHear next.now msg.now.reading bytes.now msg.now.end self.old }
         ensures heard { HasHeard board.now locks.now next.now msg.now.reading bytes.now msg.now.end self.old self.new }
-        ensures dues { dues.new.items ≡ dues_of board.now locks.now (Sent msg.now.end bytes.now) self.old }
+        ensures updates { updates.new.items ≡ updates_of board.now locks.now (Sent msg.now.end bytes.now) self.old }
     {
         self.record_msg(next, msg, bytes);
         let outcome = Outcome::Sent {
             end: msg.end,
             bytes,
         };
-        self.advance_walk(board, locks, &outcome, dues);
+        self.advance_walk(board, locks, &outcome, updates);
     }
 
     /// .. behind a line step, which may have failed.
-    pub fn line_done(&mut self, board: &Accepted, locks: &Locks, failed: bool, dues: &mut Dues)
+    pub fn line_done(
+        &mut self,
+        board: &Accepted,
+        locks: &Locks,
+        failed: bool,
+        updates: &mut MuxUpdates,
+    )
         requires { IsCounted self.old }
         ensures went { WentOn board.now locks.now (Lined failed) (cut_of_line failed) self.old self.new }
-        ensures dues { dues.new.items ≡ dues_of board.now locks.now (Lined failed) self.old }
+        ensures updates { updates.new.items ≡ updates_of board.now locks.now (Lined failed) self.old }
     {
         self.cut = if failed { Cut::Way } else { Cut::No };
-        self.advance_walk(board, locks, &Outcome::Lined { failed }, dues);
+        self.advance_walk(board, locks, &Outcome::Lined { failed }, updates);
     }
 
     /// Makes the settle that comes next, with its entry; tells whether one does.
@@ -71,7 +77,7 @@ impl<C: Caller> Seat<C> {
         board: &Accepted,
         locks: &Locks,
         journal: &mut Journal,
-        dues: &mut Dues,
+        updates: &mut MuxUpdates,
     ) -> bool
         requires { MaySettle board.now locks.now journal.old self.old }
         ensures settled { result ≡ true → (verdict : Option Errno) × IsSettledIn board.now locks.now verdict journal.old journal.new self.old self.new }
@@ -83,7 +89,7 @@ impl<C: Caller> Seat<C> {
         };
         let decided = self.decide(verdict);
         journal.push(&EntryRef::settle(self.number, self.replies.reply(decided), self.cut));
-        self.lock_done(board, locks, dues);
+        self.lock_done(board, locks, updates);
         true
     }
 
@@ -94,7 +100,7 @@ impl<C: Caller> Seat<C> {
         locks: &Locks,
         ports: &[(SegId, P)],
         journal: &mut Journal,
-        dues: &mut Dues,
+        updates: &mut MuxUpdates,
         errno: Errno,
     )
         requires { MayRefuse C.Caller board.now (roots_of ports.now) errno journal.old self.old }
@@ -102,7 +108,7 @@ impl<C: Caller> Seat<C> {
     {
         let decided = self.decide(Some(errno));
         journal.push(&EntryRef::settle(self.number, self.replies.reply(decided), self.cut));
-        self.lock_done(board, locks, dues);
+        self.lock_done(board, locks, updates);
         self.end(board, ports);
     }
 }

@@ -13,7 +13,7 @@ use crate::seat::Seat;
 use bus_journal::Journal;
 use i2c_base::{ByteList, Caller, MOST_CALLERS, NoMemory, SegId};
 use i2c_board::{Accepted, Board};
-use mux_plan::Dues;
+use mux_plan::MuxUpdates;
 use ports::Port;
 use seg_locks::Locks;
 use std::alloc::Global;
@@ -108,7 +108,7 @@ pub fn open<'b, P: Port, C: Caller>(
         locks,
         journal,
         bytes: ByteList::new(),
-        dues: Dues::new(),
+        updates: MuxUpdates::new(),
         start,
     })
 }

@@ -3,7 +3,7 @@ use crate::seat::Seat;
 use bus_journal::Journal;
 use i2c_base::{ByteList, SegId};
 use i2c_board::Accepted;
-use mux_plan::Dues;
+use mux_plan::MuxUpdates;
 use seg_locks::Locks;
 use std::snapshot::Snapshot;
 
@@ -21,7 +21,7 @@ pub struct CoreParts<'b, P, C> {
     pub journal: Journal,
     /// The bytes of the message that was sent last, and the marks that it changed.
     pub bytes: ByteList,
-    pub dues: Dues,
+    pub updates: MuxUpdates,
     /// The ports as they were when the core was opened. It takes no room.
     pub start: Snapshot<Vec<(SegId, P)>>,
 }

@@ -26,14 +26,14 @@ ghost use Rattle.bus_core.specs.Kept.{IsSeated, roots_of};
 ghost use Rattle.bus_core.specs.Opening.{HasRoot};
 ghost use Rattle.bus_core.specs.Places.{HasSpare, asked_next, owed_by, walk_left};
 ghost use Rattle.bus_core.specs.Replies.{reply_decided};
-ghost use Rattle.bus_core.specs.Seats.{HasEnded, MayEnd, MayHear, dues_of, got_heard};
+ghost use Rattle.bus_core.specs.Seats.{HasEnded, MayEnd, MayHear, updates_of, got_heard};
 
 use crate::marks::seen as words_of;
 use crate::replies::{Decided, Replies};
 use bus_message::{MsgResult, TransferCursor};
 use i2c_base::{Caller, Cut, End, Errno, Grant, Kind, Purpose, Reply, SegId, Transfer};
 use i2c_board::Accepted;
-use mux_plan::{Action, Dues, NextMsg, Outcome, Walk};
+use mux_plan::{Action, MuxUpdates, NextMsg, Outcome, Walk};
 use ports::Port;
 use seg_locks::Locks;
 
@@ -92,7 +92,7 @@ impl<C: Caller> Seat<C> {
         ensures number { result.number ≡ number }
         ensures caller { result.caller ≡ caller }
         ensures over { (b : BoardView) → walk_left b result ≡ Ends }
-        ensures counted { length (messages_of result.transfer) ≡ result.walk.course.count }
+        ensures counted { length (messages_of result.transfer) ≡ result.walk.route.count }
         ensures fresh { (result.transfer.msgs ≡ []) × (result.sent ≡ 0) × (result.written ≡ 0) × (result.replies.got ≡ []) × (result.decided ≡ None) × (result.cut ≡ cut_at.No) }
     {
         Seat {
@@ -111,7 +111,7 @@ impl<C: Caller> Seat<C> {
 
     /// The next action of its walk, where the lock words answer its looks: Done exactly where the walk is over.
     pub fn next(&self, board: &Accepted, locks: &Locks) -> Action
-        requires { length (messages_of self.now.transfer) ≡ self.now.walk.course.count }
+        requires { length (messages_of self.now.transfer) ≡ self.now.walk.route.count }
         ensures first { result ≡ action_of (next_of locks.now (walk_left board.now self.now)) }
         ensures over { result ≡ action.Done → is_over (walk_left board.now self.now) ≡ true }
     {
@@ -132,26 +132,26 @@ impl<C: Caller> Seat<C> {
         board: &Accepted,
         locks: &Locks,
         outcome: &Outcome<'_>,
-        dues: &mut Dues,
+        updates: &mut MuxUpdates,
     )
-        requires { length (messages_of self.old.transfer) ≡ self.old.walk.course.count }
+        requires { length (messages_of self.old.transfer) ≡ self.old.walk.route.count }
         ensures walk { walk_left board.now self.new ≡ behind_of locks.now (walk_left board.now self.old) (outcome_of outcome.now) }
         ensures same { self.new ≡ record self.old { walk = self.new.walk } }
-        ensures course { self.new.walk.course ≡ self.old.walk.course }
-        ensures dues { dues.new.items ≡ dues_of board.now locks.now (outcome_of outcome.now) self.old }
+        ensures route { self.new.walk.route ≡ self.old.walk.route }
+        ensures updates { updates.new.items ≡ updates_of board.now locks.now (outcome_of outcome.now) self.old }
     {
         self.walk
-            .report(board.board(), &words_of(locks), outcome, dues);
+            .report(board.board(), &words_of(locks), outcome, updates);
     }
 
     /// Goes on in its walk behind a lock or a settle, which tell no cut.
-    pub fn lock_done(&mut self, board: &Accepted, locks: &Locks, dues: &mut Dues)
-        requires { length (messages_of self.old.transfer) ≡ self.old.walk.course.count }
+    pub fn lock_done(&mut self, board: &Accepted, locks: &Locks, updates: &mut MuxUpdates)
+        requires { length (messages_of self.old.transfer) ≡ self.old.walk.route.count }
         ensures walk { walk_left board.now self.new ≡ behind_of locks.now (walk_left board.now self.old) Passed }
         ensures same { self.new ≡ record self.old { walk = self.new.walk; cut = cut_at.No } }
-        ensures course { self.new.walk.course ≡ self.old.walk.course }
+        ensures route { self.new.walk.route ≡ self.old.walk.route }
     {
-        self.advance_walk(board, locks, &Outcome::Passed, dues);
+        self.advance_walk(board, locks, &Outcome::Passed, updates);
         self.cut = Cut::No;
     }
 
@@ -270,13 +270,13 @@ impl<C: Caller> Seat<C> {
     /// Loads the caller's next transfer, where it has one. Its walk is over before.
     pub fn load<P: Port>(&mut self, board: &Accepted, ports: &[(SegId, P)])
         requires over { is_over (walk_left board.now self.old) ≡ true }
-        requires counted { length (messages_of self.old.transfer) ≡ self.old.walk.course.count }
+        requires counted { length (messages_of self.old.transfer) ≡ self.old.walk.route.count }
         ensures some { (t : TransferView) → asked_next C.Caller self.old ≡ Some t → (self.new.transfer ≡ t) × (walk_left board.now self.new ≡ walk_for board.now t) }
         ensures none { asked_next C.Caller self.old ≡ None → is_over (walk_left board.now self.new) ≡ true }
         ensures stays { asked_next C.Caller self.old ≡ None → self.new.transfer ≡ self.old.transfer }
         ensures same { self.new ≡ record self.old { transfer = self.new.transfer; walk = self.new.walk; port = self.new.port; sent = 0; written = 0; replies = self.new.replies; decided = None } }
         ensures cleared { self.new.replies.got ≡ [] }
-        ensures counted { length (messages_of self.new.transfer) ≡ self.new.walk.course.count }
+        ensures counted { length (messages_of self.new.transfer) ≡ self.new.walk.route.count }
         ensures plugged { HasRoot (roots_of ports.now) (root_of board.now self.new.transfer.bus) → self.new.transfer.bus < buses board.now → is_over (walk_left board.now self.new) ≡ false
             → slice_get (roots_of ports.now) self.new.port ≡ Some (root_of board.now self.new.transfer.bus) }
     {

@@ -49,7 +49,7 @@ fn take<P: Port, C: Caller>(parts: &mut CoreParts<'_, P, C>, place: usize, lock:
     ensures { HasMadeStep P.Port C.Caller place parts.old parts.new }
 {
     let seat = &mut parts.seats[place];
-    seat.lock_done(parts.board, &parts.locks, &mut parts.dues);
+    seat.lock_done(parts.board, &parts.locks, &mut parts.updates);
     let caller = seat.number;
     parts.journal.push(&EntryRef {
         head: Head::Take {
@@ -72,7 +72,7 @@ fn free<P: Port, C: Caller>(parts: &mut CoreParts<'_, P, C>, place: usize, lock:
         parts.board,
         &parts.locks,
         parts.ports.as_slice(),
-        &mut parts.dues,
+        &mut parts.updates,
     );
     let caller = seat.number;
     parts.journal.push(&EntryRef {
@@ -109,14 +109,14 @@ fn send_and_record<P: Port, C: Caller>(
         next,
         &msg,
         bytes,
-        &mut parts.dues,
+        &mut parts.updates,
     );
-    set_marks(&mut parts.locks, seat.number, parts.dues.as_slice());
+    set_marks(&mut parts.locks, seat.number, parts.updates.as_slice());
     seat.settle(
         parts.board,
         &parts.locks,
         &mut parts.journal,
-        &mut parts.dues,
+        &mut parts.updates,
     );
 }
 
@@ -138,13 +138,13 @@ fn switch<P: Port, C: Caller>(parts: &mut CoreParts<'_, P, C>, place: usize, mux
         },
         bytes: &[],
     });
-    seat.line_done(parts.board, &parts.locks, failed, &mut parts.dues);
-    set_marks(&mut parts.locks, caller, parts.dues.as_slice());
+    seat.line_done(parts.board, &parts.locks, failed, &mut parts.updates);
+    set_marks(&mut parts.locks, caller, parts.updates.as_slice());
     seat.settle(
         parts.board,
         &parts.locks,
         &mut parts.journal,
-        &mut parts.dues,
+        &mut parts.updates,
     );
 }
 
@@ -161,7 +161,7 @@ fn refuse<P: Port, C: Caller>(parts: &mut CoreParts<'_, P, C>, place: usize, ver
             &parts.locks,
             parts.ports.as_slice(),
             &mut parts.journal,
-            &mut parts.dues,
+            &mut parts.updates,
             errno,
         );
     }

@@ -24,14 +24,14 @@ use Rattle.bus_spec.specs.Past.{cut_of}
 use Rattle.i2c_spec.specs.Messages.{MessageView, message_with, bytes_most}
 use Rattle.mux_plan.specs.Plans.{ends_with, is_call_through}
 use Rattle.mux_plan.specs.declared.task.NextMsg.{NextMsg}
-use Rattle.bus_message.specs.Ports.{Socket, Spoke, MessageSent, socket_of, sockets_of}
+use Rattle.bus_message.specs.Ports.{RootPort, Spoke, MessageSent, root_port, root_ports}
 use Rattle.bus_message.specs.Sends.{IsChipAddress, IsHeard, NextSent, call_message, control_message, device_of, hearer_of, message_for, wire_message}
 use Rattle.bus_message.specs.Talks.{Gives, TellsTalk}
 use Rattle.bus_message.specs.declared.message.MsgResult.{MsgResult}
 use Rattle.bus_message.proofs.PartwayLemmas.{nth_is}
 
 -- THE NEXT MESSAGE was sent, by what any message over a port leaves
-module _ (b : BoardView) (tells : Bool) (t : TransferView) (sent : ℕ) (next : NextMsg) (old new : Socket) (bytes : List ℕ) (r : MsgResult) where
+module _ (b : BoardView) (tells : Bool) (t : TransferView) (sent : ℕ) (next : NextMsg) (old new : RootPort) (bytes : List ℕ) (r : MsgResult) where
   abbrev last : Bool
   last = ends_with next.purpose next.part next.parts
 
@@ -89,14 +89,14 @@ module _ (b : BoardView) (tells : Bool) (t : TransferView) (sent : ℕ) (next : 
 
 -- the port at a place, which was read there
 module _ {P : Type 0} (p : PortGhosts P) (xs : List (ℕ × P)) (at : ℕ) (old : ℕ × P) (read : old ≡ get_or xs at old) where
-  pub socket-here : (x : Socket) → slice_get (sockets_of p xs) at ≡ Some x → slice_get (sockets_of p xs) at ≡ Some (socket_of p old)
+  pub socket-here : (x : RootPort) → slice_get (root_ports p xs) at ≡ Some x → slice_get (root_ports p xs) at ≡ Some (root_port p old)
   socket-here x is =
-      let low : at < length (sockets_of p xs) = slice_get_within (sockets_of p xs) at x is in
-      let same : length (sockets_of p xs) ≡ length xs = length-map xs (socket_of p) in
-      slice_get-map (socket_of p) xs at ∙ ap (option_map (socket_of p)) (slice_get-get_or xs at old (omega (arith, low, same)) ∙ ap Some (sym read))
+      let low : at < length (root_ports p xs) = slice_get_within (root_ports p xs) at x is in
+      let same : length (root_ports p xs) ≡ length xs = length-map xs (root_port p) in
+      slice_get-map (root_port p) xs at ∙ ap (option_map (root_port p)) (slice_get-get_or xs at old (omega (arith, low, same)) ∙ ap Some (sym read))
 
-  pub socket-is : (x : Socket) → slice_get (sockets_of p xs) at ≡ Some x → x ≡ socket_of p old
-  socket-is x is = let f : Some x ≡ Some (socket_of p old) = sym is ∙ socket-here x is in cc
+  pub socket-is : (x : RootPort) → slice_get (root_ports p xs) at ≡ Some x → x ≡ root_port p old
+  socket-is x is = let f : Some x ≡ Some (root_port p old) = sym is ∙ socket-here x is in cc
 
 -- what a read gives within the limit, it gives within a larger one
 gives_more : (m : MessageView) (limit more : ℕ) (bytes : List ℕ) → limit ≤ more → Gives limit m bytes → Gives more m bytes

@@ -20,18 +20,18 @@ use Rattle.bus_message.specs.Talks.{HasMoved, IsSendable, TellsTalk}
 use Rattle.bus_message.specs.declared.message.MsgResult.{MsgResult}
 
 -- a port by its root: what it has come to and what was called, the oldest first
-pub record Socket : Type 0 where
+pub record RootPort : Type 0 where
   pub root : ℕ
   pub world : World
   pub log : List PortCall
   pub phase : Phase
 
 -- .. what its ghost members tell of it
-abbrev pub socket_of : {P : Type 0} → PortGhosts P → ℕ × P → Socket
-socket_of p x = record { root = x.0; world = p.world x.1; log = p.log x.1; phase = p.phase x.1 }
+abbrev pub root_port : {P : Type 0} → PortGhosts P → ℕ × P → RootPort
+root_port p x = record { root = x.0; world = p.world x.1; log = p.log x.1; phase = p.phase x.1 }
 
-abbrev pub sockets_of : {P : Type 0} → PortGhosts P → List (ℕ × P) → List Socket
-sockets_of p xs = map (socket_of p) xs
+abbrev pub root_ports : {P : Type 0} → PortGhosts P → List (ℕ × P) → List RootPort
+root_ports p xs = map (root_port p) xs
 
 -- the log of a port that tells has room for so many calls more
 abbrev pub HasRoom : {P : Type 0} → PortGhosts P → P → ℕ → Type 0
@@ -45,7 +45,7 @@ pub record IsStarted {P : Type 0} (p : PortGhosts P) (limit : ℕ) (m : MessageV
 
 -- what any port keeps over a message of at most so many bytes: behind it another may start, and the port is idle
 -- unless it went through and isn't the last of its transfer
-pub record Spoke (tells last : Bool) (most : ℕ) (bytes : List ℕ) (e : End) (old new : Socket) : Type 0 where
+pub record Spoke (tells last : Bool) (most : ℕ) (bytes : List ℕ) (e : End) (old new : RootPort) : Type 0 where
   pub root : new.root ≡ old.root
   pub start : MayStart new.phase
   pub idle : (new.phase ≡ Idle) ⊎ ((last ≡ false) × (e ≡ end.Ok))
@@ -53,7 +53,7 @@ pub record Spoke (tells last : Bool) (most : ℕ) (bytes : List ℕ) (e : End) (
   pub few : length bytes ≤ most
 
 -- a message was sent on a port: what any port keeps, what one that tells shows, and who is told to have heard it
-pub record MessageSent (tells : Bool) (limit : ℕ) (m : MessageView) (hearer : Option Node) (last : Bool) (old new : Socket) (bytes : List ℕ) (r : MsgResult) : Type 0 where
+pub record MessageSent (tells : Bool) (limit : ℕ) (m : MessageView) (hearer : Option Node) (last : Bool) (old new : RootPort) (bytes : List ℕ) (r : MsgResult) : Type 0 where
   pub addr : r.addr ≡ m.addr
   pub reading : r.reading ≡ m.reading
   pub spoke : Spoke tells last (bytes_most limit m) bytes r.end old new
@@ -69,13 +69,13 @@ abbrev pub line_step : ℕ → ℕ → Bool → PortCall
 line_step mux level failed = if failed then call.Fault else call.Line mux level
 
 -- a line step may be done on a port
-pub record MayShift (tells : Bool) (mux level : ℕ) (x : Socket) : Type 0 where
+pub record MayShift (tells : Bool) (mux level : ℕ) (x : RootPort) : Type 0 where
   pub idle : x.phase ≡ Idle
   pub has : IsTrue tells → HasLine x.world mux level
   pub room : IsTrue tells → length x.log < MOST_CALLS
 
 -- a line step was done there
-pub record Shifted (tells : Bool) (mux level : ℕ) (failed : Bool) (old new : Socket) : Type 0 where
+pub record Shifted (tells : Bool) (mux level : ℕ) (failed : Bool) (old new : RootPort) : Type 0 where
   pub root : new.root ≡ old.root
   pub idle : new.phase ≡ Idle
   pub world : IsTrue tells → new.world ≡ after old.world (line_step mux level failed)

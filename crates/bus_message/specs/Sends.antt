@@ -23,7 +23,7 @@ use Rattle.bus_spec.specs.Past.{cut_of}
 use Rattle.bus_spec.specs.Legal.{start_failed}
 use Rattle.mux_plan.specs.Plans.{ends_with}
 use Rattle.mux_plan.specs.declared.task.NextMsg.{NextMsg}
-use Rattle.bus_message.specs.Ports.{Socket, Spoke}
+use Rattle.bus_message.specs.Ports.{RootPort, Spoke}
 use Rattle.bus_message.specs.Talks.{Gives, TellsTalk}
 use Rattle.bus_message.specs.declared.message.MsgResult.{MsgResult}
 
@@ -65,7 +65,7 @@ pub record IsHeard (b : BoardView) (t : TransferView) (why : Purpose) (m : Messa
   pub answered : start_failed e ≡ false → acked ≡ has_heard (answer w m.addr m.reading)
 
 -- a message was sent on the port of a root: its world and its log are new
-pub record HasSent (b : BoardView) (t : TransferView) (why : Purpose) (m : MessageView) (last : Bool) (old new : Socket) (bytes : List ℕ) (heard : Option Node) (e : End) : Type 0 where
+pub record HasSent (b : BoardView) (t : TransferView) (why : Purpose) (m : MessageView) (last : Bool) (old new : RootPort) (bytes : List ℕ) (heard : Option Node) (e : End) : Type 0 where
   pub root : new.root ≡ old.root
   pub said : TellsTalk (talk world_listener (block_limit b) old.world m last (cut_of e)) bytes e new.world old.log new.log
   pub hears : IsHeard b t why m old.world heard e
@@ -75,12 +75,12 @@ abbrev pub wire_message : TransferView → ℕ → NextMsg → ℕ → MessageVi
 wire_message t sent next addr = message_for t sent next.purpose next.control addr
 
 -- the next message of a walk may be sent on a port: its log has room, whichever address a control message goes to
-pub record MaySend (b : BoardView) (tells : Bool) (t : TransferView) (sent : ℕ) (next : NextMsg) (x : Socket) : Type 0 where
+pub record MaySend (b : BoardView) (tells : Bool) (t : TransferView) (sent : ℕ) (next : NextMsg) (x : RootPort) : Type 0 where
   pub start : MayStart x.phase
   pub room : (addr : ℕ) → IsTrue tells → length x.log + (bytes_most (block_limit b) (wire_message t sent next addr) + 2) ≤ MOST_CALLS
 
 -- the next message of a walk was sent on a port
-pub record NextSent (b : BoardView) (tells : Bool) (t : TransferView) (sent : ℕ) (next : NextMsg) (old new : Socket) (bytes : List ℕ) (r : MsgResult) : Type 0 where
+pub record NextSent (b : BoardView) (tells : Bool) (t : TransferView) (sent : ℕ) (next : NextMsg) (old new : RootPort) (bytes : List ℕ) (r : MsgResult) : Type 0 where
   pub addr : r.addr ≡ (wire_message t sent next r.addr).addr
   pub reading : r.reading ≡ (wire_message t sent next r.addr).reading
   pub chip : IsChipAddress b next.purpose r.addr

@@ -9,7 +9,7 @@ ghost use Rattle.i2c_base.specs.declared.event.Answer.{Answer};
 ghost use Rattle.i2c_spec.specs.Messages.{bytes_most};
 ghost use Rattle.i2c_spec.specs.World.{has_heard};
 ghost use Rattle.bus_spec.specs.Past.{cut_of};
-ghost use Rattle.bus_message.specs.Ports.{HasRoom, IsStarted, MessageSent, socket_of};
+ghost use Rattle.bus_message.specs.Ports.{HasRoom, IsStarted, MessageSent, root_port};
 ghost use Rattle.bus_message.specs.Talks.{HasFailed, HasMoved, IsSendable, MessageEnded, answered, counting, ending, getting, moving, over_limit, putting};
 
 use i2c_base::{Addr, Answer, ByteList, End, Node};
@@ -136,7 +136,7 @@ fn get_one_more<P: Port>(port: &mut P, got: &mut ByteList) -> End
 }
 
 // No block has this count: it is 0 or above the limit.
-fn is_over(count: u8, limit: u16) -> bool
+fn is_bad_count(count: u8, limit: u16) -> bool
     ensures test { result ≡ ((count == 0) || nat_lt limit count) }
     ensures within { result ≡ false → (1 ≤ count) × (count ≤ limit) }
 {
@@ -158,7 +158,7 @@ fn get_counted<P: Port>(port: &mut P, limit: u16, len: u16, last: bool, got: &mu
         Err(Failed) => End::Cut(1),
         Ok(count) => {
             got.push(count);
-            if is_over(count, limit) {
+            if is_bad_count(count, limit) {
                 get_one_more(port, got)
             } else {
                 get_all(port, 2, u16::from(count) + len - 1, last, got)
@@ -238,7 +238,7 @@ pub fn send_message<P: Port>(
     requires room { HasRoom P.Port port.old (bytes_most limit message.now + 2) }
 
     // Its calls, bytes and end are those of the conversation with the world, a failed call in its place.
-    ensures sent { (root : ℕ) → MessageSent P.tells limit message.now hearer last (socket_of P.Port (root, port.old)) (socket_of P.Port (root, port.new)) bytes.new result }
+    ensures sent { (root : ℕ) → MessageSent P.tells limit message.now hearer last (root_port P.Port (root, port.old)) (root_port P.Port (root, port.new)) bytes.new result }
 
     // Over any port: the place and cause of a failed call.
     ensures fails { HasFailed 0 (bytes_most limit message.now + 1) (P.faults port.old) (P.faults port.new) result.end }

@@ -7,7 +7,7 @@ ghost use Rattle.i2c_spec.specs.Flat.{block_limit};
 ghost use Rattle.i2c_spec.specs.Messages.{bytes_most};
 ghost use Rattle.i2c_spec.specs.Tree.{addr_of_mux};
 ghost use Rattle.bus_message.specs.Cursors.{HasNext};
-ghost use Rattle.bus_message.specs.Ports.{HasRoom, socket_of};
+ghost use Rattle.bus_message.specs.Ports.{HasRoom, root_port};
 ghost use Rattle.bus_message.specs.Sends.{MaySend, NextSent, control_message, device_of};
 
 use crate::cursor::TransferCursor;
@@ -49,7 +49,7 @@ fn send_control<P: Port>(
     requires control { next.now.purpose ≡ purpose.Control mux }
     requires start { MayStart (P.phase port.old) }
     requires room { (addr : ℕ) → HasRoom P.Port port.old (bytes_most (block_limit board.now) (control_message addr next.now.control) + 2) }
-    ensures { (t : TransferView) (sent root : ℕ) → NextSent board.now P.tells t sent next.now (socket_of P.Port (root, port.old)) (socket_of P.Port (root, port.new)) bytes.new result }
+    ensures { (t : TransferView) (sent root : ℕ) → NextSent board.now P.tells t sent next.now (root_port P.Port (root, port.old)) (root_port P.Port (root, port.new)) bytes.new result }
 {
     let limit = u16::from(board.board().limit());
     let addr = chip_addr(board.board(), mux);
@@ -89,8 +89,8 @@ pub fn send_next<P: Port>(
     bytes: &mut ByteList,
 ) -> MsgResult
     requires next { next.now.purpose ≡ purpose.Call → HasNext board.now cursor.now }
-    requires may { (root : ℕ) → MaySend board.now P.tells cursor.now.transfer cursor.now.sent next.now (socket_of P.Port (root, port.old)) }
-    ensures { (root : ℕ) → NextSent board.now P.tells cursor.now.transfer cursor.now.sent next.now (socket_of P.Port (root, port.old)) (socket_of P.Port (root, port.new)) bytes.new result }
+    requires may { (root : ℕ) → MaySend board.now P.tells cursor.now.transfer cursor.now.sent next.now (root_port P.Port (root, port.old)) }
+    ensures { (root : ℕ) → NextSent board.now P.tells cursor.now.transfer cursor.now.sent next.now (root_port P.Port (root, port.old)) (root_port P.Port (root, port.new)) bytes.new result }
 {
     match next.purpose {
         Purpose::Call => {

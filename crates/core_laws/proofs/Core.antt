@@ -15,14 +15,14 @@ use Rattle.bus_spec.specs.Grammar.{seen, is_over, first_act}
 use Rattle.bus_laws.specs.Holds.{HoldsLocks}
 use Rattle.seg_locks.specs.Locks.{LocksView}
 use Rattle.core_laws.specs.Spots.{seen_of, Spot, IsTold, AreNumbered, AreRooted}
-use Rattle.bus_message.specs.Ports.{Socket}
+use Rattle.bus_message.specs.Ports.{RootPort}
 use Rattle.core_laws.proofs.Steps.{set_here}
 use Rattle.core_laws.specs.Core.{Place, spot_of, numbers_of, trees_of, spots_of, pending, has_reply, IsLone, Run, Whole, StandsAt, IsGoing, SeatKept, CoreKept}
 use Rattle.core_laws.specs.Seats.{IsLeft}
 use Rattle.core_laws.specs.Steps.{next_of}
 use Rattle.mux_plan.specs.Plans.{slots_of}
 use Rattle.core_laws.specs.Owed.{total}
-use Rattle.core_laws.specs.Sockets.{SocketKept, HoldsAt}
+use Rattle.core_laws.specs.Ports.{PortKept, HoldsAt}
 use Rattle.core_laws.specs.Table.{AreDistinct, TableKept}
 use Rattle.core_laws.proofs.Owed.{total-set}
 use Rattle.i2c_base.proofs.ListLemmas.{map_from}
@@ -129,8 +129,8 @@ module _ (run : Run) (whole : Whole) (core : CoreKept run whole) where
   pub core-stepped : (place : ℕ) (p new : Place) → slice_get whole.places place ≡ Some p → new.number ≡ p.number → (n less entries : ℕ) → slice_get whole.owes place ≡ Some n → less + entries ≤ n
       → (ls : List LockId) → SeatKept run new ls less
       → (v2 : LocksView) → TableKept run.board v2 (numbers_of whole.places) (set whole.held place ls)
-      → (sockets2 : List Socket) → AreRooted sockets2
-      → ((k : ℕ) (y : Socket) → slice_get sockets2 k ≡ Some y → SocketKept run.board run.tells (total (set whole.owes place less)) (set (trees_of whole.places) place new.tree) y)
+      → (sockets2 : List RootPort) → AreRooted sockets2
+      → ((k : ℕ) (y : RootPort) → slice_get sockets2 k ≡ Some y → PortKept run.board run.tells (total (set whole.owes place less)) (set (trees_of whole.places) place new.tree) y)
       → (past2 : List Entry) → (IsTrue run.tells → IsTold run.board run.callers run.asks past2 (set (spots_of whole.places) place (spot_of new)) v2 sockets2 None)
       → (room2 : ℕ) → whole.room ≡ room2 + entries → (spent : ℕ) → 2 * less + length new.got + spent ≤ 2 * n + length p.got → (room_bytes2 : ℕ) → whole.room_bytes ≡ room_bytes2 + spent
       → CoreKept run (record whole { past = past2; places = set whole.places place new; held = set whole.held place ls; owes = set whole.owes place less; locks = v2; sockets = sockets2; room = room2; room_bytes = room_bytes2 })
@@ -146,7 +146,7 @@ module _ (run : Run) (whole : Whole) (core : CoreKept run whole) where
         counted = length-set whole.owes place less ∙ core.counted ∙ sym (length-set whole.places place new);
         seats = λ i q ks m at. seats i q ks m at.here at.holding at.owing;
         table = subst (λ (ns : List ℕ). TableKept run.board v2 ns (set whole.held place ls)) (sym numbers) table;
-        sockets_kept = λ k y at. subst (λ (ts : List WalkTree). SocketKept run.board run.tells (total (set whole.owes place less)) ts y) (sym (map-set (λ (s : Place). s.tree) whole.places place new)) (ports k y at);
+        sockets_kept = λ k y at. subst (λ (ts : List WalkTree). PortKept run.board run.tells (total (set whole.owes place less)) ts y) (sym (map-set (λ (s : Place). s.tree) whole.places place new)) (ports k y at);
         room_left = (let was : total whole.owes ≤ whole.room = core.room_left in omega (arith, sums, falls, was, rooms));
         bytes_left = (let was : 2 * total whole.owes + pending whole.places ≤ whole.room_bytes = core.bytes_left in omega (arith, sums, gots, weighs, was, rooms_bytes));
         told = λ tell. subst (λ (ss : List Spot). IsTold run.board run.callers run.asks past2 ss v2 sockets2 None) (sym (map-set spot_of whole.places place new)) (told tell);

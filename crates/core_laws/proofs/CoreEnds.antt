@@ -27,7 +27,7 @@ use Rattle.core_laws.specs.Table.{TableKept}
 use Rattle.core_laws.proofs.Looks.{looks-same}
 use Rattle.core_laws.proofs.Core.{are-numbered, core-stepped, set_same, going-on, spot-here, tree-here, number-here}
 use Rattle.core_laws.proofs.Holding.{holds-freed}
-use Rattle.core_laws.proofs.Sockets.{sockets-still}
+use Rattle.core_laws.proofs.Ports.{sockets-still}
 use Rattle.core_laws.proofs.Table.{free-table, lock-there}
 use Rattle.bus_spec.specs.Past.{begun}
 use Rattle.core_laws.proofs.Steps.{told-end, told-lone}

@@ -16,12 +16,12 @@ use Rattle.bus_spec.specs.Grammar.{seen, is_over, first_note, rest_of}
 use Rattle.mux_plan.specs.Plans.{SeenView, slots_of}
 use Rattle.bus_laws.specs.Holds.{HoldsLocks, SendsIn}
 use Rattle.core_laws.specs.Spots.{turned_to, seen_of}
-use Rattle.bus_message.specs.Ports.{Socket}
+use Rattle.bus_message.specs.Ports.{RootPort}
 use Rattle.core_laws.specs.Behind.{with_place, line_entry, switched, settled_with}
 use Rattle.core_laws.specs.Core.{Place, spot_of, numbers_of, trees_of, spots_of, has_reply, IsGoing, SeatKept, CoreKept, Run, IsFairRun, Whole, StandsAt, IsShifted}
 use Rattle.core_laws.specs.Owed.{OwesUpTo, total}
 use Rattle.core_laws.specs.Seats.{IsLeft, IsDecided}
-use Rattle.core_laws.specs.Sockets.{SocketKept}
+use Rattle.core_laws.specs.Ports.{PortKept}
 use Rattle.core_laws.specs.Steps.{behind_of}
 use Rattle.core_laws.specs.Table.{TableKept}
 use Rattle.core_laws.proofs.Looks.{looks-same}
@@ -29,7 +29,7 @@ use Rattle.core_laws.proofs.Core.{are-numbered, core-stepped, set_same, going-on
 use Rattle.core_laws.proofs.Holding.{holder-goes}
 use Rattle.core_laws.proofs.Seats.{seat-behind, seat-settled, settled-goes, settled-pays}
 use Rattle.core_laws.proofs.Owed.{owes-step, total-set}
-use Rattle.core_laws.proofs.Sockets.{sockets-spoken}
+use Rattle.core_laws.proofs.Ports.{sockets-spoken}
 use Rattle.core_laws.proofs.Turns.{rooted-kept}
 use Rattle.std.proofs.Common.{length-append}
 use Rattle.bus_spec.specs.Readings.{cut_told}
@@ -47,7 +47,7 @@ module _ (run : Run) (fair : IsFairRun run) (whole : Whole) (core : CoreKept run
   seat = core.seats place p ls n stands
 
   -- A LINE STEP
-  module _ (job : Job) (at : ℕ) (old new : Socket) (failed : Bool) (words : SeenView) (shifted : IsShifted run whole p job at old new failed words) where
+  module _ (job : Job) (at : ℕ) (old new : RootPort) (failed : Bool) (words : SeenView) (shifted : IsShifted run whole p job at old new failed words) where
     line_no_settle : (verdict : Option Errno) → Shift job ≡ Settle verdict → ⊥
     line_no_settle verdict is = (let f : Shift job ≡ Settle verdict = is in cc)
 
@@ -83,7 +83,7 @@ module _ (run : Run) (fair : IsFairRun run) (whole : Whole) (core : CoreKept run
     pays : (1 ≤ n) × OwesUpTo run.board behind (not (has_reply p.owed)) (run.left p.number p.taken - cost_of run.board p.transfer) (n - 1)
     pays = owes-step run.board p.tree (not (has_reply p.owed)) (run.left p.number p.taken - cost_of run.board p.transfer) n its.owes (slots_of (seen_of whole.locks)) (Shift job) shifted.first (Lined failed)
 
-    ports : (less : ℕ) → less + 1 ≤ n → (w : WalkTree) → (k : ℕ) (y : Socket) → slice_get (set whole.sockets at new) k ≡ Some y → SocketKept run.board run.tells (total (set whole.owes place less)) (set (trees_of whole.places) place w) y
+    ports : (less : ℕ) → less + 1 ≤ n → (w : WalkTree) → (k : ℕ) (y : RootPort) → slice_get (set whole.sockets at new) k ≡ Some y → PortKept run.board run.tells (total (set whole.owes place less)) (set (trees_of whole.places) place w) y
     ports less low w =
         let sums : total (set whole.owes place less) + n ≡ total whole.owes + less = total-set whole.owes place n less stands.owing in
         sockets-spoken run.board run.tells (trees_of whole.places) place p.tree w (tree-here run whole core place p stands.here) whole.sockets core.once (total whole.owes) (total (set whole.owes place less)) 1 (omega (arith, sums, low)) core.sockets_kept (slots_of (seen_of whole.locks)) (Shift job) shifted.first at old new shifted.port shifted.root

@@ -28,14 +28,14 @@ use Rattle.mux_plan.specs.Plans.{SeenView, slots_of}
 use Rattle.bus_laws.specs.Holds.{HoldsLocks, SendsIn, IsLockOf}
 use Rattle.seg_locks.specs.Locks.{holder_in, with_holder}
 use Rattle.core_laws.specs.Spots.{turned_to, seen_of}
-use Rattle.bus_message.specs.Ports.{Socket}
+use Rattle.bus_message.specs.Ports.{RootPort}
 use Rattle.core_laws.proofs.Steps.{told-take, told-free}
 use Rattle.core_laws.specs.Behind.{with_place, passed, message_entry, spoken, settled_with}
 use Rattle.core_laws.specs.Core.{Place, spot_of, numbers_of, trees_of, spots_of, has_reply, IsGoing, SeatKept, CoreKept, Run, IsFairRun, Whole, StandsAt, IsSent}
 use Rattle.core_laws.specs.Owed.{OwesUpTo, total, message_most}
 use Rattle.core_laws.specs.Seats.{IsLeft, IsDecided}
 use Rattle.mux_plan.specs.declared.task.NextMsg.{NextMsg}
-use Rattle.core_laws.specs.Sockets.{IsInside, SocketKept}
+use Rattle.core_laws.specs.Ports.{IsInside, PortKept}
 use Rattle.core_laws.specs.Steps.{next_of, behind_of, IsSaid}
 use Rattle.core_laws.specs.Table.{TableKept}
 use Rattle.core_laws.proofs.Looks.{looks-same}
@@ -46,7 +46,7 @@ use Rattle.core_laws.proofs.ToldSteps.{message-keeps, message-settles}
 use Rattle.core_laws.proofs.Marked.{said-table}
 use Rattle.core_laws.proofs.Seats.{seat-behind, seat-settled, settled-goes, settled-pays}
 use Rattle.core_laws.proofs.Owed.{owes-step, total-set}
-use Rattle.core_laws.proofs.Sockets.{sockets-still, sockets-spoken, inside-behind}
+use Rattle.core_laws.proofs.Ports.{sockets-still, sockets-spoken, inside-behind}
 use Rattle.core_laws.proofs.Table.{take-table, free-table, lock-there}
 use Rattle.core_laws.proofs.WalkSteps.{call-is, left-taken, left-freed}
 use Rattle.core_laws.proofs.Turns.{rooted-kept}
@@ -73,7 +73,7 @@ module _ (run : Run) (fair : IsFairRun run) (whole : Whole) (core : CoreKept run
   seat = core.seats place p ls n stands
 
   -- A MESSAGE
-  module _ (job : Job) (more : ℕ) (next : NextMsg) (at : ℕ) (old new : Socket) (addr : ℕ) (reading : Bool) (bytes : List ℕ) (heard : Option Node) (e : End) (words : SeenView)
+  module _ (job : Job) (more : ℕ) (next : NextMsg) (at : ℕ) (old new : RootPort) (addr : ℕ) (reading : Bool) (bytes : List ℕ) (heard : Option Node) (e : End) (words : SeenView)
       (sent : IsSent run whole p job more next at old new addr reading bytes heard e words) (gone : ℕ) where
     abbrev pub behind : WalkTree
     behind = behind_of whole.locks p.tree (Sent e bytes)
@@ -121,7 +121,7 @@ module _ (run : Run) (fair : IsFairRun run) (whole : Whole) (core : CoreKept run
     pays = owes-step run.board p.tree (not (has_reply p.owed)) (run.left p.number p.taken - cost_of run.board p.transfer) n its.owes (slots_of (seen_of whole.locks)) (Send job more) sent.first (Sent e bytes)
 
     ports : (less : ℕ) → less + weight_at run.board (Send job more) ≤ n → (w : WalkTree) → (new.phase ≡ Idle) ⊎ IsInside run.board w new.root
-        → (k : ℕ) (y : Socket) → slice_get (set whole.sockets at new) k ≡ Some y → SocketKept run.board run.tells (total (set whole.owes place less)) (set (trees_of whole.places) place w) y
+        → (k : ℕ) (y : RootPort) → slice_get (set whole.sockets at new) k ≡ Some y → PortKept run.board run.tells (total (set whole.owes place less)) (set (trees_of whole.places) place w) y
     ports less low w free =
         sockets-spoken run.board run.tells (trees_of whole.places) place p.tree w (tree-here run whole core place p stands.here) whole.sockets core.once (total whole.owes) (total (set whole.owes place less)) (message_most run.board job more + 2)
         (calls-pay whole.owes place n less (message_most run.board job more) stands.owing low) core.sockets_kept (slots_of (seen_of whole.locks)) (Send job more) sent.first at old new sent.port sent.keeps.root

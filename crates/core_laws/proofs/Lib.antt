@@ -5,7 +5,7 @@ pub mod Table
 pub mod Holding
 pub mod WalkSteps
 pub mod Leaves
-pub mod Sockets
+pub mod Ports
 pub mod Owed
 pub mod Turns
 pub mod ToldSteps

@@ -18,8 +18,8 @@ use Rattle.bus_spec.specs.Grammar.{seen}
 use Rattle.bus_laws.specs.Holds.{IsMarkOn, OwnHeld, MarksHeld, AreApart, HoldsLocks}
 use Rattle.bus_laws.proofs.tree.Slots.{eqb-apart, changed-same, changed-other, set_marks-other}
 use Rattle.mux_plan.specs.Plans.{SeenView, mark_on, kept_of, slots_of, slots_after}
-use Rattle.mux_plan.specs.Marks.{marked, all_marked, last_open, dues_of_job, dues_after, applied_kept}
-use Rattle.mux_plan.specs.declared.marks.Due.{Due}
+use Rattle.mux_plan.specs.Marks.{marked, all_marked, last_open, updates_of_job, updates_after, applied_kept}
+use Rattle.mux_plan.specs.declared.marks.MuxUpdate.{MuxUpdate}
 use Rattle.mux_plan.proofs.Openings.{mark_slot}
 use Rattle.core_laws.specs.Spots.{TellsKept}
 use Rattle.core_laws.specs.Wants.{WantsIn}
@@ -80,7 +80,7 @@ module _ (b : BoardView) where
       → TellsKept b v kept → TellsKept b (turned v on mux s c) (set kept mux c)
   tells-one v kept on mux s c home fits told = tells-turn v v kept on mux s c home fits told refl
 
-  set-push : (ds : List Due) (d : Due) (kept : List (Option ℕ)) → applied_kept (ds ++ d ∷ []) kept ≡ set (applied_kept ds kept) d.mux d.channel
+  set-push : (ds : List MuxUpdate) (d : MuxUpdate) (kept : List (Option ℕ)) → applied_kept (ds ++ d ∷ []) kept ≡ set (applied_kept ds kept) d.mux d.channel
   set-push [] d kept = refl
   set-push (x ∷ xs) d kept = set-push xs d (set kept x.mux x.channel)
 
@@ -106,7 +106,7 @@ module _ (b : BoardView) where
     tells-through h zero bytes home low = tells-one v kept h.on h.mux Clean (Some h.channel) home (inr (there h.mux low)) told
     tells-through h (suc n) bytes home low = tells-one v kept h.on h.mux (polled_slot h n bytes) None home (inl refl) told
 
-    pub tells-job : (job : Job) (out : ActOutcome) → OwnHeld b job held → TellsKept b (after_job job left ms out v) (applied_kept (dues_of_job job left ms out) kept)
+    pub tells-job : (job : Job) (out : ActOutcome) → OwnHeld b job held → TellsKept b (after_job job left ms out v) (applied_kept (updates_of_job job left ms out) kept)
     tells-job (Call bus messages) out own = told
     tells-job (Select h) Passed own = told
     tells-job (Select h) (Sent end.Ok bytes) own = tells-through h left bytes own.1 own.2
@@ -127,9 +127,9 @@ module _ (b : BoardView) where
     tells-job (SwitchOff off) (Lined true) own = failed
     tells-job (SwitchOff off) (Lined false) own = tells-one v kept (off_bus off) (off_mux off) Clean None own.1 (inl refl) told
 
--- BEHIND A STEP, with its dues
+-- BEHIND A STEP, with its updates
 pub kept-after : (b : BoardView) (held : List LockId) (act : Option Act) (note : Note) (out : ActOutcome) → WantsIn b held act note → (v : Slots) (kept : List (Option ℕ)) → length kept ≡ length b.muxes
-    → TellsKept b v kept → TellsKept b (slots_after act note out v) (applied_kept (dues_after act note out) kept)
+    → TellsKept b v kept → TellsKept b (slots_after act note out v) (applied_kept (updates_after act note out) kept)
 kept-after b held None note out wants v kept counted told = told
 kept-after b held (Some (walk.Take l)) note out wants v kept counted told = told
 kept-after b held (Some (walk.Free l)) note out wants v kept counted told = told
@@ -137,6 +137,6 @@ kept-after b held (Some (walk.Send job left)) note out wants v kept counted told
 kept-after b held (Some (walk.Shift job)) note out wants v kept counted told = tells-job b held zero note.marks wants.marked wants.apart v kept counted told job out wants.own
 kept-after b held (Some (walk.Settle verdict)) note out wants v kept counted told = told
 
-pub length-applied_kept : (ds : List Due) (kept : List (Option ℕ)) → length (applied_kept ds kept) ≡ length kept
+pub length-applied_kept : (ds : List MuxUpdate) (kept : List (Option ℕ)) → length (applied_kept ds kept) ≡ length kept
 length-applied_kept [] kept = refl
 length-applied_kept (d ∷ ds) kept = length-applied_kept ds (set kept d.mux d.channel) ∙ length-set kept d.mux d.channel

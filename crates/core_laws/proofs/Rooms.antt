@@ -16,7 +16,7 @@ use Rattle.mux_plan.specs.Plans.{slots_of}
 use Rattle.core_laws.specs.Core.{Place, has_reply, pending, IsGoing, CoreKept, Run, Whole}
 use Rattle.core_laws.specs.Owed.{total, message_most}
 use Rattle.core_laws.specs.Spots.{seen_of}
-use Rattle.bus_message.specs.Ports.{Socket}
+use Rattle.bus_message.specs.Ports.{RootPort}
 use Rattle.core_laws.specs.Steps.{next_of}
 use Rattle.bus_laws.proofs.past.Bytes.{got-grows, given-few}
 use Rattle.core_laws.proofs.Core.{owes-here, pending-set, stands-here, going-on}
@@ -45,7 +45,7 @@ unsettled_one (r ∷ rs) e = absurd (let f : true ≡ false = e in cc)
 
 module _ (run : Run) (whole : Whole) (core : CoreKept run whole) where
   -- a message may start on each port
-  pub port-start : (at : ℕ) (old : Socket) → slice_get whole.sockets at ≡ Some old → MayStart old.phase
+  pub port-start : (at : ℕ) (old : RootPort) → slice_get whole.sockets at ≡ Some old → MayStart old.phase
   port-start at old port = (core.sockets_kept at old port).start
 
   module _ (place : ℕ) (p : Place) (here : slice_get whole.places place ≡ Some p) where
@@ -88,7 +88,7 @@ module _ (run : Run) (whole : Whole) (core : CoreKept run whole) where
         (let w : 1 + settle_due p.owed ≤ n = owes-next (Shift job) first in let one = unsettled_one p.owed unsettled in omega (arith, w, one, low, core.room_left))
 
     -- A LINE STEP finds room in the log of its port
-    pub log-line : (job : Job) → next_of whole.locks p.tree ≡ Some (Shift job) → IsTrue run.tells → (at : ℕ) (old : Socket) → slice_get whole.sockets at ≡ Some old → length old.log + 1 ≤ MOST_CALLS
+    pub log-line : (job : Job) → next_of whole.locks p.tree ≡ Some (Shift job) → IsTrue run.tells → (at : ℕ) (old : RootPort) → slice_get whole.sockets at ≡ Some old → length old.log + 1 ≤ MOST_CALLS
     log-line job first tell at old port =
         let w : 1 + settle_due p.owed ≤ n = owes-next (Shift job) first in
         let short : length old.log + 2 * total whole.owes ≤ MOST_CALLS = (core.sockets_kept at old port).short tell in
@@ -103,7 +103,7 @@ module _ (run : Run) (whole : Whole) (core : CoreKept run whole) where
       pub room-message : has_reply p.owed ≡ false → 2 ≤ whole.room
       room-message unsettled = (let one = unsettled_one p.owed unsettled in omega (arith, weighs, one, low, core.room_left))
 
-      pub log-message : IsTrue run.tells → (at : ℕ) (old : Socket) → slice_get whole.sockets at ≡ Some old → length old.log + (message_most run.board job more + 2) ≤ MOST_CALLS
+      pub log-message : IsTrue run.tells → (at : ℕ) (old : RootPort) → slice_get whole.sockets at ≡ Some old → length old.log + (message_most run.board job more + 2) ≤ MOST_CALLS
       log-message tell at old port =
           let short : length old.log + 2 * total whole.owes ≤ MOST_CALLS = (core.sockets_kept at old port).short tell in
           omega (arith, weighs, low, short)

@@ -39,8 +39,8 @@ use Rattle.bus_laws.proofs.past.Marks.{mark-there}
 use Rattle.bus_laws.proofs.past.Next.{call-reaches, control-switches}
 use Rattle.bus_laws.proofs.past.StandsStep.{at_same, at_other}
 use Rattle.seg_locks.specs.Locks.{LocksView}
-use Rattle.core_laws.specs.Spots.{seen_of, turned_to, TellsKept, Spot, SpotTold, SocketTold, IsTold, AreNumbered, AreRooted}
-use Rattle.bus_message.specs.Ports.{Socket}
+use Rattle.core_laws.specs.Spots.{seen_of, turned_to, TellsKept, Spot, SpotTold, PortTold, IsTold, AreNumbered, AreRooted}
+use Rattle.bus_message.specs.Ports.{RootPort}
 use Rattle.core_laws.proofs.Steps.{set_here, own-ahead, spots-kept}
 use Rattle.mux_plan.specs.declared.task.NextMsg.{NextMsg}
 use Rattle.core_laws.specs.Sends.{IsMessageOf}
@@ -63,14 +63,14 @@ quiet_due c (Then (Shift job) note next) h = refl
 quiet_due c (Then (Settle verdict) note next) h = absurd h
 
 -- THE PORTS where one of them has had calls: its socket is new, the others' are as they were
-pub sockets-said : (n m : Now) (sockets : List Socket) → AreRooted sockets → ((k : ℕ) (y : Socket) → slice_get sockets k ≡ Some y → SocketTold n y)
-    → (at : ℕ) (old new : Socket) → slice_get sockets at ≡ Some old → new.root ≡ old.root → (w : World) (calls : List PortCall)
+pub sockets-said : (n m : Now) (sockets : List RootPort) → AreRooted sockets → ((k : ℕ) (y : RootPort) → slice_get sockets k ≡ Some y → PortTold n y)
+    → (at : ℕ) (old new : RootPort) → slice_get sockets at ≡ Some old → new.root ≡ old.root → (w : World) (calls : List PortCall)
     → m.worlds ≡ changed_at n.worlds old.root w → m.calls ≡ changed_at n.calls old.root (calls ++ n.calls old.root)
     → new.world ≡ w → new.log ≡ old.log ++ reverse calls
-    → (k : ℕ) (y : Socket) → slice_get (set sockets at new) k ≡ Some y → SocketTold m y
+    → (k : ℕ) (y : RootPort) → slice_get (set sockets at new) k ≡ Some y → PortTold m y
 sockets-said n m sockets once told at old new here root w calls worlds_are calls_are world log k y is =
     elim (eqb_tells k at) [
-      | inl h ↦ subst (λ (z : Socket). SocketTold m z) (set_here sockets at new y (subst (λ (j : ℕ). slice_get (set sockets at new) j ≡ Some y) h.1 is))
+      | inl h ↦ subst (λ (z : RootPort). PortTold m z) (set_here sockets at new y (subst (λ (j : ℕ). slice_get (set sockets at new) j ≡ Some y) h.1 is))
           (record {
             world = world ∙ sym (ap (λ (f : ℕ → World). f new.root) worlds_are ∙ ap (λ (r : ℕ). changed_at n.worlds old.root w r) root ∙ at_same n.worlds old.root w);
             log = log ∙ ap (λ (l : List PortCall). l ++ reverse calls) (told at old here).log ∙ sym (reverse-append calls (n.calls old.root))
@@ -105,7 +105,7 @@ module _ (b : BoardView) (tree : IsTree b) (plain : IsPlainBoard b) (lines : Lin
               | inr h ↦ within h.1
             ]
 
-  module _ (past : List Entry) (spots : List Spot) (v : LocksView) (sockets : List Socket) (due : Option ℕ)
+  module _ (past : List Entry) (spots : List Spot) (v : LocksView) (sockets : List RootPort) (due : Option ℕ)
       (told : IsTold b callers asks past spots v sockets due) (numbered : AreNumbered callers spots) (place : ℕ) (x : Spot) (here : slice_get spots place ≡ Some x)
       (sees : seen (now b asks past).slot x.tree ≡ seen (slots_of (seen_of v)) x.tree) where
     abbrev n : Now
@@ -134,7 +134,7 @@ module _ (b : BoardView) (tree : IsTree b) (plain : IsPlainBoard b) (lines : Lin
     rest-is out w is = ap (λ (t : WalkTree). rest_of t out) current-is ∙ sym is
 
     -- A MESSAGE of a job was sent on the root of a socket
-    module _ (none : due ≡ None) (once : AreRooted sockets) (at : ℕ) (old new : Socket) (port_here : slice_get sockets at ≡ Some old)
+    module _ (none : due ≡ None) (once : AreRooted sockets) (at : ℕ) (old new : RootPort) (port_here : slice_get sockets at ≡ Some old)
         (job : Job) (left : ℕ) (first : first_act (seen (slots_of (seen_of v)) x.tree) ≡ Some (Send job left)) (next : NextMsg) (of : IsMessageOf job left next) (rooted : old.root ≡ root_of b (job_bus job))
         (t : TransferView) (gone : ℕ)
         (whose : (bus : ℕ) (ms : List MessageView) → job ≡ Call bus ms → (asks c (x.taken ++ x.owed) ≡ Some t) × (bus ≡ t.bus) × (ms ≡ messages_of t) × (gone + suc left ≡ length ms))
@@ -312,7 +312,7 @@ module _ (b : BoardView) (tree : IsTree b) (plain : IsPlainBoard b) (lines : Lin
         told-decided verdict settles = told-said (Some c) (ap (λ (a : Option Act). due_at c a) settles)
 
     -- A LINE STEP on the root of a socket
-    module _ (none : due ≡ None) (once : AreRooted sockets) (at : ℕ) (old new : Socket) (port_here : slice_get sockets at ≡ Some old)
+    module _ (none : due ≡ None) (once : AreRooted sockets) (at : ℕ) (old new : RootPort) (port_here : slice_get sockets at ≡ Some old)
         (job : Job) (first : first_act (seen (slots_of (seen_of v)) x.tree) ≡ Some (Shift job)) (rooted : old.root ≡ root_of b (job_bus job)) (failed : Bool)
         (same_root : new.root ≡ old.root) (world_now : new.world ≡ after old.world (line_call job failed)) (log_now : new.log ≡ old.log ++ line_call job failed ∷ []) where
       abbrev line_r : ℕ

@@ -30,13 +30,13 @@ use Rattle.core_laws.proofs.CoreSteps.{none_owed}
 use Rattle.core_laws.proofs.Leaves.{is_ok, message-leaves}
 use Rattle.core_laws.proofs.WalkSteps.{SettlesNext, call-is, ended-leaves, line-leaves}
 use Rattle.core_laws.specs.Spots.{seen_of}
-use Rattle.bus_message.specs.Ports.{Socket}
+use Rattle.bus_message.specs.Ports.{RootPort}
 use Rattle.i2c_base.specs.declared.ids.Node.{Node}
 use Rattle.bus_laws.proofs.past.Bytes.{reply-fits}
 
 module _ (run : Run) (whole : Whole) (core : CoreKept run whole)
     (place : ℕ) (p : Place) (here : slice_get whole.places place ≡ Some p)
-    (job : Job) (more : ℕ) (next : NextMsg) (at : ℕ) (old new : Socket) (addr : ℕ) (reading : Bool) (bytes : List ℕ) (heard : Option Node) (e : End) (words : SeenView)
+    (job : Job) (more : ℕ) (next : NextMsg) (at : ℕ) (old new : RootPort) (addr : ℕ) (reading : Bool) (bytes : List ℕ) (heard : Option Node) (e : End) (words : SeenView)
     (is_sent : IsSent run whole p job more next at old new addr reading bytes heard e words) where
   abbrev behind : WalkTree
   behind = behind_of whole.locks p.tree (Sent e bytes)

@@ -31,7 +31,7 @@ use Rattle.bus_laws.specs.Holds.{IsLockOf}
 use Rattle.bus_laws.proofs.past.Others.{others-stay}
 use Rattle.seg_locks.specs.Locks.{LocksView, holder_in, with_holder}
 use Rattle.core_laws.specs.Spots.{seen_of, Spot, SpotTold, LocksTold, IsTold, AreNumbered}
-use Rattle.bus_message.specs.Ports.{Socket}
+use Rattle.bus_message.specs.Ports.{RootPort}
 use Rattle.i2c_base.proofs.ListLemmas.{set_elsewhere}
 
 pub set_here : {X : Type 0} (xs : List X) (i : ℕ) (x y : X) → slice_get (set xs i x) i ≡ Some y → x ≡ y
@@ -93,7 +93,7 @@ locks-set b n m v told (lock.Mux p) is who holders slots =
     }
 
 -- THE STEPS
-module _ (b : BoardView) (tree : IsTree b) (plain : IsPlainBoard b) (lines : LinesAreLocked b) (asks : Asks) (some : AsksForMessages asks) (callers : ℕ) (past : List Entry) (spots : List Spot) (v : LocksView) (sockets : List Socket)
+module _ (b : BoardView) (tree : IsTree b) (plain : IsPlainBoard b) (lines : LinesAreLocked b) (asks : Asks) (some : AsksForMessages asks) (callers : ℕ) (past : List Entry) (spots : List Spot) (v : LocksView) (sockets : List RootPort)
     (told : IsTold b callers asks past spots v sockets None) (numbered : AreNumbered callers spots) (place : ℕ) (x : Spot) (here : slice_get spots place ≡ Some x)
     (sees : seen (now b asks past).slot x.tree ≡ seen (slots_of (seen_of v)) x.tree) where
   abbrev n : Now

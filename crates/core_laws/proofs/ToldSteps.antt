@@ -26,7 +26,7 @@ use Rattle.bus_laws.proofs.walk.Next.{seen-first}
 use Rattle.mux_plan.specs.Plans.{SeenView, slots_of, slots_after, TellsMarks}
 use Rattle.seg_locks.specs.Locks.{LocksView}
 use Rattle.core_laws.specs.Spots.{seen_of, turned_to, TellsKept, Spot, IsTold, AreNumbered, AreRooted}
-use Rattle.bus_message.specs.Ports.{Socket}
+use Rattle.bus_message.specs.Ports.{RootPort}
 use Rattle.mux_plan.specs.declared.task.NextMsg.{NextMsg}
 use Rattle.core_laws.specs.Steps.{next_of, behind_of, IsSaid, IsLined, AreMarked}
 use Rattle.core_laws.proofs.Said.{told-message, told-decided, told-line, told-line-decided, told-settle}
@@ -34,10 +34,10 @@ use Rattle.core_laws.proofs.Table.{set_at}
 use Rattle.std.proofs.lemmas.List.{set-set}
 use Rattle.core_laws.proofs.Turns.{numbered-kept}
 
-module _ (b : BoardView) (tree : IsTree b) (plain : IsPlainBoard b) (lines : LinesAreLocked b) (asks : Asks) (some : AsksForMessages asks) (callers : ℕ) (past : List Entry) (spots : List Spot) (v : LocksView) (sockets : List Socket)
+module _ (b : BoardView) (tree : IsTree b) (plain : IsPlainBoard b) (lines : LinesAreLocked b) (asks : Asks) (some : AsksForMessages asks) (callers : ℕ) (past : List Entry) (spots : List Spot) (v : LocksView) (sockets : List RootPort)
     (told : IsTold b callers asks past spots v sockets None) (numbered : AreNumbered callers spots) (once : AreRooted sockets) (place : ℕ) (x : Spot) (here : slice_get spots place ≡ Some x)
     (sees : seen (now b asks past).slot x.tree ≡ seen (slots_of (seen_of v)) x.tree)
-    (at : ℕ) (old new : Socket) (port : slice_get sockets at ≡ Some old) where
+    (at : ℕ) (old new : RootPort) (port : slice_get sockets at ≡ Some old) where
   marks_by : (act : Act) (out : ActOutcome) (words : SeenView) → next_of v x.tree ≡ Some act → AreMarked b x.tree v out words
       → (y : Slots) → TellsMarks y v.marks → TellsMarks (slots_after (Some act) (first_note (seen (slots_of (seen_of v)) x.tree)) out y) words.marks
   marks_by act out words first are y tells = subst (λ (a : Option Act). TellsMarks (slots_after a (first_note (seen (slots_of (seen_of v)) x.tree)) out y) words.marks) first (are.marked y tells)

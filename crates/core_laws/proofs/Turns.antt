@@ -14,7 +14,7 @@ use Rattle.bus_spec.specs.Schedule.{is_settle}
 use Rattle.bus_laws.specs.Others.{ahead}
 use Rattle.bus_laws.specs.Coming.{IsTurn}
 use Rattle.core_laws.specs.Spots.{Spot, AreNumbered, AreRooted}
-use Rattle.bus_message.specs.Ports.{Socket}
+use Rattle.bus_message.specs.Ports.{RootPort}
 use Rattle.core_laws.proofs.Steps.{set_here}
 use Rattle.i2c_base.proofs.ListLemmas.{set_elsewhere}
 
@@ -35,15 +35,15 @@ numbered-kept callers spots are place x new here same =
           are.once i k was.0 had.0 was.1 had.1 (was.2 ∙ e ∙ sym had.2));
     }
 
-socket-was : (sockets : List Socket) (place : ℕ) (x new : Socket) → slice_get sockets place ≡ Some x → new.root ≡ x.root
-    → (i : ℕ) (y : Socket) → slice_get (set sockets place new) i ≡ Some y → (z : Socket) × (slice_get sockets i ≡ Some z) × (z.root ≡ y.root)
+socket-was : (sockets : List RootPort) (place : ℕ) (x new : RootPort) → slice_get sockets place ≡ Some x → new.root ≡ x.root
+    → (i : ℕ) (y : RootPort) → slice_get (set sockets place new) i ≡ Some y → (z : RootPort) × (slice_get sockets i ≡ Some z) × (z.root ≡ y.root)
 socket-was sockets place x new here same i y at =
     elim (eqb_tells i place) [
-      | inl h ↦ (x, ap (slice_get sockets) h.1 ∙ here, sym same ∙ ap (λ (s : Socket). s.root) (set_here sockets place new y (subst (λ (k : ℕ). slice_get (set sockets place new) k ≡ Some y) h.1 at)))
+      | inl h ↦ (x, ap (slice_get sockets) h.1 ∙ here, sym same ∙ ap (λ (s : RootPort). s.root) (set_here sockets place new y (subst (λ (k : ℕ). slice_get (set sockets place new) k ≡ Some y) h.1 at)))
       | inr h ↦ (y, sym (set_elsewhere sockets place i new h.1) ∙ at, refl)
     ]
 
-pub rooted-kept : (sockets : List Socket) → AreRooted sockets → (place : ℕ) (x new : Socket) → slice_get sockets place ≡ Some x → new.root ≡ x.root → AreRooted (set sockets place new)
+pub rooted-kept : (sockets : List RootPort) → AreRooted sockets → (place : ℕ) (x new : RootPort) → slice_get sockets place ≡ Some x → new.root ≡ x.root → AreRooted (set sockets place new)
 rooted-kept sockets are place x new here same i k y z at also e =
     let was = socket-was sockets place x new here same i y at in
     let had = socket-was sockets place x new here same k z also in

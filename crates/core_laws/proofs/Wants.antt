@@ -26,7 +26,7 @@ use Rattle.bus_laws.specs.Runs.{InLocks, IsCall}
 use Rattle.seg_locks.specs.Locks.{LocksView, IsLockIn, IsBelowHeld, holder_in, rank_in}
 use Rattle.core_laws.specs.Core.{Place, numbers_of, has_reply, SeatKept, CoreKept, Run, Whole, trees_of}
 use Rattle.core_laws.specs.Spots.{seen_of}
-use Rattle.bus_message.specs.Ports.{Socket}
+use Rattle.bus_message.specs.Ports.{RootPort}
 use Rattle.core_laws.specs.Steps.{next_of}
 use Rattle.core_laws.specs.Table.{TableKept}
 use Rattle.core_laws.proofs.Core.{locks-here, number-here, owes-here, seat-here, stands-here, tree-here, holds-at, left-on}
@@ -35,7 +35,7 @@ use Rattle.core_laws.proofs.WalkSteps.{call-is}
 use Rattle.core_laws.proofs.Table.{below-all, lock-there}
 use Rattle.core_laws.specs.Owed.{total, message_most}
 use Rattle.i2c_base.specs.declared.port.Phase.TheVariants.{Idle}
-use Rattle.core_laws.proofs.Sockets.{line-idle}
+use Rattle.core_laws.proofs.Ports.{line-idle}
 
 -- a lock of the board has its word
 pub lock-in : (b : BoardView) (v : LocksView) (numbers : List ℕ) (held : List (List LockId)) → TableKept b v numbers held → (l : LockId) → IsLockOf b l → IsLockIn v l
@@ -78,7 +78,7 @@ module _ (run : Run) (whole : Whole) (core : CoreKept run whole)
       held-wants own.0 own.1 l (subst (λ (ks : List LockId). InLocks l ks) (sym frees.1) (inl refl))
 
   -- A LINE STEP THAT COMES NEXT finds its port idle
-  pub line-wants : (job : Job) → next_of whole.locks p.tree ≡ Some (Shift job) → (at : ℕ) (old : Socket) → slice_get whole.sockets at ≡ Some old → old.root ≡ root_of run.board (job_bus job) → old.phase ≡ Idle
+  pub line-wants : (job : Job) → next_of whole.locks p.tree ≡ Some (Shift job) → (at : ℕ) (old : RootPort) → slice_get whole.sockets at ≡ Some old → old.root ≡ root_of run.board (job_bus job) → old.phase ≡ Idle
   line-wants job first at old port rooted =
       line-idle run.board run.tells (total whole.owes) (trees_of whole.places) (numbers_of whole.places) whole.held whole.locks core.table core.distinct (holds-at run whole core)
       place p.tree (tree-here run whole core place p here) job first old rooted (core.sockets_kept at old port)

@@ -27,12 +27,12 @@ use Rattle.bus_laws.specs.Lines.{LinesAreLocked}
 use Rattle.bus_laws.specs.Reach.{AsksForMessages}
 use Rattle.seg_locks.specs.Locks.{LocksView}
 use Rattle.core_laws.specs.Spots.{Spot, IsTold, AreRooted}
-use Rattle.bus_message.specs.Ports.{Socket}
+use Rattle.bus_message.specs.Ports.{RootPort}
 use Rattle.core_laws.specs.Owed.{OwesUpTo, total}
 use Rattle.core_laws.specs.Seats.{IsLeft}
 use Rattle.mux_plan.specs.declared.task.NextMsg.{NextMsg}
 use Rattle.core_laws.specs.Sends.{IsMessageOf}
-use Rattle.core_laws.specs.Sockets.{SocketKept}
+use Rattle.core_laws.specs.Ports.{PortKept}
 use Rattle.core_laws.specs.Steps.{next_of, HasSaid, GivesBytes, KeepsPort, AreMarked}
 use Rattle.core_laws.specs.Table.{AreDistinct, TableKept}
 use Rattle.mux_plan.specs.Plans.{SeenView}
@@ -107,7 +107,7 @@ pub record Whole : Type 0 where
   pub held : List (List LockId)
   pub owes : List ℕ
   pub locks : LocksView
-  pub sockets : List Socket
+  pub sockets : List RootPort
 
 -- who stands at a place, the locks that it has, and what it owes
 pub record StandsAt (whole : Whole) (place : ℕ) (p : Place) (ls : List LockId) (n : ℕ) : Type 0 where
@@ -138,14 +138,14 @@ pub record CoreKept (run : Run) (whole : Whole) : Type 0 where
   pub counted : length whole.owes ≡ length whole.places
   pub seats : (i : ℕ) (p : Place) (ls : List LockId) (n : ℕ) → StandsAt whole i p ls n → SeatKept run p ls n
   pub table : TableKept run.board whole.locks (numbers_of whole.places) whole.held
-  pub sockets_kept : (k : ℕ) (y : Socket) → slice_get whole.sockets k ≡ Some y → SocketKept run.board run.tells (total whole.owes) (trees_of whole.places) y
+  pub sockets_kept : (k : ℕ) (y : RootPort) → slice_get whole.sockets k ≡ Some y → PortKept run.board run.tells (total whole.owes) (trees_of whole.places) y
   -- the journal has room for all entries that are owed, and for their bytes and those that were read
   pub room_left : total whole.owes ≤ whole.room
   pub bytes_left : 2 * total whole.owes + pending whole.places ≤ whole.room_bytes
   pub told : IsTrue run.tells → IsTold run.board run.callers run.asks whole.past (spots_of whole.places) whole.locks whole.sockets None
 
 -- a message comes next of a caller's walk, and was sent over the port at a place
-pub record IsSent (run : Run) (whole : Whole) (p : Place) (job : Job) (more : ℕ) (next : NextMsg) (at : ℕ) (old new : Socket)
+pub record IsSent (run : Run) (whole : Whole) (p : Place) (job : Job) (more : ℕ) (next : NextMsg) (at : ℕ) (old new : RootPort)
     (addr : ℕ) (reading : Bool) (bytes : List ℕ) (heard : Option Node) (e : End) (words : SeenView) : Type 0 where
   pub first : next_of whole.locks p.tree ≡ Some (Send job more)
   pub of : IsMessageOf job more next
@@ -156,7 +156,7 @@ pub record IsSent (run : Run) (whole : Whole) (p : Place) (job : Job) (more : �
   pub marked : AreMarked run.board p.tree whole.locks (Sent e bytes) words
 
 -- a line step comes next of it, and was done there
-pub record IsShifted (run : Run) (whole : Whole) (p : Place) (job : Job) (at : ℕ) (old new : Socket) (failed : Bool) (words : SeenView) : Type 0 where
+pub record IsShifted (run : Run) (whole : Whole) (p : Place) (job : Job) (at : ℕ) (old new : RootPort) (failed : Bool) (words : SeenView) : Type 0 where
   pub first : next_of whole.locks p.tree ≡ Some (Shift job)
   pub port : slice_get whole.sockets at ≡ Some old
   pub rooted : old.root ≡ root_of run.board (job_bus job)

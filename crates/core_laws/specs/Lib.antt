@@ -3,7 +3,7 @@ pub mod Spots
 pub mod Sends
 pub mod Table
 pub mod Seats
-pub mod Sockets
+pub mod Ports
 pub mod Owed
 pub mod Steps
 pub mod Core

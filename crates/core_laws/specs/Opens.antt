@@ -8,7 +8,7 @@ use Rattle.i2c_spec.specs.Tree.{buses, depth}
 use Rattle.i2c_spec.specs.World.{opening_world}
 use Rattle.bus_spec.specs.Past.{begun}
 use Rattle.seg_locks.specs.Locks.{opened}
-use Rattle.bus_message.specs.Ports.{Socket}
+use Rattle.bus_message.specs.Ports.{RootPort}
 use Rattle.core_laws.specs.Spots.{AreRooted}
 use Rattle.core_laws.specs.Core.{Place, numbers_of, Run, Whole, SeatKept}
 use Rattle.core_laws.specs.Owed.{total}
@@ -34,8 +34,8 @@ pub record IsOpened (run : Run) (whole : Whole) : Type 0 where
   pub fresh : (i : ℕ) (p : Place) → slice_get whole.places i ≡ Some p → (p.taken ≡ []) × (p.owed ≡ []) × (p.got ≡ []) × (p.cut ≡ cut_at.No)
   pub loads : (i : ℕ) (p : Place) → slice_get whole.places i ≡ Some p → p.tree ≡ begun run.board (run.asks p.number [])
   pub seats : (i : ℕ) (p : Place) (n : ℕ) → slice_get whole.places i ≡ Some p → slice_get whole.owes i ≡ Some n → SeatKept run p [] n
-  pub idle : (k : ℕ) (y : Socket) → slice_get whole.sockets k ≡ Some y → y.phase ≡ Idle
-  pub worlds : IsTrue run.tells → (k : ℕ) (y : Socket) → slice_get whole.sockets k ≡ Some y → (y.world ≡ opening_world run.board y.root) × (y.log ≡ [])
+  pub idle : (k : ℕ) (y : RootPort) → slice_get whole.sockets k ≡ Some y → y.phase ≡ Idle
+  pub worlds : IsTrue run.tells → (k : ℕ) (y : RootPort) → slice_get whole.sockets k ≡ Some y → (y.world ≡ opening_world run.board y.root) × (y.log ≡ [])
   pub room_left : total whole.owes ≤ whole.room
   pub bytes_left : 2 * total whole.owes ≤ whole.room_bytes
   pub most : 2 * total whole.owes ≤ MOST_CALLS

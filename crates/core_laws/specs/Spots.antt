@@ -14,7 +14,7 @@ use Rattle.bus_spec.specs.Stepwise.{IsStepwise}
 use Rattle.bus_laws.specs.Others.{CallerTold}
 use Rattle.bus_laws.specs.Holds.{IsLockOf}
 use Rattle.mux_plan.specs.Plans.{SeenView}
-use Rattle.bus_message.specs.Ports.{Socket}
+use Rattle.bus_message.specs.Ports.{RootPort}
 use Rattle.seg_locks.specs.Locks.{LocksView, holder_in}
 
 -- a caller: its number, what is left of its walk, its replies, those that it is still to be handed, what was read, and a cut
@@ -50,21 +50,21 @@ pub record LocksTold (b : BoardView) (n : Now) (v : LocksView) : Type 0 where
   pub kept : TellsKept b n.slot v.kept
 
 -- the journal tells the world and the calls of a port
-pub record SocketTold (n : Now) (x : Socket) : Type 0 where
+pub record PortTold (n : Now) (x : RootPort) : Type 0 where
   pub world : x.world ≡ n.worlds x.root
   pub log : x.log ≡ reverse (n.calls x.root)
 
 -- who settles next: nobody between two steps, the caller of a message that decides behind that message
-pub record IsTold (b : BoardView) (callers : ℕ) (asks : Asks) (past : List Entry) (spots : List Spot) (v : LocksView) (sockets : List Socket) (due : Option ℕ) : Type 0 where
+pub record IsTold (b : BoardView) (callers : ℕ) (asks : Asks) (past : List Entry) (spots : List Spot) (v : LocksView) (sockets : List RootPort) (due : Option ℕ) : Type 0 where
   pub stepwise : IsStepwise b callers asks past
   pub rests : (now b asks past).due ≡ due
   pub spots_told : (i : ℕ) (x : Spot) → slice_get spots i ≡ Some x → SpotTold b asks (now b asks past) x
   pub locks_told : LocksTold b (now b asks past) v
-  pub ports_told : (k : ℕ) (x : Socket) → slice_get sockets k ≡ Some x → SocketTold (now b asks past) x
+  pub ports_told : (k : ℕ) (x : RootPort) → slice_get sockets k ≡ Some x → PortTold (now b asks past) x
 
 -- no two ports have one root
-abbrev pub AreRooted : List Socket → Type 0
-AreRooted sockets = (i k : ℕ) (x y : Socket) → slice_get sockets i ≡ Some x → slice_get sockets k ≡ Some y → x.root ≡ y.root → i ≡ k
+abbrev pub AreRooted : List RootPort → Type 0
+AreRooted sockets = (i k : ℕ) (x y : RootPort) → slice_get sockets i ≡ Some x → slice_get sockets k ≡ Some y → x.root ≡ y.root → i ≡ k
 
 -- no two callers have one number, and each is below so many
 pub record AreNumbered (callers : ℕ) (spots : List Spot) : Type 0 where

@@ -19,7 +19,7 @@ use Rattle.bus_spec.specs.Past.{line_call}
 use Rattle.mux_plan.specs.Plans.{SeenView, slots_of, slots_after, TellsMarks}
 use Rattle.seg_locks.specs.Locks.{LocksView}
 use Rattle.core_laws.specs.Spots.{seen_of, TellsKept, Spot}
-use Rattle.bus_message.specs.Ports.{Socket}
+use Rattle.bus_message.specs.Ports.{RootPort}
 use Rattle.bus_message.specs.Talks.{Gives}
 use Rattle.core_laws.specs.Owed.{message_most}
 use Rattle.mux_plan.specs.declared.task.NextMsg.{NextMsg}
@@ -36,7 +36,7 @@ abbrev pub behind_of : LocksView → WalkTree → ActOutcome → WalkTree
 behind_of v w out = rest_of (seen (slots_of (seen_of v)) w) out
 
 -- the message of a job was sent on the root of this socket; the caller's own is one of this transfer, of which so many went through
-pub record IsSaid (b : BoardView) (asks : Asks) (x : Spot) (v : LocksView) (t : TransferView) (gone : ℕ) (job : Job) (left : ℕ) (next : NextMsg) (old new : Socket)
+pub record IsSaid (b : BoardView) (asks : Asks) (x : Spot) (v : LocksView) (t : TransferView) (gone : ℕ) (job : Job) (left : ℕ) (next : NextMsg) (old new : RootPort)
     (addr : ℕ) (reading : Bool) (bytes : List ℕ) (heard : Option Node) (e : End) : Type 0 where
   pub first : next_of v x.tree ≡ Some (Send job left)
   pub of : IsMessageOf job left next
@@ -48,7 +48,7 @@ pub record IsSaid (b : BoardView) (asks : Asks) (x : Spot) (v : LocksView) (t : 
   pub has : HasSent b t next.purpose (message_for t gone next.purpose next.control addr) (ends_with next.purpose next.part next.parts) old new bytes heard e
 
 -- a line step was done there
-pub record IsLined (b : BoardView) (x : Spot) (v : LocksView) (job : Job) (old new : Socket) (failed : Bool) : Type 0 where
+pub record IsLined (b : BoardView) (x : Spot) (v : LocksView) (job : Job) (old new : RootPort) (failed : Bool) : Type 0 where
   pub first : next_of v x.tree ≡ Some (Shift job)
   pub rooted : old.root ≡ root_of b (job_bus job)
   pub root : new.root ≡ old.root
@@ -63,7 +63,7 @@ pub record AreMarked (b : BoardView) (w : WalkTree) (v : LocksView) (out : ActOu
   pub kept : (y : Slots) → TellsKept b y v.kept → TellsKept b (slots_after (next_of v w) (first_note (seen (slots_of (seen_of v)) w)) out y) words.kept
 
 -- what ports that tell show of a message
-pub record HasSaid (b : BoardView) (t : TransferView) (gone : ℕ) (next : NextMsg) (old new : Socket) (addr : ℕ) (bytes : List ℕ) (heard : Option Node) (e : End) : Type 0 where
+pub record HasSaid (b : BoardView) (t : TransferView) (gone : ℕ) (next : NextMsg) (old new : RootPort) (addr : ℕ) (bytes : List ℕ) (heard : Option Node) (e : End) : Type 0 where
   pub to_addr : addr ≡ (message_for t gone next.purpose next.control addr).addr
   pub chip : IsChipAddress b next.purpose addr
   pub has : HasSent b t next.purpose (message_for t gone next.purpose next.control addr) (ends_with next.purpose next.part next.parts) old new bytes heard e
@@ -75,7 +75,7 @@ pub record GivesBytes (b : BoardView) (t : TransferView) (gone : ℕ) (next : Ne
 
 -- what every port keeps over a message: it is idle where that was the last of its transfer or didn't go through. The
 -- message moves no more bytes than it may
-pub record KeepsPort (b : BoardView) (tells : Bool) (job : Job) (left : ℕ) (bytes : List ℕ) (e : End) (old new : Socket) : Type 0 where
+pub record KeepsPort (b : BoardView) (tells : Bool) (job : Job) (left : ℕ) (bytes : List ℕ) (e : End) (old new : RootPort) : Type 0 where
   pub rooted : old.root ≡ root_of b (job_bus job)
   pub root : new.root ≡ old.root
   pub start : MayStart new.phase

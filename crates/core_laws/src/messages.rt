@@ -18,7 +18,7 @@ ghost use Rattle.core_laws.specs.Seats.{IsLeft, IsDecided};
 ghost use Rattle.mux_plan.specs.declared.task.NextMsg.{NextMsg};
 ghost use Rattle.core_laws.specs.Sends.{gone_after};
 ghost use Rattle.core_laws.specs.Spots.{turned_to};
-ghost use Rattle.bus_message.specs.Ports.{Socket};
+ghost use Rattle.bus_message.specs.Ports.{RootPort};
 ghost use Rattle.core_laws.specs.Steps.{behind_of};
 ghost use Rattle.i2c_base.specs.Need.{bytes_given};
 ghost use Rattle.mux_plan.specs.Plans.{SeenView};
@@ -26,7 +26,7 @@ ghost use Rattle.mux_plan.specs.Plans.{SeenView};
 /// What is kept stays so over a message, and over one that decides, with its settle behind it.
 pub fn the_whole_over_a_message()
     ensures quiet { (run : Run) → IsFairRun run → (whole : Whole) → CoreKept run whole → (place : ℕ) (p : Place) (ls : List LockId) (n : ℕ) → StandsAt whole place p ls n → (room room_bytes : ℕ)
-        → (job : Job) (more : ℕ) (next : NextMsg) (at : ℕ) (old new : Socket) (addr : ℕ) (reading : Bool) (bytes : List ℕ) (heard : Option Node) (e : End) (words : SeenView)
+        → (job : Job) (more : ℕ) (next : NextMsg) (at : ℕ) (old new : RootPort) (addr : ℕ) (reading : Bool) (bytes : List ℕ) (heard : Option Node) (e : End) (words : SeenView)
         → IsSent run whole p job more next at old new addr reading bytes heard e words → (gone : ℕ)
         → IsLeft run.board p.transfer (has_reply p.owed) gone (spoken whole p job next reading bytes e gone).tree
         → (p.owed ≡ [] → FitsReads (take gone p.transfer.msgs) (got_after job reading bytes p.got))
@@ -39,7 +39,7 @@ pub fn the_whole_over_a_message()
           room_bytes = room_bytes;
         }) }
     ensures settled { (run : Run) → IsFairRun run → (whole : Whole) → CoreKept run whole → (place : ℕ) (p : Place) (ls : List LockId) (n : ℕ) → StandsAt whole place p ls n → (room room_bytes : ℕ)
-        → (job : Job) (more : ℕ) (next : NextMsg) (at : ℕ) (old new : Socket) (addr : ℕ) (reading : Bool) (bytes : List ℕ) (heard : Option Node) (e : End) (words : SeenView)
+        → (job : Job) (more : ℕ) (next : NextMsg) (at : ℕ) (old new : RootPort) (addr : ℕ) (reading : Bool) (bytes : List ℕ) (heard : Option Node) (e : End) (words : SeenView)
         → IsSent run whole p job more next at old new addr reading bytes heard e words → (gone : ℕ)
         → (verdict : Option Errno) → IsDecided run.board p.transfer verdict (spoken whole p job next reading bytes e gone).tree → has_reply p.owed ≡ false
         → (reply : Reply) → reply ≡ reply_by verdict (Some p.transfer) (got_after job reading bytes p.got) → Fits p.transfer reply
@@ -56,7 +56,7 @@ pub fn the_whole_over_a_message()
 /// What a message leaves: its walk goes on, and what was read fits so far; or its settle comes next, with a reply that fits.
 pub fn a_message_fits()
     ensures { (run : Run) (whole : Whole) → CoreKept run whole → (place : ℕ) (p : Place) → slice_get whole.places place ≡ Some p
-        → (job : Job) (more : ℕ) (next : NextMsg) (at : ℕ) (old new : Socket) (addr : ℕ) (reading : Bool) (bytes : List ℕ) (heard : Option Node) (e : End) (words : SeenView)
+        → (job : Job) (more : ℕ) (next : NextMsg) (at : ℕ) (old new : RootPort) (addr : ℕ) (reading : Bool) (bytes : List ℕ) (heard : Option Node) (e : End) (words : SeenView)
         → IsSent run whole p job more next at old new addr reading bytes heard e words
         → (IsLeft run.board p.transfer (has_reply p.owed) (gone_after p.sent job e) (behind_of whole.locks p.tree (Sent e bytes))
         × (p.owed ≡ [] → FitsReads (take (gone_after p.sent job e) p.transfer.msgs) (got_after job reading bytes p.got)))

@@ -7,7 +7,7 @@ ghost use Rattle.bus_spec.specs.Walk.{Act, ActOutcome, Note, WalkTree};
 ghost use Rattle.bus_spec.specs.Grammar.{seen};
 ghost use Rattle.bus_laws.specs.Holds.{IsMarkOn, HoldsLocks};
 ghost use Rattle.mux_plan.specs.Plans.{SeenView, mark_on, slots_of, slots_after};
-ghost use Rattle.mux_plan.specs.Marks.{dues_after, applied_kept};
+ghost use Rattle.mux_plan.specs.Marks.{updates_after, applied_kept};
 ghost use Rattle.core_laws.specs.Spots.{TellsKept};
 ghost use Rattle.core_laws.specs.Wants.{WantsIn};
 
@@ -22,5 +22,5 @@ pub fn lock_words_answer_each_look()
 pub fn changed_channels_are_told()
     ensures { (b : BoardView) (held : List LockId) (act : Option Act) (note : Note) (out : ActOutcome) → WantsIn b held act note
         → (v : Slots) (kept : List (Option ℕ)) → length kept ≡ length b.muxes → TellsKept b v kept
-        → TellsKept b (slots_after act note out v) (applied_kept (dues_after act note out) kept) }
+        → TellsKept b (slots_after act note out v) (applied_kept (updates_after act note out) kept) }
 {}

@@ -5,7 +5,7 @@ ghost use Rattle.i2c_base.specs.Limits.{MOST_ROOTS};
 
 use crate::Board;
 use i2c_base::Transfer;
-use i2c_spec::Bill;
+use i2c_spec::TransferCost;
 use std::marker::Model;
 
 /// A board that meets the five topology rules. A contract sees the board.
@@ -46,7 +46,7 @@ impl Accepted {
     }
 
     /// What a transfer asks for: how many steps it can take, and its root.
-    pub fn bill(&self, transfer: &Transfer) -> Bill
+    pub fn bill(&self, transfer: &Transfer) -> TransferCost
         ensures value { result.cost ≡ cost_of self.now transfer.now }
         ensures small { result.cost < 2 ^ 41 }
         ensures root { result.root ≡ root_named self.now transfer.now.bus }

@@ -21,15 +21,15 @@ use Rattle.i2c_physics.specs.Heard.{numbers_of, nodes_of}
 use Rattle.i2c_physics.specs.Places.{PlaceView, mux_place, device_place, event_if}
 use Rattle.i2c_physics.specs.Reach.{is_among, AreRising, to_those, joins_at, has_at, addressed, others, union_of}
 use Rattle.i2c_physics.specs.SimWorlds.{is_own, seen_on, IsSimWorld}
-use Rattle.i2c_physics.specs.Answering.{together_of, start_answer}
-use Rattle.i2c_physics.specs.declared.together.Together.{Together}
+use Rattle.i2c_physics.specs.Answering.{wired_and_of, start_answer}
+use Rattle.i2c_physics.specs.declared.wired_and.WiredAnd.{WiredAnd}
 use Rattle.i2c_physics.specs.declared.reach.Reach.{Reach}
 use Rattle.i2c_physics.proofs.NumberLemmas.{and_true, filter-among, rising-filter, rising-of_range}
 use Rattle.i2c_physics.proofs.OwnLemmas.{other-apart, joined-own, length-seen, feed-seen, answers-seen}
 use Rattle.i2c_physics.proofs.PlaceLemmas.{chip-started, chip-stopped, device-started, device-stopped}
 use Rattle.i2c_physics.proofs.ReachLemmas.{reached-sent, stopped-fed, reached-stopped, started-fed, started-heard, reached-started}
 use Rattle.i2c_spec.proofs.FeedLemmas.{feed-same}
-use Rattle.i2c_physics.proofs.TogetherLemmas.{answers-same, length-feed}
+use Rattle.i2c_physics.proofs.WiredAndLemmas.{answers-same, length-feed}
 use Rattle.i2c_physics.proofs.WorldLemmas.{chip-hears, device-hears, hearers_told}
 
 -- what is told, as of the fields
@@ -53,7 +53,7 @@ module _ {X : Type 0} (t : Table X) (e : Event) {told calls : List ℕ} {ys xs :
 pub either-on : {count n : ℕ} {has had started begun : List ℕ} → count ≡ n → has ≡ had → begun ≡ started → union_of count has begun ≡ union_of n had started
 either-on {count} {n} {has} {had} {started} {begun} e f g = ap (λ m. union_of m has begun) e ∙ ap (λ ns. union_of n ns begun) f ∙ ap (union_of n had) g
 
-pub start-by : {j k chips devices : Together} → j ≡ chips → k ≡ devices → start_answer j k ≡ start_answer chips devices
+pub start-by : {j k chips devices : WiredAnd} → j ≡ chips → k ≡ devices → start_answer j k ≡ start_answer chips devices
 start-by {j} {k} {chips} {devices} e f = ap (λ x. start_answer x k) e ∙ ap (start_answer chips) f
 
 abbrev pub world_of : BoardView → ℕ → List ChipView → List TargetState → List ℕ → List ℕ → Bool → World
@@ -224,7 +224,7 @@ module _ (b : BoardView) (root : ℕ) (muxes places : List PlaceView) (chips : L
         ∙ ap (λ c. some_answer test (start_chips world a reading) || c) (some_states test none)
         ∙ sym (list_any-append (λ (x : ℕ × Answer). test x.1) (start_chips world a reading) (start_devices world a reading))
 
-    pub started-answer : start_answer (together_of chips_said) (together_of states_said) ≡ answer world a reading
+    pub started-answer : start_answer (wired_and_of chips_said) (wired_and_of states_said) ≡ answer world a reading
     started-answer =
         ap (λ c. if c then Slow else if some_answer is_ack chips_said || some_answer is_ack states_said then Ack else Nack) (some_said is_slow refl)
         ∙ ap (λ c. if some_answer is_slow (start_chips world a reading ++ start_devices world a reading) then Slow else if c then Ack else Nack) (some_said is_ack refl)

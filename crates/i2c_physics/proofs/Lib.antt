@@ -9,7 +9,7 @@ pub mod ReachLemmas
 pub mod RigLemmas
 pub mod SiteLemmas
 pub mod StepLemmas
-pub mod TogetherLemmas
+pub mod WiredAndLemmas
 pub mod WorldLemmas
 pub mod TakeLemmas
 pub mod SendLemmas

@@ -19,7 +19,7 @@ use Rattle.i2c_physics.specs.Heard.{numbers_of}
 use Rattle.i2c_physics.specs.Places.{PlaceView, event_if}
 use Rattle.i2c_physics.specs.Reach.{is_among, AreRising, to_those, joins_at, has_at, addressed, others, union_of, IsReach}
 use Rattle.i2c_physics.proofs.NumberLemmas.{rising-filter, rising-of_range, rising-lower, among-filter, among-range}
-use Rattle.i2c_physics.proofs.TogetherLemmas.{length-feed}
+use Rattle.i2c_physics.proofs.WiredAndLemmas.{length-feed}
 use Rattle.std.proofs.Math.Bool.{or-true}
 use Rattle.std.proofs.lemmas.Bool.{or_parts}
 use Rattle.std.proofs.lemmas.Option.{same_Some}

@@ -16,7 +16,7 @@ use Rattle.i2c_spec.specs.World.{World, AreWorldsOf, device_in, devices_of}
 use Rattle.i2c_spec.proofs.TreeLemmas.{tree_root_is}
 use Rattle.i2c_physics.specs.SimRigs.{device_of, owns, state_at, states_from, IsThere}
 use Rattle.i2c_physics.specs.SimWorlds.{is_own}
-use Rattle.i2c_physics.proofs.TogetherLemmas.{same_number}
+use Rattle.i2c_physics.proofs.WiredAndLemmas.{same_number}
 
 -- these devices are those of the board from number k on
 abbrev AreFrom : BoardView → ℕ → List DeviceView → Type 0

@@ -6,7 +6,7 @@ use Rattle.targets.proofs.SendLemmas.{device-send}
 use Rattle.i2c_physics.specs.contracts.place.Place as Place
 use Rattle.i2c_physics.specs.contracts.reach.Reach as Reach
 use Rattle.i2c_physics.specs.contracts.sites.Sites as Sites
-use Rattle.i2c_physics.specs.contracts.socket.Socket as Socket
+use Rattle.i2c_physics.specs.contracts.device_slot.DeviceSlot as DeviceSlot
 use Rattle.i2c_physics.specs.contracts.sim_world.SimWorld as SimWorld
 use Rattle.i2c_physics.specs.contracts.sim_port.SimPort as SimPort
 use Rattle.i2c_physics.specs.contracts.fail_port.FailPort as FailPort
@@ -20,11 +20,11 @@ sites-send = search (crosses, sendable, place-send) depth 20
 reach-send : IsSend (Reach.the_field).row
 reach-send = search (crosses, sendable) depth 20
 
-socket-send : IsSend (Socket.the_field).row
-socket-send = search (crosses, sendable, device-send) depth 20
+device_slot-send : IsSend (DeviceSlot.the_field).row
+device_slot-send = search (crosses, sendable, device-send) depth 20
 
 world-send : IsSend (SimWorld.the_field).row
-world-send = search (crosses, sendable, socket-send, sites-send, reach-send) depth 20
+world-send = search (crosses, sendable, device_slot-send, sites-send, reach-send) depth 20
 
 pub port-send : IsSend (SimPort.the_field).row
 port-send = search (crosses, sendable, world-send) depth 20

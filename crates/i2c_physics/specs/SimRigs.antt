@@ -7,7 +7,7 @@ use Rattle.i2c_spec.specs.Tree.{root_of}
 use Rattle.i2c_spec.specs.Targets.{TargetState, Silent}
 use Rattle.i2c_spec.specs.World.{World}
 use Rattle.i2c_physics.specs.SimWorlds.{is_own}
-use Rattle.i2c_physics.specs.declared.room.Kept.{Kept}
+use Rattle.i2c_physics.specs.declared.unplug.Unplugged.{Unplugged}
 
 -- device k is of the world's root; the device, where it is
 abbrev pub owns : World → ℕ → Bool
@@ -52,11 +52,11 @@ abbrev pub none_of : ℕ → List ℕ
 none_of n = replicate n 0
 
 -- what a rig tells after an unplug, and before it
-abbrev pub kept_states : Option Kept → List TargetState
+abbrev pub kept_states : Option Unplugged → List TargetState
 kept_states None = []
 kept_states (Some k) = k.states.items
 
-abbrev pub kept_logs : Option Kept → List (List PortCall)
+abbrev pub kept_logs : Option Unplugged → List (List PortCall)
 kept_logs None = []
 kept_logs (Some k) = map (λ log. log.items) k.logs.items
 

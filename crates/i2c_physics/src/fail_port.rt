@@ -9,7 +9,7 @@ ghost use Rattle.ports.specs.LineCalls.{HasLine};
 ghost use Rattle.i2c_physics.specs.FailPorts.{fails_next, said, after_next, failed_calls_in, fails_on, opening_fails};
 
 use crate::SimPort;
-use crate::room::Returned;
+use crate::unplug::Returned;
 use i2c_base::{Addr, Answer, MuxId, PortCall, SegId};
 use i2c_board::Accepted;
 use i2c_outside::is_listed;

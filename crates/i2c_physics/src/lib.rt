@@ -7,18 +7,18 @@
 //! any time. Definitions: `World` of `i2c_spec` (UM10204 section 3.1), `specs/FailPorts.antt`.
 #![tactic(auto)]
 
+mod device_slot;
 mod fail_port;
 mod fail_rig;
 mod phase;
 mod place;
 mod reach;
-mod room;
 mod sim_port;
 mod sim_rig;
 mod sim_world;
 mod sites;
-mod socket;
-mod together;
+mod unplug;
+mod wired_and;
 
 pub use fail_port::FailPort;
 pub use fail_rig::FailRig;

@@ -21,7 +21,7 @@ pub struct Reach {
     /// Those of them that have heard the start of the message in progress.
     pub hearing: Numbers,
     /// Those that the call in progress goes to.
-    pub told: Numbers,
+    pub addressed: Numbers,
     /// The others: those that a start is an `Other` for, or those that a stop doesn't reach.
     pub rest: Numbers,
     /// For numbers that nobody asks for any more.
@@ -37,7 +37,7 @@ impl Reach {
         Reach {
             started: ArrayVec::new(),
             hearing: ArrayVec::new(),
-            told: ArrayVec::new(),
+            addressed: ArrayVec::new(),
             rest: ArrayVec::new(),
             room: ArrayVec::new(),
         }
@@ -47,12 +47,12 @@ impl Reach {
     /// A target that wasn't started is quiet.
     #[inline(always)]
     pub fn call(&mut self, chips: &[Chip], sites: &Sites, addr: Addr)
-        ensures told { self.new.told.items ≡ addressed chips.now sites.now addr }
+        ensures told { self.new.addressed.items ≡ addressed chips.now sites.now addr }
         ensures rest { self.new.rest.items ≡ others chips.now sites.now addr self.old.started.items }
         ensures started { self.new.started ≡ self.old.started }
     {
         let places = sites.as_slice();
-        joined(chips, places, sites.at(addr), &mut self.told);
+        joined(chips, places, sites.at(addr), &mut self.addressed);
         let started = self.started.as_slice();
         others(chips, places, addr, started, &mut self.rest);
     }
@@ -60,7 +60,7 @@ impl Reach {
     /// Finds which of the started ones a stop reaches, and which it doesn't.
     #[inline(always)]
     pub fn part(&mut self, chips: &[Chip], sites: &Sites)
-        ensures told { self.new.told.items ≡ filter (joins_at chips.now sites.now) self.old.started.items }
+        ensures told { self.new.addressed.items ≡ filter (joins_at chips.now sites.now) self.old.started.items }
         ensures rest { self.new.rest.items ≡ filter (λ k. not (joins_at chips.now sites.now k)) self.old.started.items }
     {
         let started = self.started.as_slice();
@@ -68,7 +68,7 @@ impl Reach {
             chips,
             sites.as_slice(),
             started,
-            &mut self.told,
+            &mut self.addressed,
             &mut self.rest,
         );
     }
@@ -78,14 +78,14 @@ impl Reach {
     pub fn add_told(&mut self, count: usize)
         requires few { count ≤ MOST_DEVICES }
         requires started { AreRising 0 count self.old.started.items }
-        requires told { AreRising 0 count self.old.told.items }
-        ensures started { self.new.started.items ≡ union_of count self.old.started.items self.old.told.items }
+        requires told { AreRising 0 count self.old.addressed.items }
+        ensures started { self.new.started.items ≡ union_of count self.old.started.items self.old.addressed.items }
         ensures hearing { self.new.hearing ≡ self.old.hearing }
     {
         add_all(
             &mut self.started,
             count,
-            self.told.as_slice(),
+            self.addressed.as_slice(),
             &mut self.room,
         );
     }

@@ -8,8 +8,8 @@ ghost use Rattle.i2c_spec.specs.World.{answer, takes, gives};
 ghost use Rattle.i2c_physics.specs.SimPorts.{opening_port, called};
 
 use crate::phase;
-use crate::room::Returned;
 use crate::sim_world::SimWorld;
+use crate::unplug::Returned;
 use i2c_base::{Addr, Answer, MOST_CALLS, MuxId, Phase, PortCall, SegId};
 use i2c_board::Accepted;
 use ports::{Failed, Port};

@@ -8,7 +8,7 @@ ghost use Rattle.i2c_physics.specs.SimPorts.{opening_port};
 ghost use Rattle.i2c_physics.specs.SimRigs.{no_board, none_of, kept_states, kept_logs};
 
 use crate::SimPort;
-use crate::room::{Kept, Returned, Room};
+use crate::unplug::{Returned, UnplugBuffer, Unplugged};
 use i2c_base::{PortCall, SegId};
 use i2c_board::Accepted;
 use i2c_outside::{Rig, RigFail};
@@ -23,8 +23,8 @@ pub struct SimRig {
     plugs: u64,
     unplugs: u64,
     /// The room of the last plug, until the unplug that follows it.
-    room: Option<Room>,
-    kept: Option<Kept>,
+    room: Option<UnplugBuffer>,
+    kept: Option<Unplugged>,
     /// How many ports were last given back.
     given: usize,
 }
@@ -109,7 +109,7 @@ impl SimRig {
         ensures ok { OnOk result (self.new ≡ record self.old { room = Some board.now }) }
         ensures err { OnErr result (self.new ≡ self.old) }
     {
-        let room = Room::open(alloc, board)?;
+        let room = UnplugBuffer::open(alloc, board)?;
         drop(self.room.replace(room));
         Ok(())
     }

@@ -9,10 +9,10 @@ ghost use Rattle.i2c_physics.specs.Answering.{chips_say, devices_say};
 ghost use Rattle.i2c_physics.specs.SimRigs.{own_device, owns, without};
 ghost use Rattle.i2c_physics.specs.SimWorlds.{opened_on};
 
+use crate::device_slot::DeviceSlot;
 use crate::reach::Reach;
 use crate::sites::{Sites, is_wired};
-use crate::socket::Socket;
-use crate::together::{Together, answer_of, begin, end, pass_on};
+use crate::wired_and::{WiredAnd, answer_of, begin, deliver, end};
 use i2c_base::{Addr, Answer, DeviceSpec, Event, MuxId, MuxSpec, SegId};
 use i2c_board::Accepted;
 use i2c_spec::{Layout, chips_are_fair, openings_are_quiet};
@@ -36,7 +36,7 @@ pub struct SimWorld {
     device_places: Sites,
     chips: Vec<Chip>,
     /// The place of one of another root is empty. A contract sees that device as it was opened.
-    devices: Vec<Socket>,
+    devices: Vec<DeviceSlot>,
     /// Which chips, and which devices, a message has reached.
     chip_reach: Reach,
     device_reach: Reach,
@@ -146,14 +146,14 @@ impl SimWorld {
     }
 
     /// Tells those who have heard the start of the message of an event. What chips and devices answer.
-    fn send(&mut self, event: Event) -> (Together, Together)
+    fn send(&mut self, event: Event) -> (WiredAnd, WiredAnd)
         ensures chips { result.0 ≡ chips_say self.old event }
         ensures devices { result.1 ≡ devices_say self.old event }
         ensures small { result.1.byte < 256 }
         ensures after { self.new ≡ world.sent_on self.old event }
     {
-        let chips = pass_on(&mut self.chips, &mut self.chip_reach, event);
-        let devices = pass_on(&mut self.devices, &mut self.device_reach, event);
+        let chips = deliver(&mut self.chips, &mut self.chip_reach, event);
+        let devices = deliver(&mut self.devices, &mut self.device_reach, event);
         (chips, devices)
     }
 }
@@ -173,7 +173,11 @@ fn open_chips(alloc: Global, muxes: &[MuxSpec]) -> Result<Vec<Chip>, AllocError>
 }
 
 /// The devices of this root as they are opened, by number: the places of the others are empty.
-fn open_devices(alloc: Global, layout: Layout<'_>, root: SegId) -> Result<Vec<Socket>, AllocError>
+fn open_devices(
+    alloc: Global,
+    layout: Layout<'_>,
+    root: SegId,
+) -> Result<Vec<DeviceSlot>, AllocError>
     requires { IsPlainBoard (board_of layout) }
     ensures { IfOk result (λ devices. devices.items ≡ map (opened_on (board_of layout.entry) root) layout.entry.devices.now) }
 {
@@ -190,13 +194,13 @@ fn open_device(
     layout: Layout<'_>,
     root: SegId,
     device: &DeviceSpec,
-) -> Result<Socket, AllocError>
+) -> Result<DeviceSlot, AllocError>
     requires board { IsPlainBoard (board_of layout) }
     requires device { IsPlainDevice device.now }
-    ensures { IfOk result (λ socket. socket ≡ opened_on (board_of layout.entry) root device.now) }
+    ensures { IfOk result (λ device_slot. device_slot ≡ opened_on (board_of layout.entry) root device.now) }
 {
     if layout.root(device.bus) != root {
-        return Ok(Socket::empty());
+        return Ok(DeviceSlot::empty());
     }
-    Socket::open(alloc, device)
+    DeviceSlot::open(alloc, device)
 }

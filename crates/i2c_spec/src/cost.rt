@@ -20,7 +20,7 @@ struct Steps {
 /// What a transfer asks for: how many steps it can take, and the root that its bus hangs from, none where the board
 /// lacks the bus.
 #[derive(Clone, Copy)]
-pub struct Bill {
+pub struct TransferCost {
     pub cost: u64,
     pub root: Option<SegId>,
 }
@@ -112,7 +112,7 @@ impl Layout<'_> {
     ghost use Rattle.i2c_spec.specs.Tree.{root_named};
 
     /// What a transfer asks for on an accepted board.
-    pub fn bill(&self, transfer: &Transfer) -> Bill
+    pub fn bill(&self, transfer: &Transfer) -> TransferCost
         requires plain { IsPlainBoard (board_of self.now) }
         requires rules { MeetsRules (board_of self.now) }
         ensures value { result.cost ≡ cost_of (board_of self.now) transfer.now }
@@ -122,13 +122,13 @@ impl Layout<'_> {
     {
         let bus = transfer.bus();
         if bus >= self.buses() {
-            return Bill {
+            return TransferCost {
                 cost: 1,
                 root: None,
             };
         }
         let hops = self.hops(SegId(bus));
-        Bill {
+        TransferCost {
             cost: 1 + full_cost(hops.as_slice(), steps_of(transfer.msgs())),
             root: Some(end_of(SegId(bus), hops.as_slice())),
         }

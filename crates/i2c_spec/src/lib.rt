@@ -23,7 +23,7 @@ mod target_rows;
 mod topology;
 mod tree;
 
-pub use cost::Bill;
+pub use cost::TransferCost;
 pub use device_memory::{eeprom_bytes, eeprom_page, is_wide, write_runs};
 pub use fair_targets::{
     chips_are_fair, devices_hold_bytes, eeproms_are_fair, lm75s_are_fair, openings_are_quiet,

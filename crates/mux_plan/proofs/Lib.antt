@@ -3,7 +3,7 @@
 pub mod Openings
 pub mod Rooms
 pub mod StepsLeft
-pub mod Dues
+pub mod MuxUpdates
 pub mod MarksTold
 pub mod OpensFit
 mod StackLemmas

@@ -8,39 +8,39 @@ use Rattle.bus_spec.specs.Grammar.{first_act, first_note, locked, inner}
 use Rattle.mux_plan.specs.declared.task.Work.{Work}
 use Rattle.mux_plan.specs.declared.task.Task.{Task}
 use Rattle.mux_plan.specs.declared.task.Task.TheVariants.{Enter, Lock, Free, Rest, Line, Settle, AwaitClose, Pass, AwaitSelect, AwaitWork, AwaitDeselect}
-use Rattle.mux_plan.specs.Plans.{CourseView, job_of, note_of, tree_of}
-use Rattle.mux_plan.specs.Marks.{dues_after}
+use Rattle.mux_plan.specs.Plans.{RouteView, job_of, note_of, tree_of}
+use Rattle.mux_plan.specs.Marks.{updates_after}
 use Rattle.mux_plan.specs.Rooms.{IsStep}
 
-module _ (b : BoardView) (ms : List MessageView) (c : CourseView) (out : JobOutcome) (o : ActOutcome) where
-  dues-lock : (m n : ℕ) (w : Work) (ts : List Task)
-      → dues_after (first_act (tree_of b ms c (Lock m n w ∷ ts) out)) (first_note (tree_of b ms c (Lock m n w ∷ ts) out)) o ≡ []
-  dues-lock m n w ts = by (drop m c.path)
+module _ (b : BoardView) (ms : List MessageView) (c : RouteView) (out : JobOutcome) (o : ActOutcome) where
+  updates-lock : (m n : ℕ) (w : Work) (ts : List Task)
+      → updates_after (first_act (tree_of b ms c (Lock m n w ∷ ts) out)) (first_note (tree_of b ms c (Lock m n w ∷ ts) out)) o ≡ []
+  updates-lock m n w ts = by (drop m c.path)
     where
       by : (hs : List Hop)
-          → dues_after (first_act (locked (locks_of c.root hs) (inner b c.root (drop n c.path)) (job_of c ms w) (note_of ts) (tree_of b ms c ts)))
+          → updates_after (first_act (locked (locks_of c.root hs) (inner b c.root (drop n c.path)) (job_of c ms w) (note_of ts) (tree_of b ms c ts)))
           (first_note (locked (locks_of c.root hs) (inner b c.root (drop n c.path)) (job_of c ms w) (note_of ts) (tree_of b ms c ts))) o
           ≡ []
       by [] = refl
       by (g ∷ hs) = refl
 
-  dues-other : (t : Task) (ts : List Task) → IsStep (t ∷ ts) → ((left : ℕ) (w : Work) → t ≡ Rest left w → ⊥) → ((w : Work) → t ≡ Line w → ⊥)
-      → dues_after (first_act (tree_of b ms c (t ∷ ts) out)) (first_note (tree_of b ms c (t ∷ ts) out)) o ≡ []
-  dues-other (Enter n w) ts step no_message no_line = absurd step
-  dues-other (Lock m n w) ts step no_message no_line = dues-lock m n w ts
-  dues-other (Free l) ts step no_message no_line = refl
-  dues-other (Rest left w) ts step no_message no_line = absurd (no_message left w refl)
-  dues-other (Line w) ts step no_message no_line = absurd (no_line w refl)
-  dues-other (Settle x) ts step no_message no_line = refl
-  dues-other (AwaitClose n g m w) ts step no_message no_line = absurd step
-  dues-other (Pass n g w) ts step no_message no_line = absurd step
-  dues-other (AwaitSelect n g w) ts step no_message no_line = absurd step
-  dues-other (AwaitWork n g) ts step no_message no_line = absurd step
-  dues-other (AwaitDeselect g was) ts step no_message no_line = absurd step
+  updates-other : (t : Task) (ts : List Task) → IsStep (t ∷ ts) → ((left : ℕ) (w : Work) → t ≡ Rest left w → ⊥) → ((w : Work) → t ≡ Line w → ⊥)
+      → updates_after (first_act (tree_of b ms c (t ∷ ts) out)) (first_note (tree_of b ms c (t ∷ ts) out)) o ≡ []
+  updates-other (Enter n w) ts step no_message no_line = absurd step
+  updates-other (Lock m n w) ts step no_message no_line = updates-lock m n w ts
+  updates-other (Free l) ts step no_message no_line = refl
+  updates-other (Rest left w) ts step no_message no_line = absurd (no_message left w refl)
+  updates-other (Line w) ts step no_message no_line = absurd (no_line w refl)
+  updates-other (Settle x) ts step no_message no_line = refl
+  updates-other (AwaitClose n g m w) ts step no_message no_line = absurd step
+  updates-other (Pass n g w) ts step no_message no_line = absurd step
+  updates-other (AwaitSelect n g w) ts step no_message no_line = absurd step
+  updates-other (AwaitWork n g) ts step no_message no_line = absurd step
+  updates-other (AwaitDeselect g was) ts step no_message no_line = absurd step
 
-  pub no-dues : (stack : List Task) (t : Task) (ts : List Task) → stack ≡ t ∷ ts → IsStep stack
+  pub no-updates : (stack : List Task) (t : Task) (ts : List Task) → stack ≡ t ∷ ts → IsStep stack
       → ((left : ℕ) (w : Work) → t ≡ Rest left w → ⊥) → ((w : Work) → t ≡ Line w → ⊥)
-      → dues_after (first_act (tree_of b ms c stack out)) (first_note (tree_of b ms c stack out)) o ≡ []
-  no-dues stack t ts e step no_message no_line =
-      subst (λ (xs : List Task). dues_after (first_act (tree_of b ms c xs out)) (first_note (tree_of b ms c xs out)) o ≡ []) (sym e)
-      (dues-other t ts (subst IsStep e step) no_message no_line)
+      → updates_after (first_act (tree_of b ms c stack out)) (first_note (tree_of b ms c stack out)) o ≡ []
+  no-updates stack t ts e step no_message no_line =
+      subst (λ (xs : List Task). updates_after (first_act (tree_of b ms c xs out)) (first_note (tree_of b ms c xs out)) o ≡ []) (sym e)
+      (updates-other t ts (subst IsStep e step) no_message no_line)

@@ -15,7 +15,7 @@ use Rattle.mux_plan.specs.declared.task.Work.{Work}
 use Rattle.mux_plan.specs.declared.task.Work.TheVariants as work
 use Rattle.mux_plan.specs.declared.task.Task.{Task}
 use Rattle.mux_plan.specs.declared.task.Task.TheVariants.{Enter, Lock, Free, Rest, Line, Settle, AwaitClose, Pass, AwaitSelect, AwaitWork, AwaitDeselect}
-use Rattle.mux_plan.specs.Plans.{CourseView, job_of, note_of, on_bus, tree_of, part_task, SeenView, mark_on, kept_of, choice_of, switch_of, select_tasks, wait_tasks, work_tasks, first_lock, locks_on, is_deselect, slot_of, slots_of, first_at, crossed_tasks}
+use Rattle.mux_plan.specs.Plans.{RouteView, job_of, note_of, on_bus, tree_of, part_task, SeenView, mark_on, kept_of, choice_of, switch_of, select_tasks, wait_tasks, work_tasks, first_lock, locks_on, is_deselect, slot_of, slots_of, first_at, crossed_tasks}
 use Rattle.mux_plan.specs.Rooms.{IsStep, IsReady}
 
 -- the mark that is told is the one that is seen
@@ -39,7 +39,7 @@ next_in b s h w = switch_of b h (mark_on s h.on) (keeps h (kept_of s h.mux)) w
 abbrev pub waits_at : SeenView → Hop → ℕ → Work → List Task → List Task
 waits_at s h n w ts = wait_tasks h (mark_on s h.on) (keeps h (kept_of s h.mux)) n w ts
 
-module _ (b : BoardView) (ms : List MessageView) (c : CourseView) where
+module _ (b : BoardView) (ms : List MessageView) (c : RouteView) where
   -- a job for the bus that a mux stands on
   part_tree : (parent : Bool) (n : ℕ) (w : Work) (ts : List Task) (out : JobOutcome)
       → tree_of b ms c (part_task parent n w ∷ ts) out
@@ -249,13 +249,13 @@ module _ (b : BoardView) (v : Slots) (root : ℕ) where
       by true e = bus_alike job note note2 k k2
       by false e = e
 
-pub first_at-any : (b : BoardView) (ms : List MessageView) (c : CourseView) (s : SeenView) (n : ℕ) (w : Work) (ts : List Task) (out : JobOutcome)
+pub first_at-any : (b : BoardView) (ms : List MessageView) (c : RouteView) (s : SeenView) (n : ℕ) (w : Work) (ts : List Task) (out : JobOutcome)
     → first_act (seen (slots_of s) (tree_of b ms c (Enter n w ∷ ts) out)) ≡ first_at b ms c s n w
 first_at-any b ms c s n w ts out =
     inner_alike b (slots_of s) c.root (drop n c.path) (job_of c ms w) (note_of ts) (note_of []) (tree_of b ms c ts) (tree_of b ms c [])
 
 -- the same at the front of a stack, by the step that a task is
-pub first_of-task : (b : BoardView) (ms : List MessageView) (c : CourseView) (t : Task) (ts : List Task) (out : JobOutcome) → IsStep (t ∷ ts)
+pub first_of-task : (b : BoardView) (ms : List MessageView) (c : RouteView) (t : Task) (ts : List Task) (out : JobOutcome) → IsStep (t ∷ ts)
     → first_act (tree_of b ms c (t ∷ ts) out) ≡ first_act (tree_of b ms c (t ∷ []) Good)
 first_of-task b ms c (Enter n w) ts out h = absurd h
 first_of-task b ms c (Lock m n w) ts out h =
@@ -313,7 +313,7 @@ module _ (b : BoardView) (v : Slots) (root : ℕ) where
       by false e = e
 
 -- a settle comes next where it is on the top, and nowhere else
-pub no_settle : (b : BoardView) (ms : List MessageView) (c : CourseView) (v : Slots) (t : Task) (ts : List Task) (out : JobOutcome) → IsReady (t ∷ ts)
+pub no_settle : (b : BoardView) (ms : List MessageView) (c : RouteView) (v : Slots) (t : Task) (ts : List Task) (out : JobOutcome) → IsReady (t ∷ ts)
     → ((x : Option Errno) → t ≡ Settle x → ⊥) → NoSettle (first_act (seen v (tree_of b ms c (t ∷ ts) out)))
 no_settle b ms c v (Enter n w) ts out ready other = inner_unsettled b v c.root (drop n c.path) (job_of c ms w) (note_of ts) (tree_of b ms c ts)
 no_settle b ms c v (Lock m n w) ts out ready other =
@@ -332,7 +332,7 @@ no_settle b ms c v (AwaitWork n h) ts out ready other = absurd ready
 no_settle b ms c v (AwaitDeselect h was) ts out ready other = absurd ready
 
 -- behind a close: what comes first there, over what waits for it
-pub passes-by : (b : BoardView) (ms : List MessageView) (c : CourseView) (s : SeenView) (n : ℕ) (w : Work) (h : Hop) (ts : List Task) (out : JobOutcome)
+pub passes-by : (b : BoardView) (ms : List MessageView) (c : RouteView) (s : SeenView) (n : ℕ) (w : Work) (h : Hop) (ts : List Task) (out : JobOutcome)
     → (parent : Bool) → h.parent ≡ parent → (next : Work) (below : List Task) → next ≡ choice_of h (keeps h (kept_of s h.mux)) w → below ≡ select_tasks h (keeps h (kept_of s h.mux)) n w ts
     → seen (slots_of s) (tree_of b ms c (part_task parent n next ∷ below) out) ≡ seen (slots_of s) (tree_of b ms c (Pass n h w ∷ ts) out)
 passes-by b ms c s n w h ts out parent e next below by_choice stack =
@@ -342,7 +342,7 @@ passes-by b ms c s n w h ts out parent e next below by_choice stack =
     ∙ ap (λ (t : Bool). seen (slots_of s) (tree_of b ms c (part_task t n (choice_of h (keeps h (kept_of s h.mux)) w) ∷ select_tasks h (keeps h (kept_of s h.mux)) n w ts) out)) e)
 
 -- one mux is crossed on the way to the first step; the locks of a mux-locked one are that step; or the way has ended
-module _ (b : BoardView) (ms : List MessageView) (c : CourseView) (s : SeenView) where
+module _ (b : BoardView) (ms : List MessageView) (c : RouteView) (s : SeenView) where
   first_at-look : (n : ℕ) (w : Work) (h : Hop) → drop n c.path ≡ h ∷ drop (n + 1) c.path → is_line (job_of c ms w) ≡ false → (parent : Bool) → h.parent ≡ parent
       → first_at b ms c s n w
       ≡ first_act (seen (slots_of s) (tree_of b ms c (part_task parent (n + 1) (next_in b s h w) ∷ waits_at s h (n + 1) w []) Good))
@@ -385,7 +385,7 @@ module _ (b : BoardView) (ms : List MessageView) (c : CourseView) (s : SeenView)
   first_at-bus n w t at_end e = ap first_act (e ∙ sym (tree_of-bus b ms c s n w [] Good at_end))
 
 -- a mux is crossed in the stack: what does the job comes over what waits
-pub tree_of-cross : (b : BoardView) (ms : List MessageView) (c : CourseView) (s : SeenView) (n : ℕ) (w : Work) (h : Hop) (ts : List Task) (out : JobOutcome)
+pub tree_of-cross : (b : BoardView) (ms : List MessageView) (c : RouteView) (s : SeenView) (n : ℕ) (w : Work) (h : Hop) (ts : List Task) (out : JobOutcome)
     → drop n c.path ≡ h ∷ drop (n + 1) c.path → is_line (job_of c ms w) ≡ false → (parent : Bool) → h.parent ≡ parent
     → seen (slots_of s) (tree_of b ms c (part_task parent (n + 1) (next_in b s h w) ∷ waits_at s h (n + 1) w ts) out)
     ≡ seen (slots_of s) (tree_of b ms c (Enter n w ∷ ts) out)
@@ -394,7 +394,7 @@ tree_of-cross b ms c s n w h ts out at_hop by_message parent e =
     ∙ ap (λ (t : Bool). seen (slots_of s) (tree_of b ms c (part_task t (n + 1) (next_in b s h w) ∷ waits_at s h (n + 1) w ts) out)) e)
 
 -- the first lock is taken
-pub tree_of-locked : (b : BoardView) (ms : List MessageView) (c : CourseView) (m n : ℕ) (w : Work) (ts : List Task) (out out2 : JobOutcome) (o : ActOutcome) (more : Bool)
+pub tree_of-locked : (b : BoardView) (ms : List MessageView) (c : RouteView) (m n : ℕ) (w : Work) (ts : List Task) (out out2 : JobOutcome) (o : ActOutcome) (more : Bool)
     → locks_on (drop m c.path) ≡ more
     → tree_of b ms c (cond more (Lock (m + 1) n w) (Enter n w) ∷ Free (first_lock c.root (drop m c.path)) ∷ ts) out
     ≡ rest_of (tree_of b ms c (Lock m n w ∷ ts) out2) o
@@ -409,22 +409,22 @@ messages-over left less job note k out e f =
     ap (λ (g : Go). by_go g (messages less job note k) (messages 0 job note k) (over job left note k out)) f ∙ sym (messages-more left less job note k out e)
 
 -- .. as the loop has it: what was so far is the whole
-module _ (b : BoardView) (ms : List MessageView) (s : SeenView) (c : CourseView) (n : ℕ) (w : Work) (h : Hop) (ts : List Task) (out : JobOutcome) where
-  crossed_by : (t : Bool) → h.parent ≡ t → (c1 : CourseView) (next : Work) (new : List Task)
+module _ (b : BoardView) (ms : List MessageView) (s : SeenView) (c : RouteView) (n : ℕ) (w : Work) (h : Hop) (ts : List Task) (out : JobOutcome) where
+  crossed_by : (t : Bool) → h.parent ≡ t → (c1 : RouteView) (next : Work) (new : List Task)
       → c1 ≡ c → next ≡ next_in b s h w → new ≡ crossed_tasks h (mark_on s h.on) (keeps h (kept_of s h.mux)) (n + 1) w next ts
-      → (f : CourseView → Work → List Task → WalkTree)
+      → (f : RouteView → Work → List Task → WalkTree)
       → f c1 next new
       ≡ f c (next_in b s h w)
       (cond t (waits_at s h (n + 1) w ts) (Lock (n + 1) (n + 1) (next_in b s h w) ∷ waits_at s h (n + 1) w ts))
   crossed_by t e c1 next new same by_switch stack f =
       let waits = waits_at s h (n + 1) w ts in
-      ap (λ (x : CourseView). f x next new) same
+      ap (λ (x : RouteView). f x next new) same
       ∙ ap (f c next) stack
       ∙ ap (λ (x : Work). f c x (cond h.parent waits (Lock (n + 1) (n + 1) x ∷ waits))) by_switch
       ∙ ap (λ (x : Bool). f c (next_in b s h w) (cond x waits (Lock (n + 1) (n + 1) (next_in b s h w) ∷ waits))) e
 
   pub enters-lock : drop n c.path ≡ h ∷ drop (n + 1) c.path → is_line (job_of c ms w) ≡ false → h.parent ≡ false
-      → (c1 : CourseView) (next : Work) (new : List Task)
+      → (c1 : RouteView) (next : Work) (new : List Task)
       → c1 ≡ c → next ≡ next_in b s h w → new ≡ crossed_tasks h (mark_on s h.on) (keeps h (kept_of s h.mux)) (n + 1) w next ts
       → tree_of b ms c1 new out ≡ seen (slots_of s) (tree_of b ms c (Enter n w ∷ ts) out)
   enters-lock at_hop by_message e c1 next new same by_switch stack =
@@ -433,7 +433,7 @@ module _ (b : BoardView) (ms : List MessageView) (s : SeenView) (c : CourseView)
       ∙ tree_of-cross b ms c s n w h ts out at_hop by_message false e
 
   pub enters-next : drop n c.path ≡ h ∷ drop (n + 1) c.path → is_line (job_of c ms w) ≡ false → h.parent ≡ true
-      → (c1 : CourseView) (next : Work) (new : List Task)
+      → (c1 : RouteView) (next : Work) (new : List Task)
       → c1 ≡ c → next ≡ next_in b s h w → new ≡ crossed_tasks h (mark_on s h.on) (keeps h (kept_of s h.mux)) (n + 1) w next ts
       → seen (slots_of s) (tree_of b ms c1 (Enter (n + 1) next ∷ new) out) ≡ seen (slots_of s) (tree_of b ms c (Enter n w ∷ ts) out)
   enters-next at_hop by_message e c1 next new same by_switch stack =
@@ -441,7 +441,7 @@ module _ (b : BoardView) (ms : List MessageView) (s : SeenView) (c : CourseView)
       ∙ tree_of-cross b ms c s n w h ts out at_hop by_message true e
 
 -- the first step of a stack that stands at one
-pub first_of-step : (b : BoardView) (ms : List MessageView) (c : CourseView) (v : Slots) (t : Task) (ts : List Task) (out : JobOutcome) → IsStep (t ∷ ts)
+pub first_of-step : (b : BoardView) (ms : List MessageView) (c : RouteView) (v : Slots) (t : Task) (ts : List Task) (out : JobOutcome) → IsStep (t ∷ ts)
     → first_act (seen v (tree_of b ms c (t ∷ ts) out)) ≡ first_act (tree_of b ms c (t ∷ []) Good)
 first_of-step b ms c v t ts out h = ap first_act (seen-step b ms c v (t ∷ ts) out h) ∙ first_of-task b ms c t ts out h
 

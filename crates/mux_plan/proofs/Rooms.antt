@@ -7,7 +7,7 @@ use Rattle.bus_spec.specs.Walk.{JobOutcome}
 use Rattle.mux_plan.specs.declared.task.Work.{Work}
 use Rattle.mux_plan.specs.declared.task.Task.{Task}
 use Rattle.mux_plan.specs.declared.task.Task.TheVariants.{Enter, Lock, Pass, AwaitWork}
-use Rattle.mux_plan.specs.Plans.{CourseView, tree_of, part_task, select_tasks, wait_tasks, crossed_tasks, work_tasks}
+use Rattle.mux_plan.specs.Plans.{RouteView, tree_of, part_task, select_tasks, wait_tasks, crossed_tasks, work_tasks}
 use Rattle.mux_plan.specs.Rooms.{IsNarrowWork, Fits, IsPlaced, IsPlanned}
 
 -- a mux is crossed: the job that comes first there stands over what waits
@@ -26,7 +26,7 @@ pub select-few : (h : Hop) (keep : Bool) (n : ℕ) (w : Work) (ts : List Task) �
 select-few h true n w ts = omega arith
 select-few h false n w ts = omega arith
 
-module _ (c c1 : CourseView) (n : ℕ) (w next : Work) (h : Hop) (mark : Option ℕ) (keep : Bool) (ts new : List Task) (p : IsPlanned c (Enter n w ∷ ts))
+module _ (c c1 : RouteView) (n : ℕ) (w next : Work) (h : Hop) (mark : Option ℕ) (keep : Bool) (ts new : List Task) (p : IsPlanned c (Enter n w ∷ ts))
     (within : n < length c.path) (channel : h.channel < 8) (narrow : IsNarrowWork next) (same : c1 ≡ c) (stack : new ≡ crossed_tasks h mark keep (n + 1) w next ts) where
   waits : IsPlaced (length c.path) (wait_tasks h mark keep (n + 1) w ts) × (length (wait_tasks h mark keep (n + 1) w ts) ≤ 6 * (n + 1))
   waits = wait_placed (length c.path) h mark keep (n + 1) w ts p.placed.0.0 channel (omega (arith, within)) (omega (arith, p.placed.0.2)) p.placed.1
@@ -36,25 +36,25 @@ module _ (c c1 : CourseView) (n : ℕ) (w next : Work) (h : Hop) (mark : Option 
 
   pub planned-next : h.parent ≡ true → IsPlanned c1 (Enter (n + 1) next ∷ new)
   planned-next e =
-      subst (λ (x : CourseView). IsPlanned x (Enter (n + 1) next ∷ new)) (sym same)
+      subst (λ (x : RouteView). IsPlanned x (Enter (n + 1) next ∷ new)) (sym same)
       (subst (λ (x : List Task). IsPlanned c (Enter (n + 1) next ∷ x)) (sym (stack_by true e))
       (record { deep = p.deep; narrow = p.narrow; placed = ((narrow, omega (arith, within), omega (arith, waits.1)), waits.0) }))
 
   pub planned-lock : h.parent ≡ false → IsPlanned c1 new
   planned-lock e =
-      subst (λ (x : CourseView). IsPlanned x new) (sym same)
+      subst (λ (x : RouteView). IsPlanned x new) (sym same)
       (subst (λ (x : List Task). IsPlanned c x) (sym (stack_by false e))
       (record { deep = p.deep; narrow = p.narrow; placed = ((narrow, omega arith, omega (arith, within), omega (arith, waits.1)), waits.0) }))
 
 -- behind a close, what comes first stands over what waits for it
-module _ (c c1 : CourseView) (n : ℕ) (w next : Work) (h : Hop) (keep : Bool) (ts new : List Task) (p : IsPlanned c (Pass n h w ∷ ts))
+module _ (c c1 : RouteView) (n : ℕ) (w next : Work) (h : Hop) (keep : Bool) (ts new : List Task) (p : IsPlanned c (Pass n h w ∷ ts))
     (narrow : IsNarrowWork next) (same : c1 ≡ c) (stack : new ≡ select_tasks h keep n w ts) where
   below : IsPlaced (length c.path) (select_tasks h keep n w ts) × (length (select_tasks h keep n w ts) ≤ 6 * n)
   below = select_placed (length c.path) h keep n w ts p.placed.0.0 p.placed.0.1 p.placed.0.2 p.placed.0.3 p.placed.1
 
   pub planned-pass : (parent : Bool) → IsPlanned c1 (part_task parent n next ∷ new)
   planned-pass parent =
-      subst (λ (x : CourseView). IsPlanned x (part_task parent n next ∷ new)) (sym same)
+      subst (λ (x : RouteView). IsPlanned x (part_task parent n next ∷ new)) (sym same)
       (subst (λ (x : List Task). IsPlanned c (part_task parent n next ∷ x)) (sym stack) (by parent))
     where
       by : (t : Bool) → IsPlanned c (part_task t n next ∷ select_tasks h keep n w ts)
@@ -62,28 +62,28 @@ module _ (c c1 : CourseView) (n : ℕ) (w next : Work) (h : Hop) (keep : Bool) (
       by false = record { deep = p.deep; narrow = p.narrow; placed = ((narrow, omega arith, p.placed.0.2, omega (arith, below.1)), below.0) }
 
 -- work on the bus of a mux stands over what waits for it
-pub planned-part : (c c1 : CourseView) (parent : Bool) (n : ℕ) (w : Work) (t : Task) (ts new : List Task) → IsPlanned c ts → IsNarrowWork w → n ≤ length c.path → length ts + 1 ≤ 6 * n
+pub planned-part : (c c1 : RouteView) (parent : Bool) (n : ℕ) (w : Work) (t : Task) (ts new : List Task) → IsPlanned c ts → IsNarrowWork w → n ≤ length c.path → length ts + 1 ≤ 6 * n
     → Fits (length c.path) t (length ts) → c1 ≡ c → new ≡ part_task parent n w ∷ t ∷ ts → IsPlanned c1 new
 planned-part c c1 true n w t ts new p narrow deep room fits same stack =
-    subst (λ (x : CourseView). IsPlanned x new) (sym same) (subst (λ (x : List Task). IsPlanned c x) (sym stack)
+    subst (λ (x : RouteView). IsPlanned x new) (sym same) (subst (λ (x : List Task). IsPlanned c x) (sym stack)
     (record { deep = p.deep; narrow = p.narrow; placed = ((narrow, deep, omega (arith, room)), (fits, p.placed)) }))
 planned-part c c1 false n w t ts new p narrow deep room fits same stack =
-    subst (λ (x : CourseView). IsPlanned x new) (sym same) (subst (λ (x : List Task). IsPlanned c x) (sym stack)
+    subst (λ (x : RouteView). IsPlanned x new) (sym same) (subst (λ (x : List Task). IsPlanned c x) (sym stack)
     (record { deep = p.deep; narrow = p.narrow; placed = ((narrow, omega arith, deep, omega (arith, room)), (fits, p.placed)) }))
 
 -- .. and over what waits for the work behind a mux
-pub planned-work : (c c1 : CourseView) (parent stays : Bool) (n : ℕ) (w : Work) (h : Hop) (ts new : List Task) → IsPlanned c ts → IsNarrowWork w → n ≤ length c.path → length ts + 1 ≤ 6 * n
+pub planned-work : (c c1 : RouteView) (parent stays : Bool) (n : ℕ) (w : Work) (h : Hop) (ts new : List Task) → IsPlanned c ts → IsNarrowWork w → n ≤ length c.path → length ts + 1 ≤ 6 * n
     → c1 ≡ c → new ≡ part_task parent n w ∷ work_tasks stays n h ts → IsPlanned c1 new
 planned-work c c1 parent false n w h ts new p narrow deep room same stack = planned-part c c1 parent n w (AwaitWork n h) ts new p narrow deep room (deep, room) same stack
 planned-work c c1 true true n w h ts new p narrow deep room same stack =
-    subst (λ (x : CourseView). IsPlanned x new) (sym same) (subst (λ (x : List Task). IsPlanned c x) (sym stack)
+    subst (λ (x : RouteView). IsPlanned x new) (sym same) (subst (λ (x : List Task). IsPlanned c x) (sym stack)
     (record { deep = p.deep; narrow = p.narrow; placed = ((narrow, deep, omega (arith, room)), p.placed) }))
 planned-work c c1 false true n w h ts new p narrow deep room same stack =
-    subst (λ (x : CourseView). IsPlanned x new) (sym same) (subst (λ (x : List Task). IsPlanned c x) (sym stack)
+    subst (λ (x : RouteView). IsPlanned x new) (sym same) (subst (λ (x : List Task). IsPlanned c x) (sym stack)
     (record { deep = p.deep; narrow = p.narrow; placed = ((narrow, omega arith, deep, omega (arith, room)), p.placed) }))
 
 -- the task on the top, which is dropped, stands over what is left
-module _ (c : CourseView) (stack left : List Task) (top task : Task) (on : stack ≡ top ∷ drop 1 stack) (is : top ≡ task) (same : left ≡ drop 1 stack) where
+module _ (c : RouteView) (stack left : List Task) (top task : Task) (on : stack ≡ top ∷ drop 1 stack) (is : top ≡ task) (same : left ≡ drop 1 stack) where
   over_left : stack ≡ task ∷ left
   over_left = on ∙ ap (λ (t : Task). t ∷ drop 1 stack) is ∙ ap (λ (ts : List Task). task ∷ ts) (sym same)
 

@@ -8,10 +8,10 @@ use Rattle.bus_spec.specs.Walk as walk
 use Rattle.bus_spec.specs.Grammar.{over, locked, part, messages, at_bus, behind, inner, is_over}
 use Rattle.mux_plan.specs.declared.task.Task.{Task}
 use Rattle.mux_plan.specs.declared.task.Task.TheVariants.{Enter, Lock, Free, Rest, Line, Settle, AwaitClose, Pass, AwaitSelect, AwaitWork, AwaitDeselect}
-use Rattle.mux_plan.specs.Plans.{CourseView, job_of, note_of, tree_of}
+use Rattle.mux_plan.specs.Plans.{RouteView, job_of, note_of, tree_of}
 use Rattle.mux_plan.specs.Rooms.{IsReady}
 
-module _ (b : BoardView) (ms : List MessageView) (c : CourseView) where
+module _ (b : BoardView) (ms : List MessageView) (c : RouteView) where
   goes_on-messages : (left : ℕ) (job : Job) (note : Note) (k : JobOutcome → WalkTree) → is_over (messages left job note k) ≡ false
   goes_on-messages zero job note k = refl
   goes_on-messages (suc left) job note k = refl

@@ -16,10 +16,10 @@ use Rattle.bus_spec.specs.Slots.{MuxSlot, Clean, Marked, Slots, mark_in, after_j
 use Rattle.bus_spec.specs.Grammar.{Doer, plain, over, locked, part, messages, with_mark, aside, if_sent, if_good, opened, crossed, inner, kind_of, seen, first_act}
 use Rattle.mux_plan.specs.declared.task.Work.{Work}
 use Rattle.mux_plan.specs.declared.task.Work.TheVariants as work
-use Rattle.mux_plan.specs.declared.task.Came.{Came}
-use Rattle.mux_plan.specs.declared.task.Came.TheVariants as came
-use Rattle.mux_plan.specs.declared.work.Follow.{Follow}
-use Rattle.mux_plan.specs.declared.work.Follow.TheVariants as follow
+use Rattle.mux_plan.specs.declared.task.WorkResult.{WorkResult}
+use Rattle.mux_plan.specs.declared.task.WorkResult.TheVariants as came
+use Rattle.mux_plan.specs.declared.work.Continuation.{Continuation}
+use Rattle.mux_plan.specs.declared.work.Continuation.TheVariants as follow
 use Rattle.mux_plan.specs.declared.task.Task.{Task}
 use Rattle.mux_plan.specs.declared.task.Task.TheVariants.{Enter, Lock, Free, Rest, Line, Settle, AwaitClose, Pass, AwaitSelect, AwaitWork, AwaitDeselect}
 use Rattle.mux_plan.specs.declared.task.Outcome.{Outcome}
@@ -29,7 +29,7 @@ use Rattle.mux_plan.specs.declared.task.Action.{Action}
 use Rattle.mux_plan.specs.declared.task.Action.TheVariants as action
 
 -- what a walk knows of its transfer: the root, the muxes over its bus, nearest first, and how many messages it has
-pub record CourseView : Type 0 where
+pub record RouteView : Type 0 where
   pub root : ℕ
   pub path : List Hop
   pub bus : ℕ
@@ -37,17 +37,17 @@ pub record CourseView : Type 0 where
 
 -- a walk: its tasks, the one on the top first, and what came of the last job
 pub record WalkView : Type 0 where
-  pub course : CourseView
+  pub route : RouteView
   pub tasks : List Task
   pub came : JobOutcome
 
-abbrev pub job_of : CourseView → List MessageView → Work → Job
+abbrev pub job_of : RouteView → List MessageView → Work → Job
 job_of c ms work.Call = Call c.bus ms
 job_of c ms (work.Select h) = Select h
 job_of c ms (work.Deselect h) = SwitchOff (Deselect h)
 job_of c ms (work.Close on mux kind) = SwitchOff (Close on mux kind)
 
-abbrev pub came_of : Came → JobOutcome
+abbrev pub came_of : WorkResult → JobOutcome
 came_of came.Good = walk.Good
 came_of came.Refused = walk.Refused
 came_of came.Unsent = walk.Unsent
@@ -58,7 +58,7 @@ outcome_of outcome.Passed = walk.Passed
 outcome_of (outcome.Sent e bytes) = walk.Sent e bytes.now
 outcome_of (outcome.Lined failed) = walk.Lined failed
 
-abbrev pub go_of : Follow → Go
+abbrev pub go_of : Continuation → Go
 go_of follow.On = walk.On
 go_of follow.Last = walk.Last
 go_of follow.Over = walk.Over
@@ -79,11 +79,11 @@ note_of (AwaitWork n h ∷ ts) = note_of ts
 note_of (AwaitDeselect h was ∷ ts) = aside h
 
 -- what does a job on the bus at place n, on which the mux of this hop stands
-abbrev pub on_bus : BoardView → CourseView → ℕ → Hop → Doer
+abbrev pub on_bus : BoardView → RouteView → ℕ → Hop → Doer
 on_bus b c n h = part h.parent (locks_of c.root (drop n c.path)) (inner b c.root (drop n c.path))
 
 -- the walk that these tasks stand for, where this came of the last job
-abbrev pub tree_of : BoardView → List MessageView → CourseView → List Task → JobOutcome → WalkTree
+abbrev pub tree_of : BoardView → List MessageView → RouteView → List Task → JobOutcome → WalkTree
 tree_of b ms c [] out = Ends
 tree_of b ms c (Enter n w ∷ ts) out = inner b c.root (drop n c.path) (job_of c ms w) (note_of ts) (tree_of b ms c ts)
 tree_of b ms c (Lock m n w ∷ ts) out =
@@ -158,7 +158,7 @@ is_deselect (AwaitDeselect h was) = true
 
 -- the walk that a stack stands for
 abbrev pub walk_of : BoardView → List MessageView → WalkView → WalkTree
-walk_of b ms w = tree_of b ms w.course w.tasks w.came
+walk_of b ms w = tree_of b ms w.route w.tasks w.came
 
 -- what lock words tell: the mark of each bus, and the channel that each mux keeps open
 pub record SeenView : Type 0 where
@@ -203,7 +203,7 @@ control_of (Select h) left = select_byte h left
 control_of (SwitchOff off) left = Some close_value
 
 -- the first step of a job at a place, with nothing behind it
-abbrev pub first_at : BoardView → List MessageView → CourseView → SeenView → ℕ → Work → Option Act
+abbrev pub first_at : BoardView → List MessageView → RouteView → SeenView → ℕ → Work → Option Act
 first_at b ms c s n w = first_act (seen (slots_of s) (tree_of b ms c (Enter n w ∷ []) walk.Good))
 
 -- the message of a job that so many more may follow, as it is sent next

@@ -2,7 +2,7 @@
 use Rattle.std.specs.Prelude.{ℕ, ◌+◌, ◌*◌, ◌<◌, ◌≤◌, List, [], ◌∷◌, length, All}
 use Rattle.i2c_base.specs.Limits.{MOST_CHANNELS, MOST_DEPTH}
 use Rattle.i2c_spec.specs.Tree.{Hop}
-use Rattle.mux_plan.specs.Plans.{CourseView}
+use Rattle.mux_plan.specs.Plans.{RouteView}
 use Rattle.mux_plan.specs.declared.task.Work.{Work}
 use Rattle.mux_plan.specs.declared.task.Work.TheVariants as work
 use Rattle.mux_plan.specs.declared.task.Task.{Task}
@@ -71,7 +71,7 @@ IsStep (AwaitWork n h ∷ ts) = ⊥
 IsStep (AwaitDeselect h was ∷ ts) = ⊥
 
 -- the path is no deeper than a bus may be, and each of its tasks has its place
-pub record IsPlanned (course : CourseView) (tasks : List Task) : Type 0 where
-  pub deep : length course.path ≤ MOST_DEPTH
-  pub narrow : All IsNarrow course.path
-  pub placed : IsPlaced (length course.path) tasks
+pub record IsPlanned (route : RouteView) (tasks : List Task) : Type 0 where
+  pub deep : length route.path ≤ MOST_DEPTH
+  pub narrow : All IsNarrow route.path
+  pub placed : IsPlaced (length route.path) tasks

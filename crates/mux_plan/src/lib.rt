@@ -6,10 +6,10 @@
 //! Definitions: `specs/Plans.antt`, `specs/Marks.antt`, and the grammar itself in `bus_spec`. Standard: Linux i2c-topology.
 #![tactic(auto)]
 
-mod course;
 mod laws;
 mod marks;
 mod parts;
+mod route;
 mod row;
 mod seen;
 mod stack;
@@ -17,10 +17,10 @@ mod task;
 mod walk;
 mod work;
 
-pub(crate) use course::Course;
 pub use laws::changed_marks_are_told;
-pub use marks::{Due, Dues};
+pub use marks::{MuxUpdate, MuxUpdates};
+pub(crate) use route::Route;
 pub use seen::Seen;
 pub use task::{Action, NextMsg, Outcome};
-pub(crate) use task::{Came, Task, Work};
+pub(crate) use task::{Task, Work, WorkResult};
 pub use walk::Walk;

@@ -1,8 +1,8 @@
 //! Which marks and kept channels a step changes.
 ghost use Rattle.std.specs.Prelude.{◌≡◌, ℕ, ◌+◌, ◌<◌, ◌≤◌, List, [], ◌∷◌, ◌++◌, Some, None, length, reverse};
 ghost use Rattle.i2c_spec.specs.Messages.{MessageView};
-ghost use Rattle.mux_plan.specs.Plans.{CourseView, job_of, note_of, outcome_of};
-ghost use Rattle.mux_plan.specs.Marks.{all_marked, left_open, dues_on, dues_of_job};
+ghost use Rattle.mux_plan.specs.Plans.{RouteView, job_of, note_of, outcome_of};
+ghost use Rattle.mux_plan.specs.Marks.{all_marked, left_open, updates_on, updates_of_job};
 ghost use Rattle.mux_plan.specs.Rooms.{IsNarrow, IsNarrowWork, STACK_ROOM};
 
 use crate::stack::STACK_ROOM;
@@ -14,7 +14,7 @@ use i2c_spec::Hop;
 /// A mux was turned: the bus that it stands on gets a mark, that of a mux which may have been left open, or loses it, and
 /// the mux has this channel open.
 #[derive(Clone, Copy, Default)]
-pub struct Due {
+pub struct MuxUpdate {
     pub on: SegId,
     pub mark: Option<MuxId>,
     pub mux: MuxId,
@@ -22,27 +22,27 @@ pub struct Due {
 }
 
 /// The muxes that a step turns, the one that is set first in front.
-pub type Dues = ArrayVec<Due, STACK_ROOM>;
+pub type MuxUpdates = ArrayVec<MuxUpdate, STACK_ROOM>;
 
 // A failure marks each mux that may be left open: from the nearest deselect up those that these tasks wait for.
-fn mark_open(dues: &mut Dues, tasks: &[Task])
-    requires { length dues.old.items + length tasks.now ≤ STACK_ROOM }
-    ensures value { dues.new.items ≡ dues.old.items ++ all_marked (note_of (reverse tasks.now)).marks }
-    ensures few { length dues.new.items ≤ length dues.old.items + length tasks.now }
+fn mark_open(updates: &mut MuxUpdates, tasks: &[Task])
+    requires { length updates.old.items + length tasks.now ≤ STACK_ROOM }
+    ensures value { updates.new.items ≡ updates.old.items ++ all_marked (note_of (reverse tasks.now)).marks }
+    ensures few { length updates.new.items ≤ length updates.old.items + length tasks.now }
 {
     let Some((top, below)) = tasks.split_last() else {
         return;
     };
     match top {
-        Task::AwaitDeselect { hop, .. } => mark(dues, hop.on, hop.mux),
+        Task::AwaitDeselect { hop, .. } => mark(updates, hop.on, hop.mux),
         // Of several muxes on one bus the one nearest to the top counts, so it comes last.
         Task::AwaitClose { hop, mux, .. } => {
-            mark_open(dues, below);
-            mark(dues, hop.on, *mux);
+            mark_open(updates, below);
+            mark(updates, hop.on, *mux);
         }
         Task::AwaitSelect { hop, .. } => {
-            mark_open(dues, below);
-            mark(dues, hop.on, hop.mux);
+            mark_open(updates, below);
+            mark(updates, hop.on, hop.mux);
         }
         Task::Enter { .. }
         | Task::Lock { .. }
@@ -51,16 +51,16 @@ fn mark_open(dues: &mut Dues, tasks: &[Task])
         | Task::Line { .. }
         | Task::Settle(_)
         | Task::Pass { .. }
-        | Task::AwaitWork { .. } => mark_open(dues, below),
+        | Task::AwaitWork { .. } => mark_open(updates, below),
     }
 }
 
 // A mux on the bus may be open from now on.
-fn mark(dues: &mut Dues, on: SegId, mux: MuxId)
-    requires { length dues.old.items < STACK_ROOM }
-    ensures { dues.new.items ≡ dues.old.items ++ record { on = on; mark = Some mux; mux = mux; channel = None } ∷ [] }
+fn mark(updates: &mut MuxUpdates, on: SegId, mux: MuxId)
+    requires { length updates.old.items < STACK_ROOM }
+    ensures { updates.new.items ≡ updates.old.items ++ record { on = on; mark = Some mux; mux = mux; channel = None } ∷ [] }
 {
-    dues.push(Due {
+    updates.push(MuxUpdate {
         on,
         mark: Some(mux),
         mux,
@@ -84,7 +84,7 @@ fn left_open(hop: &Hop, left: u8, outcome: &Outcome<'_>) -> Option<u8>
 // A mux on this bus was turned above these tasks. Where the port didn't fail no mark is left, and this channel is open.
 #[inline(always)]
 fn turn(
-    dues: &mut Dues,
+    updates: &mut MuxUpdates,
     tasks: &[Task],
     on: SegId,
     mux: MuxId,
@@ -92,8 +92,8 @@ fn turn(
     outcome: &Outcome<'_>,
 )
     requires few { length tasks.now < STACK_ROOM }
-    requires empty { dues.old.items ≡ [] }
-    ensures { dues.new.items ≡ dues_on on mux channel (note_of (reverse tasks.now)).marks (outcome_of outcome.now) }
+    requires empty { updates.old.items ≡ [] }
+    ensures { updates.new.items ≡ updates_on on mux channel (note_of (reverse tasks.now)).marks (outcome_of outcome.now) }
 {
     let failed = match outcome {
         Outcome::Passed => return,
@@ -101,9 +101,9 @@ fn turn(
         Outcome::Lined { failed } => *failed,
     };
     if failed {
-        mark_open(dues, tasks);
+        mark_open(updates, tasks);
     } else {
-        dues.push(Due {
+        updates.push(MuxUpdate {
             on,
             mark: None,
             mux,
@@ -115,17 +115,23 @@ fn turn(
 /// Which muxes are turned where a message of a piece of work above these tasks, which so many more may follow, or its
 /// line has this outcome.
 #[inline(always)]
-pub fn mark_work(dues: &mut Dues, tasks: &[Task], left: u8, work: &Work, outcome: &Outcome<'_>)
+pub fn mark_work(
+    updates: &mut MuxUpdates,
+    tasks: &[Task],
+    left: u8,
+    work: &Work,
+    outcome: &Outcome<'_>,
+)
     requires few { length tasks.now < STACK_ROOM }
-    requires empty { dues.old.items ≡ [] }
+    requires empty { updates.old.items ≡ [] }
     requires narrow { IsNarrowWork work.now }
-    ensures { (c : CourseView) (ms : List MessageView)
-        → dues.new.items ≡ dues_of_job (job_of c ms work.now) left (note_of (reverse tasks.now)).marks (outcome_of outcome.now) }
+    ensures { (c : RouteView) (ms : List MessageView)
+        → updates.new.items ≡ updates_of_job (job_of c ms work.now) left (note_of (reverse tasks.now)).marks (outcome_of outcome.now) }
 {
     match work {
         Work::Call => {}
         Work::Select(hop) => turn(
-            dues,
+            updates,
             tasks,
             hop.on,
             hop.mux,
@@ -133,7 +139,7 @@ pub fn mark_work(dues: &mut Dues, tasks: &[Task], left: u8, work: &Work, outcome
             outcome,
         ),
         Work::Deselect(Hop { on, mux, .. }) | Work::Close { on, mux, .. } => {
-            turn(dues, tasks, *on, *mux, None, outcome);
+            turn(updates, tasks, *on, *mux, None, outcome);
         }
     }
 }

@@ -7,29 +7,29 @@ ghost use Rattle.i2c_base.specs.declared.errno.Errno.{Errno};
 ghost use Rattle.bus_spec.specs.Slots.{Slots};
 ghost use Rattle.bus_spec.specs.Walk.{JobOutcome, ActOutcome, Settle, Look, KeptOf};
 ghost use Rattle.bus_spec.specs.Grammar.{at_bus, lost as lost_of, is_over, first_act, first_note, keeps, crossed, opened, over, seen as seen_by, rest_of};
-ghost use Rattle.mux_plan.specs.Plans.{CourseView, job_of, came_of, outcome_of, note_of, on_bus, tree_of, action_of, slots_of, mark_on, kept_of, part_task, select_tasks, wait_tasks, work_tasks, crossed_tasks, choice_of, switch_of};
+ghost use Rattle.mux_plan.specs.Plans.{RouteView, job_of, came_of, outcome_of, note_of, on_bus, tree_of, action_of, slots_of, mark_on, kept_of, part_task, select_tasks, wait_tasks, work_tasks, crossed_tasks, choice_of, switch_of};
 ghost use Rattle.mux_plan.specs.Plans as plans;
-ghost use Rattle.mux_plan.specs.Marks.{dues_after};
+ghost use Rattle.mux_plan.specs.Marks.{updates_after};
 ghost use Rattle.mux_plan.specs.Rooms.{IsNarrow, IsNarrowWork, IsPlanned, IsReady, IsStep, STACK_ROOM};
 ghost use Rattle.mux_plan.specs.declared.task.Task.TheVariants.{Enter, Lock, Rest, Pass, AwaitClose, AwaitSelect, AwaitWork};
 ghost use Rattle.mux_plan.specs.declared.task.Action.TheVariants.{Done};
 
-use crate::course::{close, is_parent};
-use crate::marks::{Dues, mark_work};
+use crate::marks::{MuxUpdates, mark_work};
+use crate::route::{close, is_parent};
 use crate::stack::Stack;
-use crate::work::Follow;
-use crate::{Action, Came, Course, Outcome, Seen, Task, Work};
+use crate::work::Continuation;
+use crate::{Action, Outcome, Route, Seen, Task, Work, WorkResult};
 use i2c_base::{Errno, MuxId};
 use i2c_board::Board;
 use i2c_spec::Hop;
 
 /// The parts of a walk.
 #[derive(Drop)]
-pub struct Parts {
-    pub course: Course,
+pub struct WalkParts {
+    pub route: Route,
     pub stack: Stack<Task>,
     /// What came of the last piece of work.
-    pub came: Came,
+    pub came: WorkResult,
 }
 
 // The task that does a piece of work on the bus of a mux: the locks of a mux-locked one come first.
@@ -48,13 +48,13 @@ fn part(parent: bool, place: u8, work: &Work) -> Task
 }
 
 // What comes of work whose select came so: it was never sent.
-fn lost(came: Came) -> Came
+fn lost(came: WorkResult) -> WorkResult
     ensures { came_of result ≡ lost_of (came_of came) }
 {
     match came {
-        Came::Good => Came::Good,
-        Came::Refused | Came::Unsent => Came::Unsent,
-        Came::Failed => Came::Failed,
+        WorkResult::Good => WorkResult::Good,
+        WorkResult::Refused | WorkResult::Unsent => WorkResult::Unsent,
+        WorkResult::Failed => WorkResult::Failed,
     }
 }
 
@@ -72,14 +72,14 @@ fn has_deselect(tasks: &[Task]) -> bool
     tasks.iter().any(is_deselect)
 }
 
-impl Parts {
+impl WalkParts {
     /// Begins anew with this task.
     pub fn start(&mut self, task: Task)
         ensures stack { self.new.stack ≡ task ∷ [] }
-        ensures course { self.new.course ≡ self.old.course }
+        ensures route { self.new.route ≡ self.old.route }
     {
         self.stack.restart(task);
-        self.came = Came::Good;
+        self.came = WorkResult::Good;
     }
 
     // The work waits for the select, which is given, but where the mux keeps its channel open: then the work itself is.
@@ -89,7 +89,7 @@ impl Parts {
         ensures narrow { IsNarrow hop.now → IsNarrowWork work.now → IsNarrowWork result }
         ensures few { length self.new.stack ≤ length self.old.stack + 1 }
         ensures stack { self.new.stack ≡ select_tasks hop.now (keeps hop.now (kept_of seen.now hop.now.mux)) place work.now self.old.stack }
-        ensures course { self.new.course ≡ self.old.course }
+        ensures route { self.new.route ≡ self.old.route }
         ensures came { self.new.came ≡ self.old.came }
     {
         if seen.keeps(hop) {
@@ -110,7 +110,7 @@ impl Parts {
         ensures narrow { IsNarrow hop.now → IsNarrowWork work.now → IsNarrowWork result }
         ensures few { length self.new.stack ≤ length self.old.stack + 1 }
         ensures stack { self.new.stack ≡ wait_tasks hop.now (mark_on seen.now hop.now.on) (keeps hop.now (kept_of seen.now hop.now.mux)) place work.now self.old.stack }
-        ensures course { self.new.course ≡ self.old.course }
+        ensures route { self.new.route ≡ self.old.route }
         ensures came { self.new.came ≡ self.old.came }
     {
         match seen.mark(hop) {
@@ -134,7 +134,7 @@ impl Parts {
         ensures next { result ≡ switch_of board.now hop.now (mark_on seen.now hop.now.on) (keeps hop.now (kept_of seen.now hop.now.mux)) work.now }
         ensures narrow { IsNarrow hop.now → IsNarrowWork work.now → IsNarrowWork result }
         ensures stack { self.new.stack ≡ crossed_tasks hop.now (mark_on seen.now hop.now.on) (keeps hop.now (kept_of seen.now hop.now.mux)) place work.now result self.old.stack }
-        ensures course { self.new.course ≡ self.old.course }
+        ensures route { self.new.route ≡ self.old.route }
         ensures came { self.new.came ≡ self.old.came }
     {
         let next = self.wait(board, seen, hop, place, work);
@@ -147,14 +147,14 @@ impl Parts {
     // No mux is left to cross.
     fn reach(&mut self, work: &Work)
         requires room { length self.old.stack < STACK_ROOM }
-        ensures tree { (b : BoardView) (ms : List MessageView) (out : JobOutcome) → length ms ≡ self.old.course.count
-            → tree_of b ms self.new.course self.new.stack out ≡ at_bus (job_of self.old.course ms work.now) (note_of self.old.stack) (tree_of b ms self.old.course self.old.stack) }
-        ensures planned { (n : ℕ) → IsPlanned self.old.course (Enter n work.now ∷ self.old.stack) → IsPlanned self.new.course self.new.stack }
+        ensures tree { (b : BoardView) (ms : List MessageView) (out : JobOutcome) → length ms ≡ self.old.route.count
+            → tree_of b ms self.new.route self.new.stack out ≡ at_bus (job_of self.old.route ms work.now) (note_of self.old.stack) (tree_of b ms self.old.route self.old.stack) }
+        ensures planned { (n : ℕ) → IsPlanned self.old.route (Enter n work.now ∷ self.old.stack) → IsPlanned self.new.route self.new.stack }
         ensures step { IsStep self.new.stack }
-        ensures course { self.new.course ≡ self.old.course }
+        ensures route { self.new.route ≡ self.old.route }
         ensures came { self.new.came ≡ self.old.came }
     {
-        let task = self.course.base(*work);
+        let task = self.route.base(*work);
         self.stack.push(task);
     }
 
@@ -162,18 +162,18 @@ impl Parts {
     /// is on the top.
     #[inline(always)]
     pub fn enter(&mut self, board: &Board, seen: &Seen<'_>, place: u8, work: Work)
-        requires planned { IsPlanned self.old.course (Enter place work ∷ self.old.stack) }
-        ensures tree { (ms : List MessageView) (out : JobOutcome) → length ms ≡ self.old.course.count
-            → tree_of board.now ms self.new.course self.new.stack out
-            ≡ seen_by (slots_of seen.now) (tree_of board.now ms self.old.course (Enter place work ∷ self.old.stack) out) }
-        ensures planned { IsPlanned self.new.course self.new.stack }
+        requires planned { IsPlanned self.old.route (Enter place work ∷ self.old.stack) }
+        ensures tree { (ms : List MessageView) (out : JobOutcome) → length ms ≡ self.old.route.count
+            → tree_of board.now ms self.new.route self.new.stack out
+            ≡ seen_by (slots_of seen.now) (tree_of board.now ms self.old.route (Enter place work ∷ self.old.stack) out) }
+        ensures planned { IsPlanned self.new.route self.new.stack }
         ensures step { IsStep self.new.stack }
-        ensures course { self.new.course ≡ self.old.course }
+        ensures route { self.new.route ≡ self.old.route }
         ensures came { self.new.came ≡ self.old.came }
     {
         let mut place = place;
         let mut work = work;
-        'muxes: while let Some(hop) = self.course.crossed(place, &work) {
+        'muxes: while let Some(hop) = self.route.crossed(place, &work) {
             place += 1;
             work = self.cross(board, seen, &hop, place, &work);
             if !is_parent(&hop) {
@@ -187,13 +187,13 @@ impl Parts {
     // comes then. Apart, since few walks come here.
     #[inline(never)]
     fn pass(&mut self, board: &Board, seen: &Seen<'_>, place: u8, hop: &Hop, work: &Work)
-        requires planned { IsPlanned self.old.course (Pass place hop.now work.now ∷ self.old.stack) }
-        ensures tree { (ms : List MessageView) (out : JobOutcome) → length ms ≡ self.old.course.count
-            → tree_of board.now ms self.new.course self.new.stack out
-            ≡ seen_by (slots_of seen.now) (tree_of board.now ms self.old.course (Pass place hop.now work.now ∷ self.old.stack) out) }
-        ensures planned { IsPlanned self.new.course self.new.stack }
+        requires planned { IsPlanned self.old.route (Pass place hop.now work.now ∷ self.old.stack) }
+        ensures tree { (ms : List MessageView) (out : JobOutcome) → length ms ≡ self.old.route.count
+            → tree_of board.now ms self.new.route self.new.stack out
+            ≡ seen_by (slots_of seen.now) (tree_of board.now ms self.old.route (Pass place hop.now work.now ∷ self.old.stack) out) }
+        ensures planned { IsPlanned self.new.route self.new.stack }
         ensures step { IsStep self.new.stack }
-        ensures course { self.new.course ≡ self.old.course }
+        ensures route { self.new.route ≡ self.old.route }
         ensures came { self.new.came ≡ self.old.came }
     {
         let next = self.wait_select(seen, hop, place, work);
@@ -206,14 +206,14 @@ impl Parts {
 
     /// Answers the looks in front of the next step.
     pub fn look(&mut self, board: &Board, seen: &Seen<'_>)
-        requires planned { IsPlanned self.old.course self.old.stack }
+        requires planned { IsPlanned self.old.route self.old.stack }
         requires ready { IsReady self.old.stack }
-        ensures tree { (ms : List MessageView) (out : JobOutcome) → length ms ≡ self.old.course.count
-            → tree_of board.now ms self.new.course self.new.stack out
-            ≡ seen_by (slots_of seen.now) (tree_of board.now ms self.old.course self.old.stack out) }
-        ensures planned { IsPlanned self.new.course self.new.stack }
+        ensures tree { (ms : List MessageView) (out : JobOutcome) → length ms ≡ self.old.route.count
+            → tree_of board.now ms self.new.route self.new.stack out
+            ≡ seen_by (slots_of seen.now) (tree_of board.now ms self.old.route self.old.stack out) }
+        ensures planned { IsPlanned self.new.route self.new.stack }
         ensures step { IsStep self.new.stack }
-        ensures course { self.new.course ≡ self.old.course }
+        ensures route { self.new.route ≡ self.old.route }
         ensures came { self.new.came ≡ self.old.came }
     {
         let Some(task) = self.stack.peek() else {
@@ -239,14 +239,14 @@ impl Parts {
 
     // Takes the first of the locks from a place on.
     fn lock(&mut self, from: u8, place: u8, work: Work)
-        requires planned { IsPlanned self.old.course (Lock from place work ∷ self.old.stack) }
+        requires planned { IsPlanned self.old.route (Lock from place work ∷ self.old.stack) }
         ensures tree { (b : BoardView) (ms : List MessageView) (out out2 : JobOutcome) (o : ActOutcome)
-            → tree_of b ms self.new.course self.new.stack out ≡ rest_of (tree_of b ms self.old.course (Lock from place work ∷ self.old.stack) out2) o }
-        ensures planned { IsPlanned self.new.course self.new.stack }
-        ensures course { self.new.course ≡ self.old.course }
+            → tree_of b ms self.new.route self.new.stack out ≡ rest_of (tree_of b ms self.old.route (Lock from place work ∷ self.old.stack) out2) o }
+        ensures planned { IsPlanned self.new.route self.new.stack }
+        ensures route { self.new.route ≡ self.old.route }
     {
-        self.stack.push(Task::Free(self.course.lock_at(from)));
-        if self.course.locks_on(from) {
+        self.stack.push(Task::Free(self.route.lock_at(from)));
+        if self.route.locks_on(from) {
             self.stack.push(Task::Lock {
                 from: from + 1,
                 place,
@@ -266,12 +266,12 @@ impl Parts {
 
     // Ends a piece of work, whose last message or line had this outcome.
     fn end(&mut self, left: u8, work: Work, outcome: &Outcome<'_>)
-        requires planned { IsPlanned self.old.course (Rest left work ∷ self.old.stack) }
+        requires planned { IsPlanned self.old.route (Rest left work ∷ self.old.stack) }
         ensures tree { (b : BoardView) (ms : List MessageView)
-            → tree_of b ms self.new.course self.new.stack (came_of self.new.came)
-            ≡ over (job_of self.old.course ms work) left (note_of self.old.stack) (tree_of b ms self.old.course self.old.stack) (outcome_of outcome.now) }
-        ensures planned { IsPlanned self.new.course self.new.stack }
-        ensures course { self.new.course ≡ self.old.course }
+            → tree_of b ms self.new.route self.new.stack (came_of self.new.came)
+            ≡ over (job_of self.old.route ms work) left (note_of self.old.stack) (tree_of b ms self.old.route self.old.stack) (outcome_of outcome.now) }
+        ensures planned { IsPlanned self.new.route self.new.stack }
+        ensures route { self.new.route ≡ self.old.route }
     {
         let came = work.came(left, outcome);
         if work.decides(came) && self.is_forward() {
@@ -282,55 +282,55 @@ impl Parts {
 
     // A message was sent, which so many more might have followed.
     fn message(&mut self, left: u8, work: Work, outcome: &Outcome<'_>)
-        requires planned { IsPlanned self.old.course (Rest left work ∷ self.old.stack) }
+        requires planned { IsPlanned self.old.route (Rest left work ∷ self.old.stack) }
         ensures tree { (b : BoardView) (ms : List MessageView) (out : JobOutcome)
-            → tree_of b ms self.new.course self.new.stack (came_of self.new.came)
-            ≡ rest_of (tree_of b ms self.old.course (Rest left work ∷ self.old.stack) out) (outcome_of outcome.now) }
-        ensures planned { IsPlanned self.new.course self.new.stack }
-        ensures course { self.new.course ≡ self.old.course }
+            → tree_of b ms self.new.route self.new.stack (came_of self.new.came)
+            ≡ rest_of (tree_of b ms self.old.route (Rest left work ∷ self.old.stack) out) (outcome_of outcome.now) }
+        ensures planned { IsPlanned self.new.route self.new.stack }
+        ensures route { self.new.route ≡ self.old.route }
     {
         if left == 0 {
             self.end(left, work, outcome);
             return;
         }
-        match work.goes(left - 1, outcome) {
-            Follow::On => self.stack.push(Task::Rest {
+        match work.after_msg(left - 1, outcome) {
+            Continuation::On => self.stack.push(Task::Rest {
                 left: left - 1,
                 work,
             }),
-            Follow::Last => self.stack.push(Task::Rest { left: 0, work }),
-            Follow::Over => self.end(left, work, outcome),
+            Continuation::Last => self.stack.push(Task::Rest { left: 0, work }),
+            Continuation::Over => self.end(left, work, outcome),
         }
     }
 
     /// Which marks change where the step on the top has this outcome.
-    pub fn mark(&self, dues: &mut Dues, outcome: &Outcome<'_>)
-        requires planned { IsPlanned self.now.course self.now.stack }
+    pub fn mark(&self, updates: &mut MuxUpdates, outcome: &Outcome<'_>)
+        requires planned { IsPlanned self.now.route self.now.stack }
         requires step { IsStep self.now.stack }
         requires few { length self.now.stack ≤ STACK_ROOM }
-        requires empty { dues.old.items ≡ [] }
+        requires empty { updates.old.items ≡ [] }
         ensures { (b : BoardView) (ms : List MessageView) (out : JobOutcome)
-            → dues.new.items ≡ dues_after (first_act (tree_of b ms self.now.course self.now.stack out)) (first_note (tree_of b ms self.now.course self.now.stack out)) (outcome_of outcome.now) }
+            → updates.new.items ≡ updates_after (first_act (tree_of b ms self.now.route self.now.stack out)) (first_note (tree_of b ms self.now.route self.now.stack out)) (outcome_of outcome.now) }
     {
         let Some((top, below)) = self.stack.split() else {
             return;
         };
         match top {
-            Task::Rest { left, work } => mark_work(dues, below, *left, work, outcome),
-            Task::Line { work } => mark_work(dues, below, 0, work, outcome),
+            Task::Rest { left, work } => mark_work(updates, below, *left, work, outcome),
+            Task::Line { work } => mark_work(updates, below, 0, work, outcome),
             _ => {}
         }
     }
 
     /// The step on the top is done, and had this outcome.
     pub fn act(&mut self, outcome: &Outcome<'_>)
-        requires planned { IsPlanned self.old.course self.old.stack }
+        requires planned { IsPlanned self.old.route self.old.stack }
         requires step { IsStep self.old.stack }
         ensures tree { (b : BoardView) (ms : List MessageView)
-            → tree_of b ms self.new.course self.new.stack (came_of self.new.came)
-            ≡ rest_of (tree_of b ms self.old.course self.old.stack (came_of self.old.came)) (outcome_of outcome.now) }
-        ensures planned { IsPlanned self.new.course self.new.stack }
-        ensures course { self.new.course ≡ self.old.course }
+            → tree_of b ms self.new.route self.new.stack (came_of self.new.came)
+            ≡ rest_of (tree_of b ms self.old.route self.old.stack (came_of self.old.came)) (outcome_of outcome.now) }
+        ensures planned { IsPlanned self.new.route self.new.stack }
+        ensures route { self.new.route ≡ self.old.route }
     {
         let Some(task) = self.stack.peek() else {
             return;
@@ -366,13 +366,13 @@ impl Parts {
 
     // A marked mux was closed: the look at the kept channel comes next.
     fn closed(&mut self, place: u8, hop: Hop, mux: MuxId, work: Work)
-        requires planned { IsPlanned self.old.course (AwaitClose place hop mux work ∷ self.old.stack) }
+        requires planned { IsPlanned self.old.route (AwaitClose place hop mux work ∷ self.old.stack) }
         ensures tree { (b : BoardView) (ms : List MessageView) (out : JobOutcome)
-            → tree_of b ms self.new.course self.new.stack out
-            ≡ Look (KeptOf hop.on hop.mux) (crossed hop (on_bus b self.old.course place hop) (job_of self.old.course ms work) (note_of self.old.stack) (tree_of b ms self.old.course self.old.stack)) }
-        ensures planned { IsPlanned self.new.course self.new.stack }
+            → tree_of b ms self.new.route self.new.stack out
+            ≡ Look (KeptOf hop.on hop.mux) (crossed hop (on_bus b self.old.route place hop) (job_of self.old.route ms work) (note_of self.old.stack) (tree_of b ms self.old.route self.old.stack)) }
+        ensures planned { IsPlanned self.new.route self.new.stack }
         ensures ready { IsReady self.new.stack }
-        ensures course { self.new.course ≡ self.old.course }
+        ensures route { self.new.route ≡ self.old.route }
         ensures came { self.new.came ≡ self.old.came }
     {
         self.stack.push(Task::Pass { place, hop, work });
@@ -383,7 +383,7 @@ impl Parts {
         requires room { length self.old.stack < STACK_ROOM }
         ensures few { length self.new.stack ≤ length self.old.stack + 1 }
         ensures stack { self.new.stack ≡ work_tasks hop.now.stays place hop.now self.old.stack }
-        ensures course { self.new.course ≡ self.old.course }
+        ensures route { self.new.route ≡ self.old.route }
         ensures came { self.new.came ≡ self.old.came }
     {
         if !hop.stays {
@@ -393,13 +393,13 @@ impl Parts {
 
     // The channel is selected: the work is done.
     fn serve(&mut self, place: u8, hop: Hop, work: Work)
-        requires planned { IsPlanned self.old.course (AwaitSelect place hop work ∷ self.old.stack) }
+        requires planned { IsPlanned self.old.route (AwaitSelect place hop work ∷ self.old.stack) }
         ensures tree { (b : BoardView) (ms : List MessageView) (out : JobOutcome)
-            → tree_of b ms self.new.course self.new.stack out
-            ≡ opened hop (on_bus b self.old.course place hop) (job_of self.old.course ms work) (note_of self.old.stack) (tree_of b ms self.old.course self.old.stack) }
-        ensures planned { IsPlanned self.new.course self.new.stack }
+            → tree_of b ms self.new.route self.new.stack out
+            ≡ opened hop (on_bus b self.old.route place hop) (job_of self.old.route ms work) (note_of self.old.stack) (tree_of b ms self.old.route self.old.stack) }
+        ensures planned { IsPlanned self.new.route self.new.stack }
         ensures ready { IsReady self.new.stack }
-        ensures course { self.new.course ≡ self.old.course }
+        ensures route { self.new.route ≡ self.old.route }
         ensures came { self.new.came ≡ self.old.came }
     {
         self.wait_work(place, &hop);
@@ -408,13 +408,13 @@ impl Parts {
 
     // The work is done: the mux is deselected, whatever came of it.
     fn deselect(&mut self, place: u8, hop: Hop)
-        requires planned { IsPlanned self.old.course (AwaitWork place hop ∷ self.old.stack) }
+        requires planned { IsPlanned self.old.route (AwaitWork place hop ∷ self.old.stack) }
         ensures tree { (b : BoardView) (ms : List MessageView) (out : JobOutcome)
-            → tree_of b ms self.new.course self.new.stack out
-            ≡ tree_of b ms self.old.course (AwaitWork place hop ∷ self.old.stack) (came_of self.old.came) }
-        ensures planned { IsPlanned self.new.course self.new.stack }
+            → tree_of b ms self.new.route self.new.stack out
+            ≡ tree_of b ms self.old.route (AwaitWork place hop ∷ self.old.stack) (came_of self.old.came) }
+        ensures planned { IsPlanned self.new.route self.new.stack }
         ensures ready { IsReady self.new.stack }
-        ensures course { self.new.course ≡ self.old.course }
+        ensures route { self.new.route ≡ self.old.route }
         ensures came { self.new.came ≡ self.old.came }
     {
         self.stack.push(Task::AwaitDeselect {
@@ -427,11 +427,11 @@ impl Parts {
 
     // Goes on with what waits on the top, if it does. Tells whether what is below it has to go on too.
     fn wake(&mut self) -> bool
-        requires planned { IsPlanned self.old.course self.old.stack }
+        requires planned { IsPlanned self.old.route self.old.stack }
         ensures tree { (b : BoardView) (ms : List MessageView)
-            → tree_of b ms self.new.course self.new.stack (came_of self.new.came) ≡ tree_of b ms self.old.course self.old.stack (came_of self.old.came) }
-        ensures planned { IsPlanned self.new.course self.new.stack }
-        ensures course { self.new.course ≡ self.old.course }
+            → tree_of b ms self.new.route self.new.stack (came_of self.new.came) ≡ tree_of b ms self.old.route self.old.stack (came_of self.old.came) }
+        ensures planned { IsPlanned self.new.route self.new.stack }
+        ensures route { self.new.route ≡ self.old.route }
         ensures ready { result ≡ false → IsReady self.new.stack }
         ensures less { result ≡ true → length self.new.stack < length self.old.stack }
     {
@@ -484,41 +484,41 @@ impl Parts {
 
     // The close of a marked mux has come to its end; where it wasn't sent or failed, so has the work.
     fn wake_close(&mut self, place: u8, hop: Hop, mux: MuxId, work: Work) -> bool
-        requires planned { IsPlanned self.old.course (AwaitClose place hop mux work ∷ self.old.stack) }
+        requires planned { IsPlanned self.old.route (AwaitClose place hop mux work ∷ self.old.stack) }
         ensures tree { (b : BoardView) (ms : List MessageView)
-            → tree_of b ms self.new.course self.new.stack (came_of self.new.came)
-            ≡ tree_of b ms self.old.course (AwaitClose place hop mux work ∷ self.old.stack) (came_of self.old.came) }
-        ensures planned { IsPlanned self.new.course self.new.stack }
-        ensures course { self.new.course ≡ self.old.course }
+            → tree_of b ms self.new.route self.new.stack (came_of self.new.came)
+            ≡ tree_of b ms self.old.route (AwaitClose place hop mux work ∷ self.old.stack) (came_of self.old.came) }
+        ensures planned { IsPlanned self.new.route self.new.stack }
+        ensures route { self.new.route ≡ self.old.route }
         ensures ready { result ≡ false → IsReady self.new.stack }
         ensures less { result ≡ true → self.new.stack ≡ self.old.stack }
     {
         match self.came {
-            Came::Good | Came::Refused => {
+            WorkResult::Good | WorkResult::Refused => {
                 self.closed(place, hop, mux, work);
                 false
             }
-            Came::Unsent | Came::Failed => true,
+            WorkResult::Unsent | WorkResult::Failed => true,
         }
     }
 
     // The select has come to its end; where it wasn't good, so has the work.
     fn wake_select(&mut self, place: u8, hop: Hop, work: Work) -> bool
-        requires planned { IsPlanned self.old.course (AwaitSelect place hop work ∷ self.old.stack) }
+        requires planned { IsPlanned self.old.route (AwaitSelect place hop work ∷ self.old.stack) }
         ensures tree { (b : BoardView) (ms : List MessageView)
-            → tree_of b ms self.new.course self.new.stack (came_of self.new.came)
-            ≡ tree_of b ms self.old.course (AwaitSelect place hop work ∷ self.old.stack) (came_of self.old.came) }
-        ensures planned { IsPlanned self.new.course self.new.stack }
-        ensures course { self.new.course ≡ self.old.course }
+            → tree_of b ms self.new.route self.new.stack (came_of self.new.came)
+            ≡ tree_of b ms self.old.route (AwaitSelect place hop work ∷ self.old.stack) (came_of self.old.came) }
+        ensures planned { IsPlanned self.new.route self.new.stack }
+        ensures route { self.new.route ≡ self.old.route }
         ensures ready { result ≡ false → IsReady self.new.stack }
         ensures less { result ≡ true → self.new.stack ≡ self.old.stack }
     {
         match self.came {
-            Came::Good => {
+            WorkResult::Good => {
                 self.serve(place, hop, work);
                 false
             }
-            Came::Refused | Came::Unsent | Came::Failed => {
+            WorkResult::Refused | WorkResult::Unsent | WorkResult::Failed => {
                 self.came = lost(self.came);
                 true
             }
@@ -527,12 +527,12 @@ impl Parts {
 
     /// Goes on with what waits, down to a task that doesn't.
     pub fn resume(&mut self)
-        requires planned { IsPlanned self.old.course self.old.stack }
+        requires planned { IsPlanned self.old.route self.old.stack }
         ensures tree { (b : BoardView) (ms : List MessageView)
-            → tree_of b ms self.new.course self.new.stack (came_of self.new.came) ≡ tree_of b ms self.old.course self.old.stack (came_of self.old.came) }
-        ensures planned { IsPlanned self.new.course self.new.stack }
+            → tree_of b ms self.new.route self.new.stack (came_of self.new.came) ≡ tree_of b ms self.old.route self.old.stack (came_of self.old.came) }
+        ensures planned { IsPlanned self.new.route self.new.stack }
         ensures ready { IsReady self.new.stack }
-        ensures course { self.new.course ≡ self.old.course }
+        ensures route { self.new.route ≡ self.old.route }
     {
         'waiting: while self.wake() {}
     }
@@ -540,7 +540,7 @@ impl Parts {
     /// No task is left, and so no step.
     pub fn is_over(&self) -> bool
         requires ready { IsReady self.now.stack }
-        ensures { (b : BoardView) (ms : List MessageView) → result ≡ is_over (tree_of b ms self.now.course self.now.stack (came_of self.now.came)) }
+        ensures { (b : BoardView) (ms : List MessageView) → result ≡ is_over (tree_of b ms self.now.route self.now.stack (came_of self.now.came)) }
     {
         self.stack.is_empty()
     }
@@ -548,9 +548,9 @@ impl Parts {
     /// The settle on the top, if one is there: why the reply is an error, or none.
     pub fn settles(&self) -> Option<Option<Errno>>
         requires ready { IsReady self.now.stack }
-        ensures some { (b : BoardView) (ms : List MessageView) (v : Slots) → IfSome result (λ verdict. first_act (seen_by v (tree_of b ms self.now.course self.now.stack (came_of self.now.came))) ≡ Some (Settle verdict)) }
+        ensures some { (b : BoardView) (ms : List MessageView) (v : Slots) → IfSome result (λ verdict. first_act (seen_by v (tree_of b ms self.now.route self.now.stack (came_of self.now.came))) ≡ Some (Settle verdict)) }
         ensures none { (b : BoardView) (ms : List MessageView) (v : Slots) (verdict : Option Errno) → result ≡ None
-            → first_act (seen_by v (tree_of b ms self.now.course self.now.stack (came_of self.now.came))) ≡ Some (Settle verdict) → ⊥ }
+            → first_act (seen_by v (tree_of b ms self.now.route self.now.stack (came_of self.now.came))) ≡ Some (Settle verdict) → ⊥ }
     {
         let Some(task) = self.stack.peek() else {
             return None;
@@ -563,10 +563,10 @@ impl Parts {
 
     /// The first action, where this answers the looks in front of it. Done exactly where no task is left.
     pub fn first(&self, board: &Board, seen: &Seen<'_>) -> Action
-        requires planned { IsPlanned self.now.course self.now.stack }
+        requires planned { IsPlanned self.now.route self.now.stack }
         requires ready { IsReady self.now.stack }
-        ensures first { (ms : List MessageView) → length ms ≡ self.now.course.count
-            → result ≡ action_of (first_act (seen_by (slots_of seen.now) (tree_of board.now ms self.now.course self.now.stack (came_of self.now.came)))) }
+        ensures first { (ms : List MessageView) → length ms ≡ self.now.route.count
+            → result ≡ action_of (first_act (seen_by (slots_of seen.now) (tree_of board.now ms self.now.route self.now.stack (came_of self.now.came)))) }
         ensures over { result ≡ Done → self.now.stack ≡ [] }
     {
         let Some(task) = self.stack.peek() else {
@@ -574,15 +574,15 @@ impl Parts {
         };
         match task {
             Task::Enter { place, work } => {
-                let step = self.course.ahead(board, seen, *place, *work);
-                self.course.action(&step)
+                let step = self.route.ahead(board, seen, *place, *work);
+                self.route.action(&step)
             }
             Task::Pass { place, hop, work } => {
                 let again = seen.again();
-                let step = self.course.ahead_behind(board, &again, *place, hop, work);
-                self.course.action(&step)
+                let step = self.route.ahead_behind(board, &again, *place, hop, work);
+                self.route.action(&step)
             }
-            step => self.course.action(step),
+            step => self.route.action(step),
         }
     }
 }

@@ -24,7 +24,7 @@ pub enum Work {
 
 /// What came of a piece of work.
 #[derive(Clone, Copy)]
-pub enum Came {
+pub enum WorkResult {
     Good,
     /// Its own message was refused.
     Refused,
@@ -88,7 +88,7 @@ pub enum Task {
     /// Waits for the deselect, behind work of which this came.
     AwaitDeselect {
         hop: Hop,
-        came: Came,
+        came: WorkResult,
     },
 }
 
@@ -138,10 +138,7 @@ pub enum Action {
     /// One message is sent.
     Send(NextMsg),
     /// The line of a gpio mux is set to a level.
-    Line {
-        mux: MuxId,
-        level: u8,
-    },
+    Line { mux: MuxId, level: u8 },
     /// The reply is decided by what was reported last: why it is an error, or none.
     Settle(Option<Errno>),
     /// The walk has ended.

@@ -7,14 +7,14 @@ ghost use Rattle.i2c_base.specs.declared.errno.Errno.{Errno};
 ghost use Rattle.bus_spec.specs.Slots.{Slots};
 ghost use Rattle.bus_spec.specs.Walk.{Call, Ends, Settle};
 ghost use Rattle.bus_spec.specs.Grammar.{walk_by, walk_for, is_over, seen as seen_by, first_act, first_note, rest_of};
-ghost use Rattle.mux_plan.specs.Marks.{dues_after};
+ghost use Rattle.mux_plan.specs.Marks.{updates_after};
 ghost use Rattle.mux_plan.specs.Plans.{walk_of, slots_of, action_of, outcome_of};
 ghost use Rattle.mux_plan.specs.declared.task.Action.TheVariants.{Done};
 
-use crate::marks::Dues;
-use crate::parts::Parts;
+use crate::marks::MuxUpdates;
+use crate::parts::WalkParts;
 use crate::stack::Stack;
-use crate::{Action, Came, Course, Outcome, Seen, Task, Work};
+use crate::{Action, Outcome, Route, Seen, Task, Work, WorkResult};
 use arrayvec::ArrayVec;
 use i2c_base::{Errno, SegId, Transfer, empty};
 use i2c_board::{Accepted, Board};
@@ -24,7 +24,7 @@ use std::marker::Model;
 /// The walk of a transfer that isn't refused. A contract sees its tasks, and `walk_of` is the tree that they stand for.
 #[derive(Drop)]
 pub struct Walk {
-    parts: Parts,
+    parts: WalkParts,
 }
 
 impl Model for Walk {
@@ -33,9 +33,9 @@ impl Model for Walk {
 
     ghost Value = { WalkView };
 
-    ghost view = { λ w. record { course = w.parts.course; tasks = w.parts.stack; came = came_of w.parts.came } };
+    ghost view = { λ w. record { route = w.parts.route; tasks = w.parts.stack; came = came_of w.parts.came } };
 
-    ghost invariant = { λ w. IsPlanned w.parts.course w.parts.stack × IsReady w.parts.stack };
+    ghost invariant = { λ w. IsPlanned w.parts.route w.parts.stack × IsReady w.parts.stack };
 }
 
 // The root that a bus hangs from; none where the board doesn't have the bus.
@@ -51,7 +51,7 @@ impl Walk {
     /// Begins the walk of another transfer: one that is refused is settled at once, and takes no lock. Tells the root of
     /// its bus, where the board has that bus.
     pub fn restart(&mut self, board: &Accepted, transfer: &Transfer) -> Option<SegId>
-        ensures count { length (messages_of transfer.now) ≡ self.new.course.count }
+        ensures count { length (messages_of transfer.now) ≡ self.new.route.count }
         ensures tree { walk_of board.now (messages_of transfer.now) self.new ≡ walk_for board.now transfer.now }
         ensures root { transfer.now.bus < buses board.now → result ≡ Some (root_of board.now transfer.now.bus) }
         ensures none { IsSome result → transfer.now.bus < buses board.now }
@@ -59,7 +59,7 @@ impl Walk {
         match refusal(&board.board().layout(), transfer) {
             None => {
                 self.begin(board, transfer);
-                Some(self.parts.course.root)
+                Some(self.parts.route.root)
             }
             Some(errno) => {
                 self.refuse(transfer, errno);
@@ -71,14 +71,14 @@ impl Walk {
     // Begins the walk of a transfer that isn't refused.
     fn begin(&mut self, board: &Accepted, transfer: &Transfer)
         requires there { transfer.now.bus < buses board.now }
-        ensures count { length (messages_of transfer.now) ≡ self.new.course.count }
+        ensures count { length (messages_of transfer.now) ≡ self.new.route.count }
         ensures tree { walk_of board.now (messages_of transfer.now) self.new ≡ walk_by board.now transfer.now None }
-        ensures root { self.new.course.root ≡ root_of board.now transfer.now.bus }
+        ensures root { self.new.route.root ≡ root_of board.now transfer.now.bus }
     {
         let bus = SegId(transfer.bus());
         self.parts
-            .course
-            .lead(board, bus, transfer.msgs().len() as u8);
+            .route
+            .set_route(board, bus, transfer.msgs().len() as u8);
         self.parts.start(Task::Lock {
             from: 0,
             place: 0,
@@ -88,28 +88,28 @@ impl Walk {
 
     // Begins the walk of a transfer that is refused: its settle alone.
     fn refuse(&mut self, transfer: &Transfer, errno: Errno)
-        ensures count { length (messages_of transfer.now) ≡ self.new.course.count }
+        ensures count { length (messages_of transfer.now) ≡ self.new.route.count }
         ensures tree { (b : BoardView) → walk_of b (messages_of transfer.now) self.new ≡ walk_by b transfer.now (Some errno) }
     {
-        self.parts.course.count = transfer.msgs().len() as u8;
+        self.parts.route.count = transfer.msgs().len() as u8;
         self.parts.start(Task::Settle(Some(errno)));
     }
 
     /// A walk that has ended: what a caller has between two transfers.
     pub fn ended() -> Self
         ensures over { (b : BoardView) (ms : List MessageView) → walk_of b ms result ≡ Ends }
-        ensures count { result.course.count ≡ 0 }
+        ensures count { result.route.count ≡ 0 }
     {
         Walk {
-            parts: Parts {
-                course: Course {
+            parts: WalkParts {
+                route: Route {
                     root: SegId(0),
                     path: ArrayVec::new(),
                     bus: SegId(0),
                     count: 0,
                 },
                 stack: Stack::new(),
-                came: Came::Good,
+                came: WorkResult::Good,
             },
         }
     }
@@ -117,7 +117,7 @@ impl Walk {
     /// The next action, where this is told of marks and kept channels: the first step of the walk behind its looks. Done
     /// exactly where the walk is over.
     pub fn next(&self, board: &Board, seen: &Seen<'_>) -> Action
-        ensures first { (ms : List MessageView) → length ms ≡ self.now.course.count
+        ensures first { (ms : List MessageView) → length ms ≡ self.now.route.count
             → result ≡ action_of (first_act (seen_by (slots_of seen.now) (walk_of board.now ms self.now))) }
         ensures over { result ≡ Done → (b : BoardView) (ms : List MessageView) → is_over (walk_of b ms self.now) ≡ true }
     {
@@ -140,17 +140,23 @@ impl Walk {
     }
 
     /// Goes on behind the next action, which had this outcome. This is told of marks and kept channels before it;
-    /// which of them change behind it is told in the place of what `dues` had.
-    pub fn report(&mut self, board: &Board, seen: &Seen<'_>, outcome: &Outcome<'_>, dues: &mut Dues)
-        ensures tree { (ms : List MessageView) → length ms ≡ self.old.course.count
+    /// which of them change behind it is told in the place of what `updates` had.
+    pub fn report(
+        &mut self,
+        board: &Board,
+        seen: &Seen<'_>,
+        outcome: &Outcome<'_>,
+        updates: &mut MuxUpdates,
+    )
+        ensures tree { (ms : List MessageView) → length ms ≡ self.old.route.count
             → walk_of board.now ms self.new ≡ rest_of (seen_by (slots_of seen.now) (walk_of board.now ms self.old)) (outcome_of outcome.now) }
-        ensures course { self.new.course ≡ self.old.course }
-        ensures dues { (ms : List MessageView) → length ms ≡ self.old.course.count
-            → dues.new.items ≡ dues_after (first_act (seen_by (slots_of seen.now) (walk_of board.now ms self.old))) (first_note (seen_by (slots_of seen.now) (walk_of board.now ms self.old))) (outcome_of outcome.now) }
+        ensures route { self.new.route ≡ self.old.route }
+        ensures updates { (ms : List MessageView) → length ms ≡ self.old.route.count
+            → updates.new.items ≡ updates_after (first_act (seen_by (slots_of seen.now) (walk_of board.now ms self.old))) (first_note (seen_by (slots_of seen.now) (walk_of board.now ms self.old))) (outcome_of outcome.now) }
     {
-        empty(dues);
+        empty(updates);
         self.parts.look(board, seen);
-        self.parts.mark(dues, outcome);
+        self.parts.mark(updates, outcome);
         self.parts.act(outcome);
         self.parts.resume();
     }

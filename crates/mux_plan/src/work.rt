@@ -5,16 +5,16 @@ ghost use Rattle.i2c_spec.specs.Chips.{select_value};
 ghost use Rattle.i2c_spec.specs.Messages.{MessageView};
 ghost use Rattle.bus_spec.specs.Walk as walk;
 ghost use Rattle.bus_spec.specs.Walk.{first_byte, goes, is_line, line_mux, line_level, job_outcome, verdict_of, decides, more_of, job_bus, job_purpose, part_of, parts_of};
-ghost use Rattle.mux_plan.specs.Plans.{CourseView, job_of, came_of, outcome_of, go_of, control_of};
+ghost use Rattle.mux_plan.specs.Plans.{RouteView, job_of, came_of, outcome_of, go_of, control_of};
 ghost use Rattle.mux_plan.specs.Rooms.{IsNarrowWork};
 
-use crate::{Came, Outcome, Work};
+use crate::{Outcome, Work, WorkResult};
 use i2c_base::{ChannelCode, End, Errno, MuxId, POLLS, Purpose, SegId};
 use i2c_spec::{Hop, errno_of};
 
 /// How a piece of work goes on behind one of its messages: with the next one, with its last one, or not at all.
 #[derive(Clone, Copy)]
-pub enum Follow {
+pub enum Continuation {
     On,
     Last,
     Over,
@@ -51,7 +51,7 @@ fn found_free(bytes: &[u8]) -> bool
 impl Work {
     /// It is done by a line, and not by messages.
     pub fn is_line(&self) -> bool
-        ensures { (c : CourseView) (ms : List MessageView) → result ≡ is_line (job_of c ms self.now) }
+        ensures { (c : RouteView) (ms : List MessageView) → result ≡ is_line (job_of c ms self.now) }
     {
         match self {
             Work::Call => false,
@@ -62,7 +62,7 @@ impl Work {
 
     /// How many messages may follow the first one, where the transfer has so many.
     pub fn more(&self, count: u8) -> u8
-        ensures { (c : CourseView) (ms : List MessageView) → length ms ≡ count → result ≡ more_of (job_of c ms self.now) }
+        ensures { (c : RouteView) (ms : List MessageView) → length ms ≡ count → result ≡ more_of (job_of c ms self.now) }
     {
         match self {
             Work::Call => count.saturating_sub(1),
@@ -73,7 +73,7 @@ impl Work {
 
     /// The bus that it is done on.
     pub fn bus(&self, bus: SegId) -> SegId
-        ensures { (c : CourseView) (ms : List MessageView) → c.bus ≡ bus → result ≡ job_bus (job_of c ms self.now) }
+        ensures { (c : RouteView) (ms : List MessageView) → c.bus ≡ bus → result ≡ job_bus (job_of c ms self.now) }
     {
         match self {
             Work::Call => bus,
@@ -84,7 +84,7 @@ impl Work {
 
     /// Why its messages are sent.
     pub fn purpose(&self) -> Purpose
-        ensures { (c : CourseView) (ms : List MessageView) → result ≡ job_purpose (job_of c ms self.now) }
+        ensures { (c : RouteView) (ms : List MessageView) → result ≡ job_purpose (job_of c ms self.now) }
     {
         match self {
             Work::Call => Purpose::Call,
@@ -95,7 +95,7 @@ impl Work {
 
     /// Which message of its transfer the one is that so many more may follow.
     pub fn part(&self, left: u8, count: u8) -> u8
-        ensures { (c : CourseView) (ms : List MessageView) → length ms ≡ count → result ≡ part_of (job_of c ms self.now) left }
+        ensures { (c : RouteView) (ms : List MessageView) → length ms ≡ count → result ≡ part_of (job_of c ms self.now) left }
     {
         match self {
             Work::Call => count.saturating_sub(left),
@@ -105,7 +105,7 @@ impl Work {
 
     /// How many messages its transfer has.
     pub fn parts(&self, count: u8) -> u8
-        ensures { (c : CourseView) (ms : List MessageView) → length ms ≡ count → result ≡ parts_of (job_of c ms self.now) }
+        ensures { (c : RouteView) (ms : List MessageView) → length ms ≡ count → result ≡ parts_of (job_of c ms self.now) }
     {
         match self {
             Work::Call => count,
@@ -116,7 +116,7 @@ impl Work {
     /// The byte that its message writes, if it is a control message and no poll.
     pub fn control(&self, left: u8) -> Option<u8>
         requires { IsNarrowWork self.now }
-        ensures { (c : CourseView) (ms : List MessageView) → result ≡ control_of (job_of c ms self.now) left }
+        ensures { (c : RouteView) (ms : List MessageView) → result ≡ control_of (job_of c ms self.now) left }
     {
         match self {
             Work::Call => None,
@@ -127,7 +127,7 @@ impl Work {
 
     /// The mux whose line it sets.
     pub fn line_mux(&self) -> MuxId
-        ensures { (c : CourseView) (ms : List MessageView) → result ≡ line_mux (job_of c ms self.now) }
+        ensures { (c : RouteView) (ms : List MessageView) → result ≡ line_mux (job_of c ms self.now) }
     {
         match self {
             Work::Call => MuxId(0),
@@ -139,7 +139,7 @@ impl Work {
     /// The level that it sets.
     pub fn line_level(&self) -> u8
         requires { IsNarrowWork self.now }
-        ensures { (c : CourseView) (ms : List MessageView) → result ≡ line_level (job_of c ms self.now) }
+        ensures { (c : RouteView) (ms : List MessageView) → result ≡ line_level (job_of c ms self.now) }
     {
         match self {
             Work::Call | Work::Deselect(_) | Work::Close { .. } => 0,
@@ -148,58 +148,70 @@ impl Work {
     }
 
     /// How it goes on behind a message that `left` + 1 more might have followed.
-    pub fn goes(&self, left: u8, outcome: &Outcome<'_>) -> Follow
-        ensures { (c : CourseView) (ms : List MessageView) → go_of result ≡ goes (job_of c ms self.now) left (outcome_of outcome.now) }
+    pub fn after_msg(&self, left: u8, outcome: &Outcome<'_>) -> Continuation
+        ensures { (c : RouteView) (ms : List MessageView) → go_of result ≡ goes (job_of c ms self.now) left (outcome_of outcome.now) }
     {
         let Outcome::Sent { end, bytes } = outcome else {
-            return Follow::Over;
+            return Continuation::Over;
         };
         if *end != End::Ok {
-            return Follow::Over;
+            return Continuation::Over;
         }
         match self {
-            Work::Call => Follow::On,
+            Work::Call => Continuation::On,
             Work::Select(_) => {
                 if found_free(bytes) {
-                    Follow::Last
+                    Continuation::Last
                 } else if left > 0 {
-                    Follow::On
+                    Continuation::On
                 } else {
-                    Follow::Over
+                    Continuation::Over
                 }
             }
-            Work::Deselect(_) | Work::Close { .. } => Follow::Over,
+            Work::Deselect(_) | Work::Close { .. } => Continuation::Over,
         }
     }
 
     // What came of it where its message went through. A poll that was the last one found the arbitrator taken.
-    fn came_through(&self, left: u8) -> Came
-        ensures { (c : CourseView) (ms : List MessageView) → came_of result ≡ walk.good_outcome (job_of c ms self.now) left }
+    fn came_through(&self, left: u8) -> WorkResult
+        ensures { (c : RouteView) (ms : List MessageView) → came_of result ≡ walk.good_outcome (job_of c ms self.now) left }
     {
         match self {
-            Work::Call | Work::Deselect(_) | Work::Close { .. } => Came::Good,
-            Work::Select(_) => { if left == 0 { Came::Good } else { Came::Refused } }
+            Work::Call | Work::Deselect(_) | Work::Close { .. } => WorkResult::Good,
+            Work::Select(_) => {
+                if left == 0 {
+                    WorkResult::Good
+                } else {
+                    WorkResult::Refused
+                }
+            }
         }
     }
 
     /// What came of it, where its last message, which `left` more might have followed, or its line had this outcome.
-    pub fn came(&self, left: u8, outcome: &Outcome<'_>) -> Came
-        ensures { (c : CourseView) (ms : List MessageView) → came_of result ≡ job_outcome (job_of c ms self.now) left (outcome_of outcome.now) }
+    pub fn came(&self, left: u8, outcome: &Outcome<'_>) -> WorkResult
+        ensures { (c : RouteView) (ms : List MessageView) → came_of result ≡ job_outcome (job_of c ms self.now) left (outcome_of outcome.now) }
     {
         match outcome {
-            Outcome::Passed => Came::Good,
+            Outcome::Passed => WorkResult::Good,
             Outcome::Sent { end, .. } => match end {
                 End::Ok => self.came_through(left),
-                End::Nack | End::Slow | End::Refused | End::Proto => Came::Refused,
-                End::Cut(_) => Came::Failed,
+                End::Nack | End::Slow | End::Refused | End::Proto => WorkResult::Refused,
+                End::Cut(_) => WorkResult::Failed,
             },
-            Outcome::Lined { failed } => { if *failed { Came::Failed } else { Came::Good } }
+            Outcome::Lined { failed } => {
+                if *failed {
+                    WorkResult::Failed
+                } else {
+                    WorkResult::Good
+                }
+            }
         }
     }
 
     // The error that its last message decides where it went through.
     fn verdict_through(&self, left: u8) -> Option<Errno>
-        ensures { (c : CourseView) (ms : List MessageView) → result ≡ walk.good_errno (job_of c ms self.now) left }
+        ensures { (c : RouteView) (ms : List MessageView) → result ≡ walk.good_errno (job_of c ms self.now) left }
     {
         match self {
             Work::Call | Work::Deselect(_) | Work::Close { .. } => None,
@@ -209,7 +221,7 @@ impl Work {
 
     /// The error that its last message or its line decides.
     pub fn verdict(&self, left: u8, outcome: &Outcome<'_>) -> Option<Errno>
-        ensures { (c : CourseView) (ms : List MessageView) → result ≡ verdict_of (job_of c ms self.now) left (outcome_of outcome.now) }
+        ensures { (c : RouteView) (ms : List MessageView) → result ≡ verdict_of (job_of c ms self.now) left (outcome_of outcome.now) }
     {
         match outcome {
             Outcome::Passed => None,
@@ -225,13 +237,13 @@ impl Work {
     }
 
     /// Its end decides the reply, where it is on the way to the caller's messages.
-    pub fn decides(&self, came: Came) -> bool
-        ensures { (c : CourseView) (ms : List MessageView) → result ≡ decides (job_of c ms self.now) (came_of came) }
+    pub fn decides(&self, came: WorkResult) -> bool
+        ensures { (c : RouteView) (ms : List MessageView) → result ≡ decides (job_of c ms self.now) (came_of came) }
     {
         match self {
             Work::Call => true,
-            Work::Select(_) => came != Came::Good,
-            Work::Deselect(_) | Work::Close { .. } => came == Came::Failed,
+            Work::Select(_) => came != WorkResult::Good,
+            Work::Deselect(_) | Work::Close { .. } => came == WorkResult::Failed,
         }
     }
 }

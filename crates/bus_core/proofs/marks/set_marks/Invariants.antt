@@ -8,6 +8,6 @@ abbrev pub invariant-loop-due : goal.invariant-loop-due
 invariant-loop-due l =
     record {
       same : l.locks ≡ turned_to l.fn.locks (seen_of l.locks);
-      told : words_after (drop l.due-index l.dues) (seen_of l.locks) ≡ words_after l.dues (seen_of l.fn.locks);
-      held : AreHeld l.fn.locks l.caller (drop l.due-index l.dues);
+      told : words_after (drop l.due-index l.updates) (seen_of l.locks) ≡ words_after l.updates (seen_of l.fn.locks);
+      held : AreHeld l.fn.locks l.caller (drop l.due-index l.updates);
     }

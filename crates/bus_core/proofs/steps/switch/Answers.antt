@@ -3,20 +3,20 @@ use Rattle.std.proofs.lemmas.List.{length-map, map-set}
 use Rattle.std.proofs.lemmas.Option.{slice_get_within}
 use Rattle.i2c_base.specs.Limits.{MOST_CALLERS}
 use Rattle.i2c_base.specs.declared.entry.Entry.TheVariants as entry
-use Rattle.bus_message.specs.Ports.{Socket, MayShift, Shifted, socket_of, sockets_of}
+use Rattle.bus_message.specs.Ports.{RootPort, MayShift, Shifted, root_port, root_ports}
 use Rattle.bus_message.proofs.PortLemmas.{socket-here, socket-is}
-use Rattle.mux_plan.specs.declared.marks.Due.{Due}
+use Rattle.mux_plan.specs.declared.marks.MuxUpdate.{MuxUpdate}
 use Rattle.bus_spec.specs.Walk.{Lined, Shift, line_mux, line_level}
 use Rattle.seg_locks.specs.Locks.{LocksView}
 use Rattle.core_laws.specs.Spots.{turned_to, seen_of}
 use Rattle.core_laws.specs.Steps.{next_of}
 use Rattle.bus_core.specs.Marks.{words_after, AreHeld}
 use Rattle.bus_core.specs.Places.{walk_left}
-use Rattle.bus_core.specs.Seats.{IsCounted, MaySettle, dues_of}
+use Rattle.bus_core.specs.Seats.{IsCounted, MaySettle, updates_of}
 use Rattle.bus_core.specs.declared.seat.Seat.{Seat}
 use Rattle.bus_core.proofs.Kept.{number-small, seated-here}
 use Rattle.bus_core.proofs.SeatLemmas.{read_here}
-use Rattle.bus_core.proofs.Switch.{may-shift, line-room, line-dues-own, line-may-settle, line-done, plug}
+use Rattle.bus_core.proofs.Switch.{may-shift, line-room, line-updates-own, line-may-settle, line-done, plug}
 use Rattle.bus_core.proofs.steps.switch.Goals as goal
 
 pub index_mut-requires : goal.index_mut-requires
@@ -28,7 +28,7 @@ index_mut-requires g c =
     let here = need.comes.here ∙ ap Some (sym is) in
     let first = subst (λ (y : Seat _). next_of x.locks (walk_left x.board.now y) ≡ Some (Shift need.job)) (sym is) need.comes.next in
     let plugged = plug g.P.Port g.C.Caller x c.requires.kept c.args.place old here need.job first in
-    omega (arith, slice_get_within (sockets_of g.P.Port x.ports.items) old.port plugged.0 plugged.1, length-map x.ports.items (socket_of g.P.Port))
+    omega (arith, slice_get_within (root_ports g.P.Port x.ports.items) old.port plugged.0 plugged.1, length-map x.ports.items (root_port g.P.Port))
 
 pub shift_line-failed-requires-after_bounds : goal.shift_line-failed-requires-after_bounds
 shift_line-failed-requires-after_bounds g c κs within root =
@@ -40,8 +40,8 @@ shift_line-failed-requires-after_bounds g c κs within root =
     let first = subst (λ (y : Seat _). next_of x.locks (walk_left x.board.now y) ≡ Some (Shift need.job)) (sym is) need.comes.next in
     let plugged = plug g.P.Port g.C.Caller x c.requires.kept c.args.place old here need.job first in
     let q = c.index_mut.result.now in
-    let at : plugged.0 ≡ socket_of g.P.Port q = socket-is g.P.Port x.ports.items old.port q c.index_mut.ensures.value plugged.0 plugged.1 in
-    let may = subst (λ (y : Socket). MayShift g.P.Port.tells c.args.mux c.args.level y) at
+    let at : plugged.0 ≡ root_port g.P.Port q = socket-is g.P.Port x.ports.items old.port q c.index_mut.ensures.value plugged.0 plugged.1 in
+    let may = subst (λ (y : RootPort). MayShift g.P.Port.tells c.args.mux c.args.level y) at
     (may-shift g.P.Port g.C.Caller x c.requires.kept c.args.place old here need.job first c.args.mux c.args.level need.of_mux need.to_level) in
     record { idle = may.idle; has = may.has; room = may.room }
 
@@ -75,10 +75,10 @@ set_marks-requires g c =
     let first = subst (λ (y : Seat _). next_of x.locks (walk_left x.board.now y) ≡ Some (Shift need.job)) (sym is) need.comes.next in
     let failed = c.shift_line-failed.result in
     let t = c.line_done.new.self in
-    let dues : c.as_slice.result.now ≡ dues_of x.board.now x.locks (Lined failed) old = c.as_slice.ensures.value ∙ c.line_done.ensures.dues in
+    let updates : c.as_slice.result.now ≡ updates_of x.board.now x.locks (Lined failed) old = c.as_slice.ensures.value ∙ c.line_done.ensures.updates in
     record {
       caller = number-small g.P.Port g.C.Caller x c.requires.kept c.args.place old here;
-      held = subst (λ (ds : List Due). AreHeld x.locks old.number ds) (sym dues) (line-dues-own g.P.Port g.C.Caller x c.requires.kept c.args.place old here need.job first failed);
+      held = subst (λ (ds : List MuxUpdate). AreHeld x.locks old.number ds) (sym updates) (line-updates-own g.P.Port g.C.Caller x c.requires.kept c.args.place old here need.job first failed);
     }
 
 pub settle-requires : goal.settle-requires
@@ -91,9 +91,9 @@ settle-requires g c =
     let first = subst (λ (y : Seat _). next_of x.locks (walk_left x.board.now y) ≡ Some (Shift need.job)) (sym is) need.comes.next in
     let failed = c.shift_line-failed.result in
     let t = c.line_done.new.self in
-    let dues : c.as_slice.result.now ≡ dues_of x.board.now x.locks (Lined failed) old = c.as_slice.ensures.value ∙ c.line_done.ensures.dues in
-    let locks : c.set_marks.new.locks ≡ turned_to x.locks (words_after (dues_of x.board.now x.locks (Lined failed) old) (seen_of x.locks)) =
-    c.set_marks.ensures ∙ ap (λ (ds : List Due). turned_to x.locks (words_after ds (seen_of x.locks))) dues in
+    let updates : c.as_slice.result.now ≡ updates_of x.board.now x.locks (Lined failed) old = c.as_slice.ensures.value ∙ c.line_done.ensures.updates in
+    let locks : c.set_marks.new.locks ≡ turned_to x.locks (words_after (updates_of x.board.now x.locks (Lined failed) old) (seen_of x.locks)) =
+    c.set_marks.ensures ∙ ap (λ (ds : List MuxUpdate). turned_to x.locks (words_after ds (seen_of x.locks))) updates in
     let entries : c.push.new.self.entries ≡ x.journal.entries ++ entry.Line old.number (line_mux need.job) (line_level need.job) failed ∷ [] = c.push.ensures.entries
     ∙ ap (λ (m : ℕ). x.journal.entries ++ entry.Line old.number m c.args.level failed ∷ []) (sym need.of_mux)
     ∙ ap (λ (l : ℕ). x.journal.entries ++ entry.Line old.number (line_mux need.job) l failed ∷ []) (sym need.to_level) in
@@ -112,21 +112,21 @@ returns g c =
     let plugged = plug g.P.Port g.C.Caller x c.requires.kept c.args.place old here need.job first in
     let failed = c.shift_line-failed.result in
     let t = c.line_done.new.self in
-    let dues : c.as_slice.result.now ≡ dues_of x.board.now x.locks (Lined failed) old = c.as_slice.ensures.value ∙ c.line_done.ensures.dues in
-    let locks : c.set_marks.new.locks ≡ turned_to x.locks (words_after (dues_of x.board.now x.locks (Lined failed) old) (seen_of x.locks)) =
-    c.set_marks.ensures ∙ ap (λ (ds : List Due). turned_to x.locks (words_after ds (seen_of x.locks))) dues in
+    let updates : c.as_slice.result.now ≡ updates_of x.board.now x.locks (Lined failed) old = c.as_slice.ensures.value ∙ c.line_done.ensures.updates in
+    let locks : c.set_marks.new.locks ≡ turned_to x.locks (words_after (updates_of x.board.now x.locks (Lined failed) old) (seen_of x.locks)) =
+    c.set_marks.ensures ∙ ap (λ (ds : List MuxUpdate). turned_to x.locks (words_after ds (seen_of x.locks))) updates in
     let entries : c.push.new.self.entries ≡ x.journal.entries ++ entry.Line old.number (line_mux need.job) (line_level need.job) failed ∷ [] = c.push.ensures.entries
     ∙ ap (λ (m : ℕ). x.journal.entries ++ entry.Line old.number m c.args.level failed ∷ []) (sym need.of_mux)
     ∙ ap (λ (l : ℕ). x.journal.entries ++ entry.Line old.number (line_mux need.job) l failed ∷ []) (sym need.to_level) in
     let room_bytes : c.push.new.self.room_bytes ≡ x.journal.room_bytes = (let b = c.push.ensures.room_bytes in omega (arith, b)) in
     let q = c.index_mut.result.now in
-    let shifted : Shifted g.P.Port.tells (line_mux need.job) (line_level need.job) failed (socket_of g.P.Port q) (socket_of g.P.Port (q.0, c.shift_line-failed.new.port)) =
-    subst (λ (l : ℕ). Shifted g.P.Port.tells (line_mux need.job) l failed (socket_of g.P.Port q) (socket_of g.P.Port (q.0, c.shift_line-failed.new.port))) (sym need.to_level)
-    (subst (λ (m : ℕ). Shifted g.P.Port.tells m c.args.level failed (socket_of g.P.Port q) (socket_of g.P.Port (q.0, c.shift_line-failed.new.port))) (sym need.of_mux)
+    let shifted : Shifted g.P.Port.tells (line_mux need.job) (line_level need.job) failed (root_port g.P.Port q) (root_port g.P.Port (q.0, c.shift_line-failed.new.port)) =
+    subst (λ (l : ℕ). Shifted g.P.Port.tells (line_mux need.job) l failed (root_port g.P.Port q) (root_port g.P.Port (q.0, c.shift_line-failed.new.port))) (sym need.to_level)
+    (subst (λ (m : ℕ). Shifted g.P.Port.tells m c.args.level failed (root_port g.P.Port q) (root_port g.P.Port (q.0, c.shift_line-failed.new.port))) (sym need.of_mux)
     (c.shift_line-failed.ensures.shifted q.0)) in
     let all = line-done g.P.Port g.C.Caller x c.requires.kept c.args.place old here need.job first failed t c.line_done.ensures.went c.push.new.self entries c.push.ensures.room room_bytes
-    (record x { ports = _; seats = _; locks = c.set_marks.new.locks; journal = c.settle.new.journal; dues = c.settle.new.dues }) refl locks (socket_of g.P.Port q) (socket_of g.P.Port (q.0, c.shift_line-failed.new.port))
+    (record x { ports = _; seats = _; locks = c.set_marks.new.locks; journal = c.settle.new.journal; updates = c.settle.new.updates }) refl locks (root_port g.P.Port q) (root_port g.P.Port (q.0, c.shift_line-failed.new.port))
     (socket-here g.P.Port x.ports.items old.port q c.index_mut.ensures.value plugged.0 plugged.1)
-    (map-set (socket_of g.P.Port) x.ports.items old.port (q.0, c.shift_line-failed.new.port)) shifted refl refl
+    (map-set (root_port g.P.Port) x.ports.items old.port (q.0, c.shift_line-failed.new.port)) shifted refl refl
     c.settle.new.self refl c.settle.result c.settle.ensures.settled c.settle.ensures.none c.settle.ensures.stays in
     record { kept = all.0; stepped = all.1 }

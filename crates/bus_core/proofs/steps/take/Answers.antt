@@ -50,7 +50,7 @@ returns g c =
     let is = read_here x.seats.items c.args.place s c.index_mut-seat.result.now here c.index_mut-seat.ensures.value in
     let went : WentOn x.board.now x.locks Passed cut_at.No s t =
     subst (λ (y : Seat _). WentOn x.board.now x.locks Passed cut_at.No y t) is
-    (record { same = c.lock_done.ensures.same; walk = c.lock_done.ensures.walk; course = c.lock_done.ensures.course }) in
+    (record { same = c.lock_done.ensures.same; walk = c.lock_done.ensures.walk; route = c.lock_done.ensures.route }) in
     let number : t.number ≡ s.number = ap (λ (y : Seat _). y.number) went.same in
     let given : c.take.new.self ≡ with_holder x.locks c.args.lock.now (Some t.number) =
     is_given (c.take.new.self ≡ with_holder x.locks c.args.lock.now (Some t.number)) (λ (h : Held). holder_in x.locks c.args.lock.now ≡ Some h.holder) c.take.result

@@ -18,8 +18,8 @@ returns-in-Err-clause-ended g c =
 pub returns-in-Err-clause-whole : goal.returns-in-Err-clause-whole
 returns-in-Err-clause-whole g c = grind (arith, common_steps)
 
-pub returns-then-is_over-clause-ended : goal.returns-then-is_over-clause-ended
-returns-then-is_over-clause-ended g c =
+pub returns-then-is_bad_count-clause-ended : goal.returns-then-is_bad_count-clause-ended
+returns-then-is_bad_count-clause-ended g c =
     rest-ends g.P.Port c.args.last (counting c.args.last c.args.limit c.args.len) 1 (c.args.limit + c.args.len) [] c.args.port.now c.get.new.self c.get_one_more.new.port c.get_one_more.new.got
     (λ tells. omega (arith, ap length (c.in-Ok.ensures.log tells), length-append {A = PortCall})) c.in-Ok.ensures.later
     true over_limit 2 1 c.push.new.self c.get_one_more.result c.get_one_more.ensures.ended
@@ -28,15 +28,15 @@ returns-then-is_over-clause-ended g c =
     (λ tells whole before r.
     rw (c.push.ensures, c.requires.none)
     (count_over whole _ c.args.last c.args.limit c.args.len c.in-Ok.count before 1 _ _ _ _ _ (c.in-Ok.ensures.answer tells)
-    (sym c.is_over.ensures.test ∙ c.if-is_over.true)
+    (sym c.is_bad_count.ensures.test ∙ c.if-is_bad_count.true)
     (cut_after c.get_one_more.result 2 (λ q e. (c.get_one_more.ensures.ended.fails.place q e).0))
     (c.in-Ok.ensures.world tells) (c.in-Ok.ensures.log tells) r))
 
-pub returns-then-is_over-clause-whole : goal.returns-then-is_over-clause-whole
-returns-then-is_over-clause-whole g c = grind (arith, common_steps)
+pub returns-then-is_bad_count-clause-whole : goal.returns-then-is_bad_count-clause-whole
+returns-then-is_bad_count-clause-whole g c = grind (arith, common_steps)
 
-pub returns-else-is_over-clause-ended : goal.returns-else-is_over-clause-ended
-returns-else-is_over-clause-ended g c =
+pub returns-else-is_bad_count-clause-ended : goal.returns-else-is_bad_count-clause-ended
+returns-else-is_bad_count-clause-ended g c =
     rest-ends g.P.Port c.args.last (counting c.args.last c.args.limit c.args.len) 1 (c.args.limit + c.args.len) [] c.args.port.now c.get.new.self c.get_all.new.port c.get_all.new.got
     (λ tells. omega (arith, ap length (c.in-Ok.ensures.log tells), length-append {A = PortCall})) c.in-Ok.ensures.later
     c.args.last (getting c.args.last _) 2 _ c.push.new.self c.get_all.result c.get_all.ensures.ended
@@ -44,12 +44,12 @@ returns-else-is_over-clause-ended g c =
     (λ tells whole before r.
     rw (c.push.ensures, c.requires.none)
     (count_within whole _ c.args.last c.args.limit c.args.len c.in-Ok.count _ before 1 _ _ _ _ _ (c.in-Ok.ensures.answer tells)
-    (sym c.is_over.ensures.test ∙ c.if-is_over.false) (ap (λ n. n + c.args.len - 1) c.from.ensures)
+    (sym c.is_bad_count.ensures.test ∙ c.if-is_bad_count.false) (ap (λ n. n + c.args.len - 1) c.from.ensures)
     (cut_after c.get_all.result 2 (λ q e. (c.get_all.ensures.ended.fails.place q e).0))
     (c.in-Ok.ensures.world tells) (c.in-Ok.ensures.log tells) r))
 
-pub returns-else-is_over-clause-whole : goal.returns-else-is_over-clause-whole
-returns-else-is_over-clause-whole g c = grind (arith, common_steps)
+pub returns-else-is_bad_count-clause-whole : goal.returns-else-is_bad_count-clause-whole
+returns-else-is_bad_count-clause-whole g c = grind (arith, common_steps)
 
 pub get_one_more-requires : goal.get_one_more-requires
 get_one_more-requires g c = grind (arith, common_steps)

@@ -4,19 +4,19 @@ use Rattle.i2c_spec.specs.Flat.{block_limit}
 use Rattle.i2c_spec.specs.Messages.{bytes_most}
 use Rattle.bus_message.specs.Sends.{control_message}
 use Rattle.i2c_spec.specs.Tree.{addr_of_mux}
-use Rattle.bus_message.specs.Ports.{socket_of}
+use Rattle.bus_message.specs.Ports.{root_port}
 use Rattle.bus_message.proofs.PortLemmas.{control-sent}
 use Rattle.bus_message.proofs.send.send_control.Goals as goal
 
 pub returns-in-Some : goal.returns-in-Some
 returns-in-Some g c t sent root =
-    control-sent c.args.board.now g.P.Port.tells t sent c.args.next.now (socket_of g.P.Port (root, c.args.port.now)) (socket_of g.P.Port (root, c.send_message.new.port))
+    control-sent c.args.board.now g.P.Port.tells t sent c.args.next.now (root_port g.P.Port (root, c.args.port.now)) (root_port g.P.Port (root, c.send_message.new.port))
     c.send_message.new.bytes c.send_message.result c.args.mux c.chip_addr-addr.result c.from-limit.result (Some c.in-Some.byte)
     c.requires.control c.in-Some.is (λ a there. c.chip_addr-addr.ensures a (ap (λ b. addr_of_mux b c.args.mux) c.board-2.ensures.value ∙ there)) (c.from-limit.ensures ∙ c.limit.ensures) (c.send_message.ensures.sent root)
 
 pub returns-in-None : goal.returns-in-None
 returns-in-None g c t sent root =
-    control-sent c.args.board.now g.P.Port.tells t sent c.args.next.now (socket_of g.P.Port (root, c.args.port.now)) (socket_of g.P.Port (root, c.send_message-in-None.new.port))
+    control-sent c.args.board.now g.P.Port.tells t sent c.args.next.now (root_port g.P.Port (root, c.args.port.now)) (root_port g.P.Port (root, c.send_message-in-None.new.port))
     c.send_message-in-None.new.bytes c.send_message-in-None.result c.args.mux c.chip_addr-addr.result c.from-limit.result None
     c.requires.control c.in-None.is (λ a there. c.chip_addr-addr.ensures a (ap (λ b. addr_of_mux b c.args.mux) c.board-2.ensures.value ∙ there)) (c.from-limit.ensures ∙ c.limit.ensures) (c.send_message-in-None.ensures.sent root)
 

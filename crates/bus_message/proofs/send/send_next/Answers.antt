@@ -5,7 +5,7 @@ use Rattle.i2c_base.specs.declared.entry.Purpose.TheVariants as purpose
 use Rattle.i2c_spec.specs.Flat.{block_limit}
 use Rattle.i2c_spec.specs.Messages.{MessageView, bytes_most}
 use Rattle.bus_message.specs.Cursors.{CursorView}
-use Rattle.bus_message.specs.Ports.{socket_of}
+use Rattle.bus_message.specs.Ports.{root_port}
 use Rattle.bus_message.specs.Sends.{device_of, message_for}
 use Rattle.bus_message.proofs.PortLemmas.{call-sent}
 use Rattle.bus_message.proofs.send.send_next.Goals as goal
@@ -36,7 +36,7 @@ send_control-requires-clause-room g c κs within =
 pub returns-in-Call : goal.returns-in-Call
 returns-in-Call g c root =
     let v : CursorView = c.args.cursor.now in
-    call-sent c.args.board.now g.P.Port.tells v.transfer v.sent c.args.next.now (socket_of g.P.Port (root, c.args.port.now)) (socket_of g.P.Port (root, c.send_message.new.port))
+    call-sent c.args.board.now g.P.Port.tells v.transfer v.sent c.args.next.now (root_port g.P.Port (root, c.args.port.now)) (root_port g.P.Port (root, c.send_message.new.port))
     c.send_message.new.bytes c.send_message.result v.grant c.from-limit.result c.message.result c.device-hearer.result c.is_last.result
     c.in-Call.is c.message.ensures.value (c.requires.next c.in-Call.is).grants (c.device-hearer.ensures ∙ ap (λ (x : CursorView). device_of x.grant) c.cursor.view_is)
     (c.from-limit.ensures ∙ c.limit.ensures) c.is_last.ensures (c.send_message.ensures.sent root)

@@ -1,7 +1,7 @@
 use Rattle.std.proofs.Common.{[], ◌∷◌, ◌++◌, ◌+◌, ap, map, sym, ◌∙◌}
 use Rattle.std.proofs.lemmas.List.{map-append}
 use Rattle.i2c_physics.specs.Sites.{numbers_at}
-use Rattle.i2c_physics.proofs.TogetherLemmas.{listed_more}
+use Rattle.i2c_physics.proofs.WiredAndLemmas.{listed_more}
 use Rattle.i2c_physics.proofs.sites.by_address.Goals as goal
 
 pub loop-address-preserved : goal.loop-address-preserved

@@ -15,5 +15,5 @@ returns-clause-went g c =
     record {
       same = c.advance_walk.ensures.same ∙ ap (λ (k : Cut). record old { walk = c.advance_walk.new.self.walk; cut = k }) cut;
       walk = c.advance_walk.ensures.walk;
-      course = c.advance_walk.ensures.course;
+      route = c.advance_walk.ensures.route;
     }

@@ -22,7 +22,7 @@ end-requires-clause-may g c κs within =
     let d = c.decide-decided.ensures in
     let p = c.lock_done.ensures in
     may_end_refused g.C.Caller c.args.board.now c.args.locks.now (roots_of c.args.ports.now) old c.lock_done.new.self c.lock_done.new.self c.args.errno c.args.journal.now c.requires
-    (settled c.args.board.now c.args.locks.now old c.decide-decided.new.self c.lock_done.new.self (Some c.args.errno) c.decide-decided.result d.same p.same d.reply p.walk p.course)
+    (settled c.args.board.now c.args.locks.now old c.decide-decided.new.self c.lock_done.new.self (Some c.args.errno) c.decide-decided.result d.same p.same d.reply p.walk p.route)
 
 pub returns : goal.returns
 returns g c =
@@ -32,7 +32,7 @@ returns g c =
     let got : c.reply.result.now ≡ reply.Err c.args.errno = c.reply.ensures ∙ d.reply in
     record {
       ended = refused g.C.Caller c.args.board.now c.args.locks.now (roots_of c.args.ports.now) old c.lock_done.new.self c.end.new.self c.args.errno c.args.journal.now c.requires
-          (settled c.args.board.now c.args.locks.now old c.decide-decided.new.self c.lock_done.new.self (Some c.args.errno) c.decide-decided.result d.same p.same d.reply p.walk p.course)
+          (settled c.args.board.now c.args.locks.now old c.decide-decided.new.self c.lock_done.new.self (Some c.args.errno) c.decide-decided.result d.same p.same d.reply p.walk p.route)
           c.end.ensures.ended;
       seated = c.end.ensures.seated;
       entries = c.push.ensures.entries

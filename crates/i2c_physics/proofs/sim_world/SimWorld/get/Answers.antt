@@ -1,6 +1,6 @@
 use Rattle.std.proofs.Common.{◌<◌, bit_and, ap, ◌∙◌}
 use Rattle.i2c_base.specs.declared.event.Event.TheVariants as event
-use Rattle.i2c_physics.specs.declared.together.Together.{Together}
+use Rattle.i2c_physics.specs.declared.wired_and.WiredAnd.{WiredAnd}
 use Rattle.i2c_physics.specs.Answering.{chips_say, devices_say}
 use Rattle.i2c_physics.proofs.WorldLemmas.{gives_told}
 use Rattle.i2c_physics.proofs.sim_world.SimWorld.get.Goals as goal
@@ -9,6 +9,6 @@ pub returns-clause-given : goal.returns-clause-given
 returns-clause-given c =
     let w = c.args.self.now in
     let small : (devices_say w (event.Get c.args.ack)).byte < 256 = rw c.send.ensures.devices at c.send.ensures.small in
-    ap (λ (j : Together). bit_and j.byte c.send.result.1.byte) c.send.ensures.chips
-    ∙ ap (λ (j : Together). bit_and (chips_say w (event.Get c.args.ack)).byte j.byte) c.send.ensures.devices
+    ap (λ (j : WiredAnd). bit_and j.byte c.send.result.1.byte) c.send.ensures.chips
+    ∙ ap (λ (j : WiredAnd). bit_and (chips_say w (event.Get c.args.ack)).byte j.byte) c.send.ensures.devices
     ∙ gives_told w c.args.ack small

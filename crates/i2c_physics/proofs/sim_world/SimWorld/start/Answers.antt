@@ -5,7 +5,7 @@ use Rattle.i2c_base.specs.declared.port.PortCall.TheVariants as call
 use Rattle.i2c_spec.specs.Chips.{chip_table}
 use Rattle.i2c_spec.specs.World.{after, answer}
 use Rattle.i2c_spec.specs.Targets.{state_table}
-use Rattle.i2c_physics.specs.Answering.{together_of}
+use Rattle.i2c_physics.specs.Answering.{wired_and_of}
 use Rattle.i2c_physics.specs.Heard.{numbers_of}
 use Rattle.i2c_physics.specs.Reach.{addressed, others}
 use Rattle.i2c_physics.proofs.FeedLemmas.{begun-on, said-on, either-on, start-by, calls-chips, calls-devices, other-chips, other-devices, started-kept, started-is, started-answer}
@@ -60,8 +60,8 @@ returns-clause-answer c =
     let same = c.as_slice-chips.ensures.value in
     let chip_calls = c.call.ensures.told ∙ ap (λ cs. addressed cs c.self.inside.mux_places c.args.addr) same in
     let device_calls = c.call-2.ensures.told ∙ ap (λ cs. addressed cs c.self.inside.device_places c.args.addr) same in
-    let chips = said-on chip_table e _ _ _ _ chip_calls c.deref_mut.ensures.value together_of _ c.begin-chips.ensures.answered in
-    let devices = said-on state_table e _ _ _ _ device_calls c.deref_mut-2.ensures.value together_of _ c.begin-devices.ensures.answered in
+    let chips = said-on chip_table e _ _ _ _ chip_calls c.deref_mut.ensures.value wired_and_of _ c.begin-chips.ensures.answered in
+    let devices = said-on state_table e _ _ _ _ device_calls c.deref_mut-2.ensures.value wired_and_of _ c.begin-devices.ensures.answered in
     c.answer_of.ensures ∙ start-by chips devices
     ∙ started-answer _ _ _ _ _ _ _ _ s.busy c.self.invariant c.args.addr c.args.reading ∙ ap (λ w. answer w c.args.addr c.args.reading) c.self.view_is
 

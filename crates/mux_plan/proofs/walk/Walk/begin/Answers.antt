@@ -6,20 +6,20 @@ use Rattle.bus_spec.specs.Grammar.{full, plain}
 use Rattle.mux_plan.specs.declared.task.Task.{Task}
 use Rattle.mux_plan.specs.declared.task.Task.TheVariants.{Lock}
 use Rattle.mux_plan.specs.declared.task.Work.TheVariants as work
-use Rattle.mux_plan.specs.Plans.{CourseView, came_of, tree_of}
+use Rattle.mux_plan.specs.Plans.{RouteView, came_of, tree_of}
 use Rattle.i2c_spec.proofs.MessageLemmas.{length-messages}
 use Rattle.mux_plan.proofs.walk.Walk.begin.Goals as goal
 
 pub returns-clause-count : goal.returns-clause-count
 returns-clause-count c =
     length-messages c.args.transfer.now.msgs c.args.transfer.now.out
-    ∙ sym (ap (λ (x : CourseView). x.count) (c.start.ensures.course ∙ c.lead.ensures.course) ∙ ap length c.msgs.ensures.value)
+    ∙ sym (ap (λ (x : RouteView). x.count) (c.start.ensures.route ∙ c.set_route.ensures.route) ∙ ap length c.msgs.ensures.value)
 
 pub returns-clause-tree : goal.returns-clause-tree
 returns-clause-tree c =
     let b = c.args.board.now in
     let ms = messages_of c.args.transfer.now in
     let came = came_of c.start.new.self.came in
-    ap (λ (ts : List Task). tree_of b ms c.start.new.self.course ts came) c.start.ensures.stack
-    ∙ ap (λ (x : CourseView). tree_of b ms x (Lock 0 0 work.Call ∷ []) came) (c.start.ensures.course ∙ c.lead.ensures.course)
+    ap (λ (ts : List Task). tree_of b ms c.start.new.self.route ts came) c.start.ensures.stack
+    ∙ ap (λ (x : RouteView). tree_of b ms x (Lock 0 0 work.Call ∷ []) came) (c.start.ensures.route ∙ c.set_route.ensures.route)
     ∙ ap (λ (s : ℕ). full b (root_of b s) (hops b s) (Call s ms) plain (λ o. Ends)) c.bus.ensures

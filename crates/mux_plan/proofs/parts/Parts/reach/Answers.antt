@@ -1,8 +1,0 @@
-use Rattle.std.proofs.Common.{List, sym, subst}
-use Rattle.mux_plan.specs.declared.task.Task.{Task}
-use Rattle.mux_plan.specs.Rooms.{IsPlanned}
-use Rattle.mux_plan.proofs.parts.Parts.reach.Goals as goal
-
-pub returns-clause-planned : goal.returns-clause-planned
-returns-clause-planned c = λ n h.
-    subst (λ (ts : List Task). IsPlanned c.args.self.now.course ts) (sym c.push.ensures) (c.base-task.ensures.planned n c.args.self.now.stack h)

@@ -1,0 +1,23 @@
+use Rattle.std.proofs.Common.{◌∙◌, ap}
+use Rattle.bus_spec.specs.Walk.{WalkTree}
+use Rattle.bus_spec.specs.Grammar.{rest_of}
+use Rattle.mux_plan.specs.declared.task.Task.TheVariants.{Lock, Rest}
+use Rattle.mux_plan.specs.Plans.{came_of, outcome_of}
+use Rattle.mux_plan.proofs.Rooms.{top-tree}
+use Rattle.mux_plan.proofs.parts.WalkParts.act.Goals as goal
+
+pub returns-in-Lock-clause-tree : goal.returns-in-Lock-clause-tree
+returns-in-Lock-clause-tree c = λ b ms.
+    let s = c.args.self.now in
+    let w = c.in-Lock in
+    c.lock.ensures.tree b ms (came_of c.lock.new.self.came) (came_of s.came) (outcome_of c.args.outcome.now)
+    ∙ ap (λ (t : WalkTree). rest_of t (outcome_of c.args.outcome.now))
+    (top-tree s.route s.stack c.drop_top.new.self c.in-Some.task.now (Lock w.from w.place w.work) c.in-Some.ensures.some w.is c.drop_top.ensures b ms (came_of s.came))
+
+pub returns-in-Rest-clause-tree : goal.returns-in-Rest-clause-tree
+returns-in-Rest-clause-tree c = λ b ms.
+    let s = c.args.self.now in
+    let w = c.in-Rest in
+    c.message.ensures.tree b ms (came_of s.came)
+    ∙ ap (λ (t : WalkTree). rest_of t (outcome_of c.args.outcome.now))
+    (top-tree s.route s.stack c.drop_top-in-Rest.new.self c.in-Some.task.now (Rest w.left w.work) c.in-Some.ensures.some w.is c.drop_top-in-Rest.ensures b ms (came_of s.came))

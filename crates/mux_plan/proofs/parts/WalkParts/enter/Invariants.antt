@@ -1,0 +1,22 @@
+use Rattle.std.proofs.Common.{◌≡◌, ◌-◌, List, ◌∷◌, length}
+use Rattle.i2c_spec.specs.Messages.{MessageView}
+use Rattle.bus_spec.specs.Walk.{JobOutcome}
+use Rattle.bus_spec.specs.Grammar.{seen}
+use Rattle.mux_plan.specs.declared.task.Task.TheVariants.{Enter}
+use Rattle.mux_plan.specs.Plans.{tree_of, slots_of}
+use Rattle.mux_plan.specs.Rooms.{IsPlanned}
+use Rattle.mux_plan.proofs.parts.WalkParts.enter.Given as goal
+
+-- the tree behind its looks stays the same
+abbrev pub invariant-muxes : goal.invariant-muxes
+invariant-muxes l = record {
+  planned : IsPlanned l.self.route (Enter l.place l.work ∷ l.self.stack);
+  route : l.self.route ≡ l.fn.self.route;
+  came : l.self.came ≡ l.fn.self.came;
+  same : (ms : List MessageView) (out : JobOutcome)
+      → seen (slots_of l.seen) (tree_of l.board ms l.self.route (Enter l.place l.work ∷ l.self.stack) out)
+      ≡ seen (slots_of l.seen) (tree_of l.board ms l.fn.self.route (Enter l.fn.place l.fn.work ∷ l.fn.self.stack) out);
+}
+
+abbrev pub decreases-muxes : goal.decreases-muxes
+decreases-muxes l = length l.self.route.path - l.place
