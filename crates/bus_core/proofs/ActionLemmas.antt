@@ -36,12 +36,14 @@ settle-of (Some (Send job left)) v e = absurd (let f : sending job left ≡ acti
 settle-of (Some (Shift job)) v e = absurd (let f : action.Line (line_mux job) (line_level job) ≡ action.Settle v = e in cc)
 settle-of (Some (Settle w)) v e = (let f : action.Settle w ≡ action.Settle v = e in cc)
 
-pub line-of : (o : Option Act) (mux level : ℕ) → action_of o ≡ action.Line mux level → (job : Job) × (o ≡ Some (Shift job)) × (line_mux job ≡ mux) × (line_level job ≡ level)
+pub line-of : (o : Option Act) (mux level : ℕ) → action_of o ≡ action.Line mux level
+    → (job : Job) × (o ≡ Some (Shift job)) × (line_mux job ≡ mux) × (line_level job ≡ level)
 line-of None m level e = absurd (let f : action.Done ≡ action.Line m level = e in cc)
 line-of (Some (Take k)) m level e = absurd (let f : action.Take k ≡ action.Line m level = e in cc)
 line-of (Some (Free k)) m level e = absurd (let f : action.Free k ≡ action.Line m level = e in cc)
 line-of (Some (Send job left)) m level e = absurd (let f : sending job left ≡ action.Line m level = e in cc)
-line-of (Some (Shift job)) m level e = (let f : action.Line (line_mux job) (line_level job) ≡ action.Line m level = e in (job, refl, cc, cc))
+line-of (Some (Shift job)) m level e = (let f : action.Line (line_mux job) (line_level job) ≡ action.Line m level = e in
+    (job, refl, cc, cc))
 line-of (Some (Settle w)) m level e = absurd (let f : action.Settle w ≡ action.Line m level = e in cc)
 
 -- the message that comes next
@@ -56,7 +58,8 @@ send-of (Some (Send job left)) n e =
       job,
       left,
       refl,
-      subst (λ (m : NextMsg). IsMessageOf job left m) is (record { on_bus = refl; for_purpose = refl; as_part = refl; of_parts = refl; with_byte = refl }),
+      subst (λ (m : NextMsg). IsMessageOf job left m) is
+          (record { on_bus = refl; for_purpose = refl; as_part = refl; of_parts = refl; with_byte = refl }),
     )
 send-of (Some (Shift job)) n e = absurd (let f : action.Line (line_mux job) (line_level job) ≡ action.Send n = e in cc)
 send-of (Some (Settle w)) n e = absurd (let f : action.Settle w ≡ action.Send n = e in cc)

@@ -30,7 +30,8 @@ use Rattle.i2c_base.proofs.ListLemmas.{there, map_from}
 use Rattle.core_laws.specs.Spots.{seen_of}
 
 -- an answer that isn't Stepped
-pub waits-by : (P : Type 0) (r : StepAnswer) → (r ≡ answer.Stepped → ⊥) → ((l : LockId) (h : ℕ) → r ≡ answer.Blocked l h → P) → (r ≡ answer.Finished → P) → P
+pub waits-by : (P : Type 0) (r : StepAnswer) → (r ≡ answer.Stepped → ⊥) → ((l : LockId) (h : ℕ) → r ≡ answer.Blocked l h → P)
+    → (r ≡ answer.Finished → P) → P
 waits-by P answer.Stepped not blocked finished = absurd (not refl)
 waits-by P (answer.Blocked l h) not blocked finished = blocked l h refl
 waits-by P answer.Finished not blocked finished = finished refl
@@ -39,14 +40,16 @@ waits-by P answer.Finished not blocked finished = finished refl
 pub over-none : (v : LocksView) (w : WalkTree) → is_over w ≡ true → next_of v w ≡ None
 over-none v w over = ap (next_of v) (over_ends w over)
 
-module _ {P C S : Type 0} (g : PortGhosts P) (c : CallerGhosts C S) (x : CoreParts P C) (kept : IsKept g c x) (placed : ArePlaced x.places.items (scripts_of c x.seats.items))
+module _ {P C S : Type 0} (g : PortGhosts P) (c : CallerGhosts C S) (x : CoreParts P C) (kept : IsKept g c x)
+    (placed : ArePlaced x.places.items (scripts_of c x.seats.items))
     (caller place : ℕ) (at : slice_get x.places.items caller ≡ Some (Some place)) where
   script_here : (s : S) × (slice_get (scripts_of c x.seats.items) place ≡ Some (caller, s))
   script_here = placed.there caller place at
 
   pub within : place < length x.seats.items
   within =
-      let low : place < length (scripts_of c x.seats.items) = slice_get_within (scripts_of c x.seats.items) place (caller, script_here.0) script_here.1 in
+      let low : place < length (scripts_of c x.seats.items) = slice_get_within (scripts_of c x.seats.items) place
+      (caller, script_here.0) script_here.1 in
       let all : length (scripts_of c x.seats.items) ≡ length x.seats.items = length-map x.seats.items (script_of c) in
       omega (arith, low, all)
 
@@ -56,11 +59,13 @@ module _ {P C S : Type 0} (g : PortGhosts P) (c : CallerGhosts C S) (x : CorePar
       let same : from.0 ≡ s = same_seat x.seats.items place from.0 s from.1 here in
       ap (λ (y : Seat C). y.number) (sym same) ∙ ap (λ (y : ℕ × S). y.0) from.2
 
-  pub stuck-by : (s : Seat C) → slice_get x.seats.items place ≡ Some s → IsHeldUp (holder_in x.locks) (slots_of (seen_of x.locks)) (walk_left x.board.now s) → IsTrue g.tells
+  pub stuck-by : (s : Seat C) → slice_get x.seats.items place ≡ Some s
+      → IsHeldUp (holder_in x.locks) (slots_of (seen_of x.locks)) (walk_left x.board.now s) → IsTrue g.tells
       → IsStuck x.board.now (asks_in c x) (reverse x.journal.entries) caller
   stuck-by s here up tell =
       subst (λ (n : ℕ). IsStuck x.board.now (asks_in c x) (reverse x.journal.entries) n) (numbered s here)
-      (held-up-stuck (run_of g c x) (whole_of g c x kept.held kept.owes) kept.kept tell place (place_of c x.board.now s) (place-here g c x kept place s here) up)
+      (held-up-stuck (run_of g c x) (whole_of g c x kept.held kept.owes) kept.kept tell place (place_of c x.board.now s)
+      (place-here g c x kept place s here) up)
 
   -- WHO WAITS is held up
   pub blocked-held_up : (l : LockId) (h : ℕ) → IsBlockedAt x place l h → IsHeldUpAt x place
@@ -70,7 +75,8 @@ module _ {P C S : Type 0} (g : PortGhosts P) (c : CallerGhosts C S) (x : CorePar
   ended-held_up e = record { seat = e.seat; here = e.here; waits = inl (over-none x.locks (walk_left x.board.now e.seat) e.over) }
 
   -- .. and stuck
-  pub blocked-stuck : (l : LockId) (h : ℕ) → IsBlockedAt x place l h → IsTrue g.tells → IsStuck x.board.now (asks_in c x) (reverse x.journal.entries) caller
+  pub blocked-stuck : (l : LockId) (h : ℕ) → IsBlockedAt x place l h → IsTrue g.tells
+      → IsStuck x.board.now (asks_in c x) (reverse x.journal.entries) caller
   blocked-stuck l h b tell = (let up = blocked-held_up l h b in stuck-by up.seat up.here up.waits tell)
 
   pub ended-stuck : HasEndedAt x place → IsTrue g.tells → IsStuck x.board.now (asks_in c x) (reverse x.journal.entries) caller
@@ -81,7 +87,15 @@ module _ {P C S : Type 0} (g : PortGhosts P) (c : CallerGhosts C S) (x : CorePar
   has-made new step =
       let s = there x.seats.items place within in
       record {
-        come = record { board = step.board; start = step.start; scripts = step.scripts; roots = step.roots; places = step.places; counted = step.counted };
+        come = record {
+          board = step.board;
+          start = step.start;
+          scripts = step.scripts;
+          roots = step.roots;
+          places = step.places;
+          counted = step.counted;
+        };
         room = step.room;
-        turn = λ tell. subst (λ (n : ℕ). HasTurn x.board.now (asks_in c x) n x.journal.entries new.journal.entries) (numbered s.0 s.1) (step.turn tell s.0 s.1);
+        turn = λ tell. subst (λ (n : ℕ). HasTurn x.board.now (asks_in c x) n x.journal.entries new.journal.entries) (numbered s.0 s.1)
+            (step.turn tell s.0 s.1);
       }

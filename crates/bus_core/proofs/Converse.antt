@@ -73,7 +73,8 @@ holds_mux v c on = nat_lt on (length v.depths) && is_it (holder_in v (lock.Mux o
 
 mux-held : (v : LocksView) (c on : ℕ) → IsLockIn v (lock.Mux on) → holder_in v (lock.Mux on) ≡ Some c → holds_mux v c on ≡ true
 mux-held v c on low held =
-    ap (λ (x : Bool). x && is_it (holder_in v (lock.Mux on)) c) (lt-ltb on (length v.depths) low) ∙ is_it-at (holder_in v (lock.Mux on)) c held
+    ap (λ (x : Bool). x && is_it (holder_in v (lock.Mux on)) c) (lt-ltb on (length v.depths) low)
+    ∙ is_it-at (holder_in v (lock.Mux on)) c held
 
 pub updates-held : (v : LocksView) (c : ℕ) (ds : List MuxUpdate) → AreOn (holds_mux v c) ds → AreHeld v c ds
 updates-held v c [] all = tt
@@ -103,12 +104,14 @@ is_call (Call bus ms) e = (bus, ms, refl)
 is_call (Select h) e = absurd (let f : purpose.Control h.mux ≡ purpose.Call = e in cc)
 is_call (SwitchOff off) e = absurd (let f : purpose.Control (off_mux off) ≡ purpose.Call = e in cc)
 
-part_low : (sent more : ℕ) (j : Job) → ((bus : ℕ) (ms : List MessageView) → j ≡ Call bus ms → sent + suc more ≡ length ms) → 0 < part_of j more
+part_low : (sent more : ℕ) (j : Job) → ((bus : ℕ) (ms : List MessageView) → j ≡ Call bus ms → sent + suc more ≡ length ms)
+    → 0 < part_of j more
 part_low sent more (Call bus ms) w = (let sum : sent + suc more ≡ length ms = w bus ms refl in omega (arith, sum))
 part_low sent more (Select h) w = omega arith
 part_low sent more (SwitchOff off) w = omega arith
 
-module _ {P C S : Type 0} (g : PortGhosts P) (c : CallerGhosts C S) (x : CoreParts P C) (kept : IsKept g c x) (place : ℕ) (s : Seat C) (here : slice_get x.seats.items place ≡ Some s) where
+module _ {P C S : Type 0} (g : PortGhosts P) (c : CallerGhosts C S) (x : CoreParts P C) (kept : IsKept g c x) (place : ℕ) (s : Seat C)
+    (here : slice_get x.seats.items place ≡ Some s) where
   abbrev pub b : BoardView
   b = x.board.now
 
@@ -133,21 +136,25 @@ module _ {P C S : Type 0} (g : PortGhosts P) (c : CallerGhosts C S) (x : CorePar
     port = (let f = map_from (λ (q : ℕ × P). q.0) x.ports.items s.port (root_of b s.transfer.bus) (its.plugged goes low) in
         (root_port g f.0, map_at (root_port g) x.ports.items s.port f.0 f.1, f.2))
 
-  module _ (job : Job) (more : ℕ) (next : NextMsg) (first : next_of x.locks (walk_left b s) ≡ Some (Send job more)) (of : IsMessageOf job more next) where
+  module _ (job : Job) (more : ℕ) (next : NextMsg) (first : next_of x.locks (walk_left b s) ≡ Some (Send job more))
+      (of : IsMessageOf job more next) where
     pub goes : is_over (walk_left b s) ≡ false
     goes = not_over (slots_of (seen_of x.locks)) (walk_left b s) (Send job more) first
 
     pub on-bus : s.transfer.bus < buses b
     on-bus = elim (its.there goes) [
       | inl low ↦ low
-      | inr lone ↦ absurd (let l = lone_act b (slots_of (seen_of x.locks)) (walk_left b s) lone (Send job more) first in let f : Send job more ≡ Settle l.0 = l.1 in cc)
+      | inr lone ↦ absurd (let l = lone_act b (slots_of (seen_of x.locks)) (walk_left b s) lone (Send job more) first in
+          let f : Send job more ≡ Settle l.0 = l.1 in cc)
     ]
 
     job-of : IsJobOf b s.transfer job
     job-of = send-root run whole kept.kept place p at job more first
 
-    pub calls : (bus : ℕ) (ms : List MessageView) → job ≡ Call bus ms → (has_reply p.owed ≡ false) × IsCall b s.transfer bus ms × (s.sent + suc more ≡ length ms)
-    calls bus ms is = call-wants run whole kept.kept place p at bus ms more (subst (λ (j : Job). next_of x.locks (walk_left b s) ≡ Some (Send j more)) is first)
+    pub calls : (bus : ℕ) (ms : List MessageView) → job ≡ Call bus ms
+        → (has_reply p.owed ≡ false) × IsCall b s.transfer bus ms × (s.sent + suc more ≡ length ms)
+    calls bus ms is = call-wants run whole kept.kept place p at bus ms more
+        (subst (λ (j : Job). next_of x.locks (walk_left b s) ≡ Some (Send j more)) is first)
 
     pub call-left : next.purpose ≡ purpose.Call → (has_reply p.owed ≡ false) × (s.sent < length s.transfer.msgs)
     call-left e =
@@ -170,7 +177,8 @@ module _ {P C S : Type 0} (g : PortGhosts P) (c : CallerGhosts C S) (x : CorePar
           may = record {
             start = port-start run whole kept.kept s.port y.0 y.1;
             room = λ addr tell.
-                let room : length y.0.log + (message_most b job more + 2) ≤ MOST_CALLS = log-message run whole kept.kept place p at job more first tell s.port y.0 y.1 in
+                let room : length y.0.log + (message_most b job more + 2) ≤ MOST_CALLS =
+                log-message run whole kept.kept place p at job more first tell s.port y.0 y.1 in
                 let same = most addr in
                 omega (arith, room, same);
           };
@@ -183,7 +191,8 @@ module _ {P C S : Type 0} (g : PortGhosts P) (c : CallerGhosts C S) (x : CorePar
     message-room = room-one run whole kept.kept place p at (Send job more) first
 
     -- IT WAS SENT
-    module _ (sockets2 : List RootPort) (bytes : List ℕ) (sent : MsgResult) (spoken : HasSpoken b g.tells next whole.sockets sockets2 bytes sent s) where
+    module _ (sockets2 : List RootPort) (bytes : List ℕ) (sent : MsgResult)
+        (spoken : HasSpoken b g.tells next whole.sockets sockets2 bytes sent s) where
       pub few : length bytes ≤ message_most b job more
       few = subst (λ (n : ℕ). length bytes ≤ n) (most sent.addr) spoken.sent.spoke.few
 
@@ -201,23 +210,30 @@ module _ {P C S : Type 0} (g : PortGhosts P) (c : CallerGhosts C S) (x : CorePar
             rooted = ap (λ (z : RootPort). z.root) same ∙ y.2 ∙ sym job-of.rooted;
             root = spoken.sent.spoke.root;
             start = spoken.sent.spoke.start;
-            idle = subst (λ (l : Bool). (spoken.after.phase ≡ Idle) ⊎ ((l ≡ false) × (sent.end ≡ end.Ok))) (send-last run whole kept.kept place p at job more first next of) spoken.sent.spoke.idle;
+            idle = subst (λ (l : Bool). (spoken.after.phase ≡ Idle) ⊎ ((l ≡ false) × (sent.end ≡ end.Ok)))
+                (send-last run whole kept.kept place p at job more first next of) spoken.sent.spoke.idle;
             few = few;
-            grows = λ tell. subst (λ (n : ℕ). length spoken.after.log ≤ length spoken.before.log + (n + 2)) (most sent.addr) (spoken.sent.spoke.grows tell);
+            grows = λ tell. subst (λ (n : ℕ). length spoken.after.log ≤ length spoken.before.log + (n + 2)) (most sent.addr)
+                (spoken.sent.spoke.grows tell);
           }
 
       marked : AreMarked b p.tree x.locks (walk.Sent sent.end bytes) words2
       marked = record {
         all = length-applied (updates_of b x.locks (walk.Sent sent.end bytes) s) x.locks.marks ∙ kept.kept.table.marked;
         counted = length-applied_kept (updates_of b x.locks (walk.Sent sent.end bytes) s) x.locks.kept ∙ kept.kept.table.kept;
-        marked = λ y told. tells-after (next_of x.locks p.tree) (first_note (seen (slots_of (seen_of x.locks)) p.tree)) (walk.Sent sent.end bytes) y x.locks.marks told;
+        marked = λ y told. tells-after (next_of x.locks p.tree) (first_note (seen (slots_of (seen_of x.locks)) p.tree))
+            (walk.Sent sent.end bytes) y x.locks.marks told;
         kept = λ y told.
-            kept-after b (locks-here run whole kept.kept place p at).0 (next_of x.locks p.tree) (first_note (seen (slots_of (seen_of x.locks)) p.tree)) (walk.Sent sent.end bytes)
-            (subst (λ (o : Option _). WantsIn b (locks-here run whole kept.kept place p at).0 o (first_note (seen (slots_of (seen_of x.locks)) p.tree))) (sym first) (send-wants run whole kept.kept place p at job more first))
+            kept-after b (locks-here run whole kept.kept place p at).0 (next_of x.locks p.tree)
+            (first_note (seen (slots_of (seen_of x.locks)) p.tree)) (walk.Sent sent.end bytes)
+            (subst (λ (o : Option _). WantsIn b (locks-here run whole kept.kept place p at).0 o
+            (first_note (seen (slots_of (seen_of x.locks)) p.tree))) (sym first)
+            (send-wants run whole kept.kept place p at job more first))
             y x.locks.kept kept.kept.table.kept told;
       }
 
-      pub is-sent : IsSent run whole p job more next s.port spoken.before spoken.after sent.addr sent.reading bytes sent.heard sent.end words2
+      pub is-sent : IsSent run whole p job more next s.port spoken.before spoken.after sent.addr sent.reading bytes sent.heard sent.end
+          words2
       is-sent = record {
         first = first;
         of = of;
@@ -235,16 +251,24 @@ module _ {P C S : Type 0} (g : PortGhosts P) (c : CallerGhosts C S) (x : CorePar
           let has = held-wants run whole kept.kept place p at own.0 own.1 in
           let sends = send-wants run whole kept.kept place p at job more first in
           updates-held x.locks s.number (updates_of b x.locks (walk.Sent sent.end bytes) s)
-          (on-after (holds_mux x.locks s.number) (next_of x.locks p.tree) (first_note (seen (slots_of (seen_of x.locks)) p.tree)) (walk.Sent sent.end bytes)
-          (subst (λ (o : Option _). MayMark (holds_mux x.locks s.number) o (first_note (seen (slots_of (seen_of x.locks)) p.tree))) (sym first)
-          (switched-on x.locks s.number own.0 has b job sends.own, marks-on x.locks s.number own.0 has b (first_note (seen (slots_of (seen_of x.locks)) p.tree)).marks sends.marked)))
+          (on-after (holds_mux x.locks s.number) (next_of x.locks p.tree) (first_note (seen (slots_of (seen_of x.locks)) p.tree))
+          (walk.Sent sent.end bytes)
+          (subst (λ (o : Option _). MayMark (holds_mux x.locks s.number) o (first_note (seen (slots_of (seen_of x.locks)) p.tree)))
+          (sym first) (
+            switched-on x.locks s.number own.0 has b job sends.own,
+            marks-on x.locks s.number own.0 has b
+                (first_note (seen (slots_of (seen_of x.locks)) p.tree)).marks sends.marked,
+          )))
 
       -- what it read has room
       partway : has_reply p.owed ≡ false → FitsReads (take s.sent s.transfer.msgs) s.replies.got
       partway unsettled =
           let n = (owes-here run whole kept.kept place p at).0 in
-          let goes-on : IsGoing run p n = going-on run whole kept.kept place p _ n (stands-here run whole kept.kept place p at) (Send job more) first in
-          subst (λ (ys : List ℕ). FitsReads (take s.sent s.transfer.msgs) ys) (ap (λ (o : Option Decided). got_by o s.replies) (undecided s.decided s.replies unsettled)) (goes-on.partway (none_owed p.owed unsettled))
+          let goes-on : IsGoing run p n = going-on run whole kept.kept place p _ n (stands-here run whole kept.kept place p at)
+          (Send job more) first in
+          subst (λ (ys : List ℕ). FitsReads (take s.sent s.transfer.msgs) ys)
+          (ap (λ (o : Option Decided). got_by o s.replies) (undecided s.decided s.replies unsettled))
+          (goes-on.partway (none_owed p.owed unsettled))
 
       pub may-hear : MayHear next sent.reading bytes sent.end s
       may-hear = record {
@@ -253,14 +277,19 @@ module _ {P C S : Type 0} (g : PortGhosts P) (c : CallerGhosts C S) (x : CorePar
         part = subst (λ (n : ℕ). 0 < n) (sym of.as_part) (part_low s.sent more job (λ bus ms is. (calls bus ms is).2));
         more = λ through. (call-left (call-through next.purpose sent.end through).0).1;
         room = λ call reads.
-            reads-room s.transfer s.sent (block_limit b) s.replies.got bytes (spoken.whole call) (call-left call).1 (omega arith) (partway (call-left call).0)
-            (subst (λ (y : Purpose). length bytes ≤ bytes_most (block_limit b) (message_for s.transfer s.sent y next.control sent.addr)) call spoken.sent.spoke.few);
+            reads-room s.transfer s.sent (block_limit b) s.replies.got bytes (spoken.whole call) (call-left call).1 (omega arith)
+            (partway (call-left call).0)
+            (subst (λ (y : Purpose). length bytes ≤ bytes_most (block_limit b) (message_for s.transfer s.sent y next.control sent.addr))
+            call spoken.sent.spoke.few);
       }
 
 -- what was sent on the port that was read at the place of a seat's root
-pub spoken-at : {P C : Type 0} (g : PortGhosts P) (b : BoardView) (next : NextMsg) (ports : List (ℕ × P)) (s : Seat C) (y : RootPort) → slice_get (root_ports g ports) s.port ≡ Some y
-    → (q : ℕ × P) → q ≡ get_or ports s.port q → (now : P) (bytes : List ℕ) (r : MsgResult) → NextSent b g.tells s.transfer s.sent next (root_port g q) (root_port g (q.0, now)) bytes r
-    → (next.purpose ≡ purpose.Call → IsTransfer s.transfer.msgs s.transfer.out) → HasSpoken b g.tells next (root_ports g ports) (root_ports g (set ports s.port (q.0, now))) bytes r s
+pub spoken-at : {P C : Type 0} (g : PortGhosts P) (b : BoardView) (next : NextMsg) (ports : List (ℕ × P)) (s : Seat C) (y : RootPort)
+    → slice_get (root_ports g ports) s.port ≡ Some y
+    → (q : ℕ × P) → q ≡ get_or ports s.port q → (now : P) (bytes : List ℕ) (r : MsgResult)
+    → NextSent b g.tells s.transfer s.sent next (root_port g q) (root_port g (q.0, now)) bytes r
+    → (next.purpose ≡ purpose.Call → IsTransfer s.transfer.msgs s.transfer.out)
+    → HasSpoken b g.tells next (root_ports g ports) (root_ports g (set ports s.port (q.0, now))) bytes r s
 spoken-at g b next ports s y here q read now bytes r sent whole =
     record {
       before = root_port g q;

@@ -47,9 +47,12 @@ use Rattle.bus_core.proofs.Heard.{heard-place, heard-got, heard-seated, settle-f
 use Rattle.bus_core.proofs.Stepped.{roots-stay, stepped-two}
 use Rattle.i2c_base.specs.Need.{bytes_given}
 
-module _ {P C S : Type 0} (g : PortGhosts P) (c : CallerGhosts C S) (x : CoreParts P C) (kept : IsKept g c x) (place : ℕ) (s : Seat C) (here : slice_get x.seats.items place ≡ Some s)
-    (job : Job) (more : ℕ) (next : NextMsg) (first : next_of x.locks (walk_left x.board.now s) ≡ Some (Send job more)) (of : IsMessageOf job more next)
-    (sockets2 : List RootPort) (bytes : List ℕ) (sent : MsgResult) (said : HasSpoken x.board.now g.tells next (root_ports g x.ports.items) sockets2 bytes sent s)
+module _ {P C S : Type 0} (g : PortGhosts P) (c : CallerGhosts C S) (x : CoreParts P C) (kept : IsKept g c x) (place : ℕ) (s : Seat C)
+    (here : slice_get x.seats.items place ≡ Some s)
+    (job : Job) (more : ℕ) (next : NextMsg) (first : next_of x.locks (walk_left x.board.now s) ≡ Some (Send job more))
+    (of : IsMessageOf job more next)
+    (sockets2 : List RootPort) (bytes : List ℕ) (sent : MsgResult)
+    (said : HasSpoken x.board.now g.tells next (root_ports g x.ports.items) sockets2 bytes sent s)
     (t : Seat C) (heard : HasHeard x.board.now x.locks next sent.reading bytes sent.end s t) where
   abbrev run : Run
   run = run_of g c x
@@ -88,27 +91,36 @@ module _ {P C S : Type 0} (g : PortGhosts P) (c : CallerGhosts C S) (x : CorePar
   none bus ms is = (calls g c x kept place s here job more next first of bus ms is).0
 
   leaves : (IsLeft run.board p.transfer (has_reply p.owed) gone behind × (p.owed ≡ [] → FitsReads (take gone p.transfer.msgs) got))
-      ⊎ ((has_reply p.owed ≡ false) × (verdict : Option Errno) × IsDecided run.board p.transfer verdict behind × ((reply : Reply) → reply ≡ reply_by verdict (Some p.transfer) got → Fits p.transfer reply))
-  leaves = sent-leaves run whole kept.kept place p at job more next s.port said.before said.after sent.addr sent.reading bytes sent.heard sent.end words
+      ⊎ ((has_reply p.owed ≡ false) × (verdict : Option Errno) × IsDecided run.board p.transfer verdict behind
+      × ((reply : Reply) → reply ≡ reply_by verdict (Some p.transfer) got → Fits p.transfer reply))
+  leaves = sent-leaves run whole kept.kept place p at job more next s.port said.before said.after sent.addr sent.reading bytes sent.heard
+      sent.end words
       (is-sent g c x kept place s here job more next first of sockets2 bytes sent said)
 
   place-is : place_of c x.board.now t ≡ spoken whole p job next sent.reading bytes sent.end gone
   place-is = heard-place c x.board.now x.locks (roots_of x.ports.items) job more next of sent.reading bytes sent.end s t heard none
 
   seated : IsSeated c x.board.now (roots_of x.ports.items) t
-  seated = heard-seated c x.board.now x.locks (roots_of x.ports.items) job more next of sent.reading bytes sent.end s t heard none (seated-here g c x kept place s here)
-      (goes g c x kept place s here job more next first of) (on-bus g c x kept place s here job more next first of) (λ e. (call-left g c x kept place s here job more next first of e).1)
+  seated = heard-seated c x.board.now x.locks (roots_of x.ports.items) job more next of sent.reading bytes sent.end s t heard none
+      (seated-here g c x kept place s here)
+      (goes g c x kept place s here job more next first of) (on-bus g c x kept place s here job more next first of)
+      (λ e. (call-left g c x kept place s here job more next first of e).1)
 
-  reply-is : has_reply p.owed ≡ false → (verdict : Option Errno) → reply_by verdict (Some t.transfer) t.replies.got ≡ reply_by verdict (Some p.transfer) got
+  reply-is : has_reply p.owed ≡ false → (verdict : Option Errno)
+      → reply_by verdict (Some t.transfer) t.replies.got ≡ reply_by verdict (Some p.transfer) got
   reply-is unsettled verdict =
       ap (λ (y : TransferView). reply_by verdict (Some y) t.replies.got) (ap (λ (y : Seat C). y.transfer) heard.same)
-      ∙ ap (reply_by verdict (Some s.transfer)) (heard-got c x.board.now x.locks (roots_of x.ports.items) job more next of sent.reading bytes sent.end s t heard none unsettled)
+      ∙ ap (reply_by verdict (Some s.transfer))
+      (heard-got c x.board.now x.locks (roots_of x.ports.items) job more next of sent.reading bytes sent.end s t heard none unsettled)
 
   -- the settle is none where the message decides nothing
-  quiet : IsLeft run.board p.transfer (has_reply p.owed) gone behind → (verdict : Option Errno) → next_of locks2 (walk_left x.board.now t) ≡ Some (Settle verdict) → ⊥
-  quiet is verdict comes = quiet-next (slots_of words) behind is.quiet verdict (subst (λ (w : WalkTree). next_of locks2 w ≡ Some (Settle verdict)) heard.walk comes)
+  quiet : IsLeft run.board p.transfer (has_reply p.owed) gone behind → (verdict : Option Errno)
+      → next_of locks2 (walk_left x.board.now t) ≡ Some (Settle verdict) → ⊥
+  quiet is verdict comes = quiet-next (slots_of words) behind is.quiet verdict
+      (subst (λ (w : WalkTree). next_of locks2 w ≡ Some (Settle verdict)) heard.walk comes)
 
-  module _ (j : JournalView) (entries : j.entries ≡ x.journal.entries ++ message_entry p next sent.addr sent.reading bytes sent.heard sent.end ∷ []) (room : j.room + 1 ≡ x.journal.room)
+  module _ (j : JournalView) (entries : j.entries ≡ x.journal.entries ++ message_entry p next sent.addr sent.reading bytes sent.heard
+      sent.end ∷ []) (room : j.room + 1 ≡ x.journal.room)
       (room_bytes : j.room_bytes + length bytes ≡ x.journal.room_bytes) where
     -- THE SETTLE may be made
     pub may-settle : MaySettle x.board.now locks2 j t
@@ -118,13 +130,18 @@ module _ {P C S : Type 0} (g : PortGhosts P) (c : CallerGhosts C S) (x : CorePar
         | inl is ↦ absurd (quiet is.0 verdict comes)
         | inr d ↦ (let two : 2 ≤ x.journal.room = room-message run whole kept.kept place p at job more first d.0 in
             let fit : length bytes + length (bytes_given (reply_by verdict (Some p.transfer) got)) ≤ x.journal.room_bytes =
-            bytes-settle run whole kept.kept place p at job more first bytes (few g c x kept place s here job more next first of sockets2 bytes sent said) sent.reading verdict (reply_by verdict (Some p.transfer) got) refl in
-            let same : length (bytes_given (reply_by verdict (Some t.transfer) t.replies.got)) ≡ length (bytes_given (reply_by verdict (Some p.transfer) got)) = ap (λ (r : Reply). length (bytes_given r)) (reply-is d.0 verdict) in
+            bytes-settle run whole kept.kept place p at job more first bytes
+            (few g c x kept place s here job more next first of sockets2 bytes sent said) sent.reading verdict
+            (reply_by verdict (Some p.transfer) got) refl in
+            let same : length (bytes_given (reply_by verdict (Some t.transfer) t.replies.got)) ≡ length
+            (bytes_given (reply_by verdict (Some p.transfer) got)) = ap (λ (r : Reply). length (bytes_given r))
+            (reply-is d.0 verdict) in
             (omega (arith, two, room), omega (arith, fit, same, room_bytes)))
       ];
     }
 
-    module _ (new : CoreParts P C) (same_board : new.board ≡ x.board) (locks : new.locks ≡ locks2) (ports : root_ports g new.ports.items ≡ sockets2) (start : new.start ≡ x.start) (places : new.places ≡ x.places) where
+    module _ (new : CoreParts P C) (same_board : new.board ≡ x.board) (locks : new.locks ≡ locks2)
+        (ports : root_ports g new.ports.items ≡ sockets2) (start : new.start ≡ x.start) (places : new.places ≡ x.places) where
       sockets : root_ports g new.ports.items ≡ set (root_ports g x.ports.items) s.port said.after
       sockets = ports ∙ said.set_is
 
@@ -132,60 +149,86 @@ module _ {P C S : Type 0} (g : PortGhosts P) (c : CallerGhosts C S) (x : CorePar
       roots = roots-stay g x.ports.items new.ports.items s.port said.before said.after said.here sockets said.sent.spoke.root
 
       -- NO SETTLE came
-      pub conversed-quiet : new.seats.items ≡ set x.seats.items place t → new.journal ≡ j → ((verdict : Option Errno) → next_of locks2 (walk_left x.board.now t) ≡ Some (Settle verdict) → ⊥)
+      pub conversed-quiet : new.seats.items ≡ set x.seats.items place t → new.journal ≡ j
+          → ((verdict : Option Errno) → next_of locks2 (walk_left x.board.now t) ≡ Some (Settle verdict) → ⊥)
           → IsKept g c new × HasStepped g c place x new
       conversed-quiet seats journal undue = elim leaves [
         | inl is ↦ by is.0 is.1
-        | inr d ↦ absurd (undue d.1 (subst (λ (w : WalkTree). next_of locks2 w ≡ Some (Settle d.1)) (sym heard.walk) (settle-first locks2 behind d.1 d.2.first).0))
+        | inr d ↦ absurd (undue d.1 (subst (λ (w : WalkTree). next_of locks2 w ≡ Some (Settle d.1)) (sym heard.walk)
+            (settle-first locks2 behind d.1 d.2.first).0))
       ]
         where
-          by : IsLeft run.board p.transfer (has_reply p.owed) gone behind → (p.owed ≡ [] → FitsReads (take gone p.transfer.msgs) got) → IsKept g c new × HasStepped g c place x new
+          by : IsLeft run.board p.transfer (has_reply p.owed) gone behind → (p.owed ≡ [] → FitsReads (take gone p.transfer.msgs) got)
+              → IsKept g c new × HasStepped g c place x new
           by left partway =
-              let core = core-message run (fair g c x kept) whole kept.kept place p ls n (stands-here run whole kept.kept place p at) j.room job more next s.port said.before said.after sent.addr sent.reading bytes sent.heard sent.end words
-              (is-sent g c x kept place s here job more next first of sockets2 bytes sent said) gone left partway (sym room) j.room_bytes (sym room_bytes) in
+              let core = core-message run (fair g c x kept) whole kept.kept place p ls n
+              (stands-here run whole kept.kept place p at) j.room job more next s.port said.before said.after sent.addr sent.reading
+              bytes sent.heard sent.end words
+              (is-sent g c x kept place s here job more next first of sockets2 bytes sent said) gone left partway (sym room) j.room_bytes
+              (sym room_bytes) in
               let number : t.number ≡ s.number = ap (λ (y : Seat C). y.number) heard.same in
               let script : c.script t.caller ≡ c.script s.caller = ap (λ (y : Seat C). c.script y.caller) heard.same in
               let all = ap (λ (y : JournalView). y.entries) journal ∙ entries in (
                 kept-whole g c x kept place s here new t same_board seats number script roots seated _ core
-                    (ap reverse all ∙ reverse-append x.journal.entries (message_entry p next sent.addr sent.reading bytes sent.heard sent.end ∷ [])) (ap (λ (y : JournalView). y.room) journal) (ap (λ (y : JournalView). y.room_bytes) journal)
+                    (ap reverse all ∙ reverse-append x.journal.entries
+                    (message_entry p next sent.addr sent.reading bytes sent.heard sent.end ∷ []))
+                    (ap (λ (y : JournalView). y.room) journal) (ap (λ (y : JournalView). y.room_bytes) journal)
                     (ap (set whole.places place) place-is) locks sockets,
-                stepped-one g c x kept place s here new t same_board seats number script roots start places (message_entry p next sent.addr sent.reading bytes sent.heard sent.end) all
+                stepped-one g c x kept place s here new t same_board seats number script roots start places
+                    (message_entry p next sent.addr sent.reading bytes sent.heard sent.end) all
                     (ap (λ (y : JournalView). y.room + 1) journal ∙ room) refl refl (λ tell. (core.told tell).stepwise),
               )
 
       -- THE SETTLE came
-      pub conversed-settled : (verdict : Option Errno) (u : Seat C) → new.seats.items ≡ set x.seats.items place u → IsSettledIn x.board.now locks2 verdict j new.journal t u → IsKept g c new × HasStepped g c place x new
+      pub conversed-settled : (verdict : Option Errno) (u : Seat C) → new.seats.items ≡ set x.seats.items place u
+          → IsSettledIn x.board.now locks2 verdict j new.journal t u → IsKept g c new × HasStepped g c place x new
       conversed-settled verdict u seats made = elim leaves [
         | inl is ↦ absurd (quiet is.0 verdict made.next)
         | inr d ↦ by d.0 d.1 d.2 d.3
       ]
         where
-          by : has_reply p.owed ≡ false → (due : Option Errno) → IsDecided run.board p.transfer due behind → ((reply : Reply) → reply ≡ reply_by due (Some p.transfer) got → Fits p.transfer reply) → IsKept g c new × HasStepped g c place x new
+          by : has_reply p.owed ≡ false → (due : Option Errno) → IsDecided run.board p.transfer due behind
+              → ((reply : Reply) → reply ≡ reply_by due (Some p.transfer) got → Fits p.transfer reply)
+              → IsKept g c new × HasStepped g c place x new
           by unsettled due decides fits =
-              let comes : next_of locks2 behind ≡ Some (Settle verdict) = subst (λ (w : WalkTree). next_of locks2 w ≡ Some (Settle verdict)) heard.walk made.next in
-              let is : verdict ≡ due = (let f : Some (Settle verdict) ≡ Some (Settle due) = sym comes ∙ (settle-first locks2 behind due decides.first).0 in cc) in
+              let comes : next_of locks2 behind ≡ Some (Settle verdict) = subst
+              (λ (w : WalkTree). next_of locks2 w ≡ Some (Settle verdict)) heard.walk made.next in
+              let is : verdict ≡ due = (let f : Some (Settle verdict) ≡ Some (Settle due) = sym comes
+              ∙ (settle-first locks2 behind due decides.first).0 in cc) in
               let reply = reply_by verdict (Some t.transfer) t.replies.got in
-              let decided : reply ≡ reply_by due (Some p.transfer) got = reply-is unsettled verdict ∙ ap (λ (o : Option Errno). reply_by o (Some p.transfer) got) is in
-              let first2 : first_act (walk_left x.board.now t) ≡ Some (Settle verdict) = subst (λ (w : WalkTree). first_act w ≡ Some (Settle verdict)) (sym heard.walk) (decides.first ∙ ap (λ (o : Option Errno). Some (Settle o)) (sym is)) in
+              let decided : reply ≡ reply_by due (Some p.transfer) got = reply-is unsettled verdict
+              ∙ ap (λ (o : Option Errno). reply_by o (Some p.transfer) got) is in
+              let first2 : first_act (walk_left x.board.now t) ≡ Some (Settle verdict) = subst
+              (λ (w : WalkTree). first_act w ≡ Some (Settle verdict)) (sym heard.walk) (decides.first
+              ∙ ap (λ (o : Option Errno). Some (Settle o)) (sym is)) in
               let message = message_entry p next sent.addr sent.reading bytes sent.heard sent.end in
               let settle = entry.Settle s.number reply (message_cut next.purpose next.part sent.end) in
               let rooms : x.journal.room ≡ new.journal.room + 2 = (let a = made.room in omega (arith, a, room)) in
-              let core = core-settled run (fair g c x kept) whole kept.kept place p ls n (stands-here run whole kept.kept place p at) new.journal.room job more next s.port said.before said.after sent.addr sent.reading bytes sent.heard sent.end words
-              (is-sent g c x kept place s here job more next first of sockets2 bytes sent said) gone due decides unsettled reply decided (fits reply decided) rooms new.journal.room_bytes
+              let core = core-settled run (fair g c x kept) whole kept.kept place p ls n
+              (stands-here run whole kept.kept place p at) new.journal.room job more next s.port said.before said.after sent.addr
+              sent.reading bytes sent.heard sent.end words
+              (is-sent g c x kept place s here job more next first of sockets2 bytes sent said) gone due decides unsettled reply decided
+              (fits reply decided) rooms new.journal.room_bytes
               (let a = made.room_bytes in omega (arith, a, room_bytes)) in
-              let number : u.number ≡ s.number = ap (λ (y : Seat C). y.number) made.settled.same ∙ ap (λ (y : Seat C). y.number) heard.same in
-              let script : c.script u.caller ≡ c.script s.caller = ap (λ (y : Seat C). c.script y.caller) made.settled.same ∙ ap (λ (y : Seat C). c.script y.caller) heard.same in
+              let number : u.number ≡ s.number = ap (λ (y : Seat C). y.number) made.settled.same
+              ∙ ap (λ (y : Seat C). y.number) heard.same in
+              let script : c.script u.caller ≡ c.script s.caller = ap (λ (y : Seat C). c.script y.caller) made.settled.same
+              ∙ ap (λ (y : Seat C). c.script y.caller) heard.same in
               let all : new.journal.entries ≡ x.journal.entries ++ message ∷ settle ∷ [] =
-              made.entries ∙ ap (λ (ys : List Entry). ys ++ entry.Settle t.number reply t.cut ∷ []) entries ∙ append_assoc x.journal.entries (message ∷ []) (entry.Settle t.number reply t.cut ∷ [])
+              made.entries ∙ ap (λ (ys : List Entry). ys ++ entry.Settle t.number reply t.cut ∷ []) entries
+              ∙ append_assoc x.journal.entries (message ∷ []) (entry.Settle t.number reply t.cut ∷ [])
               ∙ ap (λ (y : Seat C). x.journal.entries ++ message ∷ entry.Settle y.number reply y.cut ∷ []) heard.same in
-              let seated2 = settled-seated c x.board.now locks2 (roots_of x.ports.items) verdict t u made.settled seated (not_over (slots_of words) (walk_left x.board.now t) (Settle verdict) made.next)
-              (subst (λ (y : Seat C). y.transfer.bus < buses x.board.now) (sym heard.same) (on-bus g c x kept place s here job more next first of)) in
+              let seated2 = settled-seated c x.board.now locks2 (roots_of x.ports.items) verdict t u made.settled seated
+              (not_over (slots_of words) (walk_left x.board.now t) (Settle verdict) made.next)
+              (subst (λ (y : Seat C). y.transfer.bus < buses x.board.now) (sym heard.same)
+              (on-bus g c x kept place s here job more next first of)) in
               let place2 = settled-place c x.board.now locks2 (roots_of x.ports.items) verdict t u made.settled reply refl first2
               ∙ ap (λ (q : Place). record q { tree = rest_of q.tree Passed; owed = reply ∷ []; got = []; cut = cut_at.No }) place-is in (
                 kept-whole g c x kept place s here new u same_board seats number script roots seated2 _ core
                     (ap reverse all ∙ reverse-append x.journal.entries (message ∷ settle ∷ [])) refl refl
                     (ap (set whole.places place) place2) locks sockets,
-                stepped-two g c x kept place s here new u same_board seats number script roots start places message settle all (sym rooms) refl refl refl refl (λ tell. (core.told tell).stepwise),
+                stepped-two g c x kept place s here new u same_board seats number script roots start places message settle all
+                    (sym rooms) refl refl refl refl (λ tell. (core.told tell).stepwise),
               )
 
       -- EITHER, as it is told
@@ -199,4 +242,5 @@ module _ {P C S : Type 0} (g : PortGhosts P) (c : CallerGhosts C S) (x : CorePar
       conversed u seats false made none stays =
           let st = stays refl in
           conversed-quiet (seats ∙ ap (set x.seats.items place) st.0) st.1
-          (λ verdict comes. none refl verdict (subst (λ (v : LocksView). next_of v (walk_left x.board.now t) ≡ Some (Settle verdict)) (sym locks) comes))
+          (λ verdict comes. none refl verdict
+          (subst (λ (v : LocksView). next_of v (walk_left x.board.now t) ≡ Some (Settle verdict)) (sym locks) comes))

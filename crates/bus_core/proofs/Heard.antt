@@ -36,14 +36,16 @@ use Rattle.bus_core.specs.declared.replies.Decided.{Decided}
 use Rattle.bus_core.specs.declared.seat.Seat.{Seat}
 
 -- what is owed stays over a message, and what was read grows by it
-owed_same : (o : Option Decided) (r : RepliesView) (job : Job) (reading : Bool) (bytes : List ℕ) → ((bus : ℕ) (ms : List MessageView) → job ≡ Call bus ms → has_reply (owed_by o r) ≡ false)
+owed_same : (o : Option Decided) (r : RepliesView) (job : Job) (reading : Bool) (bytes : List ℕ)
+    → ((bus : ℕ) (ms : List MessageView) → job ≡ Call bus ms → has_reply (owed_by o r) ≡ false)
     → owed_by o (record r { got = got_heard (job_purpose job) reading bytes r.got }) ≡ owed_by o r
 owed_same None r job reading bytes none = refl
 owed_same (Some d) r (Call bus ms) reading bytes none = absurd (let f : true ≡ false = none bus ms refl in cc)
 owed_same (Some d) r (Select h) reading bytes none = refl
 owed_same (Some d) r (SwitchOff off) reading bytes none = refl
 
-got_more : (o : Option Decided) (r : RepliesView) (job : Job) (reading : Bool) (bytes : List ℕ) → ((bus : ℕ) (ms : List MessageView) → job ≡ Call bus ms → has_reply (owed_by o r) ≡ false)
+got_more : (o : Option Decided) (r : RepliesView) (job : Job) (reading : Bool) (bytes : List ℕ)
+    → ((bus : ℕ) (ms : List MessageView) → job ≡ Call bus ms → has_reply (owed_by o r) ≡ false)
     → got_by o (record r { got = got_heard (job_purpose job) reading bytes r.got }) ≡ got_after job reading bytes (got_by o r)
 got_more None r (Call bus ms) reading bytes none = refl
 got_more None r (Select h) reading bytes none = refl
@@ -57,13 +59,15 @@ undecided None r e = refl
 undecided (Some d) r e = absurd (let f : true ≡ false = e in cc)
 
 -- where a settle comes first, no look is in front of it
-pub settle-first : (v : LocksView) (w : WalkTree) (verdict : Option Errno) → first_act w ≡ Some (Settle verdict) → (next_of v w ≡ Some (Settle verdict)) × (behind_of v w Passed ≡ rest_of w Passed)
+pub settle-first : (v : LocksView) (w : WalkTree) (verdict : Option Errno) → first_act w ≡ Some (Settle verdict)
+    → (next_of v w ≡ Some (Settle verdict)) × (behind_of v w Passed ≡ rest_of w Passed)
 settle-first v Ends verdict e = absurd (let f : None ≡ Some (Settle verdict) = e in cc)
 settle-first v (Look ask next) verdict e = absurd (let f : None ≡ Some (Settle verdict) = e in cc)
 settle-first v (Then act note next) verdict e = (e, refl)
 
 -- another walk, replies and counts
-place_with : {C S : Type 0} (c : CallerGhosts C S) (b : BoardView) (s t : Seat C) (q : Place) → place_of c b t ≡ q → (owed : List Reply) (w : WalkTree) (sent : ℕ) (got : List ℕ) → q.owed ≡ owed → q.tree ≡ w → q.sent ≡ sent → q.got ≡ got
+place_with : {C S : Type 0} (c : CallerGhosts C S) (b : BoardView) (s t : Seat C) (q : Place) → place_of c b t ≡ q
+    → (owed : List Reply) (w : WalkTree) (sent : ℕ) (got : List ℕ) → q.owed ≡ owed → q.tree ≡ w → q.sent ≡ sent → q.got ≡ got
     → place_of c b t ≡ record q { owed = owed; tree = w; sent = sent; got = got }
 place_with c b s t q is owed w sent got o tr se go =
     is
@@ -74,7 +78,8 @@ place_with c b s t q is owed w sent got o tr se go =
 
 module _ {C S : Type 0} (c : CallerGhosts C S) (b : BoardView) (v : LocksView) (roots : List ℕ) where
   -- A MESSAGE
-  module _ (job : Job) (more : ℕ) (next : NextMsg) (of : IsMessageOf job more next) (reading : Bool) (bytes : List ℕ) (e : End) (s t : Seat C) (heard : HasHeard b v next reading bytes e s t)
+  module _ (job : Job) (more : ℕ) (next : NextMsg) (of : IsMessageOf job more next) (reading : Bool) (bytes : List ℕ) (e : End)
+      (s t : Seat C) (heard : HasHeard b v next reading bytes e s t)
       (none : (bus : ℕ) (ms : List MessageView) → job ≡ Call bus ms → has_reply (owed_by s.decided s.replies) ≡ false) where
     replies : t.replies ≡ record s.replies { got = got_heard (job_purpose job) reading bytes s.replies.got }
     replies = heard.got ∙ ap (λ (y : Purpose). record s.replies { got = got_heard y reading bytes s.replies.got }) of.for_purpose
@@ -82,61 +87,88 @@ module _ {C S : Type 0} (c : CallerGhosts C S) (b : BoardView) (v : LocksView) (
     pub heard-gone : t.sent ≡ gone_after s.sent job e
     heard-gone = heard.gone ∙ ap (λ (y : Purpose). if is_call_through y e then s.sent + 1 else s.sent) of.for_purpose
 
-    pub heard-place : place_of c b t ≡ record (place_of c b s) { tree = behind_of v (walk_left b s) (walk.Sent e bytes); sent = gone_after s.sent job e; got = got_after job reading bytes (got_by s.decided s.replies); cut = message_cut next.purpose next.part e }
+    pub heard-place : place_of c b t ≡ record (place_of c b s) {
+      tree = behind_of v (walk_left b s) (walk.Sent e bytes);
+      sent = gone_after s.sent job e;
+      got = got_after job reading bytes (got_by s.decided s.replies);
+      cut = message_cut next.purpose next.part e;
+    }
     heard-place =
-        place_with c b s t (place_of c b (record s { walk = t.walk; sent = t.sent; written = t.written; replies = t.replies; cut = message_cut next.purpose next.part e })) (ap (place_of c b) heard.same)
-        (owed_by s.decided s.replies) (behind_of v (walk_left b s) (walk.Sent e bytes)) (gone_after s.sent job e) (got_after job reading bytes (got_by s.decided s.replies))
+        place_with c b s t (place_of c b
+        (record s {
+          walk = t.walk;
+          sent = t.sent;
+          written = t.written;
+          replies = t.replies;
+          cut = message_cut next.purpose next.part e;
+        })) (ap (place_of c b) heard.same)
+        (owed_by s.decided s.replies) (behind_of v (walk_left b s) (walk.Sent e bytes)) (gone_after s.sent job e)
+        (got_after job reading bytes (got_by s.decided s.replies))
         (ap (owed_by s.decided) replies ∙ owed_same s.decided s.replies job reading bytes none)
         (sym (ap (walk_left b) heard.same) ∙ heard.walk) heard-gone
         (ap (got_by s.decided) replies ∙ got_more s.decided s.replies job reading bytes none)
 
     -- what it has read
-    pub heard-got : has_reply (owed_by s.decided s.replies) ≡ false → t.replies.got ≡ got_after job reading bytes (got_by s.decided s.replies)
+    pub heard-got : has_reply (owed_by s.decided s.replies) ≡ false
+        → t.replies.got ≡ got_after job reading bytes (got_by s.decided s.replies)
     heard-got unsettled =
         let is : s.decided ≡ None = undecided s.decided s.replies unsettled in
         let to : t.decided ≡ None = ap (λ (y : Seat C). y.decided) heard.same ∙ is in
         sym (ap (λ (o : Option Decided). got_by o t.replies) to) ∙ ap (λ (y : Place). y.got) heard-place
 
-    heard_within : IsSeated c b roots s → (next.purpose ≡ purpose.Call → s.sent < length s.transfer.msgs) → (through : Bool) → is_call_through next.purpose e ≡ through → t.sent ≡ (if through then s.sent + 1 else s.sent) → t.sent ≤ length s.transfer.msgs
-    heard_within seated left true is gone = (let low : s.sent < length s.transfer.msgs = left (call-through next.purpose e is).0 in let g : t.sent ≡ s.sent + 1 = gone in omega (arith, low, g))
+    heard_within : IsSeated c b roots s → (next.purpose ≡ purpose.Call → s.sent < length s.transfer.msgs) → (through : Bool)
+        → is_call_through next.purpose e ≡ through → t.sent ≡ (if through then s.sent + 1 else s.sent) → t.sent ≤ length s.transfer.msgs
+    heard_within seated left true is gone = (let low : s.sent < length s.transfer.msgs = left (call-through next.purpose e is).0 in
+        let g : t.sent ≡ s.sent + 1 = gone in omega (arith, low, g))
     heard_within seated left false is gone = (let g : t.sent ≡ s.sent = gone in omega (arith, g, seated.within))
 
-    pub heard-seated : IsSeated c b roots s → is_over (walk_left b s) ≡ false → s.transfer.bus < buses b → (next.purpose ≡ purpose.Call → s.sent < length s.transfer.msgs) → IsSeated c b roots t
+    pub heard-seated : IsSeated c b roots s → is_over (walk_left b s) ≡ false → s.transfer.bus < buses b
+        → (next.purpose ≡ purpose.Call → s.sent < length s.transfer.msgs) → IsSeated c b roots t
     heard-seated seated going low left =
         let transfer : t.transfer ≡ s.transfer = ap (λ (y : Seat C). y.transfer) heard.same in
         record {
-          counted = ap (λ (y : TransferView). length (messages_of y)) transfer ∙ seated.counted ∙ sym (ap (λ (y : RouteView). y.count) heard.route);
+          counted = ap (λ (y : TransferView). length (messages_of y)) transfer ∙ seated.counted
+              ∙ sym (ap (λ (y : RouteView). y.count) heard.route);
           wrote = heard.wrote;
-          within = subst (λ (y : TransferView). t.sent ≤ length y.msgs) (sym transfer) (heard_within seated left (is_call_through next.purpose e) refl heard.gone);
-          plugged = λ goes there. subst (λ (y : Seat C). slice_get roots y.port ≡ Some (root_of b y.transfer.bus)) (sym heard.same) (seated.plugged going low);
+          within = subst (λ (y : TransferView). t.sent ≤ length y.msgs) (sym transfer)
+              (heard_within seated left (is_call_through next.purpose e) refl heard.gone);
+          plugged = λ goes there. subst (λ (y : Seat C). slice_get roots y.port ≡ Some (root_of b y.transfer.bus)) (sym heard.same)
+              (seated.plugged going low);
           there = λ goes. inl (subst (λ (y : TransferView). y.bus < buses b) (sym transfer) low);
-          spare = subst (λ (y : Seat C). Covers (c.spare y.caller) (c.owed (c.script y.caller) (c.taken y.caller))) (sym heard.same) seated.spare;
+          spare = subst (λ (y : Seat C). Covers (c.spare y.caller) (c.owed (c.script y.caller) (c.taken y.caller)))
+              (sym heard.same) seated.spare;
         }
 
   -- A LINE STEP
   module _ (out : ActOutcome) (cut : Cut) (s t : Seat C) (went : WentOn b v out cut s t) where
     pub went-on-place : place_of c b t ≡ record (place_of c b s) { tree = behind_of v (walk_left b s) out; cut = cut }
     went-on-place =
-        ap (place_of c b) went.same ∙ ap (λ (y : WalkTree). record (place_of c b s) { tree = y; cut = cut }) (sym (ap (walk_left b) went.same) ∙ went.walk)
+        ap (place_of c b) went.same ∙ ap (λ (y : WalkTree). record (place_of c b s) { tree = y; cut = cut })
+        (sym (ap (walk_left b) went.same) ∙ went.walk)
 
     pub went-on-seated : IsSeated c b roots s → is_over (walk_left b s) ≡ false → s.transfer.bus < buses b → IsSeated c b roots t
     went-on-seated seated going low =
         let transfer : t.transfer ≡ s.transfer = ap (λ (y : Seat C). y.transfer) went.same in
         record {
-          counted = ap (λ (y : TransferView). length (messages_of y)) transfer ∙ seated.counted ∙ sym (ap (λ (y : RouteView). y.count) went.route);
+          counted = ap (λ (y : TransferView). length (messages_of y)) transfer ∙ seated.counted
+              ∙ sym (ap (λ (y : RouteView). y.count) went.route);
           wrote = subst (λ (y : Seat C). y.written ≡ sum_by written_of (take y.sent y.transfer.msgs)) (sym went.same) seated.wrote;
           within = subst (λ (y : Seat C). y.sent ≤ length y.transfer.msgs) (sym went.same) seated.within;
-          plugged = λ goes there. subst (λ (y : Seat C). slice_get roots y.port ≡ Some (root_of b y.transfer.bus)) (sym went.same) (seated.plugged going low);
+          plugged = λ goes there. subst (λ (y : Seat C). slice_get roots y.port ≡ Some (root_of b y.transfer.bus)) (sym went.same)
+              (seated.plugged going low);
           there = λ goes. inl (subst (λ (y : TransferView). y.bus < buses b) (sym transfer) low);
-          spare = subst (λ (y : Seat C). Covers (c.spare y.caller) (c.owed (c.script y.caller) (c.taken y.caller))) (sym went.same) seated.spare;
+          spare = subst (λ (y : Seat C). Covers (c.spare y.caller) (c.owed (c.script y.caller) (c.taken y.caller)))
+              (sym went.same) seated.spare;
         }
 
   -- THE SETTLE behind either
   module _ (verdict : Option Errno) (t u : Seat C) (settled : HasSettled b v verdict t u) where
-    pub settled-place : (reply : Reply) → reply_by verdict (Some t.transfer) t.replies.got ≡ reply → first_act (walk_left b t) ≡ Some (Settle verdict)
+    pub settled-place : (reply : Reply) → reply_by verdict (Some t.transfer) t.replies.got ≡ reply
+        → first_act (walk_left b t) ≡ Some (Settle verdict)
         → place_of c b u ≡ record (place_of c b t) { tree = rest_of (walk_left b t) Passed; owed = reply ∷ []; got = []; cut = cut_at.No }
     settled-place reply is first =
-        place_with c b t u (place_of c b (record t { walk = u.walk; replies = u.replies; decided = u.decided; cut = cut_at.No })) (ap (place_of c b) settled.same)
+        place_with c b t u (place_of c b (record t { walk = u.walk; replies = u.replies; decided = u.decided; cut = cut_at.No }))
+        (ap (place_of c b) settled.same)
         (reply ∷ []) (rest_of (walk_left b t) Passed) t.sent []
         (settled.owed ∙ ap (λ (r : Reply). r ∷ []) is)
         (sym (ap (walk_left b) settled.same) ∙ settled.walk ∙ (settle-first v (walk_left b t) verdict first).1) refl settled.emptied
@@ -145,10 +177,13 @@ module _ {C S : Type 0} (c : CallerGhosts C S) (b : BoardView) (v : LocksView) (
     settled-seated seated going low =
         let transfer : u.transfer ≡ t.transfer = ap (λ (y : Seat C). y.transfer) settled.same in
         record {
-          counted = ap (λ (y : TransferView). length (messages_of y)) transfer ∙ seated.counted ∙ sym (ap (λ (y : RouteView). y.count) settled.route);
+          counted = ap (λ (y : TransferView). length (messages_of y)) transfer ∙ seated.counted
+              ∙ sym (ap (λ (y : RouteView). y.count) settled.route);
           wrote = subst (λ (y : Seat C). y.written ≡ sum_by written_of (take y.sent y.transfer.msgs)) (sym settled.same) seated.wrote;
           within = subst (λ (y : Seat C). y.sent ≤ length y.transfer.msgs) (sym settled.same) seated.within;
-          plugged = λ goes there. subst (λ (y : Seat C). slice_get roots y.port ≡ Some (root_of b y.transfer.bus)) (sym settled.same) (seated.plugged going low);
+          plugged = λ goes there. subst (λ (y : Seat C). slice_get roots y.port ≡ Some (root_of b y.transfer.bus)) (sym settled.same)
+              (seated.plugged going low);
           there = λ goes. inl (subst (λ (y : TransferView). y.bus < buses b) (sym transfer) low);
-          spare = subst (λ (y : Seat C). Covers (c.spare y.caller) (c.owed (c.script y.caller) (c.taken y.caller))) (sym settled.same) seated.spare;
+          spare = subst (λ (y : Seat C). Covers (c.spare y.caller) (c.owed (c.script y.caller) (c.taken y.caller)))
+              (sym settled.same) seated.spare;
         }

@@ -34,18 +34,21 @@ use Rattle.bus_core.specs.declared.seat.Seat.{Seat}
 use Rattle.i2c_base.proofs.ListLemmas.{map_at}
 
 -- of what a number names: it is one of the scripts
-script-found : {S : Type 0} (scripts : List (ℕ × S)) (n : ℕ) (s : S) → script_at scripts n ≡ Some s → (i : ℕ) × (m : ℕ) × (slice_get scripts i ≡ Some (m, s))
+script-found : {S : Type 0} (scripts : List (ℕ × S)) (n : ℕ) (s : S) → script_at scripts n ≡ Some s
+    → (i : ℕ) × (m : ℕ) × (slice_get scripts i ≡ Some (m, s))
 script-found [] n s h = absurd (let f : None ≡ Some s = h in cc)
 script-found (x ∷ xs) n s h = by (x.0 == n) h (script-found xs n s)
   where
-    by : (same : Bool) → (if same then Some x.1 else script_at xs n) ≡ Some s → (script_at xs n ≡ Some s → (i : ℕ) × (m : ℕ) × (slice_get xs i ≡ Some (m, s)))
+    by : (same : Bool) → (if same then Some x.1 else script_at xs n) ≡ Some s
+        → (script_at xs n ≡ Some s → (i : ℕ) × (m : ℕ) × (slice_get xs i ≡ Some (m, s)))
         → (i : ℕ) × (m : ℕ) × (slice_get (x ∷ xs) i ≡ Some (m, s))
     by true is more = (0, x.0, (let f : Some x.1 ≡ Some s = is in let g : x.1 ≡ s = cc in ap (λ (y : _). Some (x.0, y)) g))
     by false is more = (let m = more is in (suc m.0, m.1, m.2))
 
 module _ {C S : Type 0} (c : CallerGhosts C S) where
   -- each number names its own caller
-  pub script-own : (seats : List (Seat C)) → ((i k : ℕ) (s t : Seat C) → slice_get seats i ≡ Some s → slice_get seats k ≡ Some t → s.number ≡ t.number → i ≡ k)
+  pub script-own : (seats : List (Seat C))
+      → ((i k : ℕ) (s t : Seat C) → slice_get seats i ≡ Some s → slice_get seats k ≡ Some t → s.number ≡ t.number → i ≡ k)
       → (i : ℕ) (s : Seat C) → slice_get seats i ≡ Some s → script_at (scripts_of c seats) s.number ≡ Some (c.script s.caller)
   script-own [] once i s h = absurd (let f : None ≡ Some s = h in cc)
   script-own (y ∷ ys) once zero s h = by (y.number == s.number) refl
@@ -53,13 +56,15 @@ module _ {C S : Type 0} (c : CallerGhosts C S) where
       same : y ≡ s
       same = (let f : Some y ≡ Some s = h in cc)
 
-      by : (b : Bool) → (y.number == s.number) ≡ b → (if b then Some (c.script y.caller) else script_at (scripts_of c ys) s.number) ≡ Some (c.script s.caller)
+      by : (b : Bool) → (y.number == s.number) ≡ b
+          → (if b then Some (c.script y.caller) else script_at (scripts_of c ys) s.number) ≡ Some (c.script s.caller)
       by true e = ap (λ (z : Seat C). Some (c.script z.caller)) same
       by false e = elim (eqb_tells y.number s.number) [
         | inl is ↦ absurd (let f : false ≡ true = sym e ∙ is.0 in cc)
         | inr other ↦ absurd (other.1 (ap (λ (z : Seat C). z.number) same))
       ]
-  script-own (y ∷ ys) once (suc i) s h = by (y.number == s.number) refl (script-own ys (λ j k s2 t2 at to is. let f : suc j ≡ suc k = once (suc j) (suc k) s2 t2 at to is in omega (arith, f)) i s h)
+  script-own (y ∷ ys) once (suc i) s h = by (y.number == s.number) refl
+      (script-own ys (λ j k s2 t2 at to is. let f : suc j ≡ suc k = once (suc j) (suc k) s2 t2 at to is in omega (arith, f)) i s h)
     where
       by : (b : Bool) → (y.number == s.number) ≡ b → script_at (scripts_of c ys) s.number ≡ Some (c.script s.caller)
           → (if b then Some (c.script y.caller) else script_at (scripts_of c ys) s.number) ≡ Some (c.script s.caller)
@@ -69,19 +74,23 @@ module _ {C S : Type 0} (c : CallerGhosts C S) where
       ]
       by false e more = more
 
-  same_scripts : (seats : List (Seat C)) (i : ℕ) (s t : Seat C) → slice_get seats i ≡ Some s → t.number ≡ s.number → c.script t.caller ≡ c.script s.caller
+  same_scripts : (seats : List (Seat C)) (i : ℕ) (s t : Seat C) → slice_get seats i ≡ Some s → t.number ≡ s.number
+      → c.script t.caller ≡ c.script s.caller
       → scripts_of c (set seats i t) ≡ scripts_of c seats
   same_scripts seats i s t here number script =
       let both : script_of c t ≡ script_of c s = (let e = number in let f = script in cc) in
-      map-set (script_of c) seats i t ∙ ap (set (scripts_of c seats) i) both ∙ set_same (scripts_of c seats) i (script_of c s) (map_at (script_of c) seats i s here)
+      map-set (script_of c) seats i t ∙ ap (set (scripts_of c seats) i) both
+      ∙ set_same (scripts_of c seats) i (script_of c s) (map_at (script_of c) seats i s here)
 
   -- who asks is one of the callers
-  asked-by : (o : Option S) (rs : List Reply) (t : TransferView) → option_map_or (λ s. c.asked s rs) o None ≡ Some t → (s : S) × (o ≡ Some s) × (c.asked s rs ≡ Some t)
+  asked-by : (o : Option S) (rs : List Reply) (t : TransferView) → option_map_or (λ s. c.asked s rs) o None ≡ Some t
+      → (s : S) × (o ≡ Some s) × (c.asked s rs ≡ Some t)
   asked-by None rs t h = absurd (let f : None ≡ Some t = h in cc)
   asked-by (Some s) rs t h = (s, refl, h)
 
 -- THE RUN of an accepted board and fair callers is fair
-module _ {C S : Type 0} (c : CallerGhosts C S) (tells : Bool) (b : BoardView) (scripts : List (ℕ × S)) (roots : List ℕ) (up : IsSetUp c.asked c.left c.board b scripts roots) where
+module _ {C S : Type 0} (c : CallerGhosts C S) (tells : Bool) (b : BoardView) (scripts : List (ℕ × S)) (roots : List ℕ)
+    (up : IsSetUp c.asked c.left c.board b scripts roots) where
   abbrev the_run : Run
   the_run = record { board = b; tells = tells; asks = asks_of c.asked scripts; left = left_of c.left scripts; callers = MOST_CALLERS }
 
@@ -100,8 +109,10 @@ module _ {C S : Type 0} (c : CallerGhosts C S) (tells : Bool) (b : BoardView) (s
         subst (λ (x : BoardView). 1 ≤ cost_of x t) (at-home n a.0 a.1) (up.fair.costs a.0 rs t a.2);
     falls = λ n rs t r asks fits.
         let a = asked-by c (script_at scripts n) rs t asks in
-        subst (λ (o : Option S). option_map_or (λ s. c.left s (rs ++ r ∷ [])) o 0 + cost_of b t ≤ option_map_or (λ s. c.left s rs) o 0) (sym a.1)
-        (subst (λ (x : BoardView). c.left a.0 (rs ++ r ∷ []) + cost_of x t ≤ c.left a.0 rs) (at-home n a.0 a.1) (up.fair.falls a.0 rs t r a.2 fits));
+        subst (λ (o : Option S). option_map_or (λ s. c.left s (rs ++ r ∷ [])) o 0 + cost_of b t ≤ option_map_or (λ s. c.left s rs) o 0)
+        (sym a.1)
+        (subst (λ (x : BoardView). c.left a.0 (rs ++ r ∷ []) + cost_of x t ≤ c.left a.0 rs) (at-home n a.0 a.1)
+        (up.fair.falls a.0 rs t r a.2 fits));
   }
 
 module _ {P C S : Type 0} (g : PortGhosts P) (c : CallerGhosts C S) (x : CoreParts P C) (kept : IsKept g c x) where
@@ -117,7 +128,8 @@ module _ {P C S : Type 0} (g : PortGhosts P) (c : CallerGhosts C S) (x : CorePar
   once : (i k : ℕ) (s t : Seat C) → slice_get x.seats.items i ≡ Some s → slice_get x.seats.items k ≡ Some t → s.number ≡ t.number → i ≡ k
   once i k s t at to same =
       kept.kept.distinct i k t.number
-      (subst (λ (n : ℕ). slice_get (numbers_of whole.places) i ≡ Some n) same (map_at (λ (p : Place). p.number) whole.places i (place_of c board s) (map_at (place_of c board) x.seats.items i s at)))
+      (subst (λ (n : ℕ). slice_get (numbers_of whole.places) i ≡ Some n) same
+      (map_at (λ (p : Place). p.number) whole.places i (place_of c board s) (map_at (place_of c board) x.seats.items i s at)))
       (map_at (λ (p : Place). p.number) whole.places k (place_of c board t) (map_at (place_of c board) x.seats.items k t to))
 
   module _ (place : ℕ) (s : Seat C) (here : slice_get x.seats.items place ≡ Some s) where
@@ -138,12 +150,14 @@ module _ {P C S : Type 0} (g : PortGhosts P) (c : CallerGhosts C S) (x : CorePar
     seated-here = kept.seated place s here
 
     -- each root that it asks for has a port
-    pub wired-here : (rs : List Reply) (t : TransferView) → c.asked (c.script s.caller) rs ≡ Some t → t.bus < buses board → HasRoot (roots_of x.ports.items) (root_of board t.bus)
+    pub wired-here : (rs : List Reply) (t : TransferView) → c.asked (c.script s.caller) rs ≡ Some t → t.bus < buses board
+        → HasRoot (roots_of x.ports.items) (root_of board t.bus)
     wired-here rs t asks = kept.set_up.wired place (script_of c s) rs t (map_at (script_of c) x.seats.items place s here) asks
 
     -- THE WHOLE with another seat at the place
     module _ (new : CoreParts P C) (t : Seat C) (same_board : new.board ≡ x.board) (seats : new.seats.items ≡ set x.seats.items place t)
-        (number : t.number ≡ s.number) (script : c.script t.caller ≡ c.script s.caller) (roots : roots_of new.ports.items ≡ roots_of x.ports.items) where
+        (number : t.number ≡ s.number) (script : c.script t.caller ≡ c.script s.caller)
+        (roots : roots_of new.ports.items ≡ roots_of x.ports.items) where
       pub new-scripts : scripts_of c new.seats.items ≡ scripts_of c x.seats.items
       new-scripts = ap (scripts_of c) seats ∙ same_scripts c x.seats.items place s t here number script
 
@@ -164,12 +178,41 @@ module _ {P C S : Type 0} (g : PortGhosts P) (c : CallerGhosts C S) (x : CorePar
         set_up = by_board (λ (b : _). IsSetUp c.asked c.left c.board b.now (scripts_of c new.seats.items) (roots_of new.ports.items))
             (subst (λ (xs : List (ℕ × S)). IsSetUp c.asked c.left c.board board xs (roots_of new.ports.items)) (sym new-scripts)
             (subst (λ (rs : List ℕ). IsSetUp c.asked c.left c.board board (scripts_of c x.seats.items) rs) (sym roots) kept.set_up));
-        kept = by_board (λ (b : _). CoreKept (record { board = b.now; tells = g.tells; asks = asks_in c new; left = left_in c new; callers = MOST_CALLERS })
-            (record { past = reverse new.journal.entries; room = new.journal.room; room_bytes = new.journal.room_bytes; places = places_of c b.now new.seats.items; held = held; owes = owes; locks = new.locks; sockets = root_ports g new.ports.items }))
-            (subst (λ (xs : List (ℕ × S)). CoreKept (record { board = board; tells = g.tells; asks = asks_of c.asked xs; left = left_of c.left xs; callers = MOST_CALLERS })
-            (record { past = reverse new.journal.entries; room = new.journal.room; room_bytes = new.journal.room_bytes; places = places_of c board new.seats.items; held = held; owes = owes; locks = new.locks; sockets = root_ports g new.ports.items })) (sym new-scripts)
+        kept = by_board (λ (b : _). CoreKept
+            (record { board = b.now; tells = g.tells; asks = asks_in c new; left = left_in c new; callers = MOST_CALLERS })
+            (record {
+              past = reverse new.journal.entries;
+              room = new.journal.room;
+              room_bytes = new.journal.room_bytes;
+              places = places_of c b.now new.seats.items;
+              held = held;
+              owes = owes;
+              locks = new.locks;
+              sockets = root_ports g new.ports.items;
+            }))
+            (subst (λ (xs : List (ℕ × S)). CoreKept
+            (record { board = board; tells = g.tells; asks = asks_of c.asked xs; left = left_of c.left xs; callers = MOST_CALLERS })
+            (record {
+              past = reverse new.journal.entries;
+              room = new.journal.room;
+              room_bytes = new.journal.room_bytes;
+              places = places_of c board new.seats.items;
+              held = held;
+              owes = owes;
+              locks = new.locks;
+              sockets = root_ports g new.ports.items;
+            })) (sym new-scripts)
             (subst (λ (ps : List Place). CoreKept (run_of g c x)
-            (record { past = reverse new.journal.entries; room = new.journal.room; room_bytes = new.journal.room_bytes; places = ps; held = held; owes = owes; locks = new.locks; sockets = root_ports g new.ports.items }))
+            (record {
+              past = reverse new.journal.entries;
+              room = new.journal.room;
+              room_bytes = new.journal.room_bytes;
+              places = ps;
+              held = held;
+              owes = owes;
+              locks = new.locks;
+              sockets = root_ports g new.ports.items;
+            }))
             (sym (ap (places_of c board) seats ∙ map-set (place_of c board) x.seats.items place t)) core));
         seated = λ i u at.
             by_board (λ (b : _). IsSeated c b.now (roots_of new.ports.items) u)
@@ -185,22 +228,48 @@ module _ {P C S : Type 0} (g : PortGhosts P) (c : CallerGhosts C S) (x : CorePar
 
       -- .. where the plain lists are these
       pub kept-whole : IsSeated c board (roots_of x.ports.items) t → (w : Whole) → CoreKept (run_of g c x) w
-          → reverse new.journal.entries ≡ w.past → new.journal.room ≡ w.room → new.journal.room_bytes ≡ w.room_bytes → set whole.places place (place_of c board t) ≡ w.places
+          → reverse new.journal.entries ≡ w.past → new.journal.room ≡ w.room → new.journal.room_bytes ≡ w.room_bytes
+          → set whole.places place (place_of c board t) ≡ w.places
           → new.locks ≡ w.locks → root_ports g new.ports.items ≡ w.sockets → IsKept g c new
       kept-whole seated w core past room room_bytes places locks sockets =
           kept-by seated w.held w.owes
-          (subst (λ (y : List Entry). CoreKept (run_of g c x) (record w { past = y; room = new.journal.room; room_bytes = new.journal.room_bytes; places = set whole.places place (place_of c board t); locks = new.locks; sockets = root_ports g new.ports.items })) (sym past)
-          (subst (λ (y : ℕ). CoreKept (run_of g c x) (record w { room = y; room_bytes = new.journal.room_bytes; places = set whole.places place (place_of c board t); locks = new.locks; sockets = root_ports g new.ports.items })) (sym room)
-          (subst (λ (y : ℕ). CoreKept (run_of g c x) (record w { room_bytes = y; places = set whole.places place (place_of c board t); locks = new.locks; sockets = root_ports g new.ports.items })) (sym room_bytes)
-          (subst (λ (y : List Place). CoreKept (run_of g c x) (record w { places = y; locks = new.locks; sockets = root_ports g new.ports.items })) (sym places)
+          (subst (λ (y : List Entry). CoreKept (run_of g c x)
+          (record w {
+            past = y;
+            room = new.journal.room;
+            room_bytes = new.journal.room_bytes;
+            places = set whole.places place (place_of c board t);
+            locks = new.locks;
+            sockets = root_ports g new.ports.items;
+          })) (sym past)
+          (subst (λ (y : ℕ). CoreKept (run_of g c x)
+          (record w {
+            room = y;
+            room_bytes = new.journal.room_bytes;
+            places = set whole.places place (place_of c board t);
+            locks = new.locks;
+            sockets = root_ports g new.ports.items;
+          })) (sym room)
+          (subst (λ (y : ℕ). CoreKept (run_of g c x)
+          (record w {
+            room_bytes = y;
+            places = set whole.places place (place_of c board t);
+            locks = new.locks;
+            sockets = root_ports g new.ports.items;
+          })) (sym room_bytes)
+          (subst (λ (y : List Place). CoreKept (run_of g c x)
+          (record w { places = y; locks = new.locks; sockets = root_ports g new.ports.items })) (sym places)
           (subst (λ (y : LocksView). CoreKept (run_of g c x) (record w { locks = y; sockets = root_ports g new.ports.items })) (sym locks)
           (subst (λ (y : List RootPort). CoreKept (run_of g c x) (record w { sockets = y })) (sym sockets) core))))))
 
       -- A STEP of one entry, which isn't a settle
-      pub stepped-one : new.start ≡ x.start → new.places ≡ x.places → (e : Entry) → new.journal.entries ≡ x.journal.entries ++ e ∷ [] → new.journal.room + 1 ≡ x.journal.room
-          → is_settle e ≡ false → caller_of e ≡ s.number → (IsTrue g.tells → IsStepwise board MOST_CALLERS (asks_in c x) (e ∷ reverse x.journal.entries)) → HasStepped g c place x new
+      pub stepped-one : new.start ≡ x.start → new.places ≡ x.places → (e : Entry) → new.journal.entries ≡ x.journal.entries ++ e ∷ []
+          → new.journal.room + 1 ≡ x.journal.room
+          → is_settle e ≡ false → caller_of e ≡ s.number
+          → (IsTrue g.tells → IsStepwise board MOST_CALLERS (asks_in c x) (e ∷ reverse x.journal.entries)) → HasStepped g c place x new
       stepped-one start places e entries room none own steps =
-          let count : length new.journal.entries ≡ length x.journal.entries + 1 = ap length entries ∙ length-append x.journal.entries (e ∷ []) in
+          let count : length new.journal.entries ≡ length x.journal.entries + 1 = ap length entries
+          ∙ length-append x.journal.entries (e ∷ []) in
           record {
             board = same_board;
             start = start;

@@ -33,7 +33,8 @@ use Rattle.bus_core.proofs.Kept.{fair, place-here, seated-here, asks-here, wired
 use Rattle.bus_laws.proofs.past.StandsFacts.{over_ends}
 
 -- who stands at a place is one
-pub same_seat : {C : Type 0} (seats : List (Seat C)) (place : ℕ) (s t : Seat C) → slice_get seats place ≡ Some s → slice_get seats place ≡ Some t → s ≡ t
+pub same_seat : {C : Type 0} (seats : List (Seat C)) (place : ℕ) (s t : Seat C) → slice_get seats place ≡ Some s
+    → slice_get seats place ≡ Some t → s ≡ t
 same_seat seats place s t at to = (let f : Some s ≡ Some t = sym at ∙ to in cc)
 
 -- a lock that nobody has is given
@@ -42,13 +43,15 @@ is_given Q R (Ok a) good bad none = good
 is_given Q R (Err h) good bad none = absurd (none h bad)
 
 -- where a seat went on, all that is told of its caller is as before but for its walk and its cut
-pub went-place : {C S : Type 0} (c : CallerGhosts C S) (b : BoardView) (s t : Seat C) (w : WalkTree) (cut : Cut) → t ≡ record s { walk = t.walk; cut = cut } → walk_left b t ≡ w
+pub went-place : {C S : Type 0} (c : CallerGhosts C S) (b : BoardView) (s t : Seat C) (w : WalkTree) (cut : Cut)
+    → t ≡ record s { walk = t.walk; cut = cut } → walk_left b t ≡ w
     → place_of c b t ≡ record (place_of c b s) { tree = w; cut = cut }
 went-place c b s t w cut same walk =
     ap (place_of c b) same ∙ ap (λ (y : WalkTree). record (place_of c b s) { tree = y; cut = cut }) (sym (ap (walk_left b) same) ∙ walk)
 
 -- two that tell the same are the same
-pub same_place : (p q : Place) → p.number ≡ q.number → p.taken ≡ q.taken → p.owed ≡ q.owed → p.transfer ≡ q.transfer → p.tree ≡ q.tree → p.sent ≡ q.sent → p.got ≡ q.got → p.cut ≡ q.cut → p ≡ q
+pub same_place : (p q : Place) → p.number ≡ q.number → p.taken ≡ q.taken → p.owed ≡ q.owed → p.transfer ≡ q.transfer → p.tree ≡ q.tree
+    → p.sent ≡ q.sent → p.got ≡ q.got → p.cut ≡ q.cut → p ≡ q
 same_place p q number taken owed transfer tree sent got cut =
     ap (λ (y : ℕ). record p { number = y }) number
     ∙ ap (λ (y : List Reply). record p { number = q.number; taken = y }) taken
@@ -66,14 +69,16 @@ one-owed (Some d) rs e = (reply_decided d rs, refl)
 
 -- behind its end a seat shows its next transfer, or that there is none
 module _ {C S : Type 0} (c : CallerGhosts C S) (b : BoardView) (r : Reply) (s t : Seat C) (ended : HasEnded c b r cut_at.No s t) where
-  pub ended-place : (replies : List Reply) → replies ≡ c.taken s.caller ++ r ∷ [] → (x : TransferView) (w : WalkTree) → t.transfer ≡ x → walk_left b t ≡ w
+  pub ended-place : (replies : List Reply) → replies ≡ c.taken s.caller ++ r ∷ [] → (x : TransferView) (w : WalkTree) → t.transfer ≡ x
+      → walk_left b t ≡ w
       → place_of c b t ≡ begun_with (place_of c b s) replies x w
   ended-place replies are x w transfer tree =
       same_place (place_of c b t) (begun_with (place_of c b s) replies x w) ended.number (ended.handed.taken ∙ sym are)
       (ap (λ (o : Option Decided). owed_by o t.replies) ended.loaded.undecided) transfer tree ended.loaded.sent
       (ap (λ (o : Option Decided). got_by o t.replies) ended.loaded.undecided ∙ ended.loaded.unread) ended.cut_is
 
-module _ {P C S : Type 0} (g : PortGhosts P) (c : CallerGhosts C S) (x : CoreParts P C) (kept : IsKept g c x) (place : ℕ) (s : Seat C) (here : slice_get x.seats.items place ≡ Some s) where
+module _ {P C S : Type 0} (g : PortGhosts P) (c : CallerGhosts C S) (x : CoreParts P C) (kept : IsKept g c x) (place : ℕ) (s : Seat C)
+    (here : slice_get x.seats.items place ≡ Some s) where
   abbrev run : Run
   run = run_of g c x
 
@@ -93,30 +98,42 @@ module _ {P C S : Type 0} (g : PortGhosts P) (c : CallerGhosts C S) (x : CorePar
   n = (owes-here run whole kept.kept place p at).0
 
   pub comes-here : (act : Act) → ComesAt x place act → next_of x.locks (walk_left x.board.now s) ≡ Some act
-  comes-here act comes = (let is : comes.seat ≡ s = same_seat x.seats.items place comes.seat s comes.here here in subst (λ (y : Seat C). next_of x.locks (walk_left x.board.now y) ≡ Some act) is comes.next)
+  comes-here act comes = (let is : comes.seat ≡ s = same_seat x.seats.items place comes.seat s comes.here here in
+      subst (λ (y : Seat C). next_of x.locks (walk_left x.board.now y) ≡ Some act) is comes.next)
 
   module _ (l : LockId) (first : next_of x.locks (walk_left x.board.now s) ≡ Some (Take l)) where
     pub take-room : 1 ≤ x.journal.room
     take-room = room-one run whole kept.kept place p at (Take l) first
 
-    module _ (free : holder_in x.locks l ≡ None) (new : CoreParts P C) (t : Seat C) (same_board : new.board ≡ x.board) (seats : new.seats.items ≡ set x.seats.items place t)
-        (went : WentOn x.board.now x.locks Passed cut_at.No s t) (locks : new.locks ≡ with_holder x.locks l (Some s.number)) (ports : new.ports ≡ x.ports)
-        (entries : new.journal.entries ≡ x.journal.entries ++ entry.Take s.number l ∷ []) (room : new.journal.room + 1 ≡ x.journal.room) (room_bytes : new.journal.room_bytes ≡ x.journal.room_bytes) where
+    module _ (free : holder_in x.locks l ≡ None) (new : CoreParts P C) (t : Seat C) (same_board : new.board ≡ x.board)
+        (seats : new.seats.items ≡ set x.seats.items place t)
+        (went : WentOn x.board.now x.locks Passed cut_at.No s t) (locks : new.locks ≡ with_holder x.locks l (Some s.number))
+        (ports : new.ports ≡ x.ports)
+        (entries : new.journal.entries ≡ x.journal.entries ++ entry.Take s.number l ∷ []) (room : new.journal.room + 1 ≡ x.journal.room)
+        (room_bytes : new.journal.room_bytes ≡ x.journal.room_bytes) where
       seated : IsSeated c x.board.now (roots_of x.ports.items) t
       seated = seated_on c x.board.now x.locks (roots_of x.ports.items) s t (seated-here g c x kept place s here) Passed cut_at.No went
 
-      core : CoreKept run (record (with_place whole place (passed whole p) (l ∷ ls) (n - 1)) { past = entry.Take s.number l ∷ whole.past; locks = with_holder x.locks l (Some s.number); room = new.journal.room })
-      core = core-taken run (fair g c x kept) whole kept.kept place p ls n (stands-here run whole kept.kept place p at) new.journal.room l first free (sym room)
+      core : CoreKept run (record (with_place whole place (passed whole p) (l ∷ ls) (n - 1)) {
+        past = entry.Take s.number l ∷ whole.past;
+        locks = with_holder x.locks l (Some s.number);
+        room = new.journal.room;
+      })
+      core = core-taken run (fair g c x kept) whole kept.kept place p ls n
+          (stands-here run whole kept.kept place p at) new.journal.room l first free (sym room)
 
       pub take-kept : IsKept g c new
       take-kept =
-          kept-whole g c x kept place s here new t same_board seats (ap (λ (y : Seat C). y.number) went.same) (ap (λ (y : Seat C). c.script y.caller) went.same) (ap (λ (y : _). roots_of y.items) ports) seated _ core
+          kept-whole g c x kept place s here new t same_board seats (ap (λ (y : Seat C). y.number) went.same)
+          (ap (λ (y : Seat C). c.script y.caller) went.same) (ap (λ (y : _). roots_of y.items) ports) seated _ core
           (ap reverse entries ∙ reverse-append x.journal.entries (entry.Take s.number l ∷ [])) refl room_bytes
-          (ap (set whole.places place) (went-place c x.board.now s t _ cut_at.No went.same went.walk)) locks (ap (λ (y : _). root_ports g y.items) ports)
+          (ap (set whole.places place) (went-place c x.board.now s t _ cut_at.No went.same went.walk)) locks
+          (ap (λ (y : _). root_ports g y.items) ports)
 
       pub take-stepped : new.start ≡ x.start → new.places ≡ x.places → HasStepped g c place x new
       take-stepped start places =
-          stepped-one g c x kept place s here new t same_board seats (ap (λ (y : Seat C). y.number) went.same) (ap (λ (y : Seat C). c.script y.caller) went.same) (ap (λ (y : _). roots_of y.items) ports)
+          stepped-one g c x kept place s here new t same_board seats (ap (λ (y : Seat C). y.number) went.same)
+          (ap (λ (y : Seat C). c.script y.caller) went.same) (ap (λ (y : _). roots_of y.items) ports)
           start places (entry.Take s.number l) entries room refl refl (λ tell. (core.told tell).stepwise)
 
   module _ (l : LockId) (first : next_of x.locks (walk_left x.board.now s) ≡ Some (Free l)) where
@@ -126,7 +143,11 @@ module _ {P C S : Type 0} (g : PortGhosts P) (c : CallerGhosts C S) (x : CorePar
     pub free-may : MayEnd c x.board.now (roots_of x.ports.items) s
     free-may = record {
       seated = seated-here g c x kept place s here;
-      fits = λ r owed. (sym (asks-here g c x kept place s here (c.taken s.caller)) ∙ going-asks run whole kept.kept place p at (Free l) first, going-fits run whole kept.kept place p at (Free l) first r owed);
+      fits = λ r owed. (
+        sym (asks-here g c x kept place s here (c.taken s.caller))
+            ∙ going-asks run whole kept.kept place p at (Free l) first,
+        going-fits run whole kept.kept place p at (Free l) first r owed,
+      );
       wired = λ rs t. wired-here g c x kept place s here rs t;
     }
 
@@ -135,12 +156,15 @@ module _ {P C S : Type 0} (g : PortGhosts P) (c : CallerGhosts C S) (x : CorePar
     freed-number t freed = by (is_over (behind_of x.locks (walk_left x.board.now s) Passed)) refl
       where
         by : (over : Bool) → is_over (behind_of x.locks (walk_left x.board.now s) Passed) ≡ over → t.number ≡ s.number
-        by true ends = (let owed = one-owed s.decided s.replies (end-owes run whole kept.kept place p at l first ends) in (freed.ended ends owed.0 owed.1).number)
+        by true ends = (let owed = one-owed s.decided s.replies (end-owes run whole kept.kept place p at l first ends) in
+            (freed.ended ends owed.0 owed.1).number)
         by false goes = ap (λ (y : Seat C). y.number) (freed.on goes).same
 
     module _ (new : CoreParts P C) (t : Seat C) (same_board : new.board ≡ x.board) (seats : new.seats.items ≡ set x.seats.items place t)
-        (freed : HasFreed c x.board.now x.locks (roots_of x.ports.items) s t) (locks : new.locks ≡ with_holder x.locks l None) (ports : new.ports ≡ x.ports)
-        (entries : new.journal.entries ≡ x.journal.entries ++ entry.Free s.number l ∷ []) (room : new.journal.room + 1 ≡ x.journal.room) (room_bytes : new.journal.room_bytes ≡ x.journal.room_bytes)
+        (freed : HasFreed c x.board.now x.locks (roots_of x.ports.items) s t) (locks : new.locks ≡ with_holder x.locks l None)
+        (ports : new.ports ≡ x.ports)
+        (entries : new.journal.entries ≡ x.journal.entries ++ entry.Free s.number l ∷ []) (room : new.journal.room + 1 ≡ x.journal.room)
+        (room_bytes : new.journal.room_bytes ≡ x.journal.room_bytes)
         (start : new.start ≡ x.start) (places : new.places ≡ x.places) where
       roots : roots_of new.ports.items ≡ roots_of x.ports.items
       roots = ap (λ (y : _). roots_of y.items) ports
@@ -148,43 +172,62 @@ module _ {P C S : Type 0} (g : PortGhosts P) (c : CallerGhosts C S) (x : CorePar
       past : reverse new.journal.entries ≡ entry.Free s.number l ∷ reverse x.journal.entries
       past = ap reverse entries ∙ reverse-append x.journal.entries (entry.Free s.number l ∷ [])
 
-      by-whole : t.number ≡ s.number → c.script t.caller ≡ c.script s.caller → (q : Place) → place_of c x.board.now t ≡ q → (ks : List LockId) (m : ℕ)
-          → CoreKept run (record (with_place whole place q ks m) { past = entry.Free s.number l ∷ whole.past; locks = with_holder x.locks l None; room = new.journal.room })
+      by-whole : t.number ≡ s.number → c.script t.caller ≡ c.script s.caller → (q : Place) → place_of c x.board.now t ≡ q
+          → (ks : List LockId) (m : ℕ)
+          → CoreKept run (record (with_place whole place q ks m) {
+            past = entry.Free s.number l ∷ whole.past;
+            locks = with_holder x.locks l None;
+            room = new.journal.room;
+          })
           → IsKept g c new × HasStepped g c place x new
       by-whole number script q is ks m core = (
-        kept-whole g c x kept place s here new t same_board seats number script roots freed.seated _ core past refl room_bytes (ap (set whole.places place) is) locks (ap (λ (y : _). root_ports g y.items) ports),
-        stepped-one g c x kept place s here new t same_board seats number script roots start places (entry.Free s.number l) entries room refl refl (λ tell. (core.told tell).stepwise),
+        kept-whole g c x kept place s here new t same_board seats number script roots freed.seated _ core past refl room_bytes
+            (ap (set whole.places place) is) locks (ap (λ (y : _). root_ports g y.items) ports),
+        stepped-one g c x kept place s here new t same_board seats number script roots start places
+            (entry.Free s.number l) entries room refl refl (λ tell. (core.told tell).stepwise),
       )
 
       freed-on : is_over (behind_of x.locks (walk_left x.board.now s) Passed) ≡ false → IsKept g c new × HasStepped g c place x new
       freed-on goes =
           let went = freed.on goes in
-          by-whole (ap (λ (y : Seat C). y.number) went.same) (ap (λ (y : Seat C). c.script y.caller) went.same) (passed whole p) (went-place c x.board.now s t _ cut_at.No went.same went.walk) _ _
-          (core-freed run (fair g c x kept) whole kept.kept place p ls n (stands-here run whole kept.kept place p at) new.journal.room l first goes (sym room))
+          by-whole (ap (λ (y : Seat C). y.number) went.same) (ap (λ (y : Seat C). c.script y.caller) went.same) (passed whole p)
+          (went-place c x.board.now s t _ cut_at.No went.same went.walk) _ _
+          (core-freed run (fair g c x kept) whole kept.kept place p ls n
+          (stands-here run whole kept.kept place p at) new.journal.room l first goes (sym room))
 
       freed-ended : is_over (behind_of x.locks (walk_left x.board.now s) Passed) ≡ true → IsKept g c new × HasStepped g c place x new
       freed-ended ends =
           let owed = one-owed s.decided s.replies (end-owes run whole kept.kept place p at l first ends) in
           let its = freed.ended ends owed.0 owed.1 in
-          let replies : c.taken t.caller ≡ c.taken s.caller ++ owed_by s.decided s.replies = its.handed.taken ∙ ap (λ (rs : List Reply). c.taken s.caller ++ rs) (sym owed.1) in
+          let replies : c.taken t.caller ≡ c.taken s.caller ++ owed_by s.decided s.replies = its.handed.taken
+          ∙ ap (λ (rs : List Reply). c.taken s.caller ++ rs) (sym owed.1) in
           let asks : c.asked (c.script t.caller) (c.taken t.caller) ≡ run.asks s.number (c.taken s.caller ++ owed_by s.decided s.replies) =
-          ap (λ (z : S). c.asked z (c.taken t.caller)) its.handed.script ∙ ap (λ (rs : List Reply). c.asked (c.script s.caller) rs) replies ∙ sym (asks-here g c x kept place s here _) in
+          ap (λ (z : S). c.asked z (c.taken t.caller)) its.handed.script ∙ ap (λ (rs : List Reply). c.asked (c.script s.caller) rs) replies
+          ∙ sym (asks-here g c x kept place s here _) in
           by (c.asked (c.script t.caller) (c.taken t.caller)) refl asks owed its
         where
-          by : (o : Option TransferView) → c.asked (c.script t.caller) (c.taken t.caller) ≡ o → c.asked (c.script t.caller) (c.taken t.caller) ≡ run.asks s.number (c.taken s.caller ++ owed_by s.decided s.replies)
-              → (owed : (r : Reply) × (owed_by s.decided s.replies ≡ r ∷ [])) → HasEnded c x.board.now owed.0 cut_at.No s t → IsKept g c new × HasStepped g c place x new
+          by : (o : Option TransferView) → c.asked (c.script t.caller) (c.taken t.caller) ≡ o
+              → c.asked (c.script t.caller) (c.taken t.caller) ≡ run.asks s.number (c.taken s.caller ++ owed_by s.decided s.replies)
+              → (owed : (r : Reply) × (owed_by s.decided s.replies ≡ r ∷ [])) → HasEnded c x.board.now owed.0 cut_at.No s t
+              → IsKept g c new × HasStepped g c place x new
           by (Some y) is asks owed its =
               by-whole its.number its.handed.script (begun_with p (p.taken ++ p.owed) y (walk_for x.board.now y))
-              (ended-place c x.board.now owed.0 s t its (p.taken ++ p.owed) (ap (λ (rs : List Reply). c.taken s.caller ++ rs) owed.1) y (walk_for x.board.now y) (its.loaded.some y is).0 (its.loaded.some y is).1) _ _
-              (core-ended run (fair g c x kept) whole kept.kept place p ls n (stands-here run whole kept.kept place p at) new.journal.room l first ends owed.0 owed.1 (sym room) y (sym asks ∙ is))
+              (ended-place c x.board.now owed.0 s t its (p.taken ++ p.owed) (ap (λ (rs : List Reply). c.taken s.caller ++ rs) owed.1) y
+              (walk_for x.board.now y) (its.loaded.some y is).0 (its.loaded.some y is).1) _ _
+              (core-ended run (fair g c x kept) whole kept.kept place p ls n
+              (stands-here run whole kept.kept place p at) new.journal.room l first ends owed.0 owed.1 (sym room) y (sym asks ∙ is))
           by None is asks owed its =
               by-whole its.number its.handed.script (begun_with p (p.taken ++ p.owed) p.transfer Ends)
-              (ended-place c x.board.now owed.0 s t its (p.taken ++ p.owed) (ap (λ (rs : List Reply). c.taken s.caller ++ rs) owed.1) p.transfer Ends (its.stays is) (over_ends (walk_left x.board.now t) (its.loaded.none is))) _ _
-              (core-finished run (fair g c x kept) whole kept.kept place p ls n (stands-here run whole kept.kept place p at) new.journal.room l first ends owed.0 owed.1 (sym room) (sym asks ∙ is))
+              (ended-place c x.board.now owed.0 s t its (p.taken ++ p.owed)
+              (ap (λ (rs : List Reply). c.taken s.caller ++ rs) owed.1) p.transfer Ends (its.stays is)
+              (over_ends (walk_left x.board.now t) (its.loaded.none is))) _ _
+              (core-finished run (fair g c x kept) whole kept.kept place p ls n
+              (stands-here run whole kept.kept place p at) new.journal.room l first ends owed.0 owed.1 (sym room) (sym asks ∙ is))
 
       pub free-kept : IsKept g c new × HasStepped g c place x new
       free-kept = by (is_over (behind_of x.locks (walk_left x.board.now s) Passed)) refl
         where
-          by : (over : Bool) → is_over (behind_of x.locks (walk_left x.board.now s) Passed) ≡ over → IsKept g c new × HasStepped g c place x new
+          by : (over : Bool) → is_over (behind_of x.locks (walk_left x.board.now s) Passed) ≡ over
+              → IsKept g c new × HasStepped g c place x new
           by true e = freed-ended e
           by false e = freed-on e

@@ -49,7 +49,8 @@ use Rattle.i2c_base.proofs.ListLemmas.{map_at}
 use Rattle.core_laws.specs.Spots.{seen_of}
 
 -- who asks for nothing has a walk that is over
-pub silent-ends : (b : BoardView) (callers : ℕ) (asks : Asks) (c : ℕ) → ((rs : List Reply) → asks c rs ≡ None) → (past : List Entry) → IsStepwise b callers asks past
+pub silent-ends : (b : BoardView) (callers : ℕ) (asks : Asks) (c : ℕ) → ((rs : List Reply) → asks c rs ≡ None) → (past : List Entry)
+    → IsStepwise b callers asks past
     → ahead b asks (now b asks past) c ≡ Ends
 silent-ends b callers asks c silent [] steps = ap (begun b) (silent [])
 silent-ends b callers asks c silent (e ∷ past) steps =
@@ -57,10 +58,12 @@ silent-ends b callers asks c silent (e ∷ past) steps =
     let n : Now = now b asks past in
     elim (eqb_tells c (caller_of e)) [
       | inl same ↦ (let act = does-next b callers asks n e steps.0 in
-          let none : first_act (current b asks n (caller_of e)) ≡ None = ap (λ (d : ℕ). first_act (current b asks n d)) (sym same.1) ∙ ap (λ (w : WalkTree). first_act (seen n.slot w)) was in
+          let none : first_act (current b asks n (caller_of e)) ≡ None = ap (λ (d : ℕ). first_act (current b asks n d)) (sym same.1)
+          ∙ ap (λ (w : WalkTree). first_act (seen n.slot w)) was in
           absurd (let f : None ≡ Some act.0 = sym none ∙ act.1 in cc))
       | inr other ↦ (let told : CallerTold b asks (step b asks n e) c (ahead b asks n c) (n.settled c) (n.got c) (n.cut c) =
-          others-stay b asks n e c (ahead b asks n c) (n.settled c) (n.got c) (n.cut c) other.1 (record { walk = refl; settled = refl; got_is = refl; cut_is = refl }) in
+          others-stay b asks n e c (ahead b asks n c) (n.settled c) (n.got c) (n.cut c) other.1
+          (record { walk = refl; settled = refl; got_is = refl; cut_is = refl }) in
           told.walk ∙ was)
     ]
 
@@ -78,7 +81,8 @@ pub not-beyond : {X : Type 0} (xs : List X) (k : ℕ) → k < length xs → slic
 not-beyond xs k low at = (let t = there xs k low in let f : Some t.0 ≡ None = sym t.1 ∙ at in cc)
 
 -- a number that no caller has
-pub script-none : {S : Type 0} (scripts : List (ℕ × S)) (n : ℕ) → ((i : ℕ) (s : S) → slice_get scripts i ≡ Some (n, s) → ⊥) → script_at scripts n ≡ None
+pub script-none : {S : Type 0} (scripts : List (ℕ × S)) (n : ℕ) → ((i : ℕ) (s : S) → slice_get scripts i ≡ Some (n, s) → ⊥)
+    → script_at scripts n ≡ None
 script-none [] n none = refl
 script-none (x ∷ xs) n none =
     let rest = script-none xs n (λ i s at. none (suc i) s at) in
@@ -91,7 +95,8 @@ script-none (x ∷ xs) n none =
 pub come-refl : {P C S : Type 0} (g : PortGhosts P) (c : CallerGhosts C S) (x : CoreParts P C) → HasCome g c x x
 come-refl g c x = record { board = refl; start = refl; scripts = refl; roots = refl; places = refl; counted = refl }
 
-pub come-then : {P C S : Type 0} (g : PortGhosts P) (c : CallerGhosts C S) (x y z : CoreParts P C) → HasCome g c x y → HasCome g c y z → HasCome g c x z
+pub come-then : {P C S : Type 0} (g : PortGhosts P) (c : CallerGhosts C S) (x y z : CoreParts P C) → HasCome g c x y → HasCome g c y z
+    → HasCome g c x z
 come-then g c x y z a b =
     record {
       board = b.board ∙ a.board;
@@ -119,39 +124,50 @@ module _ {P C S : Type 0} (g : PortGhosts P) (c : CallerGhosts C S) (x : CorePar
   silent : (n : ℕ) → slice_get x.places.items n ≡ Some None → (rs : List Reply) → asks n rs ≡ None
   silent n none rs =
       ap (λ (o : Option S). option_map_or (λ s. c.asked s rs) o None)
-      (script-none (scripts_of c x.seats.items) n (λ i s at. let f : Some None ≡ Some (Some i) = sym none ∙ core.placed.named i n s at in cc))
+      (script-none (scripts_of c x.seats.items) n (λ i s at. let f : Some None ≡ Some (Some i) = sym none ∙ core.placed.named i n s at in
+      cc))
 
-  pub stuck-below : (least place : ℕ) → slice_get x.places.items least ≡ Some (Some place) → AreHeldUpBelow x least → IsTrue g.tells → (m : ℕ) → m < least → IsStuck b asks past m
+  pub stuck-below : (least place : ℕ) → slice_get x.places.items least ≡ Some (Some place) → AreHeldUpBelow x least → IsTrue g.tells
+      → (m : ℕ) → m < least → IsStuck b asks past m
   stuck-below least place is before tell m low = by (slice_get x.places.items m) refl
     where
       by : (o : Option (Option ℕ)) → slice_get x.places.items m ≡ o → IsStuck b asks past m
       by (Some (Some q)) at = (let up = before m q low at in stuck-by g c x core.kept core.placed m q at up.seat up.here up.waits tell)
-      by (Some None) at = inr (ap (λ (w : WalkTree). first_act (seen (now b asks past).slot w)) (silent-ends b MOST_CALLERS asks m (silent m at) past (core.kept.kept.told tell).stepwise))
-      by None at = absurd (let here = slice_get_within x.places.items least (Some place) is in not-beyond x.places.items m (omega (arith, low, here)) at)
+      by (Some None) at = inr (ap (λ (w : WalkTree). first_act (seen (now b asks past).slot w))
+          (silent-ends b MOST_CALLERS asks m (silent m at) past (core.kept.kept.told tell).stepwise))
+      by None at = absurd (let here = slice_get_within x.places.items least (Some place) is in
+          not-beyond x.places.items m (omega (arith, low, here)) at)
 
   -- the journal keeps to a schedule over a step of the least caller, and over a word's
   module _ (caller : ℕ) (new : CoreParts P C) (made : HasMade g c caller x new) where
     past-is : (t : HasTurn b asks caller x.journal.entries new.journal.entries) → reverse new.journal.entries ≡ past_after past t.turn
     past-is t = ap reverse t.entries ∙ reverse-append x.journal.entries t.turn.entries
 
-    moved : (words left : List ℕ) (t : HasTurn b asks caller x.journal.entries new.journal.entries) → KeepsTo b MOST_CALLERS asks words left (past_after past t.turn)
+    moved : (words left : List ℕ) (t : HasTurn b asks caller x.journal.entries new.journal.entries)
+        → KeepsTo b MOST_CALLERS asks words left (past_after past t.turn)
         → KeepsTo new.board.now MOST_CALLERS (asks_in c new) words left (reverse new.journal.entries)
     moved words left t keeps =
         subst (λ (y : _). KeepsTo y.now MOST_CALLERS (asks_in c new) words left (reverse new.journal.entries)) (sym made.come.board)
-        (subst (λ (ss : List (ℕ × S)). KeepsTo b MOST_CALLERS (asks_of c.asked ss) words left (reverse new.journal.entries)) (sym made.come.scripts)
+        (subst (λ (ss : List (ℕ × S)). KeepsTo b MOST_CALLERS (asks_of c.asked ss) words left (reverse new.journal.entries))
+        (sym made.come.scripts)
         (subst (λ (y : List Entry). KeepsTo b MOST_CALLERS asks words left y) (sym (past-is t)) keeps))
 
-    pub least-keeps : ((words : List ℕ) (old : List Entry) → IsPlainBoard b → MeetsRules b → AsksForMessages asks → IsStepwise b MOST_CALLERS asks old → (now b asks old).due ≡ None
-        → (t : Turn) → IsTurn b MOST_CALLERS asks old t → ((d : ℕ) → d < t.caller → IsStuck b asks old d) → KeepsTo b MOST_CALLERS asks words [] old → KeepsTo b MOST_CALLERS asks words [] (past_after old t))
-        → (place : ℕ) → slice_get x.places.items caller ≡ Some (Some place) → AreHeldUpBelow x caller → (words : List ℕ) → KeepsSchedule g c words [] x → KeepsSchedule g c words [] new
+    pub least-keeps : ((words : List ℕ) (old : List Entry) → IsPlainBoard b → MeetsRules b → AsksForMessages asks
+        → IsStepwise b MOST_CALLERS asks old → (now b asks old).due ≡ None
+        → (t : Turn) → IsTurn b MOST_CALLERS asks old t → ((d : ℕ) → d < t.caller → IsStuck b asks old d)
+        → KeepsTo b MOST_CALLERS asks words [] old → KeepsTo b MOST_CALLERS asks words [] (past_after old t))
+        → (place : ℕ) → slice_get x.places.items caller ≡ Some (Some place) → AreHeldUpBelow x caller → (words : List ℕ)
+        → KeepsSchedule g c words [] x → KeepsSchedule g c words [] new
     least-keeps law place is before words keeps tell =
         let t = made.turn tell in
         let told = core.kept.kept.told tell in
         moved words [] t (law words past run_fair.plain run_fair.rules run_fair.sends told.stepwise told.rests t.turn t.comes
         (λ d low. stuck-below caller place is before tell d (subst (λ (k : ℕ). d < k) t.own low)) (keeps tell))
 
-    pub word-keeps : ((words : List ℕ) (old : List Entry) → IsPlainBoard b → MeetsRules b → AsksForMessages asks → IsStepwise b MOST_CALLERS asks old → (now b asks old).due ≡ None
-        → (t : Turn) → IsTurn b MOST_CALLERS asks old t → (left : List ℕ) → KeepsTo b MOST_CALLERS asks words (t.caller ∷ left) old → KeepsTo b MOST_CALLERS asks words left (past_after old t))
+    pub word-keeps : ((words : List ℕ) (old : List Entry) → IsPlainBoard b → MeetsRules b → AsksForMessages asks
+        → IsStepwise b MOST_CALLERS asks old → (now b asks old).due ≡ None
+        → (t : Turn) → IsTurn b MOST_CALLERS asks old t → (left : List ℕ) → KeepsTo b MOST_CALLERS asks words (t.caller ∷ left) old
+        → KeepsTo b MOST_CALLERS asks words left (past_after old t))
         → (words left : List ℕ) → KeepsSchedule g c words (caller ∷ left) x → KeepsSchedule g c words left new
     word-keeps law words left keeps tell =
         let t = made.turn tell in
@@ -164,13 +180,15 @@ module _ {P C S : Type 0} (g : PortGhosts P) (c : CallerGhosts C S) (x : CorePar
     abbrev whole : Whole
     whole = whole_of g c x core.kept.held core.kept.owes
 
-    held-up : (i : ℕ) (w : WalkTree) → slice_get (trees_of whole.places) i ≡ Some w → IsHeldUp (holder_in x.locks) (slots_of (seen_of x.locks)) w
+    held-up : (i : ℕ) (w : WalkTree) → slice_get (trees_of whole.places) i ≡ Some w
+        → IsHeldUp (holder_in x.locks) (slots_of (seen_of x.locks)) w
     held-up i w at =
         let p = map_from (λ (y : Place). y.tree) whole.places i w at in
         let s = map_from (place_of c b) x.seats.items i p.0 p.1 in
         let its = up s.0.number i (core.placed.named i s.0.number (c.script s.0.caller) (map_at (script_of c) x.seats.items i s.0 s.1)) in
         let same : its.seat ≡ s.0 = same_seat x.seats.items i its.seat s.0 its.here s.1 in
-        subst (IsHeldUp (holder_in x.locks) (slots_of (seen_of x.locks))) (ap (walk_left b) same ∙ ap (λ (y : Place). y.tree) s.2 ∙ p.2) its.waits
+        subst (IsHeldUp (holder_in x.locks) (slots_of (seen_of x.locks))) (ap (walk_left b) same ∙ ap (λ (y : Place). y.tree) s.2
+        ∙ p.2) its.waits
 
     pub all-through : AllThrough c.asked g.tells (state_of g c x)
     all-through i n taken at =
@@ -179,30 +197,46 @@ module _ {P C S : Type 0} (g : PortGhosts P) (c : CallerGhosts C S) (x : CorePar
         let done = all-finished (run_of g c x) whole core.kept.kept held-up i (place_of c b s.0) here in
         let number : s.0.number ≡ n = ap (λ (y : ℕ × List Reply). y.0) s.2 in
         let replies : c.taken s.0.caller ≡ taken = ap (λ (y : ℕ × List Reply). y.1) s.2 in
-        let over : walk_left b s.0 ≡ Ends = over_ends (walk_left b s.0) (finished-over (run_of g c x) whole core.kept.kept i (place_of c b s.0) here (asks-finished (run_of g c x) whole core.kept.kept i (place_of c b s.0) here done.0)) in
-        let told : (tell : IsTrue g.tells) → CallerTold b asks (now b asks past) s.0.number (walk_left b s.0) (c.taken s.0.caller ++ (place_of c b s.0).owed) (place_of c b s.0).got s.0.cut =
-        (λ tell. (core.kept.kept.told tell).spots_told i (spot_of (place_of c b s.0)) (map_at spot_of whole.places i (place_of c b s.0) here)) in
+        let over : walk_left b s.0 ≡ Ends = over_ends (walk_left b s.0)
+        (finished-over (run_of g c x) whole core.kept.kept i (place_of c b s.0) here
+        (asks-finished (run_of g c x) whole core.kept.kept i (place_of c b s.0) here done.0)) in
+        let told : (tell : IsTrue g.tells)
+        → CallerTold b asks (now b asks past) s.0.number (walk_left b s.0) (c.taken s.0.caller ++ (place_of c b s.0).owed)
+        (place_of c b s.0).got s.0.cut =
+        (λ tell. (core.kept.kept.told tell).spots_told i (spot_of (place_of c b s.0))
+        (map_at spot_of whole.places i (place_of c b s.0) here)) in
         record {
           asks = subst (λ (k : ℕ). asks k taken ≡ None) number (subst (λ (rs : List Reply). asks s.0.number rs ≡ None) replies done.0);
-          walk = λ tell. subst (λ (k : ℕ). (now b asks past).walk k ≡ Ends) number (walk-ended b asks (now b asks past) s.0.number ((told tell).walk ∙ over));
-          settled = λ tell. ap (λ (k : ℕ). (now b asks past).settled k) (sym number) ∙ (told tell).settled ∙ ap (λ (rs : List Reply). c.taken s.0.caller ++ rs) done.1 ∙ append-nil (c.taken s.0.caller) ∙ replies;
+          walk = λ tell. subst (λ (k : ℕ). (now b asks past).walk k ≡ Ends) number
+              (walk-ended b asks (now b asks past) s.0.number ((told tell).walk ∙ over));
+          settled = λ tell. ap (λ (k : ℕ). (now b asks past).settled k) (sym number) ∙ (told tell).settled
+              ∙ ap (λ (rs : List Reply). c.taken s.0.caller ++ rs) done.1 ∙ append-nil (c.taken s.0.caller) ∙ replies;
         }
 
   -- a caller that waits is passed over
-  pub waited-keeps : ((words : List ℕ) (old : List Entry) → IsPlainBoard b → MeetsRules b → AsksForMessages asks → IsStepwise b MOST_CALLERS asks old
-      → (w : ℕ) → IsStuck b asks old w → (left : List ℕ) → KeepsTo b MOST_CALLERS asks words (w ∷ left) old → KeepsTo b MOST_CALLERS asks words left old)
-      → (caller : ℕ) (new : CoreParts P C) → HasWaited g c caller x new → (words left : List ℕ) → KeepsSchedule g c words (caller ∷ left) x → KeepsSchedule g c words left new
+  pub waited-keeps : ((words : List ℕ) (old : List Entry) → IsPlainBoard b → MeetsRules b → AsksForMessages asks
+      → IsStepwise b MOST_CALLERS asks old
+      → (w : ℕ) → IsStuck b asks old w → (left : List ℕ) → KeepsTo b MOST_CALLERS asks words (w ∷ left) old
+      → KeepsTo b MOST_CALLERS asks words left old)
+      → (caller : ℕ) (new : CoreParts P C) → HasWaited g c caller x new → (words left : List ℕ) → KeepsSchedule g c words (caller ∷ left) x
+      → KeepsSchedule g c words left new
   waited-keeps law caller new waited words left keeps =
       subst (λ (y : CoreParts P C). KeepsSchedule g c words left y) (sym waited.same)
-      (λ tell. law words past run_fair.plain run_fair.rules run_fair.sends (core.kept.kept.told tell).stepwise caller (waited.stuck tell) left (keeps tell))
+      (λ tell. law words past run_fair.plain run_fair.rules run_fair.sends (core.kept.kept.told tell).stepwise caller
+      (waited.stuck tell) left (keeps tell))
 
   -- a word of the schedule: its caller steps, or is passed over
-  pub stepped-or-waited : ((words : List ℕ) (old : List Entry) → IsPlainBoard b → MeetsRules b → AsksForMessages asks → IsStepwise b MOST_CALLERS asks old → (now b asks old).due ≡ None
-      → (t : Turn) → IsTurn b MOST_CALLERS asks old t → (left : List ℕ) → KeepsTo b MOST_CALLERS asks words (t.caller ∷ left) old → KeepsTo b MOST_CALLERS asks words left (past_after old t))
+  pub stepped-or-waited : ((words : List ℕ) (old : List Entry) → IsPlainBoard b → MeetsRules b → AsksForMessages asks
+      → IsStepwise b MOST_CALLERS asks old → (now b asks old).due ≡ None
+      → (t : Turn) → IsTurn b MOST_CALLERS asks old t → (left : List ℕ) → KeepsTo b MOST_CALLERS asks words (t.caller ∷ left) old
+      → KeepsTo b MOST_CALLERS asks words left (past_after old t))
       → ((words : List ℕ) (old : List Entry) → IsPlainBoard b → MeetsRules b → AsksForMessages asks → IsStepwise b MOST_CALLERS asks old
-      → (w : ℕ) → IsStuck b asks old w → (left : List ℕ) → KeepsTo b MOST_CALLERS asks words (w ∷ left) old → KeepsTo b MOST_CALLERS asks words left old)
-      → (caller : ℕ) (new : CoreParts P C) (made : Bool) → (made ≡ true → HasMade g c caller x new) → (made ≡ false → HasWaited g c caller x new)
-      → (E : Type 0) (words left : List ℕ) → (E → KeepsSchedule g c words (caller ∷ left) x) → HasCome g c x new × (E → KeepsSchedule g c words left new)
+      → (w : ℕ) → IsStuck b asks old w → (left : List ℕ) → KeepsTo b MOST_CALLERS asks words (w ∷ left) old
+      → KeepsTo b MOST_CALLERS asks words left old)
+      → (caller : ℕ) (new : CoreParts P C) (made : Bool) → (made ≡ true → HasMade g c caller x new)
+      → (made ≡ false → HasWaited g c caller x new)
+      → (E : Type 0) (words left : List ℕ) → (E → KeepsSchedule g c words (caller ∷ left) x)
+      → HasCome g c x new × (E → KeepsSchedule g c words left new)
   stepped-or-waited steps passes caller new true made waited E words left keeps = (
     (made refl).come,
     (λ e. word-keeps caller new (made refl) steps words left (keeps e)),

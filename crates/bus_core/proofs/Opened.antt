@@ -49,7 +49,8 @@ starting n t w = record { number = n; taken = []; owed = []; transfer = t; tree 
 abbrev lefts : {C S : Type 0} → CallerGhosts C S → List (ℕ × S) → List ℕ
 lefts c scripts = map (λ (z : ℕ × _). c.left z.1 []) scripts
 
-total-lefts : {C S : Type 0} (c : CallerGhosts C S) (callers : List (ℕ × C)) → total (lefts c (callers_scripts c callers)) ≡ sum_by (λ (x : ℕ × C). c.left (c.script x.1) []) callers
+total-lefts : {C S : Type 0} (c : CallerGhosts C S) (callers : List (ℕ × C))
+    → total (lefts c (callers_scripts c callers)) ≡ sum_by (λ (x : ℕ × C). c.left (c.script x.1) []) callers
 total-lefts c [] = refl
 total-lefts c (x ∷ xs) =
     sum_by-cons (λ (n : ℕ). n) (c.left (c.script x.1) []) (lefts c (callers_scripts c xs))
@@ -87,7 +88,8 @@ module _ {P C S : Type 0} (p : PortGhosts P) (c : CallerGhosts C S) (x : CorePar
   of-seat : (i : ℕ) (s : Seat C) → slice_get seats i ≡ Some s → IsSeatOf c b roots callers i s
   of-seat = seated.fresh
 
-  distinct-seats : (i k n : ℕ) (s t : Seat C) → slice_get seats i ≡ Some s → slice_get seats k ≡ Some t → s.number ≡ n → t.number ≡ n → i ≡ k
+  distinct-seats : (i k n : ℕ) (s t : Seat C) → slice_get seats i ≡ Some s → slice_get seats k ≡ Some t → s.number ≡ n → t.number ≡ n
+      → i ≡ k
   distinct-seats i k n s t at to one other =
       let of = of-seat i s at in
       let and = of-seat k t to in
@@ -165,12 +167,14 @@ module _ {P C S : Type 0} (p : PortGhosts P) (c : CallerGhosts C S) (x : CorePar
         (sym (place-fresh (walk_for b t) loaded.1 ∙ ap (λ (u : TransferView). starting s.number u (walk_for b t)) loaded.0))
         (seat-loaded run fair s.number [] t is n enough))
         (λ none.
-        subst (λ (q : Place). SeatKept run q [] n) (sym (place-fresh Ends (over_ends (walk_left b s) (of.fresh.loaded.none (asked-now ∙ none)))))
+        subst (λ (q : Place). SeatKept run q [] n)
+        (sym (place-fresh Ends (over_ends (walk_left b s) (of.fresh.loaded.none (asked-now ∙ none)))))
         (seat-over run fair s.number [] s.transfer none n))
       where
         enough : run.left s.number [] ≤ n
         enough =
-            let here : slice_get owes i ≡ Some (c.left (c.script s.caller) []) = map_at (λ (z : ℕ × S). c.left z.1 []) scripts i (script_of c s) (map_at (script_of c) seats i s at) in
+            let here : slice_get owes i ≡ Some (c.left (c.script s.caller) []) = map_at (λ (z : ℕ × S). c.left z.1 []) scripts i
+            (script_of c s) (map_at (script_of c) seats i s at) in
             let f : Some (c.left (c.script s.caller) []) ≡ Some n = sym here ∙ owing in
             let same : c.left (c.script s.caller) [] ≡ n = cc in
             let is : run.left s.number [] ≡ n = left-own ∙ same in
@@ -179,11 +183,13 @@ module _ {P C S : Type 0} (p : PortGhosts P) (c : CallerGhosts C S) (x : CorePar
   -- all that they have left is within the limit
   few : total owes ≤ limit
   few =
-      let same : total owes ≡ sum_by (λ (z : ℕ × C). c.left (c.script z.1) []) callers = ap (λ (zs : List (ℕ × S)). total (lefts c zs)) (seated-all c b roots callers seats x.places.items seated) ∙ total-lefts c callers in
+      let same : total owes ≡ sum_by (λ (z : ℕ × C). c.left (c.script z.1) []) callers = ap (λ (zs : List (ℕ × S)). total (lefts c zs))
+      (seated-all c b roots callers seats x.places.items seated) ∙ total-lefts c callers in
       let covers = may.covers in
       omega (arith, same, covers)
 
-  module _ (depths : List ℕ) (deep : AreDepths b depths) (locks : x.locks ≡ opened depths (length b.roots) (length b.muxes)) (blank : x.journal ≡ record { entries = []; room = limit; room_bytes = 2 * limit }) where
+  module _ (depths : List ℕ) (deep : AreDepths b depths) (locks : x.locks ≡ opened depths (length b.roots) (length b.muxes))
+      (blank : x.journal ≡ record { entries = []; room = limit; room_bytes = 2 * limit }) where
     is-opened : IsOpened run whole
     is-opened = record {
       nothing = ap (λ (j : JournalView). reverse j.entries) blank;
@@ -225,7 +231,8 @@ module _ {P C S : Type 0} (p : PortGhosts P) (c : CallerGhosts C S) (x : CorePar
           let q = map_from (root_port p) x.ports.items k y at in
           subst (λ (w : RootPort). (w.world ≡ opening_world b w.root) × (w.log ≡ [])) q.2 (may.worlds tell k q.0 q.1);
       room_left = (let room : x.journal.room ≡ limit = ap (λ (j : JournalView). j.room) blank in let low = few in omega (arith, room, low));
-      bytes_left = (let room : x.journal.room_bytes ≡ 2 * limit = ap (λ (j : JournalView). j.room_bytes) blank in let low = few in omega (arith, room, low));
+      bytes_left = (let room : x.journal.room_bytes ≡ 2 * limit = ap (λ (j : JournalView). j.room_bytes) blank in let low = few in
+          omega (arith, room, low));
       most = (let most = may.most in let low = few in omega (arith, most, low));
     }
 
@@ -244,8 +251,11 @@ module _ {P C S : Type 0} (p : PortGhosts P) (c : CallerGhosts C S) (x : CorePar
       placed = record {
         all = seated.all;
         there = λ n place at.
-            let has = seated.there n place at in
-            (c.script has.seat.caller, map_at (script_of c) seats place has.seat has.here ∙ ap (λ (k : ℕ). Some (k, c.script has.seat.caller)) has.number_is);
+            let has = seated.there n place at in (
+              c.script has.seat.caller,
+              map_at (script_of c) seats place has.seat has.here
+                  ∙ ap (λ (k : ℕ). Some (k, c.script has.seat.caller)) has.number_is,
+            );
         named = λ place n k at.
             let s = map_from (script_of c) seats place (n, k) at in
             subst (λ (j : ℕ). slice_get x.places.items j ≡ Some (Some place)) (ap (λ (y : ℕ × S). y.0) s.2) (seated.named place s.0 s.1);

@@ -30,7 +30,8 @@ use Rattle.bus_core.proofs.Kept.{fair, place-here, seated-here, asks-here, wired
 use Rattle.bus_core.proofs.Locks.{ended-place}
 use Rattle.bus_laws.proofs.past.StandsFacts.{over_ends}
 
-module _ {P C S : Type 0} (g : PortGhosts P) (c : CallerGhosts C S) (x : CoreParts P C) (kept : IsKept g c x) (place : ℕ) (s : Seat C) (here : slice_get x.seats.items place ≡ Some s)
+module _ {P C S : Type 0} (g : PortGhosts P) (c : CallerGhosts C S) (x : CoreParts P C) (kept : IsKept g c x) (place : ℕ) (s : Seat C)
+    (here : slice_get x.seats.items place ≡ Some s)
     (errno : Errno) (first : next_of x.locks (walk_left x.board.now s) ≡ Some (Settle (Some errno))) where
   abbrev run : Run
   run = run_of g c x
@@ -56,15 +57,19 @@ module _ {P C S : Type 0} (g : PortGhosts P) (c : CallerGhosts C S) (x : CorePar
   pub may-refuse : MayRefuse c x.board.now (roots_of x.ports.items) errno x.journal s
   may-refuse = record {
     seated = seated-here g c x kept place s here;
-    lone = (settle-lone run whole kept.kept place p at (Some errno) first).0.is ∙ ap (λ (o : Option Errno). Then (Settle o) plain (λ y. Ends)) (sym (settle-errs run whole kept.kept place p at (Some errno) first));
-    asked = sym (asks-here g c x kept place s here (c.taken s.caller)) ∙ going-asks run whole kept.kept place p at (Settle (Some errno)) first;
+    lone = (settle-lone run whole kept.kept place p at (Some errno) first).0.is
+        ∙ ap (λ (o : Option Errno). Then (Settle o) plain (λ y. Ends))
+        (sym (settle-errs run whole kept.kept place p at (Some errno) first));
+    asked = sym (asks-here g c x kept place s here (c.taken s.caller))
+        ∙ going-asks run whole kept.kept place p at (Settle (Some errno)) first;
     wired = λ rs t. wired-here g c x kept place s here rs t;
     room = room-one run whole kept.kept place p at (Settle (Some errno)) first;
   }
 
   -- IT WAS REFUSED
   module _ (new : CoreParts P C) (t : Seat C) (same_board : new.board ≡ x.board) (seats : new.seats.items ≡ set x.seats.items place t)
-      (refused : IsRefusedIn c x.board.now (roots_of x.ports.items) errno x.journal new.journal s t) (locks : new.locks ≡ x.locks) (ports : new.ports ≡ x.ports) (start : new.start ≡ x.start) (places : new.places ≡ x.places) where
+      (refused : IsRefusedIn c x.board.now (roots_of x.ports.items) errno x.journal new.journal s t) (locks : new.locks ≡ x.locks)
+      (ports : new.ports ≡ x.ports) (start : new.start ≡ x.start) (places : new.places ≡ x.places) where
     abbrev replies : List Reply
     replies = c.taken s.caller ++ answer.Err errno ∷ []
 
@@ -80,7 +85,8 @@ module _ {P C S : Type 0} (g : PortGhosts P) (c : CallerGhosts C S) (x : CorePar
     -- A STEP of a lone settle
     stepped : (IsTrue g.tells → (w : Whole) × (w.past ≡ settle ∷ reverse x.journal.entries) × CoreKept run w) → HasStepped g c place x new
     stepped told =
-        let count : length new.journal.entries ≡ length x.journal.entries + 1 = ap length refused.entries ∙ length-append x.journal.entries (settle ∷ []) in
+        let count : length new.journal.entries ≡ length x.journal.entries + 1 = ap length refused.entries
+        ∙ length-append x.journal.entries (settle ∷ []) in
         let room = refused.room in
         record {
           board = same_board;
@@ -96,15 +102,19 @@ module _ {P C S : Type 0} (g : PortGhosts P) (c : CallerGhosts C S) (x : CorePar
               record {
                 turn = record { caller = s.number; entries = settle ∷ [] };
                 own = ap (λ (y : Seat C). y.number) same;
-                comes = turn-lone x.board.now MOST_CALLERS run.asks (reverse x.journal.entries) settle (subst (λ (es : List Entry). IsStepwise x.board.now MOST_CALLERS run.asks es) w.1 (w.2.told tell).stepwise)
+                comes = turn-lone x.board.now MOST_CALLERS run.asks (reverse x.journal.entries) settle
+                    (subst (λ (es : List Entry). IsStepwise x.board.now MOST_CALLERS run.asks es) w.1 (w.2.told tell).stepwise)
                     (lone-due run whole kept.kept tell place p at lone.0);
                 entries = refused.entries;
               };
         }
 
-    by-whole : (q : Place) → place_of c x.board.now t ≡ q → (ks : List LockId) (m : ℕ) → CoreKept run (record (with_place whole place q ks m) { past = settle ∷ whole.past; room = new.journal.room }) → IsKept g c new × HasStepped g c place x new
+    by-whole : (q : Place) → place_of c x.board.now t ≡ q → (ks : List LockId) (m : ℕ)
+        → CoreKept run (record (with_place whole place q ks m) { past = settle ∷ whole.past; room = new.journal.room })
+        → IsKept g c new × HasStepped g c place x new
     by-whole q is ks m core = (
-      kept-whole g c x kept place s here new t same_board seats refused.ended.number refused.ended.handed.script roots refused.seated _ core past refl refused.room_bytes (ap (set whole.places place) is) locks
+      kept-whole g c x kept place s here new t same_board seats refused.ended.number refused.ended.handed.script roots refused.seated _ core
+          past refl refused.room_bytes (ap (set whole.places place) is) locks
           (ap (λ (y : _). root_ports g y.items) ports),
       stepped (λ tell. (record (with_place whole place q ks m) { past = settle ∷ whole.past; room = new.journal.room }, refl, core)),
     )
@@ -113,14 +123,21 @@ module _ {P C S : Type 0} (g : PortGhosts P) (c : CallerGhosts C S) (x : CorePar
     refused-kept = by (c.asked (c.script t.caller) (c.taken t.caller)) refl
       where
         asks : c.asked (c.script t.caller) (c.taken t.caller) ≡ run.asks s.number replies
-        asks = ap (λ (z : S). c.asked z (c.taken t.caller)) refused.ended.handed.script ∙ ap (λ (rs : List Reply). c.asked (c.script s.caller) rs) refused.ended.handed.taken ∙ sym (asks-here g c x kept place s here replies)
+        asks = ap (λ (z : S). c.asked z (c.taken t.caller)) refused.ended.handed.script
+            ∙ ap (λ (rs : List Reply). c.asked (c.script s.caller) rs) refused.ended.handed.taken
+            ∙ sym (asks-here g c x kept place s here replies)
 
         by : (o : Option TransferView) → c.asked (c.script t.caller) (c.taken t.caller) ≡ o → IsKept g c new × HasStepped g c place x new
         by (Some y) is =
             by-whole (begun_with p replies y (walk_for x.board.now y))
-            (ended-place c x.board.now (answer.Err errno) s t refused.ended replies refl y (walk_for x.board.now y) (refused.ended.loaded.some y is).0 (refused.ended.loaded.some y is).1) [] (n - 1)
-            (core-lone run (fair g c x kept) whole kept.kept place p ls n (stands-here run whole kept.kept place p at) new.journal.room (Some errno) first (sym refused.room) (answer.Err errno) refl y (sym asks ∙ is))
+            (ended-place c x.board.now (answer.Err errno) s t refused.ended replies refl y (walk_for x.board.now y)
+            (refused.ended.loaded.some y is).0 (refused.ended.loaded.some y is).1) [] (n - 1)
+            (core-lone run (fair g c x kept) whole kept.kept place p ls n (stands-here run whole kept.kept place p at) new.journal.room
+            (Some errno) first (sym refused.room) (answer.Err errno) refl y (sym asks ∙ is))
         by None is =
             by-whole (begun_with p replies p.transfer Ends)
-            (ended-place c x.board.now (answer.Err errno) s t refused.ended replies refl p.transfer Ends (refused.ended.stays is) (over_ends (walk_left x.board.now t) (refused.ended.loaded.none is))) [] (n - 1)
-            (core-lone-finished run (fair g c x kept) whole kept.kept place p ls n (stands-here run whole kept.kept place p at) new.journal.room (Some errno) first (sym refused.room) (answer.Err errno) refl (sym asks ∙ is))
+            (ended-place c x.board.now (answer.Err errno) s t refused.ended replies refl p.transfer Ends (refused.ended.stays is)
+            (over_ends (walk_left x.board.now t) (refused.ended.loaded.none is))) [] (n - 1)
+            (core-lone-finished run (fair g c x kept) whole kept.kept place p ls n
+            (stands-here run whole kept.kept place p at) new.journal.room (Some errno) first (sym refused.room) (answer.Err errno) refl
+            (sym asks ∙ is))

@@ -43,8 +43,10 @@ still_going v (Then act note next) out h = refl
 module _ {C : Type 0} (b : BoardView) (v : LocksView) (s m t : Seat C) where
   -- it counts a message, and goes on
   pub heard : (next : NextMsg) (reading : Bool) (bytes : List ℕ) (e : End)
-      → m ≡ record s { sent = m.sent; written = m.written; replies = m.replies; cut = message_cut next.purpose next.part e } → t ≡ record m { walk = t.walk }
-      → m.sent ≡ (if is_call_through next.purpose e then s.sent + 1 else s.sent) → m.replies ≡ record s.replies { got = got_heard next.purpose reading bytes s.replies.got }
+      → m ≡ record s { sent = m.sent; written = m.written; replies = m.replies; cut = message_cut next.purpose next.part e }
+      → t ≡ record m { walk = t.walk }
+      → m.sent ≡ (if is_call_through next.purpose e then s.sent + 1 else s.sent)
+      → m.replies ≡ record s.replies { got = got_heard next.purpose reading bytes s.replies.got }
       → m.written ≡ sum_by written_of (take m.sent m.transfer.msgs)
       → walk_left b t ≡ behind_of v (walk_left b m) (Sent e bytes) → t.walk.route ≡ m.walk.route → HasHeard b v next reading bytes e s t
   heard next reading bytes e counted went gone got wrote walk route =
@@ -76,27 +78,33 @@ module _ {C : Type 0} (b : BoardView) (v : LocksView) (s m t : Seat C) where
       })
 
 -- the entry of a settle, of a seat that has decided
-pub settle_entry : {C : Type 0} (s m : Seat C) (d : Option Decided) (q r : Reply) → m ≡ record s { replies = m.replies; decided = d } → q ≡ r
+pub settle_entry : {C : Type 0} (s m : Seat C) (d : Option Decided) (q r : Reply) → m ≡ record s { replies = m.replies; decided = d }
+    → q ≡ r
     → entry.Settle m.number q m.cut ≡ entry.Settle s.number r s.cut
-settle_entry {C} s m d q r decides same = ap (λ (x : Seat C). entry.Settle x.number q x.cut) decides ∙ ap (λ (x : Reply). entry.Settle s.number x s.cut) same
+settle_entry {C} s m d q r decides same = ap (λ (x : Seat C). entry.Settle x.number q x.cut) decides
+    ∙ ap (λ (x : Reply). entry.Settle s.number x s.cut) same
 
-module _ {C S : Type 0} (c : CallerGhosts C S) (b : BoardView) (v : LocksView) (roots : List ℕ) (s t : Seat C) (seated : IsSeated c b roots s) where
+module _ {C S : Type 0} (c : CallerGhosts C S) (b : BoardView) (v : LocksView) (roots : List ℕ) (s t : Seat C)
+    (seated : IsSeated c b roots s) where
   -- a seat stays seated behind any step whose counts are those of its transfer
   seated_behind : (out : ActOutcome)
       → t ≡ record s { walk = t.walk; sent = t.sent; written = t.written; replies = t.replies; decided = t.decided; cut = t.cut }
       → t.written ≡ sum_by written_of (take t.sent t.transfer.msgs) → t.sent ≤ length t.transfer.msgs
       → walk_left b t ≡ behind_of v (walk_left b s) out → t.walk.route ≡ s.walk.route → IsSeated c b roots t
   seated_behind out same wrote within walk route =
-      subst (λ (x : Seat C). x.written ≡ sum_by written_of (take x.sent x.transfer.msgs) → x.sent ≤ length x.transfer.msgs → IsSeated c b roots x) (sym same)
+      subst (λ (x : Seat C). x.written ≡ sum_by written_of (take x.sent x.transfer.msgs) → x.sent ≤ length x.transfer.msgs
+      → IsSeated c b roots x) (sym same)
       (λ wrote within. record {
         counted = seated.counted ∙ ap (λ (x : RouteView). x.count) (sym route);
         wrote = wrote;
         within = within;
-        plugged = λ on bus. seated.plugged (still_going (slots_of (seen_of v)) (walk_left b s) out (ap is_over (sym walk ∙ ap (walk_left b) same) ∙ on)) bus;
+        plugged = λ on bus. seated.plugged
+            (still_going (slots_of (seen_of v)) (walk_left b s) out (ap is_over (sym walk ∙ ap (walk_left b) same) ∙ on)) bus;
         there = λ on.
             let tree = sym walk ∙ ap (walk_left b) same in
             subst (λ (w : WalkTree). (s.transfer.bus < buses b) ⊎ IsLone b w) tree
-            (there-behind b v s.transfer.bus (walk_left b s) out (seated.there (still_going (slots_of (seen_of v)) (walk_left b s) out (ap is_over tree ∙ on))) (ap is_over tree ∙ on));
+            (there-behind b v s.transfer.bus (walk_left b s) out
+            (seated.there (still_going (slots_of (seen_of v)) (walk_left b s) out (ap is_over tree ∙ on))) (ap is_over tree ∙ on));
         spare = seated.spare;
       }) wrote within
 
@@ -105,7 +113,14 @@ module _ {C S : Type 0} (c : CallerGhosts C S) (b : BoardView) (v : LocksView) (
       → walk_left b t ≡ behind_of v (walk_left b s) out → t.walk.route ≡ s.walk.route → IsSeated c b roots t
   seated_same out same walk route =
       seated_behind out
-      (subst (λ (x : Seat C). x ≡ record s { walk = x.walk; sent = x.sent; written = x.written; replies = x.replies; decided = x.decided; cut = x.cut }) (sym same) refl)
+      (subst (λ (x : Seat C). x ≡ record s {
+        walk = x.walk;
+        sent = x.sent;
+        written = x.written;
+        replies = x.replies;
+        decided = x.decided;
+        cut = x.cut;
+      }) (sym same) refl)
       (subst (λ (x : Seat C). x.written ≡ sum_by written_of (take x.sent x.transfer.msgs)) (sym same) seated.wrote)
       (subst (λ (x : Seat C). x.sent ≤ length x.transfer.msgs) (sym same) seated.within)
       walk route
@@ -124,12 +139,17 @@ module _ {C S : Type 0} (c : CallerGhosts C S) (b : BoardView) (v : LocksView) (
 
 module _ {C S : Type 0} (c : CallerGhosts C S) (b : BoardView) (v : LocksView) (roots : List ℕ) (s m t : Seat C) where
   -- what has ended the walk behind a step has ended it for the caller
-  ended_from : (r : Reply) (k : Cut) → HasEnded c b r m.cut m t → m.number ≡ s.number → m.caller ≡ s.caller → m.cut ≡ k → m.transfer ≡ s.transfer → HasEnded c b r k s t
+  ended_from : (r : Reply) (k : Cut) → HasEnded c b r m.cut m t → m.number ≡ s.number → m.caller ≡ s.caller → m.cut ≡ k
+      → m.transfer ≡ s.transfer → HasEnded c b r k s t
   ended_from r k h number caller cut transfer =
       record {
         number = h.number ∙ number;
         cut_is = h.cut_is ∙ cut;
-        handed = record { script = h.handed.script ∙ ap c.script caller; taken = h.handed.taken ∙ ap (λ (x : C). c.taken x ++ r ∷ []) caller };
+        handed = record {
+          script = h.handed.script ∙ ap c.script caller;
+          taken = h.handed.taken
+              ∙ ap (λ (x : C). c.taken x ++ r ∷ []) caller;
+        };
         loaded = h.loaded;
         stays = λ none. h.stays none ∙ transfer;
       }
@@ -150,7 +170,8 @@ module _ {C S : Type 0} (c : CallerGhosts C S) (b : BoardView) (v : LocksView) (
           on = λ going. subst (λ (x : Seat C). WentOn b v Passed cut_at.No s x) (sym (on (ap is_over passed.walk ∙ going))) passed;
           ended = λ over r owed. ended_from r cut_at.No
               (ended (ap is_over passed.walk ∙ over) r (ap (λ (x : Seat C). owed_by x.decided x.replies) passed.same ∙ owed))
-              (ap (λ (x : Seat C). x.number) passed.same) (ap (λ (x : Seat C). x.caller) passed.same) (ap (λ (x : Seat C). x.cut) passed.same) (ap (λ (x : Seat C). x.transfer) passed.same);
+              (ap (λ (x : Seat C). x.number) passed.same) (ap (λ (x : Seat C). x.caller) passed.same)
+              (ap (λ (x : Seat C). x.cut) passed.same) (ap (λ (x : Seat C). x.transfer) passed.same);
           seated = seated;
         }
 
@@ -164,7 +185,8 @@ module _ {C S : Type 0} (c : CallerGhosts C S) (b : BoardView) (v : LocksView) (
 
     pub may_end_refused : MayEnd c b roots m
     may_end_refused =
-        subst (λ (x : Seat C). ((r : Reply) → owed_by x.decided x.replies ≡ r ∷ [] → Fits s.transfer r) → IsSeated c b roots x → MayEnd c b roots x) (sym on.same)
+        subst (λ (x : Seat C). ((r : Reply) → owed_by x.decided x.replies ≡ r ∷ [] → Fits s.transfer r) → IsSeated c b roots x
+        → MayEnd c b roots x) (sym on.same)
         (λ fits seated. record { seated = seated; fits = λ r owed. (may.asked, fits r owed); wired = may.wired })
         fits (seated_settled c b v roots s m may.seated (Some errno) on)
 
@@ -173,4 +195,5 @@ module _ {C S : Type 0} (c : CallerGhosts C S) (b : BoardView) (v : LocksView) (
     refused ended =
         ended_from (reply.Err errno) cut_at.No
         (ended (ap is_over (on.walk ∙ ap (λ (w : WalkTree). behind_of v w Passed) may.lone)) (reply.Err errno) on.owed)
-        (ap (λ (x : Seat C). x.number) on.same) (ap (λ (x : Seat C). x.caller) on.same) (ap (λ (x : Seat C). x.cut) on.same) (ap (λ (x : Seat C). x.transfer) on.same)
+        (ap (λ (x : Seat C). x.number) on.same) (ap (λ (x : Seat C). x.caller) on.same) (ap (λ (x : Seat C). x.cut) on.same)
+        (ap (λ (x : Seat C). x.transfer) on.same)

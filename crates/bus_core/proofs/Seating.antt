@@ -19,7 +19,8 @@ use Rattle.i2c_base.proofs.ListLemmas.{set_elsewhere}
 use Rattle.i2c_base.proofs.ListLemmas.{set_here}
 
 -- a list with one more at its end
-push_at : {X : Type 0} (xs : List X) (y z : X) (i : ℕ) → slice_get (xs ++ y ∷ []) i ≡ Some z → ((i ≡ length xs) × (y ≡ z)) ⊎ (slice_get xs i ≡ Some z)
+push_at : {X : Type 0} (xs : List X) (y z : X) (i : ℕ) → slice_get (xs ++ y ∷ []) i ≡ Some z
+    → ((i ≡ length xs) × (y ≡ z)) ⊎ (slice_get xs i ≡ Some z)
 push_at [] y z zero h = inl (refl, (let f : Some y ≡ Some z = h in cc))
 push_at [] y z (suc i) h = absurd (let f : None ≡ Some z = h in cc)
 push_at (x ∷ xs) y z zero h = inr h
@@ -36,7 +37,8 @@ push_here (x ∷ xs) ys y = push_here xs ys y
 
 -- the new one at a place within a list
 -- two lists of one length whose places are the same
-same_lists : {X : Type 0} (xs ys : List X) → length xs ≡ length ys → ((i : ℕ) (x y : X) → slice_get xs i ≡ Some x → slice_get ys i ≡ Some y → x ≡ y) → xs ≡ ys
+same_lists : {X : Type 0} (xs ys : List X) → length xs ≡ length ys
+    → ((i : ℕ) (x y : X) → slice_get xs i ≡ Some x → slice_get ys i ≡ Some y → x ≡ y) → xs ≡ ys
 same_lists [] [] e each = refl
 same_lists [] (y ∷ ys) e each = absurd (omega (arith, e))
 same_lists (x ∷ xs) [] e each = absurd (omega (arith, e))
@@ -52,7 +54,8 @@ none_at (suc n) (suc i) x h = none_at n i x h
 
 module _ {C S : Type 0} (c : CallerGhosts C S) (b : BoardView) (roots : List ℕ) (callers : List (ℕ × C)) where
   -- before the first
-  pub seated-none : (seats : List (Seat C)) (places : List (Option ℕ)) → seats ≡ [] → places ≡ replicate MOST_CALLERS None → AreSeated c b roots callers 0 seats places
+  pub seated-none : (seats : List (Seat C)) (places : List (Option ℕ)) → seats ≡ [] → places ≡ replicate MOST_CALLERS None
+      → AreSeated c b roots callers 0 seats places
   seated-none seats places none blank =
       subst (λ (ss : List (Seat C)). AreSeated c b roots callers 0 ss places) (sym none)
       (subst (λ (ps : List (Option ℕ)). AreSeated c b roots callers 0 [] ps) (sym blank)
@@ -81,7 +84,8 @@ module _ {C S : Type 0} (c : CallerGhosts C S) (b : BoardView) (roots : List ℕ
             let of = seated.fresh place has.seat has.here in
             let number : of.of.0 ≡ x.0 = sym of.fresh.number_is ∙ has.number_is in
             let same : place ≡ count = distinct place count x.0
-            (subst (λ (n : ℕ). slice_get (numbers_in callers) place ≡ Some n) number (map_at (λ (y : ℕ × C). y.0) callers place of.of of.here))
+            (subst (λ (n : ℕ). slice_get (numbers_in callers) place ≡ Some n) number
+            (map_at (λ (y : ℕ × C). y.0) callers place of.of of.here))
             (map_at (λ (y : ℕ × C). y.0) callers count x here) in
             let within : place < length seats = slice_get_within seats place has.seat has.here in
             let counted = seated.counted in
@@ -92,12 +96,14 @@ module _ {C S : Type 0} (c : CallerGhosts C S) (b : BoardView) (roots : List ℕ
 
     pub room-for-one : count < MOST_CALLERS
     room-for-one =
-        let one : without_place (get_or places x.0 None) ≤ sum_by without_place places = get_or-le-sum_by without_place places x.0 None low in
+        let one : without_place (get_or places x.0 None) ≤ sum_by without_place places =
+        get_or-le-sum_by without_place places x.0 None low in
         let is = found in
         let left = seated.left in
         omega (arith, one, is, left)
 
-    pub seated-one : (s : Seat C) → IsFreshSeat c b roots x.0 x.1 s → AreSeated c b roots callers (count + 1) (seats ++ s ∷ []) (set places x.0 (Some count))
+    pub seated-one : (s : Seat C) → IsFreshSeat c b roots x.0 x.1 s
+        → AreSeated c b roots callers (count + 1) (seats ++ s ∷ []) (set places x.0 (Some count))
     seated-one s fresh =
         let counted = seated.counted in
         record {
@@ -117,7 +123,8 @@ module _ {C S : Type 0} (c : CallerGhosts C S) (b : BoardView) (roots : List ℕ
                 | inr old ↦ (let named : slice_get places t.number ≡ Some (Some i) = seated.named i t old in
                     let none = unplaced in
                     set_elsewhere places x.0 t.number (Some count)
-                    (λ same. let f : Some (Some i) ≡ Some None = sym named ∙ ap (slice_get places) same ∙ none in let g : Some i ≡ None = cc in cc)
+                    (λ same. let f : Some (Some i) ≡ Some None = sym named ∙ ap (slice_get places) same ∙ none in
+                    let g : Some i ≡ None = cc in cc)
                     ∙ named)
               ];
           there = λ n place at.
@@ -133,21 +140,24 @@ module _ {C S : Type 0} (c : CallerGhosts C S) (b : BoardView) (roots : List ℕ
                     record { seat = has.seat; here = push_keeps seats (s ∷ []) has.seat place has.here; number_is = has.number_is })
               ];
           left =
-              let sums : sum_by without_place (set places x.0 (Some count)) + without_place (get_or places x.0 None) ≡ sum_by without_place places + 0 = sum_by-set without_place places x.0 (Some count) None low in
+              let sums : sum_by without_place (set places x.0 (Some count)) + without_place
+              (get_or places x.0 None) ≡ sum_by without_place places + 0 = sum_by-set without_place places x.0 (Some count) None low in
               let is = found in
               let left = seated.left in
               omega (arith, sums, is, left);
         }
 
   -- behind the last their scripts are those of the callers
-  pub seated-all : (seats : List (Seat C)) (places : List (Option ℕ)) → AreSeated c b roots callers (length callers) seats places → scripts_of c seats ≡ callers_scripts c callers
+  pub seated-all : (seats : List (Seat C)) (places : List (Option ℕ)) → AreSeated c b roots callers (length callers) seats places
+      → scripts_of c seats ≡ callers_scripts c callers
   seated-all seats places seated =
       same_lists (scripts_of c seats) (callers_scripts c callers)
       (length-map seats (script_of c) ∙ seated.counted ∙ sym (length-map callers (λ (x : ℕ × C). (x.0, c.script x.1))))
       (λ i a z at to.
       let s = map_from (script_of c) seats i a at in
       let of = seated.fresh i s.0 s.1 in
-      let script : slice_get (callers_scripts c callers) i ≡ Some (of.of.0, c.script of.of.1) = map_at (λ (x : ℕ × C). (x.0, c.script x.1)) callers i of.of of.here in
+      let script : slice_get (callers_scripts c callers) i ≡ Some (of.of.0, c.script of.of.1) = map_at
+      (λ (x : ℕ × C). (x.0, c.script x.1)) callers i of.of of.here in
       let f : Some (of.of.0, c.script of.of.1) ≡ Some z = sym script ∙ to in
       let here : (of.of.0, c.script of.of.1) ≡ z = cc in
       let number : s.0.number ≡ of.of.0 = of.fresh.number_is in

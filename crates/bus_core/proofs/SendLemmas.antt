@@ -62,8 +62,10 @@ seat-send C sends = search (sendable, crosses, transfer-send, walk-send, replies
 parts-send : (a : NamedLft) (P C : RattleType) → IsSend P → IsSend C → IsSend (parts.the_field a P C).row
 parts-send a P C ports callers = search (sendable, crosses, seat-send, journal-send, locks-send, accepted-sync) depth 60 fits 100000
 
-core_inside-send : (a : NamedLft) (P C S : RattleType) (g : port.Ghosts P.Denot) (c : caller.Ghosts C.Denot S.Denot) → IsSend P → IsSend C → IsSend (core_inside.the_row a P C S g c)
+core_inside-send : (a : NamedLft) (P C S : RattleType) (g : port.Ghosts P.Denot) (c : caller.Ghosts C.Denot S.Denot) → IsSend P → IsSend C
+    → IsSend (core_inside.the_row a P C S g c)
 core_inside-send a P C S g c ports callers = search (sendable, crosses, parts-send) depth 60 fits 100000
 
-pub core-send : (a : NamedLft) (P C S : RattleType) (g : port.Ghosts P.Denot) (c : caller.Ghosts C.Denot S.Denot) → IsSend P → IsSend C → IsSend (core.the_row a P C S g c)
+pub core-send : (a : NamedLft) (P C S : RattleType) (g : port.Ghosts P.Denot) (c : caller.Ghosts C.Denot S.Denot) → IsSend P → IsSend C
+    → IsSend (core.the_row a P C S g c)
 core-send a P C S g c ports callers = view_send (core_inside.the_row a P C S g c) _ _ _ _ (core_inside-send a P C S g c ports callers)

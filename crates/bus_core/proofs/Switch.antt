@@ -59,7 +59,8 @@ use Rattle.bus_core.proofs.Stepped.{roots-stay, stepped-two}
 use Rattle.i2c_base.specs.Need.{bytes_given}
 
 -- a gpio mux is switched by a line
-by-line : (o : Option MuxSpec) → unwrap_or (option_map (λ (m : MuxSpec). Some m.kind) o) None ≡ Some Gpio → unwrap_or (option_map (λ (m : MuxSpec). (facts_of m.kind).by_line) o) false ≡ true
+by-line : (o : Option MuxSpec) → unwrap_or (option_map (λ (m : MuxSpec). Some m.kind) o) None ≡ Some Gpio
+    → unwrap_or (option_map (λ (m : MuxSpec). (facts_of m.kind).by_line) o) false ≡ true
 by-line None e = absurd (let f : None ≡ Some Gpio = e in cc)
 by-line (Some m) e = (let f : Some m.kind ≡ Some Gpio = e in let is : m.kind ≡ Gpio = cc in ap (λ (k : MuxKind). (facts_of k).by_line) is)
 
@@ -72,10 +73,12 @@ line-in b w m level is has = record {
 }
 
 -- an error has no bytes
-no-bytes : (verdict : Option Errno) (err : Errno) (t : Option TransferView) (got : List ℕ) → verdict ≡ Some err → length (bytes_given (reply_by verdict t got)) ≡ 0
+no-bytes : (verdict : Option Errno) (err : Errno) (t : Option TransferView) (got : List ℕ) → verdict ≡ Some err
+    → length (bytes_given (reply_by verdict t got)) ≡ 0
 no-bytes verdict err t got is = ap (λ (o : Option Errno). length (bytes_given (reply_by o t got))) is
 
-module _ {P C S : Type 0} (g : PortGhosts P) (c : CallerGhosts C S) (x : CoreParts P C) (kept : IsKept g c x) (place : ℕ) (s : Seat C) (here : slice_get x.seats.items place ≡ Some s)
+module _ {P C S : Type 0} (g : PortGhosts P) (c : CallerGhosts C S) (x : CoreParts P C) (kept : IsKept g c x) (place : ℕ) (s : Seat C)
+    (here : slice_get x.seats.items place ≡ Some s)
     (job : Job) (first : next_of x.locks (walk_left x.board.now s) ≡ Some (Shift job)) where
   abbrev run : Run
   run = run_of g c x
@@ -104,7 +107,8 @@ module _ {P C S : Type 0} (g : PortGhosts P) (c : CallerGhosts C S) (x : CorePar
   on-bus : s.transfer.bus < buses x.board.now
   on-bus = elim (its.there goes) [
     | inl low ↦ low
-    | inr lone ↦ absurd (let l = lone_act x.board.now (slots_of (seen_of x.locks)) (walk_left x.board.now s) lone (Shift job) first in let f : Shift job ≡ Settle l.0 = l.1 in cc)
+    | inr lone ↦ absurd (let l = lone_act x.board.now (slots_of (seen_of x.locks)) (walk_left x.board.now s) lone (Shift job) first in
+        let f : Shift job ≡ Settle l.0 = l.1 in cc)
   ]
 
   job-of : IsJobOf x.board.now s.transfer job
@@ -121,16 +125,19 @@ module _ {P C S : Type 0} (g : PortGhosts P) (c : CallerGhosts C S) (x : CorePar
   line-there tell =
       let f = fair g c x kept in
       let stands = past-stands x.board.now f.tree f.plain f.lines run.asks f.sends MOST_CALLERS whole.past (kept.kept.told tell).stepwise in
-      let has = next-line x.board.now f.tree f.lines run.asks f.sends (now x.board.now run.asks whole.past) stands s.number job (next-same run whole kept.kept tell place p at ∙ first) in
+      let has = next-line x.board.now f.tree f.lines run.asks f.sends (now x.board.now run.asks whole.past) stands s.number job
+      (next-same run whole kept.kept tell place p at ∙ first) in
       let world = ((kept.kept.told tell).ports_told s.port plug.0 plug.1).world in
       let board = ap (λ (w : World). w.board) world ∙ stands.told.board plug.0.root in
       let root = ap (λ (w : World). w.root) world ∙ stands.told.root plug.0.root in
-      line-in x.board.now plug.0.world (line_mux job) (line_level job) board (subst (λ (r : ℕ). HasLineIn x.board.now r (line_mux job) (line_level job)) (sym (root ∙ rooted)) has)
+      line-in x.board.now plug.0.world (line_mux job) (line_level job) board
+      (subst (λ (r : ℕ). HasLineIn x.board.now r (line_mux job) (line_level job)) (sym (root ∙ rooted)) has)
 
   pub may-shift : (mux level : ℕ) → line_mux job ≡ mux → line_level job ≡ level → MayShift g.tells mux level plug.0
   may-shift mux level of_mux to_level = record {
     idle = line-wants run whole kept.kept place p at job first s.port plug.0 plug.1 rooted;
-    has = λ tell. subst (λ (l : ℕ). HasLine plug.0.world mux l) to_level (subst (λ (m : ℕ). HasLine plug.0.world m (line_level job)) of_mux (line-there tell));
+    has = λ tell. subst (λ (l : ℕ). HasLine plug.0.world mux l) to_level
+        (subst (λ (m : ℕ). HasLine plug.0.world m (line_level job)) of_mux (line-there tell));
     room = λ tell. (let room = log-line run whole kept.kept place p at job first tell s.port plug.0 plug.1 in omega (arith, room));
   }
 
@@ -146,9 +153,14 @@ module _ {P C S : Type 0} (g : PortGhosts P) (c : CallerGhosts C S) (x : CorePar
         let has = held-wants run whole kept.kept place p at own.0 own.1 in
         let sends = shift-wants run whole kept.kept place p at job first in
         updates-held x.locks s.number (updates_of x.board.now x.locks (Lined failed) s)
-        (on-after (holds_mux x.locks s.number) (next_of x.locks p.tree) (first_note (seen (slots_of (seen_of x.locks)) p.tree)) (Lined failed)
-        (subst (λ (o : Option Act). MayMark (holds_mux x.locks s.number) o (first_note (seen (slots_of (seen_of x.locks)) p.tree))) (sym first)
-        (switched-on x.locks s.number own.0 has x.board.now job sends.own, marks-on x.locks s.number own.0 has x.board.now (first_note (seen (slots_of (seen_of x.locks)) p.tree)).marks sends.marked)))
+        (on-after (holds_mux x.locks s.number) (next_of x.locks p.tree) (first_note (seen (slots_of (seen_of x.locks)) p.tree))
+        (Lined failed)
+        (subst (λ (o : Option Act). MayMark (holds_mux x.locks s.number) o (first_note (seen (slots_of (seen_of x.locks)) p.tree)))
+        (sym first) (
+          switched-on x.locks s.number own.0 has x.board.now job sends.own,
+          marks-on x.locks s.number own.0 has x.board.now
+              (first_note (seen (slots_of (seen_of x.locks)) p.tree)).marks sends.marked,
+        )))
 
     abbrev words : SeenView
     words = words_after (updates_of x.board.now x.locks (Lined failed) s) (seen_of x.locks)
@@ -159,7 +171,8 @@ module _ {P C S : Type 0} (g : PortGhosts P) (c : CallerGhosts C S) (x : CorePar
     abbrev behind : WalkTree
     behind = behind_of x.locks p.tree (Lined failed)
 
-    leaves : IsLeft run.board p.transfer (has_reply p.owed) p.sent behind ⊎ ((has_reply p.owed ≡ false) × (err : Errno) × IsDecided run.board p.transfer (Some err) behind)
+    leaves : IsLeft run.board p.transfer (has_reply p.owed) p.sent behind
+        ⊎ ((has_reply p.owed ≡ false) × (err : Errno) × IsDecided run.board p.transfer (Some err) behind)
     leaves = lined-leaves run whole kept.kept place p at job first failed
 
     module _ (t : Seat C) (went : WentOn x.board.now x.locks (Lined failed) (cut_of_line failed) s t) where
@@ -169,15 +182,21 @@ module _ {P C S : Type 0} (g : PortGhosts P) (c : CallerGhosts C S) (x : CorePar
       seated : IsSeated c x.board.now (roots_of x.ports.items) t
       seated = went-on-seated c x.board.now x.locks (roots_of x.ports.items) (Lined failed) (cut_of_line failed) s t went its goes on-bus
 
-      quiet : IsLeft run.board p.transfer (has_reply p.owed) p.sent behind → (verdict : Option Errno) → next_of locks2 (walk_left x.board.now t) ≡ Some (Settle verdict) → ⊥
-      quiet is verdict comes = quiet-next (slots_of words) behind is.quiet verdict (subst (λ (w : WalkTree). next_of locks2 w ≡ Some (Settle verdict)) went.walk comes)
+      quiet : IsLeft run.board p.transfer (has_reply p.owed) p.sent behind → (verdict : Option Errno)
+          → next_of locks2 (walk_left x.board.now t) ≡ Some (Settle verdict) → ⊥
+      quiet is verdict comes = quiet-next (slots_of words) behind is.quiet verdict
+          (subst (λ (w : WalkTree). next_of locks2 w ≡ Some (Settle verdict)) went.walk comes)
 
-      verdict-is : (err : Errno) → IsDecided run.board p.transfer (Some err) behind → (verdict : Option Errno) → next_of locks2 (walk_left x.board.now t) ≡ Some (Settle verdict) → verdict ≡ Some err
+      verdict-is : (err : Errno) → IsDecided run.board p.transfer (Some err) behind → (verdict : Option Errno)
+          → next_of locks2 (walk_left x.board.now t) ≡ Some (Settle verdict) → verdict ≡ Some err
       verdict-is err decides verdict comes =
-          let comes2 : next_of locks2 behind ≡ Some (Settle verdict) = subst (λ (w : WalkTree). next_of locks2 w ≡ Some (Settle verdict)) went.walk comes in
-          (let f : Some (Settle verdict) ≡ Some (Settle (Some err)) = sym comes2 ∙ (settle-first locks2 behind (Some err) decides.first).0 in cc)
+          let comes2 : next_of locks2 behind ≡ Some (Settle verdict) = subst
+          (λ (w : WalkTree). next_of locks2 w ≡ Some (Settle verdict)) went.walk comes in
+          (let f : Some (Settle verdict) ≡ Some (Settle (Some err)) = sym comes2
+          ∙ (settle-first locks2 behind (Some err) decides.first).0 in cc)
 
-      module _ (j : JournalView) (entries : j.entries ≡ x.journal.entries ++ line_entry p job failed ∷ []) (room : j.room + 1 ≡ x.journal.room) (room_bytes : j.room_bytes ≡ x.journal.room_bytes) where
+      module _ (j : JournalView) (entries : j.entries ≡ x.journal.entries ++ line_entry p job failed ∷ [])
+          (room : j.room + 1 ≡ x.journal.room) (room_bytes : j.room_bytes ≡ x.journal.room_bytes) where
         -- THE SETTLE may be made
         pub line-may-settle : MaySettle x.board.now locks2 j t
         line-may-settle = record {
@@ -185,13 +204,17 @@ module _ {P C S : Type 0} (g : PortGhosts P) (c : CallerGhosts C S) (x : CorePar
           room = λ verdict comes. elim leaves [
             | inl is ↦ absurd (quiet is verdict comes)
             | inr d ↦ (let two : 2 ≤ x.journal.room = room-line run whole kept.kept place p at job first d.0 in
-                let zeros : length (bytes_given (reply_by verdict (Some t.transfer) t.replies.got)) ≡ 0 = no-bytes verdict d.1 (Some t.transfer) t.replies.got (verdict-is d.1 d.2 verdict comes) in
+                let zeros : length (bytes_given (reply_by verdict (Some t.transfer) t.replies.got)) ≡ 0 = no-bytes verdict d.1
+                (Some t.transfer) t.replies.got (verdict-is d.1 d.2 verdict comes) in
                 (omega (arith, two, room), omega (arith, zeros)))
           ];
         }
 
-        module _ (new : CoreParts P C) (same_board : new.board ≡ x.board) (locks : new.locks ≡ locks2) (old : RootPort) (now : RootPort) (port_here : slice_get (root_ports g x.ports.items) s.port ≡ Some old)
-            (sockets : root_ports g new.ports.items ≡ set (root_ports g x.ports.items) s.port now) (shifted : Shifted g.tells (line_mux job) (line_level job) failed old now) (start : new.start ≡ x.start) (places : new.places ≡ x.places) where
+        module _ (new : CoreParts P C) (same_board : new.board ≡ x.board) (locks : new.locks ≡ locks2) (old : RootPort) (now : RootPort)
+            (port_here : slice_get (root_ports g x.ports.items) s.port ≡ Some old)
+            (sockets : root_ports g new.ports.items ≡ set (root_ports g x.ports.items) s.port now)
+            (shifted : Shifted g.tells (line_mux job) (line_level job) failed old now) (start : new.start ≡ x.start)
+            (places : new.places ≡ x.places) where
           roots : roots_of new.ports.items ≡ roots_of x.ports.items
           roots = roots-stay g x.ports.items new.ports.items s.port old now port_here sockets shifted.root
 
@@ -199,10 +222,14 @@ module _ {P C S : Type 0} (g : PortGhosts P) (c : CallerGhosts C S) (x : CorePar
           marked = record {
             all = length-applied (updates_of x.board.now x.locks (Lined failed) s) x.locks.marks ∙ kept.kept.table.marked;
             counted = length-applied_kept (updates_of x.board.now x.locks (Lined failed) s) x.locks.kept ∙ kept.kept.table.kept;
-            marked = λ y told. tells-after (next_of x.locks p.tree) (first_note (seen (slots_of (seen_of x.locks)) p.tree)) (Lined failed) y x.locks.marks told;
+            marked = λ y told. tells-after (next_of x.locks p.tree) (first_note (seen (slots_of (seen_of x.locks)) p.tree))
+                (Lined failed) y x.locks.marks told;
             kept = λ y told.
-                kept-after x.board.now (locks-here run whole kept.kept place p at).0 (next_of x.locks p.tree) (first_note (seen (slots_of (seen_of x.locks)) p.tree)) (Lined failed)
-                (subst (λ (o : Option Act). WantsIn x.board.now (locks-here run whole kept.kept place p at).0 o (first_note (seen (slots_of (seen_of x.locks)) p.tree))) (sym first) (shift-wants run whole kept.kept place p at job first))
+                kept-after x.board.now (locks-here run whole kept.kept place p at).0 (next_of x.locks p.tree)
+                (first_note (seen (slots_of (seen_of x.locks)) p.tree)) (Lined failed)
+                (subst (λ (o : Option Act). WantsIn x.board.now (locks-here run whole kept.kept place p at).0 o
+                (first_note (seen (slots_of (seen_of x.locks)) p.tree))) (sym first)
+                (shift-wants run whole kept.kept place p at job first))
                 y x.locks.kept kept.kept.table.kept told;
           }
 
@@ -210,7 +237,8 @@ module _ {P C S : Type 0} (g : PortGhosts P) (c : CallerGhosts C S) (x : CorePar
           is-shifted = record {
             first = first;
             port = port_here;
-            rooted = (let same : old ≡ plug.0 = (let f : Some old ≡ Some plug.0 = sym port_here ∙ plug.1 in cc) in ap (λ (z : RootPort). z.root) same ∙ rooted);
+            rooted = (let same : old ≡ plug.0 = (let f : Some old ≡ Some plug.0 = sym port_here ∙ plug.1 in cc) in
+                ap (λ (z : RootPort). z.root) same ∙ rooted);
             root = shifted.root;
             idle = shifted.idle;
             shows = λ tell. (shifted.world tell, shifted.log tell);
@@ -218,57 +246,79 @@ module _ {P C S : Type 0} (g : PortGhosts P) (c : CallerGhosts C S) (x : CorePar
           }
 
           -- NO SETTLE came
-          switched-quiet : new.seats.items ≡ set x.seats.items place t → new.journal ≡ j → ((verdict : Option Errno) → next_of locks2 (walk_left x.board.now t) ≡ Some (Settle verdict) → ⊥) → IsKept g c new × HasStepped g c place x new
+          switched-quiet : new.seats.items ≡ set x.seats.items place t → new.journal ≡ j
+              → ((verdict : Option Errno) → next_of locks2 (walk_left x.board.now t) ≡ Some (Settle verdict) → ⊥)
+              → IsKept g c new × HasStepped g c place x new
           switched-quiet seats journal undue = elim leaves [
             | inl is ↦ by is
-            | inr d ↦ absurd (undue (Some d.1) (subst (λ (w : WalkTree). next_of locks2 w ≡ Some (Settle (Some d.1))) (sym went.walk) (settle-first locks2 behind (Some d.1) d.2.first).0))
+            | inr d ↦ absurd (undue (Some d.1)
+                (subst (λ (w : WalkTree). next_of locks2 w ≡ Some (Settle (Some d.1))) (sym went.walk)
+                (settle-first locks2 behind (Some d.1) d.2.first).0))
           ]
             where
               by : IsLeft run.board p.transfer (has_reply p.owed) p.sent behind → IsKept g c new × HasStepped g c place x new
               by left =
-                  let core = core-lined run (fair g c x kept) whole kept.kept place p ls n (stands-here run whole kept.kept place p at) j.room job s.port old now failed words is-shifted left (sym room) in
+                  let core = core-lined run (fair g c x kept) whole kept.kept place p ls n
+                  (stands-here run whole kept.kept place p at) j.room job s.port old now failed words is-shifted left (sym room) in
                   let number : t.number ≡ s.number = ap (λ (y : Seat C). y.number) went.same in
                   let script : c.script t.caller ≡ c.script s.caller = ap (λ (y : Seat C). c.script y.caller) went.same in
                   let all = ap (λ (y : JournalView). y.entries) journal ∙ entries in (
                     kept-whole g c x kept place s here new t same_board seats number script roots seated _ core
-                        (ap reverse all ∙ reverse-append x.journal.entries (line_entry p job failed ∷ [])) (ap (λ (y : JournalView). y.room) journal) (ap (λ (y : JournalView). y.room_bytes) journal ∙ room_bytes)
+                        (ap reverse all ∙ reverse-append x.journal.entries (line_entry p job failed ∷ []))
+                        (ap (λ (y : JournalView). y.room) journal) (ap (λ (y : JournalView). y.room_bytes) journal ∙ room_bytes)
                         (ap (set whole.places place) place-is) locks sockets,
-                    stepped-one g c x kept place s here new t same_board seats number script roots start places (line_entry p job failed) all
+                    stepped-one g c x kept place s here new t same_board seats number script roots start places
+                        (line_entry p job failed) all
                         (ap (λ (y : JournalView). y.room + 1) journal ∙ room) refl refl (λ tell. (core.told tell).stepwise),
                   )
 
           -- THE SETTLE came
-          switched-settled : (verdict : Option Errno) (u : Seat C) → new.seats.items ≡ set x.seats.items place u → IsSettledIn x.board.now locks2 verdict j new.journal t u → IsKept g c new × HasStepped g c place x new
+          switched-settled : (verdict : Option Errno) (u : Seat C) → new.seats.items ≡ set x.seats.items place u
+              → IsSettledIn x.board.now locks2 verdict j new.journal t u → IsKept g c new × HasStepped g c place x new
           switched-settled verdict u seats made = elim leaves [
             | inl is ↦ absurd (quiet is verdict made.next)
             | inr d ↦ by d.0 d.1 d.2
           ]
             where
-              by : has_reply p.owed ≡ false → (err : Errno) → IsDecided run.board p.transfer (Some err) behind → IsKept g c new × HasStepped g c place x new
+              by : has_reply p.owed ≡ false → (err : Errno) → IsDecided run.board p.transfer (Some err) behind
+                  → IsKept g c new × HasStepped g c place x new
               by unsettled err decides =
                   let is : verdict ≡ Some err = verdict-is err decides verdict made.next in
-                  let reply : reply_by verdict (Some t.transfer) t.replies.got ≡ answer.Err err = ap (λ (o : Option Errno). reply_by o (Some t.transfer) t.replies.got) is in
+                  let reply : reply_by verdict (Some t.transfer) t.replies.got ≡ answer.Err err = ap
+                  (λ (o : Option Errno). reply_by o (Some t.transfer) t.replies.got) is in
                   let zeros = no-bytes verdict err (Some t.transfer) t.replies.got is in
-                  let first2 : first_act (walk_left x.board.now t) ≡ Some (Settle verdict) = subst (λ (w : WalkTree). first_act w ≡ Some (Settle verdict)) (sym went.walk) (decides.first ∙ ap (λ (o : Option Errno). Some (Settle o)) (sym is)) in
+                  let first2 : first_act (walk_left x.board.now t) ≡ Some (Settle verdict) = subst
+                  (λ (w : WalkTree). first_act w ≡ Some (Settle verdict)) (sym went.walk) (decides.first
+                  ∙ ap (λ (o : Option Errno). Some (Settle o)) (sym is)) in
                   let line = line_entry p job failed in
                   let settle = entry.Settle s.number (answer.Err err) (cut_told (line_entry p job failed)) in
                   let rooms : x.journal.room ≡ new.journal.room + 2 = (let a = made.room in omega (arith, a, room)) in
-                  let bytes : new.journal.room_bytes ≡ x.journal.room_bytes = (let a = made.room_bytes in omega (arith, a, zeros, room_bytes)) in
-                  let core = core-line-settled run (fair g c x kept) whole kept.kept place p ls n (stands-here run whole kept.kept place p at) new.journal.room job s.port old now failed words is-shifted err decides unsettled rooms in
-                  let number : u.number ≡ s.number = ap (λ (y : Seat C). y.number) made.settled.same ∙ ap (λ (y : Seat C). y.number) went.same in
-                  let script : c.script u.caller ≡ c.script s.caller = ap (λ (y : Seat C). c.script y.caller) made.settled.same ∙ ap (λ (y : Seat C). c.script y.caller) went.same in
+                  let bytes : new.journal.room_bytes ≡ x.journal.room_bytes = (let a = made.room_bytes in
+                  omega (arith, a, zeros, room_bytes)) in
+                  let core = core-line-settled run (fair g c x kept) whole kept.kept place p ls n
+                  (stands-here run whole kept.kept place p at) new.journal.room job s.port old now failed words is-shifted err decides
+                  unsettled rooms in
+                  let number : u.number ≡ s.number = ap (λ (y : Seat C). y.number) made.settled.same
+                  ∙ ap (λ (y : Seat C). y.number) went.same in
+                  let script : c.script u.caller ≡ c.script s.caller = ap (λ (y : Seat C). c.script y.caller) made.settled.same
+                  ∙ ap (λ (y : Seat C). c.script y.caller) went.same in
                   let all : new.journal.entries ≡ x.journal.entries ++ line ∷ settle ∷ [] =
                   made.entries ∙ ap (λ (r : Reply). j.entries ++ entry.Settle t.number r t.cut ∷ []) reply
-                  ∙ ap (λ (ys : List Entry). ys ++ entry.Settle t.number (answer.Err err) t.cut ∷ []) entries ∙ append_assoc x.journal.entries (line ∷ []) (entry.Settle t.number (answer.Err err) t.cut ∷ [])
+                  ∙ ap (λ (ys : List Entry). ys ++ entry.Settle t.number (answer.Err err) t.cut ∷ []) entries
+                  ∙ append_assoc x.journal.entries (line ∷ []) (entry.Settle t.number (answer.Err err) t.cut ∷ [])
                   ∙ ap (λ (y : Seat C). x.journal.entries ++ line ∷ entry.Settle y.number (answer.Err err) y.cut ∷ []) went.same in
-                  let seated2 = settled-seated c x.board.now locks2 (roots_of x.ports.items) verdict t u made.settled seated (not_over (slots_of words) (walk_left x.board.now t) (Settle verdict) made.next)
+                  let seated2 = settled-seated c x.board.now locks2 (roots_of x.ports.items) verdict t u made.settled seated
+                  (not_over (slots_of words) (walk_left x.board.now t) (Settle verdict) made.next)
                   (subst (λ (y : Seat C). y.transfer.bus < buses x.board.now) (sym went.same) on-bus) in
-                  let place2 = settled-place c x.board.now locks2 (roots_of x.ports.items) verdict t u made.settled (answer.Err err) reply first2
-                  ∙ ap (λ (q : Place). record q { tree = rest_of q.tree Passed; owed = answer.Err err ∷ []; got = []; cut = cut_at.No }) place-is in (
+                  let place2 = settled-place c x.board.now locks2 (roots_of x.ports.items) verdict t u made.settled
+                  (answer.Err err) reply first2
+                  ∙ ap (λ (q : Place). record q { tree = rest_of q.tree Passed; owed = answer.Err err ∷ []; got = []; cut = cut_at.No })
+                  place-is in (
                     kept-whole g c x kept place s here new u same_board seats number script roots seated2 _ core
                         (ap reverse all ∙ reverse-append x.journal.entries (line ∷ settle ∷ [])) refl bytes
                         (ap (set whole.places place) place2) locks sockets,
-                    stepped-two g c x kept place s here new u same_board seats number script roots start places line settle all (sym rooms) refl refl refl refl (λ tell. (core.told tell).stepwise),
+                    stepped-two g c x kept place s here new u same_board seats number script roots start places line settle all
+                        (sym rooms) refl refl refl refl (λ tell. (core.told tell).stepwise),
                   )
 
           -- EITHER, as it is told
@@ -282,4 +332,5 @@ module _ {P C S : Type 0} (g : PortGhosts P) (c : CallerGhosts C S) (x : CorePar
           line-done u seats false made none stays =
               let st = stays refl in
               switched-quiet (seats ∙ ap (set x.seats.items place) st.0) st.1
-              (λ verdict comes. none refl verdict (subst (λ (v : LocksView). next_of v (walk_left x.board.now t) ≡ Some (Settle verdict)) (sym locks) comes))
+              (λ verdict comes. none refl verdict
+              (subst (λ (v : LocksView). next_of v (walk_left x.board.now t) ≡ Some (Settle verdict)) (sym locks) comes))

@@ -22,7 +22,8 @@ pub lone-ends : (b : BoardView) (v : LocksView) (w : WalkTree) (out : ActOutcome
 lone-ends b v w out lone = ap (λ (x : WalkTree). is_over (behind_of v x out)) lone.is
 
 -- behind each step
-pub there-behind : (b : BoardView) (v : LocksView) (bus : ℕ) (w : WalkTree) (out : ActOutcome) → (bus < buses b) ⊎ IsLone b w → is_over (behind_of v w out) ≡ false → (bus < buses b) ⊎ IsLone b (behind_of v w out)
+pub there-behind : (b : BoardView) (v : LocksView) (bus : ℕ) (w : WalkTree) (out : ActOutcome) → (bus < buses b) ⊎ IsLone b w
+    → is_over (behind_of v w out) ≡ false → (bus < buses b) ⊎ IsLone b (behind_of v w out)
 there-behind b v bus w out there goes = elim there [
   | inl low ↦ inl low
   | inr lone ↦ absurd (let f : true ≡ false = sym (lone-ends b v w out lone) ∙ goes in cc)

@@ -36,7 +36,8 @@ use Rattle.i2c_base.proofs.ListLemmas.{map_from}
 use Rattle.i2c_base.proofs.ListLemmas.{map_at}
 
 -- a number that a caller has stands at a place
-has-at : {S : Type 0} (scripts : List (ℕ × S)) (n : ℕ) → has_caller scripts n ≡ true → (i : ℕ) × (s : S) × (slice_get scripts i ≡ Some (n, s))
+has-at : {S : Type 0} (scripts : List (ℕ × S)) (n : ℕ) → has_caller scripts n ≡ true
+    → (i : ℕ) × (s : S) × (slice_get scripts i ≡ Some (n, s))
 has-at [] n h = absurd (let f : false ≡ true = h in cc)
 has-at (x ∷ xs) n h =
     elim (eqb_tells x.0 n) [
@@ -59,12 +60,14 @@ has-by (x ∷ xs) (suc i) n s h =
       | inr other ↦ ap (λ (t : Bool). if t then true else has_caller xs n) other.0 ∙ has-by xs i n s h
     ]
 
-pub roots-told : {P : Type 0} (world : P → World) (ports : List (ℕ × P)) → map (λ (w : ℕ × World). w.0) (worlds_of world ports) ≡ roots_of ports
+pub roots-told : {P : Type 0} (world : P → World) (ports : List (ℕ × P))
+    → map (λ (w : ℕ × World). w.0) (worlds_of world ports) ≡ roots_of ports
 roots-told world [] = refl
 roots-told world (p ∷ ps) = ap (λ (rs : List ℕ). p.0 ∷ rs) (roots-told world ps)
 
 -- what a core was opened with
-pub opened-with : {P C S : Type 0} (g : PortGhosts P) (c : CallerGhosts C S) (b : BoardView) (ports : List (ℕ × P)) (callers : List (ℕ × C)) (limit : ℕ) (x : CoreParts P C)
+pub opened-with : {P C S : Type 0} (g : PortGhosts P) (c : CallerGhosts C S) (b : BoardView) (ports : List (ℕ × P)) (callers : List (ℕ × C))
+    (limit : ℕ) (x : CoreParts P C)
     → IsOpenedWith g c b ports callers limit x → (state_of g c x).opening ≡ opening_of g c b ports callers
 opened-with g c b ports callers limit x is =
     ap (λ (k : BoardView). record (state_of g c x).opening { board = k }) is.board
@@ -83,19 +86,27 @@ module _ {P C S : Type 0} (g : PortGhosts P) (c : CallerGhosts C S) (old new : C
   roots-same = roots-told g.world new.ports.items ∙ come.roots ∙ sym (roots-told g.world old.ports.items)
 
 -- a step that was made, or wasn't
-pub came-by : {P C S : Type 0} (g : PortGhosts P) (c : CallerGhosts C S) (x new : CoreParts P C) (core : IsCore g c x) (caller place : ℕ) → slice_get x.places.items caller ≡ Some (Some place)
-    → (r : StepAnswer) → (r ≡ answer.Stepped → HasStepped g c place x new) → ((l : LockId) (h : ℕ) → r ≡ answer.Blocked l h → new ≡ x) → (r ≡ answer.Finished → new ≡ x) → HasCome g c x new
-came-by g c x new core caller place at answer.Stepped stepped blocked finished = (has-made g c x core.kept core.placed caller place at new (stepped refl)).come
-came-by g c x new core caller place at (answer.Blocked l h) stepped blocked finished = subst (λ (y : CoreParts _ _). HasCome g c x y) (sym (blocked l h refl)) (come-refl g c x)
-came-by g c x new core caller place at answer.Finished stepped blocked finished = subst (λ (y : CoreParts _ _). HasCome g c x y) (sym (finished refl)) (come-refl g c x)
+pub came-by : {P C S : Type 0} (g : PortGhosts P) (c : CallerGhosts C S) (x new : CoreParts P C) (core : IsCore g c x) (caller place : ℕ)
+    → slice_get x.places.items caller ≡ Some (Some place)
+    → (r : StepAnswer) → (r ≡ answer.Stepped → HasStepped g c place x new) → ((l : LockId) (h : ℕ) → r ≡ answer.Blocked l h → new ≡ x)
+    → (r ≡ answer.Finished → new ≡ x) → HasCome g c x new
+came-by g c x new core caller place at answer.Stepped stepped blocked finished =
+    (has-made g c x core.kept core.placed caller place at new (stepped refl)).come
+came-by g c x new core caller place at (answer.Blocked l h) stepped blocked finished = subst (λ (y : CoreParts _ _). HasCome g c x y)
+    (sym (blocked l h refl)) (come-refl g c x)
+came-by g c x new core caller place at answer.Finished stepped blocked finished = subst (λ (y : CoreParts _ _). HasCome g c x y)
+    (sym (finished refl)) (come-refl g c x)
 
-pub core-after : {P C S : Type 0} (g : PortGhosts P) (c : CallerGhosts C S) (x new : CoreParts P C) → IsCore g c x → IsKept g c new → HasCome g c x new → IsCore g c new
+pub core-after : {P C S : Type 0} (g : PortGhosts P) (c : CallerGhosts C S) (x new : CoreParts P C) → IsCore g c x → IsKept g c new
+    → HasCome g c x new → IsCore g c new
 core-after g c x new core kept come = record {
   kept = kept;
-  placed = subst (λ (y : _). ArePlaced y.items (scripts_of c new.seats.items)) (sym come.places) (subst (ArePlaced x.places.items) (sym come.scripts) core.placed);
+  placed = subst (λ (y : _). ArePlaced y.items (scripts_of c new.seats.items)) (sym come.places)
+      (subst (ArePlaced x.places.items) (sym come.scripts) core.placed);
 }
 
-pub added : {P C S : Type 0} (g : PortGhosts P) (c : CallerGhosts C S) (x new : CoreParts P C) (caller : ℕ) → HasMade g c caller x new → HasAdded c.asked g.tells caller (state_of g c x) (state_of g c new)
+pub added : {P C S : Type 0} (g : PortGhosts P) (c : CallerGhosts C S) (x new : CoreParts P C) (caller : ℕ) → HasMade g c caller x new
+    → HasAdded c.asked g.tells caller (state_of g c x) (state_of g c new)
 added g c x new caller made = record { room = made.room; turn = made.turn }
 
 module _ {P C S : Type 0} (g : PortGhosts P) (c : CallerGhosts C S) (x : CoreParts P C) (core : IsCore g c x) where
@@ -115,11 +126,13 @@ module _ {P C S : Type 0} (g : PortGhosts P) (c : CallerGhosts C S) (x : CorePar
         worlds = λ k r w at.
             let q = map_from (λ (p : ℕ × P). (p.0, g.world p.1)) x.ports.items k (r, w) at in
             let its = told.ports_told k (root_port g q.0) (map_at (root_port g) x.ports.items k q.0 q.1) in
-            sym (ap (λ (z : ℕ × World). z.1) q.2) ∙ its.world ∙ ap (λ (n : ℕ). (now_in c.asked state).worlds n) (ap (λ (z : ℕ × World). z.0) q.2);
+            sym (ap (λ (z : ℕ × World). z.1) q.2) ∙ its.world
+            ∙ ap (λ (n : ℕ). (now_in c.asked state).worlds n) (ap (λ (z : ℕ × World). z.0) q.2);
         logs = λ k r log at.
             let q = map_from (λ (p : ℕ × P). (p.0, g.log p.1)) x.ports.items k (r, log) at in
             let its = told.ports_told k (root_port g q.0) (map_at (root_port g) x.ports.items k q.0 q.1) in
-            sym (ap (λ (z : ℕ × List PortCall). z.1) q.2) ∙ its.log ∙ ap (λ (n : ℕ). reverse ((now_in c.asked state).calls n)) (ap (λ (z : ℕ × List PortCall). z.0) q.2);
+            sym (ap (λ (z : ℕ × List PortCall). z.1) q.2) ∙ its.log
+            ∙ ap (λ (n : ℕ). reverse ((now_in c.asked state).calls n)) (ap (λ (z : ℕ × List PortCall). z.0) q.2);
       }
 
   pub placed-of : (n : ℕ) → has_caller (scripts_of c x.seats.items) n ≡ true → HasPlace x.places.items n
@@ -150,12 +163,16 @@ module _ {P C S : Type 0} (g : PortGhosts P) (c : CallerGhosts C S) (x : CorePar
         let s = map_from (λ (y : Seat C). (y.number, c.taken y.caller)) x.seats.items i (caller, taken) told in
         let number : s.0.number ≡ caller = ap (λ (y : ℕ × List Reply). y.0) s.2 in
         let mine : slice_get x.places.items caller ≡ Some (Some i) =
-        subst (λ (k : ℕ). slice_get x.places.items k ≡ Some (Some i)) number (core.placed.named i s.0.number (c.script s.0.caller) (map_at (script_of c) x.seats.items i s.0 s.1)) in
+        subst (λ (k : ℕ). slice_get x.places.items k ≡ Some (Some i)) number
+        (core.placed.named i s.0.number (c.script s.0.caller) (map_at (script_of c) x.seats.items i s.0 s.1)) in
         let same : i ≡ place = (let f : Some (Some i) ≡ Some (Some place) = sym mine ∙ at in cc) in
         let here = subst (λ (k : ℕ). slice_get x.seats.items k ≡ Some s.0) same s.1 in
-        let over = subst (λ (y : Seat C). next_of x.locks (walk_left b y) ≡ None) (same_seat x.seats.items place e.seat s.0 e.here here) (over-none x.locks (walk_left b e.seat) e.over) in
-        let done = finished-asks (run_of g c x) (whole_of g c x core.kept.held core.kept.owes) core.kept.kept place (place_of c b s.0) (place-here g c x core.kept place s.0 here) over in
-        subst (λ (k : ℕ). asks_in c x k taken ≡ None) number (subst (λ (rs : List Reply). asks_in c x s.0.number rs ≡ None) (ap (λ (y : ℕ × List Reply). y.1) s.2) done.0)
+        let over = subst (λ (y : Seat C). next_of x.locks (walk_left b y) ≡ None) (same_seat x.seats.items place e.seat s.0 e.here here)
+        (over-none x.locks (walk_left b e.seat) e.over) in
+        let done = finished-asks (run_of g c x) (whole_of g c x core.kept.held core.kept.owes) core.kept.kept place (place_of c b s.0)
+        (place-here g c x core.kept place s.0 here) over in
+        subst (λ (k : ℕ). asks_in c x k taken ≡ None) number
+        (subst (λ (rs : List Reply). asks_in c x s.0.number rs ≡ None) (ap (λ (y : ℕ × List Reply). y.1) s.2) done.0)
 
     -- a lock that another has
     pub waits-for : (l : LockId) (h : ℕ) → IsBlockedAt x place l h → WaitsFor c.asked g.tells state caller l h
@@ -163,8 +180,10 @@ module _ {P C S : Type 0} (g : PortGhosts P) (c : CallerGhosts C S) (x : CorePar
         record {
           held = blocked.held;
           next = λ tell.
-              ap (λ (n : ℕ). first_act (current b (asks_in c x) (now_in c.asked state) n)) (sym (numbered g c x core.kept core.placed caller place at blocked.comes.seat blocked.comes.here))
-              ∙ next-same (run_of g c x) (whole_of g c x core.kept.held core.kept.owes) core.kept.kept tell place (place_of c b blocked.comes.seat) (place-here g c x core.kept place blocked.comes.seat blocked.comes.here)
+              ap (λ (n : ℕ). first_act (current b (asks_in c x) (now_in c.asked state) n))
+              (sym (numbered g c x core.kept core.placed caller place at blocked.comes.seat blocked.comes.here))
+              ∙ next-same (run_of g c x) (whole_of g c x core.kept.held core.kept.owes) core.kept.kept tell place
+              (place_of c b blocked.comes.seat) (place-here g c x core.kept place blocked.comes.seat blocked.comes.here)
               ∙ blocked.comes.next;
         }
 
@@ -174,8 +193,10 @@ module _ {P C S : Type 0} (g : PortGhosts P) (c : CallerGhosts C S) (x : CorePar
       record {
         has = of-placed n ready.place ready.at;
         can = λ tell stuck.
-            free-ready (run_of g c x) (whole_of g c x core.kept.held core.kept.owes) core.kept.kept tell ready.place (place_of c b ready.can.seat) (place-here g c x core.kept ready.place ready.can.seat ready.can.here)
+            free-ready (run_of g c x) (whole_of g c x core.kept.held core.kept.owes) core.kept.kept tell ready.place
+            (place_of c b ready.can.seat) (place-here g c x core.kept ready.place ready.can.seat ready.can.here)
             ready.can.act ready.can.next ready.can.free
-            (subst (λ (k : ℕ). IsStuck b (asks_in c x) (reverse x.journal.entries) k) (sym (numbered g c x core.kept core.placed n ready.place ready.at ready.can.seat ready.can.here)) stuck);
+            (subst (λ (k : ℕ). IsStuck b (asks_in c x) (reverse x.journal.entries) k)
+            (sym (numbered g c x core.kept core.placed n ready.place ready.at ready.can.seat ready.can.here)) stuck);
         before = λ tell d low. stuck-below g c x core n ready.place ready.at ready.before tell d low;
       }

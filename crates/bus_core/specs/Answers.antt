@@ -16,18 +16,21 @@ IsStuckIn asked v caller = IsStuck v.opening.board (asks_in_state asked v) (reve
 
 -- this caller made a step: the journal has less room, and over ports that tell it has one step of this caller's more,
 -- which may come there
-pub record HasAdded {S : Type 0} (asked : S → List Reply → Option TransferView) (tells : Bool) (caller : ℕ) (old new : CoreState S) : Type 0 where
+pub record HasAdded {S : Type 0} (asked : S → List Reply → Option TransferView) (tells : Bool) (caller : ℕ)
+    (old new : CoreState S) : Type 0 where
   pub room : new.journal.room < old.journal.room
   pub turn : IsTrue tells → HasTurn old.opening.board (asks_in_state asked old) caller old.journal.entries new.journal.entries
 
 -- this caller takes this lock next, which another has
-pub record WaitsFor {S : Type 0} (asked : S → List Reply → Option TransferView) (tells : Bool) (v : CoreState S) (caller : ℕ) (l : LockId) (holder : ℕ) : Type 0 where
+pub record WaitsFor {S : Type 0} (asked : S → List Reply → Option TransferView) (tells : Bool) (v : CoreState S) (caller : ℕ) (l : LockId)
+    (holder : ℕ) : Type 0 where
   pub held : holder_in v.locks l ≡ Some holder
   pub next : IsTrue tells → IsNext v.opening.board (asks_in_state asked v) (now_in asked v) caller (Take l)
 
 -- after the replies that it was handed, this caller asks for nothing
 abbrev pub HasUsedUp : {S : Type 0} → (S → List Reply → Option TransferView) → CoreState S → ℕ → Type 0
-HasUsedUp asked v caller = (i : ℕ) (taken : List Reply) → slice_get v.taken i ≡ Some (caller, taken) → asks_in_state asked v caller taken ≡ None
+HasUsedUp asked v caller = (i : ℕ) (taken : List Reply) → slice_get v.taken i ≡ Some (caller, taken)
+    → asks_in_state asked v caller taken ≡ None
 
 -- this caller can make a step, and none below it can
 pub record IsLeast {S : Type 0} (asked : S → List Reply → Option TransferView) (tells : Bool) (v : CoreState S) (caller : ℕ) : Type 0 where

@@ -108,7 +108,8 @@ pub record HasStepped {P C S : Type 0} (p : PortGhosts P) (c : CallerGhosts C S)
   pub places : new.places ≡ old.places
   pub room : new.journal.room < old.journal.room
   pub counted : length new.journal.entries + new.journal.room ≡ length old.journal.entries + old.journal.room
-  pub turn : IsTrue p.tells → (s : Seat C) → slice_get old.seats.items place ≡ Some s → HasTurn old.board.now (asks_in c old) s.number old.journal.entries new.journal.entries
+  pub turn : IsTrue p.tells → (s : Seat C) → slice_get old.seats.items place ≡ Some s
+      → HasTurn old.board.now (asks_in c old) s.number old.journal.entries new.journal.entries
 
 -- .. and all is kept behind it
 pub record HasMadeStep {P C S : Type 0} (p : PortGhosts P) (c : CallerGhosts C S) (place : ℕ) (old new : CoreParts P C) : Type 0 where

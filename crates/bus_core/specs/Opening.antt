@@ -22,9 +22,11 @@ pub record HasRoot (roots : List ℕ) (root : ℕ) : Type 0 where
 
 -- the board is an accepted one; the callers are fair, and were opened with it; and each root that a transfer of theirs
 -- names has a port
-pub record IsSetUp {S : Type 0} (asked : S → List Reply → Option TransferView) (left : S → List Reply → ℕ) (board : S → BoardView) (b : BoardView) (scripts : List (ℕ × S)) (roots : List ℕ) : Type 0 where
+pub record IsSetUp {S : Type 0} (asked : S → List Reply → Option TransferView) (left : S → List Reply → ℕ) (board : S → BoardView)
+    (b : BoardView) (scripts : List (ℕ × S)) (roots : List ℕ) : Type 0 where
   pub plain : IsPlainBoard b
   pub rules : MeetsRules b
   pub fair : IsFairCaller asked left board
   pub home : (i : ℕ) (x : ℕ × S) → slice_get scripts i ≡ Some x → board x.1 ≡ b
-  pub wired : (i : ℕ) (x : ℕ × S) (rs : List Reply) (t : TransferView) → slice_get scripts i ≡ Some x → asked x.1 rs ≡ Some t → t.bus < buses b → HasRoot roots (root_of b t.bus)
+  pub wired : (i : ℕ) (x : ℕ × S) (rs : List Reply) (t : TransferView) → slice_get scripts i ≡ Some x → asked x.1 rs ≡ Some t
+      → t.bus < buses b → HasRoot roots (root_of b t.bus)

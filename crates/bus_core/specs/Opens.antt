@@ -25,7 +25,11 @@ callers_scripts c callers = map (λ (x : ℕ × _). (x.0, c.script x.1)) callers
 
 -- what a core that is opened with these has of them for good
 abbrev pub opening_of : {P C S : Type 0} → PortGhosts P → CallerGhosts C S → BoardView → List (ℕ × P) → List (ℕ × C) → Opening S
-opening_of p c b ports callers = record { board = b; scripts = callers_scripts c callers; worlds = map (λ (q : ℕ × _). (q.0, p.world q.1)) ports }
+opening_of p c b ports callers = record {
+  board = b;
+  scripts = callers_scripts c callers;
+  worlds = map (λ (q : ℕ × _). (q.0, p.world q.1)) ports;
+}
 
 abbrev pub numbers_in : {C : Type 0} → List (ℕ × C) → List ℕ
 numbers_in callers = map (λ (x : ℕ × _). x.0) callers
@@ -33,7 +37,8 @@ numbers_in callers = map (λ (x : ℕ × _). x.0) callers
 -- numbers and roots are distinct; each port is idle, and where it tells it has the opening world of its root and an empty
 -- log; the callers are fair, have taken no reply, and were opened with the board; each root that a transfer of theirs names
 -- has a port; and the limit covers what they have left, and is no more than a log has room for
-pub record MayOpen {P C S : Type 0} (p : PortGhosts P) (c : CallerGhosts C S) (b : BoardView) (ports : List (ℕ × P)) (callers : List (ℕ × C)) (limit : ℕ) : Type 0 where
+pub record MayOpen {P C S : Type 0} (p : PortGhosts P) (c : CallerGhosts C S) (b : BoardView) (ports : List (ℕ × P))
+    (callers : List (ℕ × C)) (limit : ℕ) : Type 0 where
   pub distinct : AreDistinct (numbers_in callers)
   pub below : (i : ℕ) (x : ℕ × C) → slice_get callers i ≡ Some x → x.0 < MOST_CALLERS
   pub once : AreDistinct (roots_of ports)
@@ -42,18 +47,21 @@ pub record MayOpen {P C S : Type 0} (p : PortGhosts P) (c : CallerGhosts C S) (b
   pub fair : IsFairCaller c.asked c.left c.board
   pub untaken : (i : ℕ) (x : ℕ × C) → slice_get callers i ≡ Some x → c.taken x.1 ≡ []
   pub home : (i : ℕ) (x : ℕ × C) → slice_get callers i ≡ Some x → c.board (c.script x.1) ≡ b
-  pub wired : (i : ℕ) (x : ℕ × C) (rs : List Reply) (t : TransferView) → slice_get callers i ≡ Some x → c.asked (c.script x.1) rs ≡ Some t → t.bus < buses b → HasRoot (roots_of ports) (root_of b t.bus)
+  pub wired : (i : ℕ) (x : ℕ × C) (rs : List Reply) (t : TransferView) → slice_get callers i ≡ Some x → c.asked (c.script x.1) rs ≡ Some t
+      → t.bus < buses b → HasRoot (roots_of ports) (root_of b t.bus)
   pub covers : sum_by (λ (x : ℕ × C). c.left (c.script x.1) []) callers ≤ limit
   pub most : 2 * limit ≤ MOST_CALLS
 
 -- a caller's seat, with its first transfer loaded
-pub record IsFreshSeat {C S : Type 0} (c : CallerGhosts C S) (b : BoardView) (roots : List ℕ) (number : ℕ) (caller : C) (s : Seat C) : Type 0 where
+pub record IsFreshSeat {C S : Type 0} (c : CallerGhosts C S) (b : BoardView) (roots : List ℕ) (number : ℕ) (caller : C)
+    (s : Seat C) : Type 0 where
   pub number_is : s.number ≡ number
   pub script : c.script s.caller ≡ c.script caller
   pub taken : c.taken s.caller ≡ c.taken caller
   pub loaded : IsLoaded c b s
   pub cut : s.cut ≡ cut_at.No
-  pub seated : ((t : TransferView) → c.asked (c.script caller) (c.taken caller) ≡ Some t → t.bus < buses b → HasRoot roots (root_of b t.bus)) → IsSeated c b roots s
+  pub seated : ((t : TransferView) → c.asked (c.script caller) (c.taken caller) ≡ Some t → t.bus < buses b
+      → HasRoot roots (root_of b t.bus)) → IsSeated c b roots s
 
 -- one where a number has no place yet
 abbrev pub without_place : Option ℕ → ℕ
@@ -61,7 +69,8 @@ without_place None = 1
 without_place (Some place) = 0
 
 -- a seat is that of the caller at its place
-pub record IsSeatOf {C S : Type 0} (c : CallerGhosts C S) (b : BoardView) (roots : List ℕ) (callers : List (ℕ × C)) (place : ℕ) (s : Seat C) : Type 0 where
+pub record IsSeatOf {C S : Type 0} (c : CallerGhosts C S) (b : BoardView) (roots : List ℕ) (callers : List (ℕ × C)) (place : ℕ)
+    (s : Seat C) : Type 0 where
   pub of : ℕ × C
   pub here : slice_get callers place ≡ Some of
   pub fresh : IsFreshSeat c b roots of.0 of.1 s
@@ -73,7 +82,8 @@ pub record HasNumber {C : Type 0} (seats : List (Seat C)) (place number : ℕ) :
   pub number_is : seat.number ≡ number
 
 -- so many callers have their seats, in their order, and the place of each seat's number is noted, and of no other
-pub record AreSeated {C S : Type 0} (c : CallerGhosts C S) (b : BoardView) (roots : List ℕ) (callers : List (ℕ × C)) (count : ℕ) (seats : List (Seat C)) (places : List (Option ℕ)) : Type 0 where
+pub record AreSeated {C S : Type 0} (c : CallerGhosts C S) (b : BoardView) (roots : List ℕ) (callers : List (ℕ × C)) (count : ℕ)
+    (seats : List (Seat C)) (places : List (Option ℕ)) : Type 0 where
   pub counted : length seats ≡ count
   pub fresh : (i : ℕ) (s : Seat C) → slice_get seats i ≡ Some s → IsSeatOf c b roots callers i s
   pub all : length places ≡ MOST_CALLERS
@@ -82,7 +92,8 @@ pub record AreSeated {C S : Type 0} (c : CallerGhosts C S) (b : BoardView) (root
   pub left : sum_by without_place places + count ≡ MOST_CALLERS
 
 -- it was opened with these, and nothing was done yet
-pub record IsOpenedWith {P C S : Type 0} (p : PortGhosts P) (c : CallerGhosts C S) (b : BoardView) (ports : List (ℕ × P)) (callers : List (ℕ × C)) (limit : ℕ) (x : CoreParts P C) : Type 0 where
+pub record IsOpenedWith {P C S : Type 0} (p : PortGhosts P) (c : CallerGhosts C S) (b : BoardView) (ports : List (ℕ × P))
+    (callers : List (ℕ × C)) (limit : ℕ) (x : CoreParts P C) : Type 0 where
   pub board : x.board.now ≡ b
   pub ports_are : x.ports.items ≡ ports
   pub start : x.start.value.items ≡ ports

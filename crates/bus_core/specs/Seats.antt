@@ -57,7 +57,8 @@ pub record IsHanded {C S : Type 0} (c : CallerGhosts C S) (r : Reply) (s t : Sea
 
 -- the caller's next transfer is loaded, if it has one
 pub record IsLoaded {C S : Type 0} (c : CallerGhosts C S) (b : BoardView) (t : Seat C) : Type 0 where
-  pub some : (x : TransferView) → c.asked (c.script t.caller) (c.taken t.caller) ≡ Some x → (t.transfer ≡ x) × (walk_left b t ≡ walk_for b x)
+  pub some : (x : TransferView) → c.asked (c.script t.caller) (c.taken t.caller) ≡ Some x
+      → (t.transfer ≡ x) × (walk_left b t ≡ walk_for b x)
   pub none : c.asked (c.script t.caller) (c.taken t.caller) ≡ None → is_over (walk_left b t) ≡ true
   pub sent : t.sent ≡ 0
   pub undecided : t.decided ≡ None
@@ -79,13 +80,16 @@ IsCounted s = length (messages_of s.transfer) ≡ s.walk.route.count
 -- port
 pub record MayEnd {C S : Type 0} (c : CallerGhosts C S) (b : BoardView) (roots : List ℕ) (s : Seat C) : Type 0 where
   pub seated : IsSeated c b roots s
-  pub fits : (r : Reply) → owed_by s.decided s.replies ≡ r ∷ [] → (c.asked (c.script s.caller) (c.taken s.caller) ≡ Some s.transfer) × Fits s.transfer r
-  pub wired : (rs : List Reply) (t : TransferView) → c.asked (c.script s.caller) rs ≡ Some t → t.bus < buses b → HasRoot roots (root_of b t.bus)
+  pub fits : (r : Reply) → owed_by s.decided s.replies ≡ r ∷ []
+      → (c.asked (c.script s.caller) (c.taken s.caller) ≡ Some s.transfer) × Fits s.transfer r
+  pub wired : (rs : List Reply) (t : TransferView) → c.asked (c.script s.caller) rs ≡ Some t → t.bus < buses b
+      → HasRoot roots (root_of b t.bus)
 
 -- behind a lock that was freed: the walk goes on, or has ended
 pub record HasFreed {C S : Type 0} (c : CallerGhosts C S) (b : BoardView) (v : LocksView) (roots : List ℕ) (s t : Seat C) : Type 0 where
   pub on : is_over (behind_of v (walk_left b s) Passed) ≡ false → WentOn b v Passed cut_at.No s t
-  pub ended : is_over (behind_of v (walk_left b s) Passed) ≡ true → (r : Reply) → owed_by s.decided s.replies ≡ r ∷ [] → HasEnded c b r cut_at.No s t
+  pub ended : is_over (behind_of v (walk_left b s) Passed) ≡ true → (r : Reply) → owed_by s.decided s.replies ≡ r ∷ []
+      → HasEnded c b r cut_at.No s t
   pub seated : IsSeated c b roots t
 
 -- it may hear a message of its walk: one of the caller's is left where it went through, and what it read has room
@@ -102,8 +106,15 @@ got_heard purpose.Call reading bytes got = if reading then got ++ bytes else got
 got_heard (purpose.Control m) reading bytes got = got
 
 -- it heard a message, and went on behind it: one of the caller's that went through is counted
-pub record HasHeard {C : Type 0} (b : BoardView) (v : LocksView) (next : NextMsg) (reading : Bool) (bytes : List ℕ) (e : End) (s t : Seat C) : Type 0 where
-  pub same : t ≡ record s { walk = t.walk; sent = t.sent; written = t.written; replies = t.replies; cut = message_cut next.purpose next.part e }
+pub record HasHeard {C : Type 0} (b : BoardView) (v : LocksView) (next : NextMsg) (reading : Bool) (bytes : List ℕ) (e : End)
+    (s t : Seat C) : Type 0 where
+  pub same : t ≡ record s {
+    walk = t.walk;
+    sent = t.sent;
+    written = t.written;
+    replies = t.replies;
+    cut = message_cut next.purpose next.part e;
+  }
   pub gone : t.sent ≡ (if is_call_through next.purpose e then s.sent + 1 else s.sent)
   pub got : t.replies ≡ record s.replies { got = got_heard next.purpose reading bytes s.replies.got }
   pub walk : walk_left b t ≡ behind_of v (walk_left b s) (walk.Sent e bytes)
@@ -125,7 +136,8 @@ pub record MaySettle {C : Type 0} (b : BoardView) (v : LocksView) (journal : Jou
       → (0 < journal.room) × (length (bytes_given (reply_by verdict (Some s.transfer) s.replies.got)) ≤ journal.room_bytes)
 
 -- the settle that comes next was made, with its entry, or none comes next
-pub record IsSettledIn {C : Type 0} (b : BoardView) (v : LocksView) (verdict : Option Errno) (old new : JournalView) (s t : Seat C) : Type 0 where
+pub record IsSettledIn {C : Type 0} (b : BoardView) (v : LocksView) (verdict : Option Errno) (old new : JournalView)
+    (s t : Seat C) : Type 0 where
   pub next : next_of v (walk_left b s) ≡ Some (Settle verdict)
   pub settled : HasSettled b v verdict s t
   pub entries : new.entries ≡ old.entries ++ entry.Settle s.number (reply_by verdict (Some s.transfer) s.replies.got) s.cut ∷ []
@@ -133,15 +145,18 @@ pub record IsSettledIn {C : Type 0} (b : BoardView) (v : LocksView) (verdict : O
   pub room_bytes : new.room_bytes + length (bytes_given (reply_by verdict (Some s.transfer) s.replies.got)) ≡ old.room_bytes
 
 -- a refused transfer, whose lone settle comes next: its error may be handed over, and the next transfer loaded
-pub record MayRefuse {C S : Type 0} (c : CallerGhosts C S) (b : BoardView) (roots : List ℕ) (errno : Errno) (journal : JournalView) (s : Seat C) : Type 0 where
+pub record MayRefuse {C S : Type 0} (c : CallerGhosts C S) (b : BoardView) (roots : List ℕ) (errno : Errno) (journal : JournalView)
+    (s : Seat C) : Type 0 where
   pub seated : IsSeated c b roots s
   pub lone : walk_left b s ≡ Then (Settle (Some errno)) plain (λ o. Ends)
   pub asked : c.asked (c.script s.caller) (c.taken s.caller) ≡ Some s.transfer
-  pub wired : (rs : List Reply) (t : TransferView) → c.asked (c.script s.caller) rs ≡ Some t → t.bus < buses b → HasRoot roots (root_of b t.bus)
+  pub wired : (rs : List Reply) (t : TransferView) → c.asked (c.script s.caller) rs ≡ Some t → t.bus < buses b
+      → HasRoot roots (root_of b t.bus)
   pub room : 0 < journal.room
 
 -- it was settled, with its entry, its error handed over, and the next one loaded
-pub record IsRefusedIn {C S : Type 0} (c : CallerGhosts C S) (b : BoardView) (roots : List ℕ) (errno : Errno) (old new : JournalView) (s t : Seat C) : Type 0 where
+pub record IsRefusedIn {C S : Type 0} (c : CallerGhosts C S) (b : BoardView) (roots : List ℕ) (errno : Errno) (old new : JournalView)
+    (s t : Seat C) : Type 0 where
   pub ended : HasEnded c b (reply.Err errno) cut_at.No s t
   pub seated : IsSeated c b roots t
   pub entries : new.entries ≡ old.entries ++ entry.Settle s.number (reply.Err errno) s.cut ∷ []
@@ -162,7 +177,8 @@ pub record MaySpeak {C : Type 0} (b : BoardView) (tells : Bool) (next : NextMsg)
   pub wrote : s.written ≡ sum_by written_of (take s.sent s.transfer.msgs)
 
 -- it was sent there, and no other port is another
-pub record HasSpoken {C : Type 0} (b : BoardView) (tells : Bool) (next : NextMsg) (old new : List RootPort) (bytes : List ℕ) (r : MsgResult) (s : Seat C) : Type 0 where
+pub record HasSpoken {C : Type 0} (b : BoardView) (tells : Bool) (next : NextMsg) (old new : List RootPort) (bytes : List ℕ) (r : MsgResult)
+    (s : Seat C) : Type 0 where
   pub before : RootPort
   pub after : RootPort
   pub here : slice_get old s.port ≡ Some before

@@ -73,7 +73,8 @@ pub record CoreTold {S : Type 0} (asked : S → List Reply → Option TransferVi
   pub logs : (k r : ℕ) (log : List PortCall) → slice_get v.logs k ≡ Some (r, log) → log ≡ reverse ((now_in asked v).calls r)
 
 -- a caller is through: its script is used up; and by the journal its walk has ended, and these are all its replies
-pub record IsThrough {S : Type 0} (asked : S → List Reply → Option TransferView) (tells : Bool) (v : CoreState S) (n : ℕ) (taken : List Reply) : Type 0 where
+pub record IsThrough {S : Type 0} (asked : S → List Reply → Option TransferView) (tells : Bool) (v : CoreState S) (n : ℕ)
+    (taken : List Reply) : Type 0 where
   pub asks : asks_in_state asked v n taken ≡ None
   pub walk : IsTrue tells → (now_in asked v).walk n ≡ Ends
   pub settled : IsTrue tells → (now_in asked v).settled n ≡ taken

@@ -38,8 +38,10 @@ digit-line d small = grind (arith, nat_tests)
 digits_onto-line : (k n : ℕ) (behind : List ℕ) → IsLine behind → IsLine (digits_onto k 10 false n behind)
 digits_onto-line zero n behind is = is
 digits_onto-line (suc k) n behind is =
-    let last : IsLine (digit_glyph false (n % 10) ∷ behind) = line-cons (digit_glyph false (n % 10)) behind (digit-line (n % 10) (omega arith)) is in
-    elim (n / 10 == 0) as (λ t. IsLine (cond t (digit_glyph false (n % 10) ∷ behind) (digits_onto k 10 false (n / 10) (digit_glyph false (n % 10) ∷ behind)))) [
+    let last : IsLine (digit_glyph false (n % 10) ∷ behind) = line-cons (digit_glyph false (n % 10)) behind
+    (digit-line (n % 10) (omega arith)) is in
+    elim (n / 10 == 0) as (λ t. IsLine
+    (cond t (digit_glyph false (n % 10) ∷ behind) (digits_onto k 10 false (n / 10) (digit_glyph false (n % 10) ∷ behind)))) [
       | true ↦ last
       | false ↦ digits_onto-line k (n / 10) (digit_glyph false (n % 10) ∷ behind) last
     ]
@@ -53,11 +55,13 @@ hex_digit-line n = grind (arith, nat_tests)
 
 pub two_digits-line : (byte : ℕ) → IsLine (two_digits byte)
 two_digits-line byte =
-    line-cons (hex_digit (byte / 16)) (hex_digit (byte % 16) ∷ []) (hex_digit-line (byte / 16)) (line-cons (hex_digit (byte % 16)) [] (hex_digit-line (byte % 16)) refl)
+    line-cons (hex_digit (byte / 16)) (hex_digit (byte % 16) ∷ []) (hex_digit-line (byte / 16))
+    (line-cons (hex_digit (byte % 16)) [] (hex_digit-line (byte % 16)) refl)
 
 spaced-line : (bytes : List ℕ) → IsLine (spaced bytes)
 spaced-line [] = refl
-spaced-line (byte ∷ bytes) = line-append (spaced_digits byte) (spaced bytes) (line-cons 32 (two_digits byte) refl (two_digits-line byte)) (spaced-line bytes)
+spaced-line (byte ∷ bytes) = line-append (spaced_digits byte) (spaced bytes) (line-cons 32 (two_digits byte) refl (two_digits-line byte))
+    (spaced-line bytes)
 
 joined-line : (bytes : List ℕ) → IsLine (joined bytes)
 joined-line [] = refl
@@ -117,7 +121,8 @@ number-line n word behind is is_behind = line-append (decimal n) (word ++ behind
 cut-line : (c : Cut) → IsLine (cut_text c)
 cut-line cut.No = refl
 cut-line cut.Way = refl
-cut-line (cut.At msg call) = line-append (codes " cut ") (decimal msg ++ (codes "." ++ decimal call)) refl (number-line msg (codes ".") (decimal call) refl (decimal-line call))
+cut-line (cut.At msg call) = line-append (codes " cut ") (decimal msg ++ (codes "." ++ decimal call)) refl
+    (number-line msg (codes ".") (decimal call) refl (decimal-line call))
 
 level_end-line : (failed : Bool) → IsLine (level_end failed)
 level_end-line true = refl
@@ -125,12 +130,14 @@ level_end-line false = refl
 
 level-line : (mux level : ℕ) (failed : Bool) → IsLine (level_text mux level failed)
 level-line mux level failed =
-    number-line mux (codes " level ") (decimal level ++ (codes " " ++ level_end failed)) refl (number-line level (codes " ") (level_end failed) refl (level_end-line failed))
+    number-line mux (codes " level ") (decimal level ++ (codes " " ++ level_end failed)) refl
+    (number-line level (codes " ") (level_end failed) refl (level_end-line failed))
 
 place-line : (caller bus : ℕ) → IsLine (place_text caller bus)
 place-line caller bus =
     line-append (codes "msg " ++ (decimal caller ++ codes " bus ")) (decimal bus ++ codes " ")
-    (line-append (codes "msg ") (decimal caller ++ codes " bus ") refl (line-append (decimal caller) (codes " bus ") (decimal-line caller) refl))
+    (line-append (codes "msg ") (decimal caller ++ codes " bus ") refl
+    (line-append (decimal caller) (codes " bus ") (decimal-line caller) refl))
     (line-append (decimal bus) (codes " ") (decimal-line bus) refl)
 
 part-line : (p : Purpose) (part parts : ℕ) → IsLine (part_text p part parts)
@@ -141,7 +148,8 @@ part-line p part parts =
 
 data-line : (addr : ℕ) (reading : Bool) (bytes : List ℕ) → IsLine (data_text addr reading bytes)
 data-line addr reading bytes =
-    line-append (direction_text reading) (codes " 0x" ++ (two_digits addr ++ (codes " [" ++ (joined bytes ++ codes "] ")))) (direction-line reading)
+    line-append (direction_text reading) (codes " 0x" ++ (two_digits addr ++ (codes " [" ++ (joined bytes ++ codes "] "))))
+    (direction-line reading)
     (line-append (codes " 0x") (two_digits addr ++ (codes " [" ++ (joined bytes ++ codes "] "))) refl
     (line-append (two_digits addr) (codes " [" ++ (joined bytes ++ codes "] ")) (two_digits-line addr)
     (line-append (codes " [") (joined bytes ++ codes "] ") refl (line-append (joined bytes) (codes "] ") (joined-line bytes) refl))))
@@ -152,16 +160,21 @@ result-line h e =
     (line-append (heard_text h) (codes " " ++ end_text e) (heard-line h) (line-append (codes " ") (end_text e) refl (end-line e)))
 
 -- an entry's first word, its caller and what stands behind
-front-line : (word : List ℕ) (caller : ℕ) (next behind : List ℕ) → IsLine word → IsLine next → IsLine behind → IsLine (word ++ (decimal caller ++ (next ++ behind)))
-front-line word caller next behind is is_next is_behind = line-append word (decimal caller ++ (next ++ behind)) is (number-line caller next behind is_next is_behind)
+front-line : (word : List ℕ) (caller : ℕ) (next behind : List ℕ) → IsLine word → IsLine next → IsLine behind
+    → IsLine (word ++ (decimal caller ++ (next ++ behind)))
+front-line word caller next behind is is_next is_behind = line-append word (decimal caller ++ (next ++ behind)) is
+    (number-line caller next behind is_next is_behind)
 
 pub entry-line : (e : Entry) → IsLine (entry_line e)
 entry-line (entry.Take caller l) = front-line (codes "take ") caller (codes " ") (lock_text l) refl refl (lock-line l)
 entry-line (entry.Free caller l) = front-line (codes "free ") caller (codes " ") (lock_text l) refl refl (lock-line l)
 entry-line (entry.Message caller bus p part parts addr reading bytes h e) =
-    line-append (place_text caller bus) (part_text p part parts ++ (data_text addr reading bytes ++ result_text h e)) (place-line caller bus)
+    line-append (place_text caller bus) (part_text p part parts ++ (data_text addr reading bytes ++ result_text h e))
+    (place-line caller bus)
     (line-append (part_text p part parts) (data_text addr reading bytes ++ result_text h e) (part-line p part parts)
     (line-append (data_text addr reading bytes) (result_text h e) (data-line addr reading bytes) (result-line h e)))
-entry-line (entry.Line caller mux level failed) = front-line (codes "line ") caller (codes " mux ") (level_text mux level failed) refl refl (level-line mux level failed)
+entry-line (entry.Line caller mux level failed) = front-line (codes "line ") caller (codes " mux ") (level_text mux level failed) refl refl
+    (level-line mux level failed)
 entry-line (entry.Settle caller r c) =
-    front-line (codes "settle ") caller (codes " ") (reply_text r ++ cut_text c) refl refl (line-append (reply_text r) (cut_text c) (reply-line r) (cut-line c))
+    front-line (codes "settle ") caller (codes " ") (reply_text r ++ cut_text c) refl refl
+    (line-append (reply_text r) (cut_text c) (reply-line r) (cut-line c))

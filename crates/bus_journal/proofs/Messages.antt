@@ -8,7 +8,8 @@ use Rattle.i2c_base.specs.declared.entry.End.{End}
 use Rattle.i2c_base.specs.declared.entry.Entry.TheVariants as entry
 
 -- the rests of the text are named by what comes next in them
-pub message_in_parts : (text after_caller on_bus after_bus on_purpose on_part after_part on_parts after_parts words on_addr on_bytes after_bytes on_heard on_end : List ℕ)
+pub message_in_parts : (text after_caller on_bus after_bus on_purpose on_part after_part on_parts after_parts words on_addr on_bytes
+    after_bytes on_heard on_end : List ℕ)
     (caller bus : ℕ) (purpose : Purpose) (part parts byte addr : ℕ) (reading : Bool) (bytes : List ℕ) (heard : Option Node) (end : End)
     → caller ≡ number_from 0 text % 256 → after_caller ≡ behind_number text → on_bus ≡ drop 5 after_caller
     → bus ≡ number_from 0 on_bus → after_bus ≡ behind_number on_bus → on_purpose ≡ drop 1 after_bus
@@ -21,6 +22,8 @@ pub message_in_parts : (text after_caller on_bus after_bus on_purpose on_part af
     → heard ≡ heard_of on_heard → on_end ≡ behind_heard on_heard → end ≡ end_of on_end
     → Some (entry.Message caller bus purpose part parts addr reading bytes heard end) ≡ Some (message_of text)
 unfolding message_of
-message_in_parts text after_caller on_bus after_bus on_purpose on_part after_part on_parts after_parts words on_addr on_bytes after_bytes on_heard on_end
-    caller bus purpose part parts byte addr reading bytes heard end e1 e2 e3 e4 e5 e6 e7 e8 e9 e10 e11 e12 e13 e14 e15 e16 e17 e18 e19 e20 e21 e22 e23 e24 e25 =
+message_in_parts text after_caller on_bus after_bus on_purpose on_part after_part on_parts after_parts words on_addr on_bytes after_bytes
+    on_heard on_end
+    caller bus purpose part parts byte addr reading bytes heard end e1 e2 e3 e4 e5 e6 e7 e8 e9 e10 e11 e12 e13 e14 e15 e16 e17 e18 e19 e20
+    e21 e22 e23 e24 e25 =
     let first = ap (λ (xs : List ℕ). get_or xs 0 0) e17 in cc

@@ -79,10 +79,12 @@ hex_is_third (a ∷ b ∷ []) low = cc
 hex_is_third (a ∷ b ∷ c ∷ text) low = omega arith
 
 -- of a run that is gathered up to a number of bytes
-pub take_one_more : (most byte : ℕ) (bytes all more : List ℕ) → all ≡ byte ∷ more → take most ((bytes ++ byte ∷ []) ++ more) ≡ take most (bytes ++ all)
+pub take_one_more : (most byte : ℕ) (bytes all more : List ℕ) → all ≡ byte ∷ more
+    → take most ((bytes ++ byte ∷ []) ++ more) ≡ take most (bytes ++ all)
 take_one_more most byte bytes all more is = rw (append_assoc, is)
 
-pub take_when_full : (most : ℕ) (bytes all more : List ℕ) → length bytes ≤ most → most ≤ length bytes → take most (bytes ++ more) ≡ take most (bytes ++ all)
+pub take_when_full : (most : ℕ) (bytes all more : List ℕ) → length bytes ≤ most → most ≤ length bytes
+    → take most (bytes ++ more) ≡ take most (bytes ++ all)
 take_when_full most bytes all more fits full = rw (take-append-le most bytes more full, take-append-le most bytes all full)
 
 pub take_at_end : (most : ℕ) (bytes all : List ℕ) → all ≡ [] → length bytes ≤ most → bytes ≡ take most (bytes ++ all)

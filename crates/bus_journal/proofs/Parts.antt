@@ -137,12 +137,14 @@ behind_bytes-spaced (byte ∷ bytes) text all =
     here ∙ rest
 
 -- a run whose text ends where no byte follows
-pub run-spaced : (most : ℕ) (bytes text : List ℕ) → IsRun most bytes → bytes_of text ≡ [] → take most (bytes_of (flat_map spaced_digits bytes ++ text)) ≡ bytes
+pub run-spaced : (most : ℕ) (bytes text : List ℕ) → IsRun most bytes → bytes_of text ≡ []
+    → take most (bytes_of (flat_map spaced_digits bytes ++ text)) ≡ bytes
 run-spaced most bytes text run ends =
     let all = bytes_of-spaced bytes text run.0 in
     rw (all, ends, append-nil) (take_all most bytes run.1)
 
-pub behind-spaced : (bytes text : List ℕ) → AreBytes bytes → behind_bytes text ≡ text → behind_bytes (flat_map spaced_digits bytes ++ text) ≡ text
+pub behind-spaced : (bytes text : List ℕ) → AreBytes bytes → behind_bytes text ≡ text
+    → behind_bytes (flat_map spaced_digits bytes ++ text) ≡ text
 behind-spaced bytes text all ends = behind_bytes-spaced bytes text all ∙ ends
 
 -- the bytes between brackets: the bracket is the first one's mark
@@ -182,7 +184,8 @@ run-joined (byte ∷ bytes) text run =
     let all = ap (λ more. byte ∷ more) (append-nil bytes) in
     ap (take 512) (read ∙ (ends ∙ all)) ∙ take_all 512 (byte ∷ bytes) run.1
 
-pub behind_list-joined : (bytes text : List ℕ) → AreBytes bytes → behind_list (91 ∷ (joined bytes ++ 93 ∷ 32 ∷ 104 ∷ text)) ≡ 93 ∷ 32 ∷ 104 ∷ text
+pub behind_list-joined : (bytes text : List ℕ) → AreBytes bytes
+    → behind_list (91 ∷ (joined bytes ++ 93 ∷ 32 ∷ 104 ∷ text)) ≡ 93 ∷ 32 ∷ 104 ∷ text
 unfolding behind_list
 behind_list-joined [] text all = rw (empty_list-behind text)
 behind_list-joined (byte ∷ bytes) text all =
@@ -301,4 +304,9 @@ unfolding cut_of
 cut-read cut.No small = refl
 cut-read cut.Way small = rw way_has_no-number
 cut-read (cut.At msg call) small =
-    rw (caller_of-then msg 46 (decimal call) small.0 refl, behind_number-then msg 46 (decimal call) (omega arith) refl, number_of-decimal call small.1)
+    rw (
+      caller_of-then msg 46 (decimal call) small.0 refl,
+      behind_number-then msg 46 (decimal call)
+          (omega arith) refl,
+      number_of-decimal call small.1,
+    )

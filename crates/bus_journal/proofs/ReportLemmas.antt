@@ -38,7 +38,8 @@ first_lines (c ∷ a) (d ∷ b) x y is_a is_b same =
 lines-text : (l : List ℕ) (ls : List (List ℕ)) (text : List ℕ) → flat_map ended (l ∷ ls) ++ text ≡ l ++ 10 ∷ (flat_map ended ls ++ text)
 lines-text l ls text = simp append_assoc
 
-entries-text : (e : Entry) (es : List Entry) (text : List ℕ) → flat_map ended_line (e ∷ es) ++ text ≡ entry_line e ++ 10 ∷ (flat_map ended_line es ++ text)
+entries-text : (e : Entry) (es : List Entry) (text : List ℕ)
+    → flat_map ended_line (e ∷ es) ++ text ≡ entry_line e ++ 10 ∷ (flat_map ended_line es ++ text)
 entries-text e es text = simp append_assoc
 
 -- what stands below the line `journal`
@@ -47,17 +48,20 @@ below_journal : (ls ms : List (List ℕ)) (x y : List ℕ) → All IsSectionLine
 below_journal [] [] x y all_l all_m same = (first_lines (codes "journal") (codes "journal") x y refl refl same).1
 below_journal [] (m ∷ ms) x y all_l all_m same =
     let here = All-head IsSectionLine m ms all_m in
-    let line = first_lines (codes "journal") m x (flat_map ended ms ++ (codes "journal\n" ++ y)) refl here.one (same ∙ lines-text m ms (codes "journal\n" ++ y)) in
+    let line = first_lines (codes "journal") m x (flat_map ended ms ++ (codes "journal\n" ++ y)) refl here.one (same
+    ∙ lines-text m ms (codes "journal\n" ++ y)) in
     absurd (here.other (sym line.0))
 below_journal (l ∷ ls) [] x y all_l all_m same =
     let here = All-head IsSectionLine l ls all_l in
-    let line = first_lines l (codes "journal") (flat_map ended ls ++ (codes "journal\n" ++ x)) y here.one refl (sym (lines-text l ls (codes "journal\n" ++ x)) ∙ same) in
+    let line = first_lines l (codes "journal") (flat_map ended ls ++ (codes "journal\n" ++ x)) y here.one refl
+    (sym (lines-text l ls (codes "journal\n" ++ x)) ∙ same) in
     absurd (here.other line.0)
 below_journal (l ∷ ls) (m ∷ ms) x y all_l all_m same =
     let before = codes "journal\n" ++ x in
     let behind = codes "journal\n" ++ y in
     let line =
-    first_lines l m (flat_map ended ls ++ before) (flat_map ended ms ++ behind) (All-head IsSectionLine l ls all_l).one (All-head IsSectionLine m ms all_m).one
+    first_lines l m (flat_map ended ls ++ before) (flat_map ended ms ++ behind) (All-head IsSectionLine l ls all_l).one
+    (All-head IsSectionLine m ms all_m).one
     (sym (lines-text l ls before) ∙ (same ∙ lines-text m ms behind)) in
     below_journal ls ms x y (All-tail IsSectionLine l ls all_l) (All-tail IsSectionLine m ms all_m) line.1
 
@@ -69,7 +73,9 @@ heading-other c same = let first : true ≡ false = ap (λ (xs : List ℕ). get_
 heading-line : (c : ℕ) → IsSectionLine (codes "caller " ++ decimal c)
 heading-line c = record { one = line-append (codes "caller ") (decimal c) refl (decimal-line c); other = heading-other c }
 
-section-text : (c : ℕ) (lines more : List (List ℕ)) → flat_map ended ((codes "caller " ++ decimal c) ∷ (lines ++ more)) ≡ (codes "caller " ++ (decimal c ++ (10 ∷ flat_map ended lines))) ++ flat_map ended more
+section-text : (c : ℕ) (lines more : List (List ℕ))
+    → flat_map ended ((codes "caller " ++ decimal c) ∷ (lines ++ more)) ≡
+    (codes "caller " ++ (decimal c ++ (10 ∷ flat_map ended lines))) ++ flat_map ended more
 section-text c lines more = simp (append_assoc, flat_map-append)
 
 sections-lines : (c : ℕ) (texts : List (List ℕ)) → All HasNoJournalLine texts → HasNoJournalLine (sections c texts)
@@ -81,29 +87,36 @@ sections-lines c (text ∷ texts) all =
       lines = (codes "caller " ++ decimal c) ∷ (here.lines ++ rest.lines);
       text_is =
           ap (λ (xs : List ℕ). (codes "caller " ++ (decimal c ++ (10 ∷ xs))) ++ sections (c + 1) texts) here.text_is
-          ∙ (ap (λ (xs : List ℕ). (codes "caller " ++ (decimal c ++ (10 ∷ flat_map ended here.lines))) ++ xs) rest.text_is ∙ sym (section-text c here.lines rest.lines));
-      others = All-cons IsSectionLine (codes "caller " ++ decimal c) (here.lines ++ rest.lines) (heading-line c) (All-append IsSectionLine here.lines rest.lines here.others rest.others);
+          ∙ (ap (λ (xs : List ℕ). (codes "caller " ++ (decimal c ++ (10 ∷ flat_map ended here.lines))) ++ xs) rest.text_is
+          ∙ sym (section-text c here.lines rest.lines));
+      others = All-cons IsSectionLine (codes "caller " ++ decimal c) (here.lines ++ rest.lines) (heading-line c)
+          (All-append IsSectionLine here.lines rest.lines here.others rest.others);
     }
 
 -- the line that ends a report is no entry's
 not_the_end : (e : Entry) → ¬ (entry_line e ≡ codes "end")
 not_the_end (entry.Take caller l) same = let first : true ≡ false = ap (λ (xs : List ℕ). get_or xs 0 0 == 116) same in cc
 not_the_end (entry.Free caller l) same = let first : true ≡ false = ap (λ (xs : List ℕ). get_or xs 0 0 == 102) same in cc
-not_the_end (entry.Message caller bus p part parts addr reading bytes h e) same = let first : true ≡ false = ap (λ (xs : List ℕ). get_or xs 0 0 == 109) same in cc
+not_the_end (entry.Message caller bus p part parts addr reading bytes h e) same = let first : true ≡ false = ap
+    (λ (xs : List ℕ). get_or xs 0 0 == 109) same in cc
 not_the_end (entry.Line caller mux level failed) same = let first : true ≡ false = ap (λ (xs : List ℕ). get_or xs 0 0 == 108) same in cc
 not_the_end (entry.Settle caller r c) same = let first : true ≡ false = ap (λ (xs : List ℕ). get_or xs 0 0 == 115) same in cc
 
-entries_are_distinct : (es fs : List Entry) → All IsEntry es → All IsEntry fs → flat_map ended_line es ++ codes "end\n" ≡ flat_map ended_line fs ++ codes "end\n" → es ≡ fs
+entries_are_distinct : (es fs : List Entry) → All IsEntry es → All IsEntry fs
+    → flat_map ended_line es ++ codes "end\n" ≡ flat_map ended_line fs ++ codes "end\n" → es ≡ fs
 entries_are_distinct [] [] all_e all_f same = refl
 entries_are_distinct [] (f ∷ fs) all_e all_f same =
-    let line = first_lines (codes "end") (entry_line f) [] (flat_map ended_line fs ++ codes "end\n") refl (entry-line f) (same ∙ entries-text f fs (codes "end\n")) in
+    let line = first_lines (codes "end") (entry_line f) [] (flat_map ended_line fs ++ codes "end\n") refl (entry-line f) (same
+    ∙ entries-text f fs (codes "end\n")) in
     absurd (not_the_end f (sym line.0))
 entries_are_distinct (e ∷ es) [] all_e all_f same =
-    let line = first_lines (entry_line e) (codes "end") (flat_map ended_line es ++ codes "end\n") [] (entry-line e) refl (sym (entries-text e es (codes "end\n")) ∙ same) in
+    let line = first_lines (entry_line e) (codes "end") (flat_map ended_line es ++ codes "end\n") [] (entry-line e) refl
+    (sym (entries-text e es (codes "end\n")) ∙ same) in
     absurd (not_the_end e line.0)
 entries_are_distinct (e ∷ es) (f ∷ fs) all_e all_f same =
     let line =
-    first_lines (entry_line e) (entry_line f) (flat_map ended_line es ++ codes "end\n") (flat_map ended_line fs ++ codes "end\n") (entry-line e) (entry-line f)
+    first_lines (entry_line e) (entry_line f) (flat_map ended_line es ++ codes "end\n") (flat_map ended_line fs ++ codes "end\n")
+    (entry-line e) (entry-line f)
     (sym (entries-text e es (codes "end\n")) ∙ (same ∙ entries-text f fs (codes "end\n"))) in
     let here = lines_are_distinct e f (All-head IsEntry e es all_e) (All-head IsEntry f fs all_f) line.0 in
     let rest = entries_are_distinct es fs (All-tail IsEntry e es all_e) (All-tail IsEntry f fs all_f) line.1 in

@@ -17,11 +17,15 @@ use Rattle.i2c_base.specs.declared.entry.Entry.TheVariants as entry
 
 take-read : (caller : ℕ) (l : LockId) → IsSmall caller → IsLock l → entry_of (entry_line (entry.Take caller l)) ≡ entry.Take caller l
 unfolding entry_of
-take-read caller l small fits = rw (caller_of-then caller 32 (lock_text l) small refl, behind_number-then caller 32 (lock_text l) (omega arith) refl) (ap (entry.Take caller) (lock-read l fits))
+take-read caller l small fits = rw
+    (caller_of-then caller 32 (lock_text l) small refl, behind_number-then caller 32 (lock_text l) (omega arith) refl)
+    (ap (entry.Take caller) (lock-read l fits))
 
 free-read : (caller : ℕ) (l : LockId) → IsSmall caller → IsLock l → entry_of (entry_line (entry.Free caller l)) ≡ entry.Free caller l
 unfolding entry_of
-free-read caller l small fits = rw (caller_of-then caller 32 (lock_text l) small refl, behind_number-then caller 32 (lock_text l) (omega arith) refl) (ap (entry.Free caller) (lock-read l fits))
+free-read caller l small fits = rw
+    (caller_of-then caller 32 (lock_text l) small refl, behind_number-then caller 32 (lock_text l) (omega arith) refl)
+    (ap (entry.Free caller) (lock-read l fits))
 
 level_end-read : (failed : Bool) → (get_or (32 ∷ level_end failed) 1 0 == 99) ≡ failed
 level_end-read true = refl
@@ -59,12 +63,26 @@ settle-read caller r c small fits fits_cut =
 -- a message's line without the words between its parts
 flat : (caller bus : ℕ) (p : Purpose) (part parts addr : ℕ) (reading : Bool) (bytes : List ℕ) (h : Option Node) (e : End)
     → entry_line (entry.Message caller bus p part parts addr reading bytes h e)
-    ≡ codes "msg " ++ (decimal caller ++ (codes " bus " ++ (decimal bus ++ (codes " " ++ (purpose_text p ++ (codes " " ++ (decimal part ++ (codes "/" ++ (decimal parts ++ (codes " " ++ (direction_text reading ++ (codes " 0x" ++ (two_digits addr ++ (codes " [" ++ (joined bytes ++ (codes "] heard " ++ (heard_text h ++ (codes " " ++ end_text e))))))))))))))))))
+    ≡ codes "msg " ++ (decimal caller ++
+    (codes " bus " ++ (decimal bus ++
+    (codes " " ++ (purpose_text p ++
+    (codes " " ++ (decimal part ++
+    (codes "/" ++ (decimal parts ++
+    (codes " " ++ (direction_text reading ++
+    (codes " 0x" ++ (two_digits addr ++
+    (codes " [" ++ (joined bytes ++ (codes "] heard " ++ (heard_text h ++ (codes " " ++ end_text e))))))))))))))))))
 flat caller bus p part parts addr reading bytes h e = simp append_assoc
 
-message_of-read : (caller bus : ℕ) (p : Purpose) (part parts addr direction : ℕ) (reading : Bool) (bytes : List ℕ) (h : Option Node) (e : End)
+message_of-read : (caller bus : ℕ) (p : Purpose) (part parts addr direction : ℕ) (reading : Bool) (bytes : List ℕ) (h : Option Node)
+    (e : End)
     → IsMessage caller bus p part parts addr bytes h e → (direction == 114) ≡ reading
-    → message_of (decimal caller ++ (codes " bus " ++ (decimal bus ++ (codes " " ++ (purpose_text p ++ (codes " " ++ (decimal part ++ (codes "/" ++ (decimal parts ++ (codes " " ++ (direction ∷ (codes " 0x" ++ (two_digits addr ++ (codes " [" ++ (joined bytes ++ (codes "] heard " ++ (heard_text h ++ (codes " " ++ end_text e))))))))))))))))))
+    → message_of (decimal caller ++
+    (codes " bus " ++ (decimal bus ++
+    (codes " " ++ (purpose_text p ++
+    (codes " " ++ (decimal part ++
+    (codes "/" ++ (decimal parts ++
+    (codes " " ++ (direction ∷ (codes " 0x" ++
+    (two_digits addr ++ (codes " [" ++ (joined bytes ++ (codes "] heard " ++ (heard_text h ++ (codes " " ++ end_text e))))))))))))))))))
     ≡ entry.Message caller bus p part parts addr reading bytes h e
 unfolding message_of
 message_of-read caller bus p part parts addr direction reading bytes h e fits is =
@@ -101,17 +119,21 @@ message_of-read caller bus p part parts addr direction reading bytes h e fits is
 
 message-read : (caller bus : ℕ) (p : Purpose) (part parts addr : ℕ) (reading : Bool) (bytes : List ℕ) (h : Option Node) (e : End)
     → IsMessage caller bus p part parts addr bytes h e
-    → entry_of (entry_line (entry.Message caller bus p part parts addr reading bytes h e)) ≡ entry.Message caller bus p part parts addr reading bytes h e
+    → entry_of (entry_line (entry.Message caller bus p part parts addr reading bytes h e)) ≡ entry.Message caller bus p part parts addr
+    reading bytes h e
 unfolding entry_of
 message-read caller bus p part parts addr true bytes h e fits =
-    ap entry_of (flat caller bus p part parts addr true bytes h e) ∙ message_of-read caller bus p part parts addr 114 true bytes h e fits refl
+    ap entry_of (flat caller bus p part parts addr true bytes h e)
+    ∙ message_of-read caller bus p part parts addr 114 true bytes h e fits refl
 message-read caller bus p part parts addr false bytes h e fits =
-    ap entry_of (flat caller bus p part parts addr false bytes h e) ∙ message_of-read caller bus p part parts addr 119 false bytes h e fits refl
+    ap entry_of (flat caller bus p part parts addr false bytes h e)
+    ∙ message_of-read caller bus p part parts addr 119 false bytes h e fits refl
 
 pub entry-read : (e : Entry) → IsEntry e → entry_of (entry_line e) ≡ e
 entry-read (entry.Take caller l) fits = take-read caller l fits.0 fits.1
 entry-read (entry.Free caller l) fits = free-read caller l fits.0 fits.1
-entry-read (entry.Message caller bus p part parts addr reading bytes h e) fits = message-read caller bus p part parts addr reading bytes h e fits
+entry-read (entry.Message caller bus p part parts addr reading bytes h e) fits =
+    message-read caller bus p part parts addr reading bytes h e fits
 entry-read (entry.Line caller mux level failed) fits = line-read caller mux level failed fits.0 fits.1 fits.2
 entry-read (entry.Settle caller r c) fits = settle-read caller r c fits.0 fits.1 fits.2
 
@@ -119,7 +141,8 @@ pub lines_are_distinct : LinesAreDistinct
 lines_are_distinct e f is_e is_f same = sym (entry-read e is_e) ∙ (ap entry_of same ∙ entry-read f is_f)
 
 -- of a line that is an entry's the guess is this entry
-pub guess_of-line : (e : Entry) (line : List ℕ) (r : Option Entry) → (IsEntry (entry_of line) → r ≡ Some (entry_of line)) → IsEntry e → entry_line e ≡ line → r ≡ Some e
+pub guess_of-line : (e : Entry) (line : List ℕ) (r : Option Entry) → (IsEntry (entry_of line) → r ≡ Some (entry_of line)) → IsEntry e
+    → entry_line e ≡ line → r ≡ Some e
 guess_of-line e line r guessed is same =
     let at : entry_of line ≡ e = ap entry_of (sym same) ∙ entry-read e is in
     guessed (subst IsEntry (sym at) is) ∙ ap Some at

@@ -19,7 +19,8 @@ reply_by (answer.Err errno) bytes = reply.Err errno
 abbrev pub entry_by : Head → List ℕ → Entry
 entry_by (head.Take caller lock) bytes = entry.Take caller lock
 entry_by (head.Free caller lock) bytes = entry.Free caller lock
-entry_by (head.Message caller bus purpose part parts addr reading heard end) bytes = entry.Message caller bus purpose part parts addr reading bytes heard end
+entry_by (head.Message caller bus purpose part parts addr reading heard end) bytes =
+    entry.Message caller bus purpose part parts addr reading bytes heard end
 entry_by (head.Line caller mux level failed) bytes = entry.Line caller mux level failed
 entry_by (head.Settle caller a cut) bytes = entry.Settle caller (reply_by a bytes) cut
 

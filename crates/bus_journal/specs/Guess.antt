@@ -112,7 +112,8 @@ behind_reply text =
 unfoldable pub cut_of : List ℕ → Cut
 cut_of text =
     cond (byte_at 0 text == 32)
-    (cond (byte_at 0 (behind_number (drop 5 text)) == 46) (cut.At (number_of (drop 5 text) % 256) (number_of (drop 1 (behind_number (drop 5 text))))) cut.Way)
+    (cond (byte_at 0 (behind_number (drop 5 text)) == 46)
+    (cut.At (number_of (drop 5 text) % 256) (number_of (drop 1 (behind_number (drop 5 text))))) cut.Way)
     cut.No
 
 -- what stands behind an entry's first word, with the caller's number

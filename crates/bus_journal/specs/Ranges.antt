@@ -60,7 +60,8 @@ IsCut (cut.At msg call) = IsSmall msg × IsWide call
 IsCut _ = ⊤
 
 -- a message has at most 512 bytes
-pub record IsMessage (caller bus : ℕ) (purpose : Purpose) (part parts addr : ℕ) (bytes : List ℕ) (heard : Option Node) (end : End) : Type 0 where
+pub record IsMessage (caller bus : ℕ) (purpose : Purpose) (part parts addr : ℕ) (bytes : List ℕ) (heard : Option Node)
+    (end : End) : Type 0 where
   pub caller_is : IsSmall caller
   pub bus_is : IsWide bus
   pub purpose_is : IsPurpose purpose
@@ -74,7 +75,8 @@ pub record IsMessage (caller bus : ℕ) (purpose : Purpose) (part parts addr : �
 abbrev pub IsEntry : Entry → Type 0
 IsEntry (entry.Take caller lock) = IsSmall caller × IsLock lock
 IsEntry (entry.Free caller lock) = IsSmall caller × IsLock lock
-IsEntry (entry.Message caller bus purpose part parts addr reading bytes heard end) = IsMessage caller bus purpose part parts addr bytes heard end
+IsEntry (entry.Message caller bus purpose part parts addr reading bytes heard end) =
+    IsMessage caller bus purpose part parts addr bytes heard end
 IsEntry (entry.Line caller mux level failed) = IsSmall caller × IsWide mux × IsSmall level
 IsEntry (entry.Settle caller reply cut) = IsSmall caller × IsReply reply × IsCut cut
 

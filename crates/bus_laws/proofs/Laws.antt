@@ -16,7 +16,27 @@ pub use Rattle.bus_laws.proofs.walk.CostLaw.{asks-less, walk-within}
 pub use Rattle.bus_laws.proofs.walk.First.{walk-first}
 pub use Rattle.bus_laws.proofs.walk.HoldsLaw.{walk-holds}
 pub use Rattle.bus_laws.proofs.walk.Jobs.{hop_kind, jobs-both, walk-jobs, walk-stays}
-pub use Rattle.bus_laws.proofs.walk.Next.{call-goes-on, call-sent, calls-next, first-switched-off, first-freed, first-selected, first-sent, first-taken, job-sent, job-shifted, jobs-next, quiet-next, seen-first, settles-freed, settles-sent, settles-settled, settles-taken, what_follows, within-next}
+pub use Rattle.bus_laws.proofs.walk.Next.{
+  call-goes-on,
+  call-sent,
+  calls-next,
+  first-switched-off,
+  first-freed,
+  first-selected,
+  first-sent,
+  first-taken,
+  job-sent,
+  job-shifted,
+  jobs-next,
+  quiet-next,
+  seen-first,
+  settles-freed,
+  settles-sent,
+  settles-settled,
+  settles-taken,
+  what_follows,
+  within-next,
+}
 pub use Rattle.bus_laws.proofs.walk.SettleLaw.{walk-settles, walk-starts}
 pub use Rattle.bus_laws.proofs.walk.Waits.{all-ended}
 pub use Rattle.bus_laws.proofs.world.BoardFacts.{get_within}

@@ -9,4 +9,5 @@ use Rattle.bus_laws.specs.Coming.{Comes}
 -- whatever comes after this past: where it follows the words that are left, the whole follows all words
 abbrev pub KeepsTo : BoardView → ℕ → Asks → List ℕ → List ℕ → List Entry → Type 0
 KeepsTo b callers asks words left past =
-    (later : List Turn) → Comes b callers asks past later → FollowsWords left past later → FollowsWords words [] (turns (reverse past) ++ later)
+    (later : List Turn) → Comes b callers asks past later → FollowsWords left past later
+    → FollowsWords words [] (turns (reverse past) ++ later)

@@ -55,7 +55,8 @@ pub record SendsIn (b : BoardView) (job : Job) (marks : List Mark) (held : List 
 -- a walk goes on from these locks, the last one taken first
 abbrev pub HoldsLocks : BoardView → List LockId → WalkTree → Type 0
 HoldsLocks b held Ends = held ≡ []
-HoldsLocks b held (Look ask next) = InLocks (lock.Mux (ask_bus ask)) held × IsAskOf b ask × ((m : Option ℕ) → MayAnswer b ask m → HoldsLocks b held (next m))
+HoldsLocks b held (Look ask next) = InLocks (lock.Mux (ask_bus ask)) held × IsAskOf b ask
+    × ((m : Option ℕ) → MayAnswer b ask m → HoldsLocks b held (next m))
 HoldsLocks b held (Then (Take l) note next) = IsLockOf b l × IsBelow b l held × HoldsLocks b (l ∷ held) (next Passed)
 HoldsLocks b held (Then (Free l) note next) = (rest : List LockId) × (held ≡ l ∷ rest) × HoldsLocks b rest (next Passed)
 HoldsLocks b held (Then (Send job left) note next) = SendsIn b job note.marks held × ((out : ActOutcome) → HoldsLocks b held (next out))

@@ -33,11 +33,15 @@ pub record WillReach (b : BoardView) (asks : Asks) (n : Now) (c bus : ℕ) (mess
   pub not_refused : refusal b transfer ≡ None
   pub there : bus < buses b
   -- in the world of its root, and nobody else does
-  pub heard : hearers (n.worlds (root_of b bus)) (message_of b (Call bus messages) left).addr (message_of b (Call bus messages) left).reading
-      ≡ heard_list (who_hears b (n.worlds (root_of b bus)) bus transfer.force (message_of b (Call bus messages) left).addr (message_of b (Call bus messages) left).reading)
+  pub heard : hearers (n.worlds (root_of b bus)) (message_of b (Call bus messages) left).addr
+      (message_of b (Call bus messages) left).reading
+      ≡ heard_list (who_hears b (n.worlds (root_of b bus)) bus transfer.force (message_of b (Call bus messages) left).addr
+      (message_of b (Call bus messages) left).reading)
   -- the answer of the start tells whether somebody does
-  pub answered : has_heard (answer (n.worlds (root_of b bus)) (message_of b (Call bus messages) left).addr (message_of b (Call bus messages) left).reading)
-      ≡ is_some (who_hears b (n.worlds (root_of b bus)) bus transfer.force (message_of b (Call bus messages) left).addr (message_of b (Call bus messages) left).reading)
+  pub answered : has_heard (answer (n.worlds (root_of b bus)) (message_of b (Call bus messages) left).addr
+      (message_of b (Call bus messages) left).reading)
+      ≡ is_some (who_hears b (n.worlds (root_of b bus)) bus transfer.force (message_of b (Call bus messages) left).addr
+      (message_of b (Call bus messages) left).reading)
 
 -- a mux that is there acknowledges its address
 abbrev pub chip_where : BoardView → ℕ → Option Node
@@ -47,9 +51,11 @@ chip_where b m = if is_absent b m then None else Some (node.Chip m)
 pub record WillSwitch (b : BoardView) (n : Now) (job : Job) (left m : ℕ) : Type 0 where
   pub addressed : addr_of_mux b m ≡ Some (message_of b job left).addr
   -- in the world of its root
-  pub heard : hearers (n.worlds (root_of b (job_bus job))) (message_of b job left).addr (message_of b job left).reading ≡ heard_list (chip_where b m)
+  pub heard : hearers (n.worlds (root_of b (job_bus job))) (message_of b job left).addr (message_of b job left).reading ≡ heard_list
+      (chip_where b m)
   -- the answer of the start tells whether it does
-  pub answered : has_heard (answer (n.worlds (root_of b (job_bus job))) (message_of b job left).addr (message_of b job left).reading) ≡ is_some (chip_where b m)
+  pub answered : has_heard (answer (n.worlds (root_of b (job_bus job))) (message_of b job left).addr (message_of b job left).reading) ≡
+      is_some (chip_where b m)
 
 -- a line step that comes next is of a gpio mux behind this root, to one of its own levels
 pub record HasLineIn (b : BoardView) (root m level : ℕ) : Type 0 where

@@ -13,7 +13,8 @@ abbrev pub ahead : BoardView → Asks → Now → ℕ → WalkTree
 ahead b asks n c = if is_over (n.walk c) then begun b (asks c (n.settled c)) else n.walk c
 
 -- what is ahead of a caller, its replies, what its transfer has read so far, and the cut that its last entry tells
-pub record CallerTold (b : BoardView) (asks : Asks) (n : Now) (c : ℕ) (w : WalkTree) (replies : List Reply) (got : List ℕ) (cut : Cut) : Type 0 where
+pub record CallerTold (b : BoardView) (asks : Asks) (n : Now) (c : ℕ) (w : WalkTree) (replies : List Reply) (got : List ℕ)
+    (cut : Cut) : Type 0 where
   pub walk : ahead b asks n c ≡ w
   pub settled : n.settled c ≡ replies
   pub got_is : n.got c ≡ got

@@ -27,7 +27,8 @@ AsksWithinLimits asks = (c : ℕ) (rs : List Reply) (t : TransferView) → asks 
 -- a mux has exactly the channel open that it keeps, or none where it keeps none, as its chip stands in the world of its root.
 -- One that disconnects keeps a channel only while the caller that switched it last has the lock of its bus
 pub record KeepsItsChannel (b : BoardView) (asks : Asks) (past : List Entry) (m : ℕ) : Type 0 where
-  pub opened : (c : ℕ) → kept_channel b asks past m ≡ Some c → (x : ChipView) × (chip_in b (world_at b asks past) m ≡ Some x) × (is_open x c ≡ true)
+  pub opened : (c : ℕ) → kept_channel b asks past m ≡ Some c
+      → (x : ChipView) × (chip_in b (world_at b asks past) m ≡ Some x) × (is_open x c ≡ true)
   pub only : (c : ℕ) (x : ChipView) → chip_in b (world_at b asks past) m ≡ Some x → is_open x c ≡ true → kept_channel b asks past m ≡ Some c
   pub locked : is_left_open b m ≡ false → (c : ℕ) → kept_channel b asks past m ≡ Some c
       → (caller : ℕ) × (switched_by past m ≡ Some caller) × (holder past (lock.Mux (home_of_mux b m)) ≡ Some caller)

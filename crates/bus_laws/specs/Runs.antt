@@ -171,7 +171,8 @@ IsGranted b whose (Select h) = Unit {0}
 IsGranted b whose (SwitchOff off) = Unit {0}
 
 -- a message may be sent
-pub record MaySend (b : BoardView) (whose : TransferView) (job : Job) (left : ℕ) (marks : List Mark) (held : List LockId) (v : Slots) : Type 0 where
+pub record MaySend (b : BoardView) (whose : TransferView) (job : Job) (left : ℕ) (marks : List Mark) (held : List LockId)
+    (v : Slots) : Type 0 where
   -- every mux over its bus is selected, and its lock is held; so is the root's
   pub reached : (g : Hop) → IsAmongHops g (hops b (job_bus job)) → IsOpenOn b g (v g.on) × InLocks (lock.Mux g.on) held
   pub rooted : InLocks (lock.Bus (root_of b (job_bus job))) held

@@ -40,7 +40,8 @@ IsDecided note job left out w =
 -- nothing between
 abbrev pub CallGoesOn : ℕ → List MessageView → ℕ → ActOutcome → WalkTree → Type 0
 CallGoesOn bus messages (suc left) out w =
-    first_act w ≡ Some (if is_on (goes (Call bus messages) left out) then Send (Call bus messages) left else Settle (verdict_of (Call bus messages) (suc left) out))
+    first_act w ≡ Some (if is_on (goes (Call bus messages) left out) then Send (Call bus messages) left else Settle
+    (verdict_of (Call bus messages) (suc left) out))
 CallGoesOn bus messages zero out w = first_act w ≡ Some (Settle (verdict_of (Call bus messages) zero out))
 
 abbrev pub GoesOn : Note → Job → ℕ → ActOutcome → WalkTree → Type 0
@@ -52,7 +53,8 @@ GoesOn note (SwitchOff off) left out w = IsDecided note (SwitchOff off) left out
 -- and went through
 pub record FollowsSend (job : Job) (left : ℕ) (e : End) (bytes : List ℕ) (w : WalkTree) : Type 0 where
   pub settles : first_act w ≡ Some (Settle (verdict_of job left (Sent e bytes)))
-  pub whole : verdict_of job left (Sent e bytes) ≡ None → (bus : ℕ) × (messages : List MessageView) × (job ≡ Call bus messages) × (left ≡ 0) × (e ≡ end.Ok)
+  pub whole : verdict_of job left (Sent e bytes) ≡ None
+      → (bus : ℕ) × (messages : List MessageView) × (job ≡ Call bus messages) × (left ≡ 0) × (e ≡ end.Ok)
 
 -- a walk that has settled, or hasn't, settles once: directly behind a message or a line step, and before its end
 abbrev pub Settles : Bool → WalkTree → Type 0
@@ -63,5 +65,6 @@ Settles done (Then (Free l) note next) = NoSettle (next Passed) × Settles done 
 Settles done (Then (Send job left) note next) =
     IsBefore done job
     × ((e : End) (bytes : List ℕ) → GoesOn note job left (Sent e bytes) (next (Sent e bytes)) × Settles done (next (Sent e bytes)))
-Settles done (Then (Shift job) note next) = (failed : Bool) → IsDecided note job zero (Lined failed) (next (Lined failed)) × Settles done (next (Lined failed))
+Settles done (Then (Shift job) note next) = (failed : Bool)
+    → IsDecided note job zero (Lined failed) (next (Lined failed)) × Settles done (next (Lined failed))
 Settles done (Then (Settle verdict) note next) = (done ≡ false) × NoSettle (next Passed) × Settles true (next Passed)

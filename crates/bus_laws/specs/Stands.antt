@@ -25,7 +25,8 @@ IsOnce [] = Unit {0}
 IsOnce (l ∷ ls) = (InLocks l ls → ⊥) × IsOnce ls
 
 -- what is left of each walk, the locks of each caller, who has each lock, what is known of each bus, and the worlds
-pub record StandsIn (b : BoardView) (walk : ℕ → WalkTree) (held : ℕ → List LockId) (holder : LockId → Option ℕ) (slot : Slots) (worlds : ℕ → World) : Type 0 where
+pub record StandsIn (b : BoardView) (walk : ℕ → WalkTree) (held : ℕ → List LockId) (holder : LockId → Option ℕ) (slot : Slots) (worlds : ℕ
+    → World) : Type 0 where
   pub callers : (c : ℕ) → CallerStands b (held c) (walk c) slot
   -- whoever counts a lock among its own has it, and the other way
   pub holds : (c : ℕ) (l : LockId) → InLocks l (held c) → holder l ≡ Some c

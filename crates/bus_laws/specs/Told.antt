@@ -29,7 +29,8 @@ pub record ChipsTold (b : BoardView) (v : Slots) (chips : ℕ → Option ChipVie
   -- a channel that is kept is open, and its mux is there and isn't held
   pub opened : (m c : ℕ) → (v (home_of_mux b m)).kept m ≡ Some c
       → (x : ChipView) × (chips m ≡ Some x) × (is_open x c ≡ true) × (is_absent b m ≡ false) × (is_held b m ≡ false)
-  pub polled : (p : ℕ) (h : Hop) (n : ℕ) (x : ChipView) → (v p).slot ≡ Polled h n → chips h.mux ≡ Some x → (x.left ≤ n) ⊎ (x.foreign ≡ POLLS)
+  pub polled : (p : ℕ) (h : Hop) (n : ℕ) (x : ChipView) → (v p).slot ≡ Polled h n → chips h.mux ≡ Some x
+      → (x.left ≤ n) ⊎ (x.foreign ≡ POLLS)
   pub found : (p : ℕ) (h : Hop) (x : ChipView) → (v p).slot ≡ Found h → chips h.mux ≡ Some x → is_free x ≡ true
   pub asked : (p : ℕ) (h : Hop) (n : ℕ) → (v p).slot ≡ Polled h n → home_of_mux b h.mux ≡ p
   pub free : (p : ℕ) (h : Hop) → (v p).slot ≡ Found h → home_of_mux b h.mux ≡ p

@@ -22,12 +22,14 @@ rose_from old mid new low (inr full) = inr full
 pub idle_starts : (x : Phase) → x ≡ Idle → MayStart x
 idle_starts x idle = subst (λ (y : Phase). MayStart y) (sym idle) tt
 
-module _ {P : Type 0} (p : PortGhosts P) (last : Bool) (left : Option ℕ → Said World → TalkTold World) (calls most : ℕ) (got : List ℕ) (old mid new : P) (bytes : List ℕ)
+module _ {P : Type 0} (p : PortGhosts P) (last : Bool) (left : Option ℕ → Said World → TalkTold World) (calls most : ℕ) (got : List ℕ)
+    (old mid new : P) (bytes : List ℕ)
     (grown : IsTrue p.tells → length (p.log mid) ≤ length (p.log old) + most) (later : p.faults old ≤ p.faults mid) where
   -- A CALL FAILED behind this port, with so many calls before it
   pub fault-ends : (at : ℕ) → calls ≤ at → at ≤ calls + most → length bytes ≤ length got + most → p.phase new ≡ Idle
       → (IsTrue p.tells → p.log new ≡ p.log mid ++ call.Fault ∷ []) → p.faults mid ≤ p.faults new → Rose (p.faults mid) (p.faults new)
-      → (IsTrue p.tells → (whole : TalkTold World) (before : List PortCall) → Reaches whole (left (Some at)) before calls got (p.world old) (p.log old)
+      → (IsTrue p.tells → (whole : TalkTold World) (before : List PortCall)
+      → Reaches whole (left (Some at)) before calls got (p.world old) (p.log old)
       → TellsTalk whole bytes (end.Cut at) (p.world new) before (p.log new))
       → MessageEnded p last left calls most got old new bytes (end.Cut at)
   fault-ends at low high few idle log after rose told =
@@ -49,7 +51,8 @@ module _ {P : Type 0} (p : PortGhosts P) (last : Bool) (left : Option ℕ → Sa
       → MessageEnded p last2 left2 calls2 most2 got2 mid new bytes e
       → (last2 ≡ false → last ≡ false) → calls ≤ calls2 → calls2 + most2 ≤ calls + most → length got2 + most2 ≤ length got + most
       → (IsTrue p.tells → length (p.log mid) + most2 ≤ length (p.log old) + most)
-      → (IsTrue p.tells → (whole : TalkTold World) (before : List PortCall) → Reaches whole (left (cut_of e)) before calls got (p.world old) (p.log old)
+      → (IsTrue p.tells → (whole : TalkTold World) (before : List PortCall)
+      → Reaches whole (left (cut_of e)) before calls got (p.world old) (p.log old)
       → Reaches whole (left2 (cut_of e)) before calls2 got2 (p.world mid) (p.log mid))
       → MessageEnded p last left calls most got old new bytes e
   rest-ends last2 left2 calls2 most2 got2 e ended on low high few room goes =

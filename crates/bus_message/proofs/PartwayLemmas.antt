@@ -10,7 +10,8 @@ use Rattle.bus_spec.specs.Walk.{nth_message}
 
 -- the message at a place, with its bytes: those behind what was written before
 pub nth_is : (ms : List Msg) (out : List ℕ) (i : ℕ) (d : Msg) → i < length ms
-    → nth_message (messages_from ms out) i ≡ message_with (get_or ms i d) (take (written_of (get_or ms i d)) (drop (sum_by written_of (take i ms)) out))
+    → nth_message (messages_from ms out) i ≡ message_with (get_or ms i d)
+    (take (written_of (get_or ms i d)) (drop (sum_by written_of (take i ms)) out))
 nth_is [] out i d h = absurd (omega (arith, h))
 nth_is (m ∷ ms) out zero d h = refl
 nth_is (m ∷ ms) out (suc i) d h =
@@ -21,11 +22,13 @@ nth_is (m ∷ ms) out (suc i) d h =
 -- what was written so far is within the transfer's bytes, with what its next message writes
 sum_within : (f : Msg → ℕ) (ms : List Msg) (i : ℕ) (d : Msg) → i < length ms → sum_by f (take i ms) + f (get_or ms i d) ≤ sum_by f ms
 sum_within f ms i d h =
-    let more : sum_by f (take (i + 1) ms) ≡ sum_by f (take i ms) + f (get_or ms i d) = ap (sum_by f) (take_more ms i d h) ∙ sum_by_push f (take i ms) (get_or ms i d) in
+    let more : sum_by f (take (i + 1) ms) ≡ sum_by f (take i ms) + f (get_or ms i d) = ap (sum_by f) (take_more ms i d h)
+    ∙ sum_by_push f (take i ms) (get_or ms i d) in
     let all : sum_by f (take (i + 1) ms) ≤ sum_by f ms = sum_by-take-le f ms (i + 1) in
     omega (arith, more, all)
 
-module _ (t : TransferView) (sent wrote : ℕ) (more : sent < length t.msgs) (counts : wrote ≡ sum_by written_of (take sent t.msgs)) (fits : IsTransfer t.msgs t.out)
+module _ (t : TransferView) (sent wrote : ℕ) (more : sent < length t.msgs) (counts : wrote ≡ sum_by written_of (take sent t.msgs))
+    (fits : IsTransfer t.msgs t.out)
     (m : Msg) (xs : List Msg) (i : ℕ) (e : m ≡ get_or xs i m) (all : xs ≡ t.msgs) (place : i ≡ sent) where
   -- a message that was read at its place
   pub here : m ≡ get_or t.msgs sent m
@@ -39,5 +42,6 @@ module _ (t : TransferView) (sent wrote : ℕ) (more : sent < length t.msgs) (co
 
   pub written_within : wrote + written_of m ≤ length t.out
   written_within =
-      let both : sum_by written_of (take sent t.msgs) + written_of (get_or t.msgs sent m) ≤ sum_by written_of t.msgs = sum_within written_of t.msgs sent m more in
+      let both : sum_by written_of (take sent t.msgs) + written_of (get_or t.msgs sent m) ≤ sum_by written_of t.msgs =
+      sum_within written_of t.msgs sent m more in
       omega (arith, both, fits.written, counts, ap written_of here)

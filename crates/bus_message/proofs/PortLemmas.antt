@@ -31,12 +31,15 @@ use Rattle.bus_message.specs.declared.message.MsgResult.{MsgResult}
 use Rattle.bus_message.proofs.PartwayLemmas.{nth_is}
 
 -- THE NEXT MESSAGE was sent, by what any message over a port leaves
-module _ (b : BoardView) (tells : Bool) (t : TransferView) (sent : ℕ) (next : NextMsg) (old new : RootPort) (bytes : List ℕ) (r : MsgResult) where
+module _ (b : BoardView) (tells : Bool) (t : TransferView) (sent : ℕ) (next : NextMsg) (old new : RootPort) (bytes : List ℕ)
+    (r : MsgResult) where
   abbrev last : Bool
   last = ends_with next.purpose next.part next.parts
 
-  pub next-sent : (m : MessageView) (hearer : Option Node) → m ≡ wire_message t sent next m.addr → hearer ≡ hearer_of next.purpose (grant_of b t.bus m.addr t.force)
-      → IsChipAddress b next.purpose m.addr → MessageSent tells (block_limit b) m hearer last old new bytes r → NextSent b tells t sent next old new bytes r
+  pub next-sent : (m : MessageView) (hearer : Option Node) → m ≡ wire_message t sent next m.addr
+      → hearer ≡ hearer_of next.purpose (grant_of b t.bus m.addr t.force)
+      → IsChipAddress b next.purpose m.addr → MessageSent tells (block_limit b) m hearer last old new bytes r
+      → NextSent b tells t sent next old new bytes r
   next-sent m hearer is named chip has =
       let wire : m ≡ wire_message t sent next r.addr = is ∙ ap (wire_message t sent next) (sym has.addr) in
       record {
@@ -44,10 +47,13 @@ module _ (b : BoardView) (tells : Bool) (t : TransferView) (sent : ℕ) (next : 
         reading = has.reading ∙ ap (λ (x : MessageView). x.reading) wire;
         chip = subst (λ (a : ℕ). IsChipAddress b next.purpose a) (sym has.addr) chip;
         spoke = subst (λ (x : MessageView). Spoke tells last (bytes_most (block_limit b) x) bytes r.end old new) wire has.spoke;
-        gives = λ good reads. subst (λ (x : MessageView). Gives (block_limit b) x bytes) wire (has.moved.read good (sym has.reading ∙ reads));
+        gives = λ good reads. subst (λ (x : MessageView). Gives (block_limit b) x bytes) wire
+            (has.moved.read good (sym has.reading ∙ reads));
         has = λ tell. record {
           root = has.spoke.root;
-          said = subst (λ (x : MessageView). TellsTalk (talk world_listener (block_limit b) old.world x last (cut_of r.end)) bytes r.end new.world old.log new.log) wire (has.told tell);
+          said = subst (λ (x : MessageView). TellsTalk
+              (talk world_listener (block_limit b) old.world x last (cut_of r.end)) bytes r.end new.world old.log new.log) wire
+              (has.told tell);
           hears = subst (λ (x : MessageView). IsHeard b t next.purpose x old.world r.heard r.end) wire
               (record {
                 acked = has.acked;
@@ -59,15 +65,20 @@ module _ (b : BoardView) (tells : Bool) (t : TransferView) (sent : ℕ) (next : 
       }
 
   -- .. a control message to the chip of a mux
-  pub control-sent : (mux addr limit : ℕ) (byte : Option ℕ) → next.purpose ≡ purpose.Control mux → next.control ≡ byte → ((a : ℕ) → addr_of_mux b mux ≡ Some a → addr ≡ a) → limit ≡ block_limit b
-      → MessageSent tells limit (control_message addr byte) (Some (node.Chip mux)) true old new bytes r → NextSent b tells t sent next old new bytes r
+  pub control-sent : (mux addr limit : ℕ) (byte : Option ℕ) → next.purpose ≡ purpose.Control mux → next.control ≡ byte
+      → ((a : ℕ) → addr_of_mux b mux ≡ Some a → addr ≡ a) → limit ≡ block_limit b
+      → MessageSent tells limit (control_message addr byte) (Some (node.Chip mux)) true old new bytes r
+      → NextSent b tells t sent next old new bytes r
   control-sent mux addr limit byte why writes lies is has =
       let m : MessageView = control_message addr byte in
-      let wire : (a : ℕ) → control_message a byte ≡ wire_message t sent next a = λ a. sym (ap (λ (p : Purpose). message_for t sent p next.control a) why ∙ ap (control_message a) writes) in
+      let wire : (a : ℕ) → control_message a byte ≡ wire_message t sent next a = λ a. sym
+      (ap (λ (p : Purpose). message_for t sent p next.control a) why ∙ ap (control_message a) writes) in
       let at : m.addr ≡ addr = to byte in
-      next-sent m (Some (node.Chip mux)) (wire addr ∙ ap (wire_message t sent next) (sym at)) (sym (ap (λ (p : Purpose). hearer_of p (grant_of b t.bus m.addr t.force)) why))
+      next-sent m (Some (node.Chip mux)) (wire addr ∙ ap (wire_message t sent next) (sym at))
+      (sym (ap (λ (p : Purpose). hearer_of p (grant_of b t.bus m.addr t.force)) why))
       (subst (λ (p : Purpose). IsChipAddress b p m.addr) (sym why) (λ a there. at ∙ lies a there))
-      (subst (λ (l : Bool). MessageSent tells (block_limit b) m (Some (node.Chip mux)) l old new bytes r) (sym (ap (λ (p : Purpose). ends_with p next.part next.parts) why))
+      (subst (λ (l : Bool). MessageSent tells (block_limit b) m (Some (node.Chip mux)) l old new bytes r)
+      (sym (ap (λ (p : Purpose). ends_with p next.part next.parts) why))
       (subst (λ (n : ℕ). MessageSent tells n m (Some (node.Chip mux)) true old new bytes r) is has))
     where
       to : (o : Option ℕ) → (control_message addr o).addr ≡ addr
@@ -75,7 +86,8 @@ module _ (b : BoardView) (tells : Bool) (t : TransferView) (sent : ℕ) (next : 
       to None = refl
 
   -- .. the next message of the caller's transfer
-  pub call-sent : (g : Grant) (limit : ℕ) (m : MessageView) (hearer : Option Node) (ends : Bool) → next.purpose ≡ purpose.Call → m ≡ call_message t sent
+  pub call-sent : (g : Grant) (limit : ℕ) (m : MessageView) (hearer : Option Node) (ends : Bool) → next.purpose ≡ purpose.Call
+      → m ≡ call_message t sent
       → g ≡ grant_of b t.bus (call_message t sent).addr t.force → hearer ≡ device_of g → limit ≡ block_limit b → ends ≡ last
       → MessageSent tells limit m hearer ends old new bytes r → NextSent b tells t sent next old new bytes r
   call-sent g limit m hearer ends why same grants named is done has =
@@ -93,7 +105,8 @@ module _ {P : Type 0} (p : PortGhosts P) (xs : List (ℕ × P)) (at : ℕ) (old 
   socket-here x is =
       let low : at < length (root_ports p xs) = slice_get_within (root_ports p xs) at x is in
       let same : length (root_ports p xs) ≡ length xs = length-map xs (root_port p) in
-      slice_get-map (root_port p) xs at ∙ ap (option_map (root_port p)) (slice_get-get_or xs at old (omega (arith, low, same)) ∙ ap Some (sym read))
+      slice_get-map (root_port p) xs at
+      ∙ ap (option_map (root_port p)) (slice_get-get_or xs at old (omega (arith, low, same)) ∙ ap Some (sym read))
 
   pub socket-is : (x : RootPort) → slice_get (root_ports p xs) at ≡ Some x → x ≡ root_port p old
   socket-is x is = let f : Some x ≡ Some (root_port p old) = sym is ∙ socket-here x is in cc
@@ -102,7 +115,8 @@ module _ {P : Type 0} (p : PortGhosts P) (xs : List (ℕ × P)) (at : ℕ) (old 
 gives_more : (m : MessageView) (limit more : ℕ) (bytes : List ℕ) → limit ≤ more → Gives limit m bytes → Gives more m bytes
 gives_more m limit more bytes low g = by m.counted g
   where
-    by : (c : Bool) → MatchBool c ((1 ≤ count_of bytes) × (count_of bytes ≤ limit) × (length bytes ≡ m.len + count_of bytes)) (length bytes ≡ m.len)
+    by : (c : Bool) → MatchBool c ((1 ≤ count_of bytes) × (count_of bytes ≤ limit) × (length bytes ≡ m.len + count_of bytes))
+        (length bytes ≡ m.len)
         → MatchBool c ((1 ≤ count_of bytes) × (count_of bytes ≤ more) × (length bytes ≡ m.len + count_of bytes)) (length bytes ≡ m.len)
     by true h = (h.0, (let within : count_of bytes ≤ limit = h.1 in omega (arith, low, within)), h.2)
     by false h = h
@@ -114,11 +128,14 @@ module _ (t : TransferView) (sent : ℕ) (m : Msg) (is : slice_get t.msgs sent �
   message_is : call_message t sent ≡ message
   message_is =
       let low : sent < length t.msgs = slice_get_within t.msgs sent m is in
-      let own : get_or t.msgs sent m ≡ m = (let f : Some (get_or t.msgs sent m) ≡ Some m = sym (slice_get-get_or t.msgs sent m low) ∙ is in cc) in
+      let own : get_or t.msgs sent m ≡ m = (let f : Some (get_or t.msgs sent m) ≡ Some m = sym (slice_get-get_or t.msgs sent m low) ∙ is in
+      cc) in
       nth_is t.msgs t.out sent m low
       ∙ ap (λ (x : Msg). message_with x (take (written_of x) (drop (sum_by written_of (take sent t.msgs)) t.out))) own
 
-  pub gave-read : (limit more : ℕ) (bytes : List ℕ) → limit ≤ more → ((call_message t sent).reading ≡ true → Gives limit (call_message t sent) bytes) → is_read m ≡ true → Gives more (message_with m []) bytes
+  pub gave-read : (limit more : ℕ) (bytes : List ℕ) → limit ≤ more
+      → ((call_message t sent).reading ≡ true → Gives limit (call_message t sent) bytes) → is_read m ≡ true
+      → Gives more (message_with m []) bytes
   gave-read limit more bytes low gives reads =
       gives_more message limit more bytes low
       (subst (λ (x : MessageView). Gives limit x bytes) message_is (gives (ap (λ (x : MessageView). x.reading) message_is ∙ reads)))

@@ -42,7 +42,8 @@ started end.Refused behind f = (let h : false ≡ true = f in cc)
 started end.Proto behind f = (let h : false ≡ true = f in cc)
 
 -- what is left, told in another way
-pub reaches_same : (whole : TalkTold World) (left next : Said World → TalkTold World) (before : List PortCall) (count : ℕ) (got : List ℕ) (w : World) (log : List PortCall)
+pub reaches_same : (whole : TalkTold World) (left next : Said World → TalkTold World) (before : List PortCall) (count : ℕ) (got : List ℕ)
+    (w : World) (log : List PortCall)
     → ((s : Said World) → left s ≡ next s)
     → Reaches whole left before count got w log
     → Reaches whole next before count got w log
@@ -68,7 +69,8 @@ said_more s before count got w log c at =
     }
 
 -- a call that goes through
-call_went : (whole : TalkTold World) (cut : Option ℕ) (c : PortCall) (next : World → Said World → TalkTold World) (before : List PortCall) (count : ℕ) (got : List ℕ) (w : World) (log : List PortCall)
+call_went : (whole : TalkTold World) (cut : Option ℕ) (c : PortCall) (next : World → Said World → TalkTold World) (before : List PortCall)
+    (count : ℕ) (got : List ℕ) (w : World) (log : List PortCall)
     → is_it cut count ≡ false
     → Reaches whole (λ s. call_then world_listener cut s c (next s.now)) before count got w log
     → Reaches whole (next w) before (count + 1) got (after w c) (log ++ c ∷ [])
@@ -84,14 +86,16 @@ call_went whole cut c next before count got w log goes r =
     }
 
 -- a call that fails
-call_failed : (whole : TalkTold World) (c : PortCall) (next : World → Said World → TalkTold World) (before : List PortCall) (count : ℕ) (got : List ℕ) (w : World) (log : List PortCall)
+call_failed : (whole : TalkTold World) (c : PortCall) (next : World → Said World → TalkTold World) (before : List PortCall) (count : ℕ)
+    (got : List ℕ) (w : World) (log : List PortCall)
     → Reaches whole (λ s. call_then world_listener (Some count) s c (next s.now)) before count got w log
     → TellsTalk whole got (end.Cut count) (after w call.Fault) before (log ++ call.Fault ∷ [])
 call_failed whole c next before count got w log r =
     let s : Said World = r.said in
     let test : is_it (Some count) (length s.calls) ≡ true = ap (is_it (Some count)) (sym r.stands.calls) ∙ is_here count in
     let same : whole ≡ told (say world_listener s call.Fault) (end.Cut (length s.calls)) =
-    r.same ∙ ap (λ b. cond b (told (say world_listener s call.Fault) (end.Cut (length s.calls))) (next s.now (say world_listener s c))) test in
+    r.same ∙ ap (λ b. cond b (told (say world_listener s call.Fault) (end.Cut (length s.calls))) (next s.now (say world_listener s c))) test
+    in
     record {
       bytes = r.stands.bytes ∙ ap (λ t. t.bytes) (sym same);
       end = ap end.Cut r.stands.calls ∙ ap (λ t. t.end) (sym same);
@@ -100,7 +104,8 @@ call_failed whole c next before count got w log r =
     }
 
 -- a byte more
-pub byte_more : (whole : TalkTold World) (left : Said World → TalkTold World) (byte : ℕ) (before : List PortCall) (count : ℕ) (got : List ℕ) (w : World) (log : List PortCall)
+pub byte_more : (whole : TalkTold World) (left : Said World → TalkTold World) (byte : ℕ) (before : List PortCall) (count : ℕ) (got : List ℕ)
+    (w : World) (log : List PortCall)
     → Reaches whole (λ s. left (with_byte s byte)) before count got w log
     → Reaches whole left before count (got ++ byte ∷ []) w log
 byte_more whole left byte before count got w log r =
@@ -111,14 +116,16 @@ byte_more whole left byte before count got w log r =
     }
 
 -- a call that went through, with the world and the log that it left
-pub went : (whole : TalkTold World) (cut : Option ℕ) (c : PortCall) (next : World → Said World → TalkTold World) (before : List PortCall) (count : ℕ) (got : List ℕ) (w w_new : World) (log log_new : List PortCall)
+pub went : (whole : TalkTold World) (cut : Option ℕ) (c : PortCall) (next : World → Said World → TalkTold World) (before : List PortCall)
+    (count : ℕ) (got : List ℕ) (w w_new : World) (log log_new : List PortCall)
     → ((k : ℕ) → cut ≡ Some k → count + 1 ≤ k) → w_new ≡ after w c → log_new ≡ log ++ c ∷ []
     → Reaches whole (λ s. call_then world_listener cut s c (next s.now)) before count got w log
     → Reaches whole (next w) before (count + 1) got w_new log_new
 went whole cut c next before count got w w_new log log_new behind world_is log_is r =
     rw (world_is, log_is) (call_went whole cut c next before count got w log (not_here cut count behind) r)
 
-pub failed : (whole : TalkTold World) (c : PortCall) (next : World → Said World → TalkTold World) (before : List PortCall) (count : ℕ) (got : List ℕ) (w w_new : World) (log log_new : List PortCall)
+pub failed : (whole : TalkTold World) (c : PortCall) (next : World → Said World → TalkTold World) (before : List PortCall) (count : ℕ)
+    (got : List ℕ) (w w_new : World) (log log_new : List PortCall)
     → w_new ≡ after w call.Fault → log_new ≡ log ++ call.Fault ∷ []
     → Reaches whole (λ s. call_then world_listener (Some count) s c (next s.now)) before count got w log
     → TellsTalk whole got (end.Cut count) w_new before log_new

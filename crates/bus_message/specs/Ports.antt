@@ -53,7 +53,8 @@ pub record Spoke (tells last : Bool) (most : ℕ) (bytes : List ℕ) (e : End) (
   pub few : length bytes ≤ most
 
 -- a message was sent on a port: what any port keeps, what one that tells shows, and who is told to have heard it
-pub record MessageSent (tells : Bool) (limit : ℕ) (m : MessageView) (hearer : Option Node) (last : Bool) (old new : RootPort) (bytes : List ℕ) (r : MsgResult) : Type 0 where
+pub record MessageSent (tells : Bool) (limit : ℕ) (m : MessageView) (hearer : Option Node) (last : Bool) (old new : RootPort)
+    (bytes : List ℕ) (r : MsgResult) : Type 0 where
   pub addr : r.addr ≡ m.addr
   pub reading : r.reading ≡ m.reading
   pub spoke : Spoke tells last (bytes_most limit m) bytes r.end old new

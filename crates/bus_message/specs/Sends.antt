@@ -58,14 +58,16 @@ hearer_of purpose.Call g = device_of g
 hearer_of (purpose.Control m) g = Some (node.Chip m)
 
 -- who is told to have heard it is so by the answer of its start; nobody where the start itself failed
-pub record IsHeard (b : BoardView) (t : TransferView) (why : Purpose) (m : MessageView) (w : World) (heard : Option Node) (e : End) : Type 0 where
+pub record IsHeard (b : BoardView) (t : TransferView) (why : Purpose) (m : MessageView) (w : World) (heard : Option Node)
+    (e : End) : Type 0 where
   pub acked : Bool
   pub named : heard ≡ (if acked then hearer_of why (grant_of b t.bus m.addr t.force) else None)
   pub failed : start_failed e ≡ true → acked ≡ false
   pub answered : start_failed e ≡ false → acked ≡ has_heard (answer w m.addr m.reading)
 
 -- a message was sent on the port of a root: its world and its log are new
-pub record HasSent (b : BoardView) (t : TransferView) (why : Purpose) (m : MessageView) (last : Bool) (old new : RootPort) (bytes : List ℕ) (heard : Option Node) (e : End) : Type 0 where
+pub record HasSent (b : BoardView) (t : TransferView) (why : Purpose) (m : MessageView) (last : Bool) (old new : RootPort) (bytes : List ℕ)
+    (heard : Option Node) (e : End) : Type 0 where
   pub root : new.root ≡ old.root
   pub said : TellsTalk (talk world_listener (block_limit b) old.world m last (cut_of e)) bytes e new.world old.log new.log
   pub hears : IsHeard b t why m old.world heard e
@@ -80,10 +82,13 @@ pub record MaySend (b : BoardView) (tells : Bool) (t : TransferView) (sent : ℕ
   pub room : (addr : ℕ) → IsTrue tells → length x.log + (bytes_most (block_limit b) (wire_message t sent next addr) + 2) ≤ MOST_CALLS
 
 -- the next message of a walk was sent on a port
-pub record NextSent (b : BoardView) (tells : Bool) (t : TransferView) (sent : ℕ) (next : NextMsg) (old new : RootPort) (bytes : List ℕ) (r : MsgResult) : Type 0 where
+pub record NextSent (b : BoardView) (tells : Bool) (t : TransferView) (sent : ℕ) (next : NextMsg) (old new : RootPort) (bytes : List ℕ)
+    (r : MsgResult) : Type 0 where
   pub addr : r.addr ≡ (wire_message t sent next r.addr).addr
   pub reading : r.reading ≡ (wire_message t sent next r.addr).reading
   pub chip : IsChipAddress b next.purpose r.addr
-  pub spoke : Spoke tells (ends_with next.purpose next.part next.parts) (bytes_most (block_limit b) (wire_message t sent next r.addr)) bytes r.end old new
+  pub spoke : Spoke tells (ends_with next.purpose next.part next.parts)
+      (bytes_most (block_limit b) (wire_message t sent next r.addr)) bytes r.end old new
   pub gives : r.end ≡ end.Ok → r.reading ≡ true → Gives (block_limit b) (wire_message t sent next r.addr) bytes
-  pub has : IsTrue tells → HasSent b t next.purpose (wire_message t sent next r.addr) (ends_with next.purpose next.part next.parts) old new bytes r.heard r.end
+  pub has : IsTrue tells → HasSent b t next.purpose (wire_message t sent next r.addr)
+      (ends_with next.purpose next.part next.parts) old new bytes r.heard r.end

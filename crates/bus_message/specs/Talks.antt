@@ -37,14 +37,16 @@ pub record HasMoved (limit : ℕ) (m : MessageView) (bytes : List ℕ) (e : End)
   pub written : e ≡ end.Ok → m.reading ≡ false → bytes ≡ m.bytes
 
 -- so far it is this: its calls, on top of a log that was there before, its bytes, and the world
-pub record Stands (said : Said World) (before : List PortCall) (count : ℕ) (got : List ℕ) (world : World) (log_now : List PortCall) : Type 0 where
+pub record Stands (said : Said World) (before : List PortCall) (count : ℕ) (got : List ℕ) (world : World)
+    (log_now : List PortCall) : Type 0 where
   pub log : log_now ≡ before ++ reverse said.calls
   pub calls : count ≡ length said.calls
   pub bytes : got ≡ said.bytes
   pub now : world ≡ said.now
 
 -- a whole conversation has come to where this is left of it
-pub record Reaches (whole : TalkTold World) (left : Said World → TalkTold World) (before : List PortCall) (count : ℕ) (got : List ℕ) (world : World) (log_now : List PortCall) : Type 0 where
+pub record Reaches (whole : TalkTold World) (left : Said World → TalkTold World) (before : List PortCall) (count : ℕ) (got : List ℕ)
+    (world : World) (log_now : List PortCall) : Type 0 where
   pub said : Said World
   pub stands : Stands said before count got world log_now
   pub same : whole ≡ left said
@@ -77,14 +79,16 @@ pub record HasFailed (least most faults_old faults_new : ℕ) (e : End) : Type 0
 -- A MESSAGE IN PROGRESS went on to its end on a port: this was left of it, behind so many calls and these bytes, and at
 -- most so many bytes were to come. Another may start behind it, and the port is idle unless it went through and isn't the
 -- last of its transfer.
-pub record MessageEnded {P : Type 0} (p : PortGhosts P) (last : Bool) (left : Option ℕ → Said World → TalkTold World) (calls most : ℕ) (got : List ℕ) (old new : P) (bytes : List ℕ) (e : End) : Type 0 where
+pub record MessageEnded {P : Type 0} (p : PortGhosts P) (last : Bool) (left : Option ℕ → Said World → TalkTold World) (calls most : ℕ)
+    (got : List ℕ) (old new : P) (bytes : List ℕ) (e : End) : Type 0 where
   pub start : MayStart (p.phase new)
   pub idle : (p.phase new ≡ Idle) ⊎ ((last ≡ false) × (e ≡ end.Ok))
   pub grows : IsTrue p.tells → length (p.log new) ≤ length (p.log old) + (most + 1)
   pub later : p.faults old ≤ p.faults new
   pub few : length bytes ≤ length got + most
   pub fails : HasFailed calls (calls + most) (p.faults old) (p.faults new) e
-  pub told : IsTrue p.tells → (whole : TalkTold World) (before : List PortCall) → Reaches whole (left (cut_of e)) before calls got (p.world old) (p.log old)
+  pub told : IsTrue p.tells → (whole : TalkTold World) (before : List PortCall)
+      → Reaches whole (left (cut_of e)) before calls got (p.world old) (p.log old)
       → TellsTalk whole bytes e (p.world new) before (p.log new)
 
 -- a message that may be sent under this limit of counts: a read asks for something, a write has no more bytes than its

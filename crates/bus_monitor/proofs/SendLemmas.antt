@@ -10,8 +10,10 @@ use Rattle.bus_monitor.specs.declared.naming.Naming as naming
 use Rattle.bus_monitor.specs.contracts.desk.Named as named
 use Rattle.bus_monitor.specs.contracts.desk.Desk as desk
 
-named-send : (a : NamedLft) (P C N S : RattleType) (g : port.Ghosts P.Denot) (c : caller.Ghosts C.Denot S.Denot) (n : naming.Ghosts N.Denot S.Denot) → IsSend P → IsSend C → IsSend N → IsSend (named.the_row a P C N S g c n)
+named-send : (a : NamedLft) (P C N S : RattleType) (g : port.Ghosts P.Denot) (c : caller.Ghosts C.Denot S.Denot)
+    (n : naming.Ghosts N.Denot S.Denot) → IsSend P → IsSend C → IsSend N → IsSend (named.the_row a P C N S g c n)
 named-send a P C N S g c n ports callers names = search (sendable, crosses, core-send) depth 60 fits 100000
 
-pub desk-sync : (a : NamedLft) (P C N S : RattleType) (g : port.Ghosts P.Denot) (c : caller.Ghosts C.Denot S.Denot) (n : naming.Ghosts N.Denot S.Denot) → IsSend P → IsSend C → IsSend N → IsSync (desk.the_row a P C N S g c n)
+pub desk-sync : (a : NamedLft) (P C N S : RattleType) (g : port.Ghosts P.Denot) (c : caller.Ghosts C.Denot S.Denot)
+    (n : naming.Ghosts N.Denot S.Denot) → IsSend P → IsSend C → IsSend N → IsSync (desk.the_row a P C N S g c n)
 desk-sync a P C N S g c n ports callers names = search (sendable, crosses, named-send) depth 60 fits 100000

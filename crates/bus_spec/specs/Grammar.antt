@@ -41,7 +41,8 @@ abbrev pub messages : ℕ → Doer
 messages zero job note k = Then (Send job zero) note (over job zero note k)
 messages (suc left) job note k =
     Then (Send job (suc left)) note (λ out.
-    by_go (goes job left out) (messages left job note k) (Then (Send job zero) note (over job zero note k)) (over job (suc left) note k out))
+    by_go (goes job left out) (messages left job note k) (Then (Send job zero) note (over job zero note k))
+    (over job (suc left) note k out))
 
 -- a job on the bus itself: one line step, or its messages
 abbrev pub at_bus : Doer

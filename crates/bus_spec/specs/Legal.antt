@@ -131,7 +131,8 @@ IsReached b w force m =
     (list_all (opens_hop w.chips) (hops b m.bus) ≡ true) × HearsIn w m.addr m.reading m.heard m.end × by_purpose b w force m m.purpose
 
 abbrev pub ReachAt : BoardView → Asks → Entry → List Entry → Type 0
-ReachAt b asks e past = OfMessage (λ m. IsReached b (world_at b asks past (root_of b m.bus)) (is_forced (transfer_at asks past m.caller)) m) e
+ReachAt b asks e past = OfMessage
+    (λ m. IsReached b (world_at b asks past (root_of b m.bus)) (is_forced (transfer_at asks past m.caller)) m) e
 
 abbrev pub Reaches : BoardView → Asks → List Entry → Type 0
 Reaches b asks past = Everywhere (ReachAt b asks) past

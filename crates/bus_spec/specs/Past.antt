@@ -124,7 +124,8 @@ is_on Over = false
 
 -- the caller's messages have begun; they end with the last one, or with one that doesn't go through
 abbrev pub inside_after : Job → ℕ → ActOutcome → ℕ → Option ℕ → Option ℕ
-inside_after (Call bus messages) left out c old = if (left == 0) then None else if is_on (goes (Call bus messages) left out) then Some c else None
+inside_after (Call bus messages) left out c old = if (left == 0) then None else if is_on
+    (goes (Call bus messages) left out) then Some c else None
 inside_after (Select h) left out c old = old
 inside_after (SwitchOff off) left out c old = old
 

@@ -33,7 +33,8 @@ outcome_of e = of_message Passed (λ m. Sent m.end m.bytes) e
 -- what a caller's walk has left: its last entry was the next step of what was left before, and leads one step on
 abbrev pub walk_left : BoardView → Asks → List Entry → ℕ → WalkTree
 walk_left b asks [] c = Ends
-walk_left b asks (e ∷ past) c = if c == caller_of e then rest_of (current b asks (now b asks past) c) (outcome_of e) else walk_left b asks past c
+walk_left b asks (e ∷ past) c = if c == caller_of e then rest_of (current b asks (now b asks past) c)
+    (outcome_of e) else walk_left b asks past c
 
 -- the message in flight: the one that a caller's walk sends next
 abbrev pub message_sent : BoardView → Option Act → Option MessageView
@@ -77,7 +78,8 @@ mark_by act note e p old = of_message old (λ m. mark_sent act note (is_cut m.en
 abbrev pub mark_left : BoardView → Asks → List Entry → ℕ → Option ℕ
 mark_left b asks [] p = None
 mark_left b asks (e ∷ past) p =
-    mark_by (first_act (current b asks (now b asks past) (caller_of e))) (first_note (current b asks (now b asks past) (caller_of e))) e p (mark_left b asks past p)
+    mark_by (first_act (current b asks (now b asks past) (caller_of e))) (first_note (current b asks (now b asks past) (caller_of e))) e p
+    (mark_left b asks past p)
 
 -- the channel of a mux that a byte, or a level, opens by the table of its kind: the first one that is open at it
 abbrev pub channel_opened : BoardView → ℕ → ℕ → Option ℕ

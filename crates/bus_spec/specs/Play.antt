@@ -56,8 +56,10 @@ heard_in xs end.Proto = slice_get xs 0
 
 abbrev pub message_entry : BoardView → Now → ℕ → Job → ℕ → TalkTold World → Entry
 message_entry b n c job left t =
-    entry.Message c (job_bus job) (job_purpose job) (part_of job left) (parts_of job) (message_of b job left).addr (message_of b job left).reading
-    t.bytes (heard_in (hearers (n.worlds (root_of b (job_bus job))) (message_of b job left).addr (message_of b job left).reading) t.end) t.end
+    entry.Message c (job_bus job) (job_purpose job) (part_of job left) (parts_of job) (message_of b job left).addr
+    (message_of b job left).reading
+    t.bytes (heard_in (hearers (n.worlds (root_of b (job_bus job))) (message_of b job left).addr (message_of b job left).reading) t.end)
+    t.end
 
 -- a lock that someone has is waited for
 abbrev pub take_if : Option ℕ → Entry → Option Entry

@@ -32,13 +32,35 @@ pub record MessageEntry : Type 0 where
 -- what a message's entry gives; any other entry gives `other`
 abbrev pub of_message : {X : Type 0} → X → (MessageEntry → X) → Entry → X
 of_message other f (entry.Message c bus why part parts addr reading bytes heard e) =
-    f (record { caller = c; bus = bus; purpose = why; part = part; parts = parts; addr = addr; reading = reading; bytes = bytes; heard = heard; end = e })
+    f (record {
+      caller = c;
+      bus = bus;
+      purpose = why;
+      part = part;
+      parts = parts;
+      addr = addr;
+      reading = reading;
+      bytes = bytes;
+      heard = heard;
+      end = e;
+    })
 of_message other f e = other
 
 -- a fact about a message's entry; nothing is said of any other
 abbrev pub OfMessage : (MessageEntry → Type 0) → Entry → Type 0
 OfMessage P (entry.Message c bus why part parts addr reading bytes heard e) =
-    P (record { caller = c; bus = bus; purpose = why; part = part; parts = parts; addr = addr; reading = reading; bytes = bytes; heard = heard; end = e })
+    P (record {
+      caller = c;
+      bus = bus;
+      purpose = why;
+      part = part;
+      parts = parts;
+      addr = addr;
+      reading = reading;
+      bytes = bytes;
+      heard = heard;
+      end = e;
+    })
 OfMessage P e = Unit {0}
 
 abbrev pub is_lock : LockId → LockId → Bool

@@ -70,7 +70,16 @@ chain =
 -- an arbitrator that is found with its other controller so often
 abbrev pub arbitrator : ℕ → BoardView
 arbitrator foreign =
-    board ((record { bus = 0; kind = Pca9541; addr = Some 0x72; channels = 1; lock = Parent; absent = false; foreign = foreign; idle = Disconnect }) ∷ [])
+    board ((record {
+      bus = 0;
+      kind = Pca9541;
+      addr = Some 0x72;
+      channels = 1;
+      lock = Parent;
+      absent = false;
+      foreign = foreign;
+      idle = Disconnect;
+    }) ∷ [])
     (regs 1 0x20 5 0x7e ∷ [])
 
 -- a gpio mux of two channels
@@ -192,7 +201,8 @@ two_marks_journal =
     ∷ take_mux 0 1 ∷ take_mux 0 0 ∷ take_bus 0 ∷ control_nack 0 0 0 0x70 ∷ control_nack 0 0 0 0x70
     ∷ fails 0 Enxio cut.No ∷ free_bus 0 ∷ free_mux 0 0 ∷ free_mux 0 1 ∷ []
 
--- a plain transfer writes a byte to one device, and reads two from an address where nobody is; one byte is received (SMBus 3.2 section 6.5.3)
+-- a plain transfer writes a byte to one device, and reads two from an address where nobody is; one byte is received (SMBus 3.2
+-- section 6.5.3)
 abbrev pub write_and_read : ℕ → ℕ → ℕ → ℕ → TransferView
 write_and_read bus addr reg silent =
     record { bus = bus; kind = transfer_kind.Plain; force = false; msgs = written addr 1 ∷ plain_read silent 2 ∷ []; out = reg ∷ [] }

@@ -26,7 +26,8 @@ line_in_range limit line c =
     let ws : List Word = words_of line in
     elim (is_command ws) as (λ b. cond b (some_command (follow_words (script_lines limit) 0 ws)) (Ok None) ≡ Ok (Some c) → IsInRange c) [
       | false ↦ λ e. absurd cc
-      | true ↦ λ e. some_in_range c (follow_words (script_lines limit) 0 ws) (λ d h. means_in_range limit ws d ((reads_lines limit ws d).0 h)) e
+      | true ↦ λ e. some_in_range c (follow_words (script_lines limit) 0 ws)
+          (λ d h. means_in_range limit ws d ((reads_lines limit ws d).0 h)) e
     ]
 
 -- the commands that are read behind so many others
@@ -39,7 +40,8 @@ record IsNext (count : ℕ) (c : Cmd) : Type 0 where
   fits : IsInRange c
   room : count < 1000
 
-next_of : (count : ℕ) (c : Cmd) (r : Result (Option Cmd) ℕ) → ((d : Cmd) → r ≡ Ok (Some d) → IsInRange d) → at_most count r ≡ Ok (Some c) → IsNext count c
+next_of : (count : ℕ) (c : Cmd) (r : Result (Option Cmd) ℕ) → ((d : Cmd) → r ≡ Ok (Some d) → IsInRange d) → at_most count r ≡ Ok (Some c)
+    → IsNext count c
 next_of count c (Ok None) h e = absurd cc
 next_of count c (Ok (Some d)) h e =
     let past : Result (Option Cmd) ℕ = Err 0 in
@@ -49,30 +51,41 @@ next_of count c (Ok (Some d)) h e =
     ]) refl e
 next_of count c (Err word) h e =
     let past : Result (Option Cmd) ℕ = Err 0 in
-    (elim (nat_le 1000 count) as (λ b. cond b past (Err word) ≡ Ok (Some c) → IsNext count c) [ true ↦ λ k. absurd cc | false ↦ λ k. absurd cc ]) e
+    (elim (nat_le 1000 count) as (λ b. cond b past (Err word) ≡ Ok (Some c)
+    → IsNext count c) [ true ↦ λ k. absurd cc | false ↦ λ k. absurd cc ]) e
 
 behind_one : (count : ℕ) (line : List ℕ) (c : Cmd) (more : Result (List CommandView) Place) (cs : List CommandView) → IsNext count c
-    → ((ds : List CommandView) → more ≡ Ok ds → AreRead (count + 1) ds) → behind_commands (command_of line c ∷ []) more ≡ Ok cs → AreRead count cs
+    → ((ds : List CommandView) → more ≡ Ok ds → AreRead (count + 1) ds) → behind_commands (command_of line c ∷ []) more ≡ Ok cs
+    → AreRead count cs
 behind_one count line c (Err p) cs n h e = absurd cc
 behind_one count line c (Ok ds) cs n h e =
     let rest : AreRead (count + 1) ds = h ds refl in
     let same : command_of line c ∷ ds ≡ cs = cc in
     let all : All IsRead (command_of line c ∷ ds) = All-cons IsRead (command_of line c) ds n.fits rest.fits in
-    subst (λ (xs : List CommandView). AreRead count xs) same (record { fits = all; most = λ m. let k : count + 1 + length ds ≤ 1000 = rest.most (omega (arith, n.room)) in omega arith })
+    subst (λ (xs : List CommandView). AreRead count xs) same
+    (record { fits = all; most = λ m. let k : count + 1 + length ds ≤ 1000 = rest.most (omega (arith, n.room)) in omega arith })
 
-lines_are_read : (limit number count : ℕ) (ls : List (List ℕ)) (cs : List CommandView) → lines_read limit number count ls ≡ Ok cs → AreRead count cs
+lines_are_read : (limit number count : ℕ) (ls : List (List ℕ)) (cs : List CommandView) → lines_read limit number count ls ≡ Ok cs
+    → AreRead count cs
 lines_are_read limit number count [] cs e =
-    let same : [] ≡ cs = cc in subst (λ (xs : List CommandView). AreRead count xs) same (record { fits = All-nil IsRead; most = λ m. omega arith })
+    let same : [] ≡ cs = cc in subst (λ (xs : List CommandView). AreRead count xs) same
+    (record { fits = All-nil IsRead; most = λ m. omega arith })
 lines_are_read limit number count (l ∷ ls) cs e =
-    (elim (at_most count (line_read limit l)) as (λ r. at_most count (line_read limit l) ≡ r → behind_line_read number l r (lines_read limit (number + 1) count ls) (lines_read limit (number + 1) (count + 1) ls) ≡ Ok cs → AreRead count cs) [
+    (elim (at_most count (line_read limit l)) as (λ r. at_most count (line_read limit l) ≡ r
+    → behind_line_read number l r (lines_read limit (number + 1) count ls) (lines_read limit (number + 1) (count + 1) ls) ≡ Ok cs
+    → AreRead count cs) [
       | Err word ↦ λ h k. absurd cc
-      | Ok o ↦ (elim o as (λ v. at_most count (line_read limit l) ≡ Ok v → behind_line_read number l (Ok v) (lines_read limit (number + 1) count ls) (lines_read limit (number + 1) (count + 1) ls) ≡ Ok cs → AreRead count cs) [
-        | None ↦ λ h k. lines_are_read limit (number + 1) count ls cs k
-        | Some c ↦ λ h k. behind_one count l c (lines_read limit (number + 1) (count + 1) ls) cs (next_of count c (line_read limit l) (line_in_range limit l) h) (lines_are_read limit (number + 1) (count + 1) ls) k
-      ])
+      | Ok o ↦ (elim o as (λ v. at_most count (line_read limit l) ≡ Ok v
+          → behind_line_read number l (Ok v) (lines_read limit (number + 1) count ls) (lines_read limit (number + 1) (count + 1) ls) ≡ Ok cs
+          → AreRead count cs) [
+            | None ↦ λ h k. lines_are_read limit (number + 1) count ls cs k
+            | Some c ↦ λ h k. behind_one count l c (lines_read limit (number + 1) (count + 1) ls) cs
+                (next_of count c (line_read limit l) (line_in_range limit l) h) (lines_are_read limit (number + 1) (count + 1) ls) k
+          ])
     ]) refl e
 
-script_is_read : (r : Result (List CommandView) Place) → ((cs : List CommandView) → r ≡ Ok cs → AreRead 0 cs) → AreRead 0 (commands_or_none r)
+script_is_read : (r : Result (List CommandView) Place) → ((cs : List CommandView) → r ≡ Ok cs → AreRead 0 cs)
+    → AreRead 0 (commands_or_none r)
 script_is_read (Ok cs) h = h cs refl
 script_is_read (Err p) h = record { fits = All-nil IsRead; most = λ m. omega arith }
 
@@ -83,7 +96,8 @@ pub commands_are_read : (s : ScriptView) → AreRead 0 (commands_of s)
 commands_are_read s = text_is_read (block_limit s.board) s.text
 
 pub text_most : (limit : ℕ) (text : List ℕ) → length (commands_or_none (text_read limit text)) ≤ 1000
-text_most limit text = let h : 0 + length (commands_or_none (text_read limit text)) ≤ 1000 = (text_is_read limit text).most (omega arith) in omega arith
+text_most limit text = let h : 0 + length (commands_or_none (text_read limit text)) ≤ 1000 = (text_is_read limit text).most (omega arith) in
+    omega arith
 
 pub commands_most : (s : ScriptView) → length (commands_of s) ≤ 1000
 commands_most s = text_most (block_limit s.board) s.text

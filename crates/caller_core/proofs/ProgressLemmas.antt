@@ -17,10 +17,12 @@ progress_push cs rs r = fold_push replied (begun cs) rs r
 
 -- ---- what is left is part of the script
 
-left_kept : (P : CommandView → Type 0) (p : Progress) (left : List CommandView) (r : Reply) → All P p.left → All P left → All P (replied_to p left r).left
+left_kept : (P : CommandView → Type 0) (p : Progress) (left : List CommandView) (r : Reply) → All P p.left → All P left
+    → All P (replied_to p left r).left
 left_kept P p [] r all h = all
 left_kept P p (c ∷ cs) r all h =
-    elim (is_over c.cmd (length p.own) r) as (λ b. All P (cond b (next_turn p c cs (p.own ++ r ∷ [])) (record p { own = p.own ++ r ∷ [] })).left) [
+    elim (is_over c.cmd (length p.own) r) as
+    (λ b. All P (cond b (next_turn p c cs (p.own ++ r ∷ [])) (record p { own = p.own ++ r ∷ [] })).left) [
       | true ↦ All-tail P c cs h
       | false ↦ all
     ]
@@ -54,22 +56,28 @@ pub sum_start : (f : TransferView → ℕ) (cs : List CommandView) → sum_from 
 sum_start f [] = refl
 sum_start f (c ∷ cs) = sym (sum_by-cons (sum_of_command f) c cs)
 
-falls_in : (f : TransferView → ℕ) (over : List Answered) (left : List CommandView) (own : List Reply) (r : Reply) (t : TransferView) → next_of left (length own) ≡ Some t
-    → sum_left f (replied (record { over = over; left = left; own = own }) r) + f t ≤ sum_left f (record { over = over; left = left; own = own })
+falls_in : (f : TransferView → ℕ) (over : List Answered) (left : List CommandView) (own : List Reply) (r : Reply) (t : TransferView)
+    → next_of left (length own) ≡ Some t
+    → sum_left f (replied (record { over = over; left = left; own = own }) r) + f t ≤ sum_left f
+    (record { over = over; left = left; own = own })
 falls_in f over [] own r t e = absurd cc
 falls_in f over (c ∷ cs) own r t e =
     let ts : List TransferView = transfers_of c.cmd in
     let k : ℕ = length own in
     let here : f (get_or ts k t) ≡ f t = ap f (get_or_from_slice_get ts k t t e) in
-    let more : sum_by f (drop k ts) ≡ f (get_or ts k t) + sum_by f (drop (k + 1) ts) = sum_by-drop_more f ts k t (slice_get_within ts k t e) in
-    elim (is_over c.cmd k r) as (λ b. sum_left f (cond b (next_turn (record { over = over; left = c ∷ cs; own = own }) c cs (own ++ r ∷ [])) (record { over = over; left = c ∷ cs; own = own ++ r ∷ [] })) + f t
+    let more : sum_by f (drop k ts) ≡ f (get_or ts k t) + sum_by f (drop (k + 1) ts) = sum_by-drop_more f ts k t
+    (slice_get_within ts k t e) in
+    elim (is_over c.cmd k r) as (λ b. sum_left f
+    (cond b (next_turn (record { over = over; left = c ∷ cs; own = own }) c cs (own ++ r ∷ []))
+    (record { over = over; left = c ∷ cs; own = own ++ r ∷ [] })) + f t
     ≤ sum_by f (drop k ts) + sum_by (sum_of_command f) cs) [
       | true ↦ omega (arith, here, more, sum_start f cs)
       | false ↦ omega (arith, here, more, ap (λ n. sum_by f (drop n ts)) (length_push own r))
     ]
 
 -- with a reply to t a sum falls by what t has of it
-pub sum_falls : (f : TransferView → ℕ) (cs : List CommandView) (rs : List Reply) (r : Reply) (t : TransferView) → asked_at (progress cs rs) ≡ Some t
+pub sum_falls : (f : TransferView → ℕ) (cs : List CommandView) (rs : List Reply) (r : Reply) (t : TransferView)
+    → asked_at (progress cs rs) ≡ Some t
     → sum_left f (progress cs (rs ++ r ∷ [])) + f t ≤ sum_left f (progress cs rs)
 sum_falls f cs rs r t e =
     let p : Progress = progress cs rs in

@@ -34,7 +34,9 @@ root_bits b t = cond (nat_lt t.bus (buses b)) (2 ^ root_of b t.bus) 0
 
 -- .. by the root that its bus names
 pub named_bit : (b : BoardView) (t : TransferView) → option_map_or (λ r. 2 ^ r) (root_named b t.bus) 0 ≡ root_bits b t
-named_bit b t = elim (nat_lt t.bus (buses b)) as (λ v. option_map_or (λ r. 2 ^ r) (cond v (Some (root_of b t.bus)) None) 0 ≡ cond v (2 ^ root_of b t.bus) 0) [ true ↦ refl | false ↦ refl ]
+named_bit b t = elim (nat_lt t.bus (buses b)) as
+    (λ v. option_map_or (λ r. 2 ^ r) (cond v (Some (root_of b t.bus)) None) 0 ≡ cond v (2 ^ root_of b t.bus) 0)
+    [ true ↦ refl | false ↦ refl ]
 
 one_bit : (k r : ℕ) → bit_at (2 ^ k) r ≡ cond (k == r) 1 0
 one_bit k r =
@@ -84,7 +86,8 @@ bits_more test xs i x bits bit within at had one =
 pub transfer_bit : (b : BoardView) (t : TransferView) (bit : ℕ) → bit ≡ root_bits b t → IsBit (names_root b) t bit
 transfer_bit b t bit e = record { exactly = λ r. ap (λ (n : ℕ). bit_at n r) e ∙ root_bit_at b t r }
 
-pub command_bits : (b : BoardView) (c : CommandView) (bits : ℕ) → HasBits (names_root b) (transfers_of c.cmd) bits → IsBit (command_names b) c bits
+pub command_bits : (b : BoardView) (c : CommandView) (bits : ℕ) → HasBits (names_root b) (transfers_of c.cmd) bits
+    → IsBit (command_names b) c bits
 command_bits b c bits had = record { exactly = had.exactly }
 
 pub sum_more : {X : Type 0} (f : X → ℕ) (xs : List X) (i : ℕ) (x : X) (sum : ℕ) → i < length xs → x ≡ get_or xs i x

@@ -14,37 +14,49 @@ use Rattle.caller_core.specs.ScriptSteps.{IsStep, IsRefused}
 use Rattle.caller_core.proofs.CommandLemmas.{IsRead, text_most, text_is_read}
 use Rattle.caller_core.specs.declared.script.ScriptFault.{ScriptFault}
 
-behind_push : (old : List CommandView) (c : CommandView) (r : Result (List CommandView) Place) → behind_commands (old ++ c ∷ []) r ≡ behind_commands old (behind_commands (c ∷ []) r)
+behind_push : (old : List CommandView) (c : CommandView) (r : Result (List CommandView) Place)
+    → behind_commands (old ++ c ∷ []) r ≡ behind_commands old (behind_commands (c ∷ []) r)
 behind_push old c (Ok cs) = ap Ok (append_assoc old (c ∷ []) cs)
 behind_push old c (Err p) = refl
 
 -- a line read behind the commands before it: a command, none, or a refusal
-pub is_step_some : (limit number count : ℕ) (line echo : List ℕ) (old new : List CommandView) (c : Cmd) → count ≡ length old → echo ≡ joined_words (words_of line)
-    → at_most count (line_read limit line) ≡ Ok (Some c) → new ≡ old ++ record { echo = echo; cmd = c } ∷ [] → IsStep limit number old new line
+pub is_step_some : (limit number count : ℕ) (line echo : List ℕ) (old new : List CommandView) (c : Cmd) → count ≡ length old
+    → echo ≡ joined_words (words_of line)
+    → at_most count (line_read limit line) ≡ Ok (Some c) → new ≡ old ++ record { echo = echo; cmd = c } ∷ []
+    → IsStep limit number old new line
 is_step_some limit number count line echo old new c n words e made =
     let next : new ≡ old ++ command_of line c ∷ [] = made ∙ ap (λ (x : List ℕ). old ++ record { echo = x; cmd = c } ∷ []) words in
     let read : at_most (length old) (line_read limit line) ≡ Ok (Some c) = ap (λ k. at_most k (line_read limit line)) (sym n) ∙ e in
     record {
       same =
           λ ls. ap (λ x. behind_commands x (lines_read limit (number + 1) (length x) ls)) next
-          ∙ ap (λ k. behind_commands (old ++ command_of line c ∷ []) (lines_read limit (number + 1) k ls)) (length-append old (command_of line c ∷ []))
+          ∙ ap (λ k. behind_commands (old ++ command_of line c ∷ []) (lines_read limit (number + 1) k ls))
+          (length-append old (command_of line c ∷ []))
           ∙ behind_push old (command_of line c) (lines_read limit (number + 1) (length old + 1) ls)
-          ∙ ap (λ x. behind_commands old (behind_line_read number line x (lines_read limit (number + 1) (length old) ls) (lines_read limit (number + 1) (length old + 1) ls))) (sym read);
+          ∙ ap (λ x. behind_commands old
+          (behind_line_read number line x (lines_read limit (number + 1) (length old) ls)
+          (lines_read limit (number + 1) (length old + 1) ls))) (sym read);
     }
 
-pub is_step_none : (limit number count : ℕ) (line : List ℕ) (old : List CommandView) → count ≡ length old → at_most count (line_read limit line) ≡ Ok None → IsStep limit number old old line
+pub is_step_none : (limit number count : ℕ) (line : List ℕ) (old : List CommandView) → count ≡ length old
+    → at_most count (line_read limit line) ≡ Ok None → IsStep limit number old old line
 is_step_none limit number count line old n e =
     let read : at_most (length old) (line_read limit line) ≡ Ok None = ap (λ k. at_most k (line_read limit line)) (sym n) ∙ e in
     record {
-      same = λ ls. ap (λ x. behind_commands old (behind_line_read number line x (lines_read limit (number + 1) (length old) ls) (lines_read limit (number + 1) (length old + 1) ls))) (sym read);
+      same = λ ls. ap (λ x. behind_commands old
+          (behind_line_read number line x (lines_read limit (number + 1) (length old) ls)
+          (lines_read limit (number + 1) (length old + 1) ls))) (sym read);
     }
 
-pub is_refused : (limit number count : ℕ) (line : List ℕ) (old : List CommandView) (fault : LineFault) (told : ScriptFault) → count ≡ length old
+pub is_refused : (limit number count : ℕ) (line : List ℕ) (old : List CommandView) (fault : LineFault) (told : ScriptFault)
+    → count ≡ length old
     → FaultIs (at_most count (line_read limit line)) fault → told ≡ fault_at fault number → IsRefused limit number old line told
 is_refused limit number count line old (line_fault.Word word) told n e is =
     let read : at_most (length old) (line_read limit line) ≡ Err word = ap (λ k. at_most k (line_read limit line)) (sym n) ∙ e in
     let refused : IsRefused limit number old line (fault_at (line_fault.Word word) number) = record {
-      refused = λ ls. ap (λ x. behind_commands old (behind_line_read number line x (lines_read limit (number + 1) (length old) ls) (lines_read limit (number + 1) (length old + 1) ls))) read;
+      refused = λ ls. ap (λ x. behind_commands old
+          (behind_line_read number line x (lines_read limit (number + 1) (length old) ls)
+          (lines_read limit (number + 1) (length old + 1) ls))) read;
     } in
     subst (IsRefused limit number old line) (sym is) refused
 is_refused limit number count line old line_fault.Memory told n e is =
@@ -53,7 +65,8 @@ is_refused limit number count line old line_fault.Memory told n e is =
 
 -- a step behind the lines that are read, and a line that is refused there
 pub script_steps : (limit number at len skip : ℕ) (text : List ℕ) (old new : List CommandView) (all : Result (List CommandView) Place)
-    → IsStep limit number old new (take len (drop at text)) → lines_of (drop at text) ≡ take len (drop at text) ∷ lines_of (drop skip (drop at text))
+    → IsStep limit number old new (take len (drop at text))
+    → lines_of (drop at text) ≡ take len (drop at text) ∷ lines_of (drop skip (drop at text))
     → behind_commands old (lines_read limit number (length old) (lines_of (drop at text))) ≡ all
     → behind_commands new (lines_read limit (number + 1) (length new) (lines_of (drop (at + skip) text))) ≡ all
 script_steps limit number at len skip text old new all step split e =
@@ -63,11 +76,14 @@ script_steps limit number at len skip text old new all step split e =
     ∙ ap (λ ls. behind_commands old (lines_read limit number (length old) ls)) (sym split)
     ∙ e
 
-pub refused_script : (limit number at len skip : ℕ) (text : List ℕ) (old : List CommandView) (fault : ScriptFault) (all : Result (List CommandView) Place)
-    → IsRefused limit number old (take len (drop at text)) fault → lines_of (drop at text) ≡ take len (drop at text) ∷ lines_of (drop skip (drop at text))
+pub refused_script : (limit number at len skip : ℕ) (text : List ℕ) (old : List CommandView) (fault : ScriptFault)
+    (all : Result (List CommandView) Place)
+    → IsRefused limit number old (take len (drop at text)) fault
+    → lines_of (drop at text) ≡ take len (drop at text) ∷ lines_of (drop skip (drop at text))
     → behind_commands old (lines_read limit number (length old) (lines_of (drop at text))) ≡ all → ScriptFaultIs all fault
 refused_script limit number at len skip text old fault all h split e =
-    let same : behind_commands old (lines_read limit number (length old) (take len (drop at text) ∷ lines_of (drop skip (drop at text)))) ≡ all =
+    let same : behind_commands old
+    (lines_read limit number (length old) (take len (drop at text) ∷ lines_of (drop skip (drop at text)))) ≡ all =
     ap (λ ls. behind_commands old (lines_read limit number (length old) ls)) (sym split) ∙ e in
     subst (λ (r : Result (List CommandView) Place). ScriptFaultIs r fault) same (h.refused (lines_of (drop skip (drop at text))))
 

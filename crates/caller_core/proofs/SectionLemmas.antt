@@ -37,9 +37,11 @@ lines_are_lines : (text : List ℕ) → All IsLine (lines_of text)
 lines_are_lines [] = All-nil IsLine
 lines_are_lines (b ∷ bs) =
     let more : All IsLine (lines_of bs) = lines_are_lines bs in
-    (elim (b == 10) as (λ t. (b == 10) ≡ t → All IsLine (cond t ([] ∷ lines_of bs) (cond ((b == 13) && begins_feed bs) (lines_of bs) (onto_first b (lines_of bs))))) [
+    (elim (b == 10) as (λ t. (b == 10) ≡ t
+    → All IsLine (cond t ([] ∷ lines_of bs) (cond ((b == 13) && begins_feed bs) (lines_of bs) (onto_first b (lines_of bs))))) [
       | true ↦ λ is. All-cons IsLine [] (lines_of bs) refl more
-      | false ↦ λ is. elim ((b == 13) && begins_feed bs) as (λ t. All IsLine (cond t (lines_of bs) (onto_first b (lines_of bs)))) [ true ↦ more | false ↦ onto_lines b (lines_of bs) is more ]
+      | false ↦ λ is. elim ((b == 13) && begins_feed bs) as
+          (λ t. All IsLine (cond t (lines_of bs) (onto_first b (lines_of bs)))) [ true ↦ more | false ↦ onto_lines b (lines_of bs) is more ]
     ]) refl
 
 words_are_lines : (line : List ℕ) → IsLine line → All IsLine (words_of line)
@@ -47,7 +49,8 @@ words_are_lines [] h = All-nil IsLine
 words_are_lines (b ∷ bs) h =
     let p : IsOnto b bs = first_and_rest b bs h in
     let more : All IsLine (words_of bs) = words_are_lines bs p.rest in
-    elim (is_blank b) as (λ t. All IsLine (cond t (words_of bs) (cond (begins_with_word is_blank bs) (onto_first b (words_of bs)) ((b ∷ []) ∷ words_of bs)))) [
+    elim (is_blank b) as (λ t. All IsLine
+    (cond t (words_of bs) (cond (begins_with_word is_blank bs) (onto_first b (words_of bs)) ((b ∷ []) ∷ words_of bs)))) [
       | true ↦ more
       | false ↦ elim (begins_with_word is_blank bs) as (λ t. All IsLine (cond t (onto_first b (words_of bs)) ((b ∷ []) ∷ words_of bs))) [
         | true ↦ onto_lines b (words_of bs) p.first more
@@ -57,7 +60,8 @@ words_are_lines (b ∷ bs) h =
 
 spaced_line : (ws : List (List ℕ)) → All IsLine ws → IsLine (flat_map behind_space ws)
 spaced_line [] h = refl
-spaced_line (w ∷ ws) h = line-append (behind_space w) (flat_map behind_space ws) (All-head IsLine w ws h) (spaced_line ws (All-tail IsLine w ws h))
+spaced_line (w ∷ ws) h = line-append (behind_space w) (flat_map behind_space ws) (All-head IsLine w ws h)
+    (spaced_line ws (All-tail IsLine w ws h))
 
 joined_line : (ws : List (List ℕ)) → All IsLine ws → IsLine (joined_words ws)
 joined_line [] h = refl
@@ -68,31 +72,39 @@ joined_line (w ∷ ws) h = line-append w (flat_map behind_space ws) (All-head Is
 abbrev HasLine : CommandView → Type 0
 HasLine c = IsLine c.echo
 
-behind_one : (line : List ℕ) (c : Cmd) (more : Result (List CommandView) Place) (cs : List CommandView) → IsLine line → ((ds : List CommandView) → more ≡ Ok ds → All HasLine ds)
+behind_one : (line : List ℕ) (c : Cmd) (more : Result (List CommandView) Place) (cs : List CommandView) → IsLine line
+    → ((ds : List CommandView) → more ≡ Ok ds → All HasLine ds)
     → behind_commands (command_of line c ∷ []) more ≡ Ok cs → All HasLine cs
 behind_one line c (Err p) cs is h e = absurd cc
 behind_one line c (Ok ds) cs is h e =
     let same : command_of line c ∷ ds ≡ cs = cc in
     subst (All HasLine) same (All-cons HasLine (command_of line c) ds (joined_line (words_of line) (words_are_lines line is)) (h ds refl))
 
-read_lines : (limit number count : ℕ) (ls : List (List ℕ)) (cs : List CommandView) → All IsLine ls → lines_read limit number count ls ≡ Ok cs → All HasLine cs
+read_lines : (limit number count : ℕ) (ls : List (List ℕ)) (cs : List CommandView) → All IsLine ls
+    → lines_read limit number count ls ≡ Ok cs → All HasLine cs
 read_lines limit number count [] cs lines e = let same : [] ≡ cs = cc in subst (All HasLine) same (All-nil HasLine)
 read_lines limit number count (l ∷ ls) cs lines e =
     let more : All IsLine ls = All-tail IsLine l ls lines in
-    (elim (at_most count (line_read limit l)) as (λ r. behind_line_read number l r (lines_read limit (number + 1) count ls) (lines_read limit (number + 1) (count + 1) ls) ≡ Ok cs → All HasLine cs) [
+    (elim (at_most count (line_read limit l)) as
+    (λ r. behind_line_read number l r (lines_read limit (number + 1) count ls) (lines_read limit (number + 1) (count + 1) ls) ≡ Ok cs
+    → All HasLine cs) [
       | Err word ↦ λ k. absurd cc
-      | Ok o ↦ (elim o as (λ v. behind_line_read number l (Ok v) (lines_read limit (number + 1) count ls) (lines_read limit (number + 1) (count + 1) ls) ≡ Ok cs → All HasLine cs) [
-        | None ↦ λ k. read_lines limit (number + 1) count ls cs more k
-        | Some c ↦ λ k. behind_one l c (lines_read limit (number + 1) (count + 1) ls) cs (All-head IsLine l ls lines) (λ ds h. read_lines limit (number + 1) (count + 1) ls ds more h) k
-      ])
+      | Ok o ↦ (elim o as (λ v. behind_line_read number l (Ok v) (lines_read limit (number + 1) count ls)
+          (lines_read limit (number + 1) (count + 1) ls) ≡ Ok cs → All HasLine cs) [
+            | None ↦ λ k. read_lines limit (number + 1) count ls cs more k
+            | Some c ↦ λ k. behind_one l c (lines_read limit (number + 1) (count + 1) ls) cs (All-head IsLine l ls lines)
+                (λ ds h. read_lines limit (number + 1) (count + 1) ls ds more h) k
+          ])
     ]) e
 
-have_lines : (r : Result (List CommandView) Place) → ((cs : List CommandView) → r ≡ Ok cs → All HasLine cs) → All HasLine (commands_or_none r)
+have_lines : (r : Result (List CommandView) Place) → ((cs : List CommandView) → r ≡ Ok cs → All HasLine cs)
+    → All HasLine (commands_or_none r)
 have_lines (Ok cs) h = h cs refl
 have_lines (Err p) h = All-nil HasLine
 
 commands_have_lines : (s : ScriptView) → All HasLine (commands_of s)
-commands_have_lines s = have_lines (script_read s) (λ cs h. read_lines (block_limit s.board) 1 0 (lines_of s.text) cs (lines_are_lines s.text) h)
+commands_have_lines s = have_lines (script_read s)
+    (λ cs h. read_lines (block_limit s.board) 1 0 (lines_of s.text) cs (lines_are_lines s.text) h)
 
 -- ---- those that are over
 
@@ -106,10 +118,15 @@ record HaveLines (p : Progress) : Type 0 where
 keeps : (p : Progress) (left : List CommandView) (r : Reply) → HaveLines p → All HasLine left → HaveLines (replied_to p left r)
 keeps p [] r h all = h
 keeps p (c ∷ cs) r h all =
-    elim (is_over c.cmd (length p.own) r) as (λ b. HaveLines (cond b (next_turn p c cs (p.own ++ r ∷ [])) (record p { own = p.own ++ r ∷ [] }))) [
+    elim (is_over c.cmd (length p.own) r) as
+    (λ b. HaveLines (cond b (next_turn p c cs (p.own ++ r ∷ [])) (record p { own = p.own ++ r ∷ [] }))) [
       | true ↦
           let a : Answered = record { command = c; replies = p.own ++ r ∷ [] } in
-          record { over = All-append OverHasLine p.over (a ∷ []) h.over (All-cons OverHasLine a [] (All-head HasLine c cs all) (All-nil OverHasLine)); left = All-tail HasLine c cs all }
+          record {
+            over = All-append OverHasLine p.over (a ∷ []) h.over
+                (All-cons OverHasLine a [] (All-head HasLine c cs all) (All-nil OverHasLine));
+            left = All-tail HasLine c cs all;
+          }
       | false ↦ record { over = h.over; left = h.left }
     ]
 
@@ -122,7 +139,8 @@ goes_on p (r ∷ rs) h = goes_on (replied p r) rs (keeps p p.left r h h.left)
 abbrev words_line : Answered → List ℕ
 words_line a = codes "> " ++ a.command.echo
 
-two_lines : (a : Answered) (rest : List ℕ) → command_text a ++ rest ≡ ended (words_line a) ++ (ended (answer_text a.command.cmd a.replies) ++ rest)
+two_lines : (a : Answered) (rest : List ℕ)
+    → command_text a ++ rest ≡ ended (words_line a) ++ (ended (answer_text a.command.cmd a.replies) ++ rest)
 two_lines a rest =
     let echo : List ℕ = a.command.echo in
     let answer : List ℕ = answer_text a.command.cmd a.replies in
@@ -141,10 +159,12 @@ section_lines (a ∷ done) h =
       lines = words_line a ∷ answer ∷ more.lines;
       text_is = two_lines a (flat_map command_text done) ∙ ap (λ x. ended (words_line a) ++ (ended answer ++ x)) more.text_is;
       others =
-          All-cons IsSectionLine (words_line a) (answer ∷ more.lines) (record { one = line-append (codes "> ") a.command.echo refl (All-head OverHasLine a done h); other = words_other a })
+          All-cons IsSectionLine (words_line a) (answer ∷ more.lines)
+          (record { one = line-append (codes "> ") a.command.echo refl (All-head OverHasLine a done h); other = words_other a })
           (All-cons IsSectionLine answer more.lines (answer_line a.command.cmd a.replies) more.others);
     }
 
 pub no_journal_line : SectionsHaveNoJournalLine
 no_journal_line script replies =
-    section_lines (progress (commands_of script) replies).over (goes_on (begun (commands_of script)) replies (record { over = All-nil OverHasLine; left = commands_have_lines script })).over
+    section_lines (progress (commands_of script) replies).over
+    (goes_on (begun (commands_of script)) replies (record { over = All-nil OverHasLine; left = commands_have_lines script })).over

@@ -57,14 +57,16 @@ none_past (c ∷ cs) (suc k) e = let h = none_past cs k e in omega (arith, h)
 drop_first : (cs : List CommandView) (place : ℕ) (c : CommandView) (rest : List CommandView) → drop place cs ≡ c ∷ rest → place < length cs
 drop_first cs place c rest e = omega (arith, ap length e, length-drop place cs)
 
-pub is_turn : (cs : List CommandView) (rs : List Reply) (place from : ℕ) (run : Option RunView) (t : TransferView) → IsAt cs rs place from run → asked_at (progress cs rs) ≡ Some t → IsTurn cs rs place from run t
+pub is_turn : (cs : List CommandView) (rs : List Reply) (place from : ℕ) (run : Option RunView) (t : TransferView)
+    → IsAt cs rs place from run → asked_at (progress cs rs) ≡ Some t → IsTurn cs rs place from run t
 is_turn cs rs place from run t a e =
     let p : Progress = progress cs rs in
     let n : IsNext p t = is_next p t e in
     let there : drop place cs ≡ n.command ∷ n.rest = sym a.left ∙ n.left in
     let within : place < length cs = drop_first cs place n.command n.rest there in
     let split : drop place cs ≡ get_or cs place n.command ∷ drop (place + 1) cs = drop_more cs place n.command within in
-    let same : get_or cs place n.command ≡ n.command = first_same (get_or cs place n.command) n.command (drop (place + 1) cs) n.rest (sym split ∙ there) in
+    let same : get_or cs place n.command ≡ n.command = first_same (get_or cs place n.command) n.command (drop (place + 1) cs) n.rest
+    (sym split ∙ there) in
     let at : slice_get cs place ≡ Some n.command = slice_get-get_or cs place n.command within ∙ ap Some same in
     record {
       command = n.command;
@@ -97,13 +99,15 @@ no_run : (o : Option CommandView) (k : ℕ) → None ≡ option_map (λ c. run_o
 no_run None k e = refl
 no_run (Some c) k e = absurd cc
 
-pub is_running : (cs : List CommandView) (rs : List Reply) (place from : ℕ) (o : Option RunView) (run : RunView) → IsAt cs rs place from o → o ≡ Some run → IsRunning cs rs place from run
+pub is_running : (cs : List CommandView) (rs : List Reply) (place from : ℕ) (o : Option RunView) (run : RunView) → IsAt cs rs place from o
+    → o ≡ Some run → IsRunning cs rs place from run
 is_running cs rs place from o run a e =
     let k : ℕ = length (drop from rs) in
     let s : IsSomeRun (slice_get cs place) k run = some_run (slice_get cs place) k run (sym e ∙ a.runs) in
     let c : CommandView = s.command in
     let within : place < length cs = slice_get_within cs place c s.is in
-    let split : drop place cs ≡ c ∷ drop (place + 1) cs = drop_more cs place c within ∙ ap (λ x. x ∷ drop (place + 1) cs) (get_or_from_slice_get cs place c c s.is) in
+    let split : drop place cs ≡ c ∷ drop (place + 1) cs = drop_more cs place c within
+    ∙ ap (λ x. x ∷ drop (place + 1) cs) (get_or_from_slice_get cs place c c s.is) in
     let ts : List TransferView = transfers_of c.cmd in
     record {
       command = c;
@@ -112,24 +116,29 @@ is_running cs rs place from o run a e =
       more = subst (λ (x : RunView). x.taken < length (transfers_of x.cmd)) (sym s.same) (a.more c s.is);
       asks =
           λ t is. ap (λ left. next_of left (length (progress cs rs).own)) (a.left ∙ split) ∙ ap (λ own. slice_get ts (length own)) a.own
-          ∙ slice_get_read ts (length ts) k t refl (a.more c s.is) (is ∙ ap (λ (x : RunView). get_or (transfers_of x.cmd) x.taken t) s.same);
+          ∙ slice_get_read ts (length ts) k t refl (a.more c s.is) (is
+          ∙ ap (λ (x : RunView). get_or (transfers_of x.cmd) x.taken t) s.same);
     }
 
-pub run_in_range : (script : ScriptView) (cs : List CommandView) (rs : List Reply) (place from : ℕ) (run : RunView) → commands_of script ≡ cs → IsRunning cs rs place from run → IsInRange run.cmd
+pub run_in_range : (script : ScriptView) (cs : List CommandView) (rs : List Reply) (place from : ℕ) (run : RunView)
+    → commands_of script ≡ cs → IsRunning cs rs place from run → IsInRange run.cmd
 run_in_range script cs rs place from run whole is =
     let c : CommandView = is.command in
     let all : All IsRead cs = subst (All IsRead) whole (commands_are_read script).fits in
-    let read : IsRead c = subst IsRead (get_or_from_slice_get cs place c c is.at) (All-get_or IsRead cs place c (slice_get_within cs place c is.at) all) in
+    let read : IsRead c = subst IsRead (get_or_from_slice_get cs place c c is.at)
+    (All-get_or IsRead cs place c (slice_get_within cs place c is.at) all) in
     subst (λ (x : RunView). IsInRange x.cmd) (sym is.same) read
 
-pub all_over : (cs : List CommandView) (rs : List Reply) (place from : ℕ) (o : Option RunView) → IsAt cs rs place from o → o ≡ None → asked_at (progress cs rs) ≡ None
+pub all_over : (cs : List CommandView) (rs : List Reply) (place from : ℕ) (o : Option RunView) → IsAt cs rs place from o → o ≡ None
+    → asked_at (progress cs rs) ≡ None
 all_over cs rs place from o a e =
     let past : length cs ≤ place = none_past cs place (no_run (slice_get cs place) (length (drop from rs)) (sym e ∙ a.runs)) in
     ap (λ left. next_of left (length (progress cs rs).own)) (a.left ∙ drop_of_length-le cs past)
 
 -- ---- with one reply more
 
-module _ (cs : List CommandView) (rs : List Reply) (place from : ℕ) (run : Option RunView) (t : TransferView) (r : Reply) (a : IsAt cs rs place from run) (u : IsTurn cs rs place from run t) where
+module _ (cs : List CommandView) (rs : List Reply) (place from : ℕ) (run : Option RunView) (t : TransferView) (r : Reply)
+    (a : IsAt cs rs place from run) (u : IsTurn cs rs place from run t) where
   abbrev pub answered : Answered
   answered = record { command = u.command; replies = drop from rs ++ r ∷ [] }
 
@@ -139,21 +148,26 @@ module _ (cs : List CommandView) (rs : List Reply) (place from : ℕ) (run : Opt
   stepped : progress cs (rs ++ r ∷ []) ≡ replied_to (progress cs rs) (u.command ∷ drop (place + 1) cs) r
   stepped = progress_push cs rs r ∙ ap (λ left. replied_to (progress cs rs) left r) u.left
 
-  turn_over : is_over u.command.cmd (length (drop from rs)) r ≡ true → progress cs (rs ++ r ∷ []) ≡ next_turn (progress cs rs) u.command (drop (place + 1) cs) (drop from rs ++ r ∷ [])
+  turn_over : is_over u.command.cmd (length (drop from rs)) r ≡ true
+      → progress cs (rs ++ r ∷ []) ≡ next_turn (progress cs rs) u.command (drop (place + 1) cs) (drop from rs ++ r ∷ [])
   turn_over is =
       let p : Progress = progress cs rs in
       stepped
-      ∙ ap (λ b. cond b (next_turn p u.command (drop (place + 1) cs) (p.own ++ r ∷ [])) (record p { own = p.own ++ r ∷ [] })) (ap (λ own. is_over u.command.cmd (length own) r) u.own ∙ is)
+      ∙ ap (λ b. cond b (next_turn p u.command (drop (place + 1) cs) (p.own ++ r ∷ [])) (record p { own = p.own ++ r ∷ [] }))
+      (ap (λ own. is_over u.command.cmd (length own) r) u.own ∙ is)
       ∙ ap (λ own. next_turn p u.command (drop (place + 1) cs) (own ++ r ∷ [])) u.own
 
-  turn_stays : is_over u.command.cmd (length (drop from rs)) r ≡ false → progress cs (rs ++ r ∷ []) ≡ record (progress cs rs) { own = drop from rs ++ r ∷ [] }
+  turn_stays : is_over u.command.cmd (length (drop from rs)) r ≡ false
+      → progress cs (rs ++ r ∷ []) ≡ record (progress cs rs) { own = drop from rs ++ r ∷ [] }
   turn_stays is =
       let p : Progress = progress cs rs in
       stepped
-      ∙ ap (λ b. cond b (next_turn p u.command (drop (place + 1) cs) (p.own ++ r ∷ [])) (record p { own = p.own ++ r ∷ [] })) (ap (λ own. is_over u.command.cmd (length own) r) u.own ∙ is)
+      ∙ ap (λ b. cond b (next_turn p u.command (drop (place + 1) cs) (p.own ++ r ∷ [])) (record p { own = p.own ++ r ∷ [] }))
+      (ap (λ own. is_over u.command.cmd (length own) r) u.own ∙ is)
       ∙ ap (λ own. record p { own = own ++ r ∷ [] }) u.own
 
-  pub at_next : (now : Option RunView) → now ≡ option_map (λ c. run_of c.cmd 0) (slice_get cs (place + 1)) → is_over u.command.cmd (length (drop from rs)) r ≡ true
+  pub at_next : (now : Option RunView) → now ≡ option_map (λ c. run_of c.cmd 0) (slice_get cs (place + 1))
+      → is_over u.command.cmd (length (drop from rs)) r ≡ true
       → IsAt cs (rs ++ r ∷ []) (place + 1) (length (rs ++ r ∷ [])) now
   at_next now begins is =
       let none : drop (length (rs ++ r ∷ [])) (rs ++ r ∷ []) ≡ [] = drop-length (rs ++ r ∷ []) in
@@ -166,7 +180,8 @@ module _ (cs : List CommandView) (rs : List Reply) (place from : ℕ) (run : Opt
         more = λ c e. omega (arith, asks_some c.cmd, ap length none);
       }
 
-  pub at_same : (now : Option RunView) → now ≡ Some (run_of u.command.cmd (length (drop from rs) + 1)) → is_over u.command.cmd (length (drop from rs)) r ≡ false
+  pub at_same : (now : Option RunView) → now ≡ Some (run_of u.command.cmd (length (drop from rs) + 1))
+      → is_over u.command.cmd (length (drop from rs)) r ≡ false
       → IsAt cs (rs ++ r ∷ []) place from now
   at_same now goes is =
       let longer : length (drop from (rs ++ r ∷ [])) ≡ length (drop from rs) + 1 = ap length own_more ∙ length_push (drop from rs) r in
@@ -175,15 +190,25 @@ module _ (cs : List CommandView) (rs : List Reply) (place from : ℕ) (run : Opt
         from_within = omega (arith, a.from_within, length_push rs r);
         left = ap (λ (p : Progress). p.left) (turn_stays is) ∙ a.left;
         own = ap (λ (p : Progress). p.own) (turn_stays is) ∙ sym own_more;
-        runs = goes ∙ ap (λ k. Some (run_of u.command.cmd k)) (sym longer) ∙ ap (λ o. option_map (λ c. run_of c.cmd (length (drop from (rs ++ r ∷ [])))) o) (sym u.at);
+        runs = goes ∙ ap (λ k. Some (run_of u.command.cmd k)) (sym longer)
+            ∙ ap (λ o. option_map (λ c. run_of c.cmd (length (drop from (rs ++ r ∷ [])))) o) (sym u.at);
         more =
             λ c e. let same : u.command ≡ c = some_same u.command c (sym u.at ∙ e) in
             let count : length (transfers_of u.command.cmd) ≡ length (transfers_of c.cmd) = ap (λ d. length (transfers_of d.cmd)) same in
-            let before : length (drop from rs) < length (transfers_of u.command.cmd) = slice_get_within (transfers_of u.command.cmd) (length (drop from rs)) t u.asks in
-            omega (arith, longer, count, before, not_last (ends_early u.command.cmd (length (drop from rs)) r) (length (drop from rs) + 1) (length (transfers_of u.command.cmd)) is);
+            let before : length (drop from rs) < length (transfers_of u.command.cmd) = slice_get_within (transfers_of u.command.cmd)
+            (length (drop from rs)) t u.asks in
+            omega (
+              arith,
+              longer,
+              count,
+              before,
+              not_last (ends_early u.command.cmd (length (drop from rs)) r) (length (drop from rs) + 1)
+                  (length (transfers_of u.command.cmd)) is,
+            );
       }
 
-  pub section_over : is_over u.command.cmd (length (drop from rs)) r ≡ true → section_text cs (rs ++ r ∷ []) ≡ section_text cs rs ++ command_text answered
+  pub section_over : is_over u.command.cmd (length (drop from rs)) r ≡ true
+      → section_text cs (rs ++ r ∷ []) ≡ section_text cs rs ++ command_text answered
   section_over is =
       ap (λ (p : Progress). flat_map command_text p.over) (turn_over is)
       ∙ flat_map-append command_text (progress cs rs).over (answered ∷ [])
@@ -198,7 +223,8 @@ module _ (cs : List CommandView) (rs : List Reply) (place from : ℕ) (run : Opt
   pub left_stays : is_over u.command.cmd (length (drop from rs)) r ≡ false → (progress cs (rs ++ r ∷ [])).left ≡ drop place cs
   left_stays is = ap (λ (p : Progress). p.left) (turn_stays is) ∙ a.left
 
-pub replies_push : (items now : List (ReplyHead × List ℕ)) (item : ReplyHead × List ℕ) (r : Reply) → now ≡ items ++ item ∷ [] → reply_of item ≡ r
+pub replies_push : (items now : List (ReplyHead × List ℕ)) (item : ReplyHead × List ℕ) (r : Reply) → now ≡ items ++ item ∷ []
+    → reply_of item ≡ r
     → replies_of now ≡ replies_of items ++ r ∷ []
 replies_push items now item r pushed same =
     ap replies_of pushed ∙ map-append reply_of items (item ∷ []) ∙ ap (λ (x : Reply). replies_of items ++ x ∷ []) same

@@ -42,7 +42,8 @@ pub record IsAt (cs : List CommandView) (rs : List Reply) (place from : ℕ) (ru
 
 -- it has the commands of its script, has come so far with the replies that it took, has room for those to come, and has
 -- printed the commands that are over
-pub record IsCaller (script : ScriptView) (commands : List CommandView) (taken : PackedView ReplyHead) (printed : TextView) (place from : ℕ) (run : Option RunView) (cost roots : ℕ) : Type 0 where
+pub record IsCaller (script : ScriptView) (commands : List CommandView) (taken : PackedView ReplyHead) (printed : TextView) (place from : ℕ)
+    (run : Option RunView) (cost roots : ℕ) : Type 0 where
   pub whole : commands_of script ≡ commands
   pub at : IsAt commands (replies_of taken.items) place from run
   pub room : sum_left (λ t. 1) (progress commands (replies_of taken.items)) ≤ taken.room

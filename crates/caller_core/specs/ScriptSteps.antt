@@ -6,7 +6,9 @@ use Rattle.caller_core.specs.declared.script.ScriptFault.{ScriptFault}
 
 -- whatever lines follow this one, they are read behind the new commands as they are, with it, behind the old ones
 pub record IsStep (limit number : ℕ) (old new : List CommandView) (line : List ℕ) : Type 0 where
-  pub same : (ls : List (List ℕ)) → behind_commands new (lines_read limit (number + 1) (length new) ls) ≡ behind_commands old (lines_read limit number (length old) (line ∷ ls))
+  pub same : (ls : List (List ℕ))
+      → behind_commands new (lines_read limit (number + 1) (length new) ls) ≡ behind_commands old
+      (lines_read limit number (length old) (line ∷ ls))
 
 -- whatever lines follow, this one is refused
 pub record IsRefused (limit number : ℕ) (old : List CommandView) (line : List ℕ) (fault : ScriptFault) : Type 0 where

@@ -34,7 +34,8 @@ abbrev pub behind_commands : List CommandView → Result (List CommandView) Plac
 behind_commands cs (Ok ds) = Ok (cs ++ ds)
 behind_commands cs (Err p) = Err p
 
-abbrev pub behind_line_read : ℕ → List ℕ → Result (Option Cmd) ℕ → Result (List CommandView) Place → Result (List CommandView) Place → Result (List CommandView) Place
+abbrev pub behind_line_read : ℕ → List ℕ → Result (Option Cmd) ℕ → Result (List CommandView) Place → Result (List CommandView) Place
+    → Result (List CommandView) Place
 behind_line_read number line (Err word) same more = Err (record { line = number; word = word })
 behind_line_read number line (Ok None) same more = same
 behind_line_read number line (Ok (Some c)) same more = behind_commands (command_of line c ∷ []) more
@@ -43,7 +44,8 @@ behind_line_read number line (Ok (Some c)) same more = behind_commands (command_
 abbrev pub lines_read : (limit number count : ℕ) → List (List ℕ) → Result (List CommandView) Place
 lines_read limit number count [] = Ok []
 lines_read limit number count (l ∷ ls) =
-    behind_line_read number l (at_most count (line_read limit l)) (lines_read limit (number + 1) count ls) (lines_read limit (number + 1) (count + 1) ls)
+    behind_line_read number l (at_most count (line_read limit l)) (lines_read limit (number + 1) count ls)
+    (lines_read limit (number + 1) (count + 1) ls)
 
 abbrev pub text_read : (limit : ℕ) → List ℕ → Result (List CommandView) Place
 text_read limit text = lines_read limit 1 0 (lines_of text)

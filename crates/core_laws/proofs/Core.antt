@@ -34,25 +34,30 @@ set_same [] i x h = refl
 set_same (y ∷ ys) zero x h = ap (λ (z : _). z ∷ ys) (let f : Some y ≡ Some x = h in let g : x ≡ y = cc in g)
 set_same (y ∷ ys) (suc i) x h = ap (λ (zs : List _). y ∷ zs) (set_same ys i x h)
 
-pub at_set : {X : Type 0} (xs : List X) (i k : ℕ) (x y : X) → slice_get (set xs i x) k ≡ Some y → ((k ≡ i) × (x ≡ y)) ⊎ ((k ≡ i → ⊥) × (slice_get xs k ≡ Some y))
+pub at_set : {X : Type 0} (xs : List X) (i k : ℕ) (x y : X) → slice_get (set xs i x) k ≡ Some y
+    → ((k ≡ i) × (x ≡ y)) ⊎ ((k ≡ i → ⊥) × (slice_get xs k ≡ Some y))
 at_set xs i k x y h =
     elim (eqb_tells k i) [
       | inl e ↦ inl (e.1, set_here xs i x y (subst (λ (j : ℕ). slice_get (set xs i x) j ≡ Some y) e.1 h))
       | inr e ↦ inr (e.1, sym (set_elsewhere xs i k x e.1) ∙ h)
     ]
 
-pub there_in : {X Y : Type 0} (xs : List X) (ys : List Y) (i : ℕ) (x : X) → length xs ≡ length ys → slice_get xs i ≡ Some x → (y : Y) × (slice_get ys i ≡ Some y)
+pub there_in : {X Y : Type 0} (xs : List X) (ys : List Y) (i : ℕ) (x : X) → length xs ≡ length ys → slice_get xs i ≡ Some x
+    → (y : Y) × (slice_get ys i ≡ Some y)
 there_in [] ys i x e h = absurd (let g : None ≡ Some x = h in cc)
 there_in (x2 ∷ xs) [] i x e h = absurd (omega (arith, e))
 there_in (x2 ∷ xs) (y ∷ ys) zero x e h = (y, refl)
 there_in (x2 ∷ xs) (y ∷ ys) (suc i) x e h = there_in xs ys i x (omega (arith, e)) h
 
 -- the bytes that are still to be told once more, where one place is new
-pub pending-set : (places : List Place) (place : ℕ) (p new : Place) → slice_get places place ≡ Some p → pending (set places place new) + length p.got ≡ pending places + length new.got
+pub pending-set : (places : List Place) (place : ℕ) (p new : Place) → slice_get places place ≡ Some p
+    → pending (set places place new) + length p.got ≡ pending places + length new.got
 pending-set places place p new here =
     let low : place < length places = slice_get_within places place p here in
-    let sums : pending (set places place new) + length (get_or places place p).got ≡ pending places + length new.got = sum_by-set (λ (q : Place). length q.got) places place new p low in
-    let is : get_or places place p ≡ p = (let f : Some (get_or places place p) ≡ Some p = sym (slice_get-get_or places place p low) ∙ here in cc) in
+    let sums : pending (set places place new) + length (get_or places place p).got ≡ pending places + length new.got = sum_by-set
+    (λ (q : Place). length q.got) places place new p low in
+    let is : get_or places place p ≡ p = (let f : Some (get_or places place p) ≡ Some p = sym (slice_get-get_or places place p low)
+    ∙ here in cc) in
     ap (λ (q : Place). pending (set places place new) + length q.got) (sym is) ∙ sums
 
 -- a walk with a next step isn't over
@@ -62,16 +67,21 @@ not_over v (Look ask next) act e = refl
 not_over v (Then a note next) act e = refl
 
 -- a lone settle's walk does nothing else
-pub lone_act : (b : BoardView) (v : Slots) (w : WalkTree) → IsLone b w → (act : Act) → first_act (seen v w) ≡ Some act → (verdict : Option Errno) × (act ≡ Settle verdict)
-lone_act b v w lone act e =
-    (Some lone.errno, (let f : Some act ≡ Some (Settle (Some lone.errno)) = sym e ∙ ap (λ (x : WalkTree). first_act (seen v x)) lone.is in cc))
+pub lone_act : (b : BoardView) (v : Slots) (w : WalkTree) → IsLone b w → (act : Act) → first_act (seen v w) ≡ Some act
+    → (verdict : Option Errno) × (act ≡ Settle verdict)
+lone_act b v w lone act e = (
+  Some lone.errno,
+  (let f : Some act ≡ Some (Settle (Some lone.errno)) = sym e ∙ ap (λ (x : WalkTree). first_act (seen v x)) lone.is in
+      cc),
+)
 
 module _ (run : Run) (whole : Whole) (core : CoreKept run whole) where
   -- what the lemmas of told steps want
   pub are-numbered : AreNumbered run.callers (spots_of whole.places)
   are-numbered =
       record {
-        below = λ i x at. (let p = map_from spot_of whole.places i x at in subst (λ (y : Spot). y.number < run.callers) p.2 (core.below i p.0 p.1));
+        below = λ i x at. (let p = map_from spot_of whole.places i x at in
+            subst (λ (y : Spot). y.number < run.callers) p.2 (core.below i p.0 p.1));
         once = λ i k x y at also e. (let p = map_from spot_of whole.places i x at in let q = map_from spot_of whole.places k y also in
             core.distinct i k p.0.number (map_at (λ (s : Place). s.number) whole.places i p.0 p.1)
             (map_at (λ (s : Place). s.number) whole.places k q.0 q.1
@@ -80,7 +90,8 @@ module _ (run : Run) (whole : Whole) (core : CoreKept run whole) where
 
   module _ (place : ℕ) (p : Place) (here : slice_get whole.places place ≡ Some p) where
     pub locks-here : (ls : List LockId) × (slice_get whole.held place ≡ Some ls)
-    locks-here = there_in (numbers_of whole.places) whole.held place p.number (sym core.table.counted) (map_at (λ (s : Place). s.number) whole.places place p here)
+    locks-here = there_in (numbers_of whole.places) whole.held place p.number (sym core.table.counted)
+        (map_at (λ (s : Place). s.number) whole.places place p here)
 
     pub owes-here : (n : ℕ) × (slice_get whole.owes place ≡ Some n)
     owes-here = there_in whole.places whole.owes place p (sym core.counted) here
@@ -101,7 +112,8 @@ module _ (run : Run) (whole : Whole) (core : CoreKept run whole) where
     tree-here = map_at (λ (s : Place). s.tree) whole.places place p here
 
   -- a walk that has a next step goes on; where that isn't its settle, it is a transfer's that wasn't refused
-  module _ (place : ℕ) (p : Place) (ls : List LockId) (n : ℕ) (stands : StandsAt whole place p ls n) (act : Act) (first : next_of whole.locks p.tree ≡ Some act) where
+  module _ (place : ℕ) (p : Place) (ls : List LockId) (n : ℕ) (stands : StandsAt whole place p ls n) (act : Act)
+      (first : next_of whole.locks p.tree ≡ Some act) where
     pub going-on : IsGoing run p n
     going-on = (core.seats place p ls n stands).going (not_over (slots_of (seen_of whole.locks)) p.tree act first)
 
@@ -113,7 +125,8 @@ module _ (run : Run) (whole : Whole) (core : CoreKept run whole) where
         ]
 
   -- each walk with what it holds
-  pub holds-at : (i : ℕ) (w : WalkTree) → slice_get (trees_of whole.places) i ≡ Some w → HoldsAt run.board (numbers_of whole.places) whole.held i w
+  pub holds-at : (i : ℕ) (w : WalkTree) → slice_get (trees_of whole.places) i ≡ Some w
+      → HoldsAt run.board (numbers_of whole.places) whole.held i w
   holds-at i w at =
       let p = map_from (λ (s : Place). s.tree) whole.places i w at in
       let seat = seat-here i p.0 p.1 in
@@ -126,19 +139,35 @@ module _ (run : Run) (whole : Whole) (core : CoreKept run whole) where
       }
 
   -- THE FRAME: what is new at one place, and the rest stays
-  pub core-stepped : (place : ℕ) (p new : Place) → slice_get whole.places place ≡ Some p → new.number ≡ p.number → (n less entries : ℕ) → slice_get whole.owes place ≡ Some n → less + entries ≤ n
+  pub core-stepped : (place : ℕ) (p new : Place) → slice_get whole.places place ≡ Some p → new.number ≡ p.number → (n less entries : ℕ)
+      → slice_get whole.owes place ≡ Some n → less + entries ≤ n
       → (ls : List LockId) → SeatKept run new ls less
       → (v2 : LocksView) → TableKept run.board v2 (numbers_of whole.places) (set whole.held place ls)
       → (sockets2 : List RootPort) → AreRooted sockets2
-      → ((k : ℕ) (y : RootPort) → slice_get sockets2 k ≡ Some y → PortKept run.board run.tells (total (set whole.owes place less)) (set (trees_of whole.places) place new.tree) y)
-      → (past2 : List Entry) → (IsTrue run.tells → IsTold run.board run.callers run.asks past2 (set (spots_of whole.places) place (spot_of new)) v2 sockets2 None)
-      → (room2 : ℕ) → whole.room ≡ room2 + entries → (spent : ℕ) → 2 * less + length new.got + spent ≤ 2 * n + length p.got → (room_bytes2 : ℕ) → whole.room_bytes ≡ room_bytes2 + spent
-      → CoreKept run (record whole { past = past2; places = set whole.places place new; held = set whole.held place ls; owes = set whole.owes place less; locks = v2; sockets = sockets2; room = room2; room_bytes = room_bytes2 })
-  core-stepped place p new here same n less entries owed falls ls seat v2 table sockets2 once ports past2 told room2 rooms spent weighs room_bytes2 rooms_bytes =
+      → ((k : ℕ) (y : RootPort) → slice_get sockets2 k ≡ Some y
+      → PortKept run.board run.tells (total (set whole.owes place less)) (set (trees_of whole.places) place new.tree) y)
+      → (past2 : List Entry) → (IsTrue run.tells
+      → IsTold run.board run.callers run.asks past2 (set (spots_of whole.places) place (spot_of new)) v2 sockets2 None)
+      → (room2 : ℕ) → whole.room ≡ room2 + entries → (spent : ℕ) → 2 * less + length new.got + spent ≤ 2 * n + length p.got
+      → (room_bytes2 : ℕ) → whole.room_bytes ≡ room_bytes2 + spent
+      → CoreKept run (record whole {
+        past = past2;
+        places = set whole.places place new;
+        held = set whole.held place ls;
+        owes = set whole.owes place less;
+        locks = v2;
+        sockets = sockets2;
+        room = room2;
+        room_bytes = room_bytes2;
+      })
+  core-stepped place p new here same n less entries owed falls ls seat v2 table sockets2 once ports past2 told room2 rooms spent weighs
+      room_bytes2 rooms_bytes =
       let numbers : numbers_of (set whole.places place new) ≡ numbers_of whole.places =
-      map-set (λ (s : Place). s.number) whole.places place new ∙ ap (λ (k : ℕ). set (numbers_of whole.places) place k) same ∙ set_same (numbers_of whole.places) place p.number (number-here place p here) in
+      map-set (λ (s : Place). s.number) whole.places place new ∙ ap (λ (k : ℕ). set (numbers_of whole.places) place k) same
+      ∙ set_same (numbers_of whole.places) place p.number (number-here place p here) in
       let sums : total (set whole.owes place less) + n ≡ total whole.owes + less = total-set whole.owes place n less owed in
-      let gots : pending (set whole.places place new) + length p.got ≡ pending whole.places + length new.got = pending-set whole.places place p new here in
+      let gots : pending (set whole.places place new) + length p.got ≡ pending whole.places + length new.got =
+      pending-set whole.places place p new here in
       record {
         distinct = subst (λ (ns : List ℕ). AreDistinct ns) (sym numbers) core.distinct;
         below = below;
@@ -146,25 +175,38 @@ module _ (run : Run) (whole : Whole) (core : CoreKept run whole) where
         counted = length-set whole.owes place less ∙ core.counted ∙ sym (length-set whole.places place new);
         seats = λ i q ks m at. seats i q ks m at.here at.holding at.owing;
         table = subst (λ (ns : List ℕ). TableKept run.board v2 ns (set whole.held place ls)) (sym numbers) table;
-        sockets_kept = λ k y at. subst (λ (ts : List WalkTree). PortKept run.board run.tells (total (set whole.owes place less)) ts y) (sym (map-set (λ (s : Place). s.tree) whole.places place new)) (ports k y at);
+        sockets_kept = λ k y at. subst (λ (ts : List WalkTree). PortKept run.board run.tells (total (set whole.owes place less)) ts y)
+            (sym (map-set (λ (s : Place). s.tree) whole.places place new)) (ports k y at);
         room_left = (let was : total whole.owes ≤ whole.room = core.room_left in omega (arith, sums, falls, was, rooms));
-        bytes_left = (let was : 2 * total whole.owes + pending whole.places ≤ whole.room_bytes = core.bytes_left in omega (arith, sums, gots, weighs, was, rooms_bytes));
-        told = λ tell. subst (λ (ss : List Spot). IsTold run.board run.callers run.asks past2 ss v2 sockets2 None) (sym (map-set spot_of whole.places place new)) (told tell);
+        bytes_left = (let was : 2 * total whole.owes + pending whole.places ≤ whole.room_bytes = core.bytes_left in
+            omega (arith, sums, gots, weighs, was, rooms_bytes));
+        told = λ tell. subst (λ (ss : List Spot). IsTold run.board run.callers run.asks past2 ss v2 sockets2 None)
+            (sym (map-set spot_of whole.places place new)) (told tell);
       }
     where
       below : (i : ℕ) (q : Place) → slice_get (set whole.places place new) i ≡ Some q → q.number < run.callers
       below i q at =
           elim (at_set whole.places place i new q at) [
-            | inl e ↦ subst (λ (s : Place). s.number < run.callers) e.1 (subst (λ (k : ℕ). k < run.callers) (sym same) (core.below place p here))
+            | inl e ↦ subst (λ (s : Place). s.number < run.callers) e.1
+                (subst (λ (k : ℕ). k < run.callers) (sym same) (core.below place p here))
             | inr e ↦ core.below i q e.1
           ]
 
-      seats : (i : ℕ) (q : Place) (ks : List LockId) (m : ℕ) → slice_get (set whole.places place new) i ≡ Some q → slice_get (set whole.held place ls) i ≡ Some ks → slice_get (set whole.owes place less) i ≡ Some m
+      seats : (i : ℕ) (q : Place) (ks : List LockId) (m : ℕ) → slice_get (set whole.places place new) i ≡ Some q
+          → slice_get (set whole.held place ls) i ≡ Some ks → slice_get (set whole.owes place less) i ≡ Some m
           → SeatKept run q ks m
       seats i q ks m at holding owing =
           elim (at_set whole.places place i new q at) [
-            | inl e ↦ (let own_locks : ls ≡ ks = set_here whole.held place ls ks (subst (λ (j : ℕ). slice_get (set whole.held place ls) j ≡ Some ks) e.0 holding) in
-                let own_less : less ≡ m = set_here whole.owes place less m (subst (λ (j : ℕ). slice_get (set whole.owes place less) j ≡ Some m) e.0 owing) in
-                subst (λ (k : ℕ). SeatKept run q ks k) own_less (subst (λ (xs : List LockId). SeatKept run q xs less) own_locks (subst (λ (s : Place). SeatKept run s ls less) e.1 seat)))
-            | inr e ↦ core.seats i q ks m (record { here = e.1; holding = sym (set_elsewhere whole.held place i ls e.0) ∙ holding; owing = sym (set_elsewhere whole.owes place i less e.0) ∙ owing })
+            | inl e ↦ (let own_locks : ls ≡ ks = set_here whole.held place ls ks
+                (subst (λ (j : ℕ). slice_get (set whole.held place ls) j ≡ Some ks) e.0 holding) in
+                let own_less : less ≡ m = set_here whole.owes place less m
+                (subst (λ (j : ℕ). slice_get (set whole.owes place less) j ≡ Some m) e.0 owing) in
+                subst (λ (k : ℕ). SeatKept run q ks k) own_less
+                (subst (λ (xs : List LockId). SeatKept run q xs less) own_locks
+                (subst (λ (s : Place). SeatKept run s ls less) e.1 seat)))
+            | inr e ↦ core.seats i q ks m (record {
+              here = e.1;
+              holding = sym (set_elsewhere whole.held place i ls e.0) ∙ holding;
+              owing = sym (set_elsewhere whole.owes place i less e.0) ∙ owing;
+            })
           ]

@@ -57,7 +57,8 @@ none_owed [] e = refl
 none_owed (r ∷ rs) e = absurd (let f : true ≡ false = e in cc)
 
 -- what is paid at one place is paid in the sum
-pub calls-pay : (owes : List ℕ) (place n less len : ℕ) → slice_get owes place ≡ Some n → less + (1 + len) ≤ n → len + 2 + 2 * total (set owes place less) ≤ 2 * total owes
+pub calls-pay : (owes : List ℕ) (place n less len : ℕ) → slice_get owes place ≡ Some n → less + (1 + len) ≤ n
+    → len + 2 + 2 * total (set owes place less) ≤ 2 * total owes
 calls-pay owes place n less len here low =
     let sums : total (set owes place less) + n ≡ total owes + less = total-set owes place n less here in
     omega (arith, sums, low)
@@ -73,7 +74,8 @@ module _ (run : Run) (fair : IsFairRun run) (whole : Whole) (core : CoreKept run
   seat = core.seats place p ls n stands
 
   -- A MESSAGE
-  module _ (job : Job) (more : ℕ) (next : NextMsg) (at : ℕ) (old new : RootPort) (addr : ℕ) (reading : Bool) (bytes : List ℕ) (heard : Option Node) (e : End) (words : SeenView)
+  module _ (job : Job) (more : ℕ) (next : NextMsg) (at : ℕ) (old new : RootPort) (addr : ℕ) (reading : Bool) (bytes : List ℕ)
+      (heard : Option Node) (e : End) (words : SeenView)
       (sent : IsSent run whole p job more next at old new addr reading bytes heard e words) (gone : ℕ) where
     abbrev pub behind : WalkTree
     behind = behind_of whole.locks p.tree (Sent e bytes)
@@ -93,43 +95,75 @@ module _ (run : Run) (fair : IsFairRun run) (whole : Whole) (core : CoreKept run
     its_left : IsLeft run.board p.transfer (has_reply p.owed) p.sent p.tree
     its_left = left-on run whole core place p ls n stands (Send job more) sent.first no_settle
 
-    holds : SendsIn run.board job (first_note (seen (slots_of (seen_of whole.locks)) p.tree)).marks ls × ((out : ActOutcome) → HoldsLocks run.board ls (rest_of (seen (slots_of (seen_of whole.locks)) p.tree) out))
+    holds : SendsIn run.board job (first_note (seen (slots_of (seen_of whole.locks)) p.tree)).marks ls
+        × ((out : ActOutcome) → HoldsLocks run.board ls (rest_of (seen (slots_of (seen_of whole.locks)) p.tree) out))
     holds = holds-sent run.board (seen_of whole.locks) core.table.home ls p.tree seat.holds job more sent.first
 
     goes : is_over behind ≡ false
     goes = holder-goes run.board ls behind (holds.1 (Sent e bytes)) (lock.Bus (root_of run.board (job_bus job))) holds.0.rooted
 
-    whose : (bus : ℕ) (ms : List MessageView) → job ≡ Call bus ms → (run.asks p.number (p.taken ++ p.owed) ≡ Some p.transfer) × (bus ≡ p.transfer.bus) × (ms ≡ messages_of p.transfer) × (p.sent + suc more ≡ length ms)
+    whose : (bus : ℕ) (ms : List MessageView) → job ≡ Call bus ms
+        → (run.asks p.number (p.taken ++ p.owed) ≡ Some p.transfer) × (bus ≡ p.transfer.bus) × (ms ≡ messages_of p.transfer)
+        × (p.sent + suc more ≡ length ms)
     whose bus ms j =
-        let c = call-is run.board p.transfer (slots_of (seen_of whole.locks)) p.tree (has_reply p.owed) p.sent its_left bus ms more (subst (λ (x : Job). next_of whole.locks p.tree ≡ Some (Send x more)) j sent.first) in
-        let none : p.owed ≡ [] = none_owed p.owed c.0 in
-        (ap (λ (rs : List Reply). run.asks p.number (p.taken ++ rs)) none ∙ ap (λ (rs : List Reply). run.asks p.number rs) (append-nil p.taken) ∙ its.asked, c.1.same_bus, c.1.same_messages, c.2)
+        let c = call-is run.board p.transfer (slots_of (seen_of whole.locks)) p.tree (has_reply p.owed) p.sent its_left bus ms more
+        (subst (λ (x : Job). next_of whole.locks p.tree ≡ Some (Send x more)) j sent.first) in
+        let none : p.owed ≡ [] = none_owed p.owed c.0 in (
+          ap (λ (rs : List Reply). run.asks p.number (p.taken ++ rs)) none
+              ∙ ap (λ (rs : List Reply). run.asks p.number rs) (append-nil p.taken) ∙ its.asked,
+          c.1.same_bus,
+          c.1.same_messages,
+          c.2,
+        )
 
-    said : IsTrue run.tells → IsSaid run.board run.asks (spot_of p) whole.locks p.transfer p.sent job more next old new addr reading bytes heard e
+    said : IsTrue run.tells → IsSaid run.board run.asks
+        (spot_of p) whole.locks p.transfer p.sent job more next old new addr reading bytes heard e
     said tell =
         let s = sent.shows tell in
-        record { first = sent.first; of = sent.of; rooted = sent.keeps.rooted; whose = whose; to_addr = s.to_addr; in_direction = sent.gives.direction; chip = s.chip; has = s.has }
+        record {
+          first = sent.first;
+          of = sent.of;
+          rooted = sent.keeps.rooted;
+          whose = whose;
+          to_addr = s.to_addr;
+          in_direction = sent.gives.direction;
+          chip = s.chip;
+          has = s.has;
+        }
 
     table_now : TableKept run.board (turned_to whole.locks words) (numbers_of whole.places) (set whole.held place ls)
-    table_now = subst (λ (h : List (List LockId)). TableKept run.board (turned_to whole.locks words) (numbers_of whole.places) h) (sym (set_same whole.held place ls stands.holding))
-        (said-table run.board whole.locks (numbers_of whole.places) whole.held core.table ls p.tree seat.holds job more sent.first (Sent e bytes) words sent.marked)
+    table_now = subst (λ (h : List (List LockId)). TableKept run.board (turned_to whole.locks words) (numbers_of whole.places) h)
+        (sym (set_same whole.held place ls stands.holding))
+        (said-table run.board whole.locks (numbers_of whole.places) whole.held core.table ls p.tree seat.holds job more sent.first
+        (Sent e bytes) words sent.marked)
 
     inside : is_last job more ≡ false → e ≡ end.Ok → IsInside run.board behind new.root
-    inside last fine = inside-behind run.board (has_reply p.owed) (slots_of (seen_of whole.locks)) p.tree its_left.settles job more sent.first e bytes new.root (sym sent.keeps.rooted ∙ sym sent.keeps.root) last fine
+    inside last fine = inside-behind run.board (has_reply p.owed)
+        (slots_of (seen_of whole.locks)) p.tree its_left.settles job more sent.first e bytes new.root (sym sent.keeps.rooted
+        ∙ sym sent.keeps.root) last fine
 
-    pays : (weight_at run.board (Send job more) ≤ n) × OwesUpTo run.board behind (not (has_reply p.owed)) (run.left p.number p.taken - cost_of run.board p.transfer) (n - weight_at run.board (Send job more))
-    pays = owes-step run.board p.tree (not (has_reply p.owed)) (run.left p.number p.taken - cost_of run.board p.transfer) n its.owes (slots_of (seen_of whole.locks)) (Send job more) sent.first (Sent e bytes)
+    pays : (weight_at run.board (Send job more) ≤ n)
+        × OwesUpTo run.board behind (not (has_reply p.owed)) (run.left p.number p.taken - cost_of run.board p.transfer)
+        (n - weight_at run.board (Send job more))
+    pays = owes-step run.board p.tree (not (has_reply p.owed)) (run.left p.number p.taken - cost_of run.board p.transfer) n its.owes
+        (slots_of (seen_of whole.locks)) (Send job more) sent.first (Sent e bytes)
 
-    ports : (less : ℕ) → less + weight_at run.board (Send job more) ≤ n → (w : WalkTree) → (new.phase ≡ Idle) ⊎ IsInside run.board w new.root
-        → (k : ℕ) (y : RootPort) → slice_get (set whole.sockets at new) k ≡ Some y → PortKept run.board run.tells (total (set whole.owes place less)) (set (trees_of whole.places) place w) y
+    ports : (less : ℕ) → less + weight_at run.board (Send job more) ≤ n → (w : WalkTree)
+        → (new.phase ≡ Idle) ⊎ IsInside run.board w new.root
+        → (k : ℕ) (y : RootPort) → slice_get (set whole.sockets at new) k ≡ Some y
+        → PortKept run.board run.tells (total (set whole.owes place less)) (set (trees_of whole.places) place w) y
     ports less low w free =
-        sockets-spoken run.board run.tells (trees_of whole.places) place p.tree w (tree-here run whole core place p stands.here) whole.sockets core.once (total whole.owes) (total (set whole.owes place less)) (message_most run.board job more + 2)
-        (calls-pay whole.owes place n less (message_most run.board job more) stands.owing low) core.sockets_kept (slots_of (seen_of whole.locks)) (Send job more) sent.first at old new sent.port sent.keeps.root
+        sockets-spoken run.board run.tells (trees_of whole.places) place p.tree w
+        (tree-here run whole core place p stands.here) whole.sockets core.once (total whole.owes) (total (set whole.owes place less))
+        (message_most run.board job more + 2)
+        (calls-pay whole.owes place n less (message_most run.board job more) stands.owing low) core.sockets_kept
+        (slots_of (seen_of whole.locks)) (Send job more) sent.first at old new sent.port sent.keeps.root
         (λ bus ms k is. (let f : job ≡ Call bus ms = cc in sym (sent.keeps.rooted ∙ ap (λ (j : Job). root_of run.board (job_bus j)) f)))
         sent.keeps.start free sent.keeps.grows
 
     -- that decides nothing
-    module _ (leaves : IsLeft run.board p.transfer (has_reply p.owed) gone behind) (partway : p.owed ≡ [] → FitsReads (take gone p.transfer.msgs) got) (rooms : whole.room ≡ room2 + 1)
+    module _ (leaves : IsLeft run.board p.transfer (has_reply p.owed) gone behind) (partway : p.owed ≡ []
+        → FitsReads (take gone p.transfer.msgs) got) (rooms : whole.room ≡ room2 + 1)
         (room_bytes2 : ℕ) (rooms_bytes : whole.room_bytes ≡ room_bytes2 + length bytes) where
       abbrev pub quiet_place : Place
       quiet_place = spoken whole p job next reading bytes e gone
@@ -142,31 +176,46 @@ module _ (run : Run) (fair : IsFairRun run) (whole : Whole) (core : CoreKept run
         where
           by : (j : Job) → job ≡ j → got_after job reading bytes p.got ≡ []
           by (Call bus ms) j =
-              (let c = call-is run.board p.transfer (slots_of (seen_of whole.locks)) p.tree (has_reply p.owed) p.sent its_left bus ms more (subst (λ (x : Job). next_of whole.locks p.tree ≡ Some (Send x more)) j sent.first) in
+              (let c = call-is run.board p.transfer (slots_of (seen_of whole.locks)) p.tree (has_reply p.owed) p.sent its_left bus ms more
+              (subst (λ (x : Job). next_of whole.locks p.tree ≡ Some (Send x more)) j sent.first) in
               absurd (let f : true ≡ false = sym has ∙ c.0 in cc))
           by (Select h) j = ap (λ (x : Job). got_after x reading bytes p.got) j ∙ its.emptied has
           by (SwitchOff off) j = ap (λ (x : Job). got_after x reading bytes p.got) j ∙ its.emptied has
 
       quiet_seat : SeatKept run quiet_place ls quiet_less
-      quiet_seat = seat-behind run p n its ls behind (holds.1 (Sent e bytes)) gone goes leaves got partway got_still (message_cut next.purpose next.part e) quiet_less pays.1
+      quiet_seat = seat-behind run p n its ls behind (holds.1 (Sent e bytes)) gone goes leaves got partway got_still
+          (message_cut next.purpose next.part e) quiet_less pays.1
 
       free_now : (new.phase ≡ Idle) ⊎ ((is_last job more ≡ false) × (e ≡ end.Ok)) → (new.phase ≡ Idle) ⊎ IsInside run.board behind new.root
       free_now (inl idle) = inl idle
       free_now (inr x) = inr (inside x.0 x.1)
 
-      pub core-message : CoreKept run (record (with_place whole place (spoken whole p job next reading bytes e gone) ls (n - weight_at run.board (Send job more))) { past = message ∷ whole.past; locks = turned_to whole.locks words; sockets = set whole.sockets at new; room = room2; room_bytes = room_bytes2 })
+      pub core-message : CoreKept run
+          (record (with_place whole place (spoken whole p job next reading bytes e gone) ls (n - weight_at run.board (Send job more))) {
+            past = message ∷ whole.past;
+            locks = turned_to whole.locks words;
+            sockets = set whole.sockets at new;
+            room = room2;
+            room_bytes = room_bytes2;
+          })
       core-message =
           let weight : 1 + message_most run.board job more ≤ n = pays.0 in
           core-stepped run whole core place p quiet_place stands.here refl n quiet_less 1 stands.owing (omega (arith, weight))
-          ls quiet_seat (turned_to whole.locks words) table_now (set whole.sockets at new) (rooted-kept whole.sockets core.once at old new sent.port sent.keeps.root)
+          ls quiet_seat (turned_to whole.locks words) table_now (set whole.sockets at new)
+          (rooted-kept whole.sockets core.once at old new sent.port sent.keeps.root)
           (ports quiet_less (omega (arith, weight)) behind (free_now sent.keeps.idle)) (message ∷ whole.past)
-          (λ tell. message-keeps run.board fair.tree fair.plain fair.lines run.asks fair.sends run.callers whole.past (spots_of whole.places) whole.locks whole.sockets (core.told tell)
-          (are-numbered run whole core) core.once place (spot_of p) (spot-here run whole core place p stands.here) (looks-same run whole core tell place p ls n stands) at old new sent.port p.transfer p.sent job more next addr reading bytes heard e (said tell) goes words sent.marked leaves.quiet)
+          (λ tell. message-keeps run.board fair.tree fair.plain fair.lines run.asks fair.sends run.callers whole.past
+          (spots_of whole.places) whole.locks whole.sockets (core.told tell)
+          (are-numbered run whole core) core.once place (spot_of p) (spot-here run whole core place p stands.here)
+          (looks-same run whole core tell place p ls n stands) at old new sent.port p.transfer p.sent job more next addr reading bytes
+          heard e (said tell) goes words sent.marked leaves.quiet)
           room2 rooms (length bytes) (omega (arith, weight, sent.keeps.few, got-grows job reading bytes p.got)) room_bytes2 rooms_bytes
 
     -- that decides, with its settle behind it: the caller isn't told yet
-    module _ (verdict : Option Errno) (decides : IsDecided run.board p.transfer verdict behind) (unsettled : has_reply p.owed ≡ false) (reply : Reply) (decided : reply ≡ reply_by verdict (Some p.transfer) got)
-        (fits : Fits p.transfer reply) (rooms : whole.room ≡ room2 + 2) (room_bytes2 : ℕ) (rooms_bytes : whole.room_bytes ≡ room_bytes2 + (length bytes + length (bytes_given reply))) where
+    module _ (verdict : Option Errno) (decides : IsDecided run.board p.transfer verdict behind) (unsettled : has_reply p.owed ≡ false)
+        (reply : Reply) (decided : reply ≡ reply_by verdict (Some p.transfer) got)
+        (fits : Fits p.transfer reply) (rooms : whole.room ≡ room2 + 2) (room_bytes2 : ℕ)
+        (rooms_bytes : whole.room_bytes ≡ room_bytes2 + (length bytes + length (bytes_given reply))) where
       abbrev pub after : WalkTree
       after = rest_of behind Passed
 
@@ -180,14 +229,17 @@ module _ (run : Run) (fair : IsFairRun run) (whole : Whole) (core : CoreKept run
       settled_less = n - weight_at run.board (Send job more) - 1
 
       one_left : 1 ≤ n - weight_at run.board (Send job more)
-      one_left = settled-pays run p n its ls behind (holds.1 (Sent e bytes)) gone words table_now.home verdict decides (lock.Bus (root_of run.board (job_bus job))) holds.0.rooted unsettled (n - weight_at run.board (Send job more)) pays.1
+      one_left = settled-pays run p n its ls behind (holds.1 (Sent e bytes)) gone words table_now.home verdict decides
+          (lock.Bus (root_of run.board (job_bus job))) holds.0.rooted unsettled (n - weight_at run.board (Send job more)) pays.1
 
       after_goes : is_over after ≡ false
-      after_goes = settled-goes run p n its ls behind (holds.1 (Sent e bytes)) gone words table_now.home verdict decides (lock.Bus (root_of run.board (job_bus job))) holds.0.rooted unsettled (n - weight_at run.board (Send job more)) pays.1
+      after_goes = settled-goes run p n its ls behind (holds.1 (Sent e bytes)) gone words table_now.home verdict decides
+          (lock.Bus (root_of run.board (job_bus job))) holds.0.rooted unsettled (n - weight_at run.board (Send job more)) pays.1
 
       settled_seat : SeatKept run settled_place ls settled_less
       settled_seat =
-          seat-settled run p n its ls behind (holds.1 (Sent e bytes)) gone words table_now.home verdict decides (lock.Bus (root_of run.board (job_bus job))) holds.0.rooted unsettled (n - weight_at run.board (Send job more)) pays.1
+          seat-settled run p n its ls behind (holds.1 (Sent e bytes)) gone words table_now.home verdict decides
+          (lock.Bus (root_of run.board (job_bus job))) holds.0.rooted unsettled (n - weight_at run.board (Send job more)) pays.1
           reply fits
 
       free_after : (new.phase ≡ Idle) ⊎ ((is_last job more ≡ false) × (e ≡ end.Ok)) → (new.phase ≡ Idle) ⊎ IsInside run.board after new.root
@@ -196,21 +248,37 @@ module _ (run : Run) (fair : IsFairRun run) (whole : Whole) (core : CoreKept run
           (let i = inside x.0 x.1 in
           absurd (let f : Some (Send (Call i.bus i.messages) i.left) ≡ Some (Settle verdict) = sym i.first ∙ decides.first in cc))
 
-      pub core-settled : CoreKept run (record (with_place whole place (settled_with (spoken whole p job next reading bytes e gone) reply) ls (n - weight_at run.board (Send job more) - 1)) { past = settle ∷ message ∷ whole.past; locks = turned_to whole.locks words; sockets = set whole.sockets at new; room = room2; room_bytes = room_bytes2 })
+      pub core-settled : CoreKept run
+          (record (with_place whole place (settled_with (spoken whole p job next reading bytes e gone) reply) ls
+          (n - weight_at run.board (Send job more) - 1)) {
+            past = settle ∷ message ∷ whole.past;
+            locks = turned_to whole.locks words;
+            sockets = set whole.sockets at new;
+            room = room2;
+            room_bytes = room_bytes2;
+          })
       core-settled =
           let weight : 1 + message_most run.board job more ≤ n = pays.0 in
           let one : 1 ≤ n - (1 + message_most run.board job more) = one_left in
-          let gives : length (bytes_given reply) ≤ length got = (let few = given-few verdict (Some p.transfer) got in let same : length (bytes_given reply) ≡ length (bytes_given (reply_by verdict (Some p.transfer) got)) = ap (λ (r : Reply). length (bytes_given r)) decided in omega (arith, few, same)) in
+          let gives : length (bytes_given reply) ≤ length got = (let few = given-few verdict (Some p.transfer) got in
+          let same : length (bytes_given reply) ≡ length (bytes_given (reply_by verdict (Some p.transfer) got)) = ap
+          (λ (r : Reply). length (bytes_given r)) decided in omega (arith, few, same)) in
           core-stepped run whole core place p settled_place stands.here refl n settled_less 2 stands.owing (omega (arith, weight, one))
-          ls settled_seat (turned_to whole.locks words) table_now (set whole.sockets at new) (rooted-kept whole.sockets core.once at old new sent.port sent.keeps.root)
+          ls settled_seat (turned_to whole.locks words) table_now (set whole.sockets at new)
+          (rooted-kept whole.sockets core.once at old new sent.port sent.keeps.root)
           (ports settled_less (omega (arith, weight, one)) after (free_after sent.keeps.idle)) (settle ∷ message ∷ whole.past)
-          (λ tell. message-settles run.board fair.tree fair.plain fair.lines run.asks fair.sends run.callers whole.past (spots_of whole.places) whole.locks whole.sockets (core.told tell)
-          (are-numbered run whole core) core.once place (spot_of p) (spot-here run whole core place p stands.here) (looks-same run whole core tell place p ls n stands) at old new sent.port p.transfer p.sent job more next addr reading bytes heard e (said tell) goes words sent.marked
+          (λ tell. message-settles run.board fair.tree fair.plain fair.lines run.asks fair.sends run.callers whole.past
+          (spots_of whole.places) whole.locks whole.sockets (core.told tell)
+          (are-numbered run whole core) core.once place (spot_of p) (spot-here run whole core place p stands.here)
+          (looks-same run whole core tell place p ls n stands) at old new sent.port p.transfer p.sent job more next addr reading bytes
+          heard e (said tell) goes words sent.marked
           verdict decides.first (none_owed p.owed unsettled) its.asked reply decided after_goes)
-          room2 rooms (length bytes + length (bytes_given reply)) (omega (arith, weight, one, sent.keeps.few, got-grows job reading bytes p.got, gives)) room_bytes2 rooms_bytes
+          room2 rooms (length bytes + length (bytes_given reply))
+          (omega (arith, weight, one, sent.keeps.few, got-grows job reading bytes p.got, gives)) room_bytes2 rooms_bytes
 
   -- A LOCK IS TAKEN that the table says nobody has
-  module _ (l : LockId) (first : next_of whole.locks p.tree ≡ Some (Take l)) (nobody : holder_in whole.locks l ≡ None) (rooms : whole.room ≡ room2 + 1) where
+  module _ (l : LockId) (first : next_of whole.locks p.tree ≡ Some (Take l)) (nobody : holder_in whole.locks l ≡ None)
+      (rooms : whole.room ≡ room2 + 1) where
     abbrev pub taken_tree : WalkTree
     taken_tree = behind_of whole.locks p.tree Passed
 
@@ -229,24 +297,39 @@ module _ (run : Run) (fair : IsFairRun run) (whole : Whole) (core : CoreKept run
     take_its : IsGoing run p n
     take_its = going-on run whole core place p ls n stands (Take l) first
 
-    take_pays : (1 ≤ n) × OwesUpTo run.board taken_tree (not (has_reply p.owed)) (run.left p.number p.taken - cost_of run.board p.transfer) (n - 1)
-    take_pays = owes-step run.board p.tree (not (has_reply p.owed)) (run.left p.number p.taken - cost_of run.board p.transfer) n take_its.owes (slots_of (seen_of whole.locks)) (Take l) first Passed
+    take_pays : (1 ≤ n) × OwesUpTo run.board taken_tree (not (has_reply p.owed)) (run.left p.number p.taken - cost_of run.board p.transfer)
+        (n - 1)
+    take_pays = owes-step run.board p.tree (not (has_reply p.owed))
+        (run.left p.number p.taken - cost_of run.board p.transfer) n take_its.owes (slots_of (seen_of whole.locks)) (Take l) first Passed
 
     take_seat : SeatKept run taken_place (l ∷ ls) (n - 1)
     take_seat =
         seat-behind run p n take_its (l ∷ ls) taken_tree take_holds.2 p.sent take_goes
-        (left-taken run.board p.transfer (slots_of (seen_of whole.locks)) p.tree (has_reply p.owed) p.sent (left-on run whole core place p ls n stands (Take l) first takes_no_settle) l first)
+        (left-taken run.board p.transfer (slots_of (seen_of whole.locks)) p.tree (has_reply p.owed) p.sent
+        (left-on run whole core place p ls n stands (Take l) first takes_no_settle) l first)
         p.got take_its.partway take_its.emptied cut_at.No (n - 1) take_pays.1
 
-    pub core-taken : CoreKept run (record (with_place whole place (passed whole p) (l ∷ ls) (n - 1)) { past = entry.Take p.number l ∷ whole.past; locks = with_holder whole.locks l (Some p.number); room = room2 })
+    pub core-taken : CoreKept run (record
+        (with_place whole place (passed whole p) (l ∷ ls) (n - 1)) {
+          past = entry.Take p.number l ∷ whole.past;
+          locks = with_holder whole.locks l (Some p.number);
+          room = room2;
+        })
     core-taken =
         let one : 1 ≤ n = take_pays.0 in
         core-stepped run whole core place p taken_place stands.here refl n (n - 1) 1 stands.owing (omega (arith, one)) (l ∷ ls) take_seat
-        (with_holder whole.locks l (Some p.number)) (take-table run.board whole.locks (numbers_of whole.places) whole.held core.table core.distinct place p.number ls stands.holding (number-here run whole core place p stands.here) l take_holds.0 nobody) whole.sockets core.once
-        (sockets-still run.board run.tells (trees_of whole.places) place p.tree taken_tree (tree-here run whole core place p stands.here) whole.sockets (total whole.owes) (total (set whole.owes place (n - 1))) (less-owed whole.owes place n (n - 1) stands.owing (omega arith)) core.sockets_kept (slots_of (seen_of whole.locks)) (Take l) first
+        (with_holder whole.locks l (Some p.number))
+        (take-table run.board whole.locks (numbers_of whole.places) whole.held core.table core.distinct place p.number ls stands.holding
+        (number-here run whole core place p stands.here) l take_holds.0 nobody) whole.sockets core.once
+        (sockets-still run.board run.tells (trees_of whole.places) place p.tree taken_tree
+        (tree-here run whole core place p stands.here) whole.sockets (total whole.owes) (total (set whole.owes place (n - 1)))
+        (less-owed whole.owes place n (n - 1) stands.owing (omega arith)) core.sockets_kept (slots_of (seen_of whole.locks))
+        (Take l) first
         (λ bus ms k is. let f : Take l ≡ Send (Call bus ms) k = is in cc))
         (entry.Take p.number l ∷ whole.past)
-        (λ tell. told-take run.board fair.tree fair.plain fair.lines run.asks fair.sends run.callers whole.past (spots_of whole.places) whole.locks whole.sockets (core.told tell) (are-numbered run whole core) place (spot_of p) (spot-here run whole core place p stands.here) (looks-same run whole core tell place p ls n stands)
+        (λ tell. told-take run.board fair.tree fair.plain fair.lines run.asks fair.sends run.callers whole.past
+        (spots_of whole.places) whole.locks whole.sockets (core.told tell) (are-numbered run whole core) place (spot_of p)
+        (spot-here run whole core place p stands.here) (looks-same run whole core tell place p ls n stands)
         taken_tree refl take_goes l take_holds.0 first nobody)
         room2 rooms 0 (omega arith) whole.room_bytes (omega arith)
 
@@ -267,29 +350,47 @@ module _ (run : Run) (fair : IsFairRun run) (whole : Whole) (core : CoreKept run
     free_there : IsLockOf run.board l
     free_there =
         lock-there run.board whole.locks (numbers_of whole.places) whole.held core.table l p.number
-        (core.table.has place ls p.number stands.holding (number-here run whole core place p stands.here) l (subst (λ (ks : List LockId). InLocks l ks) (sym free_holds.1) (inl refl)))
+        (core.table.has place ls p.number stands.holding (number-here run whole core place p stands.here) l
+        (subst (λ (ks : List LockId). InLocks l ks) (sym free_holds.1) (inl refl)))
 
     free_its : IsGoing run p n
     free_its = going-on run whole core place p ls n stands (Free l) first
 
-    free_pays : (1 ≤ n) × OwesUpTo run.board freed_tree (not (has_reply p.owed)) (run.left p.number p.taken - cost_of run.board p.transfer) (n - 1)
-    free_pays = owes-step run.board p.tree (not (has_reply p.owed)) (run.left p.number p.taken - cost_of run.board p.transfer) n free_its.owes (slots_of (seen_of whole.locks)) (Free l) first Passed
+    free_pays : (1 ≤ n) × OwesUpTo run.board freed_tree (not (has_reply p.owed)) (run.left p.number p.taken - cost_of run.board p.transfer)
+        (n - 1)
+    free_pays = owes-step run.board p.tree (not (has_reply p.owed))
+        (run.left p.number p.taken - cost_of run.board p.transfer) n free_its.owes (slots_of (seen_of whole.locks)) (Free l) first Passed
 
     module _ (goes_on : is_over freed_tree ≡ false) (rooms : whole.room ≡ room2 + 1) where
       free_seat : SeatKept run freed_place free_holds.0 (n - 1)
       free_seat =
           seat-behind run p n free_its free_holds.0 freed_tree free_holds.2 p.sent goes_on
-          (left-freed run.board p.transfer (slots_of (seen_of whole.locks)) p.tree (has_reply p.owed) p.sent (left-on run whole core place p ls n stands (Free l) first frees_no_settle) l first)
+          (left-freed run.board p.transfer (slots_of (seen_of whole.locks)) p.tree (has_reply p.owed) p.sent
+          (left-on run whole core place p ls n stands (Free l) first frees_no_settle) l first)
           p.got free_its.partway free_its.emptied cut_at.No (n - 1) free_pays.1
 
-      pub core-freed : CoreKept run (record (with_place whole place (passed whole p) free_holds.0 (n - 1)) { past = entry.Free p.number l ∷ whole.past; locks = with_holder whole.locks l None; room = room2 })
+      pub core-freed : CoreKept run (record
+          (with_place whole place (passed whole p) free_holds.0 (n - 1)) {
+            past = entry.Free p.number l ∷ whole.past;
+            locks = with_holder whole.locks l None;
+            room = room2;
+          })
       core-freed =
           let one : 1 ≤ n = free_pays.0 in
-          core-stepped run whole core place p freed_place stands.here refl n (n - 1) 1 stands.owing (omega (arith, one)) free_holds.0 free_seat
-          (with_holder whole.locks l None) (free-table run.board whole.locks (numbers_of whole.places) whole.held core.table core.distinct place p.number ls stands.holding (number-here run whole core place p stands.here) l free_holds.0 free_holds.1) whole.sockets core.once
-          (sockets-still run.board run.tells (trees_of whole.places) place p.tree freed_tree (tree-here run whole core place p stands.here) whole.sockets (total whole.owes) (total (set whole.owes place (n - 1))) (less-owed whole.owes place n (n - 1) stands.owing (omega arith)) core.sockets_kept (slots_of (seen_of whole.locks)) (Free l) first
+          core-stepped run whole core place p freed_place stands.here refl n (n - 1) 1 stands.owing
+          (omega (arith, one)) free_holds.0 free_seat
+          (with_holder whole.locks l None)
+          (free-table run.board whole.locks
+          (numbers_of whole.places) whole.held core.table core.distinct place p.number ls stands.holding
+          (number-here run whole core place p stands.here) l free_holds.0 free_holds.1) whole.sockets core.once
+          (sockets-still run.board run.tells (trees_of whole.places) place p.tree freed_tree
+          (tree-here run whole core place p stands.here) whole.sockets (total whole.owes) (total (set whole.owes place (n - 1)))
+          (less-owed whole.owes place n (n - 1) stands.owing (omega arith)) core.sockets_kept (slots_of (seen_of whole.locks))
+          (Free l) first
           (λ bus ms k is. let f : Free l ≡ Send (Call bus ms) k = is in cc))
           (entry.Free p.number l ∷ whole.past)
-          (λ tell. told-free run.board fair.tree fair.plain fair.lines run.asks fair.sends run.callers whole.past (spots_of whole.places) whole.locks whole.sockets (core.told tell) (are-numbered run whole core) place (spot_of p) (spot-here run whole core place p stands.here) (looks-same run whole core tell place p ls n stands)
+          (λ tell. told-free run.board fair.tree fair.plain fair.lines run.asks fair.sends run.callers whole.past
+          (spots_of whole.places) whole.locks whole.sockets (core.told tell) (are-numbered run whole core) place (spot_of p)
+          (spot-here run whole core place p stands.here) (looks-same run whole core tell place p ls n stands)
           freed_tree refl goes_on l free_there first)
           room2 rooms 0 (omega arith) whole.room_bytes (omega arith)

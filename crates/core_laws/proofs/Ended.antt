@@ -23,11 +23,13 @@ use Rattle.core_laws.proofs.Opens.{none-ready}
 use Rattle.core_laws.specs.Spots.{seen_of}
 
 -- a look holds a lock, so a step comes behind it
-none_over : (b : BoardView) (v : Slots) → ((p : ℕ) → IsMarkOn b p (mark_in (v p).slot)) → (ls : List LockId) (w : WalkTree) → HoldsLocks b ls w → first_act (seen v w) ≡ None → is_over w ≡ true
+none_over : (b : BoardView) (v : Slots) → ((p : ℕ) → IsMarkOn b p (mark_in (v p).slot)) → (ls : List LockId) (w : WalkTree)
+    → HoldsLocks b ls w → first_act (seen v w) ≡ None → is_over w ≡ true
 none_over b v home ls Ends holds none = refl
 none_over b v home ls (Look ask next) holds none =
     elim (act_or_end v (Look ask next)) [
-      | inl ends ↦ (let nothing : ls ≡ [] = subst (λ (w : WalkTree). HoldsLocks b ls w) ends (holds_seen b ls v home (Look ask next) holds) in
+      | inl ends ↦ (let nothing : ls ≡ [] = subst (λ (w : WalkTree). HoldsLocks b ls w) ends
+          (holds_seen b ls v home (Look ask next) holds) in
           absurd (subst (λ (ks : List LockId). InLocks (lock.Mux (ask_bus ask)) ks) nothing holds.0))
       | inr act ↦ absurd (let f : None ≡ Some act.0 = sym none ∙ act.1 in cc)
     ]
@@ -40,7 +42,8 @@ module _ (run : Run) (whole : Whole) (core : CoreKept run whole) where
 
     pub finished-over : next_of whole.locks p.tree ≡ None → is_over p.tree ≡ true
     finished-over none =
-        none_over run.board (slots_of (seen_of whole.locks)) (home_seen run.board (seen_of whole.locks) core.table.home (locks-here run whole core place p here).0 p.tree seat.holds)
+        none_over run.board (slots_of (seen_of whole.locks))
+        (home_seen run.board (seen_of whole.locks) core.table.home (locks-here run whole core place p here).0 p.tree seat.holds)
         (locks-here run whole core place p here).0 p.tree seat.holds none
 
     -- WHO HAS NO NEXT STEP asks for nothing more, and was handed all its replies
@@ -56,6 +59,8 @@ module _ (run : Run) (whole : Whole) (core : CoreKept run whole) where
         by false goes = absurd (let f : None ≡ Some p.transfer = sym nothing ∙ (seat.going goes).asked in cc)
 
   -- WHERE ALL ARE HELD UP all have finished
-  pub all-finished : ((i : ℕ) (w : WalkTree) → slice_get (trees_of whole.places) i ≡ Some w → IsHeldUp (holder_in whole.locks) (slots_of (seen_of whole.locks)) w)
+  pub all-finished : ((i : ℕ) (w : WalkTree) → slice_get (trees_of whole.places) i ≡ Some w
+      → IsHeldUp (holder_in whole.locks) (slots_of (seen_of whole.locks)) w)
       → (place : ℕ) (p : Place) → slice_get whole.places place ≡ Some p → (run.asks p.number p.taken ≡ None) × (p.owed ≡ [])
-  all-finished up place p here = finished-asks place p here (none-ready run whole core up place p.tree (tree-here run whole core place p here))
+  all-finished up place p here = finished-asks place p here
+      (none-ready run whole core up place p.tree (tree-here run whole core place p here))

@@ -33,7 +33,8 @@ pub mark_of_slot : (b : BoardView) (p : ℕ) (o : Option ℕ) → IsMarkOn b p o
 mark_of_slot b p None h = h
 mark_of_slot b p (Some m) h = h
 
-module _ (b : BoardView) (words : SeenView) (home : (p : ℕ) → IsMarkOn b p (mark_on words p)) (ls : List LockId) (w : WalkTree) (holds : HoldsLocks b ls w) where
+module _ (b : BoardView) (words : SeenView) (home : (p : ℕ) → IsMarkOn b p (mark_on words p)) (ls : List LockId) (w : WalkTree)
+    (holds : HoldsLocks b ls w) where
   abbrev pub v : Slots
   v = slots_of words
 
@@ -49,13 +50,15 @@ module _ (b : BoardView) (words : SeenView) (home : (p : ℕ) → IsMarkOn b p (
   at : (act : Act) → first_act (seen v w) ≡ Some act → Here act
   at act first = first_is (seen v w) act first
 
-  pub holds-taken : (l : LockId) → first_act (seen v w) ≡ Some (Take l) → IsLockOf b l × IsBelow b l ls × HoldsLocks b (l ∷ ls) (rest_of (seen v w) Passed)
+  pub holds-taken : (l : LockId) → first_act (seen v w) ≡ Some (Take l)
+      → IsLockOf b l × IsBelow b l ls × HoldsLocks b (l ∷ ls) (rest_of (seen v w) Passed)
   holds-taken l first =
       let a = at (Take l) first in
       let h : HoldsLocks b ls (Then (Take l) a.0 a.1) = subst (λ (x : WalkTree). HoldsLocks b ls x) a.2 here in
       (h.0, h.1, subst (λ (x : WalkTree). HoldsLocks b (l ∷ ls) (rest_of x Passed)) (sym a.2) h.2)
 
-  pub holds-freed : (l : LockId) → first_act (seen v w) ≡ Some (Free l) → (rest : List LockId) × (ls ≡ l ∷ rest) × HoldsLocks b rest (rest_of (seen v w) Passed)
+  pub holds-freed : (l : LockId) → first_act (seen v w) ≡ Some (Free l)
+      → (rest : List LockId) × (ls ≡ l ∷ rest) × HoldsLocks b rest (rest_of (seen v w) Passed)
   holds-freed l first =
       let a = at (Free l) first in
       let h : HoldsLocks b ls (Then (Free l) a.0 a.1) = subst (λ (x : WalkTree). HoldsLocks b ls x) a.2 here in
@@ -65,15 +68,21 @@ module _ (b : BoardView) (words : SeenView) (home : (p : ℕ) → IsMarkOn b p (
       → SendsIn b job (first_note (seen v w)).marks ls × ((out : ActOutcome) → HoldsLocks b ls (rest_of (seen v w) out))
   holds-sent job left first =
       let a = at (Send job left) first in
-      let h : HoldsLocks b ls (Then (Send job left) a.0 a.1) = subst (λ (x : WalkTree). HoldsLocks b ls x) a.2 here in
-      (subst (λ (x : WalkTree). SendsIn b job (first_note x).marks ls) (sym a.2) h.0, λ out. subst (λ (x : WalkTree). HoldsLocks b ls (rest_of x out)) (sym a.2) (h.1 out))
+      let h : HoldsLocks b ls (Then (Send job left) a.0 a.1) = subst (λ (x : WalkTree). HoldsLocks b ls x) a.2 here in (
+        subst (λ (x : WalkTree). SendsIn b job (first_note x).marks ls) (sym a.2) h.0,
+        λ out. subst
+            (λ (x : WalkTree). HoldsLocks b ls (rest_of x out)) (sym a.2) (h.1 out),
+      )
 
   pub holds-shifted : (job : Job) → first_act (seen v w) ≡ Some (Shift job)
       → SendsIn b job (first_note (seen v w)).marks ls × ((out : ActOutcome) → HoldsLocks b ls (rest_of (seen v w) out))
   holds-shifted job first =
       let a = at (Shift job) first in
-      let h : HoldsLocks b ls (Then (Shift job) a.0 a.1) = subst (λ (x : WalkTree). HoldsLocks b ls x) a.2 here in
-      (subst (λ (x : WalkTree). SendsIn b job (first_note x).marks ls) (sym a.2) h.0, λ out. subst (λ (x : WalkTree). HoldsLocks b ls (rest_of x out)) (sym a.2) (h.1 out))
+      let h : HoldsLocks b ls (Then (Shift job) a.0 a.1) = subst (λ (x : WalkTree). HoldsLocks b ls x) a.2 here in (
+        subst (λ (x : WalkTree). SendsIn b job (first_note x).marks ls) (sym a.2) h.0,
+        λ out. subst
+            (λ (x : WalkTree). HoldsLocks b ls (rest_of x out)) (sym a.2) (h.1 out),
+      )
 
   pub holds-settled : (verdict : Option Errno) → first_act (seen v w) ≡ Some (Settle verdict) → HoldsLocks b ls (rest_of (seen v w) Passed)
   holds-settled verdict first =
@@ -99,7 +108,8 @@ module _ (b : BoardView) (ls : List LockId) where
 
   home_marks : (ms : List Mark) → MarksHeld b ms ls → (y : Slots) → AreHome y → AreHome (set_marks ms y)
   home_marks [] held y all = all
-  home_marks (m ∷ ms) held y all = home_set (set_marks ms y) m.on (turned_at (y m.on) m.mux (Marked m.mux) None) (home_marks ms held.1 y all) held.0.1
+  home_marks (m ∷ ms) held y all = home_set (set_marks ms y) m.on (turned_at (y m.on) m.mux (Marked m.mux) None)
+      (home_marks ms held.1 y all) held.0.1
 
   home_poll : (q : ℕ) (h : Hop) (left : ℕ) (bytes : List ℕ) → IsMarkOn b q (mark_in (polled_slot h left bytes))
   home_poll q h zero bytes = cases (eqb (first_byte bytes) 0)
@@ -117,7 +127,8 @@ module _ (b : BoardView) (ls : List LockId) where
   home_through h zero bytes y all = home_turn y h.on h.mux Clean (Some h.channel) all tt
   home_through h (suc left) bytes y all = home_turn y h.on h.mux (polled_slot h left bytes) None all (home_poll h.on h left bytes)
 
-  pub home-after : (job : Job) (left : ℕ) (ms : List Mark) → MarksHeld b ms ls → (out : ActOutcome) (y : Slots) → AreHome y → AreHome (after_job job left ms out y)
+  pub home-after : (job : Job) (left : ℕ) (ms : List Mark) → MarksHeld b ms ls → (out : ActOutcome) (y : Slots) → AreHome y
+      → AreHome (after_job job left ms out y)
   home-after (Call bus messages) left ms held out y all = all
   home-after (Select h) left ms held Passed y all = all
   home-after (Select h) left ms held (Lined true) y all = home_marks ms held y all
@@ -139,10 +150,12 @@ module _ (b : BoardView) (ls : List LockId) where
   home-after (SwitchOff off) left ms held (Sent (end.Cut q) bytes) y all = home_marks ms held y all
 
 -- marks that tell of home slots are of muxes at home
-pub home-told : (b : BoardView) (y : Slots) (marks : List (Option ℕ)) → ((p : ℕ) → IsMarkOn b p (mark_in (y p).slot)) → TellsMarks y marks → (p : ℕ) → IsMarkOn b p (slice_index_or marks p None)
+pub home-told : (b : BoardView) (y : Slots) (marks : List (Option ℕ)) → ((p : ℕ) → IsMarkOn b p (mark_in (y p).slot)) → TellsMarks y marks
+    → (p : ℕ) → IsMarkOn b p (slice_index_or marks p None)
 home-told b y marks all tells p =
     elim (leb_tells (suc p) (length marks)) [
-      | inl h ↦ (let low : p < length marks = (let e = h.1 in omega (arith, e)) in subst (λ (o : Option ℕ). IsMarkOn b p o) (tells.at p low) (all p))
+      | inl h ↦ (let low : p < length marks = (let e = h.1 in omega (arith, e)) in
+          subst (λ (o : Option ℕ). IsMarkOn b p o) (tells.at p low) (all p))
       | inr h ↦ subst (λ (o : Option ℕ). IsMarkOn b p o) (sym (get_or_past marks p None (let e = h.1 in omega (arith, e)))) tt
     ]
 

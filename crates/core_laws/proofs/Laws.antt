@@ -12,5 +12,17 @@ pub use Rattle.core_laws.proofs.Rooms.{bytes-message, bytes-settle, log-line, lo
 pub use Rattle.core_laws.proofs.Sent.{lined-leaves, sent-leaves}
 pub use Rattle.core_laws.proofs.Stuck.{free-ready, held-up-stuck, lone-due, next-same}
 pub use Rattle.core_laws.proofs.Turns.{turn-lone, turn-one, turn-two}
-pub use Rattle.core_laws.proofs.Wants.{call-wants, free-wants, held-wants, line-wants, send-last, send-most, send-root, send-wants, shift-root, shift-wants, take-wants}
+pub use Rattle.core_laws.proofs.Wants.{
+  call-wants,
+  free-wants,
+  held-wants,
+  line-wants,
+  send-last,
+  send-most,
+  send-root,
+  send-wants,
+  shift-root,
+  shift-wants,
+  take-wants,
+}
 pub use Rattle.core_laws.proofs.LockWords.{kept-after, length-applied_kept}

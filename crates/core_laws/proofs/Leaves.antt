@@ -29,7 +29,8 @@ message-leaves b t v w settled sent is (Select h) more first e bytes = select-le
 message-leaves b t v w settled sent is (SwitchOff off) more first e bytes = off-leaves b t v w settled sent is off more first e bytes
 message-leaves b t v w settled sent is (Call bus ms) more first e bytes =
     elim (is_ok e) [
-      | inl fine ↦ subst (λ (x : End). SendLeaves b t settled (cond (is_call_through purpose.Call x) (sent + 1) sent) (Call bus ms) more x (rest_of (seen v w) (Sent x bytes))) (sym fine)
+      | inl fine ↦ subst (λ (x : End). SendLeaves b t settled (cond (is_call_through purpose.Call x) (sent + 1) sent) (Call bus ms) more x
+          (rest_of (seen v w) (Sent x bytes))) (sym fine)
           (went-leaves b t v w settled sent is bus ms more first bytes)
       | inr bad ↦ inr (ended-leaves b t v w settled sent is bus ms more first e bytes bad)
     ]

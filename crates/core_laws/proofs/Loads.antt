@@ -25,12 +25,15 @@ module _ (run : Run) (fair : IsFairRun run) where
       by None = opened-goes run.board t
 
   covered : (c : ℕ) (rs : List Reply) (t : TransferView) → run.asks c rs ≡ Some t → cost_of run.board t ≤ run.left c rs
-  covered c rs t asked = (let f : run.left c (rs ++ reply.Err errno.Eio ∷ []) + cost_of run.board t ≤ run.left c rs = fair.falls c rs t (reply.Err errno.Eio) asked tt in omega (arith, f))
+  covered c rs t asked = (let f : run.left c (rs ++ reply.Err errno.Eio ∷ []) + cost_of run.board t ≤ run.left c rs = fair.falls c rs t
+      (reply.Err errno.Eio) asked tt in omega (arith, f))
 
-  begins : (t : TransferView) → 0 < length t.msgs → IsLeft run.board t false 0 (walk_for run.board t) ⊎ IsLone run.board (walk_for run.board t)
+  begins : (t : TransferView) → 0 < length t.msgs
+      → IsLeft run.board t false 0 (walk_for run.board t) ⊎ IsLone run.board (walk_for run.board t)
   begins t has_some = by (refusal run.board t) refl
     where
-      by : (o : Option Errno) → refusal run.board t ≡ o → IsLeft run.board t false 0 (walk_by run.board t o) ⊎ IsLone run.board (walk_by run.board t o)
+      by : (o : Option Errno) → refusal run.board t ≡ o
+          → IsLeft run.board t false 0 (walk_by run.board t o) ⊎ IsLone run.board (walk_by run.board t o)
       by (Some e) refused = inr (record { errno = e; is = refl })
       by None granted = inl (left-opened run.board t fair.tree has_some granted)
 
@@ -38,7 +41,8 @@ module _ (run : Run) (fair : IsFairRun run) where
     abbrev pub loaded : TransferView → WalkTree → Place
     loaded t w = record { number = c; taken = rs; owed = []; transfer = t; tree = w; sent = 0; got = []; cut = cut_at.No }
 
-    pub seat-loaded : (t : TransferView) → run.asks c rs ≡ Some t → (m : ℕ) → run.left c rs ≤ m → SeatKept run (loaded t (walk_for run.board t)) [] m
+    pub seat-loaded : (t : TransferView) → run.asks c rs ≡ Some t → (m : ℕ) → run.left c rs ≤ m
+        → SeatKept run (loaded t (walk_for run.board t)) [] m
     seat-loaded t asked m fits =
         record {
           over = λ o. absurd (let f : false ≡ true = sym (walk_goes t) ∙ o in cc);
@@ -48,7 +52,8 @@ module _ (run : Run) (fair : IsFairRun run) where
             partway = λ e. refl;
             emptied = λ e. refl;
             fits = λ r e. absurd (let f : [] ≡ r ∷ [] = e in cc);
-            owes = owes-load run.board fair.tree fair.rules t (fair.sends c rs t asked) (fair.costs c rs t asked) (run.left c rs) m (covered c rs t asked) fits;
+            owes = owes-load run.board fair.tree fair.rules t (fair.sends c rs t asked) (fair.costs c rs t asked) (run.left c rs) m
+                (covered c rs t asked) fits;
           };
           holds = walk-holds run.board fair.tree fair.lines t;
         }

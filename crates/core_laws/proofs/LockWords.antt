@@ -25,7 +25,8 @@ use Rattle.core_laws.specs.Spots.{TellsKept}
 use Rattle.core_laws.specs.Wants.{WantsIn}
 
 -- THE LOOKS: each asks for a mux where it stands
-pub seen-told : (b : BoardView) (held : List LockId) (v : Slots) (s : SeenView) → ((p : ℕ) → mark_in (v p).slot ≡ mark_on s p) → TellsKept b v s.kept
+pub seen-told : (b : BoardView) (held : List LockId) (v : Slots) (s : SeenView) → ((p : ℕ) → mark_in (v p).slot ≡ mark_on s p)
+    → TellsKept b v s.kept
     → ((p : ℕ) → IsMarkOn b p (mark_on s p)) → (w : WalkTree) → HoldsLocks b held w → seen v w ≡ seen (slots_of s) w
 seen-told b held v s told tells home Ends h = refl
 seen-told b held v s told tells home (Look (MarkOf p) next) h =
@@ -44,7 +45,8 @@ set_told kept m c fits =
     elim (leb_tells (suc m) (length kept)) [
       | inl h ↦ (let low : m < length kept = (let e = h.1 in omega (arith, e)) in get_or-set_at kept m m c None refl low)
       | inr h ↦ elim fits [
-        | inl none ↦ get_or_past (set kept m c) m None (let e = h.1 in let l : length (set kept m c) ≡ length kept = length-set kept m c in omega (arith, e, l)) ∙ sym none
+        | inl none ↦ get_or_past (set kept m c) m None (let e = h.1 in let l : length (set kept m c) ≡ length kept = length-set kept m c in
+            omega (arith, e, l)) ∙ sym none
         | inr low ↦ absurd (let e = h.1 in omega (arith, e, low))
       ]
     ]
@@ -57,11 +59,13 @@ kept_off f k i x off = ap (λ (t : Bool). cond t x (f i)) (eqb-apart i k off)
 
 module _ (b : BoardView) where
   -- one mux turned, on a bus that was as it is told
-  tells-turn : (v y : Slots) (kept : List (Option ℕ)) (on mux : ℕ) (s : MuxSlot) (c : Option ℕ) → home_of_mux b mux ≡ on → (c ≡ None) ⊎ (mux < length kept)
+  tells-turn : (v y : Slots) (kept : List (Option ℕ)) (on mux : ℕ) (s : MuxSlot) (c : Option ℕ) → home_of_mux b mux ≡ on
+      → (c ≡ None) ⊎ (mux < length kept)
       → TellsKept b y kept → y on ≡ v on → TellsKept b (changed_at y on (turned_at (v on) mux s c)) (set kept mux c)
   tells-turn v y kept on mux s c home fits told same m =
       elim (eqb_tells m mux) [
-        | inl h ↦ subst (λ (i : ℕ). (changed_at y on (turned_at (v on) mux s c) (home_of_mux b i)).kept i ≡ slice_index_or (set kept mux c) i None) (sym h.1)
+        | inl h ↦ subst (λ (i : ℕ). (changed_at y on (turned_at (v on) mux s c) (home_of_mux b i)).kept i ≡ slice_index_or
+            (set kept mux c) i None) (sym h.1)
             (ap (λ (p : ℕ). (changed_at y on (turned_at (v on) mux s c) p).kept mux) home
             ∙ ap (λ (x : At). x.kept mux) (changed-same y on (turned_at (v on) mux s c))
             ∙ kept_at (v on).kept mux c ∙ sym (set_told kept mux c fits))
@@ -76,16 +80,19 @@ module _ (b : BoardView) where
         ]
       ]
 
-  tells-one : (v : Slots) (kept : List (Option ℕ)) (on mux : ℕ) (s : MuxSlot) (c : Option ℕ) → home_of_mux b mux ≡ on → (c ≡ None) ⊎ (mux < length kept)
+  tells-one : (v : Slots) (kept : List (Option ℕ)) (on mux : ℕ) (s : MuxSlot) (c : Option ℕ) → home_of_mux b mux ≡ on
+      → (c ≡ None) ⊎ (mux < length kept)
       → TellsKept b v kept → TellsKept b (turned v on mux s c) (set kept mux c)
   tells-one v kept on mux s c home fits told = tells-turn v v kept on mux s c home fits told refl
 
-  set-push : (ds : List MuxUpdate) (d : MuxUpdate) (kept : List (Option ℕ)) → applied_kept (ds ++ d ∷ []) kept ≡ set (applied_kept ds kept) d.mux d.channel
+  set-push : (ds : List MuxUpdate) (d : MuxUpdate) (kept : List (Option ℕ))
+      → applied_kept (ds ++ d ∷ []) kept ≡ set (applied_kept ds kept) d.mux d.channel
   set-push [] d kept = refl
   set-push (x ∷ xs) d kept = set-push xs d (set kept x.mux x.channel)
 
   -- the marks of a failure, each on a bus of its own
-  tells-marks : (ms : List Mark) (held : List LockId) (v : Slots) (kept : List (Option ℕ)) → MarksHeld b ms held → AreApart ms → TellsKept b v kept
+  tells-marks : (ms : List Mark) (held : List LockId) (v : Slots) (kept : List (Option ℕ)) → MarksHeld b ms held → AreApart ms
+      → TellsKept b v kept
       → TellsKept b (set_marks ms v) (applied_kept (all_marked ms) kept)
   tells-marks [] held v kept at_home apart told = told
   tells-marks (k ∷ ms) held v kept at_home apart told =
@@ -93,7 +100,8 @@ module _ (b : BoardView) where
       (tells-turn v (set_marks ms v) (applied_kept (all_marked ms) kept) k.on k.mux (Marked k.mux) None at_home.0.1 (inl refl)
       (tells-marks ms held v kept at_home.1 apart.1 told) (set_marks-other ms v k.on apart.0))
 
-  module _ (held : List LockId) (left : ℕ) (ms : List Mark) (at_home : MarksHeld b ms held) (apart : AreApart ms) (v : Slots) (kept : List (Option ℕ))
+  module _ (held : List LockId) (left : ℕ) (ms : List Mark) (at_home : MarksHeld b ms held) (apart : AreApart ms) (v : Slots)
+      (kept : List (Option ℕ))
       (counted : length kept ≡ length b.muxes) (told : TellsKept b v kept) where
     failed : TellsKept b (set_marks ms v) (applied_kept (all_marked ms) kept)
     failed = tells-marks ms held v kept at_home apart told
@@ -106,7 +114,8 @@ module _ (b : BoardView) where
     tells-through h zero bytes home low = tells-one v kept h.on h.mux Clean (Some h.channel) home (inr (there h.mux low)) told
     tells-through h (suc n) bytes home low = tells-one v kept h.on h.mux (polled_slot h n bytes) None home (inl refl) told
 
-    pub tells-job : (job : Job) (out : ActOutcome) → OwnHeld b job held → TellsKept b (after_job job left ms out v) (applied_kept (updates_of_job job left ms out) kept)
+    pub tells-job : (job : Job) (out : ActOutcome) → OwnHeld b job held
+        → TellsKept b (after_job job left ms out v) (applied_kept (updates_of_job job left ms out) kept)
     tells-job (Call bus messages) out own = told
     tells-job (Select h) Passed own = told
     tells-job (Select h) (Sent end.Ok bytes) own = tells-through h left bytes own.1 own.2
@@ -128,13 +137,16 @@ module _ (b : BoardView) where
     tells-job (SwitchOff off) (Lined false) own = tells-one v kept (off_bus off) (off_mux off) Clean None own.1 (inl refl) told
 
 -- BEHIND A STEP, with its updates
-pub kept-after : (b : BoardView) (held : List LockId) (act : Option Act) (note : Note) (out : ActOutcome) → WantsIn b held act note → (v : Slots) (kept : List (Option ℕ)) → length kept ≡ length b.muxes
+pub kept-after : (b : BoardView) (held : List LockId) (act : Option Act) (note : Note) (out : ActOutcome) → WantsIn b held act note
+    → (v : Slots) (kept : List (Option ℕ)) → length kept ≡ length b.muxes
     → TellsKept b v kept → TellsKept b (slots_after act note out v) (applied_kept (updates_after act note out) kept)
 kept-after b held None note out wants v kept counted told = told
 kept-after b held (Some (walk.Take l)) note out wants v kept counted told = told
 kept-after b held (Some (walk.Free l)) note out wants v kept counted told = told
-kept-after b held (Some (walk.Send job left)) note out wants v kept counted told = tells-job b held left note.marks wants.marked wants.apart v kept counted told job out wants.own
-kept-after b held (Some (walk.Shift job)) note out wants v kept counted told = tells-job b held zero note.marks wants.marked wants.apart v kept counted told job out wants.own
+kept-after b held (Some (walk.Send job left)) note out wants v kept counted told =
+    tells-job b held left note.marks wants.marked wants.apart v kept counted told job out wants.own
+kept-after b held (Some (walk.Shift job)) note out wants v kept counted told =
+    tells-job b held zero note.marks wants.marked wants.apart v kept counted told job out wants.own
 kept-after b held (Some (walk.Settle verdict)) note out wants v kept counted told = told
 
 pub length-applied_kept : (ds : List MuxUpdate) (kept : List (Option ℕ)) → length (applied_kept ds kept) ≡ length kept

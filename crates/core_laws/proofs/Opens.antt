@@ -101,7 +101,13 @@ module _ (run : Run) (whole : Whole) (o : IsOpened run whole) where
               got_is = sym fresh.2;
               cut_is = sym fresh.3;
             }));
-        locks_told = record { roots = table.roots; muxes = table.muxes; holder = λ l is. nobody l; mark = λ q. sym (unmarked q); kept = λ m. sym (unkept m) };
+        locks_told = record {
+          roots = table.roots;
+          muxes = table.muxes;
+          holder = λ l is. nobody l;
+          mark = λ q. sym (unmarked q);
+          kept = λ m. sym (unkept m);
+        };
         ports_told = λ k y at. record { world = (o.worlds tell k y at).0; log = (o.worlds tell k y at).1 };
       }
 
@@ -112,11 +118,18 @@ module _ (run : Run) (whole : Whole) (o : IsOpened run whole) where
         below = o.below;
         once = o.once;
         counted = o.counted;
-        seats = λ i p ls n at. subst (λ (ks : List LockId). SeatKept run p ks n) (sym (empty_at whole.places i ls at.holding)) (o.seats i p n at.here at.owing);
+        seats = λ i p ls n at. subst (λ (ks : List LockId). SeatKept run p ks n) (sym (empty_at whole.places i ls at.holding))
+            (o.seats i p n at.here at.owing);
         table = table;
-        sockets_kept = λ k y at. record { start = subst (λ (x : Phase). MayStart x) (sym (o.idle k y at)) tt; free = inl (o.idle k y at); short = λ tell. (let e : length y.log ≡ 0 = ap (λ (l : List PortCall). length l) (o.worlds tell k y at).1 in let m = o.most in omega (arith, e, m)) };
+        sockets_kept = λ k y at. record {
+          start = subst (λ (x : Phase). MayStart x) (sym (o.idle k y at)) tt;
+          free = inl (o.idle k y at);
+          short = λ tell. (let e : length y.log ≡ 0 = ap (λ (l : List PortCall). length l) (o.worlds tell k y at).1 in let m = o.most in
+              omega (arith, e, m));
+        };
         room_left = o.room_left;
-        bytes_left = (let none : pending whole.places ≡ 0 = none_pending whole.places (λ i p at. (o.fresh i p at).2) in let all : 2 * total whole.owes ≤ whole.room_bytes = o.bytes_left in omega (arith, none, all));
+        bytes_left = (let none : pending whole.places ≡ 0 = none_pending whole.places (λ i p at. (o.fresh i p at).2) in
+            let all : 2 * total whole.owes ≤ whole.room_bytes = o.bytes_left in omega (arith, none, all));
         told = told;
       }
 
@@ -127,16 +140,20 @@ module _ (run : Run) (whole : Whole) (o : IsOpened run whole) where
 
 -- who is ready: where no walk has a step that isn't held up, all have ended
 module _ (run : Run) (whole : Whole) (core : CoreKept run whole) where
-  pub locks-kept : LocksKept run.board (trees_of whole.places) whole.held (numbers_of whole.places) (holder_in whole.locks) (slots_of (seen_of whole.locks))
+  pub locks-kept : LocksKept run.board (trees_of whole.places) whole.held (numbers_of whole.places) (holder_in whole.locks)
+      (slots_of (seen_of whole.locks))
   locks-kept =
       record {
-        counted = core.table.counted ∙ length-map whole.places (λ (p : Place). p.number) ∙ sym (length-map whole.places (λ (p : Place). p.tree));
+        counted = core.table.counted ∙ length-map whole.places (λ (p : Place). p.number)
+            ∙ sym (length-map whole.places (λ (p : Place). p.tree));
         marks = λ q. mark_of_slot run.board q (slice_index_or whole.locks.marks q None) (core.table.home q);
         holds = λ i w ls at holding. (let h = holds-at run whole core i w at in
             subst (λ (ks : List LockId). HoldsLocks run.board ks w) (let f : Some h.locks ≡ Some ls = sym h.here ∙ holding in cc) h.holds);
         has = λ l c h. (let at = core.table.named l c h in (at.place, at.locks, at.here, at.number, at.among));
       }
 
-  pub none-ready : ((i : ℕ) (w : WalkTree) → slice_get (trees_of whole.places) i ≡ Some w → IsHeldUp (holder_in whole.locks) (slots_of (seen_of whole.locks)) w)
+  pub none-ready : ((i : ℕ) (w : WalkTree) → slice_get (trees_of whole.places) i ≡ Some w
+      → IsHeldUp (holder_in whole.locks) (slots_of (seen_of whole.locks)) w)
       → (i : ℕ) (w : WalkTree) → slice_get (trees_of whole.places) i ≡ Some w → first_act (seen (slots_of (seen_of whole.locks)) w) ≡ None
-  none-ready all = all-ended run.board (trees_of whole.places) whole.held (numbers_of whole.places) (holder_in whole.locks) (slots_of (seen_of whole.locks)) locks-kept all
+  none-ready all = all-ended run.board (trees_of whole.places) whole.held (numbers_of whole.places) (holder_in whole.locks)
+      (slots_of (seen_of whole.locks)) locks-kept all

@@ -17,7 +17,8 @@ use Rattle.bus_laws.proofs.walk.CostLaw.{walk-within}
 use Rattle.bus_laws.proofs.walk.Next.{within-next}
 use Rattle.core_laws.specs.Owed.{OwesUpTo, total}
 
-module _ (b : BoardView) (w : WalkTree) (unsettled : Bool) (behind n : ℕ) (owes : OwesUpTo b w unsettled behind n) (v : Slots) (act : Act) (first : first_act (seen v w) ≡ Some act) where
+module _ (b : BoardView) (w : WalkTree) (unsettled : Bool) (behind n : ℕ) (owes : OwesUpTo b w unsettled behind n) (v : Slots) (act : Act)
+    (first : first_act (seen v w) ≡ Some act) where
   rest : (m : ℕ) × (weight_at b act + m ≤ owes.ahead) × ((out : ActOutcome) → IsWithin b (rest_of (seen v w) out) m)
   rest = within-next b v w owes.ahead owes.within act first
 
@@ -32,10 +33,12 @@ module _ (b : BoardView) (w : WalkTree) (unsettled : Bool) (behind n : ℕ) (owe
 
   -- .. and the one that ends a walk what its transfer cost: all that is left is for the transfers behind it
   pub owes-end : (weight_at b act ≤ n) × (behind ≤ n - weight_at b act)
-  owes-end = (let low : weight_at b act + rest.0 ≤ owes.ahead = rest.1 in let most = owes.most in (omega (arith, low, most), omega (arith, low, most)))
+  owes-end = (let low : weight_at b act + rest.0 ≤ owes.ahead = rest.1 in let most = owes.most in
+      (omega (arith, low, most), omega (arith, low, most)))
 
 -- a settle takes off one
-pub owes-settle : (b : BoardView) (w : WalkTree) (behind n : ℕ) → OwesUpTo b w true behind n → (v : Slots) (verdict : Option Errno) → first_act (seen v w) ≡ Some (Settle verdict)
+pub owes-settle : (b : BoardView) (w : WalkTree) (behind n : ℕ) → OwesUpTo b w true behind n → (v : Slots) (verdict : Option Errno)
+    → first_act (seen v w) ≡ Some (Settle verdict)
     → (1 ≤ n) × OwesUpTo b (rest_of (seen v w) Passed) false behind (n - 1)
 owes-settle b w behind n owes v verdict first =
     let next = within-next b v w owes.ahead owes.within (Settle verdict) first in
@@ -46,7 +49,8 @@ owes-settle b w behind n owes v verdict first =
     )
 
 -- what is left covers the next transfer
-pub owes-load : (b : BoardView) → IsTree b → MeetsRules b → (t : TransferView) → 0 < length t.msgs → 1 ≤ cost_of b t → (left n : ℕ) → cost_of b t ≤ left → left ≤ n
+pub owes-load : (b : BoardView) → IsTree b → MeetsRules b → (t : TransferView) → 0 < length t.msgs → 1 ≤ cost_of b t → (left n : ℕ)
+    → cost_of b t ≤ left → left ≤ n
     → OwesUpTo b (walk_for b t) true (left - cost_of b t) n
 owes-load b tree rules t some costs left n covered fits =
     record {
@@ -60,5 +64,6 @@ pub total-set : (owes : List ℕ) (place n less : ℕ) → slice_get owes place 
 total-set owes place n less here =
     let low : place < length owes = slice_get_within owes place n here in
     let sums : total (set owes place less) + get_or owes place 0 ≡ total owes + less = sum_by-set (λ k. k) owes place less 0 low in
-    let is : get_or owes place 0 ≡ n = (let f : Some (get_or owes place 0) ≡ Some n = sym (slice_get-get_or owes place 0 low) ∙ here in cc) in
+    let is : get_or owes place 0 ≡ n = (let f : Some (get_or owes place 0) ≡ Some n = sym (slice_get-get_or owes place 0 low) ∙ here in
+    cc) in
     ap (λ (k : ℕ). total (set owes place less) + k) (sym is) ∙ sums

@@ -72,7 +72,9 @@ module _ (run : Run) (whole : Whole) (core : CoreKept run whole) where
     room-one (Take l) first = (let w : 1 + settle_due p.owed ≤ n = owes-next (Take l) first in omega (arith, w, low, core.room_left))
     room-one (Free l) first = (let w : 1 + settle_due p.owed ≤ n = owes-next (Free l) first in omega (arith, w, low, core.room_left))
     room-one (Shift job) first = (let w : 1 + settle_due p.owed ≤ n = owes-next (Shift job) first in omega (arith, w, low, core.room_left))
-    room-one (Send job more) first = (let w : 1 + message_most run.board job more + settle_due p.owed ≤ n = owes-next (Send job more) first in omega (arith, w, low, core.room_left))
+    room-one (Send job more) first =
+        (let w : 1 + message_most run.board job more + settle_due p.owed ≤ n = owes-next (Send job more) first in
+        omega (arith, w, low, core.room_left))
     room-one (Settle verdict) first =
         (let its : IsGoing run p n = going-on run whole core place p _ n (stands-here run whole core place p here) (Settle verdict) first in
         elim its.is_left [
@@ -85,10 +87,12 @@ module _ (run : Run) (whole : Whole) (core : CoreKept run whole) where
     -- .. and for a line step with its settle
     pub room-line : (job : Job) → next_of whole.locks p.tree ≡ Some (Shift job) → has_reply p.owed ≡ false → 2 ≤ whole.room
     room-line job first unsettled =
-        (let w : 1 + settle_due p.owed ≤ n = owes-next (Shift job) first in let one = unsettled_one p.owed unsettled in omega (arith, w, one, low, core.room_left))
+        (let w : 1 + settle_due p.owed ≤ n = owes-next (Shift job) first in let one = unsettled_one p.owed unsettled in
+        omega (arith, w, one, low, core.room_left))
 
     -- A LINE STEP finds room in the log of its port
-    pub log-line : (job : Job) → next_of whole.locks p.tree ≡ Some (Shift job) → IsTrue run.tells → (at : ℕ) (old : RootPort) → slice_get whole.sockets at ≡ Some old → length old.log + 1 ≤ MOST_CALLS
+    pub log-line : (job : Job) → next_of whole.locks p.tree ≡ Some (Shift job) → IsTrue run.tells → (at : ℕ) (old : RootPort)
+        → slice_get whole.sockets at ≡ Some old → length old.log + 1 ≤ MOST_CALLS
     log-line job first tell at old port =
         let w : 1 + settle_due p.owed ≤ n = owes-next (Shift job) first in
         let short : length old.log + 2 * total whole.owes ≤ MOST_CALLS = (core.sockets_kept at old port).short tell in
@@ -103,7 +107,8 @@ module _ (run : Run) (whole : Whole) (core : CoreKept run whole) where
       pub room-message : has_reply p.owed ≡ false → 2 ≤ whole.room
       room-message unsettled = (let one = unsettled_one p.owed unsettled in omega (arith, weighs, one, low, core.room_left))
 
-      pub log-message : IsTrue run.tells → (at : ℕ) (old : RootPort) → slice_get whole.sockets at ≡ Some old → length old.log + (message_most run.board job more + 2) ≤ MOST_CALLS
+      pub log-message : IsTrue run.tells → (at : ℕ) (old : RootPort) → slice_get whole.sockets at ≡ Some old
+          → length old.log + (message_most run.board job more + 2) ≤ MOST_CALLS
       log-message tell at old port =
           let short : length old.log + 2 * total whole.owes ≤ MOST_CALLS = (core.sockets_kept at old port).short tell in
           omega (arith, weighs, low, short)
@@ -113,11 +118,14 @@ module _ (run : Run) (whole : Whole) (core : CoreKept run whole) where
         pub bytes-message : length bytes ≤ whole.room_bytes
         bytes-message = omega (arith, few, weighs, low, core.bytes_left)
 
-        pub bytes-settle : (reading : Bool) (verdict : Option Errno) (reply : Reply) → reply ≡ reply_by verdict (Some p.transfer) (got_after job reading bytes p.got)
+        pub bytes-settle : (reading : Bool) (verdict : Option Errno) (reply : Reply)
+            → reply ≡ reply_by verdict (Some p.transfer) (got_after job reading bytes p.got)
             → length bytes + length (bytes_given reply) ≤ whole.room_bytes
         bytes-settle reading verdict reply decided =
             let gives = given-few verdict (Some p.transfer) (got_after job reading bytes p.got) in
-            let same : length (bytes_given reply) ≡ length (bytes_given (reply_by verdict (Some p.transfer) (got_after job reading bytes p.got))) = ap (λ (r : Reply). length (bytes_given r)) decided in
+            let same : length (bytes_given reply) ≡ length
+            (bytes_given (reply_by verdict (Some p.transfer) (got_after job reading bytes p.got))) = ap
+            (λ (r : Reply). length (bytes_given r)) decided in
             let grows = got-grows job reading bytes p.got in
             let all : 2 * total whole.owes + pending whole.places ≤ whole.room_bytes = core.bytes_left in
             omega (arith, few, weighs, low, low_got, gives, same, grows, all)

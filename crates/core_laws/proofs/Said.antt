@@ -63,37 +63,46 @@ quiet_due c (Then (Shift job) note next) h = refl
 quiet_due c (Then (Settle verdict) note next) h = absurd h
 
 -- THE PORTS where one of them has had calls: its socket is new, the others' are as they were
-pub sockets-said : (n m : Now) (sockets : List RootPort) → AreRooted sockets → ((k : ℕ) (y : RootPort) → slice_get sockets k ≡ Some y → PortTold n y)
+pub sockets-said : (n m : Now) (sockets : List RootPort) → AreRooted sockets
+    → ((k : ℕ) (y : RootPort) → slice_get sockets k ≡ Some y → PortTold n y)
     → (at : ℕ) (old new : RootPort) → slice_get sockets at ≡ Some old → new.root ≡ old.root → (w : World) (calls : List PortCall)
     → m.worlds ≡ changed_at n.worlds old.root w → m.calls ≡ changed_at n.calls old.root (calls ++ n.calls old.root)
     → new.world ≡ w → new.log ≡ old.log ++ reverse calls
     → (k : ℕ) (y : RootPort) → slice_get (set sockets at new) k ≡ Some y → PortTold m y
 sockets-said n m sockets once told at old new here root w calls worlds_are calls_are world log k y is =
     elim (eqb_tells k at) [
-      | inl h ↦ subst (λ (z : RootPort). PortTold m z) (set_here sockets at new y (subst (λ (j : ℕ). slice_get (set sockets at new) j ≡ Some y) h.1 is))
+      | inl h ↦ subst (λ (z : RootPort). PortTold m z)
+          (set_here sockets at new y (subst (λ (j : ℕ). slice_get (set sockets at new) j ≡ Some y) h.1 is))
           (record {
-            world = world ∙ sym (ap (λ (f : ℕ → World). f new.root) worlds_are ∙ ap (λ (r : ℕ). changed_at n.worlds old.root w r) root ∙ at_same n.worlds old.root w);
-            log = log ∙ ap (λ (l : List PortCall). l ++ reverse calls) (told at old here).log ∙ sym (reverse-append calls (n.calls old.root))
+            world = world ∙ sym (ap (λ (f : ℕ → World). f new.root) worlds_are ∙ ap (λ (r : ℕ). changed_at n.worlds old.root w r) root
+                ∙ at_same n.worlds old.root w);
+            log = log ∙ ap (λ (l : List PortCall). l ++ reverse calls) (told at old here).log
+                ∙ sym (reverse-append calls (n.calls old.root))
                 ∙ sym (ap (λ (l : List PortCall). reverse l)
-                (ap (λ (f : ℕ → List PortCall). f new.root) calls_are ∙ ap (λ (r : ℕ). changed_at n.calls old.root (calls ++ n.calls old.root) r) root ∙ at_same n.calls old.root (calls ++ n.calls old.root)));
+                (ap (λ (f : ℕ → List PortCall). f new.root) calls_are
+                ∙ ap (λ (r : ℕ). changed_at n.calls old.root (calls ++ n.calls old.root) r) root
+                ∙ at_same n.calls old.root (calls ++ n.calls old.root)));
           })
       | inr h ↦ (let was : slice_get sockets k ≡ Some y = sym (set_elsewhere sockets at k new h.1) ∙ is in
           let apart : y.root ≡ old.root → ⊥ = λ same. h.1 (once k at y old was here same) in
           record {
             world = (told k y was).world ∙ sym (ap (λ (f : ℕ → World). f y.root) worlds_are ∙ at_other n.worlds old.root w y.root apart);
             log = (told k y was).log
-                ∙ sym (ap (λ (l : List PortCall). reverse l) (ap (λ (f : ℕ → List PortCall). f y.root) calls_are ∙ at_other n.calls old.root (calls ++ n.calls old.root) y.root apart));
+                ∙ sym (ap (λ (l : List PortCall). reverse l) (ap (λ (f : ℕ → List PortCall). f y.root) calls_are
+                ∙ at_other n.calls old.root (calls ++ n.calls old.root) y.root apart));
           })
     ]
 
-module _ (b : BoardView) (tree : IsTree b) (plain : IsPlainBoard b) (lines : LinesAreLocked b) (asks : Asks) (some : AsksForMessages asks) (callers : ℕ) where
+module _ (b : BoardView) (tree : IsTree b) (plain : IsPlainBoard b) (lines : LinesAreLocked b) (asks : Asks) (some : AsksForMessages asks)
+    (callers : ℕ) where
   -- marks that tell what is known of each bus of the board tell it of every bus
   module _ (past : List Entry) (steps : IsStepwise b callers asks past) (marks : List (Option ℕ)) (all : length marks ≡ buses b) where
     unmarked : (p : ℕ) → (p < buses b → ⊥) → (o : Option ℕ) → mark b asks past p ≡ o → o ≡ None
     unmarked p out None e = refl
     unmarked p out (Some m) e = absurd (out (mark-there b tree plain lines asks some callers past steps p m e))
 
-    pub marks-told : TellsMarks (now b asks past).slot marks → (p : ℕ) → mark_in ((now b asks past).slot p).slot ≡ slice_index_or marks p None
+    pub marks-told : TellsMarks (now b asks past).slot marks → (p : ℕ)
+        → mark_in ((now b asks past).slot p).slot ≡ slice_index_or marks p None
     marks-told tells p = by (λ e. tells.at p e) (λ out. unmarked p (λ h. out (omega (arith, h, all))) (mark b asks past p) refl)
       where
         by : (p < length marks → mark_in ((now b asks past).slot p).slot ≡ slice_index_or marks p None)
@@ -106,7 +115,8 @@ module _ (b : BoardView) (tree : IsTree b) (plain : IsPlainBoard b) (lines : Lin
             ]
 
   module _ (past : List Entry) (spots : List Spot) (v : LocksView) (sockets : List RootPort) (due : Option ℕ)
-      (told : IsTold b callers asks past spots v sockets due) (numbered : AreNumbered callers spots) (place : ℕ) (x : Spot) (here : slice_get spots place ≡ Some x)
+      (told : IsTold b callers asks past spots v sockets due) (numbered : AreNumbered callers spots) (place : ℕ) (x : Spot)
+      (here : slice_get spots place ≡ Some x)
       (sees : seen (now b asks past).slot x.tree ≡ seen (slots_of (seen_of v)) x.tree) where
     abbrev n : Now
     n = now b asks past
@@ -130,18 +140,23 @@ module _ (b : BoardView) (tree : IsTree b) (plain : IsPlainBoard b) (lines : Lin
     next-is : (act : Act) → first_act (seen (slots_of (seen_of v)) x.tree) ≡ Some act → IsNext b asks n c act
     next-is act first = ap (λ (w : WalkTree). first_act w) current-is ∙ first
 
-    rest-is : (out : ActOutcome) (w : WalkTree) → w ≡ rest_of (seen (slots_of (seen_of v)) x.tree) out → rest_of (current b asks n c) out ≡ w
+    rest-is : (out : ActOutcome) (w : WalkTree) → w ≡ rest_of (seen (slots_of (seen_of v)) x.tree) out
+        → rest_of (current b asks n c) out ≡ w
     rest-is out w is = ap (λ (t : WalkTree). rest_of t out) current-is ∙ sym is
 
     -- A MESSAGE of a job was sent on the root of a socket
     module _ (none : due ≡ None) (once : AreRooted sockets) (at : ℕ) (old new : RootPort) (port_here : slice_get sockets at ≡ Some old)
-        (job : Job) (left : ℕ) (first : first_act (seen (slots_of (seen_of v)) x.tree) ≡ Some (Send job left)) (next : NextMsg) (of : IsMessageOf job left next) (rooted : old.root ≡ root_of b (job_bus job))
+        (job : Job) (left : ℕ) (first : first_act (seen (slots_of (seen_of v)) x.tree) ≡ Some (Send job left)) (next : NextMsg)
+        (of : IsMessageOf job left next) (rooted : old.root ≡ root_of b (job_bus job))
         (t : TransferView) (gone : ℕ)
-        (whose : (bus : ℕ) (ms : List MessageView) → job ≡ Call bus ms → (asks c (x.taken ++ x.owed) ≡ Some t) × (bus ≡ t.bus) × (ms ≡ messages_of t) × (gone + suc left ≡ length ms))
+        (whose : (bus : ℕ) (ms : List MessageView) → job ≡ Call bus ms
+        → (asks c (x.taken ++ x.owed) ≡ Some t) × (bus ≡ t.bus) × (ms ≡ messages_of t) × (gone + suc left ≡ length ms))
         (addr : ℕ) (reading : Bool) (bytes : List ℕ) (heard : Option Node) (e : End)
-        (to_addr : addr ≡ (message_for t gone next.purpose next.control addr).addr) (in_direction : reading ≡ (message_for t gone next.purpose next.control addr).reading)
+        (to_addr : addr ≡ (message_for t gone next.purpose next.control addr).addr)
+        (in_direction : reading ≡ (message_for t gone next.purpose next.control addr).reading)
         (chip : IsChipAddress b next.purpose addr)
-        (has : HasSent b t next.purpose (message_for t gone next.purpose next.control addr) (ends_with next.purpose next.part next.parts) old new bytes heard e) where
+        (has : HasSent b t next.purpose (message_for t gone next.purpose next.control addr)
+        (ends_with next.purpose next.part next.parts) old new bytes heard e) where
       abbrev m : MessageView
       m = message_for t gone next.purpose next.control addr
 
@@ -165,9 +180,12 @@ module _ (b : BoardView) (tree : IsTree b) (plain : IsPlainBoard b) (lines : Lin
       said_call : (bus : ℕ) (ms : List MessageView) → job ≡ Call bus ms → IsSaid
       said_call bus ms is =
           let owns = whose bus ms is in
-          let will : WillReach b asks n c bus ms left = call-reaches b tree plain lines asks some callers past told.stepwise c bus ms left (subst (λ (j : Job). IsNext b asks n c (Send j left)) is is_next) in
-          let same : m ≡ message_of b (Call bus ms) left = call-message b t gone bus ms left addr next (subst (λ (j : Job). IsMessageOf j left next) is of) owns.2 owns.3 in
-          let transfer_is : will.transfer ≡ t = (let f : Some will.transfer ≡ Some t = sym will.asked ∙ ap (λ (rs : List Reply). asks c rs) own.settled ∙ owns.0 in cc) in
+          let will : WillReach b asks n c bus ms left = call-reaches b tree plain lines asks some callers past told.stepwise c bus ms left
+          (subst (λ (j : Job). IsNext b asks n c (Send j left)) is is_next) in
+          let same : m ≡ message_of b (Call bus ms) left = call-message b t gone bus ms left addr next
+          (subst (λ (j : Job). IsMessageOf j left next) is of) owns.2 owns.3 in
+          let transfer_is : will.transfer ≡ t = (let f : Some will.transfer ≡ Some t = sym will.asked
+          ∙ ap (λ (rs : List Reply). asks c rs) own.settled ∙ owns.0 in cc) in
           let root_is : root_of b bus ≡ r = ap (λ (j : Job). root_of b (job_bus j)) (sym is) in
           record {
             message_is = same ∙ ap (λ (j : Job). message_of b j left) (sym is);
@@ -189,9 +207,12 @@ module _ (b : BoardView) (tree : IsTree b) (plain : IsPlainBoard b) (lines : Lin
 
       said_control : (mux : ℕ) → job_purpose job ≡ purpose.Control mux → IsSaid
       said_control mux is =
-          let will : WillSwitch b n job left mux = control-switches b tree plain lines asks some callers past told.stepwise c job left mux is is_next in
-          let to : addr ≡ (message_of b job left).addr = subst (λ (p : Purpose). IsChipAddress b p addr) (of.for_purpose ∙ is) chip (message_of b job left).addr will.addressed in
-          let same : m ≡ message_of b job left = control-message b t gone job left mux addr (message_of b job left).addr next of is will.addressed to in
+          let will : WillSwitch b n job left mux =
+          control-switches b tree plain lines asks some callers past told.stepwise c job left mux is is_next in
+          let to : addr ≡ (message_of b job left).addr = subst (λ (p : Purpose). IsChipAddress b p addr) (of.for_purpose ∙ is) chip
+          (message_of b job left).addr will.addressed in
+          let same : m ≡ message_of b job left = control-message b t gone job left mux addr
+          (message_of b job left).addr next of is will.addressed to in
           record {
             message_is = same;
             hears = control-hears b t mux m (n.worlds r) heard e
@@ -225,10 +246,23 @@ module _ (b : BoardView) (tree : IsTree b) (plain : IsPlainBoard b) (lines : Lin
       talk_is : talk world_listener (block_limit b) old.world m (ends_with next.purpose next.part next.parts) (cut_of e) ≡ talked
       talk_is =
           ap (λ (w : World). talk world_listener (block_limit b) w m (ends_with next.purpose next.part next.parts) (cut_of e)) world-is
-          ∙ ap (λ (y : MessageView). talk world_listener (block_limit b) (n.worlds r) y (ends_with next.purpose next.part next.parts) (cut_of e)) is_said.message_is
+          ∙ ap (λ (y : MessageView). talk world_listener (block_limit b) (n.worlds r) y (ends_with next.purpose next.part next.parts)
+          (cut_of e)) is_said.message_is
           ∙ ap (λ (l : Bool). talk world_listener (block_limit b) (n.worlds r) (message_of b job left) l (cut_of e)) last_is
 
-      tells : TellsMessage b n job left (record { caller = c; bus = next.bus; purpose = next.purpose; part = next.part; parts = next.parts; addr = addr; reading = reading; bytes = bytes; heard = heard; end = e })
+      tells : TellsMessage b n job left
+          (record {
+            caller = c;
+            bus = next.bus;
+            purpose = next.purpose;
+            part = next.part;
+            parts = next.parts;
+            addr = addr;
+            reading = reading;
+            bytes = bytes;
+            heard = heard;
+            end = e;
+          })
       tells =
           record {
             on_bus = of.on_bus;
@@ -250,14 +284,21 @@ module _ (b : BoardView) (tree : IsTree b) (plain : IsPlainBoard b) (lines : Lin
       steps = ((known, told.rests ∙ none, (job, left, is_next, tells)), told.stepwise)
 
       abbrev behind : Now
-      behind = with_due c (moved b asks n (sent b n c job left (first_note (current b asks n c)) reading bytes e talked) c said (Sent e bytes))
+      behind = with_due c (moved b asks n (sent b n c job left (first_note (current b asks n c)) reading bytes e talked) c said
+          (Sent e bytes))
 
       step_is : step b asks n said ≡ behind
-      step_is = ap (λ (a : Option Act). with_due c (moved b asks n (sent_by b n c a (first_note (current b asks n c)) reading bytes e) c said (Sent e bytes))) is_next
+      step_is = ap (λ (a : Option Act). with_due c
+          (moved b asks n (sent_by b n c a (first_note (current b asks n c)) reading bytes e) c said (Sent e bytes))) is_next
 
-      module _ (w : WalkTree) (is : w ≡ rest_of (seen (slots_of (seen_of v)) x.tree) (Sent e bytes)) (goes : is_over w ≡ false) (words : SeenView) (all : length words.marks ≡ buses b)
-          (marked : (y : Slots) → TellsMarks y v.marks → TellsMarks (slots_after (Some (Send job left)) (first_note (seen (slots_of (seen_of v)) x.tree)) (Sent e bytes) y) words.marks)
-          (kept : (y : Slots) → TellsKept b y v.kept → TellsKept b (slots_after (Some (Send job left)) (first_note (seen (slots_of (seen_of v)) x.tree)) (Sent e bytes) y) words.kept) where
+      module _ (w : WalkTree) (is : w ≡ rest_of (seen (slots_of (seen_of v)) x.tree) (Sent e bytes)) (goes : is_over w ≡ false)
+          (words : SeenView) (all : length words.marks ≡ buses b)
+          (marked : (y : Slots) → TellsMarks y v.marks
+          → TellsMarks (slots_after (Some (Send job left)) (first_note (seen (slots_of (seen_of v)) x.tree)) (Sent e bytes) y)
+          words.marks)
+          (kept : (y : Slots) → TellsKept b y v.kept
+          → TellsKept b (slots_after (Some (Send job left)) (first_note (seen (slots_of (seen_of v)) x.tree)) (Sent e bytes) y)
+          words.kept) where
         abbrev pub spot_behind : Spot
         spot_behind = record x { tree = w; got = got_after job reading bytes x.got; cut = message_cut next.purpose next.part e }
 
@@ -269,17 +310,20 @@ module _ (b : BoardView) (tree : IsTree b) (plain : IsPlainBoard b) (lines : Lin
             record {
               walk = own-ahead b asks behind c w walk_here goes;
               settled = own.settled;
-              got_is = at_same n.got c (got_after job reading bytes (n.got c)) ∙ ap (λ (g : List ℕ). got_after job reading bytes g) own.got_is;
+              got_is = at_same n.got c (got_after job reading bytes (n.got c))
+                  ∙ ap (λ (g : List ℕ). got_after job reading bytes g) own.got_is;
               cut_is = at_same n.cut c (cut_told said);
             }
 
         marked_later : TellsMarks behind.slot words.marks
         marked_later =
-            subst (λ (y : WalkTree). TellsMarks (after_job job left (first_note y).marks (Sent e bytes) n.slot) words.marks) (sym current-is) (marked n.slot tells_here)
+            subst (λ (y : WalkTree). TellsMarks (after_job job left (first_note y).marks (Sent e bytes) n.slot) words.marks)
+            (sym current-is) (marked n.slot tells_here)
 
         kept_later : TellsKept b behind.slot words.kept
         kept_later =
-            subst (λ (y : WalkTree). TellsKept b (after_job job left (first_note y).marks (Sent e bytes) n.slot) words.kept) (sym current-is) (kept n.slot told.locks_told.kept)
+            subst (λ (y : WalkTree). TellsKept b (after_job job left (first_note y).marks (Sent e bytes) n.slot) words.kept)
+            (sym current-is) (kept n.slot told.locks_told.kept)
 
         pub told-said : (later : Option ℕ) → due_at c (first_act w) ≡ later
             → IsTold b callers asks (said ∷ past) (set spots place spot_behind) (turned_to v words) (set sockets at new) later
@@ -287,15 +331,18 @@ module _ (b : BoardView) (tree : IsTree b) (plain : IsPlainBoard b) (lines : Lin
             record {
               stepwise = steps;
               rests = ap (λ (k : Now). k.due) step_is ∙ ap (λ (y : WalkTree). due_at c (first_act y)) walk_here ∙ due_is;
-              spots_told = spots-kept b callers asks n said spots numbered told.spots_told place x spot_behind here refl (subst (λ (k : Now). SpotTold b asks k spot_behind) (sym step_is) spot_told);
+              spots_told = spots-kept b callers asks n said spots numbered told.spots_told place x spot_behind here refl
+                  (subst (λ (k : Now). SpotTold b asks k spot_behind) (sym step_is) spot_told);
               locks_told = record {
                 roots = told.locks_told.roots;
                 muxes = told.locks_told.muxes;
                 holder = λ l there. told.locks_told.holder l there ∙ sym (ap (λ (k : Now). k.holder l) step_is);
-                mark = marks-told (said ∷ past) steps words.marks all (subst (λ (k : Now). TellsMarks k.slot words.marks) (sym step_is) marked_later);
+                mark = marks-told (said ∷ past) steps words.marks all
+                    (subst (λ (k : Now). TellsMarks k.slot words.marks) (sym step_is) marked_later);
                 kept = subst (λ (k : Now). TellsKept b k.slot words.kept) (sym step_is) kept_later;
               };
-              ports_told = sockets-said n (step b asks n said) sockets once told.ports_told at old new port_here has.root talked.now talked.calls
+              ports_told = sockets-said n (step b asks n said) sockets once told.ports_told at old new port_here has.root talked.now
+                  talked.calls
                   (ap (λ (k : Now). k.worlds) step_is ∙ ap (λ (k : ℕ). changed_at n.worlds k talked.now) (sym rooted))
                   (ap (λ (k : Now). k.calls) step_is ∙ ap (λ (k : ℕ). changed_at n.calls k (talked.calls ++ n.calls k)) (sym rooted))
                   (has.said.now ∙ ap (λ (k : TalkTold World). k.now) talk_is)
@@ -303,7 +350,8 @@ module _ (b : BoardView) (tree : IsTree b) (plain : IsPlainBoard b) (lines : Lin
             }
 
         -- nothing is decided by it
-        pub told-message : NoSettle w → IsTold b callers asks (said ∷ past) (set spots place spot_behind) (turned_to v words) (set sockets at new) None
+        pub told-message : NoSettle w → IsTold b callers asks (said ∷ past) (set spots place spot_behind) (turned_to v words)
+            (set sockets at new) None
         told-message quiet = told-said None (quiet_due c w quiet)
 
         -- .. or its caller's settle is due
@@ -313,8 +361,10 @@ module _ (b : BoardView) (tree : IsTree b) (plain : IsPlainBoard b) (lines : Lin
 
     -- A LINE STEP on the root of a socket
     module _ (none : due ≡ None) (once : AreRooted sockets) (at : ℕ) (old new : RootPort) (port_here : slice_get sockets at ≡ Some old)
-        (job : Job) (first : first_act (seen (slots_of (seen_of v)) x.tree) ≡ Some (Shift job)) (rooted : old.root ≡ root_of b (job_bus job)) (failed : Bool)
-        (same_root : new.root ≡ old.root) (world_now : new.world ≡ after old.world (line_call job failed)) (log_now : new.log ≡ old.log ++ line_call job failed ∷ []) where
+        (job : Job) (first : first_act (seen (slots_of (seen_of v)) x.tree) ≡ Some (Shift job))
+        (rooted : old.root ≡ root_of b (job_bus job)) (failed : Bool)
+        (same_root : new.root ≡ old.root) (world_now : new.world ≡ after old.world (line_call job failed))
+        (log_now : new.log ≡ old.log ++ line_call job failed ∷ []) where
       abbrev line_r : ℕ
       line_r = root_of b (job_bus job)
 
@@ -331,11 +381,16 @@ module _ (b : BoardView) (tree : IsTree b) (plain : IsPlainBoard b) (lines : Lin
       line_behind = with_due c (moved b asks n (lined b n job (first_note (current b asks n c)) failed) c shifted (Lined failed))
 
       line_step_is : step b asks n shifted ≡ line_behind
-      line_step_is = ap (λ (a : Option Act). with_due c (moved b asks n (lined_by b n a (first_note (current b asks n c)) failed) c shifted (Lined failed))) line_next
+      line_step_is = ap (λ (a : Option Act). with_due c
+          (moved b asks n (lined_by b n a (first_note (current b asks n c)) failed) c shifted (Lined failed))) line_next
 
-      module _ (w : WalkTree) (is : w ≡ rest_of (seen (slots_of (seen_of v)) x.tree) (Lined failed)) (goes : is_over w ≡ false) (words : SeenView) (all : length words.marks ≡ buses b)
-          (marked : (y : Slots) → TellsMarks y v.marks → TellsMarks (slots_after (Some (Shift job)) (first_note (seen (slots_of (seen_of v)) x.tree)) (Lined failed) y) words.marks)
-          (kept : (y : Slots) → TellsKept b y v.kept → TellsKept b (slots_after (Some (Shift job)) (first_note (seen (slots_of (seen_of v)) x.tree)) (Lined failed) y) words.kept) where
+      module _ (w : WalkTree) (is : w ≡ rest_of (seen (slots_of (seen_of v)) x.tree) (Lined failed)) (goes : is_over w ≡ false)
+          (words : SeenView) (all : length words.marks ≡ buses b)
+          (marked : (y : Slots) → TellsMarks y v.marks
+          → TellsMarks (slots_after (Some (Shift job)) (first_note (seen (slots_of (seen_of v)) x.tree)) (Lined failed) y) words.marks)
+          (kept : (y : Slots) → TellsKept b y v.kept
+          → TellsKept b (slots_after (Some (Shift job)) (first_note (seen (slots_of (seen_of v)) x.tree)) (Lined failed) y)
+          words.kept) where
         abbrev pub spot_shifted : Spot
         spot_shifted = record x { tree = w; cut = cut_told shifted }
 
@@ -353,11 +408,13 @@ module _ (b : BoardView) (tree : IsTree b) (plain : IsPlainBoard b) (lines : Lin
 
         line_marked : TellsMarks line_behind.slot words.marks
         line_marked =
-            subst (λ (y : WalkTree). TellsMarks (after_job job zero (first_note y).marks (Lined failed) n.slot) words.marks) (sym current-is) (marked n.slot tells_here)
+            subst (λ (y : WalkTree). TellsMarks (after_job job zero (first_note y).marks (Lined failed) n.slot) words.marks)
+            (sym current-is) (marked n.slot tells_here)
 
         line_kept : TellsKept b line_behind.slot words.kept
         line_kept =
-            subst (λ (y : WalkTree). TellsKept b (after_job job zero (first_note y).marks (Lined failed) n.slot) words.kept) (sym current-is) (kept n.slot told.locks_told.kept)
+            subst (λ (y : WalkTree). TellsKept b (after_job job zero (first_note y).marks (Lined failed) n.slot) words.kept)
+            (sym current-is) (kept n.slot told.locks_told.kept)
 
         pub told-shifted : (later : Option ℕ) → due_at c (first_act w) ≡ later
             → IsTold b callers asks (shifted ∷ past) (set spots place spot_shifted) (turned_to v words) (set sockets at new) later
@@ -367,22 +424,28 @@ module _ (b : BoardView) (tree : IsTree b) (plain : IsPlainBoard b) (lines : Lin
             record {
               stepwise = line_steps;
               rests = ap (λ (k : Now). k.due) line_step_is ∙ ap (λ (y : WalkTree). due_at c (first_act y)) line_walk ∙ due_is;
-              spots_told = spots-kept b callers asks n shifted spots numbered told.spots_told place x spot_shifted here refl (subst (λ (k : Now). SpotTold b asks k spot_shifted) (sym line_step_is) line_spot);
+              spots_told = spots-kept b callers asks n shifted spots numbered told.spots_told place x spot_shifted here refl
+                  (subst (λ (k : Now). SpotTold b asks k spot_shifted) (sym line_step_is) line_spot);
               locks_told = record {
                 roots = told.locks_told.roots;
                 muxes = told.locks_told.muxes;
                 holder = λ l there. told.locks_told.holder l there ∙ sym (ap (λ (k : Now). k.holder l) line_step_is);
-                mark = marks-told (shifted ∷ past) line_steps words.marks all (subst (λ (k : Now). TellsMarks k.slot words.marks) (sym line_step_is) line_marked);
+                mark = marks-told (shifted ∷ past) line_steps words.marks all
+                    (subst (λ (k : Now). TellsMarks k.slot words.marks) (sym line_step_is) line_marked);
                 kept = subst (λ (k : Now). TellsKept b k.slot words.kept) (sym line_step_is) line_kept;
               };
-              ports_told = sockets-said n (step b asks n shifted) sockets once told.ports_told at old new port_here same_root (after (n.worlds line_r) (line_call job failed)) (line_call job failed ∷ [])
-                  (ap (λ (k : Now). k.worlds) line_step_is ∙ ap (λ (k : ℕ). changed_at n.worlds k (after (n.worlds line_r) (line_call job failed))) (sym rooted))
-                  (ap (λ (k : Now). k.calls) line_step_is ∙ ap (λ (k : ℕ). changed_at n.calls k (line_call job failed ∷ n.calls k)) (sym rooted))
+              ports_told = sockets-said n (step b asks n shifted) sockets once told.ports_told at old new port_here same_root
+                  (after (n.worlds line_r) (line_call job failed)) (line_call job failed ∷ [])
+                  (ap (λ (k : Now). k.worlds) line_step_is
+                  ∙ ap (λ (k : ℕ). changed_at n.worlds k (after (n.worlds line_r) (line_call job failed))) (sym rooted))
+                  (ap (λ (k : Now). k.calls) line_step_is
+                  ∙ ap (λ (k : ℕ). changed_at n.calls k (line_call job failed ∷ n.calls k)) (sym rooted))
                   (world_now ∙ w_is)
                   log_now;
             }
 
-        pub told-line : NoSettle w → IsTold b callers asks (shifted ∷ past) (set spots place spot_shifted) (turned_to v words) (set sockets at new) None
+        pub told-line : NoSettle w → IsTold b callers asks (shifted ∷ past) (set spots place spot_shifted) (turned_to v words)
+            (set sockets at new) None
         told-line quiet = told-shifted None (quiet_due c w quiet)
 
         pub told-line-decided : (verdict : Option Errno) → first_act w ≡ Some (Settle verdict)
@@ -390,8 +453,11 @@ module _ (b : BoardView) (tree : IsTree b) (plain : IsPlainBoard b) (lines : Lin
         told-line-decided verdict settles = told-shifted (Some c) (ap (λ (a : Option Act). due_at c a) settles)
 
     -- THE SETTLE that the step before decides: the caller isn't told yet
-    module _ (waits : due ≡ Some c) (verdict : Option Errno) (first : first_act (seen (slots_of (seen_of v)) x.tree) ≡ Some (Settle verdict)) (unpaid : x.owed ≡ []) (t : TransferView) (asked : asks c x.taken ≡ Some t)
-        (reply : Reply) (decided : reply ≡ reply_by verdict (Some t) x.got) (w : WalkTree) (is : w ≡ rest_of (seen (slots_of (seen_of v)) x.tree) Passed) (goes : is_over w ≡ false) where
+    module _ (waits : due ≡ Some c) (verdict : Option Errno)
+        (first : first_act (seen (slots_of (seen_of v)) x.tree) ≡ Some (Settle verdict)) (unpaid : x.owed ≡ []) (t : TransferView)
+        (asked : asks c x.taken ≡ Some t)
+        (reply : Reply) (decided : reply ≡ reply_by verdict (Some t) x.got) (w : WalkTree)
+        (is : w ≡ rest_of (seen (slots_of (seen_of v)) x.tree) Passed) (goes : is_over w ≡ false) where
       abbrev pub settled : Entry
       settled = entry.Settle c reply x.cut
 
@@ -403,21 +469,32 @@ module _ (b : BoardView) (tree : IsTree b) (plain : IsPlainBoard b) (lines : Lin
 
       reply_is : reply ≡ reply_by verdict (asks c (n.settled c)) (n.got c)
       reply_is =
-          decided ∙ ap (λ (o : Option TransferView). reply_by verdict o x.got) (sym (ap (λ (rs : List Reply). asks c rs) was_settled ∙ asked))
+          decided ∙ ap (λ (o : Option TransferView). reply_by verdict o x.got)
+          (sym (ap (λ (rs : List Reply). asks c rs) was_settled ∙ asked))
           ∙ ap (λ (g : List ℕ). reply_by verdict (asks c (n.settled c)) g) (sym own.got_is)
 
       pub told-settle : IsTold b callers asks (settled ∷ past) (set spots place spot_settled) v sockets None
       told-settle =
           record {
-            stepwise = ((known, inr (told.rests ∙ waits), verdict, next-is (Settle verdict) first, reply_is, sym own.cut_is), told.stepwise);
+            stepwise = (
+              (known, inr (told.rests ∙ waits), verdict, next-is (Settle verdict) first, reply_is, sym own.cut_is),
+              told.stepwise,
+            );
             rests = refl;
             spots_told = spots-kept b callers asks n settled spots numbered told.spots_told place x spot_settled here refl
                 (record {
-                  walk = own-ahead b asks (step b asks n settled) c w (at_same n.walk c (rest_of (current b asks n c) Passed) ∙ rest-is Passed w is) goes;
+                  walk = own-ahead b asks (step b asks n settled) c w (at_same n.walk c (rest_of (current b asks n c) Passed)
+                      ∙ rest-is Passed w is) goes;
                   settled = at_same n.settled c (n.settled c ++ reply ∷ []) ∙ ap (λ (rs : List Reply). rs ++ reply ∷ []) was_settled;
                   got_is = at_same n.got c [];
                   cut_is = at_same n.cut c (cut_told settled);
                 });
-            locks_told = record { roots = told.locks_told.roots; muxes = told.locks_told.muxes; holder = told.locks_told.holder; mark = told.locks_told.mark; kept = told.locks_told.kept };
+            locks_told = record {
+              roots = told.locks_told.roots;
+              muxes = told.locks_told.muxes;
+              holder = told.locks_told.holder;
+              mark = told.locks_told.mark;
+              kept = told.locks_told.kept;
+            };
             ports_told = λ k y is_at. record { world = (told.ports_told k y is_at).world; log = (told.ports_told k y is_at).log };
           }

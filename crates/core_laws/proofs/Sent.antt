@@ -36,7 +36,8 @@ use Rattle.bus_laws.proofs.past.Bytes.{reply-fits}
 
 module _ (run : Run) (whole : Whole) (core : CoreKept run whole)
     (place : ℕ) (p : Place) (here : slice_get whole.places place ≡ Some p)
-    (job : Job) (more : ℕ) (next : NextMsg) (at : ℕ) (old new : RootPort) (addr : ℕ) (reading : Bool) (bytes : List ℕ) (heard : Option Node) (e : End) (words : SeenView)
+    (job : Job) (more : ℕ) (next : NextMsg) (at : ℕ) (old new : RootPort) (addr : ℕ) (reading : Bool) (bytes : List ℕ) (heard : Option Node)
+    (e : End) (words : SeenView)
     (is_sent : IsSent run whole p job more next at old new addr reading bytes heard e words) where
   abbrev behind : WalkTree
   behind = behind_of whole.locks p.tree (Sent e bytes)
@@ -51,12 +52,14 @@ module _ (run : Run) (whole : Whole) (core : CoreKept run whole)
   its = going-on run whole core place p _ _ (stands-here run whole core place p here) (Send job more) is_sent.first
 
   its_left : IsLeft run.board p.transfer (has_reply p.owed) p.sent p.tree
-  its_left = left-on run whole core place p _ _ (stands-here run whole core place p here) (Send job more) is_sent.first (λ verdict is. let f : Send job more ≡ Settle verdict = is in cc)
+  its_left = left-on run whole core place p _ _ (stands-here run whole core place p here) (Send job more) is_sent.first
+      (λ verdict is. let f : Send job more ≡ Settle verdict = is in cc)
 
   -- a message of the caller's that went through
   module _ (bus : ℕ) (ms : List MessageView) (is : job ≡ Call bus ms) where
     call : (has_reply p.owed ≡ false) × IsCall run.board p.transfer bus ms × (p.sent + suc more ≡ length ms)
-    call = call-is run.board p.transfer (slots_of (seen_of whole.locks)) p.tree (has_reply p.owed) p.sent its_left bus ms more (subst (λ (j : Job). next_of whole.locks p.tree ≡ Some (Send j more)) is is_sent.first)
+    call = call-is run.board p.transfer (slots_of (seen_of whole.locks)) p.tree (has_reply p.owed) p.sent its_left bus ms more
+        (subst (λ (j : Job). next_of whole.locks p.tree ≡ Some (Send j more)) is is_sent.first)
 
     many : length ms ≡ length p.transfer.msgs
     many = ap (λ (xs : List MessageView). length xs) call.1.same_messages ∙ length-messages p.transfer.msgs p.transfer.out
@@ -79,7 +82,8 @@ module _ (run : Run) (whole : Whole) (core : CoreKept run whole)
     -- .. is the last one
     all-fits : e ≡ end.Ok → more ≡ 0 → FitsReads p.transfer.msgs got
     all-fits fine last =
-        subst (λ (xs : List _). FitsReads xs got) (take_all (p.sent + 1) p.transfer.msgs (omega (arith, call.2, many, last))) (went-fits fine)
+        subst (λ (xs : List _). FitsReads xs got) (take_all (p.sent + 1) p.transfer.msgs (omega (arith, call.2, many, last)))
+        (went-fits fine)
 
   abbrev Fit : Job → Type 0
   Fit j = FitsReads (take (gone_after p.sent j e) p.transfer.msgs) (got_after j reading bytes p.got)
@@ -90,13 +94,15 @@ module _ (run : Run) (whole : Whole) (core : CoreKept run whole)
     where
       through : (bus : ℕ) (ms : List MessageView) → job ≡ Call bus ms → e ≡ end.Ok → Fit job
       through bus ms is fine =
-          subst (λ (k : ℕ). FitsReads (take k p.transfer.msgs) got) (sym (ap (λ (j : Job). gone_after p.sent j e) is ∙ ap (gone_after p.sent (Call bus ms)) fine)) (went-fits bus ms is fine)
+          subst (λ (k : ℕ). FitsReads (take k p.transfer.msgs) got)
+          (sym (ap (λ (j : Job). gone_after p.sent j e) is ∙ ap (gone_after p.sent (Call bus ms)) fine)) (went-fits bus ms is fine)
 
       -- one that didn't go through decides
       ended : (bus : ℕ) (ms : List MessageView) → job ≡ Call bus ms → (e ≡ end.Ok → ⊥) → ⊥
       ended bus ms is bad =
           let s : SettlesNext run.board p.transfer (has_reply p.owed) (Call bus ms) more e behind =
-          ended-leaves run.board p.transfer (slots_of (seen_of whole.locks)) p.tree (has_reply p.owed) p.sent its_left bus ms more (subst (λ (j : Job). next_of whole.locks p.tree ≡ Some (Send j more)) is is_sent.first) e bytes bad in
+          ended-leaves run.board p.transfer (slots_of (seen_of whole.locks)) p.tree (has_reply p.owed) p.sent its_left bus ms more
+          (subst (λ (j : Job). next_of whole.locks p.tree ≡ Some (Send j more)) is is_sent.first) e bytes bad in
           no_settle behind s.1 leaves.quiet s.2.first
 
       by : (j : Job) → job ≡ j → Fit job
@@ -106,9 +112,11 @@ module _ (run : Run) (whole : Whole) (core : CoreKept run whole)
 
   -- WHAT A MESSAGE LEAVES: the walk goes on, and what was read fits so far; or its settle comes next, with a reply that fits
   pub sent-leaves : (IsLeft run.board p.transfer (has_reply p.owed) gone behind × (p.owed ≡ [] → FitsReads (take gone p.transfer.msgs) got))
-      ⊎ ((has_reply p.owed ≡ false) × (verdict : Option Errno) × IsDecided run.board p.transfer verdict behind × ((reply : Reply) → reply ≡ reply_by verdict (Some p.transfer) got → Fits p.transfer reply))
+      ⊎ ((has_reply p.owed ≡ false) × (verdict : Option Errno) × IsDecided run.board p.transfer verdict behind
+      × ((reply : Reply) → reply ≡ reply_by verdict (Some p.transfer) got → Fits p.transfer reply))
   sent-leaves =
-      elim (message-leaves run.board p.transfer (slots_of (seen_of whole.locks)) p.tree (has_reply p.owed) p.sent its_left job more is_sent.first e bytes) [
+      elim (message-leaves run.board p.transfer (slots_of (seen_of whole.locks)) p.tree
+      (has_reply p.owed) p.sent its_left job more is_sent.first e bytes) [
         | inl leaves ↦ inl (leaves, partway-behind leaves)
         | inr s ↦ inr (
           s.0,
@@ -120,10 +128,12 @@ module _ (run : Run) (whole : Whole) (core : CoreKept run whole)
       ]
 
 -- WHAT A LINE STEP LEAVES: the walk goes on, or its settle comes next, with an error
-pub lined-leaves : (run : Run) (whole : Whole) → CoreKept run whole → (place : ℕ) (p : Place) → slice_get whole.places place ≡ Some p → (job : Job) → next_of whole.locks p.tree ≡ Some (Shift job) → (failed : Bool)
+pub lined-leaves : (run : Run) (whole : Whole) → CoreKept run whole → (place : ℕ) (p : Place) → slice_get whole.places place ≡ Some p
+    → (job : Job) → next_of whole.locks p.tree ≡ Some (Shift job) → (failed : Bool)
     → IsLeft run.board p.transfer (has_reply p.owed) p.sent (behind_of whole.locks p.tree (Lined failed))
     ⊎ ((has_reply p.owed ≡ false) × (err : Errno) × IsDecided run.board p.transfer (Some err) (behind_of whole.locks p.tree (Lined failed)))
 lined-leaves run whole core place p here job first failed =
     let stands = stands-here run whole core place p here in
     line-leaves run.board p.transfer (slots_of (seen_of whole.locks)) p.tree (has_reply p.owed) p.sent
-    (left-on run whole core place p _ _ stands (Shift job) first (λ verdict is. let f : Shift job ≡ Settle verdict = is in cc)) job first failed
+    (left-on run whole core place p _ _ stands (Shift job) first (λ verdict is. let f : Shift job ≡ Settle verdict = is in cc)) job first
+    failed

@@ -38,19 +38,25 @@ some_behind ws i c h =
 module _ (b : BoardView) (v : LocksView) (numbers : List ℕ) (held : List (List LockId)) (kept : TableKept b v numbers held) where
   -- a lock that somebody has is one of the board
   pub lock-there : (l : LockId) (c : ℕ) → holder_in v l ≡ Some c → IsLockOf b l
-  lock-there (lock.Bus r) c h = (let low : r < length v.roots = some_behind v.roots r c h in let all : length v.roots ≡ length b.roots = kept.roots in omega (arith, low, all))
-  lock-there (lock.Mux p) c h = (let low : p < length v.buses = some_behind v.buses p c h in let all : length v.buses ≡ buses b = kept.muxes in omega (arith, low, all))
+  lock-there (lock.Bus r) c h = (let low : r < length v.roots = some_behind v.roots r c h in
+      let all : length v.roots ≡ length b.roots = kept.roots in omega (arith, low, all))
+  lock-there (lock.Mux p) c h = (let low : p < length v.buses = some_behind v.buses p c h in
+      let all : length v.buses ≡ buses b = kept.muxes in omega (arith, low, all))
 
-  pub holder-set : (l : LockId) → IsLockOf b l → (who : Option ℕ) (k : LockId) → holder_in (with_holder v l who) k ≡ cond (is_lock l k) who (holder_in v k)
-  holder-set (lock.Bus r) is who (lock.Bus s) = word_set v.roots r s who (let all : length v.roots ≡ length b.roots = kept.roots in omega (arith, all, is))
+  pub holder-set : (l : LockId) → IsLockOf b l → (who : Option ℕ) (k : LockId)
+      → holder_in (with_holder v l who) k ≡ cond (is_lock l k) who (holder_in v k)
+  holder-set (lock.Bus r) is who (lock.Bus s) = word_set v.roots r s who (let all : length v.roots ≡ length b.roots = kept.roots in
+      omega (arith, all, is))
   holder-set (lock.Bus r) is who (lock.Mux q) = refl
   holder-set (lock.Mux p) is who (lock.Bus s) = refl
-  holder-set (lock.Mux p) is who (lock.Mux q) = word_set v.buses p q who (let all : length v.buses ≡ buses b = kept.muxes in omega (arith, all, is))
+  holder-set (lock.Mux p) is who (lock.Mux q) = word_set v.buses p q who (let all : length v.buses ≡ buses b = kept.muxes in
+      omega (arith, all, is))
 
   set_same : (l : LockId) → IsLockOf b l → (who : Option ℕ) (k : LockId) → is_lock l k ≡ true → holder_in (with_holder v l who) k ≡ who
   set_same l is who k e = holder-set l is who k ∙ ap (λ (t : Bool). cond t who (holder_in v k)) e
 
-  set_other : (l : LockId) → IsLockOf b l → (who : Option ℕ) (k : LockId) → is_lock l k ≡ false → holder_in (with_holder v l who) k ≡ holder_in v k
+  set_other : (l : LockId) → IsLockOf b l → (who : Option ℕ) (k : LockId) → is_lock l k ≡ false
+      → holder_in (with_holder v l who) k ≡ holder_in v k
   set_other l is who k e = holder-set l is who k ∙ ap (λ (t : Bool). cond t who (holder_in v k)) e
 
   roots_set : (l : LockId) (who : Option ℕ) → length (with_holder v l who).roots ≡ length b.roots
@@ -77,18 +83,21 @@ module _ (b : BoardView) (v : LocksView) (numbers : List ℕ) (held : List (List
   rank_set l who (lock.Bus s) = refl
   rank_set l who (lock.Mux q) = ap (λ (ds : List ℕ). slice_index_or ds q 0 + 1) (depths_set l who)
 
-  module _ (distinct : AreDistinct numbers) (place c : ℕ) (ls : List LockId) (here : slice_get held place ≡ Some ls) (number : slice_get numbers place ≡ Some c) where
+  module _ (distinct : AreDistinct numbers) (place c : ℕ) (ls : List LockId) (here : slice_get held place ≡ Some ls)
+      (number : slice_get numbers place ≡ Some c) where
     -- who has the lock, and where: it is this caller's exactly where it is among its own
     pub own-locks : (l : LockId) → holder_in v l ≡ Some c → InLocks l ls
     own-locks l h =
         let at : IsHeldBy numbers held l c = kept.named l c h in
-        subst (λ (ks : List LockId). InLocks l ks) (one_place held at.place place at.locks ls at.here here (distinct at.place place c at.number number)) at.among
+        subst (λ (ks : List LockId). InLocks l ks)
+        (one_place held at.place place at.locks ls at.here here (distinct at.place place c at.number number)) at.among
 
     -- what `Locks::take` wants: the lock is below all that its caller has
     pub below-all : (l : LockId) → IsBelow b l ls → (k : LockId) → holder_in v k ≡ Some c → rank b l < rank b k
     below-all l below k h = below_each b l ls k below (own-locks k h)
 
-    pub take-table : (l : LockId) → IsLockOf b l → holder_in v l ≡ None → TableKept b (with_holder v l (Some c)) numbers (set held place (l ∷ ls))
+    pub take-table : (l : LockId) → IsLockOf b l → holder_in v l ≡ None
+        → TableKept b (with_holder v l (Some c)) numbers (set held place (l ∷ ls))
     take-table l is free =
         record {
           counted = length-set held place (l ∷ ls) ∙ kept.counted;
@@ -108,7 +117,14 @@ module _ (b : BoardView) (v : LocksView) (numbers : List ℕ) (held : List (List
         named k d h =
             elim (lock_tells l k) [
               | inl same ↦ (let who : Some c ≡ Some d = sym (set_same l is (Some c) k same.0) ∙ h in let own : c ≡ d = cc in
-                  record { place = place; locks = l ∷ ls; here = set_at held place (l ∷ ls) ls here; number = number ∙ ap (λ (x : ℕ). Some x) own; among = inl (sym same.1) })
+                  record {
+                    place = place;
+                    locks = l ∷ ls;
+                    here = set_at held place (l ∷ ls) ls here;
+                    number = number
+                        ∙ ap (λ (x : ℕ). Some x) own;
+                    among = inl (sym same.1);
+                  })
               | inr other ↦ (let at : IsHeldBy numbers held k d = kept.named k d (sym (set_other l is (Some c) k other.0) ∙ h) in
                   elim (eqb_tells at.place place) [
                     | inl e ↦ record {
@@ -116,9 +132,16 @@ module _ (b : BoardView) (v : LocksView) (numbers : List ℕ) (held : List (List
                       locks = l ∷ ls;
                       here = set_at held place (l ∷ ls) ls here;
                       number = ap (slice_get numbers) (sym e.1) ∙ at.number;
-                      among = inr (subst (λ (ks : List LockId). InLocks k ks) (one_place held at.place place at.locks ls at.here here e.1) at.among);
+                      among = inr (subst (λ (ks : List LockId). InLocks k ks)
+                          (one_place held at.place place at.locks ls at.here here e.1) at.among);
                     }
-                    | inr e ↦ record { place = at.place; locks = at.locks; here = set_elsewhere held place at.place (l ∷ ls) e.1 ∙ at.here; number = at.number; among = at.among }
+                    | inr e ↦ record {
+                      place = at.place;
+                      locks = at.locks;
+                      here = set_elsewhere held place at.place (l ∷ ls) e.1 ∙ at.here;
+                      number = at.number;
+                      among = at.among;
+                    }
                   ])
             ]
 
@@ -135,18 +158,22 @@ module _ (b : BoardView) (v : LocksView) (numbers : List ℕ) (held : List (List
             elim (lock_tells l k) [ inl e ↦ set_same l is (Some c) k e.0 | inr e ↦ absurd (e.1 (sym same)) ]
         has_own k (inr among) = other_lock k c (kept.has place ls c here number k among)
 
-        has : (i : ℕ) (ks : List LockId) (d : ℕ) → slice_get (set held place (l ∷ ls)) i ≡ Some ks → slice_get numbers i ≡ Some d → (k : LockId) → InLocks k ks → holder_in (with_holder v l (Some c)) k ≡ Some d
+        has : (i : ℕ) (ks : List LockId) (d : ℕ) → slice_get (set held place (l ∷ ls)) i ≡ Some ks → slice_get numbers i ≡ Some d
+            → (k : LockId) → InLocks k ks → holder_in (with_holder v l (Some c)) k ≡ Some d
         has i ks d at num k among =
             elim (eqb_tells i place) [
-              | inl e ↦ (let mine : l ∷ ls ≡ ks = set_here held place (l ∷ ls) ks (subst (λ (j : ℕ). slice_get (set held place (l ∷ ls)) j ≡ Some ks) e.1 at) in
-                  has_own k (subst (λ (xs : List LockId). InLocks k xs) (sym mine) among) ∙ ap (λ (x : ℕ). Some x) (one_place numbers place i c d number num (sym e.1)))
+              | inl e ↦ (let mine : l ∷ ls ≡ ks = set_here held place (l ∷ ls) ks
+                  (subst (λ (j : ℕ). slice_get (set held place (l ∷ ls)) j ≡ Some ks) e.1 at) in
+                  has_own k (subst (λ (xs : List LockId). InLocks k xs) (sym mine) among)
+                  ∙ ap (λ (x : ℕ). Some x) (one_place numbers place i c d number num (sym e.1)))
               | inr e ↦ other_lock k d (kept.has i ks d (sym (set_elsewhere held place i (l ∷ ls) e.1) ∙ at) num k among)
             ]
 
         once : (i : ℕ) (ks : List LockId) → slice_get (set held place (l ∷ ls)) i ≡ Some ks → IsOnce ks
         once i ks at =
             elim (eqb_tells i place) [
-              | inl e ↦ subst (λ (xs : List LockId). IsOnce xs) (set_here held place (l ∷ ls) ks (subst (λ (j : ℕ). slice_get (set held place (l ∷ ls)) j ≡ Some ks) e.1 at))
+              | inl e ↦ subst (λ (xs : List LockId). IsOnce xs)
+                  (set_here held place (l ∷ ls) ks (subst (λ (j : ℕ). slice_get (set held place (l ∷ ls)) j ≡ Some ks) e.1 at))
                   ((λ among. let f : None ≡ Some c = sym free ∙ kept.has place ls c here number l among in cc), kept.once place ls here)
               | inr e ↦ kept.once i ks (sym (set_elsewhere held place i (l ∷ ls) e.1) ∙ at)
             ]
@@ -187,9 +214,16 @@ module _ (b : BoardView) (v : LocksView) (numbers : List ℕ) (held : List (List
                       locks = rest;
                       here = set_at held place rest ls here;
                       number = ap (slice_get numbers) (sym e.1) ∙ at.number;
-                      among = below_top k other.1 (subst (λ (ks : List LockId). InLocks k ks) (one_place held at.place place at.locks (l ∷ rest) at.here whole e.1) at.among);
+                      among = below_top k other.1 (subst (λ (ks : List LockId). InLocks k ks)
+                          (one_place held at.place place at.locks (l ∷ rest) at.here whole e.1) at.among);
                     }
-                    | inr e ↦ record { place = at.place; locks = at.locks; here = set_elsewhere held place at.place rest e.1 ∙ at.here; number = at.number; among = at.among }
+                    | inr e ↦ record {
+                      place = at.place;
+                      locks = at.locks;
+                      here = set_elsewhere held place at.place rest e.1 ∙ at.here;
+                      number = at.number;
+                      among = at.among;
+                    }
                   ])
             ]
           where
@@ -197,18 +231,22 @@ module _ (b : BoardView) (v : LocksView) (numbers : List ℕ) (held : List (List
             below_top k apart (inl same) = absurd (apart (sym same))
             below_top k apart (inr among) = among
 
-        has : (i : ℕ) (ks : List LockId) (d : ℕ) → slice_get (set held place rest) i ≡ Some ks → slice_get numbers i ≡ Some d → (k : LockId) → InLocks k ks → holder_in (with_holder v l None) k ≡ Some d
+        has : (i : ℕ) (ks : List LockId) (d : ℕ) → slice_get (set held place rest) i ≡ Some ks → slice_get numbers i ≡ Some d → (k : LockId)
+            → InLocks k ks → holder_in (with_holder v l None) k ≡ Some d
         has i ks d at num k among =
             elim (eqb_tells i place) [
-              | inl e ↦ (let mine : rest ≡ ks = set_here held place rest ks (subst (λ (j : ℕ). slice_get (set held place rest) j ≡ Some ks) e.1 at) in
+              | inl e ↦ (let mine : rest ≡ ks = set_here held place rest ks
+                  (subst (λ (j : ℕ). slice_get (set held place rest) j ≡ Some ks) e.1 at) in
                   let left : InLocks k rest = subst (λ (xs : List LockId). InLocks k xs) (sym mine) among in
                   elim (lock_tells l k) [
                     | inl same ↦ absurd ((kept.once place (l ∷ rest) whole).0 (subst (λ (x : LockId). InLocks x rest) (sym same.1) left))
-                    | inr other ↦ set_other l is None k other.0 ∙ kept.has place (l ∷ rest) c whole number k (inr left) ∙ ap (λ (x : ℕ). Some x) (one_place numbers place i c d number num (sym e.1))
+                    | inr other ↦ set_other l is None k other.0 ∙ kept.has place (l ∷ rest) c whole number k (inr left)
+                        ∙ ap (λ (x : ℕ). Some x) (one_place numbers place i c d number num (sym e.1))
                   ])
               | inr e ↦ (let was : holder_in v k ≡ Some d = kept.has i ks d (sym (set_elsewhere held place i rest e.1) ∙ at) num k among in
                   elim (lock_tells l k) [
-                    | inl same ↦ (let f : Some c ≡ Some d = sym owner ∙ ap (λ (x : LockId). holder_in v x) same.1 ∙ was in let own : c ≡ d = cc in
+                    | inl same ↦ (let f : Some c ≡ Some d = sym owner ∙ ap (λ (x : LockId). holder_in v x) same.1 ∙ was in
+                        let own : c ≡ d = cc in
                         absurd (e.1 (distinct i place d num (number ∙ ap (λ (x : ℕ). Some x) own))))
                     | inr other ↦ set_other l is None k other.0 ∙ was
                   ])
@@ -217,6 +255,8 @@ module _ (b : BoardView) (v : LocksView) (numbers : List ℕ) (held : List (List
         once : (i : ℕ) (ks : List LockId) → slice_get (set held place rest) i ≡ Some ks → IsOnce ks
         once i ks at =
             elim (eqb_tells i place) [
-              | inl e ↦ subst (λ (xs : List LockId). IsOnce xs) (set_here held place rest ks (subst (λ (j : ℕ). slice_get (set held place rest) j ≡ Some ks) e.1 at)) (kept.once place (l ∷ rest) whole).1
+              | inl e ↦ subst (λ (xs : List LockId). IsOnce xs)
+                  (set_here held place rest ks (subst (λ (j : ℕ). slice_get (set held place rest) j ≡ Some ks) e.1 at))
+                  (kept.once place (l ∷ rest) whole).1
               | inr e ↦ kept.once i ks (sym (set_elsewhere held place i rest e.1) ∙ at)
             ]

@@ -34,37 +34,56 @@ use Rattle.core_laws.proofs.Table.{set_at}
 use Rattle.std.proofs.lemmas.List.{set-set}
 use Rattle.core_laws.proofs.Turns.{numbered-kept}
 
-module _ (b : BoardView) (tree : IsTree b) (plain : IsPlainBoard b) (lines : LinesAreLocked b) (asks : Asks) (some : AsksForMessages asks) (callers : ℕ) (past : List Entry) (spots : List Spot) (v : LocksView) (sockets : List RootPort)
-    (told : IsTold b callers asks past spots v sockets None) (numbered : AreNumbered callers spots) (once : AreRooted sockets) (place : ℕ) (x : Spot) (here : slice_get spots place ≡ Some x)
+module _ (b : BoardView) (tree : IsTree b) (plain : IsPlainBoard b) (lines : LinesAreLocked b) (asks : Asks) (some : AsksForMessages asks)
+    (callers : ℕ) (past : List Entry) (spots : List Spot) (v : LocksView) (sockets : List RootPort)
+    (told : IsTold b callers asks past spots v sockets None) (numbered : AreNumbered callers spots) (once : AreRooted sockets) (place : ℕ)
+    (x : Spot) (here : slice_get spots place ≡ Some x)
     (sees : seen (now b asks past).slot x.tree ≡ seen (slots_of (seen_of v)) x.tree)
     (at : ℕ) (old new : RootPort) (port : slice_get sockets at ≡ Some old) where
   marks_by : (act : Act) (out : ActOutcome) (words : SeenView) → next_of v x.tree ≡ Some act → AreMarked b x.tree v out words
-      → (y : Slots) → TellsMarks y v.marks → TellsMarks (slots_after (Some act) (first_note (seen (slots_of (seen_of v)) x.tree)) out y) words.marks
-  marks_by act out words first are y tells = subst (λ (a : Option Act). TellsMarks (slots_after a (first_note (seen (slots_of (seen_of v)) x.tree)) out y) words.marks) first (are.marked y tells)
+      → (y : Slots) → TellsMarks y v.marks
+      → TellsMarks (slots_after (Some act) (first_note (seen (slots_of (seen_of v)) x.tree)) out y) words.marks
+  marks_by act out words first are y tells = subst
+      (λ (a : Option Act). TellsMarks (slots_after a (first_note (seen (slots_of (seen_of v)) x.tree)) out y) words.marks) first
+      (are.marked y tells)
 
   kept_by : (act : Act) (out : ActOutcome) (words : SeenView) → next_of v x.tree ≡ Some act → AreMarked b x.tree v out words
-      → (y : Slots) → TellsKept b y v.kept → TellsKept b (slots_after (Some act) (first_note (seen (slots_of (seen_of v)) x.tree)) out y) words.kept
-  kept_by act out words first are y tells = subst (λ (a : Option Act). TellsKept b (slots_after a (first_note (seen (slots_of (seen_of v)) x.tree)) out y) words.kept) first (are.kept y tells)
+      → (y : Slots) → TellsKept b y v.kept
+      → TellsKept b (slots_after (Some act) (first_note (seen (slots_of (seen_of v)) x.tree)) out y) words.kept
+  kept_by act out words first are y tells = subst
+      (λ (a : Option Act). TellsKept b (slots_after a (first_note (seen (slots_of (seen_of v)) x.tree)) out y) words.kept) first
+      (are.kept y tells)
 
-  module _ (t : TransferView) (gone : ℕ) (job : Job) (left : ℕ) (next : NextMsg) (addr : ℕ) (reading : Bool) (bytes : List ℕ) (heard : Option Node) (e : End)
-      (said : IsSaid b asks x v t gone job left next old new addr reading bytes heard e) (goes : is_over (behind_of v x.tree (Sent e bytes)) ≡ false)
+  module _ (t : TransferView) (gone : ℕ) (job : Job) (left : ℕ) (next : NextMsg) (addr : ℕ) (reading : Bool) (bytes : List ℕ)
+      (heard : Option Node) (e : End)
+      (said : IsSaid b asks x v t gone job left next old new addr reading bytes heard e)
+      (goes : is_over (behind_of v x.tree (Sent e bytes)) ≡ false)
       (words : SeenView) (are : AreMarked b x.tree v (Sent e bytes) words) where
     abbrev pub message : Entry
     message = entry.Message x.number next.bus next.purpose next.part next.parts addr reading bytes heard e
 
     abbrev pub spot : Spot
-    spot = record x { tree = behind_of v x.tree (Sent e bytes); got = got_after job reading bytes x.got; cut = message_cut next.purpose next.part e }
+    spot = record x {
+      tree = behind_of v x.tree (Sent e bytes);
+      got = got_after job reading bytes x.got;
+      cut = message_cut next.purpose next.part e;
+    }
 
     abbrev pub marked : LocksView
     marked = turned_to v words
 
-    pub message-keeps : NoSettle (behind_of v x.tree (Sent e bytes)) → IsTold b callers asks (message ∷ past) (set spots place spot) marked (set sockets at new) None
+    pub message-keeps : NoSettle (behind_of v x.tree (Sent e bytes))
+        → IsTold b callers asks (message ∷ past) (set spots place spot) marked (set sockets at new) None
     message-keeps quiet =
-        told-message b tree plain lines asks some callers past spots v sockets None told numbered place x here sees refl once at old new port job left said.first next said.of said.rooted t gone said.whose
-        addr reading bytes heard e said.to_addr said.in_direction said.chip said.has (behind_of v x.tree (Sent e bytes)) refl goes words are.all (marks_by (Send job left) (Sent e bytes) words said.first are) (kept_by (Send job left) (Sent e bytes) words said.first are) quiet
+        told-message b tree plain lines asks some callers past spots v sockets None told numbered place x here sees refl once at old new
+        port job left said.first next said.of said.rooted t gone said.whose
+        addr reading bytes heard e said.to_addr said.in_direction said.chip said.has
+        (behind_of v x.tree (Sent e bytes)) refl goes words are.all (marks_by (Send job left) (Sent e bytes) words said.first are)
+        (kept_by (Send job left) (Sent e bytes) words said.first are) quiet
 
     -- a message that decides, and its settle behind it; the caller is told at its walk's end
-    module _ (verdict : Option Errno) (settles : first_act (behind_of v x.tree (Sent e bytes)) ≡ Some (Settle verdict)) (unpaid : x.owed ≡ []) (asked : asks x.number x.taken ≡ Some t)
+    module _ (verdict : Option Errno) (settles : first_act (behind_of v x.tree (Sent e bytes)) ≡ Some (Settle verdict))
+        (unpaid : x.owed ≡ []) (asked : asks x.number x.taken ≡ Some t)
         (reply : Reply) (decided : reply ≡ reply_by verdict (Some t) (got_after job reading bytes x.got))
         (more : is_over (rest_of (behind_of v x.tree (Sent e bytes)) Passed) ≡ false) where
       abbrev pub settle : Entry
@@ -76,16 +95,25 @@ module _ (b : BoardView) (tree : IsTree b) (plain : IsPlainBoard b) (lines : Lin
       pub message-settles : IsTold b callers asks (settle ∷ message ∷ past) (set spots place settled) marked (set sockets at new) None
       message-settles =
           let due : IsTold b callers asks (message ∷ past) (set spots place spot) marked (set sockets at new) (Some x.number) =
-          told-decided b tree plain lines asks some callers past spots v sockets None told numbered place x here sees refl once at old new port job left said.first next said.of said.rooted t gone said.whose
-          addr reading bytes heard e said.to_addr said.in_direction said.chip said.has (behind_of v x.tree (Sent e bytes)) refl goes words are.all (marks_by (Send job left) (Sent e bytes) words said.first are) (kept_by (Send job left) (Sent e bytes) words said.first are) verdict settles in
-          let look : seen (slots_of words) (behind_of v x.tree (Sent e bytes)) ≡ behind_of v x.tree (Sent e bytes) = seen-first (slots_of words) (behind_of v x.tree (Sent e bytes)) (Settle verdict) settles in
-          subst (λ (ss : List Spot). IsTold b callers asks (settle ∷ message ∷ past) ss marked (set sockets at new) None) (set-set spots place spot settled)
-          (told-settle b tree plain lines asks some callers (message ∷ past) (set spots place spot) marked (set sockets at new) (Some x.number) due
+          told-decided b tree plain lines asks some callers past spots v sockets None told numbered place x here sees refl once at old new
+          port job left said.first next said.of said.rooted t gone said.whose
+          addr reading bytes heard e said.to_addr said.in_direction said.chip said.has
+          (behind_of v x.tree (Sent e bytes)) refl goes words are.all (marks_by (Send job left) (Sent e bytes) words said.first are)
+          (kept_by (Send job left) (Sent e bytes) words said.first are) verdict settles in
+          let look : seen (slots_of words) (behind_of v x.tree (Sent e bytes)) ≡ behind_of v x.tree (Sent e bytes) = seen-first
+          (slots_of words) (behind_of v x.tree (Sent e bytes)) (Settle verdict) settles in
+          subst (λ (ss : List Spot). IsTold b callers asks (settle ∷ message ∷ past) ss marked (set sockets at new) None)
+          (set-set spots place spot settled)
+          (told-settle b tree plain lines asks some callers (message ∷ past) (set spots place spot) marked (set sockets at new)
+          (Some x.number) due
           (numbered-kept callers spots numbered place x spot here refl) place spot (set_at spots place spot x here)
-          (seen-first (now b asks (message ∷ past)).slot (behind_of v x.tree (Sent e bytes)) (Settle verdict) settles ∙ sym look) refl verdict
-          (ap (λ (w : WalkTree). first_act w) look ∙ settles) unpaid t asked reply decided (rest_of (behind_of v x.tree (Sent e bytes)) Passed) (ap (λ (w : WalkTree). rest_of w Passed) (sym look)) more)
+          (seen-first (now b asks (message ∷ past)).slot (behind_of v x.tree (Sent e bytes)) (Settle verdict) settles
+          ∙ sym look) refl verdict
+          (ap (λ (w : WalkTree). first_act w) look ∙ settles) unpaid t asked reply decided
+          (rest_of (behind_of v x.tree (Sent e bytes)) Passed) (ap (λ (w : WalkTree). rest_of w Passed) (sym look)) more)
 
-  module _ (job : Job) (failed : Bool) (lined : IsLined b x v job old new failed) (goes : is_over (behind_of v x.tree (Lined failed)) ≡ false)
+  module _ (job : Job) (failed : Bool) (lined : IsLined b x v job old new failed)
+      (goes : is_over (behind_of v x.tree (Lined failed)) ≡ false)
       (words : SeenView) (are : AreMarked b x.tree v (Lined failed) words) where
     abbrev pub line : Entry
     line = entry.Line x.number (line_mux job) (line_level job) failed
@@ -96,12 +124,16 @@ module _ (b : BoardView) (tree : IsTree b) (plain : IsPlainBoard b) (lines : Lin
     abbrev pub marked_line : LocksView
     marked_line = turned_to v words
 
-    pub line-keeps : NoSettle (behind_of v x.tree (Lined failed)) → IsTold b callers asks (line ∷ past) (set spots place switched) marked_line (set sockets at new) None
+    pub line-keeps : NoSettle (behind_of v x.tree (Lined failed))
+        → IsTold b callers asks (line ∷ past) (set spots place switched) marked_line (set sockets at new) None
     line-keeps quiet =
-        told-line b tree plain lines asks some callers past spots v sockets None told numbered place x here sees refl once at old new port job lined.first lined.rooted failed lined.root lined.world lined.log
-        (behind_of v x.tree (Lined failed)) refl goes words are.all (marks_by (Shift job) (Lined failed) words lined.first are) (kept_by (Shift job) (Lined failed) words lined.first are) quiet
+        told-line b tree plain lines asks some callers past spots v sockets None told numbered place x here sees refl once at old new port
+        job lined.first lined.rooted failed lined.root lined.world lined.log
+        (behind_of v x.tree (Lined failed)) refl goes words are.all (marks_by (Shift job) (Lined failed) words lined.first are)
+        (kept_by (Shift job) (Lined failed) words lined.first are) quiet
 
-    module _ (verdict : Option Errno) (settles : first_act (behind_of v x.tree (Lined failed)) ≡ Some (Settle verdict)) (unpaid : x.owed ≡ []) (t : TransferView) (asked : asks x.number x.taken ≡ Some t)
+    module _ (verdict : Option Errno) (settles : first_act (behind_of v x.tree (Lined failed)) ≡ Some (Settle verdict))
+        (unpaid : x.owed ≡ []) (t : TransferView) (asked : asks x.number x.taken ≡ Some t)
         (reply : Reply) (decided : reply ≡ reply_by verdict (Some t) x.got)
         (more : is_over (rest_of (behind_of v x.tree (Lined failed)) Passed) ≡ false) where
       abbrev pub settle_line : Entry
@@ -110,14 +142,21 @@ module _ (b : BoardView) (tree : IsTree b) (plain : IsPlainBoard b) (lines : Lin
       abbrev pub settled_line : Spot
       settled_line = record x { tree = rest_of (behind_of v x.tree (Lined failed)) Passed; owed = reply ∷ []; got = []; cut = cut_at.No }
 
-      pub line-settles : IsTold b callers asks (settle_line ∷ line ∷ past) (set spots place settled_line) marked_line (set sockets at new) None
+      pub line-settles : IsTold b callers asks (settle_line ∷ line ∷ past) (set spots place settled_line) marked_line
+          (set sockets at new) None
       line-settles =
           let due : IsTold b callers asks (line ∷ past) (set spots place switched) marked_line (set sockets at new) (Some x.number) =
-          told-line-decided b tree plain lines asks some callers past spots v sockets None told numbered place x here sees refl once at old new port job lined.first lined.rooted failed lined.root lined.world lined.log
-          (behind_of v x.tree (Lined failed)) refl goes words are.all (marks_by (Shift job) (Lined failed) words lined.first are) (kept_by (Shift job) (Lined failed) words lined.first are) verdict settles in
-          let look : seen (slots_of words) (behind_of v x.tree (Lined failed)) ≡ behind_of v x.tree (Lined failed) = seen-first (slots_of words) (behind_of v x.tree (Lined failed)) (Settle verdict) settles in
-          subst (λ (ss : List Spot). IsTold b callers asks (settle_line ∷ line ∷ past) ss marked_line (set sockets at new) None) (set-set spots place switched settled_line)
-          (told-settle b tree plain lines asks some callers (line ∷ past) (set spots place switched) marked_line (set sockets at new) (Some x.number) due
+          told-line-decided b tree plain lines asks some callers past spots v sockets None told numbered place x here sees refl once at old
+          new port job lined.first lined.rooted failed lined.root lined.world lined.log
+          (behind_of v x.tree (Lined failed)) refl goes words are.all (marks_by (Shift job) (Lined failed) words lined.first are)
+          (kept_by (Shift job) (Lined failed) words lined.first are) verdict settles in
+          let look : seen (slots_of words) (behind_of v x.tree (Lined failed)) ≡ behind_of v x.tree (Lined failed) = seen-first
+          (slots_of words) (behind_of v x.tree (Lined failed)) (Settle verdict) settles in
+          subst (λ (ss : List Spot). IsTold b callers asks (settle_line ∷ line ∷ past) ss marked_line (set sockets at new) None)
+          (set-set spots place switched settled_line)
+          (told-settle b tree plain lines asks some callers (line ∷ past) (set spots place switched) marked_line (set sockets at new)
+          (Some x.number) due
           (numbered-kept callers spots numbered place x switched here refl) place switched (set_at spots place switched x here)
           (seen-first (now b asks (line ∷ past)).slot (behind_of v x.tree (Lined failed)) (Settle verdict) settles ∙ sym look) refl verdict
-          (ap (λ (w : WalkTree). first_act w) look ∙ settles) unpaid t asked reply decided (rest_of (behind_of v x.tree (Lined failed)) Passed) (ap (λ (w : WalkTree). rest_of w Passed) (sym look)) more)
+          (ap (λ (w : WalkTree). first_act w) look ∙ settles) unpaid t asked reply decided
+          (rest_of (behind_of v x.tree (Lined failed)) Passed) (ap (λ (w : WalkTree). rest_of w Passed) (sym look)) more)

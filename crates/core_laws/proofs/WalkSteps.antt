@@ -42,7 +42,8 @@ IsLastCall job left e = (bus : ℕ) × (ms : List MessageView) × (job ≡ Call 
 
 -- behind a message its settle comes next, or the walk goes on
 abbrev pub SettlesNext : BoardView → TransferView → Bool → Job → ℕ → End → WalkTree → Type 0
-SettlesNext b t settled job left e w = (settled ≡ false) × (verdict : Option Errno) × IsDecided b t verdict w × (verdict ≡ None → IsLastCall job left e)
+SettlesNext b t settled job left e w = (settled ≡ false) × (verdict : Option Errno) × IsDecided b t verdict w
+    × (verdict ≡ None → IsLastCall job left e)
 
 -- the one or the other
 abbrev pub SendLeaves : BoardView → TransferView → Bool → ℕ → Job → ℕ → End → WalkTree → Type 0
@@ -50,11 +51,13 @@ SendLeaves b t settled sent job left e w = IsLeft b t settled sent w ⊎ Settles
 
 module _ (b : BoardView) (t : TransferView) (v : Slots) (w : WalkTree) (settled : Bool) (sent : ℕ) (is : IsLeft b t settled sent w) where
   -- where another step than a message of the caller's comes next, none of these was sent yet
-  first_still : (act : Act) → first_act (seen v w) ≡ Some act → ((bus : ℕ) (ms : List MessageView) (left : ℕ) → act ≡ Send (Call bus ms) left → ⊥) → Counts w sent → FirstCalls w × (sent ≡ 0)
+  first_still : (act : Act) → first_act (seen v w) ≡ Some act
+      → ((bus : ℕ) (ms : List MessageView) (left : ℕ) → act ≡ Send (Call bus ms) left → ⊥) → Counts w sent → FirstCalls w × (sent ≡ 0)
   first_still act first other counts =
       elim counts [
         | inl c ↦ absurd (other c.bus c.messages c.left
-            (let f : Some act ≡ Some (Send (Call c.bus c.messages) c.left) = sym first ∙ seen_act v w (Send (Call c.bus c.messages) c.left) c.first in cc))
+            (let f : Some act ≡ Some (Send (Call c.bus c.messages) c.left) = sym first
+            ∙ seen_act v w (Send (Call c.bus c.messages) c.left) c.first in cc))
         | inr f ↦ f
       ]
 
@@ -66,7 +69,8 @@ module _ (b : BoardView) (t : TransferView) (v : Slots) (w : WalkTree) (settled 
         settles = settles.1;
         jobs = jobs-next (IsJobOf b t) v w is.jobs (Take l) first Passed;
         quiet = settles.0;
-        counts = λ e. (let f = first_still (Take l) first (λ bus ms left x. let g : Take l ≡ Send (Call bus ms) left = x in cc) (is.counts e) in inr (first-taken v w f.0 l first, f.1));
+        counts = λ e. (let f = first_still (Take l) first (λ bus ms left x. let g : Take l ≡ Send (Call bus ms) left = x in cc)
+            (is.counts e) in inr (first-taken v w f.0 l first, f.1));
       }
 
   pub left-freed : (l : LockId) → first_act (seen v w) ≡ Some (Free l) → IsLeft b t settled sent (rest_of (seen v w) Passed)
@@ -77,7 +81,8 @@ module _ (b : BoardView) (t : TransferView) (v : Slots) (w : WalkTree) (settled 
         settles = settles.1;
         jobs = jobs-next (IsJobOf b t) v w is.jobs (Free l) first Passed;
         quiet = settles.0;
-        counts = λ e. (let f = first_still (Free l) first (λ bus ms left x. let g : Free l ≡ Send (Call bus ms) left = x in cc) (is.counts e) in inr (first-freed v w f.0 l first, f.1));
+        counts = λ e. (let f = first_still (Free l) first (λ bus ms left x. let g : Free l ≡ Send (Call bus ms) left = x in cc)
+            (is.counts e) in inr (first-freed v w f.0 l first, f.1));
       }
 
   -- a message of the caller's: which one it is
@@ -90,11 +95,13 @@ module _ (b : BoardView) (t : TransferView) (v : Slots) (w : WalkTree) (settled 
         before,
         call,
         elim (is.counts before) [
-          | inl c ↦ (let same : Some (Send (Call bus ms) left) ≡ Some (Send (Call c.bus c.messages) c.left) = sym first ∙ seen_act v w (Send (Call c.bus c.messages) c.left) c.first in
+          | inl c ↦ (let same : Some (Send (Call bus ms) left) ≡ Some (Send (Call c.bus c.messages) c.left) = sym first
+              ∙ seen_act v w (Send (Call c.bus c.messages) c.left) c.first in
               let lefts : left ≡ c.left = cc in
               let all : ms ≡ c.messages = cc in
               ap (λ (k : ℕ). sent + suc k) lefts ∙ c.count ∙ ap (λ (xs : List MessageView). length xs) (sym all))
-          | inr f ↦ (let own : left ≡ length ms - 1 = first-sent v w f.0 bus ms left first in omega (arith, own, f.1, many, call.some_message))
+          | inr f ↦ (let own : left ≡ length ms - 1 = first-sent v w f.0 bus ms left first in
+              omega (arith, own, f.1, many, call.some_message))
         ],
       )
 
@@ -138,7 +145,8 @@ module _ (b : BoardView) (t : TransferView) (v : Slots) (w : WalkTree) (settled 
       let goes = (settles-sent settled v w is.settles (Select h) left first).1 e bytes in
       elim (what_follows goes.0 (Select h) left e bytes (rest_of (seen v w) (Sent e bytes)) goes.1) [
         | inl quiet ↦ inl (goes_quiet (Select h) left first e bytes sent quiet
-            (λ x. let f = first_still (Send (Select h) left) first (λ bus ms k y. let g : Send (Select h) left ≡ Send (Call bus ms) k = y in cc) (is.counts x) in
+            (λ x. let f = first_still (Send (Select h) left) first (λ bus ms k y. let g : Send (Select h) left ≡ Send (Call bus ms) k = y in
+            cc) (is.counts x) in
             inr (first-selected v w f.0 h left first e bytes, f.1)))
         | inr f ↦ inr (decided (Select h) left first e bytes f)
       ]
@@ -149,33 +157,49 @@ module _ (b : BoardView) (t : TransferView) (v : Slots) (w : WalkTree) (settled 
       let goes = (settles-sent settled v w is.settles (SwitchOff off) left first).1 e bytes in
       elim (what_follows goes.0 (SwitchOff off) left e bytes (rest_of (seen v w) (Sent e bytes)) goes.1) [
         | inl quiet ↦ inl (goes_quiet (SwitchOff off) left first e bytes sent quiet
-            (λ x. let f = first_still (Send (SwitchOff off) left) first (λ bus ms k y. let g : Send (SwitchOff off) left ≡ Send (Call bus ms) k = y in cc) (is.counts x) in
+            (λ x. let f = first_still (Send (SwitchOff off) left) first
+            (λ bus ms k y. let g : Send (SwitchOff off) left ≡ Send (Call bus ms) k = y in cc) (is.counts x) in
             inr (first-switched-off v w f.0 off left first e bytes, f.1)))
         | inr f ↦ inr (decided (SwitchOff off) left first e bytes f)
       ]
 
   -- a line step: its settle comes next only where it failed
   pub line-leaves : (job : Job) → first_act (seen v w) ≡ Some (Shift job) → (failed : Bool)
-      → IsLeft b t settled sent (rest_of (seen v w) (Lined failed)) ⊎ ((settled ≡ false) × (e : Errno) × IsDecided b t (Some e) (rest_of (seen v w) (Lined failed)))
+      → IsLeft b t settled sent (rest_of (seen v w) (Lined failed))
+      ⊎ ((settled ≡ false) × (e : Errno) × IsDecided b t (Some e) (rest_of (seen v w) (Lined failed)))
   line-leaves job first failed =
       let at = first_is (seen v w) (Shift job) first in
-      let here : Settles settled (Then (Shift job) at.0 at.1) = subst (λ (x : WalkTree). Settles settled x) at.2 (settles_seen v settled w is.settles) in
+      let here : Settles settled (Then (Shift job) at.0 at.1) = subst (λ (x : WalkTree). Settles settled x) at.2
+      (settles_seen v settled w is.settles) in
       let calls : CallsOf b t behind_line = calls-next b t v w is.calls (Shift job) first (Lined failed) in
       let jobs : EachJob (IsJobOf b t) behind_line = jobs-next (IsJobOf b t) v w is.jobs (Shift job) first (Lined failed) in
-      let later : Settles settled behind_line = subst (λ (x : WalkTree). Settles settled (rest_of x (Lined failed))) (sym at.2) (here failed).1 in
-      let follows : one.IsDecided at.0 job zero (Lined failed) behind_line = subst (λ (x : WalkTree). one.IsDecided at.0 job zero (Lined failed) (rest_of x (Lined failed))) (sym at.2) (here failed).0 in
+      let later : Settles settled behind_line = subst (λ (x : WalkTree). Settles settled (rest_of x (Lined failed))) (sym at.2)
+      (here failed).1 in
+      let follows : one.IsDecided at.0 job zero (Lined failed) behind_line = subst
+      (λ (x : WalkTree). one.IsDecided at.0 job zero (Lined failed) (rest_of x (Lined failed))) (sym at.2) (here failed).0 in
       elim follows [
         | inl quiet ↦ inl (record {
           calls = calls;
           settles = later;
           jobs = jobs;
           quiet = quiet;
-          counts = λ e. (let f = first_still (Shift job) first (λ bus ms left x. let g : Shift job ≡ Send (Call bus ms) left = x in cc) (is.counts e) in inr (first_lined f.0, f.1));
+          counts = λ e. (let f = first_still (Shift job) first (λ bus ms left x. let g : Shift job ≡ Send (Call bus ms) left = x in cc)
+              (is.counts e) in inr (first_lined f.0, f.1));
         })
         | inr d ↦ (let err = line_errs job failed (job-shifted (IsJobOf b t) v w is.jobs job first).0 d.1 in
-            let settles_next : first_act behind_line ≡ Some (Settle (Some err.0)) = d.2 ∙ ap (λ (o : Option Errno). Some (Settle o)) err.1 in
+            let settles_next : first_act behind_line ≡ Some (Settle (Some err.0)) = d.2
+            ∙ ap (λ (o : Option Errno). Some (Settle o)) err.1 in
             let before = settles-settled settled behind_line later (Some err.0) settles_next in
-            inr (before.0, err.0, record { calls = calls; settles = subst (λ (x : Bool). Settles x behind_line) before.0 later; jobs = jobs; first = settles_next }))
+            inr (
+              before.0,
+              err.0,
+              record {
+                calls = calls;
+                settles = subst (λ (x : Bool). Settles x behind_line) before.0 later;
+                jobs = jobs;
+                first = settles_next;
+              },
+            ))
       ]
     where
       behind_line : WalkTree
@@ -187,7 +211,8 @@ module _ (b : BoardView) (t : TransferView) (v : Slots) (w : WalkTree) (settled 
           let here : FirstCalls (Then (Shift job) at.0 at.1) = subst (λ (x : WalkTree). FirstCalls x) at.2 (first_seen v w firsts) in
           subst (λ (x : WalkTree). FirstCalls (rest_of x (Lined failed))) (sym at.2) (here failed)
 
-      line_errs : (job : Job) (failed : Bool) → is_line job ≡ true → decides job (job_outcome job zero (Lined failed)) ≡ true → (e : Errno) × (verdict_of job zero (Lined failed) ≡ Some e)
+      line_errs : (job : Job) (failed : Bool) → is_line job ≡ true → decides job (job_outcome job zero (Lined failed)) ≡ true
+          → (e : Errno) × (verdict_of job zero (Lined failed) ≡ Some e)
       line_errs job true line d = (errno.Eremoteio, refl)
       line_errs (Call bus ms) false line d = absurd (let f : false ≡ true = line in cc)
       line_errs (Select h) false line d = absurd (let f : false ≡ true = d in cc)
@@ -203,7 +228,8 @@ module _ (b : BoardView) (t : TransferView) (v : Slots) (w : WalkTree) (settled 
       behind : WalkTree
       behind = rest_of (seen v w) (Sent end.Ok bytes)
 
-      by : (k : ℕ) (f : first_act (seen v w) ≡ Some (Send (Call bus ms) k)) → k ≡ left → (note : Note) → GoesOn note (Call bus ms) k (Sent end.Ok bytes) behind
+      by : (k : ℕ) (f : first_act (seen v w) ≡ Some (Send (Call bus ms) k)) → k ≡ left → (note : Note)
+          → GoesOn note (Call bus ms) k (Sent end.Ok bytes) behind
           → NoSettle behind ⊎ FollowsSend (Call bus ms) k end.Ok bytes behind
           → SendLeaves b t settled (sent + 1) (Call bus ms) k end.Ok behind
       by zero f same note goes follows =
@@ -217,12 +243,19 @@ module _ (b : BoardView) (t : TransferView) (v : Slots) (w : WalkTree) (settled 
       by (suc k) f same note goes follows =
           elim follows [
             | inl quiet ↦ inl (goes_quiet (Call bus ms) (suc k) f end.Ok bytes (sent + 1) quiet
-                (λ x. inl (record { bus = bus; messages = ms; left = k; first = call-goes-on note bus ms k bytes behind goes; count = (let c = (call-is bus ms (suc k) f).2 in omega (arith, c)) })))
+                (λ x. inl (record {
+                  bus = bus;
+                  messages = ms;
+                  left = k;
+                  first = call-goes-on note bus ms k bytes behind goes;
+                  count = (let c = (call-is bus ms (suc k) f).2 in omega (arith, c));
+                })))
             | inr x ↦ inr (decided (Call bus ms) (suc k) f end.Ok bytes x)
           ]
 
   -- one that didn't decides
-  pub ended-leaves : (bus : ℕ) (ms : List MessageView) (left : ℕ) → first_act (seen v w) ≡ Some (Send (Call bus ms) left) → (e : End) (bytes : List ℕ) → (e ≡ end.Ok → ⊥)
+  pub ended-leaves : (bus : ℕ) (ms : List MessageView) (left : ℕ) → first_act (seen v w) ≡ Some (Send (Call bus ms) left)
+      → (e : End) (bytes : List ℕ) → (e ≡ end.Ok → ⊥)
       → SettlesNext b t settled (Call bus ms) left e (rest_of (seen v w) (Sent e bytes))
   ended-leaves bus ms left first e bytes bad =
       let goes = (settles-sent settled v w is.settles (Call bus ms) left first).1 e bytes in
@@ -234,7 +267,8 @@ module _ (b : BoardView) (t : TransferView) (v : Slots) (w : WalkTree) (settled 
       settling : (x : WalkTree) (verdict : Option Errno) → NoSettle x → first_act x ≡ Some (Settle verdict) → ⊥
       settling x verdict quiet settles = quiet-next v x quiet verdict (seen_act v x (Settle verdict) settles)
 
-      early : (k : ℕ) (y : End) → (y ≡ end.Ok → ⊥) → (note : Note) (x : WalkTree) → NoSettle x → GoesOn note (Call bus ms) k (Sent y bytes) x → ⊥
+      early : (k : ℕ) (y : End) → (y ≡ end.Ok → ⊥) → (note : Note) (x : WalkTree) → NoSettle x
+          → GoesOn note (Call bus ms) k (Sent y bytes) x → ⊥
       early zero y never note x quiet h = settling x _ quiet h
       early (suc k) end.Ok never note x quiet h = never refl
       early (suc k) end.Nack never note x quiet h = settling x _ quiet h
@@ -244,7 +278,8 @@ module _ (b : BoardView) (t : TransferView) (v : Slots) (w : WalkTree) (settled 
       early (suc k) (end.Cut q) never note x quiet h = settling x _ quiet h
 
 -- the settle
-pub left-settled : (b : BoardView) (t : TransferView) (verdict : Option Errno) (w : WalkTree) (v : Slots) (sent : ℕ) → IsDecided b t verdict w → IsLeft b t true sent (rest_of (seen v w) Passed)
+pub left-settled : (b : BoardView) (t : TransferView) (verdict : Option Errno) (w : WalkTree) (v : Slots) (sent : ℕ)
+    → IsDecided b t verdict w → IsLeft b t true sent (rest_of (seen v w) Passed)
 left-settled b t verdict w v sent is =
     let first : first_act (seen v w) ≡ Some (Settle verdict) = seen_act v w (Settle verdict) is.first in
     let same : seen v w ≡ w = seen-first v w (Settle verdict) is.first in
@@ -258,7 +293,8 @@ left-settled b t verdict w v sent is =
     }
 
 -- the walk of a transfer that isn't refused begins
-pub left-opened : (b : BoardView) (t : TransferView) → IsTree b → 0 < length t.msgs → refusal b t ≡ None → IsLeft b t false 0 (walk_by b t None)
+pub left-opened : (b : BoardView) (t : TransferView) → IsTree b → 0 < length t.msgs → refusal b t ≡ None
+    → IsLeft b t false 0 (walk_by b t None)
 left-opened b t tree some granted =
     subst (λ (w : WalkTree). IsLeft b t false 0 w) (ap (walk_by b t) granted)
     (record {

@@ -18,7 +18,11 @@ use Rattle.core_laws.specs.Steps.{behind_of}
 
 -- this is there now, and holds and owes so much
 abbrev pub with_place : Whole → ℕ → Place → List LockId → ℕ → Whole
-with_place whole place new ls n = record whole { places = set whole.places place new; held = set whole.held place ls; owes = set whole.owes place n }
+with_place whole place new ls n = record whole {
+  places = set whole.places place new;
+  held = set whole.held place ls;
+  owes = set whole.owes place n;
+}
 
 -- a lock was taken or freed
 abbrev pub passed : Whole → Place → Place
@@ -30,7 +34,8 @@ begun_with p replies t w = record p { taken = replies; owed = []; transfer = t; 
 
 -- the entry of a message of the caller there, and that of a line step
 abbrev pub message_entry : Place → NextMsg → ℕ → Bool → List ℕ → Option Node → End → Entry
-message_entry p next addr reading bytes heard e = entry.Message p.number next.bus next.purpose next.part next.parts addr reading bytes heard e
+message_entry p next addr reading bytes heard e =
+    entry.Message p.number next.bus next.purpose next.part next.parts addr reading bytes heard e
 
 abbrev pub line_entry : Place → Job → Bool → Entry
 line_entry p job failed = entry.Line p.number (line_mux job) (line_level job) failed
@@ -38,7 +43,12 @@ line_entry p job failed = entry.Line p.number (line_mux job) (line_level job) fa
 -- a message was sent, with which so many of the caller's went through
 abbrev pub spoken : Whole → Place → Job → NextMsg → Bool → List ℕ → End → ℕ → Place
 spoken whole p job next reading bytes e gone =
-    record p { tree = behind_of whole.locks p.tree (Sent e bytes); sent = gone; got = got_after job reading bytes p.got; cut = message_cut next.purpose next.part e }
+    record p {
+      tree = behind_of whole.locks p.tree (Sent e bytes);
+      sent = gone;
+      got = got_after job reading bytes p.got;
+      cut = message_cut next.purpose next.part e;
+    }
 
 -- a line step was done
 abbrev pub switched : Whole → Place → Job → Bool → Place

@@ -94,7 +94,8 @@ pub record IsFairRun (run : Run) : Type 0 where
   pub lines : LinesAreLocked run.board
   pub sends : AsksForMessages run.asks
   pub costs : (c : ℕ) (rs : List Reply) (t : TransferView) → run.asks c rs ≡ Some t → 1 ≤ cost_of run.board t
-  pub falls : (c : ℕ) (rs : List Reply) (t : TransferView) (r : Reply) → run.asks c rs ≡ Some t → Fits t r → run.left c (rs ++ r ∷ []) + cost_of run.board t ≤ run.left c rs
+  pub falls : (c : ℕ) (rs : List Reply) (t : TransferView) (r : Reply) → run.asks c rs ≡ Some t → Fits t r
+      → run.left c (rs ++ r ∷ []) + cost_of run.board t ≤ run.left c rs
 
 -- where all stand between two steps: the journal, the newest entry first, with the room that it has left for entries and
 -- for their bytes; by place the callers, the locks that each has, the last one taken first, and what each owes; the lock
@@ -138,7 +139,8 @@ pub record CoreKept (run : Run) (whole : Whole) : Type 0 where
   pub counted : length whole.owes ≡ length whole.places
   pub seats : (i : ℕ) (p : Place) (ls : List LockId) (n : ℕ) → StandsAt whole i p ls n → SeatKept run p ls n
   pub table : TableKept run.board whole.locks (numbers_of whole.places) whole.held
-  pub sockets_kept : (k : ℕ) (y : RootPort) → slice_get whole.sockets k ≡ Some y → PortKept run.board run.tells (total whole.owes) (trees_of whole.places) y
+  pub sockets_kept : (k : ℕ) (y : RootPort) → slice_get whole.sockets k ≡ Some y
+      → PortKept run.board run.tells (total whole.owes) (trees_of whole.places) y
   -- the journal has room for all entries that are owed, and for their bytes and those that were read
   pub room_left : total whole.owes ≤ whole.room
   pub bytes_left : 2 * total whole.owes + pending whole.places ≤ whole.room_bytes
@@ -156,7 +158,8 @@ pub record IsSent (run : Run) (whole : Whole) (p : Place) (job : Job) (more : �
   pub marked : AreMarked run.board p.tree whole.locks (Sent e bytes) words
 
 -- a line step comes next of it, and was done there
-pub record IsShifted (run : Run) (whole : Whole) (p : Place) (job : Job) (at : ℕ) (old new : RootPort) (failed : Bool) (words : SeenView) : Type 0 where
+pub record IsShifted (run : Run) (whole : Whole) (p : Place) (job : Job) (at : ℕ) (old new : RootPort) (failed : Bool)
+    (words : SeenView) : Type 0 where
   pub first : next_of whole.locks p.tree ≡ Some (Shift job)
   pub port : slice_get whole.sockets at ≡ Some old
   pub rooted : old.root ≡ root_of run.board (job_bus job)

@@ -35,7 +35,8 @@ pub record IsOpened (run : Run) (whole : Whole) : Type 0 where
   pub loads : (i : ℕ) (p : Place) → slice_get whole.places i ≡ Some p → p.tree ≡ begun run.board (run.asks p.number [])
   pub seats : (i : ℕ) (p : Place) (n : ℕ) → slice_get whole.places i ≡ Some p → slice_get whole.owes i ≡ Some n → SeatKept run p [] n
   pub idle : (k : ℕ) (y : RootPort) → slice_get whole.sockets k ≡ Some y → y.phase ≡ Idle
-  pub worlds : IsTrue run.tells → (k : ℕ) (y : RootPort) → slice_get whole.sockets k ≡ Some y → (y.world ≡ opening_world run.board y.root) × (y.log ≡ [])
+  pub worlds : IsTrue run.tells → (k : ℕ) (y : RootPort) → slice_get whole.sockets k ≡ Some y
+      → (y.world ≡ opening_world run.board y.root) × (y.log ≡ [])
   pub room_left : total whole.owes ≤ whole.room
   pub bytes_left : 2 * total whole.owes ≤ whole.room_bytes
   pub most : 2 * total whole.owes ≤ MOST_CALLS

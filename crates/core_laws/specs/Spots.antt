@@ -55,7 +55,8 @@ pub record PortTold (n : Now) (x : RootPort) : Type 0 where
   pub log : x.log ≡ reverse (n.calls x.root)
 
 -- who settles next: nobody between two steps, the caller of a message that decides behind that message
-pub record IsTold (b : BoardView) (callers : ℕ) (asks : Asks) (past : List Entry) (spots : List Spot) (v : LocksView) (sockets : List RootPort) (due : Option ℕ) : Type 0 where
+pub record IsTold (b : BoardView) (callers : ℕ) (asks : Asks) (past : List Entry) (spots : List Spot) (v : LocksView)
+    (sockets : List RootPort) (due : Option ℕ) : Type 0 where
   pub stepwise : IsStepwise b callers asks past
   pub rests : (now b asks past).due ≡ due
   pub spots_told : (i : ℕ) (x : Spot) → slice_get spots i ≡ Some x → SpotTold b asks (now b asks past) x

@@ -36,16 +36,19 @@ abbrev pub behind_of : LocksView → WalkTree → ActOutcome → WalkTree
 behind_of v w out = rest_of (seen (slots_of (seen_of v)) w) out
 
 -- the message of a job was sent on the root of this socket; the caller's own is one of this transfer, of which so many went through
-pub record IsSaid (b : BoardView) (asks : Asks) (x : Spot) (v : LocksView) (t : TransferView) (gone : ℕ) (job : Job) (left : ℕ) (next : NextMsg) (old new : RootPort)
+pub record IsSaid (b : BoardView) (asks : Asks) (x : Spot) (v : LocksView) (t : TransferView) (gone : ℕ) (job : Job) (left : ℕ)
+    (next : NextMsg) (old new : RootPort)
     (addr : ℕ) (reading : Bool) (bytes : List ℕ) (heard : Option Node) (e : End) : Type 0 where
   pub first : next_of v x.tree ≡ Some (Send job left)
   pub of : IsMessageOf job left next
   pub rooted : old.root ≡ root_of b (job_bus job)
-  pub whose : (bus : ℕ) (ms : List MessageView) → job ≡ Call bus ms → (asks x.number (x.taken ++ x.owed) ≡ Some t) × (bus ≡ t.bus) × (ms ≡ messages_of t) × (gone + suc left ≡ length ms)
+  pub whose : (bus : ℕ) (ms : List MessageView) → job ≡ Call bus ms
+      → (asks x.number (x.taken ++ x.owed) ≡ Some t) × (bus ≡ t.bus) × (ms ≡ messages_of t) × (gone + suc left ≡ length ms)
   pub to_addr : addr ≡ (message_for t gone next.purpose next.control addr).addr
   pub in_direction : reading ≡ (message_for t gone next.purpose next.control addr).reading
   pub chip : IsChipAddress b next.purpose addr
-  pub has : HasSent b t next.purpose (message_for t gone next.purpose next.control addr) (ends_with next.purpose next.part next.parts) old new bytes heard e
+  pub has : HasSent b t next.purpose (message_for t gone next.purpose next.control addr)
+      (ends_with next.purpose next.part next.parts) old new bytes heard e
 
 -- a line step was done there
 pub record IsLined (b : BoardView) (x : Spot) (v : LocksView) (job : Job) (old new : RootPort) (failed : Bool) : Type 0 where
@@ -59,17 +62,22 @@ pub record IsLined (b : BoardView) (x : Spot) (v : LocksView) (job : Job) (old n
 pub record AreMarked (b : BoardView) (w : WalkTree) (v : LocksView) (out : ActOutcome) (words : SeenView) : Type 0 where
   pub all : length words.marks ≡ buses b
   pub counted : length words.kept ≡ length b.muxes
-  pub marked : (y : Slots) → TellsMarks y v.marks → TellsMarks (slots_after (next_of v w) (first_note (seen (slots_of (seen_of v)) w)) out y) words.marks
-  pub kept : (y : Slots) → TellsKept b y v.kept → TellsKept b (slots_after (next_of v w) (first_note (seen (slots_of (seen_of v)) w)) out y) words.kept
+  pub marked : (y : Slots) → TellsMarks y v.marks
+      → TellsMarks (slots_after (next_of v w) (first_note (seen (slots_of (seen_of v)) w)) out y) words.marks
+  pub kept : (y : Slots) → TellsKept b y v.kept
+      → TellsKept b (slots_after (next_of v w) (first_note (seen (slots_of (seen_of v)) w)) out y) words.kept
 
 -- what ports that tell show of a message
-pub record HasSaid (b : BoardView) (t : TransferView) (gone : ℕ) (next : NextMsg) (old new : RootPort) (addr : ℕ) (bytes : List ℕ) (heard : Option Node) (e : End) : Type 0 where
+pub record HasSaid (b : BoardView) (t : TransferView) (gone : ℕ) (next : NextMsg) (old new : RootPort) (addr : ℕ) (bytes : List ℕ)
+    (heard : Option Node) (e : End) : Type 0 where
   pub to_addr : addr ≡ (message_for t gone next.purpose next.control addr).addr
   pub chip : IsChipAddress b next.purpose addr
-  pub has : HasSent b t next.purpose (message_for t gone next.purpose next.control addr) (ends_with next.purpose next.part next.parts) old new bytes heard e
+  pub has : HasSent b t next.purpose (message_for t gone next.purpose next.control addr)
+      (ends_with next.purpose next.part next.parts) old new bytes heard e
 
 -- what every port gives by a message: it goes in its direction, and where it reads and went through it gives what it asks for
-pub record GivesBytes (b : BoardView) (t : TransferView) (gone : ℕ) (next : NextMsg) (addr : ℕ) (reading : Bool) (bytes : List ℕ) (e : End) : Type 0 where
+pub record GivesBytes (b : BoardView) (t : TransferView) (gone : ℕ) (next : NextMsg) (addr : ℕ) (reading : Bool) (bytes : List ℕ)
+    (e : End) : Type 0 where
   pub direction : reading ≡ (message_for t gone next.purpose next.control addr).reading
   pub gives : e ≡ end.Ok → reading ≡ true → Gives (block_limit b) (message_for t gone next.purpose next.control addr) bytes
 

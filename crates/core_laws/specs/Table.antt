@@ -31,6 +31,7 @@ pub record TableKept (b : BoardView) (v : LocksView) (numbers : List ℕ) (held 
   pub deep : length v.depths ≡ buses b
   pub ranked : (l : LockId) → IsLockOf b l → rank_in v l ≡ rank b l
   pub named : (l : LockId) (c : ℕ) → holder_in v l ≡ Some c → IsHeldBy numbers held l c
-  pub has : (i : ℕ) (ls : List LockId) (c : ℕ) → slice_get held i ≡ Some ls → slice_get numbers i ≡ Some c → (l : LockId) → InLocks l ls → holder_in v l ≡ Some c
+  pub has : (i : ℕ) (ls : List LockId) (c : ℕ) → slice_get held i ≡ Some ls → slice_get numbers i ≡ Some c → (l : LockId) → InLocks l ls
+      → holder_in v l ≡ Some c
   pub once : (i : ℕ) (ls : List LockId) → slice_get held i ≡ Some ls → IsOnce ls
   pub home : (p : ℕ) → IsMarkOn b p (slice_index_or v.marks p None)

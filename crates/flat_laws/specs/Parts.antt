@@ -24,7 +24,8 @@ talk_more l limit m ends cut a =
     else a
 
 -- what is said of a transfer grows by one message of a root's world
-pub record GrowsAlike (b : BoardView) (r : ℕ) (m : MessageView) (before : AllTold FlatListener) (t : TalkTold World) (all : AllTold FlatListener) : Type 0 where
+pub record GrowsAlike (b : BoardView) (r : ℕ) (m : MessageView) (before : AllTold FlatListener) (t : TalkTold World)
+    (all : AllTold FlatListener) : Type 0 where
   pub bytes : all.bytes ≡ with_read before.bytes m t
   pub end : all.end ≡ t.end
   pub now : Same b r t.now all.now

@@ -42,7 +42,8 @@ module _ {X : Type 0} (t : Table X) where
   one_fed f e j (suc i) (x ∷ xs) d within some none =
       let at : j + 1 + i ≡ j + suc i = omega arith in
       ap (λ o. given t o x ∷ feed t f (j + 1) xs) (none j (λ same. absurd (omega (arith, same))))
-      ∙ ap (λ rest. x ∷ rest) (one_fed f e (j + 1) i xs d (omega arith) (ap f at ∙ some) (λ k other. none k (λ same. other (same ∙ sym at))))
+      ∙ ap (λ rest. x ∷ rest) (one_fed f e (j + 1) i xs d (omega arith) (ap f at ∙ some)
+      (λ k other. none k (λ same. other (same ∙ sym at))))
 
   other : (n : ℕ) (e : Event) (k : ℕ) → k ≢ n → to_current (Some n) e k ≡ None
   other n e k ne = let differs : eqb n k ≡ false = ne_eqb n k (λ same. ne (sym same)) in rw differs refl
@@ -51,10 +52,12 @@ module _ {X : Type 0} (t : Table X) where
   itself n e = let same : eqb n n ≡ true = elim (eqb_tells n n) [ inl x ↦ x.0 | inr x ↦ absurd (x.1 refl) ] in rw same refl
 
   -- one target is told, where it is there
-  pub told_fed : (n : ℕ) (e : Event) (xs : List X) (d y : X) → n < length xs → y ≡ t.after (get_or xs n d) e → set xs n y ≡ feed t (to_current (Some n) e) 0 xs
+  pub told_fed : (n : ℕ) (e : Event) (xs : List X) (d y : X) → n < length xs → y ≡ t.after (get_or xs n d) e
+      → set xs n y ≡ feed t (to_current (Some n) e) 0 xs
   told_fed n e xs d y within made =
       ap (set xs n) made
-      ∙ sym (one_fed (to_current (Some n) e) e 0 n xs d within (ap (to_current (Some n) e) (zero-add n) ∙ itself n e) (λ k ne. other n e k (λ same. ne (same ∙ sym (zero-add n)))))
+      ∙ sym (one_fed (to_current (Some n) e) e 0 n xs d within (ap (to_current (Some n) e) (zero-add n) ∙ itself n e)
+      (λ k ne. other n e k (λ same. ne (same ∙ sym (zero-add n)))))
 
   pub absent_fed : (n : ℕ) (e : Event) (xs : List X) → length xs ≤ n → xs ≡ feed t (to_current (Some n) e) 0 xs
   absent_fed n e xs past = sym (none_fed (to_current (Some n) e) 0 xs (λ k low high. other n e k (λ same. absurd (omega (arith, same)))))
@@ -86,7 +89,8 @@ module _ {X : Type 0} (t : Table X) where
   by_start granted false c reading x = refl
 
   pub start_fed : (granted : Option ℕ) (named : List ℕ) (reading : Bool) (xs : List X)
-      → feed t (to_others granted named event.Other) 0 (feed t (to_current granted (event.Start reading)) 0 xs) ≡ feed t (flat_start granted named reading) 0 xs
+      → feed t (to_others granted named event.Other) 0 (feed t (to_current granted (event.Start reading)) 0 xs) ≡ feed t
+      (flat_start granted named reading) 0 xs
   start_fed granted named reading xs =
       fed_twice (to_current granted (event.Start reading)) (to_others granted named event.Other) (flat_start granted named reading)
       (λ k x. by_start granted (is_it granted k) (is_member k named) reading x) 0 xs
@@ -105,10 +109,13 @@ module _ {X : Type 0} (t : Table X) where
     front = take_more ns i 0 within ∙ ap (λ m. take i ns ++ m ∷ []) (sym is)
 
     more : (k : ℕ) → to_others one (take (i + 1) ns) e k ≡ cond (is_it one k) None (cond (is_member k (take i ns) || eqb n k) (Some e) None)
-    more k = ap (λ ms. to_others one ms e k) front ∙ ap (λ b. cond (is_it one k) None (cond b (Some e) None)) (is_member-push k n (take i ns))
+    more k = ap (λ ms. to_others one ms e k) front
+        ∙ ap (λ b. cond (is_it one k) None (cond b (Some e) None)) (is_member-push k n (take i ns))
 
-    told_one : (k : ℕ) (x : X) (o b c : Bool) → is_it one k ≡ o → is_member k (take i ns) ≡ b → eqb n k ≡ c → (c ≡ true → (o ≡ false) × (b ≡ false))
-        → given t (cond c (Some e) None) (given t (cond o None (cond b (Some e) None)) x) ≡ given t (cond o None (cond (b || c) (Some e) None)) x
+    told_one : (k : ℕ) (x : X) (o b c : Bool) → is_it one k ≡ o → is_member k (take i ns) ≡ b → eqb n k ≡ c
+        → (c ≡ true → (o ≡ false) × (b ≡ false))
+        → given t (cond c (Some e) None) (given t (cond o None (cond b (Some e) None)) x) ≡ given t
+        (cond o None (cond (b || c) (Some e) None)) x
     told_one k x true b true p q r apart = absurd (let f : true ≡ false = (apart refl).0 in cc)
     told_one k x true b false p q r apart = refl
     told_one k x false true true p q r apart = absurd (let f : true ≡ false = (apart refl).1 in cc)
@@ -124,22 +131,30 @@ module _ {X : Type 0} (t : Table X) where
             | inr x ↦ absurd (let f : true ≡ false = sym same ∙ x.0 in cc)
           ]
 
-      pub others_more : (xs : List X) → feed t (to_current (Some n) e) 0 (feed t (to_others one (take i ns) e) 0 xs) ≡ feed t (to_others one (take (i + 1) ns) e) 0 xs
+      pub others_more : (xs : List X)
+          → feed t (to_current (Some n) e) 0 (feed t (to_others one (take i ns) e) 0 xs) ≡ feed t (to_others one (take (i + 1) ns) e) 0 xs
       others_more xs =
           fed_twice (to_others one (take i ns) e) (to_current (Some n) e) (to_others one (take (i + 1) ns) e)
-          (λ k x. told_one k x (is_it one k) (is_member k (take i ns)) (eqb n k) refl refl refl (apart k) ∙ ap (λ o. given t o x) (sym (more k))) 0 xs
+          (λ k x. told_one k x (is_it one k) (is_member k (take i ns)) (eqb n k) refl refl refl (apart k)
+          ∙ ap (λ o. given t o x) (sym (more k))) 0 xs
 
-    skipped : (k : ℕ) (o b c : Bool) → (c ≡ true → o ≡ true) → cond o None (cond (b || c) (Some e) None) ≡ cond o None (cond b (Some e) None)
+    skipped : (k : ℕ) (o b c : Bool) → (c ≡ true → o ≡ true)
+        → cond o None (cond (b || c) (Some e) None) ≡ cond o None (cond b (Some e) None)
     skipped k true b c p = refl
     skipped k false true c p = refl
     skipped k false false true p = absurd (let f : false ≡ true = p refl in cc)
     skipped k false false false p = refl
 
-    pub others_passed : (xs : List X) → is_it one n ≡ true → feed t (to_others one (take i ns) e) 0 xs ≡ feed t (to_others one (take (i + 1) ns) e) 0 xs
+    pub others_passed : (xs : List X) → is_it one n ≡ true
+        → feed t (to_others one (take i ns) e) 0 xs ≡ feed t (to_others one (take (i + 1) ns) e) 0 xs
     others_passed xs passed =
         sym (feed-same t (to_others one (take i ns) e) (to_others one (take (i + 1) ns) e) 0 xs
         (λ k low high. more k ∙ skipped k (is_it one k) (is_member k (take i ns)) (eqb n k)
-        (λ same. elim (eqb_tells n k) [ inl x ↦ ap (is_it one) (sym x.1) ∙ passed | inr x ↦ absurd (let f : true ≡ false = sym same ∙ x.0 in cc) ])))
+        (λ same. elim (eqb_tells n k) [
+          | inl x ↦ ap (is_it one) (sym x.1)
+              ∙ passed
+          | inr x ↦ absurd (let f : true ≡ false = sym same ∙ x.0 in cc)
+        ])))
 
 -- a start for one device, and for those named before it
 pub states_started : (granted : Option ℕ) (named : List ℕ) (reading : Bool) (old read told kept again others new : List TargetState)
@@ -148,7 +163,8 @@ pub states_started : (granted : Option ℕ) (named : List ℕ) (reading : Bool) 
     → new ≡ feed state_table (flat_start granted named reading) 0 old
 states_started granted named reading old read told kept again others new same fed is next rest last =
     states_told (to_others granted named event.Other) kept again others new next rest last
-    ∙ ap (feed state_table (to_others granted named event.Other) 0) (states_told (to_current granted (event.Start reading)) old read told kept same fed is)
+    ∙ ap (feed state_table (to_others granted named event.Other) 0)
+    (states_told (to_current granted (event.Start reading)) old read told kept same fed is)
     ∙ start_fed state_table granted named reading old
 
 pub same_listener : (xs ys : List TargetState) (ms ns : List ℕ) (o p : Option ℕ) → xs ≡ ys → ms ≡ ns → o ≡ p

@@ -21,7 +21,8 @@ module _ {W : Type 0} (l : Listener W) (cut : Option ℕ) where
 
   call_fits : (t : Said W) (c : PortCall) (next : Said W → TalkTold W) (n : ℕ) → length t.bytes ≤ n
       → length (next (say l t c)).bytes ≤ n → length (call_then l cut t c next).bytes ≤ n
-  call_fits t c next n p q = either (is_it cut (length t.calls)) (told (say l t call.Fault) (end.Cut (length t.calls))) (next (say l t c)) n p q
+  call_fits t c next n p q = either (is_it cut (length t.calls)) (told (say l t call.Fault) (end.Cut (length t.calls)))
+      (next (say l t c)) n p q
 
   ended_fits : (stops : Bool) (t : Said W) (e : End) (n : ℕ) → length t.bytes ≤ n → length (ended l cut stops t e).bytes ≤ n
   ended_fits true t e n p = call_fits t call.Stop (λ s. told s e) n p p
@@ -31,11 +32,13 @@ module _ {W : Type 0} (l : Listener W) (cut : Option ℕ) where
   gets_fits last zero t n p = ended_fits last t end.Ok n (omega arith)
   gets_fits last (suc k) t n p =
       call_fits t (call.Get (nat_lt 0 k)) (λ s. gets l cut last k (with_byte s (l.gives t.now))) n (omega arith)
-      (gets_fits last k (with_byte (say l t (call.Get (nat_lt 0 k))) (l.gives t.now)) n (omega (arith, length-append t.bytes (l.gives t.now ∷ []))))
+      (gets_fits last k (with_byte (say l t (call.Get (nat_lt 0 k))) (l.gives t.now)) n
+      (omega (arith, length-append t.bytes (l.gives t.now ∷ []))))
 
   -- a count that isn't good is followed by one byte
   one_more_fits : (count : ℕ) (s t : Said W) (n : ℕ) → length s.bytes ≡ 0 → 2 ≤ n
-      → length (call_then l cut (with_byte s count) (call.Get false) (λ u. ended l cut true (with_byte u (l.gives t.now)) end.Proto)).bytes ≤ n
+      → length (call_then l cut (with_byte s count) (call.Get false) (λ u. ended l cut true (with_byte u (l.gives t.now)) end.Proto)).bytes
+      ≤ n
   one_more_fits count s t n none two =
       let one = length-append s.bytes (count ∷ []) in
       let after = say l (with_byte s count) (call.Get false) in
@@ -49,7 +52,8 @@ module _ {W : Type 0} (l : Listener W) (cut : Option ℕ) where
 
   by_count : (last : Bool) (limit len count : ℕ) (s t : Said W) (n : ℕ) → length s.bytes ≡ 0 → 2 ≤ n → limit + len ≤ n → 1 ≤ len
       → (b : Bool) → (b ≡ false → count ≤ limit)
-      → length (cond b (call_then l cut (with_byte s count) (call.Get false) (λ u. ended l cut true (with_byte u (l.gives t.now)) end.Proto))
+      → length (cond b (call_then l cut (with_byte s count) (call.Get false)
+      (λ u. ended l cut true (with_byte u (l.gives t.now)) end.Proto))
       (gets l cut last (count + len - 1) (with_byte s count))).bytes ≤ n
   by_count last limit len count s t n none two room some true small = one_more_fits count s t n none two
   by_count last limit len count s t n none two room some false small = good_fits last limit len count s n none room some (small refl)
@@ -62,7 +66,8 @@ module _ {W : Type 0} (l : Listener W) (cut : Option ℕ) where
   counted_fits last limit len t n two none room some =
       let s = say l t (call.Get true) in
       either (is_it cut (length t.calls)) (told (say l t call.Fault) (end.Cut (length t.calls))) _ n (omega arith)
-      (by_count last limit len (l.gives t.now) s s n none two room some ((eqb (l.gives t.now) 0) || nat_lt limit (l.gives t.now)) (good_count limit (l.gives t.now)))
+      (by_count last limit len (l.gives t.now) s s n none two room some ((eqb (l.gives t.now) 0) || nat_lt limit (l.gives t.now))
+      (good_count limit (l.gives t.now)))
 
   -- a message that reads
   read_fits : (last : Bool) (limit : ℕ) (m : MessageView) (counted : Bool) (t : Said W) (n : ℕ) → length t.bytes ≡ 0
@@ -97,7 +102,8 @@ module _ {W : Type 0} (l : Listener W) (cut : Option ℕ) where
       let n = size_of m in
       let view = message_with m bytes in
       let t = say l (silence w) (call.Start m.addr (is_read m)) in
-      call_fits (silence w) (call.Start m.addr (is_read m)) (λ s. by_answer l cut last limit view (l.answer w m.addr (is_read m)) s) n (omega arith)
+      call_fits (silence w) (call.Start m.addr (is_read m)) (λ s. by_answer l cut last limit view (l.answer w m.addr (is_read m)) s) n
+      (omega arith)
       (answered_fits last limit view (l.answer w m.addr (is_read m)) t n refl
       (if_true (is_read m) _ _ n reads
       (read_fits last limit view (is_counted m) t n refl
@@ -110,8 +116,10 @@ grown : {W : Type 0} (got : List ℕ) (m : MessageView) (t : TalkTold W) (readin
 grown got m t true n p = let h = p refl in omega (arith, length-append got t.bytes)
 grown got m t false n p = omega arith
 
-pub read_fits_room : {W : Type 0} (l : Listener W) (cut : Option ℕ) (last : Bool) (limit : ℕ) (w next : W) (m : Msg) (bytes got new : List ℕ) (e : End) → limit ≤ 255 → IsMessage m
-    → all_with new next e ≡ all_of got (message_with m bytes) (talk l limit w (message_with m bytes) last cut) → length new ≤ length got + size_of m
+pub read_fits_room : {W : Type 0} (l : Listener W) (cut : Option ℕ) (last : Bool) (limit : ℕ) (w next : W) (m : Msg)
+    (bytes got new : List ℕ) (e : End) → limit ≤ 255 → IsMessage m
+    → all_with new next e ≡ all_of got (message_with m bytes) (talk l limit w (message_with m bytes) last cut)
+    → length new ≤ length got + size_of m
 read_fits_room l cut last limit w next m bytes got new e small is told =
     let t = talk l limit w (message_with m bytes) last cut in
     let same : length new ≡ length (with_read got (message_with m bytes) t) = ap (λ (a : AllTold _). length a.bytes) told in

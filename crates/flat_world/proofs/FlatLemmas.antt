@@ -24,7 +24,8 @@ module _ (b : BoardView) (states : List TargetState) (t : TransferView) (cut : C
 
   pub replied : (o : Option Errno) (site : SiteView) (f : FlatListener) (got : List ℕ) (now : FlatListener) (e : End) (r : Reply)
       → o ≡ barred b t cut → o ≡ None → site ≡ record { board = b; bus = t.bus; force = t.force } → f ≡ idle states
-      → all_with got now e ≡ talk_all (once_listener (granted_on site.board site.bus site.force)) BLOCK_LIMIT f (messages_of t) 0 (cut_in cut) []
+      → all_with got now e ≡ talk_all (once_listener (granted_on site.board site.bus site.force)) BLOCK_LIMIT f (messages_of t) 0
+      (cut_in cut) []
       → r ≡ or_done (errno_of e) t got
       → ◌≡◌ {A = FlatTold} (record { reply = r; states = now.states }) (flat b states t cut)
   replied o site f got now e r is none there begun told said =

@@ -46,14 +46,17 @@ distinct_push : (ns : List ℕ) (n : ℕ) → IsDistinct eqb ns → is_member n 
 distinct_push [] n apart new = IsDistinct-cons eqb n [] tt none_distinct
 distinct_push (m ∷ ns) n apart new =
     let each = or_parts (eqb m n) (is_member n ns) new in
-    IsDistinct-cons eqb m (ns ++ n ∷ []) (all_push (λ k. eqb m k ≡ false) ns n (IsDistinct-head eqb m ns apart) each.0) (distinct_push ns n (IsDistinct-tail eqb m ns apart) each.1)
+    IsDistinct-cons eqb m (ns ++ n ∷ []) (all_push (λ k. eqb m k ≡ false) ns n (IsDistinct-head eqb m ns apart) each.0)
+    (distinct_push ns n (IsDistinct-tail eqb m ns apart) each.1)
 
 pub named_push : (ns : List ℕ) (n : ℕ) → AreNamed ns → n < MOST_DEVICES → is_member n ns ≡ false → AreNamed (ns ++ n ∷ [])
 named_push ns n are low new =
     record { once = distinct_push ns n are.once new; below = all_push (λ d. d < MOST_DEVICES) ns n are.below low }
 
-met_first : (P : ℕ → Type 0) (n q : ℕ) (ns : List ℕ) (b : Bool) → eqb q n ≡ b → P n → (list_any (eqb q) ns ≡ true → P q) → (b || list_any (eqb q) ns) ≡ true → P q
-met_first P n q ns true e here later met = elim (eqb_tells q n) [ inl x ↦ subst P (sym x.1) here | inr x ↦ absurd (let f : true ≡ false = sym e ∙ x.0 in cc) ]
+met_first : (P : ℕ → Type 0) (n q : ℕ) (ns : List ℕ) (b : Bool) → eqb q n ≡ b → P n → (list_any (eqb q) ns ≡ true → P q)
+    → (b || list_any (eqb q) ns) ≡ true → P q
+met_first P n q ns true e here later met = elim
+    (eqb_tells q n) [ inl x ↦ subst P (sym x.1) here | inr x ↦ absurd (let f : true ≡ false = sym e ∙ x.0 in cc) ]
 met_first P n q ns false e here later met = later met
 
 all_met : (P : ℕ → Type 0) (ns : List ℕ) (q : ℕ) → AllByRecursion P ns → list_any (eqb q) ns ≡ true → P q
@@ -71,7 +74,8 @@ pub none_named : (ns : List ℕ) → ns ≡ [] → AreNamed ns
 none_named ns e = rw e (record { once = none_distinct; below = tt })
 
 -- the same are named, once each or not
-once_met : (k d : ℕ) (ds : List ℕ) (b : Bool) → is_member d (once ds) ≡ b → is_member k (once ds) ≡ is_member k ds → is_member d (once ds) ≡ is_member d ds
+once_met : (k d : ℕ) (ds : List ℕ) (b : Bool) → is_member d (once ds) ≡ b → is_member k (once ds) ≡ is_member k ds
+    → is_member d (once ds) ≡ is_member d ds
     → is_member k (cond b (once ds) (once ds ++ d ∷ [])) ≡ (eqb d k || is_member k ds)
 once_met k d ds true is same at =
     elim (eqb_tells d k) [
@@ -113,7 +117,8 @@ or_busy : (n : ℕ) (g : Grant) (test : Bool) → IsBelow n g → IsBelow n (con
 or_busy n g true h = tt
 or_busy n g false h = h
 
-pub granted_small : (b : BoardView) (s a : ℕ) (force : Bool) (d : ℕ) → IsPlainBoard b → grant_of b s a force ≡ grant.Named d → d < MOST_DEVICES
+pub granted_small : (b : BoardView) (s a : ℕ) (force : Bool) (d : ℕ) → IsPlainBoard b → grant_of b s a force ≡ grant.Named d
+    → d < MOST_DEVICES
 granted_small b s a force d plain e =
     let n = length b.devices in
     let test : DeviceView → Bool = λ x. eqb x.addr a && is_on_path b s x.bus in
@@ -121,6 +126,7 @@ granted_small b s a force d plain e =
     or_busy n _ (some_chip b a (is_on_path b s))
     (or_busy n _ (some_chip b a (λ u. is_below b u s) || some_device b a (λ u. is_below b u s))
     (or_busy n _ (some_chip b a (is_aside b s) || some_device b a (is_aside b s))
-    (or_busy n _ (not force && some_bound b a (is_on_path b s)) (by_place n (position_from test 0 b.devices) (position_below test 0 b.devices))))) in
+    (or_busy n _ (not force && some_bound b a (is_on_path b s))
+    (by_place n (position_from test 0 b.devices) (position_below test 0 b.devices))))) in
     let here : d < n = subst (IsBelow n) e within in
     omega (arith, here, plain.most_devices)

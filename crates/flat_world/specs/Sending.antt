@@ -77,7 +77,8 @@ by_answer l cut last m answer.Nothing got v = with_got got (ended l cut 1 true v
 abbrev pub sent : Option ℕ → Option ℕ → Bool → MessageView → List ℕ → FlatListener → AllTold FlatListener
 sent granted cut last m got f =
     if is_it cut 0 then record { bytes = got; now = flat_stopped f; end = end.Cut 0 }
-    else by_answer behind_start cut last m (acknowledged (answer_of f.states granted (event.Start m.reading))) got (started granted m.reading f)
+    else by_answer behind_start cut last m (acknowledged (answer_of f.states granted (event.Start m.reading))) got
+    (started granted m.reading f)
 
 -- a transfer so far: what its reads gave, the listener, and how its last message ended
 abbrev pub all_with : {V : Type 0} → List ℕ → V → End → AllTold V

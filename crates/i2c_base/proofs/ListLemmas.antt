@@ -9,7 +9,8 @@ there (x ∷ xs) zero low = (x, refl)
 there (x ∷ xs) (suc i) low = there xs i (omega (arith, low))
 
 -- what stands there comes from what the list was made of
-pub map_from : {X Y : Type 0} (f : X → Y) (xs : List X) (i : ℕ) (y : Y) → slice_get (map f xs) i ≡ Some y → (x : X) × (slice_get xs i ≡ Some x) × (f x ≡ y)
+pub map_from : {X Y : Type 0} (f : X → Y) (xs : List X) (i : ℕ) (y : Y) → slice_get (map f xs) i ≡ Some y
+    → (x : X) × (slice_get xs i ≡ Some x) × (f x ≡ y)
 map_from f [] i y h = absurd (let g : None ≡ Some y = h in cc)
 map_from f (x ∷ xs) zero y h = (x, refl, (let g : Some (f x) ≡ Some y = h in cc))
 map_from f (x ∷ xs) (suc i) y h = map_from f xs i y h

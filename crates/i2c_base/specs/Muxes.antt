@@ -23,6 +23,14 @@ switch_of n = record { channels = Some n; bits = n; code = Bits; by_line = false
 abbrev pub facts_of : MuxKind → MuxFacts
 facts_of Pca9548 = switch_of 8
 facts_of Pca9546 = switch_of 4
-facts_of Pca9544 = record { channels = Some 4; bits = 3; code = Number 2; by_line = false; asks = false; wants_parent = false; may_stay = true }
+facts_of Pca9544 = record {
+  channels = Some 4;
+  bits = 3;
+  code = Number 2;
+  by_line = false;
+  asks = false;
+  wants_parent = false;
+  may_stay = true;
+}
 facts_of Pca9541 = record { channels = Some 1; bits = 1; code = Alone; by_line = false; asks = true; wants_parent = true; may_stay = false }
 facts_of Gpio = record { channels = None; bits = 0; code = Level; by_line = true; asks = false; wants_parent = true; may_stay = false }

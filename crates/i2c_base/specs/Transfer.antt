@@ -48,7 +48,8 @@ pub record HasRoom (msgs : List Msg) (len size : ℕ) : Type 0 where
 
 -- RECV_LEN stands only with READ and with a length of 1 or 2; a plain read asks for something
 abbrev pub IsMessage : Msg → Type 0
-IsMessage m = (m.len ≤ MOST_LENGTH) × (is_counted m ≡ true → (is_read m ≡ true) × (1 ≤ m.len) × (m.len ≤ 2)) × (is_read m ≡ true → 0 < m.len)
+IsMessage m = (m.len ≤ MOST_LENGTH) × (is_counted m ≡ true → (is_read m ≡ true) × (1 ≤ m.len) × (m.len ≤ 2))
+    × (is_read m ≡ true → 0 < m.len)
 
 -- what the type of a transfer keeps
 pub record IsTransfer (msgs : List Msg) (out : List ℕ) : Type 0 where

@@ -35,7 +35,13 @@ broken_holds b (suc (suc (suc (suc (suc (suc n)))))) i j f h = omega (arith, f.k
 pub broken_breaks : (b : BoardView) (r : RuleBroken) → TellsBroken b r → MeetsRules b → ⊥
 broken_breaks b r (i, j, first, second, f) meets =
     broken_holds b r.rule i j f
-    (record { first = λ e. meets.addresses; second = λ e. meets.depths; third = λ e. meets.locks; fourth = λ e. meets.parents; fifth = λ e. meets.idles })
+    (record {
+      first = λ e. meets.addresses;
+      second = λ e. meets.depths;
+      third = λ e. meets.locks;
+      fourth = λ e. meets.parents;
+      fifth = λ e. meets.idles;
+    })
 
 -- the rules before the first broken one hold
 before_holds : (b : BoardView) (rule before i j : ℕ) → IsFirstBroken b rule i j → before < rule → Holds b before
@@ -111,13 +117,15 @@ same_items b (suc (suc zero)) i j k l f g =
 same_items b (suc (suc (suc zero))) i j k l f g =
     under b i j k l (one_first (is_locked_under b) (length b.muxes) j l (f.third refl).0 (g.third refl).0) (f.third refl).1 (g.third refl).1
 same_items b (suc (suc (suc (suc zero)))) i j k l f g =
-    twice i j k l (one_first (is_wrongly_locked b) (length b.muxes) j l (f.fourth refl).0 (g.fourth refl).0) (f.fourth refl).1 (g.fourth refl).1
+    twice i j k l (one_first (is_wrongly_locked b) (length b.muxes) j l (f.fourth refl).0 (g.fourth refl).0) (f.fourth refl).1
+    (g.fourth refl).1
 same_items b (suc (suc (suc (suc (suc zero))))) i j k l f g =
     named b i j k l (one_first (breaks_idle b) (length b.muxes) i k (f.fifth refl).0 (g.fifth refl).0) (f.fifth refl).1 (g.fifth refl).1
 same_items b (suc (suc (suc (suc (suc (suc n)))))) i j k l f g = absurd (omega (arith, f.known.1))
 
 broken_of : (rule rule_now : ℕ) (one one_now other other_now : Item) → rule ≡ rule_now → one ≡ one_now → other ≡ other_now
-    → ◌≡◌ {A = RuleBroken} (record { rule = rule; first = one; second = other }) (record { rule = rule_now; first = one_now; second = other_now })
+    → ◌≡◌ {A = RuleBroken} (record { rule = rule; first = one; second = other })
+    (record { rule = rule_now; first = one_now; second = other_now })
 broken_of rule rule_now one one_now other other_now e f g = cc
 
 -- a board is told broken in one way

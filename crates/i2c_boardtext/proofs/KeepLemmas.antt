@@ -14,7 +14,8 @@ use Rattle.i2c_base.specs.Muxes.{facts_of}
 use Rattle.i2c_boardtext.specs.declared.devices.DeviceName.{DeviceName}
 
 -- by the rules, from the first on
-fit_at : (rules : List KeyRule) (ms : Members) (i : ℕ) (r : KeyRule) → list_all (is_fit ms) rules ≡ true → slice_get rules i ≡ Some r → is_fit ms r ≡ true
+fit_at : (rules : List KeyRule) (ms : Members) (i : ℕ) (r : KeyRule) → list_all (is_fit ms) rules ≡ true → slice_get rules i ≡ Some r
+    → is_fit ms r ≡ true
 fit_at [] ms i r all at = absurd (cc at)
 fit_at (x ∷ rules) ms zero r all at =
     let (here, more) = and_parts (is_fit ms x) (list_all (is_fit ms) rules) all in
@@ -24,12 +25,14 @@ fit_at (x ∷ rules) ms (suc i) r all at =
     let (here, more) = and_parts (is_fit ms x) (list_all (is_fit ms) rules) all in
     fit_at rules ms i r more at
 
-fits_all : (keys fitting : Bool) → (if not keys then Some fault.Key else if not fitting then Some fault.Value else None) ≡ None → fitting ≡ true
+fits_all : (keys fitting : Bool) → (if not keys then Some fault.Key else if not fitting then Some fault.Value else None) ≡ None
+    → fitting ≡ true
 fits_all false fitting h = absurd (cc h)
 fits_all true false h = absurd (cc h)
 fits_all true true h = refl
 
-kept : (rules : List KeyRule) (ms : Members) (i : ℕ) (r : KeyRule) → table_fault rules ms ≡ None → slice_get rules i ≡ Some r → fits_if_there r.test (get_member r.name ms) ≡ true
+kept : (rules : List KeyRule) (ms : Members) (i : ℕ) (r : KeyRule) → table_fault rules ms ≡ None → slice_get rules i ≡ Some r
+    → fits_if_there r.test (get_member r.name ms) ≡ true
 kept rules ms i r none at =
     fit_at rules ms i r (fits_all (are_listed rules ms && list_all (is_there ms) rules) (list_all (is_fit ms) rules) none) at
 
@@ -50,9 +53,11 @@ pub device_bus : (buses : ℕ) (name : DeviceName) (ms : Members) → table_faul
     → fits_if_there (bus_rule buses).test (get_member (codes "bus") ms) ≡ true
 device_bus buses name ms none = kept (device_rules buses name) ms 0 (bus_rule buses) none refl
 
-pub device_set : (buses : ℕ) (name : DeviceName) (size : ℕ) (ms : Members) → memory_of name ≡ Some size → table_fault (device_rules buses name) ms ≡ None
+pub device_set : (buses : ℕ) (name : DeviceName) (size : ℕ) (ms : Members) → memory_of name ≡ Some size
+    → table_fault (device_rules buses name) ms ≡ None
     → fits_if_there (set_rule size).test (get_member (codes "set") ms) ≡ true
 device_set buses name size ms e none =
     let rules : device_rules buses name ≡ every_device buses ++ set_rule size ∷ (device_row name).keys =
     ap (λ (m : Option ℕ). every_device buses ++ set_rules m ++ (device_row name).keys) e in
-    kept (every_device buses ++ set_rule size ∷ (device_row name).keys) ms 4 (set_rule size) (subst (λ (rs : List KeyRule). table_fault rs ms ≡ None) rules none) refl
+    kept (every_device buses ++ set_rule size ∷ (device_row name).keys) ms 4 (set_rule size)
+    (subst (λ (rs : List KeyRule). table_fault rs ms ≡ None) rules none) refl

@@ -8,7 +8,8 @@ use Rattle.i2c_spec.specs.Tree.{buses_of}
 use Rattle.i2c_spec.proofs.HopLemmas.{buses_of-reverse}
 use Rattle.i2c_spec.proofs.PlainLemmas.{channels_le}
 
-pub planted-push : (roots : ℕ) (ms : List MuxSpec) (m : MuxSpec) → IsPlanted roots (reverse ms) → m.bus < buses_of roots ms → IsPlanted roots (reverse (ms ++ m ∷ []))
+pub planted-push : (roots : ℕ) (ms : List MuxSpec) (m : MuxSpec) → IsPlanted roots (reverse ms) → m.bus < buses_of roots ms
+    → IsPlanted roots (reverse (ms ++ m ∷ []))
 planted-push roots ms m before here =
     rw (reverse-append ms (m ∷ [])) (rw (buses_of-reverse roots ms) here, before)
 

@@ -28,12 +28,16 @@ pub rows_same : (vs : List Value) (ds : List Data) → map view vs ≡ ds → ro
 rows_same vs ds same = mapped members_in vs ∙ ap (map members_in) same
 
 -- the next table of an array
-pub next_row : {X : Type 0} (name : TableName) (read : List X → Members → Result X TableFault) (before : List X) (vs : List Value) (i : ℕ) (v : Value) → i < length vs
-    → each name read before (rows_of (drop i vs)) ≡ (placed name (length before) (read before (row_of (get_or vs i v))) >>= λ x. each name read (before ++ x ∷ []) (rows_of (drop (i + 1) vs)))
+pub next_row : {X : Type 0} (name : TableName) (read : List X → Members → Result X TableFault) (before : List X) (vs : List Value) (i : ℕ)
+    (v : Value) → i < length vs
+    → each name read before (rows_of (drop i vs)) ≡
+    (placed name (length before) (read before (row_of (get_or vs i v))) >>= λ x. each name read (before ++ x ∷ [])
+    (rows_of (drop (i + 1) vs)))
 next_row name read before vs i v within = rw (drop_more vs i v within)
 
 -- one table more is read: the value at a place, as a table, under its number
-pub read_more : {X : Type 0} (name : TableName) (read : List X → Members → Result X TableFault) (before new : List X) (x : X) (whole : Result (List X) BoardFault)
+pub read_more : {X : Type 0} (name : TableName) (read : List X → Members → Result X TableFault) (before new : List X) (x : X)
+    (whole : Result (List X) BoardFault)
     (vs : List Value) (i : ℕ) (v : Value) (ms : Members) (n : ℕ) → i < length vs
     → v ≡ get_or vs i v → ms ≡ row_of v → n ≡ length before → placed name n (read before ms) ≡ Ok x → new ≡ before ++ x ∷ []
     → each name read before (rows_of (drop i vs)) ≡ whole → each name read new (rows_of (drop (i + 1) vs)) ≡ whole
@@ -42,11 +46,13 @@ read_more name read before new x whole vs i v ms n within at row index ok same t
     ∙ ap (λ m. placed name (length before) (read before m)) (sym row)
     ∙ ap (λ k. placed name k (read before ms)) (sym index)
     ∙ ok in
-    let next = next_row name read before vs i v within ∙ ap (λ r. r >>= λ y. each name read (before ++ y ∷ []) (rows_of (drop (i + 1) vs))) here in
+    let next = next_row name read before vs i v within
+    ∙ ap (λ r. r >>= λ y. each name read (before ++ y ∷ []) (rows_of (drop (i + 1) vs))) here in
     rw same (sym next ∙ told)
 
 -- where no table is left, those that were read are the whole
-pub all_read : {X : Type 0} (name : TableName) (read : List X → Members → Result X TableFault) (before : List X) (whole : Result (List X) BoardFault) (vs : List Value) (i : ℕ)
+pub all_read : {X : Type 0} (name : TableName) (read : List X → Members → Result X TableFault) (before : List X)
+    (whole : Result (List X) BoardFault) (vs : List Value) (i : ℕ)
     → length vs ≤ i → each name read before (rows_of (drop i vs)) ≡ whole → whole ≡ Ok before
 all_read name read before whole vs i over told = sym told ∙ at_drop_all (λ left. each name read before (rows_of left)) vs i over
 
@@ -67,12 +73,14 @@ fails_with (board_fault.Value table index) p is = sym is
 fails_with (board_fault.Limit which count) p is = sym is
 
 -- the fault that is handed on
-pub gives_err : {V Y : Type 0} (look : V → Y) (r : Result V BoardFault) (e : BoardFault) (read : Result Y BoardFault) → IsErrAnd r (λ x. x ≡ e) → Fails e read → Gives look r read
+pub gives_err : {V Y : Type 0} (look : V → Y) (r : Result V BoardFault) (e : BoardFault) (read : Result Y BoardFault)
+    → IsErrAnd r (λ x. x ≡ e) → Fails e read → Gives look r read
 gives_err look (Ok x) e read is fails = absurd is
 gives_err look (Err x) e read is fails = subst (λ f. Fails f read) (sym is) fails
 
 -- .. and a table with a fault is the fault of the whole
-pub fault_read : {X V : Type 0} (look : V → List X) (name : TableName) (read : List X → Members → Result X TableFault) (before : List X) (whole : Result (List X) BoardFault)
+pub fault_read : {X V : Type 0} (look : V → List X) (name : TableName) (read : List X → Members → Result X TableFault) (before : List X)
+    (whole : Result (List X) BoardFault)
     (vs : List Value) (i : ℕ) (v : Value) (ms : Members) (n : ℕ) (e : BoardFault) (r : Result V BoardFault) → i < length vs
     → v ≡ get_or vs i v → ms ≡ row_of v → n ≡ length before → Fails e (placed name n (read before ms))
     → each name read before (rows_of (drop i vs)) ≡ whole → IsErrAnd r (λ x. x ≡ e) → Gives look r whole

@@ -54,7 +54,12 @@ told size start bytes h =
     let (from, rest) = and_parts (is_in 0 size start) _ h in
     let (some, rest) = and_parts (nat_le 1 (length bytes)) _ rest in
     let (fit, to) = and_parts (list_all (is_in 0 255) bytes) (nat_le (number start + length bytes) size) rest in
-    record { from = number_within 0 size start from; some = leb-true 1 (length bytes) some; bytes_fit = fit; to = leb-true (number start + length bytes) size to }
+    record {
+      from = number_within 0 size start from;
+      some = leb-true 1 (length bytes) some;
+      bytes_fit = fit;
+      to = leb-true (number start + length bytes) size to;
+    }
 
 cut_run_same : (size : ℕ) (ds : List Data) → size ≤ 32768 → is_run_of size ds ≡ true → cut_run_of ds ≡ run_of ds
 cut_run_same size [] most h = absurd (false≢true h)
@@ -67,10 +72,15 @@ plain_run : (size : ℕ) (ds : List Data) → is_run_of size ds ≡ true → IsP
 plain_run size [] h = absurd (false≢true h)
 plain_run size (start ∷ bytes) h =
     let t = told size start bytes h in
-    record { some = omega (arith, length-map bytes number, t.some); within = omega (arith, length-map bytes number, t.to); bytes = are_bytes bytes t.bytes_fit }
+    record {
+      some = omega (arith, length-map bytes number, t.some);
+      within = omega (arith, length-map bytes number, t.to);
+      bytes = are_bytes bytes t.bytes_fit;
+    }
 
 -- the runs of an array
-cut_runs_same : (size : ℕ) (ds : List Data) → size ≤ 32768 → list_all (is_run size) ds ≡ true → map cut_run ds ≡ map (λ run. run_of (elements run)) ds
+cut_runs_same : (size : ℕ) (ds : List Data) → size ≤ 32768 → list_all (is_run size) ds ≡ true
+    → map cut_run ds ≡ map (λ run. run_of (elements run)) ds
 cut_runs_same size [] most h = refl
 cut_runs_same size (d ∷ ds) most h =
     let (here, more) = and_parts (is_run size d) (list_all (is_run size) ds) h in
@@ -80,10 +90,12 @@ plain_runs : (size : ℕ) (ds : List Data) → list_all (is_run size) ds ≡ tru
 plain_runs size [] h = λ k d within. absurd (omega arith)
 plain_runs size (d ∷ ds) h =
     let (here, more) = and_parts (is_run size d) (list_all (is_run size) ds) h in
-    All-cons (IsPlainRun size) (run_of (elements d)) (map (λ run. run_of (elements run)) ds) (plain_run size (elements d) here) (plain_runs size ds more)
+    All-cons (IsPlainRun size) (run_of (elements d)) (map (λ run. run_of (elements run)) ds) (plain_run size (elements d) here)
+    (plain_runs size ds more)
 
 -- each element of an array that passes a test of its elements
-array_passes : (test : Data → Bool) (o : Option (List Data)) → unwrap_or (option_map (list_all test) o) false ≡ true → list_all test (unwrap_or o []) ≡ true
+array_passes : (test : Data → Bool) (o : Option (List Data)) → unwrap_or (option_map (list_all test) o) false ≡ true
+    → list_all test (unwrap_or o []) ≡ true
 array_passes test None h = refl
 array_passes test (Some ds) h = h
 

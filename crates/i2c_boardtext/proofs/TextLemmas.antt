@@ -13,7 +13,8 @@ pub read : (text : List ℕ) (ms : Members) → IsUtf8 text → parse_document t
 read text ms utf8 found = rw (is_utf8-from_IsUtf8 text utf8, found)
 
 -- a refusal that isn't for memory
-pub refused : (text : List ℕ) (memory : Bool) (P : Type 0) → memory ≡ false → (IsTrue memory ↔ P) → ((P → ⊥) → IsUtf8 text → parse_document text ≡ None)
+pub refused : (text : List ℕ) (memory : Bool) (P : Type 0) → memory ≡ false → (IsTrue memory ↔ P)
+    → ((P → ⊥) → IsUtf8 text → parse_document text ≡ None)
     → document_of text ≡ Err NotToml
 refused text memory P other told none =
     elim (cases_Bool (is_utf8 text)) [

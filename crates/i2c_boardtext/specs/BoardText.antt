@@ -50,7 +50,8 @@ mux_of buses ms = kind_in mux_named (get_member (codes "kind") ms) >>= λ kind. 
 
 -- the kind of a device with nothing wrong with its table
 abbrev pub tested_device : ℕ → Members → Result DeviceName TableFault
-tested_device buses ms = kind_in device_named (get_member (codes "kind") ms) >>= λ name. unless (table_fault (device_rules buses name) ms) name
+tested_device buses ms = kind_in device_named (get_member (codes "kind") ms) >>= λ name. unless
+    (table_fault (device_rules buses name) ms) name
 
 abbrev pub device_of : ℕ → Members → Result DeviceView TableFault
 device_of buses ms = tested_device buses ms >>= λ name. Ok (device_value name ms)
@@ -78,7 +79,8 @@ limit_fault roots muxes devices =
     else None
 
 abbrev pub top_of : Members → Result TopView BoardFault
-top_of ms = placed Top 0 (table_of top_rules top_value ms) >>= λ t. unless (limit_fault (length t.roots) (length t.muxes) (length t.devices)) t
+top_of ms = placed Top 0 (table_of top_rules top_value ms) >>= λ t. unless
+    (limit_fault (length t.roots) (length t.muxes) (length t.devices)) t
 
 abbrev pub roots_of : List Members → Result (List RootSpec) BoardFault
 roots_of ts = each Root (λ before. root_of) [] ts

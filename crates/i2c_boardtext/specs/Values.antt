@@ -42,7 +42,11 @@ pub record TopView : Type 0 where
   pub devices : List Members
 
 abbrev pub top_value : Members → TopView
-top_value ms = record { roots = tables_in (get_member (codes "root") ms); muxes = tables_in (get_member (codes "mux") ms); devices = tables_in (get_member (codes "device") ms) }
+top_value ms = record {
+  roots = tables_in (get_member (codes "root") ms);
+  muxes = tables_in (get_member (codes "mux") ms);
+  devices = tables_in (get_member (codes "device") ms);
+}
 
 abbrev pub root_value : Members → RootSpec
 root_value ms = record { smbus_only = word_or offers_named false (get_member (codes "offers") ms) }

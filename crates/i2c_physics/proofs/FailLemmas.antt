@@ -25,14 +25,16 @@ said-passed {T} p x y b passed is same =
 
 module _ (p : FailView) (sim new : PortView) (fails : List ℕ) (c : PortCall) (b : Bool) (is : b ≡ fails_next p)
     (view : record { port = sim; fails = fails } ≡ p) where
-  pub after-failed : (phase : Phase) → b ≡ true → new ≡ called sim call.Fault Idle → record { port = new; fails = fails } ≡ after_next p c phase
+  pub after-failed : (phase : Phase) → b ≡ true → new ≡ called sim call.Fault Idle
+      → record { port = new; fails = fails } ≡ after_next p c phase
   after-failed phase failed after =
       ap (λ (q : PortView). record { port = q; fails = fails }) after
       ∙ ap (λ (v : FailView). record v { port = called v.port call.Fault Idle }) view
       ∙ ap (λ (f : Bool). record p { port = if f then called p.port call.Fault Idle else called p.port c phase }) (sym failed ∙ is)
 
   pub after-passed
-      : (phase : PortView → Phase) → b ≡ false → new ≡ called sim c (phase sim) → record { port = new; fails = fails } ≡ after_next p c (phase p.port)
+      : (phase : PortView → Phase) → b ≡ false → new ≡ called sim c (phase sim)
+      → record { port = new; fails = fails } ≡ after_next p c (phase p.port)
   after-passed phase passed after =
       ap (λ (q : PortView). record { port = q; fails = fails }) after
       ∙ ap (λ (v : FailView). record v { port = called v.port c (phase v.port) }) view
@@ -53,7 +55,8 @@ module _ (calls : List (ℕ × ℕ)) (root i : ℕ) (x : ℕ × ℕ) (b : Bool) 
   one_more : (c : Bool) → b ≡ c → map number (those ++ cond c (x ∷ []) []) ≡ fails_on (take (i + 1) calls) root
   one_more c known =
       ap (λ (h : Bool). map number (those ++ cond h (x ∷ []) [])) (sym known ∙ same)
-      ∙ ap (λ (y : ℕ × ℕ). map number (those ++ cond (of_root y) (y ∷ []) [])) is ∙ ap (map number) (sym (filter_more of_root calls i x low))
+      ∙ ap (λ (y : ℕ × ℕ). map number (those ++ cond (of_root y) (y ∷ []) [])) is
+      ∙ ap (map number) (sym (filter_more of_root calls i x low))
 
   pub listed-more : (new : List ℕ) → b ≡ true → new ≡ old ++ x.1 ∷ [] → new ≡ fails_on (take (i + 1) calls) root
   listed-more new listed grown =

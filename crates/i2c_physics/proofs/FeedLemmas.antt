@@ -33,12 +33,15 @@ use Rattle.i2c_physics.proofs.WiredAndLemmas.{answers-same, length-feed}
 use Rattle.i2c_physics.proofs.WorldLemmas.{chip-hears, device-hears, hearers_told}
 
 -- what is told, as of the fields
-module _ {X : Type 0} (t : Table X) (e : Event) (told numbers : List ℕ) (xs ys : List X) (same_numbers : told ≡ numbers) (same : ys ≡ xs) where
+module _ {X : Type 0} (t : Table X) (e : Event) (told numbers : List ℕ) (xs ys : List X) (same_numbers : told ≡ numbers)
+    (same : ys ≡ xs) where
   pub fed-on : (new kept : List X) → kept ≡ new → new ≡ feed t (to_those told e) 0 ys → kept ≡ feed t (to_those numbers e) 0 xs
   fed-on new kept is fed = is ∙ fed ∙ ap (λ ns. feed t (to_those ns e) 0 ys) same_numbers ∙ ap (feed t (to_those numbers e) 0) same
 
-  pub said-on : {A : Type 0} (R : List (ℕ × Answer) → A) (r : A) → r ≡ R (answers t (to_those told e) 0 ys) → r ≡ R (answers t (to_those numbers e) 0 xs)
-  said-on R r said = said ∙ ap (λ ns. R (answers t (to_those ns e) 0 ys)) same_numbers ∙ ap (λ zs. R (answers t (to_those numbers e) 0 zs)) same
+  pub said-on : {A : Type 0} (R : List (ℕ × Answer) → A) (r : A) → r ≡ R (answers t (to_those told e) 0 ys)
+      → r ≡ R (answers t (to_those numbers e) 0 xs)
+  said-on R r said = said ∙ ap (λ ns. R (answers t (to_those ns e) 0 ys)) same_numbers
+      ∙ ap (λ zs. R (answers t (to_those numbers e) 0 zs)) same
 
 -- a start is told to two lists
 module _ {X : Type 0} (t : Table X) (e : Event) {told calls : List ℕ} {ys xs : List X} (same_called : told ≡ calls) (same : ys ≡ xs) where
@@ -50,17 +53,27 @@ module _ {X : Type 0} (t : Table X) (e : Event) {told calls : List ℕ} {ys xs :
       ∙ ap (λ ns. feed t (to_those rest event.Other) 0 (feed t (to_those ns e) 0 ys)) same_called
       ∙ ap (λ zs. feed t (to_those rest event.Other) 0 (feed t (to_those calls e) 0 zs)) same
 
-pub either-on : {count n : ℕ} {has had started begun : List ℕ} → count ≡ n → has ≡ had → begun ≡ started → union_of count has begun ≡ union_of n had started
-either-on {count} {n} {has} {had} {started} {begun} e f g = ap (λ m. union_of m has begun) e ∙ ap (λ ns. union_of n ns begun) f ∙ ap (union_of n had) g
+pub either-on : {count n : ℕ} {has had started begun : List ℕ} → count ≡ n → has ≡ had → begun ≡ started
+    → union_of count has begun ≡ union_of n had started
+either-on {count} {n} {has} {had} {started} {begun} e f g = ap (λ m. union_of m has begun) e ∙ ap (λ ns. union_of n ns begun) f
+    ∙ ap (union_of n had) g
 
 pub start-by : {j k chips devices : WiredAnd} → j ≡ chips → k ≡ devices → start_answer j k ≡ start_answer chips devices
 start-by {j} {k} {chips} {devices} e f = ap (λ x. start_answer x k) e ∙ ap (start_answer chips) f
 
 abbrev pub world_of : BoardView → ℕ → List ChipView → List TargetState → List ℕ → List ℕ → Bool → World
 world_of b root chips states heard_chips heard_devices busy =
-    record { board = b; root = root; chips = chips; devices = seen_on b root b.devices states; hearing = nodes_of heard_chips heard_devices; busy = busy }
+    record {
+      board = b;
+      root = root;
+      chips = chips;
+      devices = seen_on b root b.devices states;
+      hearing = nodes_of heard_chips heard_devices;
+      busy = busy;
+    }
 
-module _ (b : BoardView) (root : ℕ) (muxes places : List PlaceView) (chips : List ChipView) (states : List TargetState) (cr dr : Reach) (busy : Bool)
+module _ (b : BoardView) (root : ℕ) (muxes places : List PlaceView) (chips : List ChipView) (states : List TargetState) (cr dr : Reach)
+    (busy : Bool)
     (inv : IsSimWorld b root muxes places chips states cr dr) where
   abbrev world : World
   world = world_of b root chips states cr.hearing.items dr.hearing.items busy
@@ -86,17 +99,21 @@ module _ (b : BoardView) (root : ℕ) (muxes places : List PlaceView) (chips : L
   module _ (e : Event) where
     pub chips-answer : answers chip_table (to_those cr.hearing.items e) 0 chips ≡ answers chip_table (to_chips world e) 0 chips
     chips-answer =
-        answers-same chip_table (to_chips world e) (to_those cr.hearing.items e) 0 chips (λ k at low. chip-hears world cr.hearing.items dr.hearing.items refl e k)
+        answers-same chip_table (to_chips world e) (to_those cr.hearing.items e) 0 chips
+        (λ k at low. chip-hears world cr.hearing.items dr.hearing.items refl e k)
 
-    pub devices-answer : answers state_table (to_those dr.hearing.items e) 0 states ≡ answers state_table (to_devices world e) 0 (seen_on b root b.devices states)
+    pub devices-answer : answers state_table (to_those dr.hearing.items e) 0 states ≡ answers state_table (to_devices world e) 0
+        (seen_on b root b.devices states)
     devices-answer =
         sym (answers-seen b root (to_those dr.hearing.items e) (not_hearing e) states inv.devices_are)
         ∙ answers-same state_table (to_devices world e) (to_those dr.hearing.items e) 0 (seen_on b root b.devices states)
         (λ k at low. device-hears world cr.hearing.items dr.hearing.items refl e k)
 
-    module _ (new_chips : List ChipView) (new_states : List TargetState) (chips_new : new_chips ≡ feed chip_table (to_those cr.hearing.items e) 0 chips)
+    module _ (new_chips : List ChipView) (new_states : List TargetState)
+        (chips_new : new_chips ≡ feed chip_table (to_those cr.hearing.items e) 0 chips)
         (states_new : new_states ≡ feed state_table (to_those dr.hearing.items e) 0 states) (rc rd : Reach)
-        (rcs : rc.started ≡ cr.started) (rch : rc.hearing ≡ cr.hearing) (rds : rd.started ≡ dr.started) (rdh : rd.hearing ≡ dr.hearing) where
+        (rcs : rc.started ≡ cr.started) (rch : rc.hearing ≡ cr.hearing) (rds : rd.started ≡ dr.started)
+        (rdh : rd.hearing ≡ dr.hearing) where
       pub sent-kept : IsSimWorld b root muxes places new_chips new_states rc rd
       sent-kept = record {
         plain = inv.plain;
@@ -105,14 +122,17 @@ module _ (b : BoardView) (root : ℕ) (muxes places : List PlaceView) (chips : L
         chips_are = ap length chips_new ∙ length-feed chip_table (to_those cr.hearing.items e) 0 chips ∙ inv.chips_are;
         devices_are = ap length states_new ∙ length-feed state_table (to_those dr.hearing.items e) 0 states ∙ inv.devices_are;
         chips_reached = rw (chips_new, rcs, rch) (reached-sent chip_table chips cr.started.items cr.hearing.items inv.chips_reached e);
-        devices_reached = rw (states_new, rds, rdh) (reached-sent state_table states dr.started.items dr.hearing.items inv.devices_reached e);
+        devices_reached = rw (states_new, rds, rdh)
+            (reached-sent state_table states dr.started.items dr.hearing.items inv.devices_reached e);
         reached_own = rw rds inv.reached_own;
       }
 
       pub sent-is : world_of b root new_chips new_states rc.hearing.items rd.hearing.items busy ≡ sent_on world e
       sent-is =
-          let to_all = feed-same chip_table (to_chips world e) (to_those cr.hearing.items e) 0 chips (λ k at low. chip-hears world cr.hearing.items dr.hearing.items refl e k) in
-          let all_devices : seen_on b root b.devices new_states ≡ feed state_table (to_devices world e) 0 (seen_on b root b.devices states) =
+          let to_all = feed-same chip_table (to_chips world e) (to_those cr.hearing.items e) 0 chips
+          (λ k at low. chip-hears world cr.hearing.items dr.hearing.items refl e k) in
+          let all_devices : seen_on b root b.devices new_states ≡ feed state_table (to_devices world e) 0
+          (seen_on b root b.devices states) =
           ap (seen_on b root b.devices) states_new ∙ sym (feed-seen b root (to_those dr.hearing.items e) (not_hearing e) states)
           ∙ feed-same state_table (to_devices world e) (to_those dr.hearing.items e) 0 (seen_on b root b.devices states)
           (λ k at low. device-hears world cr.hearing.items dr.hearing.items refl e k) in
@@ -129,14 +149,18 @@ module _ (b : BoardView) (root : ℕ) (muxes places : List PlaceView) (chips : L
         → left_devices.started.items ≡ filter (λ k. not (joins_at chips places k)) dr.started.items → left_devices.hearing.items ≡ []
         → IsSimWorld b root muxes places new_chips new_states left_chips left_devices
     stopped-kept stops left_chips left_devices lc lch ld ldh =
-        let kept_chips = reached-stopped chip_table chips cr.started.items cr.hearing.items inv.chips_reached (joins_at chips muxes) stops in
-        let kept_states = reached-stopped state_table states dr.started.items dr.hearing.items inv.devices_reached (joins_at chips places) states_fair.stops in
+        let kept_chips = reached-stopped chip_table chips cr.started.items cr.hearing.items inv.chips_reached
+        (joins_at chips muxes) stops in
+        let kept_states = reached-stopped state_table states dr.started.items dr.hearing.items inv.devices_reached
+        (joins_at chips places) states_fair.stops in
         record {
           plain = inv.plain;
           mux_places = inv.mux_places;
           device_places = inv.device_places;
-          chips_are = ap length chips_new ∙ length-feed chip_table (to_those (filter (joins_at chips muxes) cr.started.items) event.Stop) 0 chips ∙ inv.chips_are;
-          devices_are = ap length states_new ∙ length-feed state_table (to_those (filter (joins_at chips places) dr.started.items) event.Stop) 0 states ∙ inv.devices_are;
+          chips_are = ap length chips_new
+              ∙ length-feed chip_table (to_those (filter (joins_at chips muxes) cr.started.items) event.Stop) 0 chips ∙ inv.chips_are;
+          devices_are = ap length states_new
+              ∙ length-feed state_table (to_those (filter (joins_at chips places) dr.started.items) event.Stop) 0 states ∙ inv.devices_are;
           chips_reached = rw (chips_new, lc, lch) kept_chips;
           devices_reached = rw (states_new, ld, ldh) kept_states;
           reached_own = rw ld (λ k left. inv.reached_own k (filter-among (λ m. not (joins_at chips places m)) dr.started.items k left).0);
@@ -147,14 +171,23 @@ module _ (b : BoardView) (root : ℕ) (muxes places : List PlaceView) (chips : L
         let all_chips = chips_new ∙ stopped-fed chip_table chips cr.started.items cr.hearing.items inv.chips_reached (joins_at chips muxes)
         ∙ feed-same chip_table (λ m. stop_event (joins_chip world m)) (λ k. stop_event (joins_at chips muxes k)) 0 chips
         (λ k at low. chip-stopped world muxes k inv.mux_places (low_chip k low)) in
-        let all_states = states_new ∙ stopped-fed state_table states dr.started.items dr.hearing.items inv.devices_reached (joins_at chips places) in
-        let all_devices : seen_on b root b.devices new_states ≡ feed state_table (λ d. stop_event (joins_device world d)) 0 (seen_on b root b.devices states) =
+        let all_states = states_new ∙ stopped-fed state_table states dr.started.items dr.hearing.items inv.devices_reached
+        (joins_at chips places) in
+        let all_devices : seen_on b root b.devices new_states ≡ feed state_table (λ d. stop_event (joins_device world d)) 0
+        (seen_on b root b.devices states) =
         ap (seen_on b root b.devices) all_states
         ∙ sym (feed-seen b root (λ k. stop_event (joins_at chips places k)) (λ k other. ap stop_event (not_joined k other)) states)
-        ∙ feed-same state_table (λ d. stop_event (joins_device world d)) (λ k. stop_event (joins_at chips places k)) 0 (seen_on b root b.devices states)
+        ∙ feed-same state_table (λ d. stop_event (joins_device world d)) (λ k. stop_event (joins_at chips places k)) 0
+        (seen_on b root b.devices states)
         (λ k at low. device-stopped world places k inv.device_places (low_device k low)) in
-        ap (λ (cs : List ChipView). record world { chips = cs; devices = seen_on b root b.devices new_states; hearing = []; busy = false }) all_chips
-        ∙ ap (λ (ds : List TargetState). record world { chips = feed chip_table (λ m. stop_event (joins_chip world m)) 0 chips; devices = ds; hearing = []; busy = false }) all_devices
+        ap (λ (cs : List ChipView). record world { chips = cs; devices = seen_on b root b.devices new_states; hearing = []; busy = false })
+        all_chips
+        ∙ ap (λ (ds : List TargetState). record world {
+          chips = feed chip_table (λ m. stop_event (joins_chip world m)) 0 chips;
+          devices = ds;
+          hearing = [];
+          busy = false;
+        }) all_devices
 
   -- a start
   module _ (a : ℕ) (reading : Bool) where
@@ -171,24 +204,30 @@ module _ (b : BoardView) (root : ℕ) (muxes places : List PlaceView) (chips : L
     places_count = ap length inv.device_places ∙ length-map b.devices (device_place b root) ∙ sym inv.devices_are
 
     pub calls-chips : AreRising 0 (length chips) (addressed chips muxes a)
-    calls-chips = subst (λ n. AreRising 0 n (addressed chips muxes a)) muxes_count (rising-of_range (λ k. has_at a muxes k && joins_at chips muxes k) (length muxes))
+    calls-chips = subst (λ n. AreRising 0 n (addressed chips muxes a)) muxes_count
+        (rising-of_range (λ k. has_at a muxes k && joins_at chips muxes k) (length muxes))
 
     pub calls-devices : AreRising 0 (length states) (addressed chips places a)
-    calls-devices = subst (λ n. AreRising 0 n (addressed chips places a)) places_count (rising-of_range (λ k. has_at a places k && joins_at chips places k) (length places))
+    calls-devices = subst (λ n. AreRising 0 n (addressed chips places a)) places_count
+        (rising-of_range (λ k. has_at a places k && joins_at chips places k) (length places))
 
     pub other-chips : AreRising 0 (length chips) (others chips muxes a cr.started.items)
-    other-chips = rising-filter (λ k. not (has_at a muxes k) && joins_at chips muxes k) 0 (length chips) cr.started.items inv.chips_reached.started_rise
+    other-chips = rising-filter (λ k. not (has_at a muxes k) && joins_at chips muxes k) 0
+        (length chips) cr.started.items inv.chips_reached.started_rise
 
     pub other-devices : AreRising 0 (length states) (others chips places a dr.started.items)
-    other-devices = rising-filter (λ k. not (has_at a places k) && joins_at chips places k) 0 (length states) dr.started.items inv.devices_reached.started_rise
+    other-devices = rising-filter (λ k. not (has_at a places k) && joins_at chips places k) 0
+        (length states) dr.started.items inv.devices_reached.started_rise
 
     not_started : (k : ℕ) → is_own b root k ≡ false → start_event (joins_at chips places k) (has_at a places k) reading ≡ None
     not_started k other = ap (λ j. start_event j (has_at a places k) reading) (not_joined k other)
 
-    started_own : (k : ℕ) → is_among (union_of (length states) dr.started.items (addressed chips places a)) k ≡ true → is_own b root k ≡ true
+    started_own : (k : ℕ) → is_among (union_of (length states) dr.started.items (addressed chips places a)) k ≡ true
+        → is_own b root k ≡ true
     started_own k among =
         elim (or_cases (is_among dr.started.items k) (is_among (addressed chips places a) k)
-        (filter-among (λ m. is_among dr.started.items m || is_among (addressed chips places a) m) (range_with_len 0 (length states)) k among).1) [
+        (filter-among (λ m. is_among dr.started.items m || is_among (addressed chips places a) m)
+        (range_with_len 0 (length states)) k among).1) [
           | inl before ↦ inv.reached_own k before
           | inr called ↦ joined-own b root places inv.device_places k chips
               (and_true (has_at a places k) (joins_at chips places k)
@@ -200,25 +239,33 @@ module _ (b : BoardView) (root : ℕ) (muxes places : List PlaceView) (chips : L
         (silent : (k : ℕ) (ys : List (ℕ × Answer)) → R ((k, Nothing) ∷ ys) ≡ R ys) where
       chips_read : R chips_said ≡ R (start_chips world a reading)
       chips_read =
-          started-heard chip_table chips cr.started.items cr.hearing.items inv.chips_reached chips muxes a reading muxes_count R step is silent (λ x. refl)
-          ∙ ap R (answers-same chip_table (chip_start world a reading) (λ k. start_event (joins_at chips muxes k) (has_at a muxes k) reading) 0 chips
+          started-heard chip_table chips cr.started.items cr.hearing.items inv.chips_reached chips muxes a reading muxes_count R step is
+          silent (λ x. refl)
+          ∙ ap R (answers-same chip_table (chip_start world a reading)
+          (λ k. start_event (joins_at chips muxes k) (has_at a muxes k) reading) 0 chips
           (λ k at low. chip-started world muxes k inv.mux_places (low_chip k low) a reading))
 
       states_read : R states_said ≡ R (start_devices world a reading)
       states_read =
-          started-heard state_table states dr.started.items dr.hearing.items inv.devices_reached chips places a reading places_count R step is silent states_fair.other
-          ∙ ap R (sym (answers-seen b root (λ k. start_event (joins_at chips places k) (has_at a places k) reading) not_started states inv.devices_are)
-          ∙ answers-same state_table (device_start world a reading) (λ k. start_event (joins_at chips places k) (has_at a places k) reading) 0 (seen_on b root b.devices states)
+          started-heard state_table states dr.started.items dr.hearing.items inv.devices_reached chips places a reading places_count R step
+          is silent states_fair.other
+          ∙ ap R (sym (answers-seen b root
+          (λ k. start_event (joins_at chips places k) (has_at a places k) reading) not_started states inv.devices_are)
+          ∙ answers-same state_table (device_start world a reading)
+          (λ k. start_event (joins_at chips places k) (has_at a places k) reading) 0 (seen_on b root b.devices states)
           (λ k at low. device-started world places k inv.device_places (low_device k low) a reading))
 
-    some_chips : (test : Answer → Bool) → test Nothing ≡ false → some_answer test chips_said ≡ some_answer test (start_chips world a reading)
+    some_chips : (test : Answer → Bool) → test Nothing ≡ false
+        → some_answer test chips_said ≡ some_answer test (start_chips world a reading)
     some_chips test none = chips_read (some_answer test) (λ x r. test x.1 || r) (λ x ys. refl) (λ k ys. rw none refl)
 
-    some_states : (test : Answer → Bool) → test Nothing ≡ false → some_answer test states_said ≡ some_answer test (start_devices world a reading)
+    some_states : (test : Answer → Bool) → test Nothing ≡ false
+        → some_answer test states_said ≡ some_answer test (start_devices world a reading)
     some_states test none = states_read (some_answer test) (λ x r. test x.1 || r) (λ x ys. refl) (λ k ys. rw none refl)
 
     some_said : (test : Answer → Bool) → test Nothing ≡ false
-        → (some_answer test chips_said || some_answer test states_said) ≡ some_answer test (start_chips world a reading ++ start_devices world a reading)
+        → (some_answer test chips_said || some_answer test states_said) ≡ some_answer test
+        (start_chips world a reading ++ start_devices world a reading)
     some_said test none =
         ap (λ c. c || some_answer test states_said) (some_chips test none)
         ∙ ap (λ c. some_answer test (start_chips world a reading) || c) (some_states test none)
@@ -226,33 +273,44 @@ module _ (b : BoardView) (root : ℕ) (muxes places : List PlaceView) (chips : L
 
     pub started-answer : start_answer (wired_and_of chips_said) (wired_and_of states_said) ≡ answer world a reading
     started-answer =
-        ap (λ c. if c then Slow else if some_answer is_ack chips_said || some_answer is_ack states_said then Ack else Nack) (some_said is_slow refl)
-        ∙ ap (λ c. if some_answer is_slow (start_chips world a reading ++ start_devices world a reading) then Slow else if c then Ack else Nack) (some_said is_ack refl)
+        ap (λ c. if c then Slow else if some_answer is_ack chips_said || some_answer is_ack states_said then Ack else Nack)
+        (some_said is_slow refl)
+        ∙ ap (λ c. if some_answer is_slow
+        (start_chips world a reading ++ start_devices world a reading) then Slow else if c then Ack else Nack) (some_said is_ack refl)
 
     pub started-hearing : nodes_of (numbers_of chips_said) (numbers_of states_said) ≡ hearers world a reading
     started-hearing =
-        ap (λ ns. nodes_of ns (numbers_of states_said)) (chips_read numbers_of (λ x r. if has_heard x.1 then x.0 ∷ r else r) (λ x ys. refl) (λ k ys. refl))
-        ∙ ap (nodes_of (numbers_of (start_chips world a reading))) (states_read numbers_of (λ x r. if has_heard x.1 then x.0 ∷ r else r) (λ x ys. refl) (λ k ys. refl))
+        ap (λ ns. nodes_of ns (numbers_of states_said))
+        (chips_read numbers_of (λ x r. if has_heard x.1 then x.0 ∷ r else r) (λ x ys. refl) (λ k ys. refl))
+        ∙ ap (nodes_of (numbers_of (start_chips world a reading)))
+        (states_read numbers_of (λ x r. if has_heard x.1 then x.0 ∷ r else r) (λ x ys. refl) (λ k ys. refl))
         ∙ sym (hearers_told world a reading)
 
     module _ (new_chips : List ChipView) (new_states : List TargetState) (rc rd : Reach)
-        (chips_new : new_chips ≡ feed chip_table (to_those (others chips muxes a cr.started.items) event.Other) 0 (feed chip_table (to_those (addressed chips muxes a) (event.Start reading)) 0 chips))
-        (states_new : new_states ≡ feed state_table (to_those (others chips places a dr.started.items) event.Other) 0 (feed state_table (to_those (addressed chips places a) (event.Start reading)) 0 states))
+        (chips_new : new_chips ≡ feed chip_table (to_those (others chips muxes a cr.started.items) event.Other) 0
+        (feed chip_table (to_those (addressed chips muxes a) (event.Start reading)) 0 chips))
+        (states_new : new_states ≡ feed state_table (to_those (others chips places a dr.started.items) event.Other) 0
+        (feed state_table (to_those (addressed chips places a) (event.Start reading)) 0 states))
         (rc_heard : rc.hearing.items ≡ numbers_of chips_said) (rd_heard : rd.hearing.items ≡ numbers_of states_said) where
       pub started-kept : rc.started.items ≡ union_of (length chips) cr.started.items (addressed chips muxes a)
           → rd.started.items ≡ union_of (length states) dr.started.items (addressed chips places a)
           → IsSimWorld b root muxes places new_chips new_states rc rd
       started-kept rc_started rd_started =
-          let kept_chips = reached-started chip_table chips cr.started.items cr.hearing.items inv.chips_reached chips muxes a reading muxes_count in
-          let kept_states = reached-started state_table states dr.started.items dr.hearing.items inv.devices_reached chips places a reading places_count in
+          let kept_chips = reached-started chip_table chips cr.started.items cr.hearing.items inv.chips_reached chips muxes a reading
+          muxes_count in
+          let kept_states = reached-started state_table states dr.started.items dr.hearing.items inv.devices_reached chips places a reading
+          places_count in
           record {
             plain = inv.plain;
             mux_places = inv.mux_places;
             device_places = inv.device_places;
-            chips_are = ap length (chips_new ∙ started-fed chip_table chips cr.started.items cr.hearing.items inv.chips_reached chips muxes a reading muxes_count)
+            chips_are = ap length (chips_new
+                ∙ started-fed chip_table chips cr.started.items cr.hearing.items inv.chips_reached chips muxes a reading muxes_count)
                 ∙ length-feed chip_table (λ k. start_event (joins_at chips muxes k) (has_at a muxes k) reading) 0 chips ∙ inv.chips_are;
-            devices_are = ap length (states_new ∙ started-fed state_table states dr.started.items dr.hearing.items inv.devices_reached chips places a reading places_count)
-                ∙ length-feed state_table (λ k. start_event (joins_at chips places k) (has_at a places k) reading) 0 states ∙ inv.devices_are;
+            devices_are = ap length (states_new
+                ∙ started-fed state_table states dr.started.items dr.hearing.items inv.devices_reached chips places a reading places_count)
+                ∙ length-feed state_table (λ k. start_event (joins_at chips places k) (has_at a places k) reading) 0 states
+                ∙ inv.devices_are;
             chips_reached = rw (chips_new, rc_started, rc_heard) kept_chips;
             devices_reached = rw (states_new, rd_started, rd_heard) kept_states;
             reached_own = rw rd_started started_own;
@@ -260,16 +318,36 @@ module _ (b : BoardView) (root : ℕ) (muxes places : List PlaceView) (chips : L
 
       pub started-is : world_of b root new_chips new_states rc.hearing.items rd.hearing.items true ≡ after world (call.Start a reading)
       started-is =
-          let all_chips = chips_new ∙ started-fed chip_table chips cr.started.items cr.hearing.items inv.chips_reached chips muxes a reading muxes_count
+          let all_chips = chips_new ∙ started-fed chip_table chips cr.started.items cr.hearing.items inv.chips_reached chips muxes a reading
+          muxes_count
           ∙ feed-same chip_table (chip_start world a reading) (λ k. start_event (joins_at chips muxes k) (has_at a muxes k) reading) 0 chips
           (λ k at low. chip-started world muxes k inv.mux_places (low_chip k low) a reading) in
-          let all_states = states_new ∙ started-fed state_table states dr.started.items dr.hearing.items inv.devices_reached chips places a reading places_count in
-          let all_devices : seen_on b root b.devices new_states ≡ feed state_table (device_start world a reading) 0 (seen_on b root b.devices states) =
+          let all_states = states_new ∙ started-fed state_table states dr.started.items dr.hearing.items inv.devices_reached chips places a
+          reading places_count in
+          let all_devices : seen_on b root b.devices new_states ≡ feed state_table (device_start world a reading) 0
+          (seen_on b root b.devices states) =
           ap (seen_on b root b.devices) all_states
           ∙ sym (feed-seen b root (λ k. start_event (joins_at chips places k) (has_at a places k) reading) not_started states)
-          ∙ feed-same state_table (device_start world a reading) (λ k. start_event (joins_at chips places k) (has_at a places k) reading) 0 (seen_on b root b.devices states)
+          ∙ feed-same state_table (device_start world a reading) (λ k. start_event (joins_at chips places k) (has_at a places k) reading) 0
+          (seen_on b root b.devices states)
           (λ k at low. device-started world places k inv.device_places (low_device k low) a reading) in
           let heard : nodes_of rc.hearing.items rd.hearing.items ≡ hearers world a reading = rw (rc_heard, rd_heard) started-hearing in
-          ap (λ (cs : List ChipView). record world { chips = cs; devices = seen_on b root b.devices new_states; hearing = nodes_of rc.hearing.items rd.hearing.items; busy = true }) all_chips
-          ∙ ap (λ (ds : List TargetState). record world { chips = feed chip_table (chip_start world a reading) 0 chips; devices = ds; hearing = nodes_of rc.hearing.items rd.hearing.items; busy = true }) all_devices
-          ∙ ap (λ (hs : List Node). record world { chips = feed chip_table (chip_start world a reading) 0 chips; devices = feed state_table (device_start world a reading) 0 (seen_on b root b.devices states); hearing = hs; busy = true }) heard
+          ap (λ (cs : List ChipView). record world {
+            chips = cs;
+            devices = seen_on b root b.devices new_states;
+            hearing = nodes_of rc.hearing.items rd.hearing.items;
+            busy = true;
+          }) all_chips
+          ∙ ap (λ (ds : List TargetState). record world {
+            chips = feed chip_table (chip_start world a reading) 0 chips;
+            devices = ds;
+            hearing = nodes_of rc.hearing.items rd.hearing.items;
+            busy = true;
+          }) all_devices
+          ∙ ap (λ (hs : List Node). record world {
+            chips = feed chip_table (chip_start world a reading) 0 chips;
+            devices = feed state_table (device_start world a reading) 0 (seen_on b root b.devices states);
+            hearing = hs;
+            busy = true;
+          })
+          heard

@@ -21,7 +21,10 @@ some_same : {A : Type 0} {x y : A} → Some x ≡ Some y → x ≡ y
 some_same e = cc
 
 no_byte : (c : ChipView) (byte : ℕ) (b d : Bool)
-    → (if b then record c { control = 0; waiting = None; left = c.foreign } else if d then record c { control = 1; waiting = None } else record c { waiting = None }).waiting ≡ None
+    → (if b then record c { control = 0; waiting = None; left = c.foreign } else if d then record c {
+      control = 1;
+      waiting = None;
+    } else record c { waiting = None }).waiting ≡ None
 no_byte c byte true d = refl
 no_byte c byte false true = refl
 no_byte c byte false false = refl
@@ -40,7 +43,8 @@ level_taken true by_line kept c level byte waits same =
 level_taken false true kept c level byte waits same = refl
 level_taken false false kept c level byte waits same = absurd (still c (record c { control = kept; waiting = None }) byte same refl waits)
 
-level_stop : (c : ChipView) (level : ℕ) (waiting : Option ℕ) → c.waiting ≡ waiting → stopped c waiting ≡ c → stopped (at_level c level) waiting ≡ at_level c level
+level_stop : (c : ChipView) (level : ℕ) (waiting : Option ℕ) → c.waiting ≡ waiting → stopped c waiting ≡ c
+    → stopped (at_level c level) waiting ≡ at_level c level
 level_stop c level None waits same = refl
 level_stop c level (Some byte) waits same =
     level_taken (facts_of c.kind).asks (facts_of c.kind).by_line (kept_bits c.kind byte) c level byte waits same
@@ -49,15 +53,18 @@ level_quiet : (c : ChipView) (level : ℕ) → IsQuiet chip_table c → IsQuiet 
 level_quiet c level quiet = record { other = refl; stop = level_stop c level c.waiting refl quiet.stop }
 
 -- what holds of what a map gives
-of_map : {A B : Type 0} (P : B → Type 0) (f : A → B) (xs : List A) (k : ℕ) (y : B) → slice_get (map f xs) k ≡ Some y → ((x : A) → P (f x)) → P y
+of_map : {A B : Type 0} (P : B → Type 0) (f : A → B) (xs : List A) (k : ℕ) (y : B) → slice_get (map f xs) k ≡ Some y → ((x : A) → P (f x))
+    → P y
 of_map P f xs k y is each =
     elim (slice_get_cases xs k).1 [
-      | inl x ↦ (let e : Some (f x.0) ≡ Some y = ap (option_map f) (sym x.2) ∙ sym (slice_get-map f xs k) ∙ is in subst P (some_same e) (each x.0))
+      | inl x ↦ (let e : Some (f x.0) ≡ Some y = ap (option_map f) (sym x.2) ∙ sym (slice_get-map f xs k) ∙ is in
+          subst P (some_same e) (each x.0))
       | inr none ↦ absurd (let e : None ≡ Some y = ap (option_map f) (sym none.1) ∙ sym (slice_get-map f xs k) ∙ is in cc)
     ]
 
 -- targets as they are opened: no message has reached them
-pub opened-reach : {D X : Type 0} (t : Table X) (opens : D → X) (ds : List D) (xs : List X) (started hearing : List ℕ) → length ds ≤ 128 → xs ≡ map opens ds
+pub opened-reach : {D X : Type 0} (t : Table X) (opens : D → X) (ds : List D) (xs : List X) (started hearing : List ℕ) → length ds ≤ 128
+    → xs ≡ map opens ds
     → ((d : D) → IsQuiet t (opens d)) → started ≡ [] → hearing ≡ [] → IsReach t xs started hearing
 opened-reach t opens ds xs started hearing few are quiet none deaf =
     let count = ap length are ∙ length-map ds opens in
@@ -92,16 +99,19 @@ quiet-in-place t xs m y started hearing low quiet reached =
       hearing_rise = rw (length-set xs m y) reached.hearing_rise;
       hearing_started = reached.hearing_started;
       quiet = λ k x got out. elim (eqb_tells k m) [
-        | inl same ↦ (let e : Some y ≡ Some x = sym (ap (slice_get (set xs m y)) same.1 ∙ set_here xs m y low) ∙ got in subst (IsQuiet t) (some_same e) quiet)
+        | inl same ↦ (let e : Some y ≡ Some x = sym (ap (slice_get (set xs m y)) same.1 ∙ set_here xs m y low) ∙ got in
+            subst (IsQuiet t) (some_same e) quiet)
         | inr other ↦ reached.quiet k x (sym (got_other xs m k y other.1) ∙ got) out
       ];
     }
 
 set_quiet : (chips : List ChipView) (m level : ℕ) (c : ChipView) → slice_get chips m ≡ Some c → m < length chips → (k : ℕ) (x : ChipView)
-    → slice_get (set chips m (at_level c level)) k ≡ Some x → ((y : ChipView) → slice_get chips k ≡ Some y → IsQuiet chip_table y) → IsQuiet chip_table x
+    → slice_get (set chips m (at_level c level)) k ≡ Some x → ((y : ChipView) → slice_get chips k ≡ Some y → IsQuiet chip_table y)
+    → IsQuiet chip_table x
 set_quiet chips m level c is low k x got quiet =
     elim (eqb_tells k m) [
-      | inl same ↦ (let e : Some (at_level c level) ≡ Some x = sym (ap (slice_get (set chips m (at_level c level))) same.1 ∙ set_here chips m (at_level c level) low) ∙ got in
+      | inl same ↦ (let e : Some (at_level c level) ≡ Some x = sym (ap (slice_get (set chips m (at_level c level))) same.1
+          ∙ set_here chips m (at_level c level) low) ∙ got in
           subst (IsQuiet chip_table) (some_same e) (level_quiet c level (quiet c (ap (slice_get chips) same.1 ∙ is))))
       | inr other ↦ quiet x (sym (got_other chips m k (at_level c level) other.1) ∙ got)
     ]

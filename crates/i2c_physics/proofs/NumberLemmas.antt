@@ -17,7 +17,8 @@ filter_more p n =
     ∙ ap (λ ns. filter p ns ++ cond (p n) (n ∷ []) []) (map-id (range_with_len 0 n))
 
 -- the number is looked at, and kept where it passes
-pub filter_kept : (p : ℕ → Bool) (n : ℕ) (numbers more : List ℕ) → p n ≡ true → numbers ≡ filter p (range_with_len 0 n) → more ≡ numbers ++ n ∷ []
+pub filter_kept : (p : ℕ → Bool) (n : ℕ) (numbers more : List ℕ) → p n ≡ true → numbers ≡ filter p (range_with_len 0 n)
+    → more ≡ numbers ++ n ∷ []
     → more ≡ filter p (range_with_len 0 (n + 1))
 filter_kept p n numbers more is so_far pushed =
     pushed ∙ ap (λ ns. ns ++ n ∷ []) so_far ∙ ap (λ b. filter p (range_with_len 0 n) ++ cond b (n ∷ []) []) (sym is) ∙ sym (filter_more p n)
@@ -25,7 +26,8 @@ filter_kept p n numbers more is so_far pushed =
 pub filter_passed : (p : ℕ → Bool) (n : ℕ) (numbers : List ℕ) → p n ≡ false → numbers ≡ filter p (range_with_len 0 n)
     → numbers ≡ filter p (range_with_len 0 (n + 1))
 filter_passed p n numbers is so_far =
-    so_far ∙ sym (append-nil (filter p (range_with_len 0 n))) ∙ ap (λ b. filter p (range_with_len 0 n) ++ cond b (n ∷ []) []) (sym is) ∙ sym (filter_more p n)
+    so_far ∙ sym (append-nil (filter p (range_with_len 0 n))) ∙ ap (λ b. filter p (range_with_len 0 n) ++ cond b (n ∷ []) []) (sym is)
+    ∙ sym (filter_more p n)
 
 -- two tests, one after the other
 both_if : (q : ℕ → Bool) (b : Bool) (n : ℕ) (once twice : List ℕ) → filter q once ≡ twice
@@ -116,7 +118,8 @@ pub among-range : (n k : ℕ) → k < n → is_among (range_with_len 0 n) k ≡ 
 among-range n k below = among_from 0 n k (omega arith) (omega arith)
 
 -- those of a range that are among rising numbers of it are these numbers
-filter_same : (p q : ℕ → Bool) (low n : ℕ) → ((k : ℕ) → low ≤ k → p k ≡ q k) → filter p (range_with_len low n) ≡ filter q (range_with_len low n)
+filter_same : (p q : ℕ → Bool) (low n : ℕ) → ((k : ℕ) → low ≤ k → p k ≡ q k)
+    → filter p (range_with_len low n) ≡ filter q (range_with_len low n)
 filter_same p q low zero same = refl
 filter_same p q low (suc n) same =
     ap (λ b. cond b (low ∷ filter p (range_with_len (low + 1) n)) (filter p (range_with_len (low + 1) n))) (same low (omega arith))
@@ -134,11 +137,13 @@ at_first : (low high n m : ℕ) (ms : List ℕ) → AreRising low high (m ∷ ms
 at_first low high n m ms r e same rest =
     let here : (m == low) ≡ true = elim (eqb_tells m low) [ inl x ↦ x.0 | inr x ↦ absurd (x.1 (sym same)) ] in
     let later : filter (is_among (m ∷ ms)) (range_with_len (low + 1) n) ≡ ms =
-    filter_same (is_among (m ∷ ms)) (is_among ms) (low + 1) n (λ k at. let other : (m == k) ≡ false = ne_eqb m k (λ f. absurd (omega (arith, f, same))) in rw other refl) ∙ rest in
+    filter_same (is_among (m ∷ ms)) (is_among ms) (low + 1) n
+    (λ k at. let other : (m == k) ≡ false = ne_eqb m k (λ f. absurd (omega (arith, f, same))) in rw other refl) ∙ rest in
     rw (here, later) (ap (λ k. k ∷ ms) same)
 
 first_among : (low high n m : ℕ) (ms : List ℕ) → AreRising low high (m ∷ ms) → low + suc n ≡ high
-    → filter (is_among (m ∷ ms)) (range_with_len (low + 1) n) ≡ m ∷ ms → (low == m) ≡ false → filter (is_among (m ∷ ms)) (range_with_len low (suc n)) ≡ m ∷ ms
+    → filter (is_among (m ∷ ms)) (range_with_len (low + 1) n) ≡ m ∷ ms → (low == m) ≡ false
+    → filter (is_among (m ∷ ms)) (range_with_len low (suc n)) ≡ m ∷ ms
 first_among low high n m ms r e rest other =
     let out : is_among (m ∷ ms) low ≡ false = rising-apart m high (m ∷ ms) (omega arith, r.1, r.2) low (above low m r.0 other) in
     rw out rest
@@ -148,8 +153,10 @@ among_itself low high n [] r e = none_among low n
 among_itself low high zero (m ∷ ms) r e = absurd (omega (arith, r.0, r.1))
 among_itself low high (suc n) (m ∷ ms) r e =
     elim (eqb_tells low m) [
-      | inl same ↦ at_first low high n m ms r e same.1 (among_itself (low + 1) high n ms (subst (λ k. AreRising (k + 1) high ms) (sym same.1) r.2) (omega arith))
-      | inr other ↦ first_among low high n m ms r e (among_itself (low + 1) high n (m ∷ ms) (omega (arith, above low m r.0 other.0), r.1, r.2) (omega arith)) other.0
+      | inl same ↦ at_first low high n m ms r e same.1
+          (among_itself (low + 1) high n ms (subst (λ k. AreRising (k + 1) high ms) (sym same.1) r.2) (omega arith))
+      | inr other ↦ first_among low high n m ms r e
+          (among_itself (low + 1) high n (m ∷ ms) (omega (arith, above low m r.0 other.0), r.1, r.2) (omega arith)) other.0
     ]
 
 pub either_none : (count : ℕ) (none ns : List ℕ) → length none ≡ 0 → AreRising 0 count ns → ns ≡ union_of count none ns
@@ -167,4 +174,5 @@ or_has ns (m ∷ ms) all k =
 
 pub either_has : (count : ℕ) (ns ms : List ℕ) → AreRising 0 count ns → list_all (is_among ns) ms ≡ true → union_of count ns ms ≡ ns
 either_has count ns ms r all =
-    filter_same (λ k. is_among ns k || is_among ms k) (is_among ns) 0 count (λ k at. or_has ns ms all k) ∙ among_itself 0 count count ns r (omega arith)
+    filter_same (λ k. is_among ns k || is_among ms k) (is_among ns) 0 count (λ k at. or_has ns ms all k)
+    ∙ among_itself 0 count count ns r (omega arith)

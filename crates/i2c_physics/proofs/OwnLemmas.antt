@@ -25,7 +25,8 @@ module _ (b : BoardView) (root : ℕ) where
     placed : slice_get places k ≡ option_map (device_place b root) (slice_get b.devices k)
     placed = ap (λ ps. slice_get ps k) are ∙ slice_get-map (device_place b root) b.devices k
 
-    wired_of : (o : Option DeviceView) → option_map_or (λ p. p.wired) (option_map (device_place b root) o) false ≡ option_map_or (is_of b root) o false
+    wired_of : (o : Option DeviceView)
+        → option_map_or (λ p. p.wired) (option_map (device_place b root) o) false ≡ option_map_or (is_of b root) o false
     wired_of None = refl
     wired_of (Some d) = refl
 
@@ -49,14 +50,16 @@ module _ (b : BoardView) (root : ℕ) where
           ]
 
   -- at the opening
-  quiet_if : (own : Bool) (d : DeviceView) → IsQuiet state_table (opening_state d) → IsQuiet state_table (if own then opening_state d else Silent)
+  quiet_if : (own : Bool) (d : DeviceView) → IsQuiet state_table (opening_state d)
+      → IsQuiet state_table (if own then opening_state d else Silent)
   quiet_if true d quiet = quiet
   quiet_if false d quiet = record { other = refl; stop = refl }
 
   pub opened-own : (started : List ℕ) → started ≡ [] → (k : ℕ) → is_among started k ≡ true → is_own b root k ≡ true
   opened-own started none k among = absurd (let e : false ≡ true = rw none at among in cc)
 
-  pub opened-quiet : ((d : DeviceView) → IsQuiet state_table (opening_state d)) → (d : DeviceView) → IsQuiet state_table (opened_on b root d)
+  pub opened-quiet : ((d : DeviceView) → IsQuiet state_table (opening_state d)) → (d : DeviceView)
+      → IsQuiet state_table (opened_on b root d)
   opened-quiet quiet d = quiet_if (is_of b root d) d (quiet d)
 
   one_opened : (own : Bool) (d : DeviceView) (s : TargetState) → s ≡ (if own then opening_state d else Silent)
@@ -74,7 +77,8 @@ module _ (b : BoardView) (root : ℕ) where
       cc
 
   -- how many there are, and one of them
-  pub length-seen : (ds : List DeviceView) (states : List TargetState) → length states ≡ length ds → length (seen_on b root ds states) ≡ length ds
+  pub length-seen : (ds : List DeviceView) (states : List TargetState) → length states ≡ length ds
+      → length (seen_on b root ds states) ≡ length ds
   length-seen [] states count = refl
   length-seen (d ∷ ds) [] count = absurd (omega arith)
   length-seen (d ∷ ds) (s ∷ states) count = ap suc (length-seen ds states (omega arith))
@@ -116,7 +120,8 @@ module _ (b : BoardView) (root : ℕ) (f : ℕ → Option Event) where
   one_given true e d s leaves = refl
   one_given false e d s leaves = ap (λ o. given state_table o (opening_state d)) (leaves refl)
 
-  one_answer : (own : Bool) (e : Option Event) (k : ℕ) (d : DeviceView) (s : TargetState) (rest : List (ℕ × Answer)) → (own ≡ false → e ≡ None)
+  one_answer : (own : Bool) (e : Option Event) (k : ℕ) (d : DeviceView) (s : TargetState) (rest : List (ℕ × Answer))
+      → (own ≡ false → e ≡ None)
       → answer_with state_table e k (if own then s else opening_state d) rest ≡ answer_with state_table e k s rest
   one_answer true e k d s rest leaves = refl
   one_answer false e k d s rest leaves = rw (leaves refl) refl
@@ -146,5 +151,6 @@ module _ (b : BoardView) (root : ℕ) (f : ℕ → Option Event) where
     pub feed-seen : feed state_table f 0 (seen_on b root b.devices states) ≡ seen_on b root b.devices (feed state_table f 0 states)
     feed-seen = feed_from 0 b.devices states all_leave
 
-    pub answers-seen : length states ≡ length b.devices → answers state_table f 0 (seen_on b root b.devices states) ≡ answers state_table f 0 states
+    pub answers-seen : length states ≡ length b.devices
+        → answers state_table f 0 (seen_on b root b.devices states) ≡ answers state_table f 0 states
     answers-seen count = answers_from 0 b.devices states all_leave count

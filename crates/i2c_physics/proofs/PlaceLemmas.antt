@@ -30,25 +30,30 @@ joins_at_mux : (w : World) (places : List PlaceView) (m : ℕ) (x : MuxSpec) →
     → slice_get w.board.muxes m ≡ Some x → joins_at w.chips places m ≡ joins_chip w m
 joins_at_mux w places m x are is = ap (λ o. option_map_or (joins w.chips) o false) (placed_mux w places m x are is) ∙ joins_mux w m x is
 
-start_mux : (w : World) (places : List PlaceView) (a : ℕ) (reading : Bool) (m : ℕ) (x : MuxSpec) → places ≡ map (mux_place w.board w.root) w.board.muxes
+start_mux : (w : World) (places : List PlaceView) (a : ℕ) (reading : Bool) (m : ℕ) (x : MuxSpec)
+    → places ≡ map (mux_place w.board w.root) w.board.muxes
     → slice_get w.board.muxes m ≡ Some x
     → start_event (joins_at w.chips places m) (has_at a places m) reading ≡ chip_start w a reading m
 start_mux w places a reading m x are is =
-    let has : has_at a places m ≡ has_address a x.addr = ap (λ o. option_map_or (λ p. has_address a p.addr) o false) (placed_mux w places m x are is) in
+    let has : has_at a places m ≡ has_address a x.addr = ap (λ o. option_map_or (λ p. has_address a p.addr) o false)
+    (placed_mux w places m x are is) in
     rw (joins_at_mux w places m x are is, has, is) refl
 
-joins_at_device : (w : World) (places : List PlaceView) (d : ℕ) (x : DeviceView) → places ≡ map (device_place w.board w.root) w.board.devices
+joins_at_device : (w : World) (places : List PlaceView) (d : ℕ) (x : DeviceView)
+    → places ≡ map (device_place w.board w.root) w.board.devices
     → slice_get w.board.devices d ≡ Some x → joins_at w.chips places d ≡ joins_device w d
 joins_at_device w places d x are is = rw (are, slice_get-map, is) refl
 
-start_device : (w : World) (places : List PlaceView) (a : ℕ) (reading : Bool) (d : ℕ) (x : DeviceView) → places ≡ map (device_place w.board w.root) w.board.devices
+start_device : (w : World) (places : List PlaceView) (a : ℕ) (reading : Bool) (d : ℕ) (x : DeviceView)
+    → places ≡ map (device_place w.board w.root) w.board.devices
     → slice_get w.board.devices d ≡ Some x
     → start_event (joins_at w.chips places d) (has_at a places d) reading ≡ device_start w a reading d
 start_device w places a reading d x are is = rw (joins_at_device w places d x are is, are, slice_get-map, is) refl
 
 module _ (w : World) (places : List PlaceView) (k : ℕ) where
   module _ (are : places ≡ map (mux_place w.board w.root) w.board.muxes) (low : k < length w.board.muxes) where
-    pub chip-started : (a : ℕ) (reading : Bool) → start_event (joins_at w.chips places k) (has_at a places k) reading ≡ chip_start w a reading k
+    pub chip-started : (a : ℕ) (reading : Bool)
+        → start_event (joins_at w.chips places k) (has_at a places k) reading ≡ chip_start w a reading k
     chip-started a reading =
         elim (slice_get_cases w.board.muxes k).1 [
           | inl x ↦ start_mux w places a reading k x.0 are x.2
@@ -63,7 +68,8 @@ module _ (w : World) (places : List PlaceView) (k : ℕ) where
         ]
 
   module _ (are : places ≡ map (device_place w.board w.root) w.board.devices) (low : k < length w.board.devices) where
-    pub device-started : (a : ℕ) (reading : Bool) → start_event (joins_at w.chips places k) (has_at a places k) reading ≡ device_start w a reading k
+    pub device-started : (a : ℕ) (reading : Bool)
+        → start_event (joins_at w.chips places k) (has_at a places k) reading ≡ device_start w a reading k
     device-started a reading =
         elim (slice_get_cases w.board.devices k).1 [
           | inl x ↦ start_device w places a reading k x.0 are x.2

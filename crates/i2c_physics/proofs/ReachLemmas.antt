@@ -63,7 +63,8 @@ module _ {X : Type 0} (t : Table X) where
   fed-alike f g j [] alike = refl
   fed-alike f g j (x ∷ xs) alike =
       ap (λ y. y ∷ feed t g (j + 1) xs) (subst (λ k. given t (g k) x ≡ given t (f k) x) (add-zero j) (alike 0 x refl))
-      ∙ ap (λ rest. given t (f j) x ∷ rest) (fed-alike f g (j + 1) xs (λ i y e. subst (λ k. given t (g k) y ≡ given t (f k) y) (further j i) (alike (suc i) y e)))
+      ∙ ap (λ rest. given t (f j) x ∷ rest)
+      (fed-alike f g (j + 1) xs (λ i y e. subst (λ k. given t (g k) y ≡ given t (f k) y) (further j i) (alike (suc i) y e)))
 
   -- two events, one after the other
   fed_twice : (f g h : ℕ → Option Event) (j : ℕ) (xs : List X)
@@ -71,9 +72,11 @@ module _ {X : Type 0} (t : Table X) where
       → feed t g j (feed t f j xs) ≡ feed t h j xs
   fed_twice f g h j [] alike = refl
   fed_twice f g h j (x ∷ xs) alike =
-      ap (λ y. y ∷ feed t g (j + 1) (feed t f (j + 1) xs)) (subst (λ k. given t (g k) (given t (f k) x) ≡ given t (h k) x) (add-zero j) (alike 0 x refl))
+      ap (λ y. y ∷ feed t g (j + 1) (feed t f (j + 1) xs))
+      (subst (λ k. given t (g k) (given t (f k) x) ≡ given t (h k) x) (add-zero j) (alike 0 x refl))
       ∙ ap (λ rest. given t (h j) x ∷ rest)
-      (fed_twice f g h (j + 1) xs (λ i y e. subst (λ k. given t (g k) (given t (f k) y) ≡ given t (h k) y) (further j i) (alike (suc i) y e)))
+      (fed_twice f g h (j + 1) xs (λ i y e. subst (λ k. given t (g k) (given t (f k) y) ≡ given t (h k) y) (further j i)
+      (alike (suc i) y e)))
 
   -- a start for another is answered by nothing: whether it is told or not is not heard
   abbrev pub Alike : Option Event → Option Event → Type 0
@@ -93,7 +96,8 @@ module _ {X : Type 0} (t : Table X) where
     one_heard o p k x xs ys alike rest =
         elim alike [
           | inl same ↦ ap (λ q. R (answer_with t q k x ys)) same ∙ same_event o k x xs ys rest
-          | inr other ↦ ap (λ q. R (answer_with t q k x ys)) other.0 ∙ rest ∙ sym (silent k xs) ∙ ap (λ a. R ((k, a) ∷ xs)) (sym (nothing x))
+          | inr other ↦ ap (λ q. R (answer_with t q k x ys)) other.0 ∙ rest ∙ sym (silent k xs)
+              ∙ ap (λ a. R ((k, a) ∷ xs)) (sym (nothing x))
               ∙ ap (λ q. R (answer_with t q k x xs)) (sym other.1)
         ]
 
@@ -101,7 +105,8 @@ module _ {X : Type 0} (t : Table X) where
         → R (answers t g j xs) ≡ R (answers t f j xs)
     heard-alike f g j [] alike = refl
     heard-alike f g j (x ∷ xs) alike =
-        one_heard (f j) (g j) j x (answers t f (j + 1) xs) (answers t g (j + 1) xs) (subst (λ k. Alike (f k) (g k)) (add-zero j) (alike 0 (omega arith)))
+        one_heard (f j) (g j) j x (answers t f (j + 1) xs) (answers t g (j + 1) xs)
+        (subst (λ k. Alike (f k) (g k)) (add-zero j) (alike 0 (omega arith)))
         (heard-alike f g (j + 1) xs (λ i low. subst (λ k. Alike (f k) (g k)) (further j i) (alike (suc i) (omega arith))))
 
   -- who has heard was told
@@ -110,9 +115,11 @@ module _ {X : Type 0} (t : Table X) where
   heard_rise None j high x rest low r = rising-lower (j + 1) j high (numbers_of rest) (omega arith) r
   heard_rise (Some e) j high x rest low r = said_rise (has_heard (t.answer x e)) j high (numbers_of rest) low r
 
-  pub rising-heard : (f : ℕ → Option Event) (j high : ℕ) (xs : List X) → j + length xs ≡ high → AreRising j high (numbers_of (answers t f j xs))
+  pub rising-heard : (f : ℕ → Option Event) (j high : ℕ) (xs : List X) → j + length xs ≡ high
+      → AreRising j high (numbers_of (answers t f j xs))
   rising-heard f j high [] e = tt
-  rising-heard f j high (x ∷ xs) e = heard_rise (f j) j high x (answers t f (j + 1) xs) (omega arith) (rising-heard f (j + 1) high xs (omega arith))
+  rising-heard f j high (x ∷ xs) e = heard_rise (f j) j high x (answers t f (j + 1) xs) (omega arith)
+      (rising-heard f (j + 1) high xs (omega arith))
 
 -- a target that has heard was told of its event
 heard_first : (b : Bool) (k n : ℕ) (ns : List ℕ) → is_among (cond b (k ∷ ns) ns) n ≡ true → (k ≡ n) ⊎ (is_among ns n ≡ true)
@@ -133,7 +140,8 @@ module _ {X : Type 0} (t : Table X) where
         | inr later ↦ inr later
       ]
 
-  pub heard-told : (f : ℕ → Option Event) (j n : ℕ) (xs : List X) → is_among (numbers_of (answers t f j xs)) n ≡ true → IsSome (f n) × (n < j + length xs)
+  pub heard-told : (f : ℕ → Option Event) (j n : ℕ) (xs : List X) → is_among (numbers_of (answers t f j xs)) n ≡ true
+      → IsSome (f n) × (n < j + length xs)
   heard-told f j n [] heard = absurd (true_false (sym heard))
   heard-told f j n (x ∷ xs) heard =
       elim (heard_here (f j) j n x (answers t f (j + 1) xs) heard) [
@@ -147,7 +155,8 @@ module _ {X : Type 0} (t : Table X) where
       → (k : ℕ) (y : X) → slice_get (feed t f 0 xs) k ≡ Some y → is_among told k ≡ false → IsQuiet t y
   quiet-fed f xs told each k y is out =
       elim (slice_get_cases xs k).1 [
-        | inl x ↦ (let new : Some (given t (f k) x.0) ≡ Some y = sym (fed_get t f 0 k xs ∙ ap (option_map (given t (f (0 + k)))) x.2 ∙ ap (λ m. Some (given t (f m) x.0)) (zero-add k)) ∙ is in
+        | inl x ↦ (let new : Some (given t (f k) x.0) ≡ Some y = sym (fed_get t f 0 k xs ∙ ap (option_map (given t (f (0 + k)))) x.2
+            ∙ ap (λ m. Some (given t (f m) x.0)) (zero-add k)) ∙ is in
             subst (IsQuiet t) (same_Some _ _ new) (each k x.0 x.2 out))
         | inr none ↦ absurd (some_none _ (sym is ∙ fed_get t f 0 k xs ∙ ap (option_map (given t (f (0 + k)))) none.1))
       ]
@@ -199,11 +208,13 @@ module _ {X : Type 0} (t : Table X) (xs : List X) (started hearing : List ℕ) (
         → IsReach t (feed t (to_those (filter J started) event.Stop) 0 xs) (filter (λ k. not (J k)) started) []
     reached-stopped stops = record {
       few = rw (length-feed t (to_those (filter J started) event.Stop) 0 xs) reached.few;
-      started_rise = rw (length-feed t (to_those (filter J started) event.Stop) 0 xs) (rising-filter (λ k. not (J k)) 0 (length xs) started reached.started_rise);
+      started_rise = rw (length-feed t (to_those (filter J started) event.Stop) 0 xs)
+          (rising-filter (λ k. not (J k)) 0 (length xs) started reached.started_rise);
       hearing_rise = tt;
       hearing_started = λ k heard. absurd (true_false (sym heard));
       quiet = quiet-fed t (to_those (filter J started) event.Stop) xs (filter (λ k. not (J k)) started) (λ k x is out.
-          rw (among-filter J started k) (left_one (is_among started k) (J k) x stops (reached.quiet k x is) (sym (among-filter (λ m. not (J m)) started k) ∙ out)));
+          rw (among-filter J started k) (left_one (is_among started k) (J k) x stops (reached.quiet k x is)
+          (sym (among-filter (λ m. not (J m)) started k) ∙ out)));
     }
 
   -- a start calls those who have the address, and is an Other for the rest
@@ -213,16 +224,20 @@ module _ {X : Type 0} (t : Table X) (xs : List X) (started hearing : List ℕ) (
         among-filter (λ m. has_at a places m && joins_at chips places m) (range_with_len 0 (length places)) k
         ∙ rw (among-range (length places) k (omega (arith, low, same))) refl
 
-    among_others : (k : ℕ) → is_among (others chips places a started) k ≡ (is_among started k && (not (has_at a places k) && joins_at chips places k))
+    among_others : (k : ℕ) → is_among (others chips places a started) k ≡
+        (is_among started k && (not (has_at a places k) && joins_at chips places k))
     among_others k = among-filter (λ m. not (has_at a places m) && joins_at chips places m) started k
 
-    among_either : (k : ℕ) → k < length xs → is_among (union_of (length xs) started (addressed chips places a)) k ≡ (is_among started k || is_among (addressed chips places a) k)
+    among_either : (k : ℕ) → k < length xs
+        → is_among (union_of (length xs) started (addressed chips places a)) k ≡
+        (is_among started k || is_among (addressed chips places a) k)
     among_either k low =
         among-filter (λ m. is_among started m || is_among (addressed chips places a) m) (range_with_len 0 (length xs)) k
         ∙ rw (among-range (length xs) k low) refl
 
     start_one : (s j h : Bool) (x : X) → (s ≡ false → IsQuiet t x)
-        → given t (event_if (s && (not h && j)) event.Other) (given t (event_if (h && j) (event.Start reading)) x) ≡ given t (start_event j h reading) x
+        → given t (event_if (s && (not h && j)) event.Other) (given t (event_if (h && j) (event.Start reading)) x) ≡ given t
+        (start_event j h reading) x
     start_one true true true x quiet = refl
     start_one true true false x quiet = refl
     start_one true false true x quiet = refl
@@ -232,7 +247,8 @@ module _ {X : Type 0} (t : Table X) (xs : List X) (started hearing : List ℕ) (
     start_one false false true x quiet = refl
     start_one false false false x quiet = refl
 
-    pub started-fed : feed t (to_those (others chips places a started) event.Other) 0 (feed t (to_those (addressed chips places a) (event.Start reading)) 0 xs)
+    pub started-fed : feed t (to_those (others chips places a started) event.Other) 0
+        (feed t (to_those (addressed chips places a) (event.Start reading)) 0 xs)
         ≡ feed t (λ k. start_event (joins_at chips places k) (has_at a places k) reading) 0 xs
     started-fed =
         fed_twice t (to_those (addressed chips places a) (event.Start reading)) (to_those (others chips places a started) event.Other)
@@ -269,30 +285,42 @@ module _ {X : Type 0} (t : Table X) (xs : List X) (started hearing : List ℕ) (
 
     quiet_called : (k : ℕ) (y : X) → slice_get (feed t (to_those (addressed chips places a) (event.Start reading)) 0 xs) k ≡ Some y
         → is_among (union_of (length xs) started (addressed chips places a)) k ≡ false → IsQuiet t y
-    quiet_called = quiet-fed t (to_those (addressed chips places a) (event.Start reading)) xs (union_of (length xs) started (addressed chips places a)) still_quiet
+    quiet_called = quiet-fed t (to_those (addressed chips places a) (event.Start reading)) xs
+        (union_of (length xs) started (addressed chips places a)) still_quiet
 
     quiet_others : (k : ℕ) (y : X) → slice_get (feed t (to_those (addressed chips places a) (event.Start reading)) 0 xs) k ≡ Some y
         → is_among (union_of (length xs) started (addressed chips places a)) k ≡ false
         → IsQuiet t (given t (to_those (others chips places a started) event.Other k) y)
     quiet_others k y is out =
-        let low : k < length xs = omega (arith, is_within (feed t (to_those (addressed chips places a) (event.Start reading)) 0 xs) k y is, length-feed t (to_those (addressed chips places a) (event.Start reading)) 0 xs) in
+        let low : k < length xs = omega (
+          arith,
+          is_within (feed t (to_those (addressed chips places a) (event.Start reading)) 0 xs) k y is,
+          length-feed t
+              (to_those (addressed chips places a) (event.Start reading)) 0 xs,
+        ) in
         let both = out_of_both k low out in
         let none : is_among (others chips places a started) k ≡ false = among_others k ∙ rw both.0 refl in
         rw none (quiet_called k y is out)
 
-    pub reached-started : IsReach t (feed t (to_those (others chips places a started) event.Other) 0 (feed t (to_those (addressed chips places a) (event.Start reading)) 0 xs))
-        (union_of (length xs) started (addressed chips places a)) (numbers_of (answers t (to_those (addressed chips places a) (event.Start reading)) 0 xs))
+    pub reached-started : IsReach t
+        (feed t (to_those (others chips places a started) event.Other) 0
+        (feed t (to_those (addressed chips places a) (event.Start reading)) 0 xs))
+        (union_of (length xs) started (addressed chips places a))
+        (numbers_of (answers t (to_those (addressed chips places a) (event.Start reading)) 0 xs))
     reached-started =
-        let count = length-feed t (to_those (others chips places a started) event.Other) 0 (feed t (to_those (addressed chips places a) (event.Start reading)) 0 xs)
+        let count = length-feed t (to_those (others chips places a started) event.Other) 0
+        (feed t (to_those (addressed chips places a) (event.Start reading)) 0 xs)
         ∙ length-feed t (to_those (addressed chips places a) (event.Start reading)) 0 xs in
         record {
           few = rw count reached.few;
           started_rise = rw count (rising-of_range (λ k. is_among started k || is_among (addressed chips places a) k) (length xs));
-          hearing_rise = rw count (rising-heard t (to_those (addressed chips places a) (event.Start reading)) 0 (length xs) xs (zero-add (length xs)));
+          hearing_rise = rw count (rising-heard t (to_those (addressed chips places a) (event.Start reading)) 0 (length xs) xs
+              (zero-add (length xs)));
           hearing_started = λ k heard.
               let told = heard-told t (to_those (addressed chips places a) (event.Start reading)) 0 k xs heard in
               let is = some_if (is_among (addressed chips places a) k) (event.Start reading) told.0 in
               among_either k (omega (arith, told.1)) ∙ rw is (or-true (is_among started k));
-          quiet = quiet-fed t (to_those (others chips places a started) event.Other) (feed t (to_those (addressed chips places a) (event.Start reading)) 0 xs)
+          quiet = quiet-fed t (to_those (others chips places a started) event.Other)
+              (feed t (to_those (addressed chips places a) (event.Start reading)) 0 xs)
               (union_of (length xs) started (addressed chips places a)) quiet_others;
         }

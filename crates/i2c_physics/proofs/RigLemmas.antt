@@ -49,7 +49,8 @@ device_there : (o : Option World) (k : ℕ) → IsSome (device_of o k)
 device_there None k h = cc
 device_there (Some w) k h = own_there (owns w k) (slice_get w.devices k) h
 
-root_at : (b : BoardView) (ws : List World) (home : ℕ) (w : World) → AreWorldsOf b ws → home < length b.roots → get_or ws home w ≡ w → w.root ≡ home
+root_at : (b : BoardView) (ws : List World) (home : ℕ) (w : World) → AreWorldsOf b ws → home < length b.roots → get_or ws home w ≡ w
+    → w.root ≡ home
 root_at b ws home w of low is =
     ap (λ v. v.root) (sym is) ∙ sym (get_or-map (λ v. v.root) ws home w 0 (omega (arith, count_of_worlds b ws of)))
     ∙ ap (λ rs. get_or rs home 0) of.roots ∙ get_or-range_with_len 0 (length b.roots) home 0 low ∙ zero-add home

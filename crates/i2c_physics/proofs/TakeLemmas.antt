@@ -16,11 +16,13 @@ get-set_some (y ∷ ys) (suc k) zero x some = some
 get-set_some (y ∷ ys) (suc k) (suc j) x some = get-set_some ys k j x some
 
 -- of a world; where the device is of another root nothing is taken out
-others_stay : {A : Type 0} (taken : Bool) (xs : List A) (k j : ℕ) (x : A) → (j ≡ k → ⊥) → slice_get (if taken then set xs k x else xs) j ≡ slice_get xs j
+others_stay : {A : Type 0} (taken : Bool) (xs : List A) (k j : ℕ) (x : A) → (j ≡ k → ⊥)
+    → slice_get (if taken then set xs k x else xs) j ≡ slice_get xs j
 others_stay true xs k j x other = set_elsewhere xs k j x other
 others_stay false xs k j x other = refl
 
-some_before : {A : Type 0} (taken own : Bool) (xs : List A) (k j : ℕ) (x : A) → IsSome (if own then slice_get (if taken then set xs k x else xs) j else None)
+some_before : {A : Type 0} (taken own : Bool) (xs : List A) (k j : ℕ) (x : A)
+    → IsSome (if own then slice_get (if taken then set xs k x else xs) j else None)
     → IsSome (if own then slice_get xs j else None)
 some_before true true xs k j x some = get-set_some xs k j x some
 some_before false true xs k j x some = some
@@ -41,7 +43,8 @@ later ws home k n (h ∷ hs) after =
     ap (λ o. option_to_list o ++ states_from (n + 1) hs (taken_out ws home k)) (other_at ws home k h n (λ e. omega arith))
     ∙ ap (λ xs. option_to_list (state_at ws h n) ++ xs) (later ws home k (n + 1) hs (omega arith))
 
-pub later-states : (ws new : List World) (home k : ℕ) (homes : List ℕ) → new ≡ taken_out ws home k → states_from (k + 1) homes new ≡ states_from (k + 1) homes ws
+pub later-states : (ws new : List World) (home k : ℕ) (homes : List ℕ) → new ≡ taken_out ws home k
+    → states_from (k + 1) homes new ≡ states_from (k + 1) homes ws
 later-states ws new home k homes is = ap (states_from (k + 1) homes) is ∙ later ws home k (k + 1) homes (omega arith)
 
 some_is : (v w : World) → Some v ≡ Some w → v ≡ w
@@ -65,7 +68,8 @@ none-taken f [] home k past = refl
 none-taken f (p ∷ ps) zero k past = absurd (omega arith)
 none-taken f (p ∷ ps) (suc home) k past = ap (λ (ws : List World). f p ∷ ws) (none-taken f ps home k (omega arith))
 
-pub one-taken : {P : Type 0} (f : P → World) (ps : List P) (home k : ℕ) (d new : P) → home < length ps → f new ≡ without (f (get_or ps home d)) k
+pub one-taken : {P : Type 0} (f : P → World) (ps : List P) (home k : ℕ) (d new : P) → home < length ps
+    → f new ≡ without (f (get_or ps home d)) k
     → map f (set ps home new) ≡ taken_out (map f ps) home k
 one-taken f [] home k d new low is = absurd (omega arith)
 one-taken f (p ∷ ps) zero k d new low is = ap (λ (w : World). w ∷ map f ps) is
@@ -84,7 +88,8 @@ is-home f (p ∷ ps) zero d w low at = some_is (f p) w at
 is-home f (p ∷ ps) (suc home) d w low at = is-home f ps home d w (omega arith) at
 
 -- a world that has its devices so, once one of its own was taken out
-module _ (w : World) (k : ℕ) (states : List TargetState) (are : w.devices ≡ seen_on w.board w.root w.board.devices states) (own : owns w k ≡ true) where
+module _ (w : World) (k : ℕ) (states : List TargetState) (are : w.devices ≡ seen_on w.board w.root w.board.devices states)
+    (own : owns w k ≡ true) where
   pub own-is : (s : TargetState) → length states ≡ length w.board.devices → own_device w k ≡ Some (get_or states k s)
   own-is s count = rw own (ap (λ ts. slice_get ts k) are ∙ seen-get w.board w.root w.board.devices states k s count own)
 
@@ -96,7 +101,8 @@ module _ (w : World) (k : ℕ) (states : List TargetState) (are : w.devices ≡ 
       ∙ ap (λ (ts : List TargetState). set ts k Silent) (sym are)))
 
 -- one device more is kept, and with those that are left it is the whole
-pub one-kept : (states new : List TargetState) (o : Option TargetState) (homes : List ℕ) (n home : ℕ) (ws vs : List World) (all : List TargetState)
+pub one-kept : (states new : List TargetState) (o : Option TargetState) (homes : List ℕ) (n home : ℕ) (ws vs : List World)
+    (all : List TargetState)
     → drop n homes ≡ home ∷ drop (n + 1) homes → o ≡ state_at ws home n → vs ≡ taken_out ws home n → new ≡ states ++ option_to_list o
     → states ++ states_from n (drop n homes) ws ≡ all
     → new ++ states_from (n + 1) (drop (n + 1) homes) vs ≡ all

@@ -54,7 +54,8 @@ module _ {X : Type 0} (t : Table X) where
   fed_more f g event j (suc i) (x ∷ xs) d within same some =
       let at : j + 1 + i ≡ j + suc i = omega arith in
       ap (λ o. given t o x ∷ feed t g (j + 1) xs) (same j (λ e. absurd (omega (arith, e))))
-      ∙ ap (λ rest. given t (f j) x ∷ rest) (fed_more f g event (j + 1) i xs d (omega arith) (λ k ne. same k (λ e. ne (e ∙ sym at))) (ap g at ∙ some))
+      ∙ ap (λ rest. given t (f j) x ∷ rest)
+      (fed_more f g event (j + 1) i xs d (omega arith) (λ k ne. same k (λ e. ne (e ∙ sym at))) (ap g at ∙ some))
 
   answered_more : (f g : ℕ → Option Event) (event : Event) (j i : ℕ) (xs : List X) (d : X) → i < length xs
       → ((k : ℕ) → k ≢ j + i → g k ≡ f k) → g (j + i) ≡ Some event → ((k : ℕ) → k < j + i + 1 → f k ≡ None)
@@ -78,7 +79,8 @@ module _ {X : Type 0} (t : Table X) where
       ∙ ap (λ o. (j + suc i, t.answer (get_or xs i d) event) ∷ answer_with t o j x (answers t f (j + 1) xs)) (sym here)
 
   -- the target of a number below all others that are told
-  module _ (event : Event) (n high : ℕ) (rest : List ℕ) (rising : AreRising (n + 1) high rest) (xs : List X) (d : X) (within : n < length xs) where
+  module _ (event : Event) (n high : ℕ) (rest : List ℕ) (rising : AreRising (n + 1) high rest) (xs : List X) (d : X)
+      (within : n < length xs) where
     other : (k : ℕ) → k ≢ 0 + n → to_those (n ∷ rest) event k ≡ to_those rest event k
     other k ne = let differs : (n == k) ≡ false = ne_eqb n k (λ e. ne (sym e ∙ sym (zero-add n))) in rw differs refl
 
@@ -111,13 +113,16 @@ module _ {X : Type 0} (t : Table X) where
   pub untold-fed : (event : Event) (numbers : List ℕ) (xs : List X) → xs ≡ feed t (to_those (drop (length numbers) numbers) event) 0 xs
   untold-fed event numbers xs = rw (drop-length numbers) (sym (nobody (to_those [] event) (λ k. refl) 0 xs))
 
-  pub untold-answered : (event : Event) (numbers : List ℕ) (xs : List X) → answers t (to_those (drop (length numbers) numbers) event) 0 xs ≡ []
+  pub untold-answered : (event : Event) (numbers : List ℕ) (xs : List X)
+      → answers t (to_those (drop (length numbers) numbers) event) 0 xs ≡ []
   untold-answered event numbers xs = rw (drop-length numbers) (no_answer (to_those [] event) (λ k. refl) 0 xs)
 
 -- the same of the numbers from k on, of all that are told; the target is read among those that were told so far
-module _ (numbers : List ℕ) (j k n high : ℕ) (rising : AreRising 0 high numbers) (one : j ≡ k + 1) (short : k < length numbers) (is : n ≡ get_or numbers k 0) where
+module _ (numbers : List ℕ) (j k n high : ℕ) (rising : AreRising 0 high numbers) (one : j ≡ k + 1) (short : k < length numbers)
+    (is : n ≡ get_or numbers k 0) where
   same_numbers : drop k numbers ≡ n ∷ drop j numbers
-  same_numbers = at_drop_more (λ ns. ns) numbers k 0 short ∙ ap (λ m. m ∷ drop (k + 1) numbers) (sym is) ∙ ap (λ i. n ∷ drop i numbers) (sym one)
+  same_numbers = at_drop_more (λ ns. ns) numbers k 0 short ∙ ap (λ m. m ∷ drop (k + 1) numbers) (sym is)
+      ∙ ap (λ i. n ∷ drop i numbers) (sym one)
 
   front : AreRising 0 high (n ∷ drop j numbers)
   front = subst (AreRising 0 high) same_numbers (rising-drop 0 high k numbers rising)
@@ -125,7 +130,8 @@ module _ (numbers : List ℕ) (j k n high : ℕ) (rising : AreRising 0 high numb
   pub told-within : n < high
   told-within = front.1
 
-  module _ {X : Type 0} (t : Table X) (event : Event) (xs now : List X) (d : X) (count : high ≡ length xs) (fed : now ≡ feed t (to_those (drop j numbers) event) 0 xs) where
+  module _ {X : Type 0} (t : Table X) (event : Event) (xs now : List X) (d : X) (count : high ≡ length xs)
+      (fed : now ≡ feed t (to_those (drop j numbers) event) 0 xs) where
     within : n < length xs
     within = omega (arith, told-within, count)
 

@@ -63,7 +63,8 @@ devices_give : (w : World) (ack : Bool) (k : ℕ) (xs : List TargetState)
 devices_give w ack k [] = refl
 devices_give w ack k (x ∷ xs) =
     ap (answer_with state_table (to_devices w (event.Get ack) k) k x) (devices_give w ack (k + 1) xs)
-    ∙ same_byte state_table ack (list_any (is_device k) w.hearing) k x (answers state_table (to_devices w (event.Get true)) (k + 1) xs) (gives-same x ack)
+    ∙ same_byte state_table ack (list_any (is_device k) w.hearing) k x (answers state_table (to_devices w (event.Get true)) (k + 1) xs)
+    (gives-same x ack)
 
 pub gives_told : (w : World) (ack : Bool) → (devices_say w (event.Get ack)).byte < 256
     → bit_and (chips_say w (event.Get ack)).byte (devices_say w (event.Get ack)).byte ≡ gives w

@@ -30,7 +30,8 @@ seen_on b root (d ∷ ds) (s ∷ states) = (if is_of b root d then s else openin
 
 -- there is a chip for each mux of the board, and a device for each device, and each has its place; those that no message
 -- has reached are quiet, and devices of other roots are among them
-pub record IsSimWorld (b : BoardView) (root : ℕ) (muxes devices : List PlaceView) (chips : List ChipView) (states : List TargetState) (chip_reach device_reach : Reach) : Type 0 where
+pub record IsSimWorld (b : BoardView) (root : ℕ) (muxes devices : List PlaceView) (chips : List ChipView) (states : List TargetState)
+    (chip_reach device_reach : Reach) : Type 0 where
   pub plain : IsPlainBoard b
   pub mux_places : muxes ≡ map (mux_place b root) b.muxes
   pub device_places : devices ≡ map (device_place b root) b.devices

@@ -56,7 +56,8 @@ record IsItem (b : BoardView) (x : Node) (a : ℕ) : Type 0 where
   pub addr : addr_at b (place_of b x) ≡ Some a
   pub home : home_at b (place_of b x) ≡ home_of b x
 
-some_within : {X : Type 0} (f : X → Option ℕ) (xs : List X) (k a : ℕ) → unwrap_or (option_map f (slice_get xs k)) None ≡ Some a → k < length xs
+some_within : {X : Type 0} (f : X → Option ℕ) (xs : List X) (k a : ℕ) → unwrap_or (option_map f (slice_get xs k)) None ≡ Some a
+    → k < length xs
 some_within f [] k a e = cc
 some_within f (x ∷ xs) zero a e = omega arith
 some_within f (x ∷ xs) (suc k) a e = omega (arith, some_within f xs k a e)
@@ -96,14 +97,17 @@ tree_addresses b rule x y a of_x of_y along =
     elim (cases_order (place_of b x) (place_of b y)) [
       | inl same ↦ same_node b x y a of_x of_y same
       | inr (inl before) ↦
-          let clash = clashes_from b (place_of b x) (place_of b y) a (home_of b x) (home_of b y) one.addr other.addr one.home other.home both.0 in
+          let clash = clashes_from b (place_of b x) (place_of b y) a (home_of b x)
+          (home_of b y) one.addr other.addr one.home other.home both.0 in
           absurd (false≢true (sym (rule (place_of b x) (place_of b y) before other.within) ∙ clash))
       | inr (inr behind) ↦
-          let clash = clashes_from b (place_of b y) (place_of b x) a (home_of b y) (home_of b x) other.addr one.addr other.home one.home both.1 in
+          let clash = clashes_from b (place_of b y) (place_of b x) a (home_of b y)
+          (home_of b x) other.addr one.addr other.home one.home both.1 in
           absurd (false≢true (sym (rule (place_of b y) (place_of b x) behind one.within) ∙ clash))
     ]
 
-left_within : (test : MuxSpec → Bool) (xs : List MuxSpec) (k : ℕ) → unwrap_or (option_map test (slice_get xs k)) false ≡ true → k < length xs
+left_within : (test : MuxSpec → Bool) (xs : List MuxSpec) (k : ℕ) → unwrap_or (option_map test (slice_get xs k)) false ≡ true
+    → k < length xs
 left_within test [] k e = cc
 left_within test (x ∷ xs) zero e = omega arith
 left_within test (x ∷ xs) (suc k) e = omega (arith, left_within test xs k e)
@@ -114,22 +118,27 @@ shared_from : (b : BoardView) (m i j a s t : ℕ) → addr_at b i ≡ Some a →
 shared_from b m i j a s t one other here there root below beside =
     rw (one, other, here, there, below, beside, eq-eqb a a refl, eq-eqb (root_of b s) (root_of b t) root) refl
 
-stays_apart : (b : BoardView) → NoneOf (breaks_idle b) (length b.muxes) → (k : ℕ) (x y : Node) (a : ℕ) → is_left_open b k ≡ true → addr_of b x ≡ Some a → addr_of b y ≡ Some a
-    → root_of b (home_of b x) ≡ root_of b (home_of b y) → crosses_mux k (hops b (home_of b x)) ≡ true → crosses_mux k (hops b (home_of b y)) ≡ false → ⊥
+stays_apart : (b : BoardView) → NoneOf (breaks_idle b) (length b.muxes) → (k : ℕ) (x y : Node) (a : ℕ) → is_left_open b k ≡ true
+    → addr_of b x ≡ Some a → addr_of b y ≡ Some a
+    → root_of b (home_of b x) ≡ root_of b (home_of b y) → crosses_mux k (hops b (home_of b x)) ≡ true
+    → crosses_mux k (hops b (home_of b y)) ≡ false → ⊥
 stays_apart b rule k x y a stays of_x of_y root below beside =
     let one = is_item b x a of_x in
     let other = is_item b y a of_y in
     let shared : is_shared b k (place_of b x) (place_of b y) ≡ true =
     shared_from b k (place_of b x) (place_of b y) a (home_of b x) (home_of b y) one.addr other.addr one.home other.home root below beside in
-    let outside : stands_outside b k (place_of b x) ≡ true = one_below (is_shared b k (place_of b x)) (items b) (place_of b y) other.within shared in
-    let some : some_below (stands_outside b k) (items b) ≡ true = one_below (stands_outside b k) (items b) (place_of b x) one.within outside in
+    let outside : stands_outside b k (place_of b x) ≡ true = one_below (is_shared b k (place_of b x)) (items b)
+    (place_of b y) other.within shared in
+    let some : some_below (stands_outside b k) (items b) ≡ true = one_below (stands_outside b k) (items b)
+    (place_of b x) one.within outside in
     let broken : breaks_idle b k ≡ true =
     ap (λ (t : Bool). t && (not (may_stay b k) || some_below (stands_outside b k) (items b))) stays
     ∙ ap (λ (t : Bool). not (may_stay b k) || t) some ∙ or-true (not (may_stay b k)) in
     false≢true (sym (rule k (left_within (λ x. is_staying x.idle) b.muxes k stays)) ∙ broken)
 
 -- an arbitrator doesn't stay
-asking_leaves : (b : BoardView) → NoneOf (breaks_idle b) (length b.muxes) → (m : ℕ) → (facts_of (of_mux (λ x. x.kind) Pca9548 b m)).asks ≡ true → is_left_open b m ≡ false
+asking_leaves : (b : BoardView) → NoneOf (breaks_idle b) (length b.muxes) → (m : ℕ)
+    → (facts_of (of_mux (λ x. x.kind) Pca9548 b m)).asks ≡ true → is_left_open b m ≡ false
 asking_leaves b rule m asks = by (is_left_open b m) refl
   where
     by : (t : Bool) → is_left_open b m ≡ t → t ≡ false

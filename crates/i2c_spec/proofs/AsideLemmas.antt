@@ -36,7 +36,8 @@ not_aside_itself b s =
 
 pub no_root_aside : (b : BoardView) (s u : ℕ) → u < length b.roots → is_aside b s u ≡ false
 no_root_aside b s u root =
-    ap (λ (hs : List Hop). eqb (root_of b u) (root_of b s) && list_any (is_kept_hop b s) hs) (root_hops_of (length b.roots) (reverse b.muxes) u root)
+    ap (λ (hs : List Hop). eqb (root_of b u) (root_of b s) && list_any (is_kept_hop b s) hs)
+    (root_hops_of (length b.roots) (reverse b.muxes) u root)
     ∙ and-false (eqb (root_of b u) (root_of b s))
 
 pub unkept_aside : (b : BoardView) (s u : ℕ) → list_any (is_kept_hop b s) (hops b u) ≡ false → is_aside b s u ≡ false
@@ -46,7 +47,8 @@ unkept_aside b s u none = ap (λ (t : Bool). eqb (root_of b u) (root_of b s) && 
 abbrev stays_in : List MuxSpec → Bool
 stays_in ms = list_any (λ m. is_staying m.idle) ms
 
-still : (roots : ℕ) (test : Hop → Bool) (ms : List MuxSpec) (s : ℕ) → stays_in ms ≡ false → list_any (λ h. h.stays && test h) (hops_of roots ms s) ≡ false
+still : (roots : ℕ) (test : Hop → Bool) (ms : List MuxSpec) (s : ℕ) → stays_in ms ≡ false
+    → list_any (λ h. h.stays && test h) (hops_of roots ms s) ≡ false
 still roots test [] s none = refl
 still roots test (m ∷ before) s none =
     let parts = or_parts (is_staying m.idle) (stays_in before) none in
@@ -63,7 +65,8 @@ none_aside b none s u =
     unkept_aside b s u (still (length b.roots) (λ h. not (crosses_mux h.mux (hops b s))) (reverse b.muxes) u
     (sym (list_any-IsPermutation (λ (m : MuxSpec). is_staying m.idle) b.muxes (reverse b.muxes) (IsPermutation-reverse b.muxes)) ∙ none))
 
-nowhere : {X : Type 0} (test : X → Bool) (on : X → Bool) (xs : List X) → ((x : X) → on x ≡ false) → list_any (λ x. test x && on x) xs ≡ false
+nowhere : {X : Type 0} (test : X → Bool) (on : X → Bool) (xs : List X) → ((x : X) → on x ≡ false)
+    → list_any (λ x. test x && on x) xs ≡ false
 nowhere test on [] none = refl
 nowhere test on (x ∷ xs) none =
     ap (λ (t : Bool). (test x && t) || list_any (λ y. test y && on y) xs) (none x)
@@ -71,9 +74,11 @@ nowhere test on (x ∷ xs) none =
     ∙ nowhere test on xs none
 
 -- .. and no address is used behind one
-pub none_used : (b : BoardView) (s a : ℕ) → stays_in b.muxes ≡ false → (some_chip b a (is_aside b s) || some_device b a (is_aside b s)) ≡ false
+pub none_used : (b : BoardView) (s a : ℕ) → stays_in b.muxes ≡ false
+    → (some_chip b a (is_aside b s) || some_device b a (is_aside b s)) ≡ false
 none_used b s a none =
-    ap (λ (t : Bool). t || some_device b a (is_aside b s)) (nowhere (λ (m : MuxSpec). has_address a m.addr) (λ m. is_aside b s m.bus) b.muxes (λ m. none_aside b none s m.bus))
+    ap (λ (t : Bool). t || some_device b a (is_aside b s))
+    (nowhere (λ (m : MuxSpec). has_address a m.addr) (λ m. is_aside b s m.bus) b.muxes (λ m. none_aside b none s m.bus))
     ∙ nowhere (λ (d : DeviceView). eqb d.addr a) (λ d. is_aside b s d.bus) b.devices (λ d. none_aside b none s d.bus)
 
 -- one search for either of two places

@@ -44,7 +44,8 @@ append_bytes (x ∷ xs) ys hx hy = (hx.0, append_bytes xs ys hx.1 hy)
 abbrev pub RunsHoldBytes : List RunView → Type 0
 RunsHoldBytes runs = AllByRecursion (λ r. AllByRecursion IsByte r.bytes) runs
 
-pub runs_bytes : (runs : List RunView) (memory : List ℕ) → RunsHoldBytes runs → AllByRecursion IsByte memory → AllByRecursion IsByte (write_runs memory runs)
+pub runs_bytes : (runs : List RunView) (memory : List ℕ) → RunsHoldBytes runs → AllByRecursion IsByte memory
+    → AllByRecursion IsByte (write_runs memory runs)
 runs_bytes [] memory all held = held
 runs_bytes (r ∷ rs) memory all held =
     runs_bytes rs (write_run memory r) all.1

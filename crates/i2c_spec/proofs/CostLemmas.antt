@@ -22,7 +22,11 @@ bytes_by false len h = omega arith
 
 pub bytes_few : (ms : List Msg) → length ms ≤ MOST_MESSAGES → All IsMessage ms → sum_by (bytes_of BLOCK_LIMIT) ms ≤ 22848
 bytes_few ms count each =
-    omega (arith, sum_by-le (bytes_of BLOCK_LIMIT) 544 ms (λ k d h. bytes_by (is_counted (get_or ms k d)) (get_or ms k d).len (each k d h).0))
+    omega (
+      arith,
+      sum_by-le (bytes_of BLOCK_LIMIT) 544 ms
+          (λ k d h. bytes_by (is_counted (get_or ms k d)) (get_or ms k d).len (each k d h).0),
+    )
 
 -- a lock for each hop at most, and the root's
 pub locks_few : (root : ℕ) (hs : List Hop) → length (locks_of root hs) ≤ length hs + 1
@@ -51,7 +55,8 @@ inner_most : (hs : List Hop) (x : ℕ) → inner_cost hs x ≤ most_inner (lengt
 inner_most [] x = omega arith
 inner_most (h ∷ hs) x =
     let facts = facts_of h.kind in
-    let step = inner_step h.parent facts.by_line facts.asks (length hs) (lock_steps hs) (inner_cost hs 2) (inner_cost hs x) (omega (arith, locks_few 0 hs)) in
+    let step = inner_step h.parent facts.by_line facts.asks (length hs) (lock_steps hs) (inner_cost hs 2) (inner_cost hs x)
+    (omega (arith, locks_few 0 hs)) in
     omega (arith, step, inner_most hs 2, inner_most hs x)
 
 few_most : (n x : ℕ) → n ≤ 4 → x < 2 ^ 32 → most_inner n x ≤ 2 ^ 40
@@ -81,4 +86,5 @@ hops_few b s plain meets = by (hops b s) refl
 
 -- each transfer costs something
 pub cost_some : (b : BoardView) (t : TransferView) → 1 ≤ cost_of b t
-cost_some b t = elim (nat_lt t.bus (buses b)) as (λ v. 1 ≤ cond v (1 + full_cost (hops b t.bus) (steps_of b t)) 1) [ true ↦ omega arith | false ↦ omega arith ]
+cost_some b t = elim (nat_lt t.bus (buses b)) as
+    (λ v. 1 ≤ cond v (1 + full_cost (hops b t.bus) (steps_of b t)) 1) [ true ↦ omega arith | false ↦ omega arith ]

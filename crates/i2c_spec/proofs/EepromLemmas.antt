@@ -24,7 +24,8 @@ none_waits zero = refl
 none_waits (suc n) = none_waits n
 
 written_none : (memory : List ℕ) (start n : ℕ) → written_at memory start (replicate n None) ≡ memory
-written_none memory start n = ap (λ (bytes : List ℕ). take start memory ++ bytes) (taken_none n (drop start memory)) ∙ take-append-drop start memory
+written_none memory start n = ap (λ (bytes : List ℕ). take start memory ++ bytes) (taken_none n (drop start memory))
+    ∙ take-append-drop start memory
 
 stopped-clear : (x : EepromView) → eeprom_stop (clear_to x Idle) ≡ clear_to x Idle
 stopped-clear x =
@@ -53,7 +54,8 @@ eeprom_fair = record {
   stop = λ x. refl;
 }
 
-pub eeprom_opening-quiet : (size : Size) (fill busy : ℕ) (wp : Bool) (set : List RunView) → IsQuiet eeprom_table (eeprom_opening size fill busy wp set)
+pub eeprom_opening-quiet : (size : Size) (fill busy : ℕ) (wp : Bool) (set : List RunView)
+    → IsQuiet eeprom_table (eeprom_opening size fill busy wp set)
 eeprom_opening-quiet size fill busy wp set = record { other = refl; stop = stopped-clear (eeprom_opening size fill busy wp set) }
 
 -- what it holds stays bytes
@@ -83,7 +85,8 @@ taken_byte : (place : Option ℕ) (byte : ℕ) → Place place → IsByte byte �
 taken_byte None byte is small = small
 taken_byte (Some new) byte is small = is
 
-taken_bytes : (waiting : List (Option ℕ)) (bytes : List ℕ) → AllByRecursion Place waiting → AllByRecursion IsByte bytes → AllByRecursion IsByte (taken_in waiting bytes)
+taken_bytes : (waiting : List (Option ℕ)) (bytes : List ℕ) → AllByRecursion Place waiting → AllByRecursion IsByte bytes
+    → AllByRecursion IsByte (taken_in waiting bytes)
 taken_bytes [] bytes wait all = all
 taken_bytes (w ∷ ws) [] wait all = tt
 taken_bytes (w ∷ ws) (byte ∷ bytes) wait all = (taken_byte w byte wait.0 all.0, taken_bytes ws bytes wait.1 all.1)
@@ -114,7 +117,11 @@ eeprom_sent_byte x Data all = omega arith
 pub eeprom_keep_bytes : KeepsBytes eeprom_table IsEepromOfBytes
 eeprom_keep_bytes = record { after = eeprom_after_bytes; sends = λ x all. eeprom_sent_byte x x.phase all.0 }
 
-pub eeprom_opening-bytes : (size : Size) (fill busy : ℕ) (wp : Bool) (set : List RunView) → fill ≤ 255 → RunsHoldBytes set → IsEepromOfBytes (eeprom_opening size fill busy wp set)
+pub eeprom_opening-bytes : (size : Size) (fill busy : ℕ) (wp : Bool) (set : List RunView) → fill ≤ 255 → RunsHoldBytes set
+    → IsEepromOfBytes (eeprom_opening size fill busy wp set)
 eeprom_opening-bytes size fill busy wp set most runs =
-    let small : fill < 256 = omega arith in
-    (runs_bytes set (replicate (size_of_eeprom size) fill) runs (all_of IsByte (size_of_eeprom size) fill small), all_of Place (page_of_eeprom size) None tt)
+    let small : fill < 256 = omega arith in (
+      runs_bytes set (replicate (size_of_eeprom size) fill) runs (all_of IsByte (size_of_eeprom size) fill small),
+      all_of Place
+          (page_of_eeprom size) None tt,
+    )

@@ -65,7 +65,8 @@ hops_of_within : (roots : ℕ) (ms : List MuxSpec) (s : ℕ) → All (IsWithin (
 hops_of_within roots [] s = All-nil (IsWithin 0)
 hops_of_within roots (m ∷ before) s =
     let n = length before in
-    let weaker = λ (t : ℕ). All-weaker (IsWithin n) (IsWithin (suc n)) (IsWithin_more n) (hops_of roots before t) (hops_of_within roots before t) in
+    let weaker = λ (t : ℕ). All-weaker (IsWithin n) (IsWithin (suc n)) (IsWithin_more n) (hops_of roots before t)
+    (hops_of_within roots before t) in
     elim (nat_le (buses_of roots before) s)
     as (λ t. All (IsWithin (suc n)) (put_if t (hop_at roots before m s) (hops_of roots before (cond t m.bus s)))) [
       | true ↦ All-cons (IsWithin (suc n)) _ _ (IsWithin_last roots m before s) (weaker m.bus)

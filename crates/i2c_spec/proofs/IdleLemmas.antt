@@ -31,19 +31,22 @@ below_none test n none here = subst (λ (k : ℕ). some_below test k ≡ false) 
 -- where the kind may stay, the rule is broken only by an address that stands outside
 pub outside-some : (b : BoardView) (m : ℕ) → breaks_idle b m ≡ true → may_stay b m ≡ true → NoneOf (stands_outside b m) (items b) → ⊥
 outside-some b m broken stays none =
-    false≢true (sym (by (is_left_open b m)) ∙ ap (λ (t : Bool). is_left_open b m && (not (may_stay b m) || t)) (sym (none_below (stands_outside b m) (items b) none)) ∙ broken)
+    false≢true (sym (by (is_left_open b m))
+    ∙ ap (λ (t : Bool). is_left_open b m && (not (may_stay b m) || t)) (sym (none_below (stands_outside b m) (items b) none)) ∙ broken)
   where
     by : (t : Bool) → t && (not (may_stay b m) || false) ≡ false
     by true = ap (λ (s : Bool). not s || false) stays
     by false = refl
 
 -- what the search for it finds
-pub outside-is : (b : BoardView) (m : ℕ) (o : Option ℕ) → IfNone o (NoneOf (stands_outside b m) (items b)) → IfSome o (λ i. IsFirstOne (stands_outside b m) (items b) i)
+pub outside-is : (b : BoardView) (m : ℕ) (o : Option ℕ) → IfNone o (NoneOf (stands_outside b m) (items b))
+    → IfSome o (λ i. IsFirstOne (stands_outside b m) (items b) i)
     → is_some o ≡ some_below (stands_outside b m) (items b)
 outside-is b m None none some = sym (none_below (stands_outside b m) (items b) none)
 outside-is b m (Some i) none some = sym (one_below (stands_outside b m) (items b) i some.within some.broken)
 
-pub outside-found : (b : BoardView) (m : ℕ) (o : Option ℕ) → IfNone o (NoneOf (stands_outside b m) (items b)) → breaks_idle b m ≡ true → may_stay b m ≡ true → IsSome o
+pub outside-found : (b : BoardView) (m : ℕ) (o : Option ℕ) → IfNone o (NoneOf (stands_outside b m) (items b)) → breaks_idle b m ≡ true
+    → may_stay b m ≡ true → IsSome o
 outside-found b m None none broken stays = absurd (outside-some b m broken stays none)
 outside-found b m (Some i) none broken stays = refl
 
@@ -60,5 +63,6 @@ asking_spec : (o : Option MuxSpec) → (facts_of (unwrap_or (option_map (λ (x :
 asking_spec None e = absurd (false≢true e)
 asking_spec (Some x) e = asking_leaves x.kind e
 
-pub asking_broken : (b : BoardView) (m : ℕ) → (facts_of (of_mux (λ x. x.kind) Pca9548 b m)).asks ≡ true → is_left_open b m ≡ true → breaks_idle b m ≡ true
+pub asking_broken : (b : BoardView) (m : ℕ) → (facts_of (of_mux (λ x. x.kind) Pca9548 b m)).asks ≡ true → is_left_open b m ≡ true
+    → breaks_idle b m ≡ true
 asking_broken b m asks stays = rw (stays, asking_spec (slice_get b.muxes m) asks) refl

@@ -32,9 +32,12 @@ written_word word k byte fits small =
 
 written_register : (x : Lm75View) (k byte : ℕ) → IsByte byte → IsLm75OfBytes x → IsLm75OfBytes (register_written x k byte)
 written_register x k byte small all =
-    either IsLm75OfBytes (x.pointer == 1) one two (either IsLm75OfBytes (k == 0) (record x { configuration = byte }) x (all.0, small, all.2, all.3) all)
-    (either IsLm75OfBytes (x.pointer == 2) (record x { hysteresis = word_written x.hysteresis k byte }) three (all.0, all.1, written_word x.hysteresis k byte all.2 small, all.3)
-    (either IsLm75OfBytes (x.pointer == 3) (record x { limit = word_written x.limit k byte }) x (all.0, all.1, all.2, written_word x.limit k byte all.3 small) all))
+    either IsLm75OfBytes (x.pointer == 1) one two
+    (either IsLm75OfBytes (k == 0) (record x { configuration = byte }) x (all.0, small, all.2, all.3) all)
+    (either IsLm75OfBytes (x.pointer == 2) (record x { hysteresis = word_written x.hysteresis k byte }) three
+    (all.0, all.1, written_word x.hysteresis k byte all.2 small, all.3)
+    (either IsLm75OfBytes (x.pointer == 3) (record x { limit = word_written x.limit k byte }) x
+    (all.0, all.1, all.2, written_word x.limit k byte all.3 small) all))
   where
     one : Lm75View
     one = if k == 0 then record x { configuration = byte } else x
@@ -69,10 +72,12 @@ word_byte word k fits = either IsByte (k % 2 == 0) (word / 256) (word % 256) (om
 
 register_byte : (x : Lm75View) (k : ℕ) → IsLm75OfBytes x → IsByte (register_sends x k)
 register_byte x k all =
-    either IsByte (x.pointer == 0) (byte_of_word x.temperature k) (if x.pointer == 1 then x.configuration else if x.pointer == 2 then byte_of_word x.hysteresis k else byte_of_word x.limit k)
+    either IsByte (x.pointer == 0) (byte_of_word x.temperature k)
+    (if x.pointer == 1 then x.configuration else if x.pointer == 2 then byte_of_word x.hysteresis k else byte_of_word x.limit k)
     (word_byte x.temperature k all.0)
     (either IsByte (x.pointer == 1) x.configuration (if x.pointer == 2 then byte_of_word x.hysteresis k else byte_of_word x.limit k) all.1
-    (either IsByte (x.pointer == 2) (byte_of_word x.hysteresis k) (byte_of_word x.limit k) (word_byte x.hysteresis k all.2) (word_byte x.limit k all.3)))
+    (either IsByte (x.pointer == 2) (byte_of_word x.hysteresis k) (byte_of_word x.limit k) (word_byte x.hysteresis k all.2)
+    (word_byte x.limit k all.3)))
 
 lm75_sent_byte : (x : Lm75View) (p : Lm75Phase) → IsLm75OfBytes x → IsByte (lm75_sends x p)
 lm75_sent_byte x (Read k) all = register_byte x k all

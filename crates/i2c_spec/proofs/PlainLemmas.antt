@@ -43,9 +43,16 @@ All_channels_le ms h =
 -- the roots, and the muxes with their channels
 pub buses_le : (b : BoardView) → IsPlainBoard b → buses b ≤ MOST_BUSES
 buses_le b plain =
-    omega (arith, plain.most_roots, plain.most_muxes, sum_by-le (λ (m : MuxSpec). m.channels) MOST_CHANNELS b.muxes (All_channels_le b.muxes plain.muxes))
+    omega (
+      arith,
+      plain.most_roots,
+      plain.most_muxes,
+      sum_by-le (λ (m : MuxSpec). m.channels) MOST_CHANNELS b.muxes
+          (All_channels_le b.muxes plain.muxes),
+    )
 
-most_channels : (ms : List MuxSpec) (k : ℕ) → All (λ m. m.channels ≤ MOST_CHANNELS) ms → unwrap_or (option_map (λ (m : MuxSpec). m.channels) (slice_get ms k)) 0 ≤ MOST_CHANNELS
+most_channels : (ms : List MuxSpec) (k : ℕ) → All (λ m. m.channels ≤ MOST_CHANNELS) ms
+    → unwrap_or (option_map (λ (m : MuxSpec). m.channels) (slice_get ms k)) 0 ≤ MOST_CHANNELS
 most_channels [] k all = omega arith
 most_channels (m ∷ ms) zero all = All-head (λ (x : MuxSpec). x.channels ≤ MOST_CHANNELS) m ms all
 most_channels (m ∷ ms) (suc k) all = most_channels ms k (All-tail (λ (x : MuxSpec). x.channels ≤ MOST_CHANNELS) m ms all)

@@ -32,7 +32,8 @@ regs_fair = record {
 }
 
 -- what it holds stays bytes
-put_bytes : (x : RegsView) (p : RegsPhase) (byte : ℕ) → IsByte byte → AllByRecursion IsByte x.memory → AllByRecursion IsByte (regs_put x p byte).memory
+put_bytes : (x : RegsView) (p : RegsPhase) (byte : ℕ) → IsByte byte → AllByRecursion IsByte x.memory
+    → AllByRecursion IsByte (regs_put x p byte).memory
 put_bytes x Pointer byte small all = all
 put_bytes x Data byte small all = set_all IsByte x.memory x.pointer byte small all
 put_bytes x Idle byte small all = all

@@ -46,7 +46,8 @@ last_mux_within n (h ∷ hs) i all e =
     let xs = h ∷ hs in
     let long : 0 < length (reverse xs) = omega (arith, length-reverse xs) in
     let last = get_or xs (length xs - 1 - 0) h in
-    let first : slice_get (reverse xs) 0 ≡ Some last = slice_get-get_or (reverse xs) 0 h long ∙ ap Some (get_or-reverse xs 0 h (omega arith)) in
+    let first : slice_get (reverse xs) 0 ≡ Some last = slice_get-get_or (reverse xs) 0 h long
+    ∙ ap Some (get_or-reverse xs 0 h (omega arith)) in
     let same : last.mux ≡ i = same_Some last.mux i (sym (ap (λ o. option_map (λ (g : Hop). g.mux) o) first) ∙ e) in
     let below : last.mux < n = All-get_or (λ (g : Hop). g.mux < n) xs (length xs - 1 - 0) h (omega arith) all in
     omega arith

@@ -10,8 +10,13 @@ kind-send = search sendable depth 20
 
 inside-send : IsSend inside.the_row
 inside-send =
-    recorded_send (inside.the_field).row _ _ (inside.the_type).to_one (struct_send (shape (inside.the_type))
-    (search sendable depth 20, (search sendable depth 20, (search sendable depth 20, (search sendable depth 20, (search sendable depth 20, (kind-send, (search sendable depth 20, tt))))))))
+    recorded_send (inside.the_field).row _ _ (inside.the_type).to_one (struct_send (shape (inside.the_type)) (
+      search sendable depth 20,
+      (
+        search sendable depth 20,
+        (search sendable depth 20, (search sendable depth 20, (search sendable depth 20, (kind-send, (search sendable depth 20, tt))))),
+      ),
+    ))
 
 pub hop-send : IsSend (Hop.the_field).row
 hop-send = search (sendable, inside-send) depth 20

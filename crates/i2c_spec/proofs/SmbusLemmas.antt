@@ -50,7 +50,8 @@ held_bytes memory place (byte ∷ held) bytes all =
 
 left_bytes : (x : SmbusView) → IsSmbusOfBytes x → AllByRecursion IsByte (memory_left x)
 left_bytes x all =
-    either (AllByRecursion IsByte) (takes_effect x x.phase) (held_written x.memory x.command x.held) x.memory (held_bytes x.memory x.command x.held all.3 all.4) all.4
+    either (AllByRecursion IsByte) (takes_effect x x.phase) (held_written x.memory x.command x.held) x.memory
+    (held_bytes x.memory x.command x.held all.3 all.4) all.4
 
 so_far_byte : (x : SmbusView) (p : SmbusPhase) → IsByte x.code → IsByte (code_so_far x p)
 so_far_byte x Idle small = omega arith
@@ -114,7 +115,8 @@ smbus_sent_byte x Checked all = omega arith
 pub smbus_keep_bytes : KeepsBytes smbus_table IsSmbusOfBytes
 smbus_keep_bytes = record { after = smbus_after_bytes; sends = λ x all. smbus_sent_byte x x.phase all }
 
-pub smbus_opening-bytes : (addr width flip : ℕ) (set : List RunView) → addr < 128 → flip ≤ 255 → RunsHoldBytes set → IsSmbusOfBytes (smbus_opening addr width flip set)
+pub smbus_opening-bytes : (addr width flip : ℕ) (set : List RunView) → addr < 128 → flip ≤ 255 → RunsHoldBytes set
+    → IsSmbusOfBytes (smbus_opening addr width flip set)
 smbus_opening-bytes addr width flip set near most runs = (
   near,
   let small : flip < 256 = omega arith in small,

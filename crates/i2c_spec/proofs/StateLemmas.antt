@@ -80,7 +80,8 @@ pub gives-same : (x : TargetState) (ack : Bool) → state_answer x (event.Get ac
 gives-same x ack = sends x ack ∙ sym (sends x true)
 
 opening_of_kind : (k : DeviceKind) (addr : ℕ) (set : List RunView) → IsQuiet state_table ((row_of_kind k).opens addr set)
-opening_of_kind (kind.Eeprom size fill busy wp) addr set = let q = eeprom_opening-quiet size fill busy wp set in record { other = ap Eeprom q.other; stop = ap Eeprom q.stop }
+opening_of_kind (kind.Eeprom size fill busy wp) addr set = let q = eeprom_opening-quiet size fill busy wp set in
+    record { other = ap Eeprom q.other; stop = ap Eeprom q.stop }
 opening_of_kind (kind.Lm75 raw) addr set = record { other = refl; stop = refl }
 opening_of_kind (kind.Regs hold) addr set = record { other = refl; stop = refl }
 opening_of_kind (kind.Smbus width flip) addr set = record { other = refl; stop = refl }
@@ -111,10 +112,14 @@ sends-byte x ack all = subst (λ (a : Answer). IsByte (byte_of a)) (sym (sends x
 
 plain_runs : (size : ℕ) (runs : List RunView) → All (IsPlainRun size) runs → RunsHoldBytes runs
 plain_runs size [] all = tt
-plain_runs size (r ∷ rs) all =
-    (recursion_from_All IsByte r.bytes (All-head (IsPlainRun size) r rs all).bytes, plain_runs size rs (All-tail (IsPlainRun size) r rs all))
+plain_runs size (r ∷ rs) all = (
+  recursion_from_All IsByte r.bytes (All-head (IsPlainRun size) r rs all).bytes,
+  plain_runs size rs
+      (All-tail (IsPlainRun size) r rs all),
+)
 
-opened_bytes : (k : DeviceKind) (addr : ℕ) (set : List RunView) → addr < 128 → FitsKind k → RunsHoldBytes set → HoldsBytes ((row_of_kind k).opens addr set)
+opened_bytes : (k : DeviceKind) (addr : ℕ) (set : List RunView) → addr < 128 → FitsKind k → RunsHoldBytes set
+    → HoldsBytes ((row_of_kind k).opens addr set)
 opened_bytes (kind.Eeprom size fill busy wp) addr set near fits runs = eeprom_opening-bytes size fill busy wp set fits.0.1 runs
 opened_bytes (kind.Lm75 raw) addr set near fits runs = lm75_opening-bytes raw fits.0.1
 opened_bytes (kind.Regs hold) addr set near fits runs = regs_opening-bytes hold set runs

@@ -174,10 +174,19 @@ hop_is roots (m ∷ before) s h planted among =
 
 -- hops are the same where their parts are
 hop_of_parts : ℕ → ℕ → ℕ → ℕ → Bool → MuxKind → Bool → Hop
-hop_of_parts bus mux channel on parent kind stays = record { bus = bus; mux = mux; channel = channel; on = on; parent = parent; kind = kind; stays = stays }
+hop_of_parts bus mux channel on parent kind stays = record {
+  bus = bus;
+  mux = mux;
+  channel = channel;
+  on = on;
+  parent = parent;
+  kind = kind;
+  stays = stays;
+}
 
 same_parts : (g h : Hop) → g.mux ≡ h.mux → g.channel ≡ h.channel → g.bus ≡ h.bus → g.on ≡ h.on → g.parent ≡ h.parent
-    → g.kind ≡ h.kind → g.stays ≡ h.stays → hop_of_parts g.bus g.mux g.channel g.on g.parent g.kind g.stays ≡ hop_of_parts h.bus h.mux h.channel h.on h.parent h.kind h.stays
+    → g.kind ≡ h.kind → g.stays ≡ h.stays
+    → hop_of_parts g.bus g.mux g.channel g.on g.parent g.kind g.stays ≡ hop_of_parts h.bus h.mux h.channel h.on h.parent h.kind h.stays
 same_parts g h mux channel bus on parent kind stays = cc
 
 same_hop : (g h : Hop) → g.mux ≡ h.mux → g.channel ≡ h.channel → g.bus ≡ h.bus → g.on ≡ h.on → g.parent ≡ h.parent
@@ -205,7 +214,8 @@ module _ (b : BoardView) (planted : IsPlanted (length b.roots) (reverse b.muxes)
       let leads = (tree_leads s h hs e).1 in
       elim (eqb_tells h.on u) [
         | inl same ↦ (let is = same.1 in absurd (omega (arith, is, leads, low)))
-        | inr other ↦ ap (λ (t : Bool). t || list_any (λ g. g.on == u) hs) other.0 ∙ above_none hs h.on u (tree_tail s h hs e) (omega (arith, leads, low))
+        | inr other ↦ ap (λ (t : Bool). t || list_any (λ g. g.on == u) hs) other.0
+            ∙ above_none hs h.on u (tree_tail s h hs e) (omega (arith, leads, low))
       ]
 
   pub tree_above : (s u : ℕ) → s ≤ u → is_below b s u ≡ false
@@ -240,7 +250,8 @@ module _ (b : BoardView) (planted : IsPlanted (length b.roots) (reverse b.muxes)
       let spec : one.spec ≡ other.spec =
       same_Some one.spec other.spec (sym one.at ∙ ap (λ k. slice_get b.muxes k) mux ∙ other.at) in
       same_hop g h mux channel
-      (one.bus ∙ ap (λ k. buses_of (length b.roots) (take k b.muxes) + g.channel) mux ∙ ap (λ c. buses_of (length b.roots) (take h.mux b.muxes) + c) channel ∙ sym other.bus)
+      (one.bus ∙ ap (λ k. buses_of (length b.roots) (take k b.muxes) + g.channel) mux
+      ∙ ap (λ c. buses_of (length b.roots) (take h.mux b.muxes) + c) channel ∙ sym other.bus)
       (sym one.on ∙ ap (λ (m : MuxSpec). m.bus) spec ∙ other.on)
       (sym one.parent ∙ ap (λ (m : MuxSpec). is_parent m.lock) spec ∙ other.parent)
       (sym one.kind ∙ ap (λ (m : MuxSpec). m.kind) spec ∙ other.kind)

@@ -7,7 +7,8 @@ use Rattle.i2c_base.specs.Transfer.{TransferView, IsTransfer}
 use Rattle.i2c_spec.specs.Cost.{cost_of}
 
 -- whatever a caller is opened with: each transfer has a message and is within the limits; what is left covers its cost, and falls by it
-pub record IsFairCaller {S : Type 0} (asked : S → List Reply → Option TransferView) (left : S → List Reply → ℕ) (board : S → BoardView) : Type 0 where
+pub record IsFairCaller {S : Type 0} (asked : S → List Reply → Option TransferView) (left : S → List Reply → ℕ) (board : S
+    → BoardView) : Type 0 where
   pub sends : (s : S) (rs : List Reply) (t : TransferView) → asked s rs ≡ Some t → 0 < length t.msgs
   pub limits : (s : S) (rs : List Reply) (t : TransferView) → asked s rs ≡ Some t → IsTransfer t.msgs t.out
   pub costs : (s : S) (rs : List Reply) (t : TransferView) → asked s rs ≡ Some t → 1 ≤ cost_of (board s) t

@@ -62,7 +62,8 @@ some_below test (suc n) = some_below test n || test n
 abbrev pub is_shared : BoardView → ℕ → ℕ → ℕ → Bool
 is_shared b m i j =
     is_same_address (addr_at b i) (addr_at b j)
-    && ((root_of b (home_at b i) == root_of b (home_at b j)) && (crosses_mux m (hops b (home_at b i)) && not (crosses_mux m (hops b (home_at b j)))))
+    && ((root_of b (home_at b i) == root_of b (home_at b j)) &&
+    (crosses_mux m (hops b (home_at b i)) && not (crosses_mux m (hops b (home_at b j)))))
 
 abbrev pub stands_outside : BoardView → ℕ → ℕ → Bool
 stands_outside b m i = some_below (is_shared b m i) (items b)

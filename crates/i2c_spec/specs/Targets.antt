@@ -88,11 +88,23 @@ of_key key n = record { key = key; value = n }
 
 abbrev pub row_of_kind : DeviceKind → KindRow
 row_of_kind (kind.Eeprom size fill busy wp) =
-    record { numbers = of_key fill_key fill ∷ of_key busy_key busy ∷ []; memory = Some (size_of_eeprom size); opens = λ addr set. Eeprom (eeprom_opening size fill busy wp set) }
+    record {
+      numbers = of_key fill_key fill ∷ of_key busy_key busy ∷ [];
+      memory = Some (size_of_eeprom size);
+      opens = λ addr set. Eeprom (eeprom_opening size fill busy wp set);
+    }
 row_of_kind (kind.Lm75 raw) = record { numbers = of_key raw_key raw ∷ []; memory = None; opens = λ addr set. Lm75 (lm75_opening raw) }
-row_of_kind (kind.Regs hold) = record { numbers = of_key hold_key hold ∷ []; memory = Some 256; opens = λ addr set. Regs (regs_opening hold set) }
+row_of_kind (kind.Regs hold) = record {
+  numbers = of_key hold_key hold ∷ [];
+  memory = Some 256;
+  opens = λ addr set. Regs (regs_opening hold set);
+}
 row_of_kind (kind.Smbus width flip) =
-    record { numbers = of_key width_key width ∷ of_key flip_key flip ∷ []; memory = Some 256; opens = λ addr set. Smbus (smbus_opening addr width flip set) }
+    record {
+      numbers = of_key width_key width ∷ of_key flip_key flip ∷ [];
+      memory = Some 256;
+      opens = λ addr set. Smbus (smbus_opening addr width flip set);
+    }
 
 -- each number of a device is one that its key allows
 abbrev pub FitsKind : DeviceKind → Type 0

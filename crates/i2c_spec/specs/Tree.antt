@@ -47,7 +47,15 @@ is_staying AsIs = true
 -- the hop over bus s, which is a channel of the mux that comes behind these muxes
 abbrev pub hop_at : ℕ → List MuxSpec → MuxSpec → ℕ → Hop
 hop_at roots before m s =
-    record { bus = s; mux = length before; channel = s - buses_of roots before; on = m.bus; parent = is_parent m.lock; kind = m.kind; stays = is_staying m.idle }
+    record {
+      bus = s;
+      mux = length before;
+      channel = s - buses_of roots before;
+      on = m.bus;
+      parent = is_parent m.lock;
+      kind = m.kind;
+      stays = is_staying m.idle;
+    }
 
 -- one more in front, where the test says so
 abbrev pub put_if : {X : Type 0} → Bool → X → List X → List X

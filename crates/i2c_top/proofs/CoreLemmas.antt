@@ -51,10 +51,19 @@ use Rattle.i2c_base.proofs.ListLemmas.{there, map_from, map_at}
 
 -- a script as a caller
 abbrev pub script_row : CallerGhosts CallerView ScriptView
-script_row = record { script = λ s. s.script; board = board_of; taken = λ s. s.taken; asked = asked_by; left = left_of; owed = owed_by; spare = λ s. s.spare }
+script_row = record {
+  script = λ s. s.script;
+  board = board_of;
+  taken = λ s. s.taken;
+  asked = asked_by;
+  left = left_of;
+  owed = owed_by;
+  spare = λ s. s.spare;
+}
 
 -- an element of a numbered list, and of a list whose elements all are so
-pub numbered-at : {X : Type 0} (n : ℕ) (xs : List X) (i : ℕ) (y : ℕ × X) → slice_get (enumerate_from n xs) i ≡ Some y → (y.0 ≡ n + i) × (slice_get xs i ≡ Some y.1)
+pub numbered-at : {X : Type 0} (n : ℕ) (xs : List X) (i : ℕ) (y : ℕ × X) → slice_get (enumerate_from n xs) i ≡ Some y
+    → (y.0 ≡ n + i) × (slice_get xs i ≡ Some y.1)
 numbered-at n [] i y h = absurd (let f : None ≡ Some y = h in cc)
 numbered-at {X} n (x ∷ xs) zero y h =
     let f : Some (n, x) ≡ Some y = h in
@@ -63,12 +72,14 @@ numbered-at {X} n (x ∷ xs) zero y h =
     (omega (arith, number), ap (λ (z : ℕ × X). Some z.1) e)
 numbered-at n (x ∷ xs) (suc i) y h = (let r = numbered-at (n + 1) xs i y h in let is = r.0 in (omega (arith, is), r.1))
 
-pub number-is : {X : Type 0} (m : ℕ) (xs : List X) (i n : ℕ) → slice_get (map (λ (x : ℕ × X). x.0) (enumerate_from m xs)) i ≡ Some n → n ≡ m + i
+pub number-is : {X : Type 0} (m : ℕ) (xs : List X) (i n : ℕ) → slice_get (map (λ (x : ℕ × X). x.0) (enumerate_from m xs)) i ≡ Some n
+    → n ≡ m + i
 number-is m [] i n h = absurd (let f : None ≡ Some n = h in cc)
 number-is m (x ∷ xs) zero n h = (let f : Some m ≡ Some n = h in let e : m ≡ n = cc in omega (arith, e))
 number-is m (x ∷ xs) (suc i) n h = (let r = number-is (m + 1) xs i n h in omega (arith, r))
 
-pub number-here : {X : Type 0} (m : ℕ) (xs : List X) (i : ℕ) → i < length xs → slice_get (map (λ (x : ℕ × X). x.0) (enumerate_from m xs)) i ≡ Some (m + i)
+pub number-here : {X : Type 0} (m : ℕ) (xs : List X) (i : ℕ) → i < length xs
+    → slice_get (map (λ (x : ℕ × X). x.0) (enumerate_from m xs)) i ≡ Some (m + i)
 number-here m [] i low = absurd (omega (arith, low))
 number-here m (x ∷ xs) zero low = ap (λ (k : ℕ). Some k) (omega (arith))
 number-here m (x ∷ xs) (suc i) low = number-here (m + 1) xs i (omega (arith, low)) ∙ ap (λ (k : ℕ). Some k) (omega (arith))
@@ -86,28 +97,37 @@ alone f n [] = refl
 alone {X} {Y} f n (x ∷ xs) = ap (λ (ys : List Y). f x ∷ ys) (alone f (n + 1) xs)
 
 -- what opened scripts have left is what they cost
-costs : (b : BoardView) (scripts : List CallerView) (n : ℕ) → AreOpened b scripts → sum_by (λ (x : ℕ × CallerView). left_of x.1.script []) (enumerate_from n scripts) ≡ cost_of_texts b (texts_of scripts)
+costs : (b : BoardView) (scripts : List CallerView) (n : ℕ) → AreOpened b scripts
+    → sum_by (λ (x : ℕ × CallerView). left_of x.1.script []) (enumerate_from n scripts) ≡ cost_of_texts b (texts_of scripts)
 costs b [] n opened = refl
 costs b (s ∷ ss) n opened =
     sum_by-cons (λ (x : ℕ × CallerView). left_of x.1.script []) (n, s) (enumerate_from (n + 1) ss)
     ∙ ap (λ (k : ℕ). k + sum_by (λ (x : ℕ × CallerView). left_of x.1.script []) (enumerate_from (n + 1) ss)) (left_at_first s.script)
-    ∙ ap (λ (k : BoardView). cost_of_script (script_on k s.script.text) + sum_by (λ (x : ℕ × CallerView). left_of x.1.script []) (enumerate_from (n + 1) ss)) (all-at (λ t. IsOpened b t.script.text t) (s ∷ ss) 0 s opened refl).board_is
+    ∙ ap (λ (k : BoardView). cost_of_script (script_on k s.script.text) + sum_by (λ (x : ℕ × CallerView). left_of x.1.script [])
+    (enumerate_from (n + 1) ss)) (all-at (λ t. IsOpened b t.script.text t) (s ∷ ss) 0 s opened refl).board_is
     ∙ ap (λ (k : ℕ). cost_of_script (script_on b s.script.text) + k) (costs b ss (n + 1) (λ k d low. opened (suc k) d (omega (arith, low))))
     ∙ sym (sum_by-cons (λ text. cost_of_script (script_on b text)) s.script.text (texts_of ss))
 
 -- the port of each root has its world
-opening-at : {P : Type 0} (world : P → World) (b : BoardView) (ports : List P) → map world ports ≡ openings b → (i : ℕ) (p : P) → slice_get ports i ≡ Some p → world p ≡ opening_world b i
+opening-at : {P : Type 0} (world : P → World) (b : BoardView) (ports : List P) → map world ports ≡ openings b → (i : ℕ) (p : P)
+    → slice_get ports i ≡ Some p → world p ≡ opening_world b i
 opening-at world b ports same i p here =
     let low : i < length ports = slice_get_within ports i p here in
-    let count : length ports ≡ length b.roots = sym (length-map ports world) ∙ ap length same ∙ length-map (range_with_len 0 (length b.roots)) (opening_world b) ∙ length-range_with_len 0 (length b.roots) in
-    let mapped = map_from (opening_world b) (range_with_len 0 (length b.roots)) i (world p) (ap (λ (ws : List World). slice_get ws i) (sym same) ∙ map_at world ports i p here) in
-    let number : mapped.0 ≡ 0 + i = sym (get_or_from_slice_get (range_with_len 0 (length b.roots)) i mapped.0 0 mapped.1) ∙ get_or-range_with_len 0 (length b.roots) i 0 (omega (arith, low, count)) in
+    let count : length ports ≡ length b.roots = sym (length-map ports world) ∙ ap length same
+    ∙ length-map (range_with_len 0 (length b.roots)) (opening_world b) ∙ length-range_with_len 0 (length b.roots) in
+    let mapped = map_from (opening_world b) (range_with_len 0 (length b.roots)) i (world p)
+    (ap (λ (ws : List World). slice_get ws i) (sym same) ∙ map_at world ports i p here) in
+    let number : mapped.0 ≡ 0 + i = sym (get_or_from_slice_get (range_with_len 0 (length b.roots)) i mapped.0 0 mapped.1)
+    ∙ get_or-range_with_len 0 (length b.roots) i 0 (omega (arith, low, count)) in
     sym mapped.2 ∙ ap (opening_world b) (let z : 0 + i ≡ i = omega (arith) in number ∙ z)
 
-module _ {P : Type 0} (g : PortGhosts P) (b : BoardView) (plain : IsPlainBoard b) (scripts : List CallerView) (opened : AreOpened b scripts) where
+module _ {P : Type 0} (g : PortGhosts P) (b : BoardView) (plain : IsPlainBoard b) (scripts : List CallerView)
+    (opened : AreOpened b scripts) where
   -- scripts and ports by their numbers may open a core
-  pub may-open : (ports : List P) (limit : ℕ) → length scripts ≤ MOST_CALLERS → length ports ≡ length b.roots → All (λ p. g.phase p ≡ Idle) ports → (IsTrue g.tells → All (λ p. g.log p ≡ []) ports)
-      → (IsTrue g.tells → map g.world ports ≡ openings b) → IsFairCaller asked_by left_of board_of → limit ≡ cost_of_texts b (texts_of scripts) → cost_of_texts b (texts_of scripts) ≤ MOST_COST
+  pub may-open : (ports : List P) (limit : ℕ) → length scripts ≤ MOST_CALLERS → length ports ≡ length b.roots
+      → All (λ p. g.phase p ≡ Idle) ports → (IsTrue g.tells → All (λ p. g.log p ≡ []) ports)
+      → (IsTrue g.tells → map g.world ports ≡ openings b) → IsFairCaller asked_by left_of board_of
+      → limit ≡ cost_of_texts b (texts_of scripts) → cost_of_texts b (texts_of scripts) ≤ MOST_COST
       → MayOpen g script_row b (enumerate_from 0 ports) (enumerate_from 0 scripts) limit
   may-open ports limit few count idle empty worlds fair is cheap =
       record {
@@ -122,8 +142,11 @@ module _ {P : Type 0} (g : PortGhosts P) (b : BoardView) (plain : IsPlainBoard b
         worlds = λ tells k x here.
             let r = numbered-at 0 ports k x here in
             let number = r.0 in
-            let same : k ≡ x.0 = omega (arith, number) in
-            (opening-at g.world b ports (worlds tells) k x.1 r.1 ∙ ap (opening_world b) same, all-at (λ p. g.log p ≡ []) ports k x.1 (empty tells) r.1);
+            let same : k ≡ x.0 = omega (arith, number) in (
+              opening-at g.world b ports (worlds tells) k x.1 r.1
+                  ∙ ap (opening_world b) same,
+              all-at (λ p. g.log p ≡ []) ports k x.1 (empty tells) r.1,
+            );
         fair = fair;
         untaken = λ i x here. (all-at (λ s. IsOpened b s.script.text s) scripts i x.1 opened (numbered-at 0 scripts i x here).1).untaken;
         home = λ i x here. (all-at (λ s. IsOpened b s.script.text s) scripts i x.1 opened (numbered-at 0 scripts i x here).1).board_is;
@@ -137,7 +160,8 @@ module _ {P : Type 0} (g : PortGhosts P) (b : BoardView) (plain : IsPlainBoard b
       }
 
   -- each word of the schedule has its caller
-  pub words-placed : (words : List ℕ) → All (λ c. c < length scripts) words → All (λ n. has_caller (callers_scripts script_row (enumerate_from 0 scripts)) n ≡ true) words
+  pub words-placed : (words : List ℕ) → All (λ c. c < length scripts) words
+      → All (λ n. has_caller (callers_scripts script_row (enumerate_from 0 scripts)) n ≡ true) words
   words-placed words named =
       All-from_get_or (λ n. has_caller (callers_scripts script_row (enumerate_from 0 scripts)) n ≡ true) words 0
       (λ i low.
@@ -146,7 +170,8 @@ module _ {P : Type 0} (g : PortGhosts P) (b : BoardView) (plain : IsPlainBoard b
       let below : w.0 < length scripts = all-at (λ c. c < length scripts) words i w.0 named w.1 in
       let s = there scripts w.0 below in
       subst (λ (n : ℕ). has_caller (callers_scripts script_row (enumerate_from 0 scripts)) n ≡ true) (sym is)
-      (has-by (callers_scripts script_row (enumerate_from 0 scripts)) w.0 w.0 s.0.script (map_at (λ (y : ℕ × CallerView). (y.0, y.1.script)) (enumerate_from 0 scripts) w.0 (w.0, s.0) (numbered-here w.0 s.0 s.1))))
+      (has-by (callers_scripts script_row (enumerate_from 0 scripts)) w.0 w.0 s.0.script
+      (map_at (λ (y : ℕ × CallerView). (y.0, y.1.script)) (enumerate_from 0 scripts) w.0 (w.0, s.0) (numbered-here w.0 s.0 s.1))))
     where
       numbered-here : (i : ℕ) (s : CallerView) → slice_get scripts i ≡ Some s → slice_get (enumerate_from 0 scripts) i ≡ Some (i, s)
       numbered-here i s here =
@@ -160,9 +185,11 @@ module _ {P : Type 0} (g : PortGhosts P) (b : BoardView) (plain : IsPlainBoard b
           y.1 ∙ ap (λ (k : ℕ). Some (k, y.0.1)) first ∙ ap (λ (t : CallerView). Some (i, t)) second
 
 -- a port for each root
-pub ports-count : {P : Type 0} (x : Parts P CallerView) (ports : List P) → roots_of x.ports.items ≡ roots_of (enumerate_from 0 ports) → length x.ports.items ≡ length ports
+pub ports-count : {P : Type 0} (x : Parts P CallerView) (ports : List P) → roots_of x.ports.items ≡ roots_of (enumerate_from 0 ports)
+    → length x.ports.items ≡ length ports
 ports-count {P} x ports roots =
-    sym (length-map x.ports.items (λ (q : ℕ × P). q.0)) ∙ ap length roots ∙ length-map (enumerate_from 0 ports) (λ (q : ℕ × P). q.0) ∙ length-enumerate_from 0 ports
+    sym (length-map x.ports.items (λ (q : ℕ × P). q.0)) ∙ ap length roots ∙ length-map (enumerate_from 0 ports) (λ (q : ℕ × P). q.0)
+    ∙ length-enumerate_from 0 ports
 
 module _ {P : Type 0} (g : PortGhosts P) (b : BoardView) (x : Parts P CallerView) (scripts : List CallerView) (opened : AreOpened b scripts)
     (same : scripts_of script_row x.seats.items ≡ map (λ (y : ℕ × CallerView). (y.0, y.1.script)) (enumerate_from 0 scripts)) where
@@ -183,18 +210,38 @@ module _ {P : Type 0} (g : PortGhosts P) (b : BoardView) (x : Parts P CallerView
         logs = logs_of g.log x.ports.items;
       }
 
-  pub is-left : (v : CoreState ScriptView) → v.opening.board ≡ b → scripts_of script_row seats ≡ v.opening.scripts → taken_of script_row seats ≡ v.taken → x.journal ≡ v.journal
+  pub is-left : (v : CoreState ScriptView) → v.opening.board ≡ b → scripts_of script_row seats ≡ v.opening.scripts
+      → taken_of script_row seats ≡ v.taken → x.journal ≡ v.journal
       → worlds_of g.world x.ports.items ≡ v.worlds → logs_of g.log x.ports.items ≡ v.logs → v ≡ left v
   is-left v board scripts_are taken journal worlds logs =
       ap (λ (k : BoardView). record v { opening = record v.opening { board = k } }) board
       ∙ ap (λ (ss : List (ℕ × ScriptView)). record v { opening = record v.opening { board = b; scripts = ss } }) (sym scripts_are)
-      ∙ ap (λ (ts : List (ℕ × List Reply)). record v { opening = record v.opening { board = b; scripts = scripts_of script_row seats }; taken = ts }) (sym taken)
-      ∙ ap (λ (j : JournalView). record v { opening = record v.opening { board = b; scripts = scripts_of script_row seats }; taken = taken_of script_row seats; journal = j }) (sym journal)
-      ∙ ap (λ (ws : List (ℕ × World)). record v { opening = record v.opening { board = b; scripts = scripts_of script_row seats }; taken = taken_of script_row seats; journal = x.journal; worlds = ws }) (sym worlds)
-      ∙ ap (λ (ls : List (ℕ × List PortCall)). record v { opening = record v.opening { board = b; scripts = scripts_of script_row seats }; taken = taken_of script_row seats; journal = x.journal; worlds = worlds_of g.world x.ports.items; logs = ls }) (sym logs)
+      ∙ ap (λ (ts : List (ℕ × List Reply)). record v {
+        opening = record v.opening { board = b; scripts = scripts_of script_row seats };
+        taken = ts;
+      }) (sym taken)
+      ∙ ap (λ (j : JournalView). record v {
+        opening = record v.opening { board = b; scripts = scripts_of script_row seats };
+        taken = taken_of script_row seats;
+        journal = j;
+      }) (sym journal)
+      ∙ ap (λ (ws : List (ℕ × World)). record v {
+        opening = record v.opening { board = b; scripts = scripts_of script_row seats };
+        taken = taken_of script_row seats;
+        journal = x.journal;
+        worlds = ws;
+      }) (sym worlds)
+      ∙ ap (λ (ls : List (ℕ × List PortCall)). record v {
+        opening = record v.opening { board = b; scripts = scripts_of script_row seats };
+        taken = taken_of script_row seats;
+        journal = x.journal;
+        worlds = worlds_of g.world x.ports.items;
+        logs = ls;
+      }) (sym logs)
 
   -- the seat of each number has the script of that number
-  seat-at : (i : ℕ) (s : Seat CallerView) → slice_get seats i ≡ Some s → (s.number ≡ i) × (y : CallerView) × (slice_get scripts i ≡ Some y) × (s.caller.script ≡ y.script)
+  seat-at : (i : ℕ) (s : Seat CallerView) → slice_get seats i ≡ Some s
+      → (s.number ≡ i) × (y : CallerView) × (slice_get scripts i ≡ Some y) × (s.caller.script ≡ y.script)
   seat-at i s here =
       let there = ap (λ (ys : List (ℕ × ScriptView)). slice_get ys i) (sym same) ∙ map_at (script_of script_row) seats i s here in
       let y = map_from (λ (y : ℕ × CallerView). (y.0, y.1.script)) (enumerate_from 0 scripts) i (s.number, s.caller.script) there in
@@ -206,7 +253,8 @@ module _ {P : Type 0} (g : PortGhosts P) (b : BoardView) (x : Parts P CallerView
   own-script : (i : ℕ) (s : Seat CallerView) → slice_get seats i ≡ Some s → s.caller.script ≡ script_on b s.caller.script.text
   own-script i s here =
       let y = seat-at i s here in
-      ap (λ (k : BoardView). script_on k s.caller.script.text) (ap (λ (z : ScriptView). z.board) y.3 ∙ (all-at (λ t. IsOpened b t.script.text t) scripts i y.1 opened y.2).board_is)
+      ap (λ (k : BoardView). script_on k s.caller.script.text) (ap (λ (z : ScriptView). z.board) y.3
+      ∙ (all-at (λ t. IsOpened b t.script.text t) scripts i y.1 opened y.2).board_is)
 
   own-found : (i : ℕ) (s : Seat CallerView) → slice_get seats i ≡ Some s → script_at (scripts_of script_row seats) i ≡ Some s.caller.script
   own-found i s here =
@@ -222,7 +270,8 @@ module _ {P : Type 0} (g : PortGhosts P) (b : BoardView) (x : Parts P CallerView
       ∙ alone (λ (s : CallerView). s.script.text) 0 scripts
 
   text-at : (i : ℕ) (s : Seat CallerView) → slice_get seats i ≡ Some s → slice_get (texts_of (callers_of x)) i ≡ Some s.caller.script.text
-  text-at i s here = map_at (λ (t : CallerView). t.script.text) (callers_of x) i s.caller (map_at (λ (t : Seat CallerView). t.caller) seats i s here)
+  text-at i s here = map_at (λ (t : CallerView). t.script.text) (callers_of x) i s.caller
+      (map_at (λ (t : Seat CallerView). t.caller) seats i s here)
 
   -- they ask for what their texts ask for
   asks-same : asks ≡ asks_by b (texts_of (callers_of x))
@@ -235,7 +284,8 @@ module _ {P : Type 0} (g : PortGhosts P) (b : BoardView) (x : Parts P CallerView
           ∙ ap (λ (k : ScriptView). asked_by k rs) (own-script c s.0 s.1)
           ∙ ap (λ (o : Option (List ℕ)). option_map_or (λ text. asked_by (script_on b text) rs) o None) (sym (text-at c s.0 s.1))
       by c rs (inr above) =
-          let count : length (texts_of (callers_of x)) ≡ length seats = length-map (callers_of x) (λ (t : CallerView). t.script.text) ∙ length-map seats (λ (t : Seat CallerView). t.caller) in
+          let count : length (texts_of (callers_of x)) ≡ length seats = length-map (callers_of x) (λ (t : CallerView). t.script.text)
+          ∙ length-map seats (λ (t : Seat CallerView). t.caller) in
           ap (λ (o : Option ScriptView). option_map_or (λ k. asked_by k rs) o None)
           (script-none (scripts_of script_row seats) c
           (λ i s here.
@@ -244,7 +294,8 @@ module _ {P : Type 0} (g : PortGhosts P) (b : BoardView) (x : Parts P CallerView
           let first = (seat-at i z.0 z.1).0 in
           let low : i < length seats = slice_get_within seats i z.0 z.1 in
           absurd (omega (arith, number, first, low, above))))
-          ∙ ap (λ (o : Option (List ℕ)). option_map_or (λ text. asked_by (script_on b text) rs) o None) (sym (slice_get_past (texts_of (callers_of x)) c (omega (arith, count, above))))
+          ∙ ap (λ (o : Option (List ℕ)). option_map_or (λ text. asked_by (script_on b text) rs) o None)
+          (sym (slice_get_past (texts_of (callers_of x)) c (omega (arith, count, above))))
 
   own-at : (c : ℕ) (s : CallerView) → slice_get (callers_of x) c ≡ Some s → s.script ≡ script_on b s.script.text
   own-at c s here =
@@ -252,7 +303,8 @@ module _ {P : Type 0} (g : PortGhosts P) (b : BoardView) (x : Parts P CallerView
       subst (λ (t : CallerView). t.script ≡ script_on b t.script.text) y.2 (own-script c y.0 y.1)
 
   -- a caller that is through
-  through-at : (v : CoreState ScriptView) → AllThrough asked_by g.tells (left v) → (c : ℕ) (s : CallerView) → slice_get (callers_of x) c ≡ Some s
+  through-at : (v : CoreState ScriptView) → AllThrough asked_by g.tells (left v) → (c : ℕ) (s : CallerView)
+      → slice_get (callers_of x) c ≡ Some s
       → (asked_by (script_on b s.script.text) s.taken ≡ None) × IsThrough asked_by g.tells (left v) c s.taken
   through-at v through c s here =
       let y = map_from (λ (t : Seat CallerView). t.caller) seats c s here in
@@ -262,10 +314,12 @@ module _ {P : Type 0} (g : PortGhosts P) (b : BoardView) (x : Parts P CallerView
       let done : asked_by (script_on b y.0.caller.script.text) y.0.caller.taken ≡ None =
       ap (λ (k : ScriptView). asked_by k y.0.caller.taken) (sym (own-script c y.0 y.1))
       ∙ sym (ap (λ (o : Option ScriptView). option_map_or (λ k. asked_by k y.0.caller.taken) o None) (own-found c y.0 y.1)) ∙ mine.asks in
-      subst (λ (t : CallerView). (asked_by (script_on b t.script.text) t.taken ≡ None) × IsThrough asked_by g.tells (left v) c t.taken) y.2 (done, mine)
+      subst (λ (t : CallerView). (asked_by (script_on b t.script.text) t.taken ≡ None) × IsThrough asked_by g.tells (left v) c t.taken) y.2
+      (done, mine)
 
   -- the port of a root
-  port-at : (ports : List P) → roots_of x.ports.items ≡ roots_of (enumerate_from 0 ports) → (r : ℕ) → r < length ports → (p : ℕ × P) × (slice_get x.ports.items r ≡ Some p) × (p.0 ≡ r)
+  port-at : (ports : List P) → roots_of x.ports.items ≡ roots_of (enumerate_from 0 ports) → (r : ℕ) → r < length ports
+      → (p : ℕ × P) × (slice_get x.ports.items r ≡ Some p) × (p.0 ≡ r)
   port-at ports roots r low =
       let root = ap (λ (ns : List ℕ). slice_get ns r) roots ∙ number-here 0 ports r low in
       let p = map_from (λ (q : ℕ × P). q.0) x.ports.items r (0 + r) root in
@@ -276,9 +330,11 @@ module _ {P : Type 0} (g : PortGhosts P) (b : BoardView) (x : Parts P CallerView
   past = reverse x.journal.entries
 
   -- THE END: all are through
-  core-over : (ports : List P) (v : CoreState ScriptView) → IsPlainBoard b → MeetsRules b → (IsTrue g.tells → CoreTold asked_by (left v)) → AllThrough asked_by g.tells (left v) → roots_of x.ports.items ≡ roots_of (enumerate_from 0 ports)
+  core-over : (ports : List P) (v : CoreState ScriptView) → IsPlainBoard b → MeetsRules b → (IsTrue g.tells → CoreTold asked_by (left v))
+      → AllThrough asked_by g.tells (left v) → roots_of x.ports.items ≡ roots_of (enumerate_from 0 ports)
       → length ports ≡ length b.roots → IsTrue g.tells
-      → IsOver b (callers_of x) MOST_CALLERS x.journal.entries (map (λ (p : ℕ × P). g.world p.1) x.ports.items) (map (λ (p : ℕ × P). g.log p.1) x.ports.items)
+      → IsOver b (callers_of x) MOST_CALLERS x.journal.entries (map (λ (p : ℕ × P). g.world p.1) x.ports.items)
+      (map (λ (p : ℕ × P). g.log p.1) x.ports.items)
   core-over ports v plain rules core_told through roots count tells =
       let told = core_told tells in
       record {
@@ -297,19 +353,24 @@ module _ {P : Type 0} (g : PortGhosts P) (b : BoardView) (x : Parts P CallerView
             let p = port-at ports roots r (omega (arith, low, count)) in
             map_at (λ (q : ℕ × P). g.world q.1) x.ports.items r p.0 p.1
             ∙ ap (λ (w : World). Some w) (subst (λ (a : Asks). g.world p.0.1 ≡ world_at b a past r) asks-same
-            (told.worlds r r (g.world p.0.1) (map_at (λ (q : ℕ × P). (q.0, g.world q.1)) x.ports.items r p.0 p.1 ∙ ap (λ (k : ℕ). Some (k, g.world p.0.1)) p.2)));
+            (told.worlds r r (g.world p.0.1) (map_at (λ (q : ℕ × P). (q.0, g.world q.1)) x.ports.items r p.0 p.1
+            ∙ ap (λ (k : ℕ). Some (k, g.world p.0.1)) p.2)));
         logs_count = length-map x.ports.items (λ (p : ℕ × P). g.log p.1) ∙ ports-count x ports roots ∙ count;
         log = λ r low.
             let p = port-at ports roots r (omega (arith, low, count)) in
             map_at (λ (q : ℕ × P). g.log q.1) x.ports.items r p.0 p.1
             ∙ ap (λ (w : List PortCall). Some w) (subst (λ (a : Asks). g.log p.0.1 ≡ calls_of b a past r) asks-same
-            (told.logs r r (g.log p.0.1) (map_at (λ (q : ℕ × P). (q.0, g.log q.1)) x.ports.items r p.0 p.1 ∙ ap (λ (k : ℕ). Some (k, g.log p.0.1)) p.2)));
+            (told.logs r r (g.log p.0.1) (map_at (λ (q : ℕ × P). (q.0, g.log q.1)) x.ports.items r p.0 p.1
+            ∙ ap (λ (k : ℕ). Some (k, g.log p.0.1)) p.2)));
       }
 
 -- a core that was opened with the scripts and ports by their numbers is one of them
-pub core-opened : {P E : Type 0} (g : PortGhosts P) (b : BoardView) → IsPlainBoard b → MeetsRules b → (scripts : List CallerView) → AreOpened b scripts → (ports : List P) → length ports ≡ length b.roots
-    → (by_root : List (ℕ × P)) (by_number : List (ℕ × CallerView)) → by_root ≡ enumerate_from 0 ports → by_number ≡ enumerate_from 0 scripts → (r : Result (CoreState ScriptView) E)
-    → IfOk r (λ core. core.opening ≡ opening_of g script_row b by_root by_number) → IfOk r (λ core. core.worlds ≡ worlds_of g.world by_root) → IfOk r (IsCoreOf b scripts ports)
+pub core-opened : {P E : Type 0} (g : PortGhosts P) (b : BoardView) → IsPlainBoard b → MeetsRules b → (scripts : List CallerView)
+    → AreOpened b scripts → (ports : List P) → length ports ≡ length b.roots
+    → (by_root : List (ℕ × P)) (by_number : List (ℕ × CallerView)) → by_root ≡ enumerate_from 0 ports → by_number ≡ enumerate_from 0 scripts
+    → (r : Result (CoreState ScriptView) E)
+    → IfOk r (λ core. core.opening ≡ opening_of g script_row b by_root by_number) → IfOk r (λ core. core.worlds ≡ worlds_of g.world by_root)
+    → IfOk r (IsCoreOf b scripts ports)
 core-opened g b plain rules scripts opened ports count by_root by_number roots_are numbers_are (Ok core) opening worlds =
     record {
       plain = plain;
@@ -323,14 +384,18 @@ core-opened g b plain rules scripts opened ports count by_root by_number roots_a
 core-opened g b plain rules scripts opened ports count by_root by_number roots_are numbers_are (Err e) opening worlds = tt
 
 -- a core that was opened with scripts and ports, ran until all were through, and was taken apart
-pub taken-apart : {P : Type 0} (g : PortGhosts P) (b : BoardView) (scripts : List CallerView) (ports : List P) (words : Option (List ℕ)) (core ran : CoreState ScriptView) (x : Parts P CallerView)
-    → IsCoreOf b scripts ports core → ran.opening ≡ core.opening → roots_in ran ≡ roots_in core → scripts_of script_row x.seats.items ≡ ran.opening.scripts → taken_of script_row x.seats.items ≡ ran.taken
-    → worlds_of g.world x.ports.items ≡ ran.worlds → logs_of g.log x.ports.items ≡ ran.logs → x.journal ≡ ran.journal → (IsTrue g.tells → CoreTold asked_by ran) → AllThrough asked_by g.tells ran
+pub taken-apart : {P : Type 0} (g : PortGhosts P) (b : BoardView) (scripts : List CallerView) (ports : List P) (words : Option (List ℕ))
+    (core ran : CoreState ScriptView) (x : Parts P CallerView)
+    → IsCoreOf b scripts ports core → ran.opening ≡ core.opening → roots_in ran ≡ roots_in core
+    → scripts_of script_row x.seats.items ≡ ran.opening.scripts → taken_of script_row x.seats.items ≡ ran.taken
+    → worlds_of g.world x.ports.items ≡ ran.worlds → logs_of g.log x.ports.items ≡ ran.logs → x.journal ≡ ran.journal
+    → (IsTrue g.tells → CoreTold asked_by ran) → AllThrough asked_by g.tells ran
     → (IsTrue g.tells → KeepsOrder words ran.journal.entries) → IsLeftOf g b scripts ports words x
 taken-apart g b scripts ports words core ran x of opening roots_kept scripts_left taken worlds logs journal told through ordered =
     record {
       over = λ tells.
-          core-over g b x scripts of.opened same ports ran of.plain of.rules (λ tell. subst (λ (v : CoreState ScriptView). CoreTold asked_by v) is_left (told tell))
+          core-over g b x scripts of.opened same ports ran of.plain of.rules
+          (λ tell. subst (λ (v : CoreState ScriptView). CoreTold asked_by v) is_left (told tell))
           (subst (λ (v : CoreState ScriptView). AllThrough asked_by g.tells v) is_left through) roots of.count tells;
       ordered = λ tells. subst (λ (j : JournalView). KeepsOrder words j.entries) (sym journal) (ordered tells);
       texts = texts-same g b x scripts of.opened same;
@@ -344,7 +409,8 @@ taken-apart g b scripts ports words core ran x of opening roots_kept scripts_lef
     roots = sym (roots-told g.world x.ports.items) ∙ ap (map (λ (w : ℕ × World). w.0)) worlds ∙ roots_kept ∙ of.roots
 
     is_left : ran ≡ left g b x scripts of.opened same ran
-    is_left = is-left g b x scripts of.opened same ran (ap (λ (o : Opening ScriptView). o.board) opening ∙ of.board) scripts_left taken journal worlds logs
+    is_left = is-left g b x scripts of.opened same ran (ap (λ (o : Opening ScriptView). o.board) opening
+        ∙ of.board) scripts_left taken journal worlds logs
 
 -- without a schedule nobody is named, and any order is kept
 pub named-all : (callers : ℕ) (words : Option (List ℕ)) → AreNamed callers words → All (λ c. c < callers) (unwrap_or words [])

@@ -14,7 +14,8 @@ cost_of_opened s = cost_of_script s.script
 abbrev cost_on : BoardView → List ℕ → ℕ
 cost_on b text = cost_of_script (script_on b text)
 
-pub costs_are : (b : BoardView) (scripts : List CallerView) → AreOpened b scripts → sum_by cost_of_opened scripts ≡ cost_of_texts b (texts_of scripts)
+pub costs_are : (b : BoardView) (scripts : List CallerView) → AreOpened b scripts
+    → sum_by cost_of_opened scripts ≡ cost_of_texts b (texts_of scripts)
 costs_are b [] all = refl
 costs_are b (s ∷ ss) all =
     let opened : IsOpened b s.script.text s = All-head (λ x. IsOpened b x.script.text x) s ss all in

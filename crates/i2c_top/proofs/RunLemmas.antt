@@ -1,4 +1,5 @@
--- A run that is over: its journal is legal and complete, and the ports and the devices are what it tells. The induction goes over the entries.
+-- A run that is over: its journal is legal and complete, and the ports and the devices are what it tells. The induction goes
+-- over the entries.
 use Rattle.std.proofs.Common.{◌≡◌, ℕ, ◌<◌, ◌≤◌, ◌⊎◌, inl, inr, List, [], ◌∷◌, length, map, reverse, get_or, Option, Some, None, sym, ◌∙◌, ap, subst, arith, cond, zero-add}
 use Rattle.std.specs.Prelude.{slice_get}
 use Rattle.std.specs.List.{range_with_len}
@@ -39,9 +40,11 @@ pub same_asks : (f g : Asks) → ((c : ℕ) (rs : List Reply) → f c rs ≡ g c
 same_asks f g h = λ i. λ c rs. h c rs i
 
 -- who asks for nothing and has no walk has no next step
-no_step : (b : BoardView) (asks : Asks) (n : Now) (c : ℕ) → n.walk c ≡ Ends → asks c (n.settled c) ≡ None → first_act (current b asks n c) ≡ None
+no_step : (b : BoardView) (asks : Asks) (n : Now) (c : ℕ) → n.walk c ≡ Ends → asks c (n.settled c) ≡ None
+    → first_act (current b asks n c) ≡ None
 no_step b asks n c ends nothing =
-    ap (λ w. first_act (seen n.slot (cond (is_over w) (begun b (asks c (n.settled c))) w))) ends ∙ ap (λ o. first_act (seen n.slot (begun b o))) nothing
+    ap (λ w. first_act (seen n.slot (cond (is_over w) (begun b (asks c (n.settled c))) w))) ends
+    ∙ ap (λ o. first_act (seen n.slot (begun b o))) nothing
 
 -- so no entry is of one who asks for nothing
 not_his : (o : Option Act) (act : Act) → o ≡ None → o ≡ Some act → ⊥
@@ -49,7 +52,8 @@ not_his o act none some = absurd (let h : None ≡ Some act = sym none ∙ some 
 
 module _ (b : BoardView) (asks : Asks) (many few : ℕ) (nobody : (c : ℕ) → (c < few → ⊥) → (rs : List Reply) → asks c rs ≡ None) where
   -- an entry's caller is one of the few
-  his : (past : List Entry) → IsStepwise b few asks past → (c : ℕ) (act : Act) → first_act (current b asks (now b asks past) c) ≡ Some act → c < few
+  his : (past : List Entry) → IsStepwise b few asks past → (c : ℕ) (act : Act) → first_act (current b asks (now b asks past) c) ≡ Some act
+      → c < few
   his past steps c act acts = by (cases_lt c few)
     where
       by : (c < few) ⊎ (few ≤ c) → c < few
@@ -57,14 +61,17 @@ module _ (b : BoardView) (asks : Asks) (many few : ℕ) (nobody : (c : ℕ) → 
       by (inr above) =
           let stranger : c < few → ⊥ = λ lt. absurd (omega (arith, above, lt)) in
           absurd (not_his (first_act (current b asks (now b asks past) c)) act
-          (no_step b asks (now b asks past) c (strangers-end b few asks past steps c stranger) (nobody c stranger ((now b asks past).settled c))) acts)
+          (no_step b asks (now b asks past) c (strangers-end b few asks past steps c stranger)
+          (nobody c stranger ((now b asks past).settled c))) acts)
 
-  may_few : (past : List Entry) → IsStepwise b few asks past → (e : Entry) → May b many asks (now b asks past) e → May b few asks (now b asks past) e
+  may_few : (past : List Entry) → IsStepwise b few asks past → (e : Entry) → May b many asks (now b asks past) e
+      → May b few asks (now b asks past) e
   may_few past steps (entry.Take c l) may = (his past steps c (Take l) may.2, may.1, may.2, may.3, may.4)
   may_few past steps (entry.Settle c r cut) may = (his past steps c (Settle may.2) may.3, may.1, may.2, may.3, may.4, may.5)
   may_few past steps (entry.Free c l) may = (his past steps c (Free l) may.2, may.1, may.2)
   may_few past steps (entry.Line c mux level failed) may = let told = may.2 in (his past steps c (Shift told.0) told.1, may.1, told)
-  may_few past steps (entry.Message c bus purpose part parts addr reading bytes heard e) may = let told = may.2 in (his past steps c (Send told.0 told.1) told.2, may.1, told)
+  may_few past steps (entry.Message c bus purpose part parts addr reading bytes heard e) may = let told = may.2 in
+      (his past steps c (Send told.0 told.1) told.2, may.1, told)
 
   -- a past of many callers, of whom all but a few ask for nothing, is one of the few
   pub few-callers : (past : List Entry) → IsStepwise b many asks past → IsStepwise b few asks past
@@ -72,14 +79,16 @@ module _ (b : BoardView) (asks : Asks) (many few : ℕ) (nobody : (c : ℕ) → 
   few-callers (e ∷ past) steps = let before = few-callers past steps.1 in (may_few past before e steps.0, before)
 
 -- a list of n elements, each of which a function tells
-listed : {X : Type 0} (f : ℕ → X) (xs : List X) (n : ℕ) → length xs ≡ n → ((i : ℕ) → i < n → slice_get xs i ≡ Some (f i)) → xs ≡ map f (range_with_len 0 n)
+listed : {X : Type 0} (f : ℕ → X) (xs : List X) (n : ℕ) → length xs ≡ n → ((i : ℕ) → i < n → slice_get xs i ≡ Some (f i))
+    → xs ≡ map f (range_with_len 0 n)
 listed f xs n count each =
     same_lists xs (map f (range_with_len 0 n)) (count ∙ sym (length-map-range_with_len f 0 n))
     (λ i d below. let low = subst (λ (m : ℕ). i < m) count below in
     get_or_from_slice_get xs i (f i) d (each i low) ∙ sym (get_or-map-range_with_len f 0 n i i d low (zero-add i)))
 
 -- what holds of what each script asks for holds of what the callers do
-of_asks : (b : BoardView) (texts : List (List ℕ)) (P : TransferView → Type 0) → ((text : List ℕ) (rs : List Reply) (t : TransferView) → asked_by (script_on b text) rs ≡ Some t → P t)
+of_asks : (b : BoardView) (texts : List (List ℕ)) (P : TransferView → Type 0)
+    → ((text : List ℕ) (rs : List Reply) (t : TransferView) → asked_by (script_on b text) rs ≡ Some t → P t)
     → (c : ℕ) (rs : List Reply) (t : TransferView) → asks_by b texts c rs ≡ Some t → P t
 of_asks b texts P each c rs t e = by (slice_get texts c) e
   where
@@ -111,15 +120,18 @@ module _ (b : BoardView) (callers : List CallerView) (many : ℕ) (journal : Lis
   caller_at : (c : ℕ) → c < count → (s : CallerView) × (slice_get callers c ≡ Some s)
   caller_at c below = by (slice_get_cases callers c).1
     where
-      by : ((s : CallerView) × (c < length callers) × (slice_get callers c ≡ Some s) × (get_or callers c s ≡ s)) ⊎ ((length callers ≤ c) × (slice_get callers c ≡ None)) → (s : CallerView) × (slice_get callers c ≡ Some s)
+      by : ((s : CallerView) × (c < length callers) × (slice_get callers c ≡ Some s) × (get_or callers c s ≡ s))
+          ⊎ ((length callers ≤ c) × (slice_get callers c ≡ None)) → (s : CallerView) × (slice_get callers c ≡ Some s)
       by (inl h) = (h.0, h.2)
-      by (inr h) = absurd (let many : length callers ≤ c = h.0 in omega (arith, below, many, length-map callers (λ (s : CallerView). s.script.text)))
+      by (inr h) = absurd (let many : length callers ≤ c = h.0 in
+          omega (arith, below, many, length-map callers (λ (s : CallerView). s.script.text)))
 
   text_at : (c : ℕ) (s : CallerView) → slice_get callers c ≡ Some s → slice_get texts c ≡ Some s.script.text
   text_at c s at = slice_get-map (λ (x : CallerView). x.script.text) callers c ∙ ap (option_map (λ (x : CallerView). x.script.text)) at
 
   nobody : (c : ℕ) → (c < count → ⊥) → (rs : List Reply) → asks c rs ≡ None
-  nobody c stranger rs = ap (λ o. option_map_or (λ text. asked_by (script_on b text) rs) o None) (slice_get_past texts c (by (cases_lt c count)))
+  nobody c stranger rs = ap (λ o. option_map_or (λ text. asked_by (script_on b text) rs) o None)
+      (slice_get_past texts c (by (cases_lt c count)))
     where
       by : (c < count) ⊎ (count ≤ c) → count ≤ c
       by (inl below) = absurd (stranger below)
@@ -144,7 +156,8 @@ module _ (b : BoardView) (callers : List CallerView) (many : ℕ) (journal : Lis
       by (inr above) = strangers-end b count asks past stepwise c (λ below. absurd (omega (arith, below, above)))
 
   left_by : LeavesDevices b asks past
-  left_by = devices-left b (tree_of b over.plain over.rules) over.plain (lines-locked b over.rules) asks some limits count past stepwise all_end
+  left_by = devices-left b (tree_of b over.plain over.rules) over.plain
+      (lines-locked b over.rules) asks some limits count past stepwise all_end
 
   worlds_are : worlds ≡ worlds_of b asks past
   worlds_are = listed (world_at b asks past) worlds (length b.roots) over.worlds_count over.world
@@ -162,7 +175,8 @@ module _ (b : BoardView) (callers : List CallerView) (many : ℕ) (journal : Lis
       slice_get-map section_of callers c ∙ ap (option_map section_of) s.1
       ∙ ap (λ (rs : List Reply). Some (section_text (commands_of s.0.script) rs)) (over.taken c s.0 s.1 ∙ settled-told b asks past c)
       ∙ ap (λ (k : ScriptView). Some (section_text (commands_of k) (replies past c))) (over.own c s.0 s.1)
-      ∙ ap (λ o. Some (option_map_or (λ text. section_text (commands_of (script_on b text)) (replies past c)) o [])) (sym (text_at c s.0 s.1))
+      ∙ ap (λ o. Some (option_map_or (λ text. section_text (commands_of (script_on b text)) (replies past c)) o []))
+      (sym (text_at c s.0 s.1))
 
   sections_are : map section_of callers ≡ map (text_of (printed_by b texts) journal) (range_with_len 0 count)
   sections_are =
@@ -170,15 +184,19 @@ module _ (b : BoardView) (callers : List CallerView) (many : ℕ) (journal : Lis
       (length-map callers section_of ∙ sym (length-map callers (λ (s : CallerView). s.script.text))) section_at
 
   -- THE RUN of callers that are over
-  pub run-over : (bytes : List ℕ) (kept_logs : List (List PortCall)) (states : List TargetState) → bytes ≡ report_lines (map section_of callers) journal
-      → (AreWorldsOf b worlds → states ≡ devices_of b worlds) → (AreWorldsOf b worlds → kept_logs ≡ logs) → IsRunOf b texts bytes kept_logs states journal
+  pub run-over : (bytes : List ℕ) (kept_logs : List (List PortCall)) (states : List TargetState)
+      → bytes ≡ report_lines (map section_of callers) journal
+      → (AreWorldsOf b worlds → states ≡ devices_of b worlds) → (AreWorldsOf b worlds → kept_logs ≡ logs)
+      → IsRunOf b texts bytes kept_logs states journal
   run-over bytes kept_logs states printed kept logged =
       record {
         reported = printed ∙ ap (λ (xs : List (List ℕ)). report_lines xs journal) sections_are;
-        legal = legal-with b (tree_of b over.plain over.rules) over.plain (lines-locked b over.rules) asks some count past stepwise over.rests
+        legal = legal-with b (tree_of b over.plain over.rules) over.plain
+            (lines-locked b over.rules) asks some count past stepwise over.rests
             (replies-kept b (tree_of b over.plain over.rules) over.plain (lines-locked b over.rules) asks some limits count past stepwise);
         stepwise = stepwise;
-        complete = complete-then b (tree_of b over.plain over.rules) over.plain (lines-locked b over.rules) asks some count past stepwise is_done;
+        complete = complete-then b (tree_of b over.plain over.rules) over.plain
+            (lines-locked b over.rules) asks some count past stepwise is_done;
         called = logged are_worlds ∙ logs_are;
         told = left_by.told;
         replayed = left_by.defined;

@@ -17,15 +17,18 @@ behind_two cs c (Err index) = refl
 
 -- a word that names a caller stands behind these callers
 more_callers : (callers : ℕ) (cs : List ℕ) (c : ℕ) (word : List ℕ) (words : List (List ℕ)) → caller_at callers (length cs) word ≡ Some c
-    → behind_callers (cs ++ c ∷ []) (callers_from callers (length (cs ++ c ∷ [])) words) ≡ behind_callers cs (callers_from callers (length cs) (word ∷ words))
+    → behind_callers (cs ++ c ∷ []) (callers_from callers (length (cs ++ c ∷ [])) words) ≡ behind_callers cs
+    (callers_from callers (length cs) (word ∷ words))
 more_callers callers cs c word words at =
     ap (λ n. behind_callers (cs ++ c ∷ []) (callers_from callers n words)) (length-append cs (c ∷ []))
     ∙ sym (behind_two cs c (callers_from callers (length cs + 1) words))
     ∙ ap (λ o. behind_callers cs (behind_entry (length cs) o (callers_from callers (length cs + 1) words))) (sym at)
 
-pub callers_more : (callers : ℕ) (cs cs_now : List ℕ) (c n : ℕ) (word : List ℕ) (entries words words_now : List (List ℕ)) (r : Result (List ℕ) ℕ)
+pub callers_more : (callers : ℕ) (cs cs_now : List ℕ) (c n : ℕ) (word : List ℕ) (entries words words_now : List (List ℕ))
+    (r : Result (List ℕ) ℕ)
     → entries ≡ word ∷ words → words_now ≡ words → cs_now ≡ cs ++ c ∷ [] → n ≡ length cs → caller_at callers n word ≡ Some c
-    → behind_callers cs (callers_from callers (length cs) entries) ≡ r → behind_callers cs_now (callers_from callers (length cs_now) words_now) ≡ r
+    → behind_callers cs (callers_from callers (length cs) entries) ≡ r
+    → behind_callers cs_now (callers_from callers (length cs_now) words_now) ≡ r
 callers_more callers cs cs_now c n word entries words words_now r e rest pushed size at same =
     ap (λ xs. behind_callers xs (callers_from callers (length xs) words_now)) pushed
     ∙ ap (λ ws. behind_callers (cs ++ c ∷ []) (callers_from callers (length (cs ++ c ∷ [])) ws)) rest
@@ -33,11 +36,13 @@ callers_more callers cs cs_now c n word entries words words_now r e rest pushed 
     ∙ ap (λ x. behind_callers cs (callers_from callers (length cs) x)) (sym e) ∙ same
 
 -- one caller more, which is below the number of callers too
-pub below_more : (callers : ℕ) (cs cs_now : List ℕ) (c : ℕ) → cs_now ≡ cs ++ c ∷ [] → All (λ x. x < callers) cs → c < callers → All (λ x. x < callers) cs_now
+pub below_more : (callers : ℕ) (cs cs_now : List ℕ) (c : ℕ) → cs_now ≡ cs ++ c ∷ [] → All (λ x. x < callers) cs → c < callers
+    → All (λ x. x < callers) cs_now
 below_more callers cs cs_now c pushed all below = subst (All (λ x. x < callers)) (sym pushed) (All-push (λ x. x < callers) cs c all below)
 
 -- a digit that is tested
-named_digit : (t : Bool) (callers digit caller : ℕ) → (nat_le 48 digit && nat_lt (digit - 48) callers) ≡ t → cond t (Some (digit - 48)) None ≡ Some caller
+named_digit : (t : Bool) (callers digit caller : ℕ) → (nat_le 48 digit && nat_lt (digit - 48) callers) ≡ t
+    → cond t (Some (digit - 48)) None ≡ Some caller
     → (caller < callers) × (digit ≡ 48 + caller)
 named_digit true callers digit caller test e =
     let parts = and_parts (nat_le 48 digit) (nat_lt (digit - 48) callers) test in
@@ -51,11 +56,13 @@ digit_names : (callers caller : ℕ) → caller < callers → caller_named calle
 digit_names callers caller below =
     let back : 48 + caller - 48 ≡ caller = omega arith in
     ap (λ t. cond t (Some (48 + caller - 48)) None)
-    (and_from (nat_le 48 (48 + caller)) (nat_lt (48 + caller - 48) callers) (le-leb 48 (48 + caller) (omega arith)) (lt-ltb (48 + caller - 48) callers (omega (arith, back, below))))
+    (and_from (nat_le 48 (48 + caller)) (nat_lt (48 + caller - 48) callers) (le-leb 48 (48 + caller) (omega arith))
+    (lt-ltb (48 + caller - 48) callers (omega (arith, back, below))))
     ∙ ap (λ n. Some n) back
 
 -- A WORD NAMES A CALLER exactly where it is its number
-pub words-are-numbers : (callers caller : ℕ) (word : List ℕ) → callers ≤ MOST_CALLERS → (caller_named callers word ≡ Some caller) ↔ ((caller < callers) × (word ≡ decimal caller))
+pub words-are-numbers : (callers caller : ℕ) (word : List ℕ) → callers ≤ MOST_CALLERS
+    → (caller_named callers word ≡ Some caller) ↔ ((caller < callers) × (word ≡ decimal caller))
 words-are-numbers callers caller word few = (to word, from)
   where
     to : (w : List ℕ) → caller_named callers w ≡ Some caller → (caller < callers) × (w ≡ decimal caller)

@@ -40,8 +40,10 @@ pub record IsCoreOf {P : Type 0} (b : BoardView) (scripts : List CallerView) (po
 
 -- these are left of such a core: its callers are over and came in the order that was asked for; they have their texts, and
 -- there is a port for each root
-pub record IsLeftOf {P : Type 0} (g : PortGhosts P) (b : BoardView) (scripts : List CallerView) (ports : List P) (words : Option (List ℕ)) (parts : Parts P CallerView) : Type 0 where
-  pub over : IsTrue g.tells → IsOver b (callers_of parts) MOST_CALLERS parts.journal.entries (map (λ (p : ℕ × P). g.world p.1) parts.ports.items) (map (λ (p : ℕ × P). g.log p.1) parts.ports.items)
+pub record IsLeftOf {P : Type 0} (g : PortGhosts P) (b : BoardView) (scripts : List CallerView) (ports : List P) (words : Option (List ℕ))
+    (parts : Parts P CallerView) : Type 0 where
+  pub over : IsTrue g.tells → IsOver b (callers_of parts) MOST_CALLERS parts.journal.entries
+      (map (λ (p : ℕ × P). g.world p.1) parts.ports.items) (map (λ (p : ℕ × P). g.log p.1) parts.ports.items)
   pub ordered : IsTrue g.tells → KeepsOrder words parts.journal.entries
   pub texts : texts_of (callers_of parts) ≡ texts_of scripts
   pub count : length parts.ports.items ≡ length ports

@@ -59,14 +59,17 @@ callers_of parts = map (λ (s : Seat CallerView). s.caller) parts.seats.items
 
 -- the callers of a run that is over, on an accepted board, the worlds and the logs of its ports, and its journal, which was
 -- stepwise for at least so many callers
-pub record IsOver (b : BoardView) (callers : List CallerView) (many : ℕ) (journal : List Entry) (worlds : List World) (logs : List (List PortCall)) : Type 0 where
+pub record IsOver (b : BoardView) (callers : List CallerView) (many : ℕ) (journal : List Entry) (worlds : List World)
+    (logs : List (List PortCall)) : Type 0 where
   pub plain : IsPlainBoard b
   pub rules : MeetsRules b
   pub own : (c : ℕ) (s : CallerView) → slice_get callers c ≡ Some s → s.script ≡ script_on b s.script.text
   pub stepwise : IsStepwise b many (asks_by b (texts_of callers)) (reverse journal)
   pub rests : (now b (asks_by b (texts_of callers)) (reverse journal)).due ≡ None
-  pub taken : (c : ℕ) (s : CallerView) → slice_get callers c ≡ Some s → s.taken ≡ (now b (asks_by b (texts_of callers)) (reverse journal)).settled c
-  pub ended : (c : ℕ) (s : CallerView) → slice_get callers c ≡ Some s → (now b (asks_by b (texts_of callers)) (reverse journal)).walk c ≡ Ends
+  pub taken : (c : ℕ) (s : CallerView) → slice_get callers c ≡ Some s
+      → s.taken ≡ (now b (asks_by b (texts_of callers)) (reverse journal)).settled c
+  pub ended : (c : ℕ) (s : CallerView) → slice_get callers c ≡ Some s
+      → (now b (asks_by b (texts_of callers)) (reverse journal)).walk c ≡ Ends
   pub done : (c : ℕ) (s : CallerView) → slice_get callers c ≡ Some s → asked_by (script_on b s.script.text) s.taken ≡ None
   pub worlds_count : length worlds ≡ length b.roots
   pub world : (r : ℕ) → r < length b.roots → slice_get worlds r ≡ Some (world_at b (asks_by b (texts_of callers)) (reverse journal) r)
@@ -75,7 +78,8 @@ pub record IsOver (b : BoardView) (callers : List CallerView) (many : ℕ) (jour
 
 -- these bytes are the report of this journal, the oldest entry first; it is legal, and each entry might come where it did;
 -- it is complete; these are the calls of its ports, and the devices that it leaves
-pub record IsRunOf (b : BoardView) (texts : List (List ℕ)) (bytes : List ℕ) (logs : List (List PortCall)) (states : List TargetState) (journal : List Entry) : Type 0 where
+pub record IsRunOf (b : BoardView) (texts : List (List ℕ)) (bytes : List ℕ) (logs : List (List PortCall)) (states : List TargetState)
+    (journal : List Entry) : Type 0 where
   pub reported : bytes ≡ report_of (printed_by b texts) (length texts) journal
   pub legal : IsLegal b (length texts) (asks_by b texts) (reverse journal)
   pub stepwise : IsStepwise b (length texts) (asks_by b texts) (reverse journal)
@@ -91,7 +95,8 @@ KeepsOrder None journal = ⊤
 KeepsOrder (Some words) journal = Follows words journal
 
 -- there is such a journal, which keeps the order that is asked for
-pub record HasRun (b : BoardView) (texts : List (List ℕ)) (words : Option (List ℕ)) (bytes : List ℕ) (logs : List (List PortCall)) (states : List TargetState) : Type 0 where
+pub record HasRun (b : BoardView) (texts : List (List ℕ)) (words : Option (List ℕ)) (bytes : List ℕ) (logs : List (List PortCall))
+    (states : List TargetState) : Type 0 where
   pub journal : List Entry
   pub is_run : IsRunOf b texts bytes logs states journal
   pub ordered : KeepsOrder words journal

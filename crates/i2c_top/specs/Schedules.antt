@@ -21,7 +21,8 @@ caller_named callers word = None
 
 -- so a word names a caller exactly where it is that caller's number in decimal digits
 abbrev pub WordsAreNumbers : Type 0
-WordsAreNumbers = (callers caller : ℕ) (word : List ℕ) → callers ≤ MOST_CALLERS → (caller_named callers word ≡ Some caller) ↔ ((caller < callers) × (word ≡ decimal caller))
+WordsAreNumbers = (callers caller : ℕ) (word : List ℕ) → callers ≤ MOST_CALLERS
+    → (caller_named callers word ≡ Some caller) ↔ ((caller < callers) × (word ≡ decimal caller))
 
 -- a schedule has at most so many words
 abbrev pub MOST_ENTRIES : ℕ

@@ -77,7 +77,8 @@ item_text (item.Device device) = codes "device " ++ decimal device
 
 -- the broken rule, and the two items at fault
 abbrev pub broken_text : RuleBroken → List ℕ
-broken_text r = codes "rule TR" ++ (decimal r.rule ++ (codes " " ++ (item_text r.first ++ (codes " " ++ (item_text r.second ++ codes "\n")))))
+broken_text r = codes "rule TR" ++
+    (decimal r.rule ++ (codes " " ++ (item_text r.first ++ (codes " " ++ (item_text r.second ++ codes "\n")))))
 
 abbrev pub board_text : BoardRefusal → List ℕ
 board_text (refusal.Fault f) = fault_text f

@@ -53,7 +53,8 @@ abbrev pub failed_on_way : BoardView → Asks → List Entry → ℕ → Bool
 failed_on_way b asks [] c = false
 failed_on_way b asks (e ∷ past) c =
     not (is_over ((now b asks (e ∷ past)).walk c))
-    && (((caller_of e == c) && (is_failed e && is_on_way (first_note (current b asks (now b asks past) c)) e)) || failed_on_way b asks past c)
+    && (((caller_of e == c) && (is_failed e && is_on_way (first_note (current b asks (now b asks past) c)) e)) || failed_on_way b asks past
+    c)
 
 -- a settle tells a cut, and the reply is EREMOTEIO, exactly where such a step of its transfer failed
 abbrev pub CutAt : BoardView → Asks → Entry → List Entry → Type 0

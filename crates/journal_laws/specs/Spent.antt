@@ -54,13 +54,15 @@ of_caller f (e ∷ past) c = (if caller_of e == c then f e past else 0) + of_cal
 abbrev pub of_walk : BoardView → Asks → Count → List Entry → ℕ → ℕ
 of_walk b asks f [] c = 0
 of_walk b asks f (e ∷ past) c =
-    if caller_of e == c then f e past + (if is_over ((now b asks past).walk c) then 0 else of_walk b asks f past c) else of_walk b asks f past c
+    if caller_of e == c then f e past +
+    (if is_over ((now b asks past).walk c) then 0 else of_walk b asks f past c) else of_walk b asks f past c
 
 -- and the transfer that this walk is of
 abbrev pub whose_walk : BoardView → Asks → List Entry → ℕ → Option TransferView
 whose_walk b asks [] c = None
 whose_walk b asks (e ∷ past) c =
-    if caller_of e == c then (if is_over ((now b asks past).walk c) then transfer_at asks past c else whose_walk b asks past c) else whose_walk b asks past c
+    if caller_of e == c then (if is_over ((now b asks past).walk c) then transfer_at asks past c else whose_walk b asks past c) else
+    whose_walk b asks past c
 
 -- so many entries are no more than a cost, and their bytes and calls no more than twice that
 pub record IsWithinCost (cost entries bytes calls : ℕ) : Type 0 where
@@ -86,7 +88,8 @@ KeepsFits asks past = Everywhere (FitsAt asks) past
 
 -- a caller's own bound on what it has left covers each transfer's cost, and falls by it with the reply
 abbrev pub CoversCosts : BoardView → (List Reply → Option TransferView) → (List Reply → ℕ) → Type 0
-CoversCosts b asks left = (rs : List Reply) (t : TransferView) (r : Reply) → asks rs ≡ Some t → Fits t r → left (rs ++ r ∷ []) + cost_of b t ≤ left rs
+CoversCosts b asks left = (rs : List Reply) (t : TransferView) (r : Reply) → asks rs ≡ Some t → Fits t r
+    → left (rs ++ r ∷ []) + cost_of b t ≤ left rs
 
 -- the sum of what the callers below this number have
 abbrev pub sum_below : ℕ → (ℕ → ℕ) → ℕ

@@ -94,7 +94,8 @@ unselected_walk = both_taken ++ sees None ∷ shut ∷ did_send (Select hop) 0 e
 
 -- a deselect follows a job that failed, and fails nothing by itself
 abbrev pub deselected_walk : List PathStep
-deselected_walk = both_taken ++ sees None ∷ shut ∷ selected_once ∷ did_send call 1 end.Nack [] ∷ did_settle (Some Enxio) ∷ did_send deselect 0 (end.Cut 2) (0 ∷ []) ∷ both_freed
+deselected_walk = both_taken ++ sees None ∷ shut ∷ selected_once ∷ did_send call 1 end.Nack [] ∷ did_settle
+    (Some Enxio) ∷ did_send deselect 0 (end.Cut 2) (0 ∷ []) ∷ both_freed
 
 -- a transfer to a bus that isn't there is one settle
 abbrev pub nowhere : TransferView
@@ -113,14 +114,16 @@ unlocked_between =
     ∷ did_send call 0 end.Ok (0x11 ∷ []) ∷ did_settle None ∷ deselected_once ∷ both_freed
 
 abbrev pub freed_in_order : List PathStep
-freed_in_order = both_taken ++ sees None ∷ shut ∷ selected_once ∷ both_read ++ deselected_once ∷ did_free (lock.Mux 0) ∷ did_free (lock.Bus 0) ∷ []
+freed_in_order = both_taken ++ sees None ∷ shut ∷ selected_once ∷ both_read ++ deselected_once ∷ did_free (lock.Mux 0) ∷ did_free
+    (lock.Bus 0) ∷ []
 
 -- the close is left out; the select follows a close that failed
 abbrev pub close_left_out : List PathStep
 close_left_out = both_taken ++ sees (Some 0) ∷ selected_once ∷ both_read ++ deselected_once ∷ both_freed
 
 abbrev pub over_a_failed_close : List PathStep
-over_a_failed_close = both_taken ++ sees (Some 0) ∷ did_send close 0 (end.Cut 0) [] ∷ did_settle (Some Eremoteio) ∷ selected_once ∷ deselected_once ∷ both_freed
+over_a_failed_close = both_taken ++ sees (Some 0) ∷ did_send close 0 (end.Cut 0) [] ∷ did_settle
+    (Some Eremoteio) ∷ selected_once ∷ deselected_once ∷ both_freed
 
 -- a deselect follows a select that was refused; it is left out behind a job
 abbrev pub deselect_of_none : List PathStep
@@ -132,10 +135,12 @@ deselect_left_out = both_taken ++ sees None ∷ shut ∷ selected_once ∷ both_
 
 -- the second message follows one that nobody acknowledged; the settle comes a step late
 abbrev pub over_a_nack : List PathStep
-over_a_nack = both_taken ++ sees None ∷ shut ∷ selected_once ∷ did_send call 1 end.Nack [] ∷ did_send call 0 end.Ok (0x11 ∷ []) ∷ did_settle None ∷ deselected_once ∷ both_freed
+over_a_nack = both_taken ++ sees None ∷ shut ∷ selected_once ∷ did_send call 1 end.Nack [] ∷ did_send call 0 end.Ok
+    (0x11 ∷ []) ∷ did_settle None ∷ deselected_once ∷ both_freed
 
 abbrev pub settle_moved : List PathStep
-settle_moved = both_taken ++ sees None ∷ shut ∷ selected_once ∷ did_send call 1 end.Ok (0 ∷ []) ∷ did_send call 0 end.Ok (0x11 ∷ []) ∷ deselected_once ∷ did_settle None ∷ both_freed
+settle_moved = both_taken ++ sees None ∷ shut ∷ selected_once ∷ did_send call 1 end.Ok (0 ∷ []) ∷ did_send call 0 end.Ok
+    (0x11 ∷ []) ∷ deselected_once ∷ did_settle None ∷ both_freed
 
 -- ANOTHER WAY TO SWITCH. An arbitrator is asked until it is found free, and then switched; after eight polls it is given up
 abbrev pub polled_hop : Hop
@@ -150,7 +155,8 @@ finds left byte = did_send (Select polled_hop) left end.Ok (byte ∷ [])
 abbrev pub polled_walk : List PathStep
 polled_walk =
     both_taken ++ sees None ∷ shut ∷ finds 8 1 ∷ finds 7 0 ∷ finds 0 1
-    ∷ did_send (Call 1 (messages_of behind_arbitrator)) 1 end.Ok (5 ∷ []) ∷ did_send (Call 1 (messages_of behind_arbitrator)) 0 end.Ok (0x7e ∷ []) ∷ did_settle None
+    ∷ did_send (Call 1 (messages_of behind_arbitrator)) 1 end.Ok (5 ∷ []) ∷ did_send (Call 1 (messages_of behind_arbitrator)) 0 end.Ok
+    (0x7e ∷ []) ∷ did_settle None
     ∷ did_send (SwitchOff (Deselect polled_hop)) 0 end.Ok (0 ∷ []) ∷ both_freed
 
 abbrev pub given_up_walk : List PathStep
@@ -174,7 +180,8 @@ shifted job failed = Did (Shift job) (Lined failed)
 
 abbrev pub line_reads : List PathStep
 line_reads =
-    did_send (Call 2 (messages_of behind_gpio)) 1 end.Ok (5 ∷ []) ∷ did_send (Call 2 (messages_of behind_gpio)) 0 end.Ok (0x7e ∷ []) ∷ did_settle None ∷ []
+    did_send (Call 2 (messages_of behind_gpio)) 1 end.Ok (5 ∷ []) ∷ did_send (Call 2 (messages_of behind_gpio)) 0 end.Ok
+    (0x7e ∷ []) ∷ did_settle None ∷ []
 
 abbrev pub line_deselected : PathStep
 line_deselected = shifted (SwitchOff (Deselect line_hop)) false

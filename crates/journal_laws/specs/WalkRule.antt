@@ -26,7 +26,8 @@ settle_where false verdict = []
 
 abbrev pub IsJobEnd : Job → Bool → ℕ → ActOutcome → List PathStep → JobOutcome → Type 0
 IsJobEnd job forward left last steps out =
-    (map act_of steps ≡ settle_where (forward && decides job (job_outcome job left last)) (verdict_of job left last)) × (out ≡ job_outcome job left last)
+    (map act_of steps ≡ settle_where (forward && decides job (job_outcome job left last)) (verdict_of job left last))
+    × (out ≡ job_outcome job left last)
 
 -- which message of a job follows one behind which so many may come
 abbrev pub next_by : Go → ℕ → Option ℕ
@@ -47,7 +48,8 @@ abbrev pub AreMessages : Job → Bool → ℕ → List PathStep → JobOutcome �
 AreMessages job forward left [] out = ⊥
 AreMessages job forward left (Saw ask mark ∷ steps) out = ⊥
 AreMessages job forward left (Did act o ∷ steps) out =
-    (act ≡ Send job left) × NextOr (next_message job left o) (λ next. AreMessages job forward next steps out) (IsJobEnd job forward left o steps out)
+    (act ≡ Send job left) × NextOr (next_message job left o) (λ next. AreMessages job forward next steps out)
+    (IsJobEnd job forward left o steps out)
 
 -- its line step
 abbrev pub IsLineStep : Job → Bool → List PathStep → JobOutcome → Type 0
@@ -99,7 +101,8 @@ pub record IsChosen (h : Hop) (on : Rule) (job : Job) (forward : Bool) (steps : 
 
 -- a mux that stays as it is, and keeps the channel, isn't selected
 abbrev pub IsCrossed : Hop → Rule → Option ℕ → Job → Bool → List PathStep → JobOutcome → Type 0
-IsCrossed h on kept job forward steps out = MatchBool (keeps h kept) (IsOpened h on job forward steps out) (IsChosen h on job forward steps out)
+IsCrossed h on kept job forward steps out = MatchBool (keeps h kept) (IsOpened h on job forward steps out)
+    (IsChosen h on job forward steps out)
 
 pub record IsPassed (h : Hop) (on : Rule) (job : Job) (forward : Bool) (steps : List PathStep) (out : JobOutcome) : Type 0 where
   pub kept : Option ℕ
@@ -118,7 +121,8 @@ abbrev pub IsClosed : BoardView → Hop → Rule → Bool → Option ℕ → Lis
 IsClosed b h on forward None closed came = (closed ≡ []) × (came ≡ Good)
 IsClosed b h on forward (Some m) closed came = on (SwitchOff (Close h.on m (kind_of b m))) forward closed came
 
-pub record IsBehindMux (b : BoardView) (h : Hop) (on : Rule) (job : Job) (forward : Bool) (steps : List PathStep) (out : JobOutcome) : Type 0 where
+pub record IsBehindMux (b : BoardView) (h : Hop) (on : Rule) (job : Job) (forward : Bool) (steps : List PathStep)
+    (out : JobOutcome) : Type 0 where
   pub mark : Option ℕ
   pub closed : List PathStep
   pub rest : List PathStep
@@ -136,7 +140,8 @@ IsPart false locks on = IsLocked locks on
 abbrev pub IsInner : BoardView → ℕ → List Hop → Rule
 IsInner b root [] job forward steps out = AtBus job forward steps out
 IsInner b root (h ∷ hs) job forward steps out =
-    MatchBool (is_line job) (AtBus job forward steps out) (IsBehindMux b h (IsPart h.parent (locks_of root hs) (IsInner b root hs)) job forward steps out)
+    MatchBool (is_line job) (AtBus job forward steps out)
+    (IsBehindMux b h (IsPart h.parent (locks_of root hs) (IsInner b root hs)) job forward steps out)
 
 abbrev pub IsFull : BoardView → ℕ → List Hop → Rule
 IsFull b root hs = IsLocked (locks_of root hs) (IsInner b root hs)

@@ -43,7 +43,8 @@ abbrev pub settled_late : List Entry
 settled_late = row.gave 0 0x7e ∷ row.free_bus 0 ∷ reads_byte 0 0 0x20 0x7e 0 ∷ asks_register 0 0 0x20 5 0 ∷ row.take_bus 0 ∷ []
 
 abbrev pub another_before_the_settle : List Entry
-another_before_the_settle = row.gave 0 0x7e ∷ row.take_mux 1 0 ∷ reads_byte 0 0 0x20 0x7e 0 ∷ asks_register 0 0 0x20 5 0 ∷ row.take_bus 0 ∷ []
+another_before_the_settle = row.gave 0 0x7e ∷ row.take_mux 1 0 ∷ reads_byte 0 0 0x20 0x7e 0 ∷ asks_register 0 0 0x20 5 0 ∷ row.take_bus 0 ∷
+    []
 
 abbrev pub heard_on_a_closed_channel : List Entry
 heard_on_a_closed_channel = asks_register 0 1 0x30 0 1 ∷ row.take_bus 0 ∷ row.take_mux 0 0 ∷ []
@@ -81,7 +82,8 @@ silent_asks = transfers_of ((row.read 0 0x21 5 ∷ []) ∷ [])
 
 abbrev pub another_part : List Entry
 another_part =
-    reverse (row.take_bus 0 ∷ entry.Message 0 0 purpose.Call 7 9 0x33 true [] None end.Nack ∷ row.fails 0 Enxio cut.No ∷ row.free_bus 0 ∷ [])
+    reverse (row.take_bus 0 ∷ entry.Message 0 0 purpose.Call 7 9 0x33 true [] None end.Nack ∷ row.fails 0 Enxio cut.No ∷ row.free_bus 0 ∷
+    [])
 
 -- the first call of the port fails, and it is told as the last of nine parts, which has read a byte before
 abbrev pub top_asks : Asks
@@ -111,7 +113,8 @@ another_direction = entry.Message 0 0 purpose.Call 1 2 0x20 true (5 ∷ []) (Som
 
 -- Early unlock: the root's lock is free between the two messages of a register read
 abbrev pub unlocked_early : List Entry
-unlocked_early = row.gave 0 0x7e ∷ reads_byte 0 0 0x20 0x7e 0 ∷ row.take_bus 0 ∷ row.free_bus 0 ∷ asks_register 0 0 0x20 5 0 ∷ row.take_bus 0 ∷ []
+unlocked_early = row.gave 0 0x7e ∷ reads_byte 0 0 0x20 0x7e 0 ∷ row.take_bus 0 ∷ row.free_bus 0 ∷ asks_register 0 0 0x20 5 0 ∷ row.take_bus
+    0 ∷ []
 
 -- The select is joined to the caller's messages by a repeated start: the channel opens at the stop alone, and nobody
 -- behind it hears the message
@@ -141,13 +144,15 @@ abbrev pub keep_asks : Asks
 keep_asks = transfers_of ((row.read 1 0x30 0 ∷ row.read 2 0x31 0 ∷ row.read 1 0x30 0 ∷ []) ∷ [])
 
 abbrev pub first_kept : List Entry
-first_kept = row.take_mux 0 0 ∷ row.take_bus 0 ∷ row.control 0 0 0 0x70 1 ∷ row.reads 0 1 0x30 0 0x11 1 ++ row.free_bus 0 ∷ row.free_mux 0 0 ∷ []
+first_kept = row.take_mux 0 0 ∷ row.take_bus 0 ∷ row.control 0 0 0 0x70 1 ∷ row.reads 0 1 0x30 0 0x11 1 ++ row.free_bus 0 ∷ row.free_mux 0 0
+    ∷ []
 
 -- the second channel is kept, and the third transfer has taken its locks: no rule is broken yet. Then it sends its message,
 -- as if the first channel were still kept
 abbrev pub behind_another_channel : List Entry
 behind_another_channel =
-    reverse (first_kept ++ row.take_mux 0 0 ∷ row.take_bus 0 ∷ row.control 0 0 0 0x70 2 ∷ row.nobody 0 2 0x31 ++ row.free_bus 0 ∷ row.free_mux 0 0
+    reverse (first_kept ++ row.take_mux 0 0 ∷ row.take_bus 0 ∷ row.control 0 0 0 0x70 2 ∷ row.nobody 0 2 0x31 ++ row.free_bus 0 ∷
+    row.free_mux 0 0
     ∷ row.take_mux 0 0 ∷ row.take_bus 0 ∷ [])
 
 abbrev pub select_left_out : List Entry

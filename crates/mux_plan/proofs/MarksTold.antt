@@ -18,13 +18,15 @@ module _ (b : BoardView) (ms : List MessageView) (c : RouteView) (out : JobOutco
   updates-lock m n w ts = by (drop m c.path)
     where
       by : (hs : List Hop)
-          → updates_after (first_act (locked (locks_of c.root hs) (inner b c.root (drop n c.path)) (job_of c ms w) (note_of ts) (tree_of b ms c ts)))
+          → updates_after (first_act (locked (locks_of c.root hs) (inner b c.root (drop n c.path)) (job_of c ms w) (note_of ts)
+          (tree_of b ms c ts)))
           (first_note (locked (locks_of c.root hs) (inner b c.root (drop n c.path)) (job_of c ms w) (note_of ts) (tree_of b ms c ts))) o
           ≡ []
       by [] = refl
       by (g ∷ hs) = refl
 
-  updates-other : (t : Task) (ts : List Task) → IsStep (t ∷ ts) → ((left : ℕ) (w : Work) → t ≡ Rest left w → ⊥) → ((w : Work) → t ≡ Line w → ⊥)
+  updates-other : (t : Task) (ts : List Task) → IsStep (t ∷ ts) → ((left : ℕ) (w : Work) → t ≡ Rest left w → ⊥)
+      → ((w : Work) → t ≡ Line w → ⊥)
       → updates_after (first_act (tree_of b ms c (t ∷ ts) out)) (first_note (tree_of b ms c (t ∷ ts) out)) o ≡ []
   updates-other (Enter n w) ts step no_message no_line = absurd step
   updates-other (Lock m n w) ts step no_message no_line = updates-lock m n w ts

@@ -14,11 +14,13 @@ use Rattle.mux_plan.specs.declared.marks.MuxUpdate.{MuxUpdate}
 use Rattle.mux_plan.specs.Marks.{marked, all_marked, left_open, updates_on, updates_of_job, updates_after, applied, IsSwitchedOn, MayMark, AreOn}
 use Rattle.mux_plan.specs.Plans.{TellsMarks, slots_after}
 
-applied-push : (ds : List MuxUpdate) (d : MuxUpdate) (marks : List (Option ℕ)) → applied (ds ++ d ∷ []) marks ≡ set (applied ds marks) d.on d.mark
+applied-push : (ds : List MuxUpdate) (d : MuxUpdate) (marks : List (Option ℕ))
+    → applied (ds ++ d ∷ []) marks ≡ set (applied ds marks) d.on d.mark
 applied-push [] d marks = refl
 applied-push (x ∷ xs) d marks = applied-push xs d (set marks x.on x.mark)
 
-tells-set : (v : Slots) (marks : List (Option ℕ)) (on : ℕ) (mark : Option ℕ) (x : At) → mark_in x.slot ≡ mark → TellsMarks v marks → TellsMarks (changed_at v on x) (set marks on mark)
+tells-set : (v : Slots) (marks : List (Option ℕ)) (on : ℕ) (mark : Option ℕ) (x : At) → mark_in x.slot ≡ mark → TellsMarks v marks
+    → TellsMarks (changed_at v on x) (set marks on mark)
 tells-set v marks on mark x is told = record {
   at = λ p low.
       let all : length (set marks on mark) ≡ length marks = length-set marks on mark in
@@ -28,10 +30,12 @@ tells-set v marks on mark x is told = record {
       ];
 }
 
-tells_due : (ds : List MuxUpdate) (d : MuxUpdate) (marks : List (Option ℕ)) (v : Slots) (x : At) → mark_in x.slot ≡ d.mark → TellsMarks v (applied ds marks)
+tells_due : (ds : List MuxUpdate) (d : MuxUpdate) (marks : List (Option ℕ)) (v : Slots) (x : At) → mark_in x.slot ≡ d.mark
+    → TellsMarks v (applied ds marks)
     → TellsMarks (changed_at v d.on x) (applied (ds ++ d ∷ []) marks)
 tells_due ds d marks v x is told =
-    subst (λ (xs : List (Option ℕ)). TellsMarks (changed_at v d.on x) xs) (sym (applied-push ds d marks)) (tells-set v (applied ds marks) d.on d.mark x is told)
+    subst (λ (xs : List (Option ℕ)). TellsMarks (changed_at v d.on x) xs) (sym (applied-push ds d marks))
+    (tells-set v (applied ds marks) d.on d.mark x is told)
 
 -- a poll that goes through leaves no mark
 no-mark : (h : Hop) (left : ℕ) (bytes : List ℕ) → mark_in (polled_slot h left bytes) ≡ None
@@ -46,15 +50,18 @@ no-mark h (suc left) bytes = by (first_byte bytes == 0)
     by true = refl
     by false = refl
 
-tells-all : (ms : List Mark) (marks : List (Option ℕ)) (v : Slots) → TellsMarks v marks → TellsMarks (set_marks ms v) (applied (all_marked ms) marks)
+tells-all : (ms : List Mark) (marks : List (Option ℕ)) (v : Slots) → TellsMarks v marks
+    → TellsMarks (set_marks ms v) (applied (all_marked ms) marks)
 tells-all [] marks v told = told
-tells-all (m ∷ ms) marks v told = tells_due (all_marked ms) (marked m) marks (set_marks ms v) (turned_at (v m.on) m.mux (Marked m.mux) None) refl (tells-all ms marks v told)
+tells-all (m ∷ ms) marks v told = tells_due (all_marked ms) (marked m) marks (set_marks ms v)
+    (turned_at (v m.on) m.mux (Marked m.mux) None) refl (tells-all ms marks v told)
 
 tells-one : (v : Slots) (marks : List (Option ℕ)) (on mux : ℕ) (slot : MuxSlot) (c : Option ℕ) → mark_in slot ≡ None → TellsMarks v marks
     → TellsMarks (turned v on mux slot c) (set marks on None)
 tells-one v marks on mux slot c none told = tells-set v marks on None (turned_at (v on) mux slot c) none told
 
-tells-through : (h : Hop) (left : ℕ) (bytes : List ℕ) (v : Slots) (marks : List (Option ℕ)) → TellsMarks v marks → TellsMarks (select_told h left bytes v) (set marks h.on None)
+tells-through : (h : Hop) (left : ℕ) (bytes : List ℕ) (v : Slots) (marks : List (Option ℕ)) → TellsMarks v marks
+    → TellsMarks (select_told h left bytes v) (set marks h.on None)
 tells-through h zero bytes v marks told = tells-one v marks h.on h.mux Clean (Some h.channel) refl told
 tells-through h (suc left) bytes v marks told = tells-one v marks h.on h.mux (polled_slot h left bytes) None (no-mark h left bytes) told
 
@@ -105,7 +112,8 @@ on-all : (held : ℕ → Bool) (ms : List Mark) → AllByRecursion (λ m. held m
 on-all held [] all = all
 on-all held (m ∷ ms) all = on-due held (all_marked ms) (marked m) all.0 (on-all held ms all.1)
 
-on-switch : (held : ℕ → Bool) (on mux : ℕ) (c : Option ℕ) (ms : List Mark) (out : ActOutcome) → held on ≡ true → AllByRecursion (λ m. held m.on ≡ true) ms → AreOn held (updates_on on mux c ms out)
+on-switch : (held : ℕ → Bool) (on mux : ℕ) (c : Option ℕ) (ms : List Mark) (out : ActOutcome) → held on ≡ true
+    → AllByRecursion (λ m. held m.on ≡ true) ms → AreOn held (updates_on on mux c ms out)
 on-switch held on mux c ms Passed is all = tt
 on-switch held on mux c ms (Sent end.Ok bytes) is all = (is, tt)
 on-switch held on mux c ms (Sent end.Nack bytes) is all = (is, tt)
@@ -116,12 +124,14 @@ on-switch held on mux c ms (Sent (end.Cut q) bytes) is all = on-all held ms all
 on-switch held on mux c ms (Lined true) is all = on-all held ms all
 on-switch held on mux c ms (Lined false) is all = (is, tt)
 
-on-job : (held : ℕ → Bool) (job : Job) (left : ℕ) (ms : List Mark) (out : ActOutcome) → IsSwitchedOn held job → AllByRecursion (λ m. held m.on ≡ true) ms → AreOn held (updates_of_job job left ms out)
+on-job : (held : ℕ → Bool) (job : Job) (left : ℕ) (ms : List Mark) (out : ActOutcome) → IsSwitchedOn held job
+    → AllByRecursion (λ m. held m.on ≡ true) ms → AreOn held (updates_of_job job left ms out)
 on-job held (Call bus messages) left ms out is all = tt
 on-job held (Select h) left ms out is all = on-switch held h.on h.mux (left_open h left out) ms out is all
 on-job held (SwitchOff off) left ms out is all = on-switch held (off_bus off) (off_mux off) None ms out is all
 
-pub on-after : (held : ℕ → Bool) (act : Option Act) (note : Note) (out : ActOutcome) → MayMark held act note → AreOn held (updates_after act note out)
+pub on-after : (held : ℕ → Bool) (act : Option Act) (note : Note) (out : ActOutcome) → MayMark held act note
+    → AreOn held (updates_after act note out)
 on-after held None note out may = tt
 on-after held (Some (walk.Take l)) note out may = tt
 on-after held (Some (walk.Free l)) note out may = tt

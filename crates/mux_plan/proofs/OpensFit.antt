@@ -16,4 +16,5 @@ all_among P (h ∷ hs) f = All-cons P h hs (f h (inl refl)) (all_among P hs (λ 
 
 pub path_narrow : (b : BoardView) (s : ℕ) → IsPlainBoard b → MeetsRules b → s < buses b → All IsNarrow (hops b s)
 path_narrow b s plain meets there =
-    all_among IsNarrow (hops b s) (λ h among. omega (arith, (tree_of b plain meets).within s h there among, channels_of_mux_le b h.mux plain))
+    all_among IsNarrow (hops b s) (λ h among. omega
+    (arith, (tree_of b plain meets).within s h there among, channels_of_mux_le b h.mux plain))

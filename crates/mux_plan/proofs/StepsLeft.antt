@@ -27,7 +27,8 @@ module _ (b : BoardView) (ms : List MessageView) (c : RouteView) where
   goes_on-inner [] job note k = goes_on-bus job note k
   goes_on-inner (h ∷ hs) job note k = by (is_line job)
     where
-      by : (x : Bool) → is_over (cond x (at_bus job note k) (behind b h (part h.parent (locks_of c.root hs) (inner b c.root hs)) job note k)) ≡ false
+      by : (x : Bool) → is_over (cond x (at_bus job note k)
+          (behind b h (part h.parent (locks_of c.root hs) (inner b c.root hs)) job note k)) ≡ false
       by true = goes_on-bus job note k
       by false = refl
 
@@ -35,7 +36,8 @@ module _ (b : BoardView) (ms : List MessageView) (c : RouteView) where
   goes_on (Enter n w) ts out ready = goes_on-inner (drop n c.path) (job_of c ms w) (note_of ts) (tree_of b ms c ts)
   goes_on (Lock m n w) ts out ready = by (drop m c.path)
     where
-      by : (hs : List Hop) → is_over (locked (locks_of c.root hs) (inner b c.root (drop n c.path)) (job_of c ms w) (note_of ts) (tree_of b ms c ts)) ≡ false
+      by : (hs : List Hop) → is_over
+          (locked (locks_of c.root hs) (inner b c.root (drop n c.path)) (job_of c ms w) (note_of ts) (tree_of b ms c ts)) ≡ false
       by [] = refl
       by (g ∷ hs) = refl
   goes_on (Free l) ts out ready = refl
@@ -48,7 +50,8 @@ module _ (b : BoardView) (ms : List MessageView) (c : RouteView) where
   goes_on (AwaitWork n g) ts out ready = absurd ready
   goes_on (AwaitDeselect g was) ts out ready = absurd ready
 
-  pub is_over-empty : (ts : List Task) (out : JobOutcome) (empty : Bool) → IsReady ts → (empty ≡ true → ts ≡ []) → (empty ≡ false → 0 < length ts) → empty ≡ is_over (tree_of b ms c ts out)
+  pub is_over-empty : (ts : List Task) (out : JobOutcome) (empty : Bool) → IsReady ts → (empty ≡ true → ts ≡ [])
+      → (empty ≡ false → 0 < length ts) → empty ≡ is_over (tree_of b ms c ts out)
   is_over-empty [] out true ready none some = refl
   is_over-empty [] out false ready none some = absurd (omega (arith, some refl))
   is_over-empty (t ∷ ts) out true ready none some = absurd (let e : t ∷ ts ≡ [] = none refl in cc)

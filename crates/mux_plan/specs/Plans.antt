@@ -90,11 +90,13 @@ tree_of b ms c (Lock m n w ∷ ts) out =
     locked (locks_of c.root (drop m c.path)) (inner b c.root (drop n c.path)) (job_of c ms w) (note_of ts) (tree_of b ms c ts)
 tree_of b ms c (Free l ∷ ts) out = Then (walk.Free l) plain (λ o. tree_of b ms c ts out)
 tree_of b ms c (Rest left w ∷ ts) out = messages left (job_of c ms w) (note_of ts) (tree_of b ms c ts)
-tree_of b ms c (Line w ∷ ts) out = Then (walk.Shift (job_of c ms w)) (note_of ts) (over (job_of c ms w) zero (note_of ts) (tree_of b ms c ts))
+tree_of b ms c (Line w ∷ ts) out = Then (walk.Shift (job_of c ms w)) (note_of ts)
+    (over (job_of c ms w) zero (note_of ts) (tree_of b ms c ts))
 tree_of b ms c (Settle v ∷ ts) out = Then (walk.Settle v) plain (λ o. tree_of b ms c ts out)
 tree_of b ms c (AwaitClose n h m w ∷ ts) out =
     if_sent out (Look (KeptOf h.on h.mux) (crossed h (on_bus b c n h) (job_of c ms w) (note_of ts) (tree_of b ms c ts))) (tree_of b ms c ts)
-tree_of b ms c (Pass n h w ∷ ts) out = Look (KeptOf h.on h.mux) (crossed h (on_bus b c n h) (job_of c ms w) (note_of ts) (tree_of b ms c ts))
+tree_of b ms c (Pass n h w ∷ ts) out = Look (KeptOf h.on h.mux)
+    (crossed h (on_bus b c n h) (job_of c ms w) (note_of ts) (tree_of b ms c ts))
 tree_of b ms c (AwaitSelect n h w ∷ ts) out =
     if_good out (opened h (on_bus b c n h) (job_of c ms w) (note_of ts) (tree_of b ms c ts)) (tree_of b ms c ts)
 tree_of b ms c (AwaitWork n h ∷ ts) out = on_bus b c n h (SwitchOff (Deselect h)) (aside h) (λ o. tree_of b ms c ts out)
@@ -208,7 +210,13 @@ first_at b ms c s n w = first_act (seen (slots_of s) (tree_of b ms c (Enter n w 
 
 -- the message of a job that so many more may follow, as it is sent next
 abbrev pub next_msg : Job → ℕ → NextMsg
-next_msg job left = record { bus = job_bus job; purpose = job_purpose job; part = part_of job left; parts = parts_of job; control = control_of job left }
+next_msg job left = record {
+  bus = job_bus job;
+  purpose = job_purpose job;
+  part = part_of job left;
+  parts = parts_of job;
+  control = control_of job left;
+}
 
 -- a stop follows it: each control message is a transfer of its own
 abbrev pub ends_with : Purpose → ℕ → ℕ → Bool

@@ -9,11 +9,13 @@ use Rattle.smb_pec.specs.LongDivision.{DIVISOR, bit_down, byte_down, remainder, 
 -- doubling, and a bit behind it
 doubled : (x y bit : ℕ) → bit < 2 → 2 * bit_xor x y + bit ≡ bit_xor (2 * x) (2 * y + bit)
 doubled x y bit small =
-    let apart : bit_xor (x * 2 ^ 1 + 0) (y * 2 ^ 1 + bit) ≡ bit_xor x y * 2 ^ 1 + bit_xor 0 bit = xor_block 1 x y 0 bit (omega arith) small in
+    let apart : bit_xor (x * 2 ^ 1 + 0) (y * 2 ^ 1 + bit) ≡ bit_xor x y * 2 ^ 1 + bit_xor 0 bit = xor_block 1 x y 0 bit
+    (omega arith) small in
     let left : x * 2 ^ 1 + 0 ≡ 2 * x = omega arith in
     let right : y * 2 ^ 1 + bit ≡ 2 * y + bit = omega arith in
     let over : 2 * bit_xor x y + bit ≡ bit_xor x y * 2 ^ 1 + bit = omega arith in
-    over ∙ (ap (λ n. bit_xor x y * 2 ^ 1 + n) (sym (xor_zero_l bit)) ∙ (sym apart ∙ (ap (λ n. bit_xor n (y * 2 ^ 1 + bit)) left ∙ ap (λ n. bit_xor (2 * x) n) right)))
+    over ∙ (ap (λ n. bit_xor x y * 2 ^ 1 + n) (sym (xor_zero_l bit))
+    ∙ (sym apart ∙ (ap (λ n. bit_xor n (y * 2 ^ 1 + bit)) left ∙ ap (λ n. bit_xor (2 * x) n) right)))
 
 -- the highest bit of eight is that of x alone
 top_is : (x y : ℕ) → y < 128 → bit_xor x y / 128 ≡ x / 128
@@ -29,7 +31,8 @@ bit_down-added : (x y bit : ℕ) → y < 128 → bit < 2 → bit_down (bit_xor x
 bit_down-added x y bit low small =
     let top = top_is x y low in
     let none : 2 * x + 0 ≡ 2 * x = omega arith in
-    go (nat_lt (2 * bit_xor x y + bit) 256) (nat_lt (2 * x + 0) 256) (2 * bit_xor x y + bit) (2 * x + 0) (2 * y + bit) (grind (arith, nat_tests))
+    go (nat_lt (2 * bit_xor x y + bit) 256) (nat_lt (2 * x + 0) 256) (2 * bit_xor x y + bit) (2 * x + 0) (2 * y + bit)
+    (grind (arith, nat_tests))
     (doubled x y bit small ∙ ap (λ n. bit_xor n (2 * y + bit)) (sym none))
   where
     go : (s t : Bool) (m n k : ℕ) → s ≡ t → m ≡ bit_xor n k → cond s m (bit_xor m DIVISOR) ≡ bit_xor (cond t n (bit_xor n DIVISOR)) k
@@ -39,7 +42,8 @@ bit_down-added x y bit low small =
     go false true m n k e h = grind arith
 
 -- the same where the bits that came before are added already
-next : (r x high bit more : ℕ) → r ≡ bit_xor x high → high < 128 → bit < 2 → 2 * high + bit ≡ more → bit_down r bit ≡ bit_xor (bit_down x 0) more
+next : (r x high bit more : ℕ) → r ≡ bit_xor x high → high < 128 → bit < 2 → 2 * high + bit ≡ more
+    → bit_down r bit ≡ bit_xor (bit_down x 0) more
 next r x high bit more e low small sum =
     ap (λ n. bit_down n bit) e ∙ (bit_down-added x high bit low small ∙ ap (λ n. bit_xor (bit_down x 0) n) sum)
 

@@ -20,4 +20,13 @@ opened-is size fill busy wp set memory waiting filled none =
     ∙ ap (λ (places : List (Option ℕ)). with_parts (write_runs (replicate (size_of_eeprom size) fill) set) places) none
   where
     with_parts : List ℕ → List (Option ℕ) → EepromView
-    with_parts bytes places = record { size = size; phase = Idle; pointer = 0; memory = bytes; waiting = places; left = 0; busy = busy; wp = wp }
+    with_parts bytes places = record {
+      size = size;
+      phase = Idle;
+      pointer = 0;
+      memory = bytes;
+      waiting = places;
+      left = 0;
+      busy = busy;
+      wp = wp;
+    }

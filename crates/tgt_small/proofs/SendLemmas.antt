@@ -12,8 +12,19 @@ awaits-send = search sendable depth 20
 
 inside-send : IsSend inside.the_row
 inside-send =
-    recorded_send (inside.the_field).row _ _ (inside.the_type).to_one (struct_send (shape (inside.the_type))
-    (search sendable depth 20, (search sendable depth 20, (search sendable depth 20, (awaits-send, (search sendable depth 20, (search sendable depth 20, (byte_store-send (number 256), (search sendable depth 20, tt)))))))))
+    recorded_send (inside.the_field).row _ _ (inside.the_type).to_one (struct_send (shape (inside.the_type)) (
+      search sendable depth 20,
+      (
+        search sendable depth 20,
+        (
+          search sendable depth 20,
+          (
+            awaits-send,
+            (search sendable depth 20, (search sendable depth 20, (byte_store-send (number 256), (search sendable depth 20, tt)))),
+          ),
+        ),
+      ),
+    ))
 
 pub smbus-send : IsSend (SmbusDevice.the_field).row
 smbus-send = let i = inside-send in search sendable depth 20

@@ -25,7 +25,8 @@ block_bound addr false row bytes most h = h bytes (omega arith)
 block_bound addr true row bytes most h =
     let held : List ℕ = take (length bytes - 1) bytes in
     let got : ℕ = get_or bytes (length bytes - 1) 0 in
-    elim (got == wanted_code addr row held) as (λ b. length (block_in (cond b (Ok (value_by row.value held)) (Err (Pec got (wanted_code addr row held))))) ≤ most) [
+    elim (got == wanted_code addr row held) as
+    (λ b. length (block_in (cond b (Ok (value_by row.value held)) (Err (Pec got (wanted_code addr row held))))) ≤ most) [
       | true ↦ h held (omega (arith, length-take (length bytes - 1) bytes))
       | false ↦ omega arith
     ]
@@ -35,10 +36,13 @@ call_by bus addr force pec o = record { bus = bus; addr = addr; force = force; p
 
 -- the block that a call reads has at most so many bytes
 abbrev pub IsShort : ℕ → SmbCall → Type 0
-IsShort most call = (bytes : List ℕ) → Fits (messages_of_call call) (reply.Read bytes) → length (block_in (value_of_call call (reply.Read bytes))) ≤ most
+IsShort most call = (bytes : List ℕ) → Fits (messages_of_call call) (reply.Read bytes)
+    → length (block_in (value_of_call call (reply.Read bytes))) ≤ most
 
-pub no_block : (call : SmbCall) (most : ℕ) → ((held : List ℕ) → block_of_value (value_by (call_row call.op).value held) ≡ []) → IsShort most call
-no_block call most none bytes fits = block_bound call.addr (is_coded call) (call_row call.op) bytes most (λ held few. omega (arith, ap length (none held)))
+pub no_block : (call : SmbCall) (most : ℕ) → ((held : List ℕ) → block_of_value (value_by (call_row call.op).value held) ≡ [])
+    → IsShort most call
+no_block call most none bytes fits = block_bound call.addr (is_coded call) (call_row call.op) bytes most
+    (λ held few. omega (arith, ap length (none held)))
 
 -- a read of so many bytes brings no more
 exact : (n : ℕ) (bytes : List ℕ) → (n ≤ length bytes) × (drop n bytes ≡ []) → length bytes ≤ n
@@ -59,7 +63,8 @@ count_block bus addr force false reg bytes fits =
 -- ---- which reply it is of
 
 -- the last of the replies from a place on is the last that is kept
-pub last_kept : (items : List (ReplyHead × List ℕ)) (from taken : ℕ) (x : ReplyHead × List ℕ) → length (drop from (replies_of items)) ≡ taken → 0 < taken
+pub last_kept : (items : List (ReplyHead × List ℕ)) (from taken : ℕ) (x : ReplyHead × List ℕ)
+    → length (drop from (replies_of items)) ≡ taken → 0 < taken
     → x ≡ get_or items (length items - 1) x → get_or (drop from (replies_of items)) (taken - 1) reply.Done ≡ reply_of x
 last_kept items from taken x count some is =
     let all : length (replies_of items) ≡ length items = length-map items reply_of in

@@ -31,4 +31,5 @@ pub answer_line : (c : Cmd) (replies : List Reply) → IsSectionLine (answer_tex
 answer_line (cmd.Get g) replies = result_line _
 
 pub asks_at : (c : Cmd) (k : ℕ) (t : TransferView) → IsInRange c → slice_get (transfers_of c) k ≡ Some t → IsAsk t
-asks_at c k t range at = subst IsAsk (get_or_from_slice_get (transfers_of c) k t t at) (asks c range k t (slice_get_within (transfers_of c) k t at))
+asks_at c k t range at = subst IsAsk (get_or_from_slice_get (transfers_of c) k t t at)
+    (asks c range k t (slice_get_within (transfers_of c) k t at))

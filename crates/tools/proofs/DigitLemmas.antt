@@ -16,7 +16,8 @@ past_range n h = grind (arith, nat_tests)
 pub digits_past : (hexadecimal : Bool) (n : ℕ) (bs : List ℕ) → 65535 < n → within 0 65535 (digits_on hexadecimal n bs) ≡ None
 digits_past hexadecimal n [] h = past_range n h
 digits_past hexadecimal n (b ∷ bs) h =
-    elim (digit_of hexadecimal b) as (λ o. within 0 65535 (option_and_then (λ d. digits_on hexadecimal (n * base_of hexadecimal + d) bs) o) ≡ None) [
+    elim (digit_of hexadecimal b) as
+    (λ o. within 0 65535 (option_and_then (λ d. digits_on hexadecimal (n * base_of hexadecimal + d) bs) o) ≡ None) [
       | None ↦ refl
       | Some d ↦ digits_past hexadecimal (n * base_of hexadecimal + d) bs (grows hexadecimal n d h)
     ]
@@ -27,11 +28,14 @@ digits_step hexadecimal n xs i o h e =
     at_drop_more (digits_on hexadecimal n) xs i 0 h
     ∙ ap (option_and_then (λ d. digits_on hexadecimal (n * base_of hexadecimal + d) (drop (i + 1) xs))) (sym e)
 
-pub value_more : (hexadecimal : Bool) (n : ℕ) (xs : List ℕ) (i d : ℕ) (r : Option ℕ) → i < length xs → Some d ≡ digit_of hexadecimal (get_or xs i 0)
-    → within 0 65535 (digits_on hexadecimal n (drop i xs)) ≡ r → within 0 65535 (digits_on hexadecimal (n * base_of hexadecimal + d) (drop (i + 1) xs)) ≡ r
+pub value_more : (hexadecimal : Bool) (n : ℕ) (xs : List ℕ) (i d : ℕ) (r : Option ℕ) → i < length xs
+    → Some d ≡ digit_of hexadecimal (get_or xs i 0)
+    → within 0 65535 (digits_on hexadecimal n (drop i xs)) ≡ r
+    → within 0 65535 (digits_on hexadecimal (n * base_of hexadecimal + d) (drop (i + 1) xs)) ≡ r
 value_more hexadecimal n xs i d r h e k = ap (within 0 65535) (sym (digits_step hexadecimal n xs i (Some d) h e)) ∙ k
 
-pub value_past : (hexadecimal : Bool) (n b : ℕ) (xs : List ℕ) (i d : ℕ) (r : Option ℕ) → i < length xs → Some d ≡ digit_of hexadecimal (get_or xs i 0)
+pub value_past : (hexadecimal : Bool) (n b : ℕ) (xs : List ℕ) (i d : ℕ) (r : Option ℕ) → i < length xs
+    → Some d ≡ digit_of hexadecimal (get_or xs i 0)
     → b ≡ base_of hexadecimal → 65535 < n * b + d → within 0 65535 (digits_on hexadecimal n (drop i xs)) ≡ r → None ≡ r
 value_past hexadecimal n b xs i d r h e same p k =
     let past : 65535 < n * base_of hexadecimal + d = rw (← same) p in

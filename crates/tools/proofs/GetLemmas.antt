@@ -22,7 +22,8 @@ use Rattle.tools.proofs.TransferLemmas.{IsAsk, call_asks, short_byte}
 -- ---- its line
 
 module _ (force : Bool) (bus addr : ℕ) (on : IsBetween 0 65535 bus) (to : IsBetween 8 119 addr) where
-  got_fits : (reg : Option ℕ) (m : Option GetMode) (pec : Bool) (len : Option ℕ) → IfSome reg (λ r. r < 2 ^ 8) → IfSome len (λ n. (1 ≤ n) × (n ≤ 32)) → IsInRange (got force bus addr reg m pec len)
+  got_fits : (reg : Option ℕ) (m : Option GetMode) (pec : Bool) (len : Option ℕ) → IfSome reg (λ r. r < 2 ^ 8)
+      → IfSome len (λ n. (1 ≤ n) × (n ≤ 32)) → IsInRange (got force bus addr reg m pec len)
   got_fits reg m pec len r l = record { bus = omega (arith, on.to_high); addr = (to.from_low, to.to_high); reg = r; len = l }
 
   len_fits : (reg : ℕ) (m : GetMode × Bool) → reg < 2 ^ 8 → AllEnds IsInRange (get_len force bus addr reg m)
@@ -56,8 +57,10 @@ module _ (bus addr : ℕ) (force pec : Bool) where
   abbrev Asks : SmbOp → Type 0
   Asks o = IsAsk (messages_of_call (call_by bus addr force pec o))
 
-  ops_ask : (reg : Option ℕ) (m : GetMode) (len : ℕ) → addr ≤ 119 → IfSome reg (λ r. r < 2 ^ 8) → IsBlockLength 32 len → AllByRecursion Asks (ops_by reg m len)
-  ops_ask None m len near byte short = (call_asks (call_by bus addr force pec op.ReceiveByte) near tt (omega arith, omega arith) (omega arith), tt)
+  ops_ask : (reg : Option ℕ) (m : GetMode) (len : ℕ) → addr ≤ 119 → IfSome reg (λ r. r < 2 ^ 8) → IsBlockLength 32 len
+      → AllByRecursion Asks (ops_by reg m len)
+  ops_ask None m len near byte short =
+      (call_asks (call_by bus addr force pec op.ReceiveByte) near tt (omega arith, omega arith) (omega arith), tt)
   ops_ask (Some reg) mode.Byte len near byte short =
       (call_asks (call_by bus addr force pec (op.ReadByte reg)) near (short_byte reg byte) (omega arith, omega arith) (omega arith), tt)
   ops_ask (Some reg) mode.Word len near byte short =
@@ -66,16 +69,20 @@ module _ (bus addr : ℕ) (force pec : Bool) where
     call_asks (call_by bus addr force pec (op.SendByte reg)) near (short_byte reg byte) tt (omega arith),
     (call_asks (call_by bus addr force pec op.ReceiveByte) near tt (omega arith, omega arith) (omega arith), tt),
   )
-  ops_ask (Some reg) mode.Block len near byte short = (call_asks (call_by bus addr force pec (op.BlockRead reg)) near (short_byte reg byte) tt (omega arith), tt)
+  ops_ask (Some reg) mode.Block len near byte short =
+      (call_asks (call_by bus addr force pec (op.BlockRead reg)) near (short_byte reg byte) tt (omega arith), tt)
   ops_ask (Some reg) mode.I2cBlock len near byte short =
       (call_asks (call_by bus addr force pec (op.I2cBlockRead reg len)) near (short_byte reg byte) short (omega arith), tt)
 
-  ops_short : (reg : Option ℕ) (m : GetMode) (len : ℕ) → AllByRecursion (λ o. IsShort (block_most m len) (call_by bus addr force pec o)) (ops_by reg m len)
+  ops_short : (reg : Option ℕ) (m : GetMode) (len : ℕ)
+      → AllByRecursion (λ o. IsShort (block_most m len) (call_by bus addr force pec o)) (ops_by reg m len)
   ops_short None m len = (no_block (call_by bus addr force pec op.ReceiveByte) (block_most m len) (λ held. refl), tt)
   ops_short (Some reg) mode.Byte len = (no_block (call_by bus addr force pec (op.ReadByte reg)) 0 (λ held. refl), tt)
   ops_short (Some reg) mode.Word len = (no_block (call_by bus addr force pec (op.ReadWord reg)) 0 (λ held. refl), tt)
-  ops_short (Some reg) mode.SendReceive len =
-      (no_block (call_by bus addr force pec (op.SendByte reg)) 0 (λ held. refl), (no_block (call_by bus addr force pec op.ReceiveByte) 0 (λ held. refl), tt))
+  ops_short (Some reg) mode.SendReceive len = (
+    no_block (call_by bus addr force pec (op.SendByte reg)) 0 (λ held. refl),
+    (no_block (call_by bus addr force pec op.ReceiveByte) 0 (λ held. refl), tt),
+  )
   ops_short (Some reg) mode.Block len = (count_block bus addr force pec reg, tt)
   ops_short (Some reg) mode.I2cBlock len = (i2c_block bus addr force pec reg len, tt)
 
@@ -90,7 +97,8 @@ get_asks g range =
 
 pub get_short : (g : Get) (k : ℕ) → k < length (get_ops g) → IsShort (block_most (mode_of g) (len_of g)) (get_call g (op_at g k))
 get_short g k within =
-    All-from_recursion (λ o. IsShort (block_most (mode_of g) (len_of g)) (get_call g o)) (get_ops g) (ops_short g.bus g.addr g.force g.pec g.reg (mode_of g) (len_of g)) k op.ReceiveByte within
+    All-from_recursion (λ o. IsShort (block_most (mode_of g) (len_of g)) (get_call g o)) (get_ops g)
+    (ops_short g.bus g.addr g.force g.pec g.reg (mode_of g) (len_of g)) k op.ReceiveByte within
 
 -- it asks for something
 ops_some : (reg : Option ℕ) (m : GetMode) (len : ℕ) → 0 < length (ops_by reg m len)
@@ -105,7 +113,9 @@ pub get_some : (g : Get) → 0 < length (get_transfers g)
 get_some g = omega (arith, ops_some g.reg (mode_of g) (len_of g), length-map (get_ops g) (λ o. messages_of_call (get_call g o)))
 
 -- the transfer at a place is that of the call there
-pub transfer_there : (g : Get) (k : ℕ) → k < length (get_transfers g) → slice_get (get_transfers g) k ≡ Some (messages_of_call (get_call g (op_at g k)))
+pub transfer_there : (g : Get) (k : ℕ) → k < length (get_transfers g)
+    → slice_get (get_transfers g) k ≡ Some (messages_of_call (get_call g (op_at g k)))
 transfer_there g k within =
     let asks : SmbOp → TransferView = λ o. messages_of_call (get_call g o) in
-    slice_get-map asks (get_ops g) k ∙ ap (option_map asks) (slice_get-get_or (get_ops g) k op.ReceiveByte (omega (arith, within, length-map (get_ops g) asks)))
+    slice_get-map asks (get_ops g) k
+    ∙ ap (option_map asks) (slice_get-get_or (get_ops g) k op.ReceiveByte (omega (arith, within, length-map (get_ops g) asks)))

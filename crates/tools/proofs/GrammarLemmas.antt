@@ -29,12 +29,14 @@ live_next : {A : Type 0} (g : LineSet A) → IsLive g → (w : Word) → IsLive 
 live_next nothing h w = tt
 live_next (node e f) h w = h.1 w
 
-line_behind : {A B : Type 0} (k : B → LineSet A) (o : Option B) (b : B) (ws : List Word) (a : A) → o ≡ Some b → IsLine (k b) ws a → IsLine (behind k o) ws a
+line_behind : {A B : Type 0} (k : B → LineSet A) (o : Option B) (b : B) (ws : List Word) (a : A) → o ≡ Some b → IsLine (k b) ws a
+    → IsLine (behind k o) ws a
 line_behind k None b ws a is h = absurd cc
 line_behind k (Some c) b ws a is h = let same : c ≡ b = cc in rw same h
 
 -- a word is itself
-line_itself : {A : Type 0} (text : Word) (g h : LineSet A) (ws : List Word) (a : A) → IsLine g ws a → IsLine (cond (bytes_eq text text) g h) ws a
+line_itself : {A : Type 0} (text : Word) (g h : LineSet A) (ws : List Word) (a : A) → IsLine g ws a
+    → IsLine (cond (bytes_eq text text) g h) ws a
 line_itself text g h ws a line = let same : bytes_eq text text ≡ true = (bytes_eq-Decides text text).1 refl in rw same line
 
 pub alive : {A : Type 0} (g : Grammar A) → IsAlive (line_set g)
@@ -43,14 +45,22 @@ alive (word text g) =
     let b = begins (line_set g) (alive g) in
     record {
       some = refl;
-      live = (record { rest = text ∷ b.rest; value = b.value; whole = line_itself text (line_set g) nothing b.rest b.value b.whole }, λ w. live_if (bytes_eq w text) (line_set g) nothing (alive g).live tt);
+      live = (
+        record { rest = text ∷ b.rest; value = b.value; whole = line_itself text (line_set g) nothing b.rest b.value b.whole },
+        λ w.
+            live_if (bytes_eq w text) (line_set g) nothing (alive g).live tt,
+      );
     }
 alive (word_or text g h) =
     let b = begins (line_set g) (alive g) in
     record {
       some = refl;
       live = (
-        record { rest = text ∷ b.rest; value = b.value; whole = line_itself text (line_set g) (next_of (line_set h) text) b.rest b.value b.whole },
+        record {
+          rest = text ∷ b.rest;
+          value = b.value;
+          whole = line_itself text (line_set g) (next_of (line_set h) text) b.rest b.value b.whole;
+        },
         λ w. live_if (bytes_eq w text) (line_set g) (next_of (line_set h) w) (alive g).live (live_next (line_set h) (alive h).live w),
       );
     }
@@ -59,7 +69,11 @@ alive (class c k) =
     record {
       some = refl;
       live = (
-        record { rest = c.sample ∷ b.rest; value = b.value; whole = line_behind (λ x. line_set (k x)) (c.of c.sample) c.means b.rest b.value c.fits b.whole },
+        record {
+          rest = c.sample ∷ b.rest;
+          value = b.value;
+          whole = line_behind (λ x. line_set (k x)) (c.of c.sample) c.means b.rest b.value c.fits b.whole;
+        },
         λ w. live_behind (λ x. line_set (k x)) (c.of w) (λ x. (alive (k x)).live),
       );
     }
@@ -72,13 +86,15 @@ abbrev here : {A : Type 0} → Option A → (Word → LineSet A) → ℕ → Lis
 here e f p rest None = ended e p
 here e f p rest (Some w) = cond (goes_on (f w)) (follow_words (f w) (p + 1) rest) (Err p)
 
-from_place : {A : Type 0} (e : Option A) (f : Word → LineSet A) (p i : ℕ) (ws : List Word) → follow_words (node e f) p (drop i ws) ≡ here e f p (drop (suc i) ws) (slice_get ws i)
+from_place : {A : Type 0} (e : Option A) (f : Word → LineSet A) (p i : ℕ) (ws : List Word)
+    → follow_words (node e f) p (drop i ws) ≡ here e f p (drop (suc i) ws) (slice_get ws i)
 from_place e f p zero [] = refl
 from_place e f p (suc i) [] = refl
 from_place e f p zero (w ∷ ws) = refl
 from_place e f p (suc i) (w ∷ ws) = from_place e f p i ws
 
-follow_here : {A : Type 0} (e : Option A) (f : Word → LineSet A) (i : ℕ) (ws : List Word) → follow_words (node e f) i (drop i ws) ≡ here e f i (drop (i + 1) ws) (slice_get ws i)
+follow_here : {A : Type 0} (e : Option A) (f : Word → LineSet A) (i : ℕ) (ws : List Word)
+    → follow_words (node e f) i (drop i ws) ≡ here e f i (drop (i + 1) ws) (slice_get ws i)
 follow_here e f i ws = from_place e f i i ws ∙ rw (← add-one i)
 
 over_none : (ws : List Word) (i : ℕ) → nat_le (length ws) i ≡ is_none (slice_get ws i)
@@ -87,15 +103,18 @@ over_none [] (suc i) = rw (le-leb 0 (suc i) (omega arith))
 over_none (w ∷ ws) zero = rw (lt-leb (suc (length ws)) 0 (omega arith))
 over_none (w ∷ ws) (suc i) = leb-suc-suc (length ws) i ∙ over_none ws i
 
-here_of : {A : Type 0} (g : LineSet A) (i : ℕ) (ws : List Word) → goes_on g ≡ true → here (end_of g) (next_of g) i (drop (i + 1) ws) (slice_get ws i) ≡ follow_words g i (drop i ws)
+here_of : {A : Type 0} (g : LineSet A) (i : ℕ) (ws : List Word) → goes_on g ≡ true
+    → here (end_of g) (next_of g) i (drop (i + 1) ws) (slice_get ws i) ≡ follow_words g i (drop i ws)
 here_of nothing i ws some = absurd cc
 here_of (node e f) i ws some = sym (follow_here e f i ws)
 
-ends_here : {A : Type 0} (a : A) (p : ℕ) (rest : List Word) (o : Option Word) → here (Some a) (λ w. nothing) p rest o ≡ cond (is_none o) (Ok a) (Err p)
+ends_here : {A : Type 0} (a : A) (p : ℕ) (rest : List Word) (o : Option Word)
+    → here (Some a) (λ w. nothing) p rest o ≡ cond (is_none o) (Ok a) (Err p)
 ends_here a p rest None = refl
 ends_here a p rest (Some w) = refl
 
-maybe_here : {A : Type 0} (a : A) (e : Option A) (f : Word → LineSet A) (p : ℕ) (rest : List Word) (o : Option Word) → here (Some a) f p rest o ≡ cond (is_none o) (Ok a) (here e f p rest o)
+maybe_here : {A : Type 0} (a : A) (e : Option A) (f : Word → LineSet A) (p : ℕ) (rest : List Word) (o : Option Word)
+    → here (Some a) f p rest o ≡ cond (is_none o) (Ok a) (here e f p rest o)
 maybe_here a e f p rest None = refl
 maybe_here a e f p rest (Some w) = refl
 
@@ -103,12 +122,15 @@ nothing_here : {A : Type 0} (p : ℕ) (rest : List Word) (o : Option Word) → h
 nothing_here p rest None = refl
 nothing_here p rest (Some w) = refl
 
-if_here : {A : Type 0} (b : Bool) (g h : LineSet A) (r : Result A ℕ) (p : ℕ) (rest : List Word) → goes_on g ≡ true → follow_words g (p + 1) rest ≡ r
-    → cond (goes_on (cond b g h)) (follow_words (cond b g h) (p + 1) rest) (Err p) ≡ cond b r (cond (goes_on h) (follow_words h (p + 1) rest) (Err p))
+if_here : {A : Type 0} (b : Bool) (g h : LineSet A) (r : Result A ℕ) (p : ℕ) (rest : List Word) → goes_on g ≡ true
+    → follow_words g (p + 1) rest ≡ r
+    → cond (goes_on (cond b g h)) (follow_words (cond b g h) (p + 1) rest) (Err p) ≡ cond b r
+    (cond (goes_on h) (follow_words h (p + 1) rest) (Err p))
 if_here true g h r p rest some more = rw some more
 if_here false g h r p rest some more = refl
 
-word_here : {A : Type 0} (text : Word) (g : LineSet A) (e : Option A) (f : Word → LineSet A) (r : Result A ℕ) (p : ℕ) (rest : List Word) (o : Option Word)
+word_here : {A : Type 0} (text : Word) (g : LineSet A) (e : Option A) (f : Word → LineSet A) (r : Result A ℕ) (p : ℕ) (rest : List Word)
+    (o : Option Word)
     → goes_on g ≡ true → follow_words g (p + 1) rest ≡ r
     → here e (λ w. cond (bytes_eq w text) g (f w)) p rest o ≡ cond (is_some_text text o) r (here e f p rest o)
 word_here text g e f r p rest None some more = refl
@@ -130,15 +152,18 @@ pub follow : {A : Type 0} (g : Grammar A) (i : ℕ) (ws : List Word) → follow_
 follow (ends a) i ws = follow_here (Some a) (λ w. nothing) i ws ∙ ends_here a i (drop (i + 1) ws) (slice_get ws i) ∙ rw (over_none ws i)
 follow (word text g) i ws =
     follow_here None (λ w. cond (bytes_eq w text) (line_set g) nothing) i ws
-    ∙ word_here text (line_set g) None (λ w. nothing) (read_at g ws (i + 1)) i (drop (i + 1) ws) (slice_get ws i) (alive g).some (follow g (i + 1) ws)
+    ∙ word_here text (line_set g) None (λ w. nothing) (read_at g ws (i + 1)) i (drop (i + 1) ws) (slice_get ws i) (alive g).some
+    (follow g (i + 1) ws)
     ∙ ap (cond (is_at text ws i) (read_at g ws (i + 1))) (nothing_here i (drop (i + 1) ws) (slice_get ws i))
 follow (word_or text g h) i ws =
     follow_here (end_of (line_set h)) (λ w. cond (bytes_eq w text) (line_set g) (next_of (line_set h) w)) i ws
-    ∙ word_here text (line_set g) (end_of (line_set h)) (next_of (line_set h)) (read_at g ws (i + 1)) i (drop (i + 1) ws) (slice_get ws i) (alive g).some (follow g (i + 1) ws)
+    ∙ word_here text (line_set g) (end_of (line_set h)) (next_of (line_set h)) (read_at g ws (i + 1)) i (drop (i + 1) ws) (slice_get ws i)
+    (alive g).some (follow g (i + 1) ws)
     ∙ ap (cond (is_at text ws i) (read_at g ws (i + 1))) (here_of (line_set h) i ws (alive h).some ∙ follow h i ws)
 follow (class c k) i ws =
     follow_here None (λ w. behind (λ b. line_set (k b)) (c.of w)) i ws
-    ∙ of_here c.of (λ b. line_set (k b)) (λ b. read_at (k b) ws (i + 1)) i (drop (i + 1) ws) (slice_get ws i) (λ b. (alive (k b)).some) (λ b. follow (k b) (i + 1) ws)
+    ∙ of_here c.of (λ b. line_set (k b)) (λ b. read_at (k b) ws (i + 1)) i (drop (i + 1) ws) (slice_get ws i) (λ b. (alive (k b)).some)
+    (λ b. follow (k b) (i + 1) ws)
 follow (maybe a g) i ws =
     follow_here (Some a) (next_of (line_set g)) i ws
     ∙ maybe_here a (end_of (line_set g)) (next_of (line_set g)) i (drop (i + 1) ws) (slice_get ws i)
@@ -161,7 +186,8 @@ means_if : {A : Type 0} (P : A → Type 0) (b : Bool) (g h : LineSet A) → Mean
 means_if P true g h p q = p
 means_if P false g h p q = q
 
-means_behind : {A B : Type 0} (P : A → Type 0) (k : B → LineSet A) (o : Option B) → ((b : B) → o ≡ Some b → Means P (k b)) → Means P (behind k o)
+means_behind : {A B : Type 0} (P : A → Type 0) (k : B → LineSet A) (o : Option B) → ((b : B) → o ≡ Some b → Means P (k b))
+    → Means P (behind k o)
 means_behind P k None h ws a line = absurd line
 means_behind P k (Some b) h ws a line = h b refl ws a line
 
@@ -177,7 +203,8 @@ means P (word text g) h [] a line = absurd cc
 means P (word text g) h (w ∷ ws) a line = means_if P (bytes_eq w text) (line_set g) nothing (means P g h) (λ vs b x. absurd x) ws a line
 means P (word_or text g k) h [] a line = means P k h.1 [] a (node_line (line_set k) [] a line)
 means P (word_or text g k) h (w ∷ ws) a line =
-    means_if P (bytes_eq w text) (line_set g) (next_of (line_set k) w) (means P g h.0) (λ vs b x. means P k h.1 (w ∷ vs) b (node_line (line_set k) (w ∷ vs) b x)) ws a line
+    means_if P (bytes_eq w text) (line_set g) (next_of (line_set k) w) (means P g h.0)
+    (λ vs b x. means P k h.1 (w ∷ vs) b (node_line (line_set k) (w ∷ vs) b x)) ws a line
 means P (class c k) h [] a line = absurd cc
 means P (class c k) h (w ∷ ws) a line = means_behind P (λ b. line_set (k b)) (c.of w) (λ b is. means P (k b) (h w b is)) ws a line
 means P (maybe b g) h [] a line = let same : b ≡ a = cc in subst P same h.0

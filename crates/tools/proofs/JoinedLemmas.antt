@@ -19,15 +19,18 @@ record IsSame (b : ℕ) (bs : List ℕ) : Type 0 where
   some : IsSome (words_of (b ∷ bs))
   same : joined_words (words_of (b ∷ bs)) ≡ b ∷ bs
 
-words_by : (b : ℕ) (bs : List ℕ) → is_blank b ≡ false → words_of (b ∷ bs) ≡ cond (begins_with_word is_blank bs) (onto_first b (words_of bs)) ((b ∷ []) ∷ words_of bs)
-words_by b bs e = ap (λ s. cond s (words_of bs) (cond (begins_with_word is_blank bs) (onto_first b (words_of bs)) ((b ∷ []) ∷ words_of bs))) e
+words_by : (b : ℕ) (bs : List ℕ) → is_blank b ≡ false
+    → words_of (b ∷ bs) ≡ cond (begins_with_word is_blank bs) (onto_first b (words_of bs)) ((b ∷ []) ∷ words_of bs)
+words_by b bs e = ap (λ s. cond s (words_of bs) (cond (begins_with_word is_blank bs) (onto_first b (words_of bs)) ((b ∷ []) ∷ words_of bs)))
+    e
 
 word_goes_on : (b c : ℕ) (cs : List ℕ) → is_blank b ≡ false → is_blank c ≡ false → IsSame c cs → IsSame b (c ∷ cs)
 word_goes_on b c cs e f h =
     let w : List ℕ = h.some.first in
     let ws : List (List ℕ) = h.some.rest in
     let all : words_of (b ∷ c ∷ cs) ≡ onto_first b (w ∷ ws) =
-    words_by b (c ∷ cs) e ∙ ap (λ s. cond (not s) (onto_first b (words_of (c ∷ cs))) ((b ∷ []) ∷ words_of (c ∷ cs))) f ∙ ap (onto_first b) h.some.is in
+    words_by b (c ∷ cs) e ∙ ap (λ s. cond (not s) (onto_first b (words_of (c ∷ cs))) ((b ∷ []) ∷ words_of (c ∷ cs))) f
+    ∙ ap (onto_first b) h.some.is in
     record {
       some = record { first = b ∷ w; rest = ws; is = all };
       same = ap joined_words all ∙ onto_joined b w ws ∙ ap (λ x. b ∷ joined_words x) (sym h.some.is) ∙ ap (λ x. b ∷ x) h.same;
@@ -65,16 +68,21 @@ plain_start d spaced more h =
 
 -- what follows a byte of a word
 same_behind : (b : ℕ) (bs : List ℕ) → is_blank b ≡ false → is_joined false bs ≡ true → IsSame b bs
-same_behind b [] e h = record { some = record { first = b ∷ []; rest = []; is = words_by b [] e }; same = ap joined_words (words_by b [] e) }
+same_behind b [] e h = record {
+  some = record { first = b ∷ []; rest = []; is = words_by b [] e };
+  same = ap joined_words (words_by b [] e);
+}
 same_behind b (c ∷ []) e h =
     (elim (c == 32) as (λ t. (c == 32) ≡ t → cond t false (cond (c == 9) false true) ≡ true → IsSame b (c ∷ [])) [
       | true ↦ λ is k. absurd cc
-      | false ↦ λ is k. let p : IsPlain c true = plain_by c false true is (ap (λ t. cond t false (cond (c == 9) false true)) is ∙ k) in word_goes_on b c [] e p.blank (same_behind c [] p.blank refl)
+      | false ↦ λ is k. let p : IsPlain c true = plain_by c false true is (ap (λ t. cond t false (cond (c == 9) false true)) is ∙ k) in
+          word_goes_on b c [] e p.blank (same_behind c [] p.blank refl)
     ]) refl h
 same_behind b (c ∷ d ∷ ds) e h =
     elim (eqb_tells c 32) [
       | inl x ↦
-          let spaced : is_joined true (d ∷ ds) ≡ true = ap (λ t. cond t (is_joined true (d ∷ ds)) (cond (c == 9) false (is_joined false (d ∷ ds)))) (sym x.0) ∙ h in
+          let spaced : is_joined true (d ∷ ds) ≡ true = ap
+          (λ t. cond t (is_joined true (d ∷ ds)) (cond (c == 9) false (is_joined false (d ∷ ds)))) (sym x.0) ∙ h in
           let p : IsPlain d (is_joined false ds) = plain_start d (is_joined true ds) (is_joined false ds) spaced in
           subst (λ (n : ℕ). IsSame b (n ∷ d ∷ ds)) (sym x.1) (word_over b d ds e p.blank (same_behind d ds p.blank p.follows))
       | inr x ↦

@@ -24,12 +24,16 @@ pub means_in_range : MeansInRange
 means_in_range limit = means IsInRange (grammar limit) (lines_fit limit)
 
 -- what a line is read as whose words are a command
-command_words : (limit : ℕ) (line : List ℕ) (ws : List Word) → ws ≡ words_of line → is_command ws ≡ true → line_read limit line ≡ some_command (read_at (grammar limit) ws 0)
+command_words : (limit : ℕ) (line : List ℕ) (ws : List Word) → ws ≡ words_of line → is_command ws ≡ true
+    → line_read limit line ≡ some_command (read_at (grammar limit) ws 0)
 command_words limit line ws same is =
-    ap (words_read limit) (sym same) ∙ ap (λ b. cond b (some_command (follow_words (script_lines limit) 0 ws)) (Ok None)) is ∙ ap some_command (follow (grammar limit) 0 ws)
+    ap (words_read limit) (sym same) ∙ ap (λ b. cond b (some_command (follow_words (script_lines limit) 0 ws)) (Ok None)) is
+    ∙ ap some_command (follow (grammar limit) 0 ws)
 
-pub command_read : (limit : ℕ) (line : List ℕ) (ws : List Word) (c : Cmd) → ws ≡ words_of line → is_command ws ≡ true → read_at (grammar limit) ws 0 ≡ Ok c → line_read limit line ≡ Ok (Some c)
+pub command_read : (limit : ℕ) (line : List ℕ) (ws : List Word) (c : Cmd) → ws ≡ words_of line → is_command ws ≡ true
+    → read_at (grammar limit) ws 0 ≡ Ok c → line_read limit line ≡ Ok (Some c)
 command_read limit line ws c same is e = command_words limit line ws same is ∙ ap some_command e
 
-pub command_refused : (limit : ℕ) (line : List ℕ) (ws : List Word) (k : ℕ) → ws ≡ words_of line → is_command ws ≡ true → read_at (grammar limit) ws 0 ≡ Err k → line_read limit line ≡ Err k
+pub command_refused : (limit : ℕ) (line : List ℕ) (ws : List Word) (k : ℕ) → ws ≡ words_of line → is_command ws ≡ true
+    → read_at (grammar limit) ws 0 ≡ Err k → line_read limit line ≡ Err k
 command_refused limit line ws k same is e = command_words limit line ws same is ∙ ap some_command e

@@ -27,7 +27,8 @@ ends_is : {A : Type 0} (e : Option A) (i : ℕ) (a : A) → ended e i ≡ Ok a �
 ends_is None i a h = absurd cc
 ends_is (Some b) i a h = ap Some cc
 
-step_ok : {A : Type 0} (h : LineSet A) (i : ℕ) (ws : List Word) (a : A) → cond (goes_on h) (follow_words h (i + 1) ws) (Err i) ≡ Ok a → follow_words h (i + 1) ws ≡ Ok a
+step_ok : {A : Type 0} (h : LineSet A) (i : ℕ) (ws : List Word) (a : A) → cond (goes_on h) (follow_words h (i + 1) ws) (Err i) ≡ Ok a
+    → follow_words h (i + 1) ws ≡ Ok a
 step_ok nothing i ws a x = absurd cc
 step_ok (node e f) i ws a x = x
 
@@ -45,7 +46,8 @@ longer_most e f w ws j l zero h b = omega arith
 longer_most e f w ws j l (suc k) h b = omega (arith, l.most k (omega arith) (inside e f w (take k ws) b))
 
 -- one word more
-longer : {A : Type 0} (e : Option A) (f : Word → LineSet A) (w : Word) (ws : List Word) (j : ℕ) → IsLongest (f w) ws j → IsLongest (node e f) (w ∷ ws) (suc j)
+longer : {A : Type 0} (e : Option A) (f : Word → LineSet A) (w : Word) (ws : List Word) (j : ℕ) → IsLongest (f w) ws j
+    → IsLongest (node e f) (w ∷ ws) (suc j)
 longer e f w ws j l = record {
   within = omega (arith, l.within);
   begins = record { rest = l.begins.rest; value = l.begins.value; whole = l.begins.whole };
@@ -58,7 +60,8 @@ stops_most e f w ws none zero h b = omega arith
 stops_most e f w ws none (suc k) h b = let is = line_node (f w) (take k ws ++ b.rest) b.value b.whole in absurd cc
 
 -- no word fits
-stops : {A : Type 0} (e : Option A) (f : Word → LineSet A) (w : Word) (ws : List Word) → Begins (node e f) [] → goes_on (f w) ≡ false → IsLongest (node e f) (w ∷ ws) 0
+stops : {A : Type 0} (e : Option A) (f : Word → LineSet A) (w : Word) (ws : List Word) → Begins (node e f) [] → goes_on (f w) ≡ false
+    → IsLongest (node e f) (w ∷ ws) 0
 stops e f w ws live none = record { within = omega arith; begins = live; most = stops_most e f w ws none }
 
 is_over : {A : Type 0} (e : Option A) (f : Word → LineSet A) → Begins (node e f) [] → IsLongest (node e f) [] 0
@@ -75,11 +78,13 @@ err_of i = Err i
 err_is : {A : Type 0} (i k : ℕ) → err_of {A = A} i ≡ err_of k → i ≡ k
 err_is i k h = cc
 
-over_stops : {A : Type 0} (e : Option A) (f : Word → LineSet A) (i k : ℕ) → Begins (node e f) [] → ended e i ≡ Err k → Stops (node e f) i k []
+over_stops : {A : Type 0} (e : Option A) (f : Word → LineSet A) (i k : ℕ) → Begins (node e f) [] → ended e i ≡ Err k
+    → Stops (node e f) i k []
 over_stops None f i k live h = record { count = 0; place = omega (arith, err_is i k h); longest = is_over None f live }
 over_stops (Some a) f i k live h = absurd cc
 
-pub refused_longest : {A : Type 0} (g : LineSet A) (i : ℕ) (ws : List Word) (k : ℕ) → IsLive g → goes_on g ≡ true → follow_words g i ws ≡ Err k → Stops g i k ws
+pub refused_longest : {A : Type 0} (g : LineSet A) (i : ℕ) (ws : List Word) (k : ℕ) → IsLive g → goes_on g ≡ true
+    → follow_words g i ws ≡ Err k → Stops g i k ws
 refused_longest nothing i ws k live some h = absurd cc
 refused_longest (node e f) i [] k live some h = over_stops e f i k live.0 h
 refused_longest (node e f) i (w ∷ ws) k live some h =

@@ -21,7 +21,8 @@ pub number_between : (low high : ℕ) (w : Word) (n : ℕ) → number_in low hig
 number_between low high w n e = between low high n (number_of w) e
 
 options_shape : {A B : Type 0} (a b c d : Bool) (x y z : A) (p q : ℕ) (f : A → Result B ℕ)
-    → cond a (cond b (f x) (Err p)) (cond c (cond d (f y) (f z)) (Err q)) ≡ (cond a (cond b (Ok x) (Err p)) (cond c (cond d (Ok y) (Ok z)) (Err q)) >>= f)
+    → cond a (cond b (f x) (Err p)) (cond c (cond d (f y) (f z)) (Err q)) ≡
+    (cond a (cond b (Ok x) (Err p)) (cond c (cond d (Ok y) (Ok z)) (Err q)) >>= f)
 options_shape true true c d x y z p q f = refl
 options_shape true false c d x y z p q f = refl
 options_shape false b true true x y z p q f = refl
@@ -29,7 +30,8 @@ options_shape false b true false x y z p q f = refl
 options_shape false b false d x y z p q f = refl
 
 -- the options are read, and then what follows them
-pub options_read : {A : Type 0} (k : Bool → Grammar A) (ws : List Word) (i : ℕ) → read_at (force_and_yes k) ws i ≡ (options_at ws i >>= λ o. read_at (k o.0) ws o.1)
+pub options_read : {A : Type 0} (k : Bool → Grammar A) (ws : List Word) (i : ℕ)
+    → read_at (force_and_yes k) ws i ≡ (options_at ws i >>= λ o. read_at (k o.0) ws o.1)
 unfolding options_at force_and_yes
 options_read k ws i =
     options_shape (is_at (codes "-f") ws i) (is_at (codes "-y") ws (i + 1)) (is_at (codes "-y") ws i) (is_at (codes "-f") ws (i + 1))

@@ -21,7 +21,8 @@ onto_cut : (b c : ℕ) (line rest : List ℕ) → onto_first b (cut (c ∷ line)
 onto_cut b c line [] = refl
 onto_cut b c line (feed ∷ behind) = refl
 
-cut_more : (r s : Bool) (b c n : ℕ) (bs : List ℕ) (ls : List (List ℕ)) → eqb b 13 ≡ r → ls ≡ cut (take (cond s 0 (n + 1)) (c ∷ bs)) (drop (cond s 0 (n + 1)) (c ∷ bs))
+cut_more : (r s : Bool) (b c n : ℕ) (bs : List ℕ) (ls : List (List ℕ)) → eqb b 13 ≡ r
+    → ls ≡ cut (take (cond s 0 (n + 1)) (c ∷ bs)) (drop (cond s 0 (n + 1)) (c ∷ bs))
     → cond (r && s) ls (onto_first b ls) ≡ cut (b ∷ take (cond s 0 (n + 1)) (c ∷ bs)) (drop (cond s 0 (n + 1)) (c ∷ bs))
 cut_more true true b c n bs ls is e = e ∙ ap (λ t. cond t [] (b ∷ []) ∷ lines_of bs) (sym is)
 cut_more false true b c n bs ls is e = ap (onto_first b) e ∙ ap (λ t. cond t [] (b ∷ []) ∷ lines_of bs) (sym is)
@@ -31,19 +32,23 @@ cut_more false false b c n bs ls is e = let at = rw add-one at e in rw add-one (
 -- a text that isn't empty is its first line and the lines behind it
 lines_cut : (b : ℕ) (bs : List ℕ) → lines_of (b ∷ bs) ≡ cut (take (feed_at (b ∷ bs)) (b ∷ bs)) (drop (feed_at (b ∷ bs)) (b ∷ bs))
 lines_cut b [] =
-    (elim (eqb b 10) as (λ f. (r : Bool) → cond f ([] ∷ []) (cond (r && false) [] ((b ∷ []) ∷ [])) ≡ cut (take (cond f 0 (0 + 1)) (b ∷ [])) (drop (cond f 0 (0 + 1)) (b ∷ []))) [
+    (elim (eqb b 10) as (λ f. (r : Bool)
+    → cond f ([] ∷ []) (cond (r && false) [] ((b ∷ []) ∷ [])) ≡ cut (take (cond f 0 (0 + 1)) (b ∷ []))
+    (drop (cond f 0 (0 + 1)) (b ∷ []))) [
       | true ↦ λ r. refl
       | false ↦ elim [ true ↦ refl | false ↦ refl ]
     ]) (eqb b 13)
 lines_cut b (c ∷ cs) =
     let ls : List (List ℕ) = lines_of (c ∷ cs) in
     let n : ℕ = feed_at (c ∷ cs) in
-    elim (eqb b 10) as (λ f. cond f ([] ∷ ls) (cond (eqb b 13 && eqb c 10) ls (onto_first b ls)) ≡ cut (take (cond f 0 (n + 1)) (b ∷ c ∷ cs)) (drop (cond f 0 (n + 1)) (b ∷ c ∷ cs))) [
+    elim (eqb b 10) as (λ f. cond f ([] ∷ ls) (cond (eqb b 13 && eqb c 10) ls (onto_first b ls)) ≡ cut
+    (take (cond f 0 (n + 1)) (b ∷ c ∷ cs)) (drop (cond f 0 (n + 1)) (b ∷ c ∷ cs))) [
       | true ↦ refl
       | false ↦ rw (add-one n) (cut_more (eqb b 13) (eqb c 10) b c (feed_at cs) cs ls refl (lines_cut c cs))
     ]
 
-cut_whole : (xs line rest : List ℕ) → 0 < length xs → line ≡ take (feed_at xs) xs → rest ≡ drop (feed_at xs) xs → lines_of xs ≡ cut line rest
+cut_whole : (xs line rest : List ℕ) → 0 < length xs → line ≡ take (feed_at xs) xs → rest ≡ drop (feed_at xs) xs
+    → lines_of xs ≡ cut line rest
 cut_whole [] line rest some l r = absurd (omega arith)
 cut_whole (b ∷ bs) line rest some l r = lines_cut b bs ∙ ap (λ x. cut x (drop (feed_at (b ∷ bs)) (b ∷ bs))) (sym l) ∙ ap (cut line) (sym r)
 
@@ -64,31 +69,38 @@ at_feed xs n is within =
     let rest : drop n xs ≡ get_or xs n 0 ∷ drop (n + 1) xs = drop_more xs n 0 within in
     cut_whole xs (take n xs) (drop n xs) some (ap (λ k. take k xs) (sym is)) (ap (λ k. drop k xs) (sym is)) ∙ ap (cut (take n xs)) rest
 
-return_at : (xs : List ℕ) (m : ℕ) → m < length xs → without_return (take (m + 1) xs) ≡ cond (eqb (get_or xs m 0) 13) (take m xs) (take (m + 1) xs)
+return_at : (xs : List ℕ) (m : ℕ) → m < length xs
+    → without_return (take (m + 1) xs) ≡ cond (eqb (get_or xs m 0) 13) (take m xs) (take (m + 1) xs)
 return_at xs m within =
     let e : take (m + 1) xs ≡ take m xs ++ get_or xs m 0 ∷ [] = take_more xs m 0 within in
     ap without_return e ∙ without_last (take m xs) (get_or xs m 0) ∙ ap (λ ys. cond (eqb (get_or xs m 0) 13) (take m xs) ys) (sym e)
 
-pub cut_returned : (xs : List ℕ) (m : ℕ) → feed_at xs ≡ m + 1 → m + 1 < length xs → get_or xs m 0 ≡ 13 → lines_of xs ≡ take m xs ∷ lines_of (drop (m + 1 + 1) xs)
+pub cut_returned : (xs : List ℕ) (m : ℕ) → feed_at xs ≡ m + 1 → m + 1 < length xs → get_or xs m 0 ≡ 13
+    → lines_of xs ≡ take m xs ∷ lines_of (drop (m + 1 + 1) xs)
 cut_returned xs m is within returned =
     let t : eqb (get_or xs m 0) 13 ≡ true = grind (arith, nat_tests) in
     let inside : m < length xs = omega arith in
-    at_feed xs (m + 1) is within ∙ ap (λ line. line ∷ lines_of (drop (m + 1 + 1) xs)) (return_at xs m inside ∙ ap (λ s. cond s (take m xs) (take (m + 1) xs)) t)
+    at_feed xs (m + 1) is within ∙ ap (λ line. line ∷ lines_of (drop (m + 1 + 1) xs)) (return_at xs m inside
+    ∙ ap (λ s. cond s (take m xs) (take (m + 1) xs)) t)
 
-pub cut_plain : (xs : List ℕ) (m : ℕ) → feed_at xs ≡ m + 1 → m + 1 < length xs → (get_or xs m 0 ≡ 13 → ⊥) → lines_of xs ≡ take (m + 1) xs ∷ lines_of (drop (m + 1 + 1) xs)
+pub cut_plain : (xs : List ℕ) (m : ℕ) → feed_at xs ≡ m + 1 → m + 1 < length xs → (get_or xs m 0 ≡ 13 → ⊥)
+    → lines_of xs ≡ take (m + 1) xs ∷ lines_of (drop (m + 1 + 1) xs)
 cut_plain xs m is within kept =
     let t : eqb (get_or xs m 0) 13 ≡ false = grind (arith, nat_tests) in
     let inside : m < length xs = omega arith in
-    at_feed xs (m + 1) is within ∙ ap (λ line. line ∷ lines_of (drop (m + 1 + 1) xs)) (return_at xs m inside ∙ ap (λ s. cond s (take m xs) (take (m + 1) xs)) t)
+    at_feed xs (m + 1) is within ∙ ap (λ line. line ∷ lines_of (drop (m + 1 + 1) xs)) (return_at xs m inside
+    ∙ ap (λ s. cond s (take m xs) (take (m + 1) xs)) t)
 
 pub cut_over : (xs : List ℕ) → feed_at xs ≡ length xs → 0 < length xs → lines_of xs ≡ take (feed_at xs) xs ∷ lines_of (drop (feed_at xs) xs)
 cut_over xs is within =
     let rest : drop (feed_at xs) xs ≡ [] = ap (λ k. drop k xs) is ∙ drop_all (length xs) xs (omega arith) in
-    cut_whole xs (take (feed_at xs) xs) (drop (feed_at xs) xs) within refl refl ∙ ap (cut (take (feed_at xs) xs)) rest ∙ ap (λ x. take (feed_at xs) xs ∷ lines_of x) (sym rest)
+    cut_whole xs (take (feed_at xs) xs) (drop (feed_at xs) xs) within refl refl ∙ ap (cut (take (feed_at xs) xs)) rest
+    ∙ ap (λ x. take (feed_at xs) xs ∷ lines_of x) (sym rest)
 
 feed_more : (b : ℕ) (bs ys : List ℕ) → ys ≡ b ∷ bs → eqb b 10 ≡ false → feed_at ys ≡ feed_at bs + 1
 feed_more b bs ys e h = ap feed_at e ∙ ap (λ s. cond s 0 (feed_at bs + 1)) h
 
 -- one byte more that is no line feed
-pub feed_at_more : (xs : List ℕ) (i : ℕ) → i < length xs → eqb (get_or xs i 0) 10 ≡ false → feed_at (drop i xs) ≡ feed_at (drop (i + 1) xs) + 1
+pub feed_at_more : (xs : List ℕ) (i : ℕ) → i < length xs → eqb (get_or xs i 0) 10 ≡ false
+    → feed_at (drop i xs) ≡ feed_at (drop (i + 1) xs) + 1
 feed_at_more xs i h e = feed_more (get_or xs i 0) (drop (i + 1) xs) (drop i xs) (drop_more xs i 0 h) e

@@ -36,7 +36,9 @@ code_so_far bytes zero each within = let none : pec [] ≡ 0 = refl in omega (ar
 code_so_far bytes (suc n) each within =
     let byte : IsByte (get_or bytes n 0) = All-get_or IsByte bytes n 0 (omega (arith, within)) each in
     let code : pec (take n bytes) < 256 = code_so_far bytes n each (omega (arith, within)) in
-    let more : pec (take (n + 1) bytes) < 256 = subst (λ c. c < 256) (code_more bytes n (pec (take n bytes)) (omega (arith, within)) byte refl) (code_is_byte (pec (take n bytes)) (get_or bytes n 0) code byte) in
+    let more : pec (take (n + 1) bytes) < 256 = subst (λ c. c < 256)
+    (code_more bytes n (pec (take n bytes)) (omega (arith, within)) byte refl)
+    (code_is_byte (pec (take n bytes)) (get_or bytes n 0) code byte) in
     rw (← add-one n) more
 
 code_byte : (bytes : List ℕ) → AreBytes bytes → pec bytes < 256
@@ -56,13 +58,20 @@ record IsSent (out : List ℕ) : Type 0 where
   few : length out ≤ 258
 
 without_code : (bytes : List ℕ) → IsShortWrite bytes → IsSent (bytes ++ [])
-without_code bytes short = record { each = All-append IsByte bytes [] short.each (All-nil IsByte); few = omega (arith, short.few, length-append bytes []) }
+without_code bytes short = record {
+  each = All-append IsByte bytes [] short.each (All-nil IsByte);
+  few = omega (arith, short.few, length-append bytes []);
+}
 
-is_sent : (addr : ℕ) (coded : Bool) (r : ReadShape) (bytes : List ℕ) → addr ≤ 119 → IsShortWrite bytes → IsSent (bytes ++ code_sent addr coded r bytes)
+is_sent : (addr : ℕ) (coded : Bool) (r : ReadShape) (bytes : List ℕ) → addr ≤ 119 → IsShortWrite bytes
+    → IsSent (bytes ++ code_sent addr coded r bytes)
 is_sent addr true read.Nothing bytes near short =
     let code : ℕ = pec (2 * addr ∷ bytes) in
     let byte : code < 256 = code_byte (2 * addr ∷ bytes) (All-cons IsByte (2 * addr) bytes (omega (arith, near)) short.each) in
-    record { each = All-append IsByte bytes (code ∷ []) short.each (one_byte code byte); few = omega (arith, short.few, length-append bytes (code ∷ [])) }
+    record {
+      each = All-append IsByte bytes (code ∷ []) short.each (one_byte code byte);
+      few = omega (arith, short.few, length-append bytes (code ∷ []));
+    }
 is_sent addr false read.Nothing bytes near short = without_code bytes short
 is_sent addr coded (read.Plain n) bytes near short = without_code bytes short
 is_sent addr coded read.Counted bytes near short = without_code bytes short
@@ -90,12 +99,28 @@ record IsRead (m : Msg) : Type 0 where
   writes : written_of m ≡ 0
 
 plain_is_read : (addr : ℕ) (coded : Bool) (n : ℕ) → IsBlockLength 32 n → IsRead (plain_read addr (cond coded (n + 1) n))
-plain_is_read addr true n short = record { message = (omega (arith, short.1), λ e. cc, λ e. omega arith); size = omega (arith, short.1); writes = refl }
-plain_is_read addr false n short = record { message = (omega (arith, short.1), λ e. cc, λ e. omega (arith, short.0)); size = omega (arith, short.1); writes = refl }
+plain_is_read addr true n short = record {
+  message = (omega (arith, short.1), λ e. cc, λ e. omega arith);
+  size = omega (arith, short.1);
+  writes = refl;
+}
+plain_is_read addr false n short = record {
+  message = (omega (arith, short.1), λ e. cc, λ e. omega (arith, short.0));
+  size = omega (arith, short.1);
+  writes = refl;
+}
 
 counted_is_read : (addr : ℕ) (extra : Bool) → IsRead (counted_read addr extra)
-counted_is_read addr true = record { message = (omega arith, λ e. (refl, omega arith, omega arith), λ e. omega arith); size = omega arith; writes = refl }
-counted_is_read addr false = record { message = (omega arith, λ e. (refl, omega arith, omega arith), λ e. omega arith); size = omega arith; writes = refl }
+counted_is_read addr true = record {
+  message = (omega arith, λ e. (refl, omega arith, omega arith), λ e. omega arith);
+  size = omega arith;
+  writes = refl;
+}
+counted_is_read addr false = record {
+  message = (omega arith, λ e. (refl, omega arith, omega arith), λ e. omega arith);
+  size = omega arith;
+  writes = refl;
+}
 
 read_fits : (m : Msg) → IsRead m → IsTransfer (m ∷ []) []
 read_fits m is =
@@ -119,13 +144,22 @@ both_fit addr out m sent is =
 
 row_fits : (addr : ℕ) (coded : Bool) (r : ReadShape) (write : Option (List ℕ)) → addr ≤ 119 → IfSome write IsShortWrite → IsShortRead r
     → IsTransfer (write_messages addr coded r write ++ read_messages addr coded r) (bytes_sent addr coded r write)
-row_fits addr coded read.Nothing None near short reads = record { count = omega arith; each = All-nil IsMessage; size = omega arith; written = refl; bytes = All-nil IsByte }
-row_fits addr coded read.Nothing (Some bytes) near short reads = written_fits addr (bytes ++ code_sent addr coded read.Nothing bytes) (is_sent addr coded read.Nothing bytes near short)
-row_fits addr coded (read.Plain n) None near short reads = read_fits (plain_read addr (cond coded (n + 1) n)) (plain_is_read addr coded n reads)
+row_fits addr coded read.Nothing None near short reads = record {
+  count = omega arith;
+  each = All-nil IsMessage;
+  size = omega arith;
+  written = refl;
+  bytes = All-nil IsByte;
+}
+row_fits addr coded read.Nothing (Some bytes) near short reads = written_fits addr (bytes ++ code_sent addr coded read.Nothing bytes)
+    (is_sent addr coded read.Nothing bytes near short)
+row_fits addr coded (read.Plain n) None near short reads = read_fits (plain_read addr (cond coded (n + 1) n))
+    (plain_is_read addr coded n reads)
 row_fits addr coded (read.Plain n) (Some bytes) near short reads =
     both_fit addr (bytes ++ []) (plain_read addr (cond coded (n + 1) n)) (without_code bytes short) (plain_is_read addr coded n reads)
 row_fits addr coded read.Counted None near short reads = read_fits (counted_read addr coded) (counted_is_read addr coded)
-row_fits addr coded read.Counted (Some bytes) near short reads = both_fit addr (bytes ++ []) (counted_read addr coded) (without_code bytes short) (counted_is_read addr coded)
+row_fits addr coded read.Counted (Some bytes) near short reads = both_fit addr (bytes ++ []) (counted_read addr coded)
+    (without_code bytes short) (counted_is_read addr coded)
 
 -- a transfer within the limits, which has messages
 pub record IsAsk (t : TransferView) : Type 0 where

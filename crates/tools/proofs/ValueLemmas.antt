@@ -18,7 +18,8 @@ word b = line-append (codes "0x") (two_digits b) refl (two_digits-line b)
 
 spaced : (bytes : List ℕ) → IsLine (flat_map spaced_word bytes)
 spaced [] = refl
-spaced (b ∷ bs) = line-append (spaced_word b) (flat_map spaced_word bs) (line-append (codes " 0x") (two_digits b) refl (two_digits-line b)) (spaced bs)
+spaced (b ∷ bs) = line-append (spaced_word b) (flat_map spaced_word bs) (line-append (codes " 0x") (two_digits b) refl (two_digits-line b))
+    (spaced bs)
 
 -- a text whose first sign isn't a j
 others : (text : List ℕ) (c : ℕ) → get_or text 0 0 ≡ c → (c < 106) → ¬ (text ≡ codes "journal")
@@ -43,16 +44,25 @@ errno Eremoteio = record { one = refl; other = others (errno_text Eremoteio) 69 
 value_line : (v : ValueView) → IsSectionLine (value_text v)
 value_line value.done = record { one = refl; other = others_above (codes "ok") 111 refl (omega arith) }
 value_line (value.byte b) = record { one = word b; other = others (byte_word b) 48 refl (omega arith) }
-value_line (value.word w) = record { one = line-append (codes "0x") (two_digits (w / 256) ++ two_digits (w % 256)) refl (line-append (two_digits (w / 256)) (two_digits (w % 256)) (two_digits-line (w / 256)) (two_digits-line (w % 256))); other = others (double_word w) 48 refl (omega arith) }
+value_line (value.word w) = record {
+  one = line-append (codes "0x") (two_digits (w / 256) ++ two_digits (w % 256)) refl
+      (line-append (two_digits (w / 256)) (two_digits (w % 256)) (two_digits-line (w / 256)) (two_digits-line (w % 256)));
+  other = others (double_word w) 48 refl (omega arith);
+}
 value_line (value.block []) = record { one = refl; other = others [] 0 refl (omega arith) }
-value_line (value.block (b ∷ bs)) = record { one = line-append (byte_word b) (flat_map spaced_word bs) (word b) (spaced bs); other = others (byte_words (b ∷ bs)) 48 refl (omega arith) }
+value_line (value.block (b ∷ bs)) = record {
+  one = line-append (byte_word b) (flat_map spaced_word bs) (word b) (spaced bs);
+  other = others (byte_words (b ∷ bs)) 48 refl (omega arith);
+}
 
 pub result_line : (r : Result ValueView SmbFail) → IsSectionLine (result_text r)
 result_line (Ok v) = value_line v
 result_line (Err (fail.Errno e)) = errno e
 result_line (Err (fail.Pec got want)) =
     record {
-      one = line-append (codes "EBADMSG got ") (byte_word got ++ (codes " want " ++ byte_word want)) refl (line-append (byte_word got) (codes " want " ++ byte_word want) (word got) (line-append (codes " want ") (byte_word want) refl (word want)));
+      one = line-append (codes "EBADMSG got ") (byte_word got ++ (codes " want " ++ byte_word want)) refl
+          (line-append (byte_word got) (codes " want " ++ byte_word want) (word got)
+          (line-append (codes " want ") (byte_word want) refl (word want)));
       other = others (fail_text (fail.Pec got want)) 69 refl (omega arith);
     }
 

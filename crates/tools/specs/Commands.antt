@@ -48,7 +48,8 @@ pub record AreReplies (run : RunView) (replies : List Reply) : Type 0 where
   pub count : length replies ≡ run.taken
   pub some : 0 < run.taken
   pub within : run.taken ≤ length (transfers_of run.cmd)
-  pub last : (t : TransferView) (r : Reply) → slice_get (transfers_of run.cmd) (run.taken - 1) ≡ Some t → slice_get replies (run.taken - 1) ≡ Some r → Fits t r
+  pub last : (t : TransferView) (r : Reply) → slice_get (transfers_of run.cmd) (run.taken - 1) ≡ Some t
+      → slice_get replies (run.taken - 1) ≡ Some r → Fits t r
 
 -- no answer has more bytes
 abbrev pub most_of : Cmd → ℕ

@@ -29,11 +29,13 @@ line_read limit line = words_read limit (words_of line)
 abbrev pub ReadsLines : Type 0
 ReadsLines =
     (limit : ℕ) (ws : List Word) (c : Cmd)
-    → (follow_words (script_lines limit) 0 ws ≡ Ok c → IsLine (script_lines limit) ws c) × (IsLine (script_lines limit) ws c → follow_words (script_lines limit) 0 ws ≡ Ok c)
+    → (follow_words (script_lines limit) 0 ws ≡ Ok c → IsLine (script_lines limit) ws c)
+    × (IsLine (script_lines limit) ws c → follow_words (script_lines limit) 0 ws ≡ Ok c)
 
 -- where word k is refused, the k words before it are the longest front that begins a line
 abbrev pub RefusesBehindLongest : Type 0
-RefusesBehindLongest = (limit : ℕ) (ws : List Word) (k : ℕ) → follow_words (script_lines limit) 0 ws ≡ Err k → IsLongest (script_lines limit) ws k
+RefusesBehindLongest = (limit : ℕ) (ws : List Word) (k : ℕ) → follow_words (script_lines limit) 0 ws ≡ Err k
+    → IsLongest (script_lines limit) ws k
 
 -- what a line means is in range
 abbrev pub MeansInRange : Type 0

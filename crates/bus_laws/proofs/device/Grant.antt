@@ -63,16 +63,22 @@ path_over b s u e = by (eqb u s) refl
     by false f = inr (any_crosses u (hops b s) (sym (ap (λ (t : Bool). t || is_below b s u) f) ∙ e))
 
 -- what is over a joined bus is joined
-joined_crossed : (w : World) → IsTree w.board → (hs : List Hop) (s u : ℕ) → hops w.board s ≡ hs → is_joined w s ≡ true → Crosses u hs → is_joined w u ≡ true
+joined_crossed : (w : World) → IsTree w.board → (hs : List Hop) (s u : ℕ) → hops w.board s ≡ hs → is_joined w s ≡ true → Crosses u hs
+    → is_joined w u ≡ true
 joined_crossed w tree [] s u at joined c = absurd c
 joined_crossed w tree (h ∷ hs) s u at joined c =
-    let rooted : eqb (root_of w.board s) w.root ≡ true = and_left (eqb (root_of w.board s) w.root) (list_all (opens_hop w.chips) (hops w.board s)) joined in
+    let rooted : eqb (root_of w.board s) w.root ≡ true = and_left (eqb (root_of w.board s) w.root)
+    (list_all (opens_hop w.chips) (hops w.board s)) joined in
     let all : list_all (opens_hop w.chips) (h ∷ hs) ≡ true =
-    ap (λ (xs : List Hop). list_all (opens_hop w.chips) xs) (sym at) ∙ and_right (eqb (root_of w.board s) w.root) (list_all (opens_hop w.chips) (hops w.board s)) joined in
-    let same : root_of w.board h.on ≡ root_of w.board s = tree.root_same s h (subst (λ (xs : List Hop). IsAmongHops h xs) (sym at) (inl refl)) in
+    ap (λ (xs : List Hop). list_all (opens_hop w.chips) xs) (sym at)
+    ∙ and_right (eqb (root_of w.board s) w.root) (list_all (opens_hop w.chips) (hops w.board s)) joined in
+    let same : root_of w.board h.on ≡ root_of w.board s = tree.root_same s h
+    (subst (λ (xs : List Hop). IsAmongHops h xs) (sym at) (inl refl)) in
     let above : is_joined w h.on ≡ true =
-    and_from (eqb (root_of w.board h.on) w.root) (list_all (opens_hop w.chips) (hops w.board h.on)) (ap (λ (i : ℕ). eqb i w.root) same ∙ rooted)
-    (ap (λ (xs : List Hop). list_all (opens_hop w.chips) xs) (tree.tail s h hs at) ∙ and_right (opens_hop w.chips h) (list_all (opens_hop w.chips) hs) all) in
+    and_from (eqb (root_of w.board h.on) w.root) (list_all (opens_hop w.chips) (hops w.board h.on)) (ap (λ (i : ℕ). eqb i w.root) same
+    ∙ rooted)
+    (ap (λ (xs : List Hop). list_all (opens_hop w.chips) xs) (tree.tail s h hs at)
+    ∙ and_right (opens_hop w.chips h) (list_all (opens_hop w.chips) hs) all) in
     elim c [
       | inl e ↦ ap (λ (i : ℕ). is_joined w i) (sym e) ∙ above
       | inr more ↦ joined_crossed w tree hs h.on u (tree.tail s h hs at) above more
@@ -87,7 +93,8 @@ joined_over w tree s u joined over =
 
 -- the first place that passes a test is there and passes it; there is one where some place passes
 module _ {X : Type 0} (test : X → Bool) where
-  pub position_at : (k : ℕ) (xs : List X) (n : ℕ) → position_from test k xs ≡ Some n → (i : ℕ) × (x : X) × (n ≡ k + i) × (slice_get xs i ≡ Some x) × (test x ≡ true)
+  pub position_at : (k : ℕ) (xs : List X) (n : ℕ) → position_from test k xs ≡ Some n
+      → (i : ℕ) × (x : X) × (n ≡ k + i) × (slice_get xs i ≡ Some x) × (test x ≡ true)
   position_at k [] n e = absurd (let f : None ≡ Some n = e in cc)
   position_at k (x ∷ xs) n e = by (test x) refl (position_at (k + 1) xs n)
     where
@@ -109,10 +116,12 @@ module _ {X : Type 0} (test : X → Bool) where
   position_some k (y ∷ ys) (suc i) x at passes e = by (test y) refl (position_some (k + 1) ys i x at passes)
     where
       by : (t : Bool) → test y ≡ t → (position_from test (k + 1) ys ≡ None → ⊥) → ⊥
-      by true f rest = absurd (let here : Some k ≡ None = sym (ap (λ (t : Bool). cond t (Some k) (position_from test (k + 1) ys)) f) ∙ e in cc)
+      by true f rest = absurd (let here : Some k ≡ None = sym (ap (λ (t : Bool). cond t (Some k) (position_from test (k + 1) ys)) f) ∙ e in
+          cc)
       by false f rest = rest (sym (ap (λ (t : Bool). cond t (Some k) (position_from test (k + 1) ys)) f) ∙ e)
 
-not_busy-names : (p q y z : Bool) (g : Grant) → (cond p grant.Busy (cond q grant.Busy (cond y grant.Busy (cond z grant.Busy g))) ≡ grant.Busy → ⊥)
+not_busy-names : (p q y z : Bool) (g : Grant)
+    → (cond p grant.Busy (cond q grant.Busy (cond y grant.Busy (cond z grant.Busy g))) ≡ grant.Busy → ⊥)
     → cond p grant.Busy (cond q grant.Busy (cond y grant.Busy (cond z grant.Busy g))) ≡ g
 not_busy-names true q y z g free = absurd (free refl)
 not_busy-names false true y z g free = absurd (free refl)
@@ -124,7 +133,8 @@ named_back : (o : Option ℕ) → named_of (named_by o) ≡ o
 named_back None = refl
 named_back (Some d) = refl
 
-device_there : (o : Option DeviceView) (test : DeviceView → Bool) → unwrap_or (option_map test o) false ≡ true → (x : DeviceView) × (o ≡ Some x) × (test x ≡ true)
+device_there : (o : Option DeviceView) (test : DeviceView → Bool) → unwrap_or (option_map test o) false ≡ true
+    → (x : DeviceView) × (o ≡ Some x) × (test x ≡ true)
 device_there None test e = absurd (let f : false ≡ true = e in cc)
 device_there (Some x) test e = (x, refl, e)
 
@@ -132,10 +142,13 @@ device_there (Some x) test e = (x, refl, e)
 bus_at : (b : BoardView) (d : ℕ) (x : DeviceView) → slice_get b.devices d ≡ Some x → of_device (λ (y : DeviceView). y.bus) 0 b d ≡ x.bus
 bus_at b d x at = ap (λ (o : Option DeviceView). unwrap_or (option_map (λ (y : DeviceView). y.bus) o) 0) at
 
-addr_at : (b : BoardView) (a d : ℕ) (x : DeviceView) → slice_get b.devices d ≡ Some x → eqb x.addr a ≡ true → addr_of b (node.Device d) ≡ Some a
-addr_at b a d x at e = ap (λ (o : Option DeviceView). unwrap_or (option_map (λ (y : DeviceView). Some y.addr) o) None) at ∙ ap Some (eqb-true x.addr a e)
+addr_at : (b : BoardView) (a d : ℕ) (x : DeviceView) → slice_get b.devices d ≡ Some x → eqb x.addr a ≡ true
+    → addr_of b (node.Device d) ≡ Some a
+addr_at b a d x at e = ap (λ (o : Option DeviceView). unwrap_or (option_map (λ (y : DeviceView). Some y.addr) o) None) at
+    ∙ ap Some (eqb-true x.addr a e)
 
-module _ (w : World) (tree : IsTree w.board) (s : ℕ) (along : (u : ℕ) → is_joined w u ≡ true → MayJoin w.board s u) (joined : is_joined w s ≡ true)
+module _ (w : World) (tree : IsTree w.board) (s : ℕ) (along : (u : ℕ) → is_joined w u ≡ true → MayJoin w.board s u)
+    (joined : is_joined w s ≡ true)
     (a : ℕ) (force : Bool) (not_busy : grant_of w.board s a force ≡ grant.Busy → ⊥) where
   abbrev fits : DeviceView → Bool
   fits d = eqb d.addr a && is_on_path w.board s d.bus
@@ -143,13 +156,15 @@ module _ (w : World) (tree : IsTree w.board) (s : ℕ) (along : (u : ℕ) → is
   granted-is : granted_on w.board s force a ≡ position_from fits 0 w.board.devices
   granted-is =
       ap (λ (g : Grant). named_of g)
-      (not_busy-names (some_chip w.board a (is_on_path w.board s)) (some_chip w.board a (λ u. is_below w.board u s) || some_device w.board a (λ u. is_below w.board u s))
+      (not_busy-names (some_chip w.board a (is_on_path w.board s))
+      (some_chip w.board a (λ u. is_below w.board u s) || some_device w.board a (λ u. is_below w.board u s))
       (some_chip w.board a (is_aside w.board s) || some_device w.board a (is_aside w.board s))
       (not force && some_bound w.board a (is_on_path w.board s)) (named_by (position_from fits 0 w.board.devices)) not_busy)
       ∙ named_back (position_from fits 0 w.board.devices)
 
   -- a device that is granted: it is there, has the address, and stands on the path
-  granted_there : (d : ℕ) → granted_on w.board s force a ≡ Some d → (x : DeviceView) × (slice_get w.board.devices d ≡ Some x) × (fits x ≡ true)
+  granted_there : (d : ℕ) → granted_on w.board s force a ≡ Some d
+      → (x : DeviceView) × (slice_get w.board.devices d ≡ Some x) × (fits x ≡ true)
   granted_there d e =
       let r = position_at fits 0 w.board.devices d (sym granted-is ∙ e) in
       (r.1, ap (λ (i : ℕ). slice_get w.board.devices i) (r.2 ∙ zero-add r.0) ∙ r.3, r.4)
@@ -173,19 +188,25 @@ module _ (w : World) (tree : IsTree w.board) (s : ℕ) (along : (u : ℕ) → is
     where
       by : (o : Option ℕ) → granted_on w.board s force a ≡ o → granted_on w.board s force a ≡ Some d
       by None e =
-          absurd (position_some fits 0 w.board.devices d x at (and_from (eqb x.addr a) (is_on_path w.board s x.bus) addr on) (sym granted-is ∙ e))
+          absurd (position_some fits 0 w.board.devices d x at (and_from (eqb x.addr a) (is_on_path w.board s x.bus) addr on) (sym granted-is
+          ∙ e))
       by (Some n) e =
           let r = granted_there n e in
           let along_each : IsAlong w.board r.0.bus x.bus =
-          over_along w.board tree s r.0.bus x.bus (path_over w.board s r.0.bus (and_right (eqb r.0.addr a) (is_on_path w.board s r.0.bus) r.2)) (path_over w.board s x.bus on) in
+          over_along w.board tree s r.0.bus x.bus
+          (path_over w.board s r.0.bus (and_right (eqb r.0.addr a) (is_on_path w.board s r.0.bus) r.2))
+          (path_over w.board s x.bus on) in
           let homes : IsAlong w.board (home_of w.board (node.Device n)) (home_of w.board (node.Device d)) =
           subst (λ (i : ℕ). IsAlong w.board i (home_of w.board (node.Device d))) (sym (bus_at w.board n r.0 r.1))
           (subst (λ (i : ℕ). IsAlong w.board r.0.bus i) (sym (bus_at w.board d x at)) along_each) in
           let same : node.Device n ≡ node.Device d =
-          tree.addresses (node.Device n) (node.Device d) a (addr_at w.board a n r.0 r.1 (and_left (eqb r.0.addr a) (is_on_path w.board s r.0.bus) r.2)) (addr_at w.board a d x at addr) homes in
+          tree.addresses (node.Device n) (node.Device d) a
+          (addr_at w.board a n r.0 r.1 (and_left (eqb r.0.addr a) (is_on_path w.board s r.0.bus) r.2))
+          (addr_at w.board a d x at addr) homes in
           e ∙ (let f : n ≡ d = cc in ap Some f)
 
-  joined_granted : (d : ℕ) → joins_device w d ≡ true → of_device (λ (x : DeviceView). eqb x.addr a) false w.board d ≡ true → granted_on w.board s force a ≡ Some d
+  joined_granted : (d : ℕ) → joins_device w d ≡ true → of_device (λ (x : DeviceView). eqb x.addr a) false w.board d ≡ true
+      → granted_on w.board s force a ≡ Some d
   joined_granted d j t =
       let r = device_there (slice_get w.board.devices d) (λ (x : DeviceView). eqb x.addr a) t in
       let bus : of_device (λ (y : DeviceView). y.bus) 0 w.board d ≡ r.0.bus = bus_at w.board d r.0 r.1 in
@@ -215,14 +236,17 @@ module _ (w : World) (tree : IsTree w.board) (s : ℕ) (along : (u : ℕ) → is
       }
 
 -- where all that is joined lies along a joined bus, an address on it that isn't busy leads to the device that it grants
-pub granted-leads : (b : BoardView) (w : World) (s a : ℕ) (force : Bool) → w.board ≡ b → IsTree b → ((u : ℕ) → is_joined w u ≡ true → MayJoin b s u) → is_joined w s ≡ true
+pub granted-leads : (b : BoardView) (w : World) (s a : ℕ) (force : Bool) → w.board ≡ b → IsTree b
+    → ((u : ℕ) → is_joined w u ≡ true → MayJoin b s u) → is_joined w s ≡ true
     → (grant_of b s a force ≡ grant.Busy → ⊥) → LeadsTo w a (granted_on b s force a)
 granted-leads b w s a force board =
-    subst (λ (x : BoardView). IsTree x → ((u : ℕ) → is_joined w u ≡ true → MayJoin x s u) → is_joined w s ≡ true → (grant_of x s a force ≡ grant.Busy → ⊥) → LeadsTo w a (granted_on x s force a))
+    subst (λ (x : BoardView). IsTree x → ((u : ℕ) → is_joined w u ≡ true → MayJoin x s u) → is_joined w s ≡ true
+    → (grant_of x s a force ≡ grant.Busy → ⊥) → LeadsTo w a (granted_on x s force a))
     board (λ tree along joined free. granted_leads w tree s along joined a force free)
 
 -- A KEPT CHANNEL beside the path
-any_none : {X : Type 0} (test : X → Bool) (xs : List X) → ((i : ℕ) (x : X) → slice_get xs i ≡ Some x → test x ≡ true → ⊥) → list_any test xs ≡ false
+any_none : {X : Type 0} (test : X → Bool) (xs : List X) → ((i : ℕ) (x : X) → slice_get xs i ≡ Some x → test x ≡ true → ⊥)
+    → list_any test xs ≡ false
 any_none test [] none = refl
 any_none {X} test (y ∷ ys) none = by (test y) refl (any_none test ys (λ i x at. none (suc i) x at))
   where
@@ -236,10 +260,12 @@ none-aside b tree s d x at on =
     ap (λ (t : Bool). t || some_device b x.addr (is_aside b s))
     (any_none (λ (m : MuxSpec). has_address x.addr m.addr && is_aside b s m.bus) b.muxes
     (λ i m there e. apart (node.Chip i) m.bus (ap (λ (o : Option MuxSpec). unwrap_or (option_map (λ (y : MuxSpec). y.bus) o) 0) there)
-    (ap (λ (o : Option MuxSpec). unwrap_or (option_map (λ (y : MuxSpec). y.addr) o) None) there ∙ address_is x.addr m.addr (and_left (has_address x.addr m.addr) (is_aside b s m.bus) e))
+    (ap (λ (o : Option MuxSpec). unwrap_or (option_map (λ (y : MuxSpec). y.addr) o) None) there
+    ∙ address_is x.addr m.addr (and_left (has_address x.addr m.addr) (is_aside b s m.bus) e))
     (and_right (has_address x.addr m.addr) (is_aside b s m.bus) e)))
     ∙ any_none (λ (y : DeviceView). eqb y.addr x.addr && is_aside b s y.bus) b.devices
-    (λ i y there e. apart (node.Device i) y.bus (bus_at b i y there) (addr_at b x.addr i y there (and_left (eqb y.addr x.addr) (is_aside b s y.bus) e))
+    (λ i y there e. apart (node.Device i) y.bus (bus_at b i y there)
+    (addr_at b x.addr i y there (and_left (eqb y.addr x.addr) (is_aside b s y.bus) e))
     (and_right (eqb y.addr x.addr) (is_aside b s y.bus) e))
   where
     apart : (n : Node) (u : ℕ) → home_of b n ≡ u → addr_of b n ≡ Some x.addr → is_aside b s u ≡ true → ⊥

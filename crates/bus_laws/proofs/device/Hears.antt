@@ -10,7 +10,8 @@ use Rattle.i2c_spec.specs.World.{given, feed, answers, answer_with, has_heard, h
 use Rattle.bus_laws.proofs.world.Feed.{hears, feed-get, answers-one, heard-none, heard-one, some_answer-at, GivesOne}
 
 -- a target of the list, after its event
-pub fed-at : {X : Type 0} (t : Table X) (f : ℕ → Option Event) (xs : List X) (i : ℕ) → slice_get (feed t f 0 xs) i ≡ option_map (λ (x : X). given t (f i) x) (slice_get xs i)
+pub fed-at : {X : Type 0} (t : Table X) (f : ℕ → Option Event) (xs : List X) (i : ℕ)
+    → slice_get (feed t f 0 xs) i ≡ option_map (λ (x : X). given t (f i) x) (slice_get xs i)
 fed-at {X} t f xs i = feed-get t f 0 xs i ∙ ap (λ (j : ℕ). option_map (λ (x : X). given t (f j) x) (slice_get xs i)) (zero-add i)
 
 pub map-alike : {X : Type 0} (o : Option X) (g h : X → X) → ((x : X) → o ≡ Some x → g x ≡ h x) → option_map g o ≡ option_map h o
@@ -43,7 +44,8 @@ pub answers-alone : {X : Type 0} (t : Table X) (f : ℕ → Option Event) (xs : 
     → (o : Option X) → slice_get xs m ≡ o → answers t f 0 xs ≡ one_answer t m e o
 answers-alone t f xs m e one (Some x) at = answers-one t f 0 xs m e one m x at (zero-add m)
 answers-alone t f xs m e one None at =
-    answers-quiet t f 0 xs (λ i x here. ap f (zero-add i) ∙ one.else i (λ same. absurd (let g : None ≡ Some x = sym at ∙ ap (λ (j : ℕ). slice_get xs j) (sym same) ∙ here in cc)))
+    answers-quiet t f 0 xs (λ i x here. ap f (zero-add i)
+    ∙ one.else i (λ same. absurd (let g : None ≡ Some x = sym at ∙ ap (λ (j : ℕ). slice_get xs j) (sym same) ∙ here in cc)))
 
 -- whether what the target at a place answers passes a test
 abbrev pub passes : {X : Type 0} → Table X → (Answer → Bool) → Option Event → X → Bool
@@ -54,15 +56,19 @@ pub some_answer-none : {X : Type 0} (t : Table X) (test : Answer → Bool) (f : 
     → ((i : ℕ) (x : X) → slice_get xs i ≡ Some x → passes t test (f (k + i)) x ≡ false) → some_answer test (answers t f k xs) ≡ false
 some_answer-none t test f k [] none = refl
 some_answer-none t test f k (x ∷ xs) none =
-    step (f k) ∙ ap (λ (b : Bool). b || some_answer test (answers t f (k + 1) xs)) (ap (λ (j : ℕ). passes t test (f j) x) (sym (add-zero k)) ∙ none 0 x refl)
-    ∙ some_answer-none t test f (k + 1) xs (λ i y e. ap (λ (j : ℕ). passes t test (f j) y) (let e2 : k + 1 + i ≡ k + suc i = omega arith in e2) ∙ none (suc i) y e)
+    step (f k) ∙ ap (λ (b : Bool). b || some_answer test (answers t f (k + 1) xs)) (ap (λ (j : ℕ). passes t test (f j) x) (sym (add-zero k))
+    ∙ none 0 x refl)
+    ∙ some_answer-none t test f (k + 1) xs
+    (λ i y e. ap (λ (j : ℕ). passes t test (f j) y) (let e2 : k + 1 + i ≡ k + suc i = omega arith in e2) ∙ none (suc i) y e)
   where
-    step : (o : Option Event) → some_answer test (answer_with t o k x (answers t f (k + 1) xs)) ≡ (passes t test o x || some_answer test (answers t f (k + 1) xs))
+    step : (o : Option Event) → some_answer test (answer_with t o k x (answers t f (k + 1) xs)) ≡
+        (passes t test o x || some_answer test (answers t f (k + 1) xs))
     step None = refl
     step (Some e) = refl
 
 -- who passes a test that only those who hear pass, hears
-pub passes-heard : {X : Type 0} (t : Table X) (test : Answer → Bool) → ((a : Answer) → has_heard a ≡ false → test a ≡ false) → (o : Option Event) (x : X)
+pub passes-heard : {X : Type 0} (t : Table X) (test : Answer → Bool) → ((a : Answer) → has_heard a ≡ false → test a ≡ false)
+    → (o : Option Event) (x : X)
     → hears t o x ≡ false → passes t test o x ≡ false
 passes-heard t test implies None x e = refl
 passes-heard t test implies (Some g) x e = implies (t.answer x g) e
@@ -70,9 +76,11 @@ passes-heard t test implies (Some g) x e = implies (t.answer x g) e
 -- Where only the target of one number may hear, and it is given this event, it alone is asked.
 module _ {X : Type 0} (t : Table X) (f : ℕ → Option Event) (xs : List X) (m : ℕ) (e : Event) (at : f m ≡ Some e)
     (only : (i : ℕ) (x : X) → slice_get xs i ≡ Some x → hears t (f i) x ≡ true → i ≡ m) where
-  pub heard-alone : (name : ℕ → Node) (x : X) → slice_get xs m ≡ Some x → heard_of name (answers t f 0 xs) ≡ cond (has_heard (t.answer x e)) (name m ∷ []) []
+  pub heard-alone : (name : ℕ → Node) (x : X) → slice_get xs m ≡ Some x
+      → heard_of name (answers t f 0 xs) ≡ cond (has_heard (t.answer x e)) (name m ∷ []) []
   heard-alone name x here =
-      heard-one t name f 0 xs m (λ i y ey h. zero-add i ∙ only i y ey (ap (λ (j : ℕ). hears t (f j) y) (sym (zero-add i)) ∙ h)) m x here (zero-add m)
+      heard-one t name f 0 xs m (λ i y ey h. zero-add i ∙ only i y ey (ap (λ (j : ℕ). hears t (f j) y) (sym (zero-add i)) ∙ h)) m x here
+      (zero-add m)
       ∙ ap (λ (o : Option Event). cond (hears t o x) (name m ∷ []) []) at
 
   -- where it isn't there, nobody hears
@@ -88,7 +96,8 @@ module _ {X : Type 0} (t : Table X) (f : ℕ → Option Event) (xs : List X) (m 
       → some_answer test (answers t f 0 xs) ≡ test (t.answer x e)
   answer-alone test implies x here = by (test (t.answer x e)) refl
     where
-      quiet : test (t.answer x e) ≡ false → (i : ℕ) (y : X) → slice_get xs i ≡ Some y → (h : Bool) → hears t (f i) y ≡ h → passes t test (f i) y ≡ false
+      quiet : test (t.answer x e) ≡ false → (i : ℕ) (y : X) → slice_get xs i ≡ Some y → (h : Bool) → hears t (f i) y ≡ h
+          → passes t test (f i) y ≡ false
       quiet v i y ey false h = passes-heard t test implies (f i) y h
       quiet v i y ey true h =
           let i_m : i ≡ m = only i y ey h in
@@ -98,4 +107,5 @@ module _ {X : Type 0} (t : Table X) (f : ℕ → Option Event) (xs : List X) (m 
       by : (v : Bool) → test (t.answer x e) ≡ v → some_answer test (answers t f 0 xs) ≡ v
       by true v = some_answer-at t f test 0 xs m e at m x here (zero-add m) v
       by false v =
-          some_answer-none t test f 0 xs (λ i y ey. ap (λ (j : ℕ). passes t test (f j) y) (zero-add i) ∙ quiet v i y ey (hears t (f i) y) refl)
+          some_answer-none t test f 0 xs (λ i y ey. ap (λ (j : ℕ). passes t test (f j) y) (zero-add i)
+          ∙ quiet v i y ey (hears t (f i) y) refl)

@@ -42,10 +42,12 @@ use Rattle.bus_laws.proofs.device.Leads.{answer_at, devices_heard}
 -- WHO HEARS, where an address leads to one device
 module _ (w : World) (a : ℕ) (granted : Option ℕ) (leads : LeadsTo w a granted) (reading : Bool) where
   pub leads-hearers : hearers w a reading ≡ listening (cond (has_heard (answer_of w.devices granted (event.Start reading))) granted None)
-  leads-hearers = ap (λ (xs : List Node). xs ++ heard_of node.Device (start_devices w a reading)) (leads.chips reading) ∙ devices_heard w a granted leads reading granted refl
+  leads-hearers = ap (λ (xs : List Node). xs ++ heard_of node.Device (start_devices w a reading)) (leads.chips reading)
+      ∙ devices_heard w a granted leads reading granted refl
 
 -- WHAT AN ENTRY TELLS of who has heard
-told_hearers : (w : World) (addr : ℕ) (reading : Bool) (heard : Option Node) (e : End) → start_failed e ≡ false → HearsIn w addr reading heard e
+told_hearers : (w : World) (addr : ℕ) (reading : Bool) (heard : Option Node) (e : End) → start_failed e ≡ false
+    → HearsIn w addr reading heard e
     → hearers w addr reading ≡ heard_list heard
 told_hearers w addr reading heard end.Ok f h = h
 told_hearers w addr reading heard end.Nack f h = h
@@ -55,7 +57,8 @@ told_hearers w addr reading heard end.Proto f h = h
 told_hearers w addr reading heard (end.Cut zero) f h = absurd (let g : true ≡ false = f in cc)
 told_hearers w addr reading heard (end.Cut (suc q)) f h = h
 
-told_nobody : (w : World) (addr : ℕ) (reading : Bool) (heard : Option Node) (e : End) → start_failed e ≡ true → HearsIn w addr reading heard e → heard ≡ None
+told_nobody : (w : World) (addr : ℕ) (reading : Bool) (heard : Option Node) (e : End) → start_failed e ≡ true
+    → HearsIn w addr reading heard e → heard ≡ None
 told_nobody w addr reading heard end.Ok f h = absurd (let g : false ≡ true = f in cc)
 told_nobody w addr reading heard end.Nack f h = absurd (let g : false ≡ true = f in cc)
 told_nobody w addr reading heard end.Slow f h = absurd (let g : false ≡ true = f in cc)
@@ -65,7 +68,8 @@ told_nobody w addr reading heard (end.Cut zero) f h = h
 told_nobody w addr reading heard (end.Cut (suc q)) f h = absurd (let g : false ≡ true = f in cc)
 
 -- somebody has heard only where the start didn't fail
-not_failed : (w : World) (addr : ℕ) (reading : Bool) (heard : Option Node) (e : End) (x : Node) → HearsIn w addr reading heard e → heard ≡ Some x → (t : Bool) → start_failed e ≡ t → t ≡ false
+not_failed : (w : World) (addr : ℕ) (reading : Bool) (heard : Option Node) (e : End) (x : Node) → HearsIn w addr reading heard e
+    → heard ≡ Some x → (t : Bool) → start_failed e ≡ t → t ≡ false
 not_failed w addr reading heard e x h at false f = refl
 not_failed w addr reading heard e x h at true f = absurd (let g : None ≡ Some x = sym (told_nobody w addr reading heard e f h) ∙ at in cc)
 
@@ -77,7 +81,8 @@ list_none : (heard : Option Node) → heard_list heard ≡ [] → heard ≡ None
 list_none None e = refl
 list_none (Some y) e = absurd (let f : y ∷ [] ≡ [] = e in cc)
 
-listens_to : (h : Bool) (o : Option ℕ) (x : Node) → listening (cond h o None) ≡ x ∷ [] → (d : ℕ) × (x ≡ node.Device d) × (o ≡ Some d) × (h ≡ true)
+listens_to : (h : Bool) (o : Option ℕ) (x : Node) → listening (cond h o None) ≡ x ∷ []
+    → (d : ℕ) × (x ≡ node.Device d) × (o ≡ Some d) × (h ≡ true)
 listens_to true None x e = absurd (let f : [] ≡ x ∷ [] = e in cc)
 listens_to true (Some d) x e = (d, (let f : node.Device d ∷ [] ≡ x ∷ [] = e in let g : node.Device d ≡ x = cc in sym g), refl, refl)
 listens_to false o x e = absurd (let f : [] ≡ x ∷ [] = e in cc)
@@ -99,9 +104,12 @@ heard-by b w force m free leads told =
       not_busy = free;
       only = λ x at. (
           let failed : start_failed m.end ≡ false = not_failed w m.addr m.reading m.heard m.end x told at (start_failed m.end) refl in
-          let one : listening (cond (has_heard (answer_of w.devices (granted_on b m.bus force m.addr) (event.Start m.reading))) (granted_on b m.bus force m.addr) None) ≡ x ∷ [] =
-          sym (leads-hearers w m.addr (granted_on b m.bus force m.addr) leads m.reading) ∙ told_hearers w m.addr m.reading m.heard m.end failed told ∙ ap heard_list at in
-          let r = listens_to (has_heard (answer_of w.devices (granted_on b m.bus force m.addr) (event.Start m.reading))) (granted_on b m.bus force m.addr) x one in (
+          let one : listening (cond (has_heard (answer_of w.devices (granted_on b m.bus force m.addr) (event.Start m.reading)))
+          (granted_on b m.bus force m.addr) None) ≡ x ∷ [] =
+          sym (leads-hearers w m.addr (granted_on b m.bus force m.addr) leads m.reading)
+          ∙ told_hearers w m.addr m.reading m.heard m.end failed told ∙ ap heard_list at in
+          let r = listens_to (has_heard (answer_of w.devices (granted_on b m.bus force m.addr) (event.Start m.reading)))
+          (granted_on b m.bus force m.addr) x one in (
             r.0,
             r.1,
             named_is (grant_of b m.bus m.addr force) r.0 r.2,
@@ -111,15 +119,19 @@ heard-by b w force m free leads told =
       always = λ d named starting not_failed_start. (
           let granted : granted_on b m.bus force m.addr ≡ Some d = ap (λ (g : Grant). named_of g) named in
           let hears_it : has_heard (answer_of w.devices (granted_on b m.bus force m.addr) (event.Start m.reading)) ≡ true =
-          ap (λ (o : Option ℕ). has_heard (answer_of w.devices o (event.Start m.reading))) granted ∙ sym (starts-is (slice_get w.devices d) m.reading) ∙ starting in
+          ap (λ (o : Option ℕ). has_heard (answer_of w.devices o (event.Start m.reading))) granted
+          ∙ sym (starts-is (slice_get w.devices d) m.reading) ∙ starting in
           list_one m.heard (node.Device d)
-          (sym (told_hearers w m.addr m.reading m.heard m.end not_failed_start told) ∙ leads-hearers w m.addr (granted_on b m.bus force m.addr) leads m.reading
-          ∙ ap (λ (h : Bool). listening (cond h (granted_on b m.bus force m.addr) None)) hears_it ∙ ap (λ (o : Option ℕ). listening o) granted));
+          (sym (told_hearers w m.addr m.reading m.heard m.end not_failed_start told)
+          ∙ leads-hearers w m.addr (granted_on b m.bus force m.addr) leads m.reading
+          ∙ ap (λ (h : Bool). listening (cond h (granted_on b m.bus force m.addr) None)) hears_it
+          ∙ ap (λ (o : Option ℕ). listening o) granted));
     }
 
 -- a control message
 pub heard-by-chip : (b : BoardView) (w : World) (k : ℕ) (m : MessageEntry) → m.bus ≡ home_of_mux b k → addr_of_mux b k ≡ Some m.addr
-    → hearers w m.addr m.reading ≡ cond (not (is_absent b k)) (node.Chip k ∷ []) [] → HearsIn w m.addr m.reading m.heard m.end → IsHeardByChip b k m
+    → hearers w m.addr m.reading ≡ cond (not (is_absent b k)) (node.Chip k ∷ []) [] → HearsIn w m.addr m.reading m.heard m.end
+    → IsHeardByChip b k m
 heard-by-chip b w k m home at hearing told =
     record {
       at_home = home;
@@ -138,25 +150,33 @@ heard-by-chip b w k m home at hearing told =
     is_gone : is_absent b k ≡ true → (t : Bool) → start_failed m.end ≡ t → m.heard ≡ None
     is_gone gone true f = told_nobody w m.addr m.reading m.heard m.end f told
     is_gone gone false f =
-        list_none m.heard (sym (told_hearers w m.addr m.reading m.heard m.end f told) ∙ hearing ∙ ap (λ (t : Bool). cond (not t) (node.Chip k ∷ []) []) gone)
+        list_none m.heard (sym (told_hearers w m.addr m.reading m.heard m.end f told) ∙ hearing
+        ∙ ap (λ (t : Bool). cond (not t) (node.Chip k ∷ []) []) gone)
 
-    there : m.heard ≡ None → (t : Bool) → is_absent b k ≡ t → (f : Bool) → start_failed m.end ≡ f → (is_absent b k ≡ true) ⊎ (start_failed m.end ≡ true)
+    there : m.heard ≡ None → (t : Bool) → is_absent b k ≡ t → (f : Bool) → start_failed m.end ≡ f
+        → (is_absent b k ≡ true) ⊎ (start_failed m.end ≡ true)
     there nobody true gone f ef = inl gone
     there nobody false here true ef = inr ef
     there nobody false here false ef =
         absurd (let g : node.Chip k ∷ [] ≡ [] =
-        sym (hearing ∙ ap (λ (t : Bool). cond (not t) (node.Chip k ∷ []) []) here) ∙ told_hearers w m.addr m.reading m.heard m.end ef told ∙ ap heard_list nobody in cc)
+        sym (hearing ∙ ap (λ (t : Bool). cond (not t) (node.Chip k ∷ []) []) here) ∙ told_hearers w m.addr m.reading m.heard m.end ef told
+        ∙ ap heard_list nobody in cc)
 
 -- THE JOBS OF A WALK, where what is known of the buses is so in the worlds
 module _ (b : BoardView) (tree : IsTree b) (plain : IsPlainBoard b) (v : Slots) (ws : ℕ → World) (world : WorldTold b v ws) where
   -- an address of a caller's message leads to what its bus grants
-  pub call-leads : (whose : TransferView) (bus : ℕ) (ms : List MessageView) (left : ℕ) (marks : List Mark) (held : List LockId) → MaySend b whose (Call bus ms) left marks held v
-      → LeadsTo (ws (root_of b bus)) (message_of b (Call bus ms) left).addr (granted_on b bus whose.force (message_of b (Call bus ms) left).addr)
+  pub call-leads : (whose : TransferView) (bus : ℕ) (ms : List MessageView) (left : ℕ) (marks : List Mark) (held : List LockId)
+      → MaySend b whose (Call bus ms) left marks held v
+      → LeadsTo (ws (root_of b bus)) (message_of b (Call bus ms) left).addr
+      (granted_on b bus whose.force (message_of b (Call bus ms) left).addr)
   call-leads whose bus ms left marks held may =
-      subst (λ (u : World). LeadsTo u (message_of b (Call bus ms) left).addr (granted_on b bus whose.force (message_of b (Call bus ms) left).addr))
+      subst (λ (u : World). LeadsTo u (message_of b (Call bus ms) left).addr
+      (granted_on b bus whose.force (message_of b (Call bus ms) left).addr))
       (sym (world-is b tree plain v ws world bus (λ g a. (may.reached g a).0)))
-      (granted-leads b (world_of b (root_of b bus) (ws (root_of b bus)).chips (ws (root_of b bus)).devices (ws (root_of b bus)).hearing (ws (root_of b bus)).busy) bus (message_of b (Call bus ms) left).addr whose.force refl tree
-      (along_here b tree plain v ws world bus (λ g a. (may.reached g a).0)) (joined_here b tree plain v ws world bus (λ g a. (may.reached g a).0))
+      (granted-leads b (world_of b (root_of b bus) (ws (root_of b bus)).chips (ws (root_of b bus)).devices (ws (root_of b bus)).hearing
+      (ws (root_of b bus)).busy) bus (message_of b (Call bus ms) left).addr whose.force refl tree
+      (along_here b tree plain v ws world bus (λ g a. (may.reached g a).0))
+      (joined_here b tree plain v ws world bus (λ g a. (may.reached g a).0))
       (call_not_busy b whose bus ms left may.granted))
 
   module _ (m on : ℕ) (kind : MuxKind) (known : IsMuxOf b m kind) (line : is_gpio kind ≡ false) (home : home_of_mux b m ≡ on)
@@ -165,19 +185,24 @@ module _ (b : BoardView) (tree : IsTree b) (plain : IsPlainBoard b) (v : Slots) 
     pub control-leads : IsControl (ws (root_of b on)) (chip_address b m)
     control-leads =
         subst (λ (u : World). IsControl u (chip_address b m)) (sym (world-is b tree plain v ws world on reached))
-        (chip-control b (world_of b (root_of b on) (ws (root_of b on)).chips (ws (root_of b on)).devices (ws (root_of b on)).hearing (ws (root_of b on)).busy) on m (chip_address b m) refl tree (along_here b tree plain v ws world on reached) (has_address_of b plain m kind known line) home)
+        (chip-control b (world_of b (root_of b on) (ws (root_of b on)).chips (ws (root_of b on)).devices (ws (root_of b on)).hearing
+        (ws (root_of b on)).busy) on m (chip_address b m) refl tree (along_here b tree plain v ws world on reached)
+        (has_address_of b plain m kind known line) home)
 
-    control_hears : (reading : Bool) → hearers (ws (root_of b on)) (chip_address b m) reading ≡ cond (not (is_absent b m)) (node.Chip m ∷ []) []
+    control_hears : (reading : Bool)
+        → hearers (ws (root_of b on)) (chip_address b m) reading ≡ cond (not (is_absent b m)) (node.Chip m ∷ []) []
     control_hears reading =
         let s = mux_at b m kind known in
         let x = get_same_length (ws (root_of b on)).chips b.muxes m s.0 (world.count (root_of b on)) s.1 in
         ap (λ (u : World). hearers u (chip_address b m) reading) (world-is b tree plain v ws world on reached)
-        ∙ control_hearers b tree (root_of b on) on (ws (root_of b on)).chips (ws (root_of b on)).devices (ws (root_of b on)).hearing (ws (root_of b on)).busy
+        ∙ control_hearers b tree (root_of b on) on (ws (root_of b on)).chips (ws (root_of b on)).devices (ws (root_of b on)).hearing
+        (ws (root_of b on)).busy
         (along_here b tree plain v ws world on reached) m (chip_address b m) reading x.0 (has_address_of b plain m kind known line) home
         (joined_here b tree plain v ws world on reached) x.1
         ∙ ap (λ (t : Bool). cond t (node.Chip m ∷ []) []) (has_chip-is b m (chip_address b m) (has_address_of b plain m kind known line))
 
-    control_heard : (x : MessageEntry) → x.bus ≡ on → x.addr ≡ chip_address b m → HearsIn (ws (root_of b on)) x.addr x.reading x.heard x.end → IsHeardByChip b m x
+    control_heard : (x : MessageEntry) → x.bus ≡ on → x.addr ≡ chip_address b m → HearsIn (ws (root_of b on)) x.addr x.reading x.heard x.end
+        → IsHeardByChip b m x
     control_heard x at addr told =
         heard-by-chip b (ws (root_of b on)) m x (at ∙ sym home) (has_address_of b plain m kind known line ∙ ap Some (sym addr))
         (ap (λ (a : ℕ). hearers (ws (root_of b on)) a x.reading) addr ∙ control_hears x.reading) told
@@ -191,24 +216,31 @@ module _ (b : BoardView) (tree : IsTree b) (plain : IsPlainBoard b) (v : Slots) 
       → ((g : Hop) → IsAmongHops g (hops b on) → IsOpenOn b g (v g.on)) → (reading : Bool) (k a : ℕ) → m ≡ k → a ≡ chip_address b m
       → (addr_of_mux b k ≡ Some a) × (hearers (ws (root_of b on)) a reading ≡ cond (not (is_absent b k)) (node.Chip k ∷ []) [])
   control_both m on kind known line home reached reading k a same addr =
-      subst (λ (i : ℕ). (addr_of_mux b i ≡ Some a) × (hearers (ws (root_of b on)) a reading ≡ cond (not (is_absent b i)) (node.Chip i ∷ []) [])) same
-      (subst (λ (x : ℕ). (addr_of_mux b m ≡ Some x) × (hearers (ws (root_of b on)) x reading ≡ cond (not (is_absent b m)) (node.Chip m ∷ []) [])) (sym addr)
+      subst (λ (i : ℕ). (addr_of_mux b i ≡ Some a)
+      × (hearers (ws (root_of b on)) a reading ≡ cond (not (is_absent b i)) (node.Chip i ∷ []) [])) same
+      (subst (λ (x : ℕ). (addr_of_mux b m ≡ Some x)
+      × (hearers (ws (root_of b on)) x reading ≡ cond (not (is_absent b m)) (node.Chip m ∷ []) [])) (sym addr)
       (has_address_of b plain m kind known line, control_hears m on kind known line home reached reading))
 
-  pub control-reaches : (whose : TransferView) (job : Job) (left : ℕ) (marks : List Mark) (held : List LockId) → MaySend b whose job left marks held v → (m : ℕ) → job_purpose job ≡ purpose.Control m
+  pub control-reaches : (whose : TransferView) (job : Job) (left : ℕ) (marks : List Mark) (held : List LockId)
+      → MaySend b whose job left marks held v → (m : ℕ) → job_purpose job ≡ purpose.Control m
       → (addr_of_mux b m ≡ Some (message_of b job left).addr)
-      × (hearers (ws (root_of b (job_bus job))) (message_of b job left).addr (message_of b job left).reading ≡ cond (not (is_absent b m)) (node.Chip m ∷ []) [])
+      × (hearers (ws (root_of b (job_bus job))) (message_of b job left).addr (message_of b job left).reading ≡ cond (not (is_absent b m))
+      (node.Chip m ∷ []) [])
   control-reaches whose (Call bus ms) left marks held may m is = absurd (let f : purpose.Call ≡ purpose.Control m = is in cc)
   control-reaches whose (Select h) left marks held may m is =
       let hop : IsHop b h = tree.hop h.bus h may.finds.1 in
-      control_both h.mux h.on h.kind hop.kind may.by_message hop.home (λ g a. (may.reached g a).0) (message_of b (Select h) left).reading m (message_of b (Select h) left).addr
+      control_both h.mux h.on h.kind hop.kind may.by_message hop.home (λ g a. (may.reached g a).0) (message_of b (Select h) left).reading m
+      (message_of b (Select h) left).addr
       (let f : purpose.Control h.mux ≡ purpose.Control m = is in cc) (select_addr h left)
   control-reaches whose (SwitchOff off) left marks held may m is =
-      control_both (off_mux off) (off_bus off) (off_kind off) may.finds.2 may.by_message may.finds.1 (λ g a. (may.reached g a).0) (message_of b (SwitchOff off) left).reading m (chip_address b (off_mux off))
+      control_both (off_mux off) (off_bus off) (off_kind off) may.finds.2 may.by_message may.finds.1 (λ g a. (may.reached g a).0)
+      (message_of b (SwitchOff off) left).reading m (chip_address b (off_mux off))
       (let f : purpose.Control (off_mux off) ≡ purpose.Control m = is in cc) refl
 
   -- each message reaches whom it is for, or nobody
-  pub send-reaches : (whose : TransferView) (job : Job) (left : ℕ) (marks : List Mark) (held : List LockId) → MaySend b whose job left marks held v
+  pub send-reaches : (whose : TransferView) (job : Job) (left : ℕ) (marks : List Mark) (held : List LockId)
+      → MaySend b whose job left marks held v
       → (x : MessageEntry) → x.bus ≡ job_bus job → x.addr ≡ (message_of b job left).addr → x.purpose ≡ job_purpose job
       → HearsIn (ws (root_of b (job_bus job))) x.addr x.reading x.heard x.end
       → by_purpose b (ws (root_of b (job_bus job))) whose.force x x.purpose
@@ -218,7 +250,8 @@ module _ (b : BoardView) (tree : IsTree b) (plain : IsPlainBoard b) (v : Slots) 
       (λ busy. call_not_busy b whose bus ms left may.granted
       (ap (λ (a : ℕ). grant_of b bus a whose.force) (sym addr) ∙ ap (λ (s : ℕ). grant_of b s x.addr whose.force) (sym at) ∙ busy))
       (subst (λ (s : ℕ). LeadsTo (ws (root_of b bus)) x.addr (granted_on b s whose.force x.addr)) (sym at)
-      (subst (λ (a : ℕ). LeadsTo (ws (root_of b bus)) a (granted_on b bus whose.force a)) (sym addr) (call-leads whose bus ms left marks held may)))
+      (subst (λ (a : ℕ). LeadsTo (ws (root_of b bus)) a (granted_on b bus whose.force a)) (sym addr)
+      (call-leads whose bus ms left marks held may)))
       told)
   send-reaches whose (Select h) left marks held may x at addr why told =
       let hop : IsHop b h = tree.hop h.bus h may.finds.1 in

@@ -60,7 +60,8 @@ joined_of b r w board root d e =
     ∙ root
 
 -- what is joined depends on the chips alone
-joined_still : (w : World) (cs : List ChipView) (d : ℕ) → cs ≡ w.chips → joins_device w d ≡ true → joins_device (record w { chips = cs }) d ≡ true
+joined_still : (w : World) (cs : List ChipView) (d : ℕ) → cs ≡ w.chips → joins_device w d ≡ true
+    → joins_device (record w { chips = cs }) d ≡ true
 joined_still w cs d e j = subst (λ (x : List ChipView). joins_device (record w { chips = x }) d ≡ true) (sym e) j
 
 states_fed : (f g : ℕ → Option Event) (xs ys : List TargetState) (d : ℕ) → slice_get xs d ≡ slice_get ys d
@@ -86,7 +87,8 @@ bytes_fed f xs d x fit all e =
     subst (λ (z : TargetState). HoldsBytes z) from.2 (given_bytes (f d) from.0 fit (all from.0 from.1))
 
 -- a device that gets no event is as it was
-same_fed : (f : ℕ → Option Event) (xs : List TargetState) (d : ℕ) (x : TargetState) → f d ≡ None → slice_get (feed state_table f 0 xs) d ≡ Some x → slice_get xs d ≡ Some x
+same_fed : (f : ℕ → Option Event) (xs : List TargetState) (d : ℕ) (x : TargetState) → f d ≡ None
+    → slice_get (feed state_table f 0 xs) d ≡ Some x → slice_get xs d ≡ Some x
 same_fed f xs d x none e =
     let from = map-from (slice_get xs d) (λ (y : TargetState). given state_table (f d) y) x (sym (fed-at state_table f xs d) ∙ e) in
     from.1 ∙ ap Some (ap (λ (o : Option Event). given state_table o from.0) (sym none) ∙ from.2)
@@ -122,10 +124,13 @@ module _ (b : BoardView) (r : ℕ) (w : World) (f : FlatListener) (s : Same b r 
     start_given : (d : ℕ) (x : TargetState) → IsOf b r d → slice_get f.states d ≡ Some x
         → given state_table (device_start w a reading d) x ≡ given state_table (flat_start granted f.named reading d) x
     start_given d x own at =
-        by (joins_device w d) (of_device (λ (y : DeviceView). eqb y.addr a) false w.board d) (is_it granted d) (is_member d f.named) refl refl refl refl
+        by (joins_device w d) (of_device (λ (y : DeviceView). eqb y.addr a) false w.board d) (is_it granted d)
+        (is_member d f.named) refl refl refl refl
       where
-        by : (j t i n : Bool) → joins_device w d ≡ j → of_device (λ (y : DeviceView). eqb y.addr a) false w.board d ≡ t → is_it granted d ≡ i → is_member d f.named ≡ n
-            → given state_table (start_event j t reading) x ≡ given state_table (cond i (Some (event.Start reading)) (cond n (Some event.Other) None)) x
+        by : (j t i n : Bool) → joins_device w d ≡ j → of_device (λ (y : DeviceView). eqb y.addr a) false w.board d ≡ t
+            → is_it granted d ≡ i → is_member d f.named ≡ n
+            → given state_table (start_event j t reading) x ≡ given state_table
+            (cond i (Some (event.Start reading)) (cond n (Some event.Other) None)) x
         by true true true n ej et ei en = refl
         by true true false n ej et ei en = absurd (let g : false ≡ true = sym ei ∙ is_it-at granted d (leads.found d ej et) in cc)
         by true false true n ej et ei en = absurd (let g : false ≡ true = sym et ∙ leads.addressed d (is_it-some granted d ei) in cc)
@@ -140,7 +145,8 @@ module _ (b : BoardView) (r : ℕ) (w : World) (f : FlatListener) (s : Same b r 
     device_same k e = s.states k (joined_of b r w s.board s.root k (leads.joined k e))
 
     start_devices-heard : (o : Option ℕ) → granted ≡ o
-        → heard_of node.Device (start_devices w a reading) ≡ listening (cond (has_heard (answer_of f.states o (event.Start reading))) o None)
+        → heard_of node.Device (start_devices w a reading) ≡ listening
+        (cond (has_heard (answer_of f.states o (event.Start reading))) o None)
     start_devices-heard None e = devices_heard w a granted leads reading None e
     start_devices-heard (Some k) e =
         devices_heard w a granted leads reading (Some k) e
@@ -152,40 +158,50 @@ module _ (b : BoardView) (r : ℕ) (w : World) (f : FlatListener) (s : Same b r 
         unheard node.Device test implies (start_devices w a reading) (start_devices-heard None e) ∙ sym (implies answer.Nothing refl)
     start_devices-said test implies (Some k) e = by (slice_get f.states k) refl
       where
-        by : (o : Option TargetState) → slice_get f.states k ≡ o → some_answer test (start_devices w a reading) ≡ test (answer_at (slice_get f.states k) (event.Start reading))
+        by : (o : Option TargetState) → slice_get f.states k ≡ o
+            → some_answer test (start_devices w a reading) ≡ test (answer_at (slice_get f.states k) (event.Start reading))
         by None at =
             unheard node.Device test implies (start_devices w a reading)
-            (heard-missing state_table (device_start w a reading) w.devices k (event.Start reading) (starts_at w a granted leads reading k e) (only_hears w a granted leads reading k e) node.Device (device_same k e ∙ at))
+            (heard-missing state_table (device_start w a reading) w.devices k (event.Start reading)
+            (starts_at w a granted leads reading k e) (only_hears w a granted leads reading k e) node.Device (device_same k e ∙ at))
             ∙ sym (implies answer.Nothing refl) ∙ ap (λ (o : Option TargetState). test (answer_at o (event.Start reading))) (sym at)
         by (Some x) at =
-            answer-alone state_table (device_start w a reading) w.devices k (event.Start reading) (starts_at w a granted leads reading k e) (only_hears w a granted leads reading k e) test implies x (device_same k e ∙ at)
+            answer-alone state_table (device_start w a reading) w.devices k (event.Start reading) (starts_at w a granted leads reading k e)
+            (only_hears w a granted leads reading k e) test implies x (device_same k e ∙ at)
             ∙ ap (λ (o : Option TargetState). test (answer_at o (event.Start reading))) (sym at)
 
     start_said : (test : Answer → Bool) → ((x : Answer) → has_heard x ≡ false → test x ≡ false)
         → some_answer test (start_chips w a reading ++ start_devices w a reading) ≡ test (answer_of f.states granted (event.Start reading))
     start_said test implies =
         some_answer-append test (start_chips w a reading) (start_devices w a reading)
-        ∙ ap (λ (t : Bool). t || some_answer test (start_devices w a reading)) (unheard node.Chip test implies (start_chips w a reading) (leads.chips reading))
+        ∙ ap (λ (t : Bool). t || some_answer test (start_devices w a reading))
+        (unheard node.Chip test implies (start_chips w a reading) (leads.chips reading))
         ∙ start_devices-said test implies granted refl
 
     pub start-answer : world_answer w a reading ≡ acknowledged (answer_of f.states granted (event.Start reading))
     start-answer =
-        ap (λ (t : Bool). cond t answer.Slow (cond (some_answer is_ack (start_chips w a reading ++ start_devices w a reading)) answer.Ack answer.Nack)) (start_said is_slow slow_is_heard)
-        ∙ ap (λ (t : Bool). cond (is_slow (answer_of f.states granted (event.Start reading))) answer.Slow (cond t answer.Ack answer.Nack)) (start_said is_ack ack_is_heard)
+        ap (λ (t : Bool). cond t answer.Slow
+        (cond (some_answer is_ack (start_chips w a reading ++ start_devices w a reading)) answer.Ack answer.Nack))
+        (start_said is_slow slow_is_heard)
+        ∙ ap (λ (t : Bool). cond (is_slow (answer_of f.states granted (event.Start reading))) answer.Slow (cond t answer.Ack answer.Nack))
+        (start_said is_ack ack_is_heard)
         ∙ pick (answer_of f.states granted (event.Start reading))
 
     start_hearing : hearers w a reading ≡ listening (cond (has_heard (answer_of f.states granted (event.Start reading))) granted None)
     start_hearing =
-        ap (λ (xs : List Node). xs ++ heard_of node.Device (start_devices w a reading)) (leads.chips reading) ∙ start_devices-heard granted refl
+        ap (λ (xs : List Node). xs ++ heard_of node.Device (start_devices w a reading)) (leads.chips reading)
+        ∙ start_devices-heard granted refl
 
     not_named : (d : ℕ) → is_member d (put_named granted f.named) ≡ false → (is_it granted d ≡ false) × (is_member d f.named ≡ false)
     not_named d e = by (is_it granted d) (is_member d f.named) refl refl
       where
         by : (i n : Bool) → is_it granted d ≡ i → is_member d f.named ≡ n → (i ≡ false) × (n ≡ false)
         by false false ei en = (refl, refl)
-        by true n ei en = absurd (let g : true ≡ false = sym (ap (λ (t : Bool). t || is_member d f.named) ei) ∙ sym (member_put granted f.named d) ∙ e in cc)
+        by true n ei en = absurd (let g : true ≡ false = sym (ap (λ (t : Bool). t || is_member d f.named) ei)
+            ∙ sym (member_put granted f.named d) ∙ e in cc)
         by false true ei en =
-            absurd (let g : true ≡ false = sym (ap (λ (t : Bool). t || is_member d f.named) ei ∙ en) ∙ sym (member_put granted f.named d) ∙ e in cc)
+            absurd (let g : true ≡ false = sym (ap (λ (t : Bool). t || is_member d f.named) ei ∙ en) ∙ sym (member_put granted f.named d)
+            ∙ e in cc)
 
     named_joined : (d : ℕ) → is_member d (put_named granted f.named) ≡ true → joins_device w d ≡ true
     named_joined d e = by (is_it granted d) refl
@@ -204,9 +220,11 @@ module _ (b : BoardView) (r : ℕ) (w : World) (f : FlatListener) (s : Same b r 
       record {
         board = s.board;
         root = s.root;
-        states = λ d own. states_fed (device_start w a reading) (flat_start (granted a) f.named reading) w.devices f.states d (s.states d own)
+        states = λ d own. states_fed (device_start w a reading) (flat_start (granted a) f.named reading) w.devices f.states d
+            (s.states d own)
             (λ x at. start_given a (granted a) leads reading d x own at);
-        bytes = λ d x own at. bytes_fed (flat_start (granted a) f.named reading) f.states d x (start_fits (is_it (granted a) d) (is_member d f.named) reading)
+        bytes = λ d x own at. bytes_fed (flat_start (granted a) f.named reading) f.states d x
+            (start_fits (is_it (granted a) d) (is_member d f.named) reading)
             (λ y ey. s.bytes d y own ey) at;
         quiet = λ d x own e at. (
             let none = not_named a (granted a) leads reading d e in
@@ -214,7 +232,8 @@ module _ (b : BoardView) (r : ℕ) (w : World) (f : FlatListener) (s : Same b r 
             (ap (λ (i : Bool). cond i (Some (event.Start reading)) (cond (is_member d f.named) (Some event.Other) None)) none.0
             ∙ ap (λ (n : Bool). cond n (Some event.Other) None) none.1) at));
         hearing = start_hearing a (granted a) leads reading;
-        joined = λ d e. joined_still w (feed chip_table (λ m. _) 0 w.chips) d (started-chips w.board w.root w.chips w.devices w.hearing w.busy a reading)
+        joined = λ d e. joined_still w (feed chip_table (λ m. _) 0 w.chips) d
+            (started-chips w.board w.root w.chips w.devices w.hearing w.busy a reading)
             (named_joined a (granted a) leads reading d e);
         current = λ d e. current_granted a (granted a) leads reading (has_heard (answer_of f.states (granted a) (event.Start reading))) d e;
       }
@@ -229,7 +248,8 @@ module _ (b : BoardView) (r : ℕ) (w : World) (f : FlatListener) (s : Same b r 
 
   sent_chips : (e : Event) → feed chip_table (to_chips w e) 0 w.chips ≡ w.chips
   sent_chips e =
-      feed-same chip_table (to_chips w e) 0 w.chips (λ i x at. ap (λ (t : Bool). given chip_table (cond t (Some e) None) x) (no_chip_hearing (0 + i)))
+      feed-same chip_table (to_chips w e) 0 w.chips
+      (λ i x at. ap (λ (t : Bool). given chip_table (cond t (Some e) None) x) (no_chip_hearing (0 + i)))
 
   current_own : (k : ℕ) → f.current ≡ Some k → IsOf b r k
   current_own k e = joined_of b r w s.board s.root k (s.joined k (s.current k e))
@@ -247,7 +267,8 @@ module _ (b : BoardView) (r : ℕ) (w : World) (f : FlatListener) (s : Same b r 
     where
       devices_said : (o2 : Option ℕ) → f.current ≡ o2 → answers state_table (to_devices w e) 0 w.devices ≡ said_of o2 e
       devices_said None none =
-          answers-quiet state_table (to_devices w e) 0 w.devices (λ i x here. to_devices-is e (0 + i) ∙ ap (λ (c : Option ℕ). to_current c e (0 + i)) none)
+          answers-quiet state_table (to_devices w e) 0 w.devices (λ i x here. to_devices-is e (0 + i)
+          ∙ ap (λ (c : Option ℕ). to_current c e (0 + i)) none)
       devices_said (Some k) here =
           answers-alone state_table (to_devices w e) w.devices k e
           (record {
@@ -261,7 +282,8 @@ module _ (b : BoardView) (r : ℕ) (w : World) (f : FlatListener) (s : Same b r 
   pub takes-same : (byte : ℕ) → takes w byte ≡ is_ack (answer_of f.states f.current (event.Put byte))
   takes-same byte = ap (λ (xs : List (ℕ × Answer)). some_answer is_ack xs) (hearing-said (event.Put byte) f.current refl) ∙ by f.current
     where
-      one : (k : ℕ) (y : Option TargetState) → some_answer is_ack (one_answer state_table k (event.Put byte) y) ≡ is_ack (answer_at y (event.Put byte))
+      one : (k : ℕ) (y : Option TargetState)
+          → some_answer is_ack (one_answer state_table k (event.Put byte) y) ≡ is_ack (answer_at y (event.Put byte))
       one k None = refl
       one k (Some x) = or-false (is_ack (state_answer x (event.Put byte)))
 
@@ -297,7 +319,8 @@ module _ (b : BoardView) (r : ℕ) (w : World) (f : FlatListener) (s : Same b r 
         root = s.root;
         states = λ d own. states_fed (to_devices w e) (to_current f.current e) w.devices f.states d (s.states d own)
             (λ x at. ap (λ (o : Option Event). given state_table o x) (to_devices-is e d));
-        bytes = λ d x own at. bytes_fed (to_current f.current e) f.states d x (sent_fits (is_it f.current d) e fit) (λ y ey. s.bytes d y own ey) at;
+        bytes = λ d x own at. bytes_fed (to_current f.current e) f.states d x (sent_fits (is_it f.current d) e fit)
+            (λ y ey. s.bytes d y own ey) at;
         quiet = λ d x own none at. s.quiet d x own none (same_fed (to_current f.current e) f.states d x
             (ap (λ (t : Bool). cond t (Some e) None) (not_current d none)) at);
         hearing = s.hearing;
@@ -310,19 +333,22 @@ module _ (b : BoardView) (r : ℕ) (w : World) (f : FlatListener) (s : Same b r 
       → given state_table (stop_event (joins_device w d)) x ≡ given state_table (to_named f.named event.Stop d) x
   stop_given d x own at = by (joins_device w d) (is_member d f.named) refl refl
     where
-      by : (j n : Bool) → joins_device w d ≡ j → is_member d f.named ≡ n → given state_table (stop_event j) x ≡ given state_table (cond n (Some event.Stop) None) x
+      by : (j n : Bool) → joins_device w d ≡ j → is_member d f.named ≡ n
+          → given state_table (stop_event j) x ≡ given state_table (cond n (Some event.Stop) None) x
       by true true ej en = refl
       by true false ej en = (s.quiet d x own en at).stop
       by false true ej en = absurd (let g : false ≡ true = sym ej ∙ s.joined d en in cc)
       by false false ej en = refl
 
-  stop_quiet : (d : ℕ) (x : TargetState) → IsOf b r d → slice_get (feed state_table (to_named f.named event.Stop) 0 f.states) d ≡ Some x → IsQuiet state_table x
+  stop_quiet : (d : ℕ) (x : TargetState) → IsOf b r d → slice_get (feed state_table (to_named f.named event.Stop) 0 f.states) d ≡ Some x
+      → IsQuiet state_table x
   stop_quiet d x own e =
       let from = map-from (slice_get f.states d) (λ (y : TargetState). given state_table (to_named f.named event.Stop d) y) x
       (sym (fed-at state_table (to_named f.named event.Stop) f.states d) ∙ e) in
       subst (λ (z : TargetState). IsQuiet state_table z) from.2 (by from.0 from.1 (is_member d f.named) refl)
     where
-      by : (y : TargetState) → slice_get f.states d ≡ Some y → (n : Bool) → is_member d f.named ≡ n → IsQuiet state_table (given state_table (cond n (Some event.Stop) None) y)
+      by : (y : TargetState) → slice_get f.states d ≡ Some y → (n : Bool) → is_member d f.named ≡ n
+          → IsQuiet state_table (given state_table (cond n (Some event.Stop) None) y)
       by y at true en = stopped-quiet y
       by y at false en = s.quiet d y own en at
 
@@ -331,16 +357,19 @@ module _ (b : BoardView) (r : ℕ) (w : World) (f : FlatListener) (s : Same b r 
       record {
         board = s.board;
         root = s.root;
-        states = λ d own. states_fed (λ n. stop_event (joins_device w n)) (to_named f.named event.Stop) w.devices f.states d (s.states d own)
+        states = λ d own. states_fed (λ n. stop_event (joins_device w n)) (to_named f.named event.Stop) w.devices f.states d
+            (s.states d own)
             (λ x at. stop_given d x own at);
-        bytes = λ d x own at. bytes_fed (to_named f.named event.Stop) f.states d x (sent_fits (is_member d f.named) event.Stop tt) (λ y ey. s.bytes d y own ey) at;
+        bytes = λ d x own at. bytes_fed (to_named f.named event.Stop) f.states d x (sent_fits (is_member d f.named) event.Stop tt)
+            (λ y ey. s.bytes d y own ey) at;
         quiet = λ d x own e at. stop_quiet d x own at;
         hearing = refl;
         joined = λ d e. absurd (let g : false ≡ true = e in cc);
         current = λ d e. absurd (let g : None ≡ Some d = e in cc);
       }
 
-pub following-same : (b : BoardView) (r : ℕ) (granted : ℕ → Option ℕ) (w : World) (f : FlatListener) (c : PortCall) → IsFollowing IsByte c → Same b r w f
+pub following-same : (b : BoardView) (r : ℕ) (granted : ℕ → Option ℕ) (w : World) (f : FlatListener) (c : PortCall) → IsFollowing IsByte c
+    → Same b r w f
     → Same b r (after w c) (flat_after granted f c)
 following-same b r granted w f (call.Start a reading) fit s = absurd fit
 following-same b r granted w f (call.Line m level) fit s = absurd fit
@@ -350,11 +379,13 @@ following-same b r granted w f call.Stop fit s = stop-same b r w f s granted
 following-same b r granted w f call.Fault fit s = stop-same b r w f s granted
 
 -- one message says the same in the world of its root as in the flat world, and they stay the same
-pub message-alike : (b : BoardView) (r : ℕ) (granted : ℕ → Option ℕ) (limit : ℕ) (w : World) (f : FlatListener) (m : MessageView) (last : Bool) (cut : Option ℕ)
+pub message-alike : (b : BoardView) (r : ℕ) (granted : ℕ → Option ℕ) (limit : ℕ) (w : World) (f : FlatListener) (m : MessageView)
+    (last : Bool) (cut : Option ℕ)
     → Same b r w f → LeadsTo w m.addr (granted m.addr) → AreBytes m.bytes
     → ToldAlike (Same b r) (talk world_listener limit w m last cut) (talk (flat_listener granted) limit f m last cut)
 message-alike b r granted limit w f m last cut s leads bytes =
     talk-alike world_listener (flat_listener granted) (Same b r) IsByte (following-same b r granted)
-    (λ u g byte same. takes-same b r u g same byte) (λ u g same. gives-same b r u g same) limit w f m last cut (recursion_from_All IsByte m.bytes bytes)
+    (λ u g byte same. takes-same b r u g same byte) (λ u g same. gives-same b r u g same) limit w f m last cut
+    (recursion_from_All IsByte m.bytes bytes)
     (stop-same b r w f s granted) (start-same b r w f s granted m.addr m.reading leads)
     (start-answer b r w f s m.addr (granted m.addr) leads m.reading)

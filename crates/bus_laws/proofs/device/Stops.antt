@@ -13,7 +13,8 @@ use Rattle.i2c_spec.specs.Flat.{FlatListener, idle, flat_listener}
 use Rattle.i2c_spec.specs.Conversation.{Listener, world_listener, Said, TalkTold, is_it, silence, say, with_byte, told, call_then, ended, puts, gets, gets_counted, by_answer, talk}
 use Rattle.bus_laws.specs.Alike.{EndsTransfer}
 
-module _ {W : Type 0} (l : Listener W) (Q : W → Type 0) (stops : (u : W) → Q (l.after u call.Stop)) (faults : (u : W) → Q (l.after u call.Fault)) (last : Bool) where
+module _ {W : Type 0} (l : Listener W) (Q : W → Type 0) (stops : (u : W) → Q (l.after u call.Stop)) (faults : (u : W)
+    → Q (l.after u call.Fault)) (last : Bool) where
   abbrev IsSettled : TalkTold W → Type 0
   IsSettled t = EndsTransfer last t.end → Q t.now
 
@@ -21,9 +22,11 @@ module _ {W : Type 0} (l : Listener W) (Q : W → Type 0) (stops : (u : W) → Q
   cond_settled true x y hx hy = hx
   cond_settled false x y hx hy = hy
 
-  then_settled : (cut : Option ℕ) (t : Said W) (c : PortCall) (next : Said W → TalkTold W) → IsSettled (next (say l t c)) → IsSettled (call_then l cut t c next)
+  then_settled : (cut : Option ℕ) (t : Said W) (c : PortCall) (next : Said W → TalkTold W) → IsSettled (next (say l t c))
+      → IsSettled (call_then l cut t c next)
   then_settled cut t c next h =
-      cond_settled (is_it cut (length t.calls)) (told (say l t call.Fault) (end.Cut (length t.calls))) (next (say l t c)) (λ over. faults t.now) h
+      cond_settled (is_it cut (length t.calls)) (told (say l t call.Fault) (end.Cut (length t.calls))) (next (say l t c))
+      (λ over. faults t.now) h
 
   ended_early : (cut : Option ℕ) (t : Said W) (e : End) → IsSettled (ended l cut true t e)
   ended_early cut t e = then_settled cut t call.Stop (λ s. told s e) (λ over. stops t.now)
@@ -31,13 +34,18 @@ module _ {W : Type 0} (l : Listener W) (Q : W → Type 0) (stops : (u : W) → Q
   ended_well : (cut : Option ℕ) (stop : Bool) (t : Said W) → stop ≡ last → IsSettled (ended l cut stop t end.Ok)
   ended_well cut true t e = ended_early cut t end.Ok
   ended_well cut false t e =
-      λ over. elim over [ inl is_last ↦ absurd (let f : false ≡ true = e ∙ is_last in cc) | inr bad ↦ absurd (let f : true ≡ false = bad in cc) ]
+      λ over. elim over [
+        | inl is_last ↦ absurd (let f : false ≡ true = e ∙ is_last in cc)
+        | inr bad ↦ absurd (let f : true ≡ false = bad in
+            cc)
+      ]
 
   puts_settled : (cut : Option ℕ) (bytes : List ℕ) (t : Said W) → IsSettled (puts l cut last bytes t)
   puts_settled cut [] t = ended_well cut last t refl
   puts_settled cut (b ∷ bs) t =
       then_settled cut t (call.Put b) (λ s. cond (l.takes t.now b) (puts l cut last bs (with_byte s b)) (ended l cut true s end.Refused))
-      (cond_settled (l.takes t.now b) (puts l cut last bs (with_byte (say l t (call.Put b)) b)) (ended l cut true (say l t (call.Put b)) end.Refused)
+      (cond_settled (l.takes t.now b) (puts l cut last bs (with_byte (say l t (call.Put b)) b))
+      (ended l cut true (say l t (call.Put b)) end.Refused)
       (puts_settled cut bs (with_byte (say l t (call.Put b)) b)) (ended_early cut (say l t (call.Put b)) end.Refused))
 
   gets_settled : (cut : Option ℕ) (n : ℕ) (t : Said W) → IsSettled (gets l cut last n t)
@@ -73,16 +81,19 @@ module _ {W : Type 0} (l : Listener W) (Q : W → Type 0) (stops : (u : W) → Q
   answer_settled cut limit m answer.Nothing t = ended_early cut t end.Nack
 
   -- a message that is the last, or ended early or by a cut, leaves what a stop leaves
-  pub talk-settled : (limit : ℕ) (w : W) (m : MessageView) (cut : Option ℕ) → EndsTransfer last (talk l limit w m last cut).end → Q (talk l limit w m last cut).now
+  pub talk-settled : (limit : ℕ) (w : W) (m : MessageView) (cut : Option ℕ) → EndsTransfer last (talk l limit w m last cut).end
+      → Q (talk l limit w m last cut).now
   talk-settled limit w m cut =
       then_settled cut (silence w) (call.Start m.addr m.reading) (λ t. by_answer l cut last limit m (l.answer w m.addr m.reading) t)
       (answer_settled cut limit m (l.answer w m.addr m.reading) (say l (silence w) (call.Start m.addr m.reading)))
 
 -- then nobody listens in a world, and none of its messages is in progress; and the flat world is idle
-pub world-settled : (limit : ℕ) (w : World) (m : MessageView) (last : Bool) (cut : Option ℕ) → EndsTransfer last (talk world_listener limit w m last cut).end
+pub world-settled : (limit : ℕ) (w : World) (m : MessageView) (last : Bool) (cut : Option ℕ)
+    → EndsTransfer last (talk world_listener limit w m last cut).end
     → ((talk world_listener limit w m last cut).now.hearing ≡ []) × ((talk world_listener limit w m last cut).now.busy ≡ false)
 world-settled limit w m last cut over =
-    talk-settled world_listener (λ (u : World). (u.hearing ≡ []) × (u.busy ≡ false)) (λ u. (refl, refl)) (λ u. (refl, refl)) last limit w m cut over
+    talk-settled world_listener (λ (u : World). (u.hearing ≡ []) × (u.busy ≡ false)) (λ u. (refl, refl))
+    (λ u. (refl, refl)) last limit w m cut over
 
 pub flat-settled : (granted : ℕ → Option ℕ) (limit : ℕ) (f : FlatListener) (m : MessageView) (last : Bool) (cut : Option ℕ)
     → EndsTransfer last (talk (flat_listener granted) limit f m last cut).end

@@ -24,7 +24,11 @@ module _ {W V : Type 0} (l : Listener W) (k : Listener V) (R : W → V → Type 
     (takes : (w : W) (v : V) (byte : ℕ) → R w v → l.takes w byte ≡ k.takes v byte)
     (gives : (w : W) (v : V) → R w v → l.gives w ≡ k.gives v) where
   said : (t : Said W) (u : Said V) (c : PortCall) → IsFollowing Fits c → SaidAlike R t u → SaidAlike R (say l t c) (say k u c)
-  said t u c later s = record { calls = ap (λ (cs : List PortCall). c ∷ cs) s.calls; bytes = s.bytes; now = keeps t.now u.now c later s.now }
+  said t u c later s = record {
+    calls = ap (λ (cs : List PortCall). c ∷ cs) s.calls;
+    bytes = s.bytes;
+    now = keeps t.now u.now c later s.now;
+  }
 
   byte_more : (t : Said W) (u : Said V) (x y : ℕ) → x ≡ y → SaidAlike R t u → SaidAlike R (with_byte t x) (with_byte u y)
   byte_more t u x y e s =
@@ -37,24 +41,31 @@ module _ {W V : Type 0} (l : Listener W) (k : Listener V) (R : W → V → Type 
   told_said : (t : Said W) (u : Said V) (e g : End) → e ≡ g → SaidAlike R t u → ToldAlike R (told t e) (told u g)
   told_said t u e g same s = record { calls = s.calls; bytes = s.bytes; end = same; now = s.now }
 
-  cond_alike : (p q : Bool) (x y : TalkTold W) (x2 y2 : TalkTold V) → p ≡ q → ToldAlike R x x2 → ToldAlike R y y2 → ToldAlike R (cond p x y) (cond q x2 y2)
+  cond_alike : (p q : Bool) (x y : TalkTold W) (x2 y2 : TalkTold V) → p ≡ q → ToldAlike R x x2 → ToldAlike R y y2
+      → ToldAlike R (cond p x y) (cond q x2 y2)
   cond_alike true true x y x2 y2 e hx hy = hx
   cond_alike false false x y x2 y2 e hx hy = hy
   cond_alike true false x y x2 y2 e hx hy = absurd (cc)
   cond_alike false true x y x2 y2 e hx hy = absurd (cc)
 
-  then_alike : (cut : Option ℕ) (t : Said W) (u : Said V) (c : PortCall) (next : Said W → TalkTold W) (then : Said V → TalkTold V) → IsFollowing Fits c → SaidAlike R t u
-      → ((s : Said W) (z : Said V) → SaidAlike R s z → ToldAlike R (next s) (then z)) → ToldAlike R (call_then l cut t c next) (call_then k cut u c then)
+  then_alike : (cut : Option ℕ) (t : Said W) (u : Said V) (c : PortCall) (next : Said W → TalkTold W) (then : Said V → TalkTold V)
+      → IsFollowing Fits c → SaidAlike R t u
+      → ((s : Said W) (z : Said V) → SaidAlike R s z → ToldAlike R (next s) (then z))
+      → ToldAlike R (call_then l cut t c next) (call_then k cut u c then)
   then_alike cut t u c next then later s goes_on =
       let place : length t.calls ≡ length u.calls = ap (λ (cs : List PortCall). length cs) s.calls in
-      cond_alike (is_it cut (length t.calls)) (is_it cut (length u.calls)) (told (say l t call.Fault) (end.Cut (length t.calls))) (next (say l t c))
+      cond_alike (is_it cut (length t.calls)) (is_it cut (length u.calls)) (told (say l t call.Fault) (end.Cut (length t.calls)))
+      (next (say l t c))
       (told (say k u call.Fault) (end.Cut (length u.calls))) (then (say k u c)) (ap (λ (n : ℕ). is_it cut n) place)
-      (told_said (say l t call.Fault) (say k u call.Fault) (end.Cut (length t.calls)) (end.Cut (length u.calls)) (ap (λ (n : ℕ). end.Cut n) place) (said t u call.Fault tt s))
+      (told_said (say l t call.Fault) (say k u call.Fault) (end.Cut (length t.calls)) (end.Cut (length u.calls))
+      (ap (λ (n : ℕ). end.Cut n) place) (said t u call.Fault tt s))
       (goes_on (say l t c) (say k u c) (said t u c later s))
 
-  ended_alike : (cut : Option ℕ) (stops : Bool) (t : Said W) (u : Said V) (e : End) → SaidAlike R t u → ToldAlike R (ended l cut stops t e) (ended k cut stops u e)
+  ended_alike : (cut : Option ℕ) (stops : Bool) (t : Said W) (u : Said V) (e : End) → SaidAlike R t u
+      → ToldAlike R (ended l cut stops t e) (ended k cut stops u e)
   ended_alike cut stops t u e s =
-      cond_alike stops stops (call_then l cut t call.Stop (λ x. told x e)) (told t e) (call_then k cut u call.Stop (λ x. told x e)) (told u e) refl
+      cond_alike stops stops (call_then l cut t call.Stop (λ x. told x e)) (told t e) (call_then k cut u call.Stop (λ x. told x e))
+      (told u e) refl
       (then_alike cut t u call.Stop (λ x. told x e) (λ x. told x e) tt s (λ x z h. told_said x z e e refl h)) (told_said t u e e refl s)
 
   puts_alike : (cut : Option ℕ) (last : Bool) (bytes : List ℕ) (t : Said W) (u : Said V) → AllByRecursion Fits bytes → SaidAlike R t u
@@ -67,14 +78,19 @@ module _ {W V : Type 0} (l : Listener W) (k : Listener V) (R : W → V → Type 
       (puts k cut last bs (with_byte z b)) (ended k cut true z end.Refused) (takes t.now u.now b s.now)
       (puts_alike cut last bs (with_byte x b) (with_byte z b) all.1 (byte_more x z b b refl h)) (ended_alike cut true x z end.Refused h))
 
-  gets_alike : (cut : Option ℕ) (last : Bool) (n : ℕ) (t : Said W) (u : Said V) → SaidAlike R t u → ToldAlike R (gets l cut last n t) (gets k cut last n u)
+  gets_alike : (cut : Option ℕ) (last : Bool) (n : ℕ) (t : Said W) (u : Said V) → SaidAlike R t u
+      → ToldAlike R (gets l cut last n t) (gets k cut last n u)
   gets_alike cut last zero t u s = ended_alike cut last t u end.Ok s
   gets_alike cut last (suc n) t u s =
-      then_alike cut t u (call.Get (ltb 0 n)) (λ x. gets l cut last n (with_byte x (l.gives t.now))) (λ z. gets k cut last n (with_byte z (k.gives u.now))) tt s
-      (λ x z h. gets_alike cut last n (with_byte x (l.gives t.now)) (with_byte z (k.gives u.now)) (byte_more x z (l.gives t.now) (k.gives u.now) (gives t.now u.now s.now) h))
+      then_alike cut t u (call.Get (ltb 0 n)) (λ x. gets l cut last n (with_byte x (l.gives t.now)))
+      (λ z. gets k cut last n (with_byte z (k.gives u.now))) tt s
+      (λ x z h. gets_alike cut last n (with_byte x (l.gives t.now)) (with_byte z (k.gives u.now))
+      (byte_more x z (l.gives t.now) (k.gives u.now) (gives t.now u.now s.now) h))
 
-  gets_same : (cut : Option ℕ) (last : Bool) (n m : ℕ) (t : Said W) (u : Said V) → n ≡ m → SaidAlike R t u → ToldAlike R (gets l cut last n t) (gets k cut last m u)
-  gets_same cut last n m t u e s = subst (λ (j : ℕ). ToldAlike R (gets l cut last n t) (gets k cut last j u)) e (gets_alike cut last n t u s)
+  gets_same : (cut : Option ℕ) (last : Bool) (n m : ℕ) (t : Said W) (u : Said V) → n ≡ m → SaidAlike R t u
+      → ToldAlike R (gets l cut last n t) (gets k cut last m u)
+  gets_same cut last n m t u e s = subst (λ (j : ℕ). ToldAlike R (gets l cut last n t) (gets k cut last j u)) e
+      (gets_alike cut last n t u s)
 
   counted_alike : (cut : Option ℕ) (last : Bool) (limit len : ℕ) (t : Said W) (u : Said V) → SaidAlike R t u
       → ToldAlike R (gets_counted l cut last limit len t) (gets_counted k cut last limit len u)
@@ -101,7 +117,8 @@ module _ {W V : Type 0} (l : Listener W) (k : Listener V) (R : W → V → Type 
       (gets_same cut last (l.gives t.now + len - 1) (k.gives u.now + len - 1) (with_byte x (l.gives t.now)) (with_byte z (k.gives u.now))
       (ap (λ (n : ℕ). n + len - 1) same) (byte_more x z (l.gives t.now) (k.gives u.now) same h)))
 
-  answer_alike : (cut : Option ℕ) (last : Bool) (limit : ℕ) (m : MessageView) (a : Answer) (t : Said W) (u : Said V) → AllByRecursion Fits m.bytes → SaidAlike R t u
+  answer_alike : (cut : Option ℕ) (last : Bool) (limit : ℕ) (m : MessageView) (a : Answer) (t : Said W) (u : Said V)
+      → AllByRecursion Fits m.bytes → SaidAlike R t u
       → ToldAlike R (by_answer l cut last limit m a t) (by_answer k cut last limit m a u)
   answer_alike cut last limit m answer.Ack t u all s =
       cond_alike m.reading m.reading
@@ -116,10 +133,12 @@ module _ {W V : Type 0} (l : Listener W) (k : Listener V) (R : W → V → Type 
   answer_alike cut last limit m (answer.Byte byte) t u all s = ended_alike cut true t u end.Nack s
   answer_alike cut last limit m answer.Nothing t u all s = ended_alike cut true t u end.Nack s
 
-  answers_alike : (cut : Option ℕ) (last : Bool) (limit : ℕ) (m : MessageView) (a g : Answer) (t : Said W) (u : Said V) → a ≡ g → AllByRecursion Fits m.bytes → SaidAlike R t u
+  answers_alike : (cut : Option ℕ) (last : Bool) (limit : ℕ) (m : MessageView) (a g : Answer) (t : Said W) (u : Said V) → a ≡ g
+      → AllByRecursion Fits m.bytes → SaidAlike R t u
       → ToldAlike R (by_answer l cut last limit m a t) (by_answer k cut last limit m g u)
   answers_alike cut last limit m a g t u e all s =
-      subst (λ (x : Answer). ToldAlike R (by_answer l cut last limit m a t) (by_answer k cut last limit m x u)) e (answer_alike cut last limit m a t u all s)
+      subst (λ (x : Answer). ToldAlike R (by_answer l cut last limit m a t) (by_answer k cut last limit m x u)) e
+      (answer_alike cut last limit m a t u all s)
 
   -- one message: where the listeners are related behind its start, and behind a fault in place of it, and answer the
   -- start alike, the same is said, and they are related in the end
@@ -133,7 +152,8 @@ module _ {W V : Type 0} (l : Listener W) (k : Listener V) (R : W → V → Type 
       (by_answer l cut last limit m (l.answer w m.addr m.reading) (say l (silence w) (call.Start m.addr m.reading)))
       (told (say k (silence v) call.Fault) (end.Cut 0))
       (by_answer k cut last limit m (k.answer v m.addr m.reading) (say k (silence v) (call.Start m.addr m.reading))) refl
-      (told_said (say l (silence w) call.Fault) (say k (silence v) call.Fault) (end.Cut 0) (end.Cut 0) refl (record { calls = refl; bytes = refl; now = fault }))
+      (told_said (say l (silence w) call.Fault) (say k (silence v) call.Fault) (end.Cut 0) (end.Cut 0) refl
+      (record { calls = refl; bytes = refl; now = fault }))
       (answers_alike cut last limit m (l.answer w m.addr m.reading) (k.answer v m.addr m.reading)
       (say l (silence w) (call.Start m.addr m.reading)) (say k (silence v) (call.Start m.addr m.reading)) same all
       (record { calls = refl; bytes = refl; now = start }))

@@ -50,7 +50,13 @@ module _ (b : BoardView) (asks : Asks) (some : AsksForMessages asks) (n : Now) (
   current-asked = by (is_over (n.walk c))
     where
       begin : (o : Option TransferView) → asks c (n.settled c) ≡ o → IsAsked b asks c (seen n.slot (begun b o)) (n.settled c)
-      begin None e = record { whose = (all c).whose; done = true; calls = tt; settles = refl; asked = λ f. absurd (let g : true ≡ false = f in cc) }
+      begin None e = record {
+        whose = (all c).whose;
+        done = true;
+        calls = tt;
+        settles = refl;
+        asked = λ f. absurd (let g : true ≡ false = f in cc);
+      }
       begin (Some t) e =
           record {
             whose = t;
@@ -75,7 +81,8 @@ module _ (b : BoardView) (asks : Asks) (some : AsksForMessages asks) (n : Now) (
   cur = current-asked
 
   -- one caller turns, the others stay
-  turned_asked : (w : WalkTree) (settled : ℕ → List Reply) → ((d : ℕ) → (d ≡ c → ⊥) → settled d ≡ n.settled d) → IsAsked b asks c w (settled c)
+  turned_asked : (w : WalkTree) (settled : ℕ → List Reply) → ((d : ℕ) → (d ≡ c → ⊥) → settled d ≡ n.settled d)
+      → IsAsked b asks c w (settled c)
       → AllAsked b asks (changed_at n.walk c w) settled
   turned_asked w settled stay own d =
       elim (eqb_tells d c) [
@@ -98,7 +105,8 @@ module _ (b : BoardView) (asks : Asks) (some : AsksForMessages asks) (n : Now) (
     rest_is : (out : ActOutcome) → rest_of (current b asks n c) out ≡ at.1 out
     rest_is out = ap (λ (w : WalkTree). rest_of w out) at.2
 
-    own_asked : (out : ActOutcome) → CallsOf b cur.whose (at.1 out) → Settles cur.done (at.1 out) → IsAsked b asks c (rest_of (current b asks n c) out) (n.settled c)
+    own_asked : (out : ActOutcome) → CallsOf b cur.whose (at.1 out) → Settles cur.done (at.1 out)
+        → IsAsked b asks c (rest_of (current b asks n c) out) (n.settled c)
     own_asked out calls settles =
         subst (λ (w : WalkTree). IsAsked b asks c w (n.settled c)) (sym (rest_is out))
         (record { whose = cur.whose; done = cur.done; calls = calls; settles = settles; asked = cur.asked })
@@ -116,10 +124,12 @@ module _ (b : BoardView) (asks : Asks) (some : AsksForMessages asks) (n : Now) (
       turned_asked (rest_of (current b asks n c) Passed) n.settled (λ d ne. refl)
       (own_asked (Free l) first Passed ((calls_at (Free l) first) Passed) (settles_at (Free l) first).1)
 
-  sent_asked : (job : Job) (left : ℕ) (e : End) (bytes : List ℕ) → first_act (current b asks n c) ≡ Some (Send job left) → turns_to (Sent e bytes)
+  sent_asked : (job : Job) (left : ℕ) (e : End) (bytes : List ℕ) → first_act (current b asks n c) ≡ Some (Send job left)
+      → turns_to (Sent e bytes)
   sent_asked job left e bytes first =
       turned_asked (rest_of (current b asks n c) (Sent e bytes)) n.settled (λ d ne. refl)
-      (own_asked (Send job left) first (Sent e bytes) ((calls_at (Send job left) first).2 (Sent e bytes)) ((settles_at (Send job left) first).1 e bytes).1)
+      (own_asked (Send job left) first (Sent e bytes) ((calls_at (Send job left) first).2 (Sent e bytes))
+      ((settles_at (Send job left) first).1 e bytes).1)
 
   lined_asked : (job : Job) (failed : Bool) → first_act (current b asks n c) ≡ Some (Shift job) → turns_to (Lined failed)
   lined_asked job failed first =
@@ -129,8 +139,10 @@ module _ (b : BoardView) (asks : Asks) (some : AsksForMessages asks) (n : Now) (
   settle_asked : (verdict : _) (r : Reply) → first_act (current b asks n c) ≡ Some (Settle verdict)
       → AllAsked b asks (changed_at n.walk c (rest_of (current b asks n c) Passed)) (changed_at n.settled c (n.settled c ++ r ∷ []))
   settle_asked verdict r first =
-      turned_asked (rest_of (current b asks n c) Passed) (changed_at n.settled c (n.settled c ++ r ∷ [])) (λ d ne. at_other n.settled c (n.settled c ++ r ∷ []) d ne)
-      (subst (λ (w : WalkTree). IsAsked b asks c w (changed_at n.settled c (n.settled c ++ r ∷ []) c)) (sym (rest_is (Settle verdict) first Passed))
+      turned_asked (rest_of (current b asks n c) Passed) (changed_at n.settled c (n.settled c ++ r ∷ []))
+      (λ d ne. at_other n.settled c (n.settled c ++ r ∷ []) d ne)
+      (subst (λ (w : WalkTree). IsAsked b asks c w (changed_at n.settled c (n.settled c ++ r ∷ []) c))
+      (sym (rest_is (Settle verdict) first Passed))
       (record {
         whose = cur.whose;
         done = true;
@@ -140,21 +152,30 @@ module _ (b : BoardView) (asks : Asks) (some : AsksForMessages asks) (n : Now) (
       }))
 
 -- one more entry
-step_asked : (b : BoardView) (asks : Asks) → AsksForMessages asks → (callers : ℕ) (n : Now) → AllAsked b asks n.walk n.settled → (e : Entry) → May b callers asks n e
+step_asked : (b : BoardView) (asks : Asks) → AsksForMessages asks → (callers : ℕ) (n : Now) → AllAsked b asks n.walk n.settled → (e : Entry)
+    → May b callers asks n e
     → AllAsked b asks (step b asks n e).walk (step b asks n e).settled
 step_asked b asks some callers n all (entry.Take c l) may = take_asked b asks some n all c l may.2
 step_asked b asks some callers n all (entry.Free c l) may = free_asked b asks some n all c l may.2
 step_asked b asks some callers n all (entry.Settle c r cut) may = settle_asked b asks some n all c may.2 r may.3
 step_asked b asks some callers n all (entry.Line c mux level failed) may =
-    subst (λ (o : Option Act). AllAsked b asks (changed_at n.walk c (rest_of (current b asks n c) (Lined failed))) (lined_by b n o (first_note (current b asks n c)) failed).settled) (sym may.2.1)
+    subst (λ (o : Option Act). AllAsked b asks (changed_at n.walk c (rest_of (current b asks n c) (Lined failed)))
+    (lined_by b n o (first_note (current b asks n c)) failed).settled) (sym may.2.1)
     (lined_asked b asks some n all c may.2.0 failed may.2.1)
 step_asked b asks some callers n all (entry.Message c bus purpose part parts addr reading bytes heard e) may =
-    subst (λ (o : Option Act). AllAsked b asks (changed_at n.walk c (rest_of (current b asks n c) (Sent e bytes))) (sent_by b n c o (first_note (current b asks n c)) reading bytes e).settled) (sym may.2.2)
+    subst (λ (o : Option Act). AllAsked b asks (changed_at n.walk c (rest_of (current b asks n c) (Sent e bytes)))
+    (sent_by b n c o (first_note (current b asks n c)) reading bytes e).settled) (sym may.2.2)
     (sent_asked b asks some n all c may.2.0 may.2.1 e bytes may.2.2)
 
 -- THE INDUCTION. Nobody is under way at the opening
 opening-asked : (b : BoardView) (asks : Asks) → AllAsked b asks (opening b).walk (opening b).settled
-opening-asked b asks c = record { whose = nobody; done = true; calls = tt; settles = refl; asked = λ f. absurd (let g : true ≡ false = f in cc) }
+opening-asked b asks c = record {
+  whose = nobody;
+  done = true;
+  calls = tt;
+  settles = refl;
+  asked = λ f. absurd (let g : true ≡ false = f in cc);
+}
 
 pub past-asked : (b : BoardView) (asks : Asks) → AsksForMessages asks → (callers : ℕ) (past : List Entry) → IsStepwise b callers asks past
     → AllAsked b asks (now b asks past).walk (now b asks past).settled
@@ -172,7 +193,8 @@ sent_settled b n c (Some (Send job left)) note reading bytes e d = refl
 sent_settled b n c (Some (Shift job)) note reading bytes e d = refl
 sent_settled b n c (Some (Settle verdict)) note reading bytes e d = refl
 
-pub lined_settled : (b : BoardView) (n : Now) (o : Option Act) (note : Note) (failed : Bool) (d : ℕ) → (lined_by b n o note failed).settled d ≡ n.settled d
+pub lined_settled : (b : BoardView) (n : Now) (o : Option Act) (note : Note) (failed : Bool) (d : ℕ)
+    → (lined_by b n o note failed).settled d ≡ n.settled d
 lined_settled b n None note failed d = refl
 lined_settled b n (Some (Take k)) note failed d = refl
 lined_settled b n (Some (Free k)) note failed d = refl
@@ -185,15 +207,19 @@ settled-told b asks [] c = refl
 settled-told b asks (entry.Take k l ∷ past) c = settled-told b asks past c
 settled-told b asks (entry.Free k l ∷ past) c = settled-told b asks past c
 settled-told b asks (entry.Message k bus purpose part parts addr reading bytes heard e ∷ past) c =
-    sent_settled b (now b asks past) k (first_act (current b asks (now b asks past) k)) (first_note (current b asks (now b asks past) k)) reading bytes e c ∙ settled-told b asks past c
+    sent_settled b (now b asks past) k (first_act (current b asks (now b asks past) k))
+    (first_note (current b asks (now b asks past) k)) reading bytes e c ∙ settled-told b asks past c
 settled-told b asks (entry.Line k mux level failed ∷ past) c =
-    lined_settled b (now b asks past) (first_act (current b asks (now b asks past) k)) (first_note (current b asks (now b asks past) k)) failed c ∙ settled-told b asks past c
+    lined_settled b (now b asks past) (first_act (current b asks (now b asks past) k))
+    (first_note (current b asks (now b asks past) k)) failed c ∙ settled-told b asks past c
 settled-told b asks (entry.Settle k r cut ∷ past) c =
     elim (eqb_tells c k) [
       | inl h ↦ ap (λ (t : Bool). cond t ((now b asks past).settled k ++ r ∷ []) ((now b asks past).settled c)) h.0
           ∙ ap (λ (rs : List Reply). rs ++ r ∷ []) (ap (λ (i : ℕ). (now b asks past).settled i) (sym h.1) ∙ settled-told b asks past c)
-          ∙ sym (ap (λ (t : Bool). cond t (replies past c ++ r ∷ []) (replies past c)) (ap (λ (i : ℕ). eqb i c) (sym h.1) ∙ ap (λ (i : ℕ). eqb c i) h.1 ∙ h.0))
-      | inr h ↦ ap (λ (t : Bool). cond t ((now b asks past).settled k ++ r ∷ []) ((now b asks past).settled c)) h.0 ∙ settled-told b asks past c
+          ∙ sym (ap (λ (t : Bool). cond t (replies past c ++ r ∷ []) (replies past c)) (ap (λ (i : ℕ). eqb i c) (sym h.1)
+          ∙ ap (λ (i : ℕ). eqb c i) h.1 ∙ h.0))
+      | inr h ↦ ap (λ (t : Bool). cond t ((now b asks past).settled k ++ r ∷ []) ((now b asks past).settled c)) h.0
+          ∙ settled-told b asks past c
           ∙ sym (ap (λ (t : Bool). cond t (replies past c ++ r ∷ []) (replies past c)) (other k c (λ e. h.1 (sym e))))
     ]
   where
@@ -201,7 +227,8 @@ settled-told b asks (entry.Settle k r cut ∷ past) c =
     other x y ne = elim (eqb_tells x y) [ inl h ↦ absurd (ne h.1) | inr h ↦ h.0 ]
 
 -- WHOM A MESSAGE REACHES
-module _ (b : BoardView) (tree : IsTree b) (plain : IsPlainBoard b) (lines : LinesAreLocked b) (asks : Asks) (some : AsksForMessages asks) (callers : ℕ) where
+module _ (b : BoardView) (tree : IsTree b) (plain : IsPlainBoard b) (lines : LinesAreLocked b) (asks : Asks) (some : AsksForMessages asks)
+    (callers : ℕ) where
   -- whether a transfer is forced matters to its own messages alone
   by_force : (w : World) (x : Bool) (job : Job) (o : Option TransferView) (m : MessageEntry)
       → ((bus : ℕ) (ms : _) → job ≡ Call bus ms → is_forced o ≡ x) → m.purpose ≡ job_purpose job
@@ -212,12 +239,22 @@ module _ (b : BoardView) (tree : IsTree b) (plain : IsPlainBoard b) (lines : Lin
   by_force w x (SwitchOff off) o m same why told =
       subst (λ (p : Purpose). by_purpose b w (is_forced o) m p) (sym why) (subst (λ (p : Purpose). by_purpose b w x m p) why told)
 
-  granted_as : (x : TransferView) (job : Job) (left : ℕ) (marks : List Mark) (held : List _) (v : Slots) (whose : TransferView) → MaySend b whose job left marks held v → IsGranted b x job
+  granted_as : (x : TransferView) (job : Job) (left : ℕ) (marks : List Mark) (held : List _) (v : Slots) (whose : TransferView)
+      → MaySend b whose job left marks held v → IsGranted b x job
       → MaySend b x job left marks held v
   granted_as x job left marks held v whose may granted =
-      record { reached = may.reached; rooted = may.rooted; finds = may.finds; owns = may.owns; may_fail = may.may_fail; granted = granted; by_message = may.by_message }
+      record {
+        reached = may.reached;
+        rooted = may.rooted;
+        finds = may.finds;
+        owns = may.owns;
+        may_fail = may.may_fail;
+        granted = granted;
+        by_message = may.by_message;
+      }
 
-  reach_at : (e : Entry) (past : List Entry) → IsStepwise b callers asks past → May b callers asks (now b asks past) e → OfMessage (HasItsPath b asks past) e → ReachAt b asks e past
+  reach_at : (e : Entry) (past : List Entry) → IsStepwise b callers asks past → May b callers asks (now b asks past) e
+      → OfMessage (HasItsPath b asks past) e → ReachAt b asks e past
   reach_at (entry.Take c l) past steps may open_path = tt
   reach_at (entry.Free c l) past steps may open_path = tt
   reach_at (entry.Line c mux level failed) past steps may open_path = tt
@@ -225,10 +262,13 @@ module _ (b : BoardView) (tree : IsTree b) (plain : IsPlainBoard b) (lines : Lin
   reach_at (entry.Message c bus purpose part parts addr reading bytes heard e) past steps may open_path = (
     open_path.path_open,
     open_path.heard_told,
-    subst (λ (s : ℕ). by_purpose b (world_at b asks past (root_of b s)) (is_forced (asks c (replies past c))) m purpose) (sym may.2.3.on_bus)
-        (by_force (world_at b asks past (root_of b (job_bus job))) asked.whose.force job (asks c (replies past c)) m forced may.2.3.for_purpose
+    subst (λ (s : ℕ). by_purpose b (world_at b asks past (root_of b s)) (is_forced (asks c (replies past c))) m purpose)
+        (sym may.2.3.on_bus)
+        (by_force (world_at b asks past (root_of b (job_bus job))) asked.whose.force job
+        (asks c (replies past c)) m forced may.2.3.for_purpose
         (send-reaches b tree plain n.slot n.worlds stands.told asked.whose job left at.0.marks (n.held c)
-        (granted_as asked.whose job left at.0.marks (n.held c) n.slot cs.whose (send_known b (n.held c) cs.view n.slot cs.agree cs.whose job left at.0.marks runs.0) calls.0)
+        (granted_as asked.whose job left at.0.marks (n.held c) n.slot cs.whose
+        (send_known b (n.held c) cs.view n.slot cs.agree cs.whose job left at.0.marks runs.0) calls.0)
         m may.2.3.on_bus may.2.3.to_addr may.2.3.for_purpose may.2.3.heard_told)),
   )
     where
@@ -236,7 +276,18 @@ module _ (b : BoardView) (tree : IsTree b) (plain : IsPlainBoard b) (lines : Lin
       n = now b asks past
 
       m : MessageEntry
-      m = record { caller = c; bus = bus; purpose = purpose; part = part; parts = parts; addr = addr; reading = reading; bytes = bytes; heard = heard; end = e }
+      m = record {
+        caller = c;
+        bus = bus;
+        purpose = purpose;
+        part = part;
+        parts = parts;
+        addr = addr;
+        reading = reading;
+        bytes = bytes;
+        heard = heard;
+        end = e;
+      }
 
       job : Job
       job = may.2.0
@@ -254,7 +305,8 @@ module _ (b : BoardView) (tree : IsTree b) (plain : IsPlainBoard b) (lines : Lin
       at = first_is (current b asks n c) (Send job left) may.2.2
 
       runs : MaySend b cs.whose job left at.0.marks (n.held c) cs.view
-          × ((out : ActOutcome) → CanSend b job left out → Runs b cs.whose (n.held c) (after_job job left at.0.marks out cs.view) (at.1 out))
+          × ((out : ActOutcome) → CanSend b job left out
+          → Runs b cs.whose (n.held c) (after_job job left at.0.marks out cs.view) (at.1 out))
       runs = subst (λ (w : WalkTree). Runs b cs.whose (n.held c) cs.view w) at.2 cs.runs
 
       asked : IsAsked b asks c (current b asks n c) (n.settled c)

@@ -18,7 +18,8 @@ got-grows (Select h) reading bytes got = omega arith
 got-grows (SwitchOff off) reading bytes got = omega arith
 
 -- a reply gives what was read, or nothing
-pub given-few : (verdict : Option Errno) (o : Option TransferView) (got : List ℕ) → length (bytes_given (reply_by verdict o got)) ≤ length got
+pub given-few : (verdict : Option Errno) (o : Option TransferView) (got : List ℕ)
+    → length (bytes_given (reply_by verdict o got)) ≤ length got
 given-few (Some e) o got = omega arith
 given-few None None got = omega arith
 given-few None (Some t) got = by (list_any is_read t.msgs)
@@ -28,7 +29,8 @@ given-few None (Some t) got = by (list_any is_read t.msgs)
     by false = omega arith
 
 -- the reply that a settle decides fits
-pub reply-fits : (t : TransferView) (got : List ℕ) (verdict : Option Errno) → (verdict ≡ None → FitsReads t.msgs got) → Fits t (reply_by verdict (Some t) got)
+pub reply-fits : (t : TransferView) (got : List ℕ) (verdict : Option Errno) → (verdict ≡ None → FitsReads t.msgs got)
+    → Fits t (reply_by verdict (Some t) got)
 reply-fits t got (Some e) all = tt
 reply-fits t got None all = by (list_any is_read t.msgs) refl (all refl)
   where

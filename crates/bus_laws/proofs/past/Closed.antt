@@ -63,13 +63,15 @@ module _ (m c : ℕ) (v : Slots) (p : ℕ) where
       elim (set_marks-only b held v marks fail p) [
         | inl same ↦ sym (ap (λ (x : At). x.kept m) same) ∙ keeps
         | inr mark ↦ elim (eqb_tells m mark.mux) [
-          | inl its ↦ absurd (let f : None ≡ Some c = sym (kept_own (v p).kept mark.mux m None its.1) ∙ sym (ap (λ (x : At). x.kept m) mark.is) ∙ keeps in cc)
+          | inl its ↦ absurd (let f : None ≡ Some c = sym (kept_own (v p).kept mark.mux m None its.1)
+              ∙ sym (ap (λ (x : At). x.kept m) mark.is) ∙ keeps in cc)
           | inr off ↦ sym (kept_other (v p).kept mark.mux m None off.1) ∙ sym (ap (λ (x : At). x.kept m) mark.is) ∙ keeps
         ]
       ]
 
   module _ (b : BoardView) (held : List LockId) (marks : List Mark) where
-    sent_before : (whose : TransferView) (job : Job) (left : ℕ) → MaySend b whose job left marks held v → switches m (job_purpose job) ≡ false → (e : End) (bytes : List ℕ)
+    sent_before : (whose : TransferView) (job : Job) (left : ℕ) → MaySend b whose job left marks held v
+        → switches m (job_purpose job) ≡ false → (e : End) (bytes : List ℕ)
         → KeptIn (after_job job left marks (Sent e bytes) v) → KeptIn v
     sent_before whose (Call bus ms) left may off e bytes keeps = keeps
     sent_before whose (Select h) zero may off end.Ok bytes keeps = turned_before h.mux h.on Clean (Some h.channel) off keeps
@@ -86,7 +88,8 @@ module _ (m c : ℕ) (v : Slots) (p : ℕ) where
     sent_before whose (SwitchOff x) left may off end.Proto bytes keeps = turned_before (off_mux x) (off_bus x) Clean None off keeps
     sent_before whose (SwitchOff x) left may off (end.Cut q) bytes keeps = marks_before b held marks may.may_fail keeps
 
-    lined_before : (job : Job) → MayShift b job marks held v → eqb (line_mux job) m ≡ false → (failed : Bool) → KeptIn (after_job job zero marks (Lined failed) v) → KeptIn v
+    lined_before : (job : Job) → MayShift b job marks held v → eqb (line_mux job) m ≡ false → (failed : Bool)
+        → KeptIn (after_job job zero marks (Lined failed) v) → KeptIn v
     lined_before (Call bus ms) may off failed keeps = keeps
     lined_before (Select h) may off true keeps = marks_before b held marks may.may_fail keeps
     lined_before (Select h) may off false keeps = turned_before h.mux h.on Clean (Some h.channel) off keeps
@@ -101,7 +104,8 @@ module _ (b : BoardView) (tree : IsTree b) (m : ℕ) (held : List LockId) (marks
   its_lock : (k on : ℕ) → home_of_mux b k ≡ on → k ≡ m → InLocks (lock.Mux on) held → HasIts
   its_lock k on home same has = subst (λ (p : ℕ). InLocks (lock.Mux p) held) (sym home ∙ ap (home_of_mux b) same) has
 
-  sent_lock : (whose : TransferView) (job : Job) (left : ℕ) → MaySend b whose job left marks held v → switches m (job_purpose job) ≡ true → HasIts
+  sent_lock : (whose : TransferView) (job : Job) (left : ℕ) → MaySend b whose job left marks held v → switches m (job_purpose job) ≡ true
+      → HasIts
   sent_lock whose (Call bus ms) left may on = absurd (let f : false ≡ true = on in cc)
   sent_lock whose (Select h) left may on = its_lock h.mux h.on (tree.hop h.bus h may.finds.1).home (same_of h.mux m on) may.owns.0
   sent_lock whose (SwitchOff off) left may on = its_lock (off_mux off) (off_bus off) may.finds.1 (same_of (off_mux off) m on) may.owns.0
@@ -111,7 +115,8 @@ module _ (b : BoardView) (tree : IsTree b) (m : ℕ) (held : List LockId) (marks
   lined_lock (Select h) may on = its_lock h.mux h.on (tree.hop h.bus h may.finds.1).home (same_of h.mux m on) may.owns.0
   lined_lock (SwitchOff off) may on = its_lock (off_mux off) (off_bus off) may.finds.1 (same_of (off_mux off) m on) may.owns.0
 
-module _ (b : BoardView) (tree : IsTree b) (plain : IsPlainBoard b) (lines : LinesAreLocked b) (asks : Asks) (some : AsksForMessages asks) (callers : ℕ) where
+module _ (b : BoardView) (tree : IsTree b) (plain : IsPlainBoard b) (lines : LinesAreLocked b) (asks : Asks) (some : AsksForMessages asks)
+    (callers : ℕ) where
   -- A MUX THAT DISCONNECTS
   module _ (m : ℕ) (leaves : is_left_open b m ≡ false) where
     abbrev its : LockId
@@ -123,10 +128,12 @@ module _ (b : BoardView) (tree : IsTree b) (plain : IsPlainBoard b) (lines : Lin
     -- while it keeps a channel, its lock is held
     not_free : (past : List Entry) → IsStepwise b callers asks past → (c : ℕ) → KeptAfter past c → (now b asks past).holder its ≡ None → ⊥
     not_free past steps c keeps none =
-        let f : false ≡ true = sym leaves ∙ (((past-stands b tree plain lines asks some callers past steps).shut (home_of_mux b m) none).stay m c keeps).1 in cc
+        let f : false ≡ true = sym leaves
+        ∙ (((past-stands b tree plain lines asks some callers past steps).shut (home_of_mux b m) none).stay m c keeps).1 in cc
 
     -- THE INDUCTION over the entries: by who switched it
-    switched-holds : (past : List Entry) → IsStepwise b callers asks past → (c : ℕ) → KeptAfter past c → (now b asks past).holder its ≡ switched_by past m
+    switched-holds : (past : List Entry) → IsStepwise b callers asks past → (c : ℕ) → KeptAfter past c
+        → (now b asks past).holder its ≡ switched_by past m
     switched-holds [] steps c keeps = absurd (let f : None ≡ Some c = keeps in cc)
     switched-holds (entry.Take d l ∷ past) steps c keeps =
         elim (lock_tells l its) [
@@ -135,7 +142,8 @@ module _ (b : BoardView) (tree : IsTree b) (plain : IsPlainBoard b) (lines : Lin
         ]
     switched-holds (entry.Free d l ∷ past) steps c keeps =
         elim (lock_tells l its) [
-          | inl h ↦ absurd (not_free (entry.Free d l ∷ past) steps c keeps (ap (λ (t : Bool). cond t None ((now b asks past).holder its)) h.0))
+          | inl h ↦ absurd (not_free (entry.Free d l ∷ past) steps c keeps
+              (ap (λ (t : Bool). cond t None ((now b asks past).holder its)) h.0))
           | inr h ↦ ap (λ (t : Bool). cond t None ((now b asks past).holder its)) h.0 ∙ switched-holds past steps.1 c keeps
         ]
     switched-holds (entry.Settle d r cut ∷ past) steps c keeps = switched-holds past steps.1 c keeps
@@ -160,9 +168,11 @@ module _ (b : BoardView) (tree : IsTree b) (plain : IsPlainBoard b) (lines : Lin
         kept_then : (after_job job zero note.marks (Lined failed) n.slot (home_of_mux b m)).kept m ≡ Some c
         kept_then = subst (λ (o : Option Act). ((lined_by b n o note failed).slot (home_of_mux b m)).kept m ≡ Some c) steps.0.2.1 keeps
 
-        by : (t : Bool) → eqb mux m ≡ t → ((x : ℕ) → KeptAfter past x → n.holder its ≡ switched_by past m) → n.holder its ≡ cond (eqb mux m) (Some d) (switched_by past m)
+        by : (t : Bool) → eqb mux m ≡ t → ((x : ℕ) → KeptAfter past x → n.holder its ≡ switched_by past m)
+            → n.holder its ≡ cond (eqb mux m) (Some d) (switched_by past m)
         by true on before =
-            (past-stands b tree plain lines asks some callers past steps.1).holds d its (lined_lock b tree m (n.held d) note.marks n.slot job may (same_mux ∙ on))
+            (past-stands b tree plain lines asks some callers past steps.1).holds d its
+            (lined_lock b tree m (n.held d) note.marks n.slot job may (same_mux ∙ on))
             ∙ sym (ap (λ (t : Bool). cond t (Some d) (switched_by past m)) on)
         by false off before =
             before c (lined_before m c n.slot (home_of_mux b m) b (n.held d) note.marks job may (same_mux ∙ off) failed kept_then)
@@ -192,26 +202,32 @@ module _ (b : BoardView) (tree : IsTree b) (plain : IsPlainBoard b) (lines : Lin
         same_purpose = ap (λ (w : Purpose). switches m w) (sym steps.0.2.3.for_purpose)
 
         kept_then : (after_job job left note.marks (Sent e bytes) n.slot (home_of_mux b m)).kept m ≡ Some c
-        kept_then = subst (λ (o : Option Act). ((sent_by b n d o note reading bytes e).slot (home_of_mux b m)).kept m ≡ Some c) steps.0.2.2 keeps
+        kept_then = subst (λ (o : Option Act). ((sent_by b n d o note reading bytes e).slot (home_of_mux b m)).kept m ≡ Some c) steps.0.2.2
+            keeps
 
-        by : (t : Bool) → switches m why ≡ t → ((x : ℕ) → KeptAfter past x → n.holder its ≡ switched_by past m) → n.holder its ≡ cond (switches m why) (Some d) (switched_by past m)
+        by : (t : Bool) → switches m why ≡ t → ((x : ℕ) → KeptAfter past x → n.holder its ≡ switched_by past m)
+            → n.holder its ≡ cond (switches m why) (Some d) (switched_by past m)
         by true on before =
-            (past-stands b tree plain lines asks some callers past steps.1).holds d its (sent_lock b tree m (n.held d) note.marks n.slot whose job left may (same_purpose ∙ on))
+            (past-stands b tree plain lines asks some callers past steps.1).holds d its
+            (sent_lock b tree m (n.held d) note.marks n.slot whose job left may (same_purpose ∙ on))
             ∙ sym (ap (λ (t : Bool). cond t (Some d) (switched_by past m)) on)
         by false off before =
-            before c (sent_before m c n.slot (home_of_mux b m) b (n.held d) note.marks whose job left may (same_purpose ∙ off) e bytes kept_then)
+            before c (sent_before m c n.slot (home_of_mux b m) b (n.held d) note.marks whose job left may (same_purpose
+            ∙ off) e bytes kept_then)
             ∙ sym (ap (λ (t : Bool). cond t (Some d) (switched_by past m)) off)
 
     switched-has : (past : List Entry) → IsStepwise b callers asks past → (c : ℕ) → KeptAfter past c
         → (caller : ℕ) × (switched_by past m ≡ Some caller) × (holder past its ≡ Some caller)
     switched-has past steps c keeps = by ((now b asks past).holder its) refl
       where
-        by : (o : Option ℕ) → (now b asks past).holder its ≡ o → (caller : ℕ) × (switched_by past m ≡ Some caller) × (holder past its ≡ Some caller)
+        by : (o : Option ℕ) → (now b asks past).holder its ≡ o
+            → (caller : ℕ) × (switched_by past m ≡ Some caller) × (holder past its ≡ Some caller)
         by None none = absurd (not_free past steps c keeps none)
         by (Some k) has = (k, sym (switched-holds past steps c keeps) ∙ has, sym (holder-told b asks past its) ∙ has)
 
   -- EACH MUX
-  keeps-channel : (past : List Entry) (m : ℕ) → IsStepwise b callers asks past → (((now b asks past).slot (home_of_mux b m)).slot ≡ Marked m → ⊥) → KeepsItsChannel b asks past m
+  keeps-channel : (past : List Entry) (m : ℕ) → IsStepwise b callers asks past
+      → (((now b asks past).slot (home_of_mux b m)).slot ≡ Marked m → ⊥) → KeepsItsChannel b asks past m
   keeps-channel past m steps unmarked =
       let told = (past-stands b tree plain lines asks some callers past steps).told.told in
       record {

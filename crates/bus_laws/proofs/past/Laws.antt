@@ -43,7 +43,8 @@ sent_holder b n c (Some (Send job left)) note reading bytes e l = refl
 sent_holder b n c (Some (Shift job)) note reading bytes e l = refl
 sent_holder b n c (Some (Settle verdict)) note reading bytes e l = refl
 
-pub lined_holder : (b : BoardView) (n : Now) (o : Option Act) (note : Note) (failed : Bool) (l : LockId) → (lined_by b n o note failed).holder l ≡ n.holder l
+pub lined_holder : (b : BoardView) (n : Now) (o : Option Act) (note : Note) (failed : Bool) (l : LockId)
+    → (lined_by b n o note failed).holder l ≡ n.holder l
 lined_holder b n None note failed l = refl
 lined_holder b n (Some (Take k)) note failed l = refl
 lined_holder b n (Some (Free k)) note failed l = refl
@@ -57,10 +58,12 @@ holder-told b asks [] l = refl
 holder-told b asks (entry.Take c k ∷ past) l = ap (λ (o : Option ℕ). cond (is_lock k l) (Some c) o) (holder-told b asks past l)
 holder-told b asks (entry.Free c k ∷ past) l = ap (λ (o : Option ℕ). cond (is_lock k l) None o) (holder-told b asks past l)
 holder-told b asks (entry.Message c bus purpose part parts addr reading bytes heard e ∷ past) l =
-    sent_holder b (now b asks past) c (first_act (current b asks (now b asks past) c)) (first_note (current b asks (now b asks past) c)) reading bytes e l
+    sent_holder b (now b asks past) c (first_act (current b asks (now b asks past) c))
+    (first_note (current b asks (now b asks past) c)) reading bytes e l
     ∙ holder-told b asks past l
 holder-told b asks (entry.Line c mux level failed ∷ past) l =
-    lined_holder b (now b asks past) (first_act (current b asks (now b asks past) c)) (first_note (current b asks (now b asks past) c)) failed l
+    lined_holder b (now b asks past) (first_act (current b asks (now b asks past) c))
+    (first_note (current b asks (now b asks past) c)) failed l
     ∙ holder-told b asks past l
 holder-told b asks (entry.Settle c r cut ∷ past) l = holder-told b asks past l
 
@@ -73,7 +76,8 @@ below_each b l (j ∷ js) k below i =
 pub nobody : TransferView
 nobody = record { bus = 0; kind = transfer_kind.Plain; force = false; msgs = []; out = [] }
 
-module _ (b : BoardView) (tree : IsTree b) (plain : IsPlainBoard b) (lines : LinesAreLocked b) (asks : Asks) (some : AsksForMessages asks) (callers : ℕ) where
+module _ (b : BoardView) (tree : IsTree b) (plain : IsPlainBoard b) (lines : LinesAreLocked b) (asks : Asks) (some : AsksForMessages asks)
+    (callers : ℕ) where
   -- THE INDUCTION over the entries
   pub past-stands : (past : List Entry) → IsStepwise b callers asks past → Stands b (now b asks past)
   past-stands [] steps = opening-stands b nobody
@@ -89,11 +93,13 @@ module _ (b : BoardView) (tree : IsTree b) (plain : IsPlainBoard b) (lines : Lin
     cur = current-stands b tree lines asks some n c (past-stands past steps)
 
     -- what the next message, and the next line step, finds
-    pub sends : (job : Job) (left : ℕ) → IsNext b asks n c (Send job left) → MaySend b cur.whose job left (first_note (current b asks n c)).marks (n.held c) n.slot
+    pub sends : (job : Job) (left : ℕ) → IsNext b asks n c (Send job left)
+        → MaySend b cur.whose job left (first_note (current b asks n c)).marks (n.held c) n.slot
     sends job left next =
         let at = first_is (current b asks n c) (Send job left) next in
         let runs : MaySend b cur.whose job left at.0.marks (n.held c) cur.view
-        × ((out : ActOutcome) → CanSend b job left out → Runs b cur.whose (n.held c) (after_job job left at.0.marks out cur.view) (at.1 out)) =
+        × ((out : ActOutcome) → CanSend b job left out
+        → Runs b cur.whose (n.held c) (after_job job left at.0.marks out cur.view) (at.1 out)) =
         subst (λ (w : WalkTree). Runs b cur.whose (n.held c) cur.view w) at.2 cur.runs in
         subst (λ (w : WalkTree). MaySend b cur.whose job left (first_note w).marks (n.held c) n.slot) (sym at.2)
         (send_known b (n.held c) cur.view n.slot cur.agree cur.whose job left at.0.marks runs.0)
@@ -116,7 +122,8 @@ module _ (b : BoardView) (tree : IsTree b) (plain : IsPlainBoard b) (lines : Lin
   locks_at (entry.Free c l) past stands may =
       let cur = current-stands b tree lines asks some (now b asks past) c stands in
       let at = first_is (current b asks (now b asks past) c) (Free l) may.2 in
-      let runs : (rest : List LockId) × ((now b asks past).held c ≡ l ∷ rest) × LeavesShut b l cur.view × Runs b cur.whose rest cur.view (at.1 Passed) =
+      let runs : (rest : List LockId) × ((now b asks past).held c ≡ l ∷ rest) × LeavesShut b l cur.view
+      × Runs b cur.whose rest cur.view (at.1 Passed) =
       subst (λ (w : WalkTree). Runs b cur.whose ((now b asks past).held c) cur.view w) at.2 cur.runs in
       sym (holder-told b asks past l) ∙ stands.holds c l (subst (λ (ls : List LockId). InLocks l ls) (sym runs.1) (inl refl))
   locks_at (entry.Message c bus purpose part parts addr reading bytes heard e) past stands may = tt
@@ -137,8 +144,10 @@ module _ (b : BoardView) (tree : IsTree b) (plain : IsPlainBoard b) (lines : Lin
       record {
         path_open = subst (λ (s : ℕ). list_all (opens_hop (world_at b asks past (root_of b s)).chips) (hops b s) ≡ true) (sym tells.on_bus)
             (path_open b tree plain (now b asks past).slot (now b asks past).worlds stands.told (job_bus job) (λ g a. (may.reached g a).0));
-        heard_told = subst (λ (s : ℕ). HearsIn (world_at b asks past (root_of b s)) addr reading heard e) (sym tells.on_bus) tells.heard_told;
-        rooted = subst (λ (s : ℕ). holder past (lock.Bus (root_of b s)) ≡ Some c) (sym tells.on_bus) (has (lock.Bus (root_of b (job_bus job))) may.rooted);
+        heard_told = subst (λ (s : ℕ). HearsIn (world_at b asks past (root_of b s)) addr reading heard e)
+            (sym tells.on_bus) tells.heard_told;
+        rooted = subst (λ (s : ℕ). holder past (lock.Bus (root_of b s)) ≡ Some c) (sym tells.on_bus)
+            (has (lock.Bus (root_of b (job_bus job))) may.rooted);
         locked = subst (λ (s : ℕ). (q : ℕ) → IsOver b q s → (q ≡ s → ⊥) → holder past (lock.Mux q) ≡ Some c) (sym tells.on_bus)
             (λ q on_path other. on_its_path q (job_bus job) on_path other (λ g a. has (lock.Mux g.on) (may.reached g a).1));
       }
@@ -150,17 +159,31 @@ module _ (b : BoardView) (tree : IsTree b) (plain : IsPlainBoard b) (lines : Lin
       job = steps.0.2.0
 
       tells : TellsMessage b (now b asks past) job steps.0.2.1
-          (record { caller = c; bus = bus; purpose = purpose; part = part; parts = parts; addr = addr; reading = reading; bytes = bytes; heard = heard; end = e })
+          (record {
+            caller = c;
+            bus = bus;
+            purpose = purpose;
+            part = part;
+            parts = parts;
+            addr = addr;
+            reading = reading;
+            bytes = bytes;
+            heard = heard;
+            end = e;
+          })
       tells = steps.0.2.3
 
-      may : MaySend b (cur past steps.1 c).whose job steps.0.2.1 (first_note (current b asks (now b asks past) c)).marks ((now b asks past).held c) (now b asks past).slot
+      may : MaySend b (cur past steps.1 c).whose job steps.0.2.1 (first_note (current b asks (now b asks past) c)).marks
+          ((now b asks past).held c) (now b asks past).slot
       may = sends past steps.1 c job steps.0.2.1 steps.0.2.2
 
-      on_its_path : (q s : ℕ) → IsOver b q s → (q ≡ s → ⊥) → ((g : Hop) → IsAmongHops g (hops b s) → holder past (lock.Mux g.on) ≡ Some c) → holder past (lock.Mux q) ≡ Some c
+      on_its_path : (q s : ℕ) → IsOver b q s → (q ≡ s → ⊥) → ((g : Hop) → IsAmongHops g (hops b s) → holder past (lock.Mux g.on) ≡ Some c)
+          → holder past (lock.Mux q) ≡ Some c
       on_its_path q s on_path other locked =
           elim on_path [
             | inl same ↦ absurd (other same)
-            | inr crossed ↦ (let g = crossing_hop q (hops b s) crossed in subst (λ (p : ℕ). holder past (lock.Mux p) ≡ Some c) g.2 (locked g.0 g.1))
+            | inr crossed ↦ (let g = crossing_hop q (hops b s) crossed in
+                subst (λ (p : ℕ). holder past (lock.Mux p) ≡ Some c) g.2 (locked g.0 g.1))
           ]
 
       -- what the caller counts among its locks it has

@@ -69,11 +69,13 @@ by_tests false false = refl
 
 pub answer-heard : (w : World) (a : ℕ) (reading : Bool) → has_heard (world_answer w a reading) ≡ not (is_empty (hearers w a reading))
 answer-heard w a reading =
-    by_tests (some_answer is_slow (start_chips w a reading ++ start_devices w a reading)) (some_answer is_ack (start_chips w a reading ++ start_devices w a reading))
+    by_tests (some_answer is_slow (start_chips w a reading ++ start_devices w a reading))
+    (some_answer is_ack (start_chips w a reading ++ start_devices w a reading))
     ∙ sym (some_heard (start_chips w a reading ++ start_devices w a reading))
     ∙ some_answer-append has_heard (start_chips w a reading) (start_devices w a reading)
     ∙ ap (λ (t : Bool). t || some_answer has_heard (start_devices w a reading)) (some_listed node.Chip (start_chips w a reading))
-    ∙ ap (λ (t : Bool). not (is_empty (heard_of node.Chip (start_chips w a reading))) || t) (some_listed node.Device (start_devices w a reading))
+    ∙ ap (λ (t : Bool). not (is_empty (heard_of node.Chip (start_chips w a reading))) || t)
+    (some_listed node.Device (start_devices w a reading))
     ∙ sym (joined_lists (heard_of node.Chip (start_chips w a reading)) (heard_of node.Device (start_devices w a reading)))
 
 -- WHO HEARS, where an address leads to one device
@@ -82,7 +84,8 @@ either d true = refl
 either d false = refl
 
 listed_at : (reading : Bool) (d : ℕ) (o : Option TargetState)
-    → listening (cond (has_heard (option_map_or (λ (x : TargetState). state_answer x (event.Start reading)) o answer.Nothing)) (Some d) None)
+    → listening (cond (has_heard (option_map_or (λ (x : TargetState). state_answer x (event.Start reading)) o answer.Nothing))
+    (Some d) None)
     ≡ heard_list (cond (starts o reading) (Some (node.Device d)) None)
 listed_at reading d None = refl
 listed_at reading d (Some x) = either d (has_heard (state_answer x (event.Start reading)))
@@ -101,25 +104,30 @@ heard_next : (b : BoardView) (w : World) (bus : ℕ) (force : Bool) (addr : ℕ)
 heard_next b w bus force addr reading leads =
     leads-hearers w addr (granted_on b bus force addr) leads reading ∙ listed w reading (granted_on b bus force addr)
 
-answered_next : (w : World) (addr : ℕ) (reading : Bool) (o : Option Node) → hearers w addr reading ≡ heard_list o → has_heard (world_answer w addr reading) ≡ is_some o
+answered_next : (w : World) (addr : ℕ) (reading : Bool) (o : Option Node) → hearers w addr reading ≡ heard_list o
+    → has_heard (world_answer w addr reading) ≡ is_some o
 answered_next w addr reading o heard = answer-heard w addr reading ∙ ap (λ (xs : List Node). not (is_empty xs)) heard ∙ some_list o
 
 -- THE NEXT MESSAGE
-pub call-reaches : (b : BoardView) → IsTree b → IsPlainBoard b → LinesAreLocked b → (asks : Asks) → AsksForMessages asks → (callers : ℕ) (past : List Entry) → IsStepwise b callers asks past
+pub call-reaches : (b : BoardView) → IsTree b → IsPlainBoard b → LinesAreLocked b → (asks : Asks) → AsksForMessages asks
+    → (callers : ℕ) (past : List Entry) → IsStepwise b callers asks past
     → (c bus : ℕ) (messages : List MessageView) (left : ℕ) → IsNext b asks (now b asks past) c (Send (Call bus messages) left)
     → WillReach b asks (now b asks past) c bus messages left
 call-reaches b tree plain lines asks some callers past steps c bus messages left first =
-    let told : CallNext b asks (now b asks past) c bus messages left = call-next b tree plain lines asks some callers past steps c bus messages left first in
+    let told : CallNext b asks (now b asks past) c bus messages left =
+    call-next b tree plain lines asks some callers past steps c bus messages left first in
     let m : MessageView = message_of b (Call bus messages) left in
     let w : World = (now b asks past).worlds (root_of b bus) in
-    let heard : hearers w m.addr m.reading ≡ heard_list (who_hears b w bus told.whose.force m.addr m.reading) = heard_next b w bus told.whose.force m.addr m.reading told.leads in
+    let heard : hearers w m.addr m.reading ≡ heard_list (who_hears b w bus told.whose.force m.addr m.reading) =
+    heard_next b w bus told.whose.force m.addr m.reading told.leads in
     record {
       transfer = told.whose;
       asked = told.asked;
       on_bus = sym told.call.same_bus;
       whole = sym told.call.same_messages;
       not_refused = told.call.not_refused;
-      there = subst (λ (s : ℕ). s < buses b) (sym told.call.same_bus) (ltb-true told.whose.bus (buses b) (refusal-none b told.whose told.call.not_refused).0);
+      there = subst (λ (s : ℕ). s < buses b) (sym told.call.same_bus)
+          (ltb-true told.whose.bus (buses b) (refusal-none b told.whose told.call.not_refused).0);
       heard = heard;
       answered = answered_next w m.addr m.reading (who_hears b w bus told.whose.force m.addr m.reading) heard;
     }
@@ -129,7 +137,8 @@ chip_list : (m : ℕ) (absent : Bool) → cond (not absent) (node.Chip m ∷ [])
 chip_list m true = refl
 chip_list m false = refl
 
-pub control-switches : (b : BoardView) → IsTree b → IsPlainBoard b → LinesAreLocked b → (asks : Asks) → AsksForMessages asks → (callers : ℕ) (past : List Entry) → IsStepwise b callers asks past
+pub control-switches : (b : BoardView) → IsTree b → IsPlainBoard b → LinesAreLocked b → (asks : Asks) → AsksForMessages asks
+    → (callers : ℕ) (past : List Entry) → IsStepwise b callers asks past
     → (c : ℕ) (job : Job) (left m : ℕ) → job_purpose job ≡ purpose.Control m → IsNext b asks (now b asks past) c (Send job left)
     → WillSwitch b (now b asks past) job left m
 control-switches b tree plain lines asks some callers past steps c job left m is first =

@@ -20,7 +20,8 @@ use Rattle.bus_laws.proofs.past.StandsEntries.{first_is}
 use Rattle.bus_laws.specs.Next.{HasLineIn}
 
 module _ (b : BoardView) (tree : IsTree b) where
-  line_fits : (job : Job) (v : Slots) → is_line job ≡ true → Finds b job zero v → HasLineIn b (root_of b (job_bus job)) (line_mux job) (line_level job)
+  line_fits : (job : Job) (v : Slots) → is_line job ≡ true → Finds b job zero v
+      → HasLineIn b (root_of b (job_bus job)) (line_mux job) (line_level job)
   line_fits (Call bus messages) v is finds = absurd (let f : false ≡ true = is in cc)
   line_fits (SwitchOff off) v is finds =
       record {
@@ -35,13 +36,16 @@ module _ (b : BoardView) (tree : IsTree b) where
       record {
         is_gpio = hop.kind ∙ ap (λ (k : MuxKind). Some k) gpio;
         on_root = ap (root_of b) hop.home;
-        within = subst (λ (k : MuxKind). line_level (Select (record h { kind = k })) ≤ of_mux (λ m. m.channels) 0 b h.mux) (sym gpio) (omega (arith, low));
+        within = subst (λ (k : MuxKind). line_level (Select (record h { kind = k })) ≤ of_mux (λ m. m.channels) 0 b h.mux) (sym gpio)
+            (omega (arith, low));
       }
 
-  pub next-line : LinesAreLocked b → (asks : Asks) → AsksForMessages asks → (n : Now) → Stands b n → (c : ℕ) (job : Job) → first_act (current b asks n c) ≡ Some (Shift job)
+  pub next-line : LinesAreLocked b → (asks : Asks) → AsksForMessages asks → (n : Now) → Stands b n → (c : ℕ) (job : Job)
+      → first_act (current b asks n c) ≡ Some (Shift job)
       → HasLineIn b (root_of b (job_bus job)) (line_mux job) (line_level job)
   next-line lines asks some n stands c job first =
       let cur = current-stands b tree lines asks some n c stands in
       let at = first_is (current b asks n c) (Shift job) first in
-      let runs : Runs b cur.whose (n.held c) cur.view (Then (Shift job) at.0 at.1) = subst (λ (w : WalkTree). Runs b cur.whose (n.held c) cur.view w) at.2 cur.runs in
+      let runs : Runs b cur.whose (n.held c) cur.view (Then (Shift job) at.0 at.1) = subst
+      (λ (w : WalkTree). Runs b cur.whose (n.held c) cur.view w) at.2 cur.runs in
       line_fits job cur.view runs.0.by_line runs.0.finds

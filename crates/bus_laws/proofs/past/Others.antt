@@ -16,7 +16,8 @@ use Rattle.bus_laws.proofs.past.Asked.{sent_settled, lined_settled}
 use Rattle.bus_laws.specs.Others.{CallerTold}
 
 -- what a message leaves of what another has read
-sent_got : (b : BoardView) (n : Now) (d : ℕ) (o : Option Act) (note : Note) (reading : Bool) (bytes : List ℕ) (e : End) (c : ℕ) → (c ≡ d → ⊥)
+sent_got : (b : BoardView) (n : Now) (d : ℕ) (o : Option Act) (note : Note) (reading : Bool) (bytes : List ℕ) (e : End) (c : ℕ)
+    → (c ≡ d → ⊥)
     → (sent_by b n d o note reading bytes e).got c ≡ n.got c
 sent_got b n d None note reading bytes e c other = refl
 sent_got b n d (Some (Take l)) note reading bytes e c other = refl
@@ -40,7 +41,8 @@ pub record IsUntouched (n m : Now) (c : ℕ) : Type 0 where
   pub reads : m.got c ≡ n.got c
   pub cuts : m.cut c ≡ n.cut c
 
-pub entry-elsewhere : (b : BoardView) (asks : Asks) (n : Now) (e : Entry) (c : ℕ) → (c ≡ caller_of e → ⊥) → IsUntouched n (step b asks n e) c
+pub entry-elsewhere : (b : BoardView) (asks : Asks) (n : Now) (e : Entry) (c : ℕ) → (c ≡ caller_of e → ⊥)
+    → IsUntouched n (step b asks n e) c
 entry-elsewhere b asks n (entry.Take d l) c other =
     record {
       walks = at_other n.walk d (rest_of (current b asks n d) Passed) c other;
@@ -81,7 +83,8 @@ entry-elsewhere b asks n (entry.Settle d r at) c other =
       cuts = at_other n.cut d (cut_told (entry.Settle d r at)) c other;
     }
 
-pub others-stay : (b : BoardView) (asks : Asks) (n : Now) (e : Entry) (c : ℕ) (w : WalkTree) (replies : List Reply) (got : List ℕ) (cut : Cut) → (c ≡ caller_of e → ⊥)
+pub others-stay : (b : BoardView) (asks : Asks) (n : Now) (e : Entry) (c : ℕ) (w : WalkTree) (replies : List Reply) (got : List ℕ)
+    (cut : Cut) → (c ≡ caller_of e → ⊥)
     → CallerTold b asks n c w replies got cut → CallerTold b asks (step b asks n e) c w replies got cut
 others-stay b asks n e c w replies got cut other told =
     let same : IsUntouched n (step b asks n e) c = entry-elsewhere b asks n e c other in

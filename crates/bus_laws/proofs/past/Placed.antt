@@ -64,8 +64,13 @@ goes_decided note (Call bus ms) zero out w e = inr (verdict_of (Call bus ms) zer
 goes_decided note (Call bus ms) (suc left) out w e = by_on (is_on (goes (Call bus ms) left out)) refl
   where
     by_on : (t : Bool) → is_on (goes (Call bus ms) left out) ≡ t → Decided w
-    by_on true on = inl (sends_next w (Call bus ms) left (e ∙ ap (λ (t : Bool). Some (cond t (Send (Call bus ms) left) (Settle (verdict_of (Call bus ms) (suc left) out)))) on))
-    by_on false off = inr (verdict_of (Call bus ms) (suc left) out, e ∙ ap (λ (t : Bool). Some (cond t (Send (Call bus ms) left) (Settle (verdict_of (Call bus ms) (suc left) out)))) off)
+    by_on true on = inl (sends_next w (Call bus ms) left (e
+        ∙ ap (λ (t : Bool). Some (cond t (Send (Call bus ms) left) (Settle (verdict_of (Call bus ms) (suc left) out)))) on))
+    by_on false off = inr (
+      verdict_of (Call bus ms) (suc left) out,
+      e
+          ∙ ap (λ (t : Bool). Some (cond t (Send (Call bus ms) left) (Settle (verdict_of (Call bus ms) (suc left) out)))) off,
+    )
 goes_decided note (Select h) left out w e = decided_so note (Select h) left out w e
 goes_decided note (SwitchOff off) left out w e = decided_so note (SwitchOff off) left out w e
 
@@ -76,7 +81,8 @@ AreDue n = (c : ℕ) → (n.due ≡ Some c) ⊎ NoSettle (n.walk c)
 not_due : (c : ℕ) (o : Option ℕ) (w : WalkTree) → o ≡ None → (o ≡ Some c) ⊎ NoSettle w → NoSettle w
 not_due c o w none either = elim either [ inl due ↦ absurd (let f : None ≡ Some c = sym none ∙ due in cc) | inr h ↦ h ]
 
-module _ (b : BoardView) (asks : Asks) (some : AsksForMessages asks) (callers : ℕ) (past : List Entry) (steps : IsStepwise b callers asks past) where
+module _ (b : BoardView) (asks : Asks) (some : AsksForMessages asks) (callers : ℕ) (past : List Entry)
+    (steps : IsStepwise b callers asks past) where
   abbrev n : Now
   n = now b asks past
 
@@ -85,7 +91,8 @@ module _ (b : BoardView) (asks : Asks) (some : AsksForMessages asks) (callers : 
 
   -- what is left of a walk settles as the whole
   pub rest_settles : (d : ℕ) (act : Act) (first : IsNext b asks n d act)
-      → (note : Note) × (next : ActOutcome → WalkTree) × (current b asks n d ≡ Then act note next) × Settles (asked d).done (Then act note next)
+      → (note : Note) × (next : ActOutcome → WalkTree) × (current b asks n d ≡ Then act note next)
+      × Settles (asked d).done (Then act note next)
   rest_settles d act first =
       let at = first_is (current b asks n d) act first in
       (at.0, at.1, at.2, subst (λ (w : WalkTree). Settles (asked d).done w) at.2 (asked d).settles)
@@ -140,14 +147,21 @@ module _ (b : BoardView) (asks : Asks) (some : AsksForMessages asks) (callers : 
         ])
         (let r = rest_settles d (Settle may.2) may.3 in rest_is d (Settle may.2) r.0 r.1 Passed NoSettle r.2 r.3.1) c)
     step_due (entry.Line d mux level failed) may =
-        subst (λ (o : Option Act). AreDue (with_due d (moved b asks n (lined_by b n o (first_note (current b asks n d)) failed) d (entry.Line d mux level failed) (Lined failed)))) (sym may.2.1)
+        subst (λ (o : Option Act). AreDue
+        (with_due d (moved b asks n (lined_by b n o (first_note (current b asks n d)) failed) d (entry.Line d mux level failed)
+        (Lined failed)))) (sym may.2.1)
         (λ c. bus_step d (Lined failed) may.1
-        (let r = rest_settles d (Shift may.2.0) may.2.1 in rest_is d (Shift may.2.0) r.0 r.1 (Lined failed) Decided r.2 (decided_so r.0 may.2.0 zero (Lined failed) (r.1 (Lined failed)) (r.3 failed).0)) c)
+        (let r = rest_settles d (Shift may.2.0) may.2.1 in
+        rest_is d (Shift may.2.0) r.0 r.1 (Lined failed) Decided r.2
+        (decided_so r.0 may.2.0 zero (Lined failed) (r.1 (Lined failed)) (r.3 failed).0)) c)
     step_due (entry.Message d bus purpose part parts addr reading bytes heard e) may =
-        subst (λ (o : Option Act). AreDue (with_due d (moved b asks n (sent_by b n d o (first_note (current b asks n d)) reading bytes e) d (entry.Message d bus purpose part parts addr reading bytes heard e) (Sent e bytes)))) (sym may.2.2)
+        subst (λ (o : Option Act). AreDue
+        (with_due d (moved b asks n (sent_by b n d o (first_note (current b asks n d)) reading bytes e) d
+        (entry.Message d bus purpose part parts addr reading bytes heard e) (Sent e bytes)))) (sym may.2.2)
         (λ c. bus_step d (Sent e bytes) may.1
         (let r = rest_settles d (Send may.2.0 may.2.1) may.2.2 in
-        rest_is d (Send may.2.0 may.2.1) r.0 r.1 (Sent e bytes) Decided r.2 (goes_decided r.0 may.2.0 may.2.1 (Sent e bytes) (r.1 (Sent e bytes)) (r.3.1 e bytes).0)) c)
+        rest_is d (Send may.2.0 may.2.1) r.0 r.1 (Sent e bytes) Decided r.2
+        (goes_decided r.0 may.2.0 may.2.1 (Sent e bytes) (r.1 (Sent e bytes)) (r.3.1 e bytes).0)) c)
 
 -- each caller's cut is that of its last entry
 module _ (b : BoardView) (asks : Asks) where
@@ -182,10 +196,12 @@ pub record IsDueBehind (b : BoardView) (callers : ℕ) (asks : Asks) (past : Lis
   pub verdict : Option Errno
   pub settles : first_act ((now b asks past).walk c) ≡ Some (Settle verdict)
 
-settle_due : (w : WalkTree) (d c : ℕ) → cond (is_due (first_act w)) (Some d) None ≡ Some c → (d ≡ c) × (verdict : Option Errno) × (first_act w ≡ Some (Settle verdict))
+settle_due : (w : WalkTree) (d c : ℕ) → cond (is_due (first_act w)) (Some d) None ≡ Some c
+    → (d ≡ c) × (verdict : Option Errno) × (first_act w ≡ Some (Settle verdict))
 settle_due w d c due = by (first_act w) refl
   where
-    none : (o : Option Act) → first_act w ≡ o → is_due o ≡ false → (d ≡ c) × (verdict : Option Errno) × (first_act w ≡ Some (Settle verdict))
+    none : (o : Option Act) → first_act w ≡ o → is_due o ≡ false
+        → (d ≡ c) × (verdict : Option Errno) × (first_act w ≡ Some (Settle verdict))
     none o e quiet = absurd (let f : None ≡ Some c = sym (ap (λ (x : Bool). cond x (Some d) None) (ap is_due e ∙ quiet)) ∙ due in cc)
 
     by : (o : Option Act) → first_act w ≡ o → (d ≡ c) × (verdict : Option Errno) × (first_act w ≡ Some (Settle verdict))
@@ -194,7 +210,8 @@ settle_due w d c due = by (first_act w) refl
     by (Some (Free l)) e = none (Some (Free l)) e refl
     by (Some (Send job left)) e = none (Some (Send job left)) e refl
     by (Some (Shift job)) e = none (Some (Shift job)) e refl
-    by (Some (Settle verdict)) e = ((let f : Some d ≡ Some c = sym (ap (λ (o : Option Act). cond (is_due o) (Some d) None) e) ∙ due in cc), verdict, e)
+    by (Some (Settle verdict)) e =
+        ((let f : Some d ≡ Some c = sym (ap (λ (o : Option Act). cond (is_due o) (Some d) None) e) ∙ due in cc), verdict, e)
 
 module _ (b : BoardView) (asks : Asks) (some : AsksForMessages asks) (callers : ℕ) where
   -- THE INDUCTION
@@ -203,7 +220,8 @@ module _ (b : BoardView) (asks : Asks) (some : AsksForMessages asks) (callers : 
   past-due (e ∷ past) steps = step_due b asks some callers past steps.1 (past-due past steps.1) e steps.0
 
   -- whose settle is due made the last entry, on the bus, and settles next
-  pub due-made : (past : List Entry) (c : ℕ) → IsStepwise b callers asks past → (now b asks past).due ≡ Some c → IsDueBehind b callers asks past c
+  pub due-made : (past : List Entry) (c : ℕ) → IsStepwise b callers asks past → (now b asks past).due ≡ Some c
+      → IsDueBehind b callers asks past c
   due-made [] c steps due = absurd (let f : None ≡ Some c = due in cc)
   due-made (entry.Take d l ∷ past) c steps due = absurd (let f : None ≡ Some c = sym steps.0.1 ∙ due in cc)
   due-made (entry.Free d l ∷ past) c steps due = absurd (let f : None ≡ Some c = sym steps.0.1 ∙ due in cc)
@@ -219,7 +237,8 @@ module _ (b : BoardView) (asks : Asks) (some : AsksForMessages asks) (callers : 
         none_before = steps.0.1;
         known = subst (λ (i : ℕ). i < callers) next.0 steps.0.0;
         verdict = next.1;
-        settles = subst (λ (i : ℕ). first_act ((now b asks (entry.Line d mux level failed ∷ past)).walk i) ≡ Some (Settle next.1)) next.0 next.2;
+        settles = subst (λ (i : ℕ). first_act ((now b asks (entry.Line d mux level failed ∷ past)).walk i) ≡ Some (Settle next.1)) next.0
+            next.2;
       }
   due-made (entry.Message d bus purpose part parts addr reading bytes heard e ∷ past) c steps due =
       let next = settle_due ((now b asks (entry.Message d bus purpose part parts addr reading bytes heard e ∷ past)).walk d) d c due in
@@ -232,7 +251,9 @@ module _ (b : BoardView) (asks : Asks) (some : AsksForMessages asks) (callers : 
         none_before = steps.0.1;
         known = subst (λ (i : ℕ). i < callers) next.0 steps.0.0;
         verdict = next.1;
-        settles = subst (λ (i : ℕ). first_act ((now b asks (entry.Message d bus purpose part parts addr reading bytes heard e ∷ past)).walk i) ≡ Some (Settle next.1)) next.0 next.2;
+        settles = subst (λ (i : ℕ). first_act
+            ((now b asks (entry.Message d bus purpose part parts addr reading bytes heard e ∷ past)).walk i) ≡ Some (Settle next.1)) next.0
+            next.2;
       }
 
   due_behind : (past : List Entry) (c : ℕ) → IsStepwise b callers asks past → (now b asks past).due ≡ Some c → IsDirectlyBehind c past
@@ -241,7 +262,8 @@ module _ (b : BoardView) (asks : Asks) (some : AsksForMessages asks) (callers : 
       subst (λ (p : List Entry). IsDirectlyBehind c p) (sym made.past_is) (made.own, made.stepping)
 
   -- WHERE A SETTLE STANDS
-  module _ (past : List Entry) (steps : IsStepwise b callers asks past) (c : ℕ) (verdict : Option Errno) (next : IsNext b asks (now b asks past) c (Settle verdict)) where
+  module _ (past : List Entry) (steps : IsStepwise b callers asks past) (c : ℕ) (verdict : Option Errno)
+      (next : IsNext b asks (now b asks past) c (Settle verdict)) where
     own : IsAsked b asks c (current b asks (now b asks past) c) ((now b asks past).settled c)
     own = current-asked b asks some (now b asks past) (past-asked b asks some callers past steps) c
 
@@ -266,21 +288,26 @@ module _ (b : BoardView) (asks : Asks) (some : AsksForMessages asks) (callers : 
 
         by_over : (t : Bool) → is_over ((now b asks past).walk c) ≡ t → IsDirectlyBehind c past
         by_over true over =
-            never (starts_seen (now b asks past).slot (cond (is_over ((now b asks past).walk c)) (begun b (asks c ((now b asks past).settled c))) ((now b asks past).walk c))
+            never (starts_seen (now b asks past).slot
+            (cond (is_over ((now b asks past).walk c)) (begun b (asks c ((now b asks past).settled c))) ((now b asks past).walk c))
             (subst (λ (t : Bool). NoSettle (cond t (begun b (asks c ((now b asks past).settled c))) ((now b asks past).walk c))) (sym over)
             (begins (asks c ((now b asks past).settled c)) refl accepted)))
         by_over false over =
             elim (past-due past steps c) [
               | inl due ↦ due_behind past c steps due
-              | inr h ↦ never (starts_seen (now b asks past).slot (cond (is_over ((now b asks past).walk c)) (begun b (asks c ((now b asks past).settled c))) ((now b asks past).walk c))
-                  (subst (λ (t : Bool). NoSettle (cond t (begun b (asks c ((now b asks past).settled c))) ((now b asks past).walk c))) (sym over) h))
+              | inr h ↦ never (starts_seen (now b asks past).slot
+                  (cond (is_over ((now b asks past).walk c)) (begun b (asks c ((now b asks past).settled c))) ((now b asks past).walk c))
+                  (subst (λ (t : Bool). NoSettle (cond t (begun b (asks c ((now b asks past).settled c))) ((now b asks past).walk c)))
+                  (sym over) h))
             ]
 
     pub settle_placed : IsPlaced b (asks c (replies past c)) c past
     settle_placed =
-        subst (λ (o : Option TransferView). IsPlaced b o c past) (sym (ap (λ (rs : List Reply). asks c rs) (sym (settled-told b asks past c)) ∙ is_asked)) placed
+        subst (λ (o : Option TransferView). IsPlaced b o c past)
+        (sym (ap (λ (rs : List Reply). asks c rs) (sym (settled-told b asks past c)) ∙ is_asked)) placed
 
-  settle_at : (e : Entry) (past : List Entry) → IsStepwise b callers asks past → May b callers asks (now b asks past) e → SettleAt b asks e past
+  settle_at : (e : Entry) (past : List Entry) → IsStepwise b callers asks past → May b callers asks (now b asks past) e
+      → SettleAt b asks e past
   settle_at (entry.Take c l) past steps may = tt
   settle_at (entry.Free c l) past steps may = tt
   settle_at (entry.Message c bus purpose part parts addr reading bytes heard e) past steps may = tt

@@ -25,7 +25,8 @@ use Rattle.bus_laws.proofs.past.StandsEntries.{first_is}
 use Rattle.bus_laws.proofs.past.Laws.{past-stands, holder-told, below_each}
 
 -- whoever has a lock is one of the callers
-pub holders_known : (b : BoardView) (callers : ℕ) (asks : Asks) (past : List Entry) → IsStepwise b callers asks past → (l : LockId) (c : ℕ) → holder past l ≡ Some c → c < callers
+pub holders_known : (b : BoardView) (callers : ℕ) (asks : Asks) (past : List Entry) → IsStepwise b callers asks past → (l : LockId) (c : ℕ)
+    → holder past l ≡ Some c → c < callers
 holders_known b callers asks [] steps l c has = absurd (let f : None ≡ Some c = has in cc)
 holders_known b callers asks (entry.Take d k ∷ past) steps l c has =
     by_lock (λ h. holders_known b callers asks past steps.1 l c h) (is_lock k l) has
@@ -39,7 +40,8 @@ holders_known b callers asks (entry.Free d k ∷ past) steps l c has =
     by_lock : (holder past l ≡ Some c → c < callers) → (t : Bool) → cond t None (holder past l) ≡ Some c → c < callers
     by_lock earlier true e = absurd (let f : None ≡ Some c = e in cc)
     by_lock earlier false e = earlier e
-holders_known b callers asks (entry.Message d bus purpose part parts addr reading bytes heard e ∷ past) steps l c has = holders_known b callers asks past steps.1 l c has
+holders_known b callers asks (entry.Message d bus purpose part parts addr reading bytes heard e ∷ past) steps l c has =
+    holders_known b callers asks past steps.1 l c has
 holders_known b callers asks (entry.Line d mux level failed ∷ past) steps l c has = holders_known b callers asks past steps.1 l c has
 holders_known b callers asks (entry.Settle d r cut ∷ past) steps l c has = holders_known b callers asks past steps.1 l c has
 
@@ -64,7 +66,8 @@ waits (Send job left) = inr (λ l e. let f : Send job left ≡ Take l = e in cc)
 waits (Shift job) = inr (λ l e. let f : Shift job ≡ Take l = e in cc)
 waits (Settle verdict) = inr (λ l e. let f : Settle verdict ≡ Take l = e in cc)
 
-module _ (b : BoardView) (tree : IsTree b) (plain : IsPlainBoard b) (lines : LinesAreLocked b) (asks : Asks) (some : AsksForMessages asks) (callers : ℕ)
+module _ (b : BoardView) (tree : IsTree b) (plain : IsPlainBoard b) (lines : LinesAreLocked b) (asks : Asks) (some : AsksForMessages asks)
+    (callers : ℕ)
     (past : List Entry) (steps : IsStepwise b callers asks past) where
   abbrev n : Now
   n = now b asks past
@@ -76,7 +79,8 @@ module _ (b : BoardView) (tree : IsTree b) (plain : IsPlainBoard b) (lines : Lin
   holder_acts : (d : ℕ) (l : LockId) → InLocks l (n.held d) → (act : Act) × IsNext b asks n d act
   holder_acts d l i =
       elim (act_or_end n.slot (cond (is_over (n.walk d)) (begun b (asks d (n.settled d))) (n.walk d))) [
-        | inl over ↦ absurd (subst (λ (ls : List LockId). InLocks l ls) (subst (λ (w : WalkTree). Runs b cur.whose (n.held d) cur.view w) over cur.runs) i)
+        | inl over ↦ absurd (subst (λ (ls : List LockId). InLocks l ls)
+            (subst (λ (w : WalkTree). Runs b cur.whose (n.held d) cur.view w) over cur.runs) i)
         | inr acts ↦ acts
       ]
     where
@@ -88,7 +92,8 @@ module _ (b : BoardView) (tree : IsTree b) (plain : IsPlainBoard b) (lines : Lin
   takes-below d k next =
       let cur : CallerStands b (n.held d) (current b asks n d) n.slot = current-stands b tree lines asks some n d stands in
       let at = first_is (current b asks n d) (Take k) next in
-      let runs : IsBelow b k (n.held d) × ((s : At) → RestOf b k s → Runs b cur.whose (k ∷ n.held d) (taken_slots k s cur.view) (at.1 Passed)) =
+      let runs : IsBelow b k (n.held d)
+      × ((s : At) → RestOf b k s → Runs b cur.whose (k ∷ n.held d) (taken_slots k s cur.view) (at.1 Passed)) =
       subst (λ (w : WalkTree). Runs b cur.whose (n.held d) cur.view w) at.2 cur.runs in
       runs.0
 
@@ -110,7 +115,8 @@ module _ (b : BoardView) (tree : IsTree b) (plain : IsPlainBoard b) (lines : Lin
           absurd (omega (arith, below))
 
   -- THE INDUCTION: `fuel` is above the rank of what is waited for
-  someone : (fuel c : ℕ) (act : Act) → c < callers → IsNext b asks n c act → ((l : LockId) → act ≡ Take l → rank b l < fuel) → (d : ℕ) × IsFree b callers asks past d
+  someone : (fuel c : ℕ) (act : Act) → c < callers → IsNext b asks n c act → ((l : LockId) → act ≡ Take l → rank b l < fuel)
+      → (d : ℕ) × IsFree b callers asks past d
   someone zero c act known next above =
       elim (waits act) [
         | inl waiting ↦ absurd (let f : rank b waiting.0 < 0 = above waiting.0 waiting.1 in omega (arith, f))
@@ -122,7 +128,8 @@ module _ (b : BoardView) (tree : IsTree b) (plain : IsPlainBoard b) (lines : Lin
         | inr free ↦ (c, record { known = known; act = act; next = next; free = λ l e. absurd (free l e) })
       ]
     where
-      by_holder : ((d : ℕ) (a : Act) → d < callers → IsNext b asks n d a → ((l : LockId) → a ≡ Take l → rank b l < fuel) → (i : ℕ) × IsFree b callers asks past i)
+      by_holder : ((d : ℕ) (a : Act) → d < callers → IsNext b asks n d a → ((l : LockId) → a ≡ Take l → rank b l < fuel)
+          → (i : ℕ) × IsFree b callers asks past i)
           → (l : LockId) → act ≡ Take l → (o : Option ℕ) → n.holder l ≡ o → (i : ℕ) × IsFree b callers asks past i
       by_holder later l e None none = (
         c,
@@ -131,7 +138,8 @@ module _ (b : BoardView) (tree : IsTree b) (plain : IsPlainBoard b) (lines : Lin
           act = act;
           next = next;
           free = λ k f.
-              subst (λ (x : LockId). holder past x ≡ None) (let g : Take l ≡ Take k = sym e ∙ f in cc) (sym (holder-told b asks past l) ∙ none);
+              subst (λ (x : LockId). holder past x ≡ None) (let g : Take l ≡ Take k = sym e ∙ f in cc) (sym (holder-told b asks past l)
+              ∙ none);
         },
       )
       by_holder later l e (Some d) has =
@@ -165,7 +173,8 @@ module _ (b : BoardView) (tree : IsTree b) (plain : IsPlainBoard b) (lines : Lin
             | inr h ↦ finished c (let ne : c ≡ count → ⊥ = h.1 in omega (arith, below, ne))
           ])
       by_next finished (Some act) next =
-          inr (someone (highest act) count act (omega (arith, within)) next (λ l e. subst (λ (a : Act). rank b l < highest a) (sym e) (omega arith)))
+          inr (someone (highest act) count act (omega (arith, within)) next
+          (λ l e. subst (λ (a : Act). rank b l < highest a) (sym e) (omega arith)))
 
   pub some-free : ((c : ℕ) → c < callers → HasFinished b asks past c) ⊎ ((c : ℕ) × IsFree b callers asks past c)
   some-free = look callers (omega arith)

@@ -30,7 +30,8 @@ use Rattle.bus_laws.proofs.past.StandsFacts.{current-stands}
 use Rattle.bus_laws.proofs.past.StandsStep.{lock_tells, at_same, at_other, job_off, job_same, send_known, shift_known, turned, apart_of}
 
 -- a walk whose first step is known
-pub first_is : (w : WalkTree) (act : Act) → first_act w ≡ Some act → (note : Note) × (next : ActOutcome → WalkTree) × (w ≡ Then act note next)
+pub first_is : (w : WalkTree) (act : Act) → first_act w ≡ Some act
+    → (note : Note) × (next : ActOutcome → WalkTree) × (w ≡ Then act note next)
 first_is Ends act e = absurd (let f : None ≡ Some act = e in cc)
 first_is (Look ask next) act e = absurd (let f : None ≡ Some act = e in cc)
 first_is (Then a note next) act e = (note, next, ap (λ (x : Act). Then x note next) (let f : Some a ≡ Some act = e in cc))
@@ -82,12 +83,14 @@ module _ (b : BoardView) (tree : IsTree b) (plain : IsPlainBoard b) (lines : Lin
       → Stands b (step b asks n (entry.Take c l))
   take_kept l first free =
       turned b n.walk n.held n.holder n.slot n.worlds stands c
-      (changed_at n.walk c (rest_of (current b asks n c) Passed)) (changed_at n.held c (l ∷ n.held c)) (held_by n.holder l (Some c)) n.slot n.worlds
+      (changed_at n.walk c (rest_of (current b asks n c) Passed)) (changed_at n.held c (l ∷ n.held c))
+      (held_by n.holder l (Some c)) n.slot n.worlds
       (record {
         own = record {
           whose = cur.whose;
           view = taken_slots l (lock_slot l n.slot) cur.view;
-          runs = subst (λ (ls : List LockId). Runs b cur.whose ls (taken_slots l (lock_slot l n.slot) cur.view) (changed_at n.walk c (rest_of (current b asks n c) Passed) c))
+          runs = subst (λ (ls : List LockId). Runs b cur.whose ls (taken_slots l (lock_slot l n.slot) cur.view)
+              (changed_at n.walk c (rest_of (current b asks n c) Passed) c))
               (sym (at_same n.held c (l ∷ n.held c)))
               (subst (λ (w : WalkTree). Runs b cur.whose (l ∷ n.held c) (taken_slots l (lock_slot l n.slot) cur.view) w)
               (sym (left-is (Take l) at.0 at.1 Passed at.2)) (runs.1 (lock_slot l n.slot) (taken_rest l free)));
@@ -103,7 +106,8 @@ module _ (b : BoardView) (tree : IsTree b) (plain : IsPlainBoard b) (lines : Lin
           | inl h ↦ absurd (ne (let f : Some c ≡ Some d = sym (held_by-own n.holder l (Some c) k h.1) ∙ e in cc))
           | inr h ↦ stands.has d k (sym (held_by-other n.holder l (Some c) k h.1) ∙ e)
         ];
-        own_once = subst (λ (ls : List LockId). IsOnce ls) (sym (at_same n.held c (l ∷ n.held c))) ((λ i. free_not_held c l i refl), stands.once c);
+        own_once = subst (λ (ls : List LockId). IsOnce ls) (sym (at_same n.held c (l ∷ n.held c)))
+            ((λ i. free_not_held c l i refl), stands.once c);
         shut = λ p e. elim (lock_tells l (lock.Mux p)) [
           | inl h ↦ absurd (let f : Some c ≡ None = sym (held_by-own n.holder l (Some c) (lock.Mux p) h.1) ∙ e in cc)
           | inr h ↦ stands.shut p (sym (held_by-other n.holder l (Some c) (lock.Mux p) h.1) ∙ e)
@@ -140,28 +144,35 @@ module _ (b : BoardView) (tree : IsTree b) (plain : IsPlainBoard b) (lines : Lin
   pub free_kept : (l : LockId) → first_act (current b asks n c) ≡ Some (Free l) → Stands b (step b asks n (entry.Free c l))
   free_kept l first =
       turned b n.walk n.held n.holder n.slot n.worlds stands c
-      (changed_at n.walk c (rest_of (current b asks n c) Passed)) (changed_at n.held c (without l (n.held c))) (held_by n.holder l None) n.slot n.worlds
+      (changed_at n.walk c (rest_of (current b asks n c) Passed)) (changed_at n.held c (without l (n.held c)))
+      (held_by n.holder l None) n.slot n.worlds
       (record {
         own = record {
           whose = cur.whose;
           view = cur.view;
-          runs = subst (λ (ls : List LockId). Runs b cur.whose ls cur.view (changed_at n.walk c (rest_of (current b asks n c) Passed) c)) (sym now-held)
+          runs = subst (λ (ls : List LockId). Runs b cur.whose ls cur.view (changed_at n.walk c (rest_of (current b asks n c) Passed) c))
+              (sym now-held)
               (subst (λ (w : WalkTree). Runs b cur.whose rest cur.view w) (sym (left-is (Free l) at.0 at.1 Passed at.2)) runs.3);
-          agree = λ p i. cur.agree p (subst (λ (ls : List LockId). InLocks (lock.Mux p) ls) (sym runs.1) (inr (subst (λ (ls : List LockId). InLocks (lock.Mux p) ls) now-held i)));
+          agree = λ p i. cur.agree p (subst (λ (ls : List LockId). InLocks (lock.Mux p) ls) (sym runs.1)
+              (inr (subst (λ (ls : List LockId). InLocks (lock.Mux p) ls) now-held i)));
         };
         walks = λ d ne. at_other n.walk c (rest_of (current b asks n c) Passed) d ne;
         locks = λ d ne. at_other n.held c (without l (n.held c)) d ne;
         slots = λ d p ne i. refl;
         own_holds = λ k i.
             let j : InLocks k rest = subst (λ (ls : List LockId). InLocks k ls) now-held i in
-            held_by-other n.holder l None k (λ e. once.0 (subst (λ (x : LockId). InLocks x rest) (sym e) j)) ∙ stands.holds c k (of_rest k j);
+            held_by-other n.holder l None k (λ e. once.0 (subst (λ (x : LockId). InLocks x rest) (sym e) j))
+            ∙ stands.holds c k (of_rest k j);
         holds = λ d k ne i.
-            held_by-other n.holder l None k (λ e. apart_of b n.walk n.held n.holder n.slot n.worlds stands c d k ne i (subst (λ (x : LockId). InLocks x (n.held c)) e own_lock))
+            held_by-other n.holder l None k
+            (λ e. apart_of b n.walk n.held n.holder n.slot n.worlds stands c d k ne i
+            (subst (λ (x : LockId). InLocks x (n.held c)) e own_lock))
             ∙ stands.holds d k i;
         own_has = λ k e. elim (lock_tells l k) [
           | inl h ↦ absurd (let f : None ≡ Some c = sym (held_by-own n.holder l None k h.1) ∙ e in cc)
           | inr h ↦ subst (λ (ls : List LockId). InLocks k ls) (sym now-held)
-              (not_head k h.1 (subst (λ (ls : List LockId). InLocks k ls) runs.1 (stands.has c k (sym (held_by-other n.holder l None k h.1) ∙ e))))
+              (not_head k h.1 (subst (λ (ls : List LockId). InLocks k ls) runs.1
+              (stands.has c k (sym (held_by-other n.holder l None k h.1) ∙ e))))
         ];
         has = λ d k ne e. elim (lock_tells l k) [
           | inl h ↦ absurd (let f : None ≡ Some d = sym (held_by-own n.holder l None k h.1) ∙ e in cc)
@@ -251,14 +262,18 @@ module _ (b : BoardView) (tree : IsTree b) (plain : IsPlainBoard b) (lines : Lin
   -- A MESSAGE IS SENT
   pub sent_kept : (job : Job) (left : ℕ) (e : End) (bytes : List ℕ) → first_act (current b asks n c) ≡ Some (Send job left)
       → bytes ≡ (talk_of b n job left e).bytes → e ≡ (talk_of b n job left e).end
-      → StandsIn b (rest_by (Sent e bytes)) n.held n.holder (after_job job left (first_note (current b asks n c)).marks (Sent e bytes) n.slot)
+      → StandsIn b (rest_by (Sent e bytes)) n.held n.holder
+      (after_job job left (first_note (current b asks n c)).marks (Sent e bytes) n.slot)
       (changed_at n.worlds (root_of b (job_bus job)) (talk_of b n job left e).now)
   sent_kept job left e bytes first bytes_told end_told =
-      kept_by (rest_by (Sent e bytes)) (after_job job left next_marks (Sent e bytes) n.slot) (after_job job left next_marks (Sent e bytes) cur.view)
+      kept_by (rest_by (Sent e bytes)) (after_job job left next_marks (Sent e bytes) n.slot)
+      (after_job job left next_marks (Sent e bytes) cur.view)
       (changed_at n.worlds (root_of b (job_bus job)) (talk_of b n job left e).now)
       (λ d ne. at_other n.walk c (rest_of (current b asks n c) (Sent e bytes)) d ne)
-      (subst (λ (w : WalkTree). Runs b cur.whose (n.held c) (after_job job left next_marks (Sent e bytes) cur.view) w) (sym (left-is (Send job left) at.0 at.1 (Sent e bytes) at.2))
-      (subst (λ (ms : List Mark). Runs b cur.whose (n.held c) (after_job job left ms (Sent e bytes) cur.view) (at.1 (Sent e bytes))) (sym same_marks)
+      (subst (λ (w : WalkTree). Runs b cur.whose (n.held c) (after_job job left next_marks (Sent e bytes) cur.view) w)
+      (sym (left-is (Send job left) at.0 at.1 (Sent e bytes) at.2))
+      (subst (λ (ms : List Mark). Runs b cur.whose (n.held c) (after_job job left ms (Sent e bytes) cur.view) (at.1 (Sent e bytes)))
+      (sym same_marks)
       (runs.1 (Sent e bytes) can)))
       (λ p i. job_same job left next_marks (Sent e bytes) cur.view n.slot p (cur.agree p i))
       (λ p off. job_off b (n.held c) n.slot next_marks p may.may_fail off job left (Sent e bytes) n.slot may.owns)
@@ -271,7 +286,8 @@ module _ (b : BoardView) (tree : IsTree b) (plain : IsPlainBoard b) (lines : Lin
       same_marks = ap (λ (w : WalkTree). (first_note w).marks) at.2
 
       runs : MaySend b cur.whose job left at.0.marks (n.held c) cur.view
-          × ((out : ActOutcome) → CanSend b job left out → Runs b cur.whose (n.held c) (after_job job left at.0.marks out cur.view) (at.1 out))
+          × ((out : ActOutcome) → CanSend b job left out
+          → Runs b cur.whose (n.held c) (after_job job left at.0.marks out cur.view) (at.1 out))
       runs = subst (λ (w : WalkTree). Runs b cur.whose (n.held c) cur.view w) at.2 cur.runs
 
       may : MaySend b cur.whose job left next_marks (n.held c) n.slot
@@ -283,9 +299,12 @@ module _ (b : BoardView) (tree : IsTree b) (plain : IsPlainBoard b) (lines : Lin
           × CanSend b job left (Sent (talk_of b n job left e).end (talk_of b n job left e).bytes)
       both = told-send b tree plain n.slot n.worlds stands.told cur.whose next_marks (n.held c) (block_limit b) (cut_of e) job left may
 
-      told : WorldTold b (after_job job left next_marks (Sent e bytes) n.slot) (changed_at n.worlds (root_of b (job_bus job)) (talk_of b n job left e).now)
-      told = subst (λ (x : End). WorldTold b (after_job job left next_marks (Sent x bytes) n.slot) (changed_at n.worlds (root_of b (job_bus job)) (talk_of b n job left e).now)) (sym end_told)
-          (subst (λ (xs : List ℕ). WorldTold b (after_job job left next_marks (Sent (talk_of b n job left e).end xs) n.slot) (changed_at n.worlds (root_of b (job_bus job)) (talk_of b n job left e).now)) (sym bytes_told) both.0)
+      told : WorldTold b (after_job job left next_marks (Sent e bytes) n.slot)
+          (changed_at n.worlds (root_of b (job_bus job)) (talk_of b n job left e).now)
+      told = subst (λ (x : End). WorldTold b (after_job job left next_marks (Sent x bytes) n.slot)
+          (changed_at n.worlds (root_of b (job_bus job)) (talk_of b n job left e).now)) (sym end_told)
+          (subst (λ (xs : List ℕ). WorldTold b (after_job job left next_marks (Sent (talk_of b n job left e).end xs) n.slot)
+          (changed_at n.worlds (root_of b (job_bus job)) (talk_of b n job left e).now)) (sym bytes_told) both.0)
 
       can : CanSend b job left (Sent e bytes)
       can = subst (λ (x : End). CanSend b job left (Sent x bytes)) (sym end_told)
@@ -296,11 +315,14 @@ module _ (b : BoardView) (tree : IsTree b) (plain : IsPlainBoard b) (lines : Lin
       → StandsIn b (rest_by (Lined failed)) n.held n.holder (after_job job 0 (first_note (current b asks n c)).marks (Lined failed) n.slot)
       (changed_at n.worlds (root_of b (job_bus job)) (after (n.worlds (root_of b (job_bus job))) (line_call job failed)))
   lined_kept job failed first =
-      kept_by (rest_by (Lined failed)) (after_job job 0 next_marks (Lined failed) n.slot) (after_job job 0 next_marks (Lined failed) cur.view)
+      kept_by (rest_by (Lined failed)) (after_job job 0 next_marks (Lined failed) n.slot)
+      (after_job job 0 next_marks (Lined failed) cur.view)
       (changed_at n.worlds (root_of b (job_bus job)) (after (n.worlds (root_of b (job_bus job))) (line_call job failed)))
       (λ d ne. at_other n.walk c (rest_of (current b asks n c) (Lined failed)) d ne)
-      (subst (λ (w : WalkTree). Runs b cur.whose (n.held c) (after_job job 0 next_marks (Lined failed) cur.view) w) (sym (left-is (Shift job) at.0 at.1 (Lined failed) at.2))
-      (subst (λ (ms : List Mark). Runs b cur.whose (n.held c) (after_job job 0 ms (Lined failed) cur.view) (at.1 (Lined failed))) (sym same_marks)
+      (subst (λ (w : WalkTree). Runs b cur.whose (n.held c) (after_job job 0 next_marks (Lined failed) cur.view) w)
+      (sym (left-is (Shift job) at.0 at.1 (Lined failed) at.2))
+      (subst (λ (ms : List Mark). Runs b cur.whose (n.held c) (after_job job 0 ms (Lined failed) cur.view) (at.1 (Lined failed)))
+      (sym same_marks)
       (runs.1 (Lined failed) tt)))
       (λ p i. job_same job 0 next_marks (Lined failed) cur.view n.slot p (cur.agree p i))
       (λ p off. job_off b (n.held c) n.slot next_marks p may.may_fail off job 0 (Lined failed) n.slot may.owns)
@@ -321,7 +343,8 @@ module _ (b : BoardView) (tree : IsTree b) (plain : IsPlainBoard b) (lines : Lin
           (subst (λ (ms : List Mark). MayShift b job ms (n.held c) cur.view) (sym same_marks) runs.0)
 
 -- one more entry, whichever it is
-pub step-stands : (b : BoardView) → IsTree b → IsPlainBoard b → LinesAreLocked b → (asks : Asks) → AsksForMessages asks → (callers : ℕ) (n : Now) → Stands b n
+pub step-stands : (b : BoardView) → IsTree b → IsPlainBoard b → LinesAreLocked b → (asks : Asks) → AsksForMessages asks
+    → (callers : ℕ) (n : Now) → Stands b n
     → (e : Entry) → May b callers asks n e → Stands b (step b asks n e)
 step-stands b tree plain lines asks some callers n stands (entry.Take c l) may =
     take_kept b tree plain lines asks some n stands c l may.2 may.3
@@ -330,8 +353,12 @@ step-stands b tree plain lines asks some callers n stands (entry.Free c l) may =
 step-stands b tree plain lines asks some callers n stands (entry.Settle c r cut) may =
     settle_kept b tree plain lines asks some n stands c may.2 r cut may.3
 step-stands b tree plain lines asks some callers n stands (entry.Line c mux level failed) may =
-    subst (λ (o : Option Act). Stands b (with_due c (moved b asks n (lined_by b n o (first_note (current b asks n c)) failed) c (entry.Line c mux level failed) (Lined failed)))) (sym may.2.1)
+    subst (λ (o : Option Act). Stands b
+    (with_due c (moved b asks n (lined_by b n o (first_note (current b asks n c)) failed) c (entry.Line c mux level failed)
+    (Lined failed)))) (sym may.2.1)
     (lined_kept b tree plain lines asks some n stands c may.2.0 failed may.2.1)
 step-stands b tree plain lines asks some callers n stands (entry.Message c bus purpose part parts addr reading bytes heard e) may =
-    subst (λ (o : Option Act). Stands b (with_due c (moved b asks n (sent_by b n c o (first_note (current b asks n c)) reading bytes e) c (entry.Message c bus purpose part parts addr reading bytes heard e) (Sent e bytes)))) (sym may.2.2)
+    subst (λ (o : Option Act). Stands b
+    (with_due c (moved b asks n (sent_by b n c o (first_note (current b asks n c)) reading bytes e) c
+    (entry.Message c bus purpose part parts addr reading bytes heard e) (Sent e bytes)))) (sym may.2.2)
     (sent_kept b tree plain lines asks some n stands c may.2.0 may.2.1 e bytes may.2.2 may.2.3.bytes_told may.2.3.end_told)

@@ -23,7 +23,8 @@ answer_alike (MarkOf p) v w e = ap (λ (x : At). mark_in x.slot) e
 answer_alike (KeptOf p m) v w e = ap (λ (x : At). x.kept m) e
 
 -- the looks in front of a walk change nothing where what is looked at is known
-pub runs_seen : (b : BoardView) (whose : TransferView) (held : List LockId) (view slots : Slots) → ((p : ℕ) → InLocks (lock.Mux p) held → view p ≡ slots p)
+pub runs_seen : (b : BoardView) (whose : TransferView) (held : List LockId) (view slots : Slots)
+    → ((p : ℕ) → InLocks (lock.Mux p) held → view p ≡ slots p)
     → (w : WalkTree) → Runs b whose held view w → Runs b whose held view (seen slots w)
 runs_seen b whose held view slots agree Ends runs = runs
 runs_seen b whose held view slots agree (Look ask next) runs =
@@ -51,12 +52,14 @@ ahead-stands b tree lines asks some n c stands = by_over (is_over (n.walk c)) re
         record {
           whose = t;
           view = n.slot;
-          runs = subst (λ (held : List LockId). Runs b t held n.slot (walk_for b t)) (sym empty) (walk-runs b t tree lines (some c (n.settled c) t e) n.slot);
+          runs = subst (λ (held : List LockId). Runs b t held n.slot (walk_for b t)) (sym empty)
+              (walk-runs b t tree lines (some c (n.settled c) t e) n.slot);
           agree = λ p i. refl;
         }
 
     by_over : (t : Bool) → is_over (n.walk c) ≡ t → CallerStands b (n.held c) (cond t (begun b (asks c (n.settled c))) (n.walk c)) n.slot
-    by_over true e = begin (subst (λ (w : WalkTree). Runs b was.whose (n.held c) was.view w) (over_ends (n.walk c) e) was.runs) (asks c (n.settled c)) refl
+    by_over true e = begin (subst (λ (w : WalkTree). Runs b was.whose (n.held c) was.view w) (over_ends (n.walk c) e) was.runs)
+        (asks c (n.settled c)) refl
     by_over false e = was
 
 -- what a caller does next runs, from what is known
@@ -64,4 +67,9 @@ pub current-stands : (b : BoardView) → IsTree b → LinesAreLocked b → (asks
     → CallerStands b (n.held c) (current b asks n c) n.slot
 current-stands b tree lines asks some n c stands =
     let was = ahead-stands b tree lines asks some n c stands in
-    record { whose = was.whose; view = was.view; runs = runs_seen b was.whose (n.held c) was.view n.slot was.agree (ahead b asks n c) was.runs; agree = was.agree }
+    record {
+      whose = was.whose;
+      view = was.view;
+      runs = runs_seen b was.whose (n.held c) was.view n.slot was.agree (ahead b asks n c) was.runs;
+      agree = was.agree;
+    }

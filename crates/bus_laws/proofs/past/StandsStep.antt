@@ -36,14 +36,17 @@ at_other f c x d ne =
     elim (eqb_tells d c) [ inl h ↦ absurd (ne h.1) | inr h ↦ ap (λ (t : Bool). cond t x (f d)) h.0 ]
 
 -- a step changes what is known only on buses whose locks its caller holds
-marks_off_held : (b : BoardView) (held : List LockId) (v : Slots) (ms : List Mark) (p : ℕ) → MayFail b ms held v → (InLocks (lock.Mux p) held → ⊥)
+marks_off_held : (b : BoardView) (held : List LockId) (v : Slots) (ms : List Mark) (p : ℕ) → MayFail b ms held v
+    → (InLocks (lock.Mux p) held → ⊥)
     → (w : Slots) → set_marks ms w p ≡ w p
 marks_off_held b held v [] p fail off w = refl
 marks_off_held b held v (m ∷ ms) p fail off w =
-    changed-other (set_marks ms w) m.on p (turned_at (w m.on) m.mux (Marked m.mux) None) (λ e. off (subst (λ (q : ℕ). InLocks (lock.Mux q) held) (sym e) fail.0.locked))
+    changed-other (set_marks ms w) m.on p (turned_at (w m.on) m.mux (Marked m.mux) None)
+    (λ e. off (subst (λ (q : ℕ). InLocks (lock.Mux q) held) (sym e) fail.0.locked))
     ∙ marks_off_held b held v ms p fail.1 off w
 
-module _ (b : BoardView) (held : List LockId) (v : Slots) (marks : List Mark) (p : ℕ) (fail : MayFail b marks held v) (off : InLocks (lock.Mux p) held → ⊥) where
+module _ (b : BoardView) (held : List LockId) (v : Slots) (marks : List Mark) (p : ℕ) (fail : MayFail b marks held v)
+    (off : InLocks (lock.Mux p) held → ⊥) where
   own_off : (on mux : ℕ) (s : MuxSlot) (c : Option ℕ) (w : Slots) → InLocks (lock.Mux on) held → slots.turned w on mux s c p ≡ w p
   own_off on mux s c w locked = turned-other w on mux p s c (λ e. off (subst (λ (q : ℕ). InLocks (lock.Mux q) held) (sym e) locked))
 
@@ -79,11 +82,13 @@ module _ (b : BoardView) (held : List LockId) (v : Slots) (marks : List Mark) (p
   job_off (SwitchOff off) left out w owns = off_elsewhere (off_bus off) (off_mux off) out w owns.0
 
 -- and is the same step where what is known is the same
-told_same : (h : Hop) (left : ℕ) (bytes : List ℕ) (v w : Slots) (p : ℕ) → v p ≡ w p → select_told h left bytes v p ≡ select_told h left bytes w p
+told_same : (h : Hop) (left : ℕ) (bytes : List ℕ) (v w : Slots) (p : ℕ) → v p ≡ w p
+    → select_told h left bytes v p ≡ select_told h left bytes w p
 told_same h zero bytes v w p e = turned-along v w h.on h.mux p Clean (Some h.channel) e
 told_same h (suc left) bytes v w p e = turned-along v w h.on h.mux p (polled_slot h left bytes) None e
 
-select_same : (h : Hop) (left : ℕ) (marks : List Mark) (out : ActOutcome) (v w : Slots) (p : ℕ) → v p ≡ w p → after_select h left marks out v p ≡ after_select h left marks out w p
+select_same : (h : Hop) (left : ℕ) (marks : List Mark) (out : ActOutcome) (v w : Slots) (p : ℕ) → v p ≡ w p
+    → after_select h left marks out v p ≡ after_select h left marks out w p
 select_same h left marks (Sent end.Ok bytes) v w p e = told_same h left bytes v w p e
 select_same h left marks (Sent end.Nack bytes) v w p e = turned-along v w h.on h.mux p Clean None e
 select_same h left marks (Sent end.Slow bytes) v w p e = turned-along v w h.on h.mux p Clean None e
@@ -94,7 +99,8 @@ select_same h left marks (Lined true) v w p e = set_marks-along marks v w p e
 select_same h left marks (Lined false) v w p e = turned-along v w h.on h.mux p Clean (Some h.channel) e
 select_same h left marks Passed v w p e = e
 
-off_same : (on mux : ℕ) (marks : List Mark) (out : ActOutcome) (v w : Slots) (p : ℕ) → v p ≡ w p → after_off on mux marks out v p ≡ after_off on mux marks out w p
+off_same : (on mux : ℕ) (marks : List Mark) (out : ActOutcome) (v w : Slots) (p : ℕ) → v p ≡ w p
+    → after_off on mux marks out v p ≡ after_off on mux marks out w p
 off_same on mux marks (Sent end.Ok bytes) v w p e = turned-along v w on mux p Clean None e
 off_same on mux marks (Sent end.Nack bytes) v w p e = turned-along v w on mux p Clean None e
 off_same on mux marks (Sent end.Slow bytes) v w p e = turned-along v w on mux p Clean None e
@@ -105,7 +111,8 @@ off_same on mux marks (Lined true) v w p e = set_marks-along marks v w p e
 off_same on mux marks (Lined false) v w p e = turned-along v w on mux p Clean None e
 off_same on mux marks Passed v w p e = e
 
-pub job_same : (job : Job) (left : ℕ) (marks : List Mark) (out : ActOutcome) (v w : Slots) (p : ℕ) → v p ≡ w p → after_job job left marks out v p ≡ after_job job left marks out w p
+pub job_same : (job : Job) (left : ℕ) (marks : List Mark) (out : ActOutcome) (v w : Slots) (p : ℕ) → v p ≡ w p
+    → after_job job left marks out v p ≡ after_job job left marks out w p
 job_same (Call bus ms) left marks out v w p e = e
 job_same (Select h) left marks out v w p e = select_same h left marks out v w p e
 job_same (SwitchOff off) left marks out v w p e = off_same (off_bus off) (off_mux off) marks out v w p e
@@ -115,7 +122,11 @@ module _ (b : BoardView) (held : List LockId) (v w : Slots) (agree : (p : ℕ) �
   fail_known : (ms : List Mark) → MayFail b ms held v → MayFail b ms held w
   fail_known [] fail = tt
   fail_known (m ∷ ms) fail = (
-    record { locked = fail.0.locked; at_home = fail.0.at_home; forgets = subst (λ (x : At). IsOfMux m.mux x.slot) (agree m.on fail.0.locked) fail.0.forgets },
+    record {
+      locked = fail.0.locked;
+      at_home = fail.0.at_home;
+      forgets = subst (λ (x : At). IsOfMux m.mux x.slot) (agree m.on fail.0.locked) fail.0.forgets;
+    },
     fail_known ms fail.1,
   )
 
@@ -125,7 +136,8 @@ module _ (b : BoardView) (held : List LockId) (v w : Slots) (agree : (p : ℕ) �
       (subst (λ (x : At). FindsSelect (is_arbitrator h.kind) h left x) (agree h.on owns.0) f.0, f.1, f.2)
   finds_known (SwitchOff off) left marks owns f = (subst (λ (x : At). FindsOpen off x.slot) (agree (off_bus off) owns.0) f.0, f.1, f.2)
 
-  pub send_known : (whose : TransferView) (job : Job) (left : ℕ) (marks : List Mark) → MaySend b whose job left marks held v → MaySend b whose job left marks held w
+  pub send_known : (whose : TransferView) (job : Job) (left : ℕ) (marks : List Mark) → MaySend b whose job left marks held v
+      → MaySend b whose job left marks held w
   send_known whose job left marks may =
       record {
         reached = λ g a. (subst (λ (x : At). IsOpenOn b g x) (agree g.on (may.reached g a).1) (may.reached g a).0, (may.reached g a).1);
@@ -150,7 +162,8 @@ module _ (b : BoardView) (held : List LockId) (v w : Slots) (agree : (p : ℕ) �
 -- one caller's locks, walk and bus are new, all the others' as they were
 module _ (b : BoardView) (walk : ℕ → WalkTree) (held : ℕ → List LockId) (holder : LockId → Option ℕ) (slot : Slots) (worlds : ℕ → World)
     (old : StandsIn b walk held holder slot worlds) (c : ℕ) where
-  pub record Turn (walk2 : ℕ → WalkTree) (held2 : ℕ → List LockId) (holder2 : LockId → Option ℕ) (slot2 : Slots) (worlds2 : ℕ → World) : Type 0 where
+  pub record Turn (walk2 : ℕ → WalkTree) (held2 : ℕ → List LockId) (holder2 : LockId → Option ℕ) (slot2 : Slots) (worlds2 : ℕ
+      → World) : Type 0 where
     pub own : CallerStands b (held2 c) (walk2 c) slot2
     pub walks : (d : ℕ) → (d ≡ c → ⊥) → walk2 d ≡ walk d
     pub locks : (d : ℕ) → (d ≡ c → ⊥) → held2 d ≡ held d

@@ -72,9 +72,11 @@ goes_alike bus ms left more (end.Cut q) bytes = refl
 pub more_follow : (bus : ℕ) (ms : List MessageView) (left : ℕ) (out : ActOutcome) (d : ℕ) (old : Option ℕ)
     → inside_after (Call bus ms) (suc left) out d old ≡ cond (is_on (goes (Call bus ms) (suc left) out)) (Some d) None
 more_follow bus ms left out d old =
-    ap (λ (t : Bool). cond t None (cond (is_on (goes (Call bus ms) (suc left) out)) (Some d) None)) (eqb-apart (suc left) 0 (λ e. absurd (omega (arith, e))))
+    ap (λ (t : Bool). cond t None (cond (is_on (goes (Call bus ms) (suc left) out)) (Some d) None))
+    (eqb-apart (suc left) 0 (λ e. absurd (omega (arith, e))))
 
-module _ (b : BoardView) (tree : IsTree b) (plain : IsPlainBoard b) (lines : LinesAreLocked b) (asks : Asks) (some : AsksForMessages asks) (callers : ℕ)
+module _ (b : BoardView) (tree : IsTree b) (plain : IsPlainBoard b) (lines : LinesAreLocked b) (asks : Asks) (some : AsksForMessages asks)
+    (callers : ℕ)
     (past : List Entry) (steps : IsStepwise b callers asks past) where
   abbrev n : Now
   n = now b asks past
@@ -98,7 +100,8 @@ module _ (b : BoardView) (tree : IsTree b) (plain : IsPlainBoard b) (lines : Lin
     sent_rooted job left first =
         let at = first_is (current b asks n d) (Send job left) first in
         let runs : MaySend b cs.whose job left at.0.marks (n.held d) cs.view
-        × ((out : ActOutcome) → CanSend b job left out → Runs b cs.whose (n.held d) (after_job job left at.0.marks out cs.view) (at.1 out)) =
+        × ((out : ActOutcome) → CanSend b job left out
+        → Runs b cs.whose (n.held d) (after_job job left at.0.marks out cs.view) (at.1 out)) =
         subst (λ (w : WalkTree). Runs b cs.whose (n.held d) cs.view w) at.2 cs.runs in
         runs.0.rooted
 
@@ -118,7 +121,8 @@ module _ (b : BoardView) (tree : IsTree b) (plain : IsPlainBoard b) (lines : Lin
         → CallGoesOn bus ms left (Sent e bytes) (rest_of (current b asks n d) (Sent e bytes))
     call_goes bus ms left e bytes first =
         let at = first_is (current b asks n d) (Send (Call bus ms) left) first in
-        let settles : Settles asked.done (Then (Send (Call bus ms) left) at.0 at.1) = subst (λ (w : WalkTree). Settles asked.done w) at.2 asked.settles in
+        let settles : Settles asked.done (Then (Send (Call bus ms) left) at.0 at.1) = subst
+        (λ (w : WalkTree). Settles asked.done w) at.2 asked.settles in
         subst (λ (w : WalkTree). CallGoesOn bus ms left (Sent e bytes) (rest_of w (Sent e bytes))) (sym at.2) (settles.1 e bytes).0
 
   -- who is inside sends next
@@ -126,7 +130,8 @@ module _ (b : BoardView) (tree : IsTree b) (plain : IsPlainBoard b) (lines : Lin
     pub inside_next : (r c : ℕ) (e : n.inside r ≡ Some c)
         → IsNext b asks n c (Send (Call (inside r c e).bus (inside r c e).messages) (inside r c e).left)
     inside_next r c e =
-        goes_on_from n.slot (begun b (asks c (n.settled c))) (n.walk c) (Send (Call (inside r c e).bus (inside r c e).messages) (inside r c e).left) (inside r c e).sends
+        goes_on_from n.slot (begun b (asks c (n.settled c))) (n.walk c)
+        (Send (Call (inside r c e).bus (inside r c e).messages) (inside r c e).left) (inside r c e).sends
 
     -- another step is another caller's
     pub other_caller : (r c d : ℕ) (act : Act) → n.inside r ≡ Some c → IsNext b asks n d act
@@ -137,7 +142,8 @@ module _ (b : BoardView) (tree : IsTree b) (plain : IsPlainBoard b) (lines : Lin
         (sym next ∙ ap (λ (i : ℕ). first_act (current b asks n i)) (sym same) ∙ mine) in
         no_call (inside r c e).bus (inside r c e).messages (inside r c e).left is (inside r c e).root
 
-    stays_inside : (r c d : ℕ) (w : WalkTree) (held : ℕ → List LockId) → n.inside r ≡ Some c → (c ≡ d → ⊥) → ((i : ℕ) → (i ≡ d → ⊥) → held i ≡ n.held i)
+    stays_inside : (r c d : ℕ) (w : WalkTree) (held : ℕ → List LockId) → n.inside r ≡ Some c → (c ≡ d → ⊥)
+        → ((i : ℕ) → (i ≡ d → ⊥) → held i ≡ n.held i)
         → IsInside b r (changed_at n.walk d w c) (held c)
     stays_inside r c d w held e ne same =
         subst (λ (ls : List LockId). IsInside b r (changed_at n.walk d w c) ls) (sym (same c ne))
@@ -159,7 +165,8 @@ module _ (b : BoardView) (tree : IsTree b) (plain : IsPlainBoard b) (lines : Lin
           (λ bus ms l is root_is. no_call bus ms (let f : Send job left ≡ Send (Call bus ms) l = is in cc) root_is))
           (λ i ne. refl)
 
-    call_on : (d bus : ℕ) (ms : List MessageView) (left : ℕ) (e : End) (bytes : List ℕ) (next : IsNext b asks n d (Send (Call bus ms) (suc left)))
+    call_on : (d bus : ℕ) (ms : List MessageView) (left : ℕ) (e : End) (bytes : List ℕ)
+        (next : IsNext b asks n d (Send (Call bus ms) (suc left)))
         → is_on (goes (Call bus ms) (suc left) (Sent e bytes)) ≡ true
         → IsInside b (root_of b bus) (changed_at n.walk d (rest_of (current b asks n d) (Sent e bytes)) d) (n.held d)
     call_on d bus ms left e bytes next on =
@@ -182,7 +189,8 @@ module _ (b : BoardView) (tree : IsTree b) (plain : IsPlainBoard b) (lines : Lin
     sent_root d (Select h) left e bytes next c is =
         send_other d (Select h) left e bytes next (root_of b h.on) c is (λ bus ms f. absurd (let g : Select h ≡ Call bus ms = f in cc))
     sent_root d (SwitchOff off) left e bytes next c is =
-        send_other d (SwitchOff off) left e bytes next (root_of b (off_bus off)) c is (λ bus ms f. absurd (let g : SwitchOff off ≡ Call bus ms = f in cc))
+        send_other d (SwitchOff off) left e bytes next (root_of b (off_bus off)) c is
+        (λ bus ms f. absurd (let g : SwitchOff off ≡ Call bus ms = f in cc))
     sent_root d (Call bus ms) zero e bytes next c is = absurd (let f : None ≡ Some c = is in cc)
     sent_root d (Call bus ms) (suc left) e bytes next c is =
         by_on (is_on (goes (Call bus ms) (suc left) (Sent e bytes))) refl
@@ -190,23 +198,32 @@ module _ (b : BoardView) (tree : IsTree b) (plain : IsPlainBoard b) (lines : Lin
         by_on : (t : Bool) → is_on (goes (Call bus ms) (suc left) (Sent e bytes)) ≡ t
             → IsInside b (root_of b bus) (changed_at n.walk d (rest_of (current b asks n d) (Sent e bytes)) c) (n.held c)
         by_on true on =
-            let same : d ≡ c = same_Some d c (sym (more_follow bus ms left (Sent e bytes) d (n.inside (root_of b bus)) ∙ ap (λ (t : Bool). cond t (Some d) None) on) ∙ is) in
-            subst (λ (i : ℕ). IsInside b (root_of b bus) (changed_at n.walk d (rest_of (current b asks n d) (Sent e bytes)) i) (n.held i)) same
+            let same : d ≡ c = same_Some d c
+            (sym (more_follow bus ms left (Sent e bytes) d (n.inside (root_of b bus)) ∙ ap (λ (t : Bool). cond t (Some d) None) on)
+            ∙ is) in
+            subst (λ (i : ℕ). IsInside b (root_of b bus) (changed_at n.walk d (rest_of (current b asks n d) (Sent e bytes)) i) (n.held i))
+            same
             (call_on d bus ms left e bytes next on)
         by_on false off =
-            absurd (let f : None ≡ Some c = sym (more_follow bus ms left (Sent e bytes) d (n.inside (root_of b bus)) ∙ ap (λ (t : Bool). cond t (Some d) None) off) ∙ is in cc)
+            absurd (let f : None ≡ Some c = sym (more_follow bus ms left (Sent e bytes) d (n.inside (root_of b bus))
+            ∙ ap (λ (t : Bool). cond t (Some d) None) off) ∙ is in cc)
 
     sent_inside : (d : ℕ) (job : Job) (left : ℕ) (e : End) (bytes : List ℕ) (next : IsNext b asks n d (Send job left)) (r c : ℕ)
-        → changed_at n.inside (root_of b (job_bus job)) (inside_after job left (Sent e bytes) d (n.inside (root_of b (job_bus job)))) r ≡ Some c
+        → changed_at n.inside (root_of b (job_bus job))
+        (inside_after job left (Sent e bytes) d (n.inside (root_of b (job_bus job)))) r ≡ Some c
         → IsInside b r (changed_at n.walk d (rest_of (current b asks n d) (Sent e bytes)) c) (n.held c)
     sent_inside d job left e bytes next r c is =
         elim (eqb_tells r (root_of b (job_bus job))) [
-          | inl h ↦ subst (λ (i : ℕ). IsInside b i (changed_at n.walk d (rest_of (current b asks n d) (Sent e bytes)) c) (n.held c)) (sym h.1)
+          | inl h ↦ subst (λ (i : ℕ). IsInside b i (changed_at n.walk d (rest_of (current b asks n d) (Sent e bytes)) c) (n.held c))
+              (sym h.1)
               (sent_root d job left e bytes next c
-              (sym (at_same n.inside (root_of b (job_bus job)) (inside_after job left (Sent e bytes) d (n.inside (root_of b (job_bus job)))))
-              ∙ ap (λ (i : ℕ). changed_at n.inside (root_of b (job_bus job)) (inside_after job left (Sent e bytes) d (n.inside (root_of b (job_bus job)))) i) (sym h.1) ∙ is))
+              (sym (at_same n.inside (root_of b (job_bus job))
+              (inside_after job left (Sent e bytes) d (n.inside (root_of b (job_bus job)))))
+              ∙ ap (λ (i : ℕ). changed_at n.inside (root_of b (job_bus job))
+              (inside_after job left (Sent e bytes) d (n.inside (root_of b (job_bus job)))) i) (sym h.1) ∙ is))
           | inr h ↦ send_other d job left e bytes next r c
-              (sym (at_other n.inside (root_of b (job_bus job)) (inside_after job left (Sent e bytes) d (n.inside (root_of b (job_bus job)))) r h.1) ∙ is)
+              (sym (at_other n.inside (root_of b (job_bus job))
+              (inside_after job left (Sent e bytes) d (n.inside (root_of b (job_bus job)))) r h.1) ∙ is)
               (λ bus ms f root_is. h.1 (sym root_is ∙ ap (λ (j : Job). root_of b (job_bus j)) (sym f)))
         ]
 
@@ -225,17 +242,22 @@ module _ (b : BoardView) (tree : IsTree b) (plain : IsPlainBoard b) (lines : Lin
         (other_caller r c d (Settle may.2) is may.3 (λ bus ms left f root_is. let g : Settle may.2 ≡ Send (Call bus ms) left = f in cc))
         (λ i ne. refl)
     step_inside (entry.Line d mux level failed) may =
-        subst (λ (o : Option Act). AreInside b (with_due d (moved b asks n (lined_by b n o (first_note (current b asks n d)) failed) d (entry.Line d mux level failed) (Lined failed)))) (sym may.2.1)
+        subst (λ (o : Option Act). AreInside b
+        (with_due d (moved b asks n (lined_by b n o (first_note (current b asks n d)) failed) d (entry.Line d mux level failed)
+        (Lined failed)))) (sym may.2.1)
         (λ r c is.
         stays_inside r c d (rest_of (current b asks n d) (Lined failed)) n.held is
         (other_caller r c d (Shift may.2.0) is may.2.1 (λ bus ms left f root_is. let g : Shift may.2.0 ≡ Send (Call bus ms) left = f in cc))
         (λ i ne. refl))
     step_inside (entry.Message d bus purpose part parts addr reading bytes heard e) may =
-        subst (λ (o : Option Act). AreInside b (with_due d (moved b asks n (sent_by b n d o (first_note (current b asks n d)) reading bytes e) d (entry.Message d bus purpose part parts addr reading bytes heard e) (Sent e bytes)))) (sym may.2.2)
+        subst (λ (o : Option Act). AreInside b
+        (with_due d (moved b asks n (sent_by b n d o (first_note (current b asks n d)) reading bytes e) d
+        (entry.Message d bus purpose part parts addr reading bytes heard e) (Sent e bytes)))) (sym may.2.2)
         (λ r c is. sent_inside d may.2.0 may.2.1 e bytes may.2.2 r c is)
 
 -- THE INDUCTION
-pub past-inside : (b : BoardView) → IsTree b → IsPlainBoard b → LinesAreLocked b → (asks : Asks) → AsksForMessages asks → (callers : ℕ) (past : List Entry) → IsStepwise b callers asks past
+pub past-inside : (b : BoardView) → IsTree b → IsPlainBoard b → LinesAreLocked b → (asks : Asks) → AsksForMessages asks
+    → (callers : ℕ) (past : List Entry) → IsStepwise b callers asks past
     → AreInside b (now b asks past)
 past-inside b tree plain lines asks some callers [] steps = λ r c is. absurd (let f : None ≡ Some c = is in cc)
 past-inside b tree plain lines asks some callers (e ∷ past) steps =
@@ -249,16 +271,21 @@ Between n c r = (n.inside r ≡ Some c) ⊎ (n.due ≡ Some c)
 abbrev IsOwn : BoardView → ℕ → ℕ → Entry → Type 0
 IsOwn b r c e = is_on_root b r e ≡ true → is_call_of b r c e ≡ true
 
-stepwise_front : (b : BoardView) (callers : ℕ) (asks : Asks) (later earlier : List Entry) → IsStepwise b callers asks (later ++ earlier) → IsStepwise b callers asks earlier
+stepwise_front : (b : BoardView) (callers : ℕ) (asks : Asks) (later earlier : List Entry) → IsStepwise b callers asks (later ++ earlier)
+    → IsStepwise b callers asks earlier
 stepwise_front b callers asks [] earlier steps = steps
 stepwise_front b callers asks (e ∷ later) earlier steps = stepwise_front b callers asks later earlier steps.1
 
-module _ (b : BoardView) (tree : IsTree b) (plain : IsPlainBoard b) (lines : LinesAreLocked b) (asks : Asks) (some : AsksForMessages asks) (callers : ℕ) where
+module _ (b : BoardView) (tree : IsTree b) (plain : IsPlainBoard b) (lines : LinesAreLocked b) (asks : Asks) (some : AsksForMessages asks)
+    (callers : ℕ) where
   -- behind a message of the caller's it is inside, or its settle is due
-  call_between : (past : List Entry) (steps : IsStepwise b callers asks past) (d bus : ℕ) (ms : List MessageView) (left : ℕ) (e : End) (bytes : List ℕ) (new : Now)
+  call_between : (past : List Entry) (steps : IsStepwise b callers asks past) (d bus : ℕ) (ms : List MessageView) (left : ℕ) (e : End)
+      (bytes : List ℕ) (new : Now)
       → IsNext b asks (now b asks past) d (Send (Call bus ms) left)
-      → new.inside ≡ changed_at (now b asks past).inside (root_of b bus) (inside_after (Call bus ms) left (Sent e bytes) d ((now b asks past).inside (root_of b bus)))
-      → new.due ≡ cond (is_due (first_act (changed_at (now b asks past).walk d (rest_of (current b asks (now b asks past) d) (Sent e bytes)) d))) (Some d) None
+      → new.inside ≡ changed_at (now b asks past).inside (root_of b bus)
+      (inside_after (Call bus ms) left (Sent e bytes) d ((now b asks past).inside (root_of b bus)))
+      → new.due ≡ cond (is_due (first_act
+      (changed_at (now b asks past).walk d (rest_of (current b asks (now b asks past) d) (Sent e bytes)) d))) (Some d) None
       → Between new d (root_of b bus)
   call_between past steps d bus ms left e bytes new next inside due = by_left left next inside
     where
@@ -267,11 +294,14 @@ module _ (b : BoardView) (tree : IsTree b) (plain : IsPlainBoard b) (lines : Lin
 
       settled_due : (left : ℕ) (v : _) → first_act (rest_of (current b asks n d) (Sent e bytes)) ≡ Some (Settle v) → new.due ≡ Some d
       settled_due left v first =
-          due ∙ ap (λ (w : WalkTree). cond (is_due (first_act w)) (Some d) None) (at_same n.walk d (rest_of (current b asks n d) (Sent e bytes)))
+          due ∙ ap (λ (w : WalkTree). cond (is_due (first_act w)) (Some d) None)
+          (at_same n.walk d (rest_of (current b asks n d) (Sent e bytes)))
           ∙ ap (λ (o : Option Act). cond (is_due o) (Some d) None) first
 
-      by_on : (more : ℕ) → IsNext b asks n d (Send (Call bus ms) (suc more)) → (t : Bool) → is_on (goes (Call bus ms) (suc more) (Sent e bytes)) ≡ t
-          → new.inside ≡ changed_at n.inside (root_of b bus) (inside_after (Call bus ms) (suc more) (Sent e bytes) d (n.inside (root_of b bus))) → Between new d (root_of b bus)
+      by_on : (more : ℕ) → IsNext b asks n d (Send (Call bus ms) (suc more)) → (t : Bool)
+          → is_on (goes (Call bus ms) (suc more) (Sent e bytes)) ≡ t
+          → new.inside ≡ changed_at n.inside (root_of b bus)
+          (inside_after (Call bus ms) (suc more) (Sent e bytes) d (n.inside (root_of b bus))) → Between new d (root_of b bus)
       by_on more next true on inside =
           inl (ap (λ (f : ℕ → Option ℕ). f (root_of b bus)) inside
           ∙ at_same n.inside (root_of b bus) (inside_after (Call bus ms) (suc more) (Sent e bytes) d (n.inside (root_of b bus)))
@@ -284,13 +314,16 @@ module _ (b : BoardView) (tree : IsTree b) (plain : IsPlainBoard b) (lines : Lin
           (goes_alike bus ms more (suc more) e bytes ∙ off)))
 
       by_left : (left : ℕ) → IsNext b asks n d (Send (Call bus ms) left)
-          → new.inside ≡ changed_at n.inside (root_of b bus) (inside_after (Call bus ms) left (Sent e bytes) d (n.inside (root_of b bus))) → Between new d (root_of b bus)
+          → new.inside ≡ changed_at n.inside (root_of b bus) (inside_after (Call bus ms) left (Sent e bytes) d (n.inside (root_of b bus)))
+          → Between new d (root_of b bus)
       by_left zero next inside =
-          inr (settled_due zero (verdict_of (Call bus ms) zero (Sent e bytes)) (call_goes b tree plain lines asks some callers past steps d bus ms zero e bytes next))
+          inr (settled_due zero (verdict_of (Call bus ms) zero (Sent e bytes))
+          (call_goes b tree plain lines asks some callers past steps d bus ms zero e bytes next))
       by_left (suc more) next inside = by_on more next (is_on (goes (Call bus ms) (suc more) (Sent e bytes))) refl inside
 
   -- the same for the entry of such a message
-  pub entry_between : (past : List Entry) (steps : IsStepwise b callers asks past) (d bus : ℕ) (purpose : Purpose) (part parts addr : ℕ) (reading : Bool) (bytes : List ℕ) (heard : _) (e : End)
+  pub entry_between : (past : List Entry) (steps : IsStepwise b callers asks past) (d bus : ℕ) (purpose : Purpose) (part parts addr : ℕ)
+      (reading : Bool) (bytes : List ℕ) (heard : _) (e : End)
       → May b callers asks (now b asks past) (entry.Message d bus purpose part parts addr reading bytes heard e) → is_call purpose ≡ true
       → Between (step b asks (now b asks past) (entry.Message d bus purpose part parts addr reading bytes heard e)) d (root_of b bus)
   entry_between past steps d bus purpose part parts addr reading bytes heard e may call =
@@ -304,10 +337,14 @@ module _ (b : BoardView) (tree : IsTree b) (plain : IsPlainBoard b) (lines : Lin
       by_job (Select h) next on is = absurd (let f : false ≡ true = is in cc)
       by_job (SwitchOff off) next on is = absurd (let f : false ≡ true = is in cc)
       by_job (Call s ms) next on is =
-          subst (λ (i : ℕ). Between (step b asks n (entry.Message d bus purpose part parts addr reading bytes heard e)) d (root_of b i)) (sym on)
-          (subst (λ (o : Option Act). Between (with_due d (moved b asks n (sent_by b n d o (first_note (current b asks n d)) reading bytes e) d (entry.Message d bus purpose part parts addr reading bytes heard e) (Sent e bytes))) d (root_of b s)) (sym next)
+          subst (λ (i : ℕ). Between (step b asks n (entry.Message d bus purpose part parts addr reading bytes heard e)) d (root_of b i))
+          (sym on)
+          (subst (λ (o : Option Act). Between
+          (with_due d (moved b asks n (sent_by b n d o (first_note (current b asks n d)) reading bytes e) d
+          (entry.Message d bus purpose part parts addr reading bytes heard e) (Sent e bytes))) d (root_of b s)) (sym next)
           (call_between past steps d s ms may.2.1 e bytes
-          (with_due d (moved b asks n (sent_by b n d (Some (Send (Call s ms) may.2.1)) (first_note (current b asks n d)) reading bytes e) d (entry.Message d bus purpose part parts addr reading bytes heard e) (Sent e bytes)))
+          (with_due d (moved b asks n (sent_by b n d (Some (Send (Call s ms) may.2.1)) (first_note (current b asks n d)) reading bytes e) d
+          (entry.Message d bus purpose part parts addr reading bytes heard e) (Sent e bytes)))
           next refl refl))
 
   -- one entry more between, which settles nothing of the caller
@@ -319,7 +356,8 @@ module _ (b : BoardView) (tree : IsTree b) (plain : IsPlainBoard b) (lines : Lin
     due_only : (x : Entry) → May b callers asks here x → here.due ≡ Some c → is_settle_of c x ≡ false → ⊥
     due_only (entry.Take d l) may due no_settle = (let f : None ≡ Some c = sym may.1 ∙ due in cc)
     due_only (entry.Free d l) may due no_settle = (let f : None ≡ Some c = sym may.1 ∙ due in cc)
-    due_only (entry.Message d bus purpose part parts addr reading bytes heard e) may due no_settle = (let f : None ≡ Some c = sym may.1 ∙ due in cc)
+    due_only (entry.Message d bus purpose part parts addr reading bytes heard e) may due no_settle = (let f : None ≡ Some c = sym may.1
+        ∙ due in cc)
     due_only (entry.Line d mux level failed) may due no_settle = (let f : None ≡ Some c = sym may.1 ∙ due in cc)
     due_only (entry.Settle d x cut) may due no_settle =
         elim may.1 [
@@ -329,24 +367,32 @@ module _ (b : BoardView) (tree : IsTree b) (plain : IsPlainBoard b) (lines : Lin
         ]
 
     -- whose bus's root this is, and who sends there
-    pub own_call : (d : ℕ) (job : Job) (left : ℕ) → here.inside r ≡ Some c → IsNext b asks here d (Send job left) → root_of b (job_bus job) ≡ r
+    pub own_call : (d : ℕ) (job : Job) (left : ℕ) → here.inside r ≡ Some c → IsNext b asks here d (Send job left)
+        → root_of b (job_bus job) ≡ r
         → (d ≡ c) × (is_call (job_purpose job) ≡ true)
     own_call d job left is next root_is =
         let inside = past-inside b tree plain lines asks some callers past steps in
         let mine : InLocks (lock.Bus r) (here.held c) = (inside r c is).locked in
         let theirs : InLocks (lock.Bus r) (here.held d) =
-        subst (λ (i : ℕ). InLocks (lock.Bus i) (here.held d)) root_is (sent_rooted b tree plain lines asks some callers past steps d job left next) in
+        subst (λ (i : ℕ). InLocks (lock.Bus i) (here.held d)) root_is
+        (sent_rooted b tree plain lines asks some callers past steps d job left next) in
         let same : d ≡ c = alone b tree plain lines asks some callers past steps c d (lock.Bus r) mine theirs in
         let act : Send job left ≡ Send (Call (inside r c is).bus (inside r c is).messages) (inside r c is).left =
         same_Some (Send job left) (Send (Call (inside r c is).bus (inside r c is).messages) (inside r c is).left)
-        (sym next ∙ ap (λ (i : ℕ). first_act (current b asks here i)) same ∙ inside_next b tree plain lines asks some callers past steps inside r c is) in
-        (same, subst (λ (j : Job). is_call (job_purpose j) ≡ true) (sym (let f : job ≡ Call (inside r c is).bus (inside r c is).messages = cc in f)) refl)
+        (sym next ∙ ap (λ (i : ℕ). first_act (current b asks here i)) same
+        ∙ inside_next b tree plain lines asks some callers past steps inside r c is) in (
+          same,
+          subst (λ (j : Job). is_call (job_purpose j) ≡ true)
+              (sym (let f : job ≡ Call (inside r c is).bus (inside r c is).messages = cc in f)) refl,
+        )
 
-    pub line_root : (d : ℕ) (job : Job) → IsNext b asks here d (Shift job) → root_of b (home_of_mux b (line_mux job)) ≡ root_of b (job_bus job)
+    pub line_root : (d : ℕ) (job : Job) → IsNext b asks here d (Shift job)
+        → root_of b (home_of_mux b (line_mux job)) ≡ root_of b (job_bus job)
     line_root d job next =
         by_job job (line_may b tree plain lines asks some callers past steps d job next).1
       where
-        by_job : (job : Job) {marks : List Mark} {held : List LockId} {v : Slots} → MayShift b job marks held v → root_of b (home_of_mux b (line_mux job)) ≡ root_of b (job_bus job)
+        by_job : (job : Job) {marks : List Mark} {held : List LockId} {v : Slots} → MayShift b job marks held v
+            → root_of b (home_of_mux b (line_mux job)) ≡ root_of b (job_bus job)
         by_job (Call bus ms) may = absurd (let f : false ≡ true = may.by_line in cc)
         by_job (Select h) may = ap (λ (i : ℕ). root_of b i) (tree.hop h.bus h may.finds.1).home
         by_job (SwitchOff off) may = ap (λ (i : ℕ). root_of b i) may.finds.1
@@ -357,11 +403,13 @@ module _ (b : BoardView) (tree : IsTree b) (plain : IsPlainBoard b) (lines : Lin
         let inside = past-inside b tree plain lines asks some callers past steps in
         let mine : InLocks (lock.Bus r) (here.held c) = (inside r c is).locked in
         let theirs : InLocks (lock.Bus r) (here.held d) =
-        subst (λ (i : ℕ). InLocks (lock.Bus i) (here.held d)) root_is (line_may b tree plain lines asks some callers past steps d job next).1.rooted in
+        subst (λ (i : ℕ). InLocks (lock.Bus i) (here.held d)) root_is
+        (line_may b tree plain lines asks some callers past steps d job next).1.rooted in
         let same : d ≡ c = alone b tree plain lines asks some callers past steps c d (lock.Bus r) mine theirs in
         let act : Shift job ≡ Send (Call (inside r c is).bus (inside r c is).messages) (inside r c is).left =
         same_Some (Shift job) (Send (Call (inside r c is).bus (inside r c is).messages) (inside r c is).left)
-        (sym next ∙ ap (λ (i : ℕ). first_act (current b asks here i)) same ∙ inside_next b tree plain lines asks some callers past steps inside r c is) in cc
+        (sym next ∙ ap (λ (i : ℕ). first_act (current b asks here i)) same
+        ∙ inside_next b tree plain lines asks some callers past steps inside r c is) in cc
 
     one_between : (x : Entry) → May b callers asks here x → is_settle_of c x ≡ false → Between here c r
         → Between (step b asks here x) c r × IsOwn b r c x
@@ -371,7 +419,8 @@ module _ (b : BoardView) (tree : IsTree b) (plain : IsPlainBoard b) (lines : Lin
           | inr due ↦ absurd (due_only x may due no_settle)
         ]
       where
-        own_message : (d bus : ℕ) (purpose : Purpose) → d ≡ c → is_call purpose ≡ true → root_of b bus ≡ r → ((eqb d c && is_call purpose) && eqb (root_of b bus) r) ≡ true
+        own_message : (d bus : ℕ) (purpose : Purpose) → d ≡ c → is_call purpose ≡ true → root_of b bus ≡ r
+            → ((eqb d c && is_call purpose) && eqb (root_of b bus) r) ≡ true
         own_message d bus purpose same call root_is =
             ap (λ (t : Bool). (t && is_call purpose) && eqb (root_of b bus) r) (eq-eqb d c same)
             ∙ ap (λ (t : Bool). t && eqb (root_of b bus) r) call ∙ eq-eqb (root_of b bus) r root_is
@@ -381,34 +430,44 @@ module _ (b : BoardView) (tree : IsTree b) (plain : IsPlainBoard b) (lines : Lin
         inside_more (entry.Free d l) may is = (inl is, λ f. absurd (let g : false ≡ true = f in cc))
         inside_more (entry.Settle d y cut) may is = (inl is, λ f. absurd (let g : false ≡ true = f in cc))
         inside_more (entry.Line d mux level failed) may is = (
-          subst (λ (o : Option Act). Between (with_due d (moved b asks here (lined_by b here o (first_note (current b asks here d)) failed) d (entry.Line d mux level failed) (Lined failed))) c r) (sym may.2.1)
+          subst (λ (o : Option Act). Between
+              (with_due d (moved b asks here (lined_by b here o (first_note (current b asks here d)) failed) d
+              (entry.Line d mux level failed) (Lined failed))) c r) (sym may.2.1)
               (inl is),
           λ f. absurd (no_line d may.2.0 is may.2.1
-              (sym (line_root d may.2.0 may.2.1) ∙ ap (λ (m : ℕ). root_of b (home_of_mux b m)) (sym may.2.2.of_mux) ∙ eqb-true (root_of b (home_of_mux b mux)) r f)),
+              (sym (line_root d may.2.0 may.2.1) ∙ ap (λ (m : ℕ). root_of b (home_of_mux b m)) (sym may.2.2.of_mux)
+              ∙ eqb-true (root_of b (home_of_mux b mux)) r f)),
         )
         inside_more (entry.Message d bus purpose part parts addr reading bytes heard e) may is =
             elim (eqb_tells (root_of b bus) r) [
               | inl h ↦ (let own = own_call d may.2.0 may.2.1 is may.2.2 (ap (λ (i : ℕ). root_of b i) (sym may.2.3.on_bus) ∙ h.1) in
                   let call : is_call purpose ≡ true = ap is_call may.2.3.for_purpose ∙ own.1 in (
-                    subst (λ (i : ℕ). Between (step b asks here (entry.Message d bus purpose part parts addr reading bytes heard e)) i r) own.0
-                        (subst (λ (i : ℕ). Between (step b asks here (entry.Message d bus purpose part parts addr reading bytes heard e)) d i) h.1
+                    subst (λ (i : ℕ). Between (step b asks here (entry.Message d bus purpose part parts addr reading bytes heard e)) i r)
+                        own.0
+                        (subst (λ (i : ℕ). Between (step b asks here (entry.Message d bus purpose part parts addr reading bytes heard e)) d
+                        i) h.1
                         (entry_between past steps d bus purpose part parts addr reading bytes heard e may call)),
                     λ f. own_message d bus purpose own.0 call h.1,
                   ))
               | inr h ↦ (
-                subst (λ (o : Option Act). Between (with_due d (moved b asks here (sent_by b here d o (first_note (current b asks here d)) reading bytes e) d (entry.Message d bus purpose part parts addr reading bytes heard e) (Sent e bytes))) c r) (sym may.2.2)
-                    (inl (at_other here.inside (root_of b (job_bus may.2.0)) (inside_after may.2.0 may.2.1 (Sent e bytes) d (here.inside (root_of b (job_bus may.2.0)))) r
+                subst (λ (o : Option Act). Between
+                    (with_due d (moved b asks here (sent_by b here d o (first_note (current b asks here d)) reading bytes e) d
+                    (entry.Message d bus purpose part parts addr reading bytes heard e) (Sent e bytes))) c r) (sym may.2.2)
+                    (inl (at_other here.inside (root_of b (job_bus may.2.0))
+                    (inside_after may.2.0 may.2.1 (Sent e bytes) d (here.inside (root_of b (job_bus may.2.0)))) r
                     (λ f. h.1 (ap (λ (i : ℕ). root_of b i) may.2.3.on_bus ∙ sym f)) ∙ is)),
                 λ f. absurd (h.1 (eqb-true (root_of b bus) r f)),
               )
             ]
 
   -- THE INDUCTION over the entries between
-  walk_on : (c r : ℕ) (x : Entry) (earlier : List Entry) → is_call_of b r c x ≡ true → (middle : List Entry) → IsStepwise b callers asks (middle ++ x ∷ earlier)
+  walk_on : (c r : ℕ) (x : Entry) (earlier : List Entry) → is_call_of b r c x ≡ true → (middle : List Entry)
+      → IsStepwise b callers asks (middle ++ x ∷ earlier)
       → list_any (is_settle_of c) middle ≡ false → Between (now b asks (middle ++ x ∷ earlier)) c r × AllByRecursion (IsOwn b r c) middle
   walk_on c r x earlier call [] steps none = (first_between x call steps, tt)
     where
-      first_between : (x : Entry) → is_call_of b r c x ≡ true → IsStepwise b callers asks (x ∷ earlier) → Between (now b asks (x ∷ earlier)) c r
+      first_between : (x : Entry) → is_call_of b r c x ≡ true → IsStepwise b callers asks (x ∷ earlier)
+          → Between (now b asks (x ∷ earlier)) c r
       first_between (entry.Take d l) call steps = absurd (let f : false ≡ true = call in cc)
       first_between (entry.Free d l) call steps = absurd (let f : false ≡ true = call in cc)
       first_between (entry.Line d mux level failed) call steps = absurd (let f : false ≡ true = call in cc)
@@ -416,8 +475,10 @@ module _ (b : BoardView) (tree : IsTree b) (plain : IsPlainBoard b) (lines : Lin
       first_between (entry.Message d bus purpose part parts addr reading bytes heard e) call steps =
           let outer = and_parts (eqb d c && is_call purpose) (eqb (root_of b bus) r) call in
           let inner = and_parts (eqb d c) (is_call purpose) outer.0 in
-          subst (λ (i : ℕ). Between (now b asks (entry.Message d bus purpose part parts addr reading bytes heard e ∷ earlier)) i r) (eqb-true d c inner.0)
-          (subst (λ (i : ℕ). Between (now b asks (entry.Message d bus purpose part parts addr reading bytes heard e ∷ earlier)) d i) (eqb-true (root_of b bus) r outer.1)
+          subst (λ (i : ℕ). Between (now b asks (entry.Message d bus purpose part parts addr reading bytes heard e ∷ earlier)) i r)
+          (eqb-true d c inner.0)
+          (subst (λ (i : ℕ). Between (now b asks (entry.Message d bus purpose part parts addr reading bytes heard e ∷ earlier)) d i)
+          (eqb-true (root_of b bus) r outer.1)
           (entry_between earlier steps.1 d bus purpose part parts addr reading bytes heard e steps.0 inner.1))
   walk_on c r x earlier call (e ∷ middle) steps none =
       let each = or_parts (is_settle_of c e) (list_any (is_settle_of c) middle) none in
@@ -430,5 +491,6 @@ module _ (b : BoardView) (tree : IsTree b) (plain : IsPlainBoard b) (lines : Lin
       record {
         between = λ c r later middle earlier x y is call_x call_y none.
             (walk_on c r x earlier call_x middle
-            (stepwise_front b callers asks later (y ∷ (middle ++ x ∷ earlier)) (subst (λ (es : List Entry). IsStepwise b callers asks es) is steps)).1 none).1;
+            (stepwise_front b callers asks later (y ∷ (middle ++ x ∷ earlier))
+            (subst (λ (es : List Entry). IsStepwise b callers asks es) is steps)).1 none).1;
       }

@@ -22,14 +22,19 @@ use Rattle.bus_laws.proofs.schedule.Turns.{turns-more}
 pub begins : (b : BoardView) (callers : ℕ) (asks : Asks) (words : List ℕ) → KeepsTo b callers asks words words []
 begins b callers asks words = λ later comes f. f
 
-pub ends : (b : BoardView) (callers : ℕ) (asks : Asks) (words : List ℕ) (past : List Entry) → KeepsTo b callers asks words [] past → Follows words (reverse past)
-ends b callers asks words past kept = subst (λ (ts : List Turn). FollowsWords words [] ts) (append-nil (turns (reverse past))) (kept [] tt tt)
+pub ends : (b : BoardView) (callers : ℕ) (asks : Asks) (words : List ℕ) (past : List Entry) → KeepsTo b callers asks words [] past
+    → Follows words (reverse past)
+ends b callers asks words past kept = subst (λ (ts : List Turn). FollowsWords words [] ts) (append-nil (turns (reverse past)))
+    (kept [] tt tt)
 
-module _ (b : BoardView) (tree : IsTree b) (plain : IsPlainBoard b) (lines : LinesAreLocked b) (asks : Asks) (some : AsksForMessages asks) (callers : ℕ) (words : List ℕ)
+module _ (b : BoardView) (tree : IsTree b) (plain : IsPlainBoard b) (lines : LinesAreLocked b) (asks : Asks) (some : AsksForMessages asks)
+    (callers : ℕ) (words : List ℕ)
     (past : List Entry) (steps : IsStepwise b callers asks past) where
-  same_turns : (now b asks past).due ≡ None → (t : Turn) → IsTurn b callers asks past t → (later : List Turn) → turns (reverse past) ++ t ∷ later ≡ turns (reverse (past_after past t)) ++ later
+  same_turns : (now b asks past).due ≡ None → (t : Turn) → IsTurn b callers asks past t → (later : List Turn)
+      → turns (reverse past) ++ t ∷ later ≡ turns (reverse (past_after past t)) ++ later
   same_turns none t is later =
-      let back : reverse (past_after past t) ≡ reverse past ++ t.entries = reverse-append (reverse t.entries) past ∙ ap (λ (es : List Entry). reverse past ++ es) (reverse-reverse t.entries) in
+      let back : reverse (past_after past t) ≡ reverse past ++ t.entries = reverse-append (reverse t.entries) past
+      ∙ ap (λ (es : List Entry). reverse past ++ es) (reverse-reverse t.entries) in
       sym (append_assoc (turns (reverse past)) (t ∷ []) later)
       ∙ ap (λ (ts : List Turn). ts ++ later) (sym (ap turns back ∙ turns-more b tree plain lines asks some callers past steps none t is))
 
@@ -37,18 +42,26 @@ module _ (b : BoardView) (tree : IsTree b) (plain : IsPlainBoard b) (lines : Lin
   ready t is later = turn-ready b tree plain lines asks some callers t.caller past t later refl is (λ l o e. holder-told b asks past l ∙ e)
 
   -- the word's caller made a step
-  pub made : (now b asks past).due ≡ None → (t : Turn) → IsTurn b callers asks past t → (left : List ℕ) → KeepsTo b callers asks words (t.caller ∷ left) past → KeepsTo b callers asks words left (past_after past t)
+  pub made : (now b asks past).due ≡ None → (t : Turn) → IsTurn b callers asks past t → (left : List ℕ)
+      → KeepsTo b callers asks words (t.caller ∷ left) past → KeepsTo b callers asks words left (past_after past t)
   made none t is left kept = λ later comes f.
-      subst (λ (ts : List Turn). FollowsWords words [] ts) (same_turns none t is later) (kept (t ∷ later) (is, comes) (word-made past t.caller left t later refl (ready t is later) f))
+      subst (λ (ts : List Turn). FollowsWords words [] ts) (same_turns none t is later)
+      (kept (t ∷ later) (is, comes) (word-made past t.caller left t later refl (ready t is later) f))
 
   -- .. or it was stuck
-  pub passed : (w : ℕ) → IsStuck b asks past w → (left : List ℕ) → KeepsTo b callers asks words (w ∷ left) past → KeepsTo b callers asks words left past
+  pub passed : (w : ℕ) → IsStuck b asks past w → (left : List ℕ) → KeepsTo b callers asks words (w ∷ left) past
+      → KeepsTo b callers asks words left past
   passed w stuck left kept = λ later comes f.
       kept later comes (word-passed past w left later (stuck-waits b tree plain lines asks some callers w past steps stuck later comes) f)
 
   -- behind the last word the least made a step
-  pub least-made : (now b asks past).due ≡ None → (t : Turn) → IsTurn b callers asks past t → ((d : ℕ) → d < t.caller → IsStuck b asks past d)
+  pub least-made : (now b asks past).due ≡ None → (t : Turn) → IsTurn b callers asks past t
+      → ((d : ℕ) → d < t.caller → IsStuck b asks past d)
       → KeepsTo b callers asks words [] past → KeepsTo b callers asks words [] (past_after past t)
   least-made none t is stuck kept = λ later comes f.
       subst (λ (ts : List Turn). FollowsWords words [] ts) (same_turns none t is later)
-      (kept (t ∷ later) (is, comes) (ready t is later, (λ d low. stuck-waits b tree plain lines asks some callers d past steps (stuck d low) (t ∷ later) (is, comes)), f))
+      (kept (t ∷ later) (is, comes) (
+        ready t is later,
+        (λ d low. stuck-waits b tree plain lines asks some callers d past steps (stuck d low) (t ∷ later) (is, comes)),
+        f,
+      ))

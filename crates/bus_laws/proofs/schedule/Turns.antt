@@ -57,7 +57,8 @@ some_turn : (e : Entry) (ts : List Turn) → (t : Turn) × (us : List Turn) × (
 some_turn e [] = (turn_of e, [], refl)
 some_turn e (t ∷ ts) = by (joins e t.entries t.caller)
   where
-    by : (x : Bool) → (u : Turn) × (us : List Turn) × (cond x ((record { caller = caller_of e; entries = e ∷ t.entries }) ∷ ts) (turn_of e ∷ t ∷ ts) ≡ u ∷ us)
+    by : (x : Bool) → (u : Turn) × (us : List Turn)
+        × (cond x ((record { caller = caller_of e; entries = e ∷ t.entries }) ∷ ts) (turn_of e ∷ t ∷ ts) ≡ u ∷ us)
     by true = (record { caller = caller_of e; entries = e ∷ t.entries }, ts, refl)
     by false = (turn_of e, t ∷ ts, refl)
 
@@ -87,7 +88,8 @@ not_all true true false never = refl
 not_all true true true never = absurd (never refl refl refl)
 
 -- a step by itself
-turn_alone : (b : BoardView) (callers : ℕ) (asks : Asks) (past : List Entry) (t : Turn) → IsTurn b callers asks past t → turns t.entries ≡ t ∷ []
+turn_alone : (b : BoardView) (callers : ℕ) (asks : Asks) (past : List Entry) (t : Turn) → IsTurn b callers asks past t
+    → turns t.entries ≡ t ∷ []
 turn_alone b callers asks past t is = elim is [ inl one ↦ single one | inr two ↦ double two ]
   where
     single : IsOne b callers asks past t → turns t.entries ≡ t ∷ []
@@ -102,12 +104,14 @@ turn_alone b callers asks past t is = elim is [ inl one ↦ single one | inr two
         all_true (is_stepping two.entry) (is_settle two.settle) (caller_of two.entry == caller_of two.settle) two.steps two.settles
         (eq-eqb (caller_of two.entry) (caller_of two.settle) (two.own ∙ sym two.own_settle)) in
         ap turns two.entries
-        ∙ ap (λ (x : Bool). cond x ((record { caller = caller_of two.entry; entries = two.entry ∷ two.settle ∷ [] }) ∷ []) (turn_of two.entry ∷ turn_of two.settle ∷ [])) joined
+        ∙ ap (λ (x : Bool). cond x ((record { caller = caller_of two.entry; entries = two.entry ∷ two.settle ∷ [] }) ∷ [])
+        (turn_of two.entry ∷ turn_of two.settle ∷ [])) joined
         ∙ ap (λ (c : ℕ). (record { caller = c; entries = two.entry ∷ two.settle ∷ [] }) ∷ []) two.own
         ∙ ap (λ (es : List Entry). (record { caller = t.caller; entries = es }) ∷ []) (sym two.entries)
 
 first_entry : (b : BoardView) (callers : ℕ) (asks : Asks) (past : List Entry) (t : Turn) → IsTurn b callers asks past t
-    → (f : Entry) × (rest : List Entry) × (t.entries ≡ f ∷ rest) × (is_settle f ≡ true → is_due (first_act (ahead b asks (now b asks past) t.caller)) ≡ true)
+    → (f : Entry) × (rest : List Entry) × (t.entries ≡ f ∷ rest)
+    × (is_settle f ≡ true → is_due (first_act (ahead b asks (now b asks past) t.caller)) ≡ true)
 first_entry b callers asks past t is =
     elim is [
       | inl one ↦ (one.entry, [], one.entries, one.alone)
@@ -121,7 +125,8 @@ first_entry b callers asks past t is =
     apart (entry.Message c bus why part parts addr reading bytes heard e) s t = (let f : false ≡ true = t in cc)
     apart (entry.Line c mux level failed) s t = (let f : false ≡ true = t in cc)
 
-sent_held : (b : BoardView) (n : Now) (c : ℕ) (o : Option Act) (note : Note) (reading : Bool) (bytes : List ℕ) (e : End) → (sent_by b n c o note reading bytes e).held c ≡ n.held c
+sent_held : (b : BoardView) (n : Now) (c : ℕ) (o : Option Act) (note : Note) (reading : Bool) (bytes : List ℕ) (e : End)
+    → (sent_by b n c o note reading bytes e).held c ≡ n.held c
 sent_held b n c None note reading bytes e = refl
 sent_held b n c (Some (Take l)) note reading bytes e = refl
 sent_held b n c (Some (Free l)) note reading bytes e = refl
@@ -129,7 +134,8 @@ sent_held b n c (Some (Send job left)) note reading bytes e = refl
 sent_held b n c (Some (Shift job)) note reading bytes e = refl
 sent_held b n c (Some (Settle v)) note reading bytes e = refl
 
-lined_held : (b : BoardView) (n : Now) (c : ℕ) (o : Option Act) (note : Note) (failed : Bool) → (lined_by b n o note failed).held c ≡ n.held c
+lined_held : (b : BoardView) (n : Now) (c : ℕ) (o : Option Act) (note : Note) (failed : Bool)
+    → (lined_by b n o note failed).held c ≡ n.held c
 lined_held b n c None note failed = refl
 lined_held b n c (Some (Take l)) note failed = refl
 lined_held b n c (Some (Free l)) note failed = refl
@@ -137,7 +143,8 @@ lined_held b n c (Some (Send job left)) note failed = refl
 lined_held b n c (Some (Shift job)) note failed = refl
 lined_held b n c (Some (Settle v)) note failed = refl
 
-module _ (b : BoardView) (tree : IsTree b) (plain : IsPlainBoard b) (lines : LinesAreLocked b) (asks : Asks) (some : AsksForMessages asks) where
+module _ (b : BoardView) (tree : IsTree b) (plain : IsPlainBoard b) (lines : LinesAreLocked b) (asks : Asks)
+    (some : AsksForMessages asks) where
   -- whoever has a lock has a walk under way
   goes_on : (m : Now) → Stands b m → (c : ℕ) (l : LockId) → InLocks l (m.held c) → is_over (m.walk c) ≡ false
   goes_on m stands c l own = by (is_over (m.walk c)) refl
@@ -152,30 +159,37 @@ module _ (b : BoardView) (tree : IsTree b) (plain : IsPlainBoard b) (lines : Lin
           absurd (subst (λ (ls : List LockId). InLocks l ls) none own)
 
   -- who sends or switches has its root's lock
-  sends_locked : (n : Now) → Stands b n → (c : ℕ) (job : Job) (left : ℕ) → first_act (current b asks n c) ≡ Some (Send job left) → InLocks (lock.Bus (root_of b (job_bus job))) (n.held c)
+  sends_locked : (n : Now) → Stands b n → (c : ℕ) (job : Job) (left : ℕ) → first_act (current b asks n c) ≡ Some (Send job left)
+      → InLocks (lock.Bus (root_of b (job_bus job))) (n.held c)
   sends_locked n stands c job left first =
       let cur = current-stands b tree lines asks some n c stands in
       let at = first_is (current b asks n c) (Send job left) first in
-      let runs : Runs b cur.whose (n.held c) cur.view (Then (Send job left) at.0 at.1) = subst (λ (w : WalkTree). Runs b cur.whose (n.held c) cur.view w) at.2 cur.runs in
+      let runs : Runs b cur.whose (n.held c) cur.view (Then (Send job left) at.0 at.1) = subst
+      (λ (w : WalkTree). Runs b cur.whose (n.held c) cur.view w) at.2 cur.runs in
       runs.0.rooted
 
-  shifts_locked : (n : Now) → Stands b n → (c : ℕ) (job : Job) → first_act (current b asks n c) ≡ Some (Shift job) → InLocks (lock.Bus (root_of b (job_bus job))) (n.held c)
+  shifts_locked : (n : Now) → Stands b n → (c : ℕ) (job : Job) → first_act (current b asks n c) ≡ Some (Shift job)
+      → InLocks (lock.Bus (root_of b (job_bus job))) (n.held c)
   shifts_locked n stands c job first =
       let cur = current-stands b tree lines asks some n c stands in
       let at = first_is (current b asks n c) (Shift job) first in
-      let runs : Runs b cur.whose (n.held c) cur.view (Then (Shift job) at.0 at.1) = subst (λ (w : WalkTree). Runs b cur.whose (n.held c) cur.view w) at.2 cur.runs in
+      let runs : Runs b cur.whose (n.held c) cur.view (Then (Shift job) at.0 at.1) = subst
+      (λ (w : WalkTree). Runs b cur.whose (n.held c) cur.view w) at.2 cur.runs in
       runs.0.rooted
 
-  by_due : (m : Now) (c : ℕ) → is_over (m.walk c) ≡ false → m.due ≡ cond (is_due (first_act (m.walk c))) (Some c) None → m.due ≡ None → is_due (first_act (ahead b asks m c)) ≡ false
+  by_due : (m : Now) (c : ℕ) → is_over (m.walk c) ≡ false → m.due ≡ cond (is_due (first_act (m.walk c))) (Some c) None → m.due ≡ None
+      → is_due (first_act (ahead b asks m c)) ≡ false
   by_due m c going is none =
-      ap (λ (x : Bool). is_due (first_act (cond x (begun b (asks c (m.settled c))) (m.walk c)))) going ∙ by (is_due (first_act (m.walk c))) (sym is ∙ none)
+      ap (λ (x : Bool). is_due (first_act (cond x (begun b (asks c (m.settled c))) (m.walk c)))) going
+      ∙ by (is_due (first_act (m.walk c))) (sym is ∙ none)
     where
       by : (x : Bool) → cond x (Some c) None ≡ None → x ≡ false
       by false e = refl
       by true e = absurd (let f : Some c ≡ None = e in cc)
 
   -- BEHIND A MESSAGE whose settle isn't due, its caller's next step is no settle
-  pub quiet-behind : (callers : ℕ) (n : Now) (e : Entry) → May b callers asks n e → Stands b n → Stands b (step b asks n e) → is_stepping e ≡ true → (step b asks n e).due ≡ None
+  pub quiet-behind : (callers : ℕ) (n : Now) (e : Entry) → May b callers asks n e → Stands b n → Stands b (step b asks n e)
+      → is_stepping e ≡ true → (step b asks n e).due ≡ None
       → is_due (first_act (ahead b asks (step b asks n e) (caller_of e))) ≡ false
   quiet-behind callers n (entry.Take c l) may was stands s none = absurd (let f : false ≡ true = s in cc)
   quiet-behind callers n (entry.Free c l) may was stands s none = absurd (let f : false ≡ true = s in cc)
@@ -183,15 +197,20 @@ module _ (b : BoardView) (tree : IsTree b) (plain : IsPlainBoard b) (lines : Lin
   quiet-behind callers n (entry.Message c bus why part parts addr reading bytes heard e) may was stands s none =
       let m : Now = step b asks n (entry.Message c bus why part parts addr reading bytes heard e) in
       let l : LockId = lock.Bus (root_of b (job_bus may.2.0)) in
-      let own : InLocks l (m.held c) = subst (λ (ls : List LockId). InLocks l ls) (sym (sent_held b n c (first_act (current b asks n c)) (first_note (current b asks n c)) reading bytes e)) (sends_locked n was c may.2.0 may.2.1 may.2.2) in
+      let own : InLocks l (m.held c) = subst (λ (ls : List LockId). InLocks l ls)
+      (sym (sent_held b n c (first_act (current b asks n c)) (first_note (current b asks n c)) reading bytes e))
+      (sends_locked n was c may.2.0 may.2.1 may.2.2) in
       by_due m c (goes_on m stands c l own) refl none
   quiet-behind callers n (entry.Line c mux level failed) may was stands s none =
       let m : Now = step b asks n (entry.Line c mux level failed) in
       let l : LockId = lock.Bus (root_of b (job_bus may.2.0)) in
-      let own : InLocks l (m.held c) = subst (λ (ls : List LockId). InLocks l ls) (sym (lined_held b n c (first_act (current b asks n c)) (first_note (current b asks n c)) failed)) (shifts_locked n was c may.2.0 may.2.1) in
+      let own : InLocks l (m.held c) = subst (λ (ls : List LockId). InLocks l ls)
+      (sym (lined_held b n c (first_act (current b asks n c)) (first_note (current b asks n c)) failed))
+      (shifts_locked n was c may.2.0 may.2.1) in
       by_due m c (goes_on m stands c l own) refl none
 
-  apart : (callers : ℕ) (past : List Entry) → IsStepwise b callers asks past → (now b asks past).due ≡ None → (t : Turn) → IsTurn b callers asks past t → last_joins (reverse past) (turns t.entries) ≡ false
+  apart : (callers : ℕ) (past : List Entry) → IsStepwise b callers asks past → (now b asks past).due ≡ None → (t : Turn)
+      → IsTurn b callers asks past t → last_joins (reverse past) (turns t.entries) ≡ false
   apart callers [] steps none t is = refl
   apart callers (e ∷ past) steps none t is =
       let f = first_entry b callers asks (e ∷ past) t is in
@@ -201,15 +220,19 @@ module _ (b : BoardView) (tree : IsTree b) (plain : IsPlainBoard b) (lines : Lin
       (λ s u v.
       let same : caller_of e ≡ t.caller = eqb-true (caller_of e) t.caller v in
       let still : is_due (first_act (ahead b asks (now b asks (e ∷ past)) (caller_of e))) ≡ false =
-      quiet-behind callers (now b asks past) e steps.0 (past-stands b tree plain lines asks some callers past steps.1) (past-stands b tree plain lines asks some callers (e ∷ past) steps) s none in
-      let both : false ≡ true = sym still ∙ ap (λ (c : ℕ). is_due (first_act (ahead b asks (now b asks (e ∷ past)) c))) same ∙ f.3 u in cc) in
+      quiet-behind callers (now b asks past) e steps.0 (past-stands b tree plain lines asks some callers past steps.1)
+      (past-stands b tree plain lines asks some callers (e ∷ past) steps) s none in
+      let both : false ≡ true = sym still ∙ ap (λ (c : ℕ). is_due (first_act (ahead b asks (now b asks (e ∷ past)) c))) same ∙ f.3 u in
+      cc) in
       ap (λ (es : List Entry). last_joins es (turns t.entries)) (reverse-cons e past)
       ∙ last_at_end (reverse past) e (turns t.entries)
       ∙ ap (joins_head e) (turn_alone b callers asks (e ∷ past) t is)
       ∙ joined
 
   -- ONE STEP MORE
-  pub turns-more : (callers : ℕ) (past : List Entry) → IsStepwise b callers asks past → (now b asks past).due ≡ None → (t : Turn) → IsTurn b callers asks past t
+  pub turns-more : (callers : ℕ) (past : List Entry) → IsStepwise b callers asks past → (now b asks past).due ≡ None → (t : Turn)
+      → IsTurn b callers asks past t
       → turns (reverse past ++ t.entries) ≡ turns (reverse past) ++ t ∷ []
   turns-more callers past steps none t is =
-      turns_apart (reverse past) t.entries (apart callers past steps none t is) ∙ ap (λ (ts : List Turn). turns (reverse past) ++ ts) (turn_alone b callers asks past t is)
+      turns_apart (reverse past) t.entries (apart callers past steps none t is)
+      ∙ ap (λ (ts : List Turn). turns (reverse past) ++ ts) (turn_alone b callers asks past t is)

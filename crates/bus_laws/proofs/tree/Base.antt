@@ -28,14 +28,18 @@ pub settled-runs : (b : BoardView) (whose : TransferView) (held : List LockId) (
 settled-runs b whose held v true e w h = h
 settled-runs b whose held v false e w h = h
 
-pub over-runs : (b : BoardView) (whose : TransferView) (held : List LockId) (v : Slots) (job : Job) (left : ℕ) (note : Note) (k : JobOutcome → WalkTree) (out : ActOutcome)
+pub over-runs : (b : BoardView) (whose : TransferView) (held : List LockId) (v : Slots) (job : Job) (left : ℕ) (note : Note) (k : JobOutcome
+    → WalkTree) (out : ActOutcome)
     → Runs b whose held v (k (job_outcome job left out)) → Runs b whose held v (over job left note k out)
 over-runs b whose held v job left note k out h =
-    settled-runs b whose held v (note.forward && decides job (job_outcome job left out)) (verdict_of job left out) (k (job_outcome job left out)) h
+    settled-runs b whose held v (note.forward && decides job (job_outcome job left out)) (verdict_of job left out)
+    (k (job_outcome job left out)) h
 
 -- what follows a message, whichever way it goes on
-go-runs : (b : BoardView) (whose : TransferView) (held : List LockId) (v : Slots) (job : Job) (left : ℕ) (note : Note) (k : JobOutcome → WalkTree) (out : ActOutcome) (g : Go)
-    → Runs b whose held v (messages left job note k) → Runs b whose held v (messages zero job note k) → Runs b whose held v (over job (suc left) note k out)
+go-runs : (b : BoardView) (whose : TransferView) (held : List LockId) (v : Slots) (job : Job) (left : ℕ) (note : Note) (k : JobOutcome
+    → WalkTree) (out : ActOutcome) (g : Go)
+    → Runs b whose held v (messages left job note k) → Runs b whose held v (messages zero job note k)
+    → Runs b whose held v (over job (suc left) note k out)
     → Runs b whose held v (by_go g (messages left job note k) (messages zero job note k) (over job (suc left) note k out))
 go-runs b whose held v job left note k out On hx hy hz = hx
 go-runs b whose held v job left note k out Last hx hy hz = hy
@@ -70,7 +74,8 @@ call_can b bus ms end.Refused = (refl, tt, tt)
 call_can b bus ms end.Proto = (refl, tt, tt)
 call_can b bus ms (end.Cut q) = tt
 
-module _ (b : BoardView) (whose : TransferView) (bus : ℕ) (ms : List MessageView) (note : Note) (k : JobOutcome → WalkTree) (held : List LockId) (v : Slots)
+module _ (b : BoardView) (whose : TransferView) (bus : ℕ) (ms : List MessageView) (note : Note) (k : JobOutcome → WalkTree)
+    (held : List LockId) (v : Slots)
     (goes_on : (o : JobOutcome) → CanJob b [] (Call bus ms) o → Runs b whose held v (k o)) where
   call_over : (left : ℕ) (out : ActOutcome) → CanSend b (Call bus ms) left out → Runs b whose held v (over (Call bus ms) left note k out)
   call_over left (Sent e bytes) can =
@@ -81,10 +86,19 @@ module _ (b : BoardView) (whose : TransferView) (bus : ℕ) (ms : List MessageVi
   call_last : MaySend b whose (Call bus ms) zero note.marks held v → Runs b whose held v (messages zero (Call bus ms) note k)
   call_last may = (may, λ out can. call_over zero out can)
 
-  pub call_runs : MaySend b whose (Call bus ms) zero note.marks held v → (left : ℕ) → Runs b whose held v (messages left (Call bus ms) note k)
+  pub call_runs : MaySend b whose (Call bus ms) zero note.marks held v → (left : ℕ)
+      → Runs b whose held v (messages left (Call bus ms) note k)
   call_runs may zero = call_last may
   call_runs may (suc left) = (
-    record { reached = may.reached; rooted = may.rooted; finds = tt; owns = tt; may_fail = may.may_fail; granted = may.granted; by_message = refl },
+    record {
+      reached = may.reached;
+      rooted = may.rooted;
+      finds = tt;
+      owns = tt;
+      may_fail = may.may_fail;
+      granted = may.granted;
+      by_message = refl;
+    },
     λ out can. go-runs b whose held v (Call bus ms) left note k out (goes (Call bus ms) left out)
         (call_runs may left) (call_last may) (call_over (suc left) out can),
   )
@@ -104,7 +118,11 @@ fail_along : (b : BoardView) (held : List LockId) (on mux : ℕ) (v w : Slots) (
 fail_along b held on mux v w [] same un fail = tt
 fail_along b held on mux v w (m ∷ ms) same un fail =
     let at : v m.on ≡ w m.on = same.off m.on (λ e. un.0 (sym e)) in (
-      record { locked = fail.0.locked; at_home = fail.0.at_home; forgets = subst (λ (x : At). IsOfMux m.mux x.slot) (sym at) fail.0.forgets },
+      record {
+        locked = fail.0.locked;
+        at_home = fail.0.at_home;
+        forgets = subst (λ (x : At). IsOfMux m.mux x.slot) (sym at) fail.0.forgets;
+      },
       fail_along b held on mux v w ms same un.1 fail.1,
     )
 
@@ -124,17 +142,20 @@ fail_own b held on mux v w (m ∷ ms) same heads own fail = (
 abbrev at_with : MuxSlot → (ℕ → Option ℕ) → At
 at_with s k = record { slot = s; kept = k }
 
-changed_alike : (f g : ℕ → Option ℕ) (m : ℕ) (c : Option ℕ) → ((n : ℕ) → (n ≡ m → ⊥) → f n ≡ g n) → (n : ℕ) → changed_at f m c n ≡ changed_at g m c n
+changed_alike : (f g : ℕ → Option ℕ) (m : ℕ) (c : Option ℕ) → ((n : ℕ) → (n ≡ m → ⊥) → f n ≡ g n) → (n : ℕ)
+    → changed_at f m c n ≡ changed_at g m c n
 changed_alike f g m c same n =
     elim (eqb_tells n m) [
       | inl h ↦ ap (λ (t : Bool). cond t c (f n)) h.0 ∙ sym (ap (λ (t : Bool). cond t c (g n)) h.0)
       | inr h ↦ ap (λ (t : Bool). cond t c (f n)) h.0 ∙ same n h.1 ∙ sym (ap (λ (t : Bool). cond t c (g n)) h.0)
     ]
 
-turned_alike : (x y : At) (m : ℕ) (s : MuxSlot) (c : Option ℕ) → ((n : ℕ) → (n ≡ m → ⊥) → x.kept n ≡ y.kept n) → turned_at x m s c ≡ turned_at y m s c
+turned_alike : (x y : At) (m : ℕ) (s : MuxSlot) (c : Option ℕ) → ((n : ℕ) → (n ≡ m → ⊥) → x.kept n ≡ y.kept n)
+    → turned_at x m s c ≡ turned_at y m s c
 turned_alike x y m s c same = ap (λ (k : ℕ → Option ℕ). at_with s k) (fun_ext (changed_alike x.kept y.kept m c same))
 
-turned-alike : (on m : ℕ) (v w : Slots) (s : MuxSlot) (c : Option ℕ) → IsSameOff on m v w → (p : ℕ) → turned v on m s c p ≡ turned w on m s c p
+turned-alike : (on m : ℕ) (v w : Slots) (s : MuxSlot) (c : Option ℕ) → IsSameOff on m v w → (p : ℕ)
+    → turned v on m s c p ≡ turned w on m s c p
 turned-alike on m v w s c same p =
     elim (eqb_tells p on) [
       | inl h ↦ ap (λ t. cond t (turned_at (v on) m s c) (v p)) h.0 ∙ turned_alike (v on) (w on) m s c same.kept
@@ -142,7 +163,8 @@ turned-alike on m v w s c same p =
       | inr h ↦ turned-other v on m p s c h.1 ∙ same.off p h.1 ∙ sym (turned-other w on m p s c h.1)
     ]
 
-set_marks-alike : (on mux : ℕ) (v w : Slots) (ms : List Mark) → IsSameOff on mux v w → HeadsMarks on mux ms → (p : ℕ) → set_marks ms v p ≡ set_marks ms w p
+set_marks-alike : (on mux : ℕ) (v w : Slots) (ms : List Mark) → IsSameOff on mux v w → HeadsMarks on mux ms → (p : ℕ)
+    → set_marks ms v p ≡ set_marks ms w p
 set_marks-alike on mux v w [] same heads p = absurd heads
 set_marks-alike on mux v w (m ∷ ms) same heads p =
     elim (eqb_tells p on) [
@@ -167,22 +189,28 @@ same_after on mux v w s same =
     }
 
 none_at : (v : Slots) (on mux : ℕ) (s : MuxSlot) → (turned v on mux s None on).kept mux ≡ None
-none_at v on mux s = ap (λ (x : At). x.kept mux) (turned-same v on mux s None) ∙ ap (λ (t : Bool). cond t None ((v on).kept mux)) (eq-eqb mux mux refl)
+none_at v on mux s = ap (λ (x : At). x.kept mux) (turned-same v on mux s None)
+    ∙ ap (λ (t : Bool). cond t None ((v on).kept mux)) (eq-eqb mux mux refl)
 
 slot_at : (v : Slots) (on mux : ℕ) (s : MuxSlot) → (turned v on mux s None on).slot ≡ s
 slot_at v on mux s = ap (λ (x : At). x.slot) (turned-same v on mux s None)
 
-module _ (b : BoardView) (whose : TransferView) (tree : IsTree b) (root : ℕ) (h : Hop) (note : Note) (k : JobOutcome → WalkTree) (held : List LockId) (first : Slots)
+module _ (b : BoardView) (whose : TransferView) (tree : IsTree b) (root : ℕ) (h : Hop) (note : Note) (k : JobOutcome → WalkTree)
+    (held : List LockId) (first : Slots)
     (reached : (g : Hop) → IsAmongHops g (hops b h.on) → IsOpenOn b g (first g.on) × InLocks (lock.Mux g.on) held)
     (rooted : InLocks (lock.Bus (root_of b h.on)) held)
     (owns : Owns (Select h) note.marks held) (among : IsAmongHops h (hops b h.bus)) (there : h.bus < buses b)
     (fail : MayFail b note.marks held first) (no_line : is_gpio h.kind ≡ false)
-    (goes_on : (o : JobOutcome) (w : Slots) → After b [] (lock.Bus root ∷ []) (Select h) note.marks first o w → Runs b whose held w (k o)) where
+    (goes_on : (o : JobOutcome) (w : Slots) → After b [] (lock.Bus root ∷ []) (Select h) note.marks first o w
+    → Runs b whose held w (k o)) where
   select_may : (v : Slots) (left : ℕ) → IsSameOff h.on h.mux v first → IsOfMux h.mux (v h.on).slot
       → FindsSelect (is_arbitrator h.kind) h left (v h.on) → MaySend b whose (Select h) left note.marks held v
   select_may v left same own finds =
       record {
-        reached = λ g a. (subst (λ (x : At). IsOpenOn b g x) (sym (same.off g.on (own_apart b tree h.on g a))) (reached g a).0, (reached g a).1);
+        reached = λ g a. (
+          subst (λ (x : At). IsOpenOn b g x) (sym (same.off g.on (own_apart b tree h.on g a))) (reached g a).0,
+          (reached g a).1,
+        );
         rooted = rooted;
         finds = (finds, among, there);
         owns = owns;
@@ -191,7 +219,8 @@ module _ (b : BoardView) (whose : TransferView) (tree : IsTree b) (root : ℕ) (
         by_message = no_line;
       }
 
-  select_good : (v : Slots) → IsSameOff h.on h.mux v first → answers b h.mux ≡ true → Runs b whose held (turned v h.on h.mux Clean (Some h.channel)) (k Good)
+  select_good : (v : Slots) → IsSameOff h.on h.mux v first → answers b h.mux ≡ true
+      → Runs b whose held (turned v h.on h.mux Clean (Some h.channel)) (k Good)
   select_good v same ans =
       goes_on Good (turned v h.on h.mux Clean (Some h.channel)) (record {
         off = λ p off. turned-alike h.on h.mux v first Clean (Some h.channel) same p;
@@ -199,7 +228,8 @@ module _ (b : BoardView) (whose : TransferView) (tree : IsTree b) (root : ℕ) (
         can = inr (tt, ans);
       })
 
-  select_refused : (v : Slots) → IsSameOff h.on h.mux v first → answers b h.mux ≡ false → Runs b whose held (turned v h.on h.mux Clean None) (k Refused)
+  select_refused : (v : Slots) → IsSameOff h.on h.mux v first → answers b h.mux ≡ false
+      → Runs b whose held (turned v h.on h.mux Clean None) (k Refused)
   select_refused v same ans =
       goes_on Refused (turned v h.on h.mux Clean None) (record {
         off = λ p off. turned-alike h.on h.mux v first Clean None same p;
@@ -216,22 +246,27 @@ module _ (b : BoardView) (whose : TransferView) (tree : IsTree b) (root : ℕ) (
       })
 
   -- a message that doesn't go through ends the job, whichever one it is
-  select_ends : (v : Slots) (left : ℕ) (e : End) (bytes : List ℕ) → IsSameOff h.on h.mux v first → (e ≡ end.Ok → ⊥) → CanSelect b h left e bytes
+  select_ends : (v : Slots) (left : ℕ) (e : End) (bytes : List ℕ) → IsSameOff h.on h.mux v first → (e ≡ end.Ok → ⊥)
+      → CanSelect b h left e bytes
       → Runs b whose held (after_job (Select h) left note.marks (Sent e bytes) v) (over (Select h) left note k (Sent e bytes))
   select_ends v left end.Ok bytes same bad can = absurd (bad refl)
-  select_ends v left end.Nack bytes same bad can = over-runs b whose held (turned v h.on h.mux Clean None) (Select h) left note k (Sent end.Nack bytes) (select_refused v same (absent_silent b h.mux can))
+  select_ends v left end.Nack bytes same bad can = over-runs b whose held (turned v h.on h.mux Clean None) (Select h) left note k
+      (Sent end.Nack bytes) (select_refused v same (absent_silent b h.mux can))
   select_ends v left end.Slow bytes same bad can = absurd can
   select_ends v left end.Refused bytes same bad can = absurd can
   select_ends v left end.Proto bytes same bad can = absurd can
-  select_ends v left (end.Cut q) bytes same bad can = over-runs b whose held (set_marks note.marks v) (Select h) left note k (Sent (end.Cut q) bytes) (select_failed v same)
+  select_ends v left (end.Cut q) bytes same bad can = over-runs b whose held (set_marks note.marks v) (Select h) left note k
+      (Sent (end.Cut q) bytes) (select_failed v same)
 
   -- the write is the last message
   select_last : (v : Slots) → IsSameOff h.on h.mux v first → MaySend b whose (Select h) zero note.marks held v
       → Runs b whose held v (messages zero (Select h) note k)
   select_last v same may = (may, ends)
     where
-      ends : (out : ActOutcome) → CanSend b (Select h) zero out → Runs b whose held (after_job (Select h) zero note.marks out v) (over (Select h) zero note k out)
-      ends (Sent end.Ok bytes) can = over-runs b whose held (turned v h.on h.mux Clean (Some h.channel)) (Select h) zero note k (Sent end.Ok bytes) (select_good v same can)
+      ends : (out : ActOutcome) → CanSend b (Select h) zero out
+          → Runs b whose held (after_job (Select h) zero note.marks out v) (over (Select h) zero note k out)
+      ends (Sent end.Ok bytes) can = over-runs b whose held (turned v h.on h.mux Clean (Some h.channel)) (Select h) zero note k
+          (Sent end.Ok bytes) (select_good v same can)
       ends (Sent end.Nack bytes) can = select_ends v zero end.Nack bytes same (λ e. let f : end.Nack ≡ end.Ok = e in cc) can
       ends (Sent end.Slow bytes) can = select_ends v zero end.Slow bytes same (λ e. let f : end.Slow ≡ end.Ok = e in cc) can
       ends (Sent end.Refused bytes) can = select_ends v zero end.Refused bytes same (λ e. let f : end.Refused ≡ end.Ok = e in cc) can
@@ -254,28 +289,33 @@ module _ (b : BoardView) (whose : TransferView) (tree : IsTree b) (root : ℕ) (
   last_poll : (v : Slots) (bytes : List ℕ) → IsSameOff h.on h.mux v first → is_arbitrator h.kind ≡ true
       → CanGoThrough b h (suc zero) bytes → (t : Bool) → eqb (first_byte bytes) 0 ≡ t
       → Runs b whose held (turned v h.on h.mux (cond t (Found h) Clean) None)
-      (by_go (cond t Last Over) (messages zero (Select h) note k) (messages zero (Select h) note k) (over (Select h) (suc zero) note k (Sent end.Ok bytes)))
+      (by_go (cond t Last Over) (messages zero (Select h) note k) (messages zero (Select h) note k)
+      (over (Select h) (suc zero) note k (Sent end.Ok bytes)))
   last_poll v bytes same arb can true e = polled_free v same arb
   last_poll v bytes same arb can false e =
-      let ans : answers b h.mux ≡ false = elim can [ inl z ↦ absurd (eqb-false (first_byte bytes) 0 e z) | inr a ↦ held_silent b h.mux a.1 ] in
+      let ans : answers b h.mux ≡ false =
+      elim can [ inl z ↦ absurd (eqb-false (first_byte bytes) 0 e z) | inr a ↦ held_silent b h.mux a.1 ] in
       over-runs b whose held (turned v h.on h.mux Clean None) (Select h) (suc zero) note k (Sent end.Ok bytes) (select_refused v same ans)
 
   more_polls : is_arbitrator h.kind ≡ true → (left : ℕ) (v : Slots) (bytes : List ℕ) → IsSameOff h.on h.mux v first
       → (t : Bool) → eqb (first_byte bytes) 0 ≡ t
       → Runs b whose held (turned v h.on h.mux (Polled h left) None) (messages (suc left) (Select h) note k)
       → Runs b whose held (turned v h.on h.mux (cond t (Found h) (Polled h left)) None)
-      (by_go (cond t Last On) (messages (suc left) (Select h) note k) (messages zero (Select h) note k) (over (Select h) (suc (suc left)) note k (Sent end.Ok bytes)))
+      (by_go (cond t Last On) (messages (suc left) (Select h) note k) (messages zero (Select h) note k)
+      (over (Select h) (suc (suc left)) note k (Sent end.Ok bytes)))
   more_polls arb left v bytes same true e next = polled_free v same arb
   more_polls arb left v bytes same false e next = next
 
   -- the induction over the polls that may follow
-  polls : is_arbitrator h.kind ≡ true → (left : ℕ) (v : Slots) → IsSameOff h.on h.mux v first → MaySend b whose (Select h) (suc left) note.marks held v
+  polls : is_arbitrator h.kind ≡ true → (left : ℕ) (v : Slots) → IsSameOff h.on h.mux v first
+      → MaySend b whose (Select h) (suc left) note.marks held v
       → Runs b whose held v (messages (suc left) (Select h) note k)
   polls arb zero v same may = (may, ends)
     where
       ends : (out : ActOutcome) → CanSend b (Select h) (suc zero) out
           → Runs b whose held (after_job (Select h) (suc zero) note.marks out v)
-          (by_go (goes (Select h) zero out) (messages zero (Select h) note k) (messages zero (Select h) note k) (over (Select h) (suc zero) note k out))
+          (by_go (goes (Select h) zero out) (messages zero (Select h) note k) (messages zero (Select h) note k)
+          (over (Select h) (suc zero) note k out))
       ends (Sent end.Ok bytes) can = last_poll v bytes same arb can (eqb (first_byte bytes) 0) refl
       ends (Sent end.Nack bytes) can = select_ends v (suc zero) end.Nack bytes same (λ e. let f : end.Nack ≡ end.Ok = e in cc) can
       ends (Sent end.Slow bytes) can = select_ends v (suc zero) end.Slow bytes same (λ e. let f : end.Slow ≡ end.Ok = e in cc) can
@@ -286,35 +326,47 @@ module _ (b : BoardView) (whose : TransferView) (tree : IsTree b) (root : ℕ) (
       ends Passed can = absurd can
   polls arb (suc left) v same may = (may, ends (polls arb left))
     where
-      ends : ((w : Slots) → IsSameOff h.on h.mux w first → MaySend b whose (Select h) (suc left) note.marks held w → Runs b whose held w (messages (suc left) (Select h) note k))
+      ends : ((w : Slots) → IsSameOff h.on h.mux w first → MaySend b whose (Select h) (suc left) note.marks held w
+          → Runs b whose held w (messages (suc left) (Select h) note k))
           → (out : ActOutcome) → CanSend b (Select h) (suc (suc left)) out
           → Runs b whose held (after_job (Select h) (suc (suc left)) note.marks out v)
-          (by_go (goes (Select h) (suc left) out) (messages (suc left) (Select h) note k) (messages zero (Select h) note k) (over (Select h) (suc (suc left)) note k out))
+          (by_go (goes (Select h) (suc left) out) (messages (suc left) (Select h) note k) (messages zero (Select h) note k)
+          (over (Select h) (suc (suc left)) note k out))
       ends again (Sent end.Ok bytes) can =
           let at : (turned v h.on h.mux (Polled h left) None h.on).slot ≡ Polled h left = slot_at v h.on h.mux (Polled h left) in
-          let same2 : IsSameOff h.on h.mux (turned v h.on h.mux (Polled h left) None) first = same_after h.on h.mux v first (Polled h left) same in
+          let same2 : IsSameOff h.on h.mux (turned v h.on h.mux (Polled h left) None) first = same_after h.on h.mux v first
+          (Polled h left) same in
           more_polls arb left v bytes same (eqb (first_byte bytes) 0) refl
           (again (turned v h.on h.mux (Polled h left) None) same2
           (select_may (turned v h.on h.mux (Polled h left) None) (suc left) same2
           (subst (λ (s : MuxSlot). IsOfMux h.mux s) (sym at) refl)
-          (subst (λ (t : Bool). FindsSelect t h (suc left) (turned v h.on h.mux (Polled h left) None h.on)) (sym arb) (inl at, none_at v h.on h.mux (Polled h left)))))
-      ends again (Sent end.Nack bytes) can = select_ends v (suc (suc left)) end.Nack bytes same (λ e. let f : end.Nack ≡ end.Ok = e in cc) can
-      ends again (Sent end.Slow bytes) can = select_ends v (suc (suc left)) end.Slow bytes same (λ e. let f : end.Slow ≡ end.Ok = e in cc) can
-      ends again (Sent end.Refused bytes) can = select_ends v (suc (suc left)) end.Refused bytes same (λ e. let f : end.Refused ≡ end.Ok = e in cc) can
-      ends again (Sent end.Proto bytes) can = select_ends v (suc (suc left)) end.Proto bytes same (λ e. let f : end.Proto ≡ end.Ok = e in cc) can
-      ends again (Sent (end.Cut q) bytes) can = select_ends v (suc (suc left)) (end.Cut q) bytes same (λ e. let f : end.Cut q ≡ end.Ok = e in cc) can
+          (subst (λ (t : Bool). FindsSelect t h (suc left) (turned v h.on h.mux (Polled h left) None h.on)) (sym arb)
+          (inl at, none_at v h.on h.mux (Polled h left)))))
+      ends again (Sent end.Nack bytes) can = select_ends v (suc (suc left)) end.Nack bytes same (λ e. let f : end.Nack ≡ end.Ok = e in
+          cc) can
+      ends again (Sent end.Slow bytes) can = select_ends v (suc (suc left)) end.Slow bytes same (λ e. let f : end.Slow ≡ end.Ok = e in
+          cc) can
+      ends again (Sent end.Refused bytes) can = select_ends v (suc (suc left)) end.Refused bytes same
+          (λ e. let f : end.Refused ≡ end.Ok = e in cc) can
+      ends again (Sent end.Proto bytes) can = select_ends v (suc (suc left)) end.Proto bytes same (λ e. let f : end.Proto ≡ end.Ok = e in
+          cc) can
+      ends again (Sent (end.Cut q) bytes) can = select_ends v (suc (suc left)) (end.Cut q) bytes same
+          (λ e. let f : end.Cut q ≡ end.Ok = e in cc) can
       ends again (Lined failed) can = absurd can
       ends again Passed can = absurd can
 
   -- the whole select, with polls or without
-  pub select_runs : (t : Bool) → is_arbitrator h.kind ≡ t → IsOfMux h.mux (first h.on).slot → (first h.on).slot ≡ Clean → (is_arbitrator h.kind ≡ true → (first h.on).kept h.mux ≡ None)
+  pub select_runs : (t : Bool) → is_arbitrator h.kind ≡ t → IsOfMux h.mux (first h.on).slot → (first h.on).slot ≡ Clean
+      → (is_arbitrator h.kind ≡ true → (first h.on).kept h.mux ≡ None)
       → Runs b whose held first (messages (cond t 8 0) (Select h) note k)
   select_runs true arb own clean shut =
       polls arb 7 first (same_all h.on h.mux first)
-      (select_may first 8 (same_all h.on h.mux first) own (subst (λ (t : Bool). FindsSelect t h 8 (first h.on)) (sym arb) (inr (refl, clean), shut arb)))
+      (select_may first 8 (same_all h.on h.mux first) own
+      (subst (λ (t : Bool). FindsSelect t h 8 (first h.on)) (sym arb) (inr (refl, clean), shut arb)))
   select_runs false arb own clean shut =
       select_last first (same_all h.on h.mux first)
-      (select_may first zero (same_all h.on h.mux first) own (subst (λ (t : Bool). FindsSelect t h zero (first h.on)) (sym arb) (refl, clean)))
+      (select_may first zero (same_all h.on h.mux first) own
+      (subst (λ (t : Bool). FindsSelect t h zero (first h.on)) (sym arb) (refl, clean)))
 
 -- DESELECTS AND CLOSES
 

@@ -58,7 +58,8 @@ rest_shut b p m x others =
       stay = others_stay b p m x others;
     }
 
-rest_marked : (b : BoardView) (p m : ℕ) (x : At) → OthersKept b p m x → home_of_mux b m ≡ p → IsMuxOf b m (kind_of b m) → IsRest b p (turned_at x m (Marked m) None)
+rest_marked : (b : BoardView) (p m : ℕ) (x : At) → OthersKept b p m x → home_of_mux b m ≡ p → IsMuxOf b m (kind_of b m)
+    → IsRest b p (turned_at x m (Marked m) None)
 rest_marked b p m x others home known =
     record {
       shut = tt;
@@ -93,13 +94,15 @@ others_rest b p m x rest n c ne e = rest.stay n c e
 slot_of : (x y : At) (s : MuxSlot) → x ≡ y → y.slot ≡ s → x.slot ≡ s
 slot_of x y s e f = ap (λ (z : At). z.slot) e ∙ f
 
-module _ (b : BoardView) (whose : TransferView) (tree : IsTree b) (lines : LinesAreLocked b) (root : ℕ) (h : Hop) (hs : List Hop) (s floor : ℕ) (on : Doer)
+module _ (b : BoardView) (whose : TransferView) (tree : IsTree b) (lines : LinesAreLocked b) (root : ℕ) (h : Hop) (hs : List Hop)
+    (s floor : ℕ) (on : Doer)
     (at : hops b s ≡ h ∷ hs) (there : s < buses b) (rooted : root_of b s ≡ root)
     (sub : DoerRuns b whose root hs (sub_locks root h hs) floor on)
     (job : Job) (note : Note) (k : JobOutcome → WalkTree) (held : List LockId) (v : Slots)
     (no_line : is_line job ≡ false)
     (before : Before b whose root (h ∷ hs) (lock.Mux h.on ∷ sub_locks root h hs) floor job note.marks held v)
-    (goes_on : (o : JobOutcome) (w : Slots) → After b (h ∷ hs) (lock.Mux h.on ∷ sub_locks root h hs) job note.marks v o w → Runs b whose held w (k o)) where
+    (goes_on : (o : JobOutcome) (w : Slots) → After b (h ∷ hs) (lock.Mux h.on ∷ sub_locks root h hs) job note.marks v o w
+    → Runs b whose held w (k o)) where
   off_on : Crosses h.on hs → ⊥
   off_on c = let below : h.on < h.on = crosses_below b tree hs h.on h.on (tree.tail s h hs at) c in omega arith
 
@@ -161,7 +164,8 @@ module _ (b : BoardView) (whose : TransferView) (tree : IsTree b) (lines : Lines
   off_tail p off c = off (inr c)
 
   -- a control message of a mux on the bus
-  control_before : (u : Slots) (j : Job) (m : Mark) (ms : List Mark) → ((p : ℕ) → InLocks (lock.Mux p) (sub_locks root h hs) → IsRest b p (u p)) → job_bus j ≡ h.on → OwnsOff j hs → FindsFirst b j u
+  control_before : (u : Slots) (j : Job) (m : Mark) (ms : List Mark)
+      → ((p : ℕ) → InLocks (lock.Mux p) (sub_locks root h hs) → IsRest b p (u p)) → job_bus j ≡ h.on → OwnsOff j hs → FindsFirst b j u
       → m.on ≡ h.on → home_of_mux b m.mux ≡ h.on → IsOfMux m.mux (u h.on).slot
       → Owns j (m ∷ ms) held → CallUnmarked j (m ∷ ms) → IsGranted b whose j
       → MayFail b ms held u → AllByRecursion (λ (x : Mark). Crosses x.on hs → ⊥) ms
@@ -195,13 +199,21 @@ module _ (b : BoardView) (whose : TransferView) (tree : IsTree b) (lines : Lines
   own_mark = record { on = h.on; mux = h.mux }
 
   own_kept : is_left_open b h.mux ≡ true → Responds b h → IsKept b h.on h.mux
-  own_kept stays responds = (is_hop.home, stays, subst (λ (kind : MuxKind). (is_gpio kind ≡ true) ⊎ (answers b h.mux ≡ true)) (sym own_kind) responds)
+  own_kept stays responds = (
+    is_hop.home,
+    stays,
+    subst (λ (kind : MuxKind). (is_gpio kind ≡ true) ⊎ (answers b h.mux ≡ true))
+        (sym own_kind) responds,
+  )
 
   -- THE DESELECT: whatever came of the job, what goes on runs
   deselect_rest : (o : JobOutcome) (x y : Slots) → IsOpenOn b h (x h.on) → ((is_gpio h.kind ≡ true) ⊎ AllRespond b hs)
-      → CanJob b hs (SwitchOff (Deselect h)) o → y h.on ≡ job_after (SwitchOff (Deselect h)) (aside h).marks o x h.on → IsRest b h.on (y h.on)
-  deselect_rest Good x y is_open way c e = subst (λ (z : At). IsRest b h.on z) (sym (e ∙ turned-same x h.on h.mux Clean None)) (rest_shut b h.on h.mux (x h.on) is_open.others)
-  deselect_rest Refused x y is_open way c e = subst (λ (z : At). IsRest b h.on z) (sym (e ∙ turned-same x h.on h.mux Clean None)) (rest_shut b h.on h.mux (x h.on) is_open.others)
+      → CanJob b hs (SwitchOff (Deselect h)) o → y h.on ≡ job_after (SwitchOff (Deselect h)) (aside h).marks o x h.on
+      → IsRest b h.on (y h.on)
+  deselect_rest Good x y is_open way c e = subst (λ (z : At). IsRest b h.on z) (sym (e ∙ turned-same x h.on h.mux Clean None))
+      (rest_shut b h.on h.mux (x h.on) is_open.others)
+  deselect_rest Refused x y is_open way c e = subst (λ (z : At). IsRest b h.on z) (sym (e ∙ turned-same x h.on h.mux Clean None))
+      (rest_shut b h.on h.mux (x h.on) is_open.others)
   deselect_rest Unsent x y is_open way c e =
       absurd (elim way [ inl gpio ↦ (let f : true ≡ false = sym gpio ∙ c.0 in cc) | inr all ↦ c.1 all ])
   deselect_rest Failed x y is_open way c e =
@@ -211,7 +223,8 @@ module _ (b : BoardView) (whose : TransferView) (tree : IsTree b) (lines : Lines
   same_lock : (p : ℕ) → lock.Mux p ≡ lock.Mux h.on → h.on ≡ p
   same_lock p e = cc
 
-  deselect_after : (out o : JobOutcome) (x y : Slots) → IsOpenOn b h (x h.on) → ((p : ℕ) → (Crosses p (h ∷ hs) → ⊥) → x p ≡ job_after job note.marks out v p)
+  deselect_after : (out o : JobOutcome) (x y : Slots) → IsOpenOn b h (x h.on)
+      → ((p : ℕ) → (Crosses p (h ∷ hs) → ⊥) → x p ≡ job_after job note.marks out v p)
       → CanJob b (h ∷ hs) job out → ((is_gpio h.kind ≡ true) ⊎ AllRespond b hs)
       → After b hs (sub_locks root h hs) (SwitchOff (Deselect h)) (aside h).marks x o y → Runs b whose held y (k out)
   deselect_after out o x y is_open same can way after =
@@ -246,7 +259,8 @@ module _ (b : BoardView) (whose : TransferView) (tree : IsTree b) (lines : Lines
         owns_off = owns_off_tail job h hs before.owns_off;
         way = λ g a. elim (before.way g a) [
           | inl among_hops ↦ elim among_hops [
-            | inl e ↦ inr (subst (λ (x : Hop). IsPassed b held w hs x) (sym e) (record { selected = is_open; locked = own_held; off = off_on }))
+            | inl e ↦ inr (subst (λ (x : Hop). IsPassed b held w hs x) (sym e)
+                (record { selected = is_open; locked = own_held; off = off_on }))
             | inr more ↦ inl more
           ]
           | inr passed ↦ inr (record {
@@ -272,7 +286,8 @@ module _ (b : BoardView) (whose : TransferView) (tree : IsTree b) (lines : Lines
       goes_on out x (record {
         off = off;
         rest = λ p i. elim i [
-          | inl e ↦ subst (λ (q : ℕ). IsRest b q (x q)) (same_lock p e) (rest_open b h (x h.on) is_open (own_kept (is_hop.stays ∙ stays) responds))
+          | inl e ↦ subst (λ (q : ℕ). IsRest b q (x q)) (same_lock p e)
+              (rest_open b h (x h.on) is_open (own_kept (is_hop.stays ∙ stays) responds))
           | inr more ↦ rest p more
         ];
         can = can;
@@ -286,7 +301,8 @@ module _ (b : BoardView) (whose : TransferView) (tree : IsTree b) (lines : Lines
       → Runs b whose held x (left_behind h.stays h on k out)
   job_done w like is_open responds way out x after =
       let own_stays : x h.on ≡ w h.on =
-      after.off h.on off_on ∙ job_after-off job note.marks out w h.on (λ own. own_crosses job (h ∷ hs) h.on before.owns_off own (inl refl)) own_unmarked in
+      after.off h.on off_on ∙ job_after-off job note.marks out w h.on
+      (λ own. own_crosses job (h ∷ hs) h.on before.owns_off own (inl refl)) own_unmarked in
       behind_job h.stays refl responds way out x (subst (λ (z : At). IsOpenOn b h z) (sym own_stays) is_open) after.rest
       (λ p off. after.off p (off_tail p off) ∙ job_after-along job note.marks out w v p (like.off p off))
       (can_more b h hs job out responds after.can)
@@ -319,8 +335,10 @@ module _ (b : BoardView) (whose : TransferView) (tree : IsTree b) (lines : Lines
         can = can;
       })
 
-  failed_after : (u w : Slots) (m : Mark) → Like u → IsRest b h.on (u h.on) → m.on ≡ h.on → home_of_mux b m.mux ≡ h.on → IsMuxOf b m.mux (kind_of b m.mux)
-      → ((p : ℕ) → (Crosses p hs → ⊥) → w p ≡ set_marks (m ∷ note.marks) u p) → ((p : ℕ) → InLocks (lock.Mux p) (sub_locks root h hs) → IsRest b p (w p))
+  failed_after : (u w : Slots) (m : Mark) → Like u → IsRest b h.on (u h.on) → m.on ≡ h.on → home_of_mux b m.mux ≡ h.on
+      → IsMuxOf b m.mux (kind_of b m.mux)
+      → ((p : ℕ) → (Crosses p hs → ⊥) → w p ≡ set_marks (m ∷ note.marks) u p)
+      → ((p : ℕ) → InLocks (lock.Mux p) (sub_locks root h hs) → IsRest b p (w p))
       → Runs b whose held w (k Failed)
   failed_after u w m like own_rest on_bus home known marked rest =
       goes_on Failed w (record {
@@ -330,7 +348,8 @@ module _ (b : BoardView) (whose : TransferView) (tree : IsTree b) (lines : Lines
             ∙ sym (job_after-failed job note.marks v p before.call_unmarked);
         rest = λ p i. elim i [
           | inl e ↦ subst (λ (q : ℕ). IsRest b q (w q)) (same_lock p e)
-              (subst (λ (z : At). IsRest b h.on z) (sym own_marked) (rest_marked b h.on m.mux (u h.on) (others_rest b h.on m.mux (u h.on) own_rest) home known))
+              (subst (λ (z : At). IsRest b h.on z) (sym own_marked)
+              (rest_marked b h.on m.mux (u h.on) (others_rest b h.on m.mux (u h.on) own_rest) home known))
           | inr more ↦ rest p more
         ];
         can = tt;
@@ -341,7 +360,8 @@ module _ (b : BoardView) (whose : TransferView) (tree : IsTree b) (lines : Lines
           marked h.on off_on ∙ ap (λ (i : ℕ). set_marks (m ∷ note.marks) u i) (sym on_bus) ∙ set_marks-head m note.marks u
           ∙ ap (λ (i : ℕ). turned_at (u i) m.mux (Marked m.mux) None) on_bus
 
-  select_before : (u : Slots) → Like u → IsRest b h.on (u h.on) → (u h.on).slot ≡ Clean → Before b whose root hs (sub_locks root h hs) floor (Select h) (own_mark ∷ note.marks) held u
+  select_before : (u : Slots) → Like u → IsRest b h.on (u h.on) → (u h.on).slot ≡ Clean
+      → Before b whose root hs (sub_locks root h hs) floor (Select h) (own_mark ∷ note.marks) held u
   select_before u like rest clean =
       control_before u (Select h) own_mark note.marks like.rest refl off_on ((clean, arb_shut), among_own, bus_there) refl is_hop.home
       (subst (λ (s : MuxSlot). IsOfMux h.mux s) (sym clean) tt)
@@ -355,7 +375,8 @@ module _ (b : BoardView) (whose : TransferView) (tree : IsTree b) (lines : Lines
       arb_shut arb = none ((u h.on).kept h.mux) refl (tree.asking h.mux (ap is_arbitrator own_kind ∙ arb))
 
   chosen_done : (u : Slots) → Like u → IsRest b h.on (u h.on) → (o : JobOutcome) (w : Slots)
-      → After b hs (sub_locks root h hs) (Select h) (own_mark ∷ note.marks) u o w → Runs b whose held w (if_good o (opened h on job note k) k)
+      → After b hs (sub_locks root h hs) (Select h) (own_mark ∷ note.marks) u o w
+      → Runs b whose held w (if_good o (opened h on job note k) k)
   chosen_done u like rest Good w after =
       opened-runs w (like_select u w Good like after (λ e. let f : Good ≡ Failed = e in cc))
       (subst (λ (z : At). IsOpenOn b h z) (sym (after.off h.on off_on ∙ turned-same u h.on h.mux Clean (Some h.channel)))
@@ -381,7 +402,8 @@ module _ (b : BoardView) (whose : TransferView) (tree : IsTree b) (lines : Lines
 
   chosen-runs : (u : Slots) → Like u → IsRest b h.on (u h.on) → (u h.on).slot ≡ Clean → Runs b whose held u (chosen h on job note k)
   chosen-runs u like rest clean =
-      sub (Select h) (with_mark h.on h.mux note) (λ o. if_good o (opened h on job note k) k) held u (select_before u like rest clean) (chosen_done u like rest)
+      sub (Select h) (with_mark h.on h.mux note) (λ o. if_good o (opened h on job note k) k) held u (select_before u like rest clean)
+      (chosen_done u like rest)
 
   -- THE LOOK at the channel that the mux keeps
   crossed-runs : (u : Slots) → Like u → IsRest b h.on (u h.on) → (u h.on).slot ≡ Clean → (kept : Option ℕ) → (u h.on).kept h.mux ≡ kept
@@ -394,11 +416,16 @@ module _ (b : BoardView) (whose : TransferView) (tree : IsTree b) (lines : Lines
       by true f =
           let own : IsKept b h.on h.mux = rest.stay h.mux c e in
           opened-runs u like
-          (record { clean = clean; kept = e ∙ ap Some (eqb-true c h.channel (and_right h.stays (eqb c h.channel) f)); others = others_rest b h.on h.mux (u h.on) rest })
+          (record {
+            clean = clean;
+            kept = e ∙ ap Some (eqb-true c h.channel (and_right h.stays (eqb c h.channel) f));
+            others = others_rest b h.on h.mux (u h.on) rest;
+          })
           (subst (λ (kind : MuxKind). (is_gpio kind ≡ true) ⊎ (answers b h.mux ≡ true)) own_kind own.2)
           (λ n. absurd (let g : true ≡ false = sym (and_left h.stays (eqb c h.channel) f) ∙ n in cc))
 
-  look-runs : (u : Slots) → Like u → IsRest b h.on (u h.on) → (u h.on).slot ≡ Clean → Runs b whose held u (Look (KeptOf h.on h.mux) (crossed h on job note k))
+  look-runs : (u : Slots) → Like u → IsRest b h.on (u h.on) → (u h.on).slot ≡ Clean
+      → Runs b whose held u (Look (KeptOf h.on h.mux) (crossed h on job note k))
   look-runs u like rest clean = (own_held, crossed-runs u like rest clean ((u h.on).kept h.mux) refl)
 
   -- THE CLOSE of a marked mux comes first
@@ -427,7 +454,8 @@ module _ (b : BoardView) (whose : TransferView) (tree : IsTree b) (lines : Lines
 
   -- the bus is clean behind it, and the mux that was marked is shut
   after_close : (m : ℕ) (w : Slots) → ((p : ℕ) → (Crosses p hs → ⊥) → w p ≡ turned v h.on m Clean None p)
-      → ((p : ℕ) → InLocks (lock.Mux p) (sub_locks root h hs) → IsRest b p (w p)) → Runs b whose held w (Look (KeptOf h.on h.mux) (crossed h on job note k))
+      → ((p : ℕ) → InLocks (lock.Mux p) (sub_locks root h hs) → IsRest b p (w p))
+      → Runs b whose held w (Look (KeptOf h.on h.mux) (crossed h on job note k))
   after_close m w off rest =
       let own : w h.on ≡ turned_at (v h.on) m Clean None = off h.on off_on ∙ turned-same v h.on m Clean None in
       look-runs w (like_closed m w off rest)
@@ -444,13 +472,16 @@ module _ (b : BoardView) (whose : TransferView) (tree : IsTree b) (lines : Lines
       (subst (λ (x : At). IsRest b h.on x) (sym (after.off h.on off_on)) rest_now)
       (no_line, λ all. after.can.1 all.1)
   closed m marked Failed w after =
-      failed_after v w (close_mark m) like_now rest_now refl (rest_now.home m marked) (rest_now.known m marked) (λ p off. after.off p off) after.rest
+      failed_after v w (close_mark m) like_now rest_now refl (rest_now.home m marked) (rest_now.known m marked)
+      (λ p off. after.off p off) after.rest
 
-  closing-runs : (mark : Option ℕ) → mark_in (v h.on).slot ≡ mark → Runs b whose held v (closing b h on note k (Look (KeptOf h.on h.mux) (crossed h on job note k)) mark)
+  closing-runs : (mark : Option ℕ) → mark_in (v h.on).slot ≡ mark
+      → Runs b whose held v (closing b h on note k (Look (KeptOf h.on h.mux) (crossed h on job note k)) mark)
   closing-runs None e = look-runs v like_now rest_now (shut_clean (v h.on).slot rest_now.shut e)
   closing-runs (Some m) e =
       let marked : (v h.on).slot ≡ Marked m = marked_slot (v h.on).slot m e in
-      sub (SwitchOff (Close h.on m (kind_of b m))) (with_mark h.on m note) (λ o. if_sent o (Look (KeptOf h.on h.mux) (crossed h on job note k)) k) held v (close_before m marked) (closed m marked)
+      sub (SwitchOff (Close h.on m (kind_of b m))) (with_mark h.on m note)
+      (λ o. if_sent o (Look (KeptOf h.on h.mux) (crossed h on job note k)) k) held v (close_before m marked) (closed m marked)
 
   pub behind-runs : Runs b whose held v (behind b h on job note k)
   behind-runs = (own_held, closing-runs (mark_in (v h.on).slot) refl)

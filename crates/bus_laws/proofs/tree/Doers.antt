@@ -73,7 +73,8 @@ pub record IsPassed (b : BoardView) (held : List LockId) (v : Slots) (hs : List 
   pub locked : InLocks (lock.Mux g.on) held
   pub off : Crosses g.on hs → ⊥
 
-pub record Before (b : BoardView) (whose : TransferView) (root : ℕ) (hs : List Hop) (ls : List LockId) (floor : ℕ) (job : Job) (marks : List Mark) (held : List LockId) (v : Slots) : Type 0 where
+pub record Before (b : BoardView) (whose : TransferView) (root : ℕ) (hs : List Hop) (ls : List LockId) (floor : ℕ) (job : Job)
+    (marks : List Mark) (held : List LockId) (v : Slots) : Type 0 where
   pub locks : (l : LockId) → InLocks l ls → InLocks l held
   pub ranks : (l : LockId) → InLocks l held → floor ≤ rank b l
   pub rest : (p : ℕ) → InLocks (lock.Mux p) ls → IsRest b p (v p)
@@ -88,7 +89,8 @@ pub record Before (b : BoardView) (whose : TransferView) (root : ℕ) (hs : List
   pub granted : IsGranted b whose job
   pub line_rooted : is_line job ≡ true → InLocks (lock.Bus root) (locks_of root hs)
 
-pub record After (b : BoardView) (hs : List Hop) (ls : List LockId) (job : Job) (marks : List Mark) (v : Slots) (o : JobOutcome) (w : Slots) : Type 0 where
+pub record After (b : BoardView) (hs : List Hop) (ls : List LockId) (job : Job) (marks : List Mark) (v : Slots) (o : JobOutcome)
+    (w : Slots) : Type 0 where
   pub off : (p : ℕ) → (Crosses p hs → ⊥) → w p ≡ job_after job marks o v p
   pub rest : (p : ℕ) → InLocks (lock.Mux p) ls → IsRest b p (w p)
   pub can : CanJob b hs job o

@@ -25,7 +25,8 @@ gathered [] got = got
 gathered (l ∷ ls) got = gathered ls (l ∷ got)
 
 -- a lock below all that are held
-pub is_below_all : (b : BoardView) (l : LockId) (held : List LockId) → ((k : LockId) → InLocks k held → rank b l < rank b k) → IsBelow b l held
+pub is_below_all : (b : BoardView) (l : LockId) (held : List LockId) → ((k : LockId) → InLocks k held → rank b l < rank b k)
+    → IsBelow b l held
 is_below_all b l [] all = tt
 is_below_all b l (k ∷ ks) all = (all k (inl refl), is_below_all b l ks (λ j i. all j (inr i)))
 
@@ -51,7 +52,8 @@ falls_if b false floor ls f = tt
 pub mux_rank : (b : BoardView) → IsTree b → (s : ℕ) (h : Hop) (hs : List Hop) → hops b s ≡ h ∷ hs → rank b (lock.Mux h.on) ≡ length hs + 1
 mux_rank b tree s h hs at = ap (λ (xs : List Hop). length xs + 1) (tree.tail s h hs at)
 
-pub path_falls : (b : BoardView) → IsTree b → (root : ℕ) (hs : List Hop) (s floor : ℕ) → hops b s ≡ hs → length hs < floor → Falls b floor (locks_of root hs)
+pub path_falls : (b : BoardView) → IsTree b → (root : ℕ) (hs : List Hop) (s floor : ℕ) → hops b s ≡ hs → length hs < floor
+    → Falls b floor (locks_of root hs)
 path_falls b tree root [] s floor at below = (below, tt)
 path_falls b tree root (h ∷ hs) s floor at below =
     let e : rank b (lock.Mux h.on) ≡ length hs + 1 = mux_rank b tree s h hs at in (
@@ -60,12 +62,15 @@ path_falls b tree root (h ∷ hs) s floor at below =
           (path_falls b tree root hs h.on (rank b (lock.Mux h.on)) (tree.tail s h hs at) (omega (arith, e))),
     )
 
-floor_if : (b : BoardView) (t : Bool) (floor : ℕ) (ls : List LockId) (g : ℕ) → floor_after b floor ls ≡ g → floor_after b floor (cond t ls []) ≡ cond t g floor
+floor_if : (b : BoardView) (t : Bool) (floor : ℕ) (ls : List LockId) (g : ℕ) → floor_after b floor ls ≡ g
+    → floor_after b floor (cond t ls []) ≡ cond t g floor
 floor_if b true floor ls g e = e
 floor_if b false floor ls g e = refl
 
-pub path_floor : (b : BoardView) → IsTree b → (root : ℕ) (hs : List Hop) (s floor : ℕ) → hops b s ≡ hs → floor_after b floor (locks_of root hs) ≡ ground hs
+pub path_floor : (b : BoardView) → IsTree b → (root : ℕ) (hs : List Hop) (s floor : ℕ) → hops b s ≡ hs
+    → floor_after b floor (locks_of root hs) ≡ ground hs
 path_floor b tree root [] s floor at = refl
 path_floor b tree root (h ∷ hs) s floor at =
-    floor_if b h.parent (rank b (lock.Mux h.on)) (locks_of root hs) (ground hs) (path_floor b tree root hs h.on (rank b (lock.Mux h.on)) (tree.tail s h hs at))
+    floor_if b h.parent (rank b (lock.Mux h.on)) (locks_of root hs) (ground hs)
+    (path_floor b tree root hs h.on (rank b (lock.Mux h.on)) (tree.tail s h hs at))
     ∙ ap (λ (n : ℕ). cond h.parent (ground hs) n) (mux_rank b tree s h hs at ∙ add-one (length hs))

@@ -29,7 +29,8 @@ use Rattle.bus_laws.proofs.tree.Falls.{Falls, floor_after, gathered, is_below_al
 use Rattle.bus_laws.proofs.tree.Behind.{behind-runs}
 
 -- taking a lock of the path changes what is known on the path alone
-taken-off : (hs : List Hop) (l : LockId) (s : At) (v : Slots) → ((p : ℕ) → l ≡ lock.Mux p → Crosses p hs) → (p : ℕ) → (Crosses p hs → ⊥) → taken_slots l s v p ≡ v p
+taken-off : (hs : List Hop) (l : LockId) (s : At) (v : Slots) → ((p : ℕ) → l ≡ lock.Mux p → Crosses p hs) → (p : ℕ) → (Crosses p hs → ⊥)
+    → taken_slots l s v p ≡ v p
 taken-off hs (lock.Mux q) s v crossing p off = changed-other v q p s (λ e. off (subst (λ (i : ℕ). Crosses i hs) (sym e) (crossing q refl)))
 taken-off hs (lock.Bus r) s v crossing p off = refl
 
@@ -86,7 +87,8 @@ module _ (b : BoardView) (whose : TransferView) (root : ℕ) (hs : List Hop) whe
           })
         ];
         same_root = before.same_root;
-        may_fail = more_fail b l held (taken_slots l s v) marks (fail_along b held hs v (taken_slots l s v) marks off before.marks_off before.may_fail);
+        may_fail = more_fail b l held (taken_slots l s v) marks
+            (fail_along b held hs v (taken_slots l s v) marks off before.marks_off before.may_fail);
         marks_off = before.marks_off;
         call_unmarked = before.call_unmarked;
         granted = before.granted;
@@ -101,7 +103,8 @@ module _ (b : BoardView) (whose : TransferView) (root : ℕ) (hs : List Hop) whe
       λ job note k held v before goes_on. (
         is_below_all b l held (λ j i. let floor_j : floor ≤ rank b j = before.ranks j i in omega (arith, falls.0)),
         λ s at_rest.
-            take_runs ls (l ∷ got) (rank b l) on falls.1 (λ p i. crossing p (inr i)) sub job note (λ out. Then (Free l) plain (λ o. k out)) (l ∷ held) (taken_slots l s v)
+            take_runs ls (l ∷ got) (rank b l) on falls.1 (λ p i. crossing p (inr i)) sub job note (λ out. Then (Free l) plain (λ o. k out))
+            (l ∷ held) (taken_slots l s v)
             (taken_before l got floor job note.marks held v s falls.0 (λ p e. crossing p (inl (sym e))) at_rest before)
             (λ o w after. (
               held,
@@ -117,7 +120,8 @@ module _ (b : BoardView) (whose : TransferView) (root : ℕ) (hs : List Hop) whe
       )
 
   -- only who is among the locks counts
-  same_locks : (ls ms : List LockId) (floor : ℕ) (on : Doer) → ((l : LockId) → InLocks l ls → InLocks l ms) → ((l : LockId) → InLocks l ms → InLocks l ls)
+  same_locks : (ls ms : List LockId) (floor : ℕ) (on : Doer) → ((l : LockId) → InLocks l ls → InLocks l ms)
+      → ((l : LockId) → InLocks l ms → InLocks l ls)
       → DoerRuns b whose root hs ls floor on → DoerRuns b whose root hs ms floor on
   same_locks ls ms floor on there back sub =
       λ job note k held v before goes_on.
@@ -144,24 +148,28 @@ only_front ls l i = elim i [ inl j ↦ j | inr none ↦ absurd none ]
 
 -- a job between the locks of its path runs where the job itself does
 locked_runs : (b : BoardView) (whose : TransferView) → IsTree b → (root : ℕ) (hs : List Hop) (s : ℕ) (on : Doer) → hops b s ≡ hs
-    → DoerRuns b whose root hs (locks_of root hs) (ground hs) on → DoerRuns b whose root hs [] (suc (length hs)) (locked (locks_of root hs) on)
+    → DoerRuns b whose root hs (locks_of root hs) (ground hs) on
+    → DoerRuns b whose root hs [] (suc (length hs)) (locked (locks_of root hs) on)
 locked_runs b whose tree root hs s on at sub =
     take_runs b whose root hs (locks_of root hs) [] (suc (length hs)) on
     (path_falls b tree root hs s (suc (length hs)) at (omega arith))
     (λ p i. locks_cross root hs p i)
-    (subst (λ (f : ℕ). DoerRuns b whose root hs (gathered (locks_of root hs) []) f on) (sym (path_floor b tree root hs s (suc (length hs)) at))
+    (subst (λ (f : ℕ). DoerRuns b whose root hs (gathered (locks_of root hs) []) f on)
+    (sym (path_floor b tree root hs s (suc (length hs)) at))
     (same_locks b whose root hs (locks_of root hs) (gathered (locks_of root hs) []) (ground hs) on
     (λ l i. in_gathered (locks_of root hs) [] l (inl i))
     (λ l i. only_front (locks_of root hs) l (of_gathered (locks_of root hs) [] l i)) sub))
 
 part_runs : (b : BoardView) (whose : TransferView) → IsTree b → (root : ℕ) (hs : List Hop) (s : ℕ) (on : Doer) → hops b s ≡ hs
     → DoerRuns b whose root hs (locks_of root hs) (ground hs) on
-    → (t : Bool) → DoerRuns b whose root hs (cond t (locks_of root hs) []) (cond t (ground hs) (suc (length hs))) (part t (locks_of root hs) on)
+    → (t : Bool) → DoerRuns b whose root hs (cond t (locks_of root hs) []) (cond t (ground hs) (suc (length hs)))
+    (part t (locks_of root hs) on)
 part_runs b whose tree root hs s on at sub true = sub
 part_runs b whose tree root hs s on at sub false = locked_runs b whose tree root hs s on at sub
 
 -- the induction over the hops
-inner_runs : (b : BoardView) (whose : TransferView) → IsTree b → LinesAreLocked b → (root : ℕ) (hs : List Hop) (s : ℕ) → hops b s ≡ hs → s < buses b → root_of b s ≡ root
+inner_runs : (b : BoardView) (whose : TransferView) → IsTree b → LinesAreLocked b → (root : ℕ) (hs : List Hop) (s : ℕ) → hops b s ≡ hs
+    → s < buses b → root_of b s ≡ root
     → DoerRuns b whose root hs (locks_of root hs) (ground hs) (inner b root hs)
 inner_runs b whose tree lines root [] s at there rooted =
     λ job note k held v before goes_on. bus_runs b whose tree root 0 job note k held v (is_line job) refl before goes_on
@@ -169,7 +177,8 @@ inner_runs b whose tree lines root (h ∷ hs) s at there rooted =
     λ job note k held v before goes_on.
     by_line job note k held v before goes_on (is_line job) refl
     (part_runs b whose tree root hs h.on (inner b root hs) (tree.tail s h hs at)
-    (inner_runs b whose tree lines root hs h.on (tree.tail s h hs at) (let before : h.on < s = (tree.leads s h hs at).1 in omega (arith, before, there))
+    (inner_runs b whose tree lines root hs h.on (tree.tail s h hs at) (let before : h.on < s = (tree.leads s h hs at).1 in
+    omega (arith, before, there))
     (tree.root_same s h (subst (λ (xs : List Hop). IsAmongHops h xs) (sym at) (inl refl)) ∙ rooted))
     h.parent)
   where
@@ -180,14 +189,19 @@ inner_runs b whose tree lines root (h ∷ hs) s at there rooted =
         → DoerRuns b whose root hs (sub_locks root h hs) (ground (h ∷ hs)) (part h.parent (locks_of root hs) (inner b root hs))
         → Runs b whose held v (inner b root (h ∷ hs) job note k)
     by_line job note k held v before goes_on true l sub =
-        subst (λ (t : Bool). Runs b whose held v (cond t (at_bus job note k) (behind b h (part h.parent (locks_of root hs) (inner b root hs)) job note k))) (sym l)
-        (line_runs b whose root (h ∷ hs) (locks_of root (h ∷ hs)) (ground (h ∷ hs)) (λ p i. locks_cross root (h ∷ hs) p i) (λ x i. i) job note k held v l before goes_on)
+        subst (λ (t : Bool). Runs b whose held v
+        (cond t (at_bus job note k) (behind b h (part h.parent (locks_of root hs) (inner b root hs)) job note k))) (sym l)
+        (line_runs b whose root (h ∷ hs) (locks_of root (h ∷ hs)) (ground (h ∷ hs)) (λ p i. locks_cross root (h ∷ hs) p i)
+        (λ x i. i) job note k held v l before goes_on)
     by_line job note k held v before goes_on false l sub =
-        subst (λ (t : Bool). Runs b whose held v (cond t (at_bus job note k) (behind b h (part h.parent (locks_of root hs) (inner b root hs)) job note k))) (sym l)
-        (behind-runs b whose tree lines root h hs s (ground (h ∷ hs)) (part h.parent (locks_of root hs) (inner b root hs)) at there rooted sub job note k held v l before goes_on)
+        subst (λ (t : Bool). Runs b whose held v
+        (cond t (at_bus job note k) (behind b h (part h.parent (locks_of root hs) (inner b root hs)) job note k))) (sym l)
+        (behind-runs b whose tree lines root h hs s (ground (h ∷ hs))
+        (part h.parent (locks_of root hs) (inner b root hs)) at there rooted sub job note k held v l before goes_on)
 
 -- a transfer that isn't refused stands on a bus that is there, and names no busy address
-not_refused : (x y z : Bool) → cond (not x) (Some errno.Enodev) (cond y (Some errno.Eopnotsupp) (cond z (Some errno.Ebusy) None)) ≡ None → (x ≡ true) × (z ≡ false)
+not_refused : (x y z : Bool) → cond (not x) (Some errno.Enodev) (cond y (Some errno.Eopnotsupp) (cond z (Some errno.Ebusy) None)) ≡ None
+    → (x ≡ true) × (z ≡ false)
 not_refused true false false e = (refl, refl)
 not_refused true false true e = absurd (let f : Some errno.Ebusy ≡ None = e in cc)
 not_refused true true z e = absurd (let f : Some errno.Eopnotsupp ≡ None = e in cc)
@@ -196,10 +210,12 @@ not_refused false y z e = absurd (let f : Some errno.Enodev ≡ None = e in cc)
 pub refusal-none : (b : BoardView) (t : TransferView) → refusal b t ≡ None
     → (ltb t.bus (buses b) ≡ true) × (list_any (λ (m : Msg). is_busy (grant_of b t.bus m.addr t.force)) t.msgs ≡ false)
 refusal-none b t e =
-    not_refused (ltb t.bus (buses b)) (is_plain t.kind && is_smbus_only b (root_of b t.bus)) (list_any (λ (m : Msg). is_busy (grant_of b t.bus m.addr t.force)) t.msgs) e
+    not_refused (ltb t.bus (buses b)) (is_plain t.kind && is_smbus_only b (root_of b t.bus))
+    (list_any (λ (m : Msg). is_busy (grant_of b t.bus m.addr t.force)) t.msgs) e
 
 -- the whole walk of a transfer
-walk_by-runs : (b : BoardView) (t : TransferView) → IsTree b → LinesAreLocked b → 0 < length t.msgs → (v : Slots) (r : Option Errno) → refusal b t ≡ r → Runs b t [] v (walk_by b t r)
+walk_by-runs : (b : BoardView) (t : TransferView) → IsTree b → LinesAreLocked b → 0 < length t.msgs → (v : Slots) (r : Option Errno)
+    → refusal b t ≡ r → Runs b t [] v (walk_by b t r)
 walk_by-runs b t tree lines some v (Some e) refused = refl
 walk_by-runs b t tree lines some v None refused =
     locked_runs b t tree (root_of b t.bus) (hops b t.bus) t.bus (inner b (root_of b t.bus) (hops b t.bus)) refl
@@ -222,5 +238,6 @@ walk_by-runs b t tree lines some v None refused =
     })
     (λ o w after. refl)
 
-pub walk-runs : (b : BoardView) (t : TransferView) → IsTree b → LinesAreLocked b → 0 < length t.msgs → (v : Slots) → Runs b t [] v (walk_for b t)
+pub walk-runs : (b : BoardView) (t : TransferView) → IsTree b → LinesAreLocked b → 0 < length t.msgs → (v : Slots)
+    → Runs b t [] v (walk_for b t)
 walk-runs b t tree lines some v = walk_by-runs b t tree lines some v (refusal b t) refl

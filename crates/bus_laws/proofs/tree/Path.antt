@@ -23,7 +23,8 @@ OwnIs (Select h) p = p ≡ h.on
 OwnIs (SwitchOff off) p = p ≡ off_bus off
 
 -- off its own bus, and where it marks nothing, a job leaves what was known
-pub job_after-off : (job : Job) (marks : List Mark) (o : JobOutcome) (v : Slots) (p : ℕ) → (OwnIs job p → ⊥) → IsUnmarked p marks → job_after job marks o v p ≡ v p
+pub job_after-off : (job : Job) (marks : List Mark) (o : JobOutcome) (v : Slots) (p : ℕ) → (OwnIs job p → ⊥) → IsUnmarked p marks
+    → job_after job marks o v p ≡ v p
 job_after-off (Call bus ms) marks o v p own un = refl
 job_after-off (Select h) marks Good v p own un = turned-other v h.on h.mux p Clean (Some h.channel) own
 job_after-off (Select h) marks Refused v p own un = turned-other v h.on h.mux p Clean None own
@@ -35,7 +36,8 @@ job_after-off (SwitchOff off) marks Unsent v p own un = refl
 job_after-off (SwitchOff off) marks Failed v p own un = set_marks-other marks v p un
 
 -- what a job leaves at a bus comes from that bus
-pub job_after-along : (job : Job) (marks : List Mark) (o : JobOutcome) (v w : Slots) (p : ℕ) → v p ≡ w p → job_after job marks o v p ≡ job_after job marks o w p
+pub job_after-along : (job : Job) (marks : List Mark) (o : JobOutcome) (v w : Slots) (p : ℕ) → v p ≡ w p
+    → job_after job marks o v p ≡ job_after job marks o w p
 job_after-along (Call bus ms) marks o v w p e = e
 job_after-along (Select h) marks Good v w p e = turned-along v w h.on h.mux p Clean (Some h.channel) e
 job_after-along (Select h) marks Refused v w p e = turned-along v w h.on h.mux p Clean None e
@@ -51,7 +53,8 @@ job_after-unsent (Call bus ms) marks v p = refl
 job_after-unsent (Select h) marks v p = refl
 job_after-unsent (SwitchOff off) marks v p = refl
 
-pub job_after-failed : (job : Job) (marks : List Mark) (v : Slots) (p : ℕ) → CallUnmarked job marks → job_after job marks Failed v p ≡ set_marks marks v p
+pub job_after-failed : (job : Job) (marks : List Mark) (v : Slots) (p : ℕ) → CallUnmarked job marks
+    → job_after job marks Failed v p ≡ set_marks marks v p
 job_after-failed (Call bus ms) marks v p un = ap (λ (ms : List Mark). set_marks ms v p) (sym un)
 job_after-failed (Select h) marks v p un = refl
 job_after-failed (SwitchOff off) marks v p un = refl
@@ -67,15 +70,21 @@ pub fail_along : (b : BoardView) (held : List LockId) (hs : List Hop) (v w : Slo
     → MayFail b ms held v → MayFail b ms held w
 fail_along b held hs v w [] same off fail = tt
 fail_along b held hs v w (m ∷ ms) same off fail = (
-  record { locked = fail.0.locked; at_home = fail.0.at_home; forgets = subst (λ (x : At). IsOfMux m.mux x.slot) (same m.on off.0) fail.0.forgets },
+  record {
+    locked = fail.0.locked;
+    at_home = fail.0.at_home;
+    forgets = subst (λ (x : At). IsOfMux m.mux x.slot) (same m.on off.0) fail.0.forgets;
+  },
   fail_along b held hs v w ms same off.1 fail.1,
 )
 
-pub unmarked_off : (hs : List Hop) (p : ℕ) (ms : List Mark) → Crosses p hs → AllByRecursion (λ (m : Mark). Crosses m.on hs → ⊥) ms → IsUnmarked p ms
+pub unmarked_off : (hs : List Hop) (p : ℕ) (ms : List Mark) → Crosses p hs → AllByRecursion (λ (m : Mark). Crosses m.on hs → ⊥) ms
+    → IsUnmarked p ms
 unmarked_off hs p [] c off = tt
 unmarked_off hs p (m ∷ ms) c off = (λ e. off.0 (subst (λ (q : ℕ). Crosses q hs) e c), unmarked_off hs p ms c off.1)
 
-pub marks_tail : (h : Hop) (hs : List Hop) (ms : List Mark) → AllByRecursion (λ (m : Mark). Crosses m.on (h ∷ hs) → ⊥) ms → AllByRecursion (λ (m : Mark). Crosses m.on hs → ⊥) ms
+pub marks_tail : (h : Hop) (hs : List Hop) (ms : List Mark) → AllByRecursion (λ (m : Mark). Crosses m.on (h ∷ hs) → ⊥) ms
+    → AllByRecursion (λ (m : Mark). Crosses m.on hs → ⊥) ms
 marks_tail h hs [] off = tt
 marks_tail h hs (m ∷ ms) off = (λ c. off.0 (inr c), marks_tail h hs ms off.1)
 
@@ -90,7 +99,8 @@ own_crosses (Select g) hs p off own c = off (subst (λ (q : ℕ). Crosses q hs) 
 own_crosses (SwitchOff x) hs p off own c = off (subst (λ (q : ℕ). Crosses q hs) own c)
 
 -- a job that can have this outcome at the end of some hops can have it behind one more that lets it through
-pub can_more : (b : BoardView) (h : Hop) (hs : List Hop) (job : Job) (o : JobOutcome) → Responds b h → CanJob b hs job o → CanJob b (h ∷ hs) job o
+pub can_more : (b : BoardView) (h : Hop) (hs : List Hop) (job : Job) (o : JobOutcome) → Responds b h → CanJob b hs job o
+    → CanJob b (h ∷ hs) job o
 can_more b h hs job Good r can = elim can [ inl l ↦ inl l | inr s ↦ inr ((r, s.0), s.1) ]
 can_more b h hs job Refused r can = (can.0, (r, can.1), can.2)
 can_more b h hs job Unsent r can = (can.0, λ all. can.1 all.1)
@@ -108,10 +118,12 @@ sub_locks root h hs = cond h.parent (locks_of root hs) []
 pub bus_among : (root : ℕ) (hs : List Hop) → ((g : Hop) → IsAmongHops g hs → g.parent ≡ true) → InLocks (lock.Bus root) (locks_of root hs)
 bus_among root [] all = inl refl
 bus_among root (h ∷ hs) all =
-    inr (subst (λ (t : Bool). InLocks (lock.Bus root) (cond t (locks_of root hs) [])) (sym (all h (inl refl))) (bus_among root hs (λ g a. all g (inr a))))
+    inr (subst (λ (t : Bool). InLocks (lock.Bus root) (cond t (locks_of root hs) [])) (sym (all h (inl refl)))
+    (bus_among root hs (λ g a. all g (inr a))))
 
 -- a mux lock of a path is of a bus that the path crosses
-if_locked : (p : ℕ) (ls : List LockId) (hs : List Hop) (t : Bool) → (InLocks (lock.Mux p) ls → Crosses p hs) → InLocks (lock.Mux p) (cond t ls []) → Crosses p hs
+if_locked : (p : ℕ) (ls : List LockId) (hs : List Hop) (t : Bool) → (InLocks (lock.Mux p) ls → Crosses p hs)
+    → InLocks (lock.Mux p) (cond t ls []) → Crosses p hs
 if_locked p ls hs true f i = f i
 if_locked p ls hs false f i = absurd i
 
@@ -154,15 +166,19 @@ module _ (b : BoardView) (whose : TransferView) (root : ℕ) (hs : List Hop) (ls
       → (out : ActOutcome) → CanShift b job out → Runs b whose held (after_job job zero note.marks out v) (over job zero note k out)
   line_out (Call bus ms) note k held v l before goes_on out can = (let f : false ≡ true = l in cc)
   line_out (Select h) note k held v l before goes_on (Lined true) can =
-      over-runs b whose held (set_marks note.marks v) (Select h) zero note k (Lined true) (line_done (Select h) note k held v l before goes_on Failed tt)
+      over-runs b whose held (set_marks note.marks v) (Select h) zero note k (Lined true)
+      (line_done (Select h) note k held v l before goes_on Failed tt)
   line_out (Select h) note k held v l before goes_on (Lined false) can =
-      over-runs b whose held (turned v h.on h.mux Clean (Some h.channel)) (Select h) zero note k (Lined false) (line_done (Select h) note k held v l before goes_on Good (inl l))
+      over-runs b whose held (turned v h.on h.mux Clean (Some h.channel)) (Select h) zero note k (Lined false)
+      (line_done (Select h) note k held v l before goes_on Good (inl l))
   line_out (Select h) note k held v l before goes_on (Sent e bytes) can = absurd can
   line_out (Select h) note k held v l before goes_on Passed can = absurd can
   line_out (SwitchOff off) note k held v l before goes_on (Lined true) can =
-      over-runs b whose held (set_marks note.marks v) (SwitchOff off) zero note k (Lined true) (line_done (SwitchOff off) note k held v l before goes_on Failed tt)
+      over-runs b whose held (set_marks note.marks v) (SwitchOff off) zero note k (Lined true)
+      (line_done (SwitchOff off) note k held v l before goes_on Failed tt)
   line_out (SwitchOff off) note k held v l before goes_on (Lined false) can =
-      over-runs b whose held (turned v (off_bus off) (off_mux off) Clean None) (SwitchOff off) zero note k (Lined false) (line_done (SwitchOff off) note k held v l before goes_on Good (inl l))
+      over-runs b whose held (turned v (off_bus off) (off_mux off) Clean None) (SwitchOff off) zero note k (Lined false)
+      (line_done (SwitchOff off) note k held v l before goes_on Good (inl l))
   line_out (SwitchOff off) note k held v l before goes_on (Sent e bytes) can = absurd can
   line_out (SwitchOff off) note k held v l before goes_on Passed can = absurd can
 
@@ -172,10 +188,12 @@ module _ (b : BoardView) (whose : TransferView) (root : ℕ) (hs : List Hop) (ls
       → ((o : JobOutcome) (w : Slots) → After b hs ls job note.marks v o w → Runs b whose held w (k o))
       → Runs b whose held v (at_bus job note k)
   line_runs all job note k held v l before goes_on =
-      subst (λ (t : Bool). Runs b whose held v (cond t (Then (Shift job) note (over job zero note k)) (messages (more_of job) job note k))) (sym l) (
+      subst (λ (t : Bool). Runs b whose held v (cond t (Then (Shift job) note (over job zero note k)) (messages (more_of job) job note k)))
+      (sym l) (
         record {
           by_line = l;
-          rooted = subst (λ (r : ℕ). InLocks (lock.Bus r) held) (sym before.same_root) (before.locks (lock.Bus root) (all (lock.Bus root) (before.line_rooted l)));
+          rooted = subst (λ (r : ℕ). InLocks (lock.Bus r) held) (sym before.same_root)
+              (before.locks (lock.Bus root) (all (lock.Bus root) (before.line_rooted l)));
           finds = line_finds b job v l before.finds;
           owns = before.owns;
           may_fail = before.may_fail;
@@ -200,7 +218,8 @@ pub own_shut : (h : Hop) (s : MuxSlot) → s ≡ Clean → IsOfMux h.mux s
 own_shut h s e = subst (λ (x : MuxSlot). IsOfMux h.mux x) (sym e) tt
 
 -- the messages of a job whose bus is the root's, or is reached
-root_runs : (b : BoardView) (whose : TransferView) → IsTree b → (root floor : ℕ) (job : Job) (note : Note) (k : JobOutcome → WalkTree) (held : List LockId) (v : Slots)
+root_runs : (b : BoardView) (whose : TransferView) → IsTree b
+    → (root floor : ℕ) (job : Job) (note : Note) (k : JobOutcome → WalkTree) (held : List LockId) (v : Slots)
     → is_line job ≡ false → Before b whose root [] (lock.Bus root ∷ []) floor job note.marks held v
     → ((o : JobOutcome) (w : Slots) → After b [] (lock.Bus root ∷ []) job note.marks v o w → Runs b whose held w (k o))
     → Runs b whose held v (messages (more_of job) job note k)
@@ -236,12 +255,14 @@ root_runs b whose tree root floor (SwitchOff off) note k held v l before goes_on
     })
 
 -- a job on the bus itself, by its kind
-pub bus_runs : (b : BoardView) (whose : TransferView) → IsTree b → (root floor : ℕ) (job : Job) (note : Note) (k : JobOutcome → WalkTree) (held : List LockId) (v : Slots)
+pub bus_runs : (b : BoardView) (whose : TransferView) → IsTree b
+    → (root floor : ℕ) (job : Job) (note : Note) (k : JobOutcome → WalkTree) (held : List LockId) (v : Slots)
     → (t : Bool) → is_line job ≡ t → Before b whose root [] (lock.Bus root ∷ []) floor job note.marks held v
     → ((o : JobOutcome) (w : Slots) → After b [] (lock.Bus root ∷ []) job note.marks v o w → Runs b whose held w (k o))
     → Runs b whose held v (at_bus job note k)
 bus_runs b whose tree root floor job note k held v true l before goes_on =
     line_runs b whose root [] (lock.Bus root ∷ []) floor (λ p i. locks_cross root [] p i) (λ x i. i) job note k held v l before goes_on
 bus_runs b whose tree root floor job note k held v false l before goes_on =
-    subst (λ (t : Bool). Runs b whose held v (cond t (Then (Shift job) note (over job zero note k)) (messages (more_of job) job note k))) (sym l)
+    subst (λ (t : Bool). Runs b whose held v (cond t (Then (Shift job) note (over job zero note k)) (messages (more_of job) job note k)))
+    (sym l)
     (root_runs b whose tree root floor job note k held v l before goes_on)

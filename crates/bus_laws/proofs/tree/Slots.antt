@@ -35,7 +35,8 @@ turned-along v w p m q s c e =
 
 pub set_marks-other : (ms : List Mark) (v : Slots) (p : ℕ) → IsUnmarked p ms → set_marks ms v p ≡ v p
 set_marks-other [] v p off = refl
-set_marks-other (m ∷ ms) v p off = changed-other (set_marks ms v) m.on p (turned_at (v m.on) m.mux (Marked m.mux) None) off.0 ∙ set_marks-other ms v p off.1
+set_marks-other (m ∷ ms) v p off = changed-other (set_marks ms v) m.on p (turned_at (v m.on) m.mux (Marked m.mux) None) off.0
+    ∙ set_marks-other ms v p off.1
 
 pub set_marks-along : (ms : List Mark) (v w : Slots) (p : ℕ) → v p ≡ w p → set_marks ms v p ≡ set_marks ms w p
 set_marks-along [] v w p e = e

@@ -1,4 +1,5 @@
--- The caller's messages in a walk are those of its transfer, and each select on the way to them is on its path. The inductions go over the messages of a job, over locks,
+-- The caller's messages in a walk are those of its transfer, and each select on the way to them is on its path. The inductions
+-- go over the messages of a job, over locks,
 -- and over hops.
 use Rattle.std.proofs.Common.{◌≡◌, ℕ, zero, suc, ◌<◌, Bool, true, false, cond, ◌&&◌, List, [], ◌∷◌, length, Option, Some, None, refl, inl, inr}
 use Rattle.i2c_base.specs.declared.ids.LockId.{LockId}
@@ -18,15 +19,18 @@ use Rattle.bus_laws.specs.Calls.{IsOnWay, CallsOf}
 module _ (b : BoardView) (t : TransferView) where
   -- what a doer keeps
   abbrev DoerCalls : Doer → Type 0
-  DoerCalls on = (job : Job) (note : Note) (k : JobOutcome → WalkTree) → IsGranted b t job → IsOnWay b t note job → ((o : JobOutcome) → CallsOf b t (k o)) → CallsOf b t (on job note k)
+  DoerCalls on = (job : Job) (note : Note) (k : JobOutcome → WalkTree) → IsGranted b t job → IsOnWay b t note job
+      → ((o : JobOutcome) → CallsOf b t (k o)) → CallsOf b t (on job note k)
 
   settled_calls : (x : Bool) (verdict : Option Errno) (w : WalkTree) → CallsOf b t w → CallsOf b t (settled x verdict w)
   settled_calls true verdict w h = λ out. h
   settled_calls false verdict w h = h
 
-  over_calls : (job : Job) (left : ℕ) (note : Note) (k : JobOutcome → WalkTree) → ((o : JobOutcome) → CallsOf b t (k o)) → (out : ActOutcome) → CallsOf b t (over job left note k out)
+  over_calls : (job : Job) (left : ℕ) (note : Note) (k : JobOutcome → WalkTree) → ((o : JobOutcome) → CallsOf b t (k o))
+      → (out : ActOutcome) → CallsOf b t (over job left note k out)
   over_calls job left note k hk out =
-      settled_calls (note.forward && decides job (job_outcome job left out)) (verdict_of job left out) (k (job_outcome job left out)) (hk (job_outcome job left out))
+      settled_calls (note.forward && decides job (job_outcome job left out)) (verdict_of job left out) (k (job_outcome job left out))
+      (hk (job_outcome job left out))
 
   go_calls : (g : Go) (x y z : WalkTree) → CallsOf b t x → CallsOf b t y → CallsOf b t z → CallsOf b t (by_go g x y z)
   go_calls On x y z hx hy hz = hx
@@ -38,8 +42,10 @@ module _ (b : BoardView) (t : TransferView) where
   messages_calls (suc left) job note k granted way hk = (
     granted,
     way,
-    λ out. go_calls (goes job left out) (messages left job note k) (Then (Send job zero) note (over job zero note k)) (over job (suc left) note k out)
-        (messages_calls left job note k granted way hk) (granted, way, over_calls job zero note k hk) (over_calls job (suc left) note k hk out),
+    λ out. go_calls (goes job left out) (messages left job note k) (Then (Send job zero) note (over job zero note k))
+        (over job (suc left) note k out)
+        (messages_calls left job note k granted way hk) (granted, way, over_calls job zero note k hk)
+        (over_calls job (suc left) note k hk out),
   )
 
   bus_calls : DoerCalls at_bus
@@ -58,13 +64,15 @@ module _ (b : BoardView) (t : TransferView) where
   part_calls true ls on hon = hon
   part_calls false ls on hon = locked_calls ls on hon
 
-  sent_calls : (o : JobOutcome) (w : WalkTree) (k : JobOutcome → WalkTree) → CallsOf b t w → ((x : JobOutcome) → CallsOf b t (k x)) → CallsOf b t (if_sent o w k)
+  sent_calls : (o : JobOutcome) (w : WalkTree) (k : JobOutcome → WalkTree) → CallsOf b t w → ((x : JobOutcome) → CallsOf b t (k x))
+      → CallsOf b t (if_sent o w k)
   sent_calls Good w k hw hk = hw
   sent_calls Refused w k hw hk = hw
   sent_calls Unsent w k hw hk = hk Unsent
   sent_calls Failed w k hw hk = hk Failed
 
-  good_calls : (o : JobOutcome) (w : WalkTree) (k : JobOutcome → WalkTree) → CallsOf b t w → ((x : JobOutcome) → CallsOf b t (k x)) → CallsOf b t (if_good o w k)
+  good_calls : (o : JobOutcome) (w : WalkTree) (k : JobOutcome → WalkTree) → CallsOf b t w → ((x : JobOutcome) → CallsOf b t (k x))
+      → CallsOf b t (if_good o w k)
   good_calls Good w k hw hk = hw
   good_calls Refused w k hw hk = hk Unsent
   good_calls Unsent w k hw hk = hk Unsent
@@ -75,9 +83,11 @@ module _ (b : BoardView) (t : TransferView) where
   aside_way h job f = absurd (let g : false ≡ true = f in cc)
 
   -- what is behind the job
-  left_calls : (stays : Bool) (h : Hop) (on : Doer) (k : JobOutcome → WalkTree) → DoerCalls on → ((o : JobOutcome) → CallsOf b t (k o)) → (out : JobOutcome) → CallsOf b t (left_behind stays h on k out)
+  left_calls : (stays : Bool) (h : Hop) (on : Doer) (k : JobOutcome → WalkTree) → DoerCalls on → ((o : JobOutcome) → CallsOf b t (k o))
+      → (out : JobOutcome) → CallsOf b t (left_behind stays h on k out)
   left_calls true h on k hon hk out = hk out
-  left_calls false h on k hon hk out = hon (SwitchOff (Deselect h)) (aside h) (λ x. k out) tt (aside_way h (SwitchOff (Deselect h))) (λ x. hk out)
+  left_calls false h on k hon hk out = hon (SwitchOff (Deselect h)) (aside h) (λ x. k out) tt (aside_way h (SwitchOff (Deselect h)))
+      (λ x. hk out)
 
   opened_calls : (h : Hop) (on : Doer) → DoerCalls on → DoerCalls (opened h on)
   opened_calls h on hon job note k granted way hk = hon job note (left_behind h.stays h on k) granted way (left_calls h.stays h on k hon hk)
@@ -87,14 +97,16 @@ module _ (b : BoardView) (t : TransferView) where
       hon (Select h) (with_mark h.on h.mux note) (λ o. if_good o (opened h on job note k) k) tt (λ f. ((way f).0, among))
       (λ o. good_calls o (opened h on job note k) k (opened_calls h on hon job note k granted way hk) hk)
 
-  crossed_calls : (h : Hop) (on : Doer) → IsAmongHops h (hops b t.bus) → DoerCalls on → (m : Option ℕ) → DoerCalls (λ job note k. crossed h on job note k m)
+  crossed_calls : (h : Hop) (on : Doer) → IsAmongHops h (hops b t.bus) → DoerCalls on → (m : Option ℕ)
+      → DoerCalls (λ job note k. crossed h on job note k m)
   crossed_calls h on among hon m job note k granted way hk = by (keeps h m)
     where
       by : (x : Bool) → CallsOf b t (cond x (opened h on job note k) (chosen h on job note k))
       by true = opened_calls h on hon job note k granted way hk
       by false = chosen_calls h on among hon job note k granted way hk
 
-  closing_calls : (h : Hop) (on : Doer) (note : Note) (k : JobOutcome → WalkTree) (w : WalkTree) → (note.forward ≡ true → refusal b t ≡ None) → DoerCalls on → ((o : JobOutcome) → CallsOf b t (k o)) → CallsOf b t w
+  closing_calls : (h : Hop) (on : Doer) (note : Note) (k : JobOutcome → WalkTree) (w : WalkTree)
+      → (note.forward ≡ true → refusal b t ≡ None) → DoerCalls on → ((o : JobOutcome) → CallsOf b t (k o)) → CallsOf b t w
       → (m : Option ℕ) → CallsOf b t (closing b h on note k w m)
   closing_calls h on note k w way hon hk hw None = hw
   closing_calls h on note k w way hon hk hw (Some m) =
@@ -103,7 +115,8 @@ module _ (b : BoardView) (t : TransferView) where
 
   behind_calls : (h : Hop) (on : Doer) → IsAmongHops h (hops b t.bus) → DoerCalls on → DoerCalls (behind b h on)
   behind_calls h on among hon job note k granted way hk =
-      closing_calls h on note k (Look (walk.KeptOf h.on h.mux) (crossed h on job note k)) (λ f. (way f).0) hon hk (λ m. crossed_calls h on among hon m job note k granted way hk)
+      closing_calls h on note k (Look (walk.KeptOf h.on h.mux) (crossed h on job note k)) (λ f. (way f).0) hon hk
+      (λ m. crossed_calls h on among hon m job note k granted way hk)
 
   inner_calls : (root : ℕ) (hs : List Hop) → ((g : Hop) → IsAmongHops g hs → IsAmongHops g (hops b t.bus)) → DoerCalls (inner b root hs)
   inner_calls root [] among job note k granted way hk = bus_calls job note k granted way hk
@@ -123,8 +136,10 @@ walk-calls b t some = by (refusal b t) refl
     by : (o : Option Errno) → refusal b t ≡ o → CallsOf b t (walk_by b t o)
     by (Some e) at = λ out. tt
     by None at =
-        locked_calls b t (locks_of (root_of b t.bus) (hops b t.bus)) (inner b (root_of b t.bus) (hops b t.bus)) (inner_calls b t (root_of b t.bus) (hops b t.bus) (λ g a. a))
-        (Call t.bus (messages_of t)) plain (λ o. Ends) (record { same_bus = refl; same_messages = refl; not_refused = at; some_message = some }) (λ f. (at, tt)) (λ o. tt)
+        locked_calls b t (locks_of (root_of b t.bus) (hops b t.bus)) (inner b (root_of b t.bus) (hops b t.bus))
+        (inner_calls b t (root_of b t.bus) (hops b t.bus) (λ g a. a))
+        (Call t.bus (messages_of t)) plain (λ o. Ends)
+        (record { same_bus = refl; same_messages = refl; not_refused = at; some_message = some }) (λ f. (at, tt)) (λ o. tt)
 
 -- the looks in front of a walk change nothing
 pub calls_seen : (b : BoardView) (t : TransferView) (slots : Slots) (w : WalkTree) → CallsOf b t w → CallsOf b t (seen slots w)

@@ -33,9 +33,11 @@ settled_first : (x : Bool) (verdict : Option Errno) (w : WalkTree) → FirstCall
 settled_first true verdict w h = h
 settled_first false verdict w h = h
 
-over_first : (job : Job) (left : ℕ) (note : Note) (k : JobOutcome → WalkTree) → ((o : JobOutcome) → FirstCalls (k o)) → (out : ActOutcome) → FirstCalls (over job left note k out)
+over_first : (job : Job) (left : ℕ) (note : Note) (k : JobOutcome → WalkTree) → ((o : JobOutcome) → FirstCalls (k o)) → (out : ActOutcome)
+    → FirstCalls (over job left note k out)
 over_first job left note k hk out =
-    settled_first (note.forward && decides job (job_outcome job left out)) (verdict_of job left out) (k (job_outcome job left out)) (hk (job_outcome job left out))
+    settled_first (note.forward && decides job (job_outcome job left out)) (verdict_of job left out) (k (job_outcome job left out))
+    (hk (job_outcome job left out))
 
 go_first : (g : Go) (x y z : WalkTree) → FirstCalls x → FirstCalls y → FirstCalls z → FirstCalls (by_go g x y z)
 go_first On x y z hx hy hz = hx
@@ -48,20 +50,26 @@ IsControlJob (Call bus messages) = ⊥
 IsControlJob (Select h) = Unit {0}
 IsControlJob (SwitchOff off) = Unit {0}
 
-send_first : (job : Job) (left : ℕ) (note : Note) (next : ActOutcome → WalkTree) → IsControlJob job → ((out : ActOutcome) → FirstCalls (next out)) → FirstCalls (Then (Send job left) note next)
+send_first : (job : Job) (left : ℕ) (note : Note) (next : ActOutcome → WalkTree) → IsControlJob job
+    → ((out : ActOutcome) → FirstCalls (next out)) → FirstCalls (Then (Send job left) note next)
 send_first (Call bus ms) left note next control h = absurd control
 send_first (Select g) left note next control h = λ e bytes. h (Sent e bytes)
 send_first (SwitchOff off) left note next control h = λ e bytes. h (Sent e bytes)
 
-messages_first : (left : ℕ) (job : Job) (note : Note) (k : JobOutcome → WalkTree) → IsControlJob job → ((o : JobOutcome) → FirstCalls (k o)) → FirstCalls (messages left job note k)
+messages_first : (left : ℕ) (job : Job) (note : Note) (k : JobOutcome → WalkTree) → IsControlJob job → ((o : JobOutcome) → FirstCalls (k o))
+    → FirstCalls (messages left job note k)
 messages_first zero job note k control hk = send_first job zero note (over job zero note k) control (over_first job zero note k hk)
 messages_first (suc left) job note k control hk =
     send_first job (suc left) note
-    (λ out. by_go (goes job left out) (messages left job note k) (Then (Send job zero) note (over job zero note k)) (over job (suc left) note k out)) control
-    (λ out. go_first (goes job left out) (messages left job note k) (Then (Send job zero) note (over job zero note k)) (over job (suc left) note k out)
-    (messages_first left job note k control hk) (send_first job zero note (over job zero note k) control (over_first job zero note k hk)) (over_first job (suc left) note k hk out))
+    (λ out. by_go (goes job left out) (messages left job note k) (Then (Send job zero) note (over job zero note k))
+    (over job (suc left) note k out)) control
+    (λ out. go_first (goes job left out) (messages left job note k) (Then (Send job zero) note (over job zero note k))
+    (over job (suc left) note k out)
+    (messages_first left job note k control hk) (send_first job zero note (over job zero note k) control (over_first job zero note k hk))
+    (over_first job (suc left) note k hk out))
 
-call_first : (left : ℕ) (bus : ℕ) (ms : List MessageView) (note : Note) (k : JobOutcome → WalkTree) → left ≡ more_of (Call bus ms) → FirstCalls (messages left (Call bus ms) note k)
+call_first : (left : ℕ) (bus : ℕ) (ms : List MessageView) (note : Note) (k : JobOutcome → WalkTree) → left ≡ more_of (Call bus ms)
+    → FirstCalls (messages left (Call bus ms) note k)
 call_first zero bus ms note k e = e
 call_first (suc left) bus ms note k e = e
 
@@ -69,12 +77,14 @@ bus_first : DoerFirst at_bus
 bus_first (Call bus ms) note k hk = call_first (more_of (Call bus ms)) bus ms note k refl
 bus_first (Select h) note k hk = by (is_line (Select h))
   where
-    by : (x : Bool) → FirstCalls (cond x (Then (Shift (Select h)) note (over (Select h) zero note k)) (messages (more_of (Select h)) (Select h) note k))
+    by : (x : Bool) → FirstCalls (cond x (Then (Shift (Select h)) note (over (Select h) zero note k))
+        (messages (more_of (Select h)) (Select h) note k))
     by true = λ failed. over_first (Select h) zero note k hk (Lined failed)
     by false = messages_first (more_of (Select h)) (Select h) note k tt hk
 bus_first (SwitchOff off) note k hk = by (is_line (SwitchOff off))
   where
-    by : (x : Bool) → FirstCalls (cond x (Then (Shift (SwitchOff off)) note (over (SwitchOff off) zero note k)) (messages (more_of (SwitchOff off)) (SwitchOff off) note k))
+    by : (x : Bool) → FirstCalls (cond x (Then (Shift (SwitchOff off)) note (over (SwitchOff off) zero note k))
+        (messages (more_of (SwitchOff off)) (SwitchOff off) note k))
     by true = λ failed. over_first (SwitchOff off) zero note k hk (Lined failed)
     by false = messages_first (more_of (SwitchOff off)) (SwitchOff off) note k tt hk
 
@@ -86,20 +96,23 @@ part_first : (parent : Bool) (ls : List LockId) (on : Doer) → DoerFirst on →
 part_first true ls on hon = hon
 part_first false ls on hon = locked_first ls on hon
 
-sent_first : (o : JobOutcome) (w : WalkTree) (k : JobOutcome → WalkTree) → FirstCalls w → ((x : JobOutcome) → FirstCalls (k x)) → FirstCalls (if_sent o w k)
+sent_first : (o : JobOutcome) (w : WalkTree) (k : JobOutcome → WalkTree) → FirstCalls w → ((x : JobOutcome) → FirstCalls (k x))
+    → FirstCalls (if_sent o w k)
 sent_first Good w k hw hk = hw
 sent_first Refused w k hw hk = hw
 sent_first Unsent w k hw hk = hk Unsent
 sent_first Failed w k hw hk = hk Failed
 
-good_first : (o : JobOutcome) (w : WalkTree) (k : JobOutcome → WalkTree) → FirstCalls w → ((x : JobOutcome) → FirstCalls (k x)) → FirstCalls (if_good o w k)
+good_first : (o : JobOutcome) (w : WalkTree) (k : JobOutcome → WalkTree) → FirstCalls w → ((x : JobOutcome) → FirstCalls (k x))
+    → FirstCalls (if_good o w k)
 good_first Good w k hw hk = hw
 good_first Refused w k hw hk = hk Unsent
 good_first Unsent w k hw hk = hk Unsent
 good_first Failed w k hw hk = hk Failed
 
 module _ (b : BoardView) where
-  left_first : (stays : Bool) (h : Hop) (on : Doer) (k : JobOutcome → WalkTree) → DoerFirst on → ((o : JobOutcome) → FirstCalls (k o)) → (out : JobOutcome) → FirstCalls (left_behind stays h on k out)
+  left_first : (stays : Bool) (h : Hop) (on : Doer) (k : JobOutcome → WalkTree) → DoerFirst on → ((o : JobOutcome) → FirstCalls (k o))
+      → (out : JobOutcome) → FirstCalls (left_behind stays h on k out)
   left_first true h on k hon hk out = hk out
   left_first false h on k hon hk out = hon (SwitchOff (Deselect h)) (aside h) (λ x. k out) (λ x. hk out)
 
@@ -118,7 +131,8 @@ module _ (b : BoardView) where
       by true = opened_first h on hon job note k hk
       by false = chosen_first h on hon job note k hk
 
-  closing_first : (h : Hop) (on : Doer) (note : Note) (k : JobOutcome → WalkTree) (w : WalkTree) → DoerFirst on → ((o : JobOutcome) → FirstCalls (k o)) → FirstCalls w
+  closing_first : (h : Hop) (on : Doer) (note : Note) (k : JobOutcome → WalkTree) (w : WalkTree) → DoerFirst on
+      → ((o : JobOutcome) → FirstCalls (k o)) → FirstCalls w
       → (m : Option ℕ) → FirstCalls (closing b h on note k w m)
   closing_first h on note k w hon hk hw None = hw
   closing_first h on note k w hon hk hw (Some m) =
@@ -128,9 +142,11 @@ module _ (b : BoardView) where
   inner_first root [] job note k hk = bus_first job note k hk
   inner_first root (h ∷ hs) job note k hk =
       by (is_line job)
-      (closing_first h (part h.parent (locks_of root hs) (inner b root hs)) note k (Look (KeptOf h.on h.mux) (crossed h (part h.parent (locks_of root hs) (inner b root hs)) job note k))
+      (closing_first h (part h.parent (locks_of root hs) (inner b root hs)) note k
+      (Look (KeptOf h.on h.mux) (crossed h (part h.parent (locks_of root hs) (inner b root hs)) job note k))
       (part_first h.parent (locks_of root hs) (inner b root hs) (inner_first root hs)) hk
-      (λ m. crossed_first h (part h.parent (locks_of root hs) (inner b root hs)) (part_first h.parent (locks_of root hs) (inner b root hs) (inner_first root hs)) m job note k hk))
+      (λ m. crossed_first h (part h.parent (locks_of root hs) (inner b root hs))
+      (part_first h.parent (locks_of root hs) (inner b root hs) (inner_first root hs)) m job note k hk))
     where
       by : (x : Bool) → FirstCalls (behind b h (part h.parent (locks_of root hs) (inner b root hs)) job note k)
           → FirstCalls (cond x (at_bus job note k) (behind b h (part h.parent (locks_of root hs) (inner b root hs)) job note k))
@@ -144,7 +160,8 @@ walk-first b t = by (refusal b t)
     by : (o : Option Errno) → FirstCalls (walk_by b t o)
     by (Some e) = tt
     by None =
-        locked_first (locks_of (root_of b t.bus) (hops b t.bus)) (inner b (root_of b t.bus) (hops b t.bus)) (inner_first b (root_of b t.bus) (hops b t.bus))
+        locked_first (locks_of (root_of b t.bus) (hops b t.bus)) (inner b (root_of b t.bus) (hops b t.bus))
+        (inner_first b (root_of b t.bus) (hops b t.bus))
         (Call t.bus (messages_of t)) plain (λ o. Ends) (λ o. tt)
 
 -- the looks in front of a walk change nothing

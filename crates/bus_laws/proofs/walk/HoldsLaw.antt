@@ -27,7 +27,8 @@ use Rattle.bus_laws.proofs.tree.Falls.{Falls, floor_after, gathered, is_below_al
 use Rattle.bus_laws.specs.Holds.{IsLockOf, IsMarkOn, OwnHeld, MarksHeld, AreApart, SendsIn, HoldsLocks}
 
 -- what a job at the end of some hops needs: `ls` are the locks of these hops that are held, `floor` the least rank held
-record Needs (b : BoardView) (root : ℕ) (hs : List Hop) (ls : List LockId) (floor : ℕ) (job : Job) (marks : List Mark) (held : List LockId) : Type 0 where
+record Needs (b : BoardView) (root : ℕ) (hs : List Hop) (ls : List LockId) (floor : ℕ) (job : Job) (marks : List Mark)
+    (held : List LockId) : Type 0 where
   locks : (l : LockId) → InLocks l ls → InLocks l held
   ranks : (l : LockId) → InLocks l held → floor ≤ rank b l
   own : OwnHeld b job held
@@ -47,37 +48,45 @@ module _ (b : BoardView) (held : List LockId) where
   settled_holds true verdict w h = h
   settled_holds false verdict w h = h
 
-  over_holds : (job : Job) (left : ℕ) (note : Note) (k : JobOutcome → WalkTree) → ((o : JobOutcome) → HoldsLocks b held (k o)) → (out : ActOutcome) → HoldsLocks b held (over job left note k out)
+  over_holds : (job : Job) (left : ℕ) (note : Note) (k : JobOutcome → WalkTree) → ((o : JobOutcome) → HoldsLocks b held (k o))
+      → (out : ActOutcome) → HoldsLocks b held (over job left note k out)
   over_holds job left note k hk out =
-      settled_holds (note.forward && decides job (job_outcome job left out)) (verdict_of job left out) (k (job_outcome job left out)) (hk (job_outcome job left out))
+      settled_holds (note.forward && decides job (job_outcome job left out)) (verdict_of job left out) (k (job_outcome job left out))
+      (hk (job_outcome job left out))
 
-  go_holds : (g : Go) (x y z : WalkTree) → HoldsLocks b held x → HoldsLocks b held y → HoldsLocks b held z → HoldsLocks b held (by_go g x y z)
+  go_holds : (g : Go) (x y z : WalkTree) → HoldsLocks b held x → HoldsLocks b held y → HoldsLocks b held z
+      → HoldsLocks b held (by_go g x y z)
   go_holds On x y z hx hy hz = hx
   go_holds Last x y z hx hy hz = hy
   go_holds Over x y z hx hy hz = hz
 
-  messages_hold : (left : ℕ) (job : Job) (note : Note) (k : JobOutcome → WalkTree) → SendsIn b job note.marks held → ((o : JobOutcome) → HoldsLocks b held (k o)) → HoldsLocks b held (messages left job note k)
+  messages_hold : (left : ℕ) (job : Job) (note : Note) (k : JobOutcome → WalkTree) → SendsIn b job note.marks held
+      → ((o : JobOutcome) → HoldsLocks b held (k o)) → HoldsLocks b held (messages left job note k)
   messages_hold zero job note k sends hk = (sends, over_holds job zero note k hk)
   messages_hold (suc left) job note k sends hk = (
     sends,
-    λ out. go_holds (goes job left out) (messages left job note k) (Then (Send job zero) note (over job zero note k)) (over job (suc left) note k out)
+    λ out. go_holds (goes job left out) (messages left job note k) (Then (Send job zero) note (over job zero note k))
+        (over job (suc left) note k out)
         (messages_hold left job note k sends hk) (sends, over_holds job zero note k hk) (over_holds job (suc left) note k hk out),
   )
 
-  bus_holds : (job : Job) (note : Note) (k : JobOutcome → WalkTree) → SendsIn b job note.marks held → ((o : JobOutcome) → HoldsLocks b held (k o)) → HoldsLocks b held (at_bus job note k)
+  bus_holds : (job : Job) (note : Note) (k : JobOutcome → WalkTree) → SendsIn b job note.marks held
+      → ((o : JobOutcome) → HoldsLocks b held (k o)) → HoldsLocks b held (at_bus job note k)
   bus_holds job note k sends hk = by (is_line job)
     where
       by : (x : Bool) → HoldsLocks b held (cond x (Then (Shift job) note (over job zero note k)) (messages (more_of job) job note k))
       by true = (sends, over_holds job zero note k hk)
       by false = messages_hold (more_of job) job note k sends hk
 
-  sent_holds : (o : JobOutcome) (w : WalkTree) (k : JobOutcome → WalkTree) → HoldsLocks b held w → ((x : JobOutcome) → HoldsLocks b held (k x)) → HoldsLocks b held (if_sent o w k)
+  sent_holds : (o : JobOutcome) (w : WalkTree) (k : JobOutcome → WalkTree) → HoldsLocks b held w
+      → ((x : JobOutcome) → HoldsLocks b held (k x)) → HoldsLocks b held (if_sent o w k)
   sent_holds Good w k hw hk = hw
   sent_holds Refused w k hw hk = hw
   sent_holds Unsent w k hw hk = hk Unsent
   sent_holds Failed w k hw hk = hk Failed
 
-  good_holds : (o : JobOutcome) (w : WalkTree) (k : JobOutcome → WalkTree) → HoldsLocks b held w → ((x : JobOutcome) → HoldsLocks b held (k x)) → HoldsLocks b held (if_good o w k)
+  good_holds : (o : JobOutcome) (w : WalkTree) (k : JobOutcome → WalkTree) → HoldsLocks b held w
+      → ((x : JobOutcome) → HoldsLocks b held (k x)) → HoldsLocks b held (if_good o w k)
   good_holds Good w k hw hk = hw
   good_holds Refused w k hw hk = hk Unsent
   good_holds Unsent w k hw hk = hk Unsent
@@ -95,7 +104,8 @@ marks_more b l held (m ∷ ms) h = ((inr h.0.0, h.0.1), marks_more b l held ms h
 
 module _ (b : BoardView) (root : ℕ) (hs : List Hop) where
   -- the induction over the locks
-  take_holds : (ls got : List LockId) (floor : ℕ) (on : Doer) → Falls b floor ls → AllByRecursion (IsLockOf b) ls → DoerHolds b root hs (gathered ls got) (floor_after b floor ls) on → DoerHolds b root hs got floor (locked ls on)
+  take_holds : (ls got : List LockId) (floor : ℕ) (on : Doer) → Falls b floor ls → AllByRecursion (IsLockOf b) ls
+      → DoerHolds b root hs (gathered ls got) (floor_after b floor ls) on → DoerHolds b root hs got floor (locked ls on)
   take_holds [] got floor on falls there sub = sub
   take_holds (l ∷ ls) got floor on falls there sub =
       λ job note k held before hk. (
@@ -118,7 +128,8 @@ module _ (b : BoardView) (root : ℕ) (hs : List Hop) where
             (λ o. (held, refl, hk o)),
       )
 
-  fewer_locks : (ls ms : List LockId) (floor : ℕ) (on : Doer) → ((l : LockId) → InLocks l ls → InLocks l ms) → DoerHolds b root hs ls floor on → DoerHolds b root hs ms floor on
+  fewer_locks : (ls ms : List LockId) (floor : ℕ) (on : Doer) → ((l : LockId) → InLocks l ls → InLocks l ms)
+      → DoerHolds b root hs ls floor on → DoerHolds b root hs ms floor on
   fewer_locks ls ms floor on there sub =
       λ job note k held before hk.
       sub job note k held
@@ -145,7 +156,8 @@ before_it b tree (h ∷ hs) s at g among =
 
 module _ (b : BoardView) (tree : IsTree b) (root : ℕ) where
   -- the locks of a path are the board's
-  path_there : (hs : List Hop) (s : ℕ) → hops b s ≡ hs → s < buses b → root < length b.roots → AllByRecursion (IsLockOf b) (locks_of root hs)
+  path_there : (hs : List Hop) (s : ℕ) → hops b s ≡ hs → s < buses b → root < length b.roots
+      → AllByRecursion (IsLockOf b) (locks_of root hs)
   path_there [] s at there rooted = (rooted, tt)
   path_there (h ∷ hs) s at there rooted =
       let low : h.on < s = (tree.leads s h hs at).1 in
@@ -155,26 +167,34 @@ module _ (b : BoardView) (tree : IsTree b) (root : ℕ) where
       by true all = all
       by false all = tt
 
-  locked_holds : (hs : List Hop) (s : ℕ) (on : Doer) → hops b s ≡ hs → s < buses b → root < length b.roots → DoerHolds b root hs (locks_of root hs) (ground hs) on
+  locked_holds : (hs : List Hop) (s : ℕ) (on : Doer) → hops b s ≡ hs → s < buses b → root < length b.roots
+      → DoerHolds b root hs (locks_of root hs) (ground hs) on
       → DoerHolds b root hs [] (suc (length hs)) (locked (locks_of root hs) on)
   locked_holds hs s on at there rooted sub =
-      take_holds b root hs (locks_of root hs) [] (suc (length hs)) on (path_falls b tree root hs s (suc (length hs)) at (omega arith)) (path_there hs s at there rooted)
+      take_holds b root hs (locks_of root hs) [] (suc (length hs)) on (path_falls b tree root hs s (suc (length hs)) at (omega arith))
+      (path_there hs s at there rooted)
       (subst (λ (f : ℕ). DoerHolds b root hs (gathered (locks_of root hs) []) f on) (sym (path_floor b tree root hs s (suc (length hs)) at))
-      (fewer_locks b root hs (locks_of root hs) (gathered (locks_of root hs) []) (ground hs) on (λ l i. in_gathered (locks_of root hs) [] l (inl i)) sub))
+      (fewer_locks b root hs (locks_of root hs) (gathered (locks_of root hs) []) (ground hs) on
+      (λ l i. in_gathered (locks_of root hs) [] l (inl i)) sub))
 
-  part_holds : (hs : List Hop) (s : ℕ) (on : Doer) → hops b s ≡ hs → s < buses b → root < length b.roots → DoerHolds b root hs (locks_of root hs) (ground hs) on
-      → (t : Bool) → DoerHolds b root hs (cond t (locks_of root hs) []) (cond t (ground hs) (suc (length hs))) (part t (locks_of root hs) on)
+  part_holds : (hs : List Hop) (s : ℕ) (on : Doer) → hops b s ≡ hs → s < buses b → root < length b.roots
+      → DoerHolds b root hs (locks_of root hs) (ground hs) on
+      → (t : Bool) → DoerHolds b root hs (cond t (locks_of root hs) []) (cond t (ground hs) (suc (length hs)))
+      (part t (locks_of root hs) on)
   part_holds hs s on at there rooted sub true = sub
   part_holds hs s on at there rooted sub false = locked_holds hs s on at there rooted sub
 
   module _ (lines : LinesAreLocked b) where
     -- a line step on the bus of a hop has the root's lock
-    line_lock : (h : Hop) (hs : List Hop) (m : ℕ) → hops b h.on ≡ hs → home_of_mux b m ≡ h.on → is_gpio (kind_of b m) ≡ true → InLocks (lock.Bus root) (locks_of root hs)
+    line_lock : (h : Hop) (hs : List Hop) (m : ℕ) → hops b h.on ≡ hs → home_of_mux b m ≡ h.on → is_gpio (kind_of b m) ≡ true
+        → InLocks (lock.Bus root) (locks_of root hs)
     line_lock h hs m at home gpio =
-        bus_among root hs (λ g a. lines m g gpio (subst (λ (p : ℕ). IsAmongHops g (hops b p)) (sym home) (subst (λ (xs : List Hop). IsAmongHops g xs) (sym at) a)))
+        bus_among root hs (λ g a. lines m g gpio
+        (subst (λ (p : ℕ). IsAmongHops g (hops b p)) (sym home) (subst (λ (xs : List Hop). IsAmongHops g xs) (sym at) a)))
 
     -- ONE HOP
-    module _ (h : Hop) (hs : List Hop) (s : ℕ) (at : hops b s ≡ h ∷ hs) (there : s < buses b) (same : root_of b s ≡ root) (floor : ℕ) (on : Doer)
+    module _ (h : Hop) (hs : List Hop) (s : ℕ) (at : hops b s ≡ h ∷ hs) (there : s < buses b) (same : root_of b s ≡ root) (floor : ℕ)
+        (on : Doer)
         (sub : DoerHolds b root hs (sub_locks root h hs) floor on) where
       among : IsAmongHops h (hops b s)
       among = subst (λ (xs : List Hop). IsAmongHops h xs) (sym at) (inl refl)
@@ -195,11 +215,13 @@ module _ (b : BoardView) (tree : IsTree b) (root : ℕ) where
       below g a e = (let less : g.on < h.on = before_it b tree hs h.on (tree.tail s h hs at) g a in omega (arith, less, e))
 
       -- a control job on the bus of the hop
-      module _ (held : List LockId) (locks : (l : LockId) → InLocks l (locks_of root (h ∷ hs)) → InLocks l held) (ranks : (l : LockId) → InLocks l held → floor ≤ rank b l) where
+      module _ (held : List LockId) (locks : (l : LockId) → InLocks l (locks_of root (h ∷ hs)) → InLocks l held) (ranks : (l : LockId)
+          → InLocks l held → floor ≤ rank b l) where
         mine : InLocks (lock.Mux h.on) held
         mine = locks (lock.Mux h.on) (inl refl)
 
-        switch : (job : Job) (marks : List Mark) → OwnHeld b job held → job_bus job ≡ h.on → MarksHeld b marks held → AreApart marks → ((g : Hop) → IsAmongHops g hs → IsUnmarked g.on marks) → (is_line job ≡ true → InLocks (lock.Bus root) (locks_of root hs))
+        switch : (job : Job) (marks : List Mark) → OwnHeld b job held → job_bus job ≡ h.on → MarksHeld b marks held → AreApart marks
+            → ((g : Hop) → IsAmongHops g hs → IsUnmarked g.on marks) → (is_line job ≡ true → InLocks (lock.Bus root) (locks_of root hs))
             → Needs b root hs (sub_locks root h hs) floor job marks held
         switch job marks own bus marked apart off line =
             record {
@@ -213,7 +235,8 @@ module _ (b : BoardView) (tree : IsTree b) (root : ℕ) where
               line_rooted = line;
             }
 
-        module _ (job : Job) (note : Note) (k : JobOutcome → WalkTree) (no_line : is_line job ≡ false) (own : OwnHeld b job held) (marked : MarksHeld b note.marks held)
+        module _ (job : Job) (note : Note) (k : JobOutcome → WalkTree) (no_line : is_line job ≡ false) (own : OwnHeld b job held)
+            (marked : MarksHeld b note.marks held)
             (marks_apart : AreApart note.marks) (marks_off : (g : Hop) → IsAmongHops g (h ∷ hs) → IsUnmarked g.on note.marks)
             (job_root : root_of b (job_bus job) ≡ root) (hk : (o : JobOutcome) → HoldsLocks b held (k o)) where
           job_before : Needs b root hs (sub_locks root h hs) floor job note.marks held
@@ -233,7 +256,8 @@ module _ (b : BoardView) (tree : IsTree b) (root : ℕ) where
           left_holds true out = hk out
           left_holds false out =
               sub (SwitchOff (Deselect h)) (aside h) (λ o. k out) held
-              (switch (SwitchOff (Deselect h)) (aside h).marks (mine, home) refl ((mine, home), tt) (tt, tt) (λ g a. (below g a, tt)) (λ l. line_lock h hs h.mux (tree.tail s h hs at) home (ap is_gpio kind_is ∙ l)))
+              (switch (SwitchOff (Deselect h)) (aside h).marks (mine, home) refl ((mine, home), tt) (tt, tt) (λ g a. (below g a, tt))
+              (λ l. line_lock h hs h.mux (tree.tail s h hs at) home (ap is_gpio kind_is ∙ l)))
               (λ o. hk out)
 
           opened_holds : HoldsLocks b held (opened h on job note k)
@@ -242,7 +266,9 @@ module _ (b : BoardView) (tree : IsTree b) (root : ℕ) where
           chosen_holds : HoldsLocks b held (chosen h on job note k)
           chosen_holds =
               sub (Select h) (with_mark h.on h.mux note) (λ o. if_good o (opened h on job note k) k) held
-              (switch (Select h) (with_mark h.on h.mux note).marks (mine, home, (tree.hop s h among).mux) refl ((mine, home), marked) (marks_off h (inl refl), marks_apart) (λ g a. (below g a, marks_off g (inr a))) (λ l. line_lock h hs h.mux (tree.tail s h hs at) home (ap is_gpio kind_is ∙ l)))
+              (switch (Select h) (with_mark h.on h.mux note).marks (mine, home, (tree.hop s h among).mux) refl ((mine, home), marked)
+              (marks_off h (inl refl), marks_apart) (λ g a. (below g a, marks_off g (inr a)))
+              (λ l. line_lock h hs h.mux (tree.tail s h hs at) home (ap is_gpio kind_is ∙ l)))
               (λ o. good_holds b held o (opened h on job note k) k opened_holds hk)
 
           crossed_holds : (m : Option ℕ) → HoldsLocks b held (crossed h on job note k m)
@@ -262,41 +288,54 @@ module _ (b : BoardView) (tree : IsTree b) (root : ℕ) where
           closing_holds None is = passing_holds
           closing_holds (Some m) is =
               sub (SwitchOff (Close h.on m (kind_of b m))) (with_mark h.on m note) (λ o. if_sent o passing k) held
-              (switch (SwitchOff (Close h.on m (kind_of b m))) (with_mark h.on m note).marks (mine, is) refl ((mine, is), marked) (marks_off h (inl refl), marks_apart) (λ g a. (below g a, marks_off g (inr a))) (λ l. line_lock h hs m (tree.tail s h hs at) is l))
+              (switch (SwitchOff (Close h.on m (kind_of b m))) (with_mark h.on m note).marks (mine, is) refl ((mine, is), marked)
+              (marks_off h (inl refl), marks_apart) (λ g a. (below g a, marks_off g (inr a)))
+              (λ l. line_lock h hs m (tree.tail s h hs at) is l))
               (λ o. sent_holds b held o passing k passing_holds hk)
 
           behind_holds : HoldsLocks b held (behind b h on job note k)
           behind_holds = (mine, tt, closing_holds)
 
     -- THE INDUCTION over the hops
-    inner_holds : (hs : List Hop) (s : ℕ) → hops b s ≡ hs → s < buses b → root_of b s ≡ root → root < length b.roots → DoerHolds b root hs (locks_of root hs) (ground hs) (inner b root hs)
+    inner_holds : (hs : List Hop) (s : ℕ) → hops b s ≡ hs → s < buses b → root_of b s ≡ root → root < length b.roots
+        → DoerHolds b root hs (locks_of root hs) (ground hs) (inner b root hs)
     inner_holds [] s at there same rooted =
         λ job note k held before hk.
         bus_holds b held job note k
-        (record { rooted = subst (λ (r : ℕ). InLocks (lock.Bus r) held) (sym before.same_root) (before.locks (lock.Bus root) (inl refl)); own = before.own; marked = before.marked; apart = before.apart }) hk
+        (record {
+          rooted = subst (λ (r : ℕ). InLocks (lock.Bus r) held) (sym before.same_root) (before.locks (lock.Bus root) (inl refl));
+          own = before.own;
+          marked = before.marked;
+          apart = before.apart;
+        }) hk
     inner_holds (h ∷ hs) s at there same rooted =
         λ job note k held before hk.
         by job note k held before hk (is_line job) refl
         (part_holds hs h.on (inner b root hs) (tree.tail s h hs at) low rooted
-        (inner_holds hs h.on (tree.tail s h hs at) low (tree.root_same s h (subst (λ (xs : List Hop). IsAmongHops h xs) (sym at) (inl refl)) ∙ same) rooted) h.parent)
+        (inner_holds hs h.on (tree.tail s h hs at) low (tree.root_same s h (subst (λ (xs : List Hop). IsAmongHops h xs) (sym at) (inl refl))
+        ∙ same) rooted) h.parent)
       where
         low : h.on < buses b
         low = (let less : h.on < s = (tree.leads s h hs at).1 in omega (arith, less, there))
 
-        by : (job : Job) (note : Note) (k : JobOutcome → WalkTree) (held : List LockId) → Needs b root (h ∷ hs) (locks_of root (h ∷ hs)) (ground (h ∷ hs)) job note.marks held
+        by : (job : Job) (note : Note) (k : JobOutcome → WalkTree) (held : List LockId)
+            → Needs b root (h ∷ hs) (locks_of root (h ∷ hs)) (ground (h ∷ hs)) job note.marks held
             → ((o : JobOutcome) → HoldsLocks b held (k o)) → (t : Bool) → is_line job ≡ t
             → DoerHolds b root hs (sub_locks root h hs) (ground (h ∷ hs)) (part h.parent (locks_of root hs) (inner b root hs))
             → HoldsLocks b held (cond t (at_bus job note k) (behind b h (part h.parent (locks_of root hs) (inner b root hs)) job note k))
         by job note k held before hk true line sub =
             bus_holds b held job note k
             (record {
-              rooted = subst (λ (r : ℕ). InLocks (lock.Bus r) held) (sym before.same_root) (before.locks (lock.Bus root) (before.line_rooted line));
+              rooted = subst (λ (r : ℕ). InLocks (lock.Bus r) held) (sym before.same_root)
+                  (before.locks (lock.Bus root) (before.line_rooted line));
               own = before.own;
               marked = before.marked;
               apart = before.apart;
             }) hk
         by job note k held before hk false line sub =
-            behind_holds h hs s at there same (ground (h ∷ hs)) (part h.parent (locks_of root hs) (inner b root hs)) sub held before.locks before.ranks job note k line before.own before.marked before.apart before.off
+            behind_holds h hs s at there same (ground (h ∷ hs))
+            (part h.parent (locks_of root hs) (inner b root hs)) sub held before.locks before.ranks job note k line before.own
+            before.marked before.apart before.off
             before.same_root hk
 
 -- the whole walk of a transfer holds no lock before it and behind it

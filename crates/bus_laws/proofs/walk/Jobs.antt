@@ -28,15 +28,18 @@ pub record Switches (b : BoardView) (P : Job → Type 0) (h : Hop) : Type 0 wher
 module _ (b : BoardView) (P : Job → Type 0) where
   -- what a doer keeps
   abbrev DoerJobs : Doer → Type 0
-  DoerJobs on = (job : Job) (note : Note) (k : JobOutcome → WalkTree) → P job → ((o : JobOutcome) → EachJob P (k o)) → EachJob P (on job note k)
+  DoerJobs on = (job : Job) (note : Note) (k : JobOutcome → WalkTree) → P job → ((o : JobOutcome) → EachJob P (k o))
+      → EachJob P (on job note k)
 
   settled_jobs : (x : Bool) (verdict : Option Errno) (w : WalkTree) → EachJob P w → EachJob P (settled x verdict w)
   settled_jobs true verdict w h = λ out. h
   settled_jobs false verdict w h = h
 
-  over_jobs : (job : Job) (left : ℕ) (note : Note) (k : JobOutcome → WalkTree) → ((o : JobOutcome) → EachJob P (k o)) → (out : ActOutcome) → EachJob P (over job left note k out)
+  over_jobs : (job : Job) (left : ℕ) (note : Note) (k : JobOutcome → WalkTree) → ((o : JobOutcome) → EachJob P (k o)) → (out : ActOutcome)
+      → EachJob P (over job left note k out)
   over_jobs job left note k hk out =
-      settled_jobs (note.forward && decides job (job_outcome job left out)) (verdict_of job left out) (k (job_outcome job left out)) (hk (job_outcome job left out))
+      settled_jobs (note.forward && decides job (job_outcome job left out)) (verdict_of job left out) (k (job_outcome job left out))
+      (hk (job_outcome job left out))
 
   go_jobs : (g : Go) (x y z : WalkTree) → EachJob P x → EachJob P y → EachJob P z → EachJob P (by_go g x y z)
   go_jobs On x y z hx hy hz = hx
@@ -47,14 +50,16 @@ module _ (b : BoardView) (P : Job → Type 0) where
   messages_jobs zero job note k own hk = (own, over_jobs job zero note k hk)
   messages_jobs (suc left) job note k own hk = (
     own,
-    λ out. go_jobs (goes job left out) (messages left job note k) (Then (Send job zero) note (over job zero note k)) (over job (suc left) note k out)
+    λ out. go_jobs (goes job left out) (messages left job note k) (Then (Send job zero) note (over job zero note k))
+        (over job (suc left) note k out)
         (messages_jobs left job note k own hk) (own, over_jobs job zero note k hk) (over_jobs job (suc left) note k hk out),
   )
 
   bus_jobs : DoerJobs at_bus
   bus_jobs job note k own hk = by (is_line job) refl
     where
-      by : (x : Bool) → is_line job ≡ x → EachJob P (cond x (Then (Shift job) note (over job zero note k)) (messages (more_of job) job note k))
+      by : (x : Bool) → is_line job ≡ x
+          → EachJob P (cond x (Then (Shift job) note (over job zero note k)) (messages (more_of job) job note k))
       by true line = (line, own, over_jobs job zero note k hk)
       by false line = messages_jobs (more_of job) job note k own hk
 
@@ -67,19 +72,22 @@ module _ (b : BoardView) (P : Job → Type 0) where
   part_jobs true ls on hon = hon
   part_jobs false ls on hon = locked_jobs ls on hon
 
-  sent_jobs : (o : JobOutcome) (w : WalkTree) (k : JobOutcome → WalkTree) → EachJob P w → ((x : JobOutcome) → EachJob P (k x)) → EachJob P (if_sent o w k)
+  sent_jobs : (o : JobOutcome) (w : WalkTree) (k : JobOutcome → WalkTree) → EachJob P w → ((x : JobOutcome) → EachJob P (k x))
+      → EachJob P (if_sent o w k)
   sent_jobs Good w k hw hk = hw
   sent_jobs Refused w k hw hk = hw
   sent_jobs Unsent w k hw hk = hk Unsent
   sent_jobs Failed w k hw hk = hk Failed
 
-  good_jobs : (o : JobOutcome) (w : WalkTree) (k : JobOutcome → WalkTree) → EachJob P w → ((x : JobOutcome) → EachJob P (k x)) → EachJob P (if_good o w k)
+  good_jobs : (o : JobOutcome) (w : WalkTree) (k : JobOutcome → WalkTree) → EachJob P w → ((x : JobOutcome) → EachJob P (k x))
+      → EachJob P (if_good o w k)
   good_jobs Good w k hw hk = hw
   good_jobs Refused w k hw hk = hk Unsent
   good_jobs Unsent w k hw hk = hk Unsent
   good_jobs Failed w k hw hk = hk Failed
 
-  left_jobs : (stays : Bool) (h : Hop) (on : Doer) (k : JobOutcome → WalkTree) → Switches b P h → DoerJobs on → ((o : JobOutcome) → EachJob P (k o)) → (out : JobOutcome) → EachJob P (left_behind stays h on k out)
+  left_jobs : (stays : Bool) (h : Hop) (on : Doer) (k : JobOutcome → WalkTree) → Switches b P h → DoerJobs on
+      → ((o : JobOutcome) → EachJob P (k o)) → (out : JobOutcome) → EachJob P (left_behind stays h on k out)
   left_jobs true h on k switches hon hk out = hk out
   left_jobs false h on k switches hon hk out = hon (SwitchOff (Deselect h)) (aside h) (λ x. k out) switches.deselect (λ x. hk out)
 
@@ -98,7 +106,8 @@ module _ (b : BoardView) (P : Job → Type 0) where
       by true = opened_jobs h on switches hon job note k own hk
       by false = chosen_jobs h on switches hon job note k own hk
 
-  closing_jobs : (h : Hop) (on : Doer) (note : Note) (k : JobOutcome → WalkTree) (w : WalkTree) → Switches b P h → DoerJobs on → ((o : JobOutcome) → EachJob P (k o)) → EachJob P w
+  closing_jobs : (h : Hop) (on : Doer) (note : Note) (k : JobOutcome → WalkTree) (w : WalkTree) → Switches b P h → DoerJobs on
+      → ((o : JobOutcome) → EachJob P (k o)) → EachJob P w
       → (m : Option ℕ) → EachJob P (closing b h on note k w m)
   closing_jobs h on note k w switches hon hk hw None = hw
   closing_jobs h on note k w switches hon hk hw (Some m) =
@@ -107,7 +116,8 @@ module _ (b : BoardView) (P : Job → Type 0) where
 
   behind_jobs : (h : Hop) (on : Doer) → Switches b P h → DoerJobs on → DoerJobs (behind b h on)
   behind_jobs h on switches hon job note k own hk =
-      closing_jobs h on note k (Look (KeptOf h.on h.mux) (crossed h on job note k)) switches hon hk (λ m. crossed_jobs h on switches hon m job note k own hk)
+      closing_jobs h on note k (Look (KeptOf h.on h.mux) (crossed h on job note k)) switches hon hk
+      (λ m. crossed_jobs h on switches hon m job note k own hk)
 
   inner_jobs : (root : ℕ) (hs : List Hop) → ((g : Hop) → IsAmongHops g hs → Switches b P g) → DoerJobs (inner b root hs)
   inner_jobs root [] switches job note k own hk = bus_jobs job note k own hk
@@ -128,7 +138,8 @@ walk-jobs b P t call switches = by (refusal b t) refl
     by : (o : Option Errno) → refusal b t ≡ o → EachJob P (walk_by b t o)
     by (Some e) at = λ out. tt
     by None at =
-        locked_jobs b P (locks_of (root_of b t.bus) (hops b t.bus)) (inner b (root_of b t.bus) (hops b t.bus)) (inner_jobs b P (root_of b t.bus) (hops b t.bus) (switches at))
+        locked_jobs b P (locks_of (root_of b t.bus) (hops b t.bus)) (inner b (root_of b t.bus) (hops b t.bus))
+        (inner_jobs b P (root_of b t.bus) (hops b t.bus) (switches at))
         (Call t.bus (messages_of t)) plain (λ o. Ends) (call at) (λ o. tt)
 
 -- THE BUSES of a path: each comes before the one below it
@@ -152,7 +163,8 @@ pub walk-stays : (b : BoardView) → IsTree b → (t : TransferView) → EachJob
 walk-stays b tree t =
     walk-jobs b (IsJobOf b t) t (λ accepted. record { there = below accepted; rooted = refl })
     (λ accepted g among.
-    let there : g.on < buses b = (let less : g.on < t.bus = hop_before b tree (hops b t.bus) t.bus refl g among in omega (arith, less, below accepted)) in
+    let there : g.on < buses b = (let less : g.on < t.bus = hop_before b tree (hops b t.bus) t.bus refl g among in
+    omega (arith, less, below accepted)) in
     record {
       select = record { there = there; rooted = tree.root_same t.bus g among };
       deselect = record { there = there; rooted = tree.root_same t.bus g among };

@@ -27,19 +27,24 @@ nth_behind : (before : List MessageView) (y : MessageView) (rest : List MessageV
 nth_behind [] y rest = refl
 nth_behind (x ∷ xs) y rest = nth_behind xs y rest
 
-pub length-around : (before : List MessageView) (y : MessageView) (rest : List MessageView) → length (before ++ y ∷ rest) ≡ length before + suc (length rest)
+pub length-around : (before : List MessageView) (y : MessageView) (rest : List MessageView)
+    → length (before ++ y ∷ rest) ≡ length before + suc (length rest)
 length-around [] y rest = (let f : suc (length rest) ≡ 0 + suc (length rest) = omega arith in f)
-length-around (x ∷ xs) y rest = (let e : length (xs ++ y ∷ rest) ≡ length xs + suc (length rest) = length-around xs y rest in omega (arith, e))
+length-around (x ∷ xs) y rest = (let e : length (xs ++ y ∷ rest) ≡ length xs + suc (length rest) = length-around xs y rest in
+    omega (arith, e))
 
 -- and with so many behind it
-pub nth-next : (ms before : List MessageView) (y : MessageView) (rest : List MessageView) (left : ℕ) → ms ≡ before ++ y ∷ rest → left ≡ length rest
+pub nth-next : (ms before : List MessageView) (y : MessageView) (rest : List MessageView) (left : ℕ) → ms ≡ before ++ y ∷ rest
+    → left ≡ length rest
     → nth_message ms (length ms - 1 - left) ≡ y
 nth-next ms before y rest left all so_many =
     ap (λ (xs : List MessageView). nth_message xs (length xs - 1 - left)) all
-    ∙ ap (λ (i : ℕ). nth_message (before ++ y ∷ rest) i) (let e : length (before ++ y ∷ rest) ≡ length before + suc (length rest) = length-around before y rest in omega (arith, e, so_many))
+    ∙ ap (λ (i : ℕ). nth_message (before ++ y ∷ rest) i)
+    (let e : length (before ++ y ∷ rest) ≡ length before + suc (length rest) = length-around before y rest in omega (arith, e, so_many))
     ∙ nth_behind before y rest
 
-pub part-next : (ms before : List MessageView) (y : MessageView) (rest : List MessageView) (left : ℕ) → ms ≡ before ++ y ∷ rest → left ≡ length rest
+pub part-next : (ms before : List MessageView) (y : MessageView) (rest : List MessageView) (left : ℕ) → ms ≡ before ++ y ∷ rest
+    → left ≡ length rest
     → length ms - left - 1 ≡ length before
 part-next ms before y rest left all so_many =
     let e : length (before ++ y ∷ rest) ≡ length before + suc (length rest) = length-around before y rest in

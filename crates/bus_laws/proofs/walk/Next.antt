@@ -61,14 +61,16 @@ module _ (P : Job → Type 0) where
   jobs_seen v (Look ask next) h = jobs_seen v (next (answer_to v ask)) (h (answer_to v ask))
   jobs_seen v (Then act note next) h = h
 
-  jobs_behind : (act : Act) (note : Note) (next : ActOutcome → WalkTree) → EachJob P (Then act note next) → (out : ActOutcome) → EachJob P (next out)
+  jobs_behind : (act : Act) (note : Note) (next : ActOutcome → WalkTree) → EachJob P (Then act note next) → (out : ActOutcome)
+      → EachJob P (next out)
   jobs_behind (Take l) note next h out = h out
   jobs_behind (Free l) note next h out = h out
   jobs_behind (Send job left) note next h out = h.1 out
   jobs_behind (Shift job) note next h out = h.2 out
   jobs_behind (Settle verdict) note next h out = h out
 
-  pub jobs-next : (v : Slots) (w : WalkTree) → EachJob P w → (act : Act) → first_act (seen v w) ≡ Some act → (out : ActOutcome) → EachJob P (rest_of (seen v w) out)
+  pub jobs-next : (v : Slots) (w : WalkTree) → EachJob P w → (act : Act) → first_act (seen v w) ≡ Some act → (out : ActOutcome)
+      → EachJob P (rest_of (seen v w) out)
   jobs-next v w h act first out =
       let here = at_first (EachJob P) (seen v w) act first (jobs_seen v w h) in
       at_rest (EachJob P) (seen v w) act first out
@@ -77,14 +79,16 @@ module _ (P : Job → Type 0) where
   pub job-sent : (v : Slots) (w : WalkTree) → EachJob P w → (job : Job) (left : ℕ) → first_act (seen v w) ≡ Some (Send job left) → P job
   job-sent v w h job left first = (at_first (EachJob P) (seen v w) (Send job left) first (jobs_seen v w h)).0
 
-  pub job-shifted : (v : Slots) (w : WalkTree) → EachJob P w → (job : Job) → first_act (seen v w) ≡ Some (Shift job) → (is_line job ≡ true) × P job
+  pub job-shifted : (v : Slots) (w : WalkTree) → EachJob P w → (job : Job) → first_act (seen v w) ≡ Some (Shift job)
+      → (is_line job ≡ true) × P job
   job-shifted v w h job first =
       let here = at_first (EachJob P) (seen v w) (Shift job) first (jobs_seen v w h) in
       (here.0, here.1)
 
 -- THE CALLER'S MESSAGES are those of its transfer
 module _ (b : BoardView) (t : TransferView) (v : Slots) (w : WalkTree) (calls : CallsOf b t w) where
-  calls_behind : (act : Act) (note : Note) (next : ActOutcome → WalkTree) → CallsOf b t (Then act note next) → (out : ActOutcome) → CallsOf b t (next out)
+  calls_behind : (act : Act) (note : Note) (next : ActOutcome → WalkTree) → CallsOf b t (Then act note next) → (out : ActOutcome)
+      → CallsOf b t (next out)
   calls_behind (Take l) note next h out = h out
   calls_behind (Free l) note next h out = h out
   calls_behind (Send job left) note next h out = h.2 out
@@ -97,24 +101,28 @@ module _ (b : BoardView) (t : TransferView) (v : Slots) (w : WalkTree) (calls : 
       at_rest (CallsOf b t) (seen v w) act first out
       (calls_behind act (note_at (CallsOf b t) (seen v w) act first) (next_at (CallsOf b t) (seen v w) act first) here out)
 
-  pub call-sent : (bus : ℕ) (messages : List MessageView) (left : ℕ) → first_act (seen v w) ≡ Some (Send (Call bus messages) left) → IsCall b t bus messages
+  pub call-sent : (bus : ℕ) (messages : List MessageView) (left : ℕ) → first_act (seen v w) ≡ Some (Send (Call bus messages) left)
+      → IsCall b t bus messages
   call-sent bus messages left first = (at_first (CallsOf b t) (seen v w) (Send (Call bus messages) left) first (calls_seen b t v w calls)).0
 
 -- ONE SETTLE
 module _ (done : Bool) (v : Slots) (w : WalkTree) (settles : Settles done w) where
-  pub settles-taken : (l : LockId) → first_act (seen v w) ≡ Some (Take l) → NoSettle (rest_of (seen v w) Passed) × Settles done (rest_of (seen v w) Passed)
+  pub settles-taken : (l : LockId) → first_act (seen v w) ≡ Some (Take l)
+      → NoSettle (rest_of (seen v w) Passed) × Settles done (rest_of (seen v w) Passed)
   settles-taken l first =
       let here = at_first (Settles done) (seen v w) (Take l) first (settles_seen v done w settles) in
       (at_rest NoSettle (seen v w) (Take l) first Passed here.0, at_rest (Settles done) (seen v w) (Take l) first Passed here.1)
 
-  pub settles-freed : (l : LockId) → first_act (seen v w) ≡ Some (Free l) → NoSettle (rest_of (seen v w) Passed) × Settles done (rest_of (seen v w) Passed)
+  pub settles-freed : (l : LockId) → first_act (seen v w) ≡ Some (Free l)
+      → NoSettle (rest_of (seen v w) Passed) × Settles done (rest_of (seen v w) Passed)
   settles-freed l first =
       let here = at_first (Settles done) (seen v w) (Free l) first (settles_seen v done w settles) in
       (at_rest NoSettle (seen v w) (Free l) first Passed here.0, at_rest (Settles done) (seen v w) (Free l) first Passed here.1)
 
   pub settles-sent : (job : Job) (left : ℕ) → first_act (seen v w) ≡ Some (Send job left)
       → IsBefore done job
-      × ((e : End) (bytes : List ℕ) → (note : Note) × GoesOn note job left (Sent e bytes) (rest_of (seen v w) (Sent e bytes)) × Settles done (rest_of (seen v w) (Sent e bytes)))
+      × ((e : End) (bytes : List ℕ) → (note : Note) × GoesOn note job left (Sent e bytes) (rest_of (seen v w) (Sent e bytes))
+      × Settles done (rest_of (seen v w) (Sent e bytes)))
   settles-sent job left first =
       let here = at_first (Settles done) (seen v w) (Send job left) first (settles_seen v done w settles) in
       let note : Note = note_at (Settles done) (seen v w) (Send job left) first in (
@@ -127,7 +135,8 @@ module _ (done : Bool) (v : Slots) (w : WalkTree) (settles : Settles done w) whe
       )
 
   pub settles-shifted : (job : Job) → first_act (seen v w) ≡ Some (Shift job) → (failed : Bool)
-      → (note : Note) × IsDecided note job zero (Lined failed) (rest_of (seen v w) (Lined failed)) × Settles done (rest_of (seen v w) (Lined failed))
+      → (note : Note) × IsDecided note job zero (Lined failed) (rest_of (seen v w) (Lined failed))
+      × Settles done (rest_of (seen v w) (Lined failed))
   settles-shifted job first failed =
       let here = at_first (Settles done) (seen v w) (Shift job) first (settles_seen v done w settles) in
       let note : Note = note_at (Settles done) (seen v w) (Shift job) first in (
@@ -155,7 +164,8 @@ end_good ok end.Proto h = absurd (let f : sent_errno ok end.Proto ≡ None = h i
 end_good ok (end.Cut q) h = absurd (let f : sent_errno ok (end.Cut q) ≡ None = h in cc)
 
 -- a control message that decides is an error
-select_errs : (h : Hop) (left : ℕ) (e : End) → decides (Select h) (sent_outcome (ok_outcome left) e) ≡ true → sent_errno (ok_errno left) e ≡ None → ⊥
+select_errs : (h : Hop) (left : ℕ) (e : End) → decides (Select h) (sent_outcome (ok_outcome left) e) ≡ true
+    → sent_errno (ok_errno left) e ≡ None → ⊥
 select_errs h left e decided none =
     let good = end_good (ok_errno left) e none in
     by_left left (subst (λ (x : End). decides (Select h) (sent_outcome (ok_outcome left) x) ≡ true) good.0 decided) good.1
@@ -170,8 +180,10 @@ off_errs off e decided none =
 
 -- behind a message of the caller's that went through comes the next one at once; behind the last one, and behind any other,
 -- the walk settles next as it decides
-pub call-follows : (note : Note) (bus : ℕ) (ms : List MessageView) (left : ℕ) (e : End) (bytes : List ℕ) (w : WalkTree) → GoesOn note (Call bus ms) left (Sent e bytes) w
-    → ((more : ℕ) × (left ≡ suc more) × (e ≡ end.Ok) × (first_act w ≡ Some (Send (Call bus ms) more))) ⊎ FollowsSend (Call bus ms) left e bytes w
+pub call-follows : (note : Note) (bus : ℕ) (ms : List MessageView) (left : ℕ) (e : End) (bytes : List ℕ) (w : WalkTree)
+    → GoesOn note (Call bus ms) left (Sent e bytes) w
+    → ((more : ℕ) × (left ≡ suc more) × (e ≡ end.Ok) × (first_act w ≡ Some (Send (Call bus ms) more)))
+    ⊎ FollowsSend (Call bus ms) left e bytes w
 call-follows note bus ms zero e bytes w h = inr (record { settles = h; whole = λ none. (bus, ms, refl, refl, (end_good None e none).0) })
 call-follows note bus ms (suc left) end.Ok bytes w h = inl (left, refl, refl, h)
 call-follows note bus ms (suc left) end.Nack bytes w h =
@@ -189,7 +201,8 @@ call-follows note bus ms (suc left) (end.Cut q) bytes w h =
 pub what_follows : (note : Note) (job : Job) (left : ℕ) (e : End) (bytes : List ℕ) (w : WalkTree) → GoesOn note job left (Sent e bytes) w
     → NoSettle w ⊎ FollowsSend job left e bytes w
 what_follows note (Call bus ms) left e bytes w h =
-    elim (call-follows note bus ms left e bytes w h) [ inl more ↦ inl (sends_next w (Call bus ms) more.0 more.3) | inr follows ↦ inr follows ]
+    elim (call-follows note bus ms left e bytes w h)
+    [ inl more ↦ inl (sends_next w (Call bus ms) more.0 more.3) | inr follows ↦ inr follows ]
 what_follows note (Select g) left e bytes w h =
     elim h [
       | inl quiet ↦ inl quiet
@@ -209,17 +222,21 @@ call-goes-on note bus messages left bytes w h = h
 -- THE FIRST MESSAGE
 module _ (v : Slots) (w : WalkTree) (firsts : FirstCalls w) where
   pub first-taken : (l : LockId) → first_act (seen v w) ≡ Some (Take l) → FirstCalls (rest_of (seen v w) Passed)
-  first-taken l first = at_rest FirstCalls (seen v w) (Take l) first Passed (at_first FirstCalls (seen v w) (Take l) first (first_seen v w firsts))
+  first-taken l first = at_rest FirstCalls (seen v w) (Take l) first Passed
+      (at_first FirstCalls (seen v w) (Take l) first (first_seen v w firsts))
 
   pub first-freed : (l : LockId) → first_act (seen v w) ≡ Some (Free l) → FirstCalls (rest_of (seen v w) Passed)
-  first-freed l first = at_rest FirstCalls (seen v w) (Free l) first Passed (at_first FirstCalls (seen v w) (Free l) first (first_seen v w firsts))
+  first-freed l first = at_rest FirstCalls (seen v w) (Free l) first Passed
+      (at_first FirstCalls (seen v w) (Free l) first (first_seen v w firsts))
 
-  pub first-shifted : (job : Job) → first_act (seen v w) ≡ Some (Shift job) → (failed : Bool) → FirstCalls (rest_of (seen v w) (Lined failed))
+  pub first-shifted : (job : Job) → first_act (seen v w) ≡ Some (Shift job) → (failed : Bool)
+      → FirstCalls (rest_of (seen v w) (Lined failed))
   first-shifted job first failed =
       let here = at_first FirstCalls (seen v w) (Shift job) first (first_seen v w firsts) in
       at_rest FirstCalls (seen v w) (Shift job) first (Lined failed) (here failed)
 
-  pub first-selected : (h : Hop) (left : ℕ) → first_act (seen v w) ≡ Some (Send (Select h) left) → (e : End) (bytes : List ℕ) → FirstCalls (rest_of (seen v w) (Sent e bytes))
+  pub first-selected : (h : Hop) (left : ℕ) → first_act (seen v w) ≡ Some (Send (Select h) left) → (e : End) (bytes : List ℕ)
+      → FirstCalls (rest_of (seen v w) (Sent e bytes))
   first-selected h left first e bytes =
       let here = at_first FirstCalls (seen v w) (Send (Select h) left) first (first_seen v w firsts) in
       at_rest FirstCalls (seen v w) (Send (Select h) left) first (Sent e bytes) (here e bytes)
@@ -230,5 +247,6 @@ module _ (v : Slots) (w : WalkTree) (firsts : FirstCalls w) where
       let here = at_first FirstCalls (seen v w) (Send (SwitchOff off) left) first (first_seen v w firsts) in
       at_rest FirstCalls (seen v w) (Send (SwitchOff off) left) first (Sent e bytes) (here e bytes)
 
-  pub first-sent : (bus : ℕ) (messages : List MessageView) (left : ℕ) → first_act (seen v w) ≡ Some (Send (Call bus messages) left) → left ≡ more_of (Call bus messages)
+  pub first-sent : (bus : ℕ) (messages : List MessageView) (left : ℕ) → first_act (seen v w) ≡ Some (Send (Call bus messages) left)
+      → left ≡ more_of (Call bus messages)
   first-sent bus messages left first = at_first FirstCalls (seen v w) (Send (Call bus messages) left) first (first_seen v w firsts)

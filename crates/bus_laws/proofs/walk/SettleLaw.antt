@@ -103,7 +103,8 @@ at_end : (forward x y done : Bool) → (forward ≡ true → done ≡ false) →
 at_end true x y done before e = or_not x done (before refl) ∙ e
 at_end false x y done before e = refl
 
-module _ (job : Job) (note : Note) (k : JobOutcome → WalkTree) (done : Bool) (before : note.forward ≡ true → done ≡ false) (forward : CallsForward note.forward job)
+module _ (job : Job) (note : Note) (k : JobOutcome → WalkTree) (done : Bool) (before : note.forward ≡ true → done ≡ false)
+    (forward : CallsForward note.forward job)
     (starts : (o : JobOutcome) → NoSettle (k o)) (goes_on : (o : JobOutcome) → Settles (behind_job note.forward job o done) (k o)) where
   over_settles : (left : ℕ) (out : ActOutcome) → decides job (job_outcome job left out) ≡ is_settled job (job_outcome job left out)
       → Settles done (over job left note k out)
@@ -130,18 +131,26 @@ module _ (job : Job) (note : Note) (k : JobOutcome → WalkTree) (done : Bool) (
     where
       either : (x y : Bool) → note.forward ≡ x → decides j (job_outcome j left out) ≡ y → IsDecided note j left out (over j left note k out)
       either true true f d =
-          inr (f, d, ap (λ (t : Bool). first_act (settled t (verdict_of j left out) (k (job_outcome j left out)))) (both note.forward (decides j (job_outcome j left out)) f d), ends)
+          inr (
+            f,
+            d,
+            ap (λ (t : Bool). first_act (settled t (verdict_of j left out) (k (job_outcome j left out))))
+                (both note.forward (decides j (job_outcome j left out)) f d),
+            ends,
+          )
         where
           both : (x y : Bool) → x ≡ true → y ≡ true → (x && y) ≡ true
           both x y p q = ap (λ (t : Bool). t && y) p ∙ q
       either true false f d =
-          inl (subst (λ (t : Bool). NoSettle (settled t (verdict_of j left out) (k (job_outcome j left out)))) (sym (one note.forward (decides j (job_outcome j left out)) d)) (starts (job_outcome j left out)))
+          inl (subst (λ (t : Bool). NoSettle (settled t (verdict_of j left out) (k (job_outcome j left out))))
+          (sym (one note.forward (decides j (job_outcome j left out)) d)) (starts (job_outcome j left out)))
         where
           one : (x y : Bool) → y ≡ false → (x && y) ≡ false
           one true y q = q
           one false y q = refl
       either false y f d =
-          inl (subst (λ (t : Bool). NoSettle (settled t (verdict_of j left out) (k (job_outcome j left out)))) (sym (ap (λ (t : Bool). t && decides j (job_outcome j left out)) f)) (starts (job_outcome j left out)))
+          inl (subst (λ (t : Bool). NoSettle (settled t (verdict_of j left out) (k (job_outcome j left out))))
+          (sym (ap (λ (t : Bool). t && decides j (job_outcome j left out)) f)) (starts (job_outcome j left out)))
 
   over_first : (bus : ℕ) (ms : List MessageView) (left : ℕ) (out : ActOutcome) → note.forward ≡ true
       → first_act (over (Call bus ms) left note k out) ≡ Some (Settle (verdict_of (Call bus ms) left out))
@@ -152,14 +161,16 @@ module _ (job : Job) (note : Note) (k : JobOutcome → WalkTree) (done : Bool) (
   messages_start zero j = tt
   messages_start (suc left) j = tt
 
-  go_decided : (j : Job) (left : ℕ) (out : ActOutcome) (g : Go) (w x y : WalkTree) → NoSettle w → NoSettle x → (g ≡ Over → IsDecided note j left out y) → IsDecided note j left out (by_go g w x y)
+  go_decided : (j : Job) (left : ℕ) (out : ActOutcome) (g : Go) (w x y : WalkTree) → NoSettle w → NoSettle x
+      → (g ≡ Over → IsDecided note j left out y) → IsDecided note j left out (by_go g w x y)
   go_decided j left out On w x y hw hx hy = inl hw
   go_decided j left out Last w x y hw hx hy = inl hx
   go_decided j left out Over w x y hw hx hy = hy refl
 
   -- what follows a message
   goes_next : (j : Job) (left : ℕ) (e : End) (bytes : List ℕ) → CallsForward note.forward j
-      → GoesOn note j (suc left) (Sent e bytes) (by_go (goes j left (Sent e bytes)) (messages left j note k) (messages zero j note k) (over j (suc left) note k (Sent e bytes)))
+      → GoesOn note j (suc left) (Sent e bytes)
+      (by_go (goes j left (Sent e bytes)) (messages left j note k) (messages zero j note k) (over j (suc left) note k (Sent e bytes)))
   goes_next (Call bus ms) left end.Ok bytes f = first_message left (Call bus ms)
   goes_next (Call bus ms) left end.Nack bytes f = over_first bus ms (suc left) (Sent end.Nack bytes) f
   goes_next (Call bus ms) left end.Slow bytes f = over_first bus ms (suc left) (Sent end.Slow bytes) f
@@ -167,10 +178,12 @@ module _ (job : Job) (note : Note) (k : JobOutcome → WalkTree) (done : Bool) (
   goes_next (Call bus ms) left end.Proto bytes f = over_first bus ms (suc left) (Sent end.Proto bytes) f
   goes_next (Call bus ms) left (end.Cut q) bytes f = over_first bus ms (suc left) (Sent (end.Cut q) bytes) f
   goes_next (Select h) left e bytes f =
-      go_decided (Select h) (suc left) (Sent e bytes) (goes (Select h) left (Sent e bytes)) (messages left (Select h) note k) (messages zero (Select h) note k) (over (Select h) (suc left) note k (Sent e bytes))
+      go_decided (Select h) (suc left) (Sent e bytes) (goes (Select h) left (Sent e bytes)) (messages left (Select h) note k)
+      (messages zero (Select h) note k) (over (Select h) (suc left) note k (Sent e bytes))
       (messages_start left (Select h)) tt (λ ends. over_decided (Select h) (suc left) (Sent e bytes) ends)
   goes_next (SwitchOff off) left e bytes f =
-      go_decided (SwitchOff off) (suc left) (Sent e bytes) (goes (SwitchOff off) left (Sent e bytes)) (messages left (SwitchOff off) note k) (messages zero (SwitchOff off) note k)
+      go_decided (SwitchOff off) (suc left) (Sent e bytes) (goes (SwitchOff off) left (Sent e bytes)) (messages left (SwitchOff off) note k)
+      (messages zero (SwitchOff off) note k)
       (over (SwitchOff off) (suc left) note k (Sent e bytes))
       (messages_start left (SwitchOff off)) tt (λ ends. over_decided (SwitchOff off) (suc left) (Sent e bytes) ends)
 
@@ -185,7 +198,11 @@ module _ (job : Job) (note : Note) (k : JobOutcome → WalkTree) (done : Bool) (
   go_settles Over w x y hw hx hy = hy
 
   last_settles : Settles done (messages zero job note k)
-  last_settles = (is_before job forward, λ e bytes. (goes_over job (Sent e bytes) forward, over_settles zero (Sent e bytes) (sent_decides job zero e bytes)))
+  last_settles = (
+    is_before job forward,
+    λ e bytes.
+        (goes_over job (Sent e bytes) forward, over_settles zero (Sent e bytes) (sent_decides job zero e bytes)),
+  )
 
   -- the induction over the messages that may follow
   messages_settle : (left : ℕ) → Settles done (messages left job note k)
@@ -194,14 +211,19 @@ module _ (job : Job) (note : Note) (k : JobOutcome → WalkTree) (done : Bool) (
     is_before job forward,
     λ e bytes. (
       goes_next job left e bytes forward,
-      go_settles (goes job left (Sent e bytes)) (messages left job note k) (messages zero job note k) (over job (suc left) note k (Sent e bytes))
+      go_settles (goes job left (Sent e bytes)) (messages left job note k) (messages zero job note k)
+          (over job (suc left) note k (Sent e bytes))
           (messages_settle left) last_settles (over_settles (suc left) (Sent e bytes) (sent_decides job (suc left) e bytes)),
     ),
   )
 
   bus_settles : (t : Bool) → NoSettle (cond t (Then (Shift job) note (over job zero note k)) (messages (more_of job) job note k))
       × Settles done (cond t (Then (Shift job) note (over job zero note k)) (messages (more_of job) job note k))
-  bus_settles true = (tt, λ failed. (over_decided job zero (Lined failed) tt, over_settles zero (Lined failed) (lined_decides job zero failed)))
+  bus_settles true = (
+    tt,
+    λ failed.
+        (over_decided job zero (Lined failed) tt, over_settles zero (Lined failed) (lined_decides job zero failed)),
+  )
   bus_settles false = (messages_start (more_of job) job, messages_settle (more_of job))
 
 at_bus-settles : DoerSettles at_bus
@@ -213,7 +235,8 @@ locked-settles [] on sub = sub
 locked-settles (l ∷ ls) on sub =
     λ job note k done before forward starts goes_on. (
       tt,
-      locked-settles ls on sub job note (λ out. Then (Free l) plain (λ o2. k out)) done before forward (λ o. tt) (λ o. (starts o, goes_on o)),
+      locked-settles ls on sub job note (λ out. Then (Free l) plain (λ o2. k out)) done before forward (λ o. tt)
+          (λ o. (starts o, goes_on o)),
     )
 
 part-settles : (t : Bool) (ls : List LockId) (on : Doer) → DoerSettles on → DoerSettles (part t ls on)
@@ -234,10 +257,12 @@ module _ (b : BoardView) (h : Hop) (on : Doer) (sub : DoerSettles on) (job : Job
   deselect : (out : JobOutcome) → NoSettle (on (SwitchOff (Deselect h)) (aside h) (λ o. k out))
       × Settles (behind_job note.forward job out done) (on (SwitchOff (Deselect h)) (aside h) (λ o. k out))
   deselect out =
-      sub (SwitchOff (Deselect h)) (aside h) (λ o. k out) (behind_job note.forward job out done) (λ e. absurd (let f : false ≡ true = e in cc)) tt
+      sub (SwitchOff (Deselect h)) (aside h) (λ o. k out) (behind_job note.forward job out done)
+      (λ e. absurd (let f : false ≡ true = e in cc)) tt
       (λ o. starts out) (λ o. goes_on out)
 
-  left : (stays : Bool) (out : JobOutcome) → NoSettle (left_behind stays h on k out) × Settles (behind_job note.forward job out done) (left_behind stays h on k out)
+  left : (stays : Bool) (out : JobOutcome)
+      → NoSettle (left_behind stays h on k out) × Settles (behind_job note.forward job out done) (left_behind stays h on k out)
   left true out = (starts out, goes_on out)
   left false out = deselect out
 
@@ -264,7 +289,8 @@ module _ (b : BoardView) (h : Hop) (on : Doer) (sub : DoerSettles on) (job : Job
   crossed-settles : (m : Option ℕ) → NoSettle (crossed h on job note k m) × Settles done (crossed h on job note k m)
   crossed-settles m = by (keeps h m)
     where
-      by : (x : Bool) → NoSettle (cond x (opened h on job note k) (chosen h on job note k)) × Settles done (cond x (opened h on job note k) (chosen h on job note k))
+      by : (x : Bool) → NoSettle (cond x (opened h on job note k) (chosen h on job note k))
+          × Settles done (cond x (opened h on job note k) (chosen h on job note k))
       by true = opened-settles
       by false = chosen-settles
 
@@ -302,12 +328,14 @@ inner-settles b root (h ∷ hs) =
     λ job note k done before forward starts goes_on.
     by_line job note k done (is_line job)
     (at_bus-settles job note k done before forward starts goes_on)
-    (mux-settles b h (part h.parent (locks_of root hs) (inner b root hs)) (part-settles h.parent (locks_of root hs) (inner b root hs) (inner-settles b root hs))
+    (mux-settles b h (part h.parent (locks_of root hs) (inner b root hs))
+    (part-settles h.parent (locks_of root hs) (inner b root hs) (inner-settles b root hs))
     job note k done before forward starts goes_on)
   where
     by_line : (job : Job) (note : Note) (k : JobOutcome → WalkTree) (done t : Bool)
         → NoSettle (at_bus job note k) × Settles done (at_bus job note k)
-        → NoSettle (behind b h (part h.parent (locks_of root hs) (inner b root hs)) job note k) × Settles done (behind b h (part h.parent (locks_of root hs) (inner b root hs)) job note k)
+        → NoSettle (behind b h (part h.parent (locks_of root hs) (inner b root hs)) job note k)
+        × Settles done (behind b h (part h.parent (locks_of root hs) (inner b root hs)) job note k)
         → NoSettle (cond t (at_bus job note k) (behind b h (part h.parent (locks_of root hs) (inner b root hs)) job note k))
         × Settles done (cond t (at_bus job note k) (behind b h (part h.parent (locks_of root hs) (inner b root hs)) job note k))
     by_line job note k done true x y = x
@@ -320,12 +348,14 @@ walk-settles b t = by_refusal (refusal b t)
     by_refusal : (r : Option Errno) → Settles false (walk_by b t r)
     by_refusal (Some e) = (refl, tt, refl)
     by_refusal None =
-        (locked-settles (locks_of (root_of b t.bus) (hops b t.bus)) (inner b (root_of b t.bus) (hops b t.bus)) (inner-settles b (root_of b t.bus) (hops b t.bus))
+        (locked-settles (locks_of (root_of b t.bus) (hops b t.bus)) (inner b (root_of b t.bus) (hops b t.bus))
+        (inner-settles b (root_of b t.bus) (hops b t.bus))
         (Call t.bus (messages_of t)) plain (λ o. Ends) false (λ e. refl) refl (λ o. tt) (λ o. refl)).1
 
 -- the walk of a transfer that steps on the bus begins with another step
 pub walk-starts : (b : BoardView) (t : TransferView) → refusal b t ≡ None → NoSettle (walk_for b t)
 walk-starts b t accepted =
     subst (λ (r : Option Errno). NoSettle (walk_by b t r)) (sym accepted)
-    (locked-settles (locks_of (root_of b t.bus) (hops b t.bus)) (inner b (root_of b t.bus) (hops b t.bus)) (inner-settles b (root_of b t.bus) (hops b t.bus))
+    (locked-settles (locks_of (root_of b t.bus) (hops b t.bus)) (inner b (root_of b t.bus) (hops b t.bus))
+    (inner-settles b (root_of b t.bus) (hops b t.bus))
     (Call t.bus (messages_of t)) plain (λ o. Ends) false (λ e. refl) refl (λ o. tt) (λ o. refl)).0

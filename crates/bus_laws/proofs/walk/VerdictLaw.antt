@@ -30,7 +30,8 @@ use Rattle.bus_laws.specs.Settles.{EndsJob}
 
 -- A PATH
 -- the hops of a path behind one of them are those over its bus
-hops_split : (b : BoardView) → IsTree b → (hs : List Hop) (s : ℕ) → hops b s ≡ hs → (h : Hop) → IsAmongHops h hs → (front : List Hop) × (hops b s ≡ front ++ h ∷ hops b h.on)
+hops_split : (b : BoardView) → IsTree b → (hs : List Hop) (s : ℕ) → hops b s ≡ hs → (h : Hop) → IsAmongHops h hs
+    → (front : List Hop) × (hops b s ≡ front ++ h ∷ hops b h.on)
 hops_split b tree [] s at h among = absurd among
 hops_split b tree (g ∷ gs) s at h among =
     elim among [
@@ -44,7 +45,8 @@ hops_split b tree (g ∷ gs) s at h among =
 abbrev pub LetThrough : BoardView → List Hop → Type 0
 LetThrough b hs = (g : Hop) → IsAmongHops g hs → (is_absent b g.mux ≡ false) × (is_held b g.mux ≡ false)
 
-way_passed : (b : BoardView) (h : Hop) (hs : List Hop) → is_absent b h.mux ≡ false → is_held b h.mux ≡ false → way_through b (h ∷ hs) ≡ way_through b hs
+way_passed : (b : BoardView) (h : Hop) (hs : List Hop) → is_absent b h.mux ≡ false → is_held b h.mux ≡ false
+    → way_through b (h ∷ hs) ≡ way_through b hs
 way_passed b h hs here free =
     ap (λ (t : Bool). cond t (way.NoAck h.mux) (cond (is_held b h.mux) (way.Held h.mux) (way_through b hs))) here
     ∙ ap (λ (t : Bool). cond t (way.Held h.mux) (way_through b hs)) free
@@ -61,9 +63,11 @@ way_back b (h ∷ hs) ys passes =
     ∙ way_back b hs (h ∷ ys) (λ g a. passes g (inr a))
     ∙ way_passed b h ys (passes h (inl refl)).0 (passes h (inl refl)).1
 
-way_behind : (b : BoardView) (front : List Hop) (h : Hop) (back : List Hop) → LetThrough b back → way_through b (reverse (front ++ h ∷ back)) ≡ way_through b (h ∷ reverse front)
+way_behind : (b : BoardView) (front : List Hop) (h : Hop) (back : List Hop) → LetThrough b back
+    → way_through b (reverse (front ++ h ∷ back)) ≡ way_through b (h ∷ reverse front)
 way_behind b front h back passes =
-    ap (λ (xs : List Hop). way_through b xs) (reverse-append front (h ∷ back) ∙ ap (λ (xs : List Hop). xs ++ reverse front) (reverse_cons h back)
+    ap (λ (xs : List Hop). way_through b xs) (reverse-append front (h ∷ back)
+    ∙ ap (λ (xs : List Hop). xs ++ reverse front) (reverse_cons h back)
     ∙ append_assoc (reverse back) (h ∷ []) (reverse front))
     ∙ way_back b back (h ∷ reverse front) passes
 
@@ -79,15 +83,18 @@ module _ (b : BoardView) (tree : IsTree b) (s : ℕ) (h : Hop) (among : IsAmongH
 
   way_absent : is_absent b h.mux ≡ true → way_of b s ≡ way.NoAck h.mux
   way_absent gone =
-      way_here.1 ∙ ap (λ (t : Bool). cond t (way.NoAck h.mux) (cond (is_held b h.mux) (way.Held h.mux) (way_through b (reverse way_here.0)))) gone
+      way_here.1 ∙ ap (λ (t : Bool). cond t (way.NoAck h.mux)
+      (cond (is_held b h.mux) (way.Held h.mux) (way_through b (reverse way_here.0)))) gone
 
   way_held : is_absent b h.mux ≡ false → is_held b h.mux ≡ true → way_of b s ≡ way.Held h.mux
   way_held here held =
-      way_here.1 ∙ ap (λ (t : Bool). cond t (way.NoAck h.mux) (cond (is_held b h.mux) (way.Held h.mux) (way_through b (reverse way_here.0)))) here
+      way_here.1 ∙ ap (λ (t : Bool). cond t (way.NoAck h.mux)
+      (cond (is_held b h.mux) (way.Held h.mux) (way_through b (reverse way_here.0)))) here
       ∙ ap (λ (t : Bool). cond t (way.Held h.mux) (way_through b (reverse way_here.0))) held
 
 -- where the path is open, all muxes over it let a message through
-pub open-through : (b : BoardView) → IsTree b → (v : Slots) (ws : ℕ → World) → WorldTold b v ws → (s : ℕ) → ((g : Hop) → IsAmongHops g (hops b s) → IsOpenOn b g (v g.on)) → LetThrough b (hops b s)
+pub open-through : (b : BoardView) → IsTree b → (v : Slots) (ws : ℕ → World) → WorldTold b v ws → (s : ℕ)
+    → ((g : Hop) → IsAmongHops g (hops b s) → IsOpenOn b g (v g.on)) → LetThrough b (hops b s)
 open-through b tree v ws world s reached g a =
     let home : home_of_mux b g.mux ≡ g.on = (tree.hop s g a).home in
     let o = world.told.opened g.mux g.channel (subst (λ (i : ℕ). (v i).kept g.mux ≡ Some g.channel) (sym home) (reached g a).kept) in
@@ -103,30 +110,47 @@ pub record Bars (b : BoardView) (t : TransferView) (cut : Cut) (decided : Option
 abbrev bar_of : Bool → Option Errno → Option Errno
 bar_of cut_off by_way = first_of None (first_of (cond cut_off (Some errno.Eremoteio) None) by_way)
 
-barred_by : (b : BoardView) (t : TransferView) (cut : Cut) (cut_off : Bool) (w : Way) → refusal b t ≡ None → is_way_cut cut ≡ cut_off → way_of b t.bus ≡ w
+barred_by : (b : BoardView) (t : TransferView) (cut : Cut) (cut_off : Bool) (w : Way) → refusal b t ≡ None → is_way_cut cut ≡ cut_off
+    → way_of b t.bus ≡ w
     → barred b t cut ≡ bar_of cut_off (way_errno w)
 barred_by b t cut cut_off w accepted off at =
-    ap (λ (o : Option Errno). first_of o (first_of (cond (is_way_cut cut) (Some errno.Eremoteio) None) (way_errno (way_of b t.bus)))) accepted
+    ap (λ (o : Option Errno). first_of o (first_of (cond (is_way_cut cut) (Some errno.Eremoteio) None) (way_errno (way_of b t.bus))))
+    accepted
     ∙ ap (λ (x : Bool). bar_of x (way_errno (way_of b t.bus))) off
     ∙ ap (λ (x : Way). bar_of cut_off (way_errno x)) at
 
 -- a port call failed on the way
 pub failed-bars : (b : BoardView) (t : TransferView) → refusal b t ≡ None → Bars b t cut_at.Way (Some errno.Eremoteio)
-failed-bars b t accepted = record { error = errno.Eremoteio; verdict = refl; barred = barred_by b t cut_at.Way true (way_of b t.bus) accepted refl refl }
+failed-bars b t accepted = record {
+  error = errno.Eremoteio;
+  verdict = refl;
+  barred = barred_by b t cut_at.Way true (way_of b t.bus) accepted refl refl;
+}
 
-module _ (b : BoardView) (tree : IsTree b) (t : TransferView) (accepted : refusal b t ≡ None) (h : Hop) (among : IsAmongHops h (hops b t.bus)) (passes : LetThrough b (hops b h.on)) where
+module _ (b : BoardView) (tree : IsTree b) (t : TransferView) (accepted : refusal b t ≡ None) (h : Hop)
+    (among : IsAmongHops h (hops b t.bus)) (passes : LetThrough b (hops b h.on)) where
   absent_bars : is_absent b h.mux ≡ true → Bars b t cut_at.No (Some errno.Enxio)
   absent_bars gone =
-      record { error = errno.Enxio; verdict = refl; barred = barred_by b t cut_at.No false (way.NoAck h.mux) accepted refl (way_absent b tree t.bus h among passes gone) }
+      record {
+        error = errno.Enxio;
+        verdict = refl;
+        barred = barred_by b t cut_at.No false (way.NoAck h.mux) accepted refl (way_absent b tree t.bus h among passes gone);
+      }
 
   held_bars : is_absent b h.mux ≡ false → is_held b h.mux ≡ true → Bars b t cut_at.No (Some errno.Etimedout)
   held_bars here held =
-      record { error = errno.Etimedout; verdict = refl; barred = barred_by b t cut_at.No false (way.Held h.mux) accepted refl (way_held b tree t.bus h among passes here held) }
+      record {
+        error = errno.Etimedout;
+        verdict = refl;
+        barred = barred_by b t cut_at.No false (way.Held h.mux) accepted refl (way_held b tree t.bus h among passes here held);
+      }
 
-  last_poll : (bytes : List ℕ) → CanGoThrough b h (suc zero) bytes → goes (Select h) zero (Sent end.Ok bytes) ≡ Over → Bars b t cut_at.No (Some errno.Etimedout)
+  last_poll : (bytes : List ℕ) → CanGoThrough b h (suc zero) bytes → goes (Select h) zero (Sent end.Ok bytes) ≡ Over
+      → Bars b t cut_at.No (Some errno.Etimedout)
   last_poll bytes can over =
       elim can [
-        | inl free ↦ absurd (let f : Last ≡ Over = sym (ap (λ (x : Bool). cond x Last Over) (eq-eqb (first_byte bytes) 0 free)) ∙ over in cc)
+        | inl free ↦ absurd (let f : Last ≡ Over = sym (ap (λ (x : Bool). cond x Last Over) (eq-eqb (first_byte bytes) 0 free)) ∙ over in
+            cc)
         | inr held ↦ held_bars held.0 held.1
       ]
 
@@ -135,8 +159,10 @@ module _ (b : BoardView) (tree : IsTree b) (t : TransferView) (accepted : refusa
   no_poll left false e = (let f : On ≡ Over = e in cc)
 
   -- a select by message
-  pub select-bars : (left : ℕ) (e : End) (bytes : List ℕ) → CanSelect b h left e bytes → decides (Select h) (job_outcome (Select h) left (Sent e bytes)) ≡ true
-      → EndsJob (Select h) left (Sent e bytes) → Bars b t (message_cut (purpose.Control h.mux) 1 e) (verdict_of (Select h) left (Sent e bytes))
+  pub select-bars : (left : ℕ) (e : End) (bytes : List ℕ) → CanSelect b h left e bytes
+      → decides (Select h) (job_outcome (Select h) left (Sent e bytes)) ≡ true
+      → EndsJob (Select h) left (Sent e bytes)
+      → Bars b t (message_cut (purpose.Control h.mux) 1 e) (verdict_of (Select h) left (Sent e bytes))
   select-bars zero end.Ok bytes can decided ends = absurd (let f : false ≡ true = decided in cc)
   select-bars (suc zero) end.Ok bytes can decided ends = last_poll bytes can ends
   select-bars (suc (suc left)) end.Ok bytes can decided ends = absurd (no_poll left (eqb (first_byte bytes) 0) ends)
@@ -158,7 +184,8 @@ off-bars b t accepted off left end.Proto bytes decided = absurd (let f : false �
 off-bars b t accepted off left (end.Cut q) bytes decided = failed-bars b t accepted
 
 -- so does a line step
-pub line-bars : (b : BoardView) (t : TransferView) → refusal b t ≡ None → (job : Job) (failed : Bool) → is_line job ≡ true → decides job (job_outcome job zero (Lined failed)) ≡ true
+pub line-bars : (b : BoardView) (t : TransferView) → refusal b t ≡ None → (job : Job) (failed : Bool) → is_line job ≡ true
+    → decides job (job_outcome job zero (Lined failed)) ≡ true
     → Bars b t (cond failed cut_at.Way cut_at.No) (verdict_of job zero (Lined failed))
 line-bars b t accepted (Call bus ms) failed line decided = absurd (let f : false ≡ true = line in cc)
 line-bars b t accepted (Select h) true line decided = failed-bars b t accepted
@@ -167,8 +194,10 @@ line-bars b t accepted (SwitchOff off) true line decided = failed-bars b t accep
 line-bars b t accepted (SwitchOff off) false line decided = absurd (let f : false ≡ true = decided in cc)
 
 -- the caller's messages are sent where nothing bars them
-pub call-clear : (b : BoardView) (t : TransferView) → refusal b t ≡ None → LetThrough b (hops b t.bus) → (part : ℕ) (e : End) → barred b t (message_cut purpose.Call part e) ≡ None
-call-clear b t accepted passes part e = barred_by b t (message_cut purpose.Call part e) false way.Clear accepted (no_way e) (way-clear b t.bus passes)
+pub call-clear : (b : BoardView) (t : TransferView) → refusal b t ≡ None → LetThrough b (hops b t.bus) → (part : ℕ) (e : End)
+    → barred b t (message_cut purpose.Call part e) ≡ None
+call-clear b t accepted passes part e = barred_by b t (message_cut purpose.Call part e) false way.Clear accepted (no_way e)
+    (way-clear b t.bus passes)
   where
     no_way : (x : End) → is_way_cut (message_cut purpose.Call part x) ≡ false
     no_way end.Ok = refl
@@ -181,7 +210,8 @@ call-clear b t accepted passes part e = barred_by b t (message_cut purpose.Call 
 -- a refused transfer
 pub refused-barred : (b : BoardView) (t : TransferView) (cut : Cut) (e : Errno) → refusal b t ≡ Some e → barred b t cut ≡ Some e
 refused-barred b t cut e refused =
-    ap (λ (o : Option Errno). first_of o (first_of (cond (is_way_cut cut) (Some errno.Eremoteio) None) (way_errno (way_of b t.bus)))) refused
+    ap (λ (o : Option Errno). first_of o (first_of (cond (is_way_cut cut) (Some errno.Eremoteio) None) (way_errno (way_of b t.bus))))
+    refused
 
 -- then the flat world answers that error, and leaves its devices
 pub bars-flat : (b : BoardView) (xs : List TargetState) (t : TransferView) (cut : Cut) (e : Errno) → barred b t cut ≡ Some e

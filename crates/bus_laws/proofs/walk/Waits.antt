@@ -20,18 +20,22 @@ answers b v marks (MarkOf p) = marks p
 answers b v marks (KeptOf p m) = tt
 
 -- the looks in front of a walk leave what it holds
-pub holds_seen : (b : BoardView) (held : List LockId) (v : Slots) → ((p : ℕ) → IsMarkOn b p (mark_in (v p).slot)) → (w : WalkTree) → HoldsLocks b held w → HoldsLocks b held (seen v w)
+pub holds_seen : (b : BoardView) (held : List LockId) (v : Slots) → ((p : ℕ) → IsMarkOn b p (mark_in (v p).slot)) → (w : WalkTree)
+    → HoldsLocks b held w → HoldsLocks b held (seen v w)
 holds_seen b held v marks Ends h = h
-holds_seen b held v marks (Look ask next) h = holds_seen b held v marks (next (answer_to v ask)) (h.2 (answer_to v ask) (answers b v marks ask))
+holds_seen b held v marks (Look ask next) h = holds_seen b held v marks (next (answer_to v ask))
+    (h.2 (answer_to v ask) (answers b v marks ask))
 holds_seen b held v marks (Then act note next) h = h
 
 -- a walk that has ended holds nothing; one that takes a lock takes a lower one than it holds
-ended : (b : BoardView) (held : List LockId) (w : WalkTree) → HoldsLocks b held (w) → first_act w ≡ None → ((m : _) (n : _) → w ≡ Look m n → ⊥) → held ≡ []
+ended : (b : BoardView) (held : List LockId) (w : WalkTree) → HoldsLocks b held (w) → first_act w ≡ None
+    → ((m : _) (n : _) → w ≡ Look m n → ⊥) → held ≡ []
 ended b held Ends h e never = h
 ended b held (Look ask next) h e never = absurd (never ask next refl)
 ended b held (Then act note next) h e never = absurd (let f : Some act ≡ None = e in cc)
 
-below : (b : BoardView) (held : List LockId) (w : WalkTree) → HoldsLocks b held w → (l : LockId) → first_act w ≡ Some (Take l) → IsBelow b l held
+below : (b : BoardView) (held : List LockId) (w : WalkTree) → HoldsLocks b held w → (l : LockId) → first_act w ≡ Some (Take l)
+    → IsBelow b l held
 below b held Ends h l e = absurd (let f : None ≡ Some (Take l) = e in cc)
 below b held (Look ask next) h l e = absurd (let f : None ≡ Some (Take l) = e in cc)
 below b held (Then act note next) h l e =
@@ -42,14 +46,16 @@ no_look v Ends m n e = (let f : Ends ≡ Look m n = e in cc)
 no_look v (Look ask next) m n e = no_look v (next (answer_to v ask)) m n e
 no_look v (Then act note next) m n e = (let f : Then act note next ≡ Look m n = e in cc)
 
-module _ (b : BoardView) (trees : List WalkTree) (held : List (List LockId)) (numbers : List ℕ) (holder : LockId → Option ℕ) (v : Slots) (kept : LocksKept b trees held numbers holder v)
+module _ (b : BoardView) (trees : List WalkTree) (held : List (List LockId)) (numbers : List ℕ) (holder : LockId → Option ℕ) (v : Slots)
+    (kept : LocksKept b trees held numbers holder v)
     (all : (i : ℕ) (w : WalkTree) → slice_get trees i ≡ Some w → IsHeldUp holder v w) where
   tree_there : (i : ℕ) (ls : List LockId) → slice_get held i ≡ Some ls → (w : WalkTree) × (slice_get trees i ≡ Some w)
   tree_there i ls at = by (slice_get trees i) refl
     where
       by : (o : Option WalkTree) → slice_get trees i ≡ o → (w : WalkTree) × (slice_get trees i ≡ Some w)
       by (Some w) e = (w, e)
-      by None e = absurd (none_there trees i e (let low : i < length held = slice_get_within held i ls at in omega (arith, low, kept.counted)))
+      by None e = absurd (none_there trees i e (let low : i < length held = slice_get_within held i ls at in
+          omega (arith, low, kept.counted)))
         where
           none_there : (xs : List WalkTree) (k : ℕ) → slice_get xs k ≡ None → k < length xs → ⊥
           none_there [] k e low = omega (arith, low)
@@ -64,10 +70,13 @@ module _ (b : BoardView) (trees : List WalkTree) (held : List (List LockId)) (nu
       let t = tree_there h.0 h.1 h.2 in
       let runs : HoldsLocks b h.1 (seen v t.0) = holds_seen b h.1 v kept.marks t.0 (kept.holds h.0 t.0 h.1 t.1 h.2) in
       elim (all h.0 t.0 t.1) [
-        | inl over ↦ (let none : h.1 ≡ [] = ended b h.1 (seen v t.0) runs over (no_look v t.0) in subst (λ (ls : List LockId). InLocks l ls) none h.4)
-        | inr waits ↦ (let lower : rank b waits.0 < rank b l = below_each b waits.0 h.1 l (below b h.1 (seen v t.0) runs waits.0 waits.2) h.4 in
+        | inl over ↦ (let none : h.1 ≡ [] = ended b h.1 (seen v t.0) runs over (no_look v t.0) in
+            subst (λ (ls : List LockId). InLocks l ls) none h.4)
+        | inr waits ↦ (let lower : rank b waits.0 < rank b l = below_each b waits.0 h.1 l
+            (below b h.1 (seen v t.0) runs waits.0 waits.2) h.4 in
             nobody fuel waits.0 waits.1 waits.3 (omega (arith, lower, low)))
       ]
 
   pub all-ended : (i : ℕ) (w : WalkTree) → slice_get trees i ≡ Some w → first_act (seen v w) ≡ None
-  all-ended i w at = elim (all i w at) [ inl over ↦ over | inr waits ↦ absurd (nobody (suc (rank b waits.0)) waits.0 waits.1 waits.3 (omega arith)) ]
+  all-ended i w at = elim (all i w at)
+      [ inl over ↦ over | inr waits ↦ absurd (nobody (suc (rank b waits.0)) waits.0 waits.1 waits.3 (omega arith)) ]

@@ -35,7 +35,8 @@ plain_mux b plain m s e =
     subst (λ (x : MuxSpec). IsPlainMux x) r.1 (plain.muxes m s r.0)
 
 -- the same place in a list of the same length
-pub get_same_length : {X Y : Type 0} (xs : List X) (ys : List Y) (i : ℕ) (y : Y) → length xs ≡ length ys → slice_get ys i ≡ Some y → (x : X) × (slice_get xs i ≡ Some x)
+pub get_same_length : {X Y : Type 0} (xs : List X) (ys : List Y) (i : ℕ) (y : Y) → length xs ≡ length ys → slice_get ys i ≡ Some y
+    → (x : X) × (slice_get xs i ≡ Some x)
 get_same_length xs [] i y e at = absurd (let f : None ≡ Some y = at in cc)
 get_same_length [] (z ∷ zs) i y e at = absurd (omega arith)
 get_same_length (x ∷ xs) (z ∷ zs) zero y e at = (x, refl)
@@ -46,7 +47,8 @@ some_addr (Some a) absent fits = refl
 some_addr None absent fits = absurd (let f : false ≡ true = fits in cc)
 
 -- a mux that isn't switched by a line has a chip with an address
-pub has_address_of : (b : BoardView) → IsPlainBoard b → (m : ℕ) (k : MuxKind) → IsMuxOf b m k → is_gpio k ≡ false → addr_of_mux b m ≡ Some (chip_address b m)
+pub has_address_of : (b : BoardView) → IsPlainBoard b → (m : ℕ) (k : MuxKind) → IsMuxOf b m k → is_gpio k ≡ false
+    → addr_of_mux b m ≡ Some (chip_address b m)
 has_address_of b plain m k known line =
     let s = mux_at b m k known in
     let p : IsPlainMux s.0 = plain_mux b plain m s.0 s.1 in
@@ -90,11 +92,13 @@ channel_of : (o : Option ℕ) (n c : ℕ) → IsCount o n → c < n → IsBelow 
 channel_of (Some m) n c f below = omega arith
 channel_of None n c f below = tt
 
-pub has_channel : (b : BoardView) → IsPlainBoard b → (h : Hop) → IsHop b h → h.channel < of_mux (λ m. m.channels) 0 b h.mux → HasChannel h.kind h.channel
+pub has_channel : (b : BoardView) → IsPlainBoard b → (h : Hop) → IsHop b h → h.channel < of_mux (λ m. m.channels) 0 b h.mux
+    → HasChannel h.kind h.channel
 has_channel b plain h hop below =
     let s = mux_at b h.mux h.kind hop.kind in
     let p : IsPlainMux s.0 = plain_mux b plain h.mux s.0 s.1 in
-    let n : of_mux (λ x. x.channels) 0 b h.mux ≡ s.0.channels = ap (λ (o : Option MuxSpec). unwrap_or (option_map (λ (x : MuxSpec). x.channels) o) 0) s.1 in
+    let n : of_mux (λ x. x.channels) 0 b h.mux ≡ s.0.channels = ap
+    (λ (o : Option MuxSpec). unwrap_or (option_map (λ (x : MuxSpec). x.channels) o) 0) s.1 in
     subst (λ (k : MuxKind). HasChannel k h.channel) s.2
     (channel_of (facts_of s.0.kind).channels s.0.channels h.channel p.channels (subst (λ (i : ℕ). h.channel < i) n below))
 

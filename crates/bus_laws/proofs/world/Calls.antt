@@ -32,9 +32,11 @@ use Rattle.i2c_spec.proofs.MessageLemmas.{IsLater}
 use Rattle.std.proofs.Math.Bool.{or-true}
 
 -- GRANTS: facts as tests
-pub any_at : {X : Type 0} (test : X → Bool) (xs : List X) (i : ℕ) (x : X) → slice_get xs i ≡ Some x → test x ≡ true → list_any test xs ≡ true
+pub any_at : {X : Type 0} (test : X → Bool) (xs : List X) (i : ℕ) (x : X) → slice_get xs i ≡ Some x → test x ≡ true
+    → list_any test xs ≡ true
 any_at test [] i x e t = absurd (let f : None ≡ Some x = e in cc)
-any_at test (y ∷ ys) zero x e t = ap (λ (b : Bool). b || list_any test ys) (ap test (let f : Some y ≡ Some x = e in let g : y ≡ x = cc in g) ∙ t)
+any_at test (y ∷ ys) zero x e t = ap (λ (b : Bool). b || list_any test ys) (ap test (let f : Some y ≡ Some x = e in let g : y ≡ x = cc in g)
+    ∙ t)
 any_at test (y ∷ ys) (suc i) x e t = ap (λ (b : Bool). test y || b) (any_at test ys i x e t) ∙ or-true (test y)
 
 pub crosses_any : (u : ℕ) (hs : List Hop) → Crosses u hs → list_any (λ (h : Hop). eqb h.on u) hs ≡ true
@@ -60,7 +62,8 @@ on_or_below b s u along =
       | inr u_over ↦ inl (over_on_path b s u u_over)
     ]
 
-addressed : (a : ℕ) (o : Option MuxSpec) → unwrap_or (option_map (λ (m : MuxSpec). m.addr) o) None ≡ Some a → (m : MuxSpec) × (o ≡ Some m) × (m.addr ≡ Some a)
+addressed : (a : ℕ) (o : Option MuxSpec) → unwrap_or (option_map (λ (m : MuxSpec). m.addr) o) None ≡ Some a
+    → (m : MuxSpec) × (o ≡ Some m) × (m.addr ≡ Some a)
 addressed a None e = absurd (let f : None ≡ Some a = e in cc)
 addressed a (Some m) e = (m, refl, e)
 
@@ -78,16 +81,19 @@ sooner t x e = ap (λ (c : Bool). cond c grant.Busy x) e
 busy_path : (b : BoardView) (s a : ℕ) (force : Bool) → some_chip b a (is_on_path b s) ≡ true → grant_of b s a force ≡ grant.Busy
 busy_path b s a force e = sooner (some_chip b a (is_on_path b s)) _ e
 
-pub busy_below : (b : BoardView) (s a : ℕ) (force : Bool) → (some_chip b a (λ u. is_below b u s) || some_device b a (λ u. is_below b u s)) ≡ true → grant_of b s a force ≡ grant.Busy
+pub busy_below : (b : BoardView) (s a : ℕ) (force : Bool)
+    → (some_chip b a (λ u. is_below b u s) || some_device b a (λ u. is_below b u s)) ≡ true → grant_of b s a force ≡ grant.Busy
 busy_below b s a force e =
     either (some_chip b a (is_on_path b s)) _ (sooner (some_chip b a (λ u. is_below b u s) || some_device b a (λ u. is_below b u s)) _ e)
 
-pub busy_aside : (b : BoardView) (s a : ℕ) (force : Bool) → (some_chip b a (is_aside b s) || some_device b a (is_aside b s)) ≡ true → grant_of b s a force ≡ grant.Busy
+pub busy_aside : (b : BoardView) (s a : ℕ) (force : Bool) → (some_chip b a (is_aside b s) || some_device b a (is_aside b s)) ≡ true
+    → grant_of b s a force ≡ grant.Busy
 busy_aside b s a force e =
     either (some_chip b a (is_on_path b s)) _ (either (some_chip b a (λ u. is_below b u s) || some_device b a (λ u. is_below b u s)) _
     (sooner (some_chip b a (is_aside b s) || some_device b a (is_aside b s)) _ e))
 
-pub busy_chip : (b : BoardView) (s a : ℕ) (force : Bool) (n : ℕ) → addr_of_mux b n ≡ Some a → MayJoin b s (home_of_mux b n) → grant_of b s a force ≡ grant.Busy
+pub busy_chip : (b : BoardView) (s a : ℕ) (force : Bool) (n : ℕ) → addr_of_mux b n ≡ Some a → MayJoin b s (home_of_mux b n)
+    → grant_of b s a force ≡ grant.Busy
 busy_chip b s a force n addr may =
     let m = addressed a (slice_get b.muxes n) addr in
     let bus : home_of_mux b n ≡ m.0.bus = ap (λ (o : Option MuxSpec). unwrap_or (option_map (λ (x : MuxSpec). x.bus) o) 0) m.1 in
@@ -112,7 +118,8 @@ no_chip_named : (i : ℕ) (xs : List (ℕ × Answer)) → list_any (is_chip i) (
 no_chip_named i [] = refl
 no_chip_named i (x ∷ xs) = by_heard (has_heard x.1) ∙ no_chip_named i xs
   where
-    by_heard : (t : Bool) → list_any (is_chip i) (cond t (node.Device x.0 ∷ heard_of node.Device xs) (heard_of node.Device xs)) ≡ list_any (is_chip i) (heard_of node.Device xs)
+    by_heard : (t : Bool) → list_any (is_chip i) (cond t (node.Device x.0 ∷ heard_of node.Device xs) (heard_of node.Device xs)) ≡ list_any
+        (is_chip i) (heard_of node.Device xs)
     by_heard true = refl
     by_heard false = refl
 
@@ -131,18 +138,21 @@ module _ (b : BoardView) (tree : IsTree b) (r s : ℕ) (cs : List ChipView) (ds 
 
   pub no_chip_hears : (i : ℕ) → list_any (is_chip i) (hearers (world_of b r cs ds hs busy) a reading) ≡ false
   no_chip_hears i =
-      ap (λ (xs : List Node). list_any (is_chip i) (xs ++ heard_of node.Device (start_devices (world_of b r cs ds hs busy) a reading))) no_chip
+      ap (λ (xs : List Node). list_any (is_chip i) (xs ++ heard_of node.Device (start_devices (world_of b r cs ds hs busy) a reading)))
+      no_chip
       ∙ no_chip_named i (start_devices (world_of b r cs ds hs busy) a reading)
 
 -- the chips stay, and none listens
 abbrev IsChipless : List ChipView → World → Type 0
 IsChipless cs u = (u.chips ≡ cs) × ((i : ℕ) → list_any (is_chip i) u.hearing ≡ false)
 
-sent_chips : (u : World) (e : Event) → ((i : ℕ) → list_any (is_chip i) u.hearing ≡ false) → feed chip_table (to_chips u e) 0 u.chips ≡ u.chips
+sent_chips : (u : World) (e : Event) → ((i : ℕ) → list_any (is_chip i) u.hearing ≡ false)
+    → feed chip_table (to_chips u e) 0 u.chips ≡ u.chips
 sent_chips u e none =
     feed-same chip_table (to_chips u e) 0 u.chips (λ i x at. ap (λ (t : Bool). given chip_table (cond t (Some e) None) x) (none (0 + i)))
 
-stopped_chips : (cs : List ChipView) (u : World) → NoneWaits cs → u.chips ≡ cs → feed chip_table (λ m. stop_event (joins_chip u m)) 0 u.chips ≡ u.chips
+stopped_chips : (cs : List ChipView) (u : World) → NoneWaits cs → u.chips ≡ cs
+    → feed chip_table (λ m. stop_event (joins_chip u m)) 0 u.chips ≡ u.chips
 stopped_chips cs u none same =
     feed-same chip_table (λ m. stop_event (joins_chip u m)) 0 u.chips
     (λ i x at. stop_quiet (joins_chip u (0 + i)) x (none i x (ap (λ (xs : List ChipView). slice_get xs i) (sym same) ∙ at)))
@@ -158,7 +168,8 @@ later_chipless cs none u call.Fault l f = (stopped_chips cs u none f.0 ∙ f.0, 
 -- a caller's message leaves the chips as they are
 pub call-chips : (b : BoardView) (tree : IsTree b) (r s : ℕ) (cs : List ChipView) (ds : List TargetState) (hs : List Node) (busy : Bool)
     → ((u : ℕ) → is_joined (world_of b r cs ds hs busy) u ≡ true → MayJoin b s u)
-    → (force : Bool) (limit : ℕ) (m : MessageView) (last : Bool) (cut : Option ℕ) → (grant_of b s m.addr force ≡ grant.Busy → ⊥) → NoneWaits cs
+    → (force : Bool) (limit : ℕ) (m : MessageView) (last : Bool) (cut : Option ℕ) → (grant_of b s m.addr force ≡ grant.Busy → ⊥)
+    → NoneWaits cs
     → (talk world_listener limit (world_of b r cs ds hs busy) m last cut).now.chips ≡ cs
 call-chips b tree r s cs ds hs busy along force limit m last cut not_busy none =
     (talk-keeps world_listener (IsChipless cs) (later_chipless cs none) limit (world_of b r cs ds hs busy) m last cut

@@ -93,8 +93,10 @@ taken_by asks by_line bits x byte =
 
 module _ (k : MuxKind) (x : ChipView) (channel : ℕ) (kind : x.kind ≡ k) where
   -- the byte is taken, once its code and the facts are known
-  taken_at : (code : ChannelCode) (asks by_line : Bool) (bits : ℕ) → (facts_of k).code ≡ code → (facts_of k).asks ≡ asks → (facts_of k).by_line ≡ by_line
-      → (facts_of k).bits ≡ bits → taken k (put_byte (select_value k channel) x) (select_value k channel) ≡ taken_by asks by_line bits x (select_by code channel)
+  taken_at : (code : ChannelCode) (asks by_line : Bool) (bits : ℕ) → (facts_of k).code ≡ code → (facts_of k).asks ≡ asks
+      → (facts_of k).by_line ≡ by_line
+      → (facts_of k).bits ≡ bits → taken k (put_byte (select_value k channel) x) (select_value k channel) ≡ taken_by asks by_line bits x
+      (select_by code channel)
   taken_at code asks by_line bits c a l n =
       ap (λ (v : ChannelCode). taken_by (facts_of k).asks (facts_of k).by_line (facts_of k).bits x (select_by v channel)) c
       ∙ ap (λ (v : Bool). taken_by v (facts_of k).by_line (facts_of k).bits x (select_by code channel)) a
@@ -108,12 +110,14 @@ module _ (k : MuxKind) (x : ChipView) (channel : ℕ) (kind : x.kind ≡ k) wher
   below n e has = subst (λ (o : Option ℕ). IsBelow o channel) e has
 
   select_by_code : (code : ChannelCode) → (facts_of k).code ≡ code → FitsCode code (facts_of k) → is_gpio k ≡ false → HasChannel k channel
-      → (is_arbitrator k ≡ true → is_free x ≡ true) → OpensOne (taken k (put_byte (select_value k channel) x) (select_value k channel)) channel
+      → (is_arbitrator k ≡ true → is_free x ≡ true)
+      → OpensOne (taken k (put_byte (select_value k channel) x) (select_value k channel)) channel
   select_by_code Bits at fits line has free =
       let bits = (facts_of k).bits in
       let y : ChipView = record x { control = 2 ^ channel % 2 ^ bits; waiting = None } in
       subst (λ (z : ChipView). OpensOne z channel) (sym (taken_at Bits false false bits at fits.3 fits.2 refl))
-      (opens_power y (2 ^ channel % 2 ^ bits) channel (opens_at Bits at (2 ^ channel % 2 ^ bits)) (kept_power channel bits (below bits fits.0 has)))
+      (opens_power y (2 ^ channel % 2 ^ bits) channel (opens_at Bits at (2 ^ channel % 2 ^ bits))
+      (kept_power channel bits (below bits fits.0 has)))
   select_by_code (Number n) at fits line has free =
       let control = (2 ^ n + channel) % 2 ^ suc n in
       let bits = mux_bits n channel fits.4 (below (2 ^ n) fits.0 has) in
@@ -136,7 +140,8 @@ module _ (k : MuxKind) (x : ChipView) (channel : ℕ) (kind : x.kind ≡ k) wher
   select_by_code Level at fits line has free = absurd (let f : true ≡ false = sym fits.2 ∙ line in cc)
 
 pub select_opens : (k : MuxKind) (x : ChipView) (channel : ℕ) → x.kind ≡ k → is_gpio k ≡ false → HasChannel k channel
-    → (is_arbitrator k ≡ true → is_free x ≡ true) → OpensOne (taken k (put_byte (select_value k channel) x) (select_value k channel)) channel
+    → (is_arbitrator k ≡ true → is_free x ≡ true)
+    → OpensOne (taken k (put_byte (select_value k channel) x) (select_value k channel)) channel
 select_opens k x channel kind line has free = select_by_code k x channel kind (facts_of k).code refl (facts_fit k) line has free
 
 -- LINES: the level opens one channel or none
@@ -144,7 +149,8 @@ pub level_opens : (x : ChipView) (channel : ℕ) → (facts_of x.kind).code ≡ 
 level_opens x channel code =
     record {
       opened = ap (λ (v : ChannelCode). opens_by v (channel + 1) channel) code ∙ eq-eqb (channel + 1) (channel + 1) refl;
-      only = λ c e. (let f : channel + 1 ≡ c + 1 = eqb-true (channel + 1) (c + 1) (sym (ap (λ (v : ChannelCode). opens_by v (channel + 1) c) code) ∙ e) in omega arith);
+      only = λ c e. (let f : channel + 1 ≡ c + 1 = eqb-true (channel + 1) (c + 1)
+          (sym (ap (λ (v : ChannelCode). opens_by v (channel + 1) c) code) ∙ e) in omega arith);
     }
 
 -- VALUES: what selects a channel opens it alone as it is, before the chip has cut it down to its bits
@@ -161,7 +167,8 @@ number_whole (suc (suc (suc (suc n)))) c p below = absurd (omega arith)
 pub value_opens : (k : MuxKind) (channel : ℕ) → HasChannel k channel → OpensOne (at_value k (select_value k channel)) channel
 value_opens k channel has = by_code (facts_of k).code refl (facts_fit k)
   where
-    by_code : (code : ChannelCode) → (facts_of k).code ≡ code → FitsCode code (facts_of k) → OpensOne (at_value k (select_value k channel)) channel
+    by_code : (code : ChannelCode) → (facts_of k).code ≡ code → FitsCode code (facts_of k)
+        → OpensOne (at_value k (select_value k channel)) channel
     by_code Bits at fits =
         opens_power (at_value k (select_value k channel)) (select_value k channel) channel
         (opens_at k (at_value k 0) channel refl Bits at (select_value k channel)) (ap (λ (v : ChannelCode). select_by v channel) at)
@@ -174,7 +181,8 @@ value_opens k channel has = by_code (facts_of k).code refl (facts_fit k)
         subst (λ (i : ℕ). OpensOne (at_value k i) channel) (sym (ap (λ (v : ChannelCode). select_by v channel) at))
         (record {
           opened = opens_at k (at_value k 0) channel refl (Number n) at value channel
-              ∙ ap (λ (t : Bool). t && eqb (value % 2 ^ n) channel) (ap (λ (i : ℕ). bit_of i n) (sym whole) ∙ bits.0) ∙ eq-eqb (value % 2 ^ n) channel number;
+              ∙ ap (λ (t : Bool). t && eqb (value % 2 ^ n) channel) (ap (λ (i : ℕ). bit_of i n) (sym whole) ∙ bits.0)
+              ∙ eq-eqb (value % 2 ^ n) channel number;
           only = λ c e. sym number ∙ eqb-true (value % 2 ^ n) c
               (and_right (bit_of value n) (eqb (value % 2 ^ n) c) (sym (opens_at k (at_value k 0) channel refl (Number n) at value c) ∙ e));
         })
@@ -186,7 +194,8 @@ value_opens k channel has = by_code (facts_of k).code refl (facts_fit k)
           only = λ c e. only_one ∙ sym (eqb-true c 0 (sym (opens_at k (at_value k 0) channel refl Alone at 1 c) ∙ e));
         })
     by_code Level at fits =
-        subst (λ (i : ℕ). OpensOne (at_value k i) channel) (sym (ap (λ (v : ChannelCode). select_by v channel) at)) (level_opens (at_value k 0) channel at)
+        subst (λ (i : ℕ). OpensOne (at_value k i) channel) (sym (ap (λ (v : ChannelCode). select_by v channel) at))
+        (level_opens (at_value k 0) channel at)
 
 -- CLOSES: no channel is open
 pub shut_at_zero : (code : ChannelCode) (c : ℕ) → opens_by code 0 c ≡ false
@@ -195,7 +204,8 @@ shut_at_zero (Number n) c = ap (λ (t : Bool). t && eqb (0 % 2 ^ n) c) (bit_zero
 shut_at_zero Alone c = refl
 shut_at_zero Level c = eqb-apart 0 (c + 1) (λ e. absurd (omega arith))
 
-pub close_opens : (k : MuxKind) (x : ChipView) (c : ℕ) → is_gpio k ≡ false → is_open (taken k (put_byte close_value x) close_value) c ≡ false
+pub close_opens : (k : MuxKind) (x : ChipView) (c : ℕ) → is_gpio k ≡ false
+    → is_open (taken k (put_byte close_value x) close_value) c ≡ false
 close_opens k x c line = by_facts (facts_of k).asks (facts_of k).by_line (facts_of k).bits line
   where
     by_facts : (asks by_line : Bool) (bits : ℕ) → by_line ≡ false → is_open (taken_by asks by_line bits x 0) c ≡ false
@@ -220,7 +230,9 @@ chosen_byte k x byte = taken k (put_byte byte x) byte
 pub taken_sort : (k : MuxKind) (x : ChipView) (byte : ℕ) → is_gpio k ≡ false → SameSort x (chosen_byte k x byte)
 taken_sort k x byte line = by_facts (facts_of k).asks (facts_of k).by_line (facts_of k).bits line
   where
-    by_bit : (s t : Bool) → SameSort x (cond s (record x { control = 0; waiting = None; left = x.foreign }) (cond t (record x { control = 1; waiting = None }) (record x { waiting = None })))
+    by_bit : (s t : Bool) → SameSort x
+        (cond s (record x { control = 0; waiting = None; left = x.foreign })
+        (cond t (record x { control = 1; waiting = None }) (record x { waiting = None })))
     by_bit true t = record { kind = refl; foreign = refl; left = λ h. omega arith; waiting = λ e. refl }
     by_bit false true = record { kind = refl; foreign = refl; left = λ h. h; waiting = λ e. refl }
     by_bit false false = record { kind = refl; foreign = refl; left = λ h. h; waiting = λ e. refl }

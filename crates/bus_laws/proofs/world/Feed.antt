@@ -18,7 +18,8 @@ pub feed-get : {X : Type 0} (t : Table X) (f : ℕ → Option Event) (k : ℕ) (
 feed-get t f k [] i = refl
 feed-get t f k (x ∷ xs) zero = ap (λ (j : ℕ). Some (given t (f j) x)) (sym (add-zero k))
 feed-get {X} t f k (x ∷ xs) (suc i) =
-    feed-get t f (k + 1) xs i ∙ ap (λ (j : ℕ). option_map (λ (y : X). given t (f j) y) (slice_get xs i)) (let e : k + 1 + i ≡ k + suc i = omega arith in e)
+    feed-get t f (k + 1) xs i ∙ ap (λ (j : ℕ). option_map (λ (y : X). given t (f j) y) (slice_get xs i))
+    (let e : k + 1 + i ≡ k + suc i = omega arith in e)
 
 -- where each target is left as it is, so is the list
 pub feed-same : {X : Type 0} (t : Table X) (f : ℕ → Option Event) (k : ℕ) (xs : List X)
@@ -27,7 +28,8 @@ feed-same t f k [] same = refl
 feed-same t f k (x ∷ xs) same =
     let head : given t (f k) x ≡ x = ap (λ (j : ℕ). given t (f j) x) (sym (add-zero k)) ∙ same 0 x refl in
     let tail : feed t f (k + 1) xs ≡ xs =
-    feed-same t f (k + 1) xs (λ i y e. ap (λ (j : ℕ). given t (f j) y) (let e2 : k + 1 + i ≡ k + suc i = omega arith in e2) ∙ same (suc i) y e) in
+    feed-same t f (k + 1) xs (λ i y e. ap (λ (j : ℕ). given t (f j) y) (let e2 : k + 1 + i ≡ k + suc i = omega arith in e2)
+    ∙ same (suc i) y e) in
     cc
 
 -- whether the target at a place hears its event
@@ -48,7 +50,8 @@ heard-none t name f k (x ∷ xs) none =
     let here : hears t (f k) x ≡ false = ap (λ (j : ℕ). hears t (f j) x) (sym (add-zero k)) ∙ none 0 x refl in
     heard_step t name (f k) k x (answers t f (k + 1) xs)
     ∙ ap (λ (b : Bool). cond b (name k ∷ heard_of name (answers t f (k + 1) xs)) (heard_of name (answers t f (k + 1) xs))) here
-    ∙ heard-none t name f (k + 1) xs (λ i y e. ap (λ (j : ℕ). hears t (f j) y) (let e2 : k + 1 + i ≡ k + suc i = omega arith in e2) ∙ none (suc i) y e)
+    ∙ heard-none t name f (k + 1) xs (λ i y e. ap (λ (j : ℕ). hears t (f j) y) (let e2 : k + 1 + i ≡ k + suc i = omega arith in e2)
+    ∙ none (suc i) y e)
 
 -- where only the target of one number may hear, the list has it or is empty
 pub heard-one : {X : Type 0} (t : Table X) (name : ℕ → Node) (f : ℕ → Option Event) (k : ℕ) (xs : List X) (m : ℕ)
@@ -68,7 +71,8 @@ heard-one t name f k (y ∷ ys) m only zero x e at =
     not_later : (j : ℕ) (z : _) → slice_get ys j ≡ Some z → (b : Bool) → hears t (f (k + 1 + j)) z ≡ b → b ≡ false
     not_later j z ez false h = refl
     not_later j z ez true h =
-        absurd (let far : k + suc j ≡ m = only (suc j) z ez (ap (λ (i : ℕ). hears t (f i) z) (let e2 : k + suc j ≡ k + 1 + j = omega arith in e2) ∙ h) in
+        absurd (let far : k + suc j ≡ m = only (suc j) z ez
+        (ap (λ (i : ℕ). hears t (f i) z) (let e2 : k + suc j ≡ k + 1 + j = omega arith in e2) ∙ h) in
         let here : k ≡ m = sym (add-zero k) ∙ at in omega arith)
 heard-one t name f k (y ∷ ys) m only (suc i) x e at =
     let early : hears t (f k) y ≡ false = not_here (hears t (f k) y) refl in
@@ -88,7 +92,8 @@ pub record GivesOne (f : ℕ → Option Event) (m : ℕ) (e : Event) : Type 0 wh
   pub at : f m ≡ Some e
   pub else : (j : ℕ) → (j ≡ m → ⊥) → f j ≡ None
 
-pub answers-none : {X : Type 0} (t : Table X) (f : ℕ → Option Event) (k : ℕ) (xs : List X) → ((j : ℕ) → k ≤ j → f j ≡ None) → answers t f k xs ≡ []
+pub answers-none : {X : Type 0} (t : Table X) (f : ℕ → Option Event) (k : ℕ) (xs : List X) → ((j : ℕ) → k ≤ j → f j ≡ None)
+    → answers t f k xs ≡ []
 answers-none t f k [] none = refl
 answers-none t f k (x ∷ xs) none =
     ap (λ (o : Option Event). answer_with t o k x (answers t f (k + 1) xs)) (none k (omega arith))
@@ -101,7 +106,8 @@ answers-one t f k (y ∷ ys) m e one zero x at place =
     let here : k ≡ m = sym (add-zero k) ∙ place in
     let same : y ≡ x = (let h : Some y ≡ Some x = at in cc) in
     ap (λ (o : Option Event). answer_with t o k y (answers t f (k + 1) ys)) (ap f here ∙ one.at)
-    ∙ ap (λ (rest : List (ℕ × Answer)). (k, t.answer y e) ∷ rest) (answers-none t f (k + 1) ys (λ j le. one.else j (λ q. absurd (omega arith))))
+    ∙ ap (λ (rest : List (ℕ × Answer)). (k, t.answer y e) ∷ rest)
+    (answers-none t f (k + 1) ys (λ j le. one.else j (λ q. absurd (omega arith))))
     ∙ ap (λ (j : ℕ). (j, t.answer y e) ∷ []) here ∙ ap (λ z. (m, t.answer z e) ∷ []) same
 answers-one t f k (y ∷ ys) m e one (suc i) x at place =
     ap (λ (o : Option Event). answer_with t o k y (answers t f (k + 1) ys)) (one.else k (λ q. absurd (omega arith)))
@@ -115,12 +121,14 @@ unheard name test implies (x ∷ xs) e = by_head (has_heard x.1) refl (unheard n
   where
     by_head : (b : Bool) → has_heard x.1 ≡ b → (heard_of name xs ≡ [] → some_answer test xs ≡ false) → some_answer test (x ∷ xs) ≡ false
     by_head true h rest =
-        absurd (let f : cond true (name x.0 ∷ heard_of name xs) (heard_of name xs) ≡ [] = subst (λ (b : Bool). cond b (name x.0 ∷ heard_of name xs) (heard_of name xs) ≡ []) h e in cc)
+        absurd (let f : cond true (name x.0 ∷ heard_of name xs) (heard_of name xs) ≡ [] = subst
+        (λ (b : Bool). cond b (name x.0 ∷ heard_of name xs) (heard_of name xs) ≡ []) h e in cc)
     by_head false h rest =
         let f : heard_of name xs ≡ [] = subst (λ (b : Bool). cond b (name x.0 ∷ heard_of name xs) (heard_of name xs) ≡ []) h e in
         ap (λ (b : Bool). b || some_answer test xs) (implies x.1 h) ∙ rest f
 
-pub some_answer-append : (test : Answer → Bool) (xs ys : List (ℕ × Answer)) → some_answer test (xs ++ ys) ≡ (some_answer test xs || some_answer test ys)
+pub some_answer-append : (test : Answer → Bool) (xs ys : List (ℕ × Answer))
+    → some_answer test (xs ++ ys) ≡ (some_answer test xs || some_answer test ys)
 some_answer-append test [] ys = refl
 some_answer-append test (x ∷ xs) ys =
     ap (λ (b : Bool). test x.1 || b) (some_answer-append test xs ys) ∙ or_assoc (test x.1) (some_answer test xs) (some_answer test ys)
@@ -131,7 +139,8 @@ some_answer-append test (x ∷ xs) ys =
 
 -- one that passes is enough
 pub some_answer-at : {X : Type 0} (t : Table X) (f : ℕ → Option Event) (test : Answer → Bool) (k : ℕ) (xs : List X) (m : ℕ) (e : Event)
-    → f m ≡ Some e → (i : ℕ) (x : X) → slice_get xs i ≡ Some x → k + i ≡ m → test (t.answer x e) ≡ true → some_answer test (answers t f k xs) ≡ true
+    → f m ≡ Some e → (i : ℕ) (x : X) → slice_get xs i ≡ Some x → k + i ≡ m → test (t.answer x e) ≡ true
+    → some_answer test (answers t f k xs) ≡ true
 some_answer-at t f test k [] m e given_e i x at place passes = absurd (let h : None ≡ Some x = at in cc)
 some_answer-at t f test k (y ∷ ys) m e given_e zero x at place passes =
     let here : k ≡ m = sym (add-zero k) ∙ place in
@@ -147,6 +156,7 @@ some_answer-at t f test k (y ∷ ys) m e given_e (suc i) x at place passes =
     head None = false
     head (Some g) = test (t.answer y g)
 
-    more : (o : Option Event) → some_answer test (answer_with t o k y (answers t f (k + 1) ys)) ≡ (head o || some_answer test (answers t f (k + 1) ys))
+    more : (o : Option Event) → some_answer test (answer_with t o k y (answers t f (k + 1) ys)) ≡
+        (head o || some_answer test (answers t f (k + 1) ys))
     more None = refl
     more (Some g) = refl

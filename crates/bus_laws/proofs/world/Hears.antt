@@ -55,25 +55,29 @@ chips_not_slow : (f : ℕ → Option Event) (k : ℕ) (xs : List ChipView) → s
 chips_not_slow f k [] = refl
 chips_not_slow f k (x ∷ xs) = by_event (f k) ∙ chips_not_slow f (k + 1) xs
   where
-    by_event : (o : Option Event) → some_answer is_slow (answer_with chip_table o k x (answers chip_table f (k + 1) xs)) ≡ some_answer is_slow (answers chip_table f (k + 1) xs)
+    by_event : (o : Option Event) → some_answer is_slow
+        (answer_with chip_table o k x (answers chip_table f (k + 1) xs)) ≡ some_answer is_slow (answers chip_table f (k + 1) xs)
     by_event None = refl
     by_event (Some e) = ap (λ (t : Bool). t || some_answer is_slow (answers chip_table f (k + 1) xs)) (chip_not_slow x e)
 
 module _ (b : BoardView) (tree : IsTree b) (r s : ℕ) (cs : List ChipView) (ds : List TargetState) (hs : List Node) (busy : Bool)
     (along : (u : ℕ) → is_joined (world_of b r cs ds hs busy) u ≡ true → MayJoin b s u) where
   -- a chip that hears is joined, has the address, and stands along the message's bus
-  pub chip_along : (a n : ℕ) (reading : Bool) (x : ChipView) → hears chip_table (chip_start (world_of b r cs ds hs busy) a reading n) x ≡ true
+  pub chip_along : (a n : ℕ) (reading : Bool) (x : ChipView)
+      → hears chip_table (chip_start (world_of b r cs ds hs busy) a reading n) x ≡ true
       → (addr_of b (node.Chip n) ≡ Some a) × MayJoin b s (home_of b (node.Chip n))
   chip_along a n reading x h =
       let w : World = world_of b r cs ds hs busy in
       let f = start_heard chip_table x (joins_chip w n) (has_address a (addr_of_mux b n)) reading refl h in
       (address_is a (addr_of_mux b n) f.1, along (home_of_mux b n) (and_right (has_chip b n) (is_joined w (home_of_mux b n)) f.0))
 
-  pub device_along : (a n : ℕ) (reading : Bool) (x : TargetState) → hears state_table (device_start (world_of b r cs ds hs busy) a reading n) x ≡ true
+  pub device_along : (a n : ℕ) (reading : Bool) (x : TargetState)
+      → hears state_table (device_start (world_of b r cs ds hs busy) a reading n) x ≡ true
       → (addr_of b (node.Device n) ≡ Some a) × MayJoin b s (home_of b (node.Device n))
   device_along a n reading x h =
       let w : World = world_of b r cs ds hs busy in
-      let f = start_heard state_table x (joins_device w n) (of_device (λ (d : DeviceView). eqb d.addr a) false b n) reading (other_state x) h in
+      let f = start_heard state_table x (joins_device w n) (of_device (λ (d : DeviceView). eqb d.addr a) false b n) reading
+      (other_state x) h in
       (device_address a (slice_get b.devices n) f.1, along (of_device (λ (d : DeviceView). d.bus) 0 b n) f.0)
 
   module _ (m a : ℕ) (reading : Bool) (x : ChipView) (addr : addr_of_mux b m ≡ Some a) (home : home_of_mux b m ≡ s)
@@ -107,7 +111,8 @@ module _ (b : BoardView) (tree : IsTree b) (r s : ℕ) (cs : List ChipView) (ds 
         heard-none state_table node.Device (device_start (world_of b r cs ds hs busy) a reading) 0 ds
         (λ i y e. silent (0 + i) y (hears state_table (device_start (world_of b r cs ds hs busy) a reading (0 + i)) y) refl)
       where
-        silent : (n : ℕ) (y : TargetState) (t : Bool) → hears state_table (device_start (world_of b r cs ds hs busy) a reading n) y ≡ t → t ≡ false
+        silent : (n : ℕ) (y : TargetState) (t : Bool) → hears state_table (device_start (world_of b r cs ds hs busy) a reading n) y ≡ t
+            → t ≡ false
         silent n y false h = refl
         silent n y true h =
             absurd (let f = device_along a n reading y h in
@@ -124,21 +129,26 @@ module _ (b : BoardView) (tree : IsTree b) (r s : ℕ) (cs : List ChipView) (ds 
         nothing_more true = refl
         nothing_more false = refl
 
-    no_slow : some_answer is_slow (start_chips (world_of b r cs ds hs busy) a reading ++ start_devices (world_of b r cs ds hs busy) a reading) ≡ false
+    no_slow : some_answer is_slow (start_chips (world_of b r cs ds hs busy) a reading ++ start_devices
+        (world_of b r cs ds hs busy) a reading) ≡ false
     no_slow =
-        some_answer-append is_slow (start_chips (world_of b r cs ds hs busy) a reading) (start_devices (world_of b r cs ds hs busy) a reading)
+        some_answer-append is_slow (start_chips (world_of b r cs ds hs busy) a reading)
+        (start_devices (world_of b r cs ds hs busy) a reading)
         ∙ ap (λ (t : Bool). t || some_answer is_slow (start_devices (world_of b r cs ds hs busy) a reading))
         (chips_not_slow (chip_start (world_of b r cs ds hs busy) a reading) 0 cs)
         ∙ unheard node.Device is_slow slow_is_heard (start_devices (world_of b r cs ds hs busy) a reading) control_devices
 
     some_ack : (c : Bool) → has_chip b m ≡ c → some_answer is_ack (start_chips (world_of b r cs ds hs busy) a reading) ≡ c
     some_ack true e =
-        some_answer-at chip_table (chip_start (world_of b r cs ds hs busy) a reading) is_ack 0 cs m (event.Start reading) given_start m x at (zero-add m) refl
+        some_answer-at chip_table (chip_start (world_of b r cs ds hs busy) a reading) is_ack 0 cs m (event.Start reading) given_start m x at
+        (zero-add m) refl
       where
         given_start : chip_start (world_of b r cs ds hs busy) a reading m ≡ Some (event.Start reading)
         given_start =
-            ap (λ (c : Bool). start_event (c && is_joined (world_of b r cs ds hs busy) (home_of_mux b m)) (has_address a (addr_of_mux b m)) reading) e
-            ∙ ap (λ (j : Bool). start_event j (has_address a (addr_of_mux b m)) reading) (ap (λ (i : ℕ). is_joined (world_of b r cs ds hs busy) i) home ∙ joined)
+            ap (λ (c : Bool). start_event (c && is_joined (world_of b r cs ds hs busy) (home_of_mux b m))
+            (has_address a (addr_of_mux b m)) reading) e
+            ∙ ap (λ (j : Bool). start_event j (has_address a (addr_of_mux b m)) reading)
+            (ap (λ (i : ℕ). is_joined (world_of b r cs ds hs busy) i) home ∙ joined)
             ∙ ap (λ (o : Option ℕ). start_event true (has_address a o) reading) addr
             ∙ ap (λ (t : Bool). start_event true t reading) (eq-eqb a a refl)
     some_ack false e =
@@ -148,12 +158,16 @@ module _ (b : BoardView) (tree : IsTree b) (r s : ℕ) (cs : List ChipView) (ds 
     -- and the start is acknowledged where it is there
     pub control_answer : world_answer (world_of b r cs ds hs busy) a reading ≡ cond (has_chip b m) answer.Ack answer.Nack
     control_answer =
-        ap (λ (t : Bool). cond t answer.Slow (cond (some_answer is_ack (start_chips (world_of b r cs ds hs busy) a reading ++ start_devices (world_of b r cs ds hs busy) a reading)) answer.Ack answer.Nack)) no_slow
+        ap (λ (t : Bool). cond t answer.Slow
+        (cond (some_answer is_ack (start_chips (world_of b r cs ds hs busy) a reading ++ start_devices
+        (world_of b r cs ds hs busy) a reading)) answer.Ack answer.Nack)) no_slow
         ∙ ap (λ (t : Bool). cond t answer.Ack answer.Nack) acked
       where
-        acked : some_answer is_ack (start_chips (world_of b r cs ds hs busy) a reading ++ start_devices (world_of b r cs ds hs busy) a reading) ≡ has_chip b m
+        acked : some_answer is_ack (start_chips (world_of b r cs ds hs busy) a reading ++ start_devices
+            (world_of b r cs ds hs busy) a reading) ≡ has_chip b m
         acked =
-            some_answer-append is_ack (start_chips (world_of b r cs ds hs busy) a reading) (start_devices (world_of b r cs ds hs busy) a reading)
+            some_answer-append is_ack (start_chips (world_of b r cs ds hs busy) a reading)
+            (start_devices (world_of b r cs ds hs busy) a reading)
             ∙ ap (λ (t : Bool). some_answer is_ack (start_chips (world_of b r cs ds hs busy) a reading) || t)
             (unheard node.Device is_ack ack_is_heard (start_devices (world_of b r cs ds hs busy) a reading) control_devices)
             ∙ or-false (some_answer is_ack (start_chips (world_of b r cs ds hs busy) a reading))

@@ -47,7 +47,8 @@ unfolding at_with
 turned_twice x m s t c d = sym (ap (λ (k : ℕ → Option ℕ). at_with t k) (fun_ext (changed_twice x.kept m c d)))
 
 -- equal chips are told alike
-pub told_equal : (b : BoardView) (v : Slots) (old new : ℕ → Option ChipView) → ((m : ℕ) → new m ≡ old m) → ChipsTold b v old → ChipsTold b v new
+pub told_equal : (b : BoardView) (v : Slots) (old new : ℕ → Option ChipView) → ((m : ℕ) → new m ≡ old m) → ChipsTold b v old
+    → ChipsTold b v new
 told_equal b v old new same told =
     record {
       kept = λ m x e. told.kept m x (sym (same m) ∙ e);
@@ -66,12 +67,16 @@ each_same (Some x) true = refl
 each_same (Some x) false = refl
 
 -- a look at an arbitrator that is found taken finds it once less, or it is held; one that is found free is free
-look_left : (x : ChipView) (k : ℕ) → is_arbitrator x.kind ≡ true → (x.left ≤ suc k) ⊎ (x.foreign ≡ 8) → ((look x).left ≤ k) ⊎ ((look x).foreign ≡ 8)
+look_left : (x : ChipView) (k : ℕ) → is_arbitrator x.kind ≡ true → (x.left ≤ suc k) ⊎ (x.foreign ≡ 8)
+    → ((look x).left ≤ k) ⊎ ((look x).foreign ≡ 8)
 look_left x k asks few =
-    subst (λ (y : ChipView). (y.left ≤ k) ⊎ (y.foreign ≡ 8)) (sym (ap (λ (t : Bool). cond t (cond (eqb x.foreign 8) x (record x { left = x.left - 1 })) x) asks)) (by_foreign (eqb_tells x.foreign 8))
+    subst (λ (y : ChipView). (y.left ≤ k) ⊎ (y.foreign ≡ 8))
+    (sym (ap (λ (t : Bool). cond t (cond (eqb x.foreign 8) x (record x { left = x.left - 1 })) x) asks))
+    (by_foreign (eqb_tells x.foreign 8))
   where
     by_foreign : ((eqb x.foreign 8 ≡ true) × (x.foreign ≡ 8)) ⊎ ((eqb x.foreign 8 ≡ false) × (x.foreign ≡ 8 → ⊥))
-        → ((cond (eqb x.foreign 8) x (record x { left = x.left - 1 })).left ≤ k) ⊎ ((cond (eqb x.foreign 8) x (record x { left = x.left - 1 })).foreign ≡ 8)
+        → ((cond (eqb x.foreign 8) x (record x { left = x.left - 1 })).left ≤ k)
+        ⊎ ((cond (eqb x.foreign 8) x (record x { left = x.left - 1 })).foreign ≡ 8)
     by_foreign (inl held) = inr (ap (λ (t : Bool). (cond t x (record x { left = x.left - 1 })).foreign) held.0 ∙ held.1)
     by_foreign (inr not_held) =
         inl (subst (λ (t : Bool). (cond t x (record x { left = x.left - 1 })).left ≤ k) (sym not_held.0)
@@ -79,7 +84,9 @@ look_left x k asks few =
 
 look_free : (x : ChipView) → is_arbitrator x.kind ≡ true → is_foreign x ≡ false → is_free (look x) ≡ true
 look_free x asks free =
-    subst (λ (y : ChipView). is_free y ≡ true) (sym (ap (λ (t : Bool). cond t (cond (eqb x.foreign 8) x (record x { left = x.left - 1 })) x) asks)) (by_foreign (eqb x.foreign 8) (ltb 0 x.left) refl refl free)
+    subst (λ (y : ChipView). is_free y ≡ true)
+    (sym (ap (λ (t : Bool). cond t (cond (eqb x.foreign 8) x (record x { left = x.left - 1 })) x) asks))
+    (by_foreign (eqb x.foreign 8) (ltb 0 x.left) refl refl free)
   where
     by_foreign : (t u : Bool) → eqb x.foreign 8 ≡ t → ltb 0 x.left ≡ u → (eqb x.foreign 8 || ltb 0 x.left) ≡ false
         → is_free (cond (eqb x.foreign 8) x (record x { left = x.left - 1 })) ≡ true
@@ -140,27 +147,35 @@ module _ (b : BoardView) (tree : IsTree b) (plain : IsPlainBoard b) (v : Slots) 
   abbrev sent : MessageView → TalkTold World
   sent message = talk world_listener limit (ws (root_of b p)) message true cut
 
-  framed : (message : MessageView) → ((sent message).now.board ≡ b) × ((sent message).now.root ≡ root_of b p) × (length (sent message).now.chips ≡ length b.muxes)
-  framed message = talk_framed b (root_of b p) limit (ws (root_of b p)) message true cut (world.board (root_of b p), world.root (root_of b p), world.count (root_of b p))
+  framed : (message : MessageView)
+      → ((sent message).now.board ≡ b) × ((sent message).now.root ≡ root_of b p) × (length (sent message).now.chips ≡ length b.muxes)
+  framed message = talk_framed b (root_of b p) limit (ws (root_of b p)) message true cut
+      (world.board (root_of b p), world.root (root_of b p), world.count (root_of b p))
 
   quiet : (message : MessageView) → message.addr ≡ chip_address b m → is_absent b m ≡ true → Quiet (ws (root_of b p)).chips (sent message)
   quiet message to gone =
-      subst (λ (u : World). Quiet (ws (root_of b p)).chips (talk world_listener limit u message true cut)) (sym (world-is b tree plain v ws world p reached))
-      (absent-talk b tree (root_of b p) p (ws (root_of b p)).chips (ws (root_of b p)).devices (ws (root_of b p)).hearing (ws (root_of b p)).busy
+      subst (λ (u : World). Quiet (ws (root_of b p)).chips (talk world_listener limit u message true cut))
+      (sym (world-is b tree plain v ws world p reached))
+      (absent-talk b tree (root_of b p) p (ws (root_of b p)).chips (ws (root_of b p)).devices (ws (root_of b p)).hearing
+      (ws (root_of b p)).busy
       (along_here b tree plain v ws world p reached) m (chip_address b m) chip.0 addr-is home
       (joined_here b tree plain v ws world p reached) chip.1 (world.rest (root_of b p)) limit message cut to (there-is ∙ ap not gone))
 
   writes : (byte : ℕ) → is_absent b m ≡ false → Writes (ws (root_of b p)).chips m byte (sent (write_byte (chip_address b m) byte))
   writes byte here =
-      subst (λ (u : World). Writes (ws (root_of b p)).chips m byte (talk world_listener limit u (write_byte (chip_address b m) byte) true cut)) (sym (world-is b tree plain v ws world p reached))
-      (write-talk b tree (root_of b p) p (ws (root_of b p)).chips (ws (root_of b p)).devices (ws (root_of b p)).hearing (ws (root_of b p)).busy
+      subst (λ (u : World). Writes (ws (root_of b p)).chips m byte
+      (talk world_listener limit u (write_byte (chip_address b m) byte) true cut)) (sym (world-is b tree plain v ws world p reached))
+      (write-talk b tree (root_of b p) p (ws (root_of b p)).chips (ws (root_of b p)).devices (ws (root_of b p)).hearing
+      (ws (root_of b p)).busy
       (along_here b tree plain v ws world p reached) m (chip_address b m) chip.0 addr-is home
       (joined_here b tree plain v ws world p reached) chip.1 (world.rest (root_of b p)) (there-is ∙ ap not here) limit byte cut)
 
   reads : is_absent b m ≡ false → Reads (ws (root_of b p)).chips m (chip_sends chip.0.kind chip.0) (sent (read_byte (chip_address b m)))
   reads here =
-      subst (λ (u : World). Reads (ws (root_of b p)).chips m (chip_sends chip.0.kind chip.0) (talk world_listener limit u (read_byte (chip_address b m)) true cut)) (sym (world-is b tree plain v ws world p reached))
-      (read-talk b tree (root_of b p) p (ws (root_of b p)).chips (ws (root_of b p)).devices (ws (root_of b p)).hearing (ws (root_of b p)).busy
+      subst (λ (u : World). Reads (ws (root_of b p)).chips m (chip_sends chip.0.kind chip.0)
+      (talk world_listener limit u (read_byte (chip_address b m)) true cut)) (sym (world-is b tree plain v ws world p reached))
+      (read-talk b tree (root_of b p) p (ws (root_of b p)).chips (ws (root_of b p)).devices (ws (root_of b p)).hearing
+      (ws (root_of b p)).busy
       (along_here b tree plain v ws world p reached) m (chip_address b m) chip.0 addr-is home
       (joined_here b tree plain v ws world p reached) chip.1 (world.rest (root_of b p)) (there-is ∙ ap not here) limit cut)
 
@@ -171,15 +186,18 @@ module _ (b : BoardView) (tree : IsTree b) (plain : IsPlainBoard b) (v : Slots) 
   no_line x e = ap is_gpio (kind-of x e) ∙ line
 
   -- one chip changed, and the slot of its bus
-  turn : (message : MessageView) (u : Slots) (s : MuxSlot) (now : Option ℕ) (f : ChipView → ChipView) → Changes (ws (root_of b p)).chips (sent message).now.chips m f
-      → ((x : ChipView) → chip_in b ws m ≡ Some x → SameSort x (f x)) → u p ≡ turned_at (v p) m s now → ((q : ℕ) → (q ≡ p → ⊥) → u q ≡ v q) → MuxTold b (chip_in b ws) m f s now
+  turn : (message : MessageView) (u : Slots) (s : MuxSlot) (now : Option ℕ) (f : ChipView → ChipView)
+      → Changes (ws (root_of b p)).chips (sent message).now.chips m f
+      → ((x : ChipView) → chip_in b ws m ≡ Some x → SameSort x (f x)) → u p ≡ turned_at (v p) m s now → ((q : ℕ) → (q ≡ p → ⊥) → u q ≡ v q)
+      → MuxTold b (chip_in b ws) m f s now
       → WorldTold b u (changed_at ws (root_of b p) (sent message).now)
   turn message u s now f changes sort here others slot =
       world_replaced b v u ws (root_of b p) (sent message).now world (framed message)
       (still_none (ws (root_of b p)).chips (sent message).now.chips m f changes (λ x e. sort x (in_world x e)) (world.rest (root_of b p)))
       (told-turned b v u (chip_in b ws) (chip_in b (changed_at ws (root_of b p) (sent message).now)) m f s now
       (replaced-chip b ws (root_of b p) (sent message).now m f root_home changes)
-      (ap u home ∙ here ∙ ap (λ (i : ℕ). turned_at (v i) m s now) (sym home)) (λ q ne. others q (λ e. ne (e ∙ sym home))) own_home sort slot world.told)
+      (ap u home ∙ here ∙ ap (λ (i : ℕ). turned_at (v i) m s now) (sym home))
+      (λ q ne. others q (λ e. ne (e ∙ sym home))) own_home sort slot world.told)
 
   -- nothing changed but marks
   mark_only : (message : MessageView) → (sent message).now.chips ≡ (ws (root_of b p)).chips
@@ -188,7 +206,8 @@ module _ (b : BoardView) (tree : IsTree b) (plain : IsPlainBoard b) (v : Slots) 
       world_replaced b v (set_marks marks v) ws (root_of b p) (sent message).now world (framed message)
       (λ i x e. world.rest (root_of b p) i x (ap (λ (xs : List ChipView). slice_get xs i) (sym same) ∙ e))
       (told_equal b (set_marks marks v) (chip_in b ws) (chip_in b (changed_at ws (root_of b p) (sent message).now))
-      (λ i. replaced-chip b ws (root_of b p) (sent message).now m (λ x. x) root_home (same_changes (ws (root_of b p)).chips (sent message).now.chips m same) i
+      (λ i. replaced-chip b ws (root_of b p) (sent message).now m (λ x. x) root_home
+      (same_changes (ws (root_of b p)).chips (sent message).now.chips m same) i
       ∙ each_same (chip_in b ws i) (eqb i m))
       (told-marks b v (set_marks marks v) (chip_in b ws) (set_marks-only b held v marks fail) world.told))
 
@@ -214,7 +233,8 @@ module _ (b : BoardView) (tree : IsTree b) (plain : IsPlainBoard b) (v : Slots) 
   marked_turn message f changes sort here =
       world_replaced b v (set_marks marks v) ws (root_of b p) (sent message).now world (framed message)
       (still_none (ws (root_of b p)).chips (sent message).now.chips m f changes (λ x e. sort x (in_world x e)) (world.rest (root_of b p)))
-      (told-turned b (set_marks marks v) (set_marks marks v) (chip_in b ws) (chip_in b (changed_at ws (root_of b p) (sent message).now)) m f (Marked m) None
+      (told-turned b (set_marks marks v) (set_marks marks v) (chip_in b ws) (chip_in b (changed_at ws (root_of b p) (sent message).now)) m f
+      (Marked m) None
       (replaced-chip b ws (root_of b p) (sent message).now m f root_home changes)
       own_again (λ q ne. refl)
       (subst (λ (x : At). IsOfMux m x.slot) (sym own_marked) refl) sort
@@ -302,7 +322,8 @@ module _ (b : BoardView) (tree : IsTree b) (plain : IsPlainBoard b) (v : Slots) 
         → WorldTold b (turned v h.on h.mux Clean None) (changed_at ws (root_of b p) (sent message).now)
     nack_here message gone same =
         subst (λ (i : ℕ). WorldTold b (turned v i h.mux Clean None) (changed_at ws (root_of b p) (sent message).now)) (sym same_on)
-        (subst (λ (i : ℕ). WorldTold b (turned v p i Clean None) (changed_at ws (root_of b p) (sent message).now)) (sym same_mux) (nack_clean message gone same))
+        (subst (λ (i : ℕ). WorldTold b (turned v p i Clean None) (changed_at ws (root_of b p) (sent message).now)) (sym same_mux)
+        (nack_clean message gone same))
 
     -- the write
     abbrev value : ℕ
@@ -314,11 +335,13 @@ module _ (b : BoardView) (tree : IsTree b) (plain : IsPlainBoard b) (v : Slots) 
     same_value : select_value h.kind h.channel ≡ value
     same_value = ap (λ (k : MuxKind). select_value k h.channel) same_kind
 
-    select_done : ((x : ChipView) → chip_in b ws m ≡ Some x → is_arbitrator kind ≡ true → is_free x ≡ true) → is_absent b m ≡ false → is_held b m ≡ false
+    select_done : ((x : ChipView) → chip_in b ws m ≡ Some x → is_arbitrator kind ≡ true → is_free x ≡ true) → is_absent b m ≡ false
+        → is_held b m ≡ false
         → Changes (ws (root_of b p)).chips (sent select_message).now.chips m (taken_byte (select_value h.kind h.channel))
         → WorldTold b (turned v h.on h.mux Clean (Some h.channel)) (changed_at ws (root_of b p) (sent select_message).now)
     select_done free here held_not changes =
-        turn select_message (turned v h.on h.mux Clean (Some h.channel)) Clean (Some h.channel) (taken_byte (select_value h.kind h.channel)) changes
+        turn select_message (turned v h.on h.mux Clean (Some h.channel)) Clean (Some h.channel)
+        (taken_byte (select_value h.kind h.channel)) changes
         (λ x at. taken_sort x.kind x (select_value h.kind h.channel) (no_line x at))
         (slot_here Clean (Some h.channel)) (slot_there Clean (Some h.channel))
         (record {
@@ -348,7 +371,8 @@ module _ (b : BoardView) (tree : IsTree b) (plain : IsPlainBoard b) (v : Slots) 
     answers_here here free = ap (answers b) same_mux ∙ answers-is b m here free
 
     select_by : ((x : ChipView) → chip_in b ws m ≡ Some x → is_arbitrator kind ≡ true → is_free x ≡ true) → is_held b m ≡ false
-        → (t : Bool) → is_absent b m ≡ t → (bytes : List ℕ) → Chosen (sent select_message).end bytes × CanSelect b h zero (sent select_message).end bytes
+        → (t : Bool) → is_absent b m ≡ t → (bytes : List ℕ)
+        → Chosen (sent select_message).end bytes × CanSelect b h zero (sent select_message).end bytes
     select_by free held_not true gone bytes =
         let q = quiet select_message refl gone in
         let silent : is_absent b h.mux ≡ true = ap (is_absent b) same_mux ∙ gone in
@@ -366,7 +390,8 @@ module _ (b : BoardView) (tree : IsTree b) (plain : IsPlainBoard b) (v : Slots) 
             | inr e ↦ subst (λ (x : End). Chosen x bytes × CanSelect b h zero x bytes) (sym e) (mark_only select_message cut_off.0, tt)
           ]
           | inr through ↦ elim through.1 [
-            | inl e ↦ subst (λ (x : End). Chosen x bytes × CanSelect b h zero x bytes) (sym e) (select_done free here held_not through.0, answers_here here held_not)
+            | inl e ↦ subst (λ (x : End). Chosen x bytes × CanSelect b h zero x bytes) (sym e)
+                (select_done free here held_not through.0, answers_here here held_not)
             | inr e ↦ subst (λ (x : End). Chosen x bytes × CanSelect b h zero x bytes) (sym e) (
               marked_turn select_message (taken_byte (select_value h.kind h.channel)) through.0
                   (λ x at. taken_sort x.kind x (select_value h.kind h.channel) (no_line x at)) here,
@@ -405,7 +430,8 @@ module _ (b : BoardView) (tree : IsTree b) (plain : IsPlainBoard b) (v : Slots) 
       -- nothing is open while it is asked
       shut_now : (c : ℕ) (x : ChipView) → chip_in b ws m ≡ Some x → is_open (look x) c ≡ true → ⊥
       shut_now c x at opens =
-          elim (subst (λ (i : ℕ). Explains (v i) m c) (home ∙ sym same_on) (world.told.only m c x at (sym (looked_opens x.kind x c) ∙ opens))) [
+          elim (subst (λ (i : ℕ). Explains (v i) m c) (home ∙ sym same_on)
+          (world.told.only m c x at (sym (looked_opens x.kind x c) ∙ opens))) [
             | inl keeps ↦ (let f : None ≡ Some c = sym shut ∙ ap (λ (i : ℕ). (v h.on).kept i) same_mux ∙ keeps in cc)
             | inr mark ↦ elim finds [
               | inl polled ↦ (let f : Polled h n ≡ Marked m = sym polled ∙ mark in cc)
@@ -413,10 +439,12 @@ module _ (b : BoardView) (tree : IsTree b) (plain : IsPlainBoard b) (v : Slots) 
             ]
           ]
 
-      poll_turn : (s : MuxSlot) → is_absent b m ≡ false → Changes (ws (root_of b p)).chips (sent poll_message).now.chips m look → MuxTold b (chip_in b ws) m look s None
+      poll_turn : (s : MuxSlot) → is_absent b m ≡ false → Changes (ws (root_of b p)).chips (sent poll_message).now.chips m look
+          → MuxTold b (chip_in b ws) m look s None
           → WorldTold b (turned v h.on h.mux s None) (changed_at ws (root_of b p) (sent poll_message).now)
       poll_turn s here changes slot =
-          turn poll_message (turned v h.on h.mux s None) s None look changes (λ x at. looked_sort x.kind x) (slot_here s None) (slot_there s None) slot
+          turn poll_message (turned v h.on h.mux s None) s None look changes (λ x at. looked_sort x.kind x) (slot_here s None)
+          (slot_there s None) slot
 
       polled_slot-told : (k : ℕ) → n ≡ suc k → is_absent b m ≡ false → MuxTold b (chip_in b ws) m look (Polled h k) None
       polled_slot-told k at_k here =
@@ -458,12 +486,14 @@ module _ (b : BoardView) (tree : IsTree b) (plain : IsPlainBoard b) (v : Slots) 
 
       abbrev Asked : End → List ℕ → Type 0
       Asked e bytes =
-          WorldTold b (after_job (Select h) (suc n) marks (Sent e bytes) v) (changed_at ws (root_of b p) (sent poll_message).now) × CanSelect b h (suc n) e bytes
+          WorldTold b (after_job (Select h) (suc n) marks (Sent e bytes) v) (changed_at ws (root_of b p) (sent poll_message).now)
+          × CanSelect b h (suc n) e bytes
 
       -- what the chip sends says whether it is taken
       sends_is : (t : Bool) → is_foreign chip.0 ≡ t → bit_and (chip_sends chip.0.kind chip.0) 255 ≡ cond t 1 0
       sends_is t e =
-          ap (λ (u : Bool). bit_and (cond u (cond (is_foreign chip.0) 1 0) (cond (is_gpio chip.0.kind) 255 chip.0.control)) 255) (arb-asks chip.0 chip-told)
+          ap (λ (u : Bool). bit_and (cond u (cond (is_foreign chip.0) 1 0) (cond (is_gpio chip.0.kind) 255 chip.0.control)) 255)
+          (arb-asks chip.0 chip-told)
           ∙ ap (λ (u : Bool). bit_and (cond u 1 0) 255) e ∙ by_test t
         where
           by_test : (u : Bool) → bit_and (cond u 1 0) 255 ≡ cond u 1 0
@@ -473,15 +503,18 @@ module _ (b : BoardView) (tree : IsTree b) (plain : IsPlainBoard b) (v : Slots) 
       held_now : is_absent b m ≡ false → chip.0.foreign ≡ 8 → (is_absent b h.mux ≡ false) × (is_held b h.mux ≡ true)
       held_now here e = (
         ap (is_absent b) same_mux ∙ here,
-        ap (is_held b) same_mux ∙ held-is b m spec spec-at ∙ eq-eqb spec.foreign 8 (sym (foreign-is b m spec spec-at) ∙ chip-of.foreign ∙ e),
+        ap (is_held b) same_mux ∙ held-is b m spec spec-at
+            ∙ eq-eqb spec.foreign 8 (sym (foreign-is b m spec spec-at) ∙ chip-of.foreign ∙ e),
       )
 
       through_by : is_absent b m ≡ false → Changes (ws (root_of b p)).chips (sent poll_message).now.chips m look
           → (k : ℕ) → n ≡ k → (t : Bool) → is_foreign chip.0 ≡ t
-          → WorldTold b (turned v h.on h.mux (polled_slot h k (cond t 1 0 ∷ [])) None) (changed_at ws (root_of b p) (sent poll_message).now) × CanGoThrough b h (suc k) (cond t 1 0 ∷ [])
+          → WorldTold b (turned v h.on h.mux (polled_slot h k (cond t 1 0 ∷ [])) None) (changed_at ws (root_of b p) (sent poll_message).now)
+          × CanGoThrough b h (suc k) (cond t 1 0 ∷ [])
       through_by here changes zero at_k true foreign = (
         poll_turn Clean here changes (clean_slot-told here),
-        inr (held_now here (held_or_left chip.0 foreign (subst (λ (i : ℕ). (chip.0.left ≤ i) ⊎ (chip.0.foreign ≡ 8)) at_k (few_left chip.0 chip-told)))),
+        inr (held_now here (held_or_left chip.0 foreign
+            (subst (λ (i : ℕ). (chip.0.left ≤ i) ⊎ (chip.0.foreign ≡ 8)) at_k (few_left chip.0 chip-told)))),
       )
       through_by here changes (suc k) at_k true foreign =
           (poll_turn (Polled h k) here changes (polled_slot-told k at_k here), tt)

@@ -48,7 +48,8 @@ module _ (b : BoardView) (tree : IsTree b) (plain : IsPlainBoard b) (v : Slots) 
   pub world-is : ws (root_of b s) ≡ w
   world-is = whole b (root_of b s) (ws (root_of b s)) (world.board (root_of b s)) (world.root (root_of b s))
 
-  only_here : (m c : ℕ) (x : ChipView) → root_of b (home_of_mux b m) ≡ root_of b s → slice_get (ws (root_of b s)).chips m ≡ Some x → is_open x c ≡ true
+  only_here : (m c : ℕ) (x : ChipView) → root_of b (home_of_mux b m) ≡ root_of b s → slice_get (ws (root_of b s)).chips m ≡ Some x
+      → is_open x c ≡ true
       → Explains (v (home_of_mux b m)) m c
   only_here m c x root at opens = world.told.only m c x (ap (λ (i : ℕ). slice_get (ws i).chips m) root ∙ at) opens
 
@@ -93,7 +94,8 @@ talk_framed b r limit u m last cut f =
     (f.0, f.1, length-feed chip_table (chip_start u m.addr m.reading) 0 u.chips ∙ f.2)
 
 -- one world is replaced: the chips of other roots stay
-pub replaced-chip : (b : BoardView) (ws : ℕ → World) (r : ℕ) (new : World) (k : ℕ) (f : ChipView → ChipView) → root_of b (home_of_mux b k) ≡ r
+pub replaced-chip : (b : BoardView) (ws : ℕ → World) (r : ℕ) (new : World) (k : ℕ) (f : ChipView → ChipView)
+    → root_of b (home_of_mux b k) ≡ r
     → Changes (ws r).chips new.chips k f → Turns (chip_in b ws) (chip_in b (changed_at ws r new)) k f
 replaced-chip b ws r new k f root changes m =
     elim (eqb_tells (root_of b (home_of_mux b m)) r) [
@@ -121,22 +123,27 @@ same_changes cs new k e i = ap (λ (xs : List ChipView). slice_get xs i) e ∙ s
     each (Some x) false = refl
 
 -- no byte waits afterwards where the changed chip keeps its sort
-pub still_none : (cs new : List ChipView) (k : ℕ) (f : ChipView → ChipView) → Changes cs new k f → ((x : ChipView) → slice_get cs k ≡ Some x → SameSort x (f x))
+pub still_none : (cs new : List ChipView) (k : ℕ) (f : ChipView → ChipView) → Changes cs new k f
+    → ((x : ChipView) → slice_get cs k ≡ Some x → SameSort x (f x))
     → NoneWaits cs → NoneWaits new
 still_none cs new k f changes sort none i y at = by_old (slice_get cs i) refl
   where
     by_old : (o : Option ChipView) → slice_get cs i ≡ o → y.waiting ≡ None
-    by_old None e = absurd (let g : None ≡ Some y = sym (changes i ∙ ap (λ (o : Option ChipView). option_map (λ (x : ChipView). cond (eqb i k) (f x) x) o) e) ∙ at in cc)
+    by_old None e = absurd (let g : None ≡ Some y = sym (changes i
+        ∙ ap (λ (o : Option ChipView). option_map (λ (x : ChipView). cond (eqb i k) (f x) x) o) e) ∙ at in cc)
     by_old (Some x) e =
         let now : cond (eqb i k) (f x) x ≡ y =
-        (let g : Some (cond (eqb i k) (f x) x) ≡ Some y = sym (changes i ∙ ap (λ (o : Option ChipView). option_map (λ (x : ChipView). cond (eqb i k) (f x) x) o) e) ∙ at in cc) in
+        (let g : Some (cond (eqb i k) (f x) x) ≡ Some y = sym (changes i
+        ∙ ap (λ (o : Option ChipView). option_map (λ (x : ChipView). cond (eqb i k) (f x) x) o) e) ∙ at in cc) in
         elim (eqb_tells i k) [
-          | inl h ↦ ap (λ (z : ChipView). z.waiting) (sym (sym (ap (λ (t : Bool). cond t (f x) x) h.0) ∙ now)) ∙ (sort x (ap (λ (j : ℕ). slice_get cs j) (sym h.1) ∙ e)).waiting (none i x e)
+          | inl h ↦ ap (λ (z : ChipView). z.waiting) (sym (sym (ap (λ (t : Bool). cond t (f x) x) h.0) ∙ now))
+              ∙ (sort x (ap (λ (j : ℕ). slice_get cs j) (sym h.1) ∙ e)).waiting (none i x e)
           | inr h ↦ ap (λ (z : ChipView). z.waiting) (sym (sym (ap (λ (t : Bool). cond t (f x) x) h.0) ∙ now)) ∙ none i x e
         ]
 
 -- the whole of it: one world is replaced by one whose chips are told
-pub world_replaced : (b : BoardView) (v u : Slots) (ws : ℕ → World) (r : ℕ) (new : World) → WorldTold b v ws → IsFramed b r new → NoneWaits new.chips
+pub world_replaced : (b : BoardView) (v u : Slots) (ws : ℕ → World) (r : ℕ) (new : World) → WorldTold b v ws → IsFramed b r new
+    → NoneWaits new.chips
     → ChipsTold b u (chip_in b (changed_at ws r new)) → WorldTold b u (changed_at ws r new)
 world_replaced b v u ws r new world framed none told =
     record {

@@ -56,7 +56,8 @@ open_chip channel None e = absurd (let f : false ≡ true = e in cc)
 open_chip channel (Some x) e = (x, refl, e)
 
 -- each bus behind a hop of a path is on the path
-behind_on_path : (b : BoardView) → IsTree b → (hs : List Hop) (s : ℕ) (g : Hop) → hops b s ≡ hs → IsAmongHops g hs → (g.bus ≡ s) ⊎ Crosses g.bus hs
+behind_on_path : (b : BoardView) → IsTree b → (hs : List Hop) (s : ℕ) (g : Hop) → hops b s ≡ hs → IsAmongHops g hs
+    → (g.bus ≡ s) ⊎ Crosses g.bus hs
 behind_on_path b tree [] s g at a = absurd a
 behind_on_path b tree (h ∷ hs) s g at a =
     elim a [
@@ -101,7 +102,8 @@ mux_hop : (m : ℕ) (hs : List Hop) → crosses_mux m hs ≡ true → (g : Hop) 
 mux_hop m [] e = absurd (let f : false ≡ true = e in cc)
 mux_hop m (h ∷ hs) e = by (eqb h.mux m) refl (mux_hop m hs)
   where
-    by : (t : Bool) → eqb h.mux m ≡ t → (crosses_mux m hs ≡ true → (g : Hop) × IsAmongHops g hs × (g.mux ≡ m)) → (g : Hop) × IsAmongHops g (h ∷ hs) × (g.mux ≡ m)
+    by : (t : Bool) → eqb h.mux m ≡ t → (crosses_mux m hs ≡ true → (g : Hop) × IsAmongHops g hs × (g.mux ≡ m))
+        → (g : Hop) × IsAmongHops g (h ∷ hs) × (g.mux ≡ m)
     by true f rest = (h, inl refl, eqb-true h.mux m f)
     by false f rest = (let r = rest (sym (ap (λ (t : Bool). t || crosses_mux m hs) f) ∙ e) in (r.0, inr r.1, r.2))
 
@@ -119,7 +121,8 @@ kept_here b s h hs stays off =
     ap (λ (t : Bool). (t && not (crosses_mux h.mux (hops b s))) || list_any (is_kept_hop b s) hs) stays
     ∙ ap (λ (t : Bool). not t || list_any (is_kept_hop b s) hs) off
 
-kept_more : (b : BoardView) (s : ℕ) (h : Hop) (hs : List Hop) → list_any (is_kept_hop b s) hs ≡ true → list_any (is_kept_hop b s) (h ∷ hs) ≡ true
+kept_more : (b : BoardView) (s : ℕ) (h : Hop) (hs : List Hop) → list_any (is_kept_hop b s) hs ≡ true
+    → list_any (is_kept_hop b s) (h ∷ hs) ≡ true
 kept_more b s h hs e = ap (λ (t : Bool). is_kept_hop b s h || t) e ∙ or-true (is_kept_hop b s h)
 
 -- along the bus, or with a kept hop that isn't over it
@@ -129,23 +132,27 @@ Joins b s u hs = IsAlong b s u ⊎ (list_any (is_kept_hop b s) hs ≡ true)
 module _ (b : BoardView) (tree : IsTree b) (v : Slots) (r s : ℕ) (cs : List ChipView)
     (rooted : root_of b s ≡ r)
     (reached : (g : Hop) → IsAmongHops g (hops b s) → IsOpenOn b g (v g.on))
-    (only : (m c : ℕ) (x : ChipView) → root_of b (home_of_mux b m) ≡ r → slice_get cs m ≡ Some x → is_open x c ≡ true → Explains (v (home_of_mux b m)) m c) where
+    (only : (m c : ℕ) (x : ChipView) → root_of b (home_of_mux b m) ≡ r → slice_get cs m ≡ Some x → is_open x c ≡ true
+    → Explains (v (home_of_mux b m)) m c) where
   -- an open hop that stands on a bus of the message's path has its channel kept, and that bus has no mark
-  kept_at : (h g : Hop) → (u : ℕ) → IsAmongHops h (hops b u) → root_of b h.on ≡ r → IsAmongHops g (hops b s) → g.on ≡ h.on → opens_hop cs h ≡ true
+  kept_at : (h g : Hop) → (u : ℕ) → IsAmongHops h (hops b u) → root_of b h.on ≡ r → IsAmongHops g (hops b s) → g.on ≡ h.on
+      → opens_hop cs h ≡ true
       → (v g.on).kept h.mux ≡ Some h.channel
   kept_at h g u a root_h in_path on opened =
       let chip = open_chip h.channel (slice_get cs h.mux) opened in
       let home : home_of_mux b h.mux ≡ h.on = (tree.hop u h a).home in
       let at : home_of_mux b h.mux ≡ g.on = home ∙ sym on in
       let explained : Explains (v g.on) h.mux h.channel =
-      subst (λ (i : ℕ). Explains (v i) h.mux h.channel) at (only h.mux h.channel chip.0 (ap (λ (i : ℕ). root_of b i) home ∙ root_h) chip.1 chip.2) in
+      subst (λ (i : ℕ). Explains (v i) h.mux h.channel) at
+      (only h.mux h.channel chip.0 (ap (λ (i : ℕ). root_of b i) home ∙ root_h) chip.1 chip.2) in
       elim explained [
         | inl kept ↦ kept
         | inr mark ↦ absurd (let f : Clean ≡ Marked h.mux = sym (reached g in_path).clean ∙ mark in cc)
       ]
 
   -- it is a hop of the path, or one of another mux, which stays as it is and isn't over the path
-  same_or_kept : (h g : Hop) → (u : ℕ) → IsAmongHops h (hops b u) → root_of b h.on ≡ r → IsAmongHops g (hops b s) → g.on ≡ h.on → opens_hop cs h ≡ true
+  same_or_kept : (h g : Hop) → (u : ℕ) → IsAmongHops h (hops b u) → root_of b h.on ≡ r → IsAmongHops g (hops b s) → g.on ≡ h.on
+      → opens_hop cs h ≡ true
       → (g ≡ h) ⊎ ((h.stays ≡ true) × (crosses_mux h.mux (hops b s) ≡ false))
   same_or_kept h g u a root_h in_path on opened =
       let kept : (v g.on).kept h.mux ≡ Some h.channel = kept_at h g u a root_h in_path on opened in
@@ -155,12 +162,14 @@ module _ (b : BoardView) (tree : IsTree b) (v : Slots) (r s : ℕ) (cs : List Ch
             inl (tree.channel s u g h in_path a (sym same.1) (let f : h.channel ≡ g.channel = cc in sym f)))
         | inr other ↦ inr (
           sym (tree.hop u h a).stays ∙ ((reached g in_path).others h.mux h.channel other.1 kept).1,
-          not_among h.mux (hops b s) (λ x among e. other.1 (sym e ∙ ap (λ (y : Hop). y.mux) (one_on (hops b s) x g (tree.apart s) among in_path
+          not_among h.mux (hops b s) (λ x among e. other.1 (sym e
+              ∙ ap (λ (y : Hop). y.mux) (one_on (hops b s) x g (tree.apart s) among in_path
               (sym (tree.hop s x among).home ∙ ap (λ (i : ℕ). home_of_mux b i) e ∙ (tree.hop u h a).home ∙ sym on)))),
         )
       ]
 
-  joins : (hs : List Hop) (u : ℕ) → hops b u ≡ hs → root_of b u ≡ r → ((h : Hop) → IsAmongHops h hs → opens_hop cs h ≡ true) → Joins b s u hs
+  joins : (hs : List Hop) (u : ℕ) → hops b u ≡ hs → root_of b u ≡ r → ((h : Hop) → IsAmongHops h hs → opens_hop cs h ≡ true)
+      → Joins b s u hs
   joins [] u at root_u all =
       let is_root : root_of b u ≡ u = ap (λ (xs : List Hop). end_of u xs) at in
       inl (inr (subst (λ (i : ℕ). IsOver b i s) (rooted ∙ sym root_u ∙ is_root) (tree.root_over s)))
@@ -188,12 +197,15 @@ module _ (b : BoardView) (tree : IsTree b) (v : Slots) (r s : ℕ) (cs : List Ch
       ]
 
   -- what is joined lies along the message's bus, or is aside of it
-  pub joined_may : (ds : List TargetState) (hs : List Node) (busy : Bool) (u : ℕ) → is_joined (world_of b r cs ds hs busy) u ≡ true → MayJoin b s u
+  pub joined_may : (ds : List TargetState) (hs : List Node) (busy : Bool) (u : ℕ) → is_joined (world_of b r cs ds hs busy) u ≡ true
+      → MayJoin b s u
   joined_may ds hs busy u e =
       let root_u : root_of b u ≡ r = eqb-true (root_of b u) r (and_left (eqb (root_of b u) r) (list_all (opens_hop cs) (hops b u)) e) in
-      elim (joins (hops b u) u refl root_u (λ h a. all_among (opens_hop cs) (hops b u) h (and_right (eqb (root_of b u) r) (list_all (opens_hop cs) (hops b u)) e) a)) [
+      elim (joins (hops b u) u refl root_u
+      (λ h a. all_among (opens_hop cs) (hops b u) h (and_right (eqb (root_of b u) r) (list_all (opens_hop cs) (hops b u)) e) a)) [
         | inl along ↦ inl along
-        | inr kept ↦ inr (ap (λ (t : Bool). t && list_any (is_kept_hop b s) (hops b u)) (eq-eqb (root_of b u) (root_of b s) (root_u ∙ sym rooted)) ∙ kept)
+        | inr kept ↦ inr (ap (λ (t : Bool). t && list_any (is_kept_hop b s) (hops b u))
+            (eq-eqb (root_of b u) (root_of b s) (root_u ∙ sym rooted)) ∙ kept)
       ]
 
 -- A CONTROL MESSAGE: the chip alone has its address among what may be joined on its bus
@@ -226,12 +238,14 @@ among_is g (h ∷ hs) a =
     ]
 
 -- the hops over a bus of a path are hops of that path
-crosses_up : (b : BoardView) → IsTree b → (m : ℕ) (hs : List Hop) (s t : ℕ) → hops b s ≡ hs → Crosses t hs → crosses_mux m (hops b t) ≡ true → crosses_mux m hs ≡ true
+crosses_up : (b : BoardView) → IsTree b → (m : ℕ) (hs : List Hop) (s t : ℕ) → hops b s ≡ hs → Crosses t hs → crosses_mux m (hops b t) ≡ true
+    → crosses_mux m hs ≡ true
 crosses_up b tree m [] s t at c e = absurd c
 crosses_up b tree m (h ∷ hs) s t at c e =
     let tail : hops b h.on ≡ hs = tree.tail s h hs at in
     elim c [
-      | inl here ↦ ap (λ (u : Bool). eqb h.mux m || u) (ap (λ (xs : List Hop). crosses_mux m xs) (sym tail ∙ ap (λ (i : ℕ). hops b i) here) ∙ e) ∙ or-true (eqb h.mux m)
+      | inl here ↦ ap (λ (u : Bool). eqb h.mux m || u) (ap (λ (xs : List Hop). crosses_mux m xs) (sym tail ∙ ap (λ (i : ℕ). hops b i) here)
+          ∙ e) ∙ or-true (eqb h.mux m)
       | inr more ↦ ap (λ (u : Bool). eqb h.mux m || u) (crosses_up b tree m hs h.on t tail more e) ∙ or-true (eqb h.mux m)
     ]
 
@@ -254,11 +268,14 @@ root_over b tree s t over =
     ]
 
 -- what is aside of a bus has the address of nothing on that bus's path
-pub aside_apart : (b : BoardView) → IsTree b → (s a : ℕ) (x y : Node) → addr_of b x ≡ Some a → addr_of b y ≡ Some a → is_aside b s (home_of b x) ≡ true → IsOver b (home_of b y) s → ⊥
+pub aside_apart : (b : BoardView) → IsTree b → (s a : ℕ) (x y : Node) → addr_of b x ≡ Some a → addr_of b y ≡ Some a
+    → is_aside b s (home_of b x) ≡ true → IsOver b (home_of b y) s → ⊥
 aside_apart b tree s a x y of_x of_y aside over =
     let root : root_of b (home_of b x) ≡ root_of b s =
-    eqb-true (root_of b (home_of b x)) (root_of b s) (and_left (eqb (root_of b (home_of b x)) (root_of b s)) (list_any (is_kept_hop b s) (hops b (home_of b x))) aside) in
-    let g = kept_hop b s (hops b (home_of b x)) (and_right (eqb (root_of b (home_of b x)) (root_of b s)) (list_any (is_kept_hop b s) (hops b (home_of b x))) aside) in
+    eqb-true (root_of b (home_of b x)) (root_of b s)
+    (and_left (eqb (root_of b (home_of b x)) (root_of b s)) (list_any (is_kept_hop b s) (hops b (home_of b x))) aside) in
+    let g = kept_hop b s (hops b (home_of b x))
+    (and_right (eqb (root_of b (home_of b x)) (root_of b s)) (list_any (is_kept_hop b s) (hops b (home_of b x))) aside) in
     tree.aside g.0.mux x y a ((tree.hop (home_of b x) g.0 g.1).stays ∙ g.2) of_x of_y (root ∙ sym (root_over b tree s (home_of b y) over))
     (among_is g.0 (hops b (home_of b x)) g.1) (off_path b tree g.0.mux s (home_of b y) over g.3)
 

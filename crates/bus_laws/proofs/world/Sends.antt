@@ -40,7 +40,8 @@ nth_not_busy : (b : BoardView) (s : ℕ) (force : Bool) (ms : List Msg) (out : L
     → grant_of b s (nth_message (messages_from ms out) i).addr force ≡ grant.Busy → ⊥
 nth_not_busy b s force [] out i below none busy = absurd (omega arith)
 nth_not_busy b s force (m ∷ ms) out zero below none busy =
-    let f : true ≡ false = sym (busy_is (grant_of b s m.addr force) busy) ∙ (or_parts (is_busy (grant_of b s m.addr force)) (list_any (λ (x : Msg). is_busy (grant_of b s x.addr force)) ms) none).0 in cc
+    let f : true ≡ false = sym (busy_is (grant_of b s m.addr force) busy)
+    ∙ (or_parts (is_busy (grant_of b s m.addr force)) (list_any (λ (x : Msg). is_busy (grant_of b s x.addr force)) ms) none).0 in cc
 nth_not_busy b s force (m ∷ ms) out (suc i) below none busy =
     nth_not_busy b s force ms (drop (written_of m) out) i (omega arith)
     (or_parts (is_busy (grant_of b s m.addr force)) (list_any (λ (x : Msg). is_busy (grant_of b s x.addr force)) ms) none).1 busy
@@ -50,13 +51,15 @@ pub call_not_busy : (b : BoardView) (whose : TransferView) (bus : ℕ) (ms : Lis
     → grant_of b bus (message_of b (Call bus ms) left).addr whose.force ≡ grant.Busy → ⊥
 call_not_busy b whose bus ms left c =
     subst (λ (i : ℕ). grant_of b i (nth_message ms (length ms - 1 - left)).addr whose.force ≡ grant.Busy → ⊥) (sym c.same_bus)
-    (subst (λ (xs : List MessageView). grant_of b whose.bus (nth_message xs (length xs - 1 - left)).addr whose.force ≡ grant.Busy → ⊥) (sym c.same_messages)
+    (subst (λ (xs : List MessageView). grant_of b whose.bus (nth_message xs (length xs - 1 - left)).addr whose.force ≡ grant.Busy → ⊥)
+    (sym c.same_messages)
     (nth_not_busy b whose.bus whose.force whose.msgs whose.out (length (messages_of whose) - 1 - left)
     (let n : length (messages_of whose) ≡ length whose.msgs = length-messages whose.msgs whose.out in omega (arith, n, c.some_message))
     (refusal-none b whose c.not_refused).1))
 
 -- equal chips in one world are equal chips in all
-pub same_chip_in : (b : BoardView) (ws : ℕ → World) (r : ℕ) (new : World) → new.chips ≡ (ws r).chips → (m : ℕ) → chip_in b (changed_at ws r new) m ≡ chip_in b ws m
+pub same_chip_in : (b : BoardView) (ws : ℕ → World) (r : ℕ) (new : World) → new.chips ≡ (ws r).chips → (m : ℕ)
+    → chip_in b (changed_at ws r new) m ≡ chip_in b ws m
 same_chip_in b ws r new same m =
     elim (eqb_tells (root_of b (home_of_mux b m)) r) [
       | inl h ↦ ap (λ (t : Bool). slice_get (cond t new (ws (root_of b (home_of_mux b m)))).chips m) h.0
@@ -92,7 +95,8 @@ module _ (b : BoardView) (tree : IsTree b) (plain : IsPlainBoard b) (v : Slots) 
 
   abbrev Keeps : Job → ℕ → Type 0
   Keeps job left =
-      WorldTold b (after_job job left marks (Sent (sent_of job left).end (sent_of job left).bytes) v) (changed_at ws (root_of b (job_bus job)) (sent_of job left).now)
+      WorldTold b (after_job job left marks (Sent (sent_of job left).end (sent_of job left).bytes) v)
+      (changed_at ws (root_of b (job_bus job)) (sent_of job left).now)
       × CanSend b job left (Sent (sent_of job left).end (sent_of job left).bytes)
 
   call_kept : (bus : ℕ) (ms : List MessageView) (left : ℕ) → MaySend b whose (Call bus ms) left marks held v → Keeps (Call bus ms) left
@@ -100,8 +104,10 @@ module _ (b : BoardView) (tree : IsTree b) (plain : IsPlainBoard b) (v : Slots) 
       let same : (sent_of (Call bus ms) left).now.chips ≡ (ws (root_of b bus)).chips =
       ap (λ (u : World). (talk world_listener limit u (message_of b (Call bus ms) left) (is_last (Call bus ms) left) cut).now.chips)
       (world-is b tree plain v ws world bus (λ g a. (may.reached g a).0))
-      ∙ call-chips b tree (root_of b bus) bus (ws (root_of b bus)).chips (ws (root_of b bus)).devices (ws (root_of b bus)).hearing (ws (root_of b bus)).busy
-      (along_here b tree plain v ws world bus (λ g a. (may.reached g a).0)) whose.force limit (message_of b (Call bus ms) left) (is_last (Call bus ms) left) cut
+      ∙ call-chips b tree (root_of b bus) bus (ws (root_of b bus)).chips (ws (root_of b bus)).devices (ws (root_of b bus)).hearing
+      (ws (root_of b bus)).busy
+      (along_here b tree plain v ws world bus (λ g a. (may.reached g a).0)) whose.force limit (message_of b (Call bus ms) left)
+      (is_last (Call bus ms) left) cut
       (call_not_busy b whose bus ms left may.granted) (world.rest (root_of b bus)) in (
         world_replaced b v v ws (root_of b bus) (sent_of (Call bus ms) left).now world
             (talk_framed b (root_of b bus) limit (ws (root_of b bus)) (message_of b (Call bus ms) left) (is_last (Call bus ms) left) cut
@@ -119,33 +125,40 @@ module _ (b : BoardView) (tree : IsTree b) (plain : IsPlainBoard b) (v : Slots) 
   write_not_held : (h : Hop) (u : Bool) → is_arbitrator h.kind ≡ u → FindsSelect u h zero (v h.on) → IsHop b h → is_held b h.mux ≡ false
   write_not_held h true arb f hop =
       let s = mux_at b h.mux h.kind hop.kind in
-      let x = get_same_length (ws (root_of b (home_of_mux b h.mux))).chips b.muxes h.mux s.0 (world.count (root_of b (home_of_mux b h.mux))) s.1 in
+      let x = get_same_length (ws (root_of b (home_of_mux b h.mux))).chips b.muxes h.mux s.0
+      (world.count (root_of b (home_of_mux b h.mux))) s.1 in
       held-is b h.mux s.0 s.1
       ∙ ap (λ (n : ℕ). eqb n 8) (sym (foreign-is b h.mux s.0 s.1) ∙ (world.told.kept h.mux x.0 x.1).foreign)
       ∙ free_not_held x.0 (world.told.found h.on h x.0 f.0 x.1)
   write_not_held h false arb f hop = not_held b plain h.mux h.kind hop.kind arb
 
-  select_kept : (h : Hop) (left : ℕ) (t : Bool) → is_arbitrator h.kind ≡ t → MaySend b whose (Select h) left marks held v → Keeps (Select h) left
+  select_kept : (h : Hop) (left : ℕ) (t : Bool) → is_arbitrator h.kind ≡ t → MaySend b whose (Select h) left marks held v
+      → Keeps (Select h) left
   select_kept h zero t arb may =
       let hop : IsHop b h = tree.hop h.bus h may.finds.1 in
       let finds : FindsSelect t h zero (v h.on) = subst (λ (u : Bool). FindsSelect u h zero (v h.on)) arb may.finds.0 in
-      select-told b tree plain v ws world h.on h.mux h.kind hop.kind may.by_message hop.home (λ g a. (may.reached g a).0) held marks may.may_fail may.owns.1
-      (own_select t h zero (v h.on) finds) limit cut h refl refl refl (has_channel b plain h hop (tree.within h.bus h may.finds.2 may.finds.1))
+      select-told b tree plain v ws world h.on h.mux h.kind hop.kind may.by_message hop.home
+      (λ g a. (may.reached g a).0) held marks may.may_fail may.owns.1
+      (own_select t h zero (v h.on) finds) limit cut h refl refl refl
+      (has_channel b plain h hop (tree.within h.bus h may.finds.2 may.finds.1))
       (λ x at is_arb. world.told.found h.on h x (write_free h t finds (sym arb ∙ is_arb)) at)
       (write_not_held h t arb finds hop)
       (sent_of (Select h) zero).bytes
   select_kept h (suc n) true arb may =
       let hop : IsHop b h = tree.hop h.bus h may.finds.1 in
       let finds : FindsSelect true h (suc n) (v h.on) = subst (λ (u : Bool). FindsSelect u h (suc n) (v h.on)) arb may.finds.0 in
-      poll-told b tree plain v ws world h.on h.mux h.kind hop.kind may.by_message hop.home (λ g a. (may.reached g a).0) held marks may.may_fail may.owns.1
-      (own_poll h (suc n) (v h.on).slot finds.0) limit cut h refl refl refl (has_channel b plain h hop (tree.within h.bus h may.finds.2 may.finds.1)) arb n finds.0 finds.1
+      poll-told b tree plain v ws world h.on h.mux h.kind hop.kind may.by_message hop.home
+      (λ g a. (may.reached g a).0) held marks may.may_fail may.owns.1
+      (own_poll h (suc n) (v h.on).slot finds.0) limit cut h refl refl refl
+      (has_channel b plain h hop (tree.within h.bus h may.finds.2 may.finds.1)) arb n finds.0 finds.1
   select_kept h (suc n) false arb may =
       absurd (let f : FindsSelect false h (suc n) (v h.on) = subst (λ (u : Bool). FindsSelect u h (suc n) (v h.on)) arb may.finds.0 in
       let g : suc n ≡ 0 = f.0 in omega arith)
 
   off_kept : (off : Off) (left : ℕ) → MaySend b whose (SwitchOff off) left marks held v → Keeps (SwitchOff off) left
   off_kept off left may = (
-    close-told b tree plain v ws world (off_bus off) (off_mux off) (off_kind off) may.finds.2 may.by_message may.finds.1 (λ g a. (may.reached g a).0) held marks may.may_fail may.owns.1
+    close-told b tree plain v ws world (off_bus off) (off_mux off) (off_kind off) may.finds.2 may.by_message may.finds.1
+        (λ g a. (may.reached g a).0) held marks may.may_fail may.owns.1
         (own_open off (v (off_bus off)).slot may.finds.0) limit cut (sent_of (SwitchOff off) left).bytes,
     tt,
   )

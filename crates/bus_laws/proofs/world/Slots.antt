@@ -33,7 +33,8 @@ pub record Comes (b : BoardView) (p : ℕ) (x y : At) : Type 0 where
 abbrev pub MarksOnly : BoardView → Slots → Slots → Type 0
 MarksOnly b v w = (p : ℕ) → (w p ≡ v p) ⊎ Comes b p (v p) (w p)
 
-pub set_marks-only : (b : BoardView) (held : List LockId) (v : Slots) (ms : List Mark) → MayFail b ms held v → MarksOnly b v (set_marks ms v)
+pub set_marks-only : (b : BoardView) (held : List LockId) (v : Slots) (ms : List Mark) → MayFail b ms held v
+    → MarksOnly b v (set_marks ms v)
 set_marks-only b held v [] fail p = inl refl
 set_marks-only b held v (m ∷ ms) fail p =
     elim (eqb_tells p m.on) [
@@ -44,7 +45,8 @@ set_marks-only b held v (m ∷ ms) fail p =
         home = fail.0.at_home ∙ sym h.1;
         forgets = subst (λ (q : ℕ). IsOfMux m.mux (v q).slot) (sym h.1) fail.0.forgets;
       })
-      | inr h ↦ (let same : set_marks (m ∷ ms) v p ≡ set_marks ms v p = changed-other (set_marks ms v) m.on p (turned_at (v m.on) m.mux (Marked m.mux) None) h.1 in
+      | inr h ↦ (let same : set_marks (m ∷ ms) v p ≡ set_marks ms v p = changed-other (set_marks ms v) m.on p
+          (turned_at (v m.on) m.mux (Marked m.mux) None) h.1 in
           elim (set_marks-only b held v ms fail.1 p) [
             | inl e ↦ inl (same ∙ e)
             | inr f ↦ inr (record { mux = f.mux; is = same ∙ f.is; home = f.home; forgets = f.forgets })
@@ -67,7 +69,8 @@ told-marks b v w chips marks told =
       kept = told.kept;
       opened = λ m c e. elim (marks (home_of_mux b m)) [
         | inl same ↦ told.opened m c (kept_same (v (home_of_mux b m)) (w (home_of_mux b m)) m (Some c) same e)
-        | inr mark ↦ (let now : changed_at (v (home_of_mux b m)).kept mark.mux None m ≡ Some c = sym (ap (λ (z : At). z.kept m) mark.is) ∙ e in
+        | inr mark ↦ (let now : changed_at (v (home_of_mux b m)).kept mark.mux None m ≡ Some c = sym (ap (λ (z : At). z.kept m) mark.is)
+            ∙ e in
             elim (eqb_tells m mark.mux) [
               | inl q ↦ absurd (let f : None ≡ Some c = sym (kept_own (v (home_of_mux b m)).kept mark.mux m None q.1) ∙ now in cc)
               | inr q ↦ told.opened m c (sym (kept_other (v (home_of_mux b m)).kept mark.mux m None q.1) ∙ now)
@@ -107,8 +110,10 @@ abbrev pub Turns : (ℕ → Option ChipView) → (ℕ → Option ChipView) → �
 Turns old new k f = (m : ℕ) → new m ≡ option_map (λ (x : ChipView). cond (eqb m k) (f x) x) (old m)
 
 -- what the chip of mux k, changed by f, has to do with what is known of it afterwards: its channel, and the slot of its bus
-pub record MuxTold (b : BoardView) (old : ℕ → Option ChipView) (k : ℕ) (f : ChipView → ChipView) (s : MuxSlot) (now : Option ℕ) : Type 0 where
-  pub opened : (c : ℕ) → now ≡ Some c → (x : ChipView) × (old k ≡ Some x) × (is_open (f x) c ≡ true) × (is_absent b k ≡ false) × (is_held b k ≡ false)
+pub record MuxTold (b : BoardView) (old : ℕ → Option ChipView) (k : ℕ) (f : ChipView → ChipView) (s : MuxSlot)
+    (now : Option ℕ) : Type 0 where
+  pub opened : (c : ℕ) → now ≡ Some c
+      → (x : ChipView) × (old k ≡ Some x) × (is_open (f x) c ≡ true) × (is_absent b k ≡ false) × (is_held b k ≡ false)
   pub polled : (h : Hop) (n : ℕ) → s ≡ Polled h n → (h.mux ≡ k) × ((x : ChipView) → old k ≡ Some x → ((f x).left ≤ n) ⊎ ((f x).foreign ≡ 8))
   pub found : (h : Hop) → s ≡ Found h → (h.mux ≡ k) × ((x : ChipView) → old k ≡ Some x → is_free (f x) ≡ true)
   pub only : (c : ℕ) (x : ChipView) → old k ≡ Some x → is_open (f x) c ≡ true → (now ≡ Some c) ⊎ (s ≡ Marked k)
@@ -124,7 +129,8 @@ turned_chip None f y e = absurd (let g : None ≡ Some y = e in cc)
 turned_chip (Some x) f y e = (x, refl, (let g : Some (f x) ≡ Some y = e in cc))
 
 module _ (b : BoardView) (v w : Slots) (old new : ℕ → Option ChipView) (k : ℕ) (f : ChipView → ChipView) (s : MuxSlot) (now : Option ℕ)
-    (turns : Turns old new k f) (here : w (home_of_mux b k) ≡ turned_at (v (home_of_mux b k)) k s now) (others : (p : ℕ) → (p ≡ home_of_mux b k → ⊥) → w p ≡ v p)
+    (turns : Turns old new k f) (here : w (home_of_mux b k) ≡ turned_at (v (home_of_mux b k)) k s now) (others : (p : ℕ)
+    → (p ≡ home_of_mux b k → ⊥) → w p ≡ v p)
     (was : IsOfMux k (v (home_of_mux b k)).slot) (sort : (x : ChipView) → old k ≡ Some x → SameSort x (f x))
     (slot : MuxTold b old k f s now) (told : ChipsTold b v old) where
   new_other : (m : ℕ) → (m ≡ k → ⊥) → new m ≡ old m
@@ -160,7 +166,8 @@ module _ (b : BoardView) (v w : Slots) (old new : ℕ → Option ChipView) (k : 
   -- what is known of another mux is what was known
   kept_still : (m : ℕ) (c : Option ℕ) → (m ≡ k → ⊥) → (w (home_of_mux b m)).kept m ≡ c → (v (home_of_mux b m)).kept m ≡ c
   kept_still m c ne e = elim (eqb_tells (home_of_mux b m) (home_of_mux b k)) [
-    | inl q ↦ ap (λ (i : ℕ). (v i).kept m) q.1 ∙ sym (kept_other (v (home_of_mux b k)).kept k m now ne) ∙ sym (ap (λ (z : At). z.kept m) here)
+    | inl q ↦ ap (λ (i : ℕ). (v i).kept m) q.1 ∙ sym (kept_other (v (home_of_mux b k)).kept k m now ne)
+        ∙ sym (ap (λ (z : At). z.kept m) here)
         ∙ ap (λ (i : ℕ). (w i).kept m) (sym q.1) ∙ e
     | inr q ↦ ap (λ (z : At). z.kept m) (sym (others (home_of_mux b m) q.1)) ∙ e
   ]
@@ -227,7 +234,8 @@ module _ (b : BoardView) (v w : Slots) (old new : ℕ → Option ChipView) (k : 
           | inr q ↦ elim (told.only m c y (sym (new_other m q.1) ∙ at) opens) [
             | inl keeps ↦ inl (kept_back m (Some c) q.1 keeps)
             | inr mark ↦ elim (eqb_tells (home_of_mux b m) (home_of_mux b k)) [
-              | inl same ↦ absurd (q.1 (sym (of_marked k m (v (home_of_mux b k)).slot was (ap (λ (i : ℕ). (v i).slot) (sym same.1) ∙ mark))))
+              | inl same ↦ absurd (q.1 (sym (of_marked k m (v (home_of_mux b k)).slot was (ap (λ (i : ℕ). (v i).slot) (sym same.1)
+                  ∙ mark))))
               | inr far ↦ inr (ap (λ (z : At). z.slot) (others (home_of_mux b m) far.1) ∙ mark)
             ]
           ]

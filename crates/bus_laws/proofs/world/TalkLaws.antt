@@ -72,7 +72,8 @@ module _ {W : Type 0} (l : Listener W) (P : W → List PortCall → Type 0) (R :
       (λ u hu. ended_ends cut true (with_byte u (l.gives s.now)) end.Proto tt hu))
       (gets_ends cut last (l.gives t.now + len - 1) (with_byte s (l.gives t.now)) hs))
 
-  answer_ends : (cut : Option ℕ) (last : Bool) (limit : ℕ) (m : MessageView) (a : Answer) (t : Said W) → P t.now t.calls → Ended (by_answer l cut last limit m a t)
+  answer_ends : (cut : Option ℕ) (last : Bool) (limit : ℕ) (m : MessageView) (a : Answer) (t : Said W) → P t.now t.calls
+      → Ended (by_answer l cut last limit m a t)
   answer_ends cut last limit m answer.Ack t h =
       cond_ends m.reading
       (cond m.counted (gets_counted l cut last limit m.len t) (gets l cut last m.len t)) (puts l cut last m.bytes t)
@@ -85,7 +86,8 @@ module _ {W : Type 0} (l : Listener W) (P : W → List PortCall → Type 0) (R :
   answer_ends cut last limit m answer.Nothing t h = ended_ends cut true t end.Nack tt h
 
   pub talk-ends : (limit : ℕ) (w : W) (m : MessageView) (last : Bool) (cut : Option ℕ)
-      → R (l.after w call.Fault) (call.Fault ∷ []) (end.Cut 0) → P (l.after w (call.Start m.addr m.reading)) (call.Start m.addr m.reading ∷ []) → Ended (talk l limit w m last cut)
+      → R (l.after w call.Fault) (call.Fault ∷ []) (end.Cut 0)
+      → P (l.after w (call.Start m.addr m.reading)) (call.Start m.addr m.reading ∷ []) → Ended (talk l limit w m last cut)
   talk-ends limit w m last cut fault start =
       cond_ends (is_it cut 0) (told (say l (silence w) call.Fault) (end.Cut 0))
       (by_answer l cut last limit m (l.answer w m.addr m.reading) (say l (silence w) (call.Start m.addr m.reading)))
@@ -104,9 +106,11 @@ made_later call.Fault made = tt
 pub talk-tells : {W : Type 0} (l : Listener W) (P : W → List PortCall → Type 0)
     → ((u : W) (cs : List PortCall) (c : PortCall) → IsLater c → P u cs → P (l.after u c) (c ∷ cs))
     → (limit : ℕ) (w : W) (m : MessageView) (last : Bool) (cut : Option ℕ)
-    → P (l.after w call.Fault) (call.Fault ∷ []) → P (l.after w (call.Start m.addr m.reading)) (call.Start m.addr m.reading ∷ []) → P (talk l limit w m last cut).now (talk l limit w m last cut).calls
+    → P (l.after w call.Fault) (call.Fault ∷ []) → P (l.after w (call.Start m.addr m.reading)) (call.Start m.addr m.reading ∷ [])
+    → P (talk l limit w m last cut).now (talk l limit w m last cut).calls
 talk-tells l P keeps limit w m last cut fault start =
-    talk-ends l P (λ u cs e. P u cs) (λ u cs c made h. keeps u cs c (made_later c made) h) (λ u cs h. keeps u cs call.Fault tt h) (λ u cs e own h. h) limit w m last cut fault start
+    talk-ends l P (λ u cs e. P u cs) (λ u cs c made h. keeps u cs c (made_later c made) h) (λ u cs h. keeps u cs call.Fault tt h)
+    (λ u cs e own h. h) limit w m last cut fault start
 
 -- the same for a fact about the listener alone
 pub talk-keeps : {W : Type 0} (l : Listener W) (P : W → Type 0) → ((u : W) (c : PortCall) → IsLater c → P u → P (l.after u c))

@@ -47,7 +47,8 @@ use Rattle.flat_laws.proofs.device.Stand.{IsDueWith, IsInsideWith, DevicesStand,
 use Rattle.std.proofs.lemmas.Option.{same_Some}
 
 -- a message of a caller's is followed by the next where it went through
-goes_good : (bus : ℕ) (ms : List MessageView) (left : ℕ) (e : End) (bytes : List ℕ) → is_on (goes (Call bus ms) left (Sent e bytes)) ≡ is_good e
+goes_good : (bus : ℕ) (ms : List MessageView) (left : ℕ) (e : End) (bytes : List ℕ)
+    → is_on (goes (Call bus ms) left (Sent e bytes)) ≡ is_good e
 goes_good bus ms left end.Ok bytes = refl
 goes_good bus ms left end.Nack bytes = refl
 goes_good bus ms left end.Slow bytes = refl
@@ -56,7 +57,8 @@ goes_good bus ms left end.Proto bytes = refl
 goes_good bus ms left (end.Cut q) bytes = refl
 
 -- the first message of a transfer
-said_first : (b : BoardView) (ahead : List TargetState) (t : TransferView) (w : World) (got : List ℕ) (left : ℕ) → 0 < length t.msgs → left ≡ length (messages_of t) - 1 → got ≡ []
+said_first : (b : BoardView) (ahead : List TargetState) (t : TransferView) (w : World) (got : List ℕ) (left : ℕ) → 0 < length t.msgs
+    → left ≡ length (messages_of t) - 1 → got ≡ []
     → Same b (root_of b t.bus) w (idle ahead) → IsSaid b ahead t w got left
 said_first b ahead t w got left some at none same = by (messages_of t) refl
   where
@@ -70,24 +72,40 @@ said_first b ahead t w got left some at none same = by (messages_of t) refl
           next = m;
           rest = ms;
           all = all;
-          so_many = (let f : length (messages_of t) ≡ suc (length ms) = ap (λ (xs : List MessageView). length xs) all in omega (arith, at, f));
+          so_many = (let f : length (messages_of t) ≡ suc (length ms) = ap (λ (xs : List MessageView). length xs) all in
+              omega (arith, at, f));
           good = refl;
           read = none;
           same = same;
         }
 
-module _ (b : BoardView) (tree : IsTree b) (plain : IsPlainBoard b) (lines : LinesAreLocked b) (asks : Asks) (some : AsksForMessages asks) (limits : AsksWithinLimits asks) (callers : ℕ)
+module _ (b : BoardView) (tree : IsTree b) (plain : IsPlainBoard b) (lines : LinesAreLocked b) (asks : Asks) (some : AsksForMessages asks)
+    (limits : AsksWithinLimits asks) (callers : ℕ)
     (past : List Entry) (steps : IsStepwise b callers asks past) (h : History) (s : DevicesStand b asks (now b asks past) h) where
   abbrev n : Now
   n = now b asks past
 
   -- A MESSAGE OF THE CALLER'S
-  module _ (d : ℕ) (t : TransferView) (asked : asks d (n.settled d) ≡ Some t) (accepted : refusal b t ≡ None) (left : ℕ) (none : n.due ≡ None)
+  module _ (d : ℕ) (t : TransferView) (asked : asks d (n.settled d) ≡ Some t) (accepted : refusal b t ≡ None) (left : ℕ)
+      (none : n.due ≡ None)
       (next : IsNext b asks n d (Send (Call t.bus (messages_of t)) left))
-      (leads : LeadsTo (n.worlds (root_of b t.bus)) (message_of b (Call t.bus (messages_of t)) left).addr (granted_on b t.bus t.force (message_of b (Call t.bus (messages_of t)) left).addr))
+      (leads : LeadsTo (n.worlds (root_of b t.bus)) (message_of b (Call t.bus (messages_of t)) left).addr
+      (granted_on b t.bus t.force (message_of b (Call t.bus (messages_of t)) left).addr))
       (through : LetThrough b (hops b t.bus))
       (bus : ℕ) (purpose_is : Purpose) (part parts addr : ℕ) (reading : Bool) (bytes : List ℕ) (heard : _) (e : End)
-      (tells : TellsMessage b n (Call t.bus (messages_of t)) left (record { caller = d; bus = bus; purpose = purpose_is; part = part; parts = parts; addr = addr; reading = reading; bytes = bytes; heard = heard; end = e })) where
+      (tells : TellsMessage b n (Call t.bus (messages_of t)) left
+      (record {
+        caller = d;
+        bus = bus;
+        purpose = purpose_is;
+        part = part;
+        parts = parts;
+        addr = addr;
+        reading = reading;
+        bytes = bytes;
+        heard = heard;
+        end = e;
+      })) where
     abbrev root : ℕ
     root = root_of b t.bus
 
@@ -98,24 +116,28 @@ module _ (b : BoardView) (tree : IsTree b) (plain : IsPlainBoard b) (lines : Lin
     x = entry.Message d bus purpose_is part parts addr reading bytes heard e
 
     abbrev m : Now
-    m = with_due d (moved b asks n (sent b n d job left (first_note (current b asks n d)) reading bytes e (talk_of b n job left e)) d x (Sent e bytes))
+    m = with_due d (moved b asks n (sent b n d job left (first_note (current b asks n d)) reading bytes e (talk_of b n job left e)) d x
+        (Sent e bytes))
 
     said_now : IsSaid b s.ahead t (n.worlds root) (n.got d) left
     said_now = by_inside (n.inside root) refl
       where
         by_inside : (o : Option ℕ) → n.inside root ≡ o → IsSaid b s.ahead t (n.worlds root) (n.got d) left
         by_inside None out =
-            elim (call_first b tree plain lines asks some callers past steps (past-stage b tree plain lines asks some callers past steps) d t.bus (messages_of t) left none next) [
+            elim (call_first b tree plain lines asks some callers past steps
+            (past-stage b tree plain lines asks some callers past steps) d t.bus (messages_of t) left none next) [
               | inl is ↦ absurd (let f : None ≡ Some d = sym out ∙ is in cc)
               | inr f ↦ said_first b s.ahead t (n.worlds root) (n.got d) left (some d (n.settled d) t asked) f.0 f.1 (s.rest root out)
             ]
         by_inside (Some c) is =
             let own = own_call b tree plain lines asks some callers past steps c root d job left is next refl in
-            let i : IsInsideWith b asks n s.ahead root d = subst (λ (k : ℕ). IsInsideWith b asks n s.ahead root k) (sym own.0) (s.said root c is) in
+            let i : IsInsideWith b asks n s.ahead root d = subst (λ (k : ℕ). IsInsideWith b asks n s.ahead root k) (sym own.0)
+            (s.said root c is) in
             let same : i.whose ≡ t = same_Some i.whose t (sym i.asked ∙ asked) in
             let act : Send job left ≡ Send (Call i.whose.bus (messages_of i.whose)) i.left =
             same_Some (Send job left) (Send (Call i.whose.bus (messages_of i.whose)) i.left)
-            (sym next ∙ goes_on_from n.slot (begun b (asks d (n.settled d))) (n.walk d) (Send (Call i.whose.bus (messages_of i.whose)) i.left) i.sends) in
+            (sym next ∙ goes_on_from n.slot (begun b (asks d (n.settled d))) (n.walk d)
+            (Send (Call i.whose.bus (messages_of i.whose)) i.left) i.sends) in
             let as_many : i.left ≡ left = (let f : Send job left ≡ Send (Call i.whose.bus (messages_of i.whose)) i.left = act in cc) in
             subst (λ (k : ℕ). IsSaid b s.ahead t (n.worlds root) (n.got d) k) as_many
             (subst (λ (y : TransferView). IsSaid b s.ahead y (n.worlds root) (n.got d) i.left) same i.said)
@@ -130,7 +152,8 @@ module _ (b : BoardView) (tree : IsTree b) (plain : IsPlainBoard b) (lines : Lin
     fits = message-bytes t.msgs t.out (limits d (n.settled d) t asked).bytes said_now.before said_now.next said_now.rest said_now.all
 
     at_part : part - 1 ≡ length said_now.before
-    at_part = ap (λ (k : ℕ). k - 1) tells.as_part ∙ part-next (messages_of t) said_now.before said_now.next said_now.rest left said_now.all said_now.so_many
+    at_part = ap (λ (k : ℕ). k - 1) tells.as_part
+        ∙ part-next (messages_of t) said_now.before said_now.next said_now.rest left said_now.all said_now.so_many
 
     abbrev told : TalkTold World
     told = talk world_listener (block_limit b) (n.worlds root) said_now.next (eqb left 0) (cut_of e)
@@ -163,9 +186,12 @@ module _ (b : BoardView) (tree : IsTree b) (plain : IsPlainBoard b) (lines : Lin
         → (r c : ℕ) → (r ≡ root → ⊥) → m.inside r ≡ Some c → IsInsideWith b asks m ahead r c
     other_said ahead same r c ne is =
         let before : n.inside r ≡ Some c = sym (inside_other r ne) ∙ is in
-        let other : c ≡ d → ⊥ = other_caller b tree plain lines asks some callers past steps (past-inside b tree plain lines asks some callers past steps) r c d (Send job left) before next
-        (λ s2 ms k f root_is. ne (sym root_is ∙ ap (λ (i : ℕ). root_of b i) (let g : Send job left ≡ Send (Call s2 ms) k = f in let i : s2 ≡ t.bus = cc in i))) in
-        inside_stays b asks tree n m s.ahead ahead r c (s.said r c before) (at_other n.walk d (rest_of (current b asks n d) (Sent e bytes)) c other) refl
+        let other : c ≡ d → ⊥ = other_caller b tree plain lines asks some callers past steps
+        (past-inside b tree plain lines asks some callers past steps) r c d (Send job left) before next
+        (λ s2 ms k f root_is. ne (sym root_is
+        ∙ ap (λ (i : ℕ). root_of b i) (let g : Send job left ≡ Send (Call s2 ms) k = f in let i : s2 ≡ t.bus = cc in i))) in
+        inside_stays b asks tree n m s.ahead ahead r c (s.said r c before)
+        (at_other n.walk d (rest_of (current b asks n d) (Sent e bytes)) c other) refl
         (at_other n.got d (got_after job reading bytes (n.got d)) c other) (world_other r ne) (λ k own. same r k ne own)
 
     goes_next : CallGoesOn t.bus (messages_of t) left (Sent e bytes) (rest_of (current b asks n d) (Sent e bytes))
@@ -184,11 +210,13 @@ module _ (b : BoardView) (tree : IsTree b) (plain : IsPlainBoard b) (lines : Lin
           due = λ c z. absurd (let f : None ≡ Some c = sym (ap (λ (o : Option Act). cond (is_due o) (Some d) None) sends) ∙ z in cc);
           rest = λ r out. elim (eqb_tells r root) [
             | inl same ↦ absurd (let f : None ≡ Some d = sym out ∙ ap (λ (i : ℕ). m.inside i) same.1 ∙ inside_here in cc)
-            | inr ne ↦ subst (λ (w : World). Same b r w (idle s.ahead)) (sym (world_other r ne.1)) (s.rest r (sym (inside_other r ne.1) ∙ out))
+            | inr ne ↦ subst (λ (w : World). Same b r w (idle s.ahead)) (sym (world_other r ne.1))
+                (s.rest r (sym (inside_other r ne.1) ∙ out))
           ];
           said = λ r c is_in. elim (eqb_tells r root) [
             | inl same ↦ subst (λ (i : ℕ). IsInsideWith b asks m s.ahead i c) (sym same.1)
-                (subst (λ (i : ℕ). IsInsideWith b asks m s.ahead root i) (same_Some d c (sym inside_here ∙ ap (λ (i : ℕ). m.inside i) (sym same.1) ∙ is_in)) said_here)
+                (subst (λ (i : ℕ). IsInsideWith b asks m s.ahead root i)
+                (same_Some d c (sym inside_here ∙ ap (λ (i : ℕ). m.inside i) (sym same.1) ∙ is_in)) said_here)
             | inr ne ↦ other_said s.ahead (λ k i apart own. refl) r c ne.1 is_in
           ];
         }
@@ -196,13 +224,17 @@ module _ (b : BoardView) (tree : IsTree b) (plain : IsPlainBoard b) (lines : Lin
         inside_here : m.inside root ≡ Some d
         inside_here =
             at_same n.inside root (inside_after job left (Sent e bytes) d (n.inside root))
-            ∙ ap (λ (z : Bool). cond z None (cond (is_on (goes job left (Sent e bytes))) (Some d) None)) (eqb-apart left 0 (λ f. absurd (omega (arith, f, is))))
+            ∙ ap (λ (z : Bool). cond z None (cond (is_on (goes job left (Sent e bytes))) (Some d) None))
+            (eqb-apart left 0 (λ f. absurd (omega (arith, f, is))))
             ∙ ap (λ (z : Bool). cond z (Some d) None) (goes_good t.bus (messages_of t) left e bytes ∙ good)
 
         sends : first_act (m.walk d) ≡ Some (Send job l)
         sends =
-            ap (λ (w : WalkTree). first_act w) walk_now ∙ subst (λ (k : ℕ). CallGoesOn t.bus (messages_of t) k (Sent e bytes) (rest_of (current b asks n d) (Sent e bytes))) is goes_next
-            ∙ ap (λ (z : Bool). Some (cond z (Send job l) (Settle (verdict_of job (suc l) (Sent e bytes))))) (goes_good t.bus (messages_of t) l e bytes ∙ good)
+            ap (λ (w : WalkTree). first_act w) walk_now
+            ∙ subst (λ (k : ℕ). CallGoesOn t.bus (messages_of t) k (Sent e bytes) (rest_of (current b asks n d) (Sent e bytes))) is
+            goes_next
+            ∙ ap (λ (z : Bool). Some (cond z (Send job l) (Settle (verdict_of job (suc l) (Sent e bytes)))))
+            (goes_good t.bus (messages_of t) l e bytes ∙ good)
 
         said_here : IsInsideWith b asks m s.ahead root d
         said_here =
@@ -214,7 +246,8 @@ module _ (b : BoardView) (tree : IsTree b) (plain : IsPlainBoard b) (lines : Lin
               sends = sends;
               said = subst (λ (w : World). IsSaid b s.ahead t w (m.got d) l) (sym world_now)
                   (subst (λ (xs : List ℕ). IsSaid b s.ahead t told.now xs l) (sym got_now)
-                  (said-more b s.ahead t (n.worlds root) (n.got d) left said_now leads_next fits part at_part e bytes end_told bytes_told l is good));
+                  (said-more b s.ahead t (n.worlds root)
+                  (n.got d) left said_now leads_next fits part at_part e bytes end_told bytes_told l is good));
             }
 
     -- the transfer ends with it: its settle is due
@@ -230,7 +263,8 @@ module _ (b : BoardView) (tree : IsTree b) (plain : IsPlainBoard b) (lines : Lin
           at_same n.inside root (inside_after job left (Sent e bytes) d (n.inside root))
           ∙ elim over [
             | inl last ↦ ap (λ (z : Bool). cond z None (cond (is_on (goes job left (Sent e bytes))) (Some d) None)) last
-            | inr bad ↦ ap (λ (z : Bool). cond (eqb left 0) None (cond z (Some d) None)) (goes_good t.bus (messages_of t) left e bytes ∙ bad) ∙ both (eqb left 0) None
+            | inr bad ↦ ap (λ (z : Bool). cond (eqb left 0) None (cond z (Some d) None)) (goes_good t.bus (messages_of t) left e bytes
+                ∙ bad) ∙ both (eqb left 0) None
           ]
         where
           both : (z : Bool) (o : Option ℕ) → cond z o o ≡ o
@@ -240,18 +274,21 @@ module _ (b : BoardView) (tree : IsTree b) (plain : IsPlainBoard b) (lines : Lin
       settles_here : first_act (m.walk d) ≡ Some (Settle (verdict_of job left (Sent e bytes)))
       settles_here = ap (λ (w : WalkTree). first_act w) walk_now ∙ by left goes_next over
         where
-          by : (k : ℕ) → CallGoesOn t.bus (messages_of t) k (Sent e bytes) (rest_of (current b asks n d) (Sent e bytes)) → EndsTransfer (eqb k 0) e
+          by : (k : ℕ) → CallGoesOn t.bus (messages_of t) k (Sent e bytes) (rest_of (current b asks n d) (Sent e bytes))
+              → EndsTransfer (eqb k 0) e
               → first_act (rest_of (current b asks n d) (Sent e bytes)) ≡ Some (Settle (verdict_of job k (Sent e bytes)))
           by zero goes_on ends = goes_on
           by (suc l) goes_on ends =
               elim ends [
                 | inl last ↦ absurd (let f : false ≡ true = sym (eqb-apart (suc l) 0 (λ f. absurd (omega (arith, f)))) ∙ last in cc)
-                | inr bad ↦ goes_on ∙ ap (λ (z : Bool). Some (cond z (Send job l) (Settle (verdict_of job (suc l) (Sent e bytes))))) (goes_good t.bus (messages_of t) l e bytes ∙ bad)
+                | inr bad ↦ goes_on ∙ ap (λ (z : Bool). Some (cond z (Send job l) (Settle (verdict_of job (suc l) (Sent e bytes)))))
+                    (goes_good t.bus (messages_of t) l e bytes ∙ bad)
               ]
 
       flat_is : flat b s.ahead t (message_cut purpose.Call part e) ≡ record { reply = or_done (errno_of e) t now_got; states = after }
       flat_is =
-          said-whole b s.ahead t (n.worlds root) (n.got d) left said_now leads_next fits part at_part e bytes end_told bytes_told over (call-clear b t accepted through part e)
+          said-whole b s.ahead t (n.worlds root) (n.got d) left said_now leads_next fits part at_part e bytes end_told bytes_told over
+          (call-clear b t accepted through part e)
 
       due_here : IsDueWith b asks m h after d
       due_here =
@@ -260,7 +297,8 @@ module _ (b : BoardView) (tree : IsTree b) (plain : IsPlainBoard b) (lines : Lin
             asked = asked;
             verdict = verdict_of job left (Sent e bytes);
             settles = settles_here;
-            told = ap (λ (y : Cut). flat b h.states t y) (at_same n.cut d (cut_told x) ∙ ap (λ (p : Purpose). message_cut p part e) tells.for_purpose)
+            told = ap (λ (y : Cut). flat b h.states t y) (at_same n.cut d (cut_told x)
+                ∙ ap (λ (p : Purpose). message_cut p part e) tells.for_purpose)
                 ∙ ap (λ (xs : List TargetState). flat b xs t (message_cut purpose.Call part e)) (sym (s.free none))
                 ∙ flat_is
                 ∙ ap (λ (xs : List ℕ). told_by (or_done (errno_of e) t xs) after) (sym got_now)
@@ -280,12 +318,15 @@ module _ (b : BoardView) (tree : IsTree b) (plain : IsPlainBoard b) (lines : Lin
           record {
             ahead = after;
             replies = s.replies;
-            free = λ z. absurd (let f : Some d ≡ None = sym (ap (λ (o : Option Act). cond (is_due o) (Some d) None) settles_here) ∙ z in cc);
-            due = λ c z. subst (λ (i : ℕ). IsDueWith b asks m h after i) (same_Some d c (sym (ap (λ (o : Option Act). cond (is_due o) (Some d) None) settles_here) ∙ z)) due_here;
+            free = λ z. absurd (let f : Some d ≡ None = sym (ap (λ (o : Option Act). cond (is_due o) (Some d) None) settles_here) ∙ z in
+                cc);
+            due = λ c z. subst (λ (i : ℕ). IsDueWith b asks m h after i)
+                (same_Some d c (sym (ap (λ (o : Option Act). cond (is_due o) (Some d) None) settles_here) ∙ z)) due_here;
             rest = λ r out. elim (eqb_tells r root) [
               | inl same ↦ subst (λ (i : ℕ). Same b i (m.worlds i) (idle after)) (sym same.1)
                   (subst (λ (w : World). Same b root w (idle after)) (sym world_now)
-                  (same-whole b s.ahead t (n.worlds root) (n.got d) left said_now leads_next fits part at_part e bytes end_told bytes_told over))
+                  (same-whole b s.ahead t (n.worlds root)
+                  (n.got d) left said_now leads_next fits part at_part e bytes end_told bytes_told over))
               | inr ne ↦ same-elsewhere b r (m.worlds r) s.ahead after
                   (subst (λ (w : World). Same b r w (idle s.ahead)) (sym (world_other r ne.1)) (s.rest r (sym (inside_other r ne.1) ∙ out)))
                   (λ k own. sym (elsewhere r k ne.1 own))

@@ -44,34 +44,67 @@ use Rattle.flat_laws.proofs.device.Stand.{IsDueWith, DevicesStand, stands_still,
 use Rattle.flat_laws.proofs.device.Calls.{call_stands}
 use Rattle.std.proofs.lemmas.Option.{same_Some}
 
-module _ (b : BoardView) (tree : IsTree b) (plain : IsPlainBoard b) (lines : LinesAreLocked b) (asks : Asks) (some : AsksForMessages asks) (limits : AsksWithinLimits asks) (callers : ℕ)
+module _ (b : BoardView) (tree : IsTree b) (plain : IsPlainBoard b) (lines : LinesAreLocked b) (asks : Asks) (some : AsksForMessages asks)
+    (limits : AsksWithinLimits asks) (callers : ℕ)
     (past : List Entry) (steps : IsStepwise b callers asks past) (h : History) (s : DevicesStand b asks (now b asks past) h) where
   abbrev n : Now
   n = now b asks past
 
   -- A MESSAGE, whosever it is
-  message_stands : (d : ℕ) (job : Job) (left : ℕ) (bus : ℕ) (purpose_is : Purpose) (part parts addr : ℕ) (reading : Bool) (bytes : List ℕ) (heard : _) (e : End) → n.due ≡ None
-      → IsNext b asks n d (Send job left) → TellsMessage b n job left (record { caller = d; bus = bus; purpose = purpose_is; part = part; parts = parts; addr = addr; reading = reading; bytes = bytes; heard = heard; end = e })
-      → DevicesStand b asks (with_due d (moved b asks n (sent b n d job left (first_note (current b asks n d)) reading bytes e (talk_of b n job left e)) d
+  message_stands : (d : ℕ) (job : Job) (left : ℕ) (bus : ℕ) (purpose_is : Purpose) (part parts addr : ℕ) (reading : Bool) (bytes : List ℕ)
+      (heard : _) (e : End) → n.due ≡ None
+      → IsNext b asks n d (Send job left)
+      → TellsMessage b n job left (record {
+        caller = d;
+        bus = bus;
+        purpose = purpose_is;
+        part = part;
+        parts = parts;
+        addr = addr;
+        reading = reading;
+        bytes = bytes;
+        heard = heard;
+        end = e;
+      })
+      → DevicesStand b asks (with_due d
+      (moved b asks n (sent b n d job left (first_note (current b asks n d)) reading bytes e (talk_of b n job left e)) d
       (entry.Message d bus purpose_is part parts addr reading bytes heard e) (Sent e bytes))) h
   message_stands d (Select g) left bus purpose_is part parts addr reading bytes heard e none next tells =
-      control_stands b tree plain lines asks some callers past steps h s d (Select g) left reading bytes e (entry.Message d bus purpose_is part parts addr reading bytes heard e) none next refl refl
+      control_stands b tree plain lines asks some callers past steps h s d (Select g) left reading bytes e
+      (entry.Message d bus purpose_is part parts addr reading bytes heard e) none next refl refl
       (select-next b tree plain lines asks some callers past steps d g left next) (λ o. refl) (λ o. refl)
       (λ v first. subst (λ (y : Cut). DecidesNext b asks n d y v)
-      (sym (ap (λ (p : Purpose). message_cut p part e) tells.for_purpose ∙ ap (λ (k : ℕ). message_cut (purpose.Control g.mux) k e) tells.as_part))
+      (sym (ap (λ (p : Purpose). message_cut p part e) tells.for_purpose
+      ∙ ap (λ (k : ℕ). message_cut (purpose.Control g.mux) k e) tells.as_part))
       (select-decides b tree plain lines asks some callers past steps d g left next e bytes tells.end_told tells.bytes_told v first))
   message_stands d (SwitchOff off) left bus purpose_is part parts addr reading bytes heard e none next tells =
-      control_stands b tree plain lines asks some callers past steps h s d (SwitchOff off) left reading bytes e (entry.Message d bus purpose_is part parts addr reading bytes heard e) none next refl refl
+      control_stands b tree plain lines asks some callers past steps h s d (SwitchOff off) left reading bytes e
+      (entry.Message d bus purpose_is part parts addr reading bytes heard e) none next refl refl
       (off-next b tree plain lines asks some callers past steps d off left next) (λ o. refl) (λ o. refl)
       (λ v first. subst (λ (y : Cut). DecidesNext b asks n d y v)
-      (sym (ap (λ (p : Purpose). message_cut p part e) tells.for_purpose ∙ ap (λ (k : ℕ). message_cut (purpose.Control (off_mux off)) k e) tells.as_part))
+      (sym (ap (λ (p : Purpose). message_cut p part e) tells.for_purpose
+      ∙ ap (λ (k : ℕ). message_cut (purpose.Control (off_mux off)) k e) tells.as_part))
       (off-decides b tree plain lines asks some callers past steps d off left next e bytes v first))
   message_stands d (Call on ms) left bus purpose_is part parts addr reading bytes heard e none next tells =
-      subst (λ (j : Job). IsNext b asks n d (Send j left) → Leads j → LetThrough b (hops b (job_bus j)) → TellsMessage b n j left (record { caller = d; bus = bus; purpose = purpose_is; part = part; parts = parts; addr = addr; reading = reading; bytes = bytes; heard = heard; end = e })
-      → DevicesStand b asks (with_due d (moved b asks n (sent b n d j left (first_note (current b asks n d)) reading bytes e (talk_of b n j left e)) d
+      subst (λ (j : Job). IsNext b asks n d (Send j left) → Leads j → LetThrough b (hops b (job_bus j))
+      → TellsMessage b n j left (record {
+        caller = d;
+        bus = bus;
+        purpose = purpose_is;
+        part = part;
+        parts = parts;
+        addr = addr;
+        reading = reading;
+        bytes = bytes;
+        heard = heard;
+        end = e;
+      })
+      → DevicesStand b asks (with_due d
+      (moved b asks n (sent b n d j left (first_note (current b asks n d)) reading bytes e (talk_of b n j left e)) d
       (entry.Message d bus purpose_is part parts addr reading bytes heard e) (Sent e bytes))) h)
       (sym job_is)
-      (λ next2 leads2 through2 tells2. call_stands b tree plain lines asks some limits callers past steps h s d c.whose c.asked c.call.not_refused left none next2 leads2 through2 bus purpose_is part parts addr reading bytes heard e tells2)
+      (λ next2 leads2 through2 tells2. call_stands b tree plain lines asks some limits callers past steps h s d c.whose c.asked
+      c.call.not_refused left none next2 leads2 through2 bus purpose_is part parts addr reading bytes heard e tells2)
       next c.leads c.through tells
     where
       c : CallNext b asks n d on ms left
@@ -81,11 +114,13 @@ module _ (b : BoardView) (tree : IsTree b) (plain : IsPlainBoard b) (lines : Lin
       job_is = ap (λ (i : ℕ). Call i ms) c.call.same_bus ∙ ap (λ (xs : List MessageView). Call c.whose.bus xs) c.call.same_messages
 
       Leads : Job → Type 0
-      Leads j = LeadsTo (n.worlds (root_of b (job_bus j))) (message_of b j left).addr (granted_on b (job_bus j) c.whose.force (message_of b j left).addr)
+      Leads j = LeadsTo (n.worlds (root_of b (job_bus j))) (message_of b j left).addr
+          (granted_on b (job_bus j) c.whose.force (message_of b j left).addr)
 
   -- A SETTLE
   -- the transfer that it is of, and what the flat world makes of it
-  settle_told : (d : ℕ) (verdict : Option Errno) (r : Reply) (cut : Cut) → (n.due ≡ None) ⊎ (n.due ≡ Some d) → IsNext b asks n d (Settle verdict)
+  settle_told : (d : ℕ) (verdict : Option Errno) (r : Reply) (cut : Cut) → (n.due ≡ None) ⊎ (n.due ≡ Some d)
+      → IsNext b asks n d (Settle verdict)
       → r ≡ reply_by verdict (asks d (n.settled d)) (n.got d) → cut ≡ n.cut d
       → (t : TransferView) × (asks d (n.settled d) ≡ Some t) × (flat b h.states t cut ≡ record { reply = r; states = s.ahead })
   settle_told d verdict r cut who next reply_is cut_is =
@@ -97,16 +132,19 @@ module _ (b : BoardView) (tree : IsTree b) (plain : IsPlainBoard b) (lines : Lin
       told_by : Reply → List TargetState → FlatTold
       told_by y xs = record { reply = y; states = xs }
 
-      by_due : IsDueWith b asks n h s.ahead d → (t : TransferView) × (asks d (n.settled d) ≡ Some t) × (flat b h.states t cut ≡ record { reply = r; states = s.ahead })
+      by_due : IsDueWith b asks n h s.ahead d
+          → (t : TransferView) × (asks d (n.settled d) ≡ Some t) × (flat b h.states t cut ≡ record { reply = r; states = s.ahead })
       by_due i =
           let act : Settle verdict ≡ Settle i.verdict =
-          same_Some (Settle verdict) (Settle i.verdict) (sym next ∙ goes_on_from n.slot (begun b (asks d (n.settled d))) (n.walk d) (Settle i.verdict) i.settles) in
+          same_Some (Settle verdict) (Settle i.verdict) (sym next
+          ∙ goes_on_from n.slot (begun b (asks d (n.settled d))) (n.walk d) (Settle i.verdict) i.settles) in
           let same : verdict ≡ i.verdict = cc in (
             i.whose,
             i.asked,
             ap (λ (y : Cut). flat b h.states i.whose y) cut_is ∙ i.told
                 ∙ ap (λ (y : Reply). told_by y s.ahead)
-                (sym (reply_is ∙ ap (λ (o : Option TransferView). reply_by verdict o (n.got d)) i.asked ∙ ap (λ (v : Option Errno). reply_by v (Some i.whose) (n.got d)) same)),
+                (sym (reply_is ∙ ap (λ (o : Option TransferView). reply_by verdict o (n.got d)) i.asked
+                ∙ ap (λ (v : Option Errno). reply_by v (Some i.whose) (n.got d)) same)),
           )
 
       never : (t : Bool) → is_over (n.walk d) ≡ t → NoSettle (cond t (begun b (asks d (n.settled d))) (n.walk d)) → ⊥
@@ -115,19 +153,24 @@ module _ (b : BoardView) (tree : IsTree b) (plain : IsPlainBoard b) (lines : Lin
           (starts_seen n.slot (cond (is_over (n.walk d)) (begun b (asks d (n.settled d))) (n.walk d))
           (subst (λ (z : Bool). NoSettle (cond z (begun b (asks d (n.settled d))) (n.walk d))) (sym over) quiet)) next
 
-      refused : n.due ≡ None → is_over (n.walk d) ≡ true → (t : TransferView) → asks d (n.settled d) ≡ Some t → (o : Option Errno) → refusal b t ≡ o
+      refused : n.due ≡ None → is_over (n.walk d) ≡ true → (t : TransferView) → asks d (n.settled d) ≡ Some t → (o : Option Errno)
+          → refusal b t ≡ o
           → (t : TransferView) × (asks d (n.settled d) ≡ Some t) × (flat b h.states t cut ≡ record { reply = r; states = s.ahead })
-      refused none over t asked None accepted = absurd (never true over (subst (λ (o : Option TransferView). NoSettle (begun b o)) (sym asked) (walk-starts b t accepted)))
+      refused none over t asked None accepted = absurd
+          (never true over (subst (λ (o : Option TransferView). NoSettle (begun b o)) (sym asked) (walk-starts b t accepted)))
       refused none over t asked (Some e) barred_is =
           let walk_is : current b asks n d ≡ seen n.slot (walk_by b t (Some e)) =
           ap (λ (z : Bool). seen n.slot (cond z (begun b (asks d (n.settled d))) (n.walk d))) over
-          ∙ ap (λ (o : Option TransferView). seen n.slot (begun b o)) asked ∙ ap (λ (o : Option Errno). seen n.slot (walk_by b t o)) barred_is in
-          let same : Settle verdict ≡ Settle (Some e) = same_Some (Settle verdict) (Settle (Some e)) (sym next ∙ ap (λ (w : WalkTree). first_act w) walk_is) in
+          ∙ ap (λ (o : Option TransferView). seen n.slot (begun b o)) asked
+          ∙ ap (λ (o : Option Errno). seen n.slot (walk_by b t o)) barred_is in
+          let same : Settle verdict ≡ Settle (Some e) = same_Some (Settle verdict) (Settle (Some e)) (sym next
+          ∙ ap (λ (w : WalkTree). first_act w) walk_is) in
           let verdict_is : verdict ≡ Some e = cc in (
             t,
             asked,
             bars-flat b h.states t cut e (refused-barred b t cut e barred_is)
-                ∙ ap (λ (y : Reply). told_by y h.states) (sym (reply_is ∙ ap (λ (v : Option Errno). reply_by v (asks d (n.settled d)) (n.got d)) verdict_is))
+                ∙ ap (λ (y : Reply). told_by y h.states)
+                (sym (reply_is ∙ ap (λ (v : Option Errno). reply_by v (asks d (n.settled d)) (n.got d)) verdict_is))
                 ∙ ap (λ (xs : List TargetState). told_by r xs) (sym (s.free none)),
           )
 
@@ -138,10 +181,12 @@ module _ (b : BoardView) (tree : IsTree b) (plain : IsPlainBoard b) (lines : Lin
             | inl due ↦ (let f : None ≡ Some d = sym none ∙ due in cc)
             | inr quiet ↦ never false over quiet
           ])
-      by_over none true over None asked = absurd (never true over (subst (λ (o : Option TransferView). NoSettle (begun b o)) (sym asked) tt))
+      by_over none true over None asked = absurd
+          (never true over (subst (λ (o : Option TransferView). NoSettle (begun b o)) (sym asked) tt))
       by_over none true over (Some t) asked = refused none over t asked (refusal b t) refl
 
-  settle_stands : (d : ℕ) (verdict : Option Errno) (r : Reply) (cut : Cut) → (n.due ≡ None) ⊎ (n.due ≡ Some d) → IsNext b asks n d (Settle verdict)
+  settle_stands : (d : ℕ) (verdict : Option Errno) (r : Reply) (cut : Cut) → (n.due ≡ None) ⊎ (n.due ≡ Some d)
+      → IsNext b asks n d (Settle verdict)
       → DevicesStand b asks (step b asks n (entry.Settle d r cut)) (with_told h d (record { reply = r; states = s.ahead }))
   settle_stands d verdict r cut who next =
       stands_still b asks tree n h s (step b asks n (entry.Settle d r cut)) (with_told h d (record { reply = r; states = s.ahead })) d
@@ -150,7 +195,8 @@ module _ (b : BoardView) (tree : IsTree b) (plain : IsPlainBoard b) (lines : Lin
         settled = λ c ne. at_other n.settled d (n.settled d ++ r ∷ []) c ne;
         got = λ c ne. at_other n.got d [] c ne;
         inside = λ k. refl;
-        outside = not_inside b tree plain lines asks some callers past steps d (Settle verdict) next (λ bus ms left f. let g : Settle verdict ≡ Send (Call bus ms) left = f in cc);
+        outside = not_inside b tree plain lines asks some callers past steps d (Settle verdict) next
+            (λ bus ms left f. let g : Settle verdict ≡ Send (Call bus ms) left = f in cc);
         worlds = λ k out same. same;
         busy = λ k c is. refl;
       })
@@ -162,14 +208,17 @@ module _ (b : BoardView) (tree : IsTree b) (plain : IsPlainBoard b) (lines : Lin
             | inl e ↦ ap (λ (i : ℕ). changed_at n.settled d (n.settled d ++ r ∷ []) i) e.1 ∙ at_same n.settled d (n.settled d ++ r ∷ [])
                 ∙ ap (λ (rs : List Reply). rs ++ r ∷ []) (s.replies d)
                 ∙ sym (ap (λ (i : ℕ). changed_at h.replies d (h.replies d ++ r ∷ []) i) e.1 ∙ at_same h.replies d (h.replies d ++ r ∷ []))
-            | inr e ↦ at_other n.settled d (n.settled d ++ r ∷ []) c e.1 ∙ s.replies c ∙ sym (at_other h.replies d (h.replies d ++ r ∷ []) c e.1)
+            | inr e ↦ at_other n.settled d (n.settled d ++ r ∷ []) c e.1 ∙ s.replies c
+                ∙ sym (at_other h.replies d (h.replies d ++ r ∷ []) c e.1)
           ]
 
   -- and the history has one transfer more
-  settle_history : (d : ℕ) (r : Reply) (cut : Cut) (t : TransferView) → asks d (n.settled d) ≡ Some t → flat b h.states t cut ≡ record { reply = r; states = s.ahead }
+  settle_history : (d : ℕ) (r : Reply) (cut : Cut) (t : TransferView) → asks d (n.settled d) ≡ Some t
+      → flat b h.states t cut ≡ record { reply = r; states = s.ahead }
       → one_more b asks d cut h ≡ Some (with_told h d (record { reply = r; states = s.ahead }))
   settle_history d r cut t asked told =
-      ap (λ (o : Option TransferView). option_map (λ (y : TransferView). with_told h d (flat b h.states y cut)) o) (ap (λ (rs : List Reply). asks d rs) (sym (s.replies d)) ∙ asked)
+      ap (λ (o : Option TransferView). option_map (λ (y : TransferView). with_told h d (flat b h.states y cut)) o)
+      (ap (λ (rs : List Reply). asks d rs) (sym (s.replies d)) ∙ asked)
       ∙ ap (λ (y : FlatTold). Some (with_told h d y)) told
 
 -- THE INDUCTION
@@ -179,7 +228,8 @@ pub record StandsWith (b : BoardView) (asks : Asks) (past : List Entry) : Type 0
   pub defined : history b asks (order past) ≡ Some history_is
   pub stand : DevicesStand b asks (now b asks past) history_is
 
-module _ (b : BoardView) (tree : IsTree b) (plain : IsPlainBoard b) (lines : LinesAreLocked b) (asks : Asks) (some : AsksForMessages asks) (limits : AsksWithinLimits asks) (callers : ℕ) where
+module _ (b : BoardView) (tree : IsTree b) (plain : IsPlainBoard b) (lines : LinesAreLocked b) (asks : Asks) (some : AsksForMessages asks)
+    (limits : AsksWithinLimits asks) (callers : ℕ) where
   opening_stands : StandsWith b asks []
   opening_stands =
       record {
@@ -195,37 +245,49 @@ module _ (b : BoardView) (tree : IsTree b) (plain : IsPlainBoard b) (lines : Lin
         };
       }
 
-  step_stands : (e : Entry) (past : List Entry) → IsStepwise b callers asks past → May b callers asks (now b asks past) e → StandsWith b asks past → StandsWith b asks (e ∷ past)
+  step_stands : (e : Entry) (past : List Entry) → IsStepwise b callers asks past → May b callers asks (now b asks past) e
+      → StandsWith b asks past → StandsWith b asks (e ∷ past)
   step_stands (entry.Take d l) past steps may w =
       record {
         history_is = w.history_is;
         defined = w.defined;
-        stand = lock_stands b tree plain lines asks some callers past steps w.history_is w.stand d (Take l) (now b asks (entry.Take d l ∷ past)) may.1 may.2
+        stand = lock_stands b tree plain lines asks some callers past steps w.history_is w.stand d (Take l)
+            (now b asks (entry.Take d l ∷ past)) may.1 may.2
             (λ bus ms left f. let g : Take l ≡ Send (Call bus ms) left = f in cc) refl refl refl refl refl refl;
       }
   step_stands (entry.Free d l) past steps may w =
       record {
         history_is = w.history_is;
         defined = w.defined;
-        stand = lock_stands b tree plain lines asks some callers past steps w.history_is w.stand d (Free l) (now b asks (entry.Free d l ∷ past)) may.1 may.2
+        stand = lock_stands b tree plain lines asks some callers past steps w.history_is w.stand d (Free l)
+            (now b asks (entry.Free d l ∷ past)) may.1 may.2
             (λ bus ms left f. let g : Free l ≡ Send (Call bus ms) left = f in cc) refl refl refl refl refl refl;
       }
   step_stands (entry.Line d mux level failed) past steps may w =
       record {
         history_is = w.history_is;
         defined = w.defined;
-        stand = subst (λ (o : Option Act). DevicesStand b asks (with_due d (moved b asks (now b asks past) (lined_by b (now b asks past) o (first_note (current b asks (now b asks past) d)) failed) d (entry.Line d mux level failed) (Lined failed))) w.history_is) (sym may.2.1)
-            (line_stands b tree plain lines asks some callers past steps w.history_is w.stand d may.2.0 failed (entry.Line d mux level failed) refl may.1 may.2.1);
+        stand = subst (λ (o : Option Act). DevicesStand b asks
+            (with_due d (moved b asks (now b asks past)
+            (lined_by b (now b asks past) o (first_note (current b asks (now b asks past) d)) failed) d (entry.Line d mux level failed)
+            (Lined failed))) w.history_is) (sym may.2.1)
+            (line_stands b tree plain lines asks some callers past steps w.history_is w.stand d may.2.0 failed
+            (entry.Line d mux level failed) refl may.1 may.2.1);
       }
   step_stands (entry.Message d bus purpose_is part parts addr reading bytes heard e) past steps may w =
       record {
         history_is = w.history_is;
         defined = w.defined;
-        stand = subst (λ (o : Option Act). DevicesStand b asks (with_due d (moved b asks (now b asks past) (sent_by b (now b asks past) d o (first_note (current b asks (now b asks past) d)) reading bytes e) d (entry.Message d bus purpose_is part parts addr reading bytes heard e) (Sent e bytes))) w.history_is) (sym may.2.2)
-            (message_stands b tree plain lines asks some limits callers past steps w.history_is w.stand d may.2.0 may.2.1 bus purpose_is part parts addr reading bytes heard e may.1 may.2.2 may.2.3);
+        stand = subst (λ (o : Option Act). DevicesStand b asks
+            (with_due d (moved b asks (now b asks past)
+            (sent_by b (now b asks past) d o (first_note (current b asks (now b asks past) d)) reading bytes e) d
+            (entry.Message d bus purpose_is part parts addr reading bytes heard e) (Sent e bytes))) w.history_is) (sym may.2.2)
+            (message_stands b tree plain lines asks some limits callers past steps w.history_is w.stand d may.2.0 may.2.1 bus purpose_is
+            part parts addr reading bytes heard e may.1 may.2.2 may.2.3);
       }
   step_stands (entry.Settle d r cut) past steps may w =
-      let told = settle_told b tree plain lines asks some limits callers past steps w.history_is w.stand d may.2 r cut may.1 may.3 may.4 may.5 in
+      let told = settle_told b tree plain lines asks some limits callers past steps w.history_is w.stand d may.2 r cut may.1 may.3 may.4
+      may.5 in
       record {
         history_is = with_told w.history_is d (record { reply = r; states = w.stand.ahead });
         defined = ap (λ (o : Option History). option_and_then (one_more b asks d cut) o) w.defined

@@ -44,7 +44,8 @@ pub record IsSaid (b : BoardView) (ahead : List TargetState) (t : TransferView) 
 pub said-elsewhere : (b : BoardView) → IsTree b → (xs ys : List TargetState) (t : TransferView) (w : World) (got : List ℕ) (left : ℕ)
     → ((d : ℕ) → IsOf b (root_of b t.bus) d → slice_get xs d ≡ slice_get ys d) → IsSaid b xs t w got left → IsSaid b ys t w got left
 said-elsewhere b tree xs ys t w got left same s =
-    let alike = flat_part-alike b (root_of b t.bus) (granted_on b t.bus t.force) (λ a d e. granted-own b tree t.bus a t.force d e) (block_limit b) (idle xs) (idle ys) s.before false 0 (λ i. None) [] [] refl
+    let alike = flat_part-alike b (root_of b t.bus) (granted_on b t.bus t.force) (λ a d e. granted-own b tree t.bus a t.force d e)
+    (block_limit b) (idle xs) (idle ys) s.before false 0 (λ i. None) [] [] refl
     (record { states = same; named = refl; current = refl; own = λ d e. absurd (let z : None ≡ Some d = e in cc) }) in
     record {
       before = s.before;
@@ -72,7 +73,8 @@ cuts_before end.Nack part n j at below = refl
 cuts_before end.Slow part n j at below = refl
 cuts_before end.Refused part n j at below = refl
 cuts_before end.Proto part n j at below = refl
-cuts_before (end.Cut q) part n j at below = ap (λ (x : Bool). cond x (Some q) None) (eqb-apart (part - 1) j (λ f. absurd (omega (arith, f, at, below))))
+cuts_before (end.Cut q) part n j at below = ap (λ (x : Bool). cond x (Some q) None)
+    (eqb-apart (part - 1) j (λ f. absurd (omega (arith, f, at, below))))
 
 cuts_good : (e : End) (part j : ℕ) → is_good e ≡ true → None ≡ cut_in (message_cut purpose.Call part e) j
 cuts_good end.Ok part j good = refl
@@ -97,7 +99,8 @@ reply-is t bus ms left end.Proto bytes got = refl
 reply-is t bus ms left (end.Cut q) bytes got = refl
 
 -- ONE MESSAGE MORE
-module _ (b : BoardView) (ahead : List TargetState) (t : TransferView) (w : World) (got : List ℕ) (left : ℕ) (s : IsSaid b ahead t w got left)
+module _ (b : BoardView) (ahead : List TargetState) (t : TransferView) (w : World) (got : List ℕ) (left : ℕ)
+    (s : IsSaid b ahead t w got left)
     (leads : LeadsTo w s.next.addr (granted_on b t.bus t.force s.next.addr)) (fits : AreBytes s.next.bytes)
     (part : ℕ) (at_part : part - 1 ≡ length s.before) (e : End) (bytes : List ℕ)
     (end_told : e ≡ (talk world_listener (block_limit b) w s.next (eqb left 0) (cut_of e)).end)
@@ -130,9 +133,11 @@ module _ (b : BoardView) (ahead : List TargetState) (t : TransferView) (w : Worl
 
   grows : GrowsAlike b (root_of b t.bus) s.next (with_cut s.before false) told (with_cut more (eqb left 0))
   grows =
-      subst (λ (o : Option ℕ). GrowsAlike b (root_of b t.bus) s.next (with_cut s.before false) (talk world_listener (block_limit b) w s.next (eqb left 0) o) (with_cut more (eqb left 0)))
+      subst (λ (o : Option ℕ). GrowsAlike b (root_of b t.bus) s.next (with_cut s.before false)
+      (talk world_listener (block_limit b) w s.next (eqb left 0) o) (with_cut more (eqb left 0)))
       (cuts_here e part (length s.before) at_part)
-      (part-grows b (root_of b t.bus) (granted_on b t.bus t.force) (block_limit b) (idle ahead) s.before (cut_in cut) w s.next (eqb left 0) good_before
+      (part-grows b (root_of b t.bus) (granted_on b t.bus t.force) (block_limit b) (idle ahead) s.before (cut_in cut) w s.next
+      (eqb left 0) good_before
       (subst (λ (a : AllTold FlatListener). Same b (root_of b t.bus) w a.now) before_same s.same) leads fits)
 
   end_is : (with_cut more (eqb left 0)).end ≡ e
@@ -195,4 +200,5 @@ module _ (b : BoardView) (ahead : List TargetState) (t : TransferView) (w : Worl
     pub same-whole : Same b (root_of b t.bus) told.now (idle left_states)
     same-whole =
         subst (λ (f : FlatListener). Same b (root_of b t.bus) told.now f)
-        (part-idle (granted_on b t.bus t.force) (block_limit b) (idle ahead) s.before (cut_in cut) s.next (eqb left 0) good_before ends) grows.now
+        (part-idle (granted_on b t.bus t.force) (block_limit b) (idle ahead) s.before (cut_in cut) s.next (eqb left 0) good_before ends)
+        grows.now

@@ -65,7 +65,8 @@ pub record DevicesStand (b : BoardView) (asks : Asks) (n : Now) (h : History) : 
   pub said : (r c : ℕ) → n.inside r ≡ Some c → IsInsideWith b asks n ahead r c
 
 -- a caller that stays where it is, on a root whose devices stay
-pub inside_stays : (b : BoardView) (asks : Asks) → IsTree b → (n m : Now) (old new : List TargetState) (r c : ℕ) → IsInsideWith b asks n old r c
+pub inside_stays : (b : BoardView) (asks : Asks) → IsTree b → (n m : Now) (old new : List TargetState) (r c : ℕ)
+    → IsInsideWith b asks n old r c
     → m.walk c ≡ n.walk c → m.settled c ≡ n.settled c → m.got c ≡ n.got c → m.worlds r ≡ n.worlds r
     → ((d : ℕ) → IsOf b r d → slice_get old d ≡ slice_get new d) → IsInsideWith b asks m new r c
 inside_stays b asks tree n m old new r c s walk settled got world same =
@@ -90,8 +91,10 @@ pub record Stays (b : BoardView) (n m : Now) (ahead : List TargetState) (d : ℕ
   pub worlds : (r : ℕ) → n.inside r ≡ None → Same b r (n.worlds r) (idle ahead) → Same b r (m.worlds r) (idle ahead)
   pub busy : (r c : ℕ) → n.inside r ≡ Some c → m.worlds r ≡ n.worlds r
 
-pub stands_still : (b : BoardView) (asks : Asks) → IsTree b → (n : Now) (h : History) (s : DevicesStand b asks n h) (m : Now) (g : History) (d : ℕ) → Stays b n m s.ahead d
-    → ((c : ℕ) → m.settled c ≡ g.replies c) → (m.due ≡ None → s.ahead ≡ g.states) → ((c : ℕ) → m.due ≡ Some c → IsDueWith b asks m g s.ahead c) → DevicesStand b asks m g
+pub stands_still : (b : BoardView) (asks : Asks) → IsTree b
+    → (n : Now) (h : History) (s : DevicesStand b asks n h) (m : Now) (g : History) (d : ℕ) → Stays b n m s.ahead d
+    → ((c : ℕ) → m.settled c ≡ g.replies c) → (m.due ≡ None → s.ahead ≡ g.states)
+    → ((c : ℕ) → m.due ≡ Some c → IsDueWith b asks m g s.ahead c) → DevicesStand b asks m g
 stands_still b asks tree n h s m g d stays replies free due =
     record {
       ahead = s.ahead;
@@ -102,12 +105,15 @@ stands_still b asks tree n h s m g d stays replies free due =
       said = λ r c is. (
           let before : n.inside r ≡ Some c = sym (stays.inside r) ∙ is in
           let other : c ≡ d → ⊥ = λ e. stays.outside r (before ∙ ap Some e) in
-          inside_stays b asks tree n m s.ahead s.ahead r c (s.said r c before) (stays.walks c other) (stays.settled c other) (stays.got c other) (stays.busy r c before) (λ k own. refl));
+          inside_stays b asks tree n m s.ahead s.ahead r c (s.said r c before) (stays.walks c other) (stays.settled c other)
+          (stays.got c other) (stays.busy r c before) (λ k own. refl));
     }
 
 -- a step that decides an error leaves the flat world's devices
-pub bars_due : (b : BoardView) (asks : Asks) (n m : Now) (h : History) (ahead : List TargetState) (d : ℕ) (cut : Cut) (verdict : Option Errno) → DecidesNext b asks n d cut verdict
-    → m.settled d ≡ n.settled d → m.cut d ≡ cut → ahead ≡ h.states → first_act (m.walk d) ≡ Some (Settle verdict) → IsDueWith b asks m h ahead d
+pub bars_due : (b : BoardView) (asks : Asks) (n m : Now) (h : History) (ahead : List TargetState) (d : ℕ) (cut : Cut)
+    (verdict : Option Errno) → DecidesNext b asks n d cut verdict
+    → m.settled d ≡ n.settled d → m.cut d ≡ cut → ahead ≡ h.states → first_act (m.walk d) ≡ Some (Settle verdict)
+    → IsDueWith b asks m h ahead d
 bars_due b asks n m h ahead d cut verdict next settled cut_is same first =
     record {
       whose = next.whose;
@@ -115,7 +121,8 @@ bars_due b asks n m h ahead d cut verdict next settled cut_is same first =
       verdict = verdict;
       settles = first;
       told = ap (λ (x : Cut). flat b h.states next.whose x) cut_is ∙ bars-flat b h.states next.whose cut next.bars.error next.bars.barred
-          ∙ ap (λ (x : Reply). told_by x h.states) (ap (λ (o : Option Errno). reply_by o (Some next.whose) (m.got d)) (sym next.bars.verdict))
+          ∙ ap (λ (x : Reply). told_by x h.states)
+          (ap (λ (o : Option Errno). reply_by o (Some next.whose) (m.got d)) (sym next.bars.verdict))
           ∙ ap (λ (xs : List TargetState). told_by (reply_by verdict (Some next.whose) (m.got d)) xs) (sym same);
     }
   where
@@ -135,14 +142,17 @@ inside_same f k r x e =
       | inr h ↦ at_other f k x r h.1
     ]
 
-module _ (b : BoardView) (tree : IsTree b) (plain : IsPlainBoard b) (lines : LinesAreLocked b) (asks : Asks) (some : AsksForMessages asks) (callers : ℕ)
+module _ (b : BoardView) (tree : IsTree b) (plain : IsPlainBoard b) (lines : LinesAreLocked b) (asks : Asks) (some : AsksForMessages asks)
+    (callers : ℕ)
     (past : List Entry) (steps : IsStepwise b callers asks past) (h : History) (s : DevicesStand b asks (now b asks past) h) where
   abbrev n : Now
   n = now b asks past
 
   -- A LOCK
-  pub lock_stands : (d : ℕ) (act : Act) (m : Now) → n.due ≡ None → IsNext b asks n d act → ((bus : ℕ) (ms : List MessageView) (left : ℕ) → act ≡ Send (Call bus ms) left → ⊥)
-      → m.walk ≡ changed_at n.walk d (rest_of (current b asks n d) Passed) → m.settled ≡ n.settled → m.got ≡ n.got → m.inside ≡ n.inside → m.worlds ≡ n.worlds → m.due ≡ n.due
+  pub lock_stands : (d : ℕ) (act : Act) (m : Now) → n.due ≡ None → IsNext b asks n d act
+      → ((bus : ℕ) (ms : List MessageView) (left : ℕ) → act ≡ Send (Call bus ms) left → ⊥)
+      → m.walk ≡ changed_at n.walk d (rest_of (current b asks n d) Passed) → m.settled ≡ n.settled → m.got ≡ n.got → m.inside ≡ n.inside
+      → m.worlds ≡ n.worlds → m.due ≡ n.due
       → DevicesStand b asks m h
   lock_stands d act m none next no_call walk settled got inside worlds due =
       stands_still b asks tree n h s m h d
@@ -159,7 +169,8 @@ module _ (b : BoardView) (tree : IsTree b) (plain : IsPlainBoard b) (lines : Lin
       (λ e. s.free none) (λ c e. absurd (let f : None ≡ Some c = sym none ∙ sym due ∙ e in cc))
 
   -- A LINE STEP
-  pub line_stands : (d : ℕ) (job : Job) (failed : Bool) (x : Entry) → cut_told x ≡ cond failed cut_at.Way cut_at.No → n.due ≡ None → (next : IsNext b asks n d (Shift job))
+  pub line_stands : (d : ℕ) (job : Job) (failed : Bool) (x : Entry) → cut_told x ≡ cond failed cut_at.Way cut_at.No → n.due ≡ None
+      → (next : IsNext b asks n d (Shift job))
       → DevicesStand b asks (with_due d (moved b asks n (lined b n job (first_note (current b asks n d)) failed) d x (Lined failed))) h
   line_stands d job failed x cut none next =
       stands_still b asks tree n h s m h d
@@ -168,9 +179,11 @@ module _ (b : BoardView) (tree : IsTree b) (plain : IsPlainBoard b) (lines : Lin
         settled = λ c ne. refl;
         got = λ c ne. refl;
         inside = λ r. refl;
-        outside = not_inside b tree plain lines asks some callers past steps d (Shift job) next (λ bus ms left f. let g : Shift job ≡ Send (Call bus ms) left = f in cc);
+        outside = not_inside b tree plain lines asks some callers past steps d (Shift job) next
+            (λ bus ms left f. let g : Shift job ≡ Send (Call bus ms) left = f in cc);
         worlds = world_same;
-        busy = λ r c is. at_other n.worlds root (after (n.worlds root) (line_call job failed)) r (λ e. no_line b tree plain lines asks some callers past steps c r d job is next (sym e));
+        busy = λ r c is. at_other n.worlds root (after (n.worlds root) (line_call job failed)) r
+            (λ e. no_line b tree plain lines asks some callers past steps c r d job is next (sym e));
       })
       s.replies (λ e. s.free none) decides_due
     where
@@ -180,17 +193,22 @@ module _ (b : BoardView) (tree : IsTree b) (plain : IsPlainBoard b) (lines : Lin
       m : Now
       m = with_due d (moved b asks n (lined b n job (first_note (current b asks n d)) failed) d x (Lined failed))
 
-      called_same : (t : Bool) (w : World) → Same b root w (idle s.ahead) → Same b root (after w (cond t call.Fault (call.Line (line_mux job) (line_level job)))) (idle s.ahead)
+      called_same : (t : Bool) (w : World) → Same b root w (idle s.ahead)
+          → Same b root (after w (cond t call.Fault (call.Line (line_mux job) (line_level job)))) (idle s.ahead)
       called_same true w same = fault-same b root w s.ahead same
       called_same false w same = line-same b root w s.ahead (line_mux job) (line_level job) same
 
-      world_same : (r : ℕ) → n.inside r ≡ None → Same b r (n.worlds r) (idle s.ahead) → Same b r (changed_at n.worlds root (after (n.worlds root) (line_call job failed)) r) (idle s.ahead)
+      world_same : (r : ℕ) → n.inside r ≡ None → Same b r (n.worlds r) (idle s.ahead)
+          → Same b r (changed_at n.worlds root (after (n.worlds root) (line_call job failed)) r) (idle s.ahead)
       world_same r out same =
           elim (eqb_tells r root) [
-            | inl e ↦ subst (λ (i : ℕ). Same b i (changed_at n.worlds root (after (n.worlds root) (line_call job failed)) i) (idle s.ahead)) (sym e.1)
-                (subst (λ (w : World). Same b root w (idle s.ahead)) (sym (at_same n.worlds root (after (n.worlds root) (line_call job failed))))
+            | inl e ↦ subst (λ (i : ℕ). Same b i (changed_at n.worlds root (after (n.worlds root) (line_call job failed)) i) (idle s.ahead))
+                (sym e.1)
+                (subst (λ (w : World). Same b root w (idle s.ahead))
+                (sym (at_same n.worlds root (after (n.worlds root) (line_call job failed))))
                 (called_same failed (n.worlds root) (subst (λ (i : ℕ). Same b i (n.worlds i) (idle s.ahead)) e.1 same)))
-            | inr e ↦ subst (λ (w : World). Same b r w (idle s.ahead)) (sym (at_other n.worlds root (after (n.worlds root) (line_call job failed)) r e.1)) same
+            | inr e ↦ subst (λ (w : World). Same b r w (idle s.ahead))
+                (sym (at_other n.worlds root (after (n.worlds root) (line_call job failed)) r e.1)) same
           ]
 
       decides_due : (c : ℕ) → m.due ≡ Some c → IsDueWith b asks m h s.ahead c
@@ -204,11 +222,16 @@ module _ (b : BoardView) (tree : IsTree b) (plain : IsPlainBoard b) (lines : Lin
           refl (at_same n.cut d (cut_told x) ∙ cut) (s.free none) v.1)
 
   -- A CONTROL MESSAGE
-  pub control_stands : (d : ℕ) (job : Job) (left : ℕ) (reading : Bool) (bytes : List ℕ) (e : End) (x : Entry) → n.due ≡ None → (next : IsNext b asks n d (Send job left))
-      → is_call (job_purpose job) ≡ false → is_last job left ≡ true → IsControl (n.worlds (root_of b (job_bus job))) (message_of b job left).addr
+  pub control_stands : (d : ℕ) (job : Job) (left : ℕ) (reading : Bool) (bytes : List ℕ) (e : End) (x : Entry) → n.due ≡ None
+      → (next : IsNext b asks n d (Send job left))
+      → is_call (job_purpose job) ≡ false → is_last job left ≡ true
+      → IsControl (n.worlds (root_of b (job_bus job))) (message_of b job left).addr
       → ((old : Option ℕ) → inside_after job left (Sent e bytes) d old ≡ old) → ((old : List ℕ) → got_after job reading bytes old ≡ old)
-      → ((verdict : Option Errno) → first_act (rest_of (current b asks n d) (Sent e bytes)) ≡ Some (Settle verdict) → DecidesNext b asks n d (cut_told x) verdict)
-      → DevicesStand b asks (with_due d (moved b asks n (sent b n d job left (first_note (current b asks n d)) reading bytes e (talk_of b n job left e)) d x (Sent e bytes))) h
+      → ((verdict : Option Errno) → first_act (rest_of (current b asks n d) (Sent e bytes)) ≡ Some (Settle verdict)
+      → DecidesNext b asks n d (cut_told x) verdict)
+      → DevicesStand b asks (with_due d
+      (moved b asks n (sent b n d job left (first_note (current b asks n d)) reading bytes e (talk_of b n job left e)) d x
+      (Sent e bytes))) h
   control_stands d job left reading bytes e x none next no_call last control inside_is got_is decides =
       stands_still b asks tree n h s m h d
       (record {
@@ -230,20 +253,24 @@ module _ (b : BoardView) (tree : IsTree b) (plain : IsPlainBoard b) (lines : Lin
       root = root_of b (job_bus job)
 
       m : Now
-      m = with_due d (moved b asks n (sent b n d job left (first_note (current b asks n d)) reading bytes e (talk_of b n job left e)) d x (Sent e bytes))
+      m = with_due d (moved b asks n (sent b n d job left (first_note (current b asks n d)) reading bytes e (talk_of b n job left e)) d x
+          (Sent e bytes))
 
       talked_same : Same b root (n.worlds root) (idle s.ahead) → Same b root (talk_of b n job left e).now (idle s.ahead)
       talked_same same =
-          subst (λ (t : Bool). Same b root (talk world_listener (block_limit b) (n.worlds root) (message_of b job left) t (cut_of e)).now (idle s.ahead)) (sym last)
+          subst (λ (t : Bool). Same b root (talk world_listener (block_limit b) (n.worlds root) (message_of b job left) t (cut_of e)).now
+          (idle s.ahead)) (sym last)
           (control-same b root (block_limit b) (n.worlds root) s.ahead (message_of b job left) (cut_of e) same control)
 
-      world_same : (r : ℕ) → n.inside r ≡ None → Same b r (n.worlds r) (idle s.ahead) → Same b r (changed_at n.worlds root (talk_of b n job left e).now r) (idle s.ahead)
+      world_same : (r : ℕ) → n.inside r ≡ None → Same b r (n.worlds r) (idle s.ahead)
+          → Same b r (changed_at n.worlds root (talk_of b n job left e).now r) (idle s.ahead)
       world_same r out same =
           elim (eqb_tells r root) [
             | inl at ↦ subst (λ (i : ℕ). Same b i (changed_at n.worlds root (talk_of b n job left e).now i) (idle s.ahead)) (sym at.1)
                 (subst (λ (w : World). Same b root w (idle s.ahead)) (sym (at_same n.worlds root (talk_of b n job left e).now))
                 (talked_same (subst (λ (i : ℕ). Same b i (n.worlds i) (idle s.ahead)) at.1 same)))
-            | inr at ↦ subst (λ (w : World). Same b r w (idle s.ahead)) (sym (at_other n.worlds root (talk_of b n job left e).now r at.1)) same
+            | inr at ↦ subst (λ (w : World). Same b r w (idle s.ahead))
+                (sym (at_other n.worlds root (talk_of b n job left e).now r at.1)) same
           ]
 
       decides_due : (c : ℕ) → m.due ≡ Some c → IsDueWith b asks m h s.ahead c

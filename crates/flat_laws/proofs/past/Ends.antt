@@ -26,7 +26,8 @@ use Rattle.bus_laws.proofs.past.Asked.{settled-told}
 use Rattle.bus_laws.proofs.past.Whole.{IsInside, past-inside}
 
 -- an entry is of one of the callers, so the walks of nobody else go on
-others_stay : (b : BoardView) (callers : ℕ) (asks : Asks) (n : Now) (e : Entry) → May b callers asks n e → (c : ℕ) → (c < callers → ⊥) → (step b asks n e).walk c ≡ n.walk c
+others_stay : (b : BoardView) (callers : ℕ) (asks : Asks) (n : Now) (e : Entry) → May b callers asks n e → (c : ℕ) → (c < callers → ⊥)
+    → (step b asks n e).walk c ≡ n.walk c
 others_stay b callers asks n (entry.Take d l) may c stranger =
     at_other n.walk d (rest_of (current b asks n d) Passed) c (λ same. stranger (subst (λ (i : ℕ). i < callers) (sym same) may.0))
 others_stay b callers asks n (entry.Free d l) may c stranger =
@@ -39,12 +40,14 @@ others_stay b callers asks n (entry.Settle d r cut) may c stranger =
     at_other n.walk d (rest_of (current b asks n d) Passed) c (λ same. stranger (subst (λ (i : ℕ). i < callers) (sym same) may.0))
 
 -- THE INDUCTION
-pub strangers-end : (b : BoardView) (callers : ℕ) (asks : Asks) (past : List Entry) → IsStepwise b callers asks past → (c : ℕ) → (c < callers → ⊥) → (now b asks past).walk c ≡ Ends
+pub strangers-end : (b : BoardView) (callers : ℕ) (asks : Asks) (past : List Entry) → IsStepwise b callers asks past → (c : ℕ)
+    → (c < callers → ⊥) → (now b asks past).walk c ≡ Ends
 strangers-end b callers asks [] steps c stranger = refl
 strangers-end b callers asks (e ∷ past) steps c stranger =
     others_stay b callers asks (now b asks past) e steps.0 c stranger ∙ strangers-end b callers asks past steps.1 c stranger
 
-module _ (b : BoardView) (tree : IsTree b) (plain : IsPlainBoard b) (lines : LinesAreLocked b) (asks : Asks) (some : AsksForMessages asks) (callers : ℕ)
+module _ (b : BoardView) (tree : IsTree b) (plain : IsPlainBoard b) (lines : LinesAreLocked b) (asks : Asks) (some : AsksForMessages asks)
+    (callers : ℕ)
     (past : List Entry) (steps : IsStepwise b callers asks past) where
   abbrev n : Now
   n = now b asks past
@@ -66,7 +69,8 @@ module _ (b : BoardView) (tree : IsTree b) (plain : IsPlainBoard b) (lines : Lin
   pub holder-known : (l : LockId) (c : ℕ) → n.holder l ≡ Some c → c < callers
   holder-known l c has =
       elim (leb_tells callers c) [
-        | inl h ↦ absurd (no_lock c l (strangers-end b callers asks past steps c (λ lt. let le : callers ≤ c = h.1 in omega (arith, le, lt))) has)
+        | inl h ↦ absurd (no_lock c l (strangers-end b callers asks past steps c (λ lt. let le : callers ≤ c = h.1 in
+            omega (arith, le, lt))) has)
         | inr h ↦ h.1
       ]
 

@@ -60,14 +60,17 @@ module _ (k : ℕ) (granted : ℕ → Option ℕ) where
   later_many f call.Stop l many = length-feed state_table (to_named f.named event.Stop) 0 f.states ∙ many
   later_many f call.Fault l many = length-feed state_table (to_named f.named event.Stop) 0 f.states ∙ many
 
-  all_many : (limit : ℕ) (f : FlatListener) (ms : List MessageView) (i : ℕ) (cuts : ℕ → Option ℕ) (got : List ℕ) → IsSoMany k f → IsSoMany k (talk_all (flat_listener granted) limit f ms i cuts got).now
+  all_many : (limit : ℕ) (f : FlatListener) (ms : List MessageView) (i : ℕ) (cuts : ℕ → Option ℕ) (got : List ℕ) → IsSoMany k f
+      → IsSoMany k (talk_all (flat_listener granted) limit f ms i cuts got).now
   all_many limit f [] i cuts got many = many
   all_many limit f (m ∷ ms) i cuts got many =
       let t : TalkTold FlatListener = talk (flat_listener granted) limit f m (is_empty ms) (cuts i) in
       let left : IsSoMany k t.now =
-      talk-keeps (flat_listener granted) (IsSoMany k) later_many limit f m (is_empty ms) (cuts i) (length-feed state_table (to_named f.named event.Stop) 0 f.states ∙ many)
+      talk-keeps (flat_listener granted) (IsSoMany k) later_many limit f m (is_empty ms) (cuts i)
+      (length-feed state_table (to_named f.named event.Stop) 0 f.states ∙ many)
       (length-feed state_table (flat_start (granted m.addr) f.named m.reading) 0 f.states ∙ many) in
-      by (is_good t.end) (talk_all (flat_listener granted) limit t.now ms (i + 1) cuts (with_read got m t)) (record { bytes = with_read got m t; now = t.now; end = t.end })
+      by (is_good t.end) (talk_all (flat_listener granted) limit t.now ms (i + 1) cuts (with_read got m t))
+      (record { bytes = with_read got m t; now = t.now; end = t.end })
       (all_many limit t.now ms (i + 1) cuts (with_read got m t) left) left
     where
       by : (z : Bool) (x y : AllTold FlatListener) → IsSoMany k x.now → IsSoMany k y.now → IsSoMany k (cond z x y).now
@@ -84,16 +87,19 @@ flat_many b xs t cut = by (barred b t cut)
 some_history : (g h : History) → Some g ≡ Some h → length g.states ≡ length h.states
 some_history g h e = (let same : g ≡ h = cc in ap (λ (x : History). length x.states) same)
 
-one_more_many : (b : BoardView) (c : ℕ) (cut : Cut) (g h : History) (o : Option TransferView) → option_map (λ (t : TransferView). with_told g c (flat b g.states t cut)) o ≡ Some h → length h.states ≡ length g.states
+one_more_many : (b : BoardView) (c : ℕ) (cut : Cut) (g h : History) (o : Option TransferView)
+    → option_map (λ (t : TransferView). with_told g c (flat b g.states t cut)) o ≡ Some h → length h.states ≡ length g.states
 one_more_many b c cut g h None e = absurd (let f : None ≡ Some h = e in cc)
 one_more_many b c cut g h (Some t) e = sym (some_history (with_told g c (flat b g.states t cut)) h e) ∙ flat_many b g.states t cut
 
-history_many : (b : BoardView) (asks : Asks) (xs : List (ℕ × Cut)) (h : History) → history b asks xs ≡ Some h → length h.states ≡ length b.devices
+history_many : (b : BoardView) (asks : Asks) (xs : List (ℕ × Cut)) (h : History) → history b asks xs ≡ Some h
+    → length h.states ≡ length b.devices
 history_many b asks [] h e = sym (some_history (opening_history b) h e) ∙ length-map b.devices opening_state
 history_many b asks (p ∷ before) h e = by (λ g at. history_many b asks before g at) (history b asks before) refl e
   where
     by : ((g : History) → history b asks before ≡ Some g → length g.states ≡ length b.devices)
-        → (o : Option History) → history b asks before ≡ o → option_and_then (one_more b asks p.0 p.1) o ≡ Some h → length h.states ≡ length b.devices
+        → (o : Option History) → history b asks before ≡ o → option_and_then (one_more b asks p.0 p.1) o ≡ Some h
+        → length h.states ≡ length b.devices
     by sub None at f = absurd (let z : None ≡ Some h = f in cc)
     by sub (Some g) at f = one_more_many b p.0 p.1 g h (asks p.0 (g.replies p.0)) f ∙ sub g at
 
@@ -102,7 +108,8 @@ take_front : (xs ys : List MessageView) → take (length xs) (xs ++ ys) ≡ xs
 take_front [] ys = refl
 take_front (x ∷ xs) ys = ap (λ (zs : List MessageView). x ∷ zs) (take_front xs ys)
 
-map_numbers : (f : ℕ → TargetState) (k : ℕ) (xs : List TargetState) → ((i : ℕ) (x : TargetState) → slice_get xs i ≡ Some x → f (k + i) ≡ x) → map f (range_with_len k (length xs)) ≡ xs
+map_numbers : (f : ℕ → TargetState) (k : ℕ) (xs : List TargetState) → ((i : ℕ) (x : TargetState) → slice_get xs i ≡ Some x → f (k + i) ≡ x)
+    → map f (range_with_len k (length xs)) ≡ xs
 map_numbers f k [] each = refl
 map_numbers f k (x ∷ xs) each =
     ap (λ (y : TargetState). y ∷ map f (range_with_len (k + 1) (length xs))) (ap f (sym (add-zero k)) ∙ each 0 x refl)
@@ -119,9 +126,11 @@ get_numbers f k (suc n) (suc i) below =
 roots_are : (f : ℕ → World) → ((r : ℕ) → (f r).root ≡ r) → (k n : ℕ) → map (λ w. w.root) (map f (range_with_len k n)) ≡ range_with_len k n
 roots_are f root k zero = refl
 roots_are f root k (suc n) =
-    ap (λ (r : ℕ). r ∷ map (λ w. w.root) (map f (range_with_len (k + 1) n))) (root k) ∙ ap (λ (rs : List ℕ). k ∷ rs) (roots_are f root (k + 1) n)
+    ap (λ (r : ℕ). r ∷ map (λ w. w.root) (map f (range_with_len (k + 1) n))) (root k)
+    ∙ ap (λ (rs : List ℕ). k ∷ rs) (roots_are f root (k + 1) n)
 
-boards_are : (b : BoardView) (f : ℕ → World) → ((r : ℕ) → (f r).board ≡ b) → (k n : ℕ) → AllByRecursion (λ w. w.board ≡ b) (map f (range_with_len k n))
+boards_are : (b : BoardView) (f : ℕ → World) → ((r : ℕ) → (f r).board ≡ b) → (k n : ℕ)
+    → AllByRecursion (λ w. w.board ≡ b) (map f (range_with_len k n))
 boards_are b f board k zero = tt
 boards_are b f board k (suc n) = (board k, boards_are b f board (k + 1) n)
 
@@ -129,7 +138,8 @@ boards_are b f board k (suc n) = (board k, boards_are b f board (k + 1) n)
 are_left : (b : BoardView) (r : ℕ) (w : World) (f : FlatListener) → Same b r w f → AreLeft b r w f
 are_left b r w f s = record { same = s.states; quiet = λ d x own e at. s.quiet d x own e (sym (s.states d own) ∙ at) }
 
-module _ (b : BoardView) (tree : IsTree b) (plain : IsPlainBoard b) (lines : LinesAreLocked b) (asks : Asks) (some : AsksForMessages asks) (limits : AsksWithinLimits asks) (callers : ℕ)
+module _ (b : BoardView) (tree : IsTree b) (plain : IsPlainBoard b) (lines : LinesAreLocked b) (asks : Asks) (some : AsksForMessages asks)
+    (limits : AsksWithinLimits asks) (callers : ℕ)
     (past : List Entry) (steps : IsStepwise b callers asks past) where
   abbrev n : Now
   n = now b asks past
@@ -141,16 +151,19 @@ module _ (b : BoardView) (tree : IsTree b) (plain : IsPlainBoard b) (lines : Lin
   stands = past-stands b tree plain lines asks some callers past steps
 
   -- who is inside has sent the messages that stand behind its last settle
-  so_far : n.due ≡ None → (r c : ℕ) → (i : IsInsideWith b asks n w.stand.ahead r c) → take (calls_behind past c) (messages_of i.whose) ≡ i.said.before
+  so_far : n.due ≡ None → (r c : ℕ) → (i : IsInsideWith b asks n w.stand.ahead r c)
+      → take (calls_behind past c) (messages_of i.whose) ≡ i.said.before
   so_far none r c i =
       let said : IsSaid b w.stand.ahead i.whose (n.worlds r) (n.got c) i.left = i.said in
       let count : calls_behind past c + suc i.left ≡ length (messages_of i.whose) =
-      call_count b tree plain lines asks some callers past steps (past-stage b tree plain lines asks some callers past steps) c i.whose.bus (messages_of i.whose) i.left none
+      call_count b tree plain lines asks some callers past steps (past-stage b tree plain lines asks some callers past steps) c i.whose.bus
+      (messages_of i.whose) i.left none
       (goes_on_from n.slot (begun b (asks c (n.settled c))) (n.walk c) (Send (Call i.whose.bus (messages_of i.whose)) i.left) i.sends) in
       let all : length (messages_of i.whose) ≡ length said.before + suc (length said.rest) =
       ap (λ (xs : List MessageView). length xs) said.all ∙ length-around said.before said.next said.rest in
       let many : calls_behind past c ≡ length said.before = omega (arith, count, all, said.so_many) in
-      ap (λ (k : ℕ). take k (messages_of i.whose)) many ∙ ap (λ (xs : List MessageView). take (length said.before) xs) said.all ∙ take_front said.before (said.next ∷ said.rest)
+      ap (λ (k : ℕ). take k (messages_of i.whose)) many ∙ ap (λ (xs : List MessageView). take (length said.before) xs) said.all
+      ∙ take_front said.before (said.next ∷ said.rest)
 
   outside_left : n.due ≡ None → (r : ℕ) → n.inside r ≡ None → AreLeft b r (world_at b asks past r) (idle w.history_is.states)
   outside_left none r out =
@@ -172,8 +185,10 @@ module _ (b : BoardView) (tree : IsTree b) (plain : IsPlainBoard b) (lines : Lin
             whose = i.whose;
             asked = ap (λ (rs : List Reply). asks c rs) (sym (settled-told b asks past c)) ∙ i.asked;
             root = i.root;
-            left = subst (λ (ms : List MessageView). AreLeft b r (n.worlds r) (said_so_far b i.whose w.history_is.states ms).now) (sym (so_far none r c i))
-                (subst (λ (xs : List TargetState). AreLeft b r (n.worlds r) (said_so_far b i.whose xs i.said.before).now) (w.stand.free none)
+            left = subst (λ (ms : List MessageView). AreLeft b r (n.worlds r) (said_so_far b i.whose w.history_is.states ms).now)
+                (sym (so_far none r c i))
+                (subst (λ (xs : List TargetState). AreLeft b r (n.worlds r) (said_so_far b i.whose xs i.said.before).now)
+                (w.stand.free none)
                 (are_left b r (n.worlds r) (said_so_far b i.whose w.stand.ahead i.said.before).now
                 (subst (λ (k : ℕ). Same b k (n.worlds r) (said_so_far b i.whose w.stand.ahead i.said.before).now) i.root i.said.same)));
           }
@@ -196,21 +211,25 @@ module _ (b : BoardView) (tree : IsTree b) (plain : IsPlainBoard b) (lines : Lin
         by : (o : Option ℕ) → n.inside r ≡ o → o ≡ None
         by None e = refl
         by (Some c) e =
-            absurd (no_act c (Send (Call (w.stand.said r c e).whose.bus (messages_of (w.stand.said r c e).whose)) (w.stand.said r c e).left) (w.stand.said r c e).sends)
+            absurd (no_act c (Send (Call (w.stand.said r c e).whose.bus (messages_of (w.stand.said r c e).whose)) (w.stand.said r c e).left)
+            (w.stand.said r c e).sends)
 
     -- each device stands in the world of its root as the history has it
     device_is : (d : ℕ) (x : TargetState) → slice_get w.history_is.states d ≡ Some x
         → device_in (worlds_of b asks past) (root_of b (of_device (λ y. y.bus) 0 b d)) d ≡ x
     device_is d x at =
         let dev = get_same_length b.devices w.history_is.states d x (sym (history_many b asks (order past) w.history_is w.defined)) at in
-        let home : of_device (λ y. y.bus) 0 b d ≡ dev.0.bus = ap (λ (o : Option DeviceView). unwrap_or (option_map (λ (y : DeviceView). y.bus) o) 0) dev.1 in
+        let home : of_device (λ y. y.bus) 0 b d ≡ dev.0.bus = ap
+        (λ (o : Option DeviceView). unwrap_or (option_map (λ (y : DeviceView). y.bus) o) 0) dev.1 in
         let within = get_within b.devices d dev.0 dev.0 dev.1 in
         let placed : dev.0.bus < buses b = subst (λ (y : DeviceView). y.bus < buses b) within.1 (plain.placed d dev.0 within.0) in
         let low : root_of b (of_device (λ y. y.bus) 0 b d) < length b.roots =
         tree.root_is (of_device (λ y. y.bus) 0 b d) (subst (λ (s : ℕ). s < buses b) (sym home) placed) in
-        let left = outside_left none_due (root_of b (of_device (λ y. y.bus) 0 b d)) (none_inside (root_of b (of_device (λ y. y.bus) 0 b d))) in
+        let left = outside_left none_due (root_of b (of_device (λ y. y.bus) 0 b d))
+        (none_inside (root_of b (of_device (λ y. y.bus) 0 b d))) in
         ap (λ (o : Option World). option_map_or (λ (u : World). unwrap_or (slice_get u.devices d) Silent) o Silent)
-        (get_numbers (world_at b asks past) 0 (length b.roots) (root_of b (of_device (λ y. y.bus) 0 b d)) low ∙ ap (λ (r : ℕ). Some (world_at b asks past r)) (zero-add (root_of b (of_device (λ y. y.bus) 0 b d))))
+        (get_numbers (world_at b asks past) 0 (length b.roots) (root_of b (of_device (λ y. y.bus) 0 b d)) low
+        ∙ ap (λ (r : ℕ). Some (world_at b asks past r)) (zero-add (root_of b (of_device (λ y. y.bus) 0 b d))))
         ∙ ap (λ (o : Option TargetState). unwrap_or o Silent) (left.same d refl ∙ at)
 
     pub devices-left : LeavesDevices b asks past
@@ -220,10 +239,13 @@ module _ (b : BoardView) (tree : IsTree b) (plain : IsPlainBoard b) (lines : Lin
           defined = w.defined;
           worlds = record {
             roots = roots_are (world_at b asks past) stands.told.root 0 (length b.roots);
-            boards = All-from_recursion (λ u. u.board ≡ b) (worlds_of b asks past) (boards_are b (world_at b asks past) stands.told.board 0 (length b.roots));
+            boards = All-from_recursion (λ u. u.board ≡ b) (worlds_of b asks past)
+                (boards_are b (world_at b asks past) stands.told.board 0 (length b.roots));
           };
-          states = ap (λ (k : ℕ). map (λ d. device_in (worlds_of b asks past) (root_of b (of_device (λ x. x.bus) 0 b d)) d) (range_with_len 0 k))
+          states = ap (λ (k : ℕ). map (λ d. device_in (worlds_of b asks past) (root_of b (of_device (λ x. x.bus) 0 b d)) d)
+              (range_with_len 0 k))
               (sym (history_many b asks (order past) w.history_is w.defined))
               ∙ map_numbers (λ d. device_in (worlds_of b asks past) (root_of b (of_device (λ x. x.bus) 0 b d)) d) 0 w.history_is.states
-              (λ i x at. ap (λ (d : ℕ). device_in (worlds_of b asks past) (root_of b (of_device (λ y. y.bus) 0 b d)) d) (zero-add i) ∙ device_is i x at);
+              (λ i x at. ap (λ (d : ℕ). device_in (worlds_of b asks past) (root_of b (of_device (λ y. y.bus) 0 b d)) d) (zero-add i)
+              ∙ device_is i x at);
         }

@@ -18,11 +18,14 @@ use Rattle.bus_laws.proofs.past.Placed.{settles-kept}
 use Rattle.flat_laws.proofs.past.Walks.{walks-kept}
 use Rattle.bus_laws.proofs.past.Known.{entry_known}
 
-callers_known : (b : BoardView) (callers : ℕ) (asks : Asks) (past : List Entry) → IsStepwise b callers asks past → Everywhere (λ e before. caller_of e < callers) past
+callers_known : (b : BoardView) (callers : ℕ) (asks : Asks) (past : List Entry) → IsStepwise b callers asks past
+    → Everywhere (λ e before. caller_of e < callers) past
 callers_known b callers asks [] steps = tt
-callers_known b callers asks (e ∷ past) steps = (entry_known b callers asks (now b asks past) e steps.0, callers_known b callers asks past steps.1)
+callers_known b callers asks (e ∷ past) steps =
+    (entry_known b callers asks (now b asks past) e steps.0, callers_known b callers asks past steps.1)
 
-pub legal-with : (b : BoardView) → IsTree b → IsPlainBoard b → LinesAreLocked b → (asks : Asks) → AsksForMessages asks → (callers : ℕ) (past : List Entry)
+pub legal-with : (b : BoardView) → IsTree b → IsPlainBoard b → LinesAreLocked b → (asks : Asks) → AsksForMessages asks
+    → (callers : ℕ) (past : List Entry)
     → IsStepwise b callers asks past → (now b asks past).due ≡ None → KeepsReplies b asks past → IsLegal b callers asks past
 legal-with b tree plain lines asks some callers past steps none_due replies_kept =
     record {

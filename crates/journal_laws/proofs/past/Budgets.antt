@@ -55,14 +55,22 @@ pub record IsBudget (b : BoardView) (done : Bool) (w : WalkTree) (most : ℕ) : 
   pub within : IsWithin b w left
   pub owes : left + to_settle done ≤ most
 
-pub budget-begins : (b : BoardView) → IsTree b → MeetsRules b → (t : TransferView) → 0 < length t.msgs → IsBudget b false (walk_for b t) (cost_of b t)
+pub budget-begins : (b : BoardView) → IsTree b → MeetsRules b → (t : TransferView) → 0 < length t.msgs
+    → IsBudget b false (walk_for b t) (cost_of b t)
 budget-begins b tree rules t some =
-    record { left = cost_of b t - 1; settles = walk-settles b t; within = walk-within b tree rules t some; owes = omega (arith, cost_some b t) }
+    record {
+      left = cost_of b t - 1;
+      settles = walk-settles b t;
+      within = walk-within b tree rules t some;
+      owes = omega (arith, cost_some b t);
+    }
 
 -- a message has no more bytes than it says
-short_from : (ms : List Msg) (out : List ℕ) (i : ℕ) → length (nth_message (messages_from ms out) i).bytes ≤ (nth_message (messages_from ms out) i).len
+short_from : (ms : List Msg) (out : List ℕ) (i : ℕ)
+    → length (nth_message (messages_from ms out) i).bytes ≤ (nth_message (messages_from ms out) i).len
 short_from [] out i = omega arith
-short_from (m ∷ ms) out zero = by (is_read m) (subst (λ (k : ℕ). k ≤ written_of m) (sym (length-take (written_of m) out)) (min-le_left (written_of m) (length out)))
+short_from (m ∷ ms) out zero = by (is_read m)
+    (subst (λ (k : ℕ). k ≤ written_of m) (sym (length-take (written_of m) out)) (min-le_left (written_of m) (length out)))
   where
     by : (reading : Bool) → length (take (written_of m) out) ≤ cond reading 0 m.len → length (take (written_of m) out) ≤ m.len
     by true h = omega (arith, h)
@@ -74,20 +82,25 @@ IsShort m = length m.bytes ≤ m.len
 
 -- a reply gives no more bytes than were read
 -- behind the settle come none of the caller's messages
-got_stays : (job : Job) (reading : Bool) (bytes got : List ℕ) (done : Bool) → done ≡ true → IsBefore done job → got_after job reading bytes got ≡ got
+got_stays : (job : Job) (reading : Bool) (bytes got : List ℕ) (done : Bool) → done ≡ true → IsBefore done job
+    → got_after job reading bytes got ≡ got
 got_stays (Call bus ms) reading bytes got done d before = absurd (let f : true ≡ false = sym d ∙ before in cc)
 got_stays (Select h) reading bytes got done d before = refl
 got_stays (SwitchOff off) reading bytes got done d before = refl
 
 -- what a message and a line step leave of what their caller has read
-pub message-got : (b : BoardView) (asks : Asks) (n : Now) (c bus : ℕ) (why : Purpose) (part parts addr : ℕ) (reading : Bool) (bytes : List ℕ) (heard : Option Node) (en : End) (job : Job) (left : ℕ)
-    → IsNext b asks n c (Send job left) → (step b asks n (entry.Message c bus why part parts addr reading bytes heard en)).got c ≡ got_after job reading bytes (n.got c)
+pub message-got : (b : BoardView) (asks : Asks) (n : Now) (c bus : ℕ) (why : Purpose) (part parts addr : ℕ) (reading : Bool)
+    (bytes : List ℕ) (heard : Option Node) (en : End) (job : Job) (left : ℕ)
+    → IsNext b asks n c (Send job left)
+    → (step b asks n (entry.Message c bus why part parts addr reading bytes heard en)).got c ≡ got_after job reading bytes (n.got c)
 message-got b asks n c bus why part parts addr reading bytes heard en job left next =
-    ap (λ (o : Option Act). (sent_by b n c o (first_note (current b asks n c)) reading bytes en).got c) next ∙ at_same n.got c (got_after job reading bytes (n.got c))
+    ap (λ (o : Option Act). (sent_by b n c o (first_note (current b asks n c)) reading bytes en).got c) next
+    ∙ at_same n.got c (got_after job reading bytes (n.got c))
 
 pub line-got : (b : BoardView) (asks : Asks) (n : Now) (c mux level : ℕ) (failed : Bool) (job : Job) → IsNext b asks n c (Shift job)
     → (step b asks n (entry.Line c mux level failed)).got c ≡ n.got c
-line-got b asks n c mux level failed job next = ap (λ (o : Option Act). (lined_by b n o (first_note (current b asks n c)) failed).got c) next
+line-got b asks n c mux level failed job next = ap
+    (λ (o : Option Act). (lined_by b n o (first_note (current b asks n c)) failed).got c) next
 
 -- what an entry of a caller leaves of its budget
 pub record IsPaid (b : BoardView) (asks : Asks) (n : Now) (e : Entry) (done : Bool) (most : ℕ) : Type 0 where
@@ -103,7 +116,8 @@ pub record IsPaid (b : BoardView) (asks : Asks) (n : Now) (e : Entry) (done : Bo
   pub replies : ((after ≡ done) × ((step b asks n e).settled (caller_of e) ≡ n.settled (caller_of e)))
       ⊎ ((done ≡ false) × (after ≡ true) × (r : Reply) × ((step b asks n e).settled (caller_of e) ≡ n.settled (caller_of e) ++ r ∷ []))
 
-budget_of : (b : BoardView) (done : Bool) (w u : WalkTree) (m : ℕ) → u ≡ w → Settles done w → IsWithin b w m → IsBudget b done u (m + to_settle done)
+budget_of : (b : BoardView) (done : Bool) (w u : WalkTree) (m : ℕ) → u ≡ w → Settles done w → IsWithin b w m
+    → IsBudget b done u (m + to_settle done)
 budget_of b done w u m same settles within =
     record {
       left = m;
@@ -112,13 +126,15 @@ budget_of b done w u m same settles within =
       owes = omega arith;
     }
 
-module _ (b : BoardView) (asks : Asks) (some : AsksForMessages asks) (callers : ℕ) (past : List Entry) (steps : IsStepwise b callers asks past) where
+module _ (b : BoardView) (asks : Asks) (some : AsksForMessages asks) (callers : ℕ) (past : List Entry)
+    (steps : IsStepwise b callers asks past) where
   abbrev n : Now
   n = now b asks past
 
   short_sent : (c : ℕ) (job : Job) (left : ℕ) → IsNext b asks n c (Send job left) → IsShort (message_of b job left)
   short_sent c (Call bus messages) left next =
-      let asked : IsAsked b asks c (current b asks n c) (n.settled c) = current-asked b asks some n (past-asked b asks some callers past steps) c in
+      let asked : IsAsked b asks c (current b asks n c) (n.settled c) = current-asked b asks some n
+      (past-asked b asks some callers past steps) c in
       let at = first_is (current b asks n c) (Send (Call bus messages) left) next in
       let call : IsCall b asked.whose bus messages = (subst (λ (w : WalkTree). CallsOf b asked.whose w) at.2 asked.calls).0 in
       subst (λ (ms : List MessageView). IsShort (nth_message ms (length messages - 1 - left))) (sym call.same_messages)
@@ -127,18 +143,21 @@ module _ (b : BoardView) (asks : Asks) (some : AsksForMessages asks) (callers : 
   short_sent c (Select h) (suc left) next = omega arith
   short_sent c (SwitchOff off) left next = omega arith
 
-  pub budget-pays : (e : Entry) → May b callers asks n e → (done : Bool) (most : ℕ) → IsBudget b done (ahead b asks n (caller_of e)) most → IsPaid b asks n e done most
+  pub budget-pays : (e : Entry) → May b callers asks n e → (done : Bool) (most : ℕ) → IsBudget b done (ahead b asks n (caller_of e)) most
+      → IsPaid b asks n e done most
   budget-pays (entry.Take c l) may done most budget =
       let w : WalkTree = ahead b asks n c in
       let h = within-next b n.slot w budget.left budget.within (Take l) may.2 in
       record {
         after = done;
         rest = h.0 + to_settle done;
-        kept = budget_of b done (rest_of (seen n.slot w) Passed) ((step b asks n (entry.Take c l)).walk c) h.0 (at_same n.walk c (rest_of (seen n.slot w) Passed))
+        kept = budget_of b done (rest_of (seen n.slot w) Passed) ((step b asks n (entry.Take c l)).walk c) h.0
+            (at_same n.walk c (rest_of (seen n.slot w) Passed))
             (settles-taken done n.slot w budget.settles l may.2).1 (h.2 Passed);
         entries = omega (arith, h.1, budget.owes);
         bytes = omega (arith, h.1, budget.owes);
-        calls = (let none : calls_for b n (first_act (current b asks n c)) (entry.Take c l) ≡ 0 = ap (λ (o : Option Act). calls_for b n o (entry.Take c l)) may.2 in omega (arith, none, h.1, budget.owes));
+        calls = (let none : calls_for b n (first_act (current b asks n c)) (entry.Take c l) ≡ 0 = ap
+            (λ (o : Option Act). calls_for b n o (entry.Take c l)) may.2 in omega (arith, none, h.1, budget.owes));
         emptied = λ d was. was d;
         replies = inl (refl, refl);
       }
@@ -148,11 +167,13 @@ module _ (b : BoardView) (asks : Asks) (some : AsksForMessages asks) (callers : 
       record {
         after = done;
         rest = h.0 + to_settle done;
-        kept = budget_of b done (rest_of (seen n.slot w) Passed) ((step b asks n (entry.Free c l)).walk c) h.0 (at_same n.walk c (rest_of (seen n.slot w) Passed))
+        kept = budget_of b done (rest_of (seen n.slot w) Passed) ((step b asks n (entry.Free c l)).walk c) h.0
+            (at_same n.walk c (rest_of (seen n.slot w) Passed))
             (settles-freed done n.slot w budget.settles l may.2).1 (h.2 Passed);
         entries = omega (arith, h.1, budget.owes);
         bytes = omega (arith, h.1, budget.owes);
-        calls = (let none : calls_for b n (first_act (current b asks n c)) (entry.Free c l) ≡ 0 = ap (λ (o : Option Act). calls_for b n o (entry.Free c l)) may.2 in omega (arith, none, h.1, budget.owes));
+        calls = (let none : calls_for b n (first_act (current b asks n c)) (entry.Free c l) ≡ 0 = ap
+            (λ (o : Option Act). calls_for b n o (entry.Free c l)) may.2 in omega (arith, none, h.1, budget.owes));
         emptied = λ d was. was d;
         replies = inl (refl, refl);
       }
@@ -161,15 +182,18 @@ module _ (b : BoardView) (asks : Asks) (some : AsksForMessages asks) (callers : 
       let h = within-next b n.slot w budget.left budget.within (Settle may.2) may.3 in
       let s = settles-settled done (seen n.slot w) (settles_seen n.slot done w budget.settles) may.2 may.3 in
       let unsettled : to_settle done ≡ 1 = ap to_settle s.0 in
-      let few : length (bytes_given r) ≤ length (n.got c) = subst (λ (x : Reply). length (bytes_given x) ≤ length (n.got c)) (sym may.4) (given-few may.2 (asks c (n.settled c)) (n.got c)) in
+      let few : length (bytes_given r) ≤ length (n.got c) = subst (λ (x : Reply). length (bytes_given x) ≤ length (n.got c)) (sym may.4)
+      (given-few may.2 (asks c (n.settled c)) (n.got c)) in
       let empty : length ((step b asks n (entry.Settle c r cut)).got c) ≡ 0 = ap (λ (xs : List ℕ). length xs) (at_same n.got c []) in
       record {
         after = true;
         rest = h.0 + 0;
-        kept = budget_of b true (rest_of (seen n.slot w) Passed) ((step b asks n (entry.Settle c r cut)).walk c) h.0 (at_same n.walk c (rest_of (seen n.slot w) Passed)) s.2 (h.2 Passed);
+        kept = budget_of b true (rest_of (seen n.slot w) Passed) ((step b asks n (entry.Settle c r cut)).walk c) h.0
+            (at_same n.walk c (rest_of (seen n.slot w) Passed)) s.2 (h.2 Passed);
         entries = omega (arith, h.1, budget.owes, unsettled);
         bytes = omega (arith, h.1, budget.owes, unsettled, few, empty);
-        calls = (let none : calls_for b n (first_act (current b asks n c)) (entry.Settle c r cut) ≡ 0 = ap (λ (o : Option Act). calls_for b n o (entry.Settle c r cut)) may.3 in omega (arith, none, h.1, budget.owes, unsettled));
+        calls = (let none : calls_for b n (first_act (current b asks n c)) (entry.Settle c r cut) ≡ 0 = ap
+            (λ (o : Option Act). calls_for b n o (entry.Settle c r cut)) may.3 in omega (arith, none, h.1, budget.owes, unsettled));
         emptied = λ d was. at_same n.got c [];
         replies = inr (s.0, refl, r, at_same n.settled c (n.settled c ++ r ∷ []));
       }
@@ -183,7 +207,8 @@ module _ (b : BoardView) (asks : Asks) (some : AsksForMessages asks) (callers : 
       record {
         after = done;
         rest = h.0 + to_settle done;
-        kept = budget_of b done (rest_of (seen n.slot w) (Lined failed)) ((step b asks n e).walk c) h.0 (at_same n.walk c (rest_of (seen n.slot w) (Lined failed)))
+        kept = budget_of b done (rest_of (seen n.slot w) (Lined failed)) ((step b asks n e).walk c) h.0
+            (at_same n.walk c (rest_of (seen n.slot w) (Lined failed)))
             (settles-shifted done n.slot w budget.settles may.2.0 may.2.1 failed).2 (h.2 (Lined failed));
         entries = omega (arith, h.1, budget.owes);
         bytes = omega (arith, h.1, budget.owes, few);
@@ -198,8 +223,10 @@ module _ (b : BoardView) (asks : Asks) (some : AsksForMessages asks) (callers : 
       let left : ℕ = may.2.1 in
       let m : MessageView = message_of b job left in
       let h = within-next b n.slot w budget.left budget.within (Send job left) may.2.2 in
-      let size = talk-sized world_listener (cut_of en) (block_limit b) (omega arith) (n.worlds (root_of b (job_bus job))) m (short_sent c job left may.2.2) (is_last job left) in
-      let made : calls_for b n (first_act (current b asks n c)) e ≡ length (talk_of b n job left en).calls = ap (λ (o : Option Act). calls_for b n o e) may.2.2 in
+      let size = talk-sized world_listener (cut_of en) (block_limit b) (omega arith) (n.worlds (root_of b (job_bus job))) m
+      (short_sent c job left may.2.2) (is_last job left) in
+      let made : calls_for b n (first_act (current b asks n c)) e ≡ length (talk_of b n job left en).calls = ap
+      (λ (o : Option Act). calls_for b n o e) may.2.2 in
       let told : length bytes ≡ length (talk_of b n job left en).bytes = ap (λ (xs : List ℕ). length xs) may.2.3.bytes_told in
       let got : (step b asks n e).got c ≡ got_after job reading bytes (n.got c) =
       message-got b asks n c bus why part parts addr reading bytes heard en job left may.2.2 in
@@ -208,11 +235,17 @@ module _ (b : BoardView) (asks : Asks) (some : AsksForMessages asks) (callers : 
       record {
         after = done;
         rest = h.0 + to_settle done;
-        kept = budget_of b done (rest_of (seen n.slot w) (Sent en bytes)) ((step b asks n e).walk c) h.0 (at_same n.walk c (rest_of (seen n.slot w) (Sent en bytes)))
+        kept = budget_of b done (rest_of (seen n.slot w) (Sent en bytes)) ((step b asks n e).walk c) h.0
+            (at_same n.walk c (rest_of (seen n.slot w) (Sent en bytes)))
             ((settles-sent done n.slot w budget.settles job left may.2.2).1 en bytes).2 (h.2 (Sent en bytes));
         entries = omega (arith, h.1, budget.owes);
         bytes = omega (arith, h.1, budget.owes, few, told, size.0);
         calls = omega (arith, made, size.1, h.1, budget.owes);
-        emptied = λ d was. got ∙ got_stays job reading bytes (n.got c) done d (settles-sent done n.slot w budget.settles job left may.2.2).0 ∙ was d;
-        replies = inl (refl, ap (λ (o : Option Act). (sent_by b n c o (first_note (current b asks n c)) reading bytes en).settled c) may.2.2);
+        emptied = λ d was. got ∙ got_stays job reading bytes (n.got c) done d (settles-sent done n.slot w budget.settles job left may.2.2).0
+            ∙ was d;
+        replies = inl (
+          refl,
+          ap (λ (o : Option Act). (sent_by b n c o (first_note (current b asks n c)) reading bytes en).settled c)
+              may.2.2,
+        );
       }

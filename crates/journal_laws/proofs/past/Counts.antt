@@ -61,16 +61,19 @@ talk_faults limit w m last cut =
     limit w m last cut refl refl
 
 -- one root's calls are more
-more_at : (calls : ℕ → List PortCall) (s : ℕ) (more : List PortCall) (r k : ℕ) (failed : Bool) → faults_in more ≡ count_if failed → faults_in (calls r) ≡ k
+more_at : (calls : ℕ → List PortCall) (s : ℕ) (more : List PortCall) (r k : ℕ) (failed : Bool) → faults_in more ≡ count_if failed
+    → faults_in (calls r) ≡ k
     → faults_in (changed_at calls s (more ++ calls s) r) ≡ count_if (eqb s r && failed) + k
 more_at calls s more r k failed own before =
     elim (eqb_tells r s) [
-      | inl h ↦ (let at : faults_in (changed_at calls s (more ++ calls s) r) ≡ faults_in (more ++ calls s) = ap (λ (t : Bool). faults_in (cond t (more ++ calls s) (calls r))) h.0 in
+      | inl h ↦ (let at : faults_in (changed_at calls s (more ++ calls s) r) ≡ faults_in (more ++ calls s) = ap
+          (λ (t : Bool). faults_in (cond t (more ++ calls s) (calls r))) h.0 in
           let sum : faults_in (more ++ calls s) ≡ faults_in more + faults_in (calls s) = faults-append more (calls s) in
           let there : faults_in (calls s) ≡ k = ap (λ (i : ℕ). faults_in (calls i)) (sym h.1) ∙ before in
           let told : count_if (eqb s r && failed) ≡ count_if failed = ap (λ (t : Bool). count_if (t && failed)) (eq-eqb s r (sym h.1)) in
           omega (arith, at, sum, own, there, told))
-      | inr h ↦ (let at : faults_in (changed_at calls s (more ++ calls s) r) ≡ faults_in (calls r) = ap (λ (t : Bool). faults_in (cond t (more ++ calls s) (calls r))) h.0 in
+      | inr h ↦ (let at : faults_in (changed_at calls s (more ++ calls s) r) ≡ faults_in (calls r) = ap
+          (λ (t : Bool). faults_in (cond t (more ++ calls s) (calls r))) h.0 in
           let told : count_if (eqb s r && failed) ≡ 0 = ap (λ (t : Bool). count_if (t && failed)) (eqb-apart s r (λ f. h.1 (sym f))) in
           omega (arith, at, before, told))
     ]
@@ -82,9 +85,11 @@ line_faults job false = refl
 quiet : {m k : ℕ} → m ≡ k → m ≡ 0 + k
 quiet same = omega (arith, same)
 
-module _ (b : BoardView) (tree : IsTree b) (plain : IsPlainBoard b) (lines : LinesAreLocked b) (asks : Asks) (some : AsksForMessages asks) (callers : ℕ) where
+module _ (b : BoardView) (tree : IsTree b) (plain : IsPlainBoard b) (lines : LinesAreLocked b) (asks : Asks) (some : AsksForMessages asks)
+    (callers : ℕ) where
   -- THE INDUCTION
-  pub past-counts : (past : List Entry) → IsStepwise b callers asks past → (r : ℕ) → faults_in ((now b asks past).calls r) ≡ failed_on b r past
+  pub past-counts : (past : List Entry) → IsStepwise b callers asks past → (r : ℕ)
+      → faults_in ((now b asks past).calls r) ≡ failed_on b r past
   past-counts [] steps r = refl
   past-counts (entry.Take c l ∷ past) steps r = quiet (past-counts past steps.1 r)
   past-counts (entry.Free c l ∷ past) steps r = quiet (past-counts past steps.1 r)
@@ -93,24 +98,30 @@ module _ (b : BoardView) (tree : IsTree b) (plain : IsPlainBoard b) (lines : Lin
       let n : Now = now b asks past in
       let may = steps.0.2 in
       let job : Job = may.0 in
-      subst (λ (o : Option Act). faults_in ((sent_by b n c o (first_note (current b asks n c)) reading bytes e).calls r) ≡ failed_on b r (entry.Message c bus why part parts addr reading bytes heard e ∷ past)) (sym may.2)
+      subst (λ (o : Option Act). faults_in ((sent_by b n c o (first_note (current b asks n c)) reading bytes e).calls r) ≡ failed_on b r
+      (entry.Message c bus why part parts addr reading bytes heard e ∷ past)) (sym may.2)
       (more_at n.calls (root_of b (job_bus job)) (talk_of b n job may.1 e).calls r (failed_on b r past) (is_cut e)
-      (talk_faults (block_limit b) (n.worlds (root_of b (job_bus job))) (message_of b job may.1) (is_last job may.1) (cut_of e) ∙ sym (ap (λ (x : End). count_if (is_cut x)) may.3.end_told))
+      (talk_faults (block_limit b) (n.worlds (root_of b (job_bus job))) (message_of b job may.1) (is_last job may.1) (cut_of e)
+      ∙ sym (ap (λ (x : End). count_if (is_cut x)) may.3.end_told))
       (past-counts past steps.1 r)
       ∙ ap (λ (s : ℕ). count_if (eqb (root_of b s) r && is_cut e) + failed_on b r past) (sym may.3.on_bus))
   past-counts (entry.Line c mux level failed ∷ past) steps r =
       let n : Now = now b asks past in
       let may = steps.0.2 in
       let job : Job = may.0 in
-      subst (λ (o : Option Act). faults_in ((lined_by b n o (first_note (current b asks n c)) failed).calls r) ≡ failed_on b r (entry.Line c mux level failed ∷ past)) (sym may.1)
-      (more_at n.calls (root_of b (job_bus job)) (line_call job failed ∷ []) r (failed_on b r past) failed (line_faults job failed) (past-counts past steps.1 r)
+      subst (λ (o : Option Act). faults_in ((lined_by b n o (first_note (current b asks n c)) failed).calls r) ≡ failed_on b r
+      (entry.Line c mux level failed ∷ past)) (sym may.1)
+      (more_at n.calls (root_of b (job_bus job)) (line_call job failed ∷ []) r (failed_on b r past) failed (line_faults job failed)
+      (past-counts past steps.1 r)
       ∙ ap (λ (s : ℕ). count_if (eqb s r && failed) + failed_on b r past)
-      (sym (line_root b tree plain lines asks some callers past steps.1 c r c job may.1) ∙ ap (λ (m : ℕ). root_of b (home_of_mux b m)) (sym may.2.of_mux)))
+      (sym (line_root b tree plain lines asks some callers past steps.1 c r c job may.1)
+      ∙ ap (λ (m : ℕ). root_of b (home_of_mux b m)) (sym may.2.of_mux)))
 
   reversed : (calls : List PortCall) → faults_in (reverse calls) ≡ faults_in calls
   reversed [] = refl
   reversed (c ∷ cs) =
-      let turned : faults_in (reverse (c ∷ cs)) ≡ faults_in (reverse cs ++ c ∷ []) = ap (λ (xs : List PortCall). faults_in xs) (reverse-append (c ∷ []) cs) in
+      let turned : faults_in (reverse (c ∷ cs)) ≡ faults_in (reverse cs ++ c ∷ []) = ap (λ (xs : List PortCall). faults_in xs)
+      (reverse-append (c ∷ []) cs) in
       let sum : faults_in (reverse cs ++ c ∷ []) ≡ faults_in (reverse cs) + faults_in (c ∷ []) = faults-append (reverse cs) (c ∷ []) in
       let before : faults_in (reverse cs) ≡ faults_in cs = reversed cs in omega (arith, turned, sum, before)
 

@@ -55,7 +55,8 @@ module _ {W : Type 0} (l : Listener W) (cut : Option ℕ) where
   cond_front false t u1 u2 w1 w2 h1 h2 = h2
 
   -- a call and what follows it
-  then_front : (t : Said W) (c : PortCall) (next whole : Said W → TalkTold W) → Went c → Fronts (say l t c) (next (say l t c)) (whole (say l t c))
+  then_front : (t : Said W) (c : PortCall) (next whole : Said W → TalkTold W) → Went c
+      → Fronts (say l t c) (next (say l t c)) (whole (say l t c))
       → Fronts t (call_then l cut t c next) (whole (say l t c))
   then_front t c next whole went sub =
       record {
@@ -93,13 +94,15 @@ module _ {W : Type 0} (l : Listener W) (cut : Option ℕ) where
               counted = ap (λ (cs : List PortCall). length cs) (append_assoc broken.own (c ∷ []) t.calls) ∙ broken.counted;
               later = broken.later;
               next = broken.next;
-              whole_is = ap (λ (cs : List PortCall). cs ++ c ∷ []) broken.whole_is ∙ append_assoc broken.later (broken.next ∷ broken.own) (c ∷ []);
+              whole_is = ap (λ (cs : List PortCall). cs ++ c ∷ []) broken.whole_is
+                  ∙ append_assoc broken.later (broken.next ∷ broken.own) (c ∷ []);
             })
           ]
 
   ended_front : (stops : Bool) (t : Said W) (e : End) → IsOwnEnd e → Fronts t (ended l cut stops t e) (ended l None stops t e)
   ended_front true t e own =
-      then_front t call.Stop (λ s. told s e) (λ s. told s e) (λ f. let g : call.Stop ≡ call.Fault = f in cc) (told_front (say l t call.Stop) e own)
+      then_front t call.Stop (λ s. told s e) (λ s. told s e) (λ f. let g : call.Stop ≡ call.Fault = f in cc)
+      (told_front (say l t call.Stop) e own)
   ended_front false t e own = told_front t e own
 
   puts_front : (last : Bool) (bytes : List ℕ) (t : Said W) → Fronts t (puts l cut last bytes t) (puts l None last bytes t)
@@ -111,41 +114,51 @@ module _ {W : Type 0} (l : Listener W) (cut : Option ℕ) where
       (λ s. cond (l.takes t.now b) (puts l None last bs (with_byte s b)) (ended l None true s end.Refused))
       (λ f. let g : call.Put b ≡ call.Fault = f in cc)
       (cond_front (l.takes t.now b) s
-      (puts l cut last bs (with_byte s b)) (ended l cut true s end.Refused) (puts l None last bs (with_byte s b)) (ended l None true s end.Refused)
+      (puts l cut last bs (with_byte s b)) (ended l cut true s end.Refused) (puts l None last bs (with_byte s b))
+      (ended l None true s end.Refused)
       (puts_front last bs (with_byte s b)) (ended_front true s end.Refused tt))
 
   gets_front : (last : Bool) (n : ℕ) (t : Said W) → Fronts t (gets l cut last n t) (gets l None last n t)
   gets_front last zero t = ended_front last t end.Ok tt
   gets_front last (suc n) t =
-      then_front t (call.Get (ltb 0 n)) (λ s. gets l cut last n (with_byte s (l.gives t.now))) (λ s. gets l None last n (with_byte s (l.gives t.now)))
+      then_front t (call.Get (ltb 0 n)) (λ s. gets l cut last n (with_byte s (l.gives t.now)))
+      (λ s. gets l None last n (with_byte s (l.gives t.now)))
       (λ f. let g : call.Get (ltb 0 n) ≡ call.Fault = f in cc)
       (gets_front last n (with_byte (say l t (call.Get (ltb 0 n))) (l.gives t.now)))
 
-  counted_front : (last : Bool) (limit len : ℕ) (t : Said W) → Fronts t (gets_counted l cut last limit len t) (gets_counted l None last limit len t)
+  counted_front : (last : Bool) (limit len : ℕ) (t : Said W)
+      → Fronts t (gets_counted l cut last limit len t) (gets_counted l None last limit len t)
   counted_front last limit len t =
       let byte : ℕ = l.gives t.now in
       let s : Said W = say l t (call.Get true) in
       let u : Said W = with_byte s byte in
       then_front t (call.Get true)
-      (λ s. cond (eqb byte 0 || ltb limit byte) (call_then l cut (with_byte s byte) (call.Get false) (λ u. ended l cut true (with_byte u (l.gives s.now)) end.Proto))
+      (λ s. cond (eqb byte 0 || ltb limit byte)
+      (call_then l cut (with_byte s byte) (call.Get false) (λ u. ended l cut true (with_byte u (l.gives s.now)) end.Proto))
       (gets l cut last (byte + len - 1) (with_byte s byte)))
-      (λ s. cond (eqb byte 0 || ltb limit byte) (call_then l None (with_byte s byte) (call.Get false) (λ u. ended l None true (with_byte u (l.gives s.now)) end.Proto))
+      (λ s. cond (eqb byte 0 || ltb limit byte)
+      (call_then l None (with_byte s byte) (call.Get false) (λ u. ended l None true (with_byte u (l.gives s.now)) end.Proto))
       (gets l None last (byte + len - 1) (with_byte s byte)))
       (λ f. let g : call.Get true ≡ call.Fault = f in cc)
       (cond_front (eqb byte 0 || ltb limit byte) s
-      (call_then l cut u (call.Get false) (λ u. ended l cut true (with_byte u (l.gives s.now)) end.Proto)) (gets l cut last (byte + len - 1) u)
-      (call_then l None u (call.Get false) (λ u. ended l None true (with_byte u (l.gives s.now)) end.Proto)) (gets l None last (byte + len - 1) u)
-      (then_front u (call.Get false) (λ u. ended l cut true (with_byte u (l.gives s.now)) end.Proto) (λ u. ended l None true (with_byte u (l.gives s.now)) end.Proto)
+      (call_then l cut u (call.Get false) (λ u. ended l cut true (with_byte u (l.gives s.now)) end.Proto))
+      (gets l cut last (byte + len - 1) u)
+      (call_then l None u (call.Get false) (λ u. ended l None true (with_byte u (l.gives s.now)) end.Proto))
+      (gets l None last (byte + len - 1) u)
+      (then_front u (call.Get false) (λ u. ended l cut true (with_byte u (l.gives s.now)) end.Proto)
+      (λ u. ended l None true (with_byte u (l.gives s.now)) end.Proto)
       (λ f. let g : call.Get false ≡ call.Fault = f in cc)
       (ended_front true (with_byte (say l u (call.Get false)) (l.gives s.now)) end.Proto tt))
       (gets_front last (byte + len - 1) u))
 
-  answer_front : (last : Bool) (limit : ℕ) (m : MessageView) (a : Answer) (t : Said W) → Fronts t (by_answer l cut last limit m a t) (by_answer l None last limit m a t)
+  answer_front : (last : Bool) (limit : ℕ) (m : MessageView) (a : Answer) (t : Said W)
+      → Fronts t (by_answer l cut last limit m a t) (by_answer l None last limit m a t)
   answer_front last limit m answer.Ack t =
       cond_front m.reading t
       (cond m.counted (gets_counted l cut last limit m.len t) (gets l cut last m.len t)) (puts l cut last m.bytes t)
       (cond m.counted (gets_counted l None last limit m.len t) (gets l None last m.len t)) (puts l None last m.bytes t)
-      (cond_front m.counted t (gets_counted l cut last limit m.len t) (gets l cut last m.len t) (gets_counted l None last limit m.len t) (gets l None last m.len t)
+      (cond_front m.counted t (gets_counted l cut last limit m.len t) (gets l cut last m.len t) (gets_counted l None last limit m.len t)
+      (gets l None last m.len t)
       (counted_front last limit m.len t) (gets_front last m.len t))
       (puts_front last m.bytes t)
   answer_front last limit m answer.Slow t = ended_front true t end.Slow tt
@@ -153,8 +166,10 @@ module _ {W : Type 0} (l : Listener W) (cut : Option ℕ) where
   answer_front last limit m (answer.Byte byte) t = ended_front true t end.Nack tt
   answer_front last limit m answer.Nothing t = ended_front true t end.Nack tt
 
-  pub talk-front : (limit : ℕ) (w : W) (m : MessageView) (last : Bool) → IsFront cut [] (talk l limit w m last cut) (talk l limit w m last None)
+  pub talk-front : (limit : ℕ) (w : W) (m : MessageView) (last : Bool)
+      → IsFront cut [] (talk l limit w m last cut) (talk l limit w m last None)
   talk-front limit w m last =
-      then_front (silence w) (call.Start m.addr m.reading) (λ t. by_answer l cut last limit m (l.answer w m.addr m.reading) t) (λ t. by_answer l None last limit m (l.answer w m.addr m.reading) t)
+      then_front (silence w) (call.Start m.addr m.reading) (λ t. by_answer l cut last limit m (l.answer w m.addr m.reading) t)
+      (λ t. by_answer l None last limit m (l.answer w m.addr m.reading) t)
       (λ f. let g : call.Start m.addr m.reading ≡ call.Fault = f in cc)
       (answer_front last limit m (l.answer w m.addr m.reading) (say l (silence w) (call.Start m.addr m.reading)))

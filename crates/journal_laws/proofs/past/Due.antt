@@ -40,7 +40,8 @@ pub record IsDue (b : BoardView) (asks : Asks) (past : List Entry) (c : ℕ) : T
   pub accepted : refusal b transfer ≡ None
 
 -- what decides is on the way of a transfer that isn't refused
-accepted_by : (b : BoardView) (t : TransferView) (note : Note) (job : Job) (left : ℕ) (out : ActOutcome) (w : WalkTree) (verdict : Option Errno)
+accepted_by : (b : BoardView) (t : TransferView) (note : Note) (job : Job) (left : ℕ) (out : ActOutcome) (w : WalkTree)
+    (verdict : Option Errno)
     → IsGranted b t job → IsOnWay b t note job → GoesOn note job left out w → first_act w ≡ Some (Settle verdict) → refusal b t ≡ None
 accepted_by b t note (Call bus ms) left out w verdict granted way goes first = granted.not_refused
 accepted_by b t note (Select h) left out w verdict granted way goes first =
@@ -74,7 +75,8 @@ module _ (b : BoardView) (asks : Asks) (some : AsksForMessages asks) (callers : 
         let at = first_is (current b asks n d) (Send job left) next in
         let calls : CallsOf b own.whose (Then (Send job left) at.0 at.1) = subst (λ (w : WalkTree). CallsOf b own.whose w) at.2 own.calls in
         let settles : Settles own.done (Then (Send job left) at.0 at.1) = subst (λ (w : WalkTree). Settles own.done w) at.2 own.settles in
-        let rest : rest_of (current b asks n d) (Sent e bytes) ≡ at.1 (Sent e bytes) = ap (λ (w : WalkTree). rest_of w (Sent e bytes)) at.2 in
+        let rest : rest_of (current b asks n d) (Sent e bytes) ≡ at.1 (Sent e bytes) = ap
+        (λ (w : WalkTree). rest_of w (Sent e bytes)) at.2 in
         let will = due_settles (first_act (rest_of (current b asks n d) (Sent e bytes))) due in
         let first : first_act (at.1 (Sent e bytes)) ≡ Some (Settle will.0) = ap first_act (sym rest) ∙ will.1 in
         record {
@@ -83,7 +85,8 @@ module _ (b : BoardView) (asks : Asks) (some : AsksForMessages asks) (callers : 
           transfer = own.whose;
           asked = ap (λ (rs : List Reply). asks d rs) (sym (settled-told b asks past d))
               ∙ own.asked (settles_next (at.1 (Sent e bytes)) own.done will.0 (settles.1 e bytes).1 first);
-          accepted = accepted_by b own.whose at.0 job left (Sent e bytes) (at.1 (Sent e bytes)) will.0 calls.0 calls.1 (settles.1 e bytes).0 first;
+          accepted = accepted_by b own.whose at.0 job left (Sent e bytes) (at.1 (Sent e bytes)) will.0 calls.0 calls.1
+              (settles.1 e bytes).0 first;
         }
 
     lined_decides : (job : Job) (failed : Bool) → IsNext b asks n d (Shift job)
@@ -92,7 +95,8 @@ module _ (b : BoardView) (asks : Asks) (some : AsksForMessages asks) (callers : 
         let at = first_is (current b asks n d) (Shift job) next in
         let calls : CallsOf b own.whose (Then (Shift job) at.0 at.1) = subst (λ (w : WalkTree). CallsOf b own.whose w) at.2 own.calls in
         let settles : Settles own.done (Then (Shift job) at.0 at.1) = subst (λ (w : WalkTree). Settles own.done w) at.2 own.settles in
-        let rest : rest_of (current b asks n d) (Lined failed) ≡ at.1 (Lined failed) = ap (λ (w : WalkTree). rest_of w (Lined failed)) at.2 in
+        let rest : rest_of (current b asks n d) (Lined failed) ≡ at.1 (Lined failed) = ap
+        (λ (w : WalkTree). rest_of w (Lined failed)) at.2 in
         let will = due_settles (first_act (rest_of (current b asks n d) (Lined failed))) due in
         let first : first_act (at.1 (Lined failed)) ≡ Some (Settle will.0) = ap first_act (sym rest) ∙ will.1 in
         record {
@@ -115,13 +119,16 @@ module _ (b : BoardView) (asks : Asks) (some : AsksForMessages asks) (callers : 
   due-told (entry.Line d mux level failed ∷ past) c steps due =
       let will = by-due (is_due (first_act ((now b asks (entry.Line d mux level failed ∷ past)).walk d))) d c due in
       let walk = at_same (now b asks past).walk d (rest_of (current b asks (now b asks past) d) (Lined failed)) in
-      let h = lined_decides past steps.1 d steps.0.2.0 failed steps.0.2.1 (ap (λ (w : WalkTree). is_due (first_act w)) (sym walk) ∙ will.0) in
+      let h = lined_decides past steps.1 d steps.0.2.0 failed steps.0.2.1 (ap (λ (w : WalkTree). is_due (first_act w)) (sym walk)
+      ∙ will.0) in
       subst (λ (i : ℕ). IsDue b asks (entry.Line d mux level failed ∷ past) i) will.1
       (record { verdict = h.verdict; next = ap first_act walk ∙ h.first; transfer = h.transfer; asked = h.asked; accepted = h.accepted })
   due-told (entry.Message d bus purpose part parts addr reading bytes heard e ∷ past) c steps due =
-      let will = by-due (is_due (first_act ((now b asks (entry.Message d bus purpose part parts addr reading bytes heard e ∷ past)).walk d))) d c due in
+      let will = by-due (is_due (first_act
+      ((now b asks (entry.Message d bus purpose part parts addr reading bytes heard e ∷ past)).walk d))) d c due in
       let walk = at_same (now b asks past).walk d (rest_of (current b asks (now b asks past) d) (Sent e bytes)) in
-      let h = sent_decides past steps.1 d steps.0.2.0 steps.0.2.1 e bytes steps.0.2.2 (ap (λ (w : WalkTree). is_due (first_act w)) (sym walk) ∙ will.0) in
+      let h = sent_decides past steps.1 d steps.0.2.0 steps.0.2.1 e bytes steps.0.2.2
+      (ap (λ (w : WalkTree). is_due (first_act w)) (sym walk) ∙ will.0) in
       subst (λ (i : ℕ). IsDue b asks (entry.Message d bus purpose part parts addr reading bytes heard e ∷ past) i) will.1
       (record { verdict = h.verdict; next = ap first_act walk ∙ h.first; transfer = h.transfer; asked = h.asked; accepted = h.accepted })
 
@@ -132,23 +139,30 @@ module _ (b : BoardView) (asks : Asks) (some : AsksForMessages asks) (callers : 
   due-known (entry.Free d l ∷ past) c steps due = absurd (let f : None ≡ Some c = sym steps.0.1 ∙ due in cc)
   due-known (entry.Settle d x cut ∷ past) c steps due = absurd (let f : None ≡ Some c = due in cc)
   due-known (entry.Line d mux level failed ∷ past) c steps due =
-      subst (λ (i : ℕ). i < callers) (by-due (is_due (first_act ((now b asks (entry.Line d mux level failed ∷ past)).walk d))) d c due).1 steps.0.0
+      subst (λ (i : ℕ). i < callers)
+      (by-due (is_due (first_act ((now b asks (entry.Line d mux level failed ∷ past)).walk d))) d c due).1 steps.0.0
   due-known (entry.Message d bus purpose part parts addr reading bytes heard e ∷ past) c steps due =
-      subst (λ (i : ℕ). i < callers) (by-due (is_due (first_act ((now b asks (entry.Message d bus purpose part parts addr reading bytes heard e ∷ past)).walk d))) d c due).1 steps.0.0
+      subst (λ (i : ℕ). i < callers)
+      (by-due (is_due (first_act ((now b asks (entry.Message d bus purpose part parts addr reading bytes heard e ∷ past)).walk d))) d c
+      due).1 steps.0.0
 
 -- WHAT STAYS DUE
 module _ (b : BoardView) (asks : Asks) where
   -- a walk that settles next does so, whatever is known of the buses
-  pub due-settles : (past : List Entry) (c : ℕ) → (h : IsDue b asks past c) → first_act (current b asks (now b asks past) c) ≡ Some (Settle h.verdict)
+  pub due-settles : (past : List Entry) (c : ℕ) → (h : IsDue b asks past c)
+      → first_act (current b asks (now b asks past) c) ≡ Some (Settle h.verdict)
   due-settles past c h =
       let at = first_is ((now b asks past).walk c) (Settle h.verdict) h.next in
-      ap (λ (w : WalkTree). first_act (seen (now b asks past).slot (cond (is_over w) (begun b (asks c ((now b asks past).settled c))) w))) at.2
+      ap (λ (w : WalkTree). first_act (seen (now b asks past).slot (cond (is_over w) (begun b (asks c ((now b asks past).settled c))) w)))
+      at.2
 
   -- its entry is a settle
   pub tells-due : (past : List Entry) (e : Entry) → (h : IsDue b asks past (caller_of e)) → TellsNext b asks (now b asks past) e
       → (r : Reply) × (cut : _) × (e ≡ entry.Settle (caller_of e) r cut)
-  tells-due past (entry.Take d l) h tells = absurd (let f : Some (Take l) ≡ Some (Settle h.verdict) = sym tells ∙ due-settles past d h in cc)
-  tells-due past (entry.Free d l) h tells = absurd (let f : Some (Free l) ≡ Some (Settle h.verdict) = sym tells ∙ due-settles past d h in cc)
+  tells-due past (entry.Take d l) h tells = absurd (let f : Some (Take l) ≡ Some (Settle h.verdict) = sym tells ∙ due-settles past d h in
+      cc)
+  tells-due past (entry.Free d l) h tells = absurd (let f : Some (Free l) ≡ Some (Settle h.verdict) = sym tells ∙ due-settles past d h in
+      cc)
   tells-due past (entry.Line d mux level failed) h tells =
       absurd (let f : Some (Shift tells.0) ≡ Some (Settle h.verdict) = sym tells.1 ∙ due-settles past d h in cc)
   tells-due past (entry.Message d bus purpose part parts addr reading bytes heard e) h tells =
@@ -166,7 +180,8 @@ module _ (b : BoardView) (asks : Asks) where
       record {
         verdict = h.verdict;
         next = ap first_act (walk-left b asks (e ∷ past) c
-            ∙ ap (λ (t : Bool). cond t (rest_of (current b asks (now b asks past) c) (outcome_of e)) (walk_left b asks past c)) (eqb-apart c (caller_of e) (λ f. other (sym f)))
+            ∙ ap (λ (t : Bool). cond t (rest_of (current b asks (now b asks past) c) (outcome_of e)) (walk_left b asks past c))
+            (eqb-apart c (caller_of e) (λ f. other (sym f)))
             ∙ sym (walk-left b asks past c)) ∙ h.next;
         transfer = h.transfer;
         asked = ap (λ (rs : List Reply). asks c rs) (other_replies b asks past c e other) ∙ h.asked;
@@ -176,13 +191,16 @@ module _ (b : BoardView) (asks : Asks) where
   pub parts : (past : List Entry) (c : ℕ) (e : Entry) → IsDue b asks past c → (caller_of e ≡ c → ⊥) → IsParted (e ∷ past) c
   parts past c e h other = record { due = still-due past c e h other; apart = λ behind. other behind.0 }
 
-  pub stays-parted : (past : List Entry) (c : ℕ) (e : Entry) → IsParted past c → TellsNext b asks (now b asks past) e → SettleAt b asks e past → IsParted (e ∷ past) c
+  pub stays-parted : (past : List Entry) (c : ℕ) (e : Entry) → IsParted past c → TellsNext b asks (now b asks past) e
+      → SettleAt b asks e past → IsParted (e ∷ past) c
   stays-parted past c e h tells at =
       elim (eqb_tells (caller_of e) c) [
         | inr other ↦ parts past c e h.due other.1
         | inl own ↦ (let due : IsDue b asks past (caller_of e) = subst (λ (i : ℕ). IsDue b asks past i) (sym own.1) h.due in
             let is = tells-due past e due tells in
-            let settle : SettleAt b asks (entry.Settle (caller_of e) is.0 is.1) past = subst (λ (x : Entry). SettleAt b asks x past) is.2 at in
-            let placed : IsPlaced b (Some due.transfer) (caller_of e) past = subst (λ (o : Option TransferView). IsPlaced b o (caller_of e) past) due.asked settle.1 in
+            let settle : SettleAt b asks (entry.Settle (caller_of e) is.0 is.1) past = subst
+            (λ (x : Entry). SettleAt b asks x past) is.2 at in
+            let placed : IsPlaced b (Some due.transfer) (caller_of e) past = subst
+            (λ (o : Option TransferView). IsPlaced b o (caller_of e) past) due.asked settle.1 in
             absurd (h.apart (subst (λ (i : ℕ). IsDirectlyBehind i past) own.1 (placed due.accepted))))
       ]

@@ -46,7 +46,8 @@ failed_decides (Call bus ms) = refl
 failed_decides (Select h) = refl
 failed_decides (SwitchOff off) = refl
 
-settled-first : (x y : Bool) (w : WalkTree) → x ≡ true → y ≡ true → first_act (settled (x && y) (Some Eremoteio) w) ≡ Some (Settle (Some Eremoteio))
+settled-first : (x y : Bool) (w : WalkTree) → x ≡ true → y ≡ true
+    → first_act (settled (x && y) (Some Eremoteio) w) ≡ Some (Settle (Some Eremoteio))
 settled-first true true w p q = refl
 settled-first true false w p q = absurd (let f : false ≡ true = q in cc)
 settled-first false y w p q = absurd (let f : false ≡ true = p in cc)
@@ -54,7 +55,8 @@ settled-first false y w p q = absurd (let f : false ≡ true = p in cc)
 module _ (job : Job) (note : Note) (k : JobOutcome → WalkTree) (more : (o : JobOutcome) → FailsSettle (k o)) where
   fails-over : (left : ℕ) (out : ActOutcome) → FailsSettle (over job left note k out)
   fails-over left out =
-      fails-settled (note.forward && decides job (job_outcome job left out)) (verdict_of job left out) (k (job_outcome job left out)) (more (job_outcome job left out))
+      fails-settled (note.forward && decides job (job_outcome job left out)) (verdict_of job left out) (k (job_outcome job left out))
+      (more (job_outcome job left out))
 
   sent-remote : (left q : ℕ) (bytes : List ℕ) → Remote note.forward (over job left note k (Sent (end.Cut q) bytes))
   sent-remote left q bytes forward = settled-first note.forward (decides job Failed) (k Failed) forward (failed_decides job)
@@ -79,11 +81,13 @@ fails-messages : (n : ℕ) → DoerFails (messages n)
 fails-messages zero job note k more = fails-last job note k more
 fails-messages (suc left) job note k more = (
   λ q bytes forward.
-      ap (λ (g : Go). first_act (by_go g (messages left job note k) (Then (Send job zero) note (over job zero note k)) (over job (suc left) note k (Sent (end.Cut q) bytes))))
+      ap (λ (g : Go). first_act (by_go g (messages left job note k) (Then (Send job zero) note (over job zero note k))
+      (over job (suc left) note k (Sent (end.Cut q) bytes))))
       (cut_over job left q bytes)
       ∙ sent-remote job note k more (suc left) q bytes forward,
   λ out.
-      fails-go (goes job left out) (messages left job note k) (Then (Send job zero) note (over job zero note k)) (over job (suc left) note k out)
+      fails-go (goes job left out) (messages left job note k) (Then (Send job zero) note (over job zero note k))
+      (over job (suc left) note k out)
       (fails-messages left job note k more) (fails-last job note k more) (fails-over job note k more (suc left) out),
 )
 
@@ -106,19 +110,22 @@ fails-part : (t : Bool) (ls : List LockId) (on : Doer) → DoerFails on → Doer
 fails-part true ls on each = each
 fails-part false ls on each = fails-locked ls on each
 
-fails-if_good : (o : JobOutcome) (w : WalkTree) (k : JobOutcome → WalkTree) → FailsSettle w → ((o : JobOutcome) → FailsSettle (k o)) → FailsSettle (if_good o w k)
+fails-if_good : (o : JobOutcome) (w : WalkTree) (k : JobOutcome → WalkTree) → FailsSettle w → ((o : JobOutcome) → FailsSettle (k o))
+    → FailsSettle (if_good o w k)
 fails-if_good Good w k h more = h
 fails-if_good Refused w k h more = more Unsent
 fails-if_good Unsent w k h more = more Unsent
 fails-if_good Failed w k h more = more Failed
 
-fails-if_sent : (o : JobOutcome) (w : WalkTree) (k : JobOutcome → WalkTree) → FailsSettle w → ((o : JobOutcome) → FailsSettle (k o)) → FailsSettle (if_sent o w k)
+fails-if_sent : (o : JobOutcome) (w : WalkTree) (k : JobOutcome → WalkTree) → FailsSettle w → ((o : JobOutcome) → FailsSettle (k o))
+    → FailsSettle (if_sent o w k)
 fails-if_sent Good w k h more = h
 fails-if_sent Refused w k h more = h
 fails-if_sent Unsent w k h more = more Unsent
 fails-if_sent Failed w k h more = more Failed
 
-fails-behind : (stays : Bool) (h : Hop) (on : Doer) → DoerFails on → (k : JobOutcome → WalkTree) → ((o : JobOutcome) → FailsSettle (k o)) → (out : JobOutcome) → FailsSettle (left_behind stays h on k out)
+fails-behind : (stays : Bool) (h : Hop) (on : Doer) → DoerFails on → (k : JobOutcome → WalkTree) → ((o : JobOutcome) → FailsSettle (k o))
+    → (out : JobOutcome) → FailsSettle (left_behind stays h on k out)
 fails-behind true h on each k more out = more out
 fails-behind false h on each k more out = each (SwitchOff (Deselect h)) (aside h) (λ o. k out) (λ o. more out)
 
@@ -133,7 +140,8 @@ fails-chosen h on each job note k more =
 
 fails-crossed : (h : Hop) (on : Doer) → DoerFails on → (m : Option ℕ) → DoerFails (λ job note k. crossed h on job note k m)
 fails-crossed h on each m job note k more =
-    fails-if (keeps h m) (opened h on job note k) (chosen h on job note k) (fails-opened h on each job note k more) (fails-chosen h on each job note k more)
+    fails-if (keeps h m) (opened h on job note k) (chosen h on job note k) (fails-opened h on each job note k more)
+    (fails-chosen h on each job note k more)
 
 fails-closing : (b : BoardView) (h : Hop) (on : Doer) → DoerFails on → (note : Note) (k : JobOutcome → WalkTree) (w : WalkTree)
     → ((o : JobOutcome) → FailsSettle (k o)) → FailsSettle w → (m : Option ℕ) → FailsSettle (closing b h on note k w m)
@@ -146,8 +154,10 @@ fails-inner b root [] = fails-at_bus
 fails-inner b root (h ∷ hs) =
     let below = fails-part h.parent (locks_of root hs) (inner b root hs) (fails-inner b root hs) in
     λ job note k more.
-    fails-if (is_line job) (at_bus job note k) (behind b h (part h.parent (locks_of root hs) (inner b root hs)) job note k) (fails-at_bus job note k more)
-    (λ m. fails-closing b h (part h.parent (locks_of root hs) (inner b root hs)) below note k (Look (KeptOf h.on h.mux) (crossed h (part h.parent (locks_of root hs) (inner b root hs)) job note k)) more
+    fails-if (is_line job) (at_bus job note k) (behind b h (part h.parent (locks_of root hs) (inner b root hs)) job note k)
+    (fails-at_bus job note k more)
+    (λ m. fails-closing b h (part h.parent (locks_of root hs) (inner b root hs)) below note k
+    (Look (KeptOf h.on h.mux) (crossed h (part h.parent (locks_of root hs) (inner b root hs)) job note k)) more
     (λ x. fails-crossed h (part h.parent (locks_of root hs) (inner b root hs)) below x job note k more) m)
 
 fails-walk : (b : BoardView) (t : TransferView) → FailsSettle (walk_for b t)
@@ -155,7 +165,8 @@ fails-walk b t = by (refusal b t)
   where
     by : (o : Option Errno) → FailsSettle (walk_by b t o)
     by (Some e) = λ out. tt
-    by None = fails-locked (locks_of (root_of b t.bus) (hops b t.bus)) (inner b (root_of b t.bus) (hops b t.bus)) (fails-inner b (root_of b t.bus) (hops b t.bus))
+    by None = fails-locked (locks_of (root_of b t.bus) (hops b t.bus)) (inner b (root_of b t.bus) (hops b t.bus))
+        (fails-inner b (root_of b t.bus) (hops b t.bus))
         (Call t.bus (messages_of t)) plain (λ o. Ends) (λ o. tt)
 
 -- EVERY WALK of a past
@@ -180,14 +191,17 @@ module _ (b : BoardView) (asks : Asks) where
 
   from-walk : (past : List Entry) (c : ℕ) → FailsSettle ((now b asks past).walk c) → FailsSettle (current b asks (now b asks past) c)
   from-walk past c h =
-      fails-seen (now b asks past).slot (cond (is_over ((now b asks past).walk c)) (begun b (asks c ((now b asks past).settled c))) ((now b asks past).walk c))
-      (fails-if (is_over ((now b asks past).walk c)) (begun b (asks c ((now b asks past).settled c))) ((now b asks past).walk c) (fails-begun (asks c ((now b asks past).settled c))) h)
+      fails-seen (now b asks past).slot
+      (cond (is_over ((now b asks past).walk c)) (begun b (asks c ((now b asks past).settled c))) ((now b asks past).walk c))
+      (fails-if (is_over ((now b asks past).walk c)) (begun b (asks c ((now b asks past).settled c))) ((now b asks past).walk c)
+      (fails-begun (asks c ((now b asks past).settled c))) h)
 
   fails-left : (past : List Entry) (c : ℕ) → FailsSettle (walk_left b asks past c)
   fails-left [] c = tt
   fails-left (e ∷ past) c =
       fails-if _ (rest_of (current b asks (now b asks past) c) (outcome_of e)) (walk_left b asks past c)
-      (fails-rest (current b asks (now b asks past) c) (outcome_of e) (from-walk past c (subst (λ (w : WalkTree). FailsSettle w) (sym (walk-left b asks past c)) (fails-left past c))))
+      (fails-rest (current b asks (now b asks past) c) (outcome_of e)
+      (from-walk past c (subst (λ (w : WalkTree). FailsSettle w) (sym (walk-left b asks past c)) (fails-left past c))))
       (fails-left past c)
 
   pub current-fails : (past : List Entry) (c : ℕ) → FailsSettle (current b asks (now b asks past) c)

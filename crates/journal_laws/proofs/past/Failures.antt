@@ -32,10 +32,12 @@ number-older newer calls n low =
 -- a call has the number of those before it
 pub number-of : (c : PortCall) (calls : List PortCall) (n : ℕ) → n ≡ length calls → number_of (c ∷ calls) n ≡ Some c
 number-of c calls n e =
-    ap (λ (xs : List PortCall). slice_get xs n) (reverse-append (c ∷ []) calls) ∙ get_behind (reverse calls) [] c n (omega (arith, e, length-reverse calls))
+    ap (λ (xs : List PortCall). slice_get xs n) (reverse-append (c ∷ []) calls)
+    ∙ get_behind (reverse calls) [] c n (omega (arith, e, length-reverse calls))
 
 -- no call among these failed
-pub none-failed : (own calls : List PortCall) (n : ℕ) → AllByRecursion Went own → length calls ≤ n → n < length own + length calls → number_of (own ++ calls) n ≡ Some call.Fault → ⊥
+pub none-failed : (own calls : List PortCall) (n : ℕ) → AllByRecursion Went own → length calls ≤ n → n < length own + length calls
+    → number_of (own ++ calls) n ≡ Some call.Fault → ⊥
 none-failed [] calls n went high low failed = omega (arith, high, low)
 none-failed (c ∷ own) calls n went high low failed =
     elim (leb_tells (length (own ++ calls)) n) [
@@ -44,7 +46,8 @@ none-failed (c ∷ own) calls n went high low failed =
           went.0 (let f : Some c ≡ Some call.Fault = sym (number-of c (own ++ calls) n e) ∙ failed in cc))
       | inr h ↦ (let less : n < length (own ++ calls) = h.1 in
           let many : length (own ++ calls) ≡ length own + length calls = length-append own calls in
-          none-failed own calls n went.1 high (omega (arith, less, many)) (sym (number-older (c ∷ []) (own ++ calls) n (omega (arith, less))) ∙ failed))
+          none-failed own calls n went.1 high (omega (arith, less, many))
+          (sym (number-older (c ∷ []) (own ++ calls) n (omega (arith, less))) ∙ failed))
     ]
 
 -- .. nor among the older ones of them

@@ -84,7 +84,8 @@ Reading t w got done = SendsNone w got done ⊎ (SendsNext t w got done ⊎ (Set
 abbrev Any : Job → Type 0
 Any job = Unit {0}
 
-record IsReading (b : BoardView) (asks : List Reply → Option TransferView) (w : WalkTree) (settled : List Reply) (got : List ℕ) : Type 0 where
+record IsReading (b : BoardView) (asks : List Reply → Option TransferView) (w : WalkTree) (settled : List Reply)
+    (got : List ℕ) : Type 0 where
   whose : TransferView
   done : Bool
   calls : CallsOf b whose w
@@ -99,7 +100,8 @@ same_act : (v : Slots) (w : WalkTree) (x y : Act) → first_act w ≡ Some x →
 same_act v w x y hx hy = (let f : Some x ≡ Some y = sym hx ∙ ap (λ (u : WalkTree). first_act u) (sym (seen-first v w x hx)) ∙ hy in cc)
 
 -- a control message or a line step never decides without an error
-line_errs : (job : Job) (failed : Bool) → is_line job ≡ true → decides job (job_outcome job zero (Lined failed)) ≡ true → verdict_of job zero (Lined failed) ≡ None → ⊥
+line_errs : (job : Job) (failed : Bool) → is_line job ≡ true → decides job (job_outcome job zero (Lined failed)) ≡ true
+    → verdict_of job zero (Lined failed) ≡ None → ⊥
 line_errs (Call bus ms) failed line d none = (let f : false ≡ true = line in cc)
 line_errs (Select h) true line d none = (let f : verdict_of (Select h) zero (Lined true) ≡ None = none in cc)
 line_errs (Select h) false line d none = (let f : false ≡ true = d in cc)
@@ -107,10 +109,13 @@ line_errs (SwitchOff off) true line d none = (let f : verdict_of (SwitchOff off)
 line_errs (SwitchOff off) false line d none = (let f : false ≡ true = d in cc)
 
 -- ONE STEP
-module _ (b : BoardView) (asks : List Reply → Option TransferView) (v : Slots) (w : WalkTree) (settled : List Reply) (got : List ℕ) (is : IsReading b asks w settled got) where
+module _ (b : BoardView) (asks : List Reply → Option TransferView) (v : Slots) (w : WalkTree) (settled : List Reply) (got : List ℕ)
+    (is : IsReading b asks w settled got) where
   -- a lock
-  passed : (act : Act) → first_act (seen v w) ≡ Some act → ((job : Job) (left : ℕ) → act ≡ Send job left → ⊥) → ((verdict : Option Errno) → act ≡ Settle verdict → ⊥)
-      → NoSettle (rest_of (seen v w) Passed) → Settles is.done (rest_of (seen v w) Passed) → (FirstCalls w → FirstCalls (rest_of (seen v w) Passed))
+  passed : (act : Act) → first_act (seen v w) ≡ Some act → ((job : Job) (left : ℕ) → act ≡ Send job left → ⊥)
+      → ((verdict : Option Errno) → act ≡ Settle verdict → ⊥)
+      → NoSettle (rest_of (seen v w) Passed) → Settles is.done (rest_of (seen v w) Passed)
+      → (FirstCalls w → FirstCalls (rest_of (seen v w) Passed))
       → IsReading b asks (rest_of (seen v w) Passed) settled got
   passed act first no_send no_settle quiet settles firsts =
       record {
@@ -125,12 +130,15 @@ module _ (b : BoardView) (asks : List Reply → Option TransferView) (v : Slots)
     where
       by : Reading is.whose w got is.done → Reading is.whose (rest_of (seen v w) Passed) got is.done
       by (inl unsent) = inl (record { unsettled = unsent.unsettled; firsts = firsts unsent.firsts; quiet = quiet; empty = unsent.empty })
-      by (inr (inl between)) = absurd (no_send (Call between.bus between.messages) between.left (sym (same_act v w (Send (Call between.bus between.messages) between.left) act between.next first)))
+      by (inr (inl between)) = absurd
+          (no_send (Call between.bus between.messages) between.left
+          (sym (same_act v w (Send (Call between.bus between.messages) between.left) act between.next first)))
       by (inr (inr (inl ending))) = absurd (no_settle ending.verdict (sym (same_act v w (Settle ending.verdict) act ending.next first)))
       by (inr (inr (inr behind))) = inr (inr (inr behind))
 
   -- a line step
-  shifted : (job : Job) → first_act (seen v w) ≡ Some (Shift job) → (failed : Bool) → IsReading b asks (rest_of (seen v w) (Lined failed)) settled got
+  shifted : (job : Job) → first_act (seen v w) ≡ Some (Shift job) → (failed : Bool)
+      → IsReading b asks (rest_of (seen v w) (Lined failed)) settled got
   shifted job first failed =
       let s = settles-shifted is.done v w is.settles job first failed in
       record {
@@ -143,9 +151,15 @@ module _ (b : BoardView) (asks : List Reply → Option TransferView) (v : Slots)
         stage = by s.0 s.1 is.stage;
       }
     where
-      by : (note : Note) → IsDecided note job zero (Lined failed) (rest_of (seen v w) (Lined failed)) → Reading is.whose w got is.done → Reading is.whose (rest_of (seen v w) (Lined failed)) got is.done
+      by : (note : Note) → IsDecided note job zero (Lined failed) (rest_of (seen v w) (Lined failed)) → Reading is.whose w got is.done
+          → Reading is.whose (rest_of (seen v w) (Lined failed)) got is.done
       by note (inl quiet) (inl unsent) =
-          inl (record { unsettled = unsent.unsettled; firsts = first-shifted v w unsent.firsts job first failed; quiet = quiet; empty = unsent.empty })
+          inl (record {
+            unsettled = unsent.unsettled;
+            firsts = first-shifted v w unsent.firsts job first failed;
+            quiet = quiet;
+            empty = unsent.empty;
+          })
       by note (inr decided) (inl unsent) =
           inr (inr (inl (record {
             unsettled = unsent.unsettled;
@@ -154,12 +168,15 @@ module _ (b : BoardView) (asks : List Reply → Option TransferView) (v : Slots)
             fits = λ none. absurd (line_errs job failed (job-shifted Any v w is.jobs job first).0 decided.1 none);
           })))
       by note decided (inr (inl between)) =
-          absurd (let f : Send (Call between.bus between.messages) between.left ≡ Shift job = same_act v w (Send (Call between.bus between.messages) between.left) (Shift job) between.next first in cc)
-      by note decided (inr (inr (inl ending))) = absurd (let f : Settle ending.verdict ≡ Shift job = same_act v w (Settle ending.verdict) (Shift job) ending.next first in cc)
+          absurd (let f : Send (Call between.bus between.messages) between.left ≡ Shift job = same_act v w
+          (Send (Call between.bus between.messages) between.left) (Shift job) between.next first in cc)
+      by note decided (inr (inr (inl ending))) = absurd
+          (let f : Settle ending.verdict ≡ Shift job = same_act v w (Settle ending.verdict) (Shift job) ending.next first in cc)
       by note decided (inr (inr (inr behind))) = inr (inr (inr behind))
 
   -- a control message
-  controlled : (job : Job) (left : ℕ) → first_act (seen v w) ≡ Some (Send job left) → ((bus : ℕ) (messages : List MessageView) → job ≡ Call bus messages → ⊥) → (e : End) (bytes : List ℕ)
+  controlled : (job : Job) (left : ℕ) → first_act (seen v w) ≡ Some (Send job left)
+      → ((bus : ℕ) (messages : List MessageView) → job ≡ Call bus messages → ⊥) → (e : End) (bytes : List ℕ)
       → (FirstCalls w → FirstCalls (rest_of (seen v w) (Sent e bytes))) → IsReading b asks (rest_of (seen v w) (Sent e bytes)) settled got
   controlled job left first control e bytes firsts =
       let s = settles-sent is.done v w is.settles job left first in
@@ -174,8 +191,10 @@ module _ (b : BoardView) (asks : List Reply → Option TransferView) (v : Slots)
         stage = by (what_follows f.0 job left e bytes (rest_of (seen v w) (Sent e bytes)) f.1) is.stage;
       }
     where
-      by : NoSettle (rest_of (seen v w) (Sent e bytes)) ⊎ FollowsSend job left e bytes (rest_of (seen v w) (Sent e bytes)) → Reading is.whose w got is.done → Reading is.whose (rest_of (seen v w) (Sent e bytes)) got is.done
-      by (inl quiet) (inl unsent) = inl (record { unsettled = unsent.unsettled; firsts = firsts unsent.firsts; quiet = quiet; empty = unsent.empty })
+      by : NoSettle (rest_of (seen v w) (Sent e bytes)) ⊎ FollowsSend job left e bytes (rest_of (seen v w) (Sent e bytes))
+          → Reading is.whose w got is.done → Reading is.whose (rest_of (seen v w) (Sent e bytes)) got is.done
+      by (inl quiet) (inl unsent) = inl
+          (record { unsettled = unsent.unsettled; firsts = firsts unsent.firsts; quiet = quiet; empty = unsent.empty })
       by (inr follows) (inl unsent) =
           inr (inr (inl (record {
             unsettled = unsent.unsettled;
@@ -185,9 +204,11 @@ module _ (b : BoardView) (asks : List Reply → Option TransferView) (v : Slots)
           })))
       by follows (inr (inl between)) =
           absurd (control between.bus between.messages
-          (let f : Send (Call between.bus between.messages) between.left ≡ Send job left = same_act v w (Send (Call between.bus between.messages) between.left) (Send job left) between.next first in
+          (let f : Send (Call between.bus between.messages) between.left ≡ Send job left = same_act v w
+          (Send (Call between.bus between.messages) between.left) (Send job left) between.next first in
           let g : Call between.bus between.messages ≡ job = cc in sym g))
-      by follows (inr (inr (inl ending))) = absurd (let f : Settle ending.verdict ≡ Send job left = same_act v w (Settle ending.verdict) (Send job left) ending.next first in cc)
+      by follows (inr (inr (inl ending))) = absurd
+          (let f : Settle ending.verdict ≡ Send job left = same_act v w (Settle ending.verdict) (Send job left) ending.next first in cc)
       by follows (inr (inr (inr behind))) = inr (inr (inr behind))
 
   -- a message of the caller's
@@ -205,7 +226,8 @@ module _ (b : BoardView) (asks : List Reply → Option TransferView) (v : Slots)
     before : (left < length is.whose.msgs) × FitsReads (take (length is.whose.msgs - 1 - left) is.whose.msgs) got
     before = by is.stage
       where
-        by : Reading is.whose w got is.done → (left < length is.whose.msgs) × FitsReads (take (length is.whose.msgs - 1 - left) is.whose.msgs) got
+        by : Reading is.whose w got is.done
+            → (left < length is.whose.msgs) × FitsReads (take (length is.whose.msgs - 1 - left) is.whose.msgs) got
         by (inl unsent) =
             let most : left ≡ length ms - 1 = first-sent v w unsent.firsts bus ms left first in
             let none : length is.whose.msgs - 1 - left ≡ 0 = omega (arith, most, many) in
@@ -213,15 +235,22 @@ module _ (b : BoardView) (asks : List Reply → Option TransferView) (v : Slots)
         by (inr (inl between)) =
             let f : Send (Call between.bus between.messages) between.left ≡ Send (Call bus ms) left =
             same_act v w (Send (Call between.bus between.messages) between.left) (Send (Call bus ms) left) between.next first in
-            let g : between.left ≡ left = cc in
-            (subst (λ (i : ℕ). i < length is.whose.msgs) g between.low, subst (λ (i : ℕ). FitsReads (take (length is.whose.msgs - 1 - i) is.whose.msgs) got) g between.fits)
-        by (inr (inr (inl ending))) = absurd (let f : Settle ending.verdict ≡ Send (Call bus ms) left = same_act v w (Settle ending.verdict) (Send (Call bus ms) left) ending.next first in cc)
+            let g : between.left ≡ left = cc in (
+              subst (λ (i : ℕ). i < length is.whose.msgs) g between.low,
+              subst
+                  (λ (i : ℕ). FitsReads (take (length is.whose.msgs - 1 - i) is.whose.msgs) got) g between.fits,
+            )
+        by (inr (inr (inl ending))) = absurd
+            (let f : Settle ending.verdict ≡ Send (Call bus ms) left = same_act v w (Settle ending.verdict)
+            (Send (Call bus ms) left) ending.next first in cc)
         by (inr (inr (inr behind))) = absurd (let f : false ≡ true = sym unsettled ∙ behind.settled in cc)
 
     module _ (e : End) (bytes : List ℕ) (reading : Bool) (reads : reading ≡ (message_of b (Call bus ms) left).reading)
-        (gave : reading ≡ true → e ≡ end.Ok → GaveRead (block_limit b) (message_of b (Call bus ms) left).counted (message_of b (Call bus ms) left).len bytes) where
+        (gave : reading ≡ true → e ≡ end.Ok
+        → GaveRead (block_limit b) (message_of b (Call bus ms) left).counted (message_of b (Call bus ms) left).len bytes) where
       -- where it went through
-      one_more_read : e ≡ end.Ok → FitsReads (take (length is.whose.msgs - 1 - left + 1) is.whose.msgs) (got_after (Call bus ms) reading bytes got)
+      one_more_read : e ≡ end.Ok → FitsReads (take (length is.whose.msgs - 1 - left + 1) is.whose.msgs)
+          (got_after (Call bus ms) reading bytes got)
       one_more_read fine =
           let i : ℕ = length is.whose.msgs - 1 - left in
           let place : length ms - 1 - left ≡ i = omega (arith, many) in
@@ -251,7 +280,8 @@ module _ (b : BoardView) (asks : List Reply → Option TransferView) (v : Slots)
           Got : List ℕ
           Got = got_after (Call bus ms) reading bytes got
 
-          by : ((more : ℕ) × (left ≡ suc more) × (e ≡ end.Ok) × (first_act Rest ≡ Some (Send (Call bus ms) more))) ⊎ FollowsSend (Call bus ms) left e bytes Rest
+          by : ((more : ℕ) × (left ≡ suc more) × (e ≡ end.Ok) × (first_act Rest ≡ Some (Send (Call bus ms) more)))
+              ⊎ FollowsSend (Call bus ms) left e bytes Rest
               → SendsNext is.whose Rest Got is.done ⊎ (SettlesNext is.whose Rest Got is.done ⊎ HasSettled Got is.done)
           by (inl more) =
               inl (record {
@@ -262,7 +292,8 @@ module _ (b : BoardView) (asks : List Reply → Option TransferView) (v : Slots)
                 next = more.3;
                 low = omega (arith, before.0, more.1);
                 fits = subst (λ (i : ℕ). FitsReads (take i is.whose.msgs) Got)
-                    (let up : length is.whose.msgs - 1 - left + 1 ≡ length is.whose.msgs - 1 - more.0 = omega (arith, before.0, more.1) in up) (one_more_read more.2);
+                    (let up : length is.whose.msgs - 1 - left + 1 ≡ length is.whose.msgs - 1 - more.0 = omega (arith, before.0, more.1) in
+                    up) (one_more_read more.2);
               })
           by (inr follows) =
               inr (inl (record {
@@ -272,11 +303,13 @@ module _ (b : BoardView) (asks : List Reply → Option TransferView) (v : Slots)
                 fits = λ none.
                     (let whole = follows.whole none in
                     let all : length is.whose.msgs - 1 - left + 1 ≡ length is.whose.msgs = omega (arith, whole.3, before.0) in
-                    subst (λ (xs : List Msg). FitsReads xs Got) (ap (λ (i : ℕ). take i is.whose.msgs) all ∙ take-length is.whose.msgs) (one_more_read whole.4));
+                    subst (λ (xs : List Msg). FitsReads xs Got) (ap (λ (i : ℕ). take i is.whose.msgs) all ∙ take-length is.whose.msgs)
+                    (one_more_read whole.4));
               }))
 
   -- the settle
-  ended : (verdict : Option Errno) → first_act (seen v w) ≡ Some (Settle verdict) → (r : List Reply) → IsReading b asks (rest_of (seen v w) Passed) r []
+  ended : (verdict : Option Errno) → first_act (seen v w) ≡ Some (Settle verdict) → (r : List Reply)
+      → IsReading b asks (rest_of (seen v w) Passed) r []
   ended verdict first r =
       let s = settles-settled is.done (seen v w) (settles_seen v is.done w is.settles) verdict first in
       record {
@@ -290,7 +323,8 @@ module _ (b : BoardView) (asks : List Reply → Option TransferView) (v : Slots)
       }
 
   -- what it decides fits
-  decides_fit : (verdict : Option Errno) → first_act (seen v w) ≡ Some (Settle verdict) → (asks settled ≡ Some is.whose) × (verdict ≡ None → FitsReads is.whose.msgs got)
+  decides_fit : (verdict : Option Errno) → first_act (seen v w) ≡ Some (Settle verdict)
+      → (asks settled ≡ Some is.whose) × (verdict ≡ None → FitsReads is.whose.msgs got)
   decides_fit verdict first =
       let s = settles-settled is.done (seen v w) (settles_seen v is.done w is.settles) verdict first in
       (is.asked s.0, by s.0 is.stage)
@@ -298,7 +332,8 @@ module _ (b : BoardView) (asks : List Reply → Option TransferView) (v : Slots)
       by : is.done ≡ false → Reading is.whose w got is.done → verdict ≡ None → FitsReads is.whose.msgs got
       by not_done (inl unsent) none = absurd (quiet-next v w unsent.quiet verdict first)
       by not_done (inr (inl between)) none =
-          absurd (let f : Send (Call between.bus between.messages) between.left ≡ Settle verdict = same_act v w (Send (Call between.bus between.messages) between.left) (Settle verdict) between.next first in cc)
+          absurd (let f : Send (Call between.bus between.messages) between.left ≡ Settle verdict = same_act v w
+          (Send (Call between.bus between.messages) between.left) (Settle verdict) between.next first in cc)
       by not_done (inr (inr (inl ending))) none =
           let f : Settle ending.verdict ≡ Settle verdict = same_act v w (Settle ending.verdict) (Settle verdict) ending.next first in
           let g : ending.verdict ≡ verdict = cc in
@@ -311,7 +346,8 @@ module _ (b : BoardView) (asks : Asks) (some : AsksForMessages asks) (callers : 
   ReadsAt past c w = IsReading b (asks c) w ((now b asks past).settled c) ((now b asks past).got c)
 
   -- a walk begins with nothing sent
-  begins : (past : List Entry) (e : Entry) → May b callers asks (now b asks past) e → ReadsAt past (caller_of e) ((now b asks past).walk (caller_of e))
+  begins : (past : List Entry) (e : Entry) → May b callers asks (now b asks past) e
+      → ReadsAt past (caller_of e) ((now b asks past).walk (caller_of e))
       → ReadsAt past (caller_of e) (ahead b asks (now b asks past) (caller_of e))
   begins past e may was = by (is_over (n.walk c)) refl
     where
@@ -333,7 +369,13 @@ module _ (b : BoardView) (asks : Asks) (some : AsksForMessages asks) (callers : 
           at_end ended (inr (inr (inr behind))) = behind.empty
 
       stage_of : (t : TransferView) → n.got c ≡ [] → (r : Option Errno) → refusal b t ≡ r → Reading t (walk_by b t r) (n.got c) false
-      stage_of t none (Some errno) refused = inr (inr (inl (record { unsettled = refl; verdict = Some errno; next = refl; fits = λ f. absurd (let g : Some errno ≡ None = f in cc) })))
+      stage_of t none (Some errno) refused = inr
+          (inr (inl (record {
+            unsettled = refl;
+            verdict = Some errno;
+            next = refl;
+            fits = λ f. absurd (let g : Some errno ≡ None = f in cc);
+          })))
       stage_of t none None accepted =
           inl (record {
             unsettled = refl;
@@ -363,43 +405,54 @@ module _ (b : BoardView) (asks : Asks) (some : AsksForMessages asks) (callers : 
       by false over = was
 
   -- the caller's own entry
-  own_reads : (past : List Entry) → IsStepwise b callers asks past → (e : Entry) → May b callers asks (now b asks past) e → ReadsAt past (caller_of e) (ahead b asks (now b asks past) (caller_of e))
+  own_reads : (past : List Entry) → IsStepwise b callers asks past → (e : Entry) → May b callers asks (now b asks past) e
+      → ReadsAt past (caller_of e) (ahead b asks (now b asks past) (caller_of e))
       → ReadsAt (e ∷ past) (caller_of e) ((now b asks (e ∷ past)).walk (caller_of e))
   own_reads past steps (entry.Take c l) may is =
       let n : Now = now b asks past in
       let w : WalkTree = ahead b asks n c in
       let s = settles-taken is.done n.slot w is.settles l may.2 in
       subst (λ (x : WalkTree). IsReading b (asks c) x (n.settled c) (n.got c)) (sym (at_same n.walk c (rest_of (seen n.slot w) Passed)))
-      (passed b (asks c) n.slot w (n.settled c) (n.got c) is (Take l) may.2 (λ job left f. let g : Take l ≡ Send job left = f in cc) (λ verdict f. let g : Take l ≡ Settle verdict = f in cc) s.0 s.1
+      (passed b (asks c) n.slot w (n.settled c) (n.got c) is (Take l) may.2 (λ job left f. let g : Take l ≡ Send job left = f in cc)
+      (λ verdict f. let g : Take l ≡ Settle verdict = f in cc) s.0 s.1
       (λ firsts. first-taken n.slot w firsts l may.2))
   own_reads past steps (entry.Free c l) may is =
       let n : Now = now b asks past in
       let w : WalkTree = ahead b asks n c in
       let s = settles-freed is.done n.slot w is.settles l may.2 in
       subst (λ (x : WalkTree). IsReading b (asks c) x (n.settled c) (n.got c)) (sym (at_same n.walk c (rest_of (seen n.slot w) Passed)))
-      (passed b (asks c) n.slot w (n.settled c) (n.got c) is (Free l) may.2 (λ job left f. let g : Free l ≡ Send job left = f in cc) (λ verdict f. let g : Free l ≡ Settle verdict = f in cc) s.0 s.1
+      (passed b (asks c) n.slot w (n.settled c) (n.got c) is (Free l) may.2 (λ job left f. let g : Free l ≡ Send job left = f in cc)
+      (λ verdict f. let g : Free l ≡ Settle verdict = f in cc) s.0 s.1
       (λ firsts. first-freed n.slot w firsts l may.2))
   own_reads past steps (entry.Settle c r cut) may is =
       let n : Now = now b asks past in
       let w : WalkTree = ahead b asks n c in
-      subst (λ (x : WalkTree). IsReading b (asks c) x ((now b asks (entry.Settle c r cut ∷ past)).settled c) ((now b asks (entry.Settle c r cut ∷ past)).got c)) (sym (at_same n.walk c (rest_of (seen n.slot w) Passed)))
-      (subst (λ (g : List ℕ). IsReading b (asks c) (rest_of (seen n.slot w) Passed) ((now b asks (entry.Settle c r cut ∷ past)).settled c) g) (sym (at_same n.got c []))
+      subst (λ (x : WalkTree). IsReading b (asks c) x ((now b asks (entry.Settle c r cut ∷ past)).settled c)
+      ((now b asks (entry.Settle c r cut ∷ past)).got c)) (sym (at_same n.walk c (rest_of (seen n.slot w) Passed)))
+      (subst (λ (g : List ℕ). IsReading b (asks c) (rest_of (seen n.slot w) Passed)
+      ((now b asks (entry.Settle c r cut ∷ past)).settled c) g) (sym (at_same n.got c []))
       (ended b (asks c) n.slot w (n.settled c) (n.got c) is may.2 may.3 ((now b asks (entry.Settle c r cut ∷ past)).settled c)))
   own_reads past steps (entry.Line c mux level failed) may is =
       let n : Now = now b asks past in
       let w : WalkTree = ahead b asks n c in
       let e : Entry = entry.Line c mux level failed in
-      subst (λ (x : WalkTree). IsReading b (asks c) x ((step b asks n e).settled c) ((step b asks n e).got c)) (sym (at_same n.walk c (rest_of (seen n.slot w) (Lined failed))))
-      (subst (λ (rs : List Reply). IsReading b (asks c) (rest_of (seen n.slot w) (Lined failed)) rs ((step b asks n e).got c)) (sym (lined_settled b n (first_act (current b asks n c)) (first_note (current b asks n c)) failed c))
-      (subst (λ (g : List ℕ). IsReading b (asks c) (rest_of (seen n.slot w) (Lined failed)) (n.settled c) g) (sym (line-got b asks n c mux level failed may.2.0 may.2.1))
+      subst (λ (x : WalkTree). IsReading b (asks c) x ((step b asks n e).settled c) ((step b asks n e).got c))
+      (sym (at_same n.walk c (rest_of (seen n.slot w) (Lined failed))))
+      (subst (λ (rs : List Reply). IsReading b (asks c) (rest_of (seen n.slot w) (Lined failed)) rs ((step b asks n e).got c))
+      (sym (lined_settled b n (first_act (current b asks n c)) (first_note (current b asks n c)) failed c))
+      (subst (λ (g : List ℕ). IsReading b (asks c) (rest_of (seen n.slot w) (Lined failed)) (n.settled c) g)
+      (sym (line-got b asks n c mux level failed may.2.0 may.2.1))
       (shifted b (asks c) n.slot w (n.settled c) (n.got c) is may.2.0 may.2.1 failed)))
   own_reads past steps (entry.Message c bus why part parts addr reading bytes heard en) may is =
       let n : Now = now b asks past in
       let w : WalkTree = ahead b asks n c in
       let e : Entry = entry.Message c bus why part parts addr reading bytes heard en in
-      subst (λ (x : WalkTree). IsReading b (asks c) x ((step b asks n e).settled c) ((step b asks n e).got c)) (sym (at_same n.walk c (rest_of (seen n.slot w) (Sent en bytes))))
-      (subst (λ (rs : List Reply). IsReading b (asks c) (rest_of (seen n.slot w) (Sent en bytes)) rs ((step b asks n e).got c)) (sym (sent_settled b n c (first_act (current b asks n c)) (first_note (current b asks n c)) reading bytes en c))
-      (subst (λ (g : List ℕ). IsReading b (asks c) (rest_of (seen n.slot w) (Sent en bytes)) (n.settled c) g) (sym (message-got b asks n c bus why part parts addr reading bytes heard en may.2.0 may.2.1 may.2.2))
+      subst (λ (x : WalkTree). IsReading b (asks c) x ((step b asks n e).settled c) ((step b asks n e).got c))
+      (sym (at_same n.walk c (rest_of (seen n.slot w) (Sent en bytes))))
+      (subst (λ (rs : List Reply). IsReading b (asks c) (rest_of (seen n.slot w) (Sent en bytes)) rs ((step b asks n e).got c))
+      (sym (sent_settled b n c (first_act (current b asks n c)) (first_note (current b asks n c)) reading bytes en c))
+      (subst (λ (g : List ℕ). IsReading b (asks c) (rest_of (seen n.slot w) (Sent en bytes)) (n.settled c) g)
+      (sym (message-got b asks n c bus why part parts addr reading bytes heard en may.2.0 may.2.1 may.2.2))
       (by may.2.0 may.2.1 may.2.2 may.2.3)))
     where
       n : Now
@@ -409,17 +462,32 @@ module _ (b : BoardView) (asks : Asks) (some : AsksForMessages asks) (callers : 
       w = ahead b asks n c
 
       by : (job : Job) (left : ℕ) → IsNext b asks n c (Send job left)
-          → TellsMessage b n job left (record { caller = c; bus = bus; purpose = why; part = part; parts = parts; addr = addr; reading = reading; bytes = bytes; heard = heard; end = en })
+          → TellsMessage b n job left (record {
+            caller = c;
+            bus = bus;
+            purpose = why;
+            part = part;
+            parts = parts;
+            addr = addr;
+            reading = reading;
+            bytes = bytes;
+            heard = heard;
+            end = en;
+          })
           → IsReading b (asks c) (rest_of (seen n.slot w) (Sent en bytes)) (n.settled c) (got_after job reading bytes (n.got c))
       by (Select h) left next tells =
-          controlled b (asks c) n.slot w (n.settled c) (n.got c) is (Select h) left next (λ s ms f. let g : Select h ≡ Call s ms = f in cc) en bytes (λ firsts. first-selected n.slot w firsts h left next en bytes)
+          controlled b (asks c) n.slot w (n.settled c) (n.got c) is (Select h) left next (λ s ms f. let g : Select h ≡ Call s ms = f in
+          cc) en bytes (λ firsts. first-selected n.slot w firsts h left next en bytes)
       by (SwitchOff off) left next tells =
-          controlled b (asks c) n.slot w (n.settled c) (n.got c) is (SwitchOff off) left next (λ s ms f. let g : SwitchOff off ≡ Call s ms = f in cc) en bytes
+          controlled b (asks c) n.slot w (n.settled c) (n.got c) is (SwitchOff off) left next
+          (λ s ms f. let g : SwitchOff off ≡ Call s ms = f in cc) en bytes
           (λ firsts. first-switched-off n.slot w firsts off left next en bytes)
       by (Call s ms) left next tells =
           called b (asks c) n.slot w (n.settled c) (n.got c) is s ms left next en bytes reading tells.in_direction
-          (λ reads fine. subst (λ (xs : List ℕ). GaveRead (block_limit b) (message_of b (Call s ms) left).counted (message_of b (Call s ms) left).len xs) (sym tells.bytes_told)
-          (talk-reads world_listener (cut_of en) (block_limit b) (n.worlds (root_of b s)) (message_of b (Call s ms) left) (is_last (Call s ms) left) (sym tells.in_direction ∙ reads) (sym tells.end_told ∙ fine)))
+          (λ reads fine. subst (λ (xs : List ℕ). GaveRead (block_limit b) (message_of b (Call s ms) left).counted
+          (message_of b (Call s ms) left).len xs) (sym tells.bytes_told)
+          (talk-reads world_listener (cut_of en) (block_limit b) (n.worlds (root_of b s)) (message_of b (Call s ms) left)
+          (is_last (Call s ms) left) (sym tells.in_direction ∙ reads) (sym tells.end_told ∙ fine)))
 
   -- THE INDUCTION
   past-reads : (past : List Entry) → IsStepwise b callers asks past → (c : ℕ) → ReadsAt past c ((now b asks past).walk c)
@@ -440,10 +508,13 @@ module _ (b : BoardView) (asks : Asks) (some : AsksForMessages asks) (callers : 
         | inr h ↦ other (past-reads past steps.1 c) (entry-elsewhere b asks (now b asks past) e c (λ f. h.1 (sym f)))
       ]
     where
-      other : ReadsAt past c ((now b asks past).walk c) → IsUntouched (now b asks past) (now b asks (e ∷ past)) c → ReadsAt (e ∷ past) c ((now b asks (e ∷ past)).walk c)
+      other : ReadsAt past c ((now b asks past).walk c) → IsUntouched (now b asks past) (now b asks (e ∷ past)) c
+          → ReadsAt (e ∷ past) c ((now b asks (e ∷ past)).walk c)
       other was same =
-          subst (λ (w : WalkTree). IsReading b (asks c) w ((now b asks (e ∷ past)).settled c) ((now b asks (e ∷ past)).got c)) (sym same.walks)
-          (subst (λ (rs : List Reply). IsReading b (asks c) ((now b asks past).walk c) rs ((now b asks (e ∷ past)).got c)) (sym same.settles)
+          subst (λ (w : WalkTree). IsReading b (asks c) w ((now b asks (e ∷ past)).settled c) ((now b asks (e ∷ past)).got c))
+          (sym same.walks)
+          (subst (λ (rs : List Reply). IsReading b (asks c) ((now b asks past).walk c) rs ((now b asks (e ∷ past)).got c))
+          (sym same.settles)
           (subst (λ (g : List ℕ). IsReading b (asks c) ((now b asks past).walk c) ((now b asks past).settled c) g) (sym same.reads) was))
 
   fits_at : (e : Entry) (past : List Entry) → IsStepwise b callers asks past → May b callers asks (now b asks past) e → FitsAt asks e past

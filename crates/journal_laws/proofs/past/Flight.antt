@@ -11,7 +11,8 @@ use Rattle.bus_spec.specs.Places.{message_sent}
 use Rattle.bus_spec.specs.Stepwise.{May, IsStepwise}
 use Rattle.journal_laws.specs.Flight.{IsInFlight, AreInFlight}
 
-flight_at : (b : BoardView) (callers : ℕ) (asks : Asks) (past : List Entry) (e : Entry) → May b callers asks (now b asks past) e → OfMessage (IsInFlight b asks past) e
+flight_at : (b : BoardView) (callers : ℕ) (asks : Asks) (past : List Entry) (e : Entry) → May b callers asks (now b asks past) e
+    → OfMessage (IsInFlight b asks past) e
 flight_at b callers asks past (entry.Take c l) may = tt
 flight_at b callers asks past (entry.Free c l) may = tt
 flight_at b callers asks past (entry.Line c mux level failed) may = tt

@@ -48,15 +48,18 @@ head_by b (Some (Send job left)) =
     }
 head_by b first = no_head
 
-same_head : (m : MessageEntry) (bus : ℕ) (why : Purpose) (part parts addr : ℕ) (reading : Bool) → m.bus ≡ bus → m.purpose ≡ why → m.part ≡ part → m.parts ≡ parts → m.addr ≡ addr → m.reading ≡ reading
+same_head : (m : MessageEntry) (bus : ℕ) (why : Purpose) (part parts addr : ℕ) (reading : Bool) → m.bus ≡ bus → m.purpose ≡ why
+    → m.part ≡ part → m.parts ≡ parts → m.addr ≡ addr → m.reading ≡ reading
     → head_in m ≡ record { bus = bus; purpose = why; part = part; parts = parts; addr = addr; reading = reading }
 same_head m bus why part parts addr reading same_bus same_why same_part same_parts same_addr same_reading = cc
 
 -- a message has the head of the one that the walk sends next
-pub head-told : (b : BoardView) (n : Now) (first : Option Act) (job : Job) (left : ℕ) (m : MessageEntry) → first ≡ Some (Send job left) → TellsMessage b n job left m
+pub head-told : (b : BoardView) (n : Now) (first : Option Act) (job : Job) (left : ℕ) (m : MessageEntry) → first ≡ Some (Send job left)
+    → TellsMessage b n job left m
     → head_in m ≡ head_by b first
 head-told b n first job left m next tells =
-    same_head m (job_bus job) (job_purpose job) (part_of job left) (parts_of job) (message_of b job left).addr (message_of b job left).reading
+    same_head m (job_bus job) (job_purpose job) (part_of job left) (parts_of job) (message_of b job left).addr
+    (message_of b job left).reading
     tells.on_bus tells.for_purpose tells.as_part tells.of_parts tells.to_addr tells.in_direction
     ∙ sym (ap (λ (o : Option Act). head_by b o) next)
 
@@ -65,7 +68,8 @@ abbrev pub level_by : Option Act → ℕ × ℕ
 level_by (Some (Shift job)) = (line_mux job, line_level job)
 level_by first = (0, 0)
 
-pub level-told : (first : Option Act) (job : Job) (mux level : ℕ) → first ≡ Some (Shift job) → TellsLine job mux level → (mux, level) ≡ level_by first
+pub level-told : (first : Option Act) (job : Job) (mux level : ℕ) → first ≡ Some (Shift job) → TellsLine job mux level
+    → (mux, level) ≡ level_by first
 level-told first job mux level next tells =
     ap (λ (m : ℕ). (m, level)) tells.of_mux ∙ ap (λ (l : ℕ). (line_mux job, l)) tells.to_level ∙ sym (ap level_by next)
 
@@ -102,11 +106,13 @@ module _ (b : BoardView) (asks : List Reply → Option TransferView) where
   renamed rs w u (s ∷ ss) same follow =
       subst
       (λ (x : WalkTree).
-      Tells b s.before (seen s.before.slot x) s.entry × Follow (rs ++ reply_at s.entry) (rest_of (seen s.before.slot x) (outcome_of s.entry)) ss)
+      Tells b s.before (seen s.before.slot x) s.entry
+      × Follow (rs ++ reply_at s.entry) (rest_of (seen s.before.slot x) (outcome_of s.entry)) ss)
       same follow
 
   -- the steps of a walk, and behind them those that follow what is left of it
-  led-follow : (rs : List Reply) (w left : WalkTree) (mine rest : List Step) → Leads b w mine left → Follow (rs ++ replies_in mine) left rest → Follow rs w (mine ++ rest)
+  led-follow : (rs : List Reply) (w left : WalkTree) (mine rest : List Step) → Leads b w mine left
+      → Follow (rs ++ replies_in mine) left rest → Follow rs w (mine ++ rest)
   led-follow rs w left [] rest leads follow =
       subst (λ (x : WalkTree). Follow rs x rest) leads (subst (λ (xs : List Reply). Follow xs left rest) (append-nil rs) follow)
   led-follow rs w left (s ∷ mine) rest leads follow =
@@ -114,11 +120,15 @@ module _ (b : BoardView) (asks : List Reply → Option TransferView) where
       (λ (x : WalkTree).
       Tells b s.before (seen s.before.slot x) s.entry
       × Follow (rs ++ reply_at s.entry) (rest_of (seen s.before.slot x) (outcome_of s.entry)) (mine ++ rest))
-      (sym (under-way w rs s.before s.entry leads.0))
-      (leads.0, led-follow (rs ++ reply_at s.entry) (rest_of (seen s.before.slot w) (outcome_of s.entry)) left mine rest leads.1 (subst (λ (xs : List Reply). Follow xs left rest) so_far follow))
+      (sym (under-way w rs s.before s.entry leads.0)) (
+        leads.0,
+        led-follow (rs ++ reply_at s.entry) (rest_of (seen s.before.slot w) (outcome_of s.entry)) left mine rest leads.1
+            (subst (λ (xs : List Reply). Follow xs left rest) so_far follow),
+      )
     where
       so_far : rs ++ replies_in (s ∷ mine) ≡ (rs ++ reply_at s.entry) ++ replies_in mine
-      so_far = ap (λ (xs : List Reply). rs ++ xs) (replies_first s.before s.entry mine) ∙ sym (append_assoc rs (reply_at s.entry) (replies_in mine))
+      so_far = ap (λ (xs : List Reply). rs ++ xs) (replies_first s.before s.entry mine)
+          ∙ sym (append_assoc rs (reply_at s.entry) (replies_in mine))
 
   -- a walk that begins is the one at hand
   pub begins : (rs : List Reply) (t : TransferView) → asks rs ≡ Some t → at_hand rs (walk_for b t) ≡ at_hand rs Ends

@@ -35,7 +35,8 @@ use Rattle.bus_laws.proofs.past.Next.{call-reaches, control-switches}
 use Rattle.bus_laws.proofs.past.Ready.{takes-below, some-free}
 
 -- a message of which no call fails ends by itself
-hears_own : (w : World) (addr : ℕ) (reading : Bool) (heard : Option Node) (e : End) → IsOwnEnd e → hearers w addr reading ≡ heard_list heard → HearsIn w addr reading heard e
+hears_own : (w : World) (addr : ℕ) (reading : Bool) (heard : Option Node) (e : End) → IsOwnEnd e → hearers w addr reading ≡ heard_list heard
+    → HearsIn w addr reading heard e
 hears_own w addr reading heard end.Ok own h = h
 hears_own w addr reading heard end.Nack own h = h
 hears_own w addr reading heard end.Slow own h = h
@@ -51,21 +52,27 @@ own_cut end.Refused own = refl
 own_cut end.Proto own = refl
 own_cut (end.Cut q) own = absurd own
 
-module _ (b : BoardView) (tree : IsTree b) (plain : IsPlainBoard b) (lines : LinesAreLocked b) (asks : Asks) (some : AsksForMessages asks) (callers : ℕ)
+module _ (b : BoardView) (tree : IsTree b) (plain : IsPlainBoard b) (lines : LinesAreLocked b) (asks : Asks) (some : AsksForMessages asks)
+    (callers : ℕ)
     (past : List Entry) (steps : IsStepwise b callers asks past) where
   abbrev n : Now
   n = now b asks past
 
   -- a message, heard as its world says
   message_comes : (c : ℕ) → c < callers → n.due ≡ None → (job : Job) (left : ℕ) → IsNext b asks n c (Send job left) → (heard : Option Node)
-      → hearers (n.worlds (root_of b (job_bus job))) (message_of b job left).addr (message_of b job left).reading ≡ heard_list heard → CanGoOn b callers asks past c
+      → hearers (n.worlds (root_of b (job_bus job))) (message_of b job left).addr (message_of b job left).reading ≡ heard_list heard
+      → CanGoOn b callers asks past c
   message_comes c known none job left next heard hears =
-      let told : TalkTold World = talk world_listener (block_limit b) (n.worlds (root_of b (job_bus job))) (message_of b job left) (is_last job left) None in
-      let own : IsOwnEnd told.end = (talk-front world_listener None (block_limit b) (n.worlds (root_of b (job_bus job))) (message_of b job left) (is_last job left)).own_end in
+      let told : TalkTold World = talk world_listener (block_limit b) (n.worlds (root_of b (job_bus job))) (message_of b job left)
+      (is_last job left) None in
+      let own : IsOwnEnd told.end = (talk-front world_listener None (block_limit b) (n.worlds (root_of b (job_bus job)))
+      (message_of b job left) (is_last job left)).own_end in
       let same : talk_of b n job left told.end ≡ told =
-      ap (λ (cut : Option ℕ). talk world_listener (block_limit b) (n.worlds (root_of b (job_bus job))) (message_of b job left) (is_last job left) cut) (own_cut told.end own) in
+      ap (λ (cut : Option ℕ). talk world_listener (block_limit b) (n.worlds (root_of b (job_bus job))) (message_of b job left)
+      (is_last job left) cut) (own_cut told.end own) in
       record {
-        entry = entry.Message c (job_bus job) (job_purpose job) (part_of job left) (parts_of job) (message_of b job left).addr (message_of b job left).reading told.bytes heard told.end;
+        entry = entry.Message c (job_bus job) (job_purpose job) (part_of job left) (parts_of job) (message_of b job left).addr
+            (message_of b job left).reading told.bytes heard told.end;
         own = refl;
         may = (
           known,
@@ -83,14 +90,16 @@ module _ (b : BoardView) (tree : IsTree b) (plain : IsPlainBoard b) (lines : Lin
               in_direction = refl;
               bytes_told = ap (λ (t : TalkTold World). t.bytes) (sym same);
               end_told = ap (λ (t : TalkTold World). t.end) (sym same);
-              heard_told = hears_own (n.worlds (root_of b (job_bus job))) (message_of b job left).addr (message_of b job left).reading heard told.end own hears;
+              heard_told = hears_own (n.worlds (root_of b (job_bus job))) (message_of b job left).addr
+                  (message_of b job left).reading heard told.end own hears;
             },
           ),
         );
       }
 
   -- a settle has the reply that its walk decides
-  settle_comes : (c : ℕ) → c < callers → (n.due ≡ None) ⊎ (n.due ≡ Some c) → (verdict : Option Errno) → IsNext b asks n c (Settle verdict) → CanGoOn b callers asks past c
+  settle_comes : (c : ℕ) → c < callers → (n.due ≡ None) ⊎ (n.due ≡ Some c) → (verdict : Option Errno) → IsNext b asks n c (Settle verdict)
+      → CanGoOn b callers asks past c
   settle_comes c known due verdict next =
       record {
         entry = entry.Settle c (reply_by verdict (asks c (n.settled c)) (n.got c)) (n.cut c);
@@ -98,18 +107,28 @@ module _ (b : BoardView) (tree : IsTree b) (plain : IsPlainBoard b) (lines : Lin
         may = (known, due, verdict, next, refl, refl);
       }
 
-  act_comes : (c : ℕ) → c < callers → n.due ≡ None → (act : Act) → IsNext b asks n c act → ((l : LockId) → act ≡ Take l → holder past l ≡ None) → CanGoOn b callers asks past c
+  act_comes : (c : ℕ) → c < callers → n.due ≡ None → (act : Act) → IsNext b asks n c act
+      → ((l : LockId) → act ≡ Take l → holder past l ≡ None) → CanGoOn b callers asks past c
   act_comes c known none (Take l) next free =
       record {
         entry = entry.Take c l;
         own = refl;
-        may = (known, none, next, holder-told b asks past l ∙ free l refl, takes-below b tree plain lines asks some callers past steps c l next);
+        may = (
+          known,
+          none,
+          next,
+          holder-told b asks past l
+              ∙ free l refl,
+          takes-below b tree plain lines asks some callers past steps c l next,
+        );
       }
   act_comes c known none (Free l) next free = record { entry = entry.Free c l; own = refl; may = (known, none, next) }
   act_comes c known none (Send (Call bus messages) left) next free =
-      let reach : WillReach b asks n c bus messages left = call-reaches b tree plain lines asks some callers past steps c bus messages left next in
+      let reach : WillReach b asks n c bus messages left =
+      call-reaches b tree plain lines asks some callers past steps c bus messages left next in
       let m = message_of b (Call bus messages) left in
-      message_comes c known none (Call bus messages) left next (who_hears b (n.worlds (root_of b bus)) bus reach.transfer.force m.addr m.reading) reach.heard
+      message_comes c known none (Call bus messages) left next
+      (who_hears b (n.worlds (root_of b bus)) bus reach.transfer.force m.addr m.reading) reach.heard
   act_comes c known none (Send (Select h) left) next free =
       message_comes c known none (Select h) left next (chip_where b h.mux)
       (control-switches b tree plain lines asks some callers past steps c (Select h) left h.mux refl next).heard
@@ -128,7 +147,8 @@ module _ (b : BoardView) (tree : IsTree b) (plain : IsPlainBoard b) (lines : Lin
   due_comes : (c : ℕ) → n.due ≡ Some c → CanGoOn b callers asks past c
   due_comes c due =
       let made : IsDueBehind b callers asks past c = due-made b asks some callers past c steps due in
-      settle_comes c made.known (inr due) made.verdict (goes_on_from n.slot (begun b (asks c (n.settled c))) (n.walk c) (Settle made.verdict) made.settles)
+      settle_comes c made.known (inr due) made.verdict
+      (goes_on_from n.slot (begun b (asks c (n.settled c))) (n.walk c) (Settle made.verdict) made.settles)
 
   pub some-can-go-on : SomeCanGoOn b callers asks past
   some-can-go-on = by (n.due) refl
@@ -145,18 +165,22 @@ module _ (b : BoardView) (tree : IsTree b) (plain : IsPlainBoard b) (lines : Lin
   pub goes-on-or-stuck : n.due ≡ None → (c : ℕ) → c < callers → CanGoOn b callers asks past c ⊎ IsStuck b asks past c
   goes-on-or-stuck none c known = by (first_act (current b asks n c)) refl
     where
-      by_holder : (l : LockId) → IsNext b asks n c (Take l) → (o : Option ℕ) → holder past l ≡ o → CanGoOn b callers asks past c ⊎ IsStuck b asks past c
+      by_holder : (l : LockId) → IsNext b asks n c (Take l) → (o : Option ℕ) → holder past l ≡ o
+          → CanGoOn b callers asks past c ⊎ IsStuck b asks past c
       by_holder l next None free =
-          inl (act_comes c known none (Take l) next (λ k e. subst (λ (x : LockId). holder past x ≡ None) (let f : Take l ≡ Take k = e in let g : l ≡ k = cc in g) free))
+          inl (act_comes c known none (Take l) next
+          (λ k e. subst (λ (x : LockId). holder past x ≡ None) (let f : Take l ≡ Take k = e in let g : l ≡ k = cc in g) free))
       by_holder l next (Some h) has = inr (inl (l, h, next, has))
 
       by : (o : Option Act) → first_act (current b asks n c) ≡ o → CanGoOn b callers asks past c ⊎ IsStuck b asks past c
       by None finished = inr (inr finished)
       by (Some (Take l)) next = by_holder l next (holder past l) refl
       by (Some (Free l)) next = inl (act_comes c known none (Free l) next (λ k e. absurd (let f : Free l ≡ Take k = e in cc)))
-      by (Some (Send job left)) next = inl (act_comes c known none (Send job left) next (λ k e. absurd (let f : Send job left ≡ Take k = e in cc)))
+      by (Some (Send job left)) next = inl
+          (act_comes c known none (Send job left) next (λ k e. absurd (let f : Send job left ≡ Take k = e in cc)))
       by (Some (Shift job)) next = inl (act_comes c known none (Shift job) next (λ k e. absurd (let f : Shift job ≡ Take k = e in cc)))
-      by (Some (Settle verdict)) next = inl (act_comes c known none (Settle verdict) next (λ k e. absurd (let f : Settle verdict ≡ Take k = e in cc)))
+      by (Some (Settle verdict)) next = inl
+          (act_comes c known none (Settle verdict) next (λ k e. absurd (let f : Settle verdict ≡ Take k = e in cc)))
 
   -- who is stuck can't go on
   pub stuck-stops : (c : ℕ) → IsStuck b asks past c → CanGoOn b callers asks past c → ⊥
@@ -166,7 +190,8 @@ module _ (b : BoardView) (tree : IsTree b) (plain : IsPlainBoard b) (lines : Lin
       taken d l h may has = (let f : None ≡ Some h = sym may.3 ∙ holder-told b asks past l ∙ has in cc)
 
       by : (e : Entry) → caller_of e ≡ c → May b callers asks n e → IsStuck b asks past c → ⊥
-      by e own may (inr finished) = never b callers asks n e may (subst (λ (i : ℕ). first_act (current b asks n i) ≡ None) (sym own) finished)
+      by e own may (inr finished) = never b callers asks n e may
+          (subst (λ (i : ℕ). first_act (current b asks n i) ≡ None) (sym own) finished)
       by e own may (inl waits) =
           let took = takes b callers asks n e may waits.0 (subst (λ (i : ℕ). IsNext b asks n i (Take waits.0)) (sym own) waits.2) in
           taken took.0 waits.0 waits.1 (subst (λ (x : Entry). May b callers asks n x) took.1 may) waits.3

@@ -28,7 +28,8 @@ module _ (b : BoardView) (asks : List Reply → Option TransferView) where
   -- the walk that is left behind steps
   abbrev walk_behind : List Reply → WalkTree → List Step → WalkTree
   walk_behind rs w [] = w
-  walk_behind rs w (s ∷ ss) = walk_behind (rs ++ reply_at s.entry) (rest_of (seen s.before.slot (at_hand b asks rs w)) (outcome_of s.entry)) ss
+  walk_behind rs w (s ∷ ss) = walk_behind (rs ++ reply_at s.entry)
+      (rest_of (seen s.before.slot (at_hand b asks rs w)) (outcome_of s.entry)) ss
 
   -- a step more: the walk at hand, and what the step tells of it
   abbrev hand_behind : List Reply → WalkTree → List Step → WalkTree
@@ -44,19 +45,24 @@ module _ (b : BoardView) (asks : List Reply → Option TransferView) where
       ap (λ (xs : List Reply). rest_of (seen s.before.slot (at_hand b asks xs w)) (outcome_of s.entry)) (sym (append-nil rs))
   behind_last rs w (x ∷ ss) s =
       behind_last (rs ++ reply_at x.entry) (rest_of (seen x.before.slot (at_hand b asks rs w)) (outcome_of x.entry)) ss s
-      ∙ ap (λ (xs : List Reply). rest_of (seen s.before.slot (at_hand b asks xs (walk_behind rs w (x ∷ ss)))) (outcome_of s.entry)) (replies_shift rs x ss)
+      ∙ ap (λ (xs : List Reply). rest_of (seen s.before.slot (at_hand b asks xs (walk_behind rs w (x ∷ ss)))) (outcome_of s.entry))
+      (replies_shift rs x ss)
 
   follow_front : (rs : List Reply) (w : WalkTree) (ss : List Step) (s : Step) → Follow b asks rs w (ss ++ s ∷ []) → Follow b asks rs w ss
   follow_front rs w [] s follow = tt
-  follow_front rs w (x ∷ ss) s follow =
-      (follow.0, follow_front (rs ++ reply_at x.entry) (rest_of (seen x.before.slot (at_hand b asks rs w)) (outcome_of x.entry)) ss s follow.1)
+  follow_front rs w (x ∷ ss) s follow = (
+    follow.0,
+    follow_front (rs ++ reply_at x.entry)
+        (rest_of (seen x.before.slot (at_hand b asks rs w)) (outcome_of x.entry)) ss s follow.1,
+  )
 
   follow_last : (rs : List Reply) (w : WalkTree) (ss : List Step) (s : Step) → Follow b asks rs w (ss ++ s ∷ [])
       → Tells b s.before (seen s.before.slot (hand_behind rs w ss)) s.entry
   follow_last rs w [] s follow =
       subst (λ (xs : List Reply). Tells b s.before (seen s.before.slot (at_hand b asks xs w)) s.entry) (sym (append-nil rs)) follow.0
   follow_last rs w (x ∷ ss) s follow =
-      subst (λ (xs : List Reply). Tells b s.before (seen s.before.slot (at_hand b asks xs (walk_behind rs w (x ∷ ss)))) s.entry) (replies_shift rs x ss)
+      subst (λ (xs : List Reply). Tells b s.before (seen s.before.slot (at_hand b asks xs (walk_behind rs w (x ∷ ss)))) s.entry)
+      (replies_shift rs x ss)
       (follow_last (rs ++ reply_at x.entry) (rest_of (seen x.before.slot (at_hand b asks rs w)) (outcome_of x.entry)) ss s follow.1)
 
   -- steps that lead through a walk leave what they lead to
@@ -106,11 +112,13 @@ module _ (b : BoardView) (asks : Asks) where
   own_steps : (past : List Entry) (c : ℕ) (e : Entry) → caller_of e ≡ c
       → steps_in b asks c (e ∷ past) ≡ steps_in b asks c past ++ record { before = now b asks past; entry = e } ∷ []
   own_steps past c e own =
-      ap (λ (t : Bool). cond t (steps_in b asks c past ++ record { before = now b asks past; entry = e } ∷ []) (steps_in b asks c past)) (eq-eqb (caller_of e) c own)
+      ap (λ (t : Bool). cond t (steps_in b asks c past ++ record { before = now b asks past; entry = e } ∷ []) (steps_in b asks c past))
+      (eq-eqb (caller_of e) c own)
 
   other_steps : (past : List Entry) (c : ℕ) (e : Entry) → (caller_of e ≡ c → ⊥) → steps_in b asks c (e ∷ past) ≡ steps_in b asks c past
   other_steps past c e other =
-      ap (λ (t : Bool). cond t (steps_in b asks c past ++ record { before = now b asks past; entry = e } ∷ []) (steps_in b asks c past)) (eqb-apart (caller_of e) c other)
+      ap (λ (t : Bool). cond t (steps_in b asks c past ++ record { before = now b asks past; entry = e } ∷ []) (steps_in b asks c past))
+      (eqb-apart (caller_of e) c other)
 
   -- the replies of a caller, behind an entry of its own and one of another's
   pub own_replies : (past : List Entry) (c : ℕ) (e : Entry) → caller_of e ≡ c → replies (e ∷ past) c ≡ replies past c ++ reply_at e
@@ -125,7 +133,8 @@ module _ (b : BoardView) (asks : Asks) where
   other_replies past c (entry.Free d l) other = refl
   other_replies past c (entry.Message d bus purpose part parts addr reading bytes heard e) other = refl
   other_replies past c (entry.Line d mux level failed) other = refl
-  other_replies past c (entry.Settle d r cut) other = ap (λ (t : Bool). cond t (replies past c ++ r ∷ []) (replies past c)) (eqb-apart d c other)
+  other_replies past c (entry.Settle d r cut) other = ap (λ (t : Bool). cond t (replies past c ++ r ∷ []) (replies past c))
+      (eqb-apart d c other)
 
   -- a caller's replies are those of its steps
   replies_steps : (past : List Entry) (c : ℕ) → replies_in (steps_in b asks c past) ≡ replies past c
@@ -139,9 +148,11 @@ module _ (b : BoardView) (asks : Asks) where
 
   -- the walk at hand behind a caller's steps is the one that its next step is of
   hand : (past : List Entry) (c : ℕ) → walk_behind b (asks c) [] Ends (steps_in b asks c past) ≡ (now b asks past).walk c
-      → hand_behind b (asks c) [] Ends (steps_in b asks c past) ≡ at_hand b (asks c) ((now b asks past).settled c) ((now b asks past).walk c)
+      → hand_behind b (asks c) [] Ends (steps_in b asks c past) ≡ at_hand b (asks c) ((now b asks past).settled c)
+      ((now b asks past).walk c)
   hand past c walk =
-      ap (λ (rs : List Reply). at_hand b (asks c) rs (walk_behind b (asks c) [] Ends (steps_in b asks c past))) (replies_steps past c ∙ sym (settled-told b asks past c))
+      ap (λ (rs : List Reply). at_hand b (asks c) rs (walk_behind b (asks c) [] Ends (steps_in b asks c past))) (replies_steps past c
+      ∙ sym (settled-told b asks past c))
       ∙ ap (λ (w : WalkTree). at_hand b (asks c) ((now b asks past).settled c) w) walk
 
   -- what is left of its walk is what its steps leave
@@ -165,9 +176,11 @@ module _ (b : BoardView) (asks : Asks) where
       → Everywhere (λ e before. TellsNext b asks (now b asks before) e) past
   each-tells [] follow = tt
   each-tells (e ∷ past) follow = (
-    subst (λ (w : WalkTree). Tells b (now b asks past) (seen (now b asks past).slot w) e) (hand past (caller_of e) (walk_steps past (caller_of e)))
+    subst (λ (w : WalkTree). Tells b (now b asks past) (seen (now b asks past).slot w) e)
+        (hand past (caller_of e) (walk_steps past (caller_of e)))
         (follow_last b (asks (caller_of e)) [] Ends (steps_in b asks (caller_of e) past) (record { before = now b asks past; entry = e })
-        (subst (λ (ss : List Step). Follow b (asks (caller_of e)) [] Ends ss) (own_steps past (caller_of e) e refl) (follow (caller_of e)))),
+        (subst (λ (ss : List Step). Follow b (asks (caller_of e)) [] Ends ss) (own_steps past (caller_of e) e refl)
+        (follow (caller_of e)))),
     each-tells past (λ c. elim (eqb_tells (caller_of e) c) [
       | inl h ↦ follow_front b (asks c) [] Ends (steps_in b asks c past) (record { before = now b asks past; entry = e })
           (subst (λ (ss : List Step). Follow b (asks c) [] Ends ss) (own_steps past c e h.1) (follow c))

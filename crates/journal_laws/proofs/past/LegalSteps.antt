@@ -66,7 +66,8 @@ module _ (b : BoardView) (asks : Asks) where
       record { told = keeps.told; defined = keeps.defined; same = keeps.same }
   replies-front (entry.Settle c r cut) past keeps = by (history b asks (order past)) refl keeps.defined
     where
-      by : (o : Option History) → history b asks (order past) ≡ o → option_and_then (one_more b asks c cut) o ≡ Some keeps.told → KeepsReplies b asks past
+      by : (o : Option History) → history b asks (order past) ≡ o → option_and_then (one_more b asks c cut) o ≡ Some keeps.told
+          → KeepsReplies b asks past
       by None before e = absurd (let f : None ≡ Some keeps.told = e in cc)
       by (Some h) before e =
           let more = goes_on c cut h keeps.told e in
@@ -105,14 +106,16 @@ module _ (b : BoardView) (tree : IsTree b) (plain : IsPlainBoard b) (lines : Lin
                   absurd (no_settle is.0 is.1 is.2))
             ]
 
-    own_due : (c : ℕ) (r : Reply) (cut : Cut) → ((d : ℕ) → IsParted b asks (entry.Settle c r cut ∷ past) d → ⊥) → (n.due ≡ None) ⊎ (n.due ≡ Some c)
+    own_due : (c : ℕ) (r : Reply) (cut : Cut) → ((d : ℕ) → IsParted b asks (entry.Settle c r cut ∷ past) d → ⊥)
+        → (n.due ≡ None) ⊎ (n.due ≡ Some c)
     own_due c r cut whole = by n.due refl
       where
         by : (o : Option ℕ) → n.due ≡ o → (n.due ≡ None) ⊎ (n.due ≡ Some c)
         by None none = inl none
         by (Some d) due =
             elim (eqb_tells c d) [
-              | inr other ↦ absurd (whole d (parts b asks past d (entry.Settle c r cut) (due-told b asks some callers past d steps due) other.1))
+              | inr other ↦ absurd (whole d (parts b asks past d (entry.Settle c r cut)
+                  (due-told b asks some callers past d steps due) other.1))
               | inl own ↦ inr (due ∙ ap Some (sym own.1))
             ]
 
@@ -123,12 +126,17 @@ module _ (b : BoardView) (tree : IsTree b) (plain : IsPlainBoard b) (lines : Lin
       none_due (entry.Take c l) tells whole (λ r cut e. let f : entry.Take c l ≡ entry.Settle c r cut = e in cc),
       tells,
       holder-told b asks past l ∙ locks.0,
-      is_below_all b l (n.held c) (λ k i. locks.1 k (sym (holder-told b asks past k) ∙ (past-stands b tree plain lines asks some callers past steps).holds c k i)),
+      is_below_all b l (n.held c) (λ k i. locks.1 k (sym (holder-told b asks past k)
+          ∙ (past-stands b tree plain lines asks some callers past steps).holds c k i)),
     )
     may_come (entry.Free c l) known locks tells at whole keeps =
         (known, none_due (entry.Free c l) tells whole (λ r cut e. let f : entry.Free c l ≡ entry.Settle c r cut = e in cc), tells)
-    may_come (entry.Line c mux level failed) known locks tells at whole keeps =
-        (known, none_due (entry.Line c mux level failed) tells whole (λ r cut e. let f : entry.Line c mux level failed ≡ entry.Settle c r cut = e in cc), tells)
+    may_come (entry.Line c mux level failed) known locks tells at whole keeps = (
+      known,
+      none_due (entry.Line c mux level failed) tells whole
+          (λ r cut e. let f : entry.Line c mux level failed ≡ entry.Settle c r cut = e in cc),
+      tells,
+    )
     may_come (entry.Message c bus purpose part parts addr reading bytes heard x) known locks tells at whole keeps = (
       known,
       none_due (entry.Message c bus purpose part parts addr reading bytes heard x) tells whole
@@ -163,7 +171,8 @@ module _ (b : BoardView) (tree : IsTree b) (plain : IsPlainBoard b) (lines : Lin
   steps_of [] known locks tells settles whole keeps = tt
   steps_of (e ∷ past) known locks tells settles whole keeps =
       let before : IsStepwise b callers asks past =
-      steps_of past known.1 locks.1 tells.1 settles.1 (λ c p. whole c (stays-parted b asks past c e p tells.0 settles.0)) (replies-front b asks e past keeps) in
+      steps_of past known.1 locks.1 tells.1 settles.1 (λ c p. whole c (stays-parted b asks past c e p tells.0 settles.0))
+      (replies-front b asks e past keeps) in
       (may_come past before e known.0 locks.0 tells.0 settles.0 whole keeps, before)
 
   whole_parts : (past : List Entry) → IsLegal b callers asks past → (c : ℕ) → IsParted b asks past c → ⊥
@@ -188,7 +197,8 @@ module _ (b : BoardView) (tree : IsTree b) (plain : IsPlainBoard b) (lines : Lin
   steps-front [] past steps = steps
   steps-front (e ∷ later) past steps = steps-front later past steps.1
 
-  pub front-due : (e : Entry) (past : List Entry) → IsStepwise b callers asks (e ∷ past) → (BelongsTo e past → ⊥) → (now b asks past).due ≡ None
+  pub front-due : (e : Entry) (past : List Entry) → IsStepwise b callers asks (e ∷ past) → (BelongsTo e past → ⊥)
+      → (now b asks past).due ≡ None
   front-due (entry.Take c l) past steps apart = steps.0.1
   front-due (entry.Free c l) past steps apart = steps.0.1
   front-due (entry.Line c mux level failed) past steps apart = steps.0.1
@@ -198,11 +208,14 @@ module _ (b : BoardView) (tree : IsTree b) (plain : IsPlainBoard b) (lines : Lin
         | inl none ↦ none
         | inr due ↦ (let h : IsDue b asks past c = due-told b asks some callers past c steps.1 due in
             let placed : IsPlaced b (Some h.transfer) c past =
-            subst (λ (o : Option TransferView). IsPlaced b o c past) h.asked (settles-kept b asks some callers (entry.Settle c r cut ∷ past) steps).0.1 in
+            subst (λ (o : Option TransferView). IsPlaced b o c past) h.asked
+            (settles-kept b asks some callers (entry.Settle c r cut ∷ past) steps).0.1 in
             absurd (apart (placed h.accepted)))
       ]
 
-  pub front-legal : (later : List Entry) (e : Entry) (past : List Entry) → IsLegal b callers asks (later ++ e ∷ past) → (BelongsTo e past → ⊥) → IsLegal b callers asks past
+  pub front-legal : (later : List Entry) (e : Entry) (past : List Entry) → IsLegal b callers asks (later ++ e ∷ past)
+      → (BelongsTo e past → ⊥) → IsLegal b callers asks past
   front-legal later e past legal apart =
       let steps : IsStepwise b callers asks (e ∷ past) = steps-front later (e ∷ past) (legal-steps (later ++ e ∷ past) legal) in
-      legal-with b tree plain lines asks some callers past steps.1 (front-due e past steps apart) (replies-kept b tree plain lines asks some limits callers past steps.1)
+      legal-with b tree plain lines asks some callers past steps.1 (front-due e past steps apart)
+      (replies-kept b tree plain lines asks some limits callers past steps.1)

@@ -28,7 +28,8 @@ use Rattle.journal_laws.proofs.past.Places.{mark-left}
 -- ONE STEP on a marked bus
 module _ (p m : ℕ) where
   -- it marks no other mux there
-  among_stays : (b : BoardView) (held : List LockId) (v : Slots) (ms : List Mark) → MayFail b ms held v → (v p).slot ≡ Marked m → mark_among ms p (Some m) ≡ Some m
+  among_stays : (b : BoardView) (held : List LockId) (v : Slots) (ms : List Mark) → MayFail b ms held v → (v p).slot ≡ Marked m
+      → mark_among ms p (Some m) ≡ Some m
   among_stays b held v [] fail at = refl
   among_stays b held v (k ∷ ms) fail at =
       elim (eqb_tells p k.on) [
@@ -50,7 +51,8 @@ module _ (p m : ℕ) where
   abbrev StaysOr : Option Act → Job → List Mark → Bool → Type 0
   StaysOr act job marks failed = (mark_after job marks failed p (Some m) ≡ Some m) ⊎ (Closes p m act × (failed ≡ false))
 
-  stays-select : (h : Hop) (left : ℕ) (act : Option Act) (v : Slots) (marks : List Mark) → mark_among marks p (Some m) ≡ Some m → (v p).slot ≡ Marked m
+  stays-select : (h : Hop) (left : ℕ) (act : Option Act) (v : Slots) (marks : List Mark) → mark_among marks p (Some m) ≡ Some m
+      → (v p).slot ≡ Marked m
       → FindsSelect (is_arbitrator h.kind) h left (v h.on) → (failed : Bool) → StaysOr act (Select h) marks failed
   stays-select h left act v marks stays at finds true = inl stays
   stays-select h left act v marks stays at finds false =
@@ -97,7 +99,8 @@ module _ (p m : ℕ) where
   stays-shifted-off (Close on mux kind) v marks stays at finds =
       stays-closed on mux kind (Some (Shift (SwitchOff (Close on mux kind)))) v marks stays at finds (λ e. e)
 
-module _ (b : BoardView) (tree : IsTree b) (plain : IsPlainBoard b) (lines : LinesAreLocked b) (asks : Asks) (some : AsksForMessages asks) (callers : ℕ) where
+module _ (b : BoardView) (tree : IsTree b) (plain : IsPlainBoard b) (lines : LinesAreLocked b) (asks : Asks) (some : AsksForMessages asks)
+    (callers : ℕ) where
   module _ (past : List Entry) (steps : IsStepwise b callers asks past) (c : ℕ) where
     abbrev n : Now
     n = now b asks past
@@ -132,10 +135,12 @@ module _ (b : BoardView) (tree : IsTree b) (plain : IsPlainBoard b) (lines : Lin
 
   -- an entry more leaves a mark, or it is the close
   read_mark : (e : Entry) (past : List Entry) (p m : ℕ) → mark b asks past p ≡ Some m
-      → mark b asks (e ∷ past) p ≡ mark_by (first_act (current b asks (now b asks past) (caller_of e))) (first_note (current b asks (now b asks past) (caller_of e))) e p (Some m)
+      → mark b asks (e ∷ past) p ≡ mark_by (first_act (current b asks (now b asks past) (caller_of e)))
+      (first_note (current b asks (now b asks past) (caller_of e))) e p (Some m)
   read_mark e past p m marked =
       mark-left b asks (e ∷ past) p
-      ∙ ap (λ (o : Option ℕ). mark_by (first_act (current b asks (now b asks past) (caller_of e))) (first_note (current b asks (now b asks past) (caller_of e))) e p o)
+      ∙ ap (λ (o : Option ℕ). mark_by (first_act (current b asks (now b asks past) (caller_of e)))
+      (first_note (current b asks (now b asks past) (caller_of e))) e p o)
       (sym (mark-left b asks past p) ∙ marked)
 
   pub mark-stays : (e : Entry) (past : List Entry) → IsStepwise b callers asks (e ∷ past) → (p m : ℕ) → mark b asks past p ≡ Some m
@@ -161,14 +166,17 @@ module _ (b : BoardView) (tree : IsTree b) (plain : IsPlainBoard b) (lines : Lin
       ]
 
   -- until then
-  pub mark-until : (later past : List Entry) → IsStepwise b callers asks (later ++ past) → (p m : ℕ) → mark b asks past p ≡ Some m → NoneCloses b asks p m later past
+  pub mark-until : (later past : List Entry) → IsStepwise b callers asks (later ++ past) → (p m : ℕ) → mark b asks past p ≡ Some m
+      → NoneCloses b asks p m later past
       → mark b asks (later ++ past) p ≡ Some m
   mark-until [] past steps p m marked none = marked
   mark-until (e ∷ later) past steps p m marked none =
-      elim (mark-stays e (later ++ past) steps p m (mark-until later past steps.1 p m marked none.1)) [ inl stays ↦ stays | inr closes ↦ absurd (none.0 closes) ]
+      elim (mark-stays e (later ++ past) steps p m (mark-until later past steps.1 p m marked none.1))
+      [ inl stays ↦ stays | inr closes ↦ absurd (none.0 closes) ]
 
   -- no message goes through a mux on a marked bus
-  passes : (e : Entry) (past : List Entry) → IsStepwise b callers asks (e ∷ past) → (p m : ℕ) → mark b asks past p ≡ Some m → OfMessage (PassesBy b p) e
+  passes : (e : Entry) (past : List Entry) → IsStepwise b callers asks (e ∷ past) → (p m : ℕ) → mark b asks past p ≡ Some m
+      → OfMessage (PassesBy b p) e
   passes (entry.Take c l) past steps p m marked = tt
   passes (entry.Free c l) past steps p m marked = tt
   passes (entry.Settle c r cut) past steps p m marked = tt
@@ -176,9 +184,11 @@ module _ (b : BoardView) (tree : IsTree b) (plain : IsPlainBoard b) (lines : Lin
   passes (entry.Message c bus why part parts addr reading bytes heard x) past steps p m marked = λ g among same.
       let may = steps.0.2 in
       let there : IsAmongHops g (hops b (job_bus may.0)) = subst (λ (s : ℕ). IsAmongHops g (hops b s)) may.3.on_bus among in
-      let selected : ((now b asks past).slot g.on).slot ≡ Clean = ((sends b tree plain lines asks some callers past steps.1 c may.0 may.1 may.2).reached g there).0.clean in
+      let selected : ((now b asks past).slot g.on).slot ≡ Clean =
+      ((sends b tree plain lines asks some callers past steps.1 c may.0 may.1 may.2).reached g there).0.clean in
       let f : None ≡ Some m = sym (ap mark_in selected) ∙ ap (λ (q : ℕ). mark b asks past q) same ∙ marked in cc
 
-  pub passes-until : (e : Entry) (later past : List Entry) → IsStepwise b callers asks (e ∷ (later ++ past)) → (p m : ℕ) → mark b asks past p ≡ Some m → NoneCloses b asks p m later past
+  pub passes-until : (e : Entry) (later past : List Entry) → IsStepwise b callers asks (e ∷ (later ++ past)) → (p m : ℕ)
+      → mark b asks past p ≡ Some m → NoneCloses b asks p m later past
       → OfMessage (PassesBy b p) e
   passes-until e later past steps p m marked none = passes e (later ++ past) steps p m (mark-until later past steps.1 p m marked none)

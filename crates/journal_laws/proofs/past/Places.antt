@@ -43,7 +43,8 @@ walk-left b asks (e ∷ past) c = by e (walk-left b asks past c)
     by (entry.Message d bus why part parts addr reading bytes heard e2) before = turned d (Sent e2 bytes) before
 
 -- what a slot says where it is written
-written : (v : Slots) (on p : ℕ) (x : At) (m : Option ℕ) → mark_in x.slot ≡ m → mark_in (changed_at v on x p).slot ≡ cond (eqb p on) m (mark_in (v p).slot)
+written : (v : Slots) (on p : ℕ) (x : At) (m : Option ℕ) → mark_in x.slot ≡ m
+    → mark_in (changed_at v on x p).slot ≡ cond (eqb p on) m (mark_in (v p).slot)
 written v on p x m told =
     elim (eqb_tells p on) [
       | inl h ↦ ap (λ (t : Bool). mark_in (cond t x (v p)).slot) h.0 ∙ told ∙ sym (ap (λ (t : Bool). cond t m (mark_in (v p).slot)) h.0)
@@ -53,13 +54,16 @@ written v on p x m told =
 marked_among : (ms : List Mark) (v : Slots) (p : ℕ) → mark_in (set_marks ms v p).slot ≡ mark_among ms p (mark_in (v p).slot)
 marked_among [] v p = refl
 marked_among (m ∷ ms) v p =
-    written (set_marks ms v) m.on p (turned_at (v m.on) m.mux (Marked m.mux) None) (Some m.mux) refl ∙ ap (λ (o : Option ℕ). cond (eqb p m.on) (Some m.mux) o) (marked_among ms v p)
+    written (set_marks ms v) m.on p (turned_at (v m.on) m.mux (Marked m.mux) None) (Some m.mux) refl
+    ∙ ap (λ (o : Option ℕ). cond (eqb p m.on) (Some m.mux) o) (marked_among ms v p)
 
 -- a mux turned
-turned_mark : (v : Slots) (on mux p : ℕ) (s : MuxSlot) (c : Option ℕ) → mark_in s ≡ None → mark_in (turned v on mux s c p).slot ≡ cond (eqb p on) None (mark_in (v p).slot)
+turned_mark : (v : Slots) (on mux p : ℕ) (s : MuxSlot) (c : Option ℕ) → mark_in s ≡ None
+    → mark_in (turned v on mux s c p).slot ≡ cond (eqb p on) None (mark_in (v p).slot)
 turned_mark v on mux p s c none = written v on p (turned_at (v on) mux s c) None none
 
-selected_mark : (h : Hop) (left : ℕ) (bytes : List ℕ) (v : Slots) (p : ℕ) → mark_in (select_told h left bytes v p).slot ≡ cond (eqb p h.on) None (mark_in (v p).slot)
+selected_mark : (h : Hop) (left : ℕ) (bytes : List ℕ) (v : Slots) (p : ℕ)
+    → mark_in (select_told h left bytes v p).slot ≡ cond (eqb p h.on) None (mark_in (v p).slot)
 selected_mark h zero bytes v p = turned_mark v h.on h.mux p Clean (Some h.channel) refl
 selected_mark h (suc left) bytes v p = turned_mark v h.on h.mux p (polled_slot h left bytes) None (poll_unmarked h left bytes)
 
@@ -99,7 +103,8 @@ module _ (b : BoardView) (n : Now) (c p : ℕ) (note : Note) where
   sent_so (Some (Settle verdict)) reading bytes e = refl
   sent_so (Some (Send job left)) reading bytes e = sent_mark job left note.marks e bytes n.slot p
 
-  lined_so : (o : Option Act) (failed : Bool) → mark_in ((lined_by b n o note failed).slot p).slot ≡ mark_lined o note failed p (mark_in (n.slot p).slot)
+  lined_so : (o : Option Act) (failed : Bool)
+      → mark_in ((lined_by b n o note failed).slot p).slot ≡ mark_lined o note failed p (mark_in (n.slot p).slot)
   lined_so None failed = refl
   lined_so (Some (Take l)) failed = refl
   lined_so (Some (Free l)) failed = refl
@@ -109,7 +114,8 @@ module _ (b : BoardView) (n : Now) (c p : ℕ) (note : Note) where
 
 pub mark-left : (b : BoardView) (asks : Asks) (past : List Entry) (p : ℕ) → mark b asks past p ≡ mark_left b asks past p
 mark-left b asks [] p = refl
-mark-left b asks (e ∷ past) p = by e ∙ ap (λ (o : Option ℕ). mark_by (first_act (here (caller_of e))) (first_note (here (caller_of e))) e p o) (mark-left b asks past p)
+mark-left b asks (e ∷ past) p = by e
+    ∙ ap (λ (o : Option ℕ). mark_by (first_act (here (caller_of e))) (first_note (here (caller_of e))) e p o) (mark-left b asks past p)
   where
     n : Now
     n = now b asks past
@@ -117,9 +123,11 @@ mark-left b asks (e ∷ past) p = by e ∙ ap (λ (o : Option ℕ). mark_by (fir
     here : ℕ → WalkTree
     here c = current b asks n c
 
-    by : (x : Entry) → mark b asks (x ∷ past) p ≡ mark_by (first_act (here (caller_of x))) (first_note (here (caller_of x))) x p (mark b asks past p)
+    by : (x : Entry) → mark b asks (x ∷ past) p ≡ mark_by (first_act (here (caller_of x))) (first_note (here (caller_of x))) x p
+        (mark b asks past p)
     by (entry.Take c l) = refl
     by (entry.Free c l) = refl
     by (entry.Settle c r cut) = refl
     by (entry.Line c m level failed) = lined_so b n c p (first_note (here c)) (first_act (here c)) failed
-    by (entry.Message c bus why part parts addr reading bytes heard x) = sent_so b n c p (first_note (here c)) (first_act (here c)) reading bytes x
+    by (entry.Message c bus why part parts addr reading bytes heard x) = sent_so b n c p (first_note (here c))
+        (first_act (here c)) reading bytes x

@@ -54,7 +54,8 @@ module _ (l : Listener World) (cut : Option ℕ) where
       → Cuts (call_then l cut t c f) (call_then l None t c g)
   cuts-call t c f g more = by (is_it cut (length t.calls)) refl
     where
-      by : (z : Bool) → is_it cut (length t.calls) ≡ z → Cuts (cond z (told (say l t call.Fault) (end.Cut (length t.calls))) (f (say l t c))) (g (say l t c))
+      by : (z : Bool) → is_it cut (length t.calls) ≡ z
+          → Cuts (cond z (told (say l t call.Fault) (end.Cut (length t.calls))) (f (say l t c))) (g (say l t c))
       by true e = inl (sym (is_it-some cut (length t.calls) e))
       by false e = more
 
@@ -69,7 +70,8 @@ module _ (l : Listener World) (cut : Option ℕ) where
       (λ s. cond (l.takes t.now x) (puts l None last bytes (with_byte s x)) (ended l None true s end.Refused))
       (by (l.takes t.now x) (cuts-puts last bytes (with_byte (say l t (call.Put x)) x)))
     where
-      by : (z : Bool) → Cuts (puts l cut last bytes (with_byte (say l t (call.Put x)) x)) (puts l None last bytes (with_byte (say l t (call.Put x)) x))
+      by : (z : Bool) → Cuts (puts l cut last bytes (with_byte (say l t (call.Put x)) x))
+          (puts l None last bytes (with_byte (say l t (call.Put x)) x))
           → Cuts (cond z (puts l cut last bytes (with_byte (say l t (call.Put x)) x)) (ended l cut true (say l t (call.Put x)) end.Refused))
           (cond z (puts l None last bytes (with_byte (say l t (call.Put x)) x)) (ended l None true (say l t (call.Put x)) end.Refused))
       by true more = more
@@ -78,7 +80,8 @@ module _ (l : Listener World) (cut : Option ℕ) where
   cuts-gets : (last : Bool) (n : ℕ) (t : Said World) → Cuts (gets l cut last n t) (gets l None last n t)
   cuts-gets last zero t = cuts-ended last t end.Ok refl
   cuts-gets last (suc n) t =
-      cuts-call t (call.Get (nat_lt 0 n)) (λ s. gets l cut last n (with_byte s (l.gives t.now))) (λ s. gets l None last n (with_byte s (l.gives t.now)))
+      cuts-call t (call.Get (nat_lt 0 n)) (λ s. gets l cut last n (with_byte s (l.gives t.now)))
+      (λ s. gets l None last n (with_byte s (l.gives t.now)))
       (cuts-gets last n (with_byte (say l t (call.Get (nat_lt 0 n))) (l.gives t.now)))
 
   -- a count that came, and what follows it
@@ -87,7 +90,8 @@ module _ (l : Listener World) (cut : Option ℕ) where
       cond z (call_then l o (with_byte s (l.gives t.now)) (call.Get false) (λ u. ended l o true (with_byte u (l.gives s.now)) end.Proto))
       (gets l o last (l.gives t.now + len - 1) (with_byte s (l.gives t.now)))
 
-  cuts-counted : (last : Bool) (limit len : ℕ) (t : Said World) → Cuts (gets_counted l cut last limit len t) (gets_counted l None last limit len t)
+  cuts-counted : (last : Bool) (limit len : ℕ) (t : Said World)
+      → Cuts (gets_counted l cut last limit len t) (gets_counted l None last limit len t)
   cuts-counted last limit len t =
       cuts-call t (call.Get true) (λ s. counted cut last len t s (eqb (l.gives t.now) 0 || nat_lt limit (l.gives t.now)))
       (λ s. counted None last len t s (eqb (l.gives t.now) 0 || nat_lt limit (l.gives t.now)))
@@ -96,20 +100,24 @@ module _ (l : Listener World) (cut : Option ℕ) where
       by : (z : Bool) → Cuts (counted cut last len t (say l t (call.Get true)) z) (counted None last len t (say l t (call.Get true)) z)
       by true =
           let s : Said World = say l t (call.Get true) in
-          cuts-call (with_byte s (l.gives t.now)) (call.Get false) (λ u. ended l cut true (with_byte u (l.gives s.now)) end.Proto) (λ u. ended l None true (with_byte u (l.gives s.now)) end.Proto)
+          cuts-call (with_byte s (l.gives t.now)) (call.Get false) (λ u. ended l cut true (with_byte u (l.gives s.now)) end.Proto)
+          (λ u. ended l None true (with_byte u (l.gives s.now)) end.Proto)
           (cuts-ended true (with_byte (say l (with_byte s (l.gives t.now)) (call.Get false)) (l.gives s.now)) end.Proto refl)
       by false = cuts-gets last (l.gives t.now + len - 1) (with_byte (say l t (call.Get true)) (l.gives t.now))
 
-  cuts-data : (last : Bool) (limit : ℕ) (m : MessageView) (t : Said World) → Cuts (data_of l cut last limit m t) (data_of l None last limit m t)
+  cuts-data : (last : Bool) (limit : ℕ) (m : MessageView) (t : Said World)
+      → Cuts (data_of l cut last limit m t) (data_of l None last limit m t)
   cuts-data last limit m t = by m.reading m.counted
     where
-      by : (x y : Bool) → Cuts (cond x (cond y (gets_counted l cut last limit m.len t) (gets l cut last m.len t)) (puts l cut last m.bytes t))
+      by : (x y : Bool) → Cuts (cond x (cond y (gets_counted l cut last limit m.len t) (gets l cut last m.len t))
+          (puts l cut last m.bytes t))
           (cond x (cond y (gets_counted l None last limit m.len t) (gets l None last m.len t)) (puts l None last m.bytes t))
       by true true = cuts-counted last limit m.len t
       by true false = cuts-gets last m.len t
       by false y = cuts-puts last m.bytes t
 
-  cuts-answer : (last : Bool) (limit : ℕ) (m : MessageView) (a : Answer) (t : Said World) → Cuts (by_answer l cut last limit m a t) (by_answer l None last limit m a t)
+  cuts-answer : (last : Bool) (limit : ℕ) (m : MessageView) (a : Answer) (t : Said World)
+      → Cuts (by_answer l cut last limit m a t) (by_answer l None last limit m a t)
   cuts-answer last limit m answer.Ack t = cuts-data last limit m t
   cuts-answer last limit m answer.Slow t = cuts-ended true t end.Slow refl
   cuts-answer last limit m answer.Nack t = cuts-ended true t end.Nack refl
@@ -118,7 +126,8 @@ module _ (l : Listener World) (cut : Option ℕ) where
 
   cuts-talk : (limit : ℕ) (w : World) (m : MessageView) (last : Bool) → Cuts (talk l limit w m last cut) (talk l limit w m last None)
   cuts-talk limit w m last =
-      cuts-call (silence w) (call.Start m.addr m.reading) (λ t. by_answer l cut last limit m (l.answer w m.addr m.reading) t) (λ t. by_answer l None last limit m (l.answer w m.addr m.reading) t)
+      cuts-call (silence w) (call.Start m.addr m.reading) (λ t. by_answer l cut last limit m (l.answer w m.addr m.reading) t)
+      (λ t. by_answer l None last limit m (l.answer w m.addr m.reading) t)
       (cuts-answer last limit m (l.answer w m.addr m.reading) (say l (silence w) (call.Start m.addr m.reading)))
 
 -- its end tells the call that cuts it off
@@ -136,29 +145,38 @@ module _ (l : Listener World) (q : ℕ) where
   Reaches x y = q < length y.calls → x.end ≡ end.Cut q
 
   reach-call : (t : Said World) (c : PortCall) (f g : Said World → TalkTold World) → length t.calls ≤ q
-      → (length (say l t c).calls ≤ q → Reaches (f (say l t c)) (g (say l t c))) → Reaches (call_then l (Some q) t c f) (call_then l None t c g)
+      → (length (say l t c).calls ≤ q → Reaches (f (say l t c)) (g (say l t c)))
+      → Reaches (call_then l (Some q) t c f) (call_then l None t c g)
   reach-call t c f g before more =
       elim (eqb_tells q (length t.calls)) [
-        | inl h ↦ subst (λ (z : Bool). Reaches (cond z (told (say l t call.Fault) (end.Cut (length t.calls))) (f (say l t c))) (g (say l t c))) (sym h.0)
+        | inl h ↦ subst (λ (z : Bool). Reaches (cond z (told (say l t call.Fault) (end.Cut (length t.calls))) (f (say l t c)))
+            (g (say l t c))) (sym h.0)
             (λ within. ap end.Cut (sym h.1))
-        | inr h ↦ subst (λ (z : Bool). Reaches (cond z (told (say l t call.Fault) (end.Cut (length t.calls))) (f (say l t c))) (g (say l t c))) (sym h.0)
+        | inr h ↦ subst (λ (z : Bool). Reaches (cond z (told (say l t call.Fault) (end.Cut (length t.calls))) (f (say l t c)))
+            (g (say l t c))) (sym h.0)
             (more (let ne : q ≢ length t.calls = h.1 in omega (arith, ne, before)))
       ]
 
-  reach-ended : (stops : Bool) (t : Said World) (e : End) → length t.calls ≤ q → Reaches (ended l (Some q) stops t e) (ended l None stops t e)
+  reach-ended : (stops : Bool) (t : Said World) (e : End) → length t.calls ≤ q
+      → Reaches (ended l (Some q) stops t e) (ended l None stops t e)
   reach-ended true t e before =
       reach-call t call.Stop (λ s. told s e) (λ s. told s e) before (λ more within. absurd (omega (arith, more, within)))
   reach-ended false t e before = λ within. absurd (omega (arith, before, within))
 
-  reach-puts : (last : Bool) (bytes : List ℕ) (t : Said World) → length t.calls ≤ q → Reaches (puts l (Some q) last bytes t) (puts l None last bytes t)
+  reach-puts : (last : Bool) (bytes : List ℕ) (t : Said World) → length t.calls ≤ q
+      → Reaches (puts l (Some q) last bytes t) (puts l None last bytes t)
   reach-puts last [] t before = reach-ended last t end.Ok before
   reach-puts last (x ∷ bytes) t before =
-      reach-call t (call.Put x) (λ s. cond (l.takes t.now x) (puts l (Some q) last bytes (with_byte s x)) (ended l (Some q) true s end.Refused))
+      reach-call t (call.Put x) (λ s. cond (l.takes t.now x) (puts l (Some q) last bytes (with_byte s x))
+      (ended l (Some q) true s end.Refused))
       (λ s. cond (l.takes t.now x) (puts l None last bytes (with_byte s x)) (ended l None true s end.Refused)) before
       (λ more. by (l.takes t.now x) more (reach-puts last bytes (with_byte (say l t (call.Put x)) x) more))
     where
-      by : (z : Bool) → length (say l t (call.Put x)).calls ≤ q → Reaches (puts l (Some q) last bytes (with_byte (say l t (call.Put x)) x)) (puts l None last bytes (with_byte (say l t (call.Put x)) x))
-          → Reaches (cond z (puts l (Some q) last bytes (with_byte (say l t (call.Put x)) x)) (ended l (Some q) true (say l t (call.Put x)) end.Refused))
+      by : (z : Bool) → length (say l t (call.Put x)).calls ≤ q
+          → Reaches (puts l (Some q) last bytes (with_byte (say l t (call.Put x)) x))
+          (puts l None last bytes (with_byte (say l t (call.Put x)) x))
+          → Reaches (cond z (puts l (Some q) last bytes (with_byte (say l t (call.Put x)) x))
+          (ended l (Some q) true (say l t (call.Put x)) end.Refused))
           (cond z (puts l None last bytes (with_byte (say l t (call.Put x)) x)) (ended l None true (say l t (call.Put x)) end.Refused))
       by true so more = more
       by false so more = reach-ended true (say l t (call.Put x)) end.Refused so
@@ -166,42 +184,51 @@ module _ (l : Listener World) (q : ℕ) where
   reach-gets : (last : Bool) (n : ℕ) (t : Said World) → length t.calls ≤ q → Reaches (gets l (Some q) last n t) (gets l None last n t)
   reach-gets last zero t before = reach-ended last t end.Ok before
   reach-gets last (suc n) t before =
-      reach-call t (call.Get (nat_lt 0 n)) (λ s. gets l (Some q) last n (with_byte s (l.gives t.now))) (λ s. gets l None last n (with_byte s (l.gives t.now))) before
+      reach-call t (call.Get (nat_lt 0 n)) (λ s. gets l (Some q) last n (with_byte s (l.gives t.now)))
+      (λ s. gets l None last n (with_byte s (l.gives t.now))) before
       (λ more. reach-gets last n (with_byte (say l t (call.Get (nat_lt 0 n))) (l.gives t.now)) more)
 
-  reach-counted : (last : Bool) (limit len : ℕ) (t : Said World) → length t.calls ≤ q → Reaches (gets_counted l (Some q) last limit len t) (gets_counted l None last limit len t)
+  reach-counted : (last : Bool) (limit len : ℕ) (t : Said World) → length t.calls ≤ q
+      → Reaches (gets_counted l (Some q) last limit len t) (gets_counted l None last limit len t)
   reach-counted last limit len t before =
       reach-call t (call.Get true) (λ s. counted l (Some q) (Some q) last len t s (eqb (l.gives t.now) 0 || nat_lt limit (l.gives t.now)))
       (λ s. counted l (Some q) None last len t s (eqb (l.gives t.now) 0 || nat_lt limit (l.gives t.now))) before
       (by (eqb (l.gives t.now) 0 || nat_lt limit (l.gives t.now)))
     where
       by : (z : Bool) → length (say l t (call.Get true)).calls ≤ q
-          → Reaches (counted l (Some q) (Some q) last len t (say l t (call.Get true)) z) (counted l (Some q) None last len t (say l t (call.Get true)) z)
+          → Reaches (counted l (Some q) (Some q) last len t (say l t (call.Get true)) z)
+          (counted l (Some q) None last len t (say l t (call.Get true)) z)
       by true more =
           let s : Said World = say l t (call.Get true) in
-          reach-call (with_byte s (l.gives t.now)) (call.Get false) (λ u. ended l (Some q) true (with_byte u (l.gives s.now)) end.Proto) (λ u. ended l None true (with_byte u (l.gives s.now)) end.Proto) more
+          reach-call (with_byte s (l.gives t.now)) (call.Get false) (λ u. ended l (Some q) true (with_byte u (l.gives s.now)) end.Proto)
+          (λ u. ended l None true (with_byte u (l.gives s.now)) end.Proto) more
           (λ so. reach-ended true (with_byte (say l (with_byte s (l.gives t.now)) (call.Get false)) (l.gives s.now)) end.Proto so)
       by false more = reach-gets last (l.gives t.now + len - 1) (with_byte (say l t (call.Get true)) (l.gives t.now)) more
 
-  reach-data : (last : Bool) (limit : ℕ) (m : MessageView) (t : Said World) → length t.calls ≤ q → Reaches (data_of l (Some q) last limit m t) (data_of l None last limit m t)
+  reach-data : (last : Bool) (limit : ℕ) (m : MessageView) (t : Said World) → length t.calls ≤ q
+      → Reaches (data_of l (Some q) last limit m t) (data_of l None last limit m t)
   reach-data last limit m t before = by m.reading m.counted
     where
-      by : (x y : Bool) → Reaches (cond x (cond y (gets_counted l (Some q) last limit m.len t) (gets l (Some q) last m.len t)) (puts l (Some q) last m.bytes t))
+      by : (x y : Bool) → Reaches (cond x (cond y (gets_counted l (Some q) last limit m.len t) (gets l (Some q) last m.len t))
+          (puts l (Some q) last m.bytes t))
           (cond x (cond y (gets_counted l None last limit m.len t) (gets l None last m.len t)) (puts l None last m.bytes t))
       by true true = reach-counted last limit m.len t before
       by true false = reach-gets last m.len t before
       by false y = reach-puts last m.bytes t before
 
-  reach-answer : (last : Bool) (limit : ℕ) (m : MessageView) (a : Answer) (t : Said World) → length t.calls ≤ q → Reaches (by_answer l (Some q) last limit m a t) (by_answer l None last limit m a t)
+  reach-answer : (last : Bool) (limit : ℕ) (m : MessageView) (a : Answer) (t : Said World) → length t.calls ≤ q
+      → Reaches (by_answer l (Some q) last limit m a t) (by_answer l None last limit m a t)
   reach-answer last limit m answer.Ack t before = reach-data last limit m t before
   reach-answer last limit m answer.Slow t before = reach-ended true t end.Slow before
   reach-answer last limit m answer.Nack t before = reach-ended true t end.Nack before
   reach-answer last limit m (answer.Byte x) t before = reach-ended true t end.Nack before
   reach-answer last limit m answer.Nothing t before = reach-ended true t end.Nack before
 
-  reach-talk : (limit : ℕ) (w : World) (m : MessageView) (last : Bool) → Reaches (talk l limit w m last (Some q)) (talk l limit w m last None)
+  reach-talk : (limit : ℕ) (w : World) (m : MessageView) (last : Bool)
+      → Reaches (talk l limit w m last (Some q)) (talk l limit w m last None)
   reach-talk limit w m last =
-      reach-call (silence w) (call.Start m.addr m.reading) (λ t. by_answer l (Some q) last limit m (l.answer w m.addr m.reading) t) (λ t. by_answer l None last limit m (l.answer w m.addr m.reading) t)
+      reach-call (silence w) (call.Start m.addr m.reading) (λ t. by_answer l (Some q) last limit m (l.answer w m.addr m.reading) t)
+      (λ t. by_answer l None last limit m (l.answer w m.addr m.reading) t)
       (omega arith) (reach-answer last limit m (l.answer w m.addr m.reading) (say l (silence w) (call.Start m.addr m.reading)))
 
 -- what is found among numbers is one of them
@@ -235,7 +262,8 @@ hears-in w addr reading o e heard = by e
     by end.Refused = first
     by end.Proto = first
 
-heard-told : (w : World) (addr : ℕ) (reading : Bool) (heard : Option Node) (e : End) → HearsIn w addr reading heard e → heard_in (hearers w addr reading) e ≡ heard
+heard-told : (w : World) (addr : ℕ) (reading : Bool) (heard : Option Node) (e : End) → HearsIn w addr reading heard e
+    → heard_in (hearers w addr reading) e ≡ heard
 heard-told w addr reading heard (end.Cut zero) told = sym told
 heard-told w addr reading heard (end.Cut (suc q)) told = ap (λ (xs : List Node). slice_get xs 0) told ∙ heard_first heard
 heard-told w addr reading heard end.Ok told = ap (λ (xs : List Node). slice_get xs 0) told ∙ heard_first heard
@@ -244,23 +272,33 @@ heard-told w addr reading heard end.Slow told = ap (λ (xs : List Node). slice_g
 heard-told w addr reading heard end.Refused told = ap (λ (xs : List Node). slice_get xs 0) told ∙ heard_first heard
 heard-told w addr reading heard end.Proto told = ap (λ (xs : List Node). slice_get xs 0) told ∙ heard_first heard
 
-module _ (b : BoardView) (tree : IsTree b) (plain : IsPlainBoard b) (lines : LinesAreLocked b) (asks : Asks) (some : AsksForMessages asks) (callers : ℕ) where
+module _ (b : BoardView) (tree : IsTree b) (plain : IsPlainBoard b) (lines : LinesAreLocked b) (asks : Asks) (some : AsksForMessages asks)
+    (callers : ℕ) where
   module _ (past : List Entry) (steps : IsStepwise b callers asks past) (fails : Failing) where
     abbrev n : Now
     n = now b asks past
 
     -- who hears the next message
     one_hears : (c : ℕ) (job : Job) (left : ℕ) → IsNext b asks n c (Send job left)
-        → (o : Option Node) × (hearers (n.worlds (root_of b (job_bus job))) (message_of b job left).addr (message_of b job left).reading ≡ heard_list o)
+        → (o : Option Node) × (hearers (n.worlds (root_of b (job_bus job))) (message_of b job left).addr
+        (message_of b job left).reading ≡ heard_list o)
     one_hears c (Call bus ms) left next =
-        let h = call-reaches b tree plain lines asks some callers past steps c bus ms left next in
-        (who_hears b (n.worlds (root_of b bus)) bus h.transfer.force (message_of b (Call bus ms) left).addr (message_of b (Call bus ms) left).reading, h.heard)
-    one_hears c (Select g) left next = (chip_where b g.mux, (control-switches b tree plain lines asks some callers past steps c (Select g) left g.mux refl next).heard)
-    one_hears c (SwitchOff off) left next =
-        (chip_where b (off_mux off), (control-switches b tree plain lines asks some callers past steps c (SwitchOff off) left (off_mux off) refl next).heard)
+        let h = call-reaches b tree plain lines asks some callers past steps c bus ms left next in (
+          who_hears b (n.worlds (root_of b bus)) bus h.transfer.force (message_of b (Call bus ms) left).addr
+              (message_of b (Call bus ms) left).reading,
+          h.heard,
+        )
+    one_hears c (Select g) left next =
+        (chip_where b g.mux, (control-switches b tree plain lines asks some callers past steps c (Select g) left g.mux refl next).heard)
+    one_hears c (SwitchOff off) left next = (
+      chip_where b (off_mux off),
+      (control-switches b tree plain lines asks some callers past steps c (SwitchOff off) left
+          (off_mux off) refl next).heard,
+    )
 
     -- WHAT PLAY ADDS may come
-    may-message : (c : ℕ) (job : Job) (left : ℕ) (t : TalkTold World) (cut : Option ℕ) → t ≡ talk_in b (n.worlds (root_of b (job_bus job))) job left cut
+    may-message : (c : ℕ) (job : Job) (left : ℕ) (t : TalkTold World) (cut : Option ℕ)
+        → t ≡ talk_in b (n.worlds (root_of b (job_bus job))) job left cut
         → c < callers → n.due ≡ None → IsNext b asks n c (Send job left) → May b callers asks n (message_entry b n c job left t)
     may-message c job left t cut is known none next =
         let hears = one_hears c job left next in
@@ -282,12 +320,14 @@ module _ (b : BoardView) (tree : IsTree b) (plain : IsPlainBoard b) (lines : Lin
               in_direction = refl;
               bytes_told = ap (λ (x : TalkTold World). x.bytes) same;
               end_told = ap (λ (x : TalkTold World). x.end) same;
-              heard_told = hears-in (n.worlds (root_of b (job_bus job))) (message_of b job left).addr (message_of b job left).reading hears.0 t.end hears.1;
+              heard_told = hears-in (n.worlds (root_of b (job_bus job))) (message_of b job left).addr
+                  (message_of b job left).reading hears.0 t.end hears.1;
             },
           ),
         )
 
-    pub play-may : (c : ℕ) (e : Entry) → c < callers → (n.due ≡ None) ⊎ (n.due ≡ Some c) → next_entry b asks fails n c ≡ Some e → May b callers asks n e
+    pub play-may : (c : ℕ) (e : Entry) → c < callers → (n.due ≡ None) ⊎ (n.due ≡ Some c) → next_entry b asks fails n c ≡ Some e
+        → May b callers asks n e
     play-may c e known due adds = by (first_act (current b asks n c)) refl adds
       where
         none_due : (act : Act) → IsNext b asks n c act → ((v : Option Errno) → act ≡ Settle v → ⊥) → n.due ≡ None
@@ -298,10 +338,17 @@ module _ (b : BoardView) (tree : IsTree b) (plain : IsPlainBoard b) (lines : Lin
                   absurd (other h.verdict (same_Some act (Settle h.verdict) (sym next ∙ due-settles b asks past c h))))
             ]
 
-        may_take : (l : LockId) → (o : Option ℕ) → n.holder l ≡ o → IsNext b asks n c (Take l) → take_if o (entry.Take c l) ≡ Some e → May b callers asks n e
+        may_take : (l : LockId) → (o : Option ℕ) → n.holder l ≡ o → IsNext b asks n c (Take l) → take_if o (entry.Take c l) ≡ Some e
+            → May b callers asks n e
         may_take l None free next adds =
-            subst (λ (x : Entry). May b callers asks n x) (same_Some (entry.Take c l) e adds)
-            (known, none_due (Take l) next (λ v f. let g : Take l ≡ Settle v = f in cc), next, free, takes-below b tree plain lines asks some callers past steps c l next)
+            subst (λ (x : Entry). May b callers asks n x) (same_Some (entry.Take c l) e adds) (
+              known,
+              none_due (Take l) next (λ v f. let g : Take l ≡ Settle v = f in
+                  cc),
+              next,
+              free,
+              takes-below b tree plain lines asks some callers past steps c l next,
+            )
         may_take l (Some d) has next adds = absurd (let f : None ≡ Some e = adds in cc)
 
         by : (o : Option Act) → first_act (current b asks n c) ≡ o → entry_by b asks fails n c o ≡ Some e → May b callers asks n e
@@ -315,10 +362,14 @@ module _ (b : BoardView) (tree : IsTree b) (plain : IsPlainBoard b) (lines : Lin
             (may-message c job left (played_talk b fails n job left) (next_failing b fails n job left) refl known
             (none_due (Send job left) next (λ v f. let g : Send job left ≡ Settle v = f in cc)) next)
         by (Some (Shift job)) next adds =
-            subst (λ (x : Entry). May b callers asks n x) (same_Some _ e adds)
-            (known, none_due (Shift job) next (λ v f. let g : Shift job ≡ Settle v = f in cc), (job, next, record { of_mux = refl; to_level = refl }))
+            subst (λ (x : Entry). May b callers asks n x) (same_Some _ e adds) (
+              known,
+              none_due (Shift job) next (λ v f. let g : Shift job ≡ Settle v = f in cc),
+              (job, next, record { of_mux = refl; to_level = refl }),
+            )
         by (Some (Settle verdict)) next adds =
-            subst (λ (x : Entry). May b callers asks n x) (same_Some (entry.Settle c (reply_by verdict (asks c (n.settled c)) (n.got c)) (n.cut c)) e adds)
+            subst (λ (x : Entry). May b callers asks n x)
+            (same_Some (entry.Settle c (reply_by verdict (asks c (n.settled c)) (n.got c)) (n.cut c)) e adds)
             (known, due, verdict, next, refl, refl)
 
   -- A JOURNAL THAT IS PLAYED
@@ -327,11 +378,13 @@ module _ (b : BoardView) (tree : IsTree b) (plain : IsPlainBoard b) (lines : Lin
       pub steps : IsStepwise b callers asks p.past
       pub at : p.now ≡ now b asks p.past
 
-    add-made : (o : Option Entry) (p : Played) → IsMade p → ((e : Entry) → o ≡ Some e → May b callers asks (now b asks p.past) e) → IsMade (add b asks o p)
+    add-made : (o : Option Entry) (p : Played) → IsMade p → ((e : Entry) → o ≡ Some e → May b callers asks (now b asks p.past) e)
+        → IsMade (add b asks o p)
     add-made None p made may = made
     add-made (Some e) p made may = record { steps = (may e refl, made.steps); at = ap (λ (n : Now). step b asks n e) made.at }
 
-    next-made : (c : ℕ) (p : Played) → IsMade p → c < callers → (p.now.due ≡ None) ⊎ (p.now.due ≡ Some c) → IsMade (add b asks (next_entry b asks fails p.now c) p)
+    next-made : (c : ℕ) (p : Played) → IsMade p → c < callers → (p.now.due ≡ None) ⊎ (p.now.due ≡ Some c)
+        → IsMade (add b asks (next_entry b asks fails p.now c) p)
     next-made c p made known due =
         add-made (next_entry b asks fails p.now c) p made
         (λ e adds. play-may p.past made.steps fails c e known (subst (λ (n : Now). (n.due ≡ None) ⊎ (n.due ≡ Some c)) made.at due)
@@ -347,8 +400,10 @@ module _ (b : BoardView) (tree : IsTree b) (plain : IsPlainBoard b) (lines : Lin
     due-made (Some c) p made due =
         let due_at : (now b asks p.past).due ≡ Some c = ap (λ (n : Now). n.due) (sym made.at) ∙ due in
         let h = due-told b asks some callers p.past c made.steps due_at in
-        let next : next_entry b asks fails p.now c ≡ Some (entry.Settle c (reply_by h.verdict (asks c (p.now.settled c)) (p.now.got c)) (p.now.cut c)) =
-        ap (λ (o : Option Act). entry_by b asks fails p.now c o) (ap (λ (n : Now). first_act (current b asks n c)) made.at ∙ due-settles b asks p.past c h) in
+        let next : next_entry b asks fails p.now c ≡ Some
+        (entry.Settle c (reply_by h.verdict (asks c (p.now.settled c)) (p.now.got c)) (p.now.cut c)) =
+        ap (λ (o : Option Act). entry_by b asks fails p.now c o) (ap (λ (n : Now). first_act (current b asks n c)) made.at
+        ∙ due-settles b asks p.past c h) in
         record {
           made = next-made c p made (due-known b asks some callers p.past c made.steps due_at) (inr due);
           none_due = ap (λ (o : Option Entry). (add b asks o p).now.due) next;
@@ -359,7 +414,8 @@ module _ (b : BoardView) (tree : IsTree b) (plain : IsPlainBoard b) (lines : Lin
         due-made (add b asks (next_entry b asks fails p.now c) p).now.due (add b asks (next_entry b asks fails p.now c) p)
         (next-made c p settled.made known (inl settled.none_due)) refl
 
-    play-made : (words : List ℕ) (p : Played) → AllByRecursion (λ c. c < callers) words → IsSettled p → IsSettled (play b asks fails words p)
+    play-made : (words : List ℕ) (p : Played) → AllByRecursion (λ c. c < callers) words → IsSettled p
+        → IsSettled (play b asks fails words p)
     play-made [] p known settled = settled
     play-made (c ∷ words) p known settled = play-made words (play_one b asks fails c p) known.1 (one-made c p settled known.0)
 
@@ -367,7 +423,8 @@ module _ (b : BoardView) (tree : IsTree b) (plain : IsPlainBoard b) (lines : Lin
         → IsStepwise b callers asks (reverse (played b asks fails words)) × ((now b asks (reverse (played b asks fails words))).due ≡ None)
     played-steps words known =
         let p : Played = play b asks fails words (record { past = []; now = opening b }) in
-        let settled : IsSettled p = play-made words (record { past = []; now = opening b }) known (record { made = record { steps = tt; at = refl }; none_due = refl }) in
+        let settled : IsSettled p = play-made words (record { past = []; now = opening b }) known
+        (record { made = record { steps = tt; at = refl }; none_due = refl }) in
         subst (λ (es : List Entry). IsStepwise b callers asks es × ((now b asks es).due ≡ None)) (sym (reverse-reverse p.past))
         (settled.made.steps, ap (λ (n : Now). n.due) (sym settled.made.at) ∙ settled.none_due)
 
@@ -377,13 +434,17 @@ module _ (b : BoardView) (asks : Asks) (callers : ℕ) (n : Now) (fails : Failin
   pub play-fails : (c : ℕ) (e : Entry) → next_entry b asks fails n c ≡ Some e → FailsAs b fails n (first_act (current b asks n c)) e
   play-fails c e adds = by (first_act (current b asks n c)) adds
     where
-      cut_is : (job : Job) (left : ℕ) (o : Option ℕ) → next_failing b fails n job left ≡ o → cut_of (talk_in b (n.worlds (root_of b (job_bus job))) job left o).end ≡ o
+      cut_is : (job : Job) (left : ℕ) (o : Option ℕ) → next_failing b fails n job left ≡ o
+          → cut_of (talk_in b (n.worlds (root_of b (job_bus job))) job left o).end ≡ o
       cut_is job left None is =
-          elim (cuts-talk world_listener None (block_limit b) (n.worlds (root_of b (job_bus job))) (message_of b job left) (is_last job left)) [ inl own ↦ own | inr none ↦ none.0 ]
+          elim (cuts-talk world_listener None (block_limit b) (n.worlds (root_of b (job_bus job))) (message_of b job left)
+          (is_last job left)) [ inl own ↦ own | inr none ↦ none.0 ]
       cut_is job left (Some q) is =
           let within : q < 0 + length (talk_in b (n.worlds (root_of b (job_bus job))) job left None).calls =
-          found_within (λ i. fails (root_of b (job_bus job)) (length (n.calls (root_of b (job_bus job))) + i)) 0 (length (talk_in b (n.worlds (root_of b (job_bus job))) job left None).calls) q is in
-          ap cut_of (reach-talk world_listener q (block_limit b) (n.worlds (root_of b (job_bus job))) (message_of b job left) (is_last job left) (omega (arith, within)))
+          found_within (λ i. fails (root_of b (job_bus job)) (length (n.calls (root_of b (job_bus job))) + i)) 0
+          (length (talk_in b (n.worlds (root_of b (job_bus job))) job left None).calls) q is in
+          ap cut_of (reach-talk world_listener q (block_limit b) (n.worlds (root_of b (job_bus job))) (message_of b job left)
+          (is_last job left) (omega (arith, within)))
 
       by : (o : Option Act) → entry_by b asks fails n c o ≡ Some e → FailsAs b fails n o e
       by None adds = tt
@@ -392,15 +453,19 @@ module _ (b : BoardView) (asks : Asks) (callers : ℕ) (n : Now) (fails : Failin
       by (Some (Settle verdict)) adds = tt
       by (Some (Shift job)) adds = subst (λ (x : Entry). FailsAs b fails n (Some (Shift job)) x) (same_Some _ e adds) refl
       by (Some (Send job left)) adds =
-          subst (λ (x : Entry). FailsAs b fails n (Some (Send job left)) x) (same_Some (message_entry b n c job left (played_talk b fails n job left)) e adds)
+          subst (λ (x : Entry). FailsAs b fails n (Some (Send job left)) x)
+          (same_Some (message_entry b n c job left (played_talk b fails n job left)) e adds)
           (sym (cut_is job left (next_failing b fails n job left) refl))
 
   adds_next : (c : ℕ) (act : Act) → IsNext b asks n c act → next_entry b asks fails n c ≡ entry_by b asks fails n c (Some act)
   adds_next c act next = ap (λ (o : Option Act). entry_by b asks fails n c o) next
 
-  same_entry : (m : MessageEntry) (bus : ℕ) (why : Purpose) (part parts addr : ℕ) (reading : Bool) (bytes : List ℕ) (heard : Option Node) (e : End)
-      → m.bus ≡ bus → m.purpose ≡ why → m.part ≡ part → m.parts ≡ parts → m.addr ≡ addr → m.reading ≡ reading → m.bytes ≡ bytes → m.heard ≡ heard → m.end ≡ e
-      → entry.Message m.caller bus why part parts addr reading bytes heard e ≡ entry.Message m.caller m.bus m.purpose m.part m.parts m.addr m.reading m.bytes m.heard m.end
+  same_entry : (m : MessageEntry) (bus : ℕ) (why : Purpose) (part parts addr : ℕ) (reading : Bool) (bytes : List ℕ) (heard : Option Node)
+      (e : End)
+      → m.bus ≡ bus → m.purpose ≡ why → m.part ≡ part → m.parts ≡ parts → m.addr ≡ addr → m.reading ≡ reading → m.bytes ≡ bytes
+      → m.heard ≡ heard → m.end ≡ e
+      → entry.Message m.caller bus why part parts addr reading bytes heard e ≡ entry.Message m.caller m.bus m.purpose m.part m.parts m.addr
+      m.reading m.bytes m.heard m.end
   same_entry m bus why part parts addr reading bytes heard e s1 s2 s3 s4 s5 s6 s7 s8 s9 = cc
 
   same_message : (job : Job) (left : ℕ) (m : MessageEntry) → TellsMessage b n job left m → next_failing b fails n job left ≡ cut_of m.end
@@ -412,25 +477,43 @@ module _ (b : BoardView) (asks : Asks) (callers : ℕ) (n : Now) (fails : Failin
       let same : t ≡ talk_of b n job left m.end = ap (λ (o : Option ℕ). talk_in b w job left o) fail in
       let ends : m.end ≡ t.end = tells.end_told ∙ ap (λ (x : TalkTold World). x.end) (sym same) in
       let heard : heard_in (hearers w m.addr m.reading) m.end ≡ m.heard = heard-told w m.addr m.reading m.heard m.end tells.heard_told in
-      let there : heard_in (hearers w m.addr m.reading) m.end ≡ heard_in (hearers w (message_of b job left).addr (message_of b job left).reading) t.end =
+      let there : heard_in (hearers w m.addr m.reading) m.end ≡ heard_in
+      (hearers w (message_of b job left).addr (message_of b job left).reading) t.end =
       ap (λ (a : ℕ). heard_in (hearers w a m.reading) m.end) tells.to_addr
       ∙ ap (λ (r : Bool). heard_in (hearers w (message_of b job left).addr r) m.end) tells.in_direction
       ∙ ap (λ (x : End). heard_in (hearers w (message_of b job left).addr (message_of b job left).reading) x) ends in
-      same_entry m (job_bus job) (job_purpose job) (part_of job left) (parts_of job) (message_of b job left).addr (message_of b job left).reading t.bytes
+      same_entry m (job_bus job) (job_purpose job) (part_of job left) (parts_of job) (message_of b job left).addr
+      (message_of b job left).reading t.bytes
       (heard_in (hearers w (message_of b job left).addr (message_of b job left).reading) t.end) t.end
-      tells.on_bus tells.for_purpose tells.as_part tells.of_parts tells.to_addr tells.in_direction (tells.bytes_told ∙ ap (λ (x : TalkTold World). x.bytes) (sym same))
+      tells.on_bus tells.for_purpose tells.as_part tells.of_parts tells.to_addr tells.in_direction (tells.bytes_told
+      ∙ ap (λ (x : TalkTold World). x.bytes) (sym same))
       (sym heard ∙ there) ends
 
-  pub may-plays : (e : Entry) → May b callers asks n e → FailsAs b fails n (first_act (current b asks n (caller_of e))) e → next_entry b asks fails n (caller_of e) ≡ Some e
+  pub may-plays : (e : Entry) → May b callers asks n e → FailsAs b fails n (first_act (current b asks n (caller_of e))) e
+      → next_entry b asks fails n (caller_of e) ≡ Some e
   may-plays (entry.Take c l) may so = adds_next c (Take l) may.2 ∙ ap (λ (o : Option ℕ). take_if o (entry.Take c l)) may.3
   may-plays (entry.Free c l) may so = adds_next c (Free l) may.2
   may-plays (entry.Line c mux level failed) may so =
       adds_next c (Shift may.2.0) may.2.1
-      ∙ ap (λ (m : ℕ). Some (entry.Line c m (line_level may.2.0) (fails (root_of b (job_bus may.2.0)) (length (n.calls (root_of b (job_bus may.2.0))))))) (sym may.2.2.of_mux)
-      ∙ ap (λ (l : ℕ). Some (entry.Line c mux l (fails (root_of b (job_bus may.2.0)) (length (n.calls (root_of b (job_bus may.2.0))))))) (sym may.2.2.to_level)
-      ∙ ap (λ (f : Bool). Some (entry.Line c mux level f)) (subst (λ (o : Option Act). FailsAs b fails n o (entry.Line c mux level failed)) may.2.1 so)
+      ∙ ap (λ (m : ℕ). Some (entry.Line c m (line_level may.2.0)
+      (fails (root_of b (job_bus may.2.0)) (length (n.calls (root_of b (job_bus may.2.0))))))) (sym may.2.2.of_mux)
+      ∙ ap (λ (l : ℕ). Some (entry.Line c mux l (fails (root_of b (job_bus may.2.0)) (length (n.calls (root_of b (job_bus may.2.0)))))))
+      (sym may.2.2.to_level)
+      ∙ ap (λ (f : Bool). Some (entry.Line c mux level f))
+      (subst (λ (o : Option Act). FailsAs b fails n o (entry.Line c mux level failed)) may.2.1 so)
   may-plays (entry.Message c bus purpose part parts addr reading bytes heard x) may so =
-      let m : MessageEntry = record { caller = c; bus = bus; purpose = purpose; part = part; parts = parts; addr = addr; reading = reading; bytes = bytes; heard = heard; end = x } in
+      let m : MessageEntry = record {
+        caller = c;
+        bus = bus;
+        purpose = purpose;
+        part = part;
+        parts = parts;
+        addr = addr;
+        reading = reading;
+        bytes = bytes;
+        heard = heard;
+        end = x;
+      } in
       adds_next c (Send may.2.0 may.2.1) may.2.2
       ∙ ap Some (same_message may.2.0 may.2.1 m may.2.3
       (subst (λ (o : Option Act). FailsAs b fails n o (entry.Message c bus purpose part parts addr reading bytes heard x)) may.2.2 so))

@@ -28,7 +28,8 @@ IsAfter w u cs = u ≡ after_all w (reverse cs)
 
 more_after : (w u : World) (cs more : List PortCall) (v : World) → IsAfter w u cs → IsAfter u v more → IsAfter w v (more ++ cs)
 more_after w u cs more v e f =
-    f ∙ ap (λ (x : World). after_all x (reverse more)) e ∙ sym (after_all-append w (reverse cs) (reverse more)) ∙ ap (λ (xs : List PortCall). after_all w xs) (sym (reverse-append more cs))
+    f ∙ ap (λ (x : World). after_all x (reverse more)) e ∙ sym (after_all-append w (reverse cs) (reverse more))
+    ∙ ap (λ (xs : List PortCall). after_all w xs) (sym (reverse-append more cs))
 
 -- a message's calls lead from its world to the one that it leaves
 pub talk_after : (limit : ℕ) (w : World) (m : MessageView) (last : Bool) (cut : Option ℕ)
@@ -46,8 +47,10 @@ called_at : (b : BoardView) (worlds : ℕ → World) (calls : ℕ → List PortC
 called_at b worlds calls s new more old e r =
     elim (eqb_tells r s) [
       | inl h ↦ subst (λ (t : Bool). IsAfter (opening_world b r) (cond t new (worlds r)) (cond t (more ++ calls s) (calls r))) (sym h.0)
-          (subst (λ (i : ℕ). IsAfter (opening_world b i) new (more ++ calls s)) (sym h.1) (more_after (opening_world b s) (worlds s) (calls s) more new (old s) e))
-      | inr h ↦ subst (λ (t : Bool). IsAfter (opening_world b r) (cond t new (worlds r)) (cond t (more ++ calls s) (calls r))) (sym h.0) (old r)
+          (subst (λ (i : ℕ). IsAfter (opening_world b i) new (more ++ calls s)) (sym h.1)
+          (more_after (opening_world b s) (worlds s) (calls s) more new (old s) e))
+      | inr h ↦ subst (λ (t : Bool). IsAfter (opening_world b r) (cond t new (worlds r)) (cond t (more ++ calls s) (calls r))) (sym h.0)
+          (old r)
     ]
 
 module _ (b : BoardView) (n : Now) (old : AreCalled b n) (c : ℕ) (note : Note) where
@@ -68,7 +71,8 @@ module _ (b : BoardView) (n : Now) (old : AreCalled b n) (c : ℕ) (note : Note)
   lined_called (Some (Send job left)) failed = old
   lined_called (Some (Settle verdict)) failed = old
   lined_called (Some (Shift job)) failed =
-      called_at b n.worlds n.calls (root_of b (job_bus job)) (after (n.worlds (root_of b (job_bus job))) (line_call job failed)) (line_call job failed ∷ []) old refl
+      called_at b n.worlds n.calls (root_of b (job_bus job)) (after (n.worlds (root_of b (job_bus job))) (line_call job failed))
+      (line_call job failed ∷ []) old refl
 
 module _ (b : BoardView) (asks : Asks) where
   -- THE INDUCTION: it needs no condition on the entries
@@ -78,6 +82,8 @@ module _ (b : BoardView) (asks : Asks) where
   past-called (entry.Free c l ∷ past) = past-called past
   past-called (entry.Settle c r cut ∷ past) = past-called past
   past-called (entry.Message c bus purpose part parts addr reading bytes heard e ∷ past) =
-      sent_called b (now b asks past) (past-called past) c (first_note (current b asks (now b asks past) c)) (first_act (current b asks (now b asks past) c)) reading bytes e
+      sent_called b (now b asks past) (past-called past) c (first_note (current b asks (now b asks past) c))
+      (first_act (current b asks (now b asks past) c)) reading bytes e
   past-called (entry.Line c mux level failed ∷ past) =
-      lined_called b (now b asks past) (past-called past) c (first_note (current b asks (now b asks past) c)) (first_act (current b asks (now b asks past) c)) failed
+      lined_called b (now b asks past) (past-called past) c (first_note (current b asks (now b asks past) c))
+      (first_act (current b asks (now b asks past) c)) failed

@@ -54,13 +54,15 @@ at_most : (t : Bool) → count_if t ≤ 1
 at_most true = omega arith
 at_most false = omega arith
 
-module _ (b : BoardView) (tree : IsTree b) (plain : IsPlainBoard b) (lines : LinesAreLocked b) (asks : Asks) (some : AsksForMessages asks) (callers : ℕ) where
+module _ (b : BoardView) (tree : IsTree b) (plain : IsPlainBoard b) (lines : LinesAreLocked b) (asks : Asks) (some : AsksForMessages asks)
+    (callers : ℕ) where
   -- no more replies than failures, and one fewer where a settle that tells a cut is due
   pub record Counted (past : List Entry) : Type 0 where
     pub counted : remotes past ≤ failures past
     pub spare : (c : ℕ) → (now b asks past).due ≡ Some c → ((now b asks past).cut c ≡ cut.No → ⊥) → remotes past + 1 ≤ failures past
 
-  quiet : (past : List Entry) (e : Entry) → Counted past → remotes (e ∷ past) ≡ remotes past → failures (e ∷ past) ≡ failures past → (now b asks (e ∷ past)).due ≡ None → Counted (e ∷ past)
+  quiet : (past : List Entry) (e : Entry) → Counted past → remotes (e ∷ past) ≡ remotes past → failures (e ∷ past) ≡ failures past
+      → (now b asks (e ∷ past)).due ≡ None → Counted (e ∷ past)
   quiet past e before same_replies same_failures none =
       record {
         counted = (let h : remotes past ≤ failures past = before.counted in omega (arith, h, same_replies, same_failures));
@@ -68,26 +70,30 @@ module _ (b : BoardView) (tree : IsTree b) (plain : IsPlainBoard b) (lines : Lin
       }
 
   -- a message or a line step
-  stepped : (past : List Entry) (e : Entry) (d : ℕ) (t : Bool) → Counted past → remotes (e ∷ past) ≡ remotes past → (now b asks (e ∷ past)).due ≡ cond t (Some d) None
+  stepped : (past : List Entry) (e : Entry) (d : ℕ) (t : Bool) → Counted past → remotes (e ∷ past) ≡ remotes past
+      → (now b asks (e ∷ past)).due ≡ cond t (Some d) None
       → (((now b asks (e ∷ past)).cut d ≡ cut.No → ⊥) → is_failed e ≡ true) → Counted (e ∷ past)
   stepped past e d t before same_replies due_is fails =
       record {
         counted = (let h : remotes past ≤ failures past = before.counted in omega (arith, h, same_replies));
         spare = λ c due told.
             (let own : d ≡ c = (by-due t d c (sym due_is ∙ due)).1 in
-            let one : count_if (is_failed e) ≡ 1 = ap count_if (fails (subst (λ (i : ℕ). (now b asks (e ∷ past)).cut i ≡ cut.No → ⊥) (sym own) told)) in
+            let one : count_if (is_failed e) ≡ 1 = ap count_if
+            (fails (subst (λ (i : ℕ). (now b asks (e ∷ past)).cut i ≡ cut.No → ⊥) (sym own) told)) in
             let h : remotes past ≤ failures past = before.counted in
             omega (arith, h, one, same_replies));
       }
 
   own_cut : (e : Entry) (past : List Entry) (d : ℕ) → caller_of e ≡ d → (now b asks (e ∷ past)).cut d ≡ cut_told e
-  own_cut e past d own = cut-told b asks (e ∷ past) d ∙ ap (λ (t : Bool). cond t (cut_told e) (last_cut past d)) (eq-eqb (caller_of e) d own)
+  own_cut e past d own = cut-told b asks (e ∷ past) d
+      ∙ ap (λ (t : Bool). cond t (cut_told e) (last_cut past d)) (eq-eqb (caller_of e) d own)
 
   line_fails : (failed : Bool) → (cond failed cut.Way cut.No ≡ cut.No → ⊥) → failed ≡ true
   line_fails true h = refl
   line_fails false h = absurd (h refl)
 
-  settled : (c : ℕ) (r : Reply) (told : Cut) (past : List Entry) → IsStepwise b callers asks (entry.Settle c r told ∷ past) → Counted past → Counted (entry.Settle c r told ∷ past)
+  settled : (c : ℕ) (r : Reply) (told : Cut) (past : List Entry) → IsStepwise b callers asks (entry.Settle c r told ∷ past) → Counted past
+      → Counted (entry.Settle c r told ∷ past)
   settled c r told past steps before =
       record {
         counted = elim (remote_is r c told) [
@@ -95,7 +101,8 @@ module _ (b : BoardView) (tree : IsTree b) (plain : IsPlainBoard b) (lines : Lin
               let none : count_if (has_remote (entry.Settle c r told)) ≡ 0 = ap count_if other in omega (arith, h, none))
           | inr is ↦ (let failed = (cut-at b tree plain lines asks some callers (entry.Settle c r told) past steps).1.0 is in
               let says = failed-says b tree plain lines asks some callers past steps.1 c steps.0.2 steps.0.3 failed in
-              let h : remotes past + 1 ≤ failures past = before.spare c (failed-due b tree plain lines asks some callers past steps.1 c steps.0.2 steps.0.3 failed) says.1 in
+              let h : remotes past + 1 ≤ failures past = before.spare c
+              (failed-due b tree plain lines asks some callers past steps.1 c steps.0.2 steps.0.3 failed) says.1 in
               let one : count_if (has_remote (entry.Settle c r told)) ≤ 1 = at_most (has_remote (entry.Settle c r told)) in
               omega (arith, h, one))
         ];
@@ -104,13 +111,17 @@ module _ (b : BoardView) (tree : IsTree b) (plain : IsPlainBoard b) (lines : Lin
 
   pub remotes-counted : (past : List Entry) → IsStepwise b callers asks past → Counted past
   remotes-counted [] steps = record { counted = omega arith; spare = λ c due told. absurd (let f : None ≡ Some c = due in cc) }
-  remotes-counted (entry.Take d l ∷ past) steps = quiet past (entry.Take d l) (remotes-counted past steps.1) (omega arith) (omega arith) steps.0.1
-  remotes-counted (entry.Free d l ∷ past) steps = quiet past (entry.Free d l) (remotes-counted past steps.1) (omega arith) (omega arith) steps.0.1
+  remotes-counted (entry.Take d l ∷ past) steps = quiet past (entry.Take d l) (remotes-counted past steps.1) (omega arith)
+      (omega arith) steps.0.1
+  remotes-counted (entry.Free d l ∷ past) steps = quiet past (entry.Free d l) (remotes-counted past steps.1) (omega arith)
+      (omega arith) steps.0.1
   remotes-counted (entry.Line d mux level failed ∷ past) steps =
-      stepped past (entry.Line d mux level failed) d (is_due (first_act ((now b asks (entry.Line d mux level failed ∷ past)).walk d))) (remotes-counted past steps.1) (omega arith) refl
+      stepped past (entry.Line d mux level failed) d (is_due (first_act ((now b asks (entry.Line d mux level failed ∷ past)).walk d)))
+      (remotes-counted past steps.1) (omega arith) refl
       (λ told. line_fails failed (λ no. told (own_cut (entry.Line d mux level failed) past d refl ∙ no)))
   remotes-counted (entry.Message d bus why part parts addr reading bytes heard e ∷ past) steps =
-      stepped past (entry.Message d bus why part parts addr reading bytes heard e) d (is_due (first_act ((now b asks (entry.Message d bus why part parts addr reading bytes heard e ∷ past)).walk d)))
+      stepped past (entry.Message d bus why part parts addr reading bytes heard e) d
+      (is_due (first_act ((now b asks (entry.Message d bus why part parts addr reading bytes heard e ∷ past)).walk d)))
       (remotes-counted past steps.1) (omega arith) refl
       (λ told. cut-is why part e (λ no. told (own_cut (entry.Message d bus why part parts addr reading bytes heard e) past d refl ∙ no)))
   remotes-counted (entry.Settle c r told ∷ past) steps = settled c r told past steps (remotes-counted past steps.1)
@@ -130,36 +141,46 @@ sum_off : (k : ℕ) (t : Bool) (from n : ℕ) → k < from → sum_by (λ r. cou
 sum_off k t from zero off = refl
 sum_off k t from (suc n) off =
     let h : sum_by (λ r. count_if (eqb k r && t)) (range_with_len (from + 1) n) ≡ 0 = sum_off k t (from + 1) n (omega (arith, off)) in
-    let here : count_if (eqb k from && t) ≡ 0 = ap (λ (x : Bool). count_if (x && t)) (eqb-apart k from (λ e. absurd (omega (arith, off, e)))) in
+    let here : count_if (eqb k from && t) ≡ 0 = ap (λ (x : Bool). count_if (x && t))
+    (eqb-apart k from (λ e. absurd (omega (arith, off, e)))) in
     omega (arith, h, here, sum_by-cons (λ r. count_if (eqb k r && t)) from (range_with_len (from + 1) n))
 
-sum_one : (k : ℕ) (t : Bool) (from n : ℕ) → from ≤ k → k < from + n → sum_by (λ r. count_if (eqb k r && t)) (range_with_len from n) ≡ count_if t
+sum_one : (k : ℕ) (t : Bool) (from n : ℕ) → from ≤ k → k < from + n
+    → sum_by (λ r. count_if (eqb k r && t)) (range_with_len from n) ≡ count_if t
 sum_one k t from zero low high = absurd (omega (arith, low, high))
 sum_one k t from (suc n) low high =
     elim (eqb_tells k from) [
       | inl e ↦ (let here : count_if (eqb k from && t) ≡ count_if t = ap (λ (x : Bool). count_if (x && t)) e.0 in
           let same : k ≡ from = e.1 in
-          let rest : sum_by (λ r. count_if (eqb k r && t)) (range_with_len (from + 1) n) ≡ 0 = sum_off k t (from + 1) n (omega (arith, same)) in
+          let rest : sum_by (λ r. count_if (eqb k r && t)) (range_with_len (from + 1) n) ≡ 0 = sum_off k t (from + 1) n
+          (omega (arith, same)) in
           omega (arith, here, rest, sum_by-cons (λ r. count_if (eqb k r && t)) from (range_with_len (from + 1) n)))
       | inr e ↦ (let here : count_if (eqb k from && t) ≡ 0 = ap (λ (x : Bool). count_if (x && t)) e.0 in
           let ne : k ≢ from = e.1 in
-          let rest : sum_by (λ r. count_if (eqb k r && t)) (range_with_len (from + 1) n) ≡ count_if t = sum_one k t (from + 1) n (omega (arith, low, ne)) (omega (arith, high)) in
+          let rest : sum_by (λ r. count_if (eqb k r && t)) (range_with_len (from + 1) n) ≡ count_if t = sum_one k t (from + 1) n
+          (omega (arith, low, ne)) (omega (arith, high)) in
           omega (arith, here, rest, sum_by-cons (λ r. count_if (eqb k r && t)) from (range_with_len (from + 1) n)))
     ]
 
-module _ (b : BoardView) (tree : IsTree b) (plain : IsPlainBoard b) (lines : LinesAreLocked b) (asks : Asks) (some : AsksForMessages asks) (callers : ℕ) where
+module _ (b : BoardView) (tree : IsTree b) (plain : IsPlainBoard b) (lines : LinesAreLocked b) (asks : Asks) (some : AsksForMessages asks)
+    (callers : ℕ) where
   abbrev roots : List ℕ
   roots = range_with_len 0 (length b.roots)
 
   -- a job is done on a bus of the board
-  job_there : (past : List Entry) → IsStepwise b callers asks past → (c : ℕ) (job : Job) (left : ℕ) → IsNext b asks (now b asks past) c (Send job left) → job_bus job < buses b
+  job_there : (past : List Entry) → IsStepwise b callers asks past → (c : ℕ) (job : Job) (left : ℕ)
+      → IsNext b asks (now b asks past) c (Send job left) → job_bus job < buses b
   job_there past steps c (Call bus ms) left next = (call-reaches b tree plain lines asks some callers past steps c bus ms left next).there
   job_there past steps c (Select h) left next =
-      subst (λ (i : ℕ). i < buses b) (tree.hop h.bus h (sends b tree plain lines asks some callers past steps c (Select h) left next).finds.1).home (home_there b plain h.mux)
+      subst (λ (i : ℕ). i < buses b)
+      (tree.hop h.bus h (sends b tree plain lines asks some callers past steps c (Select h) left next).finds.1).home
+      (home_there b plain h.mux)
   job_there past steps c (SwitchOff off) left next =
-      subst (λ (i : ℕ). i < buses b) (sends b tree plain lines asks some callers past steps c (SwitchOff off) left next).finds.1 (home_there b plain (off_mux off))
+      subst (λ (i : ℕ). i < buses b) (sends b tree plain lines asks some callers past steps c (SwitchOff off) left next).finds.1
+      (home_there b plain (off_mux off))
 
-  one_root : (e : Entry) (past : List Entry) → IsStepwise b callers asks (e ∷ past) → sum_by (λ r. count_if (is_on_root b r e && is_failed e)) roots ≡ count_if (is_failed e)
+  one_root : (e : Entry) (past : List Entry) → IsStepwise b callers asks (e ∷ past)
+      → sum_by (λ r. count_if (is_on_root b r e && is_failed e)) roots ≡ count_if (is_failed e)
   one_root (entry.Take c l) past steps = sum_none 0 (length b.roots)
   one_root (entry.Free c l) past steps = sum_none 0 (length b.roots)
   one_root (entry.Settle c r told) past steps = sum_none 0 (length b.roots)
@@ -188,10 +209,12 @@ module _ (b : BoardView) (tree : IsTree b) (plain : IsPlainBoard b) (lines : Lin
       omega (arith, h, t, sum_by-cons f r rs, sum_by-cons g r rs))
 
   -- the calls that failed on all roots
-  pub remotes-faults : (past : List Entry) → IsStepwise b callers asks past → remotes past ≤ sum_by (λ r. faults_in (calls_of b asks past r)) roots
+  pub remotes-faults : (past : List Entry) → IsStepwise b callers asks past
+      → remotes past ≤ sum_by (λ r. faults_in (calls_of b asks past r)) roots
   remotes-faults past steps =
       let counted : remotes past ≤ failures past = (remotes-counted b tree plain lines asks some callers past steps).counted in
       let rooted : sum_by (λ r. failed_on b r past) roots ≡ failures past = failures-rooted past steps in
       let told : sum_by (λ r. faults_in (calls_of b asks past r)) roots ≡ sum_by (λ r. failed_on b r past) roots =
-      sum_same (λ r. faults_in (calls_of b asks past r)) (λ r. failed_on b r past) (λ r. counts-kept b tree plain lines asks some callers past steps r) roots in
+      sum_same (λ r. faults_in (calls_of b asks past r)) (λ r. failed_on b r past)
+      (λ r. counts-kept b tree plain lines asks some callers past steps r) roots in
       omega (arith, counted, rooted, told)

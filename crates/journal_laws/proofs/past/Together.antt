@@ -47,15 +47,18 @@ module _ (b : BoardView) (asks : Asks) (c : ℕ) (left : List Reply → ℕ) (co
   one_settle rs r t asked fits before =
       let falls : left (rs ++ r ∷ []) + cost_of b t ≤ left rs = covers rs t r asked fits in
       let cost : cost_at b (asks c) rs ≡ cost_of b t = ap (λ (o : Option TransferView). option_map_or (cost_of b) o 0) asked in
-      let more : cost_from b (asks c) [] (rs ++ r ∷ []) ≡ cost_from b (asks c) [] rs + cost_at b (asks c) (rs ++ r ∷ []) = cost_more b (asks c) [] rs r in
+      let more : cost_from b (asks c) [] (rs ++ r ∷ []) ≡ cost_from b (asks c) [] rs + cost_at b (asks c) (rs ++ r ∷ []) = cost_more b
+      (asks c) [] rs r in
       omega (arith, falls, cost, more, before)
 
-  own_settle : (r : Reply) (past : List Entry) (o : Option TransferView) → asks c (replies past c) ≡ o → IsPlaced b o c past → ((t : TransferView) → asks c (replies past c) ≡ Some t → Fits t r)
+  own_settle : (r : Reply) (past : List Entry) (o : Option TransferView) → asks c (replies past c) ≡ o → IsPlaced b o c past
+      → ((t : TransferView) → asks c (replies past c) ≡ Some t → Fits t r)
       → Covered (replies past c) → Covered (replies past c ++ r ∷ [])
   own_settle r past None e placed fits before = absurd placed
   own_settle r past (Some t) e placed fits before = one_settle (replies past c) r t e (fits t e) before
 
-  by_settle : (d : ℕ) (r : Reply) (past : List Entry) → IsPlaced b (asks d (replies past d)) d past → ((t : TransferView) → asks d (replies past d) ≡ Some t → Fits t r)
+  by_settle : (d : ℕ) (r : Reply) (past : List Entry) → IsPlaced b (asks d (replies past d)) d past
+      → ((t : TransferView) → asks d (replies past d) ≡ Some t → Fits t r)
       → Covered (replies past c) → Covered (cond (eqb d c) (replies past c ++ r ∷ []) (replies past c))
   by_settle d r past placed fits before =
       elim (eqb_tells d c) [
@@ -111,7 +114,8 @@ sum_most (suc n) k f g each =
     let rest : sum_below n f ≤ k * sum_below n g = sum_most n k f g (λ c low. each c (omega (arith, low))) in
     grind (arith, here, rest)
 
-callers_all : (b : BoardView) (callers : ℕ) (asks : Asks) (f : Count) (past : List Entry) → IsStepwise b callers asks past → in_all f past ≡ sum_below callers (of_caller f past)
+callers_all : (b : BoardView) (callers : ℕ) (asks : Asks) (f : Count) (past : List Entry) → IsStepwise b callers asks past
+    → in_all f past ≡ sum_below callers (of_caller f past)
 callers_all b callers asks f [] steps = sym (nothing callers)
   where
     nothing : (n : ℕ) → sum_below n (λ c. 0) ≡ 0
@@ -119,8 +123,10 @@ callers_all b callers asks f [] steps = sym (nothing callers)
     nothing (suc n) = (let rest : sum_below n (λ c. 0) ≡ 0 = nothing n in omega (arith, rest))
 callers_all b callers asks f (e ∷ past) steps =
     let rest : in_all f past ≡ sum_below callers (of_caller f past) = callers_all b callers asks f past steps.1 in
-    let one : sum_below callers (λ c. cond (eqb (caller_of e) c) (f e past) 0) ≡ f e past = only_one callers (caller_of e) (f e past) (entry_known b callers asks (now b asks past) e steps.0) in
-    let both : sum_below callers (of_caller f (e ∷ past)) ≡ sum_below callers (λ c. cond (eqb (caller_of e) c) (f e past) 0) + sum_below callers (of_caller f past) =
+    let one : sum_below callers (λ c. cond (eqb (caller_of e) c) (f e past) 0) ≡ f e past = only_one callers (caller_of e) (f e past)
+    (entry_known b callers asks (now b asks past) e steps.0) in
+    let both : sum_below callers (of_caller f (e ∷ past)) ≡ sum_below callers
+    (λ c. cond (eqb (caller_of e) c) (f e past) 0) + sum_below callers (of_caller f past) =
     sum_both callers (λ c. cond (eqb (caller_of e) c) (f e past) 0) (of_caller f past) in
     omega (arith, rest, one, both)
 
@@ -134,22 +140,29 @@ bytes_all (e ∷ past) = ap (λ (n : ℕ). length (bytes_in e) + n) (bytes_all p
 
 -- an entry makes its calls on one root
 module _ (b : BoardView) where
-  root_grows : (calls : ℕ → List PortCall) (s r : ℕ) (more : List PortCall) → length (changed_at calls s (more ++ calls s) r) ≤ length more + length (calls r)
+  root_grows : (calls : ℕ → List PortCall) (s r : ℕ) (more : List PortCall)
+      → length (changed_at calls s (more ++ calls s) r) ≤ length more + length (calls r)
   root_grows calls s r more =
       elim (eqb_tells r s) [
-        | inl h ↦ (let at : length (changed_at calls s (more ++ calls s) r) ≡ length (more ++ calls s) = ap (λ (t : Bool). length (cond t (more ++ calls s) (calls r))) h.0 in
-            let there : length (calls s) ≡ length (calls r) = ap (λ (i : ℕ). length (calls i)) (sym h.1) in omega (arith, at, length-append more (calls s), there))
-        | inr h ↦ (let at : length (changed_at calls s (more ++ calls s) r) ≡ length (calls r) = ap (λ (t : Bool). length (cond t (more ++ calls s) (calls r))) h.0 in omega (arith, at))
+        | inl h ↦ (let at : length (changed_at calls s (more ++ calls s) r) ≡ length (more ++ calls s) = ap
+            (λ (t : Bool). length (cond t (more ++ calls s) (calls r))) h.0 in
+            let there : length (calls s) ≡ length (calls r) = ap (λ (i : ℕ). length (calls i)) (sym h.1) in
+            omega (arith, at, length-append more (calls s), there))
+        | inr h ↦ (let at : length (changed_at calls s (more ++ calls s) r) ≡ length (calls r) = ap
+            (λ (t : Bool). length (cond t (more ++ calls s) (calls r))) h.0 in omega (arith, at))
       ]
 
-  sent_grows : (n : Now) (c r : ℕ) (o : Option Act) (note : Note) (bus : ℕ) (why : _) (part parts addr : ℕ) (reading : Bool) (bytes : List ℕ) (heard : _) (en : End)
-      → length ((sent_by b n c o note reading bytes en).calls r) ≤ calls_for b n o (entry.Message c bus why part parts addr reading bytes heard en) + length (n.calls r)
+  sent_grows : (n : Now) (c r : ℕ) (o : Option Act) (note : Note) (bus : ℕ) (why : _) (part parts addr : ℕ) (reading : Bool)
+      (bytes : List ℕ) (heard : _) (en : End)
+      → length ((sent_by b n c o note reading bytes en).calls r) ≤ calls_for b n o
+      (entry.Message c bus why part parts addr reading bytes heard en) + length (n.calls r)
   sent_grows n c r None note bus why part parts addr reading bytes heard en = omega arith
   sent_grows n c r (Some (Take l)) note bus why part parts addr reading bytes heard en = omega arith
   sent_grows n c r (Some (Free l)) note bus why part parts addr reading bytes heard en = omega arith
   sent_grows n c r (Some (Shift job)) note bus why part parts addr reading bytes heard en = omega arith
   sent_grows n c r (Some (Settle v)) note bus why part parts addr reading bytes heard en = omega arith
-  sent_grows n c r (Some (Send job left)) note bus why part parts addr reading bytes heard en = root_grows n.calls (root_of b (job_bus job)) r (talk_of b n job left en).calls
+  sent_grows n c r (Some (Send job left)) note bus why part parts addr reading bytes heard en = root_grows n.calls
+      (root_of b (job_bus job)) r (talk_of b n job left en).calls
 
   lined_grows : (n : Now) (c r : ℕ) (o : Option Act) (note : Note) (mux level : ℕ) (failed : Bool)
       → length ((lined_by b n o note failed).calls r) ≤ calls_for b n o (entry.Line c mux level failed) + length (n.calls r)
@@ -162,30 +175,46 @@ module _ (b : BoardView) where
 
   calls_all : (asks : Asks) (r : ℕ) (past : List Entry) → length ((now b asks past).calls r) ≤ in_all (its_calls b asks) past
   calls_all asks r [] = omega arith
-  calls_all asks r (entry.Take c l ∷ past) = (let rest : length ((now b asks past).calls r) ≤ in_all (its_calls b asks) past = calls_all asks r past in omega (arith, rest))
-  calls_all asks r (entry.Free c l ∷ past) = (let rest : length ((now b asks past).calls r) ≤ in_all (its_calls b asks) past = calls_all asks r past in omega (arith, rest))
-  calls_all asks r (entry.Settle c x cut ∷ past) = (let rest : length ((now b asks past).calls r) ≤ in_all (its_calls b asks) past = calls_all asks r past in omega (arith, rest))
+  calls_all asks r (entry.Take c l ∷ past) =
+      (let rest : length ((now b asks past).calls r) ≤ in_all (its_calls b asks) past = calls_all asks r past in omega (arith, rest))
+  calls_all asks r (entry.Free c l ∷ past) =
+      (let rest : length ((now b asks past).calls r) ≤ in_all (its_calls b asks) past = calls_all asks r past in omega (arith, rest))
+  calls_all asks r (entry.Settle c x cut ∷ past) =
+      (let rest : length ((now b asks past).calls r) ≤ in_all (its_calls b asks) past = calls_all asks r past in omega (arith, rest))
   calls_all asks r (entry.Line c mux level failed ∷ past) =
       let rest : length ((now b asks past).calls r) ≤ in_all (its_calls b asks) past = calls_all asks r past in
-      omega (arith, rest, lined_grows (now b asks past) c r (first_act (current b asks (now b asks past) c)) (first_note (current b asks (now b asks past) c)) mux level failed)
+      omega (
+        arith,
+        rest,
+        lined_grows (now b asks past) c r (first_act (current b asks (now b asks past) c))
+            (first_note (current b asks (now b asks past) c)) mux level failed,
+      )
   calls_all asks r (entry.Message c bus why part parts addr reading bytes heard en ∷ past) =
       let rest : length ((now b asks past).calls r) ≤ in_all (its_calls b asks) past = calls_all asks r past in
-      omega (arith, rest, sent_grows (now b asks past) c r (first_act (current b asks (now b asks past) c)) (first_note (current b asks (now b asks past) c)) bus why part parts addr reading bytes heard en)
+      omega (
+        arith,
+        rest,
+        sent_grows (now b asks past) c r (first_act (current b asks (now b asks past) c))
+            (first_note (current b asks (now b asks past) c)) bus why part parts addr reading bytes heard en,
+      )
 
 -- the steps are no more than the entries
 turns_few : (es : List Entry) → length (turns es) ≤ length es
 turns_few [] = omega arith
-turns_few (e ∷ es) = (let rest : length (turns es) ≤ length es = turns_few es in let more : length (with_entry e (turns es)) ≤ suc (length (turns es)) = with_few (turns es) in omega (arith, rest, more))
+turns_few (e ∷ es) = (let rest : length (turns es) ≤ length es = turns_few es in
+    let more : length (with_entry e (turns es)) ≤ suc (length (turns es)) = with_few (turns es) in omega (arith, rest, more))
   where
     with_few : (ts : List Turn) → length (with_entry e ts) ≤ suc (length ts)
     with_few [] = omega arith
     with_few (t ∷ ts) = by (joins e t.entries t.caller)
       where
-        by : (x : Bool) → length (cond x ((record { caller = caller_of e; entries = e ∷ t.entries }) ∷ ts) (turn_of e ∷ t ∷ ts)) ≤ suc (length (t ∷ ts))
+        by : (x : Bool) → length (cond x ((record { caller = caller_of e; entries = e ∷ t.entries }) ∷ ts) (turn_of e ∷ t ∷ ts)) ≤ suc
+            (length (t ∷ ts))
         by true = omega arith
         by false = omega arith
 
-module _ (b : BoardView) (tree : IsTree b) (rules : MeetsRules b) (asks : Asks) (some : AsksForMessages asks) (callers : ℕ) (past : List Entry)
+module _ (b : BoardView) (tree : IsTree b) (rules : MeetsRules b) (asks : Asks) (some : AsksForMessages asks) (callers : ℕ)
+    (past : List Entry)
     (steps : IsStepwise b callers asks past) where
   -- a caller within its own bound
   pub bound-spends : (c : ℕ) (left : List Reply → ℕ) → CoversCosts b (asks c) left
@@ -194,7 +223,8 @@ module _ (b : BoardView) (tree : IsTree b) (rules : MeetsRules b) (asks : Asks) 
       let spends = caller-spends b tree rules asks some callers past steps c in
       let all : cost_from b (asks c) [] (replies past c) + left (replies past c) ≤ left [] + cost_at b (asks c) (replies past c) =
       covered b asks c left covers past (settles-kept b asks some callers past steps) (fits-kept b asks some callers past steps) in
-      let next : cost_at b (asks c) (replies past c) ≤ left (replies past c) = covers_next b asks c left covers (replies past c) (asks c (replies past c)) refl in
+      let next : cost_at b (asks c) (replies past c) ≤ left (replies past c) = covers_next b asks c left covers (replies past c)
+      (asks c (replies past c)) refl in
       record {
         entries_within = omega (arith, spends.entries_within, all, next);
         bytes_within = omega (arith, spends.bytes_within, all, next);
@@ -202,22 +232,29 @@ module _ (b : BoardView) (tree : IsTree b) (rules : MeetsRules b) (asks : Asks) 
       }
 
   -- ALL TOGETHER
-  pub together-spend : (left : ℕ → List Reply → ℕ) → ((c : ℕ) → c < callers → CoversCosts b (asks c) (left c)) → AreWithin b asks past (sum_below callers (λ c. left c []))
+  pub together-spend : (left : ℕ → List Reply → ℕ) → ((c : ℕ) → c < callers → CoversCosts b (asks c) (left c))
+      → AreWithin b asks past (sum_below callers (λ c. left c []))
   together-spend left covers =
       let entries : length past ≡ in_all one_entry past = entries_all past in
-      let entries_sum : in_all one_entry past ≡ sum_below callers (of_caller one_entry past) = callers_all b callers asks one_entry past steps in
+      let entries_sum : in_all one_entry past ≡ sum_below callers (of_caller one_entry past) =
+      callers_all b callers asks one_entry past steps in
       let bytes : all_bytes past ≡ in_all its_bytes past = bytes_all past in
-      let bytes_sum : in_all its_bytes past ≡ sum_below callers (of_caller its_bytes past) = callers_all b callers asks its_bytes past steps in
-      let calls_sum : in_all (its_calls b asks) past ≡ sum_below callers (of_caller (its_calls b asks) past) = callers_all b callers asks (its_calls b asks) past steps in
+      let bytes_sum : in_all its_bytes past ≡ sum_below callers (of_caller its_bytes past) =
+      callers_all b callers asks its_bytes past steps in
+      let calls_sum : in_all (its_calls b asks) past ≡ sum_below callers (of_caller (its_calls b asks) past) = callers_all b callers asks
+      (its_calls b asks) past steps in
       let most : sum_below callers (of_caller one_entry past) ≤ 1 * sum_below callers (λ c. left c []) =
-      sum_most callers 1 (of_caller one_entry past) (λ c. left c []) (λ c low. let s = bound-spends c (left c) (covers c low) in omega (arith, s.entries_within)) in
+      sum_most callers 1 (of_caller one_entry past) (λ c. left c []) (λ c low. let s = bound-spends c (left c) (covers c low) in
+      omega (arith, s.entries_within)) in
       let most_bytes : sum_below callers (of_caller its_bytes past) ≤ 2 * sum_below callers (λ c. left c []) =
       sum_most callers 2 (of_caller its_bytes past) (λ c. left c []) (λ c low. (bound-spends c (left c) (covers c low)).bytes_within) in
       let most_calls : sum_below callers (of_caller (its_calls b asks) past) ≤ 2 * sum_below callers (λ c. left c []) =
-      sum_most callers 2 (of_caller (its_calls b asks) past) (λ c. left c []) (λ c low. (bound-spends c (left c) (covers c low)).calls_within) in
+      sum_most callers 2 (of_caller (its_calls b asks) past) (λ c. left c [])
+      (λ c low. (bound-spends c (left c) (covers c low)).calls_within) in
       record {
         steps_within = (let few = turns_few (reverse past) in omega (arith, few, length-reverse past, entries, entries_sum, most));
         entries_within = omega (arith, entries, entries_sum, most);
         bytes_within = omega (arith, bytes, bytes_sum, most_bytes);
-        calls_within = λ r. (let all = calls_all b asks r past in omega (arith, all, length-reverse ((now b asks past).calls r), calls_sum, most_calls));
+        calls_within = λ r. (let all = calls_all b asks r past in
+            omega (arith, all, length-reverse ((now b asks past).calls r), calls_sum, most_calls));
       }

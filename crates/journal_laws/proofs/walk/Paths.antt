@@ -108,8 +108,13 @@ last_step steps [] a e =
 last_step [] (x ∷ acts) a e = absurd (let f : [] ≡ x ∷ (acts ++ Some a ∷ []) = e in cc)
 last_step (p ∷ steps) (x ∷ acts) a e =
     let f : act_of p ∷ map act_of steps ≡ x ∷ (acts ++ Some a ∷ []) = e in
-    let s = last_step steps acts a (let g : map act_of steps ≡ acts ++ Some a ∷ [] = cc in g) in
-    (p ∷ s.0, s.1, ap (λ (xs : List PathStep). p ∷ xs) s.2, ap (λ (y : Option Act). y ∷ map act_of s.0) (let g : act_of p ≡ x = cc in g) ∙ ap (λ (ys : List (Option Act)). x ∷ ys) s.3)
+    let s = last_step steps acts a (let g : map act_of steps ≡ acts ++ Some a ∷ [] = cc in g) in (
+      p ∷ s.0,
+      s.1,
+      ap (λ (xs : List PathStep). p ∷ xs) s.2,
+      ap (λ (y : Option Act). y ∷ map act_of s.0) (let g : act_of p ≡ x = cc in g)
+          ∙ ap (λ (ys : List (Option Act)). x ∷ ys) s.3,
+    )
 
 splits-settled : (t : Bool) (v : Option Errno) (o : JobOutcome) → Splits (λ k. settled t v (k o)) (SettleRule t v o)
 splits-settled true v o k [] path = absurd (let f : Then (Settle v) plain (λ x. k o) ≡ Ends = path in cc)
@@ -121,22 +126,33 @@ splits-settled false v o k steps path = record { out = o; done = []; rest = step
 leads-settled : (t : Bool) (v : Option Errno) (o : JobOutcome) → Leads (λ k. settled t v (k o)) (SettleRule t v o)
 leads-settled true v o steps out kept k =
     let s = first_step steps (Settle v) [] kept.0 in
-    subst (λ (xs : List PathStep). IsPath xs (Then (Settle v) plain (λ x. k o)) (k out)) (sym (s.2 ∙ ap (λ (xs : List PathStep). Did (Settle v) s.0 ∷ xs) (no_acts s.1 s.3)))
+    subst (λ (xs : List PathStep). IsPath xs (Then (Settle v) plain (λ x. k o)) (k out))
+    (sym (s.2 ∙ ap (λ (xs : List PathStep). Did (Settle v) s.0 ∷ xs) (no_acts s.1 s.3)))
     (refl, ap k (sym kept.1))
 leads-settled false v o steps out kept k =
     subst (λ (xs : List PathStep). IsPath xs (k o) (k out)) (sym (no_acts steps kept.0)) (ap k (sym kept.1))
 
-splits-over : (job : Job) (left : ℕ) (note : Note) (out : ActOutcome) → Splits (λ k. over job left note k out) (IsJobEnd job note.forward left out)
+splits-over : (job : Job) (left : ℕ) (note : Note) (out : ActOutcome)
+    → Splits (λ k. over job left note k out) (IsJobEnd job note.forward left out)
 splits-over job left note out =
     splits-settled (note.forward && decides job (job_outcome job left out)) (verdict_of job left out) (job_outcome job left out)
 
-leads-over : (job : Job) (left : ℕ) (note : Note) (out : ActOutcome) → Leads (λ k. over job left note k out) (IsJobEnd job note.forward left out)
+leads-over : (job : Job) (left : ℕ) (note : Note) (out : ActOutcome)
+    → Leads (λ k. over job left note k out) (IsJobEnd job note.forward left out)
 leads-over job left note out =
     leads-settled (note.forward && decides job (job_outcome job left out)) (verdict_of job left out) (job_outcome job left out)
 
 -- THE MESSAGES of a job
-same-rule : (P Q : List PathStep → JobOutcome → Type 0) → ((steps : List PathStep) (out : JobOutcome) → P steps out → Q steps out) → (k : JobOutcome → WalkTree) (steps : List PathStep) → Split P k steps → Split Q k steps
-same-rule P Q f k steps s = record { out = s.out; done = s.done; rest = s.rest; all = s.all; kept = f s.done s.out s.kept; goes_on = s.goes_on }
+same-rule : (P Q : List PathStep → JobOutcome → Type 0) → ((steps : List PathStep) (out : JobOutcome) → P steps out → Q steps out)
+    → (k : JobOutcome → WalkTree) (steps : List PathStep) → Split P k steps → Split Q k steps
+same-rule P Q f k steps s = record {
+  out = s.out;
+  done = s.done;
+  rest = s.rest;
+  all = s.all;
+  kept = f s.done s.out s.kept;
+  goes_on = s.goes_on;
+}
 
 splits-go : (g : Go) (left : ℕ) (M : ℕ → List PathStep → JobOutcome → Type 0) (E : List PathStep → JobOutcome → Type 0) (A B C : Task)
     → Splits A (M left) → Splits B (M zero) → Splits C E
@@ -155,14 +171,17 @@ leads-go Over left M E A B C a b c = c
 -- a job's next message, and the rule of what follows it
 abbrev MessageThen : Job → Bool → ℕ → List PathStep → JobOutcome → Type 0
 MessageThen job forward left =
-    StepThen (Send job left) (λ o steps out. NextOr (next_message job left o) (λ next. AreMessages job forward next steps out) (IsJobEnd job forward left o steps out))
+    StepThen (Send job left) (λ o steps out. NextOr (next_message job left o) (λ next. AreMessages job forward next steps out)
+    (IsJobEnd job forward left o steps out))
 
-to_messages : (job : Job) (forward : Bool) (left : ℕ) (steps : List PathStep) (out : JobOutcome) → MessageThen job forward left steps out → AreMessages job forward left steps out
+to_messages : (job : Job) (forward : Bool) (left : ℕ) (steps : List PathStep) (out : JobOutcome) → MessageThen job forward left steps out
+    → AreMessages job forward left steps out
 to_messages job forward left [] out p = p
 to_messages job forward left (Saw ask m ∷ steps) out p = p
 to_messages job forward left (Did a o ∷ steps) out p = p
 
-of_messages : (job : Job) (forward : Bool) (left : ℕ) (steps : List PathStep) (out : JobOutcome) → AreMessages job forward left steps out → MessageThen job forward left steps out
+of_messages : (job : Job) (forward : Bool) (left : ℕ) (steps : List PathStep) (out : JobOutcome) → AreMessages job forward left steps out
+    → MessageThen job forward left steps out
 of_messages job forward left [] out p = p
 of_messages job forward left (Saw ask m ∷ steps) out p = p
 of_messages job forward left (Did a o ∷ steps) out p = p
@@ -170,50 +189,61 @@ of_messages job forward left (Did a o ∷ steps) out p = p
 splits-last : (job : Job) (note : Note) → Splits (messages zero job note) (AreMessages job note.forward zero)
 splits-last job note = λ k steps path.
     same-rule (MessageThen job note.forward zero) (AreMessages job note.forward zero) (to_messages job note.forward zero) k steps
-    (splits-then (Send job zero) note (λ o k. over job zero note k o) (λ o. IsJobEnd job note.forward zero o) (λ o. splits-over job zero note o) k steps path)
+    (splits-then (Send job zero) note (λ o k. over job zero note k o) (λ o. IsJobEnd job note.forward zero o)
+    (λ o. splits-over job zero note o) k steps path)
 
 splits-messages : (n : ℕ) (job : Job) (note : Note) → Splits (messages n job note) (AreMessages job note.forward n)
 splits-messages zero job note = splits-last job note
 splits-messages (suc left) job note = λ k steps path.
-    same-rule (MessageThen job note.forward (suc left)) (AreMessages job note.forward (suc left)) (to_messages job note.forward (suc left)) k steps
+    same-rule (MessageThen job note.forward (suc left)) (AreMessages job note.forward (suc left))
+    (to_messages job note.forward (suc left)) k steps
     (splits-then (Send job (suc left)) note
-    (λ o k. by_go (goes job left o) (messages left job note k) (Then (Send job zero) note (over job zero note k)) (over job (suc left) note k o))
-    (λ o steps out. NextOr (next_message job (suc left) o) (λ next. AreMessages job note.forward next steps out) (IsJobEnd job note.forward (suc left) o steps out))
+    (λ o k. by_go (goes job left o) (messages left job note k) (Then (Send job zero) note (over job zero note k))
+    (over job (suc left) note k o))
+    (λ o steps out. NextOr (next_message job (suc left) o) (λ next. AreMessages job note.forward next steps out)
+    (IsJobEnd job note.forward (suc left) o steps out))
     (λ o. splits-go (goes job left o) left (λ next. AreMessages job note.forward next) (IsJobEnd job note.forward (suc left) o)
     (messages left job note) (messages zero job note) (λ k. over job (suc left) note k o)
     (splits-messages left job note) (splits-last job note) (splits-over job (suc left) note o)) k steps path)
 
 leads-last : (job : Job) (note : Note) → Leads (messages zero job note) (AreMessages job note.forward zero)
 leads-last job note = λ steps out kept k.
-    leads-then (Send job zero) note (λ o k. over job zero note k o) (λ o. IsJobEnd job note.forward zero o) (λ o. leads-over job zero note o) steps out
+    leads-then (Send job zero) note (λ o k. over job zero note k o) (λ o. IsJobEnd job note.forward zero o)
+    (λ o. leads-over job zero note o) steps out
     (of_messages job note.forward zero steps out kept) k
 
 leads-messages : (n : ℕ) (job : Job) (note : Note) → Leads (messages n job note) (AreMessages job note.forward n)
 leads-messages zero job note = leads-last job note
 leads-messages (suc left) job note = λ steps out kept k.
     leads-then (Send job (suc left)) note
-    (λ o k. by_go (goes job left o) (messages left job note k) (Then (Send job zero) note (over job zero note k)) (over job (suc left) note k o))
-    (λ o steps out. NextOr (next_message job (suc left) o) (λ next. AreMessages job note.forward next steps out) (IsJobEnd job note.forward (suc left) o steps out))
+    (λ o k. by_go (goes job left o) (messages left job note k) (Then (Send job zero) note (over job zero note k))
+    (over job (suc left) note k o))
+    (λ o steps out. NextOr (next_message job (suc left) o) (λ next. AreMessages job note.forward next steps out)
+    (IsJobEnd job note.forward (suc left) o steps out))
     (λ o. leads-go (goes job left o) left (λ next. AreMessages job note.forward next) (IsJobEnd job note.forward (suc left) o)
     (messages left job note) (messages zero job note) (λ k. over job (suc left) note k o)
     (leads-messages left job note) (leads-last job note) (leads-over job (suc left) note o)) steps out
     (of_messages job note.forward (suc left) steps out kept) k
 
 -- one of two
-splits-if : (t : Bool) (A B : Task) (P Q : List PathStep → JobOutcome → Type 0) → Splits A P → Splits B Q → Splits (λ k. cond t (A k) (B k)) (λ steps out. MatchBool t (P steps out) (Q steps out))
+splits-if : (t : Bool) (A B : Task) (P Q : List PathStep → JobOutcome → Type 0) → Splits A P → Splits B Q
+    → Splits (λ k. cond t (A k) (B k)) (λ steps out. MatchBool t (P steps out) (Q steps out))
 splits-if true A B P Q a b = a
 splits-if false A B P Q a b = b
 
-leads-if : (t : Bool) (A B : Task) (P Q : List PathStep → JobOutcome → Type 0) → Leads A P → Leads B Q → Leads (λ k. cond t (A k) (B k)) (λ steps out. MatchBool t (P steps out) (Q steps out))
+leads-if : (t : Bool) (A B : Task) (P Q : List PathStep → JobOutcome → Type 0) → Leads A P → Leads B Q
+    → Leads (λ k. cond t (A k) (B k)) (λ steps out. MatchBool t (P steps out) (Q steps out))
 leads-if true A B P Q a b = a
 leads-if false A B P Q a b = b
 
-to_line : (job : Job) (forward : Bool) (steps : List PathStep) (out : JobOutcome) → StepThen (Shift job) (λ o. IsJobEnd job forward zero o) steps out → IsLineStep job forward steps out
+to_line : (job : Job) (forward : Bool) (steps : List PathStep) (out : JobOutcome)
+    → StepThen (Shift job) (λ o. IsJobEnd job forward zero o) steps out → IsLineStep job forward steps out
 to_line job forward [] out p = p
 to_line job forward (Saw ask m ∷ steps) out p = p
 to_line job forward (Did a o ∷ steps) out p = p
 
-of_line : (job : Job) (forward : Bool) (steps : List PathStep) (out : JobOutcome) → IsLineStep job forward steps out → StepThen (Shift job) (λ o. IsJobEnd job forward zero o) steps out
+of_line : (job : Job) (forward : Bool) (steps : List PathStep) (out : JobOutcome) → IsLineStep job forward steps out
+    → StepThen (Shift job) (λ o. IsJobEnd job forward zero o) steps out
 of_line job forward [] out p = p
 of_line job forward (Saw ask m ∷ steps) out p = p
 of_line job forward (Did a o ∷ steps) out p = p
@@ -229,13 +259,16 @@ keeps-at_bus =
       splits = λ job note.
           splits-if (is_line job) (λ k. Then (Shift job) note (over job zero note k)) (messages (more_of job) job note)
           (IsLineStep job note.forward) (AreMessages job note.forward (more_of job))
-          (λ k steps path. same-rule (StepThen (Shift job) (λ o. IsJobEnd job note.forward zero o)) (IsLineStep job note.forward) (to_line job note.forward) k steps
-          (splits-then (Shift job) note (λ o k. over job zero note k o) (λ o. IsJobEnd job note.forward zero o) (λ o. splits-over job zero note o) k steps path))
+          (λ k steps path. same-rule (StepThen (Shift job) (λ o. IsJobEnd job note.forward zero o)) (IsLineStep job note.forward)
+          (to_line job note.forward) k steps
+          (splits-then (Shift job) note (λ o k. over job zero note k o) (λ o. IsJobEnd job note.forward zero o)
+          (λ o. splits-over job zero note o) k steps path))
           (splits-messages (more_of job) job note);
       leads = λ job note.
           leads-if (is_line job) (λ k. Then (Shift job) note (over job zero note k)) (messages (more_of job) job note)
           (IsLineStep job note.forward) (AreMessages job note.forward (more_of job))
-          (λ steps out kept k. leads-then (Shift job) note (λ o k. over job zero note k o) (λ o. IsJobEnd job note.forward zero o) (λ o. leads-over job zero note o) steps out
+          (λ steps out kept k. leads-then (Shift job) note (λ o k. over job zero note k o) (λ o. IsJobEnd job note.forward zero o)
+          (λ o. leads-over job zero note o) steps out
           (of_line job note.forward steps out kept) k)
           (leads-messages (more_of job) job note);
     }
@@ -243,15 +276,19 @@ keeps-at_bus =
 -- the locks that are freed, with one that is freed last
 freed-more : (l : LockId) (ls : List LockId)
     → map (λ (i : LockId). Some (Free i)) (reverse (l ∷ ls)) ≡ map (λ (i : LockId). Some (Free i)) (reverse ls) ++ Some (Free l) ∷ []
-freed-more l ls = ap (map (λ (i : LockId). Some (Free i))) (reverse-append (l ∷ []) ls) ∙ map_push (λ (i : LockId). Some (Free i)) (reverse ls) l
+freed-more l ls = ap (map (λ (i : LockId). Some (Free i))) (reverse-append (l ∷ []) ls)
+    ∙ map_push (λ (i : LockId). Some (Free i)) (reverse ls) l
 
 module _ (on : Doer) (rule : Rule) (keeps : Keeps on rule) where
   -- LOCKS
-  one_more : (l : LockId) (ls : List LockId) (job : Job) (note : Note) (k : JobOutcome → WalkTree) (o : ActOutcome) (a : Act) (steps : List PathStep) → a ≡ Take l
-      → Split (IsLocked ls rule job note.forward) (λ out. Then (Free l) plain (λ o2. k out)) steps → Split (IsLocked (l ∷ ls) rule job note.forward) k (Did a o ∷ steps)
+  one_more : (l : LockId) (ls : List LockId) (job : Job) (note : Note) (k : JobOutcome → WalkTree) (o : ActOutcome) (a : Act)
+      (steps : List PathStep) → a ≡ Take l
+      → Split (IsLocked ls rule job note.forward) (λ out. Then (Free l) plain (λ o2. k out)) steps
+      → Split (IsLocked (l ∷ ls) rule job note.forward) k (Did a o ∷ steps)
   one_more l ls job note k o a steps take s = by s.rest s.all s.goes_on
     where
-      by : (rest : List PathStep) → steps ≡ s.done ++ rest → IsPath rest (Then (Free l) plain (λ o2. k s.out)) Ends → Split (IsLocked (l ∷ ls) rule job note.forward) k (Did a o ∷ steps)
+      by : (rest : List PathStep) → steps ≡ s.done ++ rest → IsPath rest (Then (Free l) plain (λ o2. k s.out)) Ends
+          → Split (IsLocked (l ∷ ls) rule job note.forward) k (Did a o ∷ steps)
       by [] all path = absurd (let f : Then (Free l) plain (λ o2. k s.out) ≡ Ends = path in cc)
       by (Saw ask m ∷ rest) all path = absurd path
       by (Did free o2 ∷ rest) all path =
@@ -268,7 +305,8 @@ module _ (on : Doer) (rule : Rule) (keeps : Keeps on rule) where
                   (ap (λ (xs : List PathStep). xs ++ Did free o2 ∷ []) s.kept.all
                   ∙ append_assoc s.kept.takes (s.kept.middle ++ s.kept.frees) (Did free o2 ∷ [])
                   ∙ ap (λ (xs : List PathStep). s.kept.takes ++ xs) (append_assoc s.kept.middle s.kept.frees (Did free o2 ∷ [])));
-              taken = ap (λ (x : Act). Some x ∷ map act_of s.kept.takes) take ∙ ap (λ (xs : List (Option Act)). Some (Take l) ∷ xs) s.kept.taken;
+              taken = ap (λ (x : Act). Some x ∷ map act_of s.kept.takes) take
+                  ∙ ap (λ (xs : List (Option Act)). Some (Take l) ∷ xs) s.kept.taken;
               job_done = s.kept.job_done;
               freed = map_push act_of s.kept.frees (Did free o2)
                   ∙ ap (λ (xs : List (Option Act)). xs ++ Some free ∷ []) s.kept.freed
@@ -286,7 +324,15 @@ module _ (on : Doer) (rule : Rule) (keeps : Keeps on rule) where
         done = s.done;
         rest = s.rest;
         all = s.all;
-        kept = record { takes = []; middle = s.done; frees = []; all = sym (append-nil s.done); taken = refl; job_done = s.kept; freed = refl };
+        kept = record {
+          takes = [];
+          middle = s.done;
+          frees = [];
+          all = sym (append-nil s.done);
+          taken = refl;
+          job_done = s.kept;
+          freed = refl;
+        };
         goes_on = s.goes_on;
       }
   splits-locked (l ∷ ls) job note k [] path =
@@ -305,7 +351,15 @@ module _ (on : Doer) (rule : Rule) (keeps : Keeps on rule) where
       let take = first_step kept.takes (Take l) (map (λ (i : LockId). Some (Take i)) ls) kept.taken in
       let free = last_step kept.frees (map (λ (i : LockId). Some (Free i)) (reverse ls)) (Free l) (kept.freed ∙ freed-more l ls) in
       let inside : IsLocked ls rule job note.forward (take.1 ++ (kept.middle ++ free.0)) out =
-      record { takes = take.1; middle = kept.middle; frees = free.0; all = refl; taken = take.3; job_done = kept.job_done; freed = free.3 } in
+      record {
+        takes = take.1;
+        middle = kept.middle;
+        frees = free.0;
+        all = refl;
+        taken = take.3;
+        job_done = kept.job_done;
+        freed = free.3;
+      } in
       subst (λ (xs : List PathStep). IsPath xs (locked (l ∷ ls) on job note k) (k out))
       (sym (kept.all ∙ ap (λ (xs : List PathStep). xs ++ (kept.middle ++ kept.frees)) take.2
       ∙ ap (λ (xs : List PathStep). Did (Take l) take.0 ∷ (take.1 ++ (kept.middle ++ xs))) free.2
@@ -313,19 +367,22 @@ module _ (on : Doer) (rule : Rule) (keeps : Keeps on rule) where
       (ap (λ (xs : List PathStep). take.1 ++ xs) (sym (append_assoc kept.middle free.0 (Did (Free l) free.1 ∷ [])))
       ∙ sym (append_assoc take.1 (kept.middle ++ free.0) (Did (Free l) free.1 ∷ []))))) (
         refl,
-        path_append (take.1 ++ (kept.middle ++ free.0)) (Did (Free l) free.1 ∷ []) (locked ls on job note (λ o. Then (Free l) plain (λ o2. k o))) (Then (Free l) plain (λ o2. k out)) (k out)
+        path_append (take.1 ++ (kept.middle ++ free.0)) (Did (Free l) free.1 ∷ [])
+            (locked ls on job note (λ o. Then (Free l) plain (λ o2. k o))) (Then (Free l) plain (λ o2. k out)) (k out)
             (leads-locked ls job note (take.1 ++ (kept.middle ++ free.0)) out inside (λ o. Then (Free l) plain (λ o2. k o))) (refl, refl),
       )
 
   -- THE PARTS of a job behind a mux
-  splits-left : (stays : Bool) (h : Hop) (o : JobOutcome) (k : JobOutcome → WalkTree) (steps : List PathStep) → IsPath steps (left_behind stays h on k o) Ends
+  splits-left : (stays : Bool) (h : Hop) (o : JobOutcome) (k : JobOutcome → WalkTree) (steps : List PathStep)
+      → IsPath steps (left_behind stays h on k o) Ends
       → (done : List PathStep) × (rest : List PathStep) × (steps ≡ done ++ rest) × IsLeft stays h rule done × IsPath rest (k o) Ends
   splits-left true h o k steps path = ([], steps, refl, refl, path)
   splits-left false h o k steps path =
       let t = keeps.splits (SwitchOff (Deselect h)) (aside h) (λ x. k o) steps path in
       (t.done, t.rest, t.all, (t.out, t.kept), t.goes_on)
 
-  leads-left : (stays : Bool) (h : Hop) (o : JobOutcome) (steps : List PathStep) → IsLeft stays h rule steps → (k : JobOutcome → WalkTree) → IsPath steps (left_behind stays h on k o) (k o)
+  leads-left : (stays : Bool) (h : Hop) (o : JobOutcome) (steps : List PathStep) → IsLeft stays h rule steps → (k : JobOutcome → WalkTree)
+      → IsPath steps (left_behind stays h on k o) (k o)
   leads-left true h o steps kept k = subst (λ (xs : List PathStep). IsPath xs (k o) (k o)) (sym kept) refl
   leads-left false h o steps kept k = keeps.leads (SwitchOff (Deselect h)) (aside h) steps kept.0 kept.1 (λ x. k o)
 
@@ -349,28 +406,68 @@ module _ (on : Doer) (rule : Rule) (keeps : Keeps on rule) where
       (keeps.leads job note kept.done out kept.job_done (left_behind h.stays h on k))
       (leads-left h.stays h out kept.deselected kept.left k))
 
-  splits-if_good : (o : JobOutcome) (A : Task) (P : List PathStep → JobOutcome → Type 0) → Splits A P → Splits (λ k. if_good o (A k) k) (λ rest out. IfGood o (P rest out) rest out)
+  splits-if_good : (o : JobOutcome) (A : Task) (P : List PathStep → JobOutcome → Type 0) → Splits A P
+      → Splits (λ k. if_good o (A k) k) (λ rest out. IfGood o (P rest out) rest out)
   splits-if_good Good A P a = a
-  splits-if_good Refused A P a = λ k steps path. record { out = Unsent; done = []; rest = steps; all = refl; kept = (refl, refl); goes_on = path }
-  splits-if_good Unsent A P a = λ k steps path. record { out = Unsent; done = []; rest = steps; all = refl; kept = (refl, refl); goes_on = path }
-  splits-if_good Failed A P a = λ k steps path. record { out = Failed; done = []; rest = steps; all = refl; kept = (refl, refl); goes_on = path }
+  splits-if_good Refused A P a = λ k steps path. record {
+    out = Unsent;
+    done = [];
+    rest = steps;
+    all = refl;
+    kept = (refl, refl);
+    goes_on = path;
+  }
+  splits-if_good Unsent A P a = λ k steps path. record {
+    out = Unsent;
+    done = [];
+    rest = steps;
+    all = refl;
+    kept = (refl, refl);
+    goes_on = path;
+  }
+  splits-if_good Failed A P a = λ k steps path. record {
+    out = Failed;
+    done = [];
+    rest = steps;
+    all = refl;
+    kept = (refl, refl);
+    goes_on = path;
+  }
 
-  nothing_more : (o : JobOutcome) (rest : List PathStep) (out : JobOutcome) (k : JobOutcome → WalkTree) → (rest ≡ []) × (out ≡ o) → IsPath rest (k o) (k out)
+  nothing_more : (o : JobOutcome) (rest : List PathStep) (out : JobOutcome) (k : JobOutcome → WalkTree) → (rest ≡ []) × (out ≡ o)
+      → IsPath rest (k o) (k out)
   nothing_more o rest out k e = subst (λ (xs : List PathStep). IsPath xs (k o) (k out)) (sym e.0) (ap k (sym e.1))
 
-  leads-if_good : (o : JobOutcome) (A : Task) (P : List PathStep → JobOutcome → Type 0) → Leads A P → Leads (λ k. if_good o (A k) k) (λ rest out. IfGood o (P rest out) rest out)
+  leads-if_good : (o : JobOutcome) (A : Task) (P : List PathStep → JobOutcome → Type 0) → Leads A P
+      → Leads (λ k. if_good o (A k) k) (λ rest out. IfGood o (P rest out) rest out)
   leads-if_good Good A P a = a
   leads-if_good Refused A P a = λ steps out kept k. nothing_more Unsent steps out k kept
   leads-if_good Unsent A P a = λ steps out kept k. nothing_more Unsent steps out k kept
   leads-if_good Failed A P a = λ steps out kept k. nothing_more Failed steps out k kept
 
-  splits-if_sent : (o : JobOutcome) (A : Task) (P : List PathStep → JobOutcome → Type 0) → Splits A P → Splits (λ k. if_sent o (A k) k) (λ rest out. IfSent o (P rest out) rest out)
+  splits-if_sent : (o : JobOutcome) (A : Task) (P : List PathStep → JobOutcome → Type 0) → Splits A P
+      → Splits (λ k. if_sent o (A k) k) (λ rest out. IfSent o (P rest out) rest out)
   splits-if_sent Good A P a = a
   splits-if_sent Refused A P a = a
-  splits-if_sent Unsent A P a = λ k steps path. record { out = Unsent; done = []; rest = steps; all = refl; kept = (refl, refl); goes_on = path }
-  splits-if_sent Failed A P a = λ k steps path. record { out = Failed; done = []; rest = steps; all = refl; kept = (refl, refl); goes_on = path }
+  splits-if_sent Unsent A P a = λ k steps path. record {
+    out = Unsent;
+    done = [];
+    rest = steps;
+    all = refl;
+    kept = (refl, refl);
+    goes_on = path;
+  }
+  splits-if_sent Failed A P a = λ k steps path. record {
+    out = Failed;
+    done = [];
+    rest = steps;
+    all = refl;
+    kept = (refl, refl);
+    goes_on = path;
+  }
 
-  leads-if_sent : (o : JobOutcome) (A : Task) (P : List PathStep → JobOutcome → Type 0) → Leads A P → Leads (λ k. if_sent o (A k) k) (λ rest out. IfSent o (P rest out) rest out)
+  leads-if_sent : (o : JobOutcome) (A : Task) (P : List PathStep → JobOutcome → Type 0) → Leads A P
+      → Leads (λ k. if_sent o (A k) k) (λ rest out. IfSent o (P rest out) rest out)
   leads-if_sent Good A P a = a
   leads-if_sent Refused A P a = a
   leads-if_sent Unsent A P a = λ steps out kept k. nothing_more Unsent steps out k kept
@@ -379,7 +476,8 @@ module _ (on : Doer) (rule : Rule) (keeps : Keeps on rule) where
   splits-chosen : (h : Hop) (job : Job) (note : Note) → Splits (chosen h on job note) (IsChosen h rule job note.forward)
   splits-chosen h job note k steps path =
       let s = keeps.splits (Select h) (with_mark h.on h.mux note) (λ o. if_good o (opened h on job note k) k) steps path in
-      let t = splits-if_good s.out (opened h on job note) (IsOpened h rule job note.forward) (splits-opened h job note) k s.rest s.goes_on in
+      let t = splits-if_good s.out (opened h on job note) (IsOpened h rule job note.forward)
+      (splits-opened h job note) k s.rest s.goes_on in
       record {
         out = t.out;
         done = s.done ++ t.done;
@@ -393,18 +491,24 @@ module _ (on : Doer) (rule : Rule) (keeps : Keeps on rule) where
   leads-chosen h job note steps out kept k =
       subst (λ (xs : List PathStep). IsPath xs (chosen h on job note k) (k out)) (sym kept.all)
       (path_append kept.selected kept.rest (chosen h on job note k) (if_good kept.came (opened h on job note k) k) (k out)
-      (keeps.leads (Select h) (with_mark h.on h.mux note) kept.selected kept.came kept.select_done (λ o. if_good o (opened h on job note k) k))
-      (leads-if_good kept.came (opened h on job note) (IsOpened h rule job note.forward) (leads-opened h job note) kept.rest out kept.goes_on k))
+      (keeps.leads (Select h) (with_mark h.on h.mux note) kept.selected kept.came kept.select_done
+      (λ o. if_good o (opened h on job note k) k))
+      (leads-if_good kept.came (opened h on job note) (IsOpened h rule job note.forward)
+      (leads-opened h job note) kept.rest out kept.goes_on k))
 
   -- the second look
-  splits-crossed : (h : Hop) (m : Option ℕ) (job : Job) (note : Note) → Splits (λ k. crossed h on job note k m) (IsCrossed h rule m job note.forward)
+  splits-crossed : (h : Hop) (m : Option ℕ) (job : Job) (note : Note)
+      → Splits (λ k. crossed h on job note k m) (IsCrossed h rule m job note.forward)
   splits-crossed h m job note =
-      splits-if (grammar.keeps h m) (opened h on job note) (chosen h on job note) (IsOpened h rule job note.forward) (IsChosen h rule job note.forward)
+      splits-if (grammar.keeps h m) (opened h on job note) (chosen h on job note) (IsOpened h rule job note.forward)
+      (IsChosen h rule job note.forward)
       (splits-opened h job note) (splits-chosen h job note)
 
-  leads-crossed : (h : Hop) (m : Option ℕ) (job : Job) (note : Note) → Leads (λ k. crossed h on job note k m) (IsCrossed h rule m job note.forward)
+  leads-crossed : (h : Hop) (m : Option ℕ) (job : Job) (note : Note)
+      → Leads (λ k. crossed h on job note k m) (IsCrossed h rule m job note.forward)
   leads-crossed h m job note =
-      leads-if (grammar.keeps h m) (opened h on job note) (chosen h on job note) (IsOpened h rule job note.forward) (IsChosen h rule job note.forward)
+      leads-if (grammar.keeps h m) (opened h on job note) (chosen h on job note) (IsOpened h rule job note.forward)
+      (IsChosen h rule job note.forward)
       (leads-opened h job note) (leads-chosen h job note)
 
   abbrev passing : Hop → Job → Note → Task
@@ -453,7 +557,8 @@ module _ (on : Doer) (rule : Rule) (keeps : Keeps on rule) where
     splits-closing (Some m) k steps path =
         let s = keeps.splits (SwitchOff (Close h.on m (kind_of b m))) (with_mark h.on m note)
         (λ o. if_sent o (passing h job note k) k) steps path in
-        let t = splits-if_sent s.out (passing h job note) (IsPassed h rule job note.forward) (splits-passed h job note) k s.rest s.goes_on in
+        let t = splits-if_sent s.out (passing h job note) (IsPassed h rule job note.forward)
+        (splits-passed h job note) k s.rest s.goes_on in
         record {
           out = t.out;
           done = s.done ++ t.done;
@@ -468,12 +573,16 @@ module _ (on : Doer) (rule : Rule) (keeps : Keeps on rule) where
         subst (λ (xs : List PathStep). IsPath xs (passing h job note k) (k out))
         (sym (kept.all ∙ ap (λ (xs : List PathStep). xs ++ kept.rest) kept.close_done.0))
         (leads-passed h job note kept.rest out
-        (subst (λ (o : JobOutcome). IfSent o (IsPassed h rule job note.forward kept.rest out) kept.rest out) kept.close_done.1 kept.goes_on) k)
+        (subst (λ (o : JobOutcome). IfSent o (IsPassed h rule job note.forward kept.rest out) kept.rest out) kept.close_done.1 kept.goes_on)
+        k)
     leads-closing (Some m) steps out kept k =
         subst (λ (xs : List PathStep). IsPath xs (closing b h on note k (passing h job note k) (Some m)) (k out)) (sym kept.all)
-        (path_append kept.closed kept.rest (closing b h on note k (passing h job note k) (Some m)) (if_sent kept.came (passing h job note k) k) (k out)
-        (keeps.leads (SwitchOff (Close h.on m (kind_of b m))) (with_mark h.on m note) kept.closed kept.came kept.close_done (λ o. if_sent o (passing h job note k) k))
-        (leads-if_sent kept.came (passing h job note) (IsPassed h rule job note.forward) (leads-passed h job note) kept.rest out kept.goes_on k))
+        (path_append kept.closed kept.rest (closing b h on note k (passing h job note k) (Some m))
+        (if_sent kept.came (passing h job note k) k) (k out)
+        (keeps.leads (SwitchOff (Close h.on m (kind_of b m))) (with_mark h.on m note) kept.closed kept.came kept.close_done
+        (λ o. if_sent o (passing h job note k) k))
+        (leads-if_sent kept.came (passing h job note) (IsPassed h rule job note.forward)
+        (leads-passed h job note) kept.rest out kept.goes_on k))
 
     splits-behind : Splits (behind b h on job note) (IsBehindMux b h rule job note.forward)
     splits-behind k [] path = absurd (let f : behind b h on job note k ≡ Ends = path in cc)
@@ -502,7 +611,14 @@ module _ (on : Doer) (rule : Rule) (keeps : Keeps on rule) where
         subst (λ (xs : List PathStep). IsPath xs (behind b h on job note k) (k out)) (sym kept.all) (
           refl,
           leads-closing kept.mark (kept.closed ++ kept.rest) out
-              (record { closed = kept.closed; rest = kept.rest; came = kept.came; all = refl; close_done = kept.close_done; goes_on = kept.goes_on }) k,
+              (record {
+                closed = kept.closed;
+                rest = kept.rest;
+                came = kept.came;
+                all = refl;
+                close_done = kept.close_done;
+                goes_on = kept.goes_on;
+              }) k,
         )
 
   keeps-locked : (ls : List LockId) → Keeps (locked ls on) (IsLocked ls rule)
@@ -522,12 +638,14 @@ keeps-inner b root (h ∷ hs) =
           splits-if (is_line job) (at_bus job note) (behind b h (part h.parent (locks_of root hs) (inner b root hs)) job note)
           (AtBus job note.forward) (IsBehindMux b h (IsPart h.parent (locks_of root hs) (IsInner b root hs)) job note.forward)
           (keeps-at_bus.splits job note)
-          (splits-behind (part h.parent (locks_of root hs) (inner b root hs)) (IsPart h.parent (locks_of root hs) (IsInner b root hs)) below b h job note);
+          (splits-behind (part h.parent (locks_of root hs) (inner b root hs))
+          (IsPart h.parent (locks_of root hs) (IsInner b root hs)) below b h job note);
       leads = λ job note.
           leads-if (is_line job) (at_bus job note) (behind b h (part h.parent (locks_of root hs) (inner b root hs)) job note)
           (AtBus job note.forward) (IsBehindMux b h (IsPart h.parent (locks_of root hs) (IsInner b root hs)) job note.forward)
           (keeps-at_bus.leads job note)
-          (leads-behind (part h.parent (locks_of root hs) (inner b root hs)) (IsPart h.parent (locks_of root hs) (IsInner b root hs)) below b h job note);
+          (leads-behind (part h.parent (locks_of root hs) (inner b root hs))
+          (IsPart h.parent (locks_of root hs) (IsInner b root hs)) below b h job note);
     }
 
 pub keeps-full : (b : BoardView) (root : ℕ) (hs : List Hop) → Keeps (full b root hs) (IsFull b root hs)

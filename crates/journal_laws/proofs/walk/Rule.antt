@@ -28,7 +28,8 @@ at_end [] p = refl
 at_end (Saw ask m ∷ steps) p = absurd p
 at_end (Did a o ∷ steps) p = absurd p
 
-refused-walk : (e : Option Errno) (steps : List PathStep) → IsPath steps (Then (Settle e) plain (λ o. Ends)) Ends → map act_of steps ≡ Some (Settle e) ∷ []
+refused-walk : (e : Option Errno) (steps : List PathStep) → IsPath steps (Then (Settle e) plain (λ o. Ends)) Ends
+    → map act_of steps ≡ Some (Settle e) ∷ []
 refused-walk e [] p = absurd (let f : Then (Settle e) plain (λ o. Ends) ≡ Ends = p in cc)
 refused-walk e (Saw ask m ∷ steps) p = absurd p
 refused-walk e (Did a o ∷ steps) p =
@@ -42,7 +43,8 @@ path-walk b t steps path = by (refusal b t) path
     by None p =
         let s = (keeps-full b (root_of b t.bus) (hops b t.bus)).splits (Call t.bus (messages_of t)) plain (λ o. Ends) steps p in (
           s.out,
-          subst (λ (xs : List PathStep). Rattle.journal_laws.specs.WalkRule.IsFull b (root_of b t.bus) (hops b t.bus) (Call t.bus (messages_of t)) true xs s.out)
+          subst (λ (xs : List PathStep). Rattle.journal_laws.specs.WalkRule.IsFull b (root_of b t.bus) (hops b t.bus)
+              (Call t.bus (messages_of t)) true xs s.out)
               (sym (s.all ∙ ap (λ (xs : List PathStep). s.done ++ xs) (at_end s.rest s.goes_on) ∙ append-nil s.done)) s.kept,
         )
 
@@ -78,14 +80,16 @@ first_next (Did d o ∷ steps) (Look a next) p = absurd p
 first_next (Did d o ∷ steps) (Then act note next) p = ap Some (sym p.0)
 
 -- WHAT ENTRIES TELL. It matters what the step is, and not what it marks and what follows
-tells_act : (b : BoardView) (n : Now) (act : Act) (note : Note) (next : ActOutcome → WalkTree) (e : Entry) → Tells b n (Then act note next) e → TellsAct b n act e
+tells_act : (b : BoardView) (n : Now) (act : Act) (note : Note) (next : ActOutcome → WalkTree) (e : Entry)
+    → Tells b n (Then act note next) e → TellsAct b n act e
 tells_act b n act note next (entry.Take c l) tells = tells
 tells_act b n act note next (entry.Free c l) tells = tells
 tells_act b n act note next (entry.Message c bus purpose part parts addr reading bytes heard e) tells = tells
 tells_act b n act note next (entry.Line c mux level failed) tells = tells
 tells_act b n act note next (entry.Settle c r cut) tells = tells
 
-act_tells : (b : BoardView) (n : Now) (act : Act) (note : Note) (next : ActOutcome → WalkTree) (e : Entry) → TellsAct b n act e → Tells b n (Then act note next) e
+act_tells : (b : BoardView) (n : Now) (act : Act) (note : Note) (next : ActOutcome → WalkTree) (e : Entry) → TellsAct b n act e
+    → Tells b n (Then act note next) e
 act_tells b n act note next (entry.Take c l) tells = tells
 act_tells b n act note next (entry.Free c l) tells = tells
 act_tells b n act note next (entry.Message c bus purpose part parts addr reading bytes heard e) tells = tells
@@ -111,7 +115,8 @@ leads-told b [] w left leads = ([], sym leads, refl)
 leads-told b (s ∷ steps) w left leads =
     first_told b s steps left w leads.0 (leads-told b steps (rest_of (seen s.before.slot w) (outcome_of s.entry)) left leads.1)
 
-told-leads : (b : BoardView) (ps : List PathStep) (steps : List Step) (w left : WalkTree) → IsPath ps w left → AreTold b ps steps → Leads b w steps left
+told-leads : (b : BoardView) (ps : List PathStep) (steps : List Step) (w left : WalkTree) → IsPath ps w left → AreTold b ps steps
+    → Leads b w steps left
 told-leads b [] steps w left path told = subst (λ (ss : List Step). Leads b w ss left) (sym told) (sym path)
 told-leads b (Saw asked m ∷ ps) [] w left path told = absurd told
 told-leads b (Saw asked m ∷ ps) (s ∷ steps) Ends left path told = absurd path
@@ -133,7 +138,8 @@ module _ (b : BoardView) (asks : List Reply → Option TransferView) where
   walks-transfers rs steps (none xs) = no_more xs
   walks-transfers rs steps (whole xs t mine rest all r asked leads settles more parts) =
       let told = leads-told b mine (walk_for b t) Ends leads in
-      one_more xs t told.0 mine rest all r asked (path-walk b t told.0 told.1) told.2 settles (walks-transfers (xs ++ r ∷ []) rest more) parts
+      one_more xs t told.0 mine rest all r asked (path-walk b t told.0 told.1) told.2 settles
+      (walks-transfers (xs ++ r ∷ []) rest more) parts
   walks-transfers rs steps (front xs t mine left asked leads quiet) =
       let told = leads-told b mine (walk_for b t) left leads in
       let more = path-front b t told.0 left told.1 in
@@ -142,7 +148,8 @@ module _ (b : BoardView) (asks : List Reply → Option TransferView) where
   pub transfers-walks : (rs : List Reply) (steps : List Step) → AreTransfers b asks rs steps → AreWalks b asks rs steps
   transfers-walks rs steps (no_more xs) = none xs
   transfers-walks rs steps (one_more xs t walk mine rest all r asked keeps told settles more parts) =
-      whole xs t mine rest all r asked (told-leads b walk mine (walk_for b t) Ends (walk-path b t walk keeps) told) settles (transfers-walks (xs ++ r ∷ []) rest more) parts
+      whole xs t mine rest all r asked (told-leads b walk mine (walk_for b t) Ends (walk-path b t walk keeps) told) settles
+      (transfers-walks (xs ++ r ∷ []) rest more) parts
   transfers-walks rs steps (under_way xs t done rest mine asked keeps told quiet) =
       let way = front-path b t done rest keeps in
       front xs t mine way.0 asked (told-leads b done mine (walk_for b t) way.0 way.1 told) (ap is_due (first_next rest way.0 way.2) ∙ quiet)

@@ -78,7 +78,8 @@ only-two P p q (suc (suc c)) known = absurd (omega (arith, known))
 -- THE SCHEDULE
 abbrev pub follows_rest : List Entry → List Turn → Bool
 follows_rest past [] = true
-follows_rest past (t ∷ ts) = is_ready past (t ∷ ts) t.caller && (none_of (is_ready past (t ∷ ts)) t.caller && follows_rest (past_after past t) ts)
+follows_rest past (t ∷ ts) = is_ready past (t ∷ ts) t.caller &&
+    (none_of (is_ready past (t ∷ ts)) t.caller && follows_rest (past_after past t) ts)
 
 abbrev pub follows_words : List ℕ → List Entry → List Turn → Bool
 follows_words [] past later = follows_rest past later
@@ -89,20 +90,24 @@ follows_words (w ∷ ws) past (t ∷ ts) =
 follows-rest : (past : List Entry) (later : List Turn) → follows_rest past later ≡ true → FollowsRest past later
 follows-rest past [] e = tt
 follows-rest past (t ∷ ts) e =
-    let h = and_parts (is_ready past (t ∷ ts) t.caller) (none_of (is_ready past (t ∷ ts)) t.caller && follows_rest (past_after past t) ts) e in
+    let h = and_parts (is_ready past (t ∷ ts) t.caller)
+    (none_of (is_ready past (t ∷ ts)) t.caller && follows_rest (past_after past t) ts) e in
     let k = and_parts (none_of (is_ready past (t ∷ ts)) t.caller) (follows_rest (past_after past t) ts) h.1 in
     (h.0, none-of (is_ready past (t ∷ ts)) t.caller k.0, follows-rest (past_after past t) ts k.1)
 
-follows-words : (words : List ℕ) (past : List Entry) (later : List Turn) → follows_words words past later ≡ true → FollowsWords words past later
+follows-words : (words : List ℕ) (past : List Entry) (later : List Turn) → follows_words words past later ≡ true
+    → FollowsWords words past later
 follows-words [] past later e = follows-rest past later e
 follows-words (w ∷ ws) past [] e = follows-words ws past [] e
-follows-words (w ∷ ws) past (t ∷ ts) e = by (is_ready past (t ∷ ts) w) (follows-words ws (past_after past t) ts) (follows-words ws past (t ∷ ts)) e
+follows-words (w ∷ ws) past (t ∷ ts) e = by (is_ready past (t ∷ ts) w) (follows-words ws (past_after past t) ts)
+    (follows-words ws past (t ∷ ts)) e
   where
     by : (z : Bool) → (follows_words ws (past_after past t) ts ≡ true → FollowsWords ws (past_after past t) ts)
         → (follows_words ws past (t ∷ ts) ≡ true → FollowsWords ws past (t ∷ ts))
         → cond z (eqb t.caller w && follows_words ws (past_after past t) ts) (follows_words ws past (t ∷ ts)) ≡ true
         → MatchBool z ((t.caller ≡ w) × FollowsWords ws (past_after past t) ts) (FollowsWords ws past (t ∷ ts))
-    by true steps waits e = (let h = and_parts (eqb t.caller w) (follows_words ws (past_after past t) ts) e in (eqb-true t.caller w h.0, steps h.1))
+    by true steps waits e = (let h = and_parts (eqb t.caller w) (follows_words ws (past_after past t) ts) e in
+        (eqb-true t.caller w h.0, steps h.1))
     by false steps waits e = waits e
 
 pub follows : (words : List ℕ) (journal : List Entry) → follows_words words [] (turns journal) ≡ true → Follows words journal

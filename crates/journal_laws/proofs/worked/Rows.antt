@@ -25,8 +25,10 @@ use Rattle.journal_laws.proofs.worked.Checks.{all-below, asks-each, follows_word
 abbrev pub IsAskable : TransferView → Type 0
 IsAskable t = (0 < length t.msgs) × IsTransfer t.msgs t.out
 
-pub worked-out : (b : BoardView) → IsTree b → IsPlainBoard b → MeetsRules b → (scripts : List (List TransferView)) → AllByRecursion (AllByRecursion IsAskable) scripts
-    → (fails : Failing) (steps : List ℕ) → list_all (λ c. nat_lt c (length scripts)) steps ≡ true → (journal : List Entry) → played b (transfers_of scripts) fails steps ≡ journal
+pub worked-out : (b : BoardView) → IsTree b → IsPlainBoard b → MeetsRules b → (scripts : List (List TransferView))
+    → AllByRecursion (AllByRecursion IsAskable) scripts
+    → (fails : Failing) (steps : List ℕ) → list_all (λ c. nat_lt c (length scripts)) steps ≡ true → (journal : List Entry)
+    → played b (transfers_of scripts) fails steps ≡ journal
     → ((c : ℕ) → c < length scripts → IsDone (transfers_of scripts) (now b (transfers_of scripts) (reverse journal)) c)
     → (words : List ℕ) → follows_words words [] (turns journal) ≡ true → IsWorkedOut b scripts words journal
 worked-out b tree plain rules scripts askable fails steps known journal is done words so =
@@ -46,7 +48,9 @@ worked-out b tree plain rules scripts askable fails steps known journal is done 
     limits : AsksWithinLimits (transfers_of scripts)
     limits c rs t e = (asks-each IsAskable scripts askable c rs t e).1
 
-    made : IsStepwise b (length scripts) (transfers_of scripts) (reverse journal) × ((now b (transfers_of scripts) (reverse journal)).due ≡ None)
+    made : IsStepwise b (length scripts) (transfers_of scripts) (reverse journal)
+        × ((now b (transfers_of scripts) (reverse journal)).due ≡ None)
     made =
-        subst (λ (es : List Entry). IsStepwise b (length scripts) (transfers_of scripts) (reverse es) × ((now b (transfers_of scripts) (reverse es)).due ≡ None)) is
+        subst (λ (es : List Entry). IsStepwise b (length scripts) (transfers_of scripts) (reverse es)
+        × ((now b (transfers_of scripts) (reverse es)).due ≡ None)) is
         (played-steps b tree plain lines (transfers_of scripts) some (length scripts) fails steps (all-below (length scripts) steps known))

@@ -19,7 +19,8 @@ loop-bus-preserved c =
     let bus = c.loop-bus.bus in
     let same : board_of c.layout-layout.result ≡ b = c.layout-layout.ensures.value ∙ c.board.ensures.value in
     let plain : IsPlainBoard b = subst IsPlainBoard c.board.ensures.value c.layout-layout.ensures.plain in
-    let deep : c.len.result ≡ depth b bus = c.len.ensures.value ∙ ap length c.hops.ensures ∙ ap (λ (x : BoardView). length (hops x bus)) same in
+    let deep : c.len.result ≡ depth b bus = c.len.ensures.value ∙ ap length c.hops.ensures
+    ∙ ap (λ (x : BoardView). length (hops x bus)) same in
     let few : c.len.result ≤ 4 = subst (λ (n : ℕ). n ≤ 4) (sym deep) (hops_few b bus plain c.board.ensures.rules) in
     let items = c.push_reserved.ensures.items in
     let so_far : length xs ≡ bus = at.so_far in

@@ -13,15 +13,21 @@ pub returns-clause-core : goal.returns-clause-core
 returns-clause-core g c =
     let b = c.args.board.now in
     let plain : IsPlainBoard b = subst IsPlainBoard c.board.ensures.value c.roots.ensures.plain in
-    let seated : AreSeated g.C.Caller b (roots_of c.args.ports.items) c.args.callers.items (length c.args.callers.items) c.in_ok-seats.seats.items c.in_ok-seats.places.items =
-    subst (λ (xs : List _). AreSeated g.C.Caller b (roots_of xs) c.args.callers.items (length c.args.callers.items) c.in_ok-seats.seats.items c.in_ok-seats.places.items)
+    let seated : AreSeated g.C.Caller b (roots_of c.args.ports.items) c.args.callers.items
+    (length c.args.callers.items) c.in_ok-seats.seats.items c.in_ok-seats.places.items =
+    subst (λ (xs : List _). AreSeated g.C.Caller b (roots_of xs) c.args.callers.items
+    (length c.args.callers.items) c.in_ok-seats.seats.items c.in_ok-seats.places.items)
     c.as_slice-2.ensures.value c.in_ok-seats.ensures in
-    let roots : length c.roots.result.now ≡ length b.roots = ap length c.roots.ensures.value ∙ ap (λ (x : BoardView). length x.roots) c.board.ensures.value in
-    let muxes : length c.muxes.result.now ≡ length b.muxes = ap length c.muxes.ensures.value ∙ ap (λ (x : BoardView). length x.muxes) c.board-2.ensures.value in
+    let roots : length c.roots.result.now ≡ length b.roots = ap length c.roots.ensures.value
+    ∙ ap (λ (x : BoardView). length x.roots) c.board.ensures.value in
+    let muxes : length c.muxes.result.now ≡ length b.muxes = ap length c.muxes.ensures.value
+    ∙ ap (λ (x : BoardView). length x.muxes) c.board-2.ensures.value in
     let locks : c.in_ok-locks.locks ≡ opened c.in_ok-depths.depths.items (length b.roots) (length b.muxes) =
     c.in_ok-locks.ensures ∙ ap (λ (ds : List ℕ). opened ds (length c.roots.result.now) (length c.muxes.result.now)) c.as_slice.ensures.value
-    ∙ ap (λ (n : ℕ). opened c.in_ok-depths.depths.items n (length c.muxes.result.now)) roots ∙ ap (opened c.in_ok-depths.depths.items (length b.roots)) muxes in
-    opened-core g.P.Port g.C.Caller _ c.args.callers.items c.args.limit c.requires plain c.board.ensures.rules seated c.in_ok-depths.depths.items c.in_ok-depths.ensures.are locks c.in_ok-journal.ensures
+    ∙ ap (λ (n : ℕ). opened c.in_ok-depths.depths.items n (length c.muxes.result.now)) roots
+    ∙ ap (opened c.in_ok-depths.depths.items (length b.roots)) muxes in
+    opened-core g.P.Port g.C.Caller _ c.args.callers.items c.args.limit c.requires plain c.board.ensures.rules seated
+    c.in_ok-depths.depths.items c.in_ok-depths.ensures.are locks c.in_ok-journal.ensures
 
 pub returns-clause-opened : goal.returns-clause-opened
 returns-clause-opened g c =
@@ -30,7 +36,9 @@ returns-clause-opened g c =
       board = refl;
       ports_are = refl;
       start = search rules;
-      scripts = seated-all g.C.Caller b (roots_of c.as_slice-2.result.now) c.args.callers.items c.in_ok-seats.seats.items c.in_ok-seats.places.items c.in_ok-seats.ensures;
+      scripts = seated-all g.C.Caller b
+          (roots_of c.as_slice-2.result.now) c.args.callers.items c.in_ok-seats.seats.items c.in_ok-seats.places.items
+          c.in_ok-seats.ensures;
       entries = ap (λ (j : JournalView). j.entries) c.in_ok-journal.ensures;
       room = ap (λ (j : JournalView). j.room) c.in_ok-journal.ensures;
     }

@@ -26,7 +26,8 @@ returns g c =
     let script : script_of new.caller ≡ script_of c.args.caller = ap script_of caller ∙ c.reserve.ensures.script in
     let taken : taken_of new.caller ≡ taken_of c.args.caller = ap taken_of caller ∙ c.reserve.ensures.taken in
     let old : asks c.resting-seat.result.caller ≡ asks c.args.caller =
-    ap asks (sym kept) ∙ ap (λ s. g.C.Caller.asked s (taken_of new.caller)) script ∙ ap (g.C.Caller.asked (script_of c.args.caller)) taken in
+    ap asks (sym kept) ∙ ap (λ s. g.C.Caller.asked s (taken_of new.caller)) script
+    ∙ ap (g.C.Caller.asked (script_of c.args.caller)) taken in
     record {
       number_is = ap (λ (t : Seat g.row.C.Denot). t.number) same ∙ c.resting-seat.ensures.number;
       script = script;
@@ -46,7 +47,8 @@ returns g c =
             within = omega (arith, sent);
             plugged = λ on bus. c.load.ensures.plugged
                 (asks_or_not (asks c.args.caller) _
-                (λ t is. subst (λ (x : TransferView). HasRoot (roots_of c.args.ports.now) (root_of c.args.board.now x.bus)) (sym (c.load.ensures.some t (old ∙ is)).0)
+                (λ t is. subst (λ (x : TransferView). HasRoot (roots_of c.args.ports.now) (root_of c.args.board.now x.bus))
+                (sym (c.load.ensures.some t (old ∙ is)).0)
                 (wired t is (subst (λ (x : TransferView). x.bus < buses c.args.board.now) (c.load.ensures.some t (old ∙ is)).0 bus)))
                 (λ none. absurd (let f : true ≡ false = sym (c.load.ensures.none (old ∙ none)) ∙ on in cc)))
                 bus on;
@@ -55,8 +57,10 @@ returns g c =
                 (λ t is.
                 let first = c.load.ensures.some t (old ∙ is) in
                 subst (λ (w : WalkTree). (new.transfer.bus < buses c.args.board.now) ⊎ IsLone c.args.board.now w) (sym first.1)
-                (subst (λ (x : TransferView). (x.bus < buses c.args.board.now) ⊎ IsLone c.args.board.now (walk_for c.args.board.now t)) (sym first.0) (there-for c.args.board.now t)))
+                (subst (λ (x : TransferView). (x.bus < buses c.args.board.now) ⊎ IsLone c.args.board.now (walk_for c.args.board.now t))
+                (sym first.0) (there-for c.args.board.now t)))
                 (λ none. absurd (let f : true ≡ false = sym (c.load.ensures.none (old ∙ none)) ∙ on in cc));
-            spare = subst (λ (k : g.row.C.Denot). Covers (g.C.Caller.spare k) (g.C.Caller.owed (script_of k) (taken_of k))) (sym caller) c.in_ok-reserve.ensures.ok;
+            spare = subst (λ (k : g.row.C.Denot). Covers (g.C.Caller.spare k) (g.C.Caller.owed (script_of k) (taken_of k)))
+                (sym caller) c.in_ok-reserve.ensures.ok;
           };
     }

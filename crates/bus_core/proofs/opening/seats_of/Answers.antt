@@ -13,7 +13,9 @@ pub loop-number-init : goal.loop-number-init
 loop-number-init g c =
     let gives = c.into_iter-number-iterator.ensures.into_iter_gives in
     record {
-      seated = seated-none g.C.Caller c.args.board.now (roots_of c.args.ports.now) c.args.callers.items c.in_ok-seats.seats.items c.in_ok-places.places.items c.in_ok-seats.ensures.items c.in_ok-places.ensures;
+      seated = seated-none g.C.Caller c.args.board.now
+          (roots_of c.args.ports.now) c.args.callers.items c.in_ok-seats.seats.items c.in_ok-places.places.items c.in_ok-seats.ensures.items
+          c.in_ok-places.ensures;
       goes = gives.0;
       rest = gives.1 ∙ c.args.callers.ok.0 ∙ sym (ap length gives.0);
       room = search rules;
@@ -28,8 +30,10 @@ overflow_cast-len g c =
     let at = c.loop-number.invariant in
     let x : ℕ × g.row.C.Denot = (c.in-Some.number, c.in-Some.caller) in
     let steps : into_iter_items c.loop-number.number-iterator ≡ x ∷ into_iter_items c.next.new.self = c.in-Some.ensures.steps.0 in
-    let here = turn c.loop-number.yielded c.args.callers.items (into_iter_items c.next.new.self) x (ap (λ (xs : List (ℕ × g.row.C.Denot)). c.loop-number.yielded ++ xs) (sym steps) ∙ at.goes) in
-    let low = room-for-one g.C.Caller c.args.board.now (roots_of c.args.ports.now) c.args.callers.items (length c.loop-number.yielded) c.loop-number.seats.items c.loop-number.places.items at.seated
+    let here = turn c.loop-number.yielded c.args.callers.items (into_iter_items c.next.new.self) x
+    (ap (λ (xs : List (ℕ × g.row.C.Denot)). c.loop-number.yielded ++ xs) (sym steps) ∙ at.goes) in
+    let low = room-for-one g.C.Caller c.args.board.now (roots_of c.args.ports.now) c.args.callers.items
+    (length c.loop-number.yielded) c.loop-number.seats.items c.loop-number.places.items at.seated
     c.requires.distinct x here (c.requires.below (length c.loop-number.yielded) x here) in
     let len : vec_len c.loop-number.seats ≡ length c.loop-number.seats.items = c.loop-number.seats.ok.0 in
     let place : c.len-in-loop-number.result ≡ length c.loop-number.yielded = c.len-in-loop-number.ensures ∙ len ∙ at.seated.counted in
@@ -40,7 +44,8 @@ index_mut-requires g c =
     let at = c.loop-number.invariant in
     let x : ℕ × g.row.C.Denot = (c.in-Some.number, c.in-Some.caller) in
     let steps : into_iter_items c.loop-number.number-iterator ≡ x ∷ into_iter_items c.next.new.self = c.in-Some.ensures.steps.0 in
-    let here = turn c.loop-number.yielded c.args.callers.items (into_iter_items c.next.new.self) x (ap (λ (xs : List (ℕ × g.row.C.Denot)). c.loop-number.yielded ++ xs) (sym steps) ∙ at.goes) in
+    let here = turn c.loop-number.yielded c.args.callers.items (into_iter_items c.next.new.self) x
+    (ap (λ (xs : List (ℕ × g.row.C.Denot)). c.loop-number.yielded ++ xs) (sym steps) ∙ at.goes) in
     let low : c.in-Some.number < MOST_CALLERS = c.requires.below (length c.loop-number.yielded) x here in
     let all : length c.loop-number.places.items ≡ MOST_CALLERS = at.seated.all in
     let len : vec_len c.loop-number.places ≡ length c.loop-number.places.items = c.loop-number.places.ok.0 in
@@ -53,7 +58,8 @@ push_reserved-requires g c =
     let x : ℕ × g.row.C.Denot = (c.in-Some.number, c.in-Some.caller) in
     let steps : into_iter_items c.loop-number.number-iterator ≡ x ∷ into_iter_items c.next.new.self = c.in-Some.ensures.steps.0 in
     let count : length c.loop-number.yielded + length (x ∷ into_iter_items c.next.new.self) ≡ length c.args.callers.items =
-    sym (length-append c.loop-number.yielded (x ∷ into_iter_items c.next.new.self)) ∙ ap length (ap (λ (xs : List (ℕ × g.row.C.Denot)). c.loop-number.yielded ++ xs) (sym steps) ∙ at.goes) in
+    sym (length-append c.loop-number.yielded (x ∷ into_iter_items c.next.new.self))
+    ∙ ap length (ap (λ (xs : List (ℕ × g.row.C.Denot)). c.loop-number.yielded ++ xs) (sym steps) ∙ at.goes) in
     let seats : length c.loop-number.seats.items ≡ length c.loop-number.yielded = at.seated.counted in
     let len : vec_len c.loop-number.seats ≡ length c.loop-number.seats.items = c.loop-number.seats.ok.0 in
     let room : length c.args.callers.items ≤ vec_capacity c.loop-number.seats = at.room in
@@ -72,17 +78,23 @@ loop-number-preserved g c =
     let place : c.len-in-loop-number.result ≡ length yielded = c.len-in-loop-number.ensures ∙ len ∙ at.seated.counted in
     let is : c.from.result ≡ c.in-Some.number = c.from.ensures in
     let places = set c.loop-number.places.items c.in-Some.number (Some (length yielded)) in
-    let more = seated-one g.C.Caller c.args.board.now (roots_of c.args.ports.now) c.args.callers.items (length yielded) c.loop-number.seats.items c.loop-number.places.items at.seated
+    let more = seated-one g.C.Caller c.args.board.now (roots_of c.args.ports.now) c.args.callers.items
+    (length yielded) c.loop-number.seats.items c.loop-number.places.items at.seated
     c.requires.distinct x here (c.requires.below (length yielded) x here) c.in_ok-seat.seat c.in_ok-seat.ensures in
     let noted : places ≡ set c.loop-number.places.items c.from.result (Some c.len-in-loop-number.result) =
-    ap (λ (n : ℕ). set c.loop-number.places.items n (Some (length yielded))) (sym is) ∙ ap (λ (n : ℕ). set c.loop-number.places.items c.from.result (Some n)) (sym place) in
+    ap (λ (n : ℕ). set c.loop-number.places.items n (Some (length yielded))) (sym is)
+    ∙ ap (λ (n : ℕ). set c.loop-number.places.items c.from.result (Some n)) (sym place) in
     let more_len : into_iter_len c.next.new.self + 1 ≡ into_iter_len c.loop-number.number-iterator = c.in-Some.ensures.steps.1 in
     let was_len : into_iter_len c.loop-number.number-iterator ≡ length (x ∷ rest) = at.rest ∙ ap length steps in
     record {
-      seated = subst (λ (n : ℕ). AreSeated g.C.Caller c.args.board.now (roots_of c.args.ports.now) c.args.callers.items n c.push_reserved.new.self.items (set c.loop-number.places.items c.from.result (Some c.len-in-loop-number.result)))
+      seated = subst (λ (n : ℕ). AreSeated g.C.Caller c.args.board.now
+          (roots_of c.args.ports.now) c.args.callers.items n c.push_reserved.new.self.items
+          (set c.loop-number.places.items c.from.result (Some c.len-in-loop-number.result)))
           (sym (length-append yielded (x ∷ [])))
-          (subst (λ (ps : List (Option ℕ)). AreSeated g.C.Caller c.args.board.now (roots_of c.args.ports.now) c.args.callers.items (length yielded + 1) c.push_reserved.new.self.items ps) noted
-          (subst (λ (ss : List (Seat g.row.C.Denot)). AreSeated g.C.Caller c.args.board.now (roots_of c.args.ports.now) c.args.callers.items (length yielded + 1) ss places) (sym c.push_reserved.ensures.items) more));
+          (subst (λ (ps : List (Option ℕ)). AreSeated g.C.Caller c.args.board.now (roots_of c.args.ports.now) c.args.callers.items
+          (length yielded + 1) c.push_reserved.new.self.items ps) noted
+          (subst (λ (ss : List (Seat g.row.C.Denot)). AreSeated g.C.Caller c.args.board.now (roots_of c.args.ports.now) c.args.callers.items
+          (length yielded + 1) ss places) (sym c.push_reserved.ensures.items) more));
       goes = append_assoc yielded (x ∷ []) rest ∙ goes;
       rest = omega (arith, more_len, was_len);
       room = subst (λ (n : ℕ). length c.args.callers.items ≤ n) (sym c.push_reserved.ensures.capacity) at.room;
@@ -96,4 +108,5 @@ returns g c =
     sym (length-append c.loop-number.yielded (into_iter_items c.loop-number.number-iterator)) ∙ ap length at.goes in
     let rest = at.rest in
     let all : length c.loop-number.yielded ≡ length c.args.callers.items = omega (arith, none, count, rest) in
-    subst (λ (n : ℕ). AreSeated g.C.Caller c.args.board.now (roots_of c.args.ports.now) c.args.callers.items n c.loop-number.seats.items c.loop-number.places.items) all at.seated
+    subst (λ (n : ℕ). AreSeated g.C.Caller c.args.board.now
+    (roots_of c.args.ports.now) c.args.callers.items n c.loop-number.seats.items c.loop-number.places.items) all at.seated

@@ -13,7 +13,8 @@ pub loop-number-init : goal.loop-number-init
 loop-number-init g c = record { same = refl; before = λ m q low at. absurd (omega (arith, low)) }
 
 pub advance-requires-clause-core : goal.advance-requires-clause-core
-advance-requires-clause-core g c κs within = subst (λ (y : CoreParts _ _). IsCore g.P.Port g.C.Caller y) (sym c.loop-number.invariant.same) c.requires.core
+advance-requires-clause-core g c κs within = subst (λ (y : CoreParts _ _). IsCore g.P.Port g.C.Caller y)
+    (sym c.loop-number.invariant.same) c.requires.core
 
 pub advance-requires-clause-has : goal.advance-requires-clause-has
 advance-requires-clause-has g c κs within = c.is_through.ensures.there c.if-not-is_through.true
@@ -27,7 +28,8 @@ returns-then-advance-clause-made g c is =
       place = there.place;
       at = ap (λ (y : CoreParts _ _). slice_get y.places.items c.loop-number.number) (sym same) ∙ there.at;
       before = c.loop-number.invariant.before;
-      made = subst (λ (y : CoreParts _ _). HasMade g.P.Port g.C.Caller c.loop-number.number y c.advance.new.parts) same (c.advance.ensures.made c.if-advance.true);
+      made = subst (λ (y : CoreParts _ _). HasMade g.P.Port g.C.Caller c.loop-number.number y c.advance.new.parts) same
+          (c.advance.ensures.made c.if-advance.true);
     }
 
 pub loop-number-preserved : goal.loop-number-preserved
@@ -37,16 +39,20 @@ loop-number-preserved g c =
     let same = c.loop-number.invariant.same in
     record {
       same = elim c.else-not-is_through.branch [
-        | else-not-is_through-via-then-not-is_through+else-advance w ↦ w.parts-is ∙ (w.advance.ensures.waited w.if-advance.false).same ∙ same
+        | else-not-is_through-via-then-not-is_through+else-advance w ↦ w.parts-is ∙ (w.advance.ensures.waited w.if-advance.false).same
+            ∙ same
         | else-not-is_through-via-else-not-is_through w ↦ w.parts-is ∙ same
       ];
       before = λ m q below at.
           elim (eqb_tells m c.loop-number.number) [
             | inl e ↦ (let here : slice_get now.places.items c.loop-number.number ≡ Some (Some q) =
-                ap (λ (y : CoreParts _ _). slice_get y.places.items c.loop-number.number) same ∙ ap (slice_get x.places.items) (sym e.1) ∙ at in
+                ap (λ (y : CoreParts _ _). slice_get y.places.items c.loop-number.number) same ∙ ap (slice_get x.places.items) (sym e.1)
+                ∙ at in
                 elim c.else-not-is_through.branch [
-                  | else-not-is_through-via-then-not-is_through+else-advance w ↦ subst (λ (y : CoreParts _ _). IsHeldUpAt y q) same (w.advance.ensures.held_up w.if-advance.false q here)
-                  | else-not-is_through-via-else-not-is_through w ↦ subst (λ (y : CoreParts _ _). IsHeldUpAt y q) same (c.is_through.ensures.through w.if-not-is_through.false q here)
+                  | else-not-is_through-via-then-not-is_through+else-advance w ↦ subst (λ (y : CoreParts _ _). IsHeldUpAt y q) same
+                      (w.advance.ensures.held_up w.if-advance.false q here)
+                  | else-not-is_through-via-else-not-is_through w ↦ subst (λ (y : CoreParts _ _). IsHeldUpAt y q) same
+                      (c.is_through.ensures.through w.if-not-is_through.false q here)
                 ])
             | inr e ↦ c.loop-number.invariant.before m q (omega (arith, below, e.1)) at
           ];

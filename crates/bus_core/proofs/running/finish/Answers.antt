@@ -26,12 +26,14 @@ steps-preserved g c =
       core = c.advance_least.ensures.core;
       come = come-then g.P.Port g.C.Caller c.args.parts.now x new was.come least.made.come;
       keeps = λ words keeps. least-keeps g.P.Port g.C.Caller x was.core least.caller new least.made
-          (λ ws old plain rules some steps due t turn before kept. c.a_loop_follows.ensures.least x.board.now MOST_CALLERS (asks_in g.C.Caller x) ws old plain rules some steps due t turn before kept)
+          (λ ws old plain rules some steps due t turn before kept. c.a_loop_follows.ensures.least x.board.now MOST_CALLERS
+          (asks_in g.C.Caller x) ws old plain rules some steps due t turn before kept)
           least.place least.at least.before words (was.keeps words keeps);
     }
 
 pub returns-clause-come : goal.returns-clause-come
-returns-clause-come g c = subst (λ (y : CoreParts _ _). HasCome g.P.Port g.C.Caller c.args.parts.now y) (sym (c.advance_least.ensures.none c.steps-test.false).0) c.steps.invariant.come
+returns-clause-come g c = subst (λ (y : CoreParts _ _). HasCome g.P.Port g.C.Caller c.args.parts.now y)
+    (sym (c.advance_least.ensures.none c.steps-test.false).0) c.steps.invariant.come
 
 pub returns-clause-through : goal.returns-clause-through
 returns-clause-through g c =
@@ -41,4 +43,5 @@ returns-clause-through g c =
 
 pub returns-clause-keeps : goal.returns-clause-keeps
 returns-clause-keeps g c words keeps =
-    subst (λ (y : CoreParts _ _). KeepsSchedule g.P.Port g.C.Caller words [] y) (sym (c.advance_least.ensures.none c.steps-test.false).0) (c.steps.invariant.keeps words keeps)
+    subst (λ (y : CoreParts _ _). KeepsSchedule g.P.Port g.C.Caller words [] y) (sym (c.advance_least.ensures.none c.steps-test.false).0)
+    (c.steps.invariant.keeps words keeps)

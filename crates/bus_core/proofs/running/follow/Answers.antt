@@ -19,7 +19,8 @@ loop-place-init g c =
       end_is = refl;
       core = c.requires.core;
       come = come-refl g.P.Port g.C.Caller x;
-      keeps = λ empty tell. subst (λ (es : List Entry). KeepsTo x.board.now MOST_CALLERS (asks_in g.C.Caller x) c.args.words.now c.args.words.now (reverse es)) (sym empty)
+      keeps = λ empty tell. subst (λ (es : List Entry). KeepsTo x.board.now MOST_CALLERS
+          (asks_in g.C.Caller x) c.args.words.now c.args.words.now (reverse es)) (sym empty)
           (c.a_loop_follows.ensures.whole x.board.now MOST_CALLERS (asks_in g.C.Caller x) c.args.words.now);
     }
 
@@ -36,11 +37,16 @@ loop-place-preserved g c =
     let w = get_or words c.loop-place.place 0 in
     let was = c.loop-place.invariant in
     let next = drop-next words c.loop-place.place c.loop-place-test.true in
-    let both : HasCome g.P.Port g.C.Caller x new × ((empty : c.args.parts.now.journal.entries ≡ []) → KeepsSchedule g.P.Port g.C.Caller words (drop (c.loop-place.place + 1) words) new) =
+    let both : HasCome g.P.Port g.C.Caller x new
+    × ((empty : c.args.parts.now.journal.entries ≡ [])
+    → KeepsSchedule g.P.Port g.C.Caller words (drop (c.loop-place.place + 1) words) new) =
     stepped-or-waited g.P.Port g.C.Caller x was.core
-    (λ ws old plain rules some steps due t turn left kept. c.a_loop_follows.ensures.made x.board.now MOST_CALLERS (asks_in g.C.Caller x) ws old plain rules some steps due t turn left kept)
-    (λ ws old plain rules some steps k stuck left kept. c.a_loop_follows.ensures.passed x.board.now MOST_CALLERS (asks_in g.C.Caller x) ws old plain rules some steps k stuck left kept)
-    w new c.advance.result c.advance.ensures.made c.advance.ensures.waited (c.args.parts.now.journal.entries ≡ []) words (drop (c.loop-place.place + 1) words)
+    (λ ws old plain rules some steps due t turn left kept. c.a_loop_follows.ensures.made x.board.now MOST_CALLERS
+    (asks_in g.C.Caller x) ws old plain rules some steps due t turn left kept)
+    (λ ws old plain rules some steps k stuck left kept. c.a_loop_follows.ensures.passed x.board.now MOST_CALLERS
+    (asks_in g.C.Caller x) ws old plain rules some steps k stuck left kept)
+    w new c.advance.result c.advance.ensures.made c.advance.ensures.waited (c.args.parts.now.journal.entries ≡ []) words
+    (drop (c.loop-place.place + 1) words)
     (λ empty. subst (λ (ws : List ℕ). KeepsSchedule g.P.Port g.C.Caller words ws x) next (was.keeps empty)) in
     record {
       end_is = was.end_is;
@@ -58,9 +64,12 @@ returns g c =
       come = come-then g.P.Port g.C.Caller c.args.parts.now x c.finish.new.parts was.come c.finish.ensures.come;
       through = c.finish.ensures.through;
       follows = λ tell empty.
-          let left : drop c.loop-place.place c.args.words.now ≡ [] = drop-all c.args.words.now c.loop-place.place (omega (arith, was.end_is, c.loop-place-test.false)) in
+          let left : drop c.loop-place.place c.args.words.now ≡ [] = drop-all c.args.words.now c.loop-place.place
+          (omega (arith, was.end_is, c.loop-place-test.false)) in
           let new = c.finish.new.parts in
           subst (λ (es : List Entry). Follows c.args.words.now es) (reverse-reverse new.journal.entries)
           (c.a_loop_follows.ensures.end new.board.now MOST_CALLERS (asks_in g.C.Caller new) c.args.words.now (reverse new.journal.entries)
-          (c.finish.ensures.keeps c.args.words.now (λ t. subst (λ (ws : List ℕ). KeepsTo x.board.now MOST_CALLERS (asks_in g.C.Caller x) c.args.words.now ws (reverse x.journal.entries)) left (was.keeps empty t)) tell));
+          (c.finish.ensures.keeps c.args.words.now
+          (λ t. subst (λ (ws : List ℕ). KeepsTo x.board.now MOST_CALLERS (asks_in g.C.Caller x) c.args.words.now ws
+          (reverse x.journal.entries)) left (was.keeps empty t)) tell));
     }

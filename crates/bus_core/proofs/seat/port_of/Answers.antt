@@ -25,6 +25,7 @@ loop-place-preserved g c =
 pub returns : goal.returns
 returns g c =
     λ has.
-    let low : has.place < length (roots_of c.args.ports.now) = slice_get_within (roots_of c.args.ports.now) has.place c.args.root has.here in
+    let low : has.place < length (roots_of c.args.ports.now) = slice_get_within
+    (roots_of c.args.ports.now) has.place c.args.root has.here in
     let n : length (roots_of c.args.ports.now) ≡ length c.args.ports.now = length-map c.args.ports.now _ in
     absurd (c.loop-place.invariant.before has.place (omega (arith, low, n, c.loop-place-test.false)) has.here)

@@ -22,7 +22,9 @@ free_done-requires-after_bounds g c κs within =
     (free-may g.P.Port g.C.Caller x c.requires.kept c.args.place next.seat next.here c.args.lock.now next.next))
 
 pub push-requires-clause-room : goal.push-requires-clause-room
-push-requires-clause-room g c = free-room g.P.Port g.C.Caller c.args.parts.now c.requires.kept c.args.place c.requires.next.seat c.requires.next.here c.args.lock.now c.requires.next.next
+push-requires-clause-room g c =
+    free-room g.P.Port g.C.Caller c.args.parts.now c.requires.kept c.args.place c.requires.next.seat c.requires.next.here c.args.lock.now
+    c.requires.next.next
 
 pub free-requires : goal.free-requires
 free-requires g c =
@@ -32,10 +34,15 @@ free-requires g c =
     let freed : HasFreed g.C.Caller x.board.now x.locks (roots_of x.ports.items) s c.free_done.new.self =
     subst (λ (y : Seat _). HasFreed g.C.Caller x.board.now x.locks (roots_of x.ports.items) y c.free_done.new.self)
     (read_here x.seats.items c.args.place s c.index_mut-seat.result.now here c.index_mut-seat.ensures.value)
-    (subst (λ (ps : List _). HasFreed g.C.Caller x.board.now x.locks (roots_of ps) c.index_mut-seat.result.now c.free_done.new.self) c.as_slice.ensures.value c.free_done.ensures) in
-    let number : c.free_done.new.self.number ≡ s.number = freed-number g.P.Port g.C.Caller x c.requires.kept c.args.place s here c.args.lock.now c.requires.next.next c.free_done.new.self freed in
-    let wants = free-wants (run_of g.P.Port g.C.Caller x) (whole_of g.P.Port g.C.Caller x c.requires.kept.held c.requires.kept.owes) c.requires.kept.kept c.args.place
-    (place_of g.C.Caller x.board.now s) (place-here g.P.Port g.C.Caller x c.requires.kept c.args.place s here) c.args.lock.now c.requires.next.next in
+    (subst (λ (ps : List _). HasFreed g.C.Caller x.board.now x.locks (roots_of ps) c.index_mut-seat.result.now c.free_done.new.self)
+    c.as_slice.ensures.value c.free_done.ensures) in
+    let number : c.free_done.new.self.number ≡ s.number =
+    freed-number g.P.Port g.C.Caller x c.requires.kept c.args.place s here c.args.lock.now c.requires.next.next c.free_done.new.self
+    freed in
+    let wants = free-wants (run_of g.P.Port g.C.Caller x)
+    (whole_of g.P.Port g.C.Caller x c.requires.kept.held c.requires.kept.owes) c.requires.kept.kept c.args.place
+    (place_of g.C.Caller x.board.now s)
+    (place-here g.P.Port g.C.Caller x c.requires.kept c.args.place s here) c.args.lock.now c.requires.next.next in
     record {
       there = wants.0;
       caller = subst (λ (n : ℕ). n < MOST_CALLERS) (sym number) (number-small g.P.Port g.C.Caller x c.requires.kept c.args.place s here);
@@ -51,9 +58,12 @@ returns g c =
     let freed : HasFreed g.C.Caller x.board.now x.locks (roots_of x.ports.items) s t =
     subst (λ (y : Seat _). HasFreed g.C.Caller x.board.now x.locks (roots_of x.ports.items) y t)
     (read_here x.seats.items c.args.place s c.index_mut-seat.result.now here c.index_mut-seat.ensures.value)
-    (subst (λ (ps : List _). HasFreed g.C.Caller x.board.now x.locks (roots_of ps) c.index_mut-seat.result.now t) c.as_slice.ensures.value c.free_done.ensures) in
-    let number : t.number ≡ s.number = freed-number g.P.Port g.C.Caller x c.requires.kept c.args.place s here c.args.lock.now c.requires.next.next t freed in
+    (subst (λ (ps : List _). HasFreed g.C.Caller x.board.now x.locks (roots_of ps) c.index_mut-seat.result.now t) c.as_slice.ensures.value
+    c.free_done.ensures) in
+    let number : t.number ≡ s.number =
+    freed-number g.P.Port g.C.Caller x c.requires.kept c.args.place s here c.args.lock.now c.requires.next.next t freed in
     let entries = c.push.ensures.entries ∙ ap (λ (n : ℕ). x.journal.entries ++ entry.Free n c.args.lock.now ∷ []) number in
     let bytes : c.push.new.self.room_bytes ≡ x.journal.room_bytes = (let b = c.push.ensures.room_bytes in omega (arith, b)) in
-    let both = free-kept g.P.Port g.C.Caller x c.requires.kept c.args.place s here c.args.lock.now c.requires.next.next _ t refl refl freed c.free.ensures refl entries c.push.ensures.room bytes refl refl in
+    let both = free-kept g.P.Port g.C.Caller x c.requires.kept c.args.place s here c.args.lock.now c.requires.next.next _ t refl refl freed
+    c.free.ensures refl entries c.push.ensures.room bytes refl refl in
     record { kept = both.0; stepped = both.1 }

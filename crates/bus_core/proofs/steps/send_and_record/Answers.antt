@@ -30,7 +30,8 @@ cursor-cursor-requires g c =
     let old = c.index_mut-seat.result.now in
     let is = read_here x.seats.items c.args.place need.comes.seat old need.comes.here c.index_mut-seat.ensures.value in
     let here = need.comes.here ∙ ap Some (sym is) in
-    let first = subst (λ (y : Seat _). next_of x.locks (walk_left x.board.now y) ≡ Some (Send need.job need.left)) (sym is) need.comes.next in
+    let first = subst (λ (y : Seat _). next_of x.locks (walk_left x.board.now y) ≡ Some (Send need.job need.left))
+    (sym is) need.comes.next in
     let speak = may-speak g.P.Port g.C.Caller x c.requires.kept c.args.place old here need.job need.left c.args.next.now first need.of in
     record { on_bus = speak.on_bus; more = speak.more; wrote = speak.wrote }
 
@@ -41,9 +42,15 @@ index_mut-requires g c =
     let old = c.index_mut-seat.result.now in
     let is = read_here x.seats.items c.args.place need.comes.seat old need.comes.here c.index_mut-seat.ensures.value in
     let here = need.comes.here ∙ ap Some (sym is) in
-    let first = subst (λ (y : Seat _). next_of x.locks (walk_left x.board.now y) ≡ Some (Send need.job need.left)) (sym is) need.comes.next in
+    let first = subst (λ (y : Seat _). next_of x.locks (walk_left x.board.now y) ≡ Some (Send need.job need.left))
+    (sym is) need.comes.next in
     let speak = may-speak g.P.Port g.C.Caller x c.requires.kept c.args.place old here need.job need.left c.args.next.now first need.of in
-    omega (arith, slice_get_within (root_ports g.P.Port x.ports.items) old.port speak.socket speak.here, length-map x.ports.items (root_port g.P.Port))
+    omega (
+      arith,
+      slice_get_within (root_ports g.P.Port x.ports.items) old.port speak.socket speak.here,
+      length-map x.ports.items
+          (root_port g.P.Port),
+    )
 
 pub send_next-msg-requires-clause-may : goal.send_next-msg-requires-clause-may
 send_next-msg-requires-clause-may g c κs within root =
@@ -52,12 +59,15 @@ send_next-msg-requires-clause-may g c κs within root =
     let old = c.index_mut-seat.result.now in
     let is = read_here x.seats.items c.args.place need.comes.seat old need.comes.here c.index_mut-seat.ensures.value in
     let here = need.comes.here ∙ ap Some (sym is) in
-    let first = subst (λ (y : Seat _). next_of x.locks (walk_left x.board.now y) ≡ Some (Send need.job need.left)) (sym is) need.comes.next in
+    let first = subst (λ (y : Seat _). next_of x.locks (walk_left x.board.now y) ≡ Some (Send need.job need.left))
+    (sym is) need.comes.next in
     let speak = may-speak g.P.Port g.C.Caller x c.requires.kept c.args.place old here need.job need.left c.args.next.now first need.of in
     let q = c.index_mut.result.now in
-    let at : speak.socket ≡ root_port g.P.Port q = socket-is g.P.Port x.ports.items old.port q c.index_mut.ensures.value speak.socket speak.here in
+    let at : speak.socket ≡ root_port g.P.Port q =
+    socket-is g.P.Port x.ports.items old.port q c.index_mut.ensures.value speak.socket speak.here in
     let may = subst (λ (y : RootPort). MaySend x.board.now g.P.Port.tells old.transfer old.sent c.args.next.now y) at speak.may in
-    subst (λ (k : CursorView). MaySend x.board.now g.P.Port.tells k.transfer k.sent c.args.next.now (root_port g.P.Port (root, q.1))) (sym c.cursor-cursor.ensures.value)
+    subst (λ (k : CursorView). MaySend x.board.now g.P.Port.tells k.transfer k.sent c.args.next.now (root_port g.P.Port (root, q.1)))
+    (sym c.cursor-cursor.ensures.value)
     (record { start = may.start; room = may.room })
 
 pub push-requires-clause-room : goal.push-requires-clause-room
@@ -67,7 +77,8 @@ push-requires-clause-room g c =
     let old = c.index_mut-seat.result.now in
     let is = read_here x.seats.items c.args.place need.comes.seat old need.comes.here c.index_mut-seat.ensures.value in
     let here = need.comes.here ∙ ap Some (sym is) in
-    let first = subst (λ (y : Seat _). next_of x.locks (walk_left x.board.now y) ≡ Some (Send need.job need.left)) (sym is) need.comes.next in
+    let first = subst (λ (y : Seat _). next_of x.locks (walk_left x.board.now y) ≡ Some (Send need.job need.left))
+    (sym is) need.comes.next in
     message-room g.P.Port g.C.Caller x c.requires.kept c.args.place old here need.job need.left c.args.next.now first need.of
 
 pub push-requires-clause-room_bytes : goal.push-requires-clause-room_bytes
@@ -77,19 +88,25 @@ push-requires-clause-room_bytes g c =
     let old = c.index_mut-seat.result.now in
     let is = read_here x.seats.items c.args.place need.comes.seat old need.comes.here c.index_mut-seat.ensures.value in
     let here = need.comes.here ∙ ap Some (sym is) in
-    let first = subst (λ (y : Seat _). next_of x.locks (walk_left x.board.now y) ≡ Some (Send need.job need.left)) (sym is) need.comes.next in
+    let first = subst (λ (y : Seat _). next_of x.locks (walk_left x.board.now y) ≡ Some (Send need.job need.left))
+    (sym is) need.comes.next in
     let speak = may-speak g.P.Port g.C.Caller x c.requires.kept c.args.place old here need.job need.left c.args.next.now first need.of in
     let q = c.index_mut.result.now in
     let out = c.send_next-msg.result in
     let bytes = c.as_slice-bytes.result.now in
-    let sent : NextSent x.board.now g.P.Port.tells old.transfer old.sent c.args.next.now (root_port g.P.Port q) (root_port g.P.Port (q.0, c.send_next-msg.new.port)) bytes out =
-    subst (λ (ys : List ℕ). NextSent x.board.now g.P.Port.tells old.transfer old.sent c.args.next.now (root_port g.P.Port q) (root_port g.P.Port (q.0, c.send_next-msg.new.port)) ys out) (sym c.as_slice-bytes.ensures.value)
-    (subst (λ (k : CursorView). NextSent x.board.now g.P.Port.tells k.transfer k.sent c.args.next.now (root_port g.P.Port q) (root_port g.P.Port (q.0, c.send_next-msg.new.port)) c.send_next-msg.new.bytes out) c.cursor-cursor.ensures.value
+    let sent : NextSent x.board.now g.P.Port.tells old.transfer old.sent c.args.next.now (root_port g.P.Port q)
+    (root_port g.P.Port (q.0, c.send_next-msg.new.port)) bytes out =
+    subst (λ (ys : List ℕ). NextSent x.board.now g.P.Port.tells old.transfer old.sent c.args.next.now (root_port g.P.Port q)
+    (root_port g.P.Port (q.0, c.send_next-msg.new.port)) ys out) (sym c.as_slice-bytes.ensures.value)
+    (subst (λ (k : CursorView). NextSent x.board.now g.P.Port.tells k.transfer k.sent c.args.next.now (root_port g.P.Port q)
+    (root_port g.P.Port (q.0, c.send_next-msg.new.port)) c.send_next-msg.new.bytes out) c.cursor-cursor.ensures.value
     (c.send_next-msg.ensures q.0)) in
     let said : HasSpoken x.board.now g.P.Port.tells c.args.next.now (root_ports g.P.Port x.ports.items) _ bytes out old =
-    spoken-at g.P.Port x.board.now c.args.next.now x.ports.items old speak.socket speak.here q c.index_mut.ensures.value c.send_next-msg.new.port bytes out sent c.cursor-cursor.ensures.whole in
+    spoken-at g.P.Port x.board.now c.args.next.now x.ports.items old speak.socket speak.here q c.index_mut.ensures.value
+    c.send_next-msg.new.port bytes out sent c.cursor-cursor.ensures.whole in
     subst (λ (ys : List ℕ). length ys ≤ x.journal.room_bytes) (sym c.message_entry.ensures.bytes)
-    (message-bytes g.P.Port g.C.Caller x c.requires.kept c.args.place old here need.job need.left c.args.next.now first need.of _ bytes out said)
+    (message-bytes g.P.Port g.C.Caller x c.requires.kept c.args.place old here need.job need.left c.args.next.now first need.of _ bytes out
+    said)
 
 pub message_done-requires : goal.message_done-requires
 message_done-requires g c =
@@ -98,17 +115,22 @@ message_done-requires g c =
     let old = c.index_mut-seat.result.now in
     let is = read_here x.seats.items c.args.place need.comes.seat old need.comes.here c.index_mut-seat.ensures.value in
     let here = need.comes.here ∙ ap Some (sym is) in
-    let first = subst (λ (y : Seat _). next_of x.locks (walk_left x.board.now y) ≡ Some (Send need.job need.left)) (sym is) need.comes.next in
+    let first = subst (λ (y : Seat _). next_of x.locks (walk_left x.board.now y) ≡ Some (Send need.job need.left))
+    (sym is) need.comes.next in
     let speak = may-speak g.P.Port g.C.Caller x c.requires.kept c.args.place old here need.job need.left c.args.next.now first need.of in
     let q = c.index_mut.result.now in
     let out = c.send_next-msg.result in
     let bytes = c.as_slice-bytes.result.now in
-    let sent : NextSent x.board.now g.P.Port.tells old.transfer old.sent c.args.next.now (root_port g.P.Port q) (root_port g.P.Port (q.0, c.send_next-msg.new.port)) bytes out =
-    subst (λ (ys : List ℕ). NextSent x.board.now g.P.Port.tells old.transfer old.sent c.args.next.now (root_port g.P.Port q) (root_port g.P.Port (q.0, c.send_next-msg.new.port)) ys out) (sym c.as_slice-bytes.ensures.value)
-    (subst (λ (k : CursorView). NextSent x.board.now g.P.Port.tells k.transfer k.sent c.args.next.now (root_port g.P.Port q) (root_port g.P.Port (q.0, c.send_next-msg.new.port)) c.send_next-msg.new.bytes out) c.cursor-cursor.ensures.value
+    let sent : NextSent x.board.now g.P.Port.tells old.transfer old.sent c.args.next.now (root_port g.P.Port q)
+    (root_port g.P.Port (q.0, c.send_next-msg.new.port)) bytes out =
+    subst (λ (ys : List ℕ). NextSent x.board.now g.P.Port.tells old.transfer old.sent c.args.next.now (root_port g.P.Port q)
+    (root_port g.P.Port (q.0, c.send_next-msg.new.port)) ys out) (sym c.as_slice-bytes.ensures.value)
+    (subst (λ (k : CursorView). NextSent x.board.now g.P.Port.tells k.transfer k.sent c.args.next.now (root_port g.P.Port q)
+    (root_port g.P.Port (q.0, c.send_next-msg.new.port)) c.send_next-msg.new.bytes out) c.cursor-cursor.ensures.value
     (c.send_next-msg.ensures q.0)) in
     let said : HasSpoken x.board.now g.P.Port.tells c.args.next.now (root_ports g.P.Port x.ports.items) _ bytes out old =
-    spoken-at g.P.Port x.board.now c.args.next.now x.ports.items old speak.socket speak.here q c.index_mut.ensures.value c.send_next-msg.new.port bytes out sent c.cursor-cursor.ensures.whole in
+    spoken-at g.P.Port x.board.now c.args.next.now x.ports.items old speak.socket speak.here q c.index_mut.ensures.value
+    c.send_next-msg.new.port bytes out sent c.cursor-cursor.ensures.whole in
     may-hear g.P.Port g.C.Caller x c.requires.kept c.args.place old here need.job need.left c.args.next.now first need.of _ bytes out said
 
 pub set_marks-requires : goal.set_marks-requires
@@ -118,25 +140,32 @@ set_marks-requires g c =
     let old = c.index_mut-seat.result.now in
     let is = read_here x.seats.items c.args.place need.comes.seat old need.comes.here c.index_mut-seat.ensures.value in
     let here = need.comes.here ∙ ap Some (sym is) in
-    let first = subst (λ (y : Seat _). next_of x.locks (walk_left x.board.now y) ≡ Some (Send need.job need.left)) (sym is) need.comes.next in
+    let first = subst (λ (y : Seat _). next_of x.locks (walk_left x.board.now y) ≡ Some (Send need.job need.left))
+    (sym is) need.comes.next in
     let speak = may-speak g.P.Port g.C.Caller x c.requires.kept c.args.place old here need.job need.left c.args.next.now first need.of in
     let q = c.index_mut.result.now in
     let out = c.send_next-msg.result in
     let bytes = c.as_slice-bytes.result.now in
-    let sent : NextSent x.board.now g.P.Port.tells old.transfer old.sent c.args.next.now (root_port g.P.Port q) (root_port g.P.Port (q.0, c.send_next-msg.new.port)) bytes out =
-    subst (λ (ys : List ℕ). NextSent x.board.now g.P.Port.tells old.transfer old.sent c.args.next.now (root_port g.P.Port q) (root_port g.P.Port (q.0, c.send_next-msg.new.port)) ys out) (sym c.as_slice-bytes.ensures.value)
-    (subst (λ (k : CursorView). NextSent x.board.now g.P.Port.tells k.transfer k.sent c.args.next.now (root_port g.P.Port q) (root_port g.P.Port (q.0, c.send_next-msg.new.port)) c.send_next-msg.new.bytes out) c.cursor-cursor.ensures.value
+    let sent : NextSent x.board.now g.P.Port.tells old.transfer old.sent c.args.next.now (root_port g.P.Port q)
+    (root_port g.P.Port (q.0, c.send_next-msg.new.port)) bytes out =
+    subst (λ (ys : List ℕ). NextSent x.board.now g.P.Port.tells old.transfer old.sent c.args.next.now (root_port g.P.Port q)
+    (root_port g.P.Port (q.0, c.send_next-msg.new.port)) ys out) (sym c.as_slice-bytes.ensures.value)
+    (subst (λ (k : CursorView). NextSent x.board.now g.P.Port.tells k.transfer k.sent c.args.next.now (root_port g.P.Port q)
+    (root_port g.P.Port (q.0, c.send_next-msg.new.port)) c.send_next-msg.new.bytes out) c.cursor-cursor.ensures.value
     (c.send_next-msg.ensures q.0)) in
     let said : HasSpoken x.board.now g.P.Port.tells c.args.next.now (root_ports g.P.Port x.ports.items) _ bytes out old =
-    spoken-at g.P.Port x.board.now c.args.next.now x.ports.items old speak.socket speak.here q c.index_mut.ensures.value c.send_next-msg.new.port bytes out sent c.cursor-cursor.ensures.whole in
+    spoken-at g.P.Port x.board.now c.args.next.now x.ports.items old speak.socket speak.here q c.index_mut.ensures.value
+    c.send_next-msg.new.port bytes out sent c.cursor-cursor.ensures.whole in
     let t = c.message_done.new.self in
     let number : t.number ≡ old.number = ap (λ (y : Seat _). y.number) c.message_done.ensures.heard.same in
-    let updates : c.as_slice.result.now ≡ updates_of x.board.now x.locks (walk.Sent out.end bytes) old = c.as_slice.ensures.value ∙ c.message_done.ensures.updates in
+    let updates : c.as_slice.result.now ≡ updates_of x.board.now x.locks (walk.Sent out.end bytes) old = c.as_slice.ensures.value
+    ∙ c.message_done.ensures.updates in
     record {
       caller = subst (λ (n : ℕ). n < MOST_CALLERS) (sym number) (number-small g.P.Port g.C.Caller x c.requires.kept c.args.place old here);
       held = subst (λ (n : ℕ). AreHeld x.locks n c.as_slice.result.now) (sym number)
           (subst (λ (ds : List MuxUpdate). AreHeld x.locks old.number ds) (sym updates)
-          (updates-own g.P.Port g.C.Caller x c.requires.kept c.args.place old here need.job need.left c.args.next.now first need.of _ bytes out said));
+          (updates-own g.P.Port g.C.Caller x c.requires.kept c.args.place old here need.job need.left c.args.next.now first need.of _ bytes
+          out said));
     }
 
 pub settle-requires : goal.settle-requires
@@ -146,27 +175,35 @@ settle-requires g c =
     let old = c.index_mut-seat.result.now in
     let is = read_here x.seats.items c.args.place need.comes.seat old need.comes.here c.index_mut-seat.ensures.value in
     let here = need.comes.here ∙ ap Some (sym is) in
-    let first = subst (λ (y : Seat _). next_of x.locks (walk_left x.board.now y) ≡ Some (Send need.job need.left)) (sym is) need.comes.next in
+    let first = subst (λ (y : Seat _). next_of x.locks (walk_left x.board.now y) ≡ Some (Send need.job need.left))
+    (sym is) need.comes.next in
     let speak = may-speak g.P.Port g.C.Caller x c.requires.kept c.args.place old here need.job need.left c.args.next.now first need.of in
     let q = c.index_mut.result.now in
     let out = c.send_next-msg.result in
     let bytes = c.as_slice-bytes.result.now in
-    let sent : NextSent x.board.now g.P.Port.tells old.transfer old.sent c.args.next.now (root_port g.P.Port q) (root_port g.P.Port (q.0, c.send_next-msg.new.port)) bytes out =
-    subst (λ (ys : List ℕ). NextSent x.board.now g.P.Port.tells old.transfer old.sent c.args.next.now (root_port g.P.Port q) (root_port g.P.Port (q.0, c.send_next-msg.new.port)) ys out) (sym c.as_slice-bytes.ensures.value)
-    (subst (λ (k : CursorView). NextSent x.board.now g.P.Port.tells k.transfer k.sent c.args.next.now (root_port g.P.Port q) (root_port g.P.Port (q.0, c.send_next-msg.new.port)) c.send_next-msg.new.bytes out) c.cursor-cursor.ensures.value
+    let sent : NextSent x.board.now g.P.Port.tells old.transfer old.sent c.args.next.now (root_port g.P.Port q)
+    (root_port g.P.Port (q.0, c.send_next-msg.new.port)) bytes out =
+    subst (λ (ys : List ℕ). NextSent x.board.now g.P.Port.tells old.transfer old.sent c.args.next.now (root_port g.P.Port q)
+    (root_port g.P.Port (q.0, c.send_next-msg.new.port)) ys out) (sym c.as_slice-bytes.ensures.value)
+    (subst (λ (k : CursorView). NextSent x.board.now g.P.Port.tells k.transfer k.sent c.args.next.now (root_port g.P.Port q)
+    (root_port g.P.Port (q.0, c.send_next-msg.new.port)) c.send_next-msg.new.bytes out) c.cursor-cursor.ensures.value
     (c.send_next-msg.ensures q.0)) in
     let said : HasSpoken x.board.now g.P.Port.tells c.args.next.now (root_ports g.P.Port x.ports.items) _ bytes out old =
-    spoken-at g.P.Port x.board.now c.args.next.now x.ports.items old speak.socket speak.here q c.index_mut.ensures.value c.send_next-msg.new.port bytes out sent c.cursor-cursor.ensures.whole in
+    spoken-at g.P.Port x.board.now c.args.next.now x.ports.items old speak.socket speak.here q c.index_mut.ensures.value
+    c.send_next-msg.new.port bytes out sent c.cursor-cursor.ensures.whole in
     let t = c.message_done.new.self in
     let number : t.number ≡ old.number = ap (λ (y : Seat _). y.number) c.message_done.ensures.heard.same in
-    let updates : c.as_slice.result.now ≡ updates_of x.board.now x.locks (walk.Sent out.end bytes) old = c.as_slice.ensures.value ∙ c.message_done.ensures.updates in
-    let locks : c.set_marks.new.locks ≡ turned_to x.locks (words_after (updates_of x.board.now x.locks (walk.Sent out.end bytes) old) (seen_of x.locks)) =
+    let updates : c.as_slice.result.now ≡ updates_of x.board.now x.locks (walk.Sent out.end bytes) old = c.as_slice.ensures.value
+    ∙ c.message_done.ensures.updates in
+    let locks : c.set_marks.new.locks ≡ turned_to x.locks
+    (words_after (updates_of x.board.now x.locks (walk.Sent out.end bytes) old) (seen_of x.locks)) =
     c.set_marks.ensures ∙ ap (λ (ds : List MuxUpdate). turned_to x.locks (words_after ds (seen_of x.locks))) updates in
     let entries = c.push.ensures.entries ∙ ap (λ (e : Entry). x.journal.entries ++ e ∷ []) c.message_entry.ensures.seen in
     let room_bytes : c.push.new.self.room_bytes + length bytes ≡ x.journal.room_bytes =
     ap (λ (ys : List ℕ). c.push.new.self.room_bytes + length ys) (sym c.message_entry.ensures.bytes) ∙ c.push.ensures.room_bytes in
     subst (λ (v : LocksView). MaySettle x.board.now v c.push.new.self t) (sym locks)
-    (may-settle g.P.Port g.C.Caller x c.requires.kept c.args.place old here need.job need.left c.args.next.now first need.of _ bytes out said t c.message_done.ensures.heard
+    (may-settle g.P.Port g.C.Caller x c.requires.kept c.args.place old here need.job need.left c.args.next.now first need.of _ bytes out
+    said t c.message_done.ensures.heard
     c.push.new.self entries c.push.ensures.room room_bytes)
 
 pub returns : goal.returns
@@ -176,27 +213,42 @@ returns g c =
     let old = c.index_mut-seat.result.now in
     let is = read_here x.seats.items c.args.place need.comes.seat old need.comes.here c.index_mut-seat.ensures.value in
     let here = need.comes.here ∙ ap Some (sym is) in
-    let first = subst (λ (y : Seat _). next_of x.locks (walk_left x.board.now y) ≡ Some (Send need.job need.left)) (sym is) need.comes.next in
+    let first = subst (λ (y : Seat _). next_of x.locks (walk_left x.board.now y) ≡ Some (Send need.job need.left))
+    (sym is) need.comes.next in
     let speak = may-speak g.P.Port g.C.Caller x c.requires.kept c.args.place old here need.job need.left c.args.next.now first need.of in
     let q = c.index_mut.result.now in
     let out = c.send_next-msg.result in
     let bytes = c.as_slice-bytes.result.now in
-    let sent : NextSent x.board.now g.P.Port.tells old.transfer old.sent c.args.next.now (root_port g.P.Port q) (root_port g.P.Port (q.0, c.send_next-msg.new.port)) bytes out =
-    subst (λ (ys : List ℕ). NextSent x.board.now g.P.Port.tells old.transfer old.sent c.args.next.now (root_port g.P.Port q) (root_port g.P.Port (q.0, c.send_next-msg.new.port)) ys out) (sym c.as_slice-bytes.ensures.value)
-    (subst (λ (k : CursorView). NextSent x.board.now g.P.Port.tells k.transfer k.sent c.args.next.now (root_port g.P.Port q) (root_port g.P.Port (q.0, c.send_next-msg.new.port)) c.send_next-msg.new.bytes out) c.cursor-cursor.ensures.value
+    let sent : NextSent x.board.now g.P.Port.tells old.transfer old.sent c.args.next.now (root_port g.P.Port q)
+    (root_port g.P.Port (q.0, c.send_next-msg.new.port)) bytes out =
+    subst (λ (ys : List ℕ). NextSent x.board.now g.P.Port.tells old.transfer old.sent c.args.next.now (root_port g.P.Port q)
+    (root_port g.P.Port (q.0, c.send_next-msg.new.port)) ys out) (sym c.as_slice-bytes.ensures.value)
+    (subst (λ (k : CursorView). NextSent x.board.now g.P.Port.tells k.transfer k.sent c.args.next.now (root_port g.P.Port q)
+    (root_port g.P.Port (q.0, c.send_next-msg.new.port)) c.send_next-msg.new.bytes out) c.cursor-cursor.ensures.value
     (c.send_next-msg.ensures q.0)) in
     let said : HasSpoken x.board.now g.P.Port.tells c.args.next.now (root_ports g.P.Port x.ports.items) _ bytes out old =
-    spoken-at g.P.Port x.board.now c.args.next.now x.ports.items old speak.socket speak.here q c.index_mut.ensures.value c.send_next-msg.new.port bytes out sent c.cursor-cursor.ensures.whole in
+    spoken-at g.P.Port x.board.now c.args.next.now x.ports.items old speak.socket speak.here q c.index_mut.ensures.value
+    c.send_next-msg.new.port bytes out sent c.cursor-cursor.ensures.whole in
     let t = c.message_done.new.self in
     let number : t.number ≡ old.number = ap (λ (y : Seat _). y.number) c.message_done.ensures.heard.same in
-    let updates : c.as_slice.result.now ≡ updates_of x.board.now x.locks (walk.Sent out.end bytes) old = c.as_slice.ensures.value ∙ c.message_done.ensures.updates in
-    let locks : c.set_marks.new.locks ≡ turned_to x.locks (words_after (updates_of x.board.now x.locks (walk.Sent out.end bytes) old) (seen_of x.locks)) =
+    let updates : c.as_slice.result.now ≡ updates_of x.board.now x.locks (walk.Sent out.end bytes) old = c.as_slice.ensures.value
+    ∙ c.message_done.ensures.updates in
+    let locks : c.set_marks.new.locks ≡ turned_to x.locks
+    (words_after (updates_of x.board.now x.locks (walk.Sent out.end bytes) old) (seen_of x.locks)) =
     c.set_marks.ensures ∙ ap (λ (ds : List MuxUpdate). turned_to x.locks (words_after ds (seen_of x.locks))) updates in
     let entries = c.push.ensures.entries ∙ ap (λ (e : Entry). x.journal.entries ++ e ∷ []) c.message_entry.ensures.seen in
     let room_bytes : c.push.new.self.room_bytes + length bytes ≡ x.journal.room_bytes =
     ap (λ (ys : List ℕ). c.push.new.self.room_bytes + length ys) (sym c.message_entry.ensures.bytes) ∙ c.push.ensures.room_bytes in
-    let all = conversed g.P.Port g.C.Caller x c.requires.kept c.args.place old here need.job need.left c.args.next.now first need.of _ bytes out said t c.message_done.ensures.heard
+    let all = conversed g.P.Port g.C.Caller x c.requires.kept c.args.place old here need.job need.left c.args.next.now first need.of _ bytes
+    out said t c.message_done.ensures.heard
     c.push.new.self entries c.push.ensures.room room_bytes
-    (record x { ports = _; seats = _; locks = c.set_marks.new.locks; journal = c.settle.new.journal; bytes = c.send_next-msg.new.bytes; updates = c.settle.new.updates }) refl locks refl refl refl
+    (record x {
+      ports = _;
+      seats = _;
+      locks = c.set_marks.new.locks;
+      journal = c.settle.new.journal;
+      bytes = c.send_next-msg.new.bytes;
+      updates = c.settle.new.updates;
+    }) refl locks refl refl refl
     c.settle.new.self refl c.settle.result c.settle.ensures.settled c.settle.ensures.none c.settle.ensures.stays in
     record { kept = all.0; stepped = all.1 }

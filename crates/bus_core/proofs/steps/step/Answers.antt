@@ -34,17 +34,26 @@ returns-in-Done-clause-finished g c is =
     let x = c.args.parts.now in
     let s = there x.seats.items c.args.place c.requires.there in
     let read = read_here x.seats.items c.args.place s.0 c.index.result.now s.1 c.index.ensures in
-    let comes : c.next-next.result ≡ action_of (next_of x.locks (walk_left x.board.now s.0)) = c.next-next.ensures.first ∙ ap (λ (y : Seat _). action_of (next_of x.locks (walk_left x.board.now y))) read in
-    (refl, record { seat = s.0; here = s.1; over = subst (λ (y : Seat _). is_over (walk_left x.board.now y) ≡ true) read (c.next-next.ensures.over c.in-Done.is) })
+    let comes : c.next-next.result ≡ action_of (next_of x.locks (walk_left x.board.now s.0)) = c.next-next.ensures.first
+    ∙ ap (λ (y : Seat _). action_of (next_of x.locks (walk_left x.board.now y))) read in (
+      refl,
+      record {
+        seat = s.0;
+        here = s.1;
+        over = subst (λ (y : Seat _). is_over (walk_left x.board.now y) ≡ true) read (c.next-next.ensures.over c.in-Done.is);
+      },
+    )
 
 pub holder-requires : goal.holder-requires
 holder-requires g c =
     let x = c.args.parts.now in
     let s = there x.seats.items c.args.place c.requires.there in
     let read = read_here x.seats.items c.args.place s.0 c.index.result.now s.1 c.index.ensures in
-    let comes : c.next-next.result ≡ action_of (next_of x.locks (walk_left x.board.now s.0)) = c.next-next.ensures.first ∙ ap (λ (y : Seat _). action_of (next_of x.locks (walk_left x.board.now y))) read in
+    let comes : c.next-next.result ≡ action_of (next_of x.locks (walk_left x.board.now s.0)) = c.next-next.ensures.first
+    ∙ ap (λ (y : Seat _). action_of (next_of x.locks (walk_left x.board.now y))) read in
     let first = take-of (next_of x.locks (walk_left x.board.now s.0)) c.in-Take.lock (sym comes ∙ c.in-Take.is) in
-    (take-wants (run_of g.P.Port g.C.Caller x) (whole_of g.P.Port g.C.Caller x c.requires.kept.held c.requires.kept.owes) c.requires.kept.kept c.args.place
+    (take-wants (run_of g.P.Port g.C.Caller x)
+    (whole_of g.P.Port g.C.Caller x c.requires.kept.held c.requires.kept.owes) c.requires.kept.kept c.args.place
     (place_of g.C.Caller x.board.now s.0) (place-here g.P.Port g.C.Caller x c.requires.kept c.args.place s.0 s.1) c.in-Take.lock first).0
 
 pub returns-in-Some-clause-blocked : goal.returns-in-Some-clause-blocked
@@ -52,7 +61,8 @@ returns-in-Some-clause-blocked g c l h e =
     let x = c.args.parts.now in
     let s = there x.seats.items c.args.place c.requires.there in
     let read = read_here x.seats.items c.args.place s.0 c.index.result.now s.1 c.index.ensures in
-    let comes : c.next-next.result ≡ action_of (next_of x.locks (walk_left x.board.now s.0)) = c.next-next.ensures.first ∙ ap (λ (y : Seat _). action_of (next_of x.locks (walk_left x.board.now y))) read in
+    let comes : c.next-next.result ≡ action_of (next_of x.locks (walk_left x.board.now s.0)) = c.next-next.ensures.first
+    ∙ ap (λ (y : Seat _). action_of (next_of x.locks (walk_left x.board.now y))) read in
     let lock : c.in-Take.lock ≡ l = (let f : answer.Blocked c.in-Take.lock c.in-Some.holder ≡ answer.Blocked l h = e in cc) in
     let who : c.in-Some.holder ≡ h = (let f : answer.Blocked c.in-Take.lock c.in-Some.holder ≡ answer.Blocked l h = e in cc) in
     let first = take-of (next_of x.locks (walk_left x.board.now s.0)) c.in-Take.lock (sym comes ∙ c.in-Take.is) in (
@@ -68,23 +78,34 @@ take-requires-clause-next g c κs within =
     let x = c.args.parts.now in
     let s = there x.seats.items c.args.place c.requires.there in
     let read = read_here x.seats.items c.args.place s.0 c.index.result.now s.1 c.index.ensures in
-    let comes : c.next-next.result ≡ action_of (next_of x.locks (walk_left x.board.now s.0)) = c.next-next.ensures.first ∙ ap (λ (y : Seat _). action_of (next_of x.locks (walk_left x.board.now y))) read in
-    record { seat = s.0; here = s.1; next = take-of (next_of x.locks (walk_left x.board.now s.0)) c.in-Take.lock (sym comes ∙ c.in-Take.is) }
+    let comes : c.next-next.result ≡ action_of (next_of x.locks (walk_left x.board.now s.0)) = c.next-next.ensures.first
+    ∙ ap (λ (y : Seat _). action_of (next_of x.locks (walk_left x.board.now y))) read in
+    record {
+      seat = s.0;
+      here = s.1;
+      next = take-of (next_of x.locks (walk_left x.board.now s.0)) c.in-Take.lock (sym comes ∙ c.in-Take.is);
+    }
 
 pub free-requires-clause-next : goal.free-requires-clause-next
 free-requires-clause-next g c κs within =
     let x = c.args.parts.now in
     let s = there x.seats.items c.args.place c.requires.there in
     let read = read_here x.seats.items c.args.place s.0 c.index.result.now s.1 c.index.ensures in
-    let comes : c.next-next.result ≡ action_of (next_of x.locks (walk_left x.board.now s.0)) = c.next-next.ensures.first ∙ ap (λ (y : Seat _). action_of (next_of x.locks (walk_left x.board.now y))) read in
-    record { seat = s.0; here = s.1; next = free-of (next_of x.locks (walk_left x.board.now s.0)) c.in-Free.lock (sym comes ∙ c.in-Free.is) }
+    let comes : c.next-next.result ≡ action_of (next_of x.locks (walk_left x.board.now s.0)) = c.next-next.ensures.first
+    ∙ ap (λ (y : Seat _). action_of (next_of x.locks (walk_left x.board.now y))) read in
+    record {
+      seat = s.0;
+      here = s.1;
+      next = free-of (next_of x.locks (walk_left x.board.now s.0)) c.in-Free.lock (sym comes ∙ c.in-Free.is);
+    }
 
 pub send_and_record-requires-clause-next : goal.send_and_record-requires-clause-next
 send_and_record-requires-clause-next g c κs within =
     let x = c.args.parts.now in
     let s = there x.seats.items c.args.place c.requires.there in
     let read = read_here x.seats.items c.args.place s.0 c.index.result.now s.1 c.index.ensures in
-    let comes : c.next-next.result ≡ action_of (next_of x.locks (walk_left x.board.now s.0)) = c.next-next.ensures.first ∙ ap (λ (y : Seat _). action_of (next_of x.locks (walk_left x.board.now y))) read in
+    let comes : c.next-next.result ≡ action_of (next_of x.locks (walk_left x.board.now s.0)) = c.next-next.ensures.first
+    ∙ ap (λ (y : Seat _). action_of (next_of x.locks (walk_left x.board.now y))) read in
     let sends = send-of (next_of x.locks (walk_left x.board.now s.0)) _ (sym comes ∙ c.in-Send.is) in
     record { job = sends.0; left = sends.1; comes = record { seat = s.0; here = s.1; next = sends.2 }; of = sends.3 }
 
@@ -93,7 +114,8 @@ switch-requires-clause-next g c κs within =
     let x = c.args.parts.now in
     let s = there x.seats.items c.args.place c.requires.there in
     let read = read_here x.seats.items c.args.place s.0 c.index.result.now s.1 c.index.ensures in
-    let comes : c.next-next.result ≡ action_of (next_of x.locks (walk_left x.board.now s.0)) = c.next-next.ensures.first ∙ ap (λ (y : Seat _). action_of (next_of x.locks (walk_left x.board.now y))) read in
+    let comes : c.next-next.result ≡ action_of (next_of x.locks (walk_left x.board.now s.0)) = c.next-next.ensures.first
+    ∙ ap (λ (y : Seat _). action_of (next_of x.locks (walk_left x.board.now y))) read in
     let shifts = line-of (next_of x.locks (walk_left x.board.now s.0)) c.in-Line.mux c.in-Line.level (sym comes ∙ c.in-Line.is) in
     record { job = shifts.0; comes = record { seat = s.0; here = s.1; next = shifts.1 }; of_mux = shifts.2; to_level = shifts.3 }
 
@@ -102,19 +124,28 @@ refuse-requires-clause-next g c κs within =
     let x = c.args.parts.now in
     let s = there x.seats.items c.args.place c.requires.there in
     let read = read_here x.seats.items c.args.place s.0 c.index.result.now s.1 c.index.ensures in
-    let comes : c.next-next.result ≡ action_of (next_of x.locks (walk_left x.board.now s.0)) = c.next-next.ensures.first ∙ ap (λ (y : Seat _). action_of (next_of x.locks (walk_left x.board.now y))) read in
-    record { seat = s.0; here = s.1; next = settle-of (next_of x.locks (walk_left x.board.now s.0)) c.in-Settle.verdict (sym comes ∙ c.in-Settle.is) }
+    let comes : c.next-next.result ≡ action_of (next_of x.locks (walk_left x.board.now s.0)) = c.next-next.ensures.first
+    ∙ ap (λ (y : Seat _). action_of (next_of x.locks (walk_left x.board.now y))) read in
+    record {
+      seat = s.0;
+      here = s.1;
+      next = settle-of (next_of x.locks (walk_left x.board.now s.0)) c.in-Settle.verdict (sym comes ∙ c.in-Settle.is);
+    }
 
 pub returns-clause-stepped : goal.returns-clause-stepped
 returns-clause-stepped g c is =
     let x = c.args.parts.now in
     let s = there x.seats.items c.args.place c.requires.there in
     let read = read_here x.seats.items c.args.place s.0 c.index.result.now s.1 c.index.ensures in
-    let comes : c.next-next.result ≡ action_of (next_of x.locks (walk_left x.board.now s.0)) = c.next-next.ensures.first ∙ ap (λ (y : Seat _). action_of (next_of x.locks (walk_left x.board.now y))) read in
+    let comes : c.next-next.result ≡ action_of (next_of x.locks (walk_left x.board.now s.0)) = c.next-next.ensures.first
+    ∙ ap (λ (y : Seat _). action_of (next_of x.locks (walk_left x.board.now y))) read in
     elim c.match-next.branch [
-      | in-Take+in_default w ↦ subst (λ (y : CoreParts _ _). HasStepped g.P.Port g.C.Caller c.args.place x y) (sym w.parts-is) w.take.ensures.stepped
+      | in-Take+in_default w ↦ subst (λ (y : CoreParts _ _). HasStepped g.P.Port g.C.Caller c.args.place x y)
+          (sym w.parts-is) w.take.ensures.stepped
       | in-Free w ↦ subst (λ (y : CoreParts _ _). HasStepped g.P.Port g.C.Caller c.args.place x y) (sym w.parts-is) w.free.ensures.stepped
-      | in-Send w ↦ subst (λ (y : CoreParts _ _). HasStepped g.P.Port g.C.Caller c.args.place x y) (sym w.parts-is) w.send_and_record.ensures.stepped
+      | in-Send w ↦ subst (λ (y : CoreParts _ _). HasStepped g.P.Port g.C.Caller c.args.place x y)
+          (sym w.parts-is) w.send_and_record.ensures.stepped
       | in-Line w ↦ subst (λ (y : CoreParts _ _). HasStepped g.P.Port g.C.Caller c.args.place x y) (sym w.parts-is) w.switch.ensures.stepped
-      | in-Settle w ↦ subst (λ (y : CoreParts _ _). HasStepped g.P.Port g.C.Caller c.args.place x y) (sym w.parts-is) w.refuse.ensures.stepped
+      | in-Settle w ↦ subst (λ (y : CoreParts _ _). HasStepped g.P.Port g.C.Caller c.args.place x y)
+          (sym w.parts-is) w.refuse.ensures.stepped
     ]

@@ -28,7 +28,12 @@ index_mut-requires g c =
     let here = need.comes.here ∙ ap Some (sym is) in
     let first = subst (λ (y : Seat _). next_of x.locks (walk_left x.board.now y) ≡ Some (Shift need.job)) (sym is) need.comes.next in
     let plugged = plug g.P.Port g.C.Caller x c.requires.kept c.args.place old here need.job first in
-    omega (arith, slice_get_within (root_ports g.P.Port x.ports.items) old.port plugged.0 plugged.1, length-map x.ports.items (root_port g.P.Port))
+    omega (
+      arith,
+      slice_get_within (root_ports g.P.Port x.ports.items) old.port plugged.0 plugged.1,
+      length-map x.ports.items
+          (root_port g.P.Port),
+    )
 
 pub shift_line-failed-requires-after_bounds : goal.shift_line-failed-requires-after_bounds
 shift_line-failed-requires-after_bounds g c κs within root =
@@ -42,7 +47,8 @@ shift_line-failed-requires-after_bounds g c κs within root =
     let q = c.index_mut.result.now in
     let at : plugged.0 ≡ root_port g.P.Port q = socket-is g.P.Port x.ports.items old.port q c.index_mut.ensures.value plugged.0 plugged.1 in
     let may = subst (λ (y : RootPort). MayShift g.P.Port.tells c.args.mux c.args.level y) at
-    (may-shift g.P.Port g.C.Caller x c.requires.kept c.args.place old here need.job first c.args.mux c.args.level need.of_mux need.to_level) in
+    (may-shift g.P.Port g.C.Caller x c.requires.kept c.args.place old here need.job first c.args.mux c.args.level need.of_mux need.to_level)
+    in
     record { idle = may.idle; has = may.has; room = may.room }
 
 pub push-requires-clause-room : goal.push-requires-clause-room
@@ -75,10 +81,12 @@ set_marks-requires g c =
     let first = subst (λ (y : Seat _). next_of x.locks (walk_left x.board.now y) ≡ Some (Shift need.job)) (sym is) need.comes.next in
     let failed = c.shift_line-failed.result in
     let t = c.line_done.new.self in
-    let updates : c.as_slice.result.now ≡ updates_of x.board.now x.locks (Lined failed) old = c.as_slice.ensures.value ∙ c.line_done.ensures.updates in
+    let updates : c.as_slice.result.now ≡ updates_of x.board.now x.locks (Lined failed) old = c.as_slice.ensures.value
+    ∙ c.line_done.ensures.updates in
     record {
       caller = number-small g.P.Port g.C.Caller x c.requires.kept c.args.place old here;
-      held = subst (λ (ds : List MuxUpdate). AreHeld x.locks old.number ds) (sym updates) (line-updates-own g.P.Port g.C.Caller x c.requires.kept c.args.place old here need.job first failed);
+      held = subst (λ (ds : List MuxUpdate). AreHeld x.locks old.number ds) (sym updates)
+          (line-updates-own g.P.Port g.C.Caller x c.requires.kept c.args.place old here need.job first failed);
     }
 
 pub settle-requires : goal.settle-requires
@@ -91,15 +99,19 @@ settle-requires g c =
     let first = subst (λ (y : Seat _). next_of x.locks (walk_left x.board.now y) ≡ Some (Shift need.job)) (sym is) need.comes.next in
     let failed = c.shift_line-failed.result in
     let t = c.line_done.new.self in
-    let updates : c.as_slice.result.now ≡ updates_of x.board.now x.locks (Lined failed) old = c.as_slice.ensures.value ∙ c.line_done.ensures.updates in
-    let locks : c.set_marks.new.locks ≡ turned_to x.locks (words_after (updates_of x.board.now x.locks (Lined failed) old) (seen_of x.locks)) =
+    let updates : c.as_slice.result.now ≡ updates_of x.board.now x.locks (Lined failed) old = c.as_slice.ensures.value
+    ∙ c.line_done.ensures.updates in
+    let locks : c.set_marks.new.locks ≡ turned_to x.locks
+    (words_after (updates_of x.board.now x.locks (Lined failed) old) (seen_of x.locks)) =
     c.set_marks.ensures ∙ ap (λ (ds : List MuxUpdate). turned_to x.locks (words_after ds (seen_of x.locks))) updates in
-    let entries : c.push.new.self.entries ≡ x.journal.entries ++ entry.Line old.number (line_mux need.job) (line_level need.job) failed ∷ [] = c.push.ensures.entries
+    let entries : c.push.new.self.entries ≡ x.journal.entries ++ entry.Line old.number (line_mux need.job)
+    (line_level need.job) failed ∷ [] = c.push.ensures.entries
     ∙ ap (λ (m : ℕ). x.journal.entries ++ entry.Line old.number m c.args.level failed ∷ []) (sym need.of_mux)
     ∙ ap (λ (l : ℕ). x.journal.entries ++ entry.Line old.number (line_mux need.job) l failed ∷ []) (sym need.to_level) in
     let room_bytes : c.push.new.self.room_bytes ≡ x.journal.room_bytes = (let b = c.push.ensures.room_bytes in omega (arith, b)) in
     subst (λ (v : LocksView). MaySettle x.board.now v c.push.new.self t) (sym locks)
-    (line-may-settle g.P.Port g.C.Caller x c.requires.kept c.args.place old here need.job first failed t c.line_done.ensures.went c.push.new.self entries c.push.ensures.room room_bytes)
+    (line-may-settle g.P.Port g.C.Caller x c.requires.kept c.args.place old here need.job first failed t c.line_done.ensures.went
+    c.push.new.self entries c.push.ensures.room room_bytes)
 
 pub returns : goal.returns
 returns g c =
@@ -112,20 +124,28 @@ returns g c =
     let plugged = plug g.P.Port g.C.Caller x c.requires.kept c.args.place old here need.job first in
     let failed = c.shift_line-failed.result in
     let t = c.line_done.new.self in
-    let updates : c.as_slice.result.now ≡ updates_of x.board.now x.locks (Lined failed) old = c.as_slice.ensures.value ∙ c.line_done.ensures.updates in
-    let locks : c.set_marks.new.locks ≡ turned_to x.locks (words_after (updates_of x.board.now x.locks (Lined failed) old) (seen_of x.locks)) =
+    let updates : c.as_slice.result.now ≡ updates_of x.board.now x.locks (Lined failed) old = c.as_slice.ensures.value
+    ∙ c.line_done.ensures.updates in
+    let locks : c.set_marks.new.locks ≡ turned_to x.locks
+    (words_after (updates_of x.board.now x.locks (Lined failed) old) (seen_of x.locks)) =
     c.set_marks.ensures ∙ ap (λ (ds : List MuxUpdate). turned_to x.locks (words_after ds (seen_of x.locks))) updates in
-    let entries : c.push.new.self.entries ≡ x.journal.entries ++ entry.Line old.number (line_mux need.job) (line_level need.job) failed ∷ [] = c.push.ensures.entries
+    let entries : c.push.new.self.entries ≡ x.journal.entries ++ entry.Line old.number (line_mux need.job)
+    (line_level need.job) failed ∷ [] = c.push.ensures.entries
     ∙ ap (λ (m : ℕ). x.journal.entries ++ entry.Line old.number m c.args.level failed ∷ []) (sym need.of_mux)
     ∙ ap (λ (l : ℕ). x.journal.entries ++ entry.Line old.number (line_mux need.job) l failed ∷ []) (sym need.to_level) in
     let room_bytes : c.push.new.self.room_bytes ≡ x.journal.room_bytes = (let b = c.push.ensures.room_bytes in omega (arith, b)) in
     let q = c.index_mut.result.now in
-    let shifted : Shifted g.P.Port.tells (line_mux need.job) (line_level need.job) failed (root_port g.P.Port q) (root_port g.P.Port (q.0, c.shift_line-failed.new.port)) =
-    subst (λ (l : ℕ). Shifted g.P.Port.tells (line_mux need.job) l failed (root_port g.P.Port q) (root_port g.P.Port (q.0, c.shift_line-failed.new.port))) (sym need.to_level)
-    (subst (λ (m : ℕ). Shifted g.P.Port.tells m c.args.level failed (root_port g.P.Port q) (root_port g.P.Port (q.0, c.shift_line-failed.new.port))) (sym need.of_mux)
+    let shifted : Shifted g.P.Port.tells (line_mux need.job) (line_level need.job) failed (root_port g.P.Port q)
+    (root_port g.P.Port (q.0, c.shift_line-failed.new.port)) =
+    subst (λ (l : ℕ). Shifted g.P.Port.tells (line_mux need.job) l failed (root_port g.P.Port q)
+    (root_port g.P.Port (q.0, c.shift_line-failed.new.port))) (sym need.to_level)
+    (subst (λ (m : ℕ). Shifted g.P.Port.tells m c.args.level failed (root_port g.P.Port q)
+    (root_port g.P.Port (q.0, c.shift_line-failed.new.port))) (sym need.of_mux)
     (c.shift_line-failed.ensures.shifted q.0)) in
-    let all = line-done g.P.Port g.C.Caller x c.requires.kept c.args.place old here need.job first failed t c.line_done.ensures.went c.push.new.self entries c.push.ensures.room room_bytes
-    (record x { ports = _; seats = _; locks = c.set_marks.new.locks; journal = c.settle.new.journal; updates = c.settle.new.updates }) refl locks (root_port g.P.Port q) (root_port g.P.Port (q.0, c.shift_line-failed.new.port))
+    let all = line-done g.P.Port g.C.Caller x c.requires.kept c.args.place old here need.job first failed t c.line_done.ensures.went
+    c.push.new.self entries c.push.ensures.room room_bytes
+    (record x { ports = _; seats = _; locks = c.set_marks.new.locks; journal = c.settle.new.journal; updates = c.settle.new.updates }) refl
+    locks (root_port g.P.Port q) (root_port g.P.Port (q.0, c.shift_line-failed.new.port))
     (socket-here g.P.Port x.ports.items old.port q c.index_mut.ensures.value plugged.0 plugged.1)
     (map-set (root_port g.P.Port) x.ports.items old.port (q.0, c.shift_line-failed.new.port)) shifted refl refl
     c.settle.new.self refl c.settle.result c.settle.ensures.settled c.settle.ensures.none c.settle.ensures.stays in

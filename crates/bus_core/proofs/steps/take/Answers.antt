@@ -19,11 +19,14 @@ pub lock_done-requires : goal.lock_done-requires
 lock_done-requires g c =
     let x = c.args.parts.now in
     let s = c.requires.next.seat in
-    subst IsCounted (sym (read_here x.seats.items c.args.place s c.index_mut-seat.result.now c.requires.next.here c.index_mut-seat.ensures.value))
+    subst IsCounted (sym (read_here x.seats.items c.args.place s c.index_mut-seat.result.now c.requires.next.here
+    c.index_mut-seat.ensures.value))
     (seated-here g.P.Port g.C.Caller x c.requires.kept c.args.place s c.requires.next.here).counted
 
 pub push-requires-clause-room : goal.push-requires-clause-room
-push-requires-clause-room g c = take-room g.P.Port g.C.Caller c.args.parts.now c.requires.kept c.args.place c.requires.next.seat c.requires.next.here c.args.lock.now c.requires.next.next
+push-requires-clause-room g c =
+    take-room g.P.Port g.C.Caller c.args.parts.now c.requires.kept c.args.place c.requires.next.seat c.requires.next.here c.args.lock.now
+    c.requires.next.next
 
 pub take-requires : goal.take-requires
 take-requires g c =
@@ -32,9 +35,12 @@ take-requires g c =
     let here = c.requires.next.here in
     let number : c.lock_done.new.self.number ≡ s.number =
     ap (λ (y : Seat _). y.number) c.lock_done.ensures.same
-    ∙ ap (λ (y : Seat _). y.number) (read_here x.seats.items c.args.place s c.index_mut-seat.result.now here c.index_mut-seat.ensures.value) in
-    let wants = take-wants (run_of g.P.Port g.C.Caller x) (whole_of g.P.Port g.C.Caller x c.requires.kept.held c.requires.kept.owes) c.requires.kept.kept c.args.place
-    (place_of g.C.Caller x.board.now s) (place-here g.P.Port g.C.Caller x c.requires.kept c.args.place s here) c.args.lock.now c.requires.next.next in
+    ∙ ap (λ (y : Seat _). y.number)
+    (read_here x.seats.items c.args.place s c.index_mut-seat.result.now here c.index_mut-seat.ensures.value) in
+    let wants = take-wants (run_of g.P.Port g.C.Caller x)
+    (whole_of g.P.Port g.C.Caller x c.requires.kept.held c.requires.kept.owes) c.requires.kept.kept c.args.place
+    (place_of g.C.Caller x.board.now s)
+    (place-here g.P.Port g.C.Caller x c.requires.kept c.args.place s here) c.args.lock.now c.requires.next.next in
     record {
       there = wants.0;
       caller = subst (λ (n : ℕ). n < MOST_CALLERS) (sym number) (number-small g.P.Port g.C.Caller x c.requires.kept c.args.place s here);
@@ -53,12 +59,15 @@ returns g c =
     (record { same = c.lock_done.ensures.same; walk = c.lock_done.ensures.walk; route = c.lock_done.ensures.route }) in
     let number : t.number ≡ s.number = ap (λ (y : Seat _). y.number) went.same in
     let given : c.take.new.self ≡ with_holder x.locks c.args.lock.now (Some t.number) =
-    is_given (c.take.new.self ≡ with_holder x.locks c.args.lock.now (Some t.number)) (λ (h : Held). holder_in x.locks c.args.lock.now ≡ Some h.holder) c.take.result
+    is_given (c.take.new.self ≡ with_holder x.locks c.args.lock.now (Some t.number))
+    (λ (h : Held). holder_in x.locks c.args.lock.now ≡ Some h.holder) c.take.result
     c.take.ensures.taken c.take.ensures.held (λ h is. let f : None ≡ Some h.holder = sym c.requires.free ∙ is in cc) in
     let locks = given ∙ ap (λ (n : ℕ). with_holder x.locks c.args.lock.now (Some n)) number in
     let entries = c.push.ensures.entries ∙ ap (λ (n : ℕ). x.journal.entries ++ entry.Take n c.args.lock.now ∷ []) number in
     let bytes : c.push.new.self.room_bytes ≡ x.journal.room_bytes = (let b = c.push.ensures.room_bytes in omega (arith, b)) in
     record {
-      kept = take-kept g.P.Port g.C.Caller x c.requires.kept c.args.place s here c.args.lock.now c.requires.next.next c.requires.free _ t refl refl went locks refl entries c.push.ensures.room bytes;
-      stepped = take-stepped g.P.Port g.C.Caller x c.requires.kept c.args.place s here c.args.lock.now c.requires.next.next c.requires.free _ t refl refl went locks refl entries c.push.ensures.room bytes refl refl;
+      kept = take-kept g.P.Port g.C.Caller x c.requires.kept c.args.place s here c.args.lock.now c.requires.next.next c.requires.free _ t
+          refl refl went locks refl entries c.push.ensures.room bytes;
+      stepped = take-stepped g.P.Port g.C.Caller x c.requires.kept c.args.place s here c.args.lock.now c.requires.next.next c.requires.free
+          _ t refl refl went locks refl entries c.push.ensures.room bytes refl refl;
     }

@@ -8,4 +8,5 @@ pub returns : goal.returns
 returns c =
     λ b callers asks past plain rules some steps d job next.
     next-line b (c.an_accepted_board_is_a_tree.ensures b plain rules) (lines-locked b rules) asks some (now b asks past)
-    (past-stands b (c.an_accepted_board_is_a_tree.ensures b plain rules) plain (lines-locked b rules) asks some callers past steps) d job next
+    (past-stands b (c.an_accepted_board_is_a_tree.ensures b plain rules) plain (lines-locked b rules) asks some callers past steps) d job
+    next

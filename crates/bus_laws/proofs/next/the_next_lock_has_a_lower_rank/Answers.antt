@@ -7,7 +7,9 @@ pub returns : goal.returns
 returns c =
     record {
       below = λ b callers asks past plain rules some steps d l next.
-          takes-below b (c.an_accepted_board_is_a_tree.ensures b plain rules) plain (lines-locked b rules) asks some callers past steps d l next;
+          takes-below b (c.an_accepted_board_is_a_tree.ensures b plain rules) plain
+          (lines-locked b rules) asks some callers past steps d l next;
       sole = λ b asks past plain rules some steps.
-          sole-takes b (c.an_accepted_board_is_a_tree.ensures b plain rules) plain (lines-locked b rules) asks some 1 past steps (omega arith);
+          sole-takes b (c.an_accepted_board_is_a_tree.ensures b plain rules) plain (lines-locked b rules) asks some 1 past steps
+          (omega arith);
     }

@@ -8,4 +8,5 @@ pub returns : goal.returns
 returns c =
     λ b callers asks past e plain rules some steps d other.
     next-stays b (c.an_accepted_board_is_a_tree.ensures b plain rules) (lines-locked b rules) asks some (now b asks past)
-    (past-stands b (c.an_accepted_board_is_a_tree.ensures b plain rules) plain (lines-locked b rules) asks some callers past steps.1) callers e steps.0 d other
+    (past-stands b (c.an_accepted_board_is_a_tree.ensures b plain rules) plain (lines-locked b rules) asks some callers past steps.1)
+    callers e steps.0 d other

@@ -16,7 +16,10 @@ invariant-loop-count g l =
       log : IsTrue g.P.Port.tells → length (g.P.Port.log l.port) ≤ length (g.P.Port.log l.initial.port) + l.count;
       later : g.P.Port.faults l.initial.port ≤ g.P.Port.faults l.port;
       -- what was said and what is left are the whole, for each place of failure from here on
-      said : IsTrue g.P.Port.tells → (cut : Option ℕ) → ((k : ℕ) → cut ≡ Some k → l.calls + l.count ≤ k) → (whole : TalkTold World) (before : List PortCall)
-          → Reaches whole (gets world_listener cut l.last l.len) before l.calls l.initial.got (g.P.Port.world l.initial.port) (g.P.Port.log l.initial.port)
-          → Reaches whole (gets world_listener cut l.last (l.len - l.count)) before (l.calls + l.count) l.got (g.P.Port.world l.port) (g.P.Port.log l.port);
+      said : IsTrue g.P.Port.tells → (cut : Option ℕ) → ((k : ℕ) → cut ≡ Some k → l.calls + l.count ≤ k)
+          → (whole : TalkTold World) (before : List PortCall)
+          → Reaches whole (gets world_listener cut l.last l.len) before l.calls l.initial.got (g.P.Port.world l.initial.port)
+          (g.P.Port.log l.initial.port)
+          → Reaches whole (gets world_listener cut l.last (l.len - l.count)) before (l.calls + l.count) l.got (g.P.Port.world l.port)
+          (g.P.Port.log l.port);
     }

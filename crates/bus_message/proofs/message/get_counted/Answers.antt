@@ -9,18 +9,21 @@ use Rattle.bus_message.proofs.message.get_counted.Goals as goal
 
 pub returns-in-Err-clause-ended : goal.returns-in-Err-clause-ended
 returns-in-Err-clause-ended g c =
-    fault-ends g.P.Port c.args.last (counting c.args.last c.args.limit c.args.len) 1 (c.args.limit + c.args.len) [] c.args.port.now c.args.port.now c.get.new.self c.args.got.now
+    fault-ends g.P.Port c.args.last (counting c.args.last c.args.limit c.args.len) 1
+    (c.args.limit + c.args.len) [] c.args.port.now c.args.port.now c.get.new.self c.args.got.now
     (λ tells. omega arith) (omega arith) 1 (omega arith) (omega arith) (grind (arith, common_steps)) c.in-Err.ensures.failed
     c.in-Err.ensures.log_failed c.in-Err.ensures.later c.in-Err.ensures.cause
     (λ tells whole before r.
-    rw c.requires.none (count_failed whole c.args.last c.args.limit c.args.len before 1 [] _ _ _ _ (c.in-Err.ensures.world_failed tells) (c.in-Err.ensures.log_failed tells) r))
+    rw c.requires.none (count_failed whole c.args.last c.args.limit c.args.len before 1 [] _ _ _ _ (c.in-Err.ensures.world_failed tells)
+    (c.in-Err.ensures.log_failed tells) r))
 
 pub returns-in-Err-clause-whole : goal.returns-in-Err-clause-whole
 returns-in-Err-clause-whole g c = grind (arith, common_steps)
 
 pub returns-then-is_bad_count-clause-ended : goal.returns-then-is_bad_count-clause-ended
 returns-then-is_bad_count-clause-ended g c =
-    rest-ends g.P.Port c.args.last (counting c.args.last c.args.limit c.args.len) 1 (c.args.limit + c.args.len) [] c.args.port.now c.get.new.self c.get_one_more.new.port c.get_one_more.new.got
+    rest-ends g.P.Port c.args.last (counting c.args.last c.args.limit c.args.len) 1
+    (c.args.limit + c.args.len) [] c.args.port.now c.get.new.self c.get_one_more.new.port c.get_one_more.new.got
     (λ tells. omega (arith, ap length (c.in-Ok.ensures.log tells), length-append {A = PortCall})) c.in-Ok.ensures.later
     true over_limit 2 1 c.push.new.self c.get_one_more.result c.get_one_more.ensures.ended
     (λ no. absurd (let f : true ≡ false = no in cc)) (omega arith) (grind (arith, common_steps)) (grind (arith, common_steps))
@@ -37,7 +40,8 @@ returns-then-is_bad_count-clause-whole g c = grind (arith, common_steps)
 
 pub returns-else-is_bad_count-clause-ended : goal.returns-else-is_bad_count-clause-ended
 returns-else-is_bad_count-clause-ended g c =
-    rest-ends g.P.Port c.args.last (counting c.args.last c.args.limit c.args.len) 1 (c.args.limit + c.args.len) [] c.args.port.now c.get.new.self c.get_all.new.port c.get_all.new.got
+    rest-ends g.P.Port c.args.last (counting c.args.last c.args.limit c.args.len) 1
+    (c.args.limit + c.args.len) [] c.args.port.now c.get.new.self c.get_all.new.port c.get_all.new.got
     (λ tells. omega (arith, ap length (c.in-Ok.ensures.log tells), length-append {A = PortCall})) c.in-Ok.ensures.later
     c.args.last (getting c.args.last _) 2 _ c.push.new.self c.get_all.result c.get_all.ensures.ended
     (λ more. more) (omega arith) (grind (arith, common_steps)) (grind (arith, common_steps)) (λ tells. grind (arith, common_steps))

@@ -14,7 +14,8 @@ returns-in-Err-clause-ended g c =
     fault-ends g.P.Port true over_limit 2 1 c.args.got.now c.args.port.now c.args.port.now c.get.new.self c.args.got.now
     (λ tells. omega arith) (omega arith) 2 (omega arith) (omega arith) (omega arith) c.in-Err.ensures.failed
     c.in-Err.ensures.log_failed c.in-Err.ensures.later c.in-Err.ensures.cause
-    (λ tells whole before r. over_failed whole before 2 c.args.got.now _ _ _ _ (c.in-Err.ensures.world_failed tells) (c.in-Err.ensures.log_failed tells) r)
+    (λ tells whole before r. over_failed whole before 2 c.args.got.now _ _ _ _ (c.in-Err.ensures.world_failed tells)
+    (c.in-Err.ensures.log_failed tells) r)
 
 pub returns-in-Err-clause-bad : goal.returns-in-Err-clause-bad
 returns-in-Err-clause-bad g c = grind (arith, common_steps)

@@ -10,9 +10,11 @@ pub returns-then-not-message : goal.returns-then-not-message
 returns-then-not-message g c =
     let m = c.args.message.now in
     record {
-      ended = rest-ends g.P.Port c.args.last (moving c.args.last c.args.limit m) 1 (bytes_most c.args.limit m) [] c.args.port.now c.args.port.now c.put_all.new.port c.put_all.new.sent
+      ended = rest-ends g.P.Port c.args.last (moving c.args.last c.args.limit m) 1
+          (bytes_most c.args.limit m) [] c.args.port.now c.args.port.now c.put_all.new.port c.put_all.new.sent
           (λ tells. omega arith) (omega arith)
-          c.args.last (putting c.args.last c.message.inside.bytes.now) 1 (length c.message.inside.bytes.now) [] c.put_all.result c.put_all.ensures.ended
+          c.args.last (putting c.args.last c.message.inside.bytes.now) 1
+          (length c.message.inside.bytes.now) [] c.put_all.result c.put_all.ensures.ended
           (λ more. more) (omega arith) (grind (arith, common_steps)) (grind (arith, common_steps)) (λ tells. grind (arith, common_steps))
           (λ tells whole before r.
           data_written whole _ c.args.last c.args.limit m c.message.inside.bytes.now before _ _ _ _
@@ -27,9 +29,11 @@ pub returns-then-message : goal.returns-then-message
 returns-then-message g c =
     let m = c.args.message.now in
     record {
-      ended = rest-ends g.P.Port c.args.last (moving c.args.last c.args.limit m) 1 (bytes_most c.args.limit m) [] c.args.port.now c.args.port.now c.get_counted.new.port c.get_counted.new.got
+      ended = rest-ends g.P.Port c.args.last (moving c.args.last c.args.limit m) 1
+          (bytes_most c.args.limit m) [] c.args.port.now c.args.port.now c.get_counted.new.port c.get_counted.new.got
           (λ tells. omega arith) (omega arith)
-          c.args.last (counting c.args.last c.args.limit c.message.inside.len) 1 (c.args.limit + c.message.inside.len) [] c.get_counted.result c.get_counted.ensures.ended
+          c.args.last (counting c.args.last c.args.limit c.message.inside.len) 1
+          (c.args.limit + c.message.inside.len) [] c.get_counted.result c.get_counted.ensures.ended
           (λ more. more) (omega arith) (grind (arith, common_steps)) (grind (arith, common_steps)) (λ tells. grind (arith, common_steps))
           (λ tells whole before r.
           data_counted whole _ c.args.last c.args.limit m c.message.inside.len before _ _ _ _
@@ -41,9 +45,11 @@ pub returns-else-message : goal.returns-else-message
 returns-else-message g c =
     let m = c.args.message.now in
     record {
-      ended = rest-ends g.P.Port c.args.last (moving c.args.last c.args.limit m) 1 (bytes_most c.args.limit m) [] c.args.port.now c.args.port.now c.get_all.new.port c.get_all.new.got
+      ended = rest-ends g.P.Port c.args.last (moving c.args.last c.args.limit m) 1
+          (bytes_most c.args.limit m) [] c.args.port.now c.args.port.now c.get_all.new.port c.get_all.new.got
           (λ tells. omega arith) (omega arith)
-          c.args.last (getting c.args.last c.message.inside.len) 1 c.message.inside.len c.args.bytes.now c.get_all.result c.get_all.ensures.ended
+          c.args.last (getting c.args.last c.message.inside.len) 1 c.message.inside.len c.args.bytes.now c.get_all.result
+          c.get_all.ensures.ended
           (λ more. more) (omega arith) (grind (arith, common_steps)) (grind (arith, common_steps)) (λ tells. grind (arith, common_steps))
           (λ tells whole before r.
           rw c.requires.started.none

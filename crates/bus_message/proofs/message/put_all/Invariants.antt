@@ -15,7 +15,9 @@ invariant-loop-byte g l =
       log : IsTrue g.P.Port.tells → length (g.P.Port.log l.port) ≤ length (g.P.Port.log l.initial.port) + l.byte-index;
       later : g.P.Port.faults l.initial.port ≤ g.P.Port.faults l.port;
       -- what was said and what is left are the whole, for each place of failure from here on
-      said : IsTrue g.P.Port.tells → (cut : Option ℕ) → ((k : ℕ) → cut ≡ Some k → l.calls ≤ k) → (whole : TalkTold World) (before : List PortCall)
+      said : IsTrue g.P.Port.tells → (cut : Option ℕ) → ((k : ℕ) → cut ≡ Some k → l.calls ≤ k)
+          → (whole : TalkTold World) (before : List PortCall)
           → Reaches whole (puts world_listener cut l.last l.bytes) before 1 [] (g.P.Port.world l.initial.port) (g.P.Port.log l.initial.port)
-          → Reaches whole (puts world_listener cut l.last (drop l.byte-index l.bytes)) before l.calls l.sent (g.P.Port.world l.port) (g.P.Port.log l.port);
+          → Reaches whole (puts world_listener cut l.last (drop l.byte-index l.bytes)) before l.calls l.sent (g.P.Port.world l.port)
+          (g.P.Port.log l.port);
     }

@@ -63,7 +63,10 @@ returns-in-Ok-clause-sent g c root =
     }
 
 pub returns-in-Err-clause-fails : goal.returns-in-Err-clause-fails
-returns-in-Err-clause-fails g c = record { place = λ q e. (let same : 0 ≡ q = cc in (omega arith, omega (arith, same))); cause = λ q e. c.in-Err.ensures.cause }
+returns-in-Err-clause-fails g c = record {
+  place = λ q e. (let same : 0 ≡ q = cc in (omega arith, omega (arith, same)));
+  cause = λ q e. c.in-Err.ensures.cause;
+}
 
 pub returns-in-Err-clause-later : goal.returns-in-Err-clause-later
 returns-in-Err-clause-later g c = c.in-Err.ensures.later

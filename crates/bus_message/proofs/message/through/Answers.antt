@@ -13,7 +13,8 @@ returns-then-last g c got =
     rest-ends g.P.Port c.args.last (ending c.args.last end.Ok) c.args.calls 0 got c.args.port.now c.args.port.now c.stopped.new.port got
     (λ tells. omega arith) (omega arith) true (ending true end.Ok) c.args.calls 0 got c.stopped.result (c.stopped.ensures.ended got)
     (λ no. absurd (let f : true ≡ false = no in cc)) (omega arith) (omega arith) (omega arith) (λ tells. omega arith)
-    (λ tells whole before r. reaches_same whole _ _ before _ _ _ _ (λ s. ap (λ b. ended world_listener (cut_of c.stopped.result) b s end.Ok) c.if-last.true) r)
+    (λ tells whole before r. reaches_same whole _ _ before _ _ _ _
+    (λ s. ap (λ b. ended world_listener (cut_of c.stopped.result) b s end.Ok) c.if-last.true) r)
 
 pub returns-else-last : goal.returns-else-last
 returns-else-last g c got =

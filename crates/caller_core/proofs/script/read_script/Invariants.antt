@@ -11,5 +11,6 @@ invariant-loop-at l =
     record {
       within : l.at ≤ length l.text;
       count : l.number ≤ l.at;
-      same : behind_commands l.commands (lines_read l.limit (l.number + 1) (length l.commands) (lines_of (drop l.at l.text))) ≡ text_read l.limit l.text;
+      same : behind_commands l.commands
+          (lines_read l.limit (l.number + 1) (length l.commands) (lines_of (drop l.at l.text))) ≡ text_read l.limit l.text;
     }

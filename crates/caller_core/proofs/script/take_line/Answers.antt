@@ -4,7 +4,8 @@ use Rattle.caller_core.proofs.ScriptLemmas.{is_step_some, is_step_none, is_refus
 use Rattle.caller_core.proofs.script.take_line.Goals as goal
 
 pub returns-in-Err-clause-err : goal.returns-in-Err-clause-err
-returns-in-Err-clause-err c = is_refused c.args.limit c.args.number c.len.result c.args.line.now c.args.commands.now c.in-Err.fault c.fault_at.result c.len.ensures c.in-Err.ensures c.fault_at.ensures
+returns-in-Err-clause-err c = is_refused c.args.limit c.args.number c.len.result c.args.line.now c.args.commands.now c.in-Err.fault
+    c.fault_at.result c.len.ensures c.in-Err.ensures c.fault_at.ensures
 
 pub returns-in-Err-clause-ok : goal.returns-in-Err-clause-ok
 returns-in-Err-clause-ok c = grind (arith, common_steps)

@@ -17,13 +17,17 @@ loop-place-preserved c =
     let more = c.totals_of_command-more in
     let within : i < length cs = omega (arith, c.loop-place-test.true, c.len-place-end.ensures) in
     record {
-      cost = ap (λ k. c.loop-place.totals.cost + k) more.ensures.cost ∙ sum_more (sum_of_command (cost_of b)) cs i x c.loop-place.totals.cost within c.get-cmd.ensures c.loop-place.invariant.cost;
+      cost = ap (λ k. c.loop-place.totals.cost + k) more.ensures.cost
+          ∙ sum_more (sum_of_command (cost_of b)) cs i x c.loop-place.totals.cost within c.get-cmd.ensures c.loop-place.invariant.cost;
       small = omega (arith, c.loop-place.invariant.small, more.ensures.small);
-      replies = ap (λ k. c.loop-place.totals.replies + k) more.ensures.replies ∙ sum_more (sum_of_command (λ t. 1)) cs i x c.loop-place.totals.replies within c.get-cmd.ensures c.loop-place.invariant.replies;
+      replies = ap (λ k. c.loop-place.totals.replies + k) more.ensures.replies
+          ∙ sum_more (sum_of_command (λ t. 1)) cs i x c.loop-place.totals.replies within c.get-cmd.ensures c.loop-place.invariant.replies;
       few = omega (arith, c.loop-place.invariant.few, more.ensures.few);
-      bytes = ap (λ k. c.loop-place.totals.bytes + k) more.ensures.bytes ∙ sum_more (sum_of_command most_brought) cs i x c.loop-place.totals.bytes within c.get-cmd.ensures c.loop-place.invariant.bytes;
+      bytes = ap (λ k. c.loop-place.totals.bytes + k) more.ensures.bytes
+          ∙ sum_more (sum_of_command most_brought) cs i x c.loop-place.totals.bytes within c.get-cmd.ensures c.loop-place.invariant.bytes;
       few_bytes = omega (arith, c.loop-place.invariant.few_bytes, more.ensures.few_bytes);
-      roots = bits_more (command_names b) cs i x c.loop-place.totals.roots more.result.roots within c.get-cmd.ensures c.loop-place.invariant.roots (command_bits b x more.result.roots more.ensures.roots);
+      roots = bits_more (command_names b) cs i x c.loop-place.totals.roots more.result.roots within c.get-cmd.ensures
+          c.loop-place.invariant.roots (command_bits b x more.result.roots more.ensures.roots);
     }
 
 pub get-cmd-requires : goal.get-cmd-requires
@@ -60,4 +64,12 @@ pub returns-clause-roots : goal.returns-clause-roots
 returns-clause-roots c = grind (arith, common_steps)
 
 pub loop-place-init : goal.loop-place-init
-loop-place-init c = record { cost = refl; small = omega arith; replies = refl; few = omega arith; bytes = refl; few_bytes = omega arith; roots = no_bits (command_names c.args.board.now) }
+loop-place-init c = record {
+  cost = refl;
+  small = omega arith;
+  replies = refl;
+  few = omega arith;
+  bytes = refl;
+  few_bytes = omega arith;
+  roots = no_bits (command_names c.args.board.now);
+}

@@ -18,10 +18,13 @@ loop-number-preserved g c =
     let new = unmet ns i 0 c.requires c.loop-number-test.true in
     elim c.if-ne.branch [
       | then-ne w ↦
-          w.targets-is ∙ w.tell_at-answer.ensures.fed ∙ ap (λ m. feed t (to_current (Some m) c.args.event) 0 c.loop-number.targets) w.from.ensures
+          w.targets-is ∙ w.tell_at-answer.ensures.fed
+          ∙ ap (λ m. feed t (to_current (Some m) c.args.event) 0 c.loop-number.targets) w.from.ensures
           ∙ ap (feed t (to_current (Some n) c.args.event) 0) c.loop-number.invariant
-          ∙ others_more t c.args.one ns c.args.event i n c.loop-number-test.true refl (passes_by c.args.one n c.ne.result c.ne.ensures ∙ ap not w.if-ne.true) new c.args.targets.now
+          ∙ others_more t c.args.one ns c.args.event i n c.loop-number-test.true refl (passes_by c.args.one n c.ne.result c.ne.ensures
+          ∙ ap not w.if-ne.true) new c.args.targets.now
       | else-ne w ↦
           w.targets-is ∙ c.loop-number.invariant
-          ∙ others_passed t c.args.one ns c.args.event i n c.loop-number-test.true refl c.args.targets.now (passes_by c.args.one n c.ne.result c.ne.ensures ∙ ap not w.if-ne.false)
+          ∙ others_passed t c.args.one ns c.args.event i n c.loop-number-test.true refl c.args.targets.now
+          (passes_by c.args.one n c.ne.result c.ne.ensures ∙ ap not w.if-ne.false)
     ]

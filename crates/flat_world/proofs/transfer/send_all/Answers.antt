@@ -22,8 +22,10 @@ returns-then-not-is_good c =
     let view = message_with m (take (written_of m) rest) in
     let within : i < length msgs = c.loop-i-test.true in
     let same = cut_out m c.from.result rest c.split_at.result.0.now _ (c.from.ensures ∙ c.written.ensures) c.split_at.ensures.front refl in
-    let was = as_sent granted c.granted.result c.cut_in.result (cut_in c.args.cut i) _ _ view c.loop-i.got c.loop-i.now _ c.granted.ensures.value c.cut_in.ensures same c.send-end.ensures in
-    ended_early (once_listener granted) BLOCK_LIMIT c.loop-i.now msgs rest i (cut_in c.args.cut) c.loop-i.got m _ _ _ _ within c.index-msgs-i.is refl was (sym c.is_good.ensures ∙ c.if-not-is_good.true)
+    let was = as_sent granted c.granted.result c.cut_in.result
+    (cut_in c.args.cut i) _ _ view c.loop-i.got c.loop-i.now _ c.granted.ensures.value c.cut_in.ensures same c.send-end.ensures in
+    ended_early (once_listener granted) BLOCK_LIMIT c.loop-i.now msgs rest i
+    (cut_in c.args.cut) c.loop-i.got m _ _ _ _ within c.index-msgs-i.is refl was (sym c.is_good.ensures ∙ c.if-not-is_good.true)
     ∙ c.loop-i.invariant.told
 
 pub loop-i-preserved : goal.loop-i-preserved
@@ -37,12 +39,32 @@ loop-i-preserved c =
     let view = message_with m (take (written_of m) rest) in
     let within : i < length msgs = c.loop-i-test.true in
     let same = cut_out m c.from.result rest c.split_at.result.0.now _ (c.from.ensures ∙ c.written.ensures) c.split_at.ensures.front refl in
-    let was = as_sent granted c.granted.result c.cut_in.result (cut_in c.args.cut i) _ _ view c.loop-i.got c.loop-i.now _ c.granted.ensures.value c.cut_in.ensures same c.send-end.ensures in
-    let back : c.split_at.result.1.now ≡ drop (written_of m) rest = c.split_at.ensures.back ∙ ap (λ n. drop n rest) (c.from.ensures ∙ c.written.ensures) in
-    let is : IsMessage m = rw c.index-msgs-i.is (All-get_or IsMessage msgs i m within (rw c.msgs-msgs.ensures.value c.msgs-msgs.ensures.kept.each)) in
+    let was = as_sent granted c.granted.result c.cut_in.result
+    (cut_in c.args.cut i) _ _ view c.loop-i.got c.loop-i.now _ c.granted.ensures.value c.cut_in.ensures same c.send-end.ensures in
+    let back : c.split_at.result.1.now ≡ drop (written_of m) rest = c.split_at.ensures.back
+    ∙ ap (λ n. drop n rest) (c.from.ensures ∙ c.written.ensures) in
+    let is : IsMessage m = rw c.index-msgs-i.is
+    (All-get_or IsMessage msgs i m within (rw c.msgs-msgs.ensures.value c.msgs-msgs.ensures.kept.each)) in
     record {
-      written = omega (arith, left_over written_of msgs i m within c.index-msgs-i.is, c.loop-i.invariant.written, c.split_at.ensures.back_len, c.from.ensures, c.written.ensures);
-      room = omega (arith, left_over size_of msgs i m within c.index-msgs-i.is, c.loop-i.invariant.room, read_fits_room (once_listener granted) (cut_in c.args.cut i) (eqb (i + 1) (length msgs)) BLOCK_LIMIT c.loop-i.now c.send-end.new.now m (take (written_of m) rest) c.loop-i.got c.send-end.new.got c.send-end.result (omega arith) is was);
-      told = ap (λ b. spec.talk_all (once_listener granted) BLOCK_LIMIT c.send-end.new.now (messages_from (drop (i + 1) msgs) b) (i + 1) (cut_in c.args.cut) c.send-end.new.got) back
-          ∙ went_through (once_listener granted) BLOCK_LIMIT c.loop-i.now msgs rest i (cut_in c.args.cut) c.loop-i.got m _ _ _ _ within c.index-msgs-i.is refl was (sym c.is_good.ensures ∙ c.if-not-is_good.false) ∙ c.loop-i.invariant.told;
+      written = omega (
+        arith,
+        left_over written_of msgs i m within c.index-msgs-i.is,
+        c.loop-i.invariant.written,
+        c.split_at.ensures.back_len,
+        c.from.ensures,
+        c.written.ensures,
+      );
+      room = omega (
+        arith,
+        left_over size_of msgs i m within c.index-msgs-i.is,
+        c.loop-i.invariant.room,
+        read_fits_room
+            (once_listener granted) (cut_in c.args.cut i) (eqb (i + 1) (length msgs)) BLOCK_LIMIT c.loop-i.now c.send-end.new.now m
+            (take (written_of m) rest) c.loop-i.got c.send-end.new.got c.send-end.result (omega arith) is was,
+      );
+      told = ap (λ b. spec.talk_all (once_listener granted) BLOCK_LIMIT c.send-end.new.now (messages_from (drop (i + 1) msgs) b) (i + 1)
+          (cut_in c.args.cut) c.send-end.new.got) back
+          ∙ went_through (once_listener granted) BLOCK_LIMIT c.loop-i.now msgs rest i
+          (cut_in c.args.cut) c.loop-i.got m _ _ _ _ within c.index-msgs-i.is refl was (sym c.is_good.ensures ∙ c.if-not-is_good.false)
+          ∙ c.loop-i.invariant.told;
     }

@@ -13,6 +13,8 @@ abbrev pub invariant-loop-i : goal.invariant-loop-i
 invariant-loop-i l = record {
   written : length l.rest ≡ sum_by written_of (drop l.i l.msgs);
   room : length l.got + sum_by size_of (drop l.i l.msgs) ≤ MOST_BYTES;
-  told : spec.talk_all (once_listener (granted_on l.site.board l.site.bus l.site.force)) BLOCK_LIMIT l.now (messages_from (drop l.i l.msgs) l.rest) l.i (cut_in l.cut) l.got
-      ≡ spec.talk_all (once_listener (granted_on l.fn.site.board l.fn.site.bus l.fn.site.force)) BLOCK_LIMIT l.fn.now (messages_from l.fn.transfer.msgs l.fn.transfer.out) 0 (cut_in l.fn.cut) [];
+  told : spec.talk_all (once_listener (granted_on l.site.board l.site.bus l.site.force)) BLOCK_LIMIT l.now
+      (messages_from (drop l.i l.msgs) l.rest) l.i (cut_in l.cut) l.got
+      ≡ spec.talk_all (once_listener (granted_on l.fn.site.board l.fn.site.bus l.fn.site.force)) BLOCK_LIMIT l.fn.now
+      (messages_from l.fn.transfer.msgs l.fn.transfer.out) 0 (cut_in l.fn.cut) [];
 }

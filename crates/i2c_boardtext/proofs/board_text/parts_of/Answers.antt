@@ -11,7 +11,8 @@ pub returns-in_err-roots : goal.returns-in_err-roots
 returns-in_err-roots c =
     let t = top_view c.args.top.now in
     let e = c.in_err-roots.field-0.0 in
-    gives_err (λ (b : Board). b) c.from_residual.result e (parts_of t) c.from_residual.ensures.1 (root_fault t e c.in_err-roots.ensures.exact)
+    gives_err (λ (b : Board). b) c.from_residual.result e (parts_of t) c.from_residual.ensures.1
+    (root_fault t e c.in_err-roots.ensures.exact)
 
 pub returns-in_err-muxes : goal.returns-in_err-muxes
 returns-in_err-muxes c =
@@ -27,11 +28,15 @@ returns-in_err-devices c =
     let e = c.in_err-devices.field-0.0 in
     let count : c.len-root_count.result ≡ length c.in_ok-roots.roots.items = omega arith in
     gives_err (λ (b : Board). b) c.from_residual-in_err-devices.result e (parts_of t) c.from_residual-in_err-devices.ensures.1
-    (device_fault t e c.in_ok-roots.roots.items c.in_ok-muxes.muxes.items c.len-root_count.result c.count_buses-buses.result c.in_ok-roots.ensures.exact count
-    c.in_ok-muxes.ensures.exact (c.count_buses-buses.ensures ∙ ap (buses_of c.len-root_count.result) c.deref.ensures.value) c.in_err-devices.ensures.exact)
+    (device_fault t e c.in_ok-roots.roots.items c.in_ok-muxes.muxes.items c.len-root_count.result c.count_buses-buses.result
+    c.in_ok-roots.ensures.exact count
+    c.in_ok-muxes.ensures.exact (c.count_buses-buses.ensures
+    ∙ ap (buses_of c.len-root_count.result) c.deref.ensures.value) c.in_err-devices.ensures.exact)
 
 pub returns : goal.returns
 returns c =
     let count : c.len-root_count.result ≡ length c.in_ok-roots.roots.items = omega arith in
-    are_parts (top_view c.args.top.now) c.in_ok-roots.roots.items c.in_ok-muxes.muxes.items c.in_ok-devices.devices.items c.len-root_count.result c.count_buses-buses.result
-    c.in_ok-roots.ensures.exact count c.in_ok-muxes.ensures.exact (c.count_buses-buses.ensures ∙ ap (buses_of c.len-root_count.result) c.deref.ensures.value) c.in_ok-devices.ensures.exact ∙ ap Ok (sym c.new.ensures)
+    are_parts (top_view c.args.top.now) c.in_ok-roots.roots.items c.in_ok-muxes.muxes.items c.in_ok-devices.devices.items
+    c.len-root_count.result c.count_buses-buses.result
+    c.in_ok-roots.ensures.exact count c.in_ok-muxes.ensures.exact (c.count_buses-buses.ensures
+    ∙ ap (buses_of c.len-root_count.result) c.deref.ensures.value) c.in_ok-devices.ensures.exact ∙ ap Ok (sym c.new.ensures)

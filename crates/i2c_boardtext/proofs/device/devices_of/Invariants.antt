@@ -13,5 +13,6 @@ invariant-loop-value l = record {
   room : length l.rows ≤ vec_capacity l.devices;
   plain : All IsPlainDevice l.devices.items;
   placed : All (IsOn l.buses) l.devices.items;
-  told : each Device (λ before. device_of l.buses) l.devices.items (rows_of (drop l.value-index l.rows)) ≡ devices_of l.buses (rows_of l.rows);
+  told : each Device (λ before. device_of l.buses) l.devices.items (rows_of (drop l.value-index l.rows)) ≡ devices_of l.buses
+      (rows_of l.rows);
 }

@@ -11,4 +11,7 @@ pub returns : goal.returns
 returns c =
     c.table_fault.ensures
     ∙ ap (λ rs. table_fault rs (table_view c.args.table.now))
-    (more c.bus.ensures (more_same kind_rule (more_same (may_have (codes "lock") Lock) (more_same (may_have (codes "idle") Idle) (more c.has_to_say-address.ensures (more_same (may_have (codes "absent") Flag) (more c.may_say-foreign.ensures no_more)))))))
+    (more c.bus.ensures (more_same kind_rule
+    (more_same (may_have (codes "lock") Lock)
+    (more_same (may_have (codes "idle") Idle)
+    (more c.has_to_say-address.ensures (more_same (may_have (codes "absent") Flag) (more c.may_say-foreign.ensures no_more)))))))

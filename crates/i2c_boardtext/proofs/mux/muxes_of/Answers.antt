@@ -31,9 +31,12 @@ loop-value-preserved c =
       plain = rw same (All-push IsPlainMux before mux all.plain c.in_ok-mux.ensures.plain);
       planted = rw same (planted-push roots before mux all.planted (rw (← all.buses) c.in_ok-mux.ensures.placed));
       told =
-          read_more Mux (λ before. mux_of (buses_of roots before)) before c.push_reserved.new.self.items mux (muxes_of roots (rows_of c.args.rows.now))
+          read_more Mux (λ before. mux_of (buses_of roots before)) before c.push_reserved.new.self.items mux
+          (muxes_of roots (rows_of c.args.rows.now))
           c.args.rows.now c.loop-value.value-index c.value-item.result (row_of c.value-item.result) c.len-index.result within
-          c.value-item.is refl (omega arith) (ap (λ n. placed Mux c.len-index.result (mux_of n (row_of c.value-item.result))) (sym all.buses) ∙ sym c.in_ok-mux.ensures.value) same all.told;
+          c.value-item.is refl (omega arith)
+          (ap (λ n. placed Mux c.len-index.result (mux_of n (row_of c.value-item.result))) (sym all.buses)
+          ∙ sym c.in_ok-mux.ensures.value) same all.told;
     }
 
 pub returns-in_err-mux-clause-exact : goal.returns-in_err-mux-clause-exact
@@ -42,13 +45,17 @@ returns-in_err-mux-clause-exact c =
     let found = placed Mux c.len-index.result (mux_of (buses_of roots c.loop-value.muxes.items) (row_of c.value-item.result)) in
     let fails : Fails c.in_err-mux.field-0.0 found =
     fails_with c.in_err-mux.field-0.0 found
-    (c.in_err-mux.ensures.value ∙ ap (λ n. placed Mux c.len-index.result (mux_of n (row_of c.value-item.result))) c.loop-value.invariant.buses) in
-    fault_read (λ (v : Vec MuxSpec Global). v.items) Mux (λ before. mux_of (buses_of roots before)) c.loop-value.muxes.items (muxes_of roots (rows_of c.args.rows.now))
-    c.args.rows.now c.loop-value.value-index c.value-item.result (row_of c.value-item.result) c.len-index.result c.in_err-mux.field-0.0 c.from_residual-in_err-mux.result
+    (c.in_err-mux.ensures.value ∙ ap
+    (λ n. placed Mux c.len-index.result (mux_of n (row_of c.value-item.result))) c.loop-value.invariant.buses) in
+    fault_read (λ (v : Vec MuxSpec Global). v.items) Mux (λ before. mux_of (buses_of roots before)) c.loop-value.muxes.items
+    (muxes_of roots (rows_of c.args.rows.now))
+    c.args.rows.now c.loop-value.value-index c.value-item.result
+    (row_of c.value-item.result) c.len-index.result c.in_err-mux.field-0.0 c.from_residual-in_err-mux.result
     c.loop-value-test.true c.value-item.is refl (omega arith) fails c.loop-value.invariant.told c.from_residual-in_err-mux.ensures.1
 
 pub returns-clause-exact : goal.returns-clause-exact
 returns-clause-exact c =
     let roots = c.args.roots in
-    all_read Mux (λ before. mux_of (buses_of roots before)) c.loop-value.muxes.items (muxes_of roots (rows_of c.args.rows.now)) c.args.rows.now c.loop-value.value-index
+    all_read Mux (λ before. mux_of (buses_of roots before)) c.loop-value.muxes.items
+    (muxes_of roots (rows_of c.args.rows.now)) c.args.rows.now c.loop-value.value-index
     c.loop-value-test.false c.loop-value.invariant.told

@@ -17,5 +17,6 @@ invariant-loop-value l = record {
   some : 1 ≤ l.buses;
   plain : All IsPlainMux l.muxes.items;
   planted : IsPlanted l.fn.roots (reverse l.muxes.items);
-  told : each Mux (λ before. mux_of (buses_of l.fn.roots before)) l.muxes.items (rows_of (drop l.value-index l.rows)) ≡ muxes_of l.fn.roots (rows_of l.rows);
+  told : each Mux (λ before. mux_of (buses_of l.fn.roots before)) l.muxes.items (rows_of (drop l.value-index l.rows)) ≡ muxes_of l.fn.roots
+      (rows_of l.rows);
 }

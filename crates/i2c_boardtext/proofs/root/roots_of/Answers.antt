@@ -28,7 +28,8 @@ returns-in_err-root_at-clause-exact c =
     let found = placed Root c.len-index.result (root_of (row_of c.value-item.result)) in
     let fails : Fails c.in_err-root_at.field-0.0 found = fails_with c.in_err-root_at.field-0.0 found c.in_err-root_at.ensures in
     fault_read (λ (v : Vec RootSpec Global). v.items) Root (λ before. root_of) c.loop-value.roots.items (roots_of (rows_of c.args.rows.now))
-    c.args.rows.now c.loop-value.value-index c.value-item.result (row_of c.value-item.result) c.len-index.result c.in_err-root_at.field-0.0 c.from_residual-in_err-root_at.result
+    c.args.rows.now c.loop-value.value-index c.value-item.result
+    (row_of c.value-item.result) c.len-index.result c.in_err-root_at.field-0.0 c.from_residual-in_err-root_at.result
     c.loop-value-test.true c.value-item.is refl (omega arith) fails c.loop-value.invariant.told c.from_residual-in_err-root_at.ensures.1
 
 pub returns-clause-exact : goal.returns-clause-exact

@@ -11,7 +11,8 @@ push_reserved-requires c = omega (arith, c.loop-value.invariant.count, c.loop-va
 pub returns : goal.returns
 returns c =
     let values = c.args.values.now in
-    c.loop-value.invariant.read ∙ ap (map (λ v. cut_byte (view v))) (take_all c.loop-value.value-index values (omega (arith, c.loop-value-test.false)))
+    c.loop-value.invariant.read ∙ ap (map (λ v. cut_byte (view v)))
+    (take_all c.loop-value.value-index values (omega (arith, c.loop-value-test.false)))
     ∙ mapped cut_byte values
 
 pub loop-value-preserved : goal.loop-value-preserved

@@ -19,4 +19,5 @@ pub returns-clause-plain : goal.returns-clause-plain
 returns-clause-plain c =
     let set = get_member (codes "set") (table_view c.args.table.now) in
     IfOk-weaker c.cut_runs.result (λ x. x.items ≡ cut_runs_in set) (λ x. All (IsPlainRun c.args.size) x.items)
-    (λ x same. rw (same, runs_same c.args.size set c.requires.size c.requires.fits) (runs_plain c.args.size set c.requires.fits)) c.cut_runs.ensures
+    (λ x same. rw (same, runs_same c.args.size set c.requires.size c.requires.fits) (runs_plain c.args.size set c.requires.fits))
+    c.cut_runs.ensures

@@ -13,11 +13,13 @@ loop-call-preserved c =
     let old = c.loop-call.numbers.items in
     elim c.if-eq.branch [
       | then-eq+in_ok-push w ↦
-          listed-more calls c.args.root i c.call-item.result c.eq.result old c.loop-call-test.true c.call-item.is c.eq.ensures c.loop-call.invariant
+          listed-more calls c.args.root i c.call-item.result c.eq.result old c.loop-call-test.true c.call-item.is c.eq.ensures
+          c.loop-call.invariant
           _ w.if-eq.true (ap (λ v. v.items) w.numbers-is ∙ w.in_ok-push.ensures.items)
       | else-eq w ↦
           ap (λ v. v.items) w.numbers-is
-          ∙ unlisted-more calls c.args.root i c.call-item.result c.eq.result old c.loop-call-test.true c.call-item.is c.eq.ensures c.loop-call.invariant w.if-eq.false
+          ∙ unlisted-more calls c.args.root i c.call-item.result c.eq.result old c.loop-call-test.true c.call-item.is c.eq.ensures
+          c.loop-call.invariant w.if-eq.false
     ]
 
 pub returns : goal.returns

@@ -9,7 +9,8 @@ loop-root-preserved c =
     record {
       opened =
           c.push_reserved.ensures.items ∙ ap (λ port. c.loop-root.ports.items ++ port ∷ []) c.in_ok-open.ensures
-          ∙ ap (λ ports. ports ++ opening_fails c.args.board.now c.args.calls.now c.loop-root.root ∷ []) was.opened ∙ sym (listed_more (opening_fails c.args.board.now c.args.calls.now) c.loop-root.root);
+          ∙ ap (λ ports. ports ++ opening_fails c.args.board.now c.args.calls.now c.loop-root.root ∷ []) was.opened
+          ∙ sym (listed_more (opening_fails c.args.board.now c.args.calls.now) c.loop-root.root);
       count = c.push_reserved.ensures.len ∙ ap (λ count. count + 1) was.count;
       room = rw c.push_reserved.ensures.capacity was.room;
     }

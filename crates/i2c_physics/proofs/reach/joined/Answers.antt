@@ -18,17 +18,20 @@ loop-number-preserved c =
           let grown = ap (λ v. v.items) w.joined-is ∙ w.push.ensures.items in
           record {
             few = omega (arith, was.few, ap length grown ∙ length-append old (get_or c.args.numbers.now i 0 ∷ []));
-            joined = kept-more joins c.args.numbers.now i c.joins_at.result old _ c.loop-number-test.true w.if-joins_at.true c.joins_at.ensures was.joined grown;
+            joined = kept-more joins c.args.numbers.now i c.joins_at.result old _ c.loop-number-test.true w.if-joins_at.true
+                c.joins_at.ensures was.joined grown;
           }
       | else-joins_at w ↦
           let same = ap (λ v. v.items) w.joined-is in
           record {
             few = omega (arith, was.few, ap length same);
-            joined = same ∙ left-more joins c.args.numbers.now i c.joins_at.result old c.loop-number-test.true w.if-joins_at.false c.joins_at.ensures was.joined;
+            joined = same ∙ left-more joins c.args.numbers.now i c.joins_at.result old c.loop-number-test.true w.if-joins_at.false
+                c.joins_at.ensures was.joined;
           }
     ]
 
 pub returns : goal.returns
 returns c =
     c.loop-number.invariant.joined
-    ∙ ap (filter (joins_at c.args.chips.now c.args.places.now)) (take_all c.loop-number.number-index c.args.numbers.now (omega (arith, c.loop-number-test.false)))
+    ∙ ap (filter (joins_at c.args.chips.now c.args.places.now))
+    (take_all c.loop-number.number-index c.args.numbers.now (omega (arith, c.loop-number-test.false)))

@@ -25,7 +25,8 @@ loop-number-preserved c =
       | then-not-is_at+then-joins_at w ↦
           let grown = ap (λ v. v.items) w.rest-is ∙ w.push.ensures.items in
           let other : true ≡ test x =
-          ap (λ (h : Bool). not h && true) (sym w.if-not-is_at.true ∙ at) ∙ ap (λ (j : Bool). not (has x) && j) (sym w.if-joins_at.true ∙ w.joins_at.ensures) in
+          ap (λ (h : Bool). not h && true) (sym w.if-not-is_at.true ∙ at)
+          ∙ ap (λ (j : Bool). not (has x) && j) (sym w.if-joins_at.true ∙ w.joins_at.ensures) in
           record {
             few = omega (arith, was.few, ap length grown ∙ length-append old (x ∷ []));
             others = kept-more test numbers i true old _ low refl other was.others grown;
@@ -35,7 +36,8 @@ loop-number-preserved c =
           let out : false ≡ test x =
           elim w.else-not-is_at.branch [
             | else-not-is_at-via-then-not-is_at+else-joins_at v ↦
-                ap (λ (h : Bool). not h && false) (sym v.if-not-is_at.true ∙ at) ∙ ap (λ (j : Bool). not (has x) && j) (sym v.if-joins_at.false ∙ v.joins_at.ensures)
+                ap (λ (h : Bool). not h && false) (sym v.if-not-is_at.true ∙ at)
+                ∙ ap (λ (j : Bool). not (has x) && j) (sym v.if-joins_at.false ∙ v.joins_at.ensures)
             | else-not-is_at-via-else-not-is_at v ↦ ap (λ (h : Bool). not h && joins x) (sym v.if-not-is_at.false ∙ at)
           ] in
           record {
@@ -47,4 +49,5 @@ loop-number-preserved c =
 pub returns : goal.returns
 returns c =
     c.loop-number.invariant.others
-    ∙ ap (others c.args.chips.now c.args.places.now c.args.addr) (take_all c.loop-number.number-index c.args.numbers.now (omega (arith, c.loop-number-test.false)))
+    ∙ ap (others c.args.chips.now c.args.places.now c.args.addr)
+    (take_all c.loop-number.number-index c.args.numbers.now (omega (arith, c.loop-number-test.false)))

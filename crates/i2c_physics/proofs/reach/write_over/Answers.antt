@@ -15,4 +15,5 @@ loop-number-preserved c =
     }
 
 pub returns : goal.returns
-returns c = c.loop-number.invariant.written ∙ take_all c.loop-number.number-index c.args.numbers.now (omega (arith, c.loop-number-test.false))
+returns c = c.loop-number.invariant.written
+    ∙ take_all c.loop-number.number-index c.args.numbers.now (omega (arith, c.loop-number-test.false))

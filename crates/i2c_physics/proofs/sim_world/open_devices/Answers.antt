@@ -14,8 +14,10 @@ loop-device-preserved c =
     let was = c.loop-device.invariant in
     record {
       opened =
-          mapped-more (opened_on (board_of c.args.layout) c.args.root) c.args.layout.devices.now c.loop-device.device-index c.device-item.result c.loop-device.devices.items
-          c.push_reserved.new.self.items _ c.loop-device-test.true c.device-item.is was.opened c.in_ok-open_device.ensures c.push_reserved.ensures.items;
+          mapped-more (opened_on (board_of c.args.layout) c.args.root) c.args.layout.devices.now c.loop-device.device-index
+          c.device-item.result c.loop-device.devices.items
+          c.push_reserved.new.self.items _ c.loop-device-test.true c.device-item.is was.opened c.in_ok-open_device.ensures
+          c.push_reserved.ensures.items;
       count = c.push_reserved.ensures.len ∙ ap (λ n. n + 1) was.count;
       room = rw c.push_reserved.ensures.capacity was.room;
     }

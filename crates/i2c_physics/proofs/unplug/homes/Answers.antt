@@ -15,8 +15,10 @@ loop-device-preserved c =
     let was = c.loop-device.invariant in
     record {
       found =
-          mapped-more (λ (d : DeviceView). root_of (board_of c.args.layout) d.bus) c.args.layout.devices.now c.loop-device.device-index c.device-item.result c.loop-device.homes.items
-          c.push_reserved.new.self.items _ c.loop-device-test.true c.device-item.is was.found (c.root.ensures ∙ ap (λ (d : DeviceView). root_of (board_of c.args.layout) d.bus) c.device.view_is) c.push_reserved.ensures.items;
+          mapped-more (λ (d : DeviceView). root_of (board_of c.args.layout) d.bus) c.args.layout.devices.now c.loop-device.device-index
+          c.device-item.result c.loop-device.homes.items
+          c.push_reserved.new.self.items _ c.loop-device-test.true c.device-item.is was.found (c.root.ensures
+          ∙ ap (λ (d : DeviceView). root_of (board_of c.args.layout) d.bus) c.device.view_is) c.push_reserved.ensures.items;
       count = c.push_reserved.ensures.len ∙ ap (λ n. n + 1) was.count;
       room = rw c.push_reserved.ensures.capacity was.room;
     }

@@ -28,18 +28,30 @@ loop-number-preserved g c =
       | in-Some w ↦ record {
         grown = rw w.states-is (omega arith);
         most = rw w.states-is (omega arith);
-        kept = one-kept c.loop-number.states.items c.match-take_from.states.items c.take_from.result homes n home ws vs all dropped c.take_from.ensures.value c.take_from.ensures.worlds
-            (ap (λ v. v.items) w.states-is ∙ w.push_reserved.ensures.items ∙ sym (ap (λ o. c.loop-number.states.items ++ option_to_list o) w.in-Some.is)) was.kept;
-        there = λ k under. elim (cases_lt k n) [ inl before ↦ was.there k before | inr last ↦ let e : n ≡ k = omega arith in subst (λ j. IsThere us (slice_index homes j) j) e here ];
+        kept = one-kept c.loop-number.states.items c.match-take_from.states.items c.take_from.result homes n home ws vs all dropped
+            c.take_from.ensures.value c.take_from.ensures.worlds
+            (ap (λ v. v.items) w.states-is ∙ w.push_reserved.ensures.items
+            ∙ sym (ap (λ o. c.loop-number.states.items ++ option_to_list o) w.in-Some.is)) was.kept;
+        there = λ k under. elim (cases_lt k n) [
+          | inl before ↦ was.there k before
+          | inr last ↦ let e : n ≡ k = omega arith in
+              subst (λ j. IsThere us (slice_index homes j) j) e here
+        ];
         before = λ h k there. was.before h k (there-before ws vs home n h k c.take_from.ensures.worlds there);
         logs = c.take_from.ensures.logs ∙ was.logs;
       }
       | in_default w ↦ record {
         grown = rw w.states-is (omega arith);
         most = rw w.states-is (omega arith);
-        kept = one-kept c.loop-number.states.items c.match-take_from.states.items c.take_from.result homes n home ws vs all dropped c.take_from.ensures.value c.take_from.ensures.worlds
-            (ap (λ v. v.items) w.states-is ∙ sym (append-nil c.loop-number.states.items) ∙ sym (ap (λ o. c.loop-number.states.items ++ option_to_list o) w.in_default.is)) was.kept;
-        there = λ k under. elim (cases_lt k n) [ inl before ↦ was.there k before | inr last ↦ let e : n ≡ k = omega arith in subst (λ j. IsThere us (slice_index homes j) j) e here ];
+        kept = one-kept c.loop-number.states.items c.match-take_from.states.items c.take_from.result homes n home ws vs all dropped
+            c.take_from.ensures.value c.take_from.ensures.worlds
+            (ap (λ v. v.items) w.states-is ∙ sym (append-nil c.loop-number.states.items)
+            ∙ sym (ap (λ o. c.loop-number.states.items ++ option_to_list o) w.in_default.is)) was.kept;
+        there = λ k under. elim (cases_lt k n) [
+          | inl before ↦ was.there k before
+          | inr last ↦ let e : n ≡ k = omega arith in
+              subst (λ j. IsThere us (slice_index homes j) j) e here
+        ];
         before = λ h k there. was.before h k (there-before ws vs home n h k c.take_from.ensures.worlds there);
         logs = c.take_from.ensures.logs ∙ was.logs;
       }
@@ -57,7 +69,14 @@ loop-number-init g c = record {
 
 pub push_reserved-requires : goal.push_reserved-requires
 push_reserved-requires g c =
-    omega (arith, c.loop-number.invariant.grown, c.loop-number.invariant.most, c.loop-number-test.true, c.deref-home-items.ensures.len, c.requires)
+    omega (
+      arith,
+      c.loop-number.invariant.grown,
+      c.loop-number.invariant.most,
+      c.loop-number-test.true,
+      c.deref-home-items.ensures.len,
+      c.requires,
+    )
 
 pub returns-clause-kept : goal.returns-clause-kept
 returns-clause-kept g c =
@@ -69,7 +88,8 @@ returns-clause-kept g c =
     ∙ ap (λ hs. c.loop-number.states.items ++ states_from n hs ws) (sym (drop_all n homes over)) ∙ c.loop-number.invariant.kept
 
 pub returns-clause-there : goal.returns-clause-there
-returns-clause-there g c = λ k under. c.loop-number.invariant.there k (omega (arith, under, c.loop-number-test.false, c.deref-home-items.ensures.len))
+returns-clause-there g c = λ k under. c.loop-number.invariant.there k
+    (omega (arith, under, c.loop-number-test.false, c.deref-home-items.ensures.len))
 
 pub returns-clause-logs : goal.returns-clause-logs
 returns-clause-logs g c = c.loop-number.invariant.logs

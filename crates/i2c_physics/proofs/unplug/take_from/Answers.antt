@@ -11,14 +11,16 @@ pub returns-then-home-len-clause-value : goal.returns-then-home-len-clause-value
 returns-then-home-len-clause-value g c =
     let ws = map (λ p. (g.P.Returned.port p).world) c.args.ports.now.items in
     let at : c.from-home.result ≡ c.args.home = c.from-home.ensures ∙ c.home.view_is in
-    let past : length ws ≤ c.args.home = omega (arith, at, length-map c.args.ports.now.items (λ p. (g.P.Returned.port p).world), c.len.ensures, c.if-home-len.true) in
+    let past : length ws ≤ c.args.home = omega
+    (arith, at, length-map c.args.ports.now.items (λ p. (g.P.Returned.port p).world), c.len.ensures, c.if-home-len.true) in
     ap (λ o. device_of o c.args.number) (sym (slice_get_past ws c.args.home past))
 
 pub returns-then-home-len-clause-there : goal.returns-then-home-len-clause-there
 returns-then-home-len-clause-there g c w there own =
     let ws = map (λ p. (g.P.Returned.port p).world) c.args.ports.now.items in
     let at : c.from-home.result ≡ c.args.home = c.from-home.ensures ∙ c.home.view_is in
-    let past : length ws ≤ c.args.home = omega (arith, at, length-map c.args.ports.now.items (λ p. (g.P.Returned.port p).world), c.len.ensures, c.if-home-len.true) in
+    let past : length ws ≤ c.args.home = omega
+    (arith, at, length-map c.args.ports.now.items (λ p. (g.P.Returned.port p).world), c.len.ensures, c.if-home-len.true) in
     let none : None ≡ Some w = sym (slice_get_past ws c.args.home past) ∙ there in
     absurd cc
 
@@ -34,7 +36,8 @@ pub returns-clause-value : goal.returns-clause-value
 returns-clause-value g c =
     let at : c.from-home.result ≡ c.args.home = c.from-home.ensures ∙ c.home.view_is in
     c.take_device.ensures.value ∙ ap (λ p. own_device (g.P.Returned.port p).world c.args.number) c.index_mut.ensures.value
-    ∙ at-home (λ p. (g.P.Returned.port p).world) c.args.ports.now.items c.from-home.result c.args.number c.index_mut.result.now (omega arith)
+    ∙ at-home (λ p. (g.P.Returned.port p).world) c.args.ports.now.items c.from-home.result c.args.number c.index_mut.result.now
+    (omega arith)
     ∙ ap (λ h. state_at (map (λ p. (g.P.Returned.port p).world) c.args.ports.now.items) h c.args.number) at
 
 pub returns-clause-there : goal.returns-clause-there
@@ -49,7 +52,8 @@ returns-clause-there g c w there own =
 pub returns-clause-worlds : goal.returns-clause-worlds
 returns-clause-worlds g c =
     let at : c.from-home.result ≡ c.args.home = c.from-home.ensures ∙ c.home.view_is in
-    one-taken (λ p. (g.P.Returned.port p).world) c.args.ports.now.items c.from-home.result c.args.number c.index_mut.result.now c.take_device.new.self (omega arith)
+    one-taken (λ p. (g.P.Returned.port p).world) c.args.ports.now.items c.from-home.result c.args.number c.index_mut.result.now
+    c.take_device.new.self (omega arith)
     (c.take_device.ensures.world ∙ ap (λ p. without (g.P.Returned.port p).world c.args.number) c.index_mut.ensures.value)
     ∙ ap (λ h. taken_out (map (λ p. (g.P.Returned.port p).world) c.args.ports.now.items) h c.args.number) at
 

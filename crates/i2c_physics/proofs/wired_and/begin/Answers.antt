@@ -19,12 +19,14 @@ add_told-requires-clause-few g c = omega (arith, c.requires.few, c.tell-wired_an
 
 pub add_told-requires-clause-started : goal.add_told-requires-clause-started
 add_told-requires-clause-started g c =
-    let same : length c.tell-others.new.targets ≡ length c.args.targets.now = omega (arith, c.tell-wired_and.auto.targets, c.tell-others.auto.targets) in
+    let same : length c.tell-others.new.targets ≡ length c.args.targets.now = omega
+    (arith, c.tell-wired_and.auto.targets, c.tell-others.auto.targets) in
     rw same c.requires.started
 
 pub add_told-requires-clause-told : goal.add_told-requires-clause-told
 add_told-requires-clause-told g c =
-    let same : length c.tell-others.new.targets ≡ length c.args.targets.now = omega (arith, c.tell-wired_and.auto.targets, c.tell-others.auto.targets) in
+    let same : length c.tell-others.new.targets ≡ length c.args.targets.now = omega
+    (arith, c.tell-wired_and.auto.targets, c.tell-others.auto.targets) in
     rw same c.requires.told
 
 pub returns-clause-fed : goal.returns-clause-fed
@@ -38,7 +40,8 @@ returns-clause-fed g c =
 pub returns-clause-answered : goal.returns-clause-answered
 returns-clause-answered g c =
     let start = event.Start c.args.reading in
-    c.tell-wired_and.ensures.answered ∙ ap (λ ns. wired_and_of (answers g.T.Target.table (to_those ns start) 0 c.args.targets.now)) c.as_slice.ensures.value
+    c.tell-wired_and.ensures.answered
+    ∙ ap (λ ns. wired_and_of (answers g.T.Target.table (to_those ns start) 0 c.args.targets.now)) c.as_slice.ensures.value
 
 pub returns-clause-hearing : goal.returns-clause-hearing
 returns-clause-hearing g c =
@@ -48,5 +51,6 @@ returns-clause-hearing g c =
 
 pub returns-clause-started : goal.returns-clause-started
 returns-clause-started g c =
-    let same : length c.tell-others.new.targets ≡ length c.args.targets.now = omega (arith, c.tell-wired_and.auto.targets, c.tell-others.auto.targets) in
+    let same : length c.tell-others.new.targets ≡ length c.args.targets.now = omega
+    (arith, c.tell-wired_and.auto.targets, c.tell-others.auto.targets) in
     c.add_told.ensures.started ∙ ap (λ n. union_of n c.args.reach.now.started.items c.args.reach.now.addressed.items) same

@@ -39,13 +39,16 @@ loop-left-preserved g c =
     let here = get_or numbers (left - 1) 0 in
     let d = c.index-targets-from.result in
     let fed = c.loop-left.invariant.fed in
-    let said = sym (told-answered numbers left (left - 1) n (length xs) c.requires.rising one short c.from-in-loop-left.ensures t c.args.event xs now d refl fed
+    let said = sym (told-answered numbers left (left - 1) n
+    (length xs) c.requires.rising one short c.from-in-loop-left.ensures t c.args.event xs now d refl fed
     c.on-answer.result c.on-answer.ensures.answer) in
     record {
       in_range = omega arith;
-      fed = told-fed numbers left (left - 1) n (length xs) c.requires.rising one short c.from-in-loop-left.ensures t c.args.event xs now d refl fed
+      fed = told-fed numbers left (left - 1) n
+          (length xs) c.requires.rising one short c.from-in-loop-left.ensures t c.args.event xs now d refl fed
           c.on-answer.new.self c.on-answer.ensures.after;
       answered = c.add.ensures here _ c.loop-left.invariant.answered ∙ ap wired_and_of said;
-      heard = c.hear.ensures.items ∙ ap (λ ns. if has_heard c.on-answer.result then here ∷ ns else ns) c.loop-left.invariant.heard ∙ ap numbers_of said;
+      heard = c.hear.ensures.items ∙ ap (λ ns. if has_heard c.on-answer.result then here ∷ ns else ns) c.loop-left.invariant.heard
+          ∙ ap numbers_of said;
       room = omega arith;
     }

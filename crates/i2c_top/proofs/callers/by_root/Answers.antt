@@ -11,7 +11,8 @@ overflow_cast-number g c =
     let came = c.loop-port.yielded in
     let below = below-next (enumerate_from 0) c.args.ports.items came _ _ _ _ _ _ at c.in-Some.ensures.steps.0 in
     let number : c.len-number.result ≡ length came =
-    so-many (enumerate_from 0) c.args.ports.items came _ _ _ _ c.len-number.result (vec_len c.loop-port.by_root) at (length-enumerate_from 0 came) c.len-number.ensures c.loop-port.by_root.ok.0 in
+    so-many (enumerate_from 0) c.args.ports.items came _ _ _ _ c.len-number.result (vec_len c.loop-port.by_root) at
+    (length-enumerate_from 0 came) c.len-number.ensures c.loop-port.by_root.ok.0 in
     let count = c.requires.count in
     let few = c.requires.few in
     omega (arith, below, count, few, number)
@@ -20,7 +21,8 @@ pub push_reserved-requires : goal.push_reserved-requires
 push_reserved-requires g c =
     let came = c.loop-port.yielded in
     let room : length c.loop-port.by_root.items < vec_capacity c.loop-port.by_root =
-    room-next (enumerate_from 0) c.args.ports.items came _ _ _ _ _ _ c.loop-port.invariant c.in-Some.ensures.steps.0 (length-enumerate_from 0 came) in
+    room-next (enumerate_from 0) c.args.ports.items came _ _ _ _ _ _ c.loop-port.invariant c.in-Some.ensures.steps.0
+    (length-enumerate_from 0 came) in
     let len : vec_len c.loop-port.by_root ≡ length c.loop-port.by_root.items = c.loop-port.by_root.ok.0 in
     omega (arith, room, len)
 
@@ -29,6 +31,8 @@ loop-port-preserved g c =
     let at = c.loop-port.invariant in
     let came = c.loop-port.yielded in
     let number : c.len-number.result ≡ length came =
-    so-many (enumerate_from 0) c.args.ports.items came _ _ _ _ c.len-number.result (vec_len c.loop-port.by_root) at (length-enumerate_from 0 came) c.len-number.ensures c.loop-port.by_root.ok.0 in
-    over-next (enumerate_from 0) c.args.ports.items came _ _ _ _ _ _ _ _ _ _ at c.in-Some.ensures.steps.0 c.in-Some.ensures.steps.1 c.push_reserved.ensures.items c.push_reserved.ensures.capacity
+    so-many (enumerate_from 0) c.args.ports.items came _ _ _ _ c.len-number.result (vec_len c.loop-port.by_root) at
+    (length-enumerate_from 0 came) c.len-number.ensures c.loop-port.by_root.ok.0 in
+    over-next (enumerate_from 0) c.args.ports.items came _ _ _ _ _ _ _ _ _ _ at c.in-Some.ensures.steps.0 c.in-Some.ensures.steps.1
+    c.push_reserved.ensures.items c.push_reserved.ensures.capacity
     (numbered-next came c.in-Some.port c.len-number.result number)

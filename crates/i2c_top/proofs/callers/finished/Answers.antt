@@ -14,7 +14,8 @@ follow-requires-clause-words g c κs within =
     let listed : c.as_slice.result.now ≡ unwrap_or words [] = c.as_slice.ensures.value ∙ c.listed-words.ensures in
     subst (λ (ss : List (ℕ × ScriptView)). All (λ n. has_caller ss n ≡ true) c.as_slice.result.now) (sym of.scripts_are)
     (words-placed g.P.Port c.args.board.now of.plain c.args.scripts.items c.requires.may.opened c.as_slice.result.now
-    (subst (λ (ws : List ℕ). All (λ n. n < length c.args.scripts.items) ws) (sym listed) (named-all (length c.args.scripts.items) words c.requires.named)))
+    (subst (λ (ws : List ℕ). All (λ n. n < length c.args.scripts.items) ws) (sym listed)
+    (named-all (length c.args.scripts.items) words c.requires.named)))
 
 pub returns : goal.returns
 returns g c =
@@ -22,6 +23,8 @@ returns g c =
     let apart = c.take_apart.ensures in
     let words = option_map (λ v. v.items) c.args.words in
     let listed : c.as_slice.result.now ≡ unwrap_or words [] = c.as_slice.ensures.value ∙ c.listed-words.ensures in
-    taken-apart g.P.Port c.args.board.now c.args.scripts.items c.args.ports.items words c.in_ok-core.core c.follow.new.self c.take_apart.result c.in_ok-core.ensures.of run.opening run.roots
+    taken-apart g.P.Port c.args.board.now c.args.scripts.items c.args.ports.items words c.in_ok-core.core c.follow.new.self
+    c.take_apart.result c.in_ok-core.ensures.of run.opening run.roots
     apart.scripts apart.taken apart.worlds apart.logs apart.journal run.told run.through
-    (λ tells. order-kept words c.follow.new.self.journal.entries (subst (λ (ws : List ℕ). Follows ws c.follow.new.self.journal.entries) listed (run.follows tells c.in_ok-core.ensures.entries)))
+    (λ tells. order-kept words c.follow.new.self.journal.entries
+    (subst (λ (ws : List ℕ). Follows ws c.follow.new.self.journal.entries) listed (run.follows tells c.in_ok-core.ensures.entries)))

@@ -6,5 +6,6 @@ pub returns : goal.returns
 returns g c =
     let run = c.run_all.ensures in
     let apart = c.take_apart.ensures in
-    taken-apart g.P.Port c.args.board.now c.args.scripts.items c.args.ports.items None c.in_ok-core.core c.run_all.result c.take_apart.result c.in_ok-core.ensures.of run.opening run.roots apart.scripts apart.taken
+    taken-apart g.P.Port c.args.board.now c.args.scripts.items c.args.ports.items None c.in_ok-core.core c.run_all.result
+    c.take_apart.result c.in_ok-core.ensures.of run.opening run.roots apart.scripts apart.taken
     apart.worlds apart.logs apart.journal run.told run.through (λ tells. tt)

@@ -5,5 +5,6 @@ use Rattle.i2c_top.proofs.cost.cost_of.Goals as goal
 
 pub returns : goal.returns
 returns c =
-    c.loop-script.invariant.sum ∙ ap (sum_by cost_of_opened) (take_all c.loop-script.script-index c.args.scripts.now (omega (arith, c.loop-script-test.false)))
+    c.loop-script.invariant.sum ∙ ap (sum_by cost_of_opened)
+    (take_all c.loop-script.script-index c.args.scripts.now (omega (arith, c.loop-script-test.false)))
     ∙ costs_are c.args.board.now c.args.scripts.now c.requires.opened

@@ -11,10 +11,14 @@ use Rattle.i2c_top.proofs.files.read_files.Goals as goal
 pub returns-in_err-scripts-clause-refused : goal.returns-in_err-scripts-clause-refused
 returns-in_err-scripts-clause-refused g c =
     passed_on c.from_residual-in_err-scripts.result c.in_err-scripts.field-0.0 _ c.from_residual-in_err-scripts.ensures.1
-    (scripts_refusal g.S.Shelf.tells (g.S.Shelf.file c.args.shelf.now) (g.S.Shelf.file c.read_accepted.new.shelf) c.in_ok-board.board (names_told c.args.names.now) (g.S.Shelf.faults c.args.shelf.now)
-    (g.S.Shelf.faults c.read_accepted.new.shelf) (g.S.Shelf.faults c.scripts_in.new.shelf) c.in_err-scripts.field-0.0 c.read_accepted.ensures.kept.files c.read_accepted.ensures.kept.others
+    (scripts_refusal g.S.Shelf.tells (g.S.Shelf.file c.args.shelf.now) (g.S.Shelf.file c.read_accepted.new.shelf) c.in_ok-board.board
+    (names_told c.args.names.now) (g.S.Shelf.faults c.args.shelf.now)
+    (g.S.Shelf.faults c.read_accepted.new.shelf)
+    (g.S.Shelf.faults c.scripts_in.new.shelf) c.in_err-scripts.field-0.0 c.read_accepted.ensures.kept.files
+    c.read_accepted.ensures.kept.others
     c.in_ok-board.ensures.board
-    (subst (λ (n : ℕ). IsRefusedScript n g.S.Shelf.tells (g.S.Shelf.file c.read_accepted.new.shelf) c.in_ok-board.board (names_told c.args.names.now).scripts (g.S.Shelf.faults c.read_accepted.new.shelf)
+    (subst (λ (n : ℕ). IsRefusedScript n g.S.Shelf.tells (g.S.Shelf.file c.read_accepted.new.shelf) c.in_ok-board.board
+    (names_told c.args.names.now).scripts (g.S.Shelf.faults c.read_accepted.new.shelf)
     (g.S.Shelf.faults c.scripts_in.new.shelf) c.in_err-scripts.field-0.0) c.first_script.ensures c.in_err-scripts.ensures.refused))
 
 pub returns-in_err-words-clause-refused : goal.returns-in_err-words-clause-refused
@@ -23,13 +27,18 @@ returns-in_err-words-clause-refused g c =
     let count = c.in_ok-scripts.ensures.count ∙ sym (length-map c.args.names.now.scripts.now string_bytes) in
     let file = g.S.Shelf.file c.args.shelf.now in
     passed_on c.from_residual-in_err-words.result c.in_err-words.field-0.0 _ c.from_residual-in_err-words.ensures.1
-    (order_refusal g.S.Shelf.tells file (g.S.Shelf.file c.scripts_in.new.shelf) c.in_ok-board.board names.board names.schedule names.scripts (g.S.Shelf.faults c.args.shelf.now) (g.S.Shelf.faults c.scripts_in.new.shelf)
-    (g.S.Shelf.faults c.order_in.new.shelf) c.callers_of.result c.in_err-words.field-0.0 (c.callers_of.ensures ∙ ap length c.as_slice.ensures.value ∙ count)
+    (order_refusal g.S.Shelf.tells file (g.S.Shelf.file c.scripts_in.new.shelf) c.in_ok-board.board names.board names.schedule names.scripts
+    (g.S.Shelf.faults c.args.shelf.now) (g.S.Shelf.faults c.scripts_in.new.shelf)
+    (g.S.Shelf.faults c.order_in.new.shelf) c.callers_of.result c.in_err-words.field-0.0 (c.callers_of.ensures
+    ∙ ap length c.as_slice.ensures.value ∙ count)
     (λ n. c.scripts_in.ensures.kept.files n ∙ c.read_accepted.ensures.kept.files n)
     (λ place at. let before = schedule_before names.schedule place at in
-    c.scripts_in.ensures.kept.others place (λ p. absurd (omega (arith, p.0, before.1, c.first_script.ensures))) ∙ c.read_accepted.ensures.kept.others place (λ e. absurd (omega (arith, e, before.0))))
+    c.scripts_in.ensures.kept.others place (λ p. absurd (omega (arith, p.0, before.1, c.first_script.ensures)))
+    ∙ c.read_accepted.ensures.kept.others place (λ e. absurd (omega (arith, e, before.0))))
     c.in_ok-board.ensures.board
-    (all_scripts g.S.Shelf.tells file (g.S.Shelf.file c.read_accepted.new.shelf) names.scripts c.in_ok-board.board c.in_ok-scripts.scripts.items c.read_accepted.ensures.kept.files count c.in_ok-scripts.ensures.scripts)
+    (all_scripts g.S.Shelf.tells file
+    (g.S.Shelf.file c.read_accepted.new.shelf) names.scripts c.in_ok-board.board c.in_ok-scripts.scripts.items
+    c.read_accepted.ensures.kept.files count c.in_ok-scripts.ensures.scripts)
     c.in_err-words.ensures.refused)
 
 pub returns-in_err-check_cost-clause-refused : goal.returns-in_err-check_cost-clause-refused
@@ -38,11 +47,16 @@ returns-in_err-check_cost-clause-refused g c =
     let count = c.in_ok-scripts.ensures.count ∙ sym (length-map c.args.names.now.scripts.now string_bytes) in
     let scripts = c.in_ok-scripts.scripts.items in
     passed_on c.from_residual-in_err-check_cost.result c.in_err-check_cost.field-0.0 _ c.from_residual-in_err-check_cost.ensures.1
-    (cost_refusal g.S.Shelf.tells (g.S.Shelf.file c.args.shelf.now) names (g.S.Shelf.faults c.args.shelf.now) (g.S.Shelf.faults c.order_in.new.shelf) c.in_ok-board.board (texts_of scripts)
+    (cost_refusal g.S.Shelf.tells (g.S.Shelf.file c.args.shelf.now) names (g.S.Shelf.faults c.args.shelf.now)
+    (g.S.Shelf.faults c.order_in.new.shelf) c.in_ok-board.board (texts_of scripts)
     (option_map (λ v. v.items) c.in_ok-words.words) c.in_err-check_cost.field-0.0
-    (λ t. has_read _ _ _ names g.S.Shelf.tells c.in_ok-board.board scripts (option_map (λ v. v.items) c.in_ok-words.words) c.read_accepted.ensures.kept.files c.scripts_in.ensures.kept.files t (c.in_ok-board.ensures.board t) count
-    c.in_ok-scripts.ensures.scripts c.callers_of.result (c.callers_of.ensures ∙ ap length c.as_slice.ensures.value ∙ count) (c.in_ok-words.ensures.order t))
-    (subst (λ xs. IsTooDear (cost_of_texts c.in_ok-board.board (texts_of xs)) c.in_err-check_cost.field-0.0) c.as_slice-2.ensures.value c.in_err-check_cost.ensures.dear))
+    (λ t. has_read _ _ _ names g.S.Shelf.tells c.in_ok-board.board scripts
+    (option_map (λ v. v.items) c.in_ok-words.words) c.read_accepted.ensures.kept.files c.scripts_in.ensures.kept.files t
+    (c.in_ok-board.ensures.board t) count
+    c.in_ok-scripts.ensures.scripts c.callers_of.result (c.callers_of.ensures ∙ ap length c.as_slice.ensures.value ∙ count)
+    (c.in_ok-words.ensures.order t))
+    (subst (λ xs. IsTooDear (cost_of_texts c.in_ok-board.board (texts_of xs)) c.in_err-check_cost.field-0.0) c.as_slice-2.ensures.value
+    c.in_err-check_cost.ensures.dear))
 
 pub returns-in_err-check_cost-clause-kept : goal.returns-in_err-check_cost-clause-kept
 returns-in_err-check_cost-clause-kept g c =
@@ -58,8 +72,10 @@ pub returns-clause-read : goal.returns-clause-read
 returns-clause-read g c =
     let names = names_told c.args.names.now in
     let count = c.in_ok-scripts.ensures.count ∙ sym (length-map c.args.names.now.scripts.now string_bytes) in
-    λ t. has_read _ _ _ names g.S.Shelf.tells c.in_ok-board.board c.in_ok-scripts.scripts.items (option_map (λ v. v.items) c.in_ok-words.words) c.read_accepted.ensures.kept.files c.scripts_in.ensures.kept.files t
-    (c.in_ok-board.ensures.board t) count c.in_ok-scripts.ensures.scripts c.callers_of.result (c.callers_of.ensures ∙ ap length c.as_slice.ensures.value ∙ count) (c.in_ok-words.ensures.order t)
+    λ t. has_read _ _ _ names g.S.Shelf.tells c.in_ok-board.board c.in_ok-scripts.scripts.items
+    (option_map (λ v. v.items) c.in_ok-words.words) c.read_accepted.ensures.kept.files c.scripts_in.ensures.kept.files t
+    (c.in_ok-board.ensures.board t) count c.in_ok-scripts.ensures.scripts c.callers_of.result (c.callers_of.ensures
+    ∙ ap length c.as_slice.ensures.value ∙ count) (c.in_ok-words.ensures.order t)
 
 pub scripts_in-requires-clause-few : goal.scripts_in-requires-clause-few
 scripts_in-requires-clause-few g c = grind (arith, common_steps)
@@ -85,7 +101,8 @@ returns-in_err-board-clause-kept g c = grind (arith, common_steps)
 pub returns-in_err-board-clause-unreached : goal.returns-in_err-board-clause-unreached
 returns-in_err-board-clause-unreached g c =
     passed_on c.from_residual.result c.in_err-board.field-0.0 _ c.from_residual.ensures.1
-    (board_unreached (names_told c.args.names.now).schedule _ (g.S.Shelf.faults c.args.shelf.now) (g.S.Shelf.faults c.read_accepted.new.shelf) c.in_err-board.field-0.0 c.read_accepted.ensures.kept.others
+    (board_unreached (names_told c.args.names.now).schedule _ (g.S.Shelf.faults c.args.shelf.now)
+    (g.S.Shelf.faults c.read_accepted.new.shelf) c.in_err-board.field-0.0 c.read_accepted.ensures.kept.others
     c.in_err-board.ensures.refused)
 
 pub returns-in_err-scripts-clause-kept : goal.returns-in_err-scripts-clause-kept
@@ -97,16 +114,19 @@ returns-in_err-scripts-clause-unreached g c =
     let first = c.first_script.ensures in
     let many = length-map c.args.names.now.scripts.now string_bytes in
     passed_on c.from_residual-in_err-scripts.result c.in_err-scripts.field-0.0 _ c.from_residual-in_err-scripts.ensures.1
-    (scripts_unreached names.schedule g.S.Shelf.tells (g.S.Shelf.file c.read_accepted.new.shelf) c.in_ok-board.board names.scripts (g.S.Shelf.faults c.args.shelf.now) (g.S.Shelf.faults c.read_accepted.new.shelf)
+    (scripts_unreached names.schedule g.S.Shelf.tells (g.S.Shelf.file c.read_accepted.new.shelf) c.in_ok-board.board names.scripts
+    (g.S.Shelf.faults c.args.shelf.now) (g.S.Shelf.faults c.read_accepted.new.shelf)
     (g.S.Shelf.faults c.scripts_in.new.shelf) c.in_err-scripts.field-0.0 c.read_accepted.ensures.kept.others
     (λ place no. c.scripts_in.ensures.kept.others place (λ h. no (omega (arith, h.0, first), omega (arith, h.1, first, many))))
-    (subst (λ (n : ℕ). IsRefusedScript n g.S.Shelf.tells (g.S.Shelf.file c.read_accepted.new.shelf) c.in_ok-board.board names.scripts (g.S.Shelf.faults c.read_accepted.new.shelf) (g.S.Shelf.faults c.scripts_in.new.shelf) c.in_err-scripts.field-0.0)
+    (subst (λ (n : ℕ). IsRefusedScript n g.S.Shelf.tells (g.S.Shelf.file c.read_accepted.new.shelf) c.in_ok-board.board names.scripts
+    (g.S.Shelf.faults c.read_accepted.new.shelf) (g.S.Shelf.faults c.scripts_in.new.shelf) c.in_err-scripts.field-0.0)
     first c.in_err-scripts.ensures.refused))
 
 pub returns-in_err-words-clause-unreached : goal.returns-in_err-words-clause-unreached
 returns-in_err-words-clause-unreached g c =
     passed_on c.from_residual-in_err-words.result c.in_err-words.field-0.0 _ c.from_residual-in_err-words.ensures.1
-    (order_unreached (names_told c.args.names.now).schedule g.S.Shelf.tells (g.S.Shelf.file c.scripts_in.new.shelf) c.callers_of.result (g.S.Shelf.faults c.args.shelf.now) (g.S.Shelf.faults c.scripts_in.new.shelf)
+    (order_unreached (names_told c.args.names.now).schedule g.S.Shelf.tells (g.S.Shelf.file c.scripts_in.new.shelf) c.callers_of.result
+    (g.S.Shelf.faults c.args.shelf.now) (g.S.Shelf.faults c.scripts_in.new.shelf)
     (g.S.Shelf.faults c.order_in.new.shelf) c.in_err-words.field-0.0 c.in_err-words.ensures.refused)
 
 pub returns-in_err-check_cost-clause-unreached : goal.returns-in_err-check_cost-clause-unreached

@@ -4,4 +4,5 @@ use Rattle.i2c_top.proofs.files.schedule_in.Goals as goal
 
 pub returns-clause-schedule : goal.returns-clause-schedule
 returns-clause-schedule g c =
-    λ t. schedule_in _ _ _ _ c.words_of.result (λ v. v.items) (c.in_ok-text.ensures.bytes t ∙ ap (λ x. Some x) (sym c.as_slice.ensures.value)) c.words_of.ensures.read
+    λ t. schedule_in _ _ _ _ c.words_of.result (λ v. v.items) (c.in_ok-text.ensures.bytes t
+    ∙ ap (λ x. Some x) (sym c.as_slice.ensures.value)) c.words_of.ensures.read

@@ -10,7 +10,8 @@ returns-clause-success g c =
     let old = outside g.S.Shelf g.K.Sink g.R.Rig g.R.P.Port.tells c.args.shelf.now c.args.sink.now c.args.rig.now in
     let new = outside g.S.Shelf g.K.Sink g.R.Rig g.R.P.Port.tells c.answer.new.shelf c.answer.new.sink c.answer.new.rig in
     λ shelf sink rig ports names same ok.
-    ended_replayed names old new c.answer.result (subst (λ q. HasEnded q old new c.answer.result) same c.answer.ensures.ended) shelf sink rig ports ok
+    ended_replayed names old new c.answer.result
+    (subst (λ q. HasEnded q old new c.answer.result) same c.answer.ensures.ended) shelf sink rig ports ok
 
 pub returns-clause-checked : goal.returns-clause-checked
 returns-clause-checked g c =

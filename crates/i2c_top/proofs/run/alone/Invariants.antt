@@ -5,4 +5,5 @@ use Rattle.i2c_top.proofs.Numbering.{GoesOver}
 use Rattle.i2c_top.proofs.run.alone.Given as goal
 
 abbrev pub invariant-loop-port : goal.invariant-loop-port
-invariant-loop-port g l = GoesOver (map (λ (p : ℕ × _). p.1)) l.fn.ports.items l.yielded (into_iter_items l.port-iterator) (into_iter_len l.port-iterator) l.alone.items (vec_capacity l.alone)
+invariant-loop-port g l = GoesOver (map (λ (p : ℕ × _). p.1)) l.fn.ports.items l.yielded (into_iter_items l.port-iterator)
+    (into_iter_len l.port-iterator) l.alone.items (vec_capacity l.alone)

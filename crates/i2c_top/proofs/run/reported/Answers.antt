@@ -19,17 +19,21 @@ returns-clause-run g c =
     λ tells tell scripts ports words kept.
     let parts = c.in-Ok.parts in
     let left : IsLeftOf g.R.P.Port (g.R.Rig.board_of c.args.rig.now) scripts ports words parts =
-    subst (λ (r : Result (Parts _ CallerView) _). IfOk r (IsLeftOf g.R.P.Port (g.R.Rig.board_of c.args.rig.now) scripts ports words)) c.in-Ok.is kept in
+    subst (λ (r : Result (Parts _ CallerView) _). IfOk r (IsLeftOf g.R.P.Port (g.R.Rig.board_of c.args.rig.now) scripts ports words))
+    c.in-Ok.is kept in
     let b = g.R.Rig.board_of c.args.rig.now in
     let row = g.R.P.Port in
     let journal = parts.journal.entries in
     let bytes = c.in_ok-report_of_callers.field-0.items in
     let worlds : List World = map (λ p. row.world p.1) parts.ports.items in
     let logs : List (List PortCall) = map (λ p. row.log p.1) parts.ports.items in
-    let given : map row.world c.alone.result.items ≡ worlds = ap (map row.world) c.alone.ensures ∙ twice row.world (λ p. p.1) parts.ports.items in
+    let given : map row.world c.alone.result.items ≡ worlds = ap (map row.world) c.alone.ensures
+    ∙ twice row.world (λ p. p.1) parts.ports.items in
     let logged : map row.log c.alone.result.items ≡ logs = ap (map row.log) c.alone.ensures ∙ twice row.log (λ p. p.1) parts.ports.items in
     let printed : bytes ≡ report_lines (map section_of (callers_of parts)) journal =
-    c.in_ok-report_of_callers.ensures ∙ ap (λ (ss : List (Seat CallerView)). report_lines (map (λ (s : Seat CallerView). section_of s.caller) ss) journal) c.as_slice.ensures.value
+    c.in_ok-report_of_callers.ensures
+    ∙ ap (λ (ss : List (Seat CallerView)). report_lines (map (λ (s : Seat CallerView). section_of s.caller) ss) journal)
+    c.as_slice.ensures.value
     ∙ ap (λ (xs : List (List ℕ)). report_lines xs journal) (sym (twice section_of (λ (s : Seat CallerView). s.caller) parts.seats.items)) in
     let states = g.R.Rig.states c.unplug-2.new.self in
     let kept_logs = g.R.Rig.logs c.unplug-2.new.self in
@@ -38,6 +42,7 @@ returns-clause-run g c =
       journal = journal;
       is_run = run-over b (callers_of parts) MOST_CALLERS journal worlds logs scripts_fair (left.over tell) bytes kept_logs states printed
           (subst (λ (ws : List World). AreWorldsOf b ws → states ≡ devices_of b ws) given (c.unplug-2.ensures.states tells tell))
-          (λ are. subst (λ (ws : List World). AreWorldsOf b ws → kept_logs ≡ map row.log c.alone.result.items) given (c.unplug-2.ensures.logs tells tell) are ∙ logged);
+          (λ are. subst (λ (ws : List World). AreWorldsOf b ws → kept_logs ≡ map row.log c.alone.result.items) given
+          (c.unplug-2.ensures.logs tells tell) are ∙ logged);
       ordered = left.ordered tell;
     })

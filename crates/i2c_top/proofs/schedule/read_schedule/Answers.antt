@@ -11,7 +11,15 @@ loop-rest-preserved c =
     let size : c.len.result ≡ length at.words.items = search rules in
     record {
       begins = rest.begins;
-      within = omega (arith, ap length pushed, length-append at.words.items (c.in_ok-next_caller.field-0 ∷ []), size, c.in_ok-next_caller.ensures.room);
+      within = omega (
+        arith,
+        ap length pushed,
+        length-append at.words.items
+            (c.in_ok-next_caller.field-0 ∷ []),
+        size,
+        c.in_ok-next_caller.ensures.room,
+      );
       below = below_more _ at.words.items _ _ pushed at.invariant.below c.in_ok-next_caller.ensures.below;
-      same = callers_more _ at.words.items _ _ _ _ _ _ _ _ c.first_word.ensures.split rest.words pushed size c.in_ok-next_caller.ensures.ok at.invariant.same;
+      same = callers_more _ at.words.items _ _ _ _ _ _ _ _ c.first_word.ensures.split rest.words pushed size c.in_ok-next_caller.ensures.ok
+          at.invariant.same;
     }

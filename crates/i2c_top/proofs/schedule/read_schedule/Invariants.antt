@@ -13,5 +13,6 @@ invariant-loop-rest l =
       begins : 0 < length l.rest → begins_with_word is_white l.rest ≡ true;
       within : length l.words.items ≤ MOST_ENTRIES;
       below : All (λ c. c < l.fn.callers) l.words.items;
-      same : behind_callers l.words.items (callers_from l.fn.callers (length l.words.items) (entries_of l.rest)) ≡ schedule_read l.fn.callers l.fn.text;
+      same : behind_callers l.words.items
+          (callers_from l.fn.callers (length l.words.items) (entries_of l.rest)) ≡ schedule_read l.fn.callers l.fn.text;
     }

@@ -16,7 +16,8 @@ returns c =
       unkept = λ b callers asks past plain rules some.
           mark-keeps-none b (c.an_accepted_board_is_a_tree.ensures b plain rules) plain (lines-locked b rules) asks some callers past;
       switched_off = λ b callers asks e past plain rules some steps p m.
-          shut-keeps-none b (c.an_accepted_board_is_a_tree.ensures b plain rules) plain (lines-locked b rules) asks some callers p m e past steps;
+          shut-keeps-none b (c.an_accepted_board_is_a_tree.ensures b plain rules) plain
+          (lines-locked b rules) asks some callers p m e past steps;
       legal = λ b callers asks more e later past plain rules some limits legal.
           (let tree = c.an_accepted_board_is_a_tree.ensures b plain rules in
           passes-until b tree plain (lines-locked b rules) asks some callers e later past

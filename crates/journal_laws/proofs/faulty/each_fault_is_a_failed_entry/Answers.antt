@@ -10,5 +10,6 @@ returns c =
           counts-kept b (c.an_accepted_board_is_a_tree.ensures b plain rules) plain (lines-locked b rules) asks some callers past;
       legal = λ b callers asks past plain rules some limits legal.
           (let tree = c.an_accepted_board_is_a_tree.ensures b plain rules in
-          counts-kept b tree plain (lines-locked b rules) asks some callers past (legal-steps b tree plain (lines-locked b rules) asks some limits callers past legal));
+          counts-kept b tree plain (lines-locked b rules) asks some callers past
+          (legal-steps b tree plain (lines-locked b rules) asks some limits callers past legal));
     }

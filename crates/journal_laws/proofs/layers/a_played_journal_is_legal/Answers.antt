@@ -10,7 +10,8 @@ pub returns : goal.returns
 returns c =
     record {
       stepwise = λ b callers asks fails words plain rules some known.
-          (played-steps b (c.an_accepted_board_is_a_tree.ensures b plain rules) plain (lines-locked b rules) asks some callers fails words known).0;
+          (played-steps b (c.an_accepted_board_is_a_tree.ensures b plain rules) plain
+          (lines-locked b rules) asks some callers fails words known).0;
       legal = λ b callers asks fails words plain rules some limits known.
           (let tree = c.an_accepted_board_is_a_tree.ensures b plain rules in
           let made = played-steps b tree plain (lines-locked b rules) asks some callers fails words known in

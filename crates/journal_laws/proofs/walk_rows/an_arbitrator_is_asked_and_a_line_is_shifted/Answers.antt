@@ -11,11 +11,16 @@ use Rattle.journal_laws.proofs.walk_rows.an_arbitrator_is_asked_and_a_line_is_sh
 pub returns : goal.returns
 returns c =
     record {
-      polled = path-walk (row.arbitrator 7) walk.behind_arbitrator walk.polled_walk (refl, (refl, (refl, (refl, (refl, (refl, (refl, (refl, (refl, (refl, (refl, (refl, (refl, refl)))))))))))));
-      given_up = path-walk (row.arbitrator 8) walk.behind_arbitrator walk.given_up_walk (refl, (refl, (refl, (refl, (refl, (refl, (refl, (refl, (refl, (refl, (refl, (refl, (refl, (refl, (refl, refl)))))))))))))));
+      polled = path-walk (row.arbitrator 7) walk.behind_arbitrator walk.polled_walk
+          (refl, (refl, (refl, (refl, (refl, (refl, (refl, (refl, (refl, (refl, (refl, (refl, (refl, refl)))))))))))));
+      given_up = path-walk (row.arbitrator 8) walk.behind_arbitrator walk.given_up_walk
+          (refl, (refl, (refl, (refl, (refl, (refl, (refl, (refl, (refl, (refl, (refl, (refl, (refl, (refl, (refl, refl)))))))))))))));
       switched_while_taken = λ w.
-          (let f : Send (Select walk.polled_hop) 0 ≡ Send (Select walk.polled_hop) 7 = (walk-path (row.arbitrator 7) walk.behind_arbitrator walk.switched_while_taken w).1.1.1.1.1.0 in cc);
-      shifted = path-walk row.gpio walk.behind_gpio walk.line_walk (refl, (refl, (refl, (refl, (refl, (refl, (refl, (refl, (refl, (refl, (refl, refl)))))))))));
+          (let f : Send (Select walk.polled_hop) 0 ≡ Send (Select walk.polled_hop) 7 =
+          (walk-path (row.arbitrator 7) walk.behind_arbitrator walk.switched_while_taken w).1.1.1.1.1.0 in cc);
+      shifted = path-walk row.gpio walk.behind_gpio walk.line_walk
+          (refl, (refl, (refl, (refl, (refl, (refl, (refl, (refl, (refl, (refl, (refl, refl)))))))))));
       over_a_failed_line = λ w.
-          (let f : Send (Call 2 (messages_of walk.behind_gpio)) 1 ≡ Settle (Some Eremoteio) = (walk-path row.gpio walk.behind_gpio walk.over_a_failed_line w).1.1.1.1.1.0 in cc);
+          (let f : Send (Call 2 (messages_of walk.behind_gpio)) 1 ≡ Settle (Some Eremoteio) =
+          (walk-path row.gpio walk.behind_gpio walk.over_a_failed_line w).1.1.1.1.1.0 in cc);
     }

@@ -8,11 +8,16 @@ use Rattle.journal_laws.proofs.walk_rows.these_are_walks.Goals as goal
 pub returns : goal.returns
 returns c =
     record {
-      whole = path-walk row.parent_locked walk.deep walk.whole_walk (refl, (refl, (refl, (refl, (refl, (refl, (refl, (refl, (refl, (refl, (refl, refl)))))))))));
-      parts = path-walk row.mux_locked walk.deep walk.parts_walk (refl, (refl, (refl, (refl, (refl, (refl, (refl, (refl, (refl, (refl, (refl, (refl, (refl, (refl, (refl, refl)))))))))))))));
-      closed = path-walk row.parent_locked walk.deep walk.closed_walk (refl, (refl, (refl, (refl, (refl, (refl, (refl, (refl, (refl, (refl, (refl, (refl, refl))))))))))));
+      whole = path-walk row.parent_locked walk.deep walk.whole_walk
+          (refl, (refl, (refl, (refl, (refl, (refl, (refl, (refl, (refl, (refl, (refl, refl)))))))))));
+      parts = path-walk row.mux_locked walk.deep walk.parts_walk
+          (refl, (refl, (refl, (refl, (refl, (refl, (refl, (refl, (refl, (refl, (refl, (refl, (refl, (refl, (refl, refl)))))))))))))));
+      closed = path-walk row.parent_locked walk.deep walk.closed_walk
+          (refl, (refl, (refl, (refl, (refl, (refl, (refl, (refl, (refl, (refl, (refl, (refl, refl))))))))))));
       unclosed = path-walk row.parent_locked walk.deep walk.unclosed_walk (refl, (refl, (refl, (refl, (refl, (refl, (refl, refl)))))));
-      unselected = path-walk row.parent_locked walk.deep walk.unselected_walk (refl, (refl, (refl, (refl, (refl, (refl, (refl, (refl, refl))))))));
-      deselected = path-walk row.parent_locked walk.deep walk.deselected_walk (refl, (refl, (refl, (refl, (refl, (refl, (refl, (refl, (refl, (refl, refl))))))))));
+      unselected = path-walk row.parent_locked walk.deep walk.unselected_walk
+          (refl, (refl, (refl, (refl, (refl, (refl, (refl, (refl, refl))))))));
+      deselected = path-walk row.parent_locked walk.deep walk.deselected_walk
+          (refl, (refl, (refl, (refl, (refl, (refl, (refl, (refl, (refl, (refl, refl))))))))));
       refused = path-walk row.parent_locked walk.nowhere walk.refused_walk (refl, refl);
     }

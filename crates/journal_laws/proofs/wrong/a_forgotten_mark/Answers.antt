@@ -17,7 +17,18 @@ returns c = λ callers legal.
     (let steps = walks-follow row.parent_locked (two_asks 0) [] (steps_in row.parent_locked two_asks 0 mark_forgotten) (legal.walks 0) in
     let called = steps.1.1.1.1.1.1.1.1.1.1.1.1.0 in
     let selects = Some (Send (Select (record { bus = 2; mux = 0; channel = 1; on = 0; parent = true; stays = false; kind = Pca9548 })) 0) in
-    let m : MessageEntry = record { caller = 0; bus = 2; purpose = purpose.Call; part = 1; parts = 2; addr = 0x31; reading = false; bytes = []; heard = None; end = end.Nack } in
+    let m : MessageEntry = record {
+      caller = 0;
+      bus = 2;
+      purpose = purpose.Call;
+      part = 1;
+      parts = 2;
+      addr = 0x31;
+      reading = false;
+      bytes = [];
+      heard = None;
+      end = end.Nack;
+    } in
     let same : head_in m ≡ head_by row.parent_locked selects =
     head-told row.parent_locked (now row.parent_locked two_asks (drop 5 mark_forgotten)) selects called.0 called.1 m called.2 called.3 in
     let f : 2 ≡ 0 = ap (λ (h : Head). h.bus) same in

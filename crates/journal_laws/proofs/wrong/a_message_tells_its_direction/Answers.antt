@@ -11,5 +11,6 @@ pub returns : goal.returns
 returns c = λ callers legal.
     (let steps = walks-follow row.one_device (one_asks 0) [] (steps_in row.one_device one_asks 0 another_direction) (legal.walks 0) in
     let told = steps.1.0 in
-    let f : true ≡ false = ap (λ (h : Head). h.reading) (head-told _ _ (Some (Send (Call 0 (messages_of (row.read 0 0x20 5))) 1)) told.0 told.1 _ told.2 told.3) in
+    let f : true ≡ false = ap (λ (h : Head). h.reading)
+    (head-told _ _ (Some (Send (Call 0 (messages_of (row.read 0 0x20 5))) 1)) told.0 told.1 _ told.2 told.3) in
     cc)

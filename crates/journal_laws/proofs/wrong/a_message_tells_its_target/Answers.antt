@@ -11,5 +11,6 @@ pub returns : goal.returns
 returns c = λ callers legal.
     (let steps = walks-follow neighbours (one_asks 0) [] (steps_in neighbours one_asks 0 another_target) (legal.walks 0) in
     let told = steps.1.0 in
-    let f : 0x21 ≡ 0x20 = ap (λ (h : Head). h.addr) (head-told _ _ (Some (Send (Call 0 (messages_of (row.read 0 0x20 5))) 1)) told.0 told.1 _ told.2 told.3) in
+    let f : 0x21 ≡ 0x20 = ap (λ (h : Head). h.addr)
+    (head-told _ _ (Some (Send (Call 0 (messages_of (row.read 0 0x20 5))) 1)) told.0 told.1 _ told.2 told.3) in
     absurd (omega (arith, f)))

@@ -12,7 +12,8 @@ pub returns : goal.returns
 returns c =
     record {
       legal = λ callers legal.
-          (let steps = walks-follow row.parent_locked (deep_asks 0) [] (steps_in row.parent_locked deep_asks 0 not_deselected) (legal.walks 0) in
+          (let steps = walks-follow row.parent_locked (deep_asks 0) [] (steps_in row.parent_locked deep_asks 0 not_deselected)
+          (legal.walks 0) in
           let freed = steps.1.1.1.1.1.1.0 in
           let f : Some (Send (SwitchOff (Deselect hop)) 0) ≡ Some (Free (lock.Bus 0)) = freed in cc);
       stepwise = λ callers steps. (let f : Some (Send (SwitchOff (Deselect hop)) 0) ≡ Some (Free (lock.Bus 0)) = steps.0.2 in cc);

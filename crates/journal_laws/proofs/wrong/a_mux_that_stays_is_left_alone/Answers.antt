@@ -20,8 +20,20 @@ returns c =
           (let steps = walks-follow kept_board (same_asks 0) [] (steps_in kept_board same_asks 0 selected_again) (legal.walks 0) in
           let told = steps.1.1.1.1.1.1.1.1.1.1.0 in
           let next = Some (Send (Call 1 (messages_of (row.read 1 0x30 0))) 1) in
-          let m : MessageEntry = record { caller = 0; bus = 0; purpose = purpose.Control 0; part = 1; parts = 1; addr = 0x70; reading = false; bytes = 1 ∷ []; heard = Some (Chip 0); end = end.Ok } in
-          let same : head_in m ≡ head_by kept_board next = head-told kept_board (now kept_board same_asks behind_the_kept_channel) next told.0 told.1 m told.2 told.3 in
+          let m : MessageEntry = record {
+            caller = 0;
+            bus = 0;
+            purpose = purpose.Control 0;
+            part = 1;
+            parts = 1;
+            addr = 0x70;
+            reading = false;
+            bytes = 1 ∷ [];
+            heard = Some (Chip 0);
+            end = end.Ok;
+          } in
+          let same : head_in m ≡ head_by kept_board next = head-told kept_board
+          (now kept_board same_asks behind_the_kept_channel) next told.0 told.1 m told.2 told.3 in
           let f : purpose.Control 0 ≡ purpose.Call = ap (λ (h : Head). h.purpose) same in cc);
       deselected = λ callers legal.
           (let steps = walks-follow kept_board (same_asks 0) [] (steps_in kept_board same_asks 0 deselected) (legal.walks 0) in

@@ -11,5 +11,7 @@ pub returns : goal.returns
 returns c = λ callers legal.
     (let steps = walks-follow row.parent_locked (deep_asks 0) [] (steps_in row.parent_locked deep_asks 0 select_joined) (legal.walks 0) in
     let told = steps.1.1.0 in
-    let f : 3 ≡ 1 = ap (λ (h : Head). h.parts) (head-told _ _ (Some (Send (Select (record { bus = 1; mux = 0; channel = 0; on = 0; parent = true; stays = false; kind = Pca9548 })) 0)) told.0 told.1 _ told.2 told.3) in
+    let f : 3 ≡ 1 = ap (λ (h : Head). h.parts)
+    (head-told _ _ (Some (Send (Select (record { bus = 1; mux = 0; channel = 0; on = 0; parent = true; stays = false; kind = Pca9548 }))
+    0)) told.0 told.1 _ told.2 told.3) in
     absurd (omega (arith, f)))

@@ -12,7 +12,8 @@ loop-byte-preserved c =
     let byte = c.type_inv.bytes c.loop-byte.byte-index in
     λ before is.
     c.pec_with-along.ensures
-    ∙ RunsOn-more c.args.code c.args.bytes.now c.loop-byte.byte-index c.loop-byte.along c.loop-byte-test.true (omega (arith, byte)) c.loop-byte.invariant before is
+    ∙ RunsOn-more c.args.code c.args.bytes.now c.loop-byte.byte-index c.loop-byte.along c.loop-byte-test.true
+    (omega (arith, byte)) c.loop-byte.invariant before is
 
 pub returns : goal.returns
 returns c =

@@ -4,5 +4,6 @@ use Rattle.smb_emul.proofs.values.wanted_code.Goals as goal
 
 pub returns : goal.returns
 returns c =
-    pec-read c.args.call.now.addr (write_on_wire c.args.call.now.addr (call_row c.args.call.now.op).write) c.args.held.now c.get.result _ _ _
+    pec-read c.args.call.now.addr (write_on_wire c.args.call.now.addr (call_row c.args.call.now.op).write) c.args.held.now c.get.result _ _
+    _
     c.get.ensures.value c.code_written.ensures c.code_behind-code.ensures c.code_behind.ensures

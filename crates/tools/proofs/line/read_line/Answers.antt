@@ -7,13 +7,19 @@ use Rattle.tools.proofs.line.read_line.Goals as goal
 
 pub returns-in-Ok : goal.returns-in-Ok
 returns-in-Ok c =
-    let same : texts c.as_slice-words.result.now ≡ words_of c.args.line.now = cc (c.as_slice-words.ensures.value, c.in_ok-split_words.ensures) in
-    let is : is_command (texts c.as_slice-words.result.now) ≡ true = cc (c.is_command.ensures, c.if-not-is_command.ensures, c.if-not-is_command.false) in
-    command_read c.args.limit c.args.line.now (texts c.as_slice-words.result.now) c.in-Ok.command same is (sym c.read_command.ensures ∙ c.in-Ok.is)
+    let same : texts c.as_slice-words.result.now ≡ words_of c.args.line.now = cc
+    (c.as_slice-words.ensures.value, c.in_ok-split_words.ensures) in
+    let is : is_command (texts c.as_slice-words.result.now) ≡ true = cc
+    (c.is_command.ensures, c.if-not-is_command.ensures, c.if-not-is_command.false) in
+    command_read c.args.limit c.args.line.now (texts c.as_slice-words.result.now) c.in-Ok.command same is (sym c.read_command.ensures
+    ∙ c.in-Ok.is)
 
 pub returns-in-Err : goal.returns-in-Err
 returns-in-Err c =
-    let same : texts c.as_slice-words.result.now ≡ words_of c.args.line.now = cc (c.as_slice-words.ensures.value, c.in_ok-split_words.ensures) in
-    let is : is_command (texts c.as_slice-words.result.now) ≡ true = cc (c.is_command.ensures, c.if-not-is_command.ensures, c.if-not-is_command.false) in
+    let same : texts c.as_slice-words.result.now ≡ words_of c.args.line.now = cc
+    (c.as_slice-words.ensures.value, c.in_ok-split_words.ensures) in
+    let is : is_command (texts c.as_slice-words.result.now) ≡ true = cc
+    (c.is_command.ensures, c.if-not-is_command.ensures, c.if-not-is_command.false) in
     let place : c.in-Err.refused ≡ c.refused.inside.0 = sym c.refused.view_is in
-    rw (← place) (command_refused c.args.limit c.args.line.now (texts c.as_slice-words.result.now) c.in-Err.refused same is (sym c.read_command.ensures ∙ c.in-Err.is))
+    rw (← place) (command_refused c.args.limit c.args.line.now (texts c.as_slice-words.result.now) c.in-Err.refused same is
+    (sym c.read_command.ensures ∙ c.in-Err.is))

@@ -7,5 +7,6 @@ invariant-loop-byte l =
     record {
       small : l.value ≤ 65535;
       base : l.base ≡ base_of l.hexadecimal;
-      same : within 0 65535 (digits_on l.hexadecimal l.value (drop l.byte-index l.digits)) ≡ within 0 65535 (digits_on l.hexadecimal 0 l.digits);
+      same : within 0 65535 (digits_on l.hexadecimal l.value (drop l.byte-index l.digits)) ≡ within 0 65535
+          (digits_on l.hexadecimal 0 l.digits);
     }

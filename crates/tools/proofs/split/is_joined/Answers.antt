@@ -7,4 +7,5 @@ use Rattle.tools.proofs.split.is_joined.Goals as goal
 pub returns-clause-same : goal.returns-clause-same
 returns-clause-same c h =
     joined_same c.args.line.now
-    (sym c.loop-byte.invariant ∙ ap (is_joined c.loop-byte.at_start) (drop_of_length-le c.args.line.now (omega (arith, c.loop-byte-test.false))) ∙ h)
+    (sym c.loop-byte.invariant ∙ ap (is_joined c.loop-byte.at_start)
+    (drop_of_length-le c.args.line.now (omega (arith, c.loop-byte-test.false))) ∙ h)

@@ -9,4 +9,7 @@ decreases-loop-rest l = length l.rest
 
 abbrev pub invariant-loop-rest : goal.invariant-loop-rest
 invariant-loop-rest l =
-    record { begins : 0 < length l.rest → begins_with_word is_blank l.rest ≡ true; same : texts l.words.items ++ words_of l.rest ≡ words_of l.fn.line }
+    record {
+      begins : 0 < length l.rest → begins_with_word is_blank l.rest ≡ true;
+      same : texts l.words.items ++ words_of l.rest ≡ words_of l.fn.line;
+    }

@@ -14,7 +14,8 @@ use Rattle.bus_core.proofs.bus.BusCore.step.Goals as goal
 pub index-requires : goal.index-requires
 index-requires g c =
     let x = c.self.inside.parts in
-    let place = placed-of g.P.Port g.C.Caller x c.self.invariant c.args.caller (subst (λ (v : CoreState _). has_caller v.opening.scripts c.args.caller ≡ true) (sym c.self.view_is) c.requires.has) in
+    let place = placed-of g.P.Port g.C.Caller x c.self.invariant c.args.caller
+    (subst (λ (v : CoreState _). has_caller v.opening.scripts c.args.caller ≡ true) (sym c.self.view_is) c.requires.has) in
     let low = slice_get_within x.places.items c.args.caller (Some place.place) place.at in
     let all : vec_len x.places ≡ length x.places.items = x.places.ok.0 in
     omega (arith, low, all, c.from.ensures)
@@ -23,10 +24,13 @@ pub step-requires-clause-there : goal.step-requires-clause-there
 step-requires-clause-there g c κs within =
     let x = c.self.inside.parts in
     let core = c.self.invariant in
-    let place = placed-of g.P.Port g.C.Caller x core c.args.caller (subst (λ (v : CoreState _). has_caller v.opening.scripts c.args.caller ≡ true) (sym c.self.view_is) c.requires.has) in
+    let place = placed-of g.P.Port g.C.Caller x core c.args.caller
+    (subst (λ (v : CoreState _). has_caller v.opening.scripts c.args.caller ≡ true) (sym c.self.view_is) c.requires.has) in
     let low = slice_get_within x.places.items c.args.caller (Some place.place) place.at in
-    let at = number_read x.places.items c.args.caller c.from.result c.index.result.now (Some c.in-Some.place) c.from.ensures low c.index.ensures c.in-Some.is in
-    subst (λ (k : ℕ). k < length x.seats.items) (sym c.from-in-Some.ensures) (is_within g.P.Port g.C.Caller x core.kept core.placed c.args.caller c.in-Some.place at)
+    let at = number_read x.places.items c.args.caller c.from.result c.index.result.now
+    (Some c.in-Some.place) c.from.ensures low c.index.ensures c.in-Some.is in
+    subst (λ (k : ℕ). k < length x.seats.items) (sym c.from-in-Some.ensures)
+    (is_within g.P.Port g.C.Caller x core.kept core.placed c.args.caller c.in-Some.place at)
 
 -- what the step leaves, and that it came of what was
 pub invariant_of-self : goal.invariant_of-self
@@ -34,9 +38,11 @@ invariant_of-self g c =
     let x = c.self.inside.parts in
     let core = c.self.invariant in
     let new = c.step.new.parts in
-    let place = placed-of g.P.Port g.C.Caller x core c.args.caller (subst (λ (v : CoreState _). has_caller v.opening.scripts c.args.caller ≡ true) (sym c.self.view_is) c.requires.has) in
+    let place = placed-of g.P.Port g.C.Caller x core c.args.caller
+    (subst (λ (v : CoreState _). has_caller v.opening.scripts c.args.caller ≡ true) (sym c.self.view_is) c.requires.has) in
     let low = slice_get_within x.places.items c.args.caller (Some place.place) place.at in
-    let at = number_read x.places.items c.args.caller c.from.result c.index.result.now (Some c.in-Some.place) c.from.ensures low c.index.ensures c.in-Some.is in
+    let at = number_read x.places.items c.args.caller c.from.result c.index.result.now
+    (Some c.in-Some.place) c.from.ensures low c.index.ensures c.in-Some.is in
     core-after g.P.Port g.C.Caller x new core c.step.ensures.kept
     (came-by g.P.Port g.C.Caller x new core c.args.caller c.in-Some.place at c.step.result
     (λ is. subst (λ (k : ℕ). HasStepped g.P.Port g.C.Caller k x new) c.from-in-Some.ensures (c.step.ensures.stepped is))
@@ -50,9 +56,11 @@ returns-in-Some g c =
     let new = c.step.new.parts in
     let asked = g.C.Caller.asked in
     let tells = g.P.Port.tells in
-    let place = placed-of g.P.Port g.C.Caller x core c.args.caller (subst (λ (v : CoreState _). has_caller v.opening.scripts c.args.caller ≡ true) (sym c.self.view_is) c.requires.has) in
+    let place = placed-of g.P.Port g.C.Caller x core c.args.caller
+    (subst (λ (v : CoreState _). has_caller v.opening.scripts c.args.caller ≡ true) (sym c.self.view_is) c.requires.has) in
     let low = slice_get_within x.places.items c.args.caller (Some place.place) place.at in
-    let at = number_read x.places.items c.args.caller c.from.result c.index.result.now (Some c.in-Some.place) c.from.ensures low c.index.ensures c.in-Some.is in
+    let at = number_read x.places.items c.args.caller c.from.result c.index.result.now
+    (Some c.in-Some.place) c.from.ensures low c.index.ensures c.in-Some.is in
     let come : HasCome g.P.Port g.C.Caller x new =
     came-by g.P.Port g.C.Caller x new core c.args.caller c.in-Some.place at c.step.result
     (λ is. subst (λ (k : ℕ). HasStepped g.P.Port g.C.Caller k x new) c.from-in-Some.ensures (c.step.ensures.stepped is))
@@ -70,23 +78,28 @@ returns-in-Some g c =
           let b = c.step.ensures.blocked l h is in (
             ap (λ (y : CoreParts _ _). state_of g.P.Port g.C.Caller y) b.0 ∙ c.self.view_is,
             subst (λ (v : CoreState _). WaitsFor asked tells v c.args.caller l h) c.self.view_is
-                (waits-for g.P.Port g.C.Caller x core c.args.caller c.in-Some.place at l h (subst (λ (k : ℕ). IsBlockedAt x k l h) c.from-in-Some.ensures b.1)),
+                (waits-for g.P.Port g.C.Caller x core c.args.caller c.in-Some.place at l h
+                (subst (λ (k : ℕ). IsBlockedAt x k l h) c.from-in-Some.ensures b.1)),
           );
       finished = λ is.
           let e = c.step.ensures.finished is in (
             ap (λ (y : CoreParts _ _). state_of g.P.Port g.C.Caller y) e.0 ∙ c.self.view_is,
             subst (λ (v : CoreState _). HasUsedUp asked v c.args.caller) c.self.view_is
-                (used-up g.P.Port g.C.Caller x core c.args.caller c.in-Some.place at (subst (λ (k : ℕ). HasEndedAt x k) c.from-in-Some.ensures e.1)),
+                (used-up g.P.Port g.C.Caller x core c.args.caller c.in-Some.place at
+                (subst (λ (k : ℕ). HasEndedAt x k) c.from-in-Some.ensures e.1)),
           );
     }
 
 pub returns-in-None-clause-told : goal.returns-in-None-clause-told
-returns-in-None-clause-told g c tell = subst (λ (v : CoreState _). CoreTold g.C.Caller.asked v) c.self.view_is (core-told g.P.Port g.C.Caller c.self.inside.parts c.self.invariant tell)
+returns-in-None-clause-told g c tell = subst (λ (v : CoreState _). CoreTold g.C.Caller.asked v) c.self.view_is
+    (core-told g.P.Port g.C.Caller c.self.inside.parts c.self.invariant tell)
 
 pub returns-in-None-clause-finished : goal.returns-in-None-clause-finished
 returns-in-None-clause-finished g c is =
     let x = c.self.inside.parts in
-    let place = placed-of g.P.Port g.C.Caller x c.self.invariant c.args.caller (subst (λ (v : CoreState _). has_caller v.opening.scripts c.args.caller ≡ true) (sym c.self.view_is) c.requires.has) in
+    let place = placed-of g.P.Port g.C.Caller x c.self.invariant c.args.caller
+    (subst (λ (v : CoreState _). has_caller v.opening.scripts c.args.caller ≡ true) (sym c.self.view_is) c.requires.has) in
     let low = slice_get_within x.places.items c.args.caller (Some place.place) place.at in
-    let at = number_read x.places.items c.args.caller c.from.result c.index.result.now None c.from.ensures low c.index.ensures c.in-None.is in
+    let at = number_read x.places.items c.args.caller c.from.result c.index.result.now None c.from.ensures low c.index.ensures c.in-None.is
+    in
     absurd (let f : Some None ≡ Some (Some place.place) = sym at ∙ place.at in cc)

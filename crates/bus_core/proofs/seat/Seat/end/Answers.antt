@@ -58,15 +58,18 @@ returns-in-Some-clause-seated g c =
       within = omega (arith, sent);
       plugged = λ on bus. c.load.ensures.plugged
           (asks_or_not (g.C.Caller.asked (g.C.Caller.script c.hand.new.self.caller) (g.C.Caller.taken c.hand.new.self.caller)) _
-          (λ t is. subst (λ (x : TransferView). HasRoot (roots_of c.args.ports.now) (root_of c.args.board.now x.bus)) (sym (c.load.ensures.some t is).0)
+          (λ t is. subst (λ (x : TransferView). HasRoot (roots_of c.args.ports.now) (root_of c.args.board.now x.bus))
+          (sym (c.load.ensures.some t is).0)
           (c.requires.may.wired (g.C.Caller.taken c.hand.new.self.caller) t
           (ap (λ k. g.C.Caller.asked k (g.C.Caller.taken c.hand.new.self.caller)) (sym c.hand.ensures.script) ∙ is)
           (subst (λ (x : TransferView). x.bus < buses c.args.board.now) (c.load.ensures.some t is).0 bus)))
           (λ none. absurd (let f : true ≡ false = sym (c.load.ensures.none none) ∙ on in cc)))
           bus on;
       there = λ on. asks_or_not (g.C.Caller.asked (g.C.Caller.script c.hand.new.self.caller) (g.C.Caller.taken c.hand.new.self.caller)) _
-          (λ t is. subst (λ (w : WalkTree). (new.transfer.bus < buses c.args.board.now) ⊎ IsLone c.args.board.now w) (sym (c.load.ensures.some t is).1)
-          (subst (λ (x : TransferView). (x.bus < buses c.args.board.now) ⊎ IsLone c.args.board.now (walk_for c.args.board.now t)) (sym (c.load.ensures.some t is).0) (there-for c.args.board.now t)))
+          (λ t is. subst (λ (w : WalkTree). (new.transfer.bus < buses c.args.board.now) ⊎ IsLone c.args.board.now w)
+          (sym (c.load.ensures.some t is).1)
+          (subst (λ (x : TransferView). (x.bus < buses c.args.board.now) ⊎ IsLone c.args.board.now (walk_for c.args.board.now t))
+          (sym (c.load.ensures.some t is).0) (there-for c.args.board.now t)))
           (λ none. absurd (let f : true ≡ false = sym (c.load.ensures.none none) ∙ on in cc));
       spare = subst (λ (k : g.row.C.Denot). Covers (g.C.Caller.spare k) (g.C.Caller.owed (g.C.Caller.script k) (g.C.Caller.taken k)))
           (sym (ap (λ (t : Seat g.row.C.Denot). t.caller) same)) c.hand.ensures.room;

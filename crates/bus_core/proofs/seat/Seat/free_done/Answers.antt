@@ -7,11 +7,13 @@ lock_done-requires g c = c.requires.seated.counted
 
 pub end-requires-clause-may : goal.end-requires-clause-may
 end-requires-clause-may g c κs within =
-    may_end g.C.Caller c.args.board.now c.args.locks.now (roots_of c.args.ports.now) c.args.self.now c.lock_done.new.self c.lock_done.new.self c.requires
+    may_end g.C.Caller c.args.board.now c.args.locks.now
+    (roots_of c.args.ports.now) c.args.self.now c.lock_done.new.self c.lock_done.new.self c.requires
     (record { same = c.lock_done.ensures.same; walk = c.lock_done.ensures.walk; route = c.lock_done.ensures.route })
 
 pub returns : goal.returns
 returns g c =
-    freed g.C.Caller c.args.board.now c.args.locks.now (roots_of c.args.ports.now) c.args.self.now c.lock_done.new.self c.end.new.self c.requires
+    freed g.C.Caller c.args.board.now c.args.locks.now
+    (roots_of c.args.ports.now) c.args.self.now c.lock_done.new.self c.end.new.self c.requires
     (record { same = c.lock_done.ensures.same; walk = c.lock_done.ensures.walk; route = c.lock_done.ensures.route })
     c.end.ensures.on c.end.ensures.ended c.end.ensures.seated

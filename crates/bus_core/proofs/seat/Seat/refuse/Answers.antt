@@ -21,8 +21,10 @@ end-requires-clause-may g c κs within =
     let old = c.args.self.now in
     let d = c.decide-decided.ensures in
     let p = c.lock_done.ensures in
-    may_end_refused g.C.Caller c.args.board.now c.args.locks.now (roots_of c.args.ports.now) old c.lock_done.new.self c.lock_done.new.self c.args.errno c.args.journal.now c.requires
-    (settled c.args.board.now c.args.locks.now old c.decide-decided.new.self c.lock_done.new.self (Some c.args.errno) c.decide-decided.result d.same p.same d.reply p.walk p.route)
+    may_end_refused g.C.Caller c.args.board.now c.args.locks.now
+    (roots_of c.args.ports.now) old c.lock_done.new.self c.lock_done.new.self c.args.errno c.args.journal.now c.requires
+    (settled c.args.board.now c.args.locks.now old c.decide-decided.new.self c.lock_done.new.self
+    (Some c.args.errno) c.decide-decided.result d.same p.same d.reply p.walk p.route)
 
 pub returns : goal.returns
 returns g c =
@@ -31,13 +33,17 @@ returns g c =
     let p = c.lock_done.ensures in
     let got : c.reply.result.now ≡ reply.Err c.args.errno = c.reply.ensures ∙ d.reply in
     record {
-      ended = refused g.C.Caller c.args.board.now c.args.locks.now (roots_of c.args.ports.now) old c.lock_done.new.self c.end.new.self c.args.errno c.args.journal.now c.requires
-          (settled c.args.board.now c.args.locks.now old c.decide-decided.new.self c.lock_done.new.self (Some c.args.errno) c.decide-decided.result d.same p.same d.reply p.walk p.route)
+      ended = refused g.C.Caller c.args.board.now c.args.locks.now
+          (roots_of c.args.ports.now) old c.lock_done.new.self c.end.new.self c.args.errno c.args.journal.now c.requires
+          (settled c.args.board.now c.args.locks.now old c.decide-decided.new.self c.lock_done.new.self
+          (Some c.args.errno) c.decide-decided.result d.same p.same d.reply p.walk p.route)
           c.end.ensures.ended;
       seated = c.end.ensures.seated;
       entries = c.push.ensures.entries
           ∙ ap (λ (e : Entry). c.args.journal.now.entries ++ e ∷ [])
-          (c.settle.ensures.seen ∙ settle_entry old c.decide-decided.new.self (Some c.decide-decided.result) c.reply.result.now (reply.Err c.args.errno) d.same got);
+          (c.settle.ensures.seen ∙ settle_entry old c.decide-decided.new.self (Some c.decide-decided.result) c.reply.result.now
+          (reply.Err c.args.errno) d.same got);
       room = c.push.ensures.room;
-      room_bytes = (let none : length c.settle.result.bytes.now ≡ 0 = ap length (c.settle.ensures.bytes ∙ ap bytes_given got) in omega (arith, none, c.push.ensures.room_bytes));
+      room_bytes = (let none : length c.settle.result.bytes.now ≡ 0 = ap length (c.settle.ensures.bytes ∙ ap bytes_given got) in
+          omega (arith, none, c.push.ensures.room_bytes));
     }

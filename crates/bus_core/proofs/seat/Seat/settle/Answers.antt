@@ -37,11 +37,14 @@ returns-clause-settled g c =
       verdict,
       record {
         next = c.in-Some.ensures.some c.args.board.now c.args.locks.now;
-        settled = settled c.args.board.now c.args.locks.now old m c.lock_done.new.self verdict c.decide-decided.result d.same p.same d.reply p.walk p.route;
+        settled = settled c.args.board.now c.args.locks.now old m c.lock_done.new.self verdict c.decide-decided.result d.same p.same d.reply
+            p.walk p.route;
         entries = c.push.ensures.entries
             ∙ ap (λ (e : Entry). c.args.journal.now.entries ++ e ∷ [])
-            (c.settle.ensures.seen ∙ settle_entry old m (Some c.decide-decided.result) c.reply.result.now (reply_by verdict (Some old.transfer) old.replies.got) d.same got);
+            (c.settle.ensures.seen ∙ settle_entry old m (Some c.decide-decided.result) c.reply.result.now
+            (reply_by verdict (Some old.transfer) old.replies.got) d.same got);
         room = c.push.ensures.room;
-        room_bytes = ap (λ (xs : List ℕ). c.push.new.self.room_bytes + length xs) (sym (c.settle.ensures.bytes ∙ ap bytes_given got)) ∙ c.push.ensures.room_bytes;
+        room_bytes = ap (λ (xs : List ℕ). c.push.new.self.room_bytes + length xs) (sym (c.settle.ensures.bytes ∙ ap bytes_given got))
+            ∙ c.push.ensures.room_bytes;
       },
     )

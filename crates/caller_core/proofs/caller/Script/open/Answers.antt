@@ -17,10 +17,12 @@ use Rattle.caller_core.proofs.TurnLemmas.{at_start}
 use Rattle.caller_core.proofs.caller.Script.open.Goals as goal
 
 pub totals_of-totals-requires-clause-few : goal.totals_of-totals-requires-clause-few
-totals_of-totals-requires-clause-few c = few_commands c.limit.result c.as_slice.result.now c.in_ok-commands.commands c.in_ok-commands.ensures
+totals_of-totals-requires-clause-few c =
+    few_commands c.limit.result c.as_slice.result.now c.in_ok-commands.commands c.in_ok-commands.ensures
 
 pub totals_of-totals-requires-clause-range : goal.totals_of-totals-requires-clause-range
-totals_of-totals-requires-clause-range c = read_commands c.limit.result c.as_slice.result.now c.in_ok-commands.commands c.in_ok-commands.ensures
+totals_of-totals-requires-clause-range c =
+    read_commands c.limit.result c.as_slice.result.now c.in_ok-commands.commands c.in_ok-commands.ensures
 
 pub invariant_of-result : goal.invariant_of-result
 invariant_of-result c =
@@ -28,9 +30,12 @@ invariant_of-result c =
     let cs : List CommandView = c.in_ok-commands.commands in
     let totals = c.totals_of-totals in
     let read : script.text ≡ c.as_slice.result.now = ap (λ t. t.items) c.of-2.ensures ∙ sym c.as_slice.ensures.value in
-    let limit : block_limit script.board ≡ c.limit.result = ap block_limit (c.of.ensures ∙ sym c.board.ensures.value) ∙ sym c.limit.ensures in
-    let whole : commands_of script ≡ cs = ap (λ n. commands_or_none (text_read n script.text)) limit ∙ ap (λ t. commands_or_none (text_read c.limit.result t)) read ∙ ap commands_or_none c.in_ok-commands.ensures in
-    subst (λ (p : PackedView ReplyHead). IsCaller script cs p c.new.result 0 0 c.run_at.result totals.result.cost totals.result.roots) (sym c.in_ok-taken.ensures)
+    let limit : block_limit script.board ≡ c.limit.result = ap block_limit (c.of.ensures ∙ sym c.board.ensures.value)
+    ∙ sym c.limit.ensures in
+    let whole : commands_of script ≡ cs = ap (λ n. commands_or_none (text_read n script.text)) limit
+    ∙ ap (λ t. commands_or_none (text_read c.limit.result t)) read ∙ ap commands_or_none c.in_ok-commands.ensures in
+    subst (λ (p : PackedView ReplyHead). IsCaller script cs p c.new.result 0 0 c.run_at.result totals.result.cost totals.result.roots)
+    (sym c.in_ok-taken.ensures)
     (record {
       whole = whole;
       at = at_start cs c.run_at.result c.run_at.ensures;

@@ -11,4 +11,5 @@ returns-clause-after c =
     let d = c.self.inside in
     let kept = with_items_is d.states c.tell-answer.new.targets (omega arith) in
     rw (← c.self.view_is) (ap (λ (xs : List TargetState). record { states = xs; named = d.named.items; current = d.current })
-    (states_told (to_current d.current (event.Put c.args.byte)) d.states.items _ _ _ c.deref_mut.ensures.value c.tell-answer.ensures.fed kept))
+    (states_told (to_current d.current (event.Put c.args.byte)) d.states.items _ _ _ c.deref_mut.ensures.value c.tell-answer.ensures.fed
+    kept))

@@ -16,8 +16,11 @@ returns-clause-after c =
     let start = event.Start c.args.reading in
     let told = with_items_is d.states c.tell-answer.new.targets (omega arith) in
     let others = with_items_is (with_items d.states c.tell-answer.new.targets) c.tell_others.new.targets (omega arith) in
-    let fed = c.tell_others.ensures ∙ ap (λ ns. feed state_table (to_others granted ns event.Other) 0 c.deref_mut-2.result.now) c.as_slice.ensures.value in
-    let states = states_started granted d.named.items c.args.reading d.states.items _ _ _ _ _ _ c.deref_mut.ensures.value c.tell-answer.ensures.fed told c.deref_mut-2.ensures.value fed others in
-    let said = c.tell-answer.ensures.answer ∙ ap (λ ds. answer_in state_table ds granted start) c.deref_mut.ensures.value ∙ states_answer d.states.items granted start in
+    let fed = c.tell_others.ensures
+    ∙ ap (λ ns. feed state_table (to_others granted ns event.Other) 0 c.deref_mut-2.result.now) c.as_slice.ensures.value in
+    let states = states_started granted d.named.items c.args.reading d.states.items _ _ _ _ _ _ c.deref_mut.ensures.value
+    c.tell-answer.ensures.fed told c.deref_mut-2.ensures.value fed others in
+    let said = c.tell-answer.ensures.answer ∙ ap (λ ds. answer_in state_table ds granted start) c.deref_mut.ensures.value
+    ∙ states_answer d.states.items granted start in
     let listens = c.listener-self-inside.ensures ∙ ap (λ a. if has_heard a then granted else None) said in
     rw (← c.self.view_is) (same_listener _ _ _ _ _ _ states c.name.ensures.items listens)

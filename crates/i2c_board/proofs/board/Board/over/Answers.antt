@@ -20,7 +20,12 @@ returns-in_err-hop-clause-root c =
 pub overflow_cast-result : goal.overflow_cast-result
 overflow_cast-result c =
     let d = (goal.at.overflow_cast-result c).In_ok-hop in
-    omega (arith, over_channel d.args.self.now d.args.seg d.in_ok-hop.hop d.layout.ensures.plain d.requires (found_of d), ap (λ (h : Hop). h.channel) c.hop.view_is)
+    omega (
+      arith,
+      over_channel d.args.self.now d.args.seg d.in_ok-hop.hop d.layout.ensures.plain d.requires (found_of d),
+      ap
+          (λ (h : Hop). h.channel) c.hop.view_is,
+    )
 
 pub returns-clause-root : goal.returns-clause-root
 returns-clause-root c =

@@ -15,7 +15,8 @@ returns-then-fails_next-clause-after c =
     c.fails_next.ensures c.self.view_is _ c.if-fails_next.true c.call_fault.ensures
 
 pub returns-clause-answer : goal.returns-clause-answer
-returns-clause-answer c = said-passed c.args.self.now _ _ c.fails_next.result c.if-fails_next.false c.fails_next.ensures (c.call_get.ensures.given ∙ ap (λ (v : FailView). gives v.port.world) c.self.view_is)
+returns-clause-answer c = said-passed c.args.self.now _ _ c.fails_next.result c.if-fails_next.false c.fails_next.ensures
+    (c.call_get.ensures.given ∙ ap (λ (v : FailView). gives v.port.world) c.self.view_is)
 
 pub returns-clause-after : goal.returns-clause-after
 returns-clause-after c =

@@ -9,7 +9,8 @@ returns-then-fails_next-clause-answer c = said-failed c.args.self.now _ c.fails_
 
 pub returns-then-fails_next-clause-after : goal.returns-then-fails_next-clause-after
 returns-then-fails_next-clause-after c =
-    after-failed c.args.self.now c.self.inside.sim c.call_fault.new.self c.self.inside.fails.items (call.Line c.args.mux c.args.level) c.fails_next.result
+    after-failed c.args.self.now c.self.inside.sim c.call_fault.new.self c.self.inside.fails.items
+    (call.Line c.args.mux c.args.level) c.fails_next.result
     c.fails_next.ensures c.self.view_is _ c.if-fails_next.true c.call_fault.ensures
 
 pub returns-clause-answer : goal.returns-clause-answer
@@ -17,5 +18,6 @@ returns-clause-answer c = said-passed c.args.self.now _ _ c.fails_next.result c.
 
 pub returns-clause-after : goal.returns-clause-after
 returns-clause-after c =
-    after-passed c.args.self.now c.self.inside.sim c.call_line.new.self c.self.inside.fails.items (call.Line c.args.mux c.args.level) c.fails_next.result
+    after-passed c.args.self.now c.self.inside.sim c.call_line.new.self c.self.inside.fails.items
+    (call.Line c.args.mux c.args.level) c.fails_next.result
     c.fails_next.ensures c.self.view_is (λ q. Idle) c.if-fails_next.false c.call_line.ensures

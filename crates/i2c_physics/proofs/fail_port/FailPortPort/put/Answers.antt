@@ -11,11 +11,13 @@ returns-then-fails_next-clause-answer c = said-failed c.args.self.now _ c.fails_
 
 pub returns-then-fails_next-clause-after : goal.returns-then-fails_next-clause-after
 returns-then-fails_next-clause-after c =
-    after-failed c.args.self.now c.self.inside.sim c.call_fault.new.self c.self.inside.fails.items (call.Put c.args.byte) c.fails_next.result
+    after-failed c.args.self.now c.self.inside.sim c.call_fault.new.self c.self.inside.fails.items
+    (call.Put c.args.byte) c.fails_next.result
     c.fails_next.ensures c.self.view_is _ c.if-fails_next.true c.call_fault.ensures
 
 pub returns-clause-answer : goal.returns-clause-answer
-returns-clause-answer c = said-passed c.args.self.now _ _ c.fails_next.result c.if-fails_next.false c.fails_next.ensures (c.call_put.ensures.taken ∙ ap (λ (v : FailView). takes v.port.world c.args.byte) c.self.view_is)
+returns-clause-answer c = said-passed c.args.self.now _ _ c.fails_next.result c.if-fails_next.false c.fails_next.ensures
+    (c.call_put.ensures.taken ∙ ap (λ (v : FailView). takes v.port.world c.args.byte) c.self.view_is)
 
 pub returns-clause-after : goal.returns-clause-after
 returns-clause-after c =

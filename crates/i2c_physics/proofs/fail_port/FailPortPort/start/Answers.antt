@@ -11,13 +11,17 @@ returns-then-fails_next-clause-answer c = said-failed c.args.self.now _ c.fails_
 
 pub returns-then-fails_next-clause-after : goal.returns-then-fails_next-clause-after
 returns-then-fails_next-clause-after c =
-    after-failed c.args.self.now c.self.inside.sim c.call_fault.new.self c.self.inside.fails.items (call.Start c.args.addr c.args.reading) c.fails_next.result
+    after-failed c.args.self.now c.self.inside.sim c.call_fault.new.self c.self.inside.fails.items
+    (call.Start c.args.addr c.args.reading) c.fails_next.result
     c.fails_next.ensures c.self.view_is _ c.if-fails_next.true c.call_fault.ensures
 
 pub returns-clause-answer : goal.returns-clause-answer
-returns-clause-answer c = said-passed c.args.self.now _ _ c.fails_next.result c.if-fails_next.false c.fails_next.ensures (c.call_start.ensures.answer ∙ ap (λ (v : FailView). answer v.port.world c.args.addr c.args.reading) c.self.view_is)
+returns-clause-answer c = said-passed c.args.self.now _ _ c.fails_next.result c.if-fails_next.false c.fails_next.ensures
+    (c.call_start.ensures.answer ∙ ap (λ (v : FailView). answer v.port.world c.args.addr c.args.reading) c.self.view_is)
 
 pub returns-clause-after : goal.returns-clause-after
 returns-clause-after c =
-    after-passed c.args.self.now c.self.inside.sim c.call_start.new.self c.self.inside.fails.items (call.Start c.args.addr c.args.reading) c.fails_next.result
-    c.fails_next.ensures c.self.view_is (λ q. phase_started c.args.reading (answer q.world c.args.addr c.args.reading)) c.if-fails_next.false c.call_start.ensures.after
+    after-passed c.args.self.now c.self.inside.sim c.call_start.new.self c.self.inside.fails.items
+    (call.Start c.args.addr c.args.reading) c.fails_next.result
+    c.fails_next.ensures c.self.view_is
+    (λ q. phase_started c.args.reading (answer q.world c.args.addr c.args.reading)) c.if-fails_next.false c.call_start.ensures.after

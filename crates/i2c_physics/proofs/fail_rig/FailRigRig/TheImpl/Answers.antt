@@ -27,7 +27,8 @@ plug-tells x c =
       unplugs = c.ensures.unplugs;
       plugged = search rules;
       unplugged = search rules;
-      count = given opened b c.result (λ ports. vec_len ports ≡ length b.roots) are (λ ports is. omega (arith, opened-count opened b ports.items is));
+      count = given opened b c.result (λ ports. vec_len ports ≡ length b.roots) are
+          (λ ports is. omega (arith, opened-count opened b ports.items is));
       idle = given opened b c.result (λ ports. All (λ p. p.port.phase ≡ Phase.Idle) ports.items) are
           (λ ports is. opened-all opened b ports.items is (λ p. p.port.phase ≡ Phase.Idle) (λ r. refl));
       fresh = given opened b c.result (λ ports. All (λ p. failed_calls_in p.port.log ≡ 0) ports.items) are

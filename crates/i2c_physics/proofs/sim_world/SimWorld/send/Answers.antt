@@ -22,13 +22,16 @@ pub returns-clause-chips : goal.returns-clause-chips
 returns-clause-chips c =
     let s = c.self.inside in
     let said = said-on chip_table c.args.event _ _ _ _ refl c.deref_mut.ensures.value wired_and_of _ c.deliver-chips.ensures.answered in
-    said ∙ ap wired_and_of (chips-answer _ _ _ _ _ _ _ _ s.busy c.self.invariant c.args.event) ∙ ap (λ w. chips_say w c.args.event) c.self.view_is
+    said ∙ ap wired_and_of (chips-answer _ _ _ _ _ _ _ _ s.busy c.self.invariant c.args.event)
+    ∙ ap (λ w. chips_say w c.args.event) c.self.view_is
 
 pub returns-clause-devices : goal.returns-clause-devices
 returns-clause-devices c =
     let s = c.self.inside in
-    let said = said-on state_table c.args.event _ _ _ _ refl c.deref_mut-2.ensures.value wired_and_of _ c.deliver-devices.ensures.answered in
-    said ∙ ap wired_and_of (devices-answer _ _ _ _ _ _ _ _ s.busy c.self.invariant c.args.event) ∙ ap (λ w. devices_say w c.args.event) c.self.view_is
+    let said = said-on state_table c.args.event _ _ _ _ refl c.deref_mut-2.ensures.value wired_and_of _ c.deliver-devices.ensures.answered
+    in
+    said ∙ ap wired_and_of (devices-answer _ _ _ _ _ _ _ _ s.busy c.self.invariant c.args.event)
+    ∙ ap (λ w. devices_say w c.args.event) c.self.view_is
 
 pub returns-clause-after : goal.returns-clause-after
 returns-clause-after c =

@@ -20,20 +20,24 @@ begin-chips-requires-clause-told c =
 pub begin-chips-requires-clause-rest : goal.begin-chips-requires-clause-rest
 begin-chips-requires-clause-rest c =
     let same = c.as_slice-chips.ensures.value in
-    let chip_rest = c.call.ensures.rest ∙ ap (λ cs. others cs c.self.inside.mux_places c.args.addr c.self.inside.chip_reach.started.items) same in
+    let chip_rest = c.call.ensures.rest
+    ∙ ap (λ cs. others cs c.self.inside.mux_places c.args.addr c.self.inside.chip_reach.started.items) same in
     rw (c.deref_mut.ensures.value, chip_rest) (other-chips _ _ _ _ _ _ _ _ c.self.inside.busy c.self.invariant c.args.addr c.args.reading)
 
 pub begin-devices-requires-clause-told : goal.begin-devices-requires-clause-told
 begin-devices-requires-clause-told c =
     let same = c.as_slice-chips.ensures.value in
     let device_calls = c.call-2.ensures.told ∙ ap (λ cs. addressed cs c.self.inside.device_places c.args.addr) same in
-    rw (c.deref_mut-2.ensures.value, device_calls) (calls-devices _ _ _ _ _ _ _ _ c.self.inside.busy c.self.invariant c.args.addr c.args.reading)
+    rw (c.deref_mut-2.ensures.value, device_calls)
+    (calls-devices _ _ _ _ _ _ _ _ c.self.inside.busy c.self.invariant c.args.addr c.args.reading)
 
 pub begin-devices-requires-clause-rest : goal.begin-devices-requires-clause-rest
 begin-devices-requires-clause-rest c =
     let same = c.as_slice-chips.ensures.value in
-    let device_rest = c.call-2.ensures.rest ∙ ap (λ cs. others cs c.self.inside.device_places c.args.addr c.self.inside.device_reach.started.items) same in
-    rw (c.deref_mut-2.ensures.value, device_rest) (other-devices _ _ _ _ _ _ _ _ c.self.inside.busy c.self.invariant c.args.addr c.args.reading)
+    let device_rest = c.call-2.ensures.rest
+    ∙ ap (λ cs. others cs c.self.inside.device_places c.args.addr c.self.inside.device_reach.started.items) same in
+    rw (c.deref_mut-2.ensures.value, device_rest)
+    (other-devices _ _ _ _ _ _ _ _ c.self.inside.busy c.self.invariant c.args.addr c.args.reading)
 
 pub invariant_of-self : goal.invariant_of-self
 invariant_of-self c =
@@ -41,17 +45,22 @@ invariant_of-self c =
     let e = event.Start c.args.reading in
     let same = c.as_slice-chips.ensures.value in
     let chip_calls = c.call.ensures.told ∙ ap (λ cs. addressed cs c.self.inside.mux_places c.args.addr) same in
-    let chip_rest = c.call.ensures.rest ∙ ap (λ cs. others cs c.self.inside.mux_places c.args.addr c.self.inside.chip_reach.started.items) same in
+    let chip_rest = c.call.ensures.rest
+    ∙ ap (λ cs. others cs c.self.inside.mux_places c.args.addr c.self.inside.chip_reach.started.items) same in
     let device_calls = c.call-2.ensures.told ∙ ap (λ cs. addressed cs c.self.inside.device_places c.args.addr) same in
-    let device_rest = c.call-2.ensures.rest ∙ ap (λ cs. others cs c.self.inside.device_places c.args.addr c.self.inside.device_reach.started.items) same in
-    let chips = begun-on chip_table e chip_calls c.deref_mut.ensures.value _ _ chip_rest _ _ (with_items_is s.chips c.begin-chips.new.targets (omega arith)) c.begin-chips.ensures.fed in
+    let device_rest = c.call-2.ensures.rest
+    ∙ ap (λ cs. others cs c.self.inside.device_places c.args.addr c.self.inside.device_reach.started.items) same in
+    let chips = begun-on chip_table e chip_calls c.deref_mut.ensures.value _ _ chip_rest _ _
+    (with_items_is s.chips c.begin-chips.new.targets (omega arith)) c.begin-chips.ensures.fed in
     let devices = begun-on state_table e device_calls c.deref_mut-2.ensures.value _ _ device_rest _ _
     (with_items_is s.devices c.begin-devices.new.targets (omega arith)) c.begin-devices.ensures.fed in
     let chips_heard = said-on chip_table e _ _ _ _ chip_calls c.deref_mut.ensures.value numbers_of _ c.begin-chips.ensures.hearing in
-    let devices_heard = said-on state_table e _ _ _ _ device_calls c.deref_mut-2.ensures.value numbers_of _ c.begin-devices.ensures.hearing in
+    let devices_heard = said-on state_table e _ _ _ _ device_calls c.deref_mut-2.ensures.value numbers_of _ c.begin-devices.ensures.hearing
+    in
     started-kept _ _ _ _ _ _ _ _ s.busy c.self.invariant c.args.addr c.args.reading _ _ _ _ chips devices chips_heard devices_heard
     (c.begin-chips.ensures.started ∙ either-on (ap length c.deref_mut.ensures.value) (ap (λ n. n.items) c.call.ensures.started) chip_calls)
-    (c.begin-devices.ensures.started ∙ either-on (ap length c.deref_mut-2.ensures.value) (ap (λ n. n.items) c.call-2.ensures.started) device_calls)
+    (c.begin-devices.ensures.started
+    ∙ either-on (ap length c.deref_mut-2.ensures.value) (ap (λ n. n.items) c.call-2.ensures.started) device_calls)
 
 pub returns-clause-answer : goal.returns-clause-answer
 returns-clause-answer c =
@@ -63,7 +72,8 @@ returns-clause-answer c =
     let chips = said-on chip_table e _ _ _ _ chip_calls c.deref_mut.ensures.value wired_and_of _ c.begin-chips.ensures.answered in
     let devices = said-on state_table e _ _ _ _ device_calls c.deref_mut-2.ensures.value wired_and_of _ c.begin-devices.ensures.answered in
     c.answer_of.ensures ∙ start-by chips devices
-    ∙ started-answer _ _ _ _ _ _ _ _ s.busy c.self.invariant c.args.addr c.args.reading ∙ ap (λ w. answer w c.args.addr c.args.reading) c.self.view_is
+    ∙ started-answer _ _ _ _ _ _ _ _ s.busy c.self.invariant c.args.addr c.args.reading
+    ∙ ap (λ w. answer w c.args.addr c.args.reading) c.self.view_is
 
 pub returns-clause-after : goal.returns-clause-after
 returns-clause-after c =
@@ -71,13 +81,18 @@ returns-clause-after c =
     let e = event.Start c.args.reading in
     let same = c.as_slice-chips.ensures.value in
     let chip_calls = c.call.ensures.told ∙ ap (λ cs. addressed cs c.self.inside.mux_places c.args.addr) same in
-    let chip_rest = c.call.ensures.rest ∙ ap (λ cs. others cs c.self.inside.mux_places c.args.addr c.self.inside.chip_reach.started.items) same in
+    let chip_rest = c.call.ensures.rest
+    ∙ ap (λ cs. others cs c.self.inside.mux_places c.args.addr c.self.inside.chip_reach.started.items) same in
     let device_calls = c.call-2.ensures.told ∙ ap (λ cs. addressed cs c.self.inside.device_places c.args.addr) same in
-    let device_rest = c.call-2.ensures.rest ∙ ap (λ cs. others cs c.self.inside.device_places c.args.addr c.self.inside.device_reach.started.items) same in
-    let chips = begun-on chip_table e chip_calls c.deref_mut.ensures.value _ _ chip_rest _ _ (with_items_is s.chips c.begin-chips.new.targets (omega arith)) c.begin-chips.ensures.fed in
+    let device_rest = c.call-2.ensures.rest
+    ∙ ap (λ cs. others cs c.self.inside.device_places c.args.addr c.self.inside.device_reach.started.items) same in
+    let chips = begun-on chip_table e chip_calls c.deref_mut.ensures.value _ _ chip_rest _ _
+    (with_items_is s.chips c.begin-chips.new.targets (omega arith)) c.begin-chips.ensures.fed in
     let devices = begun-on state_table e device_calls c.deref_mut-2.ensures.value _ _ device_rest _ _
     (with_items_is s.devices c.begin-devices.new.targets (omega arith)) c.begin-devices.ensures.fed in
     let chips_heard = said-on chip_table e _ _ _ _ chip_calls c.deref_mut.ensures.value numbers_of _ c.begin-chips.ensures.hearing in
-    let devices_heard = said-on state_table e _ _ _ _ device_calls c.deref_mut-2.ensures.value numbers_of _ c.begin-devices.ensures.hearing in
-    started-is _ _ _ _ _ _ _ _ s.busy c.self.invariant c.args.addr c.args.reading _ _ c.begin-chips.new.reach c.begin-devices.new.reach chips devices chips_heard devices_heard
+    let devices_heard = said-on state_table e _ _ _ _ device_calls c.deref_mut-2.ensures.value numbers_of _ c.begin-devices.ensures.hearing
+    in
+    started-is _ _ _ _ _ _ _ _ s.busy c.self.invariant c.args.addr c.args.reading _ _ c.begin-chips.new.reach c.begin-devices.new.reach
+    chips devices chips_heard devices_heard
     ∙ ap (λ w. after w (call.Start c.args.addr c.args.reading)) c.self.view_is

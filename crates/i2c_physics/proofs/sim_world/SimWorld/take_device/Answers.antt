@@ -58,7 +58,8 @@ pub invariant_of-self : goal.invariant_of-self
 invariant_of-self c =
     let inv = c.self.invariant in
     let s = c.self.inside in
-    let low : c.args.number < length s.devices.items = omega (arith, own-low s.board.value s.root s.board.value.devices c.args.number (is_of_root c), inv.devices_are) in
+    let low : c.args.number < length s.devices.items = omega
+    (arith, own-low s.board.value s.root s.board.value.devices c.args.number (is_of_root c), inv.devices_are) in
     record {
       plain = inv.plain;
       mux_places = inv.mux_places;

@@ -14,8 +14,11 @@ loop-device-preserved c =
     let was = c.loop-device.invariant in
     record {
       placed =
-          mapped-more (device_place (board_of c.args.layout) c.args.root) c.args.layout.devices.now c.loop-device.device-index c.device-item.result c.loop-device.places.items
-          c.push_reserved.new.self.items _ c.loop-device-test.true c.device-item.is was.placed (c.in_ok-open.ensures ∙ ap (λ (d : DeviceView). device_place (board_of c.args.layout) c.args.root d) c.device.view_is) c.push_reserved.ensures.items;
+          mapped-more (device_place (board_of c.args.layout) c.args.root) c.args.layout.devices.now c.loop-device.device-index
+          c.device-item.result c.loop-device.places.items
+          c.push_reserved.new.self.items _ c.loop-device-test.true c.device-item.is was.placed (c.in_ok-open.ensures
+          ∙ ap (λ (d : DeviceView). device_place (board_of c.args.layout) c.args.root d) c.device.view_is)
+          c.push_reserved.ensures.items;
       count = c.push_reserved.ensures.len ∙ ap (λ n. n + 1) was.count;
       room = rw c.push_reserved.ensures.capacity was.room;
     }

@@ -23,8 +23,11 @@ loop-mux-preserved c =
     ] in
     record {
       placed =
-          mapped-more (mux_place (board_of c.args.layout) c.args.root) c.args.layout.muxes.now c.loop-mux.mux-index c.mux-item.result c.loop-mux.places.items
-          c.push_reserved.new.self.items _ c.loop-mux-test.true c.mux-item.is was.placed (c.in_ok-open.ensures ∙ ap (λ (there : Bool). place_on (board_of c.args.layout) c.args.root m.bus m.addr there) there) c.push_reserved.ensures.items;
+          mapped-more (mux_place (board_of c.args.layout) c.args.root) c.args.layout.muxes.now c.loop-mux.mux-index c.mux-item.result
+          c.loop-mux.places.items
+          c.push_reserved.new.self.items _ c.loop-mux-test.true c.mux-item.is was.placed (c.in_ok-open.ensures
+          ∙ ap (λ (there : Bool). place_on (board_of c.args.layout) c.args.root m.bus m.addr there) there)
+          c.push_reserved.ensures.items;
       count = c.push_reserved.ensures.len ∙ ap (λ n. n + 1) was.count;
       room = rw c.push_reserved.ensures.capacity was.room;
     }

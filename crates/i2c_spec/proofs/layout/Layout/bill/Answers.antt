@@ -17,6 +17,7 @@ full_cost-requires-clause-few c =
 pub returns-clause-few : goal.returns-clause-few
 returns-clause-few c =
     let b = board_of c.args.self.now in
-    let same : c.end_of.result ≡ root_of b c.bus-bus.result = c.end_of.ensures ∙ ap (end_of c.bus-bus.result) (c.as_slice-2.ensures.value ∙ c.hops-hops.ensures) in
+    let same : c.end_of.result ≡ root_of b c.bus-bus.result = c.end_of.ensures
+    ∙ ap (end_of c.bus-bus.result) (c.as_slice-2.ensures.value ∙ c.hops-hops.ensures) in
     let there : c.bus-bus.result < buses b = omega (arith, c.buses.ensures, c.if-bus-buses.false) in
     omega (arith, same, (tree_of b c.requires.plain c.requires.rules).root_is c.bus-bus.result there, c.requires.plain.most_roots)

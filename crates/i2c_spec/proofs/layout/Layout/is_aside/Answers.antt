@@ -8,7 +8,8 @@ use Rattle.i2c_spec.proofs.layout.Layout.is_aside.Goals as goal
 pub returns-then-eq : goal.returns-then-eq
 returns-then-eq c =
     let same : c.args.seg ≡ c.args.other = eqb-true c.args.seg c.args.other (sym c.if-eq.ensures) in
-    sym (ap (λ (u : ℕ). is_aside (board_of c.args.self.now) c.args.seg u) (sym same) ∙ not_aside_itself (board_of c.args.self.now) c.args.seg)
+    sym (ap (λ (u : ℕ). is_aside (board_of c.args.self.now) c.args.seg u) (sym same)
+    ∙ not_aside_itself (board_of c.args.self.now) c.args.seg)
 
 pub returns-then-from-self : goal.returns-then-from-self
 returns-then-from-self c =

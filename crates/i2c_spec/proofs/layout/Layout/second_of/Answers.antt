@@ -5,4 +5,5 @@ use Rattle.i2c_spec.proofs.layout.Layout.second_of.Goals as goal
 
 pub unwrap-requires : goal.unwrap-requires
 unwrap-requires c =
-    outside-found (board_of c.args.self.now) c.args.mux c.first_outside.result c.first_outside.ensures.none c.requires.broken (sym c.may_stay.ensures ∙ c.if-may_stay.true)
+    outside-found (board_of c.args.self.now) c.args.mux c.first_outside.result c.first_outside.ensures.none c.requires.broken
+    (sym c.may_stay.ensures ∙ c.if-may_stay.true)

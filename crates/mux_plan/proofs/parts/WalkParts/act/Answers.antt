@@ -12,7 +12,8 @@ returns-in-Lock-clause-tree c = λ b ms.
     let w = c.in-Lock in
     c.lock.ensures.tree b ms (came_of c.lock.new.self.came) (came_of s.came) (outcome_of c.args.outcome.now)
     ∙ ap (λ (t : WalkTree). rest_of t (outcome_of c.args.outcome.now))
-    (top-tree s.route s.stack c.drop_top.new.self c.in-Some.task.now (Lock w.from w.place w.work) c.in-Some.ensures.some w.is c.drop_top.ensures b ms (came_of s.came))
+    (top-tree s.route s.stack c.drop_top.new.self c.in-Some.task.now
+    (Lock w.from w.place w.work) c.in-Some.ensures.some w.is c.drop_top.ensures b ms (came_of s.came))
 
 pub returns-in-Rest-clause-tree : goal.returns-in-Rest-clause-tree
 returns-in-Rest-clause-tree c = λ b ms.
@@ -20,4 +21,5 @@ returns-in-Rest-clause-tree c = λ b ms.
     let w = c.in-Rest in
     c.message.ensures.tree b ms (came_of s.came)
     ∙ ap (λ (t : WalkTree). rest_of t (outcome_of c.args.outcome.now))
-    (top-tree s.route s.stack c.drop_top-in-Rest.new.self c.in-Some.task.now (Rest w.left w.work) c.in-Some.ensures.some w.is c.drop_top-in-Rest.ensures b ms (came_of s.came))
+    (top-tree s.route s.stack c.drop_top-in-Rest.new.self c.in-Some.task.now
+    (Rest w.left w.work) c.in-Some.ensures.some w.is c.drop_top-in-Rest.ensures b ms (came_of s.came))

@@ -16,7 +16,8 @@ returns-in-Enter-clause-first c = λ ms long.
     c.action.ensures.first b ms long
     ∙ ap action_of (c.ahead-step.ensures.first ms long
     ∙ sym (first_at-any b ms s.route c.args.seen.now c.in-Enter.place c.in-Enter.work (drop 1 s.stack) (came_of s.came))
-    ∙ ap (λ (ts : List Task). first_act (seen v (tree_of b ms s.route ts (came_of s.came)))) (sym (c.in-Some.ensures.some ∙ ap (λ (t : Task). t ∷ drop 1 s.stack) c.in-Enter.is)))
+    ∙ ap (λ (ts : List Task). first_act (seen v (tree_of b ms s.route ts (came_of s.came))))
+    (sym (c.in-Some.ensures.some ∙ ap (λ (t : Task). t ∷ drop 1 s.stack) c.in-Enter.is)))
 
 pub returns-in_default-task-clause-first : goal.returns-in_default-task-clause-first
 returns-in_default-task-clause-first c = λ ms long.
@@ -25,7 +26,9 @@ returns-in_default-task-clause-first c = λ ms long.
     let v = slots_of c.args.seen.now in
     let e = c.in-Some.ensures.some in
     c.action-in_default-task.ensures.first b ms long
-    ∙ ap action_of (sym (first_of-step b ms s.route v c.in-Some.task.now (drop 1 s.stack) (came_of s.came) (ready-step c.in-Some.task.now (drop 1 s.stack) (subst IsReady e c.requires.ready) c.in_default-task.not-Enter c.in_default-task.not-Pass))
+    ∙ ap action_of (sym (first_of-step b ms s.route v c.in-Some.task.now (drop 1 s.stack) (came_of s.came)
+    (ready-step c.in-Some.task.now (drop 1 s.stack)
+    (subst IsReady e c.requires.ready) c.in_default-task.not-Enter c.in_default-task.not-Pass))
     ∙ ap (λ (ts : List Task). first_act (seen v (tree_of b ms s.route ts (came_of s.came)))) (sym e))
 
 pub returns-in-Pass-clause-first : goal.returns-in-Pass-clause-first
@@ -36,7 +39,11 @@ returns-in-Pass-clause-first c = λ ms long.
     let again = c.again-again.result in
     c.action-in-Pass.ensures.first b ms long
     ∙ ap action_of (c.ahead_behind-step.ensures.first ms long
-    ∙ sym (first_at-pass b ms s.route again w.place w.work (choice_of w.hop (keeps w.hop (kept_of again w.hop.mux)) w.work) w.hop w.hop.parent refl refl [] Good)
-    ∙ first_at-pass b ms s.route again w.place w.work (choice_of w.hop (keeps w.hop (kept_of again w.hop.mux)) w.work) w.hop w.hop.parent refl refl (drop 1 s.stack) (came_of s.came)
-    ∙ ap (λ (x : SeenView). first_act (seen (slots_of x) (tree_of b ms s.route (Pass w.place w.hop w.work ∷ drop 1 s.stack) (came_of s.came)))) c.again-again.ensures
-    ∙ ap (λ (ts : List Task). first_act (seen (slots_of c.args.seen.now) (tree_of b ms s.route ts (came_of s.came)))) (sym (c.in-Some.ensures.some ∙ ap (λ (t : Task). t ∷ drop 1 s.stack) w.is)))
+    ∙ sym (first_at-pass b ms s.route again w.place w.work
+    (choice_of w.hop (keeps w.hop (kept_of again w.hop.mux)) w.work) w.hop w.hop.parent refl refl [] Good)
+    ∙ first_at-pass b ms s.route again w.place w.work
+    (choice_of w.hop (keeps w.hop (kept_of again w.hop.mux)) w.work) w.hop w.hop.parent refl refl (drop 1 s.stack) (came_of s.came)
+    ∙ ap (λ (x : SeenView). first_act
+    (seen (slots_of x) (tree_of b ms s.route (Pass w.place w.hop w.work ∷ drop 1 s.stack) (came_of s.came)))) c.again-again.ensures
+    ∙ ap (λ (ts : List Task). first_act (seen (slots_of c.args.seen.now) (tree_of b ms s.route ts (came_of s.came))))
+    (sym (c.in-Some.ensures.some ∙ ap (λ (t : Task). t ∷ drop 1 s.stack) w.is)))

@@ -15,9 +15,12 @@ returns-in_default-task c =
     let v = slots_of c.args.seen.now in
     let stack = c.in-Some.ensures.some in
     let below = drop 1 s.stack in
-    let step = ready-step c.in-Some.task.now below (subst IsReady stack c.requires.ready) c.in_default-task.not-Enter c.in_default-task.not-Pass in
+    let step = ready-step c.in-Some.task.now below
+    (subst IsReady stack c.requires.ready) c.in_default-task.not-Enter c.in_default-task.not-Pass in
     record {
-      tree = λ ms out long. ap (λ (ts : List Task). tree_of b ms s.route ts out) stack ∙ sym (ap (λ (ts : List Task). seen v (tree_of b ms s.route ts out)) stack ∙ seen-step b ms s.route v (c.in-Some.task.now ∷ below) out step);
+      tree = λ ms out long. ap (λ (ts : List Task). tree_of b ms s.route ts out) stack
+          ∙ sym (ap (λ (ts : List Task). seen v (tree_of b ms s.route ts out)) stack
+          ∙ seen-step b ms s.route v (c.in-Some.task.now ∷ below) out step);
       planned = c.requires.planned;
       step = subst IsStep (sym stack) step;
       route = search rules;
@@ -28,13 +31,18 @@ pub pass-requires : goal.pass-requires
 pass-requires c =
     let s = c.args.self.now in
     let w = c.in-Pass in
-    record { planned = top-planned s.route s.stack c.drop_top-in-Pass.new.self c.in-Some.task.now (Pass w.place w.hop w.work) c.in-Some.ensures.some w.is c.drop_top-in-Pass.ensures c.requires.planned }
+    record {
+      planned = top-planned s.route s.stack c.drop_top-in-Pass.new.self c.in-Some.task.now
+          (Pass w.place w.hop w.work) c.in-Some.ensures.some w.is c.drop_top-in-Pass.ensures c.requires.planned;
+    }
 
 pub returns-in-Pass-clause-tree : goal.returns-in-Pass-clause-tree
 returns-in-Pass-clause-tree c = λ ms out long.
     let s = c.args.self.now in
     let w = c.in-Pass in
     c.pass.ensures.tree ms out long
-    ∙ ap (λ (x : SeenView). seen (slots_of x) (tree_of c.args.board.now ms s.route (Pass w.place w.hop w.work ∷ c.drop_top-in-Pass.new.self) out)) c.again.ensures
+    ∙ ap (λ (x : SeenView). seen (slots_of x)
+    (tree_of c.args.board.now ms s.route (Pass w.place w.hop w.work ∷ c.drop_top-in-Pass.new.self) out)) c.again.ensures
     ∙ ap (λ (ts : List Task). seen (slots_of c.args.seen.now) (tree_of c.args.board.now ms s.route ts out))
-    (ap (λ (ts : List Task). Pass w.place w.hop w.work ∷ ts) c.drop_top-in-Pass.ensures ∙ sym (c.in-Some.ensures.some ∙ ap (λ (t : Task). t ∷ drop 1 s.stack) w.is))
+    (ap (λ (ts : List Task). Pass w.place w.hop w.work ∷ ts) c.drop_top-in-Pass.ensures
+    ∙ sym (c.in-Some.ensures.some ∙ ap (λ (t : Task). t ∷ drop 1 s.stack) w.is))

@@ -12,8 +12,10 @@ enter-requires c =
     let h = c.args.hop.now in
     record {
       planned =
-          planned-pass s.route c.wait_select-next.new.self.route c.args.place c.args.work.now c.wait_select-next.result h (keeps h (kept_of c.args.seen.now h.mux)) s.stack c.wait_select-next.new.self.stack
-          c.requires.planned (c.wait_select-next.ensures.narrow c.requires.planned.placed.0.1 c.requires.planned.placed.0.0) c.wait_select-next.ensures.route c.wait_select-next.ensures.stack true;
+          planned-pass s.route c.wait_select-next.new.self.route c.args.place c.args.work.now c.wait_select-next.result h
+          (keeps h (kept_of c.args.seen.now h.mux)) s.stack c.wait_select-next.new.self.stack
+          c.requires.planned (c.wait_select-next.ensures.narrow c.requires.planned.placed.0.1 c.requires.planned.placed.0.0)
+          c.wait_select-next.ensures.route c.wait_select-next.ensures.stack true;
     }
 
 pub returns-then-is_parent-clause-tree : goal.returns-then-is_parent-clause-tree
@@ -21,8 +23,11 @@ returns-then-is_parent-clause-tree c = λ ms out long.
     let s = c.args.self.now in
     let h = c.args.hop.now in
     c.enter.ensures.tree ms out (long ∙ sym (ap (λ (x : RouteView). x.count) c.wait_select-next.ensures.route))
-    ∙ ap (λ (x : RouteView). seen (slots_of c.args.seen.now) (tree_of c.args.board.now ms x (part_task true c.args.place c.wait_select-next.result ∷ c.wait_select-next.new.self.stack) out)) c.wait_select-next.ensures.route
-    ∙ passes-by c.args.board.now ms s.route c.args.seen.now c.args.place c.args.work.now h s.stack out true (sym c.is_parent.ensures ∙ c.if-is_parent.true)
+    ∙ ap (λ (x : RouteView). seen (slots_of c.args.seen.now)
+    (tree_of c.args.board.now ms x (part_task true c.args.place c.wait_select-next.result ∷ c.wait_select-next.new.self.stack) out))
+    c.wait_select-next.ensures.route
+    ∙ passes-by c.args.board.now ms s.route c.args.seen.now c.args.place c.args.work.now h s.stack out true (sym c.is_parent.ensures
+    ∙ c.if-is_parent.true)
     c.wait_select-next.result c.wait_select-next.new.self.stack c.wait_select-next.ensures.next c.wait_select-next.ensures.stack
 
 pub returns-else-is_parent-clause-tree : goal.returns-else-is_parent-clause-tree
@@ -30,8 +35,12 @@ returns-else-is_parent-clause-tree c = λ ms out long.
     let s = c.args.self.now in
     let h = c.args.hop.now in
     let b = c.args.board.now in
-    ap (λ (ts : List Task). tree_of b ms c.wait_select-next.new.self.route ts out) (c.push.ensures ∙ ap (λ (t : Task). t ∷ c.wait_select-next.new.self.stack) c.part.ensures)
-    ∙ ap (λ (x : RouteView). tree_of b ms x (part_task false c.args.place c.wait_select-next.result ∷ c.wait_select-next.new.self.stack) out) c.wait_select-next.ensures.route
-    ∙ sym (seen-step b ms s.route (slots_of c.args.seen.now) (part_task false c.args.place c.wait_select-next.result ∷ c.wait_select-next.new.self.stack) out tt)
-    ∙ passes-by b ms s.route c.args.seen.now c.args.place c.args.work.now h s.stack out false (sym c.is_parent.ensures ∙ c.if-is_parent.false)
+    ap (λ (ts : List Task). tree_of b ms c.wait_select-next.new.self.route ts out) (c.push.ensures
+    ∙ ap (λ (t : Task). t ∷ c.wait_select-next.new.self.stack) c.part.ensures)
+    ∙ ap (λ (x : RouteView). tree_of b ms x
+    (part_task false c.args.place c.wait_select-next.result ∷ c.wait_select-next.new.self.stack) out) c.wait_select-next.ensures.route
+    ∙ sym (seen-step b ms s.route (slots_of c.args.seen.now)
+    (part_task false c.args.place c.wait_select-next.result ∷ c.wait_select-next.new.self.stack) out tt)
+    ∙ passes-by b ms s.route c.args.seen.now c.args.place c.args.work.now h s.stack out false (sym c.is_parent.ensures
+    ∙ c.if-is_parent.false)
     c.wait_select-next.result c.wait_select-next.new.self.stack c.wait_select-next.ensures.next c.wait_select-next.ensures.stack

@@ -5,4 +5,5 @@ use Rattle.mux_plan.proofs.parts.WalkParts.reach.Goals as goal
 
 pub returns-clause-planned : goal.returns-clause-planned
 returns-clause-planned c = λ n h.
-    subst (λ (ts : List Task). IsPlanned c.args.self.now.route ts) (sym c.push.ensures) (c.base-task.ensures.planned n c.args.self.now.stack h)
+    subst (λ (ts : List Task). IsPlanned c.args.self.now.route ts) (sym c.push.ensures)
+    (c.base-task.ensures.planned n c.args.self.now.stack h)

@@ -11,7 +11,8 @@ invariant-waiting l = record {
   planned : IsPlanned l.self.route l.self.stack;
   route : l.self.route ≡ l.fn.self.route;
   same : (b : BoardView) (ms : List MessageView)
-      → tree_of b ms l.self.route l.self.stack (came_of l.self.came) ≡ tree_of b ms l.fn.self.route l.fn.self.stack (came_of l.fn.self.came);
+      → tree_of b ms l.self.route l.self.stack (came_of l.self.came) ≡ tree_of b ms l.fn.self.route l.fn.self.stack
+      (came_of l.fn.self.came);
 }
 
 abbrev pub decreases-waiting : goal.decreases-waiting

@@ -13,6 +13,7 @@ returns-in_default-task c =
     record {
       some = λ b ms v. tt;
       none = λ b ms v verdict is h.
-          no_settle b ms s.route v c.in-Some.task.now (drop 1 s.stack) (came_of s.came) (subst IsReady e c.requires.ready) c.in_default-task.not-Settle verdict
+          no_settle b ms s.route v c.in-Some.task.now (drop 1 s.stack) (came_of s.came)
+          (subst IsReady e c.requires.ready) c.in_default-task.not-Settle verdict
           (ap (λ (ts : List Task). first_act (seen v (tree_of b ms s.route ts (came_of s.came)))) (sym e) ∙ h);
     }

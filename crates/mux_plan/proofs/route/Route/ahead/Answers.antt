@@ -14,7 +14,8 @@ returns-then-not-is_parent-clause-first c = λ ms long.
     let marks = c.args.seen.now in
     ap (λ (w : Work). first_act (tree_of b ms route (Lock (c.muxes.place + 1) (c.muxes.place + 1) w ∷ []) Good))
     c.switch-work.ensures.value
-    ∙ first_at-lock b ms route marks c.muxes.place c.muxes.work c.in-Some.hop c.in-Some.ensures.at (c.in-Some.ensures.message ms) (sym (c.if-not-is_parent.ensures))
+    ∙ first_at-lock b ms route marks c.muxes.place c.muxes.work c.in-Some.hop c.in-Some.ensures.at (c.in-Some.ensures.message ms)
+    (sym (c.if-not-is_parent.ensures))
     ∙ c.muxes.invariant.same ms
 
 pub muxes-preserved : goal.muxes-preserved
@@ -26,7 +27,8 @@ muxes-preserved c = record {
       let marks = c.args.seen.now in
       ap (λ (w : Work). first_at b ms route marks (c.muxes.place + 1) w)
       c.switch-work.ensures.value
-      ∙ first_at-next b ms route marks c.muxes.place c.muxes.work c.in-Some.hop c.in-Some.ensures.at (c.in-Some.ensures.message ms) (sym (c.if-not-is_parent.ensures))
+      ∙ first_at-next b ms route marks c.muxes.place c.muxes.work c.in-Some.hop c.in-Some.ensures.at (c.in-Some.ensures.message ms)
+      (sym (c.if-not-is_parent.ensures))
       ∙ c.muxes.invariant.same ms;
 }
 

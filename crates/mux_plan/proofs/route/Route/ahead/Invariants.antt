@@ -9,7 +9,8 @@ use Rattle.mux_plan.proofs.route.Route.ahead.Given as goal
 abbrev pub invariant-muxes : goal.invariant-muxes
 invariant-muxes l = record {
   planned : IsPlanned l.self (Enter l.place l.work ∷ []);
-  same : (ms : List MessageView) → first_at l.board ms l.self l.seen l.place l.work ≡ first_at l.board ms l.self l.seen l.fn.place l.fn.work;
+  same : (ms : List MessageView)
+      → first_at l.board ms l.self l.seen l.place l.work ≡ first_at l.board ms l.self l.seen l.fn.place l.fn.work;
 }
 
 abbrev pub decreases-muxes : goal.decreases-muxes

@@ -15,11 +15,13 @@ returns-clause-deep c =
     let b = c.args.board.now in
     let same : board_of c.layout.result ≡ b = c.layout.ensures.value ∙ c.board.ensures.value in
     let path : c.find_hops.new.found.items ≡ hops b c.args.bus = c.find_hops.ensures ∙ ap (λ (x : BoardView). hops x c.args.bus) same in
-    subst (λ (hs : List Hop). length hs ≤ MOST_DEPTH) (sym path) (hops_few b c.args.bus (subst IsPlainBoard c.board.ensures.value c.layout.ensures.plain) c.board.ensures.rules)
+    subst (λ (hs : List Hop). length hs ≤ MOST_DEPTH) (sym path)
+    (hops_few b c.args.bus (subst IsPlainBoard c.board.ensures.value c.layout.ensures.plain) c.board.ensures.rules)
 
 pub returns-clause-narrow : goal.returns-clause-narrow
 returns-clause-narrow c =
     let b = c.args.board.now in
     let same : board_of c.layout.result ≡ b = c.layout.ensures.value ∙ c.board.ensures.value in
     let path : c.find_hops.new.found.items ≡ hops b c.args.bus = c.find_hops.ensures ∙ ap (λ (x : BoardView). hops x c.args.bus) same in
-    subst (All IsNarrow) (sym path) (path_narrow b c.args.bus (subst IsPlainBoard c.board.ensures.value c.layout.ensures.plain) c.board.ensures.rules c.requires.there)
+    subst (All IsNarrow) (sym path)
+    (path_narrow b c.args.bus (subst IsPlainBoard c.board.ensures.value c.layout.ensures.plain) c.board.ensures.rules c.requires.there)

@@ -11,4 +11,6 @@ returns-clause-count c =
     ∙ sym (ap (λ (x : RouteView). x.count) c.start.ensures.route ∙ ap length c.msgs.ensures.value)
 
 pub returns-clause-tree : goal.returns-clause-tree
-returns-clause-tree c = λ b. ap (λ (ts : List Task). tree_of b (messages_of c.args.transfer.now) c.start.new.self.route ts (came_of c.start.new.self.came)) c.start.ensures.stack
+returns-clause-tree c = λ b. ap
+    (λ (ts : List Task). tree_of b (messages_of c.args.transfer.now) c.start.new.self.route ts (came_of c.start.new.self.came))
+    c.start.ensures.stack

@@ -19,5 +19,8 @@ returns-clause-after c =
       | then-reading-2 w ↦ rw (w.if-reading-2.true, w.self-is) refl
       | else-reading-2 w ↦ rw (w.if-reading-2.false, w.self-is) refl
     ] in
-    started s (the_view c.self.inside) c.args.reading c.pec_with-self-inside.result c.code_so_far.result c.address_byte.result c.clear.new.self
-    _ (c.self.view_is ∙ before) (c.code_so_far.ensures ∙ ap (λ (u : SmbusView). code_so_far u u.phase) (sym c.self.view_is)) c.address_byte.ensures c.pec_with-self-inside.ensures c.clear.ensures phase
+    started s (the_view c.self.inside) c.args.reading c.pec_with-self-inside.result c.code_so_far.result c.address_byte.result
+    c.clear.new.self
+    _ (c.self.view_is ∙ before) (c.code_so_far.ensures
+    ∙ ap (λ (u : SmbusView). code_so_far u u.phase) (sym c.self.view_is)) c.address_byte.ensures c.pec_with-self-inside.ensures
+    c.clear.ensures phase

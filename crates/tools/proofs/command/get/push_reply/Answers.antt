@@ -14,7 +14,8 @@ push_outcome-requires c =
     let g = c.args.get.now in
     let k = c.args.at in
     let bytes = c.args.bytes.now in
-    let fits = subst (λ (a : ReplyHead). Fits (messages_of_call (get_call g (op_at g k))) (reply_by a bytes)) c.in-Read.is c.requires.fits in
+    let fits = subst (λ (a : ReplyHead). Fits (messages_of_call (get_call g (op_at g k))) (reply_by a bytes)) c.in-Read.is c.requires.fits
+    in
     let call = c.call_of-call.ensures ∙ ap (get_call g) c.op_at-op.ensures in
     let seen = c.value_read.ensures ∙ ap (λ x. value_of_call x (reply.Read bytes)) call in
     omega (arith, c.requires.room, get_short g k c.requires.within bytes fits, ap (λ o. length (block_in o)) seen)
@@ -24,7 +25,8 @@ returns-in-Read-clause-room c =
     let g = c.args.get.now in
     let k = c.args.at in
     let bytes = c.args.bytes.now in
-    let fits = subst (λ (a : ReplyHead). Fits (messages_of_call (get_call g (op_at g k))) (reply_by a bytes)) c.in-Read.is c.requires.fits in
+    let fits = subst (λ (a : ReplyHead). Fits (messages_of_call (get_call g (op_at g k))) (reply_by a bytes)) c.in-Read.is c.requires.fits
+    in
     let call = c.call_of-call.ensures ∙ ap (get_call g) c.op_at-op.ensures in
     let seen = c.value_read.ensures ∙ ap (λ x. value_of_call x (reply.Read bytes)) call in
     omega (arith, c.push_outcome.ensures.room, get_short g k c.requires.within bytes fits, ap (λ o. length (block_in o)) seen)
