@@ -1,0 +1,2 @@
+-- One read, and ports that are all alike.
+pub mod FairLemmas
