@@ -1,5 +1,5 @@
 //! A caller of one's own: it asks for one read, and keeps what came of it.
-ghost use Rattle.std.specs.Prelude.{◌≡◌, [], ◌∷◌};
+ghost use Rattle.std.specs.Prelude.{◌≡◌, [], ◌∷◌, None};
 ghost use Rattle.std.specs.Option.{option_map_or};
 ghost use Rattle.i2c_spec.specs.Fair.{IsFairCaller};
 ghost use Rattle.examples_rig.specs.OneReads.{asked_by, board_of, left_of, owed_by, room_of, transfer_to};
@@ -34,7 +34,10 @@ pub struct OneRead {
 
 impl OneRead {
     /// It asked for nothing yet.
-    pub fn open(board: &Accepted, bus: u16, addr: Addr) -> Self {
+    pub fn open(board: &Accepted, bus: u16, addr: Addr) -> Self
+        ensures opened { (result.board.value ≡ board.now) × (result.bus ≡ bus) × (result.addr ≡ addr) }
+        ensures fresh { (result.reply ≡ None) × (result.byte ≡ None) }
+    {
         OneRead {
             board: Snapshot::of(board),
             bus,
@@ -45,7 +48,9 @@ impl OneRead {
     }
 
     /// The byte that was read; none before it was, or where it failed.
-    pub fn byte(&self) -> Option<u8> {
+    pub fn byte(&self) -> Option<u8>
+        ensures { result ≡ self.now.byte }
+    {
         self.byte
     }
 }

@@ -22,7 +22,10 @@ pub struct QuietRig {
 
 impl QuietRig {
     /// It wasn't plugged yet.
-    pub fn new() -> Self {
+    pub fn new() -> Self
+        ensures counts { (result.plugs ≡ 0) × (result.unplugs ≡ 0) }
+        ensures unplugged { result.plugged ≡ false }
+    {
         QuietRig {
             plugs: 0,
             unplugs: 0,
