@@ -7,5 +7,6 @@ pub mod Bytes
 pub mod Transfer
 pub mod Fitting
 pub mod Need
+pub mod Replies
 pub mod Table
 pub mod Phases

@@ -1,12 +1,13 @@
 //! The trait of a caller, who asks for transfers and takes their replies.
-ghost use Rattle.std.specs.Prelude.{◌≡◌, ℕ, true, false, List, [], ◌∷◌, ◌++◌, Option, Some, None, OnOk};
+ghost use Rattle.std.specs.Prelude.{◌≡◌, ◌≤◌, ℕ, true, false, List, [], ◌∷◌, ◌++◌, length, Option, Some, None, OnOk};
 ghost use Rattle.i2c_base.specs.Board.{BoardView};
 ghost use Rattle.i2c_base.specs.Transfer.{TransferView};
 ghost use Rattle.i2c_base.specs.Need.{Need, Covers};
 ghost use Rattle.i2c_base.specs.Fitting.{Fits};
+ghost use Rattle.i2c_base.specs.Replies.{reply_by, most_read};
 ghost use Rattle.i2c_base.specs.declared.reply.Reply.{Reply};
 
-use crate::{NoMemory, Reply, Transfer};
+use crate::{NoMemory, ReplyHead, Transfer};
 
 /// Someone who asks for transfers, one after the other, and takes their replies.
 ///
@@ -62,11 +63,12 @@ pub trait Caller: Drop {
         ensures taken { taken self.new ≡ taken self.old }
         ensures ok { OnOk result (Covers (spare self.new) (owed (script self.new) (taken self.new))) };
 
-    /// Takes the reply of the next transfer. It takes no memory.
-    fn take(&mut self, reply: &Reply)
-        requires fits { (t : TransferView) × (asked (script self.old) (taken self.old) ≡ Some t) × Fits t reply.now }
+    /// Takes the reply of the next transfer, its head and its bytes where they lie. It takes no memory.
+    fn take(&mut self, head: ReplyHead, bytes: &[u8])
+        requires few { length bytes.now ≤ most_read head }
+        requires fits { (t : TransferView) × (asked (script self.old) (taken self.old) ≡ Some t) × Fits t (reply_by head bytes.now) }
         requires room { Covers (spare self.old) (owed (script self.old) (taken self.old)) }
         ensures script { script self.new ≡ script self.old }
-        ensures taken { taken self.new ≡ taken self.old ++ reply.now ∷ [] }
+        ensures taken { taken self.new ≡ taken self.old ++ reply_by head bytes.now ∷ [] }
         ensures room { Covers (spare self.new) (owed (script self.new) (taken self.new)) };
 }

@@ -10,7 +10,6 @@ mod laws;
 mod marks;
 mod parts;
 mod route;
-mod row;
 mod seen;
 mod stack;
 mod task;

@@ -2,7 +2,7 @@
 ghost use Rattle.std.specs.Prelude.{◌≡◌, ◌<◌, true, false, List, [], ◌∷◌, length, reverse, drop, IfSome, IfNone};
 ghost use Rattle.mux_plan.specs.Rooms.{STACK_ROOM};
 
-use crate::row::Row;
+use i2c_base::Row;
 use std::marker::Model;
 
 /// How many tasks a stack has room for.

@@ -1,5 +1,5 @@
 //! A list of some room in place, whose clear and pop cost nothing: no blank is written over what is left out.
-ghost use Rattle.std.specs.Prelude.{◌≡◌, ◌<◌, ◌-◌, [], ◌∷◌, ◌++◌, length, take};
+ghost use Rattle.std.specs.Prelude.{◌≡◌, ◌+◌, ◌<◌, ◌≤◌, ◌-◌, [], ◌∷◌, ◌++◌, length, take};
 
 use std::marker::Model;
 
@@ -55,6 +55,19 @@ impl<T: Copy + Default, const N: usize> Row<T, N> {
         if self.len > 0 {
             self.len -= 1;
         }
+    }
+
+    /// Puts these items at the end.
+    #[inline(always)]
+    pub fn extend(&mut self, items: &[T])
+        requires { length self.old + length items.now ≤ N }
+        ensures { self.new ≡ self.old ++ items.now }
+    {
+        let len = self.len;
+        let all = &mut self.items[..];
+        let room = &mut all[len..len + items.len()];
+        room.copy_from_slice(items);
+        self.len = len + items.len();
     }
 
     /// The items.
