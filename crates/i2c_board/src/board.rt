@@ -1,52 +1,66 @@
 //! A board: its roots, muxes and devices, with their limits.
 
-ghost use Rattle.std.specs.Prelude.{◌≡◌, List};
+ghost use Rattle.std.specs.Prelude.{◌≡◌, IfOk, List};
 ghost use Rattle.i2c_base.specs.declared.board.RootSpec.{RootSpec};
 ghost use Rattle.i2c_base.specs.declared.board.MuxSpec.{MuxSpec};
 
 use i2c_base::{DeviceSpec, MuxSpec, RootSpec};
-use i2c_spec::Layout;
+use i2c_spec::{Hop, Layout, hops_by_bus, some_stays};
+use std::alloc::{AllocError, Global};
 use std::marker::Model;
 
 /// A board: root buses, the muxes that hang below them, and the devices on their buses. A contract sees its
 /// parts as plain lists.
 ///
 /// Its type keeps that it has 1 to `MOST_ROOTS` roots, at most `MOST_MUXES` muxes and `MOST_DEVICES` devices, that
-/// each part has only what its kind allows, and that each mux and device stands on a bus that is there.
+/// each part has only what its kind allows, and that each mux and device stands on a bus that is there. Beside them it keeps
+/// the tree, so that no call searches the muxes for it.
 #[derive(Drop)]
 pub struct Board {
     version: u8,
     roots: Vec<RootSpec>,
     muxes: Vec<MuxSpec>,
     devices: Vec<DeviceSpec>,
+    by_bus: Vec<Hop>,
+    stays: bool,
 }
 
 impl Model for Board {
     ghost use Rattle.i2c_base.specs.Board.{BoardView};
-    ghost use Rattle.i2c_spec.specs.Plain.{IsPlainBoard};
 
     ghost Value = { BoardView };
 
-    ghost view = { λ b. record { version = b.version; roots = b.roots.items; muxes = b.muxes.items; devices = b.devices.items } };
+    ghost use Rattle.i2c_board.specs.Boards.{parts_of, IsBoard};
 
-    ghost invariant = { λ b. IsPlainBoard (record { version = b.version; roots = b.roots.items; muxes = b.muxes.items; devices = b.devices.items }) };
+    ghost view = { parts_of };
+
+    ghost invariant = { IsBoard };
 }
 
 impl Board {
     ghost use Rattle.i2c_spec.specs.Layouts.{board_of};
     ghost use Rattle.i2c_spec.specs.Plain.{IsPlainBoard};
 
-    /// The board of these parts, which fit each other.
-    pub fn new(roots: Vec<RootSpec>, muxes: Vec<MuxSpec>, devices: Vec<DeviceSpec>) -> Self
+    /// The board of these parts, which fit each other. Only its tree takes memory; `Err` is want of that.
+    pub fn new(
+        alloc: Global,
+        roots: Vec<RootSpec>,
+        muxes: Vec<MuxSpec>,
+        devices: Vec<DeviceSpec>,
+    ) -> Result<Self, AllocError>
         requires { IsPlainBoard (record { version = 1; roots = roots.items; muxes = muxes.items; devices = devices.items }) }
-        ensures { result ≡ record { version = 1; roots = roots.items; muxes = muxes.items; devices = devices.items } }
+        ensures { IfOk result (λ b. b ≡ record { version = 1; roots = roots.items; muxes = muxes.items; devices = devices.items }) }
     {
-        Board {
+        let by_bus = hops_by_bus(alloc, roots.len() as u16, &muxes)?;
+        let stays = some_stays(&muxes);
+        Ok(Board {
             version: 1,
             roots,
             muxes,
             devices,
-        }
+            by_bus,
+            stays,
+        })
     }
 
     /// Its root buses, in file order.
@@ -82,6 +96,8 @@ impl Board {
             roots: self.roots(),
             muxes: self.muxes(),
             devices: self.devices(),
+            by_bus: self.by_bus.as_slice(),
+            stays: self.stays,
         }
     }
 }

@@ -77,5 +77,3 @@ pub hops_within : (b : BoardView) (s : ℕ) → All (λ h. h.mux < length b.muxe
 unfolding IsWithin
 hops_within b s =
     rw (← length-reverse b.muxes) (hops_of_within (length b.roots) (reverse b.muxes) s)
-
-pub ruleset hop_steps = (reverse_back, buses_of-cons, buses_of-reverse, hops_of-cross, hops_of-pass)

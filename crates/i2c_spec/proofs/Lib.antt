@@ -4,6 +4,7 @@ pub mod ByteLemmas
 pub mod CostLemmas
 pub mod EepromLemmas
 pub mod FeedLemmas
+pub mod GrantLemmas
 pub mod HopLemmas
 pub mod Lm75Lemmas
 pub mod MessageLemmas
@@ -13,5 +14,6 @@ pub mod RuleLemmas
 pub mod SmbusLemmas
 pub mod StateLemmas
 pub mod TreeLemmas
+pub mod WayLemmas
 pub mod SendLemmas
 pub mod IdleLemmas

@@ -122,13 +122,17 @@ is_plain transfer_kind.Smbus = false
 abbrev pub is_smbus_only : BoardView → ℕ → Bool
 is_smbus_only b root = option_map_or (λ r. r.smbus_only) (slice_get b.roots root) false
 
+-- the address of one of its messages is busy
+abbrev pub is_any_busy : BoardView → TransferView → Bool
+is_any_busy b t = list_any (λ m. is_busy (grant_of b t.bus m.addr t.force)) t.msgs
+
 -- a transfer is refused without any step on the bus where the board lacks its bus, where it is plain and its root
 -- offers SMBus calls alone, or where the address of one of its messages is busy
 abbrev pub refusal : BoardView → TransferView → Option Errno
 refusal b t =
     if not (nat_lt t.bus (buses b)) then Some errno.Enodev
     else if is_plain t.kind && is_smbus_only b (root_of b t.bus) then Some errno.Eopnotsupp
-    else if list_any (λ m. is_busy (grant_of b t.bus m.addr t.force)) t.msgs then Some errno.Ebusy
+    else if is_any_busy b t then Some errno.Ebusy
     else None
 
 -- a transfer that went through: what its reads gave, where one of its messages reads

@@ -1,12 +1,12 @@
 //! What a transfer asks for: how many steps it can take, and on which root.
-ghost use Rattle.std.specs.Prelude.{◌≡◌, ◌+◌, ◌-◌, ◌*◌, ◌^◌, ◌<◌, ◌≤◌, All, length, IfSome};
+ghost use Rattle.std.specs.Prelude.{◌≡◌, ◌+◌, ◌-◌, ◌*◌, ◌^◌, ◌<◌, ◌≤◌, All, length, IfSome, if◌then◌else◌};
 ghost use Rattle.std.specs.List.{sum_by};
 ghost use Rattle.i2c_base.specs.Limits as limits;
 ghost use Rattle.i2c_base.specs.Transfer.{IsMessage};
 ghost use Rattle.i2c_spec.specs.Tree.{locks_of};
 ghost use Rattle.i2c_spec.specs.Cost.{bytes_of, inner_cost, inner_behind, full_cost};
 
-use crate::{Hop, Layout, end_of};
+use crate::{Hop, Layout};
 use i2c_base::{BLOCK_LIMIT, Msg, SegId, Transfer};
 
 /// What is counted at the end of some hops: the locks, a control message of a byte, and the job itself.
@@ -68,40 +68,20 @@ fn behind(hop: &Hop, far: Steps, job: u64) -> u64
     }
 }
 
-// What is counted at the end of these hops.
-fn steps_at(hops: &[Hop], job: u64) -> Steps
-    requires few { length hops.now ≤ limits.MOST_DEPTH }
-    requires small { job < 2 ^ 32 }
-    ensures locks { result.locks ≡ length (locks_of 0 hops.now) }
-    ensures control { result.control ≡ inner_cost hops.now 2 }
-    ensures job { result.job ≡ inner_cost hops.now job }
+// What is counted behind a mux, by what is counted at the bus that the mux stands on.
+fn steps_behind(hop: &Hop, far: Steps) -> Steps
+    requires few { far.locks ≤ 5 }
+    requires control { far.control ≤ 2 ^ 40 }
+    requires job { far.job ≤ 2 ^ 40 }
+    ensures locks { result.locks ≡ if hop.now.parent then 1 + far.locks else 1 }
+    ensures control { result.control ≡ inner_behind hop.now (2 * far.locks) far.control far.control }
+    ensures job { result.job ≡ inner_behind hop.now (2 * far.locks) far.control far.job }
 {
-    match hops.split_first() {
-        Some((hop, over)) => {
-            let far = steps_at(over, job);
-            Steps {
-                locks: if hop.parent { 1 + far.locks } else { 1 },
-                control: behind(hop, far, far.control),
-                job: behind(hop, far, far.job),
-            }
-        }
-        None => Steps {
-            locks: 1,
-            control: 2,
-            job,
-        },
+    Steps {
+        locks: if hop.parent { 1 + far.locks } else { 1 },
+        control: behind(hop, far, far.control),
+        job: behind(hop, far, far.job),
     }
-}
-
-// A job at the end of these hops, with the locks.
-fn full_cost(hops: &[Hop], job: u64) -> u64
-    requires few { length hops.now ≤ limits.MOST_DEPTH }
-    requires small { job < 2 ^ 32 }
-    ensures value { result ≡ full_cost hops.now job }
-    ensures small { result < 2 ^ 41 - 1 }
-{
-    let steps = steps_at(hops, job);
-    2 * steps.locks + steps.job
 }
 
 impl Layout<'_> {
@@ -109,7 +89,41 @@ impl Layout<'_> {
     ghost use Rattle.i2c_spec.specs.Plain.{IsPlainBoard};
     ghost use Rattle.i2c_spec.specs.Rules.{MeetsRules};
     ghost use Rattle.i2c_spec.specs.Cost.{cost_of};
-    ghost use Rattle.i2c_spec.specs.Tree.{root_named};
+    ghost use Rattle.i2c_spec.specs.Tree.{hops, root_named};
+
+    // What is counted at a bus.
+    fn steps_at(&self, seg: SegId, job: u64) -> Steps
+        requires plain { IsPlainBoard (board_of self.now) }
+        requires few { length (hops (board_of self.now) seg) ≤ limits.MOST_DEPTH }
+        requires small { job < 2 ^ 32 }
+        ensures locks { result.locks ≡ length (locks_of 0 (hops (board_of self.now) seg)) }
+        ensures control { result.control ≡ inner_cost (hops (board_of self.now) seg) 2 }
+        ensures job { result.job ≡ inner_cost (hops (board_of self.now) seg) job }
+    {
+        match self.over(seg) {
+            Some(hop) => {
+                let far = self.steps_at(hop.on, job);
+                steps_behind(&hop, far)
+            }
+            None => Steps {
+                locks: 1,
+                control: 2,
+                job,
+            },
+        }
+    }
+
+    // A job at a bus, with the locks.
+    fn full_cost(&self, seg: SegId, job: u64) -> u64
+        requires plain { IsPlainBoard (board_of self.now) }
+        requires few { length (hops (board_of self.now) seg) ≤ limits.MOST_DEPTH }
+        requires small { job < 2 ^ 32 }
+        ensures value { result ≡ full_cost (hops (board_of self.now) seg) job }
+        ensures small { result < 2 ^ 41 - 1 }
+    {
+        let steps = self.steps_at(seg, job);
+        2 * steps.locks + steps.job
+    }
 
     /// What a transfer asks for on an accepted board.
     pub fn bill(&self, transfer: &Transfer) -> TransferCost
@@ -127,10 +141,9 @@ impl Layout<'_> {
                 root: None,
             };
         }
-        let hops = self.hops(SegId(bus));
         TransferCost {
-            cost: 1 + full_cost(hops.as_slice(), steps_of(transfer.msgs())),
-            root: Some(end_of(SegId(bus), hops.as_slice())),
+            cost: 1 + self.full_cost(SegId(bus), steps_of(transfer.msgs())),
+            root: Some(self.root(SegId(bus))),
         }
     }
 }

@@ -1,11 +1,12 @@
 //! The reply of a transfer: why it is refused, how it fails, and what its reads gave.
-ghost use Rattle.std.specs.Prelude.{◌≡◌, ◌≤◌, length};
-ghost use Rattle.std.specs.List.{list_any};
+ghost use Rattle.std.specs.Prelude.{◌≡◌, ◌<◌, ◌≤◌, length, OnSome, Some, None, if◌then◌else◌};
+ghost use Rattle.i2c_base.specs.declared.errno.Errno.TheVariants as errno;
 ghost use Rattle.i2c_base.specs.Limits.{MOST_BYTES};
 ghost use Rattle.i2c_spec.specs.Flat as spec;
-ghost use Rattle.i2c_spec.specs.Grant.{grant_of, is_busy};
+ghost use Rattle.i2c_spec.specs.Grant.{is_busy};
 ghost use Rattle.i2c_spec.specs.Layouts.{board_of};
 ghost use Rattle.i2c_spec.specs.Plain.{IsPlainBoard};
+ghost use Rattle.i2c_spec.specs.Tree.{buses};
 
 use crate::Layout;
 use i2c_base::{Bytes, End, Errno, Grant, Kind, Msg, Reply, SegId, Transfer};
@@ -16,6 +17,19 @@ pub fn refusal(layout: &Layout<'_>, transfer: &Transfer) -> Option<Errno>
     requires { IsPlainBoard (board_of layout.now) }
     ensures { result ≡ spec.refusal (board_of layout.now) transfer.now }
 {
+    if let Some(errno) = bus_refusal(layout, transfer) {
+        return Some(errno);
+    }
+    is_any_busy(layout, transfer).then_some(Errno::Ebusy)
+}
+
+/// Why it is refused whatever its addresses are: ENODEV and EOPNOTSUPP; else none.
+pub fn bus_refusal(layout: &Layout<'_>, transfer: &Transfer) -> Option<Errno>
+    requires { IsPlainBoard (board_of layout.now) }
+    ensures some { OnSome result (spec.refusal (board_of layout.now) transfer.now ≡ result) }
+    ensures on_bus { result ≡ None → transfer.now.bus < buses (board_of layout.now) }
+    ensures none { result ≡ None → spec.refusal (board_of layout.now) transfer.now ≡ (if spec.is_any_busy (board_of layout.now) transfer.now then Some errno.Ebusy else None) }
+{
     if transfer.bus() >= layout.buses() {
         return Some(Errno::Enodev);
     }
@@ -23,9 +37,6 @@ pub fn refusal(layout: &Layout<'_>, transfer: &Transfer) -> Option<Errno>
         && is_smbus_only(layout, layout.root(SegId(transfer.bus())))
     {
         return Some(Errno::Eopnotsupp);
-    }
-    if is_any_busy(layout, transfer) {
-        return Some(Errno::Ebusy);
     }
     None
 }
@@ -43,7 +54,7 @@ fn is_smbus_only(layout: &Layout<'_>, root: SegId) -> bool
 // The address of one of the messages is busy.
 fn is_any_busy(layout: &Layout<'_>, transfer: &Transfer) -> bool
     requires { IsPlainBoard (board_of layout.now) }
-    ensures { result ≡ list_any (λ m. is_busy (grant_of (board_of layout.now) transfer.now.bus m.addr transfer.now.force)) transfer.now.msgs }
+    ensures { result ≡ spec.is_any_busy (board_of layout.now) transfer.now }
 {
     let bus = SegId(transfer.bus());
     let force = transfer.force();

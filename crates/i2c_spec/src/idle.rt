@@ -2,7 +2,7 @@
 ghost use Rattle.std.specs.Prelude.{◌≡◌, ◌<◌, true, IfNone, IfSome, length};
 
 use crate::Layout;
-use crate::layout::is_staying;
+use crate::by_bus::is_staying;
 use crate::topology::is_same_address;
 use i2c_base::MuxId;
 

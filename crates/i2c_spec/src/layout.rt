@@ -1,10 +1,11 @@
 //! The parts of a board, borrowed, over which the calls of its tree are made.
-ghost use Rattle.std.specs.Prelude.{◌≡◌, ◌<◌, ◌^◌};
+ghost use Rattle.std.specs.Prelude.{◌≡◌, ◌<◌, ◌≤◌, ◌^◌, length, reverse};
 ghost use Rattle.i2c_spec.specs.Tree as spec;
 
 use crate::Hop;
+use crate::by_bus::hop_at;
 use arrayvec::ArrayVec;
-use i2c_base::{DeviceSpec, Idle, LockMode, MOST_MUXES, MuxId, MuxSpec, RootSpec, SegId};
+use i2c_base::{DeviceSpec, MOST_MUXES, MuxId, MuxSpec, RootSpec, SegId};
 
 /// The parts of a board, borrowed: what the tree, the grant of an address and the topology rules read of it.
 #[derive(Clone, Copy)]
@@ -12,20 +13,49 @@ pub struct Layout<'a> {
     pub roots: &'a [RootSpec],
     pub muxes: &'a [MuxSpec],
     pub devices: &'a [DeviceSpec],
+    /// The hop over each bus behind the roots, by the numbers of the buses.
+    pub by_bus: &'a [Hop],
+    /// Some mux keeps its last channel when idle.
+    pub stays: bool,
+    pub ghost by_number: { by_bus.now ≡ spec.hops_by_bus (length roots.now) (reverse muxes.now) },
+    pub ghost staying: { stays ≡ spec.stays_in muxes.now },
 }
 
 impl Layout<'_> {
     ghost use Rattle.i2c_spec.specs.Layouts.{board_of};
     ghost use Rattle.i2c_spec.specs.Plain.{IsPlainBoard};
-    ghost use Rattle.i2c_spec.specs.Tree.{buses, hops};
+    ghost use Rattle.i2c_spec.specs.Tree.{buses, hops, over};
 
     /// How many buses there are: the roots, and each mux's channels.
     pub fn buses(&self) -> u16
         requires { buses (board_of self.now) < 2 ^ 16 }
         ensures { result ≡ buses (board_of self.now) }
     {
-        let behind: u16 = self.muxes.iter().map(|mux| u16::from(mux.channels)).sum();
-        self.roots.len() as u16 + behind
+        self.roots.len() as u16 + self.by_bus.len() as u16
+    }
+
+    /// The mux over a bus, none for a root.
+    pub fn over(&self, seg: SegId) -> Option<Hop>
+        requires { IsPlainBoard (board_of self.now) }
+        ensures { result ≡ over (board_of self.now) seg }
+    {
+        let place = usize::from(seg.0).checked_sub(self.roots.len())?;
+        if place < self.by_bus.len() {
+            Some(self.by_bus[place])
+        } else {
+            self.over_none(seg)
+        }
+    }
+
+    // A bus that isn't there hangs as though it were one more channel of the last mux.
+    fn over_none(&self, seg: SegId) -> Option<Hop>
+        requires plain { IsPlainBoard (board_of self.now) }
+        requires behind { buses (board_of self.now) ≤ seg }
+        ensures { result ≡ over (board_of self.now) seg }
+    {
+        let mux = self.muxes.last()?;
+        let first = self.buses() - u16::from(mux.channels);
+        Some(hop_at(seg, MuxId(self.muxes.len() as u16 - 1), seg.0 - first, mux))
     }
 
     /// The muxes over a bus, nearest first.
@@ -39,46 +69,15 @@ impl Layout<'_> {
     }
 
     /// Puts the muxes over a bus, nearest first, in the place of what the list had.
-    #[tactic(auto, using(crate::proofs::HopLemmas::hop_steps, crate::proofs::PlainLemmas::buses_le))]
     pub fn find_hops(&self, seg: SegId, found: &mut ArrayVec<Hop, MOST_MUXES>)
         requires { IsPlainBoard (board_of self.now) }
         ensures { found.new.items ≡ hops (board_of self.now) seg }
     {
         found.clear();
-        let mut first = self.buses();
         let mut at = seg;
-        let mut left = self.muxes.len();
-        while left > 0 {
-            left -= 1;
-            let mux = &self.muxes[left];
-            // The channels of the muxes before this one end where its own begin.
-            first -= u16::from(mux.channels);
-            if first <= at.0 {
-                found.push(Hop {
-                    bus: at,
-                    mux: MuxId(left as u16),
-                    channel: at.0 - first,
-                    on: mux.bus,
-                    parent: is_parent(mux.lock),
-                    kind: mux.kind,
-                    stays: is_staying(mux.idle),
-                });
-                at = mux.bus;
-            }
+        while let Some(hop) = self.over(at) {
+            found.push(hop);
+            at = hop.on;
         }
     }
-}
-
-/// The mux keeps its last channel when idle.
-pub(crate) fn is_staying(idle: Idle) -> bool
-    ensures { result ≡ spec.is_staying idle }
-{
-    matches!(idle, Idle::AsIs)
-}
-
-/// The mux is parent-locked.
-pub(crate) fn is_parent(lock: LockMode) -> bool
-    ensures { result ≡ spec.is_parent lock }
-{
-    matches!(lock, LockMode::Parent)
 }

@@ -3,11 +3,12 @@
 //!
 //! The definitions stand in `specs/`, a file for each subject, over plain records and lists. Code stands here only where
 //! crates above call it: `Layout` computes those of the tree, the grant, the topology rules and the cost of a transfer over a board's
-//! parts, and `refusal`, `errno_of` and `done_with` what becomes of a transfer as a whole, and `write_runs` and the functions of a
-//! `Size` what a device's memory is at the opening; each is equal to its definition. `CallRow` is what a row of the SMBus
-//! calls says.
+//! parts, `hops_by_bus` and `some_stays` what a board keeps for it, `refusal`, `errno_of` and `done_with` what becomes of a
+//! transfer as a whole, and `write_runs` and the functions of a `Size` what a device's memory is at the opening; each is equal
+//! to its definition. `CallRow` is what a row of the SMBus calls says.
 #![tactic(auto)]
 
+mod by_bus;
 mod cost;
 mod device_memory;
 mod fair_targets;
@@ -23,13 +24,14 @@ mod target_rows;
 mod topology;
 mod tree;
 
+pub use by_bus::{hops_by_bus, some_stays};
 pub use cost::TransferCost;
 pub use device_memory::{eeprom_bytes, eeprom_page, is_wide, write_runs};
 pub use fair_targets::{
     chips_are_fair, devices_hold_bytes, eeproms_are_fair, lm75s_are_fair, openings_are_quiet,
     regs_are_fair, smbus_devices_are_fair, states_are_fair,
 };
-pub use flat_world::{done_with, errno_of, refusal};
+pub use flat_world::{bus_refusal, done_with, errno_of, refusal};
 pub use hop::Hop;
 pub use laws::an_accepted_board_is_a_tree;
 pub use layout::Layout;

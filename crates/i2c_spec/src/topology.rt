@@ -3,7 +3,7 @@ ghost use Rattle.std.specs.Prelude.{◌≡◌, ◌<◌, IfNone, IfSome, length};
 ghost use Rattle.i2c_spec.specs.Rules as spec;
 
 use crate::Layout;
-use crate::layout::is_parent;
+use crate::by_bus::is_parent;
 use i2c_base::{Addr, DevId, Item, MOST_DEPTH, MuxId, RuleBroken, SegId};
 
 /// The topology rules over single muxes.

@@ -2,7 +2,6 @@
 ghost use Rattle.std.specs.Prelude.{◌≡◌, slice_get, option_copied};
 ghost use Rattle.i2c_spec.specs.Tree.{end_of};
 
-use crate::layout::is_staying;
 use crate::{Hop, Layout};
 use arrayvec::ArrayVec;
 use i2c_base::{MOST_ON_PATH, MuxId, MuxSpec, POLLS, SegId, Way};
@@ -25,16 +24,8 @@ impl Layout<'_> {
     ghost use Rattle.std.specs.List.{list_any};
     ghost use Rattle.i2c_spec.specs.Layouts.{board_of};
     ghost use Rattle.i2c_spec.specs.Plain.{IsPlainBoard};
-    ghost use Rattle.i2c_spec.specs.Tree.{hops, crosses_mux, is_kept_hop, is_aside, over, path, depth, root_of, is_below, is_on_path, is_along, is_absent, is_held, is_staying};
+    ghost use Rattle.i2c_spec.specs.Tree.{hops, crosses_mux, is_kept_hop, is_aside, path, depth, root_of, is_below, is_on_path, is_along, is_absent, is_held};
     ghost use Rattle.i2c_spec.specs.Grant.{way_of};
-
-    /// The mux over a bus, none for a root.
-    pub fn over(&self, seg: SegId) -> Option<Hop>
-        requires { IsPlainBoard (board_of self.now) }
-        ensures { result ≡ over (board_of self.now) seg }
-    {
-        self.hops(seg).first().copied()
-    }
 
     /// The buses from the root to a bus, the bus included.
     pub fn path(&self, seg: SegId) -> ArrayVec<SegId, MOST_ON_PATH>
@@ -55,7 +46,13 @@ impl Layout<'_> {
         requires { IsPlainBoard (board_of self.now) }
         ensures { result ≡ depth (board_of self.now) seg }
     {
-        self.hops(seg).len()
+        let mut depth = 0;
+        let mut at = seg;
+        while let Some(hop) = self.over(at) {
+            depth += 1;
+            at = hop.on;
+        }
+        depth
     }
 
     /// The root that a bus hangs from.
@@ -63,27 +60,29 @@ impl Layout<'_> {
         requires { IsPlainBoard (board_of self.now) }
         ensures { result ≡ root_of (board_of self.now) seg }
     {
-        end_of(seg, self.hops(seg).as_slice())
+        let mut at = seg;
+        while let Some(hop) = self.over(at) {
+            at = hop.on;
+        }
+        at
     }
 
-    /// Whether `high` is strictly over `low`: only where it has a smaller number.
+    /// Whether `high` is strictly over `low`. A bus that is has a smaller number, so the search ends there.
     pub fn is_below(&self, low: SegId, high: SegId) -> bool
         requires { IsPlainBoard (board_of self.now) }
         ensures { result ≡ is_below (board_of self.now) low high }
     {
-        if low.0 <= high.0 {
-            return false;
+        let mut at = low;
+        while high.0 < at.0 {
+            let Some(hop) = self.over(at) else {
+                return false;
+            };
+            if hop.on == high {
+                return true;
+            }
+            at = hop.on;
         }
-        self.hangs_below(low, high)
-    }
-
-    // The same, by the muxes over `low`. Apart, since the list of them costs who doesn't need it.
-    #[inline(never)]
-    fn hangs_below(&self, low: SegId, high: SegId) -> bool
-        requires { IsPlainBoard (board_of self.now) }
-        ensures { result ≡ is_below (board_of self.now) low high }
-    {
-        self.hops(low).iter().any(|hop| hop.on == high)
+        false
     }
 
     /// Whether `high` is on the path of `low`.
@@ -107,24 +106,37 @@ impl Layout<'_> {
         requires { IsPlainBoard (board_of self.now) }
         ensures { result ≡ crosses_mux mux (hops (board_of self.now) seg) }
     {
-        self.hops(seg).iter().any(|hop| hop.mux == mux)
+        let mut at = seg;
+        while let Some(hop) = self.over(at) {
+            if hop.mux == mux {
+                return true;
+            }
+            at = hop.on;
+        }
+        false
     }
 
-    /// Whether some mux stays as it is.
-    pub(crate) fn has_staying(&self) -> bool
-        ensures { result ≡ list_any (λ m. is_staying m.idle) self.now.muxes.now }
+    // Whether a mux stays as it is, and isn't over the path of a bus.
+    fn is_kept(&self, seg: SegId, hop: &Hop) -> bool
+        requires { IsPlainBoard (board_of self.now) }
+        ensures { result ≡ is_kept_hop (board_of self.now) seg hop.now }
     {
-        self.muxes.iter().any(|mux| is_staying(mux.idle))
+        hop.stays && !self.crosses(seg, hop.mux)
     }
 
-    // Whether a mux that stays as it is, and isn't over the path of a bus, is over another bus.
+    // Whether such a mux is over another bus.
     fn is_below_kept(&self, seg: SegId, other: SegId) -> bool
         requires { IsPlainBoard (board_of self.now) }
         ensures { result ≡ list_any (is_kept_hop (board_of self.now) seg) (hops (board_of self.now) other) }
     {
-        self.hops(other)
-            .iter()
-            .any(|hop| hop.stays && !self.crosses(seg, hop.mux))
+        let mut at = other;
+        while let Some(hop) = self.over(at) {
+            if self.is_kept(seg, &hop) {
+                return true;
+            }
+            at = hop.on;
+        }
+        false
     }
 
     /// Whether `other` is aside of a bus: on the same root, below a mux that stays as it is and isn't over the path.
@@ -132,17 +144,13 @@ impl Layout<'_> {
         requires { IsPlainBoard (board_of self.now) }
         ensures { result ≡ is_aside (board_of self.now) seg other }
     {
-        if seg == other {
-            return false;
-        }
-        if usize::from(other.0) < self.roots.len() {
+        // Few boards have a mux that stays as it is.
+        if !self.stays {
             return false;
         }
         self.hangs_aside(seg, other)
     }
 
-    // The same, by the muxes over both. Apart, since the lists of them cost who doesn't need them.
-    #[inline(never)]
     #[tactic(auto, using(crate::proofs::AsideLemmas::unkept_aside))]
     fn hangs_aside(&self, seg: SegId, other: SegId) -> bool
         requires { IsPlainBoard (board_of self.now) }

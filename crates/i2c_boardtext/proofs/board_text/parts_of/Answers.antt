@@ -39,4 +39,4 @@ returns c =
     are_parts (top_view c.args.top.now) c.in_ok-roots.roots.items c.in_ok-muxes.muxes.items c.in_ok-devices.devices.items
     c.len-root_count.result c.count_buses-buses.result
     c.in_ok-roots.ensures.exact count c.in_ok-muxes.ensures.exact (c.count_buses-buses.ensures
-    ∙ ap (buses_of c.len-root_count.result) c.deref.ensures.value) c.in_ok-devices.ensures.exact ∙ ap Ok (sym c.new.ensures)
+    ∙ ap (buses_of c.len-root_count.result) c.deref.ensures.value) c.in_ok-devices.ensures.exact ∙ ap Ok (sym c.in_ok-new.ensures)
