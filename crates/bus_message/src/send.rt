@@ -13,7 +13,7 @@ ghost use Rattle.bus_message.specs.Sends.{MaySend, NextSent, control_message, de
 use crate::cursor::TransferCursor;
 use crate::message::{Message, MsgResult, send_message};
 use i2c_base::{Addr, ByteList, Grant, MuxId, Node, Purpose};
-use i2c_board::{Accepted, Board};
+use i2c_board::{Board, CachedBoard};
 use mux_plan::NextMsg;
 use ports::Port;
 
@@ -40,7 +40,7 @@ fn chip_addr(board: &Board, mux: MuxId) -> Addr
 
 // Sends a control message to the chip of a mux: it writes a byte, or reads one where there is none to write.
 fn send_control<P: Port>(
-    board: &Accepted,
+    board: &CachedBoard<'_>,
     port: &mut P,
     mux: MuxId,
     next: &NextMsg,
@@ -82,7 +82,7 @@ fn send_control<P: Port>(
 /// control message, which writes its byte to the chip of its mux, or reads one there. `bytes` gets of a write those that
 /// were acknowledged, of a read all that came.
 pub fn send_next<P: Port>(
-    board: &Accepted,
+    board: &CachedBoard<'_>,
     port: &mut P,
     cursor: &TransferCursor<'_>,
     next: &NextMsg,

@@ -1,2 +1,3 @@
 pub mod BrokenLemmas
+pub mod GrantLemmas
 pub mod OverLemmas

@@ -1,3 +1,4 @@
+pub mod Boards
 pub use Rattle.i2c_spec.specs.Board
 pub use Rattle.i2c_spec.specs.Plain
 pub use Rattle.i2c_spec.specs.Tree
@@ -6,3 +7,4 @@ pub use Rattle.i2c_spec.specs.Rules
 pub use Rattle.i2c_spec.specs.Flat
 pub use Rattle.i2c_spec.specs.Layouts
 pub use Rattle.i2c_spec.specs.Cost
+pub mod Grants

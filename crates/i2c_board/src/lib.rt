@@ -9,10 +9,12 @@
 
 mod accepted;
 mod board;
+mod cached_board;
 mod rules;
 mod tree;
 
 pub use accepted::Accepted;
 pub use board::Board;
+pub use cached_board::CachedBoard;
 pub use i2c_base::{Grant, Item, RuleBroken, Way};
 pub use rules::accept;

@@ -17,7 +17,7 @@ ghost use Rattle.mux_plan.specs.declared.task.Work.TheVariants as work;
 use crate::{Action, NextMsg, Seen, Task, Work};
 use arrayvec::ArrayVec;
 use i2c_base::{LockId, MOST_MUXES, MuxId, MuxKind, SegId};
-use i2c_board::{Accepted, Board};
+use i2c_board::{Board, CachedBoard};
 use i2c_spec::{Hop, end_of};
 use std::marker::Model;
 
@@ -97,7 +97,7 @@ fn switch(board: &Board, seen: &Seen<'_>, hop: &Hop, work: &Work) -> Work
 
 impl Route {
     /// Leads to a bus of the board, for a transfer of so many messages.
-    pub fn set_route(&mut self, board: &Accepted, bus: SegId, count: u8)
+    pub fn set_route(&mut self, board: &CachedBoard<'_>, bus: SegId, count: u8)
         requires there { bus < buses board.now }
         ensures route { self.new ≡ record { root = root_of board.now bus; path = hops board.now bus; bus = bus; count = count } }
         ensures deep { length self.new.path ≤ MOST_DEPTH }

@@ -17,8 +17,7 @@ use crate::stack::Stack;
 use crate::{Action, Outcome, Route, Seen, Task, Work, WorkResult};
 use arrayvec::ArrayVec;
 use i2c_base::{Errno, SegId, Transfer, empty};
-use i2c_board::{Accepted, Board};
-use i2c_spec::refusal;
+use i2c_board::{Board, CachedBoard};
 use std::marker::Model;
 
 /// The walk of a transfer that isn't refused. A contract sees its tasks, and `walk_of` is the tree that they stand for.
@@ -39,7 +38,7 @@ impl Model for Walk {
 }
 
 // The root that a bus hangs from; none where the board doesn't have the bus.
-fn root_of(board: &Accepted, bus: u16) -> Option<SegId>
+fn root_of(board: &CachedBoard<'_>, bus: u16) -> Option<SegId>
     ensures there { bus < buses board.now → result ≡ Some (root_of board.now bus) }
     ensures none { IsSome result → bus < buses board.now }
 {
@@ -50,13 +49,14 @@ fn root_of(board: &Accepted, bus: u16) -> Option<SegId>
 impl Walk {
     /// Begins the walk of another transfer: one that is refused is settled at once, and takes no lock. Tells the root of
     /// its bus, where the board has that bus.
-    pub fn restart(&mut self, board: &Accepted, transfer: &Transfer) -> Option<SegId>
+    pub fn restart(&mut self, board: &mut CachedBoard<'_>, transfer: &Transfer) -> Option<SegId>
         ensures count { length (messages_of transfer.now) ≡ self.new.route.count }
-        ensures tree { walk_of board.now (messages_of transfer.now) self.new ≡ walk_for board.now transfer.now }
-        ensures root { transfer.now.bus < buses board.now → result ≡ Some (root_of board.now transfer.now.bus) }
-        ensures none { IsSome result → transfer.now.bus < buses board.now }
+        ensures tree { walk_of board.old (messages_of transfer.now) self.new ≡ walk_for board.old transfer.now }
+        ensures root { transfer.now.bus < buses board.old → result ≡ Some (root_of board.old transfer.now.bus) }
+        ensures none { IsSome result → transfer.now.bus < buses board.old }
+        ensures board { board.new ≡ board.old }
     {
-        match refusal(&board.board().layout(), transfer) {
+        match board.refusal(transfer) {
             None => {
                 self.begin(board, transfer);
                 Some(self.parts.route.root)
@@ -69,7 +69,7 @@ impl Walk {
     }
 
     // Begins the walk of a transfer that isn't refused.
-    fn begin(&mut self, board: &Accepted, transfer: &Transfer)
+    fn begin(&mut self, board: &CachedBoard<'_>, transfer: &Transfer)
         requires there { transfer.now.bus < buses board.now }
         ensures count { length (messages_of transfer.now) ≡ self.new.route.count }
         ensures tree { walk_of board.now (messages_of transfer.now) self.new ≡ walk_by board.now transfer.now None }

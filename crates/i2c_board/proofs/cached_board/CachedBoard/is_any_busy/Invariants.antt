@@ -1,0 +1,9 @@
+use Rattle.std.proofs.Common.{◌≡◌, false, take}
+use Rattle.std.specs.List.{list_any}
+use Rattle.i2c_spec.specs.Grant.{grant_of, is_busy}
+use Rattle.i2c_board.proofs.cached_board.CachedBoard.is_any_busy.Given as goal
+
+abbrev pub invariant-loop-msg : goal.invariant-loop-msg
+invariant-loop-msg l =
+    (l.self ≡ l.fn.self)
+    × (list_any (λ m. is_busy (grant_of l.fn.self l.transfer.bus m.addr l.transfer.force)) (take l.msg-index l.msg-items) ≡ false)
