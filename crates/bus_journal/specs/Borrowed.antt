@@ -1,20 +1,12 @@
 -- The entry that an entry with borrowed bytes stands for, and how many bytes it may have.
 use Rattle.std.specs.Prelude.{ℕ, List}
-use Rattle.i2c_base.specs.Limits.{MOST_BYTES, MOST_LENGTH}
-use Rattle.i2c_base.specs.declared.reply.Reply.{Reply}
-use Rattle.i2c_base.specs.declared.reply.Reply.TheVariants as reply
+use Rattle.i2c_base.specs.Limits.{MOST_LENGTH}
+use Rattle.i2c_base.specs.Replies.{reply_by, most_read}
 use Rattle.i2c_base.specs.declared.entry.Entry.{Entry}
 use Rattle.i2c_base.specs.declared.entry.Entry.TheVariants as entry
-use Rattle.bus_journal.specs.declared.borrowed.ReplyHead.{ReplyHead}
-use Rattle.bus_journal.specs.declared.borrowed.ReplyHead.TheVariants as answer
 use Rattle.bus_journal.specs.declared.borrowed.Head.{Head}
 use Rattle.bus_journal.specs.declared.borrowed.Head.TheVariants as head
 use Rattle.bus_journal.specs.declared.borrowed.EntryRef.{EntryRef}
-
-abbrev pub reply_by : ReplyHead → List ℕ → Reply
-reply_by answer.Done bytes = reply.Done
-reply_by answer.Read bytes = reply.Read bytes
-reply_by (answer.Err errno) bytes = reply.Err errno
 
 abbrev pub entry_by : Head → List ℕ → Entry
 entry_by (head.Take caller lock) bytes = entry.Take caller lock
@@ -27,12 +19,7 @@ entry_by (head.Settle caller a cut) bytes = entry.Settle caller (reply_by a byte
 abbrev pub entry_seen : EntryRef → Entry
 entry_seen seen = entry_by seen.head seen.bytes.now
 
--- a transfer reads at most 4,096 bytes, a message has at most 512, and no other entry has any
-abbrev pub most_read : ReplyHead → ℕ
-most_read answer.Done = 0
-most_read answer.Read = MOST_BYTES
-most_read (answer.Err errno) = 0
-
+-- a message has at most 512 bytes, a reply as many as it may read, and no other entry has any
 abbrev pub most_bytes : Head → ℕ
 most_bytes (head.Take caller lock) = 0
 most_bytes (head.Free caller lock) = 0

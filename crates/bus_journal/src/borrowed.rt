@@ -1,20 +1,13 @@
 //! Entries of the journal whose bytes lie elsewhere.
 ghost use Rattle.std.specs.Prelude.{◌≡◌, ◌≤◌, length};
 ghost use Rattle.i2c_base.specs.declared.entry.Entry.TheVariants as entry;
-ghost use Rattle.bus_journal.specs.Borrowed.{entry_seen, reply_by, most_bytes, most_read};
+ghost use Rattle.bus_journal.specs.Borrowed.{entry_seen, most_bytes};
 ghost use Rattle.i2c_base.specs.Need.{bytes_given};
+ghost use Rattle.i2c_base.specs.Replies.{reply_by, most_read};
 
 use i2c_base::{
-    Addr, ByteStore, Cut, End, Entry, Errno, LockId, MuxId, Node, Purpose, Reply, SegId,
+    Addr, ByteStore, Cut, End, Entry, LockId, MuxId, Node, Purpose, Reply, ReplyHead, SegId,
 };
-
-/// A reply without its bytes.
-#[derive(Clone, Copy)]
-pub enum ReplyHead {
-    Done,
-    Read,
-    Err(Errno),
-}
 
 /// An entry without its bytes: its other parts are those of an `Entry`.
 #[derive(Clone, Copy)]
@@ -68,39 +61,14 @@ fn held<const N: usize>(bytes: &[u8]) -> ByteStore<N>
     held
 }
 
-// The reply of this answer and these bytes.
-fn reply_of(answer: ReplyHead, bytes: &[u8]) -> Reply
-    requires { length bytes.now ≤ most_read answer }
-    ensures { result ≡ reply_by answer bytes.now }
-{
-    match answer {
-        ReplyHead::Done => Reply::Done,
-        ReplyHead::Read => Reply::Read(held(bytes)),
-        ReplyHead::Err(errno) => Reply::Err(errno),
-    }
-}
-
-/// A reply without its bytes, and those.
-pub fn split_reply(reply: &Reply) -> (ReplyHead, &[u8])
-    ensures same { reply_by result.0 result.1.now ≡ reply.now }
-    ensures bytes { result.1.now ≡ bytes_given reply.now }
-    ensures few { length result.1.now ≤ most_read result.0 }
-{
-    match reply {
-        Reply::Done => (ReplyHead::Done, &[]),
-        Reply::Read(bytes) => (ReplyHead::Read, bytes.as_slice()),
-        Reply::Err(errno) => (ReplyHead::Err(*errno), &[]),
-    }
-}
-
 impl<'a> EntryRef<'a> {
-    /// The entry of a settle, whose bytes are left in its reply.
-    pub fn settle(caller: u8, reply: &'a Reply, cut: Cut) -> Self
-        ensures seen { entry_seen result ≡ entry.Settle caller reply.now cut }
-        ensures bytes { result.bytes.now ≡ bytes_given reply.now }
+    /// The entry of a settle with a reply of this head and these bytes.
+    pub fn settle(caller: u8, answer: ReplyHead, bytes: &'a [u8], cut: Cut) -> Self
+        requires { length bytes.now ≤ most_read answer }
+        ensures seen { entry_seen result ≡ entry.Settle caller (reply_by answer bytes.now) cut }
+        ensures bytes { result.bytes.now ≡ bytes_given (reply_by answer bytes.now) }
         ensures few { length result.bytes.now ≤ most_bytes result.head }
     {
-        let (answer, bytes) = split_reply(reply);
         EntryRef {
             head: Head::Settle {
                 caller,
@@ -170,7 +138,10 @@ impl<'a> EntryRef<'a> {
                 },
                 bytes: &[],
             },
-            Entry::Settle { caller, reply, cut } => EntryRef::settle(*caller, reply, *cut),
+            Entry::Settle { caller, reply, cut } => {
+                let (answer, bytes) = reply.split();
+                EntryRef::settle(*caller, answer, bytes, *cut)
+            }
         }
     }
 
@@ -222,7 +193,7 @@ impl<'a> EntryRef<'a> {
                 cut,
             } => Entry::Settle {
                 caller,
-                reply: reply_of(answer, bytes),
+                reply: Reply::new(answer, bytes),
                 cut,
             },
         }

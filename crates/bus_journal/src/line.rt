@@ -1,19 +1,25 @@
 //! An entry of the journal as its line of text.
-ghost use Rattle.std.specs.Prelude.{◌≡◌, ◌++◌, OnOk, IfOk, codes};
+ghost use Rattle.std.specs.Prelude.{◌≡◌, ◌+◌, ◌*◌, ◌<◌, ◌≤◌, [], ◌++◌, length, OnOk, OnErr, IfOk, codes, vec_len, vec_capacity};
 ghost use Rattle.std.specs.Fmt.{decimal};
-ghost use Rattle.bus_spec.specs.Lines.{lock_text, purpose_text, direction_text, node_text, heard_text, end_text, errno_text, reply_text, cut_text, data_text, part_text, place_text, result_text, level_text, entry_line};
-ghost use Rattle.bus_journal.specs.Borrowed.{entry_seen, reply_by};
+ghost use Rattle.i2c_base.specs.Replies.{reply_by};
+ghost use Rattle.bus_spec.specs.Lines.{two_digits, spaced, joined, lock_text, purpose_text, direction_text, node_text, heard_text, end_text, errno_text, reply_text, cut_text, data_text, part_text, place_text, result_text, level_text, entry_line};
+ghost use Rattle.bus_spec.specs.Report.{ended_line};
+ghost use Rattle.bus_journal.specs.Borrowed.{entry_seen};
 ghost use Rattle.bus_journal.specs.Ranges.{IsEntry};
 
-use crate::borrowed::{EntryRef, Head, ReplyHead};
+use crate::borrowed::{EntryRef, Head};
+use crate::pieces::{Room, put, put_hex, put_number, put_small, put_spaced};
 use crate::ranges::entry_is_in_range;
-use crate::text::{push_bytes, push_hex, push_joined, push_number, push_spaced};
-use i2c_base::{Addr, Cut, End, Entry, Errno, LockId, MuxId, NoMemory, Node, Purpose, SegId};
+use crate::text::hex_digit;
+use i2c_base::{
+    Addr, Cut, End, Entry, Errno, LockId, MuxId, NoMemory, Node, Purpose, ReplyHead, SegId,
+};
 use std::alloc::Global;
 
 /// The name of an error, as Linux's fault-codes has it.
 pub fn errno_name<'a>(errno: Errno) -> &'a [u8]
-    ensures { result.now ≡ errno_text errno }
+    ensures name { result.now ≡ errno_text errno }
+    ensures short { length result.now ≤ 10 }
 {
     match errno {
         Errno::Eio => b"EIO",
@@ -32,189 +38,329 @@ pub fn errno_name<'a>(errno: Errno) -> &'a [u8]
 
 // A space and a lock.
 #[inline(always)]
-fn push_lock(out: &mut Vec<u8>, lock: LockId) -> Result<(), NoMemory>
-    ensures { OnOk result (out.new.items ≡ out.old.items ++ (codes " " ++ lock_text lock)) }
+fn put_lock(room: &mut Room, lock: LockId)
+    requires { length room.old + 14 ≤ 512 }
+    ensures text { room.new ≡ room.old ++ (codes " " ++ lock_text lock) }
+    ensures short { length room.new ≤ length room.old + 14 }
 {
     match lock {
         LockId::Bus(root) => {
-            push_bytes(out, b" buslock ")?;
-            push_number(out, u64::from(root.0))
+            put(room, *b" buslock ");
+            put_number(room, root.0);
         }
         LockId::Mux(bus) => {
-            push_bytes(out, b" muxlock ")?;
-            push_number(out, u64::from(bus.0))
+            put(room, *b" muxlock ");
+            put_number(room, bus.0);
         }
     }
 }
 
 // A purpose and a space.
-fn push_purpose(out: &mut Vec<u8>, purpose: Purpose) -> Result<(), NoMemory>
-    ensures { OnOk result (out.new.items ≡ out.old.items ++ (purpose_text purpose ++ codes " ")) }
+#[inline(always)]
+fn put_purpose(room: &mut Room, purpose: Purpose)
+    requires { length room.old + 10 ≤ 512 }
+    ensures text { room.new ≡ room.old ++ (purpose_text purpose ++ codes " ") }
+    ensures short { length room.new ≤ length room.old + 10 }
 {
     match purpose {
-        Purpose::Call => push_bytes(out, b"call "),
+        Purpose::Call => put(room, *b"call "),
         Purpose::Control(mux) => {
-            push_bytes(out, b"mux ")?;
-            push_number(out, u64::from(mux.0))?;
-            push_bytes(out, b" ")
+            put(room, *b"mux ");
+            put_number(room, mux.0);
+            put(room, *b" ");
         }
     }
 }
 
-// A direction, and what stands before an address.
-fn push_direction(out: &mut Vec<u8>, reading: bool) -> Result<(), NoMemory>
-    ensures { OnOk result (out.new.items ≡ out.old.items ++ (direction_text reading ++ codes " 0x")) }
+// A direction, an address, and the bracket before the bytes.
+#[inline(always)]
+fn put_address(room: &mut Room, addr: Addr, reading: bool)
+    requires { length room.old + 8 ≤ 512 }
+    ensures text { room.new ≡ room.old ++ (direction_text reading ++ (codes " 0x" ++ (two_digits addr ++ codes " ["))) }
+    ensures short { length room.new ≤ length room.old + 8 }
 {
-    push_bytes(out, if reading { b"r 0x" } else { b"w 0x" })
+    let way = if reading { b'r' } else { b'w' };
+    let address = addr.get();
+    let (high, low) = (hex_digit(address / 16), hex_digit(address % 16));
+    room.extend(&[way, b' ', b'0', b'x', high, low, b' ', b'[']);
 }
 
 // A node that heard a message, with the word for it.
-fn push_node(out: &mut Vec<u8>, node: Node) -> Result<(), NoMemory>
-    ensures { OnOk result (out.new.items ≡ out.old.items ++ (codes "heard " ++ node_text node)) }
+#[inline(always)]
+fn put_node(room: &mut Room, node: Node)
+    requires { length room.old + 12 ≤ 512 }
+    ensures text { room.new ≡ room.old ++ (codes "heard " ++ node_text node) }
+    ensures short { length room.new ≤ length room.old + 12 }
 {
     match node {
         Node::Device(device) => {
-            push_bytes(out, b"heard d")?;
-            push_number(out, u64::from(device.0))
+            put(room, *b"heard d");
+            put_number(room, device.0);
         }
         Node::Chip(mux) => {
-            push_bytes(out, b"heard m")?;
-            push_number(out, u64::from(mux.0))
+            put(room, *b"heard m");
+            put_number(room, mux.0);
         }
     }
 }
 
 // .. or none.
-fn push_heard(out: &mut Vec<u8>, heard: Option<Node>) -> Result<(), NoMemory>
-    ensures { OnOk result (out.new.items ≡ out.old.items ++ (codes "heard " ++ heard_text heard)) }
+#[inline(always)]
+fn put_heard(room: &mut Room, heard: Option<Node>)
+    requires { length room.old + 12 ≤ 512 }
+    ensures text { room.new ≡ room.old ++ (codes "heard " ++ heard_text heard) }
+    ensures short { length room.new ≤ length room.old + 12 }
 {
     match heard {
-        None => push_bytes(out, b"heard none"),
-        Some(node) => push_node(out, node),
+        None => put(room, *b"heard none"),
+        Some(node) => put_node(room, node),
     }
 }
 
 // A space, and how a message ended.
-fn push_end(out: &mut Vec<u8>, end: End) -> Result<(), NoMemory>
-    ensures { OnOk result (out.new.items ≡ out.old.items ++ (codes " " ++ end_text end)) }
+#[inline(always)]
+fn put_end(room: &mut Room, end: End)
+    requires { length room.old + 10 ≤ 512 }
+    ensures text { room.new ≡ room.old ++ (codes " " ++ end_text end) }
+    ensures short { length room.new ≤ length room.old + 10 }
 {
     match end {
-        End::Ok => push_bytes(out, b" ok"),
-        End::Nack => push_bytes(out, b" nack"),
-        End::Slow => push_bytes(out, b" slow"),
-        End::Refused => push_bytes(out, b" refused"),
-        End::Proto => push_bytes(out, b" proto"),
+        End::Ok => put(room, *b" ok"),
+        End::Nack => put(room, *b" nack"),
+        End::Slow => put(room, *b" slow"),
+        End::Refused => put(room, *b" refused"),
+        End::Proto => put(room, *b" proto"),
         End::Cut(calls) => {
-            push_bytes(out, b" cut ")?;
-            push_number(out, u64::from(calls))
+            put(room, *b" cut ");
+            put_number(room, calls);
         }
     }
 }
 
-// A space and a reply.
-fn push_reply(out: &mut Vec<u8>, answer: ReplyHead, bytes: &[u8]) -> Result<(), NoMemory>
-    ensures { OnOk result (out.new.items ≡ out.old.items ++ (codes " " ++ reply_text (reply_by answer bytes.now))) }
-{
-    match answer {
-        ReplyHead::Done => push_bytes(out, b" done"),
-        ReplyHead::Read => {
-            push_bytes(out, b" read")?;
-            push_spaced(out, bytes)
-        }
-        ReplyHead::Err(errno) => {
-            push_bytes(out, b" ")?;
-            push_bytes(out, errno_name(errno))
-        }
-    }
-}
-
-fn push_cut(out: &mut Vec<u8>, cut: Cut) -> Result<(), NoMemory>
-    ensures { OnOk result (out.new.items ≡ out.old.items ++ cut_text cut) }
+#[inline(always)]
+fn put_cut(room: &mut Room, cut: Cut)
+    requires { length room.old + 14 ≤ 512 }
+    ensures text { room.new ≡ room.old ++ cut_text cut }
+    ensures short { length room.new ≤ length room.old + 14 }
 {
     match cut {
-        Cut::No => Ok(()),
-        Cut::Way => push_bytes(out, b" cut way"),
+        Cut::No => {}
+        Cut::Way => put(room, *b" cut way"),
         Cut::At { msg, call } => {
-            push_bytes(out, b" cut ")?;
-            push_number(out, u64::from(msg))?;
-            push_bytes(out, b".")?;
-            push_number(out, u64::from(call))
+            put(room, *b" cut ");
+            put_small(room, msg);
+            put(room, *b".");
+            put_number(room, call);
         }
     }
 }
 
 // The front of an entry's line: its word and its caller.
 #[inline(always)]
-fn push_front(out: &mut Vec<u8>, word: &[u8], caller: u8) -> Result<(), NoMemory>
-    ensures { OnOk result (out.new.items ≡ out.old.items ++ (word.now ++ decimal caller)) }
+fn put_front(room: &mut Room, word: &[u8], caller: u8)
+    requires { length room.old + (length word.now + 3) ≤ 512 }
+    ensures text { room.new ≡ room.old ++ (word.now ++ decimal caller) }
+    ensures short { length room.new ≤ length room.old + (length word.now + 3) }
 {
-    push_bytes(out, word)?;
-    push_number(out, u64::from(caller))
+    room.extend(word);
+    put_small(room, caller);
 }
 
 // The front of a message's line.
-fn push_place(out: &mut Vec<u8>, caller: u8, bus: SegId) -> Result<(), NoMemory>
-    ensures { OnOk result (out.new.items ≡ out.old.items ++ place_text caller bus) }
+#[inline(always)]
+fn put_place(room: &mut Room, caller: u8, bus: SegId)
+    requires { length room.old + 18 ≤ 512 }
+    ensures text { room.new ≡ room.old ++ place_text caller bus }
+    ensures short { length room.new ≤ length room.old + 18 }
 {
-    push_front(out, b"msg ", caller)?;
-    push_bytes(out, b" bus ")?;
-    push_number(out, u64::from(bus.0))?;
-    push_bytes(out, b" ")
+    put_front(room, b"msg ", caller);
+    put(room, *b" bus ");
+    put_number(room, bus.0);
+    put(room, *b" ");
 }
 
-// The direction, the address and the bytes of a message.
-fn push_data(out: &mut Vec<u8>, addr: Addr, reading: bool, bytes: &[u8]) -> Result<(), NoMemory>
-    ensures { OnOk result (out.new.items ≡ out.old.items ++ data_text addr reading bytes.now) }
+// Which message of how many, and a space.
+#[inline(always)]
+#[tactic(auto, using(std::proofs::lemmas::Fmt::decimal_digit))]
+fn put_part_number(room: &mut Room, part: u8, parts: u8)
+    requires { length room.old + 8 ≤ 512 }
+    ensures text { room.new ≡ room.old ++ (decimal part ++ (codes "/" ++ (decimal parts ++ codes " "))) }
+    ensures short { length room.new ≤ length room.old + 8 }
 {
-    push_direction(out, reading)?;
-    push_hex(out, addr.get())?;
-    push_bytes(out, b" [")?;
-    push_joined(out, bytes)?;
-    push_bytes(out, b"] ")
+    if part < 10 && parts < 10 {
+        room.extend(&[b'0' + part, b'/', b'0' + parts, b' ']);
+    } else {
+        put_small(room, part);
+        put(room, *b"/");
+        put_small(room, parts);
+        put(room, *b" ");
+    }
 }
 
 // Which message of how many, and why it is sent.
-fn push_part(out: &mut Vec<u8>, purpose: Purpose, part: u8, parts: u8) -> Result<(), NoMemory>
-    ensures { OnOk result (out.new.items ≡ out.old.items ++ part_text purpose part parts) }
+#[inline(always)]
+fn put_part(room: &mut Room, purpose: Purpose, part: u8, parts: u8)
+    requires { length room.old + 18 ≤ 512 }
+    ensures text { room.new ≡ room.old ++ part_text purpose part parts }
+    ensures short { length room.new ≤ length room.old + 18 }
 {
-    push_purpose(out, purpose)?;
-    push_number(out, u64::from(part))?;
-    push_bytes(out, b"/")?;
-    push_number(out, u64::from(parts))?;
-    push_bytes(out, b" ")
+    put_purpose(room, purpose);
+    put_part_number(room, part, parts);
 }
 
 // Who heard a message, and how it ended.
-fn push_result(out: &mut Vec<u8>, heard: Option<Node>, end: End) -> Result<(), NoMemory>
-    ensures { OnOk result (out.new.items ≡ out.old.items ++ result_text heard end) }
+#[inline(always)]
+fn put_result(room: &mut Room, heard: Option<Node>, end: End)
+    requires { length room.old + 22 ≤ 512 }
+    ensures text { room.new ≡ room.old ++ result_text heard end }
+    ensures short { length room.new ≤ length room.old + 22 }
 {
-    push_heard(out, heard)?;
-    push_end(out, end)
+    put_heard(room, heard);
+    put_end(room, end);
 }
 
-fn push_level(out: &mut Vec<u8>, mux: MuxId, level: u8, failed: bool) -> Result<(), NoMemory>
-    ensures { OnOk result (out.new.items ≡ out.old.items ++ level_text mux level failed) }
+#[inline(always)]
+fn put_level(room: &mut Room, mux: MuxId, level: u8, failed: bool)
+    requires { length room.old + 19 ≤ 512 }
+    ensures text { room.new ≡ room.old ++ level_text mux level failed }
+    ensures short { length room.new ≤ length room.old + 19 }
 {
-    push_number(out, u64::from(mux.0))?;
-    push_bytes(out, b" level ")?;
-    push_number(out, u64::from(level))?;
-    push_bytes(out, b" ")?;
-    push_bytes(out, if failed { b"cut" } else { b"ok" })
+    put_number(room, mux.0);
+    put(room, *b" level ");
+    put_small(room, level);
+    room.extend(if failed { b" cut" } else { b" ok" });
 }
 
-/// Puts the line of an entry at the end of a text, without its line feed.
-pub fn push_entry(out: &mut Vec<u8>, entry: &EntryRef<'_>) -> Result<(), NoMemory>
-    ensures { OnOk result (out.new.items ≡ out.old.items ++ entry_line (entry_seen entry.now)) }
+// Puts what is in the room behind the text, and empties the room.
+#[inline(always)]
+fn flush(out: &mut Vec<u8>, room: &mut Room) -> Result<(), NoMemory>
+    ensures text { OnOk result ((out.new.items ≡ out.old.items ++ room.old) × (room.new ≡ [])) }
+    ensures len { OnOk result (vec_len out.new ≡ vec_len out.old + length room.old) }
+    ensures full { OnErr result (vec_capacity out.old < vec_len out.old + length room.old) }
+    ensures room { vec_capacity out.old ≤ vec_capacity out.new }
+{
+    out.extend_from_slice(room.as_slice())?;
+    room.clear();
+    Ok(())
+}
+
+/// So many bytes are put into the room at once.
+const MANY: usize = 128;
+
+// Bytes with a space before each, behind what is in the room. The text gets the front of it where the bytes are many.
+fn push_spaced(out: &mut Vec<u8>, room: &mut Room, bytes: &[u8]) -> Result<(), NoMemory>
+    requires { length room.old ≤ 46 }
+    ensures text { OnOk result (out.new.items ++ room.new ≡ out.old.items ++ (room.old ++ spaced bytes.now)) }
+    ensures short { OnOk result (length room.new ≤ 430) }
+    ensures len { OnOk result (vec_len out.new + length room.new ≡ vec_len out.old + (length room.old + 3 * length bytes.now)) }
+    ensures full { OnErr result (vec_capacity out.old < vec_len out.old + (length room.old + 3 * length bytes.now)) }
+    ensures room { vec_capacity out.old ≤ vec_capacity out.new }
+{
+    if bytes.len() <= MANY {
+        put_spaced(room, bytes);
+        return Ok(());
+    }
+    let (front, rest) = bytes.split_at(MANY);
+    put_spaced(room, front);
+    flush(out, room)?;
+    push_spaced(out, room, rest)
+}
+
+// .. with a space between each two.
+#[inline(always)]
+fn push_joined(out: &mut Vec<u8>, room: &mut Room, bytes: &[u8]) -> Result<(), NoMemory>
+    requires { length room.old ≤ 44 }
+    ensures text { OnOk result (out.new.items ++ room.new ≡ out.old.items ++ (room.old ++ joined bytes.now)) }
+    ensures short { OnOk result (length room.new ≤ 430) }
+    ensures len { OnOk result (vec_len out.new + length room.new ≤ vec_len out.old + (length room.old + 3 * length bytes.now)) }
+    ensures full { OnErr result (vec_capacity out.old < vec_len out.old + (length room.old + 3 * length bytes.now)) }
+    ensures room { vec_capacity out.old ≤ vec_capacity out.new }
+{
+    match bytes.split_first() {
+        None => Ok(()),
+        Some((first, rest)) => {
+            put_hex(room, *first);
+            // Most messages have one byte, and a call costs more than it.
+            if rest.is_empty() {
+                return Ok(());
+            }
+            push_spaced(out, room, rest)
+        }
+    }
+}
+
+// The direction, the address and the bytes of a message.
+#[inline(always)]
+fn push_data(
+    out: &mut Vec<u8>,
+    room: &mut Room,
+    addr: Addr,
+    reading: bool,
+    bytes: &[u8],
+) -> Result<(), NoMemory>
+    requires { length room.old ≤ 36 }
+    ensures text { OnOk result (out.new.items ++ room.new ≡ out.old.items ++ (room.old ++ data_text addr reading bytes.now)) }
+    ensures short { OnOk result (length room.new ≤ 432) }
+    ensures len { OnOk result (vec_len out.new + length room.new ≤ vec_len out.old + (length room.old + (10 + 3 * length bytes.now))) }
+    ensures full { OnErr result (vec_capacity out.old < vec_len out.old + (length room.old + (10 + 3 * length bytes.now))) }
+    ensures room { vec_capacity out.old ≤ vec_capacity out.new }
+{
+    put_address(room, addr, reading);
+    push_joined(out, room, bytes)?;
+    put(room, *b"] ");
+    Ok(())
+}
+
+// A space and a reply.
+#[inline(always)]
+fn push_reply(
+    out: &mut Vec<u8>,
+    room: &mut Room,
+    answer: ReplyHead,
+    bytes: &[u8],
+) -> Result<(), NoMemory>
+    requires { length room.old ≤ 36 }
+    ensures text { OnOk result (out.new.items ++ room.new ≡ out.old.items ++ (room.old ++ (codes " " ++ reply_text (reply_by answer bytes.now)))) }
+    ensures short { OnOk result (length room.new ≤ 432) }
+    ensures len { OnOk result (vec_len out.new + length room.new ≤ vec_len out.old + (length room.old + (11 + 3 * length bytes.now))) }
+    ensures full { OnErr result (vec_capacity out.old < vec_len out.old + (length room.old + (11 + 3 * length bytes.now))) }
+    ensures room { vec_capacity out.old ≤ vec_capacity out.new }
+{
+    match answer {
+        ReplyHead::Done => {
+            put(room, *b" done");
+            Ok(())
+        }
+        ReplyHead::Read => {
+            put(room, *b" read");
+            push_spaced(out, room, bytes)
+        }
+        ReplyHead::Err(errno) => {
+            put(room, *b" ");
+            room.extend(errno_name(errno));
+            Ok(())
+        }
+    }
+}
+
+// The line of an entry, without its line feed: its front behind the text, and its end in the room, which was empty.
+fn put_entry(out: &mut Vec<u8>, room: &mut Room, entry: &EntryRef<'_>) -> Result<(), NoMemory>
+    requires { room.old ≡ [] }
+    ensures text { OnOk result (out.new.items ++ room.new ≡ out.old.items ++ entry_line (entry_seen entry.now)) }
+    ensures short { OnOk result (length room.new ≤ 500) }
+    ensures len { OnOk result (vec_len out.new + length room.new ≤ vec_len out.old + (69 + 3 * length entry.now.bytes.now)) }
+    ensures full { OnErr result (vec_capacity out.old < vec_len out.old + (69 + 3 * length entry.now.bytes.now)) }
+    ensures room { vec_capacity out.old ≤ vec_capacity out.new }
 {
     let bytes = entry.bytes;
     match entry.head {
         Head::Take { caller, lock } => {
-            push_front(out, b"take ", caller)?;
-            push_lock(out, lock)
+            put_front(room, b"take ", caller);
+            put_lock(room, lock);
         }
         Head::Free { caller, lock } => {
-            push_front(out, b"free ", caller)?;
-            push_lock(out, lock)
+            put_front(room, b"free ", caller);
+            put_lock(room, lock);
         }
         Head::Message {
             caller,
@@ -227,10 +373,10 @@ pub fn push_entry(out: &mut Vec<u8>, entry: &EntryRef<'_>) -> Result<(), NoMemor
             heard,
             end,
         } => {
-            push_place(out, caller, bus)?;
-            push_part(out, purpose, part, parts)?;
-            push_data(out, addr, reading, bytes)?;
-            push_result(out, heard, end)
+            put_place(room, caller, bus);
+            put_part(room, purpose, part, parts);
+            push_data(out, room, addr, reading, bytes)?;
+            put_result(room, heard, end);
         }
         Head::Line {
             caller,
@@ -238,20 +384,43 @@ pub fn push_entry(out: &mut Vec<u8>, entry: &EntryRef<'_>) -> Result<(), NoMemor
             level,
             failed,
         } => {
-            push_front(out, b"line ", caller)?;
-            push_bytes(out, b" mux ")?;
-            push_level(out, mux, level, failed)
+            put_front(room, b"line ", caller);
+            put(room, *b" mux ");
+            put_level(room, mux, level, failed);
         }
         Head::Settle {
             caller,
             answer,
             cut,
         } => {
-            push_front(out, b"settle ", caller)?;
-            push_reply(out, answer, bytes)?;
-            push_cut(out, cut)
+            put_front(room, b"settle ", caller);
+            push_reply(out, room, answer, bytes)?;
+            put_cut(room, cut);
         }
     }
+    Ok(())
+}
+
+/// Puts the line of an entry at the end of a text, with its line feed. What was in the room is lost.
+pub fn push_line(out: &mut Vec<u8>, room: &mut Room, entry: &EntryRef<'_>) -> Result<(), NoMemory>
+    ensures text { OnOk result (out.new.items ≡ out.old.items ++ ended_line (entry_seen entry.now)) }
+    ensures len { OnOk result (vec_len out.new ≤ vec_len out.old + (70 + 3 * length entry.now.bytes.now)) }
+    ensures full { OnErr result (vec_capacity out.old < vec_len out.old + (70 + 3 * length entry.now.bytes.now)) }
+    ensures room { vec_capacity out.old ≤ vec_capacity out.new }
+{
+    room.clear();
+    put_entry(out, room, entry)?;
+    room.push(b'\n');
+    flush(out, room)
+}
+
+// The line of an entry at the end of a text, without its line feed.
+fn push_entry(out: &mut Vec<u8>, entry: &EntryRef<'_>) -> Result<(), NoMemory>
+    ensures { OnOk result (out.new.items ≡ out.old.items ++ entry_line (entry_seen entry.now)) }
+{
+    let mut room = Room::new();
+    put_entry(out, &mut room, entry)?;
+    flush(out, &mut room)
 }
 
 /// The line of an entry in the journal's text, without its line feed. It fails only for want of memory.

@@ -2,11 +2,12 @@
 
 ghost use Rattle.std.specs.Prelude.{◌≤◌, length};
 ghost use Rattle.i2c_base.specs.Bytes.{AreBytes};
-ghost use Rattle.bus_journal.specs.Borrowed.{entry_by, reply_by, most_bytes, most_read};
+ghost use Rattle.i2c_base.specs.Replies.{reply_by, most_read};
+ghost use Rattle.bus_journal.specs.Borrowed.{entry_by, most_bytes};
 ghost use Rattle.bus_journal.specs.Ranges.{IsLock, IsPurpose, IsNode, IsHeard, IsEnd, IsReply, IsCut, IsEntry};
 
-use crate::borrowed::{Head, ReplyHead};
-use i2c_base::{Cut, End, LockId, Node, Purpose};
+use crate::borrowed::Head;
+use i2c_base::{Cut, End, LockId, Node, Purpose, ReplyHead};
 
 fn lock_is_in_range(lock: LockId)
     ensures { IsLock lock }

@@ -1,9 +1,14 @@
 //! Bytes and numbers, put at the end of a text.
 ghost use Rattle.std.specs.Prelude.{◌≡◌, ℕ, ◌<◌, ◌++◌, OnOk};
 ghost use Rattle.std.specs.Fmt.{decimal};
-ghost use Rattle.bus_spec.specs.Lines.{hex_digit, two_digits, joined, spaced, spaced_digits};
+ghost use Rattle.bus_spec.specs.Lines.{hex_digit};
 
 use i2c_base::NoMemory;
+
+/// The digits of 0 to 15.
+const DIGITS: [u8; 16] = [
+    b'0', b'1', b'2', b'3', b'4', b'5', b'6', b'7', b'8', b'9', b'a', b'b', b'c', b'd', b'e', b'f',
+];
 
 /// Puts bytes at the end of a text.
 #[inline(always)]
@@ -43,51 +48,10 @@ fn push_digits(out: &mut Vec<u8>, number: u64) -> Result<(), NoMemory>
 }
 
 /// A digit of 0 to 15.
+#[inline(always)]
 pub fn hex_digit(value: u8) -> u8
     requires { value < 16 }
     ensures { result ≡ hex_digit value }
 {
-    if value < 10 {
-        b'0' + value
-    } else {
-        b'a' - 10 + value
-    }
-}
-
-/// Puts a byte in two hexadecimal digits at the end of a text.
-pub fn push_hex(out: &mut Vec<u8>, byte: u8) -> Result<(), NoMemory>
-    ensures { OnOk result (out.new.items ≡ out.old.items ++ two_digits byte) }
-{
-    out.push(hex_digit(byte / 16))?;
-    out.push(hex_digit(byte % 16))?;
-    Ok(())
-}
-
-// A space and a byte.
-fn push_spaced_byte(out: &mut Vec<u8>, byte: u8) -> Result<(), NoMemory>
-    ensures { OnOk result (out.new.items ≡ out.old.items ++ spaced_digits byte) }
-{
-    out.push(b' ')?;
-    push_hex(out, byte)
-}
-
-/// Puts bytes at the end of a text, with a space before each.
-pub fn push_spaced(out: &mut Vec<u8>, bytes: &[u8]) -> Result<(), NoMemory>
-    ensures { OnOk result (out.new.items ≡ out.old.items ++ spaced bytes.now) }
-{
-    for byte in bytes {
-        push_spaced_byte(out, *byte)?;
-    }
-    Ok(())
-}
-
-/// Puts bytes at the end of a text, with a space between each two.
-pub fn push_joined(out: &mut Vec<u8>, bytes: &[u8]) -> Result<(), NoMemory>
-    ensures { OnOk result (out.new.items ≡ out.old.items ++ joined bytes.now) }
-{
-    if let Some((first, rest)) = bytes.split_first() {
-        push_hex(out, *first)?;
-        push_spaced(out, rest)?;
-    }
-    Ok(())
+    DIGITS[usize::from(value)]
 }
