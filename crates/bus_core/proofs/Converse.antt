@@ -39,6 +39,7 @@ use Rattle.core_laws.specs.Core.{Place, Run, Whole, IsSent, IsGoing, has_reply}
 use Rattle.core_laws.specs.Owed.{message_most}
 use Rattle.mux_plan.specs.declared.task.NextMsg.{NextMsg}
 use Rattle.core_laws.specs.Sends.{IsMessageOf}
+use Rattle.bus_message.specs.Cursors.{CursorView}
 use Rattle.bus_message.specs.Sends.{NextSent, message_for}
 use Rattle.core_laws.specs.Spots.{seen_of}
 use Rattle.bus_message.specs.Ports.{RootPort}
@@ -47,7 +48,8 @@ use Rattle.core_laws.specs.Steps.{next_of, AreMarked, KeepsPort}
 use Rattle.core_laws.proofs.Core.{lone_act, not_over, locks-here, owes-here, going-on, stands-here}
 use Rattle.core_laws.proofs.CoreSteps.{none_owed}
 use Rattle.core_laws.proofs.Laws.{kept-after, length-applied_kept, send-root, send-most, send-last, send-wants, call-wants, held-wants, port-start, log-message, bytes-message, room-one}
-use Rattle.bus_core.specs.Kept.{roots_of, IsSeated, run_of, whole_of, IsKept}
+use Rattle.bus_core.specs.Kept.{roots_of, IsSeated, run_of, whole_of, IsKept, HasMessage}
+use Rattle.bus_core.proofs.SeatLemmas.{read_comes}
 use Rattle.bus_core.specs.Marks.{AreHeld, words_after}
 use Rattle.bus_core.specs.Places.{walk_left, got_by, place_of}
 use Rattle.bus_core.specs.declared.replies.Decided.{Decided}
@@ -113,7 +115,7 @@ part_low sent more (SwitchOff off) w = omega arith
 module _ {P C S : Type 0} (g : PortGhosts P) (c : CallerGhosts C S) (x : CoreParts P C) (kept : IsKept g c x) (place : ℕ) (s : Seat C)
     (here : slice_get x.seats.items place ≡ Some s) where
   abbrev pub b : BoardView
-  b = x.board.now
+  b = x.board
 
   abbrev pub run : Run
   run = run_of g c x
@@ -299,3 +301,32 @@ spoken-at g b next ports s y here q read now bytes r sent whole =
       sent = sent;
       whole = whole;
     }
+
+-- the message that comes next of a seat, which was read at its place
+pub record ComesNext {P C : Type 0} (x : CoreParts P C) (place : ℕ) (next : NextMsg) (s : Seat C) : Type 0 where
+  pub job : Job
+  pub left : ℕ
+  pub here : slice_get x.seats.items place ≡ Some s
+  pub first : next_of x.locks (walk_left x.board s) ≡ Some (Send job left)
+  pub of : IsMessageOf job left next
+
+pub comes-next : {P C : Type 0} (x : CoreParts P C) (place : ℕ) (next : NextMsg) (need : HasMessage x place next) (s : Seat C)
+    → s ≡ get_or x.seats.items place s → ComesNext x place next s
+comes-next x place next need s read =
+    let comes = read_comes x place (Send need.job need.left) need.comes s read in
+    record { job = need.job; left = need.left; here = comes.0; first = comes.1; of = need.of }
+
+-- what was sent on the port that was read there, by what it left of it
+pub said-on : {P C : Type 0} (g : PortGhosts P) (x : CoreParts P C) (next : NextMsg) (s : Seat C) (y : RootPort)
+    → slice_get (root_ports g x.ports.items) s.port ≡ Some y
+    → (q : ℕ × P) → q ≡ get_or x.ports.items s.port q
+    → (k : CursorView) → k ≡ record { transfer = s.transfer; sent = s.sent; written = s.written; grant = k.grant }
+    → (now : P) (sent bytes : List ℕ) → bytes ≡ sent → (r : MsgResult)
+    → NextSent x.board g.tells k.transfer k.sent next (root_port g q) (root_port g (q.0, now)) sent r
+    → (next.purpose ≡ purpose.Call → IsTransfer s.transfer.msgs s.transfer.out)
+    → HasSpoken x.board g.tells next (root_ports g x.ports.items) (root_ports g (set x.ports.items s.port (q.0, now))) bytes r s
+said-on g x next s y here q read k is now sent bytes same r was whole =
+    spoken-at g x.board next x.ports.items s y here q read now bytes r
+    (subst (λ (ys : List ℕ). NextSent x.board g.tells s.transfer s.sent next (root_port g q) (root_port g (q.0, now)) ys r) (sym same)
+    (subst (λ (v : CursorView). NextSent x.board g.tells v.transfer v.sent next (root_port g q) (root_port g (q.0, now)) sent r) is was))
+    whole

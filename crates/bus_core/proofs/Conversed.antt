@@ -49,11 +49,11 @@ use Rattle.i2c_base.specs.Need.{bytes_given}
 
 module _ {P C S : Type 0} (g : PortGhosts P) (c : CallerGhosts C S) (x : CoreParts P C) (kept : IsKept g c x) (place : ℕ) (s : Seat C)
     (here : slice_get x.seats.items place ≡ Some s)
-    (job : Job) (more : ℕ) (next : NextMsg) (first : next_of x.locks (walk_left x.board.now s) ≡ Some (Send job more))
+    (job : Job) (more : ℕ) (next : NextMsg) (first : next_of x.locks (walk_left x.board s) ≡ Some (Send job more))
     (of : IsMessageOf job more next)
     (sockets2 : List RootPort) (bytes : List ℕ) (sent : MsgResult)
-    (said : HasSpoken x.board.now g.tells next (root_ports g x.ports.items) sockets2 bytes sent s)
-    (t : Seat C) (heard : HasHeard x.board.now x.locks next sent.reading bytes sent.end s t) where
+    (said : HasSpoken x.board g.tells next (root_ports g x.ports.items) sockets2 bytes sent s)
+    (t : Seat C) (heard : HasHeard x.board x.locks next sent.reading bytes sent.end s t) where
   abbrev run : Run
   run = run_of g c x
 
@@ -61,7 +61,7 @@ module _ {P C S : Type 0} (g : PortGhosts P) (c : CallerGhosts C S) (x : CorePar
   whole = whole_of g c x kept.held kept.owes
 
   abbrev p : Place
-  p = place_of c x.board.now s
+  p = place_of c x.board s
 
   at : slice_get whole.places place ≡ Some p
   at = place-here g c x kept place s here
@@ -97,11 +97,11 @@ module _ {P C S : Type 0} (g : PortGhosts P) (c : CallerGhosts C S) (x : CorePar
       sent.end words
       (is-sent g c x kept place s here job more next first of sockets2 bytes sent said)
 
-  place-is : place_of c x.board.now t ≡ spoken whole p job next sent.reading bytes sent.end gone
-  place-is = heard-place c x.board.now x.locks (roots_of x.ports.items) job more next of sent.reading bytes sent.end s t heard none
+  place-is : place_of c x.board t ≡ spoken whole p job next sent.reading bytes sent.end gone
+  place-is = heard-place c x.board x.locks (roots_of x.ports.items) job more next of sent.reading bytes sent.end s t heard none
 
-  seated : IsSeated c x.board.now (roots_of x.ports.items) t
-  seated = heard-seated c x.board.now x.locks (roots_of x.ports.items) job more next of sent.reading bytes sent.end s t heard none
+  seated : IsSeated c x.board (roots_of x.ports.items) t
+  seated = heard-seated c x.board x.locks (roots_of x.ports.items) job more next of sent.reading bytes sent.end s t heard none
       (seated-here g c x kept place s here)
       (goes g c x kept place s here job more next first of) (on-bus g c x kept place s here job more next first of)
       (λ e. (call-left g c x kept place s here job more next first of e).1)
@@ -111,11 +111,11 @@ module _ {P C S : Type 0} (g : PortGhosts P) (c : CallerGhosts C S) (x : CorePar
   reply-is unsettled verdict =
       ap (λ (y : TransferView). reply_by verdict (Some y) t.replies.got) (ap (λ (y : Seat C). y.transfer) heard.same)
       ∙ ap (reply_by verdict (Some s.transfer))
-      (heard-got c x.board.now x.locks (roots_of x.ports.items) job more next of sent.reading bytes sent.end s t heard none unsettled)
+      (heard-got c x.board x.locks (roots_of x.ports.items) job more next of sent.reading bytes sent.end s t heard none unsettled)
 
   -- the settle is none where the message decides nothing
   quiet : IsLeft run.board p.transfer (has_reply p.owed) gone behind → (verdict : Option Errno)
-      → next_of locks2 (walk_left x.board.now t) ≡ Some (Settle verdict) → ⊥
+      → next_of locks2 (walk_left x.board t) ≡ Some (Settle verdict) → ⊥
   quiet is verdict comes = quiet-next (slots_of words) behind is.quiet verdict
       (subst (λ (w : WalkTree). next_of locks2 w ≡ Some (Settle verdict)) heard.walk comes)
 
@@ -123,7 +123,7 @@ module _ {P C S : Type 0} (g : PortGhosts P) (c : CallerGhosts C S) (x : CorePar
       sent.end ∷ []) (room : j.room + 1 ≡ x.journal.room)
       (room_bytes : j.room_bytes + length bytes ≡ x.journal.room_bytes) where
     -- THE SETTLE may be made
-    pub may-settle : MaySettle x.board.now locks2 j t
+    pub may-settle : MaySettle x.board locks2 j t
     may-settle = record {
       counted = seated.counted;
       room = λ verdict comes. elim leaves [
@@ -150,7 +150,7 @@ module _ {P C S : Type 0} (g : PortGhosts P) (c : CallerGhosts C S) (x : CorePar
 
       -- NO SETTLE came
       pub conversed-quiet : new.seats.items ≡ set x.seats.items place t → new.journal ≡ j
-          → ((verdict : Option Errno) → next_of locks2 (walk_left x.board.now t) ≡ Some (Settle verdict) → ⊥)
+          → ((verdict : Option Errno) → next_of locks2 (walk_left x.board t) ≡ Some (Settle verdict) → ⊥)
           → IsKept g c new × HasStepped g c place x new
       conversed-quiet seats journal undue = elim leaves [
         | inl is ↦ by is.0 is.1
@@ -181,7 +181,7 @@ module _ {P C S : Type 0} (g : PortGhosts P) (c : CallerGhosts C S) (x : CorePar
 
       -- THE SETTLE came
       pub conversed-settled : (verdict : Option Errno) (u : Seat C) → new.seats.items ≡ set x.seats.items place u
-          → IsSettledIn x.board.now locks2 verdict j new.journal t u → IsKept g c new × HasStepped g c place x new
+          → IsSettledIn x.board locks2 verdict j new.journal t u → IsKept g c new × HasStepped g c place x new
       conversed-settled verdict u seats made = elim leaves [
         | inl is ↦ absurd (quiet is.0 verdict made.next)
         | inr d ↦ by d.0 d.1 d.2 d.3
@@ -198,7 +198,7 @@ module _ {P C S : Type 0} (g : PortGhosts P) (c : CallerGhosts C S) (x : CorePar
               let reply = reply_by verdict (Some t.transfer) t.replies.got in
               let decided : reply ≡ reply_by due (Some p.transfer) got = reply-is unsettled verdict
               ∙ ap (λ (o : Option Errno). reply_by o (Some p.transfer) got) is in
-              let first2 : first_act (walk_left x.board.now t) ≡ Some (Settle verdict) = subst
+              let first2 : first_act (walk_left x.board t) ≡ Some (Settle verdict) = subst
               (λ (w : WalkTree). first_act w ≡ Some (Settle verdict)) (sym heard.walk) (decides.first
               ∙ ap (λ (o : Option Errno). Some (Settle o)) (sym is)) in
               let message = message_entry p next sent.addr sent.reading bytes sent.heard sent.end in
@@ -218,11 +218,11 @@ module _ {P C S : Type 0} (g : PortGhosts P) (c : CallerGhosts C S) (x : CorePar
               made.entries ∙ ap (λ (ys : List Entry). ys ++ entry.Settle t.number reply t.cut ∷ []) entries
               ∙ append_assoc x.journal.entries (message ∷ []) (entry.Settle t.number reply t.cut ∷ [])
               ∙ ap (λ (y : Seat C). x.journal.entries ++ message ∷ entry.Settle y.number reply y.cut ∷ []) heard.same in
-              let seated2 = settled-seated c x.board.now locks2 (roots_of x.ports.items) verdict t u made.settled seated
-              (not_over (slots_of words) (walk_left x.board.now t) (Settle verdict) made.next)
-              (subst (λ (y : Seat C). y.transfer.bus < buses x.board.now) (sym heard.same)
+              let seated2 = settled-seated c x.board locks2 (roots_of x.ports.items) verdict t u made.settled seated
+              (not_over (slots_of words) (walk_left x.board t) (Settle verdict) made.next)
+              (subst (λ (y : Seat C). y.transfer.bus < buses x.board) (sym heard.same)
               (on-bus g c x kept place s here job more next first of)) in
-              let place2 = settled-place c x.board.now locks2 (roots_of x.ports.items) verdict t u made.settled reply refl first2
+              let place2 = settled-place c x.board locks2 (roots_of x.ports.items) verdict t u made.settled reply refl first2
               ∙ ap (λ (q : Place). record q { tree = rest_of q.tree Passed; owed = reply ∷ []; got = []; cut = cut_at.No }) place-is in (
                 kept-whole g c x kept place s here new u same_board seats number script roots seated2 _ core
                     (ap reverse all ∙ reverse-append x.journal.entries (message ∷ settle ∷ [])) refl refl
@@ -233,14 +233,14 @@ module _ {P C S : Type 0} (g : PortGhosts P) (c : CallerGhosts C S) (x : CorePar
 
       -- EITHER, as it is told
       pub conversed : (u : Seat C) → new.seats.items ≡ set x.seats.items place u → (came : Bool)
-          → (came ≡ true → (verdict : Option Errno) × IsSettledIn x.board.now new.locks verdict j new.journal t u)
-          → (came ≡ false → (verdict : Option Errno) → next_of new.locks (walk_left x.board.now t) ≡ Some (Settle verdict) → ⊥)
+          → (came ≡ true → (verdict : Option Errno) × IsSettledIn x.board new.locks verdict j new.journal t u)
+          → (came ≡ false → (verdict : Option Errno) → next_of new.locks (walk_left x.board t) ≡ Some (Settle verdict) → ⊥)
           → (came ≡ false → (u ≡ t) × (new.journal ≡ j)) → IsKept g c new × HasStepped g c place x new
       conversed u seats true made none stays =
           let m = made refl in
-          conversed-settled m.0 u seats (subst (λ (v : LocksView). IsSettledIn x.board.now v m.0 j new.journal t u) locks m.1)
+          conversed-settled m.0 u seats (subst (λ (v : LocksView). IsSettledIn x.board v m.0 j new.journal t u) locks m.1)
       conversed u seats false made none stays =
           let st = stays refl in
           conversed-quiet (seats ∙ ap (set x.seats.items place) st.0) st.1
           (λ verdict comes. none refl verdict
-          (subst (λ (v : LocksView). next_of v (walk_left x.board.now t) ≡ Some (Settle verdict)) (sym locks) comes))
+          (subst (λ (v : LocksView). next_of v (walk_left x.board t) ≡ Some (Settle verdict)) (sym locks) comes))

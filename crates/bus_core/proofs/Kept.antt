@@ -117,7 +117,7 @@ module _ {C S : Type 0} (c : CallerGhosts C S) (tells : Bool) (b : BoardView) (s
 
 module _ {P C S : Type 0} (g : PortGhosts P) (c : CallerGhosts C S) (x : CoreParts P C) (kept : IsKept g c x) where
   abbrev board : BoardView
-  board = x.board.now
+  board = x.board
 
   abbrev whole : Whole
   whole = whole_of g c x kept.held kept.owes
@@ -175,16 +175,16 @@ module _ {P C S : Type 0} (g : PortGhosts P) (c : CallerGhosts C S) (x : CorePar
       kept-by seated held owes core = record {
         owes = owes;
         held = held;
-        set_up = by_board (λ (b : _). IsSetUp c.asked c.left c.board b.now (scripts_of c new.seats.items) (roots_of new.ports.items))
+        set_up = by_board (λ (b : BoardView). IsSetUp c.asked c.left c.board b (scripts_of c new.seats.items) (roots_of new.ports.items))
             (subst (λ (xs : List (ℕ × S)). IsSetUp c.asked c.left c.board board xs (roots_of new.ports.items)) (sym new-scripts)
             (subst (λ (rs : List ℕ). IsSetUp c.asked c.left c.board board (scripts_of c x.seats.items) rs) (sym roots) kept.set_up));
-        kept = by_board (λ (b : _). CoreKept
-            (record { board = b.now; tells = g.tells; asks = asks_in c new; left = left_in c new; callers = MOST_CALLERS })
+        kept = by_board (λ (b : BoardView). CoreKept
+            (record { board = b; tells = g.tells; asks = asks_in c new; left = left_in c new; callers = MOST_CALLERS })
             (record {
               past = reverse new.journal.entries;
               room = new.journal.room;
               room_bytes = new.journal.room_bytes;
-              places = places_of c b.now new.seats.items;
+              places = places_of c b new.seats.items;
               held = held;
               owes = owes;
               locks = new.locks;
@@ -215,7 +215,7 @@ module _ {P C S : Type 0} (g : PortGhosts P) (c : CallerGhosts C S) (x : CorePar
             }))
             (sym (ap (places_of c board) seats ∙ map-set (place_of c board) x.seats.items place t)) core));
         seated = λ i u at.
-            by_board (λ (b : _). IsSeated c b.now (roots_of new.ports.items) u)
+            by_board (λ (b : BoardView). IsSeated c b (roots_of new.ports.items) u)
             (subst (λ (rs : List ℕ). IsSeated c board rs u) (sym roots)
             (elim (at_set x.seats.items place i t u (subst (λ (xs : List (Seat C)). slice_get xs i ≡ Some u) seats at)) [
               | inl is ↦ subst (λ (y : Seat C). IsSeated c board (roots_of x.ports.items) y) is.1 seated

@@ -86,7 +86,7 @@ module _ {P C S : Type 0} (g : PortGhosts P) (c : CallerGhosts C S) (x : CorePar
   whole = whole_of g c x kept.held kept.owes
 
   abbrev p : Place
-  p = place_of c x.board.now s
+  p = place_of c x.board s
 
   at : slice_get whole.places place ≡ Some p
   at = place-here g c x kept place s here
@@ -97,22 +97,22 @@ module _ {P C S : Type 0} (g : PortGhosts P) (c : CallerGhosts C S) (x : CorePar
   abbrev n : ℕ
   n = (owes-here run whole kept.kept place p at).0
 
-  pub comes-here : (act : Act) → ComesAt x place act → next_of x.locks (walk_left x.board.now s) ≡ Some act
+  pub comes-here : (act : Act) → ComesAt x place act → next_of x.locks (walk_left x.board s) ≡ Some act
   comes-here act comes = (let is : comes.seat ≡ s = same_seat x.seats.items place comes.seat s comes.here here in
-      subst (λ (y : Seat C). next_of x.locks (walk_left x.board.now y) ≡ Some act) is comes.next)
+      subst (λ (y : Seat C). next_of x.locks (walk_left x.board y) ≡ Some act) is comes.next)
 
-  module _ (l : LockId) (first : next_of x.locks (walk_left x.board.now s) ≡ Some (Take l)) where
+  module _ (l : LockId) (first : next_of x.locks (walk_left x.board s) ≡ Some (Take l)) where
     pub take-room : 1 ≤ x.journal.room
     take-room = room-one run whole kept.kept place p at (Take l) first
 
     module _ (free : holder_in x.locks l ≡ None) (new : CoreParts P C) (t : Seat C) (same_board : new.board ≡ x.board)
         (seats : new.seats.items ≡ set x.seats.items place t)
-        (went : WentOn x.board.now x.locks Passed cut_at.No s t) (locks : new.locks ≡ with_holder x.locks l (Some s.number))
+        (went : WentOn x.board x.locks Passed cut_at.No s t) (locks : new.locks ≡ with_holder x.locks l (Some s.number))
         (ports : new.ports ≡ x.ports)
         (entries : new.journal.entries ≡ x.journal.entries ++ entry.Take s.number l ∷ []) (room : new.journal.room + 1 ≡ x.journal.room)
         (room_bytes : new.journal.room_bytes ≡ x.journal.room_bytes) where
-      seated : IsSeated c x.board.now (roots_of x.ports.items) t
-      seated = seated_on c x.board.now x.locks (roots_of x.ports.items) s t (seated-here g c x kept place s here) Passed cut_at.No went
+      seated : IsSeated c x.board (roots_of x.ports.items) t
+      seated = seated_on c x.board x.locks (roots_of x.ports.items) s t (seated-here g c x kept place s here) Passed cut_at.No went
 
       core : CoreKept run (record (with_place whole place (passed whole p) (l ∷ ls) (n - 1)) {
         past = entry.Take s.number l ∷ whole.past;
@@ -127,7 +127,7 @@ module _ {P C S : Type 0} (g : PortGhosts P) (c : CallerGhosts C S) (x : CorePar
           kept-whole g c x kept place s here new t same_board seats (ap (λ (y : Seat C). y.number) went.same)
           (ap (λ (y : Seat C). c.script y.caller) went.same) (ap (λ (y : _). roots_of y.items) ports) seated _ core
           (ap reverse entries ∙ reverse-append x.journal.entries (entry.Take s.number l ∷ [])) refl room_bytes
-          (ap (set whole.places place) (went-place c x.board.now s t _ cut_at.No went.same went.walk)) locks
+          (ap (set whole.places place) (went-place c x.board s t _ cut_at.No went.same went.walk)) locks
           (ap (λ (y : _). root_ports g y.items) ports)
 
       pub take-stepped : new.start ≡ x.start → new.places ≡ x.places → HasStepped g c place x new
@@ -136,11 +136,11 @@ module _ {P C S : Type 0} (g : PortGhosts P) (c : CallerGhosts C S) (x : CorePar
           (ap (λ (y : Seat C). c.script y.caller) went.same) (ap (λ (y : _). roots_of y.items) ports)
           start places (entry.Take s.number l) entries room refl refl (λ tell. (core.told tell).stepwise)
 
-  module _ (l : LockId) (first : next_of x.locks (walk_left x.board.now s) ≡ Some (Free l)) where
+  module _ (l : LockId) (first : next_of x.locks (walk_left x.board s) ≡ Some (Free l)) where
     pub free-room : 1 ≤ x.journal.room
     free-room = room-one run whole kept.kept place p at (Free l) first
 
-    pub free-may : MayEnd c x.board.now (roots_of x.ports.items) s
+    pub free-may : MayEnd c x.board (roots_of x.ports.items) s
     free-may = record {
       seated = seated-here g c x kept place s here;
       fits = λ r owed. (
@@ -152,16 +152,16 @@ module _ {P C S : Type 0} (g : PortGhosts P) (c : CallerGhosts C S) (x : CorePar
     }
 
     -- its number stays, whether its walk goes on or has ended
-    pub freed-number : (t : Seat C) → HasFreed c x.board.now x.locks (roots_of x.ports.items) s t → t.number ≡ s.number
-    freed-number t freed = by (is_over (behind_of x.locks (walk_left x.board.now s) Passed)) refl
+    pub freed-number : (t : Seat C) → HasFreed c x.board x.locks (roots_of x.ports.items) s t → t.number ≡ s.number
+    freed-number t freed = by (is_over (behind_of x.locks (walk_left x.board s) Passed)) refl
       where
-        by : (over : Bool) → is_over (behind_of x.locks (walk_left x.board.now s) Passed) ≡ over → t.number ≡ s.number
+        by : (over : Bool) → is_over (behind_of x.locks (walk_left x.board s) Passed) ≡ over → t.number ≡ s.number
         by true ends = (let owed = one-owed s.decided s.replies (end-owes run whole kept.kept place p at l first ends) in
             (freed.ended ends owed.0 owed.1).number)
         by false goes = ap (λ (y : Seat C). y.number) (freed.on goes).same
 
     module _ (new : CoreParts P C) (t : Seat C) (same_board : new.board ≡ x.board) (seats : new.seats.items ≡ set x.seats.items place t)
-        (freed : HasFreed c x.board.now x.locks (roots_of x.ports.items) s t) (locks : new.locks ≡ with_holder x.locks l None)
+        (freed : HasFreed c x.board x.locks (roots_of x.ports.items) s t) (locks : new.locks ≡ with_holder x.locks l None)
         (ports : new.ports ≡ x.ports)
         (entries : new.journal.entries ≡ x.journal.entries ++ entry.Free s.number l ∷ []) (room : new.journal.room + 1 ≡ x.journal.room)
         (room_bytes : new.journal.room_bytes ≡ x.journal.room_bytes)
@@ -172,7 +172,7 @@ module _ {P C S : Type 0} (g : PortGhosts P) (c : CallerGhosts C S) (x : CorePar
       past : reverse new.journal.entries ≡ entry.Free s.number l ∷ reverse x.journal.entries
       past = ap reverse entries ∙ reverse-append x.journal.entries (entry.Free s.number l ∷ [])
 
-      by-whole : t.number ≡ s.number → c.script t.caller ≡ c.script s.caller → (q : Place) → place_of c x.board.now t ≡ q
+      by-whole : t.number ≡ s.number → c.script t.caller ≡ c.script s.caller → (q : Place) → place_of c x.board t ≡ q
           → (ks : List LockId) (m : ℕ)
           → CoreKept run (record (with_place whole place q ks m) {
             past = entry.Free s.number l ∷ whole.past;
@@ -187,15 +187,15 @@ module _ {P C S : Type 0} (g : PortGhosts P) (c : CallerGhosts C S) (x : CorePar
             (entry.Free s.number l) entries room refl refl (λ tell. (core.told tell).stepwise),
       )
 
-      freed-on : is_over (behind_of x.locks (walk_left x.board.now s) Passed) ≡ false → IsKept g c new × HasStepped g c place x new
+      freed-on : is_over (behind_of x.locks (walk_left x.board s) Passed) ≡ false → IsKept g c new × HasStepped g c place x new
       freed-on goes =
           let went = freed.on goes in
           by-whole (ap (λ (y : Seat C). y.number) went.same) (ap (λ (y : Seat C). c.script y.caller) went.same) (passed whole p)
-          (went-place c x.board.now s t _ cut_at.No went.same went.walk) _ _
+          (went-place c x.board s t _ cut_at.No went.same went.walk) _ _
           (core-freed run (fair g c x kept) whole kept.kept place p ls n
           (stands-here run whole kept.kept place p at) new.journal.room l first goes (sym room))
 
-      freed-ended : is_over (behind_of x.locks (walk_left x.board.now s) Passed) ≡ true → IsKept g c new × HasStepped g c place x new
+      freed-ended : is_over (behind_of x.locks (walk_left x.board s) Passed) ≡ true → IsKept g c new × HasStepped g c place x new
       freed-ended ends =
           let owed = one-owed s.decided s.replies (end-owes run whole kept.kept place p at l first ends) in
           let its = freed.ended ends owed.0 owed.1 in
@@ -208,26 +208,26 @@ module _ {P C S : Type 0} (g : PortGhosts P) (c : CallerGhosts C S) (x : CorePar
         where
           by : (o : Option TransferView) → c.asked (c.script t.caller) (c.taken t.caller) ≡ o
               → c.asked (c.script t.caller) (c.taken t.caller) ≡ run.asks s.number (c.taken s.caller ++ owed_by s.decided s.replies)
-              → (owed : (r : Reply) × (owed_by s.decided s.replies ≡ r ∷ [])) → HasEnded c x.board.now owed.0 cut_at.No s t
+              → (owed : (r : Reply) × (owed_by s.decided s.replies ≡ r ∷ [])) → HasEnded c x.board owed.0 cut_at.No s t
               → IsKept g c new × HasStepped g c place x new
           by (Some y) is asks owed its =
-              by-whole its.number its.handed.script (begun_with p (p.taken ++ p.owed) y (walk_for x.board.now y))
-              (ended-place c x.board.now owed.0 s t its (p.taken ++ p.owed) (ap (λ (rs : List Reply). c.taken s.caller ++ rs) owed.1) y
-              (walk_for x.board.now y) (its.loaded.some y is).0 (its.loaded.some y is).1) _ _
+              by-whole its.number its.handed.script (begun_with p (p.taken ++ p.owed) y (walk_for x.board y))
+              (ended-place c x.board owed.0 s t its (p.taken ++ p.owed) (ap (λ (rs : List Reply). c.taken s.caller ++ rs) owed.1) y
+              (walk_for x.board y) (its.loaded.some y is).0 (its.loaded.some y is).1) _ _
               (core-ended run (fair g c x kept) whole kept.kept place p ls n
               (stands-here run whole kept.kept place p at) new.journal.room l first ends owed.0 owed.1 (sym room) y (sym asks ∙ is))
           by None is asks owed its =
               by-whole its.number its.handed.script (begun_with p (p.taken ++ p.owed) p.transfer Ends)
-              (ended-place c x.board.now owed.0 s t its (p.taken ++ p.owed)
+              (ended-place c x.board owed.0 s t its (p.taken ++ p.owed)
               (ap (λ (rs : List Reply). c.taken s.caller ++ rs) owed.1) p.transfer Ends (its.stays is)
-              (over_ends (walk_left x.board.now t) (its.loaded.none is))) _ _
+              (over_ends (walk_left x.board t) (its.loaded.none is))) _ _
               (core-finished run (fair g c x kept) whole kept.kept place p ls n
               (stands-here run whole kept.kept place p at) new.journal.room l first ends owed.0 owed.1 (sym room) (sym asks ∙ is))
 
       pub free-kept : IsKept g c new × HasStepped g c place x new
-      free-kept = by (is_over (behind_of x.locks (walk_left x.board.now s) Passed)) refl
+      free-kept = by (is_over (behind_of x.locks (walk_left x.board s) Passed)) refl
         where
-          by : (over : Bool) → is_over (behind_of x.locks (walk_left x.board.now s) Passed) ≡ over
+          by : (over : Bool) → is_over (behind_of x.locks (walk_left x.board s) Passed) ≡ over
               → IsKept g c new × HasStepped g c place x new
           by true e = freed-ended e
           by false e = freed-on e

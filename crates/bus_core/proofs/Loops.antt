@@ -109,7 +109,7 @@ come-then g c x y z a b =
 
 module _ {P C S : Type 0} (g : PortGhosts P) (c : CallerGhosts C S) (x : CoreParts P C) (core : IsCore g c x) where
   abbrev b : BoardView
-  b = x.board.now
+  b = x.board
 
   abbrev asks : Asks
   asks = asks_in c x
@@ -145,9 +145,9 @@ module _ {P C S : Type 0} (g : PortGhosts P) (c : CallerGhosts C S) (x : CorePar
 
     moved : (words left : List ℕ) (t : HasTurn b asks caller x.journal.entries new.journal.entries)
         → KeepsTo b MOST_CALLERS asks words left (past_after past t.turn)
-        → KeepsTo new.board.now MOST_CALLERS (asks_in c new) words left (reverse new.journal.entries)
+        → KeepsTo new.board MOST_CALLERS (asks_in c new) words left (reverse new.journal.entries)
     moved words left t keeps =
-        subst (λ (y : _). KeepsTo y.now MOST_CALLERS (asks_in c new) words left (reverse new.journal.entries)) (sym made.come.board)
+        subst (λ (y : BoardView). KeepsTo y MOST_CALLERS (asks_in c new) words left (reverse new.journal.entries)) (sym made.come.board)
         (subst (λ (ss : List (ℕ × S)). KeepsTo b MOST_CALLERS (asks_of c.asked ss) words left (reverse new.journal.entries))
         (sym made.come.scripts)
         (subst (λ (y : List Entry). KeepsTo b MOST_CALLERS asks words left y) (sym (past-is t)) keeps))

@@ -58,10 +58,10 @@ total-lefts c (x ∷ xs) =
     ∙ sym (sum_by-cons (λ (y : ℕ × _). c.left (c.script y.1) []) x xs)
 
 module _ {P C S : Type 0} (p : PortGhosts P) (c : CallerGhosts C S) (x : CoreParts P C) (callers : List (ℕ × C)) (limit : ℕ)
-    (may : MayOpen p c x.board.now x.ports.items callers limit) (plain : IsPlainBoard x.board.now) (rules : MeetsRules x.board.now)
-    (seated : AreSeated c x.board.now (roots_of x.ports.items) callers (length callers) x.seats.items x.places.items) where
+    (may : MayOpen p c x.board x.ports.items callers limit) (plain : IsPlainBoard x.board) (rules : MeetsRules x.board)
+    (seated : AreSeated c x.board (roots_of x.ports.items) callers (length callers) x.seats.items x.places.items) where
   abbrev b : BoardView
-  b = x.board.now
+  b = x.board
 
   abbrev roots : List ℕ
   roots = roots_of x.ports.items

@@ -32,7 +32,7 @@ use Rattle.bus_laws.proofs.past.StandsFacts.{over_ends}
 
 module _ {P C S : Type 0} (g : PortGhosts P) (c : CallerGhosts C S) (x : CoreParts P C) (kept : IsKept g c x) (place : ℕ) (s : Seat C)
     (here : slice_get x.seats.items place ≡ Some s)
-    (errno : Errno) (first : next_of x.locks (walk_left x.board.now s) ≡ Some (Settle (Some errno))) where
+    (errno : Errno) (first : next_of x.locks (walk_left x.board s) ≡ Some (Settle (Some errno))) where
   abbrev run : Run
   run = run_of g c x
 
@@ -40,7 +40,7 @@ module _ {P C S : Type 0} (g : PortGhosts P) (c : CallerGhosts C S) (x : CorePar
   whole = whole_of g c x kept.held kept.owes
 
   abbrev p : Place
-  p = place_of c x.board.now s
+  p = place_of c x.board s
 
   at : slice_get whole.places place ≡ Some p
   at = place-here g c x kept place s here
@@ -51,10 +51,10 @@ module _ {P C S : Type 0} (g : PortGhosts P) (c : CallerGhosts C S) (x : CorePar
   abbrev n : ℕ
   n = (owes-here run whole kept.kept place p at).0
 
-  lone : IsLone x.board.now (walk_left x.board.now s) × (p.owed ≡ [])
+  lone : IsLone x.board (walk_left x.board s) × (p.owed ≡ [])
   lone = settle-lone run whole kept.kept place p at (Some errno) first
 
-  pub may-refuse : MayRefuse c x.board.now (roots_of x.ports.items) errno x.journal s
+  pub may-refuse : MayRefuse c x.board (roots_of x.ports.items) errno x.journal s
   may-refuse = record {
     seated = seated-here g c x kept place s here;
     lone = (settle-lone run whole kept.kept place p at (Some errno) first).0.is
@@ -68,7 +68,7 @@ module _ {P C S : Type 0} (g : PortGhosts P) (c : CallerGhosts C S) (x : CorePar
 
   -- IT WAS REFUSED
   module _ (new : CoreParts P C) (t : Seat C) (same_board : new.board ≡ x.board) (seats : new.seats.items ≡ set x.seats.items place t)
-      (refused : IsRefusedIn c x.board.now (roots_of x.ports.items) errno x.journal new.journal s t) (locks : new.locks ≡ x.locks)
+      (refused : IsRefusedIn c x.board (roots_of x.ports.items) errno x.journal new.journal s t) (locks : new.locks ≡ x.locks)
       (ports : new.ports ≡ x.ports) (start : new.start ≡ x.start) (places : new.places ≡ x.places) where
     abbrev replies : List Reply
     replies = c.taken s.caller ++ answer.Err errno ∷ []
@@ -102,14 +102,14 @@ module _ {P C S : Type 0} (g : PortGhosts P) (c : CallerGhosts C S) (x : CorePar
               record {
                 turn = record { caller = s.number; entries = settle ∷ [] };
                 own = ap (λ (y : Seat C). y.number) same;
-                comes = turn-lone x.board.now MOST_CALLERS run.asks (reverse x.journal.entries) settle
-                    (subst (λ (es : List Entry). IsStepwise x.board.now MOST_CALLERS run.asks es) w.1 (w.2.told tell).stepwise)
+                comes = turn-lone x.board MOST_CALLERS run.asks (reverse x.journal.entries) settle
+                    (subst (λ (es : List Entry). IsStepwise x.board MOST_CALLERS run.asks es) w.1 (w.2.told tell).stepwise)
                     (lone-due run whole kept.kept tell place p at lone.0);
                 entries = refused.entries;
               };
         }
 
-    by-whole : (q : Place) → place_of c x.board.now t ≡ q → (ks : List LockId) (m : ℕ)
+    by-whole : (q : Place) → place_of c x.board t ≡ q → (ks : List LockId) (m : ℕ)
         → CoreKept run (record (with_place whole place q ks m) { past = settle ∷ whole.past; room = new.journal.room })
         → IsKept g c new × HasStepped g c place x new
     by-whole q is ks m core = (
@@ -129,15 +129,15 @@ module _ {P C S : Type 0} (g : PortGhosts P) (c : CallerGhosts C S) (x : CorePar
 
         by : (o : Option TransferView) → c.asked (c.script t.caller) (c.taken t.caller) ≡ o → IsKept g c new × HasStepped g c place x new
         by (Some y) is =
-            by-whole (begun_with p replies y (walk_for x.board.now y))
-            (ended-place c x.board.now (answer.Err errno) s t refused.ended replies refl y (walk_for x.board.now y)
+            by-whole (begun_with p replies y (walk_for x.board y))
+            (ended-place c x.board (answer.Err errno) s t refused.ended replies refl y (walk_for x.board y)
             (refused.ended.loaded.some y is).0 (refused.ended.loaded.some y is).1) [] (n - 1)
             (core-lone run (fair g c x kept) whole kept.kept place p ls n (stands-here run whole kept.kept place p at) new.journal.room
             (Some errno) first (sym refused.room) (answer.Err errno) refl y (sym asks ∙ is))
         by None is =
             by-whole (begun_with p replies p.transfer Ends)
-            (ended-place c x.board.now (answer.Err errno) s t refused.ended replies refl p.transfer Ends (refused.ended.stays is)
-            (over_ends (walk_left x.board.now t) (refused.ended.loaded.none is))) [] (n - 1)
+            (ended-place c x.board (answer.Err errno) s t refused.ended replies refl p.transfer Ends (refused.ended.stays is)
+            (over_ends (walk_left x.board t) (refused.ended.loaded.none is))) [] (n - 1)
             (core-lone-finished run (fair g c x kept) whole kept.kept place p ls n
             (stands-here run whole kept.kept place p at) new.journal.room (Some errno) first (sym refused.room) (answer.Err errno) refl
             (sym asks ∙ is))

@@ -1,16 +1,34 @@
 -- The seat at a place of the list, and another one there.
-use Rattle.std.proofs.Common.{◌≡◌, ◌<◌, ℕ, length, nat_eq, true, false, List, [], ◌∷◌, get_or, set, Option, Some, None, refl, sym, ◌∙◌, ap, subst, inl, inr}
+use Rattle.std.proofs.Common.{◌≡◌, ◌<◌, ℕ, length, nat_eq, true, false, List, [], ◌∷◌, get_or, Option, Some, None, refl, sym, ◌∙◌, ap, subst, inl, inr}
 use Rattle.std.specs.Prelude.{slice_get, is_some}
 use Rattle.std.proofs.lemmas.Option.{get_or_from_slice_get, slice_get-get_or}
 use Rattle.std.proofs.lemmas.Bool.Decides.{eqb_tells}
 use Rattle.i2c_base.specs.declared.reply.Reply.{Reply}
-use Rattle.bus_core.specs.Places.{owed_by}
+use Rattle.bus_spec.specs.Walk.{Act}
+use Rattle.core_laws.specs.Steps.{next_of}
+use Rattle.bus_core.specs.Kept.{ComesAt}
+use Rattle.bus_core.specs.Places.{owed_by, walk_left}
+use Rattle.bus_core.specs.declared.parts.CoreParts.{CoreParts}
+use Rattle.bus_core.specs.declared.seat.Seat.{Seat}
 use Rattle.bus_core.specs.Replies.{RepliesView, reply_decided}
 use Rattle.bus_core.specs.declared.replies.Decided.{Decided}
 
 -- what was read at a place is what the list has there
 pub read_here : {X : Type 0} (xs : List X) (i : ℕ) (x y : X) → slice_get xs i ≡ Some x → y ≡ get_or xs i y → y ≡ x
 read_here xs i x y here read = read ∙ get_or_from_slice_get xs i x y here
+
+pub there_read : {X : Type 0} (xs : List X) (i : ℕ) (y : X) → i < length xs → y ≡ get_or xs i y → slice_get xs i ≡ Some y
+there_read xs i y low read = slice_get-get_or xs i y low ∙ ap Some (sym read)
+
+-- what comes next at a place comes next of the seat that was read there
+pub read_comes : {P C : Type 0} (x : CoreParts P C) (place : ℕ) (act : Act) (need : ComesAt x place act) (s : Seat C)
+    → s ≡ get_or x.seats.items place s
+    → (slice_get x.seats.items place ≡ Some s) × (next_of x.locks (walk_left x.board s) ≡ Some act)
+read_comes x place act need s read =
+    let is = read_here x.seats.items place need.seat s need.here read in (
+      need.here ∙ ap Some (sym is),
+      subst (λ (y : Seat _). next_of x.locks (walk_left x.board y) ≡ Some act) (sym is) need.next,
+    )
 
 -- numbers that a test tells apart differ
 pub told_apart : (a b : ℕ) → nat_eq a b ≡ false → a ≡ b → ⊥

@@ -1,5 +1,5 @@
 -- A step of two entries, a message or a line step with its settle; and the ports behind a step on one of them.
-use Rattle.std.proofs.Common.{◌≡◌, ℕ, zero, suc, ◌+◌, true, IsTrue, List, [], ◌∷◌, ◌++◌, length, reverse, map, set, Some, None, refl, sym, ◌∙◌, ap, subst, arith}
+use Rattle.std.proofs.Common.{◌≡◌, ℕ, ◌+◌, true, IsTrue, List, [], ◌∷◌, ◌++◌, length, reverse, map, set, Some, refl, sym, ◌∙◌, ap, arith}
 use Rattle.std.specs.Prelude.{slice_get}
 use Rattle.std.proofs.lemmas.List.{length-append, map-set}
 use Rattle.i2c_base.specs.declared.caller.Caller.{Ghosts as CallerGhosts}
@@ -46,7 +46,7 @@ module _ {P C S : Type 0} (g : PortGhosts P) (c : CallerGhosts C S) (x : CorePar
   pub stepped-two : new.start ≡ x.start → new.places ≡ x.places → (e f : Entry) → new.journal.entries ≡ x.journal.entries ++ e ∷ f ∷ []
       → new.journal.room + 2 ≡ x.journal.room
       → is_stepping e ≡ true → is_settle f ≡ true → caller_of e ≡ s.number → caller_of f ≡ s.number
-      → (IsTrue g.tells → IsStepwise x.board.now MOST_CALLERS (asks_in c x) (f ∷ e ∷ reverse x.journal.entries))
+      → (IsTrue g.tells → IsStepwise x.board MOST_CALLERS (asks_in c x) (f ∷ e ∷ reverse x.journal.entries))
       → HasStepped g c place x new
   stepped-two start places e f entries room steps settles own owns stepwise =
       let count : length new.journal.entries ≡ length x.journal.entries + 2 = ap length entries
@@ -64,7 +64,7 @@ module _ {P C S : Type 0} (g : PortGhosts P) (c : CallerGhosts C S) (x : CorePar
             record {
               turn = record { caller = caller_of e; entries = e ∷ f ∷ [] };
               own = own ∙ ap (λ (y : Seat C). y.number) is;
-              comes = turn-two x.board.now MOST_CALLERS (asks_in c x) (reverse x.journal.entries) e f (stepwise tell) (owns
+              comes = turn-two x.board MOST_CALLERS (asks_in c x) (reverse x.journal.entries) e f (stepwise tell) (owns
                   ∙ sym own) steps settles;
               entries = entries;
             };

@@ -79,7 +79,7 @@ no-bytes verdict err t got is = ap (λ (o : Option Errno). length (bytes_given (
 
 module _ {P C S : Type 0} (g : PortGhosts P) (c : CallerGhosts C S) (x : CoreParts P C) (kept : IsKept g c x) (place : ℕ) (s : Seat C)
     (here : slice_get x.seats.items place ≡ Some s)
-    (job : Job) (first : next_of x.locks (walk_left x.board.now s) ≡ Some (Shift job)) where
+    (job : Job) (first : next_of x.locks (walk_left x.board s) ≡ Some (Shift job)) where
   abbrev run : Run
   run = run_of g c x
 
@@ -87,7 +87,7 @@ module _ {P C S : Type 0} (g : PortGhosts P) (c : CallerGhosts C S) (x : CorePar
   whole = whole_of g c x kept.held kept.owes
 
   abbrev p : Place
-  p = place_of c x.board.now s
+  p = place_of c x.board s
 
   at : slice_get whole.places place ≡ Some p
   at = place-here g c x kept place s here
@@ -98,40 +98,40 @@ module _ {P C S : Type 0} (g : PortGhosts P) (c : CallerGhosts C S) (x : CorePar
   abbrev n : ℕ
   n = (owes-here run whole kept.kept place p at).0
 
-  its : IsSeated c x.board.now (roots_of x.ports.items) s
+  its : IsSeated c x.board (roots_of x.ports.items) s
   its = seated-here g c x kept place s here
 
-  goes : is_over (walk_left x.board.now s) ≡ false
-  goes = not_over (slots_of (seen_of x.locks)) (walk_left x.board.now s) (Shift job) first
+  goes : is_over (walk_left x.board s) ≡ false
+  goes = not_over (slots_of (seen_of x.locks)) (walk_left x.board s) (Shift job) first
 
-  on-bus : s.transfer.bus < buses x.board.now
+  on-bus : s.transfer.bus < buses x.board
   on-bus = elim (its.there goes) [
     | inl low ↦ low
-    | inr lone ↦ absurd (let l = lone_act x.board.now (slots_of (seen_of x.locks)) (walk_left x.board.now s) lone (Shift job) first in
+    | inr lone ↦ absurd (let l = lone_act x.board (slots_of (seen_of x.locks)) (walk_left x.board s) lone (Shift job) first in
         let f : Shift job ≡ Settle l.0 = l.1 in cc)
   ]
 
-  job-of : IsJobOf x.board.now s.transfer job
+  job-of : IsJobOf x.board s.transfer job
   job-of = shift-root run whole kept.kept place p at job first
 
-  pub plug : (y : RootPort) × (slice_get whole.sockets s.port ≡ Some y) × (y.root ≡ root_of x.board.now s.transfer.bus)
+  pub plug : (y : RootPort) × (slice_get whole.sockets s.port ≡ Some y) × (y.root ≡ root_of x.board s.transfer.bus)
   plug = port g c x kept place s here goes on-bus
 
-  rooted : plug.0.root ≡ root_of x.board.now (job_bus job)
+  rooted : plug.0.root ≡ root_of x.board (job_bus job)
   rooted = plug.2 ∙ sym job-of.rooted
 
   -- where ports tell, the line is there
   line-there : IsTrue g.tells → HasLine plug.0.world (line_mux job) (line_level job)
   line-there tell =
       let f = fair g c x kept in
-      let stands = past-stands x.board.now f.tree f.plain f.lines run.asks f.sends MOST_CALLERS whole.past (kept.kept.told tell).stepwise in
-      let has = next-line x.board.now f.tree f.lines run.asks f.sends (now x.board.now run.asks whole.past) stands s.number job
+      let stands = past-stands x.board f.tree f.plain f.lines run.asks f.sends MOST_CALLERS whole.past (kept.kept.told tell).stepwise in
+      let has = next-line x.board f.tree f.lines run.asks f.sends (now x.board run.asks whole.past) stands s.number job
       (next-same run whole kept.kept tell place p at ∙ first) in
       let world = ((kept.kept.told tell).ports_told s.port plug.0 plug.1).world in
       let board = ap (λ (w : World). w.board) world ∙ stands.told.board plug.0.root in
       let root = ap (λ (w : World). w.root) world ∙ stands.told.root plug.0.root in
-      line-in x.board.now plug.0.world (line_mux job) (line_level job) board
-      (subst (λ (r : ℕ). HasLineIn x.board.now r (line_mux job) (line_level job)) (sym (root ∙ rooted)) has)
+      line-in x.board plug.0.world (line_mux job) (line_level job) board
+      (subst (λ (r : ℕ). HasLineIn x.board r (line_mux job) (line_level job)) (sym (root ∙ rooted)) has)
 
   pub may-shift : (mux level : ℕ) → line_mux job ≡ mux → line_level job ≡ level → MayShift g.tells mux level plug.0
   may-shift mux level of_mux to_level = record {
@@ -147,23 +147,23 @@ module _ {P C S : Type 0} (g : PortGhosts P) (c : CallerGhosts C S) (x : CorePar
   -- IT WAS DONE
   module _ (failed : Bool) where
     -- the marks that it changes may be written
-    pub line-updates-own : AreHeld x.locks s.number (updates_of x.board.now x.locks (Lined failed) s)
+    pub line-updates-own : AreHeld x.locks s.number (updates_of x.board x.locks (Lined failed) s)
     line-updates-own =
         let own = locks-here run whole kept.kept place p at in
         let has = held-wants run whole kept.kept place p at own.0 own.1 in
         let sends = shift-wants run whole kept.kept place p at job first in
-        updates-held x.locks s.number (updates_of x.board.now x.locks (Lined failed) s)
+        updates-held x.locks s.number (updates_of x.board x.locks (Lined failed) s)
         (on-after (holds_mux x.locks s.number) (next_of x.locks p.tree) (first_note (seen (slots_of (seen_of x.locks)) p.tree))
         (Lined failed)
         (subst (λ (o : Option Act). MayMark (holds_mux x.locks s.number) o (first_note (seen (slots_of (seen_of x.locks)) p.tree)))
         (sym first) (
-          switched-on x.locks s.number own.0 has x.board.now job sends.own,
-          marks-on x.locks s.number own.0 has x.board.now
+          switched-on x.locks s.number own.0 has x.board job sends.own,
+          marks-on x.locks s.number own.0 has x.board
               (first_note (seen (slots_of (seen_of x.locks)) p.tree)).marks sends.marked,
         )))
 
     abbrev words : SeenView
-    words = words_after (updates_of x.board.now x.locks (Lined failed) s) (seen_of x.locks)
+    words = words_after (updates_of x.board x.locks (Lined failed) s) (seen_of x.locks)
 
     abbrev locks2 : LocksView
     locks2 = turned_to x.locks words
@@ -175,20 +175,20 @@ module _ {P C S : Type 0} (g : PortGhosts P) (c : CallerGhosts C S) (x : CorePar
         ⊎ ((has_reply p.owed ≡ false) × (err : Errno) × IsDecided run.board p.transfer (Some err) behind)
     leaves = lined-leaves run whole kept.kept place p at job first failed
 
-    module _ (t : Seat C) (went : WentOn x.board.now x.locks (Lined failed) (cut_of_line failed) s t) where
-      place-is : place_of c x.board.now t ≡ switched whole p job failed
-      place-is = went-on-place c x.board.now x.locks (roots_of x.ports.items) (Lined failed) (cut_of_line failed) s t went
+    module _ (t : Seat C) (went : WentOn x.board x.locks (Lined failed) (cut_of_line failed) s t) where
+      place-is : place_of c x.board t ≡ switched whole p job failed
+      place-is = went-on-place c x.board x.locks (roots_of x.ports.items) (Lined failed) (cut_of_line failed) s t went
 
-      seated : IsSeated c x.board.now (roots_of x.ports.items) t
-      seated = went-on-seated c x.board.now x.locks (roots_of x.ports.items) (Lined failed) (cut_of_line failed) s t went its goes on-bus
+      seated : IsSeated c x.board (roots_of x.ports.items) t
+      seated = went-on-seated c x.board x.locks (roots_of x.ports.items) (Lined failed) (cut_of_line failed) s t went its goes on-bus
 
       quiet : IsLeft run.board p.transfer (has_reply p.owed) p.sent behind → (verdict : Option Errno)
-          → next_of locks2 (walk_left x.board.now t) ≡ Some (Settle verdict) → ⊥
+          → next_of locks2 (walk_left x.board t) ≡ Some (Settle verdict) → ⊥
       quiet is verdict comes = quiet-next (slots_of words) behind is.quiet verdict
           (subst (λ (w : WalkTree). next_of locks2 w ≡ Some (Settle verdict)) went.walk comes)
 
       verdict-is : (err : Errno) → IsDecided run.board p.transfer (Some err) behind → (verdict : Option Errno)
-          → next_of locks2 (walk_left x.board.now t) ≡ Some (Settle verdict) → verdict ≡ Some err
+          → next_of locks2 (walk_left x.board t) ≡ Some (Settle verdict) → verdict ≡ Some err
       verdict-is err decides verdict comes =
           let comes2 : next_of locks2 behind ≡ Some (Settle verdict) = subst
           (λ (w : WalkTree). next_of locks2 w ≡ Some (Settle verdict)) went.walk comes in
@@ -198,7 +198,7 @@ module _ {P C S : Type 0} (g : PortGhosts P) (c : CallerGhosts C S) (x : CorePar
       module _ (j : JournalView) (entries : j.entries ≡ x.journal.entries ++ line_entry p job failed ∷ [])
           (room : j.room + 1 ≡ x.journal.room) (room_bytes : j.room_bytes ≡ x.journal.room_bytes) where
         -- THE SETTLE may be made
-        pub line-may-settle : MaySettle x.board.now locks2 j t
+        pub line-may-settle : MaySettle x.board locks2 j t
         line-may-settle = record {
           counted = seated.counted;
           room = λ verdict comes. elim leaves [
@@ -218,16 +218,16 @@ module _ {P C S : Type 0} (g : PortGhosts P) (c : CallerGhosts C S) (x : CorePar
           roots : roots_of new.ports.items ≡ roots_of x.ports.items
           roots = roots-stay g x.ports.items new.ports.items s.port old now port_here sockets shifted.root
 
-          marked : AreMarked x.board.now p.tree x.locks (Lined failed) words
+          marked : AreMarked x.board p.tree x.locks (Lined failed) words
           marked = record {
-            all = length-applied (updates_of x.board.now x.locks (Lined failed) s) x.locks.marks ∙ kept.kept.table.marked;
-            counted = length-applied_kept (updates_of x.board.now x.locks (Lined failed) s) x.locks.kept ∙ kept.kept.table.kept;
+            all = length-applied (updates_of x.board x.locks (Lined failed) s) x.locks.marks ∙ kept.kept.table.marked;
+            counted = length-applied_kept (updates_of x.board x.locks (Lined failed) s) x.locks.kept ∙ kept.kept.table.kept;
             marked = λ y told. tells-after (next_of x.locks p.tree) (first_note (seen (slots_of (seen_of x.locks)) p.tree))
                 (Lined failed) y x.locks.marks told;
             kept = λ y told.
-                kept-after x.board.now (locks-here run whole kept.kept place p at).0 (next_of x.locks p.tree)
+                kept-after x.board (locks-here run whole kept.kept place p at).0 (next_of x.locks p.tree)
                 (first_note (seen (slots_of (seen_of x.locks)) p.tree)) (Lined failed)
-                (subst (λ (o : Option Act). WantsIn x.board.now (locks-here run whole kept.kept place p at).0 o
+                (subst (λ (o : Option Act). WantsIn x.board (locks-here run whole kept.kept place p at).0 o
                 (first_note (seen (slots_of (seen_of x.locks)) p.tree))) (sym first)
                 (shift-wants run whole kept.kept place p at job first))
                 y x.locks.kept kept.kept.table.kept told;
@@ -247,7 +247,7 @@ module _ {P C S : Type 0} (g : PortGhosts P) (c : CallerGhosts C S) (x : CorePar
 
           -- NO SETTLE came
           switched-quiet : new.seats.items ≡ set x.seats.items place t → new.journal ≡ j
-              → ((verdict : Option Errno) → next_of locks2 (walk_left x.board.now t) ≡ Some (Settle verdict) → ⊥)
+              → ((verdict : Option Errno) → next_of locks2 (walk_left x.board t) ≡ Some (Settle verdict) → ⊥)
               → IsKept g c new × HasStepped g c place x new
           switched-quiet seats journal undue = elim leaves [
             | inl is ↦ by is
@@ -274,7 +274,7 @@ module _ {P C S : Type 0} (g : PortGhosts P) (c : CallerGhosts C S) (x : CorePar
 
           -- THE SETTLE came
           switched-settled : (verdict : Option Errno) (u : Seat C) → new.seats.items ≡ set x.seats.items place u
-              → IsSettledIn x.board.now locks2 verdict j new.journal t u → IsKept g c new × HasStepped g c place x new
+              → IsSettledIn x.board locks2 verdict j new.journal t u → IsKept g c new × HasStepped g c place x new
           switched-settled verdict u seats made = elim leaves [
             | inl is ↦ absurd (quiet is verdict made.next)
             | inr d ↦ by d.0 d.1 d.2
@@ -287,7 +287,7 @@ module _ {P C S : Type 0} (g : PortGhosts P) (c : CallerGhosts C S) (x : CorePar
                   let reply : reply_by verdict (Some t.transfer) t.replies.got ≡ answer.Err err = ap
                   (λ (o : Option Errno). reply_by o (Some t.transfer) t.replies.got) is in
                   let zeros = no-bytes verdict err (Some t.transfer) t.replies.got is in
-                  let first2 : first_act (walk_left x.board.now t) ≡ Some (Settle verdict) = subst
+                  let first2 : first_act (walk_left x.board t) ≡ Some (Settle verdict) = subst
                   (λ (w : WalkTree). first_act w ≡ Some (Settle verdict)) (sym went.walk) (decides.first
                   ∙ ap (λ (o : Option Errno). Some (Settle o)) (sym is)) in
                   let line = line_entry p job failed in
@@ -307,10 +307,10 @@ module _ {P C S : Type 0} (g : PortGhosts P) (c : CallerGhosts C S) (x : CorePar
                   ∙ ap (λ (ys : List Entry). ys ++ entry.Settle t.number (answer.Err err) t.cut ∷ []) entries
                   ∙ append_assoc x.journal.entries (line ∷ []) (entry.Settle t.number (answer.Err err) t.cut ∷ [])
                   ∙ ap (λ (y : Seat C). x.journal.entries ++ line ∷ entry.Settle y.number (answer.Err err) y.cut ∷ []) went.same in
-                  let seated2 = settled-seated c x.board.now locks2 (roots_of x.ports.items) verdict t u made.settled seated
-                  (not_over (slots_of words) (walk_left x.board.now t) (Settle verdict) made.next)
-                  (subst (λ (y : Seat C). y.transfer.bus < buses x.board.now) (sym went.same) on-bus) in
-                  let place2 = settled-place c x.board.now locks2 (roots_of x.ports.items) verdict t u made.settled
+                  let seated2 = settled-seated c x.board locks2 (roots_of x.ports.items) verdict t u made.settled seated
+                  (not_over (slots_of words) (walk_left x.board t) (Settle verdict) made.next)
+                  (subst (λ (y : Seat C). y.transfer.bus < buses x.board) (sym went.same) on-bus) in
+                  let place2 = settled-place c x.board locks2 (roots_of x.ports.items) verdict t u made.settled
                   (answer.Err err) reply first2
                   ∙ ap (λ (q : Place). record q { tree = rest_of q.tree Passed; owed = answer.Err err ∷ []; got = []; cut = cut_at.No })
                   place-is in (
@@ -323,14 +323,14 @@ module _ {P C S : Type 0} (g : PortGhosts P) (c : CallerGhosts C S) (x : CorePar
 
           -- EITHER, as it is told
           pub line-done : (u : Seat C) → new.seats.items ≡ set x.seats.items place u → (came : Bool)
-              → (came ≡ true → (verdict : Option Errno) × IsSettledIn x.board.now new.locks verdict j new.journal t u)
-              → (came ≡ false → (verdict : Option Errno) → next_of new.locks (walk_left x.board.now t) ≡ Some (Settle verdict) → ⊥)
+              → (came ≡ true → (verdict : Option Errno) × IsSettledIn x.board new.locks verdict j new.journal t u)
+              → (came ≡ false → (verdict : Option Errno) → next_of new.locks (walk_left x.board t) ≡ Some (Settle verdict) → ⊥)
               → (came ≡ false → (u ≡ t) × (new.journal ≡ j)) → IsKept g c new × HasStepped g c place x new
           line-done u seats true made none stays =
               let m = made refl in
-              switched-settled m.0 u seats (subst (λ (v : LocksView). IsSettledIn x.board.now v m.0 j new.journal t u) locks m.1)
+              switched-settled m.0 u seats (subst (λ (v : LocksView). IsSettledIn x.board v m.0 j new.journal t u) locks m.1)
           line-done u seats false made none stays =
               let st = stays refl in
               switched-quiet (seats ∙ ap (set x.seats.items place) st.0) st.1
               (λ verdict comes. none refl verdict
-              (subst (λ (v : LocksView). next_of v (walk_left x.board.now t) ≡ Some (Settle verdict)) (sym locks) comes))
+              (subst (λ (v : LocksView). next_of v (walk_left x.board t) ≡ Some (Settle verdict)) (sym locks) comes))

@@ -78,8 +78,8 @@ opened-with g c b ports callers limit x is =
 module _ {P C S : Type 0} (g : PortGhosts P) (c : CallerGhosts C S) (old new : CoreParts P C) (come : HasCome g c old new) where
   pub opening-same : (state_of g c new).opening ≡ (state_of g c old).opening
   opening-same =
-      ap (λ (b : BoardView). record (state_of g c new).opening { board = b }) (ap (λ (y : _). y.now) come.board)
-      ∙ ap (λ (ss : List (ℕ × S)). record (state_of g c new).opening { board = old.board.now; scripts = ss }) come.scripts
+      ap (λ (b : BoardView). record (state_of g c new).opening { board = b }) come.board
+      ∙ ap (λ (ss : List (ℕ × S)). record (state_of g c new).opening { board = old.board; scripts = ss }) come.scripts
       ∙ ap (λ (y : _). record (state_of g c old).opening { worlds = worlds_of g.world y.value.items }) come.start
 
   pub roots-same : roots_in (state_of g c new) ≡ roots_in (state_of g c old)
@@ -114,7 +114,7 @@ module _ {P C S : Type 0} (g : PortGhosts P) (c : CallerGhosts C S) (x : CorePar
   state = state_of g c x
 
   abbrev b : BoardView
-  b = x.board.now
+  b = x.board
 
   -- THE PORTS AND THE JOURNAL are as it tells
   pub core-told : IsTrue g.tells → CoreTold c.asked state

@@ -48,7 +48,7 @@ left_in c x = left_of c.left (scripts_of c x.seats.items)
 
 -- what stays as it is, and where all stand between two steps
 abbrev pub run_of : {P C S : Type 0} → PortGhosts P → CallerGhosts C S → CoreParts P C → Run
-run_of p c x = record { board = x.board.now; tells = p.tells; asks = asks_in c x; left = left_in c x; callers = MOST_CALLERS }
+run_of p c x = record { board = x.board; tells = p.tells; asks = asks_in c x; left = left_in c x; callers = MOST_CALLERS }
 
 abbrev pub whole_of : {P C S : Type 0} → PortGhosts P → CallerGhosts C S → CoreParts P C → List (List LockId) → List ℕ → Whole
 whole_of p c x held owes =
@@ -56,7 +56,7 @@ whole_of p c x held owes =
       past = reverse x.journal.entries;
       room = x.journal.room;
       room_bytes = x.journal.room_bytes;
-      places = places_of c x.board.now x.seats.items;
+      places = places_of c x.board x.seats.items;
       held = held;
       owes = owes;
       locks = x.locks;
@@ -67,15 +67,15 @@ whole_of p c x held owes =
 pub record IsKept {P C S : Type 0} (p : PortGhosts P) (c : CallerGhosts C S) (x : CoreParts P C) : Type 0 where
   pub owes : List ℕ
   pub held : List (List LockId)
-  pub set_up : IsSetUp c.asked c.left c.board x.board.now (scripts_of c x.seats.items) (roots_of x.ports.items)
+  pub set_up : IsSetUp c.asked c.left c.board x.board (scripts_of c x.seats.items) (roots_of x.ports.items)
   pub kept : CoreKept (run_of p c x) (whole_of p c x held owes)
-  pub seated : (i : ℕ) (s : Seat C) → slice_get x.seats.items i ≡ Some s → IsSeated c x.board.now (roots_of x.ports.items) s
+  pub seated : (i : ℕ) (s : Seat C) → slice_get x.seats.items i ≡ Some s → IsSeated c x.board (roots_of x.ports.items) s
 
 -- this comes next of the caller at a place
 pub record ComesAt {P C : Type 0} (x : CoreParts P C) (place : ℕ) (act : Act) : Type 0 where
   pub seat : Seat C
   pub here : slice_get x.seats.items place ≡ Some seat
-  pub next : next_of x.locks (walk_left x.board.now seat) ≡ Some act
+  pub next : next_of x.locks (walk_left x.board seat) ≡ Some act
 
 -- this message comes next of it
 pub record HasMessage {P C : Type 0} (x : CoreParts P C) (place : ℕ) (next : NextMsg) : Type 0 where
@@ -109,7 +109,7 @@ pub record HasStepped {P C S : Type 0} (p : PortGhosts P) (c : CallerGhosts C S)
   pub room : new.journal.room < old.journal.room
   pub counted : length new.journal.entries + new.journal.room ≡ length old.journal.entries + old.journal.room
   pub turn : IsTrue p.tells → (s : Seat C) → slice_get old.seats.items place ≡ Some s
-      → HasTurn old.board.now (asks_in c old) s.number old.journal.entries new.journal.entries
+      → HasTurn old.board (asks_in c old) s.number old.journal.entries new.journal.entries
 
 -- .. and all is kept behind it
 pub record HasMadeStep {P C S : Type 0} (p : PortGhosts P) (c : CallerGhosts C S) (place : ℕ) (old new : CoreParts P C) : Type 0 where

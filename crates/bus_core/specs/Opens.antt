@@ -94,7 +94,7 @@ pub record AreSeated {C S : Type 0} (c : CallerGhosts C S) (b : BoardView) (root
 -- it was opened with these, and nothing was done yet
 pub record IsOpenedWith {P C S : Type 0} (p : PortGhosts P) (c : CallerGhosts C S) (b : BoardView) (ports : List (ℕ × P))
     (callers : List (ℕ × C)) (limit : ℕ) (x : CoreParts P C) : Type 0 where
-  pub board : x.board.now ≡ b
+  pub board : x.board ≡ b
   pub ports_are : x.ports.items ≡ ports
   pub start : x.start.value.items ≡ ports
   pub scripts : scripts_of c x.seats.items ≡ callers_scripts c callers

@@ -1,5 +1,5 @@
 -- The reply of a transfer as it is kept in place.
-use Rattle.std.specs.Prelude.{⊤, ℕ, List}
+use Rattle.std.specs.Prelude.{ℕ, List}
 use Rattle.i2c_base.specs.declared.errno.Errno.{Errno}
 use Rattle.i2c_base.specs.declared.reply.Reply.{Reply}
 use Rattle.i2c_base.specs.declared.reply.Reply.TheVariants as reply
@@ -15,18 +15,3 @@ abbrev pub reply_decided : Decided → RepliesView → Reply
 reply_decided decided.Done r = reply.Done
 reply_decided decided.Read r = reply.Read r.got
 reply_decided decided.Failed r = reply.Err r.errno
-
-abbrev pub IsRead : Reply → Type 0
-IsRead reply.Done = ⊥
-IsRead (reply.Read bytes) = ⊤
-IsRead (reply.Err errno) = ⊥
-
-abbrev pub IsErr : Reply → Type 0
-IsErr reply.Done = ⊥
-IsErr (reply.Read bytes) = ⊥
-IsErr (reply.Err errno) = ⊤
-
-abbrev pub errno_in : Reply → Errno → Errno
-errno_in reply.Done else = else
-errno_in (reply.Read bytes) else = else
-errno_in (reply.Err errno) else = errno

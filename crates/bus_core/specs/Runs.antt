@@ -13,12 +13,12 @@ use Rattle.bus_core.specs.declared.parts.CoreParts.{CoreParts}
 pub record HasMade {P C S : Type 0} (p : PortGhosts P) (c : CallerGhosts C S) (caller : ℕ) (old new : CoreParts P C) : Type 0 where
   pub come : HasCome p c old new
   pub room : new.journal.room < old.journal.room
-  pub turn : IsTrue p.tells → HasTurn old.board.now (asks_in c old) caller old.journal.entries new.journal.entries
+  pub turn : IsTrue p.tells → HasTurn old.board (asks_in c old) caller old.journal.entries new.journal.entries
 
 -- it made none: by the journal it waits for a lock that somebody has, or has finished
 pub record HasWaited {P C S : Type 0} (p : PortGhosts P) (c : CallerGhosts C S) (caller : ℕ) (old new : CoreParts P C) : Type 0 where
   pub same : new ≡ old
-  pub stuck : IsTrue p.tells → IsStuck old.board.now (asks_in c old) (reverse old.journal.entries) caller
+  pub stuck : IsTrue p.tells → IsStuck old.board (asks_in c old) (reverse old.journal.entries) caller
 
 -- the least caller that could make a step made one: every caller below it is held up
 pub record HasMadeLeast {P C S : Type 0} (p : PortGhosts P) (c : CallerGhosts C S) (old new : CoreParts P C) : Type 0 where
@@ -30,4 +30,4 @@ pub record HasMadeLeast {P C S : Type 0} (p : PortGhosts P) (c : CallerGhosts C 
 
 -- whatever comes later, the journal so far keeps to a schedule of which these words are left
 abbrev pub KeepsSchedule : {P C S : Type 0} → PortGhosts P → CallerGhosts C S → List ℕ → List ℕ → CoreParts P C → Type 0
-KeepsSchedule p c words left x = IsTrue p.tells → KeepsTo x.board.now MOST_CALLERS (asks_in c x) words left (reverse x.journal.entries)
+KeepsSchedule p c words left x = IsTrue p.tells → KeepsTo x.board MOST_CALLERS (asks_in c x) words left (reverse x.journal.entries)

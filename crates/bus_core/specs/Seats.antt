@@ -23,11 +23,10 @@ use Rattle.bus_spec.specs.Stepwise.{reply_by}
 use Rattle.bus_spec.specs.Walk.{ActOutcome, Passed, Settle, Then, Ends}
 use Rattle.bus_spec.specs.Walk as walk
 use Rattle.mux_plan.specs.declared.task.NextMsg.{NextMsg}
-use Rattle.bus_message.specs.Sends.{message_for, IsChipAddress}
-use Rattle.mux_plan.specs.Plans.{ends_with, is_call_through}
+use Rattle.mux_plan.specs.Plans.{is_call_through}
 use Rattle.core_laws.specs.Spots.{seen_of}
 use Rattle.bus_message.specs.Ports.{RootPort}
-use Rattle.core_laws.specs.Steps.{GivesBytes, next_of, behind_of}
+use Rattle.core_laws.specs.Steps.{next_of, behind_of}
 use Rattle.mux_plan.specs.declared.marks.MuxUpdate.{MuxUpdate}
 use Rattle.mux_plan.specs.Marks.{updates_after}
 use Rattle.mux_plan.specs.Plans.{slots_of}

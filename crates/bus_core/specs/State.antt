@@ -40,7 +40,7 @@ taken_of c seats = map (λ s. (s.number, c.taken s.caller)) seats
 abbrev pub state_of : {P C S : Type 0} → PortGhosts P → CallerGhosts C S → CoreParts P C → CoreState S
 state_of p c x =
     record {
-      opening = record { board = x.board.now; scripts = scripts_of c x.seats.items; worlds = worlds_of p.world x.start.value.items };
+      opening = record { board = x.board; scripts = scripts_of c x.seats.items; worlds = worlds_of p.world x.start.value.items };
       taken = taken_of c x.seats.items;
       journal = x.journal;
       locks = x.locks;

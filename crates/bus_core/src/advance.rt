@@ -8,10 +8,10 @@ ghost use Rattle.bus_core.specs.Places.{walk_left};
 ghost use Rattle.bus_core.specs.Seats.{HasFreed, HasHeard, IsCounted, IsRefusedIn, IsSettledIn, MayEnd, MayHear, MayRefuse, MaySettle, WentOn, cut_of_line, updates_of};
 
 use crate::seat::Seat;
-use bus_journal::{EntryRef, Journal};
+use bus_journal::Journal;
 use bus_message::MsgResult;
 use i2c_base::{Caller, Cut, Errno, SegId};
-use i2c_board::Accepted;
+use i2c_board::CachedBoard;
 use mux_plan::{MuxUpdates, NextMsg, Outcome};
 use ports::Port;
 use seg_locks::Locks;
@@ -20,13 +20,14 @@ impl<C: Caller> Seat<C> {
     /// Advances past a freed lock; at the walk's end delivers the reply and loads the next transfer.
     pub fn free_done<P: Port>(
         &mut self,
-        board: &Accepted,
+        board: &mut CachedBoard<'_>,
         locks: &Locks,
         ports: &[(SegId, P)],
         updates: &mut MuxUpdates,
     )
-        requires { MayEnd C.Caller board.now (roots_of ports.now) self.old }
-        ensures { HasFreed C.Caller board.now locks.now (roots_of ports.now) self.old self.new }
+        requires { MayEnd C.Caller board.old (roots_of ports.now) self.old }
+        ensures freed { HasFreed C.Caller board.old locks.now (roots_of ports.now) self.old self.new }
+        ensures board { board.new ≡ board.old }
     {
         self.lock_done(board, locks, updates);
         self.end(board, ports);
@@ -35,7 +36,7 @@ impl<C: Caller> Seat<C> {
     /// .. behind a message, of which this came; tells what it changes of the lock words.
     pub fn message_done(
         &mut self,
-        board: &Accepted,
+        board: &CachedBoard<'_>,
         locks: &Locks,
         next: &NextMsg,
         msg: &MsgResult,
@@ -57,7 +58,7 @@ impl<C: Caller> Seat<C> {
     /// .. behind a line step, which may have failed.
     pub fn line_done(
         &mut self,
-        board: &Accepted,
+        board: &CachedBoard<'_>,
         locks: &Locks,
         failed: bool,
         updates: &mut MuxUpdates,
@@ -74,7 +75,7 @@ impl<C: Caller> Seat<C> {
     #[inline(always)]
     pub fn settle(
         &mut self,
-        board: &Accepted,
+        board: &CachedBoard<'_>,
         locks: &Locks,
         journal: &mut Journal,
         updates: &mut MuxUpdates,
@@ -88,7 +89,7 @@ impl<C: Caller> Seat<C> {
             return false;
         };
         let decided = self.decide(verdict);
-        journal.push(&EntryRef::settle(self.number, self.replies.reply(decided), self.cut));
+        journal.push(&self.settle_entry(decided));
         self.lock_done(board, locks, updates);
         true
     }
@@ -96,18 +97,19 @@ impl<C: Caller> Seat<C> {
     /// Settles its refused transfer, with its entry, hands its error over, and loads the next one.
     pub fn refuse<P: Port>(
         &mut self,
-        board: &Accepted,
+        board: &mut CachedBoard<'_>,
         locks: &Locks,
         ports: &[(SegId, P)],
         journal: &mut Journal,
         updates: &mut MuxUpdates,
         errno: Errno,
     )
-        requires { MayRefuse C.Caller board.now (roots_of ports.now) errno journal.old self.old }
-        ensures { IsRefusedIn C.Caller board.now (roots_of ports.now) errno journal.old journal.new self.old self.new }
+        requires { MayRefuse C.Caller board.old (roots_of ports.now) errno journal.old self.old }
+        ensures refused { IsRefusedIn C.Caller board.old (roots_of ports.now) errno journal.old journal.new self.old self.new }
+        ensures board { board.new ≡ board.old }
     {
         let decided = self.decide(Some(errno));
-        journal.push(&EntryRef::settle(self.number, self.replies.reply(decided), self.cut));
+        journal.push(&self.settle_entry(decided));
         self.lock_done(board, locks, updates);
         self.end(board, ports);
     }

@@ -12,7 +12,7 @@ use crate::parts::CoreParts;
 use crate::seat::Seat;
 use bus_journal::Journal;
 use i2c_base::{ByteList, Caller, MOST_CALLERS, NoMemory, SegId};
-use i2c_board::{Accepted, Board};
+use i2c_board::{Accepted, CachedBoard};
 use mux_plan::MuxUpdates;
 use ports::Port;
 use seg_locks::Locks;
@@ -34,12 +34,13 @@ fn depths(alloc: Global, board: &Accepted) -> Result<Vec<u8>, NoMemory>
 
 // A caller takes its seat: it makes room for its replies, and its first transfer is loaded.
 fn seat_of<P: Port, C: Caller>(
-    board: &Accepted,
+    board: &mut CachedBoard<'_>,
     ports: &[(SegId, P)],
     number: u8,
     caller: C,
 ) -> Result<Seat<C>, NoMemory>
-    ensures { IfOk result (IsFreshSeat C.Caller board.now (roots_of ports.now) number caller) }
+    ensures seat { IfOk result (IsFreshSeat C.Caller board.old (roots_of ports.now) number caller) }
+    ensures board { board.new ≡ board.old }
 {
     let mut caller = caller;
     caller.reserve()?;
@@ -59,13 +60,14 @@ fn no_places(alloc: Global) -> Result<Vec<Option<u8>>, NoMemory>
 // The callers take their seats in their order, and each number's place among them is noted.
 fn seats_of<P: Port, C: Caller>(
     alloc: Global,
-    board: &Accepted,
+    board: &mut CachedBoard<'_>,
     ports: &[(SegId, P)],
     callers: Vec<(u8, C)>,
 ) -> Result<(Vec<Seat<C>>, Vec<Option<u8>>), NoMemory>
     requires distinct { AreDistinct (numbers_in callers.items) }
     requires below { (i : ℕ) (x : ℕ × C) → slice_get callers.items i ≡ Some x → x.0 < MOST_CALLERS }
-    ensures { IfOk result (λ r. AreSeated C.Caller board.now (roots_of ports.now) callers.items (length callers.items) r.0.items r.1.items) }
+    ensures seated { IfOk result (λ r. AreSeated C.Caller board.old (roots_of ports.now) callers.items (length callers.items) r.0.items r.1.items) }
+    ensures board { board.new ≡ board.old }
 {
     let mut seats = Vec::with_capacity(alloc, callers.len())?;
     let mut places = no_places(alloc)?;
@@ -99,7 +101,8 @@ pub fn open<'b, P: Port, C: Caller>(
     let roots = board.board().roots().len() as u8;
     let muxes = board.board().muxes().len() as u8;
     let locks = Locks::open(alloc, depths.as_slice(), roots, muxes)?;
-    let (seats, places) = seats_of(alloc, board, ports.as_slice(), callers)?;
+    let mut board = CachedBoard::open(alloc, board)?;
+    let (seats, places) = seats_of(alloc, &mut board, ports.as_slice(), callers)?;
     Ok(CoreParts {
         board,
         ports,

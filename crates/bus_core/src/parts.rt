@@ -2,7 +2,7 @@
 use crate::seat::Seat;
 use bus_journal::Journal;
 use i2c_base::{ByteList, SegId};
-use i2c_board::Accepted;
+use i2c_board::CachedBoard;
 use mux_plan::MuxUpdates;
 use seg_locks::Locks;
 use std::snapshot::Snapshot;
@@ -10,7 +10,7 @@ use std::snapshot::Snapshot;
 /// The parts of the core.
 #[derive(Drop)]
 pub struct CoreParts<'b, P, C> {
-    pub board: &'b Accepted,
+    pub board: CachedBoard<'b>,
     /// The ports, each with its root.
     pub ports: Vec<(SegId, P)>,
     /// The callers, each with its number and where it stands.

@@ -15,7 +15,7 @@ fn can_step<P: Port, C: Caller>(parts: &CoreParts<'_, P, C>, place: usize) -> bo
     ensures can { result ≡ true → CanStepAt parts.now place }
     ensures held_up { result ≡ false → IsHeldUpAt parts.now place }
 {
-    match parts.seats[place].next(parts.board, &parts.locks) {
+    match parts.seats[place].next(&parts.board, &parts.locks) {
         Action::Done => false,
         Action::Take(lock) => parts.locks.holder(lock).is_none(),
         _ => true,

@@ -1,9 +1,10 @@
 //! The reply of a transfer in progress, gathered as its reads come.
 ghost use Rattle.std.specs.Prelude.{◌≡◌, ◌+◌, ◌≤◌, ◌++◌, [], length};
 ghost use Rattle.i2c_base.specs.Limits.{MOST_BYTES};
+ghost use Rattle.i2c_base.specs.Replies.{reply_by, most_read};
 ghost use Rattle.bus_core.specs.Replies.{reply_decided};
 
-use i2c_base::{Bytes, Errno, Reply};
+use i2c_base::{Bytes, Errno, ReplyHead};
 use std::marker::Model;
 
 /// Which of its replies a transfer was settled with.
@@ -14,27 +15,20 @@ pub enum Decided {
     Failed,
 }
 
-/// The reply of a transfer, kept in place: what its reads gave so far, and the two that read nothing. A contract sees
-/// those bytes, and the error.
+/// What a transfer in progress has come to: what its reads gave so far, and the error that it ended with, if it did. A
+/// contract sees both.
 #[derive(Drop)]
 pub struct Replies {
-    read: Reply,
-    failed: Reply,
-    done: Reply,
+    got: Bytes,
+    errno: Errno,
 }
 
 impl Model for Replies {
-    ghost use Rattle.std.specs.Prelude.{◌≡◌};
-    ghost use Rattle.i2c_base.specs.declared.errno.Errno.TheVariants as errno;
-    ghost use Rattle.i2c_base.specs.declared.reply.Reply.TheVariants as reply;
-    ghost use Rattle.i2c_base.specs.Need.{bytes_given};
-    ghost use Rattle.bus_core.specs.Replies.{RepliesView, IsRead, IsErr, errno_in};
+    ghost use Rattle.bus_core.specs.Replies.{RepliesView};
 
     ghost Value = { RepliesView };
 
-    ghost view = { λ r. record { got = bytes_given r.read; errno = errno_in r.failed errno.Eio } };
-
-    ghost invariant = { λ r. IsRead r.read × IsErr r.failed × (r.done ≡ reply.Done) };
+    ghost view = { λ r. record { got = r.got; errno = r.errno } };
 }
 
 impl Replies {
@@ -43,9 +37,8 @@ impl Replies {
         ensures { result.got ≡ [] }
     {
         Replies {
-            read: Reply::Read(Bytes::new()),
-            failed: Reply::Err(Errno::Eio),
-            done: Reply::Done,
+            got: Bytes::new(),
+            errno: Errno::Eio,
         }
     }
 
@@ -53,10 +46,7 @@ impl Replies {
     pub fn clear(&mut self)
         ensures { self.new.got ≡ [] }
     {
-        match &mut self.read {
-            Reply::Read(bytes) => bytes.clear(),
-            Reply::Done | Reply::Err(_) => {}
-        }
+        self.got.clear();
     }
 
     /// Puts bytes that were read at the end.
@@ -64,30 +54,25 @@ impl Replies {
         requires { length self.old.got + length bytes.now ≤ MOST_BYTES }
         ensures { self.new ≡ record self.old { got = self.old.got ++ bytes.now } }
     {
-        match &mut self.read {
-            Reply::Read(got) => got.extend(bytes),
-            Reply::Done | Reply::Err(_) => {}
-        }
+        self.got.extend(bytes);
     }
 
     /// The transfer ended with this error.
     pub fn fail(&mut self, errno: Errno)
         ensures { self.new ≡ record self.old { errno = errno } }
     {
-        match &mut self.failed {
-            Reply::Err(failed) => *failed = errno,
-            Reply::Done | Reply::Read(_) => {}
-        }
+        self.errno = errno;
     }
 
-    /// The reply that the transfer was settled with.
-    pub fn reply(&self, decided: Decided) -> &Reply
-        ensures { result.now ≡ reply_decided decided self.now }
+    /// The reply that the transfer was settled with: its head, and its bytes where they lie.
+    pub fn reply(&self, decided: Decided) -> (ReplyHead, &[u8])
+        ensures same { reply_by result.0 result.1.now ≡ reply_decided decided self.now }
+        ensures few { length result.1.now ≤ most_read result.0 }
     {
         match decided {
-            Decided::Done => &self.done,
-            Decided::Read => &self.read,
-            Decided::Failed => &self.failed,
+            Decided::Done => (ReplyHead::Done, &[]),
+            Decided::Read => (ReplyHead::Read, self.got.as_slice()),
+            Decided::Failed => (ReplyHead::Err(self.errno), &[]),
         }
     }
 }

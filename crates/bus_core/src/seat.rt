@@ -2,7 +2,10 @@
 ghost use Rattle.std.specs.Prelude.{◌≡◌, ◌≢◌, ◌+◌, ◌<◌, ◌≤◌, true, false, [], ◌∷◌, ◌++◌, length, take, sum_by, Option, None, Some, IfSome, slice_get, if◌then◌else◌};
 ghost use Rattle.i2c_base.specs.Limits.{MOST_BYTES};
 ghost use Rattle.i2c_base.specs.declared.reply.Cut.TheVariants as cut_at;
+ghost use Rattle.i2c_base.specs.Need.{bytes_given};
+ghost use Rattle.i2c_base.specs.declared.entry.Entry.TheVariants as entry;
 ghost use Rattle.i2c_base.specs.declared.entry.Purpose.TheVariants as purpose;
+ghost use Rattle.bus_journal.specs.Borrowed.{entry_seen, most_bytes};
 ghost use Rattle.i2c_base.specs.Board.{BoardView};
 ghost use Rattle.i2c_base.specs.declared.reply.Reply.{Reply};
 ghost use Rattle.i2c_base.specs.Fitting.{Fits};
@@ -30,9 +33,10 @@ ghost use Rattle.bus_core.specs.Seats.{HasEnded, MayEnd, MayHear, updates_of, go
 
 use crate::marks::seen as words_of;
 use crate::replies::{Decided, Replies};
+use bus_journal::EntryRef;
 use bus_message::{MsgResult, TransferCursor};
-use i2c_base::{Caller, Cut, End, Errno, Grant, Kind, Purpose, Reply, SegId, Transfer};
-use i2c_board::Accepted;
+use i2c_base::{Caller, Cut, End, Errno, Grant, Kind, Purpose, SegId, Transfer};
+use i2c_board::CachedBoard;
 use mux_plan::{Action, MuxUpdates, NextMsg, Outcome, Walk};
 use ports::Port;
 use seg_locks::Locks;
@@ -110,7 +114,7 @@ impl<C: Caller> Seat<C> {
     }
 
     /// The next action of its walk, where the lock words answer its looks: Done exactly where the walk is over.
-    pub fn next(&self, board: &Accepted, locks: &Locks) -> Action
+    pub fn next(&self, board: &CachedBoard<'_>, locks: &Locks) -> Action
         requires { length (messages_of self.now.transfer) ≡ self.now.walk.route.count }
         ensures first { result ≡ action_of (next_of locks.now (walk_left board.now self.now)) }
         ensures over { result ≡ action.Done → is_over (walk_left board.now self.now) ≡ true }
@@ -129,7 +133,7 @@ impl<C: Caller> Seat<C> {
     /// Goes on in its walk behind that action, which had this outcome, and tells what it changes of the lock words.
     pub fn advance_walk(
         &mut self,
-        board: &Accepted,
+        board: &CachedBoard<'_>,
         locks: &Locks,
         outcome: &Outcome<'_>,
         updates: &mut MuxUpdates,
@@ -145,7 +149,7 @@ impl<C: Caller> Seat<C> {
     }
 
     /// Goes on in its walk behind a lock or a settle, which tell no cut.
-    pub fn lock_done(&mut self, board: &Accepted, locks: &Locks, updates: &mut MuxUpdates)
+    pub fn lock_done(&mut self, board: &CachedBoard<'_>, locks: &Locks, updates: &mut MuxUpdates)
         requires { length (messages_of self.old.transfer) ≡ self.old.walk.route.count }
         ensures walk { walk_left board.now self.new ≡ behind_of locks.now (walk_left board.now self.old) Passed }
         ensures same { self.new ≡ record self.old { walk = self.new.walk; cut = cut_at.No } }
@@ -156,7 +160,7 @@ impl<C: Caller> Seat<C> {
     }
 
     // To whom its next message leads; a control message, which is none of its own, to nobody.
-    fn grant(&self, board: &Accepted, next: &NextMsg) -> Grant
+    fn grant(&self, board: &CachedBoard<'_>, next: &NextMsg) -> Grant
         requires on_bus { next.now.purpose ≡ purpose.Call → self.now.transfer.bus < buses board.now }
         requires more { next.now.purpose ≡ purpose.Call → self.now.sent < length self.now.transfer.msgs }
         ensures whole { next.now.purpose ≡ purpose.Call → IsTransfer self.now.transfer.msgs self.now.transfer.out }
@@ -165,15 +169,15 @@ impl<C: Caller> Seat<C> {
         match next.purpose {
             Purpose::Call => {
                 let msg = self.transfer.msgs()[usize::from(self.sent)];
-                let bus = SegId(self.transfer.bus());
-                board.board().grant(bus, msg.addr, self.transfer.force())
+                let bus = self.transfer.bus();
+                board.grant(bus, msg.addr, self.transfer.force())
             }
             Purpose::Control(_) => Grant::Nobody,
         }
     }
 
     /// Its transfer, as far as the message goes that comes next of its walk.
-    pub fn cursor(&self, board: &Accepted, next: &NextMsg) -> TransferCursor<'_>
+    pub fn cursor(&self, board: &CachedBoard<'_>, next: &NextMsg) -> TransferCursor<'_>
         requires on_bus { next.now.purpose ≡ purpose.Call → self.now.transfer.bus < buses board.now }
         requires more { next.now.purpose ≡ purpose.Call → self.now.sent < length self.now.transfer.msgs }
         requires wrote { self.now.written ≡ sum_by written_of (take self.now.sent self.now.transfer.msgs) }
@@ -255,6 +259,16 @@ impl<C: Caller> Seat<C> {
         decided
     }
 
+    /// The entry of the settle that was decided.
+    pub fn settle_entry(&self, decided: Decided) -> EntryRef<'_>
+        ensures seen { entry_seen result ≡ entry.Settle self.now.number (reply_decided decided self.now.replies) self.now.cut }
+        ensures bytes { result.bytes.now ≡ bytes_given (reply_decided decided self.now.replies) }
+        ensures few { length result.bytes.now ≤ most_bytes result.head }
+    {
+        let (head, bytes) = self.replies.reply(decided);
+        EntryRef::settle(self.number, head, bytes, self.cut)
+    }
+
     /// Hands the reply that its transfer was settled with to the caller.
     pub fn hand(&mut self, decided: Decided)
         requires fits { (asked_next C.Caller self.old ≡ Some self.old.transfer) × Fits self.old.transfer (reply_decided decided self.old.replies) }
@@ -264,21 +278,23 @@ impl<C: Caller> Seat<C> {
         ensures taken { C.taken self.new.caller ≡ C.taken self.old.caller ++ reply_decided decided self.old.replies ∷ [] }
         ensures room { HasSpare C.Caller self.new }
     {
-        self.caller.take(self.replies.reply(decided));
+        let (head, bytes) = self.replies.reply(decided);
+        self.caller.take(head, bytes);
     }
 
     /// Loads the caller's next transfer, where it has one. Its walk is over before.
-    pub fn load<P: Port>(&mut self, board: &Accepted, ports: &[(SegId, P)])
-        requires over { is_over (walk_left board.now self.old) ≡ true }
+    pub fn load<P: Port>(&mut self, board: &mut CachedBoard<'_>, ports: &[(SegId, P)])
+        requires over { is_over (walk_left board.old self.old) ≡ true }
         requires counted { length (messages_of self.old.transfer) ≡ self.old.walk.route.count }
-        ensures some { (t : TransferView) → asked_next C.Caller self.old ≡ Some t → (self.new.transfer ≡ t) × (walk_left board.now self.new ≡ walk_for board.now t) }
-        ensures none { asked_next C.Caller self.old ≡ None → is_over (walk_left board.now self.new) ≡ true }
+        ensures some { (t : TransferView) → asked_next C.Caller self.old ≡ Some t → (self.new.transfer ≡ t) × (walk_left board.old self.new ≡ walk_for board.old t) }
+        ensures none { asked_next C.Caller self.old ≡ None → is_over (walk_left board.old self.new) ≡ true }
         ensures stays { asked_next C.Caller self.old ≡ None → self.new.transfer ≡ self.old.transfer }
         ensures same { self.new ≡ record self.old { transfer = self.new.transfer; walk = self.new.walk; port = self.new.port; sent = 0; written = 0; replies = self.new.replies; decided = None } }
         ensures cleared { self.new.replies.got ≡ [] }
         ensures counted { length (messages_of self.new.transfer) ≡ self.new.walk.route.count }
-        ensures plugged { HasRoot (roots_of ports.now) (root_of board.now self.new.transfer.bus) → self.new.transfer.bus < buses board.now → is_over (walk_left board.now self.new) ≡ false
-            → slice_get (roots_of ports.now) self.new.port ≡ Some (root_of board.now self.new.transfer.bus) }
+        ensures plugged { HasRoot (roots_of ports.now) (root_of board.old self.new.transfer.bus) → self.new.transfer.bus < buses board.old → is_over (walk_left board.old self.new) ≡ false
+            → slice_get (roots_of ports.now) self.new.port ≡ Some (root_of board.old self.new.transfer.bus) }
+        ensures board { board.new ≡ board.old }
     {
         self.sent = 0;
         self.written = 0;
@@ -292,12 +308,13 @@ impl<C: Caller> Seat<C> {
     }
 
     /// Where its walk is over: hands the reply over, and loads the caller's next transfer.
-    pub fn end<P: Port>(&mut self, board: &Accepted, ports: &[(SegId, P)])
-        requires may { MayEnd C.Caller board.now (roots_of ports.now) self.old }
-        ensures on { is_over (walk_left board.now self.old) ≡ false → self.new ≡ self.old }
+    pub fn end<P: Port>(&mut self, board: &mut CachedBoard<'_>, ports: &[(SegId, P)])
+        requires may { MayEnd C.Caller board.old (roots_of ports.now) self.old }
+        ensures on { is_over (walk_left board.old self.old) ≡ false → self.new ≡ self.old }
         ensures number { self.new.number ≡ self.old.number }
-        ensures ended { is_over (walk_left board.now self.old) ≡ true → (r : Reply) → owed_by self.old.decided self.old.replies ≡ r ∷ [] → HasEnded C.Caller board.now r self.old.cut self.old self.new }
-        ensures seated { IsSeated C.Caller board.now (roots_of ports.now) self.new }
+        ensures ended { is_over (walk_left board.old self.old) ≡ true → (r : Reply) → owed_by self.old.decided self.old.replies ≡ r ∷ [] → HasEnded C.Caller board.old r self.old.cut self.old self.new }
+        ensures seated { IsSeated C.Caller board.old (roots_of ports.now) self.new }
+        ensures board { board.new ≡ board.old }
     {
         if !self.walk.is_over() {
             return;

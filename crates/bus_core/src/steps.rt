@@ -49,7 +49,7 @@ fn take<P: Port, C: Caller>(parts: &mut CoreParts<'_, P, C>, place: usize, lock:
     ensures { HasMadeStep P.Port C.Caller place parts.old parts.new }
 {
     let seat = &mut parts.seats[place];
-    seat.lock_done(parts.board, &parts.locks, &mut parts.updates);
+    seat.lock_done(&parts.board, &parts.locks, &mut parts.updates);
     let caller = seat.number;
     parts.journal.push(&EntryRef {
         head: Head::Take {
@@ -69,7 +69,7 @@ fn free<P: Port, C: Caller>(parts: &mut CoreParts<'_, P, C>, place: usize, lock:
 {
     let seat = &mut parts.seats[place];
     seat.free_done(
-        parts.board,
+        &mut parts.board,
         &parts.locks,
         parts.ports.as_slice(),
         &mut parts.updates,
@@ -96,15 +96,15 @@ fn send_and_record<P: Port, C: Caller>(
     ensures { HasMadeStep P.Port C.Caller place parts.old parts.new }
 {
     let seat = &mut parts.seats[place];
-    let cursor = seat.cursor(parts.board, next);
+    let cursor = seat.cursor(&parts.board, next);
     let port = &mut parts.ports[seat.port].1;
-    let msg = send_next(parts.board, port, &cursor, next, &mut parts.bytes);
+    let msg = send_next(&parts.board, port, &cursor, next, &mut parts.bytes);
     let bytes = parts.bytes.as_slice();
     parts
         .journal
         .push(&message_entry(seat.number, next, &msg, bytes));
     seat.message_done(
-        parts.board,
+        &parts.board,
         &parts.locks,
         next,
         &msg,
@@ -113,7 +113,7 @@ fn send_and_record<P: Port, C: Caller>(
     );
     set_marks(&mut parts.locks, seat.number, parts.updates.as_slice());
     seat.settle(
-        parts.board,
+        &parts.board,
         &parts.locks,
         &mut parts.journal,
         &mut parts.updates,
@@ -138,10 +138,10 @@ fn switch<P: Port, C: Caller>(parts: &mut CoreParts<'_, P, C>, place: usize, mux
         },
         bytes: &[],
     });
-    seat.line_done(parts.board, &parts.locks, failed, &mut parts.updates);
+    seat.line_done(&parts.board, &parts.locks, failed, &mut parts.updates);
     set_marks(&mut parts.locks, caller, parts.updates.as_slice());
     seat.settle(
-        parts.board,
+        &parts.board,
         &parts.locks,
         &mut parts.journal,
         &mut parts.updates,
@@ -157,7 +157,7 @@ fn refuse<P: Port, C: Caller>(parts: &mut CoreParts<'_, P, C>, place: usize, ver
 {
     if let Some(errno) = verdict {
         parts.seats[place].refuse(
-            parts.board,
+            &mut parts.board,
             &parts.locks,
             parts.ports.as_slice(),
             &mut parts.journal,
@@ -188,7 +188,7 @@ pub fn step<P: Port, C: Caller>(parts: &mut CoreParts<'_, P, C>, place: usize) -
     ensures blocked { (l : LockId) (h : ℕ) → result ≡ answer.Blocked l h → (parts.new ≡ parts.old) × IsBlockedAt parts.old place l h }
     ensures finished { result ≡ answer.Finished → (parts.new ≡ parts.old) × HasEndedAt parts.old place }
 {
-    let next = parts.seats[place].next(parts.board, &parts.locks);
+    let next = parts.seats[place].next(&parts.board, &parts.locks);
     match &next {
         Action::Done => return StepAnswer::Finished,
         Action::Take(lock) => {

@@ -1,10 +1,12 @@
-use Rattle.std.proofs.Common.{◌≡◌, ℕ, List, length, refl, ◌∙◌, ap, subst, rules}
+use Rattle.std.proofs.Common.{◌≡◌, ℕ, List, length, refl, sym, ◌∙◌, ap, subst, rules}
 use Rattle.i2c_base.specs.Board.{BoardView}
 use Rattle.bus_journal.specs.View.{JournalView}
 use Rattle.i2c_spec.specs.Plain.{IsPlainBoard}
+use Rattle.i2c_spec.specs.Rules.{MeetsRules}
+use Rattle.core_laws.specs.Opens.{AreDepths}
 use Rattle.seg_locks.specs.Locks.{opened}
 use Rattle.bus_core.specs.Kept.{roots_of}
-use Rattle.bus_core.specs.Opens.{AreSeated}
+use Rattle.bus_core.specs.Opens.{AreSeated, MayOpen}
 use Rattle.bus_core.proofs.Opened.{opened-core}
 use Rattle.bus_core.proofs.Seating.{seated-all}
 use Rattle.bus_core.proofs.opening.open.Goals as goal
@@ -12,12 +14,15 @@ use Rattle.bus_core.proofs.opening.open.Goals as goal
 pub returns-clause-core : goal.returns-clause-core
 returns-clause-core g c =
     let b = c.args.board.now in
+    let same : c.seats_of.new.board ≡ b = c.in_ok-seats.ensures.board ∙ c.in_ok-board.ensures in
     let plain : IsPlainBoard b = subst IsPlainBoard c.board.ensures.value c.roots.ensures.plain in
     let seated : AreSeated g.C.Caller b (roots_of c.args.ports.items) c.args.callers.items
     (length c.args.callers.items) c.in_ok-seats.seats.items c.in_ok-seats.places.items =
-    subst (λ (xs : List _). AreSeated g.C.Caller b (roots_of xs) c.args.callers.items
+    subst (λ (y : BoardView). AreSeated g.C.Caller y (roots_of c.args.ports.items) c.args.callers.items
+    (length c.args.callers.items) c.in_ok-seats.seats.items c.in_ok-seats.places.items) c.in_ok-board.ensures
+    (subst (λ (xs : List _). AreSeated g.C.Caller c.in_ok-board.board (roots_of xs) c.args.callers.items
     (length c.args.callers.items) c.in_ok-seats.seats.items c.in_ok-seats.places.items)
-    c.as_slice-2.ensures.value c.in_ok-seats.ensures in
+    c.as_slice-2.ensures.value c.in_ok-seats.ensures.seated) in
     let roots : length c.roots.result.now ≡ length b.roots = ap length c.roots.ensures.value
     ∙ ap (λ (x : BoardView). length x.roots) c.board.ensures.value in
     let muxes : length c.muxes.result.now ≡ length b.muxes = ap length c.muxes.ensures.value
@@ -26,19 +31,24 @@ returns-clause-core g c =
     c.in_ok-locks.ensures ∙ ap (λ (ds : List ℕ). opened ds (length c.roots.result.now) (length c.muxes.result.now)) c.as_slice.ensures.value
     ∙ ap (λ (n : ℕ). opened c.in_ok-depths.depths.items n (length c.muxes.result.now)) roots
     ∙ ap (opened c.in_ok-depths.depths.items (length b.roots)) muxes in
-    opened-core g.P.Port g.C.Caller _ c.args.callers.items c.args.limit c.requires plain c.board.ensures.rules seated
-    c.in_ok-depths.depths.items c.in_ok-depths.ensures.are locks c.in_ok-journal.ensures
+    opened-core g.P.Port g.C.Caller _ c.args.callers.items c.args.limit
+    (subst (λ (y : BoardView). MayOpen g.P.Port g.C.Caller y c.args.ports.items c.args.callers.items c.args.limit) (sym same) c.requires)
+    (subst IsPlainBoard (sym same) plain) (subst MeetsRules (sym same) c.board.ensures.rules)
+    (subst (λ (y : BoardView). AreSeated g.C.Caller y (roots_of c.args.ports.items) c.args.callers.items
+    (length c.args.callers.items) c.in_ok-seats.seats.items c.in_ok-seats.places.items) (sym same) seated)
+    c.in_ok-depths.depths.items (subst (λ (y : BoardView). AreDepths y c.in_ok-depths.depths.items) (sym same) c.in_ok-depths.ensures.are)
+    (locks ∙ ap (λ (y : BoardView). opened c.in_ok-depths.depths.items (length y.roots) (length y.muxes)) (sym same))
+    c.in_ok-journal.ensures
 
 pub returns-clause-opened : goal.returns-clause-opened
 returns-clause-opened g c =
-    let b = c.args.board.now in
     record {
-      board = refl;
+      board = c.in_ok-seats.ensures.board ∙ c.in_ok-board.ensures;
       ports_are = refl;
       start = search rules;
-      scripts = seated-all g.C.Caller b
+      scripts = seated-all g.C.Caller c.in_ok-board.board
           (roots_of c.as_slice-2.result.now) c.args.callers.items c.in_ok-seats.seats.items c.in_ok-seats.places.items
-          c.in_ok-seats.ensures;
+          c.in_ok-seats.ensures.seated;
       entries = ap (λ (j : JournalView). j.entries) c.in_ok-journal.ensures;
       room = ap (λ (j : JournalView). j.room) c.in_ok-journal.ensures;
     }

@@ -13,8 +13,8 @@ use Rattle.bus_core.proofs.SeatLemmas.{asks_or_not}
 use Rattle.bus_core.proofs.There.{there-for}
 use Rattle.bus_core.proofs.opening.seat_of.Goals as goal
 
-pub returns : goal.returns
-returns g c =
+pub returns-clause-seat : goal.returns-clause-seat
+returns-clause-seat g c =
     let same = c.load.ensures.same in
     let new = c.load.new.self in
     let script_of = g.C.Caller.script in

@@ -1,10 +1,11 @@
-use Rattle.std.proofs.Common.{◌≡◌, ◌+◌, ◌<◌, ◌≤◌, ℕ, List, [], ◌∷◌, ◌++◌, length, set, Option, Some, sym, ◌∙◌, ap, subst, arith, rules}
+use Rattle.std.proofs.Common.{◌≡◌, ◌+◌, ◌<◌, ◌≤◌, ℕ, List, [], ◌∷◌, ◌++◌, length, set, Option, Some, refl, sym, ◌∙◌, ap, subst, arith, rules}
 use Rattle.std.specs.Prelude.{slice_get, vec_len, vec_capacity}
 use Rattle.std.specs.Vec.Iter.{into_iter_items, into_iter_len}
 use Rattle.std.proofs.lemmas.List.{length-append, append_assoc}
+use Rattle.i2c_base.specs.Board.{BoardView}
 use Rattle.i2c_base.specs.Limits.{MOST_CALLERS}
 use Rattle.bus_core.specs.Kept.{roots_of}
-use Rattle.bus_core.specs.Opens.{AreSeated}
+use Rattle.bus_core.specs.Opens.{AreSeated, IsFreshSeat}
 use Rattle.bus_core.specs.declared.seat.Seat.{Seat}
 use Rattle.bus_core.proofs.Seating.{seated-none, seated-one, room-for-one, push_here}
 use Rattle.bus_core.proofs.opening.seats_of.Goals as goal
@@ -13,6 +14,7 @@ pub loop-number-init : goal.loop-number-init
 loop-number-init g c =
     let gives = c.into_iter-number-iterator.ensures.into_iter_gives in
     record {
+      board = refl;
       seated = seated-none g.C.Caller c.args.board.now
           (roots_of c.args.ports.now) c.args.callers.items c.in_ok-seats.seats.items c.in_ok-places.places.items c.in_ok-seats.ensures.items
           c.in_ok-places.ensures;
@@ -80,13 +82,16 @@ loop-number-preserved g c =
     let places = set c.loop-number.places.items c.in-Some.number (Some (length yielded)) in
     let more = seated-one g.C.Caller c.args.board.now (roots_of c.args.ports.now) c.args.callers.items
     (length yielded) c.loop-number.seats.items c.loop-number.places.items at.seated
-    c.requires.distinct x here (c.requires.below (length yielded) x here) c.in_ok-seat.seat c.in_ok-seat.ensures in
+    c.requires.distinct x here (c.requires.below (length yielded) x here) c.in_ok-seat.seat
+    (subst (λ (b : BoardView). IsFreshSeat g.C.Caller b (roots_of c.args.ports.now) c.in-Some.number c.in-Some.caller c.in_ok-seat.seat)
+    at.board c.in_ok-seat.ensures.seat) in
     let noted : places ≡ set c.loop-number.places.items c.from.result (Some c.len-in-loop-number.result) =
     ap (λ (n : ℕ). set c.loop-number.places.items n (Some (length yielded))) (sym is)
     ∙ ap (λ (n : ℕ). set c.loop-number.places.items c.from.result (Some n)) (sym place) in
     let more_len : into_iter_len c.next.new.self + 1 ≡ into_iter_len c.loop-number.number-iterator = c.in-Some.ensures.steps.1 in
     let was_len : into_iter_len c.loop-number.number-iterator ≡ length (x ∷ rest) = at.rest ∙ ap length steps in
     record {
+      board = c.seat_of.ensures.board ∙ at.board;
       seated = subst (λ (n : ℕ). AreSeated g.C.Caller c.args.board.now
           (roots_of c.args.ports.now) c.args.callers.items n c.push_reserved.new.self.items
           (set c.loop-number.places.items c.from.result (Some c.len-in-loop-number.result)))
@@ -100,8 +105,8 @@ loop-number-preserved g c =
       room = subst (λ (n : ℕ). length c.args.callers.items ≤ n) (sym c.push_reserved.ensures.capacity) at.room;
     }
 
-pub returns : goal.returns
-returns g c =
+pub returns-clause-seated : goal.returns-clause-seated
+returns-clause-seated g c =
     let at = c.loop-number.invariant in
     let none : into_iter_len c.loop-number.number-iterator ≡ 0 = c.in-None.ensures.steps.0 in
     let count : length c.loop-number.yielded + length (into_iter_items c.loop-number.number-iterator) ≡ length c.args.callers.items =

@@ -26,7 +26,7 @@ steps-preserved g c =
       core = c.advance_least.ensures.core;
       come = come-then g.P.Port g.C.Caller c.args.parts.now x new was.come least.made.come;
       keeps = λ words keeps. least-keeps g.P.Port g.C.Caller x was.core least.caller new least.made
-          (λ ws old plain rules some steps due t turn before kept. c.a_loop_follows.ensures.least x.board.now MOST_CALLERS
+          (λ ws old plain rules some steps due t turn before kept. c.a_loop_follows.ensures.least x.board MOST_CALLERS
           (asks_in g.C.Caller x) ws old plain rules some steps due t turn before kept)
           least.place least.at least.before words (was.keeps words keeps);
     }

@@ -19,9 +19,9 @@ loop-place-init g c =
       end_is = refl;
       core = c.requires.core;
       come = come-refl g.P.Port g.C.Caller x;
-      keeps = λ empty tell. subst (λ (es : List Entry). KeepsTo x.board.now MOST_CALLERS
+      keeps = λ empty tell. subst (λ (es : List Entry). KeepsTo x.board MOST_CALLERS
           (asks_in g.C.Caller x) c.args.words.now c.args.words.now (reverse es)) (sym empty)
-          (c.a_loop_follows.ensures.whole x.board.now MOST_CALLERS (asks_in g.C.Caller x) c.args.words.now);
+          (c.a_loop_follows.ensures.whole x.board MOST_CALLERS (asks_in g.C.Caller x) c.args.words.now);
     }
 
 pub advance-requires-clause-has : goal.advance-requires-clause-has
@@ -41,9 +41,9 @@ loop-place-preserved g c =
     × ((empty : c.args.parts.now.journal.entries ≡ [])
     → KeepsSchedule g.P.Port g.C.Caller words (drop (c.loop-place.place + 1) words) new) =
     stepped-or-waited g.P.Port g.C.Caller x was.core
-    (λ ws old plain rules some steps due t turn left kept. c.a_loop_follows.ensures.made x.board.now MOST_CALLERS
+    (λ ws old plain rules some steps due t turn left kept. c.a_loop_follows.ensures.made x.board MOST_CALLERS
     (asks_in g.C.Caller x) ws old plain rules some steps due t turn left kept)
-    (λ ws old plain rules some steps k stuck left kept. c.a_loop_follows.ensures.passed x.board.now MOST_CALLERS
+    (λ ws old plain rules some steps k stuck left kept. c.a_loop_follows.ensures.passed x.board MOST_CALLERS
     (asks_in g.C.Caller x) ws old plain rules some steps k stuck left kept)
     w new c.advance.result c.advance.ensures.made c.advance.ensures.waited (c.args.parts.now.journal.entries ≡ []) words
     (drop (c.loop-place.place + 1) words)
@@ -68,8 +68,8 @@ returns g c =
           (omega (arith, was.end_is, c.loop-place-test.false)) in
           let new = c.finish.new.parts in
           subst (λ (es : List Entry). Follows c.args.words.now es) (reverse-reverse new.journal.entries)
-          (c.a_loop_follows.ensures.end new.board.now MOST_CALLERS (asks_in g.C.Caller new) c.args.words.now (reverse new.journal.entries)
+          (c.a_loop_follows.ensures.end new.board MOST_CALLERS (asks_in g.C.Caller new) c.args.words.now (reverse new.journal.entries)
           (c.finish.ensures.keeps c.args.words.now
-          (λ t. subst (λ (ws : List ℕ). KeepsTo x.board.now MOST_CALLERS (asks_in g.C.Caller x) c.args.words.now ws
+          (λ t. subst (λ (ws : List ℕ). KeepsTo x.board MOST_CALLERS (asks_in g.C.Caller x) c.args.words.now ws
           (reverse x.journal.entries)) left (was.keeps empty t)) tell));
     }

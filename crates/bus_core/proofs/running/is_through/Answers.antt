@@ -21,7 +21,7 @@ returns-in-Some-clause-through g c is place here =
       seat = c.index-in-Some.result.now;
       here = slice_get-get_or x.seats.items c.from-in-Some.result c.index-in-Some.result.now (omega (arith, inside, c.from-in-Some.ensures))
           ∙ ap Some (sym c.index-in-Some.ensures);
-      over = sym (c.is_over.ensures x.board.now (messages_of c.index-in-Some.result.now.transfer)) ∙ is;
+      over = sym (c.is_over.ensures x.board (messages_of c.index-in-Some.result.now.transfer)) ∙ is;
     })))
 
 pub returns-in-Some-clause-there : goal.returns-in-Some-clause-there

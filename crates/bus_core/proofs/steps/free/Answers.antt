@@ -1,7 +1,7 @@
 use Rattle.std.proofs.Common.{◌≡◌, ℕ, ◌<◌, List, [], ◌∷◌, ◌++◌, Some, refl, sym, ◌∙◌, ap, subst, arith}
 use Rattle.i2c_base.specs.Limits.{MOST_CALLERS}
 use Rattle.i2c_base.specs.declared.entry.Entry.TheVariants as entry
-use Rattle.seg_locks.specs.Locks.{holder_in, with_holder}
+use Rattle.seg_locks.specs.Locks.{holder_in}
 use Rattle.core_laws.proofs.Laws.{free-wants}
 use Rattle.bus_core.specs.Kept.{roots_of, run_of, whole_of}
 use Rattle.bus_core.specs.Places.{place_of}
@@ -16,8 +16,8 @@ pub free_done-requires-after_bounds : goal.free_done-requires-after_bounds
 free_done-requires-after_bounds g c κs within =
     let x = c.args.parts.now in
     let next = c.requires.next in
-    subst (λ (ps : List _). MayEnd g.C.Caller x.board.now (roots_of ps) c.index_mut-seat.result.now) (sym c.as_slice.ensures.value)
-    (subst (λ (y : Seat _). MayEnd g.C.Caller x.board.now (roots_of x.ports.items) y)
+    subst (λ (ps : List _). MayEnd g.C.Caller x.board (roots_of ps) c.index_mut-seat.result.now) (sym c.as_slice.ensures.value)
+    (subst (λ (y : Seat _). MayEnd g.C.Caller x.board (roots_of x.ports.items) y)
     (sym (read_here x.seats.items c.args.place next.seat c.index_mut-seat.result.now next.here c.index_mut-seat.ensures.value))
     (free-may g.P.Port g.C.Caller x c.requires.kept c.args.place next.seat next.here c.args.lock.now next.next))
 
@@ -31,17 +31,17 @@ free-requires g c =
     let x = c.args.parts.now in
     let s = c.requires.next.seat in
     let here = c.requires.next.here in
-    let freed : HasFreed g.C.Caller x.board.now x.locks (roots_of x.ports.items) s c.free_done.new.self =
-    subst (λ (y : Seat _). HasFreed g.C.Caller x.board.now x.locks (roots_of x.ports.items) y c.free_done.new.self)
+    let freed : HasFreed g.C.Caller x.board x.locks (roots_of x.ports.items) s c.free_done.new.self =
+    subst (λ (y : Seat _). HasFreed g.C.Caller x.board x.locks (roots_of x.ports.items) y c.free_done.new.self)
     (read_here x.seats.items c.args.place s c.index_mut-seat.result.now here c.index_mut-seat.ensures.value)
-    (subst (λ (ps : List _). HasFreed g.C.Caller x.board.now x.locks (roots_of ps) c.index_mut-seat.result.now c.free_done.new.self)
-    c.as_slice.ensures.value c.free_done.ensures) in
+    (subst (λ (ps : List _). HasFreed g.C.Caller x.board x.locks (roots_of ps) c.index_mut-seat.result.now c.free_done.new.self)
+    c.as_slice.ensures.value c.free_done.ensures.freed) in
     let number : c.free_done.new.self.number ≡ s.number =
     freed-number g.P.Port g.C.Caller x c.requires.kept c.args.place s here c.args.lock.now c.requires.next.next c.free_done.new.self
     freed in
     let wants = free-wants (run_of g.P.Port g.C.Caller x)
     (whole_of g.P.Port g.C.Caller x c.requires.kept.held c.requires.kept.owes) c.requires.kept.kept c.args.place
-    (place_of g.C.Caller x.board.now s)
+    (place_of g.C.Caller x.board s)
     (place-here g.P.Port g.C.Caller x c.requires.kept c.args.place s here) c.args.lock.now c.requires.next.next in
     record {
       there = wants.0;
@@ -55,15 +55,15 @@ returns g c =
     let s = c.requires.next.seat in
     let here = c.requires.next.here in
     let t = c.free_done.new.self in
-    let freed : HasFreed g.C.Caller x.board.now x.locks (roots_of x.ports.items) s t =
-    subst (λ (y : Seat _). HasFreed g.C.Caller x.board.now x.locks (roots_of x.ports.items) y t)
+    let freed : HasFreed g.C.Caller x.board x.locks (roots_of x.ports.items) s t =
+    subst (λ (y : Seat _). HasFreed g.C.Caller x.board x.locks (roots_of x.ports.items) y t)
     (read_here x.seats.items c.args.place s c.index_mut-seat.result.now here c.index_mut-seat.ensures.value)
-    (subst (λ (ps : List _). HasFreed g.C.Caller x.board.now x.locks (roots_of ps) c.index_mut-seat.result.now t) c.as_slice.ensures.value
-    c.free_done.ensures) in
+    (subst (λ (ps : List _). HasFreed g.C.Caller x.board x.locks (roots_of ps) c.index_mut-seat.result.now t) c.as_slice.ensures.value
+    c.free_done.ensures.freed) in
     let number : t.number ≡ s.number =
     freed-number g.P.Port g.C.Caller x c.requires.kept c.args.place s here c.args.lock.now c.requires.next.next t freed in
     let entries = c.push.ensures.entries ∙ ap (λ (n : ℕ). x.journal.entries ++ entry.Free n c.args.lock.now ∷ []) number in
     let bytes : c.push.new.self.room_bytes ≡ x.journal.room_bytes = (let b = c.push.ensures.room_bytes in omega (arith, b)) in
-    let both = free-kept g.P.Port g.C.Caller x c.requires.kept c.args.place s here c.args.lock.now c.requires.next.next _ t refl refl freed
+    let both = free-kept g.P.Port g.C.Caller x c.requires.kept c.args.place s here c.args.lock.now c.requires.next.next _ t c.free_done.ensures.board refl freed
     c.free.ensures refl entries c.push.ensures.room bytes refl refl in
     record { kept = both.0; stepped = both.1 }

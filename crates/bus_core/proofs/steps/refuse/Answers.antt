@@ -1,4 +1,4 @@
-use Rattle.std.proofs.Common.{◌≡◌, ◌<◌, ℕ, List, Option, Some, None, refl, sym, ◌∙◌, ap, subst}
+use Rattle.std.proofs.Common.{◌<◌, ℕ, List, Option, Some, None, refl, sym, ◌∙◌, ap, subst}
 use Rattle.std.proofs.lemmas.Option.{slice_get_within}
 use Rattle.i2c_base.specs.declared.errno.Errno.{Errno}
 use Rattle.bus_spec.specs.Walk.{Settle}
@@ -21,9 +21,9 @@ pub refuse-requires-after_bounds : goal.refuse-requires-after_bounds
 refuse-requires-after_bounds g c κs within =
     let x = c.args.parts.now in
     let next = c.requires.next in
-    subst (λ (ps : List _). MayRefuse g.C.Caller x.board.now (roots_of ps) c.in-Some.errno x.journal c.index_mut.result.now)
+    subst (λ (ps : List _). MayRefuse g.C.Caller x.board (roots_of ps) c.in-Some.errno x.journal c.index_mut.result.now)
     (sym c.as_slice.ensures.value)
-    (subst (λ (y : Seat _). MayRefuse g.C.Caller x.board.now (roots_of x.ports.items) c.in-Some.errno x.journal y)
+    (subst (λ (y : Seat _). MayRefuse g.C.Caller x.board (roots_of x.ports.items) c.in-Some.errno x.journal y)
     (sym (read_here x.seats.items c.args.place next.seat c.index_mut.result.now next.here c.index_mut.ensures.value))
     (may-refuse g.P.Port g.C.Caller x c.requires.kept c.args.place next.seat next.here c.in-Some.errno (next.next
     ∙ ap (λ (o : Option Errno). Some (Settle o)) c.in-Some.is)))
@@ -32,17 +32,17 @@ pub returns-in-Some : goal.returns-in-Some
 returns-in-Some g c =
     let x = c.args.parts.now in
     let next = c.requires.next in
-    let refused : IsRefusedIn g.C.Caller x.board.now
+    let refused : IsRefusedIn g.C.Caller x.board
     (roots_of x.ports.items) c.in-Some.errno x.journal c.refuse.new.journal next.seat c.refuse.new.self =
-    subst (λ (y : Seat _). IsRefusedIn g.C.Caller x.board.now
+    subst (λ (y : Seat _). IsRefusedIn g.C.Caller x.board
     (roots_of x.ports.items) c.in-Some.errno x.journal c.refuse.new.journal y c.refuse.new.self)
     (read_here x.seats.items c.args.place next.seat c.index_mut.result.now next.here c.index_mut.ensures.value)
-    (subst (λ (ps : List _). IsRefusedIn g.C.Caller x.board.now
+    (subst (λ (ps : List _). IsRefusedIn g.C.Caller x.board
     (roots_of ps) c.in-Some.errno x.journal c.refuse.new.journal c.index_mut.result.now c.refuse.new.self) c.as_slice.ensures.value
-    c.refuse.ensures) in
+    c.refuse.ensures.refused) in
     let all = refused-kept g.P.Port g.C.Caller x c.requires.kept c.args.place next.seat next.here c.in-Some.errno (next.next
     ∙ ap (λ (o : Option Errno). Some (Settle o)) c.in-Some.is)
-    _ c.refuse.new.self refl refl refused refl refl refl refl in
+    _ c.refuse.new.self c.refuse.ensures.board refl refused refl refl refl refl in
     record { kept = all.0; stepped = all.1 }
 
 pub returns-in_default : goal.returns-in_default
@@ -52,6 +52,6 @@ returns-in_default g c =
     let first = next.next ∙ ap (λ (o : Option Errno). Some (Settle o)) c.in_default.is in
     absurd (let f = settle-errs (run_of g.P.Port g.C.Caller x)
     (whole_of g.P.Port g.C.Caller x c.requires.kept.held c.requires.kept.owes) c.requires.kept.kept c.args.place
-    (place_of g.C.Caller x.board.now next.seat)
+    (place_of g.C.Caller x.board next.seat)
     (place-here g.P.Port g.C.Caller x c.requires.kept c.args.place next.seat next.here) None first in
     cc)

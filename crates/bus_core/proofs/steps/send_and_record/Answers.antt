@@ -1,50 +1,39 @@
-use Rattle.std.proofs.Common.{◌≡◌, ◌≤◌, ◌<◌, ◌+◌, ◌++◌, [], ◌∷◌, ℕ, List, length, refl, sym, ◌∙◌, ap, subst, Some, arith}
+use Rattle.std.proofs.Common.{◌≡◌, ◌≤◌, ◌<◌, ◌+◌, ◌++◌, [], ◌∷◌, ℕ, List, length, refl, sym, ◌∙◌, ap, subst, arith}
 use Rattle.std.proofs.lemmas.List.{length-map}
 use Rattle.std.proofs.lemmas.Option.{slice_get_within}
 use Rattle.i2c_base.specs.Limits.{MOST_CALLERS}
 use Rattle.i2c_base.specs.declared.entry.Entry.{Entry}
 use Rattle.bus_message.specs.Cursors.{CursorView}
 use Rattle.bus_message.specs.Ports.{RootPort, root_port, root_ports}
-use Rattle.bus_message.specs.Sends.{MaySend, NextSent}
+use Rattle.bus_message.specs.Sends.{MaySend}
 use Rattle.bus_message.proofs.PortLemmas.{socket-is}
 use Rattle.mux_plan.specs.declared.marks.MuxUpdate.{MuxUpdate}
 use Rattle.bus_spec.specs.Walk.{Send}
 use Rattle.bus_spec.specs.Walk as walk
 use Rattle.seg_locks.specs.Locks.{LocksView}
 use Rattle.core_laws.specs.Spots.{turned_to, seen_of}
-use Rattle.core_laws.specs.Steps.{next_of}
 use Rattle.bus_core.specs.Marks.{words_after, AreHeld}
-use Rattle.bus_core.specs.Places.{walk_left}
-use Rattle.bus_core.specs.Seats.{HasSpoken, MaySettle, updates_of}
+use Rattle.bus_core.specs.Seats.{MaySettle, updates_of}
 use Rattle.bus_core.specs.declared.seat.Seat.{Seat}
 use Rattle.bus_core.proofs.Kept.{number-small}
-use Rattle.bus_core.proofs.Converse.{may-speak, may-hear, message-room, message-bytes, updates-own, spoken-at}
+use Rattle.bus_core.proofs.Converse.{comes-next, said-on, may-speak, may-hear, message-room, message-bytes, updates-own}
 use Rattle.bus_core.proofs.Conversed.{may-settle, conversed}
-use Rattle.bus_core.proofs.SeatLemmas.{read_here}
 use Rattle.bus_core.proofs.steps.send_and_record.Goals as goal
 
 pub cursor-cursor-requires : goal.cursor-cursor-requires
 cursor-cursor-requires g c =
     let x = c.args.parts.now in
-    let need = c.requires.next in
     let old = c.index_mut-seat.result.now in
-    let is = read_here x.seats.items c.args.place need.comes.seat old need.comes.here c.index_mut-seat.ensures.value in
-    let here = need.comes.here ∙ ap Some (sym is) in
-    let first = subst (λ (y : Seat _). next_of x.locks (walk_left x.board.now y) ≡ Some (Send need.job need.left))
-    (sym is) need.comes.next in
-    let speak = may-speak g.P.Port g.C.Caller x c.requires.kept c.args.place old here need.job need.left c.args.next.now first need.of in
+    let m = comes-next x c.args.place c.args.next.now c.requires.next old c.index_mut-seat.ensures.value in
+    let speak = may-speak g.P.Port g.C.Caller x c.requires.kept c.args.place old m.here m.job m.left c.args.next.now m.first m.of in
     record { on_bus = speak.on_bus; more = speak.more; wrote = speak.wrote }
 
 pub index_mut-requires : goal.index_mut-requires
 index_mut-requires g c =
     let x = c.args.parts.now in
-    let need = c.requires.next in
     let old = c.index_mut-seat.result.now in
-    let is = read_here x.seats.items c.args.place need.comes.seat old need.comes.here c.index_mut-seat.ensures.value in
-    let here = need.comes.here ∙ ap Some (sym is) in
-    let first = subst (λ (y : Seat _). next_of x.locks (walk_left x.board.now y) ≡ Some (Send need.job need.left))
-    (sym is) need.comes.next in
-    let speak = may-speak g.P.Port g.C.Caller x c.requires.kept c.args.place old here need.job need.left c.args.next.now first need.of in
+    let m = comes-next x c.args.place c.args.next.now c.requires.next old c.index_mut-seat.ensures.value in
+    let speak = may-speak g.P.Port g.C.Caller x c.requires.kept c.args.place old m.here m.job m.left c.args.next.now m.first m.of in
     omega (
       arith,
       slice_get_within (root_ports g.P.Port x.ports.items) old.port speak.socket speak.here,
@@ -55,191 +44,123 @@ index_mut-requires g c =
 pub send_next-msg-requires-clause-may : goal.send_next-msg-requires-clause-may
 send_next-msg-requires-clause-may g c κs within root =
     let x = c.args.parts.now in
-    let need = c.requires.next in
     let old = c.index_mut-seat.result.now in
-    let is = read_here x.seats.items c.args.place need.comes.seat old need.comes.here c.index_mut-seat.ensures.value in
-    let here = need.comes.here ∙ ap Some (sym is) in
-    let first = subst (λ (y : Seat _). next_of x.locks (walk_left x.board.now y) ≡ Some (Send need.job need.left))
-    (sym is) need.comes.next in
-    let speak = may-speak g.P.Port g.C.Caller x c.requires.kept c.args.place old here need.job need.left c.args.next.now first need.of in
+    let m = comes-next x c.args.place c.args.next.now c.requires.next old c.index_mut-seat.ensures.value in
+    let speak = may-speak g.P.Port g.C.Caller x c.requires.kept c.args.place old m.here m.job m.left c.args.next.now m.first m.of in
     let q = c.index_mut.result.now in
     let at : speak.socket ≡ root_port g.P.Port q =
     socket-is g.P.Port x.ports.items old.port q c.index_mut.ensures.value speak.socket speak.here in
-    let may = subst (λ (y : RootPort). MaySend x.board.now g.P.Port.tells old.transfer old.sent c.args.next.now y) at speak.may in
-    subst (λ (k : CursorView). MaySend x.board.now g.P.Port.tells k.transfer k.sent c.args.next.now (root_port g.P.Port (root, q.1)))
+    let may = subst (λ (y : RootPort). MaySend x.board g.P.Port.tells old.transfer old.sent c.args.next.now y) at speak.may in
+    subst (λ (k : CursorView). MaySend x.board g.P.Port.tells k.transfer k.sent c.args.next.now (root_port g.P.Port (root, q.1)))
     (sym c.cursor-cursor.ensures.value)
     (record { start = may.start; room = may.room })
 
 pub push-requires-clause-room : goal.push-requires-clause-room
 push-requires-clause-room g c =
     let x = c.args.parts.now in
-    let need = c.requires.next in
     let old = c.index_mut-seat.result.now in
-    let is = read_here x.seats.items c.args.place need.comes.seat old need.comes.here c.index_mut-seat.ensures.value in
-    let here = need.comes.here ∙ ap Some (sym is) in
-    let first = subst (λ (y : Seat _). next_of x.locks (walk_left x.board.now y) ≡ Some (Send need.job need.left))
-    (sym is) need.comes.next in
-    message-room g.P.Port g.C.Caller x c.requires.kept c.args.place old here need.job need.left c.args.next.now first need.of
+    let m = comes-next x c.args.place c.args.next.now c.requires.next old c.index_mut-seat.ensures.value in
+    message-room g.P.Port g.C.Caller x c.requires.kept c.args.place old m.here m.job m.left c.args.next.now m.first m.of
 
 pub push-requires-clause-room_bytes : goal.push-requires-clause-room_bytes
 push-requires-clause-room_bytes g c =
     let x = c.args.parts.now in
-    let need = c.requires.next in
     let old = c.index_mut-seat.result.now in
-    let is = read_here x.seats.items c.args.place need.comes.seat old need.comes.here c.index_mut-seat.ensures.value in
-    let here = need.comes.here ∙ ap Some (sym is) in
-    let first = subst (λ (y : Seat _). next_of x.locks (walk_left x.board.now y) ≡ Some (Send need.job need.left))
-    (sym is) need.comes.next in
-    let speak = may-speak g.P.Port g.C.Caller x c.requires.kept c.args.place old here need.job need.left c.args.next.now first need.of in
-    let q = c.index_mut.result.now in
+    let m = comes-next x c.args.place c.args.next.now c.requires.next old c.index_mut-seat.ensures.value in
+    let speak = may-speak g.P.Port g.C.Caller x c.requires.kept c.args.place old m.here m.job m.left c.args.next.now m.first m.of in
     let out = c.send_next-msg.result in
     let bytes = c.as_slice-bytes.result.now in
-    let sent : NextSent x.board.now g.P.Port.tells old.transfer old.sent c.args.next.now (root_port g.P.Port q)
-    (root_port g.P.Port (q.0, c.send_next-msg.new.port)) bytes out =
-    subst (λ (ys : List ℕ). NextSent x.board.now g.P.Port.tells old.transfer old.sent c.args.next.now (root_port g.P.Port q)
-    (root_port g.P.Port (q.0, c.send_next-msg.new.port)) ys out) (sym c.as_slice-bytes.ensures.value)
-    (subst (λ (k : CursorView). NextSent x.board.now g.P.Port.tells k.transfer k.sent c.args.next.now (root_port g.P.Port q)
-    (root_port g.P.Port (q.0, c.send_next-msg.new.port)) c.send_next-msg.new.bytes out) c.cursor-cursor.ensures.value
-    (c.send_next-msg.ensures q.0)) in
-    let said : HasSpoken x.board.now g.P.Port.tells c.args.next.now (root_ports g.P.Port x.ports.items) _ bytes out old =
-    spoken-at g.P.Port x.board.now c.args.next.now x.ports.items old speak.socket speak.here q c.index_mut.ensures.value
-    c.send_next-msg.new.port bytes out sent c.cursor-cursor.ensures.whole in
+    let said = said-on g.P.Port x c.args.next.now old speak.socket speak.here c.index_mut.result.now c.index_mut.ensures.value
+    c.cursor-cursor.result c.cursor-cursor.ensures.value c.send_next-msg.new.port c.send_next-msg.new.bytes bytes
+    c.as_slice-bytes.ensures.value out (c.send_next-msg.ensures c.index_mut.result.now.0) c.cursor-cursor.ensures.whole in
     subst (λ (ys : List ℕ). length ys ≤ x.journal.room_bytes) (sym c.message_entry.ensures.bytes)
-    (message-bytes g.P.Port g.C.Caller x c.requires.kept c.args.place old here need.job need.left c.args.next.now first need.of _ bytes out
+    (message-bytes g.P.Port g.C.Caller x c.requires.kept c.args.place old m.here m.job m.left c.args.next.now m.first m.of _ bytes out
     said)
 
 pub message_done-requires : goal.message_done-requires
 message_done-requires g c =
     let x = c.args.parts.now in
-    let need = c.requires.next in
     let old = c.index_mut-seat.result.now in
-    let is = read_here x.seats.items c.args.place need.comes.seat old need.comes.here c.index_mut-seat.ensures.value in
-    let here = need.comes.here ∙ ap Some (sym is) in
-    let first = subst (λ (y : Seat _). next_of x.locks (walk_left x.board.now y) ≡ Some (Send need.job need.left))
-    (sym is) need.comes.next in
-    let speak = may-speak g.P.Port g.C.Caller x c.requires.kept c.args.place old here need.job need.left c.args.next.now first need.of in
-    let q = c.index_mut.result.now in
+    let m = comes-next x c.args.place c.args.next.now c.requires.next old c.index_mut-seat.ensures.value in
+    let speak = may-speak g.P.Port g.C.Caller x c.requires.kept c.args.place old m.here m.job m.left c.args.next.now m.first m.of in
     let out = c.send_next-msg.result in
     let bytes = c.as_slice-bytes.result.now in
-    let sent : NextSent x.board.now g.P.Port.tells old.transfer old.sent c.args.next.now (root_port g.P.Port q)
-    (root_port g.P.Port (q.0, c.send_next-msg.new.port)) bytes out =
-    subst (λ (ys : List ℕ). NextSent x.board.now g.P.Port.tells old.transfer old.sent c.args.next.now (root_port g.P.Port q)
-    (root_port g.P.Port (q.0, c.send_next-msg.new.port)) ys out) (sym c.as_slice-bytes.ensures.value)
-    (subst (λ (k : CursorView). NextSent x.board.now g.P.Port.tells k.transfer k.sent c.args.next.now (root_port g.P.Port q)
-    (root_port g.P.Port (q.0, c.send_next-msg.new.port)) c.send_next-msg.new.bytes out) c.cursor-cursor.ensures.value
-    (c.send_next-msg.ensures q.0)) in
-    let said : HasSpoken x.board.now g.P.Port.tells c.args.next.now (root_ports g.P.Port x.ports.items) _ bytes out old =
-    spoken-at g.P.Port x.board.now c.args.next.now x.ports.items old speak.socket speak.here q c.index_mut.ensures.value
-    c.send_next-msg.new.port bytes out sent c.cursor-cursor.ensures.whole in
-    may-hear g.P.Port g.C.Caller x c.requires.kept c.args.place old here need.job need.left c.args.next.now first need.of _ bytes out said
+    let said = said-on g.P.Port x c.args.next.now old speak.socket speak.here c.index_mut.result.now c.index_mut.ensures.value
+    c.cursor-cursor.result c.cursor-cursor.ensures.value c.send_next-msg.new.port c.send_next-msg.new.bytes bytes
+    c.as_slice-bytes.ensures.value out (c.send_next-msg.ensures c.index_mut.result.now.0) c.cursor-cursor.ensures.whole in
+    may-hear g.P.Port g.C.Caller x c.requires.kept c.args.place old m.here m.job m.left c.args.next.now m.first m.of _ bytes out said
 
 pub set_marks-requires : goal.set_marks-requires
 set_marks-requires g c =
     let x = c.args.parts.now in
-    let need = c.requires.next in
     let old = c.index_mut-seat.result.now in
-    let is = read_here x.seats.items c.args.place need.comes.seat old need.comes.here c.index_mut-seat.ensures.value in
-    let here = need.comes.here ∙ ap Some (sym is) in
-    let first = subst (λ (y : Seat _). next_of x.locks (walk_left x.board.now y) ≡ Some (Send need.job need.left))
-    (sym is) need.comes.next in
-    let speak = may-speak g.P.Port g.C.Caller x c.requires.kept c.args.place old here need.job need.left c.args.next.now first need.of in
-    let q = c.index_mut.result.now in
+    let m = comes-next x c.args.place c.args.next.now c.requires.next old c.index_mut-seat.ensures.value in
+    let speak = may-speak g.P.Port g.C.Caller x c.requires.kept c.args.place old m.here m.job m.left c.args.next.now m.first m.of in
     let out = c.send_next-msg.result in
     let bytes = c.as_slice-bytes.result.now in
-    let sent : NextSent x.board.now g.P.Port.tells old.transfer old.sent c.args.next.now (root_port g.P.Port q)
-    (root_port g.P.Port (q.0, c.send_next-msg.new.port)) bytes out =
-    subst (λ (ys : List ℕ). NextSent x.board.now g.P.Port.tells old.transfer old.sent c.args.next.now (root_port g.P.Port q)
-    (root_port g.P.Port (q.0, c.send_next-msg.new.port)) ys out) (sym c.as_slice-bytes.ensures.value)
-    (subst (λ (k : CursorView). NextSent x.board.now g.P.Port.tells k.transfer k.sent c.args.next.now (root_port g.P.Port q)
-    (root_port g.P.Port (q.0, c.send_next-msg.new.port)) c.send_next-msg.new.bytes out) c.cursor-cursor.ensures.value
-    (c.send_next-msg.ensures q.0)) in
-    let said : HasSpoken x.board.now g.P.Port.tells c.args.next.now (root_ports g.P.Port x.ports.items) _ bytes out old =
-    spoken-at g.P.Port x.board.now c.args.next.now x.ports.items old speak.socket speak.here q c.index_mut.ensures.value
-    c.send_next-msg.new.port bytes out sent c.cursor-cursor.ensures.whole in
+    let said = said-on g.P.Port x c.args.next.now old speak.socket speak.here c.index_mut.result.now c.index_mut.ensures.value
+    c.cursor-cursor.result c.cursor-cursor.ensures.value c.send_next-msg.new.port c.send_next-msg.new.bytes bytes
+    c.as_slice-bytes.ensures.value out (c.send_next-msg.ensures c.index_mut.result.now.0) c.cursor-cursor.ensures.whole in
     let t = c.message_done.new.self in
     let number : t.number ≡ old.number = ap (λ (y : Seat _). y.number) c.message_done.ensures.heard.same in
-    let updates : c.as_slice.result.now ≡ updates_of x.board.now x.locks (walk.Sent out.end bytes) old = c.as_slice.ensures.value
+    let updates : c.as_slice.result.now ≡ updates_of x.board x.locks (walk.Sent out.end bytes) old = c.as_slice.ensures.value
     ∙ c.message_done.ensures.updates in
     record {
-      caller = subst (λ (n : ℕ). n < MOST_CALLERS) (sym number) (number-small g.P.Port g.C.Caller x c.requires.kept c.args.place old here);
+      caller = subst (λ (n : ℕ). n < MOST_CALLERS) (sym number) (number-small g.P.Port g.C.Caller x c.requires.kept c.args.place old m.here);
       held = subst (λ (n : ℕ). AreHeld x.locks n c.as_slice.result.now) (sym number)
           (subst (λ (ds : List MuxUpdate). AreHeld x.locks old.number ds) (sym updates)
-          (updates-own g.P.Port g.C.Caller x c.requires.kept c.args.place old here need.job need.left c.args.next.now first need.of _ bytes
+          (updates-own g.P.Port g.C.Caller x c.requires.kept c.args.place old m.here m.job m.left c.args.next.now m.first m.of _ bytes
           out said));
     }
 
 pub settle-requires : goal.settle-requires
 settle-requires g c =
     let x = c.args.parts.now in
-    let need = c.requires.next in
     let old = c.index_mut-seat.result.now in
-    let is = read_here x.seats.items c.args.place need.comes.seat old need.comes.here c.index_mut-seat.ensures.value in
-    let here = need.comes.here ∙ ap Some (sym is) in
-    let first = subst (λ (y : Seat _). next_of x.locks (walk_left x.board.now y) ≡ Some (Send need.job need.left))
-    (sym is) need.comes.next in
-    let speak = may-speak g.P.Port g.C.Caller x c.requires.kept c.args.place old here need.job need.left c.args.next.now first need.of in
-    let q = c.index_mut.result.now in
+    let m = comes-next x c.args.place c.args.next.now c.requires.next old c.index_mut-seat.ensures.value in
+    let speak = may-speak g.P.Port g.C.Caller x c.requires.kept c.args.place old m.here m.job m.left c.args.next.now m.first m.of in
     let out = c.send_next-msg.result in
     let bytes = c.as_slice-bytes.result.now in
-    let sent : NextSent x.board.now g.P.Port.tells old.transfer old.sent c.args.next.now (root_port g.P.Port q)
-    (root_port g.P.Port (q.0, c.send_next-msg.new.port)) bytes out =
-    subst (λ (ys : List ℕ). NextSent x.board.now g.P.Port.tells old.transfer old.sent c.args.next.now (root_port g.P.Port q)
-    (root_port g.P.Port (q.0, c.send_next-msg.new.port)) ys out) (sym c.as_slice-bytes.ensures.value)
-    (subst (λ (k : CursorView). NextSent x.board.now g.P.Port.tells k.transfer k.sent c.args.next.now (root_port g.P.Port q)
-    (root_port g.P.Port (q.0, c.send_next-msg.new.port)) c.send_next-msg.new.bytes out) c.cursor-cursor.ensures.value
-    (c.send_next-msg.ensures q.0)) in
-    let said : HasSpoken x.board.now g.P.Port.tells c.args.next.now (root_ports g.P.Port x.ports.items) _ bytes out old =
-    spoken-at g.P.Port x.board.now c.args.next.now x.ports.items old speak.socket speak.here q c.index_mut.ensures.value
-    c.send_next-msg.new.port bytes out sent c.cursor-cursor.ensures.whole in
+    let said = said-on g.P.Port x c.args.next.now old speak.socket speak.here c.index_mut.result.now c.index_mut.ensures.value
+    c.cursor-cursor.result c.cursor-cursor.ensures.value c.send_next-msg.new.port c.send_next-msg.new.bytes bytes
+    c.as_slice-bytes.ensures.value out (c.send_next-msg.ensures c.index_mut.result.now.0) c.cursor-cursor.ensures.whole in
     let t = c.message_done.new.self in
     let number : t.number ≡ old.number = ap (λ (y : Seat _). y.number) c.message_done.ensures.heard.same in
-    let updates : c.as_slice.result.now ≡ updates_of x.board.now x.locks (walk.Sent out.end bytes) old = c.as_slice.ensures.value
+    let updates : c.as_slice.result.now ≡ updates_of x.board x.locks (walk.Sent out.end bytes) old = c.as_slice.ensures.value
     ∙ c.message_done.ensures.updates in
     let locks : c.set_marks.new.locks ≡ turned_to x.locks
-    (words_after (updates_of x.board.now x.locks (walk.Sent out.end bytes) old) (seen_of x.locks)) =
+    (words_after (updates_of x.board x.locks (walk.Sent out.end bytes) old) (seen_of x.locks)) =
     c.set_marks.ensures ∙ ap (λ (ds : List MuxUpdate). turned_to x.locks (words_after ds (seen_of x.locks))) updates in
     let entries = c.push.ensures.entries ∙ ap (λ (e : Entry). x.journal.entries ++ e ∷ []) c.message_entry.ensures.seen in
     let room_bytes : c.push.new.self.room_bytes + length bytes ≡ x.journal.room_bytes =
     ap (λ (ys : List ℕ). c.push.new.self.room_bytes + length ys) (sym c.message_entry.ensures.bytes) ∙ c.push.ensures.room_bytes in
-    subst (λ (v : LocksView). MaySettle x.board.now v c.push.new.self t) (sym locks)
-    (may-settle g.P.Port g.C.Caller x c.requires.kept c.args.place old here need.job need.left c.args.next.now first need.of _ bytes out
+    subst (λ (v : LocksView). MaySettle x.board v c.push.new.self t) (sym locks)
+    (may-settle g.P.Port g.C.Caller x c.requires.kept c.args.place old m.here m.job m.left c.args.next.now m.first m.of _ bytes out
     said t c.message_done.ensures.heard
     c.push.new.self entries c.push.ensures.room room_bytes)
 
 pub returns : goal.returns
 returns g c =
     let x = c.args.parts.now in
-    let need = c.requires.next in
     let old = c.index_mut-seat.result.now in
-    let is = read_here x.seats.items c.args.place need.comes.seat old need.comes.here c.index_mut-seat.ensures.value in
-    let here = need.comes.here ∙ ap Some (sym is) in
-    let first = subst (λ (y : Seat _). next_of x.locks (walk_left x.board.now y) ≡ Some (Send need.job need.left))
-    (sym is) need.comes.next in
-    let speak = may-speak g.P.Port g.C.Caller x c.requires.kept c.args.place old here need.job need.left c.args.next.now first need.of in
-    let q = c.index_mut.result.now in
+    let m = comes-next x c.args.place c.args.next.now c.requires.next old c.index_mut-seat.ensures.value in
+    let speak = may-speak g.P.Port g.C.Caller x c.requires.kept c.args.place old m.here m.job m.left c.args.next.now m.first m.of in
     let out = c.send_next-msg.result in
     let bytes = c.as_slice-bytes.result.now in
-    let sent : NextSent x.board.now g.P.Port.tells old.transfer old.sent c.args.next.now (root_port g.P.Port q)
-    (root_port g.P.Port (q.0, c.send_next-msg.new.port)) bytes out =
-    subst (λ (ys : List ℕ). NextSent x.board.now g.P.Port.tells old.transfer old.sent c.args.next.now (root_port g.P.Port q)
-    (root_port g.P.Port (q.0, c.send_next-msg.new.port)) ys out) (sym c.as_slice-bytes.ensures.value)
-    (subst (λ (k : CursorView). NextSent x.board.now g.P.Port.tells k.transfer k.sent c.args.next.now (root_port g.P.Port q)
-    (root_port g.P.Port (q.0, c.send_next-msg.new.port)) c.send_next-msg.new.bytes out) c.cursor-cursor.ensures.value
-    (c.send_next-msg.ensures q.0)) in
-    let said : HasSpoken x.board.now g.P.Port.tells c.args.next.now (root_ports g.P.Port x.ports.items) _ bytes out old =
-    spoken-at g.P.Port x.board.now c.args.next.now x.ports.items old speak.socket speak.here q c.index_mut.ensures.value
-    c.send_next-msg.new.port bytes out sent c.cursor-cursor.ensures.whole in
+    let said = said-on g.P.Port x c.args.next.now old speak.socket speak.here c.index_mut.result.now c.index_mut.ensures.value
+    c.cursor-cursor.result c.cursor-cursor.ensures.value c.send_next-msg.new.port c.send_next-msg.new.bytes bytes
+    c.as_slice-bytes.ensures.value out (c.send_next-msg.ensures c.index_mut.result.now.0) c.cursor-cursor.ensures.whole in
     let t = c.message_done.new.self in
     let number : t.number ≡ old.number = ap (λ (y : Seat _). y.number) c.message_done.ensures.heard.same in
-    let updates : c.as_slice.result.now ≡ updates_of x.board.now x.locks (walk.Sent out.end bytes) old = c.as_slice.ensures.value
+    let updates : c.as_slice.result.now ≡ updates_of x.board x.locks (walk.Sent out.end bytes) old = c.as_slice.ensures.value
     ∙ c.message_done.ensures.updates in
     let locks : c.set_marks.new.locks ≡ turned_to x.locks
-    (words_after (updates_of x.board.now x.locks (walk.Sent out.end bytes) old) (seen_of x.locks)) =
+    (words_after (updates_of x.board x.locks (walk.Sent out.end bytes) old) (seen_of x.locks)) =
     c.set_marks.ensures ∙ ap (λ (ds : List MuxUpdate). turned_to x.locks (words_after ds (seen_of x.locks))) updates in
     let entries = c.push.ensures.entries ∙ ap (λ (e : Entry). x.journal.entries ++ e ∷ []) c.message_entry.ensures.seen in
     let room_bytes : c.push.new.self.room_bytes + length bytes ≡ x.journal.room_bytes =
     ap (λ (ys : List ℕ). c.push.new.self.room_bytes + length ys) (sym c.message_entry.ensures.bytes) ∙ c.push.ensures.room_bytes in
-    let all = conversed g.P.Port g.C.Caller x c.requires.kept c.args.place old here need.job need.left c.args.next.now first need.of _ bytes
+    let all = conversed g.P.Port g.C.Caller x c.requires.kept c.args.place old m.here m.job m.left c.args.next.now m.first m.of _ bytes
     out said t c.message_done.ensures.heard
     c.push.new.self entries c.push.ensures.room room_bytes
     (record x {

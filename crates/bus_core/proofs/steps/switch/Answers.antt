@@ -1,7 +1,6 @@
-use Rattle.std.proofs.Common.{◌≡◌, ◌<◌, ◌++◌, [], ◌∷◌, ℕ, List, Some, length, refl, sym, ◌∙◌, ap, subst, arith}
+use Rattle.std.proofs.Common.{◌≡◌, ◌++◌, [], ◌∷◌, ℕ, List, refl, sym, ◌∙◌, ap, subst, arith}
 use Rattle.std.proofs.lemmas.List.{length-map, map-set}
 use Rattle.std.proofs.lemmas.Option.{slice_get_within}
-use Rattle.i2c_base.specs.Limits.{MOST_CALLERS}
 use Rattle.i2c_base.specs.declared.entry.Entry.TheVariants as entry
 use Rattle.bus_message.specs.Ports.{RootPort, MayShift, Shifted, root_port, root_ports}
 use Rattle.bus_message.proofs.PortLemmas.{socket-here, socket-is}
@@ -9,13 +8,10 @@ use Rattle.mux_plan.specs.declared.marks.MuxUpdate.{MuxUpdate}
 use Rattle.bus_spec.specs.Walk.{Lined, Shift, line_mux, line_level}
 use Rattle.seg_locks.specs.Locks.{LocksView}
 use Rattle.core_laws.specs.Spots.{turned_to, seen_of}
-use Rattle.core_laws.specs.Steps.{next_of}
 use Rattle.bus_core.specs.Marks.{words_after, AreHeld}
-use Rattle.bus_core.specs.Places.{walk_left}
-use Rattle.bus_core.specs.Seats.{IsCounted, MaySettle, updates_of}
-use Rattle.bus_core.specs.declared.seat.Seat.{Seat}
+use Rattle.bus_core.specs.Seats.{MaySettle, updates_of}
 use Rattle.bus_core.proofs.Kept.{number-small, seated-here}
-use Rattle.bus_core.proofs.SeatLemmas.{read_here}
+use Rattle.bus_core.proofs.SeatLemmas.{read_comes}
 use Rattle.bus_core.proofs.Switch.{may-shift, line-room, line-updates-own, line-may-settle, line-done, plug}
 use Rattle.bus_core.proofs.steps.switch.Goals as goal
 
@@ -24,10 +20,8 @@ index_mut-requires g c =
     let x = c.args.parts.now in
     let need = c.requires.next in
     let old = c.index_mut-seat.result.now in
-    let is = read_here x.seats.items c.args.place need.comes.seat old need.comes.here c.index_mut-seat.ensures.value in
-    let here = need.comes.here ∙ ap Some (sym is) in
-    let first = subst (λ (y : Seat _). next_of x.locks (walk_left x.board.now y) ≡ Some (Shift need.job)) (sym is) need.comes.next in
-    let plugged = plug g.P.Port g.C.Caller x c.requires.kept c.args.place old here need.job first in
+    let comes = read_comes x c.args.place (Shift need.job) need.comes old c.index_mut-seat.ensures.value in
+    let plugged = plug g.P.Port g.C.Caller x c.requires.kept c.args.place old comes.0 need.job comes.1 in
     omega (
       arith,
       slice_get_within (root_ports g.P.Port x.ports.items) old.port plugged.0 plugged.1,
@@ -40,14 +34,12 @@ shift_line-failed-requires-after_bounds g c κs within root =
     let x = c.args.parts.now in
     let need = c.requires.next in
     let old = c.index_mut-seat.result.now in
-    let is = read_here x.seats.items c.args.place need.comes.seat old need.comes.here c.index_mut-seat.ensures.value in
-    let here = need.comes.here ∙ ap Some (sym is) in
-    let first = subst (λ (y : Seat _). next_of x.locks (walk_left x.board.now y) ≡ Some (Shift need.job)) (sym is) need.comes.next in
-    let plugged = plug g.P.Port g.C.Caller x c.requires.kept c.args.place old here need.job first in
+    let comes = read_comes x c.args.place (Shift need.job) need.comes old c.index_mut-seat.ensures.value in
+    let plugged = plug g.P.Port g.C.Caller x c.requires.kept c.args.place old comes.0 need.job comes.1 in
     let q = c.index_mut.result.now in
     let at : plugged.0 ≡ root_port g.P.Port q = socket-is g.P.Port x.ports.items old.port q c.index_mut.ensures.value plugged.0 plugged.1 in
     let may = subst (λ (y : RootPort). MayShift g.P.Port.tells c.args.mux c.args.level y) at
-    (may-shift g.P.Port g.C.Caller x c.requires.kept c.args.place old here need.job first c.args.mux c.args.level need.of_mux need.to_level)
+    (may-shift g.P.Port g.C.Caller x c.requires.kept c.args.place old comes.0 need.job comes.1 c.args.mux c.args.level need.of_mux need.to_level)
     in
     record { idle = may.idle; has = may.has; room = may.room }
 
@@ -56,37 +48,31 @@ push-requires-clause-room g c =
     let x = c.args.parts.now in
     let need = c.requires.next in
     let old = c.index_mut-seat.result.now in
-    let is = read_here x.seats.items c.args.place need.comes.seat old need.comes.here c.index_mut-seat.ensures.value in
-    let here = need.comes.here ∙ ap Some (sym is) in
-    let first = subst (λ (y : Seat _). next_of x.locks (walk_left x.board.now y) ≡ Some (Shift need.job)) (sym is) need.comes.next in
-    line-room g.P.Port g.C.Caller x c.requires.kept c.args.place old here need.job first
+    let comes = read_comes x c.args.place (Shift need.job) need.comes old c.index_mut-seat.ensures.value in
+    line-room g.P.Port g.C.Caller x c.requires.kept c.args.place old comes.0 need.job comes.1
 
 pub line_done-requires : goal.line_done-requires
 line_done-requires g c =
     let x = c.args.parts.now in
     let need = c.requires.next in
     let old = c.index_mut-seat.result.now in
-    let is = read_here x.seats.items c.args.place need.comes.seat old need.comes.here c.index_mut-seat.ensures.value in
-    let here = need.comes.here ∙ ap Some (sym is) in
-    let first = subst (λ (y : Seat _). next_of x.locks (walk_left x.board.now y) ≡ Some (Shift need.job)) (sym is) need.comes.next in
-    (seated-here g.P.Port g.C.Caller x c.requires.kept c.args.place old here).counted
+    let comes = read_comes x c.args.place (Shift need.job) need.comes old c.index_mut-seat.ensures.value in
+    (seated-here g.P.Port g.C.Caller x c.requires.kept c.args.place old comes.0).counted
 
 pub set_marks-requires : goal.set_marks-requires
 set_marks-requires g c =
     let x = c.args.parts.now in
     let need = c.requires.next in
     let old = c.index_mut-seat.result.now in
-    let is = read_here x.seats.items c.args.place need.comes.seat old need.comes.here c.index_mut-seat.ensures.value in
-    let here = need.comes.here ∙ ap Some (sym is) in
-    let first = subst (λ (y : Seat _). next_of x.locks (walk_left x.board.now y) ≡ Some (Shift need.job)) (sym is) need.comes.next in
+    let comes = read_comes x c.args.place (Shift need.job) need.comes old c.index_mut-seat.ensures.value in
     let failed = c.shift_line-failed.result in
     let t = c.line_done.new.self in
-    let updates : c.as_slice.result.now ≡ updates_of x.board.now x.locks (Lined failed) old = c.as_slice.ensures.value
+    let updates : c.as_slice.result.now ≡ updates_of x.board x.locks (Lined failed) old = c.as_slice.ensures.value
     ∙ c.line_done.ensures.updates in
     record {
-      caller = number-small g.P.Port g.C.Caller x c.requires.kept c.args.place old here;
+      caller = number-small g.P.Port g.C.Caller x c.requires.kept c.args.place old comes.0;
       held = subst (λ (ds : List MuxUpdate). AreHeld x.locks old.number ds) (sym updates)
-          (line-updates-own g.P.Port g.C.Caller x c.requires.kept c.args.place old here need.job first failed);
+          (line-updates-own g.P.Port g.C.Caller x c.requires.kept c.args.place old comes.0 need.job comes.1 failed);
     }
 
 pub settle-requires : goal.settle-requires
@@ -94,23 +80,21 @@ settle-requires g c =
     let x = c.args.parts.now in
     let need = c.requires.next in
     let old = c.index_mut-seat.result.now in
-    let is = read_here x.seats.items c.args.place need.comes.seat old need.comes.here c.index_mut-seat.ensures.value in
-    let here = need.comes.here ∙ ap Some (sym is) in
-    let first = subst (λ (y : Seat _). next_of x.locks (walk_left x.board.now y) ≡ Some (Shift need.job)) (sym is) need.comes.next in
+    let comes = read_comes x c.args.place (Shift need.job) need.comes old c.index_mut-seat.ensures.value in
     let failed = c.shift_line-failed.result in
     let t = c.line_done.new.self in
-    let updates : c.as_slice.result.now ≡ updates_of x.board.now x.locks (Lined failed) old = c.as_slice.ensures.value
+    let updates : c.as_slice.result.now ≡ updates_of x.board x.locks (Lined failed) old = c.as_slice.ensures.value
     ∙ c.line_done.ensures.updates in
     let locks : c.set_marks.new.locks ≡ turned_to x.locks
-    (words_after (updates_of x.board.now x.locks (Lined failed) old) (seen_of x.locks)) =
+    (words_after (updates_of x.board x.locks (Lined failed) old) (seen_of x.locks)) =
     c.set_marks.ensures ∙ ap (λ (ds : List MuxUpdate). turned_to x.locks (words_after ds (seen_of x.locks))) updates in
     let entries : c.push.new.self.entries ≡ x.journal.entries ++ entry.Line old.number (line_mux need.job)
     (line_level need.job) failed ∷ [] = c.push.ensures.entries
     ∙ ap (λ (m : ℕ). x.journal.entries ++ entry.Line old.number m c.args.level failed ∷ []) (sym need.of_mux)
     ∙ ap (λ (l : ℕ). x.journal.entries ++ entry.Line old.number (line_mux need.job) l failed ∷ []) (sym need.to_level) in
     let room_bytes : c.push.new.self.room_bytes ≡ x.journal.room_bytes = (let b = c.push.ensures.room_bytes in omega (arith, b)) in
-    subst (λ (v : LocksView). MaySettle x.board.now v c.push.new.self t) (sym locks)
-    (line-may-settle g.P.Port g.C.Caller x c.requires.kept c.args.place old here need.job first failed t c.line_done.ensures.went
+    subst (λ (v : LocksView). MaySettle x.board v c.push.new.self t) (sym locks)
+    (line-may-settle g.P.Port g.C.Caller x c.requires.kept c.args.place old comes.0 need.job comes.1 failed t c.line_done.ensures.went
     c.push.new.self entries c.push.ensures.room room_bytes)
 
 pub returns : goal.returns
@@ -118,16 +102,14 @@ returns g c =
     let x = c.args.parts.now in
     let need = c.requires.next in
     let old = c.index_mut-seat.result.now in
-    let is = read_here x.seats.items c.args.place need.comes.seat old need.comes.here c.index_mut-seat.ensures.value in
-    let here = need.comes.here ∙ ap Some (sym is) in
-    let first = subst (λ (y : Seat _). next_of x.locks (walk_left x.board.now y) ≡ Some (Shift need.job)) (sym is) need.comes.next in
-    let plugged = plug g.P.Port g.C.Caller x c.requires.kept c.args.place old here need.job first in
+    let comes = read_comes x c.args.place (Shift need.job) need.comes old c.index_mut-seat.ensures.value in
+    let plugged = plug g.P.Port g.C.Caller x c.requires.kept c.args.place old comes.0 need.job comes.1 in
     let failed = c.shift_line-failed.result in
     let t = c.line_done.new.self in
-    let updates : c.as_slice.result.now ≡ updates_of x.board.now x.locks (Lined failed) old = c.as_slice.ensures.value
+    let updates : c.as_slice.result.now ≡ updates_of x.board x.locks (Lined failed) old = c.as_slice.ensures.value
     ∙ c.line_done.ensures.updates in
     let locks : c.set_marks.new.locks ≡ turned_to x.locks
-    (words_after (updates_of x.board.now x.locks (Lined failed) old) (seen_of x.locks)) =
+    (words_after (updates_of x.board x.locks (Lined failed) old) (seen_of x.locks)) =
     c.set_marks.ensures ∙ ap (λ (ds : List MuxUpdate). turned_to x.locks (words_after ds (seen_of x.locks))) updates in
     let entries : c.push.new.self.entries ≡ x.journal.entries ++ entry.Line old.number (line_mux need.job)
     (line_level need.job) failed ∷ [] = c.push.ensures.entries
@@ -142,7 +124,7 @@ returns g c =
     (subst (λ (m : ℕ). Shifted g.P.Port.tells m c.args.level failed (root_port g.P.Port q)
     (root_port g.P.Port (q.0, c.shift_line-failed.new.port))) (sym need.of_mux)
     (c.shift_line-failed.ensures.shifted q.0)) in
-    let all = line-done g.P.Port g.C.Caller x c.requires.kept c.args.place old here need.job first failed t c.line_done.ensures.went
+    let all = line-done g.P.Port g.C.Caller x c.requires.kept c.args.place old comes.0 need.job comes.1 failed t c.line_done.ensures.went
     c.push.new.self entries c.push.ensures.room room_bytes
     (record x { ports = _; seats = _; locks = c.set_marks.new.locks; journal = c.settle.new.journal; updates = c.settle.new.updates }) refl
     locks (root_port g.P.Port q) (root_port g.P.Port (q.0, c.shift_line-failed.new.port))

@@ -39,7 +39,7 @@ take-requires g c =
     (read_here x.seats.items c.args.place s c.index_mut-seat.result.now here c.index_mut-seat.ensures.value) in
     let wants = take-wants (run_of g.P.Port g.C.Caller x)
     (whole_of g.P.Port g.C.Caller x c.requires.kept.held c.requires.kept.owes) c.requires.kept.kept c.args.place
-    (place_of g.C.Caller x.board.now s)
+    (place_of g.C.Caller x.board s)
     (place-here g.P.Port g.C.Caller x c.requires.kept c.args.place s here) c.args.lock.now c.requires.next.next in
     record {
       there = wants.0;
@@ -54,8 +54,8 @@ returns g c =
     let here = c.requires.next.here in
     let t = c.lock_done.new.self in
     let is = read_here x.seats.items c.args.place s c.index_mut-seat.result.now here c.index_mut-seat.ensures.value in
-    let went : WentOn x.board.now x.locks Passed cut_at.No s t =
-    subst (λ (y : Seat _). WentOn x.board.now x.locks Passed cut_at.No y t) is
+    let went : WentOn x.board x.locks Passed cut_at.No s t =
+    subst (λ (y : Seat _). WentOn x.board x.locks Passed cut_at.No y t) is
     (record { same = c.lock_done.ensures.same; walk = c.lock_done.ensures.walk; route = c.lock_done.ensures.route }) in
     let number : t.number ≡ s.number = ap (λ (y : Seat _). y.number) went.same in
     let given : c.take.new.self ≡ with_holder x.locks c.args.lock.now (Some t.number) =

@@ -11,8 +11,8 @@ end-requires-clause-may g c κs within =
     (roots_of c.args.ports.now) c.args.self.now c.lock_done.new.self c.lock_done.new.self c.requires
     (record { same = c.lock_done.ensures.same; walk = c.lock_done.ensures.walk; route = c.lock_done.ensures.route })
 
-pub returns : goal.returns
-returns g c =
+pub returns-clause-freed : goal.returns-clause-freed
+returns-clause-freed g c =
     freed g.C.Caller c.args.board.now c.args.locks.now
     (roots_of c.args.ports.now) c.args.self.now c.lock_done.new.self c.end.new.self c.requires
     (record { same = c.lock_done.ensures.same; walk = c.lock_done.ensures.walk; route = c.lock_done.ensures.route })

@@ -12,7 +12,7 @@ returns-in-Call-clause-grants g c own =
     let here = message_here s.transfer s.sent (sum_by written_of (take s.sent s.transfer.msgs))
     (c.requires.more own) refl c.msgs.ensures.kept
     c.index-msgs-from.result c.msgs.result.now c.from.result c.index-msgs-from.is c.msgs.ensures.value c.from.ensures in
-    rw (c.grant.ensures, c.board.ensures.value, c.bus.ensures, c.force.ensures)
+    rw (c.grant.ensures, c.bus-bus.ensures, c.force.ensures)
     (ap (λ (m : MessageView). grant_of c.args.board.now s.transfer.bus m.addr s.transfer.force) here)
 
 pub returns-in-Call-clause-whole : goal.returns-in-Call-clause-whole

@@ -3,6 +3,7 @@ use Rattle.i2c_base.specs.Need.{bytes_given}
 use Rattle.i2c_base.specs.declared.entry.Entry.{Entry}
 use Rattle.i2c_base.specs.declared.reply.Reply.TheVariants as reply
 use Rattle.bus_core.specs.Kept.{roots_of}
+use Rattle.bus_core.specs.Replies.{reply_decided}
 use Rattle.bus_core.specs.Seats.{IsCounted}
 use Rattle.bus_core.proofs.Reseating.{settled, settle_entry, may_end_refused, refused}
 use Rattle.bus_core.proofs.seat.Seat.refuse.Goals as goal
@@ -11,7 +12,7 @@ pub push-requires-clause-room : goal.push-requires-clause-room
 push-requires-clause-room g c = c.requires.room
 
 pub push-requires-clause-room_bytes : goal.push-requires-clause-room_bytes
-push-requires-clause-room_bytes g c = rw (c.settle.ensures.bytes, c.reply.ensures, c.decide-decided.ensures.reply) (omega arith)
+push-requires-clause-room_bytes g c = rw (c.settle_entry.ensures.bytes, c.decide-decided.ensures.reply) (omega arith)
 
 pub lock_done-requires : goal.lock_done-requires
 lock_done-requires g c = subst IsCounted (sym c.decide-decided.ensures.same) c.requires.seated.counted
@@ -26,12 +27,13 @@ end-requires-clause-may g c κs within =
     (settled c.args.board.now c.args.locks.now old c.decide-decided.new.self c.lock_done.new.self
     (Some c.args.errno) c.decide-decided.result d.same p.same d.reply p.walk p.route)
 
-pub returns : goal.returns
-returns g c =
+pub returns-clause-refused : goal.returns-clause-refused
+returns-clause-refused g c =
     let old = c.args.self.now in
     let d = c.decide-decided.ensures in
     let p = c.lock_done.ensures in
-    let got : c.reply.result.now ≡ reply.Err c.args.errno = c.reply.ensures ∙ d.reply in
+    let made = reply_decided c.decide-decided.result c.decide-decided.new.self.replies in
+    let got : made ≡ reply.Err c.args.errno = d.reply in
     record {
       ended = refused g.C.Caller c.args.board.now c.args.locks.now
           (roots_of c.args.ports.now) old c.lock_done.new.self c.end.new.self c.args.errno c.args.journal.now c.requires
@@ -41,9 +43,9 @@ returns g c =
       seated = c.end.ensures.seated;
       entries = c.push.ensures.entries
           ∙ ap (λ (e : Entry). c.args.journal.now.entries ++ e ∷ [])
-          (c.settle.ensures.seen ∙ settle_entry old c.decide-decided.new.self (Some c.decide-decided.result) c.reply.result.now
+          (c.settle_entry.ensures.seen ∙ settle_entry old c.decide-decided.new.self (Some c.decide-decided.result) made
           (reply.Err c.args.errno) d.same got);
       room = c.push.ensures.room;
-      room_bytes = (let none : length c.settle.result.bytes.now ≡ 0 = ap length (c.settle.ensures.bytes ∙ ap bytes_given got) in
+      room_bytes = (let none : length c.settle_entry.result.bytes.now ≡ 0 = ap length (c.settle_entry.ensures.bytes ∙ ap bytes_given got) in
           omega (arith, none, c.push.ensures.room_bytes));
     }

@@ -2,6 +2,7 @@ use Rattle.std.proofs.Common.{◌≡◌, ◌+◌, true, false, List, ℕ, ◌∷
 use Rattle.i2c_base.specs.Need.{bytes_given}
 use Rattle.i2c_base.specs.declared.entry.Entry.{Entry}
 use Rattle.bus_spec.specs.Stepwise.{reply_by}
+use Rattle.bus_core.specs.Replies.{reply_decided}
 use Rattle.bus_core.specs.Seats.{IsCounted}
 use Rattle.bus_core.proofs.Reseating.{settled, settle_entry}
 use Rattle.bus_core.proofs.seat.Seat.settle.Goals as goal
@@ -20,7 +21,7 @@ push-requires-clause-room g c = (c.requires.room c.in-Some.verdict (c.in-Some.en
 pub push-requires-clause-room_bytes : goal.push-requires-clause-room_bytes
 push-requires-clause-room_bytes g c =
     let room = (c.requires.room c.in-Some.verdict (c.in-Some.ensures.some c.args.board.now c.args.locks.now)).1 in
-    rw (c.settle.ensures.bytes, c.reply.ensures, c.decide-decided.ensures.reply) room
+    rw (c.settle_entry.ensures.bytes, c.decide-decided.ensures.reply) room
 
 pub lock_done-requires : goal.lock_done-requires
 lock_done-requires g c = subst IsCounted (sym c.decide-decided.ensures.same) c.requires.counted
@@ -33,7 +34,8 @@ returns-clause-settled g c =
     let d = c.decide-decided.ensures in
     let p = c.lock_done.ensures in
     let verdict = c.in-Some.verdict in
-    let got : c.reply.result.now ≡ reply_by verdict (Some old.transfer) old.replies.got = c.reply.ensures ∙ d.reply in (
+    let made = reply_decided c.decide-decided.result m.replies in
+    let got : made ≡ reply_by verdict (Some old.transfer) old.replies.got = d.reply in (
       verdict,
       record {
         next = c.in-Some.ensures.some c.args.board.now c.args.locks.now;
@@ -41,10 +43,10 @@ returns-clause-settled g c =
             p.walk p.route;
         entries = c.push.ensures.entries
             ∙ ap (λ (e : Entry). c.args.journal.now.entries ++ e ∷ [])
-            (c.settle.ensures.seen ∙ settle_entry old m (Some c.decide-decided.result) c.reply.result.now
+            (c.settle_entry.ensures.seen ∙ settle_entry old m (Some c.decide-decided.result) made
             (reply_by verdict (Some old.transfer) old.replies.got) d.same got);
         room = c.push.ensures.room;
-        room_bytes = ap (λ (xs : List ℕ). c.push.new.self.room_bytes + length xs) (sym (c.settle.ensures.bytes ∙ ap bytes_given got))
+        room_bytes = ap (λ (xs : List ℕ). c.push.new.self.room_bytes + length xs) (sym (c.settle_entry.ensures.bytes ∙ ap bytes_given got))
             ∙ c.push.ensures.room_bytes;
       },
     )
