@@ -8,7 +8,7 @@ use Rattle.std.proofs.lemmas.List.Sums.{fold_push, sum_by-cons, sum_by-drop_more
 use Rattle.std.proofs.lemmas.Option.{slice_get_within, get_or_from_slice_get}
 use Rattle.i2c_base.specs.Transfer.{TransferView}
 use Rattle.i2c_base.specs.declared.reply.Reply.{Reply}
-use Rattle.tools.specs.Commands.{transfers_of, is_over}
+use Rattle.tools.specs.Commands.{transfers_of, is_answered}
 use Rattle.caller_core.specs.Progress.{Answered, Progress, begun, next_turn, replied_to, replied, progress, next_of, asked_at, sum_of_command, sum_from, sum_left}
 use Rattle.caller_core.specs.View.{CommandView}
 
@@ -21,7 +21,7 @@ left_kept : (P : CommandView → Type 0) (p : Progress) (left : List CommandView
     → All P (replied_to p left r).left
 left_kept P p [] r all h = all
 left_kept P p (c ∷ cs) r all h =
-    elim (is_over c.cmd (length p.own) r) as
+    elim (is_answered c.cmd (length p.own) r) as
     (λ b. All P (cond b (next_turn p c cs (p.own ++ r ∷ [])) (record p { own = p.own ++ r ∷ [] })).left) [
       | true ↦ All-tail P c cs h
       | false ↦ all
@@ -67,7 +67,7 @@ falls_in f over (c ∷ cs) own r t e =
     let here : f (get_or ts k t) ≡ f t = ap f (get_or_from_slice_get ts k t t e) in
     let more : sum_by f (drop k ts) ≡ f (get_or ts k t) + sum_by f (drop (k + 1) ts) = sum_by-drop_more f ts k t
     (slice_get_within ts k t e) in
-    elim (is_over c.cmd k r) as (λ b. sum_left f
+    elim (is_answered c.cmd k r) as (λ b. sum_left f
     (cond b (next_turn (record { over = over; left = c ∷ cs; own = own }) c cs (own ++ r ∷ []))
     (record { over = over; left = c ∷ cs; own = own ++ r ∷ [] })) + f t
     ≤ sum_by f (drop k ts) + sum_by (sum_of_command f) cs) [

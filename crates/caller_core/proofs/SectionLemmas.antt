@@ -12,7 +12,7 @@ use Rattle.tools.specs.Lines.{line_read}
 use Rattle.tools.specs.Words.{begins_with_word, onto_first}
 use Rattle.tools.specs.Splits.{is_blank, begins_feed, words_of, behind_space, joined_words, lines_of}
 use Rattle.tools.specs.declared.command.Cmd.{Cmd}
-use Rattle.tools.specs.Commands.{answer_text, is_over}
+use Rattle.tools.specs.Commands.{answer_text, is_answered}
 use Rattle.tools.proofs.CommandLemmas.{answer_line}
 use Rattle.caller_core.specs.Progress.{Answered, Progress, begun, next_turn, replied_to, replied, progress}
 use Rattle.caller_core.specs.Scripts.{Place, command_of, at_most, lines_read, behind_commands, behind_line_read, commands_or_none, script_read, commands_of, command_text}
@@ -118,7 +118,7 @@ record HaveLines (p : Progress) : Type 0 where
 keeps : (p : Progress) (left : List CommandView) (r : Reply) → HaveLines p → All HasLine left → HaveLines (replied_to p left r)
 keeps p [] r h all = h
 keeps p (c ∷ cs) r h all =
-    elim (is_over c.cmd (length p.own) r) as
+    elim (is_answered c.cmd (length p.own) r) as
     (λ b. HaveLines (cond b (next_turn p c cs (p.own ++ r ∷ [])) (record p { own = p.own ++ r ∷ [] }))) [
       | true ↦
           let a : Answered = record { command = c; replies = p.own ++ r ∷ [] } in

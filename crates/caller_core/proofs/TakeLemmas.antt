@@ -1,5 +1,5 @@
 -- A script that takes a reply: what it needs for that, and what it keeps.
-use Rattle.std.proofs.Common.{◌≡◌, ℕ, ◌+◌, ◌-◌, ◌<◌, ◌≤◌, true, false, List, [], ◌∷◌, ◌++◌, length, drop, get_or, Bool, Option, Some, None, sym, ap, subst, ◌∙◌, arith}
+use Rattle.std.proofs.Common.{◌≡◌, ℕ, ◌+◌, ◌-◌, ◌<◌, ◌≤◌, true, false, List, [], ◌∷◌, ◌++◌, length, drop, get_or, Bool, Option, Some, None, refl, sym, ap, subst, ◌∙◌, arith}
 use Rattle.std.specs.Prelude.{All, slice_get, sum_by}
 use Rattle.std.specs.Option.{option_map}
 use Rattle.std.proofs.lemmas.List.{length-map, length_push, drop-append-le}
@@ -11,11 +11,12 @@ use Rattle.i2c_base.specs.Need.{Covers}
 use Rattle.i2c_base.specs.Transfer.{TransferView}
 use Rattle.i2c_base.specs.declared.reply.Reply.{Reply}
 use Rattle.packed.specs.View.{PackedView}
-use Rattle.bus_journal.specs.Borrowed.{reply_by}
-use Rattle.bus_journal.specs.declared.borrowed.ReplyHead.{ReplyHead}
+use Rattle.i2c_base.specs.Replies.{reply_by, most_read}
+use Rattle.i2c_base.specs.declared.reply.ReplyHead.{ReplyHead}
+use Rattle.i2c_base.specs.declared.reply.ReplyHead.TheVariants as head
 use Rattle.tools.specs.declared.command.Cmd.{Cmd}
 use Rattle.tools.specs.Replies.{reply_of, replies_of, most_brought}
-use Rattle.tools.specs.Commands.{AreReplies, transfers_of, is_over}
+use Rattle.tools.specs.Commands.{AreReplies, transfers_of, is_answered}
 use Rattle.tools.specs.View.{RunView, TextView}
 use Rattle.tools.proofs.TransferLemmas.{IsAsk, brings_few}
 use Rattle.caller_core.specs.Callers.{need_at, owed_by}
@@ -28,6 +29,16 @@ use Rattle.caller_core.proofs.FairLemmas.{asked_from}
 use Rattle.caller_core.proofs.ProgressLemmas.{sum_falls}
 use Rattle.caller_core.proofs.TurnLemmas.{IsTurn, is_turn, answered, own_more, at_next, at_same, section_over, section_stays, left_over, left_stays, replies_push}
 use Rattle.i2c_base.specs.Need.{bytes_given}
+
+-- a reply brings the bytes that stand beside its head
+none_there : (bytes : List ℕ) → length bytes ≤ 0 → bytes ≡ []
+none_there [] few = refl
+none_there (x ∷ bytes) few = absurd (omega (arith, few))
+
+pub given_by : (h : ReplyHead) (bytes : List ℕ) → length bytes ≤ most_read h → bytes ≡ bytes_given (reply_by h bytes)
+given_by head.Done bytes few = none_there bytes few
+given_by head.Read bytes few = refl
+given_by (head.Err e) bytes few = none_there bytes few
 
 run_same : (a b : RunView) → Some a ≡ Some b → a ≡ b
 run_same a b e = cc
@@ -93,8 +104,8 @@ pub record IsKept (cs : List CommandView) (taken : PackedView ReplyHead) (printe
 -- the command that runs tells whether the one whose turn it is is over
 pub tells_over : (cs : List CommandView) (rs : List Reply) (place from : ℕ) (o : Option RunView) (t : TransferView) (run : RunView)
     (u : IsTurn cs rs place from o t) (r : Reply) (told is : Bool) → o ≡ Some run
-    → told ≡ is_over run.cmd run.taken r → told ≡ is → is_over u.command.cmd (length (drop from rs)) r ≡ is
-tells_over cs rs place from o t run u r told is runs by e = ap (λ (x : RunView). is_over x.cmd x.taken r)
+    → told ≡ is_answered run.cmd run.taken r → told ≡ is → is_answered u.command.cmd (length (drop from rs)) r ≡ is
+tells_over cs rs place from o t run u r told is runs by e = ap (λ (x : RunView). is_answered x.cmd x.taken r)
     (sym (ran_same cs rs place from o t run u runs)) ∙ sym by ∙ e
 
 -- what was read of the commands at the place is the one whose turn it is
@@ -195,7 +206,7 @@ module _ (script : ScriptView) (cs : List CommandView) (taken : PackedView Reply
           (λ xs. sum_left most_brought (progress cs xs)) now,
     )
 
-    pub kept_over : (end : ℕ) (begins : Option RunView) → is_over k.turn.command.cmd (length (drop from (replies_of taken.items))) r ≡ true
+    pub kept_over : (end : ℕ) (begins : Option RunView) → is_answered k.turn.command.cmd (length (drop from (replies_of taken.items))) r ≡ true
         → end ≡ length then.items
         → begins ≡ option_map (λ c. run_of c.cmd 0) (slice_get cs (place + 1))
         → text.bytes ≡ printed.bytes ++ command_text (answered cs (replies_of taken.items) place from run k.transfer r k.at k.turn)
@@ -220,7 +231,7 @@ module _ (script : ScriptView) (cs : List CommandView) (taken : PackedView Reply
           roots_are = was.roots_are;
         }
 
-    pub kept_same : (ran : RunView) → is_over k.turn.command.cmd (length (drop from (replies_of taken.items))) r ≡ false → run ≡ Some ran
+    pub kept_same : (ran : RunView) → is_answered k.turn.command.cmd (length (drop from (replies_of taken.items))) r ≡ false → run ≡ Some ran
         → IsCaller script cs then printed place from (Some (record ran { taken = ran.taken + 1 })) cost roots
     kept_same ran stays is =
         let own : List Reply = drop from (replies_of taken.items) in
@@ -249,7 +260,7 @@ module _ (script : ScriptView) (cs : List CommandView) (taken : PackedView Reply
         subst (λ xs. Covers (record { replies = then.room; bytes = room }) (need_at (progress xs (replies_of then.items)))) (sym was.whole)
         (record { replies = room_then; bytes = omega (arith, enough, ap (λ xs. sum_by room_of (progress cs xs).left) now) })
 
-    pub covers_over : (room : ℕ) → is_over k.turn.command.cmd (length (drop from (replies_of taken.items))) r ≡ true
+    pub covers_over : (room : ℕ) → is_answered k.turn.command.cmd (length (drop from (replies_of taken.items))) r ≡ true
         → printed.room ≤ room + room_of k.turn.command
         → Covers (record { replies = then.room; bytes = room }) (owed_by script (replies_of then.items))
     covers_over room over less =
@@ -263,7 +274,7 @@ module _ (script : ScriptView) (cs : List CommandView) (taken : PackedView Reply
           ap (sum_by room_of) (left_over cs (replies_of taken.items) place from run k.transfer r k.at k.turn over),
         ))
 
-    pub covers_same : is_over k.turn.command.cmd (length (drop from (replies_of taken.items))) r ≡ false
+    pub covers_same : is_answered k.turn.command.cmd (length (drop from (replies_of taken.items))) r ≡ false
         → Covers (record { replies = then.room; bytes = printed.room }) (owed_by script (replies_of then.items))
     covers_same stays =
         covers_by printed.room

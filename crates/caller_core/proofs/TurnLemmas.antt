@@ -12,9 +12,9 @@ use Rattle.std.proofs.lemmas.Option.{slice_get-get_or, slice_get_within, slice_g
 use Rattle.std.proofs.lemmas.List.Elements.{All-get_or}
 use Rattle.i2c_base.specs.Transfer.{TransferView}
 use Rattle.i2c_base.specs.declared.reply.Reply.{Reply}
-use Rattle.bus_journal.specs.declared.borrowed.ReplyHead.{ReplyHead}
+use Rattle.i2c_base.specs.declared.reply.ReplyHead.{ReplyHead}
 use Rattle.tools.specs.Replies.{reply_of, replies_of}
-use Rattle.tools.specs.Commands.{IsInRange, transfers_of, ends_early, is_over}
+use Rattle.tools.specs.Commands.{IsInRange, transfers_of, ends_early, is_answered}
 use Rattle.tools.specs.View.{RunView}
 use Rattle.tools.proofs.CommandLemmas.{asks_some}
 use Rattle.caller_core.specs.Kept.{IsAt, run_of}
@@ -148,26 +148,26 @@ module _ (cs : List CommandView) (rs : List Reply) (place from : ℕ) (run : Opt
   stepped : progress cs (rs ++ r ∷ []) ≡ replied_to (progress cs rs) (u.command ∷ drop (place + 1) cs) r
   stepped = progress_push cs rs r ∙ ap (λ left. replied_to (progress cs rs) left r) u.left
 
-  turn_over : is_over u.command.cmd (length (drop from rs)) r ≡ true
+  turn_over : is_answered u.command.cmd (length (drop from rs)) r ≡ true
       → progress cs (rs ++ r ∷ []) ≡ next_turn (progress cs rs) u.command (drop (place + 1) cs) (drop from rs ++ r ∷ [])
   turn_over is =
       let p : Progress = progress cs rs in
       stepped
       ∙ ap (λ b. cond b (next_turn p u.command (drop (place + 1) cs) (p.own ++ r ∷ [])) (record p { own = p.own ++ r ∷ [] }))
-      (ap (λ own. is_over u.command.cmd (length own) r) u.own ∙ is)
+      (ap (λ own. is_answered u.command.cmd (length own) r) u.own ∙ is)
       ∙ ap (λ own. next_turn p u.command (drop (place + 1) cs) (own ++ r ∷ [])) u.own
 
-  turn_stays : is_over u.command.cmd (length (drop from rs)) r ≡ false
+  turn_stays : is_answered u.command.cmd (length (drop from rs)) r ≡ false
       → progress cs (rs ++ r ∷ []) ≡ record (progress cs rs) { own = drop from rs ++ r ∷ [] }
   turn_stays is =
       let p : Progress = progress cs rs in
       stepped
       ∙ ap (λ b. cond b (next_turn p u.command (drop (place + 1) cs) (p.own ++ r ∷ [])) (record p { own = p.own ++ r ∷ [] }))
-      (ap (λ own. is_over u.command.cmd (length own) r) u.own ∙ is)
+      (ap (λ own. is_answered u.command.cmd (length own) r) u.own ∙ is)
       ∙ ap (λ own. record p { own = own ++ r ∷ [] }) u.own
 
   pub at_next : (now : Option RunView) → now ≡ option_map (λ c. run_of c.cmd 0) (slice_get cs (place + 1))
-      → is_over u.command.cmd (length (drop from rs)) r ≡ true
+      → is_answered u.command.cmd (length (drop from rs)) r ≡ true
       → IsAt cs (rs ++ r ∷ []) (place + 1) (length (rs ++ r ∷ [])) now
   at_next now begins is =
       let none : drop (length (rs ++ r ∷ [])) (rs ++ r ∷ []) ≡ [] = drop-length (rs ++ r ∷ []) in
@@ -181,7 +181,7 @@ module _ (cs : List CommandView) (rs : List Reply) (place from : ℕ) (run : Opt
       }
 
   pub at_same : (now : Option RunView) → now ≡ Some (run_of u.command.cmd (length (drop from rs) + 1))
-      → is_over u.command.cmd (length (drop from rs)) r ≡ false
+      → is_answered u.command.cmd (length (drop from rs)) r ≡ false
       → IsAt cs (rs ++ r ∷ []) place from now
   at_same now goes is =
       let longer : length (drop from (rs ++ r ∷ [])) ≡ length (drop from rs) + 1 = ap length own_more ∙ length_push (drop from rs) r in
@@ -207,20 +207,20 @@ module _ (cs : List CommandView) (rs : List Reply) (place from : ℕ) (run : Opt
             );
       }
 
-  pub section_over : is_over u.command.cmd (length (drop from rs)) r ≡ true
+  pub section_over : is_answered u.command.cmd (length (drop from rs)) r ≡ true
       → section_text cs (rs ++ r ∷ []) ≡ section_text cs rs ++ command_text answered
   section_over is =
       ap (λ (p : Progress). flat_map command_text p.over) (turn_over is)
       ∙ flat_map-append command_text (progress cs rs).over (answered ∷ [])
       ∙ ap (λ (x : List ℕ). section_text cs rs ++ x) (append-nil (command_text answered))
 
-  pub section_stays : is_over u.command.cmd (length (drop from rs)) r ≡ false → section_text cs (rs ++ r ∷ []) ≡ section_text cs rs
+  pub section_stays : is_answered u.command.cmd (length (drop from rs)) r ≡ false → section_text cs (rs ++ r ∷ []) ≡ section_text cs rs
   section_stays is = ap (λ (p : Progress). flat_map command_text p.over) (turn_stays is)
 
-  pub left_over : is_over u.command.cmd (length (drop from rs)) r ≡ true → (progress cs (rs ++ r ∷ [])).left ≡ drop (place + 1) cs
+  pub left_over : is_answered u.command.cmd (length (drop from rs)) r ≡ true → (progress cs (rs ++ r ∷ [])).left ≡ drop (place + 1) cs
   left_over is = ap (λ (p : Progress). p.left) (turn_over is)
 
-  pub left_stays : is_over u.command.cmd (length (drop from rs)) r ≡ false → (progress cs (rs ++ r ∷ [])).left ≡ drop place cs
+  pub left_stays : is_answered u.command.cmd (length (drop from rs)) r ≡ false → (progress cs (rs ++ r ∷ [])).left ≡ drop place cs
   left_stays is = ap (λ (p : Progress). p.left) (turn_stays is) ∙ a.left
 
 pub replies_push : (items now : List (ReplyHead × List ℕ)) (item : ReplyHead × List ℕ) (r : Reply) → now ≡ items ++ item ∷ []

@@ -3,7 +3,7 @@ use Rattle.std.specs.Prelude.{ℕ, ◌+◌, List, [], ◌∷◌, ◌++◌, lengt
 use Rattle.std.specs.List.{fold, sum_by}
 use Rattle.i2c_base.specs.Transfer.{TransferView}
 use Rattle.i2c_base.specs.declared.reply.Reply.{Reply}
-use Rattle.tools.specs.Commands.{transfers_of, is_over}
+use Rattle.tools.specs.Commands.{transfers_of, is_answered}
 use Rattle.caller_core.specs.View.{CommandView}
 
 -- a command with the replies that it took
@@ -26,7 +26,7 @@ next_turn p c cs replies = record { over = p.over ++ record { command = c; repli
 
 abbrev pub replied_to : Progress → List CommandView → Reply → Progress
 replied_to p [] r = p
-replied_to p (c ∷ cs) r = if is_over c.cmd (length p.own) r then next_turn p c cs (p.own ++ r ∷ []) else record p { own = p.own ++ r ∷ [] }
+replied_to p (c ∷ cs) r = if is_answered c.cmd (length p.own) r then next_turn p c cs (p.own ++ r ∷ []) else record p { own = p.own ++ r ∷ [] }
 
 abbrev pub replied : Progress → Reply → Progress
 replied p r = replied_to p p.left r

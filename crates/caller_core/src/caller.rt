@@ -14,8 +14,7 @@ ghost use Rattle.caller_core.specs.Scripts.{script_read, commands_of, cost_of_sc
 use crate::commands::Commands;
 use crate::script::{ScriptFault, read_script};
 use crate::totals::{Totals, room_from, totals_of};
-use bus_journal::{ReplyHead, split_reply};
-use i2c_base::{Caller, Kind, NoMemory, Reply, Transfer};
+use i2c_base::{Caller, Kind, NoMemory, ReplyHead, Transfer};
 use i2c_board::Accepted;
 use packed::Packed;
 use std::alloc::Global;
@@ -181,11 +180,10 @@ impl Caller for Script {
         self.printed.reserve(room)
     }
 
-    fn take(&mut self, reply: &Reply) {
-        let (answer, bytes) = split_reply(reply);
-        self.taken.push(answer, bytes);
+    fn take(&mut self, head: ReplyHead, bytes: &[u8]) {
+        self.taken.push(head, bytes);
         if let Some(run) = &mut self.run {
-            if run.take(reply) {
+            if run.take(head) {
                 let (_, echo) = self.commands.get(self.place);
                 push_command(&mut self.printed, echo, *run, &self.taken, self.from);
                 self.place += 1;

@@ -1,10 +1,11 @@
 //! A caller of one's own: it asks for one read, and keeps what came of it.
-ghost use Rattle.std.specs.Prelude.{◌≡◌, [], ◌∷◌, None};
+ghost use Rattle.std.specs.Prelude.{◌≡◌, [], ◌∷◌, None, slice_get};
 ghost use Rattle.std.specs.Option.{option_map_or};
+ghost use Rattle.i2c_base.specs.Need.{bytes_given};
 ghost use Rattle.i2c_spec.specs.Fair.{IsFairCaller};
 ghost use Rattle.examples_rig.specs.OneReads.{asked_by, board_of, left_of, owed_by, room_of, transfer_to};
 
-use i2c_base::{Addr, Caller, Kind, NoMemory, Reply, Transfer};
+use i2c_base::{Addr, Caller, Kind, NoMemory, Reply, ReplyHead, Transfer};
 use i2c_board::Accepted;
 use std::marker::Model;
 use std::snapshot::Snapshot;
@@ -27,31 +28,32 @@ pub struct OneRead {
     board: Snapshot<Accepted>,
     bus: u16,
     addr: Addr,
-    /// The reply, once it came: what contracts see of it, and the byte that it has.
-    reply: Option<Snapshot<Reply>>,
-    byte: Option<u8>,
+    /// The reply, once it came.
+    reply: Option<Reply>,
 }
 
 impl OneRead {
     /// It asked for nothing yet.
     pub fn open(board: &Accepted, bus: u16, addr: Addr) -> Self
         ensures opened { (result.board.value ≡ board.now) × (result.bus ≡ bus) × (result.addr ≡ addr) }
-        ensures fresh { (result.reply ≡ None) × (result.byte ≡ None) }
+        ensures fresh { result.reply ≡ None }
     {
         OneRead {
             board: Snapshot::of(board),
             bus,
             addr,
             reply: None,
-            byte: None,
         }
     }
 
     /// The byte that was read; none before it was, or where it failed.
     pub fn byte(&self) -> Option<u8>
-        ensures { result ≡ self.now.byte }
+        ensures { result ≡ option_map_or (λ r. slice_get (bytes_given r) 0) self.now.reply None }
     {
-        self.byte
+        match &self.reply {
+            Some(Reply::Read(bytes)) => bytes.as_slice().first().copied(),
+            _ => None,
+        }
     }
 }
 
@@ -71,7 +73,7 @@ impl Caller for OneRead {
 
     ghost board = { board_of };
 
-    ghost taken = { λ c. option_map_or (λ r. r.value ∷ []) c.reply [] };
+    ghost taken = { λ c. option_map_or (λ r. r ∷ []) c.reply [] };
 
     ghost asked = { asked_by };
 
@@ -82,7 +84,7 @@ impl Caller for OneRead {
     ghost spare = { λ c. room_of };
 
     fn next(&self) -> Option<Transfer> {
-        match self.reply {
+        match &self.reply {
             None => Some(transfer_to(self.bus, self.addr)),
             Some(_) => None,
         }
@@ -92,12 +94,8 @@ impl Caller for OneRead {
         Ok(())
     }
 
-    fn take(&mut self, reply: &Reply) {
-        self.reply = Some(Snapshot::of(reply));
-        self.byte = match reply {
-            Reply::Read(bytes) => bytes.as_slice().first().copied(),
-            Reply::Done | Reply::Err(_) => None,
-        };
+    fn take(&mut self, head: ReplyHead, bytes: &[u8]) {
+        self.reply = Some(Reply::new(head, bytes));
     }
 }
 

@@ -6,7 +6,7 @@ use Rattle.i2c_base.specs.Fitting.{Fits, count_of}
 use Rattle.i2c_base.specs.declared.reply.Reply.TheVariants as reply
 use Rattle.i2c_spec.specs.SmbusCalls.{block_read_row}
 use Rattle.i2c_spec.specs.declared.smbus_row.CallRow.{CallRow}
-use Rattle.bus_journal.specs.declared.borrowed.ReplyHead.{ReplyHead}
+use Rattle.i2c_base.specs.declared.reply.ReplyHead.{ReplyHead}
 use Rattle.smb_emul.specs.Calls.{messages_of_call, value_of_call, call_row, is_coded, read_value, wanted_code, value_by}
 use Rattle.smb_emul.specs.declared.call.SmbCall.{SmbCall}
 use Rattle.smb_emul.specs.declared.call.SmbFail.TheVariants.{Pec}

@@ -36,8 +36,8 @@ abbrev pub ends_early : Cmd → ℕ → Reply → Bool
 ends_early (cmd.Get g) k r = is_error r
 
 -- it is over with the reply of transfer k
-abbrev pub is_over : Cmd → ℕ → Reply → Bool
-is_over c k r = ends_early c k r || (k + 1 == length (transfers_of c))
+abbrev pub is_answered : Cmd → ℕ → Reply → Bool
+is_answered c k r = ends_early c k r || (k + 1 == length (transfers_of c))
 
 -- what it prints of its replies once it is over
 abbrev pub answer_text : Cmd → List Reply → List ℕ

@@ -2,7 +2,7 @@
 use Rattle.std.specs.Prelude.{◌≡◌, ℕ, ◌+◌, List, Option, Some, None, Result, Ok, Err, if◌then◌else◌}
 use Rattle.std.specs.Str.{bytes_eq}
 use Rattle.tools.specs.LineSets.{Word, LineSet, nothing, node}
-use Rattle.tools.specs.Readers.{◌>>=◌, one_at, is_at, is_over, over_at}
+use Rattle.tools.specs.Readers.{◌>>=◌, one_at, is_at, is_past, over_at}
 
 -- a class of words, what each of them means, and one of them
 pub record Class (B : Type 0) : Type 0 where
@@ -51,4 +51,4 @@ read_at (ends a) ws i = over_at a ws i
 read_at (word text g) ws i = if is_at text ws i then read_at g ws (i + 1) else Err i
 read_at (word_or text g h) ws i = if is_at text ws i then read_at g ws (i + 1) else read_at h ws i
 read_at (class c k) ws i = one_at c.of ws i >>= λ b. read_at (k b) ws (i + 1)
-read_at (maybe a g) ws i = if is_over ws i then Ok a else read_at g ws i
+read_at (maybe a g) ws i = if is_past ws i then Ok a else read_at g ws i

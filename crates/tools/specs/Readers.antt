@@ -42,8 +42,8 @@ abbrev pub is_at : Word → List Word → ℕ → Bool
 is_at text ws i = is_some_text text (slice_get ws i)
 
 -- no word stands at i
-abbrev pub is_over : List Word → ℕ → Bool
-is_over ws i = nat_le (length ws) i
+abbrev pub is_past : List Word → ℕ → Bool
+is_past ws i = nat_le (length ws) i
 
 abbrev pub over_at : {A : Type 0} → A → List Word → ℕ → Result A ℕ
-over_at a ws i = if is_over ws i then Ok a else Err i
+over_at a ws i = if is_past ws i then Ok a else Err i

@@ -4,8 +4,8 @@ use Rattle.std.specs.List.{sum_by}
 use Rattle.i2c_base.specs.declared.reply.Reply.{Reply}
 use Rattle.i2c_base.specs.declared.reply.Reply.TheVariants as reply
 use Rattle.i2c_base.specs.Transfer.{TransferView, size_of}
-use Rattle.bus_journal.specs.Borrowed.{reply_by}
-use Rattle.bus_journal.specs.declared.borrowed.ReplyHead.{ReplyHead}
+use Rattle.i2c_base.specs.Replies.{reply_by}
+use Rattle.i2c_base.specs.declared.reply.ReplyHead.{ReplyHead}
 
 -- the reply that a head and its bytes stand for
 abbrev pub reply_of : ReplyHead × List ℕ → Reply

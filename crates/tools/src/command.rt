@@ -1,7 +1,8 @@
 //! The commands of a script, a row for each: the words that it is read from, what it asks for, and what it prints.
 
-ghost use Rattle.std.specs.Prelude.{◌≡◌, ◌+◌, ◌<◌, ◌≤◌, ◌++◌, length, drop, slice_index_or};
-ghost use Rattle.tools.specs.Commands.{grammar, IsInRange, AreReplies, transfers_of, is_over, answer_text, most_of};
+ghost use Rattle.std.specs.Prelude.{◌≡◌, ℕ, List, ◌+◌, ◌<◌, ◌≤◌, ◌++◌, length, drop, slice_index_or};
+ghost use Rattle.i2c_base.specs.Replies.{reply_by};
+ghost use Rattle.tools.specs.Commands.{grammar, IsInRange, AreReplies, transfers_of, is_answered, answer_text, most_of};
 ghost use Rattle.tools.specs.Grammars.{read_at};
 ghost use Rattle.tools.specs.Readers.{texts};
 ghost use Rattle.tools.specs.Replies.{replies_of};
@@ -11,9 +12,8 @@ mod get;
 use crate::fault::WordRefused;
 use crate::reader::is_at;
 use crate::text::Text;
-use bus_journal::ReplyHead;
 pub use get::{Get, GetMode};
-use i2c_base::{Reply, Transfer};
+use i2c_base::{ReplyHead, Transfer};
 use packed::Packed;
 use std::marker::Model;
 
@@ -92,16 +92,16 @@ impl ToolRun {
         self.put(self.taken, transfer);
     }
 
-    /// Takes the reply of its next transfer. Tells whether it is over.
-    pub fn take(&mut self, reply: &Reply) -> bool
+    /// Takes the reply of its next transfer, whatever bytes it brings. Tells whether it is over.
+    pub fn take(&mut self, head: ReplyHead) -> bool
         requires more { self.old.taken < length (transfers_of self.old.cmd) }
-        ensures over { result ≡ is_over self.old.cmd self.old.taken reply.now }
+        ensures over { (bytes : List ℕ) → result ≡ is_answered self.old.cmd self.old.taken (reply_by head bytes) }
         ensures after { self.new ≡ record self.old { taken = self.old.taken + 1 } }
     {
         self.taken += 1;
         let is_last = self.taken == self.count();
         match &self.cmd {
-            Cmd::Get(_) => get::ends_early(reply) || is_last,
+            Cmd::Get(_) => get::ends_early(head) || is_last,
         }
     }
 

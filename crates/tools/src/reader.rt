@@ -3,7 +3,7 @@
 ghost use Rattle.std.specs.Prelude.{◌≡◌, ◌≤◌, IfOk};
 ghost use Rattle.std.specs.Str.{bytes_eq};
 ghost use Rattle.tools.specs.Numbers.{number_in};
-ghost use Rattle.tools.specs.Readers.{texts, one_at, is_at, is_over};
+ghost use Rattle.tools.specs.Readers.{texts, one_at, is_at, is_past};
 
 use crate::fault::WordRefused;
 use crate::number::number_in;
@@ -26,8 +26,8 @@ pub fn is_at(words: &[&[u8]], at: u16, text: &[u8]) -> bool
 }
 
 /// No word stands at a place.
-pub fn is_over(words: &[&[u8]], at: u16) -> bool
-    ensures { result ≡ is_over (texts words.now) at }
+pub fn is_past(words: &[&[u8]], at: u16) -> bool
+    ensures { result ≡ is_past (texts words.now) at }
 {
     words.len() <= usize::from(at)
 }

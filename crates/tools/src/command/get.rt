@@ -1,8 +1,8 @@
 //! `i2cget`: its line, the SMBus calls that read a register, and what it prints of their replies.
 
-ghost use Rattle.std.specs.Prelude.{◌≡◌, ℕ, ◌+◌, ◌-◌, ◌*◌, ◌<◌, ◌≤◌, ◌++◌, false, None, Some, length, drop, slice_index_or};
+ghost use Rattle.std.specs.Prelude.{◌≡◌, ℕ, List, ◌+◌, ◌-◌, ◌*◌, ◌<◌, ◌≤◌, ◌++◌, false, None, Some, length, drop, slice_index_or};
 ghost use Rattle.i2c_base.specs.Fitting.{Fits};
-ghost use Rattle.bus_journal.specs.Borrowed.{reply_by};
+ghost use Rattle.i2c_base.specs.Replies.{reply_by};
 ghost use Rattle.smb_emul.specs.Calls.{messages_of_call, value_of_call};
 ghost use Rattle.tools.specs.Commands.{AreReplies};
 ghost use Rattle.tools.specs.Gets.{mode_named, get_len, get_reg, get_bus, get_words, IsGetInRange, mode_of, len_of, register_ops, get_ops, op_at, get_call, get_transfers, get_answer, get_most};
@@ -15,11 +15,10 @@ ghost use Rattle.tools.specs.declared.command.Cmd.TheVariants as cmd;
 use crate::command::Cmd;
 use crate::fault::WordRefused;
 use crate::options::{address_at, bus_at, byte_at, options};
-use crate::reader::{is_over, is_text, number_at};
+use crate::reader::{is_past, is_text, number_at};
 use crate::text::Text;
 use crate::value::{MOST_BESIDE, push_errno, push_outcome};
-use bus_journal::ReplyHead;
-use i2c_base::{Addr, I2C_BLOCK_LIMIT, LARGEST_BLOCK, Reply, Transfer};
+use i2c_base::{Addr, I2C_BLOCK_LIMIT, LARGEST_BLOCK, ReplyHead, Transfer};
 use packed::Packed;
 use smb_emul::{SmbCall, SmbOp, put_messages, value_read};
 
@@ -105,13 +104,13 @@ fn read_len(words: &[&[u8]], at: u16, get: Get, mode: (GetMode, bool)) -> Result
         len: None,
         ..get
     };
-    if is_over(words, at) {
+    if is_past(words, at) {
         return Ok(Cmd::Get(get));
     }
     match mode {
         (GetMode::I2cBlock, false) => {
             let len = Some(number_at(words, at, 1, u16::from(I2C_BLOCK_LIMIT))? as u8);
-            if !is_over(words, at + 1) {
+            if !is_past(words, at + 1) {
                 return Err(WordRefused(at + 1));
             }
             Ok(Cmd::Get(Get { len, ..get }))
@@ -127,12 +126,12 @@ fn read_reg(words: &[&[u8]], at: u16, get: Get) -> Result<Cmd, WordRefused>
     requires bare { (get.reg ≡ None) × (get.mode ≡ None) × (get.pec ≡ false) × (get.len ≡ None) }
     ensures { result ≡ read_at (get_reg get.force get.bus get.addr) (texts words.now) at }
 {
-    if is_over(words, at) {
+    if is_past(words, at) {
         return Ok(Cmd::Get(get));
     }
     let reg = Some(byte_at(words, at)?);
     let get = Get { reg, ..get };
-    if is_over(words, at + 1) {
+    if is_past(words, at + 1) {
         return Ok(Cmd::Get(get));
     }
     let mode = mode_at(words, at + 1)?;
@@ -250,10 +249,10 @@ pub fn put_transfer(get: &Get, at: u16, transfer: &mut Transfer)
 }
 
 /// An error ends it.
-pub fn ends_early(reply: &Reply) -> bool
-    ensures { result ≡ is_error reply.now }
+pub fn ends_early(head: ReplyHead) -> bool
+    ensures { (bytes : List ℕ) → result ≡ is_error (reply_by head bytes) }
 {
-    matches!(reply, Reply::Err(_))
+    matches!(head, ReplyHead::Err(_))
 }
 
 /// Prints the value of the last reply, or why there is none.

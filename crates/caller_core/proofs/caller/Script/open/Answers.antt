@@ -4,7 +4,7 @@ use Rattle.i2c_base.specs.Board.{BoardView}
 use Rattle.i2c_spec.specs.Cost.{cost_of}
 use Rattle.i2c_spec.specs.Flat.{block_limit}
 use Rattle.packed.specs.View.{PackedView}
-use Rattle.bus_journal.specs.declared.borrowed.ReplyHead.{ReplyHead}
+use Rattle.i2c_base.specs.declared.reply.ReplyHead.{ReplyHead}
 use Rattle.tools.specs.Replies.{most_brought}
 use Rattle.caller_core.specs.Kept.{IsCaller}
 use Rattle.caller_core.specs.Progress.{sum_of_command}

@@ -1,8 +1,8 @@
 use Rattle.std.proofs.Common.{length, ap, subst, ◌∙◌, arith}
 use Rattle.i2c_base.specs.Fitting.{Fits}
 use Rattle.i2c_base.specs.declared.reply.Reply.TheVariants as reply
-use Rattle.bus_journal.specs.Borrowed.{reply_by}
-use Rattle.bus_journal.specs.declared.borrowed.ReplyHead.{ReplyHead}
+use Rattle.i2c_base.specs.Replies.{reply_by}
+use Rattle.i2c_base.specs.declared.reply.ReplyHead.{ReplyHead}
 use Rattle.smb_emul.specs.Calls.{messages_of_call, value_of_call}
 use Rattle.tools.specs.Gets.{get_call, op_at}
 use Rattle.tools.specs.Values.{block_in}
