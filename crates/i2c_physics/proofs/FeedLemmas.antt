@@ -76,7 +76,7 @@ module _ (b : BoardView) (root : ℕ) (muxes places : List PlaceView) (chips : L
     (busy : Bool)
     (inv : IsSimWorld b root muxes places chips states cr dr) where
   abbrev world : World
-  world = world_of b root chips states cr.hearing.items dr.hearing.items busy
+  world = world_of b root chips states cr.hearing dr.hearing busy
 
   low_chip : (k : ℕ) → k < 0 + length chips → k < length b.muxes
   low_chip k low = omega (arith, low, inv.chips_are)
@@ -88,30 +88,30 @@ module _ (b : BoardView) (root : ℕ) (muxes places : List PlaceView) (chips : L
   not_joined : (k : ℕ) → is_own b root k ≡ false → joins_at chips places k ≡ false
   not_joined k other = other-apart b root places inv.device_places k chips other
 
-  not_hearing : (e : Event) (k : ℕ) → is_own b root k ≡ false → to_those dr.hearing.items e k ≡ None
+  not_hearing : (e : Event) (k : ℕ) → is_own b root k ≡ false → to_those dr.hearing e k ≡ None
   not_hearing e k other =
-      elim (cases_Bool (is_among dr.hearing.items k)) [
+      elim (cases_Bool (is_among dr.hearing k)) [
         | inl heard ↦ absurd (let both : true ≡ false = sym (inv.reached_own k (inv.devices_reached.hearing_started k heard)) ∙ other in cc)
         | inr deaf ↦ ap (λ heard. event_if heard e) deaf
       ]
 
   -- a byte
   module _ (e : Event) where
-    pub chips-answer : answers chip_table (to_those cr.hearing.items e) 0 chips ≡ answers chip_table (to_chips world e) 0 chips
+    pub chips-answer : answers chip_table (to_those cr.hearing e) 0 chips ≡ answers chip_table (to_chips world e) 0 chips
     chips-answer =
-        answers-same chip_table (to_chips world e) (to_those cr.hearing.items e) 0 chips
-        (λ k at low. chip-hears world cr.hearing.items dr.hearing.items refl e k)
+        answers-same chip_table (to_chips world e) (to_those cr.hearing e) 0 chips
+        (λ k at low. chip-hears world cr.hearing dr.hearing refl e k)
 
-    pub devices-answer : answers state_table (to_those dr.hearing.items e) 0 states ≡ answers state_table (to_devices world e) 0
+    pub devices-answer : answers state_table (to_those dr.hearing e) 0 states ≡ answers state_table (to_devices world e) 0
         (seen_on b root b.devices states)
     devices-answer =
-        sym (answers-seen b root (to_those dr.hearing.items e) (not_hearing e) states inv.devices_are)
-        ∙ answers-same state_table (to_devices world e) (to_those dr.hearing.items e) 0 (seen_on b root b.devices states)
-        (λ k at low. device-hears world cr.hearing.items dr.hearing.items refl e k)
+        sym (answers-seen b root (to_those dr.hearing e) (not_hearing e) states inv.devices_are)
+        ∙ answers-same state_table (to_devices world e) (to_those dr.hearing e) 0 (seen_on b root b.devices states)
+        (λ k at low. device-hears world cr.hearing dr.hearing refl e k)
 
     module _ (new_chips : List ChipView) (new_states : List TargetState)
-        (chips_new : new_chips ≡ feed chip_table (to_those cr.hearing.items e) 0 chips)
-        (states_new : new_states ≡ feed state_table (to_those dr.hearing.items e) 0 states) (rc rd : Reach)
+        (chips_new : new_chips ≡ feed chip_table (to_those cr.hearing e) 0 chips)
+        (states_new : new_states ≡ feed state_table (to_those dr.hearing e) 0 states) (rc rd : Reach)
         (rcs : rc.started ≡ cr.started) (rch : rc.hearing ≡ cr.hearing) (rds : rd.started ≡ dr.started)
         (rdh : rd.hearing ≡ dr.hearing) where
       pub sent-kept : IsSimWorld b root muxes places new_chips new_states rc rd
@@ -119,59 +119,59 @@ module _ (b : BoardView) (root : ℕ) (muxes places : List PlaceView) (chips : L
         plain = inv.plain;
         mux_places = inv.mux_places;
         device_places = inv.device_places;
-        chips_are = ap length chips_new ∙ length-feed chip_table (to_those cr.hearing.items e) 0 chips ∙ inv.chips_are;
-        devices_are = ap length states_new ∙ length-feed state_table (to_those dr.hearing.items e) 0 states ∙ inv.devices_are;
-        chips_reached = rw (chips_new, rcs, rch) (reached-sent chip_table chips cr.started.items cr.hearing.items inv.chips_reached e);
+        chips_are = ap length chips_new ∙ length-feed chip_table (to_those cr.hearing e) 0 chips ∙ inv.chips_are;
+        devices_are = ap length states_new ∙ length-feed state_table (to_those dr.hearing e) 0 states ∙ inv.devices_are;
+        chips_reached = rw (chips_new, rcs, rch) (reached-sent chip_table chips cr.started cr.hearing inv.chips_reached e);
         devices_reached = rw (states_new, rds, rdh)
-            (reached-sent state_table states dr.started.items dr.hearing.items inv.devices_reached e);
+            (reached-sent state_table states dr.started dr.hearing inv.devices_reached e);
         reached_own = rw rds inv.reached_own;
       }
 
-      pub sent-is : world_of b root new_chips new_states rc.hearing.items rd.hearing.items busy ≡ sent_on world e
+      pub sent-is : world_of b root new_chips new_states rc.hearing rd.hearing busy ≡ sent_on world e
       sent-is =
-          let to_all = feed-same chip_table (to_chips world e) (to_those cr.hearing.items e) 0 chips
-          (λ k at low. chip-hears world cr.hearing.items dr.hearing.items refl e k) in
+          let to_all = feed-same chip_table (to_chips world e) (to_those cr.hearing e) 0 chips
+          (λ k at low. chip-hears world cr.hearing dr.hearing refl e k) in
           let all_devices : seen_on b root b.devices new_states ≡ feed state_table (to_devices world e) 0
           (seen_on b root b.devices states) =
-          ap (seen_on b root b.devices) states_new ∙ sym (feed-seen b root (to_those dr.hearing.items e) (not_hearing e) states)
-          ∙ feed-same state_table (to_devices world e) (to_those dr.hearing.items e) 0 (seen_on b root b.devices states)
-          (λ k at low. device-hears world cr.hearing.items dr.hearing.items refl e k) in
+          ap (seen_on b root b.devices) states_new ∙ sym (feed-seen b root (to_those dr.hearing e) (not_hearing e) states)
+          ∙ feed-same state_table (to_devices world e) (to_those dr.hearing e) 0 (seen_on b root b.devices states)
+          (λ k at low. device-hears world cr.hearing dr.hearing refl e k) in
           let all_chips = chips_new ∙ to_all in
           rw (rch, rdh) (ap (λ (cs : List ChipView). record world { chips = cs; devices = seen_on b root b.devices new_states }) all_chips
           ∙ ap (λ (ds : List TargetState). record world { chips = feed chip_table (to_chips world e) 0 chips; devices = ds }) all_devices)
 
   -- a stop
   module _ (new_chips : List ChipView) (new_states : List TargetState)
-      (chips_new : new_chips ≡ feed chip_table (to_those (filter (joins_at chips muxes) cr.started.items) event.Stop) 0 chips)
-      (states_new : new_states ≡ feed state_table (to_those (filter (joins_at chips places) dr.started.items) event.Stop) 0 states) where
+      (chips_new : new_chips ≡ feed chip_table (to_those (filter (joins_at chips muxes) cr.started) event.Stop) 0 chips)
+      (states_new : new_states ≡ feed state_table (to_those (filter (joins_at chips places) dr.started) event.Stop) 0 states) where
     pub stopped-kept : ((y : ChipView) → IsQuiet chip_table (chip_after y event.Stop)) → (left_chips left_devices : Reach)
-        → left_chips.started.items ≡ filter (λ k. not (joins_at chips muxes k)) cr.started.items → left_chips.hearing.items ≡ []
-        → left_devices.started.items ≡ filter (λ k. not (joins_at chips places k)) dr.started.items → left_devices.hearing.items ≡ []
+        → left_chips.started ≡ filter (λ k. not (joins_at chips muxes k)) cr.started → left_chips.hearing ≡ []
+        → left_devices.started ≡ filter (λ k. not (joins_at chips places k)) dr.started → left_devices.hearing ≡ []
         → IsSimWorld b root muxes places new_chips new_states left_chips left_devices
     stopped-kept stops left_chips left_devices lc lch ld ldh =
-        let kept_chips = reached-stopped chip_table chips cr.started.items cr.hearing.items inv.chips_reached
+        let kept_chips = reached-stopped chip_table chips cr.started cr.hearing inv.chips_reached
         (joins_at chips muxes) stops in
-        let kept_states = reached-stopped state_table states dr.started.items dr.hearing.items inv.devices_reached
+        let kept_states = reached-stopped state_table states dr.started dr.hearing inv.devices_reached
         (joins_at chips places) states_fair.stops in
         record {
           plain = inv.plain;
           mux_places = inv.mux_places;
           device_places = inv.device_places;
           chips_are = ap length chips_new
-              ∙ length-feed chip_table (to_those (filter (joins_at chips muxes) cr.started.items) event.Stop) 0 chips ∙ inv.chips_are;
+              ∙ length-feed chip_table (to_those (filter (joins_at chips muxes) cr.started) event.Stop) 0 chips ∙ inv.chips_are;
           devices_are = ap length states_new
-              ∙ length-feed state_table (to_those (filter (joins_at chips places) dr.started.items) event.Stop) 0 states ∙ inv.devices_are;
+              ∙ length-feed state_table (to_those (filter (joins_at chips places) dr.started) event.Stop) 0 states ∙ inv.devices_are;
           chips_reached = rw (chips_new, lc, lch) kept_chips;
           devices_reached = rw (states_new, ld, ldh) kept_states;
-          reached_own = rw ld (λ k left. inv.reached_own k (filter-among (λ m. not (joins_at chips places m)) dr.started.items k left).0);
+          reached_own = rw ld (λ k left. inv.reached_own k (filter-among (λ m. not (joins_at chips places m)) dr.started k left).0);
         }
 
     pub stopped-is : world_of b root new_chips new_states [] [] false ≡ after world call.Stop
     stopped-is =
-        let all_chips = chips_new ∙ stopped-fed chip_table chips cr.started.items cr.hearing.items inv.chips_reached (joins_at chips muxes)
+        let all_chips = chips_new ∙ stopped-fed chip_table chips cr.started cr.hearing inv.chips_reached (joins_at chips muxes)
         ∙ feed-same chip_table (λ m. stop_event (joins_chip world m)) (λ k. stop_event (joins_at chips muxes k)) 0 chips
         (λ k at low. chip-stopped world muxes k inv.mux_places (low_chip k low)) in
-        let all_states = states_new ∙ stopped-fed state_table states dr.started.items dr.hearing.items inv.devices_reached
+        let all_states = states_new ∙ stopped-fed state_table states dr.started dr.hearing inv.devices_reached
         (joins_at chips places) in
         let all_devices : seen_on b root b.devices new_states ≡ feed state_table (λ d. stop_event (joins_device world d)) 0
         (seen_on b root b.devices states) =
@@ -211,22 +211,22 @@ module _ (b : BoardView) (root : ℕ) (muxes places : List PlaceView) (chips : L
     calls-devices = subst (λ n. AreRising 0 n (addressed chips places a)) places_count
         (rising-of_range (λ k. has_at a places k && joins_at chips places k) (length places))
 
-    pub other-chips : AreRising 0 (length chips) (others chips muxes a cr.started.items)
+    pub other-chips : AreRising 0 (length chips) (others chips muxes a cr.started)
     other-chips = rising-filter (λ k. not (has_at a muxes k) && joins_at chips muxes k) 0
-        (length chips) cr.started.items inv.chips_reached.started_rise
+        (length chips) cr.started inv.chips_reached.started_rise
 
-    pub other-devices : AreRising 0 (length states) (others chips places a dr.started.items)
+    pub other-devices : AreRising 0 (length states) (others chips places a dr.started)
     other-devices = rising-filter (λ k. not (has_at a places k) && joins_at chips places k) 0
-        (length states) dr.started.items inv.devices_reached.started_rise
+        (length states) dr.started inv.devices_reached.started_rise
 
     not_started : (k : ℕ) → is_own b root k ≡ false → start_event (joins_at chips places k) (has_at a places k) reading ≡ None
     not_started k other = ap (λ j. start_event j (has_at a places k) reading) (not_joined k other)
 
-    started_own : (k : ℕ) → is_among (union_of (length states) dr.started.items (addressed chips places a)) k ≡ true
+    started_own : (k : ℕ) → is_among (union_of (length states) dr.started (addressed chips places a)) k ≡ true
         → is_own b root k ≡ true
     started_own k among =
-        elim (or_cases (is_among dr.started.items k) (is_among (addressed chips places a) k)
-        (filter-among (λ m. is_among dr.started.items m || is_among (addressed chips places a) m)
+        elim (or_cases (is_among dr.started k) (is_among (addressed chips places a) k)
+        (filter-among (λ m. is_among dr.started m || is_among (addressed chips places a) m)
         (range_with_len 0 (length states)) k among).1) [
           | inl before ↦ inv.reached_own k before
           | inr called ↦ joined-own b root places inv.device_places k chips
@@ -239,7 +239,7 @@ module _ (b : BoardView) (root : ℕ) (muxes places : List PlaceView) (chips : L
         (silent : (k : ℕ) (ys : List (ℕ × Answer)) → R ((k, Nothing) ∷ ys) ≡ R ys) where
       chips_read : R chips_said ≡ R (start_chips world a reading)
       chips_read =
-          started-heard chip_table chips cr.started.items cr.hearing.items inv.chips_reached chips muxes a reading muxes_count R step is
+          started-heard chip_table chips cr.started cr.hearing inv.chips_reached chips muxes a reading muxes_count R step is
           silent (λ x. refl)
           ∙ ap R (answers-same chip_table (chip_start world a reading)
           (λ k. start_event (joins_at chips muxes k) (has_at a muxes k) reading) 0 chips
@@ -247,7 +247,7 @@ module _ (b : BoardView) (root : ℕ) (muxes places : List PlaceView) (chips : L
 
       states_read : R states_said ≡ R (start_devices world a reading)
       states_read =
-          started-heard state_table states dr.started.items dr.hearing.items inv.devices_reached chips places a reading places_count R step
+          started-heard state_table states dr.started dr.hearing inv.devices_reached chips places a reading places_count R step
           is silent states_fair.other
           ∙ ap R (sym (answers-seen b root
           (λ k. start_event (joins_at chips places k) (has_at a places k) reading) not_started states inv.devices_are)
@@ -287,28 +287,28 @@ module _ (b : BoardView) (root : ℕ) (muxes places : List PlaceView) (chips : L
         ∙ sym (hearers_told world a reading)
 
     module _ (new_chips : List ChipView) (new_states : List TargetState) (rc rd : Reach)
-        (chips_new : new_chips ≡ feed chip_table (to_those (others chips muxes a cr.started.items) event.Other) 0
+        (chips_new : new_chips ≡ feed chip_table (to_those (others chips muxes a cr.started) event.Other) 0
         (feed chip_table (to_those (addressed chips muxes a) (event.Start reading)) 0 chips))
-        (states_new : new_states ≡ feed state_table (to_those (others chips places a dr.started.items) event.Other) 0
+        (states_new : new_states ≡ feed state_table (to_those (others chips places a dr.started) event.Other) 0
         (feed state_table (to_those (addressed chips places a) (event.Start reading)) 0 states))
-        (rc_heard : rc.hearing.items ≡ numbers_of chips_said) (rd_heard : rd.hearing.items ≡ numbers_of states_said) where
-      pub started-kept : rc.started.items ≡ union_of (length chips) cr.started.items (addressed chips muxes a)
-          → rd.started.items ≡ union_of (length states) dr.started.items (addressed chips places a)
+        (rc_heard : rc.hearing ≡ numbers_of chips_said) (rd_heard : rd.hearing ≡ numbers_of states_said) where
+      pub started-kept : rc.started ≡ union_of (length chips) cr.started (addressed chips muxes a)
+          → rd.started ≡ union_of (length states) dr.started (addressed chips places a)
           → IsSimWorld b root muxes places new_chips new_states rc rd
       started-kept rc_started rd_started =
-          let kept_chips = reached-started chip_table chips cr.started.items cr.hearing.items inv.chips_reached chips muxes a reading
+          let kept_chips = reached-started chip_table chips cr.started cr.hearing inv.chips_reached chips muxes a reading
           muxes_count in
-          let kept_states = reached-started state_table states dr.started.items dr.hearing.items inv.devices_reached chips places a reading
+          let kept_states = reached-started state_table states dr.started dr.hearing inv.devices_reached chips places a reading
           places_count in
           record {
             plain = inv.plain;
             mux_places = inv.mux_places;
             device_places = inv.device_places;
             chips_are = ap length (chips_new
-                ∙ started-fed chip_table chips cr.started.items cr.hearing.items inv.chips_reached chips muxes a reading muxes_count)
+                ∙ started-fed chip_table chips cr.started cr.hearing inv.chips_reached chips muxes a reading muxes_count)
                 ∙ length-feed chip_table (λ k. start_event (joins_at chips muxes k) (has_at a muxes k) reading) 0 chips ∙ inv.chips_are;
             devices_are = ap length (states_new
-                ∙ started-fed state_table states dr.started.items dr.hearing.items inv.devices_reached chips places a reading places_count)
+                ∙ started-fed state_table states dr.started dr.hearing inv.devices_reached chips places a reading places_count)
                 ∙ length-feed state_table (λ k. start_event (joins_at chips places k) (has_at a places k) reading) 0 states
                 ∙ inv.devices_are;
             chips_reached = rw (chips_new, rc_started, rc_heard) kept_chips;
@@ -316,13 +316,13 @@ module _ (b : BoardView) (root : ℕ) (muxes places : List PlaceView) (chips : L
             reached_own = rw rd_started started_own;
           }
 
-      pub started-is : world_of b root new_chips new_states rc.hearing.items rd.hearing.items true ≡ after world (call.Start a reading)
+      pub started-is : world_of b root new_chips new_states rc.hearing rd.hearing true ≡ after world (call.Start a reading)
       started-is =
-          let all_chips = chips_new ∙ started-fed chip_table chips cr.started.items cr.hearing.items inv.chips_reached chips muxes a reading
+          let all_chips = chips_new ∙ started-fed chip_table chips cr.started cr.hearing inv.chips_reached chips muxes a reading
           muxes_count
           ∙ feed-same chip_table (chip_start world a reading) (λ k. start_event (joins_at chips muxes k) (has_at a muxes k) reading) 0 chips
           (λ k at low. chip-started world muxes k inv.mux_places (low_chip k low) a reading) in
-          let all_states = states_new ∙ started-fed state_table states dr.started.items dr.hearing.items inv.devices_reached chips places a
+          let all_states = states_new ∙ started-fed state_table states dr.started dr.hearing inv.devices_reached chips places a
           reading places_count in
           let all_devices : seen_on b root b.devices new_states ≡ feed state_table (device_start world a reading) 0
           (seen_on b root b.devices states) =
@@ -331,17 +331,17 @@ module _ (b : BoardView) (root : ℕ) (muxes places : List PlaceView) (chips : L
           ∙ feed-same state_table (device_start world a reading) (λ k. start_event (joins_at chips places k) (has_at a places k) reading) 0
           (seen_on b root b.devices states)
           (λ k at low. device-started world places k inv.device_places (low_device k low) a reading) in
-          let heard : nodes_of rc.hearing.items rd.hearing.items ≡ hearers world a reading = rw (rc_heard, rd_heard) started-hearing in
+          let heard : nodes_of rc.hearing rd.hearing ≡ hearers world a reading = rw (rc_heard, rd_heard) started-hearing in
           ap (λ (cs : List ChipView). record world {
             chips = cs;
             devices = seen_on b root b.devices new_states;
-            hearing = nodes_of rc.hearing.items rd.hearing.items;
+            hearing = nodes_of rc.hearing rd.hearing;
             busy = true;
           }) all_chips
           ∙ ap (λ (ds : List TargetState). record world {
             chips = feed chip_table (chip_start world a reading) 0 chips;
             devices = ds;
-            hearing = nodes_of rc.hearing.items rd.hearing.items;
+            hearing = nodes_of rc.hearing rd.hearing;
             busy = true;
           }) all_devices
           ∙ ap (λ (hs : List Node). record world {

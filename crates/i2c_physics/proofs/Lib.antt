@@ -1,3 +1,4 @@
+pub mod AloneLemmas
 pub mod FailLemmas
 pub mod FeedLemmas
 pub mod LineLemmas

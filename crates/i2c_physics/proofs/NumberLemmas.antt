@@ -1,5 +1,5 @@
 -- Rising numbers. The inductions go over the numbers.
-use Rattle.std.proofs.Common.{◌≡◌, ℕ, zero, suc, ◌+◌, ◌-◌, ◌<◌, ◌≤◌, Bool, true, false, ◌&&◌, ◌||◌, cond, List, [], ◌∷◌, ◌++◌, length, append-nil, drop, refl, sym, ◌∙◌, ap, subst, arith, inl, inr}
+use Rattle.std.proofs.Common.{◌≡◌, ℕ, zero, suc, ◌+◌, ◌-◌, ◌<◌, ◌≤◌, Bool, true, false, ◌&&◌, ◌||◌, cond, List, [], ◌∷◌, ◌++◌, length, drop, refl, sym, ◌∙◌, ap, subst, arith, inl, inr}
 use Rattle.std.specs.Prelude.{◌==◌}
 use Rattle.std.specs.List.{filter, list_all, range_with_len}
 use Rattle.std.proofs.lemmas.Bool.{ne_eqb, eqb-false}
@@ -15,19 +15,6 @@ pub filter_more : (p : ℕ → Bool) (n : ℕ) → filter p (range_with_len 0 (n
 filter_more p n =
     ap (filter p) (sym (map-id (range_with_len 0 (n + 1)))) ∙ filter_of_map_range_with_len_more p (λ k. k) 0 n n (omega arith)
     ∙ ap (λ ns. filter p ns ++ cond (p n) (n ∷ []) []) (map-id (range_with_len 0 n))
-
--- the number is looked at, and kept where it passes
-pub filter_kept : (p : ℕ → Bool) (n : ℕ) (numbers more : List ℕ) → p n ≡ true → numbers ≡ filter p (range_with_len 0 n)
-    → more ≡ numbers ++ n ∷ []
-    → more ≡ filter p (range_with_len 0 (n + 1))
-filter_kept p n numbers more is so_far pushed =
-    pushed ∙ ap (λ ns. ns ++ n ∷ []) so_far ∙ ap (λ b. filter p (range_with_len 0 n) ++ cond b (n ∷ []) []) (sym is) ∙ sym (filter_more p n)
-
-pub filter_passed : (p : ℕ → Bool) (n : ℕ) (numbers : List ℕ) → p n ≡ false → numbers ≡ filter p (range_with_len 0 n)
-    → numbers ≡ filter p (range_with_len 0 (n + 1))
-filter_passed p n numbers is so_far =
-    so_far ∙ sym (append-nil (filter p (range_with_len 0 n))) ∙ ap (λ b. filter p (range_with_len 0 n) ++ cond b (n ∷ []) []) (sym is)
-    ∙ sym (filter_more p n)
 
 -- two tests, one after the other
 both_if : (q : ℕ → Bool) (b : Bool) (n : ℕ) (once twice : List ℕ) → filter q once ≡ twice

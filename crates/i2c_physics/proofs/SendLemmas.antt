@@ -3,6 +3,7 @@ use denote.Param.Send.{IsSend, sendable}
 use Rattle.std.proofs.Crossing.{crosses}
 use Rattle.i2c_spec.proofs.SendLemmas.{hop-send}
 use Rattle.targets.proofs.SendLemmas.{device-send}
+use Rattle.i2c_physics.specs.contracts.numbers.Numbers as Numbers
 use Rattle.i2c_physics.specs.contracts.place.Place as Place
 use Rattle.i2c_physics.specs.contracts.reach.Reach as Reach
 use Rattle.i2c_physics.specs.contracts.sites.Sites as Sites
@@ -17,8 +18,11 @@ place-send = search (crosses, sendable, hop-send) depth 20
 sites-send : IsSend (Sites.the_field).row
 sites-send = search (crosses, sendable, place-send) depth 20
 
+numbers-send : IsSend (Numbers.the_field).row
+numbers-send = search (crosses, sendable) depth 20
+
 reach-send : IsSend (Reach.the_field).row
-reach-send = search (crosses, sendable) depth 20
+reach-send = search (crosses, sendable, numbers-send) depth 20
 
 device_slot-send : IsSend (DeviceSlot.the_field).row
 device_slot-send = search (crosses, sendable, device-send) depth 20

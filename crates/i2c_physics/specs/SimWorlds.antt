@@ -37,6 +37,6 @@ pub record IsSimWorld (b : BoardView) (root : ℕ) (muxes devices : List PlaceVi
   pub device_places : devices ≡ map (device_place b root) b.devices
   pub chips_are : length chips ≡ length b.muxes
   pub devices_are : length states ≡ length b.devices
-  pub chips_reached : IsReach chip_table chips chip_reach.started.items chip_reach.hearing.items
-  pub devices_reached : IsReach state_table states device_reach.started.items device_reach.hearing.items
-  pub reached_own : (k : ℕ) → is_among device_reach.started.items k ≡ true → is_own b root k ≡ true
+  pub chips_reached : IsReach chip_table chips chip_reach.started chip_reach.hearing
+  pub devices_reached : IsReach state_table states device_reach.started device_reach.hearing
+  pub reached_own : (k : ℕ) → is_among device_reach.started k ≡ true → is_own b root k ≡ true

@@ -10,6 +10,7 @@
 mod device_slot;
 mod fail_port;
 mod fail_rig;
+mod numbers;
 mod phase;
 mod place;
 mod reach;

@@ -65,6 +65,13 @@ impl Place {
         self.wired && opens_all(chips, self.above.as_slice())
     }
 
+    /// The address of the target, where it has one.
+    pub fn addr(&self) -> Option<Addr>
+        ensures { result ≡ self.now.addr }
+    {
+        self.addr
+    }
+
     /// The target has this address.
     pub fn is_at(&self, address: u8) -> bool
         ensures { result ≡ has_address address self.now.addr }

@@ -4,16 +4,13 @@ ghost use Rattle.std.specs.List.{filter, list_all};
 ghost use Rattle.i2c_base.specs.Limits.{MOST_DEVICES};
 ghost use Rattle.i2c_physics.specs.Reach.{is_among, AreRising, joins_at, addressed, others, union_of};
 
+use crate::numbers::Numbers;
 use crate::place::Place;
 use crate::sites::{Sites, is_at};
-use arrayvec::ArrayVec;
-use i2c_base::{Addr, MOST_DEVICES, empty};
+use i2c_base::{Addr, MOST_DEVICES};
 use tgt_mux::Chip;
 
-/// Numbers of targets of one kind, rising; the devices are the most.
-pub type Numbers = ArrayVec<u16, MOST_DEVICES>;
-
-/// Which targets of one kind a message has reached, by number. Its lists are made once, and written over by each call.
+/// Which targets of one kind a message has reached, by number, rising. Its lists are made once, and written over by each call.
 #[derive(Drop)]
 pub struct Reach {
     /// Those that were started since their last stop.
@@ -31,15 +28,15 @@ pub struct Reach {
 impl Reach {
     /// No message has reached any target.
     pub fn none() -> Self
-        ensures started { result.started.items ≡ [] }
-        ensures hearing { result.hearing.items ≡ [] }
+        ensures started { result.started ≡ [] }
+        ensures hearing { result.hearing ≡ [] }
     {
         Reach {
-            started: ArrayVec::new(),
-            hearing: ArrayVec::new(),
-            addressed: ArrayVec::new(),
-            rest: ArrayVec::new(),
-            room: ArrayVec::new(),
+            started: Numbers::new(),
+            hearing: Numbers::new(),
+            addressed: Numbers::new(),
+            rest: Numbers::new(),
+            room: Numbers::new(),
         }
     }
 
@@ -47,8 +44,8 @@ impl Reach {
     /// A target that wasn't started is quiet.
     #[inline(always)]
     pub fn call(&mut self, chips: &[Chip], sites: &Sites, addr: Addr)
-        ensures told { self.new.addressed.items ≡ addressed chips.now sites.now addr }
-        ensures rest { self.new.rest.items ≡ others chips.now sites.now addr self.old.started.items }
+        ensures told { self.new.addressed ≡ addressed chips.now sites.now addr }
+        ensures rest { self.new.rest ≡ others chips.now sites.now addr self.old.started }
         ensures started { self.new.started ≡ self.old.started }
     {
         let places = sites.as_slice();
@@ -60,8 +57,8 @@ impl Reach {
     /// Finds which of the started ones a stop reaches, and which it doesn't.
     #[inline(always)]
     pub fn part(&mut self, chips: &[Chip], sites: &Sites)
-        ensures told { self.new.addressed.items ≡ filter (joins_at chips.now sites.now) self.old.started.items }
-        ensures rest { self.new.rest.items ≡ filter (λ k. not (joins_at chips.now sites.now k)) self.old.started.items }
+        ensures told { self.new.addressed ≡ filter (joins_at chips.now sites.now) self.old.started }
+        ensures rest { self.new.rest ≡ filter (λ k. not (joins_at chips.now sites.now k)) self.old.started }
     {
         let started = self.started.as_slice();
         parted(
@@ -77,9 +74,9 @@ impl Reach {
     #[inline(always)]
     pub fn add_told(&mut self, count: usize)
         requires few { count ≤ MOST_DEVICES }
-        requires started { AreRising 0 count self.old.started.items }
-        requires told { AreRising 0 count self.old.addressed.items }
-        ensures started { self.new.started.items ≡ union_of count self.old.started.items self.old.addressed.items }
+        requires started { AreRising 0 count self.old.started }
+        requires told { AreRising 0 count self.old.addressed }
+        ensures started { self.new.started ≡ union_of count self.old.started self.old.addressed }
         ensures hearing { self.new.hearing ≡ self.old.hearing }
     {
         add_all(
@@ -92,30 +89,19 @@ impl Reach {
 
     /// A stop is over: nobody hears any more, and those are left that it didn't reach.
     pub fn leave_rest(&mut self)
-        ensures started { self.new.started.items ≡ self.old.rest.items }
-        ensures hearing { self.new.hearing.items ≡ [] }
+        ensures started { self.new.started ≡ self.old.rest }
+        ensures hearing { self.new.hearing ≡ [] }
     {
-        empty(&mut self.hearing);
-        write_over(&mut self.started, self.rest.as_slice());
-    }
-}
-
-/// Puts these numbers in the place of those that a list had.
-fn write_over(list: &mut Numbers, numbers: &[u16])
-    requires { length numbers.now ≤ MOST_DEVICES }
-    ensures { list.new.items ≡ numbers.now }
-{
-    empty(list);
-    for number in numbers {
-        list.push(*number);
+        self.hearing.clear();
+        self.started.write_over(self.rest.as_slice());
     }
 }
 
 /// Puts a number behind the others, where the condition holds.
 fn push_if(numbers: &mut Numbers, condition: bool, number: u16)
-    requires { length numbers.old.items < MOST_DEVICES }
-    ensures items { numbers.new.items ≡ numbers.old.items ++ (if condition then number ∷ [] else []) }
-    ensures few { length numbers.new.items ≤ length numbers.old.items + 1 }
+    requires { length numbers.old < MOST_DEVICES }
+    ensures items { numbers.new ≡ numbers.old ++ (if condition then number ∷ [] else []) }
+    ensures few { length numbers.new ≤ length numbers.old + 1 }
 {
     if condition {
         numbers.push(number);
@@ -142,9 +128,9 @@ fn joins_at(chips: &[Chip], places: &[Place], number: u16) -> bool
 #[inline(always)]
 fn joined(chips: &[Chip], places: &[Place], numbers: &[u16], joined: &mut Numbers)
     requires { length numbers.now ≤ MOST_DEVICES }
-    ensures { joined.new.items ≡ filter (joins_at chips.now places.now) numbers.now }
+    ensures { joined.new ≡ filter (joins_at chips.now places.now) numbers.now }
 {
-    empty(joined);
+    joined.clear();
     for number in numbers {
         if joins_at(chips, places, *number) {
             joined.push(*number);
@@ -156,9 +142,9 @@ fn joined(chips: &[Chip], places: &[Place], numbers: &[u16], joined: &mut Number
 #[inline(always)]
 fn others(chips: &[Chip], places: &[Place], addr: Addr, numbers: &[u16], rest: &mut Numbers)
     requires { length numbers.now ≤ MOST_DEVICES }
-    ensures { rest.new.items ≡ others chips.now places.now addr numbers.now }
+    ensures { rest.new ≡ others chips.now places.now addr numbers.now }
 {
-    empty(rest);
+    rest.clear();
     for number in numbers {
         if !is_at(places, *number, addr.get()) && joins_at(chips, places, *number) {
             rest.push(*number);
@@ -176,11 +162,11 @@ fn parted(
     apart: &mut Numbers,
 )
     requires { length numbers.now ≤ MOST_DEVICES }
-    ensures joined { joined.new.items ≡ filter (joins_at chips.now places.now) numbers.now }
-    ensures apart { apart.new.items ≡ filter (λ k. not (joins_at chips.now places.now k)) numbers.now }
+    ensures joined { joined.new ≡ filter (joins_at chips.now places.now) numbers.now }
+    ensures apart { apart.new ≡ filter (λ k. not (joins_at chips.now places.now k)) numbers.now }
 {
-    empty(joined);
-    empty(apart);
+    joined.clear();
+    apart.clear();
     for number in numbers {
         if joins_at(chips, places, *number) {
             joined.push(*number);
@@ -202,15 +188,15 @@ fn has_all(numbers: &[u16], others: &[u16]) -> bool
 #[tactic(auto, using(crate::proofs::NumberLemmas::either_none, crate::proofs::NumberLemmas::either_has))]
 fn add_all(numbers: &mut Numbers, count: usize, added: &[u16], room: &mut Numbers)
     requires few { count ≤ MOST_DEVICES }
-    requires numbers { AreRising 0 count numbers.old.items }
+    requires numbers { AreRising 0 count numbers.old }
     requires added { AreRising 0 count added.now }
-    ensures { numbers.new.items ≡ union_of count numbers.old.items added.now }
+    ensures { numbers.new ≡ union_of count numbers.old added.now }
 {
-    if numbers.len() == 0 {
-        write_over(numbers, added);
+    if numbers.as_slice().is_empty() {
+        numbers.write_over(added);
     } else if !has_all(numbers.as_slice(), added) {
         union_of(count, numbers.as_slice(), added, room);
-        write_over(numbers, room.as_slice());
+        numbers.write_over(room.as_slice());
     }
 }
 
@@ -224,9 +210,9 @@ fn is_in_either(first: &[u16], second: &[u16], number: u16) -> bool
 #[tactic(auto, using(crate::proofs::NumberLemmas::filter_more))]
 fn union_of(count: usize, first: &[u16], second: &[u16], numbers: &mut Numbers)
     requires { count ≤ MOST_DEVICES }
-    ensures { numbers.new.items ≡ union_of count first.now second.now }
+    ensures { numbers.new ≡ union_of count first.now second.now }
 {
-    empty(numbers);
+    numbers.clear();
     for number in 0..count as u16 {
         let found = is_in_either(first, second, number);
         push_if(numbers, found, number);

@@ -50,7 +50,7 @@ impl Model for SimWorld {
 
     ghost Value = { World };
 
-    ghost view = { λ w. record { board = w.board.value; root = w.root; chips = w.chips.items; devices = seen_on w.board.value w.root w.board.value.devices w.devices.items; hearing = nodes_of w.chip_reach.hearing.items w.device_reach.hearing.items; busy = w.busy } };
+    ghost view = { λ w. record { board = w.board.value; root = w.root; chips = w.chips.items; devices = seen_on w.board.value w.root w.board.value.devices w.devices.items; hearing = nodes_of w.chip_reach.hearing w.device_reach.hearing; busy = w.busy } };
 
     ghost invariant = { λ w. IsSimWorld w.board.value w.root w.mux_places w.device_places w.chips.items w.devices.items w.chip_reach w.device_reach };
 }
@@ -146,6 +146,7 @@ impl SimWorld {
     }
 
     /// Tells those who have heard the start of the message of an event. What chips and devices answer.
+    #[inline(always)]
     fn send(&mut self, event: Event) -> (WiredAnd, WiredAnd)
         ensures chips { result.0 ≡ chips_say self.old event }
         ensures devices { result.1 ≡ devices_say self.old event }

@@ -1,12 +1,12 @@
 //! The places of the targets of one kind, by number and by address.
-ghost use Rattle.std.specs.Prelude.{◌≡◌, ◌≤◌, length, map, IfOk};
+ghost use Rattle.std.specs.Prelude.{◌≡◌, ◌+◌, ◌<◌, ◌≤◌, [], length, map, IfOk, OnOk};
 ghost use Rattle.std.specs.List.{range_with_len};
 ghost use Rattle.i2c_base.specs.Limits.{MOST_DEVICES};
 ghost use Rattle.i2c_spec.specs.Layouts.{board_of};
 ghost use Rattle.i2c_spec.specs.Plain.{IsPlainBoard};
 ghost use Rattle.i2c_physics.specs.Places.{device_place, mux_place};
 ghost use Rattle.i2c_physics.specs.Reach.{has_at, wired_at};
-ghost use Rattle.i2c_physics.specs.Sites.{numbers_at};
+ghost use Rattle.i2c_physics.specs.Sites.{numbers_at, numbers_below};
 
 use crate::place::Place;
 use i2c_base::{Addr, SegId};
@@ -94,26 +94,34 @@ fn by_address(alloc: Global, places: &[Place]) -> Result<Vec<Vec<u16>>, AllocErr
     requires { length places.now ≤ MOST_DEVICES }
     ensures { IfOk result (λ at. map (λ numbers. numbers.items) at.items ≡ map (numbers_at places.now) (range_with_len 0 128)) }
 {
-    let mut at = Vec::with_capacity(alloc, usize::from(ADDRESSES))?;
-    for address in 0..ADDRESSES {
-        at.push_reserved(numbers_at(alloc, places, address)?);
+    let mut at = of_nobody(alloc)?;
+    for number in 0..places.len() as u16 {
+        list_number(&mut at, places, number)?;
     }
     Ok(at)
 }
 
-/// The numbers of those at this address.
-#[tactic(auto, using(crate::proofs::NumberLemmas::filter_more))]
-fn numbers_at(alloc: Global, places: &[Place], address: u8) -> Result<Vec<u16>, AllocError>
-    requires { length places.now ≤ MOST_DEVICES }
-    ensures { IfOk result (λ numbers. numbers.items ≡ numbers_at places.now address) }
+/// For each address that nobody is at it.
+fn of_nobody(alloc: Global) -> Result<Vec<Vec<u16>>, AllocError>
+    ensures { IfOk result (λ at. map (λ numbers. numbers.items) at.items ≡ map (numbers_at []) (range_with_len 0 128)) }
 {
-    let mut numbers = Vec::new(alloc);
-    for number in 0..places.len() as u16 {
-        if is_at(places, number, address) {
-            numbers.push(number)?;
-        }
+    let mut at = Vec::with_capacity(alloc, usize::from(ADDRESSES))?;
+    for address in 0..ADDRESSES {
+        at.push_reserved(Vec::new(alloc));
     }
-    Ok(numbers)
+    Ok(at)
+}
+
+/// Puts the number of the next target behind the others at its address, where it has one.
+fn list_number(at: &mut Vec<Vec<u16>>, places: &[Place], number: u16) -> Result<(), AllocError>
+    requires there { number < length places.now }
+    requires listed { map (λ numbers. numbers.items) at.old.items ≡ map (numbers_below places.now number) (range_with_len 0 128) }
+    ensures { OnOk result (map (λ numbers. numbers.items) at.new.items ≡ map (numbers_below places.now (number + 1)) (range_with_len 0 128)) }
+{
+    if let Some(addr) = places[usize::from(number)].addr() {
+        at[usize::from(addr.get())].push(number)?;
+    }
+    Ok(())
 }
 
 /// The target of this number is there, on a bus of the root.

@@ -8,8 +8,9 @@ ghost use Rattle.i2c_physics.specs.Heard.{numbers_of};
 ghost use Rattle.i2c_physics.specs.Reach.{AreRising, to_those, union_of};
 ghost use Rattle.i2c_physics.specs.Answering.{wired_and_of, start_answer};
 
-use crate::reach::{Numbers, Reach};
-use i2c_base::{Answer, Event, Target, empty};
+use crate::numbers::Numbers;
+use crate::reach::Reach;
+use i2c_base::{Answer, Event, Target};
 
 /// What several targets answer to a call together.
 #[derive(Clone, Copy)]
@@ -49,14 +50,14 @@ impl WiredAnd {
 
 /// Puts the number of a target before the others, where it acknowledges or holds the clock to do so.
 fn hear(heard: &mut Numbers, number: u16, answer: Answer)
-    requires { length heard.old.items < MOST_DEVICES }
-    ensures items { heard.new.items ≡ (if has_heard answer then number ∷ heard.old.items else heard.old.items) }
-    ensures room { length heard.new.items ≤ length heard.old.items + 1 }
+    requires { length heard.old < MOST_DEVICES }
+    ensures items { heard.new ≡ (if has_heard answer then number ∷ heard.old else heard.old) }
+    ensures room { length heard.new ≤ length heard.old + 1 }
 {
     match answer {
         // Nearly always it is the only one.
-        Answer::Ack | Answer::Slow if heard.len() == 0 => heard.push(number),
-        Answer::Ack | Answer::Slow => heard.insert(0, number),
+        Answer::Ack | Answer::Slow if heard.as_slice().is_empty() => heard.push(number),
+        Answer::Ack | Answer::Slow => heard.put_first(number),
         Answer::Nack | Answer::Byte(_) | Answer::Nothing => {}
     }
 }
@@ -74,10 +75,10 @@ pub fn tell<T: Target>(
     requires rising { AreRising 0 (length targets.old) numbers.now }
     ensures fed { targets.new ≡ feed T.table (to_those numbers.now event) 0 targets.old }
     ensures answered { result ≡ wired_and_of (answers T.table (to_those numbers.now event) 0 targets.old) }
-    ensures heard { heard.new.items ≡ numbers_of (answers T.table (to_those numbers.now event) 0 targets.old) }
+    ensures heard { heard.new ≡ numbers_of (answers T.table (to_those numbers.now event) 0 targets.old) }
 {
     let mut wired_and = WiredAnd::silence();
-    empty(heard);
+    heard.clear();
     let mut left = numbers.len();
     while left > 0 {
         left -= 1;
@@ -91,16 +92,28 @@ pub fn tell<T: Target>(
     wired_and
 }
 
+/// Tells one target alone of an event. What it answers.
+#[inline(always)]
+fn tell_one<T: Target>(targets: &mut [T], number: u16, event: Event) -> WiredAnd
+    requires { number < length targets.old }
+    ensures fed { targets.new ≡ feed T.table (to_those (number ∷ []) event) 0 targets.old }
+    ensures answered { result ≡ wired_and_of (answers T.table (to_those (number ∷ []) event) 0 targets.old) }
+{
+    let mut wired_and = WiredAnd::silence();
+    wired_and.add(targets[usize::from(number)].on(event));
+    wired_and
+}
+
 /// Delivers a start to all that is addressed or still started; gives the wired AND of the addressed ones' answers.
 pub fn begin<T: Target>(targets: &mut [T], reach: &mut Reach, reading: bool) -> WiredAnd
     requires few { length targets.old ≤ MOST_DEVICES }
-    requires started { AreRising 0 (length targets.old) reach.old.started.items }
-    requires told { AreRising 0 (length targets.old) reach.old.addressed.items }
-    requires rest { AreRising 0 (length targets.old) reach.old.rest.items }
-    ensures fed { targets.new ≡ feed T.table (to_those reach.old.rest.items event.Other) 0 (feed T.table (to_those reach.old.addressed.items (event.Start reading)) 0 targets.old) }
-    ensures answered { result ≡ wired_and_of (answers T.table (to_those reach.old.addressed.items (event.Start reading)) 0 targets.old) }
-    ensures hearing { reach.new.hearing.items ≡ numbers_of (answers T.table (to_those reach.old.addressed.items (event.Start reading)) 0 targets.old) }
-    ensures started { reach.new.started.items ≡ union_of (length targets.old) reach.old.started.items reach.old.addressed.items }
+    requires started { AreRising 0 (length targets.old) reach.old.started }
+    requires told { AreRising 0 (length targets.old) reach.old.addressed }
+    requires rest { AreRising 0 (length targets.old) reach.old.rest }
+    ensures fed { targets.new ≡ feed T.table (to_those reach.old.rest event.Other) 0 (feed T.table (to_those reach.old.addressed (event.Start reading)) 0 targets.old) }
+    ensures answered { result ≡ wired_and_of (answers T.table (to_those reach.old.addressed (event.Start reading)) 0 targets.old) }
+    ensures hearing { reach.new.hearing ≡ numbers_of (answers T.table (to_those reach.old.addressed (event.Start reading)) 0 targets.old) }
+    ensures started { reach.new.started ≡ union_of (length targets.old) reach.old.started reach.old.addressed }
 {
     let start = Event::Start { reading };
     let wired_and = tell(
@@ -118,10 +131,10 @@ pub fn begin<T: Target>(targets: &mut [T], reach: &mut Reach, reading: bool) -> 
 /// Tells of a stop those that it reaches: they are started no more, and nobody hears any more.
 pub fn end<T: Target>(targets: &mut [T], reach: &mut Reach)
     requires few { length targets.old ≤ MOST_DEVICES }
-    requires told { AreRising 0 (length targets.old) reach.old.addressed.items }
-    ensures fed { targets.new ≡ feed T.table (to_those reach.old.addressed.items event.Stop) 0 targets.old }
-    ensures started { reach.new.started.items ≡ reach.old.rest.items }
-    ensures hearing { reach.new.hearing.items ≡ [] }
+    requires told { AreRising 0 (length targets.old) reach.old.addressed }
+    ensures fed { targets.new ≡ feed T.table (to_those reach.old.addressed event.Stop) 0 targets.old }
+    ensures started { reach.new.started ≡ reach.old.rest }
+    ensures hearing { reach.new.hearing ≡ [] }
 {
     let _answered = tell(
         targets,
@@ -132,12 +145,30 @@ pub fn end<T: Target>(targets: &mut [T], reach: &mut Reach)
     reach.leave_rest();
 }
 
-/// Tells those who have heard the start of the message of an event. What they answer.
+/// Tells those who have heard the start of the message of an event: nearly always a single one, or none. What they answer.
+#[inline(always)]
 pub fn deliver<T: Target>(targets: &mut [T], reach: &mut Reach, event: Event) -> WiredAnd
     requires few { length targets.old ≤ MOST_DEVICES }
-    requires hearing { AreRising 0 (length targets.old) reach.old.hearing.items }
-    ensures fed { targets.new ≡ feed T.table (to_those reach.old.hearing.items event) 0 targets.old }
-    ensures answered { result ≡ wired_and_of (answers T.table (to_those reach.old.hearing.items event) 0 targets.old) }
+    requires hearing { AreRising 0 (length targets.old) reach.old.hearing }
+    ensures fed { targets.new ≡ feed T.table (to_those reach.old.hearing event) 0 targets.old }
+    ensures answered { result ≡ wired_and_of (answers T.table (to_those reach.old.hearing event) 0 targets.old) }
+    ensures started { reach.new.started ≡ reach.old.started }
+    ensures hearing { reach.new.hearing ≡ reach.old.hearing }
+{
+    match reach.hearing.as_slice() {
+        [] => WiredAnd::silence(),
+        [number] => tell_one(targets, *number, event),
+        _ => deliver_to_all(targets, reach, event),
+    }
+}
+
+/// The same for any number of them. It isn't made part of the calls, which are short without it.
+#[inline(never)]
+fn deliver_to_all<T: Target>(targets: &mut [T], reach: &mut Reach, event: Event) -> WiredAnd
+    requires few { length targets.old ≤ MOST_DEVICES }
+    requires hearing { AreRising 0 (length targets.old) reach.old.hearing }
+    ensures fed { targets.new ≡ feed T.table (to_those reach.old.hearing event) 0 targets.old }
+    ensures answered { result ≡ wired_and_of (answers T.table (to_those reach.old.hearing event) 0 targets.old) }
     ensures started { reach.new.started ≡ reach.old.started }
     ensures hearing { reach.new.hearing ≡ reach.old.hearing }
 {

@@ -12,17 +12,17 @@ loop-number-preserved c =
     let was = c.loop-number.invariant in
     let i = c.loop-number.number-index in
     let joins = joins_at c.args.chips.now c.args.places.now in
-    let old = c.loop-number.joined.items in
+    let old = c.loop-number.joined in
     elim c.if-joins_at.branch [
       | then-joins_at w ↦
-          let grown = ap (λ v. v.items) w.joined-is ∙ w.push.ensures.items in
+          let grown = w.joined-is ∙ w.push.ensures in
           record {
             few = omega (arith, was.few, ap length grown ∙ length-append old (get_or c.args.numbers.now i 0 ∷ []));
             joined = kept-more joins c.args.numbers.now i c.joins_at.result old _ c.loop-number-test.true w.if-joins_at.true
                 c.joins_at.ensures was.joined grown;
           }
       | else-joins_at w ↦
-          let same = ap (λ v. v.items) w.joined-is in
+          let same = w.joined-is in
           record {
             few = omega (arith, was.few, ap length same);
             joined = same ∙ left-more joins c.args.numbers.now i c.joins_at.result old c.loop-number-test.true w.if-joins_at.false

@@ -19,11 +19,11 @@ loop-number-preserved c =
     let joins = joins_at c.args.chips.now places in
     let has = has_at c.args.addr places in
     let test : ℕ → Bool = λ k. not (has k) && joins k in
-    let old = c.loop-number.rest.items in
+    let old = c.loop-number.rest in
     let at : c.is_at.result ≡ has x = c.is_at.ensures ∙ ap (λ a. has_at a places x) c.get.ensures.value in
     elim c.if-not-is_at.branch [
       | then-not-is_at+then-joins_at w ↦
-          let grown = ap (λ v. v.items) w.rest-is ∙ w.push.ensures.items in
+          let grown = w.rest-is ∙ w.push.ensures in
           let other : true ≡ test x =
           ap (λ (h : Bool). not h && true) (sym w.if-not-is_at.true ∙ at)
           ∙ ap (λ (j : Bool). not (has x) && j) (sym w.if-joins_at.true ∙ w.joins_at.ensures) in
@@ -32,7 +32,7 @@ loop-number-preserved c =
             others = kept-more test numbers i true old _ low refl other was.others grown;
           }
       | else-not-is_at w ↦
-          let same = ap (λ v. v.items) w.rest-is in
+          let same = w.rest-is in
           let out : false ≡ test x =
           elim w.else-not-is_at.branch [
             | else-not-is_at-via-then-not-is_at+else-joins_at v ↦

@@ -14,12 +14,12 @@ loop-number-preserved c =
     let joins = joins_at c.args.chips.now c.args.places.now in
     let is = c.joins_at.ensures in
     let b = c.joins_at.result in
-    let joined = c.loop-number.joined.items in
-    let apart = c.loop-number.apart.items in
+    let joined = c.loop-number.joined in
+    let apart = c.loop-number.apart in
     elim c.if-joins_at.branch [
       | then-joins_at w ↦
-          let grown = ap (λ v. v.items) w.joined-is ∙ w.push.ensures.items in
-          let same = ap (λ v. v.items) w.apart-is in
+          let grown = w.joined-is ∙ w.push.ensures in
+          let same = w.apart-is in
           let yes = w.if-joins_at.true in
           record {
             few = omega (arith, was.few, ap length grown ∙ length-append joined (get_or numbers i 0 ∷ []));
@@ -28,8 +28,8 @@ loop-number-preserved c =
             apart = same ∙ left-more (λ k. not (joins k)) numbers i (not b) apart low (ap not yes) (ap not is) was.apart;
           }
       | else-joins_at w ↦
-          let same = ap (λ v. v.items) w.joined-is in
-          let grown = ap (λ v. v.items) w.apart-is ∙ w.push-else-joins_at.ensures.items in
+          let same = w.joined-is in
+          let grown = w.apart-is ∙ w.push-else-joins_at.ensures in
           let out = w.if-joins_at.false in
           record {
             few = omega (arith, was.few, ap length same);

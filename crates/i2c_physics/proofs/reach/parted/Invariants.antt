@@ -6,8 +6,8 @@ use Rattle.i2c_physics.proofs.reach.parted.Given as goal
 
 abbrev pub invariant-loop-number : goal.invariant-loop-number
 invariant-loop-number l = record {
-  few : length l.joined.items ≤ l.number-index;
-  few_apart : length l.apart.items ≤ l.number-index;
-  joined : l.joined.items ≡ filter (joins_at l.chips l.places) (take l.number-index l.numbers);
-  apart : l.apart.items ≡ filter (λ k. not (joins_at l.chips l.places k)) (take l.number-index l.numbers);
+  few : length l.joined ≤ l.number-index;
+  few_apart : length l.apart ≤ l.number-index;
+  joined : l.joined ≡ filter (joins_at l.chips l.places) (take l.number-index l.numbers);
+  apart : l.apart ≡ filter (λ k. not (joins_at l.chips l.places k)) (take l.number-index l.numbers);
 }

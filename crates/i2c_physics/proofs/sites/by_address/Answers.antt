@@ -1,19 +1,13 @@
-use Rattle.std.proofs.Common.{[], ◌∷◌, ◌++◌, ◌+◌, ap, map, sym, ◌∙◌}
-use Rattle.std.proofs.lemmas.List.{map-append}
-use Rattle.i2c_physics.specs.Sites.{numbers_at}
-use Rattle.i2c_physics.proofs.WiredAndLemmas.{listed_more}
+use Rattle.std.proofs.Common.{◌≡◌, length, map, ap, ◌∙◌, arith}
+use Rattle.std.specs.List.{range_with_len}
+use Rattle.i2c_physics.specs.Sites.{numbers_below}
 use Rattle.i2c_physics.proofs.sites.by_address.Goals as goal
 
-pub loop-address-preserved : goal.loop-address-preserved
-loop-address-preserved c =
-    let at = numbers_at c.args.places.now in
-    let address = c.loop-address.address in
-    let was = c.loop-address.invariant in
-    record {
-      listed =
-          ap (map (λ numbers. numbers.items)) c.push_reserved.ensures.items ∙ map-append _ c.loop-address.at.items _
-          ∙ ap (λ listed. map (λ numbers. numbers.items) c.loop-address.at.items ++ listed ∷ []) c.in_ok-numbers_at.ensures
-          ∙ ap (λ listed. listed ++ at address ∷ []) was.listed ∙ sym (listed_more at address);
-      count = c.push_reserved.ensures.len ∙ ap (λ count. count + 1) was.count;
-      room = rw c.push_reserved.ensures.capacity was.room;
-    }
+pub loop-number-init : goal.loop-number-init
+loop-number-init c = c.in_ok-at.ensures
+
+pub returns : goal.returns
+returns c =
+    let places = c.args.places.now in
+    let all : c.loop-number.number ≡ length places = omega (arith, c.loop-number-test.false, c.loop-number.auto.number-end) in
+    c.loop-number.invariant ∙ ap (λ n. map (numbers_below places n) (range_with_len 0 128)) all

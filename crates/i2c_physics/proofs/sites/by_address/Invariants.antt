@@ -1,11 +1,8 @@
-use Rattle.std.proofs.Common.{◌≡◌, ◌≤◌, map, vec_capacity, vec_len}
+use Rattle.std.proofs.Common.{◌≡◌, map}
 use Rattle.std.specs.List.{range_with_len}
-use Rattle.i2c_physics.specs.Sites.{numbers_at}
+use Rattle.i2c_physics.specs.Sites.{numbers_below}
 use Rattle.i2c_physics.proofs.sites.by_address.Given as goal
 
-abbrev pub invariant-loop-address : goal.invariant-loop-address
-invariant-loop-address l = record {
-  listed : map (λ numbers. numbers.items) l.at.items ≡ map (numbers_at l.places) (range_with_len 0 l.address);
-  count : vec_len l.at ≡ l.address;
-  room : 128 ≤ vec_capacity l.at;
-}
+abbrev pub invariant-loop-number : goal.invariant-loop-number
+invariant-loop-number l =
+    map (λ numbers. numbers.items) l.at.items ≡ map (numbers_below l.places l.number) (range_with_len 0 128)

@@ -34,7 +34,7 @@ returns-clause-fed g c =
     let t = g.T.Target.table in
     let start = event.Start c.args.reading in
     c.tell-others.ensures.fed ∙ ap (λ ns. feed t (to_those ns event.Other) 0 c.tell-wired_and.new.targets) c.as_slice-2.ensures.value
-    ∙ ap (feed t (to_those c.args.reach.now.rest.items event.Other) 0)
+    ∙ ap (feed t (to_those c.args.reach.now.rest event.Other) 0)
     (c.tell-wired_and.ensures.fed ∙ ap (λ ns. feed t (to_those ns start) 0 c.args.targets.now) c.as_slice.ensures.value)
 
 pub returns-clause-answered : goal.returns-clause-answered
@@ -46,11 +46,11 @@ returns-clause-answered g c =
 pub returns-clause-hearing : goal.returns-clause-hearing
 returns-clause-hearing g c =
     let start = event.Start c.args.reading in
-    ap (λ ns. ns.items) c.add_told.ensures.hearing ∙ c.tell-wired_and.ensures.heard
+    c.add_told.ensures.hearing ∙ c.tell-wired_and.ensures.heard
     ∙ ap (λ ns. numbers_of (answers g.T.Target.table (to_those ns start) 0 c.args.targets.now)) c.as_slice.ensures.value
 
 pub returns-clause-started : goal.returns-clause-started
 returns-clause-started g c =
     let same : length c.tell-others.new.targets ≡ length c.args.targets.now = omega
     (arith, c.tell-wired_and.auto.targets, c.tell-others.auto.targets) in
-    c.add_told.ensures.started ∙ ap (λ n. union_of n c.args.reach.now.started.items c.args.reach.now.addressed.items) same
+    c.add_told.ensures.started ∙ ap (λ n. union_of n c.args.reach.now.started c.args.reach.now.addressed) same

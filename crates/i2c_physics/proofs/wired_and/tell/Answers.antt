@@ -16,8 +16,8 @@ loop-left-init g c =
       in_range = omega arith;
       fed = untold-fed t c.args.event numbers xs;
       answered = c.silence-wired_and.ensures ∙ ap wired_and_of (sym (untold-answered t c.args.event numbers xs));
-      heard = c.empty.ensures ∙ ap numbers_of (sym (untold-answered t c.args.event numbers xs));
-      room = omega (arith, ap length c.empty.ensures, rising-length 0 (length xs) numbers c.requires.rising);
+      heard = c.clear.ensures ∙ ap numbers_of (sym (untold-answered t c.args.event numbers xs));
+      room = omega (arith, ap length c.clear.ensures, rising-length 0 (length xs) numbers c.requires.rising);
     }
 
 pub prove-unreachable-requires : goal.prove-unreachable-requires

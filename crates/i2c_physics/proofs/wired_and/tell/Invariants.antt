@@ -11,8 +11,8 @@ invariant-loop-left g l = record {
   in_range : l.left ≤ length l.numbers;
   fed : l.targets ≡ feed g.T.Target.table (to_those (drop l.left l.numbers) l.event) 0 l.fn.targets;
   answered : l.wired_and ≡ wired_and_of (answers g.T.Target.table (to_those (drop l.left l.numbers) l.event) 0 l.fn.targets);
-  heard : l.heard.items ≡ numbers_of (answers g.T.Target.table (to_those (drop l.left l.numbers) l.event) 0 l.fn.targets);
-  room : length l.heard.items + l.left ≤ 128;
+  heard : l.heard ≡ numbers_of (answers g.T.Target.table (to_those (drop l.left l.numbers) l.event) 0 l.fn.targets);
+  room : length l.heard + l.left ≤ 128;
 }
 
 abbrev pub decreases-loop-left : goal.decreases-loop-left

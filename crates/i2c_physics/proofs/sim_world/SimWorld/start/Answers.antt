@@ -21,7 +21,7 @@ pub begin-chips-requires-clause-rest : goal.begin-chips-requires-clause-rest
 begin-chips-requires-clause-rest c =
     let same = c.as_slice-chips.ensures.value in
     let chip_rest = c.call.ensures.rest
-    ∙ ap (λ cs. others cs c.self.inside.mux_places c.args.addr c.self.inside.chip_reach.started.items) same in
+    ∙ ap (λ cs. others cs c.self.inside.mux_places c.args.addr c.self.inside.chip_reach.started) same in
     rw (c.deref_mut.ensures.value, chip_rest) (other-chips _ _ _ _ _ _ _ _ c.self.inside.busy c.self.invariant c.args.addr c.args.reading)
 
 pub begin-devices-requires-clause-told : goal.begin-devices-requires-clause-told
@@ -35,7 +35,7 @@ pub begin-devices-requires-clause-rest : goal.begin-devices-requires-clause-rest
 begin-devices-requires-clause-rest c =
     let same = c.as_slice-chips.ensures.value in
     let device_rest = c.call-2.ensures.rest
-    ∙ ap (λ cs. others cs c.self.inside.device_places c.args.addr c.self.inside.device_reach.started.items) same in
+    ∙ ap (λ cs. others cs c.self.inside.device_places c.args.addr c.self.inside.device_reach.started) same in
     rw (c.deref_mut-2.ensures.value, device_rest)
     (other-devices _ _ _ _ _ _ _ _ c.self.inside.busy c.self.invariant c.args.addr c.args.reading)
 
@@ -46,10 +46,10 @@ invariant_of-self c =
     let same = c.as_slice-chips.ensures.value in
     let chip_calls = c.call.ensures.told ∙ ap (λ cs. addressed cs c.self.inside.mux_places c.args.addr) same in
     let chip_rest = c.call.ensures.rest
-    ∙ ap (λ cs. others cs c.self.inside.mux_places c.args.addr c.self.inside.chip_reach.started.items) same in
+    ∙ ap (λ cs. others cs c.self.inside.mux_places c.args.addr c.self.inside.chip_reach.started) same in
     let device_calls = c.call-2.ensures.told ∙ ap (λ cs. addressed cs c.self.inside.device_places c.args.addr) same in
     let device_rest = c.call-2.ensures.rest
-    ∙ ap (λ cs. others cs c.self.inside.device_places c.args.addr c.self.inside.device_reach.started.items) same in
+    ∙ ap (λ cs. others cs c.self.inside.device_places c.args.addr c.self.inside.device_reach.started) same in
     let chips = begun-on chip_table e chip_calls c.deref_mut.ensures.value _ _ chip_rest _ _
     (with_items_is s.chips c.begin-chips.new.targets (omega arith)) c.begin-chips.ensures.fed in
     let devices = begun-on state_table e device_calls c.deref_mut-2.ensures.value _ _ device_rest _ _
@@ -58,9 +58,9 @@ invariant_of-self c =
     let devices_heard = said-on state_table e _ _ _ _ device_calls c.deref_mut-2.ensures.value numbers_of _ c.begin-devices.ensures.hearing
     in
     started-kept _ _ _ _ _ _ _ _ s.busy c.self.invariant c.args.addr c.args.reading _ _ _ _ chips devices chips_heard devices_heard
-    (c.begin-chips.ensures.started ∙ either-on (ap length c.deref_mut.ensures.value) (ap (λ n. n.items) c.call.ensures.started) chip_calls)
+    (c.begin-chips.ensures.started ∙ either-on (ap length c.deref_mut.ensures.value) (c.call.ensures.started) chip_calls)
     (c.begin-devices.ensures.started
-    ∙ either-on (ap length c.deref_mut-2.ensures.value) (ap (λ n. n.items) c.call-2.ensures.started) device_calls)
+    ∙ either-on (ap length c.deref_mut-2.ensures.value) (c.call-2.ensures.started) device_calls)
 
 pub returns-clause-answer : goal.returns-clause-answer
 returns-clause-answer c =
@@ -82,10 +82,10 @@ returns-clause-after c =
     let same = c.as_slice-chips.ensures.value in
     let chip_calls = c.call.ensures.told ∙ ap (λ cs. addressed cs c.self.inside.mux_places c.args.addr) same in
     let chip_rest = c.call.ensures.rest
-    ∙ ap (λ cs. others cs c.self.inside.mux_places c.args.addr c.self.inside.chip_reach.started.items) same in
+    ∙ ap (λ cs. others cs c.self.inside.mux_places c.args.addr c.self.inside.chip_reach.started) same in
     let device_calls = c.call-2.ensures.told ∙ ap (λ cs. addressed cs c.self.inside.device_places c.args.addr) same in
     let device_rest = c.call-2.ensures.rest
-    ∙ ap (λ cs. others cs c.self.inside.device_places c.args.addr c.self.inside.device_reach.started.items) same in
+    ∙ ap (λ cs. others cs c.self.inside.device_places c.args.addr c.self.inside.device_reach.started) same in
     let chips = begun-on chip_table e chip_calls c.deref_mut.ensures.value _ _ chip_rest _ _
     (with_items_is s.chips c.begin-chips.new.targets (omega arith)) c.begin-chips.ensures.fed in
     let devices = begun-on state_table e device_calls c.deref_mut-2.ensures.value _ _ device_rest _ _

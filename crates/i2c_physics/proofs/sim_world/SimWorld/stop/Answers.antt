@@ -25,17 +25,17 @@ invariant_of-self c =
     let s = c.self.inside in
     let same = c.as_slice-chips.ensures.value in
     let chips = fed-on chip_table event.Stop _ _ _ _ (c.part.ensures.told
-    ∙ ap (λ cs. filter (joins_at cs s.mux_places) s.chip_reach.started.items) same)
+    ∙ ap (λ cs. filter (joins_at cs s.mux_places) s.chip_reach.started) same)
     c.deref_mut.ensures.value _ _ (with_items_is s.chips c.end.new.targets (omega arith)) c.end.ensures.fed in
     let devices = fed-on state_table event.Stop _ _ _ _ (c.part-2.ensures.told
-    ∙ ap (λ cs. filter (joins_at cs s.device_places) s.device_reach.started.items) same)
+    ∙ ap (λ cs. filter (joins_at cs s.device_places) s.device_reach.started) same)
     c.deref_mut-2.ensures.value _ _ (with_items_is s.devices c.end-2.new.targets (omega arith)) c.end-2.ensures.fed in
     stopped-kept _ _ _ _ _ _ _ _ s.busy c.self.invariant _ _ chips devices c.chips_are_fair.ensures.stops _ _
     (c.end.ensures.started ∙ c.part.ensures.rest
-    ∙ ap (λ cs. filter (λ k. not (joins_at cs s.mux_places k)) s.chip_reach.started.items) same)
+    ∙ ap (λ cs. filter (λ k. not (joins_at cs s.mux_places k)) s.chip_reach.started) same)
     c.end.ensures.hearing
     (c.end-2.ensures.started ∙ c.part-2.ensures.rest
-    ∙ ap (λ cs. filter (λ k. not (joins_at cs s.device_places k)) s.device_reach.started.items) same)
+    ∙ ap (λ cs. filter (λ k. not (joins_at cs s.device_places k)) s.device_reach.started) same)
     c.end-2.ensures.hearing
 
 pub returns : goal.returns
@@ -43,10 +43,10 @@ returns c =
     let s = c.self.inside in
     let same = c.as_slice-chips.ensures.value in
     let chips = fed-on chip_table event.Stop _ _ _ _ (c.part.ensures.told
-    ∙ ap (λ cs. filter (joins_at cs s.mux_places) s.chip_reach.started.items) same)
+    ∙ ap (λ cs. filter (joins_at cs s.mux_places) s.chip_reach.started) same)
     c.deref_mut.ensures.value _ _ (with_items_is s.chips c.end.new.targets (omega arith)) c.end.ensures.fed in
     let devices = fed-on state_table event.Stop _ _ _ _ (c.part-2.ensures.told
-    ∙ ap (λ cs. filter (joins_at cs s.device_places) s.device_reach.started.items) same)
+    ∙ ap (λ cs. filter (joins_at cs s.device_places) s.device_reach.started) same)
     c.deref_mut-2.ensures.value _ _ (with_items_is s.devices c.end-2.new.targets (omega arith)) c.end-2.ensures.fed in
     rw (c.end.ensures.hearing, c.end-2.ensures.hearing)
     (stopped-is _ _ _ _ _ _ _ _ s.busy c.self.invariant _ _ chips devices) ∙ ap (λ w. after w call.Stop) c.self.view_is

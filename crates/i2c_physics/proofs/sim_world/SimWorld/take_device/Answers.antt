@@ -41,7 +41,7 @@ is_of_root c =
 pub returns-clause-value : goal.returns-clause-value
 returns-clause-value c =
     let s = c.self.inside in
-    let seen = world_of s.board.value s.root s.chips.items s.devices.items s.chip_reach.hearing.items s.device_reach.hearing.items s.busy in
+    let seen = world_of s.board.value s.root s.chips.items s.devices.items s.chip_reach.hearing s.device_reach.hearing s.busy in
     ap Some (c.take.ensures.taken ∙ c.index_mut.ensures.value)
     ∙ sym (own-is seen c.args.number s.devices.items refl (is_of_root c) c.index_mut.result.now c.self.invariant.devices_are)
     ∙ ap (λ (w : World). own_device w c.args.number) c.self.view_is
@@ -49,7 +49,7 @@ returns-clause-value c =
 pub returns-clause-after : goal.returns-clause-after
 returns-clause-after c =
     let s = c.self.inside in
-    let seen = world_of s.board.value s.root s.chips.items s.devices.items s.chip_reach.hearing.items s.device_reach.hearing.items s.busy in
+    let seen = world_of s.board.value s.root s.chips.items s.devices.items s.chip_reach.hearing s.device_reach.hearing s.busy in
     without-is seen c.args.number s.devices.items refl (is_of_root c) (set s.devices.items c.args.number c.take.new.self)
     (ap (λ d. set s.devices.items c.args.number d) c.take.ensures.after)
     ∙ ap (λ (w : World). without w c.args.number) c.self.view_is
@@ -68,7 +68,7 @@ invariant_of-self c =
       devices_are = length-set s.devices.items c.args.number c.take.new.self ∙ inv.devices_are;
       chips_reached = inv.chips_reached;
       devices_reached = rw c.take.ensures.after
-          (quiet-in-place state_table s.devices.items c.args.number Silent s.device_reach.started.items s.device_reach.hearing.items
+          (quiet-in-place state_table s.devices.items c.args.number Silent s.device_reach.started s.device_reach.hearing
           low (record { other = refl; stop = refl }) inv.devices_reached);
       reached_own = inv.reached_own;
     }

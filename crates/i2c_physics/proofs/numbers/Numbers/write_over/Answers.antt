@@ -1,17 +1,17 @@
 use Rattle.std.proofs.Common.{[], ◌∷◌, ◌++◌, length, get_or, ap, sym, ◌∙◌, arith}
 use Rattle.std.proofs.lemmas.List.{length-append, take_all, take_more}
-use Rattle.i2c_physics.proofs.reach.write_over.Goals as goal
+use Rattle.i2c_physics.proofs.numbers.Numbers.write_over.Goals as goal
 
 pub loop-number-preserved : goal.loop-number-preserved
 loop-number-preserved c =
     let was = c.loop-number.invariant in
     let numbers = c.args.numbers.now in
     let i = c.loop-number.number-index in
-    let old = c.loop-number.list.items in
+    let old = c.loop-number.self in
     let more = get_or numbers i 0 ∷ [] in
     record {
-      few = omega (arith, was.few, ap length c.push.ensures.items ∙ length-append old more);
-      written = c.push.ensures.items ∙ ap (λ ns. ns ++ more) was.written ∙ sym (take_more numbers i 0 c.loop-number-test.true);
+      few = omega (arith, was.few, ap length c.push.ensures ∙ length-append old more);
+      written = c.push.ensures ∙ ap (λ ns. ns ++ more) was.written ∙ sym (take_more numbers i 0 c.loop-number-test.true);
     }
 
 pub returns : goal.returns

@@ -1,0 +1,8 @@
+use Rattle.std.proofs.Common.{◌≡◌, ◌≤◌, length, take}
+use Rattle.i2c_physics.proofs.numbers.Numbers.write_over.Given as goal
+
+abbrev pub invariant-loop-number : goal.invariant-loop-number
+invariant-loop-number l = record {
+  few : length l.self ≤ l.number-index;
+  written : l.self ≡ take l.number-index l.numbers;
+}
