@@ -32,14 +32,12 @@ impl<'b, P: Port, C: Caller, N: Naming<C::Script>> Named<'b, P, C, N> {
         self.core.step(caller)
     }
 
-    // What the last step did, read off the journal's last entry.
+    // What the last step did, as the journal's last entry has it.
     fn point(&self) -> Point {
-        let journal = self.core.journal();
-        let count = journal.len();
-        if count == 0 {
+        let Some(head) = self.core.journal().last() else {
             return Point::Settled;
-        }
-        match journal.view(count - 1).head {
+        };
+        match head {
             Head::Take { lock, .. } => Point::Took(lock),
             Head::Free { lock, .. } => Point::Freed(lock),
             Head::Message { purpose, .. } => match purpose {

@@ -6,8 +6,9 @@ ghost use Rattle.i2c_top.specs.declared.status.Status.TheVariants as status;
 
 use crate::Status;
 use crate::refusal::refusal_line;
+use crate::text::Text;
 use crate::words::name_in;
-use crate::write::write_all;
+use crate::write::{write_all, write_pieces};
 use i2c_base::NoMemory;
 use i2c_outside::Sink;
 use std::alloc::Global;
@@ -18,6 +19,17 @@ pub fn write_due<K: Sink>(due: Status, text: &[u8], sink: &mut K) -> Status
 {
     if write_all(sink, text) {
         due
+    } else {
+        Status::Write
+    }
+}
+
+// Writes the text of a success, and answers `Ok`; `Write` where the output failed.
+fn write_success<K: Sink>(text: &Text, sink: &mut K) -> Status
+    ensures { IsWritten (output_view K.Sink sink.old) (output_view K.Sink sink.new) status.Ok text.now result }
+{
+    if write_pieces(sink, text) {
+        Status::Ok
     } else {
         Status::Write
     }
@@ -41,14 +53,14 @@ fn write_refusal<K: Sink>(alloc: Global, refusal: Status, name: &[u8], sink: &mu
 pub fn write_outcome<K: Sink>(
     alloc: Global,
     words: &[String],
-    outcome: Result<Vec<u8>, Status>,
+    outcome: Result<Text, Status>,
     sink: &mut K,
 ) -> Status
-    ensures done { IfOk outcome (λ text. IsWritten (output_view K.Sink sink.old) (output_view K.Sink sink.new) status.Ok text.items result) }
+    ensures done { IfOk outcome (λ text. IsWritten (output_view K.Sink sink.old) (output_view K.Sink sink.new) status.Ok text result) }
     ensures refused { IfErr outcome (λ e. IsRefusalWritten (output_view K.Sink sink.old) (output_view K.Sink sink.new) e (name_in (map string_bytes words.now) e) result) }
 {
     match outcome {
-        Ok(text) => write_due(Status::Ok, text.as_slice(), sink),
+        Ok(text) => write_success(&text, sink),
         Err(refusal) => write_refusal(alloc, refusal, name_in(words, &refusal), sink),
     }
 }

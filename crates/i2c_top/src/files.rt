@@ -29,13 +29,13 @@ use i2c_boardtext::BoardFault;
 use i2c_outside::{ReadFail, Shelf};
 use std::alloc::Global;
 
-/// What the files of a replay say: the board, the scripts, and the callers that the schedule's words name, where there is
-/// a schedule.
+/// What the files of a replay say: the board, the scripts, and the callers that the words of its schedule name, where there is
+/// one.
 #[derive(Drop)]
 pub struct ReplayFiles {
     pub board: Accepted,
     pub scripts: Vec<Script>,
-    pub words: Option<Vec<u8>>,
+    pub schedule: Option<Vec<u8>>,
 }
 
 // Reads the file at a place of the words.
@@ -241,19 +241,19 @@ pub fn read_files<S: Shelf>(
     ensures kept { KeepsBut (IsPlaceIn (names_told names.now)) (shelf_view S.Shelf shelf.old) (shelf_view S.Shelf shelf.new) }
     ensures opened { IfOk result (λ f. AreOpened f.board f.scripts.items) }
     ensures few { IfOk result (λ f. length f.scripts.items ≤ MOST_CALLERS) }
-    ensures named { IfOk result (λ f. AreNamed (length f.scripts.items) (option_map (λ v. v.items) f.words)) }
+    ensures named { IfOk result (λ f. AreNamed (length f.scripts.items) (option_map (λ v. v.items) f.schedule)) }
     ensures cheap { IfOk result (λ f. cost_of_texts f.board (texts_of f.scripts.items) ≤ MOST_COST) }
-    ensures read { IsTrue S.tells → IfOk result (λ f. HasRead (S.file shelf.old) (names_told names.now) f.board (texts_of f.scripts.items) (option_map (λ v. v.items) f.words)) }
+    ensures read { IsTrue S.tells → IfOk result (λ f. HasRead (S.file shelf.old) (names_told names.now) f.board (texts_of f.scripts.items) (option_map (λ v. v.items) f.schedule)) }
     ensures unreached { IfErr result (KeepsSkipped (replay_form (names_told names.now)) (S.faults shelf.old) (S.faults shelf.new)) }
     ensures refused { IfErr result (IsFileRefusal S.tells (S.file shelf.old) (names_told names.now) (S.faults shelf.old) (S.faults shelf.new)) }
 {
     let board = read_accepted(alloc, shelf, names.board)?;
     let scripts = scripts_in(alloc, &board, shelf, names.first_script(), names.scripts)?;
-    let words = order_in(alloc, shelf, callers_of(scripts.as_slice()), names.schedule)?;
+    let schedule = order_in(alloc, shelf, callers_of(scripts.as_slice()), names.schedule)?;
     check_cost(&board, scripts.as_slice())?;
     Ok(ReplayFiles {
         board,
         scripts,
-        words,
+        schedule,
     })
 }

@@ -25,6 +25,7 @@ mod report;
 mod run;
 mod schedule;
 mod status;
+mod text;
 mod words;
 mod write;
 

@@ -12,6 +12,7 @@ ghost use Rattle.i2c_top.specs.declared.status.Status.TheVariants as status;
 use crate::Status;
 use crate::callers::{finished, ran};
 use crate::report::report_of_callers;
+use crate::text::Text;
 use bus_core::Parts;
 use caller_core::Script;
 use i2c_base::{NoMemory, SegId};
@@ -70,12 +71,12 @@ fn reported<R: Rig>(
     parts: Result<Parts<R::P, Script>, NoMemory>,
     room: Vec<R::P>,
     rig: &mut R,
-) -> Result<Vec<u8>, Status>
+) -> Result<Text, Status>
     requires plugged { R.plugged rig.old ≡ true }
     requires empty { room.items ≡ [] }
     requires room { IfOk parts (λ x. length x.ports.items ≤ vec_capacity room) }
     ensures run { IsTrue R.tells → IsTrue R.P.tells → (scripts : List CallerView) (ports : List _) (words : Option (List ℕ)) → IfOk parts (IsLeftOf R.P.Port (R.board_of rig.old) scripts ports words)
-        → IfOk result (λ text. HasRun (R.board_of rig.old) (texts_of scripts) words text.items (R.logs rig.new) (R.states rig.new)) }
+        → IfOk result (λ text. HasRun (R.board_of rig.old) (texts_of scripts) words text (R.logs rig.new) (R.states rig.new)) }
     ensures failed { IfErr result (λ e. e ≡ status.Memory) }
     ensures later { R.faults rig.old ≤ R.faults rig.new }
     ensures plugs { R.plugs rig.new ≡ R.plugs rig.old }
@@ -86,8 +87,13 @@ fn reported<R: Rig>(
         rig.unplug(room);
         return Err(Status::Memory);
     };
-    rig.unplug(alone(parts.ports, room));
-    Ok(report_of_callers(alloc, parts.seats.as_slice(), &parts.journal)?)
+    let Parts {
+        ports,
+        seats,
+        journal,
+    } = parts;
+    rig.unplug(alone(ports, room));
+    Ok(report_of_callers(alloc, seats.as_slice(), journal)?)
 }
 
 /// Runs scripts over the ports of a rig, by a schedule that names the callers that are to step, where there is one, and
@@ -99,12 +105,12 @@ pub fn run_scripts<R: Rig>(
     scripts: Vec<Script>,
     words: Option<Vec<u8>>,
     rig: &mut R,
-) -> Result<Vec<u8>, Status>
+) -> Result<Text, Status>
     requires opened { AreOpened board.now scripts.items }
     requires few { length scripts.items ≤ MOST_CALLERS }
     requires named { AreNamed (length scripts.items) (option_map (λ v. v.items) words) }
     requires cheap { cost_of_texts board.now (texts_of scripts.items) ≤ MOST_COST }
-    ensures run { IsTrue R.tells → IsTrue R.P.tells → IfOk result (λ text. HasRun board.now (texts_of scripts.items) (option_map (λ v. v.items) words) text.items (R.logs rig.new) (R.states rig.new)) }
+    ensures run { IsTrue R.tells → IsTrue R.P.tells → IfOk result (λ text. HasRun board.now (texts_of scripts.items) (option_map (λ v. v.items) words) text (R.logs rig.new) (R.states rig.new)) }
     ensures failed { IfErr result (λ e. (e ≡ status.Rig) ⊎ (e ≡ status.Memory)) }
     ensures rig { result ≡ Err status.Rig → Rose (R.faults rig.old) (R.faults rig.new) }
     ensures later { R.faults rig.old ≤ R.faults rig.new }
@@ -126,11 +132,11 @@ pub fn run_at_once<H: Threads + Wait + Sync, R: Rig, G: Gate + Sync>(
     scripts: Vec<Script>,
     gate: &G,
     rig: &mut R,
-) -> Result<Vec<u8>, Status>
+) -> Result<Text, Status>
     requires opened { AreOpened board.now scripts.items }
     requires few { length scripts.items ≤ MOST_CALLERS }
     requires cheap { cost_of_texts board.now (texts_of scripts.items) ≤ MOST_COST }
-    ensures run { IsTrue R.tells → IsTrue R.P.tells → IfOk result (λ text. HasRun board.now (texts_of scripts.items) None text.items (R.logs rig.new) (R.states rig.new)) }
+    ensures run { IsTrue R.tells → IsTrue R.P.tells → IfOk result (λ text. HasRun board.now (texts_of scripts.items) None text (R.logs rig.new) (R.states rig.new)) }
     ensures failed { IfErr result (λ e. (e ≡ status.Rig) ⊎ (e ≡ status.Memory)) }
     ensures rig { result ≡ Err status.Rig → Rose (R.faults rig.old) (R.faults rig.new) }
     ensures later { R.faults rig.old ≤ R.faults rig.new }

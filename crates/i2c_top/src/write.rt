@@ -3,6 +3,7 @@ ghost use Rattle.std.specs.Prelude.{◌≡◌, ◌≤◌, ◌++◌, ℕ, length,
 ghost use Rattle.ports.specs.Causes.{Rose};
 ghost use Rattle.i2c_top.specs.Written.{HasFront};
 
+use crate::text::Text;
 use i2c_outside::Sink;
 
 // What stands behind the first bytes of a text.
@@ -28,4 +29,15 @@ pub fn write_all<K: Sink>(sink: &mut K, text: &[u8]) -> bool
         }
     }
     true
+}
+
+/// The same for a text in two pieces, of which the second is written behind the whole first one.
+pub fn write_pieces<K: Sink>(sink: &mut K, text: &Text) -> bool
+    ensures cause { result ≡ false → Rose (K.faults sink.old) (K.faults sink.new) }
+    ensures later { K.faults sink.old ≤ K.faults sink.new }
+    ensures whole { IsTrue K.tells → result ≡ true → K.bytes sink.new ≡ K.bytes sink.old ++ text.now }
+    ensures front { IsTrue K.tells → HasFront (K.bytes sink.old) text.now (K.bytes sink.new) }
+{
+    let (front, back) = text.pieces();
+    write_all(sink, front) && write_all(sink, back)
 }

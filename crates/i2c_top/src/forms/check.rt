@@ -10,6 +10,7 @@ ghost use Rattle.i2c_top.specs.declared.status.Status.TheVariants as status;
 use crate::Status;
 use crate::ending::write_outcome;
 use crate::files::read_accepted;
+use crate::text::Text;
 use crate::words::{BOARD, is_name, word_at};
 use bus_journal::{push_bytes, push_number};
 use i2c_base::NoMemory;
@@ -33,8 +34,8 @@ fn push_count(out: &mut Vec<u8>, count: usize, what: &[u8]) -> Result<(), NoMemo
 }
 
 // The line of an accepted board, with its end.
-fn accepted_line(alloc: Global, board: &Board) -> Result<Vec<u8>, NoMemory>
-    ensures { IfOk result (λ text. text.items ≡ accepted_text board.now) }
+fn accepted_line(alloc: Global, board: &Board) -> Result<Text, NoMemory>
+    ensures { IfOk result (λ text. text ≡ accepted_text board.now) }
 {
     let mut out = Vec::new(alloc);
     push_bytes(&mut out, b"accepted: ")?;
@@ -42,14 +43,14 @@ fn accepted_line(alloc: Global, board: &Board) -> Result<Vec<u8>, NoMemory>
     push_count(&mut out, board.muxes().len(), b" muxes ")?;
     push_count(&mut out, board.devices().len(), b" devices ")?;
     push_count(&mut out, usize::from(board.buses()), b" buses\n")?;
-    Ok(out)
+    Ok(Text::whole(alloc, out))
 }
 
 // Reads the board: its line, or the refusal.
-fn check_board<S: Shelf>(alloc: Global, board: &str, shelf: &mut S) -> Result<Vec<u8>, Status>
+fn check_board<S: Shelf>(alloc: Global, board: &str, shelf: &mut S) -> Result<Text, Status>
     requires board { slice_get (S.words shelf.old) 1 ≡ Some board.now }
     ensures done { IfOk result (λ text. (rig : RigView)
-        → CameToSuccess (check_form board.now) (shelf_view S.Shelf shelf.old) (shelf_view S.Shelf shelf.new) rig rig text.items) }
+        → CameToSuccess (check_form board.now) (shelf_view S.Shelf shelf.old) (shelf_view S.Shelf shelf.new) rig rig text) }
     ensures refused { IfErr result (λ e. (rig : RigView)
         → CameToRefusal (check_form board.now) (shelf_view S.Shelf shelf.old) (shelf_view S.Shelf shelf.new) rig rig e) }
 {

@@ -10,6 +10,7 @@ use crate::ending::write_outcome;
 use crate::files::{ReplayFiles, read_files};
 use crate::names::{ReplayNames, SCRIPT_OF_REPLAY, SCRIPT_OF_RUN};
 use crate::run::{run_at_once, run_scripts};
+use crate::text::Text;
 use crate::words::{are_names, word_at};
 use i2c_base::MOST_CALLERS;
 use i2c_outside::{Gate, Rig, Shelf, Sink};
@@ -43,11 +44,11 @@ fn replay<S: Shelf, R: Rig>(
     names: &ReplayNames<'_>,
     shelf: &mut S,
     rig: &mut R,
-) -> Result<Vec<u8>, Status>
+) -> Result<Text, Status>
     requires placed { ArePlaced (S.words shelf.old) (names_told names.now) }
     ensures done { IfOk result (λ text. CameToSuccess (replay_form (names_told names.now))
         (shelf_view S.Shelf shelf.old) (shelf_view S.Shelf shelf.new)
-        (rig_view R.Rig R.P.tells rig.old) (rig_view R.Rig R.P.tells rig.new) text.items) }
+        (rig_view R.Rig R.P.tells rig.old) (rig_view R.Rig R.P.tells rig.new) text) }
     ensures refused { IfErr result (CameToRefusal (replay_form (names_told names.now))
         (shelf_view S.Shelf shelf.old) (shelf_view S.Shelf shelf.new)
         (rig_view R.Rig R.P.tells rig.old) (rig_view R.Rig R.P.tells rig.new)) }
@@ -55,9 +56,9 @@ fn replay<S: Shelf, R: Rig>(
     let ReplayFiles {
         board,
         scripts,
-        words,
+        schedule,
     } = read_files(alloc, names, shelf)?;
-    run_scripts(alloc, &board, scripts, words, rig)
+    run_scripts(alloc, &board, scripts, schedule, rig)
 }
 
 // The same without a schedule, each script on a thread of its own.
@@ -68,12 +69,12 @@ fn run<H: Threads + Wait + Sync, S: Shelf, R: Rig, G: Gate + Sync>(
     shelf: &mut S,
     rig: &mut R,
     gate: &G,
-) -> Result<Vec<u8>, Status>
+) -> Result<Text, Status>
     requires placed { ArePlaced (S.words shelf.old) (names_told names.now) }
     requires free { (names_told names.now).schedule ≡ None }
     ensures done { IfOk result (λ text. CameToSuccess (replay_form (names_told names.now))
         (shelf_view S.Shelf shelf.old) (shelf_view S.Shelf shelf.new)
-        (rig_view R.Rig R.P.tells rig.old) (rig_view R.Rig R.P.tells rig.new) text.items) }
+        (rig_view R.Rig R.P.tells rig.old) (rig_view R.Rig R.P.tells rig.new) text) }
     ensures refused { IfErr result (CameToRefusal (replay_form (names_told names.now))
         (shelf_view S.Shelf shelf.old) (shelf_view S.Shelf shelf.new)
         (rig_view R.Rig R.P.tells rig.old) (rig_view R.Rig R.P.tells rig.new)) }
@@ -81,7 +82,7 @@ fn run<H: Threads + Wait + Sync, S: Shelf, R: Rig, G: Gate + Sync>(
     let ReplayFiles {
         board,
         scripts,
-        words: _,
+        schedule: _,
     } = read_files(alloc, names, shelf)?;
     run_at_once(rt, alloc, &board, scripts, gate, rig)
 }

@@ -21,15 +21,15 @@ returns-in_err-scripts-clause-refused g c =
     (names_told c.args.names.now).scripts (g.S.Shelf.faults c.read_accepted.new.shelf)
     (g.S.Shelf.faults c.scripts_in.new.shelf) c.in_err-scripts.field-0.0) c.first_script.ensures c.in_err-scripts.ensures.refused))
 
-pub returns-in_err-words-clause-refused : goal.returns-in_err-words-clause-refused
-returns-in_err-words-clause-refused g c =
+pub returns-in_err-schedule-clause-refused : goal.returns-in_err-schedule-clause-refused
+returns-in_err-schedule-clause-refused g c =
     let names = names_told c.args.names.now in
     let count = c.in_ok-scripts.ensures.count ∙ sym (length-map c.args.names.now.scripts.now string_bytes) in
     let file = g.S.Shelf.file c.args.shelf.now in
-    passed_on c.from_residual-in_err-words.result c.in_err-words.field-0.0 _ c.from_residual-in_err-words.ensures.1
+    passed_on c.from_residual-in_err-schedule.result c.in_err-schedule.field-0.0 _ c.from_residual-in_err-schedule.ensures.1
     (order_refusal g.S.Shelf.tells file (g.S.Shelf.file c.scripts_in.new.shelf) c.in_ok-board.board names.board names.schedule names.scripts
     (g.S.Shelf.faults c.args.shelf.now) (g.S.Shelf.faults c.scripts_in.new.shelf)
-    (g.S.Shelf.faults c.order_in.new.shelf) c.callers_of.result c.in_err-words.field-0.0 (c.callers_of.ensures
+    (g.S.Shelf.faults c.order_in.new.shelf) c.callers_of.result c.in_err-schedule.field-0.0 (c.callers_of.ensures
     ∙ ap length c.as_slice.ensures.value ∙ count)
     (λ n. c.scripts_in.ensures.kept.files n ∙ c.read_accepted.ensures.kept.files n)
     (λ place at. let before = schedule_before names.schedule place at in
@@ -39,7 +39,7 @@ returns-in_err-words-clause-refused g c =
     (all_scripts g.S.Shelf.tells file
     (g.S.Shelf.file c.read_accepted.new.shelf) names.scripts c.in_ok-board.board c.in_ok-scripts.scripts.items
     c.read_accepted.ensures.kept.files count c.in_ok-scripts.ensures.scripts)
-    c.in_err-words.ensures.refused)
+    c.in_err-schedule.ensures.refused)
 
 pub returns-in_err-check_cost-clause-refused : goal.returns-in_err-check_cost-clause-refused
 returns-in_err-check_cost-clause-refused g c =
@@ -49,12 +49,12 @@ returns-in_err-check_cost-clause-refused g c =
     passed_on c.from_residual-in_err-check_cost.result c.in_err-check_cost.field-0.0 _ c.from_residual-in_err-check_cost.ensures.1
     (cost_refusal g.S.Shelf.tells (g.S.Shelf.file c.args.shelf.now) names (g.S.Shelf.faults c.args.shelf.now)
     (g.S.Shelf.faults c.order_in.new.shelf) c.in_ok-board.board (texts_of scripts)
-    (option_map (λ v. v.items) c.in_ok-words.words) c.in_err-check_cost.field-0.0
+    (option_map (λ v. v.items) c.in_ok-schedule.schedule) c.in_err-check_cost.field-0.0
     (λ t. has_read _ _ _ names g.S.Shelf.tells c.in_ok-board.board scripts
-    (option_map (λ v. v.items) c.in_ok-words.words) c.read_accepted.ensures.kept.files c.scripts_in.ensures.kept.files t
+    (option_map (λ v. v.items) c.in_ok-schedule.schedule) c.read_accepted.ensures.kept.files c.scripts_in.ensures.kept.files t
     (c.in_ok-board.ensures.board t) count
     c.in_ok-scripts.ensures.scripts c.callers_of.result (c.callers_of.ensures ∙ ap length c.as_slice.ensures.value ∙ count)
-    (c.in_ok-words.ensures.order t))
+    (c.in_ok-schedule.ensures.order t))
     (subst (λ xs. IsTooDear (cost_of_texts c.in_ok-board.board (texts_of xs)) c.in_err-check_cost.field-0.0) c.as_slice-2.ensures.value
     c.in_err-check_cost.ensures.dear))
 
@@ -73,9 +73,9 @@ returns-clause-read g c =
     let names = names_told c.args.names.now in
     let count = c.in_ok-scripts.ensures.count ∙ sym (length-map c.args.names.now.scripts.now string_bytes) in
     λ t. has_read _ _ _ names g.S.Shelf.tells c.in_ok-board.board c.in_ok-scripts.scripts.items
-    (option_map (λ v. v.items) c.in_ok-words.words) c.read_accepted.ensures.kept.files c.scripts_in.ensures.kept.files t
+    (option_map (λ v. v.items) c.in_ok-schedule.schedule) c.read_accepted.ensures.kept.files c.scripts_in.ensures.kept.files t
     (c.in_ok-board.ensures.board t) count c.in_ok-scripts.ensures.scripts c.callers_of.result (c.callers_of.ensures
-    ∙ ap length c.as_slice.ensures.value ∙ count) (c.in_ok-words.ensures.order t)
+    ∙ ap length c.as_slice.ensures.value ∙ count) (c.in_ok-schedule.ensures.order t)
 
 pub scripts_in-requires-clause-few : goal.scripts_in-requires-clause-few
 scripts_in-requires-clause-few g c = grind (arith, common_steps)
@@ -86,8 +86,8 @@ callers_of-requires g c = grind (arith, common_steps)
 pub check_cost-requires : goal.check_cost-requires
 check_cost-requires g c = grind (arith, common_steps)
 
-pub returns-in_err-words-clause-kept : goal.returns-in_err-words-clause-kept
-returns-in_err-words-clause-kept g c = grind (arith, common_steps)
+pub returns-in_err-schedule-clause-kept : goal.returns-in_err-schedule-clause-kept
+returns-in_err-schedule-clause-kept g c = grind (arith, common_steps)
 
 pub returns-clause-few : goal.returns-clause-few
 returns-clause-few g c = grind (arith, common_steps)
@@ -122,12 +122,12 @@ returns-in_err-scripts-clause-unreached g c =
     (g.S.Shelf.faults c.read_accepted.new.shelf) (g.S.Shelf.faults c.scripts_in.new.shelf) c.in_err-scripts.field-0.0)
     first c.in_err-scripts.ensures.refused))
 
-pub returns-in_err-words-clause-unreached : goal.returns-in_err-words-clause-unreached
-returns-in_err-words-clause-unreached g c =
-    passed_on c.from_residual-in_err-words.result c.in_err-words.field-0.0 _ c.from_residual-in_err-words.ensures.1
+pub returns-in_err-schedule-clause-unreached : goal.returns-in_err-schedule-clause-unreached
+returns-in_err-schedule-clause-unreached g c =
+    passed_on c.from_residual-in_err-schedule.result c.in_err-schedule.field-0.0 _ c.from_residual-in_err-schedule.ensures.1
     (order_unreached (names_told c.args.names.now).schedule g.S.Shelf.tells (g.S.Shelf.file c.scripts_in.new.shelf) c.callers_of.result
     (g.S.Shelf.faults c.args.shelf.now) (g.S.Shelf.faults c.scripts_in.new.shelf)
-    (g.S.Shelf.faults c.order_in.new.shelf) c.in_err-words.field-0.0 c.in_err-words.ensures.refused)
+    (g.S.Shelf.faults c.order_in.new.shelf) c.in_err-schedule.field-0.0 c.in_err-schedule.ensures.refused)
 
 pub returns-in_err-check_cost-clause-unreached : goal.returns-in_err-check_cost-clause-unreached
 returns-in_err-check_cost-clause-unreached g c = grind (arith, common_steps)

@@ -6,7 +6,7 @@ use Rattle.i2c_top.proofs.forms.check.check_call.Goals as goal
 abbrev ended : goal.returns-clause-ended
 ended g c =
     λ rig. ended_same check_form _ _ _ _ c.write_outcome.result c.word_at.ensures
-    (ended_by (check_form c.word_at.result.now) (check_decides c.word_at.result.now) _ _ _ c.check_board-outcome.result (λ v. v.items)
+    (ended_by (check_form c.word_at.result.now) (check_decides c.word_at.result.now) _ _ _ c.check_board-outcome.result (λ v. v)
     c.write_outcome.result c.requires.words (for_ok c.check_board-outcome.result _ c.check_board-outcome.ensures.done rig)
     (for_err c.check_board-outcome.result _ c.check_board-outcome.ensures.refused rig)
     c.write_outcome.ensures.done c.write_outcome.ensures.refused)

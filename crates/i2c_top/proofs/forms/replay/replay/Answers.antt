@@ -6,7 +6,7 @@ returns-clause-done g c =
     let read = c.in_ok-board.ensures in
     let run = c.run_scripts.ensures in
     run_done _ _ _ _ _ _ _ _ read.read read.cheap c.read_files.ensures.kept run.plugs run.unplugged c.run_scripts.result
-    (λ v. v.items) run.unplugs (λ t. run.run)
+    (λ v. v) run.unplugs (λ t. run.run)
 
 pub returns-clause-refused : goal.returns-clause-refused
 returns-clause-refused g c =

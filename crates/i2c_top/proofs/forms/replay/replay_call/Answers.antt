@@ -9,7 +9,7 @@ ended g c =
     let names = names_told c.of_replay-names.result in
     ended_same replay_form _ _ _ _ c.write_outcome.result c.of_replay-names.ensures.value
     (ended_by (replay_form names) (replay_decides names) _ _ _ c.replay-outcome.result
-    (λ v. v.items) c.write_outcome.result c.requires.words
+    (λ v. v) c.write_outcome.result c.requires.words
     c.replay-outcome.ensures.done c.replay-outcome.ensures.refused c.write_outcome.ensures.done c.write_outcome.ensures.refused)
 
 pub returns-clause-ended : goal.returns-clause-ended

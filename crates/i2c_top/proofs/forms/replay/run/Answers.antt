@@ -6,7 +6,7 @@ returns-clause-done g c =
     let read = c.in_ok-board.ensures in
     let run = c.run_at_once.ensures in
     free_run_done _ _ _ _ _ _ _ _ read.read read.cheap c.read_files.ensures.kept run.plugs run.unplugged c.run_at_once.result
-    (λ v. v.items) c.requires.free run.unplugs run.run
+    (λ v. v) c.requires.free run.unplugs run.run
 
 pub returns-clause-refused : goal.returns-clause-refused
 returns-clause-refused g c =

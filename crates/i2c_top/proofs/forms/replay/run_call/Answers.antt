@@ -8,7 +8,7 @@ abbrev ended : goal.returns-clause-ended
 ended g c =
     let names = names_told c.of_run-names.result in
     ended_same replay_form _ _ _ _ c.write_outcome.result c.of_run-names.ensures.value
-    (ended_by (replay_form names) (replay_decides names) _ _ _ c.run-outcome.result (λ v. v.items) c.write_outcome.result c.requires.words
+    (ended_by (replay_form names) (replay_decides names) _ _ _ c.run-outcome.result (λ v. v) c.write_outcome.result c.requires.words
     c.run-outcome.ensures.done c.run-outcome.ensures.refused c.write_outcome.ensures.done c.write_outcome.ensures.refused)
 
 pub returns-clause-ended : goal.returns-clause-ended
