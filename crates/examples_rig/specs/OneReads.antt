@@ -29,7 +29,7 @@ abbrev pub left_of : ReadView → List Reply → ℕ
 left_of s [] = cost_of s.board (transfer_to s.bus s.addr)
 left_of s (r ∷ rs) = 0
 
--- it needs no room, since it keeps one byte in place
+-- it needs no room, since it keeps its reply in place
 abbrev pub room_of : Need
 room_of = record { replies = 0; bytes = 0 }
 
