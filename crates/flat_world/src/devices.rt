@@ -5,7 +5,7 @@ ghost use Rattle.i2c_base.specs.Limits.{MOST_DEVICES};
 ghost use Rattle.i2c_base.specs.declared.port.PortCall.TheVariants as call;
 ghost use Rattle.i2c_base.specs.declared.event.Event.TheVariants as event;
 ghost use Rattle.i2c_spec.specs.Flat as flat;
-ghost use Rattle.i2c_spec.specs.Layouts.{board_of};
+ghost use Rattle.i2c_board.specs.Layouts.{board_of};
 ghost use Rattle.i2c_spec.specs.Plain.{IsPlainBoard};
 ghost use Rattle.i2c_spec.specs.Targets.{opening_state};
 ghost use Rattle.i2c_spec.specs.World.{feed, has_heard, is_ack};
@@ -13,7 +13,7 @@ ghost use Rattle.flat_world.specs.Devices.{AreNamed, add_once, answer_in, behind
 
 use arrayvec::ArrayVec;
 use i2c_base::{Answer, DeviceSpec, Event, MOST_DEVICES, NoMemory, Target};
-use i2c_spec::Layout;
+use i2c_board::Layout;
 use std::alloc::Global;
 use std::marker::Model;
 use targets::DeviceState;

@@ -1,7 +1,7 @@
 //! `Flat`, the flat world, which does one transfer at a time.
 ghost use Rattle.std.specs.Prelude.{◌≡◌, IfOk};
 ghost use Rattle.i2c_spec.specs.Flat as spec;
-ghost use Rattle.i2c_spec.specs.Layouts.{board_of};
+ghost use Rattle.i2c_board.specs.Layouts.{board_of};
 ghost use Rattle.i2c_spec.specs.Plain.{IsPlainBoard};
 ghost use Rattle.flat_world.specs.Worlds.{opened};
 
@@ -9,8 +9,8 @@ use crate::devices::Devices;
 use crate::site::Site;
 use crate::transfer::send_all;
 use i2c_base::{Bytes, Cut, End, Errno, NoMemory, Reply, SegId, Transfer, Way};
-use i2c_board::Accepted;
-use i2c_spec::{Layout, errno_of, refusal};
+use i2c_board::{Accepted, Layout, refusal};
+use i2c_spec::errno_of;
 use std::alloc::Global;
 use std::marker::Model;
 use targets::DeviceState;

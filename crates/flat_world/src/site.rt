@@ -2,11 +2,11 @@
 ghost use Rattle.std.specs.Prelude.{◌≡◌, ◌<◌, IfSome};
 ghost use Rattle.i2c_base.specs.Limits.{MOST_DEVICES};
 ghost use Rattle.i2c_spec.specs.Flat.{granted_on};
-ghost use Rattle.i2c_spec.specs.Layouts.{board_of};
+ghost use Rattle.i2c_board.specs.Layouts.{board_of};
 ghost use Rattle.i2c_spec.specs.Plain.{IsPlainBoard};
 
 use i2c_base::{Addr, Grant, SegId};
-use i2c_spec::Layout;
+use i2c_board::Layout;
 use std::marker::Model;
 
 /// Where a transfer is sent: a bus of a board, forced or not. A contract sees the record of these parts.
@@ -18,7 +18,7 @@ pub struct Site<'b> {
 }
 
 impl<'b> Model for Site<'b> {
-    ghost use Rattle.i2c_spec.specs.Layouts.{board_of};
+    ghost use Rattle.i2c_board.specs.Layouts.{board_of};
     ghost use Rattle.i2c_spec.specs.Plain.{IsPlainBoard};
     ghost use Rattle.flat_world.specs.Worlds.{SiteView};
 

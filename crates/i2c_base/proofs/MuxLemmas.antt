@@ -1,6 +1,6 @@
 -- How the facts of a kind of mux go together, by the code that tells its open channel. Every row keeps it, and the
 -- proofs above ask for nothing else of a kind. No induction.
-use Rattle.std.proofs.Common.{◌≡◌, suc, ◌^◌, ◌≤◌, true, false, Some, None, refl, sym, ◌∙◌, arith}
+use Rattle.std.proofs.Common.{◌≡◌, suc, ◌^◌, ◌≤◌, true, false, Some, None, refl, sym, ◌∙◌, subst, arith}
 use Rattle.i2c_base.specs.declared.board.MuxKind.{MuxKind}
 use Rattle.i2c_base.specs.declared.board.MuxKind.TheVariants.{Pca9548, Pca9546, Pca9544, Pca9541, Gpio}
 use Rattle.i2c_base.specs.declared.mux_facts.MuxFacts.{MuxFacts}
@@ -37,13 +37,8 @@ pub record IsLineRow (f : MuxFacts) : Type 0 where
   pub asks : f.asks ≡ false
 
 pub line_row : (k : MuxKind) → (facts_of k).by_line ≡ true → IsLineRow (facts_of k)
-line_row k e = by_code (facts_of k).code refl (facts_fit k)
-  where
-    by_code : (c : ChannelCode) → (facts_of k).code ≡ c → FitsCode c (facts_of k) → IsLineRow (facts_of k)
-    by_code Bits at fits = absurd (let g : false ≡ true = sym fits.2 ∙ e in cc)
-    by_code (Number n) at fits = absurd (let g : false ≡ true = sym fits.2 ∙ e in cc)
-    by_code Alone at fits = absurd (let g : false ≡ true = sym fits.2 ∙ e in cc)
-    by_code Level at fits = record { code = at; wants_parent = fits.1; asks = fits.3 }
+line_row k e =
+    subst (λ j. IsLineRow (facts_of j)) (sym (gpio_only k e)) (record { code = refl; wants_parent = refl; asks = refl })
 
 -- an arbitrator
 pub record IsArbitratorRow (f : MuxFacts) : Type 0 where

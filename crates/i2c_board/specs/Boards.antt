@@ -2,7 +2,8 @@
 use Rattle.std.specs.Prelude.{◌≡◌, length, reverse}
 use Rattle.i2c_base.specs.Board.{BoardView}
 use Rattle.i2c_spec.specs.Plain.{IsPlainBoard}
-use Rattle.i2c_spec.specs.Tree.{hops_by_bus, stays_in}
+use Rattle.i2c_board.specs.Passes.{hops_by_bus}
+use Rattle.i2c_spec.specs.Tree.{stays_in}
 use Rattle.i2c_board.specs.declared.board.Board.TheInside.{Inside}
 
 -- the parts that contracts see

@@ -1,3 +1,6 @@
+pub mod Layouts
+pub mod Passes
+pub mod Searches
 pub mod Boards
 pub use Rattle.i2c_spec.specs.Board
 pub use Rattle.i2c_spec.specs.Plain
@@ -5,6 +8,5 @@ pub use Rattle.i2c_spec.specs.Tree
 pub use Rattle.i2c_spec.specs.Grant
 pub use Rattle.i2c_spec.specs.Rules
 pub use Rattle.i2c_spec.specs.Flat
-pub use Rattle.i2c_spec.specs.Layouts
 pub use Rattle.i2c_spec.specs.Cost
 pub mod Grants

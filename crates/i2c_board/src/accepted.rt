@@ -3,9 +3,8 @@
 ghost use Rattle.std.specs.Prelude.{◌≡◌, ◌<◌, ◌^◌, IfSome};
 ghost use Rattle.i2c_base.specs.Limits.{MOST_ROOTS};
 
-use crate::Board;
+use crate::{Board, TransferCost};
 use i2c_base::Transfer;
-use i2c_spec::TransferCost;
 use std::marker::Model;
 
 /// A board that meets the five topology rules. A contract sees the board.

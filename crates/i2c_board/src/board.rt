@@ -4,8 +4,9 @@ ghost use Rattle.std.specs.Prelude.{◌≡◌, IfOk, List};
 ghost use Rattle.i2c_base.specs.declared.board.RootSpec.{RootSpec};
 ghost use Rattle.i2c_base.specs.declared.board.MuxSpec.{MuxSpec};
 
+use crate::by_bus::{hops_by_bus, some_stays};
+use crate::{Hop, Layout};
 use i2c_base::{DeviceSpec, MuxSpec, RootSpec};
-use i2c_spec::{Hop, Layout, hops_by_bus, some_stays};
 use std::alloc::{AllocError, Global};
 use std::marker::Model;
 
@@ -38,7 +39,7 @@ impl Model for Board {
 }
 
 impl Board {
-    ghost use Rattle.i2c_spec.specs.Layouts.{board_of};
+    ghost use Rattle.i2c_board.specs.Layouts.{board_of};
     ghost use Rattle.i2c_spec.specs.Plain.{IsPlainBoard};
 
     /// The board of these parts, which fit each other. Only its tree takes memory; `Err` is want of that.

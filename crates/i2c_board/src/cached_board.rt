@@ -7,9 +7,9 @@ ghost use Rattle.i2c_spec.specs.Grant.{grant_of};
 ghost use Rattle.i2c_spec.specs.Rules.{MeetsRules};
 ghost use Rattle.i2c_spec.specs.Tree.{buses};
 
+use crate::refusals::bus_refusal;
 use crate::{Accepted, Board};
 use i2c_base::{Addr, Errno, Grant, NoMemory, SegId, Transfer};
-use i2c_spec::bus_refusal;
 use std::alloc::Global;
 use std::marker::Model;
 
@@ -55,7 +55,7 @@ fn cell_of(bus: u16, addr: Addr) -> usize
 }
 
 // Puts a grant at a place.
-#[tactic(auto, using(crate::proofs::GrantLemmas::all_set))]
+#[tactic(auto, using(crate::proofs::KnownLemmas::all_set))]
 fn put(
     known: &mut Vec<Option<Known>>,
     place: usize,

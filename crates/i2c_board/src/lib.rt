@@ -9,12 +9,26 @@
 
 mod accepted;
 mod board;
+mod by_bus;
 mod cached_board;
+mod cost;
+mod grant;
+mod hop;
+mod idle;
+mod layout;
+mod paths;
+mod refusals;
 mod rules;
+mod topology;
 mod tree;
 
 pub use accepted::Accepted;
 pub use board::Board;
 pub use cached_board::CachedBoard;
+pub use cost::TransferCost;
+pub use hop::Hop;
 pub use i2c_base::{Grant, Item, RuleBroken, Way};
+pub use layout::Layout;
+pub use paths::end_of;
+pub use refusals::refusal;
 pub use rules::accept;

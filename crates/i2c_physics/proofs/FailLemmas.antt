@@ -1,46 +1,11 @@
--- A call on a port of which some calls fail: what it answers, and the port after it.
-use Rattle.std.proofs.Common.{◌≡◌, ℕ, ◌+◌, ◌<◌, ◌++◌, List, [], ◌∷◌, length, map, take, get_or, Bool, true, false, cond, Ok, Err, Result, append-nil, sym, ◌∙◌, ap}
-use Rattle.std.specs.Prelude.{if◌then◌else◌, ◌==◌}
+-- The numbers that are listed for a root, where one more of the calls is of it, and where it is of another.
+use Rattle.std.proofs.Common.{◌≡◌, ℕ, ◌+◌, ◌<◌, ◌++◌, List, [], ◌∷◌, length, map, take, get_or, Bool, true, false, cond, append-nil, sym, ◌∙◌, ap}
+use Rattle.std.specs.Prelude.{◌==◌}
 use Rattle.std.specs.List.{filter}
 use Rattle.std.proofs.lemmas.List.{map-append}
 use Rattle.std.proofs.lemmas.List.Elements.{filter_more}
-use Rattle.i2c_base.specs.declared.port.Phase.{Phase}
-use Rattle.i2c_base.specs.declared.port.Phase.TheVariants.{Idle}
-use Rattle.i2c_base.specs.declared.port.PortCall.{PortCall}
-use Rattle.i2c_base.specs.declared.port.PortCall.TheVariants as call
-use Rattle.ports.specs.declared.failed.Failed.{Failed}
-use Rattle.i2c_physics.specs.FailPorts.{FailView, after_next, fails_next, fails_on, said}
-use Rattle.i2c_physics.specs.SimPorts.{PortView, called}
+use Rattle.i2c_physics.specs.FailPorts.{fails_on}
 
-pub said-failed : {T : Type 0} (p : FailView) (x : T) (b : Bool) → b ≡ true → b ≡ fails_next p → Err (record {}) ≡ said p x
-said-failed {T} p x b failed is =
-    let answer : Bool → Result T Failed = λ c. if c then Err (record {}) else Ok x in
-    ap answer (sym failed ∙ is)
-
-pub said-passed : {T : Type 0} (p : FailView) (x y : T) (b : Bool) → b ≡ false → b ≡ fails_next p → y ≡ x → Ok y ≡ said p x
-said-passed {T} p x y b passed is same =
-    let ok : T → Result T Failed = λ z. Ok z in
-    let answer : Bool → Result T Failed = λ c. if c then Err (record {}) else Ok x in
-    ap ok same ∙ ap answer (sym passed ∙ is)
-
-module _ (p : FailView) (sim new : PortView) (fails : List ℕ) (c : PortCall) (b : Bool) (is : b ≡ fails_next p)
-    (view : record { port = sim; fails = fails } ≡ p) where
-  pub after-failed : (phase : Phase) → b ≡ true → new ≡ called sim call.Fault Idle
-      → record { port = new; fails = fails } ≡ after_next p c phase
-  after-failed phase failed after =
-      ap (λ (q : PortView). record { port = q; fails = fails }) after
-      ∙ ap (λ (v : FailView). record v { port = called v.port call.Fault Idle }) view
-      ∙ ap (λ (f : Bool). record p { port = if f then called p.port call.Fault Idle else called p.port c phase }) (sym failed ∙ is)
-
-  pub after-passed
-      : (phase : PortView → Phase) → b ≡ false → new ≡ called sim c (phase sim)
-      → record { port = new; fails = fails } ≡ after_next p c (phase p.port)
-  after-passed phase passed after =
-      ap (λ (q : PortView). record { port = q; fails = fails }) after
-      ∙ ap (λ (v : FailView). record v { port = called v.port c (phase v.port) }) view
-      ∙ ap (λ (f : Bool). record p { port = if f then called p.port call.Fault Idle else called p.port c (phase p.port) }) (sym passed ∙ is)
-
--- the numbers that are listed for a root, where one more of the calls is of it, and where it is of another
 module _ (calls : List (ℕ × ℕ)) (root i : ℕ) (x : ℕ × ℕ) (b : Bool) (old : List ℕ) (low : i < length calls) (is : x ≡ get_or calls i x)
     (same : b ≡ (x.0 == root)) (before : old ≡ fails_on (take i calls) root) where
   abbrev of_root : ℕ × ℕ → Bool

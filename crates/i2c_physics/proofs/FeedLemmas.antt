@@ -72,6 +72,21 @@ world_of b root chips states heard_chips heard_devices busy =
       busy = busy;
     }
 
+-- what a stop leaves of the two lists, and what a start does
+module _ (muxes places : List PlaceView) (chips : List ChipView) (states : List TargetState) (cr dr : Reach)
+    (new_chips : List ChipView) (new_states : List TargetState) where
+  pub record AreParted : Type 0 where
+    pub of_chips : new_chips ≡ feed chip_table (to_those (filter (joins_at chips muxes) cr.started) event.Stop) 0 chips
+    pub of_devices : new_states ≡ feed state_table (to_those (filter (joins_at chips places) dr.started) event.Stop) 0 states
+
+  pub record AreBegun (a : ℕ) (reading : Bool) (rc rd : Reach) : Type 0 where
+    pub of_chips : new_chips ≡ feed chip_table (to_those (others chips muxes a cr.started) event.Other) 0
+        (feed chip_table (to_those (addressed chips muxes a) (event.Start reading)) 0 chips)
+    pub of_devices : new_states ≡ feed state_table (to_those (others chips places a dr.started) event.Other) 0
+        (feed state_table (to_those (addressed chips places a) (event.Start reading)) 0 states)
+    pub chips_heard : rc.hearing ≡ numbers_of (answers chip_table (to_those (addressed chips muxes a) (event.Start reading)) 0 chips)
+    pub devices_heard : rd.hearing ≡ numbers_of (answers state_table (to_those (addressed chips places a) (event.Start reading)) 0 states)
+
 module _ (b : BoardView) (root : ℕ) (muxes places : List PlaceView) (chips : List ChipView) (states : List TargetState) (cr dr : Reach)
     (busy : Bool)
     (inv : IsSimWorld b root muxes places chips states cr dr) where
@@ -142,8 +157,7 @@ module _ (b : BoardView) (root : ℕ) (muxes places : List PlaceView) (chips : L
 
   -- a stop
   module _ (new_chips : List ChipView) (new_states : List TargetState)
-      (chips_new : new_chips ≡ feed chip_table (to_those (filter (joins_at chips muxes) cr.started) event.Stop) 0 chips)
-      (states_new : new_states ≡ feed state_table (to_those (filter (joins_at chips places) dr.started) event.Stop) 0 states) where
+      (parted : AreParted muxes places chips states cr dr new_chips new_states) where
     pub stopped-kept : ((y : ChipView) → IsQuiet chip_table (chip_after y event.Stop)) → (left_chips left_devices : Reach)
         → left_chips.started ≡ filter (λ k. not (joins_at chips muxes k)) cr.started → left_chips.hearing ≡ []
         → left_devices.started ≡ filter (λ k. not (joins_at chips places k)) dr.started → left_devices.hearing ≡ []
@@ -157,21 +171,21 @@ module _ (b : BoardView) (root : ℕ) (muxes places : List PlaceView) (chips : L
           plain = inv.plain;
           mux_places = inv.mux_places;
           device_places = inv.device_places;
-          chips_are = ap length chips_new
+          chips_are = ap length parted.of_chips
               ∙ length-feed chip_table (to_those (filter (joins_at chips muxes) cr.started) event.Stop) 0 chips ∙ inv.chips_are;
-          devices_are = ap length states_new
+          devices_are = ap length parted.of_devices
               ∙ length-feed state_table (to_those (filter (joins_at chips places) dr.started) event.Stop) 0 states ∙ inv.devices_are;
-          chips_reached = rw (chips_new, lc, lch) kept_chips;
-          devices_reached = rw (states_new, ld, ldh) kept_states;
+          chips_reached = rw (parted.of_chips, lc, lch) kept_chips;
+          devices_reached = rw (parted.of_devices, ld, ldh) kept_states;
           reached_own = rw ld (λ k left. inv.reached_own k (filter-among (λ m. not (joins_at chips places m)) dr.started k left).0);
         }
 
     pub stopped-is : world_of b root new_chips new_states [] [] false ≡ after world call.Stop
     stopped-is =
-        let all_chips = chips_new ∙ stopped-fed chip_table chips cr.started cr.hearing inv.chips_reached (joins_at chips muxes)
+        let all_chips = parted.of_chips ∙ stopped-fed chip_table chips cr.started cr.hearing inv.chips_reached (joins_at chips muxes)
         ∙ feed-same chip_table (λ m. stop_event (joins_chip world m)) (λ k. stop_event (joins_at chips muxes k)) 0 chips
         (λ k at low. chip-stopped world muxes k inv.mux_places (low_chip k low)) in
-        let all_states = states_new ∙ stopped-fed state_table states dr.started dr.hearing inv.devices_reached
+        let all_states = parted.of_devices ∙ stopped-fed state_table states dr.started dr.hearing inv.devices_reached
         (joins_at chips places) in
         let all_devices : seen_on b root b.devices new_states ≡ feed state_table (λ d. stop_event (joins_device world d)) 0
         (seen_on b root b.devices states) =
@@ -287,11 +301,7 @@ module _ (b : BoardView) (root : ℕ) (muxes places : List PlaceView) (chips : L
         ∙ sym (hearers_told world a reading)
 
     module _ (new_chips : List ChipView) (new_states : List TargetState) (rc rd : Reach)
-        (chips_new : new_chips ≡ feed chip_table (to_those (others chips muxes a cr.started) event.Other) 0
-        (feed chip_table (to_those (addressed chips muxes a) (event.Start reading)) 0 chips))
-        (states_new : new_states ≡ feed state_table (to_those (others chips places a dr.started) event.Other) 0
-        (feed state_table (to_those (addressed chips places a) (event.Start reading)) 0 states))
-        (rc_heard : rc.hearing ≡ numbers_of chips_said) (rd_heard : rd.hearing ≡ numbers_of states_said) where
+        (begun : AreBegun muxes places chips states cr dr new_chips new_states a reading rc rd) where
       pub started-kept : rc.started ≡ union_of (length chips) cr.started (addressed chips muxes a)
           → rd.started ≡ union_of (length states) dr.started (addressed chips places a)
           → IsSimWorld b root muxes places new_chips new_states rc rd
@@ -304,25 +314,25 @@ module _ (b : BoardView) (root : ℕ) (muxes places : List PlaceView) (chips : L
             plain = inv.plain;
             mux_places = inv.mux_places;
             device_places = inv.device_places;
-            chips_are = ap length (chips_new
+            chips_are = ap length (begun.of_chips
                 ∙ started-fed chip_table chips cr.started cr.hearing inv.chips_reached chips muxes a reading muxes_count)
                 ∙ length-feed chip_table (λ k. start_event (joins_at chips muxes k) (has_at a muxes k) reading) 0 chips ∙ inv.chips_are;
-            devices_are = ap length (states_new
+            devices_are = ap length (begun.of_devices
                 ∙ started-fed state_table states dr.started dr.hearing inv.devices_reached chips places a reading places_count)
                 ∙ length-feed state_table (λ k. start_event (joins_at chips places k) (has_at a places k) reading) 0 states
                 ∙ inv.devices_are;
-            chips_reached = rw (chips_new, rc_started, rc_heard) kept_chips;
-            devices_reached = rw (states_new, rd_started, rd_heard) kept_states;
+            chips_reached = rw (begun.of_chips, rc_started, begun.chips_heard) kept_chips;
+            devices_reached = rw (begun.of_devices, rd_started, begun.devices_heard) kept_states;
             reached_own = rw rd_started started_own;
           }
 
       pub started-is : world_of b root new_chips new_states rc.hearing rd.hearing true ≡ after world (call.Start a reading)
       started-is =
-          let all_chips = chips_new ∙ started-fed chip_table chips cr.started cr.hearing inv.chips_reached chips muxes a reading
+          let all_chips = begun.of_chips ∙ started-fed chip_table chips cr.started cr.hearing inv.chips_reached chips muxes a reading
           muxes_count
           ∙ feed-same chip_table (chip_start world a reading) (λ k. start_event (joins_at chips muxes k) (has_at a muxes k) reading) 0 chips
           (λ k at low. chip-started world muxes k inv.mux_places (low_chip k low) a reading) in
-          let all_states = states_new ∙ started-fed state_table states dr.started dr.hearing inv.devices_reached chips places a
+          let all_states = begun.of_devices ∙ started-fed state_table states dr.started dr.hearing inv.devices_reached chips places a
           reading places_count in
           let all_devices : seen_on b root b.devices new_states ≡ feed state_table (device_start world a reading) 0
           (seen_on b root b.devices states) =
@@ -331,7 +341,8 @@ module _ (b : BoardView) (root : ℕ) (muxes places : List PlaceView) (chips : L
           ∙ feed-same state_table (device_start world a reading) (λ k. start_event (joins_at chips places k) (has_at a places k) reading) 0
           (seen_on b root b.devices states)
           (λ k at low. device-started world places k inv.device_places (low_device k low) a reading) in
-          let heard : nodes_of rc.hearing rd.hearing ≡ hearers world a reading = rw (rc_heard, rd_heard) started-hearing in
+          let heard : nodes_of rc.hearing rd.hearing ≡ hearers world a reading =
+          rw (begun.chips_heard, begun.devices_heard) started-hearing in
           ap (λ (cs : List ChipView). record world {
             chips = cs;
             devices = seen_on b root b.devices new_states;

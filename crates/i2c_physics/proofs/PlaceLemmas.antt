@@ -1,9 +1,10 @@
 -- Where a target stands, by its place: the world says the same by its number.
-use Rattle.std.proofs.Common.{◌≡◌, ℕ, ◌<◌, ◌==◌, Bool, true, false, ◌&&◌, List, length, map, Some, refl, ◌∙◌, ap, inl, inr, arith}
+use Rattle.std.proofs.Common.{◌≡◌, ℕ, ◌<◌, ◌==◌, Bool, true, false, ◌&&◌, List, length, map, Some, refl, ◌∙◌, ap}
 use Rattle.std.specs.Prelude.{not, slice_get, is_some}
 use Rattle.std.specs.List.{list_all}
 use Rattle.std.specs.Option.{option_map, option_map_or}
-use Rattle.std.proofs.lemmas.Option.{slice_get-map, slice_get_cases}
+use Rattle.std.proofs.lemmas.Option.{slice_get-map}
+use Rattle.i2c_base.proofs.ListLemmas.{there}
 use Rattle.i2c_base.specs.declared.board.MuxSpec.{MuxSpec}
 use Rattle.i2c_base.specs.Board.{DeviceView}
 use Rattle.i2c_spec.specs.Grant.{has_address}
@@ -54,31 +55,15 @@ module _ (w : World) (places : List PlaceView) (k : ℕ) where
   module _ (are : places ≡ map (mux_place w.board w.root) w.board.muxes) (low : k < length w.board.muxes) where
     pub chip-started : (a : ℕ) (reading : Bool)
         → start_event (joins_at w.chips places k) (has_at a places k) reading ≡ chip_start w a reading k
-    chip-started a reading =
-        elim (slice_get_cases w.board.muxes k).1 [
-          | inl x ↦ start_mux w places a reading k x.0 are x.2
-          | inr past ↦ absurd (omega (arith, past.0))
-        ]
+    chip-started a reading = let x = there w.board.muxes k low in start_mux w places a reading k x.0 are x.1
 
     pub chip-stopped : stop_event (joins_at w.chips places k) ≡ stop_event (joins_chip w k)
-    chip-stopped =
-        elim (slice_get_cases w.board.muxes k).1 [
-          | inl x ↦ ap stop_event (joins_at_mux w places k x.0 are x.2)
-          | inr past ↦ absurd (omega (arith, past.0))
-        ]
+    chip-stopped = let x = there w.board.muxes k low in ap stop_event (joins_at_mux w places k x.0 are x.1)
 
   module _ (are : places ≡ map (device_place w.board w.root) w.board.devices) (low : k < length w.board.devices) where
     pub device-started : (a : ℕ) (reading : Bool)
         → start_event (joins_at w.chips places k) (has_at a places k) reading ≡ device_start w a reading k
-    device-started a reading =
-        elim (slice_get_cases w.board.devices k).1 [
-          | inl x ↦ start_device w places a reading k x.0 are x.2
-          | inr past ↦ absurd (omega (arith, past.0))
-        ]
+    device-started a reading = let x = there w.board.devices k low in start_device w places a reading k x.0 are x.1
 
     pub device-stopped : stop_event (joins_at w.chips places k) ≡ stop_event (joins_device w k)
-    device-stopped =
-        elim (slice_get_cases w.board.devices k).1 [
-          | inl x ↦ ap stop_event (joins_at_device w places k x.0 are x.2)
-          | inr past ↦ absurd (omega (arith, past.0))
-        ]
+    device-stopped = let x = there w.board.devices k low in ap stop_event (joins_at_device w places k x.0 are x.1)

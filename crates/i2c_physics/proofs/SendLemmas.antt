@@ -1,7 +1,7 @@
 -- A port may go to another thread, with all that it holds.
 use denote.Param.Send.{IsSend, sendable}
 use Rattle.std.proofs.Crossing.{crosses}
-use Rattle.i2c_spec.proofs.SendLemmas.{hop-send}
+use Rattle.i2c_board.proofs.SendLemmas.{hop-send}
 use Rattle.targets.proofs.SendLemmas.{device-send}
 use Rattle.i2c_physics.specs.contracts.numbers.Numbers as Numbers
 use Rattle.i2c_physics.specs.contracts.place.Place as Place

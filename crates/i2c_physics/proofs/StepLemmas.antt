@@ -1,19 +1,10 @@
 -- One element more of a list that is gone through, and what stands at a place of a list.
-use Rattle.std.proofs.Common.{◌≡◌, ℕ, ◌+◌, ◌<◌, ◌++◌, List, [], ◌∷◌, length, map, take, get_or, Bool, true, false, cond, Option, Some, None, Bor, append-nil, sym, ◌∙◌, ap}
+use Rattle.std.proofs.Common.{◌≡◌, ℕ, ◌+◌, ◌<◌, ◌++◌, List, [], ◌∷◌, length, take, get_or, Bool, true, false, cond, Option, Some, None, Bor, append-nil, sym, ◌∙◌, ap}
 use Rattle.std.specs.List.{filter, slice_get}
 use Rattle.std.specs.Option.{option_map_or}
 use Rattle.std.specs.Slice.{IsItemAt}
-use Rattle.std.proofs.lemmas.List.{map-append, take_more}
 use Rattle.std.proofs.lemmas.List.Elements.{filter_more}
 use Rattle.std.proofs.lemmas.Option.{slice_get-get_or, slice_get_past}
-
--- what is made of each element, where one more is made
-pub mapped-more
-    : {X Y : Type 0} (f : X → Y) (xs : List X) (i : ℕ) (x : X) (ys more : List Y) (y : Y) → i < length xs → x ≡ get_or xs i x
-    → ys ≡ map f (take i xs) → y ≡ f x → more ≡ ys ++ y ∷ [] → more ≡ map f (take (i + 1) xs)
-mapped-more {X} {Y} f xs i x ys more y low is before one grown =
-    grown ∙ ap (λ (z : Y). ys ++ z ∷ []) (one ∙ ap f is) ∙ ap (λ (zs : List Y). zs ++ f (get_or xs i x) ∷ []) before
-    ∙ sym (map-append f (take i xs) (get_or xs i x ∷ [])) ∙ ap (map f) (sym (take_more xs i x low))
 
 -- the elements that pass a test, where one more is kept, and where it is left out
 pub kept-more

@@ -1,11 +1,12 @@
 //! A port of which the listed calls fail.
-ghost use Rattle.std.specs.Prelude.{◌≡◌, ◌<◌, ℕ, true, length, IfOk};
+ghost use Rattle.std.specs.Prelude.{◌≡◌, ◌<◌, ℕ, true, length, IfOk, OnOk, OnErr, is_err};
 ghost use Rattle.i2c_base.specs.Limits.{MOST_CALLS};
 ghost use Rattle.i2c_base.specs.Phases.{MayStart, MayPut, MayGet, MayStop, MayLine, phase_started, phase_put, phase_got};
 ghost use Rattle.i2c_base.specs.declared.port.Phase.TheVariants.{Idle};
 ghost use Rattle.i2c_base.specs.declared.port.PortCall.TheVariants as call;
 ghost use Rattle.i2c_spec.specs.World.{answer, takes, gives};
 ghost use Rattle.ports.specs.LineCalls.{HasLine};
+ghost use Rattle.i2c_physics.specs.SimPorts.{called};
 ghost use Rattle.i2c_physics.specs.FailPorts.{fails_next, said, after_next, failed_calls_in, fails_on, opening_fails};
 
 use crate::SimPort;
@@ -50,10 +51,17 @@ impl FailPort {
     }
 
     /// The next call fails, where its number is listed.
-    fn fails_next(&self) -> bool
-        ensures { result ≡ fails_next self.now }
+    fn fail_next(&mut self) -> Result<(), Failed>
+        requires { length self.old.port.log < MOST_CALLS }
+        ensures fails { is_err result ≡ fails_next self.old }
+        ensures passed { OnOk result (self.new ≡ self.old) }
+        ensures failed { OnErr result (self.new ≡ record self.old { port = called self.old.port call.Fault Idle }) }
     {
-        is_listed(self.fails.as_slice(), self.sim.calls() as u64)
+        if is_listed(self.fails.as_slice(), self.sim.calls() as u64) {
+            self.sim.call_fault();
+            return Err(Failed);
+        }
+        Ok(())
     }
 }
 
@@ -99,10 +107,7 @@ impl Port for FailPort {
         ensures answer { result ≡ said self.old (answer self.old.port.world addr reading) }
         ensures after { self.new ≡ after_next self.old (call.Start addr reading) (phase_started reading (answer self.old.port.world addr reading)) }
     {
-        if self.fails_next() {
-            self.sim.call_fault();
-            return Err(Failed);
-        }
+        self.fail_next()?;
         Ok(self.sim.call_start(addr, reading))
     }
 
@@ -112,10 +117,7 @@ impl Port for FailPort {
         ensures answer { result ≡ said self.old (takes self.old.port.world byte) }
         ensures after { self.new ≡ after_next self.old (call.Put byte) (phase_put (takes self.old.port.world byte)) }
     {
-        if self.fails_next() {
-            self.sim.call_fault();
-            return Err(Failed);
-        }
+        self.fail_next()?;
         Ok(self.sim.call_put(byte))
     }
 
@@ -125,10 +127,7 @@ impl Port for FailPort {
         ensures answer { result ≡ said self.old (gives self.old.port.world) }
         ensures after { self.new ≡ after_next self.old (call.Get ack) (phase_got ack) }
     {
-        if self.fails_next() {
-            self.sim.call_fault();
-            return Err(Failed);
-        }
+        self.fail_next()?;
         Ok(self.sim.call_get(ack))
     }
 
@@ -138,10 +137,7 @@ impl Port for FailPort {
         ensures answer { result ≡ said self.old tt }
         ensures after { self.new ≡ after_next self.old call.Stop Idle }
     {
-        if self.fails_next() {
-            self.sim.call_fault();
-            return Err(Failed);
-        }
+        self.fail_next()?;
         self.sim.call_stop();
         Ok(())
     }
@@ -153,10 +149,7 @@ impl Port for FailPort {
         ensures answer { result ≡ said self.old tt }
         ensures after { self.new ≡ after_next self.old (call.Line mux level) Idle }
     {
-        if self.fails_next() {
-            self.sim.call_fault();
-            return Err(Failed);
-        }
+        self.fail_next()?;
         self.sim.call_line(mux, level);
         Ok(())
     }

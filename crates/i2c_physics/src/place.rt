@@ -2,13 +2,13 @@
 ghost use Rattle.std.specs.Prelude.{◌≡◌, IfOk};
 ghost use Rattle.std.specs.List.{list_all};
 ghost use Rattle.i2c_spec.specs.Grant.{has_address};
-ghost use Rattle.i2c_spec.specs.Layouts.{board_of};
+ghost use Rattle.i2c_board.specs.Layouts.{board_of};
 ghost use Rattle.i2c_spec.specs.Plain.{IsPlainBoard};
 ghost use Rattle.i2c_spec.specs.World.{opens_hop};
 ghost use Rattle.i2c_physics.specs.Places.{place_on, joins};
 
 use i2c_base::{Addr, SegId};
-use i2c_spec::{Hop, Layout};
+use i2c_board::{Hop, Layout};
 use std::alloc::{AllocError, Global};
 use std::marker::Model;
 use tgt_mux::Chip;

@@ -2,7 +2,7 @@
 ghost use Rattle.std.specs.Prelude.{◌≡◌, ◌+◌, ◌<◌, ◌≤◌, [], length, map, IfOk, OnOk};
 ghost use Rattle.std.specs.List.{range_with_len};
 ghost use Rattle.i2c_base.specs.Limits.{MOST_DEVICES};
-ghost use Rattle.i2c_spec.specs.Layouts.{board_of};
+ghost use Rattle.i2c_board.specs.Layouts.{board_of};
 ghost use Rattle.i2c_spec.specs.Plain.{IsPlainBoard};
 ghost use Rattle.i2c_physics.specs.Places.{device_place, mux_place};
 ghost use Rattle.i2c_physics.specs.Reach.{has_at, wired_at};
@@ -10,7 +10,7 @@ ghost use Rattle.i2c_physics.specs.Sites.{numbers_at, numbers_below};
 
 use crate::place::Place;
 use i2c_base::{Addr, SegId};
-use i2c_spec::Layout;
+use i2c_board::Layout;
 use std::alloc::{AllocError, Global};
 use std::marker::Model;
 

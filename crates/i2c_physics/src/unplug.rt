@@ -4,13 +4,12 @@ ghost use Rattle.i2c_base.specs.Board.{BoardView};
 ghost use Rattle.i2c_spec.specs.World.{World, AreWorldsOf, devices_of};
 ghost use Rattle.i2c_physics.specs.SimPorts.{PortView};
 ghost use Rattle.i2c_physics.specs.SimRigs.{own_device, owns, state_at, states_from, taken_out, without, IsThere};
-ghost use Rattle.i2c_spec.specs.Layouts.{board_of};
+ghost use Rattle.i2c_board.specs.Layouts.{board_of};
 ghost use Rattle.i2c_spec.specs.Plain.{IsPlainBoard};
 ghost use Rattle.i2c_spec.specs.Tree.{root_of};
 
 use i2c_base::{PortCall, SegId};
-use i2c_board::Accepted;
-use i2c_spec::Layout;
+use i2c_board::{Accepted, Layout};
 use std::alloc::{AllocError, Global};
 use std::marker::Model;
 use std::snapshot::Snapshot;

@@ -5,7 +5,7 @@ use Rattle.i2c_base.specs.declared.tree.Grant.{Grant}
 use Rattle.i2c_base.specs.declared.tree.Grant.TheVariants as grant
 use Rattle.i2c_base.specs.declared.tree.Way.{Way}
 use Rattle.i2c_base.specs.declared.tree.Way.TheVariants as way
-use Rattle.i2c_base.specs.Board.{BoardView, DeviceView}
+use Rattle.i2c_base.specs.Board.{BoardView}
 use Rattle.i2c_spec.specs.Tree.{Hop, hops, is_on_path, is_below, is_aside, is_absent, is_held}
 
 abbrev pub has_address : ℕ → Option ℕ → Bool
@@ -25,34 +25,6 @@ some_bound b a on = list_any (λ d. d.bound && ((d.addr == a) && on d.bus)) b.de
 abbrev pub named_by : Option ℕ → Grant
 named_by None = grant.Nobody
 named_by (Some d) = grant.Named d
-
--- what is on bus u is heard on bus s, which isn't below it: it is below s, or aside of it
-abbrev pub is_beside : BoardView → ℕ → ℕ → Bool
-is_beside b s u = is_below b u s || is_aside b s u
-
--- what these devices alone say of an address
-abbrev pub device_grant : BoardView → List DeviceView → ℕ → ℕ → Bool → Grant
-device_grant b ds s a force =
-    if list_any (λ d. (d.addr == a) && is_beside b s d.bus) ds then grant.Busy
-    else if not force && list_any (λ d. d.bound && ((d.addr == a) && is_on_path b s d.bus)) ds then grant.Busy
-    else named_by (position_from (λ d. (d.addr == a) && is_on_path b s d.bus) 0 ds)
-
--- device n alone
-abbrev pub grant_by : BoardView → ℕ → DeviceView → ℕ → ℕ → Bool → Grant
-grant_by b n d s a force =
-    if not (d.addr == a) then grant.Nobody
-    else if is_beside b s d.bus then grant.Busy
-    else if not (is_on_path b s d.bus) then grant.Nobody
-    else if d.bound && not force then grant.Busy
-    else grant.Named n
-
--- what two searches say together: the first of two devices
-abbrev pub joined : Grant → Grant → Grant
-joined grant.Busy g = grant.Busy
-joined grant.Nobody g = g
-joined (grant.Named d) grant.Busy = grant.Busy
-joined (grant.Named d) grant.Nobody = grant.Named d
-joined (grant.Named d) (grant.Named e) = grant.Named d
 
 -- An address on a bus is busy where a mux chip on the path has it, or a chip or device below the bus, or one behind a mux
 -- beside the path that stays as it is, or, unless forced, a bound device on the path; else it leads to the device on the path

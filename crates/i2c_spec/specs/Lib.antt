@@ -3,10 +3,8 @@ pub mod Tree
 pub mod TreeFacts
 pub mod Numbers
 pub mod Plain
-pub mod Layouts
 pub mod Grant
 pub mod Rules
-pub mod Searches
 pub mod Regs
 pub mod Eeprom
 pub mod Lm75

@@ -1,6 +1,6 @@
 -- The board as a tree of buses (Linux i2c-topology). Buses are numbered: the roots first, then each mux's
 -- channels, in the order of the board file.
-use Rattle.std.specs.Prelude.{◌≡◌, ℕ, ◌+◌, ◌-◌, ◌==◌, nat_le, nat_lt, Bool, true, false, not, ◌&&◌, ◌||◌, ◌⊎◌, List, [], ◌∷◌, ◌++◌, zero, suc, length, map, reverse, Option, None, Some, unwrap_or, slice_get, if◌then◌else◌}
+use Rattle.std.specs.Prelude.{◌≡◌, ℕ, ◌+◌, ◌-◌, ◌==◌, nat_le, nat_lt, Bool, true, false, not, ◌&&◌, ◌||◌, ◌⊎◌, List, [], ◌∷◌, length, map, reverse, Option, None, Some, unwrap_or, slice_get, if◌then◌else◌}
 use Rattle.std.specs.Option.{option_map}
 use Rattle.std.specs.List.{sum_by, list_any}
 use Rattle.i2c_base.specs.declared.board.LockMode.{LockMode}
@@ -72,29 +72,6 @@ hops_of roots (m ∷ before) s =
 
 abbrev pub hops : BoardView → ℕ → List Hop
 hops b s = hops_of (length b.roots) (reverse b.muxes) s
-
--- the hops over the first n channels of mux k, whose channels begin at a bus, by the numbers of their buses
-abbrev pub channel_hop : (first k : ℕ) → MuxSpec → ℕ → Hop
-channel_hop first k m n =
-    record {
-      bus = first + n;
-      mux = k;
-      channel = n;
-      on = m.bus;
-      parent = is_parent m.lock;
-      kind = m.kind;
-      stays = is_staying m.idle;
-    }
-
-abbrev pub channel_hops : (first k : ℕ) → MuxSpec → ℕ → List Hop
-channel_hops first k m zero = []
-channel_hops first k m (suc n) = channel_hops first k m n ++ channel_hop first k m n ∷ []
-
--- the hop over each bus behind the roots, by the numbers of the buses. The muxes are given from the last one back
-abbrev pub hops_by_bus : ℕ → List MuxSpec → List Hop
-hops_by_bus roots [] = []
-hops_by_bus roots (m ∷ before) =
-    hops_by_bus roots before ++ channel_hops (buses_of roots before) (length before) m m.channels
 
 -- some mux stays as it is when idle
 abbrev pub stays_in : List MuxSpec → Bool

@@ -2,39 +2,26 @@
 //! message, and the flat world in which every transfer happens alone.
 //!
 //! The definitions stand in `specs/`, a file for each subject, over plain records and lists. Code stands here only where
-//! crates above call it: `Layout` computes those of the tree, the grant, the topology rules and the cost of a transfer over a board's
-//! parts, `hops_by_bus` and `some_stays` what a board keeps for it, `refusal`, `errno_of` and `done_with` what becomes of a
-//! transfer as a whole, and `write_runs` and the functions of a `Size` what a device's memory is at the opening; each is equal
-//! to its definition. `CallRow` is what a row of the SMBus calls says.
+//! crates above call it: `errno_of` is how an early end of a message makes its transfer fail, and `write_runs` and the functions
+//! of a `Size` what a device's memory is at the opening; each is equal to its definition. `CallRow` is what a row of the SMBus
+//! calls says.
 #![tactic(auto)]
 
-mod by_bus;
-mod cost;
 mod device_memory;
 mod fair_targets;
 mod flat_world;
-mod grant;
-mod hop;
-mod idle;
 mod laws;
-mod layout;
 mod smbus_row;
 mod smbus_rows;
 mod target_rows;
-mod topology;
-mod tree;
 
-pub use by_bus::{hops_by_bus, some_stays};
-pub use cost::TransferCost;
 pub use device_memory::{eeprom_bytes, eeprom_page, is_wide, write_runs};
 pub use fair_targets::{
     chips_are_fair, devices_hold_bytes, eeproms_are_fair, lm75s_are_fair, openings_are_quiet,
     regs_are_fair, smbus_devices_are_fair, states_are_fair,
 };
-pub use flat_world::{bus_refusal, done_with, errno_of, refusal};
-pub use hop::Hop;
+pub use flat_world::errno_of;
 pub use laws::an_accepted_board_is_a_tree;
-pub use layout::Layout;
 pub use smbus_row::{CallRow, ReadShape, ValueShape};
 pub use smbus_rows::{
     a_block_of_no_byte_is_its_count, a_count_says_how_many_bytes_follow,
@@ -49,4 +36,3 @@ pub use target_rows::{
     each_read_of_an_lm75_begins_at_the_high_byte, the_high_byte_of_a_place_comes_first,
     the_low_byte_of_a_limit_keeps_its_highest_bit,
 };
-pub use tree::end_of;

@@ -6,26 +6,34 @@ use Rattle.i2c_spec.specs.Flat.{cut_in, granted_on}
 use Rattle.i2c_spec.specs.Messages.{message_with, messages_from}
 use Rattle.i2c_spec.specs.Conversation as spec
 use Rattle.flat_world.specs.Devices.{once_listener}
+use Rattle.flat_world.specs.Sending.{all_of, all_with}
 use Rattle.flat_world.proofs.FitLemmas.{read_fits_room}
 use Rattle.flat_world.proofs.SendingLemmas.{as_sent}
 use Rattle.flat_world.proofs.TransferLemmas.{went_through, ended_early, cut_out, left_over}
 use Rattle.flat_world.proofs.transfer.send_all.Goals as goal
+use Rattle.flat_world.proofs.transfer.send_all.Goals.{After-send-end}
+
+-- message i as it was sent
+sent : (c : After-send-end)
+    → all_with c.send-end.new.got c.send-end.new.now c.send-end.result
+    ≡ all_of c.loop-i.got (message_with c.index-msgs-i.result (take (written_of c.index-msgs-i.result) c.loop-i.rest.now))
+    (spec.talk (once_listener (granted_on c.args.site.now.board c.args.site.now.bus c.args.site.now.force)) BLOCK_LIMIT c.loop-i.now
+    (message_with c.index-msgs-i.result (take (written_of c.index-msgs-i.result) c.loop-i.rest.now))
+    (eqb (c.loop-i.i + 1) (length c.msgs-msgs.result.now)) (cut_in c.args.cut c.loop-i.i))
+sent c =
+    let m = c.index-msgs-i.result in
+    let rest = c.loop-i.rest.now in
+    let same = cut_out m c.from.result rest c.split_at.result.0.now _ (c.from.ensures ∙ c.written.ensures) c.split_at.ensures.front refl in
+    as_sent (granted_on c.args.site.now.board c.args.site.now.bus c.args.site.now.force) c.granted.result c.cut_in.result
+    (cut_in c.args.cut c.loop-i.i) _ _ (message_with m (take (written_of m) rest)) c.loop-i.got c.loop-i.now _
+    c.granted.ensures.value c.cut_in.ensures same c.send-end.ensures
 
 pub returns-then-not-is_good : goal.returns-then-not-is_good
 returns-then-not-is_good c =
     let site = c.args.site.now in
-    let granted = granted_on site.board site.bus site.force in
-    let msgs = c.msgs-msgs.result.now in
-    let rest = c.loop-i.rest.now in
-    let i = c.loop-i.i in
-    let m = c.index-msgs-i.result in
-    let view = message_with m (take (written_of m) rest) in
-    let within : i < length msgs = c.loop-i-test.true in
-    let same = cut_out m c.from.result rest c.split_at.result.0.now _ (c.from.ensures ∙ c.written.ensures) c.split_at.ensures.front refl in
-    let was = as_sent granted c.granted.result c.cut_in.result
-    (cut_in c.args.cut i) _ _ view c.loop-i.got c.loop-i.now _ c.granted.ensures.value c.cut_in.ensures same c.send-end.ensures in
-    ended_early (once_listener granted) BLOCK_LIMIT c.loop-i.now msgs rest i
-    (cut_in c.args.cut) c.loop-i.got m _ _ _ _ within c.index-msgs-i.is refl was (sym c.is_good.ensures ∙ c.if-not-is_good.true)
+    ended_early (once_listener (granted_on site.board site.bus site.force)) BLOCK_LIMIT c.loop-i.now c.msgs-msgs.result.now
+    c.loop-i.rest.now c.loop-i.i (cut_in c.args.cut) c.loop-i.got c.index-msgs-i.result _ _ _ _ c.loop-i-test.true c.index-msgs-i.is refl
+    (sent (goal.at.returns-then-not-is_good c).After-send-end) (sym c.is_good.ensures ∙ c.if-not-is_good.true)
     ∙ c.loop-i.invariant.told
 
 pub loop-i-preserved : goal.loop-i-preserved
@@ -36,11 +44,8 @@ loop-i-preserved c =
     let rest = c.loop-i.rest.now in
     let i = c.loop-i.i in
     let m = c.index-msgs-i.result in
-    let view = message_with m (take (written_of m) rest) in
     let within : i < length msgs = c.loop-i-test.true in
-    let same = cut_out m c.from.result rest c.split_at.result.0.now _ (c.from.ensures ∙ c.written.ensures) c.split_at.ensures.front refl in
-    let was = as_sent granted c.granted.result c.cut_in.result
-    (cut_in c.args.cut i) _ _ view c.loop-i.got c.loop-i.now _ c.granted.ensures.value c.cut_in.ensures same c.send-end.ensures in
+    let was = sent (goal.at.loop-i-preserved c).After-send-end in
     let back : c.split_at.result.1.now ≡ drop (written_of m) rest = c.split_at.ensures.back
     ∙ ap (λ n. drop n rest) (c.from.ensures ∙ c.written.ensures) in
     let is : IsMessage m = rw c.index-msgs-i.is

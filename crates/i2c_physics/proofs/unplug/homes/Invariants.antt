@@ -1,11 +1,10 @@
-use Rattle.std.proofs.Common.{◌≡◌, ◌≤◌, length, map, take, vec_capacity, vec_len}
-use Rattle.i2c_spec.specs.Layouts.{board_of}
+use Rattle.std.proofs.Common.{vec_capacity, vec_len}
+use Rattle.i2c_board.specs.Layouts.{board_of}
 use Rattle.i2c_spec.specs.Tree.{root_of}
+use Rattle.i2c_base.proofs.ListLemmas.{AreMade}
 use Rattle.i2c_physics.proofs.unplug.homes.Given as goal
 
 abbrev pub invariant-loop-device : goal.invariant-loop-device
-invariant-loop-device l = record {
-  found : l.homes.items ≡ map (λ d. root_of (board_of l.fn.layout) d.bus) (take l.device-index (board_of l.fn.layout).devices);
-  count : vec_len l.homes ≡ l.device-index;
-  room : length (board_of l.fn.layout).devices ≤ vec_capacity l.homes;
-}
+invariant-loop-device l =
+    AreMade (λ d. root_of (board_of l.fn.layout) d.bus) (board_of l.fn.layout).devices l.device-index l.homes.items
+    (vec_len l.homes) (vec_capacity l.homes)

@@ -2,7 +2,7 @@ use Rattle.std.proofs.Common.{◌≡◌, length, map, ap, sym, subst, ◌∙◌,
 use Rattle.std.proofs.lemmas.List.{length-map}
 use Rattle.i2c_base.specs.Board.{BoardView}
 use Rattle.i2c_spec.specs.Chips.{chip_table, chip_opening}
-use Rattle.i2c_spec.specs.Layouts.{board_of}
+use Rattle.i2c_board.specs.Layouts.{board_of}
 use Rattle.i2c_spec.specs.Plain.{IsPlainBoard}
 use Rattle.i2c_spec.specs.Targets.{state_table}
 use Rattle.i2c_spec.specs.World.{opening_world}

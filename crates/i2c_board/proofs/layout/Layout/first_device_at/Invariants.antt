@@ -1,0 +1,10 @@
+use Rattle.std.proofs.Common.{◌+◌, ◌<◌, length, Some}
+use Rattle.i2c_board.specs.Layouts.{board_of}
+use Rattle.i2c_board.specs.Searches.{is_at, NoneAfter}
+use Rattle.i2c_board.proofs.layout.Layout.first_device_at.Given as goal
+
+abbrev pub invariant-loop-device : goal.invariant-loop-device
+invariant-loop-device l = record {
+  behind : l.one < length l.self.muxes.now + l.device;
+  none : NoneAfter (is_at (board_of l.self) (Some l.addr) l.home) l.one (length l.self.muxes.now + l.device);
+}

@@ -1,0 +1,6 @@
+use Rattle.std.proofs.Common.{arith}
+use Rattle.i2c_spec.proofs.PlainLemmas.{buses_le}
+use Rattle.i2c_board.proofs.refusals.bus_refusal.Goals as goal
+
+pub buses-requires : goal.buses-requires
+buses-requires c = let small = buses_le _ c.requires in omega arith

@@ -1,8 +1,0 @@
-use Rattle.std.proofs.Common.{◌≡◌, take}
-use Rattle.i2c_spec.specs.Layouts.{board_of}
-use Rattle.i2c_spec.specs.Grant.{device_grant}
-use Rattle.i2c_spec.proofs.layout.Layout.device_grant.Given as goal
-
--- what the devices that were looked at say
-abbrev pub invariant-loop-place : goal.invariant-loop-place
-invariant-loop-place l = l.found ≡ device_grant (board_of l.self) (take l.place l.device-items) l.seg l.addr l.force

@@ -1,7 +1,0 @@
-use Rattle.std.proofs.Common.{◌≡◌, ℕ, ◌<◌, false}
-use Rattle.i2c_spec.specs.Layouts.{board_of}
-use Rattle.i2c_spec.specs.Searches.{breaks}
-use Rattle.i2c_spec.proofs.layout.Layout.first_mux.Given as goal
-
-abbrev pub invariant-loop-place : goal.invariant-loop-place
-invariant-loop-place l = (k : ℕ) → k < l.place → breaks l.rule (board_of l.self) k ≡ false

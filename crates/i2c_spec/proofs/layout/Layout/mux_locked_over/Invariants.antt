@@ -1,7 +1,0 @@
-use Rattle.std.proofs.Common.{◌≡◌, not, take}
-use Rattle.std.specs.List.{filter}
-use Rattle.i2c_spec.specs.Rules.{last_mux}
-use Rattle.i2c_spec.proofs.layout.Layout.mux_locked_over.Given as goal
-
-abbrev pub invariant-loop-hop : goal.invariant-loop-hop
-invariant-loop-hop l = l.nearest_root ≡ last_mux (filter (λ h. not h.parent) (take l.hop-index l.hop-items))

@@ -1,6 +1,0 @@
--- The board whose parts a layout borrows.
-use Rattle.i2c_base.specs.Board.{BoardView}
-use Rattle.i2c_spec.specs.declared.layout.Layout.{Layout}
-
-abbrev pub board_of : Layout → BoardView
-board_of l = record { version = 1; roots = l.roots.now; muxes = l.muxes.now; devices = l.devices.now }
