@@ -1,5 +1,5 @@
 -- A list of rules over the entries of a table.
-use Rattle.std.proofs.Common.{◌≡◌, ℕ, ◌&&◌, ◌||◌, List, [], ◌∷◌, map, string_bytes, refl, ap, ◌∙◌}
+use Rattle.std.proofs.Common.{◌≡◌, ℕ, ◌&&◌, ◌||◌, List, [], ◌∷◌, map, string_bytes, refl, ap}
 use Rattle.std.specs.List.{list_all, list_any}
 use Rattle.std.specs.Map.{keys_of}
 use Rattle.std.specs.Prelude.{bytes_eq}
@@ -18,13 +18,3 @@ are_listed-entries rules (e ∷ es) = ap (λ b. is_listed rules (string_bytes e.
 pub is_listed-rules : (key : List ℕ) (rs : List Rule) → list_any (λ r. bytes_eq key (key_rule r).name) rs ≡ is_listed (map key_rule rs) key
 is_listed-rules key [] = refl
 is_listed-rules key (r ∷ rs) = ap (λ b. bytes_eq key (key_rule r).name || b) (is_listed-rules key rs)
-
--- rules that are the same one by one
-pub more : {r s : KeyRule} {rs ss : List KeyRule} → r ≡ s → rs ≡ ss → r ∷ rs ≡ s ∷ ss
-more {s = s} {rs = rs} first rest = ap (λ x. x ∷ rs) first ∙ ap (λ xs. s ∷ xs) rest
-
-pub more_same : (r : KeyRule) {rs ss : List KeyRule} → rs ≡ ss → r ∷ rs ≡ r ∷ ss
-more_same r rest = ap (λ xs. r ∷ xs) rest
-
-pub no_more : ◌≡◌ {A = List KeyRule} [] []
-no_more = refl

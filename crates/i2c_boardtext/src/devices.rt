@@ -8,10 +8,10 @@ ghost use Rattle.i2c_boardtext.specs.Keys.{device_rules, every_device, set_rules
 ghost use Rattle.i2c_boardtext.specs.Rules.{key_rule, table_fault};
 
 use crate::fault::TableFault;
-use crate::keys::{BOUND, KIND, bus, runs};
+use crate::keys::{Rules, bus, runs};
 use crate::numbers::{ADDRESS, NumberKey, number_at};
 use crate::read::flag;
-use crate::rule::{Rule, Test, table_fault};
+use crate::rule::{Rule, Test, may_have, needs, table_fault};
 use arrayvec::ArrayVec;
 use i2c_base::{DeviceKind, Size};
 use i2c_spec::eeprom_bytes;
@@ -104,10 +104,7 @@ fn device_named(word: &str) -> Option<DeviceName>
 pub fn device_in(value: &Value) -> Option<DeviceName>
     ensures { result ≡ named_in device_named (view value.now) }
 {
-    match value.as_str() {
-        Some(word) => device_named(word),
-        None => None,
-    }
+    device_named(value.as_str()?)
 }
 
 impl DeviceName {
@@ -130,19 +127,13 @@ impl OwnKey {
     {
         match self {
             OwnKey::Number(key) => key.may_say(),
-            OwnKey::Flag(name) => Rule {
-                name,
-                needed: false,
-                test: Test::Flag,
-            },
+            OwnKey::Flag(name) => may_have(name, Test::Flag),
         }
     }
 }
 
-// The keys of every device are four, a memory's is one, and a kind has three of its own at most.
-type Rules = ArrayVec<Rule, 8>;
-
-// The keys of every device, and its memory's.
+// The keys of every device, which are four, the last whether a driver is bound to it, and its memory's. A kind has three
+// of its own at most.
 fn shared_rules(buses: u16, memory: Option<u32>) -> Rules
     requires some { 0 < buses }
     ensures rules { map key_rule result.items ≡ every_device buses ++ set_rules memory }
@@ -150,9 +141,9 @@ fn shared_rules(buses: u16, memory: Option<u32>) -> Rules
 {
     let mut rules: Rules = ArrayVec::new();
     rules.push(bus(buses));
-    rules.push(KIND);
+    rules.push(needs("kind", Test::Kind));
     rules.push(ADDRESS.has_to_say());
-    rules.push(BOUND);
+    rules.push(may_have("bound", Test::Flag));
     if let Some(size) = memory {
         rules.push(runs(size));
     }

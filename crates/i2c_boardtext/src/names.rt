@@ -54,38 +54,26 @@ fn mux_named(word: &str) -> Option<MuxKind>
 pub fn offers_in(value: &Value) -> Option<bool>
     ensures { result ≡ named_in offers_named (view value.now) }
 {
-    match value.as_str() {
-        Some(word) => offers_named(word),
-        None => None,
-    }
+    offers_named(value.as_str()?)
 }
 
 /// Which locks a transfer takes, where the value is a text that says so.
 pub fn lock_in(value: &Value) -> Option<LockMode>
     ensures { result ≡ named_in lock_named (view value.now) }
 {
-    match value.as_str() {
-        Some(word) => lock_named(word),
-        None => None,
-    }
+    lock_named(value.as_str()?)
 }
 
 /// What a mux does after a transfer, where the value is a text that says so.
 pub fn idle_in(value: &Value) -> Option<Idle>
     ensures { result ≡ named_in idle_named (view value.now) }
 {
-    match value.as_str() {
-        Some(word) => idle_named(word),
-        None => None,
-    }
+    idle_named(value.as_str()?)
 }
 
 /// The kind of a mux, where the value is a text that names one.
 pub fn mux_in(value: &Value) -> Option<MuxKind>
     ensures { result ≡ named_in mux_named (view value.now) }
 {
-    match value.as_str() {
-        Some(word) => mux_named(word),
-        None => None,
-    }
+    mux_named(value.as_str()?)
 }

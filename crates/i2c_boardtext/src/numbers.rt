@@ -7,7 +7,7 @@ ghost use Rattle.i2c_boardtext.specs.Rules.{key_rule};
 
 use crate::find::{find, number};
 use crate::fits::is_in;
-use crate::rule::{Rule, Test};
+use crate::rule::{Rule, Test, may_have, needs};
 use i2c_base::{Addr, MOST_CHANNELS, POLLS};
 use toml::Table;
 
@@ -49,22 +49,14 @@ impl NumberKey {
     pub fn may_say(self) -> Rule
         ensures { key_rule result ≡ may_say (number_key self) }
     {
-        Rule {
-            name: self.name,
-            needed: false,
-            test: Test::Range(self.low, self.high),
-        }
+        may_have(self.name, Test::Range(self.low, self.high))
     }
 
     /// The rule of a number that the table has to say.
     pub fn has_to_say(self) -> Rule
         ensures { key_rule result ≡ has_to_say (number_key self) }
     {
-        Rule {
-            name: self.name,
-            needed: true,
-            test: Test::Range(self.low, self.high),
-        }
+        needs(self.name, Test::Range(self.low, self.high))
     }
 }
 

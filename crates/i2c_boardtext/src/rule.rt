@@ -3,7 +3,7 @@ ghost use Rattle.std.specs.Prelude.{◌≡◌, map, bytes_eq, string_bytes};
 ghost use Rattle.std.specs.List.{list_all, list_any};
 ghost use Rattle.std.specs.BTreeMap.{keys};
 ghost use Rattle.toml.specs.View.{table_view};
-ghost use Rattle.i2c_boardtext.specs.Rules.{key_rule, is_listed, are_listed, is_there, is_fit, table_fault};
+ghost use Rattle.i2c_boardtext.specs.Rules.{key_rule, needs, may_have, is_listed, are_listed, is_there, is_fit, table_fault};
 
 use crate::fault::TableFault;
 use crate::find::find;
@@ -37,6 +37,28 @@ pub struct Rule {
     pub name: &'static str,
     pub needed: bool,
     pub test: Test,
+}
+
+/// A key that the table has to say.
+pub fn needs(name: &'static str, test: Test) -> Rule
+    ensures { key_rule result ≡ needs name.now test }
+{
+    Rule {
+        name,
+        needed: true,
+        test,
+    }
+}
+
+/// A key that the table needn't say.
+pub fn may_have(name: &'static str, test: Test) -> Rule
+    ensures { key_rule result ≡ may_have name.now test }
+{
+    Rule {
+        name,
+        needed: false,
+        test,
+    }
 }
 
 /// The blank of an unused place.

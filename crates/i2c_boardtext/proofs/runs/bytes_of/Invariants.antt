@@ -1,11 +1,9 @@
-use Rattle.std.proofs.Common.{◌≡◌, ◌≤◌, length, map, take, vec_capacity, vec_len}
+use Rattle.std.proofs.Common.{vec_capacity, vec_len}
 use Rattle.toml.specs.View.{view}
+use Rattle.i2c_base.proofs.ListLemmas.{AreMade}
 use Rattle.i2c_boardtext.specs.Cuts.{cut_byte}
 use Rattle.i2c_boardtext.proofs.runs.bytes_of.Given as goal
 
 abbrev pub invariant-loop-value : goal.invariant-loop-value
-invariant-loop-value l = record {
-  read : l.bytes.items ≡ map (λ v. cut_byte (view v)) (take l.value-index l.values);
-  count : vec_len l.bytes ≡ l.value-index;
-  room : length l.values ≤ vec_capacity l.bytes;
-}
+invariant-loop-value l =
+    AreMade (λ v. cut_byte (view v)) l.values l.value-index l.bytes.items (vec_len l.bytes) (vec_capacity l.bytes)
