@@ -228,47 +228,20 @@ end-read end.Refused small = refl
 end-read end.Proto small = refl
 end-read (end.Cut calls) small = ap end.Cut (number_of-decimal calls small)
 
-errno-read : (e : Errno) (text : List ℕ) → errno_of (errno_text e ++ text) ≡ e
-unfolding errno_of
-errno-read Eio text = refl
-errno-read Enxio text = refl
-errno-read Ebadf text = refl
-errno-read Ebusy text = refl
-errno-read Enodev text = refl
-errno-read Einval text = refl
-errno-read Eproto text = refl
-errno-read Ebadmsg text = refl
-errno-read Eopnotsupp text = refl
-errno-read Etimedout text = refl
-errno-read Eremoteio text = refl
-
-behind_errno-read : (e : Errno) (text : List ℕ) → behind_reply (errno_text e ++ text) ≡ text
-unfolding behind_reply errno_of
-behind_errno-read Eio text = refl
-behind_errno-read Enxio text = refl
-behind_errno-read Ebadf text = refl
-behind_errno-read Ebusy text = refl
-behind_errno-read Enodev text = refl
-behind_errno-read Einval text = refl
-behind_errno-read Eproto text = refl
-behind_errno-read Ebadmsg text = refl
-behind_errno-read Eopnotsupp text = refl
-behind_errno-read Etimedout text = refl
-behind_errno-read Eremoteio text = refl
-
-reply_of-errno : (e : Errno) (text : List ℕ) → reply_of (errno_text e ++ text) ≡ reply.Err (errno_of (errno_text e ++ text))
-unfolding reply_of
-reply_of-errno Eio text = refl
-reply_of-errno Enxio text = refl
-reply_of-errno Ebadf text = refl
-reply_of-errno Ebusy text = refl
-reply_of-errno Enodev text = refl
-reply_of-errno Einval text = refl
-reply_of-errno Eproto text = refl
-reply_of-errno Ebadmsg text = refl
-reply_of-errno Eopnotsupp text = refl
-reply_of-errno Etimedout text = refl
-reply_of-errno Eremoteio text = refl
+errno-read : (e : Errno) (text : List ℕ)
+    → (reply_of (errno_text e ++ text) ≡ reply.Err e) × (behind_reply (errno_text e ++ text) ≡ text)
+unfolding reply_of behind_reply errno_of
+errno-read Eio text = (refl, refl)
+errno-read Enxio text = (refl, refl)
+errno-read Ebadf text = (refl, refl)
+errno-read Ebusy text = (refl, refl)
+errno-read Enodev text = (refl, refl)
+errno-read Einval text = (refl, refl)
+errno-read Eproto text = (refl, refl)
+errno-read Ebadmsg text = (refl, refl)
+errno-read Eopnotsupp text = (refl, refl)
+errno-read Etimedout text = (refl, refl)
+errno-read Eremoteio text = (refl, refl)
 
 -- no byte follows where a cut, or nothing, does
 cut_ends-bytes : (c : Cut) → bytes_of (cut_text c) ≡ []
@@ -287,13 +260,13 @@ pub reply-read : (r : Reply) (c : Cut) → IsReply r → reply_of (reply_text r 
 unfolding reply_of
 reply-read reply.Done c fits = refl
 reply-read (reply.Read bytes) c fits = ap reply.Read (run-spaced 4096 bytes (cut_text c) fits (cut_ends-bytes c))
-reply-read (reply.Err e) c fits = reply_of-errno e (cut_text c) ∙ ap reply.Err (errno-read e (cut_text c))
+reply-read (reply.Err e) c fits = (errno-read e (cut_text c)).0
 
 pub behind_reply-read : (r : Reply) (c : Cut) → IsReply r → behind_reply (reply_text r ++ cut_text c) ≡ cut_text c
 unfolding behind_reply
 behind_reply-read reply.Done c fits = refl
 behind_reply-read (reply.Read bytes) c fits = behind-spaced bytes (cut_text c) fits.0 (cut_ends-behind c)
-behind_reply-read (reply.Err e) c fits = behind_errno-read e (cut_text c)
+behind_reply-read (reply.Err e) c fits = (errno-read e (cut_text c)).1
 
 way_has_no-number : behind_number (codes "way") ≡ codes "way"
 unfolding behind_number

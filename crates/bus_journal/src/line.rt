@@ -2,13 +2,13 @@
 ghost use Rattle.std.specs.Prelude.{◌≡◌, ◌+◌, ◌*◌, ◌<◌, ◌≤◌, [], ◌++◌, length, OnOk, OnErr, IfOk, codes, vec_len, vec_capacity};
 ghost use Rattle.std.specs.Fmt.{decimal};
 ghost use Rattle.i2c_base.specs.Replies.{reply_by};
-ghost use Rattle.bus_spec.specs.Lines.{two_digits, spaced, joined, lock_text, purpose_text, direction_text, node_text, heard_text, end_text, errno_text, reply_text, cut_text, data_text, part_text, place_text, result_text, level_text, entry_line};
+ghost use Rattle.bus_spec.specs.Lines.{two_digits, spaced, joined, lock_text, purpose_text, direction_text, heard_text, end_text, errno_text, reply_text, cut_text, data_text, part_text, place_text, result_text, level_text, entry_line};
 ghost use Rattle.bus_spec.specs.Report.{ended_line};
 ghost use Rattle.bus_journal.specs.Borrowed.{entry_seen};
 ghost use Rattle.bus_journal.specs.Ranges.{IsEntry};
 
 use crate::borrowed::{EntryRef, Head};
-use crate::pieces::{Room, put, put_hex, put_number, put_small, put_spaced};
+use crate::pieces::{Room, put, put_hex, put_number, put_numbered, put_small, put_spaced};
 use crate::ranges::entry_is_in_range;
 use crate::text::hex_digit;
 use i2c_base::{
@@ -44,14 +44,8 @@ fn put_lock(room: &mut Room, lock: LockId)
     ensures short { length room.new ≤ length room.old + 14 }
 {
     match lock {
-        LockId::Bus(root) => {
-            put(room, *b" buslock ");
-            put_number(room, root.0);
-        }
-        LockId::Mux(bus) => {
-            put(room, *b" muxlock ");
-            put_number(room, bus.0);
-        }
+        LockId::Bus(root) => put_numbered(room, *b" buslock ", root.0),
+        LockId::Mux(bus) => put_numbered(room, *b" muxlock ", bus.0),
     }
 }
 
@@ -65,8 +59,7 @@ fn put_purpose(room: &mut Room, purpose: Purpose)
     match purpose {
         Purpose::Call => put(room, *b"call "),
         Purpose::Control(mux) => {
-            put(room, *b"mux ");
-            put_number(room, mux.0);
+            put_numbered(room, *b"mux ", mux.0);
             put(room, *b" ");
         }
     }
@@ -85,26 +78,7 @@ fn put_address(room: &mut Room, addr: Addr, reading: bool)
     room.extend(&[way, b' ', b'0', b'x', high, low, b' ', b'[']);
 }
 
-// A node that heard a message, with the word for it.
-#[inline(always)]
-fn put_node(room: &mut Room, node: Node)
-    requires { length room.old + 12 ≤ 512 }
-    ensures text { room.new ≡ room.old ++ (codes "heard " ++ node_text node) }
-    ensures short { length room.new ≤ length room.old + 12 }
-{
-    match node {
-        Node::Device(device) => {
-            put(room, *b"heard d");
-            put_number(room, device.0);
-        }
-        Node::Chip(mux) => {
-            put(room, *b"heard m");
-            put_number(room, mux.0);
-        }
-    }
-}
-
-// .. or none.
+// Who heard a message, or none, with the word for it.
 #[inline(always)]
 fn put_heard(room: &mut Room, heard: Option<Node>)
     requires { length room.old + 12 ≤ 512 }
@@ -113,7 +87,10 @@ fn put_heard(room: &mut Room, heard: Option<Node>)
 {
     match heard {
         None => put(room, *b"heard none"),
-        Some(node) => put_node(room, node),
+        Some(node) => match node {
+            Node::Device(device) => put_numbered(room, *b"heard d", device.0),
+            Node::Chip(mux) => put_numbered(room, *b"heard m", mux.0),
+        },
     }
 }
 
@@ -130,10 +107,7 @@ fn put_end(room: &mut Room, end: End)
         End::Slow => put(room, *b" slow"),
         End::Refused => put(room, *b" refused"),
         End::Proto => put(room, *b" proto"),
-        End::Cut(calls) => {
-            put(room, *b" cut ");
-            put_number(room, calls);
-        }
+        End::Cut(calls) => put_numbered(room, *b" cut ", calls),
     }
 }
 
@@ -174,8 +148,7 @@ fn put_place(room: &mut Room, caller: u8, bus: SegId)
     ensures short { length room.new ≤ length room.old + 18 }
 {
     put_front(room, b"msg ", caller);
-    put(room, *b" bus ");
-    put_number(room, bus.0);
+    put_numbered(room, *b" bus ", bus.0);
     put(room, *b" ");
 }
 

@@ -62,6 +62,17 @@ fn put_digits(room: &mut Room, number: u16)
     }
 }
 
+/// Puts a word and a number at the end.
+#[inline(always)]
+pub fn put_numbered<const N: usize>(room: &mut Room, word: [u8; N], number: u16)
+    requires { length room.old + (N + 5) ≤ 512 }
+    ensures text { room.new ≡ room.old ++ (word.entry ++ decimal number) }
+    ensures short { length room.new ≤ length room.old + (N + 5) }
+{
+    put(room, word);
+    put_number(room, number);
+}
+
 /// Puts a byte in two hexadecimal digits at the end.
 #[inline(always)]
 pub fn put_hex(room: &mut Room, byte: u8)
