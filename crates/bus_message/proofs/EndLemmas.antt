@@ -1,5 +1,5 @@
 -- A message in progress comes to its end: by a call that fails, or as what is left of it does.
-use Rattle.std.proofs.Common.{◌≡◌, ◌⊎◌, ℕ, ◌+◌, ◌<◌, ◌≤◌, Bool, false, IsTrue, List, [], ◌∷◌, ◌++◌, length, length-append, Option, Some, refl, sym, ◌∙◌, ap, subst, arith, inl, inr}
+use Rattle.std.proofs.Common.{◌≡◌, ℕ, ◌+◌, ◌≤◌, Bool, false, IsTrue, List, [], ◌∷◌, ◌++◌, length, length-append, Option, Some, sym, ap, subst, arith, inl, inr}
 use Rattle.i2c_base.specs.Phases.{MayStart}
 use Rattle.i2c_base.specs.declared.port.Phase.{Phase}
 use Rattle.i2c_base.specs.declared.port.Phase.TheVariants.{Idle}
@@ -10,7 +10,7 @@ use Rattle.i2c_base.specs.declared.entry.End.TheVariants as end
 use Rattle.i2c_spec.specs.World.{World}
 use Rattle.i2c_spec.specs.Conversation.{Said, TalkTold}
 use Rattle.bus_spec.specs.Past.{cut_of}
-use Rattle.ports.specs.Causes.{Rose, MOST}
+use Rattle.ports.specs.Causes.{Rose}
 use Rattle.ports.specs.declared.port.Port.{Ghosts as PortGhosts}
 use Rattle.bus_message.specs.Talks.{MessageEnded, Reaches, TellsTalk}
 

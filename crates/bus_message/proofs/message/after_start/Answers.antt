@@ -1,7 +1,6 @@
-use Rattle.std.proofs.Common.{◌≡◌, true, false, [], sym, ◌∙◌, arith}
+use Rattle.std.proofs.Common.{◌≡◌, true, false, [], arith}
 use Rattle.std.proofs.lemmas.Grind.{common_steps}
 use Rattle.i2c_base.specs.declared.entry.End.TheVariants as end
-use Rattle.i2c_spec.specs.Conversation.{ended}
 use Rattle.i2c_spec.specs.Messages.{bytes_most}
 use Rattle.bus_message.specs.Talks.{answered, ending, moving}
 use Rattle.bus_message.proofs.EndLemmas.{rest-ends}

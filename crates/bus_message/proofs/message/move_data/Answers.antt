@@ -1,4 +1,4 @@
-use Rattle.std.proofs.Common.{◌≡◌, sym, ◌∙◌, ap, arith, rules, [], length, ◌+◌}
+use Rattle.std.proofs.Common.{sym, ◌∙◌, ap, arith, rules, [], length, ◌+◌}
 use Rattle.std.proofs.lemmas.Grind.{common_steps}
 use Rattle.i2c_spec.specs.Messages.{bytes_most}
 use Rattle.bus_message.specs.Talks.{counting, getting, moving, putting}

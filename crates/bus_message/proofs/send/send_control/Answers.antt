@@ -1,4 +1,4 @@
-use Rattle.std.proofs.Common.{◌≡◌, ◌+◌, ◌≤◌, ℕ, Option, Some, None, length, sym, ◌∙◌, ap, subst}
+use Rattle.std.proofs.Common.{◌+◌, ◌≤◌, ℕ, Option, Some, None, length, sym, ◌∙◌, ap, subst}
 use Rattle.i2c_base.specs.Limits.{MOST_CALLS}
 use Rattle.i2c_spec.specs.Flat.{block_limit}
 use Rattle.i2c_spec.specs.Messages.{bytes_most}

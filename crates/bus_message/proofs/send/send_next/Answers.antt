@@ -1,7 +1,6 @@
 use Rattle.std.proofs.Common.{◌≡◌, ◌+◌, ◌≤◌, ℕ, length, sym, ◌∙◌, ap, subst}
 use Rattle.i2c_base.specs.Limits.{MOST_CALLS}
 use Rattle.i2c_base.specs.declared.entry.Purpose.{Purpose}
-use Rattle.i2c_base.specs.declared.entry.Purpose.TheVariants as purpose
 use Rattle.i2c_spec.specs.Flat.{block_limit}
 use Rattle.i2c_spec.specs.Messages.{MessageView, bytes_most}
 use Rattle.bus_message.specs.Cursors.{CursorView}
