@@ -24,7 +24,7 @@ use Rattle.i2c_spec.specs.Flat.{FlatListener, idle, is_member, put_named, answer
 use Rattle.i2c_spec.specs.Conversation.{world_listener, talk}
 use Rattle.bus_laws.specs.Alike.{IsOf, Same, IsControl, IsUnnamed}
 use Rattle.bus_laws.proofs.world.TalkLaws.{talk-keeps}
-use Rattle.bus_laws.proofs.world.Feed.{hears, feed-same, heard-none}
+use Rattle.bus_laws.proofs.world.Feed.{hears, feed-same, heard-none, none-named}
 use Rattle.bus_laws.proofs.world.Reach.{control_alone, start_heard, other_state}
 use Rattle.bus_laws.proofs.world.Hears.{device_address}
 use Rattle.bus_laws.proofs.world.BoardFacts.{get_within}
@@ -34,16 +34,6 @@ use Rattle.bus_laws.proofs.device.Same.{joined_of, stop-same}
 use Rattle.bus_laws.proofs.device.Stops.{world-settled}
 use Rattle.i2c_spec.proofs.MessageLemmas.{IsLater}
 use Rattle.i2c_spec.specs.Conversation.{is_it}
-
--- no device is among the chips that hear
-no_device_named : (d : ℕ) (xs : List (ℕ × Answer)) → list_any (is_device d) (heard_of node.Chip xs) ≡ false
-no_device_named d [] = refl
-no_device_named d (x ∷ xs) = by_heard (has_heard x.1) ∙ no_device_named d xs
-  where
-    by_heard : (t : Bool) → list_any (is_device d) (cond t (node.Chip x.0 ∷ heard_of node.Chip xs) (heard_of node.Chip xs)) ≡ list_any
-        (is_device d) (heard_of node.Chip xs)
-    by_heard true = refl
-    by_heard false = refl
 
 any_append : (test : Node → Bool) (xs ys : List Node) → list_any test xs ≡ false → list_any test ys ≡ false
     → list_any test (xs ++ ys) ≡ false
@@ -135,7 +125,7 @@ module _ (b : BoardView) (r : ℕ) (xs : List TargetState) (quiet : (d : ℕ) (x
     none_hear : (d : ℕ) → list_any (is_device d) (hearers w a reading) ≡ false
     none_hear d =
         any_append (is_device d) (heard_of node.Chip (start_chips w a reading)) (heard_of node.Device (start_devices w a reading))
-        (no_device_named d (start_chips w a reading))
+        (none-named (is_device d) node.Chip (λ n. refl) (start_chips w a reading))
         (ap (λ (ns : List Node). list_any (is_device d) ns)
         (heard-none state_table node.Device (device_start w a reading) 0 w.devices
         (λ i x at. silent (0 + i) x (hears state_table (device_start w a reading (0 + i)) x) refl)))
@@ -276,7 +266,8 @@ module _ (b : BoardView) (r d : ℕ) (other : IsOf b r d → ⊥) (o : Option Ta
         root,
         fed_nothing (device_start w m.addr m.reading) w.devices none ∙ at,
         any_append (is_device d) (heard_of node.Chip (start_chips w m.addr m.reading))
-            (heard_of node.Device (start_devices w m.addr m.reading)) (no_device_named d (start_chips w m.addr m.reading))
+            (heard_of node.Device (start_devices w m.addr m.reading))
+            (none-named (is_device d) node.Chip (λ n. refl) (start_chips w m.addr m.reading))
             (absent_unheard state_table (device_start w m.addr m.reading) d 0 w.devices none),
       )).2
 

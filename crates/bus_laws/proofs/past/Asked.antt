@@ -18,7 +18,8 @@ use Rattle.bus_spec.specs.Slots.{Slots, answer_to, after_job}
 use Rattle.bus_spec.specs.Grammar.{walk_for, seen, is_over, first_act, first_note, rest_of}
 use Rattle.bus_spec.specs.Readings.{MessageEntry, OfMessage, replies}
 use Rattle.bus_spec.specs.Past.{Now, begun, current, opening, step, now, world_at, sent_by, lined_by}
-use Rattle.bus_spec.specs.Stepwise.{May, IsStepwise}
+use Rattle.bus_spec.specs.Stepwise.{May, IsNext, IsStepwise}
+use Rattle.bus_spec.specs.Tells.{TellsMessage}
 use Rattle.bus_spec.specs.Legal.{by_purpose, is_forced, ReachAt, Reaches}
 use Rattle.bus_laws.specs.Runs.{IsGranted, CanSend, MaySend, Runs}
 use Rattle.bus_laws.specs.Lines.{LinesAreLocked}
@@ -29,7 +30,7 @@ use Rattle.bus_laws.specs.Calls.{CallsOf, IsAsked}
 use Rattle.bus_laws.proofs.past.StandsFacts.{current-stands}
 use Rattle.bus_laws.proofs.past.StandsStep.{at_same, at_other, send_known}
 use Rattle.bus_laws.proofs.past.StandsEntries.{first_is}
-use Rattle.bus_laws.proofs.past.Laws.{nobody, past-stands, open-kept}
+use Rattle.bus_laws.proofs.past.Laws.{sent-leaves, lined-leaves, nobody, past-stands, open-kept}
 use Rattle.bus_laws.proofs.walk.SettleLaw.{walk-settles}
 use Rattle.bus_laws.proofs.walk.Calls.{walk-calls, calls_seen}
 use Rattle.bus_laws.proofs.device.Reach.{send-reaches}
@@ -186,21 +187,11 @@ past-asked b asks some callers (e ∷ past) steps =
 -- the replies that are settled
 pub sent_settled : (b : BoardView) (n : Now) (c : ℕ) (o : Option Act) (note : Note) (reading : Bool) (bytes : List ℕ) (e : End) (d : ℕ)
     → (sent_by b n c o note reading bytes e).settled d ≡ n.settled d
-sent_settled b n c None note reading bytes e d = refl
-sent_settled b n c (Some (Take k)) note reading bytes e d = refl
-sent_settled b n c (Some (Free k)) note reading bytes e d = refl
-sent_settled b n c (Some (Send job left)) note reading bytes e d = refl
-sent_settled b n c (Some (Shift job)) note reading bytes e d = refl
-sent_settled b n c (Some (Settle verdict)) note reading bytes e d = refl
+sent_settled b n c o note reading bytes e d = sent-leaves (λ m. m.settled d) b n c o note reading bytes e (λ job left. refl)
 
 pub lined_settled : (b : BoardView) (n : Now) (o : Option Act) (note : Note) (failed : Bool) (d : ℕ)
     → (lined_by b n o note failed).settled d ≡ n.settled d
-lined_settled b n None note failed d = refl
-lined_settled b n (Some (Take k)) note failed d = refl
-lined_settled b n (Some (Free k)) note failed d = refl
-lined_settled b n (Some (Send job left)) note failed d = refl
-lined_settled b n (Some (Shift job)) note failed d = refl
-lined_settled b n (Some (Settle verdict)) note failed d = refl
+lined_settled b n o note failed d = lined-leaves (λ m. m.settled d) b n o note failed (λ job. refl)
 
 pub settled-told : (b : BoardView) (asks : Asks) (past : List Entry) (c : ℕ) → (now b asks past).settled c ≡ replies past c
 settled-told b asks [] c = refl
@@ -253,47 +244,21 @@ module _ (b : BoardView) (tree : IsTree b) (plain : IsPlainBoard b) (lines : Lin
         by_message = may.by_message;
       }
 
-  reach_at : (e : Entry) (past : List Entry) → IsStepwise b callers asks past → May b callers asks (now b asks past) e
-      → OfMessage (HasItsPath b asks past) e → ReachAt b asks e past
-  reach_at (entry.Take c l) past steps may open_path = tt
-  reach_at (entry.Free c l) past steps may open_path = tt
-  reach_at (entry.Line c mux level failed) past steps may open_path = tt
-  reach_at (entry.Settle c r cut) past steps may open_path = tt
-  reach_at (entry.Message c bus purpose part parts addr reading bytes heard e) past steps may open_path = (
-    open_path.path_open,
-    open_path.heard_told,
-    subst (λ (s : ℕ). by_purpose b (world_at b asks past (root_of b s)) (is_forced (asks c (replies past c))) m purpose)
-        (sym may.2.3.on_bus)
-        (by_force (world_at b asks past (root_of b (job_bus job))) asked.whose.force job
-        (asks c (replies past c)) m forced may.2.3.for_purpose
-        (send-reaches b tree plain n.slot n.worlds stands.told asked.whose job left at.0.marks (n.held c)
-        (granted_as asked.whose job left at.0.marks (n.held c) n.slot cs.whose
-        (send_known b (n.held c) cs.view n.slot cs.agree cs.whose job left at.0.marks runs.0) calls.0)
-        m may.2.3.on_bus may.2.3.to_addr may.2.3.for_purpose may.2.3.heard_told)),
-  )
+  message_reaches : (past : List Entry) → IsStepwise b callers asks past → (c : ℕ) (job : Job) (left : ℕ)
+      → IsNext b asks (now b asks past) c (Send job left) → (m : MessageEntry) → TellsMessage b (now b asks past) job left m
+      → by_purpose b (world_at b asks past (root_of b m.bus)) (is_forced (asks c (replies past c))) m m.purpose
+  message_reaches past steps c job left next m tells =
+      subst (λ (s : ℕ). by_purpose b (world_at b asks past (root_of b s)) (is_forced (asks c (replies past c))) m m.purpose)
+      (sym tells.on_bus)
+      (by_force (world_at b asks past (root_of b (job_bus job))) asked.whose.force job
+      (asks c (replies past c)) m forced tells.for_purpose
+      (send-reaches b tree plain n.slot n.worlds stands.told asked.whose job left at.0.marks (n.held c)
+      (granted_as asked.whose job left at.0.marks (n.held c) n.slot cs.whose
+      (send_known b (n.held c) cs.view n.slot cs.agree cs.whose job left at.0.marks runs.0) calls.0)
+      m tells.on_bus tells.to_addr tells.for_purpose tells.heard_told))
     where
       n : Now
       n = now b asks past
-
-      m : MessageEntry
-      m = record {
-        caller = c;
-        bus = bus;
-        purpose = purpose;
-        part = part;
-        parts = parts;
-        addr = addr;
-        reading = reading;
-        bytes = bytes;
-        heard = heard;
-        end = e;
-      }
-
-      job : Job
-      job = may.2.0
-
-      left : ℕ
-      left = may.2.1
 
       stands : Stands b n
       stands = past-stands b tree plain lines asks some callers past steps
@@ -302,7 +267,7 @@ module _ (b : BoardView) (tree : IsTree b) (plain : IsPlainBoard b) (lines : Lin
       cs = current-stands b tree lines asks some n c stands
 
       at : (note : Note) × (next : ActOutcome → WalkTree) × (current b asks n c ≡ Then (Send job left) note next)
-      at = first_is (current b asks n c) (Send job left) may.2.2
+      at = first_is (current b asks n c) (Send job left) next
 
       runs : MaySend b cs.whose job left at.0.marks (n.held c) cs.view
           × ((out : ActOutcome) → CanSend b job left out
@@ -322,6 +287,15 @@ module _ (b : BoardView) (tree : IsTree b) (plain : IsPlainBoard b) (lines : Lin
       forced s ms is_call =
           ap (λ (rs : List Reply). is_forced (asks c rs)) (sym (settled-told b asks past c))
           ∙ ap (λ (o : Option TransferView). is_forced o) (asked.asked (subst (λ (j : Job). IsBefore asked.done j) is_call before))
+
+  reach_at : (e : Entry) (past : List Entry) → IsStepwise b callers asks past → May b callers asks (now b asks past) e
+      → OfMessage (HasItsPath b asks past) e → ReachAt b asks e past
+  reach_at (entry.Take c l) past steps may open_path = tt
+  reach_at (entry.Free c l) past steps may open_path = tt
+  reach_at (entry.Line c mux level failed) past steps may open_path = tt
+  reach_at (entry.Settle c r cut) past steps may open_path = tt
+  reach_at (entry.Message c bus purpose part parts addr reading bytes heard e) past steps may open_path =
+      (open_path.path_open, open_path.heard_told, message_reaches past steps c may.2.0 may.2.1 may.2.2 _ may.2.3)
 
   reached_from : (past : List Entry) → IsStepwise b callers asks past → KeepsPathsOpen b asks past → Reaches b asks past
   reached_from [] steps opens = tt

@@ -37,22 +37,7 @@ does-next b callers asks n (entry.Free c l) may = (Free l, may.2, refl)
 does-next b callers asks n (entry.Message c bus why part parts addr reading bytes heard e) may = (
   Send may.2.0 may.2.1,
   may.2.2,
-  (
-    record {
-      caller = c;
-      bus = bus;
-      purpose = why;
-      part = part;
-      parts = parts;
-      addr = addr;
-      reading = reading;
-      bytes = bytes;
-      heard = heard;
-      end = e;
-    },
-    refl,
-    may.2.3,
-  ),
+  (_, refl, may.2.3),
 )
 does-next b callers asks n (entry.Line c mux level failed) may = (
   Shift may.2.0,

@@ -17,8 +17,8 @@ use Rattle.i2c_spec.specs.History.{Asks}
 use Rattle.bus_spec.specs.Walk.{Job, Act, Take, Free, Send, Shift, Settle, ActOutcome, Passed, Note, WalkTree, job_bus}
 use Rattle.bus_spec.specs.Slots.{after_job}
 use Rattle.bus_spec.specs.Grammar.{first_act, first_note}
-use Rattle.bus_spec.specs.Readings.{OfMessage, rank, holder, is_lock}
-use Rattle.bus_spec.specs.Past.{Now, current, now, world_at, sent_by, lined_by}
+use Rattle.bus_spec.specs.Readings.{MessageEntry, OfMessage, rank, holder, is_lock}
+use Rattle.bus_spec.specs.Past.{Now, current, now, world_at, sent, sent_by, lined, lined_by, talk_of}
 use Rattle.bus_spec.specs.Stepwise.{IsBelow, IsNext, May, IsStepwise}
 use Rattle.bus_spec.specs.Tells.{TellsMessage, HearsIn}
 use Rattle.bus_spec.specs.Legal.{LocksAt, KeepsLocks}
@@ -33,24 +33,34 @@ use Rattle.bus_laws.proofs.past.StandsEntries.{first_is, step-stands}
 use Rattle.bus_laws.proofs.past.StandsOpening.{opening-stands}
 use Rattle.bus_laws.proofs.world.Reach.{crossing_hop}
 
--- what a sent or a lined step leaves of the locks
+-- what no message changes, a sent step leaves as it is, and a lined step what no line step changes
+pub sent-leaves : {X : Type 0} (f : Now → X) (b : BoardView) (n : Now) (c : ℕ) (o : Option Act) (note : Note) (reading : Bool)
+    (bytes : List ℕ) (e : End) → ((job : Job) (left : ℕ) → f (sent b n c job left note reading bytes e (talk_of b n job left e)) ≡ f n)
+    → f (sent_by b n c o note reading bytes e) ≡ f n
+sent-leaves f b n c None note reading bytes e same = refl
+sent-leaves f b n c (Some (Take k)) note reading bytes e same = refl
+sent-leaves f b n c (Some (Free k)) note reading bytes e same = refl
+sent-leaves f b n c (Some (Send job left)) note reading bytes e same = same job left
+sent-leaves f b n c (Some (Shift job)) note reading bytes e same = refl
+sent-leaves f b n c (Some (Settle verdict)) note reading bytes e same = refl
+
+pub lined-leaves : {X : Type 0} (f : Now → X) (b : BoardView) (n : Now) (o : Option Act) (note : Note) (failed : Bool)
+    → ((job : Job) → f (lined b n job note failed) ≡ f n) → f (lined_by b n o note failed) ≡ f n
+lined-leaves f b n None note failed same = refl
+lined-leaves f b n (Some (Take k)) note failed same = refl
+lined-leaves f b n (Some (Free k)) note failed same = refl
+lined-leaves f b n (Some (Send job left)) note failed same = refl
+lined-leaves f b n (Some (Shift job)) note failed same = same job
+lined-leaves f b n (Some (Settle verdict)) note failed same = refl
+
+-- .. so the locks
 pub sent_holder : (b : BoardView) (n : Now) (c : ℕ) (o : Option Act) (note : Note) (reading : Bool) (bytes : List ℕ) (e : End) (l : LockId)
     → (sent_by b n c o note reading bytes e).holder l ≡ n.holder l
-sent_holder b n c None note reading bytes e l = refl
-sent_holder b n c (Some (Take k)) note reading bytes e l = refl
-sent_holder b n c (Some (Free k)) note reading bytes e l = refl
-sent_holder b n c (Some (Send job left)) note reading bytes e l = refl
-sent_holder b n c (Some (Shift job)) note reading bytes e l = refl
-sent_holder b n c (Some (Settle verdict)) note reading bytes e l = refl
+sent_holder b n c o note reading bytes e l = sent-leaves (λ m. m.holder l) b n c o note reading bytes e (λ job left. refl)
 
 pub lined_holder : (b : BoardView) (n : Now) (o : Option Act) (note : Note) (failed : Bool) (l : LockId)
     → (lined_by b n o note failed).holder l ≡ n.holder l
-lined_holder b n None note failed l = refl
-lined_holder b n (Some (Take k)) note failed l = refl
-lined_holder b n (Some (Free k)) note failed l = refl
-lined_holder b n (Some (Send job left)) note failed l = refl
-lined_holder b n (Some (Shift job)) note failed l = refl
-lined_holder b n (Some (Settle verdict)) note failed l = refl
+lined_holder b n o note failed l = lined-leaves (λ m. m.holder l) b n o note failed (λ job. refl)
 
 -- who has a lock, as the takes and frees tell
 pub holder-told : (b : BoardView) (asks : Asks) (past : List Entry) (l : LockId) → (now b asks past).holder l ≡ holder past l
@@ -135,60 +145,48 @@ module _ (b : BoardView) (tree : IsTree b) (plain : IsPlainBoard b) (lines : Lin
   locks-kept (e ∷ past) steps = (locks_at e past (past-stands past steps.1) steps.0, locks-kept past steps.1)
 
   -- OPEN PATHS
+  message_open : (past : List Entry) → IsStepwise b callers asks past → (job : Job) (left : ℕ) (m : MessageEntry)
+      → TellsMessage b (now b asks past) job left m → IsNext b asks (now b asks past) m.caller (Send job left) → HasItsPath b asks past m
+  message_open past steps job left m tells next =
+      record {
+        path_open = subst (λ (s : ℕ). list_all (opens_hop (world_at b asks past (root_of b s)).chips) (hops b s) ≡ true) (sym tells.on_bus)
+            (path_open b tree plain (now b asks past).slot (now b asks past).worlds stands.told (job_bus job) (λ g a. (may.reached g a).0));
+        heard_told = subst (λ (s : ℕ). HearsIn (world_at b asks past (root_of b s)) m.addr m.reading m.heard m.end)
+            (sym tells.on_bus) tells.heard_told;
+        rooted = subst (λ (s : ℕ). holder past (lock.Bus (root_of b s)) ≡ Some m.caller) (sym tells.on_bus)
+            (has (lock.Bus (root_of b (job_bus job))) may.rooted);
+        locked = subst (λ (s : ℕ). (q : ℕ) → IsOver b q s → (q ≡ s → ⊥) → holder past (lock.Mux q) ≡ Some m.caller) (sym tells.on_bus)
+            (λ q on_path other. on_its_path q (job_bus job) on_path other (λ g a. has (lock.Mux g.on) (may.reached g a).1));
+      }
+    where
+      stands : Stands b (now b asks past)
+      stands = past-stands past steps
+
+      may : MaySend b (cur past steps m.caller).whose job left (first_note (current b asks (now b asks past) m.caller)).marks
+          ((now b asks past).held m.caller) (now b asks past).slot
+      may = sends past steps m.caller job left next
+
+      on_its_path : (q s : ℕ) → IsOver b q s → (q ≡ s → ⊥)
+          → ((g : Hop) → IsAmongHops g (hops b s) → holder past (lock.Mux g.on) ≡ Some m.caller)
+          → holder past (lock.Mux q) ≡ Some m.caller
+      on_its_path q s on_path other locked =
+          elim on_path [
+            | inl same ↦ absurd (other same)
+            | inr crossed ↦ (let g = crossing_hop q (hops b s) crossed in
+                subst (λ (p : ℕ). holder past (lock.Mux p) ≡ Some m.caller) g.2 (locked g.0 g.1))
+          ]
+
+      -- what the caller counts among its locks it has
+      has : (l : LockId) → InLocks l ((now b asks past).held m.caller) → holder past l ≡ Some m.caller
+      has l counted = sym (holder-told b asks past l) ∙ stands.holds m.caller l counted
+
   open_at : (e : Entry) (past : List Entry) → IsStepwise b callers asks (e ∷ past) → OfMessage (HasItsPath b asks past) e
   open_at (entry.Take c l) past steps = tt
   open_at (entry.Free c l) past steps = tt
   open_at (entry.Line c mux level failed) past steps = tt
   open_at (entry.Settle c r cut) past steps = tt
   open_at (entry.Message c bus purpose part parts addr reading bytes heard e) past steps =
-      record {
-        path_open = subst (λ (s : ℕ). list_all (opens_hop (world_at b asks past (root_of b s)).chips) (hops b s) ≡ true) (sym tells.on_bus)
-            (path_open b tree plain (now b asks past).slot (now b asks past).worlds stands.told (job_bus job) (λ g a. (may.reached g a).0));
-        heard_told = subst (λ (s : ℕ). HearsIn (world_at b asks past (root_of b s)) addr reading heard e)
-            (sym tells.on_bus) tells.heard_told;
-        rooted = subst (λ (s : ℕ). holder past (lock.Bus (root_of b s)) ≡ Some c) (sym tells.on_bus)
-            (has (lock.Bus (root_of b (job_bus job))) may.rooted);
-        locked = subst (λ (s : ℕ). (q : ℕ) → IsOver b q s → (q ≡ s → ⊥) → holder past (lock.Mux q) ≡ Some c) (sym tells.on_bus)
-            (λ q on_path other. on_its_path q (job_bus job) on_path other (λ g a. has (lock.Mux g.on) (may.reached g a).1));
-      }
-    where
-      stands : Stands b (now b asks past)
-      stands = past-stands past steps.1
-
-      job : Job
-      job = steps.0.2.0
-
-      tells : TellsMessage b (now b asks past) job steps.0.2.1
-          (record {
-            caller = c;
-            bus = bus;
-            purpose = purpose;
-            part = part;
-            parts = parts;
-            addr = addr;
-            reading = reading;
-            bytes = bytes;
-            heard = heard;
-            end = e;
-          })
-      tells = steps.0.2.3
-
-      may : MaySend b (cur past steps.1 c).whose job steps.0.2.1 (first_note (current b asks (now b asks past) c)).marks
-          ((now b asks past).held c) (now b asks past).slot
-      may = sends past steps.1 c job steps.0.2.1 steps.0.2.2
-
-      on_its_path : (q s : ℕ) → IsOver b q s → (q ≡ s → ⊥) → ((g : Hop) → IsAmongHops g (hops b s) → holder past (lock.Mux g.on) ≡ Some c)
-          → holder past (lock.Mux q) ≡ Some c
-      on_its_path q s on_path other locked =
-          elim on_path [
-            | inl same ↦ absurd (other same)
-            | inr crossed ↦ (let g = crossing_hop q (hops b s) crossed in
-                subst (λ (p : ℕ). holder past (lock.Mux p) ≡ Some c) g.2 (locked g.0 g.1))
-          ]
-
-      -- what the caller counts among its locks it has
-      has : (l : LockId) → InLocks l ((now b asks past).held c) → holder past l ≡ Some c
-      has l counted = sym (holder-told b asks past l) ∙ stands.holds c l counted
+      message_open past steps.1 steps.0.2.0 steps.0.2.1 _ steps.0.2.3 steps.0.2.2
 
   pub open-kept : (past : List Entry) → IsStepwise b callers asks past → KeepsPathsOpen b asks past
   open-kept [] steps = tt

@@ -13,17 +13,10 @@ use Rattle.bus_spec.specs.Walk.{Job, Call, Select, SwitchOff, Deselect, Close, F
 use Rattle.bus_spec.specs.Grammar.{Doer, plain, settled, over, by_go, messages, at_bus, locked, part, with_mark, aside, if_sent, if_good, kind_of, closing, left_behind, opened, chosen, keeps, crossed, behind, inner, walk_by, walk_for, first_act}
 use Rattle.bus_laws.specs.Settles.{EndsJob, IsDecided, NoSettle, IsBefore, GoesOn, Settles}
 
--- a job on the way to the caller's messages has settled their transfer, where it ended so
+-- a job on the way to the caller's messages has settled their transfer, where it decides their reply or its way was lost
 abbrev is_settled : Job → JobOutcome → Bool
-is_settled (Call bus ms) o = true
-is_settled (Select h) Good = false
-is_settled (Select h) Refused = true
-is_settled (Select h) Unsent = true
-is_settled (Select h) Failed = true
-is_settled (SwitchOff off) Good = false
-is_settled (SwitchOff off) Refused = false
 is_settled (SwitchOff off) Unsent = true
-is_settled (SwitchOff off) Failed = true
+is_settled job o = decides job o
 
 -- what is settled behind a job; one that isn't on the way settles nothing
 abbrev behind_job : Bool → Job → JobOutcome → Bool → Bool
@@ -73,13 +66,7 @@ and_forward false x e = e
 sent_decides : (job : Job) (left : ℕ) (e : End) (bytes : List ℕ)
     → decides job (job_outcome job left (Sent e bytes)) ≡ is_settled job (job_outcome job left (Sent e bytes))
 sent_decides (Call bus ms) left e bytes = refl
-sent_decides (Select h) zero end.Ok bytes = refl
-sent_decides (Select h) (suc left) end.Ok bytes = refl
-sent_decides (Select h) left end.Nack bytes = refl
-sent_decides (Select h) left end.Slow bytes = refl
-sent_decides (Select h) left end.Refused bytes = refl
-sent_decides (Select h) left end.Proto bytes = refl
-sent_decides (Select h) left (end.Cut q) bytes = refl
+sent_decides (Select h) left e bytes = refl
 sent_decides (SwitchOff off) left end.Ok bytes = refl
 sent_decides (SwitchOff off) left end.Nack bytes = refl
 sent_decides (SwitchOff off) left end.Slow bytes = refl
@@ -90,8 +77,7 @@ sent_decides (SwitchOff off) left (end.Cut q) bytes = refl
 lined_decides : (job : Job) (left : ℕ) (failed : Bool)
     → decides job (job_outcome job left (Lined failed)) ≡ is_settled job (job_outcome job left (Lined failed))
 lined_decides (Call bus ms) left failed = refl
-lined_decides (Select h) left true = refl
-lined_decides (Select h) left false = refl
+lined_decides (Select h) left failed = refl
 lined_decides (SwitchOff off) left true = refl
 lined_decides (SwitchOff off) left false = refl
 

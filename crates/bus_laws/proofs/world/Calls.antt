@@ -6,7 +6,6 @@ use Rattle.std.specs.Option.{option_map}
 use Rattle.std.proofs.lemmas.Bool.{eq-eqb}
 use Rattle.i2c_base.specs.declared.event.Event.{Event}
 use Rattle.i2c_base.specs.declared.event.Event.TheVariants as event
-use Rattle.i2c_base.specs.declared.event.Answer.{Answer}
 use Rattle.i2c_base.specs.declared.port.PortCall.{PortCall}
 use Rattle.i2c_base.specs.declared.port.PortCall.TheVariants as call
 use Rattle.i2c_base.specs.declared.ids.Node.{Node}
@@ -22,8 +21,8 @@ use Rattle.i2c_spec.specs.Chips.{ChipView, chip_table}
 use Rattle.i2c_spec.specs.Targets.{TargetState}
 use Rattle.i2c_spec.specs.Messages.{MessageView}
 use Rattle.i2c_spec.specs.Conversation.{world_listener, talk}
-use Rattle.i2c_spec.specs.World.{World, after, given, feed, is_joined, chip_start, start_chips, start_devices, joins_chip, stop_event, hearers, has_heard, heard_of, is_chip, to_chips}
-use Rattle.bus_laws.proofs.world.Feed.{hears, feed-same, heard-none}
+use Rattle.i2c_spec.specs.World.{World, after, given, feed, is_joined, chip_start, start_chips, start_devices, joins_chip, stop_event, hearers, heard_of, is_chip, to_chips}
+use Rattle.bus_laws.proofs.world.Feed.{hears, feed-same, heard-none, none-named}
 use Rattle.bus_laws.proofs.world.TalkLaws.{talk-keeps}
 use Rattle.bus_laws.proofs.world.Reach.{world_of}
 use Rattle.bus_laws.proofs.world.Hears.{chip_along}
@@ -114,15 +113,6 @@ busy_chip b s a force n addr may =
     ]
 
 -- NO CHIP HEARS
-no_chip_named : (i : ℕ) (xs : List (ℕ × Answer)) → list_any (is_chip i) (heard_of node.Device xs) ≡ false
-no_chip_named i [] = refl
-no_chip_named i (x ∷ xs) = by_heard (has_heard x.1) ∙ no_chip_named i xs
-  where
-    by_heard : (t : Bool) → list_any (is_chip i) (cond t (node.Device x.0 ∷ heard_of node.Device xs) (heard_of node.Device xs)) ≡ list_any
-        (is_chip i) (heard_of node.Device xs)
-    by_heard true = refl
-    by_heard false = refl
-
 module _ (b : BoardView) (tree : IsTree b) (r s : ℕ) (cs : List ChipView) (ds : List TargetState) (hs : List Node) (busy : Bool)
     (along : (u : ℕ) → is_joined (world_of b r cs ds hs busy) u ≡ true → MayJoin b s u)
     (a : ℕ) (force : Bool) (not_busy : grant_of b s a force ≡ grant.Busy → ⊥) (reading : Bool) where
@@ -140,7 +130,7 @@ module _ (b : BoardView) (tree : IsTree b) (r s : ℕ) (cs : List ChipView) (ds 
   no_chip_hears i =
       ap (λ (xs : List Node). list_any (is_chip i) (xs ++ heard_of node.Device (start_devices (world_of b r cs ds hs busy) a reading)))
       no_chip
-      ∙ no_chip_named i (start_devices (world_of b r cs ds hs busy) a reading)
+      ∙ none-named (is_chip i) node.Device (λ n. refl) (start_devices (world_of b r cs ds hs busy) a reading)
 
 -- the chips stay, and none listens
 abbrev IsChipless : List ChipView → World → Type 0

@@ -1,6 +1,7 @@
 -- Events given to a list of targets, place by place. The inductions go over the list.
 use Rattle.std.proofs.Common.{◌≡◌, ℕ, zero, suc, ◌+◌, ◌≤◌, Bool, true, false, cond, ◌||◌, List, [], ◌∷◌, ◌++◌, length, Option, Some, None, refl, sym, ◌∙◌, ap, subst, arith, add-zero}
 use Rattle.std.specs.Prelude.{slice_get}
+use Rattle.std.specs.List.{list_any}
 use Rattle.std.specs.Option.{option_map}
 use Rattle.i2c_base.specs.declared.event.Event.{Event}
 use Rattle.i2c_base.specs.declared.event.Answer.{Answer}
@@ -52,6 +53,16 @@ heard-none t name f k (x ∷ xs) none =
     ∙ ap (λ (b : Bool). cond b (name k ∷ heard_of name (answers t f (k + 1) xs)) (heard_of name (answers t f (k + 1) xs))) here
     ∙ heard-none t name f (k + 1) xs (λ i y e. ap (λ (j : ℕ). hears t (f j) y) (let e2 : k + 1 + i ≡ k + suc i = omega arith in e2)
     ∙ none (suc i) y e)
+
+-- where no name passes a test, nobody of those who hear does
+pub none-named : (test : Node → Bool) (name : ℕ → Node) → ((i : ℕ) → test (name i) ≡ false) → (xs : List (ℕ × Answer))
+    → list_any test (heard_of name xs) ≡ false
+none-named test name other [] = refl
+none-named test name other (x ∷ xs) = by_heard (has_heard x.1) ∙ none-named test name other xs
+  where
+    by_heard : (t : Bool) → list_any test (cond t (name x.0 ∷ heard_of name xs) (heard_of name xs)) ≡ list_any test (heard_of name xs)
+    by_heard true = ap (λ (u : Bool). u || list_any test (heard_of name xs)) (other x.0)
+    by_heard false = refl
 
 -- where only the target of one number may hear, the list has it or is empty
 pub heard-one : {X : Type 0} (t : Table X) (name : ℕ → Node) (f : ℕ → Option Event) (k : ℕ) (xs : List X) (m : ℕ)

@@ -6,7 +6,6 @@ use Rattle.std.proofs.lemmas.Bool.Decides.{eqb_tells}
 use Rattle.i2c_base.specs.declared.entry.End.{End}
 use Rattle.i2c_base.specs.declared.entry.End.TheVariants as end
 use Rattle.i2c_base.specs.declared.entry.Entry.{Entry}
-use Rattle.i2c_base.specs.declared.entry.Entry.TheVariants as entry
 use Rattle.i2c_base.specs.declared.entry.Purpose.{Purpose}
 use Rattle.i2c_base.specs.declared.entry.Purpose.TheVariants as purpose
 use Rattle.i2c_base.specs.declared.reply.Reply.{Reply}
@@ -25,7 +24,7 @@ use Rattle.i2c_spec.specs.Flat.{FlatTold, idle, refusal, granted_on, block_limit
 use Rattle.i2c_spec.specs.History.{Asks, History}
 use Rattle.bus_spec.specs.Walk.{Job, Call, Act, Send, Settle, Sent, WalkTree, goes, verdict_of, message_of}
 use Rattle.bus_spec.specs.Grammar.{first_act, first_note, rest_of}
-use Rattle.bus_spec.specs.Readings.{message_cut, cut_told}
+use Rattle.bus_spec.specs.Readings.{MessageEntry, message_cut, cut_told}
 use Rattle.bus_spec.specs.Past.{Now, begun, current, now, is_on, is_due, sent, with_due, moved, talk_of, cut_of, inside_after, got_after}
 use Rattle.bus_spec.specs.Stepwise.{IsNext, IsStepwise}
 use Rattle.bus_spec.specs.Tells.{TellsMessage}
@@ -35,6 +34,7 @@ use Rattle.bus_laws.specs.Settles.{CallGoesOn}
 use Rattle.bus_laws.specs.Alike.{IsOf, Same, LeadsTo, EndsTransfer}
 use Rattle.bus_laws.proofs.tree.Slots.{eqb-apart}
 use Rattle.bus_laws.proofs.past.StandsStep.{at_same, at_other}
+use Rattle.bus_laws.proofs.past.Known.{message_entry}
 use Rattle.i2c_spec.proofs.MessageLemmas.{length-messages}
 use Rattle.bus_laws.proofs.past.Whole.{goes_on_from, call_goes, other_caller, own_call, past-inside}
 use Rattle.flat_laws.proofs.past.First.{call_first, past-stage}
@@ -92,32 +92,25 @@ module _ (b : BoardView) (tree : IsTree b) (plain : IsPlainBoard b) (lines : Lin
       (leads : LeadsTo (n.worlds (root_of b t.bus)) (message_of b (Call t.bus (messages_of t)) left).addr
       (granted_on b t.bus t.force (message_of b (Call t.bus (messages_of t)) left).addr))
       (through : LetThrough b (hops b t.bus))
-      (bus : ℕ) (purpose_is : Purpose) (part parts addr : ℕ) (reading : Bool) (bytes : List ℕ) (heard : _) (e : End)
-      (tells : TellsMessage b n (Call t.bus (messages_of t)) left
-      (record {
-        caller = d;
-        bus = bus;
-        purpose = purpose_is;
-        part = part;
-        parts = parts;
-        addr = addr;
-        reading = reading;
-        bytes = bytes;
-        heard = heard;
-        end = e;
-      })) where
+      (x : MessageEntry) (tells : TellsMessage b n (Call t.bus (messages_of t)) left x) where
+    abbrev part : ℕ
+    part = x.part
+
+    abbrev bytes : List ℕ
+    bytes = x.bytes
+
+    abbrev e : End
+    e = x.end
+
     abbrev root : ℕ
     root = root_of b t.bus
 
     abbrev job : Job
     job = Call t.bus (messages_of t)
 
-    abbrev x : Entry
-    x = entry.Message d bus purpose_is part parts addr reading bytes heard e
-
     abbrev m : Now
-    m = with_due d (moved b asks n (sent b n d job left (first_note (current b asks n d)) reading bytes e (talk_of b n job left e)) d x
-        (Sent e bytes))
+    m = with_due d (moved b asks n (sent b n d job left (first_note (current b asks n d)) x.reading bytes e (talk_of b n job left e)) d
+        (message_entry x) (Sent e bytes))
 
     said_now : IsSaid b s.ahead t (n.worlds root) (n.got d) left
     said_now = by_inside (n.inside root) refl
@@ -169,7 +162,7 @@ module _ (b : BoardView) (tree : IsTree b) (plain : IsPlainBoard b) (lines : Lin
 
     got_now : m.got d ≡ cond said_now.next.reading (n.got d ++ bytes) (n.got d)
     got_now =
-        at_same n.got d (got_after job reading bytes (n.got d))
+        at_same n.got d (got_after job x.reading bytes (n.got d))
         ∙ ap (λ (r : Bool). cond r (n.got d ++ bytes) (n.got d)) (tells.in_direction ∙ ap (λ (y : MessageView). y.reading) next_is)
 
     world_now : m.worlds root ≡ told.now
@@ -192,7 +185,7 @@ module _ (b : BoardView) (tree : IsTree b) (plain : IsPlainBoard b) (lines : Lin
         ∙ ap (λ (i : ℕ). root_of b i) (let g : Send job left ≡ Send (Call s2 ms) k = f in let i : s2 ≡ t.bus = cc in i))) in
         inside_stays b asks tree n m s.ahead ahead r c (s.said r c before)
         (at_other n.walk d (rest_of (current b asks n d) (Sent e bytes)) c other) refl
-        (at_other n.got d (got_after job reading bytes (n.got d)) c other) (world_other r ne) (λ k own. same r k ne own)
+        (at_other n.got d (got_after job x.reading bytes (n.got d)) c other) (world_other r ne) (λ k own. same r k ne own)
 
     goes_next : CallGoesOn t.bus (messages_of t) left (Sent e bytes) (rest_of (current b asks n d) (Sent e bytes))
     goes_next = call_goes b tree plain lines asks some callers past steps d t.bus (messages_of t) left e bytes next
@@ -297,7 +290,7 @@ module _ (b : BoardView) (tree : IsTree b) (plain : IsPlainBoard b) (lines : Lin
             asked = asked;
             verdict = verdict_of job left (Sent e bytes);
             settles = settles_here;
-            told = ap (λ (y : Cut). flat b h.states t y) (at_same n.cut d (cut_told x)
+            told = ap (λ (y : Cut). flat b h.states t y) (at_same n.cut d (cut_told (message_entry x))
                 ∙ ap (λ (p : Purpose). message_cut p part e) tells.for_purpose)
                 ∙ ap (λ (xs : List TargetState). flat b xs t (message_cut purpose.Call part e)) (sym (s.free none))
                 ∙ flat_is

@@ -3,7 +3,6 @@
 use Rattle.std.proofs.Common.{◌≡◌, ℕ, Bool, true, false, cond, List, [], ◌∷◌, ◌++◌, Option, Some, None, refl, sym, ◌∙◌, ap, subst, ◌⊎◌, inl, inr}
 use Rattle.std.specs.Option.{option_map, option_and_then}
 use Rattle.std.proofs.lemmas.Bool.Decides.{eqb_tells}
-use Rattle.i2c_base.specs.declared.entry.End.{End}
 use Rattle.i2c_base.specs.declared.entry.Entry.{Entry}
 use Rattle.i2c_base.specs.declared.entry.Entry.TheVariants as entry
 use Rattle.i2c_base.specs.declared.entry.Purpose.{Purpose}
@@ -22,7 +21,7 @@ use Rattle.i2c_spec.specs.Flat.{FlatTold, refusal, granted_on, flat}
 use Rattle.i2c_spec.specs.History.{Asks, History, changed_at, with_told, one_more, opening_history, history}
 use Rattle.bus_spec.specs.Walk.{Job, Call, Select, SwitchOff, off_mux, Act, Take, Free, Send, Settle, Passed, Sent, Lined, WalkTree, job_bus, message_of}
 use Rattle.bus_spec.specs.Grammar.{walk_by, first_act, first_note, rest_of, seen, is_over}
-use Rattle.bus_spec.specs.Readings.{order, message_cut}
+use Rattle.bus_spec.specs.Readings.{MessageEntry, order, message_cut}
 use Rattle.bus_spec.specs.Past.{Now, begun, current, step, now, sent, sent_by, lined_by, with_due, moved, talk_of}
 use Rattle.bus_spec.specs.Stepwise.{IsNext, May, IsStepwise, reply_by}
 use Rattle.bus_spec.specs.Tells.{TellsMessage}
@@ -33,6 +32,7 @@ use Rattle.bus_laws.specs.Settles.{NoSettle}
 use Rattle.bus_laws.specs.Alike.{LeadsTo}
 use Rattle.bus_laws.proofs.past.StandsStep.{at_same, at_other}
 use Rattle.bus_laws.proofs.past.Asked.{settled-told}
+use Rattle.bus_laws.proofs.past.Known.{message_entry}
 use Rattle.bus_laws.proofs.past.Whole.{goes_on_from}
 use Rattle.flat_laws.proofs.past.First.{not_inside}
 use Rattle.bus_laws.proofs.past.Placed.{starts_seen, no_settle, past-due}
@@ -50,61 +50,37 @@ module _ (b : BoardView) (tree : IsTree b) (plain : IsPlainBoard b) (lines : Lin
   abbrev n : Now
   n = now b asks past
 
-  -- A MESSAGE, whosever it is
-  message_stands : (d : ℕ) (job : Job) (left : ℕ) (bus : ℕ) (purpose_is : Purpose) (part parts addr : ℕ) (reading : Bool) (bytes : List ℕ)
-      (heard : _) (e : End) → n.due ≡ None
-      → IsNext b asks n d (Send job left)
-      → TellsMessage b n job left (record {
-        caller = d;
-        bus = bus;
-        purpose = purpose_is;
-        part = part;
-        parts = parts;
-        addr = addr;
-        reading = reading;
-        bytes = bytes;
-        heard = heard;
-        end = e;
-      })
-      → DevicesStand b asks (with_due d
-      (moved b asks n (sent b n d job left (first_note (current b asks n d)) reading bytes e (talk_of b n job left e)) d
-      (entry.Message d bus purpose_is part parts addr reading bytes heard e) (Sent e bytes))) h
-  message_stands d (Select g) left bus purpose_is part parts addr reading bytes heard e none next tells =
-      control_stands b tree plain lines asks some callers past steps h s d (Select g) left reading bytes e
-      (entry.Message d bus purpose_is part parts addr reading bytes heard e) none next refl refl
+  -- A MESSAGE, whosever it is: where everything stands behind it, and so the devices
+  abbrev behind : ℕ → Job → ℕ → MessageEntry → Now
+  behind d job left m =
+      with_due d (moved b asks n
+      (sent b n d job left (first_note (current b asks n d)) m.reading m.bytes m.end (talk_of b n job left m.end))
+      d (message_entry m) (Sent m.end m.bytes))
+
+  message_stands : (d : ℕ) (job : Job) (left : ℕ) (m : MessageEntry) → n.due ≡ None → IsNext b asks n d (Send job left)
+      → TellsMessage b n job left m → DevicesStand b asks (behind d job left m) h
+  message_stands d (Select g) left m none next tells =
+      control_stands b tree plain lines asks some callers past steps h s d (Select g) left m.reading m.bytes m.end
+      (message_entry m) none next refl refl
       (select-next b tree plain lines asks some callers past steps d g left next) (λ o. refl) (λ o. refl)
       (λ v first. subst (λ (y : Cut). DecidesNext b asks n d y v)
-      (sym (ap (λ (p : Purpose). message_cut p part e) tells.for_purpose
-      ∙ ap (λ (k : ℕ). message_cut (purpose.Control g.mux) k e) tells.as_part))
-      (select-decides b tree plain lines asks some callers past steps d g left next e bytes tells.end_told tells.bytes_told v first))
-  message_stands d (SwitchOff off) left bus purpose_is part parts addr reading bytes heard e none next tells =
-      control_stands b tree plain lines asks some callers past steps h s d (SwitchOff off) left reading bytes e
-      (entry.Message d bus purpose_is part parts addr reading bytes heard e) none next refl refl
+      (sym (ap (λ (p : Purpose). message_cut p m.part m.end) tells.for_purpose
+      ∙ ap (λ (k : ℕ). message_cut (purpose.Control g.mux) k m.end) tells.as_part))
+      (select-decides b tree plain lines asks some callers past steps d g left next m.end m.bytes tells.end_told tells.bytes_told v first))
+  message_stands d (SwitchOff off) left m none next tells =
+      control_stands b tree plain lines asks some callers past steps h s d (SwitchOff off) left m.reading m.bytes m.end
+      (message_entry m) none next refl refl
       (off-next b tree plain lines asks some callers past steps d off left next) (λ o. refl) (λ o. refl)
       (λ v first. subst (λ (y : Cut). DecidesNext b asks n d y v)
-      (sym (ap (λ (p : Purpose). message_cut p part e) tells.for_purpose
-      ∙ ap (λ (k : ℕ). message_cut (purpose.Control (off_mux off)) k e) tells.as_part))
-      (off-decides b tree plain lines asks some callers past steps d off left next e bytes v first))
-  message_stands d (Call on ms) left bus purpose_is part parts addr reading bytes heard e none next tells =
+      (sym (ap (λ (p : Purpose). message_cut p m.part m.end) tells.for_purpose
+      ∙ ap (λ (k : ℕ). message_cut (purpose.Control (off_mux off)) k m.end) tells.as_part))
+      (off-decides b tree plain lines asks some callers past steps d off left next m.end m.bytes v first))
+  message_stands d (Call on ms) left m none next tells =
       subst (λ (j : Job). IsNext b asks n d (Send j left) → Leads j → LetThrough b (hops b (job_bus j))
-      → TellsMessage b n j left (record {
-        caller = d;
-        bus = bus;
-        purpose = purpose_is;
-        part = part;
-        parts = parts;
-        addr = addr;
-        reading = reading;
-        bytes = bytes;
-        heard = heard;
-        end = e;
-      })
-      → DevicesStand b asks (with_due d
-      (moved b asks n (sent b n d j left (first_note (current b asks n d)) reading bytes e (talk_of b n j left e)) d
-      (entry.Message d bus purpose_is part parts addr reading bytes heard e) (Sent e bytes))) h)
+      → TellsMessage b n j left m → DevicesStand b asks (behind d j left m) h)
       (sym job_is)
       (λ next2 leads2 through2 tells2. call_stands b tree plain lines asks some limits callers past steps h s d c.whose c.asked
-      c.call.not_refused left none next2 leads2 through2 bus purpose_is part parts addr reading bytes heard e tells2)
+      c.call.not_refused left none next2 leads2 through2 m tells2)
       next c.leads c.through tells
     where
       c : CallNext b asks n d on ms left
@@ -282,8 +258,8 @@ module _ (b : BoardView) (tree : IsTree b) (plain : IsPlainBoard b) (lines : Lin
             (with_due d (moved b asks (now b asks past)
             (sent_by b (now b asks past) d o (first_note (current b asks (now b asks past) d)) reading bytes e) d
             (entry.Message d bus purpose_is part parts addr reading bytes heard e) (Sent e bytes))) w.history_is) (sym may.2.2)
-            (message_stands b tree plain lines asks some limits callers past steps w.history_is w.stand d may.2.0 may.2.1 bus purpose_is
-            part parts addr reading bytes heard e may.1 may.2.2 may.2.3);
+            (message_stands b tree plain lines asks some limits callers past steps w.history_is w.stand d may.2.0 may.2.1 _
+            may.1 may.2.2 may.2.3);
       }
   step_stands (entry.Settle d r cut) past steps may w =
       let told = settle_told b tree plain lines asks some limits callers past steps w.history_is w.stand d may.2 r cut may.1 may.3 may.4

@@ -1,6 +1,6 @@
 -- One step of a walk pays for itself: its entry, the bytes of it and the calls that it makes. No induction but over the
 -- messages of a transfer.
-use Rattle.std.proofs.Common.{◌≡◌, ℕ, zero, suc, ◌+◌, ◌*◌, ◌-◌, ◌<◌, ◌≤◌, Bool, true, false, cond, List, [], ◌∷◌, ◌++◌, length, Option, refl, sym, ◌∙◌, ap, subst, ◌⊎◌, inl, inr, arith}
+use Rattle.std.proofs.Common.{◌≡◌, ℕ, zero, suc, ◌+◌, ◌*◌, ◌-◌, ◌<◌, ◌≤◌, Bool, true, false, cond, List, [], ◌∷◌, ◌++◌, length, Option, Some, refl, sym, ◌∙◌, ap, subst, ◌⊎◌, inl, inr, arith}
 use Rattle.std.specs.Prelude.{take, drop}
 use Rattle.std.proofs.lemmas.List.{length-take}
 use Rattle.std.proofs.Math.Nat.{min-le_left}
@@ -21,7 +21,7 @@ use Rattle.i2c_spec.specs.Conversation.{world_listener}
 use Rattle.i2c_spec.specs.Flat.{block_limit}
 use Rattle.i2c_spec.specs.Cost.{cost_of}
 use Rattle.i2c_spec.specs.History.{Asks}
-use Rattle.bus_spec.specs.Walk.{Job, Call, Select, SwitchOff, Act, Take, Free, Send, Shift, Settle, Passed, Sent, Lined, WalkTree, job_bus, message_of, is_last, nth_message}
+use Rattle.bus_spec.specs.Walk.{Job, Call, Select, SwitchOff, Act, ActOutcome, Take, Free, Send, Shift, Settle, Passed, Sent, Lined, WalkTree, job_bus, message_of, is_last, nth_message}
 use Rattle.bus_spec.specs.Grammar.{walk_for, seen, first_act, first_note, rest_of}
 use Rattle.bus_spec.specs.Readings.{caller_of}
 use Rattle.bus_spec.specs.Past.{Now, current, now, step, talk_of, cut_of, got_after, sent_by, lined_by}
@@ -30,7 +30,7 @@ use Rattle.bus_laws.specs.Reach.{AsksForMessages}
 use Rattle.bus_laws.specs.Runs.{IsCall}
 use Rattle.bus_laws.specs.Settles.{IsBefore, Settles}
 use Rattle.bus_laws.specs.Calls.{CallsOf, IsAsked}
-use Rattle.bus_laws.specs.Costs.{IsWithin}
+use Rattle.bus_laws.specs.Costs.{weight_at, IsWithin}
 use Rattle.bus_laws.specs.Others.{ahead}
 use Rattle.journal_laws.specs.Spent.{bytes_in, calls_for}
 use Rattle.bus_laws.proofs.world.TalkSizes.{talk-sized}
@@ -143,40 +143,41 @@ module _ (b : BoardView) (asks : Asks) (some : AsksForMessages asks) (callers : 
   short_sent c (Select h) (suc left) next = omega arith
   short_sent c (SwitchOff off) left next = omega arith
 
+  -- a step that reads nothing
+  pays_unread : (e : Entry) (act : Act) (out : ActOutcome) → IsNext b asks n (caller_of e) act → (done : Bool) (most : ℕ)
+      → (budget : IsBudget b done (ahead b asks n (caller_of e)) most)
+      → Settles done (rest_of (current b asks n (caller_of e)) out)
+      → (step b asks n e).walk (caller_of e) ≡ rest_of (current b asks n (caller_of e)) out
+      → (step b asks n e).got (caller_of e) ≡ n.got (caller_of e) → (step b asks n e).settled (caller_of e) ≡ n.settled (caller_of e)
+      → bytes_in e ≡ [] → calls_for b n (Some act) e ≤ 1 → 1 ≤ weight_at b act → IsPaid b asks n e done most
+  pays_unread e act out next done most budget settles walk got settled none few weighs =
+      let h = within-next b n.slot (ahead b asks n (caller_of e)) budget.left budget.within act next in
+      let empty : length (bytes_in e) ≡ 0 = ap (λ (xs : List ℕ). length xs) none in
+      let same : length ((step b asks n e).got (caller_of e)) ≡ length (n.got (caller_of e)) = ap (λ (xs : List ℕ). length xs) got in
+      let made : calls_for b n (first_act (current b asks n (caller_of e))) e ≤ 1 =
+      subst (λ (o : Option Act). calls_for b n o e ≤ 1) (sym next) few in
+      record {
+        after = done;
+        rest = h.0 + to_settle done;
+        kept = budget_of b done (rest_of (current b asks n (caller_of e)) out) ((step b asks n e).walk (caller_of e)) h.0
+            walk settles (h.2 out);
+        entries = omega (arith, weighs, h.1, budget.owes);
+        bytes = omega (arith, weighs, h.1, budget.owes, empty, same);
+        calls = omega (arith, weighs, made, h.1, budget.owes);
+        emptied = λ d was. got ∙ was d;
+        replies = inl (refl, settled);
+      }
+
   pub budget-pays : (e : Entry) → May b callers asks n e → (done : Bool) (most : ℕ) → IsBudget b done (ahead b asks n (caller_of e)) most
       → IsPaid b asks n e done most
   budget-pays (entry.Take c l) may done most budget =
-      let w : WalkTree = ahead b asks n c in
-      let h = within-next b n.slot w budget.left budget.within (Take l) may.2 in
-      record {
-        after = done;
-        rest = h.0 + to_settle done;
-        kept = budget_of b done (rest_of (seen n.slot w) Passed) ((step b asks n (entry.Take c l)).walk c) h.0
-            (at_same n.walk c (rest_of (seen n.slot w) Passed))
-            (settles-taken done n.slot w budget.settles l may.2).1 (h.2 Passed);
-        entries = omega (arith, h.1, budget.owes);
-        bytes = omega (arith, h.1, budget.owes);
-        calls = (let none : calls_for b n (first_act (current b asks n c)) (entry.Take c l) ≡ 0 = ap
-            (λ (o : Option Act). calls_for b n o (entry.Take c l)) may.2 in omega (arith, none, h.1, budget.owes));
-        emptied = λ d was. was d;
-        replies = inl (refl, refl);
-      }
+      pays_unread (entry.Take c l) (Take l) Passed may.2 done most budget
+      (settles-taken done n.slot (ahead b asks n c) budget.settles l may.2).1
+      (at_same n.walk c (rest_of (current b asks n c) Passed)) refl refl refl (omega arith) (omega arith)
   budget-pays (entry.Free c l) may done most budget =
-      let w : WalkTree = ahead b asks n c in
-      let h = within-next b n.slot w budget.left budget.within (Free l) may.2 in
-      record {
-        after = done;
-        rest = h.0 + to_settle done;
-        kept = budget_of b done (rest_of (seen n.slot w) Passed) ((step b asks n (entry.Free c l)).walk c) h.0
-            (at_same n.walk c (rest_of (seen n.slot w) Passed))
-            (settles-freed done n.slot w budget.settles l may.2).1 (h.2 Passed);
-        entries = omega (arith, h.1, budget.owes);
-        bytes = omega (arith, h.1, budget.owes);
-        calls = (let none : calls_for b n (first_act (current b asks n c)) (entry.Free c l) ≡ 0 = ap
-            (λ (o : Option Act). calls_for b n o (entry.Free c l)) may.2 in omega (arith, none, h.1, budget.owes));
-        emptied = λ d was. was d;
-        replies = inl (refl, refl);
-      }
+      pays_unread (entry.Free c l) (Free l) Passed may.2 done most budget
+      (settles-freed done n.slot (ahead b asks n c) budget.settles l may.2).1
+      (at_same n.walk c (rest_of (current b asks n c) Passed)) refl refl refl (omega arith) (omega arith)
   budget-pays (entry.Settle c r cut) may done most budget =
       let w : WalkTree = ahead b asks n c in
       let h = within-next b n.slot w budget.left budget.within (Settle may.2) may.3 in
@@ -198,24 +199,11 @@ module _ (b : BoardView) (asks : Asks) (some : AsksForMessages asks) (callers : 
         replies = inr (s.0, refl, r, at_same n.settled c (n.settled c ++ r ∷ []));
       }
   budget-pays (entry.Line c mux level failed) may done most budget =
-      let w : WalkTree = ahead b asks n c in
-      let e : Entry = entry.Line c mux level failed in
-      let h = within-next b n.slot w budget.left budget.within (Shift may.2.0) may.2.1 in
-      let one : calls_for b n (first_act (current b asks n c)) e ≡ 1 = ap (λ (o : Option Act). calls_for b n o e) may.2.1 in
-      let same : (step b asks n e).got c ≡ n.got c = line-got b asks n c mux level failed may.2.0 may.2.1 in
-      let few : length ((step b asks n e).got c) ≡ length (n.got c) = ap (λ (xs : List ℕ). length xs) same in
-      record {
-        after = done;
-        rest = h.0 + to_settle done;
-        kept = budget_of b done (rest_of (seen n.slot w) (Lined failed)) ((step b asks n e).walk c) h.0
-            (at_same n.walk c (rest_of (seen n.slot w) (Lined failed)))
-            (settles-shifted done n.slot w budget.settles may.2.0 may.2.1 failed).2 (h.2 (Lined failed));
-        entries = omega (arith, h.1, budget.owes);
-        bytes = omega (arith, h.1, budget.owes, few);
-        calls = omega (arith, one, h.1, budget.owes);
-        emptied = λ d was. same ∙ was d;
-        replies = inl (refl, ap (λ (o : Option Act). (lined_by b n o (first_note (current b asks n c)) failed).settled c) may.2.1);
-      }
+      pays_unread (entry.Line c mux level failed) (Shift may.2.0) (Lined failed) may.2.1 done most budget
+      (settles-shifted done n.slot (ahead b asks n c) budget.settles may.2.0 may.2.1 failed).2
+      (at_same n.walk c (rest_of (current b asks n c) (Lined failed))) (line-got b asks n c mux level failed may.2.0 may.2.1)
+      (ap (λ (o : Option Act). (lined_by b n o (first_note (current b asks n c)) failed).settled c) may.2.1) refl
+      (omega arith) (omega arith)
   budget-pays (entry.Message c bus why part parts addr reading bytes heard en) may done most budget =
       let w : WalkTree = ahead b asks n c in
       let e : Entry = entry.Message c bus why part parts addr reading bytes heard en in

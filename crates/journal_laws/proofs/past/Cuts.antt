@@ -237,17 +237,24 @@ module _ (b : BoardView) (tree : IsTree b) (plain : IsPlainBoard b) (lines : Lin
             (settles_seen n.slot true (n.walk d) settles)
 
     -- A STEP that neither fails nor settles: a lock's
-    lock-stands : (act : Act) → IsNext b asks n d act → ((v : Option Errno) → act ≡ Settle v → ⊥) → NoSettle (rest_of w Passed)
-        → (Settles true w → Settles true (rest_of w Passed))
+    lock-stands : (act : Act) → IsNext b asks n d act → ((v : Option Errno) → act ≡ Settle v → ⊥)
+        → ((done : Bool) (note : Note) (rest : ActOutcome → WalkTree) → Settles done (Then act note rest)
+        → NoSettle (rest Passed) × Settles done (rest Passed))
         → CutStands (rest_of w Passed) cut.No (not (is_over (rest_of w Passed)) && failed_on_way b asks past d)
-    lock-stands act next other quiet goes =
+    lock-stands act next other behind =
         record {
-          after = λ failed. inr (goes (had_settled act next other
-              (and_parts (not (is_over (rest_of w Passed))) (failed_on_way b asks past d) failed).1));
+          after = λ failed. inr (goes true (had_settled act next other
+              (and_parts (not (is_over (rest_of w Passed))) (failed_on_way b asks past d) failed).1)).1;
           before = λ v first told. absurd (told refl);
           ended = λ over. refl;
-          remote = λ first told. no_settle (rest_of w Passed) (Some errno.Eremoteio) quiet first;
+          remote = λ first told. no_settle (rest_of w Passed) (Some errno.Eremoteio) (goes own.done own.settles).0 first;
         }
+      where
+        goes : (done : Bool) → Settles done w → NoSettle (rest_of w Passed) × Settles done (rest_of w Passed)
+        goes done h =
+            let at = first_is w act next in
+            subst (λ (x : WalkTree). NoSettle (rest_of x Passed) × Settles done (rest_of x Passed)) (sym at.2)
+            (behind done at.0 at.1 (subst (λ (x : WalkTree). Settles done x) at.2 h))
 
     -- a settle
     settle-stands : (v : Option Errno) → IsNext b asks n d (Settle v)
@@ -458,21 +465,13 @@ module _ (b : BoardView) (tree : IsTree b) (plain : IsPlainBoard b) (lines : Lin
       }
   cuts-stand (entry.Take d l ∷ past) steps c =
       turned (entry.Take d l) past
-      (let at = first_is (current b asks (now b asks past) d) (Take l) steps.0.2 in
-      let before = cuts-stand past steps.1 in
-      lock-stands past steps.1 d (before d) (Take l) steps.0.2 (λ v f. let g : Take l ≡ Settle v = f in cc)
-      (subst (λ (x : WalkTree). NoSettle (rest_of x Passed)) (sym at.2)
-      (subst (λ (x : WalkTree). Settles (own past steps.1 d (before d)).done x) at.2 (own past steps.1 d (before d)).settles).0)
-      (λ h. subst (λ (x : WalkTree). Settles true (rest_of x Passed)) (sym at.2) (subst (λ (x : WalkTree). Settles true x) at.2 h).1))
+      (lock-stands past steps.1 d (cuts-stand past steps.1 d) (Take l) steps.0.2 (λ v f. let g : Take l ≡ Settle v = f in cc)
+      (λ done note rest h. h))
       (cuts-stand past steps.1) c
   cuts-stand (entry.Free d l ∷ past) steps c =
       turned (entry.Free d l) past
-      (let at = first_is (current b asks (now b asks past) d) (Free l) steps.0.2 in
-      let before = cuts-stand past steps.1 in
-      lock-stands past steps.1 d (before d) (Free l) steps.0.2 (λ v f. let g : Free l ≡ Settle v = f in cc)
-      (subst (λ (x : WalkTree). NoSettle (rest_of x Passed)) (sym at.2)
-      (subst (λ (x : WalkTree). Settles (own past steps.1 d (before d)).done x) at.2 (own past steps.1 d (before d)).settles).0)
-      (λ h. subst (λ (x : WalkTree). Settles true (rest_of x Passed)) (sym at.2) (subst (λ (x : WalkTree). Settles true x) at.2 h).1))
+      (lock-stands past steps.1 d (cuts-stand past steps.1 d) (Free l) steps.0.2 (λ v f. let g : Free l ≡ Settle v = f in cc)
+      (λ done note rest h. h))
       (cuts-stand past steps.1) c
   cuts-stand (entry.Settle d r told ∷ past) steps c =
       turned (entry.Settle d r told) past (settle-stands past steps.1 d (cuts-stand past steps.1 d) steps.0.2 steps.0.3)

@@ -21,7 +21,7 @@ use Rattle.i2c_spec.specs.History.{Asks}
 use Rattle.bus_spec.specs.Walk.{Job, Call, Select, SwitchOff, Act, Take, Free, Send, Shift, Settle, Passed, Sent, Lined, Note, WalkTree, job_outcome, decides, verdict_of, message_of, is_last, is_line, nth_message}
 use Rattle.bus_spec.specs.Slots.{Slots}
 use Rattle.bus_spec.specs.Grammar.{walk_by, seen, is_over, first_act, first_note, rest_of}
-use Rattle.bus_spec.specs.Readings.{caller_of}
+use Rattle.bus_spec.specs.Readings.{OfMessage, caller_of}
 use Rattle.bus_spec.specs.Past.{Now, begun, current, now, step, cut_of, got_after}
 use Rattle.bus_spec.specs.Tells.{TellsMessage}
 use Rattle.bus_spec.specs.Stepwise.{May, IsNext, IsStepwise, reply_by}
@@ -462,18 +462,7 @@ module _ (b : BoardView) (asks : Asks) (some : AsksForMessages asks) (callers : 
       w = ahead b asks n c
 
       by : (job : Job) (left : ℕ) → IsNext b asks n c (Send job left)
-          → TellsMessage b n job left (record {
-            caller = c;
-            bus = bus;
-            purpose = why;
-            part = part;
-            parts = parts;
-            addr = addr;
-            reading = reading;
-            bytes = bytes;
-            heard = heard;
-            end = en;
-          })
+          → OfMessage (TellsMessage b n job left) (entry.Message c bus why part parts addr reading bytes heard en)
           → IsReading b (asks c) (rest_of (seen n.slot w) (Sent en bytes)) (n.settled c) (got_after job reading bytes (n.got c))
       by (Select h) left next tells =
           controlled b (asks c) n.slot w (n.settled c) (n.got c) is (Select h) left next (λ s ms f. let g : Select h ≡ Call s ms = f in

@@ -52,6 +52,33 @@ own_cut end.Refused own = refl
 own_cut end.Proto own = refl
 own_cut (end.Cut q) own = absurd own
 
+-- a message may come that tells its talk in the world of its root, and who hears it
+pub message-may : (b : BoardView) (callers : ℕ) (asks : Asks) (n : Now) (c : ℕ) (job : Job) (left : ℕ) (t : TalkTold World)
+    (heard : Option Node) → c < callers → n.due ≡ None → IsNext b asks n c (Send job left) → t ≡ talk_of b n job left t.end
+    → HearsIn (n.worlds (root_of b (job_bus job))) (message_of b job left).addr (message_of b job left).reading heard t.end
+    → May b callers asks n (entry.Message c (job_bus job) (job_purpose job) (part_of job left) (parts_of job)
+    (message_of b job left).addr (message_of b job left).reading t.bytes heard t.end)
+message-may b callers asks n c job left t heard known none next same hears = (
+  known,
+  none,
+  (
+    job,
+    left,
+    next,
+    record {
+      on_bus = refl;
+      for_purpose = refl;
+      as_part = refl;
+      of_parts = refl;
+      to_addr = refl;
+      in_direction = refl;
+      bytes_told = ap (λ (x : TalkTold World). x.bytes) same;
+      end_told = ap (λ (x : TalkTold World). x.end) same;
+      heard_told = hears;
+    },
+  ),
+)
+
 module _ (b : BoardView) (tree : IsTree b) (plain : IsPlainBoard b) (lines : LinesAreLocked b) (asks : Asks) (some : AsksForMessages asks)
     (callers : ℕ)
     (past : List Entry) (steps : IsStepwise b callers asks past) where
@@ -74,27 +101,9 @@ module _ (b : BoardView) (tree : IsTree b) (plain : IsPlainBoard b) (lines : Lin
         entry = entry.Message c (job_bus job) (job_purpose job) (part_of job left) (parts_of job) (message_of b job left).addr
             (message_of b job left).reading told.bytes heard told.end;
         own = refl;
-        may = (
-          known,
-          none,
-          (
-            job,
-            left,
-            next,
-            record {
-              on_bus = refl;
-              for_purpose = refl;
-              as_part = refl;
-              of_parts = refl;
-              to_addr = refl;
-              in_direction = refl;
-              bytes_told = ap (λ (t : TalkTold World). t.bytes) (sym same);
-              end_told = ap (λ (t : TalkTold World). t.end) (sym same);
-              heard_told = hears_own (n.worlds (root_of b (job_bus job))) (message_of b job left).addr
-                  (message_of b job left).reading heard told.end own hears;
-            },
-          ),
-        );
+        may = message-may b callers asks n c job left told heard known none next (sym same)
+            (hears_own (n.worlds (root_of b (job_bus job))) (message_of b job left).addr (message_of b job left).reading heard told.end own
+            hears);
       }
 
   -- a settle has the reply that its walk decides

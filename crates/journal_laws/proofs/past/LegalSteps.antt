@@ -11,6 +11,7 @@ use Rattle.i2c_base.specs.Board.{BoardView}
 use Rattle.i2c_base.specs.Transfer.{TransferView}
 use Rattle.i2c_spec.specs.TreeFacts.{IsTree}
 use Rattle.i2c_spec.specs.Plain.{IsPlainBoard}
+use Rattle.i2c_spec.specs.Rules.{MeetsRules}
 use Rattle.i2c_spec.specs.History.{Asks, History, history, one_more, with_told, changed_at}
 use Rattle.i2c_spec.specs.Flat.{flat}
 use Rattle.bus_spec.specs.Readings.{caller_of, replies, order, Everywhere}
@@ -23,6 +24,7 @@ use Rattle.bus_laws.proofs.past.StandsStep.{at_same, at_other}
 use Rattle.bus_laws.proofs.past.Laws.{past-stands, holder-told}
 use Rattle.bus_laws.proofs.past.Placed.{cut-told, settles-kept}
 use Rattle.journal_laws.specs.Layers.{BelongsTo}
+use Rattle.bus_laws.proofs.world.LineFacts.{lines-locked}
 use Rattle.flat_laws.proofs.device.Law.{replies-kept}
 use Rattle.journal_laws.proofs.past.Layers.{own_replies, other_replies, walks-tell, walks-due}
 use Rattle.journal_laws.proofs.past.Due.{IsDue, IsParted, due-told, tells-due, parts, stays-parted}
@@ -219,3 +221,18 @@ module _ (b : BoardView) (tree : IsTree b) (plain : IsPlainBoard b) (lines : Lin
       let steps : IsStepwise b callers asks (e ∷ past) = steps-front later (e ∷ past) (legal-steps (later ++ e ∷ past) legal) in
       legal-with b tree plain lines asks some callers past steps.1 (front-due e past steps apart)
       (replies-kept b tree plain lines asks some limits callers past steps.1)
+
+-- what each stepwise past keeps on an accepted board, each legal one keeps
+pub kept-by-both : (K : BoardView → Asks → List Entry → Type 0) → ((b : BoardView) → IsPlainBoard b → MeetsRules b → IsTree b)
+    → ((b : BoardView) → IsTree b → IsPlainBoard b → LinesAreLocked b → (asks : Asks) → AsksForMessages asks → (callers : ℕ)
+    (past : List Entry) → IsStepwise b callers asks past → K b asks past)
+    → ((b : BoardView) (callers : ℕ) (asks : Asks) (past : List Entry) → IsPlainBoard b → MeetsRules b → AsksForMessages asks
+    → IsStepwise b callers asks past → K b asks past)
+    × ((b : BoardView) (callers : ℕ) (asks : Asks) (past : List Entry) → IsPlainBoard b → MeetsRules b → AsksForMessages asks
+    → AsksWithinLimits asks → IsLegal b callers asks past → K b asks past)
+kept-by-both K trees kept = (
+  λ b callers asks past plain rules some. kept b (trees b plain rules) plain (lines-locked b rules) asks some callers past,
+  λ b callers asks past plain rules some limits legal. (let tree = trees b plain rules in
+      kept b tree plain (lines-locked b rules) asks some callers past
+      (legal-steps b tree plain (lines-locked b rules) asks some limits callers past legal)),
+)

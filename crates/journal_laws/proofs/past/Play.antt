@@ -41,6 +41,7 @@ use Rattle.bus_laws.specs.Next.{who_hears, chip_where}
 use Rattle.bus_laws.proofs.past.Next.{call-reaches, control-switches}
 use Rattle.bus_laws.proofs.past.Ready.{takes-below}
 use Rattle.journal_laws.specs.Layers.{FailsAs}
+use Rattle.journal_laws.proofs.past.GoesOn.{message-may}
 use Rattle.journal_laws.proofs.past.Due.{due-told, due-known, due-settles}
 use Rattle.i2c_spec.proofs.MessageLemmas.{is_it-some}
 use Rattle.std.proofs.lemmas.Option.{same_Some}
@@ -304,27 +305,10 @@ module _ (b : BoardView) (tree : IsTree b) (plain : IsPlainBoard b) (lines : Lin
         let hears = one_hears c job left next in
         let same : t ≡ talk_of b n job left t.end =
         is ∙ talk-told (block_limit b) (n.worlds (root_of b (job_bus job))) (message_of b job left) (is_last job left) cut
-        ∙ ap (λ (x : TalkTold World). talk_of b n job left x.end) (sym is) in (
-          known,
-          none,
-          (
-            job,
-            left,
-            next,
-            record {
-              on_bus = refl;
-              for_purpose = refl;
-              as_part = refl;
-              of_parts = refl;
-              to_addr = refl;
-              in_direction = refl;
-              bytes_told = ap (λ (x : TalkTold World). x.bytes) same;
-              end_told = ap (λ (x : TalkTold World). x.end) same;
-              heard_told = hears-in (n.worlds (root_of b (job_bus job))) (message_of b job left).addr
-                  (message_of b job left).reading hears.0 t.end hears.1;
-            },
-          ),
-        )
+        ∙ ap (λ (x : TalkTold World). talk_of b n job left x.end) (sym is) in
+        message-may b callers asks n c job left t (heard_in (hearers (n.worlds (root_of b (job_bus job))) (message_of b job left).addr
+        (message_of b job left).reading) t.end) known none next same
+        (hears-in (n.worlds (root_of b (job_bus job))) (message_of b job left).addr (message_of b job left).reading hears.0 t.end hears.1)
 
     pub play-may : (c : ℕ) (e : Entry) → c < callers → (n.due ≡ None) ⊎ (n.due ≡ Some c) → next_entry b asks fails n c ≡ Some e
         → May b callers asks n e
@@ -502,20 +486,8 @@ module _ (b : BoardView) (asks : Asks) (callers : ℕ) (n : Now) (fails : Failin
       ∙ ap (λ (f : Bool). Some (entry.Line c mux level f))
       (subst (λ (o : Option Act). FailsAs b fails n o (entry.Line c mux level failed)) may.2.1 so)
   may-plays (entry.Message c bus purpose part parts addr reading bytes heard x) may so =
-      let m : MessageEntry = record {
-        caller = c;
-        bus = bus;
-        purpose = purpose;
-        part = part;
-        parts = parts;
-        addr = addr;
-        reading = reading;
-        bytes = bytes;
-        heard = heard;
-        end = x;
-      } in
       adds_next c (Send may.2.0 may.2.1) may.2.2
-      ∙ ap Some (same_message may.2.0 may.2.1 m may.2.3
+      ∙ ap Some (same_message may.2.0 may.2.1 _ may.2.3
       (subst (λ (o : Option Act). FailsAs b fails n o (entry.Message c bus purpose part parts addr reading bytes heard x)) may.2.2 so))
   may-plays (entry.Settle c r cut) may so =
       adds_next c (Settle may.2) may.3

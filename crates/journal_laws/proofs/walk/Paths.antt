@@ -406,33 +406,23 @@ module _ (on : Doer) (rule : Rule) (keeps : Keeps on rule) where
       (keeps.leads job note kept.done out kept.job_done (left_behind h.stays h on k))
       (leads-left h.stays h out kept.deselected kept.left k))
 
+  -- where nothing more is done, the walk goes on with how it ended
+  splits-nothing : (o : JobOutcome) → Splits (λ k. k o) (λ rest out. (rest ≡ []) × (out ≡ o))
+  splits-nothing o k steps path = record {
+    out = o;
+    done = [];
+    rest = steps;
+    all = refl;
+    kept = (refl, refl);
+    goes_on = path;
+  }
+
   splits-if_good : (o : JobOutcome) (A : Task) (P : List PathStep → JobOutcome → Type 0) → Splits A P
       → Splits (λ k. if_good o (A k) k) (λ rest out. IfGood o (P rest out) rest out)
   splits-if_good Good A P a = a
-  splits-if_good Refused A P a = λ k steps path. record {
-    out = Unsent;
-    done = [];
-    rest = steps;
-    all = refl;
-    kept = (refl, refl);
-    goes_on = path;
-  }
-  splits-if_good Unsent A P a = λ k steps path. record {
-    out = Unsent;
-    done = [];
-    rest = steps;
-    all = refl;
-    kept = (refl, refl);
-    goes_on = path;
-  }
-  splits-if_good Failed A P a = λ k steps path. record {
-    out = Failed;
-    done = [];
-    rest = steps;
-    all = refl;
-    kept = (refl, refl);
-    goes_on = path;
-  }
+  splits-if_good Refused A P a = splits-nothing Unsent
+  splits-if_good Unsent A P a = splits-nothing Unsent
+  splits-if_good Failed A P a = splits-nothing Failed
 
   nothing_more : (o : JobOutcome) (rest : List PathStep) (out : JobOutcome) (k : JobOutcome → WalkTree) → (rest ≡ []) × (out ≡ o)
       → IsPath rest (k o) (k out)
@@ -449,22 +439,8 @@ module _ (on : Doer) (rule : Rule) (keeps : Keeps on rule) where
       → Splits (λ k. if_sent o (A k) k) (λ rest out. IfSent o (P rest out) rest out)
   splits-if_sent Good A P a = a
   splits-if_sent Refused A P a = a
-  splits-if_sent Unsent A P a = λ k steps path. record {
-    out = Unsent;
-    done = [];
-    rest = steps;
-    all = refl;
-    kept = (refl, refl);
-    goes_on = path;
-  }
-  splits-if_sent Failed A P a = λ k steps path. record {
-    out = Failed;
-    done = [];
-    rest = steps;
-    all = refl;
-    kept = (refl, refl);
-    goes_on = path;
-  }
+  splits-if_sent Unsent A P a = splits-nothing Unsent
+  splits-if_sent Failed A P a = splits-nothing Failed
 
   leads-if_sent : (o : JobOutcome) (A : Task) (P : List PathStep → JobOutcome → Type 0) → Leads A P
       → Leads (λ k. if_sent o (A k) k) (λ rest out. IfSent o (P rest out) rest out)

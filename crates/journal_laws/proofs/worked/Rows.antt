@@ -20,18 +20,20 @@ use Rattle.flat_laws.proofs.device.Law.{replies-kept}
 use Rattle.flat_laws.proofs.past.Ends.{complete-then}
 use Rattle.flat_laws.proofs.past.Legal.{legal-with}
 use Rattle.journal_laws.proofs.past.Play.{played-steps}
+use Rattle.journal_laws.proofs.worked.Boards.{IsAccepted}
 use Rattle.journal_laws.proofs.worked.Checks.{all-below, asks-each, follows_words, follows}
 
 abbrev pub IsAskable : TransferView → Type 0
 IsAskable t = (0 < length t.msgs) × IsTransfer t.msgs t.out
 
-pub worked-out : (b : BoardView) → IsTree b → IsPlainBoard b → MeetsRules b → (scripts : List (List TransferView))
+pub worked-out : (b : BoardView) → ((b : BoardView) → IsPlainBoard b → MeetsRules b → IsTree b) → IsAccepted b
+    → (scripts : List (List TransferView))
     → AllByRecursion (AllByRecursion IsAskable) scripts
     → (fails : Failing) (steps : List ℕ) → list_all (λ c. nat_lt c (length scripts)) steps ≡ true → (journal : List Entry)
     → played b (transfers_of scripts) fails steps ≡ journal
     → ((c : ℕ) → c < length scripts → IsDone (transfers_of scripts) (now b (transfers_of scripts) (reverse journal)) c)
     → (words : List ℕ) → follows_words words [] (turns journal) ≡ true → IsWorkedOut b scripts words journal
-worked-out b tree plain rules scripts askable fails steps known journal is done words so =
+worked-out b trees accepted scripts askable fails steps known journal is done words so =
     record {
       legal = legal-with b tree plain lines (transfers_of scripts) some (length scripts) (reverse journal) made.0 made.1
           (replies-kept b tree plain lines (transfers_of scripts) some limits (length scripts) (reverse journal) made.0);
@@ -39,8 +41,14 @@ worked-out b tree plain rules scripts askable fails steps known journal is done 
       follows = follows words journal so;
     }
   where
+    plain : IsPlainBoard b
+    plain = accepted.0
+
+    tree : IsTree b
+    tree = trees b plain accepted.1
+
     lines : LinesAreLocked b
-    lines = lines-locked b rules
+    lines = lines-locked b accepted.1
 
     some : AsksForMessages (transfers_of scripts)
     some c rs t e = (asks-each IsAskable scripts askable c rs t e).0

@@ -1,15 +1,9 @@
-use Rattle.bus_laws.proofs.world.LineFacts.{lines-locked}
+use Rattle.journal_laws.specs.Faulty.{KeepsCuts}
 use Rattle.journal_laws.proofs.past.Cuts.{cuts-kept}
-use Rattle.journal_laws.proofs.past.LegalSteps.{legal-steps}
+use Rattle.journal_laws.proofs.past.LegalSteps.{kept-by-both}
 use Rattle.journal_laws.proofs.faulty.a_cut_is_of_a_step_on_the_way.Goals as goal
 
 pub returns : goal.returns
 returns c =
-    record {
-      stepwise = λ b callers asks past plain rules some.
-          cuts-kept b (c.an_accepted_board_is_a_tree.ensures b plain rules) plain (lines-locked b rules) asks some callers past;
-      legal = λ b callers asks past plain rules some limits legal.
-          (let tree = c.an_accepted_board_is_a_tree.ensures b plain rules in
-          cuts-kept b tree plain (lines-locked b rules) asks some callers past
-          (legal-steps b tree plain (lines-locked b rules) asks some limits callers past legal));
-    }
+    (let kept = kept-by-both KeepsCuts c.an_accepted_board_is_a_tree.ensures cuts-kept in
+    record { stepwise = kept.0; legal = kept.1 })

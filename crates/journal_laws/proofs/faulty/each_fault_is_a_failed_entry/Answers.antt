@@ -1,15 +1,12 @@
-use Rattle.bus_laws.proofs.world.LineFacts.{lines-locked}
+use Rattle.std.specs.Prelude.{◌≡◌, ℕ}
+use Rattle.bus_spec.specs.Past.{calls_of}
+use Rattle.journal_laws.specs.Counts.{failed_on, faults_in}
 use Rattle.journal_laws.proofs.past.Counts.{counts-kept}
-use Rattle.journal_laws.proofs.past.LegalSteps.{legal-steps}
+use Rattle.journal_laws.proofs.past.LegalSteps.{kept-by-both}
 use Rattle.journal_laws.proofs.faulty.each_fault_is_a_failed_entry.Goals as goal
 
 pub returns : goal.returns
 returns c =
-    record {
-      stepwise = λ b callers asks past plain rules some.
-          counts-kept b (c.an_accepted_board_is_a_tree.ensures b plain rules) plain (lines-locked b rules) asks some callers past;
-      legal = λ b callers asks past plain rules some limits legal.
-          (let tree = c.an_accepted_board_is_a_tree.ensures b plain rules in
-          counts-kept b tree plain (lines-locked b rules) asks some callers past
-          (legal-steps b tree plain (lines-locked b rules) asks some limits callers past legal));
-    }
+    (let kept = kept-by-both (λ b asks past. (r : ℕ) → faults_in (calls_of b asks past r) ≡ failed_on b r past)
+    c.an_accepted_board_is_a_tree.ensures counts-kept in
+    record { stepwise = kept.0; legal = kept.1 })

@@ -1,18 +1,17 @@
+use Rattle.std.specs.Prelude.{◌≤◌}
 use Rattle.bus_laws.proofs.world.LineFacts.{lines-locked}
+use Rattle.journal_laws.specs.Counts.{failures, remotes}
 use Rattle.journal_laws.proofs.past.Remotes.{remotes-counted, remotes-faults}
-use Rattle.journal_laws.proofs.past.LegalSteps.{legal-steps}
+use Rattle.journal_laws.proofs.past.LegalSteps.{kept-by-both}
 use Rattle.journal_laws.proofs.faulty.one_failure_fails_one_reply_at_most.Goals as goal
 
 pub returns : goal.returns
 returns c =
+    (let kept = kept-by-both (λ b asks past. remotes past ≤ failures past) c.an_accepted_board_is_a_tree.ensures
+    (λ b tree plain lines asks some callers past steps. (remotes-counted b tree plain lines asks some callers past steps).counted) in
     record {
-      stepwise = λ b callers asks past plain rules some steps.
-          (remotes-counted b (c.an_accepted_board_is_a_tree.ensures b plain rules) plain
-          (lines-locked b rules) asks some callers past steps).counted;
+      stepwise = kept.0;
       faults = λ b callers asks past plain rules some.
           remotes-faults b (c.an_accepted_board_is_a_tree.ensures b plain rules) plain (lines-locked b rules) asks some callers past;
-      legal = λ b callers asks past plain rules some limits legal.
-          (let tree = c.an_accepted_board_is_a_tree.ensures b plain rules in
-          (remotes-counted b tree plain (lines-locked b rules) asks some callers past
-          (legal-steps b tree plain (lines-locked b rules) asks some limits callers past legal)).counted);
-    }
+      legal = kept.1;
+    })

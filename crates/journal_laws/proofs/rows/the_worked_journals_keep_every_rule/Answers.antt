@@ -4,7 +4,7 @@ use Rattle.bus_spec.specs.Past.{now}
 use Rattle.bus_spec.specs.Play.{played, transfers_of, none_fails, fails_at}
 use Rattle.bus_spec.specs.Rows as row
 use Rattle.flat_laws.specs.Ends.{IsDone}
-use Rattle.journal_laws.proofs.worked.Boards.{mux-locked-plain, mux-locked-rules, parent-locked-plain, parent-locked-rules, absent-inner-plain, absent-inner-rules, absent-outer-plain, absent-outer-rules, chain-plain, chain-rules, arbitrator-plain, arbitrator-rules, keeping-plain, keeping-rules, three-beside-plain, three-beside-rules, read-within}
+use Rattle.journal_laws.proofs.worked.Boards.{mux-locked, parent-locked, keeping, absent-inner, absent-outer, chain, arbitrator, three-beside, read-within}
 use Rattle.journal_laws.proofs.worked.Checks.{only-one, only-two}
 use Rattle.journal_laws.proofs.worked.Rows.{IsAskable, worked-out}
 use Rattle.journal_laws.proofs.rows.the_worked_journals_keep_every_rule.Goals as goal
@@ -15,8 +15,7 @@ asked bus addr reg small = (omega arith, read-within bus addr reg small)
 pub returns : goal.returns
 returns c =
     record {
-      mux_locked = worked-out row.mux_locked
-          (c.an_accepted_board_is_a_tree.ensures row.mux_locked mux-locked-plain mux-locked-rules) mux-locked-plain mux-locked-rules
+      mux_locked = worked-out row.mux_locked c.an_accepted_board_is_a_tree.ensures mux-locked
           ((row.read 1 0x30 0 ∷ []) ∷ (row.read 0 0x20 5 ∷ []) ∷ [])
           (((asked 1 0x30 0 (omega arith)), tt), (((asked 0 0x20 5 (omega arith)), tt), tt))
           none_fails (replicate 4 0 ++ replicate 4 1 ++ replicate 9 0) refl row.mux_locked_journal
@@ -25,8 +24,7 @@ returns c =
           (now row.mux_locked (transfers_of ((row.read 1 0x30 0 ∷ []) ∷ (row.read 0 0x20 5 ∷ []) ∷ []))
           (reverse row.mux_locked_journal))) (refl, refl) (refl, refl)) (replicate 4 0 ++ replicate 4 1) refl;
       parent_locked = worked-out row.parent_locked
-          (c.an_accepted_board_is_a_tree.ensures row.parent_locked parent-locked-plain parent-locked-rules) parent-locked-plain
-          parent-locked-rules ((row.read 1 0x30 0 ∷ []) ∷ (row.read 0 0x20 5 ∷ []) ∷ [])
+          c.an_accepted_board_is_a_tree.ensures parent-locked ((row.read 1 0x30 0 ∷ []) ∷ (row.read 0 0x20 5 ∷ []) ∷ [])
           (((asked 1 0x30 0 (omega arith)), tt), (((asked 0 0x20 5 (omega arith)), tt), tt))
           none_fails (replicate 4 0 ++ replicate 4 1 ++ replicate 4 0 ++ replicate 4 1) refl row.parent_locked_journal
           c.a_parent_locked_read_lets_nobody_in.ensures
@@ -34,50 +32,46 @@ returns c =
           (now row.parent_locked (transfers_of ((row.read 1 0x30 0 ∷ []) ∷ (row.read 0 0x20 5 ∷ []) ∷ []))
           (reverse row.parent_locked_journal))) (refl, refl) (refl, refl)) (replicate 4 0 ++ replicate 4 1) refl;
       absent_inner = worked-out row.absent_inner
-          (c.an_accepted_board_is_a_tree.ensures row.absent_inner absent-inner-plain absent-inner-rules) absent-inner-plain
-          absent-inner-rules ((row.read 9 0x20 0 ∷ []) ∷ []) (((asked 9 0x20 0 (omega arith)), tt), tt)
+          c.an_accepted_board_is_a_tree.ensures absent-inner ((row.read 9 0x20 0 ∷ []) ∷ []) (((asked 9 0x20 0 (omega arith)), tt), tt)
           none_fails (replicate 12 0) refl row.absent_inner_journal c.an_absent_inner_mux_settles_at_its_select.ensures
           (only-one (IsDone (transfers_of ((row.read 9 0x20 0 ∷ []) ∷ []))
           (now row.absent_inner (transfers_of ((row.read 9 0x20 0 ∷ []) ∷ [])) (reverse row.absent_inner_journal))) (refl, refl))
           ([]) refl;
       found_free = worked-out (row.arbitrator 7)
-          (c.an_accepted_board_is_a_tree.ensures (row.arbitrator 7) (arbitrator-plain 7 (omega arith)) (arbitrator-rules 7))
-          (arbitrator-plain 7 (omega arith)) (arbitrator-rules 7) ((row.read 1 0x20 5 ∷ []) ∷ []) (((asked 1 0x20 5 (omega arith)), tt), tt)
+          c.an_accepted_board_is_a_tree.ensures (arbitrator 7 (omega arith)) ((row.read 1 0x20 5 ∷ []) ∷ [])
+          (((asked 1 0x20 5 (omega arith)), tt), tt)
           none_fails (replicate 20 0) refl row.arbitrator_journal c.an_arbitrator_is_found_free_at_the_eighth_poll.ensures
           (only-one (IsDone (transfers_of ((row.read 1 0x20 5 ∷ []) ∷ []))
           (now (row.arbitrator 7) (transfers_of ((row.read 1 0x20 5 ∷ []) ∷ [])) (reverse row.arbitrator_journal))) (refl, refl))
           ([]) refl;
       held = worked-out (row.arbitrator 8)
-          (c.an_accepted_board_is_a_tree.ensures (row.arbitrator 8) (arbitrator-plain 8 (omega arith)) (arbitrator-rules 8))
-          (arbitrator-plain 8 (omega arith)) (arbitrator-rules 8) ((row.read 1 0x20 5 ∷ []) ∷ []) (((asked 1 0x20 5 (omega arith)), tt), tt)
+          c.an_accepted_board_is_a_tree.ensures (arbitrator 8 (omega arith)) ((row.read 1 0x20 5 ∷ []) ∷ [])
+          (((asked 1 0x20 5 (omega arith)), tt), tt)
           none_fails (replicate 20 0) refl row.held_journal c.a_held_arbitrator_is_given_up_after_eight_polls.ensures
           (only-one (IsDone (transfers_of ((row.read 1 0x20 5 ∷ []) ∷ []))
           (now (row.arbitrator 8) (transfers_of ((row.read 1 0x20 5 ∷ []) ∷ [])) (reverse row.held_journal))) (refl, refl)) ([]) refl;
       failed_deselect = worked-out row.parent_locked
-          (c.an_accepted_board_is_a_tree.ensures row.parent_locked parent-locked-plain parent-locked-rules) parent-locked-plain
-          parent-locked-rules ((row.read 1 0x30 0 ∷ row.read 2 0x31 0 ∷ []) ∷ [])
+          c.an_accepted_board_is_a_tree.ensures parent-locked ((row.read 1 0x30 0 ∷ row.read 2 0x31 0 ∷ []) ∷ [])
           (((asked 1 0x30 0 (omega arith)), ((asked 2 0x31 0 (omega arith)), tt)), tt)
           (fails_at 0 10) (replicate 20 0) refl row.failed_deselect_journal c.a_failed_deselect_is_mended_by_a_close.ensures
           (only-one (IsDone (transfers_of ((row.read 1 0x30 0 ∷ row.read 2 0x31 0 ∷ []) ∷ []))
           (now row.parent_locked (transfers_of ((row.read 1 0x30 0 ∷ row.read 2 0x31 0 ∷ []) ∷ []))
           (reverse row.failed_deselect_journal))) (refl, refl)) ([]) refl;
       failed_close = worked-out row.parent_locked
-          (c.an_accepted_board_is_a_tree.ensures row.parent_locked parent-locked-plain parent-locked-rules) parent-locked-plain
-          parent-locked-rules ((row.read 1 0x30 0 ∷ row.read 2 0x31 0 ∷ []) ∷ [])
+          c.an_accepted_board_is_a_tree.ensures parent-locked ((row.read 1 0x30 0 ∷ row.read 2 0x31 0 ∷ []) ∷ [])
           (((asked 1 0x30 0 (omega arith)), ((asked 2 0x31 0 (omega arith)), tt)), tt)
           row.fails_twice (replicate 20 0) refl row.failed_close_journal c.a_failed_close_fails_its_transfer.ensures
           (only-one (IsDone (transfers_of ((row.read 1 0x30 0 ∷ row.read 2 0x31 0 ∷ []) ∷ []))
           (now row.parent_locked (transfers_of ((row.read 1 0x30 0 ∷ row.read 2 0x31 0 ∷ []) ∷ [])) (reverse row.failed_close_journal)))
           (refl, refl)) ([]) refl;
       two_marks = worked-out row.absent_outer
-          (c.an_accepted_board_is_a_tree.ensures row.absent_outer absent-outer-plain absent-outer-rules) absent-outer-plain
-          absent-outer-rules ((row.read 9 0x20 0 ∷ row.read 9 0x20 0 ∷ []) ∷ [])
+          c.an_accepted_board_is_a_tree.ensures absent-outer ((row.read 9 0x20 0 ∷ row.read 9 0x20 0 ∷ []) ∷ [])
           (((asked 9 0x20 0 (omega arith)), ((asked 9 0x20 0 (omega arith)), tt)), tt)
           (fails_at 0 0) (replicate 20 0) refl row.two_marks_journal c.a_failed_way_marks_both_muxes.ensures
           (only-one (IsDone (transfers_of ((row.read 9 0x20 0 ∷ row.read 9 0x20 0 ∷ []) ∷ []))
           (now row.absent_outer (transfers_of ((row.read 9 0x20 0 ∷ row.read 9 0x20 0 ∷ []) ∷ [])) (reverse row.two_marks_journal)))
           (refl, refl)) ([]) refl;
-      failed_way = worked-out row.chain (c.an_accepted_board_is_a_tree.ensures row.chain chain-plain chain-rules) chain-plain chain-rules
+      failed_way = worked-out row.chain c.an_accepted_board_is_a_tree.ensures chain
           ((row.read 13 0x40 0 ∷ []) ∷ []) (((asked 13 0x40 0 (omega arith)), tt), tt)
           (fails_at 0 18) (replicate 60 0) refl
           (played row.chain (transfers_of ((row.read 13 0x40 0 ∷ []) ∷ [])) (fails_at 0 18) (replicate 60 0)) refl
@@ -85,18 +79,15 @@ returns c =
           (now row.chain (transfers_of ((row.read 13 0x40 0 ∷ []) ∷ []))
           (reverse (played row.chain (transfers_of ((row.read 13 0x40 0 ∷ []) ∷ [])) (fails_at 0 18) (replicate 60 0))))) (refl, refl))
           ([]) refl;
-      kept = worked-out (row.keeping row.parent)
-          (c.an_accepted_board_is_a_tree.ensures (row.keeping row.parent) keeping-plain keeping-rules) keeping-plain keeping-rules
+      kept = worked-out (row.keeping row.parent) c.an_accepted_board_is_a_tree.ensures keeping
           ((row.read 1 0x30 0 ∷ row.read 1 0x30 0 ∷ row.read 2 0x31 0 ∷ []) ∷ [])
           (((asked 1 0x30 0 (omega arith)), ((asked 1 0x30 0 (omega arith)), ((asked 2 0x31 0 (omega arith)), tt))), tt)
           none_fails (replicate 24 0) refl row.kept_journal c.a_kept_channel_is_not_selected_again.ensures
           (only-one (IsDone (transfers_of ((row.read 1 0x30 0 ∷ row.read 1 0x30 0 ∷ row.read 2 0x31 0 ∷ []) ∷ []))
           (now (row.keeping row.parent) (transfers_of ((row.read 1 0x30 0 ∷ row.read 1 0x30 0 ∷ row.read 2 0x31 0 ∷ []) ∷ []))
           (reverse row.kept_journal))) (refl, refl)) ([]) refl;
-      beside = worked-out row.three_beside
-          (c.an_accepted_board_is_a_tree.ensures row.three_beside three-beside-plain three-beside-rules) three-beside-plain
-          three-beside-rules ((row.read 1 0x30 0 ∷ row.read 9 0x31 0 ∷ row.read 13 0x32 0 ∷ row.read 1 0x30 0 ∷ row.read 9 0x30 0 ∷ []) ∷
-          []) (
+      beside = worked-out row.three_beside c.an_accepted_board_is_a_tree.ensures three-beside
+          ((row.read 1 0x30 0 ∷ row.read 9 0x31 0 ∷ row.read 13 0x32 0 ∷ row.read 1 0x30 0 ∷ row.read 9 0x30 0 ∷ []) ∷ []) (
             (
               (asked 1 0x30 0 (omega arith)),
               (
@@ -112,8 +103,7 @@ returns c =
           (now row.three_beside (transfers_of
           ((row.read 1 0x30 0 ∷ row.read 9 0x31 0 ∷ row.read 13 0x32 0 ∷ row.read 1 0x30 0 ∷ row.read 9 0x30 0 ∷ []) ∷ []))
           (reverse row.beside_journal))) (refl, refl)) ([]) refl;
-      forgotten = worked-out (row.keeping row.parent)
-          (c.an_accepted_board_is_a_tree.ensures (row.keeping row.parent) keeping-plain keeping-rules) keeping-plain keeping-rules
+      forgotten = worked-out (row.keeping row.parent) c.an_accepted_board_is_a_tree.ensures keeping
           ((row.read 1 0x30 0 ∷ row.read 2 0x31 0 ∷ row.read 1 0x30 0 ∷ []) ∷ [])
           (((asked 1 0x30 0 (omega arith)), ((asked 2 0x31 0 (omega arith)), ((asked 1 0x30 0 (omega arith)), tt))), tt)
           (fails_at 0 9) (replicate 30 0) refl row.forgotten_journal c.a_failed_select_forgets_the_channel.ensures

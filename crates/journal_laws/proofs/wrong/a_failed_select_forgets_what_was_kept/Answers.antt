@@ -1,15 +1,10 @@
-use Rattle.std.proofs.Common.{◌≡◌, true, false, [], ◌∷◌, None, Some, ap}
+use Rattle.std.proofs.Common.{◌≡◌, true, [], Some, ap}
 use Rattle.i2c_base.specs.declared.board.MuxKind.TheVariants.{Pca9548}
-use Rattle.i2c_base.specs.declared.entry.End.TheVariants as end
 use Rattle.i2c_base.specs.declared.entry.Purpose.TheVariants as purpose
-use Rattle.i2c_base.specs.declared.ids.Node.TheVariants.{Device}
-use Rattle.bus_spec.specs.Readings.{MessageEntry}
-use Rattle.bus_spec.specs.Past.{now}
 use Rattle.bus_spec.specs.Legal.{steps_in}
-use Rattle.journal_laws.proofs.past.Follow.{Head, walks-follow, head_in, head_by, head-told}
-use Rattle.bus_spec.specs.Rows as row
+use Rattle.journal_laws.proofs.past.Follow.{Head, walks-follow, head-told}
 use Rattle.bus_spec.specs.Walk.{Select, SwitchOff, Close, Send}
-use Rattle.journal_laws.specs.Wrong.{kept_board, keep_asks, behind_a_failed_select, kept_over_the_mark, kept_over_the_close}
+use Rattle.journal_laws.specs.Wrong.{kept_board, keep_asks, kept_over_the_mark, kept_over_the_close}
 use Rattle.journal_laws.proofs.wrong.a_failed_select_forgets_what_was_kept.Goals as goal
 
 pub returns : goal.returns
@@ -19,39 +14,11 @@ returns c =
           (let steps = walks-follow kept_board (keep_asks 0) [] (steps_in kept_board keep_asks 0 kept_over_the_mark) (legal.walks 0) in
           let told = steps.1.1.1.1.1.1.1.1.1.1.1.1.1.1.1.1.0 in
           let next = Some (Send (SwitchOff (Close 0 0 Pca9548)) 0) in
-          let m : MessageEntry = record {
-            caller = 0;
-            bus = 1;
-            purpose = purpose.Call;
-            part = 1;
-            parts = 2;
-            addr = 0x30;
-            reading = false;
-            bytes = 0 ∷ [];
-            heard = Some (Device 1);
-            end = end.Ok;
-          } in
-          let same : head_in m ≡ head_by kept_board next = head-told kept_board
-          (now kept_board keep_asks behind_a_failed_select) next told.0 told.1 m told.2 told.3 in
-          let f : purpose.Call ≡ purpose.Control 0 = ap (λ (h : Head). h.purpose) same in cc);
+          let f : purpose.Call ≡ purpose.Control 0 = ap (λ (h : Head). h.purpose) (head-told _ _ next told.0 told.1 _ told.2 told.3) in cc);
       close = λ callers legal.
           (let steps = walks-follow kept_board (keep_asks 0) [] (steps_in kept_board keep_asks 0 kept_over_the_close) (legal.walks 0) in
           let told = steps.1.1.1.1.1.1.1.1.1.1.1.1.1.1.1.1.1.0 in
           let next = Some (Send (Select (record { bus = 1; mux = 0; channel = 0; on = 0; parent = true; stays = true; kind = Pca9548 })) 0)
           in
-          let m : MessageEntry = record {
-            caller = 0;
-            bus = 1;
-            purpose = purpose.Call;
-            part = 1;
-            parts = 2;
-            addr = 0x30;
-            reading = false;
-            bytes = [];
-            heard = None;
-            end = end.Nack;
-          } in
-          let same : head_in m ≡ head_by kept_board next = head-told kept_board
-          (now kept_board keep_asks (row.control 0 0 0 0x70 0 ∷ behind_a_failed_select)) next told.0 told.1 m told.2 told.3 in
-          let f : purpose.Call ≡ purpose.Control 0 = ap (λ (h : Head). h.purpose) same in cc);
+          let f : purpose.Call ≡ purpose.Control 0 = ap (λ (h : Head). h.purpose) (head-told _ _ next told.0 told.1 _ told.2 told.3) in cc);
     }
