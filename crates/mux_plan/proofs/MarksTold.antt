@@ -18,9 +18,9 @@ module _ (b : BoardView) (ms : List MessageView) (c : RouteView) (out : JobOutco
   updates-lock m n w ts = by (drop m c.path)
     where
       by : (hs : List Hop)
-          → updates_after (first_act (locked (locks_of c.root hs) (inner b c.root (drop n c.path)) (job_of c ms w) (note_of ts)
+          → updates_after (first_act (locked (locks_of c.root hs) (inner b c.root (drop n c.path)) (job_of c ms w) (note_of c ts)
           (tree_of b ms c ts)))
-          (first_note (locked (locks_of c.root hs) (inner b c.root (drop n c.path)) (job_of c ms w) (note_of ts) (tree_of b ms c ts))) o
+          (first_note (locked (locks_of c.root hs) (inner b c.root (drop n c.path)) (job_of c ms w) (note_of c ts) (tree_of b ms c ts))) o
           ≡ []
       by [] = refl
       by (g ∷ hs) = refl
@@ -34,11 +34,11 @@ module _ (b : BoardView) (ms : List MessageView) (c : RouteView) (out : JobOutco
   updates-other (Rest left w) ts step no_message no_line = absurd (no_message left w refl)
   updates-other (Line w) ts step no_message no_line = absurd (no_line w refl)
   updates-other (Settle x) ts step no_message no_line = refl
-  updates-other (AwaitClose n g m w) ts step no_message no_line = absurd step
-  updates-other (Pass n g w) ts step no_message no_line = absurd step
-  updates-other (AwaitSelect n g w) ts step no_message no_line = absurd step
-  updates-other (AwaitWork n g) ts step no_message no_line = absurd step
-  updates-other (AwaitDeselect g was) ts step no_message no_line = absurd step
+  updates-other (AwaitClose k m w) ts step no_message no_line = absurd step
+  updates-other (Pass k w) ts step no_message no_line = absurd step
+  updates-other (AwaitSelect k w) ts step no_message no_line = absurd step
+  updates-other (AwaitWork k) ts step no_message no_line = absurd step
+  updates-other (AwaitDeselect k was) ts step no_message no_line = absurd step
 
   pub no-updates : (stack : List Task) (t : Task) (ts : List Task) → stack ≡ t ∷ ts → IsStep stack
       → ((left : ℕ) (w : Work) → t ≡ Rest left w → ⊥) → ((w : Work) → t ≡ Line w → ⊥)

@@ -1,6 +1,6 @@
 -- Opening a task changes the stack and not its tree: both sides compute to the same, but for the path and the lock mode.
-use Rattle.std.proofs.Common.{◌≡◌, ℕ, zero, suc, ◌+◌, ◌==◌, ◌&&◌, Bool, true, false, cond, not, List, [], ◌∷◌, drop, Option, Some, None, refl, sym, ◌∙◌, ap, arith, ◌⊎◌, inl, inr}
-use Rattle.std.proofs.lemmas.List.{drop-drop}
+use Rattle.std.proofs.Common.{◌≡◌, ℕ, zero, suc, ◌+◌, ◌<◌, ◌==◌, ◌&&◌, Bool, true, false, cond, not, List, [], ◌∷◌, length, drop, Option, Some, None, refl, sym, ◌∙◌, ap, arith, ◌⊎◌, inl, inr}
+use Rattle.std.proofs.lemmas.List.{drop-drop, drop_more}
 use Rattle.std.proofs.Math.Path.{fun_ext}
 use Rattle.std.specs.List.{list_any}
 use Rattle.i2c_base.specs.declared.errno.Errno.{Errno}
@@ -15,7 +15,7 @@ use Rattle.mux_plan.specs.declared.task.Work.{Work}
 use Rattle.mux_plan.specs.declared.task.Work.TheVariants as work
 use Rattle.mux_plan.specs.declared.task.Task.{Task}
 use Rattle.mux_plan.specs.declared.task.Task.TheVariants.{Enter, Lock, Free, Rest, Line, Settle, AwaitClose, Pass, AwaitSelect, AwaitWork, AwaitDeselect}
-use Rattle.mux_plan.specs.Plans.{RouteView, job_of, note_of, on_bus, tree_of, part_task, SeenView, mark_on, kept_of, choice_of, switch_of, select_tasks, wait_tasks, work_tasks, first_lock, locks_on, is_deselect, slot_of, slots_of, first_at, crossed_tasks}
+use Rattle.mux_plan.specs.Plans.{RouteView, no_hop, hop_at, job_of, note_of, on_bus, tree_of, part_task, SeenView, mark_on, kept_of, choice_of, switch_of, select_tasks, wait_tasks, work_tasks, first_lock, locks_on, is_deselect, slot_of, slots_of, crossed_tasks}
 use Rattle.mux_plan.specs.Rooms.{IsStep, IsReady}
 
 -- the mark that is told is the one that is seen
@@ -32,18 +32,22 @@ keeps_stays h (Some c) e = by h.stays refl e
     by true is both = is
     by false is both = cc
 
--- what comes first at a mux, and what waits for it, by what is told
-abbrev pub next_in : BoardView → SeenView → Hop → Work → Work
-next_in b s h w = switch_of b h (mark_on s h.on) (keeps h (kept_of s h.mux)) w
+-- the mux that a walk crosses is the one of its place
+pub hop_here : (c : RouteView) (k : ℕ) → k < length c.path → drop k c.path ≡ hop_at c k ∷ drop (k + 1) c.path
+hop_here c k within = drop_more c.path k no_hop within
 
-abbrev pub waits_at : SeenView → Hop → ℕ → Work → List Task → List Task
-waits_at s h n w ts = wait_tasks h (mark_on s h.on) (keeps h (kept_of s h.mux)) n w ts
+-- what comes first at a mux, and what waits for it, by what is told
+abbrev pub next_in : BoardView → RouteView → SeenView → ℕ → Work → Work
+next_in b c s k w = switch_of b c k (mark_on s (hop_at c k).on) (keeps (hop_at c k) (kept_of s (hop_at c k).mux)) w
+
+abbrev pub waits_at : RouteView → SeenView → ℕ → Work → List Task → List Task
+waits_at c s k w ts = wait_tasks (mark_on s (hop_at c k).on) (keeps (hop_at c k) (kept_of s (hop_at c k).mux)) k w ts
 
 module _ (b : BoardView) (ms : List MessageView) (c : RouteView) where
   -- a job for the bus that a mux stands on
   part_tree : (parent : Bool) (n : ℕ) (w : Work) (ts : List Task) (out : JobOutcome)
       → tree_of b ms c (part_task parent n w ∷ ts) out
-      ≡ part parent (locks_of c.root (drop n c.path)) (inner b c.root (drop n c.path)) (job_of c ms w) (note_of ts) (tree_of b ms c ts)
+      ≡ part parent (locks_of c.root (drop n c.path)) (inner b c.root (drop n c.path)) (job_of c ms w) (note_of c ts) (tree_of b ms c ts)
   part_tree true n w ts out = refl
   part_tree false n w ts out = refl
 
@@ -51,72 +55,85 @@ module _ (b : BoardView) (ms : List MessageView) (c : RouteView) where
   left_nothing : (h : Hop) (on : Doer) (k : JobOutcome → WalkTree) → left_behind true h on k ≡ k
   left_nothing h on k = fun_ext (λ out. refl)
 
-  opened_by : (h : Hop) (n : ℕ) (w : Work) (ts : List Task) (stays : Bool) → h.stays ≡ stays
-      → opened h (on_bus b c n h) (job_of c ms w) (note_of ts) (tree_of b ms c ts)
-      ≡ on_bus b c n h (job_of c ms w) (note_of (work_tasks stays n h ts)) (tree_of b ms c (work_tasks stays n h ts))
-  opened_by h n w ts true e =
-      ap (λ (t : Bool). on_bus b c n h (job_of c ms w) (note_of ts) (left_behind t h (on_bus b c n h) (tree_of b ms c ts))) e
-      ∙ ap (λ (k : JobOutcome → WalkTree). on_bus b c n h (job_of c ms w) (note_of ts) k)
-      (left_nothing h (on_bus b c n h) (tree_of b ms c ts))
-  opened_by h n w ts false e =
-      ap (λ (t : Bool). on_bus b c n h (job_of c ms w) (note_of ts) (left_behind t h (on_bus b c n h) (tree_of b ms c ts))) e
-      ∙ ap (λ (k : JobOutcome → WalkTree). on_bus b c n h (job_of c ms w) (note_of ts) k) (fun_ext (λ out. refl))
+  opened_by : (k : ℕ) (w : Work) (ts : List Task) (stays : Bool) → (hop_at c k).stays ≡ stays
+      → opened (hop_at c k) (on_bus b c k) (job_of c ms w) (note_of c ts) (tree_of b ms c ts)
+      ≡ on_bus b c k (job_of c ms w) (note_of c (work_tasks stays k ts)) (tree_of b ms c (work_tasks stays k ts))
+  opened_by k w ts true e =
+      let h = hop_at c k in
+      ap (λ (t : Bool). on_bus b c k (job_of c ms w) (note_of c ts) (left_behind t h (on_bus b c k) (tree_of b ms c ts))) e
+      ∙ ap (λ (x : JobOutcome → WalkTree). on_bus b c k (job_of c ms w) (note_of c ts) x)
+      (left_nothing h (on_bus b c k) (tree_of b ms c ts))
+  opened_by k w ts false e =
+      let h = hop_at c k in
+      ap (λ (t : Bool). on_bus b c k (job_of c ms w) (note_of c ts) (left_behind t h (on_bus b c k) (tree_of b ms c ts))) e
+      ∙ ap (λ (x : JobOutcome → WalkTree). on_bus b c k (job_of c ms w) (note_of c ts) x) (fun_ext (λ out. refl))
 
   -- the work behind a mux, whose channel is open
-  pub opened_tree : (h : Hop) (n : ℕ) (w : Work) (ts : List Task) (out : JobOutcome)
-      → tree_of b ms c (part_task h.parent n w ∷ work_tasks h.stays n h ts) out
-      ≡ opened h (on_bus b c n h) (job_of c ms w) (note_of ts) (tree_of b ms c ts)
-  opened_tree h n w ts out = part_tree h.parent n w (work_tasks h.stays n h ts) out ∙ sym (opened_by h n w ts h.stays refl)
+  pub opened_tree : (k : ℕ) (w : Work) (ts : List Task) (out : JobOutcome)
+      → tree_of b ms c (part_task (hop_at c k).parent (k + 1) w ∷ work_tasks (hop_at c k).stays k ts) out
+      ≡ opened (hop_at c k) (on_bus b c k) (job_of c ms w) (note_of c ts) (tree_of b ms c ts)
+  opened_tree k w ts out =
+      part_tree (hop_at c k).parent (k + 1) w (work_tasks (hop_at c k).stays k ts) out ∙ sym (opened_by k w ts (hop_at c k).stays refl)
 
   -- the job at a mux that isn't to be closed
-  pub crossed_tree : (h : Hop) (n : ℕ) (w : Work) (ts : List Task) (out : JobOutcome) (kept : Option ℕ) (keep : Bool) → keeps h kept ≡ keep
-      → crossed h (on_bus b c n h) (job_of c ms w) (note_of ts) (tree_of b ms c ts) kept
-      ≡ tree_of b ms c (part_task h.parent n (choice_of h keep w) ∷ select_tasks h keep n w ts) out
-  crossed_tree h n w ts out kept true e =
-      let on = on_bus b c n h in
+  pub crossed_tree : (k : ℕ) (w : Work) (ts : List Task) (out : JobOutcome) (kept : Option ℕ) (keep : Bool)
+      → keeps (hop_at c k) kept ≡ keep
+      → crossed (hop_at c k) (on_bus b c k) (job_of c ms w) (note_of c ts) (tree_of b ms c ts) kept
+      ≡ tree_of b ms c (part_task (hop_at c k).parent (k + 1) (choice_of c k keep w) ∷ select_tasks keep k w ts) out
+  crossed_tree k w ts out kept true e =
+      let h = hop_at c k in
+      let on = on_bus b c k in
       let job = job_of c ms w in
-      ap (λ (t : Bool). cond t (opened h on job (note_of ts) (tree_of b ms c ts)) (chosen h on job (note_of ts) (tree_of b ms c ts))) e
-      ∙ opened_by h n w ts true (keeps_stays h kept e)
-      ∙ sym (part_tree h.parent n w ts out)
-  crossed_tree h n w ts out kept false e =
-      let on = on_bus b c n h in
+      ap (λ (t : Bool). cond t (opened h on job (note_of c ts) (tree_of b ms c ts)) (chosen h on job (note_of c ts) (tree_of b ms c ts))) e
+      ∙ opened_by k w ts true (keeps_stays h kept e)
+      ∙ sym (part_tree h.parent (k + 1) w ts out)
+  crossed_tree k w ts out kept false e =
+      let h = hop_at c k in
+      let on = on_bus b c k in
       let job = job_of c ms w in
-      ap (λ (t : Bool). cond t (opened h on job (note_of ts) (tree_of b ms c ts)) (chosen h on job (note_of ts) (tree_of b ms c ts))) e
-      ∙ sym (part_tree h.parent n (work.Select h) (AwaitSelect n h w ∷ ts) out)
+      ap (λ (t : Bool). cond t (opened h on job (note_of c ts) (tree_of b ms c ts)) (chosen h on job (note_of c ts) (tree_of b ms c ts))) e
+      ∙ sym (part_tree h.parent (k + 1) (work.Select k) (AwaitSelect k w ∷ ts) out)
 
-  closing_tree : (s : SeenView) (h : Hop) (n : ℕ) (w : Work) (ts : List Task) (out : JobOutcome) (mark : Option ℕ)
-      → seen (slots_of s) (closing b h (on_bus b c n h) (note_of ts) (tree_of b ms c ts)
-      (Look (KeptOf h.on h.mux) (crossed h (on_bus b c n h) (job_of c ms w) (note_of ts) (tree_of b ms c ts))) mark)
+  closing_tree : (s : SeenView) (k : ℕ) (w : Work) (ts : List Task) (out : JobOutcome) (mark : Option ℕ)
+      → seen (slots_of s) (closing b (hop_at c k) (on_bus b c k) (note_of c ts) (tree_of b ms c ts)
+      (Look (KeptOf (hop_at c k).on (hop_at c k).mux)
+      (crossed (hop_at c k) (on_bus b c k) (job_of c ms w) (note_of c ts) (tree_of b ms c ts))) mark)
       ≡ seen (slots_of s) (tree_of b ms c
-      (part_task h.parent n (switch_of b h mark (keeps h (kept_of s h.mux)) w) ∷ wait_tasks h mark (keeps h (kept_of s h.mux)) n w ts)
+      (part_task (hop_at c k).parent (k + 1) (switch_of b c k mark (keeps (hop_at c k) (kept_of s (hop_at c k).mux)) w)
+      ∷ wait_tasks mark (keeps (hop_at c k) (kept_of s (hop_at c k).mux)) k w ts)
       out)
-  closing_tree s h n w ts out None = ap (seen (slots_of s)) (crossed_tree h n w ts out (kept_of s h.mux) (keeps h (kept_of s h.mux)) refl)
-  closing_tree s h n w ts out (Some m) = ap (seen (slots_of s))
-      (sym (part_tree h.parent n (switch_of b h (Some m) (keeps h (kept_of s h.mux)) w) (AwaitClose n h m w ∷ ts) out))
+  closing_tree s k w ts out None = ap (seen (slots_of s))
+      (crossed_tree k w ts out (kept_of s (hop_at c k).mux) (keeps (hop_at c k) (kept_of s (hop_at c k).mux)) refl)
+  closing_tree s k w ts out (Some m) = ap (seen (slots_of s))
+      (sym (part_tree (hop_at c k).parent (k + 1) (switch_of b c k (Some m) (keeps (hop_at c k) (kept_of s (hop_at c k).mux)) w)
+      (AwaitClose k m w ∷ ts) out))
 
   -- behind a close
-  pub tree_of-pass : (s : SeenView) (n : ℕ) (w : Work) (h : Hop) (ts : List Task) (out : JobOutcome)
-      → seen (slots_of s) (tree_of b ms c (Pass n h w ∷ ts) out)
+  pub tree_of-pass : (s : SeenView) (k : ℕ) (w : Work) (ts : List Task) (out : JobOutcome)
+      → seen (slots_of s) (tree_of b ms c (Pass k w ∷ ts) out)
       ≡ seen (slots_of s) (tree_of b ms c
-      (part_task h.parent n (choice_of h (keeps h (kept_of s h.mux)) w) ∷ select_tasks h (keeps h (kept_of s h.mux)) n w ts) out)
-  tree_of-pass s n w h ts out = ap (seen (slots_of s)) (crossed_tree h n w ts out (kept_of s h.mux) (keeps h (kept_of s h.mux)) refl)
+      (part_task (hop_at c k).parent (k + 1) (choice_of c k (keeps (hop_at c k) (kept_of s (hop_at c k).mux)) w)
+      ∷ select_tasks (keeps (hop_at c k) (kept_of s (hop_at c k).mux)) k w ts) out)
+  tree_of-pass s k w ts out = ap (seen (slots_of s))
+      (crossed_tree k w ts out (kept_of s (hop_at c k).mux) (keeps (hop_at c k) (kept_of s (hop_at c k).mux)) refl)
 
   -- a job comes to a mux
-  pub tree_of-look : (s : SeenView) (n : ℕ) (w : Work) (h : Hop) (ts : List Task) (out : JobOutcome)
-      → drop n c.path ≡ h ∷ drop (n + 1) c.path → is_line (job_of c ms w) ≡ false
-      → seen (slots_of s) (tree_of b ms c (Enter n w ∷ ts) out)
-      ≡ seen (slots_of s) (tree_of b ms c (part_task h.parent (n + 1) (next_in b s h w) ∷ waits_at s h (n + 1) w ts) out)
-  tree_of-look s n w h ts out at_hop by_message =
+  pub tree_of-look : (s : SeenView) (k : ℕ) (w : Work) (ts : List Task) (out : JobOutcome)
+      → drop k c.path ≡ hop_at c k ∷ drop (k + 1) c.path → is_line (job_of c ms w) ≡ false
+      → seen (slots_of s) (tree_of b ms c (Enter k w ∷ ts) out)
+      ≡ seen (slots_of s) (tree_of b ms c (part_task (hop_at c k).parent (k + 1) (next_in b c s k w) ∷ waits_at c s k w ts) out)
+  tree_of-look s k w ts out at_hop by_message =
       let v = slots_of s in
-      let on = on_bus b c (n + 1) h in
+      let h = hop_at c k in
+      let on = on_bus b c k in
       let job = job_of c ms w in
-      let note = note_of ts in
-      let k = tree_of b ms c ts in
-      ap (λ (hs : List Hop). seen v (inner b c.root hs job note k)) at_hop
-      ∙ ap (λ (x : Bool). seen v (cond x (at_bus job note k) (behind b h on job note k))) by_message
-      ∙ ap (λ (x : Option ℕ). seen v (closing b h on note k (Look (KeptOf h.on h.mux) (crossed h on job note k)) x))
+      let note = note_of c ts in
+      let go = tree_of b ms c ts in
+      ap (λ (hs : List Hop). seen v (inner b c.root hs job note go)) at_hop
+      ∙ ap (λ (x : Bool). seen v (cond x (at_bus job note go) (behind b h on job note go))) by_message
+      ∙ ap (λ (x : Option ℕ). seen v (closing b h on note go (Look (KeptOf h.on h.mux) (crossed h on job note go)) x))
       (mark_slot (mark_on s h.on))
-      ∙ closing_tree s h (n + 1) w ts out (mark_on s h.on)
+      ∙ closing_tree s k w ts out (mark_on s h.on)
 
   -- .. and to the end of its way
   seen_bus : (v : Slots) (job : Job) (note : Note) (k : JobOutcome → WalkTree) → seen v (at_bus job note k) ≡ at_bus job note k
@@ -137,10 +154,10 @@ module _ (b : BoardView) (ms : List MessageView) (c : RouteView) where
 
   pub tree_of-bus : (s : SeenView) (n : ℕ) (w : Work) (ts : List Task) (out : JobOutcome)
       → (is_line (job_of c ms w) ≡ true) ⊎ (drop n c.path ≡ [])
-      → seen (slots_of s) (tree_of b ms c (Enter n w ∷ ts) out) ≡ at_bus (job_of c ms w) (note_of ts) (tree_of b ms c ts)
+      → seen (slots_of s) (tree_of b ms c (Enter n w ∷ ts) out) ≡ at_bus (job_of c ms w) (note_of c ts) (tree_of b ms c ts)
   tree_of-bus s n w ts out at_end =
-      ap (seen (slots_of s)) (inner_bus (drop n c.path) (job_of c ms w) (note_of ts) (tree_of b ms c ts) at_end)
-      ∙ seen_bus (slots_of s) (job_of c ms w) (note_of ts) (tree_of b ms c ts)
+      ap (seen (slots_of s)) (inner_bus (drop n c.path) (job_of c ms w) (note_of c ts) (tree_of b ms c ts) at_end)
+      ∙ seen_bus (slots_of s) (job_of c ms w) (note_of c ts) (tree_of b ms c ts)
 
   -- a lock is taken, and freed behind the job
   locked_first : (on : Doer) (hs rest : List Hop) (job : Job) (note : Note) (k : JobOutcome → WalkTree) → rest ≡ drop 1 hs
@@ -155,7 +172,7 @@ module _ (b : BoardView) (ms : List MessageView) (c : RouteView) where
       (λ out. Then (walk.Free (first_lock c.root (h ∷ hs))) plain (λ o2. k out)))) (sym e)
 
   lock_task : (t : Bool) (m n : ℕ) (w : Work) (ts : List Task) (out : JobOutcome)
-      → locked (cond t (locks_of c.root (drop m c.path)) []) (inner b c.root (drop n c.path)) (job_of c ms w) (note_of ts)
+      → locked (cond t (locks_of c.root (drop m c.path)) []) (inner b c.root (drop n c.path)) (job_of c ms w) (note_of c ts)
       (tree_of b ms c ts)
       ≡ tree_of b ms c (cond t (Lock m n w) (Enter n w) ∷ ts) out
   lock_task true m n w ts out = refl
@@ -167,7 +184,7 @@ module _ (b : BoardView) (ms : List MessageView) (c : RouteView) where
       (λ o. tree_of b ms c (cond (locks_on (drop m c.path)) (Lock (m + 1) n w) (Enter n w) ∷ Free (first_lock c.root (drop m c.path)) ∷ ts)
       out2)
   tree_of-lock m n w ts out out2 =
-      locked_first (inner b c.root (drop n c.path)) (drop m c.path) (drop (m + 1) c.path) (job_of c ms w) (note_of ts) (tree_of b ms c ts)
+      locked_first (inner b c.root (drop n c.path)) (drop m c.path) (drop (m + 1) c.path) (job_of c ms w) (note_of c ts) (tree_of b ms c ts)
       (sym (drop-drop 1 m c.path))
       ∙ ap (λ (x : WalkTree). Then (walk.Take (first_lock c.root (drop m c.path))) plain (λ o. x))
       (lock_task (locks_on (drop m c.path)) (m + 1) n w (Free (first_lock c.root (drop m c.path)) ∷ ts) out2)
@@ -179,8 +196,8 @@ module _ (b : BoardView) (ms : List MessageView) (c : RouteView) where
   seen-step v (Lock m n w ∷ ts) out h = by_lock (drop m c.path)
     where
       by_lock : (hs : List Hop) → seen v
-          (locked (locks_of c.root hs) (inner b c.root (drop n c.path)) (job_of c ms w) (note_of ts) (tree_of b ms c ts)) ≡ locked
-          (locks_of c.root hs) (inner b c.root (drop n c.path)) (job_of c ms w) (note_of ts) (tree_of b ms c ts)
+          (locked (locks_of c.root hs) (inner b c.root (drop n c.path)) (job_of c ms w) (note_of c ts) (tree_of b ms c ts)) ≡ locked
+          (locks_of c.root hs) (inner b c.root (drop n c.path)) (job_of c ms w) (note_of c ts) (tree_of b ms c ts)
       by_lock [] = refl
       by_lock (g ∷ hs) = refl
   seen-step v (Free l ∷ ts) out h = refl
@@ -188,11 +205,11 @@ module _ (b : BoardView) (ms : List MessageView) (c : RouteView) where
   seen-step v (Rest (suc left) w ∷ ts) out h = refl
   seen-step v (Line w ∷ ts) out h = refl
   seen-step v (Settle x ∷ ts) out h = refl
-  seen-step v (AwaitClose n g m w ∷ ts) out h = absurd h
-  seen-step v (Pass n g w ∷ ts) out h = absurd h
-  seen-step v (AwaitSelect n g w ∷ ts) out h = absurd h
-  seen-step v (AwaitWork n g ∷ ts) out h = absurd h
-  seen-step v (AwaitDeselect g was ∷ ts) out h = absurd h
+  seen-step v (AwaitClose k m w ∷ ts) out h = absurd h
+  seen-step v (Pass k w ∷ ts) out h = absurd h
+  seen-step v (AwaitSelect k w ∷ ts) out h = absurd h
+  seen-step v (AwaitWork k ∷ ts) out h = absurd h
+  seen-step v (AwaitDeselect k was ∷ ts) out h = absurd h
 
 -- the messages of a job: the first step, and what follows
 pub messages-first : (left : ℕ) (job : Job) (note : Note) (k : JobOutcome → WalkTree)
@@ -209,78 +226,19 @@ messages-more (suc left) less job note k out e =
     (let f : left ≡ less = omega (arith, e) in f)
 
 -- a task is on the way to the caller's messages where no deselect is under way
-pub note_of-forward : (ts : List Task) → (note_of ts).forward ≡ not (list_any is_deselect ts)
-note_of-forward [] = refl
-note_of-forward (Enter n w ∷ ts) = note_of-forward ts
-note_of-forward (Lock m n w ∷ ts) = note_of-forward ts
-note_of-forward (Free l ∷ ts) = note_of-forward ts
-note_of-forward (Rest left w ∷ ts) = note_of-forward ts
-note_of-forward (Line w ∷ ts) = note_of-forward ts
-note_of-forward (Settle v ∷ ts) = note_of-forward ts
-note_of-forward (AwaitClose n h m w ∷ ts) = note_of-forward ts
-note_of-forward (Pass n h w ∷ ts) = note_of-forward ts
-note_of-forward (AwaitSelect n h w ∷ ts) = note_of-forward ts
-note_of-forward (AwaitWork n h ∷ ts) = note_of-forward ts
-note_of-forward (AwaitDeselect h was ∷ ts) = refl
-
--- the first step of a job is the same whatever its notes are and whatever comes behind it
-module _ (b : BoardView) (v : Slots) (root : ℕ) where
-  bus_alike : (job : Job) (note note2 : Note) (k k2 : JobOutcome → WalkTree)
-      → first_act (seen v (at_bus job note k)) ≡ first_act (seen v (at_bus job note2 k2))
-  bus_alike job note note2 k k2 = by (is_line job) (more_of job)
-    where
-      by : (x : Bool) (left : ℕ)
-          → first_act (seen v (cond x (Then (walk.Shift job) note (over job zero note k)) (messages left job note k)))
-          ≡ first_act (seen v (cond x (Then (walk.Shift job) note2 (over job zero note2 k2)) (messages left job note2 k2)))
-      by true left = refl
-      by false zero = refl
-      by false (suc left) = refl
-
-  part_alike : (parent : Bool) (hs : List Hop) (on : Doer)
-      → ((job : Job) (note note2 : Note) (k k2 : JobOutcome → WalkTree)
-      → first_act (seen v (on job note k)) ≡ first_act (seen v (on job note2 k2)))
-      → (job : Job) (note note2 : Note) (k k2 : JobOutcome → WalkTree)
-      → first_act (seen v (part parent (locks_of root hs) on job note k)) ≡ first_act
-      (seen v (part parent (locks_of root hs) on job note2 k2))
-  part_alike true hs on alike job note note2 k k2 = alike job note note2 k k2
-  part_alike false [] on alike job note note2 k k2 = refl
-  part_alike false (h ∷ hs) on alike job note note2 k k2 = refl
-
-  closing_alike : (h : Hop) (on : Doer)
-      → ((job : Job) (note note2 : Note) (k k2 : JobOutcome → WalkTree)
-      → first_act (seen v (on job note k)) ≡ first_act (seen v (on job note2 k2)))
-      → (job : Job) (note note2 : Note) (k k2 : JobOutcome → WalkTree) (mark : Option ℕ)
-      → first_act (seen v (closing b h on note k (Look (KeptOf h.on h.mux) (crossed h on job note k)) mark))
-      ≡ first_act (seen v (closing b h on note2 k2 (Look (KeptOf h.on h.mux) (crossed h on job note2 k2)) mark))
-  closing_alike h on alike job note note2 k k2 None = by (keeps h ((v h.on).kept h.mux))
-    where
-      by : (keep : Bool) → first_act (seen v (cond keep (opened h on job note k) (chosen h on job note k))) ≡ first_act
-          (seen v (cond keep (opened h on job note2 k2) (chosen h on job note2 k2)))
-      by true = alike _ _ _ _ _
-      by false = alike _ _ _ _ _
-  closing_alike h on alike job note note2 k k2 (Some m) = alike _ _ _ _ _
-
-  inner_alike : (hs : List Hop) (job : Job) (note note2 : Note) (k k2 : JobOutcome → WalkTree)
-      → first_act (seen v (inner b root hs job note k)) ≡ first_act (seen v (inner b root hs job note2 k2))
-  inner_alike [] job note note2 k k2 = bus_alike job note note2 k k2
-  inner_alike (h ∷ hs) job note note2 k k2 =
-      by (is_line job)
-      (closing_alike h (part h.parent (locks_of root hs) (inner b root hs))
-      (part_alike h.parent hs (inner b root hs) (inner_alike hs)) job note note2 k k2 (mark_in (v h.on).slot))
-    where
-      by : (x : Bool)
-          → first_act (seen v (behind b h (part h.parent (locks_of root hs) (inner b root hs)) job note k)) ≡ first_act
-          (seen v (behind b h (part h.parent (locks_of root hs) (inner b root hs)) job note2 k2))
-          → first_act (seen v (cond x (at_bus job note k) (behind b h (part h.parent (locks_of root hs) (inner b root hs)) job note k)))
-          ≡ first_act (seen v (cond x (at_bus job note2 k2) (behind b h (part h.parent (locks_of root hs) (inner b root hs)) job note2 k2)))
-      by true e = bus_alike job note note2 k k2
-      by false e = e
-
-pub first_at-any : (b : BoardView) (ms : List MessageView) (c : RouteView) (s : SeenView) (n : ℕ) (w : Work) (ts : List Task)
-    (out : JobOutcome)
-    → first_act (seen (slots_of s) (tree_of b ms c (Enter n w ∷ ts) out)) ≡ first_at b ms c s n w
-first_at-any b ms c s n w ts out =
-    inner_alike b (slots_of s) c.root (drop n c.path) (job_of c ms w) (note_of ts) (note_of []) (tree_of b ms c ts) (tree_of b ms c [])
+pub note_of-forward : (c : RouteView) (ts : List Task) → (note_of c ts).forward ≡ not (list_any is_deselect ts)
+note_of-forward c [] = refl
+note_of-forward c (Enter n w ∷ ts) = note_of-forward c ts
+note_of-forward c (Lock m n w ∷ ts) = note_of-forward c ts
+note_of-forward c (Free l ∷ ts) = note_of-forward c ts
+note_of-forward c (Rest left w ∷ ts) = note_of-forward c ts
+note_of-forward c (Line w ∷ ts) = note_of-forward c ts
+note_of-forward c (Settle v ∷ ts) = note_of-forward c ts
+note_of-forward c (AwaitClose k m w ∷ ts) = note_of-forward c ts
+note_of-forward c (Pass k w ∷ ts) = note_of-forward c ts
+note_of-forward c (AwaitSelect k w ∷ ts) = note_of-forward c ts
+note_of-forward c (AwaitWork k ∷ ts) = note_of-forward c ts
+note_of-forward c (AwaitDeselect k was ∷ ts) = refl
 
 -- the same at the front of a stack, by the step that a task is
 pub first_of-task : (b : BoardView) (ms : List MessageView) (c : RouteView) (t : Task) (ts : List Task) (out : JobOutcome) → IsStep (t ∷ ts)
@@ -290,163 +248,65 @@ first_of-task b ms c (Lock m n w) ts out h =
     ap first_act (tree_of-lock b ms c m n w ts out out) ∙ sym (ap first_act (tree_of-lock b ms c m n w [] Good out))
 first_of-task b ms c (Free l) ts out h = refl
 first_of-task b ms c (Rest left w) ts out h =
-    messages-first left (job_of c ms w) (note_of ts) (tree_of b ms c ts)
-    ∙ sym (messages-first left (job_of c ms w) (note_of []) (tree_of b ms c []))
+    messages-first left (job_of c ms w) (note_of c ts) (tree_of b ms c ts)
+    ∙ sym (messages-first left (job_of c ms w) (note_of c []) (tree_of b ms c []))
 first_of-task b ms c (Line w) ts out h = refl
 first_of-task b ms c (Settle v) ts out h = refl
-first_of-task b ms c (AwaitClose n g m w) ts out h = absurd h
-first_of-task b ms c (Pass n g w) ts out h = absurd h
-first_of-task b ms c (AwaitSelect n g w) ts out h = absurd h
-first_of-task b ms c (AwaitWork n g) ts out h = absurd h
-first_of-task b ms c (AwaitDeselect g was) ts out h = absurd h
-
--- a job begins with a lock, a message or a line, and with no settle
-abbrev NoSettle : Option Act → Type 0
-NoSettle first = (verdict : Option Errno) → first ≡ Some (walk.Settle verdict) → ⊥
-
-module _ (b : BoardView) (v : Slots) (root : ℕ) where
-  bus_unsettled : (job : Job) (note : Note) (k : JobOutcome → WalkTree) → NoSettle (first_act (seen v (at_bus job note k)))
-  bus_unsettled job note k = by (is_line job) (more_of job)
-    where
-      by : (x : Bool) (left : ℕ) → NoSettle
-          (first_act (seen v (cond x (Then (walk.Shift job) note (over job zero note k)) (messages left job note k))))
-      by true left = λ verdict h. (let f : Some (walk.Shift job) ≡ Some (walk.Settle verdict) = h in cc)
-      by false zero = λ verdict h. (let f : Some (walk.Send job zero) ≡ Some (walk.Settle verdict) = h in cc)
-      by false (suc left) = λ verdict h. (let f : Some (walk.Send job (suc left)) ≡ Some (walk.Settle verdict) = h in cc)
-
-  part_unsettled : (parent : Bool) (hs : List Hop) (on : Doer)
-      → ((job : Job) (note : Note) (k : JobOutcome → WalkTree) → NoSettle (first_act (seen v (on job note k))))
-      → (job : Job) (note : Note) (k : JobOutcome → WalkTree) → NoSettle (first_act (seen v (part parent (locks_of root hs) on job note k)))
-  part_unsettled true hs on unsettled job note k = unsettled job note k
-  part_unsettled false [] on unsettled job note k = λ verdict h.
-      (let f : Some (walk.Take (first_lock root [])) ≡ Some (walk.Settle verdict) = h in cc)
-  part_unsettled false (g ∷ hs) on unsettled job note k = λ verdict h.
-      (let f : Some (walk.Take (first_lock root (g ∷ hs))) ≡ Some (walk.Settle verdict) = h in cc)
-
-  closing_unsettled : (h : Hop) (on : Doer)
-      → ((job : Job) (note : Note) (k : JobOutcome → WalkTree) → NoSettle (first_act (seen v (on job note k))))
-      → (job : Job) (note : Note) (k : JobOutcome → WalkTree) (mark : Option ℕ)
-      → NoSettle (first_act (seen v (closing b h on note k (Look (KeptOf h.on h.mux) (crossed h on job note k)) mark)))
-  closing_unsettled h on unsettled job note k None = by (keeps h ((v h.on).kept h.mux))
-    where
-      by : (keep : Bool) → NoSettle (first_act (seen v (cond keep (opened h on job note k) (chosen h on job note k))))
-      by true = unsettled _ _ _
-      by false = unsettled _ _ _
-  closing_unsettled h on unsettled job note k (Some m) = unsettled _ _ _
-
-  inner_unsettled : (hs : List Hop) (job : Job) (note : Note) (k : JobOutcome → WalkTree)
-      → NoSettle (first_act (seen v (inner b root hs job note k)))
-  inner_unsettled [] job note k = bus_unsettled job note k
-  inner_unsettled (h ∷ hs) job note k =
-      by (is_line job) (closing_unsettled h (part h.parent (locks_of root hs) (inner b root hs))
-      (part_unsettled h.parent hs (inner b root hs) (inner_unsettled hs)) job note k (mark_in (v h.on).slot))
-    where
-      by : (x : Bool) → NoSettle (first_act (seen v (behind b h (part h.parent (locks_of root hs) (inner b root hs)) job note k)))
-          → NoSettle (first_act (seen v (cond x (at_bus job note k)
-          (behind b h (part h.parent (locks_of root hs) (inner b root hs)) job note k))))
-      by true e = bus_unsettled job note k
-      by false e = e
+first_of-task b ms c (AwaitClose k m w) ts out h = absurd h
+first_of-task b ms c (Pass k w) ts out h = absurd h
+first_of-task b ms c (AwaitSelect k w) ts out h = absurd h
+first_of-task b ms c (AwaitWork k) ts out h = absurd h
+first_of-task b ms c (AwaitDeselect k was) ts out h = absurd h
 
 -- a settle comes next where it is on the top, and nowhere else
-pub no_settle : (b : BoardView) (ms : List MessageView) (c : RouteView) (v : Slots) (t : Task) (ts : List Task) (out : JobOutcome)
-    → IsReady (t ∷ ts)
-    → ((x : Option Errno) → t ≡ Settle x → ⊥) → NoSettle (first_act (seen v (tree_of b ms c (t ∷ ts) out)))
-no_settle b ms c v (Enter n w) ts out ready other = inner_unsettled b v c.root (drop n c.path) (job_of c ms w) (note_of ts)
-    (tree_of b ms c ts)
-no_settle b ms c v (Lock m n w) ts out ready other =
+pub no_settle : (b : BoardView) (ms : List MessageView) (c : RouteView) (t : Task) (ts : List Task) (out : JobOutcome)
+    → IsStep (t ∷ ts) → ((x : Option Errno) → t ≡ Settle x → ⊥)
+    → (verdict : Option Errno) → first_act (tree_of b ms c (t ∷ ts) out) ≡ Some (walk.Settle verdict) → ⊥
+no_settle b ms c (Enter n w) ts out step other = absurd step
+no_settle b ms c (Lock m n w) ts out step other =
     λ verdict h. (let f : Some (walk.Take (first_lock c.root (drop m c.path))) ≡ Some (walk.Settle verdict) = sym
-    (ap (λ (x : WalkTree). first_act (seen v x)) (tree_of-lock b ms c m n w ts out out)) ∙ h in cc)
-no_settle b ms c v (Free l) ts out ready other = λ verdict h. (let f : Some (walk.Free l) ≡ Some (walk.Settle verdict) = h in cc)
-no_settle b ms c v (Rest zero w) ts out ready other = λ verdict h.
+    (ap first_act (tree_of-lock b ms c m n w ts out out)) ∙ h in cc)
+no_settle b ms c (Free l) ts out step other = λ verdict h. (let f : Some (walk.Free l) ≡ Some (walk.Settle verdict) = h in cc)
+no_settle b ms c (Rest zero w) ts out step other = λ verdict h.
     (let f : Some (walk.Send (job_of c ms w) zero) ≡ Some (walk.Settle verdict) = h in cc)
-no_settle b ms c v (Rest (suc left) w) ts out ready other = λ verdict h.
+no_settle b ms c (Rest (suc left) w) ts out step other = λ verdict h.
     (let f : Some (walk.Send (job_of c ms w) (suc left)) ≡ Some (walk.Settle verdict) = h in cc)
-no_settle b ms c v (Line w) ts out ready other = λ verdict h. (let f : Some (walk.Shift (job_of c ms w)) ≡ Some (walk.Settle verdict) = h in
-    cc)
-no_settle b ms c v (Settle x) ts out ready other = absurd (other x refl)
-no_settle b ms c v (AwaitClose n h m w) ts out ready other = absurd ready
-no_settle b ms c v (Pass n h w) ts out ready other =
-    closing_unsettled b v c.root h (on_bus b c n h)
-    (part_unsettled b v c.root h.parent (drop n c.path) (inner b c.root (drop n c.path)) (inner_unsettled b v c.root (drop n c.path)))
-    (job_of c ms w) (note_of ts) (tree_of b ms c ts) None
-no_settle b ms c v (AwaitSelect n h w) ts out ready other = absurd ready
-no_settle b ms c v (AwaitWork n h) ts out ready other = absurd ready
-no_settle b ms c v (AwaitDeselect h was) ts out ready other = absurd ready
+no_settle b ms c (Line w) ts out step other = λ verdict h.
+    (let f : Some (walk.Shift (job_of c ms w)) ≡ Some (walk.Settle verdict) = h in cc)
+no_settle b ms c (Settle x) ts out step other = absurd (other x refl)
+no_settle b ms c (AwaitClose k m w) ts out step other = absurd step
+no_settle b ms c (Pass k w) ts out step other = absurd step
+no_settle b ms c (AwaitSelect k w) ts out step other = absurd step
+no_settle b ms c (AwaitWork k) ts out step other = absurd step
+no_settle b ms c (AwaitDeselect k was) ts out step other = absurd step
 
 -- behind a close: what comes first there, over what waits for it
-pub passes-by : (b : BoardView) (ms : List MessageView) (c : RouteView) (s : SeenView) (n : ℕ) (w : Work) (h : Hop) (ts : List Task)
+pub passes-by : (b : BoardView) (ms : List MessageView) (c : RouteView) (s : SeenView) (k : ℕ) (w : Work) (ts : List Task)
     (out : JobOutcome)
-    → (parent : Bool) → h.parent ≡ parent → (next : Work) (below : List Task) → next ≡ choice_of h (keeps h (kept_of s h.mux)) w
-    → below ≡ select_tasks h (keeps h (kept_of s h.mux)) n w ts
-    → seen (slots_of s) (tree_of b ms c (part_task parent n next ∷ below) out) ≡ seen (slots_of s) (tree_of b ms c (Pass n h w ∷ ts) out)
-passes-by b ms c s n w h ts out parent e next below by_choice stack =
-    ap (λ (x : Work). seen (slots_of s) (tree_of b ms c (part_task parent n x ∷ below) out)) by_choice
-    ∙ ap (λ (xs : List Task). seen (slots_of s) (tree_of b ms c (part_task parent n (choice_of h (keeps h (kept_of s h.mux)) w) ∷ xs) out))
+    → (parent : Bool) → (hop_at c k).parent ≡ parent
+    → (next : Work) (below : List Task) → next ≡ choice_of c k (keeps (hop_at c k) (kept_of s (hop_at c k).mux)) w
+    → below ≡ select_tasks (keeps (hop_at c k) (kept_of s (hop_at c k).mux)) k w ts
+    → seen (slots_of s) (tree_of b ms c (part_task parent (k + 1) next ∷ below) out) ≡ seen (slots_of s)
+    (tree_of b ms c (Pass k w ∷ ts) out)
+passes-by b ms c s k w ts out parent e next below by_choice stack =
+    let keep = keeps (hop_at c k) (kept_of s (hop_at c k).mux) in
+    ap (λ (x : Work). seen (slots_of s) (tree_of b ms c (part_task parent (k + 1) x ∷ below) out)) by_choice
+    ∙ ap (λ (xs : List Task). seen (slots_of s) (tree_of b ms c (part_task parent (k + 1) (choice_of c k keep w) ∷ xs) out))
     stack
-    ∙ sym (tree_of-pass b ms c s n w h ts out
+    ∙ sym (tree_of-pass b ms c s k w ts out
     ∙ ap (λ (t : Bool). seen (slots_of s)
-    (tree_of b ms c (part_task t n (choice_of h (keeps h (kept_of s h.mux)) w) ∷ select_tasks h (keeps h (kept_of s h.mux)) n w ts)
+    (tree_of b ms c (part_task t (k + 1) (choice_of c k keep w) ∷ select_tasks keep k w ts)
     out)) e)
 
--- one mux is crossed on the way to the first step; the locks of a mux-locked one are that step; or the way has ended
-module _ (b : BoardView) (ms : List MessageView) (c : RouteView) (s : SeenView) where
-  first_at-look : (n : ℕ) (w : Work) (h : Hop) → drop n c.path ≡ h ∷ drop (n + 1) c.path → is_line (job_of c ms w) ≡ false → (parent : Bool)
-      → h.parent ≡ parent
-      → first_at b ms c s n w
-      ≡ first_act (seen (slots_of s) (tree_of b ms c (part_task parent (n + 1) (next_in b s h w) ∷ waits_at s h (n + 1) w []) Good))
-  first_at-look n w h at_hop by_message parent e =
-      ap first_act (tree_of-look b ms c s n w h [] Good at_hop by_message)
-      ∙ ap (λ (t : Bool). first_act (seen (slots_of s)
-      (tree_of b ms c (part_task t (n + 1) (next_in b s h w) ∷ waits_at s h (n + 1) w []) Good))) e
-
-  pub first_at-next : (n : ℕ) (w : Work) (h : Hop) → drop n c.path ≡ h ∷ drop (n + 1) c.path → is_line (job_of c ms w) ≡ false
-      → h.parent ≡ true
-      → first_at b ms c s (n + 1) (next_in b s h w) ≡ first_at b ms c s n w
-  first_at-next n w h at_hop by_message e =
-      sym (first_at-look n w h at_hop by_message true e
-      ∙ first_at-any b ms c s (n + 1) (next_in b s h w) (waits_at s h (n + 1) w []) Good)
-
-  pub first_at-lock : (n : ℕ) (w : Work) (h : Hop) → drop n c.path ≡ h ∷ drop (n + 1) c.path → is_line (job_of c ms w) ≡ false
-      → h.parent ≡ false
-      → first_act (tree_of b ms c (Lock (n + 1) (n + 1) (next_in b s h w) ∷ []) Good) ≡ first_at b ms c s n w
-  first_at-lock n w h at_hop by_message e =
-      let next = next_in b s h w in
-      let waits = waits_at s h (n + 1) w [] in
-      sym (first_at-look n w h at_hop by_message false e
-      ∙ ap first_act (seen-step b ms c (slots_of s) (Lock (n + 1) (n + 1) next ∷ waits) Good tt)
-      ∙ first_of-task b ms c (Lock (n + 1) (n + 1) next) waits Good tt)
-
-  -- .. and behind a close
-  pub first_at-pass : (n : ℕ) (w next : Work) (h : Hop) → (parent : Bool) → h.parent ≡ parent
-      → next ≡ choice_of h (keeps h (kept_of s h.mux)) w → (ts : List Task) (out : JobOutcome)
-      → first_act (seen (slots_of s) (tree_of b ms c (part_task parent n next ∷ []) Good)) ≡ first_act
-      (seen (slots_of s) (tree_of b ms c (Pass n h w ∷ ts) out))
-  first_at-pass n w next h parent e by_choice ts out =
-      part_first parent n next (select_tasks h (keeps h (kept_of s h.mux)) n w ts) out
-      ∙ ap first_act (passes-by b ms c s n w h ts out parent e next (select_tasks h (keeps h (kept_of s h.mux)) n w ts) by_choice refl)
-    where
-      part_first : (t : Bool) (k : ℕ) (x : Work) (below : List Task) (o : JobOutcome)
-          → first_act (seen (slots_of s) (tree_of b ms c (part_task t k x ∷ []) Good)) ≡ first_act
-          (seen (slots_of s) (tree_of b ms c (part_task t k x ∷ below) o))
-      part_first true k x below o = sym (first_at-any b ms c s k x below o)
-      part_first false k x below o =
-          ap first_act (seen-step b ms c (slots_of s) (Lock k k x ∷ []) Good tt)
-          ∙ sym (ap first_act (seen-step b ms c (slots_of s) (Lock k k x ∷ below) o tt) ∙ first_of-task b ms c (Lock k k x) below o tt)
-
-  pub first_at-bus : (n : ℕ) (w : Work) (t : Task) → (is_line (job_of c ms w) ≡ true) ⊎ (drop n c.path ≡ [])
-      → tree_of b ms c (t ∷ []) Good ≡ at_bus (job_of c ms w) (note_of []) (tree_of b ms c [])
-      → first_act (tree_of b ms c (t ∷ []) Good) ≡ first_at b ms c s n w
-  first_at-bus n w t at_end e = ap first_act (e ∙ sym (tree_of-bus b ms c s n w [] Good at_end))
-
 -- a mux is crossed in the stack: what does the job comes over what waits
-pub tree_of-cross : (b : BoardView) (ms : List MessageView) (c : RouteView) (s : SeenView) (n : ℕ) (w : Work) (h : Hop) (ts : List Task)
+pub tree_of-cross : (b : BoardView) (ms : List MessageView) (c : RouteView) (s : SeenView) (k : ℕ) (w : Work) (ts : List Task)
     (out : JobOutcome)
-    → drop n c.path ≡ h ∷ drop (n + 1) c.path → is_line (job_of c ms w) ≡ false → (parent : Bool) → h.parent ≡ parent
-    → seen (slots_of s) (tree_of b ms c (part_task parent (n + 1) (next_in b s h w) ∷ waits_at s h (n + 1) w ts) out)
-    ≡ seen (slots_of s) (tree_of b ms c (Enter n w ∷ ts) out)
-tree_of-cross b ms c s n w h ts out at_hop by_message parent e =
-    sym (tree_of-look b ms c s n w h ts out at_hop by_message
-    ∙ ap (λ (t : Bool). seen (slots_of s) (tree_of b ms c (part_task t (n + 1) (next_in b s h w) ∷ waits_at s h (n + 1) w ts) out)) e)
+    → drop k c.path ≡ hop_at c k ∷ drop (k + 1) c.path → is_line (job_of c ms w) ≡ false → (parent : Bool) → (hop_at c k).parent ≡ parent
+    → seen (slots_of s) (tree_of b ms c (part_task parent (k + 1) (next_in b c s k w) ∷ waits_at c s k w ts) out)
+    ≡ seen (slots_of s) (tree_of b ms c (Enter k w ∷ ts) out)
+tree_of-cross b ms c s k w ts out at_hop by_message parent e =
+    sym (tree_of-look b ms c s k w ts out at_hop by_message
+    ∙ ap (λ (t : Bool). seen (slots_of s) (tree_of b ms c (part_task t (k + 1) (next_in b c s k w) ∷ waits_at c s k w ts) out)) e)
 
 -- the first lock is taken
 pub tree_of-locked : (b : BoardView) (ms : List MessageView) (c : RouteView) (m n : ℕ) (w : Work) (ts : List Task) (out out2 : JobOutcome)
@@ -467,55 +327,67 @@ messages-over left less job note k out e f =
     ∙ sym (messages-more left less job note k out e)
 
 -- .. as the loop has it: what was so far is the whole
-module _ (b : BoardView) (ms : List MessageView) (s : SeenView) (c : RouteView) (n : ℕ) (w : Work) (h : Hop) (ts : List Task)
+module _ (b : BoardView) (ms : List MessageView) (s : SeenView) (c : RouteView) (k : ℕ) (w : Work) (ts : List Task)
     (out : JobOutcome) where
-  crossed_by : (t : Bool) → h.parent ≡ t → (c1 : RouteView) (next : Work) (new : List Task)
-      → c1 ≡ c → next ≡ next_in b s h w → new ≡ crossed_tasks h (mark_on s h.on) (keeps h (kept_of s h.mux)) (n + 1) w next ts
+  crossed_by : (t : Bool) → (hop_at c k).parent ≡ t → (c1 : RouteView) (next : Work) (new : List Task)
+      → c1 ≡ c → next ≡ next_in b c s k w
+      → new ≡ crossed_tasks (hop_at c k).parent (mark_on s (hop_at c k).on) (keeps (hop_at c k) (kept_of s (hop_at c k).mux)) k w next ts
       → (f : RouteView → Work → List Task → WalkTree)
       → f c1 next new
-      ≡ f c (next_in b s h w)
-      (cond t (waits_at s h (n + 1) w ts) (Lock (n + 1) (n + 1) (next_in b s h w) ∷ waits_at s h (n + 1) w ts))
+      ≡ f c (next_in b c s k w)
+      (cond t (waits_at c s k w ts) (Lock (k + 1) (k + 1) (next_in b c s k w) ∷ waits_at c s k w ts))
   crossed_by t e c1 next new same by_switch stack f =
-      let waits = waits_at s h (n + 1) w ts in
+      let waits = waits_at c s k w ts in
       ap (λ (x : RouteView). f x next new) same
       ∙ ap (f c next) stack
-      ∙ ap (λ (x : Work). f c x (cond h.parent waits (Lock (n + 1) (n + 1) x ∷ waits))) by_switch
-      ∙ ap (λ (x : Bool). f c (next_in b s h w) (cond x waits (Lock (n + 1) (n + 1) (next_in b s h w) ∷ waits))) e
+      ∙ ap (λ (x : Work). f c x (cond (hop_at c k).parent waits (Lock (k + 1) (k + 1) x ∷ waits))) by_switch
+      ∙ ap (λ (x : Bool). f c (next_in b c s k w) (cond x waits (Lock (k + 1) (k + 1) (next_in b c s k w) ∷ waits))) e
 
-  pub enters-lock : drop n c.path ≡ h ∷ drop (n + 1) c.path → is_line (job_of c ms w) ≡ false → h.parent ≡ false
+  pub enters-lock : drop k c.path ≡ hop_at c k ∷ drop (k + 1) c.path → is_line (job_of c ms w) ≡ false → (hop_at c k).parent ≡ false
       → (c1 : RouteView) (next : Work) (new : List Task)
-      → c1 ≡ c → next ≡ next_in b s h w → new ≡ crossed_tasks h (mark_on s h.on) (keeps h (kept_of s h.mux)) (n + 1) w next ts
-      → tree_of b ms c1 new out ≡ seen (slots_of s) (tree_of b ms c (Enter n w ∷ ts) out)
+      → c1 ≡ c → next ≡ next_in b c s k w
+      → new ≡ crossed_tasks (hop_at c k).parent (mark_on s (hop_at c k).on) (keeps (hop_at c k) (kept_of s (hop_at c k).mux)) k w next ts
+      → tree_of b ms c1 new out ≡ seen (slots_of s) (tree_of b ms c (Enter k w ∷ ts) out)
   enters-lock at_hop by_message e c1 next new same by_switch stack =
       crossed_by false e c1 next new same by_switch stack (λ x y z. tree_of b ms x z out)
-      ∙ sym (seen-step b ms c (slots_of s) (Lock (n + 1) (n + 1) (next_in b s h w) ∷ waits_at s h (n + 1) w ts) out tt)
-      ∙ tree_of-cross b ms c s n w h ts out at_hop by_message false e
+      ∙ sym (seen-step b ms c (slots_of s) (Lock (k + 1) (k + 1) (next_in b c s k w) ∷ waits_at c s k w ts) out tt)
+      ∙ tree_of-cross b ms c s k w ts out at_hop by_message false e
 
-  pub enters-next : drop n c.path ≡ h ∷ drop (n + 1) c.path → is_line (job_of c ms w) ≡ false → h.parent ≡ true
+  pub enters-next : drop k c.path ≡ hop_at c k ∷ drop (k + 1) c.path → is_line (job_of c ms w) ≡ false → (hop_at c k).parent ≡ true
       → (c1 : RouteView) (next : Work) (new : List Task)
-      → c1 ≡ c → next ≡ next_in b s h w → new ≡ crossed_tasks h (mark_on s h.on) (keeps h (kept_of s h.mux)) (n + 1) w next ts
-      → seen (slots_of s) (tree_of b ms c1 (Enter (n + 1) next ∷ new) out) ≡ seen (slots_of s) (tree_of b ms c (Enter n w ∷ ts) out)
+      → c1 ≡ c → next ≡ next_in b c s k w
+      → new ≡ crossed_tasks (hop_at c k).parent (mark_on s (hop_at c k).on) (keeps (hop_at c k) (kept_of s (hop_at c k).mux)) k w next ts
+      → seen (slots_of s) (tree_of b ms c1 (Enter (k + 1) next ∷ new) out) ≡ seen (slots_of s) (tree_of b ms c (Enter k w ∷ ts) out)
   enters-next at_hop by_message e c1 next new same by_switch stack =
-      crossed_by true e c1 next new same by_switch stack (λ x y z. seen (slots_of s) (tree_of b ms x (Enter (n + 1) y ∷ z) out))
-      ∙ tree_of-cross b ms c s n w h ts out at_hop by_message true e
-
--- the first step of a stack that stands at one
-pub first_of-step : (b : BoardView) (ms : List MessageView) (c : RouteView) (v : Slots) (t : Task) (ts : List Task) (out : JobOutcome)
-    → IsStep (t ∷ ts)
-    → first_act (seen v (tree_of b ms c (t ∷ ts) out)) ≡ first_act (tree_of b ms c (t ∷ []) Good)
-first_of-step b ms c v t ts out h = ap first_act (seen-step b ms c v (t ∷ ts) out h) ∙ first_of-task b ms c t ts out h
+      crossed_by true e c1 next new same by_switch stack (λ x y z. seen (slots_of s) (tree_of b ms x (Enter (k + 1) y ∷ z) out))
+      ∙ tree_of-cross b ms c s k w ts out at_hop by_message true e
 
 -- a task that doesn't wait, and doesn't begin a job, is a step
 pub ready-step : (t : Task) (ts : List Task) → IsReady (t ∷ ts) → ((n : ℕ) (w : Work) → t ≡ Enter n w → ⊥)
-    → ((n : ℕ) (h : Hop) (w : Work) → t ≡ Pass n h w → ⊥) → IsStep (t ∷ ts)
+    → ((k : ℕ) (w : Work) → t ≡ Pass k w → ⊥) → IsStep (t ∷ ts)
 ready-step (Enter n w) ts ready other pass = other n w refl
 ready-step (Lock m n w) ts ready other pass = tt
 ready-step (Free l) ts ready other pass = tt
 ready-step (Rest left w) ts ready other pass = tt
 ready-step (Line w) ts ready other pass = tt
 ready-step (Settle v) ts ready other pass = tt
-ready-step (AwaitClose n h m w) ts ready other pass = ready
-ready-step (Pass n h w) ts ready other pass = pass n h w refl
-ready-step (AwaitSelect n h w) ts ready other pass = ready
-ready-step (AwaitWork n h) ts ready other pass = ready
-ready-step (AwaitDeselect h was) ts ready other pass = ready
+ready-step (AwaitClose k m w) ts ready other pass = ready
+ready-step (Pass k w) ts ready other pass = pass k w refl
+ready-step (AwaitSelect k w) ts ready other pass = ready
+ready-step (AwaitWork k) ts ready other pass = ready
+ready-step (AwaitDeselect k was) ts ready other pass = ready
+
+-- a step isn't waiting
+pub step-ready : (ts : List Task) → IsStep ts → IsReady ts
+step-ready [] step = tt
+step-ready (Enter n w ∷ ts) step = tt
+step-ready (Lock m n w ∷ ts) step = tt
+step-ready (Free l ∷ ts) step = tt
+step-ready (Rest left w ∷ ts) step = tt
+step-ready (Line w ∷ ts) step = tt
+step-ready (Settle v ∷ ts) step = tt
+step-ready (AwaitClose k m w ∷ ts) step = step
+step-ready (Pass k w ∷ ts) step = tt
+step-ready (AwaitSelect k w ∷ ts) step = step
+step-ready (AwaitWork k ∷ ts) step = step
+step-ready (AwaitDeselect k was ∷ ts) step = step

@@ -1,5 +1,5 @@
 -- A walk with a task that doesn't wait has a step to come: its tree doesn't end.
-use Rattle.std.proofs.Common.{◌≡◌, ℕ, zero, suc, Bool, true, false, cond, List, [], ◌∷◌, length, drop, ◌<◌, refl, sym, arith}
+use Rattle.std.proofs.Common.{◌≡◌, ℕ, zero, suc, Bool, true, false, cond, List, [], ◌∷◌, length, drop, ◌<◌, refl, sym, ◌∙◌, arith}
 use Rattle.i2c_base.specs.Board.{BoardView}
 use Rattle.i2c_spec.specs.Tree.{Hop, locks_of}
 use Rattle.i2c_spec.specs.Messages.{MessageView}
@@ -9,7 +9,7 @@ use Rattle.bus_spec.specs.Grammar.{over, locked, part, messages, at_bus, behind,
 use Rattle.mux_plan.specs.declared.task.Task.{Task}
 use Rattle.mux_plan.specs.declared.task.Task.TheVariants.{Enter, Lock, Free, Rest, Line, Settle, AwaitClose, Pass, AwaitSelect, AwaitWork, AwaitDeselect}
 use Rattle.mux_plan.specs.Plans.{RouteView, job_of, note_of, tree_of}
-use Rattle.mux_plan.specs.Rooms.{IsReady}
+use Rattle.mux_plan.specs.Rooms.{IsReady, IsWalk}
 
 module _ (b : BoardView) (ms : List MessageView) (c : RouteView) where
   goes_on-messages : (left : ℕ) (job : Job) (note : Note) (k : JobOutcome → WalkTree) → is_over (messages left job note k) ≡ false
@@ -33,22 +33,22 @@ module _ (b : BoardView) (ms : List MessageView) (c : RouteView) where
       by false = refl
 
   goes_on : (t : Task) (ts : List Task) (out : JobOutcome) → IsReady (t ∷ ts) → is_over (tree_of b ms c (t ∷ ts) out) ≡ false
-  goes_on (Enter n w) ts out ready = goes_on-inner (drop n c.path) (job_of c ms w) (note_of ts) (tree_of b ms c ts)
+  goes_on (Enter n w) ts out ready = goes_on-inner (drop n c.path) (job_of c ms w) (note_of c ts) (tree_of b ms c ts)
   goes_on (Lock m n w) ts out ready = by (drop m c.path)
     where
       by : (hs : List Hop) → is_over
-          (locked (locks_of c.root hs) (inner b c.root (drop n c.path)) (job_of c ms w) (note_of ts) (tree_of b ms c ts)) ≡ false
+          (locked (locks_of c.root hs) (inner b c.root (drop n c.path)) (job_of c ms w) (note_of c ts) (tree_of b ms c ts)) ≡ false
       by [] = refl
       by (g ∷ hs) = refl
   goes_on (Free l) ts out ready = refl
-  goes_on (Rest left w) ts out ready = goes_on-messages left (job_of c ms w) (note_of ts) (tree_of b ms c ts)
+  goes_on (Rest left w) ts out ready = goes_on-messages left (job_of c ms w) (note_of c ts) (tree_of b ms c ts)
   goes_on (Line w) ts out ready = refl
   goes_on (Settle x) ts out ready = refl
-  goes_on (AwaitClose n g m w) ts out ready = absurd ready
-  goes_on (Pass n g w) ts out ready = refl
-  goes_on (AwaitSelect n g w) ts out ready = absurd ready
-  goes_on (AwaitWork n g) ts out ready = absurd ready
-  goes_on (AwaitDeselect g was) ts out ready = absurd ready
+  goes_on (AwaitClose k m w) ts out ready = absurd ready
+  goes_on (Pass k w) ts out ready = refl
+  goes_on (AwaitSelect k w) ts out ready = absurd ready
+  goes_on (AwaitWork k) ts out ready = absurd ready
+  goes_on (AwaitDeselect k was) ts out ready = absurd ready
 
   pub is_over-empty : (ts : List Task) (out : JobOutcome) (empty : Bool) → IsReady ts → (empty ≡ true → ts ≡ [])
       → (empty ≡ false → 0 < length ts) → empty ≡ is_over (tree_of b ms c ts out)
@@ -56,3 +56,11 @@ module _ (b : BoardView) (ms : List MessageView) (c : RouteView) where
   is_over-empty [] out false ready none some = absurd (omega (arith, some refl))
   is_over-empty (t ∷ ts) out true ready none some = absurd (let e : t ∷ ts ≡ [] = none refl in cc)
   is_over-empty (t ∷ ts) out false ready none some = sym (goes_on t ts out ready)
+
+  -- the tasks of a walk and those with its looks answered end together
+  pub both-over : (out : JobOutcome) (tasks looked : List Task) → IsWalk c tasks looked
+      → is_over (tree_of b ms c looked out) ≡ is_over (tree_of b ms c tasks out)
+  both-over out [] [] is = refl
+  both-over out [] (t ∷ ts) is = absurd (let e : t ∷ ts ≡ [] = is.none refl in cc)
+  both-over out (t ∷ ts) [] is = absurd (omega (arith, is.some (omega arith)))
+  both-over out (t ∷ ts) (x ∷ xs) is = goes_on x xs out is.ready ∙ sym (goes_on t ts out is.waits)

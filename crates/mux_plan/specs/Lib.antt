@@ -1,3 +1,4 @@
+pub mod Looks
 pub mod Marks
 pub mod Plans
 pub mod Rooms

@@ -1,5 +1,5 @@
 -- What a stack of tasks stands for: a walk of the grammar. Each kind of task is one line.
-use Rattle.std.specs.Prelude.{◌≡◌, ◌<◌, ℕ, zero, suc, ◌==◌, Bool, true, false, List, [], ◌∷◌, length, drop, Option, Some, None, slice_index_or, if◌then◌else◌}
+use Rattle.std.specs.Prelude.{◌≡◌, ◌<◌, ℕ, zero, suc, ◌+◌, ◌==◌, Bool, true, false, List, [], ◌∷◌, length, drop, Option, Some, None, slice_index_or, if◌then◌else◌}
 use Rattle.i2c_base.specs.declared.entry.End.{End}
 use Rattle.i2c_base.specs.declared.entry.End.TheVariants as end
 use Rattle.i2c_base.specs.declared.entry.Purpose.{Purpose}
@@ -7,13 +7,14 @@ use Rattle.i2c_base.specs.declared.entry.Purpose.TheVariants as purpose
 use Rattle.i2c_base.specs.declared.ids.LockId.{LockId}
 use Rattle.i2c_base.specs.declared.ids.LockId.TheVariants as lock
 use Rattle.i2c_base.specs.Board.{BoardView}
+use Rattle.i2c_base.specs.declared.board.MuxKind.TheVariants.{Gpio}
 use Rattle.i2c_spec.specs.Tree.{Hop, locks_of}
 use Rattle.i2c_spec.specs.Chips.{select_value, close_value}
 use Rattle.i2c_spec.specs.Messages.{MessageView}
 use Rattle.bus_spec.specs.Walk.{Job, Call, Select, SwitchOff, Deselect, Close, Act, ActOutcome, JobOutcome, Note, WalkTree, KeptOf, Go, Ends, Look, Then, job_bus, job_purpose, part_of, parts_of, line_mux, line_level}
 use Rattle.bus_spec.specs.Walk as walk
 use Rattle.bus_spec.specs.Slots.{MuxSlot, Clean, Marked, Slots, mark_in, after_job}
-use Rattle.bus_spec.specs.Grammar.{Doer, plain, over, locked, part, messages, with_mark, aside, if_sent, if_good, opened, crossed, inner, kind_of, seen, first_act}
+use Rattle.bus_spec.specs.Grammar.{Doer, plain, over, locked, part, messages, with_mark, aside, if_sent, if_good, opened, crossed, inner, kind_of}
 use Rattle.mux_plan.specs.declared.task.Work.{Work}
 use Rattle.mux_plan.specs.declared.task.Work.TheVariants as work
 use Rattle.mux_plan.specs.declared.task.WorkResult.{WorkResult}
@@ -35,16 +36,25 @@ pub record RouteView : Type 0 where
   pub bus : ℕ
   pub count : ℕ
 
--- a walk: its tasks, the one on the top first, and what came of the last job
+-- a walk: its tasks, the one on the top first, before the looks in front of the next step and with these answered; and what
+-- came of the last job
 pub record WalkView : Type 0 where
   pub route : RouteView
   pub tasks : List Task
+  pub looked : List Task
   pub came : JobOutcome
+
+-- the mux of this number on the path; one that isn't there is any
+abbrev pub no_hop : Hop
+no_hop = record { bus = 0; mux = 0; channel = 0; on = 0; parent = false; kind = Gpio; stays = false }
+
+abbrev pub hop_at : RouteView → ℕ → Hop
+hop_at c k = slice_index_or c.path k no_hop
 
 abbrev pub job_of : RouteView → List MessageView → Work → Job
 job_of c ms work.Call = Call c.bus ms
-job_of c ms (work.Select h) = Select h
-job_of c ms (work.Deselect h) = SwitchOff (Deselect h)
+job_of c ms (work.Select k) = Select (hop_at c k)
+job_of c ms (work.Deselect k) = SwitchOff (Deselect (hop_at c k))
 job_of c ms (work.Close on mux kind) = SwitchOff (Close on mux kind)
 
 abbrev pub came_of : WorkResult → JobOutcome
@@ -64,76 +74,78 @@ go_of follow.Last = walk.Last
 go_of follow.Over = walk.Over
 
 -- what a failure of the task above marks: each select and close that waits marks its own mux, a deselect starts anew
-abbrev pub note_of : List Task → Note
-note_of [] = plain
-note_of (Enter n w ∷ ts) = note_of ts
-note_of (Lock m n w ∷ ts) = note_of ts
-note_of (Free l ∷ ts) = note_of ts
-note_of (Rest left w ∷ ts) = note_of ts
-note_of (Line w ∷ ts) = note_of ts
-note_of (Settle v ∷ ts) = note_of ts
-note_of (AwaitClose n h m w ∷ ts) = with_mark h.on m (note_of ts)
-note_of (Pass n h w ∷ ts) = note_of ts
-note_of (AwaitSelect n h w ∷ ts) = with_mark h.on h.mux (note_of ts)
-note_of (AwaitWork n h ∷ ts) = note_of ts
-note_of (AwaitDeselect h was ∷ ts) = aside h
+abbrev pub note_of : RouteView → List Task → Note
+note_of c [] = plain
+note_of c (Enter n w ∷ ts) = note_of c ts
+note_of c (Lock m n w ∷ ts) = note_of c ts
+note_of c (Free l ∷ ts) = note_of c ts
+note_of c (Rest left w ∷ ts) = note_of c ts
+note_of c (Line w ∷ ts) = note_of c ts
+note_of c (Settle v ∷ ts) = note_of c ts
+note_of c (AwaitClose k m w ∷ ts) = with_mark (hop_at c k).on m (note_of c ts)
+note_of c (Pass k w ∷ ts) = note_of c ts
+note_of c (AwaitSelect k w ∷ ts) = with_mark (hop_at c k).on (hop_at c k).mux (note_of c ts)
+note_of c (AwaitWork k ∷ ts) = note_of c ts
+note_of c (AwaitDeselect k was ∷ ts) = aside (hop_at c k)
 
--- what does a job on the bus at place n, on which the mux of this hop stands
-abbrev pub on_bus : BoardView → RouteView → ℕ → Hop → Doer
-on_bus b c n h = part h.parent (locks_of c.root (drop n c.path)) (inner b c.root (drop n c.path))
+-- what does a job on the bus that mux k of the path stands on
+abbrev pub on_bus : BoardView → RouteView → ℕ → Doer
+on_bus b c k = part (hop_at c k).parent (locks_of c.root (drop (k + 1) c.path)) (inner b c.root (drop (k + 1) c.path))
 
 -- the walk that these tasks stand for, where this came of the last job
 abbrev pub tree_of : BoardView → List MessageView → RouteView → List Task → JobOutcome → WalkTree
 tree_of b ms c [] out = Ends
-tree_of b ms c (Enter n w ∷ ts) out = inner b c.root (drop n c.path) (job_of c ms w) (note_of ts) (tree_of b ms c ts)
+tree_of b ms c (Enter n w ∷ ts) out = inner b c.root (drop n c.path) (job_of c ms w) (note_of c ts) (tree_of b ms c ts)
 tree_of b ms c (Lock m n w ∷ ts) out =
-    locked (locks_of c.root (drop m c.path)) (inner b c.root (drop n c.path)) (job_of c ms w) (note_of ts) (tree_of b ms c ts)
+    locked (locks_of c.root (drop m c.path)) (inner b c.root (drop n c.path)) (job_of c ms w) (note_of c ts) (tree_of b ms c ts)
 tree_of b ms c (Free l ∷ ts) out = Then (walk.Free l) plain (λ o. tree_of b ms c ts out)
-tree_of b ms c (Rest left w ∷ ts) out = messages left (job_of c ms w) (note_of ts) (tree_of b ms c ts)
-tree_of b ms c (Line w ∷ ts) out = Then (walk.Shift (job_of c ms w)) (note_of ts)
-    (over (job_of c ms w) zero (note_of ts) (tree_of b ms c ts))
+tree_of b ms c (Rest left w ∷ ts) out = messages left (job_of c ms w) (note_of c ts) (tree_of b ms c ts)
+tree_of b ms c (Line w ∷ ts) out = Then (walk.Shift (job_of c ms w)) (note_of c ts)
+    (over (job_of c ms w) zero (note_of c ts) (tree_of b ms c ts))
 tree_of b ms c (Settle v ∷ ts) out = Then (walk.Settle v) plain (λ o. tree_of b ms c ts out)
-tree_of b ms c (AwaitClose n h m w ∷ ts) out =
-    if_sent out (Look (KeptOf h.on h.mux) (crossed h (on_bus b c n h) (job_of c ms w) (note_of ts) (tree_of b ms c ts))) (tree_of b ms c ts)
-tree_of b ms c (Pass n h w ∷ ts) out = Look (KeptOf h.on h.mux)
-    (crossed h (on_bus b c n h) (job_of c ms w) (note_of ts) (tree_of b ms c ts))
-tree_of b ms c (AwaitSelect n h w ∷ ts) out =
-    if_good out (opened h (on_bus b c n h) (job_of c ms w) (note_of ts) (tree_of b ms c ts)) (tree_of b ms c ts)
-tree_of b ms c (AwaitWork n h ∷ ts) out = on_bus b c n h (SwitchOff (Deselect h)) (aside h) (λ o. tree_of b ms c ts out)
-tree_of b ms c (AwaitDeselect h was ∷ ts) out = tree_of b ms c ts (came_of was)
+tree_of b ms c (AwaitClose k m w ∷ ts) out =
+    if_sent out (Look (KeptOf (hop_at c k).on (hop_at c k).mux)
+    (crossed (hop_at c k) (on_bus b c k) (job_of c ms w) (note_of c ts) (tree_of b ms c ts))) (tree_of b ms c ts)
+tree_of b ms c (Pass k w ∷ ts) out = Look (KeptOf (hop_at c k).on (hop_at c k).mux)
+    (crossed (hop_at c k) (on_bus b c k) (job_of c ms w) (note_of c ts) (tree_of b ms c ts))
+tree_of b ms c (AwaitSelect k w ∷ ts) out =
+    if_good out (opened (hop_at c k) (on_bus b c k) (job_of c ms w) (note_of c ts) (tree_of b ms c ts)) (tree_of b ms c ts)
+tree_of b ms c (AwaitWork k ∷ ts) out = on_bus b c k (SwitchOff (Deselect (hop_at c k))) (aside (hop_at c k)) (λ o. tree_of b ms c ts out)
+tree_of b ms c (AwaitDeselect k was ∷ ts) out = tree_of b ms c ts (came_of was)
 
 -- the job on the bus at place n: the locks of a mux-locked mux come first
 abbrev pub part_task : Bool → ℕ → Work → Task
 part_task true n w = Enter n w
 part_task false n w = Lock n n w
 
--- the job that comes first at a mux: the channel is selected, but where the mux keeps it open
-abbrev pub choice_of : Hop → Bool → Work → Work
-choice_of h true w = w
-choice_of h false w = work.Select h
+-- the job that comes first at mux k of the path: the channel is selected, but where the mux keeps it open
+abbrev pub choice_of : RouteView → ℕ → Bool → Work → Work
+choice_of c k true w = w
+choice_of c k false w = work.Select k
 
 -- .. and a marked one is closed before
-abbrev pub switch_of : BoardView → Hop → Option ℕ → Bool → Work → Work
-switch_of b h None kept w = choice_of h kept w
-switch_of b h (Some m) kept w = work.Close h.on m (kind_of b m)
+abbrev pub switch_of : BoardView → RouteView → ℕ → Option ℕ → Bool → Work → Work
+switch_of b c k None kept w = choice_of c k kept w
+switch_of b c k (Some m) kept w = work.Close (hop_at c k).on m (kind_of b m)
 
 -- what waits for that job, above these tasks: nothing where no select is made
-abbrev pub select_tasks : Hop → Bool → ℕ → Work → List Task → List Task
-select_tasks h true n w ts = ts
-select_tasks h false n w ts = AwaitSelect n h w ∷ ts
+abbrev pub select_tasks : Bool → ℕ → Work → List Task → List Task
+select_tasks true k w ts = ts
+select_tasks false k w ts = AwaitSelect k w ∷ ts
 
-abbrev pub wait_tasks : Hop → Option ℕ → Bool → ℕ → Work → List Task → List Task
-wait_tasks h None kept n w ts = select_tasks h kept n w ts
-wait_tasks h (Some m) kept n w ts = AwaitClose n h m w ∷ ts
+abbrev pub wait_tasks : Option ℕ → Bool → ℕ → Work → List Task → List Task
+wait_tasks None kept k w ts = select_tasks kept k w ts
+wait_tasks (Some m) kept k w ts = AwaitClose k m w ∷ ts
 
 -- the stack behind a mux that was crossed; the job of a parent-locked one is still to come
-abbrev pub crossed_tasks : Hop → Option ℕ → Bool → ℕ → Work → Work → List Task → List Task
-crossed_tasks h mark kept n w next ts = if h.parent then wait_tasks h mark kept n w ts else Lock n n next ∷ wait_tasks h mark kept n w ts
+abbrev pub crossed_tasks : Bool → Option ℕ → Bool → ℕ → Work → Work → List Task → List Task
+crossed_tasks parent mark kept k w next ts =
+    if parent then wait_tasks mark kept k w ts else Lock (k + 1) (k + 1) next ∷ wait_tasks mark kept k w ts
 
 -- what waits for the work behind a mux: a mux that stays as it is is not deselected
-abbrev pub work_tasks : Bool → ℕ → Hop → List Task → List Task
-work_tasks true n h ts = ts
-work_tasks false n h ts = AwaitWork n h ∷ ts
+abbrev pub work_tasks : Bool → ℕ → List Task → List Task
+work_tasks true k ts = ts
+work_tasks false k ts = AwaitWork k ∷ ts
 
 -- the first of the locks at the end of these hops, and whether more follow it
 abbrev pub first_lock : ℕ → List Hop → LockId
@@ -152,15 +164,18 @@ is_deselect (Free l) = false
 is_deselect (Rest left w) = false
 is_deselect (Line w) = false
 is_deselect (Settle v) = false
-is_deselect (AwaitClose n h m w) = false
-is_deselect (Pass n h w) = false
-is_deselect (AwaitSelect n h w) = false
-is_deselect (AwaitWork n h) = false
-is_deselect (AwaitDeselect h was) = true
+is_deselect (AwaitClose k m w) = false
+is_deselect (Pass k w) = false
+is_deselect (AwaitSelect k w) = false
+is_deselect (AwaitWork k) = false
+is_deselect (AwaitDeselect k was) = true
 
--- the walk that a stack stands for
+-- the walk that its tasks stand for, before the looks in front of its next step, and with these answered
 abbrev pub walk_of : BoardView → List MessageView → WalkView → WalkTree
 walk_of b ms w = tree_of b ms w.route w.tasks w.came
+
+abbrev pub looked_of : BoardView → List MessageView → WalkView → WalkTree
+looked_of b ms w = tree_of b ms w.route w.looked w.came
 
 -- what lock words tell: the mark of each bus, and the channel that each mux keeps open
 pub record SeenView : Type 0 where
@@ -203,10 +218,6 @@ abbrev pub control_of : Job → ℕ → Option ℕ
 control_of (Call bus ms) left = None
 control_of (Select h) left = select_byte h left
 control_of (SwitchOff off) left = Some close_value
-
--- the first step of a job at a place, with nothing behind it
-abbrev pub first_at : BoardView → List MessageView → RouteView → SeenView → ℕ → Work → Option Act
-first_at b ms c s n w = first_act (seen (slots_of s) (tree_of b ms c (Enter n w ∷ []) walk.Good))
 
 -- the message of a job that so many more may follow, as it is sent next
 abbrev pub next_msg : Job → ℕ → NextMsg

@@ -1,5 +1,5 @@
 -- How many tasks a stack may have: so many for each mux that was crossed, and the locks of its bus.
-use Rattle.std.specs.Prelude.{ℕ, ◌+◌, ◌*◌, ◌<◌, ◌≤◌, List, [], ◌∷◌, length, All}
+use Rattle.std.specs.Prelude.{◌≡◌, ℕ, ◌+◌, ◌*◌, ◌<◌, ◌≤◌, List, [], ◌∷◌, length, All}
 use Rattle.i2c_base.specs.Limits.{MOST_CHANNELS, MOST_DEPTH}
 use Rattle.i2c_spec.specs.Tree.{Hop}
 use Rattle.mux_plan.specs.Plans.{RouteView}
@@ -16,25 +16,26 @@ STACK_ROOM = 32
 abbrev pub IsNarrow : Hop → Type 0
 IsNarrow h = h.channel < MOST_CHANNELS
 
-abbrev pub IsNarrowWork : Work → Type 0
-IsNarrowWork work.Call = Unit {0}
-IsNarrowWork (work.Select h) = h.channel < MOST_CHANNELS
-IsNarrowWork (work.Deselect h) = Unit {0}
-IsNarrowWork (work.Close on mux kind) = Unit {0}
+-- the mux of a piece of work is one of so many on the path
+abbrev pub IsPlacedWork : ℕ → Work → Type 0
+IsPlacedWork d work.Call = Unit {0}
+IsPlacedWork d (work.Select k) = k < d
+IsPlacedWork d (work.Deselect k) = k < d
+IsPlacedWork d (work.Close on mux kind) = Unit {0}
 
--- a task over k others, on a path over d muxes
+-- a task over m others, on a path over d muxes
 abbrev pub Fits : ℕ → Task → ℕ → Type 0
-Fits d (Enter n w) k = IsNarrowWork w × (n ≤ d) × (k ≤ 6 * n + 5)
-Fits d (Lock m n w) k = IsNarrowWork w × (n ≤ m) × (m ≤ d) × (k ≤ 5 * n + m)
-Fits d (Free l) k = k < STACK_ROOM
-Fits d (Rest left w) k = IsNarrowWork w × (k ≤ 6 * d + 5)
-Fits d (Line w) k = IsNarrowWork w × (k ≤ 6 * d + 5)
-Fits d (Settle v) k = k < STACK_ROOM
-Fits d (AwaitClose n h m w) k = IsNarrowWork w × IsNarrow h × (n ≤ d) × (k + 1 ≤ 6 * n)
-Fits d (Pass n h w) k = IsNarrowWork w × IsNarrow h × (n ≤ d) × (k + 1 ≤ 6 * n)
-Fits d (AwaitSelect n h w) k = IsNarrowWork w × IsNarrow h × (n ≤ d) × (k + 1 ≤ 6 * n)
-Fits d (AwaitWork n h) k = (n ≤ d) × (k + 1 ≤ 6 * n)
-Fits d (AwaitDeselect h was) k = k < STACK_ROOM
+Fits d (Enter n w) m = IsPlacedWork d w × (n ≤ d) × (m ≤ 6 * n + 5)
+Fits d (Lock f n w) m = IsPlacedWork d w × (n ≤ f) × (f ≤ d) × (m ≤ 5 * n + f)
+Fits d (Free l) m = m < STACK_ROOM
+Fits d (Rest left w) m = IsPlacedWork d w × (m ≤ 6 * d + 5)
+Fits d (Line w) m = IsPlacedWork d w × (m ≤ 6 * d + 5)
+Fits d (Settle v) m = m < STACK_ROOM
+Fits d (AwaitClose k x w) m = IsPlacedWork d w × (k < d) × (m + 1 ≤ 6 * (k + 1))
+Fits d (Pass k w) m = IsPlacedWork d w × (k < d) × (m + 1 ≤ 6 * (k + 1))
+Fits d (AwaitSelect k w) m = IsPlacedWork d w × (k < d) × (m + 1 ≤ 6 * (k + 1))
+Fits d (AwaitWork k) m = (k < d) × (m + 1 ≤ 6 * (k + 1))
+Fits d (AwaitDeselect k was) m = (k < d) × (m < STACK_ROOM)
 
 abbrev pub IsPlaced : ℕ → List Task → Type 0
 IsPlaced d [] = Unit {0}
@@ -49,11 +50,11 @@ IsReady (Free l ∷ ts) = Unit {0}
 IsReady (Rest left w ∷ ts) = Unit {0}
 IsReady (Line w ∷ ts) = Unit {0}
 IsReady (Settle v ∷ ts) = Unit {0}
-IsReady (AwaitClose n h m w ∷ ts) = ⊥
-IsReady (Pass n h w ∷ ts) = Unit {0}
-IsReady (AwaitSelect n h w ∷ ts) = ⊥
-IsReady (AwaitWork n h ∷ ts) = ⊥
-IsReady (AwaitDeselect h was ∷ ts) = ⊥
+IsReady (AwaitClose k m w ∷ ts) = ⊥
+IsReady (Pass k w ∷ ts) = Unit {0}
+IsReady (AwaitSelect k w ∷ ts) = ⊥
+IsReady (AwaitWork k ∷ ts) = ⊥
+IsReady (AwaitDeselect k was ∷ ts) = ⊥
 
 -- .. and that is a step
 abbrev pub IsStep : List Task → Type 0
@@ -64,14 +65,22 @@ IsStep (Free l ∷ ts) = Unit {0}
 IsStep (Rest left w ∷ ts) = Unit {0}
 IsStep (Line w ∷ ts) = Unit {0}
 IsStep (Settle v ∷ ts) = Unit {0}
-IsStep (AwaitClose n h m w ∷ ts) = ⊥
-IsStep (Pass n h w ∷ ts) = ⊥
-IsStep (AwaitSelect n h w ∷ ts) = ⊥
-IsStep (AwaitWork n h ∷ ts) = ⊥
-IsStep (AwaitDeselect h was ∷ ts) = ⊥
+IsStep (AwaitClose k m w ∷ ts) = ⊥
+IsStep (Pass k w ∷ ts) = ⊥
+IsStep (AwaitSelect k w ∷ ts) = ⊥
+IsStep (AwaitWork k ∷ ts) = ⊥
+IsStep (AwaitDeselect k was ∷ ts) = ⊥
 
 -- the path is no deeper than a bus may be, and each of its tasks has its place
 pub record IsPlanned (route : RouteView) (tasks : List Task) : Type 0 where
   pub deep : length route.path ≤ MOST_DEPTH
   pub narrow : All IsNarrow route.path
   pub placed : IsPlaced (length route.path) tasks
+
+-- the tasks of a walk, before its looks and with these answered: both end together
+pub record IsWalk (route : RouteView) (tasks looked : List Task) : Type 0 where
+  pub planned : IsPlanned route looked
+  pub waits : IsReady tasks
+  pub ready : IsReady looked
+  pub none : tasks ≡ [] → looked ≡ []
+  pub some : 0 < length tasks → 0 < length looked

@@ -1,15 +1,15 @@
 //! Which marks and kept channels a step changes.
-ghost use Rattle.std.specs.Prelude.{◌≡◌, ℕ, ◌+◌, ◌<◌, ◌≤◌, List, [], ◌∷◌, ◌++◌, Some, None, length, reverse};
+ghost use Rattle.std.specs.Prelude.{◌≡◌, ℕ, ◌+◌, ◌<◌, ◌≤◌, List, [], ◌∷◌, ◌++◌, Some, None, length, reverse, All};
 ghost use Rattle.i2c_spec.specs.Messages.{MessageView};
-ghost use Rattle.mux_plan.specs.Plans.{RouteView, job_of, note_of, outcome_of};
+ghost use Rattle.mux_plan.specs.Plans.{job_of, note_of, outcome_of};
 ghost use Rattle.mux_plan.specs.Marks.{all_marked, left_open, updates_on, updates_of_job};
-ghost use Rattle.mux_plan.specs.Rooms.{IsNarrow, IsNarrowWork, STACK_ROOM};
+ghost use Rattle.mux_plan.specs.Rooms.{IsPlaced, IsNarrow, IsPlacedWork, STACK_ROOM};
 
 use crate::stack::STACK_ROOM;
-use crate::{Outcome, Task, Work};
+use crate::{Outcome, Route, Task, Work};
 use arrayvec::ArrayVec;
 use i2c_base::{End, MuxId, SegId};
-use i2c_spec::Hop;
+use i2c_board::Hop;
 
 /// A mux was turned: the bus that it stands on gets a mark, that of a mux which may have been left open, or loses it, and
 /// the mux has this channel open.
@@ -25,23 +25,28 @@ pub struct MuxUpdate {
 pub type MuxUpdates = ArrayVec<MuxUpdate, STACK_ROOM>;
 
 // A failure marks each mux that may be left open: from the nearest deselect up those that these tasks wait for.
-fn mark_open(updates: &mut MuxUpdates, tasks: &[Task])
-    requires { length updates.old.items + length tasks.now ≤ STACK_ROOM }
-    ensures value { updates.new.items ≡ updates.old.items ++ all_marked (note_of (reverse tasks.now)).marks }
+fn mark_open(updates: &mut MuxUpdates, route: &Route, tasks: &[Task])
+    requires room { length updates.old.items + length tasks.now ≤ STACK_ROOM }
+    requires placed { IsPlaced (length route.now.path) (reverse tasks.now) }
+    ensures value { updates.new.items ≡ updates.old.items ++ all_marked (note_of route.now (reverse tasks.now)).marks }
     ensures few { length updates.new.items ≤ length updates.old.items + length tasks.now }
 {
     let Some((top, below)) = tasks.split_last() else {
         return;
     };
     match top {
-        Task::AwaitDeselect { hop, .. } => mark(updates, hop.on, hop.mux),
+        Task::AwaitDeselect { hop, .. } => {
+            let hop = route.hop(*hop);
+            mark(updates, hop.on, hop.mux);
+        }
         // Of several muxes on one bus the one nearest to the top counts, so it comes last.
         Task::AwaitClose { hop, mux, .. } => {
-            mark_open(updates, below);
-            mark(updates, hop.on, *mux);
+            mark_open(updates, route, below);
+            mark(updates, route.hop(*hop).on, *mux);
         }
         Task::AwaitSelect { hop, .. } => {
-            mark_open(updates, below);
+            mark_open(updates, route, below);
+            let hop = route.hop(*hop);
             mark(updates, hop.on, hop.mux);
         }
         Task::Enter { .. }
@@ -51,7 +56,7 @@ fn mark_open(updates: &mut MuxUpdates, tasks: &[Task])
         | Task::Line { .. }
         | Task::Settle(_)
         | Task::Pass { .. }
-        | Task::AwaitWork { .. } => mark_open(updates, below),
+        | Task::AwaitWork { .. } => mark_open(updates, route, below),
     }
 }
 
@@ -85,6 +90,7 @@ fn left_open(hop: &Hop, left: u8, outcome: &Outcome<'_>) -> Option<u8>
 #[inline(always)]
 fn turn(
     updates: &mut MuxUpdates,
+    route: &Route,
     tasks: &[Task],
     on: SegId,
     mux: MuxId,
@@ -92,8 +98,9 @@ fn turn(
     outcome: &Outcome<'_>,
 )
     requires few { length tasks.now < STACK_ROOM }
+    requires placed { IsPlaced (length route.now.path) (reverse tasks.now) }
     requires empty { updates.old.items ≡ [] }
-    ensures { updates.new.items ≡ updates_on on mux channel (note_of (reverse tasks.now)).marks (outcome_of outcome.now) }
+    ensures { updates.new.items ≡ updates_on on mux channel (note_of route.now (reverse tasks.now)).marks (outcome_of outcome.now) }
 {
     let failed = match outcome {
         Outcome::Passed => return,
@@ -101,7 +108,7 @@ fn turn(
         Outcome::Lined { failed } => *failed,
     };
     if failed {
-        mark_open(updates, tasks);
+        mark_open(updates, route, tasks);
     } else {
         updates.push(MuxUpdate {
             on,
@@ -117,29 +124,31 @@ fn turn(
 #[inline(always)]
 pub fn mark_work(
     updates: &mut MuxUpdates,
+    route: &Route,
     tasks: &[Task],
     left: u8,
     work: &Work,
     outcome: &Outcome<'_>,
 )
     requires few { length tasks.now < STACK_ROOM }
+    requires placed { IsPlaced (length route.now.path) (reverse tasks.now) }
     requires empty { updates.old.items ≡ [] }
-    requires narrow { IsNarrowWork work.now }
-    ensures { (c : RouteView) (ms : List MessageView)
-        → updates.new.items ≡ updates_of_job (job_of c ms work.now) left (note_of (reverse tasks.now)).marks (outcome_of outcome.now) }
+    requires work { IsPlacedWork (length route.now.path) work.now }
+    requires narrow { All IsNarrow route.now.path }
+    ensures { (ms : List MessageView)
+        → updates.new.items ≡ updates_of_job (job_of route.now ms work.now) left (note_of route.now (reverse tasks.now)).marks (outcome_of outcome.now) }
 {
     match work {
         Work::Call => {}
-        Work::Select(hop) => turn(
-            updates,
-            tasks,
-            hop.on,
-            hop.mux,
-            left_open(hop, left, outcome),
-            outcome,
-        ),
-        Work::Deselect(Hop { on, mux, .. }) | Work::Close { on, mux, .. } => {
-            turn(updates, tasks, *on, *mux, None, outcome);
+        Work::Select(hop) => {
+            let hop = route.hop(*hop);
+            let channel = left_open(hop, left, outcome);
+            turn(updates, route, tasks, hop.on, hop.mux, channel, outcome);
         }
+        Work::Deselect(hop) => {
+            let hop = route.hop(*hop);
+            turn(updates, route, tasks, hop.on, hop.mux, None, outcome);
+        }
+        Work::Close { on, mux, .. } => turn(updates, route, tasks, *on, *mux, None, outcome),
     }
 }

@@ -7,21 +7,20 @@ ghost use Rattle.i2c_base.specs.declared.errno.Errno.{Errno};
 ghost use Rattle.bus_spec.specs.Slots.{Slots};
 ghost use Rattle.bus_spec.specs.Walk.{JobOutcome, ActOutcome, Settle, Look, KeptOf};
 ghost use Rattle.bus_spec.specs.Grammar.{at_bus, lost as lost_of, is_over, first_act, first_note, keeps, crossed, opened, over, seen as seen_by, rest_of};
-ghost use Rattle.mux_plan.specs.Plans.{RouteView, job_of, came_of, outcome_of, note_of, on_bus, tree_of, action_of, slots_of, mark_on, kept_of, part_task, select_tasks, wait_tasks, work_tasks, crossed_tasks, choice_of, switch_of};
+ghost use Rattle.mux_plan.specs.Plans.{job_of, hop_at, came_of, outcome_of, note_of, on_bus, tree_of, action_of, slots_of, mark_on, kept_of, part_task, select_tasks, wait_tasks, work_tasks, crossed_tasks, choice_of, switch_of};
 ghost use Rattle.mux_plan.specs.Plans as plans;
 ghost use Rattle.mux_plan.specs.Marks.{updates_after};
-ghost use Rattle.mux_plan.specs.Rooms.{IsNarrow, IsNarrowWork, IsPlanned, IsReady, IsStep, STACK_ROOM};
+ghost use Rattle.mux_plan.specs.Rooms.{IsPlacedWork, IsPlanned, IsReady, IsStep, STACK_ROOM};
 ghost use Rattle.mux_plan.specs.declared.task.Task.TheVariants.{Enter, Lock, Rest, Pass, AwaitClose, AwaitSelect, AwaitWork};
 ghost use Rattle.mux_plan.specs.declared.task.Action.TheVariants.{Done};
 
 use crate::marks::{MuxUpdates, mark_work};
-use crate::route::{close, is_parent};
+use crate::route::close;
 use crate::stack::Stack;
 use crate::work::Continuation;
 use crate::{Action, Outcome, Route, Seen, Task, Work, WorkResult};
 use i2c_base::{Errno, MuxId};
 use i2c_board::Board;
-use i2c_spec::Hop;
 
 /// The parts of a walk.
 #[derive(Drop)]
@@ -83,63 +82,63 @@ impl WalkParts {
     }
 
     // The work waits for the select, which is given, but where the mux keeps its channel open: then the work itself is.
-    fn wait_select(&mut self, seen: &Seen<'_>, hop: &Hop, place: u8, work: &Work) -> Work
+    fn wait_select(&mut self, seen: &Seen<'_>, hop: u8, work: &Work) -> Work
         requires room { length self.old.stack < STACK_ROOM }
-        ensures next { result ≡ choice_of hop.now (keeps hop.now (kept_of seen.now hop.now.mux)) work.now }
-        ensures narrow { IsNarrow hop.now → IsNarrowWork work.now → IsNarrowWork result }
+        requires there { hop < length self.old.route.path }
+        ensures next { result ≡ choice_of self.old.route hop (keeps (hop_at self.old.route hop) (kept_of seen.now (hop_at self.old.route hop).mux)) work.now }
+        ensures placed { IsPlacedWork (length self.old.route.path) work.now → IsPlacedWork (length self.old.route.path) result }
         ensures few { length self.new.stack ≤ length self.old.stack + 1 }
-        ensures stack { self.new.stack ≡ select_tasks hop.now (keeps hop.now (kept_of seen.now hop.now.mux)) place work.now self.old.stack }
+        ensures stack { self.new.stack ≡ select_tasks (keeps (hop_at self.old.route hop) (kept_of seen.now (hop_at self.old.route hop).mux)) hop work.now self.old.stack }
         ensures route { self.new.route ≡ self.old.route }
         ensures came { self.new.came ≡ self.old.came }
     {
-        if seen.keeps(hop) {
+        if seen.keeps(self.route.hop(hop)) {
             return *work;
         }
-        self.stack.push(Task::AwaitSelect {
-            place,
-            hop: *hop,
-            work: *work,
-        });
-        Work::Select(*hop)
+        self.stack.push(Task::AwaitSelect { hop, work: *work });
+        Work::Select(hop)
     }
 
     // The work waits for what comes first at a mux, which is given.
-    fn wait(&mut self, board: &Board, seen: &Seen<'_>, hop: &Hop, place: u8, work: &Work) -> Work
+    fn wait(&mut self, board: &Board, seen: &Seen<'_>, hop: u8, work: &Work) -> Work
         requires room { length self.old.stack < STACK_ROOM }
-        ensures next { result ≡ switch_of board.now hop.now (mark_on seen.now hop.now.on) (keeps hop.now (kept_of seen.now hop.now.mux)) work.now }
-        ensures narrow { IsNarrow hop.now → IsNarrowWork work.now → IsNarrowWork result }
+        requires there { hop < length self.old.route.path }
+        ensures next { result ≡ switch_of board.now self.old.route hop (mark_on seen.now (hop_at self.old.route hop).on) (keeps (hop_at self.old.route hop) (kept_of seen.now (hop_at self.old.route hop).mux)) work.now }
+        ensures placed { IsPlacedWork (length self.old.route.path) work.now → IsPlacedWork (length self.old.route.path) result }
         ensures few { length self.new.stack ≤ length self.old.stack + 1 }
-        ensures stack { self.new.stack ≡ wait_tasks hop.now (mark_on seen.now hop.now.on) (keeps hop.now (kept_of seen.now hop.now.mux)) place work.now self.old.stack }
+        ensures stack { self.new.stack ≡ wait_tasks (mark_on seen.now (hop_at self.old.route hop).on) (keeps (hop_at self.old.route hop) (kept_of seen.now (hop_at self.old.route hop).mux)) hop work.now self.old.stack }
         ensures route { self.new.route ≡ self.old.route }
         ensures came { self.new.came ≡ self.old.came }
     {
-        match seen.mark(hop) {
-            None => self.wait_select(seen, hop, place, work),
+        let on = self.route.hop(hop).on;
+        match seen.mark(on) {
+            None => self.wait_select(seen, hop, work),
             Some(mux) => {
                 self.stack.push(Task::AwaitClose {
-                    place,
-                    hop: *hop,
+                    hop,
                     mux,
                     work: *work,
                 });
-                close(board, hop, mux)
+                close(board, on, mux)
             }
         }
     }
 
     // At a mux the work waits. Gives what comes first there, which takes the locks of a mux-locked one.
     #[inline(always)]
-    fn cross(&mut self, board: &Board, seen: &Seen<'_>, hop: &Hop, place: u8, work: &Work) -> Work
+    fn cross(&mut self, board: &Board, seen: &Seen<'_>, hop: u8, work: &Work) -> Work
         requires room { length self.old.stack + 2 ≤ STACK_ROOM }
-        ensures next { result ≡ switch_of board.now hop.now (mark_on seen.now hop.now.on) (keeps hop.now (kept_of seen.now hop.now.mux)) work.now }
-        ensures narrow { IsNarrow hop.now → IsNarrowWork work.now → IsNarrowWork result }
-        ensures stack { self.new.stack ≡ crossed_tasks hop.now (mark_on seen.now hop.now.on) (keeps hop.now (kept_of seen.now hop.now.mux)) place work.now result self.old.stack }
+        requires there { hop < length self.old.route.path }
+        requires low { hop + 1 < 256 }
+        ensures next { result ≡ switch_of board.now self.old.route hop (mark_on seen.now (hop_at self.old.route hop).on) (keeps (hop_at self.old.route hop) (kept_of seen.now (hop_at self.old.route hop).mux)) work.now }
+        ensures placed { IsPlacedWork (length self.old.route.path) work.now → IsPlacedWork (length self.old.route.path) result }
+        ensures stack { self.new.stack ≡ crossed_tasks (hop_at self.old.route hop).parent (mark_on seen.now (hop_at self.old.route hop).on) (keeps (hop_at self.old.route hop) (kept_of seen.now (hop_at self.old.route hop).mux)) hop work.now result self.old.stack }
         ensures route { self.new.route ≡ self.old.route }
         ensures came { self.new.came ≡ self.old.came }
     {
-        let next = self.wait(board, seen, hop, place, work);
-        if !is_parent(hop) {
-            self.stack.push(part(false, place, &next));
+        let next = self.wait(board, seen, hop, work);
+        if !self.route.is_parent(hop) {
+            self.stack.push(part(false, hop + 1, &next));
         }
         next
     }
@@ -147,10 +146,12 @@ impl WalkParts {
     // No mux is left to cross.
     fn reach(&mut self, work: &Work)
         requires room { length self.old.stack < STACK_ROOM }
+        requires placed { IsPlacedWork (length self.old.route.path) work.now }
         ensures tree { (b : BoardView) (ms : List MessageView) (out : JobOutcome) → length ms ≡ self.old.route.count
-            → tree_of b ms self.new.route self.new.stack out ≡ at_bus (job_of self.old.route ms work.now) (note_of self.old.stack) (tree_of b ms self.old.route self.old.stack) }
+            → tree_of b ms self.new.route self.new.stack out ≡ at_bus (job_of self.old.route ms work.now) (note_of self.old.route self.old.stack) (tree_of b ms self.old.route self.old.stack) }
         ensures planned { (n : ℕ) → IsPlanned self.old.route (Enter n work.now ∷ self.old.stack) → IsPlanned self.new.route self.new.stack }
         ensures step { IsStep self.new.stack }
+        ensures some { 0 < length self.new.stack }
         ensures route { self.new.route ≡ self.old.route }
         ensures came { self.new.came ≡ self.old.came }
     {
@@ -168,15 +169,17 @@ impl WalkParts {
             ≡ seen_by (slots_of seen.now) (tree_of board.now ms self.old.route (Enter place work ∷ self.old.stack) out) }
         ensures planned { IsPlanned self.new.route self.new.stack }
         ensures step { IsStep self.new.stack }
+        ensures some { 0 < length self.new.stack }
         ensures route { self.new.route ≡ self.old.route }
         ensures came { self.new.came ≡ self.old.came }
     {
         let mut place = place;
         let mut work = work;
-        'muxes: while let Some(hop) = self.route.crossed(place, &work) {
+        'muxes: while self.route.crosses(place, &work) {
+            let hop = place;
+            work = self.cross(board, seen, hop, &work);
             place += 1;
-            work = self.cross(board, seen, &hop, place, &work);
-            if !is_parent(&hop) {
+            if !self.route.is_parent(hop) {
                 return;
             }
         }
@@ -186,21 +189,22 @@ impl WalkParts {
     // Goes on behind the close of a marked mux: the look at the kept channel is answered, and those on the way of what
     // comes then. Apart, since few walks come here.
     #[inline(never)]
-    fn pass(&mut self, board: &Board, seen: &Seen<'_>, place: u8, hop: &Hop, work: &Work)
-        requires planned { IsPlanned self.old.route (Pass place hop.now work.now ∷ self.old.stack) }
+    fn pass(&mut self, board: &Board, seen: &Seen<'_>, hop: u8, work: &Work)
+        requires planned { IsPlanned self.old.route (Pass hop work.now ∷ self.old.stack) }
         ensures tree { (ms : List MessageView) (out : JobOutcome) → length ms ≡ self.old.route.count
             → tree_of board.now ms self.new.route self.new.stack out
-            ≡ seen_by (slots_of seen.now) (tree_of board.now ms self.old.route (Pass place hop.now work.now ∷ self.old.stack) out) }
+            ≡ seen_by (slots_of seen.now) (tree_of board.now ms self.old.route (Pass hop work.now ∷ self.old.stack) out) }
         ensures planned { IsPlanned self.new.route self.new.stack }
         ensures step { IsStep self.new.stack }
+        ensures some { 0 < length self.new.stack }
         ensures route { self.new.route ≡ self.old.route }
         ensures came { self.new.came ≡ self.old.came }
     {
-        let next = self.wait_select(seen, hop, place, work);
-        if is_parent(hop) {
-            self.enter(board, seen, place, next);
+        let next = self.wait_select(seen, hop, work);
+        if self.route.is_parent(hop) {
+            self.enter(board, seen, hop + 1, next);
         } else {
-            self.stack.push(part(false, place, &next));
+            self.stack.push(part(false, hop + 1, &next));
         }
     }
 
@@ -213,6 +217,8 @@ impl WalkParts {
             ≡ seen_by (slots_of seen.now) (tree_of board.now ms self.old.route self.old.stack out) }
         ensures planned { IsPlanned self.new.route self.new.stack }
         ensures step { IsStep self.new.stack }
+        ensures some { 0 < length self.old.stack → 0 < length self.new.stack }
+        ensures none { self.old.stack ≡ [] → self.new.stack ≡ [] }
         ensures route { self.new.route ≡ self.old.route }
         ensures came { self.new.came ≡ self.old.came }
     {
@@ -226,12 +232,11 @@ impl WalkParts {
                 self.stack.drop_top();
                 self.enter(board, seen, place, work);
             }
-            Task::Pass { place, hop, work } => {
-                let place = *place;
+            Task::Pass { hop, work } => {
                 let hop = *hop;
                 let work = *work;
                 self.stack.drop_top();
-                self.pass(board, &seen.again(), place, &hop, &work);
+                self.pass(board, &seen.again(), hop, &work);
             }
             _ => {}
         }
@@ -259,7 +264,7 @@ impl WalkParts {
 
     // A failure here fails the transfer: no deselect is under way.
     fn is_forward(&self) -> bool
-        ensures { result ≡ (note_of self.now.stack).forward }
+        ensures { result ≡ (note_of self.now.route self.now.stack).forward }
     {
         !has_deselect(self.stack.items())
     }
@@ -269,7 +274,7 @@ impl WalkParts {
         requires planned { IsPlanned self.old.route (Rest left work ∷ self.old.stack) }
         ensures tree { (b : BoardView) (ms : List MessageView)
             → tree_of b ms self.new.route self.new.stack (came_of self.new.came)
-            ≡ over (job_of self.old.route ms work) left (note_of self.old.stack) (tree_of b ms self.old.route self.old.stack) (outcome_of outcome.now) }
+            ≡ over (job_of self.old.route ms work) left (note_of self.old.route self.old.stack) (tree_of b ms self.old.route self.old.stack) (outcome_of outcome.now) }
         ensures planned { IsPlanned self.new.route self.new.stack }
         ensures route { self.new.route ≡ self.old.route }
     {
@@ -316,8 +321,15 @@ impl WalkParts {
             return;
         };
         match top {
-            Task::Rest { left, work } => mark_work(updates, below, *left, work, outcome),
-            Task::Line { work } => mark_work(updates, below, 0, work, outcome),
+            Task::Rest { left, work } => mark_work(
+                updates,
+                &self.route,
+                below,
+                *left,
+                work,
+                outcome,
+            ),
+            Task::Line { work } => mark_work(updates, &self.route, below, 0, work, outcome),
             _ => {}
         }
     }
@@ -365,53 +377,56 @@ impl WalkParts {
     }
 
     // A marked mux was closed: the look at the kept channel comes next.
-    fn closed(&mut self, place: u8, hop: Hop, mux: MuxId, work: Work)
-        requires planned { IsPlanned self.old.route (AwaitClose place hop mux work ∷ self.old.stack) }
+    fn closed(&mut self, hop: u8, mux: MuxId, work: Work)
+        requires planned { IsPlanned self.old.route (AwaitClose hop mux work ∷ self.old.stack) }
         ensures tree { (b : BoardView) (ms : List MessageView) (out : JobOutcome)
             → tree_of b ms self.new.route self.new.stack out
-            ≡ Look (KeptOf hop.on hop.mux) (crossed hop (on_bus b self.old.route place hop) (job_of self.old.route ms work) (note_of self.old.stack) (tree_of b ms self.old.route self.old.stack)) }
+            ≡ Look (KeptOf (hop_at self.old.route hop).on (hop_at self.old.route hop).mux)
+            (crossed (hop_at self.old.route hop) (on_bus b self.old.route hop) (job_of self.old.route ms work) (note_of self.old.route self.old.stack) (tree_of b ms self.old.route self.old.stack)) }
         ensures planned { IsPlanned self.new.route self.new.stack }
         ensures ready { IsReady self.new.stack }
         ensures route { self.new.route ≡ self.old.route }
         ensures came { self.new.came ≡ self.old.came }
     {
-        self.stack.push(Task::Pass { place, hop, work });
+        self.stack.push(Task::Pass { hop, work });
     }
 
     // The mux waits for the work behind it, but where it stays as it is.
-    fn wait_work(&mut self, place: u8, hop: &Hop)
+    fn wait_work(&mut self, hop: u8)
         requires room { length self.old.stack < STACK_ROOM }
+        requires there { hop < length self.old.route.path }
         ensures few { length self.new.stack ≤ length self.old.stack + 1 }
-        ensures stack { self.new.stack ≡ work_tasks hop.now.stays place hop.now self.old.stack }
+        ensures stack { self.new.stack ≡ work_tasks (hop_at self.old.route hop).stays hop self.old.stack }
         ensures route { self.new.route ≡ self.old.route }
         ensures came { self.new.came ≡ self.old.came }
     {
-        if !hop.stays {
-            self.stack.push(Task::AwaitWork { place, hop: *hop });
+        if !self.route.hop(hop).stays {
+            self.stack.push(Task::AwaitWork { hop });
         }
     }
 
     // The channel is selected: the work is done.
-    fn serve(&mut self, place: u8, hop: Hop, work: Work)
-        requires planned { IsPlanned self.old.route (AwaitSelect place hop work ∷ self.old.stack) }
+    fn serve(&mut self, hop: u8, work: Work)
+        requires planned { IsPlanned self.old.route (AwaitSelect hop work ∷ self.old.stack) }
         ensures tree { (b : BoardView) (ms : List MessageView) (out : JobOutcome)
             → tree_of b ms self.new.route self.new.stack out
-            ≡ opened hop (on_bus b self.old.route place hop) (job_of self.old.route ms work) (note_of self.old.stack) (tree_of b ms self.old.route self.old.stack) }
+            ≡ opened (hop_at self.old.route hop) (on_bus b self.old.route hop) (job_of self.old.route ms work) (note_of self.old.route self.old.stack) (tree_of b ms self.old.route self.old.stack) }
         ensures planned { IsPlanned self.new.route self.new.stack }
         ensures ready { IsReady self.new.stack }
         ensures route { self.new.route ≡ self.old.route }
         ensures came { self.new.came ≡ self.old.came }
     {
-        self.wait_work(place, &hop);
-        self.stack.push(part(is_parent(&hop), place, &work));
+        self.wait_work(hop);
+        self.stack
+            .push(part(self.route.is_parent(hop), hop + 1, &work));
     }
 
     // The work is done: the mux is deselected, whatever came of it.
-    fn deselect(&mut self, place: u8, hop: Hop)
-        requires planned { IsPlanned self.old.route (AwaitWork place hop ∷ self.old.stack) }
+    fn deselect(&mut self, hop: u8)
+        requires planned { IsPlanned self.old.route (AwaitWork hop ∷ self.old.stack) }
         ensures tree { (b : BoardView) (ms : List MessageView) (out : JobOutcome)
             → tree_of b ms self.new.route self.new.stack out
-            ≡ tree_of b ms self.old.route (AwaitWork place hop ∷ self.old.stack) (came_of self.old.came) }
+            ≡ tree_of b ms self.old.route (AwaitWork hop ∷ self.old.stack) (came_of self.old.came) }
         ensures planned { IsPlanned self.new.route self.new.stack }
         ensures ready { IsReady self.new.stack }
         ensures route { self.new.route ≡ self.old.route }
@@ -422,7 +437,8 @@ impl WalkParts {
             came: self.came,
         });
         let work = Work::Deselect(hop);
-        self.stack.push(part(hop.parent, place, &work));
+        self.stack
+            .push(part(self.route.is_parent(hop), hop + 1, &work));
     }
 
     // Goes on with what waits on the top, if it does. Tells whether what is below it has to go on too.
@@ -439,31 +455,23 @@ impl WalkParts {
             return false;
         };
         match task {
-            Task::AwaitClose {
-                place,
-                hop,
-                mux,
-                work,
-            } => {
-                let place = *place;
+            Task::AwaitClose { hop, mux, work } => {
                 let hop = *hop;
                 let mux = *mux;
                 let work = *work;
                 self.stack.drop_top();
-                self.wake_close(place, hop, mux, work)
+                self.wake_close(hop, mux, work)
             }
-            Task::AwaitSelect { place, hop, work } => {
-                let place = *place;
+            Task::AwaitSelect { hop, work } => {
                 let hop = *hop;
                 let work = *work;
                 self.stack.drop_top();
-                self.wake_select(place, hop, work)
+                self.wake_select(hop, work)
             }
-            Task::AwaitWork { place, hop } => {
-                let place = *place;
+            Task::AwaitWork { hop } => {
                 let hop = *hop;
                 self.stack.drop_top();
-                self.deselect(place, hop);
+                self.deselect(hop);
                 false
             }
             Task::AwaitDeselect { came, .. } => {
@@ -483,11 +491,11 @@ impl WalkParts {
     }
 
     // The close of a marked mux has come to its end; where it wasn't sent or failed, so has the work.
-    fn wake_close(&mut self, place: u8, hop: Hop, mux: MuxId, work: Work) -> bool
-        requires planned { IsPlanned self.old.route (AwaitClose place hop mux work ∷ self.old.stack) }
+    fn wake_close(&mut self, hop: u8, mux: MuxId, work: Work) -> bool
+        requires planned { IsPlanned self.old.route (AwaitClose hop mux work ∷ self.old.stack) }
         ensures tree { (b : BoardView) (ms : List MessageView)
             → tree_of b ms self.new.route self.new.stack (came_of self.new.came)
-            ≡ tree_of b ms self.old.route (AwaitClose place hop mux work ∷ self.old.stack) (came_of self.old.came) }
+            ≡ tree_of b ms self.old.route (AwaitClose hop mux work ∷ self.old.stack) (came_of self.old.came) }
         ensures planned { IsPlanned self.new.route self.new.stack }
         ensures route { self.new.route ≡ self.old.route }
         ensures ready { result ≡ false → IsReady self.new.stack }
@@ -495,7 +503,7 @@ impl WalkParts {
     {
         match self.came {
             WorkResult::Good | WorkResult::Refused => {
-                self.closed(place, hop, mux, work);
+                self.closed(hop, mux, work);
                 false
             }
             WorkResult::Unsent | WorkResult::Failed => true,
@@ -503,11 +511,11 @@ impl WalkParts {
     }
 
     // The select has come to its end; where it wasn't good, so has the work.
-    fn wake_select(&mut self, place: u8, hop: Hop, work: Work) -> bool
-        requires planned { IsPlanned self.old.route (AwaitSelect place hop work ∷ self.old.stack) }
+    fn wake_select(&mut self, hop: u8, work: Work) -> bool
+        requires planned { IsPlanned self.old.route (AwaitSelect hop work ∷ self.old.stack) }
         ensures tree { (b : BoardView) (ms : List MessageView)
             → tree_of b ms self.new.route self.new.stack (came_of self.new.came)
-            ≡ tree_of b ms self.old.route (AwaitSelect place hop work ∷ self.old.stack) (came_of self.old.came) }
+            ≡ tree_of b ms self.old.route (AwaitSelect hop work ∷ self.old.stack) (came_of self.old.came) }
         ensures planned { IsPlanned self.new.route self.new.stack }
         ensures route { self.new.route ≡ self.old.route }
         ensures ready { result ≡ false → IsReady self.new.stack }
@@ -515,7 +523,7 @@ impl WalkParts {
     {
         match self.came {
             WorkResult::Good => {
-                self.serve(place, hop, work);
+                self.serve(hop, work);
                 false
             }
             WorkResult::Refused | WorkResult::Unsent | WorkResult::Failed => {
@@ -547,10 +555,10 @@ impl WalkParts {
 
     /// The settle on the top, if one is there: why the reply is an error, or none.
     pub fn settles(&self) -> Option<Option<Errno>>
-        requires ready { IsReady self.now.stack }
-        ensures some { (b : BoardView) (ms : List MessageView) (v : Slots) → IfSome result (λ verdict. first_act (seen_by v (tree_of b ms self.now.route self.now.stack (came_of self.now.came))) ≡ Some (Settle verdict)) }
-        ensures none { (b : BoardView) (ms : List MessageView) (v : Slots) (verdict : Option Errno) → result ≡ None
-            → first_act (seen_by v (tree_of b ms self.now.route self.now.stack (came_of self.now.came))) ≡ Some (Settle verdict) → ⊥ }
+        requires step { IsStep self.now.stack }
+        ensures some { (b : BoardView) (ms : List MessageView) → IfSome result (λ verdict. first_act (tree_of b ms self.now.route self.now.stack (came_of self.now.came)) ≡ Some (Settle verdict)) }
+        ensures none { (b : BoardView) (ms : List MessageView) (verdict : Option Errno) → result ≡ None
+            → first_act (tree_of b ms self.now.route self.now.stack (came_of self.now.came)) ≡ Some (Settle verdict) → ⊥ }
     {
         let Some(task) = self.stack.peek() else {
             return None;
@@ -561,28 +569,18 @@ impl WalkParts {
         }
     }
 
-    /// The first action, where this answers the looks in front of it. Done exactly where no task is left.
-    pub fn first(&self, board: &Board, seen: &Seen<'_>) -> Action
+    /// The action of the step on the top. Done exactly where no task is left.
+    #[inline(always)]
+    pub fn first(&self) -> Action
         requires planned { IsPlanned self.now.route self.now.stack }
-        requires ready { IsReady self.now.stack }
-        ensures first { (ms : List MessageView) → length ms ≡ self.now.route.count
-            → result ≡ action_of (first_act (seen_by (slots_of seen.now) (tree_of board.now ms self.now.route self.now.stack (came_of self.now.came)))) }
+        requires step { IsStep self.now.stack }
+        ensures first { (b : BoardView) (ms : List MessageView) → length ms ≡ self.now.route.count
+            → result ≡ action_of (first_act (tree_of b ms self.now.route self.now.stack (came_of self.now.came))) }
         ensures over { result ≡ Done → self.now.stack ≡ [] }
     {
         let Some(task) = self.stack.peek() else {
             return Action::Done;
         };
-        match task {
-            Task::Enter { place, work } => {
-                let step = self.route.ahead(board, seen, *place, *work);
-                self.route.action(&step)
-            }
-            Task::Pass { place, hop, work } => {
-                let again = seen.again();
-                let step = self.route.ahead_behind(board, &again, *place, hop, work);
-                self.route.action(&step)
-            }
-            step => self.route.action(step),
-        }
+        self.route.action(task)
     }
 }

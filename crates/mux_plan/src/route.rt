@@ -1,24 +1,23 @@
 //! The way of a transfer, and the first step on it.
-ghost use Rattle.std.specs.Prelude.{◌≡◌, ◌≢◌, ◌+◌, ◌<◌, ◌≤◌, ◌⊎◌, ℕ, true, false, List, [], ◌∷◌, length, drop, None, All, IfSome, IfNone, slice_index_or};
+ghost use Rattle.std.specs.Prelude.{◌≡◌, ◌≢◌, ◌+◌, ◌<◌, ◌≤◌, ◌⊎◌, ℕ, true, false, List, [], ◌∷◌, length, drop, None, All};
 ghost use Rattle.i2c_base.specs.Board.{BoardView};
 ghost use Rattle.i2c_base.specs.Limits.{MOST_DEPTH};
 ghost use Rattle.i2c_spec.specs.Messages.{MessageView};
 ghost use Rattle.i2c_spec.specs.Tree.{buses, hops, root_of};
 ghost use Rattle.bus_spec.specs.Walk.{JobOutcome, is_line};
 ghost use Rattle.bus_spec.specs.Walk as walk;
-ghost use Rattle.bus_spec.specs.Grammar.{at_bus, first_act, keeps, seen as seen_by, kind_of as kind_at};
-ghost use Rattle.mux_plan.specs.Plans.{RouteView, job_of, tree_of, note_of, first_lock, locks_on, mark_on, kept_of, slots_of, choice_of, switch_of, action_of, first_at};
-ghost use Rattle.mux_plan.specs.Rooms.{IsNarrow, IsNarrowWork, IsPlanned, IsStep};
+ghost use Rattle.bus_spec.specs.Grammar.{at_bus, first_act, kind_of as kind_at};
+ghost use Rattle.mux_plan.specs.Plans.{job_of, hop_at, tree_of, note_of, first_lock, locks_on, action_of};
+ghost use Rattle.mux_plan.specs.Rooms.{IsNarrow, IsPlacedWork, IsPlanned, IsStep};
 ghost use Rattle.mux_plan.specs.declared.task.Task.{Task};
-ghost use Rattle.mux_plan.specs.declared.task.Task.TheVariants.{Enter, Pass};
+ghost use Rattle.mux_plan.specs.declared.task.Task.TheVariants.{Enter};
 ghost use Rattle.mux_plan.specs.declared.task.Action.TheVariants.{Done};
 ghost use Rattle.mux_plan.specs.declared.task.Work.TheVariants as work;
 
-use crate::{Action, NextMsg, Seen, Task, Work};
+use crate::{Action, NextMsg, Task, Work};
 use arrayvec::ArrayVec;
 use i2c_base::{LockId, MOST_MUXES, MuxId, MuxKind, SegId};
-use i2c_board::{Board, CachedBoard};
-use i2c_spec::{Hop, end_of};
+use i2c_board::{Board, CachedBoard, Hop, end_of};
 use std::marker::Model;
 
 /// What a walk knows of its transfer: the muxes over its bus, and how many messages it has. A contract sees the record
@@ -53,45 +52,14 @@ fn kind_of(board: &Board, mux: MuxId) -> MuxKind
         .map_or(MuxKind::Pca9548, |spec| spec.kind)
 }
 
-/// The mux is parent-locked.
-pub fn is_parent(hop: &Hop) -> bool
-    ensures { result ≡ hop.now.parent }
-{
-    hop.parent
-}
-
-/// What comes first at a mux that isn't to be closed: the channel is selected, but where the mux keeps it open.
-fn choice(seen: &Seen<'_>, hop: &Hop, work: &Work) -> Work
-    ensures value { result ≡ choice_of hop.now (keeps hop.now (kept_of seen.now hop.now.mux)) work.now }
-    ensures narrow { IsNarrow hop.now → IsNarrowWork work.now → IsNarrowWork result }
-{
-    if seen.keeps(hop) {
-        *work
-    } else {
-        Work::Select(*hop)
-    }
-}
-
-/// The close of a marked mux on the bus of this one.
-pub fn close(board: &Board, hop: &Hop, mux: MuxId) -> Work
-    ensures value { result ≡ work.Close hop.now.on mux (kind_at board.now mux) }
-    ensures narrow { IsNarrowWork result }
+/// The close of a marked mux on this bus.
+pub fn close(board: &Board, on: SegId, mux: MuxId) -> Work
+    ensures value { result ≡ work.Close on mux (kind_at board.now mux) }
 {
     Work::Close {
-        on: hop.on,
+        on,
         mux,
         kind: kind_of(board, mux),
-    }
-}
-
-/// What comes first at a mux: a marked one is closed.
-fn switch(board: &Board, seen: &Seen<'_>, hop: &Hop, work: &Work) -> Work
-    ensures value { result ≡ switch_of board.now hop.now (mark_on seen.now hop.now.on) (keeps hop.now (kept_of seen.now hop.now.mux)) work.now }
-    ensures narrow { IsNarrow hop.now → IsNarrowWork work.now → IsNarrowWork result }
-{
-    match seen.mark(hop) {
-        None => choice(seen, hop, work),
-        Some(mux) => close(board, hop, mux),
     }
 }
 
@@ -109,31 +77,51 @@ impl Route {
         self.count = count;
     }
 
-    /// The mux that a piece of work on the bus at this place has to cross, none at the root; a line needs no way.
-    pub fn crossed(&self, place: u8, work: &Work) -> Option<Hop>
-        ensures at { IfSome result (λ h. drop place self.now.path ≡ h ∷ drop (place + 1) self.now.path) }
-        ensures message { (ms : List MessageView) → IfSome result (λ h. is_line (job_of self.now ms work.now) ≡ false) }
-        ensures within { IfSome result (λ h. place < length self.now.path) }
-        ensures narrow { All IsNarrow self.now.path → IfSome result (λ h. IsNarrow h) }
-        ensures none { (ms : List MessageView) → IfNone result ((is_line (job_of self.now ms work.now) ≡ true) ⊎ (drop place self.now.path ≡ [])) }
+    /// The mux of this number on the path.
+    #[inline(always)]
+    pub fn hop(&self, number: u8) -> &Hop
+        requires { number < length self.now.path }
+        ensures value { result.now ≡ hop_at self.now number }
+        ensures narrow { All IsNarrow self.now.path → IsNarrow result.now }
     {
-        if work.is_line() {
-            return None;
-        }
-        self.path.as_slice().get(usize::from(place)).copied()
+        &self.path.as_slice()[usize::from(number)]
+    }
+
+    /// The mux of this number is parent-locked.
+    #[inline(always)]
+    pub fn is_parent(&self, number: u8) -> bool
+        requires { number < length self.now.path }
+        ensures { result ≡ (hop_at self.now number).parent }
+    {
+        self.hop(number).parent
+    }
+
+    /// A piece of work on the bus at this place has a mux to cross, that of the same number: none at the root, and a line
+    /// needs no way.
+    #[inline(always)]
+    pub fn crosses(&self, place: u8, work: &Work) -> bool
+        requires { IsPlacedWork (length self.now.path) work.now }
+        ensures within { result ≡ true → place < length self.now.path }
+        ensures at { result ≡ true → drop place self.now.path ≡ hop_at self.now place ∷ drop (place + 1) self.now.path }
+        ensures message { (ms : List MessageView) → result ≡ true → is_line (job_of self.now ms work.now) ≡ false }
+        ensures none { (ms : List MessageView) → result ≡ false → (is_line (job_of self.now ms work.now) ≡ true) ⊎ (drop place self.now.path ≡ []) }
+    {
+        !work.is_line(self) && usize::from(place) < self.path.len()
     }
 
     /// The step of a piece of work that has no mux to cross.
+    #[inline(always)]
     pub fn base(&self, work: Work) -> Task
+        requires { IsPlacedWork (length self.now.path) work }
         ensures tree { (b : BoardView) (ms : List MessageView) (ts : List Task) (out : JobOutcome) → length ms ≡ self.now.count
-            → tree_of b ms self.now (result ∷ ts) out ≡ at_bus (job_of self.now ms work) (note_of ts) (tree_of b ms self.now ts) }
+            → tree_of b ms self.now (result ∷ ts) out ≡ at_bus (job_of self.now ms work) (note_of self.now ts) (tree_of b ms self.now ts) }
         ensures step { (ts : List Task) → IsStep (result ∷ ts) }
         ensures planned { (n : ℕ) (ts : List Task) → IsPlanned self.now (Enter n work ∷ ts) → IsPlanned self.now (result ∷ ts) }
     {
-        if work.is_line() {
+        if work.is_line(self) {
             Task::Line { work }
         } else {
-            let left = work.more(self.count);
+            let left = work.more(self);
             Task::Rest { left, work }
         }
     }
@@ -159,61 +147,6 @@ impl Route {
         }
     }
 
-    /// The first step of a piece of work on the bus at a place, where this answers the looks on its way.
-    #[inline(always)]
-    pub fn ahead(&self, board: &Board, seen: &Seen<'_>, place: u8, work: Work) -> Task
-        requires planned { IsPlanned self.now (Enter place work ∷ []) }
-        ensures first { (ms : List MessageView) → length ms ≡ self.now.count
-            → first_act (tree_of board.now ms self.now (result ∷ []) walk.Good) ≡ first_at board.now ms self.now seen.now place work }
-        ensures step { (ts : List Task) → IsStep (result ∷ ts) }
-        ensures planned { IsPlanned self.now (result ∷ []) }
-    {
-        let mut place = place;
-        let mut work = work;
-        'muxes: while let Some(hop) = self.crossed(place, &work) {
-            place += 1;
-            work = switch(board, seen, &hop, &work);
-            if !is_parent(&hop) {
-                return Task::Lock {
-                    from: place,
-                    place,
-                    work,
-                };
-            }
-        }
-        self.base(work)
-    }
-
-    /// The first step of a piece of work behind the close of a marked mux on the bus at this place. Apart, since few walks
-    /// come here.
-    #[inline(never)]
-    pub fn ahead_behind(
-        &self,
-        board: &Board,
-        seen: &Seen<'_>,
-        place: u8,
-        hop: &Hop,
-        work: &Work,
-    ) -> Task
-        requires planned { IsPlanned self.now (Pass place hop.now work.now ∷ []) }
-        ensures first { (ms : List MessageView) → length ms ≡ self.now.count
-            → first_act (tree_of board.now ms self.now (result ∷ []) walk.Good)
-            ≡ first_act (seen_by (slots_of seen.now) (tree_of board.now ms self.now (Pass place hop.now work.now ∷ []) walk.Good)) }
-        ensures step { (ts : List Task) → IsStep (result ∷ ts) }
-        ensures planned { IsPlanned self.now (result ∷ []) }
-    {
-        let next = choice(seen, hop, work);
-        if is_parent(hop) {
-            self.ahead(board, seen, place, next)
-        } else {
-            Task::Lock {
-                from: place,
-                place,
-                work: next,
-            }
-        }
-    }
-
     /// The action of a task that is a step, which is never Done.
     #[inline(always)]
     pub fn action(&self, task: &Task) -> Action
@@ -227,15 +160,15 @@ impl Route {
             Task::Lock { from, .. } => Action::Take(self.lock_at(*from)),
             Task::Free(lock) => Action::Free(*lock),
             Task::Rest { left, work } => Action::Send(NextMsg {
-                bus: work.bus(self.bus),
-                purpose: work.purpose(),
-                part: work.part(*left, self.count),
-                parts: work.parts(self.count),
-                control: work.control(*left),
+                bus: work.bus(self),
+                purpose: work.purpose(self),
+                part: work.part(self, *left),
+                parts: work.parts(self),
+                control: work.control(self, *left),
             }),
             Task::Line { work } => Action::Line {
-                mux: work.line_mux(),
-                level: work.line_level(),
+                mux: work.line_mux(self),
+                level: work.line_level(self),
             },
             Task::Settle(verdict) => Action::Settle(*verdict),
             Task::Enter { .. }

@@ -3,8 +3,8 @@ ghost use Rattle.std.specs.Prelude.{◌≡◌};
 ghost use Rattle.bus_spec.specs.Grammar.{keeps};
 ghost use Rattle.mux_plan.specs.Plans.{mark_on, kept_of};
 
-use i2c_base::MuxId;
-use i2c_spec::Hop;
+use i2c_base::{MuxId, SegId};
+use i2c_board::Hop;
 use std::marker::Model;
 
 /// What lock words tell: the mark of each bus, and the channel that each mux keeps open. A contract sees the record of
@@ -35,11 +35,11 @@ impl<'a> Seen<'a> {
         }
     }
 
-    /// The mark that the lock of the muxes on the bus of this one carries.
-    pub fn mark(&self, hop: &Hop) -> Option<MuxId>
-        ensures { result ≡ mark_on self.now hop.now.on }
+    /// The mark that the lock of the muxes on a bus carries.
+    pub fn mark(&self, bus: SegId) -> Option<MuxId>
+        ensures { result ≡ mark_on self.now bus }
     {
-        self.marks.get(usize::from(hop.on.0)).copied().flatten()
+        self.marks.get(usize::from(bus.0)).copied().flatten()
     }
 
     // The channel that a mux keeps open.

@@ -3,17 +3,16 @@ ghost use Rattle.std.specs.Prelude.{◌≡◌};
 ghost use Rattle.mux_plan.specs.Plans.{ends_with, is_call_through};
 
 use i2c_base::{End, Errno, LockId, MuxId, MuxKind, Purpose, SegId};
-use i2c_spec::Hop;
 
-/// What is to be done on a bus.
+/// What is to be done on a bus. A mux of the transfer's path is told by its number there, nearest first, from 0.
 #[derive(Clone, Copy)]
 pub enum Work {
     /// The caller's messages are sent.
     Call,
-    /// A channel is selected.
-    Select(Hop),
+    /// The channel of that mux is selected.
+    Select(u8),
     /// It is deselected, behind work on it.
-    Deselect(Hop),
+    Deselect(u8),
     /// A mux is closed, because a mark says that it may be open.
     Close {
         on: SegId,
@@ -34,62 +33,32 @@ pub enum WorkResult {
     Failed,
 }
 
-/// A task on the stack of a walk. A place counts the muxes that were crossed, so the place of the transfer's bus is 0.
+/// A task on the stack of a walk. A place counts the muxes that were crossed, so the place of the transfer's bus is 0; the
+/// mux of that number stands on the bus at the next place.
 #[derive(Clone, Copy)]
 pub enum Task {
     /// The work is done on the bus at this place, whose locks are held.
-    Enter {
-        place: u8,
-        work: Work,
-    },
+    Enter { place: u8, work: Work },
     /// The locks of the bus at this place are taken, but for those before the mux at `from`; then the work is done.
-    Lock {
-        from: u8,
-        place: u8,
-        work: Work,
-    },
+    Lock { from: u8, place: u8, work: Work },
     Free(LockId),
     /// A message of the work is sent, which so many more may follow.
-    Rest {
-        left: u8,
-        work: Work,
-    },
+    Rest { left: u8, work: Work },
     /// The line of the work's gpio mux is set.
-    Line {
-        work: Work,
-    },
+    Line { work: Work },
     /// The reply is decided: why it is an error, or none.
     Settle(Option<Errno>),
-    /// Waits for the close of a marked mux; the mux of the hop stands on the bus at this place.
-    AwaitClose {
-        place: u8,
-        hop: Hop,
-        mux: MuxId,
-        work: Work,
-    },
-    /// The close of a marked mux was sent: the channel is selected, but where the mux of the hop, on the bus at this place,
-    /// keeps it open; then the work is done.
-    Pass {
-        place: u8,
-        hop: Hop,
-        work: Work,
-    },
+    /// Waits for the close of a marked mux on the bus of the mux of this number.
+    AwaitClose { hop: u8, mux: MuxId, work: Work },
+    /// The close of a marked mux was sent: the channel is selected, but where the mux of this number keeps it open; then the
+    /// work is done.
+    Pass { hop: u8, work: Work },
     /// Waits for the select.
-    AwaitSelect {
-        place: u8,
-        hop: Hop,
-        work: Work,
-    },
+    AwaitSelect { hop: u8, work: Work },
     /// Waits for the work behind the mux.
-    AwaitWork {
-        place: u8,
-        hop: Hop,
-    },
+    AwaitWork { hop: u8 },
     /// Waits for the deselect, behind work of which this came.
-    AwaitDeselect {
-        hop: Hop,
-        came: WorkResult,
-    },
+    AwaitDeselect { hop: u8, came: WorkResult },
 }
 
 /// The blank of an unused place.

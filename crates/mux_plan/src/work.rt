@@ -1,16 +1,17 @@
 //! The pieces of work of a walk: what each sends or sets, and how it goes on.
-ghost use Rattle.std.specs.Prelude.{◌≡◌, ◌<◌, ◌^◌, ◌==◌, ℕ, List, length};
+ghost use Rattle.std.specs.Prelude.{◌≡◌, ◌<◌, ◌^◌, ◌==◌, List, length, All};
 ghost use Rattle.i2c_base.specs.Limits.{MOST_CHANNELS};
 ghost use Rattle.i2c_spec.specs.Chips.{select_value};
 ghost use Rattle.i2c_spec.specs.Messages.{MessageView};
 ghost use Rattle.bus_spec.specs.Walk as walk;
 ghost use Rattle.bus_spec.specs.Walk.{first_byte, goes, is_line, line_mux, line_level, job_outcome, verdict_of, decides, more_of, job_bus, job_purpose, part_of, parts_of};
 ghost use Rattle.mux_plan.specs.Plans.{RouteView, job_of, came_of, outcome_of, go_of, control_of};
-ghost use Rattle.mux_plan.specs.Rooms.{IsNarrowWork};
+ghost use Rattle.mux_plan.specs.Rooms.{IsNarrow, IsPlacedWork};
 
-use crate::{Outcome, Work, WorkResult};
+use crate::{Outcome, Route, Work, WorkResult};
 use i2c_base::{ChannelCode, End, Errno, MuxId, POLLS, Purpose, SegId};
-use i2c_spec::{Hop, errno_of};
+use i2c_board::Hop;
+use i2c_spec::errno_of;
 
 /// How a piece of work goes on behind one of its messages: with the next one, with its last one, or not at all.
 #[derive(Clone, Copy)]
@@ -50,100 +51,122 @@ fn found_free(bytes: &[u8]) -> bool
 
 impl Work {
     /// It is done by a line, and not by messages.
-    pub fn is_line(&self) -> bool
-        ensures { (c : RouteView) (ms : List MessageView) → result ≡ is_line (job_of c ms self.now) }
+    #[inline(always)]
+    pub fn is_line(&self, route: &Route) -> bool
+        requires { IsPlacedWork (length route.now.path) self.now }
+        ensures { (ms : List MessageView) → result ≡ is_line (job_of route.now ms self.now) }
     {
         match self {
             Work::Call => false,
-            Work::Select(hop) | Work::Deselect(hop) => hop.kind.facts().by_line,
+            Work::Select(hop) | Work::Deselect(hop) => route.hop(*hop).kind.facts().by_line,
             Work::Close { kind, .. } => kind.facts().by_line,
         }
     }
 
-    /// How many messages may follow the first one, where the transfer has so many.
-    pub fn more(&self, count: u8) -> u8
-        ensures { (c : RouteView) (ms : List MessageView) → length ms ≡ count → result ≡ more_of (job_of c ms self.now) }
+    /// How many messages may follow the first one.
+    #[inline(always)]
+    pub fn more(&self, route: &Route) -> u8
+        requires { IsPlacedWork (length route.now.path) self.now }
+        ensures { (ms : List MessageView) → length ms ≡ route.now.count → result ≡ more_of (job_of route.now ms self.now) }
     {
         match self {
-            Work::Call => count.saturating_sub(1),
-            Work::Select(hop) => { if hop.kind.facts().asks { POLLS } else { 0 } }
+            Work::Call => route.count.saturating_sub(1),
+            Work::Select(hop) => {
+                if route.hop(*hop).kind.facts().asks {
+                    POLLS
+                } else {
+                    0
+                }
+            }
             Work::Deselect(_) | Work::Close { .. } => 0,
         }
     }
 
     /// The bus that it is done on.
-    pub fn bus(&self, bus: SegId) -> SegId
-        ensures { (c : RouteView) (ms : List MessageView) → c.bus ≡ bus → result ≡ job_bus (job_of c ms self.now) }
+    #[inline(always)]
+    pub fn bus(&self, route: &Route) -> SegId
+        requires { IsPlacedWork (length route.now.path) self.now }
+        ensures { (ms : List MessageView) → result ≡ job_bus (job_of route.now ms self.now) }
     {
         match self {
-            Work::Call => bus,
-            Work::Select(hop) | Work::Deselect(hop) => hop.on,
+            Work::Call => route.bus,
+            Work::Select(hop) | Work::Deselect(hop) => route.hop(*hop).on,
             Work::Close { on, .. } => *on,
         }
     }
 
     /// Why its messages are sent.
-    pub fn purpose(&self) -> Purpose
-        ensures { (c : RouteView) (ms : List MessageView) → result ≡ job_purpose (job_of c ms self.now) }
+    #[inline(always)]
+    pub fn purpose(&self, route: &Route) -> Purpose
+        requires { IsPlacedWork (length route.now.path) self.now }
+        ensures { (ms : List MessageView) → result ≡ job_purpose (job_of route.now ms self.now) }
     {
         match self {
             Work::Call => Purpose::Call,
-            Work::Select(hop) | Work::Deselect(hop) => Purpose::Control(hop.mux),
-            Work::Close { mux, .. } => Purpose::Control(*mux),
+            Work::Select(_) | Work::Deselect(_) | Work::Close { .. } => {
+                Purpose::Control(self.line_mux(route))
+            }
         }
     }
 
     /// Which message of its transfer the one is that so many more may follow.
-    pub fn part(&self, left: u8, count: u8) -> u8
-        ensures { (c : RouteView) (ms : List MessageView) → length ms ≡ count → result ≡ part_of (job_of c ms self.now) left }
+    #[inline(always)]
+    pub fn part(&self, route: &Route, left: u8) -> u8
+        ensures { (ms : List MessageView) → length ms ≡ route.now.count → result ≡ part_of (job_of route.now ms self.now) left }
     {
         match self {
-            Work::Call => count.saturating_sub(left),
+            Work::Call => route.count.saturating_sub(left),
             Work::Select(_) | Work::Deselect(_) | Work::Close { .. } => 1,
         }
     }
 
     /// How many messages its transfer has.
-    pub fn parts(&self, count: u8) -> u8
-        ensures { (c : RouteView) (ms : List MessageView) → length ms ≡ count → result ≡ parts_of (job_of c ms self.now) }
+    #[inline(always)]
+    pub fn parts(&self, route: &Route) -> u8
+        ensures { (ms : List MessageView) → length ms ≡ route.now.count → result ≡ parts_of (job_of route.now ms self.now) }
     {
         match self {
-            Work::Call => count,
+            Work::Call => route.count,
             Work::Select(_) | Work::Deselect(_) | Work::Close { .. } => 1,
         }
     }
 
     /// The byte that its message writes, if it is a control message and no poll.
-    pub fn control(&self, left: u8) -> Option<u8>
-        requires { IsNarrowWork self.now }
-        ensures { (c : RouteView) (ms : List MessageView) → result ≡ control_of (job_of c ms self.now) left }
+    #[inline(always)]
+    pub fn control(&self, route: &Route, left: u8) -> Option<u8>
+        requires work { IsPlacedWork (length route.now.path) self.now }
+        requires narrow { All IsNarrow route.now.path }
+        ensures { (ms : List MessageView) → result ≡ control_of (job_of route.now ms self.now) left }
     {
         match self {
             Work::Call => None,
-            Work::Select(hop) => (left == 0).then_some(select_byte(hop)),
+            Work::Select(hop) => (left == 0).then_some(select_byte(route.hop(*hop))),
             Work::Deselect(_) | Work::Close { .. } => Some(0),
         }
     }
 
-    /// The mux whose line it sets.
-    pub fn line_mux(&self) -> MuxId
-        ensures { (c : RouteView) (ms : List MessageView) → result ≡ line_mux (job_of c ms self.now) }
+    /// The mux that it turns.
+    #[inline(always)]
+    pub fn line_mux(&self, route: &Route) -> MuxId
+        requires { IsPlacedWork (length route.now.path) self.now }
+        ensures { (ms : List MessageView) → result ≡ line_mux (job_of route.now ms self.now) }
     {
         match self {
             Work::Call => MuxId(0),
-            Work::Select(hop) | Work::Deselect(hop) => hop.mux,
+            Work::Select(hop) | Work::Deselect(hop) => route.hop(*hop).mux,
             Work::Close { mux, .. } => *mux,
         }
     }
 
     /// The level that it sets.
-    pub fn line_level(&self) -> u8
-        requires { IsNarrowWork self.now }
-        ensures { (c : RouteView) (ms : List MessageView) → result ≡ line_level (job_of c ms self.now) }
+    pub fn line_level(&self, route: &Route) -> u8
+        requires work { IsPlacedWork (length route.now.path) self.now }
+        requires narrow { All IsNarrow route.now.path }
+        ensures { (ms : List MessageView) → result ≡ line_level (job_of route.now ms self.now) }
     {
         match self {
             Work::Call | Work::Deselect(_) | Work::Close { .. } => 0,
-            Work::Select(hop) => select_byte(hop),
+            Work::Select(hop) => select_byte(route.hop(*hop)),
         }
     }
 

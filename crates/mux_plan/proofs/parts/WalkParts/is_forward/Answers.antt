@@ -10,4 +10,4 @@ returns c =
     ap not (c.has_deselect.ensures
     ∙ list_any-IsPermutation is_deselect c.items.result.now (reverse c.items.result.now) (IsPermutation-reverse c.items.result.now)
     ∙ ap (list_any is_deselect) c.items.ensures)
-    ∙ sym (note_of-forward c.args.self.now.stack)
+    ∙ sym (note_of-forward c.args.self.now.route c.args.self.now.stack)

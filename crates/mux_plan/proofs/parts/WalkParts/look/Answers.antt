@@ -23,6 +23,8 @@ returns-in_default-task c =
           ∙ seen-step b ms s.route v (c.in-Some.task.now ∷ below) out step);
       planned = c.requires.planned;
       step = subst IsStep (sym stack) step;
+      some = λ x. x;
+      none = λ x. x;
       route = search rules;
       came = search rules;
     }
@@ -33,7 +35,7 @@ pass-requires c =
     let w = c.in-Pass in
     record {
       planned = top-planned s.route s.stack c.drop_top-in-Pass.new.self c.in-Some.task.now
-          (Pass w.place w.hop w.work) c.in-Some.ensures.some w.is c.drop_top-in-Pass.ensures c.requires.planned;
+          (Pass w.hop w.work) c.in-Some.ensures.some w.is c.drop_top-in-Pass.ensures c.requires.planned;
     }
 
 pub returns-in-Pass-clause-tree : goal.returns-in-Pass-clause-tree
@@ -42,7 +44,7 @@ returns-in-Pass-clause-tree c = λ ms out long.
     let w = c.in-Pass in
     c.pass.ensures.tree ms out long
     ∙ ap (λ (x : SeenView). seen (slots_of x)
-    (tree_of c.args.board.now ms s.route (Pass w.place w.hop w.work ∷ c.drop_top-in-Pass.new.self) out)) c.again.ensures
+    (tree_of c.args.board.now ms s.route (Pass w.hop w.work ∷ c.drop_top-in-Pass.new.self) out)) c.again.ensures
     ∙ ap (λ (ts : List Task). seen (slots_of c.args.seen.now) (tree_of c.args.board.now ms s.route ts out))
-    (ap (λ (ts : List Task). Pass w.place w.hop w.work ∷ ts) c.drop_top-in-Pass.ensures
+    (ap (λ (ts : List Task). Pass w.hop w.work ∷ ts) c.drop_top-in-Pass.ensures
     ∙ sym (c.in-Some.ensures.some ∙ ap (λ (t : Task). t ∷ drop 1 s.stack) w.is))

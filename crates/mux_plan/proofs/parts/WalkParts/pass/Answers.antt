@@ -1,7 +1,7 @@
-use Rattle.std.proofs.Common.{List, ◌∷◌, true, false, sym, ◌∙◌, ap}
+use Rattle.std.proofs.Common.{true, false, List, ◌∷◌, ◌+◌, sym, ◌∙◌, ap}
 use Rattle.bus_spec.specs.Grammar.{keeps, seen}
 use Rattle.mux_plan.specs.declared.task.Task.{Task}
-use Rattle.mux_plan.specs.Plans.{RouteView, tree_of, slots_of, kept_of, part_task}
+use Rattle.mux_plan.specs.Plans.{RouteView, hop_at, tree_of, kept_of, slots_of, part_task}
 use Rattle.mux_plan.proofs.Openings.{passes-by, seen-step}
 use Rattle.mux_plan.proofs.Rooms.{planned-pass}
 use Rattle.mux_plan.proofs.parts.WalkParts.pass.Goals as goal
@@ -9,38 +9,38 @@ use Rattle.mux_plan.proofs.parts.WalkParts.pass.Goals as goal
 pub enter-requires : goal.enter-requires
 enter-requires c =
     let s = c.args.self.now in
-    let h = c.args.hop.now in
+    let k = c.args.hop in
     record {
       planned =
-          planned-pass s.route c.wait_select-next.new.self.route c.args.place c.args.work.now c.wait_select-next.result h
-          (keeps h (kept_of c.args.seen.now h.mux)) s.stack c.wait_select-next.new.self.stack
-          c.requires.planned (c.wait_select-next.ensures.narrow c.requires.planned.placed.0.1 c.requires.planned.placed.0.0)
+          planned-pass s.route c.wait_select-next.new.self.route k c.args.work.now c.wait_select-next.result
+          (keeps (hop_at s.route k) (kept_of c.args.seen.now (hop_at s.route k).mux)) s.stack c.wait_select-next.new.self.stack
+          c.requires.planned (c.wait_select-next.ensures.placed c.requires.planned.placed.0.0)
           c.wait_select-next.ensures.route c.wait_select-next.ensures.stack true;
     }
 
 pub returns-then-is_parent-clause-tree : goal.returns-then-is_parent-clause-tree
 returns-then-is_parent-clause-tree c = λ ms out long.
     let s = c.args.self.now in
-    let h = c.args.hop.now in
+    let k = c.args.hop in
     c.enter.ensures.tree ms out (long ∙ sym (ap (λ (x : RouteView). x.count) c.wait_select-next.ensures.route))
     ∙ ap (λ (x : RouteView). seen (slots_of c.args.seen.now)
-    (tree_of c.args.board.now ms x (part_task true c.args.place c.wait_select-next.result ∷ c.wait_select-next.new.self.stack) out))
+    (tree_of c.args.board.now ms x (part_task true (k + 1) c.wait_select-next.result ∷ c.wait_select-next.new.self.stack) out))
     c.wait_select-next.ensures.route
-    ∙ passes-by c.args.board.now ms s.route c.args.seen.now c.args.place c.args.work.now h s.stack out true (sym c.is_parent.ensures
-    ∙ c.if-is_parent.true)
+    ∙ passes-by c.args.board.now ms s.route c.args.seen.now k c.args.work.now s.stack out true
+    (ap (λ (x : RouteView). (hop_at x k).parent) (sym c.wait_select-next.ensures.route) ∙ sym c.is_parent.ensures ∙ c.if-is_parent.true)
     c.wait_select-next.result c.wait_select-next.new.self.stack c.wait_select-next.ensures.next c.wait_select-next.ensures.stack
 
 pub returns-else-is_parent-clause-tree : goal.returns-else-is_parent-clause-tree
 returns-else-is_parent-clause-tree c = λ ms out long.
     let s = c.args.self.now in
-    let h = c.args.hop.now in
+    let k = c.args.hop in
     let b = c.args.board.now in
     ap (λ (ts : List Task). tree_of b ms c.wait_select-next.new.self.route ts out) (c.push.ensures
     ∙ ap (λ (t : Task). t ∷ c.wait_select-next.new.self.stack) c.part.ensures)
     ∙ ap (λ (x : RouteView). tree_of b ms x
-    (part_task false c.args.place c.wait_select-next.result ∷ c.wait_select-next.new.self.stack) out) c.wait_select-next.ensures.route
+    (part_task false (k + 1) c.wait_select-next.result ∷ c.wait_select-next.new.self.stack) out) c.wait_select-next.ensures.route
     ∙ sym (seen-step b ms s.route (slots_of c.args.seen.now)
-    (part_task false c.args.place c.wait_select-next.result ∷ c.wait_select-next.new.self.stack) out tt)
-    ∙ passes-by b ms s.route c.args.seen.now c.args.place c.args.work.now h s.stack out false (sym c.is_parent.ensures
-    ∙ c.if-is_parent.false)
+    (part_task false (k + 1) c.wait_select-next.result ∷ c.wait_select-next.new.self.stack) out tt)
+    ∙ passes-by b ms s.route c.args.seen.now k c.args.work.now s.stack out false
+    (ap (λ (x : RouteView). (hop_at x k).parent) (sym c.wait_select-next.ensures.route) ∙ sym c.is_parent.ensures ∙ c.if-is_parent.false)
     c.wait_select-next.result c.wait_select-next.new.self.stack c.wait_select-next.ensures.next c.wait_select-next.ensures.stack

@@ -10,7 +10,7 @@ wake_close-requires c =
     let w = c.in-AwaitClose in
     record {
       planned = top-planned s.route s.stack c.drop_top.new.self c.in-Some.task.now
-          (AwaitClose w.place w.hop w.mux w.work) c.in-Some.ensures.some w.is c.drop_top.ensures c.requires.planned;
+          (AwaitClose w.hop w.mux w.work) c.in-Some.ensures.some w.is c.drop_top.ensures c.requires.planned;
     }
 
 pub returns-in-AwaitClose-clause-tree : goal.returns-in-AwaitClose-clause-tree
@@ -19,7 +19,7 @@ returns-in-AwaitClose-clause-tree c =
     let w = c.in-AwaitClose in
     λ b ms. c.wake_close.ensures.tree b ms
     ∙ top-tree s.route s.stack c.drop_top.new.self c.in-Some.task.now
-    (AwaitClose w.place w.hop w.mux w.work) c.in-Some.ensures.some w.is c.drop_top.ensures b ms (came_of s.came)
+    (AwaitClose w.hop w.mux w.work) c.in-Some.ensures.some w.is c.drop_top.ensures b ms (came_of s.came)
 
 pub wake_select-requires : goal.wake_select-requires
 wake_select-requires c =
@@ -27,7 +27,7 @@ wake_select-requires c =
     let w = c.in-AwaitSelect in
     record {
       planned = top-planned s.route s.stack c.drop_top-in-AwaitSelect.new.self c.in-Some.task.now
-          (AwaitSelect w.place w.hop w.work) c.in-Some.ensures.some w.is c.drop_top-in-AwaitSelect.ensures c.requires.planned;
+          (AwaitSelect w.hop w.work) c.in-Some.ensures.some w.is c.drop_top-in-AwaitSelect.ensures c.requires.planned;
     }
 
 pub returns-in-AwaitSelect-clause-tree : goal.returns-in-AwaitSelect-clause-tree
@@ -36,7 +36,7 @@ returns-in-AwaitSelect-clause-tree c =
     let w = c.in-AwaitSelect in
     λ b ms. c.wake_select.ensures.tree b ms
     ∙ top-tree s.route s.stack c.drop_top-in-AwaitSelect.new.self c.in-Some.task.now
-    (AwaitSelect w.place w.hop w.work) c.in-Some.ensures.some w.is c.drop_top-in-AwaitSelect.ensures b ms (came_of s.came)
+    (AwaitSelect w.hop w.work) c.in-Some.ensures.some w.is c.drop_top-in-AwaitSelect.ensures b ms (came_of s.came)
 
 pub deselect-requires : goal.deselect-requires
 deselect-requires c =
@@ -44,7 +44,7 @@ deselect-requires c =
     let w = c.in-AwaitWork in
     record {
       planned = top-planned s.route s.stack c.drop_top-in-AwaitWork.new.self c.in-Some.task.now
-          (AwaitWork w.place w.hop) c.in-Some.ensures.some w.is c.drop_top-in-AwaitWork.ensures c.requires.planned;
+          (AwaitWork w.hop) c.in-Some.ensures.some w.is c.drop_top-in-AwaitWork.ensures c.requires.planned;
     }
 
 pub returns-in-AwaitWork-clause-tree : goal.returns-in-AwaitWork-clause-tree
@@ -53,7 +53,7 @@ returns-in-AwaitWork-clause-tree c =
     let w = c.in-AwaitWork in
     λ b ms. c.deselect.ensures.tree b ms (came_of c.deselect.new.self.came)
     ∙ top-tree s.route s.stack c.drop_top-in-AwaitWork.new.self c.in-Some.task.now
-    (AwaitWork w.place w.hop) c.in-Some.ensures.some w.is c.drop_top-in-AwaitWork.ensures b ms (came_of s.came)
+    (AwaitWork w.hop) c.in-Some.ensures.some w.is c.drop_top-in-AwaitWork.ensures b ms (came_of s.came)
 
 pub returns-in-AwaitDeselect-clause-tree : goal.returns-in-AwaitDeselect-clause-tree
 returns-in-AwaitDeselect-clause-tree c =

@@ -3,7 +3,7 @@ use Rattle.std.specs.List.{All}
 use Rattle.i2c_base.specs.Board.{BoardView}
 use Rattle.i2c_base.specs.Limits.{MOST_DEPTH}
 use Rattle.i2c_spec.specs.Tree.{Hop, hops}
-use Rattle.i2c_spec.specs.Layouts.{board_of}
+use Rattle.i2c_board.specs.Layouts.{board_of}
 use Rattle.i2c_spec.specs.Plain.{IsPlainBoard}
 use Rattle.mux_plan.specs.Rooms.{IsNarrow}
 use Rattle.i2c_spec.proofs.CostLemmas.{hops_few}

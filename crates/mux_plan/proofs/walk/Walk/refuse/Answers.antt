@@ -13,4 +13,4 @@ returns-clause-count c =
 pub returns-clause-tree : goal.returns-clause-tree
 returns-clause-tree c = λ b. ap
     (λ (ts : List Task). tree_of b (messages_of c.args.transfer.now) c.start.new.self.route ts (came_of c.start.new.self.came))
-    c.start.ensures.stack
+    (c.of.ensures ∙ c.start.ensures.stack)
