@@ -1,5 +1,6 @@
 -- What the core cites, each passed on from the file that proves it: the steps of the whole; what a step leaves of its
 -- walk; what the locks, the ports and the journal want of it; and who is ready.
+pub use Rattle.core_laws.proofs.Apart.{looks-stay}
 pub use Rattle.core_laws.proofs.Core.{stands-here}
 pub use Rattle.core_laws.proofs.CoreEnds.{core-ended, core-finished, core-lone, core-lone-finished, refused-gives}
 pub use Rattle.core_laws.proofs.CoreLines.{core-line-settled, core-lined}

@@ -16,6 +16,7 @@ pub mod Core
 pub mod Seats
 pub mod Going
 pub mod Wants
+pub mod Apart
 pub mod CoreSteps
 pub mod Rooms
 pub mod Sent

@@ -41,7 +41,7 @@ use Rattle.bus_laws.proofs.past.StandsStep.{at_same, at_other}
 use Rattle.seg_locks.specs.Locks.{LocksView}
 use Rattle.core_laws.specs.Spots.{seen_of, turned_to, TellsKept, Spot, SpotTold, PortTold, IsTold, AreNumbered, AreRooted}
 use Rattle.bus_message.specs.Ports.{RootPort}
-use Rattle.core_laws.proofs.Steps.{set_here, own-ahead, spots-kept}
+use Rattle.core_laws.proofs.Steps.{spot-told, set_here, own-ahead, spots-kept}
 use Rattle.mux_plan.specs.declared.task.NextMsg.{NextMsg}
 use Rattle.core_laws.specs.Sends.{IsMessageOf}
 use Rattle.bus_message.specs.Sends.{IsChipAddress, IsHeard, HasSent, message_for}
@@ -118,17 +118,7 @@ module _ (b : BoardView) (tree : IsTree b) (plain : IsPlainBoard b) (lines : Lin
       (told : IsTold b callers asks past spots v sockets due) (numbered : AreNumbered callers spots) (place : ℕ) (x : Spot)
       (here : slice_get spots place ≡ Some x)
       (sees : seen (now b asks past).slot x.tree ≡ seen (slots_of (seen_of v)) x.tree) where
-    abbrev n : Now
-    n = now b asks past
-
-    abbrev c : ℕ
-    c = x.number
-
-    own : SpotTold b asks n x
-    own = told.spots_told place x here
-
-    known : c < callers
-    known = numbered.below place x here
+    open spot-told b asks callers past spots v sockets due told numbered place x here use {n, c, own, known}
 
     tells_here : TellsMarks n.slot v.marks
     tells_here = record { at = λ p h. told.locks_told.mark p }

@@ -100,23 +100,26 @@ locks-set b n m v told (lock.Mux p) is who holders slots =
       kept = λ m. ap (λ (f : Slots). (f (home_of_mux b m)).kept m) slots ∙ told.kept m;
     }
 
+-- the caller at a place, and what the journal tells of it
+pub record SpotHere (b : BoardView) (asks : Asks) (callers : ℕ) (x : Spot) : Type 0 where
+  pub n : Now
+  pub c : ℕ
+  pub own : SpotTold b asks n x
+  pub known : c < callers
+
+abbrev pub spot-told : (b : BoardView) (asks : Asks) (callers : ℕ) (past : List Entry) (spots : List Spot) (v : LocksView)
+    (sockets : List RootPort) (due : Option ℕ) → IsTold b callers asks past spots v sockets due → AreNumbered callers spots
+    → (place : ℕ) (x : Spot) → slice_get spots place ≡ Some x → SpotHere b asks callers x
+spot-told b asks callers past spots v sockets due told numbered place x here =
+    record { n = now b asks past; c = x.number; own = told.spots_told place x here; known = numbered.below place x here }
+
 -- THE STEPS
 module _ (b : BoardView) (tree : IsTree b) (plain : IsPlainBoard b) (lines : LinesAreLocked b) (asks : Asks) (some : AsksForMessages asks)
     (callers : ℕ) (past : List Entry) (spots : List Spot) (v : LocksView) (sockets : List RootPort)
     (told : IsTold b callers asks past spots v sockets None) (numbered : AreNumbered callers spots) (place : ℕ) (x : Spot)
     (here : slice_get spots place ≡ Some x)
     (sees : seen (now b asks past).slot x.tree ≡ seen (slots_of (seen_of v)) x.tree) where
-  abbrev n : Now
-  n = now b asks past
-
-  abbrev c : ℕ
-  c = x.number
-
-  own : SpotTold b asks n x
-  own = told.spots_told place x here
-
-  known : c < callers
-  known = numbered.below place x here
+  open spot-told b asks callers past spots v sockets None told numbered place x here use {n, c, own, known}
 
   -- the lock words answer its looks
   current-is : current b asks n c ≡ seen (slots_of (seen_of v)) x.tree

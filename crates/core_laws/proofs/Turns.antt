@@ -27,7 +27,8 @@ spot-was spots place x new here same i y at =
         x,
         ap (slice_get spots) h.1 ∙ here,
         sym same
-            ∙ ap (λ (s : Spot). s.number) (set_here spots place new y (subst (λ (k : ℕ). slice_get (set spots place new) k ≡ Some y) h.1 at)),
+            ∙ ap (λ (s : Spot). s.number) (set_here spots place new y (subst (λ (k : ℕ). slice_get (set spots place new) k ≡ Some y) h.1
+            at)),
       )
       | inr h ↦ (y, sym (set_elsewhere spots place i new h.1) ∙ at, refl)
     ]

@@ -91,7 +91,8 @@ module _ (b : BoardView) (t : TransferView) (v : Slots) (w : WalkTree) (settled 
   call-is bus ms left first =
       let before : settled ≡ false = (settles-sent settled v w is.settles (Call bus ms) left first).0 in
       let call : IsCall b t bus ms = call-sent b t v w is.calls bus ms left first in
-      let many : length ms ≡ length t.msgs = ap (λ (xs : List MessageView). length xs) call.same_messages ∙ length-messages t.msgs t.out in (
+      let many : length ms ≡ length t.msgs = ap (λ (xs : List MessageView). length xs) call.same_messages
+      ∙ length-messages t.msgs t.out in (
         before,
         call,
         elim (is.counts before) [

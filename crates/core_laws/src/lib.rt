@@ -20,4 +20,6 @@ pub use messages::{a_message_fits, the_whole_over_a_message};
 pub use opening::an_opening_keeps_the_whole;
 pub use ready::someone_is_ready;
 pub use refusals::the_whole_over_a_refusal;
-pub use words::{changed_channels_are_told, lock_words_answer_each_look};
+pub use words::{
+    changed_channels_are_told, lock_words_answer_each_look, looks_stay_while_others_turn,
+};
