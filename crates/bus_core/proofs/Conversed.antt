@@ -1,19 +1,17 @@
 -- Behind a message of the caller at a place: the settle that it decides, and all that is kept.
-use Rattle.std.proofs.Common.{◌≡◌, ◌⊎◌, ℕ, ◌+◌, ◌<◌, ◌≤◌, Bool, true, false, List, [], ◌∷◌, ◌++◌, length, reverse, set, take, Option, Some, refl, sym, ◌∙◌, ap, subst, arith, inl, inr}
+use Rattle.std.proofs.Common.{◌≡◌, ◌⊎◌, ℕ, ◌+◌, ◌≤◌, Bool, true, false, List, [], ◌∷◌, ◌++◌, length, reverse, set, take, Option, Some, refl, sym, ◌∙◌, ap, subst, arith, inl, inr}
 use Rattle.std.specs.Prelude.{slice_get}
 use Rattle.std.proofs.lemmas.List.{reverse-append, append_assoc}
 use Rattle.i2c_base.specs.declared.caller.Caller.{Ghosts as CallerGhosts}
 use Rattle.i2c_base.specs.declared.entry.Entry.{Entry}
 use Rattle.i2c_base.specs.declared.entry.Entry.TheVariants as entry
 use Rattle.i2c_base.specs.declared.errno.Errno.{Errno}
-use Rattle.i2c_base.specs.declared.ids.LockId.{LockId}
 use Rattle.i2c_base.specs.declared.reply.Cut.TheVariants as cut_at
 use Rattle.i2c_base.specs.declared.reply.Reply.{Reply}
 use Rattle.i2c_base.specs.Fitting.{Fits, FitsReads}
 use Rattle.i2c_base.specs.Transfer.{TransferView}
 use Rattle.ports.specs.declared.port.Port.{Ghosts as PortGhosts}
 use Rattle.i2c_spec.specs.Messages.{MessageView}
-use Rattle.i2c_spec.specs.Tree.{buses}
 use Rattle.bus_journal.specs.View.{JournalView}
 use Rattle.bus_spec.specs.Grammar.{first_act, rest_of}
 use Rattle.bus_spec.specs.Past.{got_after}
@@ -27,23 +25,23 @@ use Rattle.bus_message.specs.declared.message.MsgResult.{MsgResult}
 use Rattle.mux_plan.specs.Plans.{SeenView, slots_of}
 use Rattle.seg_locks.specs.Locks.{LocksView}
 use Rattle.core_laws.specs.Behind.{message_entry, spoken}
-use Rattle.core_laws.specs.Core.{Place, Run, Whole, has_reply}
+use Rattle.core_laws.specs.Core.{Place, has_reply}
 use Rattle.core_laws.specs.Seats.{IsLeft, IsDecided}
 use Rattle.mux_plan.specs.declared.task.NextMsg.{NextMsg}
 use Rattle.core_laws.specs.Sends.{IsMessageOf, gone_after}
 use Rattle.core_laws.specs.Spots.{turned_to}
 use Rattle.bus_message.specs.Ports.{RootPort}
 use Rattle.core_laws.specs.Steps.{next_of, behind_of}
-use Rattle.core_laws.proofs.Core.{locks-here, owes-here, not_over}
-use Rattle.core_laws.proofs.Laws.{stands-here, sent-leaves, core-message, core-settled, room-message, bytes-settle}
-use Rattle.bus_core.specs.Kept.{roots_of, IsSeated, run_of, whole_of, IsKept, HasStepped}
+use Rattle.core_laws.proofs.Laws.{sent-leaves, core-message, core-settled, room-message, bytes-settle}
+use Rattle.bus_core.specs.Kept.{roots_of, IsSeated, IsKept, HasStepped}
 use Rattle.bus_core.specs.Places.{walk_left, place_of}
 use Rattle.bus_core.specs.Seats.{HasSpoken, HasHeard, MaySettle, IsSettledIn}
 use Rattle.bus_core.specs.declared.parts.CoreParts.{CoreParts}
 use Rattle.bus_core.specs.declared.seat.Seat.{Seat}
-use Rattle.bus_core.proofs.Kept.{fair, place-here, seated-here, kept-whole, stepped-one}
+use Rattle.bus_core.proofs.Kept.{standing, fair, seated-here, kept-whole, stepped-one}
 use Rattle.bus_core.proofs.Converse.{goes, on-bus, calls, call-left, few, words2, is-sent}
-use Rattle.bus_core.proofs.Heard.{heard-place, heard-got, heard-seated, settle-first, settled-place, settled-seated}
+use Rattle.bus_core.proofs.Heard.{heard-place, heard-got, heard-seated, settle-first, settled-place}
+use Rattle.bus_core.proofs.Reseating.{seated_settled}
 use Rattle.bus_core.proofs.Stepped.{roots-stay, stepped-two}
 use Rattle.i2c_base.specs.Need.{bytes_given}
 
@@ -54,23 +52,7 @@ module _ {P C S : Type 0} (g : PortGhosts P) (c : CallerGhosts C S) (x : CorePar
     (sockets2 : List RootPort) (bytes : List ℕ) (sent : MsgResult)
     (said : HasSpoken x.board g.tells next (root_ports g x.ports.items) sockets2 bytes sent s)
     (t : Seat C) (heard : HasHeard x.board x.locks next sent.reading bytes sent.end s t) where
-  abbrev run : Run
-  run = run_of g c x
-
-  abbrev whole : Whole
-  whole = whole_of g c x kept.held kept.owes
-
-  abbrev p : Place
-  p = place_of c x.board s
-
-  at : slice_get whole.places place ≡ Some p
-  at = place-here g c x kept place s here
-
-  abbrev ls : List LockId
-  ls = (locks-here run whole kept.kept place p at).0
-
-  abbrev n : ℕ
-  n = (owes-here run whole kept.kept place p at).0
+  open standing g c x kept place s here use {run, whole, p, at, ls, n}
 
   abbrev words : SeenView
   words = words2 g c x kept place s here job more next first of sockets2 bytes sent said
@@ -162,7 +144,7 @@ module _ {P C S : Type 0} (g : PortGhosts P) (c : CallerGhosts C S) (x : CorePar
               → IsKept g c new × HasStepped g c place x new
           by left partway =
               let core = core-message run (fair g c x kept) whole kept.kept place p ls n
-              (stands-here run whole kept.kept place p at) j.room job more next s.port said.before said.after sent.addr sent.reading
+              (standing g c x kept place s here).stands j.room job more next s.port said.before said.after sent.addr sent.reading
               bytes sent.heard sent.end words
               (is-sent g c x kept place s here job more next first of sockets2 bytes sent said) gone left partway (sym room) j.room_bytes
               (sym room_bytes) in
@@ -205,7 +187,7 @@ module _ {P C S : Type 0} (g : PortGhosts P) (c : CallerGhosts C S) (x : CorePar
               let settle = entry.Settle s.number reply (message_cut next.purpose next.part sent.end) in
               let rooms : x.journal.room ≡ new.journal.room + 2 = (let a = made.room in omega (arith, a, room)) in
               let core = core-settled run (fair g c x kept) whole kept.kept place p ls n
-              (stands-here run whole kept.kept place p at) new.journal.room job more next s.port said.before said.after sent.addr
+              (standing g c x kept place s here).stands new.journal.room job more next s.port said.before said.after sent.addr
               sent.reading bytes sent.heard sent.end words
               (is-sent g c x kept place s here job more next first of sockets2 bytes sent said) gone due decides unsettled reply decided
               (fits reply decided) rooms new.journal.room_bytes
@@ -218,10 +200,7 @@ module _ {P C S : Type 0} (g : PortGhosts P) (c : CallerGhosts C S) (x : CorePar
               made.entries ∙ ap (λ (ys : List Entry). ys ++ entry.Settle t.number reply t.cut ∷ []) entries
               ∙ append_assoc x.journal.entries (message ∷ []) (entry.Settle t.number reply t.cut ∷ [])
               ∙ ap (λ (y : Seat C). x.journal.entries ++ message ∷ entry.Settle y.number reply y.cut ∷ []) heard.same in
-              let seated2 = settled-seated c x.board locks2 (roots_of x.ports.items) verdict t u made.settled seated
-              (not_over (slots_of words) (walk_left x.board t) (Settle verdict) made.next)
-              (subst (λ (y : Seat C). y.transfer.bus < buses x.board) (sym heard.same)
-              (on-bus g c x kept place s here job more next first of)) in
+              let seated2 = seated_settled c x.board locks2 (roots_of x.ports.items) t u seated verdict made.settled in
               let place2 = settled-place c x.board locks2 (roots_of x.ports.items) verdict t u made.settled reply refl first2
               ∙ ap (λ (q : Place). record q { tree = rest_of q.tree Passed; owed = reply ∷ []; got = []; cut = cut_at.No }) place-is in (
                 kept-whole g c x kept place s here new u same_board seats number script roots seated2 _ core

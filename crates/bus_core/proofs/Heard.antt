@@ -1,5 +1,5 @@
 -- A seat behind a message that it heard, and behind its settle: what is told of its caller, and what it keeps by itself.
-use Rattle.std.proofs.Common.{◌≡◌, ℕ, ◌+◌, ◌<◌, ◌≤◌, Bool, true, false, List, [], ◌∷◌, length, take, sum_by, Option, Some, None, refl, sym, ◌∙◌, ap, subst, arith, inl}
+use Rattle.std.proofs.Common.{◌≡◌, ℕ, ◌+◌, ◌<◌, ◌≤◌, Bool, true, false, List, [], ◌∷◌, length, Option, Some, None, refl, sym, ◌∙◌, ap, subst, arith, inl}
 use Rattle.std.specs.Prelude.{slice_get, if◌then◌else◌}
 use Rattle.i2c_base.specs.declared.caller.Caller.{Ghosts as CallerGhosts}
 use Rattle.i2c_base.specs.declared.entry.End.{End}
@@ -11,7 +11,7 @@ use Rattle.i2c_base.specs.declared.reply.Cut.TheVariants as cut_at
 use Rattle.i2c_base.specs.declared.reply.Reply.{Reply}
 use Rattle.i2c_base.specs.Board.{BoardView}
 use Rattle.i2c_base.specs.Need.{Covers}
-use Rattle.i2c_base.specs.Transfer.{TransferView, written_of}
+use Rattle.i2c_base.specs.Transfer.{TransferView}
 use Rattle.i2c_spec.specs.Messages.{MessageView, messages_of}
 use Rattle.i2c_spec.specs.Tree.{buses, root_of}
 use Rattle.bus_spec.specs.Grammar.{is_over, first_act, rest_of}
@@ -146,21 +146,6 @@ module _ {C S : Type 0} (c : CallerGhosts C S) (b : BoardView) (v : LocksView) (
         ap (place_of c b) went.same ∙ ap (λ (y : WalkTree). record (place_of c b s) { tree = y; cut = cut })
         (sym (ap (walk_left b) went.same) ∙ went.walk)
 
-    pub went-on-seated : IsSeated c b roots s → is_over (walk_left b s) ≡ false → s.transfer.bus < buses b → IsSeated c b roots t
-    went-on-seated seated going low =
-        let transfer : t.transfer ≡ s.transfer = ap (λ (y : Seat C). y.transfer) went.same in
-        record {
-          counted = ap (λ (y : TransferView). length (messages_of y)) transfer ∙ seated.counted
-              ∙ sym (ap (λ (y : RouteView). y.count) went.route);
-          wrote = subst (λ (y : Seat C). y.written ≡ sum_by written_of (take y.sent y.transfer.msgs)) (sym went.same) seated.wrote;
-          within = subst (λ (y : Seat C). y.sent ≤ length y.transfer.msgs) (sym went.same) seated.within;
-          plugged = λ goes there. subst (λ (y : Seat C). slice_get roots y.port ≡ Some (root_of b y.transfer.bus)) (sym went.same)
-              (seated.plugged going low);
-          there = λ goes. inl (subst (λ (y : TransferView). y.bus < buses b) (sym transfer) low);
-          spare = subst (λ (y : Seat C). Covers (c.spare y.caller) (c.owed (c.script y.caller) (c.taken y.caller)))
-              (sym went.same) seated.spare;
-        }
-
   -- THE SETTLE behind either
   module _ (verdict : Option Errno) (t u : Seat C) (settled : HasSettled b v verdict t u) where
     pub settled-place : (reply : Reply) → reply_by verdict (Some t.transfer) t.replies.got ≡ reply
@@ -172,18 +157,3 @@ module _ {C S : Type 0} (c : CallerGhosts C S) (b : BoardView) (v : LocksView) (
         (reply ∷ []) (rest_of (walk_left b t) Passed) t.sent []
         (settled.owed ∙ ap (λ (r : Reply). r ∷ []) is)
         (sym (ap (walk_left b) settled.same) ∙ settled.walk ∙ (settle-first v (walk_left b t) verdict first).1) refl settled.emptied
-
-    pub settled-seated : IsSeated c b roots t → is_over (walk_left b t) ≡ false → t.transfer.bus < buses b → IsSeated c b roots u
-    settled-seated seated going low =
-        let transfer : u.transfer ≡ t.transfer = ap (λ (y : Seat C). y.transfer) settled.same in
-        record {
-          counted = ap (λ (y : TransferView). length (messages_of y)) transfer ∙ seated.counted
-              ∙ sym (ap (λ (y : RouteView). y.count) settled.route);
-          wrote = subst (λ (y : Seat C). y.written ≡ sum_by written_of (take y.sent y.transfer.msgs)) (sym settled.same) seated.wrote;
-          within = subst (λ (y : Seat C). y.sent ≤ length y.transfer.msgs) (sym settled.same) seated.within;
-          plugged = λ goes there. subst (λ (y : Seat C). slice_get roots y.port ≡ Some (root_of b y.transfer.bus)) (sym settled.same)
-              (seated.plugged going low);
-          there = λ goes. inl (subst (λ (y : TransferView). y.bus < buses b) (sym transfer) low);
-          spare = subst (λ (y : Seat C). Covers (c.spare y.caller) (c.owed (c.script y.caller) (c.taken y.caller)))
-              (sym settled.same) seated.spare;
-        }

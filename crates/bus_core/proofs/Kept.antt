@@ -19,14 +19,14 @@ use Rattle.bus_spec.specs.Readings.{caller_of}
 use Rattle.bus_spec.specs.Stepwise.{IsStepwise}
 use Rattle.bus_laws.proofs.Laws.{lines-locked}
 use Rattle.bus_message.specs.Ports.{root_ports}
-use Rattle.core_laws.specs.Core.{Place, Run, IsFairRun, Whole, CoreKept, numbers_of}
+use Rattle.core_laws.specs.Core.{Place, Run, IsFairRun, Whole, StandsAt, CoreKept, numbers_of}
 use Rattle.std.proofs.lemmas.List.{map-set}
 use Rattle.std.proofs.lemmas.List.{length-append}
-use Rattle.core_laws.proofs.Core.{set_same, at_set}
+use Rattle.core_laws.proofs.Core.{set_same, at_set, locks-here, owes-here, stands-here}
 use Rattle.core_laws.proofs.Laws.{turn-one}
 use Rattle.bus_message.specs.Ports.{RootPort}
 use Rattle.seg_locks.specs.Locks.{LocksView}
-use Rattle.bus_core.specs.Kept.{roots_of, IsSeated, asks_in, left_in, run_of, whole_of, IsKept, HasStepped}
+use Rattle.bus_core.specs.Kept.{roots_of, IsSeated, asks_in, run_of, whole_of, IsKept, HasStepped}
 use Rattle.bus_core.specs.Opening.{IsSetUp, HasRoot}
 use Rattle.bus_core.specs.Places.{place_of, places_of, script_of, scripts_of, script_at, asks_of, left_of}
 use Rattle.bus_core.specs.declared.parts.CoreParts.{CoreParts}
@@ -178,41 +178,11 @@ module _ {P C S : Type 0} (g : PortGhosts P) (c : CallerGhosts C S) (x : CorePar
         set_up = by_board (λ (b : BoardView). IsSetUp c.asked c.left c.board b (scripts_of c new.seats.items) (roots_of new.ports.items))
             (subst (λ (xs : List (ℕ × S)). IsSetUp c.asked c.left c.board board xs (roots_of new.ports.items)) (sym new-scripts)
             (subst (λ (rs : List ℕ). IsSetUp c.asked c.left c.board board (scripts_of c x.seats.items) rs) (sym roots) kept.set_up));
-        kept = by_board (λ (b : BoardView). CoreKept
-            (record { board = b; tells = g.tells; asks = asks_in c new; left = left_in c new; callers = MOST_CALLERS })
-            (record {
-              past = reverse new.journal.entries;
-              room = new.journal.room;
-              room_bytes = new.journal.room_bytes;
-              places = places_of c b new.seats.items;
-              held = held;
-              owes = owes;
-              locks = new.locks;
-              sockets = root_ports g new.ports.items;
-            }))
+        kept = by_board (λ (b : BoardView). CoreKept (run_of g c (record new { board = b })) (behind (places_of c b new.seats.items)))
             (subst (λ (xs : List (ℕ × S)). CoreKept
             (record { board = board; tells = g.tells; asks = asks_of c.asked xs; left = left_of c.left xs; callers = MOST_CALLERS })
-            (record {
-              past = reverse new.journal.entries;
-              room = new.journal.room;
-              room_bytes = new.journal.room_bytes;
-              places = places_of c board new.seats.items;
-              held = held;
-              owes = owes;
-              locks = new.locks;
-              sockets = root_ports g new.ports.items;
-            })) (sym new-scripts)
-            (subst (λ (ps : List Place). CoreKept (run_of g c x)
-            (record {
-              past = reverse new.journal.entries;
-              room = new.journal.room;
-              room_bytes = new.journal.room_bytes;
-              places = ps;
-              held = held;
-              owes = owes;
-              locks = new.locks;
-              sockets = root_ports g new.ports.items;
-            }))
+            (behind (places_of c board new.seats.items))) (sym new-scripts)
+            (subst (λ (ps : List Place). CoreKept (run_of g c x) (behind ps))
             (sym (ap (places_of c board) seats ∙ map-set (place_of c board) x.seats.items place t)) core));
         seated = λ i u at.
             by_board (λ (b : BoardView). IsSeated c b (roots_of new.ports.items) u)
@@ -225,6 +195,10 @@ module _ {P C S : Type 0} (g : PortGhosts P) (c : CallerGhosts C S) (x : CorePar
         where
           by_board : (Q : _ → Type 0) → Q x.board → Q new.board
           by_board Q = subst Q (sym same_board)
+
+          -- where all stand behind it, with these places
+          behind : List Place → Whole
+          behind ps = record (whole_of g c new held owes) { places = ps }
 
       -- .. where the plain lists are these
       pub kept-whole : IsSeated c board (roots_of x.ports.items) t → (w : Whole) → CoreKept (run_of g c x) w
@@ -287,3 +261,34 @@ module _ {P C S : Type 0} (g : PortGhosts P) (c : CallerGhosts C S) (x : CorePar
                   entries = entries;
                 };
           }
+
+-- THE CALLER AT A PLACE, as the laws of the core speak of it: the run, where all stand, its own place, the locks that it has, and
+-- what it owes
+pub record Standing (place : ℕ) : Type 0 where
+  pub run : Run
+  pub whole : Whole
+  pub core : CoreKept run whole
+  pub p : Place
+  pub at : slice_get whole.places place ≡ Some p
+  pub ls : List LockId
+  pub n : ℕ
+  pub stands : StandsAt whole place p ls n
+
+abbrev pub standing : {P C S : Type 0} (g : PortGhosts P) (c : CallerGhosts C S) (x : CoreParts P C) (kept : IsKept g c x) (place : ℕ)
+    (s : Seat C)
+    → slice_get x.seats.items place ≡ Some s → Standing place
+standing g c x kept place s here =
+    let run = run_of g c x in
+    let whole = whole_of g c x kept.held kept.owes in
+    let p = place_of c x.board s in
+    let at = place-here g c x kept place s here in
+    record {
+      run = run;
+      whole = whole;
+      core = kept.kept;
+      p = p;
+      at = at;
+      ls = (locks-here run whole kept.kept place p at).0;
+      n = (owes-here run whole kept.kept place p at).0;
+      stands = stands-here run whole kept.kept place p at;
+    }

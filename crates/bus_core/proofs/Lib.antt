@@ -6,6 +6,8 @@ pub mod There
 pub mod SeatLemmas
 pub mod Reseating
 pub mod Kept
+pub mod Nexts
+pub mod Looking
 pub mod Locks
 pub mod ReadsRoom
 pub mod Converse

@@ -14,14 +14,13 @@ use Rattle.i2c_base.specs.declared.reply.Reply.{Reply}
 use Rattle.i2c_base.specs.Transfer.{TransferView}
 use Rattle.bus_spec.specs.Grammar.{walk_for}
 use Rattle.bus_spec.specs.Walk.{Act, Take, Free, Passed, WalkTree, Ends}
-use Rattle.core_laws.proofs.Core.{locks-here, owes-here}
 use Rattle.bus_message.specs.Ports.{root_ports}
 use Rattle.core_laws.specs.Behind.{with_place, passed, begun_with}
-use Rattle.core_laws.specs.Core.{Place, Run, Whole, CoreKept, has_reply}
+use Rattle.core_laws.specs.Core.{Place, CoreKept, has_reply}
 use Rattle.core_laws.specs.Steps.{next_of, behind_of}
-use Rattle.core_laws.proofs.Laws.{stands-here, core-taken, core-freed, core-ended, core-finished, end-owes, going-asks, going-fits, room-one}
+use Rattle.core_laws.proofs.Laws.{core-taken, core-freed, core-ended, core-finished, end-owes, going-asks, going-fits, room-one}
 use Rattle.seg_locks.specs.Locks.{holder_in, with_holder}
-use Rattle.bus_core.specs.Kept.{roots_of, IsSeated, run_of, whole_of, IsKept, ComesAt, HasStepped}
+use Rattle.bus_core.specs.Kept.{roots_of, IsSeated, IsKept, ComesAt, HasStepped}
 use Rattle.bus_core.specs.Places.{walk_left, owed_by, got_by, place_of}
 use Rattle.bus_core.specs.Replies.{RepliesView, reply_decided}
 use Rattle.bus_core.specs.declared.replies.Decided.{Decided}
@@ -29,7 +28,7 @@ use Rattle.bus_core.specs.Seats.{WentOn, MayEnd, HasFreed, HasEnded}
 use Rattle.bus_core.specs.declared.parts.CoreParts.{CoreParts}
 use Rattle.bus_core.specs.declared.seat.Seat.{Seat}
 use Rattle.bus_core.proofs.Reseating.{seated_on}
-use Rattle.bus_core.proofs.Kept.{fair, place-here, seated-here, asks-here, wired-here, kept-whole, stepped-one}
+use Rattle.bus_core.proofs.Kept.{standing, fair, seated-here, asks-here, wired-here, kept-whole, stepped-one}
 use Rattle.bus_laws.proofs.past.StandsFacts.{over_ends}
 
 -- who stands at a place is one
@@ -79,23 +78,7 @@ module _ {C S : Type 0} (c : CallerGhosts C S) (b : BoardView) (r : Reply) (s t 
 
 module _ {P C S : Type 0} (g : PortGhosts P) (c : CallerGhosts C S) (x : CoreParts P C) (kept : IsKept g c x) (place : ℕ) (s : Seat C)
     (here : slice_get x.seats.items place ≡ Some s) where
-  abbrev run : Run
-  run = run_of g c x
-
-  abbrev whole : Whole
-  whole = whole_of g c x kept.held kept.owes
-
-  abbrev p : Place
-  p = place_of c x.board s
-
-  at : slice_get whole.places place ≡ Some p
-  at = place-here g c x kept place s here
-
-  abbrev ls : List LockId
-  ls = (locks-here run whole kept.kept place p at).0
-
-  abbrev n : ℕ
-  n = (owes-here run whole kept.kept place p at).0
+  open standing g c x kept place s here use {run, whole, p, at, ls, n}
 
   pub comes-here : (act : Act) → ComesAt x place act → next_of x.locks (walk_left x.board s) ≡ Some act
   comes-here act comes = (let is : comes.seat ≡ s = same_seat x.seats.items place comes.seat s comes.here here in
@@ -120,7 +103,7 @@ module _ {P C S : Type 0} (g : PortGhosts P) (c : CallerGhosts C S) (x : CorePar
         room = new.journal.room;
       })
       core = core-taken run (fair g c x kept) whole kept.kept place p ls n
-          (stands-here run whole kept.kept place p at) new.journal.room l first free (sym room)
+          (standing g c x kept place s here).stands new.journal.room l first free (sym room)
 
       pub take-kept : IsKept g c new
       take-kept =
@@ -193,7 +176,7 @@ module _ {P C S : Type 0} (g : PortGhosts P) (c : CallerGhosts C S) (x : CorePar
           by-whole (ap (λ (y : Seat C). y.number) went.same) (ap (λ (y : Seat C). c.script y.caller) went.same) (passed whole p)
           (went-place c x.board s t _ cut_at.No went.same went.walk) _ _
           (core-freed run (fair g c x kept) whole kept.kept place p ls n
-          (stands-here run whole kept.kept place p at) new.journal.room l first goes (sym room))
+          (standing g c x kept place s here).stands new.journal.room l first goes (sym room))
 
       freed-ended : is_over (behind_of x.locks (walk_left x.board s) Passed) ≡ true → IsKept g c new × HasStepped g c place x new
       freed-ended ends =
@@ -215,14 +198,14 @@ module _ {P C S : Type 0} (g : PortGhosts P) (c : CallerGhosts C S) (x : CorePar
               (ended-place c x.board owed.0 s t its (p.taken ++ p.owed) (ap (λ (rs : List Reply). c.taken s.caller ++ rs) owed.1) y
               (walk_for x.board y) (its.loaded.some y is).0 (its.loaded.some y is).1) _ _
               (core-ended run (fair g c x kept) whole kept.kept place p ls n
-              (stands-here run whole kept.kept place p at) new.journal.room l first ends owed.0 owed.1 (sym room) y (sym asks ∙ is))
+              (standing g c x kept place s here).stands new.journal.room l first ends owed.0 owed.1 (sym room) y (sym asks ∙ is))
           by None is asks owed its =
               by-whole its.number its.handed.script (begun_with p (p.taken ++ p.owed) p.transfer Ends)
               (ended-place c x.board owed.0 s t its (p.taken ++ p.owed)
               (ap (λ (rs : List Reply). c.taken s.caller ++ rs) owed.1) p.transfer Ends (its.stays is)
               (over_ends (walk_left x.board t) (its.loaded.none is))) _ _
               (core-finished run (fair g c x kept) whole kept.kept place p ls n
-              (stands-here run whole kept.kept place p at) new.journal.room l first ends owed.0 owed.1 (sym room) (sym asks ∙ is))
+              (standing g c x kept place s here).stands new.journal.room l first ends owed.0 owed.1 (sym room) (sym asks ∙ is))
 
       pub free-kept : IsKept g c new × HasStepped g c place x new
       free-kept = by (is_over (behind_of x.locks (walk_left x.board s) Passed)) refl

@@ -248,6 +248,7 @@ module _ {P C S : Type 0} (p : PortGhosts P) (c : CallerGhosts C S) (x : CorePar
             let of = of-seat i s at in
             of.fresh.seated (λ t asks. may.wired i of.of (c.taken of.of.1) t of.here asks);
       };
+      looked = λ i s at. (of-seat i s at).fresh.looked x.locks;
       placed = record {
         all = seated.all;
         there = λ n place at.

@@ -17,39 +17,22 @@ use Rattle.bus_spec.specs.Stepwise.{IsStepwise}
 use Rattle.bus_spec.specs.Walk.{Settle, Then, Ends}
 use Rattle.bus_message.specs.Ports.{root_ports}
 use Rattle.core_laws.specs.Behind.{with_place, begun_with}
-use Rattle.core_laws.specs.Core.{Place, Run, Whole, CoreKept, IsLone}
+use Rattle.core_laws.specs.Core.{Place, Whole, CoreKept, IsLone}
 use Rattle.core_laws.specs.Steps.{next_of}
-use Rattle.core_laws.proofs.Core.{locks-here, owes-here}
-use Rattle.core_laws.proofs.Laws.{stands-here, core-lone, core-lone-finished, settle-lone, settle-errs, going-asks, lone-due, turn-lone, room-one}
-use Rattle.bus_core.specs.Kept.{roots_of, run_of, whole_of, IsKept, HasStepped}
+use Rattle.core_laws.proofs.Laws.{core-lone, core-lone-finished, settle-lone, settle-errs, going-asks, lone-due, turn-lone, room-one}
+use Rattle.bus_core.specs.Kept.{roots_of, IsKept, HasStepped}
 use Rattle.bus_core.specs.Places.{walk_left, place_of}
 use Rattle.bus_core.specs.Seats.{MayRefuse, IsRefusedIn}
 use Rattle.bus_core.specs.declared.parts.CoreParts.{CoreParts}
 use Rattle.bus_core.specs.declared.seat.Seat.{Seat}
-use Rattle.bus_core.proofs.Kept.{fair, place-here, seated-here, asks-here, wired-here, new-scripts, kept-whole}
+use Rattle.bus_core.proofs.Kept.{standing, fair, seated-here, asks-here, wired-here, new-scripts, kept-whole}
 use Rattle.bus_core.proofs.Locks.{ended-place}
 use Rattle.bus_laws.proofs.past.StandsFacts.{over_ends}
 
 module _ {P C S : Type 0} (g : PortGhosts P) (c : CallerGhosts C S) (x : CoreParts P C) (kept : IsKept g c x) (place : ℕ) (s : Seat C)
     (here : slice_get x.seats.items place ≡ Some s)
     (errno : Errno) (first : next_of x.locks (walk_left x.board s) ≡ Some (Settle (Some errno))) where
-  abbrev run : Run
-  run = run_of g c x
-
-  abbrev whole : Whole
-  whole = whole_of g c x kept.held kept.owes
-
-  abbrev p : Place
-  p = place_of c x.board s
-
-  at : slice_get whole.places place ≡ Some p
-  at = place-here g c x kept place s here
-
-  abbrev ls : List LockId
-  ls = (locks-here run whole kept.kept place p at).0
-
-  abbrev n : ℕ
-  n = (owes-here run whole kept.kept place p at).0
+  open standing g c x kept place s here use {run, whole, p, at, ls, n}
 
   lone : IsLone x.board (walk_left x.board s) × (p.owed ≡ [])
   lone = settle-lone run whole kept.kept place p at (Some errno) first
@@ -132,12 +115,12 @@ module _ {P C S : Type 0} (g : PortGhosts P) (c : CallerGhosts C S) (x : CorePar
             by-whole (begun_with p replies y (walk_for x.board y))
             (ended-place c x.board (answer.Err errno) s t refused.ended replies refl y (walk_for x.board y)
             (refused.ended.loaded.some y is).0 (refused.ended.loaded.some y is).1) [] (n - 1)
-            (core-lone run (fair g c x kept) whole kept.kept place p ls n (stands-here run whole kept.kept place p at) new.journal.room
+            (core-lone run (fair g c x kept) whole kept.kept place p ls n (standing g c x kept place s here).stands new.journal.room
             (Some errno) first (sym refused.room) (answer.Err errno) refl y (sym asks ∙ is))
         by None is =
             by-whole (begun_with p replies p.transfer Ends)
             (ended-place c x.board (answer.Err errno) s t refused.ended replies refl p.transfer Ends (refused.ended.stays is)
             (over_ends (walk_left x.board t) (refused.ended.loaded.none is))) [] (n - 1)
             (core-lone-finished run (fair g c x kept) whole kept.kept place p ls n
-            (stands-here run whole kept.kept place p at) new.journal.room (Some errno) first (sym refused.room) (answer.Err errno) refl
+            (standing g c x kept place s here).stands new.journal.room (Some errno) first (sym refused.room) (answer.Err errno) refl
             (sym asks ∙ is))

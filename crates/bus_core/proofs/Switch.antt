@@ -10,7 +10,6 @@ use Rattle.i2c_base.specs.declared.caller.Caller.{Ghosts as CallerGhosts}
 use Rattle.i2c_base.specs.declared.entry.Entry.{Entry}
 use Rattle.i2c_base.specs.declared.entry.Entry.TheVariants as entry
 use Rattle.i2c_base.specs.declared.errno.Errno.{Errno}
-use Rattle.i2c_base.specs.declared.ids.LockId.{LockId}
 use Rattle.i2c_base.specs.declared.reply.Cut.TheVariants as cut_at
 use Rattle.i2c_base.specs.declared.reply.Reply.{Reply}
 use Rattle.i2c_base.specs.declared.reply.Reply.TheVariants as answer
@@ -38,23 +37,24 @@ use Rattle.mux_plan.specs.Marks.{MayMark}
 use Rattle.mux_plan.specs.Plans.{SeenView, slots_of}
 use Rattle.seg_locks.specs.Locks.{LocksView}
 use Rattle.core_laws.specs.Behind.{line_entry, switched}
-use Rattle.core_laws.specs.Core.{Place, Run, Whole, IsShifted, has_reply}
+use Rattle.core_laws.specs.Core.{Place, IsShifted, has_reply}
 use Rattle.core_laws.specs.Seats.{IsLeft, IsDecided}
 use Rattle.core_laws.specs.Spots.{seen_of, turned_to}
 use Rattle.bus_message.specs.Ports.{RootPort}
 use Rattle.core_laws.specs.Wants.{WantsIn}
 use Rattle.core_laws.specs.Steps.{next_of, behind_of, AreMarked}
-use Rattle.core_laws.proofs.Core.{lone_act, locks-here, owes-here, not_over}
-use Rattle.core_laws.proofs.Laws.{kept-after, length-applied_kept, stands-here, lined-leaves, core-lined, core-line-settled, room-line, room-one, log-line, line-wants, shift-wants, shift-root, held-wants, next-same}
-use Rattle.bus_core.specs.Kept.{roots_of, IsSeated, run_of, whole_of, IsKept, HasStepped}
+use Rattle.core_laws.proofs.Core.{lone_act, locks-here, not_over}
+use Rattle.core_laws.proofs.Laws.{kept-after, length-applied_kept, lined-leaves, core-lined, core-line-settled, room-line, room-one, log-line, line-wants, shift-wants, shift-root, held-wants, next-same}
+use Rattle.bus_core.specs.Kept.{roots_of, IsSeated, IsKept, HasStepped}
 use Rattle.bus_core.specs.Marks.{AreHeld, words_after}
 use Rattle.bus_core.specs.Places.{walk_left, place_of}
 use Rattle.bus_core.specs.Seats.{WentOn, MaySettle, IsSettledIn, updates_of, cut_of_line}
 use Rattle.bus_core.specs.declared.parts.CoreParts.{CoreParts}
 use Rattle.bus_core.specs.declared.seat.Seat.{Seat}
-use Rattle.bus_core.proofs.Kept.{fair, place-here, seated-here, kept-whole, stepped-one}
+use Rattle.bus_core.proofs.Kept.{standing, fair, seated-here, kept-whole, stepped-one}
 use Rattle.bus_core.proofs.Converse.{port, length-applied, holds_mux, updates-held, switched-on, marks-on}
-use Rattle.bus_core.proofs.Heard.{went-on-place, went-on-seated, settle-first, settled-place, settled-seated}
+use Rattle.bus_core.proofs.Heard.{went-on-place, settle-first, settled-place}
+use Rattle.bus_core.proofs.Reseating.{seated_on, seated_settled}
 use Rattle.bus_core.proofs.Stepped.{roots-stay, stepped-two}
 use Rattle.i2c_base.specs.Need.{bytes_given}
 
@@ -80,23 +80,7 @@ no-bytes verdict err t got is = ap (λ (o : Option Errno). length (bytes_given (
 module _ {P C S : Type 0} (g : PortGhosts P) (c : CallerGhosts C S) (x : CoreParts P C) (kept : IsKept g c x) (place : ℕ) (s : Seat C)
     (here : slice_get x.seats.items place ≡ Some s)
     (job : Job) (first : next_of x.locks (walk_left x.board s) ≡ Some (Shift job)) where
-  abbrev run : Run
-  run = run_of g c x
-
-  abbrev whole : Whole
-  whole = whole_of g c x kept.held kept.owes
-
-  abbrev p : Place
-  p = place_of c x.board s
-
-  at : slice_get whole.places place ≡ Some p
-  at = place-here g c x kept place s here
-
-  abbrev ls : List LockId
-  ls = (locks-here run whole kept.kept place p at).0
-
-  abbrev n : ℕ
-  n = (owes-here run whole kept.kept place p at).0
+  open standing g c x kept place s here use {run, whole, p, at, ls, n}
 
   its : IsSeated c x.board (roots_of x.ports.items) s
   its = seated-here g c x kept place s here
@@ -180,7 +164,7 @@ module _ {P C S : Type 0} (g : PortGhosts P) (c : CallerGhosts C S) (x : CorePar
       place-is = went-on-place c x.board x.locks (roots_of x.ports.items) (Lined failed) (cut_of_line failed) s t went
 
       seated : IsSeated c x.board (roots_of x.ports.items) t
-      seated = went-on-seated c x.board x.locks (roots_of x.ports.items) (Lined failed) (cut_of_line failed) s t went its goes on-bus
+      seated = seated_on c x.board x.locks (roots_of x.ports.items) s t its (Lined failed) (cut_of_line failed) went
 
       quiet : IsLeft run.board p.transfer (has_reply p.owed) p.sent behind → (verdict : Option Errno)
           → next_of locks2 (walk_left x.board t) ≡ Some (Settle verdict) → ⊥
@@ -259,7 +243,7 @@ module _ {P C S : Type 0} (g : PortGhosts P) (c : CallerGhosts C S) (x : CorePar
               by : IsLeft run.board p.transfer (has_reply p.owed) p.sent behind → IsKept g c new × HasStepped g c place x new
               by left =
                   let core = core-lined run (fair g c x kept) whole kept.kept place p ls n
-                  (stands-here run whole kept.kept place p at) j.room job s.port old now failed words is-shifted left (sym room) in
+                  (standing g c x kept place s here).stands j.room job s.port old now failed words is-shifted left (sym room) in
                   let number : t.number ≡ s.number = ap (λ (y : Seat C). y.number) went.same in
                   let script : c.script t.caller ≡ c.script s.caller = ap (λ (y : Seat C). c.script y.caller) went.same in
                   let all = ap (λ (y : JournalView). y.entries) journal ∙ entries in (
@@ -296,7 +280,7 @@ module _ {P C S : Type 0} (g : PortGhosts P) (c : CallerGhosts C S) (x : CorePar
                   let bytes : new.journal.room_bytes ≡ x.journal.room_bytes = (let a = made.room_bytes in
                   omega (arith, a, zeros, room_bytes)) in
                   let core = core-line-settled run (fair g c x kept) whole kept.kept place p ls n
-                  (stands-here run whole kept.kept place p at) new.journal.room job s.port old now failed words is-shifted err decides
+                  (standing g c x kept place s here).stands new.journal.room job s.port old now failed words is-shifted err decides
                   unsettled rooms in
                   let number : u.number ≡ s.number = ap (λ (y : Seat C). y.number) made.settled.same
                   ∙ ap (λ (y : Seat C). y.number) went.same in
@@ -307,9 +291,7 @@ module _ {P C S : Type 0} (g : PortGhosts P) (c : CallerGhosts C S) (x : CorePar
                   ∙ ap (λ (ys : List Entry). ys ++ entry.Settle t.number (answer.Err err) t.cut ∷ []) entries
                   ∙ append_assoc x.journal.entries (line ∷ []) (entry.Settle t.number (answer.Err err) t.cut ∷ [])
                   ∙ ap (λ (y : Seat C). x.journal.entries ++ line ∷ entry.Settle y.number (answer.Err err) y.cut ∷ []) went.same in
-                  let seated2 = settled-seated c x.board locks2 (roots_of x.ports.items) verdict t u made.settled seated
-                  (not_over (slots_of words) (walk_left x.board t) (Settle verdict) made.next)
-                  (subst (λ (y : Seat C). y.transfer.bus < buses x.board) (sym went.same) on-bus) in
+                  let seated2 = seated_settled c x.board locks2 (roots_of x.ports.items) t u seated verdict made.settled in
                   let place2 = settled-place c x.board locks2 (roots_of x.ports.items) verdict t u made.settled
                   (answer.Err err) reply first2
                   ∙ ap (λ (q : Place). record q { tree = rest_of q.tree Passed; owed = answer.Err err ∷ []; got = []; cut = cut_at.No })

@@ -17,6 +17,7 @@ use Rattle.bus_message.specs.Ports.{root_port}
 use Rattle.core_laws.proofs.Laws.{finished-asks, free-ready, next-same}
 use Rattle.core_laws.specs.Steps.{next_of}
 use Rattle.bus_core.specs.Answers.{HasAdded, WaitsFor, HasUsedUp, IsLeast}
+use Rattle.bus_core.specs.Looks.{AreLooked}
 use Rattle.bus_core.specs.Kept.{asks_in, roots_of, run_of, whole_of, IsKept, IsCore, ArePlaced, HasStepped, HasCome}
 use Rattle.bus_core.specs.Opens.{IsOpenedWith, opening_of}
 use Rattle.bus_core.specs.Places.{walk_left, place_of, script_of, scripts_of}
@@ -98,9 +99,10 @@ came-by g c x new core caller place at answer.Finished stepped blocked finished 
     (sym (finished refl)) (come-refl g c x)
 
 pub core-after : {P C S : Type 0} (g : PortGhosts P) (c : CallerGhosts C S) (x new : CoreParts P C) → IsCore g c x → IsKept g c new
-    → HasCome g c x new → IsCore g c new
-core-after g c x new core kept come = record {
+    → AreLooked new.board new.locks new.seats.items → HasCome g c x new → IsCore g c new
+core-after g c x new core kept looked come = record {
   kept = kept;
+  looked = looked;
   placed = subst (λ (y : _). ArePlaced y.items (scripts_of c new.seats.items)) (sym come.places)
       (subst (ArePlaced x.places.items) (sym come.scripts) core.placed);
 }

@@ -21,6 +21,7 @@ use Rattle.mux_plan.specs.declared.task.NextMsg.{NextMsg}
 use Rattle.core_laws.specs.Sends.{IsMessageOf}
 use Rattle.core_laws.specs.Steps.{next_of}
 use Rattle.ports.specs.declared.port.Port.{Ghosts as PortGhosts}
+use Rattle.bus_core.specs.Looks.{AreLooked}
 use Rattle.bus_core.specs.Opening.{IsSetUp}
 use Rattle.bus_core.specs.Places.{walk_left, places_of, scripts_of, asks_of, left_of}
 use Rattle.bus_core.specs.declared.parts.CoreParts.{CoreParts}
@@ -71,6 +72,11 @@ pub record IsKept {P C S : Type 0} (p : PortGhosts P) (c : CallerGhosts C S) (x 
   pub kept : CoreKept (run_of p c x) (whole_of p c x held owes)
   pub seated : (i : ℕ) (s : Seat C) → slice_get x.seats.items i ≡ Some s → IsSeated c x.board (roots_of x.ports.items) s
 
+-- .. with the looks in front of each caller's next step answered
+pub record IsResting {P C S : Type 0} (p : PortGhosts P) (c : CallerGhosts C S) (x : CoreParts P C) : Type 0 where
+  pub kept : IsKept p c x
+  pub looked : AreLooked x.board x.locks x.seats.items
+
 -- this comes next of the caller at a place
 pub record ComesAt {P C : Type 0} (x : CoreParts P C) (place : ℕ) (act : Act) : Type 0 where
   pub seat : Seat C
@@ -113,7 +119,7 @@ pub record HasStepped {P C S : Type 0} (p : PortGhosts P) (c : CallerGhosts C S)
 
 -- .. and all is kept behind it
 pub record HasMadeStep {P C S : Type 0} (p : PortGhosts P) (c : CallerGhosts C S) (place : ℕ) (old new : CoreParts P C) : Type 0 where
-  pub kept : IsKept p c new
+  pub rests : IsResting p c new
   pub stepped : HasStepped p c place old new
 
 -- the place of each caller among the seats, by its number; none for a number that no caller has
@@ -125,6 +131,7 @@ pub record ArePlaced {S : Type 0} (places : List (Option ℕ)) (scripts : List (
 -- the core between two steps
 pub record IsCore {P C S : Type 0} (p : PortGhosts P) (c : CallerGhosts C S) (x : CoreParts P C) : Type 0 where
   pub kept : IsKept p c x
+  pub looked : AreLooked x.board x.locks x.seats.items
   pub placed : ArePlaced x.places.items (scripts_of c x.seats.items)
 
 -- one core came from another: what was opened is as before, and the journal has as many entries more as it has less room

@@ -3,6 +3,7 @@ pub mod Replies
 pub mod Marks
 pub mod Places
 pub mod Opening
+pub mod Looks
 pub mod Kept
 pub mod Seats
 pub mod Steps

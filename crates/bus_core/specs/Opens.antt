@@ -10,6 +10,8 @@ use Rattle.ports.specs.declared.port.Port.{Ghosts as PortGhosts}
 use Rattle.i2c_spec.specs.Fair.{IsFairCaller}
 use Rattle.i2c_spec.specs.World.{opening_world}
 use Rattle.core_laws.specs.Table.{AreDistinct}
+use Rattle.seg_locks.specs.Locks.{LocksView}
+use Rattle.bus_core.specs.Looks.{IsLookedAt}
 use Rattle.bus_core.specs.Kept.{IsSeated, roots_of}
 use Rattle.bus_core.specs.Opening.{Opening, HasRoot}
 use Rattle.bus_core.specs.Places.{scripts_of}
@@ -59,6 +61,7 @@ pub record IsFreshSeat {C S : Type 0} (c : CallerGhosts C S) (b : BoardView) (ro
   pub script : c.script s.caller ≡ c.script caller
   pub taken : c.taken s.caller ≡ c.taken caller
   pub loaded : IsLoaded c b s
+  pub looked : (v : LocksView) → IsLookedAt b v s
   pub cut : s.cut ≡ cut_at.No
   pub seated : ((t : TransferView) → c.asked (c.script caller) (c.taken caller) ≡ Some t → t.bus < buses b
       → HasRoot roots (root_of b t.bus)) → IsSeated c b roots s

@@ -1,5 +1,5 @@
 -- What the steps of a core leave of a seat.
-use Rattle.std.specs.Prelude.{◌≡◌, ℕ, ◌+◌, ◌<◌, ◌≤◌, Bool, true, false, List, [], ◌∷◌, ◌++◌, length, set, take, sum_by, Option, Some, None, slice_get, if◌then◌else◌}
+use Rattle.std.specs.Prelude.{◌≡◌, ℕ, ◌+◌, ◌<◌, ◌≤◌, Bool, true, false, List, [], ◌∷◌, ◌++◌, length, set, take, sum_by, Option, Some, None, IfSome, slice_get, if◌then◌else◌}
 use Rattle.i2c_base.specs.Limits.{MOST_BYTES}
 use Rattle.i2c_base.specs.declared.caller.Caller.{Ghosts as CallerGhosts}
 use Rattle.i2c_base.specs.declared.entry.End.{End}
@@ -23,7 +23,9 @@ use Rattle.bus_spec.specs.Stepwise.{reply_by}
 use Rattle.bus_spec.specs.Walk.{ActOutcome, Passed, Settle, Then, Ends}
 use Rattle.bus_spec.specs.Walk as walk
 use Rattle.mux_plan.specs.declared.task.NextMsg.{NextMsg}
-use Rattle.mux_plan.specs.Plans.{is_call_through}
+use Rattle.mux_plan.specs.Looks.{IsFresh}
+use Rattle.mux_plan.specs.Plans.{is_call_through, action_of}
+use Rattle.mux_plan.specs.declared.task.Action.{Action}
 use Rattle.core_laws.specs.Spots.{seen_of}
 use Rattle.bus_message.specs.Ports.{RootPort}
 use Rattle.core_laws.specs.Steps.{next_of, behind_of}
@@ -32,6 +34,7 @@ use Rattle.mux_plan.specs.Marks.{updates_after}
 use Rattle.mux_plan.specs.Plans.{slots_of}
 use Rattle.seg_locks.specs.Locks.{LocksView}
 use Rattle.bus_core.specs.Kept.{IsSeated}
+use Rattle.bus_core.specs.Looks.{IsLookedAt}
 use Rattle.bus_core.specs.Opening.{HasRoot}
 use Rattle.bus_core.specs.Places.{walk_left, owed_by, got_by}
 use Rattle.bus_message.specs.Sends.{MaySend, NextSent}
@@ -45,9 +48,47 @@ pub record WentOn {C : Type 0} (b : BoardView) (v : LocksView) (out : ActOutcome
   pub walk : walk_left b t ≡ behind_of v (walk_left b s) out
   pub route : t.walk.route ≡ s.walk.route
 
+-- nothing was sent, read or decided yet
+pub record IsUnused {C : Type 0} (s : Seat C) : Type 0 where
+  pub msgs : s.transfer.msgs ≡ []
+  pub sent : s.sent ≡ 0
+  pub written : s.written ≡ 0
+  pub got : s.replies.got ≡ []
+  pub decided : s.decided ≡ None
+  pub cut : s.cut ≡ cut_at.No
+
+-- its next action, and the settle that comes next, if one does, by whatever lock words answer its looks
+abbrev pub TellsAction : {C : Type 0} → Action → Seat C → Type 0
+TellsAction a s = (b : BoardView) (v : LocksView) → IsLookedAt b v s → a ≡ action_of (next_of v (walk_left b s))
+
+pub record TellsSettle {C : Type 0} (o : Option (Option Errno)) (s : Seat C) : Type 0 where
+  pub some : (b : BoardView) (v : LocksView) → IsLookedAt b v s → IfSome o (λ verdict. next_of v (walk_left b s) ≡ Some (Settle verdict))
+  pub none : (b : BoardView) (v : LocksView) (verdict : Option Errno) → IsLookedAt b v s → o ≡ None
+      → next_of v (walk_left b s) ≡ Some (Settle verdict) → ⊥
+
 -- the marks that such a step changes
 abbrev pub updates_of : {C : Type 0} → BoardView → LocksView → ActOutcome → Seat C → List MuxUpdate
 updates_of b v out s = updates_after (next_of v (walk_left b s)) (first_note (seen (slots_of (seen_of v)) (walk_left b s))) out
+
+-- it went on behind a step with this outcome, which changes these marks; the looks in front of its next one are open
+pub record HasAdvanced {C : Type 0} (out : ActOutcome) (ds : List MuxUpdate) (s t : Seat C) : Type 0 where
+  pub same : t ≡ record s { walk = t.walk }
+  pub route : t.walk.route ≡ s.walk.route
+  pub fresh : IsFresh t.walk
+  pub walk : (b : BoardView) (v : LocksView) → IsLookedAt b v s → walk_left b t ≡ behind_of v (walk_left b s) out
+  pub updates : (b : BoardView) (v : LocksView) → IsLookedAt b v s → ds ≡ updates_of b v out s
+
+-- .. and these are answered
+pub record HasLooked {C : Type 0} (b : BoardView) (v : LocksView) (s t : Seat C) : Type 0 where
+  pub looked : IsLookedAt b v t
+  pub same : t ≡ record s { walk = t.walk }
+  pub route : t.walk.route ≡ s.walk.route
+  pub walk : (x : BoardView) → walk_left x t ≡ walk_left x s
+
+-- both, behind a lock or a settle
+pub record HasPassed {C : Type 0} (b : BoardView) (v : LocksView) (s t : Seat C) : Type 0 where
+  pub went : WentOn b v Passed cut_at.No s t
+  pub looked : IsLookedAt b v t
 
 -- a reply was handed to its caller, which has room for it
 pub record IsHanded {C S : Type 0} (c : CallerGhosts C S) (r : Reply) (s t : Seat C) : Type 0 where
@@ -120,6 +161,22 @@ pub record HasHeard {C : Type 0} (b : BoardView) (v : LocksView) (next : NextMsg
   pub wrote : t.written ≡ sum_by written_of (take t.sent t.transfer.msgs)
   pub route : t.walk.route ≡ s.walk.route
 
+-- the cut that a line step tells
+abbrev pub cut_of_line : Bool → Cut
+cut_of_line failed = if failed then cut_at.Way else cut_at.No
+
+-- .. by whatever lock words answer its looks, and these marks it changes; and so behind a line step
+pub record HearsOut {C : Type 0} (next : NextMsg) (reading : Bool) (bytes : List ℕ) (e : End) (ds : List MuxUpdate)
+    (s t : Seat C) : Type 0 where
+  pub heard : (b : BoardView) (v : LocksView) → IsLookedAt b v s → HasHeard b v next reading bytes e s t
+  pub updates : (b : BoardView) (v : LocksView) → IsLookedAt b v s → ds ≡ updates_of b v (walk.Sent e bytes) s
+  pub fresh : IsFresh t.walk
+
+pub record LinesOut {C : Type 0} (failed : Bool) (ds : List MuxUpdate) (s t : Seat C) : Type 0 where
+  pub went : (b : BoardView) (v : LocksView) → IsLookedAt b v s → WentOn b v (walk.Lined failed) (cut_of_line failed) s t
+  pub updates : (b : BoardView) (v : LocksView) → IsLookedAt b v s → ds ≡ updates_of b v (walk.Lined failed) s
+  pub fresh : IsFresh t.walk
+
 -- its reply was settled, and it went on behind the settle
 pub record HasSettled {C : Type 0} (b : BoardView) (v : LocksView) (verdict : Option Errno) (s t : Seat C) : Type 0 where
   pub same : t ≡ record s { walk = t.walk; replies = t.replies; decided = t.decided; cut = cut_at.No }
@@ -161,10 +218,6 @@ pub record IsRefusedIn {C S : Type 0} (c : CallerGhosts C S) (b : BoardView) (ro
   pub entries : new.entries ≡ old.entries ++ entry.Settle s.number (reply.Err errno) s.cut ∷ []
   pub room : new.room + 1 ≡ old.room
   pub room_bytes : new.room_bytes ≡ old.room_bytes
-
--- the cut that a line step tells
-abbrev pub cut_of_line : Bool → Cut
-cut_of_line failed = if failed then cut_at.Way else cut_at.No
 
 -- the message that comes next may be sent over the port of its root: one of the caller's own is left
 pub record MaySpeak {C : Type 0} (b : BoardView) (tells : Bool) (next : NextMsg) (sockets : List RootPort) (s : Seat C) : Type 0 where

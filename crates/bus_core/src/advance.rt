@@ -1,11 +1,13 @@
 //! How a seat goes on behind each kind of step.
 ghost use Rattle.std.specs.Prelude.{◌≡◌, true, false, Option, Some};
 ghost use Rattle.i2c_base.specs.declared.errno.Errno.{Errno};
-ghost use Rattle.bus_spec.specs.Walk.{Settle, Lined, Sent};
+ghost use Rattle.bus_spec.specs.Walk.{Settle};
 ghost use Rattle.core_laws.specs.Steps.{next_of};
 ghost use Rattle.bus_core.specs.Kept.{roots_of};
+ghost use Rattle.bus_core.specs.Looks.{IsLookedAt};
+ghost use Rattle.mux_plan.specs.Rooms.{IsStep};
 ghost use Rattle.bus_core.specs.Places.{walk_left};
-ghost use Rattle.bus_core.specs.Seats.{HasFreed, HasHeard, IsCounted, IsRefusedIn, IsSettledIn, MayEnd, MayHear, MayRefuse, MaySettle, WentOn, cut_of_line, updates_of};
+ghost use Rattle.bus_core.specs.Seats.{HasFreed, HearsOut, IsRefusedIn, IsSettledIn, LinesOut, MayEnd, MayHear, MayRefuse, MaySettle};
 
 use crate::seat::Seat;
 use bus_journal::Journal;
@@ -25,50 +27,44 @@ impl<C: Caller> Seat<C> {
         ports: &[(SegId, P)],
         updates: &mut MuxUpdates,
     )
-        requires { MayEnd C.Caller board.old (roots_of ports.now) self.old }
+        requires may { MayEnd C.Caller board.old (roots_of ports.now) self.old }
+        requires looked { IsLookedAt board.old locks.now self.old }
         ensures freed { HasFreed C.Caller board.old locks.now (roots_of ports.now) self.old self.new }
+        ensures looked { IsLookedAt board.old locks.now self.new }
         ensures board { board.new ≡ board.old }
     {
         self.lock_done(board, locks, updates);
         self.end(board, ports);
     }
 
-    /// .. behind a message, of which this came; tells what it changes of the lock words.
+    /// .. behind a message, of which this came; tells what it changes of the lock words. The looks in front of its next
+    /// action are still to be answered.
     pub fn message_done(
         &mut self,
-        board: &CachedBoard<'_>,
-        locks: &Locks,
         next: &NextMsg,
         msg: &MsgResult,
         bytes: &[u8],
         updates: &mut MuxUpdates,
     )
-        requires { MayHear next.now msg.now.reading bytes.now msg.now.end self.old }
-        ensures heard { HasHeard board.now locks.now next.now msg.now.reading bytes.now msg.now.end self.old self.new }
-        ensures updates { updates.new.items ≡ updates_of board.now locks.now (Sent msg.now.end bytes.now) self.old }
+        requires hears { MayHear next.now msg.now.reading bytes.now msg.now.end self.old }
+        requires step { IsStep self.old.walk.looked }
+        ensures { HearsOut next.now msg.now.reading bytes.now msg.now.end updates.new.items self.old self.new }
     {
         self.record_msg(next, msg, bytes);
         let outcome = Outcome::Sent {
             end: msg.end,
             bytes,
         };
-        self.advance_walk(board, locks, &outcome, updates);
+        self.advance_walk(&outcome, updates);
     }
 
     /// .. behind a line step, which may have failed.
-    pub fn line_done(
-        &mut self,
-        board: &CachedBoard<'_>,
-        locks: &Locks,
-        failed: bool,
-        updates: &mut MuxUpdates,
-    )
-        requires { IsCounted self.old }
-        ensures went { WentOn board.now locks.now (Lined failed) (cut_of_line failed) self.old self.new }
-        ensures updates { updates.new.items ≡ updates_of board.now locks.now (Lined failed) self.old }
+    pub fn line_done(&mut self, failed: bool, updates: &mut MuxUpdates)
+        requires { IsStep self.old.walk.looked }
+        ensures { LinesOut failed updates.new.items self.old self.new }
     {
         self.cut = if failed { Cut::Way } else { Cut::No };
-        self.advance_walk(board, locks, &Outcome::Lined { failed }, updates);
+        self.advance_walk(&Outcome::Lined { failed }, updates);
     }
 
     /// Makes the settle that comes next, with its entry; tells whether one does.
@@ -80,10 +76,12 @@ impl<C: Caller> Seat<C> {
         journal: &mut Journal,
         updates: &mut MuxUpdates,
     ) -> bool
-        requires { MaySettle board.now locks.now journal.old self.old }
+        requires may { MaySettle board.now locks.now journal.old self.old }
+        requires looked { IsLookedAt board.now locks.now self.old }
         ensures settled { result ≡ true → (verdict : Option Errno) × IsSettledIn board.now locks.now verdict journal.old journal.new self.old self.new }
         ensures none { result ≡ false → (verdict : Option Errno) → next_of locks.now (walk_left board.now self.old) ≡ Some (Settle verdict) → ⊥ }
         ensures stays { result ≡ false → (self.new ≡ self.old) × (journal.new ≡ journal.old) }
+        ensures looked { IsLookedAt board.now locks.now self.new }
     {
         let Some(verdict) = self.settles() else {
             return false;
@@ -104,8 +102,10 @@ impl<C: Caller> Seat<C> {
         updates: &mut MuxUpdates,
         errno: Errno,
     )
-        requires { MayRefuse C.Caller board.old (roots_of ports.now) errno journal.old self.old }
+        requires may { MayRefuse C.Caller board.old (roots_of ports.now) errno journal.old self.old }
+        requires looked { IsLookedAt board.old locks.now self.old }
         ensures refused { IsRefusedIn C.Caller board.old (roots_of ports.now) errno journal.old journal.new self.old self.new }
+        ensures looked { IsLookedAt board.old locks.now self.new }
         ensures board { board.new ≡ board.old }
     {
         let decided = self.decide(Some(errno));

@@ -1,6 +1,6 @@
 //! Which caller can make a step.
 ghost use Rattle.std.specs.Prelude.{◌≡◌, ◌<◌, true, false, length, None, IfSome};
-ghost use Rattle.bus_core.specs.Kept.{IsKept, IsCore};
+ghost use Rattle.bus_core.specs.Kept.{IsResting, IsCore};
 ghost use Rattle.bus_core.specs.Ready.{IsHeldUpAt, CanStepAt, IsLeastReady, AllHeldUp};
 
 use crate::parts::CoreParts;
@@ -10,12 +10,12 @@ use ports::Port;
 
 // The caller at a place isn't blocked, and its script isn't used up.
 fn can_step<P: Port, C: Caller>(parts: &CoreParts<'_, P, C>, place: usize) -> bool
-    requires kept { IsKept P.Port C.Caller parts.now }
+    requires rests { IsResting P.Port C.Caller parts.now }
     requires there { place < length parts.now.seats.items }
     ensures can { result ≡ true → CanStepAt parts.now place }
     ensures held_up { result ≡ false → IsHeldUpAt parts.now place }
 {
-    match parts.seats[place].next(&parts.board, &parts.locks) {
+    match parts.seats[place].next() {
         Action::Done => false,
         Action::Take(lock) => parts.locks.holder(lock).is_none(),
         _ => true,

@@ -11,25 +11,26 @@ ghost use Rattle.i2c_base.specs.declared.reply.Reply.{Reply};
 ghost use Rattle.i2c_base.specs.Fitting.{Fits};
 ghost use Rattle.i2c_base.specs.Transfer.{IsTransfer, TransferView, written_of};
 ghost use Rattle.i2c_spec.specs.Grant.{grant_of};
-ghost use Rattle.i2c_spec.specs.Messages.{messages_of};
 ghost use Rattle.i2c_spec.specs.Tree.{buses, root_of};
-ghost use Rattle.bus_spec.specs.Grammar.{is_over, seen, walk_for};
+ghost use Rattle.bus_spec.specs.Grammar.{is_over, walk_for};
 ghost use Rattle.bus_spec.specs.Readings.{message_cut};
 ghost use Rattle.bus_spec.specs.Stepwise.{reply_by};
 ghost use Rattle.i2c_base.specs.declared.errno.Errno.{Errno};
-ghost use Rattle.bus_spec.specs.Walk.{Ends, Passed, Settle};
+ghost use Rattle.bus_spec.specs.Walk.{Ends};
 ghost use Rattle.seg_locks.specs.Locks.{LocksView};
 ghost use Rattle.bus_message.specs.Cursors.{HasNext};
 ghost use Rattle.bus_message.specs.Sends.{call_message};
 ghost use Rattle.mux_plan.specs.Plans.{is_call_through};
-ghost use Rattle.core_laws.specs.Steps.{next_of, behind_of};
+ghost use Rattle.mux_plan.specs.Looks.{IsFresh};
+ghost use Rattle.mux_plan.specs.Rooms.{IsStep};
 ghost use Rattle.mux_plan.specs.declared.task.Action.TheVariants as action;
-ghost use Rattle.mux_plan.specs.Plans.{action_of, outcome_of};
+ghost use Rattle.mux_plan.specs.Plans.{outcome_of};
 ghost use Rattle.bus_core.specs.Kept.{IsSeated, roots_of};
+ghost use Rattle.bus_core.specs.Looks.{IsLookedAt};
 ghost use Rattle.bus_core.specs.Opening.{HasRoot};
 ghost use Rattle.bus_core.specs.Places.{HasSpare, asked_next, owed_by, walk_left};
 ghost use Rattle.bus_core.specs.Replies.{reply_decided};
-ghost use Rattle.bus_core.specs.Seats.{HasEnded, MayEnd, MayHear, updates_of, got_heard};
+ghost use Rattle.bus_core.specs.Seats.{HasAdvanced, HasEnded, HasLooked, HasPassed, IsCounted, IsUnused, MayEnd, MayHear, TellsAction, TellsSettle, got_heard};
 
 use crate::marks::seen as words_of;
 use crate::replies::{Decided, Replies};
@@ -96,8 +97,9 @@ impl<C: Caller> Seat<C> {
         ensures number { result.number ≡ number }
         ensures caller { result.caller ≡ caller }
         ensures over { (b : BoardView) → walk_left b result ≡ Ends }
-        ensures counted { length (messages_of result.transfer) ≡ result.walk.route.count }
-        ensures fresh { (result.transfer.msgs ≡ []) × (result.sent ≡ 0) × (result.written ≡ 0) × (result.replies.got ≡ []) × (result.decided ≡ None) × (result.cut ≡ cut_at.No) }
+        ensures looked { (b : BoardView) (v : LocksView) → IsLookedAt b v result }
+        ensures counted { IsCounted result }
+        ensures unused { IsUnused result }
     {
         Seat {
             number,
@@ -113,49 +115,51 @@ impl<C: Caller> Seat<C> {
         }
     }
 
-    /// The next action of its walk, where the lock words answer its looks: Done exactly where the walk is over.
-    pub fn next(&self, board: &CachedBoard<'_>, locks: &Locks) -> Action
-        requires { length (messages_of self.now.transfer) ≡ self.now.walk.route.count }
-        ensures first { result ≡ action_of (next_of locks.now (walk_left board.now self.now)) }
-        ensures over { result ≡ action.Done → is_over (walk_left board.now self.now) ≡ true }
+    /// The next action of its walk: Done exactly where the walk is over.
+    #[inline(always)]
+    pub fn next(&self) -> Action
+        requires counted { IsCounted self.now }
+        requires step { IsStep self.now.walk.looked }
+        ensures first { TellsAction result self.now }
+        ensures over { result ≡ action.Done → (b : BoardView) → is_over (walk_left b self.now) ≡ true }
     {
-        self.walk.next(board.board(), &words_of(locks))
+        self.walk.next()
     }
 
-    /// The settle that comes next of its walk, if one does, whatever the lock words are: why its reply is an error, or none.
+    /// The settle that comes next of its walk, if one does: why its reply is an error, or none.
     pub fn settles(&self) -> Option<Option<Errno>>
-        ensures some { (b : BoardView) (v : LocksView) → IfSome result (λ verdict. next_of v (walk_left b self.now) ≡ Some (Settle verdict)) }
-        ensures none { (b : BoardView) (v : LocksView) (verdict : Option Errno) → result ≡ None → next_of v (walk_left b self.now) ≡ Some (Settle verdict) → ⊥ }
+        requires { IsStep self.now.walk.looked }
+        ensures { TellsSettle result self.now }
     {
         self.walk.settles()
     }
 
-    /// Goes on in its walk behind that action, which had this outcome, and tells what it changes of the lock words.
-    pub fn advance_walk(
-        &mut self,
-        board: &CachedBoard<'_>,
-        locks: &Locks,
-        outcome: &Outcome<'_>,
-        updates: &mut MuxUpdates,
-    )
-        requires { length (messages_of self.old.transfer) ≡ self.old.walk.route.count }
-        ensures walk { walk_left board.now self.new ≡ behind_of locks.now (walk_left board.now self.old) (outcome_of outcome.now) }
-        ensures same { self.new ≡ record self.old { walk = self.new.walk } }
-        ensures route { self.new.walk.route ≡ self.old.walk.route }
-        ensures updates { updates.new.items ≡ updates_of board.now locks.now (outcome_of outcome.now) self.old }
+    /// Goes on in its walk behind that action, which had this outcome, and tells what it changes of the lock words. The looks
+    /// in front of its next action are still to be answered.
+    pub fn advance_walk(&mut self, outcome: &Outcome<'_>, updates: &mut MuxUpdates)
+        requires { IsStep self.old.walk.looked }
+        ensures { HasAdvanced (outcome_of outcome.now) updates.new.items self.old self.new }
     {
-        self.walk
-            .report(board.board(), &words_of(locks), outcome, updates);
+        self.walk.report(outcome, updates);
     }
 
-    /// Goes on in its walk behind a lock or a settle, which tell no cut.
-    pub fn lock_done(&mut self, board: &CachedBoard<'_>, locks: &Locks, updates: &mut MuxUpdates)
-        requires { length (messages_of self.old.transfer) ≡ self.old.walk.route.count }
-        ensures walk { walk_left board.now self.new ≡ behind_of locks.now (walk_left board.now self.old) Passed }
-        ensures same { self.new ≡ record self.old { walk = self.new.walk; cut = cut_at.No } }
-        ensures route { self.new.walk.route ≡ self.old.walk.route }
+    /// Answers the looks in front of its next action by the lock words, of which it has each that is asked for.
+    pub fn look(&mut self, board: &CachedBoard<'_>, locks: &Locks)
+        requires fresh { IsFresh self.old.walk }
+        requires counted { IsCounted self.old }
+        ensures { HasLooked board.now locks.now self.old self.new }
     {
-        self.advance_walk(board, locks, &Outcome::Passed, updates);
+        self.walk.look(board.board(), &words_of(locks));
+    }
+
+    /// Goes on in its walk behind a lock or a settle, which tell no cut and change no mark.
+    pub fn lock_done(&mut self, board: &CachedBoard<'_>, locks: &Locks, updates: &mut MuxUpdates)
+        requires looked { IsLookedAt board.now locks.now self.old }
+        requires counted { IsCounted self.old }
+        ensures { HasPassed board.now locks.now self.old self.new }
+    {
+        self.advance_walk(&Outcome::Passed, updates);
+        self.look(board, locks);
         self.cut = Cut::No;
     }
 
@@ -285,13 +289,14 @@ impl<C: Caller> Seat<C> {
     /// Loads the caller's next transfer, where it has one. Its walk is over before.
     pub fn load<P: Port>(&mut self, board: &mut CachedBoard<'_>, ports: &[(SegId, P)])
         requires over { is_over (walk_left board.old self.old) ≡ true }
-        requires counted { length (messages_of self.old.transfer) ≡ self.old.walk.route.count }
+        requires counted { IsCounted self.old }
         ensures some { (t : TransferView) → asked_next C.Caller self.old ≡ Some t → (self.new.transfer ≡ t) × (walk_left board.old self.new ≡ walk_for board.old t) }
         ensures none { asked_next C.Caller self.old ≡ None → is_over (walk_left board.old self.new) ≡ true }
         ensures stays { asked_next C.Caller self.old ≡ None → self.new.transfer ≡ self.old.transfer }
         ensures same { self.new ≡ record self.old { transfer = self.new.transfer; walk = self.new.walk; port = self.new.port; sent = 0; written = 0; replies = self.new.replies; decided = None } }
         ensures cleared { self.new.replies.got ≡ [] }
-        ensures counted { length (messages_of self.new.transfer) ≡ self.new.walk.route.count }
+        ensures looked { (v : LocksView) → IsLookedAt board.old v self.old → IsLookedAt board.old v self.new }
+        ensures counted { IsCounted self.new }
         ensures plugged { HasRoot (roots_of ports.now) (root_of board.old self.new.transfer.bus) → self.new.transfer.bus < buses board.old → is_over (walk_left board.old self.new) ≡ false
             → slice_get (roots_of ports.now) self.new.port ≡ Some (root_of board.old self.new.transfer.bus) }
         ensures board { board.new ≡ board.old }
@@ -314,6 +319,7 @@ impl<C: Caller> Seat<C> {
         ensures number { self.new.number ≡ self.old.number }
         ensures ended { is_over (walk_left board.old self.old) ≡ true → (r : Reply) → owed_by self.old.decided self.old.replies ≡ r ∷ [] → HasEnded C.Caller board.old r self.old.cut self.old self.new }
         ensures seated { IsSeated C.Caller board.old (roots_of ports.now) self.new }
+        ensures looked { (v : LocksView) → IsLookedAt board.old v self.old → IsLookedAt board.old v self.new }
         ensures board { board.new ≡ board.old }
     {
         if !self.walk.is_over() {

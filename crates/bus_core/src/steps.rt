@@ -6,7 +6,7 @@ ghost use Rattle.i2c_base.specs.declared.ids.LockId.{LockId};
 ghost use Rattle.bus_journal.specs.Borrowed.{entry_seen, most_bytes};
 ghost use Rattle.bus_spec.specs.Walk as act;
 ghost use Rattle.seg_locks.specs.Locks.{holder_in};
-ghost use Rattle.bus_core.specs.Kept.{IsKept, ComesAt, HasMadeStep, HasMessage, HasShift, HasStepped};
+ghost use Rattle.bus_core.specs.Kept.{IsResting, ComesAt, HasMadeStep, HasMessage, HasShift, HasStepped};
 ghost use Rattle.bus_core.specs.Steps.{IsBlockedAt, HasEndedAt};
 ghost use Rattle.bus_core.specs.declared.steps.StepAnswer.TheVariants as answer;
 
@@ -43,7 +43,7 @@ fn message_entry<'a>(caller: u8, next: &NextMsg, msg: &MsgResult, bytes: &'a [u8
 
 // Takes the lock that comes next, which is free.
 fn take<P: Port, C: Caller>(parts: &mut CoreParts<'_, P, C>, place: usize, lock: &LockId)
-    requires kept { IsKept P.Port C.Caller parts.old }
+    requires rests { IsResting P.Port C.Caller parts.old }
     requires next { ComesAt parts.old place (act.Take lock.now) }
     requires free { holder_in parts.old.locks lock.now ≡ None }
     ensures { HasMadeStep P.Port C.Caller place parts.old parts.new }
@@ -63,7 +63,7 @@ fn take<P: Port, C: Caller>(parts: &mut CoreParts<'_, P, C>, place: usize, lock:
 
 // Frees the lock that comes next. Where that ends the walk, the reply is handed over, and the next transfer is loaded.
 fn free<P: Port, C: Caller>(parts: &mut CoreParts<'_, P, C>, place: usize, lock: &LockId)
-    requires kept { IsKept P.Port C.Caller parts.old }
+    requires rests { IsResting P.Port C.Caller parts.old }
     requires next { ComesAt parts.old place (act.Free lock.now) }
     ensures { HasMadeStep P.Port C.Caller place parts.old parts.new }
 {
@@ -91,7 +91,7 @@ fn send_and_record<P: Port, C: Caller>(
     place: usize,
     next: &NextMsg,
 )
-    requires kept { IsKept P.Port C.Caller parts.old }
+    requires rests { IsResting P.Port C.Caller parts.old }
     requires next { HasMessage parts.old place next.now }
     ensures { HasMadeStep P.Port C.Caller place parts.old parts.new }
 {
@@ -103,15 +103,9 @@ fn send_and_record<P: Port, C: Caller>(
     parts
         .journal
         .push(&message_entry(seat.number, next, &msg, bytes));
-    seat.message_done(
-        &parts.board,
-        &parts.locks,
-        next,
-        &msg,
-        bytes,
-        &mut parts.updates,
-    );
+    seat.message_done(next, &msg, bytes, &mut parts.updates);
     set_marks(&mut parts.locks, seat.number, parts.updates.as_slice());
+    seat.look(&parts.board, &parts.locks);
     seat.settle(
         &parts.board,
         &parts.locks,
@@ -122,7 +116,7 @@ fn send_and_record<P: Port, C: Caller>(
 
 // Makes the line step that comes next, with its entry, and the settle that it decides where it fails.
 fn switch<P: Port, C: Caller>(parts: &mut CoreParts<'_, P, C>, place: usize, mux: MuxId, level: u8)
-    requires kept { IsKept P.Port C.Caller parts.old }
+    requires rests { IsResting P.Port C.Caller parts.old }
     requires next { HasShift parts.old place mux level }
     ensures { HasMadeStep P.Port C.Caller place parts.old parts.new }
 {
@@ -138,8 +132,9 @@ fn switch<P: Port, C: Caller>(parts: &mut CoreParts<'_, P, C>, place: usize, mux
         },
         bytes: &[],
     });
-    seat.line_done(&parts.board, &parts.locks, failed, &mut parts.updates);
+    seat.line_done(failed, &mut parts.updates);
     set_marks(&mut parts.locks, caller, parts.updates.as_slice());
+    seat.look(&parts.board, &parts.locks);
     seat.settle(
         &parts.board,
         &parts.locks,
@@ -151,7 +146,7 @@ fn switch<P: Port, C: Caller>(parts: &mut CoreParts<'_, P, C>, place: usize, mux
 // Settles the refused transfer of the caller at a place, and loads its next one. A settle without an error stands
 // directly behind its message, so none comes by itself.
 fn refuse<P: Port, C: Caller>(parts: &mut CoreParts<'_, P, C>, place: usize, verdict: Option<Errno>)
-    requires kept { IsKept P.Port C.Caller parts.old }
+    requires rests { IsResting P.Port C.Caller parts.old }
     requires next { ComesAt parts.old place (act.Settle verdict) }
     ensures { HasMadeStep P.Port C.Caller place parts.old parts.new }
 {
@@ -181,14 +176,14 @@ pub enum StepAnswer {
 /// that it decides, or settles a transfer that is refused. Nothing is done where it is blocked, or its script is used
 /// up.
 pub fn step<P: Port, C: Caller>(parts: &mut CoreParts<'_, P, C>, place: usize) -> StepAnswer
-    requires kept { IsKept P.Port C.Caller parts.old }
+    requires rests { IsResting P.Port C.Caller parts.old }
     requires there { place < length parts.old.seats.items }
-    ensures kept { IsKept P.Port C.Caller parts.new }
+    ensures rests { IsResting P.Port C.Caller parts.new }
     ensures stepped { result ≡ answer.Stepped → HasStepped P.Port C.Caller place parts.old parts.new }
     ensures blocked { (l : LockId) (h : ℕ) → result ≡ answer.Blocked l h → (parts.new ≡ parts.old) × IsBlockedAt parts.old place l h }
     ensures finished { result ≡ answer.Finished → (parts.new ≡ parts.old) × HasEndedAt parts.old place }
 {
-    let next = parts.seats[place].next(&parts.board, &parts.locks);
+    let next = parts.seats[place].next();
     match &next {
         Action::Done => return StepAnswer::Finished,
         Action::Take(lock) => {

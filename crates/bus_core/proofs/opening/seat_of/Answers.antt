@@ -39,7 +39,8 @@ returns-clause-seat g c =
         undecided = ap (λ (t : Seat g.row.C.Denot). t.decided) same;
         unread = c.load.ensures.cleared;
       };
-      cut = ap (λ (t : Seat g.row.C.Denot). t.cut) same ∙ c.resting-seat.ensures.fresh.5;
+      looked = λ v. c.load.ensures.looked v (c.resting-seat.ensures.looked c.args.board.now v);
+      cut = ap (λ (t : Seat g.row.C.Denot). t.cut) same ∙ c.resting-seat.ensures.unused.cut;
       seated = λ wired.
           record {
             counted = c.load.ensures.counted;

@@ -12,6 +12,9 @@ use Rattle.bus_core.proofs.readiness.ready.Goals as goal
 pub loop-number-init : goal.loop-number-init
 loop-number-init g c m q low at = absurd (omega (arith, low))
 
+pub can_step-requires-clause-rests : goal.can_step-requires-clause-rests
+can_step-requires-clause-rests g c κs within = record { kept = c.requires.core.kept; looked = c.requires.core.looked }
+
 pub can_step-requires-clause-there : goal.can_step-requires-clause-there
 can_step-requires-clause-there g c κs within =
     let x = c.args.parts.now in

@@ -9,6 +9,9 @@ use Rattle.bus_core.proofs.Advances.{waits-by, within as is_within, blocked-held
 use Rattle.bus_core.proofs.SeatLemmas.{number_read}
 use Rattle.bus_core.proofs.running.advance.Goals as goal
 
+pub step-requires-clause-rests : goal.step-requires-clause-rests
+step-requires-clause-rests g c κs within = record { kept = c.requires.core.kept; looked = c.requires.core.looked }
+
 pub step-requires-clause-there : goal.step-requires-clause-there
 step-requires-clause-there g c κs within =
     let x = c.args.parts.now in

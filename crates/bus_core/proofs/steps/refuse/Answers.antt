@@ -1,13 +1,16 @@
-use Rattle.std.proofs.Common.{◌<◌, ℕ, List, Option, Some, None, refl, sym, ◌∙◌, ap, subst}
+use Rattle.std.proofs.Common.{◌<◌, ℕ, List, Option, Some, None, set, refl, sym, ◌∙◌, ap, subst}
 use Rattle.std.proofs.lemmas.Option.{slice_get_within}
 use Rattle.i2c_base.specs.declared.errno.Errno.{Errno}
 use Rattle.bus_spec.specs.Walk.{Settle}
 use Rattle.core_laws.proofs.Laws.{settle-errs}
 use Rattle.bus_core.specs.Kept.{roots_of, run_of, whole_of}
+use Rattle.i2c_base.specs.Board.{BoardView}
+use Rattle.bus_core.specs.Looks.{AreLooked, IsLookedAt}
 use Rattle.bus_core.specs.Places.{place_of}
 use Rattle.bus_core.specs.Seats.{MayRefuse, IsRefusedIn}
 use Rattle.bus_core.specs.declared.seat.Seat.{Seat}
 use Rattle.bus_core.proofs.Kept.{place-here}
+use Rattle.bus_core.proofs.Looking.{looked-locks}
 use Rattle.bus_core.proofs.Refuse.{may-refuse, refused-kept}
 use Rattle.bus_core.proofs.SeatLemmas.{read_here}
 use Rattle.bus_core.proofs.steps.refuse.Goals as goal
@@ -17,15 +20,15 @@ index_mut-requires g c =
     subst (λ (n : ℕ). c.args.place < n) (sym c.args.parts.now.seats.ok.0)
     (slice_get_within c.args.parts.now.seats.items c.args.place c.requires.next.seat c.requires.next.here)
 
-pub refuse-requires-after_bounds : goal.refuse-requires-after_bounds
-refuse-requires-after_bounds g c κs within =
+pub refuse-requires-clause-may : goal.refuse-requires-clause-may
+refuse-requires-clause-may g c κs within =
     let x = c.args.parts.now in
     let next = c.requires.next in
     subst (λ (ps : List _). MayRefuse g.C.Caller x.board (roots_of ps) c.in-Some.errno x.journal c.index_mut.result.now)
     (sym c.as_slice.ensures.value)
     (subst (λ (y : Seat _). MayRefuse g.C.Caller x.board (roots_of x.ports.items) c.in-Some.errno x.journal y)
     (sym (read_here x.seats.items c.args.place next.seat c.index_mut.result.now next.here c.index_mut.ensures.value))
-    (may-refuse g.P.Port g.C.Caller x c.requires.kept c.args.place next.seat next.here c.in-Some.errno (next.next
+    (may-refuse g.P.Port g.C.Caller x c.requires.rests.kept c.args.place next.seat next.here c.in-Some.errno (next.next
     ∙ ap (λ (o : Option Errno). Some (Settle o)) c.in-Some.is)))
 
 pub returns-in-Some : goal.returns-in-Some
@@ -40,10 +43,27 @@ returns-in-Some g c =
     (subst (λ (ps : List _). IsRefusedIn g.C.Caller x.board
     (roots_of ps) c.in-Some.errno x.journal c.refuse.new.journal c.index_mut.result.now c.refuse.new.self) c.as_slice.ensures.value
     c.refuse.ensures.refused) in
-    let all = refused-kept g.P.Port g.C.Caller x c.requires.kept c.args.place next.seat next.here c.in-Some.errno (next.next
+    let all = refused-kept g.P.Port g.C.Caller x c.requires.rests.kept c.args.place next.seat next.here c.in-Some.errno (next.next
     ∙ ap (λ (o : Option Errno). Some (Settle o)) c.in-Some.is)
     _ c.refuse.new.self c.refuse.ensures.board refl refused refl refl refl refl in
-    record { kept = all.0; stepped = all.1 }
+    record {
+      rests = record {
+        kept = all.0;
+        looked = subst (λ (b : BoardView). AreLooked b x.locks (set x.seats.items c.args.place c.refuse.new.self))
+            (sym c.refuse.ensures.board)
+            (looked-locks x.board x.locks x.locks x.seats.items c.args.place c.refuse.new.self c.requires.rests.looked refl
+            c.refuse.ensures.looked);
+      };
+      stepped = all.1;
+    }
+
+pub refuse-requires-clause-looked : goal.refuse-requires-clause-looked
+refuse-requires-clause-looked g c κs within =
+    let x = c.args.parts.now in
+    let next = c.requires.next in
+    subst (IsLookedAt x.board x.locks)
+    (sym (read_here x.seats.items c.args.place next.seat c.index_mut.result.now next.here c.index_mut.ensures.value))
+    (c.requires.rests.looked c.args.place next.seat next.here)
 
 pub returns-in_default : goal.returns-in_default
 returns-in_default g c =
@@ -51,7 +71,7 @@ returns-in_default g c =
     let next = c.requires.next in
     let first = next.next ∙ ap (λ (o : Option Errno). Some (Settle o)) c.in_default.is in
     absurd (let f = settle-errs (run_of g.P.Port g.C.Caller x)
-    (whole_of g.P.Port g.C.Caller x c.requires.kept.held c.requires.kept.owes) c.requires.kept.kept c.args.place
+    (whole_of g.P.Port g.C.Caller x c.requires.rests.kept.held c.requires.rests.kept.owes) c.requires.rests.kept.kept c.args.place
     (place_of g.C.Caller x.board next.seat)
-    (place-here g.P.Port g.C.Caller x c.requires.kept c.args.place next.seat next.here) None first in
+    (place-here g.P.Port g.C.Caller x c.requires.rests.kept c.args.place next.seat next.here) None first in
     cc)

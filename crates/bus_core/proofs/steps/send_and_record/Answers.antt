@@ -1,4 +1,4 @@
-use Rattle.std.proofs.Common.{◌≡◌, ◌≤◌, ◌<◌, ◌+◌, ◌++◌, [], ◌∷◌, ℕ, List, length, refl, sym, ◌∙◌, ap, subst, arith}
+use Rattle.std.proofs.Common.{◌≡◌, ◌≤◌, ◌<◌, ◌+◌, ◌++◌, [], ◌∷◌, ℕ, List, length, set, refl, sym, ◌∙◌, ap, subst, arith}
 use Rattle.std.proofs.lemmas.List.{length-map}
 use Rattle.std.proofs.lemmas.Option.{slice_get_within}
 use Rattle.i2c_base.specs.Limits.{MOST_CALLERS}
@@ -12,10 +12,12 @@ use Rattle.bus_spec.specs.Walk.{Send}
 use Rattle.bus_spec.specs.Walk as walk
 use Rattle.seg_locks.specs.Locks.{LocksView}
 use Rattle.core_laws.specs.Spots.{turned_to, seen_of}
+use Rattle.bus_core.specs.Looks.{AreLooked, IsLookedAt}
 use Rattle.bus_core.specs.Marks.{words_after, AreHeld}
 use Rattle.bus_core.specs.Seats.{MaySettle, updates_of}
 use Rattle.bus_core.specs.declared.seat.Seat.{Seat}
-use Rattle.bus_core.proofs.Kept.{number-small}
+use Rattle.bus_core.proofs.Kept.{number-small, seated-here}
+use Rattle.bus_core.proofs.Looking.{heard-counted, heard-looked, looked-turned, turned}
 use Rattle.bus_core.proofs.Converse.{comes-next, said-on, may-speak, may-hear, message-room, message-bytes, updates-own}
 use Rattle.bus_core.proofs.Conversed.{may-settle, conversed}
 use Rattle.bus_core.proofs.steps.send_and_record.Goals as goal
@@ -25,7 +27,7 @@ cursor-cursor-requires g c =
     let x = c.args.parts.now in
     let old = c.index_mut-seat.result.now in
     let m = comes-next x c.args.place c.args.next.now c.requires.next old c.index_mut-seat.ensures.value in
-    let speak = may-speak g.P.Port g.C.Caller x c.requires.kept c.args.place old m.here m.job m.left c.args.next.now m.first m.of in
+    let speak = may-speak g.P.Port g.C.Caller x c.requires.rests.kept c.args.place old m.here m.job m.left c.args.next.now m.first m.of in
     record { on_bus = speak.on_bus; more = speak.more; wrote = speak.wrote }
 
 pub index_mut-requires : goal.index_mut-requires
@@ -33,7 +35,7 @@ index_mut-requires g c =
     let x = c.args.parts.now in
     let old = c.index_mut-seat.result.now in
     let m = comes-next x c.args.place c.args.next.now c.requires.next old c.index_mut-seat.ensures.value in
-    let speak = may-speak g.P.Port g.C.Caller x c.requires.kept c.args.place old m.here m.job m.left c.args.next.now m.first m.of in
+    let speak = may-speak g.P.Port g.C.Caller x c.requires.rests.kept c.args.place old m.here m.job m.left c.args.next.now m.first m.of in
     omega (
       arith,
       slice_get_within (root_ports g.P.Port x.ports.items) old.port speak.socket speak.here,
@@ -46,7 +48,7 @@ send_next-msg-requires-clause-may g c κs within root =
     let x = c.args.parts.now in
     let old = c.index_mut-seat.result.now in
     let m = comes-next x c.args.place c.args.next.now c.requires.next old c.index_mut-seat.ensures.value in
-    let speak = may-speak g.P.Port g.C.Caller x c.requires.kept c.args.place old m.here m.job m.left c.args.next.now m.first m.of in
+    let speak = may-speak g.P.Port g.C.Caller x c.requires.rests.kept c.args.place old m.here m.job m.left c.args.next.now m.first m.of in
     let q = c.index_mut.result.now in
     let at : speak.socket ≡ root_port g.P.Port q =
     socket-is g.P.Port x.ports.items old.port q c.index_mut.ensures.value speak.socket speak.here in
@@ -60,21 +62,21 @@ push-requires-clause-room g c =
     let x = c.args.parts.now in
     let old = c.index_mut-seat.result.now in
     let m = comes-next x c.args.place c.args.next.now c.requires.next old c.index_mut-seat.ensures.value in
-    message-room g.P.Port g.C.Caller x c.requires.kept c.args.place old m.here m.job m.left c.args.next.now m.first m.of
+    message-room g.P.Port g.C.Caller x c.requires.rests.kept c.args.place old m.here m.job m.left c.args.next.now m.first m.of
 
 pub push-requires-clause-room_bytes : goal.push-requires-clause-room_bytes
 push-requires-clause-room_bytes g c =
     let x = c.args.parts.now in
     let old = c.index_mut-seat.result.now in
     let m = comes-next x c.args.place c.args.next.now c.requires.next old c.index_mut-seat.ensures.value in
-    let speak = may-speak g.P.Port g.C.Caller x c.requires.kept c.args.place old m.here m.job m.left c.args.next.now m.first m.of in
+    let speak = may-speak g.P.Port g.C.Caller x c.requires.rests.kept c.args.place old m.here m.job m.left c.args.next.now m.first m.of in
     let out = c.send_next-msg.result in
     let bytes = c.as_slice-bytes.result.now in
     let said = said-on g.P.Port x c.args.next.now old speak.socket speak.here c.index_mut.result.now c.index_mut.ensures.value
     c.cursor-cursor.result c.cursor-cursor.ensures.value c.send_next-msg.new.port c.send_next-msg.new.bytes bytes
     c.as_slice-bytes.ensures.value out (c.send_next-msg.ensures c.index_mut.result.now.0) c.cursor-cursor.ensures.whole in
     subst (λ (ys : List ℕ). length ys ≤ x.journal.room_bytes) (sym c.message_entry.ensures.bytes)
-    (message-bytes g.P.Port g.C.Caller x c.requires.kept c.args.place old m.here m.job m.left c.args.next.now m.first m.of _ bytes out
+    (message-bytes g.P.Port g.C.Caller x c.requires.rests.kept c.args.place old m.here m.job m.left c.args.next.now m.first m.of _ bytes out
     said)
 
 pub message_done-requires : goal.message_done-requires
@@ -82,35 +84,60 @@ message_done-requires g c =
     let x = c.args.parts.now in
     let old = c.index_mut-seat.result.now in
     let m = comes-next x c.args.place c.args.next.now c.requires.next old c.index_mut-seat.ensures.value in
-    let speak = may-speak g.P.Port g.C.Caller x c.requires.kept c.args.place old m.here m.job m.left c.args.next.now m.first m.of in
+    let speak = may-speak g.P.Port g.C.Caller x c.requires.rests.kept c.args.place old m.here m.job m.left c.args.next.now m.first m.of in
     let out = c.send_next-msg.result in
     let bytes = c.as_slice-bytes.result.now in
     let said = said-on g.P.Port x c.args.next.now old speak.socket speak.here c.index_mut.result.now c.index_mut.ensures.value
     c.cursor-cursor.result c.cursor-cursor.ensures.value c.send_next-msg.new.port c.send_next-msg.new.bytes bytes
     c.as_slice-bytes.ensures.value out (c.send_next-msg.ensures c.index_mut.result.now.0) c.cursor-cursor.ensures.whole in
-    may-hear g.P.Port g.C.Caller x c.requires.kept c.args.place old m.here m.job m.left c.args.next.now m.first m.of _ bytes out said
+    record {
+      hears = may-hear g.P.Port g.C.Caller x c.requires.rests.kept c.args.place old m.here m.job m.left c.args.next.now m.first m.of _
+          bytes out said;
+      step = (c.requires.rests.looked c.args.place old m.here).step;
+    }
 
 pub set_marks-requires : goal.set_marks-requires
 set_marks-requires g c =
     let x = c.args.parts.now in
     let old = c.index_mut-seat.result.now in
     let m = comes-next x c.args.place c.args.next.now c.requires.next old c.index_mut-seat.ensures.value in
-    let speak = may-speak g.P.Port g.C.Caller x c.requires.kept c.args.place old m.here m.job m.left c.args.next.now m.first m.of in
+    let speak = may-speak g.P.Port g.C.Caller x c.requires.rests.kept c.args.place old m.here m.job m.left c.args.next.now m.first m.of in
     let out = c.send_next-msg.result in
     let bytes = c.as_slice-bytes.result.now in
     let said = said-on g.P.Port x c.args.next.now old speak.socket speak.here c.index_mut.result.now c.index_mut.ensures.value
     c.cursor-cursor.result c.cursor-cursor.ensures.value c.send_next-msg.new.port c.send_next-msg.new.bytes bytes
     c.as_slice-bytes.ensures.value out (c.send_next-msg.ensures c.index_mut.result.now.0) c.cursor-cursor.ensures.whole in
     let t = c.message_done.new.self in
-    let number : t.number ≡ old.number = ap (λ (y : Seat _). y.number) c.message_done.ensures.heard.same in
+    let number : t.number ≡ old.number = ap (λ (y : Seat _). y.number) (c.message_done.ensures.heard x.board x.locks
+    (c.requires.rests.looked c.args.place old m.here)).same in
     let updates : c.as_slice.result.now ≡ updates_of x.board x.locks (walk.Sent out.end bytes) old = c.as_slice.ensures.value
-    ∙ c.message_done.ensures.updates in
+    ∙ c.message_done.ensures.updates x.board x.locks (c.requires.rests.looked c.args.place old m.here) in
     record {
-      caller = subst (λ (n : ℕ). n < MOST_CALLERS) (sym number) (number-small g.P.Port g.C.Caller x c.requires.kept c.args.place old m.here);
+      caller = subst (λ (n : ℕ). n < MOST_CALLERS) (sym number)
+          (number-small g.P.Port g.C.Caller x c.requires.rests.kept c.args.place old m.here);
       held = subst (λ (n : ℕ). AreHeld x.locks n c.as_slice.result.now) (sym number)
           (subst (λ (ds : List MuxUpdate). AreHeld x.locks old.number ds) (sym updates)
-          (updates-own g.P.Port g.C.Caller x c.requires.kept c.args.place old m.here m.job m.left c.args.next.now m.first m.of _ bytes
+          (updates-own g.P.Port g.C.Caller x c.requires.rests.kept c.args.place old m.here m.job m.left c.args.next.now m.first m.of _ bytes
           out said));
+    }
+
+pub look-requires : goal.look-requires
+look-requires g c =
+    let x = c.args.parts.now in
+    let old = c.index_mut-seat.result.now in
+    let m = comes-next x c.args.place c.args.next.now c.requires.next old c.index_mut-seat.ensures.value in
+    let speak = may-speak g.P.Port g.C.Caller x c.requires.rests.kept c.args.place old m.here m.job m.left c.args.next.now m.first m.of in
+    let out = c.send_next-msg.result in
+    let bytes = c.as_slice-bytes.result.now in
+    let said = said-on g.P.Port x c.args.next.now old speak.socket speak.here c.index_mut.result.now c.index_mut.ensures.value
+    c.cursor-cursor.result c.cursor-cursor.ensures.value c.send_next-msg.new.port c.send_next-msg.new.bytes bytes
+    c.as_slice-bytes.ensures.value out (c.send_next-msg.ensures c.index_mut.result.now.0) c.cursor-cursor.ensures.whole in
+    let heard = c.message_done.ensures.heard x.board x.locks (c.requires.rests.looked c.args.place old m.here) in
+    let seated = seated-here g.P.Port g.C.Caller x c.requires.rests.kept c.args.place old m.here in
+    record {
+      fresh = c.message_done.ensures.fresh;
+      counted = heard-counted x.board x.locks c.args.next.now out.reading bytes out.end old
+          c.message_done.new.self heard seated.counted;
     }
 
 pub settle-requires : goal.settle-requires
@@ -118,50 +145,57 @@ settle-requires g c =
     let x = c.args.parts.now in
     let old = c.index_mut-seat.result.now in
     let m = comes-next x c.args.place c.args.next.now c.requires.next old c.index_mut-seat.ensures.value in
-    let speak = may-speak g.P.Port g.C.Caller x c.requires.kept c.args.place old m.here m.job m.left c.args.next.now m.first m.of in
+    let speak = may-speak g.P.Port g.C.Caller x c.requires.rests.kept c.args.place old m.here m.job m.left c.args.next.now m.first m.of in
     let out = c.send_next-msg.result in
     let bytes = c.as_slice-bytes.result.now in
     let said = said-on g.P.Port x c.args.next.now old speak.socket speak.here c.index_mut.result.now c.index_mut.ensures.value
     c.cursor-cursor.result c.cursor-cursor.ensures.value c.send_next-msg.new.port c.send_next-msg.new.bytes bytes
     c.as_slice-bytes.ensures.value out (c.send_next-msg.ensures c.index_mut.result.now.0) c.cursor-cursor.ensures.whole in
-    let t = c.message_done.new.self in
-    let number : t.number ≡ old.number = ap (λ (y : Seat _). y.number) c.message_done.ensures.heard.same in
-    let updates : c.as_slice.result.now ≡ updates_of x.board x.locks (walk.Sent out.end bytes) old = c.as_slice.ensures.value
-    ∙ c.message_done.ensures.updates in
-    let locks : c.set_marks.new.locks ≡ turned_to x.locks
-    (words_after (updates_of x.board x.locks (walk.Sent out.end bytes) old) (seen_of x.locks)) =
-    c.set_marks.ensures ∙ ap (λ (ds : List MuxUpdate). turned_to x.locks (words_after ds (seen_of x.locks))) updates in
+    let looked = c.requires.rests.looked c.args.place old m.here in
+    let t = c.look.new.self in
+    let heard = heard-looked x.board x.locks c.args.next.now out.reading bytes out.end old c.message_done.new.self t
+    (c.message_done.ensures.heard x.board x.locks looked) c.look.ensures.same (c.look.ensures.walk x.board) c.look.ensures.route in
+    let locks : c.set_marks.new.locks ≡ turned g.P.Port g.C.Caller x c.requires.rests.kept c.args.place old m.here (Send m.job m.left)
+    m.first (walk.Sent out.end bytes) =
+    c.set_marks.ensures ∙ ap (λ (ds : List MuxUpdate). turned_to x.locks (words_after ds (seen_of x.locks)))
+    (c.as_slice.ensures.value ∙ c.message_done.ensures.updates x.board x.locks looked) in
     let entries = c.push.ensures.entries ∙ ap (λ (e : Entry). x.journal.entries ++ e ∷ []) c.message_entry.ensures.seen in
     let room_bytes : c.push.new.self.room_bytes + length bytes ≡ x.journal.room_bytes =
     ap (λ (ys : List ℕ). c.push.new.self.room_bytes + length ys) (sym c.message_entry.ensures.bytes) ∙ c.push.ensures.room_bytes in
-    subst (λ (v : LocksView). MaySettle x.board v c.push.new.self t) (sym locks)
-    (may-settle g.P.Port g.C.Caller x c.requires.kept c.args.place old m.here m.job m.left c.args.next.now m.first m.of _ bytes out
-    said t c.message_done.ensures.heard
-    c.push.new.self entries c.push.ensures.room room_bytes)
+    record {
+      may = subst (λ (v : LocksView). MaySettle x.board v c.push.new.self t) (sym locks)
+          (may-settle g.P.Port g.C.Caller x c.requires.rests.kept c.args.place old m.here m.job m.left c.args.next.now m.first m.of _
+          bytes out
+          said t heard
+          c.push.new.self entries c.push.ensures.room room_bytes);
+      looked = c.look.ensures.looked;
+    }
 
 pub returns : goal.returns
 returns g c =
     let x = c.args.parts.now in
     let old = c.index_mut-seat.result.now in
     let m = comes-next x c.args.place c.args.next.now c.requires.next old c.index_mut-seat.ensures.value in
-    let speak = may-speak g.P.Port g.C.Caller x c.requires.kept c.args.place old m.here m.job m.left c.args.next.now m.first m.of in
+    let speak = may-speak g.P.Port g.C.Caller x c.requires.rests.kept c.args.place old m.here m.job m.left c.args.next.now m.first m.of in
     let out = c.send_next-msg.result in
     let bytes = c.as_slice-bytes.result.now in
     let said = said-on g.P.Port x c.args.next.now old speak.socket speak.here c.index_mut.result.now c.index_mut.ensures.value
     c.cursor-cursor.result c.cursor-cursor.ensures.value c.send_next-msg.new.port c.send_next-msg.new.bytes bytes
     c.as_slice-bytes.ensures.value out (c.send_next-msg.ensures c.index_mut.result.now.0) c.cursor-cursor.ensures.whole in
-    let t = c.message_done.new.self in
-    let number : t.number ≡ old.number = ap (λ (y : Seat _). y.number) c.message_done.ensures.heard.same in
-    let updates : c.as_slice.result.now ≡ updates_of x.board x.locks (walk.Sent out.end bytes) old = c.as_slice.ensures.value
-    ∙ c.message_done.ensures.updates in
-    let locks : c.set_marks.new.locks ≡ turned_to x.locks
-    (words_after (updates_of x.board x.locks (walk.Sent out.end bytes) old) (seen_of x.locks)) =
-    c.set_marks.ensures ∙ ap (λ (ds : List MuxUpdate). turned_to x.locks (words_after ds (seen_of x.locks))) updates in
+    let looked = c.requires.rests.looked c.args.place old m.here in
+    let t = c.look.new.self in
+    let heard = heard-looked x.board x.locks c.args.next.now out.reading bytes out.end old c.message_done.new.self t
+    (c.message_done.ensures.heard x.board x.locks looked) c.look.ensures.same (c.look.ensures.walk x.board) c.look.ensures.route in
+    let locks : c.set_marks.new.locks ≡ turned g.P.Port g.C.Caller x c.requires.rests.kept c.args.place old m.here (Send m.job m.left)
+    m.first (walk.Sent out.end bytes) =
+    c.set_marks.ensures ∙ ap (λ (ds : List MuxUpdate). turned_to x.locks (words_after ds (seen_of x.locks)))
+    (c.as_slice.ensures.value ∙ c.message_done.ensures.updates x.board x.locks looked) in
     let entries = c.push.ensures.entries ∙ ap (λ (e : Entry). x.journal.entries ++ e ∷ []) c.message_entry.ensures.seen in
     let room_bytes : c.push.new.self.room_bytes + length bytes ≡ x.journal.room_bytes =
     ap (λ (ys : List ℕ). c.push.new.self.room_bytes + length ys) (sym c.message_entry.ensures.bytes) ∙ c.push.ensures.room_bytes in
-    let all = conversed g.P.Port g.C.Caller x c.requires.kept c.args.place old m.here m.job m.left c.args.next.now m.first m.of _ bytes
-    out said t c.message_done.ensures.heard
+    let all = conversed g.P.Port g.C.Caller x c.requires.rests.kept c.args.place old m.here m.job m.left c.args.next.now m.first m.of _
+    bytes
+    out said t heard
     c.push.new.self entries c.push.ensures.room room_bytes
     (record x {
       ports = _;
@@ -172,4 +206,14 @@ returns g c =
       updates = c.settle.new.updates;
     }) refl locks refl refl refl
     c.settle.new.self refl c.settle.result c.settle.ensures.settled c.settle.ensures.none c.settle.ensures.stays in
-    record { kept = all.0; stepped = all.1 }
+    record {
+      rests = record {
+        kept = all.0;
+        looked = subst (λ (v : LocksView). AreLooked x.board v (set x.seats.items c.args.place c.settle.new.self)) (sym locks)
+            (looked-turned g.P.Port g.C.Caller x c.requires.rests.kept c.args.place old m.here (Send m.job m.left) m.first
+            (walk.Sent out.end bytes)
+            c.settle.new.self c.requires.rests.looked
+            (subst (λ (v : LocksView). IsLookedAt x.board v c.settle.new.self) locks c.settle.ensures.looked));
+      };
+      stepped = all.1;
+    }

@@ -1,15 +1,12 @@
 use Rattle.std.proofs.Common.{◌≡◌, ◌<◌, ℕ, Some, refl, sym, ◌∙◌, ap, subst}
 use Rattle.i2c_base.specs.declared.ids.LockId.{LockId}
-use Rattle.bus_spec.specs.Walk.{Take}
-use Rattle.core_laws.proofs.Laws.{take-wants}
-use Rattle.core_laws.specs.Steps.{next_of}
+use Rattle.mux_plan.specs.declared.task.Action.TheVariants as action
 use Rattle.seg_locks.specs.Locks.{holder_in}
-use Rattle.bus_core.specs.Kept.{run_of, whole_of, HasStepped}
-use Rattle.bus_core.specs.Places.{walk_left, place_of}
+use Rattle.bus_core.specs.Kept.{HasStepped, IsResting}
 use Rattle.bus_core.specs.declared.parts.CoreParts.{CoreParts}
 use Rattle.bus_core.specs.declared.steps.StepAnswer.TheVariants as answer
-use Rattle.bus_core.proofs.ActionLemmas.{take-of, free-of, send-of, line-of, settle-of}
-use Rattle.bus_core.proofs.Kept.{place-here, seated-here}
+use Rattle.bus_core.proofs.Kept.{seated-here}
+use Rattle.bus_core.proofs.Nexts.{tells-next, take-there, comes-take, comes-free, comes-settle, comes-message, comes-shift}
 use Rattle.bus_core.proofs.SeatLemmas.{there_read}
 use Rattle.bus_core.proofs.steps.step.Goals.{in-Take+in_default, in-Free, in-Send, in-Line, in-Settle}
 use Rattle.bus_core.proofs.steps.step.Goals as goal
@@ -21,87 +18,68 @@ pub next-next-requires : goal.next-next-requires
 next-next-requires g c =
     let x = c.args.parts.now in
     let here = there_read x.seats.items c.args.place c.index.result.now c.requires.there c.index.ensures in
-    (seated-here g.P.Port g.C.Caller x c.requires.kept c.args.place c.index.result.now here).counted
+    record {
+      counted = (seated-here g.P.Port g.C.Caller x c.requires.rests.kept c.args.place c.index.result.now here).counted;
+      step = (c.requires.rests.looked c.args.place c.index.result.now here).step;
+    }
 
 pub returns-in-Done-clause-finished : goal.returns-in-Done-clause-finished
 returns-in-Done-clause-finished g c is =
     let x = c.args.parts.now in
     let here = there_read x.seats.items c.args.place c.index.result.now c.requires.there c.index.ensures in
-    (refl, record { seat = c.index.result.now; here = here; over = c.next-next.ensures.over c.in-Done.is })
+    (refl, record { seat = c.index.result.now; here = here; over = c.next-next.ensures.over c.in-Done.is x.board })
 
 pub holder-requires : goal.holder-requires
 holder-requires g c =
+    let next = tells-next c.args.parts.now c.args.place c.index.result.now c.next-next.result c.requires.rests.looked c.requires.there
+    c.index.ensures c.next-next.ensures.first in
     let x = c.args.parts.now in
-    let s = c.index.result.now in
-    let here = there_read x.seats.items c.args.place s c.requires.there c.index.ensures in
-    let first = take-of (next_of x.locks (walk_left x.board s)) c.in-Take.lock (sym c.next-next.ensures.first ∙ c.in-Take.is) in
-    (take-wants (run_of g.P.Port g.C.Caller x)
-    (whole_of g.P.Port g.C.Caller x c.requires.kept.held c.requires.kept.owes) c.requires.kept.kept c.args.place
-    (place_of g.C.Caller x.board s) (place-here g.P.Port g.C.Caller x c.requires.kept c.args.place s here) c.in-Take.lock first).0
+    take-there g.P.Port g.C.Caller x c.requires.rests.kept c.args.place c.in-Take.lock
+    (comes-take x c.args.place c.next-next.result next c.in-Take.lock c.in-Take.is)
 
 pub returns-in-Some-clause-blocked : goal.returns-in-Some-clause-blocked
 returns-in-Some-clause-blocked g c l h e =
+    let next = tells-next c.args.parts.now c.args.place c.index.result.now c.next-next.result c.requires.rests.looked c.requires.there
+    c.index.ensures c.next-next.ensures.first in
     let x = c.args.parts.now in
-    let s = c.index.result.now in
-    let here = there_read x.seats.items c.args.place s c.requires.there c.index.ensures in
     let lock : c.in-Take.lock ≡ l = (let f : answer.Blocked c.in-Take.lock c.in-Some.holder ≡ answer.Blocked l h = e in cc) in
-    let who : c.in-Some.holder ≡ h = (let f : answer.Blocked c.in-Take.lock c.in-Some.holder ≡ answer.Blocked l h = e in cc) in
-    let first = take-of (next_of x.locks (walk_left x.board s)) c.in-Take.lock (sym c.next-next.ensures.first ∙ c.in-Take.is) in (
+    let who : c.in-Some.holder ≡ h = (let f : answer.Blocked c.in-Take.lock c.in-Some.holder ≡ answer.Blocked l h = e in cc) in (
       refl,
       record {
-        comes = record { seat = s; here = here; next = first ∙ ap (λ (k : LockId). Some (Take k)) lock };
+        comes = comes-take x c.args.place c.next-next.result next l (c.in-Take.is ∙ ap (λ (k : LockId). action.Take k) lock);
         held = ap (holder_in x.locks) (sym lock) ∙ sym c.holder.ensures ∙ c.in-Some.is ∙ ap Some who;
       },
     )
 
 pub take-requires-clause-next : goal.take-requires-clause-next
 take-requires-clause-next g c κs within =
-    let x = c.args.parts.now in
-    let s = c.index.result.now in
-    let here = there_read x.seats.items c.args.place s c.requires.there c.index.ensures in
-    record {
-      seat = s;
-      here = here;
-      next = take-of (next_of x.locks (walk_left x.board s)) c.in-Take.lock (sym c.next-next.ensures.first ∙ c.in-Take.is);
-    }
+    let next = tells-next c.args.parts.now c.args.place c.index.result.now c.next-next.result c.requires.rests.looked c.requires.there
+    c.index.ensures c.next-next.ensures.first in
+    comes-take c.args.parts.now c.args.place c.next-next.result next c.in-Take.lock c.in-Take.is
 
 pub free-requires-clause-next : goal.free-requires-clause-next
 free-requires-clause-next g c κs within =
-    let x = c.args.parts.now in
-    let s = c.index.result.now in
-    let here = there_read x.seats.items c.args.place s c.requires.there c.index.ensures in
-    record {
-      seat = s;
-      here = here;
-      next = free-of (next_of x.locks (walk_left x.board s)) c.in-Free.lock (sym c.next-next.ensures.first ∙ c.in-Free.is);
-    }
+    let next = tells-next c.args.parts.now c.args.place c.index.result.now c.next-next.result c.requires.rests.looked c.requires.there
+    c.index.ensures c.next-next.ensures.first in
+    comes-free c.args.parts.now c.args.place c.next-next.result next c.in-Free.lock c.in-Free.is
 
 pub send_and_record-requires-clause-next : goal.send_and_record-requires-clause-next
 send_and_record-requires-clause-next g c κs within =
-    let x = c.args.parts.now in
-    let s = c.index.result.now in
-    let here = there_read x.seats.items c.args.place s c.requires.there c.index.ensures in
-    let sends = send-of (next_of x.locks (walk_left x.board s)) _ (sym c.next-next.ensures.first ∙ c.in-Send.is) in
-    record { job = sends.0; left = sends.1; comes = record { seat = s; here = here; next = sends.2 }; of = sends.3 }
+    let next = tells-next c.args.parts.now c.args.place c.index.result.now c.next-next.result c.requires.rests.looked c.requires.there
+    c.index.ensures c.next-next.ensures.first in
+    comes-message c.args.parts.now c.args.place c.next-next.result next _ c.in-Send.is
 
 pub switch-requires-clause-next : goal.switch-requires-clause-next
 switch-requires-clause-next g c κs within =
-    let x = c.args.parts.now in
-    let s = c.index.result.now in
-    let here = there_read x.seats.items c.args.place s c.requires.there c.index.ensures in
-    let shifts = line-of (next_of x.locks (walk_left x.board s)) c.in-Line.mux c.in-Line.level (sym c.next-next.ensures.first ∙ c.in-Line.is) in
-    record { job = shifts.0; comes = record { seat = s; here = here; next = shifts.1 }; of_mux = shifts.2; to_level = shifts.3 }
+    let next = tells-next c.args.parts.now c.args.place c.index.result.now c.next-next.result c.requires.rests.looked c.requires.there
+    c.index.ensures c.next-next.ensures.first in
+    comes-shift c.args.parts.now c.args.place c.next-next.result next c.in-Line.mux c.in-Line.level c.in-Line.is
 
 pub refuse-requires-clause-next : goal.refuse-requires-clause-next
 refuse-requires-clause-next g c κs within =
-    let x = c.args.parts.now in
-    let s = c.index.result.now in
-    let here = there_read x.seats.items c.args.place s c.requires.there c.index.ensures in
-    record {
-      seat = s;
-      here = here;
-      next = settle-of (next_of x.locks (walk_left x.board s)) c.in-Settle.verdict (sym c.next-next.ensures.first ∙ c.in-Settle.is);
-    }
+    let next = tells-next c.args.parts.now c.args.place c.index.result.now c.next-next.result c.requires.rests.looked c.requires.there
+    c.index.ensures c.next-next.ensures.first in
+    comes-settle c.args.parts.now c.args.place c.next-next.result next c.in-Settle.verdict c.in-Settle.is
 
 pub returns-clause-stepped : goal.returns-clause-stepped
 returns-clause-stepped g c is =
@@ -115,4 +93,14 @@ returns-clause-stepped g c is =
       | in-Line w ↦ subst (λ (y : CoreParts _ _). HasStepped g.P.Port g.C.Caller c.args.place x y) (sym w.parts-is) w.switch.ensures.stepped
       | in-Settle w ↦ subst (λ (y : CoreParts _ _). HasStepped g.P.Port g.C.Caller c.args.place x y)
           (sym w.parts-is) w.refuse.ensures.stepped
+    ]
+
+pub returns-clause-rests : goal.returns-clause-rests
+returns-clause-rests g c =
+    elim c.match-next.branch [
+      | in-Take+in_default w ↦ subst (λ (y : CoreParts _ _). IsResting g.P.Port g.C.Caller y) (sym w.parts-is) w.take.ensures.rests
+      | in-Free w ↦ subst (λ (y : CoreParts _ _). IsResting g.P.Port g.C.Caller y) (sym w.parts-is) w.free.ensures.rests
+      | in-Send w ↦ subst (λ (y : CoreParts _ _). IsResting g.P.Port g.C.Caller y) (sym w.parts-is) w.send_and_record.ensures.rests
+      | in-Line w ↦ subst (λ (y : CoreParts _ _). IsResting g.P.Port g.C.Caller y) (sym w.parts-is) w.switch.ensures.rests
+      | in-Settle w ↦ subst (λ (y : CoreParts _ _). IsResting g.P.Port g.C.Caller y) (sym w.parts-is) w.refuse.ensures.rests
     ]

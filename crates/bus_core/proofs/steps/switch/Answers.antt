@@ -1,4 +1,4 @@
-use Rattle.std.proofs.Common.{◌≡◌, ◌++◌, [], ◌∷◌, ℕ, List, refl, sym, ◌∙◌, ap, subst, arith}
+use Rattle.std.proofs.Common.{◌≡◌, ◌++◌, [], ◌∷◌, ℕ, List, set, refl, sym, ◌∙◌, ap, subst, arith}
 use Rattle.std.proofs.lemmas.List.{length-map, map-set}
 use Rattle.std.proofs.lemmas.Option.{slice_get_within}
 use Rattle.i2c_base.specs.declared.entry.Entry.TheVariants as entry
@@ -8,9 +8,11 @@ use Rattle.mux_plan.specs.declared.marks.MuxUpdate.{MuxUpdate}
 use Rattle.bus_spec.specs.Walk.{Lined, Shift, line_mux, line_level}
 use Rattle.seg_locks.specs.Locks.{LocksView}
 use Rattle.core_laws.specs.Spots.{turned_to, seen_of}
+use Rattle.bus_core.specs.Looks.{AreLooked, IsLookedAt}
 use Rattle.bus_core.specs.Marks.{words_after, AreHeld}
-use Rattle.bus_core.specs.Seats.{MaySettle, updates_of}
+use Rattle.bus_core.specs.Seats.{MaySettle, cut_of_line, updates_of}
 use Rattle.bus_core.proofs.Kept.{number-small, seated-here}
+use Rattle.bus_core.proofs.Looking.{looked-turned, turned, went-counted, went-looked}
 use Rattle.bus_core.proofs.SeatLemmas.{read_comes}
 use Rattle.bus_core.proofs.Switch.{may-shift, line-room, line-updates-own, line-may-settle, line-done, plug}
 use Rattle.bus_core.proofs.steps.switch.Goals as goal
@@ -21,7 +23,7 @@ index_mut-requires g c =
     let need = c.requires.next in
     let old = c.index_mut-seat.result.now in
     let comes = read_comes x c.args.place (Shift need.job) need.comes old c.index_mut-seat.ensures.value in
-    let plugged = plug g.P.Port g.C.Caller x c.requires.kept c.args.place old comes.0 need.job comes.1 in
+    let plugged = plug g.P.Port g.C.Caller x c.requires.rests.kept c.args.place old comes.0 need.job comes.1 in
     omega (
       arith,
       slice_get_within (root_ports g.P.Port x.ports.items) old.port plugged.0 plugged.1,
@@ -35,11 +37,12 @@ shift_line-failed-requires-after_bounds g c κs within root =
     let need = c.requires.next in
     let old = c.index_mut-seat.result.now in
     let comes = read_comes x c.args.place (Shift need.job) need.comes old c.index_mut-seat.ensures.value in
-    let plugged = plug g.P.Port g.C.Caller x c.requires.kept c.args.place old comes.0 need.job comes.1 in
+    let plugged = plug g.P.Port g.C.Caller x c.requires.rests.kept c.args.place old comes.0 need.job comes.1 in
     let q = c.index_mut.result.now in
     let at : plugged.0 ≡ root_port g.P.Port q = socket-is g.P.Port x.ports.items old.port q c.index_mut.ensures.value plugged.0 plugged.1 in
     let may = subst (λ (y : RootPort). MayShift g.P.Port.tells c.args.mux c.args.level y) at
-    (may-shift g.P.Port g.C.Caller x c.requires.kept c.args.place old comes.0 need.job comes.1 c.args.mux c.args.level need.of_mux need.to_level)
+    (may-shift g.P.Port g.C.Caller x c.requires.rests.kept c.args.place old comes.0 need.job comes.1 c.args.mux c.args.level need.of_mux
+    need.to_level)
     in
     record { idle = may.idle; has = may.has; room = may.room }
 
@@ -49,7 +52,7 @@ push-requires-clause-room g c =
     let need = c.requires.next in
     let old = c.index_mut-seat.result.now in
     let comes = read_comes x c.args.place (Shift need.job) need.comes old c.index_mut-seat.ensures.value in
-    line-room g.P.Port g.C.Caller x c.requires.kept c.args.place old comes.0 need.job comes.1
+    line-room g.P.Port g.C.Caller x c.requires.rests.kept c.args.place old comes.0 need.job comes.1
 
 pub line_done-requires : goal.line_done-requires
 line_done-requires g c =
@@ -57,7 +60,20 @@ line_done-requires g c =
     let need = c.requires.next in
     let old = c.index_mut-seat.result.now in
     let comes = read_comes x c.args.place (Shift need.job) need.comes old c.index_mut-seat.ensures.value in
-    (seated-here g.P.Port g.C.Caller x c.requires.kept c.args.place old comes.0).counted
+    (c.requires.rests.looked c.args.place old comes.0).step
+
+pub look-requires : goal.look-requires
+look-requires g c =
+    let x = c.args.parts.now in
+    let need = c.requires.next in
+    let old = c.index_mut-seat.result.now in
+    let comes = read_comes x c.args.place (Shift need.job) need.comes old c.index_mut-seat.ensures.value in
+    let went = c.line_done.ensures.went x.board x.locks (c.requires.rests.looked c.args.place old comes.0) in
+    let seated = seated-here g.P.Port g.C.Caller x c.requires.rests.kept c.args.place old comes.0 in
+    record {
+      fresh = c.line_done.ensures.fresh;
+      counted = went-counted x.board x.locks (Lined c.shift_line-failed.result) _ old c.line_done.new.self went seated.counted;
+    }
 
 pub set_marks-requires : goal.set_marks-requires
 set_marks-requires g c =
@@ -68,11 +84,11 @@ set_marks-requires g c =
     let failed = c.shift_line-failed.result in
     let t = c.line_done.new.self in
     let updates : c.as_slice.result.now ≡ updates_of x.board x.locks (Lined failed) old = c.as_slice.ensures.value
-    ∙ c.line_done.ensures.updates in
+    ∙ c.line_done.ensures.updates x.board x.locks (c.requires.rests.looked c.args.place old comes.0) in
     record {
-      caller = number-small g.P.Port g.C.Caller x c.requires.kept c.args.place old comes.0;
+      caller = number-small g.P.Port g.C.Caller x c.requires.rests.kept c.args.place old comes.0;
       held = subst (λ (ds : List MuxUpdate). AreHeld x.locks old.number ds) (sym updates)
-          (line-updates-own g.P.Port g.C.Caller x c.requires.kept c.args.place old comes.0 need.job comes.1 failed);
+          (line-updates-own g.P.Port g.C.Caller x c.requires.rests.kept c.args.place old comes.0 need.job comes.1 failed);
     }
 
 pub settle-requires : goal.settle-requires
@@ -82,20 +98,25 @@ settle-requires g c =
     let old = c.index_mut-seat.result.now in
     let comes = read_comes x c.args.place (Shift need.job) need.comes old c.index_mut-seat.ensures.value in
     let failed = c.shift_line-failed.result in
-    let t = c.line_done.new.self in
-    let updates : c.as_slice.result.now ≡ updates_of x.board x.locks (Lined failed) old = c.as_slice.ensures.value
-    ∙ c.line_done.ensures.updates in
-    let locks : c.set_marks.new.locks ≡ turned_to x.locks
-    (words_after (updates_of x.board x.locks (Lined failed) old) (seen_of x.locks)) =
-    c.set_marks.ensures ∙ ap (λ (ds : List MuxUpdate). turned_to x.locks (words_after ds (seen_of x.locks))) updates in
+    let looked = c.requires.rests.looked c.args.place old comes.0 in
+    let t = c.look.new.self in
+    let went = went-looked x.board x.locks (Lined failed) (cut_of_line failed) old c.line_done.new.self t
+    (c.line_done.ensures.went x.board x.locks looked) c.look.ensures.same (c.look.ensures.walk x.board) c.look.ensures.route in
+    let locks : c.set_marks.new.locks ≡ turned g.P.Port g.C.Caller x c.requires.rests.kept c.args.place old comes.0 (Shift need.job)
+    comes.1 (Lined failed) =
+    c.set_marks.ensures ∙ ap (λ (ds : List MuxUpdate). turned_to x.locks (words_after ds (seen_of x.locks)))
+    (c.as_slice.ensures.value ∙ c.line_done.ensures.updates x.board x.locks looked) in
     let entries : c.push.new.self.entries ≡ x.journal.entries ++ entry.Line old.number (line_mux need.job)
     (line_level need.job) failed ∷ [] = c.push.ensures.entries
     ∙ ap (λ (m : ℕ). x.journal.entries ++ entry.Line old.number m c.args.level failed ∷ []) (sym need.of_mux)
     ∙ ap (λ (l : ℕ). x.journal.entries ++ entry.Line old.number (line_mux need.job) l failed ∷ []) (sym need.to_level) in
     let room_bytes : c.push.new.self.room_bytes ≡ x.journal.room_bytes = (let b = c.push.ensures.room_bytes in omega (arith, b)) in
-    subst (λ (v : LocksView). MaySettle x.board v c.push.new.self t) (sym locks)
-    (line-may-settle g.P.Port g.C.Caller x c.requires.kept c.args.place old comes.0 need.job comes.1 failed t c.line_done.ensures.went
-    c.push.new.self entries c.push.ensures.room room_bytes)
+    record {
+      may = subst (λ (v : LocksView). MaySettle x.board v c.push.new.self t) (sym locks)
+          (line-may-settle g.P.Port g.C.Caller x c.requires.rests.kept c.args.place old comes.0 need.job comes.1 failed t went
+          c.push.new.self entries c.push.ensures.room room_bytes);
+      looked = c.look.ensures.looked;
+    }
 
 pub returns : goal.returns
 returns g c =
@@ -103,19 +124,21 @@ returns g c =
     let need = c.requires.next in
     let old = c.index_mut-seat.result.now in
     let comes = read_comes x c.args.place (Shift need.job) need.comes old c.index_mut-seat.ensures.value in
-    let plugged = plug g.P.Port g.C.Caller x c.requires.kept c.args.place old comes.0 need.job comes.1 in
     let failed = c.shift_line-failed.result in
-    let t = c.line_done.new.self in
-    let updates : c.as_slice.result.now ≡ updates_of x.board x.locks (Lined failed) old = c.as_slice.ensures.value
-    ∙ c.line_done.ensures.updates in
-    let locks : c.set_marks.new.locks ≡ turned_to x.locks
-    (words_after (updates_of x.board x.locks (Lined failed) old) (seen_of x.locks)) =
-    c.set_marks.ensures ∙ ap (λ (ds : List MuxUpdate). turned_to x.locks (words_after ds (seen_of x.locks))) updates in
+    let looked = c.requires.rests.looked c.args.place old comes.0 in
+    let t = c.look.new.self in
+    let went = went-looked x.board x.locks (Lined failed) (cut_of_line failed) old c.line_done.new.self t
+    (c.line_done.ensures.went x.board x.locks looked) c.look.ensures.same (c.look.ensures.walk x.board) c.look.ensures.route in
+    let locks : c.set_marks.new.locks ≡ turned g.P.Port g.C.Caller x c.requires.rests.kept c.args.place old comes.0 (Shift need.job)
+    comes.1 (Lined failed) =
+    c.set_marks.ensures ∙ ap (λ (ds : List MuxUpdate). turned_to x.locks (words_after ds (seen_of x.locks)))
+    (c.as_slice.ensures.value ∙ c.line_done.ensures.updates x.board x.locks looked) in
     let entries : c.push.new.self.entries ≡ x.journal.entries ++ entry.Line old.number (line_mux need.job)
     (line_level need.job) failed ∷ [] = c.push.ensures.entries
     ∙ ap (λ (m : ℕ). x.journal.entries ++ entry.Line old.number m c.args.level failed ∷ []) (sym need.of_mux)
     ∙ ap (λ (l : ℕ). x.journal.entries ++ entry.Line old.number (line_mux need.job) l failed ∷ []) (sym need.to_level) in
     let room_bytes : c.push.new.self.room_bytes ≡ x.journal.room_bytes = (let b = c.push.ensures.room_bytes in omega (arith, b)) in
+    let plugged = plug g.P.Port g.C.Caller x c.requires.rests.kept c.args.place old comes.0 need.job comes.1 in
     let q = c.index_mut.result.now in
     let shifted : Shifted g.P.Port.tells (line_mux need.job) (line_level need.job) failed (root_port g.P.Port q)
     (root_port g.P.Port (q.0, c.shift_line-failed.new.port)) =
@@ -124,11 +147,20 @@ returns g c =
     (subst (λ (m : ℕ). Shifted g.P.Port.tells m c.args.level failed (root_port g.P.Port q)
     (root_port g.P.Port (q.0, c.shift_line-failed.new.port))) (sym need.of_mux)
     (c.shift_line-failed.ensures.shifted q.0)) in
-    let all = line-done g.P.Port g.C.Caller x c.requires.kept c.args.place old comes.0 need.job comes.1 failed t c.line_done.ensures.went
+    let all = line-done g.P.Port g.C.Caller x c.requires.rests.kept c.args.place old comes.0 need.job comes.1 failed t went
     c.push.new.self entries c.push.ensures.room room_bytes
     (record x { ports = _; seats = _; locks = c.set_marks.new.locks; journal = c.settle.new.journal; updates = c.settle.new.updates }) refl
     locks (root_port g.P.Port q) (root_port g.P.Port (q.0, c.shift_line-failed.new.port))
     (socket-here g.P.Port x.ports.items old.port q c.index_mut.ensures.value plugged.0 plugged.1)
     (map-set (root_port g.P.Port) x.ports.items old.port (q.0, c.shift_line-failed.new.port)) shifted refl refl
     c.settle.new.self refl c.settle.result c.settle.ensures.settled c.settle.ensures.none c.settle.ensures.stays in
-    record { kept = all.0; stepped = all.1 }
+    record {
+      rests = record {
+        kept = all.0;
+        looked = subst (λ (v : LocksView). AreLooked x.board v (set x.seats.items c.args.place c.settle.new.self)) (sym locks)
+            (looked-turned g.P.Port g.C.Caller x c.requires.rests.kept c.args.place old comes.0 (Shift need.job) comes.1 (Lined failed)
+            c.settle.new.self c.requires.rests.looked
+            (subst (λ (v : LocksView). IsLookedAt x.board v c.settle.new.self) locks c.settle.ensures.looked));
+      };
+      stepped = all.1;
+    }

@@ -7,10 +7,13 @@ use Rattle.seg_locks.specs.Locks.{IsBelowHeld, holder_in, with_holder}
 use Rattle.seg_locks.specs.declared.locks.Held.{Held}
 use Rattle.core_laws.proofs.Laws.{take-wants}
 use Rattle.bus_core.specs.Kept.{run_of, whole_of}
+use Rattle.core_laws.specs.Spots.{seen_of}
+use Rattle.bus_core.specs.Looks.{IsLookedAt}
 use Rattle.bus_core.specs.Places.{place_of}
 use Rattle.bus_core.specs.Seats.{IsCounted, WentOn}
 use Rattle.bus_core.specs.declared.seat.Seat.{Seat}
 use Rattle.bus_core.proofs.Kept.{place-here, number-small, seated-here}
+use Rattle.bus_core.proofs.Looking.{looked-locks, same_words}
 use Rattle.bus_core.proofs.Locks.{is_given, take-room, take-kept, take-stepped}
 use Rattle.bus_core.proofs.SeatLemmas.{read_here}
 use Rattle.bus_core.proofs.steps.take.Goals as goal
@@ -19,13 +22,17 @@ pub lock_done-requires : goal.lock_done-requires
 lock_done-requires g c =
     let x = c.args.parts.now in
     let s = c.requires.next.seat in
-    subst IsCounted (sym (read_here x.seats.items c.args.place s c.index_mut-seat.result.now c.requires.next.here
-    c.index_mut-seat.ensures.value))
-    (seated-here g.P.Port g.C.Caller x c.requires.kept c.args.place s c.requires.next.here).counted
+    let is = sym (read_here x.seats.items c.args.place s c.index_mut-seat.result.now c.requires.next.here
+    c.index_mut-seat.ensures.value) in
+    record {
+      looked = subst (IsLookedAt x.board x.locks) is (c.requires.rests.looked c.args.place s c.requires.next.here);
+      counted = subst IsCounted is (seated-here g.P.Port g.C.Caller x c.requires.rests.kept c.args.place s c.requires.next.here).counted;
+    }
 
 pub push-requires-clause-room : goal.push-requires-clause-room
 push-requires-clause-room g c =
-    take-room g.P.Port g.C.Caller c.args.parts.now c.requires.kept c.args.place c.requires.next.seat c.requires.next.here c.args.lock.now
+    take-room g.P.Port g.C.Caller c.args.parts.now c.requires.rests.kept c.args.place c.requires.next.seat c.requires.next.here
+    c.args.lock.now
     c.requires.next.next
 
 pub take-requires : goal.take-requires
@@ -34,16 +41,17 @@ take-requires g c =
     let s = c.requires.next.seat in
     let here = c.requires.next.here in
     let number : c.lock_done.new.self.number ≡ s.number =
-    ap (λ (y : Seat _). y.number) c.lock_done.ensures.same
+    ap (λ (y : Seat _). y.number) c.lock_done.ensures.went.same
     ∙ ap (λ (y : Seat _). y.number)
     (read_here x.seats.items c.args.place s c.index_mut-seat.result.now here c.index_mut-seat.ensures.value) in
     let wants = take-wants (run_of g.P.Port g.C.Caller x)
-    (whole_of g.P.Port g.C.Caller x c.requires.kept.held c.requires.kept.owes) c.requires.kept.kept c.args.place
+    (whole_of g.P.Port g.C.Caller x c.requires.rests.kept.held c.requires.rests.kept.owes) c.requires.rests.kept.kept c.args.place
     (place_of g.C.Caller x.board s)
-    (place-here g.P.Port g.C.Caller x c.requires.kept c.args.place s here) c.args.lock.now c.requires.next.next in
+    (place-here g.P.Port g.C.Caller x c.requires.rests.kept c.args.place s here) c.args.lock.now c.requires.next.next in
     record {
       there = wants.0;
-      caller = subst (λ (n : ℕ). n < MOST_CALLERS) (sym number) (number-small g.P.Port g.C.Caller x c.requires.kept c.args.place s here);
+      caller = subst (λ (n : ℕ). n < MOST_CALLERS) (sym number)
+          (number-small g.P.Port g.C.Caller x c.requires.rests.kept c.args.place s here);
       below = subst (λ (n : ℕ). IsBelowHeld x.locks n c.args.lock.now) (sym number) wants.2;
     }
 
@@ -56,7 +64,7 @@ returns g c =
     let is = read_here x.seats.items c.args.place s c.index_mut-seat.result.now here c.index_mut-seat.ensures.value in
     let went : WentOn x.board x.locks Passed cut_at.No s t =
     subst (λ (y : Seat _). WentOn x.board x.locks Passed cut_at.No y t) is
-    (record { same = c.lock_done.ensures.same; walk = c.lock_done.ensures.walk; route = c.lock_done.ensures.route }) in
+    c.lock_done.ensures.went in
     let number : t.number ≡ s.number = ap (λ (y : Seat _). y.number) went.same in
     let given : c.take.new.self ≡ with_holder x.locks c.args.lock.now (Some t.number) =
     is_given (c.take.new.self ≡ with_holder x.locks c.args.lock.now (Some t.number))
@@ -66,8 +74,12 @@ returns g c =
     let entries = c.push.ensures.entries ∙ ap (λ (n : ℕ). x.journal.entries ++ entry.Take n c.args.lock.now ∷ []) number in
     let bytes : c.push.new.self.room_bytes ≡ x.journal.room_bytes = (let b = c.push.ensures.room_bytes in omega (arith, b)) in
     record {
-      kept = take-kept g.P.Port g.C.Caller x c.requires.kept c.args.place s here c.args.lock.now c.requires.next.next c.requires.free _ t
-          refl refl went locks refl entries c.push.ensures.room bytes;
-      stepped = take-stepped g.P.Port g.C.Caller x c.requires.kept c.args.place s here c.args.lock.now c.requires.next.next c.requires.free
-          _ t refl refl went locks refl entries c.push.ensures.room bytes refl refl;
+      rests = record {
+        kept = take-kept g.P.Port g.C.Caller x c.requires.rests.kept c.args.place s here c.args.lock.now c.requires.next.next
+            c.requires.free _ t refl refl went locks refl entries c.push.ensures.room bytes;
+        looked = looked-locks x.board x.locks c.take.new.self x.seats.items c.args.place t c.requires.rests.looked
+            (ap seen_of given ∙ same_words x.locks c.args.lock.now (Some t.number)) c.lock_done.ensures.looked;
+      };
+      stepped = take-stepped g.P.Port g.C.Caller x c.requires.rests.kept c.args.place s here c.args.lock.now c.requires.next.next
+          c.requires.free _ t refl refl went locks refl entries c.push.ensures.room bytes refl refl;
     }

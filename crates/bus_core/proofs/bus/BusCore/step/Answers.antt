@@ -20,6 +20,9 @@ index-requires g c =
     let all : vec_len x.places ≡ length x.places.items = x.places.ok.0 in
     omega (arith, low, all, c.from.ensures)
 
+pub step-requires-clause-rests : goal.step-requires-clause-rests
+step-requires-clause-rests g c κs within = record { kept = c.self.invariant.kept; looked = c.self.invariant.looked }
+
 pub step-requires-clause-there : goal.step-requires-clause-there
 step-requires-clause-there g c κs within =
     let x = c.self.inside.parts in
@@ -43,7 +46,7 @@ invariant_of-self g c =
     let low = slice_get_within x.places.items c.args.caller (Some place.place) place.at in
     let at = number_read x.places.items c.args.caller c.from.result c.index.result.now
     (Some c.in-Some.place) c.from.ensures low c.index.ensures c.in-Some.is in
-    core-after g.P.Port g.C.Caller x new core c.step.ensures.kept
+    core-after g.P.Port g.C.Caller x new core c.step.ensures.rests.kept c.step.ensures.rests.looked
     (came-by g.P.Port g.C.Caller x new core c.args.caller c.in-Some.place at c.step.result
     (λ is. subst (λ (k : ℕ). HasStepped g.P.Port g.C.Caller k x new) c.from-in-Some.ensures (c.step.ensures.stepped is))
     (λ l h is. (c.step.ensures.blocked l h is).0)
@@ -69,7 +72,8 @@ returns-in-Some g c =
     record {
       opening = opening-same g.P.Port g.C.Caller x new come ∙ ap (λ (v : CoreState _). v.opening) c.self.view_is;
       roots = roots-same g.P.Port g.C.Caller x new come ∙ ap roots_in c.self.view_is;
-      told = λ tell. core-told g.P.Port g.C.Caller new (core-after g.P.Port g.C.Caller x new core c.step.ensures.kept come) tell;
+      told = λ tell. core-told g.P.Port g.C.Caller new (core-after g.P.Port g.C.Caller x new core c.step.ensures.rests.kept
+          c.step.ensures.rests.looked come) tell;
       stepped = λ is. subst (λ (v : CoreState _). HasAdded asked tells c.args.caller v (state_of g.P.Port g.C.Caller new)) c.self.view_is
           (added g.P.Port g.C.Caller x new c.args.caller
           (has-made g.P.Port g.C.Caller x core.kept core.placed c.args.caller c.in-Some.place at new

@@ -4,16 +4,21 @@ use Rattle.bus_core.specs.Seats.{cut_of_line}
 use Rattle.bus_core.proofs.seat.Seat.line_done.Goals.{then-failed, else-failed}
 use Rattle.bus_core.proofs.seat.Seat.line_done.Goals as goal
 
-pub returns-clause-went : goal.returns-clause-went
-returns-clause-went g c =
+pub returns : goal.returns
+returns g c =
     let old = c.args.self.now in
+    let on = c.advance_walk.ensures in
     let cut : c.if-failed.self ≡ cut_of_line c.args.failed =
     elim c.if-failed.branch [
       | then-failed x ↦ rw x.if-failed.true x.self-is
       | else-failed x ↦ rw x.if-failed.false x.self-is
     ] in
     record {
-      same = c.advance_walk.ensures.same ∙ ap (λ (k : Cut). record old { walk = c.advance_walk.new.self.walk; cut = k }) cut;
-      walk = c.advance_walk.ensures.walk;
-      route = c.advance_walk.ensures.route;
+      went = λ b v looked. record {
+        same = on.same ∙ ap (λ (k : Cut). record old { walk = c.advance_walk.new.self.walk; cut = k }) cut;
+        walk = on.walk b v looked;
+        route = on.route;
+      };
+      updates = on.updates;
+      fresh = on.fresh;
     }

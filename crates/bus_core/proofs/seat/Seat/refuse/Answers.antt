@@ -3,27 +3,32 @@ use Rattle.i2c_base.specs.Need.{bytes_given}
 use Rattle.i2c_base.specs.declared.entry.Entry.{Entry}
 use Rattle.i2c_base.specs.declared.reply.Reply.TheVariants as reply
 use Rattle.bus_core.specs.Kept.{roots_of}
+use Rattle.bus_core.specs.Looks.{IsLookedAt}
 use Rattle.bus_core.specs.Replies.{reply_decided}
 use Rattle.bus_core.specs.Seats.{IsCounted}
 use Rattle.bus_core.proofs.Reseating.{settled, settle_entry, may_end_refused, refused}
 use Rattle.bus_core.proofs.seat.Seat.refuse.Goals as goal
 
 pub push-requires-clause-room : goal.push-requires-clause-room
-push-requires-clause-room g c = c.requires.room
+push-requires-clause-room g c = c.requires.may.room
 
 pub push-requires-clause-room_bytes : goal.push-requires-clause-room_bytes
 push-requires-clause-room_bytes g c = rw (c.settle_entry.ensures.bytes, c.decide-decided.ensures.reply) (omega arith)
 
 pub lock_done-requires : goal.lock_done-requires
-lock_done-requires g c = subst IsCounted (sym c.decide-decided.ensures.same) c.requires.seated.counted
+lock_done-requires g c =
+    record {
+      looked = subst (IsLookedAt c.args.board.now c.args.locks.now) (sym c.decide-decided.ensures.same) c.requires.looked;
+      counted = subst IsCounted (sym c.decide-decided.ensures.same) c.requires.may.seated.counted;
+    }
 
 pub end-requires-clause-may : goal.end-requires-clause-may
 end-requires-clause-may g c κs within =
     let old = c.args.self.now in
     let d = c.decide-decided.ensures in
-    let p = c.lock_done.ensures in
+    let p = c.lock_done.ensures.went in
     may_end_refused g.C.Caller c.args.board.now c.args.locks.now
-    (roots_of c.args.ports.now) old c.lock_done.new.self c.lock_done.new.self c.args.errno c.args.journal.now c.requires
+    (roots_of c.args.ports.now) old c.lock_done.new.self c.lock_done.new.self c.args.errno c.args.journal.now c.requires.may
     (settled c.args.board.now c.args.locks.now old c.decide-decided.new.self c.lock_done.new.self
     (Some c.args.errno) c.decide-decided.result d.same p.same d.reply p.walk p.route)
 
@@ -31,12 +36,12 @@ pub returns-clause-refused : goal.returns-clause-refused
 returns-clause-refused g c =
     let old = c.args.self.now in
     let d = c.decide-decided.ensures in
-    let p = c.lock_done.ensures in
+    let p = c.lock_done.ensures.went in
     let made = reply_decided c.decide-decided.result c.decide-decided.new.self.replies in
     let got : made ≡ reply.Err c.args.errno = d.reply in
     record {
       ended = refused g.C.Caller c.args.board.now c.args.locks.now
-          (roots_of c.args.ports.now) old c.lock_done.new.self c.end.new.self c.args.errno c.args.journal.now c.requires
+          (roots_of c.args.ports.now) old c.lock_done.new.self c.end.new.self c.args.errno c.args.journal.now c.requires.may
           (settled c.args.board.now c.args.locks.now old c.decide-decided.new.self c.lock_done.new.self
           (Some c.args.errno) c.decide-decided.result d.same p.same d.reply p.walk p.route)
           c.end.ensures.ended;
@@ -49,3 +54,6 @@ returns-clause-refused g c =
       room_bytes = (let none : length c.settle_entry.result.bytes.now ≡ 0 = ap length (c.settle_entry.ensures.bytes ∙ ap bytes_given got) in
           omega (arith, none, c.push.ensures.room_bytes));
     }
+
+pub returns-clause-looked : goal.returns-clause-looked
+returns-clause-looked g c = c.end.ensures.looked c.args.locks.now c.lock_done.ensures.looked

@@ -2,6 +2,7 @@ use Rattle.std.proofs.Common.{◌≡◌, ◌+◌, true, false, List, ℕ, ◌∷
 use Rattle.i2c_base.specs.Need.{bytes_given}
 use Rattle.i2c_base.specs.declared.entry.Entry.{Entry}
 use Rattle.bus_spec.specs.Stepwise.{reply_by}
+use Rattle.bus_core.specs.Looks.{IsLookedAt}
 use Rattle.bus_core.specs.Replies.{reply_decided}
 use Rattle.bus_core.specs.Seats.{IsCounted}
 use Rattle.bus_core.proofs.Reseating.{settled, settle_entry}
@@ -11,20 +12,26 @@ pub returns-in_default : goal.returns-in_default
 returns-in_default g c =
     record {
       settled = λ h. absurd (let f : false ≡ true = h in cc);
-      none = λ h verdict is. c.settles.ensures.none c.args.board.now c.args.locks.now verdict c.in_default.is is;
+      none = λ h verdict is. c.settles.ensures.none c.args.board.now c.args.locks.now verdict c.requires.looked c.in_default.is is;
       stays = λ h. (refl, refl);
+      looked = c.requires.looked;
     }
 
 pub push-requires-clause-room : goal.push-requires-clause-room
-push-requires-clause-room g c = (c.requires.room c.in-Some.verdict (c.in-Some.ensures.some c.args.board.now c.args.locks.now)).0
+push-requires-clause-room g c = (c.requires.may.room c.in-Some.verdict (c.in-Some.ensures.some c.args.board.now c.args.locks.now
+    c.requires.looked)).0
 
 pub push-requires-clause-room_bytes : goal.push-requires-clause-room_bytes
 push-requires-clause-room_bytes g c =
-    let room = (c.requires.room c.in-Some.verdict (c.in-Some.ensures.some c.args.board.now c.args.locks.now)).1 in
+    let room = (c.requires.may.room c.in-Some.verdict (c.in-Some.ensures.some c.args.board.now c.args.locks.now c.requires.looked)).1 in
     rw (c.settle_entry.ensures.bytes, c.decide-decided.ensures.reply) room
 
 pub lock_done-requires : goal.lock_done-requires
-lock_done-requires g c = subst IsCounted (sym c.decide-decided.ensures.same) c.requires.counted
+lock_done-requires g c =
+    record {
+      looked = subst (IsLookedAt c.args.board.now c.args.locks.now) (sym c.decide-decided.ensures.same) c.requires.looked;
+      counted = subst IsCounted (sym c.decide-decided.ensures.same) c.requires.may.counted;
+    }
 
 pub returns-clause-settled : goal.returns-clause-settled
 returns-clause-settled g c =
@@ -32,13 +39,13 @@ returns-clause-settled g c =
     let old = c.args.self.now in
     let m = c.decide-decided.new.self in
     let d = c.decide-decided.ensures in
-    let p = c.lock_done.ensures in
+    let p = c.lock_done.ensures.went in
     let verdict = c.in-Some.verdict in
     let made = reply_decided c.decide-decided.result m.replies in
     let got : made ≡ reply_by verdict (Some old.transfer) old.replies.got = d.reply in (
       verdict,
       record {
-        next = c.in-Some.ensures.some c.args.board.now c.args.locks.now;
+        next = c.in-Some.ensures.some c.args.board.now c.args.locks.now c.requires.looked;
         settled = settled c.args.board.now c.args.locks.now old m c.lock_done.new.self verdict c.decide-decided.result d.same p.same d.reply
             p.walk p.route;
         entries = c.push.ensures.entries
