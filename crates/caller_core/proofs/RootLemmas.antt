@@ -1,5 +1,5 @@
--- What one command more adds to the roots that are named, and to the cost.
-use Rattle.std.proofs.Common.{◌≡◌, ℕ, zero, suc, ◌+◌, ◌*◌, ◌%◌, ◌^◌, ◌<◌, inl, inr, Bool, true, false, cond, List, [], ◌∷◌, ◌++◌, length, take, get_or, max, Some, None, refl, sym, ap, subst, ◌∙◌, arith}
+-- What one command or one transfer more adds to the roots that are named, and to the other totals.
+use Rattle.std.proofs.Common.{◌≡◌, ℕ, zero, suc, ◌+◌, ◌*◌, ◌%◌, ◌^◌, ◌<◌, ◌≤◌, inl, inr, Bool, true, false, cond, List, [], ◌∷◌, ◌++◌, length, take, get_or, max, Some, None, refl, sym, ap, subst, ◌∙◌, arith}
 use Rattle.std.specs.Prelude.{nat_lt, bit_or, ◌||◌, ◌&&◌, ◌==◌}
 use Rattle.std.specs.List.{sum_by, list_any}
 use Rattle.std.specs.Int.{bit_at}
@@ -15,6 +15,7 @@ use Rattle.i2c_spec.specs.Tree.{buses, root_of, root_named}
 use Rattle.tools.specs.Commands.{transfers_of}
 use Rattle.caller_core.specs.Roots.{names_root, command_names, HasBits}
 use Rattle.caller_core.specs.View.{CommandView}
+use Rattle.caller_core.specs.declared.totals.Totals.{Totals}
 
 -- a byte with one bit
 pub shifted : (k : ℕ) → k < 8 → 1 * 2 ^ k % 256 ≡ 2 ^ k
@@ -58,7 +59,7 @@ or_bits true false = refl
 or_bits false true = refl
 or_bits false false = refl
 
-pub no_bits : {X : Type 0} (test : ℕ → X → Bool) → HasBits test [] 0
+no_bits : {X : Type 0} (test : ℕ → X → Bool) → HasBits test [] 0
 no_bits test = record { exactly = bit_at-zero }
 
 -- the bits of one more
@@ -76,7 +77,7 @@ module _ {X : Type 0} (test : ℕ → X → Bool) (xs : List X) where
           ∙ or_bits (list_any (test r) xs) (test r x)
           ∙ ap (λ (v : Bool). cond v 1 0) (sym (list_any-append (test r) xs (x ∷ [])))
 
-pub bits_more : {X : Type 0} (test : ℕ → X → Bool) (xs : List X) (i : ℕ) (x : X) (bits bit : ℕ) → i < length xs → x ≡ get_or xs i x
+bits_more : {X : Type 0} (test : ℕ → X → Bool) (xs : List X) (i : ℕ) (x : X) (bits bit : ℕ) → i < length xs → x ≡ get_or xs i x
     → HasBits test (take i xs) bits → IsBit test x bit → HasBits test (take (i + 1) xs) (bit_or bits bit)
 bits_more test xs i x bits bit within at had one =
     let more : take (i + 1) xs ≡ take i xs ++ x ∷ [] = take_more xs i x within ∙ ap (λ y. take i xs ++ y ∷ []) (sym at) in
@@ -90,8 +91,56 @@ pub command_bits : (b : BoardView) (c : CommandView) (bits : ℕ) → HasBits (n
     → IsBit (command_names b) c bits
 command_bits b c bits had = record { exactly = had.exactly }
 
-pub sum_more : {X : Type 0} (f : X → ℕ) (xs : List X) (i : ℕ) (x : X) (sum : ℕ) → i < length xs → x ≡ get_or xs i x
+sum_more : {X : Type 0} (f : X → ℕ) (xs : List X) (i : ℕ) (x : X) (sum : ℕ) → i < length xs → x ≡ get_or xs i x
     → sum ≡ sum_by f (take i xs) → sum + f x ≡ sum_by f (take (i + 1) xs)
 sum_more f xs i x sum within at e =
     let more : take (i + 1) xs ≡ take i xs ++ x ∷ [] = take_more xs i x within ∙ ap (λ y. take i xs ++ y ∷ []) (sym at) in
     omega (arith, e, ap (sum_by f) more, sum_by_push f (take i xs) x)
+
+-- sums over the first elements, with a bound for each element
+module _ {X : Type 0} (costs counts brings : X → ℕ) (names : ℕ → X → Bool) (most_cost most_replies most_bytes : ℕ) where
+  pub record AreSums (xs : List X) (i : ℕ) (t : Totals) : Type 0 where
+    pub cost : t.cost ≡ sum_by costs (take i xs)
+    pub small : t.cost ≤ most_cost * i
+    pub replies : t.replies ≡ sum_by counts (take i xs)
+    pub few : t.replies ≤ most_replies * i
+    pub bytes : t.bytes ≡ sum_by brings (take i xs)
+    pub few_bytes : t.bytes ≤ most_bytes * i
+    pub roots : HasBits names (take i xs) t.roots
+
+  pub record IsOne (x : X) (one : Totals) : Type 0 where
+    pub cost : one.cost ≡ costs x
+    pub small : one.cost ≤ most_cost
+    pub replies : one.replies ≡ counts x
+    pub few : one.replies ≤ most_replies
+    pub bytes : one.bytes ≡ brings x
+    pub few_bytes : one.bytes ≤ most_bytes
+    pub roots : IsBit names x one.roots
+
+  pub sums_none : (xs : List X) → AreSums xs 0 (record { cost = 0; replies = 0; bytes = 0; roots = 0 })
+  sums_none xs = record {
+    cost = refl;
+    small = omega arith;
+    replies = refl;
+    few = omega arith;
+    bytes = refl;
+    few_bytes = omega arith;
+    roots = no_bits names;
+  }
+
+  pub sums_more : (xs : List X) (i : ℕ) (x : X) (t one : Totals) → AreSums xs i t → i < length xs → x ≡ get_or xs i x → IsOne x one
+      → AreSums xs (i + 1) (record {
+        cost = t.cost + one.cost;
+        replies = t.replies + one.replies;
+        bytes = t.bytes + one.bytes;
+        roots = bit_or t.roots one.roots;
+      })
+  sums_more xs i x t one was within at is = record {
+    cost = ap (λ k. t.cost + k) is.cost ∙ sum_more costs xs i x t.cost within at was.cost;
+    small = omega (arith, was.small, is.small);
+    replies = ap (λ k. t.replies + k) is.replies ∙ sum_more counts xs i x t.replies within at was.replies;
+    few = omega (arith, was.few, is.few);
+    bytes = ap (λ k. t.bytes + k) is.bytes ∙ sum_more brings xs i x t.bytes within at was.bytes;
+    few_bytes = omega (arith, was.few_bytes, is.few_bytes);
+    roots = bits_more names xs i x t.roots one.roots within at was.roots is.roots;
+  }

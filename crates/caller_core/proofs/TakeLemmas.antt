@@ -206,7 +206,8 @@ module _ (script : ScriptView) (cs : List CommandView) (taken : PackedView Reply
           (λ xs. sum_left most_brought (progress cs xs)) now,
     )
 
-    pub kept_over : (end : ℕ) (begins : Option RunView) → is_answered k.turn.command.cmd (length (drop from (replies_of taken.items))) r ≡ true
+    pub kept_over : (end : ℕ) (begins : Option RunView) → is_answered k.turn.command.cmd (length (drop from (replies_of taken.items))) r
+        ≡ true
         → end ≡ length then.items
         → begins ≡ option_map (λ c. run_of c.cmd 0) (slice_get cs (place + 1))
         → text.bytes ≡ printed.bytes ++ command_text (answered cs (replies_of taken.items) place from run k.transfer r k.at k.turn)
@@ -231,7 +232,8 @@ module _ (script : ScriptView) (cs : List CommandView) (taken : PackedView Reply
           roots_are = was.roots_are;
         }
 
-    pub kept_same : (ran : RunView) → is_answered k.turn.command.cmd (length (drop from (replies_of taken.items))) r ≡ false → run ≡ Some ran
+    pub kept_same : (ran : RunView) → is_answered k.turn.command.cmd (length (drop from (replies_of taken.items))) r ≡ false
+        → run ≡ Some ran
         → IsCaller script cs then printed place from (Some (record ran { taken = ran.taken + 1 })) cost roots
     kept_same ran stays is =
         let own : List Reply = drop from (replies_of taken.items) in

@@ -26,7 +26,8 @@ next_turn p c cs replies = record { over = p.over ++ record { command = c; repli
 
 abbrev pub replied_to : Progress → List CommandView → Reply → Progress
 replied_to p [] r = p
-replied_to p (c ∷ cs) r = if is_answered c.cmd (length p.own) r then next_turn p c cs (p.own ++ r ∷ []) else record p { own = p.own ++ r ∷ [] }
+replied_to p (c ∷ cs) r = if is_answered c.cmd (length p.own) r then next_turn p c cs (p.own ++ r ∷ [])
+    else record p { own = p.own ++ r ∷ [] }
 
 abbrev pub replied : Progress → Reply → Progress
 replied p r = replied_to p p.left r
