@@ -2,6 +2,7 @@
 -- inductions go over the devices.
 use Rattle.std.proofs.Common.{◌≡◌, ℕ, ◌+◌, ◌<◌, ◌≤◌, ◌==◌, Bool, true, false, not, cond, ◌&&◌, ◌||◌, List, [], ◌∷◌, ◌++◌, length, take, get_or, Option, Some, None, refl, sym, ap, ◌∙◌, arith}
 use Rattle.std.specs.List.{list_any, position_from}
+use Rattle.std.proofs.lemmas.Bool.{eqb-true}
 use Rattle.std.proofs.lemmas.List.{take_more, length-take-le}
 use Rattle.i2c_base.specs.declared.tree.Grant.{Grant}
 use Rattle.i2c_base.specs.declared.tree.Grant.TheVariants.{Busy, Named, Nobody}
@@ -132,3 +133,23 @@ device_grant-more b ds i d s a force low =
     ∙ device_grant-push b (take i ds) (get_or ds i d) s a force
     ∙ ap (λ n. joined (device_grant b (take i ds) s a force) (grant_by b n (get_or ds i d) s a force))
     (length-take-le i ds (let h : i ≤ length ds = omega (arith, low) in h))
+
+-- a device adds what it says of its address, and nothing where the address is another
+pub joined_same : (b : BoardView) (n : ℕ) (d : DeviceView) (s a : ℕ) (force : Bool) (g : Grant) → (d.addr == a) ≡ true
+    → joined g (grant_by b n d s d.addr force) ≡ joined g (grant_by b n d s a force)
+joined_same b n d s a force g e =
+    ap (λ (x : ℕ). joined g (grant_by b n d s x force)) (eqb-true d.addr a e)
+
+pub joined_other : (b : BoardView) (n : ℕ) (d : DeviceView) (s a : ℕ) (force : Bool) (g : Grant) → (d.addr == a) ≡ false
+    → g ≡ joined g (grant_by b n d s a force)
+joined_other b n d s a force g e = by g ∙ ap (λ (t : Bool). joined g (told t)) (sym e)
+  where
+    told : Bool → Grant
+    told t =
+        cond (not t) Nobody
+        (cond (is_beside b s d.bus) Busy (cond (not (is_on_path b s d.bus)) Nobody (cond (d.bound && not force) Busy (Named n))))
+
+    by : (h : Grant) → h ≡ joined h Nobody
+    by Busy = refl
+    by Nobody = refl
+    by (Named k) = refl

@@ -42,21 +42,12 @@ impl Layout<'_> {
             && (self.is_on_path(seg, mux.bus) || self.is_beside(seg, mux.bus)))
     }
 
-    // What a device alone says of the address.
-    fn grant_by(
-        &self,
-        place: DevId,
-        device: &DeviceSpec,
-        seg: SegId,
-        addr: Addr,
-        force: bool,
-    ) -> Grant
+    // What a device alone says of its address.
+    fn grant_by(&self, place: DevId, device: &DeviceSpec, seg: SegId, force: bool) -> Grant
         requires { IsPlainBoard (board_of self.now) }
-        ensures { result ≡ grant_by (board_of self.now) place device.now seg addr force }
+        ensures { result ≡ grant_by (board_of self.now) place device.now seg device.now.addr force }
     {
-        if device.addr != addr {
-            Grant::Nobody
-        } else if self.is_beside(seg, device.bus) {
+        if self.is_beside(seg, device.bus) {
             Grant::Busy
         } else if !self.is_on_path(seg, device.bus) {
             Grant::Nobody
@@ -74,10 +65,12 @@ impl Layout<'_> {
     {
         let mut found = Grant::Nobody;
         for (place, device) in self.devices.iter().enumerate() {
-            found = joined(
-                found,
-                self.grant_by(DevId(place as u16), device, seg, addr, force),
-            );
+            if device.addr == addr {
+                found = joined(
+                    found,
+                    self.grant_by(DevId(place as u16), device, seg, force),
+                );
+            }
         }
         found
     }

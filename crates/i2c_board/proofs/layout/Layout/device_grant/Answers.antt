@@ -1,16 +1,28 @@
-use Rattle.std.proofs.Common.{take, sym, ap, ◌∙◌}
+use Rattle.std.proofs.Common.{◌≡◌, ◌==◌, take, sym, ap, ◌∙◌}
 use Rattle.i2c_base.specs.Board.{DeviceView}
 use Rattle.i2c_board.specs.Layouts.{board_of}
 use Rattle.i2c_board.specs.Passes.{device_grant, grant_by, joined}
-use Rattle.i2c_board.proofs.GrantLemmas.{device_grant-more}
+use Rattle.i2c_board.proofs.GrantLemmas.{device_grant-more, joined_same, joined_other}
 use Rattle.i2c_board.proofs.layout.Layout.device_grant.Goals as goal
+use Rattle.i2c_board.proofs.layout.Layout.device_grant.Goals.{then-eq, else-eq}
 
 pub loop-place-preserved : goal.loop-place-preserved
 loop-place-preserved c =
     let b = board_of c.args.self.now in
     let i = c.loop-place.place in
     let ds = b.devices in
-    let before = device_grant b (take i ds) c.args.seg c.args.addr c.args.force in
-    c.joined-found.ensures ∙ ap (λ g. joined g c.grant_by.result) c.loop-place.invariant ∙ ap (joined before) c.grant_by.ensures
-    ∙ ap (λ (d : DeviceView). joined before (grant_by b i d c.args.seg c.args.addr c.args.force)) c.device-item.is
-    ∙ sym (device_grant-more b ds i c.device-item.result c.args.seg c.args.addr c.args.force c.loop-place-test.true)
+    let d = c.device-item.result in
+    let s = c.args.seg in
+    let a = c.args.addr in
+    let force = c.args.force in
+    let before = device_grant b (take i ds) s a force in
+    let read = ap (λ (x : DeviceView). x.addr == a) (sym c.device.view_is) in
+    let found : c.if-eq.found ≡ joined c.loop-place.found (grant_by b i d s a force) =
+    elim c.if-eq.branch [
+      | then-eq w ↦ w.found-is ∙ w.joined-found.ensures ∙ ap (joined c.loop-place.found) w.grant_by.ensures
+          ∙ joined_same b i d s a force c.loop-place.found (read ∙ sym w.if-eq.ensures)
+      | else-eq w ↦ w.found-is ∙ joined_other b i d s a force c.loop-place.found (read ∙ sym w.if-eq.ensures)
+    ] in
+    found ∙ ap (λ g. joined g (grant_by b i d s a force)) c.loop-place.invariant
+    ∙ ap (λ (x : DeviceView). joined before (grant_by b i x s a force)) c.device-item.is
+    ∙ sym (device_grant-more b ds i d s a force c.loop-place-test.true)
