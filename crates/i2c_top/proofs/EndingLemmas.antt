@@ -85,14 +85,14 @@ record CameToEnd (form : Form) (old new : Outside) (result : Status) : Type 0 wh
   kept : KeepsShelf form old.shelf new.shelf
   ending : IsEnding form old new result
 
--- whatever was done to the rig, it was plugged at most once and is not left plugged
+-- whatever was done to the rig, it was plugged and unplugged at most once and is not left plugged
 left_after : (plugs : Bool) (rig rig_now : RigView) → rig_after plugs rig rig_now → IsRigLeft rig rig_now
-left_after true rig rig_now used = inr (record { plugs = used.plugs; unplugged = used.unplugged })
+left_after true rig rig_now used = inr (record { plugs = used.plugs; unplugs = inr used.unplugs; unplugged = used.unplugged })
 left_after false rig rig_now untouched = inl untouched
 
 left_of : (form : Form) (rig rig_now : RigView) (c : Class) → traced_of form rig rig_now c → IsRigLeft rig rig_now
 left_of form rig rig_now Done after = left_after form.plugs rig rig_now after
-left_of form rig rig_now NoRig tried = inr (record { plugs = tried.plugs; unplugged = tried.unplugged })
+left_of form rig rig_now NoRig tried = inr (record { plugs = tried.plugs; unplugs = inl tried.unplugs; unplugged = tried.unplugged })
 left_of form rig rig_now Silent left = left
 left_of form rig rig_now Misused never = absurd never
 left_of form rig rig_now Refused untouched = inl untouched

@@ -12,7 +12,7 @@ use Rattle.i2c_top.specs.Form.{KeepsShelf, KeepsSkipped}
 use Rattle.i2c_top.specs.Scripts.{texts_in}
 use Rattle.i2c_top.specs.forms.Replays.{Names, HasFiles, HasReport, HasReplayed, replay_form}
 use Rattle.i2c_top.specs.Runs.{HasRun, cost_of_texts, MOST_COST}
-use Rattle.i2c_top.specs.Traces.{ShelfView, RigView, Outside}
+use Rattle.i2c_top.specs.Traces.{ShelfView, RigView, Outside, IsAtMostOnce}
 use Rattle.i2c_top.specs.declared.status.Status.{Status}
 use Rattle.i2c_top.specs.declared.status.Status.TheVariants as status
 use Rattle.i2c_top.proofs.EndingLemmas.{came_to_success, text_refused, file_unread, rig_failed, memory_wanting}
@@ -116,17 +116,19 @@ module _ (names : Names) (shelf shelf_now : ShelfView) (rig rig_now : RigView) (
 
   -- one that failed is a refusal of it
   pub run_failed : {X : Type 0} (r : Result X Status) → (r ≡ Err status.Rig → rig_now.unplugs ≡ rig.unplugs)
+      → IsAtMostOnce rig.unplugs rig_now.unplugs
       → (r ≡ Err status.Rig → Rose rig.faults rig_now.faults) → IfErr r (λ e. (e ≡ status.Rig) ⊎ (e ≡ status.Memory))
       → IfErr r (CameToRefusal (replay_form names) shelf shelf_now rig rig_now)
-  run_failed (Ok x) unplugs rose failed = tt
-  run_failed (Err e) unplugs rose (inl h) =
+  run_failed (Ok x) unplugs once rose failed = tt
+  run_failed (Err e) unplugs once rose (inl h) =
       let is : ◌≡◌ {A = Result _ Status} (Err e) (Err status.Rig) = ap (λ x. Err x) h in
       subst (CameToRefusal (replay_form names) shelf shelf_now rig rig_now) (sym h)
       (rig_failed (replay_form names) shelf shelf_now rig rig_now refl files (rose is)
       (record { plugs = plugs; unplugs = unplugs is; unplugged = unplugged }) kept)
-  run_failed (Err e) unplugs rose (inr h) =
+  run_failed (Err e) unplugs once rose (inr h) =
       subst (CameToRefusal (replay_form names) shelf shelf_now rig rig_now) (sym h)
-      (memory_wanting (replay_form names) shelf shelf_now rig rig_now (inr (record { plugs = plugs; unplugged = unplugged })) kept)
+      (memory_wanting (replay_form names) shelf shelf_now rig rig_now
+      (inr (record { plugs = plugs; unplugs = once; unplugged = unplugged })) kept)
 
 -- a success was the report
 pub ended_replayed : (names : Names) (old new : Outside) (result : Status) → HasEndedAs (replay_form names) old new result

@@ -90,9 +90,14 @@ pub record IsUsed (old new : RigView) : Type 0 where
   pub unplugs : new.unplugs ≡ counted old.unplugs
   pub unplugged : new.plugged ≡ false
 
--- one plug was made, and the rig is not left plugged
+-- a count went up by one, or not at all
+abbrev pub IsAtMostOnce : ℕ → ℕ → Type 0
+IsAtMostOnce old new = (new ≡ old) ⊎ (new ≡ counted old)
+
+-- one plug was made, at most one unplug followed it, and the rig is not left plugged
 pub record IsPluggedOnce (old new : RigView) : Type 0 where
   pub plugs : new.plugs ≡ counted old.plugs
+  pub unplugs : IsAtMostOnce old.unplugs new.unplugs
   pub unplugged : new.plugged ≡ false
 
 abbrev pub IsRigLeft : RigView → RigView → Type 0

@@ -6,6 +6,7 @@ ghost use Rattle.ports.specs.Causes.{Rose, counted};
 ghost use Rattle.caller_core.specs.View.{CallerView};
 ghost use Rattle.i2c_top.specs.Cores.{AreFresh, IsLeftOf};
 ghost use Rattle.i2c_top.specs.Readings.{AreNamed};
+ghost use Rattle.i2c_top.specs.Traces.{IsAtMostOnce};
 ghost use Rattle.i2c_top.specs.Runs.{AreOpened, texts_of, cost_of_texts, MOST_COST, HasRun};
 ghost use Rattle.i2c_top.specs.declared.status.Status.TheVariants as status;
 
@@ -51,6 +52,7 @@ fn plugged<R: Rig>(
     ensures plugs { R.plugs rig.new ≡ counted (R.plugs rig.old) }
     ensures unplugs { OnOk result (R.unplugs rig.new ≡ R.unplugs rig.old) }
     ensures none { result ≡ Err status.Rig → R.unplugs rig.new ≡ R.unplugs rig.old }
+    ensures once { IsAtMostOnce (R.unplugs rig.old) (R.unplugs rig.new) }
     ensures unplugged { OnErr result (R.plugged rig.new ≡ false) }
 {
     let ports = match rig.plug(alloc, board) {
@@ -117,6 +119,7 @@ pub fn run_scripts<R: Rig>(
     ensures plugs { R.plugs rig.new ≡ counted (R.plugs rig.old) }
     ensures unplugs { OnOk result (R.unplugs rig.new ≡ counted (R.unplugs rig.old)) }
     ensures none { result ≡ Err status.Rig → R.unplugs rig.new ≡ R.unplugs rig.old }
+    ensures once { IsAtMostOnce (R.unplugs rig.old) (R.unplugs rig.new) }
     ensures unplugged { R.plugged rig.new ≡ false }
 {
     let (ports, room) = plugged(alloc, board, rig)?;
@@ -143,6 +146,7 @@ pub fn run_at_once<H: Threads + Wait + Sync, R: Rig, G: Gate + Sync>(
     ensures plugs { R.plugs rig.new ≡ counted (R.plugs rig.old) }
     ensures unplugs { OnOk result (R.unplugs rig.new ≡ counted (R.unplugs rig.old)) }
     ensures none { result ≡ Err status.Rig → R.unplugs rig.new ≡ R.unplugs rig.old }
+    ensures once { IsAtMostOnce (R.unplugs rig.old) (R.unplugs rig.new) }
     ensures unplugged { R.plugged rig.new ≡ false }
 {
     let (ports, room) = plugged(alloc, board, rig)?;
