@@ -3,35 +3,23 @@
 //! It hands the real files, the standard output and a rig to `top`, and ends with the status's number.
 #![tactic(auto)]
 
-ghost use Rattle.std.specs.Prelude.{◌≡◌, None, map, string_bytes, IfOk};
+ghost use Rattle.std.specs.Prelude.{◌≡◌, map, string_bytes, IfOk, OnErr};
 ghost use Rattle.i2c_top.specs.forms.{request_in, HasEnded};
-ghost use Rattle.i2c_top.specs.Traces.{outside};
+ghost use Rattle.i2c_top.specs.Traces.{outside, rig_view};
+ghost use Rattle.i2cbus.specs.Starts.{HasCalled};
+
+mod words;
 
 use i2c_outside::{FileShelf, OpenGate, Rig, Shelf, Sink, StdoutSink};
 use i2c_physics::SimRig;
 use i2c_top::{Status, top};
 use std::alloc::{AllocError, Global};
 use std::env::Env;
-use std::io::ErrorKind;
 use std::process::ExitCode;
 use std::rt::Files;
 use std::sync::Wait;
 use std::thread::Threads;
-use std::{env, io};
-
-// The words of the command line without the program's name.
-fn words_of<R: Env + AllocGlobal>(rt: &R) -> io::Result<Vec<String>> {
-    Ok(env::args(rt)?.skip(1).collect(rt.alloc())?)
-}
-
-// One empty word, which stands for words that are no text: it is none of the program's forms.
-fn no_words(alloc: Global) -> Result<Vec<String>, AllocError>
-    ensures { IfOk result (λ v. request_in (map string_bytes v.items) ≡ None) }
-{
-    let mut words = Vec::new(alloc);
-    words.push(String::new(alloc))?;
-    Ok(words)
-}
+use words::words_of;
 
 // Does what the words say, over whatever shelf, output and rig: the status is that of `top`.
 fn run<H: Threads + Wait + Sync, S: Shelf, K: Sink, R: Rig>(
@@ -43,30 +31,31 @@ fn run<H: Threads + Wait + Sync, S: Shelf, K: Sink, R: Rig>(
     rig: &mut R,
 ) -> Status
     requires { S.words shelf.old ≡ map string_bytes words.now }
-    ensures { HasEnded (request_in (map string_bytes words.now))
+    ensures ended { HasEnded (request_in (map string_bytes words.now))
         (outside S.Shelf K.Sink R.Rig R.P.tells shelf.old sink.old rig.old) (outside S.Shelf K.Sink R.Rig R.P.tells shelf.new sink.new rig.new) result }
+    ensures called { HasCalled (rig_view R.Rig R.P.tells rig.old) (rig_view R.Rig R.P.tells rig.new) result }
 {
     top(rt, alloc, words, shelf, sink, rig, &OpenGate)
 }
 
-// Reads the words and does what they say. Words that are no text are in no form; want of memory for them is told.
-fn start<R: Env + Files + Print + AllocGlobal + Threads + Wait + Sync>(
-    rt: &R,
-) -> Result<Status, AllocError> {
+// Reads the words and does what they say, over the real files and output: the status is that of `run`. `Err` is want of memory
+// for the words.
+fn start<E: Env + Files + Print + AllocGlobal + Threads + Wait + Sync, R: Rig>(
+    rt: &E,
+    rig: &mut R,
+) -> Result<Status, AllocError>
+    ensures called { IfOk result (HasCalled (rig_view R.Rig R.P.tells rig.old) (rig_view R.Rig R.P.tells rig.new)) }
+    ensures idle { OnErr result (rig.new ≡ rig.old) }
+{
     let alloc = rt.alloc();
-    let words = match words_of(rt) {
-        Ok(words) => words,
-        Err(error) if matches!(error.kind(), ErrorKind::OutOfMemory) => return Err(AllocError),
-        Err(_) => no_words(alloc)?,
-    };
+    let words = words_of(rt, alloc)?;
     let mut shelf = FileShelf::new(rt, words.as_slice());
     let mut sink = StdoutSink::new(rt);
-    let mut rig = SimRig::new();
-    Ok(run(rt, alloc, words.as_slice(), &mut shelf, &mut sink, &mut rig))
+    Ok(run(rt, alloc, words.as_slice(), &mut shelf, &mut sink, rig))
 }
 
 fn main(rt: HostRuntime) -> ExitCode {
-    let status = match start(&rt) {
+    let status = match start(&rt, &mut SimRig::new()) {
         Ok(status) => status,
         Err(AllocError) => Status::Memory,
     };
