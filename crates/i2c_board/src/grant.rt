@@ -58,7 +58,23 @@ impl Layout<'_> {
         }
     }
 
-    // What the devices say of it: one search.
+    // Joins what a device says of its address to what was found. Few devices are asked, so this stands apart from the search.
+    #[inline(never)]
+    fn join_device(
+        &self,
+        found: &mut Grant,
+        place: DevId,
+        device: &DeviceSpec,
+        seg: SegId,
+        force: bool,
+    )
+        requires { IsPlainBoard (board_of self.now) }
+        ensures { found.new ≡ passes.joined found.old (grant_by (board_of self.now) place device.now seg device.now.addr force) }
+    {
+        *found = joined(*found, self.grant_by(place, device, seg, force));
+    }
+
+    // What the devices say of an address: one search.
     fn device_grant(&self, seg: SegId, addr: Addr, force: bool) -> Grant
         requires { IsPlainBoard (board_of self.now) }
         ensures { result ≡ device_grant (board_of self.now) self.now.devices.now seg addr force }
@@ -66,10 +82,7 @@ impl Layout<'_> {
         let mut found = Grant::Nobody;
         for (place, device) in self.devices.iter().enumerate() {
             if device.addr == addr {
-                found = joined(
-                    found,
-                    self.grant_by(DevId(place as u16), device, seg, force),
-                );
+                self.join_device(&mut found, DevId(place as u16), device, seg, force);
             }
         }
         found

@@ -107,7 +107,9 @@ impl Layout<'_> {
         None
     }
 
-    // .. and the first device, by its number among the items, where no mux does.
+    // .. and the first device, by its number among the items, where no mux does. Its loop is run for each pair of devices,
+    // so it stands by itself.
+    #[inline(never)]
     fn first_device_at(&self, one: usize, addr: Addr, home: SegId) -> Option<usize>
         requires plain { IsPlainBoard (board_of self.now) }
         requires there { one < items (board_of self.now) }

@@ -19,7 +19,7 @@ loop-place-preserved c =
     let read = ap (λ (x : DeviceView). x.addr == a) (sym c.device.view_is) in
     let found : c.if-eq.found ≡ joined c.loop-place.found (grant_by b i d s a force) =
     elim c.if-eq.branch [
-      | then-eq w ↦ w.found-is ∙ w.joined-found.ensures ∙ ap (joined c.loop-place.found) w.grant_by.ensures
+      | then-eq w ↦ w.found-is ∙ w.join_device.ensures
           ∙ joined_same b i d s a force c.loop-place.found (read ∙ sym w.if-eq.ensures)
       | else-eq w ↦ w.found-is ∙ joined_other b i d s a force c.loop-place.found (read ∙ sym w.if-eq.ensures)
     ] in
