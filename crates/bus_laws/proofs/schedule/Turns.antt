@@ -75,6 +75,16 @@ last_at_end [] e ts = refl
 last_at_end (x ∷ []) e ts = refl
 last_at_end (x ∷ y ∷ es) e ts = last_at_end (y ∷ es) e ts
 
+-- what stands in front of some entries changes nothing of their last
+last_behind : (front : List Entry) (e : Entry) (es : List Entry) (ts : List Turn) → last_joins (front ++ e ∷ es) ts ≡ last_joins (e ∷ es) ts
+last_behind [] e es ts = refl
+last_behind (x ∷ []) e es ts = refl
+last_behind (x ∷ y ∷ front) e es ts = last_behind (y ∷ front) e es ts
+
+last_apart : (front added : List Entry) (ts : List Turn) → last_joins (front ++ added) ts ≡ false → last_joins added ts ≡ false
+last_apart front [] ts h = refl
+last_apart front (e ∷ es) ts h = sym (last_behind front e es ts) ∙ h
+
 all_true : (x y z : Bool) → x ≡ true → y ≡ true → z ≡ true → (x && (y && z)) ≡ true
 all_true true true true a b c = refl
 all_true true true false a b c = c
@@ -229,10 +239,15 @@ module _ (b : BoardView) (tree : IsTree b) (plain : IsPlainBoard b) (lines : Lin
       ∙ ap (joins_head e) (turn_alone b callers asks (e ∷ past) t is)
       ∙ joined
 
-  -- ONE STEP MORE
+  -- ONE STEP MORE, behind entries that stand in front of it
+  pub turns-behind : (callers : ℕ) (past front added : List Entry) → reverse past ≡ front ++ added → IsStepwise b callers asks past
+      → (now b asks past).due ≡ None → (t : Turn) → IsTurn b callers asks past t → turns (added ++ t.entries) ≡ turns added ++ t ∷ []
+  turns-behind callers past front added is steps none t turn =
+      turns_apart added t.entries (last_apart front added (turns t.entries)
+      (subst (λ (es : List Entry). last_joins es (turns t.entries) ≡ false) is (apart callers past steps none t turn)))
+      ∙ ap (λ (ts : List Turn). turns added ++ ts) (turn_alone b callers asks past t turn)
+
   pub turns-more : (callers : ℕ) (past : List Entry) → IsStepwise b callers asks past → (now b asks past).due ≡ None → (t : Turn)
       → IsTurn b callers asks past t
       → turns (reverse past ++ t.entries) ≡ turns (reverse past) ++ t ∷ []
-  turns-more callers past steps none t is =
-      turns_apart (reverse past) t.entries (apart callers past steps none t is)
-      ∙ ap (λ (ts : List Turn). turns (reverse past) ++ ts) (turn_alone b callers asks past t is)
+  turns-more callers past steps none t is = turns-behind callers past [] (reverse past) refl steps none t is
