@@ -143,37 +143,37 @@ module _ {P C S : Type 0} (g : PortGhosts P) (c : CallerGhosts C S) (x : CorePar
     past-is : (t : HasTurn b asks caller x.journal.entries new.journal.entries) → reverse new.journal.entries ≡ past_after past t.turn
     past-is t = ap reverse t.entries ∙ reverse-append x.journal.entries t.turn.entries
 
-    moved : (words left : List ℕ) (t : HasTurn b asks caller x.journal.entries new.journal.entries)
-        → KeepsTo b MOST_CALLERS asks words left (past_after past t.turn)
-        → KeepsTo new.board MOST_CALLERS (asks_in c new) words left (reverse new.journal.entries)
-    moved words left t keeps =
-        subst (λ (y : BoardView). KeepsTo y MOST_CALLERS (asks_in c new) words left (reverse new.journal.entries)) (sym made.come.board)
-        (subst (λ (ss : List (ℕ × S)). KeepsTo b MOST_CALLERS (asks_of c.asked ss) words left (reverse new.journal.entries))
+    moved : (words : List ℕ) (from : List Entry) (left : List ℕ) (t : HasTurn b asks caller x.journal.entries new.journal.entries)
+        → KeepsTo b MOST_CALLERS asks words from left (past_after past t.turn)
+        → KeepsTo new.board MOST_CALLERS (asks_in c new) words from left (reverse new.journal.entries)
+    moved words from left t keeps =
+        subst (λ (y : BoardView). KeepsTo y MOST_CALLERS (asks_in c new) words from left (reverse new.journal.entries)) (sym made.come.board)
+        (subst (λ (ss : List (ℕ × S)). KeepsTo b MOST_CALLERS (asks_of c.asked ss) words from left (reverse new.journal.entries))
         (sym made.come.scripts)
-        (subst (λ (y : List Entry). KeepsTo b MOST_CALLERS asks words left y) (sym (past-is t)) keeps))
+        (subst (λ (y : List Entry). KeepsTo b MOST_CALLERS asks words from left y) (sym (past-is t)) keeps))
 
-    pub least-keeps : ((words : List ℕ) (old : List Entry) → IsPlainBoard b → MeetsRules b → AsksForMessages asks
+    pub least-keeps : ((words : List ℕ) (from old : List Entry) → IsPlainBoard b → MeetsRules b → AsksForMessages asks
         → IsStepwise b MOST_CALLERS asks old → (now b asks old).due ≡ None
         → (t : Turn) → IsTurn b MOST_CALLERS asks old t → ((d : ℕ) → d < t.caller → IsStuck b asks old d)
-        → KeepsTo b MOST_CALLERS asks words [] old → KeepsTo b MOST_CALLERS asks words [] (past_after old t))
-        → (place : ℕ) → slice_get x.places.items caller ≡ Some (Some place) → AreHeldUpBelow x caller → (words : List ℕ)
-        → KeepsSchedule g c words [] x → KeepsSchedule g c words [] new
-    least-keeps law place is before words keeps tell =
+        → KeepsTo b MOST_CALLERS asks words from [] old → KeepsTo b MOST_CALLERS asks words from [] (past_after old t))
+        → (place : ℕ) → slice_get x.places.items caller ≡ Some (Some place) → AreHeldUpBelow x caller → (words : List ℕ) (from : List Entry)
+        → KeepsSchedule g c words from [] x → KeepsSchedule g c words from [] new
+    least-keeps law place is before words from keeps tell =
         let t = made.turn tell in
         let told = core.kept.kept.told tell in
-        moved words [] t (law words past run_fair.plain run_fair.rules run_fair.sends told.stepwise told.rests t.turn t.comes
+        moved words from [] t (law words from past run_fair.plain run_fair.rules run_fair.sends told.stepwise told.rests t.turn t.comes
         (λ d low. stuck-below caller place is before tell d (subst (λ (k : ℕ). d < k) t.own low)) (keeps tell))
 
-    pub word-keeps : ((words : List ℕ) (old : List Entry) → IsPlainBoard b → MeetsRules b → AsksForMessages asks
+    pub word-keeps : ((words : List ℕ) (from old : List Entry) → IsPlainBoard b → MeetsRules b → AsksForMessages asks
         → IsStepwise b MOST_CALLERS asks old → (now b asks old).due ≡ None
-        → (t : Turn) → IsTurn b MOST_CALLERS asks old t → (left : List ℕ) → KeepsTo b MOST_CALLERS asks words (t.caller ∷ left) old
-        → KeepsTo b MOST_CALLERS asks words left (past_after old t))
-        → (words left : List ℕ) → KeepsSchedule g c words (caller ∷ left) x → KeepsSchedule g c words left new
-    word-keeps law words left keeps tell =
+        → (t : Turn) → IsTurn b MOST_CALLERS asks old t → (left : List ℕ) → KeepsTo b MOST_CALLERS asks words from (t.caller ∷ left) old
+        → KeepsTo b MOST_CALLERS asks words from left (past_after old t))
+        → (words : List ℕ) (from : List Entry) (left : List ℕ) → KeepsSchedule g c words from (caller ∷ left) x → KeepsSchedule g c words from left new
+    word-keeps law words from left keeps tell =
         let t = made.turn tell in
         let told = core.kept.kept.told tell in
-        moved words left t (law words past run_fair.plain run_fair.rules run_fair.sends told.stepwise told.rests t.turn t.comes left
-        (subst (λ (k : ℕ). KeepsTo b MOST_CALLERS asks words (k ∷ left) past) (sym t.own) (keeps tell)))
+        moved words from left t (law words from past run_fair.plain run_fair.rules run_fair.sends told.stepwise told.rests t.turn t.comes left
+        (subst (λ (k : ℕ). KeepsTo b MOST_CALLERS asks words from (k ∷ left) past) (sym t.own) (keeps tell)))
 
   -- ALL ARE THROUGH where all are held up
   module _ (up : AllHeldUp x) where
@@ -214,36 +214,36 @@ module _ {P C S : Type 0} (g : PortGhosts P) (c : CallerGhosts C S) (x : CorePar
         }
 
   -- a caller that waits is passed over
-  pub waited-keeps : ((words : List ℕ) (old : List Entry) → IsPlainBoard b → MeetsRules b → AsksForMessages asks
+  pub waited-keeps : ((words : List ℕ) (from old : List Entry) → IsPlainBoard b → MeetsRules b → AsksForMessages asks
       → IsStepwise b MOST_CALLERS asks old
-      → (w : ℕ) → IsStuck b asks old w → (left : List ℕ) → KeepsTo b MOST_CALLERS asks words (w ∷ left) old
-      → KeepsTo b MOST_CALLERS asks words left old)
-      → (caller : ℕ) (new : CoreParts P C) → HasWaited g c caller x new → (words left : List ℕ) → KeepsSchedule g c words (caller ∷ left) x
-      → KeepsSchedule g c words left new
-  waited-keeps law caller new waited words left keeps =
-      subst (λ (y : CoreParts P C). KeepsSchedule g c words left y) (sym waited.same)
-      (λ tell. law words past run_fair.plain run_fair.rules run_fair.sends (core.kept.kept.told tell).stepwise caller
+      → (w : ℕ) → IsStuck b asks old w → (left : List ℕ) → KeepsTo b MOST_CALLERS asks words from (w ∷ left) old
+      → KeepsTo b MOST_CALLERS asks words from left old)
+      → (caller : ℕ) (new : CoreParts P C) → HasWaited g c caller x new → (words : List ℕ) (from : List Entry) (left : List ℕ) → KeepsSchedule g c words from (caller ∷ left) x
+      → KeepsSchedule g c words from left new
+  waited-keeps law caller new waited words from left keeps =
+      subst (λ (y : CoreParts P C). KeepsSchedule g c words from left y) (sym waited.same)
+      (λ tell. law words from past run_fair.plain run_fair.rules run_fair.sends (core.kept.kept.told tell).stepwise caller
       (waited.stuck tell) left (keeps tell))
 
   -- a word of the schedule: its caller steps, or is passed over
-  pub stepped-or-waited : ((words : List ℕ) (old : List Entry) → IsPlainBoard b → MeetsRules b → AsksForMessages asks
+  pub stepped-or-waited : ((words : List ℕ) (from old : List Entry) → IsPlainBoard b → MeetsRules b → AsksForMessages asks
       → IsStepwise b MOST_CALLERS asks old → (now b asks old).due ≡ None
-      → (t : Turn) → IsTurn b MOST_CALLERS asks old t → (left : List ℕ) → KeepsTo b MOST_CALLERS asks words (t.caller ∷ left) old
-      → KeepsTo b MOST_CALLERS asks words left (past_after old t))
-      → ((words : List ℕ) (old : List Entry) → IsPlainBoard b → MeetsRules b → AsksForMessages asks → IsStepwise b MOST_CALLERS asks old
-      → (w : ℕ) → IsStuck b asks old w → (left : List ℕ) → KeepsTo b MOST_CALLERS asks words (w ∷ left) old
-      → KeepsTo b MOST_CALLERS asks words left old)
+      → (t : Turn) → IsTurn b MOST_CALLERS asks old t → (left : List ℕ) → KeepsTo b MOST_CALLERS asks words from (t.caller ∷ left) old
+      → KeepsTo b MOST_CALLERS asks words from left (past_after old t))
+      → ((words : List ℕ) (from old : List Entry) → IsPlainBoard b → MeetsRules b → AsksForMessages asks → IsStepwise b MOST_CALLERS asks old
+      → (w : ℕ) → IsStuck b asks old w → (left : List ℕ) → KeepsTo b MOST_CALLERS asks words from (w ∷ left) old
+      → KeepsTo b MOST_CALLERS asks words from left old)
       → (caller : ℕ) (new : CoreParts P C) (made : Bool) → (made ≡ true → HasMade g c caller x new)
       → (made ≡ false → HasWaited g c caller x new)
-      → (E : Type 0) (words left : List ℕ) → (E → KeepsSchedule g c words (caller ∷ left) x)
-      → HasCome g c x new × (E → KeepsSchedule g c words left new)
-  stepped-or-waited steps passes caller new true made waited E words left keeps = (
+      → (words : List ℕ) (from : List Entry) (left : List ℕ) → KeepsSchedule g c words from (caller ∷ left) x
+      → HasCome g c x new × KeepsSchedule g c words from left new
+  stepped-or-waited steps passes caller new true made waited words from left keeps = (
     (made refl).come,
-    (λ e. word-keeps caller new (made refl) steps words left (keeps e)),
+    word-keeps caller new (made refl) steps words from left keeps,
   )
-  stepped-or-waited steps passes caller new false made waited E words left keeps = (
+  stepped-or-waited steps passes caller new false made waited words from left keeps = (
     subst (λ (y : CoreParts P C). HasCome g c x y) (sym (waited refl).same) (come-refl g c x),
-    (λ e. waited-keeps passes caller new (waited refl) words left (keeps e)),
+    waited-keeps passes caller new (waited refl) words from left keeps,
   )
 
 -- the words that are left

@@ -1,5 +1,5 @@
 -- The callers take their seats, one after the other: each finds its number without a place, and so at most eight do.
-use Rattle.std.proofs.Common.{◌≡◌, ◌⊎◌, ℕ, zero, suc, ◌+◌, ◌<◌, ◌≤◌, List, [], ◌∷◌, ◌++◌, length, set, get_or, replicate, Option, Some, None, refl, sym, ◌∙◌, ap, subst, arith, inl, inr}
+use Rattle.std.proofs.Common.{◌≡◌, ◌⊎◌, ℕ, zero, suc, ◌+◌, ◌<◌, ◌≤◌, List, [], ◌∷◌, ◌++◌, length, map, set, get_or, replicate, Option, Some, None, refl, sym, ◌∙◌, ap, subst, arith, inl, inr}
 use Rattle.std.specs.Prelude.{slice_get}
 use Rattle.std.specs.List.{sum_by}
 use Rattle.std.proofs.lemmas.List.{length-append, length-map, length-set}
@@ -10,8 +10,9 @@ use Rattle.i2c_base.specs.Board.{BoardView}
 use Rattle.i2c_base.specs.Limits.{MOST_CALLERS}
 use Rattle.core_laws.specs.Table.{AreDistinct}
 use Rattle.core_laws.proofs.Core.{at_set}
-use Rattle.bus_core.specs.Opens.{numbers_in, callers_scripts, without_place, IsFreshSeat, IsSeatOf, AreSeated}
+use Rattle.bus_core.specs.Opens.{numbers_in, callers_scripts, untaken, without_place, IsFreshSeat, IsSeatOf, AreSeated}
 use Rattle.bus_core.specs.Places.{script_of, scripts_of}
+use Rattle.bus_core.specs.State.{taken_of}
 use Rattle.bus_core.specs.declared.seat.Seat.{Seat}
 use Rattle.i2c_base.proofs.ListLemmas.{there, map_from}
 use Rattle.i2c_base.proofs.ListLemmas.{map_at}
@@ -35,7 +36,6 @@ pub push_here : {X : Type 0} (xs ys : List X) (y : X) → slice_get (xs ++ y ∷
 push_here [] ys y = refl
 push_here (x ∷ xs) ys y = push_here xs ys y
 
--- the new one at a place within a list
 -- two lists of one length whose places are the same
 same_lists : {X : Type 0} (xs ys : List X) → length xs ≡ length ys
     → ((i : ℕ) (x y : X) → slice_get xs i ≡ Some x → slice_get ys i ≡ Some y → x ≡ y) → xs ≡ ys
@@ -147,20 +147,31 @@ module _ {C S : Type 0} (c : CallerGhosts C S) (b : BoardView) (roots : List ℕ
               omega (arith, sums, is, left);
         }
 
-  -- behind the last their scripts are those of the callers
+  -- behind the last each seat tells of its caller what the caller itself does
+  seated-map : {X : Type 0} (f : Seat C → X) (h : ℕ × C → X)
+      → ((i : ℕ) (x : ℕ × C) (s : Seat C) → slice_get callers i ≡ Some x → IsFreshSeat c b roots x.0 x.1 s → f s ≡ h x)
+      → (seats : List (Seat C)) (places : List (Option ℕ)) → AreSeated c b roots callers (length callers) seats places
+      → map f seats ≡ map h callers
+  seated-map f h same seats places seated =
+      same_lists (map f seats) (map h callers) (length-map seats f ∙ seated.counted ∙ sym (length-map callers h))
+      (λ i a z at to.
+      let s = map_from f seats i a at in
+      let of = seated.fresh i s.0 s.1 in
+      let it : Some (h of.of) ≡ Some z = sym (map_at h callers i of.of of.here) ∙ to in
+      let is : h of.of ≡ z = cc in
+      sym s.2 ∙ same i of.of s.0 of.here of.fresh ∙ is)
+
+  -- so their scripts are those of the callers
   pub seated-all : (seats : List (Seat C)) (places : List (Option ℕ)) → AreSeated c b roots callers (length callers) seats places
       → scripts_of c seats ≡ callers_scripts c callers
-  seated-all seats places seated =
-      same_lists (scripts_of c seats) (callers_scripts c callers)
-      (length-map seats (script_of c) ∙ seated.counted ∙ sym (length-map callers (λ (x : ℕ × C). (x.0, c.script x.1))))
-      (λ i a z at to.
-      let s = map_from (script_of c) seats i a at in
-      let of = seated.fresh i s.0 s.1 in
-      let script : slice_get (callers_scripts c callers) i ≡ Some (of.of.0, c.script of.of.1) = map_at
-      (λ (x : ℕ × C). (x.0, c.script x.1)) callers i of.of of.here in
-      let f : Some (of.of.0, c.script of.of.1) ≡ Some z = sym script ∙ to in
-      let here : (of.of.0, c.script of.of.1) ≡ z = cc in
-      let number : s.0.number ≡ of.of.0 = of.fresh.number_is in
-      let same : c.script s.0.caller ≡ c.script of.of.1 = of.fresh.script in
-      let is : script_of c s.0 ≡ (of.of.0, c.script of.of.1) = cc in
-      sym s.2 ∙ is ∙ here)
+  seated-all = seated-map (script_of c) (λ (x : ℕ × C). (x.0, c.script x.1))
+      (λ i x s here fresh. let number : s.number ≡ x.0 = fresh.number_is in
+      let script : c.script s.caller ≡ c.script x.1 = fresh.script in cc)
+
+  -- .. and they have taken no reply
+  pub seated-untaken : ((i : ℕ) (x : ℕ × C) → slice_get callers i ≡ Some x → c.taken x.1 ≡ [])
+      → (seats : List (Seat C)) (places : List (Option ℕ)) → AreSeated c b roots callers (length callers) seats places
+      → taken_of c seats ≡ untaken callers
+  seated-untaken none = seated-map (λ (s : Seat C). (s.number, c.taken s.caller)) (λ (x : ℕ × C). (x.0, []))
+      (λ i x s here fresh. let number : s.number ≡ x.0 = fresh.number_is in
+      let taken : c.taken s.caller ≡ [] = fresh.taken ∙ none i x here in cc)

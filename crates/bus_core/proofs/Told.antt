@@ -1,5 +1,5 @@
 -- The state of a core, read off what it keeps.
-use Rattle.std.proofs.Common.{◌≡◌, ℕ, zero, suc, Bool, true, false, IsTrue, List, [], ◌∷◌, map, reverse, Option, Some, None, inl, inr, refl, sym, ◌∙◌, ap, subst}
+use Rattle.std.proofs.Common.{◌≡◌, ℕ, zero, suc, Bool, true, false, IsTrue, List, [], ◌∷◌, map, reverse, Option, Some, None, inl, inr, refl, sym, ◌∙◌, ap, subst, arith}
 use Rattle.std.specs.Prelude.{slice_get, if◌then◌else◌}
 use Rattle.std.specs.Option.{is_some}
 use Rattle.std.proofs.lemmas.Bool.Decides.{eqb_tells}
@@ -14,16 +14,17 @@ use Rattle.bus_laws.specs.Ready.{IsStuck}
 use Rattle.bus_spec.specs.Grammar.{first_act}
 use Rattle.bus_spec.specs.Past.{current}
 use Rattle.bus_message.specs.Ports.{root_port}
-use Rattle.core_laws.proofs.Laws.{finished-asks, free-ready, next-same}
+use Rattle.core_laws.proofs.Laws.{finished-asks, free-ready, holder-same, next-same, take-wants}
 use Rattle.core_laws.specs.Steps.{next_of}
+use Rattle.seg_locks.specs.Locks.{holder_in}
 use Rattle.bus_core.specs.Answers.{HasAdded, WaitsFor, HasUsedUp, IsLeast}
 use Rattle.bus_core.specs.Looks.{AreLooked}
 use Rattle.bus_core.specs.Kept.{asks_in, roots_of, run_of, whole_of, IsKept, IsCore, ArePlaced, HasStepped, HasCome}
-use Rattle.bus_core.specs.Opens.{IsOpenedWith, opening_of}
+use Rattle.bus_core.specs.Opens.{IsOpenedWith, opening_of, uncalled}
 use Rattle.bus_core.specs.Places.{walk_left, place_of, script_of, scripts_of}
 use Rattle.bus_core.specs.Ready.{HasPlace, IsLeastReady}
 use Rattle.bus_core.specs.Runs.{HasMade}
-use Rattle.bus_core.specs.State.{CoreState, CoreTold, has_caller, now_in, roots_in, state_of, worlds_of}
+use Rattle.bus_core.specs.State.{CoreState, CoreTold, has_caller, logs_of, now_in, roots_in, state_of, worlds_of}
 use Rattle.bus_core.specs.Steps.{IsBlockedAt, HasEndedAt}
 use Rattle.bus_core.specs.declared.parts.CoreParts.{CoreParts}
 use Rattle.bus_core.specs.declared.seat.Seat.{Seat}
@@ -65,6 +66,14 @@ pub roots-told : {P : Type 0} (world : P → World) (ports : List (ℕ × P))
     → map (λ (w : ℕ × World). w.0) (worlds_of world ports) ≡ roots_of ports
 roots-told world [] = refl
 roots-told world (p ∷ ps) = ap (λ (rs : List ℕ). p.0 ∷ rs) (roots-told world ps)
+
+-- ports with empty logs
+pub uncalled-told : {P : Type 0} (log : P → List PortCall) (ports : List (ℕ × P))
+    → ((k : ℕ) (x : ℕ × P) → slice_get ports k ≡ Some x → log x.1 ≡ []) → logs_of log ports ≡ uncalled ports
+uncalled-told log [] none = refl
+uncalled-told log (p ∷ ps) none =
+    ap (λ (calls : List PortCall). (p.0, calls) ∷ logs_of log ps) (none zero p refl)
+    ∙ ap (λ (ls : List (ℕ × List PortCall)). (p.0, []) ∷ ls) (uncalled-told log ps (λ k x at. none (suc k) x at))
 
 -- what a core was opened with
 pub opened-with : {P C S : Type 0} (g : PortGhosts P) (c : CallerGhosts C S) (b : BoardView) (ports : List (ℕ × P)) (callers : List (ℕ × C))
@@ -125,6 +134,7 @@ module _ {P C S : Type 0} (g : PortGhosts P) (c : CallerGhosts C S) (x : CorePar
       record {
         stepwise = told.stepwise;
         rests = told.rests;
+        locks = told.locks_told;
         worlds = λ k r w at.
             let q = map_from (λ (p : ℕ × P). (p.0, g.world p.1)) x.ports.items k (r, w) at in
             let its = told.ports_told k (root_port g q.0) (map_at (root_port g) x.ports.items k q.0 q.1) in
@@ -180,7 +190,17 @@ module _ {P C S : Type 0} (g : PortGhosts P) (c : CallerGhosts C S) (x : CorePar
     pub waits-for : (l : LockId) (h : ℕ) → IsBlockedAt x place l h → WaitsFor c.asked g.tells state caller l h
     waits-for l h blocked =
         record {
+          another = λ same.
+              let wants = take-wants (run_of g c x) (whole_of g c x core.kept.held core.kept.owes) core.kept.kept place
+              (place_of c b blocked.comes.seat) (place-here g c x core.kept place blocked.comes.seat blocked.comes.here)
+              l blocked.comes.next in
+              let own : holder_in x.locks l ≡ Some blocked.comes.seat.number = blocked.held
+              ∙ ap Some (same ∙ sym (numbered g c x core.kept core.placed caller place at blocked.comes.seat blocked.comes.here)) in
+              let low = wants.2 l own in omega (arith, low);
           held = blocked.held;
+          told = λ tell.
+              holder-same (run_of g c x) (whole_of g c x core.kept.held core.kept.owes) core.kept.kept tell place
+              (place_of c b blocked.comes.seat) (place-here g c x core.kept place blocked.comes.seat blocked.comes.here) l h blocked.held;
           next = λ tell.
               ap (λ (n : ℕ). first_act (current b (asks_in c x) (now_in c.asked state) n))
               (sym (numbered g c x core.kept core.placed caller place at blocked.comes.seat blocked.comes.here))

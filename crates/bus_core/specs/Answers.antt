@@ -4,6 +4,7 @@ use Rattle.i2c_base.specs.declared.ids.LockId.{LockId}
 use Rattle.i2c_base.specs.declared.reply.Reply.{Reply}
 use Rattle.i2c_base.specs.Transfer.{TransferView}
 use Rattle.bus_laws.specs.Ready.{IsStuck}
+use Rattle.bus_spec.specs.Readings.{holder as holder_of}
 use Rattle.bus_spec.specs.Stepwise.{IsNext}
 use Rattle.bus_spec.specs.Walk.{Take}
 use Rattle.seg_locks.specs.Locks.{holder_in}
@@ -21,10 +22,12 @@ pub record HasAdded {S : Type 0} (asked : S → List Reply → Option TransferVi
   pub room : new.journal.room < old.journal.room
   pub turn : IsTrue tells → HasTurn old.opening.board (asks_in_state asked old) caller old.journal.entries new.journal.entries
 
--- this caller takes this lock next, which another has
+-- this caller takes this lock next, which another has, by the lock words and by the journal
 pub record WaitsFor {S : Type 0} (asked : S → List Reply → Option TransferView) (tells : Bool) (v : CoreState S) (caller : ℕ) (l : LockId)
     (holder : ℕ) : Type 0 where
+  pub another : holder ≡ caller → ⊥
   pub held : holder_in v.locks l ≡ Some holder
+  pub told : IsTrue tells → holder_of (reverse v.journal.entries) l ≡ Some holder
   pub next : IsTrue tells → IsNext v.opening.board (asks_in_state asked v) (now_in asked v) caller (Take l)
 
 -- after the replies that it was handed, this caller asks for nothing

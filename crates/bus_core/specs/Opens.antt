@@ -2,6 +2,7 @@
 use Rattle.std.specs.Prelude.{◌≡◌, ℕ, ◌+◌, ◌*◌, ◌<◌, ◌≤◌, IsTrue, List, [], length, map, Option, Some, None, slice_get}
 use Rattle.std.specs.List.{sum_by}
 use Rattle.i2c_base.specs.declared.caller.Caller.{Ghosts as CallerGhosts}
+use Rattle.i2c_base.specs.declared.port.PortCall.{PortCall}
 use Rattle.i2c_base.specs.declared.port.Phase.TheVariants.{Idle}
 use Rattle.i2c_base.specs.declared.reply.Cut.TheVariants as cut_at
 use Rattle.i2c_base.specs.Board.{BoardView}
@@ -9,6 +10,7 @@ use Rattle.i2c_base.specs.Limits.{MOST_CALLERS, MOST_CALLS}
 use Rattle.ports.specs.declared.port.Port.{Ghosts as PortGhosts}
 use Rattle.i2c_spec.specs.Fair.{IsFairCaller}
 use Rattle.i2c_spec.specs.World.{opening_world}
+use Rattle.core_laws.specs.Opens.{AreFree}
 use Rattle.core_laws.specs.Table.{AreDistinct}
 use Rattle.seg_locks.specs.Locks.{LocksView}
 use Rattle.bus_core.specs.Looks.{IsLookedAt}
@@ -16,6 +18,7 @@ use Rattle.bus_core.specs.Kept.{IsSeated, roots_of}
 use Rattle.bus_core.specs.Opening.{Opening, HasRoot}
 use Rattle.bus_core.specs.Places.{scripts_of}
 use Rattle.bus_core.specs.Seats.{IsLoaded}
+use Rattle.bus_core.specs.State.{taken_of}
 use Rattle.bus_core.specs.declared.parts.CoreParts.{CoreParts}
 use Rattle.bus_core.specs.declared.seat.Seat.{Seat}
 use Rattle.i2c_base.specs.declared.reply.Reply.{Reply}
@@ -53,6 +56,14 @@ pub record MayOpen {P C S : Type 0} (p : PortGhosts P) (c : CallerGhosts C S) (b
       → t.bus < buses b → HasRoot (roots_of ports) (root_of b t.bus)
   pub covers : sum_by (λ (x : ℕ × C). c.left (c.script x.1) []) callers ≤ limit
   pub most : 2 * limit ≤ MOST_CALLS
+
+-- each caller's number, with no reply taken
+abbrev pub untaken : {C : Type 0} → List (ℕ × C) → List (ℕ × List Reply)
+untaken callers = map (λ (x : ℕ × _). (x.0, [])) callers
+
+-- each port's root, with an empty log
+abbrev pub uncalled : {P : Type 0} → List (ℕ × P) → List (ℕ × List PortCall)
+uncalled ports = map (λ (x : ℕ × _). (x.0, [])) ports
 
 -- a caller's seat, with its first transfer loaded
 pub record IsFreshSeat {C S : Type 0} (c : CallerGhosts C S) (b : BoardView) (roots : List ℕ) (number : ℕ) (caller : C)
@@ -101,5 +112,7 @@ pub record IsOpenedWith {P C S : Type 0} (p : PortGhosts P) (c : CallerGhosts C 
   pub ports_are : x.ports.items ≡ ports
   pub start : x.start.value.items ≡ ports
   pub scripts : scripts_of c x.seats.items ≡ callers_scripts c callers
+  pub taken : taken_of c x.seats.items ≡ untaken callers
+  pub locks : AreFree x.locks
   pub entries : x.journal.entries ≡ []
   pub room : x.journal.room ≡ limit

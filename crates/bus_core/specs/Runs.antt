@@ -1,6 +1,7 @@
 -- What a caller's step leaves of the core, and what is left when all are through.
 use Rattle.std.specs.Prelude.{◌≡◌, ℕ, ◌<◌, IsTrue, List, reverse, Some, slice_get}
 use Rattle.i2c_base.specs.declared.caller.Caller.{Ghosts as CallerGhosts}
+use Rattle.i2c_base.specs.declared.entry.Entry.{Entry}
 use Rattle.i2c_base.specs.Limits.{MOST_CALLERS}
 use Rattle.ports.specs.declared.port.Port.{Ghosts as PortGhosts}
 use Rattle.bus_laws.specs.Following.{KeepsTo}
@@ -28,6 +29,7 @@ pub record HasMadeLeast {P C S : Type 0} (p : PortGhosts P) (c : CallerGhosts C 
   pub before : AreHeldUpBelow old caller
   pub made : HasMade p c caller old new
 
--- whatever comes later, the journal so far keeps to a schedule of which these words are left
-abbrev pub KeepsSchedule : {P C S : Type 0} → PortGhosts P → CallerGhosts C S → List ℕ → List ℕ → CoreParts P C → Type 0
-KeepsSchedule p c words left x = IsTrue p.tells → KeepsTo x.board MOST_CALLERS (asks_in c x) words left (reverse x.journal.entries)
+-- whatever comes later, the journal so far keeps to a schedule that goes on from a past, of which these words are left
+abbrev pub KeepsSchedule : {P C S : Type 0} → PortGhosts P → CallerGhosts C S → List ℕ → List Entry → List ℕ → CoreParts P C → Type 0
+KeepsSchedule p c words from left x =
+    IsTrue p.tells → KeepsTo x.board MOST_CALLERS (asks_in c x) words from left (reverse x.journal.entries)

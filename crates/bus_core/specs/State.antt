@@ -12,6 +12,7 @@ use Rattle.bus_journal.specs.View.{JournalView}
 use Rattle.bus_spec.specs.Past.{Now, now}
 use Rattle.bus_spec.specs.Stepwise.{IsStepwise}
 use Rattle.bus_spec.specs.Walk.{Ends}
+use Rattle.core_laws.specs.Spots.{LocksTold}
 use Rattle.seg_locks.specs.Locks.{LocksView}
 use Rattle.bus_core.specs.Opening.{Opening}
 use Rattle.bus_core.specs.Places.{scripts_of, asks_of}
@@ -64,11 +65,12 @@ asks_in_state asked v = asks_of asked v.opening.scripts
 abbrev pub now_in : {S : Type 0} → (S → List Reply → Option TransferView) → CoreState S → Now
 now_in asked v = now v.opening.board (asks_in_state asked v) (reverse v.journal.entries)
 
--- over ports that tell: each entry might come where it did, and no settle is due; each port's world is that of its root,
--- and its log the calls of that
+-- over ports that tell: each entry might come where it did, and no settle is due; the lock words tell what the journal does;
+-- each port's world is that of its root, and its log the calls of that
 pub record CoreTold {S : Type 0} (asked : S → List Reply → Option TransferView) (v : CoreState S) : Type 0 where
   pub stepwise : IsStepwise v.opening.board MOST_CALLERS (asks_in_state asked v) (reverse v.journal.entries)
   pub rests : (now_in asked v).due ≡ None
+  pub locks : LocksTold v.opening.board (now_in asked v) v.locks
   pub worlds : (k r : ℕ) (w : World) → slice_get v.worlds k ≡ Some (r, w) → w ≡ (now_in asked v).worlds r
   pub logs : (k r : ℕ) (log : List PortCall) → slice_get v.logs k ≡ Some (r, log) → log ≡ reverse ((now_in asked v).calls r)
 

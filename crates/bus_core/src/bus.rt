@@ -1,9 +1,10 @@
 //! `BusCore`: callers and ports over a board, opened, stepped and taken apart.
 ghost use Rattle.std.specs.Prelude.{◌≡◌, ℕ, true, IsTrue, [], All, None, IfOk, IfSome};
 ghost use Rattle.i2c_base.specs.declared.ids.LockId.{LockId};
-ghost use Rattle.bus_spec.specs.Schedule.{Follows};
+ghost use Rattle.bus_laws.specs.Following.{GoesOnBy};
+ghost use Rattle.core_laws.specs.Opens.{AreFree};
 ghost use Rattle.bus_core.specs.Answers.{HasAdded, WaitsFor, HasUsedUp, IsLeast};
-ghost use Rattle.bus_core.specs.Opens.{MayOpen, opening_of};
+ghost use Rattle.bus_core.specs.Opens.{MayOpen, opening_of, uncalled, untaken};
 ghost use Rattle.bus_core.specs.Places.{scripts_of};
 ghost use Rattle.bus_core.specs.State.{AllThrough, CoreTold, has_caller, roots_in, worlds_of, logs_of, taken_of};
 ghost use Rattle.bus_core.specs.declared.steps.StepAnswer.TheVariants as answer;
@@ -65,6 +66,9 @@ impl<'b, P: Port, C: Caller> BusCore<'b, P, C> {
         requires { MayOpen P.Port C.Caller board.now ports.items callers.items limit }
         ensures opening { IfOk result (λ core. core.opening ≡ opening_of P.Port C.Caller board.now ports.items callers.items) }
         ensures worlds { IfOk result (λ core. core.worlds ≡ worlds_of P.world ports.items) }
+        ensures logs { IsTrue P.tells → IfOk result (λ core. core.logs ≡ uncalled ports.items) }
+        ensures taken { IfOk result (λ core. core.taken ≡ untaken callers.items) }
+        ensures locks { IfOk result (λ core. AreFree core.locks) }
         ensures entries { IfOk result (λ core. core.journal.entries ≡ []) }
         ensures room { IfOk result (λ core. core.journal.room ≡ limit) }
     {
@@ -112,6 +116,7 @@ impl<'b, P: Port, C: Caller> BusCore<'b, P, C> {
         ensures roots { roots_in self.new ≡ roots_in self.old }
         ensures told { IsTrue P.tells → CoreTold C.asked self.new }
         ensures through { AllThrough C.asked P.tells self.new }
+        ensures follows { IsTrue P.tells → GoesOnBy [] self.old.journal.entries self.new.journal.entries }
     {
         finish(&mut self.parts);
     }
@@ -124,7 +129,7 @@ impl<'b, P: Port, C: Caller> BusCore<'b, P, C> {
         ensures roots { roots_in self.new ≡ roots_in self.old }
         ensures told { IsTrue P.tells → CoreTold C.asked self.new }
         ensures through { AllThrough C.asked P.tells self.new }
-        ensures follows { IsTrue P.tells → self.old.journal.entries ≡ [] → Follows words.now self.new.journal.entries }
+        ensures follows { IsTrue P.tells → GoesOnBy words.now self.old.journal.entries self.new.journal.entries }
     {
         follow(&mut self.parts, words);
     }

@@ -1,6 +1,7 @@
 //! Many steps: by a schedule, and then until each script is used up.
 ghost use Rattle.std.specs.Prelude.{◌≡◌, ℕ, ◌<◌, true, false, IsTrue, List, [], All, Some, slice_get};
-ghost use Rattle.bus_spec.specs.Schedule.{Follows};
+ghost use Rattle.bus_laws.specs.Following.{GoesOnBy};
+ghost use Rattle.i2c_base.specs.declared.entry.Entry.{Entry};
 ghost use Rattle.i2c_base.specs.Limits.{MOST_CALLERS};
 ghost use Rattle.bus_core.specs.Kept.{IsCore, HasCome};
 ghost use Rattle.bus_core.specs.Ready.{IsHeldUpAt, AllHeldUp, HasPlace};
@@ -65,7 +66,8 @@ pub fn finish<P: Port, C: Caller>(parts: &mut CoreParts<'_, P, C>)
     ensures core { IsCore P.Port C.Caller parts.new }
     ensures come { HasCome P.Port C.Caller parts.old parts.new }
     ensures through { AllThrough C.asked P.tells (state_of P.Port C.Caller parts.new) }
-    ensures keeps { (words : List ℕ) → KeepsSchedule P.Port C.Caller words [] parts.old → KeepsSchedule P.Port C.Caller words [] parts.new }
+    ensures follows { IsTrue P.tells → GoesOnBy [] parts.old.journal.entries parts.new.journal.entries }
+    ensures keeps { (words : List ℕ) (from : List Entry) → KeepsSchedule P.Port C.Caller words from [] parts.old → KeepsSchedule P.Port C.Caller words from [] parts.new }
 {
     a_loop_follows();
     'steps: while advance_least(parts) {}
@@ -79,7 +81,7 @@ pub fn follow<P: Port, C: Caller>(parts: &mut CoreParts<'_, P, C>, words: &[u8])
     ensures core { IsCore P.Port C.Caller parts.new }
     ensures come { HasCome P.Port C.Caller parts.old parts.new }
     ensures through { AllThrough C.asked P.tells (state_of P.Port C.Caller parts.new) }
-    ensures follows { IsTrue P.tells → parts.old.journal.entries ≡ [] → Follows words.now parts.new.journal.entries }
+    ensures follows { IsTrue P.tells → GoesOnBy words.now parts.old.journal.entries parts.new.journal.entries }
 {
     a_loop_follows();
     for place in 0..words.len() {

@@ -8,10 +8,10 @@ pub use Rattle.core_laws.proofs.CoreSteps.{core-freed, core-message, core-settle
 pub use Rattle.core_laws.proofs.Ended.{all-finished, asks-finished, finished-asks, finished-over}
 pub use Rattle.core_laws.proofs.Going.{end-owes, going-asks, going-fits, settle-errs, settle-lone}
 pub use Rattle.core_laws.proofs.Loads.{seat-loaded, seat-over}
-pub use Rattle.core_laws.proofs.Opens.{core-opened, none-ready}
+pub use Rattle.core_laws.proofs.Opens.{core-opened, none-ready, opened-free}
 pub use Rattle.core_laws.proofs.Rooms.{bytes-message, bytes-settle, log-line, log-message, port-start, room-line, room-message, room-one}
 pub use Rattle.core_laws.proofs.Sent.{lined-leaves, sent-leaves}
-pub use Rattle.core_laws.proofs.Stuck.{free-ready, held-up-stuck, lone-due, next-same}
+pub use Rattle.core_laws.proofs.Stuck.{free-ready, held-up-stuck, holder-same, lone-due, next-same}
 pub use Rattle.core_laws.proofs.Turns.{turn-lone, turn-one, turn-two}
 pub use Rattle.core_laws.proofs.Wants.{
   call-wants,

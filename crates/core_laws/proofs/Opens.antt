@@ -19,11 +19,11 @@ use Rattle.mux_plan.specs.Plans.{slots_of}
 use Rattle.bus_laws.specs.Holds.{IsLockOf, IsMarkOn, HoldsLocks}
 use Rattle.bus_laws.specs.Waiting.{LocksKept, IsHeldUp}
 use Rattle.bus_laws.proofs.walk.Waits.{all-ended}
-use Rattle.seg_locks.specs.Locks.{LocksView, holder_in, rank_in}
+use Rattle.seg_locks.specs.Locks.{LocksView, holder_in, rank_in, opened}
 use Rattle.core_laws.specs.Spots.{seen_of, Spot, SpotTold, IsTold}
 use Rattle.core_laws.specs.Core.{Place, spot_of, numbers_of, trees_of, spots_of, pending, SeatKept, CoreKept, Run, Whole}
 use Rattle.core_laws.specs.Owed.{total}
-use Rattle.core_laws.specs.Opens.{IsOpened}
+use Rattle.core_laws.specs.Opens.{AreFree, IsOpened}
 use Rattle.bus_laws.specs.Stands.{IsOnce}
 use Rattle.core_laws.specs.Table.{TableKept}
 use Rattle.core_laws.proofs.Core.{holds-at}
@@ -37,6 +37,19 @@ none_at : (n k : ℕ) → slice_index_or (replicate n nobody_has) k nobody_has �
 none_at zero k = refl
 none_at (suc n) zero = refl
 none_at (suc n) (suc k) = none_at n k
+
+-- lock words as they are opened are free
+pub opened-free : (depths : List ℕ) (roots muxes : ℕ) → AreFree (opened depths roots muxes)
+opened-free depths roots muxes =
+    record {
+      holders = free;
+      marks = none_at (length depths);
+      kept = none_at muxes;
+    }
+  where
+    free : (l : LockId) → holder_in (opened depths roots muxes) l ≡ None
+    free (lock.Bus r) = none_at roots r
+    free (lock.Mux q) = none_at (length depths) q
 
 -- nothing was read of any
 none_pending : (places : List Place) → ((i : ℕ) (p : Place) → slice_get places i ≡ Some p → p.got ≡ []) → pending places ≡ 0
@@ -54,15 +67,8 @@ empty_at : (xs : List Place) (i : ℕ) (ls : List LockId) → slice_get (map (λ
 empty_at xs i ls h = (let x = map_from (λ (x : Place). nothing) xs i ls h in sym x.2)
 
 module _ (run : Run) (whole : Whole) (o : IsOpened run whole) where
-  nobody : (l : LockId) → holder_in whole.locks l ≡ None
-  nobody (lock.Bus r) = ap (λ (w : LocksView). slice_index_or w.roots r None) o.locks_free ∙ none_at (length run.board.roots) r
-  nobody (lock.Mux q) = ap (λ (w : LocksView). slice_index_or w.buses q None) o.locks_free ∙ none_at (length o.depths) q
-
-  unmarked : (q : ℕ) → slice_index_or whole.locks.marks q None ≡ None
-  unmarked q = ap (λ (w : LocksView). slice_index_or w.marks q None) o.locks_free ∙ none_at (length o.depths) q
-
-  unkept : (m : ℕ) → slice_index_or whole.locks.kept m None ≡ None
-  unkept m = ap (λ (w : LocksView). slice_index_or w.kept m None) o.locks_free ∙ none_at (length run.board.muxes) m
+  free : AreFree whole.locks
+  free = subst AreFree (sym o.locks_free) (opened-free o.depths (length run.board.roots) (length run.board.muxes))
 
   ranks : (l : LockId) → IsLockOf run.board l → rank_in whole.locks l ≡ rank run.board l
   ranks (lock.Bus r) is = refl
@@ -81,10 +87,10 @@ module _ (run : Run) (whole : Whole) (o : IsOpened run whole) where
         kept = ap (λ (w : LocksView). length w.kept) o.locks_free ∙ length-replicate (length run.board.muxes) nobody_has;
         deep = ap (λ (w : LocksView). length w.depths) o.locks_free ∙ o.deep.all;
         ranked = ranks;
-        named = λ l c h. absurd (let f : None ≡ Some c = sym (nobody l) ∙ h in cc);
+        named = λ l c h. absurd (let f : None ≡ Some c = sym (free.holders l) ∙ h in cc);
         has = λ i ls c at num l among. absurd (subst (λ (ks : List LockId). InLocks l ks) (empty_at whole.places i ls at) among);
         once = λ i ls at. subst (λ (ks : List LockId). IsOnce ks) (sym (empty_at whole.places i ls at)) tt;
-        home = λ q. subst (λ (m : Option ℕ). IsMarkOn run.board q m) (sym (unmarked q)) tt;
+        home = λ q. subst (λ (m : Option ℕ). IsMarkOn run.board q m) (sym (free.marks q)) tt;
       }
 
   told : IsTrue run.tells → IsTold run.board run.callers run.asks [] (spots_of whole.places) whole.locks whole.sockets None
@@ -104,9 +110,9 @@ module _ (run : Run) (whole : Whole) (o : IsOpened run whole) where
         locks_told = record {
           roots = table.roots;
           muxes = table.muxes;
-          holder = λ l is. nobody l;
-          mark = λ q. sym (unmarked q);
-          kept = λ m. sym (unkept m);
+          holder = λ l is. free.holders l;
+          mark = λ q. sym (free.marks q);
+          kept = λ m. sym (free.kept m);
         };
         ports_told = λ k y at. record { world = (o.worlds tell k y at).0; log = (o.worlds tell k y at).1 };
       }

@@ -35,7 +35,8 @@ module _ (run : Run) (whole : Whole) (core : CoreKept run whole) (tell : IsTrue 
   next-same = ap (λ (w : WalkTree). first_act (seen (now run.board run.asks whole.past).slot w)) own.walk
       ∙ ap (λ (w : WalkTree). first_act w) (looks-same run whole core tell place p _ _ (stands-here run whole core place p here))
 
-  holder-same : (l : LockId) (c : ℕ) → holder_in whole.locks l ≡ Some c → holder whole.past l ≡ Some c
+  -- and so is who has a lock
+  pub holder-same : (l : LockId) (c : ℕ) → holder_in whole.locks l ≡ Some c → holder whole.past l ≡ Some c
   holder-same l c h = sym (holder-told run.board run.asks whole.past l)
       ∙ sym (told.locks_told.holder l (lock-there run.board whole.locks (numbers_of whole.places) whole.held core.table l c h)) ∙ h
 

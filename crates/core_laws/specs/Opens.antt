@@ -1,13 +1,14 @@
 -- A core that is just opened.
-use Rattle.std.specs.Prelude.{◌≡◌, ℕ, ◌*◌, ◌<◌, ◌≤◌, IsTrue, List, [], length, map, Some, slice_get, slice_index_or}
+use Rattle.std.specs.Prelude.{◌≡◌, ℕ, ◌*◌, ◌<◌, ◌≤◌, IsTrue, List, [], length, map, Some, None, slice_get, slice_index_or}
 use Rattle.i2c_base.specs.declared.port.Phase.TheVariants.{Idle}
 use Rattle.i2c_base.specs.declared.reply.Cut.TheVariants as cut_at
+use Rattle.i2c_base.specs.declared.ids.LockId.{LockId}
 use Rattle.i2c_base.specs.Board.{BoardView}
 use Rattle.i2c_base.specs.Limits.{MOST_CALLS}
 use Rattle.i2c_spec.specs.Tree.{buses, depth}
 use Rattle.i2c_spec.specs.World.{opening_world}
 use Rattle.bus_spec.specs.Past.{begun}
-use Rattle.seg_locks.specs.Locks.{opened}
+use Rattle.seg_locks.specs.Locks.{LocksView, holder_in, opened}
 use Rattle.bus_message.specs.Ports.{RootPort}
 use Rattle.core_laws.specs.Spots.{AreRooted}
 use Rattle.core_laws.specs.Core.{Place, numbers_of, Run, Whole, SeatKept}
@@ -18,6 +19,12 @@ use Rattle.core_laws.specs.Table.{AreDistinct}
 pub record AreDepths (b : BoardView) (depths : List ℕ) : Type 0 where
   pub all : length depths ≡ buses b
   pub each : (p : ℕ) → p < buses b → slice_index_or depths p 0 ≡ depth b p
+
+-- nobody has a lock, no bus is marked, and no mux keeps a channel
+pub record AreFree (v : LocksView) : Type 0 where
+  pub holders : (l : LockId) → holder_in v l ≡ None
+  pub marks : (bus : ℕ) → slice_index_or v.marks bus None ≡ None
+  pub kept : (mux : ℕ) → slice_index_or v.kept mux None ≡ None
 
 -- each caller has its first transfer loaded; nobody has a lock, no bus is marked, and no mux has a channel open; each port
 -- is idle, and its world is that of its root

@@ -3,12 +3,13 @@ use Rattle.i2c_base.specs.Board.{BoardView}
 use Rattle.bus_journal.specs.View.{JournalView}
 use Rattle.i2c_spec.specs.Plain.{IsPlainBoard}
 use Rattle.i2c_spec.specs.Rules.{MeetsRules}
-use Rattle.core_laws.specs.Opens.{AreDepths}
+use Rattle.core_laws.specs.Opens.{AreDepths, AreFree}
+use Rattle.core_laws.proofs.Laws.{opened-free}
 use Rattle.seg_locks.specs.Locks.{opened}
 use Rattle.bus_core.specs.Kept.{roots_of}
 use Rattle.bus_core.specs.Opens.{AreSeated, MayOpen}
 use Rattle.bus_core.proofs.Opened.{opened-core}
-use Rattle.bus_core.proofs.Seating.{seated-all}
+use Rattle.bus_core.proofs.Seating.{seated-all, seated-untaken}
 use Rattle.bus_core.proofs.opening.open.Goals as goal
 
 pub returns-clause-core : goal.returns-clause-core
@@ -49,6 +50,11 @@ returns-clause-opened g c =
       scripts = seated-all g.C.Caller c.in_ok-board.board
           (roots_of c.as_slice-2.result.now) c.args.callers.items c.in_ok-seats.seats.items c.in_ok-seats.places.items
           c.in_ok-seats.ensures.seated;
+      taken = seated-untaken g.C.Caller c.in_ok-board.board
+          (roots_of c.as_slice-2.result.now) c.args.callers.items c.requires.untaken c.in_ok-seats.seats.items c.in_ok-seats.places.items
+          c.in_ok-seats.ensures.seated;
+      locks = subst AreFree (sym c.in_ok-locks.ensures) (opened-free c.as_slice.result.now
+          (length c.roots.result.now) (length c.muxes.result.now));
       entries = ap (λ (j : JournalView). j.entries) c.in_ok-journal.ensures;
       room = ap (λ (j : JournalView). j.room) c.in_ok-journal.ensures;
     }

@@ -1,4 +1,5 @@
 use Rattle.std.proofs.Common.{ℕ, List, []}
+use Rattle.i2c_base.specs.declared.entry.Entry.{Entry}
 use Rattle.bus_core.specs.Kept.{IsCore, HasCome}
 use Rattle.bus_core.specs.Runs.{KeepsSchedule}
 use Rattle.bus_core.proofs.running.finish.Given as goal
@@ -7,7 +8,8 @@ abbrev pub invariant-steps : goal.invariant-steps
 invariant-steps g l = record {
   core : IsCore g.P.Port g.C.Caller l.parts;
   come : HasCome g.P.Port g.C.Caller l.fn.parts l.parts;
-  keeps : (words : List ℕ) → KeepsSchedule g.P.Port g.C.Caller words [] l.fn.parts → KeepsSchedule g.P.Port g.C.Caller words [] l.parts;
+  keeps : (words : List ℕ) (from : List Entry) → KeepsSchedule g.P.Port g.C.Caller words from [] l.fn.parts
+      → KeepsSchedule g.P.Port g.C.Caller words from [] l.parts;
 }
 
 abbrev pub decreases-steps : goal.decreases-steps

@@ -4,8 +4,7 @@ use Rattle.std.proofs.lemmas.List.{reverse-reverse}
 use Rattle.std.proofs.lemmas.List.Elements.{All-get_or}
 use Rattle.i2c_base.specs.declared.entry.Entry.{Entry}
 use Rattle.i2c_base.specs.Limits.{MOST_CALLERS}
-use Rattle.bus_laws.specs.Following.{KeepsTo}
-use Rattle.bus_spec.specs.Schedule.{Follows}
+use Rattle.bus_laws.specs.Following.{GoesOnBy}
 use Rattle.bus_core.specs.Kept.{asks_in, HasCome}
 use Rattle.bus_core.specs.Ready.{HasPlace}
 use Rattle.bus_core.specs.Runs.{KeepsSchedule}
@@ -19,9 +18,8 @@ loop-place-init g c =
       end_is = refl;
       core = c.requires.core;
       come = come-refl g.P.Port g.C.Caller x;
-      keeps = λ empty tell. subst (λ (es : List Entry). KeepsTo x.board MOST_CALLERS
-          (asks_in g.C.Caller x) c.args.words.now c.args.words.now (reverse es)) (sym empty)
-          (c.a_loop_follows.ensures.whole x.board MOST_CALLERS (asks_in g.C.Caller x) c.args.words.now);
+      keeps = λ tell. c.a_loop_follows.ensures.whole x.board MOST_CALLERS (asks_in g.C.Caller x) c.args.words.now
+          (reverse x.journal.entries);
     }
 
 pub advance-requires-clause-has : goal.advance-requires-clause-has
@@ -35,19 +33,19 @@ loop-place-preserved g c =
     let new = c.advance.new.parts in
     let words = c.args.words.now in
     let w = get_or words c.loop-place.place 0 in
+    let past : List Entry = reverse c.args.parts.now.journal.entries in
     let was = c.loop-place.invariant in
     let next = drop-next words c.loop-place.place c.loop-place-test.true in
     let both : HasCome g.P.Port g.C.Caller x new
-    × ((empty : c.args.parts.now.journal.entries ≡ [])
-    → KeepsSchedule g.P.Port g.C.Caller words (drop (c.loop-place.place + 1) words) new) =
+    × KeepsSchedule g.P.Port g.C.Caller words past (drop (c.loop-place.place + 1) words) new =
     stepped-or-waited g.P.Port g.C.Caller x was.core
-    (λ ws old plain rules some steps due t turn left kept. c.a_loop_follows.ensures.made x.board MOST_CALLERS
-    (asks_in g.C.Caller x) ws old plain rules some steps due t turn left kept)
-    (λ ws old plain rules some steps k stuck left kept. c.a_loop_follows.ensures.passed x.board MOST_CALLERS
-    (asks_in g.C.Caller x) ws old plain rules some steps k stuck left kept)
-    w new c.advance.result c.advance.ensures.made c.advance.ensures.waited (c.args.parts.now.journal.entries ≡ []) words
+    (λ ws front old plain rules some steps due t turn left kept. c.a_loop_follows.ensures.made x.board MOST_CALLERS
+    (asks_in g.C.Caller x) ws front old plain rules some steps due t turn left kept)
+    (λ ws front old plain rules some steps k stuck left kept. c.a_loop_follows.ensures.passed x.board MOST_CALLERS
+    (asks_in g.C.Caller x) ws front old plain rules some steps k stuck left kept)
+    w new c.advance.result c.advance.ensures.made c.advance.ensures.waited words past
     (drop (c.loop-place.place + 1) words)
-    (λ empty. subst (λ (ws : List ℕ). KeepsSchedule g.P.Port g.C.Caller words ws x) next (was.keeps empty)) in
+    (subst (λ (ws : List ℕ). KeepsSchedule g.P.Port g.C.Caller words past ws x) next was.keeps) in
     record {
       end_is = was.end_is;
       core = c.advance.ensures.core;
@@ -63,13 +61,16 @@ returns g c =
       core = c.finish.ensures.core;
       come = come-then g.P.Port g.C.Caller c.args.parts.now x c.finish.new.parts was.come c.finish.ensures.come;
       through = c.finish.ensures.through;
-      follows = λ tell empty.
+      follows = λ tell.
           let left : drop c.loop-place.place c.args.words.now ≡ [] = drop-all c.args.words.now c.loop-place.place
           (omega (arith, was.end_is, c.loop-place-test.false)) in
+          let first = c.args.parts.now in
+          let past : List Entry = reverse first.journal.entries in
           let new = c.finish.new.parts in
-          subst (λ (es : List Entry). Follows c.args.words.now es) (reverse-reverse new.journal.entries)
-          (c.a_loop_follows.ensures.end new.board MOST_CALLERS (asks_in g.C.Caller new) c.args.words.now (reverse new.journal.entries)
-          (c.finish.ensures.keeps c.args.words.now
-          (λ t. subst (λ (ws : List ℕ). KeepsTo x.board MOST_CALLERS (asks_in g.C.Caller x) c.args.words.now ws
-          (reverse x.journal.entries)) left (was.keeps empty t)) tell));
+          subst (λ (es : List Entry). GoesOnBy c.args.words.now first.journal.entries es) (reverse-reverse new.journal.entries)
+          (subst (λ (es : List Entry). GoesOnBy c.args.words.now es (reverse (reverse new.journal.entries)))
+          (reverse-reverse first.journal.entries)
+          (c.a_loop_follows.ensures.end new.board MOST_CALLERS (asks_in g.C.Caller new) c.args.words.now past (reverse new.journal.entries)
+          (c.finish.ensures.keeps c.args.words.now past
+          (subst (λ (ws : List ℕ). KeepsSchedule g.P.Port g.C.Caller c.args.words.now past ws x) left was.keeps) tell)));
     }

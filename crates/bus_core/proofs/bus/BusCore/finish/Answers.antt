@@ -1,4 +1,5 @@
-use Rattle.std.proofs.Common.{◌∙◌, ap}
+use Rattle.std.proofs.Common.{[], ◌∙◌, ap, subst}
+use Rattle.bus_laws.specs.Following.{GoesOnBy}
 use Rattle.bus_core.specs.State.{CoreState, roots_in}
 use Rattle.bus_core.proofs.Told.{core-told, opening-same, roots-same}
 use Rattle.bus_core.proofs.bus.BusCore.finish.Goals as goal
@@ -12,4 +13,6 @@ returns g c =
       roots = roots-same g.P.Port g.C.Caller x new c.finish.ensures.come ∙ ap roots_in c.self.view_is;
       told = λ tell. core-told g.P.Port g.C.Caller new c.finish.ensures.core tell;
       through = c.finish.ensures.through;
+      follows = λ tell. subst (λ (v : CoreState _). GoesOnBy [] v.journal.entries new.journal.entries) c.self.view_is
+          (c.finish.ensures.follows tell);
     }

@@ -1,5 +1,6 @@
 use Rattle.std.proofs.Common.{◌≡◌, true, sym, ◌∙◌, ap, subst}
 use Rattle.std.specs.List.{slice_index_or}
+use Rattle.bus_laws.specs.Following.{GoesOnBy}
 use Rattle.bus_core.specs.State.{CoreState, has_caller, roots_in}
 use Rattle.bus_core.proofs.Told.{core-told, opening-same, placed-of, roots-same}
 use Rattle.bus_core.proofs.bus.BusCore.follow.Goals as goal
@@ -19,5 +20,6 @@ returns g c =
       roots = roots-same g.P.Port g.C.Caller x new c.follow.ensures.come ∙ ap roots_in c.self.view_is;
       told = λ tell. core-told g.P.Port g.C.Caller new c.follow.ensures.core tell;
       through = c.follow.ensures.through;
-      follows = λ tell empty. c.follow.ensures.follows tell (ap (λ (v : CoreState _). v.journal.entries) c.self.view_is ∙ empty);
+      follows = λ tell. subst (λ (v : CoreState _). GoesOnBy c.args.words.now v.journal.entries new.journal.entries) c.self.view_is
+          (c.follow.ensures.follows tell);
     }
