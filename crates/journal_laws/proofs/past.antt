@@ -18,6 +18,7 @@ pub mod LegalSteps
 pub mod Play
 pub mod Marked
 pub mod Kept
+pub mod Selected
 pub mod FailLaw
 pub mod Cuts
 pub mod Remotes

@@ -7,6 +7,7 @@ pub mod Spent
 pub mod Counts
 pub mod Flight
 pub mod Faulty
+pub mod Selected
 pub mod Layers
 pub mod Worked
 pub mod Wrong

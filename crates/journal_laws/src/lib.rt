@@ -35,8 +35,8 @@ pub use paths::{
 };
 pub use readings::{
     each_kept_channel_is_the_last_one_told, each_mark_is_the_last_one_made,
-    each_message_is_the_one_in_flight, each_walk_is_what_its_entries_left,
-    each_world_is_that_of_its_calls, settled_is_replies,
+    each_message_goes_through_selected_muxes, each_message_is_the_one_in_flight,
+    each_walk_is_what_its_entries_left, each_world_is_that_of_its_calls, settled_is_replies,
 };
 pub use rows::the_worked_journals_keep_every_rule;
 pub use unique::{

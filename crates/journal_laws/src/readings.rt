@@ -13,6 +13,7 @@ ghost use Rattle.bus_spec.specs.Stepwise.{IsStepwise};
 ghost use Rattle.bus_spec.specs.Places.{mark_left, kept_left, walk_left, world_after};
 ghost use Rattle.bus_laws.specs.Reach.{AsksForMessages};
 ghost use Rattle.journal_laws.specs.Flight.{AreInFlight};
+ghost use Rattle.journal_laws.specs.Selected.{GoesThroughSelected};
 
 use i2c_spec::an_accepted_board_is_a_tree;
 
@@ -43,6 +44,19 @@ pub fn each_mark_is_the_last_one_made()
 pub fn each_kept_channel_is_the_last_one_told()
     ensures { (b : BoardView) (callers : ℕ) (asks : Asks) (past : List Entry) → IsPlainBoard b → MeetsRules b → AsksForMessages asks → IsStepwise b callers asks past
         → (m : ℕ) → (mark b asks past (home_of_mux b m) ≡ Some m) ⊎ (kept_channel b asks past m ≡ kept_left b past m) }
+{
+    an_accepted_board_is_a_tree();
+}
+
+/// Each message goes through muxes that are selected: of each mux on its way the last select that went through, with no
+/// deselect or close since, was of the way's hop; and where the mux disconnects when idle it was the message's own caller that
+/// made it. A channel that is kept may be another caller's select.
+///
+/// On a board that isn't accepted a mux may stand on a channel of its own, and the message that selects it first goes through
+/// it. Entries that might not come may go through a mux that nobody selected. The rules of a board, and a message in each
+/// transfer, are what the tree law is shown of.
+pub fn each_message_goes_through_selected_muxes()
+    ensures { (b : BoardView) (callers : ℕ) (asks : Asks) (past : List Entry) → IsPlainBoard b → MeetsRules b → AsksForMessages asks → IsStepwise b callers asks past → GoesThroughSelected b asks past }
 {
     an_accepted_board_is_a_tree();
 }

@@ -64,7 +64,7 @@ first_none test (suc n) i shut =
     ap (λ (t : Bool). cond t (Some i) (position_from test (i + 1) (range_with_len (i + 1) n))) (shut i) ∙ first_none test n (i + 1) shut
 
 -- what a select writes opens its channel, what a close writes opens none
-select_channel : (b : BoardView) → IsPlainBoard b → (h : Hop) → IsHop b h → h.channel < of_mux (λ m. m.channels) 0 b h.mux
+pub select_channel : (b : BoardView) → IsPlainBoard b → (h : Hop) → IsHop b h → h.channel < of_mux (λ m. m.channels) 0 b h.mux
     → channel_opened b h.mux (select_value h.kind h.channel) ≡ Some h.channel
 select_channel b plain h hop within =
     let s = mux_at b h.mux h.kind hop.kind in
@@ -77,7 +77,7 @@ select_channel b plain h hop within =
     ∙ ap (λ (k : MuxKind). position_from (opens k value) 0 (range_with_len 0 s.0.channels)) s.2
     ∙ first_is (opens h.kind value) s.0.channels 0 h.channel (omega arith) (omega (arith, few)) alone.opened alone.only
 
-close_channel : (b : BoardView) (m : ℕ) → channel_opened b m close_value ≡ None
+pub close_channel : (b : BoardView) (m : ℕ) → channel_opened b m close_value ≡ None
 close_channel b m = by (slice_get b.muxes m)
   where
     by : (o : Option MuxSpec) → unwrap_or
@@ -156,22 +156,22 @@ module _ (b : BoardView) (v : Slots) (k on : ℕ) (home : home_of_mux b k ≡ on
       ]
 
 -- A MESSAGE, AND A LINE STEP
-abbrev sent_told : BoardView → Bool → List ℕ → End → ℕ → Option ℕ
+abbrev pub sent_told : BoardView → Bool → List ℕ → End → ℕ → Option ℕ
 sent_told b reading bytes e m = cond (is_good e && not reading) (channel_written b m bytes) None
 
-abbrev lined_told : BoardView → ℕ → Bool → ℕ → Option ℕ
+abbrev pub lined_told : BoardView → ℕ → Bool → ℕ → Option ℕ
 lined_told b level failed m = cond failed None (channel_opened b m level)
+
+-- a message that went through tells what was written
+abbrev pub TellsWritten : BoardView → Job → ℕ → List ℕ → Type 0
+TellsWritten b job left bytes = (message_of b job left).reading ≡ false → bytes ≡ (message_of b job left).bytes
 
 module _ (b : BoardView) (tree : IsTree b) (plain : IsPlainBoard b) (v : Slots) (old : ℕ → Option ℕ) (so : (m : ℕ) → Reads b v old m)
     (held : List LockId) (marks : List Mark) where
-  -- a message that went through tells what was written
-  abbrev TellsWritten : Job → ℕ → Bool → List ℕ → Type 0
-  TellsWritten job left reading bytes = (message_of b job left).reading ≡ false → bytes ≡ (message_of b job left).bytes
-
   module _ (whose : TransferView) where
     select-reads : (h : Hop) (left : ℕ) → MaySend b whose (Select h) left marks held v → (reading : Bool)
         → reading ≡ (message_of b (Select h) left).reading → (bytes : List ℕ) (e : End)
-        → (e ≡ end.Ok → TellsWritten (Select h) left reading bytes) → (m : ℕ)
+        → (e ≡ end.Ok → TellsWritten b (Select h) left bytes) → (m : ℕ)
         → Reads b (after_job (Select h) left marks (Sent e bytes) v) (after_told h.mux (sent_told b reading bytes e) old) m
     select-reads h left may reading is bytes e written m = by left e may is written
       where
@@ -185,7 +185,7 @@ module _ (b : BoardView) (tree : IsTree b) (plain : IsPlainBoard b) (v : Slots) 
             (sent_told b reading bytes x) old so s c told m
 
         by : (n : ℕ) (x : End) → MaySend b whose (Select h) n marks held v → reading ≡ (message_of b (Select h) n).reading
-            → (x ≡ end.Ok → TellsWritten (Select h) n reading bytes)
+            → (x ≡ end.Ok → TellsWritten b (Select h) n bytes)
             → Reads b (after_job (Select h) n marks (Sent x bytes) v) (after_told h.mux (sent_told b reading bytes x) old) m
         by zero end.Ok ready writing told =
             turns zero end.Ok Clean (Some h.channel) ready.finds.0
@@ -204,7 +204,7 @@ module _ (b : BoardView) (tree : IsTree b) (plain : IsPlainBoard b) (v : Slots) 
 
     off-reads : (off : Off) (left : ℕ) → MaySend b whose (SwitchOff off) left marks held v → (reading : Bool) → reading ≡ false
         → (bytes : List ℕ) (e : End)
-        → (e ≡ end.Ok → TellsWritten (SwitchOff off) left reading bytes) → (m : ℕ)
+        → (e ≡ end.Ok → TellsWritten b (SwitchOff off) left bytes) → (m : ℕ)
         → Reads b (after_job (SwitchOff off) left marks (Sent e bytes) v) (after_told (off_mux off) (sent_told b reading bytes e) old) m
     off-reads off left may reading writing bytes e written m = by e written
       where
@@ -213,7 +213,7 @@ module _ (b : BoardView) (tree : IsTree b) (plain : IsPlainBoard b) (v : Slots) 
         turns x told = turned-reads b v (off_mux off) (off_bus off) may.finds.1 (own_open off (v (off_bus off)).slot may.finds.0)
             (sent_told b reading bytes x) old so Clean None told m
 
-        by : (x : End) → (x ≡ end.Ok → TellsWritten (SwitchOff off) left reading bytes)
+        by : (x : End) → (x ≡ end.Ok → TellsWritten b (SwitchOff off) left bytes)
             → Reads b (after_job (SwitchOff off) left marks (Sent x bytes) v) (after_told (off_mux off) (sent_told b reading bytes x) old) m
         by end.Ok told =
             turns end.Ok (ap (λ (t : Bool). cond (not t) (channel_written b (off_mux off) bytes) None) writing
@@ -228,7 +228,7 @@ module _ (b : BoardView) (tree : IsTree b) (plain : IsPlainBoard b) (v : Slots) 
 
     sent-reads : (job : Job) (left : ℕ) → MaySend b whose job left marks held v → (reading : Bool)
         → reading ≡ (message_of b job left).reading → (bytes : List ℕ) (e : End)
-        → (e ≡ end.Ok → TellsWritten job left reading bytes) → (m : ℕ)
+        → (e ≡ end.Ok → TellsWritten b job left bytes) → (m : ℕ)
         → Reads b (after_job job left marks (Sent e bytes) v)
         (λ n. cond (switches n (job_purpose job)) (sent_told b reading bytes e n) (old n)) m
     sent-reads (Call bus ms) left may reading is bytes e written m = so m
