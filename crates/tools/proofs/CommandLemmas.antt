@@ -5,11 +5,11 @@ use Rattle.std.proofs.lemmas.Option.{slice_get_within, get_or_from_slice_get}
 use Rattle.bus_journal.specs.Reports.{IsSectionLine}
 use Rattle.i2c_base.specs.declared.reply.Reply.{Reply}
 use Rattle.i2c_base.specs.Transfer.{TransferView}
-use Rattle.tools.specs.Commands.{grammar, IsInRange, transfers_of, answer_text}
+use Rattle.tools.specs.Commands.{grammar, MOST_WORDS, IsInRange, transfers_of, answer_text}
 use Rattle.tools.specs.declared.command.Cmd.{Cmd}
 use Rattle.tools.specs.declared.command.Cmd.TheVariants as cmd
-use Rattle.tools.proofs.GetLemmas.{get_fits, get_asks, get_some}
-use Rattle.tools.proofs.GrammarLemmas.{AllEnds}
+use Rattle.tools.proofs.GetLemmas.{get_fits, get_within, get_asks, get_some}
+use Rattle.tools.proofs.GrammarLemmas.{AllEnds, EndsWithin}
 use Rattle.tools.proofs.TransferLemmas.{IsAsk}
 use Rattle.tools.proofs.ValueLemmas.{result_line}
 
@@ -17,6 +17,11 @@ use Rattle.tools.proofs.ValueLemmas.{result_line}
 pub lines_fit : (limit : ℕ) → AllEnds IsInRange (grammar limit)
 unfolding grammar
 lines_fit limit = get_fits
+
+-- its line has no more than the most words
+pub lines_within : (limit : ℕ) → EndsWithin MOST_WORDS (grammar limit)
+unfolding grammar
+lines_within limit = get_within
 
 -- it asks for transfers within the limits
 asks : (c : Cmd) → IsInRange c → All IsAsk (transfers_of c)

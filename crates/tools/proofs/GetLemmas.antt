@@ -1,4 +1,5 @@
--- i2cget: what its line means is in range, its calls are within the limits, and the blocks that they read are short.
+-- i2cget: what its line means is in range, and how long it is; its calls are within the limits, and the blocks that they read are
+-- short.
 use Rattle.std.proofs.Common.{◌≡◌, ℕ, ◌^◌, ◌<◌, ◌≤◌, Bool, false, length, Option, Some, None, refl, ap, ◌∙◌, arith}
 use Rattle.std.specs.Prelude.{All, IfSome, slice_get, option_map, unwrap_or}
 use Rattle.std.specs.List.{AllByRecursion}
@@ -15,8 +16,8 @@ use Rattle.tools.specs.declared.command.get.Get.{Get}
 use Rattle.tools.specs.declared.command.get.GetMode.{GetMode}
 use Rattle.tools.specs.declared.command.get.GetMode.TheVariants as mode
 use Rattle.tools.proofs.AnswerLemmas.{IsShort, call_by, no_block, i2c_block, count_block}
-use Rattle.tools.proofs.GrammarLemmas.{AllEnds}
-use Rattle.tools.proofs.OptionLemmas.{IsBetween, number_between, options_end}
+use Rattle.tools.proofs.GrammarLemmas.{AllEnds, EndsWithin}
+use Rattle.tools.proofs.OptionLemmas.{IsBetween, number_between, options_end, options_within}
 use Rattle.tools.proofs.TransferLemmas.{IsAsk, call_asks, short_byte}
 
 -- ---- its line
@@ -50,6 +51,25 @@ bus_fits force w bus is x addr is_addr = reg_fits force bus addr (number_between
 pub get_fits : AllEnds IsInRange get_words
 unfolding get_words
 get_fits = options_end IsInRange get_bus bus_fits
+
+-- behind the first word it has at most seven
+module _ (force : Bool) (bus addr : ℕ) where
+  len_within : (reg : ℕ) (m : GetMode × Bool) → EndsWithin 1 (get_len force bus addr reg m)
+  unfolding get_len
+  len_within reg (mode.I2cBlock, false) = λ len. tt
+  len_within reg (m, pec) = tt
+
+  reg_within : EndsWithin 3 (get_reg force bus addr)
+  unfolding get_reg
+  reg_within = λ reg m. len_within reg m
+
+bus_within : (force : Bool) → EndsWithin 5 (get_bus force)
+unfolding get_bus
+bus_within force = λ bus addr. reg_within force bus addr
+
+pub get_within : EndsWithin 7 get_words
+unfolding get_words
+get_within = options_within 5 get_bus bus_within
 
 -- ---- its calls
 

@@ -1,5 +1,5 @@
--- A grammar has no dead end, its lines are followed as they are read, and they mean what its ends mean. The inductions go
--- over the grammar.
+-- A grammar has no dead end, its lines are followed as they are read, they mean what its ends mean, and none is longer than
+-- the longest way through it. The inductions go over the grammar.
 use Rattle.std.proofs.Common.{◌≡◌, ℕ, zero, suc, ◌+◌, Bool, true, false, List, [], ◌∷◌, length, drop, Option, Some, None, Result, Ok, Err, cond, nat_le, refl, sym, ap, subst, ◌∙◌, arith, add-one}
 use Rattle.std.specs.Prelude.{is_none, slice_get}
 use Rattle.std.proofs.lemmas.Bool.{le-leb, lt-leb}
@@ -7,7 +7,7 @@ use Rattle.std.proofs.lemmas.Slice.Eq.{bytes_eq-Decides}
 use Rattle.std.proofs.Math.Dec.{leb-suc-suc}
 use Rattle.std.specs.Str.{bytes_eq}
 use Rattle.tools.specs.Grammars.{Grammar, ends, word, word_or, class, maybe, end_of, next_of, behind, line_set, read_at}
-use Rattle.tools.specs.LineSets.{Word, LineSet, nothing, node, IsLine, Begins, goes_on, ended, follow_words}
+use Rattle.tools.specs.LineSets.{Word, LineSet, nothing, node, IsLine, IsWithin, Begins, goes_on, ended, follow_words}
 use Rattle.tools.specs.Readers.{◌>>=◌, of_word, is_some_text, is_at}
 use Rattle.tools.proofs.LineSetLemmas.{IsLive, IsAlive}
 
@@ -209,3 +209,60 @@ means P (class c k) h [] a line = absurd cc
 means P (class c k) h (w ∷ ws) a line = means_behind P (λ b. line_set (k b)) (c.of w) (λ b is. means P (k b) (h w b is)) ws a line
 means P (maybe b g) h [] a line = let same : b ≡ a = cc in subst P same h.0
 means P (maybe b g) h (w ∷ ws) a line = means P g h.1 (w ∷ ws) a (node_line (line_set g) (w ∷ ws) a line)
+
+-- ---- how long they are
+
+-- each way through it ends within so many words
+abbrev pub EndsWithin : {A : Type 0} → ℕ → Grammar A → Type 0
+EndsWithin n (ends a) = Unit {0}
+EndsWithin zero (word text g) = ⊥
+EndsWithin (suc n) (word text g) = EndsWithin n g
+EndsWithin zero (word_or text g h) = ⊥
+EndsWithin (suc n) (word_or text g h) = EndsWithin n g × EndsWithin (suc n) h
+EndsWithin zero (class c k) = ⊥
+EndsWithin (suc n) (class {B} c k) = (b : B) → EndsWithin n (k b)
+EndsWithin n (maybe a g) = EndsWithin n g
+
+-- so it does within one more
+pub ends_within_more : {A : Type 0} (n : ℕ) (g : Grammar A) → EndsWithin n g → EndsWithin (suc n) g
+ends_within_more n (ends a) h = tt
+ends_within_more zero (word text g) h = absurd h
+ends_within_more (suc n) (word text g) h = ends_within_more n g h
+ends_within_more zero (word_or text g k) h = absurd h
+ends_within_more (suc n) (word_or text g k) h = (ends_within_more n g h.0, ends_within_more (suc n) k h.1)
+ends_within_more zero (class c k) h = absurd h
+ends_within_more (suc n) (class c k) h = λ b. ends_within_more n (k b) (h b)
+ends_within_more n (maybe a g) h = ends_within_more n g h
+
+within_if : {A : Type 0} (n : ℕ) (b : Bool) (g h : LineSet A) → IsWithin n g → IsWithin n h → IsWithin n (cond b g h)
+within_if n true g h p q = p
+within_if n false g h p q = q
+
+within_behind : {A B : Type 0} (n : ℕ) (k : B → LineSet A) (o : Option B) → ((b : B) → IsWithin n (k b)) → IsWithin n (behind k o)
+within_behind n k None h = tt
+within_behind n k (Some b) h = h b
+
+within_next : {A : Type 0} (n : ℕ) (g : LineSet A) → IsWithin (suc n) g → (w : Word) → IsWithin n (next_of g w)
+within_next n nothing h w = tt
+within_next n (node e f) h w = h w
+
+-- another line may end here too
+within_node : {A : Type 0} (n : ℕ) (e : Option A) (g : LineSet A) → IsWithin n g → IsWithin n (node e (next_of g))
+within_node zero e nothing h = λ w. refl
+within_node (suc n) e nothing h = λ w. tt
+within_node zero e (node d f) h = h
+within_node (suc n) e (node d f) h = h
+
+-- then no line goes on behind them
+pub within : {A : Type 0} (n : ℕ) (g : Grammar A) → EndsWithin n g → IsWithin n (line_set g)
+within zero (ends a) h = λ w. refl
+within (suc n) (ends a) h = λ w. tt
+within zero (word text g) h = absurd h
+within (suc n) (word text g) h = λ w. within_if n (bytes_eq w text) (line_set g) nothing (within n g h) tt
+within zero (word_or text g k) h = absurd h
+within (suc n) (word_or text g k) h =
+    λ w. within_if n (bytes_eq w text) (line_set g) (next_of (line_set k) w) (within n g h.0)
+    (within_next n (line_set k) (within (suc n) k h.1) w)
+within zero (class c k) h = absurd h
+within (suc n) (class c k) h = λ w. within_behind n (λ b. line_set (k b)) (c.of w) (λ b. within n (k b) (h b))
+within n (maybe a g) h = within_node n (Some a) (line_set g) (within n g h)

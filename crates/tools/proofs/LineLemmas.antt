@@ -1,14 +1,14 @@
 -- The laws of the lines of a script, and what a line is read as. They hold of any grammar whose ends are in range.
-use Rattle.std.proofs.Common.{Err, ◌≡◌, ℕ, true, List, Some, None, Ok, sym, ap, ◌∙◌, cond, arith}
-use Rattle.tools.specs.Lines.{is_command, some_command, words_read, line_read, ReadsLines, RefusesBehindLongest, MeansInRange}
+use Rattle.std.proofs.Common.{Err, ◌≡◌, ℕ, suc, ◌+◌, true, List, [], ◌∷◌, take, Some, None, Ok, refl, sym, ap, ◌∙◌, cond, arith}
+use Rattle.tools.specs.Lines.{is_command, some_command, words_read, line_read, ReadsLines, RefusesBehindLongest, MeansInRange, NoneIsLonger, FirstWordsDecide}
 use Rattle.tools.specs.Splits.{words_of}
 use Rattle.tools.specs.Grammars.{read_at}
-use Rattle.tools.specs.LineSets.{Word, follow_words}
-use Rattle.tools.specs.Commands.{grammar, script_lines, IsInRange}
+use Rattle.tools.specs.LineSets.{Word, IsWithin, follow_words}
+use Rattle.tools.specs.Commands.{grammar, script_lines, MOST_WORDS, IsInRange}
 use Rattle.tools.specs.declared.command.Cmd.{Cmd}
-use Rattle.tools.proofs.CommandLemmas.{lines_fit}
-use Rattle.tools.proofs.GrammarLemmas.{alive, follow, means}
-use Rattle.tools.proofs.LineSetLemmas.{IsAlive, line_followed, followed_line, refused_longest}
+use Rattle.tools.proofs.CommandLemmas.{lines_fit, lines_within}
+use Rattle.tools.proofs.GrammarLemmas.{alive, follow, means, within}
+use Rattle.tools.proofs.LineSetLemmas.{IsAlive, line_followed, followed_line, refused_longest, follow_front}
 
 pub reads_lines : ReadsLines
 reads_lines limit ws c = (followed_line (script_lines limit) 0 ws c, line_followed (script_lines limit) 0 ws c)
@@ -23,17 +23,37 @@ refuses_behind_longest limit ws k refused =
 pub means_in_range : MeansInRange
 means_in_range limit = means IsInRange (grammar limit) (lines_fit limit)
 
--- what a line is read as whose words are a command
-command_words : (limit : ℕ) (line : List ℕ) (ws : List Word) → ws ≡ words_of line → is_command ws ≡ true
+-- ---- no line has more than the most words
+
+pub none_is_longer : NoneIsLonger
+none_is_longer limit = within MOST_WORDS (grammar limit) (lines_within limit)
+
+command_front : (n : ℕ) (ws : List Word) → is_command (take (suc n) ws) ≡ is_command ws
+command_front n [] = refl
+command_front n (w ∷ ws) = refl
+
+read_front : (limit n : ℕ) (ws : List Word) → IsWithin n (script_lines limit) → words_read limit (take (suc n) ws) ≡ words_read limit ws
+read_front limit n ws h =
+    ap (λ b. cond b (some_command (follow_words (script_lines limit) 0 (take (suc n) ws))) (Ok None)) (command_front n ws)
+    ∙ ap (λ r. cond (is_command ws) (some_command r) (Ok None)) (follow_front n (script_lines limit) 0 ws h)
+
+pub first_words_decide : FirstWordsDecide
+first_words_decide limit ws = read_front limit MOST_WORDS ws (none_is_longer limit)
+
+-- ---- what a line is read as, by its first words
+
+-- where they are a command
+command_words : (limit : ℕ) (line : List ℕ) (ws : List Word) → ws ≡ take (MOST_WORDS + 1) (words_of line) → is_command ws ≡ true
     → line_read limit line ≡ some_command (read_at (grammar limit) ws 0)
 command_words limit line ws same is =
-    ap (words_read limit) (sym same) ∙ ap (λ b. cond b (some_command (follow_words (script_lines limit) 0 ws)) (Ok None)) is
+    sym (first_words_decide limit (words_of line)) ∙ ap (words_read limit) (sym same)
+    ∙ ap (λ b. cond b (some_command (follow_words (script_lines limit) 0 ws)) (Ok None)) is
     ∙ ap some_command (follow (grammar limit) 0 ws)
 
-pub command_read : (limit : ℕ) (line : List ℕ) (ws : List Word) (c : Cmd) → ws ≡ words_of line → is_command ws ≡ true
-    → read_at (grammar limit) ws 0 ≡ Ok c → line_read limit line ≡ Ok (Some c)
+pub command_read : (limit : ℕ) (line : List ℕ) (ws : List Word) (c : Cmd) → ws ≡ take (MOST_WORDS + 1) (words_of line)
+    → is_command ws ≡ true → read_at (grammar limit) ws 0 ≡ Ok c → line_read limit line ≡ Ok (Some c)
 command_read limit line ws c same is e = command_words limit line ws same is ∙ ap some_command e
 
-pub command_refused : (limit : ℕ) (line : List ℕ) (ws : List Word) (k : ℕ) → ws ≡ words_of line → is_command ws ≡ true
-    → read_at (grammar limit) ws 0 ≡ Err k → line_read limit line ≡ Err k
+pub command_refused : (limit : ℕ) (line : List ℕ) (ws : List Word) (k : ℕ) → ws ≡ take (MOST_WORDS + 1) (words_of line)
+    → is_command ws ≡ true → read_at (grammar limit) ws 0 ≡ Err k → line_read limit line ≡ Err k
 command_refused limit line ws k same is e = command_words limit line ws same is ∙ ap some_command e

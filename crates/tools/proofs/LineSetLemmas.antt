@@ -1,8 +1,8 @@
--- Following the words through any set of lines without dead ends finds the line, or the longest front that begins one.
--- The inductions go over the words.
+-- Following the words through any set of lines without dead ends finds the line, or the longest front that begins one; where
+-- no line is long, the first words decide. The inductions go over the words.
 use Rattle.std.proofs.Common.{◌≡◌, ℕ, zero, suc, ◌+◌, ◌≤◌, true, false, List, [], ◌∷◌, ◌++◌, length, take, Option, Some, None, Result, Ok, Err, cond, refl, ap, arith, inl, inr}
 use Rattle.std.proofs.lemmas.Bool.{cases_Bool}
-use Rattle.tools.specs.LineSets.{Word, LineSet, nothing, node, IsLine, Begins, IsLongest, goes_on, ended, follow_words}
+use Rattle.tools.specs.LineSets.{Word, LineSet, nothing, node, IsLine, Begins, IsLongest, IsWithin, goes_on, ended, follow_words}
 
 -- each place that can be reached leads to the end of some line
 abbrev pub IsLive : {A : Type 0} → LineSet A → Type 0
@@ -94,3 +94,11 @@ refused_longest (node e f) i (w ∷ ws) k live some h =
           record { count = suc more.count; place = omega (arith, more.place); longest = longer e f w ws more.count more.longest }
       | inr isnt ↦ record { count = 0; place = omega (arith, err_is i k (rw isnt at h)); longest = stops e f w ws live.0 isnt }
     ]
+
+-- where no line goes on behind n words, these and one more decide
+pub follow_front : {A : Type 0} (n : ℕ) (g : LineSet A) (i : ℕ) (ws : List Word) → IsWithin n g
+    → follow_words g i (take (suc n) ws) ≡ follow_words g i ws
+follow_front n nothing i ws h = refl
+follow_front n (node e f) i [] h = refl
+follow_front zero (node e f) i (w ∷ ws) h = rw (h w)
+follow_front (suc n) (node e f) i (w ∷ ws) h = ap (λ r. cond (goes_on (f w)) r (Err i)) (follow_front n (f w) (i + 1) ws (h w))

@@ -1,12 +1,12 @@
 -- What lines have in common: a number in a word is in its range, and the options are read before what follows them.
-use Rattle.std.proofs.Common.{◌≡◌, ℕ, ◌+◌, ◌≤◌, Bool, true, false, List, Option, Some, None, Result, Ok, Err, cond, codes, refl, arith}
+use Rattle.std.proofs.Common.{◌≡◌, ℕ, suc, ◌+◌, ◌≤◌, Bool, true, false, List, Option, Some, None, Result, Ok, Err, cond, codes, refl, arith}
 use Rattle.std.proofs.lemmas.Bool.Decides.{nat_tests}
 use Rattle.tools.specs.Grammars.{Grammar, read_at}
 use Rattle.tools.specs.LineSets.{Word}
 use Rattle.tools.specs.Numbers.{number_of, number_in, within}
 use Rattle.tools.specs.Options.{force_and_yes, options_at}
 use Rattle.tools.specs.Readers.{◌>>=◌, is_at}
-use Rattle.tools.proofs.GrammarLemmas.{AllEnds}
+use Rattle.tools.proofs.GrammarLemmas.{AllEnds, EndsWithin, ends_within_more}
 
 -- a number in a word is within its range
 pub record IsBetween (low high n : ℕ) : Type 0 where
@@ -40,3 +40,8 @@ options_read k ws i =
 pub options_end : {A : Type 0} (P : A → Type 0) (k : Bool → Grammar A) → ((f : Bool) → AllEnds P (k f)) → AllEnds P (force_and_yes k)
 unfolding force_and_yes
 options_end P k h = (h true, (h true, h false))
+
+pub options_within : {A : Type 0} (n : ℕ) (k : Bool → Grammar A) → ((f : Bool) → EndsWithin n (k f))
+    → EndsWithin (suc (suc n)) (force_and_yes k)
+unfolding force_and_yes
+options_within n k h = (h true, (h true, ends_within_more n (k false) (h false)))

@@ -21,6 +21,10 @@ grammar limit = word (codes "i2cget") get_words
 abbrev pub script_lines : (limit : ℕ) → LineSet Cmd
 script_lines limit = line_set (grammar limit)
 
+-- the words of the longest line: i2cget -f -y BUS ADDR REG MODE LEN
+abbrev pub MOST_WORDS : ℕ
+MOST_WORDS = 8
+
 -- each field of a command is in its range
 abbrev pub IsInRange : Cmd → Type 0
 IsInRange (cmd.Get g) = IsGetInRange g

@@ -1,5 +1,5 @@
 -- A set of lines as a tree: what may end here, and what may follow each word.
-use Rattle.std.specs.Prelude.{◌≡◌, ℕ, ◌+◌, ◌≤◌, Bool, true, false, List, [], ◌∷◌, ◌++◌, length, take, Option, Some, None, Result, Ok, Err, if◌then◌else◌}
+use Rattle.std.specs.Prelude.{⊤, ◌≡◌, ℕ, zero, suc, ◌+◌, ◌≤◌, Bool, true, false, List, [], ◌∷◌, ◌++◌, length, take, Option, Some, None, Result, Ok, Err, if◌then◌else◌}
 
 abbrev pub Word : Type 0
 Word = List ℕ
@@ -40,3 +40,9 @@ abbrev pub follow_words : {A : Type 0} → LineSet A → ℕ → List Word → R
 follow_words nothing i ws = Err i
 follow_words (node ends next) i [] = ended ends i
 follow_words (node ends next) i (w ∷ ws) = if goes_on (next w) then follow_words (next w) (i + 1) ws else Err i
+
+-- no line goes on behind so many words
+abbrev pub IsWithin : {A : Type 0} → ℕ → LineSet A → Type 0
+IsWithin n nothing = ⊤
+IsWithin zero (node ends next) = (w : Word) → goes_on (next w) ≡ false
+IsWithin (suc n) (node ends next) = (w : Word) → IsWithin n (next w)

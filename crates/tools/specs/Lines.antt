@@ -1,8 +1,8 @@
 -- A line of a script: a command of the grammar, none, or the first word that the grammar refuses.
-use Rattle.std.specs.Prelude.{◌≡◌, ℕ, ◌==◌, Bool, false, not, List, [], ◌∷◌, Option, Some, None, Result, Ok, Err, if◌then◌else◌}
+use Rattle.std.specs.Prelude.{◌≡◌, ℕ, ◌+◌, ◌==◌, Bool, false, not, List, [], ◌∷◌, take, Option, Some, None, Result, Ok, Err, if◌then◌else◌}
 use Rattle.tools.specs.Splits.{words_of}
-use Rattle.tools.specs.LineSets.{Word, IsLine, IsLongest, follow_words}
-use Rattle.tools.specs.Commands.{script_lines, IsInRange}
+use Rattle.tools.specs.LineSets.{Word, IsLine, IsLongest, IsWithin, follow_words}
+use Rattle.tools.specs.Commands.{script_lines, MOST_WORDS, IsInRange}
 use Rattle.tools.specs.declared.command.Cmd.{Cmd}
 
 -- a line without words is no command, nor is one whose first word begins with `#`
@@ -40,3 +40,11 @@ RefusesBehindLongest = (limit : ℕ) (ws : List Word) (k : ℕ) → follow_words
 -- what a line means is in range
 abbrev pub MeansInRange : Type 0
 MeansInRange = (limit : ℕ) (ws : List Word) (c : Cmd) → IsLine (script_lines limit) ws c → IsInRange c
+
+-- no line goes on behind the most words
+abbrev pub NoneIsLonger : Type 0
+NoneIsLonger = (limit : ℕ) → IsWithin MOST_WORDS (script_lines limit)
+
+-- so the most words, and one more, decide what all of the words are read as
+abbrev pub FirstWordsDecide : Type 0
+FirstWordsDecide = (limit : ℕ) (ws : List Word) → words_read limit (take (MOST_WORDS + 1) ws) ≡ words_read limit ws

@@ -24,6 +24,9 @@ pub enum Cmd {
     Get(Get),
 }
 
+/// The words of the longest line.
+pub(crate) const MOST_WORDS: usize = 8;
+
 /// Reads the words of a command by the first of them, over a board with this block limit.
 #[tactic(auto, unfolding(crate::specs::Commands::grammar))]
 pub(crate) fn read_command(words: &[&[u8]], limit: u8) -> Result<Cmd, WordRefused>

@@ -7,7 +7,8 @@
 //!   are a set (`script_lines`, with `specs/LineSets.antt`). `read_line` gives exactly the command of a line, or the first
 //!   word that the grammar refuses (`line_read` of `specs/Lines.antt`); a line is read exactly where it is in the grammar
 //!   (`each_line_is_read`), and a refused word stands behind the longest front that begins a line
-//!   (`the_refused_word_is_behind_the_longest_front`).
+//!   (`the_refused_word_is_behind_the_longest_front`). `read_line` keeps no more words than the longest line has, and one,
+//!   and these decide (`the_first_words_decide`).
 //! - Commands. A `ToolRun` asks for the transfers of its command in order, until the last of them or a reply that ends it,
 //!   and prints what `answer_text` says of its replies; the room for that is told before. `specs/Commands.antt` has a row
 //!   for each command, whose own definitions are a file beside it (of `i2cget`, `specs/Gets.antt`); `specs/Values.antt` tells
@@ -33,13 +34,14 @@ mod words;
 
 pub use command::{Cmd, ToolRun};
 pub use examples::{
-    a_block_is_printed_without_its_count, a_word_is_printed_high_byte_first,
-    a_wrong_code_is_told_with_the_right_one, an_error_ends_a_command,
-    the_number_is_sent_and_a_byte_is_received,
+    a_block_is_printed_without_its_count, a_line_that_is_too_long_is_refused_behind_the_longest,
+    a_word_is_printed_high_byte_first, a_wrong_code_is_told_with_the_right_one,
+    an_error_ends_a_command, the_number_is_sent_and_a_byte_is_received,
 };
 pub use fault::LineFault;
 pub use laws::{
-    each_field_is_in_range, each_line_is_read, the_refused_word_is_behind_the_longest_front,
+    each_field_is_in_range, each_line_is_read, the_first_words_decide,
+    the_refused_word_is_behind_the_longest_front,
 };
 pub use line::read_line;
 pub use replies::most_brought;

@@ -1,13 +1,14 @@
 //! A line of a script: the command that it is read as, or its first refused word.
 
-ghost use Rattle.std.specs.Prelude.{◌≡◌, Ok, MatchResult};
+ghost use Rattle.std.specs.Prelude.{◌≡◌, ◌+◌, ◌≤◌, length, Ok, MatchResult};
+ghost use Rattle.tools.specs.Commands.{MOST_WORDS};
 ghost use Rattle.tools.specs.Lines.{is_command, line_read};
 ghost use Rattle.tools.specs.Splits.{words_of};
 ghost use Rattle.tools.specs.Readers.{texts, FaultIs};
 
-use crate::command::{Cmd, read_command};
+use crate::command::{Cmd, MOST_WORDS, read_command};
 use crate::fault::{LineFault, WordRefused};
-use crate::split::split_words;
+use crate::split::split_front;
 
 // The words are a command: there are some, and the first doesn't begin with `#`.
 fn is_command(words: &[&[u8]]) -> bool
@@ -23,15 +24,17 @@ fn is_command(words: &[&[u8]]) -> bool
 }
 
 /// Reads a line of a script: none where it is empty or a comment. `words` is room for its words, and `limit` the block
-/// limit of the board, 1 to 255 bytes.
+/// limit of the board, 1 to 255 bytes. No more words are kept than the longest line of the grammar has, and one, by which
+/// it is seen that a line is too long; so a longer line takes no more memory.
 pub fn read_line<'a>(
     words: &mut Vec<&'a [u8]>,
     line: &'a [u8],
     limit: u8,
 ) -> Result<Option<Cmd>, LineFault>
-    ensures { MatchResult result (λ o. line_read limit line.now ≡ Ok o) (FaultIs (line_read limit line.now)) }
+    ensures read { MatchResult result (λ o. line_read limit line.now ≡ Ok o) (FaultIs (line_read limit line.now)) }
+    ensures kept { length words.new.items ≤ MOST_WORDS + 1 }
 {
-    split_words(words, line)?;
+    split_front(words, line, MOST_WORDS + 1)?;
     let words = words.as_slice();
     if !is_command(words) {
         return Ok(None);

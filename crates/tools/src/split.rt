@@ -19,13 +19,19 @@ impl Gap for Blank {
     }
 }
 
-/// Puts the words of a line, which stand between spaces and tabs, in place of those that are there.
-pub fn split_words<'a>(words: &mut Vec<&'a [u8]>, line: &'a [u8]) -> Result<(), NoMemory>
-    ensures { OnOk result (texts words.new.items ≡ words_of line.now) }
+/// Puts the first words of a line, which stand between spaces and tabs, in place of those that are there: at most so many.
+/// No word behind them is looked at.
+pub fn split_front<'a>(
+    words: &mut Vec<&'a [u8]>,
+    line: &'a [u8],
+    most: usize,
+) -> Result<(), NoMemory>
+    ensures split { OnOk result (texts words.new.items ≡ take most (words_of line.now)) }
+    ensures kept { length words.new.items ≤ most }
 {
     words.clear();
     let mut rest = skip_gaps::<Blank>(line);
-    while !rest.is_empty() {
+    while words.len() < most && !rest.is_empty() {
         let (word, behind) = first_word::<Blank>(rest);
         words.push(word)?;
         rest = skip_gaps::<Blank>(behind);

@@ -1,25 +1,26 @@
-use Rattle.std.proofs.Common.{◌≡◌, true, sym, ◌∙◌}
+use Rattle.std.proofs.Common.{◌≡◌, ◌+◌, true, take, sym, ◌∙◌}
+use Rattle.tools.specs.Commands.{MOST_WORDS}
 use Rattle.tools.specs.Lines.{is_command}
 use Rattle.tools.specs.Splits.{words_of}
 use Rattle.tools.specs.Readers.{texts}
 use Rattle.tools.proofs.LineLemmas.{command_read, command_refused}
 use Rattle.tools.proofs.line.read_line.Goals as goal
 
-pub returns-in-Ok : goal.returns-in-Ok
-returns-in-Ok c =
-    let same : texts c.as_slice-words.result.now ≡ words_of c.args.line.now = cc
-    (c.as_slice-words.ensures.value, c.in_ok-split_words.ensures) in
+pub returns-in-Ok-clause-read : goal.returns-in-Ok-clause-read
+returns-in-Ok-clause-read c =
+    let same : texts c.as_slice-words.result.now ≡ take (MOST_WORDS + 1) (words_of c.args.line.now) = cc
+    (c.as_slice-words.ensures.value, c.in_ok-split_front.ensures.split) in
     let is : is_command (texts c.as_slice-words.result.now) ≡ true = cc
-    (c.is_command.ensures, c.if-not-is_command.ensures, c.if-not-is_command.false) in
+    c.if-not-is_command.ensures in
     command_read c.args.limit c.args.line.now (texts c.as_slice-words.result.now) c.in-Ok.command same is (sym c.read_command.ensures
     ∙ c.in-Ok.is)
 
-pub returns-in-Err : goal.returns-in-Err
-returns-in-Err c =
-    let same : texts c.as_slice-words.result.now ≡ words_of c.args.line.now = cc
-    (c.as_slice-words.ensures.value, c.in_ok-split_words.ensures) in
+pub returns-in-Err-clause-read : goal.returns-in-Err-clause-read
+returns-in-Err-clause-read c =
+    let same : texts c.as_slice-words.result.now ≡ take (MOST_WORDS + 1) (words_of c.args.line.now) = cc
+    (c.as_slice-words.ensures.value, c.in_ok-split_front.ensures.split) in
     let is : is_command (texts c.as_slice-words.result.now) ≡ true = cc
-    (c.is_command.ensures, c.if-not-is_command.ensures, c.if-not-is_command.false) in
+    c.if-not-is_command.ensures in
     let place : c.in-Err.refused ≡ c.refused.inside.0 = sym c.refused.view_is in
     rw (← place) (command_refused c.args.limit c.args.line.now (texts c.as_slice-words.result.now) c.in-Err.refused same is
     (sym c.read_command.ensures ∙ c.in-Err.is))

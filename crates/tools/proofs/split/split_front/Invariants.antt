@@ -1,8 +1,8 @@
-use Rattle.std.proofs.Common.{◌≡◌, ◌<◌, ◌++◌, true, length}
+use Rattle.std.proofs.Common.{◌≡◌, ◌<◌, ◌≤◌, ◌++◌, true, length}
 use Rattle.tools.specs.Words.{begins_with_word}
 use Rattle.tools.specs.Splits.{is_blank, words_of}
 use Rattle.tools.specs.Readers.{texts}
-use Rattle.tools.proofs.split.split_words.Given as goal
+use Rattle.tools.proofs.split.split_front.Given as goal
 
 abbrev pub decreases-loop-rest : goal.decreases-loop-rest
 decreases-loop-rest l = length l.rest
@@ -12,4 +12,5 @@ invariant-loop-rest l =
     record {
       begins : 0 < length l.rest → begins_with_word is_blank l.rest ≡ true;
       same : texts l.words.items ++ words_of l.rest ≡ words_of l.fn.line;
+      kept : length l.words.items ≤ l.most;
     }
