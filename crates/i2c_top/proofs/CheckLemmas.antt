@@ -47,7 +47,10 @@ module _ (name : List ℕ) (shelf shelf_now : ShelfView) (rig : RigView) (kept :
       → CameToSuccess (check_form name) shelf shelf_now rig rig text
   check_done board text read line =
       came_to_success (check_form name) shelf shelf_now rig rig text (λ t. (read t).has) untouched
-      (λ t. record { accepted = (read t).has; line = line ∙ ap accepted_text (read t).same }) kept
+      (record {
+        by_files = λ t. record { accepted = (read t).has; line = line ∙ ap accepted_text (read t).same };
+        by_rig = tt;
+      }) kept
 
   pub check_starved : CameToRefusal (check_form name) shelf shelf_now rig rig status.Memory
   check_starved = memory_wanting (check_form name) shelf shelf_now rig rig (inl untouched) kept
@@ -73,8 +76,18 @@ pub ended_checked : (name : List ℕ) (old new : Outside) (result : Status) → 
     → IsTrue old.shelf.tells
     → IsTrue old.sink.tells → result ≡ status.Ok → HasChecked old.shelf.file name old.sink.bytes new.sink.bytes
 ended_checked name old new result h shelf sink ok =
-    let s = h.said ok in record { text = s.text; check = s.answer shelf; written = s.written sink }
+    let s = h.said ok in record { text = s.text; check = s.answer.by_files shelf; written = s.written sink }
 
 -- a rig that no one asks of
 abbrev pub no_rig : RigView
-no_rig = record { tells = false; ports_tell = false; faults = 0; plugs = 0; unplugs = 0; plugged = false; logs = []; states = [] }
+no_rig = record {
+  tells = false;
+  ports_tell = false;
+  faults = 0;
+  plugs = 0;
+  unplugs = 0;
+  plugged = false;
+  logs = [];
+  states = [];
+  counts = [];
+}

@@ -26,6 +26,7 @@ use Rattle.i2c_spec.specs.World.{World, opening_world, openings}
 use Rattle.i2c_spec.proofs.TreeLemmas.{tree_root_is}
 use Rattle.bus_spec.specs.Past.{now, world_at, calls_of}
 use Rattle.bus_spec.specs.Schedule.{Follows}
+use Rattle.bus_laws.specs.Following.{GoesOnBy}
 use Rattle.bus_spec.specs.Stepwise.{IsStepwise}
 use Rattle.bus_spec.specs.Walk.{Ends}
 use Rattle.bus_core.specs.Kept.{roots_of}
@@ -45,6 +46,7 @@ use Rattle.caller_core.specs.Scripts.{asked_by, left_of, cost_of_script}
 use Rattle.caller_core.specs.View.{ScriptView, CallerView, script_on}
 use Rattle.i2c_top.specs.Cores.{IsCoreOf, IsLeftOf}
 use Rattle.i2c_top.specs.Readings.{AreNamed}
+use Rattle.i2c_top.specs.Faults.{IsFaultAt, AccountsForFaults, AreCounted}
 use Rattle.i2c_top.specs.Runs.{asks_by, AreOpened, texts_of, cost_of_texts, callers_of, MOST_COST, IsOver, KeepsOrder}
 use Rattle.i2c_top.proofs.RunLemmas.{same_asks}
 use Rattle.i2c_base.proofs.ListLemmas.{there, map_from, map_at}
@@ -364,6 +366,20 @@ module _ {P : Type 0} (g : PortGhosts P) (b : BoardView) (x : Parts P CallerView
             ∙ ap (λ (k : ℕ). Some (k, g.log p.0.1)) p.2)));
       }
 
+-- ports that account for their faults counted those that stand in their logs
+pub ports-counted : {P : Type 0} (g : PortGhosts P) (b : BoardView) (ports : List P) → IsTrue g.tells → length ports ≡ length b.roots
+    → All (AccountsForFaults g) ports → AreCounted b (map g.log ports) (map g.faults ports)
+ports-counted g b ports tells count account =
+    record {
+      all = length-map ports g.faults ∙ count;
+      caused = λ root n zero fault.
+          let port = map_from g.faults ports root 0 zero in
+          let same : Some (g.log port.0) ≡ Some fault.log = sym (map_at g.log ports root port.0 port.1) ∙ fault.here in
+          let log : g.log port.0 ≡ fault.log = cc in
+          all-at (AccountsForFaults g) ports root port.0 account port.1 tells port.2 n
+          (subst (λ (calls : List PortCall). IsFaultAt calls n) (sym log) fault.fault);
+    }
+
 -- a core that was opened with the scripts and ports by their numbers is one of them
 pub core-opened : {P E : Type 0} (g : PortGhosts P) (b : BoardView) → IsPlainBoard b → MeetsRules b → (scripts : List CallerView)
     → AreOpened b scripts → (ports : List P) → length ports ≡ length b.roots
@@ -411,6 +427,12 @@ taken-apart g b scripts ports words core ran x of opening roots_kept scripts_lef
     is_left : ran ≡ left g b x scripts of.opened same ran
     is_left = is-left g b x scripts of.opened same ran (ap (λ (o : Opening ScriptView). o.board) opening
         ∙ of.board) scripts_left taken journal worlds logs
+
+-- what goes on from an empty journal is the whole of it
+pub goes-on-whole : (words : List ℕ) (old new : List Entry) → old ≡ [] → GoesOnBy words old new → Follows words new
+goes-on-whole words old new empty goes =
+    let from : GoesOnBy words [] new = subst (λ (es : List Entry). GoesOnBy words es new) empty goes in
+    subst (λ (es : List Entry). Follows words es) (sym from.behind) from.follows
 
 -- without a schedule nobody is named, and any order is kept
 pub named-all : (callers : ℕ) (words : Option (List ℕ)) → AreNamed callers words → All (λ c. c < callers) (unwrap_or words [])

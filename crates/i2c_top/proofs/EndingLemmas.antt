@@ -3,7 +3,7 @@
 use Rattle.std.proofs.Common.{◌≡◌, ℕ, ◌⊎◌, inl, inr, Bool, true, false, IsTrue, List, ◌++◌, Result, Ok, Err, refl, sym, ap, ◌∙◌, subst, append-nil}
 use Rattle.std.specs.Prelude.{⊤, IfOk, IfErr}
 use Rattle.ports.specs.Causes.{Rose}
-use Rattle.i2c_top.specs.Endings.{shown_of, CameTo, CameToSuccess, CameToRefusal, IsCaused, name_in, due_of, IsTextDue, IsStarved, IsWritten, IsRefusalWritten, HasSaid, HasEndedAs, IsCutShort}
+use Rattle.i2c_top.specs.Endings.{shown_of, CameTo, CameToSuccess, CameToRefusal, IsAnswer, IsCaused, name_in, due_of, IsTextDue, IsStarved, IsWritten, IsRefusalWritten, HasSaid, HasEndedAs, IsCutShort}
 use Rattle.i2c_top.specs.Form.{Form, DecidesOnce, IsStatusOf, own_of, told_of, unreached_of, rig_after, traced_of, IsCalm, KeepsShelf, KeepsSkipped}
 use Rattle.i2c_top.specs.Status.{Class, Done, Misused, Refused, Unread, NoRig, Silent, class_of, refusal_text}
 use Rattle.i2c_top.specs.Traces.{ShelfView, OutputView, RigView, Outside, IsRigLeft, IsTried, IsUnread}
@@ -270,7 +270,7 @@ ended_same row names names_now old new result same h = subst (λ n. HasEndedAs (
 module _ (form : Form) (shelf shelf_now : ShelfView) (rig rig_now : RigView) where
   -- the files let it succeed, and what is to be done to the rig was done
   pub came_to_success : (text : List ℕ) → (IsTrue shelf.tells → form.cause shelf.file status.Ok) → rig_after form.plugs rig rig_now
-      → (IsTrue shelf.tells → form.answer shelf.file rig_now text) → KeepsShelf form shelf shelf_now
+      → IsAnswer form shelf rig_now text → KeepsShelf form shelf shelf_now
       → CameToSuccess form shelf shelf_now rig rig_now text
   came_to_success text cause after answer kept =
       record {

@@ -1,7 +1,8 @@
 -- A list that goes over into another, one element after the other: each under its number, or alone.
-use Rattle.std.proofs.Common.{◌≡◌, ℕ, suc, ◌+◌, ◌<◌, ◌≤◌, List, [], ◌∷◌, ◌++◌, length, map, refl, sym, ◌∙◌, ap, subst, arith}
+use Rattle.std.proofs.Common.{◌≡◌, ℕ, suc, ◌+◌, ◌<◌, ◌≤◌, List, [], ◌∷◌, ◌++◌, length, map, All, refl, sym, ◌∙◌, ap, subst, arith}
 use Rattle.std.specs.List.{enumerate_from}
 use Rattle.std.proofs.lemmas.List.{length-append, append_assoc}
+use Rattle.std.proofs.lemmas.List.Elements.{All-head, All-tail}
 
 -- so far `out` is what a function tells of the elements that came, `rest` is to come, and there is room for all
 pub record GoesOver {X Y : Type 0} (told : List X → List Y) (all came rest : List X) (count : ℕ) (out : List Y) (room : ℕ) : Type 0 where
@@ -37,6 +38,16 @@ module _ {X Y : Type 0} (told : List X → List Y) (all : List X) where
       → items ≡ x ∷ rest → length came < length all
   below-next came items rest x count room out over steps = over-below came rest x count room out
       (subst (λ (xs : List X). GoesOver told all came xs count out room) steps over)
+
+  -- what holds of all elements holds of the one that comes next
+  pub next-holds : (P : X → Type 0) (came items rest : List X) (x : X) (count room : ℕ) (out : List Y)
+      → GoesOver told all came items count out room → items ≡ x ∷ rest → All P all → P x
+  next-holds P came items rest x count room out over steps holds =
+      behind came (subst (All P) (sym (ap (λ (xs : List X). came ++ xs) (sym steps) ∙ over.goes)) holds)
+    where
+      behind : (front : List X) → All P (front ++ x ∷ rest) → P x
+      behind [] h = All-head P x rest h
+      behind (y ∷ ys) h = behind ys (All-tail P y (ys ++ x ∷ rest) h)
 
   pub over-one : (came rest : List X) (x : X) (y : Y) (count less room : ℕ) (out : List Y)
       → GoesOver told all came (x ∷ rest) count out room → less + 1 ≡ count

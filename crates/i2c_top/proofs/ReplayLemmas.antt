@@ -28,19 +28,19 @@ has_files file names b texts words read cheap =
 
 -- the run of what was read is the report that the files ask for
 has_report : (file : Files) (names : Names) (b : BoardView) (texts : List (List ℕ)) (words : Option (List ℕ)) (bytes : List ℕ)
-    (logs : List (List PortCall)) (states : List TargetState)
-    → HasRead file names b texts words → cost_of_texts b texts ≤ MOST_COST → HasRun b texts words bytes logs states
-    → HasReport file names bytes logs states
-has_report file names b texts words bytes logs states read cheap run =
+    (logs : List (List PortCall)) (states : List TargetState) (counts : List ℕ)
+    → HasRead file names b texts words → cost_of_texts b texts ≤ MOST_COST → HasRun b texts words bytes logs states counts
+    → HasReport file names bytes logs states counts
+has_report file names b texts words bytes logs states counts read cheap run =
     record {
       files = has_files file names b texts words read cheap;
       run =
           let board : BoardView = read.board_in.has.board in
-          let over : HasRun board texts words bytes logs states =
-          subst (λ x. HasRun x texts words bytes logs states) read.board_in.same run in
-          let of : HasRun board (texts_in file names.scripts) words bytes logs states =
-          subst (λ ts. HasRun board ts words bytes logs states) read.texts_are over in
-          subst (λ ws. HasRun board (texts_in file names.scripts) ws bytes logs states) read.order_in.same of;
+          let over : HasRun board texts words bytes logs states counts =
+          subst (λ x. HasRun x texts words bytes logs states counts) read.board_in.same run in
+          let of : HasRun board (texts_in file names.scripts) words bytes logs states counts =
+          subst (λ ts. HasRun board ts words bytes logs states counts) read.texts_are over in
+          subst (λ ws. HasRun board (texts_in file names.scripts) ws bytes logs states counts) read.order_in.same of;
     }
 
 unread_order : (file : Files) (schedule : Option (List ℕ)) (callers : ℕ) (words : Option (List ℕ)) → schedule ≡ None
@@ -92,27 +92,31 @@ module _ (names : Names) (shelf shelf_now : ShelfView) (rig rig_now : RigView) (
   files : IsTrue shelf.tells → HasFiles shelf.file names
   files t = has_files shelf.file names b texts words (read t) cheap
 
-  -- one that ended is a success of the form, by its report
-  pub run_done : {X : Type 0} (r : Result X Status) (bytes_of : X → List ℕ) → OnOk r (rig_now.unplugs ≡ counted rig.unplugs)
-      → (IsTrue shelf.tells → IsTrue rig_now.tells → IsTrue rig_now.ports_tell
-      → IfOk r (λ x. HasRun b texts words (bytes_of x) rig_now.logs rig_now.states))
+  -- one that ended, by words that are those of the schedule where the shelf tells it, is a success of the form by its report
+  pub run_done : {X : Type 0} (r : Result X Status) (bytes_of : X → List ℕ) (by : Option (List ℕ)) → (IsTrue shelf.tells → by ≡ words)
+      → OnOk r (rig_now.unplugs ≡ counted rig.unplugs)
+      → (IsTrue rig_now.tells → IsTrue rig_now.ports_tell
+      → IfOk r (λ x. HasRun b texts by (bytes_of x) rig_now.logs rig_now.states rig_now.counts))
       → IfOk r (λ x. CameToSuccess (replay_form names) shelf shelf_now rig rig_now (bytes_of x))
-  run_done (Ok x) bytes_of unplugs run =
+  run_done (Ok x) bytes_of by same unplugs run =
       came_to_success (replay_form names) shelf shelf_now rig rig_now (bytes_of x) files
       (record { plugs = plugs; unplugs = unplugs; unplugged = unplugged })
-      (λ t tells ports.
-      has_report shelf.file names b texts words (bytes_of x) rig_now.logs rig_now.states (read t) cheap (run t tells ports)) kept
-  run_done (Err e) bytes_of unplugs run = tt
+      (record {
+        by_files = λ t tells ports.
+            has_report shelf.file names b texts words (bytes_of x) rig_now.logs rig_now.states rig_now.counts (read t) cheap
+            (subst (λ ws. HasRun b texts ws (bytes_of x) rig_now.logs rig_now.states rig_now.counts) (same t) (run tells ports));
+        by_rig = λ tells ports. record { board = b; texts = texts; words = by; run = run tells ports };
+      }) kept
+  run_done (Err e) bytes_of by same unplugs run = tt
 
   -- without a schedule no order was asked for
   pub free_run_done : {X : Type 0} (r : Result X Status) (bytes_of : X → List ℕ) → names.schedule ≡ None
       → OnOk r (rig_now.unplugs ≡ counted rig.unplugs)
-      → (IsTrue rig_now.tells → IsTrue rig_now.ports_tell → IfOk r (λ x. HasRun b texts None (bytes_of x) rig_now.logs rig_now.states))
+      → (IsTrue rig_now.tells → IsTrue rig_now.ports_tell → IfOk r (λ x. HasRun b texts None (bytes_of x) rig_now.logs rig_now.states rig_now.counts))
       → IfOk r (λ x. CameToSuccess (replay_form names) shelf shelf_now rig rig_now (bytes_of x))
   free_run_done r bytes_of free unplugs run =
-      run_done r bytes_of unplugs (λ t tells ports.
-      subst (λ ws. IfOk r (λ x. HasRun b texts ws (bytes_of x) rig_now.logs rig_now.states))
-      (sym (unread_order shelf.file names.schedule (length names.scripts) words free (read t).order_in)) (run tells ports))
+      run_done r bytes_of None
+      (λ t. sym (unread_order shelf.file names.schedule (length names.scripts) words free (read t).order_in)) unplugs run
 
   -- one that failed is a refusal of it
   pub run_failed : {X : Type 0} (r : Result X Status) → (r ≡ Err status.Rig → rig_now.unplugs ≡ rig.unplugs)
@@ -134,6 +138,6 @@ module _ (names : Names) (shelf shelf_now : ShelfView) (rig rig_now : RigView) (
 pub ended_replayed : (names : Names) (old new : Outside) (result : Status) → HasEndedAs (replay_form names) old new result
     → IsTrue old.shelf.tells
     → IsTrue old.sink.tells → IsTrue new.rig.tells → IsTrue new.rig.ports_tell → result ≡ status.Ok
-    → HasReplayed old.shelf.file names old.sink.bytes new.sink.bytes new.rig.logs new.rig.states
+    → HasReplayed old.shelf.file names old.sink.bytes new.sink.bytes new.rig.logs new.rig.states new.rig.counts
 ended_replayed names old new result h shelf sink rig ports ok =
-    let s = h.said ok in record { bytes = s.text; report = s.answer shelf rig ports; written = s.written sink }
+    let s = h.said ok in record { bytes = s.text; report = s.answer.by_files shelf rig ports; written = s.written sink }

@@ -1,6 +1,6 @@
 -- A run that is over: its journal is legal and complete, and the ports and the devices are what it tells. The induction goes
 -- over the entries.
-use Rattle.std.proofs.Common.{◌≡◌, ℕ, ◌<◌, ◌≤◌, ◌⊎◌, inl, inr, List, [], ◌∷◌, length, map, reverse, get_or, Option, Some, None, sym, ◌∙◌, ap, subst, arith, cond, zero-add}
+use Rattle.std.proofs.Common.{◌≡◌, ℕ, ◌<◌, ◌≤◌, ◌⊎◌, inl, inr, List, [], ◌∷◌, length, map, All, reverse, get_or, Option, Some, None, sym, ◌∙◌, ap, subst, arith, cond, zero-add}
 use Rattle.std.specs.Prelude.{slice_get}
 use Rattle.std.specs.List.{range_with_len}
 use Rattle.std.specs.Option.{option_map, option_map_or}
@@ -33,6 +33,8 @@ use Rattle.flat_laws.proofs.Laws.{replies-kept, legal-with, devices-left, comple
 use Rattle.caller_core.specs.Callers.{board_of}
 use Rattle.caller_core.specs.Scripts.{asked_by, left_of, commands_of, section_text}
 use Rattle.caller_core.specs.View.{CallerView, ScriptView, script_on}
+use Rattle.bus_journal.specs.Ranges.{IsEntry}
+use Rattle.i2c_top.specs.Faults.{AreCounted}
 use Rattle.i2c_top.specs.Runs.{asks_by, printed_by, texts_of, section_of, IsOver, IsRunOf}
 
 -- two ways of asking that give the same are one
@@ -184,13 +186,16 @@ module _ (b : BoardView) (callers : List CallerView) (many : ℕ) (journal : Lis
       (length-map callers section_of ∙ sym (length-map callers (λ (s : CallerView). s.script.text))) section_at
 
   -- THE RUN of callers that are over
-  pub run-over : (bytes : List ℕ) (kept_logs : List (List PortCall)) (states : List TargetState)
-      → bytes ≡ report_lines (map section_of callers) journal
-      → (AreWorldsOf b worlds → states ≡ devices_of b worlds) → (AreWorldsOf b worlds → kept_logs ≡ logs)
-      → IsRunOf b texts bytes kept_logs states journal
-  run-over bytes kept_logs states printed kept logged =
+  pub run-over : (bytes : List ℕ) (kept_logs : List (List PortCall)) (states : List TargetState) (counts : List ℕ)
+      → bytes ≡ report_lines (map section_of callers) journal → All IsEntry journal
+      → (AreWorldsOf b worlds → states ≡ devices_of b worlds) → (AreWorldsOf b worlds → kept_logs ≡ logs) → AreCounted b logs counts
+      → IsRunOf b texts bytes kept_logs states counts journal
+  run-over bytes kept_logs states counts printed in_range kept logged counted =
       record {
+        plain = over.plain;
+        rules = over.rules;
         reported = printed ∙ ap (λ (xs : List (List ℕ)). report_lines xs journal) sections_are;
+        in_range = in_range;
         legal = legal-with b (tree_of b over.plain over.rules) over.plain
             (lines-locked b over.rules) asks some count past stepwise over.rests
             (replies-kept b (tree_of b over.plain over.rules) over.plain (lines-locked b over.rules) asks some limits count past stepwise);
@@ -198,6 +203,7 @@ module _ (b : BoardView) (callers : List CallerView) (many : ℕ) (journal : Lis
         complete = complete-then b (tree_of b over.plain over.rules) over.plain
             (lines-locked b over.rules) asks some count past stepwise is_done;
         called = logged are_worlds ∙ logs_are;
+        faults = subst (λ (ls : List (List PortCall)). AreCounted b ls counts) (sym (logged are_worlds)) counted;
         told = left_by.told;
         replayed = left_by.defined;
         left = kept are_worlds ∙ ap (devices_of b) worlds_are ∙ left_by.states;

@@ -39,10 +39,15 @@ pub record IsCaused (form : Form) (old new : Outside) (s : Status) : Type 0 wher
   pub unreached : KeepsUnreached form old.shelf.faults new.shelf.faults s
   pub traced : IsTraced form old.rig new.rig s
 
+-- a text is what was asked for: by the files, where the shelf tells them, and by what the rig holds
+pub record IsAnswer (form : Form) (shelf : ShelfView) (rig : RigView) (text : List ℕ) : Type 0 where
+  pub by_files : IsTrue shelf.tells → form.answer shelf.file rig text
+  pub by_rig : form.leaves rig text
+
 -- a success that was come to, and the text that it is to write
 pub record CameToSuccess (form : Form) (shelf shelf_now : ShelfView) (rig rig_now : RigView) (text : List ℕ) : Type 0 where
   pub came : CameTo form shelf shelf_now rig rig_now status.Ok
-  pub answer : IsTrue shelf.tells → form.answer shelf.file rig_now text
+  pub answer : IsAnswer form shelf rig_now text
   pub kept : KeepsShelf form shelf shelf_now
 
 -- a refusal that was come to
@@ -62,7 +67,7 @@ name_in words s = name_by_class words (class_of s)
 
 -- the text that is due for a status: what was asked for, or the line of the refusal
 abbrev pub due_of : Form → ShelfView → RigView → Status → List ℕ → Class → Type 0
-due_of form shelf rig s text Done = IsTrue shelf.tells → form.answer shelf.file rig text
+due_of form shelf rig s text Done = IsAnswer form shelf rig text
 due_of form shelf rig s text Silent = ⊥
 due_of form shelf rig s text _ = text ≡ refusal_text s (name_in shelf.words s)
 
@@ -112,7 +117,7 @@ pub record HasWritten (form : Form) (old new : Outside) (result : Status) : Type
 -- a success that was written: what was asked for, whole
 pub record HasSaid (form : Form) (old new : Outside) : Type 0 where
   pub text : List ℕ
-  pub answer : IsTrue old.shelf.tells → form.answer old.shelf.file new.rig text
+  pub answer : IsAnswer form old.shelf new.rig text
   pub written : IsTrue old.sink.tells → new.sink.bytes ≡ old.sink.bytes ++ text
 
 -- how a call of a form ends. Its status has its cause, in the order of refusals. Where no count rose of what the form uses, it

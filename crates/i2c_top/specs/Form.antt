@@ -11,6 +11,7 @@ use Rattle.i2c_top.specs.declared.status.Status.TheVariants as status
 -- before it is not refused. `skips`: with a refusal the call ends before it comes to the file at this place. `refuses`: it may
 -- end with this refusal of a text. `cause`: what the files say where it ends with a status that they decide, which is a success
 -- or the refusal of a text. `plugs`: it plugs the rig. `answer`: the text that a success writes, by the files and the rig.
+-- `leaves`: what is so of that text and of the rig, whatever the files are.
 pub record Form : Type 1 where
   pub reads : ℕ → Type 0
   pub turn : Files → ℕ → Type 0
@@ -19,6 +20,7 @@ pub record Form : Type 1 where
   pub cause : Files → Status → Type 0
   pub plugs : Bool
   pub answer : Files → RigView → List ℕ → Type 0
+  pub leaves : RigView → List ℕ → Type 0
 
 -- what every row keeps: files are a cause of one status
 abbrev pub DecidesOnce : Form → Type 0

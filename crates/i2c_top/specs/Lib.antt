@@ -3,6 +3,7 @@ pub mod forms
 pub mod Boards
 pub mod Cores
 pub mod Endings
+pub mod Faults
 pub mod Files
 pub mod Form
 pub mod Names

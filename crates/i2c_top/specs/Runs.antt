@@ -19,11 +19,13 @@ use Rattle.bus_spec.specs.Legal.{IsLegal, IsComplete}
 use Rattle.bus_spec.specs.Stepwise.{IsStepwise}
 use Rattle.bus_spec.specs.Schedule.{Follows}
 use Rattle.bus_spec.specs.Report.{report_of}
+use Rattle.bus_journal.specs.Ranges.{IsEntry}
 use Rattle.bus_core.specs.declared.bus.Parts.{Parts}
 use Rattle.bus_core.specs.declared.seat.Seat.{Seat}
 use Rattle.caller_core.specs.Callers.{IsOpened}
 use Rattle.caller_core.specs.Scripts.{asked_by, commands_of, cost_of_script, section_text}
 use Rattle.caller_core.specs.View.{CallerView, script_on}
+use Rattle.i2c_top.specs.Faults.{AreCounted}
 
 -- what a caller asks for, by the text of its script, which stands at its number; nobody has another number
 abbrev pub asks_by : BoardView → List (List ℕ) → Asks
@@ -76,15 +78,20 @@ pub record IsOver (b : BoardView) (callers : List CallerView) (many : ℕ) (jour
   pub logs_count : length logs ≡ length b.roots
   pub log : (r : ℕ) → r < length b.roots → slice_get logs r ≡ Some (calls_of b (asks_by b (texts_of callers)) (reverse journal) r)
 
--- these bytes are the report of this journal, the oldest entry first; it is legal, and each entry might come where it did;
--- it is complete; these are the calls of its ports, and the devices that it leaves
+-- over an accepted board these bytes are the report of this journal, the oldest entry first, whose fields are in range; it is
+-- legal, and each entry might come where it did; it is complete; these are the calls of its ports, which failed only where the
+-- ports counted it, and the devices that it leaves
 pub record IsRunOf (b : BoardView) (texts : List (List ℕ)) (bytes : List ℕ) (logs : List (List PortCall)) (states : List TargetState)
-    (journal : List Entry) : Type 0 where
+    (counts : List ℕ) (journal : List Entry) : Type 0 where
+  pub plain : IsPlainBoard b
+  pub rules : MeetsRules b
   pub reported : bytes ≡ report_of (printed_by b texts) (length texts) journal
+  pub in_range : All IsEntry journal
   pub legal : IsLegal b (length texts) (asks_by b texts) (reverse journal)
   pub stepwise : IsStepwise b (length texts) (asks_by b texts) (reverse journal)
   pub complete : IsComplete b (length texts) (asks_by b texts) (reverse journal)
   pub called : logs ≡ map (calls_of b (asks_by b texts) (reverse journal)) (range_with_len 0 (length b.roots))
+  pub faults : AreCounted b logs counts
   pub told : History
   pub replayed : history b (asks_by b texts) (order (reverse journal)) ≡ Some told
   pub left : states ≡ told.states
@@ -96,7 +103,14 @@ KeepsOrder (Some words) journal = Follows words journal
 
 -- there is such a journal, which keeps the order that is asked for
 pub record HasRun (b : BoardView) (texts : List (List ℕ)) (words : Option (List ℕ)) (bytes : List ℕ) (logs : List (List PortCall))
-    (states : List TargetState) : Type 0 where
+    (states : List TargetState) (counts : List ℕ) : Type 0 where
   pub journal : List Entry
-  pub is_run : IsRunOf b texts bytes logs states journal
+  pub is_run : IsRunOf b texts bytes logs states counts journal
   pub ordered : KeepsOrder words journal
+
+-- there are an accepted board, texts of scripts, and the words of a schedule or none, and this is a run of these
+pub record HasSomeRun (bytes : List ℕ) (logs : List (List PortCall)) (states : List TargetState) (counts : List ℕ) : Type 0 where
+  pub board : BoardView
+  pub texts : List (List ℕ)
+  pub words : Option (List ℕ)
+  pub run : HasRun board texts words bytes logs states counts

@@ -46,6 +46,7 @@ pub record RigView : Type 0 where
   pub plugged : Bool
   pub logs : List (List PortCall)
   pub states : List TargetState
+  pub counts : List ℕ
 
 abbrev pub rig_view : {R P : Type 0} → RigGhosts R P → Bool → R → RigView
 rig_view g ports_tell r =
@@ -58,6 +59,7 @@ rig_view g ports_tell r =
       plugged = g.plugged r;
       logs = g.logs r;
       states = g.states r;
+      counts = g.port_faults r;
     }
 
 -- the three of them

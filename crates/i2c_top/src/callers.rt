@@ -1,5 +1,5 @@
 //! Scripts as the callers of a core, stepped by a schedule or on threads.
-ghost use Rattle.std.specs.Prelude.{◌≡◌, ◌≤◌, [], None, IfOk, length, unwrap_or};
+ghost use Rattle.std.specs.Prelude.{◌≡◌, ◌≤◌, [], None, IfOk, IsTrue, All, length, unwrap_or};
 ghost use Rattle.std.specs.List.{enumerate_from};
 ghost use Rattle.std.specs.Option.{option_map};
 ghost use Rattle.i2c_base.specs.Limits.{MOST_ROOTS, MOST_CALLERS};
@@ -7,6 +7,7 @@ ghost use Rattle.i2c_top.specs.Cores.{MayRun, IsCoreOf, IsLeftOf};
 ghost use Rattle.i2c_top.specs.Readings.{AreNamed};
 
 use crate::cost::cost_of;
+use crate::counted_port::CountedPort;
 use bus_core::{BusCore, Parts};
 use bus_monitor::run_all;
 use caller_core::{Script, scripts_are_fair};
@@ -18,16 +19,21 @@ use std::alloc::Global;
 use std::sync::Wait;
 use std::thread::Threads;
 
-// Each port with the number of its root.
-fn by_root<P: Port>(alloc: Global, ports: Vec<P>, roots: usize) -> Result<Vec<(SegId, P)>, NoMemory>
+// Each port with the number of its root, to account for its faults from here on.
+fn by_root<P: Port>(
+    alloc: Global,
+    ports: Vec<P>,
+    roots: usize,
+) -> Result<Vec<(SegId, CountedPort<P>)>, NoMemory>
     requires count { length ports.items ≡ roots }
     requires few { roots ≤ MOST_ROOTS }
+    requires empty { IsTrue P.tells → All (λ p. P.log p ≡ []) ports.items }
     ensures { IfOk result (λ xs. xs.items ≡ enumerate_from 0 ports.items) }
 {
     let mut by_root = Vec::with_capacity(alloc, roots)?;
     for port in ports {
         let number = by_root.len() as u16;
-        by_root.push_reserved((SegId(number), port));
+        by_root.push_reserved((SegId(number), CountedPort::new(port)));
     }
     Ok(by_root)
 }
@@ -51,7 +57,7 @@ fn opened<'b, P: Port>(
     board: &'b Accepted,
     scripts: Vec<Script>,
     ports: Vec<P>,
-) -> Result<BusCore<'b, P, Script>, NoMemory>
+) -> Result<BusCore<'b, CountedPort<P>, Script>, NoMemory>
     requires may { MayRun P.Port board.now scripts.items ports.items }
     ensures of { IfOk result (IsCoreOf board.now scripts.items ports.items) }
     ensures entries { IfOk result (λ core. core.journal.entries ≡ []) }
@@ -82,7 +88,7 @@ pub fn finished<P: Port>(
     scripts: Vec<Script>,
     words: Option<Vec<u8>>,
     ports: Vec<P>,
-) -> Result<Parts<P, Script>, NoMemory>
+) -> Result<Parts<CountedPort<P>, Script>, NoMemory>
     requires may { MayRun P.Port board.now scripts.items ports.items }
     requires named { AreNamed (length scripts.items) (option_map (λ v. v.items) words) }
     ensures { IfOk result (IsLeftOf P.Port board.now scripts.items ports.items (option_map (λ v. v.items) words)) }
@@ -101,7 +107,7 @@ pub fn ran<P: Port, G: Gate + Sync, H: Threads + Wait + Sync>(
     scripts: Vec<Script>,
     gate: &G,
     ports: Vec<P>,
-) -> Result<Parts<P, Script>, NoMemory>
+) -> Result<Parts<CountedPort<P>, Script>, NoMemory>
     requires may { MayRun P.Port board.now scripts.items ports.items }
     ensures { IfOk result (IsLeftOf P.Port board.now scripts.items ports.items None) }
 {

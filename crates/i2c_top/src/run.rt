@@ -1,10 +1,11 @@
 //! Scripts over the ports of a rig, which is plugged before them and unplugged after.
-ghost use Rattle.std.specs.Prelude.{◌≡◌, ◌≤◌, ◌⊎◌, ℕ, List, [], false, true, Option, None, Err, IfOk, OnOk, IfErr, OnErr, IsTrue, length, map, vec_capacity};
+ghost use Rattle.std.specs.Prelude.{◌≡◌, ◌≤◌, ◌⊎◌, ℕ, List, [], false, true, Option, None, Err, IfOk, OnOk, IfErr, OnErr, IsTrue, All, length, map, vec_capacity};
 ghost use Rattle.std.specs.Option.{option_map};
 ghost use Rattle.i2c_base.specs.Limits.{MOST_CALLERS};
 ghost use Rattle.ports.specs.Causes.{Rose, counted};
 ghost use Rattle.caller_core.specs.View.{CallerView};
 ghost use Rattle.i2c_top.specs.Cores.{AreFresh, IsLeftOf};
+ghost use Rattle.i2c_top.specs.Faults.{AccountsForFaults};
 ghost use Rattle.i2c_top.specs.Readings.{AreNamed};
 ghost use Rattle.i2c_top.specs.Traces.{IsAtMostOnce};
 ghost use Rattle.i2c_top.specs.Runs.{AreOpened, texts_of, cost_of_texts, MOST_COST, HasRun};
@@ -12,6 +13,7 @@ ghost use Rattle.i2c_top.specs.declared.status.Status.TheVariants as status;
 
 use crate::Status;
 use crate::callers::{finished, ran};
+use crate::counted_port::CountedPort;
 use crate::report::report_of_callers;
 use crate::text::Text;
 use bus_core::Parts;
@@ -25,14 +27,15 @@ use std::sync::Wait;
 use std::thread::Threads;
 
 // The ports alone, in a list that has room for them.
-fn alone<P: Port>(ports: Vec<(SegId, P)>, room: Vec<P>) -> Vec<P>
+fn alone<P: Port>(ports: Vec<(SegId, CountedPort<P>)>, room: Vec<P>) -> Vec<P>
     requires empty { room.items ≡ [] }
     requires room { length ports.items ≤ vec_capacity room }
-    ensures { result.items ≡ map (λ p. p.1) ports.items }
+    ensures ports { result.items ≡ map (λ p. p.1) ports.items }
+    ensures accounts { All (AccountsForFaults P.Port) result.items }
 {
     let mut alone = room;
     for (_, port) in ports {
-        alone.push_reserved(port);
+        alone.push_reserved(port.into_port());
     }
     alone
 }
@@ -70,7 +73,7 @@ fn plugged<R: Rig>(
 // Gives the ports that are left of a run back to their rig, and makes the report.
 fn reported<R: Rig>(
     alloc: Global,
-    parts: Result<Parts<R::P, Script>, NoMemory>,
+    parts: Result<Parts<CountedPort<R::P>, Script>, NoMemory>,
     room: Vec<R::P>,
     rig: &mut R,
 ) -> Result<Text, Status>
@@ -78,7 +81,7 @@ fn reported<R: Rig>(
     requires empty { room.items ≡ [] }
     requires room { IfOk parts (λ x. length x.ports.items ≤ vec_capacity room) }
     ensures run { IsTrue R.tells → IsTrue R.P.tells → (scripts : List CallerView) (ports : List _) (words : Option (List ℕ)) → IfOk parts (IsLeftOf R.P.Port (R.board_of rig.old) scripts ports words)
-        → IfOk result (λ text. HasRun (R.board_of rig.old) (texts_of scripts) words text (R.logs rig.new) (R.states rig.new)) }
+        → IfOk result (λ text. HasRun (R.board_of rig.old) (texts_of scripts) words text (R.logs rig.new) (R.states rig.new) (R.port_faults rig.new)) }
     ensures failed { IfErr result (λ e. e ≡ status.Memory) }
     ensures later { R.faults rig.old ≤ R.faults rig.new }
     ensures plugs { R.plugs rig.new ≡ R.plugs rig.old }
@@ -94,6 +97,7 @@ fn reported<R: Rig>(
         seats,
         journal,
     } = parts;
+    journal.entries_are_in_range();
     rig.unplug(alone(ports, room));
     Ok(report_of_callers(alloc, seats.as_slice(), journal)?)
 }
@@ -112,7 +116,7 @@ pub fn run_scripts<R: Rig>(
     requires few { length scripts.items ≤ MOST_CALLERS }
     requires named { AreNamed (length scripts.items) (option_map (λ v. v.items) words) }
     requires cheap { cost_of_texts board.now (texts_of scripts.items) ≤ MOST_COST }
-    ensures run { IsTrue R.tells → IsTrue R.P.tells → IfOk result (λ text. HasRun board.now (texts_of scripts.items) (option_map (λ v. v.items) words) text (R.logs rig.new) (R.states rig.new)) }
+    ensures run { IsTrue R.tells → IsTrue R.P.tells → IfOk result (λ text. HasRun board.now (texts_of scripts.items) (option_map (λ v. v.items) words) text (R.logs rig.new) (R.states rig.new) (R.port_faults rig.new)) }
     ensures failed { IfErr result (λ e. (e ≡ status.Rig) ⊎ (e ≡ status.Memory)) }
     ensures rig { result ≡ Err status.Rig → Rose (R.faults rig.old) (R.faults rig.new) }
     ensures later { R.faults rig.old ≤ R.faults rig.new }
@@ -139,7 +143,7 @@ pub fn run_at_once<H: Threads + Wait + Sync, R: Rig, G: Gate + Sync>(
     requires opened { AreOpened board.now scripts.items }
     requires few { length scripts.items ≤ MOST_CALLERS }
     requires cheap { cost_of_texts board.now (texts_of scripts.items) ≤ MOST_COST }
-    ensures run { IsTrue R.tells → IsTrue R.P.tells → IfOk result (λ text. HasRun board.now (texts_of scripts.items) None text (R.logs rig.new) (R.states rig.new)) }
+    ensures run { IsTrue R.tells → IsTrue R.P.tells → IfOk result (λ text. HasRun board.now (texts_of scripts.items) None text (R.logs rig.new) (R.states rig.new) (R.port_faults rig.new)) }
     ensures failed { IfErr result (λ e. (e ≡ status.Rig) ⊎ (e ≡ status.Memory)) }
     ensures rig { result ≡ Err status.Rig → Rose (R.faults rig.old) (R.faults rig.new) }
     ensures later { R.faults rig.old ≤ R.faults rig.new }

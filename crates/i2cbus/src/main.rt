@@ -3,8 +3,11 @@
 //! It hands the real files, the standard output and a rig to `top`, and ends with the status's number.
 #![tactic(auto)]
 
-ghost use Rattle.std.specs.Prelude.{◌≡◌, map, string_bytes, IfOk, OnErr};
-ghost use Rattle.i2c_top.specs.forms.{request_in, HasEnded};
+ghost use Rattle.std.specs.Prelude.{◌≡◌, ℕ, List, Some, map, string_bytes, IfOk, IsTrue, OnErr};
+ghost use Rattle.i2c_top.specs.forms.{Replay, Check, request_in, HasEnded};
+ghost use Rattle.i2c_top.specs.forms.Checks.{HasChecked};
+ghost use Rattle.i2c_top.specs.forms.Replays.{Names, HasReplayed};
+ghost use Rattle.i2c_top.specs.declared.status.Status.TheVariants as status;
 ghost use Rattle.i2c_top.specs.Traces.{outside, rig_view};
 ghost use Rattle.i2cbus.specs.Starts.{HasCalled};
 
@@ -21,7 +24,8 @@ use std::sync::Wait;
 use std::thread::Threads;
 use words::words_of;
 
-// Does what the words say, over whatever shelf, output and rig: the status is that of `top`.
+// Does what the words say, over whatever shelf, output and rig: the status is that of `top`, and so is
+// what a success wrote.
 fn run<H: Threads + Wait + Sync, S: Shelf, K: Sink, R: Rig>(
     rt: &H,
     alloc: Global,
@@ -34,6 +38,12 @@ fn run<H: Threads + Wait + Sync, S: Shelf, K: Sink, R: Rig>(
     ensures ended { HasEnded (request_in (map string_bytes words.now))
         (outside S.Shelf K.Sink R.Rig R.P.tells shelf.old sink.old rig.old) (outside S.Shelf K.Sink R.Rig R.P.tells shelf.new sink.new rig.new) result }
     ensures called { HasCalled (rig_view R.Rig R.P.tells rig.old) (rig_view R.Rig R.P.tells rig.new) result }
+    ensures success { IsTrue S.tells → IsTrue K.tells → IsTrue R.tells → IsTrue R.P.tells
+        → (names : Names) → request_in (map string_bytes words.now) ≡ Some (Replay names) → result ≡ status.Ok
+        → HasReplayed (S.file shelf.old) names (K.bytes sink.old) (K.bytes sink.new) (R.logs rig.new) (R.states rig.new) (R.port_faults rig.new) }
+    ensures checked { IsTrue S.tells → IsTrue K.tells
+        → (board : List ℕ) → request_in (map string_bytes words.now) ≡ Some (Check board) → result ≡ status.Ok
+        → HasChecked (S.file shelf.old) board (K.bytes sink.old) (K.bytes sink.new) }
 {
     top(rt, alloc, words, shelf, sink, rig, &OpenGate)
 }

@@ -1,5 +1,5 @@
 -- `check BOARD`: its words, what the board's file says where it ends with a status, and the line that it writes.
-use Rattle.std.specs.Prelude.{◌≡◌, ℕ, ◌<◌, ◌==◌, Bool, false, ◌&&◌, List, ◌++◌, length, codes}
+use Rattle.std.specs.Prelude.{⊤, ◌≡◌, ℕ, ◌<◌, ◌==◌, Bool, false, ◌&&◌, List, ◌++◌, length, codes}
 use Rattle.std.specs.Fmt.{decimal}
 use Rattle.std.specs.Str.{bytes_eq}
 use Rattle.i2c_base.specs.Board.{BoardView}
@@ -50,4 +50,5 @@ check_form board = record {
   cause = λ file s. IsCheckCause file board s;
   plugs = false;
   answer = λ file rig text. HasCheck file board text;
+  leaves = λ rig text. ⊤;
 }

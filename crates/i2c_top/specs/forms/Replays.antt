@@ -12,7 +12,7 @@ use Rattle.i2c_top.specs.Boards.{HasAccepted, HasRejected}
 use Rattle.i2c_top.specs.Files.{Files}
 use Rattle.i2c_top.specs.Form.{Form}
 use Rattle.i2c_top.specs.Names.{are_names, AreNamesFrom}
-use Rattle.i2c_top.specs.Runs.{cost_of_texts, MOST_COST, HasRun}
+use Rattle.i2c_top.specs.Runs.{cost_of_texts, MOST_COST, HasRun, HasSomeRun}
 use Rattle.i2c_top.specs.Scripts.{script_name, HasBadScript, HasScripts, texts_in, HasOrder, HasBadOrder, words_in}
 use Rattle.i2c_top.specs.declared.names.ReplayNames.{ReplayNames}
 use Rattle.i2c_top.specs.declared.status.Status.{Status}
@@ -148,23 +148,23 @@ pub record IsReplayRefusal (names : Names) (s : Status) : Type 0 where
   pub schedule : (word : ℕ) → s ≡ status.Schedule word → IsScheduleAt names.schedule 2
 
 -- the files are there, well formed and within the cost, and these bytes are the report of a run of the scripts over the
--- board, by the schedule where there is one, with the calls on its ports and the devices that it leaves
+-- board, by the schedule where there is one, with the calls on its ports, the devices that it leaves, and what the ports counted
 pub record HasReport (file : Files) (names : Names) (bytes : List ℕ) (logs : List (List PortCall))
-    (states : List TargetState) : Type 0 where
+    (states : List TargetState) (counts : List ℕ) : Type 0 where
   pub files : HasFiles file names
   pub run : HasRun files.texts.board.board (texts_in file names.scripts)
       (words_in file names.schedule (length names.scripts) files.texts.schedule)
-      bytes logs states
+      bytes logs states counts
 
 -- the report was written behind what stood there
 pub record HasReplayed (file : Files) (names : Names) (before now : List ℕ) (logs : List (List PortCall))
-    (states : List TargetState) : Type 0 where
+    (states : List TargetState) (counts : List ℕ) : Type 0 where
   pub bytes : List ℕ
-  pub report : HasReport file names bytes logs states
+  pub report : HasReport file names bytes logs states counts
   pub written : now ≡ before ++ bytes
 
 -- THE ROW, of both: it reads the board, the scripts and the schedule, where there is one; it plugs the rig, and a success
--- writes the report of a run over it
+-- writes the report of a run over it, which is some run whatever the files are
 abbrev pub replay_form : Names → Form
 replay_form names = record {
   reads = IsPlaceIn names;
@@ -173,5 +173,6 @@ replay_form names = record {
   refuses = IsReplayRefusal names;
   cause = λ file s. IsReplayCause file names s;
   plugs = true;
-  answer = λ file rig text. IsTrue rig.tells → IsTrue rig.ports_tell → HasReport file names text rig.logs rig.states;
+  answer = λ file rig text. IsTrue rig.tells → IsTrue rig.ports_tell → HasReport file names text rig.logs rig.states rig.counts;
+  leaves = λ rig text. IsTrue rig.tells → IsTrue rig.ports_tell → HasSomeRun text rig.logs rig.states rig.counts;
 }

@@ -111,7 +111,7 @@ pub fn replay_call<S: Shelf, K: Sink, R: Rig>(
     // The report of a run that is legal, complete and followed by the flat world.
     ensures success { IsTrue S.tells → IsTrue K.tells → IsTrue R.tells → IsTrue R.P.tells → result ≡ status.Ok
         → HasReplayed (S.file shelf.old) (replay_names (map string_bytes words.now))
-        (K.bytes sink.old) (K.bytes sink.new) (R.logs rig.new) (R.states rig.new) }
+        (K.bytes sink.old) (K.bytes sink.new) (R.logs rig.new) (R.states rig.new) (R.port_faults rig.new) }
 {
     let names = ReplayNames::of_replay(words);
     let outcome = replay(alloc, &names, shelf, rig);
@@ -144,7 +144,7 @@ pub fn run_call<'a, H: Threads + Wait + Sync, S: Shelf, K: Sink, R: Rig, G: Gate
     // The report of a run that is legal, complete and followed by the flat world.
     ensures success { IsTrue S.tells → IsTrue K.tells → IsTrue R.tells → IsTrue R.P.tells → result ≡ status.Ok
         → HasReplayed (S.file shelf.old) (run_names (map string_bytes words.now))
-        (K.bytes sink.old) (K.bytes sink.new) (R.logs rig.new) (R.states rig.new) }
+        (K.bytes sink.old) (K.bytes sink.new) (R.logs rig.new) (R.states rig.new) (R.port_faults rig.new) }
 {
     let names = ReplayNames::of_run(words);
     let outcome = run(rt, alloc, &names, shelf, rig, gate);

@@ -17,4 +17,6 @@ returns g c =
         sink_now = new.sink;
         ended = subst (λ (words : List (List ℕ)). HasEnded (request_in words) old new c.top.result) (sym c.requires) c.top.ensures.ended;
       };
+      success = c.top.ensures.success;
+      checked = c.top.ensures.checked;
     }

@@ -7,4 +7,4 @@ pub put-requires-clause-range : goal.put-requires-clause-range
 put-requires-clause-range c =
     rw c.open-run.ensures (read_in_range c.each_line_is_read.ensures c.each_field_is_in_range.ensures c.args.limit c.as_bytes.result.now
     c.in-Ok-Some.command
-    (c.in-Ok-Some.ensures ∙ ap Ok c.in-Ok-Some.field-0-is))
+    (c.in-Ok-Some.ensures.read ∙ ap Ok c.in-Ok-Some.field-0-is))

@@ -1,8 +1,8 @@
-use Rattle.std.proofs.Common.{◌≡◌, ◌<◌, length, arith}
+use Rattle.std.proofs.Common.{◌≡◌, ◌<◌, [], ◌∷◌, ◌++◌, length, sym, ◌∙◌, ap, arith}
 use Rattle.std.specs.Prelude.{vec_len, vec_capacity}
 use Rattle.std.specs.List.{enumerate_from}
 use Rattle.std.proofs.lemmas.List.FromFn.{length-enumerate_from}
-use Rattle.i2c_top.proofs.Numbering.{numbered-next, so-many, over-next, room-next, below-next}
+use Rattle.i2c_top.proofs.Numbering.{numbered-next, next-holds, so-many, over-next, room-next, below-next}
 use Rattle.i2c_top.proofs.callers.by_root.Goals as goal
 
 pub overflow_cast-number : goal.overflow_cast-number
@@ -16,6 +16,11 @@ overflow_cast-number g c =
     let count = c.requires.count in
     let few = c.requires.few in
     omega (arith, below, count, few, number)
+
+pub new-requires-after_bounds : goal.new-requires-after_bounds
+new-requires-after_bounds g c κs within tell =
+    next-holds (enumerate_from 0) c.args.ports.items (λ p. g.P.Port.log p ≡ []) c.loop-port.yielded _ _ _ _ _ _ c.loop-port.invariant
+    c.in-Some.ensures.steps.0 (c.requires.empty tell)
 
 pub push_reserved-requires : goal.push_reserved-requires
 push_reserved-requires g c =
@@ -35,4 +40,5 @@ loop-port-preserved g c =
     (length-enumerate_from 0 came) c.len-number.ensures c.loop-port.by_root.ok.0 in
     over-next (enumerate_from 0) c.args.ports.items came _ _ _ _ _ _ _ _ _ _ at c.in-Some.ensures.steps.0 c.in-Some.ensures.steps.1
     c.push_reserved.ensures.items c.push_reserved.ensures.capacity
-    (numbered-next came c.in-Some.port c.len-number.result number)
+    (numbered-next came c.in-Some.port c.len-number.result number
+    ∙ ap (λ (p : _). enumerate_from 0 came ++ (c.len-number.result, p) ∷ []) (sym c.new.ensures))

@@ -4,7 +4,7 @@ use Rattle.std.specs.Option.{option_map}
 use Rattle.bus_spec.specs.Schedule.{Follows}
 use Rattle.bus_core.specs.State.{has_caller}
 use Rattle.caller_core.specs.View.{ScriptView}
-use Rattle.i2c_top.proofs.CoreLemmas.{words-placed, named-all, order-kept, taken-apart}
+use Rattle.i2c_top.proofs.CoreLemmas.{words-placed, goes-on-whole, named-all, order-kept, taken-apart}
 use Rattle.i2c_top.proofs.callers.finished.Goals as goal
 
 pub follow-requires-clause-words : goal.follow-requires-clause-words
@@ -27,4 +27,6 @@ returns g c =
     c.take_apart.result c.in_ok-core.ensures.of run.opening run.roots
     apart.scripts apart.taken apart.worlds apart.logs apart.journal run.told run.through
     (λ tells. order-kept words c.follow.new.self.journal.entries
-    (subst (λ (ws : List ℕ). Follows ws c.follow.new.self.journal.entries) listed (run.follows tells c.in_ok-core.ensures.entries)))
+    (subst (λ (ws : List ℕ). Follows ws c.follow.new.self.journal.entries) listed
+    (goes-on-whole c.as_slice.result.now c.in_ok-core.core.journal.entries c.follow.new.self.journal.entries
+    c.in_ok-core.ensures.entries (run.follows tells))))

@@ -1,23 +1,31 @@
 use Rattle.std.proofs.lemmas.Grind.{common_steps}
-use Rattle.std.proofs.Common.{◌≡◌, ℕ, ◌<◌, length, map, arith}
+use Rattle.std.proofs.Common.{◌≡◌, ℕ, ◌<◌, [], ◌∷◌, ◌++◌, All, length, map, sym, ◌∙◌, ap, subst, arith}
 use Rattle.std.specs.Prelude.{vec_len, vec_capacity}
 use Rattle.std.proofs.lemmas.List.{length-map}
+use Rattle.std.proofs.lemmas.List.Elements.{All-push}
+use Rattle.i2c_top.specs.Faults.{AccountsForFaults}
 use Rattle.i2c_top.proofs.Numbering.{map-push, over-next, room-next}
 use Rattle.i2c_top.proofs.run.alone.Goals as goal
 
 pub push_reserved-requires : goal.push_reserved-requires
 push_reserved-requires g c =
     let room : length c.loop-port.alone.items < vec_capacity c.loop-port.alone =
-    room-next (map (λ (p : ℕ × _). p.1)) c.args.ports.items c.loop-port.yielded _ _ _ _ _ _ c.loop-port.invariant c.in-Some.ensures.steps.0
+    room-next (map (λ (p : ℕ × _). p.1)) c.args.ports.items c.loop-port.yielded _ _ _ _ _ _ c.loop-port.invariant.over c.in-Some.ensures.steps.0
     (length-map c.loop-port.yielded (λ (p : ℕ × _). p.1)) in
     let len : vec_len c.loop-port.alone ≡ length c.loop-port.alone.items = c.loop-port.alone.ok.0 in
     omega (arith, room, len)
 
 pub loop-port-preserved : goal.loop-port-preserved
 loop-port-preserved g c =
-    over-next (map (λ (p : ℕ × _). p.1)) c.args.ports.items c.loop-port.yielded _ _ _ _ _ _ _ _ _ _ c.loop-port.invariant
-    c.in-Some.ensures.steps.0 c.in-Some.ensures.steps.1 c.push_reserved.ensures.items
-    c.push_reserved.ensures.capacity (map-push (λ (p : ℕ × _). p.1) c.loop-port.yielded _)
+    record {
+      over = over-next (map (λ (p : ℕ × _). p.1)) c.args.ports.items c.loop-port.yielded _ _ _ _ _ _ _ _ _ _ c.loop-port.invariant.over
+          c.in-Some.ensures.steps.0 c.in-Some.ensures.steps.1 (c.push_reserved.ensures.items
+          ∙ ap (λ (p : _). c.loop-port.alone.items ++ p ∷ []) c.into_port.ensures.port)
+          c.push_reserved.ensures.capacity (map-push (λ (p : ℕ × _). p.1) c.loop-port.yielded _);
+      accounts = subst (All (AccountsForFaults g.P.Port)) (sym c.push_reserved.ensures.items)
+          (All-push (AccountsForFaults g.P.Port) c.loop-port.alone.items c.into_port.result c.loop-port.invariant.accounts
+          c.into_port.ensures.accounts);
+    }
 
 pub returns : goal.returns
-returns g c = grind (arith, common_steps)
+returns g c = record { ports = grind (arith, common_steps); accounts = c.loop-port.invariant.accounts }

@@ -1,9 +1,13 @@
-use Rattle.std.proofs.Common.{ℕ, map}
+use Rattle.std.proofs.Common.{ℕ, All, map}
 use Rattle.std.specs.Prelude.{vec_capacity}
 use Rattle.std.specs.Vec.Iter.{into_iter_items, into_iter_len}
+use Rattle.i2c_top.specs.Faults.{AccountsForFaults}
 use Rattle.i2c_top.proofs.Numbering.{GoesOver}
 use Rattle.i2c_top.proofs.run.alone.Given as goal
 
 abbrev pub invariant-loop-port : goal.invariant-loop-port
-invariant-loop-port g l = GoesOver (map (λ (p : ℕ × _). p.1)) l.fn.ports.items l.yielded (into_iter_items l.port-iterator)
-    (into_iter_len l.port-iterator) l.alone.items (vec_capacity l.alone)
+invariant-loop-port g l = record {
+  over : GoesOver (map (λ (p : ℕ × _). p.1)) l.fn.ports.items l.yielded (into_iter_items l.port-iterator)
+      (into_iter_len l.port-iterator) l.alone.items (vec_capacity l.alone);
+  accounts : All (AccountsForFaults g.P.Port) l.alone.items;
+}

@@ -1,5 +1,6 @@
 use Rattle.std.specs.Prelude.{IfOk}
-use Rattle.std.proofs.Common.{◌≡◌, ℕ, List, Result, map, sym, ◌∙◌, ap, subst}
+use Rattle.std.proofs.Common.{◌≡◌, ℕ, List, Result, length, map, sym, ◌∙◌, ap, subst}
+use Rattle.std.proofs.lemmas.List.{length-map}
 use Rattle.i2c_base.specs.declared.port.PortCall.{PortCall}
 use Rattle.i2c_base.specs.Limits.{MOST_CALLERS}
 use Rattle.i2c_spec.specs.World.{World, AreWorldsOf, devices_of}
@@ -9,8 +10,9 @@ use Rattle.caller_core.specs.View.{CallerView}
 use Rattle.caller_core.proofs.FairLemmas.{scripts_fair}
 use Rattle.bus_core.specs.declared.bus.Parts.{Parts}
 use Rattle.i2c_top.specs.Cores.{IsLeftOf}
+use Rattle.i2c_top.specs.Faults.{AreCounted}
 use Rattle.i2c_top.specs.Runs.{section_of, callers_of, HasRun}
-use Rattle.i2c_top.proofs.CoreLemmas.{twice}
+use Rattle.i2c_top.proofs.CoreLemmas.{ports-counted, twice}
 use Rattle.i2c_top.proofs.RunLemmas.{run-over}
 use Rattle.i2c_top.proofs.run.reported.Goals as goal
 
@@ -27,9 +29,9 @@ returns-clause-run g c =
     let bytes = c.in_ok-report_of_callers.field-0 in
     let worlds : List World = map (λ p. row.world p.1) parts.ports.items in
     let logs : List (List PortCall) = map (λ p. row.log p.1) parts.ports.items in
-    let given : map row.world c.alone.result.items ≡ worlds = ap (map row.world) c.alone.ensures
+    let given : map row.world c.alone.result.items ≡ worlds = ap (map row.world) c.alone.ensures.ports
     ∙ twice row.world (λ p. p.1) parts.ports.items in
-    let logged : map row.log c.alone.result.items ≡ logs = ap (map row.log) c.alone.ensures ∙ twice row.log (λ p. p.1) parts.ports.items in
+    let logged : map row.log c.alone.result.items ≡ logs = ap (map row.log) c.alone.ensures.ports ∙ twice row.log (λ p. p.1) parts.ports.items in
     let printed : bytes ≡ report_lines (map section_of (callers_of parts)) journal =
     c.in_ok-report_of_callers.ensures
     ∙ ap (λ (ss : List (Seat CallerView)). report_lines (map (λ (s : Seat CallerView). section_of s.caller) ss) journal)
@@ -37,12 +39,20 @@ returns-clause-run g c =
     ∙ ap (λ (xs : List (List ℕ)). report_lines xs journal) (sym (twice section_of (λ (s : Seat CallerView). s.caller) parts.seats.items)) in
     let states = g.R.Rig.states c.unplug-2.new.self in
     let kept_logs = g.R.Rig.logs c.unplug-2.new.self in
-    subst (λ (texts : List (List ℕ)). HasRun b texts words bytes kept_logs states) left.texts
+    let counts = g.R.Rig.port_faults c.unplug-2.new.self in
+    let many : length c.alone.result.items ≡ length b.roots =
+    ap length c.alone.ensures.ports ∙ length-map parts.ports.items (λ p. p.1)
+    ∙ sym (length-map parts.ports.items (λ p. row.log p.1)) ∙ (left.over tell).logs_count in
+    subst (λ (texts : List (List ℕ)). HasRun b texts words bytes kept_logs states counts) left.texts
     (record {
       journal = journal;
-      is_run = run-over b (callers_of parts) MOST_CALLERS journal worlds logs scripts_fair (left.over tell) bytes kept_logs states printed
+      is_run = run-over b (callers_of parts) MOST_CALLERS journal worlds logs scripts_fair (left.over tell) bytes kept_logs states counts printed
+          c.entries_are_in_range.ensures
           (subst (λ (ws : List World). AreWorldsOf b ws → states ≡ devices_of b ws) given (c.unplug-2.ensures.states tells tell))
           (λ are. subst (λ (ws : List World). AreWorldsOf b ws → kept_logs ≡ map row.log c.alone.result.items) given
-          (c.unplug-2.ensures.logs tells tell) are ∙ logged);
+          (c.unplug-2.ensures.logs tells tell) are ∙ logged)
+          (subst (AreCounted b logs) (sym (c.unplug-2.ensures.counts tells))
+          (subst (λ (ls : List (List PortCall)). AreCounted b ls (map row.faults c.alone.result.items)) logged
+          (ports-counted row b c.alone.result.items tell many c.alone.ensures.accounts)));
       ordered = left.ordered tell;
     })

@@ -1,3 +1,4 @@
+use Rattle.std.proofs.Common.{refl}
 use Rattle.i2c_top.proofs.ReplayLemmas.{run_done, run_failed}
 use Rattle.i2c_top.proofs.forms.replay.replay.Goals as goal
 
@@ -6,7 +7,7 @@ returns-clause-done g c =
     let read = c.in_ok-board.ensures in
     let run = c.run_scripts.ensures in
     run_done _ _ _ _ _ _ _ _ read.read read.cheap c.read_files.ensures.kept run.plugs run.unplugged c.run_scripts.result
-    (λ v. v) run.unplugs (λ t. run.run)
+    (λ v. v) _ (λ t. refl) run.unplugs run.run
 
 pub returns-clause-refused : goal.returns-clause-refused
 returns-clause-refused g c =
