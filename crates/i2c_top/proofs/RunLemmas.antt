@@ -89,7 +89,7 @@ listed f xs n count each =
     get_or_from_slice_get xs i (f i) d (each i low) ∙ sym (get_or-map-range_with_len f 0 n i i d low (zero-add i)))
 
 -- what holds of what each script asks for holds of what the callers do
-of_asks : (b : BoardView) (texts : List (List ℕ)) (P : TransferView → Type 0)
+pub of_asks : (b : BoardView) (texts : List (List ℕ)) (P : TransferView → Type 0)
     → ((text : List ℕ) (rs : List Reply) (t : TransferView) → asked_by (script_on b text) rs ≡ Some t → P t)
     → (c : ℕ) (rs : List Reply) (t : TransferView) → asks_by b texts c rs ≡ Some t → P t
 of_asks b texts P each c rs t e = by (slice_get texts c) e

@@ -168,7 +168,7 @@ module _ (b : BoardView) (tree : IsTree b) (plain : IsPlainBoard b) (lines : Lin
   roots = range_with_len 0 (length b.roots)
 
   -- a job is done on a bus of the board
-  job_there : (past : List Entry) → IsStepwise b callers asks past → (c : ℕ) (job : Job) (left : ℕ)
+  pub job_there : (past : List Entry) → IsStepwise b callers asks past → (c : ℕ) (job : Job) (left : ℕ)
       → IsNext b asks (now b asks past) c (Send job left) → job_bus job < buses b
   job_there past steps c (Call bus ms) left next = (call-reaches b tree plain lines asks some callers past steps c bus ms left next).there
   job_there past steps c (Select h) left next =

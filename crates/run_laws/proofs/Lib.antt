@@ -1,0 +1,4 @@
+pub mod Asked
+pub mod Rooted
+pub mod Same
+pub mod Steps

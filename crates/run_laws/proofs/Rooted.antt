@@ -1,0 +1,109 @@
+-- The calls of a journal are all on the roots of its board, so that the logs of these roots tell every call that failed. The
+-- induction goes over the entries.
+use Rattle.std.proofs.Common.{◌≡◌, ℕ, ◌<◌, ◌≤◌, List, [], ◌∷◌, ◌++◌, length, map, reverse, Option, Some, None, refl, sym, ◌∙◌, ap, subst, inl, inr, arith, zero-add}
+use Rattle.std.specs.Prelude.{slice_get}
+use Rattle.std.specs.List.{range_with_len}
+use Rattle.std.proofs.lemmas.Bool.{cases_lt}
+use Rattle.std.proofs.lemmas.List.FromFn.{length-map-range_with_len, get_or-map-range_with_len}
+use Rattle.std.proofs.lemmas.Option.{slice_get-get_or, slice_get_past}
+use Rattle.i2c_base.specs.declared.entry.Entry.{Entry}
+use Rattle.i2c_base.specs.declared.entry.Entry.TheVariants as entry
+use Rattle.i2c_base.specs.declared.port.PortCall.{PortCall}
+use Rattle.i2c_base.specs.declared.port.PortCall.TheVariants as call
+use Rattle.i2c_base.specs.Board.{BoardView}
+use Rattle.i2c_spec.specs.Tree.{root_of, home_of_mux}
+use Rattle.i2c_spec.specs.TreeFacts.{IsTree}
+use Rattle.i2c_spec.specs.Plain.{IsPlainBoard}
+use Rattle.i2c_spec.specs.History.{Asks, changed_at}
+use Rattle.bus_spec.specs.Walk.{Act, Job, job_bus, line_mux}
+use Rattle.bus_spec.specs.Grammar.{first_note}
+use Rattle.bus_spec.specs.Past.{Now, now, current, calls_of, talk_of, sent_by, lined_by, line_call}
+use Rattle.bus_spec.specs.Failures.{HasFailed, FailAlike}
+use Rattle.bus_spec.specs.Stepwise.{IsStepwise}
+use Rattle.bus_laws.specs.Lines.{LinesAreLocked}
+use Rattle.bus_laws.specs.Reach.{AsksForMessages}
+use Rattle.bus_laws.proofs.past.Marks.{home_there}
+use Rattle.bus_laws.proofs.past.StandsStep.{at_other}
+use Rattle.bus_laws.proofs.past.Whole.{line_root}
+use Rattle.journal_laws.proofs.past.Remotes.{job_there}
+use Rattle.run_laws.specs.Alike.{FaultAt, FaultsAlike}
+
+-- what a function gives at each number, listed from 0 on
+listed_at : {X : Type 0} (f : ℕ → X) (n r : ℕ) → r < n → slice_get (map f (range_with_len 0 n)) r ≡ Some (f r)
+listed_at f n r low =
+    slice_get-get_or (map f (range_with_len 0 n)) r (f r) (subst (λ (k : ℕ). r < k) (sym (length-map-range_with_len f 0 n)) low)
+    ∙ ap (λ x. Some x) (get_or-map-range_with_len f 0 n r r (f r) low (zero-add r))
+
+listed_past : {X : Type 0} (f : ℕ → X) (n r : ℕ) → n ≤ r → slice_get (map f (range_with_len 0 n)) r ≡ None
+listed_past f n r high =
+    slice_get_past (map f (range_with_len 0 n)) r (subst (λ (k : ℕ). k ≤ r) (sym (length-map-range_with_len f 0 n)) high)
+
+module _ (b : BoardView) (tree : IsTree b) (plain : IsPlainBoard b) (lines : LinesAreLocked b) (asks : Asks) (some : AsksForMessages asks)
+    (callers : ℕ) where
+  -- a call of a root that is there is none of one that isn't
+  elsewhere : (r : ℕ) → length b.roots ≤ r → (calls : ℕ → List PortCall) (s : ℕ) (new : List PortCall) → s < length b.roots
+      → calls r ≡ [] → changed_at calls s new r ≡ []
+  elsewhere r nowhere calls s new low none = at_other calls s new r (λ same. absurd (omega (arith, low, nowhere, same))) ∙ none
+
+  -- a root that the board lacks has no calls
+  calls_nowhere : (r : ℕ) → length b.roots ≤ r → (past : List Entry) → IsStepwise b callers asks past → (now b asks past).calls r ≡ []
+  calls_nowhere r nowhere [] steps = refl
+  calls_nowhere r nowhere (entry.Take c l ∷ past) steps = calls_nowhere r nowhere past steps.1
+  calls_nowhere r nowhere (entry.Free c l ∷ past) steps = calls_nowhere r nowhere past steps.1
+  calls_nowhere r nowhere (entry.Settle c x cut ∷ past) steps = calls_nowhere r nowhere past steps.1
+  calls_nowhere r nowhere (entry.Message c bus why part parts addr reading bytes heard e ∷ past) steps =
+      let n : Now = now b asks past in
+      let may = steps.0.2 in
+      let job : Job = may.0 in
+      subst (λ (o : Option Act). (sent_by b n c o (first_note (current b asks n c)) reading bytes e).calls r ≡ []) (sym may.2)
+      (elsewhere r nowhere n.calls (root_of b (job_bus job)) ((talk_of b n job may.1 e).calls ++ n.calls (root_of b (job_bus job)))
+      (tree.root_is (job_bus job) (job_there b tree plain lines asks some callers past steps.1 c job may.1 may.2))
+      (calls_nowhere r nowhere past steps.1))
+  calls_nowhere r nowhere (entry.Line c mux level failed ∷ past) steps =
+      let n : Now = now b asks past in
+      let may = steps.0.2 in
+      let job : Job = may.0 in
+      subst (λ (o : Option Act). (lined_by b n o (first_note (current b asks n c)) failed).calls r ≡ []) (sym may.1)
+      (elsewhere r nowhere n.calls (root_of b (job_bus job)) (line_call job failed ∷ n.calls (root_of b (job_bus job)))
+      (subst (λ (s : ℕ). s < length b.roots) (line_root b tree plain lines asks some callers past steps.1 c r c job may.1)
+      (tree.root_is (home_of_mux b (line_mux job)) (home_there b plain (line_mux job))))
+      (calls_nowhere r nowhere past steps.1))
+
+  -- the calls of a past are those of the logs
+  abbrev AreItsLogs : List Entry → List (List PortCall) → Type 0
+  AreItsLogs past logs = logs ≡ map (calls_of b asks past) (range_with_len 0 (length b.roots))
+
+  fault_failed : (past : List Entry) (logs : List (List PortCall)) → AreItsLogs past logs → (r n : ℕ) → FaultAt logs r n
+      → HasFailed b asks past r n
+  fault_failed past logs called r n at =
+      elim (cases_lt r (length b.roots)) [
+        | inl low ↦ (let same : Some at.log ≡ Some (calls_of b asks past r) = sym at.here
+            ∙ ap (λ (xs : List (List PortCall)). slice_get xs r) called ∙ listed_at (calls_of b asks past) (length b.roots) r low in
+            let log_is : at.log ≡ calls_of b asks past r = cc in
+            ap (λ (cs : List PortCall). slice_get cs n) (sym log_is) ∙ at.fault)
+        | inr high ↦ absurd (let none : Some at.log ≡ None = sym at.here
+            ∙ ap (λ (xs : List (List PortCall)). slice_get xs r) called ∙ listed_past (calls_of b asks past) (length b.roots) r high in
+            cc)
+      ]
+
+  failed_fault : (past : List Entry) → IsStepwise b callers asks past → (logs : List (List PortCall)) → AreItsLogs past logs → (r n : ℕ)
+      → HasFailed b asks past r n → FaultAt logs r n
+  failed_fault past steps logs called r n failed =
+      elim (cases_lt r (length b.roots)) [
+        | inl low ↦ record {
+          log = calls_of b asks past r;
+          here = ap (λ (xs : List (List PortCall)). slice_get xs r) called ∙ listed_at (calls_of b asks past) (length b.roots) r low;
+          fault = failed;
+        }
+        | inr high ↦ absurd (let none : None ≡ Some call.Fault =
+            sym (ap (λ (cs : List PortCall). slice_get (reverse cs) n) (calls_nowhere r high past steps)) ∙ failed in cc)
+      ]
+
+  -- so where the same calls of the logs are faults, the same calls failed
+  pub fail-alike : (past other : List Entry) → IsStepwise b callers asks past → IsStepwise b callers asks other
+      → (logs others : List (List PortCall)) → AreItsLogs past logs → AreItsLogs other others → FaultsAlike logs others
+      → FailAlike b asks past other
+  fail-alike past other steps steps_too logs others called called_too alike = λ r n. (
+    λ failed. fault_failed other others called_too r n ((alike r n).0 (failed_fault past steps logs called r n failed)),
+    λ failed. fault_failed past logs called r n ((alike r n).1 (failed_fault other steps_too others called_too r n failed)),
+  )

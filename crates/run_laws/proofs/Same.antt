@@ -1,0 +1,85 @@
+-- Two runs with one journal come to the same; and two reports of the same files are runs of one board, scripts and schedule.
+-- No induction.
+use Rattle.std.proofs.Common.{◌≡◌, ℕ, List, length, map, reverse, Option, Some, None, refl, sym, ◌∙◌, ap, subst}
+use Rattle.std.specs.List.{range_with_len}
+use Rattle.i2c_base.specs.declared.entry.Entry.{Entry}
+use Rattle.i2c_base.specs.declared.port.PortCall.{PortCall}
+use Rattle.i2c_base.specs.Board.{BoardView}
+use Rattle.i2c_spec.specs.Plain.{IsPlainBoard}
+use Rattle.i2c_spec.specs.Rules.{MeetsRules}
+use Rattle.i2c_spec.specs.Targets.{TargetState}
+use Rattle.i2c_spec.specs.History.{History, history}
+use Rattle.bus_spec.specs.Readings.{order}
+use Rattle.bus_spec.specs.Past.{calls_of}
+use Rattle.bus_spec.specs.Report.{report_of}
+use Rattle.i2c_top.specs.Boards.{HasAccepted}
+use Rattle.i2c_top.specs.Files.{Files}
+use Rattle.i2c_top.specs.Runs.{asks_by, printed_by, IsRunOf, HasRun}
+use Rattle.i2c_top.specs.Schedules.{schedule_read}
+use Rattle.i2c_top.specs.Scripts.{HasSchedule, HasOrder, words_in, texts_in}
+use Rattle.i2c_top.specs.forms.Replays.{Names, HasReport}
+use Rattle.i2c_top.proofs.BoardLemmas.{one_board_in, one_text}
+use Rattle.run_laws.specs.Alike.{ComesToTheSame}
+
+pub same-come : (b : BoardView) (texts : List (List ℕ)) (x y : List ℕ) (logs others : List (List PortCall)) (states ends : List TargetState)
+    (journal other : List Entry) → IsRunOf b texts x logs states journal → IsRunOf b texts y others ends other → journal ≡ other
+    → ComesToTheSame x y logs others states ends
+same-come b texts x y logs others states ends journal other one two same =
+    let told : Some one.told ≡ Some two.told = sym one.replayed
+    ∙ ap (λ (es : List Entry). history b (asks_by b texts) (order (reverse es))) same ∙ two.replayed in
+    let histories : one.told ≡ two.told = cc in
+    record {
+      bytes = one.reported ∙ ap (report_of (printed_by b texts) (length texts)) same ∙ sym two.reported;
+      logs_are = one.called
+          ∙ ap (λ (es : List Entry). map (calls_of b (asks_by b texts) (reverse es)) (range_with_len 0 (length b.roots))) same
+          ∙ sym two.called;
+      states_are = one.left ∙ ap (λ (h : History). h.states) histories ∙ sym two.left;
+    }
+
+-- a schedule's file names its callers once
+same_words : (file : Files) (name : List ℕ) (callers : ℕ) (h k : HasSchedule file name callers) → h.words ≡ k.words
+same_words file name callers h k =
+    let texts : h.text ≡ k.text = one_text (file name) h.text k.text h.there k.there in
+    cc (h.read, k.read, ap (schedule_read callers) texts)
+
+same_order : (file : Files) (schedule : Option (List ℕ)) (callers : ℕ) (h k : HasOrder file schedule callers)
+    → words_in file schedule callers h ≡ words_in file schedule callers k
+same_order file None callers h k = refl
+same_order file (Some name) callers h k = ap (λ (words : List ℕ). Some words) (same_words file name callers h k)
+
+-- where there is a schedule it has words
+words_there : (file : Files) (schedule : Option (List ℕ)) (callers : ℕ) (name : List ℕ) → schedule ≡ Some name
+    → (h : HasOrder file schedule callers) → (words : List ℕ) × (words_in file schedule callers h ≡ Some words)
+words_there file None callers name is h = absurd (let f : None ≡ Some name = is in cc)
+words_there file (Some own) callers name is h = (h.words, refl)
+
+-- two runs of one accepted board, and of the same scripts by the same schedule
+pub record AreTwoRuns (x y : List ℕ) (logs others : List (List PortCall)) (states ends : List TargetState) : Type 0 where
+  pub board : BoardView
+  pub plain : IsPlainBoard board
+  pub rules : MeetsRules board
+  pub texts : List (List ℕ)
+  pub words : List ℕ
+  pub one : HasRun board texts (Some words) x logs states
+  pub two : HasRun board texts (Some words) y others ends
+
+pub two-runs : (file : Files) (names : Names) (schedule x y : List ℕ) (logs others : List (List PortCall)) (states ends : List TargetState)
+    → names.schedule ≡ Some schedule → HasReport file names x logs states → HasReport file names y others ends
+    → AreTwoRuns x y logs others states ends
+two-runs file names schedule x y logs others states ends is one two =
+    let callers : ℕ = length names.scripts in
+    let texts : List (List ℕ) = texts_in file names.scripts in
+    let board : HasAccepted file names.board = one.files.texts.board in
+    let there = words_there file names.schedule callers schedule is one.files.texts.schedule in
+    record {
+      board = board.board;
+      plain = board.is_accepted.plain;
+      rules = board.is_accepted.rules;
+      texts = texts;
+      words = there.0;
+      one = subst (λ (ws : Option (List ℕ)). HasRun board.board texts ws x logs states) there.1 one.run;
+      two = subst (λ (b : BoardView). HasRun b texts (Some there.0) y others ends)
+          (one_board_in file names.board two.files.texts.board board)
+          (subst (λ (ws : Option (List ℕ)). HasRun two.files.texts.board.board texts ws y others ends)
+          (same_order file names.schedule callers two.files.texts.schedule one.files.texts.schedule ∙ there.1) two.run);
+    }

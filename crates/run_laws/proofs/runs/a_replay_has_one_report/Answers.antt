@@ -1,0 +1,39 @@
+use Rattle.std.proofs.Common.{ℕ, List, length, reverse, Some, sym, ◌∙◌, ap, subst}
+use Rattle.std.proofs.lemmas.List.{reverse-reverse}
+use Rattle.i2c_base.specs.declared.entry.Entry.{Entry}
+use Rattle.i2c_base.specs.declared.port.PortCall.{PortCall}
+use Rattle.i2c_base.specs.Board.{BoardView}
+use Rattle.i2c_spec.specs.Plain.{IsPlainBoard}
+use Rattle.i2c_spec.specs.Rules.{MeetsRules}
+use Rattle.i2c_spec.specs.Targets.{TargetState}
+use Rattle.bus_spec.specs.Schedule.{Follows}
+use Rattle.bus_laws.proofs.world.LineFacts.{lines-locked}
+use Rattle.i2c_top.specs.Runs.{asks_by, HasRun}
+use Rattle.run_laws.specs.Alike.{FaultsAlike}
+use Rattle.run_laws.proofs.Asked.{messages-asked, limits-kept}
+use Rattle.run_laws.proofs.Rooted.{fail-alike}
+use Rattle.run_laws.proofs.Same.{AreTwoRuns, same-come, two-runs}
+use Rattle.run_laws.proofs.runs.a_replay_has_one_report.Goals as goal
+
+pub returns : goal.returns
+returns c =
+    (let run = λ (b : BoardView) (texts : List (List ℕ)) (words x y : List ℕ) (logs others : List (List PortCall))
+    (states ends : List TargetState) (plain : IsPlainBoard b) (rules : MeetsRules b) (one : HasRun b texts (Some words) x logs states)
+    (two : HasRun b texts (Some words) y others ends) (alike : FaultsAlike logs others).
+    let some = messages-asked c.scripts_are_fair.ensures b texts in
+    let follows = λ (journal : List Entry) (kept : Follows words journal).
+    subst (λ (es : List Entry). Follows words es) (sym (reverse-reverse journal)) kept in
+    let pasts = c.a_schedule_has_one_legal_journal.ensures b (length texts) (asks_by b texts) words (reverse one.journal)
+    (reverse two.journal) plain rules some (limits-kept c.scripts_are_fair.ensures b texts) one.is_run.legal two.is_run.legal
+    one.is_run.complete two.is_run.complete (follows one.journal one.ordered) (follows two.journal two.ordered)
+    (fail-alike b (c.an_accepted_board_is_a_tree.ensures b plain rules) plain (lines-locked b rules) (asks_by b texts) some
+    (length texts) (reverse one.journal) (reverse two.journal) one.is_run.stepwise two.is_run.stepwise logs others one.is_run.called
+    two.is_run.called alike) in
+    same-come b texts x y logs others states ends one.journal two.journal one.is_run two.is_run
+    (sym (reverse-reverse one.journal) ∙ ap (λ (es : List Entry). reverse es) pasts ∙ reverse-reverse two.journal) in
+    record {
+      run = run;
+      report = λ file names schedule x y logs others states ends is one two alike.
+          let runs : AreTwoRuns x y logs others states ends = two-runs file names schedule x y logs others states ends is one two in
+          run runs.board runs.texts runs.words x y logs others states ends runs.plain runs.rules runs.one runs.two alike;
+    })

@@ -1,0 +1,2 @@
+-- When two runs are alike, and that they come to the same.
+pub mod Alike
