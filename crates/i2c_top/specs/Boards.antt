@@ -2,7 +2,6 @@
 use Rattle.std.specs.Prelude.{◌≡◌, ◌≢◌, ℕ, List, Some, Ok, Err}
 use Rattle.i2c_base.specs.Board.{BoardView}
 use Rattle.i2c_base.specs.declared.rules.RuleBroken.{RuleBroken}
-use Rattle.i2c_spec.specs.Plain.{IsPlainBoard}
 use Rattle.i2c_spec.specs.Rules.{MeetsRules, TellsBroken}
 use Rattle.i2c_boardtext.specs.BoardText.{board_of}
 use Rattle.i2c_boardtext.specs.declared.fault.BoardFault.{BoardFault}
@@ -11,10 +10,9 @@ use Rattle.i2c_top.specs.Files.{Files}
 use Rattle.i2c_top.specs.declared.status.BoardRefusal.{BoardRefusal}
 use Rattle.i2c_top.specs.declared.status.BoardRefusal.TheVariants as refusal
 
--- a text spells this board, which keeps the limits of a board and meets the rules
+-- a text spells this board, which meets the rules
 pub record IsAccepted (text : List ℕ) (board : BoardView) : Type 0 where
   pub read : board_of text ≡ Ok board
-  pub plain : IsPlainBoard board
   pub rules : MeetsRules board
 
 -- it has this fault, and no want of memory is one

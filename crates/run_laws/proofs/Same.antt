@@ -5,8 +5,6 @@ use Rattle.std.specs.List.{range_with_len}
 use Rattle.i2c_base.specs.declared.entry.Entry.{Entry}
 use Rattle.i2c_base.specs.declared.port.PortCall.{PortCall}
 use Rattle.i2c_base.specs.Board.{BoardView}
-use Rattle.i2c_spec.specs.Plain.{IsPlainBoard}
-use Rattle.i2c_spec.specs.Rules.{MeetsRules}
 use Rattle.i2c_spec.specs.Targets.{TargetState}
 use Rattle.i2c_spec.specs.History.{History, history}
 use Rattle.bus_spec.specs.Readings.{order}
@@ -22,9 +20,10 @@ use Rattle.i2c_top.proofs.BoardLemmas.{one_board_in, one_text}
 use Rattle.run_laws.specs.Alike.{ComesToTheSame}
 
 pub same-come : (b : BoardView) (texts : List (List ℕ)) (x y : List ℕ) (logs others : List (List PortCall)) (states ends : List TargetState)
-    (journal other : List Entry) → IsRunOf b texts x logs states journal → IsRunOf b texts y others ends other → journal ≡ other
+    (counts rises : List ℕ) (journal other : List Entry) → IsRunOf b texts x logs states counts journal
+    → IsRunOf b texts y others ends rises other → journal ≡ other
     → ComesToTheSame x y logs others states ends
-same-come b texts x y logs others states ends journal other one two same =
+same-come b texts x y logs others states ends counts rises journal other one two same =
     let told : Some one.told ≡ Some two.told = sym one.replayed
     ∙ ap (λ (es : List Entry). history b (asks_by b texts) (order (reverse es))) same ∙ two.replayed in
     let histories : one.told ≡ two.told = cc in
@@ -53,33 +52,29 @@ words_there : (file : Files) (schedule : Option (List ℕ)) (callers : ℕ) (nam
 words_there file None callers name is h = absurd (let f : None ≡ Some name = is in cc)
 words_there file (Some own) callers name is h = (h.words, refl)
 
--- two runs of one accepted board, and of the same scripts by the same schedule
-pub record AreTwoRuns (x y : List ℕ) (logs others : List (List PortCall)) (states ends : List TargetState) : Type 0 where
+-- two runs of one board, and of the same scripts by the same schedule
+pub record AreTwoRuns (x y : List ℕ) (logs others : List (List PortCall)) (states ends : List TargetState) (counts rises : List ℕ) : Type 0 where
   pub board : BoardView
-  pub plain : IsPlainBoard board
-  pub rules : MeetsRules board
   pub texts : List (List ℕ)
   pub words : List ℕ
-  pub one : HasRun board texts (Some words) x logs states
-  pub two : HasRun board texts (Some words) y others ends
+  pub one : HasRun board texts (Some words) x logs states counts
+  pub two : HasRun board texts (Some words) y others ends rises
 
 pub two-runs : (file : Files) (names : Names) (schedule x y : List ℕ) (logs others : List (List PortCall)) (states ends : List TargetState)
-    → names.schedule ≡ Some schedule → HasReport file names x logs states → HasReport file names y others ends
-    → AreTwoRuns x y logs others states ends
-two-runs file names schedule x y logs others states ends is one two =
+    (counts rises : List ℕ) → names.schedule ≡ Some schedule → HasReport file names x logs states counts
+    → HasReport file names y others ends rises → AreTwoRuns x y logs others states ends counts rises
+two-runs file names schedule x y logs others states ends counts rises is one two =
     let callers : ℕ = length names.scripts in
     let texts : List (List ℕ) = texts_in file names.scripts in
     let board : HasAccepted file names.board = one.files.texts.board in
     let there = words_there file names.schedule callers schedule is one.files.texts.schedule in
     record {
       board = board.board;
-      plain = board.is_accepted.plain;
-      rules = board.is_accepted.rules;
       texts = texts;
       words = there.0;
-      one = subst (λ (ws : Option (List ℕ)). HasRun board.board texts ws x logs states) there.1 one.run;
-      two = subst (λ (b : BoardView). HasRun b texts (Some there.0) y others ends)
+      one = subst (λ (ws : Option (List ℕ)). HasRun board.board texts ws x logs states counts) there.1 one.run;
+      two = subst (λ (b : BoardView). HasRun b texts (Some there.0) y others ends rises)
           (one_board_in file names.board two.files.texts.board board)
-          (subst (λ (ws : Option (List ℕ)). HasRun two.files.texts.board.board texts ws y others ends)
+          (subst (λ (ws : Option (List ℕ)). HasRun two.files.texts.board.board texts ws y others ends rises)
           (same_order file names.schedule callers two.files.texts.schedule one.files.texts.schedule ∙ there.1) two.run);
     }

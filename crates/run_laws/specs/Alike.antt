@@ -1,19 +1,13 @@
 -- When the same calls of the ports fail in two runs, that two runs come to the same, and the schedule that a run's own steps are.
-use Rattle.std.specs.Prelude.{◌≡◌, ◌↔◌, ℕ, List, length, map, slice_get, Some}
+use Rattle.std.specs.Prelude.{◌≡◌, ◌↔◌, ℕ, List, length, map, Some}
 use Rattle.i2c_base.specs.declared.entry.Entry.{Entry}
 use Rattle.i2c_base.specs.declared.port.PortCall.{PortCall}
-use Rattle.i2c_base.specs.declared.port.PortCall.TheVariants as call
 use Rattle.i2c_base.specs.Board.{BoardView}
 use Rattle.i2c_spec.specs.Targets.{TargetState}
 use Rattle.bus_spec.specs.Schedule.{turns}
+use Rattle.i2c_top.specs.Faults.{FaultAt}
 use Rattle.i2c_top.specs.Readings.{AreNamed}
 use Rattle.i2c_top.specs.Runs.{HasRun}
-
--- call n of the log of a root is a fault
-pub record FaultAt (logs : List (List PortCall)) (root n : ℕ) : Type 0 where
-  pub log : List PortCall
-  pub here : slice_get logs root ≡ Some log
-  pub fault : slice_get log n ≡ Some call.Fault
 
 -- in two runs' logs the same calls are faults
 abbrev pub FaultsAlike : List (List PortCall) → List (List PortCall) → Type 0
@@ -33,9 +27,9 @@ steps_of journal = map (λ t. t.caller) (turns journal)
 -- by a schedule the scripts have this run; its words are of callers; and each run by it in which the same calls fail comes to
 -- the same
 pub record IsTheReplay (b : BoardView) (texts : List (List ℕ)) (words : List ℕ) (bytes : List ℕ) (logs : List (List PortCall))
-    (states : List TargetState) : Type 0 where
+    (states : List TargetState) (counts : List ℕ) : Type 0 where
   pub named : AreNamed (length texts) (Some words)
-  pub run : HasRun b texts (Some words) bytes logs states
-  pub only : (other_bytes : List ℕ) (others : List (List PortCall)) (ends : List TargetState)
-      → HasRun b texts (Some words) other_bytes others ends → FaultsAlike logs others
+  pub run : HasRun b texts (Some words) bytes logs states counts
+  pub only : (other_bytes : List ℕ) (others : List (List PortCall)) (ends : List TargetState) (other_counts : List ℕ)
+      → HasRun b texts (Some words) other_bytes others ends other_counts → FaultsAlike logs others
       → ComesToTheSame bytes other_bytes logs others states ends

@@ -2,8 +2,6 @@
 ghost use Rattle.std.specs.Prelude.{◌≡◌, ℕ, List, None, Some};
 ghost use Rattle.i2c_base.specs.Board.{BoardView};
 ghost use Rattle.i2c_base.specs.declared.port.PortCall.{PortCall};
-ghost use Rattle.i2c_spec.specs.Plain.{IsPlainBoard};
-ghost use Rattle.i2c_spec.specs.Rules.{MeetsRules};
 ghost use Rattle.i2c_spec.specs.Targets.{TargetState};
 ghost use Rattle.i2c_top.specs.Files.{Files};
 ghost use Rattle.i2c_top.specs.Runs.{HasRun};
@@ -18,15 +16,14 @@ use journal_laws::{a_legal_journal_is_stepwise, a_schedule_has_one_legal_journal
 /// with the same calls failing, are the same bytes, with the same calls on each port and the same devices left.
 ///
 /// Under another schedule others step first, and without one, as in `run`, the order is free. Where other calls fail a message
-/// may end otherwise, and a reply with it. The limits and rules of the board are premises of the laws that this one is made of;
-/// in `report` the files give them.
+/// may end otherwise, and a reply with it. What the ports counted is left open: they may count more than failed.
 pub fn a_replay_has_one_report()
     ensures run { (b : BoardView) (texts : List (List ℕ)) (words x y : List ℕ) (logs others : List (List PortCall))
-        (states ends : List TargetState) → IsPlainBoard b → MeetsRules b → HasRun b texts (Some words) x logs states
-        → HasRun b texts (Some words) y others ends → FaultsAlike logs others → ComesToTheSame x y logs others states ends }
+        (states ends : List TargetState) (counts rises : List ℕ) → HasRun b texts (Some words) x logs states counts
+        → HasRun b texts (Some words) y others ends rises → FaultsAlike logs others → ComesToTheSame x y logs others states ends }
     ensures report { (file : Files) (names : Names) (schedule x y : List ℕ) (logs others : List (List PortCall))
-        (states ends : List TargetState) → names.schedule ≡ Some schedule → HasReport file names x logs states
-        → HasReport file names y others ends → FaultsAlike logs others → ComesToTheSame x y logs others states ends }
+        (states ends : List TargetState) (counts rises : List ℕ) → names.schedule ≡ Some schedule → HasReport file names x logs states counts
+        → HasReport file names y others ends rises → FaultsAlike logs others → ComesToTheSame x y logs others states ends }
 {
     a_schedule_has_one_legal_journal();
     an_accepted_board_is_a_tree();
@@ -36,12 +33,11 @@ pub fn a_replay_has_one_report()
 /// The steps of a run, whose order is free, are a schedule, and its report is the one that a replay by that schedule has, where
 /// the same calls of the ports fail.
 ///
-/// Another run of the same scripts may have other steps, and then another report; and so may the replay by another schedule. The
-/// limits and rules of the board are premises of the laws that this one is made of.
+/// Another run of the same scripts may have other steps, and then another report; and so may the replay by another schedule.
 pub fn a_run_is_a_replay_of_its_own_steps()
     ensures { (b : BoardView) (texts : List (List ℕ)) (x : List ℕ) (logs : List (List PortCall)) (states : List TargetState)
-        → IsPlainBoard b → MeetsRules b → (run : HasRun b texts None x logs states)
-        → IsTheReplay b texts (steps_of run.journal) x logs states }
+        (counts : List ℕ) → (run : HasRun b texts None x logs states counts)
+        → IsTheReplay b texts (steps_of run.journal) x logs states counts }
 {
     a_replay_has_one_report();
     a_legal_journal_is_stepwise();

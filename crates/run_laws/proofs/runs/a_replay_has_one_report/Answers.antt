@@ -3,8 +3,6 @@ use Rattle.std.proofs.lemmas.List.{reverse-reverse}
 use Rattle.i2c_base.specs.declared.entry.Entry.{Entry}
 use Rattle.i2c_base.specs.declared.port.PortCall.{PortCall}
 use Rattle.i2c_base.specs.Board.{BoardView}
-use Rattle.i2c_spec.specs.Plain.{IsPlainBoard}
-use Rattle.i2c_spec.specs.Rules.{MeetsRules}
 use Rattle.i2c_spec.specs.Targets.{TargetState}
 use Rattle.bus_spec.specs.Schedule.{Follows}
 use Rattle.bus_laws.proofs.world.LineFacts.{lines-locked}
@@ -18,8 +16,10 @@ use Rattle.run_laws.proofs.runs.a_replay_has_one_report.Goals as goal
 pub returns : goal.returns
 returns c =
     (let run = λ (b : BoardView) (texts : List (List ℕ)) (words x y : List ℕ) (logs others : List (List PortCall))
-    (states ends : List TargetState) (plain : IsPlainBoard b) (rules : MeetsRules b) (one : HasRun b texts (Some words) x logs states)
-    (two : HasRun b texts (Some words) y others ends) (alike : FaultsAlike logs others).
+    (states ends : List TargetState) (counts rises : List ℕ) (one : HasRun b texts (Some words) x logs states counts)
+    (two : HasRun b texts (Some words) y others ends rises) (alike : FaultsAlike logs others).
+    let plain = one.is_run.plain in
+    let rules = one.is_run.rules in
     let some = messages-asked c.scripts_are_fair.ensures b texts in
     let follows = λ (journal : List Entry) (kept : Follows words journal).
     subst (λ (es : List Entry). Follows words es) (sym (reverse-reverse journal)) kept in
@@ -29,11 +29,12 @@ returns c =
     (fail-alike b (c.an_accepted_board_is_a_tree.ensures b plain rules) plain (lines-locked b rules) (asks_by b texts) some
     (length texts) (reverse one.journal) (reverse two.journal) one.is_run.stepwise two.is_run.stepwise logs others one.is_run.called
     two.is_run.called alike) in
-    same-come b texts x y logs others states ends one.journal two.journal one.is_run two.is_run
+    same-come b texts x y logs others states ends counts rises one.journal two.journal one.is_run two.is_run
     (sym (reverse-reverse one.journal) ∙ ap (λ (es : List Entry). reverse es) pasts ∙ reverse-reverse two.journal) in
     record {
       run = run;
-      report = λ file names schedule x y logs others states ends is one two alike.
-          let runs : AreTwoRuns x y logs others states ends = two-runs file names schedule x y logs others states ends is one two in
-          run runs.board runs.texts runs.words x y logs others states ends runs.plain runs.rules runs.one runs.two alike;
+      report = λ file names schedule x y logs others states ends counts rises is one two alike.
+          let runs : AreTwoRuns x y logs others states ends counts rises = two-runs file names schedule x y logs others states ends
+          counts rises is one two in
+          run runs.board runs.texts runs.words x y logs others states ends counts rises runs.one runs.two alike;
     })
