@@ -147,7 +147,8 @@ module _ {P C S : Type 0} (g : PortGhosts P) (c : CallerGhosts C S) (x : CorePar
         → KeepsTo b MOST_CALLERS asks words from left (past_after past t.turn)
         → KeepsTo new.board MOST_CALLERS (asks_in c new) words from left (reverse new.journal.entries)
     moved words from left t keeps =
-        subst (λ (y : BoardView). KeepsTo y MOST_CALLERS (asks_in c new) words from left (reverse new.journal.entries)) (sym made.come.board)
+        subst (λ (y : BoardView). KeepsTo y MOST_CALLERS (asks_in c new) words from left (reverse new.journal.entries))
+        (sym made.come.board)
         (subst (λ (ss : List (ℕ × S)). KeepsTo b MOST_CALLERS (asks_of c.asked ss) words from left (reverse new.journal.entries))
         (sym made.come.scripts)
         (subst (λ (y : List Entry). KeepsTo b MOST_CALLERS asks words from left y) (sym (past-is t)) keeps))
@@ -168,11 +169,13 @@ module _ {P C S : Type 0} (g : PortGhosts P) (c : CallerGhosts C S) (x : CorePar
         → IsStepwise b MOST_CALLERS asks old → (now b asks old).due ≡ None
         → (t : Turn) → IsTurn b MOST_CALLERS asks old t → (left : List ℕ) → KeepsTo b MOST_CALLERS asks words from (t.caller ∷ left) old
         → KeepsTo b MOST_CALLERS asks words from left (past_after old t))
-        → (words : List ℕ) (from : List Entry) (left : List ℕ) → KeepsSchedule g c words from (caller ∷ left) x → KeepsSchedule g c words from left new
+        → (words : List ℕ) (from : List Entry) (left : List ℕ) → KeepsSchedule g c words from (caller ∷ left) x
+        → KeepsSchedule g c words from left new
     word-keeps law words from left keeps tell =
         let t = made.turn tell in
         let told = core.kept.kept.told tell in
-        moved words from left t (law words from past run_fair.plain run_fair.rules run_fair.sends told.stepwise told.rests t.turn t.comes left
+        moved words from left t
+        (law words from past run_fair.plain run_fair.rules run_fair.sends told.stepwise told.rests t.turn t.comes left
         (subst (λ (k : ℕ). KeepsTo b MOST_CALLERS asks words from (k ∷ left) past) (sym t.own) (keeps tell)))
 
   -- ALL ARE THROUGH where all are held up
@@ -218,7 +221,8 @@ module _ {P C S : Type 0} (g : PortGhosts P) (c : CallerGhosts C S) (x : CorePar
       → IsStepwise b MOST_CALLERS asks old
       → (w : ℕ) → IsStuck b asks old w → (left : List ℕ) → KeepsTo b MOST_CALLERS asks words from (w ∷ left) old
       → KeepsTo b MOST_CALLERS asks words from left old)
-      → (caller : ℕ) (new : CoreParts P C) → HasWaited g c caller x new → (words : List ℕ) (from : List Entry) (left : List ℕ) → KeepsSchedule g c words from (caller ∷ left) x
+      → (caller : ℕ) (new : CoreParts P C) → HasWaited g c caller x new
+      → (words : List ℕ) (from : List Entry) (left : List ℕ) → KeepsSchedule g c words from (caller ∷ left) x
       → KeepsSchedule g c words from left new
   waited-keeps law caller new waited words from left keeps =
       subst (λ (y : CoreParts P C). KeepsSchedule g c words from left y) (sym waited.same)
@@ -230,7 +234,8 @@ module _ {P C S : Type 0} (g : PortGhosts P) (c : CallerGhosts C S) (x : CorePar
       → IsStepwise b MOST_CALLERS asks old → (now b asks old).due ≡ None
       → (t : Turn) → IsTurn b MOST_CALLERS asks old t → (left : List ℕ) → KeepsTo b MOST_CALLERS asks words from (t.caller ∷ left) old
       → KeepsTo b MOST_CALLERS asks words from left (past_after old t))
-      → ((words : List ℕ) (from old : List Entry) → IsPlainBoard b → MeetsRules b → AsksForMessages asks → IsStepwise b MOST_CALLERS asks old
+      → ((words : List ℕ) (from old : List Entry) → IsPlainBoard b → MeetsRules b → AsksForMessages asks
+      → IsStepwise b MOST_CALLERS asks old
       → (w : ℕ) → IsStuck b asks old w → (left : List ℕ) → KeepsTo b MOST_CALLERS asks words from (w ∷ left) old
       → KeepsTo b MOST_CALLERS asks words from left old)
       → (caller : ℕ) (new : CoreParts P C) (made : Bool) → (made ≡ true → HasMade g c caller x new)

@@ -112,7 +112,8 @@ module _ (names : Names) (shelf shelf_now : ShelfView) (rig rig_now : RigView) (
   -- without a schedule no order was asked for
   pub free_run_done : {X : Type 0} (r : Result X Status) (bytes_of : X → List ℕ) → names.schedule ≡ None
       → OnOk r (rig_now.unplugs ≡ counted rig.unplugs)
-      → (IsTrue rig_now.tells → IsTrue rig_now.ports_tell → IfOk r (λ x. HasRun b texts None (bytes_of x) rig_now.logs rig_now.states rig_now.counts))
+      → (IsTrue rig_now.tells → IsTrue rig_now.ports_tell
+      → IfOk r (λ x. HasRun b texts None (bytes_of x) rig_now.logs rig_now.states rig_now.counts))
       → IfOk r (λ x. CameToSuccess (replay_form names) shelf shelf_now rig rig_now (bytes_of x))
   free_run_done r bytes_of free unplugs run =
       run_done r bytes_of None

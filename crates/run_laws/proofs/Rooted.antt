@@ -26,7 +26,8 @@ use Rattle.bus_laws.proofs.past.Marks.{home_there}
 use Rattle.bus_laws.proofs.past.StandsStep.{at_other}
 use Rattle.bus_laws.proofs.past.Whole.{line_root}
 use Rattle.journal_laws.proofs.past.Remotes.{job_there}
-use Rattle.run_laws.specs.Alike.{FaultAt, FaultsAlike}
+use Rattle.i2c_top.specs.Faults.{FaultAt}
+use Rattle.run_laws.specs.Alike.{FaultsAlike}
 
 -- what a function gives at each number, listed from 0 on
 listed_at : {X : Type 0} (f : ℕ → X) (n r : ℕ) → r < n → slice_get (map f (range_with_len 0 n)) r ≡ Some (f r)

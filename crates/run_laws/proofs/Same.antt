@@ -53,7 +53,8 @@ words_there file None callers name is h = absurd (let f : None ≡ Some name = i
 words_there file (Some own) callers name is h = (h.words, refl)
 
 -- two runs of one board, and of the same scripts by the same schedule
-pub record AreTwoRuns (x y : List ℕ) (logs others : List (List PortCall)) (states ends : List TargetState) (counts rises : List ℕ) : Type 0 where
+pub record AreTwoRuns (x y : List ℕ) (logs others : List (List PortCall)) (states ends : List TargetState)
+    (counts rises : List ℕ) : Type 0 where
   pub board : BoardView
   pub texts : List (List ℕ)
   pub words : List ℕ

@@ -10,7 +10,8 @@ use Rattle.i2c_top.proofs.run.alone.Goals as goal
 pub push_reserved-requires : goal.push_reserved-requires
 push_reserved-requires g c =
     let room : length c.loop-port.alone.items < vec_capacity c.loop-port.alone =
-    room-next (map (λ (p : ℕ × _). p.1)) c.args.ports.items c.loop-port.yielded _ _ _ _ _ _ c.loop-port.invariant.over c.in-Some.ensures.steps.0
+    room-next (map (λ (p : ℕ × _). p.1)) c.args.ports.items c.loop-port.yielded _ _ _ _ _ _ c.loop-port.invariant.over
+    c.in-Some.ensures.steps.0
     (length-map c.loop-port.yielded (λ (p : ℕ × _). p.1)) in
     let len : vec_len c.loop-port.alone ≡ length c.loop-port.alone.items = c.loop-port.alone.ok.0 in
     omega (arith, room, len)

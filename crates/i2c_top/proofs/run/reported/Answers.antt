@@ -31,7 +31,8 @@ returns-clause-run g c =
     let logs : List (List PortCall) = map (λ p. row.log p.1) parts.ports.items in
     let given : map row.world c.alone.result.items ≡ worlds = ap (map row.world) c.alone.ensures.ports
     ∙ twice row.world (λ p. p.1) parts.ports.items in
-    let logged : map row.log c.alone.result.items ≡ logs = ap (map row.log) c.alone.ensures.ports ∙ twice row.log (λ p. p.1) parts.ports.items in
+    let logged : map row.log c.alone.result.items ≡ logs = ap (map row.log) c.alone.ensures.ports
+    ∙ twice row.log (λ p. p.1) parts.ports.items in
     let printed : bytes ≡ report_lines (map section_of (callers_of parts)) journal =
     c.in_ok-report_of_callers.ensures
     ∙ ap (λ (ss : List (Seat CallerView)). report_lines (map (λ (s : Seat CallerView). section_of s.caller) ss) journal)
@@ -46,8 +47,8 @@ returns-clause-run g c =
     subst (λ (texts : List (List ℕ)). HasRun b texts words bytes kept_logs states counts) left.texts
     (record {
       journal = journal;
-      is_run = run-over b (callers_of parts) MOST_CALLERS journal worlds logs scripts_fair (left.over tell) bytes kept_logs states counts printed
-          c.entries_are_in_range.ensures
+      is_run = run-over b (callers_of parts) MOST_CALLERS journal worlds logs scripts_fair (left.over tell) bytes kept_logs states counts
+          printed c.entries_are_in_range.ensures
           (subst (λ (ws : List World). AreWorldsOf b ws → states ≡ devices_of b ws) given (c.unplug-2.ensures.states tells tell))
           (λ are. subst (λ (ws : List World). AreWorldsOf b ws → kept_logs ≡ map row.log c.alone.result.items) given
           (c.unplug-2.ensures.logs tells tell) are ∙ logged)

@@ -24,6 +24,6 @@ returns c =
       named = own-named b tree plain (lines-locked b rules) (asks_by b texts) some (length texts) run.journal run.is_run.stepwise none;
       run = replay;
       only = λ other_bytes others ends other_counts other alike.
-          c.a_replay_has_one_report.ensures.run b texts (steps_of run.journal) x other_bytes logs others states ends counts other_counts replay
-          other alike;
+          c.a_replay_has_one_report.ensures.run b texts (steps_of run.journal) x other_bytes logs others states ends counts
+          other_counts replay other alike;
     }
