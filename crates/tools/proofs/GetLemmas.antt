@@ -1,21 +1,18 @@
--- i2cget: what its line means is in range, and how long it is; its calls are within the limits, and the blocks that they read are
--- short.
-use Rattle.std.proofs.Common.{◌≡◌, ℕ, ◌^◌, ◌<◌, ◌≤◌, Bool, false, length, Option, Some, None, refl, ap, ◌∙◌, arith}
-use Rattle.std.specs.Prelude.{All, IfSome, slice_get, option_map, unwrap_or}
-use Rattle.std.specs.List.{AllByRecursion}
-use Rattle.std.proofs.lemmas.List.{length-map}
-use Rattle.std.proofs.lemmas.List.Elements.{All-from_recursion, All-map}
-use Rattle.std.proofs.lemmas.Option.{slice_get-get_or, slice_get-map}
-use Rattle.i2c_base.specs.Transfer.{TransferView}
+-- i2cget: what its line means is in range, and how long it is; its calls are within the limits, and what it prints is a line.
+use Rattle.std.proofs.Common.{◌≡◌, ℕ, ◌^◌, ◌<◌, ◌≤◌, Bool, true, false, cond, Option, Some, None, arith}
+use Rattle.std.specs.Prelude.{◌==◌, IfSome, unwrap_or}
 use Rattle.smb_emul.specs.Calls.{messages_of_call, IsBlockLength}
+use Rattle.smb_emul.specs.declared.call.SmbCall.{SmbCall}
 use Rattle.smb_emul.specs.declared.call.SmbOp.{SmbOp}
 use Rattle.smb_emul.specs.declared.call.SmbOp.TheVariants as op
+use Rattle.tools.specs.Calls.{call_to}
 use Rattle.tools.specs.Commands.{IsInRange}
-use Rattle.tools.specs.Gets.{got, get_len, get_reg, get_bus, get_words, IsGetInRange, mode_of, len_of, ops_by, get_ops, get_call, get_transfers, op_at, block_most}
+use Rattle.tools.specs.Gets.{got, get_len, get_reg, get_bus, get_words, IsGetInRange, mode_of, len_of, callee, register_run, run_by, get_run}
 use Rattle.tools.specs.declared.command.get.Get.{Get}
 use Rattle.tools.specs.declared.command.get.GetMode.{GetMode}
 use Rattle.tools.specs.declared.command.get.GetMode.TheVariants as mode
-use Rattle.tools.proofs.AnswerLemmas.{IsShort, call_by, no_block, i2c_block, count_block}
+use Rattle.tools.specs.declared.run.call.HeldOp.TheVariants as held
+use Rattle.tools.proofs.FormLemmas.{AsksWithin, HasSectionLines, call_lines, chain_lines}
 use Rattle.tools.proofs.GrammarLemmas.{AllEnds, EndsWithin}
 use Rattle.tools.proofs.OptionLemmas.{IsBetween, number_between, options_end, options_within}
 use Rattle.tools.proofs.TransferLemmas.{IsAsk, call_asks, short_byte}
@@ -73,69 +70,55 @@ get_within = options_within 5 get_bus bus_within
 
 -- ---- its calls
 
-module _ (bus addr : ℕ) (force pec : Bool) where
-  abbrev Asks : SmbOp → Type 0
-  Asks o = IsAsk (messages_of_call (call_by bus addr force pec o))
+module _ (g : Get) (near : g.addr ≤ 119) where
+  abbrev called : SmbOp → SmbCall
+  called o = call_to (callee g) o
 
-  ops_ask : (reg : Option ℕ) (m : GetMode) (len : ℕ) → addr ≤ 119 → IfSome reg (λ r. r < 2 ^ 8) → IsBlockLength 32 len
-      → AllByRecursion Asks (ops_by reg m len)
-  ops_ask None m len near byte short =
-      (call_asks (call_by bus addr force pec op.ReceiveByte) near tt (omega arith, omega arith) (omega arith), tt)
-  ops_ask (Some reg) mode.Byte len near byte short =
-      (call_asks (call_by bus addr force pec (op.ReadByte reg)) near (short_byte reg byte) (omega arith, omega arith) (omega arith), tt)
-  ops_ask (Some reg) mode.Word len near byte short =
-      (call_asks (call_by bus addr force pec (op.ReadWord reg)) near (short_byte reg byte) (omega arith, omega arith) (omega arith), tt)
-  ops_ask (Some reg) mode.SendReceive len near byte short = (
-    call_asks (call_by bus addr force pec (op.SendByte reg)) near (short_byte reg byte) tt (omega arith),
-    (call_asks (call_by bus addr force pec op.ReceiveByte) near tt (omega arith, omega arith) (omega arith), tt),
-  )
-  ops_ask (Some reg) mode.Block len near byte short =
-      (call_asks (call_by bus addr force pec (op.BlockRead reg)) near (short_byte reg byte) tt (omega arith), tt)
-  ops_ask (Some reg) mode.I2cBlock len near byte short =
-      (call_asks (call_by bus addr force pec (op.I2cBlockRead reg len)) near (short_byte reg byte) short (omega arith), tt)
+  receives_asks : IsAsk (messages_of_call (called op.ReceiveByte))
+  receives_asks = call_asks (called op.ReceiveByte) near tt (omega arith, omega arith) (omega arith)
 
-  ops_short : (reg : Option ℕ) (m : GetMode) (len : ℕ)
-      → AllByRecursion (λ o. IsShort (block_most m len) (call_by bus addr force pec o)) (ops_by reg m len)
-  ops_short None m len = (no_block (call_by bus addr force pec op.ReceiveByte) (block_most m len) (λ held. refl), tt)
-  ops_short (Some reg) mode.Byte len = (no_block (call_by bus addr force pec (op.ReadByte reg)) 0 (λ held. refl), tt)
-  ops_short (Some reg) mode.Word len = (no_block (call_by bus addr force pec (op.ReadWord reg)) 0 (λ held. refl), tt)
-  ops_short (Some reg) mode.SendReceive len = (
-    no_block (call_by bus addr force pec (op.SendByte reg)) 0 (λ held. refl),
-    (no_block (call_by bus addr force pec op.ReceiveByte) 0 (λ held. refl), tt),
-  )
-  ops_short (Some reg) mode.Block len = (count_block bus addr force pec reg, tt)
-  ops_short (Some reg) mode.I2cBlock len = (i2c_block bus addr force pec reg len, tt)
+  register_asks : (reg : ℕ) (m : GetMode) → reg < 2 ^ 8 → IsBlockLength 32 (len_of g) → AsksWithin (register_run g reg m)
+  register_asks reg mode.Byte byte short k within =
+      call_asks (called (op.ReadByte reg)) near (short_byte reg byte) (omega arith, omega arith) (omega arith)
+  register_asks reg mode.Word byte short k within =
+      call_asks (called (op.ReadWord reg)) near (short_byte reg byte) (omega arith, omega arith) (omega arith)
+  register_asks reg mode.SendReceive byte short k within =
+      elim (k == 0) as (λ b. IsAsk (messages_of_call (called (cond b (op.SendByte reg) op.ReceiveByte)))) [
+        | true ↦ call_asks (called (op.SendByte reg)) near (short_byte reg byte) tt (omega arith)
+        | false ↦ receives_asks
+      ]
+  register_asks reg mode.Block byte short k within =
+      call_asks (called (op.BlockRead reg)) near (short_byte reg byte) tt (omega arith)
+  register_asks reg mode.I2cBlock byte short k within =
+      call_asks (called (op.I2cBlockRead reg (len_of g))) near (short_byte reg byte) short (omega arith)
+
+  asks_by : (reg : Option ℕ) → IfSome reg (λ r. r < 2 ^ 8) → IsBlockLength 32 (len_of g) → AsksWithin (run_by g reg)
+  asks_by None byte short k within = receives_asks
+  asks_by (Some reg) byte short k within = register_asks reg (mode_of g) byte short k within
 
 len_short : (len : Option ℕ) → IfSome len (λ n. (1 ≤ n) × (n ≤ 32)) → IsBlockLength 32 (unwrap_or len 32)
 len_short None h = (omega arith, omega arith)
 len_short (Some n) h = h
 
-pub get_asks : (g : Get) → IsGetInRange g → All IsAsk (get_transfers g)
-get_asks g range =
-    All-map IsAsk (λ o. messages_of_call (get_call g o)) (get_ops g) (All-from_recursion (Asks g.bus g.addr g.force g.pec) (get_ops g)
-    (ops_ask g.bus g.addr g.force g.pec g.reg (mode_of g) (len_of g) range.addr.1 range.reg (len_short g.len range.len)))
+-- the block of `i` has a length that it may have
+pub get_len_short : (g : Get) → IsGetInRange g → IsBlockLength 32 (len_of g)
+get_len_short g range = len_short g.len range.len
 
-pub get_short : (g : Get) (k : ℕ) → k < length (get_ops g) → IsShort (block_most (mode_of g) (len_of g)) (get_call g (op_at g k))
-get_short g k within =
-    All-from_recursion (λ o. IsShort (block_most (mode_of g) (len_of g)) (get_call g o)) (get_ops g)
-    (ops_short g.bus g.addr g.force g.pec g.reg (mode_of g) (len_of g)) k op.ReceiveByte within
+-- it asks for transfers within the limits
+pub get_asks : (g : Get) → IsGetInRange g → AsksWithin (get_run g)
+get_asks g range = asks_by g range.addr.1 g.reg range.reg (get_len_short g range)
 
--- it asks for something
-ops_some : (reg : Option ℕ) (m : GetMode) (len : ℕ) → 0 < length (ops_by reg m len)
-ops_some None m len = omega arith
-ops_some (Some reg) mode.Byte len = omega arith
-ops_some (Some reg) mode.Word len = omega arith
-ops_some (Some reg) mode.SendReceive len = omega arith
-ops_some (Some reg) mode.Block len = omega arith
-ops_some (Some reg) mode.I2cBlock len = omega arith
+-- what it prints is a line of a section
+register_lines : (g : Get) (reg : ℕ) (m : GetMode) → HasSectionLines (register_run g reg m)
+register_lines g reg mode.Byte = call_lines (record { to = callee g; op = held.ReadByte reg })
+register_lines g reg mode.Word = call_lines (record { to = callee g; op = held.ReadWord reg })
+register_lines g reg mode.SendReceive = chain_lines (record { to = callee g; sent = reg })
+register_lines g reg mode.Block = call_lines (record { to = callee g; op = held.BlockRead reg })
+register_lines g reg mode.I2cBlock = call_lines (record { to = callee g; op = held.I2cBlockRead reg (len_of g) })
 
-pub get_some : (g : Get) → 0 < length (get_transfers g)
-get_some g = omega (arith, ops_some g.reg (mode_of g) (len_of g), length-map (get_ops g) (λ o. messages_of_call (get_call g o)))
+lines_by : (g : Get) (reg : Option ℕ) → HasSectionLines (run_by g reg)
+lines_by g None = call_lines (record { to = callee g; op = held.ReceiveByte })
+lines_by g (Some reg) = register_lines g reg (mode_of g)
 
--- the transfer at a place is that of the call there
-pub transfer_there : (g : Get) (k : ℕ) → k < length (get_transfers g)
-    → slice_get (get_transfers g) k ≡ Some (messages_of_call (get_call g (op_at g k)))
-transfer_there g k within =
-    let asks : SmbOp → TransferView = λ o. messages_of_call (get_call g o) in
-    slice_get-map asks (get_ops g) k
-    ∙ ap (option_map asks) (slice_get-get_or (get_ops g) k op.ReceiveByte (omega (arith, within, length-map (get_ops g) asks)))
+pub get_lines : (g : Get) → HasSectionLines (get_run g)
+get_lines g = lines_by g g.reg

@@ -22,7 +22,7 @@ spaced (b ∷ bs) = line-append (spaced_word b) (flat_map spaced_word bs) (line-
     (spaced bs)
 
 -- a text whose first sign isn't a j
-others : (text : List ℕ) (c : ℕ) → get_or text 0 0 ≡ c → (c < 106) → ¬ (text ≡ codes "journal")
+pub others : (text : List ℕ) (c : ℕ) → get_or text 0 0 ≡ c → (c < 106) → ¬ (text ≡ codes "journal")
 others text c first low e = let h : get_or text 0 0 ≡ 106 = ap (λ xs. get_or xs 0 0) e in omega (arith, h, first, low)
 
 others_above : (text : List ℕ) (c : ℕ) → get_or text 0 0 ≡ c → (106 < c) → ¬ (text ≡ codes "journal")

@@ -1,25 +1,22 @@
--- i2cget: its line, the SMBus calls of its mode, and what it prints (i2c-tools, i2cget(8); SMBus 3.2, section 6.5).
-use Rattle.std.specs.Prelude.{ℕ, ◌+◌, ◌-◌, ◌*◌, ◌^◌, ◌<◌, ◌≤◌, Bool, true, false, List, [], ◌∷◌, length, map, slice_index_or, unwrap_or, Option, Some, None, IfSome, if◌then◌else◌, codes, refl}
+-- i2cget: its line, and the SMBus calls of its mode (i2c-tools, i2cget(8); SMBus 3.2, section 6.5).
+use Rattle.std.specs.Prelude.{ℕ, ◌^◌, ◌<◌, ◌≤◌, Bool, true, false, unwrap_or, Option, Some, None, IfSome, if◌then◌else◌, codes, refl}
 use Rattle.std.specs.Str.{bytes_eq}
 use Rattle.i2c_base.specs.Addr.{IsTargetAddress}
-use Rattle.i2c_base.specs.Limits.{I2C_BLOCK_LIMIT, LARGEST_BLOCK}
-use Rattle.i2c_base.specs.Transfer.{TransferView}
-use Rattle.i2c_base.specs.declared.reply.Reply.{Reply}
-use Rattle.i2c_base.specs.declared.reply.Reply.TheVariants as reply
-use Rattle.smb_emul.specs.Calls.{messages_of_call, value_of_call}
-use Rattle.smb_emul.specs.declared.call.SmbCall.{SmbCall}
-use Rattle.smb_emul.specs.declared.call.SmbOp.{SmbOp}
-use Rattle.smb_emul.specs.declared.call.SmbOp.TheVariants as op
+use Rattle.i2c_base.specs.Limits.{I2C_BLOCK_LIMIT}
 use Rattle.tools.specs.Grammars.{Class, Grammar, ends, class, maybe}
 use Rattle.tools.specs.LineSets.{Word}
 use Rattle.tools.specs.Numbers.{number_in}
 use Rattle.tools.specs.Options.{bus_number, address, byte, force_and_yes}
-use Rattle.tools.specs.Values.{result_text}
 use Rattle.tools.specs.declared.command.Cmd.{Cmd}
 use Rattle.tools.specs.declared.command.Cmd.TheVariants as cmd
 use Rattle.tools.specs.declared.command.get.Get.{Get}
 use Rattle.tools.specs.declared.command.get.GetMode.{GetMode}
 use Rattle.tools.specs.declared.command.get.GetMode.TheVariants as mode
+use Rattle.tools.specs.declared.run.ToolRun.{ToolRun}
+use Rattle.tools.specs.declared.run.ToolRun.TheVariants as run
+use Rattle.tools.specs.declared.run.call.Callee.{Callee}
+use Rattle.tools.specs.declared.run.call.HeldOp.{HeldOp}
+use Rattle.tools.specs.declared.run.call.HeldOp.TheVariants as held
 
 -- ---- its line: i2cget [-f] -y BUS ADDR [REG [MODE [LEN]]]
 
@@ -74,7 +71,7 @@ pub record IsGetInRange (g : Get) : Type 0 where
   pub reg : IfSome g.reg (λ r. r < 2 ^ 8)
   pub len : IfSome g.len (λ n. (1 ≤ n) × (n ≤ I2C_BLOCK_LIMIT))
 
--- ---- what it asks for, and what it prints
+-- ---- how it runs
 
 -- no MODE is `b`, and no LEN is the most
 abbrev pub mode_of : Get → GetMode
@@ -83,45 +80,25 @@ mode_of g = unwrap_or g.mode mode.Byte
 abbrev pub len_of : Get → ℕ
 len_of g = unwrap_or g.len I2C_BLOCK_LIMIT
 
--- the calls that read a register; `c` sends its number, and then receives a byte
-abbrev pub register_ops : ℕ → GetMode → ℕ → List SmbOp
-register_ops reg mode.Byte len = op.ReadByte reg ∷ []
-register_ops reg mode.Word len = op.ReadWord reg ∷ []
-register_ops reg mode.SendReceive len = op.SendByte reg ∷ op.ReceiveByte ∷ []
-register_ops reg mode.Block len = op.BlockRead reg ∷ []
-register_ops reg mode.I2cBlock len = op.I2cBlockRead reg len ∷ []
+-- to whom its calls go
+abbrev pub callee : Get → Callee
+callee g = record { bus = g.bus; addr = g.addr; force = g.force; pec = g.pec }
+
+abbrev pub get_call : Get → HeldOp → ToolRun
+get_call g o = run.Calls (record { to = callee g; op = o })
+
+-- a register is read by the call of its mode; `c` sends its number, and then receives a byte
+abbrev pub register_run : Get → ℕ → GetMode → ToolRun
+register_run g reg mode.Byte = get_call g (held.ReadByte reg)
+register_run g reg mode.Word = get_call g (held.ReadWord reg)
+register_run g reg mode.SendReceive = run.Chains (record { to = callee g; sent = reg })
+register_run g reg mode.Block = get_call g (held.BlockRead reg)
+register_run g reg mode.I2cBlock = get_call g (held.I2cBlockRead reg (len_of g))
 
 -- without a register the next byte is received
-abbrev pub ops_by : Option ℕ → GetMode → ℕ → List SmbOp
-ops_by None m len = op.ReceiveByte ∷ []
-ops_by (Some reg) m len = register_ops reg m len
+abbrev pub run_by : Get → Option ℕ → ToolRun
+run_by g None = get_call g held.ReceiveByte
+run_by g (Some reg) = register_run g reg (mode_of g)
 
-abbrev pub get_ops : Get → List SmbOp
-get_ops g = ops_by g.reg (mode_of g) (len_of g)
-
-abbrev pub get_call : Get → SmbOp → SmbCall
-get_call g o = record { bus = g.bus; addr = g.addr; force = g.force; pec = g.pec; op = o }
-
-abbrev pub get_transfers : Get → List TransferView
-get_transfers g = map (λ o. messages_of_call (get_call g o)) (get_ops g)
-
--- its answer is the value of the last call that was replied to, or why there is none
-abbrev pub op_at : Get → ℕ → SmbOp
-op_at g k = slice_index_or (get_ops g) k op.ReceiveByte
-
-abbrev pub get_answer : Get → List Reply → List ℕ
-get_answer g replies =
-    let last = length replies - 1 in
-    result_text (value_of_call (get_call g (op_at g last)) (slice_index_or replies last reply.Done))
-
--- the block that is read has at most so many bytes
-abbrev pub block_most : GetMode → ℕ → ℕ
-block_most mode.Byte len = 0
-block_most mode.Word len = 0
-block_most mode.SendReceive len = 0
-block_most mode.Block len = LARGEST_BLOCK
-block_most mode.I2cBlock len = len
-
--- an answer has at most so many bytes: a wrong error code has 26, and a byte of a block 5
-abbrev pub get_most : Get → ℕ
-get_most g = 26 + 5 * block_most (mode_of g) (len_of g)
+abbrev pub get_run : Get → ToolRun
+get_run g = run_by g g.reg

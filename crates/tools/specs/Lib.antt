@@ -1,4 +1,8 @@
+pub mod Calls
+pub mod Chains
 pub mod Commands
+pub mod Detects
+pub mod Dialogues
 pub mod Gets
 pub mod Grammars
 pub mod LineSets
@@ -7,6 +11,8 @@ pub mod Numbers
 pub mod Options
 pub mod Readers
 pub mod Replies
+pub mod Runs
+pub mod Says
 pub mod Splits
 pub mod Values
 pub mod View

@@ -9,10 +9,11 @@
 //!   (`each_line_is_read`), and a refused word stands behind the longest front that begins a line
 //!   (`the_refused_word_is_behind_the_longest_front`). `read_line` keeps no more words than the longest line has, and one,
 //!   and these decide (`the_first_words_decide`).
-//! - Commands. A `ToolRun` asks for the transfers of its command in order, until the last of them or a reply that ends it,
-//!   and prints what `answer_text` says of its replies; the room for that is told before. `specs/Commands.antt` has a row
-//!   for each command, whose own definitions are a file beside it (of `i2cget`, `specs/Gets.antt`); `specs/Values.antt` tells
-//!   how values are printed.
+//! - Commands. A `ToolRun` is a command as it runs, with what the board says of it (`run_of` of `specs/Commands.antt`, which
+//!   has a row for each command, whose own definitions are a file beside it). It has one of a few forms, and each form is a
+//!   dialogue (`dialogue_of` of `specs/Runs.antt`): places with a transfer each, where it goes on behind a reply, the lines
+//!   that it prints, and the room for them (`specs/Dialogues.antt`). Its caller keeps its place and its replies.
+//!   `specs/Values.antt` tells how values are printed.
 //! - Texts. `cut_line` tells the first line of a text, and `push_echo` prints a line's words (`specs/Splits.antt`).
 //!   `skip_gaps` and `first_word` take the words off any text, with whatever bytes a `Gap` says between them
 //!   (`specs/Words.antt`).
@@ -27,12 +28,13 @@ mod number;
 mod options;
 mod reader;
 mod replies;
+mod run;
 mod split;
 mod text;
 mod value;
 mod words;
 
-pub use command::{Cmd, ToolRun};
+pub use command::Cmd;
 pub use examples::{
     a_block_is_printed_without_its_count, a_line_that_is_too_long_is_refused_behind_the_longest,
     a_word_is_printed_high_byte_first, a_wrong_code_is_told_with_the_right_one,
@@ -44,7 +46,8 @@ pub use laws::{
     the_refused_word_is_behind_the_longest_front,
 };
 pub use line::read_line;
-pub use replies::most_brought;
+pub use replies::{Window, most_brought};
+pub use run::ToolRun;
 pub use split::{cut_line, is_joined, push_echo};
 pub use text::Text;
 pub use words::{Gap, first_word, skip_gaps};

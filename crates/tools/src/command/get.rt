@@ -1,26 +1,18 @@
-//! `i2cget`: its line, the SMBus calls that read a register, and what it prints of their replies.
+//! `i2cget`: its line, and the SMBus calls that read a register.
 
-ghost use Rattle.std.specs.Prelude.{◌≡◌, ℕ, List, ◌+◌, ◌-◌, ◌*◌, ◌<◌, ◌≤◌, ◌++◌, false, None, Some, length, drop, slice_index_or};
-ghost use Rattle.i2c_base.specs.Fitting.{Fits};
-ghost use Rattle.i2c_base.specs.Replies.{reply_by};
-ghost use Rattle.smb_emul.specs.Calls.{messages_of_call, value_of_call};
-ghost use Rattle.tools.specs.Commands.{AreReplies};
-ghost use Rattle.tools.specs.Gets.{mode_named, get_len, get_reg, get_bus, get_words, IsGetInRange, mode_of, len_of, register_ops, get_ops, op_at, get_call, get_transfers, get_answer, get_most};
+ghost use Rattle.std.specs.Prelude.{◌≡◌, ℕ, ◌+◌, ◌<◌, false, None, Some};
+ghost use Rattle.tools.specs.Gets.{mode_named, get_len, get_reg, get_bus, get_words, IsGetInRange, mode_of, len_of, callee, get_call, register_run, get_run};
 ghost use Rattle.tools.specs.Grammars.{read_at};
 ghost use Rattle.tools.specs.Readers.{texts, one_at};
-ghost use Rattle.tools.specs.Replies.{replies_of, is_error};
-ghost use Rattle.tools.specs.Values.{result_text};
-ghost use Rattle.tools.specs.declared.command.Cmd.TheVariants as cmd;
 
 use crate::command::Cmd;
 use crate::fault::WordRefused;
 use crate::options::{address_at, bus_at, byte_at, options};
 use crate::reader::{is_past, is_text, number_at};
-use crate::text::Text;
-use crate::value::{MOST_BESIDE, push_errno, push_outcome};
-use i2c_base::{Addr, I2C_BLOCK_LIMIT, LARGEST_BLOCK, ReplyHead, Transfer};
-use packed::Packed;
-use smb_emul::{SmbCall, SmbOp, put_messages, value_read};
+use crate::run::ToolRun;
+use crate::run::call::{BlockLen, Callee, HeldCall, HeldOp};
+use crate::run::chain::Chain;
+use i2c_base::{Addr, I2C_BLOCK_LIMIT};
 
 /// How `i2cget` reads a register.
 #[derive(Clone, Copy)]
@@ -179,123 +171,52 @@ fn len_of(get: &Get) -> u8
     get.len.unwrap_or(I2C_BLOCK_LIMIT)
 }
 
-// The call at a place of those that read a register.
-fn register_op(reg: u8, mode: GetMode, len: u8, at: u16) -> SmbOp<'static>
-    requires { at < length (register_ops reg mode len) }
-    ensures { result ≡ slice_index_or (register_ops reg mode len) at result }
+// To whom its calls go.
+fn callee(get: &Get) -> Callee
+    ensures { result ≡ callee get.now }
 {
-    match mode {
-        GetMode::Byte => SmbOp::ReadByte(reg),
-        GetMode::Word => SmbOp::ReadWord(reg),
-        GetMode::SendReceive => {
-            if at == 0 {
-                SmbOp::SendByte(reg)
-            } else {
-                SmbOp::ReceiveByte
-            }
-        }
-        GetMode::Block => SmbOp::BlockRead(reg),
-        GetMode::I2cBlock => SmbOp::I2cBlockRead(reg, len),
-    }
-}
-
-// The SMBus call at a place.
-fn op_at(get: &Get, at: u16) -> SmbOp<'static>
-    requires { at < length (get_ops get.now) }
-    ensures { result ≡ op_at get.now at }
-{
-    match get.reg {
-        None => SmbOp::ReceiveByte,
-        Some(reg) => register_op(reg, mode_of(get), len_of(get), at),
-    }
-}
-
-// That call as it goes to the device.
-fn call_of<'b>(get: &Get, op: SmbOp<'b>) -> SmbCall<'b>
-    ensures { result ≡ get_call get.now op.entry }
-{
-    SmbCall {
+    Callee {
         bus: get.bus,
         addr: get.addr,
         force: get.force,
         pec: get.pec,
+    }
+}
+
+// One call.
+fn call(get: &Get, op: HeldOp) -> ToolRun
+    ensures { result ≡ get_call get.now op }
+{
+    ToolRun::Calls(HeldCall {
+        to: callee(get),
         op,
-    }
+    })
 }
 
-/// How many calls there are.
-pub fn count(get: &Get) -> u16
-    ensures value { result ≡ length (get_transfers get.now) }
-    ensures few { result ≤ 2 }
+// How it reads this register.
+fn register_run(get: &Get, reg: u8) -> ToolRun
+    requires { IsGetInRange get.now }
+    ensures { result ≡ register_run get.now reg (mode_of get.now) }
 {
-    if get.reg.is_none() {
-        return 1;
-    }
     match mode_of(get) {
-        GetMode::SendReceive => 2,
-        _ => 1,
+        GetMode::Byte => call(get, HeldOp::ReadByte(reg)),
+        GetMode::Word => call(get, HeldOp::ReadWord(reg)),
+        GetMode::SendReceive => ToolRun::Chains(Chain {
+            to: callee(get),
+            sent: reg,
+        }),
+        GetMode::Block => call(get, HeldOp::BlockRead(reg)),
+        GetMode::I2cBlock => call(get, HeldOp::I2cBlockRead(reg, BlockLen::new(len_of(get)))),
     }
 }
 
-/// Puts the transfer at a place in place of another.
-pub fn put_transfer(get: &Get, at: u16, transfer: &mut Transfer)
-    requires range { IsGetInRange get.now }
-    requires more { at < length (get_transfers get.now) }
-    ensures { transfer.new ≡ slice_index_or (get_transfers get.now) at transfer.new }
+/// How it runs.
+pub fn run(get: &Get) -> ToolRun
+    requires { IsGetInRange get.now }
+    ensures { result ≡ get_run get.now }
 {
-    let op = op_at(get, at);
-    let call = call_of(get, op);
-    put_messages(&call, transfer);
-}
-
-/// An error ends it.
-pub fn ends_early(head: ReplyHead) -> bool
-    ensures { (bytes : List ℕ) → result ≡ is_error (reply_by head bytes) }
-{
-    matches!(head, ReplyHead::Err(_))
-}
-
-/// Prints the value of the last reply, or why there is none.
-pub fn push_answer(out: &mut Text, get: &Get, taken: u16, replies: &Packed<ReplyHead>, from: usize)
-    requires range { IsGetInRange get.now }
-    requires replies { AreReplies (record { cmd = cmd.Get get.now; taken = taken }) (drop from (replies_of replies.now.items)) }
-    requires room { get_most get.now ≤ out.old.room }
-    ensures bytes { out.new.bytes ≡ out.old.bytes ++ get_answer get.now (drop from (replies_of replies.now.items)) }
-    ensures room { out.old.room ≤ out.new.room + get_most get.now }
-{
-    let (answer, bytes) = replies.get(replies.len() - 1);
-    push_reply(out, get, taken - 1, *answer, bytes);
-}
-
-// Prints the value of a reply, or why there is none.
-fn push_reply(out: &mut Text, get: &Get, at: u16, answer: ReplyHead, bytes: &[u8])
-    requires range { IsGetInRange get.now }
-    requires within { at < length (get_ops get.now) }
-    requires fits { Fits (messages_of_call (get_call get.now (op_at get.now at))) (reply_by answer bytes.now) }
-    requires room { get_most get.now ≤ out.old.room }
-    ensures bytes { out.new.bytes ≡ out.old.bytes ++ result_text (value_of_call (get_call get.now (op_at get.now at)) (reply_by answer bytes.now)) }
-    ensures room { out.old.room ≤ out.new.room + get_most get.now }
-{
-    match answer {
-        ReplyHead::Done => out.push(b"ok"),
-        ReplyHead::Read => {
-            let op = op_at(get, at);
-            let call = call_of(get, op);
-            push_outcome(out, value_read(&call, bytes));
-        }
-        ReplyHead::Err(errno) => push_errno(out, errno),
+    match get.reg {
+        None => call(get, HeldOp::ReceiveByte),
+        Some(reg) => register_run(get, reg),
     }
-}
-
-/// The most bytes of an answer.
-pub fn most(get: &Get) -> usize
-    ensures value { result ≡ get_most get.now }
-    ensures small { result ≤ 2000 }
-{
-    let block = match mode_of(get) {
-        GetMode::Block => usize::from(LARGEST_BLOCK),
-        GetMode::I2cBlock => usize::from(len_of(get)),
-        _ => 0,
-    };
-    MOST_BESIDE + 5 * block
 }

@@ -1,0 +1,112 @@
+//! Commands as they run, a row a form.
+
+ghost use Rattle.std.specs.Prelude.{◌≡◌, ℕ, List, ◌+◌, ◌<◌, ◌≤◌, ◌++◌, IfOk};
+ghost use Rattle.std.specs.List.{flat_map};
+ghost use Rattle.bus_journal.specs.Reports.{ended};
+ghost use Rattle.i2c_base.specs.Replies.{reply_by};
+ghost use Rattle.tools.specs.Commands.{IsInRange, run_of};
+ghost use Rattle.tools.specs.Dialogues.{AreReplies, behind};
+ghost use Rattle.tools.specs.Runs.{dialogue_of};
+
+pub(crate) mod call;
+pub(crate) mod chain;
+pub(crate) mod lines;
+
+use crate::command::{Cmd, detect, get};
+use crate::replies::Window;
+use crate::text::Text;
+use call::HeldCall;
+use chain::{Chain, skips};
+use i2c_base::{NoMemory, ReplyHead, Transfer};
+use i2c_board::Accepted;
+use lines::Lines;
+use std::alloc::Global;
+
+/// A command as it runs: what the board's answers leave of it. How far it has come, and the replies, are its caller's.
+#[derive(Drop)]
+pub enum ToolRun {
+    /// Asks for nothing, and prints these lines.
+    Says(Lines),
+    /// Makes a call, and prints its value.
+    Calls(HeldCall),
+    /// Sends a byte, then receives one, and prints that.
+    Chains(Chain),
+}
+
+impl ToolRun {
+    /// A command that begins over a board.
+    pub fn open(alloc: Global, board: &Accepted, cmd: Cmd) -> Result<Self, NoMemory>
+        requires { IsInRange cmd }
+        ensures { IfOk result (λ r. r ≡ run_of board.now cmd) }
+    {
+        match cmd {
+            Cmd::Get(get) => Ok(get::run(&get)),
+            Cmd::List => Ok(ToolRun::Says(detect::bus_lines(alloc, board.board())?)),
+        }
+    }
+
+    /// How many places it has.
+    pub fn places(&self) -> u16
+        ensures value { result ≡ (dialogue_of self.now).places }
+        ensures few { result ≤ 2 }
+    {
+        match self {
+            ToolRun::Says(_) => 0,
+            ToolRun::Calls(_) => 1,
+            ToolRun::Chains(_) => 2,
+        }
+    }
+
+    /// Puts the transfer at a place in place of another.
+    pub fn put(&self, place: u16, transfer: &mut Transfer)
+        requires { place < (dialogue_of self.now).places }
+        ensures { transfer.new ≡ (dialogue_of self.now).at place }
+    {
+        match self {
+            ToolRun::Says(_) => {}
+            ToolRun::Calls(call) => call.put(transfer),
+            ToolRun::Chains(chain) => chain.put(place, transfer),
+        }
+    }
+
+    /// The place behind a reply, whatever bytes it brings.
+    pub fn behind(&self, place: u16, head: ReplyHead) -> u16
+        requires { place < (dialogue_of self.now).places }
+        ensures { (bytes : List ℕ) → result ≡ behind (dialogue_of self.now) place (reply_by head bytes) }
+    {
+        let skips = match self {
+            ToolRun::Says(_) => 0,
+            ToolRun::Calls(_) => 0,
+            ToolRun::Chains(_) => skips(head),
+        };
+        place + 1 + skips
+    }
+
+    /// Prints its lines.
+    pub fn print(&self, replies: Window<'_>, out: &mut Text)
+        requires fit { AreReplies (dialogue_of self.now) 0 replies }
+        requires room { (dialogue_of self.now).most ≤ out.old.room }
+        ensures bytes { out.new.bytes ≡ out.old.bytes ++ flat_map ended ((dialogue_of self.now).lines replies.entry) }
+        ensures room { out.old.room ≤ out.new.room + (dialogue_of self.now).most }
+    {
+        match self {
+            ToolRun::Says(lines) => lines.print(out),
+            ToolRun::Calls(call) => call.print(replies, out),
+            ToolRun::Chains(chain) => chain.print(replies, out),
+        }
+    }
+
+    /// The most bytes that it prints.
+    pub fn most(&self) -> usize
+        ensures { result ≡ (dialogue_of self.now).most }
+    {
+        match self {
+            ToolRun::Says(lines) => lines.size(),
+            ToolRun::Calls(call) => call.most(),
+            ToolRun::Chains(_) => MOST_CHAINED,
+        }
+    }
+}
+
+// The most bytes of the line of a chain.
+const MOST_CHAINED: usize = 27;
