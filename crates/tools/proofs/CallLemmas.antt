@@ -1,12 +1,12 @@
 -- How long the value of an SMBus call is, and which replies its transfer may get.
-use Rattle.std.proofs.Common.{◌≡◌, ℕ, zero, suc, ◌+◌, ◌-◌, ◌<◌, ◌≤◌, Bool, true, false, cond, List, [], ◌∷◌, length, take, drop, get_or, Ok, Err, Some, refl, subst, ap, length-take, length-drop, arith}
+use Rattle.std.proofs.Common.{◌≡◌, ℕ, ◌+◌, ◌-◌, ◌≤◌, Bool, true, false, cond, List, [], ◌∷◌, length, take, drop, get_or, Ok, Err, Some, refl, subst, ap, length-take, length-drop, arith}
 use Rattle.std.specs.Prelude.{◌==◌, slice_get}
 use Rattle.i2c_base.specs.Fitting.{Fits, count_of}
 use Rattle.i2c_base.specs.declared.reply.Reply.{Reply}
 use Rattle.i2c_base.specs.declared.reply.Reply.TheVariants as reply
 use Rattle.i2c_spec.specs.SmbusCalls.{block_read_row, block_proc_row}
 use Rattle.i2c_spec.specs.declared.smbus_row.CallRow.{CallRow}
-use Rattle.smb_emul.specs.Calls.{messages_of_call, value_of_call, call_row, is_coded, read_value, wanted_code, value_by, HasBlock}
+use Rattle.smb_emul.specs.Calls.{messages_of_call, value_of_call, call_row, is_coded, read_value, wanted_code, value_by}
 use Rattle.smb_emul.specs.declared.call.SmbCall.{SmbCall}
 use Rattle.smb_emul.specs.declared.call.SmbFail.TheVariants.{Pec}
 use Rattle.smb_emul.specs.declared.call.SmbOp.{SmbOp}

@@ -1,5 +1,5 @@
 -- What is so of every command: a row for each.
-use Rattle.std.proofs.Common.{ℕ, ◌<◌, arith}
+use Rattle.std.proofs.Common.{ℕ, arith}
 use Rattle.i2c_base.specs.Board.{BoardView}
 use Rattle.tools.specs.Commands.{grammar, MOST_WORDS, IsInRange, run_of}
 use Rattle.tools.specs.Detects.{bus_lines}

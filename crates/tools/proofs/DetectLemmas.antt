@@ -1,5 +1,5 @@
 -- i2cdetect: each bus has a line of its own, which is none of `journal`.
-use Rattle.std.proofs.Common.{◌≡◌, ℕ, zero, suc, ◌+◌, ◌<◌, List, [], ◌∷◌, ◌++◌, map, Option, Some, None, codes, refl, arith}
+use Rattle.std.proofs.Common.{◌≡◌, ℕ, zero, suc, ◌+◌, [], ◌∷◌, ◌++◌, map, Option, Some, None, codes, refl, arith}
 use Rattle.std.specs.Prelude.{All}
 use Rattle.std.specs.Fmt.{decimal}
 use Rattle.std.specs.List.{range_with_len}
@@ -9,7 +9,7 @@ use Rattle.std.proofs.lemmas.List.FromFn.{map-range_with_len_more}
 use Rattle.bus_journal.specs.Reports.{IsLine, IsSectionLine}
 use Rattle.bus_journal.proofs.LineFeeds.{line-append, decimal-line}
 use Rattle.i2c_base.specs.Board.{BoardView}
-use Rattle.i2c_spec.specs.Tree.{Hop, buses, over}
+use Rattle.i2c_spec.specs.Tree.{buses, over}
 use Rattle.tools.specs.Commands.{IsInRange}
 use Rattle.tools.specs.Detects.{detect_words, way_text, bus_line, bus_lines}
 use Rattle.tools.proofs.GrammarLemmas.{AllEnds, EndsWithin}
@@ -34,7 +34,8 @@ way_line (Some h) =
 pub is_line : (b : BoardView) (bus : ℕ) → IsLine (bus_line b bus)
 is_line b bus =
     let way : Option (ℕ × ℕ) = option_map (λ h. (h.mux, h.channel)) (over b bus) in
-    line-append (codes "i2c-") (decimal bus ++ way_text way) refl (line-append (decimal bus) (way_text way) (decimal-line bus) (way_line way))
+    line-append (codes "i2c-") (decimal bus ++ way_text way) refl
+    (line-append (decimal bus) (way_text way) (decimal-line bus) (way_line way))
 
 lines_from : (b : BoardView) (first count : ℕ) → All IsSectionLine (map (bus_line b) (range_with_len first count))
 lines_from b first zero = All-nil IsSectionLine

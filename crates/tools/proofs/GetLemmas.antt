@@ -1,5 +1,5 @@
 -- i2cget: what its line means is in range, and how long it is; its calls are within the limits, and what it prints is a line.
-use Rattle.std.proofs.Common.{◌≡◌, ℕ, ◌^◌, ◌<◌, ◌≤◌, Bool, true, false, cond, Option, Some, None, arith}
+use Rattle.std.proofs.Common.{ℕ, ◌^◌, ◌<◌, ◌≤◌, Bool, true, false, cond, Option, Some, None, arith}
 use Rattle.std.specs.Prelude.{◌==◌, IfSome, unwrap_or}
 use Rattle.smb_emul.specs.Calls.{messages_of_call, IsBlockLength}
 use Rattle.smb_emul.specs.declared.call.SmbCall.{SmbCall}

@@ -38,7 +38,8 @@ pub use command::Cmd;
 pub use examples::{
     a_block_is_printed_without_its_count, a_line_that_is_too_long_is_refused_behind_the_longest,
     a_word_is_printed_high_byte_first, a_wrong_code_is_told_with_the_right_one,
-    an_error_ends_a_command, the_number_is_sent_and_a_byte_is_received,
+    an_error_ends_a_command, the_buses_are_listed_by_number,
+    the_number_is_sent_and_a_byte_is_received,
 };
 pub use fault::LineFault;
 pub use laws::{
