@@ -3,18 +3,27 @@ use Rattle.std.proofs.Common.{◌≡◌, ℕ, ◌+◌, ◌<◌, ◌≤◌, true,
 use Rattle.std.specs.Prelude.{All, nat_le}
 use Rattle.std.proofs.lemmas.Bool.Decides.{nat_tests}
 use Rattle.std.proofs.lemmas.List.Elements.{All-nil, All-cons}
+use Rattle.i2c_base.specs.Board.{BoardView}
 use Rattle.i2c_spec.specs.Flat.{block_limit}
 use Rattle.tools.specs.Lines.{is_command, some_command, line_read}
 use Rattle.tools.specs.Splits.{words_of, lines_of}
 use Rattle.tools.specs.LineSets.{Word, follow_words}
 use Rattle.tools.specs.Commands.{script_lines, IsInRange}
 use Rattle.tools.specs.declared.command.Cmd.{Cmd}
+use Rattle.tools.proofs.CommandLemmas.{asks, answers}
+use Rattle.tools.proofs.FormLemmas.{AsksWithin, HasSectionLines}
 use Rattle.tools.proofs.LineLemmas.{reads_lines, means_in_range}
 use Rattle.caller_core.specs.View.{CommandView, ScriptView}
 use Rattle.caller_core.specs.Scripts.{Place, command_of, at_most, lines_read, behind_commands, behind_line_read, commands_or_none, text_read, commands_of}
 
-abbrev pub IsRead : CommandView → Type 0
-IsRead c = IsInRange c.cmd
+-- a command that a line of the grammar means, over some board: its transfers are within the limits, and its lines are those of a
+-- section
+pub record IsSpoken (c : CommandView) : Type 0 where
+  pub asks : AsksWithin c.run
+  pub lines : HasSectionLines c.run
+
+spoken : (b : BoardView) (line : List ℕ) (c : Cmd) → IsInRange c → IsSpoken (command_of b line c)
+spoken b line c range = record { asks = asks b c range; lines = answers b c }
 
 -- a line is read only as what a line of the grammar means
 some_in_range : (c : Cmd) (r : Result Cmd ℕ) → ((d : Cmd) → r ≡ Ok d → IsInRange d) → some_command r ≡ Ok (Some c) → IsInRange c
@@ -32,7 +41,7 @@ line_in_range limit line c =
 
 -- the commands that are read behind so many others
 pub record AreRead (count : ℕ) (cs : List CommandView) : Type 0 where
-  pub fits : All IsRead cs
+  pub fits : All IsSpoken cs
   pub most : count ≤ 1000 → count + length cs ≤ 1000
 
 -- a command behind so many others
@@ -54,50 +63,56 @@ next_of count c (Err word) h e =
     (elim (nat_le 1000 count) as (λ b. cond b past (Err word) ≡ Ok (Some c)
     → IsNext count c) [ true ↦ λ k. absurd cc | false ↦ λ k. absurd cc ]) e
 
-behind_one : (count : ℕ) (line : List ℕ) (c : Cmd) (more : Result (List CommandView) Place) (cs : List CommandView) → IsNext count c
-    → ((ds : List CommandView) → more ≡ Ok ds → AreRead (count + 1) ds) → behind_commands (command_of line c ∷ []) more ≡ Ok cs
+-- a command that is read behind others is in range
+pub read_in_range : (count limit : ℕ) (line : List ℕ) (c : Cmd) → at_most count (line_read limit line) ≡ Ok (Some c) → IsInRange c
+read_in_range count limit line c e = (next_of count c (line_read limit line) (line_in_range limit line) e).fits
+
+behind_one : (b : BoardView) (count : ℕ) (line : List ℕ) (c : Cmd) (more : Result (List CommandView) Place) (cs : List CommandView)
+    → IsNext count c
+    → ((ds : List CommandView) → more ≡ Ok ds → AreRead (count + 1) ds) → behind_commands (command_of b line c ∷ []) more ≡ Ok cs
     → AreRead count cs
-behind_one count line c (Err p) cs n h e = absurd cc
-behind_one count line c (Ok ds) cs n h e =
+behind_one b count line c (Err p) cs n h e = absurd cc
+behind_one b count line c (Ok ds) cs n h e =
     let rest : AreRead (count + 1) ds = h ds refl in
-    let same : command_of line c ∷ ds ≡ cs = cc in
-    let all : All IsRead (command_of line c ∷ ds) = All-cons IsRead (command_of line c) ds n.fits rest.fits in
+    let same : command_of b line c ∷ ds ≡ cs = cc in
+    let all : All IsSpoken (command_of b line c ∷ ds) = All-cons IsSpoken (command_of b line c) ds (spoken b line c n.fits) rest.fits in
     subst (λ (xs : List CommandView). AreRead count xs) same
     (record { fits = all; most = λ m. let k : count + 1 + length ds ≤ 1000 = rest.most (omega (arith, n.room)) in omega arith })
 
-lines_are_read : (limit number count : ℕ) (ls : List (List ℕ)) (cs : List CommandView) → lines_read limit number count ls ≡ Ok cs
+lines_are_read : (b : BoardView) (number count : ℕ) (ls : List (List ℕ)) (cs : List CommandView) → lines_read b number count ls ≡ Ok cs
     → AreRead count cs
-lines_are_read limit number count [] cs e =
+lines_are_read b number count [] cs e =
     let same : [] ≡ cs = cc in subst (λ (xs : List CommandView). AreRead count xs) same
-    (record { fits = All-nil IsRead; most = λ m. omega arith })
-lines_are_read limit number count (l ∷ ls) cs e =
-    (elim (at_most count (line_read limit l)) as (λ r. at_most count (line_read limit l) ≡ r
-    → behind_line_read number l r (lines_read limit (number + 1) count ls) (lines_read limit (number + 1) (count + 1) ls) ≡ Ok cs
+    (record { fits = All-nil IsSpoken; most = λ m. omega arith })
+lines_are_read b number count (l ∷ ls) cs e =
+    (elim (at_most count (line_read (block_limit b) l)) as (λ r. at_most count (line_read (block_limit b) l) ≡ r
+    → behind_line_read b number l r (lines_read b (number + 1) count ls) (lines_read b (number + 1) (count + 1) ls) ≡ Ok cs
     → AreRead count cs) [
       | Err word ↦ λ h k. absurd cc
-      | Ok o ↦ (elim o as (λ v. at_most count (line_read limit l) ≡ Ok v
-          → behind_line_read number l (Ok v) (lines_read limit (number + 1) count ls) (lines_read limit (number + 1) (count + 1) ls) ≡ Ok cs
+      | Ok o ↦ (elim o as (λ v. at_most count (line_read (block_limit b) l) ≡ Ok v
+          → behind_line_read b number l (Ok v) (lines_read b (number + 1) count ls) (lines_read b (number + 1) (count + 1) ls) ≡ Ok cs
           → AreRead count cs) [
-            | None ↦ λ h k. lines_are_read limit (number + 1) count ls cs k
-            | Some c ↦ λ h k. behind_one count l c (lines_read limit (number + 1) (count + 1) ls) cs
-                (next_of count c (line_read limit l) (line_in_range limit l) h) (lines_are_read limit (number + 1) (count + 1) ls) k
+            | None ↦ λ h k. lines_are_read b (number + 1) count ls cs k
+            | Some c ↦ λ h k. behind_one b count l c (lines_read b (number + 1) (count + 1) ls) cs
+                (next_of count c (line_read (block_limit b) l) (line_in_range (block_limit b) l) h)
+                (lines_are_read b (number + 1) (count + 1) ls) k
           ])
     ]) refl e
 
 script_is_read : (r : Result (List CommandView) Place) → ((cs : List CommandView) → r ≡ Ok cs → AreRead 0 cs)
     → AreRead 0 (commands_or_none r)
 script_is_read (Ok cs) h = h cs refl
-script_is_read (Err p) h = record { fits = All-nil IsRead; most = λ m. omega arith }
+script_is_read (Err p) h = record { fits = All-nil IsSpoken; most = λ m. omega arith }
 
-pub text_is_read : (limit : ℕ) (text : List ℕ) → AreRead 0 (commands_or_none (text_read limit text))
-text_is_read limit text = script_is_read (text_read limit text) (lines_are_read limit 1 0 (lines_of text))
+pub text_is_read : (b : BoardView) (text : List ℕ) → AreRead 0 (commands_or_none (text_read b text))
+text_is_read b text = script_is_read (text_read b text) (lines_are_read b 1 0 (lines_of text))
 
 pub commands_are_read : (s : ScriptView) → AreRead 0 (commands_of s)
-commands_are_read s = text_is_read (block_limit s.board) s.text
+commands_are_read s = text_is_read s.board s.text
 
-pub text_most : (limit : ℕ) (text : List ℕ) → length (commands_or_none (text_read limit text)) ≤ 1000
-text_most limit text = let h : 0 + length (commands_or_none (text_read limit text)) ≤ 1000 = (text_is_read limit text).most (omega arith) in
+pub text_most : (b : BoardView) (text : List ℕ) → length (commands_or_none (text_read b text)) ≤ 1000
+text_most b text = let h : 0 + length (commands_or_none (text_read b text)) ≤ 1000 = (text_is_read b text).most (omega arith) in
     omega arith
 
 pub commands_most : (s : ScriptView) → length (commands_of s) ≤ 1000
-commands_most s = text_most (block_limit s.board) s.text
+commands_most s = text_most s.board s.text

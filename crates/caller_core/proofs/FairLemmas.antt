@@ -1,27 +1,63 @@
 -- Scripts are fair callers.
-use Rattle.std.proofs.Common.{◌≡◌, List, [], length, Some, subst}
+use Rattle.std.proofs.Common.{◌≡◌, ℕ, true, false, cond, List, [], ◌∷◌, ◌++◌, Some, None, ap, subst, sym, ◌∙◌, inl, inr}
 use Rattle.std.specs.Prelude.{All}
-use Rattle.std.proofs.lemmas.List.Elements.{All-head}
+use Rattle.std.specs.List.{fold}
+use Rattle.std.proofs.lemmas.Bool.Decides.{leb_tells}
+use Rattle.std.proofs.lemmas.List.Elements.{All-head, All-tail, All-drop}
 use Rattle.i2c_base.specs.declared.reply.Reply.{Reply}
 use Rattle.i2c_base.specs.Transfer.{TransferView}
 use Rattle.i2c_spec.specs.Cost.{cost_of}
-use Rattle.tools.proofs.CommandLemmas.{asks_at}
+use Rattle.i2c_spec.proofs.CostLemmas.{cost_some}
+use Rattle.tools.specs.Dialogues.{place_after, is_over}
 use Rattle.tools.proofs.TransferLemmas.{IsAsk}
 use Rattle.caller_core.specs.Callers.{ScriptsAreFair}
-use Rattle.caller_core.specs.Progress.{Progress, progress, asked_at}
+use Rattle.caller_core.specs.Turns.{Progress, talk, quiet_front, turn_to, over_with, replied_to, replied, progress, next_of, asked_at}
 use Rattle.caller_core.specs.Scripts.{commands_of, asked_by, left_of, cost_of_script}
 use Rattle.caller_core.specs.View.{CommandView, ScriptView}
-use Rattle.caller_core.proofs.CommandLemmas.{IsRead, commands_are_read}
-use Rattle.caller_core.proofs.ProgressLemmas.{IsNext, is_next, left_all, sum_start, sum_falls}
-use Rattle.i2c_spec.proofs.CostLemmas.{cost_some}
+use Rattle.caller_core.proofs.CommandLemmas.{IsSpoken, commands_are_read}
+use Rattle.caller_core.proofs.SumLemmas.{sum_first, sum_falls}
+
+-- ---- what is left is part of the script
+
+left_kept : (P : CommandView → Type 0) (p : Progress) (left : List CommandView) (r : Reply) → All P p.left → All P left
+    → All P (replied_to p left r).left
+left_kept P p [] r all h = all
+left_kept P p (c ∷ cs) r all h =
+    elim (is_over (talk c) (place_after (talk c) (p.own ++ r ∷ []))) as
+    (λ b. All P (cond b (turn_to (over_with p c (p.own ++ r ∷ [])) cs) (record p { own = p.own ++ r ∷ [] })).left) [
+      | true ↦ All-drop P (quiet_front cs) cs (All-tail P c cs h)
+      | false ↦ all
+    ]
+
+left_from : (P : CommandView → Type 0) (p : Progress) (rs : List Reply) → All P p.left → All P (fold replied p rs).left
+left_from P p [] h = h
+left_from P p (r ∷ rs) h = left_from P (replied p r) rs (left_kept P p p.left r h h)
+
+left_all : (P : CommandView → Type 0) (cs : List CommandView) (rs : List Reply) → All P cs → All P (progress cs rs).left
+left_all P cs rs h = left_from P (turn_to [] cs) rs (All-drop P (quiet_front cs) cs h)
+
+-- ---- what is asked for
+
+some_same : (t u : TransferView) → Some t ≡ Some u → t ≡ u
+some_same t u e = cc
+
+none_some : (t : TransferView) → None ≡ Some t → ⊥
+none_some t e = cc
+
+next_asks : (left : List CommandView) (own : List Reply) (t : TransferView) → All IsSpoken left → next_of left own ≡ Some t → IsAsk t
+next_asks [] own t all e = absurd (none_some t e)
+next_asks (c ∷ cs) own t all e =
+    let k : ℕ = place_after (talk c) own in
+    elim (leb_tells (talk c).places k) [
+      | inl x ↦ absurd (none_some t (sym (ap (λ b. cond b None (Some ((talk c).at k))) x.0) ∙ e))
+      | inr x ↦ subst IsAsk (some_same ((talk c).at k) t (sym (ap (λ b. cond b None (Some ((talk c).at k))) x.0) ∙ e))
+          ((All-head IsSpoken c cs all).asks k x.1)
+    ]
 
 -- what commands in range ask for
-pub asked_from : (cs : List CommandView) (rs : List Reply) (t : TransferView) → All IsRead cs → asked_at (progress cs rs) ≡ Some t → IsAsk t
-asked_from cs rs t all e =
-    let p : Progress = progress cs rs in
-    let n : IsNext p t = is_next p t e in
-    let read : IsRead n.command = All-head IsRead n.command n.rest (subst (All IsRead) n.left (left_all IsRead cs rs all)) in
-    asks_at n.command.cmd (length p.own) t read n.at
+pub asked_from : (cs : List CommandView) (rs : List Reply) (t : TransferView) → All IsSpoken cs → asked_at (progress cs rs) ≡ Some t
+    → IsAsk t
+asked_from cs rs t all e = next_asks (progress cs rs).left (progress cs rs).own t (left_all IsSpoken cs rs all) e
 
 asked : (s : ScriptView) (rs : List Reply) (t : TransferView) → asked_by s rs ≡ Some t → IsAsk t
 asked s rs t e = asked_from (commands_of s) rs t (commands_are_read s).fits e
@@ -37,4 +73,4 @@ scripts_fair =
 
 -- before any reply the whole script is left
 pub left_at_first : (s : ScriptView) → left_of s [] ≡ cost_of_script s
-left_at_first s = sum_start (cost_of s.board) (commands_of s)
+left_at_first s = sum_first (cost_of s.board) (commands_of s)

@@ -1,9 +1,10 @@
 pub mod CommandLemmas
 pub mod FairLemmas
+pub mod PlaceLemmas
 pub mod PlacedLemmas
-pub mod ProgressLemmas
+pub mod QuietLemmas
 pub mod RootLemmas
 pub mod ScriptLemmas
 pub mod SectionLemmas
+pub mod SumLemmas
 pub mod TakeLemmas
-pub mod TurnLemmas

@@ -20,7 +20,7 @@ commands_in-more (p ∷ ps) bytes more within =
 
 pub commands_push : (ps : List Placed) (p : Placed) (bytes more : List ℕ) → All (IsInside (length bytes)) ps → p.start ≡ length bytes
     → p.len ≡ length more
-    → commands_in (bytes ++ more) (ps ++ p ∷ []) ≡ commands_in bytes ps ++ record { echo = more; cmd = p.cmd } ∷ []
+    → commands_in (bytes ++ more) (ps ++ p ∷ []) ≡ commands_in bytes ps ++ record { echo = more; run = p.run } ∷ []
 commands_push ps p bytes more within starts ends =
     let start : drop p.start (bytes ++ more) ≡ more = drop_at bytes more p.start (sym starts) in
     let all : take p.len more ≡ more = take_all p.len more (omega arith) in

@@ -1,9 +1,11 @@
 -- The section of a script is whole lines, of which none is `journal`.
-use Rattle.std.proofs.Common.{◌≡◌, ℕ, ◌+◌, true, false, cond, List, [], ◌∷◌, ◌++◌, length, get_or, codes, Some, None, Result, Ok, Err, refl, sym, ap, subst, ◌∙◌, append_assoc, arith}
-use Rattle.std.specs.Prelude.{All, ◌==◌, ◌&&◌}
+use Rattle.std.proofs.Common.{◌≡◌, ℕ, ◌+◌, true, false, cond, List, [], ◌∷◌, ◌++◌, get_or, codes, Some, None, Result, Ok, Err, refl, sym, ap, subst, ◌∙◌, append_assoc, arith}
+use Rattle.std.specs.Prelude.{All, ◌==◌, ◌&&◌, map, take}
+use Rattle.std.proofs.lemmas.Grind.{flat_map-append}
 use Rattle.std.specs.List.{flat_map, fold, list_any}
 use Rattle.std.proofs.lemmas.Bool.{or_from}
-use Rattle.std.proofs.lemmas.List.Elements.{All-nil, All-cons, All-head, All-tail, All-append}
+use Rattle.std.proofs.lemmas.List.Elements.{All-nil, All-cons, All-head, All-tail, All-append, All-map, All-take, All-drop}
+use Rattle.i2c_base.specs.Board.{BoardView}
 use Rattle.i2c_base.specs.declared.reply.Reply.{Reply}
 use Rattle.i2c_spec.specs.Flat.{block_limit}
 use Rattle.bus_journal.specs.Reports.{IsLine, ended, IsSectionLine, HasNoJournalLine}
@@ -12,9 +14,10 @@ use Rattle.tools.specs.Lines.{line_read}
 use Rattle.tools.specs.Words.{begins_with_word, onto_first}
 use Rattle.tools.specs.Splits.{is_blank, begins_feed, words_of, behind_space, joined_words, lines_of}
 use Rattle.tools.specs.declared.command.Cmd.{Cmd}
-use Rattle.tools.specs.Commands.{answer_text, is_answered}
-use Rattle.tools.proofs.CommandLemmas.{answer_line}
-use Rattle.caller_core.specs.Progress.{Answered, Progress, begun, next_turn, replied_to, replied, progress}
+use Rattle.tools.specs.Dialogues.{place_after, is_over}
+use Rattle.tools.proofs.CommandLemmas.{answers}
+use Rattle.tools.proofs.FormLemmas.{HasSectionLines}
+use Rattle.caller_core.specs.Turns.{Answered, Progress, talk, quiet, quiet_front, turn_to, over_with, replied_to, replied, progress}
 use Rattle.caller_core.specs.Scripts.{Place, command_of, at_most, lines_read, behind_commands, behind_line_read, commands_or_none, script_read, commands_of, command_text}
 use Rattle.caller_core.specs.Sections.{SectionsHaveNoJournalLine}
 use Rattle.caller_core.specs.View.{CommandView, ScriptView}
@@ -69,64 +72,76 @@ joined_line (w ∷ ws) h = line-append w (flat_map behind_space ws) (All-head Is
 
 -- ---- the commands of a script
 
-abbrev HasLine : CommandView → Type 0
-HasLine c = IsLine c.echo
+-- its words are a line, and what it prints is lines of a section
+record HasLines (c : CommandView) : Type 0 where
+  words : IsLine c.echo
+  answer : HasSectionLines c.run
 
-behind_one : (line : List ℕ) (c : Cmd) (more : Result (List CommandView) Place) (cs : List CommandView) → IsLine line
-    → ((ds : List CommandView) → more ≡ Ok ds → All HasLine ds)
-    → behind_commands (command_of line c ∷ []) more ≡ Ok cs → All HasLine cs
-behind_one line c (Err p) cs is h e = absurd cc
-behind_one line c (Ok ds) cs is h e =
-    let same : command_of line c ∷ ds ≡ cs = cc in
-    subst (All HasLine) same (All-cons HasLine (command_of line c) ds (joined_line (words_of line) (words_are_lines line is)) (h ds refl))
+behind_one : (b : BoardView) (line : List ℕ) (c : Cmd) (more : Result (List CommandView) Place) (cs : List CommandView) → IsLine line
+    → ((ds : List CommandView) → more ≡ Ok ds → All HasLines ds)
+    → behind_commands (command_of b line c ∷ []) more ≡ Ok cs → All HasLines cs
+behind_one b line c (Err p) cs is h e = absurd cc
+behind_one b line c (Ok ds) cs is h e =
+    let same : command_of b line c ∷ ds ≡ cs = cc in
+    let words : IsLine (joined_words (words_of line)) = joined_line (words_of line) (words_are_lines line is) in
+    let has : HasLines (command_of b line c) = record { words = words; answer = answers b c } in
+    subst (All HasLines) same (All-cons HasLines (command_of b line c) ds has (h ds refl))
 
-read_lines : (limit number count : ℕ) (ls : List (List ℕ)) (cs : List CommandView) → All IsLine ls
-    → lines_read limit number count ls ≡ Ok cs → All HasLine cs
-read_lines limit number count [] cs lines e = let same : [] ≡ cs = cc in subst (All HasLine) same (All-nil HasLine)
-read_lines limit number count (l ∷ ls) cs lines e =
+read_lines : (b : BoardView) (number count : ℕ) (ls : List (List ℕ)) (cs : List CommandView) → All IsLine ls
+    → lines_read b number count ls ≡ Ok cs → All HasLines cs
+read_lines b number count [] cs lines e = let same : [] ≡ cs = cc in subst (All HasLines) same (All-nil HasLines)
+read_lines b number count (l ∷ ls) cs lines e =
     let more : All IsLine ls = All-tail IsLine l ls lines in
-    (elim (at_most count (line_read limit l)) as
-    (λ r. behind_line_read number l r (lines_read limit (number + 1) count ls) (lines_read limit (number + 1) (count + 1) ls) ≡ Ok cs
-    → All HasLine cs) [
+    (elim (at_most count (line_read (block_limit b) l)) as
+    (λ r. behind_line_read b number l r (lines_read b (number + 1) count ls) (lines_read b (number + 1) (count + 1) ls) ≡ Ok cs
+    → All HasLines cs) [
       | Err word ↦ λ k. absurd cc
-      | Ok o ↦ (elim o as (λ v. behind_line_read number l (Ok v) (lines_read limit (number + 1) count ls)
-          (lines_read limit (number + 1) (count + 1) ls) ≡ Ok cs → All HasLine cs) [
-            | None ↦ λ k. read_lines limit (number + 1) count ls cs more k
-            | Some c ↦ λ k. behind_one l c (lines_read limit (number + 1) (count + 1) ls) cs (All-head IsLine l ls lines)
-                (λ ds h. read_lines limit (number + 1) (count + 1) ls ds more h) k
+      | Ok o ↦ (elim o as (λ v. behind_line_read b number l (Ok v) (lines_read b (number + 1) count ls)
+          (lines_read b (number + 1) (count + 1) ls) ≡ Ok cs → All HasLines cs) [
+            | None ↦ λ k. read_lines b (number + 1) count ls cs more k
+            | Some c ↦ λ k. behind_one b l c (lines_read b (number + 1) (count + 1) ls) cs (All-head IsLine l ls lines)
+                (λ ds h. read_lines b (number + 1) (count + 1) ls ds more h) k
           ])
     ]) e
 
-have_lines : (r : Result (List CommandView) Place) → ((cs : List CommandView) → r ≡ Ok cs → All HasLine cs)
-    → All HasLine (commands_or_none r)
+have_lines : (r : Result (List CommandView) Place) → ((cs : List CommandView) → r ≡ Ok cs → All HasLines cs)
+    → All HasLines (commands_or_none r)
 have_lines (Ok cs) h = h cs refl
-have_lines (Err p) h = All-nil HasLine
+have_lines (Err p) h = All-nil HasLines
 
-commands_have_lines : (s : ScriptView) → All HasLine (commands_of s)
+commands_have_lines : (s : ScriptView) → All HasLines (commands_of s)
 commands_have_lines s = have_lines (script_read s)
-    (λ cs h. read_lines (block_limit s.board) 1 0 (lines_of s.text) cs (lines_are_lines s.text) h)
+    (λ cs h. read_lines s.board 1 0 (lines_of s.text) cs (lines_are_lines s.text) h)
 
 -- ---- those that are over
 
-abbrev OverHasLine : Answered → Type 0
-OverHasLine a = HasLine a.command
+abbrev OverHasLines : Answered → Type 0
+OverHasLines a = HasLines a.command
 
 record HaveLines (p : Progress) : Type 0 where
-  over : All OverHasLine p.over
-  left : All HasLine p.left
+  over : All OverHasLines p.over
+  left : All HasLines p.left
 
-keeps : (p : Progress) (left : List CommandView) (r : Reply) → HaveLines p → All HasLine left → HaveLines (replied_to p left r)
+turned : (over : List Answered) (cs : List CommandView) → All OverHasLines over → All HasLines cs → HaveLines (turn_to over cs)
+turned over cs done all =
+    let front : List CommandView = take (quiet_front cs) cs in
+    record {
+      over = All-append OverHasLines over (map quiet front) done
+          (All-map OverHasLines quiet front (All-take HasLines (quiet_front cs) cs all));
+      left = All-drop HasLines (quiet_front cs) cs all;
+    }
+
+keeps : (p : Progress) (left : List CommandView) (r : Reply) → HaveLines p → All HasLines left → HaveLines (replied_to p left r)
 keeps p [] r h all = h
 keeps p (c ∷ cs) r h all =
-    elim (is_answered c.cmd (length p.own) r) as
-    (λ b. HaveLines (cond b (next_turn p c cs (p.own ++ r ∷ [])) (record p { own = p.own ++ r ∷ [] }))) [
+    elim (is_over (talk c) (place_after (talk c) (p.own ++ r ∷ []))) as
+    (λ b. HaveLines (cond b (turn_to (over_with p c (p.own ++ r ∷ [])) cs) (record p { own = p.own ++ r ∷ [] }))) [
       | true ↦
           let a : Answered = record { command = c; replies = p.own ++ r ∷ [] } in
-          record {
-            over = All-append OverHasLine p.over (a ∷ []) h.over
-                (All-cons OverHasLine a [] (All-head HasLine c cs all) (All-nil OverHasLine));
-            left = All-tail HasLine c cs all;
-          }
+          turned (p.over ++ a ∷ []) cs
+          (All-append OverHasLines p.over (a ∷ []) h.over
+          (All-cons OverHasLines a [] (All-head HasLines c cs all) (All-nil OverHasLines)))
+          (All-tail HasLines c cs all)
       | false ↦ record { over = h.over; left = h.left }
     ]
 
@@ -134,37 +149,43 @@ goes_on : (p : Progress) (rs : List Reply) → HaveLines p → HaveLines (fold r
 goes_on p [] h = h
 goes_on p (r ∷ rs) h = goes_on (replied p r) rs (keeps p p.left r h h.left)
 
--- ---- a command with its answer is two lines
+-- ---- a command with its answer is whole lines
 
 abbrev words_line : Answered → List ℕ
 words_line a = codes "> " ++ a.command.echo
 
-two_lines : (a : Answered) (rest : List ℕ)
-    → command_text a ++ rest ≡ ended (words_line a) ++ (ended (answer_text a.command.cmd a.replies) ++ rest)
-two_lines a rest =
+abbrev answer_of : Answered → List (List ℕ)
+answer_of a = (talk a.command).lines a.replies
+
+command_lines : (a : Answered) (rest : List ℕ) → command_text a ++ rest ≡ ended (words_line a) ++ (flat_map ended (answer_of a) ++ rest)
+command_lines a rest =
     let echo : List ℕ = a.command.echo in
-    let answer : List ℕ = answer_text a.command.cmd a.replies in
-    ap (λ x. codes "> " ++ x)
-    (append_assoc echo (10 ∷ (answer ++ 10 ∷ [])) rest ∙ sym (append_assoc echo (10 ∷ []) ((answer ++ 10 ∷ []) ++ rest)))
+    let answer : List ℕ = flat_map ended (answer_of a) in
+    ap (λ x. codes "> " ++ x) (append_assoc echo (10 ∷ answer) rest ∙ sym (append_assoc echo (10 ∷ []) (answer ++ rest)))
 
 words_other : (a : Answered) → words_line a ≡ codes "journal" → ⊥
 words_other a e = let h : 62 ≡ 106 = ap (λ xs. get_or xs 0 0) e in omega (arith, h)
 
-section_lines : (done : List Answered) → All OverHasLine done → HasNoJournalLine (flat_map command_text done)
+section_lines : (done : List Answered) → All OverHasLines done → HasNoJournalLine (flat_map command_text done)
 section_lines [] h = record { lines = []; text_is = refl; others = All-nil IsSectionLine }
 section_lines (a ∷ done) h =
-    let more : HasNoJournalLine (flat_map command_text done) = section_lines done (All-tail OverHasLine a done h) in
-    let answer : List ℕ = answer_text a.command.cmd a.replies in
+    let more : HasNoJournalLine (flat_map command_text done) = section_lines done (All-tail OverHasLines a done h) in
+    let has : HasLines a.command = All-head OverHasLines a done h in
+    let answer : List (List ℕ) = answer_of a in
     record {
-      lines = words_line a ∷ answer ∷ more.lines;
-      text_is = two_lines a (flat_map command_text done) ∙ ap (λ x. ended (words_line a) ++ (ended answer ++ x)) more.text_is;
+      lines = words_line a ∷ (answer ++ more.lines);
+      text_is =
+          command_lines a (flat_map command_text done)
+          ∙ ap (λ x. ended (words_line a) ++ (flat_map ended answer ++ x)) more.text_is
+          ∙ ap (λ x. ended (words_line a) ++ x) (sym (flat_map-append ended answer more.lines));
       others =
-          All-cons IsSectionLine (words_line a) (answer ∷ more.lines)
-          (record { one = line-append (codes "> ") a.command.echo refl (All-head OverHasLine a done h); other = words_other a })
-          (All-cons IsSectionLine answer more.lines (answer_line a.command.cmd a.replies) more.others);
+          All-cons IsSectionLine (words_line a) (answer ++ more.lines)
+          (record { one = line-append (codes "> ") a.command.echo refl has.words; other = words_other a })
+          (All-append IsSectionLine answer more.lines (has.answer a.replies) more.others);
     }
 
 pub no_journal_line : SectionsHaveNoJournalLine
 no_journal_line script replies =
     section_lines (progress (commands_of script) replies).over
-    (goes_on (begun (commands_of script)) replies (record { over = All-nil OverHasLine; left = commands_have_lines script })).over
+    (goes_on (turn_to [] (commands_of script)) replies
+    (turned [] (commands_of script) (All-nil OverHasLines) (commands_have_lines script))).over

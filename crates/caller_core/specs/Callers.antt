@@ -6,7 +6,7 @@ use Rattle.i2c_base.specs.Need.{Need}
 use Rattle.i2c_base.specs.declared.reply.Reply.{Reply}
 use Rattle.i2c_spec.specs.Fair.{IsFairCaller}
 use Rattle.caller_core.specs.View.{ScriptView, CallerView}
-use Rattle.caller_core.specs.Progress.{Progress, progress, sum_left}
+use Rattle.caller_core.specs.Turns.{Progress, progress, sum_left}
 use Rattle.caller_core.specs.Scripts.{commands_of, room_of, asked_by, left_of}
 
 -- a script that is opened over a board and has taken nothing

@@ -1,6 +1,8 @@
 -- A script: the commands of its lines, in order, or the first line that isn't in the grammar.
-use Rattle.std.specs.Prelude.{⊤, ◌≡◌, ℕ, ◌+◌, nat_le, List, [], ◌∷◌, ◌++◌, length, codes, Option, Some, None, Result, Ok, Err, if◌then◌else◌}
+use Rattle.std.specs.Prelude.{⊤, ◌≡◌, ℕ, ◌+◌, nat_le, List, [], ◌∷◌, ◌++◌, length, map, take, codes, Option, Some, None, Result, Ok, Err, if◌then◌else◌}
 use Rattle.std.specs.List.{sum_by, flat_map}
+use Rattle.bus_journal.specs.Reports.{ended}
+use Rattle.i2c_base.specs.Board.{BoardView}
 use Rattle.i2c_base.specs.Transfer.{TransferView}
 use Rattle.i2c_base.specs.declared.reply.Reply.{Reply}
 use Rattle.i2c_spec.specs.Cost.{cost_of}
@@ -10,14 +12,15 @@ use Rattle.tools.specs.Splits.{words_of, joined_words, lines_of}
 use Rattle.tools.specs.declared.command.Cmd.{Cmd}
 use Rattle.tools.specs.declared.fault.LineFault.{LineFault}
 use Rattle.tools.specs.declared.fault.LineFault.TheVariants as line_fault
-use Rattle.tools.specs.Commands.{answer_text, most_of}
-use Rattle.caller_core.specs.Progress.{Answered, progress, asked_at, sum_of_command, sum_left}
+use Rattle.tools.specs.Commands.{run_of}
+use Rattle.caller_core.specs.Turns.{Answered, talk, quiet, quiet_front, progress, asked_at, sum_of, sum_left}
 use Rattle.caller_core.specs.View.{CommandView, ScriptView}
 use Rattle.caller_core.specs.declared.script.ScriptFault.{ScriptFault}
 use Rattle.caller_core.specs.declared.script.ScriptFault.TheVariants as script_fault
 
-abbrev pub command_of : List ℕ → Cmd → CommandView
-command_of line c = record { echo = joined_words (words_of line); cmd = c }
+-- the command of a line, over a board
+abbrev pub command_of : BoardView → List ℕ → Cmd → CommandView
+command_of b line c = record { echo = joined_words (words_of line); run = run_of b c }
 
 -- a line read behind so many commands: 1,000 is the most, and one more is refused at its first word
 abbrev pub at_most : ℕ → Result (Option Cmd) ℕ → Result (Option Cmd) ℕ
@@ -34,25 +37,24 @@ abbrev pub behind_commands : List CommandView → Result (List CommandView) Plac
 behind_commands cs (Ok ds) = Ok (cs ++ ds)
 behind_commands cs (Err p) = Err p
 
-abbrev pub behind_line_read : ℕ → List ℕ → Result (Option Cmd) ℕ → Result (List CommandView) Place → Result (List CommandView) Place
-    → Result (List CommandView) Place
-behind_line_read number line (Err word) same more = Err (record { line = number; word = word })
-behind_line_read number line (Ok None) same more = same
-behind_line_read number line (Ok (Some c)) same more = behind_commands (command_of line c ∷ []) more
+abbrev pub behind_line_read : BoardView → ℕ → List ℕ → Result (Option Cmd) ℕ → Result (List CommandView) Place
+    → Result (List CommandView) Place → Result (List CommandView) Place
+behind_line_read b number line (Err word) same more = Err (record { line = number; word = word })
+behind_line_read b number line (Ok None) same more = same
+behind_line_read b number line (Ok (Some c)) same more = behind_commands (command_of b line c ∷ []) more
 
--- the lines from this number on, behind so many commands, where a block of the board has at most `limit` bytes
-abbrev pub lines_read : (limit number count : ℕ) → List (List ℕ) → Result (List CommandView) Place
-lines_read limit number count [] = Ok []
-lines_read limit number count (l ∷ ls) =
-    behind_line_read number l (at_most count (line_read limit l)) (lines_read limit (number + 1) count ls)
-    (lines_read limit (number + 1) (count + 1) ls)
+-- the lines from this number on, behind so many commands; they are read with the block limit of the board
+abbrev pub lines_read : BoardView → (number count : ℕ) → List (List ℕ) → Result (List CommandView) Place
+lines_read b number count [] = Ok []
+lines_read b number count (l ∷ ls) =
+    behind_line_read b number l (at_most count (line_read (block_limit b) l)) (lines_read b (number + 1) count ls)
+    (lines_read b (number + 1) (count + 1) ls)
 
-abbrev pub text_read : (limit : ℕ) → List ℕ → Result (List CommandView) Place
-text_read limit text = lines_read limit 1 0 (lines_of text)
+abbrev pub text_read : BoardView → List ℕ → Result (List CommandView) Place
+text_read b text = lines_read b 1 0 (lines_of text)
 
--- a script is read with the block limit of its board
 abbrev pub script_read : ScriptView → Result (List CommandView) Place
-script_read s = text_read (block_limit s.board) s.text
+script_read s = text_read s.board s.text
 
 abbrev pub ScriptFaultIs : Result (List CommandView) Place → ScriptFault → Type 0
 ScriptFaultIs r (script_fault.Bad line word) = r ≡ Err (record { line = line; word = word })
@@ -75,18 +77,22 @@ asked_by s taken = asked_at (progress (commands_of s) taken)
 
 -- what the whole script can take of steps, and what is left of it behind these replies
 abbrev pub cost_of_script : ScriptView → ℕ
-cost_of_script s = sum_by (sum_of_command (cost_of s.board)) (commands_of s)
+cost_of_script s = sum_by (sum_of (cost_of s.board)) (commands_of s)
 
 abbrev pub left_of : ScriptView → List Reply → ℕ
 left_of s taken = sum_left (cost_of s.board) (progress (commands_of s) taken)
 
 -- a command that is over: its words, and what it answers
 abbrev pub command_text : Answered → List ℕ
-command_text a = codes "> " ++ (a.command.echo ++ (10 ∷ (answer_text a.command.cmd a.replies ++ 10 ∷ [])))
+command_text a = codes "> " ++ (a.command.echo ++ (10 ∷ flat_map ended ((talk a.command).lines a.replies)))
 
--- a command with its answer has at most so many bytes: those of its words, of the longest answer, and four beside them
+-- a command with its answer has at most so many bytes: those of its words, of the longest answer, and three beside them
 abbrev pub room_of : CommandView → ℕ
-room_of c = length c.echo + (most_of c.cmd + 4)
+room_of c = length c.echo + ((talk c).most + 3)
+
+-- what the commands at the front print that ask for nothing
+abbrev pub quiet_text : List CommandView → List ℕ
+quiet_text cs = flat_map command_text (map quiet (take (quiet_front cs) cs))
 
 -- the section of a script after these replies, without its heading
 abbrev pub section_text : List CommandView → List Reply → List ℕ

@@ -3,12 +3,12 @@ use Rattle.std.specs.Prelude.{ℕ, List}
 use Rattle.i2c_base.specs.Board.{BoardView}
 use Rattle.i2c_base.specs.Need.{Need}
 use Rattle.i2c_base.specs.declared.reply.Reply.{Reply}
-use Rattle.tools.specs.declared.command.Cmd.{Cmd}
+use Rattle.tools.specs.declared.run.ToolRun.{ToolRun}
 
--- a command with its words as they are printed
+-- a command as it runs, with its words as they are printed
 pub record CommandView : Type 0 where
   pub echo : List ℕ
-  pub cmd : Cmd
+  pub run : ToolRun
 
 -- what a script is opened with: the board, and the bytes of its text
 pub record ScriptView : Type 0 where

@@ -1,15 +1,15 @@
 //! A script as a caller of the bus: it asks for what its commands ask for, takes the replies, and prints the answers.
 
-ghost use Rattle.std.specs.Prelude.{◌≡◌, ◌+◌, ◌<◌, ◌≤◌, ◌^◌, ◌++◌, [], length, drop, slice_get, Ok, IfOk, IfErr, OnOk};
-ghost use Rattle.std.specs.Option.{option_map};
-ghost use Rattle.tools.specs.Replies.{replies_of};
-ghost use Rattle.tools.specs.Commands.{IsInRange, AreReplies, most_of};
+ghost use Rattle.std.specs.Prelude.{◌≡◌, ◌+◌, ◌≤◌, ◌^◌, ◌++◌, [], length, drop, Ok, IfOk, IfErr, OnOk};
+ghost use Rattle.std.specs.List.{sum_by};
+ghost use Rattle.tools.specs.Dialogues.{AreReplies};
+ghost use Rattle.tools.specs.Runs.{dialogue_of};
 ghost use Rattle.caller_core.specs.Callers.{IsOpened, ScriptsAreFair};
-ghost use Rattle.caller_core.specs.Kept.{run_of};
 ghost use Rattle.caller_core.specs.Roots.{HasRoots};
 ghost use Rattle.caller_core.specs.Sections.{SectionsHaveNoJournalLine};
 ghost use Rattle.caller_core.specs.View.{script_on};
-ghost use Rattle.caller_core.specs.Scripts.{script_read, commands_of, cost_of_script, ScriptFaultIs, command_text, section_text};
+ghost use Rattle.caller_core.specs.Scripts.{script_read, commands_of, cost_of_script, ScriptFaultIs, command_text, room_of, quiet_text, section_text};
+ghost use Rattle.caller_core.specs.Turns.{quiet_front};
 
 use crate::commands::Commands;
 use crate::script::{ScriptFault, read_script};
@@ -20,7 +20,7 @@ use packed::Packed;
 use std::alloc::Global;
 use std::marker::Model;
 use std::snapshot::Snapshot;
-use tools::{Text, ToolRun};
+use tools::{Text, ToolRun, Window};
 
 /// What a script is opened with, as contracts see it: the board and the text. No value of it is made.
 pub struct ScriptData {}
@@ -44,10 +44,10 @@ pub struct Script {
     totals: Totals,
     taken: Packed<ReplyHead>,
     printed: Text,
-    /// The command that runs stands at `place`, and its replies from `from` on.
-    run: Option<ToolRun>,
-    place: usize,
+    /// Whose turn it is, where the replies of that command begin, and the place to which it has come.
+    turn: usize,
     from: usize,
+    place: u16,
 }
 
 impl Model for Script {
@@ -59,30 +59,34 @@ impl Model for Script {
 
     ghost view = { λ s. record { script = record { board = s.board.value; text = s.text.value.items }; taken = replies_of s.taken.items; spare = record { replies = s.taken.room; bytes = s.printed.room } } };
 
-    ghost invariant = { λ s. IsCaller (record { board = s.board.value; text = s.text.value.items }) s.commands s.taken s.printed s.place s.from s.run s.totals.cost s.totals.roots };
+    ghost invariant = { λ s. IsCaller (record { board = s.board.value; text = s.text.value.items }) s.commands s.taken s.printed s.turn s.from s.place s.totals.cost s.totals.roots };
 }
 
 impl Script {
-    /// Opens the script of a text over a board. `Bad` comes exactly at its first line that isn't in the grammar.
+    /// Opens the script of a text over a board. `Bad` comes exactly at its first line that isn't in the grammar. The commands
+    /// at its front that ask for nothing are over at once.
     pub fn open(alloc: Global, board: &Accepted, text: Vec<u8>) -> Result<Self, ScriptFault>
         requires { length text.items ≤ 2 ^ 28 }
         ensures ok { IfOk result (IsOpened board.now text.items) }
         ensures read { OnOk result (script_read (script_on board.now text.items) ≡ Ok (commands_of (script_on board.now text.items))) }
         ensures fault { IfErr result (ScriptFaultIs (script_read (script_on board.now text.items))) }
     {
-        let commands = read_script(alloc, text.as_slice(), board.board().limit())?;
+        let commands = read_script(alloc, board, text.as_slice())?;
         let totals = totals_of(board, &commands);
         let taken = Packed::with_room(alloc, totals.replies as usize, totals.bytes)?;
+        let mut printed = Text::new(alloc);
+        make_room(&commands, 0, &mut printed)?;
+        let turn = push_quiet(&commands, 0, &taken, &mut printed);
         Ok(Script {
             board: Snapshot::of(board),
             text: Snapshot::of(&text),
-            run: run_at(&commands, 0),
             commands,
             totals,
             taken,
-            printed: Text::new(alloc),
-            place: 0,
+            printed,
+            turn,
             from: 0,
+            place: 0,
         })
     }
 
@@ -109,31 +113,57 @@ impl Script {
     }
 }
 
-// The command at a place as it begins.
-fn run_at(commands: &Commands, place: usize) -> Option<ToolRun>
-    ensures { result ≡ option_map (λ c. run_of c.cmd 0) (slice_get commands.now place) }
+// Makes room for what the commands from a place on may print.
+fn make_room(commands: &Commands, turn: usize, out: &mut Text) -> Result<(), NoMemory>
+    ensures stays { out.new.bytes ≡ out.old.bytes }
+    ensures ok { OnOk result (sum_by room_of (drop turn commands.now) ≤ out.new.room) }
 {
-    if place >= commands.len() {
-        return None;
-    }
-    let (cmd, _) = commands.get(place);
-    Some(ToolRun::open(cmd))
+    let room = room_from(commands, turn).ok_or(NoMemory)?;
+    out.reserve(room)
 }
 
-// Prints a command with these words, which is over, and its answer, each on a line.
-fn push_command(out: &mut Text, echo: &[u8], run: ToolRun, replies: &Packed<ReplyHead>, from: usize)
-    requires range { IsInRange run.cmd }
-    requires replies { AreReplies run (drop from (replies_of replies.now.items)) }
-    requires room { length echo.now + (most_of run.cmd + 4) ≤ out.old.room }
-    ensures bytes { out.new.bytes ≡ out.old.bytes ++ command_text (record { command = record { echo = echo.now; cmd = run.cmd }; replies = drop from (replies_of replies.now.items) }) }
-    ensures room { out.old.room ≤ out.new.room + (length echo.now + (most_of run.cmd + 4)) }
+// Prints a command with these words, which is over, and its answer.
+fn push_command(out: &mut Text, echo: &[u8], run: &ToolRun, replies: Window<'_>)
+    requires replies { AreReplies (dialogue_of run.now) 0 replies }
+    requires room { room_of (record { echo = echo.now; run = run.now }) ≤ out.old.room }
+    ensures bytes { out.new.bytes ≡ out.old.bytes ++ command_text (record { command = record { echo = echo.now; run = run.now }; replies = replies.entry }) }
+    ensures room { out.old.room ≤ out.new.room + room_of (record { echo = echo.now; run = run.now }) }
 {
     out.push_byte(b'>');
     out.push_byte(b' ');
     out.push(echo);
     out.push_byte(b'\n');
-    run.print(replies, from, out);
-    out.push_byte(b'\n');
+    run.print(replies, out);
+}
+
+// The replies behind all that are kept: none.
+fn no_replies(taken: &Packed<ReplyHead>) -> Window<'_>
+    ensures { result ≡ [] }
+{
+    Window {
+        replies: taken,
+        from: taken.len(),
+    }
+}
+
+// Prints the commands from a place on that ask for nothing. Tells the place behind them.
+fn push_quiet(commands: &Commands, turn: usize, taken: &Packed<ReplyHead>, out: &mut Text) -> usize
+    requires within { turn ≤ length commands.now }
+    requires room { sum_by room_of (drop turn commands.now) ≤ out.old.room }
+    ensures behind { result ≡ turn + quiet_front (drop turn commands.now) }
+    ensures bytes { out.new.bytes ≡ out.old.bytes ++ quiet_text (drop turn commands.now) }
+    ensures room { out.old.room + sum_by room_of (drop result commands.now) ≤ out.new.room + sum_by room_of (drop turn commands.now) }
+{
+    let mut at = turn;
+    while at < commands.len() {
+        let (run, echo) = commands.get(at);
+        if run.places() > 0 {
+            return at;
+        }
+        push_command(out, echo, run, no_replies(taken));
+        at += 1;
+    }
+    at
 }
 
 impl Caller for Script {
@@ -166,30 +196,38 @@ impl Caller for Script {
     }
 
     fn refill(&self, transfer: &mut Transfer) -> bool {
-        match &self.run {
-            Some(run) => {
-                run.next(transfer);
-                true
-            }
-            None => false,
+        if self.turn >= self.commands.len() {
+            return false;
         }
+        let (run, _) = self.commands.get(self.turn);
+        run.put(self.place, transfer);
+        true
     }
 
     fn reserve(&mut self) -> Result<(), NoMemory> {
-        let room = room_from(&self.commands, self.place).ok_or(NoMemory)?;
-        self.printed.reserve(room)
+        make_room(&self.commands, self.turn, &mut self.printed)
     }
 
     fn take(&mut self, head: ReplyHead, bytes: &[u8]) {
         self.taken.push(head, bytes);
-        if let Some(run) = &mut self.run {
-            if run.take(head) {
-                let (_, echo) = self.commands.get(self.place);
-                push_command(&mut self.printed, echo, *run, &self.taken, self.from);
-                self.place += 1;
-                self.from = self.taken.len();
-                self.run = run_at(&self.commands, self.place);
-            }
+        let (run, echo) = self.commands.get(self.turn);
+        let place = run.behind(self.place, head);
+        if place < run.places() {
+            self.place = place;
+        } else {
+            let replies = Window {
+                replies: &self.taken,
+                from: self.from,
+            };
+            push_command(&mut self.printed, echo, run, replies);
+            self.turn = push_quiet(
+                &self.commands,
+                self.turn + 1,
+                &self.taken,
+                &mut self.printed,
+            );
+            self.from = self.taken.len();
+            self.place = 0;
         }
     }
 }

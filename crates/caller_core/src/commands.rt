@@ -5,12 +5,12 @@ ghost use Rattle.std.specs.Prelude.{◌≡◌, ◌<◌, [], ◌∷◌, ◌++◌,
 use i2c_base::NoMemory;
 use std::alloc::Global;
 use std::marker::Model;
-use tools::Cmd;
+use tools::ToolRun;
 
 // A command, and where its words lie.
-#[derive(Clone, Copy)]
+#[derive(Drop)]
 struct Placed {
-    cmd: Cmd,
+    run: ToolRun,
     start: usize,
     len: usize,
 }
@@ -54,11 +54,11 @@ impl Commands {
 
     /// Puts a command with these words at the end.
     #[tactic(auto, using(crate::proofs::PlacedLemmas::commands_push))]
-    pub fn push(&mut self, cmd: Cmd, echo: &[u8]) -> Result<(), NoMemory>
-        ensures { OnOk result (self.new ≡ self.old ++ record { echo = echo.now; cmd = cmd } ∷ []) }
+    pub fn push(&mut self, run: ToolRun, echo: &[u8]) -> Result<(), NoMemory>
+        ensures { OnOk result (self.new ≡ self.old ++ record { echo = echo.now; run = run } ∷ []) }
     {
         let placed = Placed {
-            cmd,
+            run,
             start: self.echoes.len(),
             len: echo.len(),
         };
@@ -68,13 +68,13 @@ impl Commands {
     }
 
     /// The command at a place, and its words.
-    pub fn get(&self, place: usize) -> (Cmd, &[u8])
+    pub fn get(&self, place: usize) -> (&ToolRun, &[u8])
         requires { place < length self.now }
-        ensures { record { echo = result.1.now; cmd = result.0 } ≡ slice_index_or self.now place (record { echo = result.1.now; cmd = result.0 }) }
+        ensures { record { echo = result.1.now; run = result.0.now } ≡ slice_index_or self.now place (record { echo = result.1.now; run = result.0.now }) }
     {
-        let placed = self.placed[place];
+        let placed = &self.placed[place];
         (
-            placed.cmd,
+            &placed.run,
             &self.echoes[placed.start..placed.start + placed.len],
         )
     }

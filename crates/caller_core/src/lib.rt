@@ -1,10 +1,10 @@
 //! A script as a caller of the bus: what it asks for, command by command, and what it prints of the replies.
 //!
 //! Its public contract: `Script` is opened exactly where each line of its text is in the grammar, asks for the transfers
-//! of its commands one after the other, and prints them with their replies; it tells what they cost and which roots they
-//! name. Once its room is made nothing takes memory. A script is a fair caller (`scripts_are_fair`), and no text that it
+//! of its commands one after the other, and prints them with their answers, those that ask for nothing at their turn; it
+//! tells what they cost and which roots they name. Once its room is made nothing takes memory. A script is a fair caller (`scripts_are_fair`), and no text that it
 //! prints has a line `journal` (`no_section_has_a_journal_line`). Definitions:
-//! `specs/Progress.antt` (which command a reply goes to), `specs/Scripts.antt` (a script), `specs/Callers.antt` (a script as
+//! `specs/Turns.antt` (whose turn it is), `specs/Scripts.antt` (a script), `specs/Callers.antt` (a script as
 //! a caller), `specs/Roots.antt` (the roots that it names), `specs/View.antt` (what contracts see); what each command asks
 //! for and prints is in `tools`.
 #![tactic(auto)]
@@ -16,5 +16,7 @@ mod script;
 mod totals;
 
 pub use caller::{Script, ScriptData, no_section_has_a_journal_line, scripts_are_fair};
-pub use examples::replies_go_to_the_commands_in_turn;
+pub use examples::{
+    a_command_that_asks_for_nothing_is_over_at_its_turn, replies_go_to_the_commands_in_turn,
+};
 pub use script::ScriptFault;

@@ -1,8 +1,8 @@
 //! The text of a script: its commands, or the first word of it that is refused.
 
-ghost use Rattle.std.specs.Prelude.{◌≡◌, ◌+◌, ◌^◌, ◌<◌, ◌≤◌, ◌∷◌, Ok, length, take, drop, All, IfOk, IfErr, OnOk, MatchResult};
+ghost use Rattle.std.specs.Prelude.{◌≡◌, ◌+◌, ◌^◌, ◌<◌, ◌≤◌, [], ◌∷◌, ◌++◌, Ok, length, take, drop, All, IfOk, IfErr, OnOk, MatchResult};
 ghost use Rattle.tools.specs.Lines.{line_read};
-ghost use Rattle.tools.specs.Splits.{lines_of};
+ghost use Rattle.tools.specs.Splits.{words_of, joined_words, lines_of};
 ghost use Rattle.tools.specs.Readers.{FaultIs};
 ghost use Rattle.caller_core.specs.Scripts.{text_read, at_most, ScriptFaultIs, fault_at};
 ghost use Rattle.caller_core.specs.ScriptSteps.{IsStep, IsRefused};
@@ -10,8 +10,9 @@ ghost use Rattle.caller_core.specs.declared.script.ScriptFault.TheVariants.{Memo
 
 use crate::commands::Commands;
 use i2c_base::NoMemory;
+use i2c_board::Accepted;
 use std::alloc::{AllocError, Global};
-use tools::{Cmd, LineFault, cut_line, is_joined, push_echo, read_line};
+use tools::{Cmd, LineFault, ToolRun, cut_line, is_joined, push_echo, read_line};
 
 /// The most commands of a script.
 const MOST_COMMANDS: usize = 1000;
@@ -67,28 +68,46 @@ fn read_behind<'a>(
     }
 }
 
-// Reads a further line, of this number. Its words are put together in place of those of the line before.
+// Puts a command with the words of its line at the end. They are put together in place of those of the line before.
+fn keep_command(
+    echo: &mut Vec<u8>,
+    commands: &mut Commands,
+    run: ToolRun,
+    line: &[u8],
+) -> Result<(), ScriptFault>
+    ensures ok { OnOk result (commands.new ≡ commands.old ++ record { echo = joined_words (words_of line.now); run = run } ∷ []) }
+    ensures err { IfErr result (λ fault. fault ≡ NoRoomForScript) }
+{
+    if is_joined(line) {
+        return Ok(commands.push(run, line)?);
+    }
+    echo.clear();
+    push_echo(echo, line)?;
+    commands.push(run, echo.as_slice())?;
+    Ok(())
+}
+
+// Reads a further line, of this number.
 #[tactic(auto, using(crate::proofs::ScriptLemmas::is_step_some, crate::proofs::ScriptLemmas::is_step_none, crate::proofs::ScriptLemmas::is_refused))]
 fn take_line<'a>(
+    alloc: Global,
     words: &mut Vec<&'a [u8]>,
     echo: &mut Vec<u8>,
     commands: &mut Commands,
+    board: &Accepted,
     line: &'a [u8],
-    limit: u8,
     number: u32,
 ) -> Result<(), ScriptFault>
-    ensures ok { OnOk result (IsStep limit number commands.old commands.new line.now) }
-    ensures err { IfErr result (IsRefused limit number commands.old line.now) }
+    ensures ok { OnOk result (IsStep board.now number commands.old commands.new line.now) }
+    ensures err { IfErr result (IsRefused board.now number commands.old line.now) }
 {
+    let limit = board.board().limit();
     match read_behind(words, line, limit, commands.len()) {
         Err(fault) => Err(fault_at(fault, number)),
         Ok(None) => Ok(()),
-        Ok(Some(cmd)) if is_joined(line) => Ok(commands.push(cmd, line)?),
         Ok(Some(cmd)) => {
-            echo.clear();
-            push_echo(echo, line)?;
-            commands.push(cmd, echo.as_slice())?;
-            Ok(())
+            let run = ToolRun::open(alloc, board, cmd)?;
+            keep_command(echo, commands, run, line)
         }
     }
 }
@@ -104,10 +123,10 @@ fn cut_at(text: &[u8], at: usize) -> (usize, usize)
     cut_line(&text[at..])
 }
 
-/// Reads the commands of a script, over a board with this block limit, which is 1 to 255 bytes.
-pub fn read_script(alloc: Global, text: &[u8], limit: u8) -> Result<Commands, ScriptFault>
+/// Reads the commands of a script over a board.
+pub fn read_script(alloc: Global, board: &Accepted, text: &[u8]) -> Result<Commands, ScriptFault>
     requires { length text.now ≤ 2 ^ 28 }
-    ensures { MatchResult result (λ cs. text_read limit text.now ≡ Ok cs) (ScriptFaultIs (text_read limit text.now)) }
+    ensures { MatchResult result (λ cs. text_read board.now text.now ≡ Ok cs) (ScriptFaultIs (text_read board.now text.now)) }
 {
     let mut words = Vec::new(alloc);
     let mut echo = Vec::new(alloc);
@@ -118,7 +137,16 @@ pub fn read_script(alloc: Global, text: &[u8], limit: u8) -> Result<Commands, Sc
         let (len, skip) = cut_at(text, at);
         number += 1;
         let line = &text[at..at + len];
-        if let Err(fault) = take_line(&mut words, &mut echo, &mut commands, line, limit, number) {
+        let step = take_line(
+            alloc,
+            &mut words,
+            &mut echo,
+            &mut commands,
+            board,
+            line,
+            number,
+        );
+        if let Err(fault) = step {
             return Err(fault);
         }
         at += skip;

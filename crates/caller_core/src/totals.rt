@@ -1,20 +1,21 @@
 //! What a script costs, which roots its transfers name, and the room that its replies and its answers may need.
 
-ghost use Rattle.std.specs.Prelude.{◌≡◌, ◌*◌, ◌^◌, ◌<◌, ◌≤◌, All, length, drop, IfSome};
+ghost use Rattle.std.specs.Prelude.{◌≡◌, ◌*◌, ◌^◌, ◌<◌, ◌≤◌, length, drop, IfSome};
 ghost use Rattle.std.specs.List.{sum_by};
 ghost use Rattle.std.specs.Option.{option_map_or};
 ghost use Rattle.i2c_base.specs.Limits.{MOST_ROOTS, MOST_BYTES};
 ghost use Rattle.i2c_spec.specs.Cost.{cost_of};
 ghost use Rattle.tools.specs.Replies.{most_brought};
-ghost use Rattle.tools.specs.Commands.{IsInRange, transfers_of};
-ghost use Rattle.caller_core.specs.Progress.{sum_of_command};
+ghost use Rattle.tools.specs.Dialogues.{transfers_of};
+ghost use Rattle.tools.specs.Runs.{dialogue_of};
+ghost use Rattle.caller_core.specs.Turns.{sum_of};
 ghost use Rattle.caller_core.specs.Roots.{HasBits, HasRoots, names_root};
 ghost use Rattle.caller_core.specs.Scripts.{room_of};
 
 use crate::commands::Commands;
 use i2c_base::{Kind, SegId, Transfer};
 use i2c_board::Accepted;
-use tools::{Cmd, ToolRun, most_brought};
+use tools::{ToolRun, most_brought};
 
 /// Sums over transfers: their cost, how many they are, the bytes that their replies may have, and a bit for each root
 /// that they name.
@@ -48,20 +49,18 @@ fn root_bit(root: Option<SegId>) -> u8
 }
 
 // The totals of the transfers of a command. `transfer` is room for one after the other.
-fn totals_of_command(board: &Accepted, cmd: Cmd, transfer: &mut Transfer) -> Totals
-    requires { IsInRange cmd }
-    ensures cost { result.cost ≡ sum_by (cost_of board.now) (transfers_of cmd) }
+fn totals_of_command(board: &Accepted, run: &ToolRun, transfer: &mut Transfer) -> Totals
+    ensures cost { result.cost ≡ sum_by (cost_of board.now) (transfers_of (dialogue_of run.now)) }
     ensures small { result.cost ≤ 2 ^ 42 }
-    ensures replies { result.replies ≡ sum_by (λ t. 1) (transfers_of cmd) }
+    ensures replies { result.replies ≡ sum_by (λ t. 1) (transfers_of (dialogue_of run.now)) }
     ensures few { result.replies ≤ 2 }
-    ensures bytes { result.bytes ≡ sum_by most_brought (transfers_of cmd) }
+    ensures bytes { result.bytes ≡ sum_by most_brought (transfers_of (dialogue_of run.now)) }
     ensures few_bytes { result.bytes ≤ 2 * MOST_BYTES }
-    ensures roots { HasBits (names_root board.now) (transfers_of cmd) result.roots }
+    ensures roots { HasBits (names_root board.now) (transfers_of (dialogue_of run.now)) result.roots }
 {
-    let run = ToolRun::open(cmd);
     let mut totals = Totals::NONE;
-    for at in 0..run.count() {
-        run.put(at, transfer);
+    for place in 0..run.places() {
+        run.put(place, transfer);
         let bill = board.bill(transfer);
         totals.cost += bill.cost;
         totals.replies += 1;
@@ -74,18 +73,17 @@ fn totals_of_command(board: &Accepted, cmd: Cmd, transfer: &mut Transfer) -> Tot
 /// The totals of these commands.
 pub fn totals_of(board: &Accepted, commands: &Commands) -> Totals
     requires few { length commands.now ≤ 1000 }
-    requires range { All (λ c. IsInRange c.cmd) commands.now }
-    ensures cost { result.cost ≡ sum_by (sum_of_command (cost_of board.now)) commands.now }
+    ensures cost { result.cost ≡ sum_by (sum_of (cost_of board.now)) commands.now }
     ensures small { result.cost ≤ 2 ^ 52 }
-    ensures replies { result.replies ≡ sum_by (sum_of_command (λ t. 1)) commands.now }
-    ensures bytes { result.bytes ≡ sum_by (sum_of_command most_brought) commands.now }
+    ensures replies { result.replies ≡ sum_by (sum_of (λ t. 1)) commands.now }
+    ensures bytes { result.bytes ≡ sum_by (sum_of most_brought) commands.now }
     ensures roots { HasRoots board.now commands.now result.roots }
 {
     let mut transfer = Transfer::new(0, Kind::Smbus, false);
     let mut totals = Totals::NONE;
     for place in 0..commands.len() {
-        let (cmd, _) = commands.get(place);
-        let more = totals_of_command(board, cmd, &mut transfer);
+        let (run, _) = commands.get(place);
+        let more = totals_of_command(board, run, &mut transfer);
         totals.cost += more.cost;
         totals.replies += more.replies;
         totals.bytes += more.bytes;
@@ -100,12 +98,14 @@ pub fn room_from(commands: &Commands, place: usize) -> Option<usize>
 {
     let mut room = 0usize;
     for at in place..commands.len() {
-        let (cmd, echo) = commands.get(at);
-        let answer = ToolRun::open(cmd).most() + BESIDE;
-        room = room.checked_add(echo.len())?.checked_add(answer)?;
+        let (run, echo) = commands.get(at);
+        room = room
+            .checked_add(echo.len())?
+            .checked_add(run.most())?
+            .checked_add(BESIDE)?;
     }
     Some(room)
 }
 
-// What stands beside the words of a command and its answer: `> ` before, and the two ends of lines.
-const BESIDE: usize = 4;
+// What stands beside the words of a command and its answer: `> ` before the words, and the end of their line.
+const BESIDE: usize = 3;

@@ -12,5 +12,5 @@ invariant-loop-at l =
       within : l.at ≤ length l.text;
       count : l.number ≤ l.at;
       same : behind_commands l.commands
-          (lines_read l.limit (l.number + 1) (length l.commands) (lines_of (drop l.at l.text))) ≡ text_read l.limit l.text;
+          (lines_read l.board (l.number + 1) (length l.commands) (lines_of (drop l.at l.text))) ≡ text_read l.board l.text;
     }

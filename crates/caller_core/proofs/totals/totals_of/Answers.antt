@@ -6,10 +6,10 @@ use Rattle.caller_core.proofs.totals.totals_of.Goals as goal
 
 pub loop-place-preserved : goal.loop-place-preserved
 loop-place-preserved c =
-    let x : CommandView = record { echo = c.get-cmd.result.1.now; cmd = c.get-cmd.result.0 } in
+    let x : CommandView = record { echo = c.get.result.1.now; run = c.get.result.0.now } in
     let more = c.totals_of_command-more in
     sums_more _ _ _ _ _ _ _ _ _ x _ more.result c.loop-place.invariant (omega (arith, c.loop-place-test.true, c.len-place-end.ensures))
-    c.get-cmd.ensures
+    c.get.ensures
     (record {
       cost = more.ensures.cost;
       small = more.ensures.small;
@@ -20,11 +20,8 @@ loop-place-preserved c =
       roots = command_bits c.args.board.now x more.result.roots more.ensures.roots;
     })
 
-pub get-cmd-requires : goal.get-cmd-requires
-get-cmd-requires c = grind (arith, common_steps)
-
-pub totals_of_command-more-requires : goal.totals_of_command-more-requires
-totals_of_command-more-requires c = grind (arith, common_steps)
+pub get-requires : goal.get-requires
+get-requires c = grind (arith, common_steps)
 
 pub overflow_add-totals : goal.overflow_add-totals
 overflow_add-totals c = grind (arith, common_steps)

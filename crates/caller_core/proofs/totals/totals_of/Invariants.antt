@@ -2,12 +2,12 @@ use Rattle.std.proofs.Common.{◌*◌, ◌^◌}
 use Rattle.i2c_base.specs.Limits.{MOST_BYTES}
 use Rattle.i2c_spec.specs.Cost.{cost_of}
 use Rattle.tools.specs.Replies.{most_brought}
-use Rattle.caller_core.specs.Progress.{sum_of_command}
+use Rattle.caller_core.specs.Turns.{sum_of}
 use Rattle.caller_core.specs.Roots.{command_names}
 use Rattle.caller_core.proofs.RootLemmas.{AreSums}
 use Rattle.caller_core.proofs.totals.totals_of.Given as goal
 
 abbrev pub invariant-loop-place : goal.invariant-loop-place
 invariant-loop-place l =
-    AreSums (sum_of_command (cost_of l.board)) (sum_of_command (λ t. 1)) (sum_of_command most_brought) (command_names l.board)
+    AreSums (sum_of (cost_of l.board)) (sum_of (λ t. 1)) (sum_of most_brought) (command_names l.board)
     (2 ^ 42) 2 (2 * MOST_BYTES) l.commands l.place l.totals

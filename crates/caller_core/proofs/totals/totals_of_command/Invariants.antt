@@ -1,12 +1,14 @@
 use Rattle.std.proofs.Common.{◌^◌}
 use Rattle.i2c_base.specs.Limits.{MOST_BYTES}
 use Rattle.i2c_spec.specs.Cost.{cost_of}
+use Rattle.tools.specs.Dialogues.{transfers_of}
 use Rattle.tools.specs.Replies.{most_brought}
-use Rattle.tools.specs.Commands.{transfers_of}
+use Rattle.tools.specs.Runs.{dialogue_of}
 use Rattle.caller_core.specs.Roots.{names_root}
 use Rattle.caller_core.proofs.RootLemmas.{AreSums}
 use Rattle.caller_core.proofs.totals.totals_of_command.Given as goal
 
-abbrev pub invariant-loop-at : goal.invariant-loop-at
-invariant-loop-at l =
-    AreSums (cost_of l.board) (λ t. 1) most_brought (names_root l.board) (2 ^ 41) 1 MOST_BYTES (transfers_of l.fn.cmd) l.at l.totals
+abbrev pub invariant-loop-place : goal.invariant-loop-place
+invariant-loop-place l =
+    AreSums (cost_of l.board) (λ t. 1) most_brought (names_root l.board) (2 ^ 41) 1 MOST_BYTES (transfers_of (dialogue_of l.run)) l.place
+    l.totals

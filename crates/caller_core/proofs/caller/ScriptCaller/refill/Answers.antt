@@ -1,36 +1,33 @@
-use Rattle.std.proofs.Common.{ap, sym, ◌∙◌}
+use Rattle.std.proofs.Common.{◌≡◌, Some, sym, ap, ◌∙◌, arith}
+use Rattle.std.specs.Prelude.{slice_get}
 use Rattle.tools.specs.Replies.{replies_of}
-use Rattle.caller_core.specs.Progress.{progress, asked_at}
+use Rattle.caller_core.specs.Turns.{progress, asked_at}
 use Rattle.caller_core.specs.Scripts.{asked_by}
-use Rattle.caller_core.specs.View.{CallerView, script_on}
-use Rattle.caller_core.proofs.TurnLemmas.{is_running, all_over, run_in_range}
+use Rattle.caller_core.specs.View.{CommandView, CallerView}
+use Rattle.caller_core.proofs.PlaceLemmas.{asks}
+use Rattle.caller_core.proofs.TakeLemmas.{at_place}
 use Rattle.caller_core.proofs.caller.ScriptCaller.refill.Goals as goal
+use Rattle.caller_core.proofs.caller.ScriptCaller.refill.Goals.{After-get}
 
-pub next-requires-clause-range : goal.next-requires-clause-range
-next-requires-clause-range c =
-    run_in_range (script_on c.self.inside.board.value c.self.inside.text.value.items) c.self.inside.commands
-    (replies_of c.self.inside.taken.items) c.self.inside.place c.self.inside.from c.in-Some.run' c.self.invariant.whole
-    (is_running c.self.inside.commands
-    (replies_of c.self.inside.taken.items) c.self.inside.place c.self.inside.from c.self.inside.run c.in-Some.run' c.self.invariant.at
-    c.in-Some.is)
+-- the command whose turn it is
+abbrev command : After-get → CommandView
+command c = record { echo = c.get.result.1.now; run = c.get.result.0.now }
 
-pub next-requires-clause-more : goal.next-requires-clause-more
-next-requires-clause-more c =
-    (is_running c.self.inside.commands
-    (replies_of c.self.inside.taken.items) c.self.inside.place c.self.inside.from c.self.inside.run c.in-Some.run' c.self.invariant.at
-    c.in-Some.is).more
+there : (c : After-get) → slice_get c.self.inside.commands c.self.inside.turn ≡ Some (command c)
+there c =
+    let s = c.self.inside in
+    at_place s.commands s.turn (command c) (omega (arith, c.if-self-len.false, c.len.ensures)) c.get.ensures
 
-pub returns-in-Some-clause-some : goal.returns-in-Some-clause-some
-returns-in-Some-clause-some c _ =
+pub put-requires : goal.put-requires
+put-requires c =
+    let read = (goal.at.put-requires c).After-get in
+    c.self.invariant.at.more (command read) (there read)
+
+pub returns-clause-some : goal.returns-clause-some
+returns-clause-some c _ =
+    let s = c.self.inside in
+    let read = (goal.at.returns-clause-some c).After-get in
     ap (λ (v : CallerView). asked_by v.script v.taken) (sym c.self.view_is)
-    ∙ ap (λ cs. asked_at (progress cs (replies_of c.self.inside.taken.items))) c.self.invariant.whole
-    ∙ (is_running c.self.inside.commands
-    (replies_of c.self.inside.taken.items) c.self.inside.place c.self.inside.from c.self.inside.run c.in-Some.run' c.self.invariant.at
-    c.in-Some.is).asks c.next.new.transfer c.next.ensures
-
-pub returns-in-None-clause-none : goal.returns-in-None-clause-none
-returns-in-None-clause-none c _ =
-    ap (λ (v : CallerView). asked_by v.script v.taken) (sym c.self.view_is)
-    ∙ ap (λ cs. asked_at (progress cs (replies_of c.self.inside.taken.items))) c.self.invariant.whole
-    ∙ all_over c.self.inside.commands
-    (replies_of c.self.inside.taken.items) c.self.inside.place c.self.inside.from c.self.inside.run c.self.invariant.at c.in-None.is
+    ∙ ap (λ cs. asked_at (progress cs (replies_of s.taken.items))) c.self.invariant.whole
+    ∙ asks s.commands (replies_of s.taken.items) s.turn s.from s.place (command read) c.self.invariant.at (there read)
+    ∙ ap Some (sym c.put.ensures)

@@ -1,0 +1,43 @@
+-- Commands at the front that ask for nothing, one by one, and the room for what commands print.
+use Rattle.std.proofs.Common.{◌≡◌, ℕ, ◌+◌, ◌<◌, Bool, true, false, cond, List, [], ◌∷◌, ◌++◌, map, take, drop, Some, ap, ◌∙◌, arith, add-one, inl, inr}
+use Rattle.std.specs.Prelude.{◌==◌, slice_get, sum_by}
+use Rattle.std.specs.List.{flat_map}
+use Rattle.std.proofs.lemmas.Bool.Decides.{eqb_tells}
+use Rattle.std.proofs.lemmas.List.Sums.{sum_by-cons}
+use Rattle.caller_core.specs.Scripts.{command_text, room_of, quiet_text}
+use Rattle.caller_core.specs.Turns.{talk, quiet, quiet_front}
+use Rattle.caller_core.specs.View.{CommandView}
+use Rattle.caller_core.proofs.PlaceLemmas.{there}
+
+take_cons : {X : Type 0} (n : ℕ) (x : X) (xs : List X) → take (n + 1) (x ∷ xs) ≡ x ∷ take n xs
+take_cons n x xs = rw add-one
+
+abbrev text_by : CommandView → List CommandView → Bool → List ℕ
+text_by c rest b = flat_map command_text (map quiet (take (cond b (quiet_front rest + 1) 0) (c ∷ rest)))
+
+module _ (cs : List CommandView) (k : ℕ) (c : CommandView) (is : slice_get cs k ≡ Some c) where
+  none : (talk c).places ≡ 0 → ((talk c).places == 0) ≡ true
+  none e = ap (λ (n : ℕ). n == 0) e
+
+  some : 0 < (talk c).places → ((talk c).places == 0) ≡ false
+  some h = elim (eqb_tells (talk c).places 0) [ inl x ↦ absurd (omega (arith, x.1, h)) | inr x ↦ x.0 ]
+
+  pub front_quiet : (talk c).places ≡ 0 → quiet_front (drop k cs) ≡ quiet_front (drop (k + 1) cs) + 1
+  front_quiet e = ap quiet_front (there cs k c is) ∙ ap (λ b. cond b (quiet_front (drop (k + 1) cs) + 1) 0) (none e)
+
+  pub front_asking : 0 < (talk c).places → quiet_front (drop k cs) ≡ 0
+  front_asking h = ap quiet_front (there cs k c is) ∙ ap (λ b. cond b (quiet_front (drop (k + 1) cs) + 1) 0) (some h)
+
+  pub text_quiet : (talk c).places ≡ 0 → quiet_text (drop k cs) ≡ command_text (quiet c) ++ quiet_text (drop (k + 1) cs)
+  text_quiet e =
+      let rest : List CommandView = drop (k + 1) cs in
+      ap (λ (xs : List CommandView). quiet_text xs) (there cs k c is) ∙ ap (λ b. text_by c rest b) (none e)
+      ∙ ap (λ (xs : List CommandView). flat_map command_text (map quiet xs)) (take_cons (quiet_front rest) c rest)
+
+  pub text_asking : 0 < (talk c).places → quiet_text (drop k cs) ≡ []
+  text_asking h =
+      let rest : List CommandView = drop (k + 1) cs in
+      ap (λ (xs : List CommandView). quiet_text xs) (there cs k c is) ∙ ap (λ b. text_by c rest b) (some h)
+
+  pub sum_there : sum_by room_of (drop k cs) ≡ room_of c + sum_by room_of (drop (k + 1) cs)
+  sum_there = ap (λ (xs : List CommandView). sum_by room_of xs) (there cs k c is) ∙ sum_by-cons room_of c (drop (k + 1) cs)
