@@ -1,12 +1,12 @@
 -- What is so of every command: a row for each.
-use Rattle.std.proofs.Common.{ℕ, arith}
+use Rattle.std.proofs.Common.{ℕ}
 use Rattle.i2c_base.specs.Board.{BoardView}
 use Rattle.tools.specs.Commands.{grammar, MOST_WORDS, IsInRange, run_of}
 use Rattle.tools.specs.Detects.{bus_lines}
 use Rattle.tools.specs.declared.command.Cmd.{Cmd}
 use Rattle.tools.specs.declared.command.Cmd.TheVariants as cmd
 use Rattle.tools.proofs.DetectLemmas.{detect_fits, detect_within, list_lines}
-use Rattle.tools.proofs.FormLemmas.{AsksWithin, HasSectionLines, says_lines}
+use Rattle.tools.proofs.FormLemmas.{AsksWithin, HasSectionLines, says_nothing, says_lines}
 use Rattle.tools.proofs.GetLemmas.{get_fits, get_within, get_asks, get_lines}
 use Rattle.tools.proofs.GrammarLemmas.{AllEnds, EndsWithin}
 
@@ -23,7 +23,7 @@ lines_within limit = (get_within, detect_within)
 -- it asks for transfers within the limits
 pub asks : (b : BoardView) (c : Cmd) → IsInRange c → AsksWithin (run_of b c)
 asks b (cmd.Get g) range = get_asks g range
-asks b cmd.List range = λ k none. absurd (omega arith)
+asks b cmd.List range = says_nothing (bus_lines b)
 
 -- it prints lines, of which none is `journal`
 pub answers : (b : BoardView) (c : Cmd) → HasSectionLines (run_of b c)

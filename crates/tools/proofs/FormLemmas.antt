@@ -1,18 +1,27 @@
--- What is so of each form: the lines that it prints are lines of a section.
-use Rattle.std.proofs.Common.{ℕ, ◌<◌, List, [], ◌∷◌, Option, Some, None}
-use Rattle.std.specs.Prelude.{All, slice_get, slice_index_or}
+-- What is so of each form: its transfers are within the limits where its fields are in their ranges, and what it prints is lines of a
+-- section.
+use Rattle.std.proofs.Common.{ℕ, ◌<◌, true, false, cond, List, [], ◌∷◌, Option, Some, None, arith}
+use Rattle.std.specs.Prelude.{⊤, ◌==◌, All, slice_get, slice_index_or}
 use Rattle.std.proofs.lemmas.List.Elements.{All-nil, All-cons}
 use Rattle.bus_journal.specs.Reports.{IsSectionLine}
+use Rattle.i2c_base.specs.Addr.{IsTargetAddress}
+use Rattle.i2c_base.specs.Bytes.{IsByte}
+use Rattle.i2c_base.specs.Limits.{I2C_BLOCK_LIMIT}
 use Rattle.i2c_base.specs.declared.reply.Reply.{Reply}
 use Rattle.i2c_base.specs.declared.reply.Reply.TheVariants as reply
-use Rattle.tools.specs.Calls.{held_call, call_text}
+use Rattle.smb_emul.specs.Calls.{messages_of_call, IsBlockLength}
+use Rattle.smb_emul.specs.declared.call.SmbOp.TheVariants as op
+use Rattle.tools.specs.Calls.{call_to, held_call, call_text}
 use Rattle.tools.specs.Chains.{chain_text}
 use Rattle.tools.specs.Runs.{dialogue_of}
 use Rattle.tools.specs.declared.run.ToolRun.{ToolRun}
 use Rattle.tools.specs.declared.run.ToolRun.TheVariants as run
+use Rattle.tools.specs.declared.run.call.Callee.{Callee}
 use Rattle.tools.specs.declared.run.call.HeldCall.{HeldCall}
+use Rattle.tools.specs.declared.run.call.HeldOp.{HeldOp}
+use Rattle.tools.specs.declared.run.call.HeldOp.TheVariants as held
 use Rattle.tools.specs.declared.run.chain.Chain.{Chain}
-use Rattle.tools.proofs.TransferLemmas.{IsAsk}
+use Rattle.tools.proofs.TransferLemmas.{IsAsk, call_asks, short_byte}
 use Rattle.tools.proofs.ValueLemmas.{result_line}
 
 -- each of its transfers is within the limits
@@ -22,6 +31,42 @@ AsksWithin r = (k : ℕ) → k < (dialogue_of r).places → IsAsk ((dialogue_of 
 -- whatever the replies, what it prints is lines, of which none is `journal`
 abbrev pub HasSectionLines : ToolRun → Type 0
 HasSectionLines r = (replies : List Reply) → All IsSectionLine ((dialogue_of r).lines replies)
+
+-- ---- its transfers
+
+-- the bytes of a call are bytes, and a block has a length that it may have
+abbrev pub IsHeld : HeldOp → Type 0
+IsHeld held.ReceiveByte = ⊤
+IsHeld (held.ReadByte r) = IsByte r
+IsHeld (held.ReadWord r) = IsByte r
+IsHeld (held.BlockRead r) = IsByte r
+IsHeld (held.I2cBlockRead r n) = IsByte r × IsBlockLength I2C_BLOCK_LIMIT n
+
+module _ (to : Callee) (near : IsTargetAddress to.addr) where
+  receives_asks : IsAsk (messages_of_call (call_to to op.ReceiveByte))
+  receives_asks = call_asks (call_to to op.ReceiveByte) near.1 tt (omega arith, omega arith) (omega arith)
+
+  pub call_asks_within : (o : HeldOp) → IsHeld o → AsksWithin (run.Calls (record { to = to; op = o }))
+  call_asks_within held.ReceiveByte is k within = receives_asks
+  call_asks_within (held.ReadByte r) is k within =
+      call_asks (call_to to (op.ReadByte r)) near.1 (short_byte r is) (omega arith, omega arith) (omega arith)
+  call_asks_within (held.ReadWord r) is k within =
+      call_asks (call_to to (op.ReadWord r)) near.1 (short_byte r is) (omega arith, omega arith) (omega arith)
+  call_asks_within (held.BlockRead r) is k within = call_asks (call_to to (op.BlockRead r)) near.1 (short_byte r is) tt (omega arith)
+  call_asks_within (held.I2cBlockRead r n) is k within =
+      call_asks (call_to to (op.I2cBlockRead r n)) near.1 (short_byte r is.0) is.1 (omega arith)
+
+  pub chain_asks_within : (sent : ℕ) → IsByte sent → AsksWithin (run.Chains (record { to = to; sent = sent }))
+  chain_asks_within sent is k within =
+      elim (k == 0) as (λ b. IsAsk (messages_of_call (call_to to (cond b (op.SendByte sent) op.ReceiveByte)))) [
+        | true ↦ call_asks (call_to to (op.SendByte sent)) near.1 (short_byte sent is) tt (omega arith)
+        | false ↦ receives_asks
+      ]
+
+pub says_nothing : (lines : List (List ℕ)) → AsksWithin (run.Says lines)
+says_nothing lines k within = absurd (omega arith)
+
+-- ---- its lines
 
 one_line : (line : List ℕ) → IsSectionLine line → All IsSectionLine (line ∷ [])
 one_line line is = All-cons IsSectionLine line [] is (All-nil IsSectionLine)

@@ -1,21 +1,18 @@
 -- i2cget: what its line means is in range, and how long it is; its calls are within the limits, and what it prints is a line.
-use Rattle.std.proofs.Common.{ℕ, ◌^◌, ◌<◌, ◌≤◌, Bool, true, false, cond, Option, Some, None, arith}
-use Rattle.std.specs.Prelude.{◌==◌, IfSome, unwrap_or}
-use Rattle.smb_emul.specs.Calls.{messages_of_call, IsBlockLength}
-use Rattle.smb_emul.specs.declared.call.SmbCall.{SmbCall}
-use Rattle.smb_emul.specs.declared.call.SmbOp.{SmbOp}
-use Rattle.smb_emul.specs.declared.call.SmbOp.TheVariants as op
-use Rattle.tools.specs.Calls.{call_to}
+use Rattle.std.proofs.Common.{ℕ, ◌^◌, ◌<◌, ◌≤◌, Bool, false, Option, Some, None, arith}
+use Rattle.std.specs.Prelude.{IfSome, unwrap_or}
+use Rattle.i2c_base.specs.Addr.{IsTargetAddress}
+use Rattle.i2c_base.specs.Bytes.{IsByte}
+use Rattle.smb_emul.specs.Calls.{IsBlockLength}
 use Rattle.tools.specs.Commands.{IsInRange}
 use Rattle.tools.specs.Gets.{got, get_len, get_reg, get_bus, get_words, IsGetInRange, mode_of, len_of, callee, register_run, run_by, get_run}
 use Rattle.tools.specs.declared.command.get.Get.{Get}
 use Rattle.tools.specs.declared.command.get.GetMode.{GetMode}
 use Rattle.tools.specs.declared.command.get.GetMode.TheVariants as mode
 use Rattle.tools.specs.declared.run.call.HeldOp.TheVariants as held
-use Rattle.tools.proofs.FormLemmas.{AsksWithin, HasSectionLines, call_lines, chain_lines}
+use Rattle.tools.proofs.FormLemmas.{AsksWithin, HasSectionLines, call_asks_within, chain_asks_within, call_lines, chain_lines}
 use Rattle.tools.proofs.GrammarLemmas.{AllEnds, EndsWithin}
 use Rattle.tools.proofs.OptionLemmas.{IsBetween, number_between, options_end, options_within}
-use Rattle.tools.proofs.TransferLemmas.{IsAsk, call_asks, short_byte}
 
 -- ---- its line
 
@@ -70,32 +67,6 @@ get_within = options_within 5 get_bus bus_within
 
 -- ---- its calls
 
-module _ (g : Get) (near : g.addr ≤ 119) where
-  abbrev called : SmbOp → SmbCall
-  called o = call_to (callee g) o
-
-  receives_asks : IsAsk (messages_of_call (called op.ReceiveByte))
-  receives_asks = call_asks (called op.ReceiveByte) near tt (omega arith, omega arith) (omega arith)
-
-  register_asks : (reg : ℕ) (m : GetMode) → reg < 2 ^ 8 → IsBlockLength 32 (len_of g) → AsksWithin (register_run g reg m)
-  register_asks reg mode.Byte byte short k within =
-      call_asks (called (op.ReadByte reg)) near (short_byte reg byte) (omega arith, omega arith) (omega arith)
-  register_asks reg mode.Word byte short k within =
-      call_asks (called (op.ReadWord reg)) near (short_byte reg byte) (omega arith, omega arith) (omega arith)
-  register_asks reg mode.SendReceive byte short k within =
-      elim (k == 0) as (λ b. IsAsk (messages_of_call (called (cond b (op.SendByte reg) op.ReceiveByte)))) [
-        | true ↦ call_asks (called (op.SendByte reg)) near (short_byte reg byte) tt (omega arith)
-        | false ↦ receives_asks
-      ]
-  register_asks reg mode.Block byte short k within =
-      call_asks (called (op.BlockRead reg)) near (short_byte reg byte) tt (omega arith)
-  register_asks reg mode.I2cBlock byte short k within =
-      call_asks (called (op.I2cBlockRead reg (len_of g))) near (short_byte reg byte) short (omega arith)
-
-  asks_by : (reg : Option ℕ) → IfSome reg (λ r. r < 2 ^ 8) → IsBlockLength 32 (len_of g) → AsksWithin (run_by g reg)
-  asks_by None byte short k within = receives_asks
-  asks_by (Some reg) byte short k within = register_asks reg (mode_of g) byte short k within
-
 len_short : (len : Option ℕ) → IfSome len (λ n. (1 ≤ n) × (n ≤ 32)) → IsBlockLength 32 (unwrap_or len 32)
 len_short None h = (omega arith, omega arith)
 len_short (Some n) h = h
@@ -104,9 +75,21 @@ len_short (Some n) h = h
 pub get_len_short : (g : Get) → IsGetInRange g → IsBlockLength 32 (len_of g)
 get_len_short g range = len_short g.len range.len
 
+module _ (g : Get) (near : IsTargetAddress g.addr) where
+  register_asks : (reg : ℕ) (m : GetMode) → IsByte reg → IsBlockLength 32 (len_of g) → AsksWithin (register_run g reg m)
+  register_asks reg mode.Byte byte short = call_asks_within (callee g) near (held.ReadByte reg) byte
+  register_asks reg mode.Word byte short = call_asks_within (callee g) near (held.ReadWord reg) byte
+  register_asks reg mode.SendReceive byte short = chain_asks_within (callee g) near reg byte
+  register_asks reg mode.Block byte short = call_asks_within (callee g) near (held.BlockRead reg) byte
+  register_asks reg mode.I2cBlock byte short = call_asks_within (callee g) near (held.I2cBlockRead reg (len_of g)) (byte, short)
+
+  asks_by : (reg : Option ℕ) → IfSome reg (λ r. r < 2 ^ 8) → IsBlockLength 32 (len_of g) → AsksWithin (run_by g reg)
+  asks_by None byte short = call_asks_within (callee g) near held.ReceiveByte tt
+  asks_by (Some reg) byte short = register_asks reg (mode_of g) byte short
+
 -- it asks for transfers within the limits
 pub get_asks : (g : Get) → IsGetInRange g → AsksWithin (get_run g)
-get_asks g range = asks_by g range.addr.1 g.reg range.reg (get_len_short g range)
+get_asks g range = asks_by g range.addr g.reg range.reg (get_len_short g range)
 
 -- what it prints is a line of a section
 register_lines : (g : Get) (reg : ℕ) (m : GetMode) → HasSectionLines (register_run g reg m)

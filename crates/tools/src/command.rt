@@ -1,16 +1,20 @@
-//! The commands of a script, a row for each, and the words that each is read from.
+//! The commands of a script, a row for each: the words that it is read from, and how it runs.
 
-ghost use Rattle.std.specs.Prelude.{◌≡◌};
-ghost use Rattle.tools.specs.Commands.{grammar};
+ghost use Rattle.std.specs.Prelude.{◌≡◌, IfOk};
+ghost use Rattle.tools.specs.Commands.{grammar, IsInRange, run_of};
 ghost use Rattle.tools.specs.Grammars.{read_at};
 ghost use Rattle.tools.specs.Readers.{texts};
 
-pub(crate) mod detect;
-pub(crate) mod get;
+mod detect;
+mod get;
 
 use crate::fault::WordRefused;
 use crate::reader::is_at;
+use crate::run::ToolRun;
 pub use get::{Get, GetMode};
+use i2c_base::NoMemory;
+use i2c_board::Board;
+use std::alloc::Global;
 
 /// A command of a script.
 #[derive(Clone, Copy)]
@@ -35,5 +39,16 @@ pub(crate) fn read_command(words: &[&[u8]], limit: u8) -> Result<Cmd, WordRefuse
         detect::read_detect(words)
     } else {
         Err(WordRefused(0))
+    }
+}
+
+/// How a command runs over a board.
+pub(crate) fn run_of(alloc: Global, board: &Board, cmd: Cmd) -> Result<ToolRun, NoMemory>
+    requires { IsInRange cmd }
+    ensures { IfOk result (λ run. run ≡ run_of board.now cmd) }
+{
+    match cmd {
+        Cmd::Get(get) => Ok(get::run(&get)),
+        Cmd::List => Ok(ToolRun::Says(detect::bus_lines(alloc, board)?)),
     }
 }

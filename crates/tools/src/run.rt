@@ -12,7 +12,7 @@ pub(crate) mod call;
 pub(crate) mod chain;
 pub(crate) mod lines;
 
-use crate::command::{Cmd, detect, get};
+use crate::command::{Cmd, run_of};
 use crate::replies::Window;
 use crate::text::Text;
 use call::HeldCall;
@@ -39,10 +39,7 @@ impl ToolRun {
         requires { IsInRange cmd }
         ensures { IfOk result (λ r. r ≡ run_of board.now cmd) }
     {
-        match cmd {
-            Cmd::Get(get) => Ok(get::run(&get)),
-            Cmd::List => Ok(ToolRun::Says(detect::bus_lines(alloc, board.board())?)),
-        }
+        run_of(alloc, board.board(), cmd)
     }
 
     /// How many places it has.
