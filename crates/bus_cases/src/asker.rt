@@ -2,26 +2,28 @@
 
 use crate::words::parted;
 use i2c_base::{Kind, Reply, Transfer};
+use i2c_board::Accepted;
 use std::alloc::Global;
 use tools::{ToolRun, each_field_is_in_range, each_line_is_read, read_line};
 
-/// What is left of a script, how many transfers of its first line were replied to, and the block limit of its board.
+/// What is left of a script, how many transfers of its first line were replied to, and its board.
 #[derive(Clone, Copy)]
 pub struct Asker<'s> {
     rest: &'s str,
     taken: u16,
-    limit: u8,
+    board: &'s Accepted,
 }
 
 /// The transfer at a place, from 0, of those that a line of a script asks for.
-fn transfer_at(alloc: Global, line: &str, limit: u8, place: u16) -> Option<Transfer> {
+fn transfer_at(alloc: Global, line: &str, board: &Accepted, place: u16) -> Option<Transfer> {
     each_line_is_read();
     each_field_is_in_range();
+    let limit = board.board().limit();
     let Ok(Some(command)) = read_line(&mut Vec::new(alloc), line.as_bytes(), limit) else {
         return None;
     };
-    let run = ToolRun::open(command);
-    if place >= run.count() {
+    let run = ToolRun::open(alloc, board, command).ok()?;
+    if place >= run.places() {
         return None;
     }
     let mut transfer = Transfer::new(0, Kind::Smbus, false);
@@ -30,19 +32,19 @@ fn transfer_at(alloc: Global, line: &str, limit: u8, place: u16) -> Option<Trans
 }
 
 impl<'s> Asker<'s> {
-    /// A script whose lines were not asked yet.
-    pub fn of(script: &'s str, limit: u8) -> Self {
+    /// A script whose lines were not asked yet, each of which asks for something.
+    pub fn of(script: &'s str, board: &'s Accepted) -> Self {
         Asker {
             rest: script,
             taken: 0,
-            limit,
+            board,
         }
     }
 
     /// What it asks for next, none where its script is used up.
     pub fn next(&self, alloc: Global) -> Option<Transfer> {
         let (line, _) = self.rest.split_once('\n')?;
-        transfer_at(alloc, line, self.limit, self.taken)
+        transfer_at(alloc, line, self.board, self.taken)
     }
 
     /// Takes a reply. A line is over with its last transfer, and with one that fails.

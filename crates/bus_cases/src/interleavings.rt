@@ -216,7 +216,7 @@ impl Race {
     fn asker(&self, caller: usize) -> Asker<'_> {
         let place = self.first_script().saturating_add(caller);
         let script = text_of(&self.files, word_at(self.call.words.as_slice(), place));
-        Asker::of(script, self.board.board().limit())
+        Asker::of(script, &self.board)
     }
 
     /// Whether the replies of a run are those of the flat world, its devices are left as there, and no transfer is left.
