@@ -1,17 +1,20 @@
 -- How long the value of an SMBus call is, and which replies its transfer may get.
-use Rattle.std.proofs.Common.{◌≡◌, ℕ, ◌+◌, ◌-◌, ◌≤◌, Bool, true, false, cond, List, [], ◌∷◌, length, take, drop, get_or, Ok, Err, Some, refl, subst, ap, length-take, length-drop, arith}
-use Rattle.std.specs.Prelude.{◌==◌, slice_get}
+use Rattle.std.proofs.Common.{◌≡◌, ℕ, ◌+◌, ◌-◌, ◌≤◌, Bool, true, false, cond, List, [], ◌∷◌, ◌++◌, length, take, drop, get_or, Ok, Err, Some, refl, subst, ap, length-take, length-drop, arith}
+use Rattle.std.specs.Prelude.{◌==◌, ◌&&◌, slice_get}
+use Rattle.i2c_base.specs.declared.transfer.Kind.TheVariants.{Smbus}
+use Rattle.tools.specs.Values.{result_text}
+use Rattle.tools.specs.declared.run.call.Callee.{Callee}
 use Rattle.i2c_base.specs.Fitting.{Fits, count_of}
 use Rattle.i2c_base.specs.declared.reply.Reply.{Reply}
 use Rattle.i2c_base.specs.declared.reply.Reply.TheVariants as reply
 use Rattle.i2c_spec.specs.SmbusCalls.{block_read_row, block_proc_row}
 use Rattle.i2c_spec.specs.declared.smbus_row.CallRow.{CallRow}
-use Rattle.smb_emul.specs.Calls.{messages_of_call, value_of_call, call_row, is_coded, read_value, wanted_code, value_by}
+use Rattle.smb_emul.specs.Calls.{messages_of_call, value_of_call, call_row, is_coded, read_value, wanted_code, value_by, write_messages, read_messages, bytes_sent}
 use Rattle.smb_emul.specs.declared.call.SmbCall.{SmbCall}
 use Rattle.smb_emul.specs.declared.call.SmbFail.TheVariants.{Pec}
 use Rattle.smb_emul.specs.declared.call.SmbOp.{SmbOp}
 use Rattle.smb_emul.specs.declared.call.SmbOp.TheVariants as op
-use Rattle.tools.specs.Calls.{block_most}
+use Rattle.tools.specs.Calls.{DoesTheSame, block_most, call_to, call_text}
 use Rattle.tools.specs.Chains.{chained, chains}
 use Rattle.tools.specs.Dialogues.{Dialogue, AreReplies, behind}
 use Rattle.tools.specs.Values.{block_of_value, block_in}
@@ -89,6 +92,23 @@ module _ (bus addr : ℕ) (force : Bool) where
 pub short : (call : SmbCall) (bytes : List ℕ) → Fits (messages_of_call call) (reply.Read bytes)
     → length (block_in (value_of_call call (reply.Read bytes))) ≤ block_most call.op
 short call = short_by call.bus call.addr call.force call.pec call.op
+
+-- ---- the same call, wherever its block stands
+
+module _ (to : Callee) (o other : SmbOp) (same : DoesTheSame o other) where
+  pub same_messages : messages_of_call (call_to to o) ≡ messages_of_call (call_to to other)
+  same_messages = ap (λ (row : CallRow). record {
+    bus = to.bus;
+    kind = Smbus;
+    force = to.force;
+    msgs = write_messages to.addr (to.pec && row.checked) row.read row.write ++ read_messages to.addr (to.pec && row.checked) row.read;
+    out = bytes_sent to.addr (to.pec && row.checked) row.read row.write;
+  }) same.row
+
+  pub same_text : (r : Reply) → call_text (call_to to o) r ≡ call_text (call_to to other) r
+  same_text reply.Done = refl
+  same_text (reply.Read bytes) = ap (λ (row : CallRow). result_text (read_value to.addr (to.pec && row.checked) row bytes)) same.row
+  same_text (reply.Err e) = refl
 
 -- ---- which replies are given
 

@@ -1,31 +1,46 @@
 -- What is so of every command: a row for each.
-use Rattle.std.proofs.Common.{ℕ}
+use Rattle.std.proofs.Common.{ℕ, arith}
 use Rattle.i2c_base.specs.Board.{BoardView}
 use Rattle.tools.specs.Commands.{grammar, MOST_WORDS, IsInRange, run_of}
-use Rattle.tools.specs.Detects.{bus_lines}
+use Rattle.tools.specs.Detects.{detect_words, bus_lines}
+use Rattle.tools.specs.Gets.{get_words}
+use Rattle.tools.specs.Sets.{set_words}
 use Rattle.tools.specs.declared.command.Cmd.{Cmd}
 use Rattle.tools.specs.declared.command.Cmd.TheVariants as cmd
+use Rattle.tools.proofs.CombinedRanges.{combined_line_fits, combined_line_within}
 use Rattle.tools.proofs.DetectLemmas.{detect_fits, detect_within, list_lines}
-use Rattle.tools.proofs.FormLemmas.{AsksWithin, HasSectionLines, says_nothing, says_lines}
+use Rattle.tools.proofs.FormLemmas.{AsksWithin, HasSectionLines, says_nothing, transfer_asks_within, says_lines, transfer_lines}
 use Rattle.tools.proofs.GetLemmas.{get_fits, get_within, get_asks, get_lines}
-use Rattle.tools.proofs.GrammarLemmas.{AllEnds, EndsWithin}
+use Rattle.tools.proofs.GrammarLemmas.{AllEnds, EndsWithin, ends_within_most}
+use Rattle.tools.proofs.SetLemmas.{set_line_fits, set_line_within}
+use Rattle.tools.proofs.SetRuns.{set_asks, set_lines}
 
 -- what its line means is in range
-pub lines_fit : (limit : ℕ) → AllEnds IsInRange (grammar limit)
+pub lines_fit : (limit : ℕ) → AllEnds (IsInRange limit) (grammar limit)
 unfolding grammar
-lines_fit limit = (get_fits, detect_fits)
+lines_fit limit = (get_fits limit, (set_line_fits limit, (combined_line_fits limit, detect_fits limit)))
 
 -- its line has no more than the most words
 pub lines_within : (limit : ℕ) → EndsWithin MOST_WORDS (grammar limit)
 unfolding grammar
-lines_within limit = (get_within, detect_within)
+lines_within limit = (
+  ends_within_most 7 4141 get_words (omega arith) get_within,
+  (
+    ends_within_most 261 4141 (set_words limit) (omega arith) (set_line_within limit),
+    (combined_line_within, ends_within_most 7 4141 detect_words (omega arith) detect_within),
+  ),
+)
 
 -- it asks for transfers within the limits
-pub asks : (b : BoardView) (c : Cmd) → IsInRange c → AsksWithin (run_of b c)
-asks b (cmd.Get g) range = get_asks g range
-asks b cmd.List range = says_nothing (bus_lines b)
+pub asks : (b : BoardView) (limit : ℕ) (c : Cmd) → IsInRange limit c → AsksWithin (run_of b c)
+asks b limit (cmd.Get g) range = get_asks g range
+asks b limit (cmd.Set s) range = set_asks limit s range
+asks b limit (cmd.Combined t) range = transfer_asks_within t range
+asks b limit cmd.List range = says_nothing (bus_lines b)
 
 -- it prints lines, of which none is `journal`
 pub answers : (b : BoardView) (c : Cmd) → HasSectionLines (run_of b c)
 answers b (cmd.Get g) = get_lines g
+answers b (cmd.Set s) = set_lines s
+answers b (cmd.Combined t) = transfer_lines t
 answers b cmd.List = says_lines (bus_lines b) (list_lines b)

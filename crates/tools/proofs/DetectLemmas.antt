@@ -15,9 +15,9 @@ use Rattle.tools.specs.Detects.{detect_words, way_text, bus_line, bus_lines}
 use Rattle.tools.proofs.GrammarLemmas.{AllEnds, EndsWithin}
 use Rattle.tools.proofs.ValueLemmas.{others}
 
-pub detect_fits : AllEnds IsInRange detect_words
+pub detect_fits : (limit : ℕ) → AllEnds (IsInRange limit) detect_words
 unfolding detect_words
-detect_fits = tt
+detect_fits limit = tt
 
 pub detect_within : EndsWithin 7 detect_words
 unfolding detect_words

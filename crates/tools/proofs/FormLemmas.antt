@@ -1,19 +1,22 @@
 -- What is so of each form: its transfers are within the limits where its fields are in their ranges, and what it prints is lines of a
 -- section.
-use Rattle.std.proofs.Common.{ℕ, ◌<◌, true, false, cond, List, [], ◌∷◌, Option, Some, None, arith}
+use Rattle.std.proofs.Common.{ℕ, ◌^◌, ◌<◌, true, false, cond, List, [], ◌∷◌, length, Option, Some, None, arith}
 use Rattle.std.specs.Prelude.{⊤, ◌==◌, All, slice_get, slice_index_or}
 use Rattle.std.proofs.lemmas.List.Elements.{All-nil, All-cons}
 use Rattle.bus_journal.specs.Reports.{IsSectionLine}
 use Rattle.i2c_base.specs.Addr.{IsTargetAddress}
-use Rattle.i2c_base.specs.Bytes.{IsByte}
-use Rattle.i2c_base.specs.Limits.{I2C_BLOCK_LIMIT}
+use Rattle.i2c_base.specs.Bytes.{IsByte, AreBytes}
+use Rattle.i2c_base.specs.Limits.{I2C_BLOCK_LIMIT, LARGEST_BLOCK}
+use Rattle.i2c_spec.specs.SmbusCalls.{low_byte_first}
 use Rattle.i2c_base.specs.declared.reply.Reply.{Reply}
 use Rattle.i2c_base.specs.declared.reply.Reply.TheVariants as reply
 use Rattle.smb_emul.specs.Calls.{messages_of_call, IsBlockLength}
 use Rattle.smb_emul.specs.declared.call.SmbOp.TheVariants as op
-use Rattle.tools.specs.Calls.{call_to, held_call, call_text}
+use Rattle.tools.specs.Calls.{call_to, held_call, call_text, lent}
 use Rattle.tools.specs.Chains.{chain_text}
+use Rattle.tools.specs.Combined.{IsCombinedInRange}
 use Rattle.tools.specs.Runs.{dialogue_of}
+use Rattle.tools.specs.declared.command.transfer.Combined.{Combined}
 use Rattle.tools.specs.declared.run.ToolRun.{ToolRun}
 use Rattle.tools.specs.declared.run.ToolRun.TheVariants as run
 use Rattle.tools.specs.declared.run.call.Callee.{Callee}
@@ -21,7 +24,8 @@ use Rattle.tools.specs.declared.run.call.HeldCall.{HeldCall}
 use Rattle.tools.specs.declared.run.call.HeldOp.{HeldOp}
 use Rattle.tools.specs.declared.run.call.HeldOp.TheVariants as held
 use Rattle.tools.specs.declared.run.chain.Chain.{Chain}
-use Rattle.tools.proofs.TransferLemmas.{IsAsk, call_asks, short_byte}
+use Rattle.tools.proofs.MessageLemmas.{messages_ask, reply_line}
+use Rattle.tools.proofs.TransferLemmas.{IsAsk, call_asks, short_byte, short_bytes, word_bytes}
 use Rattle.tools.proofs.ValueLemmas.{result_line}
 
 -- each of its transfers is within the limits
@@ -36,7 +40,12 @@ HasSectionLines r = (replies : List Reply) → All IsSectionLine ((dialogue_of r
 
 -- the bytes of a call are bytes, and a block has a length that it may have
 abbrev pub IsHeld : HeldOp → Type 0
+IsHeld (held.SendByte b) = IsByte b
 IsHeld held.ReceiveByte = ⊤
+IsHeld (held.WriteByte r b) = IsByte r × IsByte b
+IsHeld (held.WriteWord r v) = IsByte r × (v < 2 ^ 16)
+IsHeld (held.BlockWrite r bytes) = IsByte r × (AreBytes bytes × IsBlockLength LARGEST_BLOCK (length bytes))
+IsHeld (held.I2cBlockWrite r bytes) = IsByte r × (AreBytes bytes × IsBlockLength I2C_BLOCK_LIMIT (length bytes))
 IsHeld (held.ReadByte r) = IsByte r
 IsHeld (held.ReadWord r) = IsByte r
 IsHeld (held.BlockRead r) = IsByte r
@@ -47,7 +56,19 @@ module _ (to : Callee) (near : IsTargetAddress to.addr) where
   receives_asks = call_asks (call_to to op.ReceiveByte) near.1 tt (omega arith, omega arith) (omega arith)
 
   pub call_asks_within : (o : HeldOp) → IsHeld o → AsksWithin (run.Calls (record { to = to; op = o }))
+  call_asks_within (held.SendByte b) is k within = call_asks (call_to to (op.SendByte b)) near.1 (short_byte b is) tt (omega arith)
   call_asks_within held.ReceiveByte is k within = receives_asks
+  call_asks_within (held.WriteByte r b) is k within =
+      call_asks (call_to to (op.WriteByte r b)) near.1 (short_bytes r (b ∷ []) is.0 (All-cons IsByte b [] is.1 (All-nil IsByte)) (omega arith))
+      tt (omega arith)
+  call_asks_within (held.WriteWord r v) is k within =
+      call_asks (call_to to (op.WriteWord r v)) near.1 (short_bytes r (low_byte_first v) is.0 (word_bytes v is.1) (omega arith)) tt (omega arith)
+  call_asks_within (held.BlockWrite r bytes) is k within =
+      call_asks (call_to to (op.BlockWrite r (lent bytes))) near.1 (short_bytes r (length bytes ∷ bytes) is.0
+      (All-cons IsByte (length bytes) bytes (omega (arith, is.1.1.1)) is.1.0) (omega (arith, is.1.1.1))) tt (omega arith)
+  call_asks_within (held.I2cBlockWrite r bytes) is k within =
+      call_asks (call_to to (op.I2cBlockWrite r (lent bytes))) near.1 (short_bytes r bytes is.0 is.1.0 (omega (arith, is.1.1.1))) tt
+      (omega arith)
   call_asks_within (held.ReadByte r) is k within =
       call_asks (call_to to (op.ReadByte r)) near.1 (short_byte r is) (omega arith, omega arith) (omega arith)
   call_asks_within (held.ReadWord r) is k within =
@@ -62,6 +83,9 @@ module _ (to : Callee) (near : IsTargetAddress to.addr) where
         | true ↦ call_asks (call_to to (op.SendByte sent)) near.1 (short_byte sent is) tt (omega arith)
         | false ↦ receives_asks
       ]
+
+pub transfer_asks_within : (c : Combined) → IsCombinedInRange c → AsksWithin (run.Transfers c)
+transfer_asks_within c range k within = messages_ask c range
 
 pub says_nothing : (lines : List (List ℕ)) → AsksWithin (run.Says lines)
 says_nothing lines k within = absurd (omega arith)
@@ -85,3 +109,6 @@ pub chain_lines : (c : Chain) → HasSectionLines (run.Chains c)
 chain_lines c replies =
     one_line (chain_text c (slice_index_or replies 0 reply.Done) (slice_get replies 1))
     (chain_line c (slice_index_or replies 0 reply.Done) (slice_get replies 1))
+
+pub transfer_lines : (c : Combined) → HasSectionLines (run.Transfers c)
+transfer_lines c replies = reply_line c.messages (slice_index_or replies 0 reply.Done)

@@ -16,12 +16,12 @@ use Rattle.tools.proofs.OptionLemmas.{IsBetween, number_between, options_end, op
 
 -- ---- its line
 
-module _ (force : Bool) (bus addr : ℕ) (on : IsBetween 0 65535 bus) (to : IsBetween 8 119 addr) where
+module _ (limit : ℕ) (force : Bool) (bus addr : ℕ) (on : IsBetween 0 65535 bus) (to : IsBetween 8 119 addr) where
   got_fits : (reg : Option ℕ) (m : Option GetMode) (pec : Bool) (len : Option ℕ) → IfSome reg (λ r. r < 2 ^ 8)
-      → IfSome len (λ n. (1 ≤ n) × (n ≤ 32)) → IsInRange (got force bus addr reg m pec len)
+      → IfSome len (λ n. (1 ≤ n) × (n ≤ 32)) → IsInRange limit (got force bus addr reg m pec len)
   got_fits reg m pec len r l = record { bus = omega (arith, on.to_high); addr = (to.from_low, to.to_high); reg = r; len = l }
 
-  len_fits : (reg : ℕ) (m : GetMode × Bool) → reg < 2 ^ 8 → AllEnds IsInRange (get_len force bus addr reg m)
+  len_fits : (reg : ℕ) (m : GetMode × Bool) → reg < 2 ^ 8 → AllEnds (IsInRange limit) (get_len force bus addr reg m)
   unfolding get_len
   len_fits reg (mode.I2cBlock, false) r = (
     got_fits (Some reg) (Some mode.I2cBlock) false None r tt,
@@ -30,7 +30,7 @@ module _ (force : Bool) (bus addr : ℕ) (on : IsBetween 0 65535 bus) (to : IsBe
   )
   len_fits reg (m, pec) r = got_fits (Some reg) (Some m) pec None r tt
 
-  reg_fits : AllEnds IsInRange (get_reg force bus addr)
+  reg_fits : AllEnds (IsInRange limit) (get_reg force bus addr)
   unfolding get_reg
   reg_fits = (
     got_fits None None false None tt tt,
@@ -38,28 +38,28 @@ module _ (force : Bool) (bus addr : ℕ) (on : IsBetween 0 65535 bus) (to : IsBe
         (got_fits (Some reg) None false None r tt, λ x m is_mode. len_fits reg m r),
   )
 
-bus_fits : (force : Bool) → AllEnds IsInRange (get_bus force)
+bus_fits : (limit : ℕ) (force : Bool) → AllEnds (IsInRange limit) (get_bus force)
 unfolding get_bus
-bus_fits force w bus is x addr is_addr = reg_fits force bus addr (number_between 0 65535 w bus is) (number_between 8 119 x addr is_addr)
+bus_fits limit force w bus is x addr is_addr = reg_fits limit force bus addr (number_between 0 65535 w bus is) (number_between 8 119 x addr is_addr)
 
-pub get_fits : AllEnds IsInRange get_words
+pub get_fits : (limit : ℕ) → AllEnds (IsInRange limit) get_words
 unfolding get_words
-get_fits = options_end IsInRange get_bus bus_fits
+get_fits limit = options_end (IsInRange limit) get_bus (bus_fits limit)
 
 -- behind the first word it has at most seven
 module _ (force : Bool) (bus addr : ℕ) where
   len_within : (reg : ℕ) (m : GetMode × Bool) → EndsWithin 1 (get_len force bus addr reg m)
   unfolding get_len
-  len_within reg (mode.I2cBlock, false) = λ len. tt
+  len_within reg (mode.I2cBlock, false) = λ w len is. tt
   len_within reg (m, pec) = tt
 
   reg_within : EndsWithin 3 (get_reg force bus addr)
   unfolding get_reg
-  reg_within = λ reg m. len_within reg m
+  reg_within = λ w reg is x m is_mode. len_within reg m
 
 bus_within : (force : Bool) → EndsWithin 5 (get_bus force)
 unfolding get_bus
-bus_within force = λ bus addr. reg_within force bus addr
+bus_within force = λ w bus is x addr is_addr. reg_within force bus addr
 
 pub get_within : EndsWithin 7 get_words
 unfolding get_words

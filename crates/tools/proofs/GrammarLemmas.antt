@@ -1,6 +1,6 @@
 -- A grammar has no dead end, its lines are followed as they are read, they mean what its ends mean, and none is longer than
 -- the longest way through it. The inductions go over the grammar.
-use Rattle.std.proofs.Common.{◌≡◌, ℕ, zero, suc, ◌+◌, Bool, true, false, List, [], ◌∷◌, length, drop, Option, Some, None, Result, Ok, Err, cond, nat_le, refl, sym, ap, subst, ◌∙◌, arith, add-one}
+use Rattle.std.proofs.Common.{◌≡◌, ℕ, zero, suc, ◌+◌, ◌-◌, ◌≤◌, Bool, true, false, List, [], ◌∷◌, length, drop, Option, Some, None, Result, Ok, Err, cond, nat_le, refl, sym, ap, subst, ◌∙◌, arith, add-one}
 use Rattle.std.specs.Prelude.{is_none, slice_get}
 use Rattle.std.proofs.lemmas.Bool.{le-leb, lt-leb}
 use Rattle.std.proofs.lemmas.Slice.Eq.{bytes_eq-Decides}
@@ -220,7 +220,7 @@ EndsWithin (suc n) (word text g) = EndsWithin n g
 EndsWithin zero (word_or text g h) = ⊥
 EndsWithin (suc n) (word_or text g h) = EndsWithin n g × EndsWithin (suc n) h
 EndsWithin zero (class c k) = ⊥
-EndsWithin (suc n) (class {B} c k) = (b : B) → EndsWithin n (k b)
+EndsWithin (suc n) (class {B} c k) = (w : Word) (b : B) → c.of w ≡ Some b → EndsWithin n (k b)
 EndsWithin n (maybe a g) = EndsWithin n g
 
 -- so it does within one more
@@ -231,16 +231,27 @@ ends_within_more (suc n) (word text g) h = ends_within_more n g h
 ends_within_more zero (word_or text g k) h = absurd h
 ends_within_more (suc n) (word_or text g k) h = (ends_within_more n g h.0, ends_within_more (suc n) k h.1)
 ends_within_more zero (class c k) h = absurd h
-ends_within_more (suc n) (class c k) h = λ b. ends_within_more n (k b) (h b)
+ends_within_more (suc n) (class c k) h = λ w b is. ends_within_more n (k b) (h w b is)
 ends_within_more n (maybe a g) h = ends_within_more n g h
+
+-- and within any that are no fewer
+ends_within_added : {A : Type 0} (more n : ℕ) (g : Grammar A) → EndsWithin n g → EndsWithin (more + n) g
+ends_within_added zero n g h = let at : 0 + n ≡ n = omega arith in rw at h
+ends_within_added (suc more) n g h =
+    let at : suc more + n ≡ suc (more + n) = omega arith in
+    rw at (ends_within_more (more + n) g (ends_within_added more n g h))
+
+pub ends_within_most : {A : Type 0} (n most : ℕ) (g : Grammar A) → n ≤ most → EndsWithin n g → EndsWithin most g
+ends_within_most n most g le h = let at : most - n + n ≡ most = omega arith in rw at at (ends_within_added (most - n) n g h)
 
 within_if : {A : Type 0} (n : ℕ) (b : Bool) (g h : LineSet A) → IsWithin n g → IsWithin n h → IsWithin n (cond b g h)
 within_if n true g h p q = p
 within_if n false g h p q = q
 
-within_behind : {A B : Type 0} (n : ℕ) (k : B → LineSet A) (o : Option B) → ((b : B) → IsWithin n (k b)) → IsWithin n (behind k o)
+within_behind : {A B : Type 0} (n : ℕ) (k : B → LineSet A) (o : Option B) → ((b : B) → o ≡ Some b → IsWithin n (k b))
+    → IsWithin n (behind k o)
 within_behind n k None h = tt
-within_behind n k (Some b) h = h b
+within_behind n k (Some b) h = h b refl
 
 within_next : {A : Type 0} (n : ℕ) (g : LineSet A) → IsWithin (suc n) g → (w : Word) → IsWithin n (next_of g w)
 within_next n nothing h w = tt
@@ -264,5 +275,5 @@ within (suc n) (word_or text g k) h =
     λ w. within_if n (bytes_eq w text) (line_set g) (next_of (line_set k) w) (within n g h.0)
     (within_next n (line_set k) (within (suc n) k h.1) w)
 within zero (class c k) h = absurd h
-within (suc n) (class c k) h = λ w. within_behind n (λ b. line_set (k b)) (c.of w) (λ b. within n (k b) (h b))
+within (suc n) (class c k) h = λ w. within_behind n (λ b. line_set (k b)) (c.of w) (λ b is. within n (k b) (h w b is))
 within n (maybe a g) h = within_node n (Some a) (line_set g) (within n g h)

@@ -1,4 +1,6 @@
 pub mod CallLemmas
+pub mod CombinedLemmas
+pub mod CombinedRanges
 pub mod CommandLemmas
 pub mod DetectLemmas
 pub mod DigitLemmas
@@ -8,8 +10,11 @@ pub mod GrammarLemmas
 pub mod JoinedLemmas
 pub mod LineLemmas
 pub mod LineSetLemmas
+pub mod MessageLemmas
 pub mod OptionLemmas
 pub mod SaysLemmas
+pub mod SetLemmas
+pub mod SetRuns
 pub mod SplitLemmas
 pub mod TransferLemmas
 pub mod ValueLemmas

@@ -1,11 +1,14 @@
 -- The laws of the lines of a script, and what a line is read as. They hold of any grammar whose ends are in range.
-use Rattle.std.proofs.Common.{Err, ◌≡◌, ℕ, suc, ◌+◌, true, List, [], ◌∷◌, take, Some, None, Ok, refl, sym, ap, ◌∙◌, cond, arith}
+use Rattle.std.proofs.Common.{◌≡◌, ℕ, suc, ◌+◌, true, List, [], ◌∷◌, take, Some, None, Ok, refl, sym, ap, ◌∙◌, cond, arith}
 use Rattle.tools.specs.Lines.{is_command, some_command, words_read, line_read, ReadsLines, RefusesBehindLongest, MeansInRange, NoneIsLonger, FirstWordsDecide}
 use Rattle.tools.specs.Splits.{words_of}
 use Rattle.tools.specs.Grammars.{read_at}
 use Rattle.tools.specs.LineSets.{Word, IsWithin, follow_words}
 use Rattle.tools.specs.Commands.{grammar, script_lines, MOST_WORDS, IsInRange}
+use Rattle.tools.specs.Readers.{FaultIs}
 use Rattle.tools.specs.declared.command.Cmd.{Cmd}
+use Rattle.tools.specs.declared.fault.LineFault.{LineFault}
+use Rattle.tools.specs.declared.fault.LineFault.TheVariants as fault
 use Rattle.tools.proofs.CommandLemmas.{lines_fit, lines_within}
 use Rattle.tools.proofs.GrammarLemmas.{alive, follow, means, within}
 use Rattle.tools.proofs.LineSetLemmas.{IsAlive, line_followed, followed_line, refused_longest, follow_front}
@@ -21,7 +24,7 @@ refuses_behind_longest limit ws k refused =
     rw same stop.longest
 
 pub means_in_range : MeansInRange
-means_in_range limit = means IsInRange (grammar limit) (lines_fit limit)
+means_in_range limit = means (IsInRange limit) (grammar limit) (lines_fit limit)
 
 -- ---- no line has more than the most words
 
@@ -54,6 +57,7 @@ pub command_read : (limit : ℕ) (line : List ℕ) (ws : List Word) (c : Cmd) �
     → is_command ws ≡ true → read_at (grammar limit) ws 0 ≡ Ok c → line_read limit line ≡ Ok (Some c)
 command_read limit line ws c same is e = command_words limit line ws same is ∙ ap some_command e
 
-pub command_refused : (limit : ℕ) (line : List ℕ) (ws : List Word) (k : ℕ) → ws ≡ take (MOST_WORDS + 1) (words_of line)
-    → is_command ws ≡ true → read_at (grammar limit) ws 0 ≡ Err k → line_read limit line ≡ Err k
-command_refused limit line ws k same is e = command_words limit line ws same is ∙ ap some_command e
+pub command_faulty : (limit : ℕ) (line : List ℕ) (ws : List Word) (e : LineFault) → ws ≡ take (MOST_WORDS + 1) (words_of line)
+    → is_command ws ≡ true → FaultIs (read_at (grammar limit) ws 0) e → FaultIs (line_read limit line) e
+command_faulty limit line ws (fault.Word k) same is h = command_words limit line ws same is ∙ ap some_command h
+command_faulty limit line ws fault.Memory same is h = tt

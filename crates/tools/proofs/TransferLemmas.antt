@@ -1,5 +1,5 @@
 -- The transfer of an SMBus call is within the limits, and no reply to a transfer brings more than it stands for.
-use Rattle.std.proofs.Common.{◌≡◌, ℕ, zero, suc, ◌+◌, ◌*◌, ◌<◌, ◌≤◌, Bool, true, false, cond, List, [], ◌∷◌, ◌++◌, length, take, get_or, Option, Some, None, refl, subst, arith, add-one}
+use Rattle.std.proofs.Common.{◌≡◌, ℕ, zero, suc, ◌+◌, ◌*◌, ◌/◌, ◌%◌, ◌^◌, ◌<◌, ◌≤◌, Bool, true, false, cond, List, [], ◌∷◌, ◌++◌, length, take, get_or, Option, Some, None, refl, subst, arith, add-one}
 use Rattle.std.specs.Prelude.{All, IfSome}
 use Rattle.std.proofs.Math.Seq.{take-length}
 use Rattle.std.proofs.lemmas.List.{length-append}
@@ -11,6 +11,7 @@ use Rattle.i2c_base.specs.Transfer.{TransferView, IsTransfer, IsMessage, size_of
 use Rattle.i2c_base.specs.declared.reply.Reply.{Reply}
 use Rattle.i2c_base.specs.declared.reply.Reply.TheVariants as reply
 use Rattle.i2c_base.specs.declared.transfer.Msg.{Msg}
+use Rattle.i2c_spec.specs.SmbusCalls.{low_byte_first}
 use Rattle.i2c_spec.specs.declared.smbus_row.ReadShape.{ReadShape}
 use Rattle.i2c_spec.specs.declared.smbus_row.ReadShape.TheVariants as read
 use Rattle.smb_emul.specs.Calls.{messages_of_call, call_row, is_coded, write_messages, read_messages, bytes_sent, code_sent, IsBlockLength, IsShortRead}
@@ -171,6 +172,14 @@ pub call_asks : (call : SmbCall) → call.addr ≤ 119 → IfSome (call_row call
     → 0 < length (messages_of_call call).msgs → IsAsk (messages_of_call call)
 call_asks call near short reads some =
     record { fits = row_fits call.addr (is_coded call) (call_row call.op).read (call_row call.op).write near short reads; sends = some }
+
+-- a command byte and few others
+pub short_bytes : (b : ℕ) (bytes : List ℕ) → b < 256 → AreBytes bytes → length bytes ≤ 256 → IsShortWrite (b ∷ bytes)
+short_bytes b bytes small each few = record { each = All-cons IsByte b bytes small each; few = omega (arith, few) }
+
+-- the two bytes of a word
+pub word_bytes : (v : ℕ) → v < 2 ^ 16 → AreBytes (low_byte_first v)
+word_bytes v small = All-cons IsByte (v % 256) (v / 256 ∷ []) (omega arith) (one_byte (v / 256) (omega (arith, small)))
 
 pub short_byte : (b : ℕ) → b < 256 → IsShortWrite (b ∷ [])
 short_byte b small = record { each = one_byte b small; few = omega arith }

@@ -1,9 +1,10 @@
 -- A command that makes one SMBus call.
-use Rattle.std.specs.Prelude.{ℕ, ◌+◌, ◌*◌, List, [], ◌∷◌, slice_index_or}
+use Rattle.std.specs.Prelude.{◌≡◌, ℕ, ◌+◌, ◌*◌, List, [], ◌∷◌, slice_index_or}
+use denote.Bor.{Bor}
 use Rattle.i2c_base.specs.Limits.{LARGEST_BLOCK}
 use Rattle.i2c_base.specs.declared.reply.Reply.{Reply}
 use Rattle.i2c_base.specs.declared.reply.Reply.TheVariants as reply
-use Rattle.smb_emul.specs.Calls.{messages_of_call, value_of_call}
+use Rattle.smb_emul.specs.Calls.{call_row, messages_of_call, value_of_call}
 use Rattle.smb_emul.specs.declared.call.SmbCall.{SmbCall}
 use Rattle.smb_emul.specs.declared.call.SmbOp.{SmbOp}
 use Rattle.smb_emul.specs.declared.call.SmbOp.TheVariants as op
@@ -18,8 +19,17 @@ use Rattle.tools.specs.declared.run.call.HeldOp.TheVariants as held
 abbrev pub call_to : Callee → SmbOp → SmbCall
 call_to c o = record { bus = c.bus; addr = c.addr; force = c.force; pec = c.pec; op = o }
 
+-- bytes as a call has them, wherever they stand
+abbrev pub lent : List ℕ → Bor (List ℕ)
+lent bytes = record { ref_ptr = (0, 0); now = bytes }
+
 abbrev pub smb_op : HeldOp → SmbOp
+smb_op (held.SendByte b) = op.SendByte b
 smb_op held.ReceiveByte = op.ReceiveByte
+smb_op (held.WriteByte r b) = op.WriteByte r b
+smb_op (held.WriteWord r v) = op.WriteWord r v
+smb_op (held.BlockWrite r bytes) = op.BlockWrite r (lent bytes)
+smb_op (held.I2cBlockWrite r bytes) = op.I2cBlockWrite r (lent bytes)
 smb_op (held.ReadByte r) = op.ReadByte r
 smb_op (held.ReadWord r) = op.ReadWord r
 smb_op (held.BlockRead r) = op.BlockRead r
@@ -48,10 +58,16 @@ block_most (op.BlockProc c bytes) = LARGEST_BLOCK
 block_most (op.I2cBlockWrite c bytes) = 0
 block_most (op.I2cBlockRead c n) = n
 
+-- one call does the same as another, wherever its block stands
+pub record DoesTheSame (o other : SmbOp) : Type 0 where
+  pub row : call_row o ≡ call_row other
+  pub most : block_most o ≡ block_most other
+
 -- its text has at most so many bytes: a wrong error code has 26, and a byte of a block 5
 abbrev pub text_most : SmbOp → ℕ
 text_most o = 26 + 5 * block_most o
 
+-- what it says to the bus
 abbrev pub calls : HeldCall → Dialogue
 calls h =
     record {

@@ -23,6 +23,7 @@ abbrev pub chain_text : Chain → Reply → Option Reply → List ℕ
 chain_text c sent None = call_text (chained c 0) sent
 chain_text c sent (Some received) = call_text (chained c 1) received
 
+-- what it says to the bus: an error of the first call passes over all places
 abbrev pub chains : Chain → Dialogue
 chains c =
     record {

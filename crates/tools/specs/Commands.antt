@@ -1,10 +1,13 @@
 -- What each command is: its line, the range of what it means, and how it runs. A row for each.
-use Rattle.std.specs.Prelude.{⊤, ℕ, codes}
+use Rattle.std.specs.Prelude.{⊤, ℕ, ◌+◌, codes}
 use Rattle.i2c_base.specs.Board.{BoardView}
+use Rattle.i2c_base.specs.Limits.{MOST_MESSAGES, MOST_BYTES}
+use Rattle.tools.specs.Combined.{combined_words, IsCombinedInRange}
 use Rattle.tools.specs.Detects.{detect_words, bus_lines}
 use Rattle.tools.specs.Gets.{get_words, IsGetInRange, get_run}
 use Rattle.tools.specs.Grammars.{Grammar, line_set, word, word_or}
 use Rattle.tools.specs.LineSets.{LineSet}
+use Rattle.tools.specs.Sets.{set_words, IsSetInRange, set_run}
 use Rattle.tools.specs.declared.command.Cmd.{Cmd}
 use Rattle.tools.specs.declared.command.Cmd.TheVariants as cmd
 use Rattle.tools.specs.declared.run.ToolRun.{ToolRun}
@@ -12,25 +15,33 @@ use Rattle.tools.specs.declared.run.ToolRun.TheVariants as run
 
 -- ---- the lines of a script
 
--- the grammar, where a block of the board has at most `limit` bytes; no line in force has a block that is written
+-- the grammar, where a block of the board has at most `limit` bytes
 unfoldable pub grammar : (limit : ℕ) → Grammar Cmd
-grammar limit = word_or (codes "i2cget") get_words (word (codes "i2cdetect") detect_words)
+grammar limit =
+    word_or (codes "i2cget") get_words
+    (word_or (codes "i2cset") (set_words limit)
+    (word_or (codes "i2ctransfer") combined_words
+    (word (codes "i2cdetect") detect_words)))
 
 abbrev pub script_lines : (limit : ℕ) → LineSet Cmd
 script_lines limit = line_set (grammar limit)
 
--- the words of the longest line: i2cget -f -y BUS ADDR REG MODE LEN
+-- the words of the longest line: i2ctransfer -f -y BUS, then the most messages, with the most bytes, of which each is written
 abbrev pub MOST_WORDS : ℕ
-MOST_WORDS = 8
+MOST_WORDS = 4 + MOST_MESSAGES + MOST_BYTES
 
 -- each field of a command is in its range
-abbrev pub IsInRange : Cmd → Type 0
-IsInRange (cmd.Get g) = IsGetInRange g
-IsInRange cmd.List = ⊤
+abbrev pub IsInRange : (limit : ℕ) → Cmd → Type 0
+IsInRange limit (cmd.Get g) = IsGetInRange g
+IsInRange limit (cmd.Set s) = IsSetInRange limit s
+IsInRange limit (cmd.Combined c) = IsCombinedInRange c
+IsInRange limit cmd.List = ⊤
 
 -- ---- a command that runs
 
 -- its form, with what the board says of it
 abbrev pub run_of : BoardView → Cmd → ToolRun
 run_of b (cmd.Get g) = get_run g
+run_of b (cmd.Set s) = set_run s
+run_of b (cmd.Combined c) = run.Transfers c
 run_of b cmd.List = run.Says (bus_lines b)

@@ -1,5 +1,6 @@
 pub mod Calls
 pub mod Chains
+pub mod Combined
 pub mod Commands
 pub mod Detects
 pub mod Dialogues
@@ -13,7 +14,9 @@ pub mod Readers
 pub mod Replies
 pub mod Runs
 pub mod Says
+pub mod Sets
 pub mod Splits
+pub mod Transfers
 pub mod Values
 pub mod View
 pub mod Words

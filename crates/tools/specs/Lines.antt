@@ -39,7 +39,7 @@ RefusesBehindLongest = (limit : ℕ) (ws : List Word) (k : ℕ) → follow_words
 
 -- what a line means is in range
 abbrev pub MeansInRange : Type 0
-MeansInRange = (limit : ℕ) (ws : List Word) (c : Cmd) → IsLine (script_lines limit) ws c → IsInRange c
+MeansInRange = (limit : ℕ) (ws : List Word) (c : Cmd) → IsLine (script_lines limit) ws c → IsInRange limit c
 
 -- no line goes on behind the most words
 abbrev pub NoneIsLonger : Type 0

@@ -1,5 +1,5 @@
 -- Words read from left to right, by their places.
-use Rattle.std.specs.Prelude.{⊤, ◌≡◌, ℕ, Bool, false, List, [], map, slice_get, slice_index_or, length, nat_le, Option, Some, None, Result, Ok, Err, if◌then◌else◌}
+use Rattle.std.specs.Prelude.{⊤, ◌≡◌, ℕ, Bool, false, List, [], map, slice_get, slice_index_or, length, nat_le, Option, Some, None, Result, Ok, Err, MatchResult, if◌then◌else◌}
 use Rattle.std.specs.Str.{bytes_eq}
 use denote.Ref.{Bor}
 use Rattle.tools.specs.LineSets.{Word, ended}
@@ -16,6 +16,10 @@ abbrev pub ◌>>=◌ : {A B : Type 0} → Result A ℕ → (A → Result B ℕ) 
 abbrev pub FaultIs : {A : Type 0} → Result A ℕ → LineFault → Type 0
 FaultIs r (line_fault.Word k) = r ≡ Err k
 FaultIs r line_fault.Memory = ⊤
+
+-- what is read is given, or a fault
+abbrev pub Gives : {A : Type 0} → Result A ℕ → Result A LineFault → Type 0
+Gives r result = MatchResult result (λ a. r ≡ Ok a) (FaultIs r)
 
 -- the words as lists
 abbrev pub texts : List (Bor Word) → List Word

@@ -12,9 +12,10 @@ abbrev pub whole_lines : List ℕ → List (List ℕ)
 whole_lines [] = []
 whole_lines (b ∷ bs) = if b == 10 then [] ∷ whole_lines bs else onto_first b (whole_lines bs)
 
--- no place has it
+-- what would be asked for at a place, of which there is none
 abbrev pub no_transfer : TransferView
 no_transfer = record { bus = 0; kind = Plain; force = false; msgs = []; out = [] }
 
+-- what it says to the bus
 abbrev pub says : List (List ℕ) → Dialogue
 says lines = record { places = 0; at = λ k. no_transfer; skips = λ k r. 0; lines = λ rs. lines; most = length (flat_map ended lines) }

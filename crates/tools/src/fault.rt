@@ -34,3 +34,13 @@ impl From<NoMemory> for LineFault {
         LineFault::Memory
     }
 }
+
+impl From<WordRefused> for LineFault {
+    ghost use Rattle.tools.specs.declared.fault.LineFault.TheVariants.{Word as RefusedWord};
+
+    ghost from_gives = { λ w e. e ≡ RefusedWord w };
+
+    fn from(refused: WordRefused) -> Self {
+        LineFault::Word(refused.0)
+    }
+}

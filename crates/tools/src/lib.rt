@@ -10,7 +10,8 @@
 //!   (`the_refused_word_is_behind_the_longest_front`). `read_line` keeps no more words than the longest line has, and one,
 //!   and these decide (`the_first_words_decide`).
 //! - Commands. A `ToolRun` is a command as it runs, with what the board says of it (`run_of` of `specs/Commands.antt`, which
-//!   has a row for each command, whose own definitions are a file beside it). It has one of a few forms, and each form is a
+//!   has a row for each command, whose own definitions are a file beside it: `specs/Gets.antt` of `i2cget`, `specs/Sets.antt` of
+//!   `i2cset`, `specs/Combined.antt` of `i2ctransfer`, `specs/Detects.antt` of `i2cdetect`). It has one of a few forms, and each form is a
 //!   dialogue (`dialogue_of` of `specs/Runs.antt`): places with a transfer each, where it goes on behind a reply, the lines
 //!   that it prints, and the room for them (`specs/Dialogues.antt`). Its caller keeps its place and its replies.
 //!   `specs/Values.antt` tells how values are printed.
@@ -24,6 +25,7 @@ mod examples;
 mod fault;
 mod laws;
 mod line;
+mod lists;
 mod number;
 mod options;
 mod reader;
@@ -36,10 +38,13 @@ mod words;
 
 pub use command::Cmd;
 pub use examples::{
-    a_block_is_printed_without_its_count, a_line_that_is_too_long_is_refused_behind_the_longest,
-    a_word_is_printed_high_byte_first, a_wrong_code_is_told_with_the_right_one,
-    an_error_ends_a_command, the_buses_are_listed_by_number,
-    the_number_is_sent_and_a_byte_is_received,
+    a_block_ends_at_its_limit, a_block_is_printed_without_its_count,
+    a_line_that_is_too_long_is_refused_behind_the_longest, a_mode_tells_the_values,
+    a_suffix_tells_the_bytes_behind_it, a_word_is_printed_high_byte_first,
+    a_wrong_code_is_told_with_the_right_one, an_address_holds_until_the_next,
+    an_error_ends_a_command, each_read_has_a_line, messages_end_at_their_limits,
+    the_buses_are_listed_by_number, the_number_is_sent_and_a_byte_is_received,
+    writes_alone_are_told_to_be_done,
 };
 pub use fault::LineFault;
 pub use laws::{
@@ -47,6 +52,7 @@ pub use laws::{
     the_refused_word_is_behind_the_longest_front,
 };
 pub use line::read_line;
+pub use lists::{Desc, DescOp, Descs, Octets, Words};
 pub use replies::{Window, most_brought};
 pub use run::ToolRun;
 pub use split::{cut_line, is_joined, push_echo};

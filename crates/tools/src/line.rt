@@ -3,12 +3,12 @@
 ghost use Rattle.std.specs.Prelude.{◌≡◌, ◌+◌, ◌≤◌, length, Ok, MatchResult};
 ghost use Rattle.tools.specs.Commands.{MOST_WORDS};
 ghost use Rattle.tools.specs.Lines.{is_command, line_read};
-ghost use Rattle.tools.specs.Splits.{words_of};
 ghost use Rattle.tools.specs.Readers.{texts, FaultIs};
 
 use crate::command::{Cmd, MOST_WORDS, read_command};
-use crate::fault::{LineFault, WordRefused};
+use crate::fault::LineFault;
 use crate::split::split_front;
+use std::alloc::Global;
 
 // The words are a command: there are some, and the first doesn't begin with `#`.
 fn is_command(words: &[&[u8]]) -> bool
@@ -25,12 +25,15 @@ fn is_command(words: &[&[u8]]) -> bool
 
 /// Reads a line of a script: none where it is empty or a comment. `words` is room for its words, and `limit` the block
 /// limit of the board, 1 to 255 bytes. No more words are kept than the longest line of the grammar has, and one, by which
-/// it is seen that a line is too long; so a longer line takes no more memory.
+/// it is seen that a line is too long; so a longer line takes no more memory. The lists of the command are taken from
+/// `alloc`.
 pub fn read_line<'a>(
+    alloc: Global,
     words: &mut Vec<&'a [u8]>,
     line: &'a [u8],
     limit: u8,
 ) -> Result<Option<Cmd>, LineFault>
+    requires { 1 ≤ limit }
     ensures read { MatchResult result (λ o. line_read limit line.now ≡ Ok o) (FaultIs (line_read limit line.now)) }
     ensures kept { length words.new.items ≤ MOST_WORDS + 1 }
 {
@@ -39,8 +42,8 @@ pub fn read_line<'a>(
     if !is_command(words) {
         return Ok(None);
     }
-    match read_command(words, limit) {
+    match read_command(alloc, words, limit) {
         Ok(command) => Ok(Some(command)),
-        Err(refused) => Err(LineFault::Word(refused.0)),
+        Err(fault) => Err(fault),
     }
 }

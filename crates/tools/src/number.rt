@@ -1,8 +1,7 @@
 //! Numbers in words: decimal, or `0x` and hexadecimal digits.
 
-ghost use Rattle.std.specs.Prelude.{◌≡◌, ℕ, ◌<◌, ◌≤◌, ◌&&◌, drop, length, Some, IfSome};
-ghost use Rattle.std.specs.Fmt.{decimal};
-ghost use Rattle.tools.specs.Numbers.{decimal_digit, hexadecimal_digit, digit_of, base_of, digits_on, within, number_of, number_in, is_hexadecimal, is_decimal};
+ghost use Rattle.std.specs.Prelude.{◌≡◌, ◌<◌, ◌≤◌, ◌&&◌, drop, length, Some, IfSome};
+ghost use Rattle.tools.specs.Numbers.{decimal_digit, hexadecimal_digit, digit_of, digits_on, within, number_of, number_in, is_hexadecimal, is_decimal};
 
 /// The largest number of a script.
 const LARGEST: u32 = 65535;

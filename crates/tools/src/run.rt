@@ -11,6 +11,7 @@ ghost use Rattle.tools.specs.Runs.{dialogue_of};
 pub(crate) mod call;
 pub(crate) mod chain;
 pub(crate) mod lines;
+pub(crate) mod messages;
 
 use crate::command::{Cmd, run_of};
 use crate::replies::Window;
@@ -20,6 +21,7 @@ use chain::{Chain, skips};
 use i2c_base::{NoMemory, ReplyHead, Transfer};
 use i2c_board::Accepted;
 use lines::Lines;
+use messages::Messages;
 use std::alloc::Global;
 
 /// A command as it runs: what the board's answers leave of it. How far it has come, and the replies, are its caller's.
@@ -31,12 +33,14 @@ pub enum ToolRun {
     Calls(HeldCall),
     /// Sends a byte, then receives one, and prints that.
     Chains(Chain),
+    /// Makes one plain transfer, and prints what its messages read.
+    Transfers(Messages),
 }
 
 impl ToolRun {
     /// A command that begins over a board.
     pub fn open(alloc: Global, board: &Accepted, cmd: Cmd) -> Result<Self, NoMemory>
-        requires { IsInRange cmd }
+        requires { (limit : ℕ) × IsInRange limit cmd }
         ensures { IfOk result (λ r. r ≡ run_of board.now cmd) }
     {
         run_of(alloc, board.board(), cmd)
@@ -51,6 +55,7 @@ impl ToolRun {
             ToolRun::Says(_) => 0,
             ToolRun::Calls(_) => 1,
             ToolRun::Chains(_) => 2,
+            ToolRun::Transfers(_) => 1,
         }
     }
 
@@ -63,6 +68,7 @@ impl ToolRun {
             ToolRun::Says(_) => {}
             ToolRun::Calls(call) => call.put(transfer),
             ToolRun::Chains(chain) => chain.put(place, transfer),
+            ToolRun::Transfers(messages) => messages.put(transfer),
         }
     }
 
@@ -75,6 +81,7 @@ impl ToolRun {
             ToolRun::Says(_) => 0,
             ToolRun::Calls(_) => 0,
             ToolRun::Chains(_) => skips(head),
+            ToolRun::Transfers(_) => 0,
         };
         place + 1 + skips
     }
@@ -90,6 +97,7 @@ impl ToolRun {
             ToolRun::Says(lines) => lines.print(out),
             ToolRun::Calls(call) => call.print(replies, out),
             ToolRun::Chains(chain) => chain.print(replies, out),
+            ToolRun::Transfers(messages) => messages.print(replies, out),
         }
     }
 
@@ -101,6 +109,7 @@ impl ToolRun {
             ToolRun::Says(lines) => lines.size(),
             ToolRun::Calls(call) => call.most(),
             ToolRun::Chains(_) => MOST_CHAINED,
+            ToolRun::Transfers(messages) => messages.most(),
         }
     }
 }

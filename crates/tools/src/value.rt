@@ -99,11 +99,12 @@ fn push_spaced_words(out: &mut Text, bytes: &[u8])
     }
 }
 
-// Puts bytes as words at the end, with a space between each two.
-fn push_byte_words(out: &mut Text, bytes: &[u8])
+/// Puts bytes as words at the end, with a space between each two, so that some leave room for the end of their line.
+pub fn push_byte_words(out: &mut Text, bytes: &[u8])
     requires { 5 * length bytes.now ≤ out.old.room }
     ensures bytes { out.new.bytes ≡ out.old.bytes ++ byte_words bytes.now }
     ensures room { out.old.room ≤ out.new.room + 5 * length bytes.now }
+    ensures spare { 1 ≤ length bytes.now → out.old.room + 1 ≤ out.new.room + 5 * length bytes.now }
 {
     if let Some((first, rest)) = bytes.split_first() {
         push_word(out, *first);

@@ -13,8 +13,8 @@ pub trait Gap {
         ensures { result ≡ gaps byte };
 }
 
-// How many bytes stand before the first gap.
-fn gap_at<G: Gap>(text: &[u8]) -> usize
+/// How many bytes stand before the first gap.
+pub(crate) fn gap_at<G: Gap>(text: &[u8]) -> usize
     ensures value { result ≡ gap_at G.gaps text.now }
     ensures within { result ≤ length text.now }
 {

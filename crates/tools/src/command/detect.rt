@@ -1,7 +1,6 @@
 //! `i2cdetect`: its line, and the list of the buses.
 
 ghost use Rattle.std.specs.Prelude.{◌≡◌, ◌<◌, ◌++◌, IfOk, OnOk};
-ghost use Rattle.std.specs.Option.{option_map};
 ghost use Rattle.i2c_spec.specs.Tree.{buses};
 ghost use Rattle.tools.specs.Detects.{detect_words, way_text, bus_line, bus_lines};
 ghost use Rattle.tools.specs.Grammars.{read_at};

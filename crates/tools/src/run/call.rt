@@ -1,19 +1,19 @@
 //! SMBus calls that are kept until their turn, and what is printed of the reply to one.
 
-ghost use Rattle.std.specs.Prelude.{◌≡◌, ◌+◌, ◌*◌, ◌≤◌, ◌++◌};
+ghost use Rattle.std.specs.Prelude.{◌≡◌, ◌+◌, ◌*◌, ◌≤◌, ◌++◌, length};
 ghost use Rattle.std.specs.List.{flat_map};
 ghost use Rattle.bus_journal.specs.Reports.{ended};
 ghost use Rattle.i2c_base.specs.Fitting.{Fits};
-ghost use Rattle.i2c_base.specs.Limits.{I2C_BLOCK_LIMIT};
 ghost use Rattle.i2c_base.specs.Replies.{reply_by};
 ghost use Rattle.smb_emul.specs.Calls.{HasBlock, IsBlockLength, messages_of_call};
-ghost use Rattle.tools.specs.Calls.{call_to, held_call, smb_op, block_most, calls, call_text, text_most};
+ghost use Rattle.tools.specs.Calls.{DoesTheSame, call_to, held_call, smb_op, block_most, calls, call_text, text_most};
 ghost use Rattle.tools.specs.Dialogues.{AreReplies};
 
+use crate::lists::Octets;
 use crate::replies::Window;
 use crate::text::Text;
 use crate::value::{MOST_BESIDE, push_errno, push_outcome};
-use i2c_base::{Addr, LARGEST_BLOCK, ReplyHead, Transfer};
+use i2c_base::{Addr, I2C_BLOCK_LIMIT, LARGEST_BLOCK, ReplyHead, Transfer};
 use smb_emul::{SmbCall, SmbOp, put_messages, value_read};
 use std::marker::Model;
 
@@ -62,6 +62,7 @@ impl Model for BlockLen {
 }
 
 impl BlockLen {
+    /// So many bytes.
     pub fn new(bytes: u8) -> Self
         requires { IsBlockLength I2C_BLOCK_LIMIT bytes }
         ensures { result ≡ bytes }
@@ -77,10 +78,48 @@ impl BlockLen {
     }
 }
 
+/// The bytes of a block that is written, 1 to `MOST` of them. A contract sees the list.
+#[derive(Drop)]
+pub struct HeldBlock<const MOST: u8> {
+    bytes: Octets,
+}
+
+impl<const MOST: u8> Model for HeldBlock<MOST> {
+    ghost use Rattle.std.specs.Prelude.{ℕ, List, length};
+    ghost use Rattle.smb_emul.specs.Calls.{IsBlockLength};
+
+    ghost Value = { List ℕ };
+
+    ghost view = { λ b. b.bytes };
+
+    ghost invariant = { λ b. IsBlockLength MOST (length b.bytes) };
+}
+
+impl<const MOST: u8> HeldBlock<MOST> {
+    pub fn new(bytes: Octets) -> Self
+        requires { IsBlockLength MOST (length bytes) }
+        ensures { result ≡ bytes }
+    {
+        HeldBlock { bytes }
+    }
+
+    fn as_slice(&self) -> &[u8]
+        ensures value { result.now ≡ self.now }
+        ensures length { IsBlockLength MOST (length result.now) }
+    {
+        self.bytes.as_slice()
+    }
+}
+
 /// What a call does.
 #[derive(Drop)]
 pub enum HeldOp {
+    SendByte(u8),
     ReceiveByte,
+    WriteByte(u8, u8),
+    WriteWord(u8, u16),
+    BlockWrite(u8, HeldBlock<LARGEST_BLOCK>),
+    I2cBlockWrite(u8, HeldBlock<I2C_BLOCK_LIMIT>),
     ReadByte(u8),
     ReadWord(u8),
     BlockRead(u8),
@@ -90,11 +129,16 @@ pub enum HeldOp {
 impl HeldOp {
     // The same, as it goes into a call.
     fn lend(&self) -> SmbOp<'_>
-        ensures value { result ≡ smb_op self.now }
+        ensures same { DoesTheSame result (smb_op self.now) }
         ensures block { HasBlock result }
     {
         match self {
+            HeldOp::SendByte(byte) => SmbOp::SendByte(*byte),
             HeldOp::ReceiveByte => SmbOp::ReceiveByte,
+            HeldOp::WriteByte(reg, byte) => SmbOp::WriteByte(*reg, *byte),
+            HeldOp::WriteWord(reg, word) => SmbOp::WriteWord(*reg, *word),
+            HeldOp::BlockWrite(reg, block) => SmbOp::BlockWrite(*reg, block.as_slice()),
+            HeldOp::I2cBlockWrite(reg, block) => SmbOp::I2cBlockWrite(*reg, block.as_slice()),
             HeldOp::ReadByte(reg) => SmbOp::ReadByte(*reg),
             HeldOp::ReadWord(reg) => SmbOp::ReadWord(*reg),
             HeldOp::BlockRead(reg) => SmbOp::BlockRead(*reg),

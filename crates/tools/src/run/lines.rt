@@ -29,6 +29,7 @@ impl Model for Lines {
 }
 
 impl Lines {
+    /// None yet.
     pub fn new(alloc: Global) -> Self
         ensures { result ≡ [] }
     {

@@ -1,9 +1,9 @@
-use Rattle.std.proofs.Common.{◌≡◌, ◌+◌, true, take, sym, ◌∙◌}
+use Rattle.std.proofs.Common.{◌≡◌, ◌+◌, true, take}
 use Rattle.tools.specs.Commands.{MOST_WORDS}
 use Rattle.tools.specs.Lines.{is_command}
 use Rattle.tools.specs.Splits.{words_of}
 use Rattle.tools.specs.Readers.{texts}
-use Rattle.tools.proofs.LineLemmas.{command_read, command_refused}
+use Rattle.tools.proofs.LineLemmas.{command_read, command_faulty}
 use Rattle.tools.proofs.line.read_line.Goals as goal
 
 pub returns-in-Ok-clause-read : goal.returns-in-Ok-clause-read
@@ -12,8 +12,8 @@ returns-in-Ok-clause-read c =
     (c.as_slice-words.ensures.value, c.in_ok-split_front.ensures.split) in
     let is : is_command (texts c.as_slice-words.result.now) ≡ true = cc
     c.if-not-is_command.ensures in
-    command_read c.args.limit c.args.line.now (texts c.as_slice-words.result.now) c.in-Ok.command same is (sym c.read_command.ensures
-    ∙ c.in-Ok.is)
+    command_read c.args.limit c.args.line.now (texts c.as_slice-words.result.now) c.in-Ok.command same is
+    (rw c.in-Ok.is at c.read_command.ensures)
 
 pub returns-in-Err-clause-read : goal.returns-in-Err-clause-read
 returns-in-Err-clause-read c =
@@ -21,6 +21,5 @@ returns-in-Err-clause-read c =
     (c.as_slice-words.ensures.value, c.in_ok-split_front.ensures.split) in
     let is : is_command (texts c.as_slice-words.result.now) ≡ true = cc
     c.if-not-is_command.ensures in
-    let place : c.in-Err.refused ≡ c.refused.inside.0 = sym c.refused.view_is in
-    rw (← place) (command_refused c.args.limit c.args.line.now (texts c.as_slice-words.result.now) c.in-Err.refused same is
-    (sym c.read_command.ensures ∙ c.in-Err.is))
+    command_faulty c.args.limit c.args.line.now (texts c.as_slice-words.result.now) c.in-Err.fault same is
+    (rw c.in-Err.is at c.read_command.ensures)

@@ -1,0 +1,6 @@
+use Rattle.std.proofs.Common.{◌≡◌, ◌++◌, ◌-◌}
+use Rattle.tools.specs.Combined.{counted}
+use Rattle.tools.proofs.command.transfer.push_counted.Given as goal
+
+abbrev pub invariant-loop : goal.invariant-loop
+invariant-loop l = l.bytes ++ counted (l.count - l.counter) l.byte l.step ≡ l.fn.bytes ++ counted l.count l.first l.step

@@ -1,0 +1,9 @@
+use Rattle.std.proofs.Common.{refl}
+use Rattle.tools.specs.Commands.{grammar}
+use Rattle.tools.specs.Options.{force_and_yes}
+use Rattle.tools.specs.Sets.{set_words, set_bus, set_reg, set_values, set_number, set_byte, set_block}
+use Rattle.tools.proofs.examples.a_block_ends_at_its_limit.Goals as goal
+
+pub returns : goal.returns
+unfolding grammar force_and_yes set_words set_bus set_reg set_values set_number set_byte set_block
+returns c = record { small = refl; large = refl; short = refl }

@@ -1,0 +1,9 @@
+use Rattle.std.proofs.Common.{refl}
+use Rattle.tools.specs.Combined.{combined_words, combined_bus, descs, data_words, counted}
+use Rattle.tools.specs.Commands.{grammar}
+use Rattle.tools.specs.Options.{force_and_yes}
+use Rattle.tools.proofs.examples.an_address_holds_until_the_next.Goals as goal
+
+pub returns : goal.returns
+unfolding combined_words combined_bus descs data_words counted grammar force_and_yes
+returns c = record { missing = refl; held = refl; none = refl }
