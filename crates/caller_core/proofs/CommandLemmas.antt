@@ -22,20 +22,22 @@ pub record IsSpoken (c : CommandView) : Type 0 where
   pub asks : AsksWithin c.run
   pub lines : HasSectionLines c.run
 
-spoken : (b : BoardView) (line : List ℕ) (c : Cmd) → IsInRange c → IsSpoken (command_of b line c)
-spoken b line c range = record { asks = asks b c range; lines = answers b c }
+spoken : (b : BoardView) (limit : ℕ) (line : List ℕ) (c : Cmd) → IsInRange limit c → IsSpoken (command_of b line c)
+spoken b limit line c range = record { asks = asks b limit c range; lines = answers b c }
 
 -- a line is read only as what a line of the grammar means
-some_in_range : (c : Cmd) (r : Result Cmd ℕ) → ((d : Cmd) → r ≡ Ok d → IsInRange d) → some_command r ≡ Ok (Some c) → IsInRange c
-some_in_range c (Err k) h e = absurd cc
-some_in_range c (Ok d) h e = let same : d ≡ c = cc in subst IsInRange same (h d refl)
+some_in_range : (limit : ℕ) (c : Cmd) (r : Result Cmd ℕ) → ((d : Cmd) → r ≡ Ok d → IsInRange limit d) → some_command r ≡ Ok (Some c)
+    → IsInRange limit c
+some_in_range limit c (Err k) h e = absurd cc
+some_in_range limit c (Ok d) h e = let same : d ≡ c = cc in subst (IsInRange limit) same (h d refl)
 
-line_in_range : (limit : ℕ) (line : List ℕ) (c : Cmd) → line_read limit line ≡ Ok (Some c) → IsInRange c
+line_in_range : (limit : ℕ) (line : List ℕ) (c : Cmd) → line_read limit line ≡ Ok (Some c) → IsInRange limit c
 line_in_range limit line c =
     let ws : List Word = words_of line in
-    elim (is_command ws) as (λ b. cond b (some_command (follow_words (script_lines limit) 0 ws)) (Ok None) ≡ Ok (Some c) → IsInRange c) [
+    elim (is_command ws) as (λ b. cond b (some_command (follow_words (script_lines limit) 0 ws)) (Ok None) ≡ Ok (Some c)
+    → IsInRange limit c) [
       | false ↦ λ e. absurd cc
-      | true ↦ λ e. some_in_range c (follow_words (script_lines limit) 0 ws)
+      | true ↦ λ e. some_in_range limit c (follow_words (script_lines limit) 0 ws)
           (λ d h. means_in_range limit ws d ((reads_lines limit ws d).0 h)) e
     ]
 
@@ -45,37 +47,39 @@ pub record AreRead (count : ℕ) (cs : List CommandView) : Type 0 where
   pub most : count ≤ 1000 → count + length cs ≤ 1000
 
 -- a command behind so many others
-record IsNext (count : ℕ) (c : Cmd) : Type 0 where
-  fits : IsInRange c
+record IsNext (limit count : ℕ) (c : Cmd) : Type 0 where
+  fits : IsInRange limit c
   room : count < 1000
 
-next_of : (count : ℕ) (c : Cmd) (r : Result (Option Cmd) ℕ) → ((d : Cmd) → r ≡ Ok (Some d) → IsInRange d) → at_most count r ≡ Ok (Some c)
-    → IsNext count c
-next_of count c (Ok None) h e = absurd cc
-next_of count c (Ok (Some d)) h e =
+next_of : (limit count : ℕ) (c : Cmd) (r : Result (Option Cmd) ℕ) → ((d : Cmd) → r ≡ Ok (Some d) → IsInRange limit d)
+    → at_most count r ≡ Ok (Some c) → IsNext limit count c
+next_of limit count c (Ok None) h e = absurd cc
+next_of limit count c (Ok (Some d)) h e =
     let past : Result (Option Cmd) ℕ = Err 0 in
-    (elim (nat_le 1000 count) as (λ b. nat_le 1000 count ≡ b → cond b past (Ok (Some d)) ≡ Ok (Some c) → IsNext count c) [
+    (elim (nat_le 1000 count) as (λ b. nat_le 1000 count ≡ b → cond b past (Ok (Some d)) ≡ Ok (Some c)
+    → IsNext limit count c) [
       | true ↦ λ full k. absurd cc
-      | false ↦ λ full k. let same : d ≡ c = cc in record { fits = subst IsInRange same (h d refl); room = grind (arith, nat_tests) }
+      | false ↦ λ full k. let same : d ≡ c = cc in record { fits = subst (IsInRange limit) same (h d refl); room = grind (arith, nat_tests) }
     ]) refl e
-next_of count c (Err word) h e =
+next_of limit count c (Err word) h e =
     let past : Result (Option Cmd) ℕ = Err 0 in
     (elim (nat_le 1000 count) as (λ b. cond b past (Err word) ≡ Ok (Some c)
-    → IsNext count c) [ true ↦ λ k. absurd cc | false ↦ λ k. absurd cc ]) e
+    → IsNext limit count c) [ true ↦ λ k. absurd cc | false ↦ λ k. absurd cc ]) e
 
 -- a command that is read behind others is in range
-pub read_in_range : (count limit : ℕ) (line : List ℕ) (c : Cmd) → at_most count (line_read limit line) ≡ Ok (Some c) → IsInRange c
-read_in_range count limit line c e = (next_of count c (line_read limit line) (line_in_range limit line) e).fits
+pub read_in_range : (count limit : ℕ) (line : List ℕ) (c : Cmd) → at_most count (line_read limit line) ≡ Ok (Some c)
+    → IsInRange limit c
+read_in_range count limit line c e = (next_of limit count c (line_read limit line) (line_in_range limit line) e).fits
 
-behind_one : (b : BoardView) (count : ℕ) (line : List ℕ) (c : Cmd) (more : Result (List CommandView) Place) (cs : List CommandView)
-    → IsNext count c
+behind_one : (b : BoardView) (limit count : ℕ) (line : List ℕ) (c : Cmd) (more : Result (List CommandView) Place) (cs : List CommandView)
+    → IsNext limit count c
     → ((ds : List CommandView) → more ≡ Ok ds → AreRead (count + 1) ds) → behind_commands (command_of b line c ∷ []) more ≡ Ok cs
     → AreRead count cs
-behind_one b count line c (Err p) cs n h e = absurd cc
-behind_one b count line c (Ok ds) cs n h e =
+behind_one b limit count line c (Err p) cs n h e = absurd cc
+behind_one b limit count line c (Ok ds) cs n h e =
     let rest : AreRead (count + 1) ds = h ds refl in
     let same : command_of b line c ∷ ds ≡ cs = cc in
-    let all : All IsSpoken (command_of b line c ∷ ds) = All-cons IsSpoken (command_of b line c) ds (spoken b line c n.fits) rest.fits in
+    let all : All IsSpoken (command_of b line c ∷ ds) = All-cons IsSpoken (command_of b line c) ds (spoken b limit line c n.fits) rest.fits in
     subst (λ (xs : List CommandView). AreRead count xs) same
     (record { fits = all; most = λ m. let k : count + 1 + length ds ≤ 1000 = rest.most (omega (arith, n.room)) in omega arith })
 
@@ -93,8 +97,8 @@ lines_are_read b number count (l ∷ ls) cs e =
           → behind_line_read b number l (Ok v) (lines_read b (number + 1) count ls) (lines_read b (number + 1) (count + 1) ls) ≡ Ok cs
           → AreRead count cs) [
             | None ↦ λ h k. lines_are_read b (number + 1) count ls cs k
-            | Some c ↦ λ h k. behind_one b count l c (lines_read b (number + 1) (count + 1) ls) cs
-                (next_of count c (line_read (block_limit b) l) (line_in_range (block_limit b) l) h)
+            | Some c ↦ λ h k. behind_one b (block_limit b) count l c (lines_read b (number + 1) (count + 1) ls) cs
+                (next_of (block_limit b) count c (line_read (block_limit b) l) (line_in_range (block_limit b) l) h)
                 (lines_are_read b (number + 1) (count + 1) ls) k
           ])
     ]) refl e

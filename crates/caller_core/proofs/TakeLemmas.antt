@@ -91,6 +91,11 @@ module _ (script : ScriptView) (cs : List CommandView) (taken : PackedView Reply
             );
       }
 
+  -- its bytes have room
+  pub has_room : IsTaking cs before turn printed.room r → (bytes : List ℕ) → bytes ≡ bytes_given r → length bytes ≤ taken.room_bytes
+  has_room k bytes these =
+      omega (arith, ap length these, k.few, is.room_bytes, sum_falls most_brought cs before r k.transfer k.next)
+
   module _ (k : IsTaking cs before turn printed.room r) (c : CommandView) (there : slice_get cs turn ≡ Some c) where
     fits_here : Fits ((talk c).at place) r
     fits_here =

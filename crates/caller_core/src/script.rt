@@ -53,15 +53,17 @@ fn fault_at(fault: LineFault, line: u32) -> ScriptFault
 
 // Reads a line behind so many commands, over a board with this block limit. One more than the most is refused at its first word.
 fn read_behind<'a>(
+    alloc: Global,
     words: &mut Vec<&'a [u8]>,
     line: &'a [u8],
     limit: u8,
     count: usize,
 ) -> Result<Option<Cmd>, LineFault>
+    requires { 1 ≤ limit }
     ensures { MatchResult result (λ o. at_most count (line_read limit line.now) ≡ Ok o) (FaultIs (at_most count (line_read limit line.now))) }
 {
     let is_full = count >= MOST_COMMANDS;
-    match read_line(words, line, limit) {
+    match read_line(alloc, words, line, limit) {
         Ok(None) => Ok(None),
         Ok(Some(_)) | Err(LineFault::Word(_)) if is_full => Err(LineFault::Word(0)),
         read => read,
@@ -102,7 +104,7 @@ fn take_line<'a>(
     ensures err { IfErr result (IsRefused board.now number commands.old line.now) }
 {
     let limit = board.board().limit();
-    match read_behind(words, line, limit, commands.len()) {
+    match read_behind(alloc, words, line, limit, commands.len()) {
         Err(fault) => Err(fault_at(fault, number)),
         Ok(None) => Ok(()),
         Ok(Some(cmd)) => {
