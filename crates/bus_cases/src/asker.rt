@@ -19,7 +19,8 @@ fn transfer_at(alloc: Global, line: &str, board: &Accepted, place: u16) -> Optio
     each_line_is_read();
     each_field_is_in_range();
     let limit = board.board().limit();
-    let Ok(Some(command)) = read_line(&mut Vec::new(alloc), line.as_bytes(), limit) else {
+    let mut words = Vec::new(alloc);
+    let Ok(Some(command)) = read_line(alloc, &mut words, line.as_bytes(), limit) else {
         return None;
     };
     let run = ToolRun::open(alloc, board, command).ok()?;

@@ -32,10 +32,11 @@
 //! - `tree BOARD:` questions on the tree of a board of `data/` (`trees::answer_all`)
 //! - `wires BOARD:` events on the wires of its first root (`wires::answer_all`)
 //! - `flat BOARD:` transfers in the flat world, with a semicolon between them (`transfers::answer_all`)
+//! - `line LIMIT:` lines of a script over a board with this block limit, with a semicolon between them (`lines::answer_all`)
 //!
 //! Lines that are empty or begin with `#` are for the reader. The file `stdout` has what is due, by hand: the answers of
 //! chips by the data sheets of NXP, of trees by Linux i2c-topology, of wires by UM10204 section 3.1, of transfers by SMBus
-//! 3.2, Linux fault-codes and the tables of the devices. The journals of calls that fail one by one, and of several
+//! 3.2, Linux fault-codes and the tables of the devices, of lines by docs/manual/scripts.md. The journals of calls that fail one by one, and of several
 //! callers, are those of a model of the rules apart from the program. None is taken from what the program printed.
 #![tactic(auto)]
 
@@ -47,6 +48,7 @@ mod chips;
 mod devices;
 mod entries;
 mod interleavings;
+mod lines;
 mod mute;
 mod page;
 mod show;
