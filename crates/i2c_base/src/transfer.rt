@@ -3,7 +3,7 @@ ghost use Rattle.std.specs.Prelude.{◌≡◌, ◌+◌, ◌^◌, ◌<◌, ◌≤
 ghost use Rattle.arrayvec.specs.ArrayVec.{array_vec_len};
 ghost use Rattle.i2c_base.specs.Bytes.{AreBytes};
 ghost use Rattle.i2c_base.specs.Limits as limits;
-ghost use Rattle.i2c_base.specs.Transfer.{HasRoom, size_of, counted_read};
+ghost use Rattle.i2c_base.specs.Transfer.{HasRoom, counted_read};
 
 use crate::limits::{MOST_BYTES, MOST_LENGTH, MOST_MESSAGES};
 use crate::{Addr, MsgFlags};
@@ -77,23 +77,26 @@ pub struct Transfer {
     bus: u16,
     kind: Kind,
     force: bool,
+    /// The sum of the sizes of its messages.
+    size: u16,
     msgs: ArrayVec<Msg, MOST_MESSAGES>,
     out: ArrayVec<u8, MOST_BYTES>,
 }
 
 impl Model for Transfer {
-    ghost use Rattle.i2c_base.specs.Transfer.{TransferView, IsTransfer};
+    ghost use Rattle.std.specs.Prelude.{◌≡◌, sum_by};
+    ghost use Rattle.i2c_base.specs.Transfer.{TransferView, IsTransfer, size_of};
 
     ghost Value = { TransferView };
 
     ghost view = { λ t. record { bus = t.bus; kind = t.kind; force = t.force; msgs = t.msgs.items; out = t.out.items } };
 
-    ghost invariant = { λ t. IsTransfer t.msgs.items t.out.items };
+    ghost invariant = { λ t. IsTransfer t.msgs.items t.out.items × (t.size ≡ sum_by size_of t.msgs.items) };
 }
 
 impl Transfer {
     ghost use Rattle.std.specs.List.{list_any};
-    ghost use Rattle.i2c_base.specs.Transfer.{HasRoom, IsTransfer, with_message, written, plain_read, counted_read, is_read, COUNTED_SIZE};
+    ghost use Rattle.i2c_base.specs.Transfer.{HasRoom, IsMessage, IsTransfer, with_message, written, plain_read, counted_read, is_read, size_of, written_of, COUNTED_SIZE};
 
     /// A transfer with no message yet. With `force` it goes to devices that a driver is bound to as well.
     pub fn new(bus: u16, kind: Kind, force: bool) -> Self
@@ -103,6 +106,7 @@ impl Transfer {
             bus,
             kind,
             force,
+            size: 0,
             msgs: ArrayVec::new(),
             out: ArrayVec::new(),
         }
@@ -115,72 +119,88 @@ impl Transfer {
         self.bus = bus;
         self.kind = kind;
         self.force = force;
+        self.size = 0;
         self.msgs.clear();
         self.out.clear();
     }
 
     /// Adds a write of these bytes. It is too long where 42 messages are there, where it has more than 512
     /// bytes, or where the sum would pass 4,096; the transfer is then as it was.
-    #[tactic(auto, using(crate::proofs::TransferLemmas::written_size))]
     pub fn add_write(&mut self, addr: Addr, bytes: &[u8]) -> Result<(), TooLong>
         ensures fits { IsOk result ↔ HasRoom self.old.msgs (length bytes.now) (length bytes.now) }
         ensures ok { OnOk result (self.new ≡ with_message self.old (written addr (length bytes.now)) bytes.now) }
         ensures err { OnErr result (self.new ≡ self.old) }
     {
-        if !has_room(self.msgs.as_slice(), bytes.len(), bytes.len()) {
+        if !self.has_room(bytes.len(), bytes.len()) {
             return Err(TooLong);
         }
-        let len = bytes.len() as u16;
-        append(
-            &mut self.msgs,
-            &mut self.out,
-            Msg {
-                addr,
-                flags: MsgFlags::empty(),
-                len,
-            },
-            bytes,
-        );
+        let msg = Msg {
+            addr,
+            flags: MsgFlags::empty(),
+            len: bytes.len() as u16,
+        };
+        self.add(msg, bytes);
         Ok(())
     }
 
     /// Adds a read of `len` bytes. It is too long where it has none, and else as a write is.
-    #[tactic(auto, using(crate::proofs::TransferLemmas::written_size))]
     pub fn add_read(&mut self, addr: Addr, len: u16) -> Result<(), TooLong>
         ensures fits { IsOk result ↔ ((0 < len) × HasRoom self.old.msgs len len) }
         ensures ok { OnOk result (self.new ≡ with_message self.old (plain_read addr len) []) }
         ensures err { OnErr result (self.new ≡ self.old) }
     {
-        if len == 0 || !has_room(self.msgs.as_slice(), len as usize, len as usize) {
+        if len == 0 || !self.has_room(usize::from(len), usize::from(len)) {
             return Err(TooLong);
         }
-        append(
-            &mut self.msgs,
-            &mut self.out,
-            Msg {
-                addr,
-                flags: MsgFlags::READ,
-                len,
-            },
-            &[],
-        );
+        let msg = Msg {
+            addr,
+            flags: MsgFlags::READ,
+            len,
+        };
+        self.add(msg, &[]);
         Ok(())
     }
 
     /// Adds a counted read: the target's first byte says how many more come, and with `extra` one more follows
     /// (SMBus 3.2, Block Read). It stands for 258 bytes, and is too long as a write of these is.
-    #[tactic(auto, using(crate::proofs::TransferLemmas::written_size))]
     pub fn add_counted(&mut self, addr: Addr, extra: bool) -> Result<(), TooLong>
         ensures fits { IsOk result ↔ HasRoom self.old.msgs COUNTED_SIZE COUNTED_SIZE }
         ensures ok { OnOk result (self.new ≡ with_message self.old (counted_read addr extra) []) }
         ensures err { OnErr result (self.new ≡ self.old) }
     {
-        if !has_room(self.msgs.as_slice(), COUNTED_SIZE, COUNTED_SIZE) {
+        if !self.has_room(COUNTED_SIZE, COUNTED_SIZE) {
             return Err(TooLong);
         }
-        let msg = counted(addr, extra);
-        append(&mut self.msgs, &mut self.out, msg, &[]);
+        self.add(counted(addr, extra), &[]);
         Ok(())
+    }
+
+    // Whether one more message of this length and size is within the limits.
+    fn has_room(&self, len: usize, size: usize) -> bool
+        ensures { IsTrue result ↔ HasRoom self.now.msgs len size }
+    {
+        let left = MOST_BYTES - usize::from(self.size);
+        self.msgs.len() < MOST_MESSAGES && len <= MOST_LENGTH && size <= left
+    }
+
+    // Adds a message within the limits, and its bytes.
+    #[tactic(auto, using(crate::proofs::TransferLemmas::written_size))]
+    fn add(&mut self, msg: Msg, bytes: &[u8])
+        requires message { IsMessage msg }
+        requires written { length bytes.now ≡ written_of msg }
+        requires room { HasRoom self.old.msgs msg.len (size_of msg) }
+        ensures { self.new ≡ with_message self.old msg bytes.now }
+    {
+        self.size += msg.size() as u16;
+        append(&mut self.msgs, &mut self.out, msg, bytes);
+    }
+
+    /// How many bytes its messages stand for, all together.
+    pub fn size(&self) -> u16
+        ensures value { result ≡ sum_by size_of self.now.msgs }
+        ensures few { result ≤ limits.MOST_BYTES }
+    {
+        self.size
     }
 
     pub fn bus(&self) -> u16
@@ -227,15 +247,6 @@ impl Transfer {
 
 /// How many bytes a counted read stands for.
 const COUNTED_SIZE: usize = 258;
-
-// Whether one more message of this length and size is within the limits.
-fn has_room(msgs: &[Msg], len: usize, size_more: usize) -> bool
-    requires { sum_by size_of msgs.now ≤ limits.MOST_BYTES }
-    ensures { IsTrue result ↔ HasRoom msgs.now len size_more }
-{
-    let sum: usize = msgs.iter().map(Msg::size).sum();
-    msgs.len() < MOST_MESSAGES && len <= MOST_LENGTH && size_more <= MOST_BYTES - sum
-}
 
 // A counted read, which asks for one more byte with `extra`.
 fn counted(addr: Addr, extra: bool) -> Msg
