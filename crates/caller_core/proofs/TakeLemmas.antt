@@ -48,15 +48,14 @@ pub at_place : (cs : List CommandView) (place : ℕ) (c : CommandView) → place
     → slice_get cs place ≡ Some c
 at_place cs place c within is = slice_get-get_or cs place c within ∙ ap Some (sym is)
 
--- a reply to the transfer that is asked for, and room for what the commands left may print
-pub record IsTaking (cs : List CommandView) (rs : List Reply) (turn room : ℕ) (r : Reply) : Type 0 where
+-- a reply to the transfer that is asked for
+pub record IsTaking (cs : List CommandView) (rs : List Reply) (turn : ℕ) (r : Reply) : Type 0 where
   pub transfer : TransferView
   pub next : asked_at (progress cs rs) ≡ Some transfer
   pub fits : Fits transfer r
   pub few : length (bytes_given r) ≤ most_brought transfer
   pub count : length cs ≤ 1000
   pub within : turn < length cs
-  pub room_text : sum_by room_of (drop turn cs) ≤ room
 
 module _ (script : ScriptView) (cs : List CommandView) (taken : PackedView ReplyHead) (printed : TextView) (turn from place cost roots : ℕ)
     (r : Reply) (is : IsCaller script cs taken printed turn from place cost roots) where
@@ -65,16 +64,13 @@ module _ (script : ScriptView) (cs : List CommandView) (taken : PackedView Reply
 
   pub taking : (view : CallerView)
       → record { script = script; taken = before; spare = record { replies = taken.room; bytes = printed.room } } ≡ view
-      → (t : TransferView) × (asked_by view.script view.taken ≡ Some t) × Fits t r → Covers view.spare (owed_by view.script view.taken)
-      → IsTaking cs before turn printed.room r
-  taking view seen asked covers =
+      → (t : TransferView) × (asked_by view.script view.taken ≡ Some t) × Fits t r → IsTaking cs before turn r
+  taking view seen asked =
       let t : TransferView = asked.0 in
       let by_script : asked_at (progress (commands_of script) before) ≡ Some t = subst
       (λ (v : CallerView). asked_by v.script v.taken ≡ Some t) (sym seen) asked.1 in
       let next : asked_at (progress cs before) ≡ Some t = ap (λ xs. asked_at (progress xs before)) (sym is.whole) ∙ by_script in
       let ask : IsAsk t = asked_from cs before t (subst (All IsSpoken) is.whole (commands_are_read script).fits) next in
-      let covered : Covers (record { replies = taken.room; bytes = printed.room }) (owed_by script before) = subst
-      (λ (v : CallerView). Covers v.spare (owed_by v.script v.taken)) (sym seen) covers in
       record {
         transfer = t;
         next = next;
@@ -82,21 +78,14 @@ module _ (script : ScriptView) (cs : List CommandView) (taken : PackedView Reply
         few = brings_few t r ask.fits asked.2;
         count = omega (arith, commands_most script, ap length is.whole);
         within = turn_asked cs before turn from place t is.at next;
-        room_text =
-            omega (
-              arith,
-              covered.bytes,
-              ap (λ xs. sum_by room_of (progress xs before).left) is.whole,
-              ap (λ xs. sum_by room_of xs) is.at.left,
-            );
       }
 
   -- its bytes have room
-  pub has_room : IsTaking cs before turn printed.room r → (bytes : List ℕ) → bytes ≡ bytes_given r → length bytes ≤ taken.room_bytes
+  pub has_room : IsTaking cs before turn r → (bytes : List ℕ) → bytes ≡ bytes_given r → length bytes ≤ taken.room_bytes
   has_room k bytes these =
       omega (arith, ap length these, k.few, is.room_bytes, sum_falls most_brought cs before r k.transfer k.next)
 
-  module _ (k : IsTaking cs before turn printed.room r) (c : CommandView) (there : slice_get cs turn ≡ Some c) where
+  module _ (k : IsTaking cs before turn r) (c : CommandView) (there : slice_get cs turn ≡ Some c) where
     fits_here : Fits ((talk c).at place) r
     fits_here =
         let same : k.transfer ≡ (talk c).at place = transfer_same k.transfer ((talk c).at place)
@@ -150,6 +139,7 @@ module _ (script : ScriptView) (cs : List CommandView) (taken : PackedView Reply
                 (subst (λ n. IsAt cs (before ++ r ∷ []) turn from n) (sym to) at);
             room = room_then;
             room_bytes = bytes_then;
+            room_text = is.room_text;
             text = is.text ∙ sym (text_stays cs before turn from place c r is.at there no) ∙ ap (λ (xs : List Reply). section_text cs xs)
                 (sym now);
             cost_is = is.cost_is;
@@ -158,11 +148,11 @@ module _ (script : ScriptView) (cs : List CommandView) (taken : PackedView Reply
           }
 
       pub goes_on : (text : TextView) (next end to : ℕ) → next ≡ behind (talk c) place r → (talk c).places ≤ next → end ≡ length then.items
-          → to ≡ turn + 1 + quiet_front (drop (turn + 1) cs)
+          → to ≡ turn + 1 + quiet_front (drop (turn + 1) cs) → sum_by room_of (drop to cs) ≤ text.room
           → text.bytes ≡ (printed.bytes ++ command_text (record { command = c; replies = drop from (replies_of then.items) }))
           ++ quiet_text (drop (turn + 1) cs)
           → IsCaller script cs then text to end 0 cost roots
-      goes_on text next end to is_next past all is_to told =
+      goes_on text next end to is_next past all is_to enough told =
           let over : is_over (talk c) (behind (talk c) place r) ≡ true = ap (λ n. is_over (talk c) n) (sym is_next)
           ∙ over_past c next past in
           let last : end ≡ length (before ++ r ∷ []) = all ∙ sym (length-map then.items reply_of) ∙ ap length now in
@@ -178,6 +168,7 @@ module _ (script : ScriptView) (cs : List CommandView) (taken : PackedView Reply
                 (subst (λ n. IsAt cs (before ++ r ∷ []) (turn + 1 + quiet_front (drop (turn + 1) cs)) n 0) (sym last) at));
             room = room_then;
             room_bytes = bytes_then;
+            room_text = enough;
             text =
                 told
                 ∙ ap (λ (x : List Reply). (printed.bytes ++ command_text (record { command = c; replies = x }))
@@ -190,11 +181,11 @@ module _ (script : ScriptView) (cs : List CommandView) (taken : PackedView Reply
             roots_are = is.roots_are;
           }
 
--- a script with room for what the commands left may print has all the room that it needs
+-- a script has all the room that it needs
 pub covered : (script : ScriptView) (cs : List CommandView) (taken : PackedView ReplyHead) (printed : TextView) (turn from place cost
     roots : ℕ)
-    → IsCaller script cs taken printed turn from place cost roots → sum_by room_of (drop turn cs) ≤ printed.room
+    → IsCaller script cs taken printed turn from place cost roots
     → Covers (record { replies = taken.room; bytes = printed.room }) (owed_by script (replies_of taken.items))
-covered script cs taken printed turn from place cost roots is enough =
+covered script cs taken printed turn from place cost roots is =
     subst (λ xs. Covers (record { replies = taken.room; bytes = printed.room }) (need_at (progress xs (replies_of taken.items))))
-    (sym is.whole) (record { replies = is.room; bytes = omega (arith, enough, ap (λ xs. sum_by room_of xs) is.at.left) })
+    (sym is.whole) (record { replies = is.room; bytes = omega (arith, is.room_text, ap (λ xs. sum_by room_of xs) is.at.left) })

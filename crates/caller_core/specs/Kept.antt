@@ -1,12 +1,13 @@
 -- What a script keeps: where the words of each command stand, its replies, and how far it has come with them.
 use Rattle.std.specs.Prelude.{◌≡◌, ℕ, ◌+◌, ◌^◌, ◌≤◌, List, map, take, drop}
+use Rattle.std.specs.List.{sum_by}
 use Rattle.packed.specs.View.{PackedView}
 use Rattle.i2c_base.specs.declared.reply.ReplyHead.{ReplyHead}
 use Rattle.tools.specs.Replies.{replies_of, most_brought}
 use Rattle.tools.specs.View.{TextView}
 use Rattle.caller_core.specs.Turns.{progress, sum_left, IsAt}
 use Rattle.caller_core.specs.View.{CommandView, ScriptView}
-use Rattle.caller_core.specs.Scripts.{commands_of, cost_of_script, section_text}
+use Rattle.caller_core.specs.Scripts.{commands_of, cost_of_script, room_of, section_text}
 use Rattle.caller_core.specs.Roots.{HasRoots}
 use Rattle.caller_core.specs.declared.commands.Placed.{Placed}
 
@@ -23,15 +24,16 @@ commands_in echoes ps = map (command_in echoes) ps
 abbrev pub IsInside : ℕ → Placed → Type 0
 IsInside end p = p.start + p.len ≤ end
 
--- it has the commands of its script, stands where the replies that it took have brought it, has room for those to come, and has
--- printed the commands that are over
+-- it has the commands of its script, stands where the replies that it took have brought it, has room for those to come and for
+-- what the commands left may print, and has printed the commands that are over
 pub record IsCaller (script : ScriptView) (commands : List CommandView) (taken : PackedView ReplyHead) (printed : TextView) (turn from
     place cost roots : ℕ) : Type 0 where
   pub whole : commands_of script ≡ commands
   pub at : IsAt commands (replies_of taken.items) turn from place
   pub room : sum_left (λ t. 1) (progress commands (replies_of taken.items)) ≤ taken.room
   pub room_bytes : sum_left most_brought (progress commands (replies_of taken.items)) ≤ taken.room_bytes
+  pub room_text : sum_by room_of (drop turn commands) ≤ printed.room
   pub text : printed.bytes ≡ section_text commands (replies_of taken.items)
   pub cost_is : cost ≡ cost_of_script script
-  pub cost_fits : cost ≤ 2 ^ 52
+  pub cost_fits : cost ≤ 2 ^ 53
   pub roots_are : HasRoots script.board commands roots

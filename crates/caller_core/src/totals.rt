@@ -1,12 +1,13 @@
 //! What a script costs, which roots its transfers name, and the room that its replies and its answers may need.
 
-ghost use Rattle.std.specs.Prelude.{◌≡◌, ◌*◌, ◌^◌, ◌<◌, ◌≤◌, length, drop, IfSome};
+ghost use Rattle.std.specs.Prelude.{◌≡◌, ◌*◌, ◌^◌, ◌<◌, ◌≤◌, length, IfSome};
 ghost use Rattle.std.specs.List.{sum_by};
 ghost use Rattle.std.specs.Option.{option_map_or};
 ghost use Rattle.i2c_base.specs.Limits.{MOST_ROOTS, MOST_BYTES};
 ghost use Rattle.i2c_spec.specs.Cost.{cost_of};
 ghost use Rattle.tools.specs.Replies.{most_brought};
-ghost use Rattle.tools.specs.Dialogues.{transfers_of};
+ghost use Rattle.i2c_board.specs.Bills.{IsBill};
+ghost use Rattle.tools.specs.Dialogues.{MOST_PLACES, transfers_of};
 ghost use Rattle.tools.specs.Runs.{dialogue_of};
 ghost use Rattle.caller_core.specs.Turns.{sum_of};
 ghost use Rattle.caller_core.specs.Roots.{HasBits, HasRoots, names_root};
@@ -14,8 +15,8 @@ ghost use Rattle.caller_core.specs.Scripts.{room_of};
 
 use crate::commands::Commands;
 use i2c_base::{Kind, SegId, Transfer};
-use i2c_board::Accepted;
-use tools::{ToolRun, most_brought};
+use i2c_board::{Accepted, BusBill};
+use tools::ToolRun;
 
 /// Sums over transfers: their cost, how many they are, the bytes that their replies may have, and a bit for each root
 /// that they name.
@@ -23,7 +24,7 @@ use tools::{ToolRun, most_brought};
 pub struct Totals {
     pub cost: u64,
     pub replies: u32,
-    pub bytes: u32,
+    pub bytes: u64,
     pub roots: u8,
 }
 
@@ -48,23 +49,41 @@ fn root_bit(root: Option<SegId>) -> u8
     }
 }
 
-// The totals of the transfers of a command. `transfer` is room for one after the other.
-fn totals_of_command(board: &Accepted, run: &ToolRun, transfer: &mut Transfer) -> Totals
+// Asks for what a bus asks for, unless that is what is there.
+fn turn_to(board: &Accepted, bus: u16, bill: &mut BusBill)
+    requires { IsBill board.now bill.old }
+    ensures bus { bill.new.bus ≡ bus }
+    ensures bill { IsBill board.now bill.new }
+{
+    if bill.bus != bus {
+        *bill = board.bill(bus);
+    }
+}
+
+// The totals of the transfers of a command. `transfer` is room for one after the other, and `bill` is that of a bus.
+fn totals_of_command(
+    board: &Accepted,
+    run: &ToolRun,
+    bill: &mut BusBill,
+    transfer: &mut Transfer,
+) -> Totals
+    requires { IsBill board.now bill.old }
+    ensures bill { IsBill board.now bill.new }
     ensures cost { result.cost ≡ sum_by (cost_of board.now) (transfers_of (dialogue_of run.now)) }
-    ensures small { result.cost ≤ 2 ^ 42 }
+    ensures small { result.cost ≤ 2 ^ 32 * MOST_PLACES }
     ensures replies { result.replies ≡ sum_by (λ t. 1) (transfers_of (dialogue_of run.now)) }
-    ensures few { result.replies ≤ 2 }
+    ensures few { result.replies ≤ MOST_PLACES }
     ensures bytes { result.bytes ≡ sum_by most_brought (transfers_of (dialogue_of run.now)) }
-    ensures few_bytes { result.bytes ≤ 2 * MOST_BYTES }
+    ensures few_bytes { result.bytes ≤ MOST_BYTES * MOST_PLACES }
     ensures roots { HasBits (names_root board.now) (transfers_of (dialogue_of run.now)) result.roots }
 {
     let mut totals = Totals::NONE;
     for place in 0..run.places() {
         run.put(place, transfer);
-        let bill = board.bill(transfer);
-        totals.cost += bill.cost;
+        turn_to(board, transfer.bus(), bill);
+        totals.cost += bill.cost(board, transfer);
         totals.replies += 1;
-        totals.bytes += most_brought(transfer);
+        totals.bytes += u64::from(transfer.size());
         totals.roots |= root_bit(bill.root);
     }
     totals
@@ -74,16 +93,17 @@ fn totals_of_command(board: &Accepted, run: &ToolRun, transfer: &mut Transfer) -
 pub fn totals_of(board: &Accepted, commands: &Commands) -> Totals
     requires few { length commands.now ≤ 1000 }
     ensures cost { result.cost ≡ sum_by (sum_of (cost_of board.now)) commands.now }
-    ensures small { result.cost ≤ 2 ^ 52 }
+    ensures small { result.cost ≤ 2 ^ 53 }
     ensures replies { result.replies ≡ sum_by (sum_of (λ t. 1)) commands.now }
     ensures bytes { result.bytes ≡ sum_by (sum_of most_brought) commands.now }
     ensures roots { HasRoots board.now commands.now result.roots }
 {
     let mut transfer = Transfer::new(0, Kind::Smbus, false);
+    let mut bill = board.bill(0);
     let mut totals = Totals::NONE;
     for place in 0..commands.len() {
         let (run, _) = commands.get(place);
-        let more = totals_of_command(board, run, &mut transfer);
+        let more = totals_of_command(board, run, &mut bill, &mut transfer);
         totals.cost += more.cost;
         totals.replies += more.replies;
         totals.bytes += more.bytes;
@@ -92,12 +112,12 @@ pub fn totals_of(board: &Accepted, commands: &Commands) -> Totals
     totals
 }
 
-/// How many bytes the commands from a place on may print, where a number holds it.
-pub fn room_from(commands: &Commands, place: usize) -> Option<usize>
-    ensures { IfSome result (λ room. room ≡ sum_by room_of (drop place commands.now)) }
+/// How many bytes the commands may print, where a number holds it.
+pub fn room_of(commands: &Commands) -> Option<usize>
+    ensures { IfSome result (λ room. room ≡ sum_by room_of commands.now) }
 {
     let mut room = 0usize;
-    for at in place..commands.len() {
+    for at in 0..commands.len() {
         let (run, echo) = commands.get(at);
         room = room
             .checked_add(echo.len())?

@@ -1,4 +1,5 @@
 pub mod AsideLemmas
+pub mod BillLemmas
 pub mod BrokenLemmas
 pub mod GrantLemmas
 pub mod KnownLemmas

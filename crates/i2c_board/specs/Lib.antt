@@ -1,3 +1,4 @@
+pub mod Bills
 pub mod Layouts
 pub mod Passes
 pub mod Searches

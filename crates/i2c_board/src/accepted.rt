@@ -1,10 +1,8 @@
-//! A board that meets the topology rules, and what a transfer costs on it.
+//! A board that meets the topology rules, and what the transfers on its buses cost.
 
-ghost use Rattle.std.specs.Prelude.{◌≡◌, ◌<◌, ◌^◌, IfSome};
-ghost use Rattle.i2c_base.specs.Limits.{MOST_ROOTS};
+ghost use Rattle.std.specs.Prelude.{◌≡◌};
 
-use crate::{Board, TransferCost};
-use i2c_base::Transfer;
+use crate::{Board, BusBill};
 use std::marker::Model;
 
 /// A board that meets the five topology rules. A contract sees the board.
@@ -25,8 +23,7 @@ impl Model for Accepted {
 }
 
 impl Accepted {
-    ghost use Rattle.i2c_spec.specs.Cost.{cost_of};
-    ghost use Rattle.i2c_spec.specs.Tree.{root_named};
+    ghost use Rattle.i2c_board.specs.Bills.{IsBill};
     ghost use Rattle.i2c_spec.specs.Rules.{MeetsRules};
 
     /// Seals a board that meets the rules.
@@ -44,13 +41,11 @@ impl Accepted {
         &self.board
     }
 
-    /// What a transfer asks for: how many steps it can take, and its root.
-    pub fn bill(&self, transfer: &Transfer) -> TransferCost
-        ensures value { result.cost ≡ cost_of self.now transfer.now }
-        ensures small { result.cost < 2 ^ 41 }
-        ensures root { result.root ≡ root_named self.now transfer.now.bus }
-        ensures few { IfSome result.root (λ r. r < MOST_ROOTS) }
+    /// What the transfers on a bus ask for.
+    pub fn bill(&self, bus: u16) -> BusBill
+        ensures bus { result.bus ≡ bus }
+        ensures bill { IsBill self.now result }
     {
-        self.board.layout().bill(transfer)
+        self.board.layout().bill(bus)
     }
 }

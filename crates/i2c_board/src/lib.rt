@@ -2,7 +2,7 @@
 //!
 //! Its public contract: each call of `Board` is the definition of its name in `i2c_spec`, and `accept` answers Ok exactly
 //! where a board meets the five topology rules, and else the first rule that it breaks, with the two items at fault. An
-//! `Accepted` board meets the rules, and tells what a transfer costs on it. Definitions: `specs/Tree.antt`,
+//! `Accepted` board meets the rules, and tells what the transfers on its buses cost. Definitions: `specs/Tree.antt`,
 //! `specs/Grant.antt` and `specs/Rules.antt` of `i2c_spec`. Standard: Linux i2c-topology, "I2C muxes and complex
 //! topologies".
 #![tactic(auto)]
@@ -25,7 +25,7 @@ mod tree;
 pub use accepted::Accepted;
 pub use board::Board;
 pub use cached_board::CachedBoard;
-pub use cost::TransferCost;
+pub use cost::BusBill;
 pub use hop::Hop;
 pub use i2c_base::{Grant, Item, RuleBroken, Way};
 pub use layout::Layout;

@@ -1,31 +1,32 @@
 -- What a job costs at the end of few hops fits in a number: an induction over the hops, each at most twelve times what is
--- below it. And an accepted board has few hops over a bus: the depth is that of the bus that the nearest of them stands
--- on, and one more.
+-- below it. A job's own steps are added to that as they are. And an accepted board has few hops over a bus: the depth is
+-- that of the bus that the nearest of them stands on, and one more.
 use Rattle.std.proofs.Common.{◌≡◌, ℕ, zero, suc, ◌+◌, ◌*◌, ◌^◌, ◌<◌, ◌≤◌, nat_le, nat_lt, Bool, true, false, cond, List, [], ◌∷◌, length, refl, sym, ◌∙◌, ap, subst, arith, rules, inl}
 use Rattle.std.proofs.lemmas.Bool.Decides.{nat_tests}
 use Rattle.std.specs.Prelude.{All, sum_by, get_or}
 use Rattle.std.proofs.lemmas.List.Sums.{sum_by-le}
 use Rattle.i2c_base.specs.declared.transfer.Msg.{Msg}
-use Rattle.i2c_base.specs.Limits.{BLOCK_LIMIT, MOST_LENGTH, MOST_MESSAGES}
+use Rattle.i2c_base.specs.Limits.{LARGEST_BLOCK, MOST_LENGTH, MOST_MESSAGES}
 use Rattle.i2c_base.specs.Transfer.{TransferView, IsMessage, is_counted}
 use Rattle.i2c_base.specs.Board.{BoardView}
 use Rattle.i2c_base.specs.Muxes.{facts_of}
 use Rattle.i2c_spec.specs.Tree.{Hop, hops, buses, depth, locks_of, home_of_mux, IsAmongHops}
-use Rattle.i2c_spec.specs.Cost.{bytes_of, lock_steps, behind_by, inner_cost, full_cost, steps_of, cost_of}
+use Rattle.i2c_spec.specs.Cost.{bytes_of, lock_steps, behind_by, behind_cost, inner_cost, full_cost, steps_of, cost_of}
 use Rattle.i2c_spec.specs.Plain.{IsPlainBoard}
 use Rattle.i2c_spec.specs.Rules.{MeetsRules}
 use Rattle.i2c_spec.proofs.AddressLemmas.{tree_of}
 
-bytes_by : (t : Bool) (len : ℕ) → len ≤ MOST_LENGTH → cond t (BLOCK_LIMIT + len) len ≤ 544
-bytes_by true len h = omega arith
-bytes_by false len h = omega arith
+bytes_by : (t : Bool) (limit len : ℕ) → limit ≤ LARGEST_BLOCK → len ≤ MOST_LENGTH → cond t (limit + len) len ≤ 767
+bytes_by true limit len l h = omega (arith, l)
+bytes_by false limit len l h = omega arith
 
-pub bytes_few : (ms : List Msg) → length ms ≤ MOST_MESSAGES → All IsMessage ms → sum_by (bytes_of BLOCK_LIMIT) ms ≤ 22848
-bytes_few ms count each =
+pub bytes_few : (limit : ℕ) (ms : List Msg) → limit ≤ LARGEST_BLOCK → length ms ≤ MOST_MESSAGES → All IsMessage ms
+    → sum_by (bytes_of limit) ms ≤ 32214
+bytes_few limit ms l count each =
     omega (
       arith,
-      sum_by-le (bytes_of BLOCK_LIMIT) 544 ms
-          (λ k d h. bytes_by (is_counted (get_or ms k d)) (get_or ms k d).len (each k d h).0),
+      sum_by-le (bytes_of limit) 767 ms
+          (λ k d h. bytes_by (is_counted (get_or ms k d)) limit (get_or ms k d).len l (each k d h).0),
     )
 
 -- a lock for each hop at most, and the root's
@@ -59,7 +60,7 @@ inner_most (h ∷ hs) x =
     (omega (arith, locks_few 0 hs)) in
     omega (arith, step, inner_most hs 2, inner_most hs x)
 
-few_most : (n x : ℕ) → n ≤ 4 → x < 2 ^ 32 → most_inner n x ≤ 2 ^ 40
+few_most : (n x : ℕ) → n ≤ 4 → x ≤ 2 → most_inner n x < 2 ^ 16
 few_most zero x n small = omega arith
 few_most (suc zero) x n small = omega arith
 few_most (suc (suc zero)) x n small = omega arith
@@ -67,8 +68,30 @@ few_most (suc (suc (suc zero))) x n small = omega arith
 few_most (suc (suc (suc (suc zero)))) x n small = omega arith
 few_most (suc (suc (suc (suc (suc k))))) x n small = absurd (omega arith)
 
-pub inner_small : (hs : List Hop) (x : ℕ) → length hs ≤ 4 → x < 2 ^ 32 → inner_cost hs x ≤ 2 ^ 40
+-- a control message of two steps, and a job of none
+pub inner_small : (hs : List Hop) (x : ℕ) → length hs ≤ 4 → x ≤ 2 → inner_cost hs x < 2 ^ 16
 inner_small hs x few small = omega (arith, inner_most hs x, few_most (length hs) x few small)
+
+by_more : (by_line asks : Bool) (control job x : ℕ) → behind_by by_line asks control (job + x) ≡ behind_by by_line asks control job + x
+by_more true asks control job x = omega arith
+by_more false true control job x = omega arith
+by_more false false control job x = omega arith
+
+inner_more : (hs : List Hop) (x : ℕ) → inner_cost hs x ≡ inner_cost hs 0 + x
+inner_more [] x = omega arith
+inner_more (h ∷ hs) x =
+    let more : inner_cost hs x ≡ inner_cost hs 0 + x = inner_more hs x in
+    let control : ℕ = inner_cost hs 2 in
+    let locks : ℕ = lock_steps hs in
+    elim h.parent as (λ b. cond b (behind_cost h.kind control (inner_cost hs x)) (3 * (locks + control) + (locks + inner_cost hs x))
+    ≡ cond b (behind_cost h.kind control (inner_cost hs 0)) (3 * (locks + control) + (locks + inner_cost hs 0)) + x) [
+      | true ↦ rw more (by_more (facts_of h.kind).by_line (facts_of h.kind).asks control (inner_cost hs 0) x)
+      | false ↦ omega (arith, more)
+    ]
+
+-- a job costs its own steps beside what a job of none costs
+pub full_more : (hs : List Hop) (x : ℕ) → full_cost hs x ≡ full_cost hs 0 + x
+full_more hs x = omega (arith, inner_more hs x)
 
 pub hops_few : (b : BoardView) (s : ℕ) → IsPlainBoard b → MeetsRules b → length (hops b s) ≤ 4
 hops_few b s plain meets = by (hops b s) refl

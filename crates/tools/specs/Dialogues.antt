@@ -6,6 +6,10 @@ use Rattle.i2c_base.specs.Fitting.{Fits}
 use Rattle.i2c_base.specs.Transfer.{TransferView}
 use Rattle.i2c_base.specs.declared.reply.Reply.{Reply}
 
+-- a command has at most so many places
+abbrev pub MOST_PLACES : ℕ
+MOST_PLACES = 2048
+
 -- so many places, the transfer at each, how many places are passed over behind the reply at each, what is printed of all
 -- replies, and how many bytes that has at most
 pub record Dialogue : Type 0 where

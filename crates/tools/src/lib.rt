@@ -53,7 +53,7 @@ pub use laws::{
 };
 pub use line::read_line;
 pub use lists::{Desc, DescOp, Descs, Octets, Words};
-pub use replies::{Window, most_brought};
+pub use replies::Window;
 pub use run::ToolRun;
 pub use split::{cut_line, is_joined, push_echo};
 pub use text::Text;

@@ -1,12 +1,10 @@
-//! The replies of a command where they are kept, and how many bytes that of a transfer may bring.
+//! The replies of a command where they are kept.
 
-ghost use Rattle.std.specs.Prelude.{◌≡◌, ◌≤◌, slice_get};
+ghost use Rattle.std.specs.Prelude.{◌≡◌, slice_get};
 ghost use Rattle.std.specs.Option.{option_map};
-ghost use Rattle.i2c_base.specs.Limits.{MOST_BYTES};
 ghost use Rattle.i2c_base.specs.Replies.{reply_by};
-ghost use Rattle.tools.specs.Replies.{most_brought};
 
-use i2c_base::{Msg, ReplyHead, Transfer};
+use i2c_base::ReplyHead;
 use packed::Packed;
 use std::marker::Model;
 
@@ -39,12 +37,4 @@ impl<'a> Window<'a> {
         let (head, bytes) = self.replies.get(self.from + place);
         Some((*head, bytes))
     }
-}
-
-/// The most bytes that the reply of a transfer brings.
-pub fn most_brought(transfer: &Transfer) -> u32
-    ensures value { result ≡ most_brought transfer.now }
-    ensures few { result ≤ MOST_BYTES }
-{
-    transfer.msgs().iter().map(Msg::size).sum::<usize>() as u32
 }

@@ -5,7 +5,7 @@ ghost use Rattle.std.specs.List.{flat_map};
 ghost use Rattle.bus_journal.specs.Reports.{ended};
 ghost use Rattle.i2c_base.specs.Replies.{reply_by};
 ghost use Rattle.tools.specs.Commands.{IsInRange, run_of};
-ghost use Rattle.tools.specs.Dialogues.{AreReplies, behind};
+ghost use Rattle.tools.specs.Dialogues.{MOST_PLACES, AreReplies, behind};
 ghost use Rattle.tools.specs.Runs.{dialogue_of};
 
 pub(crate) mod call;
@@ -49,7 +49,7 @@ impl ToolRun {
     /// How many places it has.
     pub fn places(&self) -> u16
         ensures value { result ≡ (dialogue_of self.now).places }
-        ensures few { result ≤ 2 }
+        ensures few { result ≤ MOST_PLACES }
     {
         match self {
             ToolRun::Says(_) => 0,

@@ -8,17 +8,21 @@ pub loop-place-preserved : goal.loop-place-preserved
 loop-place-preserved c =
     let x : CommandView = record { echo = c.get.result.1.now; run = c.get.result.0.now } in
     let more = c.totals_of_command-more in
-    sums_more _ _ _ _ _ _ _ _ _ x _ more.result c.loop-place.invariant (omega (arith, c.loop-place-test.true, c.len-place-end.ensures))
-    c.get.ensures
-    (record {
-      cost = more.ensures.cost;
-      small = more.ensures.small;
-      replies = more.ensures.replies;
-      few = more.ensures.few;
-      bytes = more.ensures.bytes;
-      few_bytes = more.ensures.few_bytes;
-      roots = command_bits c.args.board.now x more.result.roots more.ensures.roots;
-    })
+    record {
+      sums =
+          sums_more _ _ _ _ _ _ _ _ _ x _ more.result c.loop-place.invariant.sums
+          (omega (arith, c.loop-place-test.true, c.len-place-end.ensures)) c.get.ensures
+          (record {
+            cost = more.ensures.cost;
+            small = more.ensures.small;
+            replies = more.ensures.replies;
+            few = more.ensures.few;
+            bytes = more.ensures.bytes;
+            few_bytes = more.ensures.few_bytes;
+            roots = command_bits c.args.board.now x more.result.roots more.ensures.roots;
+          });
+      bill = more.ensures.bill;
+    }
 
 pub get-requires : goal.get-requires
 get-requires c = grind (arith, common_steps)
@@ -42,4 +46,4 @@ returns c = record {
 }
 
 pub loop-place-init : goal.loop-place-init
-loop-place-init c = sums_none _ _ _ _ _ _ _ c.args.commands.now
+loop-place-init c = record { sums = sums_none _ _ _ _ _ _ _ c.args.commands.now; bill = c.bill-bill.ensures.bill }

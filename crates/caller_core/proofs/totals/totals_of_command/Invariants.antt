@@ -1,6 +1,7 @@
 use Rattle.std.proofs.Common.{◌^◌}
 use Rattle.i2c_base.specs.Limits.{MOST_BYTES}
 use Rattle.i2c_spec.specs.Cost.{cost_of}
+use Rattle.i2c_board.specs.Bills.{IsBill}
 use Rattle.tools.specs.Dialogues.{transfers_of}
 use Rattle.tools.specs.Replies.{most_brought}
 use Rattle.tools.specs.Runs.{dialogue_of}
@@ -10,5 +11,8 @@ use Rattle.caller_core.proofs.totals.totals_of_command.Given as goal
 
 abbrev pub invariant-loop-place : goal.invariant-loop-place
 invariant-loop-place l =
-    AreSums (cost_of l.board) (λ t. 1) most_brought (names_root l.board) (2 ^ 41) 1 MOST_BYTES (transfers_of (dialogue_of l.run)) l.place
-    l.totals
+    record {
+      sums : AreSums (cost_of l.board) (λ t. 1) most_brought (names_root l.board) (2 ^ 32) 1 MOST_BYTES (transfers_of (dialogue_of l.run))
+          l.place l.totals;
+      bill : IsBill l.board l.bill;
+    }

@@ -7,9 +7,9 @@ use Rattle.i2c_board.proofs.cost.steps_of.Goals as goal
 pub overflow_add-result : goal.overflow_add-result
 overflow_add-result c =
     let same : c.sum-bytes.result ≡ sum_by (bytes_of limits.BLOCK_LIMIT) c.args.msgs.now = search rules in
-    omega (arith, same, bytes_few c.args.msgs.now c.requires.count c.requires.each)
+    omega (arith, same, bytes_few limits.BLOCK_LIMIT c.args.msgs.now (omega arith) c.requires.count c.requires.each)
 
 pub returns-clause-small : goal.returns-clause-small
 returns-clause-small c =
     let same : c.sum-bytes.result ≡ sum_by (bytes_of limits.BLOCK_LIMIT) c.args.msgs.now = search rules in
-    omega (arith, same, bytes_few c.args.msgs.now c.requires.count c.requires.each)
+    omega (arith, same, bytes_few limits.BLOCK_LIMIT c.args.msgs.now (omega arith) c.requires.count c.requires.each)

@@ -6,5 +6,5 @@ abbrev pub invariant-loop-script : goal.invariant-loop-script
 invariant-loop-script l =
     record {
       sum : l.cost ≡ sum_by cost_of_opened (take l.script-index l.scripts);
-      small : l.cost ≤ 2 ^ 52 * l.script-index;
+      small : l.cost ≤ 2 ^ 53 * l.script-index;
     }

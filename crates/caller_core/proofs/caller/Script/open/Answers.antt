@@ -38,6 +38,7 @@ invariant_of-result c =
       at = subst (λ n. IsAt cs [] n 0 0) (sym to) (at_first cs);
       room = omega (arith, sum_first (λ t. 1) cs, totals.ensures.replies);
       room_bytes = omega (arith, sum_first most_brought cs, totals.ensures.bytes);
+      room_text = omega (arith, quiet.ensures.room, c.in_ok-make_room.ensures.ok);
       text =
           quiet.ensures.bytes
           ∙ ap (λ (x : List ℕ). x ++ quiet_text cs) (c.in_ok-make_room.ensures.stays ∙ c.new-printed.ensures);

@@ -1,12 +1,12 @@
 use Rattle.std.proofs.Common.{◌≡◌, ℕ, ◌+◌, ◌<◌, ◌≤◌, List, ◌++◌, length, drop, Some, arith, ap, refl, ◌∙◌}
-use Rattle.std.specs.Prelude.{slice_get}
+use Rattle.std.specs.Prelude.{slice_get, sum_by}
 use Rattle.i2c_base.specs.declared.reply.Reply.{Reply}
 use Rattle.i2c_base.specs.Replies.{reply_by}
 use Rattle.tools.specs.Dialogues.{AreReplies, behind}
 use Rattle.tools.specs.Replies.{replies_of}
 use Rattle.tools.specs.View.{TextView}
 use Rattle.caller_core.specs.Kept.{IsCaller}
-use Rattle.caller_core.specs.Scripts.{command_text, quiet_text}
+use Rattle.caller_core.specs.Scripts.{command_text, quiet_text, room_of}
 use Rattle.caller_core.specs.Turns.{talk, quiet_front}
 use Rattle.caller_core.specs.View.{CommandView, ScriptView}
 use Rattle.caller_core.proofs.QuietLemmas.{sum_there}
@@ -26,11 +26,11 @@ module _ (c : After-get) where
   command = record { echo = c.get.result.1.now; run = c.get.result.0.now }
 
   -- the reply to what it asks for
-  taken : IsTaking c.self.inside.commands (replies_of c.self.inside.taken.items) c.self.inside.turn c.self.inside.printed.room reply
+  taken : IsTaking c.self.inside.commands (replies_of c.self.inside.taken.items) c.self.inside.turn reply
   taken =
       let s = c.self.inside in
       taking script s.commands s.taken s.printed s.turn s.from s.place s.totals.cost s.totals.roots reply c.self.invariant
-      c.args.self.now c.self.view_is c.requires.fits c.requires.room
+      c.args.self.now c.self.view_is c.requires.fits
 
   there : slice_get c.self.inside.commands c.self.inside.turn ≡ Some command
   there = let s = c.self.inside in at_place s.commands s.turn command taken.within c.get.ensures
@@ -56,6 +56,7 @@ module _ (c : After-get) where
   over : (text : TextView) (next end to : ℕ) → next ≡ behind (talk command) c.self.inside.place reply → (talk command).places ≤ next
       → end ≡ length c.push.new.self.items
       → to ≡ c.self.inside.turn + 1 + quiet_front (drop (c.self.inside.turn + 1) c.self.inside.commands)
+      → sum_by room_of (drop to c.self.inside.commands) ≤ text.room
       → text.bytes ≡ (c.self.inside.printed.bytes
       ++ command_text (record { command = command; replies = drop c.self.inside.from (replies_of c.push.new.self.items) }))
       ++ quiet_text (drop (c.self.inside.turn + 1) c.self.inside.commands)
@@ -73,7 +74,7 @@ push-requires-clause-room_bytes c =
     let reply : Reply = reply_by c.args.head c.args.bytes.now in
     has_room script s.commands s.taken s.printed s.turn s.from s.place s.totals.cost s.totals.roots reply c.self.invariant
     (taking script s.commands s.taken s.printed s.turn s.from s.place s.totals.cost s.totals.roots reply c.self.invariant c.args.self.now
-    c.self.view_is c.requires.fits c.requires.room) c.args.bytes.now (given_by c.args.head c.args.bytes.now c.requires.few)
+    c.self.view_is c.requires.fits) c.args.bytes.now (given_by c.args.head c.args.bytes.now c.requires.few)
 
 pub behind-place-requires : goal.behind-place-requires
 behind-place-requires c =
@@ -96,10 +97,17 @@ invariant_of-self c =
 pub invariant_of-self-else-place-places : goal.invariant_of-self-else-place-places
 invariant_of-self-else-place-places c =
     let s = c.self.inside in
+    let g = (goal.at.invariant_of-self-else-place-places c).After-get in
     let quiet = c.push_quiet-self-inside in
-    over (goal.at.invariant_of-self-else-place-places c).After-get quiet.new.out c.behind-place.result c.len-self-inside.result quiet.result
-    (c.behind-place.ensures c.args.bytes.now) (omega (arith, c.if-place-places.false, c.places.ensures.value)) c.len-self-inside.ensures
-    quiet.ensures.behind
+    over g quiet.new.out c.behind-place.result c.len-self-inside.result quiet.result (c.behind-place.ensures c.args.bytes.now)
+    (omega (arith, c.if-place-places.false, c.places.ensures.value)) c.len-self-inside.ensures quiet.ensures.behind
+    (omega (
+      arith,
+      quiet.ensures.room,
+      c.push_command.ensures.room,
+      c.self.invariant.room_text,
+      sum_there s.commands s.turn (command g) (there g),
+    ))
     (quiet.ensures.bytes ∙ ap (λ (x : List ℕ). x ++ quiet_text (drop (s.turn + 1) s.commands)) c.push_command.ensures.bytes)
 
 pub returns-then-place-places-clause-room : goal.returns-then-place-places-clause-room
@@ -108,7 +116,7 @@ returns-then-place-places-clause-room c =
     let g = (goal.at.returns-then-place-places-clause-room c).After-get in
     covered (script g) s.commands c.push.new.self s.printed s.turn s.from c.behind-place.result s.totals.cost s.totals.roots
     (further g c.behind-place.result (c.behind-place.ensures c.args.bytes.now)
-    (omega (arith, c.if-place-places.true, c.places.ensures.value))) (taken g).room_text
+    (omega (arith, c.if-place-places.true, c.places.ensures.value)))
 
 pub returns-else-place-places-clause-room : goal.returns-else-place-places-clause-room
 returns-else-place-places-clause-room c =
@@ -118,11 +126,11 @@ returns-else-place-places-clause-room c =
     covered (script g) s.commands c.push.new.self quiet.new.out quiet.result c.len-self-inside.result 0 s.totals.cost s.totals.roots
     (over g quiet.new.out c.behind-place.result c.len-self-inside.result quiet.result (c.behind-place.ensures c.args.bytes.now)
     (omega (arith, c.if-place-places.false, c.places.ensures.value)) c.len-self-inside.ensures quiet.ensures.behind
-    (quiet.ensures.bytes ∙ ap (λ (x : List ℕ). x ++ quiet_text (drop (s.turn + 1) s.commands)) c.push_command.ensures.bytes))
     (omega (
       arith,
       quiet.ensures.room,
       c.push_command.ensures.room,
-      (taken g).room_text,
+      c.self.invariant.room_text,
       sum_there s.commands s.turn (command g) (there g),
     ))
+    (quiet.ensures.bytes ∙ ap (λ (x : List ℕ). x ++ quiet_text (drop (s.turn + 1) s.commands)) c.push_command.ensures.bytes))

@@ -32,7 +32,7 @@ steps_at-far-requires t c =
     let b = board_of c.args.self.now in
     let on = ap (λ (h : Hop). h.on) c.hop.view_is in (
       omega (arith, c.in-Some.ensures.falls, on),
-      (c.requires.plain, (fewer b c.args.seg c.hop.inside.on c.in-Some.hop c.in-Some.ensures.first on c.requires.few, c.requires.small)),
+      (c.requires.plain, fewer b c.args.seg c.hop.inside.on c.in-Some.hop c.in-Some.ensures.first on c.requires.few),
     )
 
 pub steps_behind-requires : goal.steps_behind-requires
@@ -43,7 +43,7 @@ steps_behind-requires t c =
     record {
       few = omega (arith, few, c.steps_at-far.ensures.locks, locks_few 0 hs);
       control = omega (arith, c.steps_at-far.ensures.control, inner_small hs 2 few (omega arith));
-      job = omega (arith, c.steps_at-far.ensures.job, inner_small hs c.args.job few c.requires.small);
+      job = omega (arith, c.steps_at-far.ensures.job, inner_small hs 0 few (omega arith));
     }
 
 pub returns-in-Some : goal.returns-in-Some

@@ -1,6 +1,9 @@
-use Rattle.std.proofs.Common.{◌<◌, arith}
+use Rattle.std.proofs.Common.{◌≡◌, ◌<◌, ◌+◌, true, cond, Some, None, ap, sym, ◌∙◌, arith}
+use Rattle.std.specs.Prelude.{nat_lt}
+use Rattle.std.proofs.lemmas.Bool.Decides.{nat_tests}
 use Rattle.i2c_board.specs.Layouts.{board_of}
-use Rattle.i2c_spec.specs.Tree.{buses}
+use Rattle.i2c_spec.specs.Cost.{full_cost}
+use Rattle.i2c_spec.specs.Tree.{buses, hops, root_of}
 use Rattle.i2c_spec.proofs.AddressLemmas.{tree_of}
 use Rattle.i2c_spec.proofs.CostLemmas.{hops_few}
 use Rattle.i2c_spec.proofs.PlainLemmas.{buses_le}
@@ -10,11 +13,18 @@ pub buses-requires : goal.buses-requires
 buses-requires c = omega (arith, buses_le (board_of c.args.self.now) c.requires.plain)
 
 pub full_cost-requires-clause-few : goal.full_cost-requires-clause-few
-full_cost-requires-clause-few c = hops_few (board_of c.args.self.now) c.bus-bus.result c.requires.plain c.requires.rules
+full_cost-requires-clause-few c = hops_few (board_of c.args.self.now) c.args.bus c.requires.plain c.requires.rules
 
-pub returns-clause-few : goal.returns-clause-few
-returns-clause-few c =
+pub returns-clause-bill : goal.returns-clause-bill
+returns-clause-bill c =
     let b = board_of c.args.self.now in
-    let there : c.bus-bus.result < buses b = omega (arith, c.buses.ensures, c.if-bus-buses.false) in
-    let root = (tree_of b c.requires.plain c.requires.rules).root_is c.bus-bus.result there in
-    omega (arith, c.root.ensures, root, c.requires.plain.most_roots)
+    let bus = c.args.bus in
+    let within : bus < buses b = omega (arith, c.buses.ensures, c.if-bus-buses.false) in
+    let there : nat_lt bus (buses b) ≡ true = grind (arith, nat_tests, within) in
+    let root = (tree_of b c.requires.plain c.requires.rules).root_is bus within in
+    record {
+      beside = ap (λ n. 1 + n) c.full_cost.ensures.value ∙ ap (λ v. cond v (1 + full_cost (hops b bus) 0) 1) (sym there);
+      few = omega (arith, c.full_cost.ensures.small);
+      root = ap Some c.root.ensures ∙ ap (λ v. cond v (Some (root_of b bus)) None) (sym there);
+      near = omega (arith, c.root.ensures, root, c.requires.plain.most_roots);
+    }

@@ -21,7 +21,7 @@ overflow_add-result c =
       c.steps_at-steps.ensures.locks,
       locks_few 0 (hops (board_of c.args.self.now) c.args.seg),
       c.steps_at-steps.ensures.job,
-      inner_small (hops (board_of c.args.self.now) c.args.seg) c.args.job c.requires.few c.requires.small,
+      inner_small (hops (board_of c.args.self.now) c.args.seg) 0 c.requires.few (omega arith),
     )
 
 pub returns-clause-small : goal.returns-clause-small
@@ -32,5 +32,5 @@ returns-clause-small c =
       c.steps_at-steps.ensures.locks,
       locks_few 0 (hops (board_of c.args.self.now) c.args.seg),
       c.steps_at-steps.ensures.job,
-      inner_small (hops (board_of c.args.self.now) c.args.seg) c.args.job c.requires.few c.requires.small,
+      inner_small (hops (board_of c.args.self.now) c.args.seg) 0 c.requires.few (omega arith),
     )
