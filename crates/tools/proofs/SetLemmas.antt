@@ -1,6 +1,7 @@
 -- i2cset: what its line means is in range, and how long it is; and the bytes of a block are read one by one, as a loop does.
 use Rattle.std.proofs.Common.{◌≡◌, ℕ, zero, suc, ◌+◌, ◌-◌, ◌^◌, ◌<◌, ◌≤◌, ◌&&◌, nat_le, Bool, true, false, cond, List, [], ◌∷◌, ◌++◌, length, codes, Option, Some, None, refl, subst, arith, Result, Ok, Err, sym, ◌∙◌}
 use Rattle.std.specs.Prelude.{IfSome}
+use Rattle.std.specs.Option.{option_or}
 use Rattle.std.specs.Str.{bytes_eq}
 use Rattle.std.proofs.lemmas.Bool.Decides.{nat_tests}
 use Rattle.std.proofs.lemmas.List.{length-append}
@@ -32,6 +33,10 @@ if_named : (Q : SetMode × Bool → Type 0) (b : Bool) (m : SetMode × Bool) (o 
     → IfSome (cond b (Some m) o) Q
 if_named Q true m o q r = q refl
 if_named Q false m o q r = r
+
+if_either : (Q : SetMode × Bool → Type 0) (o p : Option (SetMode × Bool)) → IfSome o Q → IfSome p Q → IfSome (option_or o p) Q
+if_either Q (Some m) p q r = q
+if_either Q None p q r = r
 
 both : (a b : Bool) → (a && b) ≡ true → a ≡ true
 both true b h = refl
@@ -79,9 +84,8 @@ module _ (limit : ℕ) (h : SetHead) (on : h.bus < 2 ^ 16) (to : IsTargetAddress
   byte_fits w v is_byte =
       if_named _ (bytes_eq w (codes "b")) (set_mode.Byte, false) _ (λ e. is_byte)
       (if_named _ (bytes_eq w (codes "bp")) (set_mode.Byte, true) _ (λ e. is_byte)
-      (if_named _ (bytes_eq w (codes "w")) (set_mode.Word, false) _ (λ e. omega (arith, is_byte))
-      (if_named _ (bytes_eq w (codes "wp")) (set_mode.Word, true) _ (λ e. omega (arith, is_byte))
-      (block_fits w (v ∷ []) true (λ e. omega arith) (All-cons IsByte v [] is_byte (All-nil IsByte), omega arith, omega arith)))))
+      (if_either _ (word_mode w) (block_mode true w) (word_fits w v (omega (arith, is_byte)))
+      (block_fits w (v ∷ []) true (λ e. omega arith) (All-cons IsByte v [] is_byte (All-nil IsByte), omega arith, omega arith))))
 
   -- a mode behind such values
   named_fits : (vs : List ℕ) (m : SetMode × Bool) → HasValues limit (Some m.0) vs → AllEnds (IsInRange limit) (set_by h vs m)

@@ -1,5 +1,6 @@
 -- i2cset: its line, and the SMBus call of its mode (i2c-tools, i2cset(8); SMBus 3.2, section 6.5).
 use Rattle.std.specs.Prelude.{⊤, ℕ, zero, suc, ◌-◌, ◌^◌, ◌<◌, ◌≤◌, min, max, nat_le, Bool, true, false, ◌&&◌, List, [], ◌∷◌, ◌++◌, length, slice_index_or, unwrap_or, Option, Some, None, if◌then◌else◌, codes, refl}
+use Rattle.std.specs.Option.{option_or}
 use Rattle.std.specs.Str.{bytes_eq}
 use Rattle.i2c_base.specs.Addr.{IsTargetAddress}
 use Rattle.i2c_base.specs.Bytes.{AreBytes}
@@ -51,9 +52,7 @@ abbrev pub byte_mode : Word → Option (SetMode × Bool)
 byte_mode w =
     if bytes_eq w (codes "b") then Some (mode.Byte, false)
     else if bytes_eq w (codes "bp") then Some (mode.Byte, true)
-    else if bytes_eq w (codes "w") then Some (mode.Word, false)
-    else if bytes_eq w (codes "wp") then Some (mode.Word, true)
-    else block_mode true w
+    else option_or (word_mode w) (block_mode true w)
 
 -- a mode, or else a value
 abbrev pub mode_or : Option (SetMode × Bool) → Option ℕ → Option SetPiece

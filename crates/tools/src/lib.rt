@@ -52,7 +52,7 @@ pub use laws::{
     the_refused_word_is_behind_the_longest_front,
 };
 pub use line::read_line;
-pub use lists::{Desc, DescOp, Descs, Octets, Words};
+pub use lists::{Desc, DescOp, Descs, Items, Octets, Words};
 pub use replies::Window;
 pub use run::ToolRun;
 pub use split::{cut_line, is_joined, push_echo};

@@ -1,86 +1,57 @@
 //! The lists of a command, which are taken from an allocator: numbers, bytes and messages.
 
-ghost use Rattle.std.specs.Prelude.{◌≡◌, ℕ, List, [], ◌∷◌, ◌++◌, OnOk};
+ghost use Rattle.std.specs.Prelude.{◌≡◌, List, [], ◌∷◌, ◌++◌, OnOk};
 
 use i2c_base::{Addr, NoMemory};
 use std::alloc::Global;
 use std::marker::Model;
 
-/// Numbers of 16 bits. A contract sees the list.
+/// Items, one after the other. A contract sees the list.
 #[derive(Drop)]
-pub struct Words {
-    items: Vec<u16>,
+pub struct Items<T: Drop> {
+    items: Vec<T>,
 }
 
-impl Model for Words {
-    ghost Value = { List ℕ };
+impl<T: Drop> Model for Items<T> {
+    ghost Value = { List T };
 
-    ghost view = { λ w. w.items.items };
+    ghost view = { λ s. s.items.items };
 }
 
-impl Words {
+impl<T: Drop> Items<T> {
     /// A list of nothing.
     pub fn new(alloc: Global) -> Self
         ensures { result ≡ [] }
     {
-        Words {
+        Items {
             items: Vec::new(alloc),
         }
     }
 
     /// Puts one at the end.
-    pub fn push(&mut self, value: u16) -> Result<(), NoMemory>
-        ensures { OnOk result (self.new ≡ self.old ++ value ∷ []) }
+    pub fn push(&mut self, item: T) -> Result<(), NoMemory>
+        ensures { OnOk result (self.new ≡ self.old ++ item ∷ []) }
     {
-        self.items.push(value)?;
+        self.items.push(item)?;
         Ok(())
     }
 
     /// The list.
-    pub fn as_slice(&self) -> &[u16]
+    pub fn as_slice(&self) -> &[T]
         ensures { result.now ≡ self.now }
     {
         self.items.as_slice()
     }
 }
 
-/// Bytes. A contract sees the list.
-#[derive(Drop)]
-pub struct Octets {
-    items: Vec<u8>,
-}
+/// Numbers of 16 bits.
+pub type Words = Items<u16>;
 
-impl Model for Octets {
-    ghost Value = { List ℕ };
+/// Bytes.
+pub type Octets = Items<u8>;
 
-    ghost view = { λ o. o.items.items };
-}
-
-impl Octets {
-    /// A list of nothing.
-    pub fn new(alloc: Global) -> Self
-        ensures { result ≡ [] }
-    {
-        Octets {
-            items: Vec::new(alloc),
-        }
-    }
-
-    /// Puts one at the end.
-    pub fn push(&mut self, byte: u8) -> Result<(), NoMemory>
-        ensures { OnOk result (self.new ≡ self.old ++ byte ∷ []) }
-    {
-        self.items.push(byte)?;
-        Ok(())
-    }
-
-    /// The list.
-    pub fn as_slice(&self) -> &[u8]
-        ensures { result.now ≡ self.now }
-    {
-        self.items.as_slice()
-    }
-}
+/// The messages of a transfer.
+pub type Descs = Items<Desc>;
 
 /// What a message does.
 #[derive(Drop)]
@@ -96,45 +67,4 @@ pub enum DescOp {
 pub struct Desc {
     pub addr: Addr,
     pub op: DescOp,
-}
-
-/// The messages of a transfer. A contract sees the list.
-#[derive(Drop)]
-pub struct Descs {
-    items: Vec<Desc>,
-}
-
-impl Model for Descs {
-    ghost use Rattle.std.specs.Prelude.{List};
-    ghost use Rattle.tools.specs.declared.lists.Desc.{Desc as OneDesc};
-
-    ghost Value = { List OneDesc };
-
-    ghost view = { λ d. d.items.items };
-}
-
-impl Descs {
-    /// A list of nothing.
-    pub fn new(alloc: Global) -> Self
-        ensures { result ≡ [] }
-    {
-        Descs {
-            items: Vec::new(alloc),
-        }
-    }
-
-    /// Puts one at the end.
-    pub fn push(&mut self, desc: Desc) -> Result<(), NoMemory>
-        ensures { OnOk result (self.new ≡ self.old ++ desc ∷ []) }
-    {
-        self.items.push(desc)?;
-        Ok(())
-    }
-
-    /// The list.
-    pub fn as_slice(&self) -> &[Desc]
-        ensures { result.now ≡ self.now }
-    {
-        self.items.as_slice()
-    }
 }

@@ -1,6 +1,6 @@
 //! The words of a line by their places: a given word, a number, or none.
 
-ghost use Rattle.std.specs.Prelude.{◌≡◌, ◌≤◌, IfOk};
+ghost use Rattle.std.specs.Prelude.{◌≡◌, ◌≤◌, Some, None, slice_get, IfOk, MatchResult};
 ghost use Rattle.std.specs.Str.{bytes_eq};
 ghost use Rattle.tools.specs.Numbers.{number_in};
 ghost use Rattle.tools.specs.Readers.{texts, one_at, is_at, is_past};
@@ -32,16 +32,21 @@ pub fn is_past(words: &[&[u8]], at: u16) -> bool
     words.len() <= usize::from(at)
 }
 
+/// The word at a place.
+pub fn word_at<'a>(words: &[&'a [u8]], at: u16) -> Result<&'a [u8], WordRefused>
+    ensures { MatchResult result (λ w. slice_get (texts words.now) at ≡ Some w.now) (λ k. (slice_get (texts words.now) at ≡ None) × (k ≡ at)) }
+{
+    match words.get(usize::from(at)) {
+        Some(word) => Ok(*word),
+        None => Err(WordRefused(at)),
+    }
+}
+
 /// The number of the word at a place, from `low` to `high`.
 pub fn number_at(words: &[&[u8]], at: u16, low: u16, high: u16) -> Result<u16, WordRefused>
     ensures gives { result ≡ one_at (number_in low high) (texts words.now) at }
     ensures high { IfOk result (λ n. n ≤ high) }
 {
-    match words.get(usize::from(at)) {
-        Some(word) => match number_in(*word, low, high) {
-            Some(number) => Ok(number),
-            None => Err(WordRefused(at)),
-        },
-        None => Err(WordRefused(at)),
-    }
+    let word = word_at(words, at)?;
+    number_in(word, low, high).ok_or(WordRefused(at))
 }

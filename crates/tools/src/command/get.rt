@@ -8,7 +8,7 @@ ghost use Rattle.tools.specs.Readers.{texts, one_at};
 use crate::command::Cmd;
 use crate::fault::WordRefused;
 use crate::options::{address_at, bus_at, byte_at, options};
-use crate::reader::{is_past, is_text, number_at};
+use crate::reader::{is_past, is_text, number_at, word_at};
 use crate::run::ToolRun;
 use crate::run::call::{BlockLen, Callee, HeldCall, HeldOp};
 use crate::run::chain::Chain;
@@ -75,13 +75,8 @@ fn mode_named(word: &[u8]) -> Option<(GetMode, bool)>
 fn mode_at(words: &[&[u8]], at: u16) -> Result<(GetMode, bool), WordRefused>
     ensures { result ≡ one_at mode_named (texts words.now) at }
 {
-    match words.get(usize::from(at)) {
-        Some(word) => match mode_named(*word) {
-            Some(mode) => Ok(mode),
-            None => Err(WordRefused(at)),
-        },
-        None => Err(WordRefused(at)),
-    }
+    let word = word_at(words, at)?;
+    mode_named(word).ok_or(WordRefused(at))
 }
 
 // Reads what stands behind MODE: LEN, which may be missing, behind `i`, and nothing behind another.

@@ -13,7 +13,7 @@ use crate::fault::{LineFault, WordRefused};
 use crate::lists::{Octets, Words};
 use crate::number::number_in;
 use crate::options::{address_at, bus_at, byte_at, options};
-use crate::reader::{is_past, is_text};
+use crate::reader::{is_past, is_text, word_at};
 use crate::run::ToolRun;
 use crate::run::call::{Callee, HeldBlock, HeldCall, HeldOp};
 use i2c_base::{Addr, I2C_BLOCK_LIMIT, NoMemory};
@@ -114,12 +114,8 @@ fn byte_mode(word: &[u8]) -> Option<(SetMode, bool)>
         Some((SetMode::Byte, false))
     } else if is_text(word, b"bp") {
         Some((SetMode::Byte, true))
-    } else if is_text(word, b"w") {
-        Some((SetMode::Word, false))
-    } else if is_text(word, b"wp") {
-        Some((SetMode::Word, true))
     } else {
-        block_mode(true, word)
+        word_mode(word).or(block_mode(true, word))
     }
 }
 
@@ -140,78 +136,48 @@ fn mode_or(mode: Option<(SetMode, bool)>, word: &[u8], high: u16) -> Option<SetP
 fn first_piece_at(words: &[&[u8]], at: u16) -> Result<SetPiece, WordRefused>
     ensures { result ≡ one_at first_piece.of (texts words.now) at }
 {
-    match words.get(usize::from(at)) {
-        Some(word) => match mode_or(send_mode(*word), *word, u16::MAX) {
-            Some(piece) => Ok(piece),
-            None => Err(WordRefused(at)),
-        },
-        None => Err(WordRefused(at)),
-    }
+    let word = word_at(words, at)?;
+    mode_or(send_mode(word), word, u16::MAX).ok_or(WordRefused(at))
 }
 
 // Behind one byte.
 fn second_piece_at(words: &[&[u8]], at: u16) -> Result<SetPiece, WordRefused>
     ensures { result ≡ one_at second_piece.of (texts words.now) at }
 {
-    match words.get(usize::from(at)) {
-        Some(word) => match mode_or(byte_mode(*word), *word, 255) {
-            Some(piece) => Ok(piece),
-            None => Err(WordRefused(at)),
-        },
-        None => Err(WordRefused(at)),
-    }
+    let word = word_at(words, at)?;
+    mode_or(byte_mode(word), word, 255).ok_or(WordRefused(at))
 }
 
 // Behind several bytes.
 fn block_piece_at(words: &[&[u8]], at: u16, short: bool) -> Result<SetPiece, WordRefused>
     ensures { result ≡ one_at (block_piece short).of (texts words.now) at }
 {
-    match words.get(usize::from(at)) {
-        Some(word) => match mode_or(block_mode(short, *word), *word, 255) {
-            Some(piece) => Ok(piece),
-            None => Err(WordRefused(at)),
-        },
-        None => Err(WordRefused(at)),
-    }
+    let word = word_at(words, at)?;
+    mode_or(block_mode(short, word), word, 255).ok_or(WordRefused(at))
 }
 
 // The mode that the word at a place names: behind a number above 255.
 fn word_mode_at(words: &[&[u8]], at: u16) -> Result<(SetMode, bool), WordRefused>
     ensures { result ≡ one_at word_mode (texts words.now) at }
 {
-    match words.get(usize::from(at)) {
-        Some(word) => match word_mode(*word) {
-            Some(mode) => Ok(mode),
-            None => Err(WordRefused(at)),
-        },
-        None => Err(WordRefused(at)),
-    }
+    let word = word_at(words, at)?;
+    word_mode(word).ok_or(WordRefused(at))
 }
 
 // Behind one byte, where a block has no more.
 fn byte_mode_at(words: &[&[u8]], at: u16) -> Result<(SetMode, bool), WordRefused>
     ensures { result ≡ one_at byte_mode (texts words.now) at }
 {
-    match words.get(usize::from(at)) {
-        Some(word) => match byte_mode(*word) {
-            Some(mode) => Ok(mode),
-            None => Err(WordRefused(at)),
-        },
-        None => Err(WordRefused(at)),
-    }
+    let word = word_at(words, at)?;
+    byte_mode(word).ok_or(WordRefused(at))
 }
 
 // Behind several bytes, where a block has no more.
 fn block_mode_at(words: &[&[u8]], at: u16, short: bool) -> Result<(SetMode, bool), WordRefused>
     ensures { result ≡ one_at (block_mode short) (texts words.now) at }
 {
-    match words.get(usize::from(at)) {
-        Some(word) => match block_mode(short, *word) {
-            Some(mode) => Ok(mode),
-            None => Err(WordRefused(at)),
-        },
-        None => Err(WordRefused(at)),
-    }
+    let word = word_at(words, at)?;
+    block_mode(short, word).ok_or(WordRefused(at))
 }
 
 // Nothing stands behind the mode.

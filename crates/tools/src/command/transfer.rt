@@ -13,7 +13,7 @@ use crate::fault::{LineFault, WordRefused};
 use crate::lists::{Desc, DescOp, Descs, Octets};
 use crate::number::number_in;
 use crate::options::{bus_at, options};
-use crate::reader::is_past;
+use crate::reader::{is_past, word_at};
 use crate::words::{Gap, gap_at};
 use i2c_base::{Addr, MOST_BYTES, MOST_LENGTH, MOST_MESSAGES, NoMemory};
 use std::alloc::Global;
@@ -126,13 +126,8 @@ fn head_at(words: &[&[u8]], at: u16, held: Option<u8>, room: u16) -> Result<Desc
     ensures value { result ≡ one_at (head_of held room) (texts words.now) at }
     ensures room { IfOk result (λ d. d.len ≤ room) }
 {
-    match words.get(usize::from(at)) {
-        Some(word) => match head_of(*word, held, room) {
-            Some(head) => Ok(head),
-            None => Err(WordRefused(at)),
-        },
-        None => Err(WordRefused(at)),
-    }
+    let word = word_at(words, at)?;
+    head_of(word, held, room).ok_or(WordRefused(at))
 }
 
 // How far a byte is above the one before, by the suffix.
@@ -179,13 +174,8 @@ fn datum_of(word: &[u8], is_last: bool) -> Option<Datum>
 fn datum_at(words: &[&[u8]], at: u16, is_last: bool) -> Result<Datum, WordRefused>
     ensures { result ≡ one_at (datum_word is_last).of (texts words.now) at }
 {
-    match words.get(usize::from(at)) {
-        Some(word) => match datum_of(*word, is_last) {
-            Some(datum) => Ok(datum),
-            None => Err(WordRefused(at)),
-        },
-        None => Err(WordRefused(at)),
-    }
+    let word = word_at(words, at)?;
+    datum_of(word, is_last).ok_or(WordRefused(at))
 }
 
 // Puts so many bytes at the end, each by a step above the one before.
