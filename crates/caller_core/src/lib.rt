@@ -2,7 +2,7 @@
 //!
 //! Its public contract: `Script` is opened exactly where each line of its text is in the grammar, asks for the transfers
 //! of its commands one after the other, and prints them with their answers, those that ask for nothing at their turn; it
-//! tells what they cost and which roots they name. Once its room is made nothing takes memory. A script is a fair caller (`scripts_are_fair`), and no text that it
+//! tells what they cost and which roots they name. Once it is opened nothing takes memory. A script is a fair caller (`scripts_are_fair`), and no text that it
 //! prints has a line `journal` (`no_section_has_a_journal_line`). Definitions:
 //! `specs/Turns.antt` (whose turn it is), `specs/Scripts.antt` (a script), `specs/Callers.antt` (a script as
 //! a caller), `specs/Roots.antt` (the roots that it names), `specs/View.antt` (what contracts see); what each command asks
