@@ -16,6 +16,7 @@ pub mod SaysLemmas
 pub mod SetLemmas
 pub mod SetRuns
 pub mod SplitLemmas
+pub mod TableLemmas
 pub mod TransferLemmas
 pub mod ValueLemmas
 pub mod WindowLemmas

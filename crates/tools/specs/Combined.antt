@@ -1,5 +1,5 @@
 -- i2ctransfer: its line (i2c-tools, i2ctransfer(8)).
-use Rattle.std.specs.Prelude.{ℕ, zero, suc, ◌+◌, ◌-◌, ◌%◌, ◌^◌, ◌<◌, ◌≤◌, ◌==◌, nat_le, nat_lt, Bool, true, false, ◌||◌, List, [], ◌∷◌, ◌++◌, length, take, drop, slice_index_or, All, Option, Some, None, Result, Ok, option_and_then, if◌then◌else◌, codes, refl}
+use Rattle.std.specs.Prelude.{ℕ, zero, suc, ◌+◌, ◌-◌, ◌%◌, ◌^◌, ◌<◌, ◌≤◌, ◌==◌, nat_le, Bool, true, false, ◌||◌, List, [], ◌∷◌, ◌++◌, length, take, slice_index_or, All, Option, Some, None, Result, Ok, option_and_then, if◌then◌else◌, codes, refl}
 use Rattle.std.specs.List.{sum_by}
 use Rattle.i2c_base.specs.Addr.{IsTargetAddress}
 use Rattle.i2c_base.specs.Bytes.{AreBytes}
@@ -9,7 +9,7 @@ use Rattle.tools.specs.LineSets.{Word}
 use Rattle.tools.specs.Numbers.{number_in}
 use Rattle.tools.specs.Options.{bus_number, force_and_yes}
 use Rattle.tools.specs.Readers.{◌>>=◌, one_at, over_at, is_past}
-use Rattle.tools.specs.Words.{gap_at}
+use Rattle.tools.specs.Words.{before_gap, behind_gap}
 use Rattle.tools.specs.declared.command.Cmd.{Cmd}
 use Rattle.tools.specs.declared.command.Cmd.TheVariants as cmd
 use Rattle.tools.specs.declared.command.transfer.Combined.{Combined}
@@ -31,10 +31,10 @@ is_at_sign b = b == 64
 
 -- what stands before the first `@`, and behind it, if there is one
 abbrev pub before_at : Word → Word
-before_at w = take (gap_at is_at_sign w) w
+before_at w = before_gap is_at_sign w
 
 abbrev pub after_at : Word → Option Word
-after_at w = if nat_lt (gap_at is_at_sign w) (length w) then Some (drop (gap_at is_at_sign w + 1) w) else None
+after_at w = behind_gap is_at_sign w
 
 -- the address, or the one held from the message before
 abbrev pub address_in : Option ℕ → Option Word → Option ℕ

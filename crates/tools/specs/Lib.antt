@@ -16,6 +16,7 @@ pub mod Runs
 pub mod Says
 pub mod Sets
 pub mod Splits
+pub mod Tables
 pub mod Transfers
 pub mod Values
 pub mod View

@@ -1,5 +1,5 @@
 -- Words: the longest runs of bytes with no gap in them.
-use Rattle.std.specs.Prelude.{ℕ, ◌+◌, Bool, false, not, List, [], ◌∷◌, if◌then◌else◌}
+use Rattle.std.specs.Prelude.{ℕ, ◌+◌, nat_lt, Bool, false, not, List, [], ◌∷◌, length, take, drop, Option, Some, None, if◌then◌else◌}
 
 -- a text begins with a word, where its first byte is none of the gaps
 abbrev pub begins_with_word : (ℕ → Bool) → List ℕ → Bool
@@ -28,3 +28,10 @@ behind_gaps is_gap (b ∷ bs) = if is_gap b then behind_gaps is_gap bs else b �
 abbrev pub gap_at : (ℕ → Bool) → List ℕ → ℕ
 gap_at is_gap [] = 0
 gap_at is_gap (b ∷ bs) = if is_gap b then 0 else gap_at is_gap bs + 1
+
+-- what stands before the first gap, and behind it, if there is one
+abbrev pub before_gap : (ℕ → Bool) → List ℕ → List ℕ
+before_gap is_gap text = take (gap_at is_gap text) text
+
+abbrev pub behind_gap : (ℕ → Bool) → List ℕ → Option (List ℕ)
+behind_gap is_gap text = if nat_lt (gap_at is_gap text) (length text) then Some (drop (gap_at is_gap text + 1) text) else None

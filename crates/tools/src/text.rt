@@ -1,6 +1,7 @@
 //! Bytes that grow at their end, as what a command prints does.
 
 ghost use Rattle.std.specs.Prelude.{◌≡◌, ◌+◌, ◌≤◌, [], ◌∷◌, ◌++◌, length, OnOk};
+ghost use Rattle.tools.specs.Tables.{trimmed};
 
 use i2c_base::NoMemory;
 use std::alloc::Global;
@@ -54,6 +55,17 @@ impl Text {
         ensures room { self.old.room ≤ self.new.room + length bytes.now }
     {
         let _ = self.bytes.extend_from_slice(bytes);
+    }
+
+    /// Takes the spaces off the end.
+    #[tactic(auto, using(crate::proofs::TableLemmas::trimmed_space, crate::proofs::TableLemmas::trimmed_done))]
+    pub fn trim(&mut self)
+        ensures bytes { self.new.bytes ≡ trimmed self.old.bytes }
+        ensures room { self.old.room ≤ self.new.room }
+    {
+        while let Some(b' ') = self.bytes.last() {
+            self.bytes.pop();
+        }
     }
 
     /// Puts a byte at the end.

@@ -1,0 +1,76 @@
+-- Spaces at the end, one by one, and of the last row alone; one part more.
+use Rattle.std.proofs.Common.{◌≡◌, ℕ, zero, suc, ◌+◌, List, [], ◌∷◌, ◌++◌, reverse, true, false, cond, append_assoc, append-nil, refl, sym, ap, ◌∙◌, add-one, arith, codes}
+use Rattle.std.specs.Prelude.{◌==◌}
+use Rattle.std.specs.List.{flat_map}
+use Rattle.std.proofs.lemmas.List.{reverse-append, reverse-reverse}
+use Rattle.std.proofs.lemmas.List.Concat.{flat_map-append}
+use Rattle.bus_spec.specs.Lines.{two_digits}
+use Rattle.bus_journal.specs.Reports.{ended}
+use Rattle.tools.specs.Tables.{skip_spaces, trimmed, parts, row_front}
+
+pub trimmed_space : (xs : List ℕ) → trimmed (xs ++ 32 ∷ []) ≡ trimmed xs
+trimmed_space xs = rw (reverse-append xs (32 ∷ []))
+
+turned_back : (xs : List ℕ) (x : ℕ) → reverse (x ∷ reverse xs) ≡ xs ++ x ∷ []
+turned_back xs x = sym (ap reverse (reverse-append xs (x ∷ []))) ∙ reverse-reverse (xs ++ x ∷ [])
+
+pub trimmed_done : (xs : List ℕ) (x : ℕ) → (x == 32) ≡ false → trimmed (xs ++ x ∷ []) ≡ xs ++ x ∷ []
+trimmed_done xs x other = rw (reverse-append xs (x ∷ []), other) (turned_back xs x)
+
+skip_front : (xs : List ℕ) (sign : ℕ) (ys zs : List ℕ) → (sign == 32) ≡ false → skip_spaces (xs ++ sign ∷ (ys ++ zs)) ≡ skip_spaces (xs ++ sign ∷ ys) ++ zs
+skip_front [] sign ys zs other = ap (λ b. cond b (skip_spaces (ys ++ zs)) (sign ∷ (ys ++ zs))) other ∙ sym (ap (λ b. cond b (skip_spaces ys) (sign ∷ ys) ++ zs) other)
+skip_front (x ∷ xs) sign ys zs other =
+    elim (x == 32) as (λ b. cond b (skip_spaces (xs ++ sign ∷ (ys ++ zs))) (x ∷ (xs ++ sign ∷ (ys ++ zs))) ≡ cond b (skip_spaces (xs ++ sign ∷ ys)) (x ∷ (xs ++ sign ∷ ys)) ++ zs) [
+      | true ↦ skip_front xs sign ys zs other
+      | false ↦ ap (λ l. x ∷ l) (sym (append_assoc xs (sign ∷ ys) zs))
+    ]
+
+turned : (front back : List ℕ) (sign : ℕ) → reverse (front ++ sign ∷ back) ≡ reverse back ++ sign ∷ reverse front
+turned front back sign = reverse-append front (sign ∷ back) ∙ ap (λ l. l ++ reverse front) (reverse-append (sign ∷ []) back) ∙ append_assoc (reverse back) (sign ∷ []) (reverse front)
+
+trims_alone : (o front back : List ℕ) (sign : ℕ) → (sign == 32) ≡ false → trimmed (o ++ (front ++ sign ∷ back)) ≡ o ++ trimmed (front ++ sign ∷ back)
+trims_alone o front back sign other =
+    let row : List ℕ = front ++ sign ∷ back in
+    let whole : reverse (o ++ row) ≡ reverse back ++ sign ∷ (reverse front ++ reverse o) =
+    reverse-append o row ∙ ap (λ l. l ++ reverse o) (turned front back sign) ∙ append_assoc (reverse back) (sign ∷ reverse front) (reverse o) in
+    ap (λ l. reverse (skip_spaces l)) whole
+    ∙ ap reverse (skip_front (reverse back) sign (reverse front) (reverse o) other)
+    ∙ reverse-append (skip_spaces (reverse back ++ sign ∷ reverse front)) (reverse o)
+    ∙ ap (λ l. l ++ reverse (skip_spaces (reverse back ++ sign ∷ reverse front))) (reverse-reverse o)
+    ∙ ap (λ l. o ++ reverse (skip_spaces l)) (sym (turned front back sign))
+
+-- a row behind other text is trimmed by itself
+pub row_trimmed : (o : List ℕ) (row : ℕ) (back : List ℕ) → trimmed (o ++ (row_front row ++ back)) ≡ o ++ trimmed (row_front row ++ back)
+row_trimmed o row back = trims_alone o (two_digits row) back 58 refl
+
+pub parts_none : {A : Type 0} (f : ℕ → List A) → parts f 0 ≡ []
+unfolding parts
+parts_none f = refl
+
+pub parts_more : {A : Type 0} (f : ℕ → List A) (n : ℕ) → parts f (n + 1) ≡ parts f n ++ f n
+unfolding parts
+parts_more f n = rw add-one
+
+pub ruleset part_steps = (parts_none, parts_more, append_assoc, append-nil)
+
+-- lines behind the first one, which are one more at each turn
+pub lines_none : (h : List ℕ) (f : ℕ → List (List ℕ)) → flat_map ended (h ∷ parts f 0) ≡ h ++ 10 ∷ []
+unfolding parts
+lines_none h f = append-nil (ended h)
+
+pub lines_more : (h : List ℕ) (f : ℕ → List (List ℕ)) (n : ℕ) → flat_map ended (h ∷ parts f (n + 1)) ≡ flat_map ended (h ∷ parts f n) ++ flat_map ended (f n)
+lines_more h f n = rw (parts_more f n) (ap (λ t. ended h ++ t) (flat_map-append ended (parts f n) (f n)) ∙ sym (append_assoc (ended h) (flat_map ended (parts f n)) (flat_map ended (f n))))
+
+-- a row with its cells is trimmed and ended
+pub row_ended : (o cells a b c d : List ℕ) (row : ℕ) → a ≡ o ++ row_front row → b ≡ a ++ cells → c ≡ trimmed b → d ≡ c ++ 10 ∷ [] → d ≡ o ++ ended (trimmed (row_front row ++ cells))
+row_ended o cells a b c d row ea eb ec ed =
+    let whole : b ≡ o ++ (row_front row ++ cells) = eb ∙ ap (λ t. t ++ cells) ea ∙ append_assoc o (row_front row) cells in
+    let cut : c ≡ o ++ trimmed (row_front row ++ cells) = ec ∙ ap trimmed whole ∙ row_trimmed o row cells in
+    ed ∙ ap (λ t. t ++ 10 ∷ []) cut ∙ append_assoc o (trimmed (row_front row ++ cells)) (10 ∷ [])
+
+-- one row more behind a text that has the first lines
+pub line_next : (o h x now new : List ℕ) (f : ℕ → List (List ℕ)) (n : ℕ) → f n ≡ x ∷ [] → now ≡ o ++ flat_map ended (h ∷ parts f n) → new ≡ now ++ ended x → new ≡ o ++ flat_map ended (h ∷ parts f (n + 1))
+line_next o h x now new f n is same next =
+    next ∙ ap (λ t. t ++ ended x) same ∙ append_assoc o (flat_map ended (h ∷ parts f n)) (ended x)
+    ∙ ap (λ t. o ++ (flat_map ended (h ∷ parts f n) ++ t)) (sym (append-nil (ended x)) ∙ ap (λ (l : List (List ℕ)). flat_map ended l) (sym is))
+    ∙ ap (λ t. o ++ t) (sym (lines_more h f n))
