@@ -9,7 +9,7 @@ use Rattle.tools.specs.declared.command.Cmd.{Cmd}
 use Rattle.tools.specs.declared.command.Cmd.TheVariants as cmd
 use Rattle.tools.proofs.CombinedRanges.{combined_line_fits, combined_line_within}
 use Rattle.tools.proofs.DetectLemmas.{detect_fits, detect_within, list_lines}
-use Rattle.tools.proofs.FormLemmas.{AsksWithin, HasSectionLines, says_nothing, transfer_asks_within, says_lines, transfer_lines}
+use Rattle.tools.proofs.FormLemmas.{AsksWithin, HasSectionLines, says_nothing, transfer_asks_within, scan_asks_within, says_lines, transfer_lines, scan_lines}
 use Rattle.tools.proofs.GetLemmas.{get_fits, get_within, get_asks, get_lines}
 use Rattle.tools.proofs.GrammarLemmas.{AllEnds, EndsWithin, ends_within_most}
 use Rattle.tools.proofs.SetLemmas.{set_line_fits, set_line_within}
@@ -27,7 +27,7 @@ lines_within limit = (
   ends_within_most 7 4141 get_words (omega arith) get_within,
   (
     ends_within_most 261 4141 (set_words limit) (omega arith) (set_line_within limit),
-    (combined_line_within, ends_within_most 7 4141 detect_words (omega arith) detect_within),
+    (combined_line_within, ends_within_most 5 4141 detect_words (omega arith) detect_within),
   ),
 )
 
@@ -37,6 +37,7 @@ asks b limit (cmd.Get g) range = get_asks g range
 asks b limit (cmd.Set s) range = set_asks limit s range
 asks b limit (cmd.Combined t) range = transfer_asks_within t range
 asks b limit cmd.List range = says_nothing (bus_lines b)
+asks b limit (cmd.Detect d) range = scan_asks_within d
 
 -- it prints lines, of which none is `journal`
 pub answers : (b : BoardView) (c : Cmd) → HasSectionLines (run_of b c)
@@ -44,3 +45,4 @@ answers b (cmd.Get g) = get_lines g
 answers b (cmd.Set s) = set_lines s
 answers b (cmd.Combined t) = transfer_lines t
 answers b cmd.List = says_lines (bus_lines b) (list_lines b)
+answers b (cmd.Detect d) = scan_lines d

@@ -17,6 +17,7 @@ use Rattle.tools.specs.Chains.{chain_text}
 use Rattle.tools.specs.Combined.{IsCombinedInRange}
 use Rattle.tools.specs.Runs.{dialogue_of}
 use Rattle.tools.specs.declared.command.transfer.Combined.{Combined}
+use Rattle.tools.specs.declared.command.detect.Detect.{Detect}
 use Rattle.tools.specs.declared.run.ToolRun.{ToolRun}
 use Rattle.tools.specs.declared.run.ToolRun.TheVariants as run
 use Rattle.tools.specs.declared.run.call.Callee.{Callee}
@@ -25,6 +26,7 @@ use Rattle.tools.specs.declared.run.call.HeldOp.{HeldOp}
 use Rattle.tools.specs.declared.run.call.HeldOp.TheVariants as held
 use Rattle.tools.specs.declared.run.chain.Chain.{Chain}
 use Rattle.tools.proofs.MessageLemmas.{messages_ask, reply_line}
+use Rattle.tools.proofs.ScanLemmas.{probe_asks, printed_lines}
 use Rattle.tools.proofs.TransferLemmas.{IsAsk, call_asks, short_byte, short_bytes, word_bytes}
 use Rattle.tools.proofs.ValueLemmas.{result_line}
 
@@ -87,6 +89,9 @@ module _ (to : Callee) (near : IsTargetAddress to.addr) where
 pub transfer_asks_within : (c : Combined) → IsCombinedInRange c → AsksWithin (run.Transfers c)
 transfer_asks_within c range k within = messages_ask c range
 
+pub scan_asks_within : (d : Detect) → AsksWithin (run.Scans d)
+scan_asks_within d k within = probe_asks d k within
+
 pub says_nothing : (lines : List (List ℕ)) → AsksWithin (run.Says lines)
 says_nothing lines k within = absurd (omega arith)
 
@@ -112,3 +117,6 @@ chain_lines c replies =
 
 pub transfer_lines : (c : Combined) → HasSectionLines (run.Transfers c)
 transfer_lines c replies = reply_line c.messages (slice_index_or replies 0 reply.Done)
+
+pub scan_lines : (d : Detect) → HasSectionLines (run.Scans d)
+scan_lines d replies = printed_lines d replies

@@ -13,6 +13,7 @@ pub mod LineSetLemmas
 pub mod MessageLemmas
 pub mod OptionLemmas
 pub mod SaysLemmas
+pub mod ScanLemmas
 pub mod SetLemmas
 pub mod SetRuns
 pub mod SplitLemmas

@@ -7,7 +7,7 @@ use Rattle.i2c_base.specs.declared.reply.ReplyHead.{ReplyHead}
 use Rattle.tools.specs.Replies.{reply_of, replies_of}
 
 module _ (items : List (ReplyHead × List ℕ)) (from place : ℕ) where
-  many : length (drop from (replies_of items)) ≡ length items - from
+  pub many : length (drop from (replies_of items)) ≡ length items - from
   many = omega (arith, length-drop from (replies_of items), length-map items reply_of)
 
   pub none_kept : length items - from ≤ place → slice_get (drop from (replies_of items)) place ≡ None

@@ -3,7 +3,7 @@ use Rattle.std.specs.Prelude.{⊤, ℕ, ◌+◌, codes}
 use Rattle.i2c_base.specs.Board.{BoardView}
 use Rattle.i2c_base.specs.Limits.{MOST_MESSAGES, MOST_BYTES}
 use Rattle.tools.specs.Combined.{combined_words, IsCombinedInRange}
-use Rattle.tools.specs.Detects.{detect_words, bus_lines}
+use Rattle.tools.specs.Detects.{detect_words, IsDetectInRange, bus_lines}
 use Rattle.tools.specs.Gets.{get_words, IsGetInRange, get_run}
 use Rattle.tools.specs.Grammars.{Grammar, line_set, word, word_or}
 use Rattle.tools.specs.LineSets.{LineSet}
@@ -36,6 +36,7 @@ IsInRange limit (cmd.Get g) = IsGetInRange g
 IsInRange limit (cmd.Set s) = IsSetInRange limit s
 IsInRange limit (cmd.Combined c) = IsCombinedInRange c
 IsInRange limit cmd.List = ⊤
+IsInRange limit (cmd.Detect d) = IsDetectInRange d
 
 -- ---- a command that runs
 
@@ -45,3 +46,4 @@ run_of b (cmd.Get g) = get_run g
 run_of b (cmd.Set s) = set_run s
 run_of b (cmd.Combined c) = run.Transfers c
 run_of b cmd.List = run.Says (bus_lines b)
+run_of b (cmd.Detect d) = run.Scans d

@@ -14,6 +14,7 @@ pub mod Readers
 pub mod Replies
 pub mod Runs
 pub mod Says
+pub mod Scans
 pub mod Sets
 pub mod Splits
 pub mod Tables

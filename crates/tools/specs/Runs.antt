@@ -3,6 +3,7 @@ use Rattle.tools.specs.Calls.{calls}
 use Rattle.tools.specs.Chains.{chains}
 use Rattle.tools.specs.Dialogues.{Dialogue}
 use Rattle.tools.specs.Says.{says}
+use Rattle.tools.specs.Scans.{scans}
 use Rattle.tools.specs.Transfers.{transfers}
 use Rattle.tools.specs.declared.run.ToolRun.{ToolRun}
 use Rattle.tools.specs.declared.run.ToolRun.TheVariants as run
@@ -13,3 +14,4 @@ dialogue_of (run.Says lines) = says lines
 dialogue_of (run.Calls call) = calls call
 dialogue_of (run.Chains chain) = chains chain
 dialogue_of (run.Transfers combined) = transfers combined
+dialogue_of (run.Scans d) = scans d

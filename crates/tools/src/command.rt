@@ -14,6 +14,7 @@ use crate::fault::LineFault;
 use crate::reader::is_at;
 use crate::run::ToolRun;
 use crate::run::messages::Messages;
+pub use detect::{Detect, Probe};
 pub use get::{Get, GetMode};
 use i2c_base::{MOST_BYTES, MOST_MESSAGES, NoMemory};
 use i2c_board::Board;
@@ -32,6 +33,8 @@ pub enum Cmd {
     Combined(Combined),
     /// Lists the buses.
     List,
+    /// Probes the addresses of a bus.
+    Detect(Detect),
 }
 
 /// The words of the longest line.
@@ -66,5 +69,6 @@ pub(crate) fn run_of(alloc: Global, board: &Board, cmd: Cmd) -> Result<ToolRun, 
         Cmd::Set(set) => set::run(alloc, &set),
         Cmd::Combined(combined) => Ok(ToolRun::Transfers(Messages::new(combined))),
         Cmd::List => Ok(ToolRun::Says(detect::bus_lines(alloc, board)?)),
+        Cmd::Detect(detect) => Ok(ToolRun::Scans(detect)),
     }
 }

@@ -14,7 +14,8 @@
 //!   `i2cset`, `specs/Combined.antt` of `i2ctransfer`, `specs/Detects.antt` of `i2cdetect`). It has one of a few forms, and each form is a
 //!   dialogue (`dialogue_of` of `specs/Runs.antt`): places with a transfer each, where it goes on behind a reply, the lines
 //!   that it prints, and the room for them (`specs/Dialogues.antt`). Its caller keeps its place and its replies.
-//!   `specs/Values.antt` tells how values are printed.
+//!   `specs/Values.antt` tells how values are printed, and `specs/Tables.antt` how the rows of a table are. `specs/Scans.antt` tells
+//!   which addresses a scan probes, by what, and its table.
 //! - Texts. `cut_line` tells the first line of a text, and `push_echo` prints a line's words (`specs/Splits.antt`).
 //!   `skip_gaps` and `first_word` take the words off any text, with whatever bytes a `Gap` says between them
 //!   (`specs/Words.antt`).
@@ -39,10 +40,12 @@ mod words;
 pub use command::Cmd;
 pub use examples::{
     a_block_ends_at_its_limit, a_block_is_printed_without_its_count,
+    a_bus_that_is_missing_is_told_alone, a_byte_is_received_where_eeproms_stand,
     a_line_that_is_too_long_is_refused_behind_the_longest, a_mode_tells_the_values,
-    a_suffix_tells_the_bytes_behind_it, a_word_is_printed_high_byte_first,
-    a_wrong_code_is_told_with_the_right_one, an_address_holds_until_the_next,
-    an_error_ends_a_command, each_read_has_a_line, messages_end_at_their_limits,
+    a_suffix_tells_the_bytes_behind_it, a_table_tells_who_answers,
+    a_word_is_printed_high_byte_first, a_wrong_code_is_told_with_the_right_one,
+    an_address_holds_until_the_next, an_error_ends_a_command, each_read_has_a_line,
+    last_is_not_below_first, messages_end_at_their_limits, reserved_addresses_are_not_probed,
     the_buses_are_listed_by_number, the_number_is_sent_and_a_byte_is_received,
     writes_alone_are_told_to_be_done,
 };

@@ -1,6 +1,6 @@
 //! The replies of a command where they are kept.
 
-ghost use Rattle.std.specs.Prelude.{◌≡◌, slice_get};
+ghost use Rattle.std.specs.Prelude.{◌≡◌, length, slice_get};
 ghost use Rattle.std.specs.Option.{option_map};
 ghost use Rattle.i2c_base.specs.Replies.{reply_by};
 
@@ -26,6 +26,14 @@ impl<'a> Model for Window<'a> {
 }
 
 impl<'a> Window<'a> {
+    /// How many there are.
+    #[tactic(auto, using(crate::proofs::WindowLemmas::many))]
+    pub(crate) fn len(&self) -> usize
+        ensures { result ≡ length self.now }
+    {
+        self.replies.len().saturating_sub(self.from)
+    }
+
     /// The reply at a place, if there is one.
     #[tactic(auto, using(crate::proofs::WindowLemmas::none_kept, crate::proofs::WindowLemmas::kept_at))]
     pub fn get(&self, place: usize) -> Option<(ReplyHead, &'a [u8])>

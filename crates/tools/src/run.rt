@@ -12,8 +12,10 @@ pub(crate) mod call;
 pub(crate) mod chain;
 pub(crate) mod lines;
 pub(crate) mod messages;
+mod scan;
+mod table;
 
-use crate::command::{Cmd, run_of};
+use crate::command::{Cmd, Detect, run_of};
 use crate::replies::Window;
 use crate::text::Text;
 use call::HeldCall;
@@ -22,6 +24,7 @@ use i2c_base::{NoMemory, ReplyHead, Transfer};
 use i2c_board::Accepted;
 use lines::Lines;
 use messages::Messages;
+use scan::MOST_SCANNED;
 use std::alloc::Global;
 
 /// A command as it runs: what the board's answers leave of it. How far it has come, and the replies, are its caller's.
@@ -35,6 +38,8 @@ pub enum ToolRun {
     Chains(Chain),
     /// Makes one plain transfer, and prints what its messages read.
     Transfers(Messages),
+    /// Probes the addresses of a bus, and prints a table of who answers.
+    Scans(Detect),
 }
 
 impl ToolRun {
@@ -56,6 +61,7 @@ impl ToolRun {
             ToolRun::Calls(_) => 1,
             ToolRun::Chains(_) => 2,
             ToolRun::Transfers(_) => 1,
+            ToolRun::Scans(detect) => detect.probes(),
         }
     }
 
@@ -69,6 +75,7 @@ impl ToolRun {
             ToolRun::Calls(call) => call.put(transfer),
             ToolRun::Chains(chain) => chain.put(place, transfer),
             ToolRun::Transfers(messages) => messages.put(transfer),
+            ToolRun::Scans(detect) => detect.put(place, transfer),
         }
     }
 
@@ -82,6 +89,7 @@ impl ToolRun {
             ToolRun::Calls(_) => 0,
             ToolRun::Chains(_) => skips(head),
             ToolRun::Transfers(_) => 0,
+            ToolRun::Scans(detect) => detect.skips(head),
         };
         place + 1 + skips
     }
@@ -98,6 +106,7 @@ impl ToolRun {
             ToolRun::Calls(call) => call.print(replies, out),
             ToolRun::Chains(chain) => chain.print(replies, out),
             ToolRun::Transfers(messages) => messages.print(replies, out),
+            ToolRun::Scans(detect) => detect.print(replies, out),
         }
     }
 
@@ -110,6 +119,7 @@ impl ToolRun {
             ToolRun::Calls(call) => call.most(),
             ToolRun::Chains(_) => MOST_CHAINED,
             ToolRun::Transfers(messages) => messages.most(),
+            ToolRun::Scans(_) => MOST_SCANNED,
         }
     }
 }

@@ -1,0 +1,123 @@
+-- A scan: its probes are within the limits, what it prints is lines of a section, and whether a reply says that the bus isn't there.
+use Rattle.std.proofs.Common.{◌≡◌, ℕ, zero, suc, ◌+◌, ◌-◌, ◌*◌, ◌<◌, ◌≤◌, Bool, true, false, cond, List, [], ◌∷◌, drop, codes, Option, Some, None, refl, ap, arith}
+use Rattle.std.specs.Prelude.{All, ◌==◌, ◌||◌, slice_get}
+use Rattle.std.specs.List.{list_any}
+use Rattle.std.proofs.lemmas.List.Elements.{All-nil, All-cons}
+use Rattle.bus_journal.specs.Reports.{IsLine, IsSectionLine}
+use Rattle.bus_journal.proofs.LineFeeds.{line-append, two_digits-line}
+use Rattle.bus_spec.specs.Lines.{two_digits, errno_text}
+use Rattle.i2c_base.specs.Bytes.{IsByte}
+use Rattle.i2c_base.specs.Errno.{number_of}
+use Rattle.i2c_base.specs.declared.errno.Errno.{Errno}
+use Rattle.i2c_base.specs.declared.errno.Errno.TheVariants as errno
+use Rattle.i2c_base.specs.declared.reply.Reply.{Reply}
+use Rattle.i2c_base.specs.declared.reply.Reply.TheVariants as reply
+use Rattle.smb_emul.specs.Calls.{messages_of_call}
+use Rattle.smb_emul.specs.declared.call.SmbCall.{SmbCall}
+use Rattle.smb_emul.specs.declared.call.SmbOp.{SmbOp}
+use Rattle.smb_emul.specs.declared.call.SmbOp.TheVariants as op
+use Rattle.tools.specs.Scans.{first_probed, probes, is_probed, is_received, probe_op, probe_call, is_absent, error_cell, answer_cell, scan_cell, scan_line, scan_lines}
+use Rattle.tools.specs.Tables.{heading, in_row, parts}
+use Rattle.tools.specs.declared.command.detect.Detect.{Detect}
+use Rattle.tools.specs.declared.command.detect.Probe.{Probe}
+use Rattle.tools.specs.declared.command.detect.Probe.TheVariants as probe
+use Rattle.tools.proofs.TableLemmas.{row_line, parts_line, parts_all}
+use Rattle.tools.proofs.TransferLemmas.{IsAsk, IsShortWrite, call_asks}
+use Rattle.tools.proofs.ValueLemmas.{others}
+
+-- ---- whether the bus isn't there
+
+pub any_none : {A : Type 0} (p : A → Bool) (xs : List A) (k : ℕ) → slice_get xs k ≡ None → list_any p (drop k xs) ≡ false
+any_none p [] zero e = refl
+any_none p [] (suc k) e = refl
+any_none p (x ∷ xs) zero e = absurd cc
+any_none p (x ∷ xs) (suc k) e = any_none p xs k e
+
+any_from : {A : Type 0} (p : A → Bool) (xs : List A) (k : ℕ) (x : A) → slice_get xs k ≡ Some x
+    → list_any p (drop k xs) ≡ (p x || list_any p (drop (suc k) xs))
+any_from p [] zero x e = absurd cc
+any_from p [] (suc k) x e = absurd cc
+any_from p (y ∷ ys) zero x e = let same : y ≡ x = cc in ap (λ z. p z || list_any p ys) same
+any_from p (y ∷ ys) (suc k) x e = any_from p ys k x e
+
+pub any_some : {A : Type 0} (p : A → Bool) (xs : List A) (k : ℕ) (x : A) → slice_get xs k ≡ Some x
+    → list_any p (drop k xs) ≡ (p x || list_any p (drop (k + 1) xs))
+any_some p xs k x e = let at : k + 1 ≡ suc k = omega arith in rw at (any_from p xs k x e)
+
+-- ---- its probes
+
+nothing_sent : IsShortWrite []
+nothing_sent = record { each = All-nil IsByte; few = omega arith }
+
+module _ (bus addr : ℕ) (near : addr ≤ 119) where
+  abbrev asked : SmbOp → SmbCall
+  asked o = record { bus = bus; addr = addr; force = false; pec = false; op = o }
+
+  quick_asks : IsAsk (messages_of_call (asked op.Quick))
+  quick_asks = call_asks (asked op.Quick) near nothing_sent tt (omega arith)
+
+  receive_asks : IsAsk (messages_of_call (asked op.ReceiveByte))
+  receive_asks = call_asks (asked op.ReceiveByte) near tt (omega arith, omega arith) (omega arith)
+
+  probed_asks : (p : Probe) → IsAsk (messages_of_call (asked (probe_op p addr)))
+  probed_asks probe.ByAddress =
+      elim (is_received addr) as (λ b. IsAsk (messages_of_call (asked (cond b op.ReceiveByte op.Quick)))) [
+        | true ↦ receive_asks
+        | false ↦ quick_asks
+      ]
+  probed_asks probe.Quick = quick_asks
+  probed_asks probe.Receive = receive_asks
+
+pub probe_asks : (d : Detect) (k : ℕ) → k < probes d → IsAsk (messages_of_call (probe_call d (first_probed d + k)))
+probe_asks d k within = probed_asks d.bus (first_probed d + k) (omega (arith, within)) d.probe
+
+-- ---- its table
+
+error_line : (e : Errno) → IsLine (error_cell e)
+error_line e =
+    elim (number_of e == 16) as (λ b. IsLine (cond b (codes " UU") (codes " --"))) [
+      | true ↦ refl
+      | false ↦ refl
+    ]
+
+digits_line : (addr : ℕ) → IsLine (32 ∷ two_digits addr)
+digits_line addr = line-append (codes " ") (two_digits addr) refl (two_digits-line addr)
+
+answer_line : (addr : ℕ) (o : Option Reply) → IsLine (answer_cell addr o)
+answer_line addr None = refl
+answer_line addr (Some reply.Done) = digits_line addr
+answer_line addr (Some (reply.Read bytes)) = digits_line addr
+answer_line addr (Some (reply.Err e)) = error_line e
+
+module _ (d : Detect) (rs : List Reply) where
+  cell_line : (addr : ℕ) → IsLine (scan_cell d rs addr)
+  cell_line addr =
+      elim (is_probed d addr) as (λ b. IsLine (cond b (answer_cell addr (slice_get rs (addr - first_probed d))) (codes "   "))) [
+        | true ↦ answer_line addr (slice_get rs (addr - first_probed d))
+        | false ↦ refl
+      ]
+
+  rows_lines : (r : ℕ) → All IsSectionLine (scan_line d rs r)
+  rows_lines r =
+      let cells : List ℕ = parts (in_row (scan_cell d rs) (16 * r)) 16 in
+      All-cons IsSectionLine _ []
+      (row_line (16 * r) cells (parts_line (in_row (scan_cell d rs) (16 * r)) 16 (λ c. cell_line (16 * r + c)))) (All-nil IsSectionLine)
+
+  -- the heading begins with a space
+  table_lines : All IsSectionLine (heading ∷ parts (scan_line d rs) 8)
+  table_lines =
+      All-cons IsSectionLine heading (parts (scan_line d rs) 8) (record { one = refl; other = others heading 32 refl (omega arith) })
+      (parts_all IsSectionLine (scan_line d rs) 8 rows_lines)
+
+  absent_lines : All IsSectionLine (errno_text errno.Enodev ∷ [])
+  absent_lines =
+      All-cons IsSectionLine (errno_text errno.Enodev) []
+      (record { one = refl; other = others (errno_text errno.Enodev) 69 refl (omega arith) }) (All-nil IsSectionLine)
+
+  pub printed_lines : All IsSectionLine (scan_lines d rs)
+  printed_lines =
+      elim (list_any is_absent rs) as
+      (λ b. All IsSectionLine (cond b (errno_text errno.Enodev ∷ []) (heading ∷ parts (scan_line d rs) 8))) [
+        | true ↦ absent_lines
+        | false ↦ table_lines
+      ]

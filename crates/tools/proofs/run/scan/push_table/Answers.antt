@@ -1,0 +1,19 @@
+use Rattle.std.proofs.Common.{◌++◌, sym, ap, ◌∙◌, refl, arith}
+use Rattle.tools.specs.Scans.{scan_line}
+use Rattle.tools.specs.Tables.{heading}
+use Rattle.tools.proofs.TableLemmas.{lines_none, line_next}
+use Rattle.tools.proofs.run.scan.push_table.Goals as goal
+
+pub loop-row-init : goal.loop-row-init
+loop-row-init c = record {
+  same = c.push.ensures.bytes
+      ∙ ap (λ t. c.args.out.now.bytes ++ t) (sym (lines_none heading (scan_line c.args.detect.now c.args.replies.now)));
+  room = omega (arith, c.push.ensures.room);
+}
+
+pub loop-row-preserved : goal.loop-row-preserved
+loop-row-preserved c = record {
+  same = line_next c.args.out.now.bytes heading _ c.loop-row.out.bytes _ (scan_line c.args.detect.now c.args.replies.now) c.loop-row.row
+      refl c.loop-row.invariant.same c.push_row.ensures.bytes;
+  room = omega (arith, c.push_row.ensures.room, c.loop-row.invariant.room);
+}
