@@ -112,7 +112,7 @@ module _ (to : Callee) (o other : SmbOp) (same : DoesTheSame o other) where
 
 -- ---- which replies are given
 
-some_same : (r s : Reply) → Some r ≡ Some s → r ≡ s
+pub some_same : (r s : Reply) → Some r ≡ Some s → r ≡ s
 some_same r s e = cc
 
 -- the first reply is one that the first transfer may get

@@ -15,7 +15,9 @@ use Rattle.smb_emul.specs.declared.call.SmbOp.TheVariants as op
 use Rattle.tools.specs.Calls.{call_to, held_call, call_text, lent}
 use Rattle.tools.specs.Chains.{chain_text}
 use Rattle.tools.specs.Combined.{IsCombinedInRange}
+use Rattle.tools.specs.Dumps.{IsDumpInRange}
 use Rattle.tools.specs.Runs.{dialogue_of}
+use Rattle.tools.specs.declared.command.dump.Dump.{Dump}
 use Rattle.tools.specs.declared.command.transfer.Combined.{Combined}
 use Rattle.tools.specs.declared.command.detect.Detect.{Detect}
 use Rattle.tools.specs.declared.run.ToolRun.{ToolRun}
@@ -25,6 +27,7 @@ use Rattle.tools.specs.declared.run.call.HeldCall.{HeldCall}
 use Rattle.tools.specs.declared.run.call.HeldOp.{HeldOp}
 use Rattle.tools.specs.declared.run.call.HeldOp.TheVariants as held
 use Rattle.tools.specs.declared.run.chain.Chain.{Chain}
+use Rattle.tools.proofs.DumpLemmas.{dump_asks, dump_section}
 use Rattle.tools.proofs.MessageLemmas.{messages_ask, reply_line}
 use Rattle.tools.proofs.ScanLemmas.{probe_asks, printed_lines}
 use Rattle.tools.proofs.TransferLemmas.{IsAsk, call_asks, short_byte, short_bytes, word_bytes}
@@ -92,6 +95,9 @@ transfer_asks_within c range k within = messages_ask c range
 pub scan_asks_within : (d : Detect) → AsksWithin (run.Scans d)
 scan_asks_within d k within = probe_asks d k within
 
+pub dump_asks_within : (d : Dump) → IsDumpInRange d → AsksWithin (run.Dumps d)
+dump_asks_within d range = dump_asks d range
+
 pub says_nothing : (lines : List (List ℕ)) → AsksWithin (run.Says lines)
 says_nothing lines k within = absurd (omega arith)
 
@@ -120,3 +126,6 @@ transfer_lines c replies = reply_line c.messages (slice_index_or replies 0 reply
 
 pub scan_lines : (d : Detect) → HasSectionLines (run.Scans d)
 scan_lines d replies = printed_lines d replies
+
+pub dump_section_lines : (d : Dump) → HasSectionLines (run.Dumps d)
+dump_section_lines d = dump_section d

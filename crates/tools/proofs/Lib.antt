@@ -4,6 +4,7 @@ pub mod CombinedRanges
 pub mod CommandLemmas
 pub mod DetectLemmas
 pub mod DigitLemmas
+pub mod DumpLemmas
 pub mod FormLemmas
 pub mod GetLemmas
 pub mod GrammarLemmas

@@ -1,5 +1,6 @@
 -- What lines have in common: a number in a word is in its range, and the options are read before what follows them.
-use Rattle.std.proofs.Common.{◌≡◌, ℕ, suc, ◌+◌, ◌≤◌, Bool, true, false, List, Option, Some, None, Result, Ok, Err, cond, codes, refl, arith}
+use Rattle.std.proofs.Common.{◌≡◌, ℕ, suc, ◌+◌, ◌≤◌, ◌&&◌, nat_le, Bool, true, false, List, Option, Some, None, Result, Ok, Err, cond, codes, refl, subst, arith}
+use Rattle.std.specs.Prelude.{IfSome}
 use Rattle.std.proofs.lemmas.Bool.Decides.{nat_tests}
 use Rattle.tools.specs.Grammars.{Grammar, read_at}
 use Rattle.tools.specs.LineSets.{Word}
@@ -7,6 +8,23 @@ use Rattle.tools.specs.Numbers.{number_of, number_in, within}
 use Rattle.tools.specs.Options.{force_and_yes, options_at}
 use Rattle.tools.specs.Readers.{◌>>=◌, is_at}
 use Rattle.tools.proofs.GrammarLemmas.{AllEnds, EndsWithin, ends_within_more}
+
+pub bounded : (a b : ℕ) → nat_le a b ≡ true → a ≤ b
+bounded a b h = grind (arith, nat_tests)
+
+pub both : (a b : Bool) → (a && b) ≡ true → a ≡ true
+both true b h = refl
+both false b h = absurd cc
+
+-- a mode that a test names, and the modes behind it
+pub if_named : {M : Type 0} (Q : M → Type 0) (b : Bool) (m : M) (o : Option M) → (b ≡ true → Q m) → IfSome o Q
+    → IfSome (cond b (Some m) o) Q
+if_named Q true m o q r = q refl
+if_named Q false m o q r = r
+
+pub mode_is : {M : Type 0} (Q : M → Type 0) (o : Option M) (m : M) → o ≡ Some m → IfSome o Q → Q m
+mode_is Q None m is h = absurd cc
+mode_is Q (Some x) m is h = let same : x ≡ m = cc in subst Q same h
 
 -- a number in a word is within its range
 pub record IsBetween (low high n : ℕ) : Type 0 where

@@ -16,12 +16,12 @@ use Rattle.smb_emul.specs.Calls.{messages_of_call}
 use Rattle.smb_emul.specs.declared.call.SmbCall.{SmbCall}
 use Rattle.smb_emul.specs.declared.call.SmbOp.{SmbOp}
 use Rattle.smb_emul.specs.declared.call.SmbOp.TheVariants as op
-use Rattle.tools.specs.Scans.{first_probed, probes, is_probed, is_received, probe_op, probe_call, is_absent, error_cell, answer_cell, scan_cell, scan_line, scan_lines}
+use Rattle.tools.specs.Scans.{first_probed, probes, is_probed, is_received, probe_op, probe_call, is_absent, error_cell, answer_cell, scan_cell, scan_row, scan_line, scan_lines}
 use Rattle.tools.specs.Tables.{heading, in_row, parts}
 use Rattle.tools.specs.declared.command.detect.Detect.{Detect}
 use Rattle.tools.specs.declared.command.detect.Probe.{Probe}
 use Rattle.tools.specs.declared.command.detect.Probe.TheVariants as probe
-use Rattle.tools.proofs.TableLemmas.{row_line, parts_line, parts_all}
+use Rattle.tools.proofs.TableLemmas.{parts_line, row_section, rows_section}
 use Rattle.tools.proofs.TransferLemmas.{IsAsk, IsShortWrite, call_asks}
 use Rattle.tools.proofs.ValueLemmas.{others}
 
@@ -97,17 +97,15 @@ module _ (d : Detect) (rs : List Reply) where
         | false ↦ refl
       ]
 
-  rows_lines : (r : ℕ) → All IsSectionLine (scan_line d rs r)
-  rows_lines r =
-      let cells : List ℕ = parts (in_row (scan_cell d rs) (16 * r)) 16 in
-      All-cons IsSectionLine _ []
-      (row_line (16 * r) cells (parts_line (in_row (scan_cell d rs) (16 * r)) 16 (λ c. cell_line (16 * r + c)))) (All-nil IsSectionLine)
+  scan_row_section : (row : ℕ) → IsSectionLine (scan_row d rs row)
+  scan_row_section row =
+      row_section row (parts (in_row (scan_cell d rs) row) 16) (parts_line (in_row (scan_cell d rs) row) 16 (λ c. cell_line (row + c)))
 
   -- the heading begins with a space
   table_lines : All IsSectionLine (heading ∷ parts (scan_line d rs) 8)
   table_lines =
       All-cons IsSectionLine heading (parts (scan_line d rs) 8) (record { one = refl; other = others heading 32 refl (omega arith) })
-      (parts_all IsSectionLine (scan_line d rs) 8 rows_lines)
+      (rows_section (λ r. scan_row d rs (16 * r)) 8 (λ r. scan_row_section (16 * r)))
 
   absent_lines : All IsSectionLine (errno_text errno.Enodev ∷ [])
   absent_lines =

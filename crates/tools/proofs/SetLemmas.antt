@@ -1,9 +1,8 @@
 -- i2cset: what its line means is in range, and how long it is; and the bytes of a block are read one by one, as a loop does.
-use Rattle.std.proofs.Common.{◌≡◌, ℕ, zero, suc, ◌+◌, ◌-◌, ◌^◌, ◌<◌, ◌≤◌, ◌&&◌, nat_le, Bool, true, false, cond, List, [], ◌∷◌, ◌++◌, length, codes, Option, Some, None, refl, subst, arith, Result, Ok, Err, sym, ◌∙◌}
+use Rattle.std.proofs.Common.{◌≡◌, ℕ, zero, suc, ◌+◌, ◌-◌, ◌^◌, ◌<◌, ◌≤◌, ◌&&◌, nat_le, Bool, true, false, List, [], ◌∷◌, ◌++◌, length, codes, Option, Some, None, refl, subst, arith, Result, Ok, Err, sym, ◌∙◌}
 use Rattle.std.specs.Prelude.{IfSome}
 use Rattle.std.specs.Option.{option_or}
 use Rattle.std.specs.Str.{bytes_eq}
-use Rattle.std.proofs.lemmas.Bool.Decides.{nat_tests}
 use Rattle.std.proofs.lemmas.List.{length-append}
 use Rattle.std.proofs.lemmas.List.Elements.{All-nil, All-cons, All-append}
 use Rattle.i2c_base.specs.Addr.{IsTargetAddress}
@@ -20,31 +19,14 @@ use Rattle.tools.specs.declared.command.set.SetMode.TheVariants as set_mode
 use Rattle.tools.specs.declared.command.set.SetPiece.{SetPiece}
 use Rattle.tools.specs.declared.command.set.SetPiece.TheVariants as piece
 use Rattle.tools.proofs.GrammarLemmas.{AllEnds, EndsWithin}
-use Rattle.tools.proofs.OptionLemmas.{number_between, options_end, options_within}
+use Rattle.tools.proofs.OptionLemmas.{bounded, both, if_named, mode_is, number_between, options_end, options_within}
 use Rattle.tools.specs.Readers.{one_at}
 
 -- ---- its range
 
-bounded : (a b : ℕ) → nat_le a b ≡ true → a ≤ b
-bounded a b h = grind (arith, nat_tests)
-
--- a mode that a test names, and the modes behind it
-if_named : (Q : SetMode × Bool → Type 0) (b : Bool) (m : SetMode × Bool) (o : Option (SetMode × Bool)) → (b ≡ true → Q m) → IfSome o Q
-    → IfSome (cond b (Some m) o) Q
-if_named Q true m o q r = q refl
-if_named Q false m o q r = r
-
 if_either : (Q : SetMode × Bool → Type 0) (o p : Option (SetMode × Bool)) → IfSome o Q → IfSome p Q → IfSome (option_or o p) Q
 if_either Q (Some m) p q r = q
 if_either Q None p q r = r
-
-both : (a b : Bool) → (a && b) ≡ true → a ≡ true
-both true b h = refl
-both false b h = absurd cc
-
-mode_is : (Q : SetMode × Bool → Type 0) (o : Option (SetMode × Bool)) (m : SetMode × Bool) → o ≡ Some m → IfSome o Q → Q m
-mode_is Q None m is h = absurd cc
-mode_is Q (Some x) m is h = let same : x ≡ m = cc in subst Q same h
 
 -- a mode or a value, and what follows each
 piece_fits : (P : Cmd → Type 0) (o : Option (SetMode × Bool)) (n : Option ℕ) (named : SetMode × Bool → Grammar Cmd)

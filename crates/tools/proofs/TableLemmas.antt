@@ -1,13 +1,13 @@
--- Spaces at the end, one by one, and of the last row alone; one part more; a row is a line, and not the line `journal`.
-use Rattle.std.proofs.Common.{◌≡◌, ℕ, zero, suc, ◌+◌, ◌<◌, List, [], ◌∷◌, ◌++◌, reverse, true, false, cond, append_assoc, append-nil, get_or, refl, sym, ap, subst, ◌∙◌, add-one, arith, codes}
-use Rattle.std.specs.Prelude.{◌==◌, ◌||◌}
-use Rattle.std.specs.List.{All, flat_map}
-use Rattle.std.proofs.lemmas.List.{reverse-append, reverse-reverse}
+-- Spaces at the end, one by one, and of the last row alone; one part more; and each row is a line of a section.
+use Rattle.std.proofs.Common.{◌≡◌, ℕ, zero, suc, ◌+◌, List, [], ◌∷◌, ◌++◌, reverse, get_or, true, false, cond, append_assoc, append-nil, refl, sym, ap, subst, ◌∙◌, add-one, arith, codes}
+use Rattle.std.specs.Prelude.{All, ◌==◌, ◌||◌}
+use Rattle.std.specs.List.{flat_map}
 use Rattle.std.proofs.lemmas.Bool.{or_parts}
+use Rattle.std.proofs.lemmas.List.{reverse-append, reverse-reverse}
 use Rattle.std.proofs.lemmas.List.Concat.{flat_map-append}
-use Rattle.std.proofs.lemmas.List.Elements.{All-nil, All-append}
+use Rattle.std.proofs.lemmas.List.Elements.{All-nil, All-cons, All-append}
 use Rattle.bus_spec.specs.Lines.{two_digits}
-use Rattle.bus_journal.specs.Reports.{IsLine, IsSectionLine, ended}
+use Rattle.bus_journal.specs.Reports.{ended, IsLine, IsSectionLine}
 use Rattle.bus_journal.proofs.LineFeeds.{line-append, two_digits-line}
 use Rattle.tools.specs.Tables.{skip_spaces, trimmed, parts, row_front}
 
@@ -78,69 +78,79 @@ line_next o h x now new f n is same next =
     ∙ ap (λ t. o ++ (flat_map ended (h ∷ parts f n) ++ t)) (sym (append-nil (ended x)) ∙ ap (λ (l : List (List ℕ)). flat_map ended l) (sym is))
     ∙ ap (λ t. o ++ t) (sym (lines_more h f n))
 
--- ---- a row is a line of a section
+-- so it is where no line stands above the rows
+pub rows_next : (o x now new : List ℕ) (f : ℕ → List (List ℕ)) (n : ℕ) → f n ≡ x ∷ [] → now ≡ o ++ flat_map ended (parts f n)
+    → new ≡ now ++ ended x → new ≡ o ++ flat_map ended (parts f (n + 1))
+rows_next o x now new f n is same next =
+    let more : flat_map ended (parts f (n + 1)) ≡ flat_map ended (parts f n) ++ ended x =
+    ap (λ (l : List (List ℕ)). flat_map ended l) (parts_more f n ∙ ap (λ (l : List (List ℕ)). parts f n ++ l) is)
+    ∙ flat_map-append ended (parts f n) (x ∷ []) ∙ ap (λ t. flat_map ended (parts f n) ++ t) (append-nil (ended x)) in
+    next ∙ ap (λ t. t ++ ended x) same ∙ append_assoc o (flat_map ended (parts f n)) (ended x) ∙ ap (λ t. o ++ t) (sym more)
+
+-- ---- each row is a line of a section
+
+skip_keeps : (xs : List ℕ) (sign : ℕ) (ys : List ℕ) → (sign == 32) ≡ false
+    → skip_spaces (xs ++ sign ∷ ys) ≡ skip_spaces xs ++ sign ∷ ys
+skip_keeps [] sign ys other = ap (λ b. cond b (skip_spaces ys) (sign ∷ ys)) other
+skip_keeps (x ∷ xs) sign ys other =
+    elim (x == 32) as
+    (λ b. cond b (skip_spaces (xs ++ sign ∷ ys)) (x ∷ (xs ++ sign ∷ ys)) ≡ cond b (skip_spaces xs) (x ∷ xs) ++ sign ∷ ys) [
+      | true ↦ skip_keeps xs sign ys other
+      | false ↦ refl
+    ]
+
+-- a text is trimmed behind any sign in it that is no space
+trimmed_behind : (front back : List ℕ) (sign : ℕ) → (sign == 32) ≡ false
+    → trimmed (front ++ sign ∷ back) ≡ front ++ sign ∷ trimmed back
+trimmed_behind front back sign other =
+    ap (λ l. reverse (skip_spaces l)) (turned front back sign)
+    ∙ ap reverse (skip_keeps (reverse back) sign (reverse front) other)
+    ∙ turned (skip_spaces (reverse back)) (reverse front) sign
+    ∙ ap (λ l. l ++ sign ∷ trimmed back) (reverse-reverse front)
+
+-- a trimmed row begins with its number
+pub row_begins : (row : ℕ) (back : List ℕ) → trimmed (row_front row ++ back) ≡ row_front row ++ trimmed back
+row_begins row back = trimmed_behind (two_digits row) back 58 refl
+
+turned_line : (xs : List ℕ) → IsLine xs → IsLine (reverse xs)
+turned_line [] h = refl
+turned_line (x ∷ xs) h =
+    let halves = or_parts _ _ h in
+    let one : IsLine (x ∷ []) = ap (λ b. b || false) halves.0 in
+    subst IsLine (sym (reverse-append (x ∷ []) xs)) (line-append (reverse xs) (x ∷ []) (turned_line xs halves.1) one)
 
 skipped_line : (xs : List ℕ) → IsLine xs → IsLine (skip_spaces xs)
-skipped_line [] is = is
-skipped_line (x ∷ xs) is =
+skipped_line [] h = refl
+skipped_line (x ∷ xs) h =
     elim (x == 32) as (λ b. IsLine (cond b (skip_spaces xs) (x ∷ xs))) [
-      | true ↦ skipped_line xs (or_parts _ _ is).1
-      | false ↦ is
+      | true ↦ skipped_line xs (or_parts _ _ h).1
+      | false ↦ h
     ]
 
-reversed_line : (xs : List ℕ) → IsLine xs → IsLine (reverse xs)
-reversed_line [] is = is
-reversed_line (x ∷ xs) is =
-    let p = or_parts _ _ is in
-    subst IsLine (sym (reverse-append (x ∷ []) xs))
-    (line-append (reverse xs) (x ∷ []) (reversed_line xs p.1) (ap (λ b. b || false) p.0))
+trimmed_line : (xs : List ℕ) → IsLine xs → IsLine (trimmed xs)
+trimmed_line xs h = turned_line (skip_spaces (reverse xs)) (skipped_line (reverse xs) (turned_line xs h))
 
--- no line feed comes in where spaces go
-trimmed_line : (text : List ℕ) → IsLine text → IsLine (trimmed text)
-trimmed_line text is = reversed_line (skip_spaces (reverse text)) (skipped_line (reverse text) (reversed_line text is))
-
--- the first sign stays, where it is no space
-skip_stays : (xs : List ℕ) (sign : ℕ) → (sign == 32) ≡ false
-    → (ys : List ℕ) × (skip_spaces (xs ++ sign ∷ []) ≡ ys ++ sign ∷ [])
-skip_stays [] sign other = ([], ap (λ b. cond b [] (sign ∷ [])) other)
-skip_stays (x ∷ xs) sign other =
-    elim (x == 32) as
-    (λ b. (ys : List ℕ) × (cond b (skip_spaces (xs ++ sign ∷ [])) (x ∷ (xs ++ sign ∷ [])) ≡ ys ++ sign ∷ [])) [
-      | true ↦ skip_stays xs sign other
-      | false ↦ (x ∷ xs, refl)
-    ]
-
-first_stays : (sign : ℕ) (back : List ℕ) → (sign == 32) ≡ false → get_or (trimmed (sign ∷ back)) 0 0 ≡ sign
-first_stays sign back other =
-    let kept = skip_stays (reverse back) sign other in
-    ap (λ l. get_or (reverse (skip_spaces l)) 0 0) (reverse-append (sign ∷ []) back)
-    ∙ ap (λ l. get_or (reverse l) 0 0) kept.1
-    ∙ ap (λ l. get_or l 0 0) (reverse-append kept.0 (sign ∷ []))
-
--- a row begins with the two digits of its number, and behind them stands `:`
-row_begins : (row : ℕ) (back : List ℕ) → trimmed (row_front row ++ back) ≡ two_digits row ++ trimmed (58 ∷ back)
-row_begins row back = trims_alone (two_digits row) [] back 58 refl
-
--- so that it is no line `journal`
-pub row_line : (row : ℕ) (back : List ℕ) → IsLine back → IsSectionLine (trimmed (row_front row ++ back))
-row_line row back is =
-    record {
-      one = trimmed_line (row_front row ++ back)
-          (line-append (row_front row) back (line-append (two_digits row) (codes ":") (two_digits-line row) refl) is);
-      other = λ e.
-          let third : get_or (two_digits row ++ trimmed (58 ∷ back)) 2 0 ≡ 117 = ap (λ l. get_or l 2 0) (sym (row_begins row back) ∙ e) in
-          let sign : get_or (trimmed (58 ∷ back)) 0 0 ≡ 58 = first_stays 58 back refl in
-          omega (arith, third, sign);
-    }
-
--- no line feed stands in cells of which none has one
+-- parts of a line
 pub parts_line : (f : ℕ → List ℕ) (n : ℕ) → ((k : ℕ) → IsLine (f k)) → IsLine (parts f n)
 unfolding parts
-parts_line f zero each = refl
-parts_line f (suc n) each = line-append (parts f n) (f n) (parts_line f n each) (each n)
+parts_line f zero h = refl
+parts_line f (suc n) h = line-append (parts f n) (f n) (parts_line f n h) (h n)
 
--- what is so of each part's elements is so of all
-pub parts_all : {A : Type 0} (P : A → Type 0) (f : ℕ → List A) (n : ℕ) → ((k : ℕ) → All P (f k)) → All P (parts f n)
+-- the third sign of a row is a colon, and that of `journal` isn't
+pub row_section : (row : ℕ) (back : List ℕ) → IsLine back → IsSectionLine (trimmed (row_front row ++ back))
+row_section row back h = record {
+  one = trimmed_line (row_front row ++ back)
+      (line-append (row_front row) back (line-append (two_digits row) (codes ":") (two_digits-line row) refl) h);
+  other = λ e.
+      let third : get_or (row_front row ++ trimmed back) 2 0 ≡ 117 = ap (λ t. get_or t 2 0) (sym (row_begins row back) ∙ e) in
+      omega (arith, third);
+}
+
+-- rows of which each is a line of a section
+pub rows_section : (f : ℕ → List ℕ) (n : ℕ) → ((k : ℕ) → IsSectionLine (f k))
+    → All IsSectionLine (parts (λ k. f k ∷ []) n)
 unfolding parts
-parts_all P f zero each = All-nil P
-parts_all P f (suc n) each = All-append P (parts f n) (f n) (parts_all P f n each) (each n)
+rows_section f zero h = All-nil IsSectionLine
+rows_section f (suc n) h =
+    All-append IsSectionLine (parts (λ k. f k ∷ []) n) (f n ∷ []) (rows_section f n h)
+    (All-cons IsSectionLine (f n) [] (h n) (All-nil IsSectionLine))

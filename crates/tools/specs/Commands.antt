@@ -4,6 +4,7 @@ use Rattle.i2c_base.specs.Board.{BoardView}
 use Rattle.i2c_base.specs.Limits.{MOST_MESSAGES, MOST_BYTES}
 use Rattle.tools.specs.Combined.{combined_words, IsCombinedInRange}
 use Rattle.tools.specs.Detects.{detect_words, IsDetectInRange, bus_lines}
+use Rattle.tools.specs.Dumps.{dump_words, IsDumpInRange}
 use Rattle.tools.specs.Gets.{get_words, IsGetInRange, get_run}
 use Rattle.tools.specs.Grammars.{Grammar, line_set, word, word_or}
 use Rattle.tools.specs.LineSets.{LineSet}
@@ -21,7 +22,8 @@ grammar limit =
     word_or (codes "i2cget") get_words
     (word_or (codes "i2cset") (set_words limit)
     (word_or (codes "i2ctransfer") combined_words
-    (word (codes "i2cdetect") detect_words)))
+    (word_or (codes "i2cdump") dump_words
+    (word (codes "i2cdetect") detect_words))))
 
 abbrev pub script_lines : (limit : ℕ) → LineSet Cmd
 script_lines limit = line_set (grammar limit)
@@ -35,6 +37,7 @@ abbrev pub IsInRange : (limit : ℕ) → Cmd → Type 0
 IsInRange limit (cmd.Get g) = IsGetInRange g
 IsInRange limit (cmd.Set s) = IsSetInRange limit s
 IsInRange limit (cmd.Combined c) = IsCombinedInRange c
+IsInRange limit (cmd.Dump d) = IsDumpInRange d
 IsInRange limit cmd.List = ⊤
 IsInRange limit (cmd.Detect d) = IsDetectInRange d
 
@@ -45,5 +48,6 @@ abbrev pub run_of : BoardView → Cmd → ToolRun
 run_of b (cmd.Get g) = get_run g
 run_of b (cmd.Set s) = set_run s
 run_of b (cmd.Combined c) = run.Transfers c
+run_of b (cmd.Dump d) = run.Dumps d
 run_of b cmd.List = run.Says (bus_lines b)
 run_of b (cmd.Detect d) = run.Scans d

@@ -4,6 +4,8 @@ pub mod Combined
 pub mod Commands
 pub mod Detects
 pub mod Dialogues
+pub mod DumpTables
+pub mod Dumps
 pub mod Gets
 pub mod Grammars
 pub mod LineSets

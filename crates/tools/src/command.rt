@@ -6,6 +6,7 @@ ghost use Rattle.tools.specs.Grammars.{read_at};
 ghost use Rattle.tools.specs.Readers.{texts, Gives};
 
 mod detect;
+mod dump;
 mod get;
 mod set;
 mod transfer;
@@ -15,6 +16,7 @@ use crate::reader::is_at;
 use crate::run::ToolRun;
 use crate::run::messages::Messages;
 pub use detect::{Detect, Probe};
+pub use dump::{Dump, DumpMode};
 pub use get::{Get, GetMode};
 use i2c_base::{MOST_BYTES, MOST_MESSAGES, NoMemory};
 use i2c_board::Board;
@@ -31,6 +33,8 @@ pub enum Cmd {
     Set(Set),
     /// Sends messages as one transfer.
     Combined(Combined),
+    /// Reads registers one after the other.
+    Dump(Dump),
     /// Lists the buses.
     List,
     /// Probes the addresses of a bus.
@@ -52,6 +56,8 @@ pub(crate) fn read_command(alloc: Global, words: &[&[u8]], limit: u8) -> Result<
         set::read_set(alloc, words, limit)
     } else if is_at(words, 0, b"i2ctransfer") {
         transfer::read_combined(alloc, words)
+    } else if is_at(words, 0, b"i2cdump") {
+        Ok(dump::read_dump(words)?)
     } else if is_at(words, 0, b"i2cdetect") {
         Ok(detect::read_detect(words)?)
     } else {
@@ -68,6 +74,7 @@ pub(crate) fn run_of(alloc: Global, board: &Board, cmd: Cmd) -> Result<ToolRun, 
         Cmd::Get(get) => Ok(get::run(&get)),
         Cmd::Set(set) => set::run(alloc, &set),
         Cmd::Combined(combined) => Ok(ToolRun::Transfers(Messages::new(combined))),
+        Cmd::Dump(dump) => Ok(ToolRun::Dumps(dump)),
         Cmd::List => Ok(ToolRun::Says(detect::bus_lines(alloc, board)?)),
         Cmd::Detect(detect) => Ok(ToolRun::Scans(detect)),
     }

@@ -11,11 +11,11 @@
 //!   and these decide (`the_first_words_decide`).
 //! - Commands. A `ToolRun` is a command as it runs, with what the board says of it (`run_of` of `specs/Commands.antt`, which
 //!   has a row for each command, whose own definitions are a file beside it: `specs/Gets.antt` of `i2cget`, `specs/Sets.antt` of
-//!   `i2cset`, `specs/Combined.antt` of `i2ctransfer`, `specs/Detects.antt` of `i2cdetect`). It has one of a few forms, and each form is a
-//!   dialogue (`dialogue_of` of `specs/Runs.antt`): places with a transfer each, where it goes on behind a reply, the lines
-//!   that it prints, and the room for them (`specs/Dialogues.antt`). Its caller keeps its place and its replies.
-//!   `specs/Values.antt` tells how values are printed, and `specs/Tables.antt` how the rows of a table are. `specs/Scans.antt` tells
-//!   which addresses a scan probes, by what, and its table.
+//!   `i2cset`, `specs/Combined.antt` of `i2ctransfer`, `specs/Dumps.antt` of `i2cdump`, `specs/Detects.antt` of `i2cdetect`). It has
+//!   one of a few forms, and each form is a dialogue (`dialogue_of` of `specs/Runs.antt`): places with a transfer each, where it goes
+//!   on behind a reply, the lines that it prints, and the room for them (`specs/Dialogues.antt`). Its caller keeps its place and its
+//!   replies. `specs/Values.antt` tells how values are printed, and `specs/Tables.antt` how the rows of a table are;
+//!   `specs/DumpTables.antt` is the dialogue of `i2cdump` with its tables, and `specs/Scans.antt` that of `i2cdetect`.
 //! - Texts. `cut_line` tells the first line of a text, and `push_echo` prints a line's words (`specs/Splits.antt`).
 //!   `skip_gaps` and `first_word` take the words off any text, with whatever bytes a `Gap` says between them
 //!   (`specs/Words.antt`).
@@ -42,12 +42,14 @@ pub use examples::{
     a_block_ends_at_its_limit, a_block_is_printed_without_its_count,
     a_bus_that_is_missing_is_told_alone, a_byte_is_received_where_eeproms_stand,
     a_line_that_is_too_long_is_refused_behind_the_longest, a_mode_tells_the_values,
+    a_range_of_words_is_printed_in_its_columns, a_refused_device_has_no_table,
     a_suffix_tells_the_bytes_behind_it, a_table_tells_who_answers,
     a_word_is_printed_high_byte_first, a_wrong_code_is_told_with_the_right_one,
-    an_address_holds_until_the_next, an_error_ends_a_command, each_read_has_a_line,
-    last_is_not_below_first, messages_end_at_their_limits, reserved_addresses_are_not_probed,
+    a_wrong_range_or_option_is_refused, an_address_holds_until_the_next, an_error_ends_a_command,
+    each_byte_has_a_sign, each_read_has_a_line, last_is_not_below_first,
+    messages_end_at_their_limits, reserved_addresses_are_not_probed,
     the_buses_are_listed_by_number, the_number_is_sent_and_a_byte_is_received,
-    writes_alone_are_told_to_be_done,
+    without_the_number_no_register_is_read, writes_alone_are_told_to_be_done,
 };
 pub use fault::LineFault;
 pub use laws::{

@@ -99,3 +99,11 @@ pub fn number_in(word: &[u8], low: u16, high: u16) -> Option<u16>
         None
     }
 }
+
+/// The number in a word, to 255.
+pub fn byte_in(word: &[u8]) -> Option<u8>
+    ensures { result ≡ number_in 0 255 word.now }
+{
+    let number = number_in(word, 0, 255)?;
+    Some(number as u8)
+}

@@ -10,12 +10,13 @@ ghost use Rattle.tools.specs.Runs.{dialogue_of};
 
 pub(crate) mod call;
 pub(crate) mod chain;
+pub(crate) mod dump;
 pub(crate) mod lines;
 pub(crate) mod messages;
 mod scan;
 mod table;
 
-use crate::command::{Cmd, Detect, run_of};
+use crate::command::{Cmd, Detect, Dump, run_of};
 use crate::replies::Window;
 use crate::text::Text;
 use call::HeldCall;
@@ -36,6 +37,8 @@ pub enum ToolRun {
     Calls(HeldCall),
     /// Sends a byte, then receives one, and prints that.
     Chains(Chain),
+    /// Reads registers one after the other, and prints them as a table.
+    Dumps(Dump),
     /// Makes one plain transfer, and prints what its messages read.
     Transfers(Messages),
     /// Probes the addresses of a bus, and prints a table of who answers.
@@ -60,6 +63,7 @@ impl ToolRun {
             ToolRun::Says(_) => 0,
             ToolRun::Calls(_) => 1,
             ToolRun::Chains(_) => 2,
+            ToolRun::Dumps(dump) => dump::places(dump),
             ToolRun::Transfers(_) => 1,
             ToolRun::Scans(detect) => detect.probes(),
         }
@@ -74,6 +78,7 @@ impl ToolRun {
             ToolRun::Says(_) => {}
             ToolRun::Calls(call) => call.put(transfer),
             ToolRun::Chains(chain) => chain.put(place, transfer),
+            ToolRun::Dumps(dump) => dump::put(dump, place, transfer),
             ToolRun::Transfers(messages) => messages.put(transfer),
             ToolRun::Scans(detect) => detect.put(place, transfer),
         }
@@ -84,14 +89,14 @@ impl ToolRun {
         requires { place < (dialogue_of self.now).places }
         ensures { (bytes : List ℕ) → result ≡ behind (dialogue_of self.now) place (reply_by head bytes) }
     {
-        let skips = match self {
-            ToolRun::Says(_) => 0,
-            ToolRun::Calls(_) => 0,
-            ToolRun::Chains(_) => skips(head),
-            ToolRun::Transfers(_) => 0,
-            ToolRun::Scans(detect) => detect.skips(head),
-        };
-        place + 1 + skips
+        match self {
+            ToolRun::Says(_) => place + 1,
+            ToolRun::Calls(_) => place + 1,
+            ToolRun::Chains(_) => place + 1 + skips(head),
+            ToolRun::Dumps(dump) => dump::behind(dump, place, head),
+            ToolRun::Transfers(_) => place + 1,
+            ToolRun::Scans(detect) => place + 1 + detect.skips(head),
+        }
     }
 
     /// Prints its lines.
@@ -105,6 +110,7 @@ impl ToolRun {
             ToolRun::Says(lines) => lines.print(out),
             ToolRun::Calls(call) => call.print(replies, out),
             ToolRun::Chains(chain) => chain.print(replies, out),
+            ToolRun::Dumps(dump) => dump::print(dump, replies, out),
             ToolRun::Transfers(messages) => messages.print(replies, out),
             ToolRun::Scans(detect) => detect.print(replies, out),
         }
@@ -118,6 +124,7 @@ impl ToolRun {
             ToolRun::Says(lines) => lines.size(),
             ToolRun::Calls(call) => call.most(),
             ToolRun::Chains(_) => MOST_CHAINED,
+            ToolRun::Dumps(dump) => dump::most(dump),
             ToolRun::Transfers(messages) => messages.most(),
             ToolRun::Scans(_) => MOST_SCANNED,
         }

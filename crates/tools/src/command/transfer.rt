@@ -11,7 +11,7 @@ ghost use Rattle.tools.specs.Words.{gap_at};
 use crate::command::Cmd;
 use crate::fault::{LineFault, WordRefused};
 use crate::lists::{Desc, DescOp, Descs, Octets};
-use crate::number::number_in;
+use crate::number::{byte_in, number_in};
 use crate::options::{bus_at, options};
 use crate::reader::{is_past, word_at};
 use crate::words::{Gap, gap_at};
@@ -140,14 +140,6 @@ fn step_of(sign: u8) -> Option<u8>
         b'-' => Some(255),
         _ => None,
     }
-}
-
-// The number in a word, to 255.
-fn byte_in(word: &[u8]) -> Option<u8>
-    ensures { result ≡ number_in 0 255 word.now }
-{
-    let number = number_in(word, 0, 255)?;
-    Some(number as u8)
 }
 
 // A byte with a suffix.

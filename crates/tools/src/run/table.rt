@@ -16,7 +16,7 @@ pub fn push_row_front(out: &mut Text, row: u8)
     out.push(&[hex_digit(row / 16), hex_digit(row % 16), b':']);
 }
 
-/// Prints a cell with the two digits of a byte.
+/// Prints a cell of two digits, with a space before them.
 pub fn push_digits_cell(out: &mut Text, byte: u8)
     requires { 3 ≤ out.old.room }
     ensures bytes { out.new.bytes ≡ out.old.bytes ++ 32 ∷ two_digits byte }

@@ -1,0 +1,11 @@
+use Rattle.std.proofs.Common.{◌≡◌, ◌≤◌, ◌+◌, ◌*◌, ◌++◌}
+use Rattle.tools.specs.DumpTables.{dump_word}
+use Rattle.tools.specs.Tables.{parts, in_row}
+use Rattle.tools.proofs.run.dump.push_word_cells.Given as goal
+
+abbrev pub invariant-loop-column : goal.invariant-loop-column
+invariant-loop-column l =
+    record {
+      same : l.out.bytes ≡ l.fn.out.bytes ++ parts (in_row (dump_word l.dump l.replies) l.row) l.column;
+      room : l.fn.out.room ≤ l.out.room + 5 * l.column;
+    }
