@@ -80,7 +80,11 @@ module _ (script : ScriptView) (cs : List CommandView) (taken : PackedView Reply
         within = turn_asked cs before turn from place t is.at next;
       }
 
-  -- its bytes have room
+  -- it has room
+  pub has_place : IsTaking cs before turn r → 0 < taken.room
+  has_place k = omega (arith, is.room, sum_falls (λ t. 1) cs before r k.transfer k.next)
+
+  -- .. and so have its bytes
   pub has_room : IsTaking cs before turn r → (bytes : List ℕ) → bytes ≡ bytes_given r → length bytes ≤ taken.room_bytes
   has_room k bytes these =
       omega (arith, ap length these, k.few, is.room_bytes, sum_falls most_brought cs before r k.transfer k.next)

@@ -53,6 +53,7 @@ impl Commands {
     }
 
     /// Puts a command with these words at the end.
+    #[inline(always)]
     #[tactic(auto, using(crate::proofs::PlacedLemmas::commands_push))]
     pub fn push(&mut self, run: ToolRun, echo: &[u8]) -> Result<(), NoMemory>
         ensures { OnOk result (self.new ≡ self.old ++ record { echo = echo.now; run = run } ∷ []) }
@@ -68,6 +69,7 @@ impl Commands {
     }
 
     /// The command at a place, and its words.
+    #[inline(always)]
     pub fn get(&self, place: usize) -> (&ToolRun, &[u8])
         requires { place < length self.now }
         ensures { record { echo = result.1.now; run = result.0.now } ≡ slice_index_or self.now place (record { echo = result.1.now; run = result.0.now }) }

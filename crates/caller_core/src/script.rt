@@ -71,6 +71,7 @@ fn read_behind<'a>(
 }
 
 // Puts a command with the words of its line at the end. They are put together in place of those of the line before.
+#[inline(always)]
 fn keep_command(
     echo: &mut Vec<u8>,
     commands: &mut Commands,

@@ -55,6 +55,7 @@ impl ToolRun {
     }
 
     /// How many places it has.
+    #[inline(always)]
     pub fn places(&self) -> u16
         ensures value { result ≡ (dialogue_of self.now).places }
         ensures few { result ≤ MOST_PLACES }
@@ -70,6 +71,7 @@ impl ToolRun {
     }
 
     /// Puts the transfer at a place in place of another.
+    #[inline(always)]
     pub fn put(&self, place: u16, transfer: &mut Transfer)
         requires { place < (dialogue_of self.now).places }
         ensures { transfer.new ≡ (dialogue_of self.now).at place }
@@ -85,6 +87,7 @@ impl ToolRun {
     }
 
     /// The place behind a reply, whatever bytes it brings.
+    #[inline(always)]
     pub fn behind(&self, place: u16, head: ReplyHead) -> u16
         requires { place < (dialogue_of self.now).places }
         ensures { (bytes : List ℕ) → result ≡ behind (dialogue_of self.now) place (reply_by head bytes) }

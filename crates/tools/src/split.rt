@@ -15,7 +15,7 @@ impl Gap for Blank {
     ghost gaps = { is_blank };
 
     fn is_gap(byte: u8) -> bool {
-        byte == b' ' || byte == b'\t'
+        byte <= b' ' && (byte == b' ' || byte == b'\t')
     }
 }
 
@@ -60,11 +60,13 @@ pub fn is_joined(line: &[u8]) -> bool
 {
     let mut at_start = true;
     for byte in line {
-        match *byte {
-            b' ' if at_start => return false,
-            b' ' => at_start = true,
-            b'\t' => return false,
-            _ => at_start = false,
+        let byte = *byte;
+        if byte > b' ' {
+            at_start = false;
+        } else if byte == b'\t' || (byte == b' ' && at_start) {
+            return false;
+        } else {
+            at_start = byte == b' ';
         }
     }
     !at_start

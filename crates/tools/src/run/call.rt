@@ -28,6 +28,7 @@ pub struct Callee {
 
 impl Callee {
     /// A call to it.
+    #[inline(always)]
     pub fn call<'b>(&self, op: SmbOp<'b>) -> SmbCall<'b>
         ensures { result ≡ call_to self.now op.entry }
     {
@@ -128,6 +129,7 @@ pub enum HeldOp {
 
 impl HeldOp {
     // The same, as it goes into a call.
+    #[inline(always)]
     fn lend(&self) -> SmbOp<'_>
         ensures same { DoesTheSame result (smb_op self.now) }
         ensures block { HasBlock result }
@@ -168,6 +170,7 @@ pub struct HeldCall {
 
 impl HeldCall {
     /// Puts its transfer in place of another.
+    #[inline(always)]
     pub fn put(&self, transfer: &mut Transfer)
         ensures { transfer.new ≡ messages_of_call (held_call self.now) }
     {

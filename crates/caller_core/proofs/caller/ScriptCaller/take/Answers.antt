@@ -10,7 +10,7 @@ use Rattle.caller_core.specs.Scripts.{command_text, quiet_text, room_of}
 use Rattle.caller_core.specs.Turns.{talk, quiet_front}
 use Rattle.caller_core.specs.View.{CommandView, ScriptView}
 use Rattle.caller_core.proofs.QuietLemmas.{sum_there}
-use Rattle.caller_core.proofs.TakeLemmas.{IsTaking, given_by, at_place, taking, has_room, replies_so, stays_so, goes_on, covered}
+use Rattle.caller_core.proofs.TakeLemmas.{IsTaking, given_by, at_place, taking, has_place, has_room, replies_so, stays_so, goes_on, covered}
 use Rattle.caller_core.proofs.caller.ScriptCaller.take.Goals as goal
 use Rattle.caller_core.proofs.caller.ScriptCaller.take.Goals.{After-get}
 
@@ -66,6 +66,15 @@ module _ (c : After-get) where
       goes_on script s.commands s.taken s.printed s.turn s.from s.place s.totals.cost s.totals.roots reply c.self.invariant taken
       command there c.args.head c.args.bytes.now c.push.new.self refl (given_by c.args.head c.args.bytes.now c.requires.few)
       c.push.ensures.items c.push.ensures.room c.push.ensures.room_bytes
+
+pub push-requires-clause-room : goal.push-requires-clause-room
+push-requires-clause-room c =
+    let s = c.self.inside in
+    let script : ScriptView = record { board = s.board.value; text = s.text.value.items } in
+    let reply : Reply = reply_by c.args.head c.args.bytes.now in
+    has_place script s.commands s.taken s.printed s.turn s.from s.place s.totals.cost s.totals.roots reply c.self.invariant
+    (taking script s.commands s.taken s.printed s.turn s.from s.place s.totals.cost s.totals.roots reply c.self.invariant c.args.self.now
+    c.self.view_is c.requires.fits)
 
 pub push-requires-clause-room_bytes : goal.push-requires-clause-room_bytes
 push-requires-clause-room_bytes c =
