@@ -4,7 +4,7 @@ use crate::words::parted;
 use i2c_base::{Kind, Reply, Transfer};
 use i2c_board::Accepted;
 use std::alloc::Global;
-use tools::{ToolRun, each_field_is_in_range, each_line_is_read, read_line};
+use tools::{LineWords, ToolRun, each_field_is_in_range, each_line_is_read, read_line};
 
 /// What is left of a script, how many transfers of its first line were replied to, and its board.
 #[derive(Clone, Copy)]
@@ -19,7 +19,7 @@ fn transfer_at(alloc: Global, line: &str, board: &Accepted, place: u16) -> Optio
     each_line_is_read();
     each_field_is_in_range();
     let limit = board.board().limit();
-    let mut words = Vec::new(alloc);
+    let mut words = LineWords::new(alloc);
     let Ok(Some(command)) = read_line(alloc, &mut words, line.as_bytes(), limit) else {
         return None;
     };

@@ -3,7 +3,7 @@ ghost use Rattle.std.specs.Prelude.{◌≤◌};
 
 use crate::page::Page;
 use std::alloc::Global;
-use tools::{LineFault, read_line};
+use tools::{LineFault, LineWords, read_line};
 
 /// Answers lines with a semicolon between them, over a board with this block limit: each by the number of the word at which
 /// it is refused, or that it is taken, or that it is nothing. `WORD*N` in a line stands for the word N times.
@@ -48,7 +48,7 @@ fn add_times(text: &mut String, word: &str, times: u32) -> Option<()> {
 fn answer(page: &mut Page, alloc: Global, limit: u8, line: &[u8])
     requires { 1 ≤ limit }
 {
-    let mut words = Vec::new(alloc);
+    let mut words = LineWords::new(alloc);
     match read_line(alloc, &mut words, line, limit) {
         Ok(Some(_)) => page.put("taken"),
         Ok(None) => page.put("nothing"),

@@ -53,7 +53,6 @@ impl Commands {
     }
 
     /// Puts a command with these words at the end.
-    #[inline(always)]
     #[tactic(auto, using(crate::proofs::PlacedLemmas::commands_push))]
     pub fn push(&mut self, run: ToolRun, echo: &[u8]) -> Result<(), NoMemory>
         ensures { OnOk result (self.new ≡ self.old ++ record { echo = echo.now; run = run } ∷ []) }

@@ -1,6 +1,6 @@
 //! The text of a script: its commands, or the first word of it that is refused.
 
-ghost use Rattle.std.specs.Prelude.{◌≡◌, ◌+◌, ◌^◌, ◌<◌, ◌≤◌, [], ◌∷◌, ◌++◌, Ok, length, take, drop, All, IfOk, IfErr, OnOk, MatchResult};
+ghost use Rattle.std.specs.Prelude.{◌≡◌, ◌+◌, ◌^◌, ◌<◌, ◌≤◌, true, [], ◌∷◌, ◌++◌, Ok, length, take, drop, All, IfOk, IfErr, OnOk, MatchResult};
 ghost use Rattle.tools.specs.Lines.{line_read};
 ghost use Rattle.tools.specs.Splits.{words_of, joined_words, lines_of};
 ghost use Rattle.tools.specs.Readers.{FaultIs};
@@ -12,7 +12,7 @@ use crate::commands::Commands;
 use i2c_base::NoMemory;
 use i2c_board::Accepted;
 use std::alloc::{AllocError, Global};
-use tools::{Cmd, LineFault, ToolRun, cut_line, is_joined, push_echo, read_line};
+use tools::{Cmd, LineFault, LineWords, ToolRun, cut_line, push_echo, read_line};
 
 /// The most commands of a script.
 const MOST_COMMANDS: usize = 1000;
@@ -54,13 +54,14 @@ fn fault_at(fault: LineFault, line: u32) -> ScriptFault
 // Reads a line behind so many commands, over a board with this block limit. One more than the most is refused at its first word.
 fn read_behind<'a>(
     alloc: Global,
-    words: &mut Vec<&'a [u8]>,
+    words: &mut LineWords<'a>,
     line: &'a [u8],
     limit: u8,
     count: usize,
 ) -> Result<Option<Cmd>, LineFault>
     requires { 1 ≤ limit }
-    ensures { MatchResult result (λ o. at_most count (line_read limit line.now) ≡ Ok o) (FaultIs (at_most count (line_read limit line.now))) }
+    ensures read { MatchResult result (λ o. at_most count (line_read limit line.now) ≡ Ok o) (FaultIs (at_most count (line_read limit line.now))) }
+    ensures joined { OnOk result (words.new.joined ≡ true → joined_words (words_of line.now) ≡ line.now) }
 {
     let is_full = count >= MOST_COMMANDS;
     match read_line(alloc, words, line, limit) {
@@ -70,18 +71,20 @@ fn read_behind<'a>(
     }
 }
 
-// Puts a command with the words of its line at the end. They are put together in place of those of the line before.
-#[inline(always)]
+// Puts a command with the words of its line at the end. Where that has more than these, with one space between each two, they are put
+// together in place of those of the line before.
 fn keep_command(
     echo: &mut Vec<u8>,
     commands: &mut Commands,
     run: ToolRun,
     line: &[u8],
+    is_joined: bool,
 ) -> Result<(), ScriptFault>
+    requires { is_joined ≡ true → joined_words (words_of line.now) ≡ line.now }
     ensures ok { OnOk result (commands.new ≡ commands.old ++ record { echo = joined_words (words_of line.now); run = run } ∷ []) }
     ensures err { IfErr result (λ fault. fault ≡ NoRoomForScript) }
 {
-    if is_joined(line) {
+    if is_joined {
         return Ok(commands.push(run, line)?);
     }
     echo.clear();
@@ -94,7 +97,7 @@ fn keep_command(
 #[tactic(auto, using(crate::proofs::ScriptLemmas::is_step_some, crate::proofs::ScriptLemmas::is_step_none, crate::proofs::ScriptLemmas::is_refused))]
 fn take_line<'a>(
     alloc: Global,
-    words: &mut Vec<&'a [u8]>,
+    words: &mut LineWords<'a>,
     echo: &mut Vec<u8>,
     commands: &mut Commands,
     board: &Accepted,
@@ -110,7 +113,7 @@ fn take_line<'a>(
         Ok(None) => Ok(()),
         Ok(Some(cmd)) => {
             let run = ToolRun::open(alloc, board, cmd)?;
-            keep_command(echo, commands, run, line)
+            keep_command(echo, commands, run, line, words.joined)
         }
     }
 }
@@ -131,7 +134,7 @@ pub fn read_script(alloc: Global, board: &Accepted, text: &[u8]) -> Result<Comma
     requires { length text.now ≤ 2 ^ 28 }
     ensures { MatchResult result (λ cs. text_read board.now text.now ≡ Ok cs) (ScriptFaultIs (text_read board.now text.now)) }
 {
-    let mut words = Vec::new(alloc);
+    let mut words = LineWords::new(alloc);
     let mut echo = Vec::new(alloc);
     let mut commands = Commands::new(alloc);
     let mut at = 0;

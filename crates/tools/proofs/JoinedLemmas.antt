@@ -1,9 +1,18 @@
 -- A line whose words have one space between each two is printed as it is.
-use Rattle.std.proofs.Common.{◌≡◌, ℕ, inl, inr, Bool, true, false, cond, List, [], ◌∷◌, refl, sym, ap, subst, ◌∙◌}
-use Rattle.std.specs.Prelude.{◌==◌, ◌&&◌, ◌||◌, not}
-use Rattle.std.proofs.lemmas.Bool.Decides.{eqb_tells}
-use Rattle.tools.specs.Words.{begins_with_word, onto_first}
-use Rattle.tools.specs.Splits.{is_blank, words_of, joined_words, is_joined}
+use Rattle.std.proofs.Common.{◌≡◌, ℕ, ◌+◌, ◌<◌, ◌≤◌, inl, inr, Bool, true, false, cond, List, [], ◌∷◌, length, drop, refl, sym, ap, subst, ◌∙◌, add-one, arith}
+use Rattle.std.specs.Prelude.{◌==◌, ◌&&◌, ◌||◌, nat_lt, not, if◌then◌else◌}
+use Rattle.std.proofs.lemmas.Bool.{and_parts, or_parts}
+use Rattle.std.proofs.lemmas.Bool.Decides.{eqb_tells, nat_tests}
+use Rattle.tools.specs.Words.{begins_with_word, onto_first, behind_gaps, gap_at}
+use Rattle.tools.specs.Splits.{is_blank, words_of, joined_words, is_spaced}
+
+-- words with one space between each two already, read behind a space or at the start, or behind a byte of a word
+abbrev pub is_joined : Bool → List ℕ → Bool
+is_joined at_start [] = not at_start
+is_joined at_start (b ∷ bs) =
+    if b == 32 then not at_start && is_joined true bs
+    else if b == 9 then false
+    else is_joined false bs
 
 -- a byte in front of the first word, and a word in front of the others
 onto_joined : (b : ℕ) (w : List ℕ) (ws : List (List ℕ)) → joined_words (onto_first b (w ∷ ws)) ≡ b ∷ joined_words (w ∷ ws)
@@ -95,3 +104,85 @@ joined_same [] h = refl
 joined_same (b ∷ bs) h =
     let p : IsPlain b (is_joined false bs) = plain_start b (is_joined true bs) (is_joined false bs) h in
     (same_behind b bs p.blank p.follows).same
+
+-- ---- a line is seen to be so while its words are taken off it
+
+-- what is left of a line, which begins with a word, or is nothing
+abbrev pub is_joined_from : List ℕ → Bool
+is_joined_from [] = true
+is_joined_from (b ∷ bs) = is_joined true (b ∷ bs)
+
+-- a byte of a word is passed by
+passed : (s : Bool) (b : ℕ) (bs : List ℕ) → is_blank b ≡ false → is_joined s (b ∷ bs) ≡ is_joined false bs
+passed s b bs e =
+    let p = or_parts _ _ e in
+    ap (λ t. cond t (not s && is_joined true bs) (cond (b == 9) false (is_joined false bs))) p.0 ∙ ap (λ t. cond t false (is_joined false bs)) p.1
+
+-- and so are those up to the first blank
+rest_passed : (xs : List ℕ) → is_joined false xs ≡ is_joined false (drop (gap_at is_blank xs) xs)
+rest_passed [] = refl
+rest_passed (b ∷ bs) =
+    (elim (is_blank b) as (λ t. is_blank b ≡ t
+    → is_joined false (b ∷ bs) ≡ is_joined false (drop (cond t 0 (gap_at is_blank bs + 1)) (b ∷ bs))) [
+      | true ↦ λ e. refl
+      | false ↦ λ e. rw add-one (passed false b bs e ∙ rest_passed bs)
+    ]) refl
+
+word_passed : (xs : List ℕ) → begins_with_word is_blank xs ≡ true → is_joined_from xs ≡ is_joined false (drop (gap_at is_blank xs) xs)
+word_passed [] h = absurd cc
+word_passed (b ∷ bs) h =
+    (elim (is_blank b) as (λ t. is_blank b ≡ t → not t ≡ true
+    → is_joined true (b ∷ bs) ≡ is_joined false (drop (cond t 0 (gap_at is_blank bs + 1)) (b ∷ bs))) [
+      | true ↦ λ e k. absurd cc
+      | false ↦ λ e k. rw add-one (passed true b bs e ∙ rest_passed bs)
+    ]) refl h
+
+-- where no blank was skipped, all is there
+gaps_within : (xs : List ℕ) → length (behind_gaps is_blank xs) ≤ length xs
+gaps_within [] = omega arith
+gaps_within (b ∷ bs) =
+    elim (is_blank b) as (λ t. length (cond t (behind_gaps is_blank bs) (b ∷ bs)) ≤ length (b ∷ bs)) [
+      | true ↦ omega (arith, gaps_within bs)
+      | false ↦ omega arith
+    ]
+
+none_skipped : (xs : List ℕ) → length (behind_gaps is_blank xs) ≡ length xs → behind_gaps is_blank xs ≡ xs
+none_skipped [] h = refl
+none_skipped (b ∷ bs) h =
+    (elim (is_blank b) as (λ t. length (cond t (behind_gaps is_blank bs) (b ∷ bs)) ≡ length (b ∷ bs)
+    → cond t (behind_gaps is_blank bs) (b ∷ bs) ≡ b ∷ bs) [
+      | true ↦ λ k. absurd (omega (arith, k, gaps_within bs))
+      | false ↦ λ k. refl
+    ]) h
+
+from_some : (xs : List ℕ) → 0 < length xs → is_joined_from xs ≡ is_joined true xs
+from_some [] some = absurd (omega (arith, some))
+from_some (b ∷ bs) some = refl
+
+-- before the first word, where the line begins with one
+pub whole_front : (line rest : List ℕ) → rest ≡ behind_gaps is_blank line → length rest ≡ length line → 0 < length rest
+    → is_joined true line ≡ is_joined_from rest
+whole_front line rest is same some =
+    let whole : rest ≡ line = is ∙ none_skipped line (ap length (sym is) ∙ same) in
+    ap (is_joined true) (sym whole) ∙ sym (from_some rest some)
+
+-- behind a word
+spaced_next : (behind next : List ℕ) → next ≡ behind_gaps is_blank behind → is_spaced behind next ≡ true
+    → is_joined false behind ≡ is_joined_from next
+spaced_next [] next is h = sym (ap is_joined_from is)
+spaced_next (b ∷ bs) next is h =
+    let p = and_parts (b == 32) (nat_lt 0 (length next) && (length bs == length next)) h in
+    let q = and_parts (nat_lt 0 (length next)) (length bs == length next) p.1 in
+    let some : 0 < length next = grind (arith, nat_tests) in
+    let same : length bs ≡ length next = grind (arith, nat_tests) in
+    let blank : is_blank b ≡ true = ap (λ t. t || (b == 9)) p.0 in
+    let skipped : next ≡ behind_gaps is_blank bs = is ∙ ap (λ t. cond t (behind_gaps is_blank bs) (b ∷ bs)) blank in
+    let all : next ≡ bs = skipped ∙ none_skipped bs (ap length (sym skipped) ∙ sym same) in
+    ap (λ t. cond t (not false && is_joined true bs) (cond (b == 9) false (is_joined false bs))) p.0
+    ∙ ap (is_joined true) (sym all) ∙ sym (from_some next some)
+
+pub word_off : (line rest behind next : List ℕ) → begins_with_word is_blank rest ≡ true → behind ≡ drop (gap_at is_blank rest) rest
+    → next ≡ behind_gaps is_blank behind → is_spaced behind next ≡ true → is_joined true line ≡ is_joined_from rest
+    → is_joined true line ≡ is_joined_from next
+word_off line rest behind next begins is skipped spaced so =
+    so ∙ word_passed rest begins ∙ ap (is_joined false) (sym is) ∙ spaced_next behind next skipped spaced

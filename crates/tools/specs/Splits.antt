@@ -1,5 +1,5 @@
 -- A text as lines, a line as words, and words joined again.
-use Rattle.std.specs.Prelude.{ℕ, ◌+◌, ◌==◌, Bool, true, false, not, ◌&&◌, ◌||◌, List, [], ◌∷◌, ◌++◌, if◌then◌else◌}
+use Rattle.std.specs.Prelude.{ℕ, ◌+◌, ◌==◌, nat_lt, length, Bool, true, false, ◌&&◌, ◌||◌, List, [], ◌∷◌, ◌++◌, if◌then◌else◌}
 use Rattle.std.specs.List.{flat_map}
 use Rattle.tools.specs.Words.{onto_first, words_between}
 
@@ -19,13 +19,10 @@ abbrev pub joined_words : List (List ℕ) → List ℕ
 joined_words [] = []
 joined_words (w ∷ ws) = w ++ flat_map behind_space ws
 
--- words with one space between each two already, read behind a space or at the start, or behind a byte of a word
-abbrev pub is_joined : Bool → List ℕ → Bool
-is_joined at_start [] = not at_start
-is_joined at_start (b ∷ bs) =
-    if b == 32 then not at_start && is_joined true bs
-    else if b == 9 then false
-    else is_joined false bs
+-- behind a word nothing stands, or one space, and then the text that begins with the next word
+abbrev pub is_spaced : (behind next : List ℕ) → Bool
+is_spaced [] next = true
+is_spaced (b ∷ bs) next = (b == 32) && (nat_lt 0 (length next) && (length bs == length next))
 
 abbrev pub begins_feed : List ℕ → Bool
 begins_feed [] = false

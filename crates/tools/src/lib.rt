@@ -60,6 +60,6 @@ pub use line::read_line;
 pub use lists::{Desc, DescOp, Descs, Items, Octets, Words};
 pub use replies::Window;
 pub use run::ToolRun;
-pub use split::{cut_line, is_joined, push_echo};
+pub use split::{LineWords, cut_line, push_echo};
 pub use text::Text;
 pub use words::{Gap, first_word, skip_gaps};

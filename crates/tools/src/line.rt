@@ -1,13 +1,14 @@
 //! A line of a script: the command that it is read as, or its first refused word.
 
-ghost use Rattle.std.specs.Prelude.{◌≡◌, ◌+◌, ◌≤◌, length, Ok, MatchResult};
+ghost use Rattle.std.specs.Prelude.{◌≡◌, ◌+◌, ◌≤◌, true, length, Ok, OnOk, MatchResult};
 ghost use Rattle.tools.specs.Commands.{MOST_WORDS};
 ghost use Rattle.tools.specs.Lines.{is_command, line_read};
 ghost use Rattle.tools.specs.Readers.{texts, FaultIs};
+ghost use Rattle.tools.specs.Splits.{words_of, joined_words};
 
 use crate::command::{Cmd, MOST_WORDS, read_command};
 use crate::fault::LineFault;
-use crate::split::split_front;
+use crate::split::LineWords;
 use std::alloc::Global;
 
 // The words are a command: there are some, and the first doesn't begin with `#`.
@@ -29,16 +30,17 @@ fn is_command(words: &[&[u8]]) -> bool
 /// `alloc`.
 pub fn read_line<'a>(
     alloc: Global,
-    words: &mut Vec<&'a [u8]>,
+    words: &mut LineWords<'a>,
     line: &'a [u8],
     limit: u8,
 ) -> Result<Option<Cmd>, LineFault>
     requires { 1 ≤ limit }
     ensures read { MatchResult result (λ o. line_read limit line.now ≡ Ok o) (FaultIs (line_read limit line.now)) }
-    ensures kept { length words.new.items ≤ MOST_WORDS + 1 }
+    ensures kept { length words.new.words.items ≤ MOST_WORDS + 1 }
+    ensures joined { OnOk result (words.new.joined ≡ true → joined_words (words_of line.now) ≡ line.now) }
 {
-    split_front(words, line, MOST_WORDS + 1)?;
-    let words = words.as_slice();
+    words.split_front(line, MOST_WORDS + 1)?;
+    let words = words.words.as_slice();
     if !is_command(words) {
         return Ok(None);
     }

@@ -1,12 +1,13 @@
 //! A text split into lines, a line split into words, and its words joined again.
 
-ghost use Rattle.std.specs.Prelude.{◌≡◌, ◌<◌, ◌≤◌, ◌∷◌, ◌++◌, true, length, take, drop, OnOk};
+ghost use Rattle.std.specs.Prelude.{◌≡◌, ◌<◌, ◌≤◌, ◌==◌, ◌&&◌, nat_lt, ◌∷◌, ◌++◌, true, length, take, drop, OnOk};
 ghost use Rattle.std.specs.List.{flat_map};
-ghost use Rattle.tools.specs.Splits.{is_blank, words_of, behind_space, joined_words, is_joined, lines_of, feed_at};
+ghost use Rattle.tools.specs.Splits.{is_blank, words_of, behind_space, joined_words, is_spaced, lines_of, feed_at};
 ghost use Rattle.tools.specs.Readers.{texts};
 
 use crate::words::{Gap, first_word, skip_gaps};
 use i2c_base::NoMemory;
+use std::alloc::Global;
 
 // The blanks between the words of a line.
 struct Blank;
@@ -15,28 +16,63 @@ impl Gap for Blank {
     ghost gaps = { is_blank };
 
     fn is_gap(byte: u8) -> bool {
-        byte <= b' ' && (byte == b' ' || byte == b'\t')
+        byte == b' ' || byte == b'\t'
     }
 }
 
-/// Puts the first words of a line, which stand between spaces and tabs, in place of those that are there: at most so many.
-/// No word behind them is looked at.
-pub fn split_front<'a>(
-    words: &mut Vec<&'a [u8]>,
-    line: &'a [u8],
-    most: usize,
-) -> Result<(), NoMemory>
-    ensures split { OnOk result (texts words.new.items ≡ take most (words_of line.now)) }
-    ensures kept { length words.new.items ≤ most }
-{
-    words.clear();
-    let mut rest = skip_gaps::<Blank>(line);
-    while words.len() < most && !rest.is_empty() {
-        let (word, behind) = first_word::<Blank>(rest);
-        words.push(word)?;
-        rest = skip_gaps::<Blank>(behind);
+/// The first words of a line.
+#[derive(Drop)]
+pub struct LineWords<'a> {
+    pub words: Vec<&'a [u8]>,
+    /// The line is nothing but these with one space between each two, so that it is printed as it is.
+    pub joined: bool,
+}
+
+impl<'a> LineWords<'a> {
+    /// None yet.
+    pub fn new(alloc: Global) -> Self {
+        LineWords {
+            words: Vec::new(alloc),
+            joined: false,
+        }
     }
-    Ok(())
+
+    /// Puts the first words of a line, which stand between spaces and tabs, in place of those that are there: at most so many.
+    /// No word behind them is looked at.
+    pub(crate) fn split_front(&mut self, line: &'a [u8], most: usize) -> Result<(), NoMemory>
+        ensures split { OnOk result (texts self.new.words.items ≡ take most (words_of line.now)) }
+        ensures kept { length self.new.words.items ≤ most }
+        ensures joined { OnOk result (self.new.joined ≡ true → joined_words (words_of line.now) ≡ line.now) }
+    {
+        self.words.clear();
+        let mut rest = skip_gaps::<Blank>(line);
+        let mut joined = is_whole(line, rest);
+        while self.words.len() < most && !rest.is_empty() {
+            let (word, behind) = first_word::<Blank>(rest);
+            self.words.push(word)?;
+            rest = skip_gaps::<Blank>(behind);
+            joined &= is_spaced(behind, rest);
+        }
+        self.joined = joined & rest.is_empty();
+        Ok(())
+    }
+}
+
+// No gap stands before the first word, of which there is one.
+fn is_whole(line: &[u8], rest: &[u8]) -> bool
+    ensures { result ≡ (nat_lt 0 (length rest.now) && (length rest.now == length line.now)) }
+{
+    !rest.is_empty() && rest.len() == line.len()
+}
+
+// Nothing stands behind a word, or one space, and then what begins with the next word.
+fn is_spaced(behind: &[u8], next: &[u8]) -> bool
+    ensures { result ≡ is_spaced behind.now next.now }
+{
+    match behind.split_first() {
+        None => true,
+        Some((first, rest)) => *first == b' ' && !next.is_empty() && rest.len() == next.len(),
+    }
 }
 
 // Puts the words of a text at the end, with a space before each.
@@ -51,25 +87,6 @@ fn push_spaced(out: &mut Vec<u8>, text: &[u8]) -> Result<(), NoMemory>
         rest = skip_gaps::<Blank>(behind);
     }
     Ok(())
-}
-
-/// A line has nothing but words with one space between each two, so that it is printed as it is.
-pub fn is_joined(line: &[u8]) -> bool
-    ensures test { result ≡ is_joined true line.now }
-    ensures same { result ≡ true → joined_words (words_of line.now) ≡ line.now }
-{
-    let mut at_start = true;
-    for byte in line {
-        let byte = *byte;
-        if byte > b' ' {
-            at_start = false;
-        } else if byte == b'\t' || (byte == b' ' && at_start) {
-            return false;
-        } else {
-            at_start = byte == b' ';
-        }
-    }
-    !at_start
 }
 
 /// Puts the words of a line at the end, with one space between each two.

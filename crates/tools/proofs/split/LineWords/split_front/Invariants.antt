@@ -2,7 +2,8 @@ use Rattle.std.proofs.Common.{◌≡◌, ◌<◌, ◌≤◌, ◌++◌, true, len
 use Rattle.tools.specs.Words.{begins_with_word}
 use Rattle.tools.specs.Splits.{is_blank, words_of}
 use Rattle.tools.specs.Readers.{texts}
-use Rattle.tools.proofs.split.split_front.Given as goal
+use Rattle.tools.proofs.JoinedLemmas.{is_joined, is_joined_from}
+use Rattle.tools.proofs.split.LineWords.split_front.Given as goal
 
 abbrev pub decreases-loop-rest : goal.decreases-loop-rest
 decreases-loop-rest l = length l.rest
@@ -11,6 +12,7 @@ abbrev pub invariant-loop-rest : goal.invariant-loop-rest
 invariant-loop-rest l =
     record {
       begins : 0 < length l.rest → begins_with_word is_blank l.rest ≡ true;
-      same : texts l.words.items ++ words_of l.rest ≡ words_of l.fn.line;
-      kept : length l.words.items ≤ l.most;
+      same : texts l.self.words.items ++ words_of l.rest ≡ words_of l.fn.line;
+      joined : l.joined ≡ true → is_joined true l.fn.line ≡ is_joined_from l.rest;
+      kept : length l.self.words.items ≤ l.most;
     }
