@@ -1,8 +1,7 @@
 //! Lists of bytes with a fixed room, which take no memory.
 ghost use Rattle.std.specs.Prelude.{◌≡◌, ℕ, ◌+◌, ◌<◌, ◌≤◌, List, [], ◌∷◌, ◌++◌, length};
 
-use crate::empty;
-use arrayvec::ArrayVec;
+use crate::Row;
 use std::marker::Model;
 
 /// Up to 4,096 bytes: those of a transfer.
@@ -14,24 +13,22 @@ pub type ByteList = ByteStore<512>;
 /// Up to so many bytes, which take no memory. A contract sees the list.
 #[derive(Drop)]
 pub struct ByteStore<const N: usize> {
-    items: ArrayVec<u8, N>,
+    items: Row<u8, N>,
 }
 
 impl<const N: usize> Model for ByteStore<N> {
     ghost Value = { List ℕ };
 
-    ghost view = { λ b. b.items.items };
+    ghost view = { λ b. b.items };
 
-    ghost inverse = { λ xs. record { items = record { items = xs } } };
+    ghost inverse = { λ xs. record { items = xs } };
 }
 
 impl<const N: usize> ByteStore<N> {
     pub fn new() -> Self
         ensures { result ≡ [] }
     {
-        ByteStore {
-            items: ArrayVec::new(),
-        }
+        ByteStore { items: Row::new() }
     }
 
     pub fn push(&mut self, byte: u8)
@@ -46,13 +43,13 @@ impl<const N: usize> ByteStore<N> {
         requires { length self.old + length bytes.now ≤ N }
         ensures { self.new ≡ self.old ++ bytes.now }
     {
-        let _ = self.items.try_extend_from_slice(bytes);
+        self.items.extend(bytes);
     }
 
     pub fn clear(&mut self)
         ensures { self.new ≡ [] }
     {
-        empty(&mut self.items);
+        self.items.clear();
     }
 
     pub fn as_slice(&self) -> &[u8]

@@ -72,7 +72,8 @@ impl<T: Copy + Default, const N: usize> Row<T, N> {
 
     /// The items.
     pub fn as_slice(&self) -> &[T]
-        ensures { result.now ≡ self.now }
+        ensures value { result.now ≡ self.now }
+        ensures fits { length self.now ≤ N }
     {
         &self.items[..self.len]
     }

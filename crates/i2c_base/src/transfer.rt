@@ -1,13 +1,11 @@
 //! Messages, and the transfers that they make up.
 ghost use Rattle.std.specs.Prelude.{◌≡◌, ◌+◌, ◌^◌, ◌<◌, ◌≤◌, ◌↔◌, [], ◌∷◌, ◌++◌, length, sum_by, IsTrue, IsOk, OnOk, OnErr};
-ghost use Rattle.arrayvec.specs.ArrayVec.{array_vec_len};
 ghost use Rattle.i2c_base.specs.Bytes.{AreBytes};
 ghost use Rattle.i2c_base.specs.Limits as limits;
 ghost use Rattle.i2c_base.specs.Transfer.{HasRoom, counted_read};
 
 use crate::limits::{MOST_BYTES, MOST_LENGTH, MOST_MESSAGES};
-use crate::{Addr, MsgFlags};
-use arrayvec::ArrayVec;
+use crate::{Addr, MsgFlags, Row};
 use bitflags::Flags;
 use std::marker::Model;
 
@@ -79,8 +77,8 @@ pub struct Transfer {
     force: bool,
     /// The sum of the sizes of its messages.
     size: u16,
-    msgs: ArrayVec<Msg, MOST_MESSAGES>,
-    out: ArrayVec<u8, MOST_BYTES>,
+    msgs: Row<Msg, MOST_MESSAGES>,
+    out: Row<u8, MOST_BYTES>,
 }
 
 impl Model for Transfer {
@@ -89,9 +87,9 @@ impl Model for Transfer {
 
     ghost Value = { TransferView };
 
-    ghost view = { λ t. record { bus = t.bus; kind = t.kind; force = t.force; msgs = t.msgs.items; out = t.out.items } };
+    ghost view = { λ t. record { bus = t.bus; kind = t.kind; force = t.force; msgs = t.msgs; out = t.out } };
 
-    ghost invariant = { λ t. IsTransfer t.msgs.items t.out.items × (t.size ≡ sum_by size_of t.msgs.items) };
+    ghost invariant = { λ t. IsTransfer t.msgs t.out × (t.size ≡ sum_by size_of t.msgs) };
 }
 
 impl Transfer {
@@ -107,8 +105,8 @@ impl Transfer {
             kind,
             force,
             size: 0,
-            msgs: ArrayVec::new(),
-            out: ArrayVec::new(),
+            msgs: Row::new(),
+            out: Row::new(),
         }
     }
 
@@ -180,7 +178,7 @@ impl Transfer {
         ensures { IsTrue result ↔ HasRoom self.now.msgs len size }
     {
         let left = MOST_BYTES - usize::from(self.size);
-        self.msgs.len() < MOST_MESSAGES && len <= MOST_LENGTH && size <= left
+        self.msgs().len() < MOST_MESSAGES && len <= MOST_LENGTH && size <= left
     }
 
     // Adds a message within the limits, and its bytes.
@@ -260,18 +258,13 @@ fn counted(addr: Addr, extra: bool) -> Msg
 }
 
 // Puts a message and its bytes at the end.
-fn append(
-    msgs: &mut ArrayVec<Msg, MOST_MESSAGES>,
-    out: &mut ArrayVec<u8, MOST_BYTES>,
-    msg: Msg,
-    bytes: &[u8],
-)
-    requires count { array_vec_len msgs.old < limits.MOST_MESSAGES }
-    requires room { array_vec_len out.old + length bytes.now ≤ limits.MOST_BYTES }
-    ensures msgs { msgs.new.items ≡ msgs.old.items ++ msg ∷ [] }
-    ensures out { out.new.items ≡ out.old.items ++ bytes.now }
-    ensures bytes { AreBytes out.old.items → AreBytes out.new.items }
+fn append(msgs: &mut Row<Msg, MOST_MESSAGES>, out: &mut Row<u8, MOST_BYTES>, msg: Msg, bytes: &[u8])
+    requires count { length msgs.old < limits.MOST_MESSAGES }
+    requires room { length out.old + length bytes.now ≤ limits.MOST_BYTES }
+    ensures msgs { msgs.new ≡ msgs.old ++ msg ∷ [] }
+    ensures out { out.new ≡ out.old ++ bytes.now }
+    ensures bytes { AreBytes out.old → AreBytes out.new }
 {
     msgs.push(msg);
-    let _ = out.try_extend_from_slice(bytes);
+    out.extend(bytes);
 }
