@@ -12,6 +12,9 @@ put_behind out new room all front more is is_all =
 pub four_pieces : (a b c d : List ℕ) → ((a ++ b) ++ c) ++ d ≡ a ++ (b ++ (c ++ d))
 four_pieces a b c d = simp append_assoc
 
+pub five_pieces : (a b c d e : List ℕ) → (((a ++ b) ++ c) ++ d) ++ e ≡ a ++ (b ++ (c ++ (d ++ e)))
+five_pieces a b c d e = simp append_assoc
+
 pub seven_pieces : (a b c d e f g : List ℕ)
     → ((a ++ (b ++ (c ++ (d ++ e)))) ++ f) ++ g ≡ a ++ (b ++ (c ++ (d ++ (e ++ (f ++ g)))))
 seven_pieces a b c d e f g = simp append_assoc

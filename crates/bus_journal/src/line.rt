@@ -1,7 +1,10 @@
 //! An entry of the journal as its line of text.
-ghost use Rattle.std.specs.Prelude.{◌≡◌, ◌+◌, ◌*◌, ◌<◌, ◌≤◌, [], ◌++◌, length, OnOk, OnErr, IfOk, codes, vec_len, vec_capacity};
+ghost use Rattle.std.specs.Prelude.{◌≡◌, true, ◌+◌, ◌*◌, ◌<◌, ◌≤◌, [], ◌++◌, length, Some, OnOk, OnErr, IfOk, codes, vec_len, vec_capacity};
 ghost use Rattle.std.specs.Fmt.{decimal};
 ghost use Rattle.i2c_base.specs.Replies.{reply_by};
+ghost use Rattle.i2c_base.specs.declared.ids.Node.TheVariants.{Device};
+ghost use Rattle.i2c_base.specs.declared.entry.End.TheVariants as end_of;
+ghost use Rattle.i2c_base.specs.declared.entry.Purpose.TheVariants.{Call};
 ghost use Rattle.bus_spec.specs.Lines.{two_digits, spaced, joined, lock_text, purpose_text, direction_text, heard_text, end_text, errno_text, reply_text, cut_text, data_text, part_text, place_text, result_text, level_text, entry_line};
 ghost use Rattle.bus_spec.specs.Report.{ended_line};
 ghost use Rattle.bus_journal.specs.Borrowed.{entry_seen};
@@ -36,16 +39,35 @@ pub fn errno_name<'a>(errno: Errno) -> &'a [u8]
     }
 }
 
-// A space and a lock.
+// A word, a caller and a lock. Most numbers have one digit, and then no length has to be looked at on the way.
 #[inline(always)]
-fn put_lock(room: &mut Room, lock: LockId)
-    requires { length room.old + 14 ≤ 512 }
-    ensures text { room.new ≡ room.old ++ (codes " " ++ lock_text lock) }
-    ensures short { length room.new ≤ length room.old + 14 }
+#[tactic(auto, using(std::proofs::lemmas::Fmt::decimal_digit))]
+fn put_held(room: &mut Room, word: [u8; 5], caller: u8, lock: [u8; 9], number: u16)
+    requires { length room.old + 22 ≤ 512 }
+    ensures text { room.new ≡ room.old ++ (word ++ (decimal caller ++ (lock ++ decimal number))) }
+    ensures short { length room.new ≤ length room.old + 22 }
+{
+    if caller < 10 && number < 10 {
+        put(room, word);
+        room.push(b'0' + caller);
+        put(room, lock);
+        room.push(b'0' + number as u8);
+    } else {
+        put_front(room, &word, caller);
+        put_numbered(room, lock, number);
+    }
+}
+
+// .. whichever lock it is.
+#[inline(always)]
+fn put_lock_line(room: &mut Room, word: [u8; 5], caller: u8, lock: LockId)
+    requires { length room.old + 22 ≤ 512 }
+    ensures text { room.new ≡ room.old ++ (word ++ (decimal caller ++ (codes " " ++ lock_text lock))) }
+    ensures short { length room.new ≤ length room.old + 22 }
 {
     match lock {
-        LockId::Bus(root) => put_numbered(room, *b" buslock ", root.0),
-        LockId::Mux(bus) => put_numbered(room, *b" muxlock ", bus.0),
+        LockId::Bus(root) => put_held(room, word, caller, *b" buslock ", root.0),
+        LockId::Mux(bus) => put_held(room, word, caller, *b" muxlock ", bus.0),
     }
 }
 
@@ -76,22 +98,6 @@ fn put_address(room: &mut Room, addr: Addr, reading: bool)
     let address = addr.get();
     let (high, low) = (hex_digit(address / 16), hex_digit(address % 16));
     room.extend(&[way, b' ', b'0', b'x', high, low, b' ', b'[']);
-}
-
-// Who heard a message, or none, with the word for it.
-#[inline(always)]
-fn put_heard(room: &mut Room, heard: Option<Node>)
-    requires { length room.old + 12 ≤ 512 }
-    ensures text { room.new ≡ room.old ++ (codes "heard " ++ heard_text heard) }
-    ensures short { length room.new ≤ length room.old + 12 }
-{
-    match heard {
-        None => put(room, *b"heard none"),
-        Some(node) => match node {
-            Node::Device(device) => put_numbered(room, *b"heard d", device.0),
-            Node::Chip(mux) => put_numbered(room, *b"heard m", mux.0),
-        },
-    }
 }
 
 // A space, and how a message ended.
@@ -181,6 +187,86 @@ fn put_part(room: &mut Room, purpose: Purpose, part: u8, parts: u8)
     put_part_number(room, part, parts);
 }
 
+// The same of a caller's own message, where each number has one digit: most have.
+#[inline(always)]
+#[tactic(auto, using(std::proofs::lemmas::Fmt::decimal_digit))]
+fn put_short_front(room: &mut Room, caller: u8, bus: u16, part: u8, parts: u8)
+    requires room { length room.old + 21 ≤ 512 }
+    requires digits { (caller < 10) × (bus < 10) × (part < 10) × (parts < 10) }
+    ensures text { room.new ≡ room.old ++ (place_text caller bus ++ part_text Call part parts) }
+    ensures short { length room.new ≡ length room.old + 21 }
+{
+    room.extend(&[
+        b'm',
+        b's',
+        b'g',
+        b' ',
+        b'0' + caller,
+        b' ',
+        b'b',
+        b'u',
+        b's',
+        b' ',
+        b'0' + bus as u8,
+        b' ',
+        b'c',
+        b'a',
+        b'l',
+        b'l',
+        b' ',
+        b'0' + part,
+        b'/',
+        b'0' + parts,
+        b' ',
+    ]);
+}
+
+// The front of a message's line, up to its direction.
+#[inline(always)]
+fn put_message_front(room: &mut Room, caller: u8, bus: SegId, purpose: Purpose, part: u8, parts: u8)
+    requires { length room.old + 36 ≤ 512 }
+    ensures text { room.new ≡ room.old ++ (place_text caller bus ++ part_text purpose part parts) }
+    ensures short { length room.new ≤ length room.old + 36 }
+{
+    match purpose {
+        Purpose::Call => {
+            if caller < 10 && bus.0 < 10 && part < 10 && parts < 10 {
+                put_short_front(room, caller, bus.0, part, parts);
+                return;
+            }
+        }
+        Purpose::Control(_) => {}
+    }
+    put_place(room, caller, bus);
+    put_part(room, purpose, part, parts);
+}
+
+// It ended well.
+#[inline(always)]
+fn is_ok(end: End) -> bool
+    ensures { result ≡ true → end ≡ end_of.Ok }
+{
+    matches!(end, End::Ok)
+}
+
+// A device heard a message, which ended so. Most have one digit, and most end well.
+#[inline(always)]
+#[tactic(auto, using(std::proofs::lemmas::Fmt::decimal_digit))]
+fn put_device_result(room: &mut Room, device: u16, end: End)
+    requires { length room.old + 22 ≤ 512 }
+    ensures text { room.new ≡ room.old ++ result_text (Some (Device device)) end }
+    ensures short { length room.new ≤ length room.old + 22 }
+{
+    if device < 10 && is_ok(end) {
+        put(room, *b"heard d");
+        room.push(b'0' + device as u8);
+        put(room, *b" ok");
+    } else {
+        put_numbered(room, *b"heard d", device);
+        put_end(room, end);
+    }
+}
+
 // Who heard a message, and how it ended.
 #[inline(always)]
 fn put_result(room: &mut Room, heard: Option<Node>, end: End)
@@ -188,8 +274,19 @@ fn put_result(room: &mut Room, heard: Option<Node>, end: End)
     ensures text { room.new ≡ room.old ++ result_text heard end }
     ensures short { length room.new ≤ length room.old + 22 }
 {
-    put_heard(room, heard);
-    put_end(room, end);
+    match heard {
+        None => {
+            put(room, *b"heard none");
+            put_end(room, end);
+        }
+        Some(node) => match node {
+            Node::Device(device) => put_device_result(room, device.0, end),
+            Node::Chip(mux) => {
+                put_numbered(room, *b"heard m", mux.0);
+                put_end(room, end);
+            }
+        },
+    }
 }
 
 #[inline(always)]
@@ -253,8 +350,9 @@ fn push_joined(out: &mut Vec<u8>, room: &mut Room, bytes: &[u8]) -> Result<(), N
         None => Ok(()),
         Some((first, rest)) => {
             put_hex(room, *first);
-            // Most messages have one byte, and a call costs more than it.
-            if rest.is_empty() {
+            // Most messages have few bytes, and a call costs more than these.
+            if rest.len() <= MANY {
+                put_spaced(room, rest);
                 return Ok(());
             }
             push_spaced(out, room, rest)
@@ -306,6 +404,10 @@ fn push_reply(
         }
         ReplyHead::Read => {
             put(room, *b" read");
+            if bytes.len() <= MANY {
+                put_spaced(room, bytes);
+                return Ok(());
+            }
             push_spaced(out, room, bytes)
         }
         ReplyHead::Err(errno) => {
@@ -328,12 +430,10 @@ fn put_entry(out: &mut Vec<u8>, room: &mut Room, entry: &EntryRef<'_>) -> Result
     let bytes = entry.bytes;
     match entry.head {
         Head::Take { caller, lock } => {
-            put_front(room, b"take ", caller);
-            put_lock(room, lock);
+            put_lock_line(room, *b"take ", caller, lock);
         }
         Head::Free { caller, lock } => {
-            put_front(room, b"free ", caller);
-            put_lock(room, lock);
+            put_lock_line(room, *b"free ", caller, lock);
         }
         Head::Message {
             caller,
@@ -346,8 +446,7 @@ fn put_entry(out: &mut Vec<u8>, room: &mut Room, entry: &EntryRef<'_>) -> Result
             heard,
             end,
         } => {
-            put_place(room, caller, bus);
-            put_part(room, purpose, part, parts);
+            put_message_front(room, caller, bus, purpose, part, parts);
             push_data(out, room, addr, reading, bytes)?;
             put_result(room, heard, end);
         }

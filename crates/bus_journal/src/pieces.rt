@@ -84,6 +84,7 @@ pub fn put_hex(room: &mut Room, byte: u8)
 }
 
 /// Puts bytes at the end, with a space before each.
+#[inline(always)]
 pub fn put_spaced(room: &mut Room, bytes: &[u8])
     requires { length room.old + 3 * length bytes.now ≤ 512 }
     ensures text { room.new ≡ room.old ++ spaced bytes.now }

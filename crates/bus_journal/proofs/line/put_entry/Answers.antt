@@ -13,8 +13,8 @@ returns-in_ok-push_data-in-Message-clause-text c =
     let part = part_text m.purpose m.part m.parts in
     let told = data_text m.addr m.reading c.args.entry.now.bytes.now in
     let result = result_text m.heard m.end in
-    let placed : c.put_place.new.room ≡ place = c.put_place.ensures.text ∙ ap (λ (xs : List ℕ). xs ++ place) c.requires in
-    let parted : c.put_part.new.room ≡ place ++ part = c.put_part.ensures.text ∙ ap (λ (xs : List ℕ). xs ++ part) placed in
+    let parted : c.put_message_front.new.room ≡ place ++ part =
+    c.put_message_front.ensures.text ∙ ap (λ (xs : List ℕ). xs ++ (place ++ part)) c.requires in
     let front : c.push_data.new.out.items ++ c.push_data.new.room ≡ out ++ ((place ++ part) ++ told) =
     c.in_ok-push_data-in-Message.ensures.text ∙ ap (λ (xs : List ℕ). out ++ (xs ++ told)) parted in
     put_behind out c.push_data.new.out.items c.push_data.new.room c.put_result.new.room ((place ++ part) ++ told) result front
