@@ -70,13 +70,12 @@ pub record TellsSettle {C : Type 0} (o : Option (Option Errno)) (s : Seat C) : T
 abbrev pub updates_of : {C : Type 0} → BoardView → LocksView → ActOutcome → Seat C → List MuxUpdate
 updates_of b v out s = updates_after (next_of v (walk_left b s)) (first_note (seen (slots_of (seen_of v)) (walk_left b s))) out
 
--- it went on behind a step with this outcome, which changes these marks; the looks in front of its next one are open
-pub record HasAdvanced {C : Type 0} (out : ActOutcome) (ds : List MuxUpdate) (s t : Seat C) : Type 0 where
+-- it went on behind a step with this outcome; the looks in front of its next one are open
+pub record HasAdvanced {C : Type 0} (out : ActOutcome) (s t : Seat C) : Type 0 where
   pub same : t ≡ record s { walk = t.walk }
   pub route : t.walk.route ≡ s.walk.route
   pub fresh : IsFresh t.walk
   pub walk : (b : BoardView) (v : LocksView) → IsLookedAt b v s → walk_left b t ≡ behind_of v (walk_left b s) out
-  pub updates : (b : BoardView) (v : LocksView) → IsLookedAt b v s → ds ≡ updates_of b v out s
 
 -- .. and these are answered
 pub record HasLooked {C : Type 0} (b : BoardView) (v : LocksView) (s t : Seat C) : Type 0 where

@@ -25,7 +25,6 @@ impl<C: Caller> Seat<C> {
         board: &mut CachedBoard<'_>,
         locks: &Locks,
         ports: &[(SegId, P)],
-        updates: &mut MuxUpdates,
     )
         requires may { MayEnd C.Caller board.old (roots_of ports.now) self.old }
         requires looked { IsLookedAt board.old locks.now self.old }
@@ -33,7 +32,7 @@ impl<C: Caller> Seat<C> {
         ensures looked { IsLookedAt board.old locks.now self.new }
         ensures board { board.new ≡ board.old }
     {
-        self.lock_done(board, locks, updates);
+        self.lock_done(board, locks);
         self.end(board, ports);
     }
 
@@ -55,7 +54,8 @@ impl<C: Caller> Seat<C> {
             end: msg.end,
             bytes,
         };
-        self.advance_walk(&outcome, updates);
+        self.updates(&outcome, updates);
+        self.advance_walk(&outcome);
     }
 
     /// .. behind a line step, which may have failed.
@@ -64,18 +64,14 @@ impl<C: Caller> Seat<C> {
         ensures { LinesOut failed updates.new.items self.old self.new }
     {
         self.cut = if failed { Cut::Way } else { Cut::No };
-        self.advance_walk(&Outcome::Lined { failed }, updates);
+        let outcome = Outcome::Lined { failed };
+        self.updates(&outcome, updates);
+        self.advance_walk(&outcome);
     }
 
     /// Makes the settle that comes next, with its entry; tells whether one does.
     #[inline(always)]
-    pub fn settle(
-        &mut self,
-        board: &CachedBoard<'_>,
-        locks: &Locks,
-        journal: &mut Journal,
-        updates: &mut MuxUpdates,
-    ) -> bool
+    pub fn settle(&mut self, board: &CachedBoard<'_>, locks: &Locks, journal: &mut Journal) -> bool
         requires may { MaySettle board.now locks.now journal.old self.old }
         requires looked { IsLookedAt board.now locks.now self.old }
         ensures settled { result ≡ true → (verdict : Option Errno) × IsSettledIn board.now locks.now verdict journal.old journal.new self.old self.new }
@@ -88,7 +84,7 @@ impl<C: Caller> Seat<C> {
         };
         let decided = self.decide(verdict);
         journal.push(&self.settle_entry(decided));
-        self.lock_done(board, locks, updates);
+        self.lock_done(board, locks);
         true
     }
 
@@ -99,7 +95,6 @@ impl<C: Caller> Seat<C> {
         locks: &Locks,
         ports: &[(SegId, P)],
         journal: &mut Journal,
-        updates: &mut MuxUpdates,
         errno: Errno,
     )
         requires may { MayRefuse C.Caller board.old (roots_of ports.now) errno journal.old self.old }
@@ -110,7 +105,7 @@ impl<C: Caller> Seat<C> {
     {
         let decided = self.decide(Some(errno));
         journal.push(&self.settle_entry(decided));
-        self.lock_done(board, locks, updates);
+        self.lock_done(board, locks);
         self.end(board, ports);
     }
 }

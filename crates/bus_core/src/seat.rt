@@ -30,7 +30,7 @@ ghost use Rattle.bus_core.specs.Looks.{IsLookedAt};
 ghost use Rattle.bus_core.specs.Opening.{HasRoot};
 ghost use Rattle.bus_core.specs.Places.{HasSpare, asked_next, owed_by, walk_left};
 ghost use Rattle.bus_core.specs.Replies.{reply_decided};
-ghost use Rattle.bus_core.specs.Seats.{HasAdvanced, HasEnded, HasLooked, HasPassed, IsCounted, IsUnused, MayEnd, MayHear, TellsAction, TellsSettle, got_heard};
+ghost use Rattle.bus_core.specs.Seats.{HasAdvanced, HasEnded, HasLooked, HasPassed, IsCounted, IsUnused, MayEnd, MayHear, TellsAction, TellsSettle, got_heard, updates_of};
 
 use crate::marks::seen as words_of;
 use crate::replies::{Decided, Replies};
@@ -134,16 +134,28 @@ impl<C: Caller> Seat<C> {
         self.walk.settles()
     }
 
-    /// Goes on in its walk behind that action, which had this outcome, and tells what it changes of the lock words. The looks
-    /// in front of its next action are still to be answered.
-    pub fn advance_walk(&mut self, outcome: &Outcome<'_>, updates: &mut MuxUpdates)
-        requires { IsStep self.old.walk.looked }
-        ensures { HasAdvanced (outcome_of outcome.now) updates.new.items self.old self.new }
+    /// Which marks and kept channels change behind its next action, where it has this outcome, in the place of what `updates`
+    /// had.
+    #[inline(always)]
+    pub fn updates(&self, outcome: &Outcome<'_>, updates: &mut MuxUpdates)
+        requires { IsStep self.now.walk.looked }
+        ensures { (b : BoardView) (v : LocksView) → IsLookedAt b v self.now → updates.new.items ≡ updates_of b v (outcome_of outcome.now) self.now }
     {
-        self.walk.report(outcome, updates);
+        self.walk.updates(outcome, updates);
+    }
+
+    /// Goes on in its walk behind its next action, which had this outcome. The looks in front of the one that comes then are
+    /// still to be answered.
+    #[inline(always)]
+    pub fn advance_walk(&mut self, outcome: &Outcome<'_>)
+        requires { IsStep self.old.walk.looked }
+        ensures { HasAdvanced (outcome_of outcome.now) self.old self.new }
+    {
+        self.walk.advance(outcome);
     }
 
     /// Answers the looks in front of its next action by the lock words, of which it has each that is asked for.
+    #[inline(always)]
     pub fn look(&mut self, board: &CachedBoard<'_>, locks: &Locks)
         requires fresh { IsFresh self.old.walk }
         requires counted { IsCounted self.old }
@@ -153,12 +165,13 @@ impl<C: Caller> Seat<C> {
     }
 
     /// Goes on in its walk behind a lock or a settle, which tell no cut and change no mark.
-    pub fn lock_done(&mut self, board: &CachedBoard<'_>, locks: &Locks, updates: &mut MuxUpdates)
+    #[inline(always)]
+    pub fn lock_done(&mut self, board: &CachedBoard<'_>, locks: &Locks)
         requires looked { IsLookedAt board.now locks.now self.old }
         requires counted { IsCounted self.old }
         ensures { HasPassed board.now locks.now self.old self.new }
     {
-        self.advance_walk(&Outcome::Passed, updates);
+        self.advance_walk(&Outcome::Passed);
         self.look(board, locks);
         self.cut = Cut::No;
     }

@@ -49,7 +49,7 @@ fn take<P: Port, C: Caller>(parts: &mut CoreParts<'_, P, C>, place: usize, lock:
     ensures { HasMadeStep P.Port C.Caller place parts.old parts.new }
 {
     let seat = &mut parts.seats[place];
-    seat.lock_done(&parts.board, &parts.locks, &mut parts.updates);
+    seat.lock_done(&parts.board, &parts.locks);
     let caller = seat.number;
     parts.journal.push(&EntryRef {
         head: Head::Take {
@@ -68,12 +68,7 @@ fn free<P: Port, C: Caller>(parts: &mut CoreParts<'_, P, C>, place: usize, lock:
     ensures { HasMadeStep P.Port C.Caller place parts.old parts.new }
 {
     let seat = &mut parts.seats[place];
-    seat.free_done(
-        &mut parts.board,
-        &parts.locks,
-        parts.ports.as_slice(),
-        &mut parts.updates,
-    );
+    seat.free_done(&mut parts.board, &parts.locks, parts.ports.as_slice());
     let caller = seat.number;
     parts.journal.push(&EntryRef {
         head: Head::Free {
@@ -106,12 +101,7 @@ fn send_and_record<P: Port, C: Caller>(
     seat.message_done(next, &msg, bytes, &mut parts.updates);
     set_marks(&mut parts.locks, seat.number, parts.updates.as_slice());
     seat.look(&parts.board, &parts.locks);
-    seat.settle(
-        &parts.board,
-        &parts.locks,
-        &mut parts.journal,
-        &mut parts.updates,
-    );
+    seat.settle(&parts.board, &parts.locks, &mut parts.journal);
 }
 
 // Makes the line step that comes next, with its entry, and the settle that it decides where it fails.
@@ -135,12 +125,7 @@ fn switch<P: Port, C: Caller>(parts: &mut CoreParts<'_, P, C>, place: usize, mux
     seat.line_done(failed, &mut parts.updates);
     set_marks(&mut parts.locks, caller, parts.updates.as_slice());
     seat.look(&parts.board, &parts.locks);
-    seat.settle(
-        &parts.board,
-        &parts.locks,
-        &mut parts.journal,
-        &mut parts.updates,
-    );
+    seat.settle(&parts.board, &parts.locks, &mut parts.journal);
 }
 
 // Settles the refused transfer of the caller at a place, and loads its next one. A settle without an error stands
@@ -156,7 +141,6 @@ fn refuse<P: Port, C: Caller>(parts: &mut CoreParts<'_, P, C>, place: usize, ver
             &parts.locks,
             parts.ports.as_slice(),
             &mut parts.journal,
-            &mut parts.updates,
             errno,
         );
     }

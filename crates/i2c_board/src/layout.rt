@@ -81,6 +81,7 @@ impl Layout<'_> {
     }
 
     /// Puts the muxes over a bus, nearest first, in the place of what the list had.
+    #[inline(always)]
     pub fn find_hops(&self, seg: SegId, found: &mut ArrayVec<Hop, MOST_MUXES>)
         requires { IsPlainBoard (board_of self.now) }
         ensures { found.new.items ≡ hops (board_of self.now) seg }

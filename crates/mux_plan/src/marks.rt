@@ -87,7 +87,7 @@ fn left_open(hop: &Hop, left: u8, outcome: &Outcome<'_>) -> Option<u8>
 }
 
 // A mux on this bus was turned above these tasks. Where the port didn't fail no mark is left, and this channel is open.
-#[inline(always)]
+#[inline(never)]
 fn turn(
     updates: &mut MuxUpdates,
     route: &Route,

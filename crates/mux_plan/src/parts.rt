@@ -160,8 +160,8 @@ impl WalkParts {
     }
 
     /// Begins a piece of work on the bus at a place: the looks at the muxes on its way are answered, and the first step
-    /// is on the top.
-    #[inline(always)]
+    /// is on the top. Apart, since most steps have none in front.
+    #[inline(never)]
     pub fn enter(&mut self, board: &Board, seen: &Seen<'_>, place: u8, work: Work)
         requires planned { IsPlanned self.old.route (Enter place work ∷ self.old.stack) }
         ensures tree { (ms : List MessageView) (out : JobOutcome) → length ms ≡ self.old.route.count
@@ -209,6 +209,7 @@ impl WalkParts {
     }
 
     /// Answers the looks in front of the next step.
+    #[inline(always)]
     pub fn look(&mut self, board: &Board, seen: &Seen<'_>)
         requires planned { IsPlanned self.old.route self.old.stack }
         requires ready { IsReady self.old.stack }
@@ -270,6 +271,7 @@ impl WalkParts {
     }
 
     // Ends a piece of work, whose last message or line had this outcome.
+    #[inline(never)]
     fn end(&mut self, left: u8, work: Work, outcome: &Outcome<'_>)
         requires planned { IsPlanned self.old.route (Rest left work ∷ self.old.stack) }
         ensures tree { (b : BoardView) (ms : List MessageView)
@@ -286,6 +288,7 @@ impl WalkParts {
     }
 
     // A message was sent, which so many more might have followed.
+    #[inline(never)]
     fn message(&mut self, left: u8, work: Work, outcome: &Outcome<'_>)
         requires planned { IsPlanned self.old.route (Rest left work ∷ self.old.stack) }
         ensures tree { (b : BoardView) (ms : List MessageView) (out : JobOutcome)
@@ -309,6 +312,7 @@ impl WalkParts {
     }
 
     /// Which marks change where the step on the top has this outcome.
+    #[inline(always)]
     pub fn mark(&self, updates: &mut MuxUpdates, outcome: &Outcome<'_>)
         requires planned { IsPlanned self.now.route self.now.stack }
         requires step { IsStep self.now.stack }
@@ -335,6 +339,7 @@ impl WalkParts {
     }
 
     /// The step on the top is done, and had this outcome.
+    #[inline(always)]
     pub fn act(&mut self, outcome: &Outcome<'_>)
         requires planned { IsPlanned self.old.route self.old.stack }
         requires step { IsStep self.old.stack }
@@ -422,6 +427,7 @@ impl WalkParts {
     }
 
     // The work is done: the mux is deselected, whatever came of it.
+    #[inline(never)]
     fn deselect(&mut self, hop: u8)
         requires planned { IsPlanned self.old.route (AwaitWork hop ∷ self.old.stack) }
         ensures tree { (b : BoardView) (ms : List MessageView) (out : JobOutcome)
@@ -442,6 +448,7 @@ impl WalkParts {
     }
 
     // Goes on with what waits on the top, if it does. Tells whether what is below it has to go on too.
+    #[inline(always)]
     fn wake(&mut self) -> bool
         requires planned { IsPlanned self.old.route self.old.stack }
         ensures tree { (b : BoardView) (ms : List MessageView)
@@ -491,6 +498,7 @@ impl WalkParts {
     }
 
     // The close of a marked mux has come to its end; where it wasn't sent or failed, so has the work.
+    #[inline(never)]
     fn wake_close(&mut self, hop: u8, mux: MuxId, work: Work) -> bool
         requires planned { IsPlanned self.old.route (AwaitClose hop mux work ∷ self.old.stack) }
         ensures tree { (b : BoardView) (ms : List MessageView)
@@ -511,6 +519,7 @@ impl WalkParts {
     }
 
     // The select has come to its end; where it wasn't good, so has the work.
+    #[inline(never)]
     fn wake_select(&mut self, hop: u8, work: Work) -> bool
         requires planned { IsPlanned self.old.route (AwaitSelect hop work ∷ self.old.stack) }
         ensures tree { (b : BoardView) (ms : List MessageView)
@@ -534,6 +543,7 @@ impl WalkParts {
     }
 
     /// Goes on with what waits, down to a task that doesn't.
+    #[inline(always)]
     pub fn resume(&mut self)
         requires planned { IsPlanned self.old.route self.old.stack }
         ensures tree { (b : BoardView) (ms : List MessageView)

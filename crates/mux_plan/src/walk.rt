@@ -154,24 +154,33 @@ impl Walk {
         self.parts.is_over()
     }
 
-    /// Goes on behind the next action, which had this outcome; which marks and kept channels change behind it is told in
-    /// the place of what `updates` had. The looks in front of the next step are still to be answered.
-    pub fn report(&mut self, outcome: &Outcome<'_>, updates: &mut MuxUpdates)
+    /// Which marks and kept channels change behind the next action, where it has this outcome, in the place of what `updates`
+    /// had. A lock and a settle change none.
+    #[inline(always)]
+    pub fn updates(&self, outcome: &Outcome<'_>, updates: &mut MuxUpdates)
+        requires { IsStep self.now.looked }
+        ensures { (b : BoardView) (ms : List MessageView)
+            → updates.new.items ≡ updates_after (first_act (looked_of b ms self.now)) (first_note (looked_of b ms self.now)) (outcome_of outcome.now) }
+    {
+        empty(updates);
+        self.parts.mark(updates, outcome);
+    }
+
+    /// Goes on behind the next action, which had this outcome. The looks in front of the next step are still to be answered.
+    #[inline(always)]
+    pub fn advance(&mut self, outcome: &Outcome<'_>)
         requires { IsStep self.old.looked }
         ensures tree { (b : BoardView) (ms : List MessageView) → walk_of b ms self.new ≡ rest_of (looked_of b ms self.old) (outcome_of outcome.now) }
         ensures fresh { IsFresh self.new }
         ensures route { self.new.route ≡ self.old.route }
-        ensures updates { (b : BoardView) (ms : List MessageView)
-            → updates.new.items ≡ updates_after (first_act (looked_of b ms self.old)) (first_note (looked_of b ms self.old)) (outcome_of outcome.now) }
     {
-        empty(updates);
-        self.parts.mark(updates, outcome);
         self.parts.act(outcome);
         self.parts.resume();
         self.before = Snapshot::of(&self.parts.stack);
     }
 
     /// Answers the looks in front of the next step, by marks and kept channels as this tells them.
+    #[inline(always)]
     pub fn look(&mut self, board: &Board, seen: &Seen<'_>)
         requires { IsFresh self.old }
         ensures looked { (ms : List MessageView) → length ms ≡ self.old.route.count → IsLooked board.now ms (slots_of seen.now) self.new }

@@ -203,7 +203,7 @@ returns g c =
       locks = c.set_marks.new.locks;
       journal = c.settle.new.journal;
       bytes = c.send_next-msg.new.bytes;
-      updates = c.settle.new.updates;
+      updates = c.message_done.new.updates;
     }) refl locks refl refl refl
     c.settle.new.self refl c.settle.result c.settle.ensures.settled c.settle.ensures.none c.settle.ensures.stays in
     record {

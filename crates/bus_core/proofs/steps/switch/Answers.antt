@@ -149,7 +149,7 @@ returns g c =
     (c.shift_line-failed.ensures.shifted q.0)) in
     let all = line-done g.P.Port g.C.Caller x c.requires.rests.kept c.args.place old comes.0 need.job comes.1 failed t went
     c.push.new.self entries c.push.ensures.room room_bytes
-    (record x { ports = _; seats = _; locks = c.set_marks.new.locks; journal = c.settle.new.journal; updates = c.settle.new.updates }) refl
+    (record x { ports = _; seats = _; locks = c.set_marks.new.locks; journal = c.settle.new.journal; updates = c.line_done.new.updates }) refl
     locks (root_port g.P.Port q) (root_port g.P.Port (q.0, c.shift_line-failed.new.port))
     (socket-here g.P.Port x.ports.items old.port q c.index_mut.ensures.value plugged.0 plugged.1)
     (map-set (root_port g.P.Port) x.ports.items old.port (q.0, c.shift_line-failed.new.port)) shifted refl refl

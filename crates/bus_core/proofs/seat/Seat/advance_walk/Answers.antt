@@ -1,8 +1,7 @@
 use Rattle.std.proofs.Common.{refl, ◌∙◌, ap}
 use Rattle.i2c_spec.specs.Messages.{messages_of}
-use Rattle.bus_spec.specs.Grammar.{first_act, first_note, rest_of}
+use Rattle.bus_spec.specs.Grammar.{rest_of}
 use Rattle.bus_spec.specs.Walk.{WalkTree}
-use Rattle.mux_plan.specs.Marks.{updates_after}
 use Rattle.mux_plan.specs.Plans.{outcome_of}
 use Rattle.bus_core.proofs.seat.Seat.advance_walk.Goals as goal
 
@@ -12,9 +11,7 @@ returns g c =
     let out = outcome_of c.args.outcome.now in
     record {
       same = refl;
-      route = c.report.ensures.route;
-      fresh = c.report.ensures.fresh;
-      walk = λ b v looked. c.report.ensures.tree b ms ∙ ap (λ (w : WalkTree). rest_of w out) looked.same;
-      updates = λ b v looked. c.report.ensures.updates b ms
-          ∙ ap (λ (w : WalkTree). updates_after (first_act w) (first_note w) out) looked.same;
+      route = c.advance.ensures.route;
+      fresh = c.advance.ensures.fresh;
+      walk = λ b v looked. c.advance.ensures.tree b ms ∙ ap (λ (w : WalkTree). rest_of w out) looked.same;
     }

@@ -19,6 +19,6 @@ returns g c =
         walk = on.walk b v looked;
         route = on.route;
       };
-      updates = on.updates;
+      updates = λ b v looked. c.updates.ensures b v looked;
       fresh = on.fresh;
     }

@@ -10,6 +10,9 @@ use Rattle.bus_core.proofs.seat.Seat.message_done.Goals as goal
 pub record_msg-requires : goal.record_msg-requires
 record_msg-requires g c = c.requires.hears
 
+pub updates-requires : goal.updates-requires
+updates-requires g c = subst (λ (s : Seat _). IsStep s.walk.looked) (sym c.record_msg.ensures.same) c.requires.step
+
 pub advance_walk-requires : goal.advance_walk-requires
 advance_walk-requires g c = subst (λ (s : Seat _). IsStep s.walk.looked) (sym c.record_msg.ensures.same) c.requires.step
 
@@ -21,7 +24,7 @@ returns g c =
       heard = λ b v looked. heard b v c.args.self.now c.record_msg.new.self c.advance_walk.new.self c.args.next.now
           c.args.msg.now.reading c.args.bytes.now c.args.msg.now.end
           h.same on.same h.gone h.got h.wrote (on.walk b v (subst (IsLookedAt b v) (sym h.same) looked)) on.route;
-      updates = λ b v looked. on.updates b v (subst (IsLookedAt b v) (sym h.same) looked)
+      updates = λ b v looked. c.updates.ensures b v (subst (IsLookedAt b v) (sym h.same) looked)
           ∙ ap (updates_of b v (Sent c.args.msg.now.end c.args.bytes.now)) h.same;
       fresh = on.fresh;
     }
