@@ -10,9 +10,13 @@ use Rattle.std.proofs.lemmas.List.Folds.{list_any-append}
 use Rattle.std.proofs.lemmas.List.Sums.{sum_by_push}
 use Rattle.std.proofs.lemmas.Nat.Bits.{bit_at-zero, bit_at_or, bit_at-pow_same, bit_at-pow_other}
 use Rattle.i2c_base.specs.Board.{BoardView}
+use Rattle.i2c_base.specs.Limits.{MOST_BYTES}
 use Rattle.i2c_base.specs.Transfer.{TransferView}
+use Rattle.i2c_base.specs.declared.transfer.Msg.{Msg}
+use Rattle.i2c_spec.specs.Cost.{cost_of}
 use Rattle.i2c_spec.specs.Tree.{buses, root_of, root_named}
-use Rattle.tools.specs.Dialogues.{transfers_of}
+use Rattle.tools.specs.Dialogues.{AreAlike, transfers_of}
+use Rattle.tools.specs.Replies.{most_brought}
 use Rattle.caller_core.specs.Roots.{names_root, command_names, HasBits}
 use Rattle.caller_core.specs.Turns.{talk}
 use Rattle.caller_core.specs.View.{CommandView}
@@ -145,3 +149,22 @@ module _ {X : Type 0} (costs counts brings : X → ℕ) (names : ℕ → X → B
     few_bytes = omega (arith, was.few_bytes, is.few_bytes);
     roots = bits_more names xs i x t.roots one.roots within at was.roots is.roots;
   }
+
+-- one transfer adds what another does that asks for the same
+abbrev pub IsOneTransfer : BoardView → TransferView → Totals → Type 0
+IsOneTransfer b t one = IsOne (cost_of b) (λ u. 1) most_brought (names_root b) (2 ^ 32) 1 MOST_BYTES t one
+
+-- what is told by bus and messages alone
+alike_by : {A : Type 0} (f : ℕ → List Msg → A) (t u : TransferView) → AreAlike t u → f t.bus t.msgs ≡ f u.bus u.msgs
+alike_by f t u a = ap (λ (n : ℕ). f n t.msgs) a.bus ∙ ap (f u.bus) a.msgs
+
+pub one_alike : (b : BoardView) (t u : TransferView) (one : Totals) → AreAlike t u → IsOneTransfer b t one → IsOneTransfer b u one
+one_alike b t u one a is = record {
+  cost = is.cost ∙ alike_by (λ n ms. cost_of b (record t { bus = n; msgs = ms })) t u a;
+  small = is.small;
+  replies = is.replies;
+  few = is.few;
+  bytes = is.bytes ∙ alike_by (λ n ms. most_brought (record t { bus = n; msgs = ms })) t u a;
+  few_bytes = is.few_bytes;
+  roots = record { exactly = λ r. is.roots.exactly r ∙ alike_by (λ n ms. cond (names_root b r (record t { bus = n; msgs = ms })) 1 0) t u a };
+}

@@ -60,7 +60,8 @@ fn turn_to(board: &Accepted, bus: u16, bill: &mut BusBill)
     }
 }
 
-// The totals of the transfers of a command. `transfer` is room for one after the other, and `bill` is that of a bus.
+// The totals of the transfers of a command. `transfer` is room for one after the other, and `bill` is that of a bus. One that
+// repeats the one before counts as that does.
 fn totals_of_command(
     board: &Accepted,
     run: &ToolRun,
@@ -78,13 +79,22 @@ fn totals_of_command(
     ensures roots { HasBits (names_root board.now) (transfers_of (dialogue_of run.now)) result.roots }
 {
     let mut totals = Totals::NONE;
+    let mut one = Totals::NONE;
     for place in 0..run.places() {
-        run.put(place, transfer);
-        turn_to(board, transfer.bus(), bill);
-        totals.cost += bill.cost(board, transfer);
-        totals.replies += 1;
-        totals.bytes += u64::from(transfer.size());
-        totals.roots |= root_bit(bill.root);
+        if !run.repeats(place) {
+            run.put(place, transfer);
+            turn_to(board, transfer.bus(), bill);
+            one = Totals {
+                cost: bill.cost(board, transfer),
+                replies: 1,
+                bytes: u64::from(transfer.size()),
+                roots: root_bit(bill.root),
+            };
+        }
+        totals.cost += one.cost;
+        totals.replies += one.replies;
+        totals.bytes += one.bytes;
+        totals.roots |= one.roots;
     }
     totals
 }

@@ -17,7 +17,7 @@ use Rattle.smb_emul.specs.declared.call.SmbFail.TheVariants.{Errno}
 use Rattle.smb_emul.specs.declared.call.SmbOp.{SmbOp}
 use Rattle.smb_emul.specs.declared.call.SmbOp.TheVariants as op
 use Rattle.tools.specs.Commands.{IsInRange}
-use Rattle.tools.specs.Dialogues.{Dialogue, AreReplies, behind}
+use Rattle.tools.specs.Dialogues.{Dialogue, AreAlike, AreReplies, behind}
 use Rattle.tools.specs.DumpTables.{dump_places, dump_op, dump_call, is_refusal, register_read, is_dumped, byte_cell, byte_sign, dump_cell, dump_sign, byte_row, rows, byte_line, byte_table, word_cell, dump_word, word_row, table_by, told_alone, dump_lines, dumps}
 use Rattle.tools.specs.Dumps.{is_dash, range_with, range_of, range_word, dump_mode, dumped, range_or_all, dump_tail, dump_bus, unless, by_yes, dump_options, dump_words, IsWhole, IsDumpInRange}
 use Rattle.tools.specs.Grammars.{Grammar, word, class, read_at}
@@ -371,3 +371,20 @@ told_section (Some (reply.Err e)) table each =
 
 pub dump_section : (d : Dump) (rs : List Reply) → All IsSectionLine (dump_lines d rs)
 dump_section d rs = told_section (slice_get rs 0) (table_by d.mode d rs) (table_section d rs d.mode)
+
+-- ---- its calls ask for the same messages, but for the number of the register
+
+abbrev asked_by : Dump → DumpMode → ℕ → SmbCall
+asked_by d m k = record { bus = d.bus; addr = d.addr; force = d.force; pec = d.pec; op = dump_op m d.first k }
+
+calls_alike : (d : Dump) (m : DumpMode) (j k : ℕ) → (m ≡ mode.Receive → ((j == 0) ≡ false) × ((k == 0) ≡ false))
+    → AreAlike (messages_of_call (asked_by d m j)) (messages_of_call (asked_by d m k))
+calls_alike d mode.Byte j k h = record { bus = refl; msgs = refl }
+calls_alike d mode.Word j k h = record { bus = refl; msgs = refl }
+calls_alike d mode.Receive j k h = rw ((h refl).0, (h refl).1) record { bus = refl; msgs = refl }
+calls_alike d mode.I2cBlock j k h = record { bus = refl; msgs = refl }
+
+pub dumps_alike : (d : Dump) (k : ℕ) → 0 < k → (d.mode ≡ mode.Receive → 1 < k)
+    → AreAlike (messages_of_call (dump_call d (k - 1))) (messages_of_call (dump_call d k))
+dumps_alike d k some further =
+    calls_alike d d.mode (k - 1) k (λ e. let more = further e in (grind (arith, nat_tests, more), grind (arith, nat_tests, more)))

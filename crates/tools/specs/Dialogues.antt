@@ -1,6 +1,6 @@
 -- What a command says to the bus, whatever its form: places with a transfer each, where it goes on behind a reply, and the
 -- lines that it prints.
-use Rattle.std.specs.Prelude.{⊤, ℕ, ◌+◌, ◌-◌, nat_le, Bool, List, [], ◌∷◌, map}
+use Rattle.std.specs.Prelude.{◌≡◌, ⊤, ℕ, ◌+◌, ◌-◌, nat_le, Bool, List, [], ◌∷◌, map}
 use Rattle.std.specs.List.{fold, sum_by, range_with_len}
 use Rattle.i2c_base.specs.Fitting.{Fits}
 use Rattle.i2c_base.specs.Transfer.{TransferView}
@@ -39,6 +39,11 @@ transfers_of d = transfers_behind d 0
 -- a sum over the transfers from a place on
 abbrev pub sum_behind : (TransferView → ℕ) → Dialogue → ℕ → ℕ
 sum_behind f d k = sum_by f (transfers_behind d k)
+
+-- two transfers ask for the same, but for the bytes that they write
+pub record AreAlike (t u : TransferView) : Type 0 where
+  pub bus : t.bus ≡ u.bus
+  pub msgs : t.msgs ≡ u.msgs
 
 -- each reply is one that the transfer at its place may get
 abbrev pub AreReplies : Dialogue → ℕ → List Reply → Type 0

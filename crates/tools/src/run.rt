@@ -1,11 +1,11 @@
 //! Commands as they run, a row a form.
 
-ghost use Rattle.std.specs.Prelude.{◌≡◌, ℕ, List, ◌+◌, ◌<◌, ◌≤◌, ◌++◌, IfOk};
+ghost use Rattle.std.specs.Prelude.{◌≡◌, ℕ, true, List, ◌+◌, ◌-◌, ◌<◌, ◌≤◌, ◌++◌, IfOk};
 ghost use Rattle.std.specs.List.{flat_map};
 ghost use Rattle.bus_journal.specs.Reports.{ended};
 ghost use Rattle.i2c_base.specs.Replies.{reply_by};
 ghost use Rattle.tools.specs.Commands.{IsInRange, run_of};
-ghost use Rattle.tools.specs.Dialogues.{MOST_PLACES, AreReplies, behind};
+ghost use Rattle.tools.specs.Dialogues.{MOST_PLACES, AreAlike, AreReplies, behind};
 ghost use Rattle.tools.specs.Runs.{dialogue_of};
 
 pub(crate) mod call;
@@ -83,6 +83,23 @@ impl ToolRun {
             ToolRun::Dumps(dump) => dump::put(dump, place, transfer),
             ToolRun::Transfers(messages) => messages.put(transfer),
             ToolRun::Scans(detect) => detect.put(place, transfer),
+        }
+    }
+
+    /// The transfer at a place asks for the same as the one before, but for the bytes that it writes: what it costs and what it
+    /// may bring needn't be asked again. It may do so where none is said to.
+    #[inline(always)]
+    pub fn repeats(&self, place: u16) -> bool
+        ensures behind { result ≡ true → 0 < place }
+        ensures alike { result ≡ true → AreAlike ((dialogue_of self.now).at (place - 1)) ((dialogue_of self.now).at place) }
+    {
+        match self {
+            ToolRun::Says(_) => false,
+            ToolRun::Calls(_) => false,
+            ToolRun::Chains(_) => false,
+            ToolRun::Dumps(dump) => dump::repeats(dump, place),
+            ToolRun::Transfers(_) => false,
+            ToolRun::Scans(_) => false,
         }
     }
 

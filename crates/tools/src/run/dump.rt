@@ -1,6 +1,6 @@
 //! Registers read one after the other, and printed as a table.
 
-ghost use Rattle.std.specs.Prelude.{◌≡◌, ℕ, List, [], ◌∷◌, ◌+◌, ◌*◌, ◌/◌, ◌<◌, ◌≤◌, ◌==◌, ◌&&◌, ◌++◌, slice_get, if◌then◌else◌};
+ghost use Rattle.std.specs.Prelude.{◌≡◌, ℕ, true, List, [], ◌∷◌, ◌+◌, ◌-◌, ◌*◌, ◌/◌, ◌<◌, ◌≤◌, ◌==◌, ◌&&◌, ◌++◌, slice_get, if◌then◌else◌};
 ghost use Rattle.std.specs.List.{flat_map};
 ghost use Rattle.std.specs.Option.{option_map};
 ghost use Rattle.bus_journal.specs.Reports.{ended};
@@ -8,7 +8,7 @@ ghost use Rattle.i2c_base.specs.Replies.{reply_by};
 ghost use Rattle.i2c_base.specs.declared.reply.Reply.TheVariants.{Err as Failed};
 ghost use Rattle.smb_emul.specs.Calls.{HasBlock, messages_of_call, value_of_call};
 ghost use Rattle.smb_emul.specs.Value.{outcome_seen};
-ghost use Rattle.tools.specs.Dialogues.{AreReplies, behind};
+ghost use Rattle.tools.specs.Dialogues.{AreAlike, AreReplies, behind};
 ghost use Rattle.tools.specs.DumpTables.{dump_places, dump_op, dump_call, is_refusal, is_end, place_of, register_read, byte_cell, byte_sign, dump_cell, dump_sign, byte_row, byte_table, word_cell, dump_word, word_row, word_table, rows, dumps};
 ghost use Rattle.tools.specs.Tables.{parts, in_row};
 ghost use Rattle.tools.specs.declared.command.dump.DumpMode.TheVariants as mode;
@@ -77,6 +77,19 @@ pub fn put(dump: &Dump, place: u16, transfer: &mut Transfer)
     let op = op_at(dump, place);
     let call = callee(dump).call(op);
     put_messages(&call, transfer);
+}
+
+/// Its call at a place asks for the same messages as the one before, but for the number of the register.
+pub fn repeats(dump: &Dump, place: u16) -> bool
+    ensures behind { result ≡ true → 0 < place }
+    ensures alike { result ≡ true → AreAlike (messages_of_call (dump_call dump.now (place - 1))) (messages_of_call (dump_call dump.now place)) }
+{
+    match dump.mode {
+        DumpMode::Byte => place > 0,
+        DumpMode::Word => place > 0,
+        DumpMode::Receive => place > 1,
+        DumpMode::I2cBlock => place > 0,
+    }
 }
 
 // The bus isn't there, or a driver has the device.

@@ -1,4 +1,4 @@
-use Rattle.std.proofs.Common.{◌^◌}
+use Rattle.std.proofs.Common.{◌-◌, ◌^◌, ◌<◌}
 use Rattle.i2c_base.specs.Limits.{MOST_BYTES}
 use Rattle.i2c_spec.specs.Cost.{cost_of}
 use Rattle.i2c_board.specs.Bills.{IsBill}
@@ -6,7 +6,7 @@ use Rattle.tools.specs.Dialogues.{transfers_of}
 use Rattle.tools.specs.Replies.{most_brought}
 use Rattle.tools.specs.Runs.{dialogue_of}
 use Rattle.caller_core.specs.Roots.{names_root}
-use Rattle.caller_core.proofs.RootLemmas.{AreSums}
+use Rattle.caller_core.proofs.RootLemmas.{AreSums, IsOneTransfer}
 use Rattle.caller_core.proofs.totals.totals_of_command.Given as goal
 
 abbrev pub invariant-loop-place : goal.invariant-loop-place
@@ -15,4 +15,5 @@ invariant-loop-place l =
       sums : AreSums (cost_of l.board) (λ t. 1) most_brought (names_root l.board) (2 ^ 32) 1 MOST_BYTES (transfers_of (dialogue_of l.run))
           l.place l.totals;
       bill : IsBill l.board l.bill;
+      one : 0 < l.place → IsOneTransfer l.board ((dialogue_of l.run).at (l.place - 1)) l.one;
     }
