@@ -1,2 +1,5 @@
+pub mod DriverLemmas
 pub mod PageLemmas
 pub mod RowLemmas
+pub mod SensorLemmas
+pub mod TextLemmas

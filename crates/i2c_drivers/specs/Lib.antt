@@ -1,5 +1,9 @@
 pub mod At24
 pub mod Bound
+pub mod Examples
+pub mod Lm75
 pub mod Pages
 pub mod Refusals
 pub mod Rows
+pub mod Runs
+pub mod Sensors

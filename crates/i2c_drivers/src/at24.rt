@@ -9,9 +9,8 @@ ghost use Rattle.i2c_drivers.specs.Pages.{MOST_WRITTEN, fits_in};
 ghost use Rattle.tools.specs.Dialogues.{MOST_PLACES, AreAlike, AreReplies, behind};
 
 use crate::bound::bound_eeprom;
-use crate::rows::{
-    MOST_OF_ERRNO, count, push_byte_lines, push_errno_line, push_refusal, refusal_size,
-};
+use crate::rows::{count, push_byte_lines};
+use crate::text::{MOST_OF_ERRNO, push_errno_line, push_refusal, refusal_size};
 use i2c_base::{Addr, ByteStore, Errno, Kind, ReplyHead, Size, Transfer};
 use i2c_board::Board;
 use i2c_spec::{eeprom_bytes, eeprom_page, is_wide};

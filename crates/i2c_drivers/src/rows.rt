@@ -1,18 +1,14 @@
 //! Bytes as text, 16 a line, and what the replies of a command brought.
 
-ghost use Rattle.std.specs.Prelude.{◌≡◌, ◌+◌, ◌*◌, ◌<◌, ◌≤◌, [], ◌++◌, length};
+ghost use Rattle.std.specs.Prelude.{◌≡◌, ◌+◌, ◌*◌, ◌<◌, ◌≤◌, ◌++◌, length};
 ghost use Rattle.std.specs.List.{flat_map};
 ghost use Rattle.bus_journal.specs.Reports.{ended};
-ghost use Rattle.bus_spec.specs.Lines.{errno_text, two_digits};
-ghost use Rattle.i2c_drivers.specs.Refusals.{refused};
+ghost use Rattle.bus_spec.specs.Lines.{two_digits};
 ghost use Rattle.i2c_drivers.specs.Rows.{before_cell, byte_lines, bytes_at, bytes_read, cells};
 
-use bus_journal::{errno_name, hex_digit};
-use i2c_base::{Errno, ReplyHead};
+use bus_journal::hex_digit;
+use i2c_base::ReplyHead;
 use tools::{Text, Window};
-
-/// The most bytes of the name of an error, with the end of its line.
-pub const MOST_OF_ERRNO: usize = 11;
 
 /// How many replies there are.
 #[tactic(auto, using(tools::proofs::WindowLemmas::many))]
@@ -30,33 +26,6 @@ pub fn bytes_at<'a>(replies: &Window<'a>, place: usize) -> &'a [u8]
         Some((ReplyHead::Read, bytes)) => bytes,
         _ => &[],
     }
-}
-
-/// Prints the name of an error on a line.
-pub fn push_errno_line(out: &mut Text, errno: Errno)
-    requires { 11 ≤ out.old.room }
-    ensures bytes { out.new.bytes ≡ out.old.bytes ++ ended (errno_text errno) }
-    ensures room { out.old.room ≤ out.new.room + 11 }
-{
-    out.push(errno_name(errno));
-    out.push_byte(b'\n');
-}
-
-/// Prints a refusal: the name of an error alone.
-pub fn push_refusal(out: &mut Text, errno: Errno)
-    requires { (refused errno).most ≤ out.old.room }
-    ensures bytes { out.new.bytes ≡ out.old.bytes ++ flat_map ended ((refused errno).lines []) }
-    ensures room { out.old.room ≤ out.new.room + (refused errno).most }
-{
-    out.push(errno_name(errno));
-    out.push_byte(b'\n');
-}
-
-/// How many bytes it has.
-pub fn refusal_size(errno: Errno) -> usize
-    ensures { result ≡ (refused errno).most }
-{
-    errno_name(errno).len() + 1
 }
 
 // Prints what stands before byte `n`: a space, or the end of the line before.

@@ -1,0 +1,101 @@
+//! The lines of the drivers as they run, a row a driver.
+
+ghost use Rattle.std.specs.Prelude.{◌≡◌, ℕ, true, List, ◌+◌, ◌-◌, ◌<◌, ◌≤◌, ◌++◌};
+ghost use Rattle.std.specs.List.{flat_map};
+ghost use Rattle.bus_journal.specs.Reports.{ended};
+ghost use Rattle.i2c_base.specs.Replies.{reply_by};
+ghost use Rattle.i2c_drivers.specs.Runs.{dialogue_of};
+ghost use Rattle.tools.specs.Dialogues.{MOST_PLACES, AreAlike, AreReplies, behind};
+
+use crate::at24::At24Run;
+use crate::lm75::Lm75Run;
+use crate::sensors::Sensors;
+use i2c_base::{ReplyHead, Transfer};
+use tools::{Text, Window};
+
+/// A line of a driver as it runs: what the board's answers leave of it. How far it has come, and the replies, are its caller's.
+#[derive(Drop)]
+pub enum DriverRun {
+    /// Reads or writes an EEPROM.
+    At24(At24Run),
+    /// Reads or writes a register of a temperature sensor.
+    Lm75(Lm75Run),
+    /// Reads all temperature sensors.
+    Sensors(Sensors),
+}
+
+impl DriverRun {
+    /// How many places it has.
+    pub fn places(&self) -> u16
+        ensures value { result ≡ (dialogue_of self.now).places }
+        ensures few { result ≤ MOST_PLACES }
+    {
+        match self {
+            DriverRun::At24(run) => run.places(),
+            DriverRun::Lm75(run) => run.places(),
+            DriverRun::Sensors(sensors) => sensors.places(),
+        }
+    }
+
+    /// Puts the transfer at a place in place of another.
+    pub fn put(&self, place: u16, transfer: &mut Transfer)
+        requires { place < (dialogue_of self.now).places }
+        ensures { transfer.new ≡ (dialogue_of self.now).at place }
+    {
+        match self {
+            DriverRun::At24(run) => run.put(place, transfer),
+            DriverRun::Lm75(run) => run.put(place, transfer),
+            DriverRun::Sensors(sensors) => sensors.put(place, transfer),
+        }
+    }
+
+    /// The transfer at a place asks for the same as the one before, but for the bytes that it writes: what it costs and what it
+    /// may bring needn't be asked again. It may do so where none is said to.
+    pub fn repeats(&self, place: u16) -> bool
+        ensures behind { result ≡ true → 0 < place }
+        ensures alike { result ≡ true → AreAlike ((dialogue_of self.now).at (place - 1)) ((dialogue_of self.now).at place) }
+    {
+        match self {
+            DriverRun::At24(run) => run.repeats(place),
+            DriverRun::Lm75(_) => false,
+            DriverRun::Sensors(_) => false,
+        }
+    }
+
+    /// The place behind a reply, whatever bytes it brings.
+    pub fn behind(&self, place: u16, head: ReplyHead) -> u16
+        requires { place < (dialogue_of self.now).places }
+        ensures { (bytes : List ℕ) → result ≡ behind (dialogue_of self.now) place (reply_by head bytes) }
+    {
+        match self {
+            DriverRun::At24(run) => run.behind(place, head),
+            DriverRun::Lm75(run) => run.behind(place, head),
+            DriverRun::Sensors(sensors) => sensors.behind(place),
+        }
+    }
+
+    /// Prints its lines.
+    pub fn print(&self, replies: Window<'_>, out: &mut Text)
+        requires fit { AreReplies (dialogue_of self.now) 0 replies }
+        requires room { (dialogue_of self.now).most ≤ out.old.room }
+        ensures bytes { out.new.bytes ≡ out.old.bytes ++ flat_map ended ((dialogue_of self.now).lines replies.entry) }
+        ensures room { out.old.room ≤ out.new.room + (dialogue_of self.now).most }
+    {
+        match self {
+            DriverRun::At24(run) => run.print(replies, out),
+            DriverRun::Lm75(run) => run.print(replies, out),
+            DriverRun::Sensors(sensors) => sensors.print(replies, out),
+        }
+    }
+
+    /// The most bytes that it prints.
+    pub fn most(&self) -> usize
+        ensures { result ≡ (dialogue_of self.now).most }
+    {
+        match self {
+            DriverRun::At24(run) => run.most(),
+            DriverRun::Lm75(run) => run.most(),
+            DriverRun::Sensors(sensors) => sensors.most(),
+        }
+    }
+}
