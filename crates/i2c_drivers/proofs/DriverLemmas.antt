@@ -1,7 +1,7 @@
 -- What is so of each line of a driver: its transfers are within the limits where its fields are in their ranges, and what it prints is
 -- lines of a section.
 use Rattle.std.proofs.Common.{◌≡◌, ℕ, zero, suc, ◌+◌, ◌*◌, ◌/◌, ◌%◌, ◌^◌, ◌<◌, ◌≤◌, inl, inr, Bool, true, false, cond, List, [], ◌∷◌, ◌++◌, length, map, zip, take, drop, codes, get_or, Option, Some, None, Ok, Err, refl, sym, ap, subst, arith}
-use Rattle.std.specs.Prelude.{⊤, All, slice_get, slice_index_or, ℤ, pos, negsuc, neg_ℤ, ◌*ℤ◌, ◌==◌, ◌&&◌, Result}
+use Rattle.std.specs.Prelude.{All, slice_get, slice_index_or, ℤ, pos, negsuc, neg_ℤ, ◌*ℤ◌, ◌==◌, ◌&&◌, Result}
 use Rattle.std.specs.Fmt.{decimal, digits, digits_onto, digit_glyph, signed_decimal}
 use Rattle.std.specs.List.{cons_option, filter_map}
 use Rattle.std.specs.Int.{cast_unsigned, w16}
@@ -31,7 +31,8 @@ use Rattle.tools.proofs.ValueLemmas.{others, result_line}
 use Rattle.i2c_drivers.specs.At24.{failure_of, read_by, read_run, unless_failed, write_by, write_run}
 use Rattle.i2c_drivers.specs.Bound.{eeprom_at, is_sensor, sensor_at, sensor_in, sensors_of}
 use Rattle.i2c_drivers.specs.Lm75.{IsMilli, milli_of, outcome_text, pointer_of, raw_of, read_call, reading_text, sensor_read_run, sensor_write_run, swapped, value_text, write_call, written_text}
-use Rattle.i2c_drivers.specs.Pages.{IsPageRead, IsPageWrite, PageReadView, PageWriteView}
+use Rattle.i2c_drivers.specs.Laws.{IsInRange, IsNear, AsksWithinLimits, NoLineIsJournal}
+use Rattle.i2c_drivers.specs.Pages.{PageReadView, PageWriteView}
 use Rattle.i2c_drivers.specs.Rows.{byte_lines, bytes_read}
 use Rattle.i2c_drivers.specs.Runs.{dialogue_of}
 use Rattle.i2c_drivers.specs.Sensors.{line_of, sensor_line, sensor_name, sensor_transfer}
@@ -54,10 +55,6 @@ HasSectionLines r = (replies : List Reply) → All IsSectionLine ((dialogue_of r
 
 -- ---- its transfers
 
--- an address of 7 bits
-abbrev pub IsNear : Sensor → Type 0
-IsNear s = s.addr ≤ 119
-
 pointer_small : (which : RegName) → pointer_of which < 256
 pointer_small Temp = omega arith
 pointer_small Hyst = omega arith
@@ -76,16 +73,6 @@ sensors_ask : (ss : List Sensor) (k : ℕ) → All IsNear ss → k < length ss �
 sensors_ask [] k near within = absurd (omega (arith, within))
 sensors_ask (s ∷ ss) zero near within = reading_asks s Temp (All-head IsNear s ss near)
 sensors_ask (s ∷ ss) (suc k) near within = sensors_ask ss k (All-tail IsNear s ss near) (omega (arith, within))
-
--- the numbers of a line are those that its types have
-abbrev pub IsInRange : DriverRun → Type 0
-IsInRange (run.At24 (at24.Refused e)) = ⊤
-IsInRange (run.At24 (at24.Reads r)) = IsPageRead r
-IsInRange (run.At24 (at24.Writes w)) = IsPageWrite w × AreBytes w.bytes
-IsInRange (run.Lm75 (lm75.Refused e)) = ⊤
-IsInRange (run.Lm75 (lm75.Reads s which)) = IsNear s
-IsInRange (run.Lm75 (lm75.Writes s which word)) = IsNear s × (word < 2 ^ 16)
-IsInRange (run.Sensors ss) = All IsNear ss
 
 pub asks : (r : DriverRun) → IsInRange r → AsksWithin r
 asks (run.At24 (at24.Refused e)) is k within = absurd (omega arith)
@@ -216,6 +203,14 @@ answers (run.Lm75 (lm75.Reads s which)) rs =
 answers (run.Lm75 (lm75.Writes s which word)) rs =
     one_line (written_text (slice_index_or rs 0 reply.Done)) (written_line (slice_index_or rs 0 reply.Done))
 answers (run.Sensors ss) rs = sensor_lines ss rs
+
+-- ---- as laws
+
+pub asks_within_limits : AsksWithinLimits
+asks_within_limits r is k within = (asks r is k within).fits
+
+pub no_journal : NoLineIsJournal
+no_journal r replies = answers r replies
 
 -- ---- what is opened over a board is in range
 

@@ -1,6 +1,7 @@
 pub mod At24
 pub mod Bound
 pub mod Examples
+pub mod Laws
 pub mod Lm75
 pub mod Pages
 pub mod Refusals

@@ -10,12 +10,14 @@
 //! - `Lm75Run` reads and writes a register of a sensor in thousandths of a degree (`specs/Lm75.antt`).
 //! - `Sensors` reads all sensors, one after the other (`specs/Sensors.antt`).
 //!
-//! That each transfer is within the limits and each line one of a section stands in `proofs/DriverLemmas.antt`.
+//! Its laws are in `src/laws.rt`: the pieces of a read or a write are the whole, no piece goes past the end of a page, each transfer
+//! is within the limits, and what is printed is lines of a section.
 #![tactic(auto)]
 
 mod at24;
 mod bound;
 mod examples;
+mod laws;
 mod lm75;
 mod rows;
 mod run;
@@ -30,6 +32,10 @@ pub use examples::{
     another_error_is_not_tried_again, only_a_bound_device_of_the_bus_is_found,
     sensors_are_read_in_file_order, sixteen_bytes_stand_on_a_line, the_eighth_refusal_is_the_last,
     the_tries_begin_anew_at_each_piece,
+};
+pub use laws::{
+    a_piece_keeps_to_its_page, each_transfer_is_within_the_limits, no_line_is_journal,
+    the_pieces_are_the_read, the_pieces_are_the_write,
 };
 pub use lm75::{Lm75Run, RegName};
 pub use run::DriverRun;
