@@ -164,7 +164,8 @@ sensor_section s r =
 sensor_lines : (ss : List Sensor) (rs : List Reply) → All IsSectionLine (map line_of (zip ss rs))
 sensor_lines [] rs = All-nil IsSectionLine
 sensor_lines (s ∷ ss) [] = All-nil IsSectionLine
-sensor_lines (s ∷ ss) (r ∷ rs) = All-cons IsSectionLine (sensor_line s r) (map line_of (zip ss rs)) (sensor_section s r) (sensor_lines ss rs)
+sensor_lines (s ∷ ss) (r ∷ rs) =
+    All-cons IsSectionLine (sensor_line s r) (map line_of (zip ss rs)) (sensor_section s r) (sensor_lines ss rs)
 
 -- of bytes: the third sign is a space, or there is none
 spaced-line : (bytes : List ℕ) → IsLine (spaced bytes)
@@ -199,7 +200,8 @@ answers (run.At24 (at24.Reads r)) rs = unless_section (failure_of rs) (byte_line
 answers (run.At24 (at24.Writes w)) rs = unless_section (failure_of rs) (codes "ok" ∷ []) (one_line (codes "ok") done_line)
 answers (run.Lm75 (lm75.Refused e)) rs = one_line (errno_text e) (errno_line e)
 answers (run.Lm75 (lm75.Reads s which)) rs =
-    one_line (reading_text s which (slice_index_or rs 0 reply.Done)) (outcome_line (value_of_call (read_call s which) (slice_index_or rs 0 reply.Done)))
+    one_line (reading_text s which (slice_index_or rs 0 reply.Done))
+    (outcome_line (value_of_call (read_call s which) (slice_index_or rs 0 reply.Done)))
 answers (run.Lm75 (lm75.Writes s which word)) rs =
     one_line (written_text (slice_index_or rs 0 reply.Done)) (written_line (slice_index_or rs 0 reply.Done))
 answers (run.Sensors ss) rs = sensor_lines ss rs

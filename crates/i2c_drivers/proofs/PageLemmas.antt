@@ -128,7 +128,8 @@ module _ (w : PageWriteView) (is : IsPageWrite w) (each : AreBytes w.bytes) wher
           size = omega (arith, few, sum_by-cons size_of m []);
           written = omega (arith, sum_by-cons written_of m []);
           bytes = All-append IsByte (place_bytes w.of.size begin) own front.each
-              (All-take IsByte (write_end w piece - begin) (drop (begin - w.offset) w.bytes) (All-drop IsByte (begin - w.offset) w.bytes each));
+              (All-take IsByte (write_end w piece - begin) (drop (begin - w.offset) w.bytes)
+              (All-drop IsByte (begin - w.offset) w.bytes each));
         };
         sends = omega arith;
       }

@@ -1,7 +1,7 @@
 -- The driver of EEPROMs (Linux at24; acknowledge polling and page writes are those of Microchip's data sheets 24AA02, 24AA32A and
 -- 24AA256). A read goes in pieces of at most 128 bytes (at24's io_limit), and a write in pieces that end at page ends. While the
 -- chip doesn't acknowledge, a piece is tried again, eight times in all. That a try is counted and not timed is this project's own.
-use Rattle.std.specs.Prelude.{ℕ, ◌+◌, ◌-◌, ◌*◌, ◌/◌, ◌%◌, ◌==◌, min, max, nat_lt, Bool, true, ◌&&◌, List, [], ◌∷◌, ◌++◌, length, take, drop, Option, Some, None, codes, if◌then◌else◌}
+use Rattle.std.specs.Prelude.{ℕ, ◌+◌, ◌-◌, ◌*◌, ◌/◌, ◌%◌, ◌==◌, min, max, nat_lt, Bool, true, false, not, ◌&&◌, List, [], ◌∷◌, ◌++◌, length, take, drop, Option, Some, None, codes, if◌then◌else◌}
 use Rattle.bus_spec.specs.Lines.{errno_text}
 use Rattle.i2c_base.specs.Board.{BoardView}
 use Rattle.i2c_base.specs.Errno.{number_of}
@@ -165,3 +165,12 @@ abbrev pub at24_dialogue : At24Run → Dialogue
 at24_dialogue (run.Refused e) = refused e
 at24_dialogue (run.Reads r) = page_reads r
 at24_dialogue (run.Writes w) = page_writes w
+
+-- its transfer at a place is that of the place before: at each try of a piece but the first
+abbrev pub is_repeated : ℕ → Bool
+is_repeated k = not (k % TRIES == 0)
+
+abbrev pub at24_repeats : At24Run → ℕ → Bool
+at24_repeats (run.Refused e) k = false
+at24_repeats (run.Reads r) k = is_repeated k
+at24_repeats (run.Writes w) k = is_repeated k

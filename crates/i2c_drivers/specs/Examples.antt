@@ -6,6 +6,7 @@ use Rattle.i2c_base.specs.declared.board.DeviceKind.TheVariants as kind
 use Rattle.i2c_base.specs.declared.board.Idle.TheVariants.{Disconnect}
 use Rattle.i2c_base.specs.declared.board.LockMode.TheVariants.{Parent}
 use Rattle.i2c_base.specs.declared.board.MuxKind.TheVariants.{Gpio}
+use Rattle.i2c_base.specs.declared.board.MuxSpec.{MuxSpec}
 use Rattle.i2c_base.specs.declared.board.Size.TheVariants.{C02, C256}
 use Rattle.tools.specs.Dialogues.{Dialogue}
 use Rattle.i2c_drivers.specs.At24.{page_reads, page_writes}
@@ -13,13 +14,16 @@ use Rattle.i2c_drivers.specs.At24.{page_reads, page_writes}
 abbrev pub device : (bus addr : ℕ) → (bound : Bool) → DeviceKind → DeviceView
 device bus addr bound what = record { bus = bus; addr = addr; bound = bound; kind = what; set = [] }
 
+abbrev pub mux : MuxSpec
+mux = record { bus = 0; kind = Gpio; addr = None; channels = 1; lock = Parent; absent = false; foreign = 0; idle = Disconnect }
+
 -- on the root two EEPROMs, of which the second is not bound, and a sensor; behind a mux, on bus 1, a sensor and one that is not bound
 abbrev pub two_buses : BoardView
 two_buses =
     record {
       version = 1;
       roots = (record { smbus_only = false }) ∷ [];
-      muxes = (record { bus = 0; kind = Gpio; addr = None; channels = 1; lock = Parent; absent = false; foreign = 0; idle = Disconnect }) ∷ [];
+      muxes = mux ∷ [];
       devices = device 0 0x50 true (kind.Eeprom C02 0xff 0 false) ∷ device 0 0x51 false (kind.Eeprom C02 0xff 0 false)
           ∷ device 1 0x49 true (kind.Lm75 0xff80) ∷ device 0 0x48 true (kind.Lm75 0x1900)
           ∷ device 1 0x4a false (kind.Lm75 0) ∷ [];

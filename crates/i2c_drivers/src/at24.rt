@@ -4,7 +4,7 @@ ghost use Rattle.std.specs.Prelude.{◌≡◌, ℕ, ◌+◌, ◌-◌, ◌*◌, �
 ghost use Rattle.std.specs.List.{flat_map};
 ghost use Rattle.bus_journal.specs.Reports.{ended};
 ghost use Rattle.i2c_base.specs.Replies.{reply_by};
-ghost use Rattle.i2c_drivers.specs.At24.{at24_dialogue, failure_of, told_as, is_tried_again, page_reads, page_writes, place_bytes, read_pieces, read_run, tries_skipped, write_begin, write_bytes, write_end, write_pieces, write_run};
+ghost use Rattle.i2c_drivers.specs.At24.{at24_dialogue, at24_repeats, failure_of, is_repeated, told_as, is_tried_again, page_reads, page_writes, place_bytes, read_pieces, read_run, tries_skipped, write_begin, write_bytes, write_end, write_pieces, write_run};
 ghost use Rattle.i2c_drivers.specs.Pages.{MOST_WRITTEN, fits_in};
 ghost use Rattle.tools.specs.Dialogues.{MOST_PLACES, AreAlike, AreReplies, behind};
 
@@ -137,6 +137,7 @@ fn failure(replies: &Window<'_>) -> Option<Errno>
 
 // The transfer at a place is that of the place before: it isn't the first try of a piece.
 fn is_repeated(place: u16) -> bool
+    ensures value { result ≡ is_repeated place }
     ensures behind { result ≡ true → 0 < place }
     ensures piece { result ≡ true → (place - 1) / 8 ≡ place / 8 }
 {
@@ -351,6 +352,7 @@ impl At24Run {
 
     /// The transfer at a place is that of the place before, as it is at each try of a piece but the first.
     pub fn repeats(&self, place: u16) -> bool
+        ensures value { result ≡ at24_repeats self.now place }
         ensures behind { result ≡ true → 0 < place }
         ensures alike { result ≡ true → AreAlike ((at24_dialogue self.now).at (place - 1)) ((at24_dialogue self.now).at place) }
     {

@@ -20,7 +20,8 @@ ghost use Rattle.i2c_drivers.specs.declared.lm75.RegName.TheVariants.{Temp, Hyst
 /// Nine bytes from place 4 on of pages of 8 are pieces of 4 and 5, and three from place 62 on of pages of 64 are pieces of 2 and 1.
 pub fn a_write_stops_at_the_ends_of_pages()
     ensures places { example.nine_bytes.places ≡ 16 }
-    ensures first { example.nine_bytes.at 0 ≡ record { bus = 0; kind = Plain; force = true; msgs = written 0x50 5 ∷ []; out = 4 ∷ 1 ∷ 2 ∷ 3 ∷ 4 ∷ [] } }
+    ensures first { example.nine_bytes.at 0
+        ≡ record { bus = 0; kind = Plain; force = true; msgs = written 0x50 5 ∷ []; out = 4 ∷ 1 ∷ 2 ∷ 3 ∷ 4 ∷ [] } }
     ensures second { example.nine_bytes.at 8
         ≡ record { bus = 0; kind = Plain; force = true; msgs = written 0x50 6 ∷ []; out = 8 ∷ 5 ∷ 6 ∷ 7 ∷ 8 ∷ 9 ∷ [] } }
     ensures wide { example.three_bytes.at 0
@@ -110,7 +111,8 @@ pub fn a_register_goes_high_byte_first()
     ensures word { swapped (raw_of (negsuc 499)) ≡ 0x80ff }
     ensures write { messages_of_call (write_call (record { bus = 0; addr = 0x48 }) Max 0x80ff)
         ≡ record { bus = 0; kind = Smbus; force = true; msgs = written 0x48 3 ∷ []; out = 3 ∷ 0xff ∷ 0x80 ∷ [] } }
-    ensures run { sensor_write_run example.two_buses 0 0x48 Hyst (negsuc 499) ≡ WritesRegister (record { bus = 0; addr = 0x48 }) Hyst 0x80ff }
+    ensures run { sensor_write_run example.two_buses 0 0x48 Hyst (negsuc 499)
+        ≡ WritesRegister (record { bus = 0; addr = 0x48 }) Hyst 0x80ff }
 {}
 
 /// The sensors are read in file order, each on a line of its own. Where there is none, nothing is asked for and nothing printed.

@@ -4,7 +4,7 @@ ghost use Rattle.std.specs.Prelude.{◌≡◌, ℕ, true, List, ◌+◌, ◌-◌
 ghost use Rattle.std.specs.List.{flat_map};
 ghost use Rattle.bus_journal.specs.Reports.{ended};
 ghost use Rattle.i2c_base.specs.Replies.{reply_by};
-ghost use Rattle.i2c_drivers.specs.Runs.{dialogue_of};
+ghost use Rattle.i2c_drivers.specs.Runs.{dialogue_of, repeats};
 ghost use Rattle.tools.specs.Dialogues.{MOST_PLACES, AreAlike, AreReplies, behind};
 
 use crate::at24::At24Run;
@@ -49,9 +49,10 @@ impl DriverRun {
         }
     }
 
-    /// The transfer at a place asks for the same as the one before, but for the bytes that it writes: what it costs and what it
-    /// may bring needn't be asked again. It may do so where none is said to.
+    /// The transfer at a place asks for the same as the one before, so that what it costs and what it may bring needn't be asked
+    /// again. It is said of each try of a piece but the first, and it may do so where none is said to.
     pub fn repeats(&self, place: u16) -> bool
+        ensures value { result ≡ repeats self.now place }
         ensures behind { result ≡ true → 0 < place }
         ensures alike { result ≡ true → AreAlike ((dialogue_of self.now).at (place - 1)) ((dialogue_of self.now).at place) }
     {
