@@ -1,8 +1,7 @@
 -- DATA and messages, read one by one as a loop does.
-use Rattle.std.proofs.Common.{◌≡◌, ℕ, zero, suc, ◌+◌, ◌-◌, ◌%◌, ◌<◌, ◌≤◌, ◌==◌, Bool, true, false, cond, List, [], ◌∷◌, ◌++◌, Some, None, Result, Ok, Err, sym, ap, ◌∙◌, arith, refl}
-use Rattle.tools.specs.Combined.{counted, data_at, data_words, datum_word, by_datum, read_datum, head_of, bytes_asked, desc_of, message_at, descs_at, combined, descs, combined_bus}
-use Rattle.tools.specs.Options.{bus_number}
-use Rattle.tools.specs.Grammars.{Grammar, maybe, read_at}
+use Rattle.std.proofs.Common.{◌≡◌, ℕ, zero, suc, ◌+◌, ◌-◌, ◌%◌, ◌<◌, ◌≤◌, ◌==◌, Bool, true, false, cond, List, [], ◌∷◌, ◌++◌, Some, Result, Ok, Err, sym, ap, ◌∙◌, arith, refl}
+use Rattle.tools.specs.Combined.{counted, data_at, data_words, datum_word, by_datum, read_datum, head_of, bytes_asked, desc_of, message_at, first_place, descs_at, descs, some_descs}
+use Rattle.tools.specs.Grammars.{Class, Grammar, class, maybe, read_at}
 use Rattle.tools.specs.LineSets.{Word}
 use Rattle.tools.specs.Readers.{◌>>=◌, one_at, is_past, FaultIs}
 use Rattle.tools.specs.declared.fault.LineFault.{LineFault}
@@ -73,15 +72,15 @@ read_data (suc n) got k ws i =
 
 -- ---- messages, one by one
 
-then_then : {A B C : Type 0} (r : Result A ℕ) (f : A → Result B ℕ) (g : B → Result C ℕ) → ((r >>= f) >>= g) ≡ (r >>= λ x. f x >>= g)
+pub then_then : {A B C : Type 0} (r : Result A ℕ) (f : A → Result B ℕ) (g : B → Result C ℕ) → ((r >>= f) >>= g) ≡ (r >>= λ x. f x >>= g)
 then_then (Ok x) f g = refl
 then_then (Err k) f g = refl
 
-same_then : {A B : Type 0} (r : Result A ℕ) (f g : A → Result B ℕ) → ((x : A) → f x ≡ g x) → (r >>= f) ≡ (r >>= g)
+pub same_then : {A B : Type 0} (r : Result A ℕ) (f g : A → Result B ℕ) → ((x : A) → f x ≡ g x) → (r >>= f) ≡ (r >>= g)
 same_then (Ok x) f g h = h x
 same_then (Err k) f g h = refl
 
-cond_then : {A B : Type 0} (b : Bool) (x y : Result A ℕ) (u v : Result B ℕ) (g : A → Result B ℕ) → u ≡ (x >>= g) → v ≡ (y >>= g)
+pub cond_then : {A B : Type 0} (b : Bool) (x y : Result A ℕ) (u v : Result B ℕ) (g : A → Result B ℕ) → u ≡ (x >>= g) → v ≡ (y >>= g)
     → cond b u v ≡ (cond b x y >>= g)
 cond_then true x y u v g p q = p
 cond_then false x y u v g p q = q
@@ -99,40 +98,37 @@ module _ {B : Type 0} (p : DescPlace) (got : List Desc) (ws : List Word) (f : Li
       ∙ same_then (one_at (head_of p.held p.room) ws p.at) _ _
       (λ d. then_then (data_at (bytes_asked d) [] ws (p.at + 1)) _ (λ x. f x >>= g))
 
-module _ (force : Bool) (bus : ℕ) where
+module _ (made : List Desc → Cmd) where
   abbrev whole_line : List Desc → Result Cmd ℕ
-  whole_line ms = Ok (combined force bus ms)
+  whole_line ms = Ok (made ms)
 
   -- messages are read, and are the command
   pub read_descs : (n : ℕ) (p : DescPlace) (got : List Desc) (ws : List Word)
-      → read_at (descs force bus n p.room p.held got) ws p.at ≡ (descs_at n p got ws >>= whole_line)
+      → read_at (descs made n p.room p.held got) ws p.at ≡ (descs_at n p got ws >>= whole_line)
   unfolding descs descs_at
-  read_descs zero p got ws = cond_then (is_past ws p.at) (Ok got) (Err p.at) (Ok (combined force bus got)) (Err p.at) whole_line refl refl
+  read_descs zero p got ws = cond_then (is_past ws p.at) (Ok got) (Err p.at) (Ok (made got)) (Err p.at) whole_line refl refl
   read_descs (suc n) p got ws =
       same_then (one_at (head_of p.held p.room) ws p.at) _ _ (λ d.
-      read_data (bytes_asked d) [] (λ bytes. maybe (combined force bus (got ++ desc_of d bytes ∷ []))
-      (descs force bus n (p.room - d.len) (Some d.addr) (got ++ desc_of d bytes ∷ []))) ws (p.at + 1)
+      read_data (bytes_asked d) [] (λ bytes. maybe (made (got ++ desc_of d bytes ∷ []))
+      (descs made n (p.room - d.len) (Some d.addr) (got ++ desc_of d bytes ∷ []))) ws (p.at + 1)
       ∙ same_then (data_at (bytes_asked d) [] ws (p.at + 1)) _ _ (λ o.
       cond_then (is_past ws o.1) (Ok (got ++ desc_of d o.0 ∷ []))
       (descs_at n (record { at = o.1; room = p.room - d.len; held = Some d.addr }) (got ++ desc_of d o.0 ∷ []) ws) _ _ whole_line refl
       (read_descs n (record { at = o.1; room = p.room - d.len; held = Some d.addr }) (got ++ desc_of d o.0 ∷ []) ws)))
       ∙ sym (in_steps p got ws (λ o. cond (is_past ws o.1.at) (Ok o.0) (descs_at n o.1 o.0 ws)) whole_line)
 
--- what stands behind BUS is read as messages
-module _ (force : Bool) (ws : List Word) (i bus : ℕ) (is : one_at bus_number.of ws i ≡ Ok bus) where
-  abbrev first_place : DescPlace
-  first_place = record { at = i + 1; room = 4096; held = None }
+-- what stands behind a number, as that of a bus is, is read as messages
+module _ (number : Class ℕ) (made : ℕ → List Desc → Cmd) (ws : List Word) (i n : ℕ) (is : one_at number.of ws i ≡ Ok n) where
+  whole_read : read_at (class number (λ x. some_descs (made x))) ws i ≡ (descs_at 42 (first_place (i + 1)) [] ws >>= whole_line (made n))
+  whole_read = rw is (read_descs (made n) 42 (first_place (i + 1)) [] ws)
 
-  whole_read : read_at (combined_bus force) ws i ≡ (descs_at 42 first_place [] ws >>= whole_line force bus)
-  unfolding combined_bus
-  whole_read = rw is (read_descs force bus 42 first_place [] ws)
+  pub messages_read : (ms : List Desc) → descs_at 42 (first_place (i + 1)) [] ws ≡ Ok ms
+      → read_at (class number (λ x. some_descs (made x))) ws i ≡ Ok (made n ms)
+  messages_read ms read = whole_read ∙ ap (λ (x : Result (List Desc) ℕ). x >>= whole_line (made n)) read
 
-  pub messages_read : (ms : List Desc) → descs_at 42 first_place [] ws ≡ Ok ms
-      → read_at (combined_bus force) ws i ≡ Ok (combined force bus ms)
-  messages_read ms read = whole_read ∙ ap (λ (x : Result (List Desc) ℕ). x >>= whole_line force bus) read
-
-  pub messages_refused : (f : LineFault) → FaultIs (descs_at 42 first_place [] ws) f → FaultIs (read_at (combined_bus force) ws i) f
-  messages_refused (fault.Word k) h = whole_read ∙ ap (λ (x : Result (List Desc) ℕ). x >>= whole_line force bus) h
+  pub messages_refused : (f : LineFault) → FaultIs (descs_at 42 (first_place (i + 1)) [] ws) f
+      → FaultIs (read_at (class number (λ x. some_descs (made x))) ws i) f
+  messages_refused (fault.Word k) h = whole_read ∙ ap (λ (x : Result (List Desc) ℕ). x >>= whole_line (made n)) h
   messages_refused fault.Memory h = tt
 
 module _ (n k : ℕ) (p : DescPlace) (got : List Desc) (ws : List Word) (whole : Result (List Desc) ℕ)

@@ -1,5 +1,5 @@
 -- What a line of i2ctransfer means is in range, and how long it is.
-use Rattle.std.proofs.Common.{◌≡◌, ℕ, zero, suc, ◌+◌, ◌-◌, ◌%◌, ◌^◌, ◌<◌, ◌≤◌, ◌==◌, Bool, true, false, cond, List, [], ◌∷◌, ◌++◌, length, Option, Some, None, refl, ap, subst, arith}
+use Rattle.std.proofs.Common.{◌≡◌, ℕ, zero, suc, ◌+◌, ◌-◌, ◌%◌, ◌<◌, ◌≤◌, ◌==◌, Bool, true, false, cond, List, [], ◌∷◌, ◌++◌, length, Option, Some, None, refl, ap, subst, arith}
 use Rattle.std.specs.Prelude.{All, IfSome, take, slice_index_or, option_and_then}
 use Rattle.std.specs.List.{sum_by}
 use Rattle.std.proofs.lemmas.Bool.Decides.{nat_tests}
@@ -8,11 +8,12 @@ use Rattle.std.proofs.lemmas.List.Sums.{sum_by-append}
 use Rattle.std.proofs.lemmas.List.Elements.{All-nil, All-cons, All-append}
 use Rattle.i2c_base.specs.Addr.{IsTargetAddress}
 use Rattle.i2c_base.specs.Bytes.{AreBytes, IsByte}
-use Rattle.tools.specs.Combined.{after_at, before_at, address_in, within_room, length_in, head_with, head_of, bytes_asked, desc_of, bytes_of, length_of, IsOpInRange, counted, datum_of, series_of, series_with, byte_or, step_of, by_datum, data_words, combined, descs, combined_bus, combined_words, IsDescInRange}
+use Rattle.tools.specs.Combined.{after_at, before_at, address_in, within_room, length_in, head_with, head_of, bytes_asked, desc_of, bytes_of, length_of, IsOpInRange, counted, datum_of, series_of, series_with, byte_or, step_of, by_datum, data_words, combined, descs, some_descs, combined_bus, combined_words, IsDescInRange, AreMessages}
 use Rattle.tools.specs.Grammars.{Grammar, maybe}
 use Rattle.tools.specs.LineSets.{Word}
 use Rattle.tools.specs.Commands.{IsInRange}
 use Rattle.tools.specs.Numbers.{number_in}
+use Rattle.tools.specs.declared.command.Cmd.{Cmd}
 use Rattle.tools.specs.declared.command.transfer.Datum.{Datum}
 use Rattle.tools.specs.declared.command.transfer.Datum.TheVariants as datum
 use Rattle.tools.specs.declared.command.transfer.DescHead.{DescHead}
@@ -147,19 +148,21 @@ record AreInRange (got : List Desc) (n room : ℕ) : Type 0 where
   few : length got + n ≡ 42
   short : sum_by bytes_of got + room ≤ 4096
 
-module _ (limit : ℕ) (force : Bool) (bus : ℕ) (on : bus < 2 ^ 16) where
-  some_fit : (got : List Desc) (n room : ℕ) → 1 ≤ length got → AreInRange got n room → IsInRange limit (combined force bus got)
-  some_fit got n room some h = record { bus = on; some = some; few = omega (arith, h.few); each = h.each; short = omega (arith, h.short) }
+-- what is made of messages within the limits has P
+module _ (P : Cmd → Type 0) (made : List Desc → Cmd) (fits : (ms : List Desc) → AreMessages ms → P (made ms)) where
+  some_fit : (got : List Desc) (n room : ℕ) → 1 ≤ length got → AreInRange got n room → P (made got)
+  some_fit got n room some h =
+      fits got (record { some = some; few = omega (arith, h.few); each = h.each; short = omega (arith, h.short) })
 
   descs_fit : (n room : ℕ) (held : Option ℕ) (got : List Desc) → IfSome held IsTargetAddress → (n ≡ 0 → 1 ≤ length got)
-      → AreInRange got n room → AllEnds (IsInRange limit) (descs force bus n room held got)
+      → AreInRange got n room → AllEnds P (descs made n room held got)
   unfolding descs
   descs_fit zero room held got h some r = some_fit got 0 room (some refl) r
   descs_fit (suc n) room held got h some r = λ w d is.
       let head = head_fits held room w d h is in
-      data_fit (IsInRange limit) (bytes_asked d) []
-      (λ bytes. maybe (combined force bus (got ++ desc_of d bytes ∷ []))
-      (descs force bus n (room - d.len) (Some d.addr) (got ++ desc_of d bytes ∷ []))) (All-nil IsByte)
+      data_fit P (bytes_asked d) []
+      (λ bytes. maybe (made (got ++ desc_of d bytes ∷ []))
+      (descs made n (room - d.len) (Some d.addr) (got ++ desc_of d bytes ∷ []))) (All-nil IsByte)
       (λ bytes are long.
       let one = desc_fits room d bytes head are (omega (arith, long)) in
       let longer : length (got ++ desc_of d bytes ∷ []) ≡ length got + 1 = length-append got (desc_of d bytes ∷ []) in
@@ -175,11 +178,15 @@ module _ (limit : ℕ) (force : Bool) (bus : ℕ) (on : bus < 2 ^ 16) where
         descs_fit n (room - d.len) (Some d.addr) (got ++ desc_of d bytes ∷ []) head.addr (λ e. omega (arith, longer)) next,
       ))
 
+  pub some_descs_fit : AllEnds P (some_descs made)
+  some_descs_fit =
+      descs_fit 42 4096 None [] tt (λ e. absurd cc) (record { each = All-nil IsDescInRange; few = refl; short = omega arith })
+
 bus_fits : (limit : ℕ) (force : Bool) → AllEnds (IsInRange limit) (combined_bus force)
 unfolding combined_bus
 bus_fits limit force w bus is =
-    descs_fit limit force bus (omega (arith, (number_between 0 65535 w bus is).to_high)) 42 4096 None [] tt (λ e. absurd cc)
-    (record { each = All-nil IsDescInRange; few = refl; short = omega arith })
+    some_descs_fit (IsInRange limit) (combined force bus)
+    (λ ms are. record { bus = omega (arith, (number_between 0 65535 w bus is).to_high); messages = are })
 
 pub combined_line_fits : (limit : ℕ) → AllEnds (IsInRange limit) combined_words
 unfolding combined_words
@@ -207,24 +214,27 @@ asked_few : (reads : Bool) (len : ℕ) → cond reads 0 len ≤ len
 asked_few true len = omega arith
 asked_few false len = omega arith
 
-module _ (force : Bool) (bus : ℕ) where
+module _ (made : List Desc → Cmd) where
   -- a word a message, and one a byte
   descs_within : (n room words : ℕ) (held : Option ℕ) (got : List Desc) → IfSome held IsTargetAddress → n + room ≤ words
-      → EndsWithin words (descs force bus n room held got)
+      → EndsWithin words (descs made n room held got)
   unfolding descs
   descs_within zero room words held got h few = tt
   descs_within (suc n) room zero held got h few = absurd (omega (arith, few))
   descs_within (suc n) room (suc words) held got h few = λ w d is.
       let head = head_fits held room w d h is in
       data_within (bytes_asked d) words (n + (room - d.len)) []
-      (λ bytes. maybe (combined force bus (got ++ desc_of d bytes ∷ []))
-      (descs force bus n (room - d.len) (Some d.addr) (got ++ desc_of d bytes ∷ [])))
+      (λ bytes. maybe (made (got ++ desc_of d bytes ∷ []))
+      (descs made n (room - d.len) (Some d.addr) (got ++ desc_of d bytes ∷ [])))
       (omega (arith, few, head.fits, asked_few d.reads d.len))
       (λ bytes rest left. descs_within n (room - d.len) rest (Some d.addr) (got ++ desc_of d bytes ∷ []) head.addr left)
 
+  pub some_descs_within : EndsWithin 4138 (some_descs made)
+  some_descs_within = descs_within 42 4096 4138 None [] tt (omega arith)
+
 bus_within : (force : Bool) → EndsWithin 4139 (combined_bus force)
 unfolding combined_bus
-bus_within force w bus is = descs_within force bus 42 4096 4138 None [] tt (omega arith)
+bus_within force w bus is = some_descs_within (combined force bus)
 
 pub combined_line_within : EndsWithin 4141 combined_words
 unfolding combined_words

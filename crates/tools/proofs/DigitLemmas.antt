@@ -5,19 +5,19 @@ use Rattle.std.proofs.lemmas.Bool.Decides.{nat_tests}
 use Rattle.std.specs.Prelude.{option_and_then}
 use Rattle.tools.specs.Numbers.{digit_of, base_of, digits_on, within}
 
-grows : (hexadecimal : Bool) (n d : ℕ) → 65535 < n → 65535 < n * base_of hexadecimal + d
+grows : (hexadecimal : Bool) (n d : ℕ) → 128000 < n → 128000 < n * base_of hexadecimal + d
 grows true n d h = omega arith
 grows false n d h = omega arith
 
-past_range : (n : ℕ) → 65535 < n → within 0 65535 (Some n) ≡ None
+past_range : (n : ℕ) → 128000 < n → within 0 128000 (Some n) ≡ None
 past_range n h = grind (arith, nat_tests)
 
 -- a value past the range stays past it
-pub digits_past : (hexadecimal : Bool) (n : ℕ) (bs : List ℕ) → 65535 < n → within 0 65535 (digits_on hexadecimal n bs) ≡ None
+pub digits_past : (hexadecimal : Bool) (n : ℕ) (bs : List ℕ) → 128000 < n → within 0 128000 (digits_on hexadecimal n bs) ≡ None
 digits_past hexadecimal n [] h = past_range n h
 digits_past hexadecimal n (b ∷ bs) h =
     elim (digit_of hexadecimal b) as
-    (λ o. within 0 65535 (option_and_then (λ d. digits_on hexadecimal (n * base_of hexadecimal + d) bs) o) ≡ None) [
+    (λ o. within 0 128000 (option_and_then (λ d. digits_on hexadecimal (n * base_of hexadecimal + d) bs) o) ≡ None) [
       | None ↦ refl
       | Some d ↦ digits_past hexadecimal (n * base_of hexadecimal + d) bs (grows hexadecimal n d h)
     ]
@@ -30,13 +30,13 @@ digits_step hexadecimal n xs i o h e =
 
 pub value_more : (hexadecimal : Bool) (n : ℕ) (xs : List ℕ) (i d : ℕ) (r : Option ℕ) → i < length xs
     → Some d ≡ digit_of hexadecimal (get_or xs i 0)
-    → within 0 65535 (digits_on hexadecimal n (drop i xs)) ≡ r
-    → within 0 65535 (digits_on hexadecimal (n * base_of hexadecimal + d) (drop (i + 1) xs)) ≡ r
-value_more hexadecimal n xs i d r h e k = ap (within 0 65535) (sym (digits_step hexadecimal n xs i (Some d) h e)) ∙ k
+    → within 0 128000 (digits_on hexadecimal n (drop i xs)) ≡ r
+    → within 0 128000 (digits_on hexadecimal (n * base_of hexadecimal + d) (drop (i + 1) xs)) ≡ r
+value_more hexadecimal n xs i d r h e k = ap (within 0 128000) (sym (digits_step hexadecimal n xs i (Some d) h e)) ∙ k
 
 pub value_past : (hexadecimal : Bool) (n b : ℕ) (xs : List ℕ) (i d : ℕ) (r : Option ℕ) → i < length xs
     → Some d ≡ digit_of hexadecimal (get_or xs i 0)
-    → b ≡ base_of hexadecimal → 65535 < n * b + d → within 0 65535 (digits_on hexadecimal n (drop i xs)) ≡ r → None ≡ r
+    → b ≡ base_of hexadecimal → 128000 < n * b + d → within 0 128000 (digits_on hexadecimal n (drop i xs)) ≡ r → None ≡ r
 value_past hexadecimal n b xs i d r h e same p k =
-    let past : 65535 < n * base_of hexadecimal + d = rw (← same) p in
+    let past : 128000 < n * base_of hexadecimal + d = rw (← same) p in
     sym (digits_past hexadecimal (n * base_of hexadecimal + d) (drop (i + 1) xs) past) ∙ value_more hexadecimal n xs i d r h e k

@@ -273,20 +273,20 @@ module _ (d : Dump) where
 module _ (d : Dump) (range : IsDumpInRange d) where
   asks_by : (m : DumpMode) (k : ℕ) → k < dump_places m d.first d.last → IsAsk (messages_of_call (call_by d m k))
   asks_by mode.Byte k within =
-      call_asks (call_by d mode.Byte k) range.addr.1 (short_byte (d.first + k) (omega (arith, within, range.order, range.last)))
+      call_asks (call_by d mode.Byte k) (λ e. range.addr.1) (short_byte (d.first + k) (omega (arith, within, range.order, range.last)))
       (omega arith, omega arith) (omega arith)
   asks_by mode.Word k within =
-      call_asks (call_by d mode.Word k) range.addr.1 (short_byte (d.first + k) (omega (arith, within, range.order, range.last)))
+      call_asks (call_by d mode.Word k) (λ e. range.addr.1) (short_byte (d.first + k) (omega (arith, within, range.order, range.last)))
       (omega arith, omega arith) (omega arith)
   asks_by mode.Receive k within =
       elim (k == 0) as (λ b. IsAsk (messages_of_call (call_of d (cond b (op.SendByte d.first) op.ReceiveByte)))) [
         | true ↦
-            call_asks (call_of d (op.SendByte d.first)) range.addr.1 (short_byte d.first (omega (arith, range.order, range.last))) tt
+            call_asks (call_of d (op.SendByte d.first)) (λ e. range.addr.1) (short_byte d.first (omega (arith, range.order, range.last))) tt
             (omega arith)
-        | false ↦ call_asks (call_of d op.ReceiveByte) range.addr.1 tt (omega arith, omega arith) (omega arith)
+        | false ↦ call_asks (call_of d op.ReceiveByte) (λ e. range.addr.1) tt (omega arith, omega arith) (omega arith)
       ]
   asks_by mode.I2cBlock k within =
-      call_asks (call_by d mode.I2cBlock k) range.addr.1 (short_byte (32 * k) (omega (arith, within)))
+      call_asks (call_by d mode.I2cBlock k) (λ e. range.addr.1) (short_byte (32 * k) (omega (arith, within)))
       (omega arith, omega arith) (omega arith)
 
   pub dump_asks : (k : ℕ) → k < (dumps d).places → IsAsk ((dumps d).at k)

@@ -55,37 +55,45 @@ IsHeld (held.ReadByte r) = IsByte r
 IsHeld (held.ReadWord r) = IsByte r
 IsHeld (held.BlockRead r) = IsByte r
 IsHeld (held.I2cBlockRead r n) = IsByte r × IsBlockLength I2C_BLOCK_LIMIT n
+IsHeld (held.ProcCall r v) = IsByte r × (v < 2 ^ 16)
+IsHeld (held.BlockProc r bytes) = IsByte r × (AreBytes bytes × IsBlockLength LARGEST_BLOCK (length bytes))
 
 module _ (to : Callee) (near : IsTargetAddress to.addr) where
   receives_asks : IsAsk (messages_of_call (call_to to op.ReceiveByte))
-  receives_asks = call_asks (call_to to op.ReceiveByte) near.1 tt (omega arith, omega arith) (omega arith)
+  receives_asks = call_asks (call_to to op.ReceiveByte) (λ e. near.1) tt (omega arith, omega arith) (omega arith)
 
   pub call_asks_within : (o : HeldOp) → IsHeld o → AsksWithin (run.Calls (record { to = to; op = o }))
-  call_asks_within (held.SendByte b) is k within = call_asks (call_to to (op.SendByte b)) near.1 (short_byte b is) tt (omega arith)
+  call_asks_within (held.SendByte b) is k within = call_asks (call_to to (op.SendByte b)) (λ e. near.1) (short_byte b is) tt (omega arith)
   call_asks_within held.ReceiveByte is k within = receives_asks
   call_asks_within (held.WriteByte r b) is k within =
-      call_asks (call_to to (op.WriteByte r b)) near.1 (short_bytes r (b ∷ []) is.0 (All-cons IsByte b [] is.1 (All-nil IsByte)) (omega arith))
+      call_asks (call_to to (op.WriteByte r b)) (λ e. near.1) (short_bytes r (b ∷ []) is.0 (All-cons IsByte b [] is.1 (All-nil IsByte)) (omega arith))
       tt (omega arith)
   call_asks_within (held.WriteWord r v) is k within =
-      call_asks (call_to to (op.WriteWord r v)) near.1 (short_bytes r (low_byte_first v) is.0 (word_bytes v is.1) (omega arith)) tt (omega arith)
+      call_asks (call_to to (op.WriteWord r v)) (λ e. near.1) (short_bytes r (low_byte_first v) is.0 (word_bytes v is.1) (omega arith)) tt (omega arith)
   call_asks_within (held.BlockWrite r bytes) is k within =
-      call_asks (call_to to (op.BlockWrite r (lent bytes))) near.1 (short_bytes r (length bytes ∷ bytes) is.0
+      call_asks (call_to to (op.BlockWrite r (lent bytes))) (λ e. near.1) (short_bytes r (length bytes ∷ bytes) is.0
       (All-cons IsByte (length bytes) bytes (omega (arith, is.1.1.1)) is.1.0) (omega (arith, is.1.1.1))) tt (omega arith)
   call_asks_within (held.I2cBlockWrite r bytes) is k within =
-      call_asks (call_to to (op.I2cBlockWrite r (lent bytes))) near.1 (short_bytes r bytes is.0 is.1.0 (omega (arith, is.1.1.1))) tt
+      call_asks (call_to to (op.I2cBlockWrite r (lent bytes))) (λ e. near.1) (short_bytes r bytes is.0 is.1.0 (omega (arith, is.1.1.1))) tt
       (omega arith)
   call_asks_within (held.ReadByte r) is k within =
-      call_asks (call_to to (op.ReadByte r)) near.1 (short_byte r is) (omega arith, omega arith) (omega arith)
+      call_asks (call_to to (op.ReadByte r)) (λ e. near.1) (short_byte r is) (omega arith, omega arith) (omega arith)
   call_asks_within (held.ReadWord r) is k within =
-      call_asks (call_to to (op.ReadWord r)) near.1 (short_byte r is) (omega arith, omega arith) (omega arith)
-  call_asks_within (held.BlockRead r) is k within = call_asks (call_to to (op.BlockRead r)) near.1 (short_byte r is) tt (omega arith)
+      call_asks (call_to to (op.ReadWord r)) (λ e. near.1) (short_byte r is) (omega arith, omega arith) (omega arith)
+  call_asks_within (held.BlockRead r) is k within = call_asks (call_to to (op.BlockRead r)) (λ e. near.1) (short_byte r is) tt (omega arith)
   call_asks_within (held.I2cBlockRead r n) is k within =
-      call_asks (call_to to (op.I2cBlockRead r n)) near.1 (short_byte r is.0) is.1 (omega arith)
+      call_asks (call_to to (op.I2cBlockRead r n)) (λ e. near.1) (short_byte r is.0) is.1 (omega arith)
+  call_asks_within (held.ProcCall r v) is k within =
+      call_asks (call_to to (op.ProcCall r v)) (λ e. near.1) (short_bytes r (low_byte_first v) is.0 (word_bytes v is.1) (omega arith))
+      (omega arith, omega arith) (omega arith)
+  call_asks_within (held.BlockProc r bytes) is k within =
+      call_asks (call_to to (op.BlockProc r (lent bytes))) (λ e. near.1) (short_bytes r (length bytes ∷ bytes) is.0
+      (All-cons IsByte (length bytes) bytes (omega (arith, is.1.1.1)) is.1.0) (omega (arith, is.1.1.1))) tt (omega arith)
 
   pub chain_asks_within : (sent : ℕ) → IsByte sent → AsksWithin (run.Chains (record { to = to; sent = sent }))
   chain_asks_within sent is k within =
       elim (k == 0) as (λ b. IsAsk (messages_of_call (call_to to (cond b (op.SendByte sent) op.ReceiveByte)))) [
-        | true ↦ call_asks (call_to to (op.SendByte sent)) near.1 (short_byte sent is) tt (omega arith)
+        | true ↦ call_asks (call_to to (op.SendByte sent)) (λ e. near.1) (short_byte sent is) tt (omega arith)
         | false ↦ receives_asks
       ]
 

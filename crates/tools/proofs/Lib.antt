@@ -1,13 +1,16 @@
+pub mod ByteListLemmas
 pub mod CallLemmas
 pub mod CombinedLemmas
 pub mod CombinedRanges
 pub mod CommandLemmas
 pub mod DetectLemmas
 pub mod DigitLemmas
+pub mod DriverLineLemmas
 pub mod DumpLemmas
 pub mod FormLemmas
 pub mod GetLemmas
 pub mod GrammarLemmas
+pub mod HandleLineLemmas
 pub mod JoinedLemmas
 pub mod LineLemmas
 pub mod LineSetLemmas

@@ -80,13 +80,13 @@ messages_ask c range =
     let many : length (map message_of c.messages) ≡ length c.messages = length-map c.messages message_of in
     record {
       fits = record {
-        count = omega (arith, many, range.few);
-        each = are_messages c.messages range.each;
-        size = omega (arith, sizes_same c.messages, range.short);
+        count = omega (arith, many, range.messages.few);
+        each = are_messages c.messages range.messages.each;
+        size = omega (arith, sizes_same c.messages, range.messages.short);
         written = all_written c.messages;
-        bytes = all_bytes c.messages range.each;
+        bytes = all_bytes c.messages range.messages.each;
       };
-      sends = omega (arith, many, range.some);
+      sends = omega (arith, many, range.messages.some);
     }
 
 -- they read no more than they stand for
@@ -95,7 +95,7 @@ all_within [] = omega arith
 all_within (d ∷ ds) = omega (arith, sum_by-cons read_by d ds, sum_by-cons bytes_of d ds, read_within d.op, all_within ds)
 
 pub few_read : (c : Combined) → IsCombinedInRange c → sum_by read_by c.messages ≤ 4096
-few_read c range = omega (arith, all_within c.messages, range.short)
+few_read c range = omega (arith, all_within c.messages, range.messages.short)
 
 -- ---- they print lines
 

@@ -54,10 +54,10 @@ module _ (bus addr : ℕ) (near : addr ≤ 119) where
   asked o = record { bus = bus; addr = addr; force = false; pec = false; op = o }
 
   quick_asks : IsAsk (messages_of_call (asked op.Quick))
-  quick_asks = call_asks (asked op.Quick) near nothing_sent tt (omega arith)
+  quick_asks = call_asks (asked op.Quick) (λ e. near) nothing_sent tt (omega arith)
 
   receive_asks : IsAsk (messages_of_call (asked op.ReceiveByte))
-  receive_asks = call_asks (asked op.ReceiveByte) near tt (omega arith, omega arith) (omega arith)
+  receive_asks = call_asks (asked op.ReceiveByte) (λ e. near) tt (omega arith, omega arith) (omega arith)
 
   probed_asks : (p : Probe) → IsAsk (messages_of_call (asked (probe_op p addr)))
   probed_asks probe.ByAddress =

@@ -64,11 +64,11 @@ without_code bytes short = record {
   few = omega (arith, short.few, length-append bytes []);
 }
 
-is_sent : (addr : ℕ) (coded : Bool) (r : ReadShape) (bytes : List ℕ) → addr ≤ 119 → IsShortWrite bytes
+is_sent : (addr : ℕ) (coded : Bool) (r : ReadShape) (bytes : List ℕ) → (coded ≡ true → addr ≤ 119) → IsShortWrite bytes
     → IsSent (bytes ++ code_sent addr coded r bytes)
 is_sent addr true read.Nothing bytes near short =
     let code : ℕ = pec (2 * addr ∷ bytes) in
-    let byte : code < 256 = code_byte (2 * addr ∷ bytes) (All-cons IsByte (2 * addr) bytes (omega (arith, near)) short.each) in
+    let byte : code < 256 = code_byte (2 * addr ∷ bytes) (All-cons IsByte (2 * addr) bytes (omega (arith, near refl)) short.each) in
     record {
       each = All-append IsByte bytes (code ∷ []) short.each (one_byte code byte);
       few = omega (arith, short.few, length-append bytes (code ∷ []));
@@ -143,7 +143,7 @@ both_fit addr out m sent is =
       bytes = sent.each;
     }
 
-row_fits : (addr : ℕ) (coded : Bool) (r : ReadShape) (write : Option (List ℕ)) → addr ≤ 119 → IfSome write IsShortWrite → IsShortRead r
+row_fits : (addr : ℕ) (coded : Bool) (r : ReadShape) (write : Option (List ℕ)) → (coded ≡ true → addr ≤ 119) → IfSome write IsShortWrite → IsShortRead r
     → IsTransfer (write_messages addr coded r write ++ read_messages addr coded r) (bytes_sent addr coded r write)
 row_fits addr coded read.Nothing None near short reads = record {
   count = omega arith;
@@ -167,8 +167,8 @@ pub record IsAsk (t : TransferView) : Type 0 where
   pub fits : IsTransfer t.msgs t.out
   pub sends : 0 < length t.msgs
 
--- so is that of any call with short writes and reads
-pub call_asks : (call : SmbCall) → call.addr ≤ 119 → IfSome (call_row call.op).write IsShortWrite → IsShortRead (call_row call.op).read
+-- so is that of any call with short writes and reads; an address goes into an error code alone
+pub call_asks : (call : SmbCall) → (is_coded call ≡ true → call.addr ≤ 119) → IfSome (call_row call.op).write IsShortWrite → IsShortRead (call_row call.op).read
     → 0 < length (messages_of_call call).msgs → IsAsk (messages_of_call call)
 call_asks call near short reads some =
     record { fits = row_fits call.addr (is_coded call) (call_row call.op).read (call_row call.op).write near short reads; sends = some }

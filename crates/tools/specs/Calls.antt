@@ -34,6 +34,8 @@ smb_op (held.ReadByte r) = op.ReadByte r
 smb_op (held.ReadWord r) = op.ReadWord r
 smb_op (held.BlockRead r) = op.BlockRead r
 smb_op (held.I2cBlockRead r n) = op.I2cBlockRead r n
+smb_op (held.ProcCall r v) = op.ProcCall r v
+smb_op (held.BlockProc r bytes) = op.BlockProc r (lent bytes)
 
 abbrev pub held_call : HeldCall → SmbCall
 held_call h = call_to h.to (smb_op h.op)

@@ -11,7 +11,8 @@ use Rattle.tools.specs.Options.{bus_number, force_and_yes}
 use Rattle.tools.specs.Readers.{◌>>=◌, one_at, over_at, is_past}
 use Rattle.tools.specs.Words.{before_gap, behind_gap}
 use Rattle.tools.specs.declared.command.Cmd.{Cmd}
-use Rattle.tools.specs.declared.command.Cmd.TheVariants as cmd
+use Rattle.tools.specs.declared.command.Cmd.TheVariants.{Tool}
+use Rattle.tools.specs.declared.command.ToolCmd.TheVariants as tool
 use Rattle.tools.specs.declared.command.transfer.Combined.{Combined}
 use Rattle.tools.specs.declared.command.transfer.DescHead.{DescHead}
 use Rattle.tools.specs.declared.command.transfer.DescPlace.{DescPlace}
@@ -124,22 +125,26 @@ bytes_asked d = if d.reads then 0 else d.len
 abbrev pub desc_of : DescHead → List ℕ → Desc
 desc_of d bytes = record { addr = d.addr; op = if d.reads then op.Read d.len else op.Write bytes }
 
-module _ (force : Bool) (bus : ℕ) where
-  -- the command
-  abbrev pub combined : List Desc → Cmd
-  combined ms = cmd.Combined (record { force = force; bus = bus; messages = ms })
-
-  -- at most so many more messages, of so many bytes together
+module _ (made : List Desc → Cmd) where
+  -- at most so many more messages, of so many bytes together, and the command that all of them make
   unfoldable pub descs : ℕ → ℕ → Option ℕ → List Desc → Grammar Cmd
-  descs zero room held got = ends (combined got)
+  descs zero room held got = ends (made got)
   descs (suc n) room held got =
       class (head_word held room) (λ d.
       data_words (bytes_asked d) [] (λ bytes.
-      maybe (combined (got ++ desc_of d bytes ∷ [])) (descs n (room - d.len) (Some d.addr) (got ++ desc_of d bytes ∷ []))))
+      maybe (made (got ++ desc_of d bytes ∷ [])) (descs n (room - d.len) (Some d.addr) (got ++ desc_of d bytes ∷ []))))
+
+  -- the messages of a transfer
+  abbrev pub some_descs : Grammar Cmd
+  some_descs = descs MOST_MESSAGES MOST_BYTES None []
+
+-- the command
+abbrev pub combined : (force : Bool) (bus : ℕ) → List Desc → Cmd
+combined force bus ms = Tool (tool.Combined (record { force = force; bus = bus; messages = ms }))
 
 -- BUS, and what follows it
 unfoldable pub combined_bus : Bool → Grammar Cmd
-combined_bus force = class bus_number (λ bus. descs force bus MOST_MESSAGES MOST_BYTES None [])
+combined_bus force = class bus_number (λ bus. some_descs (combined force bus))
 
 -- what follows the first word
 unfoldable pub combined_words : Grammar Cmd
@@ -166,6 +171,10 @@ message_at p got ws =
     data_at (bytes_asked d) [] ws (p.at + 1) >>= λ o.
     Ok (got ++ desc_of d o.0 ∷ [], record { at = o.1; room = p.room - d.len; held = Some d.addr })
 
+-- where the first message is read
+abbrev pub first_place : ℕ → DescPlace
+first_place at = record { at = at; room = MOST_BYTES; held = None }
+
 -- at most so many more messages behind others
 unfoldable pub descs_at : ℕ → DescPlace → List Desc → List Word → Result (List Desc) ℕ
 descs_at zero p got ws = over_at got ws p.at
@@ -191,10 +200,14 @@ IsDescInRange d = IsTargetAddress d.addr × IsOpInRange d.op
 abbrev pub bytes_of : Desc → ℕ
 bytes_of d = length_of d.op
 
+-- messages of a transfer, which is within the limits
+pub record AreMessages (ms : List Desc) : Type 0 where
+  pub some : 1 ≤ length ms
+  pub few : length ms ≤ MOST_MESSAGES
+  pub each : All IsDescInRange ms
+  pub short : sum_by bytes_of ms ≤ MOST_BYTES
+
 -- each field of the command is in its range
 pub record IsCombinedInRange (c : Combined) : Type 0 where
   pub bus : c.bus < 2 ^ 16
-  pub some : 1 ≤ length c.messages
-  pub few : length c.messages ≤ MOST_MESSAGES
-  pub each : All IsDescInRange c.messages
-  pub short : sum_by bytes_of c.messages ≤ MOST_BYTES
+  pub messages : AreMessages c.messages

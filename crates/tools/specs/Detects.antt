@@ -12,7 +12,8 @@ use Rattle.tools.specs.Numbers.{number_in}
 use Rattle.tools.specs.Options.{bus_number}
 use Rattle.tools.specs.Readers.{is_at}
 use Rattle.tools.specs.declared.command.Cmd.{Cmd}
-use Rattle.tools.specs.declared.command.Cmd.TheVariants as cmd
+use Rattle.tools.specs.declared.command.Cmd.TheVariants.{Tool}
+use Rattle.tools.specs.declared.command.ToolCmd.TheVariants as tool
 use Rattle.tools.specs.declared.command.detect.Detect.{Detect}
 use Rattle.tools.specs.declared.command.detect.Probe.{Probe}
 use Rattle.tools.specs.declared.command.detect.Probe.TheVariants as probe
@@ -58,7 +59,7 @@ probe_and_yes_at ws i =
 
 -- the command of a line
 abbrev pub detected : Probe → (bus first last : ℕ) → Cmd
-detected p bus first last = cmd.Detect (record { bus = bus; probe = p; first = first; last = last })
+detected p bus first last = Tool (tool.Detect (record { bus = bus; probe = p; first = first; last = last }))
 
 -- FIRST LAST, if any; without them all addresses that a target may have
 unfoldable pub detect_range : Probe → (bus : ℕ) → Grammar Cmd
@@ -72,7 +73,7 @@ detect_bus p = class bus_number (detect_range p)
 
 -- what follows the first word
 unfoldable pub detect_words : Grammar Cmd
-detect_words = word_or (codes "-l") (ends cmd.List) (probe_and_yes detect_bus)
+detect_words = word_or (codes "-l") (ends (Tool tool.List)) (probe_and_yes detect_bus)
 
 -- each field of the command is in its range
 pub record IsDetectInRange (d : Detect) : Type 0 where

@@ -8,7 +8,8 @@ use Rattle.tools.specs.Numbers.{number_in}
 use Rattle.tools.specs.Options.{bus_number, address}
 use Rattle.tools.specs.Words.{before_gap, behind_gap}
 use Rattle.tools.specs.declared.command.Cmd.{Cmd}
-use Rattle.tools.specs.declared.command.Cmd.TheVariants as cmd
+use Rattle.tools.specs.declared.command.Cmd.TheVariants.{Tool}
+use Rattle.tools.specs.declared.command.ToolCmd.TheVariants as tool
 use Rattle.tools.specs.declared.command.dump.Dump.{Dump}
 use Rattle.tools.specs.declared.command.dump.DumpMode.{DumpMode}
 use Rattle.tools.specs.declared.command.dump.DumpMode.TheVariants as mode
@@ -53,7 +54,7 @@ range_or_all r = unwrap_or r (0, 255)
 
 module _ (o : DumpOptions) (bus addr : ℕ) where
   abbrev pub dumped : DumpMode × Bool → Cmd
-  dumped m = cmd.Dump (record {
+  dumped m = Tool (tool.Dump (record {
     force = o.force;
     bus = bus;
     addr = addr;
@@ -61,7 +62,7 @@ module _ (o : DumpOptions) (bus addr : ℕ) where
     last = (range_or_all o.range).1;
     mode = m.0;
     pec = m.1;
-  })
+  }))
 
   -- MODE, if any; without it each register is read as a byte
   unfoldable pub dump_tail : Grammar Cmd

@@ -8,7 +8,8 @@ use Rattle.tools.specs.LineSets.{Word}
 use Rattle.tools.specs.Numbers.{number_in}
 use Rattle.tools.specs.Options.{bus_number, address, byte, force_and_yes}
 use Rattle.tools.specs.declared.command.Cmd.{Cmd}
-use Rattle.tools.specs.declared.command.Cmd.TheVariants as cmd
+use Rattle.tools.specs.declared.command.Cmd.TheVariants.{Tool}
+use Rattle.tools.specs.declared.command.ToolCmd.TheVariants as tool
 use Rattle.tools.specs.declared.command.get.Get.{Get}
 use Rattle.tools.specs.declared.command.get.GetMode.{GetMode}
 use Rattle.tools.specs.declared.command.get.GetMode.TheVariants as mode
@@ -43,7 +44,7 @@ block_len = record { of = number_in 1 I2C_BLOCK_LIMIT; sample = codes "1"; means
 
 module _ (force : Bool) (bus addr : ℕ) where
   abbrev pub got : Option ℕ → Option GetMode → Bool → Option ℕ → Cmd
-  got reg m pec len = cmd.Get (record { force = force; bus = bus; addr = addr; reg = reg; mode = m; pec = pec; len = len })
+  got reg m pec len = Tool (tool.Get (record { force = force; bus = bus; addr = addr; reg = reg; mode = m; pec = pec; len = len }))
 
   -- LEN stands behind `i` alone
   unfoldable pub get_len : ℕ → GetMode × Bool → Grammar Cmd

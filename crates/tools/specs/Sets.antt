@@ -10,7 +10,8 @@ use Rattle.tools.specs.LineSets.{Word}
 use Rattle.tools.specs.Numbers.{number_in}
 use Rattle.tools.specs.Options.{bus_number, address, byte, force_and_yes}
 use Rattle.tools.specs.declared.command.Cmd.{Cmd}
-use Rattle.tools.specs.declared.command.Cmd.TheVariants as cmd
+use Rattle.tools.specs.declared.command.Cmd.TheVariants.{Tool}
+use Rattle.tools.specs.declared.command.ToolCmd.TheVariants as tool
 use Rattle.tools.specs.declared.command.set.Set.{Set}
 use Rattle.tools.specs.declared.command.set.SetHead.{SetHead}
 use Rattle.tools.specs.declared.command.set.SetMode.{SetMode}
@@ -111,7 +112,7 @@ block_room limit = max 1 (min limit LARGEST_BLOCK)
 module _ (h : SetHead) where
   -- the command
   abbrev pub set_to : List ℕ → Option SetMode → Bool → Cmd
-  set_to vs m pec = cmd.Set (record { force = h.force; bus = h.bus; addr = h.addr; reg = h.reg; values = vs; mode = m; pec = pec })
+  set_to vs m pec = Tool (tool.Set (record { force = h.force; bus = h.bus; addr = h.addr; reg = h.reg; values = vs; mode = m; pec = pec }))
 
   -- such a mode ends the line
   abbrev pub set_by : List ℕ → SetMode × Bool → Grammar Cmd

@@ -26,8 +26,10 @@ mod examples;
 mod fault;
 mod laws;
 mod line;
+mod line_examples;
 mod lists;
 mod number;
+mod octets;
 mod options;
 mod reader;
 mod replies;
@@ -37,7 +39,9 @@ mod text;
 mod value;
 mod words;
 
-pub use command::Cmd;
+pub use command::{
+    At24Read, At24Write, Cmd, Combined, DriverCmd, HandleCmd, Lm75Read, Lm75Write, RegName, ToolCmd,
+};
 pub use examples::{
     a_block_ends_at_its_limit, a_block_is_printed_without_its_count,
     a_bus_that_is_missing_is_told_alone, a_byte_is_received_where_eeproms_stand,
@@ -57,9 +61,13 @@ pub use laws::{
     the_refused_word_is_behind_the_longest_front,
 };
 pub use line::read_line;
+pub use line_examples::{a_handle_has_its_number, a_temperature_is_half_degrees, bytes_end_a_line};
 pub use lists::{Desc, DescOp, Descs, Items, Octets, Words};
 pub use replies::Window;
 pub use run::ToolRun;
+pub use run::call::{Callee, HeldBlock, HeldCall, HeldOp};
+pub use run::lines::Lines;
+pub use run::messages::Messages;
 pub use split::{LineWords, cut_line, push_echo};
 pub use text::Text;
 pub use words::{Gap, first_word, skip_gaps};

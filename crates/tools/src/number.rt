@@ -4,7 +4,7 @@ ghost use Rattle.std.specs.Prelude.{◌≡◌, ◌<◌, ◌≤◌, ◌&&◌, dro
 ghost use Rattle.tools.specs.Numbers.{decimal_digit, hexadecimal_digit, digit_of, digits_on, within, number_of, number_in, is_hexadecimal, is_decimal};
 
 /// The largest number of a script.
-const LARGEST: u32 = 65535;
+const LARGEST: u32 = 128_000;
 
 fn decimal_digit(byte: u8) -> Option<u8>
     ensures { result ≡ decimal_digit byte }
@@ -38,7 +38,7 @@ fn digit(hexadecimal: bool, byte: u8) -> Option<u8>
 
 // The value of these digits, where it is at most `LARGEST`.
 fn value(hexadecimal: bool, digits: &[u8]) -> Option<u32>
-    ensures { result ≡ within 0 65535 (digits_on hexadecimal 0 digits.now) }
+    ensures { result ≡ within 0 128000 (digits_on hexadecimal 0 digits.now) }
 {
     let base = if hexadecimal { 16 } else { 10 };
     let mut value = 0u32;
@@ -76,7 +76,7 @@ fn behind_prefix(word: &[u8]) -> &[u8]
 
 // The number in a word, where it is at most `LARGEST`.
 fn number(word: &[u8]) -> Option<u32>
-    ensures { result ≡ within 0 65535 (number_of word.now) }
+    ensures { result ≡ within 0 128000 (number_of word.now) }
 {
     if is_hexadecimal(word) {
         value(true, behind_prefix(word))
@@ -87,17 +87,27 @@ fn number(word: &[u8]) -> Option<u32>
     }
 }
 
-/// The number in a word, where it is from `low` to `high`: decimal, or `0x` and hexadecimal digits.
-pub fn number_in(word: &[u8], low: u16, high: u16) -> Option<u16>
+/// The number in a word, where it is from `low` to `high`, which is at most 128,000: decimal, or `0x` and hexadecimal digits.
+pub fn long_number_in(word: &[u8], low: u32, high: u32) -> Option<u32>
+    requires { high ≤ 128000 }
     ensures value { result ≡ number_in low high word.now }
     ensures high { IfSome result (λ n. n ≤ high) }
 {
     let number = number(word)?;
-    if u32::from(low) <= number && number <= u32::from(high) {
-        Some(number as u16)
+    if low <= number && number <= high {
+        Some(number)
     } else {
         None
     }
+}
+
+/// The same, of 16 bits.
+pub fn number_in(word: &[u8], low: u16, high: u16) -> Option<u16>
+    ensures value { result ≡ number_in low high word.now }
+    ensures high { IfSome result (λ n. n ≤ high) }
+{
+    let number = long_number_in(word, u32::from(low), u32::from(high))?;
+    Some(number as u16)
 }
 
 /// The number in a word, to 255.

@@ -4,7 +4,7 @@ ghost use Rattle.std.specs.Prelude.{◌≡◌, ℕ, true, List, ◌+◌, ◌-◌
 ghost use Rattle.std.specs.List.{flat_map};
 ghost use Rattle.bus_journal.specs.Reports.{ended};
 ghost use Rattle.i2c_base.specs.Replies.{reply_by};
-ghost use Rattle.tools.specs.Commands.{IsInRange, run_of};
+ghost use Rattle.tools.specs.Commands.{IsToolInRange, run_of};
 ghost use Rattle.tools.specs.Dialogues.{MOST_PLACES, AreAlike, AreReplies, behind};
 ghost use Rattle.tools.specs.Runs.{dialogue_of};
 
@@ -16,7 +16,7 @@ pub(crate) mod messages;
 mod scan;
 mod table;
 
-use crate::command::{Cmd, Detect, Dump, run_of};
+use crate::command::{Detect, Dump, ToolCmd, run_of};
 use crate::replies::Window;
 use crate::text::Text;
 use call::HeldCall;
@@ -46,12 +46,12 @@ pub enum ToolRun {
 }
 
 impl ToolRun {
-    /// A command that begins over a board.
-    pub fn open(alloc: Global, board: &Accepted, cmd: Cmd) -> Result<Self, NoMemory>
-        requires { (limit : ℕ) × IsInRange limit cmd }
-        ensures { IfOk result (λ r. r ≡ run_of board.now cmd) }
+    /// A tool that begins over a board.
+    pub fn open(alloc: Global, board: &Accepted, tool: ToolCmd) -> Result<Self, NoMemory>
+        requires { (limit : ℕ) × IsToolInRange limit tool }
+        ensures { IfOk result (λ r. r ≡ run_of board.now tool) }
     {
-        run_of(alloc, board.board(), cmd)
+        run_of(alloc, board.board(), tool)
     }
 
     /// How many places it has.

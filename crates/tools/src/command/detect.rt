@@ -6,7 +6,7 @@ ghost use Rattle.tools.specs.Detects.{last_word, probe_yes_at, yes_probe_at, pro
 ghost use Rattle.tools.specs.Grammars.{read_at};
 ghost use Rattle.tools.specs.Readers.{texts, one_at};
 
-use crate::command::Cmd;
+use crate::command::{Cmd, ToolCmd};
 use crate::fault::WordRefused;
 use crate::number::number_in;
 use crate::options::bus_at;
@@ -112,24 +112,24 @@ fn read_range(words: &[&[u8]], at: u16, probe: Probe, bus: u16) -> Result<Cmd, W
     ensures { result ≡ read_at (detect_range probe bus) (texts words.now) at }
 {
     if is_past(words, at) {
-        return Ok(Cmd::Detect(Detect {
+        return Ok(Cmd::Tool(ToolCmd::Detect(Detect {
             bus,
             probe,
             first: Addr::FIRST,
             last: Addr::LAST,
-        }));
+        })));
     }
     let first = number_at(words, at, 0, 127)? as u8;
     let last = last_at(words, at + 1, first)?;
     if !is_past(words, at + 2) {
         return Err(WordRefused(at + 2));
     }
-    Ok(Cmd::Detect(Detect {
+    Ok(Cmd::Tool(ToolCmd::Detect(Detect {
         bus,
         probe,
         first,
         last,
-    }))
+    })))
 }
 
 // Reads what stands behind the options.
@@ -151,7 +151,7 @@ pub fn read_detect(words: &[&[u8]]) -> Result<Cmd, WordRefused>
         if !is_past(words, 2) {
             return Err(WordRefused(2));
         }
-        return Ok(Cmd::List);
+        return Ok(Cmd::Tool(ToolCmd::List));
     }
     let (probe, at) = probe_and_yes(words, 1)?;
     read_bus(words, at, probe)

@@ -5,7 +5,7 @@ ghost use Rattle.tools.specs.Dumps.{is_dash, range_of, range_word, dump_mode, du
 ghost use Rattle.tools.specs.Grammars.{read_at};
 ghost use Rattle.tools.specs.Readers.{texts, one_at, is_at};
 
-use crate::command::Cmd;
+use crate::command::{Cmd, ToolCmd};
 use crate::fault::WordRefused;
 use crate::number::byte_in;
 use crate::options::{address_at, bus_at};
@@ -122,7 +122,7 @@ fn dumped(options: DumpOptions, bus: u16, addr: Addr, mode: (DumpMode, bool)) ->
     ensures { result ≡ dumped options bus addr mode }
 {
     let (first, last) = options.range.unwrap_or((0, 255));
-    Cmd::Dump(Dump {
+    Cmd::Tool(ToolCmd::Dump(Dump {
         force: options.force,
         bus,
         addr,
@@ -130,7 +130,7 @@ fn dumped(options: DumpOptions, bus: u16, addr: Addr, mode: (DumpMode, bool)) ->
         last,
         mode: mode.0,
         pec: mode.1,
-    })
+    }))
 }
 
 // Reads what stands behind ADDR.

@@ -5,7 +5,7 @@ ghost use Rattle.tools.specs.Gets.{mode_named, get_len, get_reg, get_bus, get_wo
 ghost use Rattle.tools.specs.Grammars.{read_at};
 ghost use Rattle.tools.specs.Readers.{texts, one_at};
 
-use crate::command::Cmd;
+use crate::command::{Cmd, ToolCmd};
 use crate::fault::WordRefused;
 use crate::options::{address_at, bus_at, byte_at, options};
 use crate::reader::{is_past, is_text, number_at, word_at};
@@ -92,7 +92,7 @@ fn read_len(words: &[&[u8]], at: u16, get: Get, mode: (GetMode, bool)) -> Result
         ..get
     };
     if is_past(words, at) {
-        return Ok(Cmd::Get(get));
+        return Ok(Cmd::Tool(ToolCmd::Get(get)));
     }
     match mode {
         (GetMode::I2cBlock, false) => {
@@ -100,7 +100,7 @@ fn read_len(words: &[&[u8]], at: u16, get: Get, mode: (GetMode, bool)) -> Result
             if !is_past(words, at + 1) {
                 return Err(WordRefused(at + 1));
             }
-            Ok(Cmd::Get(Get { len, ..get }))
+            Ok(Cmd::Tool(ToolCmd::Get(Get { len, ..get })))
         }
         _ => Err(WordRefused(at)),
     }
@@ -114,12 +114,12 @@ fn read_reg(words: &[&[u8]], at: u16, get: Get) -> Result<Cmd, WordRefused>
     ensures { result ≡ read_at (get_reg get.force get.bus get.addr) (texts words.now) at }
 {
     if is_past(words, at) {
-        return Ok(Cmd::Get(get));
+        return Ok(Cmd::Tool(ToolCmd::Get(get)));
     }
     let reg = Some(byte_at(words, at)?);
     let get = Get { reg, ..get };
     if is_past(words, at + 1) {
-        return Ok(Cmd::Get(get));
+        return Ok(Cmd::Tool(ToolCmd::Get(get)));
     }
     let mode = mode_at(words, at + 1)?;
     read_len(words, at + 2, get, mode)

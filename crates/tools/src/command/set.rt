@@ -8,7 +8,7 @@ ghost use Rattle.tools.specs.Numbers.{number_in};
 ghost use Rattle.tools.specs.Readers.{texts, one_at, Gives};
 ghost use Rattle.tools.specs.Sets.{send_mode, word_mode, block_mode, byte_mode, mode_or, is_short, first_piece, second_piece, block_piece, set_block, set_byte, set_number, set_values, set_reg, set_bus, set_words, set_to, set_by, AreOfMode, IsSetInRange, mode_of, first_value, set_op, set_run};
 
-use crate::command::Cmd;
+use crate::command::{Cmd, ToolCmd};
 use crate::fault::{LineFault, WordRefused};
 use crate::lists::{Octets, Words};
 use crate::number::number_in;
@@ -193,7 +193,7 @@ fn end(
     if !is_past(words, at) {
         return Err(LineFault::Word(at));
     }
-    Ok(Cmd::Set(Set {
+    Ok(Cmd::Tool(ToolCmd::Set(Set {
         force: head.force,
         bus: head.bus,
         addr: head.addr,
@@ -201,14 +201,14 @@ fn end(
         values,
         mode: Some(mode.0),
         pec: mode.1,
-    }))
+    })))
 }
 
 // A line without MODE.
 fn bare(head: SetHead, values: Words) -> Cmd
     ensures { result ≡ set_to head values None false }
 {
-    Cmd::Set(Set {
+    Cmd::Tool(ToolCmd::Set(Set {
         force: head.force,
         bus: head.bus,
         addr: head.addr,
@@ -216,7 +216,7 @@ fn bare(head: SetHead, values: Words) -> Cmd
         values,
         mode: None,
         pec: false,
-    })
+    }))
 }
 
 // So few bytes are a block of `i` too.

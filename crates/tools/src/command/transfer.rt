@@ -2,13 +2,13 @@
 
 ghost use Rattle.std.specs.Prelude.{◌≡◌, ◌+◌, ◌-◌, ◌<◌, ◌≤◌, ◌==◌, ◌++◌, [], length, None, Some, Ok, IfSome, IfOk, OnOk, MatchResult};
 ghost use Rattle.i2c_base.specs.Addr.{IsTargetAddress};
-ghost use Rattle.tools.specs.Combined.{is_at_sign, before_at, after_at, address_in, length_in, head_with, head_of, step_of, series_of, datum_of, datum_word, counted, data_at, desc_of, message_at, descs_at, combined_bus, combined_words};
+ghost use Rattle.tools.specs.Combined.{is_at_sign, before_at, after_at, address_in, length_in, head_with, head_of, step_of, series_of, datum_of, datum_word, counted, data_at, desc_of, message_at, first_place, descs_at, combined_bus, combined_words};
 ghost use Rattle.tools.specs.Grammars.{read_at};
 ghost use Rattle.tools.specs.Numbers.{number_in};
 ghost use Rattle.tools.specs.Readers.{texts, one_at, Gives, FaultIs};
 ghost use Rattle.tools.specs.Words.{gap_at};
 
-use crate::command::Cmd;
+use crate::command::{Cmd, ToolCmd};
 use crate::fault::{LineFault, WordRefused};
 use crate::lists::{Desc, DescOp, Descs, Octets};
 use crate::number::{byte_in, number_in};
@@ -246,21 +246,23 @@ fn read_message(
     })
 }
 
-// Reads the messages into a list without any.
-fn read_descs(
+/// Reads the messages from a place on into a list without any.
+pub fn read_descs(
     alloc: Global,
     words: &[&[u8]],
-    first: DescPlace,
+    from: u16,
     messages: &mut Descs,
 ) -> Result<(), LineFault>
-    requires near { first.at < 100 }
-    requires few { first.room ≤ MOST_BYTES }
-    requires held { IfSome first.held IsTargetAddress }
+    requires near { from < 100 }
     requires empty { messages.old ≡ [] }
-    ensures { MatchResult result (λ _. descs_at MOST_MESSAGES first [] (texts words.now) ≡ Ok messages.new)
-        (FaultIs (descs_at MOST_MESSAGES first [] (texts words.now))) }
+    ensures { MatchResult result (λ _. descs_at MOST_MESSAGES (first_place from) [] (texts words.now) ≡ Ok messages.new)
+        (FaultIs (descs_at MOST_MESSAGES (first_place from) [] (texts words.now))) }
 {
-    let mut place = first;
+    let mut place = DescPlace {
+        at: from,
+        room: MOST_BYTES as u16,
+        held: None,
+    };
     for _ in 0..MOST_MESSAGES {
         match read_message(alloc, words, place, messages) {
             Ok(next) => place = next,
@@ -281,17 +283,12 @@ fn read_bus(alloc: Global, words: &[&[u8]], at: u16, force: bool) -> Result<Cmd,
 {
     let bus = bus_at(words, at)?;
     let mut messages = Descs::new(alloc);
-    let first = DescPlace {
-        at: at + 1,
-        room: MOST_BYTES as u16,
-        held: None,
-    };
-    match read_descs(alloc, words, first, &mut messages) {
-        Ok(()) => Ok(Cmd::Combined(Combined {
+    match read_descs(alloc, words, at + 1, &mut messages) {
+        Ok(()) => Ok(Cmd::Tool(ToolCmd::Combined(Combined {
             force,
             bus,
             messages,
-        })),
+        }))),
         Err(fault) => Err(fault),
     }
 }

@@ -125,6 +125,8 @@ pub enum HeldOp {
     ReadWord(u8),
     BlockRead(u8),
     I2cBlockRead(u8, BlockLen),
+    ProcCall(u8, u16),
+    BlockProc(u8, HeldBlock<LARGEST_BLOCK>),
 }
 
 impl HeldOp {
@@ -145,6 +147,8 @@ impl HeldOp {
             HeldOp::ReadWord(reg) => SmbOp::ReadWord(*reg),
             HeldOp::BlockRead(reg) => SmbOp::BlockRead(*reg),
             HeldOp::I2cBlockRead(reg, len) => SmbOp::I2cBlockRead(*reg, len.get()),
+            HeldOp::ProcCall(reg, word) => SmbOp::ProcCall(*reg, *word),
+            HeldOp::BlockProc(reg, block) => SmbOp::BlockProc(*reg, block.as_slice()),
         }
     }
 
@@ -155,6 +159,7 @@ impl HeldOp {
     {
         match self {
             HeldOp::BlockRead(_) => usize::from(LARGEST_BLOCK),
+            HeldOp::BlockProc(_, _) => usize::from(LARGEST_BLOCK),
             HeldOp::I2cBlockRead(_, len) => usize::from(len.get()),
             _ => 0,
         }
