@@ -1,17 +1,16 @@
 -- What is so of each line of a driver: its transfers are within the limits where its fields are in their ranges, and what it prints is
 -- lines of a section.
-use Rattle.std.proofs.Common.{◌≡◌, ℕ, zero, suc, ◌+◌, ◌*◌, ◌/◌, ◌%◌, ◌^◌, ◌<◌, ◌≤◌, inl, inr, Bool, true, false, cond, List, [], ◌∷◌, ◌++◌, length, map, zip, take, drop, codes, get_or, Option, Some, None, Ok, Err, refl, sym, ap, subst, arith}
-use Rattle.std.specs.Prelude.{All, slice_get, slice_index_or, ℤ, pos, negsuc, neg_ℤ, ◌*ℤ◌, ◌==◌, ◌&&◌, Result}
+use Rattle.std.proofs.Common.{◌≡◌, ℕ, zero, suc, ◌+◌, ◌*◌, ◌/◌, ◌%◌, ◌^◌, ◌<◌, ◌≤◌, inl, inr, true, false, cond, List, [], ◌∷◌, ◌++◌, length, map, zip, take, drop, codes, get_or, Option, Some, None, Ok, Err, refl, sym, ap, subst, arith}
+use Rattle.std.specs.Prelude.{All, slice_get, slice_index_or, ℤ, pos, negsuc, neg_ℤ, ◌*ℤ◌, ◌==◌, Result}
 use Rattle.std.specs.Fmt.{decimal, digits, digits_onto, digit_glyph, signed_decimal}
-use Rattle.std.specs.List.{cons_option, filter_map}
 use Rattle.std.specs.Int.{cast_unsigned, w16}
 use Rattle.std.proofs.Math.IntN.{negsuc-*ℤ-pos}
 use Rattle.std.proofs.lemmas.Bool.Decides.{leb_tells, nat_tests}
-use Rattle.std.proofs.lemmas.List.Elements.{All-nil, All-cons, All-head, All-tail}
+use Rattle.std.proofs.lemmas.List.Elements.{All-nil, All-cons}
 use Rattle.bus_journal.specs.Reports.{IsLine, IsSectionLine}
 use Rattle.bus_journal.proofs.LineFeeds.{decimal-line, line-append, two_digits-line}
 use Rattle.bus_spec.specs.Lines.{errno_text, joined, spaced, spaced_digits, two_digits}
-use Rattle.i2c_base.specs.Board.{BoardView, DeviceView}
+use Rattle.i2c_base.specs.Board.{BoardView}
 use Rattle.i2c_base.specs.Bytes.{AreBytes}
 use Rattle.i2c_base.specs.declared.errno.Errno.{Errno}
 use Rattle.i2c_base.specs.declared.errno.Errno.TheVariants as errno
@@ -20,27 +19,30 @@ use Rattle.i2c_base.specs.declared.reply.Reply.TheVariants as reply
 use Rattle.smb_emul.specs.Calls.{messages_of_call, value_of_call}
 use Rattle.i2c_base.specs.declared.board.Size.{Size}
 use Rattle.i2c_spec.specs.Eeprom.{size_of_eeprom}
-use Rattle.i2c_spec.specs.Plain.{IsPlainDevice}
 use Rattle.smb_emul.specs.Value as value
 use Rattle.smb_emul.specs.Value.{ValueView}
 use Rattle.smb_emul.specs.declared.call.SmbFail.{SmbFail}
 use Rattle.smb_emul.specs.declared.call.SmbFail.TheVariants as fail
+use Rattle.tools.specs.DriverLines.{IsDriverInRange}
+use Rattle.tools.specs.Lm75Lines.{IsMilli}
+use Rattle.tools.specs.declared.command.driver.DriverCmd.{DriverCmd}
+use Rattle.tools.specs.declared.command.driver.DriverCmd.TheVariants as driver
 use Rattle.tools.proofs.TableLemmas.{rows_section}
 use Rattle.tools.proofs.TransferLemmas.{IsAsk, call_asks, short_byte, short_bytes, word_bytes}
 use Rattle.tools.proofs.ValueLemmas.{others, result_line}
 use Rattle.i2c_drivers.specs.At24.{failure_of, read_by, read_run, unless_failed, write_by, write_run}
-use Rattle.i2c_drivers.specs.Bound.{eeprom_at, is_sensor, sensor_at, sensor_in, sensors_of}
-use Rattle.i2c_drivers.specs.Lm75.{IsMilli, milli_of, outcome_text, pointer_of, raw_of, read_call, reading_text, sensor_read_run, sensor_write_run, swapped, value_text, write_call, written_text}
-use Rattle.i2c_drivers.specs.Laws.{IsInRange, IsNear, AsksWithinLimits, NoLineIsJournal}
+use Rattle.i2c_drivers.specs.Bound.{eeprom_at, sensor_at}
+use Rattle.i2c_drivers.specs.Lm75.{milli_of, outcome_text, pointer_of, raw_of, read_call, reading_text, sensor_read_run, sensor_write_run, swapped, value_text, write_call, written_text}
+use Rattle.i2c_drivers.specs.Laws.{IsInRange, AsksWithinLimits, NoLineIsJournal}
 use Rattle.i2c_drivers.specs.Pages.{PageReadView, PageWriteView}
 use Rattle.i2c_drivers.specs.Rows.{byte_lines, bytes_read}
-use Rattle.i2c_drivers.specs.Runs.{dialogue_of}
+use Rattle.i2c_drivers.specs.Runs.{dialogue_of, driver_run}
 use Rattle.i2c_drivers.specs.Sensors.{line_of, sensor_line, sensor_name, sensor_transfer}
 use Rattle.i2c_drivers.specs.declared.at24.At24Run.TheVariants as at24
 use Rattle.i2c_drivers.specs.declared.bound.Sensor.{Sensor}
 use Rattle.i2c_drivers.specs.declared.lm75.Lm75Run.TheVariants as lm75
-use Rattle.i2c_drivers.specs.declared.lm75.RegName.{RegName}
-use Rattle.i2c_drivers.specs.declared.lm75.RegName.TheVariants.{Temp, Hyst, Max}
+use Rattle.tools.specs.declared.command.driver.lm75.RegName.{RegName}
+use Rattle.tools.specs.declared.command.driver.lm75.RegName.TheVariants.{Temp, Hyst, Max}
 use Rattle.i2c_drivers.specs.declared.run.DriverRun.{DriverRun}
 use Rattle.i2c_drivers.specs.declared.run.DriverRun.TheVariants as run
 use Rattle.i2c_drivers.proofs.PageLemmas.{read_asks, write_asks}
@@ -60,28 +62,28 @@ pointer_small Temp = omega arith
 pointer_small Hyst = omega arith
 pointer_small Max = omega arith
 
-pub reading_asks : (s : Sensor) (which : RegName) → s.addr ≤ 119 → IsAsk (messages_of_call (read_call s which))
-reading_asks s which near =
-    call_asks (read_call s which) near (short_byte (pointer_of which) (pointer_small which)) (omega arith, omega arith) (omega arith)
+pub reading_asks : (s : Sensor) (which : RegName) → IsAsk (messages_of_call (read_call s which))
+reading_asks s which =
+    call_asks (read_call s which) (λ e. absurd cc) (short_byte (pointer_of which) (pointer_small which)) (omega arith, omega arith) (omega arith)
 
-writing_asks : (s : Sensor) (which : RegName) (word : ℕ) → s.addr ≤ 119 → word < 2 ^ 16 → IsAsk (messages_of_call (write_call s which word))
-writing_asks s which word near small =
-    call_asks (write_call s which word) near
+writing_asks : (s : Sensor) (which : RegName) (word : ℕ) → word < 2 ^ 16 → IsAsk (messages_of_call (write_call s which word))
+writing_asks s which word small =
+    call_asks (write_call s which word) (λ e. absurd cc)
     (short_bytes (pointer_of which) _ (pointer_small which) (word_bytes word small) (omega arith)) tt (omega arith)
 
-sensors_ask : (ss : List Sensor) (k : ℕ) → All IsNear ss → k < length ss → IsAsk (sensor_transfer (slice_get ss k))
-sensors_ask [] k near within = absurd (omega (arith, within))
-sensors_ask (s ∷ ss) zero near within = reading_asks s Temp (All-head IsNear s ss near)
-sensors_ask (s ∷ ss) (suc k) near within = sensors_ask ss k (All-tail IsNear s ss near) (omega (arith, within))
+sensors_ask : (ss : List Sensor) (k : ℕ) → k < length ss → IsAsk (sensor_transfer (slice_get ss k))
+sensors_ask [] k within = absurd (omega (arith, within))
+sensors_ask (s ∷ ss) zero within = reading_asks s Temp
+sensors_ask (s ∷ ss) (suc k) within = sensors_ask ss k (omega (arith, within))
 
 pub asks : (r : DriverRun) → IsInRange r → AsksWithin r
 asks (run.At24 (at24.Refused e)) is k within = absurd (omega arith)
 asks (run.At24 (at24.Reads r)) is k within = read_asks r is k within
 asks (run.At24 (at24.Writes w)) is k within = write_asks w is.0 is.1 k within
 asks (run.Lm75 (lm75.Refused e)) is k within = absurd (omega arith)
-asks (run.Lm75 (lm75.Reads s which)) is k within = reading_asks s which is
-asks (run.Lm75 (lm75.Writes s which word)) is k within = writing_asks s which word is.0 is.1
-asks (run.Sensors ss) is k within = sensors_ask ss k is within
+asks (run.Lm75 (lm75.Reads s which)) is k within = reading_asks s which
+asks (run.Lm75 (lm75.Writes s which word)) is k within = writing_asks s which word is
+asks (run.Sensors ss) is k within = sensors_ask ss k within
 
 -- ---- its lines
 
@@ -244,12 +246,12 @@ pub write_opened : (b : BoardView) (bus addr offset : ℕ) (bytes : List ℕ) �
     → IsInRange (run.At24 (write_run b bus addr offset bytes))
 write_opened b bus addr offset bytes some few each = write_range (eeprom_at b bus addr) bus addr offset bytes some few each
 
-pub sensor_read_opened : (b : BoardView) (bus addr : ℕ) (which : RegName) → addr ≤ 119
+pub sensor_read_opened : (b : BoardView) (bus addr : ℕ) (which : RegName)
     → IsInRange (run.Lm75 (sensor_read_run b bus addr which))
-sensor_read_opened b bus addr which near =
+sensor_read_opened b bus addr which =
     elim (sensor_at b bus addr) as
     (λ t. IsInRange (run.Lm75 (cond t (lm75.Reads (record { bus = bus; addr = addr }) which) (lm75.Refused errno.Enodev)))) [
-      | true ↦ near
+      | true ↦ tt
       | false ↦ tt
     ]
 
@@ -269,27 +271,20 @@ raw_small (negsuc n) is = below_small (suc n / 500)
 word_small : (z : ℤ) → IsMilli z → swapped (raw_of z) < 2 ^ 16
 word_small z is = omega (arith, raw_small z is)
 
-pub sensor_write_opened : (b : BoardView) (bus addr : ℕ) (which : RegName) (milli : ℤ) → addr ≤ 119 → IsMilli milli
+pub sensor_write_opened : (b : BoardView) (bus addr : ℕ) (which : RegName) (milli : ℤ) → IsMilli milli
     → IsInRange (run.Lm75 (sensor_write_run b bus addr which milli))
-sensor_write_opened b bus addr which milli near is =
+sensor_write_opened b bus addr which milli is =
     let word : ℕ = swapped (raw_of milli) in
     elim (sensor_at b bus addr) as
     (λ t. IsInRange (run.Lm75 (cond t (lm75.Writes (record { bus = bus; addr = addr }) which word) (lm75.Refused errno.Enodev)))) [
-      | true ↦ (near, word_small milli is)
+      | true ↦ word_small milli is
       | false ↦ tt
     ]
 
--- the induction goes over the devices
-some_near : (b : Bool) (d : DeviceView) (ss : List Sensor) → d.addr ≤ 119 → All IsNear ss
-    → All IsNear (cons_option (cond b (Some (record { bus = d.bus; addr = d.addr })) None) ss)
-some_near true d ss near each = All-cons IsNear (record { bus = d.bus; addr = d.addr }) ss near each
-some_near false d ss near each = each
-
-all_near : (ds : List DeviceView) → All IsPlainDevice ds → All IsNear (filter_map sensor_in ds)
-all_near [] plain = All-nil IsNear
-all_near (d ∷ ds) plain =
-    some_near (d.bound && is_sensor d.kind) d (filter_map sensor_in ds) (All-head IsPlainDevice d ds plain).address.1
-    (all_near ds (All-tail IsPlainDevice d ds plain))
-
-pub sensors_opened : (b : BoardView) → All IsPlainDevice b.devices → IsInRange (run.Sensors (sensors_of b))
-sensors_opened b plain = all_near b.devices plain
+-- of each line
+pub opened : (b : BoardView) (c : DriverCmd) → IsDriverInRange c → IsInRange (driver_run b c)
+opened b (driver.At24Read r) is = read_opened b r.bus r.addr r.offset r.count is.some
+opened b (driver.At24Write w) is = write_opened b w.bus w.addr w.offset w.bytes is.some is.few is.bytes
+opened b (driver.Lm75Read r) is = sensor_read_opened b r.bus r.addr r.which
+opened b (driver.Lm75Write w) is = sensor_write_opened b w.bus w.addr w.which w.milli is.milli
+opened b driver.Sensors is = tt

@@ -12,7 +12,7 @@ use Rattle.tools.proofs.CallLemmas.{some_same}
 use Rattle.i2c_drivers.specs.Lm75.{read_call}
 use Rattle.i2c_drivers.specs.Sensors.{line_of, senses, sensor_line, sensor_transfer}
 use Rattle.i2c_drivers.specs.declared.bound.Sensor.{Sensor}
-use Rattle.i2c_drivers.specs.declared.lm75.RegName.TheVariants.{Temp}
+use Rattle.tools.specs.declared.command.driver.lm75.RegName.TheVariants.{Temp}
 
 -- ---- replies
 

@@ -1,8 +1,7 @@
 -- What is so of the lines of drivers, whatever the chip, the place and the replies.
-use Rattle.std.specs.Prelude.{⊤, ◌≡◌, ℕ, ◌+◌, ◌-◌, ◌/◌, ◌^◌, ◌<◌, ◌≤◌, min, All, List}
+use Rattle.std.specs.Prelude.{⊤, ◌≡◌, ℕ, ◌+◌, ◌-◌, ◌/◌, ◌^◌, ◌<◌, min, All, List}
 use Rattle.bus_journal.specs.Reports.{IsSectionLine}
 use Rattle.i2c_base.specs.Bytes.{AreBytes}
-use Rattle.i2c_base.specs.Limits.{LAST_ADDRESS}
 use Rattle.i2c_base.specs.Transfer.{IsTransfer}
 use Rattle.i2c_base.specs.declared.reply.Reply.{Reply}
 use Rattle.i2c_spec.specs.Eeprom.{page_of_eeprom}
@@ -11,7 +10,6 @@ use Rattle.i2c_drivers.specs.At24.{read_begin, read_pieces, read_size, write_beg
 use Rattle.i2c_drivers.specs.Pages.{IsPageRead, IsPageWrite, PageReadView, PageWriteView}
 use Rattle.i2c_drivers.specs.Runs.{dialogue_of}
 use Rattle.i2c_drivers.specs.declared.at24.At24Run.TheVariants as at24
-use Rattle.i2c_drivers.specs.declared.bound.Sensor.{Sensor}
 use Rattle.i2c_drivers.specs.declared.lm75.Lm75Run.TheVariants as lm75
 use Rattle.i2c_drivers.specs.declared.run.DriverRun.{DriverRun}
 use Rattle.i2c_drivers.specs.declared.run.DriverRun.TheVariants as run
@@ -38,18 +36,15 @@ PiecesAreTheRead = (r : PageReadView) → (piece : ℕ) → piece < read_pieces 
 
 -- ---- all lines
 
--- the numbers of a line are those that its types have
-abbrev pub IsNear : Sensor → Type 0
-IsNear s = s.addr ≤ LAST_ADDRESS
-
+-- the numbers of a line are those that its types have; addresses don't matter, since no call has an error code
 abbrev pub IsInRange : DriverRun → Type 0
 IsInRange (run.At24 (at24.Refused e)) = ⊤
 IsInRange (run.At24 (at24.Reads r)) = IsPageRead r
 IsInRange (run.At24 (at24.Writes w)) = IsPageWrite w × AreBytes w.bytes
 IsInRange (run.Lm75 (lm75.Refused e)) = ⊤
-IsInRange (run.Lm75 (lm75.Reads s which)) = IsNear s
-IsInRange (run.Lm75 (lm75.Writes s which word)) = IsNear s × (word < 2 ^ 16)
-IsInRange (run.Sensors ss) = All IsNear ss
+IsInRange (run.Lm75 (lm75.Reads s which)) = ⊤
+IsInRange (run.Lm75 (lm75.Writes s which word)) = word < 2 ^ 16
+IsInRange (run.Sensors ss) = ⊤
 
 -- each of its transfers is within the limits
 abbrev pub AsksWithinLimits : Type 0

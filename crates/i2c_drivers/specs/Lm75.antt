@@ -1,5 +1,5 @@
 -- The driver of temperature sensors (Linux lm75; SMBus 3.2, section 6.5, for the calls).
-use Rattle.std.specs.Prelude.{ℕ, ◌+◌, ◌*◌, ◌/◌, ◌%◌, ℤ, pos, negsuc, ◌*ℤ◌, ◌≤ℤ◌, int_div, true, false, List, [], ◌∷◌, slice_index_or, Result, Ok, Err, codes, if◌then◌else◌}
+use Rattle.std.specs.Prelude.{ℕ, ◌+◌, ◌*◌, ◌/◌, ◌%◌, ℤ, pos, ◌*ℤ◌, int_div, true, false, List, [], ◌∷◌, slice_index_or, Result, Ok, Err, codes, if◌then◌else◌}
 use Rattle.std.specs.Fmt.{signed_decimal}
 use Rattle.std.specs.Int.{cast_signed, cast_unsigned, int_div_euclid, w16}
 use Rattle.bus_spec.specs.Lines.{errno_text}
@@ -21,8 +21,8 @@ use Rattle.i2c_drivers.specs.Refusals.{refused}
 use Rattle.i2c_drivers.specs.declared.bound.Sensor.{Sensor}
 use Rattle.i2c_drivers.specs.declared.lm75.Lm75Run.{Lm75Run}
 use Rattle.i2c_drivers.specs.declared.lm75.Lm75Run.TheVariants as run
-use Rattle.i2c_drivers.specs.declared.lm75.RegName.{RegName}
-use Rattle.i2c_drivers.specs.declared.lm75.RegName.TheVariants.{Temp, Hyst, Max}
+use Rattle.tools.specs.declared.command.driver.lm75.RegName.{RegName}
+use Rattle.tools.specs.declared.command.driver.lm75.RegName.TheVariants.{Temp, Hyst, Max}
 
 -- ---- numbers
 
@@ -37,11 +37,6 @@ milli_of raw = int_div_euclid (cast_signed w16 raw) (pos 128) *ℤ pos 500
 -- the register that stands for these
 abbrev pub raw_of : ℤ → ℕ
 raw_of milli = cast_unsigned w16 (int_div milli (pos 500) *ℤ pos 128)
-
--- a register holds from -128 degrees to 127 and a half
-pub record IsMilli (milli : ℤ) : Type 0 where
-  pub low : negsuc 127999 ≤ℤ milli
-  pub high : milli ≤ℤ pos 127500
 
 -- ---- calls
 

@@ -2,6 +2,7 @@
 use Rattle.std.specs.Prelude.{ℕ, ◌+◌, ◌≤◌, nat_le, Bool, List, length}
 use Rattle.i2c_base.specs.declared.board.Size.{Size}
 use Rattle.i2c_spec.specs.Eeprom.{size_of_eeprom}
+use Rattle.tools.specs.At24Lines.{MOST_WRITTEN}
 use Rattle.i2c_drivers.specs.declared.at24.Eeprom.{Eeprom}
 
 -- so many bytes from a place on
@@ -23,10 +24,6 @@ fits_in size offset count = nat_le (offset + count) (size_of_eeprom size)
 pub record IsPageRead (r : PageReadView) : Type 0 where
   pub some : 1 ≤ r.count
   pub within : r.offset + r.count ≤ size_of_eeprom r.of.size
-
--- a write has 1 to 64 bytes
-abbrev pub MOST_WRITTEN : ℕ
-MOST_WRITTEN = 64
 
 pub record IsPageWrite (w : PageWriteView) : Type 0 where
   pub some : 1 ≤ length w.bytes

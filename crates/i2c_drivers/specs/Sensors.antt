@@ -9,7 +9,7 @@ use Rattle.tools.specs.Dialogues.{Dialogue}
 use Rattle.tools.specs.Says.{no_transfer}
 use Rattle.i2c_drivers.specs.Lm75.{read_call, reading_text}
 use Rattle.i2c_drivers.specs.declared.bound.Sensor.{Sensor}
-use Rattle.i2c_drivers.specs.declared.lm75.RegName.TheVariants.{Temp}
+use Rattle.tools.specs.declared.command.driver.lm75.RegName.TheVariants.{Temp}
 
 -- the transfer to a sensor
 abbrev pub sensor_transfer : Option Sensor → TransferView

@@ -5,7 +5,8 @@ ghost use Rattle.std.specs.List.{flat_map};
 ghost use Rattle.bus_journal.specs.Reports.{ended};
 ghost use Rattle.i2c_base.specs.Replies.{reply_by};
 ghost use Rattle.i2c_drivers.specs.At24.{at24_dialogue, at24_repeats, failure_of, is_repeated, told_as, is_tried_again, page_reads, page_writes, place_bytes, read_pieces, read_run, tries_skipped, write_begin, write_bytes, write_end, write_pieces, write_run};
-ghost use Rattle.i2c_drivers.specs.Pages.{MOST_WRITTEN, fits_in};
+ghost use Rattle.i2c_drivers.specs.Pages.{fits_in};
+ghost use Rattle.tools.specs.At24Lines.{MOST_READ, MOST_WRITTEN};
 ghost use Rattle.tools.specs.Dialogues.{MOST_PLACES, AreAlike, AreReplies, behind};
 
 use crate::bound::bound_eeprom;
@@ -286,7 +287,7 @@ impl At24Run {
     /// A read of some bytes from a place on. It is refused with ENODEV where no EEPROM that a driver is bound to stands
     /// there, and else with EINVAL where it passes the size.
     pub fn open_read(board: &Board, bus: u16, addr: Addr, offset: u16, count: u16) -> Self
-        requires { (1 ≤ count) × (count ≤ 32768) }
+        requires { (1 ≤ count) × (count ≤ MOST_READ) }
         ensures { result ≡ read_run board.now bus addr offset count }
     {
         match bound_eeprom(board, bus, addr) {

@@ -15,7 +15,7 @@ ghost use Rattle.i2c_drivers.specs.Lm75.{milli_of, raw_of, register_reads, senso
 ghost use Rattle.i2c_drivers.specs.Sensors.{senses};
 ghost use Rattle.i2c_drivers.specs.declared.at24.At24Run.TheVariants.{Reads, Writes, Refused};
 ghost use Rattle.i2c_drivers.specs.declared.lm75.Lm75Run.TheVariants.{Refused as NoSensor, Writes as WritesRegister};
-ghost use Rattle.i2c_drivers.specs.declared.lm75.RegName.TheVariants.{Temp, Hyst, Max};
+ghost use Rattle.tools.specs.declared.command.driver.lm75.RegName.TheVariants.{Temp, Hyst, Max};
 
 /// Nine bytes from place 4 on of pages of 8 are pieces of 4 and 5, and three from place 62 on of pages of 64 are pieces of 2 and 1.
 pub fn a_write_stops_at_the_ends_of_pages()

@@ -37,6 +37,6 @@ pub use laws::{
     a_piece_keeps_to_its_page, each_transfer_is_within_the_limits, no_line_is_journal,
     the_pieces_are_the_read, the_pieces_are_the_write,
 };
-pub use lm75::{Lm75Run, RegName};
+pub use lm75::Lm75Run;
 pub use run::DriverRun;
 pub use sensors::Sensors;

@@ -7,7 +7,8 @@ ghost use Rattle.i2c_base.specs.Fitting.{Fits};
 ghost use Rattle.i2c_base.specs.Replies.{reply_by};
 ghost use Rattle.smb_emul.specs.Calls.{messages_of_call};
 ghost use Rattle.smb_emul.specs.Value.{outcome_seen};
-ghost use Rattle.i2c_drivers.specs.Lm75.{IsMilli, call_to, lm75_dialogue, milli_of, outcome_text, pointer_of, raw_of, read_call, reading_text, register_reads, register_writes, sensor_read_run, sensor_write_run, swapped, write_call, written_text};
+ghost use Rattle.tools.specs.Lm75Lines.{IsMilli};
+ghost use Rattle.i2c_drivers.specs.Lm75.{call_to, lm75_dialogue, milli_of, outcome_text, pointer_of, raw_of, read_call, reading_text, register_reads, register_writes, sensor_read_run, sensor_write_run, swapped, write_call, written_text};
 ghost use Rattle.tools.specs.Dialogues.{MOST_PLACES, AreAlike, AreReplies, behind};
 
 use crate::bound::{Sensor, bound_sensor};
@@ -15,15 +16,7 @@ use crate::text::{MOST_OF_ERRNO, push_errno, push_milli, push_refusal, refusal_s
 use i2c_base::{Addr, Errno, ReplyHead, Transfer};
 use i2c_board::Board;
 use smb_emul::{SmbCall, SmbFail, SmbOp, SmbValue, put_messages, value_read};
-use tools::{Text, Window};
-
-/// A register of a sensor: the temperature, the hysteresis, and the limit, which is called `max`.
-#[derive(Clone, Copy)]
-pub enum RegName {
-    Temp,
-    Hyst,
-    Max,
-}
+use tools::{RegName, Text, Window};
 
 /// A line `lm75 read` or `lm75 write` as it runs.
 #[derive(Clone, Copy)]

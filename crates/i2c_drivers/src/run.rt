@@ -1,17 +1,22 @@
 //! The lines of the drivers as they run, a row a driver.
 
-ghost use Rattle.std.specs.Prelude.{◌≡◌, ℕ, true, List, ◌+◌, ◌-◌, ◌<◌, ◌≤◌, ◌++◌};
+ghost use Rattle.std.specs.Prelude.{◌≡◌, ℕ, true, List, ◌+◌, ◌-◌, ◌<◌, ◌≤◌, ◌++◌, IfOk};
 ghost use Rattle.std.specs.List.{flat_map};
 ghost use Rattle.bus_journal.specs.Reports.{ended};
 ghost use Rattle.i2c_base.specs.Replies.{reply_by};
-ghost use Rattle.i2c_drivers.specs.Runs.{dialogue_of, repeats};
+ghost use Rattle.i2c_drivers.specs.At24.{write_run};
+ghost use Rattle.i2c_drivers.specs.Runs.{dialogue_of, driver_run, repeats};
 ghost use Rattle.tools.specs.Dialogues.{MOST_PLACES, AreAlike, AreReplies, behind};
+ghost use Rattle.tools.specs.At24Lines.{IsWriteInRange};
+ghost use Rattle.tools.specs.DriverLines.{IsDriverInRange};
 
 use crate::at24::At24Run;
 use crate::lm75::Lm75Run;
 use crate::sensors::Sensors;
-use i2c_base::{ReplyHead, Transfer};
-use tools::{Text, Window};
+use i2c_base::{NoMemory, ReplyHead, Transfer};
+use i2c_board::Board;
+use std::alloc::Global;
+use tools::{At24Write, DriverCmd, Text, Window};
 
 /// A line of a driver as it runs: what the board's answers leave of it. How far it has come, and the replies, are its caller's.
 #[derive(Drop)]
@@ -24,7 +29,50 @@ pub enum DriverRun {
     Sensors(Sensors),
 }
 
+// A write that begins over a board.
+fn open_write(board: &Board, write: At24Write) -> At24Run
+    requires { IsWriteInRange write }
+    ensures { result ≡ write_run board.now write.bus write.addr write.offset write.bytes }
+{
+    let At24Write {
+        bus,
+        addr,
+        offset,
+        bytes,
+    } = write;
+    At24Run::open_write(board, bus, addr, offset, bytes)
+}
+
 impl DriverRun {
+    /// A line that begins over a board. Only `sensors` takes memory.
+    pub fn open(alloc: Global, board: &Board, line: DriverCmd) -> Result<Self, NoMemory>
+        requires { IsDriverInRange line }
+        ensures { IfOk result (λ r. r ≡ driver_run board.now line) }
+    {
+        let run = match line {
+            DriverCmd::At24Read(read) => DriverRun::At24(At24Run::open_read(
+                board,
+                read.bus,
+                read.addr,
+                read.offset,
+                read.count,
+            )),
+            DriverCmd::At24Write(write) => DriverRun::At24(open_write(board, write)),
+            DriverCmd::Lm75Read(read) => {
+                DriverRun::Lm75(Lm75Run::open_read(board, read.bus, read.addr, read.which))
+            }
+            DriverCmd::Lm75Write(write) => DriverRun::Lm75(Lm75Run::open_write(
+                board,
+                write.bus,
+                write.addr,
+                write.which,
+                write.milli,
+            )),
+            DriverCmd::Sensors => DriverRun::Sensors(Sensors::open(alloc, board)?),
+        };
+        Ok(run)
+    }
+
     /// How many places it has.
     pub fn places(&self) -> u16
         ensures value { result ≡ (dialogue_of self.now).places }

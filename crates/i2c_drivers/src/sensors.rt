@@ -9,18 +9,17 @@ ghost use Rattle.smb_emul.specs.Calls.{messages_of_call};
 ghost use Rattle.i2c_drivers.specs.Bound.{sensors_of};
 ghost use Rattle.i2c_drivers.specs.Lm75.{read_call};
 ghost use Rattle.i2c_drivers.specs.Sensors.{line_of, senses, sensor_line, sensor_name};
-ghost use Rattle.i2c_drivers.specs.declared.lm75.RegName.TheVariants.{Temp};
+ghost use Rattle.tools.specs.declared.command.driver.lm75.RegName.TheVariants.{Temp};
 ghost use Rattle.tools.specs.Dialogues.{MOST_PLACES, AreReplies, behind};
 
 use crate::bound::{Sensor, bound_sensors};
-use crate::lm75::RegName;
 use crate::text::push_number;
 use bus_journal::hex_digit;
 use i2c_base::{NoMemory, ReplyHead, Transfer};
 use i2c_board::Board;
 use std::alloc::Global;
 use std::marker::Model;
-use tools::{Text, Window};
+use tools::{RegName, Text, Window};
 
 /// The sensors of a board that a driver is bound to. A contract sees the list of them.
 #[derive(Drop)]

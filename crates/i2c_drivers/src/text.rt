@@ -5,7 +5,7 @@ ghost use Rattle.std.specs.Fmt.{decimal, signed_decimal};
 ghost use Rattle.std.specs.List.{flat_map};
 ghost use Rattle.bus_journal.specs.Reports.{ended};
 ghost use Rattle.bus_spec.specs.Lines.{errno_text};
-ghost use Rattle.i2c_drivers.specs.Lm75.{IsMilli};
+ghost use Rattle.tools.specs.Lm75Lines.{IsMilli};
 ghost use Rattle.i2c_drivers.specs.Refusals.{refused};
 
 use bus_journal::errno_name;
