@@ -15,12 +15,13 @@ use Rattle.tools.specs.Words.{begins_with_word, onto_first}
 use Rattle.tools.specs.Splits.{is_blank, begins_feed, words_of, behind_space, joined_words, lines_of}
 use Rattle.tools.specs.declared.command.Cmd.{Cmd}
 use Rattle.tools.specs.Dialogues.{place_after, is_over}
-use Rattle.tools.proofs.CommandLemmas.{answers}
-use Rattle.tools.proofs.FormLemmas.{HasSectionLines}
+use Rattle.dev_handle.specs.Handles.{HandlesView}
 use Rattle.caller_core.specs.Turns.{Answered, Progress, talk, quiet, quiet_front, turn_to, over_with, replied_to, replied, progress}
 use Rattle.caller_core.specs.Scripts.{Place, command_of, at_most, lines_read, behind_commands, behind_line_read, commands_or_none, script_read, commands_of, command_text}
 use Rattle.caller_core.specs.Sections.{SectionsHaveNoJournalLine}
+use Rattle.caller_core.specs.Runs.{handles_behind}
 use Rattle.caller_core.specs.View.{CommandView, ScriptView}
+use Rattle.caller_core.proofs.CommandLines.{HasSectionLines, answers}
 use Rattle.std.proofs.lemmas.Bool.{or_parts}
 
 -- ---- no line feed stands in a line, its words, and what is printed of them
@@ -77,30 +78,30 @@ record HasLines (c : CommandView) : Type 0 where
   words : IsLine c.echo
   answer : HasSectionLines c.run
 
-behind_one : (b : BoardView) (line : List ℕ) (c : Cmd) (more : Result (List CommandView) Place) (cs : List CommandView) → IsLine line
+behind_one : (b : BoardView) (v : HandlesView) (line : List ℕ) (c : Cmd) (more : Result (List CommandView) Place) (cs : List CommandView) → IsLine line
     → ((ds : List CommandView) → more ≡ Ok ds → All HasLines ds)
-    → behind_commands (command_of b line c ∷ []) more ≡ Ok cs → All HasLines cs
-behind_one b line c (Err p) cs is h e = absurd cc
-behind_one b line c (Ok ds) cs is h e =
-    let same : command_of b line c ∷ ds ≡ cs = cc in
+    → behind_commands (command_of b v line c ∷ []) more ≡ Ok cs → All HasLines cs
+behind_one b v line c (Err p) cs is h e = absurd cc
+behind_one b v line c (Ok ds) cs is h e =
+    let same : command_of b v line c ∷ ds ≡ cs = cc in
     let words : IsLine (joined_words (words_of line)) = joined_line (words_of line) (words_are_lines line is) in
-    let has : HasLines (command_of b line c) = record { words = words; answer = answers b c } in
-    subst (All HasLines) same (All-cons HasLines (command_of b line c) ds has (h ds refl))
+    let has : HasLines (command_of b v line c) = record { words = words; answer = answers b v c } in
+    subst (All HasLines) same (All-cons HasLines (command_of b v line c) ds has (h ds refl))
 
-read_lines : (b : BoardView) (number count : ℕ) (ls : List (List ℕ)) (cs : List CommandView) → All IsLine ls
-    → lines_read b number count ls ≡ Ok cs → All HasLines cs
-read_lines b number count [] cs lines e = let same : [] ≡ cs = cc in subst (All HasLines) same (All-nil HasLines)
-read_lines b number count (l ∷ ls) cs lines e =
+read_lines : (b : BoardView) (number count : ℕ) (ls : List (List ℕ)) (v : HandlesView) (cs : List CommandView) → All IsLine ls
+    → lines_read b number count ls v ≡ Ok cs → All HasLines cs
+read_lines b number count [] v cs lines e = let same : [] ≡ cs = cc in subst (All HasLines) same (All-nil HasLines)
+read_lines b number count (l ∷ ls) v cs lines e =
     let more : All IsLine ls = All-tail IsLine l ls lines in
     (elim (at_most count (line_read (block_limit b) l)) as
-    (λ r. behind_line_read b number l r (lines_read b (number + 1) count ls) (lines_read b (number + 1) (count + 1) ls) ≡ Ok cs
+    (λ r. behind_line_read b v number l r (lines_read b (number + 1) count ls v) (lines_read b (number + 1) (count + 1) ls) ≡ Ok cs
     → All HasLines cs) [
       | Err word ↦ λ k. absurd cc
-      | Ok o ↦ (elim o as (λ v. behind_line_read b number l (Ok v) (lines_read b (number + 1) count ls)
+      | Ok o ↦ (elim o as (λ x. behind_line_read b v number l (Ok x) (lines_read b (number + 1) count ls v)
           (lines_read b (number + 1) (count + 1) ls) ≡ Ok cs → All HasLines cs) [
-            | None ↦ λ k. read_lines b (number + 1) count ls cs more k
-            | Some c ↦ λ k. behind_one b l c (lines_read b (number + 1) (count + 1) ls) cs (All-head IsLine l ls lines)
-                (λ ds h. read_lines b (number + 1) (count + 1) ls ds more h) k
+            | None ↦ λ k. read_lines b (number + 1) count ls v cs more k
+            | Some c ↦ λ k. behind_one b v l c (lines_read b (number + 1) (count + 1) ls (handles_behind b v c)) cs (All-head IsLine l ls lines)
+                (λ ds h. read_lines b (number + 1) (count + 1) ls (handles_behind b v c) ds more h) k
           ])
     ]) e
 
@@ -111,7 +112,7 @@ have_lines (Err p) h = All-nil HasLines
 
 commands_have_lines : (s : ScriptView) → All HasLines (commands_of s)
 commands_have_lines s = have_lines (script_read s)
-    (λ cs h. read_lines s.board 1 0 (lines_of s.text) cs (lines_are_lines s.text) h)
+    (λ cs h. read_lines s.board 1 0 (lines_of s.text) [] cs (lines_are_lines s.text) h)
 
 -- ---- those that are over
 

@@ -1,10 +1,10 @@
 -- A script that takes a reply: what it needs for that, and what it keeps.
-use Rattle.std.proofs.Common.{◌≡◌, ℕ, ◌+◌, ◌<◌, ◌≤◌, true, false, List, [], ◌∷◌, ◌++◌, length, drop, get_or, Some, refl, sym, ap, subst, ◌∙◌, arith}
-use Rattle.std.specs.Prelude.{All, slice_get, sum_by}
+use Rattle.std.proofs.Common.{◌≡◌, ℕ, ◌+◌, ◌<◌, ◌≤◌, Bool, true, false, cond, List, [], ◌∷◌, ◌++◌, length, drop, get_or, Option, Some, None, refl, sym, ap, subst, ◌∙◌, arith}
+use Rattle.std.specs.Prelude.{All, IfSome, IsSome, slice_get, sum_by}
 use Rattle.std.proofs.lemmas.List.{length-map, map-append}
 use Rattle.std.proofs.lemmas.Option.{slice_get-get_or}
 use Rattle.i2c_base.specs.Fitting.{Fits}
-use Rattle.i2c_base.specs.Need.{Covers, bytes_given}
+use Rattle.i2c_base.specs.Need.{Covers, Need, bytes_given}
 use Rattle.i2c_base.specs.Transfer.{TransferView}
 use Rattle.i2c_base.specs.declared.reply.Reply.{Reply}
 use Rattle.i2c_base.specs.Replies.{reply_by, most_read}
@@ -16,14 +16,15 @@ use Rattle.tools.specs.Replies.{reply_of, replies_of, most_brought}
 use Rattle.tools.specs.View.{TextView}
 use Rattle.tools.proofs.TransferLemmas.{IsAsk, brings_few}
 use Rattle.caller_core.specs.Callers.{need_at, owed_by}
-use Rattle.caller_core.specs.Kept.{IsCaller}
+use Rattle.caller_core.specs.Kept.{IsCaller, HasRoom}
 use Rattle.caller_core.specs.Turns.{talk, quiet_front, progress, asked_at, sum_left, IsAt}
 use Rattle.caller_core.specs.Scripts.{commands_of, asked_by, command_text, quiet_text, section_text, room_of}
 use Rattle.caller_core.specs.View.{CommandView, ScriptView, CallerView}
+use Rattle.caller_core.specs.declared.totals.Totals.{Totals}
 use Rattle.caller_core.proofs.CommandLemmas.{IsSpoken, commands_are_read, commands_most}
 use Rattle.caller_core.proofs.FairLemmas.{asked_from}
 use Rattle.caller_core.proofs.PlaceLemmas.{asks, turn_asked, not_over, over_past, own_more, fit_more, text_stays, text_goes, stays, goes}
-use Rattle.caller_core.proofs.SumLemmas.{sum_falls}
+use Rattle.caller_core.proofs.SumLemmas.{sum_falls, sum_first}
 
 -- a reply brings the bytes that stand beside its head
 none_there : (bytes : List ℕ) → length bytes ≤ 0 → bytes ≡ []
@@ -57,15 +58,18 @@ pub record IsTaking (cs : List CommandView) (rs : List Reply) (turn : ℕ) (r : 
   pub count : length cs ≤ 1000
   pub within : turn < length cs
 
-module _ (script : ScriptView) (cs : List CommandView) (taken : PackedView ReplyHead) (printed : TextView) (turn from place cost roots : ℕ)
-    (r : Reply) (is : IsCaller script cs taken printed turn from place cost roots) where
+module _ (script : ScriptView) (cs : List CommandView) (taken : PackedView ReplyHead) (printed : TextView) (turn from place : ℕ)
+    (totals : Totals) (r : Reply) (is : IsCaller script cs taken.items printed.bytes turn from place totals) where
   abbrev before : List Reply
   before = replies_of taken.items
 
-  pub taking : (view : CallerView)
-      → record { script = script; taken = before; spare = record { replies = taken.room; bytes = printed.room } } ≡ view
+  -- the room that it has, where it is ready
+  abbrev spare_of : Bool → Need
+  spare_of ready = record { replies = cond ready taken.room 0; bytes = printed.room }
+
+  pub taking : (ready : Bool) (view : CallerView) → record { script = script; taken = before; spare = spare_of ready } ≡ view
       → (t : TransferView) × (asked_by view.script view.taken ≡ Some t) × Fits t r → IsTaking cs before turn r
-  taking view seen asked =
+  taking ready view seen asked =
       let t : TransferView = asked.0 in
       let by_script : asked_at (progress (commands_of script) before) ≡ Some t = subst
       (λ (v : CallerView). asked_by v.script v.taken ≡ Some t) (sym seen) asked.1 in
@@ -80,16 +84,30 @@ module _ (script : ScriptView) (cs : List CommandView) (taken : PackedView Reply
         within = turn_asked cs before turn from place t is.at next;
       }
 
-  -- it has room
-  pub has_place : IsTaking cs before turn r → 0 < taken.room
-  has_place k = omega (arith, is.room, sum_falls (λ t. 1) cs before r k.transfer k.next)
+  -- it is ready, since it has room
+  pub ready_to_take : (ready : Bool) (view : CallerView) → record { script = script; taken = before; spare = spare_of ready } ≡ view
+      → IsTaking cs before turn r → Covers view.spare (owed_by view.script view.taken) → ready ≡ true
+  ready_to_take ready view seen k covers =
+      let owed : sum_left (λ t. 1) (progress (commands_of script) before) ≤ cond ready taken.room 0 =
+      (subst (λ (v : CallerView). Covers v.spare (owed_by v.script v.taken)) (sym seen) covers).replies in
+      let same : sum_left (λ t. 1) (progress (commands_of script) before) ≡ sum_left (λ t. 1) (progress cs before) =
+      ap (λ xs. sum_left (λ t. 1) (progress xs before)) is.whole in
+      (elim ready as (λ b. 1 ≤ cond b taken.room 0 → b ≡ true) [
+        | true ↦ λ h. refl
+        | false ↦ λ h. absurd (omega (arith, h))
+      ]) (omega (arith, owed, same, sum_falls (λ t. 1) cs before r k.transfer k.next))
+
+  -- the reply has room
+  pub has_place : HasRoom cs taken printed turn → IsTaking cs before turn r → 0 < taken.room
+  has_place room k = omega (arith, room.replies, sum_falls (λ t. 1) cs before r k.transfer k.next)
 
   -- .. and so have its bytes
-  pub has_room : IsTaking cs before turn r → (bytes : List ℕ) → bytes ≡ bytes_given r → length bytes ≤ taken.room_bytes
-  has_room k bytes these =
-      omega (arith, ap length these, k.few, is.room_bytes, sum_falls most_brought cs before r k.transfer k.next)
+  pub has_room : HasRoom cs taken printed turn → IsTaking cs before turn r → (bytes : List ℕ) → bytes ≡ bytes_given r
+      → length bytes ≤ taken.room_bytes
+  has_room room k bytes these =
+      omega (arith, ap length these, k.few, room.bytes, sum_falls most_brought cs before r k.transfer k.next)
 
-  module _ (k : IsTaking cs before turn r) (c : CommandView) (there : slice_get cs turn ≡ Some c) where
+  module _ (room : HasRoom cs taken printed turn) (k : IsTaking cs before turn r) (c : CommandView) (there : slice_get cs turn ≡ Some c) where
     fits_here : Fits ((talk c).at place) r
     fits_here =
         let same : k.transfer ≡ (talk c).at place = transfer_same k.transfer ((talk c).at place)
@@ -108,7 +126,7 @@ module _ (script : ScriptView) (cs : List CommandView) (taken : PackedView Reply
           omega (
             arith,
             one,
-            is.room,
+            room.replies,
             sum_falls (λ t. 1) cs before r k.transfer k.next,
             ap (λ (xs : List Reply). sum_left (λ t. 1) (progress cs xs)) now,
           )
@@ -120,7 +138,7 @@ module _ (script : ScriptView) (cs : List CommandView) (taken : PackedView Reply
             room_bytes,
             ap length these,
             k.few,
-            is.room_bytes,
+            room.bytes,
             sum_falls most_brought cs before r k.transfer k.next,
             ap (λ (xs : List Reply). sum_left most_brought (progress cs xs)) now,
           )
@@ -132,7 +150,7 @@ module _ (script : ScriptView) (cs : List CommandView) (taken : PackedView Reply
           (fit_more cs before turn from place c r is.at there fits_here)
 
       pub stays_so : (next : ℕ) → next ≡ behind (talk c) place r → next < (talk c).places
-          → IsCaller script cs then printed turn from next cost roots
+          → IsCaller script cs then.items printed.bytes turn from next totals
       stays_so next to more =
           let no : is_over (talk c) (behind (talk c) place r) ≡ false = ap (λ n. is_over (talk c) n) (sym to) ∙ not_over c next more in
           let at : IsAt cs (before ++ r ∷ []) turn from (behind (talk c) place r) = stays cs before turn from place c r is.at there
@@ -141,22 +159,24 @@ module _ (script : ScriptView) (cs : List CommandView) (taken : PackedView Reply
             whole = is.whole;
             at = subst (λ (xs : List Reply). IsAt cs xs turn from next) (sym now)
                 (subst (λ n. IsAt cs (before ++ r ∷ []) turn from n) (sym to) at);
-            room = room_then;
-            room_bytes = bytes_then;
-            room_text = is.room_text;
             text = is.text ∙ sym (text_stays cs before turn from place c r is.at there no) ∙ ap (λ (xs : List Reply). section_text cs xs)
                 (sym now);
             cost_is = is.cost_is;
             cost_fits = is.cost_fits;
             roots_are = is.roots_are;
+            replies_are = is.replies_are;
+            bytes_are = is.bytes_are;
           }
 
+      pub stays_room : HasRoom cs then printed turn
+      stays_room = record { replies = room_then; bytes = bytes_then; text = room.text }
+
       pub goes_on : (text : TextView) (next end to : ℕ) → next ≡ behind (talk c) place r → (talk c).places ≤ next → end ≡ length then.items
-          → to ≡ turn + 1 + quiet_front (drop (turn + 1) cs) → sum_by room_of (drop to cs) ≤ text.room
+          → to ≡ turn + 1 + quiet_front (drop (turn + 1) cs)
           → text.bytes ≡ (printed.bytes ++ command_text (record { command = c; replies = drop from (replies_of then.items) }))
           ++ quiet_text (drop (turn + 1) cs)
-          → IsCaller script cs then text to end 0 cost roots
-      goes_on text next end to is_next past all is_to enough told =
+          → IsCaller script cs then.items text.bytes to end 0 totals
+      goes_on text next end to is_next past all is_to told =
           let over : is_over (talk c) (behind (talk c) place r) ≡ true = ap (λ n. is_over (talk c) n) (sym is_next)
           ∙ over_past c next past in
           let last : end ≡ length (before ++ r ∷ []) = all ∙ sym (length-map then.items reply_of) ∙ ap length now in
@@ -170,9 +190,6 @@ module _ (script : ScriptView) (cs : List CommandView) (taken : PackedView Reply
                 subst (λ (xs : List Reply). IsAt cs xs to end 0) (sym now)
                 (subst (λ n. IsAt cs (before ++ r ∷ []) n end 0) (sym is_to)
                 (subst (λ n. IsAt cs (before ++ r ∷ []) (turn + 1 + quiet_front (drop (turn + 1) cs)) n 0) (sym last) at));
-            room = room_then;
-            room_bytes = bytes_then;
-            room_text = enough;
             text =
                 told
                 ∙ ap (λ (x : List Reply). (printed.bytes ++ command_text (record { command = c; replies = x }))
@@ -183,13 +200,53 @@ module _ (script : ScriptView) (cs : List CommandView) (taken : PackedView Reply
             cost_is = is.cost_is;
             cost_fits = is.cost_fits;
             roots_are = is.roots_are;
+            replies_are = is.replies_are;
+            bytes_are = is.bytes_are;
           }
 
--- a script has all the room that it needs
-pub covered : (script : ScriptView) (cs : List CommandView) (taken : PackedView ReplyHead) (printed : TextView) (turn from place cost
-    roots : ℕ)
-    → IsCaller script cs taken printed turn from place cost roots
-    → Covers (record { replies = taken.room; bytes = printed.room }) (owed_by script (replies_of taken.items))
-covered script cs taken printed turn from place cost roots is =
-    subst (λ xs. Covers (record { replies = taken.room; bytes = printed.room }) (need_at (progress xs (replies_of taken.items))))
-    (sym is.whole) (record { replies = is.room; bytes = omega (arith, is.room_text, ap (λ xs. sum_by room_of xs) is.at.left) })
+      pub goes_room : (text : TextView) (to : ℕ) → sum_by room_of (drop to cs) ≤ text.room → HasRoom cs then text to
+      goes_room text to enough = record { replies = room_then; bytes = bytes_then; text = enough }
+
+-- a script that has room has all that it needs
+pub covered : (script : ScriptView) (cs : List CommandView) (taken : PackedView ReplyHead) (printed : TextView) (turn from place : ℕ)
+    (totals : Totals) (ready : Bool) → IsCaller script cs taken.items printed.bytes turn from place totals
+    → HasRoom cs taken printed turn → ready ≡ true
+    → Covers (record { replies = cond ready taken.room 0; bytes = printed.room }) (owed_by script (replies_of taken.items))
+covered script cs taken printed turn from place totals ready is room e =
+    let all : Covers (record { replies = taken.room; bytes = printed.room }) (need_at (progress cs (replies_of taken.items))) =
+    record { replies = room.replies; bytes = omega (arith, room.text, ap (λ xs. sum_by room_of xs) is.at.left) } in
+    subst (λ b. Covers (record { replies = cond b taken.room 0; bytes = printed.room }) (owed_by script (replies_of taken.items))) (sym e)
+    (subst (λ xs. Covers (record { replies = taken.room; bytes = printed.room }) (need_at (progress xs (replies_of taken.items))))
+    (sym is.whole) all)
+
+-- before any reply, room for all replies and for what the commands left may print is room for what is still to come
+pub room_at_first : (script : ScriptView) (cs : List CommandView) (taken : PackedView ReplyHead) (printed : TextView) (turn from place : ℕ)
+    (totals : Totals) → IsCaller script cs taken.items printed.bytes turn from place totals → taken.items ≡ []
+    → totals.replies ≤ taken.room → totals.bytes ≤ taken.room_bytes → sum_by room_of (drop turn cs) ≤ printed.room
+    → HasRoom cs taken printed turn
+room_at_first script cs taken printed turn from place totals is none replies bytes text =
+    let first : replies_of taken.items ≡ [] = ap replies_of none in
+    record {
+      replies =
+          omega (
+            arith,
+            ap (λ (xs : List Reply). sum_left (λ t. 1) (progress cs xs)) first,
+            sum_first (λ t. 1) cs,
+            is.replies_are,
+            replies,
+          );
+      bytes =
+          omega (
+            arith,
+            ap (λ (xs : List Reply). sum_left most_brought (progress cs xs)) first,
+            sum_first most_brought cs,
+            is.bytes_are,
+            bytes,
+          );
+      text = text;
+    }
+
+-- a number that there is, and that has room
+pub within_some : (o : Option ℕ) (n room : ℕ) → IsSome o → IfSome o (λ x. x ≡ n) → IfSome o (λ x. x ≤ room) → n ≤ room
+within_some None n room some is fits = absurd cc
+within_some (Some x) n room some is fits = omega (arith, is, fits)

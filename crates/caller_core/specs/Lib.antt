@@ -1,6 +1,8 @@
 pub mod Callers
+pub mod HandleRuns
 pub mod Kept
 pub mod Roots
+pub mod Runs
 pub mod ScriptSteps
 pub mod Scripts
 pub mod Sections

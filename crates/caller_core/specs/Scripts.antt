@@ -12,15 +12,16 @@ use Rattle.tools.specs.Splits.{words_of, joined_words, lines_of}
 use Rattle.tools.specs.declared.command.Cmd.{Cmd}
 use Rattle.tools.specs.declared.fault.LineFault.{LineFault}
 use Rattle.tools.specs.declared.fault.LineFault.TheVariants as line_fault
-use Rattle.tools.specs.Commands.{run_of}
+use Rattle.dev_handle.specs.Handles.{HandlesView}
+use Rattle.caller_core.specs.Runs.{run_of, handles_behind}
 use Rattle.caller_core.specs.Turns.{Answered, talk, quiet, quiet_front, progress, asked_at, sum_of, sum_left}
 use Rattle.caller_core.specs.View.{CommandView, ScriptView}
 use Rattle.caller_core.specs.declared.script.ScriptFault.{ScriptFault}
 use Rattle.caller_core.specs.declared.script.ScriptFault.TheVariants as script_fault
 
--- the command of a line, over a board
-abbrev pub command_of : BoardView → List ℕ → Cmd → CommandView
-command_of b line c = record { echo = joined_words (words_of line); run = run_of b c }
+-- the command of a line, over a board, with the handles before it
+abbrev pub command_of : BoardView → HandlesView → List ℕ → Cmd → CommandView
+command_of b v line c = record { echo = joined_words (words_of line); run = run_of b v c }
 
 -- a line read behind so many commands: 1,000 is the most, and one more is refused at its first word
 abbrev pub at_most : ℕ → Result (Option Cmd) ℕ → Result (Option Cmd) ℕ
@@ -37,21 +38,23 @@ abbrev pub behind_commands : List CommandView → Result (List CommandView) Plac
 behind_commands cs (Ok ds) = Ok (cs ++ ds)
 behind_commands cs (Err p) = Err p
 
-abbrev pub behind_line_read : BoardView → ℕ → List ℕ → Result (Option Cmd) ℕ → Result (List CommandView) Place
-    → Result (List CommandView) Place → Result (List CommandView) Place
-behind_line_read b number line (Err word) same more = Err (record { line = number; word = word })
-behind_line_read b number line (Ok None) same more = same
-behind_line_read b number line (Ok (Some c)) same more = behind_commands (command_of b line c ∷ []) more
+-- what is read behind a line, with the handles that it leaves
+abbrev pub behind_line_read : BoardView → HandlesView → ℕ → List ℕ → Result (Option Cmd) ℕ → Result (List CommandView) Place
+    → (HandlesView → Result (List CommandView) Place) → Result (List CommandView) Place
+behind_line_read b v number line (Err word) same more = Err (record { line = number; word = word })
+behind_line_read b v number line (Ok None) same more = same
+behind_line_read b v number line (Ok (Some c)) same more = behind_commands (command_of b v line c ∷ []) (more (handles_behind b v c))
 
--- the lines from this number on, behind so many commands; they are read with the block limit of the board
-abbrev pub lines_read : BoardView → (number count : ℕ) → List (List ℕ) → Result (List CommandView) Place
-lines_read b number count [] = Ok []
-lines_read b number count (l ∷ ls) =
-    behind_line_read b number l (at_most count (line_read (block_limit b) l)) (lines_read b (number + 1) count ls)
+-- the lines from this number on, behind so many commands and these handles; they are read with the block limit of the board
+abbrev pub lines_read : BoardView → (number count : ℕ) → List (List ℕ) → HandlesView → Result (List CommandView) Place
+lines_read b number count [] v = Ok []
+lines_read b number count (l ∷ ls) v =
+    behind_line_read b v number l (at_most count (line_read (block_limit b) l)) (lines_read b (number + 1) count ls v)
     (lines_read b (number + 1) (count + 1) ls)
 
+-- no handle is open before the first line
 abbrev pub text_read : BoardView → List ℕ → Result (List CommandView) Place
-text_read b text = lines_read b 1 0 (lines_of text)
+text_read b text = lines_read b 1 0 (lines_of text) []
 
 abbrev pub script_read : ScriptView → Result (List CommandView) Place
 script_read s = text_read s.board s.text
@@ -89,6 +92,10 @@ command_text a = codes "> " ++ (a.command.echo ++ (10 ∷ flat_map ended ((talk 
 -- a command with its answer has at most so many bytes: those of its words, of the longest answer, and three beside them
 abbrev pub room_of : CommandView → ℕ
 room_of c = length c.echo + ((talk c).most + 3)
+
+-- those at the front that ask for nothing have at most so many
+abbrev pub front_room : List CommandView → ℕ
+front_room cs = sum_by room_of (take (quiet_front cs) cs)
 
 -- what the commands at the front print that ask for nothing
 abbrev pub quiet_text : List CommandView → List ℕ

@@ -4,7 +4,7 @@ use Rattle.std.specs.List.{fold, sum_by}
 use Rattle.i2c_base.specs.Transfer.{TransferView}
 use Rattle.i2c_base.specs.declared.reply.Reply.{Reply}
 use Rattle.tools.specs.Dialogues.{Dialogue, AreReplies, place_after, is_over, sum_behind}
-use Rattle.tools.specs.Runs.{dialogue_of}
+use Rattle.caller_core.specs.Runs.{dialogue_of}
 use Rattle.caller_core.specs.View.{CommandView}
 
 -- what a command says to the bus

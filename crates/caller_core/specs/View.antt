@@ -3,12 +3,12 @@ use Rattle.std.specs.Prelude.{ℕ, List}
 use Rattle.i2c_base.specs.Board.{BoardView}
 use Rattle.i2c_base.specs.Need.{Need}
 use Rattle.i2c_base.specs.declared.reply.Reply.{Reply}
-use Rattle.tools.specs.declared.run.ToolRun.{ToolRun}
+use Rattle.caller_core.specs.declared.run.CommandRun.{CommandRun}
 
 -- a command as it runs, with its words as they are printed
 pub record CommandView : Type 0 where
   pub echo : List ℕ
-  pub run : ToolRun
+  pub run : CommandRun
 
 -- what a script is opened with: the board, and the bytes of its text
 pub record ScriptView : Type 0 where

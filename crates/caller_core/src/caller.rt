@@ -1,26 +1,26 @@
 //! A script as a caller of the bus: it asks for what its commands ask for, takes the replies, and prints the answers.
 
-ghost use Rattle.std.specs.Prelude.{◌≡◌, ◌+◌, ◌≤◌, ◌^◌, ◌++◌, [], length, drop, Ok, IfOk, IfErr, OnOk};
-ghost use Rattle.std.specs.List.{sum_by};
+ghost use Rattle.std.specs.Prelude.{◌≡◌, ◌+◌, ◌≤◌, ◌^◌, ◌++◌, [], length, drop, Ok, IfSome, IsSome, IfOk, IfErr, OnOk};
 ghost use Rattle.tools.specs.Dialogues.{AreReplies};
-ghost use Rattle.tools.specs.Runs.{dialogue_of};
+ghost use Rattle.caller_core.specs.Runs.{dialogue_of};
 ghost use Rattle.caller_core.specs.Callers.{IsOpened, ScriptsAreFair};
 ghost use Rattle.caller_core.specs.Roots.{HasRoots};
 ghost use Rattle.caller_core.specs.Sections.{SectionsHaveNoJournalLine};
 ghost use Rattle.caller_core.specs.View.{script_on};
-ghost use Rattle.caller_core.specs.Scripts.{script_read, commands_of, cost_of_script, ScriptFaultIs, command_text, room_of, quiet_text, section_text};
+ghost use Rattle.caller_core.specs.Scripts.{script_read, commands_of, cost_of_script, ScriptFaultIs, command_text, front_room, room_of, quiet_text, section_text};
 ghost use Rattle.caller_core.specs.Turns.{quiet_front};
 
 use crate::commands::Commands;
+use crate::run::CommandRun;
 use crate::script::{ScriptFault, read_script};
-use crate::totals::{Totals, room_of, totals_of};
+use crate::totals::{Totals, front_room, room_from, totals_of};
 use i2c_base::{Caller, Kind, NoMemory, ReplyHead, Transfer};
 use i2c_board::Accepted;
 use packed::Packed;
 use std::alloc::Global;
 use std::marker::Model;
 use std::snapshot::Snapshot;
-use tools::{Text, ToolRun, Window};
+use tools::{Text, Window};
 
 /// What a script is opened with, as contracts see it: the board and the text. No value of it is made.
 pub struct ScriptData {}
@@ -35,7 +35,8 @@ impl Model for ScriptData {
 }
 
 /// A caller that asks for what the commands of a script ask for, one after the other, and prints their answers. A
-/// contract sees the board and the text that it was opened with, the replies that it took, and the room for more.
+/// contract sees the board and the text that it was opened with, the replies that it took, and the room for more, which it has once
+/// that was reserved.
 #[derive(Drop)]
 pub struct Script {
     board: Snapshot<Accepted>,
@@ -44,6 +45,8 @@ pub struct Script {
     totals: Totals,
     taken: Packed<ReplyHead>,
     printed: Text,
+    /// There is room for all replies, and for what is printed of them.
+    is_ready: bool,
     /// Whose turn it is, where the replies of that command begin, and the place to which it has come.
     turn: usize,
     from: usize,
@@ -53,13 +56,15 @@ pub struct Script {
 impl Model for Script {
     ghost use Rattle.tools.specs.Replies.{replies_of};
     ghost use Rattle.caller_core.specs.View.{CallerView};
-    ghost use Rattle.caller_core.specs.Kept.{IsCaller};
+    ghost use Rattle.std.specs.Prelude.{if◌then◌else◌};
+    ghost use Rattle.caller_core.specs.Kept.{IsCaller, IsReady};
 
     ghost Value = { CallerView };
 
-    ghost view = { λ s. record { script = record { board = s.board.value; text = s.text.value.items }; taken = replies_of s.taken.items; spare = record { replies = s.taken.room; bytes = s.printed.room } } };
+    ghost view = { λ s. record { script = record { board = s.board.value; text = s.text.value.items }; taken = replies_of s.taken.items; spare = record { replies = if s.is_ready then s.taken.room else 0; bytes = s.printed.room } } };
 
-    ghost invariant = { λ s. IsCaller (record { board = s.board.value; text = s.text.value.items }) s.commands s.taken s.printed s.turn s.from s.place s.totals.cost s.totals.roots };
+    ghost invariant = { λ s. IsCaller (record { board = s.board.value; text = s.text.value.items }) s.commands s.taken.items s.printed.bytes s.turn s.from s.place s.totals
+        × IsReady s.commands s.taken s.printed s.turn s.is_ready };
 }
 
 impl Script {
@@ -73,9 +78,9 @@ impl Script {
     {
         let commands = read_script(alloc, board, text.as_slice())?;
         let totals = totals_of(board, &commands);
-        let taken = room_for_replies(alloc, &totals)?;
+        let taken = Packed::with_room(alloc, 0, 0)?;
         let mut printed = Text::new(alloc);
-        make_room(&commands, &mut printed)?;
+        make_room(front_room(&commands), &mut printed)?;
         let turn = push_quiet(&commands, 0, &taken, &mut printed);
         Ok(Script {
             board: Snapshot::of(board),
@@ -84,6 +89,7 @@ impl Script {
             totals,
             taken,
             printed,
+            is_ready: false,
             turn,
             from: 0,
             place: 0,
@@ -113,27 +119,30 @@ impl Script {
     }
 }
 
-// Room for the replies of so many transfers, and for their bytes.
-fn room_for_replies(alloc: Global, totals: &Totals) -> Result<Packed<ReplyHead>, NoMemory>
-    ensures { IfOk result (λ p. p ≡ record { items = []; room = totals.now.replies; room_bytes = totals.now.bytes }) }
+// Makes room for so many replies, and for their bytes.
+fn make_room_for_replies(totals: &Totals, taken: &mut Packed<ReplyHead>) -> Result<(), NoMemory>
+    ensures stays { taken.new.items ≡ taken.old.items }
+    ensures ok { OnOk result ((totals.now.replies ≤ taken.new.room) × (totals.now.bytes ≤ taken.new.room_bytes)) }
 {
     if totals.bytes > u64::from(u32::MAX) {
         return Err(NoMemory);
     }
-    Ok(Packed::with_room(alloc, totals.replies as usize, totals.bytes as u32)?)
+    taken.reserve(totals.replies as usize, totals.bytes as u32)?;
+    Ok(())
 }
 
-// Makes room for what the commands may print.
-fn make_room(commands: &Commands, out: &mut Text) -> Result<(), NoMemory>
+// Makes room for so many bytes, where a number holds them.
+fn make_room(bytes: Option<usize>, out: &mut Text) -> Result<(), NoMemory>
     ensures stays { out.new.bytes ≡ out.old.bytes }
-    ensures ok { OnOk result (sum_by room_of commands.now ≤ out.new.room) }
+    ensures ok { OnOk result (IfSome bytes (λ n. n ≤ out.new.room)) }
+    ensures some { OnOk result (IsSome bytes) }
 {
-    let room = room_of(commands).ok_or(NoMemory)?;
+    let room = bytes.ok_or(NoMemory)?;
     out.reserve(room)
 }
 
 // Prints a command with these words, which is over, and its answer.
-fn push_command(out: &mut Text, echo: &[u8], run: &ToolRun, replies: Window<'_>)
+fn push_command(out: &mut Text, echo: &[u8], run: &CommandRun, replies: Window<'_>)
     requires replies { AreReplies (dialogue_of run.now) 0 replies }
     requires room { room_of (record { echo = echo.now; run = run.now }) ≤ out.old.room }
     ensures bytes { out.new.bytes ≡ out.old.bytes ++ command_text (record { command = record { echo = echo.now; run = run.now }; replies = replies.entry }) }
@@ -159,10 +168,10 @@ fn no_replies(taken: &Packed<ReplyHead>) -> Window<'_>
 // Prints the commands from a place on that ask for nothing. Tells the place behind them.
 fn push_quiet(commands: &Commands, turn: usize, taken: &Packed<ReplyHead>, out: &mut Text) -> usize
     requires within { turn ≤ length commands.now }
-    requires room { sum_by room_of (drop turn commands.now) ≤ out.old.room }
+    requires room { front_room (drop turn commands.now) ≤ out.old.room }
     ensures behind { result ≡ turn + quiet_front (drop turn commands.now) }
     ensures bytes { out.new.bytes ≡ out.old.bytes ++ quiet_text (drop turn commands.now) }
-    ensures room { out.old.room + sum_by room_of (drop result commands.now) ≤ out.new.room + sum_by room_of (drop turn commands.now) }
+    ensures room { out.old.room ≤ out.new.room + front_room (drop turn commands.now) }
 {
     let mut at = turn;
     while at < commands.len() {
@@ -214,9 +223,13 @@ impl Caller for Script {
         true
     }
 
-    // It has had all the room that it needs since it was opened, as its type keeps: a look at a field shows that.
     fn reserve(&mut self) -> Result<(), NoMemory> {
-        let _printed = &self.printed;
+        if self.is_ready {
+            return Ok(());
+        }
+        make_room_for_replies(&self.totals, &mut self.taken)?;
+        make_room(room_from(&self.commands, self.turn), &mut self.printed)?;
+        self.is_ready = true;
         Ok(())
     }
 

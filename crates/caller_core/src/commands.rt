@@ -2,15 +2,15 @@
 
 ghost use Rattle.std.specs.Prelude.{◌≡◌, ◌<◌, [], ◌∷◌, ◌++◌, length, slice_index_or, OnOk};
 
+use crate::run::CommandRun;
 use i2c_base::NoMemory;
 use std::alloc::Global;
 use std::marker::Model;
-use tools::ToolRun;
 
 // A command, and where its words lie.
 #[derive(Drop)]
 struct Placed {
-    run: ToolRun,
+    run: CommandRun,
     start: usize,
     len: usize,
 }
@@ -54,7 +54,7 @@ impl Commands {
 
     /// Puts a command with these words at the end.
     #[tactic(auto, using(crate::proofs::PlacedLemmas::commands_push))]
-    pub fn push(&mut self, run: ToolRun, echo: &[u8]) -> Result<(), NoMemory>
+    pub fn push(&mut self, run: CommandRun, echo: &[u8]) -> Result<(), NoMemory>
         ensures { OnOk result (self.new ≡ self.old ++ record { echo = echo.now; run = run } ∷ []) }
     {
         let placed = Placed {
@@ -69,7 +69,7 @@ impl Commands {
 
     /// The command at a place, and its words.
     #[inline(always)]
-    pub fn get(&self, place: usize) -> (&ToolRun, &[u8])
+    pub fn get(&self, place: usize) -> (&CommandRun, &[u8])
         requires { place < length self.now }
         ensures { record { echo = result.1.now; run = result.0.now } ≡ slice_index_or self.now place (record { echo = result.1.now; run = result.0.now }) }
     {

@@ -1,6 +1,7 @@
 //! The text of a script: its commands, or the first word of it that is refused.
 
 ghost use Rattle.std.specs.Prelude.{◌≡◌, ◌+◌, ◌^◌, ◌<◌, ◌≤◌, true, [], ◌∷◌, ◌++◌, Ok, length, take, drop, All, IfOk, IfErr, OnOk, MatchResult};
+ghost use Rattle.dev_handle.specs.Handles.{AreOnBoard};
 ghost use Rattle.tools.specs.Lines.{line_read};
 ghost use Rattle.tools.specs.Splits.{words_of, joined_words, lines_of};
 ghost use Rattle.tools.specs.Readers.{FaultIs};
@@ -9,10 +10,12 @@ ghost use Rattle.caller_core.specs.ScriptSteps.{IsStep, IsRefused};
 ghost use Rattle.caller_core.specs.declared.script.ScriptFault.TheVariants.{Memory as NoRoomForScript};
 
 use crate::commands::Commands;
+use crate::run::CommandRun;
+use dev_handle::Handles;
 use i2c_base::NoMemory;
 use i2c_board::Accepted;
 use std::alloc::{AllocError, Global};
-use tools::{Cmd, LineFault, LineWords, ToolRun, cut_line, push_echo, read_line};
+use tools::{Cmd, LineFault, LineWords, cut_line, push_echo, read_line};
 
 /// The most commands of a script.
 const MOST_COMMANDS: usize = 1000;
@@ -76,7 +79,7 @@ fn read_behind<'a>(
 fn keep_command(
     echo: &mut Vec<u8>,
     commands: &mut Commands,
-    run: ToolRun,
+    run: CommandRun,
     line: &[u8],
     is_joined: bool,
 ) -> Result<(), ScriptFault>
@@ -100,19 +103,24 @@ fn take_line<'a>(
     words: &mut LineWords<'a>,
     echo: &mut Vec<u8>,
     commands: &mut Commands,
+    handles: &mut Handles,
     board: &Accepted,
     line: &'a [u8],
     number: u32,
 ) -> Result<(), ScriptFault>
-    ensures ok { OnOk result (IsStep board.now number commands.old commands.new line.now) }
-    ensures err { IfErr result (IsRefused board.now number commands.old line.now) }
+    requires few { length handles.old ≤ length commands.old }
+    requires on_board { AreOnBoard board.now handles.old }
+    ensures ok { OnOk result (IsStep board.now number commands.old commands.new line.now handles.old handles.new) }
+    ensures err { IfErr result (IsRefused board.now number commands.old line.now handles.old) }
+    ensures few { OnOk result (length handles.new ≤ length commands.new) }
+    ensures on_board { AreOnBoard board.now handles.new }
 {
     let limit = board.board().limit();
     match read_behind(alloc, words, line, limit, commands.len()) {
         Err(fault) => Err(fault_at(fault, number)),
         Ok(None) => Ok(()),
         Ok(Some(cmd)) => {
-            let run = ToolRun::open(alloc, board, cmd)?;
+            let run = CommandRun::open(alloc, board, handles, cmd)?;
             keep_command(echo, commands, run, line, words.joined)
         }
     }
@@ -137,6 +145,7 @@ pub fn read_script(alloc: Global, board: &Accepted, text: &[u8]) -> Result<Comma
     let mut words = LineWords::new(alloc);
     let mut echo = Vec::new(alloc);
     let mut commands = Commands::new(alloc);
+    let mut handles = Handles::new(alloc);
     let mut at = 0;
     let mut number = 0u32;
     while at < text.len() {
@@ -148,6 +157,7 @@ pub fn read_script(alloc: Global, board: &Accepted, text: &[u8]) -> Result<Comma
             &mut words,
             &mut echo,
             &mut commands,
+            &mut handles,
             board,
             line,
             number,

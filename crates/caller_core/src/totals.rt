@@ -1,6 +1,6 @@
 //! What a script costs, which roots its transfers name, and the room that its replies and its answers may need.
 
-ghost use Rattle.std.specs.Prelude.{◌≡◌, ◌*◌, ◌^◌, ◌<◌, ◌≤◌, length, IfSome};
+ghost use Rattle.std.specs.Prelude.{◌≡◌, ◌*◌, ◌^◌, ◌<◌, ◌≤◌, drop, length, IfSome};
 ghost use Rattle.std.specs.List.{sum_by};
 ghost use Rattle.std.specs.Option.{option_map_or};
 ghost use Rattle.i2c_base.specs.Limits.{MOST_ROOTS, MOST_BYTES};
@@ -8,15 +8,15 @@ ghost use Rattle.i2c_spec.specs.Cost.{cost_of};
 ghost use Rattle.tools.specs.Replies.{most_brought};
 ghost use Rattle.i2c_board.specs.Bills.{IsBill};
 ghost use Rattle.tools.specs.Dialogues.{MOST_PLACES, transfers_of};
-ghost use Rattle.tools.specs.Runs.{dialogue_of};
+ghost use Rattle.caller_core.specs.Runs.{dialogue_of};
 ghost use Rattle.caller_core.specs.Turns.{sum_of};
 ghost use Rattle.caller_core.specs.Roots.{HasBits, HasRoots, names_root};
-ghost use Rattle.caller_core.specs.Scripts.{room_of};
+ghost use Rattle.caller_core.specs.Scripts.{front_room, room_of};
 
 use crate::commands::Commands;
+use crate::run::CommandRun;
 use i2c_base::{Kind, SegId, Transfer};
 use i2c_board::{Accepted, BusBill};
-use tools::ToolRun;
 
 /// Sums over transfers: their cost, how many they are, the bytes that their replies may have, and a bit for each root
 /// that they name.
@@ -64,7 +64,7 @@ fn turn_to(board: &Accepted, bus: u16, bill: &mut BusBill)
 // repeats the one before counts as that does.
 fn totals_of_command(
     board: &Accepted,
-    run: &ToolRun,
+    run: &CommandRun,
     bill: &mut BusBill,
     transfer: &mut Transfer,
 ) -> Totals
@@ -122,17 +122,37 @@ pub fn totals_of(board: &Accepted, commands: &Commands) -> Totals
     totals
 }
 
-/// How many bytes the commands may print, where a number holds it.
-pub fn room_of(commands: &Commands) -> Option<usize>
-    ensures { IfSome result (λ room. room ≡ sum_by room_of commands.now) }
+// How many bytes a command may print, where a number holds it.
+fn room_of(run: &CommandRun, echo: &[u8]) -> Option<usize>
+    ensures { IfSome result (λ room. room ≡ room_of (record { echo = echo.now; run = run.now })) }
+{
+    echo.len().checked_add(run.most())?.checked_add(BESIDE)
+}
+
+/// How many bytes the commands from a place on may print, where a number holds it.
+pub fn room_from(commands: &Commands, turn: usize) -> Option<usize>
+    requires { turn ≤ length commands.now }
+    ensures { IfSome result (λ room. room ≡ sum_by room_of (drop turn commands.now)) }
+{
+    let mut room = 0usize;
+    for at in turn..commands.len() {
+        let (run, echo) = commands.get(at);
+        room = room.checked_add(room_of(run, echo)?)?;
+    }
+    Some(room)
+}
+
+/// How many bytes the commands at the front that ask for nothing may print, where a number holds it.
+pub fn front_room(commands: &Commands) -> Option<usize>
+    ensures { IfSome result (λ room. room ≡ front_room commands.now) }
 {
     let mut room = 0usize;
     for at in 0..commands.len() {
         let (run, echo) = commands.get(at);
-        room = room
-            .checked_add(echo.len())?
-            .checked_add(run.most())?
-            .checked_add(BESIDE)?;
+        if run.places() > 0 {
+            return Some(room);
+        }
+        room = room.checked_add(room_of(run, echo)?)?;
     }
     Some(room)
 }

@@ -4,7 +4,7 @@ use Rattle.i2c_base.specs.declared.reply.Reply.{Reply}
 use Rattle.caller_core.specs.Scripts.{command_text, quiet_text}
 use Rattle.caller_core.specs.Turns.{talk, quiet}
 use Rattle.caller_core.specs.View.{CommandView}
-use Rattle.caller_core.proofs.QuietLemmas.{front_quiet, text_quiet, sum_there}
+use Rattle.caller_core.proofs.QuietLemmas.{front_quiet, text_quiet, room_quiet}
 use Rattle.caller_core.proofs.TakeLemmas.{at_place}
 use Rattle.caller_core.proofs.caller.push_quiet.Goals as goal
 
@@ -16,7 +16,7 @@ loop-at-preserved c =
     let is : slice_get cs k ≡ Some read = at_place cs k read (omega (arith, c.loop-at-test.true, c.len.ensures)) c.get.ensures in
     let zero : (talk read).places ≡ 0 = omega (arith, c.places.ensures.value, c.if-places-gt0.false) in
     let was : List ℕ = c.loop-at.out.bytes in
-    let room = sum_there cs k read is in
+    let room = room_quiet cs k read is zero in
     record {
       within = omega (arith, c.loop-at-test.true, c.len.ensures);
       behind = omega (arith, c.loop-at.invariant.behind, front_quiet cs k read is zero);
@@ -28,3 +28,15 @@ loop-at-preserved c =
       room = omega (arith, c.push_command.ensures.room, c.loop-at.invariant.room, room);
       left = omega (arith, c.push_command.ensures.room, c.loop-at.invariant.left, room);
     }
+
+pub push_command-requires-clause-room : goal.push_command-requires-clause-room
+push_command-requires-clause-room c =
+    let cs : List CommandView = c.args.commands.now in
+    let k : ℕ = c.loop-at.at in
+    let read : CommandView = record { echo = c.get.result.1.now; run = c.get.result.0.now } in
+    let is : slice_get cs k ≡ Some read = at_place cs k read (omega (arith, c.loop-at-test.true, c.len.ensures)) c.get.ensures in
+    omega (
+      arith,
+      c.loop-at.invariant.left,
+      room_quiet cs k read is (omega (arith, c.places.ensures.value, c.if-places-gt0.false)),
+    )

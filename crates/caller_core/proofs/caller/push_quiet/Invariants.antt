@@ -1,5 +1,5 @@
-use Rattle.std.proofs.Common.{length, ◌-◌, ◌≡◌, ◌+◌, ◌≤◌, ◌++◌, drop, sum_by}
-use Rattle.caller_core.specs.Scripts.{room_of, quiet_text}
+use Rattle.std.proofs.Common.{length, ◌-◌, ◌≡◌, ◌+◌, ◌≤◌, ◌++◌, drop}
+use Rattle.caller_core.specs.Scripts.{front_room, quiet_text}
 use Rattle.caller_core.specs.Turns.{quiet_front}
 use Rattle.caller_core.proofs.caller.push_quiet.Given as goal
 
@@ -12,6 +12,6 @@ invariant-loop-at l =
       within : l.at ≤ length l.commands;
       behind : l.at + quiet_front (drop l.at l.commands) ≡ l.fn.turn + quiet_front (drop l.fn.turn l.commands);
       bytes : l.out.bytes ++ quiet_text (drop l.at l.commands) ≡ l.fn.out.bytes ++ quiet_text (drop l.fn.turn l.commands);
-      room : l.fn.out.room + sum_by room_of (drop l.at l.commands) ≤ l.out.room + sum_by room_of (drop l.fn.turn l.commands);
-      left : sum_by room_of (drop l.at l.commands) ≤ l.out.room;
+      room : l.fn.out.room + front_room (drop l.at l.commands) ≤ l.out.room + front_room (drop l.fn.turn l.commands);
+      left : front_room (drop l.at l.commands) ≤ l.out.room;
     }

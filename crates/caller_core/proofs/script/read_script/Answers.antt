@@ -9,8 +9,9 @@ returns-in-Err c =
     let len = c.cut_at-len.result.0 in
     let same : at + len - at ≡ len = omega arith in
     let refused = subst (λ (k : ℕ). IsRefused c.args.board.now (c.loop-at.number + 1) c.loop-at.commands
-    (take k (drop at c.args.text.now)) c.in-Err.fault) same c.in-Err.ensures.err in
-    refused_script c.args.board.now (c.loop-at.number + 1) at len c.cut_at-len.result.1 c.args.text.now c.loop-at.commands c.in-Err.fault _
+    (take k (drop at c.args.text.now)) c.loop-at.handles c.in-Err.fault) same c.in-Err.ensures.err in
+    refused_script c.args.board.now (c.loop-at.number + 1) at len c.cut_at-len.result.1 c.args.text.now c.loop-at.commands c.loop-at.handles
+    c.in-Err.fault _
     refused c.cut_at-len.ensures.split c.loop-at.invariant.same
 
 pub loop-at-preserved : goal.loop-at-preserved
@@ -19,11 +20,13 @@ loop-at-preserved c =
     let len = c.cut_at-len.result.0 in
     let same : at + len - at ≡ len = omega arith in
     let step = subst (λ (k : ℕ). IsStep c.args.board.now (c.loop-at.number + 1) c.loop-at.commands c.take_line-step.new.commands
-    (take k (drop at c.args.text.now))) same c.in_default.ensures.ok in
+    (take k (drop at c.args.text.now)) c.loop-at.handles c.take_line-step.new.handles) same c.in_default.ensures.ok in
     record {
       within = omega (arith, c.cut_at-len.ensures.within);
       count = omega (arith, c.cut_at-len.ensures.some);
       same = script_steps c.args.board.now
-          (c.loop-at.number + 1) at len c.cut_at-len.result.1 c.args.text.now c.loop-at.commands c.take_line-step.new.commands _ step
-          c.cut_at-len.ensures.split c.loop-at.invariant.same;
+          (c.loop-at.number + 1) at len c.cut_at-len.result.1 c.args.text.now c.loop-at.commands c.take_line-step.new.commands c.loop-at.handles
+          c.take_line-step.new.handles _ step c.cut_at-len.ensures.split c.loop-at.invariant.same;
+      few = c.in_default.ensures.few;
+      on_board = c.take_line-step.ensures.on_board;
     }

@@ -1,4 +1,5 @@
 use Rattle.std.proofs.Common.{◌≡◌, ◌+◌, ◌-◌, ◌≤◌, length, drop}
+use Rattle.dev_handle.specs.Handles.{AreOnBoard}
 use Rattle.tools.specs.Splits.{lines_of}
 use Rattle.caller_core.specs.Scripts.{text_read, lines_read, behind_commands}
 use Rattle.caller_core.proofs.script.read_script.Given as goal
@@ -12,5 +13,7 @@ invariant-loop-at l =
       within : l.at ≤ length l.text;
       count : l.number ≤ l.at;
       same : behind_commands l.commands
-          (lines_read l.board (l.number + 1) (length l.commands) (lines_of (drop l.at l.text))) ≡ text_read l.board l.text;
+          (lines_read l.board (l.number + 1) (length l.commands) (lines_of (drop l.at l.text)) l.handles) ≡ text_read l.board l.text;
+      few : length l.handles ≤ length l.commands;
+      on_board : AreOnBoard l.board l.handles;
     }

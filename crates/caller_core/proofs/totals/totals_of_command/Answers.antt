@@ -9,7 +9,7 @@ use Rattle.i2c_spec.specs.Cost.{cost_of}
 use Rattle.i2c_spec.specs.Tree.{root_named}
 use Rattle.tools.specs.Dialogues.{Dialogue, transfers_of}
 use Rattle.tools.specs.Replies.{most_brought}
-use Rattle.tools.specs.Runs.{dialogue_of}
+use Rattle.caller_core.specs.Runs.{dialogue_of}
 use Rattle.caller_core.specs.Roots.{HasBits, names_root}
 use Rattle.caller_core.proofs.RootLemmas.{IsOneTransfer, named_bit, one_alike, transfer_bit, sums_none, sums_more}
 use Rattle.caller_core.proofs.totals.totals_of_command.Goals.{then-not-repeats, else-not-repeats}

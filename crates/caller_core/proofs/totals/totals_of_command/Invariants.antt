@@ -4,7 +4,7 @@ use Rattle.i2c_spec.specs.Cost.{cost_of}
 use Rattle.i2c_board.specs.Bills.{IsBill}
 use Rattle.tools.specs.Dialogues.{transfers_of}
 use Rattle.tools.specs.Replies.{most_brought}
-use Rattle.tools.specs.Runs.{dialogue_of}
+use Rattle.caller_core.specs.Runs.{dialogue_of}
 use Rattle.caller_core.specs.Roots.{names_root}
 use Rattle.caller_core.proofs.RootLemmas.{AreSums, IsOneTransfer}
 use Rattle.caller_core.proofs.totals.totals_of_command.Given as goal

@@ -4,13 +4,11 @@ use Rattle.i2c_base.specs.Board.{BoardView}
 use Rattle.i2c_spec.specs.Cost.{cost_of}
 use Rattle.packed.specs.View.{PackedView}
 use Rattle.i2c_base.specs.declared.reply.ReplyHead.{ReplyHead}
-use Rattle.tools.specs.Replies.{most_brought}
-use Rattle.caller_core.specs.Kept.{IsCaller}
+use Rattle.caller_core.specs.Kept.{IsCaller, KeptReply}
 use Rattle.caller_core.specs.Turns.{sum_of, quiet_front, IsAt}
 use Rattle.caller_core.specs.Roots.{HasRoots}
 use Rattle.caller_core.specs.Scripts.{commands_of, commands_or_none, text_read, quiet_text}
 use Rattle.caller_core.specs.View.{CommandView, ScriptView}
-use Rattle.caller_core.proofs.SumLemmas.{sum_first}
 use Rattle.caller_core.proofs.ScriptLemmas.{few_commands}
 use Rattle.caller_core.proofs.PlaceLemmas.{at_first}
 use Rattle.caller_core.proofs.caller.Script.open.Goals as goal
@@ -31,20 +29,21 @@ invariant_of-result c =
     ∙ ap (λ t. commands_or_none (text_read c.args.board.now t)) read ∙ ap commands_or_none c.in_ok-commands.ensures in
     let zero : 0 + quiet_front cs ≡ quiet_front cs = omega arith in
     let to : quiet.result ≡ quiet_front cs = quiet.ensures.behind ∙ zero in
-    subst (λ (p : PackedView ReplyHead). IsCaller script cs p quiet.new.out quiet.result 0 0 totals.result.cost totals.result.roots)
-    (sym c.in_ok-taken.ensures)
-    (record {
-      whole = whole;
-      at = subst (λ n. IsAt cs [] n 0 0) (sym to) (at_first cs);
-      room = omega (arith, sum_first (λ t. 1) cs, totals.ensures.replies);
-      room_bytes = omega (arith, sum_first most_brought cs, totals.ensures.bytes);
-      room_text = omega (arith, quiet.ensures.room, c.in_ok-make_room.ensures.ok);
-      text =
-          quiet.ensures.bytes
-          ∙ ap (λ (x : List ℕ). x ++ quiet_text cs) (c.in_ok-make_room.ensures.stays ∙ c.new-printed.ensures);
-      cost_is =
-          totals.ensures.cost ∙ ap (λ xs. sum_by (sum_of (cost_of c.args.board.now)) xs) (sym whole)
-          ∙ ap (λ (b : BoardView). sum_by (sum_of (cost_of b)) (commands_of script)) (sym c.of.ensures);
-      cost_fits = totals.ensures.small;
-      roots_are = subst (λ (b : BoardView). HasRoots b cs totals.result.roots) (sym c.of.ensures) totals.ensures.roots;
-    })
+    let none : c.in_ok-taken.taken.items ≡ [] = ap (λ (p : PackedView ReplyHead). p.items) c.in_ok-taken.ensures in (
+      subst (λ (xs : List KeptReply). IsCaller script cs xs quiet.new.out.bytes quiet.result 0 0 totals.result) (sym none)
+          (record {
+            whole = whole;
+            at = subst (λ n. IsAt cs [] n 0 0) (sym to) (at_first cs);
+            text =
+                quiet.ensures.bytes
+                ∙ ap (λ (x : List ℕ). x ++ quiet_text cs) (c.in_ok-make_room.ensures.stays ∙ c.new-printed.ensures);
+            cost_is =
+                totals.ensures.cost ∙ ap (λ xs. sum_by (sum_of (cost_of c.args.board.now)) xs) (sym whole)
+                ∙ ap (λ (b : BoardView). sum_by (sum_of (cost_of b)) (commands_of script)) (sym c.of.ensures);
+            cost_fits = totals.ensures.small;
+            roots_are = subst (λ (b : BoardView). HasRoots b cs totals.result.roots) (sym c.of.ensures) totals.ensures.roots;
+            replies_are = totals.ensures.replies;
+            bytes_are = totals.ensures.bytes;
+          }),
+      record { room = λ yes. absurd cc; untaken = λ no. none },
+    )

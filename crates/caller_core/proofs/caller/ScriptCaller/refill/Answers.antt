@@ -21,13 +21,13 @@ there c =
 pub put-requires : goal.put-requires
 put-requires c =
     let read = (goal.at.put-requires c).After-get in
-    c.self.invariant.at.more (command read) (there read)
+    c.self.invariant.0.at.more (command read) (there read)
 
 pub returns-clause-some : goal.returns-clause-some
 returns-clause-some c _ =
     let s = c.self.inside in
     let read = (goal.at.returns-clause-some c).After-get in
     ap (λ (v : CallerView). asked_by v.script v.taken) (sym c.self.view_is)
-    ∙ ap (λ cs. asked_at (progress cs (replies_of s.taken.items))) c.self.invariant.whole
-    ∙ asks s.commands (replies_of s.taken.items) s.turn s.from s.place (command read) c.self.invariant.at (there read)
+    ∙ ap (λ cs. asked_at (progress cs (replies_of s.taken.items))) c.self.invariant.0.whole
+    ∙ asks s.commands (replies_of s.taken.items) s.turn s.from s.place (command read) c.self.invariant.0.at (there read)
     ∙ ap Some (sym c.put.ensures)

@@ -1,16 +1,17 @@
-use Rattle.std.proofs.Common.{◌≡◌, ℕ, ◌+◌, ◌<◌, ◌≤◌, List, ◌++◌, length, drop, Some, arith, ap, refl, ◌∙◌}
+use Rattle.std.proofs.Common.{◌≡◌, ℕ, ◌+◌, ◌<◌, ◌≤◌, true, false, sym, List, ◌++◌, length, drop, Some, arith, ap, refl, ◌∙◌}
 use Rattle.std.specs.Prelude.{slice_get, sum_by}
+use Rattle.std.proofs.Math.Seq.{drop-drop}
 use Rattle.i2c_base.specs.declared.reply.Reply.{Reply}
 use Rattle.i2c_base.specs.Replies.{reply_by}
 use Rattle.tools.specs.Dialogues.{AreReplies, behind}
 use Rattle.tools.specs.Replies.{replies_of}
 use Rattle.tools.specs.View.{TextView}
-use Rattle.caller_core.specs.Kept.{IsCaller}
+use Rattle.caller_core.specs.Kept.{IsCaller, HasRoom}
 use Rattle.caller_core.specs.Scripts.{command_text, quiet_text, room_of}
 use Rattle.caller_core.specs.Turns.{talk, quiet_front}
 use Rattle.caller_core.specs.View.{CommandView, ScriptView}
-use Rattle.caller_core.proofs.QuietLemmas.{sum_there}
-use Rattle.caller_core.proofs.TakeLemmas.{IsTaking, given_by, at_place, taking, has_place, has_room, replies_so, stays_so, goes_on, covered}
+use Rattle.caller_core.proofs.QuietLemmas.{front_parts, sum_there}
+use Rattle.caller_core.proofs.TakeLemmas.{IsTaking, given_by, at_place, taking, ready_to_take, has_place, has_room, replies_so, stays_so, stays_room, goes_on, goes_room, covered}
 use Rattle.caller_core.proofs.caller.ScriptCaller.take.Goals as goal
 use Rattle.caller_core.proofs.caller.ScriptCaller.take.Goals.{After-get}
 
@@ -29,8 +30,18 @@ module _ (c : After-get) where
   taken : IsTaking c.self.inside.commands (replies_of c.self.inside.taken.items) c.self.inside.turn reply
   taken =
       let s = c.self.inside in
-      taking script s.commands s.taken s.printed s.turn s.from s.place s.totals.cost s.totals.roots reply c.self.invariant
+      taking script s.commands s.taken s.printed s.turn s.from s.place s.totals reply c.self.invariant.0 s.is_ready
       c.args.self.now c.self.view_is c.requires.fits
+
+  -- it is ready, and so it has room
+  ready : c.self.inside.is_ready ≡ true
+  ready =
+      let s = c.self.inside in
+      ready_to_take script s.commands s.taken s.printed s.turn s.from s.place s.totals reply c.self.invariant.0 s.is_ready
+      c.args.self.now c.self.view_is taken c.requires.room
+
+  room : HasRoom c.self.inside.commands c.self.inside.taken c.self.inside.printed c.self.inside.turn
+  room = c.self.invariant.1.room ready
 
   there : slice_get c.self.inside.commands c.self.inside.turn ≡ Some command
   there = let s = c.self.inside in at_place s.commands s.turn command taken.within c.get.ensures
@@ -39,56 +50,79 @@ module _ (c : After-get) where
   told : AreReplies (talk command) 0 (drop c.self.inside.from (replies_of c.push.new.self.items))
   told =
       let s = c.self.inside in
-      replies_so script s.commands s.taken s.printed s.turn s.from s.place s.totals.cost s.totals.roots reply c.self.invariant taken
+      replies_so script s.commands s.taken s.printed s.turn s.from s.place s.totals reply c.self.invariant.0 room taken
       command there c.args.head c.args.bytes.now c.push.new.self refl (given_by c.args.head c.args.bytes.now c.requires.few)
       c.push.ensures.items c.push.ensures.room c.push.ensures.room_bytes
 
   -- where it stands with the reply: at a further place of the same command, or behind that command
   further : (next : ℕ) → next ≡ behind (talk command) c.self.inside.place reply → next < (talk command).places
-      → IsCaller script c.self.inside.commands c.push.new.self c.self.inside.printed c.self.inside.turn c.self.inside.from next
-      c.self.inside.totals.cost c.self.inside.totals.roots
+      → IsCaller script c.self.inside.commands c.push.new.self.items c.self.inside.printed.bytes c.self.inside.turn c.self.inside.from next
+      c.self.inside.totals
   further =
       let s = c.self.inside in
-      stays_so script s.commands s.taken s.printed s.turn s.from s.place s.totals.cost s.totals.roots reply c.self.invariant taken
+      stays_so script s.commands s.taken s.printed s.turn s.from s.place s.totals reply c.self.invariant.0 room taken
       command there c.args.head c.args.bytes.now c.push.new.self refl (given_by c.args.head c.args.bytes.now c.requires.few)
       c.push.ensures.items c.push.ensures.room c.push.ensures.room_bytes
 
   over : (text : TextView) (next end to : ℕ) → next ≡ behind (talk command) c.self.inside.place reply → (talk command).places ≤ next
       → end ≡ length c.push.new.self.items
       → to ≡ c.self.inside.turn + 1 + quiet_front (drop (c.self.inside.turn + 1) c.self.inside.commands)
-      → sum_by room_of (drop to c.self.inside.commands) ≤ text.room
       → text.bytes ≡ (c.self.inside.printed.bytes
       ++ command_text (record { command = command; replies = drop c.self.inside.from (replies_of c.push.new.self.items) }))
       ++ quiet_text (drop (c.self.inside.turn + 1) c.self.inside.commands)
-      → IsCaller script c.self.inside.commands c.push.new.self text to end 0 c.self.inside.totals.cost c.self.inside.totals.roots
+      → IsCaller script c.self.inside.commands c.push.new.self.items text.bytes to end 0 c.self.inside.totals
   over =
       let s = c.self.inside in
-      goes_on script s.commands s.taken s.printed s.turn s.from s.place s.totals.cost s.totals.roots reply c.self.invariant taken
+      goes_on script s.commands s.taken s.printed s.turn s.from s.place s.totals reply c.self.invariant.0 room taken
       command there c.args.head c.args.bytes.now c.push.new.self refl (given_by c.args.head c.args.bytes.now c.requires.few)
       c.push.ensures.items c.push.ensures.room c.push.ensures.room_bytes
+
+  -- .. and it has the room that it needs
+  further_room : HasRoom c.self.inside.commands c.push.new.self c.self.inside.printed c.self.inside.turn
+  further_room =
+      let s = c.self.inside in
+      stays_room script s.commands s.taken s.printed s.turn s.from s.place s.totals reply c.self.invariant.0 room taken
+      command there c.args.head c.args.bytes.now c.push.new.self refl (given_by c.args.head c.args.bytes.now c.requires.few)
+      c.push.ensures.items c.push.ensures.room c.push.ensures.room_bytes
+
+  over_room : (text : TextView) (to : ℕ) → sum_by room_of (drop to c.self.inside.commands) ≤ text.room
+      → HasRoom c.self.inside.commands c.push.new.self text to
+  over_room =
+      let s = c.self.inside in
+      goes_room script s.commands s.taken s.printed s.turn s.from s.place s.totals reply c.self.invariant.0 room taken
+      command there c.args.head c.args.bytes.now c.push.new.self refl (given_by c.args.head c.args.bytes.now c.requires.few)
+      c.push.ensures.items c.push.ensures.room c.push.ensures.room_bytes
+
+  -- a script that is ready stays so
+  still : {X : Type 0} → c.self.inside.is_ready ≡ false → X
+  still other = absurd (let both : true ≡ false = sym ready ∙ other in cc)
 
 pub push-requires-clause-room : goal.push-requires-clause-room
 push-requires-clause-room c =
     let s = c.self.inside in
     let script : ScriptView = record { board = s.board.value; text = s.text.value.items } in
     let reply : Reply = reply_by c.args.head c.args.bytes.now in
-    has_place script s.commands s.taken s.printed s.turn s.from s.place s.totals.cost s.totals.roots reply c.self.invariant
-    (taking script s.commands s.taken s.printed s.turn s.from s.place s.totals.cost s.totals.roots reply c.self.invariant c.args.self.now
-    c.self.view_is c.requires.fits)
+    let k = taking script s.commands s.taken s.printed s.turn s.from s.place s.totals reply c.self.invariant.0 s.is_ready
+    c.args.self.now c.self.view_is c.requires.fits in
+    has_place script s.commands s.taken s.printed s.turn s.from s.place s.totals reply c.self.invariant.0
+    (c.self.invariant.1.room (ready_to_take script s.commands s.taken s.printed s.turn s.from s.place s.totals reply c.self.invariant.0
+    s.is_ready c.args.self.now c.self.view_is k c.requires.room)) k
 
 pub push-requires-clause-room_bytes : goal.push-requires-clause-room_bytes
 push-requires-clause-room_bytes c =
     let s = c.self.inside in
     let script : ScriptView = record { board = s.board.value; text = s.text.value.items } in
     let reply : Reply = reply_by c.args.head c.args.bytes.now in
-    has_room script s.commands s.taken s.printed s.turn s.from s.place s.totals.cost s.totals.roots reply c.self.invariant
-    (taking script s.commands s.taken s.printed s.turn s.from s.place s.totals.cost s.totals.roots reply c.self.invariant c.args.self.now
-    c.self.view_is c.requires.fits) c.args.bytes.now (given_by c.args.head c.args.bytes.now c.requires.few)
+    let k = taking script s.commands s.taken s.printed s.turn s.from s.place s.totals reply c.self.invariant.0 s.is_ready
+    c.args.self.now c.self.view_is c.requires.fits in
+    has_room script s.commands s.taken s.printed s.turn s.from s.place s.totals reply c.self.invariant.0
+    (c.self.invariant.1.room (ready_to_take script s.commands s.taken s.printed s.turn s.from s.place s.totals reply c.self.invariant.0
+    s.is_ready c.args.self.now c.self.view_is k c.requires.room)) k c.args.bytes.now (given_by c.args.head c.args.bytes.now c.requires.few)
 
 pub behind-place-requires : goal.behind-place-requires
 behind-place-requires c =
     let g = (goal.at.behind-place-requires c).After-get in
-    c.self.invariant.at.more (command g) (there g)
+    c.self.invariant.0.at.more (command g) (there g)
 
 pub push_command-requires-clause-replies : goal.push_command-requires-clause-replies
 push_command-requires-clause-replies c = told (goal.at.push_command-requires-clause-replies c).After-get
@@ -98,48 +132,79 @@ overflow_add-self-inside c =
     let g = (goal.at.overflow_add-self-inside c).After-get in
     omega (arith, (taken g).count, (taken g).within)
 
+pub push_quiet-self-inside-requires-clause-room : goal.push_quiet-self-inside-requires-clause-room
+push_quiet-self-inside-requires-clause-room c =
+    let s = c.self.inside in
+    let g = (goal.at.push_quiet-self-inside-requires-clause-room c).After-get in
+    omega (
+      arith,
+      c.push_command.ensures.room,
+      (room g).text,
+      sum_there s.commands s.turn (command g) (there g),
+      front_parts (drop (s.turn + 1) s.commands),
+    )
+
 pub invariant_of-self : goal.invariant_of-self
 invariant_of-self c =
-    further (goal.at.invariant_of-self c).After-get c.behind-place.result (c.behind-place.ensures c.args.bytes.now)
-    (omega (arith, c.if-place-places.true, c.places.ensures.value))
+    let g = (goal.at.invariant_of-self c).After-get in (
+      further g c.behind-place.result (c.behind-place.ensures c.args.bytes.now)
+          (omega (arith, c.if-place-places.true, c.places.ensures.value)),
+      record { room = λ yes. further_room g; untaken = still g },
+    )
 
 pub invariant_of-self-else-place-places : goal.invariant_of-self-else-place-places
 invariant_of-self-else-place-places c =
     let s = c.self.inside in
     let g = (goal.at.invariant_of-self-else-place-places c).After-get in
     let quiet = c.push_quiet-self-inside in
-    over g quiet.new.out c.behind-place.result c.len-self-inside.result quiet.result (c.behind-place.ensures c.args.bytes.now)
-    (omega (arith, c.if-place-places.false, c.places.ensures.value)) c.len-self-inside.ensures quiet.ensures.behind
-    (omega (
-      arith,
-      quiet.ensures.room,
-      c.push_command.ensures.room,
-      c.self.invariant.room_text,
-      sum_there s.commands s.turn (command g) (there g),
-    ))
-    (quiet.ensures.bytes ∙ ap (λ (x : List ℕ). x ++ quiet_text (drop (s.turn + 1) s.commands)) c.push_command.ensures.bytes)
+    let rest : List CommandView = drop (s.turn + 1) s.commands in
+    let to : drop (quiet_front rest) rest ≡ drop quiet.result s.commands =
+    drop-drop (quiet_front rest) (s.turn + 1) s.commands ∙ ap (λ n. drop n s.commands) (sym quiet.ensures.behind) in (
+      over g quiet.new.out c.behind-place.result c.len-self-inside.result quiet.result (c.behind-place.ensures c.args.bytes.now)
+          (omega (arith, c.if-place-places.false, c.places.ensures.value)) c.len-self-inside.ensures quiet.ensures.behind
+          (quiet.ensures.bytes ∙ ap (λ (x : List ℕ). x ++ quiet_text (drop (s.turn + 1) s.commands)) c.push_command.ensures.bytes),
+      record {
+        room = λ yes. over_room g quiet.new.out quiet.result
+            (omega (
+              arith,
+              quiet.ensures.room,
+              c.push_command.ensures.room,
+              (room g).text,
+              sum_there s.commands s.turn (command g) (there g),
+              front_parts rest,
+              ap (λ xs. sum_by room_of xs) to,
+            ));
+        untaken = still g;
+      },
+    )
 
 pub returns-then-place-places-clause-room : goal.returns-then-place-places-clause-room
 returns-then-place-places-clause-room c =
     let s = c.self.inside in
     let g = (goal.at.returns-then-place-places-clause-room c).After-get in
-    covered (script g) s.commands c.push.new.self s.printed s.turn s.from c.behind-place.result s.totals.cost s.totals.roots
+    covered (script g) s.commands c.push.new.self s.printed s.turn s.from c.behind-place.result s.totals s.is_ready
     (further g c.behind-place.result (c.behind-place.ensures c.args.bytes.now)
-    (omega (arith, c.if-place-places.true, c.places.ensures.value)))
+    (omega (arith, c.if-place-places.true, c.places.ensures.value))) (further_room g) (ready g)
 
 pub returns-else-place-places-clause-room : goal.returns-else-place-places-clause-room
 returns-else-place-places-clause-room c =
     let s = c.self.inside in
     let g = (goal.at.returns-else-place-places-clause-room c).After-get in
     let quiet = c.push_quiet-self-inside in
-    covered (script g) s.commands c.push.new.self quiet.new.out quiet.result c.len-self-inside.result 0 s.totals.cost s.totals.roots
+    let rest : List CommandView = drop (s.turn + 1) s.commands in
+    let to : drop (quiet_front rest) rest ≡ drop quiet.result s.commands =
+    drop-drop (quiet_front rest) (s.turn + 1) s.commands ∙ ap (λ n. drop n s.commands) (sym quiet.ensures.behind) in
+    covered (script g) s.commands c.push.new.self quiet.new.out quiet.result c.len-self-inside.result 0 s.totals s.is_ready
     (over g quiet.new.out c.behind-place.result c.len-self-inside.result quiet.result (c.behind-place.ensures c.args.bytes.now)
     (omega (arith, c.if-place-places.false, c.places.ensures.value)) c.len-self-inside.ensures quiet.ensures.behind
+    (quiet.ensures.bytes ∙ ap (λ (x : List ℕ). x ++ quiet_text (drop (s.turn + 1) s.commands)) c.push_command.ensures.bytes))
+    (over_room g quiet.new.out quiet.result
     (omega (
       arith,
       quiet.ensures.room,
       c.push_command.ensures.room,
-      c.self.invariant.room_text,
+      (room g).text,
       sum_there s.commands s.turn (command g) (there g),
-    ))
-    (quiet.ensures.bytes ∙ ap (λ (x : List ℕ). x ++ quiet_text (drop (s.turn + 1) s.commands)) c.push_command.ensures.bytes))
+      front_parts rest,
+      ap (λ xs. sum_by room_of xs) to,
+    ))) (ready g)

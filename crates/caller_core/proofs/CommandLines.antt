@@ -1,0 +1,41 @@
+-- What is so of each command as it runs, a row a kind: its transfers are within the limits, and what it prints is lines of a section.
+use Rattle.std.proofs.Common.{ℕ, ◌<◌, List}
+use Rattle.std.specs.Prelude.{All}
+use Rattle.bus_journal.specs.Reports.{IsSectionLine}
+use Rattle.i2c_base.specs.Board.{BoardView}
+use Rattle.i2c_base.specs.declared.reply.Reply.{Reply}
+use Rattle.dev_handle.specs.Handles.{HandlesView}
+use Rattle.i2c_drivers.specs.Runs.{driver_run}
+use Rattle.i2c_drivers.proofs.DriverLemmas as drivers
+use Rattle.tools.specs.Commands.{IsInRange}
+use Rattle.tools.specs.declared.command.Cmd.{Cmd}
+use Rattle.tools.specs.declared.command.Cmd.TheVariants as cmd
+use Rattle.tools.proofs.CommandLemmas as tools
+use Rattle.tools.proofs.TransferLemmas.{IsAsk}
+use Rattle.caller_core.specs.Runs.{dialogue_of, run_of, handles_behind}
+use Rattle.caller_core.specs.declared.run.CommandRun.{CommandRun}
+use Rattle.caller_core.proofs.HandleLemmas.{AreNear, handle_asks, handle_lines, near_after}
+
+-- each of its transfers is within the limits
+abbrev pub AsksWithin : CommandRun → Type 0
+AsksWithin r = (k : ℕ) → k < (dialogue_of r).places → IsAsk ((dialogue_of r).at k)
+
+-- whatever the replies, what it prints is lines, of which none is `journal`
+abbrev pub HasSectionLines : CommandRun → Type 0
+HasSectionLines r = (replies : List Reply) → All IsSectionLine ((dialogue_of r).lines replies)
+
+pub asks : (b : BoardView) (v : HandlesView) (limit : ℕ) (c : Cmd) → IsInRange limit c → AreNear v → AsksWithin (run_of b v c)
+asks b v limit (cmd.Tool t) range near = tools.asks b limit t range
+asks b v limit (cmd.Driver d) range near = drivers.asks (driver_run b d) (drivers.opened b d range)
+asks b v limit (cmd.Handle h) range near = handle_asks b v limit h range near
+
+pub answers : (b : BoardView) (v : HandlesView) (c : Cmd) → HasSectionLines (run_of b v c)
+answers b v (cmd.Tool t) = tools.answers b t
+answers b v (cmd.Driver d) = drivers.answers (driver_run b d)
+answers b v (cmd.Handle h) = handle_lines b v h
+
+-- the handles behind it are near where those before it are
+pub near_behind : (b : BoardView) (v : HandlesView) (limit : ℕ) (c : Cmd) → IsInRange limit c → AreNear v → AreNear (handles_behind b v c)
+near_behind b v limit (cmd.Tool t) range near = near
+near_behind b v limit (cmd.Driver d) range near = near
+near_behind b v limit (cmd.Handle h) range near = near_after b v limit h range near

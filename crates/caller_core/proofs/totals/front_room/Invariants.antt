@@ -1,0 +1,6 @@
+use Rattle.std.proofs.Common.{◌≡◌, ◌+◌, drop}
+use Rattle.caller_core.specs.Scripts.{front_room}
+use Rattle.caller_core.proofs.totals.front_room.Given as goal
+
+abbrev pub invariant-loop-at : goal.invariant-loop-at
+invariant-loop-at l = l.room + front_room (drop l.at l.commands) ≡ front_room l.commands
