@@ -4,7 +4,7 @@ use crate::words::parted;
 use i2c_base::{Kind, Reply, Transfer};
 use i2c_board::Accepted;
 use std::alloc::Global;
-use tools::{LineWords, ToolRun, each_field_is_in_range, each_line_is_read, read_line};
+use tools::{Cmd, LineWords, ToolRun, each_field_is_in_range, each_line_is_read, read_line};
 
 /// What is left of a script, how many transfers of its first line were replied to, and its board.
 #[derive(Clone, Copy)]
@@ -14,7 +14,7 @@ pub struct Asker<'s> {
     board: &'s Accepted,
 }
 
-/// The transfer at a place, from 0, of those that a line of a script asks for.
+/// The transfer at a place, from 0, of those that the line of a tool asks for.
 fn transfer_at(alloc: Global, line: &str, board: &Accepted, place: u16) -> Option<Transfer> {
     each_line_is_read();
     each_field_is_in_range();
@@ -23,7 +23,10 @@ fn transfer_at(alloc: Global, line: &str, board: &Accepted, place: u16) -> Optio
     let Ok(Some(command)) = read_line(alloc, &mut words, line.as_bytes(), limit) else {
         return None;
     };
-    let run = ToolRun::open(alloc, board, command).ok()?;
+    let Cmd::Tool(tool) = command else {
+        return None;
+    };
+    let run = ToolRun::open(alloc, board, tool).ok()?;
     if place >= run.places() {
         return None;
     }
