@@ -1,8 +1,11 @@
 -- The first line of a text. The inductions go over its bytes.
-use Rattle.std.proofs.Common.{◌≡◌, ℕ, ◌+◌, ◌<◌, Bool, true, false, List, [], ◌∷◌, ◌++◌, length, take, drop, refl, sym, ap, ◌∙◌, arith, cond, eqb, ◌&&◌}
+use Rattle.std.proofs.Common.{◌≡◌, ℕ, zero, suc, ◌+◌, ◌<◌, ◌≤◌, Option, Some, None, Bool, true, false, List, [], ◌∷◌, ◌++◌, length, take, drop, refl, sym, ap, ◌∙◌, arith, cond, eqb, ◌&&◌}
 use Rattle.std.proofs.Common.{add-one, get_or}
+use Rattle.std.specs.Option.{unwrap_or}
+use Rattle.std.proofs.lemmas.Bool.{eq-eqb, ne_eqb}
 use Rattle.std.proofs.lemmas.Bool.Decides.{nat_tests}
 use Rattle.std.proofs.lemmas.List.{drop_more, drop_all, take_more}
+use Rattle.memchr.specs.Find.{IsFirstByte, Nowhere, Passes, is_byte}
 use Rattle.tools.specs.Words.{onto_first}
 use Rattle.tools.specs.Splits.{lines_of, feed_at}
 
@@ -100,7 +103,30 @@ cut_over xs is within =
 feed_more : (b : ℕ) (bs ys : List ℕ) → ys ≡ b ∷ bs → eqb b 10 ≡ false → feed_at ys ≡ feed_at bs + 1
 feed_more b bs ys e h = ap feed_at e ∙ ap (λ s. cond s 0 (feed_at bs + 1)) h
 
--- one byte more that is no line feed
-pub feed_at_more : (xs : List ℕ) (i : ℕ) → i < length xs → eqb (get_or xs i 0) 10 ≡ false
-    → feed_at (drop i xs) ≡ feed_at (drop (i + 1) xs) + 1
-feed_at_more xs i h e = feed_more (get_or xs i 0) (drop (i + 1) xs) (drop i xs) (drop_more xs i 0 h) e
+-- so many bytes stand before the first line feed, and how many stand there behind them
+behind_none : (xs : List ℕ) (n : ℕ) → n ≤ length xs → Nowhere (Passes (is_byte 10) xs) 0 n → feed_at xs ≡ n + feed_at (drop n xs)
+behind_none xs zero within none = omega arith
+behind_none xs (suc n) within none =
+    let other : eqb (get_or xs n 0) 10 ≡ false = ne_eqb (get_or xs n 0) 10 (λ e. none n (omega arith) (omega arith) (eq-eqb (get_or xs n 0) 10 e)) in
+    let inside : n < length xs = omega (arith, within) in
+    let before = behind_none xs n (omega (arith, within)) (λ k low high. none k low (omega (arith, high))) in
+    let more = feed_more (get_or xs n 0) (drop (n + 1) xs) (drop n xs) (drop_more xs n 0 inside) other in
+    let next : feed_at (drop (n + 1) xs) ≡ feed_at (drop (suc n) xs) = ap (λ k. feed_at (drop k xs)) (add-one n) in
+    omega (arith, before, more, next)
+
+-- a search for the first line feed
+pub first_feed : (xs : List ℕ) (found : Option ℕ) → IsFirstByte (is_byte 10) xs found → unwrap_or found (length xs) ≡ feed_at xs
+first_feed xs None none =
+    let all = behind_none xs (length xs) (omega arith) none in
+    let rest : drop (length xs) xs ≡ [] = drop_all (length xs) xs (omega arith) in
+    let over : feed_at (drop (length xs) xs) ≡ 0 = ap feed_at rest in
+    omega (arith, all, over)
+first_feed xs (Some k) is =
+    let inside : k < length xs = is.0.high in
+    let before = behind_none xs k (omega (arith, inside)) is.0.before in
+    let feed : feed_at (drop k xs) ≡ 0 = ap feed_at (drop_more xs k 0 inside) ∙ ap (λ s. cond s 0 (feed_at (drop (k + 1) xs) + 1)) is.1 in
+    omega (arith, before, feed)
+
+pub first_within : (xs : List ℕ) (found : Option ℕ) → IsFirstByte (is_byte 10) xs found → unwrap_or found (length xs) ≤ length xs
+first_within xs None none = omega arith
+first_within xs (Some k) is = omega (arith, is.0.high)

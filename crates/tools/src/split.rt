@@ -7,6 +7,7 @@ ghost use Rattle.tools.specs.Readers.{texts};
 
 use crate::words::{Gap, first_word, skip_gaps};
 use i2c_base::NoMemory;
+use memchr::memchr;
 use std::alloc::Global;
 
 // The blanks between the words of a line.
@@ -103,17 +104,12 @@ pub fn push_echo(out: &mut Vec<u8>, line: &[u8]) -> Result<(), NoMemory>
 }
 
 // How many bytes stand before the first line feed of a text.
-#[tactic(auto, using(crate::proofs::SplitLemmas::feed_at_more))]
+#[tactic(auto, using(crate::proofs::SplitLemmas::first_feed, crate::proofs::SplitLemmas::first_within))]
 fn feed_at(text: &[u8]) -> usize
     ensures value { result ≡ feed_at text.now }
     ensures within { result ≤ length text.now }
 {
-    for at in 0..text.len() {
-        if text[at] == b'\n' {
-            return at;
-        }
-    }
-    text.len()
+    memchr(b'\n', text).unwrap_or(text.len())
 }
 
 /// How long the first line of a text is, without its end and with it.
