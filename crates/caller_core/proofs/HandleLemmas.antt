@@ -1,6 +1,6 @@
 -- What is so of the line of a handle, whatever handles are open before it: its transfers are within the limits, and what it prints is
 -- lines of a section.
-use Rattle.std.proofs.Common.{◌≡◌, ℕ, zero, suc, ◌+◌, ◌^◌, ◌<◌, ◌≤◌, Bool, true, false, List, [], ◌∷◌, ◌++◌, cond, codes, Option, Some, None, Result, Ok, Err, nat_lt, refl, subst, arith}
+use Rattle.std.proofs.Common.{◌≡◌, ℕ, zero, suc, ◌^◌, ◌<◌, ◌≤◌, Bool, true, false, List, [], ◌∷◌, ◌++◌, cond, codes, Option, Some, None, Result, Ok, Err, nat_lt, refl, subst, arith}
 use Rattle.std.specs.Prelude.{⊤, All, IfSome}
 use Rattle.std.specs.Fmt.{decimal}
 use Rattle.std.proofs.lemmas.List.Elements.{All-nil, All-cons, All-append, All-head, All-tail, All-set}

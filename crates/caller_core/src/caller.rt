@@ -142,6 +142,7 @@ fn make_room(bytes: Option<usize>, out: &mut Text) -> Result<(), NoMemory>
 }
 
 // Prints a command with these words, which is over, and its answer.
+#[inline(always)]
 fn push_command(out: &mut Text, echo: &[u8], run: &CommandRun, replies: Window<'_>)
     requires replies { AreReplies (dialogue_of run.now) 0 replies }
     requires room { room_of (record { echo = echo.now; run = run.now }) ≤ out.old.room }
@@ -166,6 +167,7 @@ fn no_replies(taken: &Packed<ReplyHead>) -> Window<'_>
 }
 
 // Prints the commands from a place on that ask for nothing. Tells the place behind them.
+#[inline(always)]
 fn push_quiet(commands: &Commands, turn: usize, taken: &Packed<ReplyHead>, out: &mut Text) -> usize
     requires within { turn ≤ length commands.now }
     requires room { front_room (drop turn commands.now) ≤ out.old.room }

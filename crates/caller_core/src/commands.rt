@@ -1,6 +1,6 @@
 //! The commands of a script, each with its words as they are printed.
 
-ghost use Rattle.std.specs.Prelude.{◌≡◌, ◌<◌, [], ◌∷◌, ◌++◌, length, slice_index_or, OnOk};
+ghost use Rattle.std.specs.Prelude.{◌≡◌, ◌<◌, [], ◌∷◌, ◌++◌, length, slice_index_or, IfOk, OnOk};
 
 use crate::run::CommandRun;
 use i2c_base::NoMemory;
@@ -37,13 +37,14 @@ impl Model for Commands {
 }
 
 impl Commands {
-    pub fn new(alloc: Global) -> Self
-        ensures { result ≡ [] }
+    /// None yet, with room for so many.
+    pub fn with_room(alloc: Global, commands: usize) -> Result<Self, NoMemory>
+        ensures { IfOk result (λ c. c ≡ []) }
     {
-        Commands {
-            placed: Vec::new(alloc),
+        Ok(Commands {
+            placed: Vec::with_capacity(alloc, commands)?,
             echoes: Vec::new(alloc),
-        }
+        })
     }
 
     pub fn len(&self) -> usize
@@ -54,6 +55,7 @@ impl Commands {
 
     /// Puts a command with these words at the end.
     #[tactic(auto, using(crate::proofs::PlacedLemmas::commands_push))]
+    #[inline(always)]
     pub fn push(&mut self, run: CommandRun, echo: &[u8]) -> Result<(), NoMemory>
         ensures { OnOk result (self.new ≡ self.old ++ record { echo = echo.now; run = run } ∷ []) }
     {

@@ -116,6 +116,7 @@ impl CommandRun {
     }
 
     /// The most bytes that it prints.
+    #[inline(always)]
     pub fn most(&self) -> usize
         ensures { result ≡ (dialogue_of self.now).most }
     {

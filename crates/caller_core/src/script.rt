@@ -20,6 +20,9 @@ use tools::{Cmd, LineFault, LineWords, cut_line, push_echo, read_line};
 /// The most commands of a script.
 const MOST_COMMANDS: usize = 1000;
 
+/// No line of a command is shorter, with its end: `open 0`.
+const SHORTEST_LINE: usize = 7;
+
 /// Why a script was not read.
 #[derive(Clone, Copy)]
 pub enum ScriptFault {
@@ -137,6 +140,11 @@ fn cut_at(text: &[u8], at: usize) -> (usize, usize)
     cut_line(&text[at..])
 }
 
+// No text of this length has more commands.
+fn most_commands(text: &[u8]) -> usize {
+    (text.len() / SHORTEST_LINE + 1).min(MOST_COMMANDS)
+}
+
 /// Reads the commands of a script over a board.
 pub fn read_script(alloc: Global, board: &Accepted, text: &[u8]) -> Result<Commands, ScriptFault>
     requires { length text.now ≤ 2 ^ 28 }
@@ -144,7 +152,7 @@ pub fn read_script(alloc: Global, board: &Accepted, text: &[u8]) -> Result<Comma
 {
     let mut words = LineWords::new(alloc);
     let mut echo = Vec::new(alloc);
-    let mut commands = Commands::new(alloc);
+    let mut commands = Commands::with_room(alloc, most_commands(text))?;
     let mut handles = Handles::new(alloc);
     let mut at = 0;
     let mut number = 0u32;

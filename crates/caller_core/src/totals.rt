@@ -123,6 +123,7 @@ pub fn totals_of(board: &Accepted, commands: &Commands) -> Totals
 }
 
 // How many bytes a command may print, where a number holds it.
+#[inline(always)]
 fn room_of(run: &CommandRun, echo: &[u8]) -> Option<usize>
     ensures { IfSome result (λ room. room ≡ room_of (record { echo = echo.now; run = run.now })) }
 {

@@ -1,4 +1,4 @@
-use Rattle.std.proofs.Common.{◌≡◌, ℕ, ◌≤◌, true, false, List, [], drop, refl, sym, subst, ◌∙◌}
+use Rattle.std.proofs.Common.{◌≡◌, ℕ, ◌≤◌, true, List, [], drop, refl, sym, subst, ◌∙◌}
 use Rattle.std.specs.Prelude.{sum_by}
 use Rattle.caller_core.specs.Kept.{IsCaller, HasRoom, KeptReply}
 use Rattle.caller_core.specs.Scripts.{room_of}
