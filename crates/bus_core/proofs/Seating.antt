@@ -19,6 +19,21 @@ use Rattle.i2c_base.proofs.ListLemmas.{map_at}
 use Rattle.i2c_base.proofs.ListLemmas.{set_elsewhere}
 use Rattle.i2c_base.proofs.ListLemmas.{set_here}
 
+-- a seat is that of a caller which is what it was, but for its room
+pub fresh_as : {C S : Type 0} (c : CallerGhosts C S) (b : BoardView) (roots : List ℕ) (number : ℕ) (was is : C) (s : Seat C)
+    → c.script is ≡ c.script was → c.taken is ≡ c.taken was → IsFreshSeat c b roots number is s → IsFreshSeat c b roots number was s
+fresh_as c b roots number was is s script taken f =
+    let asked = ap (λ x. c.asked x (c.taken is)) script ∙ ap (c.asked (c.script was)) taken in
+    record {
+      number_is = f.number_is;
+      script = f.script ∙ script;
+      taken = f.taken ∙ taken;
+      loaded = f.loaded;
+      looked = f.looked;
+      cut = f.cut;
+      seated = λ wired. f.seated (λ t asks. wired t (sym asked ∙ asks));
+    }
+
 -- a list with one more at its end
 push_at : {X : Type 0} (xs : List X) (y z : X) (i : ℕ) → slice_get (xs ++ y ∷ []) i ≡ Some z
     → ((i ≡ length xs) × (y ≡ z)) ⊎ (slice_get xs i ≡ Some z)

@@ -68,6 +68,10 @@ left_of left scripts n rs = option_map_or (λ s. left s rs) (script_at scripts n
 abbrev pub asked_next : {C S : Type 0} → CallerGhosts C S → Seat C → Option TransferView
 asked_next c s = c.asked (c.script s.caller) (c.taken s.caller)
 
--- its caller has room for the replies that it is still to take
+-- a caller has room for the replies that it is still to take
+abbrev pub HasRoom : {C S : Type 0} → CallerGhosts C S → C → Type 0
+HasRoom c caller = Covers (c.spare caller) (c.owed (c.script caller) (c.taken caller))
+
+-- the caller of a seat has it
 abbrev pub HasSpare : {C S : Type 0} → CallerGhosts C S → Seat C → Type 0
-HasSpare c s = Covers (c.spare s.caller) (c.owed (c.script s.caller) (c.taken s.caller))
+HasSpare c s = HasRoom c s.caller

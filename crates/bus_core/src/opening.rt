@@ -7,6 +7,7 @@ ghost use Rattle.core_laws.specs.Table.{AreDistinct};
 ghost use Rattle.seg_locks.specs.Locks.{IsDepth};
 ghost use Rattle.bus_core.specs.Kept.{IsCore, roots_of};
 ghost use Rattle.bus_core.specs.Opens.{numbers_in, MayOpen, IsOpenedWith, IsFreshSeat, AreSeated};
+ghost use Rattle.bus_core.specs.Places.{HasRoom};
 
 use crate::parts::CoreParts;
 use crate::seat::Seat;
@@ -32,21 +33,20 @@ fn depths(alloc: Global, board: &Accepted) -> Result<Vec<u8>, NoMemory>
     Ok(depths)
 }
 
-// A caller takes its seat: it makes room for its replies, and its first transfer is loaded.
+// A caller that has room for its replies takes its seat, and its first transfer is loaded.
 fn seat_of<P: Port, C: Caller>(
     board: &mut CachedBoard<'_>,
     ports: &[(SegId, P)],
     number: u8,
     caller: C,
-) -> Result<Seat<C>, NoMemory>
-    ensures seat { IfOk result (IsFreshSeat C.Caller board.old (roots_of ports.now) number caller) }
+) -> Seat<C>
+    requires room { HasRoom C.Caller caller }
+    ensures seat { IsFreshSeat C.Caller board.old (roots_of ports.now) number caller result }
     ensures board { board.new ≡ board.old }
 {
-    let mut caller = caller;
-    caller.reserve()?;
     let mut seat = Seat::resting(number, caller);
     seat.load(board, ports);
-    Ok(seat)
+    seat
 }
 
 // No number has a place yet.
@@ -72,9 +72,10 @@ fn seats_of<P: Port, C: Caller>(
     let mut seats = Vec::with_capacity(alloc, callers.len())?;
     let mut places = no_places(alloc)?;
     for (number, caller) in callers {
-        let seat = seat_of(board, ports, number, caller)?;
+        let mut caller = caller;
+        caller.reserve()?;
         places[usize::from(number)] = Some(seats.len() as u8);
-        seats.push_reserved(seat);
+        seats.push_reserved(seat_of(board, ports, number, caller));
     }
     Ok((seats, places))
 }

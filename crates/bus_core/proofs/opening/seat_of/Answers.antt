@@ -1,6 +1,5 @@
 use Rattle.std.proofs.Common.{◌≡◌, ◌⊎◌, ◌<◌, true, false, sym, ◌∙◌, ap, subst, arith}
 use Rattle.std.specs.Prelude.{take, sum_by}
-use Rattle.i2c_base.specs.Need.{Covers}
 use Rattle.i2c_base.specs.Transfer.{TransferView, written_of}
 use Rattle.i2c_spec.specs.Tree.{buses, root_of}
 use Rattle.bus_spec.specs.Grammar.{walk_for}
@@ -8,6 +7,7 @@ use Rattle.bus_spec.specs.Walk.{WalkTree}
 use Rattle.core_laws.specs.Core.{IsLone}
 use Rattle.bus_core.specs.Kept.{roots_of}
 use Rattle.bus_core.specs.Opening.{HasRoot}
+use Rattle.bus_core.specs.Places.{HasRoom}
 use Rattle.bus_core.specs.declared.seat.Seat.{Seat}
 use Rattle.bus_core.proofs.SeatLemmas.{asks_or_not}
 use Rattle.bus_core.proofs.There.{there-for}
@@ -20,21 +20,16 @@ returns-clause-seat g c =
     let script_of = g.C.Caller.script in
     let taken_of = g.C.Caller.taken in
     let asks = λ (k : g.row.C.Denot). g.C.Caller.asked (script_of k) (taken_of k) in
-    let kept : new.caller ≡ c.resting-seat.result.caller = ap (λ (t : Seat g.row.C.Denot). t.caller) same in
-    let caller : new.caller ≡ c.reserve.new.self = kept ∙ c.resting-seat.ensures.caller in
+    let caller : new.caller ≡ c.args.caller = ap (λ (t : Seat g.row.C.Denot). t.caller) same ∙ c.resting-seat.ensures.caller in
     let sent : new.sent ≡ 0 = ap (λ (t : Seat g.row.C.Denot). t.sent) same in
-    let script : script_of new.caller ≡ script_of c.args.caller = ap script_of caller ∙ c.reserve.ensures.script in
-    let taken : taken_of new.caller ≡ taken_of c.args.caller = ap taken_of caller ∙ c.reserve.ensures.taken in
-    let old : asks c.resting-seat.result.caller ≡ asks c.args.caller =
-    ap asks (sym kept) ∙ ap (λ s. g.C.Caller.asked s (taken_of new.caller)) script
-    ∙ ap (g.C.Caller.asked (script_of c.args.caller)) taken in
+    let old : asks c.resting-seat.result.caller ≡ asks c.args.caller = ap asks c.resting-seat.ensures.caller in
     record {
       number_is = ap (λ (t : Seat g.row.C.Denot). t.number) same ∙ c.resting-seat.ensures.number;
-      script = script;
-      taken = taken;
+      script = ap script_of caller;
+      taken = ap taken_of caller;
       loaded = record {
-        some = λ x h. c.load.ensures.some x (ap asks (sym kept) ∙ h);
-        none = λ h. c.load.ensures.none (ap asks (sym kept) ∙ h);
+        some = λ x h. c.load.ensures.some x (old ∙ sym (ap asks caller) ∙ h);
+        none = λ h. c.load.ensures.none (old ∙ sym (ap asks caller) ∙ h);
         sent = sent;
         undecided = ap (λ (t : Seat g.row.C.Denot). t.decided) same;
         unread = c.load.ensures.cleared;
@@ -61,7 +56,6 @@ returns-clause-seat g c =
                 (subst (λ (x : TransferView). (x.bus < buses c.args.board.now) ⊎ IsLone c.args.board.now (walk_for c.args.board.now t))
                 (sym first.0) (there-for c.args.board.now t)))
                 (λ none. absurd (let f : true ≡ false = sym (c.load.ensures.none (old ∙ none)) ∙ on in cc));
-            spare = subst (λ (k : g.row.C.Denot). Covers (g.C.Caller.spare k) (g.C.Caller.owed (script_of k) (taken_of k)))
-                (sym caller) c.in_ok-reserve.ensures.ok;
+            spare = subst (HasRoom g.C.Caller) (sym caller) c.requires.room;
           };
     }

@@ -7,7 +7,7 @@ use Rattle.i2c_base.specs.Limits.{MOST_CALLERS}
 use Rattle.bus_core.specs.Kept.{roots_of}
 use Rattle.bus_core.specs.Opens.{AreSeated, IsFreshSeat}
 use Rattle.bus_core.specs.declared.seat.Seat.{Seat}
-use Rattle.bus_core.proofs.Seating.{seated-none, seated-one, room-for-one, push_here}
+use Rattle.bus_core.proofs.Seating.{fresh_as, seated-none, seated-one, room-for-one, push_here}
 use Rattle.bus_core.proofs.opening.seats_of.Goals as goal
 
 pub loop-number-init : goal.loop-number-init
@@ -80,11 +80,13 @@ loop-number-preserved g c =
     let place : c.len-in-loop-number.result ≡ length yielded = c.len-in-loop-number.ensures ∙ len ∙ at.seated.counted in
     let is : c.from.result ≡ c.in-Some.number = c.from.ensures in
     let places = set c.loop-number.places.items c.in-Some.number (Some (length yielded)) in
+    let fresh = fresh_as g.C.Caller c.loop-number.board (roots_of c.args.ports.now) c.in-Some.number c.in-Some.caller
+    c.reserve.new.self c.seat_of.result c.reserve.ensures.script c.reserve.ensures.taken c.seat_of.ensures.seat in
     let more = seated-one g.C.Caller c.args.board.now (roots_of c.args.ports.now) c.args.callers.items
     (length yielded) c.loop-number.seats.items c.loop-number.places.items at.seated
-    c.requires.distinct x here (c.requires.below (length yielded) x here) c.in_ok-seat.seat
-    (subst (λ (b : BoardView). IsFreshSeat g.C.Caller b (roots_of c.args.ports.now) c.in-Some.number c.in-Some.caller c.in_ok-seat.seat)
-    at.board c.in_ok-seat.ensures.seat) in
+    c.requires.distinct x here (c.requires.below (length yielded) x here) c.seat_of.result
+    (subst (λ (b : BoardView). IsFreshSeat g.C.Caller b (roots_of c.args.ports.now) c.in-Some.number c.in-Some.caller c.seat_of.result)
+    at.board fresh) in
     let noted : places ≡ set c.loop-number.places.items c.from.result (Some c.len-in-loop-number.result) =
     ap (λ (n : ℕ). set c.loop-number.places.items n (Some (length yielded))) (sym is)
     ∙ ap (λ (n : ℕ). set c.loop-number.places.items c.from.result (Some n)) (sym place) in
