@@ -1,6 +1,6 @@
 -- The limits of a board and of what is done on it, each by its one name. The code has the same names, and a law that each
 -- of them is this one (the_code_has_these_limits).
-use Rattle.std.specs.Prelude.{ℕ, ◌+◌, ◌*◌}
+use Rattle.std.specs.Prelude.{ℕ, ◌+◌, ◌*◌, ◌==◌, Option, Some, None, if◌then◌else◌}
 
 -- a board has 1 to so many roots, and at most so many muxes and devices; a mux has 1 to so many channels, and no bus
 -- has more muxes over it (Linux i2c-topology warns of deep trees). Each channel is a bus
@@ -47,9 +47,13 @@ MOST_BYTES = 4096
 abbrev pub BLOCK_LIMIT : ℕ
 BLOCK_LIMIT = 32
 
--- no block has more bytes, whatever the board's block limit is, since its count is one byte (SMBus 3.2 section 6.5.7)
+-- .. or so many, since its count is one byte (SMBus 3.2 section 6.5.7)
 abbrev pub LARGEST_BLOCK : ℕ
 LARGEST_BLOCK = 255
+
+-- the block limit by the version of a board, of which there are two: that of SMBus 2.0, and that of SMBus 3.0 and later
+abbrev pub limit_of : (version : ℕ) → Option ℕ
+limit_of version = if version == 1 then Some BLOCK_LIMIT else if version == 2 then Some LARGEST_BLOCK else None
 
 -- a block that a command asks for by its length has at most so many bytes, whatever the board's block limit is (Linux
 -- i2c.h: I2C_SMBUS_BLOCK_MAX)

@@ -38,7 +38,7 @@ pub use ids::{DevId, LockId, MuxId, Node, SegId};
 pub use limits::{
     BLOCK_LIMIT, I2C_BLOCK_LIMIT, LARGEST_BLOCK, MOST_BYTES, MOST_CALLERS, MOST_CALLS,
     MOST_CHANNELS, MOST_DEPTH, MOST_DEVICES, MOST_LENGTH, MOST_LOOKS, MOST_MESSAGES, MOST_MUXES,
-    MOST_ON_PATH, MOST_ROOTS, POLLS, the_code_has_these_limits,
+    MOST_ON_PATH, MOST_ROOTS, POLLS, limit_of, the_code_has_these_limits,
 };
 pub use lists::empty;
 pub use memory::NoMemory;

@@ -30,10 +30,10 @@ pub const MOST_LENGTH: usize = 512;
 /// The most bytes of a transfer.
 pub const MOST_BYTES: usize = 4096;
 
-/// The most bytes of a block (SMBus 2.0 section 5.5.7).
+/// The most bytes of a block on a board of version 1 (SMBus 2.0 section 5.5.7).
 pub const BLOCK_LIMIT: u8 = 32;
 
-/// The most bytes of a block on any board, since its count is one byte (SMBus 3.2 section 6.5.7).
+/// The most bytes of a block on a board of version 2, and on any, since its count is one byte (SMBus 3.2 section 6.5.7).
 pub const LARGEST_BLOCK: u8 = 255;
 
 /// The most bytes of a block that is asked for by its length, whatever the board's block limit is (Linux i2c.h:
@@ -51,6 +51,17 @@ pub const MOST_CALLERS: u8 = 8;
 
 /// The most calls that the log of a port holds.
 pub const MOST_CALLS: usize = 2_000_000;
+
+/// The most bytes of a block on a board of this version, none where there is no such version.
+pub fn limit_of(version: u8) -> Option<u8>
+    ensures { result ≡ limit.limit_of version }
+{
+    match version {
+        1 => Some(BLOCK_LIMIT),
+        2 => Some(LARGEST_BLOCK),
+        _ => None,
+    }
+}
 
 /// Each limit of the code is the one of its name in the definitions.
 pub fn the_code_has_these_limits()

@@ -1,9 +1,11 @@
 pub mod AddressLemmas
+pub mod BlockLemmas
 pub mod ByteLemmas
 pub mod CostLemmas
 pub mod EepromLemmas
 pub mod FeedLemmas
 pub mod HopLemmas
+pub mod IdleLemmas
 pub mod Lm75Lemmas
 pub mod MessageLemmas
 pub mod PlainLemmas
@@ -11,4 +13,3 @@ pub mod RegsLemmas
 pub mod SmbusLemmas
 pub mod StateLemmas
 pub mod TreeLemmas
-pub mod IdleLemmas

@@ -1,6 +1,6 @@
 -- The flat world: devices and nothing else. No mux states, no locks, no other caller; a transfer names its devices
 -- by the grant of its addresses.
-use Rattle.std.specs.Prelude.{ℕ, ◌==◌, nat_lt, Bool, true, false, not, ◌&&◌, List, [], ◌∷◌, Option, Some, None, slice_get, if◌then◌else◌}
+use Rattle.std.specs.Prelude.{ℕ, ◌==◌, nat_lt, Bool, true, false, not, ◌&&◌, List, [], ◌∷◌, Option, Some, None, slice_get, if◌then◌else◌, unwrap_or}
 use Rattle.std.specs.List.{list_any}
 use Rattle.std.specs.Option.{option_map_or}
 use Rattle.i2c_base.specs.declared.event.Event.{Event}
@@ -22,7 +22,7 @@ use Rattle.i2c_base.specs.declared.transfer.Kind.TheVariants as transfer_kind
 use Rattle.i2c_base.specs.declared.tree.Way.{Way}
 use Rattle.i2c_base.specs.declared.tree.Way.TheVariants as way
 use Rattle.i2c_base.specs.Board.{BoardView}
-use Rattle.i2c_base.specs.Limits.{BLOCK_LIMIT}
+use Rattle.i2c_base.specs.Limits.{BLOCK_LIMIT, limit_of}
 use Rattle.i2c_base.specs.Transfer.{TransferView, is_read}
 use Rattle.i2c_spec.specs.Tree.{buses, root_of}
 use Rattle.i2c_spec.specs.Grant.{grant_of, is_busy, named_of, way_of}
@@ -102,9 +102,9 @@ flat_listener granted =
 abbrev pub granted_on : BoardView → ℕ → Bool → ℕ → Option ℕ
 granted_on b s force a = named_of (grant_of b s a force)
 
--- the most bytes of a block, on a board of version 1
+-- the most bytes of a block, which the board's version tells
 abbrev pub block_limit : BoardView → ℕ
-block_limit b = BLOCK_LIMIT
+block_limit b = unwrap_or (limit_of b.version) BLOCK_LIMIT
 
 -- how a message that ended early makes its transfer fail
 abbrev pub errno_of : End → Option Errno

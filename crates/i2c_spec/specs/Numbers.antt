@@ -1,4 +1,4 @@
--- The numbers that a board says of its muxes and devices: the key of each, its range, and its value where the board
+-- The numbers that a board says of itself, of its muxes and devices: the key of each, its range, and its value where the board
 -- file doesn't say it. What reads, tests or keeps such a number takes its range from its key. The keys of a kind of device
 -- stand with the kind's table.
 use Rattle.std.specs.Prelude.{ℕ, ◌≤◌, List, codes}
@@ -12,6 +12,10 @@ pub record NumberKey : Type 0 where
 
 abbrev pub IsFor : NumberKey → ℕ → Type 0
 IsFor key n = (key.low ≤ n) × (n ≤ key.high)
+
+-- of a board: its version, which the board file has to say
+abbrev pub version_key : NumberKey
+version_key = record { name = codes "version"; low = 1; high = 2; default = 1 }
 
 -- of a target: its address, which the board file has to say
 abbrev pub address_key : NumberKey

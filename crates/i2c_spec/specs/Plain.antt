@@ -5,7 +5,7 @@ use Rattle.i2c_base.specs.declared.board.MuxSpec.{MuxSpec}
 use Rattle.i2c_base.specs.Board.{BoardView, DeviceView, RunView}
 use Rattle.i2c_base.specs.Bytes.{AreBytes}
 use Rattle.i2c_base.specs.Addr.{IsTargetAddress}
-use Rattle.i2c_base.specs.Limits.{MOST_ROOTS, MOST_MUXES, MOST_DEVICES}
+use Rattle.i2c_base.specs.Limits.{MOST_ROOTS, MOST_MUXES, MOST_DEVICES, limit_of}
 use Rattle.i2c_base.specs.Muxes.{facts_of}
 use Rattle.i2c_spec.specs.Numbers.{IsFor, channels_key, foreign_key}
 use Rattle.i2c_spec.specs.Targets.{FitsKind, row_of_kind}
@@ -58,7 +58,7 @@ IsPlanted roots [] = ⊤
 IsPlanted roots (m ∷ before) = (m.bus < buses_of roots before) × IsPlanted roots before
 
 pub record IsPlainBoard (b : BoardView) : Type 0 where
-  pub version : b.version ≡ 1
+  pub version : IsSome (limit_of b.version)
   pub some_root : 1 ≤ length b.roots
   pub most_roots : length b.roots ≤ MOST_ROOTS
   pub most_muxes : length b.muxes ≤ MOST_MUXES
