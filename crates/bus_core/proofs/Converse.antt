@@ -61,6 +61,7 @@ use Rattle.bus_core.proofs.ReadsRoom.{reads-room}
 use Rattle.bus_core.proofs.Heard.{undecided}
 use Rattle.i2c_spec.specs.Conversation.{is_it}
 use Rattle.i2c_spec.proofs.MessageLemmas.{is_it-some, is_it-at}
+use Rattle.i2c_spec.proofs.BlockLemmas.{is_block_limit}
 use Rattle.std.proofs.lemmas.Bool.{and_parts}
 use Rattle.i2c_base.proofs.ListLemmas.{map_from}
 use Rattle.i2c_base.proofs.ListLemmas.{map_at}
@@ -279,7 +280,7 @@ module _ {P C S : Type 0} (g : PortGhosts P) (c : CallerGhosts C S) (x : CorePar
         part = subst (λ (n : ℕ). 0 < n) (sym of.as_part) (part_low s.sent more job (λ bus ms is. (calls bus ms is).2));
         more = λ through. (call-left (call-through next.purpose sent.end through).0).1;
         room = λ call reads.
-            reads-room s.transfer s.sent (block_limit b) s.replies.got bytes (spoken.whole call) (call-left call).1 (omega arith)
+            reads-room s.transfer s.sent (block_limit b) s.replies.got bytes (spoken.whole call) (call-left call).1 (is_block_limit b).few
             (partway (call-left call).0)
             (subst (λ (y : Purpose). length bytes ≤ bytes_most (block_limit b) (message_for s.transfer s.sent y next.control sent.addr))
             call spoken.sent.spoke.few);

@@ -17,6 +17,7 @@ use Rattle.bus_laws.specs.Runs.{IsCall}
 use Rattle.bus_laws.proofs.past.Placed.{no_settle}
 use Rattle.bus_laws.proofs.walk.Reads.{message-reads}
 use Rattle.i2c_spec.proofs.MessageLemmas.{length-messages}
+use Rattle.i2c_spec.proofs.BlockLemmas.{is_block_limit}
 use Rattle.mux_plan.specs.Plans.{SeenView, slots_of}
 use Rattle.core_laws.specs.Core.{Place, has_reply, IsGoing, CoreKept, Run, Whole, IsSent}
 use Rattle.core_laws.specs.Seats.{IsLeft, IsDecided}
@@ -76,7 +77,7 @@ module _ (run : Run) (whole : Whole) (core : CoreKept run whole)
         let low : p.sent < length p.transfer.msgs = omega (arith, call.2, many) in
         subst (λ (j : Job). FitsReads (take (p.sent + 1) p.transfer.msgs) (got_after j reading bytes p.got)) (sym is)
         (subst (λ (r : Bool). FitsReads (take (p.sent + 1) p.transfer.msgs) (got_after (Call bus ms) r bytes p.got)) (sym direction)
-        (message-reads (block_limit run.board) (omega arith) p.transfer p.sent low p.got bytes before
+        (message-reads (block_limit run.board) (is_block_limit run.board).few p.transfer p.sent low p.got bytes before
         (λ h. subst (λ (m : MessageView). Gives (block_limit run.board) m bytes) its_message (is_sent.gives.gives fine (direction ∙ h)))))
 
     -- .. is the last one

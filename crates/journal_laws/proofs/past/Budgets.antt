@@ -42,6 +42,7 @@ use Rattle.bus_laws.proofs.past.StandsEntries.{first_is}
 use Rattle.bus_laws.proofs.past.Asked.{settles_seen, current-asked, past-asked}
 use Rattle.i2c_base.specs.Need.{bytes_given}
 use Rattle.i2c_spec.proofs.CostLemmas.{cost_some}
+use Rattle.i2c_spec.proofs.BlockLemmas.{is_block_limit}
 use Rattle.bus_laws.proofs.past.Bytes.{got-grows, given-few}
 
 -- the entry that settles is still to come
@@ -211,7 +212,7 @@ module _ (b : BoardView) (asks : Asks) (some : AsksForMessages asks) (callers : 
       let left : ℕ = may.2.1 in
       let m : MessageView = message_of b job left in
       let h = within-next b n.slot w budget.left budget.within (Send job left) may.2.2 in
-      let size = talk-sized world_listener (cut_of en) (block_limit b) (omega arith) (n.worlds (root_of b (job_bus job))) m
+      let size = talk-sized world_listener (cut_of en) (block_limit b) (omega (arith, (is_block_limit b).some)) (n.worlds (root_of b (job_bus job))) m
       (short_sent c job left may.2.2) (is_last job left) in
       let made : calls_for b n (first_act (current b asks n c)) e ≡ length (talk_of b n job left en).calls = ap
       (λ (o : Option Act). calls_for b n o e) may.2.2 in

@@ -33,6 +33,7 @@ use Rattle.bus_laws.specs.Calls.{CallsOf, FirstCalls}
 use Rattle.bus_laws.specs.Others.{ahead}
 use Rattle.journal_laws.specs.Spent.{FitsAt, KeepsFits}
 use Rattle.i2c_spec.proofs.MessageLemmas.{length-messages}
+use Rattle.i2c_spec.proofs.BlockLemmas.{is_block_limit}
 use Rattle.bus_laws.proofs.world.TalkThrough.{GaveRead, talk-reads}
 use Rattle.bus_laws.proofs.walk.SettleLaw.{walk-settles, walk-starts}
 use Rattle.bus_laws.proofs.walk.Calls.{walk-calls}
@@ -258,7 +259,7 @@ module _ (b : BoardView) (asks : List Reply → Option TransferView) (v : Slots)
           ap (λ (k : ℕ). nth_message ms k) place ∙ ap (λ (xs : List MessageView). nth_message xs i) call.same_messages in
           let told : reading ≡ (nth_message (messages_of is.whose) i).reading = reads ∙ ap (λ (m : MessageView). m.reading) same in
           subst (λ (r : Bool). FitsReads (take (i + 1) is.whose.msgs) (cond r (got ++ bytes) got)) (sym told)
-          (message-reads (block_limit b) (omega arith) is.whose i (omega (arith, before.0)) got bytes before.1
+          (message-reads (block_limit b) (is_block_limit b).few is.whose i (omega (arith, before.0)) got bytes before.1
           (λ h. subst (λ (m : MessageView). GaveRead (block_limit b) m.counted m.len bytes) same (gave (told ∙ h) fine)))
 
       called : IsReading b asks (rest_of (seen v w) (Sent e bytes)) settled (got_after (Call bus ms) reading bytes got)

@@ -15,7 +15,7 @@ returns-in-Some g c t sent root =
     c.send_message.new.bytes c.send_message.result c.args.mux c.chip_addr-addr.result c.from-limit.result (Some c.in-Some.byte)
     c.requires.control c.in-Some.is
     (λ a there. c.chip_addr-addr.ensures a (ap (λ b. addr_of_mux b c.args.mux) c.board-2.ensures.value ∙ there)) (c.from-limit.ensures
-    ∙ c.limit.ensures) (c.send_message.ensures.sent root)
+    ∙ c.limit.ensures.value ∙ ap block_limit c.board.ensures.value) (c.send_message.ensures.sent root)
 
 pub returns-in-None : goal.returns-in-None
 returns-in-None g c t sent root =
@@ -24,14 +24,14 @@ returns-in-None g c t sent root =
     c.send_message-in-None.new.bytes c.send_message-in-None.result c.args.mux c.chip_addr-addr.result c.from-limit.result None
     c.requires.control c.in-None.is
     (λ a there. c.chip_addr-addr.ensures a (ap (λ b. addr_of_mux b c.args.mux) c.board-2.ensures.value ∙ there)) (c.from-limit.ensures
-    ∙ c.limit.ensures) (c.send_message-in-None.ensures.sent root)
+    ∙ c.limit.ensures.value ∙ ap block_limit c.board.ensures.value) (c.send_message-in-None.ensures.sent root)
 
 pub send_message-requires-clause-room : goal.send_message-requires-clause-room
 send_message-requires-clause-room g c κs within =
     λ tell.
     let addr : ℕ = c.chip_addr-addr.result in
     subst (λ (n : ℕ). length (g.P.Port.log c.args.port.now) + (bytes_most n (control_message addr (Some c.in-Some.byte)) + 2) ≤ MOST_CALLS)
-    (sym (c.from-limit.ensures ∙ c.limit.ensures))
+    (sym (c.from-limit.ensures ∙ c.limit.ensures.value ∙ ap block_limit c.board.ensures.value))
     (subst (λ (o : Option ℕ). length (g.P.Port.log c.args.port.now) +
     (bytes_most (block_limit c.args.board.now) (control_message addr o) + 2) ≤ MOST_CALLS) c.in-Some.is
     (c.requires.room addr tell))
@@ -41,7 +41,7 @@ send_message-requires-in-None-clause-room g c κs within =
     λ tell.
     let addr : ℕ = c.chip_addr-addr.result in
     subst (λ (n : ℕ). length (g.P.Port.log c.args.port.now) + (bytes_most n (control_message addr None) + 2) ≤ MOST_CALLS)
-    (sym (c.from-limit.ensures ∙ c.limit.ensures))
+    (sym (c.from-limit.ensures ∙ c.limit.ensures.value ∙ ap block_limit c.board.ensures.value))
     (subst (λ (o : Option ℕ). length (g.P.Port.log c.args.port.now) +
     (bytes_most (block_limit c.args.board.now) (control_message addr o) + 2) ≤ MOST_CALLS) c.in-None.is
     (c.requires.room addr tell))

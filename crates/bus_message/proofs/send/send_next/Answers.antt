@@ -19,7 +19,7 @@ send_message-requires-clause-room g c κs within =
     let wire : message_for v.transfer v.sent c.args.next.now.purpose c.args.next.now.control 0 ≡ c.message.result =
     ap (λ (p : Purpose). message_for v.transfer v.sent p c.args.next.now.control 0) c.in-Call.is ∙ sym c.message.ensures.value in
     subst (λ (n : ℕ). length (g.P.Port.log c.args.port.now) + (bytes_most n c.message.result + 2) ≤ MOST_CALLS)
-    (sym (c.from-limit.ensures ∙ c.limit.ensures))
+    (sym (c.from-limit.ensures ∙ c.limit.ensures.value ∙ ap block_limit c.board.ensures.value))
     (subst (λ (m : MessageView). length (g.P.Port.log c.args.port.now) + (bytes_most (block_limit c.args.board.now) m + 2) ≤ MOST_CALLS)
     wire
     ((c.requires.may 0).room 0 tell))
@@ -44,7 +44,7 @@ returns-in-Call g c root =
     c.send_message.new.bytes c.send_message.result v.grant c.from-limit.result c.message.result c.device-hearer.result c.is_last.result
     c.in-Call.is c.message.ensures.value (c.requires.next c.in-Call.is).grants (c.device-hearer.ensures
     ∙ ap (λ (x : CursorView). device_of x.grant) c.cursor.view_is)
-    (c.from-limit.ensures ∙ c.limit.ensures) c.is_last.ensures (c.send_message.ensures.sent root)
+    (c.from-limit.ensures ∙ c.limit.ensures.value ∙ ap block_limit c.board.ensures.value) c.is_last.ensures (c.send_message.ensures.sent root)
 
 pub returns-in-Control : goal.returns-in-Control
 returns-in-Control g c root = c.send_control.ensures c.args.cursor.now.transfer c.args.cursor.now.sent root
