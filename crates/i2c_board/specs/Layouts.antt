@@ -3,4 +3,4 @@ use Rattle.i2c_base.specs.Board.{BoardView}
 use Rattle.i2c_board.specs.declared.layout.Layout.{Layout}
 
 abbrev pub board_of : Layout → BoardView
-board_of l = record { version = 1; roots = l.roots.now; muxes = l.muxes.now; devices = l.devices.now }
+board_of l = record { version = l.version; roots = l.roots.now; muxes = l.muxes.now; devices = l.devices.now }

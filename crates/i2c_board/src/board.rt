@@ -1,21 +1,21 @@
 //! A board: its roots, muxes and devices, with their limits.
 
-ghost use Rattle.std.specs.Prelude.{◌≡◌, IfOk, List};
+ghost use Rattle.std.specs.Prelude.{◌≡◌, ◌≤◌, IfOk, List};
 ghost use Rattle.i2c_base.specs.declared.board.RootSpec.{RootSpec};
 ghost use Rattle.i2c_base.specs.declared.board.MuxSpec.{MuxSpec};
 
 use crate::by_bus::{hops_by_bus, some_stays};
 use crate::{Hop, Layout};
-use i2c_base::{DeviceSpec, MuxSpec, RootSpec};
+use i2c_base::{BLOCK_LIMIT, DeviceSpec, MuxSpec, RootSpec, limit_of};
 use std::alloc::{AllocError, Global};
 use std::marker::Model;
 
 /// A board: root buses, the muxes that hang below them, and the devices on their buses. A contract sees its
 /// parts as plain lists.
 ///
-/// Its type keeps that it has 1 to `MOST_ROOTS` roots, at most `MOST_MUXES` muxes and `MOST_DEVICES` devices, that
-/// each part has only what its kind allows, and that each mux and device stands on a bus that is there. Beside them it keeps
-/// the tree, so that no call searches the muxes for it.
+/// Its type keeps that its version is one of those that there are, that it has 1 to `MOST_ROOTS` roots, at most `MOST_MUXES`
+/// muxes and `MOST_DEVICES` devices, that each part has only what its kind allows, and that each mux and device stands on a
+/// bus that is there. Beside them it keeps the tree, so that no call searches the muxes for it.
 #[derive(Drop)]
 pub struct Board {
     version: u8,
@@ -40,28 +40,38 @@ impl Model for Board {
 
 impl Board {
     ghost use Rattle.i2c_board.specs.Layouts.{board_of};
+    ghost use Rattle.i2c_spec.specs.Flat.{block_limit};
     ghost use Rattle.i2c_spec.specs.Plain.{IsPlainBoard};
 
-    /// The board of these parts, which fit each other. Only its tree takes memory; `Err` is want of that.
+    /// The board of this version and these parts, which fit each other. Only its tree takes memory; `Err` is want of that.
     pub fn new(
         alloc: Global,
+        version: u8,
         roots: Vec<RootSpec>,
         muxes: Vec<MuxSpec>,
         devices: Vec<DeviceSpec>,
     ) -> Result<Self, AllocError>
-        requires { IsPlainBoard (record { version = 1; roots = roots.items; muxes = muxes.items; devices = devices.items }) }
-        ensures { IfOk result (λ b. b ≡ record { version = 1; roots = roots.items; muxes = muxes.items; devices = devices.items }) }
+        requires { IsPlainBoard (record { version = version; roots = roots.items; muxes = muxes.items; devices = devices.items }) }
+        ensures { IfOk result (λ b. b ≡ record { version = version; roots = roots.items; muxes = muxes.items; devices = devices.items }) }
     {
         let by_bus = hops_by_bus(alloc, roots.len() as u16, &muxes)?;
         let stays = some_stays(&muxes);
         Ok(Board {
-            version: 1,
+            version,
             roots,
             muxes,
             devices,
             by_bus,
             stays,
         })
+    }
+
+    /// The most bytes of a block, which its version tells.
+    pub fn limit(&self) -> u8
+        ensures value { result ≡ block_limit self.now }
+        ensures some { 1 ≤ result }
+    {
+        limit_of(self.version).unwrap_or(BLOCK_LIMIT)
     }
 
     /// Its root buses, in file order.
@@ -94,6 +104,7 @@ impl Board {
         ensures plain { IsPlainBoard self.now }
     {
         Layout {
+            version: self.version,
             roots: self.roots(),
             muxes: self.muxes(),
             devices: self.devices(),

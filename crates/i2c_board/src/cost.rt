@@ -7,7 +7,7 @@ ghost use Rattle.i2c_spec.specs.Tree.{locks_of};
 ghost use Rattle.i2c_spec.specs.Cost.{bytes_of, inner_cost, inner_behind, full_cost};
 
 use crate::{Accepted, Hop, Layout};
-use i2c_base::{BLOCK_LIMIT, Msg, SegId, Transfer};
+use i2c_base::{Msg, SegId, Transfer};
 
 /// What is counted at the end of some hops: the locks, a control message of a byte, and a job without steps of its own.
 #[derive(Clone, Copy)]
@@ -38,33 +38,33 @@ impl BusBill {
         ensures small { result < 2 ^ 32 }
     {
         match self.root {
-            Some(_) => u64::from(self.beside) + steps_of(transfer.msgs()),
+            Some(_) => { u64::from(self.beside) + steps_of(board.board().limit(), transfer.msgs()) }
             None => u64::from(self.beside),
         }
     }
 }
 
 // The bytes of a message, a counted read's as many as a block may have.
-fn bytes_of(msg: &Msg) -> u64
-    ensures value { result ≡ bytes_of limits.BLOCK_LIMIT msg.now }
+fn bytes_of(limit: u8, msg: &Msg) -> u64
+    ensures value { result ≡ bytes_of limit msg.now }
     ensures small { result < 2 ^ 17 }
 {
     let len = u64::from(msg.len);
     if msg.is_counted() {
-        u64::from(BLOCK_LIMIT) + len
+        u64::from(limit) + len
     } else {
         len
     }
 }
 
 // So many messages and bytes.
-fn steps_of(msgs: &[Msg]) -> u64
+fn steps_of(limit: u8, msgs: &[Msg]) -> u64
     requires count { length msgs.now ≤ limits.MOST_MESSAGES }
     requires each { All IsMessage msgs.now }
-    ensures value { result ≡ length msgs.now + sum_by (bytes_of limits.BLOCK_LIMIT) msgs.now }
+    ensures value { result ≡ length msgs.now + sum_by (bytes_of limit) msgs.now }
     ensures small { result < 2 ^ 16 }
 {
-    let bytes: u64 = msgs.iter().map(bytes_of).sum();
+    let bytes: u64 = msgs.iter().map(|msg| bytes_of(limit, msg)).sum();
     msgs.len() as u64 + bytes
 }
 

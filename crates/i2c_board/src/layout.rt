@@ -11,6 +11,7 @@ use i2c_base::{DeviceSpec, MOST_MUXES, MuxId, MuxSpec, RootSpec, SegId};
 /// The parts of a board, borrowed: what the tree, the grant of an address and the topology rules read of it.
 #[derive(Clone, Copy)]
 pub struct Layout<'a> {
+    pub version: u8,
     pub roots: &'a [RootSpec],
     pub muxes: &'a [MuxSpec],
     pub devices: &'a [DeviceSpec],

@@ -4,12 +4,11 @@ ghost use Rattle.std.specs.Prelude.{◌≡◌, ◌<◌, ◌↔◌, length, SomeI
 
 use crate::Board;
 use arrayvec::ArrayVec;
-use i2c_base::{Addr, BLOCK_LIMIT, Grant, MOST_ON_PATH, MuxId, SegId, Way};
+use i2c_base::{Addr, Grant, MOST_ON_PATH, MuxId, SegId, Way};
 
 impl Board {
     ghost use Rattle.i2c_spec.specs.Tree.{buses, over, path, root_of, is_below};
     ghost use Rattle.i2c_spec.specs.Grant.{grant_of, way_of};
-    ghost use Rattle.i2c_spec.specs.Flat.{block_limit};
 
     /// How many buses the board has: its roots, and each mux's channels. They are numbered from 0 in that order.
     #[tactic(auto, using(i2c_spec::proofs::PlainLemmas::buses_le))]
@@ -24,13 +23,6 @@ impl Board {
         ensures { SomeIff result (bus < buses self.now) bus }
     {
         (bus < self.buses()).then_some(SegId(bus))
-    }
-
-    /// The most bytes that a block read may bring.
-    pub fn limit(&self) -> u8
-        ensures { result ≡ block_limit self.now }
-    {
-        BLOCK_LIMIT
     }
 
     /// The mux over a bus and the channel that leads there, none for a root.

@@ -1,15 +1,14 @@
 use Rattle.std.proofs.Common.{◌≡◌, sum_by, arith, rules}
-use Rattle.i2c_base.specs.Limits as limits
 use Rattle.i2c_spec.specs.Cost.{bytes_of}
 use Rattle.i2c_spec.proofs.CostLemmas.{bytes_few}
 use Rattle.i2c_board.proofs.cost.steps_of.Goals as goal
 
 pub overflow_add-result : goal.overflow_add-result
 overflow_add-result c =
-    let same : c.sum-bytes.result ≡ sum_by (bytes_of limits.BLOCK_LIMIT) c.args.msgs.now = search rules in
-    omega (arith, same, bytes_few limits.BLOCK_LIMIT c.args.msgs.now (omega arith) c.requires.count c.requires.each)
+    let same : c.sum-bytes.result ≡ sum_by (bytes_of c.args.limit) c.args.msgs.now = search rules in
+    omega (arith, same, bytes_few c.args.limit c.args.msgs.now (omega arith) c.requires.count c.requires.each)
 
 pub returns-clause-small : goal.returns-clause-small
 returns-clause-small c =
-    let same : c.sum-bytes.result ≡ sum_by (bytes_of limits.BLOCK_LIMIT) c.args.msgs.now = search rules in
-    omega (arith, same, bytes_few limits.BLOCK_LIMIT c.args.msgs.now (omega arith) c.requires.count c.requires.each)
+    let same : c.sum-bytes.result ≡ sum_by (bytes_of c.args.limit) c.args.msgs.now = search rules in
+    omega (arith, same, bytes_few c.args.limit c.args.msgs.now (omega arith) c.requires.count c.requires.each)
