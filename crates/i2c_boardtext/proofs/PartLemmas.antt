@@ -12,7 +12,7 @@ use Rattle.i2c_boardtext.specs.declared.fault.BoardFault.{BoardFault}
 
 module _ (t : TopView) where
   abbrev whole : List RootSpec → List MuxSpec → List DeviceView → Result BoardView BoardFault
-  whole roots muxes devices = Ok (record { version = 1; roots = roots; muxes = muxes; devices = devices })
+  whole roots muxes devices = Ok (record { version = t.version; roots = roots; muxes = muxes; devices = devices })
 
   abbrev behind_muxes : List RootSpec → List MuxSpec → Result BoardView BoardFault
   behind_muxes roots muxes = devices_of (buses_of (length roots) muxes) t.devices >>= whole roots muxes

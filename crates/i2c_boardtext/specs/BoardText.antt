@@ -97,7 +97,7 @@ parts_of t =
     roots_of t.roots >>= λ roots.
     muxes_of (length roots) t.muxes >>= λ muxes.
     devices_of (buses_of (length roots) muxes) t.devices >>= λ devices.
-    Ok (record { version = 1; roots = roots; muxes = muxes; devices = devices })
+    Ok (record { version = t.version; roots = roots; muxes = muxes; devices = devices })
 
 -- text that isn't UTF-8 is not TOML
 abbrev pub document_of : List ℕ → Result Members BoardFault

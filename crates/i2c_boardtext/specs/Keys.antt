@@ -2,7 +2,7 @@
 use Rattle.std.specs.Prelude.{ℕ, ◌-◌, List, [], ◌∷◌, ◌++◌, codes, Option, Some, None, if◌then◌else◌}
 use Rattle.i2c_base.specs.declared.board.MuxKind.{MuxKind}
 use Rattle.i2c_base.specs.Muxes.{facts_of}
-use Rattle.i2c_spec.specs.Numbers.{address_key, channels_key, foreign_key}
+use Rattle.i2c_spec.specs.Numbers.{address_key, channels_key, foreign_key, version_key}
 use Rattle.i2c_boardtext.specs.Devices.{device_row, memory_of}
 use Rattle.i2c_boardtext.specs.Numbers.{may_say, has_to_say}
 use Rattle.i2c_boardtext.specs.Rules.{KeyRule, needs, may_have}
@@ -11,7 +11,7 @@ use Rattle.i2c_boardtext.specs.declared.rule.Test.TheVariants.{Kind, Range, Flag
 
 abbrev pub top_rules : List KeyRule
 top_rules =
-    needs (codes "version") (Range 1 1)
+    has_to_say version_key
     ∷ may_have (codes "root") Tables
     ∷ may_have (codes "mux") Tables
     ∷ may_have (codes "device") Tables

@@ -1,7 +1,7 @@
 -- The tables of an array, as they are read.
-use Rattle.std.specs.Prelude.{◌≡◌, ℕ, ◌≤◌, ◌<◌, true, map, length, is_some, List, All}
+use Rattle.std.specs.Prelude.{◌≡◌, ℕ, ◌≤◌, ◌<◌, true, map, length, is_some, IsSome, List, All}
 use Rattle.i2c_base.specs.Board.{DeviceView}
-use Rattle.i2c_base.specs.Limits.{MOST_ROOTS, MOST_MUXES, MOST_DEVICES}
+use Rattle.i2c_base.specs.Limits.{MOST_ROOTS, MOST_MUXES, MOST_DEVICES, limit_of}
 use Rattle.toml.specs.Data.{as_table, Members}
 use Rattle.toml.specs.View.{view}
 use Rattle.toml.specs.declared.value.Value.{Value}
@@ -22,12 +22,13 @@ row_of v = members_in (view v)
 abbrev pub rows_of : List Value → List Members
 rows_of vs = map row_of vs
 
--- the arrays of a top
+-- the version and the arrays of a top
 abbrev pub top_view : Top → TopView
-top_view t = record { roots = rows_of t.roots.now; muxes = rows_of t.muxes.now; devices = rows_of t.devices.now }
+top_view t = record { version = t.version; roots = rows_of t.roots.now; muxes = rows_of t.muxes.now; devices = rows_of t.devices.now }
 
--- each array has only tables, and as many as a board may have
+-- the version is one of those that there are, and each array has only tables, and as many as a board may have
 pub record IsWithinLimits (t : Top) : Type 0 where
+  pub version : IsSome (limit_of t.version)
   pub roots : AreTables t.roots.now
   pub muxes : AreTables t.muxes.now
   pub devices : AreTables t.devices.now

@@ -8,7 +8,7 @@ use Rattle.i2c_base.specs.declared.board.LockMode.TheVariants.{Parent}
 use Rattle.i2c_base.specs.declared.board.MuxKind.{MuxKind}
 use Rattle.i2c_base.specs.declared.board.MuxSpec.{MuxSpec}
 use Rattle.i2c_base.specs.declared.board.RootSpec.{RootSpec}
-use Rattle.i2c_spec.specs.Numbers.{address_key, channels_key, foreign_key}
+use Rattle.i2c_spec.specs.Numbers.{address_key, channels_key, foreign_key, version_key}
 use Rattle.i2c_boardtext.specs.Devices.{device_row, memory_of}
 use Rattle.i2c_boardtext.specs.Items.{elements, members_in, number, named_in, flag_in}
 use Rattle.i2c_boardtext.specs.Names.{offers_named, lock_named, idle_named}
@@ -35,14 +35,16 @@ runs_in d = map (λ run. run_of (elements run)) (elements_in d)
 abbrev pub tables_in : Option Data → List Members
 tables_in d = map members_in (elements_in d)
 
--- the three arrays of the top
+-- the version and the three arrays of the top
 pub record TopView : Type 0 where
+  pub version : ℕ
   pub roots : List Members
   pub muxes : List Members
   pub devices : List Members
 
 abbrev pub top_value : Members → TopView
 top_value ms = record {
+  version = number_at version_key ms;
   roots = tables_in (get_member (codes "root") ms);
   muxes = tables_in (get_member (codes "mux") ms);
   devices = tables_in (get_member (codes "device") ms);

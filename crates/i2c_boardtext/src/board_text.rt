@@ -54,7 +54,7 @@ fn parts_of(alloc: Global, top: &Top) -> Result<Board, BoardFault>
     let muxes = muxes_of(alloc, root_count, top.muxes)?;
     let buses = count_buses(root_count, &muxes);
     let devices = devices_of(alloc, buses, top.devices)?;
-    Ok(Board::new(alloc, roots, muxes, devices)?)
+    Ok(Board::new(alloc, top.version, roots, muxes, devices)?)
 }
 
 /// The board that a text spells, or the first fault in the order of refusals.

@@ -5,7 +5,7 @@ ghost use Rattle.i2c_boardtext.specs.Keys.{bus_rule, set_rule, top_rules, root_r
 ghost use Rattle.i2c_boardtext.specs.Rules.{key_rule, table_fault};
 
 use crate::fault::TableFault;
-use crate::numbers::{ADDRESS, CHANNELS, FOREIGN};
+use crate::numbers::{ADDRESS, CHANNELS, FOREIGN, VERSION};
 use crate::rule::{Rule, Test, may_have, needs, table_fault};
 use arrayvec::ArrayVec;
 use i2c_base::MuxKind;
@@ -34,7 +34,7 @@ fn top_rules() -> Rules
     ensures { map key_rule result.items ≡ top_rules }
 {
     let mut rules: Rules = ArrayVec::new();
-    rules.push(needs("version", Test::Range(1, 1)));
+    rules.push(VERSION.has_to_say());
     rules.push(may_have("root", Test::Tables));
     rules.push(may_have("mux", Test::Tables));
     rules.push(may_have("device", Test::Tables));

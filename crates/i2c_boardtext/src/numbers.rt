@@ -1,4 +1,4 @@
-//! The numbers of muxes and devices: key, range and default.
+//! The numbers of boards, muxes and devices: key, range and default.
 ghost use Rattle.std.specs.Prelude.{◌≡◌};
 ghost use Rattle.toml.specs.View.{table_view};
 ghost use Rattle.i2c_spec.specs.Numbers.{IsFor};
@@ -11,7 +11,7 @@ use crate::rule::{Rule, Test, may_have, needs};
 use i2c_base::{Addr, MOST_CHANNELS, POLLS};
 use toml::Table;
 
-/// A number of a mux or device: its key, its range, and its value where the key is missing.
+/// A number of a board, mux or device: its key, its range, and its value where the key is missing.
 #[derive(Clone, Copy, Drop)]
 pub struct NumberKey {
     pub name: &'static str,
@@ -19,6 +19,14 @@ pub struct NumberKey {
     pub high: u32,
     pub default: u32,
 }
+
+/// A board's version.
+pub const VERSION: NumberKey = NumberKey {
+    name: "version",
+    low: 1,
+    high: 2,
+    default: 1,
+};
 
 /// A target's address.
 pub const ADDRESS: NumberKey = NumberKey {
