@@ -6,10 +6,9 @@ use Rattle.i2c_base.specs.declared.reply.Reply.{Reply}
 use Rattle.i2c_base.specs.declared.reply.Reply.TheVariants as reply
 use Rattle.i2c_base.specs.declared.reply.Cut.{Cut}
 use Rattle.i2c_base.specs.Board.{BoardView}
-use Rattle.i2c_base.specs.Limits.{BLOCK_LIMIT}
 use Rattle.i2c_base.specs.Transfer.{TransferView}
 use Rattle.i2c_spec.specs.Conversation.{talk_all}
-use Rattle.i2c_spec.specs.Flat.{FlatListener, FlatTold, flat, flat_by, flat_told, barred, idle, granted_on, cut_in, errno_of, or_done}
+use Rattle.i2c_spec.specs.Flat.{FlatListener, FlatTold, flat, flat_by, flat_told, barred, block_limit, idle, granted_on, cut_in, errno_of, or_done}
 use Rattle.i2c_spec.specs.Messages.{messages_of}
 use Rattle.i2c_spec.specs.Targets.{TargetState}
 use Rattle.flat_world.specs.Devices.{once_listener}
@@ -24,8 +23,8 @@ module _ (b : BoardView) (states : List TargetState) (t : TransferView) (cut : C
 
   pub replied : (o : Option Errno) (site : SiteView) (f : FlatListener) (got : List ℕ) (now : FlatListener) (e : End) (r : Reply)
       → o ≡ barred b t cut → o ≡ None → site ≡ record { board = b; bus = t.bus; force = t.force } → f ≡ idle states
-      → all_with got now e ≡ talk_all (once_listener (granted_on site.board site.bus site.force)) BLOCK_LIMIT f (messages_of t) 0
-      (cut_in cut) []
+      → all_with got now e ≡ talk_all (once_listener (granted_on site.board site.bus site.force)) (block_limit site.board) f
+      (messages_of t) 0 (cut_in cut) []
       → r ≡ or_done (errno_of e) t got
       → ◌≡◌ {A = FlatTold} (record { reply = r; states = now.states }) (flat b states t cut)
   replied o site f got now e r is none there begun told said =
@@ -33,9 +32,10 @@ module _ (b : BoardView) (states : List TargetState) (t : TransferView) (cut : C
       ap (λ (x : Reply). record { reply = x; states = now.states }) said
       ∙ ap (flat_told t)
       (told
-      ∙ ap (λ (s : SiteView). talk_all (once_listener (granted_on s.board s.bus s.force)) BLOCK_LIMIT f ms 0 (cut_in cut) []) there
-      ∙ ap (λ (g : FlatListener). talk_all (once_listener (granted_on b t.bus t.force)) BLOCK_LIMIT g ms 0 (cut_in cut) []) begun
-      ∙ talk_all-once (granted_on b t.bus t.force) (idle states) ms 0 (cut_in cut) [])
+      ∙ ap (λ (s : SiteView). talk_all (once_listener (granted_on s.board s.bus s.force)) (block_limit s.board) f ms 0 (cut_in cut) [])
+      there
+      ∙ ap (λ (g : FlatListener). talk_all (once_listener (granted_on b t.bus t.force)) (block_limit b) g ms 0 (cut_in cut) []) begun
+      ∙ talk_all-once (granted_on b t.bus t.force) (block_limit b) (idle states) ms 0 (cut_in cut) [])
       ∙ ap (flat_by b states t cut) (sym none ∙ is)
 
 pub same_site : (b d : BoardView) (m n : ℕ) (p q : Bool) → b ≡ d → m ≡ n → p ≡ q

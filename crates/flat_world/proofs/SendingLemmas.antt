@@ -9,7 +9,6 @@ use Rattle.i2c_base.specs.declared.port.PortCall.{PortCall}
 use Rattle.i2c_base.specs.declared.port.PortCall.TheVariants as call
 use Rattle.i2c_base.specs.declared.entry.End.{End}
 use Rattle.i2c_base.specs.declared.entry.End.TheVariants as end
-use Rattle.i2c_base.specs.Limits.{BLOCK_LIMIT}
 use Rattle.i2c_spec.specs.Messages.{MessageView}
 use Rattle.i2c_spec.specs.Targets.{TargetState, state_table}
 use Rattle.i2c_spec.specs.World.{feed, has_heard}
@@ -129,14 +128,14 @@ module _ {W V : Type 0} (l : Listener W) (k : Listener V) (h : W → V) (cut : O
         ∙ ap (λ bs. with_got bs (ended k cut 3 true (h next.now) end.Proto)) (more t (l.gives t.now))
         ∙ read_ended true (with_byte next (l.gives t.now)) end.Proto 3 (omega (arith, at)))
 
-    counted_is : (last : Bool) (len : ℕ) (t : Said W) → 1 ≡ length t.calls
-        → gets_counted k cut last len (before ++ t.bytes) (h t.now) ≡ read before (spec.gets_counted l cut last BLOCK_LIMIT len t)
-    counted_is last len t at =
+    counted_is : (last : Bool) (limit len : ℕ) (t : Said W) → 1 ≡ length t.calls
+        → gets_counted k cut last limit len (before ++ t.bytes) (h t.now) ≡ read before (spec.gets_counted l cut last limit len t)
+    counted_is last limit len t at =
         read_by t 1 _ _ at
-        (ap (λ c. gets_by_count k cut last len c ((before ++ t.bytes) ++ c ∷ []) (k.after (h t.now) (call.Get true))) (gives t.now)
-        ∙ ap (λ v. gets_by_count k cut last len count ((before ++ t.bytes) ++ count ∷ []) v) (after t.now (call.Get true) tt)
-        ∙ ap (λ bs. gets_by_count k cut last len count bs (h next.now)) (more t count)
-        ∙ by (eqb count 0 || nat_lt BLOCK_LIMIT count))
+        (ap (λ c. gets_by_count k cut last limit len c ((before ++ t.bytes) ++ c ∷ []) (k.after (h t.now) (call.Get true))) (gives t.now)
+        ∙ ap (λ v. gets_by_count k cut last limit len count ((before ++ t.bytes) ++ count ∷ []) v) (after t.now (call.Get true) tt)
+        ∙ ap (λ bs. gets_by_count k cut last limit len count bs (h next.now)) (more t count)
+        ∙ by (eqb count 0 || nat_lt limit count))
       where
         count : ℕ
         count = l.gives t.now
@@ -156,17 +155,19 @@ module _ {W V : Type 0} (l : Listener W) (k : Listener V) (h : W → V) (cut : O
     abbrev heard : MessageView → TalkTold W → AllTold V
     heard m t = record { bytes = with_read before m t; now = h t.now; end = t.end }
 
-    module _ (last : Bool) (t : Said W) (at : 1 ≡ length t.calls) (none : t.bytes ≡ []) where
+    module _ (last : Bool) (limit : ℕ) (t : Said W) (at : 1 ≡ length t.calls) (none : t.bytes ≡ []) where
       nothing : before ++ t.bytes ≡ before
       nothing = ap (λ bs. before ++ bs) none ∙ append-nil before
 
       moved_is : (reading counted : Bool) (addr len : ℕ) (bytes : List ℕ)
-          → moved k cut last (record { addr = addr; reading = reading; counted = counted; len = len; bytes = bytes }) before (h t.now)
+          → moved k cut last limit (record { addr = addr; reading = reading; counted = counted; len = len; bytes = bytes }) before
+          (h t.now)
           ≡ heard (record { addr = addr; reading = reading; counted = counted; len = len; bytes = bytes })
-          (spec.data_of l cut last BLOCK_LIMIT
+          (spec.data_of l cut last limit
           (record { addr = addr; reading = reading; counted = counted; len = len; bytes = bytes }) t)
       moved_is false counted addr len bytes = ap (with_got before) (puts_is last bytes t 1 at)
-      moved_is true true addr len bytes = ap (λ bs. gets_counted k cut last len bs (h t.now)) (sym nothing) ∙ counted_is last len t at
+      moved_is true true addr len bytes =
+          ap (λ bs. gets_counted k cut last limit len bs (h t.now)) (sym nothing) ∙ counted_is last limit len t at
       moved_is true false addr len bytes = ap (λ bs. gets k cut last len 1 bs (h t.now)) (sym nothing) ∙ gets_is last len t 1 at
 
       over_is : (m : MessageView) (e : End) → with_got before (ended k cut 1 true (h t.now) e) ≡ heard m (spec.ended l cut true t e)
@@ -182,7 +183,7 @@ module _ {W V : Type 0} (l : Listener W) (k : Listener V) (h : W → V) (cut : O
           by false = ap (with_got before) (ended_is true t e 1 at)
 
       by_answer_is : (m : MessageView) (a : Answer)
-          → by_answer k cut last m a before (h t.now) ≡ heard m (spec.by_answer l cut last BLOCK_LIMIT m a t)
+          → by_answer k cut last limit m a before (h t.now) ≡ heard m (spec.by_answer l cut last limit m a t)
       by_answer_is m answer.Ack = moved_is m.reading m.counted m.addr m.len m.bytes
       by_answer_is m answer.Slow = over_is m end.Slow
       by_answer_is m answer.Nack = over_is m end.Nack
@@ -211,11 +212,11 @@ module _ (granted : ℕ → Option ℕ) (l : Listener FlatListener) (h : FlatLis
     (starts : (f : FlatListener) (a : ℕ) (reading : Bool) → started (granted a) reading (h f) ≡ h (l.after f (call.Start a reading)))
     (answers : (f : FlatListener) (a : ℕ) (reading : Bool)
     → acknowledged (answer_of (h f).states (granted a) (event.Start reading)) ≡ l.answer f a reading) where
-  sent_is : (cut : Option ℕ) (last : Bool) (m : MessageView) (before : List ℕ) (f : FlatListener)
-      → sent (granted m.addr) cut last m before (h f) ≡ shown_all h (all_of before m (spec.talk l BLOCK_LIMIT f m last cut))
-  sent_is cut last m before f =
+  sent_is : (cut : Option ℕ) (last : Bool) (limit : ℕ) (m : MessageView) (before : List ℕ) (f : FlatListener)
+      → sent (granted m.addr) cut last limit m before (h f) ≡ shown_all h (all_of before m (spec.talk l limit f m last cut))
+  sent_is cut last limit m before f =
       ap (λ (v : FlatListener). cond (is_it cut 0) (record { bytes = before; now = v; end = end.Cut 0 })
-      (by_answer behind_start cut last m (acknowledged (answer_of (h f).states (granted m.addr) (event.Start m.reading))) before
+      (by_answer behind_start cut last limit m (acknowledged (answer_of (h f).states (granted m.addr) (event.Start m.reading))) before
       (started (granted m.addr) m.reading (h f)))) (after f call.Fault tt)
       ∙ by (is_it cut 0)
     where
@@ -227,21 +228,21 @@ module _ (granted : ℕ → Option ℕ) (l : Listener FlatListener) (h : FlatLis
       nothing false = refl
 
       by : (b : Bool) → cond b (record { bytes = before; now = h (l.after f call.Fault); end = end.Cut 0 })
-          (by_answer behind_start cut last m (acknowledged (answer_of (h f).states (granted m.addr) (event.Start m.reading))) before
+          (by_answer behind_start cut last limit m (acknowledged (answer_of (h f).states (granted m.addr) (event.Start m.reading))) before
           (started (granted m.addr) m.reading (h f)))
           ≡ shown_all h (all_of before m
           (cond b (told (say l (silence f) call.Fault) (end.Cut 0))
-          (spec.by_answer l cut last BLOCK_LIMIT m (l.answer f m.addr m.reading) t)))
+          (spec.by_answer l cut last limit m (l.answer f m.addr m.reading) t)))
       by true = ap (λ (bs : List ℕ). record { bytes = bs; now = h (l.after f call.Fault); end = end.Cut 0 }) (nothing m.reading)
       by false =
-          ap (λ (v : FlatListener). by_answer behind_start cut last m
+          ap (λ (v : FlatListener). by_answer behind_start cut last limit m
           (acknowledged (answer_of (h f).states (granted m.addr) (event.Start m.reading))) before v) (starts f m.addr m.reading)
-          ∙ ap (λ a. by_answer behind_start cut last m a before (h t.now)) (answers f m.addr m.reading)
-          ∙ by_answer_is l behind_start h cut after takes gives before last t refl refl m (l.answer f m.addr m.reading)
+          ∙ ap (λ a. by_answer behind_start cut last limit m a before (h t.now)) (answers f m.addr m.reading)
+          ∙ by_answer_is l behind_start h cut after takes gives before last limit t refl refl m (l.answer f m.addr m.reading)
 
 -- a message over devices that list each that was named once
-pub sent-once : (granted : ℕ → Option ℕ) (cut : Option ℕ) (last : Bool) (m : MessageView) (before : List ℕ) (f : FlatListener)
-    → sent (granted m.addr) cut last m before f ≡ all_of before m (spec.talk (once_listener granted) BLOCK_LIMIT f m last cut)
+pub sent-once : (granted : ℕ → Option ℕ) (cut : Option ℕ) (last : Bool) (limit : ℕ) (m : MessageView) (before : List ℕ) (f : FlatListener)
+    → sent (granted m.addr) cut last limit m before f ≡ all_of before m (spec.talk (once_listener granted) limit f m last cut)
 sent-once granted = sent_is granted (once_listener granted) (λ f. f) same (λ f byte. refl) (λ f. refl) (λ f a reading. refl)
     (λ f a reading. refl)
   where
@@ -253,13 +254,14 @@ sent-once granted = sent_is granted (once_listener granted) (λ f. f) same (λ f
     same f call.Stop follows = refl
     same f call.Fault follows = refl
 
-pub as_sent : (granted : ℕ → Option ℕ) (g cut place : Option ℕ) (last : Bool) (message m : MessageView) (before : List ℕ) (f : FlatListener)
-    (all : AllTold FlatListener)
-    → g ≡ granted m.addr → cut ≡ place → message ≡ m → all ≡ sent g cut last message before f
-    → all ≡ all_of before m (spec.talk (once_listener granted) BLOCK_LIMIT f m last place)
-as_sent granted g cut place last message m before f all leads at same told =
-    told ∙ ap (λ x. sent g cut last x before f) same ∙ ap (λ k. sent g k last m before f) at ∙ ap (λ o. sent o place last m before f) leads
-    ∙ sent-once granted place last m before f
+pub as_sent : (granted : ℕ → Option ℕ) (g cut place : Option ℕ) (last : Bool) (n limit : ℕ) (message m : MessageView) (before : List ℕ)
+    (f : FlatListener) (all : AllTold FlatListener)
+    → g ≡ granted m.addr → cut ≡ place → n ≡ limit → message ≡ m → all ≡ sent g cut last n message before f
+    → all ≡ all_of before m (spec.talk (once_listener granted) limit f m last place)
+as_sent granted g cut place last n limit message m before f all leads at most same told =
+    told ∙ ap (λ x. sent g cut last n x before f) same ∙ ap (λ k. sent g cut last k m before f) most
+    ∙ ap (λ k. sent g k last limit m before f) at ∙ ap (λ o. sent o place last limit m before f) leads
+    ∙ sent-once granted place last limit m before f
 
 -- and over those of the flat world
 named_alike : (granted : Option ℕ) (f : FlatListener) (reading : Bool) (k : ℕ)
@@ -300,28 +302,30 @@ module _ (granted : ℕ → Option ℕ) where
         current = heard;
       }) (put_alike (granted a) f.named)
 
+-- with this block limit
+module _ (granted : ℕ → Option ℕ) (limit : ℕ) where
   message_alike : (cut : Option ℕ) (last : Bool) (m : MessageView) (before : List ℕ) (f : FlatListener)
-      → all_of before m (spec.talk (once_listener granted) BLOCK_LIMIT (once_each f) m last cut) ≡ shown_all once_each
-      (all_of before m (spec.talk (flat_listener granted) BLOCK_LIMIT f m last cut))
+      → all_of before m (spec.talk (once_listener granted) limit (once_each f) m last cut) ≡ shown_all once_each
+      (all_of before m (spec.talk (flat_listener granted) limit f m last cut))
   message_alike cut last m before f =
-      sym (sent-once granted cut last m before (once_each f))
-      ∙ sent_is granted (flat_listener granted) once_each shown_after (λ f byte. refl) (λ f. refl) shown_start
-      (λ f a reading. refl) cut last m before f
+      sym (sent-once granted cut last limit m before (once_each f))
+      ∙ sent_is granted (flat_listener granted) once_each (shown_after granted) (λ f byte. refl) (λ f. refl) (shown_start granted)
+      (λ f a reading. refl) cut last limit m before f
 
   goes_on : (ms : List MessageView) (i : ℕ) (cuts : ℕ → Option ℕ) (said : AllTold FlatListener) (b : Bool)
-      → talk_all (once_listener granted) BLOCK_LIMIT (once_each said.now) ms i cuts said.bytes ≡ shown_all once_each
-      (talk_all (flat_listener granted) BLOCK_LIMIT said.now ms i cuts said.bytes)
-      → cond b (talk_all (once_listener granted) BLOCK_LIMIT (once_each said.now) ms i cuts said.bytes) (shown_all once_each said)
-      ≡ shown_all once_each (cond b (talk_all (flat_listener granted) BLOCK_LIMIT said.now ms i cuts said.bytes) said)
+      → talk_all (once_listener granted) limit (once_each said.now) ms i cuts said.bytes ≡ shown_all once_each
+      (talk_all (flat_listener granted) limit said.now ms i cuts said.bytes)
+      → cond b (talk_all (once_listener granted) limit (once_each said.now) ms i cuts said.bytes) (shown_all once_each said)
+      ≡ shown_all once_each (cond b (talk_all (flat_listener granted) limit said.now ms i cuts said.bytes) said)
   goes_on ms i cuts said true rest = rest
   goes_on ms i cuts said false rest = refl
 
   pub talk_all-once : (f : FlatListener) (ms : List MessageView) (i : ℕ) (cuts : ℕ → Option ℕ) (got : List ℕ)
-      → talk_all (once_listener granted) BLOCK_LIMIT (once_each f) ms i cuts got ≡ shown_all once_each
-      (talk_all (flat_listener granted) BLOCK_LIMIT f ms i cuts got)
+      → talk_all (once_listener granted) limit (once_each f) ms i cuts got ≡ shown_all once_each
+      (talk_all (flat_listener granted) limit f ms i cuts got)
   talk_all-once f [] i cuts got = refl
   talk_all-once f (m ∷ ms) i cuts got =
-      let said = all_of got m (spec.talk (flat_listener granted) BLOCK_LIMIT f m (is_empty ms) (cuts i)) in
-      ap (λ (a : AllTold FlatListener). cond (is_good a.end) (talk_all (once_listener granted) BLOCK_LIMIT a.now ms (i + 1) cuts a.bytes) a)
+      let said = all_of got m (spec.talk (flat_listener granted) limit f m (is_empty ms) (cuts i)) in
+      ap (λ (a : AllTold FlatListener). cond (is_good a.end) (talk_all (once_listener granted) limit a.now ms (i + 1) cuts a.bytes) a)
       (message_alike (cuts i) (is_empty ms) m got f)
       ∙ goes_on ms (i + 1) cuts said (is_good said.end) (talk_all-once said.now ms (i + 1) cuts said.bytes)

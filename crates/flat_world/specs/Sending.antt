@@ -7,7 +7,6 @@ use Rattle.i2c_base.specs.declared.event.Event.TheVariants as event
 use Rattle.i2c_base.specs.declared.port.PortCall.TheVariants as call
 use Rattle.i2c_base.specs.declared.entry.End.{End}
 use Rattle.i2c_base.specs.declared.entry.End.TheVariants as end
-use Rattle.i2c_base.specs.Limits.{BLOCK_LIMIT}
 use Rattle.i2c_spec.specs.Messages.{MessageView}
 use Rattle.i2c_spec.specs.Conversation.{Listener, TalkTold, AllTold, is_it, with_read}
 use Rattle.i2c_spec.specs.Flat.{FlatListener, acknowledged, answer_of, flat_stopped}
@@ -51,33 +50,33 @@ gets_one_more l cut got v =
     if is_it cut 2 then with_got got (failed l 2 v)
     else with_got (got ++ l.gives v ∷ []) (ended l cut 3 true (l.after v (call.Get false)) end.Proto)
 
-abbrev pub gets_by_count : {V : Type 0} → Listener V → Option ℕ → Bool → ℕ → ℕ → List ℕ → V → AllTold V
-gets_by_count l cut last len count got v =
-    if (count == 0) || nat_lt BLOCK_LIMIT count then gets_one_more l cut got v
+abbrev pub gets_by_count : {V : Type 0} → Listener V → Option ℕ → Bool → ℕ → ℕ → ℕ → List ℕ → V → AllTold V
+gets_by_count l cut last limit len count got v =
+    if (count == 0) || nat_lt limit count then gets_one_more l cut got v
     else gets l cut last (count + len - 1) 2 got v
 
-abbrev pub gets_counted : {V : Type 0} → Listener V → Option ℕ → Bool → ℕ → List ℕ → V → AllTold V
-gets_counted l cut last len got v =
+abbrev pub gets_counted : {V : Type 0} → Listener V → Option ℕ → Bool → ℕ → ℕ → List ℕ → V → AllTold V
+gets_counted l cut last limit len got v =
     if is_it cut 1 then with_got got (failed l 1 v)
-    else gets_by_count l cut last len (l.gives v) (got ++ l.gives v ∷ []) (l.after v (call.Get true))
+    else gets_by_count l cut last limit len (l.gives v) (got ++ l.gives v ∷ []) (l.after v (call.Get true))
 
-abbrev pub moved : {V : Type 0} → Listener V → Option ℕ → Bool → MessageView → List ℕ → V → AllTold V
-moved l cut last m got v =
-    if m.reading then (if m.counted then gets_counted l cut last m.len got v else gets l cut last m.len 1 got v)
+abbrev pub moved : {V : Type 0} → Listener V → Option ℕ → Bool → ℕ → MessageView → List ℕ → V → AllTold V
+moved l cut last limit m got v =
+    if m.reading then (if m.counted then gets_counted l cut last limit m.len got v else gets l cut last m.len 1 got v)
     else with_got got (puts l cut last m.bytes 1 v)
 
-abbrev pub by_answer : {V : Type 0} → Listener V → Option ℕ → Bool → MessageView → Answer → List ℕ → V → AllTold V
-by_answer l cut last m answer.Ack got v = moved l cut last m got v
-by_answer l cut last m answer.Slow got v = with_got got (ended l cut 1 true v end.Slow)
-by_answer l cut last m answer.Nack got v = with_got got (ended l cut 1 true v end.Nack)
-by_answer l cut last m (answer.Byte byte) got v = with_got got (ended l cut 1 true v end.Nack)
-by_answer l cut last m answer.Nothing got v = with_got got (ended l cut 1 true v end.Nack)
+abbrev pub by_answer : {V : Type 0} → Listener V → Option ℕ → Bool → ℕ → MessageView → Answer → List ℕ → V → AllTold V
+by_answer l cut last limit m answer.Ack got v = moved l cut last limit m got v
+by_answer l cut last limit m answer.Slow got v = with_got got (ended l cut 1 true v end.Slow)
+by_answer l cut last limit m answer.Nack got v = with_got got (ended l cut 1 true v end.Nack)
+by_answer l cut last limit m (answer.Byte byte) got v = with_got got (ended l cut 1 true v end.Nack)
+by_answer l cut last limit m answer.Nothing got v = with_got got (ended l cut 1 true v end.Nack)
 
--- one message, whose address leads to this device, or to nobody
-abbrev pub sent : Option ℕ → Option ℕ → Bool → MessageView → List ℕ → FlatListener → AllTold FlatListener
-sent granted cut last m got f =
+-- one message, whose address leads to this device, or to nobody; `limit` is the board's block limit
+abbrev pub sent : Option ℕ → Option ℕ → Bool → ℕ → MessageView → List ℕ → FlatListener → AllTold FlatListener
+sent granted cut last limit m got f =
     if is_it cut 0 then record { bytes = got; now = flat_stopped f; end = end.Cut 0 }
-    else by_answer behind_start cut last m (acknowledged (answer_of f.states granted (event.Start m.reading))) got
+    else by_answer behind_start cut last limit m (acknowledged (answer_of f.states granted (event.Start m.reading))) got
     (started granted m.reading f)
 
 -- a transfer so far: what its reads gave, the listener, and how its last message ended

@@ -46,11 +46,11 @@ impl<'b> Flat<'b> {
         ensures told { record { reply = result; states = self.new.states } ≡ spec.flat self.old.board self.old.states transfer.now cut }
         ensures board { self.new.board ≡ self.old.board }
     {
-        let layout = self.board.board().layout();
-        if let Some(errno) = barred(&layout, transfer, cut) {
+        let board = self.board.board();
+        if let Some(errno) = barred(&board.layout(), transfer, cut) {
             return Reply::Err(errno);
         }
-        let site = Site::new(layout, SegId(transfer.bus()), transfer.force());
+        let site = Site::new(board, SegId(transfer.bus()), transfer.force());
         let mut got = Bytes::new();
         self.devices.begin();
         let end = send_all(&site, &mut self.devices, transfer, cut, &mut got);

@@ -10,7 +10,7 @@ ghost use Rattle.flat_world.specs.Devices.{behind_start};
 ghost use Rattle.flat_world.specs.Sending as spec;
 
 use crate::devices::Devices;
-use i2c_base::{Answer, BLOCK_LIMIT, Bytes, End, Msg};
+use i2c_base::{Answer, Bytes, End, Msg};
 
 /// The call after so many fails.
 fn is_cut(cut: Option<u16>, calls: u16) -> bool
@@ -103,17 +103,24 @@ fn get_one_more(now: &mut Devices, cut: Option<u16>, got: &mut Bytes) -> End
 
 /// Gets the count of a block, and then what that counts and the bytes beside. No block has a count of 0, or one above the
 /// limit.
-fn get_counted(now: &mut Devices, cut: Option<u16>, last: bool, len: u16, got: &mut Bytes) -> End
+fn get_counted(
+    now: &mut Devices,
+    cut: Option<u16>,
+    last: bool,
+    limit: u8,
+    len: u16,
+    got: &mut Bytes,
+) -> End
     requires len { (1 ≤ len) × (len ≤ 2) }
     requires room { length got.old + 258 ≤ MOST_BYTES }
-    ensures { spec.all_with got.new now.new result ≡ spec.gets_counted behind_start cut last len got.old now.old }
+    ensures { spec.all_with got.new now.new result ≡ spec.gets_counted behind_start cut last limit len got.old now.old }
 {
     if is_cut(cut, 1) {
         return fail(now, 1);
     }
     let count = now.get(true);
     got.push(count);
-    if count == 0 || count > BLOCK_LIMIT {
+    if count == 0 || count > limit {
         get_one_more(now, cut, got)
     } else {
         get_all(now, cut, last, u16::from(count) + len - 1, 2, got)
@@ -125,6 +132,7 @@ fn move_data(
     now: &mut Devices,
     cut: Option<u16>,
     last: bool,
+    limit: u8,
     msg: &Msg,
     bytes: &[u8],
     got: &mut Bytes,
@@ -132,12 +140,12 @@ fn move_data(
     requires message { IsMessage msg.now }
     requires bytes { length bytes.now ≤ MOST_LENGTH }
     requires room { is_read msg.now ≡ true → length got.old + size_of msg.now ≤ MOST_BYTES }
-    ensures { spec.all_with got.new now.new result ≡ spec.moved behind_start cut last (message_with msg.now bytes.now) got.old now.old }
+    ensures { spec.all_with got.new now.new result ≡ spec.moved behind_start cut last limit (message_with msg.now bytes.now) got.old now.old }
 {
     if !msg.is_read() {
         put_all(now, cut, last, bytes)
     } else if msg.is_counted() {
-        get_counted(now, cut, last, msg.len, got)
+        get_counted(now, cut, last, limit, msg.len, got)
     } else {
         get_all(now, cut, last, msg.len, 1, got)
     }
@@ -148,6 +156,7 @@ fn go_on(
     now: &mut Devices,
     cut: Option<u16>,
     last: bool,
+    limit: u8,
     msg: &Msg,
     bytes: &[u8],
     answer: Answer,
@@ -156,22 +165,24 @@ fn go_on(
     requires message { IsMessage msg.now }
     requires bytes { length bytes.now ≤ MOST_LENGTH }
     requires room { is_read msg.now ≡ true → length got.old + size_of msg.now ≤ MOST_BYTES }
-    ensures { spec.all_with got.new now.new result ≡ spec.by_answer behind_start cut last (message_with msg.now bytes.now) answer got.old now.old }
+    ensures { spec.all_with got.new now.new result ≡ spec.by_answer behind_start cut last limit (message_with msg.now bytes.now) answer got.old now.old }
 {
     match answer {
-        Answer::Ack => move_data(now, cut, last, msg, bytes, got),
+        Answer::Ack => move_data(now, cut, last, limit, msg, bytes, got),
         Answer::Slow => finish(now, cut, 1, true, End::Slow),
         Answer::Nack | Answer::Byte(_) | Answer::Nothing => finish(now, cut, 1, true, End::Nack),
     }
 }
 
 /// Sends one message, whose address leads to the device `granted`, or to nobody: `last` says that its transfer ends with
-/// it, and `cut` after how many of its calls one fails. What it reads is put at the end of `got`.
+/// it, `cut` after how many of its calls one fails, and `limit` how many bytes a block has at most. What it reads is put at
+/// the end of `got`.
 pub fn send(
     now: &mut Devices,
     granted: Option<u16>,
     cut: Option<u16>,
     last: bool,
+    limit: u8,
     msg: &Msg,
     bytes: &[u8],
     got: &mut Bytes,
@@ -180,11 +191,11 @@ pub fn send(
     requires message { IsMessage msg.now }
     requires bytes { length bytes.now ≤ MOST_LENGTH }
     requires room { is_read msg.now ≡ true → length got.old + size_of msg.now ≤ MOST_BYTES }
-    ensures { spec.all_with got.new now.new result ≡ spec.sent granted cut last (message_with msg.now bytes.now) got.old now.old }
+    ensures { spec.all_with got.new now.new result ≡ spec.sent granted cut last limit (message_with msg.now bytes.now) got.old now.old }
 {
     if is_cut(cut, 0) {
         return fail(now, 0);
     }
     let answer = now.start(granted, msg.is_read());
-    go_on(now, cut, last, msg, bytes, answer, got)
+    go_on(now, cut, last, limit, msg, bytes, answer, got)
 }

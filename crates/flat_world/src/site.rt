@@ -1,40 +1,40 @@
-//! Where a transfer is sent, and to whom an address leads there.
+//! Where a transfer is sent, and what the board there says of it.
 ghost use Rattle.std.specs.Prelude.{◌≡◌, ◌<◌, IfSome};
 ghost use Rattle.i2c_base.specs.Limits.{MOST_DEVICES};
-ghost use Rattle.i2c_spec.specs.Flat.{granted_on};
-ghost use Rattle.i2c_board.specs.Layouts.{board_of};
-ghost use Rattle.i2c_spec.specs.Plain.{IsPlainBoard};
+ghost use Rattle.i2c_spec.specs.Flat.{block_limit, granted_on};
 
 use i2c_base::{Addr, Grant, SegId};
-use i2c_board::Layout;
+use i2c_board::Board;
 use std::marker::Model;
 
 /// Where a transfer is sent: a bus of a board, forced or not. A contract sees the record of these parts.
 #[derive(Drop)]
 pub struct Site<'b> {
-    layout: Layout<'b>,
+    board: &'b Board,
     bus: SegId,
     force: bool,
 }
 
 impl<'b> Model for Site<'b> {
-    ghost use Rattle.i2c_board.specs.Layouts.{board_of};
-    ghost use Rattle.i2c_spec.specs.Plain.{IsPlainBoard};
     ghost use Rattle.flat_world.specs.Worlds.{SiteView};
 
     ghost Value = { SiteView };
 
-    ghost view = { λ s. record { board = board_of s.layout; bus = s.bus; force = s.force } };
-
-    ghost invariant = { λ s. IsPlainBoard (board_of s.layout) };
+    ghost view = { λ s. record { board = s.board.now; bus = s.bus; force = s.force } };
 }
 
 impl<'b> Site<'b> {
-    pub fn new(layout: Layout<'b>, bus: SegId, force: bool) -> Self
-        requires { IsPlainBoard (board_of layout) }
-        ensures { result ≡ record { board = board_of layout.entry; bus = bus; force = force } }
+    pub fn new(board: &'b Board, bus: SegId, force: bool) -> Self
+        ensures { result ≡ record { board = board.now; bus = bus; force = force } }
     {
-        Site { layout, bus, force }
+        Site { board, bus, force }
+    }
+
+    /// The most bytes of a block.
+    pub fn limit(&self) -> u8
+        ensures { result ≡ block_limit self.now.board }
+    {
+        self.board.limit()
     }
 
     /// The device that an address leads to.
@@ -42,7 +42,7 @@ impl<'b> Site<'b> {
         ensures value { result ≡ granted_on self.now.board self.now.bus self.now.force addr }
         ensures small { IfSome result (λ d. d < MOST_DEVICES) }
     {
-        match self.layout.grant(self.bus, addr, self.force) {
+        match self.board.layout().grant(self.bus, addr, self.force) {
             Grant::Named(device) => Some(device.0),
             Grant::Nobody | Grant::Busy => None,
         }

@@ -1,10 +1,9 @@
 //! The messages of a transfer.
 
 ghost use Rattle.std.specs.Prelude.{◌≡◌, ◌==◌, [], length};
-ghost use Rattle.i2c_base.specs.Limits.{BLOCK_LIMIT};
 ghost use Rattle.i2c_base.specs.Transfer.{written_of};
 ghost use Rattle.i2c_spec.specs.Conversation as spec;
-ghost use Rattle.i2c_spec.specs.Flat.{cut_in, flat_listener, granted_on};
+ghost use Rattle.i2c_spec.specs.Flat.{block_limit, cut_in, flat_listener, granted_on};
 ghost use Rattle.i2c_spec.specs.Messages.{messages_of};
 ghost use Rattle.flat_world.specs.Devices.{once_listener};
 ghost use Rattle.flat_world.specs.Sending.{all_with};
@@ -25,8 +24,9 @@ pub fn send_all(
 ) -> End
     requires { got.old ≡ [] }
     ensures { all_with got.new now.new result
-        ≡ spec.talk_all (once_listener (granted_on site.now.board site.now.bus site.now.force)) BLOCK_LIMIT now.old (messages_of transfer.now) 0 (cut_in cut) [] }
+        ≡ spec.talk_all (once_listener (granted_on site.now.board site.now.bus site.now.force)) (block_limit site.now.board) now.old (messages_of transfer.now) 0 (cut_in cut) [] }
 {
+    let limit = site.limit();
     let msgs = transfer.msgs();
     let mut rest = transfer.out();
     for (i, msg) in msgs.iter().enumerate() {
@@ -38,6 +38,7 @@ pub fn send_all(
             site.granted(msg.addr),
             cut_in(cut, i),
             last,
+            limit,
             msg,
             bytes,
             got,
