@@ -87,7 +87,9 @@ pub check_cost-requires : goal.check_cost-requires
 check_cost-requires g c = grind (arith, common_steps)
 
 pub returns-in_err-schedule-clause-kept : goal.returns-in_err-schedule-clause-kept
-returns-in_err-schedule-clause-kept g c = grind (arith, common_steps)
+returns-in_err-schedule-clause-kept g c =
+    all_kept (names_told c.args.names.now) _ _ _ _ _ _ c.first_script.ensures (sym (length-map c.args.names.now.scripts.now string_bytes))
+    c.read_accepted.ensures.kept c.scripts_in.ensures.kept c.order_in.ensures.kept
 
 pub returns-clause-few : goal.returns-clause-few
 returns-clause-few g c = grind (arith, common_steps)
