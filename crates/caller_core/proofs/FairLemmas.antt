@@ -33,7 +33,7 @@ left_from : (P : CommandView → Type 0) (p : Progress) (rs : List Reply) → Al
 left_from P p [] h = h
 left_from P p (r ∷ rs) h = left_from P (replied p r) rs (left_kept P p p.left r h h)
 
-left_all : (P : CommandView → Type 0) (cs : List CommandView) (rs : List Reply) → All P cs → All P (progress cs rs).left
+pub left_all : (P : CommandView → Type 0) (cs : List CommandView) (rs : List Reply) → All P cs → All P (progress cs rs).left
 left_all P cs rs h = left_from P (turn_to [] cs) rs (All-drop P (quiet_front cs) cs h)
 
 -- ---- what is asked for

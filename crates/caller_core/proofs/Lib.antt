@@ -2,6 +2,7 @@ pub mod CommandLemmas
 pub mod CommandLines
 pub mod FairLemmas
 pub mod HandleLemmas
+pub mod NameLemmas
 pub mod PlaceLemmas
 pub mod PlacedLemmas
 pub mod QuietLemmas

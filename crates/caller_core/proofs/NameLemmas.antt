@@ -1,0 +1,70 @@
+-- A transfer that a script asks for is on a root that it names.
+use Rattle.std.proofs.Common.{◌≡◌, ℕ, zero, suc, ◌+◌, ◌-◌, ◌<◌, ◌≤◌, Bool, true, false, cond, ◌&&◌, ◌||◌, List, [], ◌∷◌, map, Option, Some, None, refl, sym, ◌∙◌, ap, ap₂, subst, arith, inl, inr, eq-eqb, lt-ltb}
+use Rattle.std.specs.Prelude.{All}
+use Rattle.std.specs.Int.{bit_at}
+use Rattle.std.specs.List.{list_any, range_with_len}
+use Rattle.std.proofs.lemmas.Bool.Decides.{leb_tells}
+use Rattle.std.proofs.lemmas.List.Elements.{All-head, All-tail, All-nil, All-cons}
+use Rattle.i2c_base.specs.declared.reply.Reply.{Reply}
+use Rattle.i2c_base.specs.Board.{BoardView}
+use Rattle.i2c_base.specs.Transfer.{TransferView}
+use Rattle.i2c_spec.specs.Tree.{buses, root_of}
+use Rattle.tools.specs.Dialogues.{place_after, transfers_of}
+use Rattle.caller_core.specs.Roots.{names_root, command_names, HasRoots}
+use Rattle.caller_core.specs.Turns.{talk, progress, next_of, asked_at}
+use Rattle.caller_core.specs.View.{CommandView}
+use Rattle.caller_core.proofs.FairLemmas.{left_all}
+
+or_right : (a b : Bool) → b ≡ true → (a || b) ≡ true
+or_right true b h = refl
+or_right false b h = h
+
+-- what is made of a number of a range stands among what is made of all
+any_made : {X : Type 0} (test : X → Bool) (make : ℕ → X) (from many k : ℕ) → k < many → test (make (from + k)) ≡ true
+    → list_any test (map make (range_with_len from many)) ≡ true
+any_made test make from zero k low is = absurd (omega (arith, low))
+any_made test make from (suc many) zero low is =
+    ap (λ b. b || list_any test (map make (range_with_len (from + 1) many)))
+    (ap (λ n. test (make n)) (let e : from ≡ from + 0 = omega arith in e) ∙ is)
+any_made test make from (suc many) (suc k) low is =
+    or_right (test (make from)) (list_any test (map make (range_with_len (from + 1) many)))
+    (any_made test make (from + 1) many k (omega (arith, low))
+    (ap (λ n. test (make n)) (let e : from + 1 + k ≡ from + suc k = omega arith in e) ∙ is))
+
+-- each that passes is told
+all_told : {X : Type 0} (test : X → Bool) (xs ys : List X) → (list_any test xs ≡ true → list_any test ys ≡ true)
+    → All (λ x. test x ≡ true → list_any test ys ≡ true) xs
+all_told test [] ys more = All-nil (λ x. test x ≡ true → list_any test ys ≡ true)
+all_told test (x ∷ xs) ys more =
+    All-cons (λ x. test x ≡ true → list_any test ys ≡ true) x xs
+    (λ is. more (ap (λ b. b || list_any test xs) is))
+    (all_told test xs ys (λ any. more (or_right (test x) (list_any test xs) any)))
+
+-- what the next command asks for
+next_named : (b : BoardView) (r : ℕ) (left : List CommandView) (own : List Reply) (t : TransferView) (any : Bool)
+    → All (λ c. command_names b r c ≡ true → any ≡ true) left → next_of left own ≡ Some t → names_root b r t ≡ true → any ≡ true
+next_named b r [] own t any all e is = absurd (let f : None ≡ Some t = e in cc)
+next_named b r (c ∷ cs) own t any all e is =
+    let k : ℕ = place_after (talk c) own in
+    elim (leb_tells (talk c).places k) [
+      | inl x ↦ absurd (let f : None ≡ Some t = sym (ap (λ b. cond b None (Some ((talk c).at k))) x.0) ∙ e in cc)
+      | inr x ↦ (
+          let f : Some ((talk c).at k) ≡ Some t = sym (ap (λ b. cond b None (Some ((talk c).at k))) x.0) ∙ e in
+          let same : (talk c).at k ≡ t = cc in
+          let low : k < (talk c).places - 0 = omega (arith, x.1) in
+          let here : names_root b r ((talk c).at (0 + k)) ≡ true =
+          ap (λ n. names_root b r ((talk c).at n)) (let z : 0 + k ≡ k = omega arith in z) ∙ ap (names_root b r) same ∙ is in
+          All-head (λ c. command_names b r c ≡ true → any ≡ true) c cs all
+          (any_made (names_root b r) (talk c).at 0 ((talk c).places - 0) k low here))
+    ]
+
+pub asked_named : (b : BoardView) (cs : List CommandView) (bits : ℕ) (rs : List Reply) (t : TransferView) → HasRoots b cs bits
+    → asked_at (progress cs rs) ≡ Some t → t.bus < buses b → bit_at bits (root_of b t.bus) ≡ 1
+asked_named b cs bits rs t has asks bus =
+    let r = root_of b t.bus in
+    let any = list_any (command_names b r) cs in
+    let told = left_all (λ c. command_names b r c ≡ true → any ≡ true) cs rs
+    (all_told (command_names b r) cs cs (λ some. some)) in
+    let does : names_root b r t ≡ true = ap₂ (λ (p q : Bool). p && q) (lt-ltb t.bus (buses b) bus) (eq-eqb r r refl) in
+    let named : any ≡ true = next_named b r (progress cs rs).left (progress cs rs).own t any told asks does in
+    has.exactly r ∙ ap (λ (p : Bool). cond p 1 0) named
