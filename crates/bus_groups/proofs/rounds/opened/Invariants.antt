@@ -1,0 +1,12 @@
+use Rattle.std.proofs.Common.{◌≡◌, ◌≤◌, ◌++◌, length, vec_capacity}
+use Rattle.std.specs.List.{AllZip}
+use Rattle.std.specs.Vec.Iter.{into_iter_items}
+use Rattle.bus_groups.specs.Rounds.{IsOpenedWith}
+use Rattle.bus_groups.proofs.rounds.opened.Given as goal
+
+abbrev pub invariant-loop-share : goal.invariant-loop-share
+invariant-loop-share g l = record {
+  slots : AllZip (λ share slot. IsOpenedWith g.P.Port g.C.Caller l.board share slot.core) l.yielded l.slots.items;
+  goes : l.yielded ++ into_iter_items l.share-iterator ≡ l.fn.shares.items;
+  room : length l.fn.shares.items ≤ vec_capacity l.slots;
+}

@@ -1,0 +1,15 @@
+use Rattle.std.proofs.Common.{◌≡◌, ◌≤◌, ◌++◌, length, map, vec_capacity}
+use Rattle.std.specs.List.{range_with_len}
+use Rattle.std.specs.Vec.Iter.{into_iter_items}
+use Rattle.bus_groups.specs.Shares.{cost_of_home}
+use Rattle.bus_groups.proofs.rounds.shares.Given as goal
+
+abbrev pub invariant-loop-ports : goal.invariant-loop-ports
+invariant-loop-ports g l = record {
+  ports : map (λ share. share.ports) l.shares.items ≡ l.yielded;
+  callers : map (λ share. share.callers) l.shares.items ++ l.callers.items ≡ l.fn.callers.items;
+  goes : l.yielded ++ into_iter_items l.ports-iterator ≡ l.fn.ports.items;
+  room : length l.fn.ports.items ≤ vec_capacity l.shares;
+  limits : map (λ share. share.limit) l.shares.items ≡ map (λ h. cost_of_home l.homes h l.costs) (range_with_len 0 (length l.shares.items));
+  same : length l.fn.ports.items ≡ length l.fn.callers.items;
+}
