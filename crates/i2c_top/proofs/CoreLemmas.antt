@@ -1,6 +1,6 @@
 -- The callers of a run on their seats: what a core is opened with, and what it is when all are through.
 use Rattle.std.proofs.Common.{◌≡◌, ◌⊎◌, ℕ, zero, suc, ◌+◌, ◌<◌, ◌≤◌, true, IsTrue, List, [], ◌∷◌, length, map, reverse, All, Option, Some, None, Result, Ok, Err, inl, inr, refl, sym, ◌∙◌, ap, subst, arith}
-use Rattle.std.specs.Prelude.{IfOk, slice_get, unwrap_or}
+use Rattle.std.specs.Prelude.{IfOk, slice_get}
 use Rattle.std.specs.List.{enumerate_from, range_with_len, sum_by}
 use Rattle.std.specs.Option.{option_map_or}
 use Rattle.std.proofs.lemmas.Bool.{cases_lt}
@@ -39,13 +39,15 @@ use Rattle.bus_core.specs.declared.seat.Seat.{Seat}
 use Rattle.bus_core.proofs.Kept.{script-own}
 use Rattle.bus_core.proofs.Loops.{script-none}
 use Rattle.bus_core.proofs.Told.{has-by, roots-told}
+use Rattle.bus_groups.specs.Rounds.{one_of}
+use Rattle.bus_groups.specs.Slots.{IsTold}
+use Rattle.bus_groups.specs.declared.together.Ran.{Ran}
 use Rattle.bus_journal.specs.View.{JournalView}
 use Rattle.caller_core.specs.Callers.{IsOpened, board_of, owed_by}
 use Rattle.caller_core.proofs.FairLemmas.{left_at_first}
 use Rattle.caller_core.specs.Scripts.{asked_by, left_of, cost_of_script}
 use Rattle.caller_core.specs.View.{ScriptView, CallerView, script_on}
-use Rattle.i2c_top.specs.Cores.{IsCoreOf, IsLeftOf}
-use Rattle.i2c_top.specs.Readings.{AreNamed}
+use Rattle.i2c_top.specs.Cores.{IsAsOne, IsCoreOf, IsLeftOf}
 use Rattle.i2c_top.specs.Faults.{IsFaultAt, AccountsForFaults, AreCounted}
 use Rattle.i2c_top.specs.Runs.{asks_by, AreOpened, texts_of, cost_of_texts, callers_of, MOST_COST, IsOver, KeepsOrder}
 use Rattle.i2c_top.proofs.RunLemmas.{same_asks}
@@ -332,7 +334,7 @@ module _ {P : Type 0} (g : PortGhosts P) (b : BoardView) (x : Parts P CallerView
   past = reverse x.journal.entries
 
   -- THE END: all are through
-  core-over : (ports : List P) (v : CoreState ScriptView) → IsPlainBoard b → MeetsRules b → (IsTrue g.tells → CoreTold asked_by (left v))
+  pub core-over : (ports : List P) (v : CoreState ScriptView) → IsPlainBoard b → MeetsRules b → (IsTrue g.tells → IsTold asked_by (left v))
       → AllThrough asked_by g.tells (left v) → roots_of x.ports.items ≡ roots_of (enumerate_from 0 ports)
       → length ports ≡ length b.roots → IsTrue g.tells
       → IsOver b (callers_of x) MOST_CALLERS x.journal.entries (map (λ (p : ℕ × P). g.world p.1) x.ports.items)
@@ -399,6 +401,10 @@ core-opened g b plain rules scripts opened ports count by_root by_number roots_a
     }
 core-opened g b plain rules scripts opened ports count by_root by_number roots_are numbers_are (Err e) opening worlds = tt
 
+-- of a core that is taken apart all is told but its lock words
+told-of : (v : CoreState ScriptView) → CoreTold asked_by v → IsTold asked_by v
+told-of v told = record { stepwise = told.stepwise; rests = told.rests; worlds = told.worlds; logs = told.logs }
+
 -- a core that was opened with scripts and ports, ran until all were through, and was taken apart
 pub taken-apart : {P : Type 0} (g : PortGhosts P) (b : BoardView) (scripts : List CallerView) (ports : List P) (words : Option (List ℕ))
     (core ran : CoreState ScriptView) (x : Parts P CallerView)
@@ -406,14 +412,14 @@ pub taken-apart : {P : Type 0} (g : PortGhosts P) (b : BoardView) (scripts : Lis
     → scripts_of script_row x.seats.items ≡ ran.opening.scripts → taken_of script_row x.seats.items ≡ ran.taken
     → worlds_of g.world x.ports.items ≡ ran.worlds → logs_of g.log x.ports.items ≡ ran.logs → x.journal ≡ ran.journal
     → (IsTrue g.tells → CoreTold asked_by ran) → AllThrough asked_by g.tells ran
-    → (IsTrue g.tells → KeepsOrder words ran.journal.entries) → IsLeftOf g b scripts ports words x
+    → (IsTrue g.tells → KeepsOrder b (texts_of scripts) words ran.journal.entries) → IsLeftOf g b scripts ports words x
 taken-apart g b scripts ports words core ran x of opening roots_kept scripts_left taken worlds logs journal told through ordered =
     record {
       over = λ tells.
           core-over g b x scripts of.opened same ports ran of.plain of.rules
-          (λ tell. subst (λ (v : CoreState ScriptView). CoreTold asked_by v) is_left (told tell))
+          (λ tell. told-of (left g b x scripts of.opened same ran) (subst (λ (v : CoreState ScriptView). CoreTold asked_by v) is_left (told tell)))
           (subst (λ (v : CoreState ScriptView). AllThrough asked_by g.tells v) is_left through) roots of.count tells;
-      ordered = λ tells. subst (λ (j : JournalView). KeepsOrder words j.entries) (sym journal) (ordered tells);
+      ordered = λ tells. subst (λ (j : JournalView). KeepsOrder b (texts_of scripts) words j.entries) (sym journal) (ordered tells);
       texts = texts-same g b x scripts of.opened same;
       count = ports-count x ports roots;
     }
@@ -434,11 +440,17 @@ goes-on-whole words old new empty goes =
     let from : GoesOnBy words [] new = subst (λ (es : List Entry). GoesOnBy words es new) empty goes in
     subst (λ (es : List Entry). Follows words es) (sym from.behind) from.follows
 
--- without a schedule nobody is named, and any order is kept
-pub named-all : (callers : ℕ) (words : Option (List ℕ)) → AreNamed callers words → All (λ c. c < callers) (unwrap_or words [])
-named-all callers None named = λ k d low. absurd (omega (arith, low))
-named-all callers (Some words) named = named
-
-pub order-kept : (words : Option (List ℕ)) (journal : List Entry) → Follows (unwrap_or words []) journal → KeepsOrder words journal
-order-kept None journal follows = tt
-order-kept (Some words) journal follows = follows
+-- what is left of one core, with its journal in a list
+pub as-one : {P : Type 0} (g : PortGhosts P) (b : BoardView) (scripts : List CallerView) (ports : List P) (words : Option (List ℕ))
+    (x : Parts P CallerView) (y : Ran P CallerView) → IsLeftOf g b scripts ports words x → IsAsOne x y
+    → IsLeftOf g b scripts ports words (one_of y)
+as-one {P} g b scripts ports words x y left as_one =
+    subst (IsLeftOf g b scripts ports words) same
+    (record { over = left.over; ordered = left.ordered; texts = left.texts; count = left.count })
+  where
+    same : record x { journal = record { entries = x.journal.entries; room = 0; room_bytes = 0 } } ≡ one_of y
+    same = ap (λ (ps : _). record x { ports = ps; journal = record { entries = x.journal.entries; room = 0; room_bytes = 0 } }) (sym as_one.ports)
+        ∙ ap (λ (ss : _). record x { ports = y.ports; seats = ss; journal = record { entries = x.journal.entries; room = 0; room_bytes = 0 } })
+        (sym as_one.seats)
+        ∙ ap (λ (es : List Entry). record { ports = y.ports; seats = y.seats; journal = record { entries = es; room = 0; room_bytes = 0 } })
+        (sym as_one.entries)

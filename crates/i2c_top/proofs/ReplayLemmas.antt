@@ -1,12 +1,13 @@
 -- How a call of `replay` or `run` ends: its report, and what its status tells. No induction.
-use Rattle.std.proofs.Common.{◌≡◌, ℕ, ◌<◌, ◌≤◌, ◌⊎◌, inl, inr, false, IsTrue, List, length, Option, None, Some, Result, Ok, Err, refl, sym, ap, subst}
-use Rattle.std.specs.Prelude.{IfOk, IfErr, OnOk}
+use Rattle.std.proofs.Common.{◌≡◌, ℕ, ◌<◌, ◌≤◌, ◌⊎◌, inl, inr, false, IsTrue, IsSome, List, [], length, Option, None, Some, Result, Ok, Err, refl, sym, ◌∙◌, ap, subst, arith}
+use Rattle.std.specs.Prelude.{All, IfOk, IfErr, OnOk, unwrap_or}
+use Rattle.std.proofs.lemmas.Bool.{false≢true}
 use Rattle.i2c_base.specs.declared.port.PortCall.{PortCall}
 use Rattle.i2c_base.specs.Board.{BoardView}
 use Rattle.i2c_spec.specs.Targets.{TargetState}
 use Rattle.ports.specs.Causes.{Rose, counted}
 use Rattle.i2c_top.specs.Endings.{CameToSuccess, CameToRefusal, HasEndedAs}
-use Rattle.i2c_top.specs.Readings.{HasRead, IsOrderIn, IsFileRefusal}
+use Rattle.i2c_top.specs.Readings.{AreNamed, HasRead, IsOrderIn, IsFileRefusal}
 use Rattle.i2c_top.specs.Files.{Files}
 use Rattle.i2c_top.specs.Form.{KeepsShelf, KeepsSkipped}
 use Rattle.i2c_top.specs.Scripts.{texts_in}
@@ -47,6 +48,16 @@ unread_order : (file : Files) (schedule : Option (List ℕ)) (callers : ℕ) (wo
     → IsOrderIn file schedule callers words → words ≡ None
 unread_order file None callers words free is = is.same
 unread_order file (Some name) callers words free is = absurd (let h : Some name ≡ None = free in cc)
+
+-- the callers of a schedule, where there is one, are among so many
+pub named_all : (callers : ℕ) (words : Option (List ℕ)) → AreNamed callers words → All (λ c. c < callers) (unwrap_or words [])
+named_all callers None named = λ k d low. absurd (omega (arith, low))
+named_all callers (Some words) named = named
+
+read_order : (file : Files) (schedule : Option (List ℕ)) (callers : ℕ) (words : Option (List ℕ)) → IsSome schedule
+    → IsOrderIn file schedule callers words → Some (unwrap_or words []) ≡ words
+read_order file None callers words some is = absurd (false≢true some)
+read_order file (Some name) callers words some is = ap (λ (ws : Option (List ℕ)). Some (unwrap_or ws [])) is.same ∙ sym is.same
 
 -- files that were refused are a refusal of the form; the rig is not plugged yet
 module _ (names : Names) (shelf shelf_now : ShelfView) (rig : RigView) where
@@ -108,6 +119,16 @@ module _ (names : Names) (shelf shelf_now : ShelfView) (rig rig_now : RigView) (
         by_rig = λ tells ports. record { board = b; texts = texts; words = by; run = run tells ports };
       }) kept
   run_done (Err e) bytes_of by same unplugs run = tt
+
+  -- with a schedule its words are those that were read
+  pub scheduled_run_done : {X : Type 0} (r : Result X Status) (bytes_of : X → List ℕ) → IsSome names.schedule
+      → OnOk r (rig_now.unplugs ≡ counted rig.unplugs)
+      → (IsTrue rig_now.tells → IsTrue rig_now.ports_tell
+      → IfOk r (λ x. HasRun b texts (Some (unwrap_or words [])) (bytes_of x) rig_now.logs rig_now.states rig_now.counts))
+      → IfOk r (λ x. CameToSuccess (replay_form names) shelf shelf_now rig rig_now (bytes_of x))
+  scheduled_run_done r bytes_of some unplugs run =
+      run_done r bytes_of (Some (unwrap_or words []))
+      (λ t. read_order shelf.file names.schedule (length names.scripts) words some (read t).order_in) unplugs run
 
   -- without a schedule no order was asked for
   pub free_run_done : {X : Type 0} (r : Result X Status) (bytes_of : X → List ℕ) → names.schedule ≡ None

@@ -11,6 +11,8 @@ use Rattle.i2c_spec.specs.World.{openings}
 use Rattle.bus_core.specs.Kept.{roots_of}
 use Rattle.bus_core.specs.State.{CoreState, roots_in}
 use Rattle.bus_core.specs.declared.bus.Parts.{Parts}
+use Rattle.bus_groups.specs.Rounds.{one_of}
+use Rattle.bus_groups.specs.declared.together.Ran.{Ran}
 use Rattle.caller_core.specs.View.{CallerView, ScriptView}
 use Rattle.i2c_top.specs.Runs.{AreOpened, texts_of, cost_of_texts, callers_of, MOST_COST, IsOver, KeepsOrder}
 
@@ -38,12 +40,18 @@ pub record IsCoreOf {P : Type 0} (b : BoardView) (scripts : List CallerView) (po
   pub scripts_are : core.opening.scripts ≡ map (λ (y : ℕ × CallerView). (y.0, y.1.script)) (enumerate_from 0 scripts)
   pub roots : roots_in core ≡ roots_of (enumerate_from 0 ports)
 
+-- what is left of one core, with its journal in a list
+pub record IsAsOne {P C : Type 0} (parts : Parts P C) (ran : Ran P C) : Type 0 where
+  pub ports : ran.ports ≡ parts.ports
+  pub seats : ran.seats ≡ parts.seats
+  pub entries : (one_of ran).journal.entries ≡ parts.journal.entries
+
 -- these are left of such a core: its callers are over and came in the order that was asked for; they have their texts, and
 -- there is a port for each root
 pub record IsLeftOf {P : Type 0} (g : PortGhosts P) (b : BoardView) (scripts : List CallerView) (ports : List P) (words : Option (List ℕ))
     (parts : Parts P CallerView) : Type 0 where
   pub over : IsTrue g.tells → IsOver b (callers_of parts) MOST_CALLERS parts.journal.entries
       (map (λ (p : ℕ × P). g.world p.1) parts.ports.items) (map (λ (p : ℕ × P). g.log p.1) parts.ports.items)
-  pub ordered : IsTrue g.tells → KeepsOrder words parts.journal.entries
+  pub ordered : IsTrue g.tells → KeepsOrder b (texts_of scripts) words parts.journal.entries
   pub texts : texts_of (callers_of parts) ≡ texts_of scripts
   pub count : length parts.ports.items ≡ length ports

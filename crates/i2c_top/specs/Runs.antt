@@ -1,7 +1,7 @@
 -- What a run of callers comes to: the report of a journal that is legal and complete and follows the schedule, where there
 -- is one; the calls of that journal in the ports' logs; and the devices that its history leaves.
-use Rattle.std.specs.Prelude.{⊤, Option, ◌≡◌, ℕ, ◌<◌, List, [], reverse, length, map, All, slice_get, None, Some}
-use Rattle.std.specs.List.{range_with_len, sum_by}
+use Rattle.std.specs.Prelude.{Option, ◌≡◌, ℕ, ◌<◌, List, [], reverse, length, map, All, slice_get, None, Some}
+use Rattle.std.specs.List.{range_with_len, sum_by, AllZip}
 use Rattle.std.specs.Option.{option_map_or}
 use Rattle.i2c_base.specs.declared.entry.Entry.{Entry}
 use Rattle.i2c_base.specs.declared.port.PortCall.{PortCall}
@@ -21,8 +21,10 @@ use Rattle.bus_spec.specs.Schedule.{Follows}
 use Rattle.bus_spec.specs.Report.{report_of}
 use Rattle.bus_journal.specs.Ranges.{IsEntry}
 use Rattle.bus_core.specs.declared.bus.Parts.{Parts}
+use Rattle.bus_groups.specs.Homes.{homes_of, home_at, AreByHomes}
 use Rattle.bus_core.specs.declared.seat.Seat.{Seat}
 use Rattle.caller_core.specs.Callers.{IsOpened}
+use Rattle.caller_core.specs.Roots.{HasRoots}
 use Rattle.caller_core.specs.Scripts.{asked_by, commands_of, cost_of_script, section_text}
 use Rattle.caller_core.specs.View.{CallerView, script_on}
 use Rattle.i2c_top.specs.Faults.{AreCounted}
@@ -96,17 +98,25 @@ pub record IsRunOf (b : BoardView) (texts : List (List ℕ)) (bytes : List ℕ) 
   pub replayed : history b (asks_by b texts) (order (reverse journal)) ≡ Some told
   pub left : states ≡ told.states
 
--- it follows the schedule whose words name these callers, where there is one; else they came in any order
-abbrev pub KeepsOrder : Option (List ℕ) → List Entry → Type 0
-KeepsOrder None journal = ⊤
-KeepsOrder (Some words) journal = Follows words journal
+-- callers whose transfers name a root in common, also through others, are a group, and the groups come one after the other, the
+-- one with the least root first; who names no root belongs to root 0
+pub record IsOfGroups (b : BoardView) (texts : List (List ℕ)) (journal : List Entry) : Type 0 where
+  -- the roots that each script's transfers name, as bits
+  pub masks : List ℕ
+  pub named : AllZip (λ text mask. HasRoots b (commands_of (script_on b text)) mask) texts masks
+  pub ordered : AreByHomes (home_at (homes_of (length b.roots) masks) masks) journal
+
+-- it follows the schedule whose words name these callers, where there is one; else it is the groups' journals
+abbrev pub KeepsOrder : BoardView → List (List ℕ) → Option (List ℕ) → List Entry → Type 0
+KeepsOrder b texts None journal = IsOfGroups b texts journal
+KeepsOrder b texts (Some words) journal = Follows words journal
 
 -- there is such a journal, which keeps the order that is asked for
 pub record HasRun (b : BoardView) (texts : List (List ℕ)) (words : Option (List ℕ)) (bytes : List ℕ) (logs : List (List PortCall))
     (states : List TargetState) (counts : List ℕ) : Type 0 where
   pub journal : List Entry
   pub is_run : IsRunOf b texts bytes logs states counts journal
-  pub ordered : KeepsOrder words journal
+  pub ordered : KeepsOrder b texts words journal
 
 -- there are an accepted board, texts of scripts, and the words of a schedule or none, and this is a run of these
 pub record HasSomeRun (bytes : List ℕ) (logs : List (List PortCall)) (states : List TargetState) (counts : List ℕ) : Type 0 where

@@ -1,15 +1,19 @@
-//! Scripts as the callers of a core, stepped by a schedule or on threads.
-ghost use Rattle.std.specs.Prelude.{◌≡◌, ◌≤◌, [], None, IfOk, IsTrue, All, length, unwrap_or};
-ghost use Rattle.std.specs.List.{enumerate_from};
-ghost use Rattle.std.specs.Option.{option_map};
+//! Scripts as the callers of a core that follow a schedule, or of the cores of groups that run on threads.
+ghost use Rattle.std.specs.Prelude.{◌≡◌, ◌<◌, ◌≤◌, [], None, Some, IfOk, IsTrue, All, length, map, vec_capacity};
+ghost use Rattle.std.specs.List.{enumerate_from, AllZip};
+ghost use Rattle.bus_groups.specs.Rounds.{one_of};
+ghost use Rattle.caller_core.specs.Roots.{HasRoots};
+ghost use Rattle.caller_core.specs.Scripts.{commands_of, cost_of_script};
 ghost use Rattle.i2c_base.specs.Limits.{MOST_ROOTS, MOST_CALLERS};
-ghost use Rattle.i2c_top.specs.Cores.{MayRun, IsCoreOf, IsLeftOf};
-ghost use Rattle.i2c_top.specs.Readings.{AreNamed};
+ghost use Rattle.i2c_top.specs.Cores.{MayRun, IsAsOne, IsCoreOf, IsLeftOf};
+ghost use Rattle.i2c_top.specs.Runs.{AreOpened, texts_of, cost_of_texts, MOST_COST};
 
 use crate::cost::cost_of;
 use crate::counted_port::CountedPort;
+use arrayvec::ArrayVec;
 use bus_core::{BusCore, Parts};
-use bus_monitor::run_all;
+use bus_groups::{Ran, run_groups};
+use bus_journal::Journal;
 use caller_core::{Script, scripts_are_fair};
 use i2c_base::{NoMemory, SegId};
 use i2c_board::Accepted;
@@ -70,36 +74,73 @@ fn opened<'b, P: Port>(
     BusCore::open(alloc, board, ports, callers, limit)
 }
 
-// The callers that a schedule names; without one there are none.
-fn listed(alloc: Global, words: Option<Vec<u8>>) -> Vec<u8>
-    ensures { result.items ≡ unwrap_or (option_map (λ v. v.items) words) [] }
+// What is left of one core, with its journal in a list that has room for it.
+fn of_one<P: Drop>(parts: Parts<P, Script>, room: Vec<Journal>) -> Ran<P, Script>
+    requires empty { room.items ≡ [] }
+    requires room { 1 ≤ vec_capacity room }
+    ensures { IsAsOne parts result }
 {
-    match words {
-        None => Vec::new(alloc),
-        Some(words) => words,
+    let Parts {
+        ports,
+        seats,
+        journal,
+    } = parts;
+    let mut journals = room;
+    journals.push_reserved(journal);
+    Ran {
+        ports,
+        seats,
+        journals,
     }
 }
 
-/// What is left of a core of the scripts over the ports when its callers have followed the schedule, where there is one,
-/// and each script is used up.
+/// What is left of a core of the scripts over the ports when its callers have followed the schedule, and each script is used
+/// up.
 pub fn finished<P: Port>(
     alloc: Global,
     board: &Accepted,
     scripts: Vec<Script>,
-    words: Option<Vec<u8>>,
+    words: &[u8],
     ports: Vec<P>,
-) -> Result<Parts<CountedPort<P>, Script>, NoMemory>
+) -> Result<Ran<CountedPort<P>, Script>, NoMemory>
     requires may { MayRun P.Port board.now scripts.items ports.items }
-    requires named { AreNamed (length scripts.items) (option_map (λ v. v.items) words) }
-    ensures { IfOk result (IsLeftOf P.Port board.now scripts.items ports.items (option_map (λ v. v.items) words)) }
+    requires named { All (λ c. c < length scripts.items) words.now }
+    ensures { IfOk result (λ x. IsLeftOf P.Port board.now scripts.items ports.items (Some words.now) (one_of x)) }
 {
-    let words = listed(alloc, words);
+    let room = Vec::with_capacity(alloc, 1)?;
     let mut core = opened(alloc, board, scripts, ports)?;
-    core.follow(words.as_slice());
-    Ok(core.take_apart())
+    core.follow(words);
+    Ok(of_one(core.take_apart(), room))
 }
 
-/// The same when each caller has run on a thread of its own, in whatever order they came.
+// Of each script the roots that its transfers name, as bits.
+fn masks_of(scripts: &[Script]) -> ArrayVec<u8, 8>
+    requires { length scripts.now ≤ MOST_CALLERS }
+    ensures { AllZip (λ s mask. HasRoots s.script.board (commands_of s.script) mask) scripts.now result.items }
+{
+    let mut masks = ArrayVec::new();
+    for script in scripts {
+        masks.push(script.roots());
+    }
+    masks
+}
+
+// What each script costs.
+fn costs_of(board: &Accepted, scripts: &[Script]) -> ArrayVec<u32, 8>
+    requires opened { AreOpened board.now scripts.now }
+    requires few { length scripts.now ≤ MOST_CALLERS }
+    requires cheap { cost_of_texts board.now (texts_of scripts.now) ≤ MOST_COST }
+    ensures { result.items ≡ map (λ s. cost_of_script s.script) scripts.now }
+{
+    let mut costs = ArrayVec::new();
+    for script in scripts {
+        costs.push(script.cost() as u32);
+    }
+    costs
+}
+
+/// What is left when each caller has run on a thread of its own, with a core for each group of callers that share a root, and
+/// each script is used up.
 pub fn ran<P: Port, G: Gate + Sync, H: Threads + Wait + Sync>(
     rt: &H,
     alloc: Global,
@@ -107,10 +148,24 @@ pub fn ran<P: Port, G: Gate + Sync, H: Threads + Wait + Sync>(
     scripts: Vec<Script>,
     gate: &G,
     ports: Vec<P>,
-) -> Result<Parts<CountedPort<P>, Script>, NoMemory>
+) -> Result<Ran<CountedPort<P>, Script>, NoMemory>
     requires may { MayRun P.Port board.now scripts.items ports.items }
-    ensures { IfOk result (IsLeftOf P.Port board.now scripts.items ports.items None) }
+    ensures { IfOk result (λ x. IsLeftOf P.Port board.now scripts.items ports.items None (one_of x)) }
 {
-    let core = opened(alloc, board, scripts, ports)?;
-    Ok(run_all(rt, core, gate).take_apart())
+    scripts_are_fair();
+    let roots = board.board().roots().len();
+    let masks = masks_of(scripts.as_slice());
+    let costs = costs_of(board, scripts.as_slice());
+    let ports = by_root(alloc, ports, roots)?;
+    let callers = by_number(alloc, scripts)?;
+    run_groups(
+        rt,
+        alloc,
+        board,
+        masks.as_slice(),
+        costs.as_slice(),
+        ports,
+        callers,
+        gate,
+    )
 }

@@ -1,7 +1,8 @@
 //! The report of a run: a section for each caller, and the journal.
-ghost use Rattle.std.specs.Prelude.{◌≡◌, ◌++◌, ◌∷◌, map, codes, OnOk, IfOk};
+ghost use Rattle.std.specs.Prelude.{◌≡◌, [], ◌++◌, ◌∷◌, map, flat_map, codes, OnOk, IfOk};
 ghost use Rattle.std.specs.Fmt.{decimal};
-ghost use Rattle.bus_spec.specs.Report.{sections, report_lines};
+ghost use Rattle.std.specs.Option.{option_map_or};
+ghost use Rattle.bus_spec.specs.Report.{ended_line, sections, report_lines};
 ghost use Rattle.i2c_top.specs.Runs.{section_of};
 
 use crate::text::Text;
@@ -40,18 +41,34 @@ fn push_callers(out: &mut Vec<u8>, callers: &[Seat<Script>]) -> Result<(), NoMem
     Ok(())
 }
 
-/// The report of callers that stand by their numbers, and of a journal, whose lines are not copied.
+// The lines of the last journal, where there is one, and the line that ends a report.
+fn last_piece(alloc: Global, last: Option<Journal>) -> Result<Vec<u8>, NoMemory>
+    ensures { IfOk result (λ piece. piece.items ≡ option_map_or (λ j. flat_map ended_line j.entries) last [] ++ codes "end\n") }
+{
+    match last {
+        Some(journal) => Ok(journal.into_text()),
+        None => {
+            let mut end = Vec::new(alloc);
+            push_bytes(&mut end, b"end\n")?;
+            Ok(end)
+        }
+    }
+}
+
+/// The report of callers that stand by their numbers, and of journals, one after the other, whose lines are not copied.
 pub fn report_of_callers(
     alloc: Global,
     callers: &[Seat<Script>],
-    journal: Journal,
+    journals: Vec<Journal>,
 ) -> Result<Text, NoMemory>
-    ensures { IfOk result (λ text. text ≡ report_lines (map (λ s. section_of s.caller) callers.now) journal.entries) }
+    ensures { IfOk result (λ text. text ≡ report_lines (map (λ s. section_of s.caller) callers.now) (flat_map (λ j. j.entries) journals.items)) }
 {
+    let mut journals = journals;
     let mut front = Vec::new(alloc);
     push_callers(&mut front, callers)?;
     push_bytes(&mut front, b"journal\n")?;
-    Ok(Text::new(front, journal.into_text()))
+    let back = last_piece(alloc, journals.pop())?;
+    Ok(Text::new(front, journals, back))
 }
 
 /// The report of a run: a section for each caller, given without its heading, the journal's lines, and `end`. It

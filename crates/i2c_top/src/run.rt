@@ -1,12 +1,12 @@
 //! Scripts over the ports of a rig, which is plugged before them and unplugged after.
-ghost use Rattle.std.specs.Prelude.{◌≡◌, ◌≤◌, ◌⊎◌, ℕ, List, [], false, true, Option, None, Err, IfOk, OnOk, IfErr, OnErr, IsTrue, All, length, map, vec_capacity};
-ghost use Rattle.std.specs.Option.{option_map};
+ghost use Rattle.std.specs.Prelude.{◌≡◌, ◌<◌, ◌≤◌, ◌⊎◌, ℕ, List, [], false, true, Option, None, Some, Err, IfOk, OnOk, IfErr, OnErr, IsTrue, All, length, map, flat_map, vec_capacity};
 ghost use Rattle.i2c_base.specs.Limits.{MOST_CALLERS};
 ghost use Rattle.ports.specs.Causes.{Rose, counted};
+ghost use Rattle.bus_groups.specs.Rounds.{one_of};
+ghost use Rattle.bus_journal.specs.Ranges.{IsEntry};
 ghost use Rattle.caller_core.specs.View.{CallerView};
 ghost use Rattle.i2c_top.specs.Cores.{AreFresh, IsLeftOf};
 ghost use Rattle.i2c_top.specs.Faults.{AccountsForFaults};
-ghost use Rattle.i2c_top.specs.Readings.{AreNamed};
 ghost use Rattle.i2c_top.specs.Traces.{IsAtMostOnce};
 ghost use Rattle.i2c_top.specs.Runs.{AreOpened, texts_of, cost_of_texts, MOST_COST, HasRun};
 ghost use Rattle.i2c_top.specs.declared.status.Status.TheVariants as status;
@@ -16,7 +16,8 @@ use crate::callers::{finished, ran};
 use crate::counted_port::CountedPort;
 use crate::report::report_of_callers;
 use crate::text::Text;
-use bus_core::Parts;
+use bus_groups::Ran;
+use bus_journal::Journal;
 use caller_core::Script;
 use i2c_base::{NoMemory, SegId};
 use i2c_board::Accepted;
@@ -70,17 +71,26 @@ fn plugged<R: Rig>(
     Ok((ports, room))
 }
 
+// Each field of the entries of journals is within the range of its type.
+fn are_in_range(journals: &[Journal])
+    ensures { All IsEntry (flat_map (λ j. j.entries) journals.now) }
+{
+    for journal in journals {
+        journal.entries_are_in_range();
+    }
+}
+
 // Gives the ports that are left of a run back to their rig, and makes the report.
 fn reported<R: Rig>(
     alloc: Global,
-    parts: Result<Parts<CountedPort<R::P>, Script>, NoMemory>,
+    ran: Result<Ran<CountedPort<R::P>, Script>, NoMemory>,
     room: Vec<R::P>,
     rig: &mut R,
 ) -> Result<Text, Status>
     requires plugged { R.plugged rig.old ≡ true }
     requires empty { room.items ≡ [] }
-    requires room { IfOk parts (λ x. length x.ports.items ≤ vec_capacity room) }
-    ensures run { IsTrue R.tells → IsTrue R.P.tells → (scripts : List CallerView) (ports : List _) (words : Option (List ℕ)) → IfOk parts (IsLeftOf R.P.Port (R.board_of rig.old) scripts ports words)
+    requires room { IfOk ran (λ x. length x.ports.items ≤ vec_capacity room) }
+    ensures run { IsTrue R.tells → IsTrue R.P.tells → (scripts : List CallerView) (ports : List _) (words : Option (List ℕ)) → IfOk ran (λ x. IsLeftOf R.P.Port (R.board_of rig.old) scripts ports words (one_of x))
         → IfOk result (λ text. HasRun (R.board_of rig.old) (texts_of scripts) words text (R.logs rig.new) (R.states rig.new) (R.port_faults rig.new)) }
     ensures failed { IfErr result (λ e. e ≡ status.Memory) }
     ensures later { R.faults rig.old ≤ R.faults rig.new }
@@ -88,35 +98,34 @@ fn reported<R: Rig>(
     ensures unplugs { R.unplugs rig.new ≡ counted (R.unplugs rig.old) }
     ensures unplugged { R.plugged rig.new ≡ false }
 {
-    let Ok(parts) = parts else {
+    let Ok(ran) = ran else {
         rig.unplug(room);
         return Err(Status::Memory);
     };
-    let Parts {
+    let Ran {
         ports,
         seats,
-        journal,
-    } = parts;
-    journal.entries_are_in_range();
+        journals,
+    } = ran;
+    are_in_range(journals.as_slice());
     rig.unplug(alone(ports, room));
-    Ok(report_of_callers(alloc, seats.as_slice(), journal)?)
+    Ok(report_of_callers(alloc, seats.as_slice(), journals)?)
 }
 
-/// Runs scripts over the ports of a rig, by a schedule that names the callers that are to step, where there is one, and
-/// gives the report. A rig that was plugged is unplugged, whatever came of it. It answers `Rig` where the rig counted a
+/// Runs scripts over the ports of a rig, by a schedule that names the callers that are to step, and gives the report. A rig that was plugged is unplugged, whatever came of it. It answers `Rig` where the rig counted a
 /// fault in its one plug, and else fails only for want of memory.
 pub fn run_scripts<R: Rig>(
     alloc: Global,
     board: &Accepted,
     scripts: Vec<Script>,
-    words: Option<Vec<u8>>,
+    words: &[u8],
     rig: &mut R,
 ) -> Result<Text, Status>
     requires opened { AreOpened board.now scripts.items }
     requires few { length scripts.items ≤ MOST_CALLERS }
-    requires named { AreNamed (length scripts.items) (option_map (λ v. v.items) words) }
+    requires named { All (λ c. c < length scripts.items) words.now }
     requires cheap { cost_of_texts board.now (texts_of scripts.items) ≤ MOST_COST }
-    ensures run { IsTrue R.tells → IsTrue R.P.tells → IfOk result (λ text. HasRun board.now (texts_of scripts.items) (option_map (λ v. v.items) words) text (R.logs rig.new) (R.states rig.new) (R.port_faults rig.new)) }
+    ensures run { IsTrue R.tells → IsTrue R.P.tells → IfOk result (λ text. HasRun board.now (texts_of scripts.items) (Some words.now) text (R.logs rig.new) (R.states rig.new) (R.port_faults rig.new)) }
     ensures failed { IfErr result (λ e. (e ≡ status.Rig) ⊎ (e ≡ status.Memory)) }
     ensures rig { result ≡ Err status.Rig → Rose (R.faults rig.old) (R.faults rig.new) }
     ensures later { R.faults rig.old ≤ R.faults rig.new }
@@ -127,8 +136,8 @@ pub fn run_scripts<R: Rig>(
     ensures unplugged { R.plugged rig.new ≡ false }
 {
     let (ports, room) = plugged(alloc, board, rig)?;
-    let parts = finished(alloc, board, scripts, words, ports);
-    reported(alloc, parts, room, rig)
+    let ran = finished(alloc, board, scripts, words, ports);
+    reported(alloc, ran, room, rig)
 }
 
 /// The same without a schedule, each script on a thread of its own.
@@ -154,6 +163,6 @@ pub fn run_at_once<H: Threads + Wait + Sync, R: Rig, G: Gate + Sync>(
     ensures unplugged { R.plugged rig.new ≡ false }
 {
     let (ports, room) = plugged(alloc, board, rig)?;
-    let parts = ran(rt, alloc, board, scripts, gate, ports);
-    reported(alloc, parts, room, rig)
+    let ran = ran(rt, alloc, board, scripts, gate, ports);
+    reported(alloc, ran, room, rig)
 }

@@ -1,5 +1,6 @@
 //! The forms `replay BOARD SCHEDULE SCRIPT...` and `run BOARD SCRIPT...`: scripts over a board, and their report.
-ghost use Rattle.std.specs.Prelude.{◌≡◌, true, None, map, string_bytes, IfOk, IfErr, IsTrue};
+ghost use Rattle.std.specs.Prelude.{◌≡◌, true, [], None, map, unwrap_or, string_bytes, IfOk, IfErr, IsSome, IsTrue};
+ghost use Rattle.std.specs.Option.{option_map};
 ghost use Rattle.i2c_top.specs.Endings.{CameToSuccess, CameToRefusal, HasEndedAs};
 ghost use Rattle.i2c_top.specs.Traces.{shelf_view, rig_view, outside};
 ghost use Rattle.i2c_top.specs.forms.Replays.{is_replay, is_run, replay_names, run_names, replay_form, names_told, ArePlaced, HasReplayed};
@@ -38,7 +39,17 @@ pub fn is_run(words: &[String]) -> bool
         && are_names(words)
 }
 
-// Reads the files and runs the scripts by the schedule, where there is one: the report, or the refusal.
+// The callers that a schedule names; without one there are none.
+fn listed(alloc: Global, words: Option<Vec<u8>>) -> Vec<u8>
+    ensures { result.items ≡ unwrap_or (option_map (λ v. v.items) words) [] }
+{
+    match words {
+        None => Vec::new(alloc),
+        Some(words) => words,
+    }
+}
+
+// Reads the files and runs the scripts by the schedule: the report, or the refusal.
 fn replay<S: Shelf, R: Rig>(
     alloc: Global,
     names: &ReplayNames<'_>,
@@ -46,6 +57,7 @@ fn replay<S: Shelf, R: Rig>(
     rig: &mut R,
 ) -> Result<Text, Status>
     requires placed { ArePlaced (S.words shelf.old) (names_told names.now) }
+    requires scheduled { IsSome (names_told names.now).schedule }
     ensures done { IfOk result (λ text. CameToSuccess (replay_form (names_told names.now))
         (shelf_view S.Shelf shelf.old) (shelf_view S.Shelf shelf.new)
         (rig_view R.Rig R.P.tells rig.old) (rig_view R.Rig R.P.tells rig.new) text) }
@@ -58,7 +70,8 @@ fn replay<S: Shelf, R: Rig>(
         scripts,
         schedule,
     } = read_files(alloc, names, shelf)?;
-    run_scripts(alloc, &board, scripts, schedule, rig)
+    let words = listed(alloc, schedule);
+    run_scripts(alloc, &board, scripts, words.as_slice(), rig)
 }
 
 // The same without a schedule, each script on a thread of its own.

@@ -1,17 +1,55 @@
 use denote.Param.Send.{sendable}
-use Rattle.std.proofs.Common.{None}
+use Rattle.std.proofs.Common.{◌≡◌, ℕ, List, length, sym, ◌∙◌, ap, subst, arith}
+use Rattle.std.specs.Prelude.{IfOk}
+use Rattle.std.specs.List.{enumerate_from}
 use Rattle.std.proofs.Crossing.{crosses}
-use Rattle.i2c_top.proofs.CoreLemmas.{taken-apart}
+use Rattle.i2c_base.specs.Board.{BoardView}
+use Rattle.i2c_spec.specs.Plain.{IsPlainBoard}
+use Rattle.bus_groups.specs.Rounds.{HaveRun, MayRun}
+use Rattle.caller_core.specs.View.{CallerView}
+use Rattle.i2c_top.proofs.CoreLemmas.{script_row}
+use Rattle.i2c_top.proofs.GroupLemmas.{AreMasks, costs_in, may-run, ran-left}
 use Rattle.i2c_top.proofs.callers.ran.Goals as goal
 
 -- a script may go to another thread; each type that it is made of takes a lemma
-pub run_all-requires-send-C : goal.run_all-requires-send-C
-run_all-requires-send-C g c κs within = search (sendable, crosses) depth 60 fits 20000
+pub run_groups-requires-send-C : goal.run_groups-requires-send-C
+run_groups-requires-send-C g c κs within = search (sendable, crosses) depth 60 fits 20000
+
+pub by_root-requires-clause-few : goal.by_root-requires-clause-few
+by_root-requires-clause-few g c κs within =
+    let plain : IsPlainBoard c.args.board.now = subst IsPlainBoard c.board.ensures.value c.roots-roots.ensures.plain in
+    let value : length c.roots-roots.result.now ≡ length c.args.board.now.roots = ap length c.roots-roots.ensures.value
+    ∙ ap (λ (x : BoardView). length x.roots) c.board.ensures.value in
+    let most = plain.most_roots in
+    omega (arith, value, most)
+
+pub run_groups-requires-after_bounds : goal.run_groups-requires-after_bounds
+run_groups-requires-after_bounds g c κs within =
+    let b = c.args.board.now in
+    let plain : IsPlainBoard b = subst IsPlainBoard c.board.ensures.value c.roots-roots.ensures.plain in
+    let scripts = c.args.scripts.items in
+    let masks = c.masks_of-masks.result.items in
+    let has : AreMasks scripts masks = subst (λ (ss : List CallerView). AreMasks ss masks) c.as_slice.ensures.value c.masks_of-masks.ensures in
+    let costs : c.as_slice-4.result.now ≡ costs_in scripts =
+    c.as_slice-4.ensures.value ∙ c.costs_of-costs.ensures ∙ ap costs_in c.as_slice-2.ensures.value in
+    let may = may-run g.P.Port b plain scripts c.requires.may.opened c.requires.may.few c.requires.may.cheap c.args.ports.items
+    c.requires.may.fresh c.scripts_are_fair.ensures masks has in
+    subst (λ (ms : List ℕ). MayRun g.P.Port script_row b ms c.as_slice-4.result.now c.in_ok-ports.ports.items c.in_ok-callers.callers.items)
+    (sym c.as_slice-3.ensures.value)
+    (subst (λ (ks : List ℕ). MayRun g.P.Port script_row b masks ks c.in_ok-ports.ports.items c.in_ok-callers.callers.items) (sym costs)
+    (subst (λ (ps : List (ℕ × g.row.P.Denot)). MayRun g.P.Port script_row b masks (costs_in scripts) ps c.in_ok-callers.callers.items)
+    (sym c.in_ok-ports.ensures)
+    (subst (λ (cs : List (ℕ × CallerView)). MayRun g.P.Port script_row b masks (costs_in scripts) (enumerate_from 0 c.args.ports.items) cs)
+    (sym c.in_ok-callers.ensures) may)))
 
 pub returns : goal.returns
 returns g c =
-    let run = c.run_all.ensures in
-    let apart = c.take_apart.ensures in
-    taken-apart g.P.Port c.args.board.now c.args.scripts.items c.args.ports.items None c.in_ok-core.core c.run_all.result
-    c.take_apart.result c.in_ok-core.ensures.of run.opening run.roots apart.scripts apart.taken
-    apart.worlds apart.logs apart.journal run.told run.through (λ tells. tt)
+    let b = c.args.board.now in
+    let plain : IsPlainBoard b = subst IsPlainBoard c.board.ensures.value c.roots-roots.ensures.plain in
+    let masks = c.masks_of-masks.result.items in
+    let has : AreMasks c.args.scripts.items masks =
+    subst (λ (ss : List CallerView). AreMasks ss masks) c.as_slice.ensures.value c.masks_of-masks.ensures in
+    ran-left g.P.Port b plain c.board.ensures.rules c.args.scripts.items c.requires.may.opened c.args.ports.items c.requires.may.fresh.count
+    c.in_ok-ports.ports.items c.in_ok-callers.callers.items c.in_ok-ports.ensures c.in_ok-callers.ensures masks has c.run_groups.result
+    (subst (λ (ms : List ℕ). IfOk c.run_groups.result (HaveRun g.P.Port script_row b ms c.in_ok-ports.ports.items c.in_ok-callers.callers.items))
+    c.as_slice-3.ensures.value c.run_groups.ensures)

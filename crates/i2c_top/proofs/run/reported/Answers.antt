@@ -1,5 +1,5 @@
 use Rattle.std.specs.Prelude.{IfOk}
-use Rattle.std.proofs.Common.{◌≡◌, ℕ, List, Result, length, map, sym, ◌∙◌, ap, subst}
+use Rattle.std.proofs.Common.{◌≡◌, ℕ, List, All, Result, length, map, flat_map, sym, ◌∙◌, ap, subst}
 use Rattle.std.proofs.lemmas.List.{length-map}
 use Rattle.i2c_base.specs.declared.port.PortCall.{PortCall}
 use Rattle.i2c_base.specs.Limits.{MOST_CALLERS}
@@ -8,10 +8,13 @@ use Rattle.bus_core.specs.declared.seat.Seat.{Seat}
 use Rattle.bus_spec.specs.Report.{report_lines}
 use Rattle.caller_core.specs.View.{CallerView}
 use Rattle.caller_core.proofs.FairLemmas.{scripts_fair}
-use Rattle.bus_core.specs.declared.bus.Parts.{Parts}
+use Rattle.bus_journal.specs.Ranges.{IsEntry}
+use Rattle.bus_journal.specs.View.{JournalView}
+use Rattle.bus_groups.specs.Rounds.{one_of}
+use Rattle.bus_groups.specs.declared.together.Ran.{Ran}
 use Rattle.i2c_top.specs.Cores.{IsLeftOf}
 use Rattle.i2c_top.specs.Faults.{AreCounted}
-use Rattle.i2c_top.specs.Runs.{section_of, callers_of, HasRun}
+use Rattle.i2c_top.specs.Runs.{section_of, callers_of, HasRun, KeepsOrder}
 use Rattle.i2c_top.proofs.CoreLemmas.{ports-counted, twice}
 use Rattle.i2c_top.proofs.RunLemmas.{run-over}
 use Rattle.i2c_top.proofs.run.reported.Goals as goal
@@ -19,9 +22,9 @@ use Rattle.i2c_top.proofs.run.reported.Goals as goal
 pub returns-clause-run : goal.returns-clause-run
 returns-clause-run g c =
     λ tells tell scripts ports words kept.
-    let parts = c.in-Ok.parts in
+    let parts = one_of c.in-Ok.ran in
     let left : IsLeftOf g.R.P.Port (g.R.Rig.board_of c.args.rig.now) scripts ports words parts =
-    subst (λ (r : Result (Parts _ CallerView) _). IfOk r (IsLeftOf g.R.P.Port (g.R.Rig.board_of c.args.rig.now) scripts ports words))
+    subst (λ (r : Result (Ran _ CallerView) _). IfOk r (λ x. IsLeftOf g.R.P.Port (g.R.Rig.board_of c.args.rig.now) scripts ports words (one_of x)))
     c.in-Ok.is kept in
     let b = g.R.Rig.board_of c.args.rig.now in
     let row = g.R.P.Port in
@@ -36,7 +39,7 @@ returns-clause-run g c =
     let printed : bytes ≡ report_lines (map section_of (callers_of parts)) journal =
     c.in_ok-report_of_callers.ensures
     ∙ ap (λ (ss : List (Seat CallerView)). report_lines (map (λ (s : Seat CallerView). section_of s.caller) ss) journal)
-    c.as_slice.ensures.value
+    c.as_slice-2.ensures.value
     ∙ ap (λ (xs : List (List ℕ)). report_lines xs journal) (sym (twice section_of (λ (s : Seat CallerView). s.caller) parts.seats.items)) in
     let states = g.R.Rig.states c.unplug-2.new.self in
     let kept_logs = g.R.Rig.logs c.unplug-2.new.self in
@@ -48,12 +51,13 @@ returns-clause-run g c =
     (record {
       journal = journal;
       is_run = run-over b (callers_of parts) MOST_CALLERS journal worlds logs scripts_fair (left.over tell) bytes kept_logs states counts
-          printed c.entries_are_in_range.ensures
+          printed (subst (λ (js : List JournalView). All IsEntry (flat_map
+          (λ (j : JournalView). j.entries) js)) c.as_slice.ensures.value c.are_in_range.ensures)
           (subst (λ (ws : List World). AreWorldsOf b ws → states ≡ devices_of b ws) given (c.unplug-2.ensures.states tells tell))
           (λ are. subst (λ (ws : List World). AreWorldsOf b ws → kept_logs ≡ map row.log c.alone.result.items) given
           (c.unplug-2.ensures.logs tells tell) are ∙ logged)
           (subst (AreCounted b logs) (sym (c.unplug-2.ensures.counts tells))
           (subst (λ (ls : List (List PortCall)). AreCounted b ls (map row.faults c.alone.result.items)) logged
           (ports-counted row b c.alone.result.items tell many c.alone.ensures.accounts)));
-      ordered = left.ordered tell;
+      ordered = subst (λ (texts : List (List ℕ)). KeepsOrder b texts words journal) (sym left.texts) (left.ordered tell);
     })
