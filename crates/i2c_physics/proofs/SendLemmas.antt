@@ -1,5 +1,5 @@
 -- A port may go to another thread, with all that it holds.
-use denote.Param.Send.{IsSend, sendable}
+use denote.Param.Send.{IsSend, IsSync, sendable}
 use Rattle.std.proofs.Crossing.{crosses}
 use Rattle.i2c_board.proofs.SendLemmas.{hop-send}
 use Rattle.targets.proofs.SendLemmas.{device-send}
@@ -11,6 +11,8 @@ use Rattle.i2c_physics.specs.contracts.device_slot.DeviceSlot as DeviceSlot
 use Rattle.i2c_physics.specs.contracts.sim_world.SimWorld as SimWorld
 use Rattle.i2c_physics.specs.contracts.sim_port.SimPort as SimPort
 use Rattle.i2c_physics.specs.contracts.fail_port.FailPort as FailPort
+use Rattle.i2c_physics.specs.contracts.words.Words as Words
+use Rattle.i2c_physics.specs.contracts.hold_port.HoldPort as HoldPort
 
 place-send : IsSend (Place.the_field).row
 place-send = search (crosses, sendable, hop-send) depth 20
@@ -35,3 +37,12 @@ port-send = search (crosses, sendable, world-send) depth 20
 
 pub fail_port-send : IsSend (FailPort.the_field).row
 fail_port-send = search (crosses, sendable, port-send) depth 20
+
+words-send : IsSend (Words.the_field).row
+words-send = search (crosses, sendable) depth 20
+
+words-sync : IsSync (Words.the_field).row
+words-sync = search (crosses, sendable) depth 20
+
+pub hold_port-send : IsSend (HoldPort.the_field).row
+hold_port-send = search (crosses, sendable, port-send, words-send, words-sync) depth 20

@@ -3,13 +3,16 @@
 //!
 //! Its public contract: `SimPort` meets `Port` and tells, so each call acts on the world of its root as `World` of
 //! `i2c_spec` says, and `SimRig` meets `Rig`. Neither ever fails by a fault. `FailPort` and `FailRig` are the same with
-//! calls and plugs that fail, exactly those that are listed. `SimWorld` is that world alone, whose calls may come at
-//! any time. Definitions: `World` of `i2c_spec` (UM10204 section 3.1), `specs/FailPorts.antt`.
+//! calls and plugs that fail, exactly those that are listed. `HoldPort` and `HoldRig` meet what `SimPort` and `SimRig` do,
+//! and the ports of two roots wait for each other. `SimWorld` is that world alone, whose calls may come at any time.
+//! Definitions: `World` of `i2c_spec` (UM10204 section 3.1), `specs/FailPorts.antt`.
 #![tactic(auto)]
 
 mod device_slot;
 mod fail_port;
 mod fail_rig;
+mod hold_port;
+mod hold_rig;
 mod numbers;
 mod phase;
 mod place;
@@ -20,9 +23,12 @@ mod sim_world;
 mod sites;
 mod unplug;
 mod wired_and;
+mod words;
 
 pub use fail_port::FailPort;
 pub use fail_rig::FailRig;
+pub use hold_port::HoldPort;
+pub use hold_rig::HoldRig;
 pub use sim_port::SimPort;
 pub use sim_rig::SimRig;
 pub use sim_world::SimWorld;
