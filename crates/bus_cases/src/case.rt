@@ -126,8 +126,8 @@ fn copied(alloc: Global, words: &[String]) -> Result<Vec<String>, AllocError>
     Ok(copy)
 }
 
-// A shelf over these words and files.
-fn shelf_of(alloc: Global, case: &Case, files: &Files, words: &[String]) -> Option<MapShelf>
+/// A shelf over these words and files.
+pub fn shelf_of(alloc: Global, case: &Case, files: &Files, words: &[String]) -> Option<MapShelf>
     ensures { IfSome result (λ s. map string_bytes s.words.items ≡ map string_bytes words.now) }
 {
     let fails = case.reads.clone().ok()?;
@@ -135,7 +135,8 @@ fn shelf_of(alloc: Global, case: &Case, files: &Files, words: &[String]) -> Opti
     Some(MapShelf::new(copied(alloc, words).ok()?, files, fails))
 }
 
-fn sink_of(alloc: Global, case: &Case) -> Option<VecSink> {
+/// An output with the room of a case, of which its writes fail.
+pub fn sink_of(alloc: Global, case: &Case) -> Option<VecSink> {
     VecSink::open(alloc, case.room, case.writes.clone().ok()?).ok()
 }
 

@@ -24,6 +24,8 @@
 //! - `apart N`: the same of callers that share no device, and of how many kinds their sections are
 //! - `turns HELD OTHER`: makes the call with a gate at the free of the first root, where caller HELD is held until caller OTHER
 //!   has settled twice. Prints whether a hold was in vain, the sections, and where the second settle of OTHER stands
+//! - `holds HELD OTHER`: makes the call over a rig whose port of root HELD waits at its first start until that of root OTHER has
+//!   made a stop, and that of OTHER until that of HELD has come to its own. Prints whether a wait was in vain, and what was written
 //!
 //! Then come worked examples of what stands below the core. Each is a front, a colon and words, and is answered by a line
 //! of the same front with an answer for each word:
@@ -47,6 +49,7 @@ mod case;
 mod chips;
 mod devices;
 mod entries;
+mod holds;
 mod interleavings;
 mod lines;
 mod mute;

@@ -2,6 +2,7 @@
 use crate::bench::answer_line;
 use crate::case::{Call, Case, Files as Shelf};
 use crate::entries::put_entry;
+use crate::holds::put_holds;
 use crate::interleavings::{put_again, put_interleavings};
 use crate::mute::put_mute;
 use crate::page::Page;
@@ -91,6 +92,7 @@ impl Table {
             "call" => self.make_call(rt, page, alloc, rest),
             "words" => self.read_words(page, alloc, rest),
             "turns" => self.put_turns(rt, page, alloc, rest),
+            "holds" => self.put_holds(rt, page, alloc, rest),
             "mute" => put_mute(page),
             "entry" => put_entry(page, alloc, rest),
             "reads" | "writes" | "fails" | "room" | "stuck" => {
@@ -155,6 +157,25 @@ impl Table {
         match (held.parse(), other.parse()) {
             (Ok(held), Ok(other)) => {
                 put_turns(rt, page, alloc, &self.files, &mut self.call, held, other)
+            }
+            _ => page.require(false),
+        }
+    }
+
+    // Makes the call over a rig whose ports of these two roots wait for each other.
+    fn put_holds<H: Threads + Wait + Sync>(
+        &self,
+        rt: &H,
+        page: &mut Page,
+        alloc: Global,
+        numbers: &str,
+    ) {
+        let (held, other) = parted(numbers, ' ');
+        match (held.parse(), other.parse()) {
+            (Ok(held), Ok(other)) => {
+                let words = self.call.words.as_slice();
+                let put = put_holds(rt, page, alloc, &self.files, words, held, other);
+                page.require(put.is_some());
             }
             _ => page.require(false),
         }
