@@ -115,7 +115,7 @@ eeprom_sent_byte x (Address high) all = omega arith
 eeprom_sent_byte x Data all = omega arith
 
 pub eeprom_keep_bytes : KeepsBytes eeprom_table IsEepromOfBytes
-eeprom_keep_bytes = record { after = eeprom_after_bytes; sends = λ x all. eeprom_sent_byte x x.phase all.0 }
+eeprom_keep_bytes = record { after = eeprom_after_bytes; sends = λ x all. eeprom_sent_byte x x.phase all.0; holds = λ x all. omega arith }
 
 pub eeprom_opening-bytes : (size : Size) (fill busy : ℕ) (wp : Bool) (set : List RunView) → fill ≤ 255 → RunsHoldBytes set
     → IsEepromOfBytes (eeprom_opening size fill busy wp set)

@@ -86,7 +86,7 @@ lm75_sent_byte x Pointer all = omega arith
 lm75_sent_byte x (Data k) all = omega arith
 
 pub lm75_keep_bytes : KeepsBytes lm75_table IsLm75OfBytes
-lm75_keep_bytes = record { after = lm75_after_bytes; sends = λ x all. lm75_sent_byte x x.phase all }
+lm75_keep_bytes = record { after = lm75_after_bytes; sends = λ x all. lm75_sent_byte x x.phase all; holds = λ x all. omega arith }
 
 pub lm75_opening-bytes : (raw : ℕ) → raw ≤ 65535 → IsLm75OfBytes (lm75_opening raw)
 lm75_opening-bytes raw most = (

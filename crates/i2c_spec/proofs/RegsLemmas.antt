@@ -1,5 +1,5 @@
 -- The table of the register device is fair, and what it holds stays bytes. No induction.
-use Rattle.std.proofs.Common.{ℕ, ◌<◌, Bool, true, false, if◌then◌else◌, List, replicate, inl, inr, refl, arith}
+use Rattle.std.proofs.Common.{ℕ, ◌<◌, ◌≤◌, Bool, true, false, if◌then◌else◌, List, replicate, inl, inr, refl, arith}
 use Rattle.std.specs.List.{AllByRecursion}
 use Rattle.i2c_base.specs.Board.{RunView}
 use Rattle.i2c_base.specs.Bytes.{IsByte}
@@ -51,15 +51,32 @@ sent_byte x Idle all = omega arith
 sent_byte x Pointer all = omega arith
 sent_byte x Data all = omega arith
 
+-- .. and for how many looks it holds the clock
+put_hold : (x : RegsView) (p : RegsPhase) (byte : ℕ) → IsByte x.hold → IsByte (regs_put x p byte).hold
+put_hold x Pointer byte small = small
+put_hold x Data byte small = small
+put_hold x Idle byte small = small
+put_hold x Read byte small = small
+
+got_hold : (x : RegsView) (p : RegsPhase) (ack : Bool) → IsByte x.hold → IsByte (regs_get x p ack).hold
+got_hold x Read ack small = small
+got_hold x Idle ack small = small
+got_hold x Pointer ack small = small
+got_hold x Data ack small = small
+
 regs_after_bytes : (x : RegsView) (e : Event) → IsByteEvent e → IsRegsOfBytes x → IsRegsOfBytes (regs_after x e)
 regs_after_bytes x (event.Start reading) fit all = all
-regs_after_bytes x (event.Put byte) fit all = put_bytes x x.phase byte fit all
-regs_after_bytes x (event.Get ack) fit all = got_bytes x x.phase ack all
+regs_after_bytes x (event.Put byte) fit all = (put_bytes x x.phase byte fit all.0, put_hold x x.phase byte all.1)
+regs_after_bytes x (event.Get ack) fit all = (got_bytes x x.phase ack all.0, got_hold x x.phase ack all.1)
 regs_after_bytes x event.Other fit all = all
 regs_after_bytes x event.Stop fit all = all
 
 pub regs_keep_bytes : KeepsBytes regs_table IsRegsOfBytes
-regs_keep_bytes = record { after = regs_after_bytes; sends = λ x all. sent_byte x x.phase all }
+regs_keep_bytes = record { after = regs_after_bytes; sends = λ x all. sent_byte x x.phase all.0; holds = λ x all. all.1 }
 
-pub regs_opening-bytes : (hold : ℕ) (set : List RunView) → RunsHoldBytes set → IsRegsOfBytes (regs_opening hold set)
-regs_opening-bytes hold set runs = runs_bytes set (replicate 256 0) runs (all_of IsByte 256 0 (let small : 0 < 256 = omega arith in small))
+pub regs_opening-bytes : (hold : ℕ) (set : List RunView) → hold ≤ 200 → RunsHoldBytes set → IsRegsOfBytes (regs_opening hold set)
+regs_opening-bytes hold set few runs = (
+  runs_bytes set (replicate 256 0) runs
+      (all_of IsByte 256 0 (let small : 0 < 256 = omega arith in small)),
+  omega arith,
+)

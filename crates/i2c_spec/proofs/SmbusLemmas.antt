@@ -113,7 +113,7 @@ smbus_sent_byte x Data all = omega arith
 smbus_sent_byte x Checked all = omega arith
 
 pub smbus_keep_bytes : KeepsBytes smbus_table IsSmbusOfBytes
-smbus_keep_bytes = record { after = smbus_after_bytes; sends = λ x all. smbus_sent_byte x x.phase all }
+smbus_keep_bytes = record { after = smbus_after_bytes; sends = λ x all. smbus_sent_byte x x.phase all; holds = λ x all. omega arith }
 
 pub smbus_opening-bytes : (addr width flip : ℕ) (set : List RunView) → addr < 128 → flip ≤ 255 → RunsHoldBytes set
     → IsSmbusOfBytes (smbus_opening addr width flip set)

@@ -104,8 +104,15 @@ sent-byte (Regs x) all = regs_keep_bytes.sends x all
 sent-byte (Smbus x) all = smbus_keep_bytes.sends x all
 sent-byte Silent all = omega arith
 
+held-byte : (x : TargetState) → HoldsBytes x → IsByte (state_hold x)
+held-byte (Eeprom x) all = omega arith
+held-byte (Lm75 x) all = omega arith
+held-byte (Regs x) all = regs_keep_bytes.holds x all
+held-byte (Smbus x) all = omega arith
+held-byte Silent all = omega arith
+
 pub states_keep_bytes : KeepsBytes state_table HoldsBytes
-states_keep_bytes = record { after = after-bytes; sends = sent-byte }
+states_keep_bytes = record { after = after-bytes; sends = sent-byte; holds = held-byte }
 
 pub sends-byte : (x : TargetState) (ack : Bool) → HoldsBytes x → IsByte (byte_of (state_answer x (event.Get ack)))
 sends-byte x ack all = subst (λ (a : Answer). IsByte (byte_of a)) (sym (sends x ack)) (sent-byte x all)
@@ -122,7 +129,7 @@ opened_bytes : (k : DeviceKind) (addr : ℕ) (set : List RunView) → addr < 128
     → HoldsBytes ((row_of_kind k).opens addr set)
 opened_bytes (kind.Eeprom size fill busy wp) addr set near fits runs = eeprom_opening-bytes size fill busy wp set fits.0.1 runs
 opened_bytes (kind.Lm75 raw) addr set near fits runs = lm75_opening-bytes raw fits.0.1
-opened_bytes (kind.Regs hold) addr set near fits runs = regs_opening-bytes hold set runs
+opened_bytes (kind.Regs hold) addr set near fits runs = regs_opening-bytes hold set fits.0.1 runs
 opened_bytes (kind.Smbus width flip) addr set near fits runs = smbus_opening-bytes addr width flip set near fits.1.0.1 runs
 
 pub opening-bytes : (d : DeviceView) → IsPlainDevice d → HoldsBytes (opening_state d)

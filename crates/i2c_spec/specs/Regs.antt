@@ -81,9 +81,9 @@ regs_answer x event.Stop = answer.Nothing
 abbrev pub regs_table : Table RegsView
 regs_table = record { after = regs_after; answer = regs_answer; sends = λ x. regs_sends x x.phase; hold = λ x. x.hold }
 
--- what it holds are bytes
+-- what it holds are bytes, and for how many looks it holds the clock is one
 abbrev pub IsRegsOfBytes : RegsView → Type 0
-IsRegsOfBytes x = AllByRecursion IsByte x.memory
+IsRegsOfBytes x = AllByRecursion IsByte x.memory × IsByte x.hold
 
 -- memory after a run of `set`, and after all of them, in order
 abbrev pub write_run : List ℕ → RunView → List ℕ

@@ -64,7 +64,7 @@ abbrev pub state_table : Table TargetState
 state_table = record { after = state_after; answer = state_answer; sends = state_sends; hold = state_hold }
 
 -- what a device holds are bytes, and words of two, and an address that it keeps has seven bits: then the AND of one byte that
--- is sent and the idle wires is that byte
+-- is sent and the idle wires is that byte, and a clock that is held is let go within 255 looks
 abbrev pub HoldsBytes : TargetState → Type 0
 HoldsBytes (Eeprom x) = IsEepromOfBytes x
 HoldsBytes (Lm75 x) = IsLm75OfBytes x
@@ -146,7 +146,8 @@ IsByteEvent (event.Get ack) = ⊤
 IsByteEvent event.Other = ⊤
 IsByteEvent event.Stop = ⊤
 
--- where a target holds bytes, it goes on to, and sends one
+-- where a target holds bytes, it goes on to, sends one, and holds the clock for at most so many looks
 pub record KeepsBytes {X : Type 0} (t : Table X) (Holds : X → Type 0) : Type 0 where
   pub after : (x : X) (e : Event) → IsByteEvent e → Holds x → Holds (t.after x e)
   pub sends : (x : X) → Holds x → IsByte (t.sends x)
+  pub holds : (x : X) → Holds x → IsByte (t.hold x)

@@ -40,7 +40,8 @@ pub fn states_are_fair()
     ensures { IsFairTable state_table }
 {}
 
-/// What a device holds are bytes: as its board opens it, after each event that puts a byte or none, and in what it sends.
+/// What a device holds are bytes: as its board opens it, after each event that puts a byte or none, in what it sends, and in
+/// for how many looks it holds the clock.
 pub fn devices_hold_bytes()
     ensures opened { (d : DeviceView) → IsPlainDevice d → HoldsBytes (opening_state d) }
     ensures kept { KeepsBytes state_table HoldsBytes }
