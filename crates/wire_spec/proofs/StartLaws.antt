@@ -1,0 +1,160 @@
+-- A start with its address, and a stop, on the wires: what a controller's pulls and looks come to, for any fair table.
+use Rattle.std.proofs.Common.{◌≡◌, ℕ, ◌-◌, ◌/◌, ◌<◌, ◌≤◌, Bool, true, false, cond, List, [], ◌∷◌, map, refl, ap, ◌∙◌, arith, sym}
+use Rattle.std.specs.Prelude.{◌==◌, not, ◌||◌, ◌&&◌}
+use Rattle.std.specs.List.{AllByRecursion}
+use Rattle.std.proofs.lemmas.Bool.Decides.{nat_tests}
+use Rattle.i2c_base.specs.Bytes.{IsByte}
+use Rattle.i2c_base.specs.Table.{Table}
+use Rattle.i2c_base.specs.declared.event.Event.TheVariants.{Start}
+use Rattle.i2c_spec.specs.Targets.{IsFairTable, IsQuiet}
+use Rattle.i2c_spec.specs.World.{has_heard, is_ack, is_slow}
+use Rattle.wire_spec.specs.declared.mode.Mode.{Mode}
+use Rattle.wire_spec.specs.declared.mode.Mode.TheVariants.{Out, In}
+use Rattle.wire_spec.specs.Wires.{Site, Bit, LOOKS, bits, shifted, is_named, is_reading, stands}
+use Rattle.wire_spec.specs.Roots.{some_one, stop_site, at}
+use Rattle.wire_spec.specs.Bus.{Counts, one_edge, one_flip, Mask, Came, Bus, bit_step, then_bits, bus_of, came_up, gave_up}
+use Rattle.wire_spec.specs.Started.{stays, stays_if, late_bus, rose, started, answers_so, entered_by}
+use Rattle.wire_spec.specs.Calls.{more_edges, last_low, released, within, within_address, free, rejoin, slow_stop, sent_byte}
+use Rattle.wire_spec.specs.Laws.{SomeAreAll, UnheardIsOut, OutSeesNothing, QuietStays, RepeatedStartCallsAll, StopFreesTheLines, AddressComesUp}
+use Rattle.wire_spec.proofs.AckClock.{settled_all, settled}
+use Rattle.wire_spec.proofs.StartClocks.{address_bits, address_ack, address_slow}
+use Rattle.wire_spec.proofs.StartLemmas.{all_out, slow_all, ack_all, not_slow}
+use Rattle.wire_spec.proofs.LateStops.{held, held_if, left_hold, stop_after_slow}
+use Rattle.wire_spec.proofs.Repeats.{start_after_write, start_after_out, stop_after_write, stop_after_out}
+use Rattle.wire_spec.proofs.LiveLemmas.{only_all, out_rises, out_falls, out_ticks, out_pulls, out_holds, quiet_last, quiet_stop}
+use Rattle.wire_spec.proofs.ByteLaws.{edges_more, nine_edges}
+use Rattle.wire_spec.proofs.Calm.{edges_after}
+
+-- ---- an address byte
+pub address_is_event : {X : Type 0} (t : Table X) → IsFairTable t → (mask : Mask X) (byte : ℕ) → byte < 256
+    → (low : Bool) (ss : List (Site X)) (c : Counts)
+    → some_one (answers_so t is_slow (byte / 2) (is_reading byte)) ss ≡ false
+    → sent_byte t mask byte (within_address 8 0 low ss c)
+    ≡ came_up (shifted 0 (not (some_one (answers_so t is_ack (byte / 2) (is_reading byte)) ss)))
+    (within (entered_by byte) false (map (started t byte) ss) (more_edges 9 c))
+address_is_event {X} t fair mask byte lt low ss c none =
+    let quick : some_one (stays t byte 64) ss ≡ false = slow_all t fair byte ss ∙ none in
+    let r : ℕ = shifted 0 (not (some_one (answers_so t is_ack (byte / 2) (is_reading byte)) ss)) in
+    let before : Counts = edges_after (bits 8 byte) c in
+    ap (λ (d : Came X). then_bits d (bit_step t mask 0 true d.bus)) (address_bits t mask byte lt low ss c)
+    ∙ (address_ack t mask byte 0 (last_low low (bits 8 byte)) ss before quick
+    ∙ (ap (λ a. came_up (shifted 0 (not a)) (bus_of true false (map (settled t byte) ss) (one_edge before))) (ack_all t byte ss)
+    ∙ (ap (λ bs. came_up r (bus_of true false bs (one_edge before))) (settled_all t byte ss (not_slow t fair byte ss quick))
+    ∙ ap (λ k. came_up r (within (entered_by byte) false (map (started t byte) ss) k)) (nine_edges (bits 8 byte) c refl))))
+
+pub slow_stays_low : {X : Type 0} (t : Table X) → IsFairTable t → (mask : Mask X) (byte : ℕ) → byte < 256
+    → (low : Bool) (ss : List (Site X)) (c : Counts)
+    → some_one (answers_so t is_slow (byte / 2) (is_reading byte)) ss ≡ true
+    → sent_byte t mask byte (within_address 8 0 low ss c)
+    ≡ gave_up (late_bus t byte ss (rose (some_one (stays t byte LOOKS) ss) (more_edges 8 c)))
+slow_stays_low {X} t fair mask byte lt low ss c some =
+    let slow : some_one (stays t byte 64) ss ≡ true = slow_all t fair byte ss ∙ some in
+    ap (λ (d : Came X). then_bits d (bit_step t mask 0 true d.bus)) (address_bits t mask byte lt low ss c)
+    ∙ (address_slow t mask byte 0 (last_low low (bits 8 byte)) ss (edges_after (bits 8 byte) c) slow
+    ∙ ap (λ k. gave_up (late_bus t byte ss (rose (some_one (stays t byte LOOKS) ss) k))) (edges_more (bits 8 byte) c))
+
+-- ---- for how many looks a clock is held
+short_hold : (heard : Bool) (h : ℕ) → h ≤ 64 → not ((cond heard h 0 - 64) == 0) ≡ false
+short_hold true h le = grind (arith, nat_tests)
+short_hold false h le = refl
+
+short_one : {X : Type 0} (t : Table X) (byte : ℕ) (s : Site X) (joined named : Bool) → t.hold s.state ≤ 64 → stays_if t byte 64 s joined named ≡ false
+short_one t byte s true true le = short_hold (has_heard (t.answer s.state (Start (is_reading byte)))) (t.hold s.state) le
+short_one t byte s true false le = refl
+short_one t byte s false named le = refl
+
+nobody : (a b : Bool) → a ≡ false → b ≡ false → (a || b) ≡ false
+nobody a b p q = ap (λ x. x || b) p ∙ q
+
+short_all : {X : Type 0} (t : Table X) (byte : ℕ) (ss : List (Site X)) → AllByRecursion (λ (s : Site X). t.hold s.state ≤ 64) ss
+    → some_one (stays t byte 64) ss ≡ false
+short_all t byte [] all = refl
+short_all t byte (s ∷ ss) all = nobody (stays t byte 64 s) _ (short_one t byte s s.joined (is_named byte s) all.0) (short_all t byte ss all.1)
+
+pub held_comes_up : {X : Type 0} (t : Table X) → IsFairTable t → (mask : Mask X) (byte : ℕ) → byte < 256
+    → (low : Bool) (ss : List (Site X)) (c : Counts)
+    → AllByRecursion (λ (s : Site X). t.hold s.state ≤ 64) ss → AddressComesUp t mask byte low ss c
+held_comes_up t fair mask byte lt low ss c all =
+    address_is_event t fair mask byte lt low ss c (sym (slow_all t fair byte ss) ∙ short_all t byte ss all)
+
+-- ---- a start within a message, and a stop
+pub repeated_written : {X : Type 0} (t : Table X) → RepeatedStartCallsAll t (In false 8 0)
+repeated_written t mask low ss c = start_after_write t mask low ss c
+
+pub repeated_out : {X : Type 0} (t : Table X) → RepeatedStartCallsAll t Out
+repeated_out t mask low ss c = start_after_out t mask low ss c
+
+out_one : {X : Type 0} (s : Site X) (joined heard : Bool)
+    → released s ≡ stands s (cond {A = Mode} (joined && heard) Out Out) 0
+out_one s true true = refl
+out_one s true false = refl
+out_one s false heard = refl
+
+pub released_out : {X : Type 0} (ss : List (Site X)) → map released ss ≡ map (at Out) ss
+released_out [] = refl
+released_out (s ∷ ss) = ap (λ b. b ∷ map released ss) (out_one s s.joined s.heard) ∙ ap (λ bs. at Out s ∷ bs) (released_out ss)
+
+free_again : {X : Type 0} (ss : List (Site X)) (c : Counts)
+    → ◌≡◌ {A = Bool × Bus X} (true, bus_of false false (map released ss) c) (true, free ss c)
+free_again {X} ss c = ap (λ (bs : List (Bit X)). (true, bus_of false false bs c)) (released_out ss)
+
+pub stop_written : {X : Type 0} (t : Table X) → StopFreesTheLines t (In false 8 0)
+stop_written t mask low ss c = stop_after_write t mask low ss c ∙ free_again (rejoin mask (map (stop_site t) ss)) (one_flip (one_edge c))
+
+pub stop_out : {X : Type 0} (t : Table X) → StopFreesTheLines t Out
+stop_out t mask low ss c = stop_after_out t mask low ss c ∙ free_again (rejoin mask (map (stop_site t) ss)) (one_flip (one_edge c))
+
+-- ---- a stop after a start that was too slow
+rest_short : (named heard : Bool) (h : ℕ) → h < 256 → not ((cond named (cond heard h 0 - 65) 0 - 254) == 0) ≡ false
+rest_short true true h lt = grind (arith, nat_tests)
+rest_short true false h lt = refl
+rest_short false heard h lt = refl
+
+rest_one : {X : Type 0} (t : Table X) (byte : ℕ) (s : Site X) (joined : Bool) → t.hold s.state < 256 → held_if (left_hold t byte s) 254 joined ≡ false
+rest_one t byte s true lt = rest_short (is_named byte s) (has_heard (t.answer s.state (Start (is_reading byte)))) (t.hold s.state) lt
+rest_one t byte s false lt = refl
+
+rest_all : {X : Type 0} (t : Table X) (byte : ℕ) (ss : List (Site X)) → AllByRecursion (λ (s : Site X). IsByte (t.hold s.state)) ss
+    → some_one (held (started t byte) (left_hold t byte) 254) ss ≡ false
+rest_all t byte [] all = refl
+rest_all t byte (s ∷ ss) all =
+    nobody (held (started t byte) (left_hold t byte) 254 s) _ (rest_one t byte s (started t byte s).joined all.0) (rest_all t byte ss all.1)
+
+pub slow_frees : {X : Type 0} (t : Table X) (mask : Mask X) (byte : ℕ) (ss : List (Site X)) (c : Counts)
+    → AllByRecursion (λ (s : Site X). IsByte (t.hold s.state)) ss
+    → slow_stop t mask (late_bus t byte ss c)
+    ≡ (
+      true,
+      free (rejoin mask (map (stop_site t) (map (started t byte) ss))) (one_flip (cond (some_one (stays t byte LOOKS) ss) (one_edge c) (one_flip c))),
+    )
+slow_frees t mask byte ss c all =
+    stop_after_slow t mask byte ss c (rest_all t byte ss all) (some_one (stays t byte LOOKS) ss) refl
+    ∙ free_again (rejoin mask (map (stop_site t) (map (started t byte) ss)))
+    (one_flip (cond (some_one (stays t byte LOOKS) ss) (one_edge c) (one_flip c)))
+
+-- ---- who is out of the message
+pub out_sees : {X : Type 0} (t : Table X) (s : Site X) → OutSeesNothing t s
+out_sees t s = record {
+  rises = λ level. out_rises t level s.addr s.joined s.heard s.state;
+  falls = out_falls s.addr s.joined s.heard s.state;
+  looks = out_ticks s.addr s.joined s.heard s.state;
+  pulls = out_pulls t s.addr s.joined s.heard s.state;
+  holds = out_holds s.addr s.joined s.heard s.state;
+}
+
+quiet_by : {X : Type 0} (t : Table X) (s : Site X) (heard : Bool) → heard ≡ false → IsQuiet t s.state → QuietStays t (record s { heard = heard })
+quiet_by t s true is quiet = cc
+quiet_by t s false is quiet = record {
+  other = λ v level apart. quiet_last t v level s.addr s.joined s.state quiet apart;
+  stop = quiet_stop t s.addr s.joined s.state quiet;
+}
+
+pub quiet_stays : {X : Type 0} (t : Table X) (s : Site X) → s.heard ≡ false → IsQuiet t s.state → QuietStays t s
+quiet_stays t s is quiet = quiet_by t s s.heard is quiet
+
+pub some_are_all : {X : Type 0} → SomeAreAll X
+some_are_all p f k bs rest = only_all p f k bs rest
+
+-- ---- a message that nobody hears
+pub unheard_out : {X : Type 0} (t : Table X) → UnheardIsOut t
+unheard_out {X} t m low ss c none = ap (λ (bs : List (Bit X)). bus_of true low bs c) (all_out m ss none)
