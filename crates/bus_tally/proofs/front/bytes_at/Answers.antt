@@ -1,0 +1,14 @@
+use Rattle.std.proofs.Common.{sym, ◌∙◌, arith}
+use Rattle.bus_journal.specs.Guess.{bytes_of}
+use Rattle.bus_tally.proofs.FrontLemmas.{no_byte_more, taken}
+use Rattle.bus_tally.proofs.front.bytes_at.Goals as goal
+
+pub returns : goal.returns
+returns c =
+    omega (
+      arith,
+      c.min.ensures,
+      taken (bytes_of c.args.text.now),
+      c.loop-rest.invariant.counted,
+      no_byte_more c.loop-rest.rest.now (sym c.begins_with_byte.ensures ∙ c.loop-rest-test.false),
+    )

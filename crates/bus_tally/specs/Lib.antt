@@ -1,0 +1,3 @@
+-- The five counts of a journal.
+pub mod Fronts
+pub mod Tallies
