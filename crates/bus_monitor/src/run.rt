@@ -1,5 +1,5 @@
-//! A worker thread for each caller: they are started, and joined.
-ghost use Rattle.std.specs.Prelude.{◌≡◌, true, IsTrue};
+//! A worker for each caller: they are started, and joined.
+ghost use Rattle.std.specs.Prelude.{◌≡◌, true, IfSome, IsTrue};
 ghost use Rattle.std.specs.Thread.{IsSend, IsSync};
 ghost use Rattle.bus_core.specs.State.{AllThrough, CoreTold, has_caller, roots_in};
 
@@ -15,8 +15,25 @@ use std::sync::Wait;
 use std::thread;
 use std::thread::Threads;
 
-// Starts a worker for each caller of a desk; returns when each has come to its end.
-fn work_all<
+// The last caller of a desk, if it has one.
+fn last_of<P: Port, C: Caller, N: Naming<C::Script>, H: Wait>(
+    rt: &H,
+    desk: &Desk<'_, P, C, N>,
+) -> Option<u8>
+    ensures { IfSome result (λ caller. has_caller N.opening.scripts caller ≡ true) }
+{
+    let mut last = None;
+    for caller in 0..MOST_CALLERS {
+        let is_there = desk.has(rt, caller);
+        if is_there {
+            last = Some(caller);
+        }
+    }
+    last
+}
+
+// Starts a worker for each caller of a desk before the last one, and does that one's work; returns when each has come to its end.
+fn work_with<
     'x,
     'b,
     P: Port,
@@ -24,14 +41,16 @@ fn work_all<
     N: Naming<C::Script> + Send + Sync,
     G: Gate + Sync,
     H: Threads + Wait + Sync,
->(rt: &'x H, desk: &'x Desk<'b, P, C, N>, gate: &'x G) {
+>(rt: &'x H, desk: &'x Desk<'b, P, C, N>, last: u8, gate: &'x G)
+    requires { has_caller N.opening.scripts last ≡ true }
+{
     thread::scope(
         thread::scope_env(),
         rt,
         |scope|
-            requires { IsSend P.row × IsSend C.row × IsSend N.row × IsSync G.row × IsSync H.row }
+            requires { IsSend P.row × IsSend C.row × IsSend N.row × IsSync G.row × IsSync H.row × (has_caller N.opening.scripts last ≡ true) }
         {
-            for caller in 0..MOST_CALLERS {
+            for caller in 0..last {
                 if desk.has(rt, caller) {
                     let job = move ||
                         requires { has_caller N.opening.scripts caller ≡ true }
@@ -42,6 +61,7 @@ fn work_all<
                     }
                 }
             }
+            work(rt, desk, last, gate);
         },
     );
 }
@@ -61,12 +81,15 @@ fn run_named<
     ensures rooted { roots_in result ≡ N.roots }
 {
     let desk: Desk<'b, P, C, N> = Desk::open(core);
-    work_all(rt, &desk, gate);
+    if let Some(last) = last_of(rt, &desk) {
+        work_with(rt, &desk, last, gate);
+    }
     desk.close()
 }
 
-/// Runs a worker thread for each caller, which steps it to its end, and joins them. Where a thread can't be made, the one
-/// that starts them does that worker's work. What is left then is finished here, so that every caller is through.
+/// Runs a worker for each caller, which steps it to its end: the last one on the thread that calls, and each other one on a thread of
+/// its own, which is joined. Where a thread can't be made, the one that starts them does that worker's work too. What is left then
+/// is finished here, so that every caller is through.
 ///
 /// It takes no memory. It waits for threads: nothing says that it returns.
 pub fn run_all<'b, P: Port, C: Caller + Send, G: Gate + Sync, H: Threads + Wait + Sync>(
