@@ -18,7 +18,7 @@
 //! - `interleavings`: replays the two scripts of the last call by each schedule of 1 to 12 words, and by their own with each
 //!   call on the first port failing in turn. Prints of both, in a line, how many runs there were, how many of their journals
 //!   are different, how many replies they have, and how many of the runs aren't those of the flat world
-//! - `words WORD..`: the words of a call that isn't made yet, for the three that follow
+//! - `words WORD..`: the words of a call that isn't made yet, for those that follow
 //! - `again N`: makes the call of two callers so many times, and prints how many replies the runs have, and how many of them
 //!   aren't those of the flat world
 //! - `apart N`: the same of callers that share no device, and of how many kinds their sections are
@@ -26,6 +26,8 @@
 //!   has settled twice. Prints whether a hold was in vain, the sections, and where the second settle of OTHER stands
 //! - `holds HELD OTHER`: makes the call over a rig whose port of root HELD waits at its first start until that of root OTHER has
 //!   made a stop, and that of OTHER until that of HELD has come to its own. Prints whether a wait was in vain, and what was written
+//! - `behind N TIMES`: makes the call so many times, and prints in how many of the runs each entry of the first N callers comes
+//!   before all those of the others
 //!
 //! Then come worked examples of what stands below the core. Each is a front, a colon and words, and is answered by a line
 //! of the same front with an answer for each word:
@@ -43,6 +45,7 @@
 #![tactic(auto)]
 
 mod asker;
+mod behind;
 mod bench;
 mod boards;
 mod case;

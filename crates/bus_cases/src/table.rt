@@ -1,4 +1,5 @@
 //! The table of cases, read line by line.
+use crate::behind::put_behind;
 use crate::bench::answer_line;
 use crate::case::{Call, Case, Files as Shelf};
 use crate::entries::put_entry;
@@ -93,6 +94,7 @@ impl Table {
             "words" => self.read_words(page, alloc, rest),
             "turns" => self.put_turns(rt, page, alloc, rest),
             "holds" => self.put_holds(rt, page, alloc, rest),
+            "behind" => self.put_behind(rt, page, alloc, rest),
             "mute" => put_mute(page),
             "entry" => put_entry(page, alloc, rest),
             "reads" | "writes" | "fails" | "room" | "stuck" => {
@@ -176,6 +178,23 @@ impl Table {
                 let words = self.call.words.as_slice();
                 let put = put_holds(rt, page, alloc, &self.files, words, held, other);
                 page.require(put.is_some());
+            }
+            _ => page.require(false),
+        }
+    }
+
+    // Makes the call so many times, of which the first so many callers come first.
+    fn put_behind<H: Threads + Wait + Sync>(
+        &mut self,
+        rt: &H,
+        page: &mut Page,
+        alloc: Global,
+        numbers: &str,
+    ) {
+        let (many, times) = parted(numbers, ' ');
+        match (many.parse(), times.parse()) {
+            (Ok(many), Ok(times)) => {
+                put_behind(rt, page, alloc, &self.files, &mut self.call, many, times)
             }
             _ => page.require(false),
         }

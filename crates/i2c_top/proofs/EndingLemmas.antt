@@ -2,11 +2,11 @@
 -- class of the status; of a form it asks for the one law that every row keeps (`DecidesOnce`).
 use Rattle.std.proofs.Common.{◌≡◌, ℕ, ◌⊎◌, inl, inr, Bool, true, false, IsTrue, List, ◌++◌, Result, Ok, Err, refl, sym, ap, ◌∙◌, subst, append-nil}
 use Rattle.std.specs.Prelude.{⊤, IfOk, IfErr}
-use Rattle.ports.specs.Causes.{Rose}
+use Rattle.ports.specs.Causes.{Rose, counted}
 use Rattle.i2c_top.specs.Endings.{shown_of, CameTo, CameToSuccess, CameToRefusal, IsAnswer, IsCaused, name_in, due_of, IsTextDue, IsStarved, IsWritten, IsRefusalWritten, HasSaid, HasEndedAs, IsCutShort}
 use Rattle.i2c_top.specs.Form.{Form, DecidesOnce, IsStatusOf, own_of, told_of, unreached_of, rig_after, traced_of, IsCalm, KeepsShelf, KeepsSkipped}
 use Rattle.i2c_top.specs.Status.{Class, Done, Misused, Refused, Unread, NoRig, Silent, class_of, refusal_text}
-use Rattle.i2c_top.specs.Traces.{ShelfView, OutputView, RigView, Outside, IsRigLeft, IsTried, IsUnread}
+use Rattle.i2c_top.specs.Traces.{ShelfView, OutputView, RigView, Outside, IsAtMostOnce, IsRigLeft, IsTried, IsUnread}
 use Rattle.i2c_top.specs.declared.status.Status.{Status}
 use Rattle.i2c_top.specs.declared.status.Status.TheVariants as status
 
@@ -320,6 +320,21 @@ module _ (form : Form) (shelf shelf_now : ShelfView) (rig rig_now : RigView) whe
         kept = kept;
       }
 
+  -- a run over the rig that failed is a refusal
+  pub run_refused : {X : Type 0} (r : Result X Status) → IsTrue form.plugs → (IsTrue shelf.tells → form.cause shelf.file status.Ok)
+      → KeepsShelf form shelf shelf_now → rig_now.plugs ≡ counted rig.plugs → rig_now.plugged ≡ false
+      → (r ≡ Err status.Rig → rig_now.unplugs ≡ rig.unplugs) → IsAtMostOnce rig.unplugs rig_now.unplugs
+      → (r ≡ Err status.Rig → Rose rig.faults rig_now.faults) → IfErr r (λ e. (e ≡ status.Rig) ⊎ (e ≡ status.Memory))
+      → IfErr r (CameToRefusal form shelf shelf_now rig rig_now)
+  run_refused (Ok x) plugging cause kept plugs unplugged unplugs once rose failed = tt
+  run_refused (Err e) plugging cause kept plugs unplugged unplugs once rose (inl h) =
+      let is : ◌≡◌ {A = Result _ Status} (Err e) (Err status.Rig) = ap (λ x. Err x) h in
+      subst (CameToRefusal form shelf shelf_now rig rig_now) (sym h)
+      (rig_failed plugging cause (rose is) (record { plugs = plugs; unplugs = unplugs is; unplugged = unplugged }) kept)
+  run_refused (Err e) plugging cause kept plugs unplugged unplugs once rose (inr h) =
+      subst (CameToRefusal form shelf shelf_now rig rig_now) (sym h)
+      (memory_wanting (inr (record { plugs = plugs; unplugs = once; unplugged = unplugged })) kept)
+
 -- .. before the rig is plugged
 module _ (form : Form) (shelf shelf_now : ShelfView) (rig : RigView) where
   -- a file was not read
@@ -358,13 +373,19 @@ module _ (form : Form) (shelf shelf_now : ShelfView) (rig : RigView) where
         kept = kept;
       }
 
--- what holds of an outcome beside each rig
-pub for_ok : {X E : Type 0} (r : Result X E) (P : RigView → X → Type 0) → IfOk r (λ x. (rig : RigView) → P rig x) → (rig : RigView)
-    → IfOk r (P rig)
-for_ok (Ok x) P h rig = h rig
-for_ok (Err e) P h rig = tt
+-- what holds of an outcome beside each rig, or beside each shelf
+pub for_ok : {A X E : Type 0} (r : Result X E) (P : A → X → Type 0) → IfOk r (λ x. (a : A) → P a x) → (a : A) → IfOk r (P a)
+for_ok (Ok x) P h a = h a
+for_ok (Err e) P h a = tt
 
-pub for_err : {X E : Type 0} (r : Result X E) (P : RigView → E → Type 0) → IfErr r (λ e. (rig : RigView) → P rig e) → (rig : RigView)
-    → IfErr r (P rig)
-for_err (Ok x) P h rig = tt
-for_err (Err e) P h rig = h rig
+pub for_err : {A X E : Type 0} (r : Result X E) (P : A → E → Type 0) → IfErr r (λ e. (a : A) → P a e) → (a : A) → IfErr r (P a)
+for_err (Ok x) P h a = tt
+for_err (Err e) P h a = h a
+
+pub each_ok : {A X E : Type 0} (r : Result X E) (P : A → X → Type 0) → ((a : A) → IfOk r (P a)) → IfOk r (λ x. (a : A) → P a x)
+each_ok (Ok x) P h = h
+each_ok (Err e) P h = tt
+
+pub each_err : {A X E : Type 0} (r : Result X E) (P : A → E → Type 0) → ((a : A) → IfErr r (P a)) → IfErr r (λ e. (a : A) → P a e)
+each_err (Ok x) P h = tt
+each_err (Err e) P h = h

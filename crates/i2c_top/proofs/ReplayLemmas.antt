@@ -1,5 +1,5 @@
 -- How a call of `replay` or `run` ends: its report, and what its status tells. No induction.
-use Rattle.std.proofs.Common.{◌≡◌, ℕ, ◌<◌, ◌≤◌, ◌⊎◌, inl, inr, false, IsTrue, IsSome, List, [], length, Option, None, Some, Result, Ok, Err, refl, sym, ◌∙◌, ap, subst, arith}
+use Rattle.std.proofs.Common.{◌≡◌, ℕ, ◌<◌, ◌≤◌, ◌⊎◌, inl, false, IsTrue, IsSome, List, [], length, Option, None, Some, Result, Ok, Err, refl, sym, ◌∙◌, ap, subst, arith}
 use Rattle.std.specs.Prelude.{All, IfOk, IfErr, OnOk, unwrap_or}
 use Rattle.std.proofs.lemmas.Bool.{false≢true}
 use Rattle.i2c_base.specs.declared.port.PortCall.{PortCall}
@@ -16,7 +16,7 @@ use Rattle.i2c_top.specs.Runs.{HasRun, cost_of_texts, MOST_COST}
 use Rattle.i2c_top.specs.Traces.{ShelfView, RigView, Outside, IsAtMostOnce}
 use Rattle.i2c_top.specs.declared.status.Status.{Status}
 use Rattle.i2c_top.specs.declared.status.Status.TheVariants as status
-use Rattle.i2c_top.proofs.EndingLemmas.{came_to_success, text_refused, file_unread, rig_failed, memory_wanting}
+use Rattle.i2c_top.proofs.EndingLemmas.{came_to_success, text_refused, file_unread, run_refused, memory_wanting}
 use Rattle.i2c_top.proofs.FileLemmas.{has_texts, cost_read}
 
 abbrev pub has_files : (file : Files) (names : Names) (b : BoardView) (texts : List (List ℕ)) (words : Option (List ℕ))
@@ -145,16 +145,8 @@ module _ (names : Names) (shelf shelf_now : ShelfView) (rig rig_now : RigView) (
       → IsAtMostOnce rig.unplugs rig_now.unplugs
       → (r ≡ Err status.Rig → Rose rig.faults rig_now.faults) → IfErr r (λ e. (e ≡ status.Rig) ⊎ (e ≡ status.Memory))
       → IfErr r (CameToRefusal (replay_form names) shelf shelf_now rig rig_now)
-  run_failed (Ok x) unplugs once rose failed = tt
-  run_failed (Err e) unplugs once rose (inl h) =
-      let is : ◌≡◌ {A = Result _ Status} (Err e) (Err status.Rig) = ap (λ x. Err x) h in
-      subst (CameToRefusal (replay_form names) shelf shelf_now rig rig_now) (sym h)
-      (rig_failed (replay_form names) shelf shelf_now rig rig_now refl files (rose is)
-      (record { plugs = plugs; unplugs = unplugs is; unplugged = unplugged }) kept)
-  run_failed (Err e) unplugs once rose (inr h) =
-      subst (CameToRefusal (replay_form names) shelf shelf_now rig rig_now) (sym h)
-      (memory_wanting (replay_form names) shelf shelf_now rig rig_now
-      (inr (record { plugs = plugs; unplugs = once; unplugged = unplugged })) kept)
+  run_failed r unplugs once rose failed =
+      run_refused (replay_form names) shelf shelf_now rig rig_now r refl files kept plugs unplugged unplugs once rose failed
 
 -- a success was the report
 pub ended_replayed : (names : Names) (old new : Outside) (result : Status) → HasEndedAs (replay_form names) old new result

@@ -35,7 +35,7 @@ use Rattle.caller_core.specs.Scripts.{asked_by, left_of, commands_of, section_te
 use Rattle.caller_core.specs.View.{CallerView, ScriptView, script_on}
 use Rattle.bus_journal.specs.Ranges.{IsEntry}
 use Rattle.i2c_top.specs.Faults.{AreCounted}
-use Rattle.i2c_top.specs.Runs.{asks_by, printed_by, texts_of, section_of, IsOver, IsRunOf}
+use Rattle.i2c_top.specs.Runs.{asks_by, printed_by, report_by, texts_of, section_of, IsOver, IsRunOf}
 
 -- two ways of asking that give the same are one
 pub same_asks : (f g : Asks) → ((c : ℕ) (rs : List Reply) → f c rs ≡ g c rs) → f ≡ g
@@ -185,16 +185,18 @@ module _ (b : BoardView) (callers : List CallerView) (many : ℕ) (journal : Lis
       listed (text_of (printed_by b texts) journal) (map section_of callers) count
       (length-map callers section_of ∙ sym (length-map callers (λ (s : CallerView). s.script.text))) section_at
 
+  -- their report is that of the journal
+  pub report-over : (bytes : List ℕ) → bytes ≡ report_lines (map section_of callers) journal → bytes ≡ report_by b texts journal
+  report-over bytes printed = printed ∙ ap (λ (xs : List (List ℕ)). report_lines xs journal) sections_are
+
   -- THE RUN of callers that are over
-  pub run-over : (bytes : List ℕ) (kept_logs : List (List PortCall)) (states : List TargetState) (counts : List ℕ)
-      → bytes ≡ report_lines (map section_of callers) journal → All IsEntry journal
+  pub run-over : (kept_logs : List (List PortCall)) (states : List TargetState) (counts : List ℕ) → All IsEntry journal
       → (AreWorldsOf b worlds → states ≡ devices_of b worlds) → (AreWorldsOf b worlds → kept_logs ≡ logs) → AreCounted b logs counts
-      → IsRunOf b texts bytes kept_logs states counts journal
-  run-over bytes kept_logs states counts printed in_range kept logged counted =
+      → IsRunOf b texts kept_logs states counts journal
+  run-over kept_logs states counts in_range kept logged counted =
       record {
         plain = over.plain;
         rules = over.rules;
-        reported = printed ∙ ap (λ (xs : List (List ℕ)). report_lines xs journal) sections_are;
         in_range = in_range;
         legal = legal-with b (tree_of b over.plain over.rules) over.plain
             (lines-locked b over.rules) asks some count past stepwise over.rests

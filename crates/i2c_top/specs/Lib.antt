@@ -7,6 +7,7 @@ pub mod Faults
 pub mod Files
 pub mod Form
 pub mod Names
+pub mod Numbers
 pub mod Readings
 pub mod Runs
 pub mod Schedules

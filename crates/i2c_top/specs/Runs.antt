@@ -80,14 +80,13 @@ pub record IsOver (b : BoardView) (callers : List CallerView) (many : ℕ) (jour
   pub logs_count : length logs ≡ length b.roots
   pub log : (r : ℕ) → r < length b.roots → slice_get logs r ≡ Some (calls_of b (asks_by b (texts_of callers)) (reverse journal) r)
 
--- over an accepted board these bytes are the report of this journal, the oldest entry first, whose fields are in range; it is
--- legal, and each entry might come where it did; it is complete; these are the calls of its ports, which failed only where the
--- ports counted it, and the devices that it leaves
-pub record IsRunOf (b : BoardView) (texts : List (List ℕ)) (bytes : List ℕ) (logs : List (List PortCall)) (states : List TargetState)
+-- over an accepted board the fields of this journal, the oldest entry first, are in range; it is legal, and each entry might come
+-- where it did; it is complete; these are the calls of its ports, which failed only where the ports counted it, and the devices
+-- that it leaves
+pub record IsRunOf (b : BoardView) (texts : List (List ℕ)) (logs : List (List PortCall)) (states : List TargetState)
     (counts : List ℕ) (journal : List Entry) : Type 0 where
   pub plain : IsPlainBoard b
   pub rules : MeetsRules b
-  pub reported : bytes ≡ report_of (printed_by b texts) (length texts) journal
   pub in_range : All IsEntry journal
   pub legal : IsLegal b (length texts) (asks_by b texts) (reverse journal)
   pub stepwise : IsStepwise b (length texts) (asks_by b texts) (reverse journal)
@@ -111,12 +110,20 @@ abbrev pub KeepsOrder : BoardView → List (List ℕ) → Option (List ℕ) → 
 KeepsOrder b texts None journal = IsOfGroups b texts journal
 KeepsOrder b texts (Some words) journal = Follows words journal
 
--- there is such a journal, which keeps the order that is asked for
-pub record HasRun (b : BoardView) (texts : List (List ℕ)) (words : Option (List ℕ)) (bytes : List ℕ) (logs : List (List PortCall))
-    (states : List TargetState) (counts : List ℕ) : Type 0 where
+-- there is such a journal, which keeps the order that is asked for, and these bytes are what is told of it
+pub record HasRunTold (told : List Entry → List ℕ) (b : BoardView) (texts : List (List ℕ)) (words : Option (List ℕ)) (bytes : List ℕ)
+    (logs : List (List PortCall)) (states : List TargetState) (counts : List ℕ) : Type 0 where
   pub journal : List Entry
-  pub is_run : IsRunOf b texts bytes logs states counts journal
+  pub is_told : bytes ≡ told journal
+  pub is_run : IsRunOf b texts logs states counts journal
   pub ordered : KeepsOrder b texts words journal
+
+-- .. their report
+abbrev pub report_by : BoardView → List (List ℕ) → List Entry → List ℕ
+report_by b texts journal = report_of (printed_by b texts) (length texts) journal
+
+abbrev pub HasRun : BoardView → List (List ℕ) → Option (List ℕ) → List ℕ → List (List PortCall) → List TargetState → List ℕ → Type 0
+HasRun b texts words bytes logs states counts = HasRunTold (report_by b texts) b texts words bytes logs states counts
 
 -- there are an accepted board, texts of scripts, and the words of a schedule or none, and this is a run of these
 pub record HasSomeRun (bytes : List ℕ) (logs : List (List PortCall)) (states : List TargetState) (counts : List ℕ) : Type 0 where

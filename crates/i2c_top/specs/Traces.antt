@@ -71,6 +71,10 @@ pub record Outside : Type 0 where
 abbrev pub outside : {S K R P : Type 0} → ShelfGhosts S → SinkGhosts K → RigGhosts R P → Bool → S → K → R → Outside
 outside shelf sink rig ports_tell s k r = record { shelf = shelf_view shelf s; sink = output_view sink k; rig = rig_view rig ports_tell r }
 
+-- an output and a rig, beside any shelf
+abbrev pub around : {K R P : Type 0} → ShelfView → SinkGhosts K → RigGhosts R P → Bool → K → R → Outside
+around shelf sink rig ports_tell k r = record { shelf = shelf; sink = output_view sink k; rig = rig_view rig ports_tell r }
+
 -- a shelf and an output beside any rig
 abbrev pub beside : {S K : Type 0} → RigView → ShelfGhosts S → SinkGhosts K → S → K → Outside
 beside rig shelf sink s k = record { shelf = shelf_view shelf s; sink = output_view sink k; rig = rig }

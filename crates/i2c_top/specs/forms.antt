@@ -1,34 +1,40 @@
 -- The forms of the words of a command line, one after the other: what the words of each ask for, and its row. Each has a
 -- file of its own in `forms`.
 use Rattle.std.specs.Prelude.{◌≡◌, ℕ, ◌⊎◌, IsTrue, List, Option, None, Some, codes, if◌then◌else◌}
+use Rattle.std.specs.Option.{option_map}
 use Rattle.tools.specs.Readers.{word_at}
 use Rattle.i2c_top.specs.Endings.{IsWritten, HasEndedAs}
 use Rattle.i2c_top.specs.Form.{Form}
 use Rattle.i2c_top.specs.Traces.{Outside, KeepsBut}
 use Rattle.i2c_top.specs.declared.status.Status.{Status}
 use Rattle.i2c_top.specs.declared.status.Status.TheVariants as status
+use Rattle.i2c_gen.specs.declared.plan.Plan.{Plan}
 use Rattle.i2c_top.specs.forms.Checks.{is_check, check_form}
+use Rattle.i2c_top.specs.forms.Generations.{plan_in, gen_form}
 use Rattle.i2c_top.specs.forms.Replays.{Names, is_replay, is_run, replay_names, run_names, replay_form}
 pub mod Checks
+pub mod Generations
 pub mod Replays
 
 -- to replay 1 to 8 scripts over a board, by the names of the files, or to run them, which is a replay without a schedule; to
--- check the board of a file
+-- check the board of a file; to replay what is generated
 pub data Request : Type 0 where
   Replay : (names : Names) → Request
   Check : (board : List ℕ) → Request
+  Generate : (plan : Plan) → Request
 
 -- the row of each
 abbrev pub form_of : Request → Form
 form_of (Replay names) = replay_form names
 form_of (Check board) = check_form board
+form_of (Generate plan) = gen_form plan
 
 -- what the words ask for, where they are in a form in force
 abbrev pub request_in : List (List ℕ) → Option Request
 request_in words =
     if is_replay words then Some (Replay (replay_names words))
     else if is_run words then Some (Replay (run_names words))
-    else if is_check words then Some (Check (word_at words 1)) else None
+    else if is_check words then Some (Check (word_at words 1)) else option_map Generate (plan_in words)
 
 -- the line on usage
 abbrev pub usage_text : List ℕ

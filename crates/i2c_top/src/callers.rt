@@ -96,6 +96,23 @@ fn of_one<P: Drop>(parts: Parts<P, Script>, room: Vec<Journal>) -> Ran<P, Script
 
 /// What is left of a core of the scripts over the ports when its callers have followed the schedule, and each script is used
 /// up.
+pub fn followed<P: Port>(
+    alloc: Global,
+    board: &Accepted,
+    scripts: Vec<Script>,
+    words: &[u8],
+    ports: Vec<P>,
+) -> Result<Parts<CountedPort<P>, Script>, NoMemory>
+    requires may { MayRun P.Port board.now scripts.items ports.items }
+    requires named { All (λ c. c < length scripts.items) words.now }
+    ensures { IfOk result (IsLeftOf P.Port board.now scripts.items ports.items (Some words.now)) }
+{
+    let mut core = opened(alloc, board, scripts, ports)?;
+    core.follow(words);
+    Ok(core.take_apart())
+}
+
+/// The same, as what is left of cores.
 pub fn finished<P: Port>(
     alloc: Global,
     board: &Accepted,
@@ -108,9 +125,8 @@ pub fn finished<P: Port>(
     ensures { IfOk result (λ x. IsLeftOf P.Port board.now scripts.items ports.items (Some words.now) (one_of x)) }
 {
     let room = Vec::with_capacity(alloc, 1)?;
-    let mut core = opened(alloc, board, scripts, ports)?;
-    core.follow(words);
-    Ok(of_one(core.take_apart(), room))
+    let parts = followed(alloc, board, scripts, words, ports)?;
+    Ok(of_one(parts, room))
 }
 
 // Of each script the roots that its transfers name, as bits.

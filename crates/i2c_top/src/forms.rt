@@ -6,12 +6,15 @@ ghost use Rattle.i2c_top.specs.Traces.{outside, output_view};
 ghost use Rattle.i2c_top.specs.declared.status.Status.TheVariants as status;
 
 mod check;
+mod generate;
 mod replay;
 
 use crate::Status;
 use crate::ending::write_due;
 pub use check::check_call;
 use check::is_check;
+pub use generate::gen_call;
+use generate::plan_in;
 use i2c_outside::{Gate, Rig, Shelf, Sink};
 pub use replay::{replay_call, run_call};
 use replay::{is_replay, is_run};
@@ -51,6 +54,8 @@ pub fn answer<H: Threads + Wait + Sync, S: Shelf, K: Sink, R: Rig, G: Gate + Syn
         run_call(rt, alloc, words, shelf, sink, rig, gate)
     } else if is_check(words) {
         check_call(alloc, words, shelf, sink)
+    } else if let Some(plan) = plan_in(words) {
+        gen_call(alloc, &plan, sink, rig)
     } else {
         turn_down(sink)
     }

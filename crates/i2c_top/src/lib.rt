@@ -27,6 +27,7 @@ mod report;
 mod run;
 mod schedule;
 mod status;
+mod summary;
 mod text;
 mod words;
 mod write;

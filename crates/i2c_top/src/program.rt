@@ -1,7 +1,9 @@
 //! `top`: what the program does with the words of its command line.
 ghost use Rattle.std.specs.Prelude.{◌≡◌, ℕ, List, Some, map, string_bytes, IsTrue};
-ghost use Rattle.i2c_top.specs.forms.{Replay, Check, request_in, HasEnded, UsesRig};
+ghost use Rattle.i2c_gen.specs.declared.plan.Plan.{Plan};
+ghost use Rattle.i2c_top.specs.forms.{Replay, Check, Generate, request_in, HasEnded, UsesRig};
 ghost use Rattle.i2c_top.specs.forms.Checks.{HasChecked};
+ghost use Rattle.i2c_top.specs.forms.Generations.{HasGenerated};
 ghost use Rattle.i2c_top.specs.forms.Replays.{Names, HasReplayed};
 ghost use Rattle.i2c_top.specs.Traces.{outside};
 ghost use Rattle.i2c_top.specs.declared.status.Status.TheVariants as status;
@@ -35,13 +37,16 @@ pub fn top<H: Threads + Wait + Sync, S: Shelf, K: Sink, R: Rig, G: Gate + Sync>(
     ensures unplugged { (UsesRig (request_in (map string_bytes words.now)) → ⊥) → rig.new ≡ rig.old }
 
     // What a success wrote, as its form has it: the report of a run that is legal, complete and followed by the flat world; the
-    // line of a board.
+    // line of a board; the summary of a generated run.
     ensures success { IsTrue S.tells → IsTrue K.tells → IsTrue R.tells → IsTrue R.P.tells
         → (names : Names) → request_in (map string_bytes words.now) ≡ Some (Replay names) → result ≡ status.Ok
         → HasReplayed (S.file shelf.old) names (K.bytes sink.old) (K.bytes sink.new) (R.logs rig.new) (R.states rig.new) (R.port_faults rig.new) }
     ensures checked { IsTrue S.tells → IsTrue K.tells
         → (board : List ℕ) → request_in (map string_bytes words.now) ≡ Some (Check board) → result ≡ status.Ok
         → HasChecked (S.file shelf.old) board (K.bytes sink.old) (K.bytes sink.new) }
+    ensures generated { IsTrue K.tells → IsTrue R.tells → IsTrue R.P.tells
+        → (plan : Plan) → request_in (map string_bytes words.now) ≡ Some (Generate plan) → result ≡ status.Ok
+        → HasGenerated plan (K.bytes sink.old) (K.bytes sink.new) (R.logs rig.new) (R.states rig.new) (R.port_faults rig.new) }
 {
     answer(rt, alloc, words, shelf, sink, rig, gate)
 }

@@ -2,25 +2,30 @@
 ghost use Rattle.std.specs.Prelude.{◌≡◌, ◌<◌, ◌≤◌, ◌⊎◌, ℕ, List, [], false, true, Option, None, Some, Err, IfOk, OnOk, IfErr, OnErr, IsTrue, All, length, map, flat_map, vec_capacity};
 ghost use Rattle.i2c_base.specs.Limits.{MOST_CALLERS};
 ghost use Rattle.ports.specs.Causes.{Rose, counted};
+ghost use Rattle.bus_core.specs.declared.bus.Parts.{Parts};
 ghost use Rattle.bus_groups.specs.Rounds.{one_of};
 ghost use Rattle.bus_journal.specs.Ranges.{IsEntry};
 ghost use Rattle.caller_core.specs.View.{CallerView};
 ghost use Rattle.i2c_top.specs.Cores.{AreFresh, IsLeftOf};
 ghost use Rattle.i2c_top.specs.Faults.{AccountsForFaults};
 ghost use Rattle.i2c_top.specs.Traces.{IsAtMostOnce};
-ghost use Rattle.i2c_top.specs.Runs.{AreOpened, texts_of, cost_of_texts, MOST_COST, HasRun};
+ghost use Rattle.i2c_top.specs.Runs.{AreOpened, texts_of, callers_of, cost_of_texts, MOST_COST, HasRun, HasRunTold, IsRunOf};
+ghost use Rattle.i2c_top.specs.forms.Generations.{summary_of};
 ghost use Rattle.i2c_top.specs.declared.status.Status.TheVariants as status;
 
 use crate::Status;
-use crate::callers::{finished, ran};
+use crate::callers::{finished, followed, ran};
 use crate::counted_port::CountedPort;
 use crate::report::report_of_callers;
+use crate::summary::summary_of;
 use crate::text::Text;
+use bus_core::Parts;
 use bus_groups::Ran;
 use bus_journal::Journal;
 use caller_core::Script;
 use i2c_base::{NoMemory, SegId};
 use i2c_board::Accepted;
+use i2c_gen::Plan;
 use i2c_outside::{Gate, Rig, RigFail};
 use ports::Port;
 use std::alloc::Global;
@@ -80,6 +85,22 @@ fn are_in_range(journals: &[Journal])
     }
 }
 
+// Gives the ports that are left of a run back to their rig.
+fn given_back<R: Rig>(ports: Vec<(SegId, CountedPort<R::P>)>, room: Vec<R::P>, rig: &mut R)
+    requires plugged { R.plugged rig.old ≡ true }
+    requires empty { room.items ≡ [] }
+    requires room { length ports.items ≤ vec_capacity room }
+    ensures run { IsTrue R.tells → IsTrue R.P.tells → (scripts : List CallerView) (fresh : List _) (words : Option (List ℕ)) (parts : Parts _ CallerView)
+        → parts.ports.items ≡ ports.items → IsLeftOf R.P.Port (R.board_of rig.old) scripts fresh words parts → All IsEntry parts.journal.entries
+        → IsRunOf (R.board_of rig.old) (texts_of (callers_of parts)) (R.logs rig.new) (R.states rig.new) (R.port_faults rig.new) parts.journal.entries }
+    ensures later { R.faults rig.old ≤ R.faults rig.new }
+    ensures plugs { R.plugs rig.new ≡ R.plugs rig.old }
+    ensures unplugs { R.unplugs rig.new ≡ counted (R.unplugs rig.old) }
+    ensures unplugged { R.plugged rig.new ≡ false }
+{
+    rig.unplug(alone(ports, room));
+}
+
 // Gives the ports that are left of a run back to their rig, and makes the report.
 fn reported<R: Rig>(
     alloc: Global,
@@ -108,12 +129,46 @@ fn reported<R: Rig>(
         journals,
     } = ran;
     are_in_range(journals.as_slice());
-    rig.unplug(alone(ports, room));
+    given_back(ports, room, rig);
     Ok(report_of_callers(alloc, seats.as_slice(), journals)?)
 }
 
-/// Runs scripts over the ports of a rig, by a schedule that names the callers that are to step, and gives the report. A rig that was plugged is unplugged, whatever came of it. It answers `Rig` where the rig counted a
-/// fault in its one plug, and else fails only for want of memory.
+// The same, and makes the summary of a plan.
+fn summed<R: Rig>(
+    alloc: Global,
+    ran: Result<Parts<CountedPort<R::P>, Script>, NoMemory>,
+    plan: &Plan,
+    room: Vec<R::P>,
+    rig: &mut R,
+) -> Result<Text, Status>
+    requires plugged { R.plugged rig.old ≡ true }
+    requires empty { room.items ≡ [] }
+    requires room { IfOk ran (λ x. length x.ports.items ≤ vec_capacity room) }
+    ensures run { IsTrue R.tells → IsTrue R.P.tells → (scripts : List CallerView) (ports : List _) (words : Option (List ℕ)) → IfOk ran (IsLeftOf R.P.Port (R.board_of rig.old) scripts ports words)
+        → IfOk result (λ text. HasRunTold (summary_of plan.now) (R.board_of rig.old) (texts_of scripts) words text (R.logs rig.new) (R.states rig.new) (R.port_faults rig.new)) }
+    ensures failed { IfErr result (λ e. e ≡ status.Memory) }
+    ensures later { R.faults rig.old ≤ R.faults rig.new }
+    ensures plugs { R.plugs rig.new ≡ R.plugs rig.old }
+    ensures unplugs { R.unplugs rig.new ≡ counted (R.unplugs rig.old) }
+    ensures unplugged { R.plugged rig.new ≡ false }
+{
+    let Ok(parts) = ran else {
+        rig.unplug(room);
+        return Err(Status::Memory);
+    };
+    let Parts {
+        ports,
+        seats: _,
+        journal,
+    } = parts;
+    journal.entries_are_in_range();
+    given_back(ports, room, rig);
+    Ok(Text::whole(alloc, summary_of(alloc, plan, &journal)?))
+}
+
+/// Runs scripts over the ports of a rig, by a schedule that names the callers that are to step, and gives the report. A rig that
+/// was plugged is unplugged, whatever came of it. It answers `Rig` where the rig counted a fault in its one plug, and else fails
+/// only for want of memory.
 pub fn run_scripts<R: Rig>(
     alloc: Global,
     board: &Accepted,
@@ -165,4 +220,32 @@ pub fn run_at_once<H: Threads + Wait + Sync, R: Rig, G: Gate + Sync>(
     let (ports, room) = plugged(alloc, board, rig)?;
     let ran = ran(rt, alloc, board, scripts, gate, ports);
     reported(alloc, ran, room, rig)
+}
+
+/// Runs generated scripts by their schedule, and gives the summary of their plan.
+pub fn run_generated<R: Rig>(
+    alloc: Global,
+    board: &Accepted,
+    scripts: Vec<Script>,
+    words: &[u8],
+    plan: &Plan,
+    rig: &mut R,
+) -> Result<Text, Status>
+    requires opened { AreOpened board.now scripts.items }
+    requires few { length scripts.items ≤ MOST_CALLERS }
+    requires named { All (λ c. c < length scripts.items) words.now }
+    requires cheap { cost_of_texts board.now (texts_of scripts.items) ≤ MOST_COST }
+    ensures run { IsTrue R.tells → IsTrue R.P.tells → IfOk result (λ text. HasRunTold (summary_of plan.now) board.now (texts_of scripts.items) (Some words.now) text (R.logs rig.new) (R.states rig.new) (R.port_faults rig.new)) }
+    ensures failed { IfErr result (λ e. (e ≡ status.Rig) ⊎ (e ≡ status.Memory)) }
+    ensures rig { result ≡ Err status.Rig → Rose (R.faults rig.old) (R.faults rig.new) }
+    ensures later { R.faults rig.old ≤ R.faults rig.new }
+    ensures plugs { R.plugs rig.new ≡ counted (R.plugs rig.old) }
+    ensures unplugs { OnOk result (R.unplugs rig.new ≡ counted (R.unplugs rig.old)) }
+    ensures none { result ≡ Err status.Rig → R.unplugs rig.new ≡ R.unplugs rig.old }
+    ensures once { IsAtMostOnce (R.unplugs rig.old) (R.unplugs rig.new) }
+    ensures unplugged { R.plugged rig.new ≡ false }
+{
+    let (ports, room) = plugged(alloc, board, rig)?;
+    let ran = followed(alloc, board, scripts, words, ports);
+    summed(alloc, ran, plan, room, rig)
 }

@@ -9,26 +9,25 @@ use Rattle.i2c_spec.specs.Targets.{TargetState}
 use Rattle.i2c_spec.specs.History.{History, history}
 use Rattle.bus_spec.specs.Readings.{order}
 use Rattle.bus_spec.specs.Past.{calls_of}
-use Rattle.bus_spec.specs.Report.{report_of}
 use Rattle.i2c_top.specs.Boards.{HasAccepted}
 use Rattle.i2c_top.specs.Files.{Files}
-use Rattle.i2c_top.specs.Runs.{asks_by, printed_by, IsRunOf, HasRun}
+use Rattle.i2c_top.specs.Runs.{asks_by, IsRunOf, HasRun}
 use Rattle.i2c_top.specs.Schedules.{schedule_read}
 use Rattle.i2c_top.specs.Scripts.{HasSchedule, HasOrder, words_in, texts_in}
 use Rattle.i2c_top.specs.forms.Replays.{Names, HasReport}
 use Rattle.i2c_top.proofs.BoardLemmas.{one_board_in, one_text}
 use Rattle.run_laws.specs.Alike.{ComesToTheSame}
 
-pub same-come : (b : BoardView) (texts : List (List ℕ)) (x y : List ℕ) (logs others : List (List PortCall)) (states ends : List TargetState)
-    (counts rises : List ℕ) (journal other : List Entry) → IsRunOf b texts x logs states counts journal
-    → IsRunOf b texts y others ends rises other → journal ≡ other
+pub same-come : (told : List Entry → List ℕ) (b : BoardView) (texts : List (List ℕ)) (x y : List ℕ) (logs others : List (List PortCall))
+    (states ends : List TargetState) (counts rises : List ℕ) (journal other : List Entry) → x ≡ told journal → y ≡ told other
+    → IsRunOf b texts logs states counts journal → IsRunOf b texts others ends rises other → journal ≡ other
     → ComesToTheSame x y logs others states ends
-same-come b texts x y logs others states ends counts rises journal other one two same =
-    let told : Some one.told ≡ Some two.told = sym one.replayed
+same-come told b texts x y logs others states ends counts rises journal other x_told y_told one two same =
+    let replayed : Some one.told ≡ Some two.told = sym one.replayed
     ∙ ap (λ (es : List Entry). history b (asks_by b texts) (order (reverse es))) same ∙ two.replayed in
     let histories : one.told ≡ two.told = cc in
     record {
-      bytes = one.reported ∙ ap (report_of (printed_by b texts) (length texts)) same ∙ sym two.reported;
+      bytes = x_told ∙ ap told same ∙ sym y_told;
       logs_are = one.called
           ∙ ap (λ (es : List Entry). map (calls_of b (asks_by b texts) (reverse es)) (range_with_len 0 (length b.roots))) same
           ∙ sym two.called;

@@ -1,10 +1,13 @@
 //! One report at most: what the files and the failures of the ports leave open of a run.
 ghost use Rattle.std.specs.Prelude.{◌≡◌, ℕ, List, None, Some};
 ghost use Rattle.i2c_base.specs.Board.{BoardView};
+ghost use Rattle.i2c_base.specs.declared.entry.Entry.{Entry};
 ghost use Rattle.i2c_base.specs.declared.port.PortCall.{PortCall};
+ghost use Rattle.i2c_gen.specs.declared.plan.Plan.{Plan};
 ghost use Rattle.i2c_spec.specs.Targets.{TargetState};
 ghost use Rattle.i2c_top.specs.Files.{Files};
-ghost use Rattle.i2c_top.specs.Runs.{HasRun};
+ghost use Rattle.i2c_top.specs.Runs.{HasRun, HasRunTold};
+ghost use Rattle.i2c_top.specs.forms.Generations.{HasSummary};
 ghost use Rattle.i2c_top.specs.forms.Replays.{Names, HasReport};
 ghost use Rattle.run_laws.specs.Alike.{ComesToTheSame, FaultsAlike, IsTheReplay, steps_of};
 
@@ -12,18 +15,22 @@ use caller_core::scripts_are_fair;
 use i2c_spec::an_accepted_board_is_a_tree;
 use journal_laws::{a_legal_journal_is_stepwise, a_schedule_has_one_legal_journal};
 
-/// A replay is a function of its files and of which calls of its ports fail. Two reports of one board, scripts and schedule,
-/// with the same calls failing, are the same bytes, with the same calls on each port and the same devices left.
+/// A replay is a function of its files and of which calls of its ports fail. Two runs of one board, scripts and schedule, with the
+/// same calls failing, are the same bytes, whatever is told of their journals: their reports are, and the summaries of a generated
+/// run. They have the same calls on each port and the same devices left.
 ///
 /// Under another schedule others step first, and without one, as in `run`, the order is free. Where other calls fail a message
 /// may end otherwise, and a reply with it. What the ports counted is left open: they may count more than failed.
 pub fn a_replay_has_one_report()
-    ensures run { (b : BoardView) (texts : List (List ℕ)) (words x y : List ℕ) (logs others : List (List PortCall))
-        (states ends : List TargetState) (counts rises : List ℕ) → HasRun b texts (Some words) x logs states counts
-        → HasRun b texts (Some words) y others ends rises → FaultsAlike logs others → ComesToTheSame x y logs others states ends }
+    ensures run { (told : List Entry → List ℕ) (b : BoardView) (texts : List (List ℕ)) (words x y : List ℕ) (logs others : List (List PortCall))
+        (states ends : List TargetState) (counts rises : List ℕ) → HasRunTold told b texts (Some words) x logs states counts
+        → HasRunTold told b texts (Some words) y others ends rises → FaultsAlike logs others → ComesToTheSame x y logs others states ends }
     ensures report { (file : Files) (names : Names) (schedule x y : List ℕ) (logs others : List (List PortCall))
         (states ends : List TargetState) (counts rises : List ℕ) → names.schedule ≡ Some schedule → HasReport file names x logs states counts
         → HasReport file names y others ends rises → FaultsAlike logs others → ComesToTheSame x y logs others states ends }
+    ensures summary { (plan : Plan) (x y : List ℕ) (logs others : List (List PortCall)) (states ends : List TargetState)
+        (counts rises : List ℕ) → HasSummary plan x logs states counts → HasSummary plan y others ends rises
+        → FaultsAlike logs others → ComesToTheSame x y logs others states ends }
 {
     a_schedule_has_one_legal_journal();
     an_accepted_board_is_a_tree();

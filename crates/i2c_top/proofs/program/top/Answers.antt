@@ -2,6 +2,7 @@ use Rattle.std.proofs.Common.{subst}
 use Rattle.i2c_top.specs.Traces.{outside}
 use Rattle.i2c_top.specs.forms.{HasEnded}
 use Rattle.i2c_top.proofs.CheckLemmas.{ended_checked}
+use Rattle.i2c_top.proofs.GenerationLemmas.{ended_generated}
 use Rattle.i2c_top.proofs.ReplayLemmas.{ended_replayed}
 use Rattle.i2c_top.proofs.program.top.Goals as goal
 
@@ -19,3 +20,11 @@ returns-clause-checked g c =
     let new = outside g.S.Shelf g.K.Sink g.R.Rig g.R.P.Port.tells c.answer.new.shelf c.answer.new.sink c.answer.new.rig in
     λ shelf sink board same ok.
     ended_checked board old new c.answer.result (subst (λ q. HasEnded q old new c.answer.result) same c.answer.ensures.ended) shelf sink ok
+
+pub returns-clause-generated : goal.returns-clause-generated
+returns-clause-generated g c =
+    let old = outside g.S.Shelf g.K.Sink g.R.Rig g.R.P.Port.tells c.args.shelf.now c.args.sink.now c.args.rig.now in
+    let new = outside g.S.Shelf g.K.Sink g.R.Rig g.R.P.Port.tells c.answer.new.shelf c.answer.new.sink c.answer.new.rig in
+    λ sink rig ports plan same ok.
+    ended_generated plan old new c.answer.result
+    (subst (λ q. HasEnded q old new c.answer.result) same c.answer.ensures.ended) sink rig ports ok

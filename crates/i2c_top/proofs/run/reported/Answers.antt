@@ -1,9 +1,8 @@
 use Rattle.std.specs.Prelude.{IfOk}
-use Rattle.std.proofs.Common.{◌≡◌, ℕ, List, All, Result, length, map, flat_map, sym, ◌∙◌, ap, subst}
-use Rattle.std.proofs.lemmas.List.{length-map}
+use Rattle.std.proofs.Common.{◌≡◌, ℕ, List, All, Result, map, flat_map, refl, sym, ◌∙◌, ap, subst}
 use Rattle.i2c_base.specs.declared.port.PortCall.{PortCall}
 use Rattle.i2c_base.specs.Limits.{MOST_CALLERS}
-use Rattle.i2c_spec.specs.World.{World, AreWorldsOf, devices_of}
+use Rattle.i2c_spec.specs.World.{World}
 use Rattle.bus_core.specs.declared.seat.Seat.{Seat}
 use Rattle.bus_spec.specs.Report.{report_lines}
 use Rattle.caller_core.specs.View.{CallerView}
@@ -13,10 +12,9 @@ use Rattle.bus_journal.specs.View.{JournalView}
 use Rattle.bus_groups.specs.Rounds.{one_of}
 use Rattle.bus_groups.specs.declared.together.Ran.{Ran}
 use Rattle.i2c_top.specs.Cores.{IsLeftOf}
-use Rattle.i2c_top.specs.Faults.{AreCounted}
 use Rattle.i2c_top.specs.Runs.{section_of, callers_of, HasRun, KeepsOrder}
-use Rattle.i2c_top.proofs.CoreLemmas.{ports-counted, twice}
-use Rattle.i2c_top.proofs.RunLemmas.{run-over}
+use Rattle.i2c_top.proofs.CoreLemmas.{twice}
+use Rattle.i2c_top.proofs.RunLemmas.{report-over}
 use Rattle.i2c_top.proofs.run.reported.Goals as goal
 
 pub returns-clause-run : goal.returns-clause-run
@@ -32,32 +30,18 @@ returns-clause-run g c =
     let bytes = c.in_ok-report_of_callers.field-0 in
     let worlds : List World = map (λ p. row.world p.1) parts.ports.items in
     let logs : List (List PortCall) = map (λ p. row.log p.1) parts.ports.items in
-    let given : map row.world c.alone.result.items ≡ worlds = ap (map row.world) c.alone.ensures.ports
-    ∙ twice row.world (λ p. p.1) parts.ports.items in
-    let logged : map row.log c.alone.result.items ≡ logs = ap (map row.log) c.alone.ensures.ports
-    ∙ twice row.log (λ p. p.1) parts.ports.items in
     let printed : bytes ≡ report_lines (map section_of (callers_of parts)) journal =
     c.in_ok-report_of_callers.ensures
     ∙ ap (λ (ss : List (Seat CallerView)). report_lines (map (λ (s : Seat CallerView). section_of s.caller) ss) journal)
     c.as_slice-2.ensures.value
     ∙ ap (λ (xs : List (List ℕ)). report_lines xs journal) (sym (twice section_of (λ (s : Seat CallerView). s.caller) parts.seats.items)) in
-    let states = g.R.Rig.states c.unplug-2.new.self in
-    let kept_logs = g.R.Rig.logs c.unplug-2.new.self in
-    let counts = g.R.Rig.port_faults c.unplug-2.new.self in
-    let many : length c.alone.result.items ≡ length b.roots =
-    ap length c.alone.ensures.ports ∙ length-map parts.ports.items (λ p. p.1)
-    ∙ sym (length-map parts.ports.items (λ p. row.log p.1)) ∙ (left.over tell).logs_count in
-    subst (λ (texts : List (List ℕ)). HasRun b texts words bytes kept_logs states counts) left.texts
+    let rig = c.given_back.new.rig in
+    subst (λ (texts : List (List ℕ)). HasRun b texts words bytes (g.R.Rig.logs rig) (g.R.Rig.states rig) (g.R.Rig.port_faults rig)) left.texts
     (record {
       journal = journal;
-      is_run = run-over b (callers_of parts) MOST_CALLERS journal worlds logs scripts_fair (left.over tell) bytes kept_logs states counts
-          printed (subst (λ (js : List JournalView). All IsEntry (flat_map
-          (λ (j : JournalView). j.entries) js)) c.as_slice.ensures.value c.are_in_range.ensures)
-          (subst (λ (ws : List World). AreWorldsOf b ws → states ≡ devices_of b ws) given (c.unplug-2.ensures.states tells tell))
-          (λ are. subst (λ (ws : List World). AreWorldsOf b ws → kept_logs ≡ map row.log c.alone.result.items) given
-          (c.unplug-2.ensures.logs tells tell) are ∙ logged)
-          (subst (AreCounted b logs) (sym (c.unplug-2.ensures.counts tells))
-          (subst (λ (ls : List (List PortCall)). AreCounted b ls (map row.faults c.alone.result.items)) logged
-          (ports-counted row b c.alone.result.items tell many c.alone.ensures.accounts)));
+      is_told = report-over b (callers_of parts) MOST_CALLERS journal worlds logs scripts_fair (left.over tell) bytes printed;
+      is_run = c.given_back.ensures.run tells tell scripts ports words parts refl left
+          (subst (λ (js : List JournalView). All IsEntry (flat_map
+          (λ (j : JournalView). j.entries) js)) c.as_slice.ensures.value c.are_in_range.ensures);
       ordered = subst (λ (texts : List (List ℕ)). KeepsOrder b texts words journal) (sym left.texts) (left.ordered tell);
     })

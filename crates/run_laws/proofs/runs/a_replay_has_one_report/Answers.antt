@@ -3,10 +3,13 @@ use Rattle.std.proofs.lemmas.List.{reverse-reverse}
 use Rattle.i2c_base.specs.declared.entry.Entry.{Entry}
 use Rattle.i2c_base.specs.declared.port.PortCall.{PortCall}
 use Rattle.i2c_base.specs.Board.{BoardView}
+use Rattle.i2c_gen.specs.Boards.{made_board}
+use Rattle.i2c_gen.specs.Scripts.{scripts_of, schedule_of}
 use Rattle.i2c_spec.specs.Targets.{TargetState}
 use Rattle.bus_spec.specs.Schedule.{Follows}
 use Rattle.bus_laws.proofs.world.LineFacts.{lines-locked}
-use Rattle.i2c_top.specs.Runs.{asks_by, HasRun}
+use Rattle.i2c_top.specs.Runs.{asks_by, report_by, HasRunTold}
+use Rattle.i2c_top.specs.forms.Generations.{summary_of}
 use Rattle.run_laws.specs.Alike.{FaultsAlike}
 use Rattle.run_laws.proofs.Asked.{messages-asked, limits-kept}
 use Rattle.run_laws.proofs.Rooted.{fail-alike}
@@ -15,9 +18,9 @@ use Rattle.run_laws.proofs.runs.a_replay_has_one_report.Goals as goal
 
 pub returns : goal.returns
 returns c =
-    (let run = λ (b : BoardView) (texts : List (List ℕ)) (words x y : List ℕ) (logs others : List (List PortCall))
-    (states ends : List TargetState) (counts rises : List ℕ) (one : HasRun b texts (Some words) x logs states counts)
-    (two : HasRun b texts (Some words) y others ends rises) (alike : FaultsAlike logs others).
+    (let run = λ (told : List Entry → List ℕ) (b : BoardView) (texts : List (List ℕ)) (words x y : List ℕ) (logs others : List (List PortCall))
+    (states ends : List TargetState) (counts rises : List ℕ) (one : HasRunTold told b texts (Some words) x logs states counts)
+    (two : HasRunTold told b texts (Some words) y others ends rises) (alike : FaultsAlike logs others).
     let plain = one.is_run.plain in
     let rules = one.is_run.rules in
     let some = messages-asked c.scripts_are_fair.ensures b texts in
@@ -29,12 +32,16 @@ returns c =
     (fail-alike b (c.an_accepted_board_is_a_tree.ensures b plain rules) plain (lines-locked b rules) (asks_by b texts) some
     (length texts) (reverse one.journal) (reverse two.journal) one.is_run.stepwise two.is_run.stepwise logs others one.is_run.called
     two.is_run.called alike) in
-    same-come b texts x y logs others states ends counts rises one.journal two.journal one.is_run two.is_run
+    same-come told b texts x y logs others states ends counts rises one.journal two.journal one.is_told two.is_told one.is_run two.is_run
     (sym (reverse-reverse one.journal) ∙ ap (λ (es : List Entry). reverse es) pasts ∙ reverse-reverse two.journal) in
     record {
       run = run;
       report = λ file names schedule x y logs others states ends counts rises is one two alike.
           let runs : AreTwoRuns x y logs others states ends counts rises = two-runs file names schedule x y logs others states ends
           counts rises is one two in
-          run runs.board runs.texts runs.words x y logs others states ends counts rises runs.one runs.two alike;
+          run (report_by runs.board runs.texts) runs.board runs.texts runs.words x y logs others states ends counts rises runs.one
+          runs.two alike;
+      summary = λ plan x y logs others states ends counts rises one two alike.
+          run (summary_of plan) (made_board plan.roots) (scripts_of plan) (schedule_of plan) x y logs others states ends counts rises one
+          two alike;
     })

@@ -1,6 +1,6 @@
 use Rattle.std.proofs.Common.{length, reverse, Some}
 use Rattle.bus_laws.proofs.world.LineFacts.{lines-locked}
-use Rattle.i2c_top.specs.Runs.{asks_by, HasRun}
+use Rattle.i2c_top.specs.Runs.{asks_by, report_by, HasRun}
 use Rattle.run_laws.specs.Alike.{steps_of}
 use Rattle.run_laws.proofs.Asked.{messages-asked, limits-kept}
 use Rattle.run_laws.proofs.Steps.{own-followed, own-named}
@@ -17,6 +17,7 @@ returns c =
     let tree = c.an_accepted_board_is_a_tree.ensures b plain rules in
     let replay : HasRun b texts (Some (steps_of run.journal)) x logs states counts = record {
       journal = run.journal;
+      is_told = run.is_told;
       is_run = run.is_run;
       ordered = own-followed b tree plain (lines-locked b rules) (asks_by b texts) some (length texts) run.journal run.is_run.stepwise none;
     } in
@@ -24,6 +25,6 @@ returns c =
       named = own-named b tree plain (lines-locked b rules) (asks_by b texts) some (length texts) run.journal run.is_run.stepwise none;
       run = replay;
       only = λ other_bytes others ends other_counts other alike.
-          c.a_replay_has_one_report.ensures.run b texts (steps_of run.journal) x other_bytes logs others states ends counts
+          c.a_replay_has_one_report.ensures.run (report_by b texts) b texts (steps_of run.journal) x other_bytes logs others states ends counts
           other_counts replay other alike;
     }

@@ -1,0 +1,92 @@
+-- How a call of `gen` ends: no file decides it, and a success is the summary of its run. No induction.
+use Rattle.std.proofs.Common.{◌≡◌, ℕ, ◌⊎◌, inl, false, IsTrue, List, [], None, Some, Result, Ok, Err, refl, sym, ◌∙◌, subst}
+use Rattle.std.specs.Prelude.{IfOk, IfErr, OnOk}
+use Rattle.caller_core.specs.View.{CallerView}
+use Rattle.i2c_base.specs.Board.{BoardView}
+use Rattle.i2c_base.specs.declared.port.PortCall.{PortCall}
+use Rattle.i2c_gen.specs.Made.{AreMade, IsSchedule}
+use Rattle.i2c_gen.specs.Scripts.{scripts_of, schedule_of}
+use Rattle.i2c_gen.specs.declared.plan.Plan.{Plan}
+use Rattle.i2c_spec.specs.Targets.{TargetState}
+use Rattle.i2c_top.specs.Runs.{texts_of, HasRunTold}
+use Rattle.ports.specs.Causes.{Rose, counted}
+use Rattle.i2c_top.specs.Endings.{name_by_class, name_in, CameToSuccess, CameToRefusal, IsRefusalWritten, HasEndedAs}
+use Rattle.i2c_top.specs.Form.{DecidesOnce, own_of, KeepsShelf}
+use Rattle.i2c_top.specs.Status.{Class, Done, Misused, Refused, Unread, NoRig, Silent, class_of}
+use Rattle.i2c_top.specs.Traces.{ShelfView, RigView, Outside, IsAtMostOnce}
+use Rattle.i2c_top.specs.forms.Generations.{summary_of, HasSummary, HasGenerated, gen_form}
+use Rattle.i2c_top.specs.declared.status.Status.{Status}
+use Rattle.i2c_top.specs.declared.status.Status.TheVariants as status
+use Rattle.i2c_top.proofs.EndingLemmas.{came_to_success, memory_wanting, run_refused}
+
+pub gen_decides : (p : Plan) → DecidesOnce (gen_form p)
+gen_decides p file s r h k = k ∙ sym h
+
+-- no file is read, so no refusal has a file's name
+nameless : (p : Plan) (s : Status) (c : Class) (words others : List (List ℕ)) → own_of (gen_form p) s c
+    → name_by_class words c ≡ name_by_class others c
+nameless p s Done words others own = refl
+nameless p s Misused words others own = refl
+nameless p s Refused words others own = refl
+nameless p s (Unread place) words others own = absurd own
+nameless p s NoRig words others own = refl
+nameless p s Silent words others own = refl
+
+module _ (p : Plan) (shelf : ShelfView) (rig rig_now : RigView) where
+  kept : KeepsShelf (gen_form p) shelf shelf
+  kept = record { words = refl; files = λ name. refl; others = λ place no. refl }
+
+  -- no memory for what is made
+  pub gen_starved : (e : Status) → e ≡ status.Memory → CameToRefusal (gen_form p) shelf shelf rig rig e
+  gen_starved e is = subst (CameToRefusal (gen_form p) shelf shelf rig rig) (sym is)
+      (memory_wanting (gen_form p) shelf shelf rig rig (inl (record { plugs = refl; unplugs = refl })) kept)
+
+  -- a run that ended is a success, by its summary
+  pub gen_done : {X : Type 0} (r : Result X Status) (bytes_of : X → List ℕ) → rig_now.plugs ≡ counted rig.plugs → rig_now.plugged ≡ false
+      → OnOk r (rig_now.unplugs ≡ counted rig.unplugs)
+      → (IsTrue rig_now.tells → IsTrue rig_now.ports_tell → IfOk r (λ x. HasSummary p (bytes_of x) rig_now.logs rig_now.states rig_now.counts))
+      → IfOk r (λ x. CameToSuccess (gen_form p) shelf shelf rig rig_now (bytes_of x))
+  gen_done (Ok x) bytes_of plugs unplugged unplugs run =
+      came_to_success (gen_form p) shelf shelf rig rig_now (bytes_of x) (λ t. refl)
+      (record { plugs = plugs; unplugs = unplugs; unplugged = unplugged }) (record { by_files = λ t. run; by_rig = run }) kept
+  gen_done (Err e) bytes_of plugs unplugged unplugs run = tt
+
+  -- one that failed is a refusal
+  pub gen_failed : {X : Type 0} (r : Result X Status) → rig_now.plugs ≡ counted rig.plugs → rig_now.plugged ≡ false
+      → (r ≡ Err status.Rig → rig_now.unplugs ≡ rig.unplugs) → IsAtMostOnce rig.unplugs rig_now.unplugs
+      → (r ≡ Err status.Rig → Rose rig.faults rig_now.faults) → IfErr r (λ e. (e ≡ status.Rig) ⊎ (e ≡ status.Memory))
+      → IfErr r (CameToRefusal (gen_form p) shelf shelf rig rig_now)
+  gen_failed r plugs unplugged unplugs once rose failed =
+      run_refused (gen_form p) shelf shelf rig rig_now r refl (λ t. refl) kept plugs unplugged unplugs once rose failed
+
+-- a run of what was made is that of the plan
+pub made_summary : {X : Type 0} (p : Plan) (board : BoardView) (scripts : List CallerView) (words : List ℕ) (r : Result X Status)
+    (bytes_of : X → List ℕ) (logs : List (List PortCall)) (states : List TargetState) (counts : List ℕ)
+    → AreMade p board scripts → IsSchedule p words
+    → IfOk r (λ x. HasRunTold (summary_of p) board (texts_of scripts) (Some words) (bytes_of x) logs states counts)
+    → IfOk r (λ x. HasSummary p (bytes_of x) logs states counts)
+made_summary p board scripts words (Ok x) bytes_of logs states counts made schedule run =
+    subst (λ (b : BoardView). HasRunTold (summary_of p) b (scripts_of p) (Some (schedule_of p)) (bytes_of x) logs states counts) made.board_is
+    (subst (λ (ts : List (List ℕ)). HasRunTold (summary_of p) board ts (Some (schedule_of p)) (bytes_of x) logs states counts) made.texts
+    (subst (λ (ws : List ℕ). HasRunTold (summary_of p) board (texts_of scripts) (Some ws) (bytes_of x) logs states counts) schedule.same run))
+made_summary p board scripts words (Err e) bytes_of logs states counts made schedule run = tt
+
+-- what was written for a refusal has no name in it, whatever the words are
+pub gen_refusal : {X : Type 0} (p : Plan) (old new : Outside) (words : List (List ℕ)) (r : Result X Status) (result : Status)
+    → IfErr r (CameToRefusal (gen_form p) old.shelf new.shelf old.rig new.rig)
+    → IfErr r (λ e. IsRefusalWritten old.sink new.sink e (name_in words e) result)
+    → IfErr r (λ e. IsRefusalWritten old.sink new.sink e (name_in old.shelf.words e) result)
+gen_refusal p old new words (Ok x) result refused written = tt
+gen_refusal p old new words (Err e) result refused written =
+    subst (λ name. IsRefusalWritten old.sink new.sink e name result) (nameless p e (class_of e) words old.shelf.words refused.own) written
+
+-- a success was the summary
+pub ended_generated : (p : Plan) (old new : Outside) (result : Status) → HasEndedAs (gen_form p) old new result
+    → IsTrue old.sink.tells → IsTrue new.rig.tells → IsTrue new.rig.ports_tell → result ≡ status.Ok
+    → HasGenerated p old.sink.bytes new.sink.bytes new.rig.logs new.rig.states new.rig.counts
+ended_generated p old new result h sink rig ports ok =
+    let s = h.said ok in record { bytes = s.text; summary = s.answer.by_rig rig ports; written = s.written sink }
+
+-- a shelf that no one asks of
+abbrev pub no_shelf : ShelfView
+no_shelf = record { tells = false; words = []; file = λ name. None; faults = λ place. 0 }

@@ -1,0 +1,27 @@
+use Rattle.std.proofs.Common.{ℕ, List, Some, subst}
+use Rattle.std.specs.Prelude.{IfOk}
+use Rattle.i2c_top.specs.Runs.{texts_of, HasRunTold}
+use Rattle.i2c_top.specs.forms.Generations.{summary_of}
+use Rattle.i2c_top.proofs.EndingLemmas.{each_ok, each_err}
+use Rattle.i2c_top.proofs.GenerationLemmas.{gen_done, gen_failed, made_summary}
+use Rattle.i2c_top.proofs.forms.generate.generate.Goals as goal
+
+pub returns-clause-done : goal.returns-clause-done
+returns-clause-done g c =
+    let run = c.run_generated.ensures in
+    let made = c.in_ok-board.ensures in
+    let p = c.args.plan.now in
+    let rig = c.run_generated.new.rig in
+    each_ok c.run_generated.result _
+    (λ shelf. gen_done p shelf _ _ c.run_generated.result (λ v. v) run.plugs run.unplugged run.unplugs
+    (λ tells ports. made_summary p c.in_ok-board.field-0.board c.in_ok-board.field-0.scripts.items c.in_ok-board.field-0.schedule.items
+    c.run_generated.result (λ v. v) (g.R.Rig.logs rig) (g.R.Rig.states rig) (g.R.Rig.port_faults rig) made.made made.schedule
+    (subst (λ (ws : List ℕ). IfOk c.run_generated.result (λ x. HasRunTold (summary_of p) c.in_ok-board.field-0.board
+    (texts_of c.in_ok-board.field-0.scripts.items) (Some ws) x (g.R.Rig.logs rig) (g.R.Rig.states rig) (g.R.Rig.port_faults rig)))
+    c.as_slice.ensures.value (run.run tells ports))))
+
+pub returns-clause-refused : goal.returns-clause-refused
+returns-clause-refused g c =
+    let run = c.run_generated.ensures in
+    each_err c.run_generated.result _
+    (λ shelf. gen_failed c.args.plan.now shelf _ _ c.run_generated.result run.plugs run.unplugged run.none run.once run.rig run.failed)
