@@ -4,8 +4,10 @@
 #![tactic(auto)]
 
 ghost use Rattle.std.specs.Prelude.{◌≡◌, ℕ, List, Some, map, string_bytes, IfOk, IsTrue, OnErr};
-ghost use Rattle.i2c_top.specs.forms.{Replay, Check, request_in, HasEnded};
+ghost use Rattle.i2c_gen.specs.declared.plan.Plan.{Plan};
+ghost use Rattle.i2c_top.specs.forms.{Replay, Check, Generate, request_in, HasEnded};
 ghost use Rattle.i2c_top.specs.forms.Checks.{HasChecked};
+ghost use Rattle.i2c_top.specs.forms.Generations.{HasGenerated};
 ghost use Rattle.i2c_top.specs.forms.Replays.{Names, HasReplayed};
 ghost use Rattle.i2c_top.specs.declared.status.Status.TheVariants as status;
 ghost use Rattle.i2c_top.specs.Traces.{outside, rig_view};
@@ -44,6 +46,9 @@ fn run<H: Threads + Wait + Sync, S: Shelf, K: Sink, R: Rig>(
     ensures checked { IsTrue S.tells → IsTrue K.tells
         → (board : List ℕ) → request_in (map string_bytes words.now) ≡ Some (Check board) → result ≡ status.Ok
         → HasChecked (S.file shelf.old) board (K.bytes sink.old) (K.bytes sink.new) }
+    ensures generated { IsTrue K.tells → IsTrue R.tells → IsTrue R.P.tells
+        → (plan : Plan) → request_in (map string_bytes words.now) ≡ Some (Generate plan) → result ≡ status.Ok
+        → HasGenerated plan (K.bytes sink.old) (K.bytes sink.new) (R.logs rig.new) (R.states rig.new) (R.port_faults rig.new) }
 {
     top(rt, alloc, words, shelf, sink, rig, &OpenGate)
 }

@@ -19,4 +19,5 @@ returns g c =
       };
       success = c.top.ensures.success;
       checked = c.top.ensures.checked;
+      generated = c.top.ensures.generated;
     }
