@@ -2,7 +2,7 @@
 ghost use Rattle.std.specs.Prelude.{◌≡◌, IfOk};
 ghost use Rattle.i2c_spec.specs.Plain.{IsPlainDevice};
 ghost use Rattle.i2c_spec.specs.Targets as target;
-ghost use Rattle.i2c_spec.specs.Targets.{opening_state, silent_answer, state_answer};
+ghost use Rattle.i2c_spec.specs.Targets.{opening_state, silent_answer, state_answer, state_sends, state_hold};
 
 use i2c_base::{Answer, DeviceKind, DeviceSpec, Event, NoMemory, Target};
 use std::alloc::Global;
@@ -83,6 +83,29 @@ impl DeviceState {
             Device::Regs(regs) => regs.copied().on(event),
             Device::Smbus(smbus) => smbus.answer(event),
             Device::Silent => silence(event),
+        }
+    }
+
+    /// The byte that the next read would give.
+    pub fn sends(&self) -> u8
+        ensures { result ≡ state_sends self.now }
+    {
+        match &self.device {
+            Device::Eeprom(eeprom) => eeprom.sends(),
+            Device::Lm75(lm75) => lm75.sends(),
+            Device::Regs(regs) => regs.sends(),
+            Device::Smbus(smbus) => smbus.sends(),
+            Device::Silent => 255,
+        }
+    }
+
+    /// For how many looks it holds the clock at its address (UM10204 section 3.1.9).
+    pub fn hold(&self) -> u8
+        ensures { result ≡ state_hold self.now }
+    {
+        match &self.device {
+            Device::Regs(regs) => regs.hold(),
+            Device::Eeprom(_) | Device::Lm75(_) | Device::Smbus(_) | Device::Silent => 0,
         }
     }
 

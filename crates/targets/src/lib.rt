@@ -1,7 +1,7 @@
 //! The devices of a board as one type, whatever their kinds.
 //!
-//! Its public contract: `DeviceState` opens as its board says, and does on each event what the table of its kind says.
-//! Definitions: `TargetState` and `state_table` of `i2c_spec`.
+//! Its public contract: `DeviceState` opens as its board says, does on each event what the table of its kind says, and tells
+//! the byte that it would send and for how long it holds the clock. Definitions: `TargetState` and `state_table` of `i2c_spec`.
 #![tactic(auto)]
 
 mod device;

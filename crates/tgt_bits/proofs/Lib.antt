@@ -1,0 +1,2 @@
+-- The number that has come so far fits the bits that came.
+pub mod BitLemmas

@@ -1,0 +1,2 @@
+-- What is so of a target within a byte.
+pub mod Targets
