@@ -1,0 +1,211 @@
+-- A byte with its acknowledge clock, and what it comes to on told lines: a put, or a get, in the world.
+use Rattle.std.proofs.Common.{◌≡◌, ℕ, ◌<◌, Bool, true, false, cond, List, [], ◌∷◌, map, refl, ap, sym, ◌∙◌, arith, subst}
+use Rattle.std.specs.Prelude.{not, Result, Ok, Err}
+use Rattle.std.specs.List.{AllByRecursion}
+use Rattle.i2c_base.specs.Board.{BoardView}
+use Rattle.i2c_base.specs.Table.{Table}
+use Rattle.i2c_base.specs.declared.event.Event.TheVariants.{Put, Get}
+use Rattle.i2c_spec.specs.Chips.{ChipView, chip_table}
+use Rattle.i2c_spec.specs.Targets.{TargetState, state_table, HoldsBytes, KeepsBytes}
+use Rattle.i2c_spec.specs.World.{takes, gives}
+use Rattle.wire_spec.specs.declared.mode.Mode.{Mode}
+use Rattle.wire_spec.specs.declared.mode.Mode.TheVariants.{Out, In, Give}
+use Rattle.wire_spec.specs.Wires.{Site, Bit, bits, shifted, puts, gets}
+use Rattle.wire_spec.specs.Roots.{at, hearing, put_site, get_site}
+use Rattle.wire_spec.specs.Bus.{Counts, Bus, Came, came_up, gave_up, bit_step, bit_steps, then_bits}
+use Rattle.wire_spec.specs.Calls.{more_edges, within, sent_byte, read_byte, then_answer}
+use Rattle.wire_spec.specs.Sites.{NodeState, node_table, both, chips_in, devices_in, world_by, mask_of}
+use Rattle.wire_spec.specs.WorldLaws.{PartsOfBoth, PutOnSites, GetOnSites}
+use Rattle.wire_spec.specs.CallLaws.{PutOnWires, GetOnWires}
+use Rattle.i2c_bits.specs.Wiring.{Rooted, the_table, mask_at, came_acked, CameRead}
+use Rattle.i2c_bits.specs.Stands.{AreTold, StandsIn, PutTold, GetTold, sites_of, chips_on, devices_on, world_at}
+use Rattle.i2c_bits.specs.declared.lines.Low.{Low}
+
+-- ---- nine clocks
+not_not : (b : Bool) → not (not b) ≡ b
+not_not true = refl
+not_not false = refl
+
+module _ (t : Table NodeState) (k k1 : Rooted) (w w1 w2 : Bus NodeState) (same : k1 ≡ k) where
+  pub sent_up : (byte n : ℕ) (level : Bool) → came_up n w1 ≡ bit_steps t (mask_at k) 0 (bits 8 byte) w
+      → came_up (shifted 0 level) w2 ≡ bit_step t (mask_at k1) 0 true w1
+      → came_acked (Ok (not level)) w2 ≡ sent_byte t (mask_at k) byte w
+  sent_up byte n level e f =
+      ap (λ b. came_up (shifted 0 b) w2) (not_not level)
+      ∙ (f ∙ (ap (λ m. bit_step t (mask_at m) 0 true w1) same
+      ∙ ap (λ c. then_bits c (bit_step t (mask_at k) 0 true c.bus)) e))
+
+  pub sent_low : (byte n : ℕ) → came_up n w1 ≡ bit_steps t (mask_at k) 0 (bits 8 byte) w → gave_up w2 ≡ bit_step t (mask_at k1) 0 true w1
+      → gave_up w2 ≡ sent_byte t (mask_at k) byte w
+  sent_low byte n e f =
+      f ∙ (ap (λ m. bit_step t (mask_at m) 0 true w1) same ∙ ap (λ c. then_bits c (bit_step t (mask_at k) 0 true c.bus)) e)
+
+  pub read_up : (byte : ℕ) (ack level : Bool) → came_up byte w1 ≡ bit_steps t (mask_at k) 0 (bits 8 255) w
+      → came_up (shifted 0 level) w2 ≡ bit_step t (mask_at k1) 0 (not ack) w1
+      → came_up byte w2 ≡ read_byte t (mask_at k) ack w
+  read_up byte ack level e f =
+      ap (λ c. then_answer (came_up byte w1) c) (f ∙ ap (λ m. bit_step t (mask_at m) 0 (not ack) w1) same)
+      ∙ ap (λ c. then_answer c (bit_step t (mask_at k) 0 (not ack) c.bus)) e
+
+  pub read_low : (low : Low) (byte : ℕ) (ack : Bool) → came_up byte w1 ≡ bit_steps t (mask_at k) 0 (bits 8 255) w
+      → gave_up w2 ≡ bit_step t (mask_at k1) 0 (not ack) w1 → CameRead (Err low) w2 (read_byte t (mask_at k) ack w)
+  read_low low byte ack e f =
+      let is : record { up = false; read = byte; bus = w2 } ≡ read_byte t (mask_at k) ack w =
+      ap (λ c. then_answer (came_up byte w1) c) (f ∙ ap (λ m. bit_step t (mask_at m) 0 (not ack) w1) same)
+      ∙ ap (λ c. then_answer c (bit_step t (mask_at k) 0 (not ack) c.bus)) e in
+      (sym (ap (λ c. c.up) is), ap (λ c. c.bus) is)
+
+pub sent_cut : (t : Table NodeState) (k : Rooted) (byte : ℕ) (w w1 : Bus NodeState) → gave_up w1 ≡ bit_steps t (mask_at k) 0 (bits 8 byte) w
+    → gave_up w1 ≡ sent_byte t (mask_at k) byte w
+sent_cut t k byte w w1 e = ap (λ c. then_bits c (bit_step t (mask_at k) 0 true c.bus)) e
+
+pub read_cut : (t : Table NodeState) (k : Rooted) (ack : Bool) (w w1 : Bus NodeState) (low : Low)
+    → gave_up w1 ≡ bit_steps t (mask_at k) 0 (bits 8 255) w
+    → CameRead (Err low) w1 (read_byte t (mask_at k) ack w)
+read_cut t k ack w w1 low e =
+    let is : gave_up w1 ≡ read_byte t (mask_at k) ack w = ap (λ c. then_answer c (bit_step t (mask_at k) 0 (not ack) c.bus)) e in
+    (sym (ap (λ c. c.up) is), ap (λ c. c.bus) is)
+
+-- ---- the sites on the lines
+pub sites_map : (m : Mode) (ss : List (Site NodeState)) → map {A = Bit NodeState} (λ (b : Bit NodeState). b.site) (map (at m) ss) ≡ ss
+sites_map m [] = refl
+sites_map m (s ∷ ss) = ap (λ xs. s ∷ xs) (sites_map m ss)
+
+sites_at : (w : Bus NodeState) (m : Mode) (ss : List (Site NodeState)) → w.targets ≡ map (at m) ss → sites_of w ≡ ss
+unfolding sites_of
+sites_at w m ss is = ap (map {A = Bit NodeState} (λ (b : Bit NodeState). b.site)) is ∙ sites_map m ss
+
+-- these chips and devices stand there
+pub record On (w : Bus NodeState) (cs : List (Site ChipView)) (ds : List (Site TargetState)) : Type 0 where
+  pub chips : chips_on w ≡ cs
+  pub devices : devices_on w ≡ ds
+
+module _ (parts : (cs : List (Site ChipView)) (ds : List (Site TargetState)) → PartsOfBoth cs ds) (w : Bus NodeState)
+    (cs : List (Site ChipView)) (ds : List (Site TargetState)) where
+  pub on_lines : (m : Mode) → w.targets ≡ map (at m) (both cs ds) → On w cs ds
+  on_lines m is = record {
+    chips = ap chips_in (sites_at w m (both cs ds) is) ∙ (parts cs ds).chips;
+    devices = ap devices_in (sites_at w m (both cs ds) is) ∙ (parts cs ds).devices;
+  }
+
+pub world_on : (k : Rooted) (busy : Bool) (w : Bus NodeState) (cs : List (Site ChipView)) (ds : List (Site TargetState)) → On w cs ds
+    → world_at k busy w ≡ world_by k.board k.root busy cs ds
+world_on k busy w cs ds on =
+    ap (λ xs. world_by k.board k.root busy xs (devices_on w)) on.chips ∙ ap (world_by k.board k.root busy cs) on.devices
+
+pub told_on : (k : Rooted) (w : Bus NodeState) (cs : List (Site ChipView)) (ds : List (Site TargetState)) → On w cs ds → AreTold k cs ds
+    → AreTold k (chips_on w) (devices_on w)
+told_on k w cs ds on told =
+    subst (λ (xs : List (Site ChipView)). AreTold k xs (devices_on w)) (sym on.chips)
+    (subst (λ (ys : List (Site TargetState)). AreTold k cs ys) (sym on.devices) told)
+
+pub stands_on : (k : Rooted) (m : Mode) (w : Bus NodeState) (low : Bool) (c : Counts) (cs : List (Site ChipView)) (ds : List (Site TargetState))
+    → On w cs ds → w ≡ within m low (both cs ds) c → AreTold k cs ds → StandsIn k m w
+stands_on k m w low c cs ds on is told = record {
+  lines =
+      is
+      ∙ (ap (λ xs. within m low (both xs ds) c) (sym on.chips)
+      ∙ (ap (λ ys. within m low (both (chips_on w) ys) c) (sym on.devices)
+      ∙ (ap (λ b. within m b (both (chips_on w) (devices_on w)) c) (sym (ap (λ x. x.sda) is))
+      ∙ ap (within m w.sda (both (chips_on w) (devices_on w))) (sym (ap (λ x. x.counts) is)))));
+  told = told_on k w cs ds on told;
+}
+
+-- ---- what devices hold stays bytes
+pub all_kept : (f : Site TargetState → Site TargetState) → ((s : Site TargetState) → HoldsBytes s.state → HoldsBytes (f s).state)
+    → (ds : List (Site TargetState)) → AllByRecursion (λ (s : Site TargetState). HoldsBytes s.state) ds
+    → AllByRecursion (λ (s : Site TargetState). HoldsBytes s.state) (map f ds)
+all_kept f keeps [] all = tt
+all_kept f keeps (d ∷ ds) all = (keeps d all.0, all_kept f keeps ds all.1)
+
+pub kept_where : (b : Bool) (s s1 : Site TargetState) → HoldsBytes s.state → (HoldsBytes s.state → HoldsBytes s1.state)
+    → HoldsBytes (cond b s1 s).state
+kept_where true s s1 old new = new old
+kept_where false s s1 old new = old
+
+-- ---- a put, and a get
+pub shifted_same : (a b : Bool) → shifted 0 (not a) ≡ shifted 0 (not b) → a ≡ b
+shifted_same true true h = refl
+shifted_same false false h = refl
+shifted_same true false h = absurd (omega arith)
+shifted_same false true h = absurd (omega arith)
+
+module _ (parts : (cs : List (Site ChipView)) (ds : List (Site TargetState)) → PartsOfBoth cs ds) (keeps : KeepsBytes state_table HoldsBytes)
+    (k : Rooted) (w w1 : Bus NodeState) where
+  -- the sites behind a put, and behind a get
+  abbrev chips_put : ℕ → List (Site ChipView)
+  chips_put byte = map (put_site chip_table byte) (chips_on w)
+
+  abbrev devices_put : ℕ → List (Site TargetState)
+  devices_put byte = map (put_site state_table byte) (devices_on w)
+
+  abbrev chips_got : Bool → List (Site ChipView)
+  chips_got ack = map (get_site chip_table ack) (chips_on w)
+
+  abbrev devices_got : Bool → List (Site TargetState)
+  devices_got ack = map (get_site state_table ack) (devices_on w)
+
+  put_comes : PutOnWires → (byte : ℕ) → byte < 256 → StandsIn k (In false 8 0) w → (c : Came NodeState)
+      → c ≡ sent_byte the_table (mask_at k) byte w
+      → c ≡ came_up (shifted 0 (not (takes (world_at k true w) byte)))
+      (within (In false 8 0) false (both (chips_put byte) (devices_put byte)) (more_edges 9 w.counts))
+  unfolding the_table mask_at
+  put_comes wires byte lt stands c is =
+      is ∙ (ap (sent_byte node_table (mask_of k.board k.root) byte) stands.lines
+      ∙ wires k.board k.root byte lt true w.sda (chips_on w) (devices_on w) w.counts)
+
+  pub put_told : PutOnWires
+      → ((b : BoardView) (r : ℕ) (busy : Bool) (byte : ℕ) (cs : List (Site ChipView)) (ds : List (Site TargetState)) → PutOnSites b r busy byte cs ds)
+      → (byte : ℕ) → byte < 256 → StandsIn k (In false 8 0) w → (r : Result Bool Low)
+      → came_acked r w1 ≡ sent_byte the_table (mask_at k) byte w → PutTold k r byte w w1
+  put_told wires sites byte lt stands (Err e) is =
+      let p : false ≡ true = ap (λ c. c.up) (put_comes wires byte lt stands (gave_up w1) is) in cc
+  put_told wires sites byte lt stands (Ok acked) is =
+      let comes = put_comes wires byte lt stands (came_up (shifted 0 (not acked)) w1) is in
+      let site : PutOnSites k.board k.root true byte (chips_on w) (devices_on w) = sites k.board k.root true byte (chips_on w) (devices_on w) in
+      let on : On w1 (chips_put byte) (devices_put byte) =
+      on_lines parts w1 (chips_put byte) (devices_put byte) (In false 8 0) (ap (λ c. c.bus.targets) comes) in
+      record {
+        answer = shifted_same acked (takes (world_at k true w) byte) (ap (λ c. c.read) comes);
+        stands = stands_on k (In false 8 0) w1 false (more_edges 9 w.counts) (chips_put byte) (devices_put byte) on (ap (λ c. c.bus) comes)
+            (record {
+              sites = site.kept stands.told.sites;
+              bytes = all_kept (put_site state_table byte)
+                  (λ s old. kept_where (hearing s) s (puts state_table s byte) old (λ is. keeps.after s.state (Put byte) lt is))
+                  (devices_on w) stands.told.bytes;
+            });
+        world = world_on k true w1 (chips_put byte) (devices_put byte) on ∙ site.world;
+      }
+
+  get_comes : GetOnWires → (ack : Bool) → StandsIn k (Give 8) w
+      → read_byte the_table (mask_at k) ack w
+      ≡ came_up (gives (world_at k true w))
+      (within (cond ack (Give 8) Out) ack (both (chips_got ack) (devices_got ack)) (more_edges 9 w.counts))
+  unfolding the_table mask_at
+  get_comes wires ack stands =
+      ap (read_byte node_table (mask_of k.board k.root) ack) stands.lines
+      ∙ wires k.board k.root true ack w.sda (chips_on w) (devices_on w) w.counts
+
+  pub get_told : GetOnWires
+      → ((b : BoardView) (r : ℕ) (busy ack : Bool) (cs : List (Site ChipView)) (ds : List (Site TargetState)) → GetOnSites b r busy ack cs ds)
+      → (ack : Bool) → StandsIn k (Give 8) w → (r : Result ℕ Low)
+      → CameRead r w1 (read_byte the_table (mask_at k) ack w) → GetTold k r ack w w1
+  get_told wires sites ack stands (Err e) is =
+      let p : false ≡ true = sym is.0 ∙ ap (λ c. c.up) (get_comes wires ack stands) in cc
+  get_told wires sites ack stands (Ok byte) is =
+      let comes = is ∙ get_comes wires ack stands in
+      let site : GetOnSites k.board k.root true ack (chips_on w) (devices_on w) = sites k.board k.root true ack (chips_on w) (devices_on w) in
+      let m : Mode = cond ack (Give 8) Out in
+      let on : On w1 (chips_got ack) (devices_got ack) =
+      on_lines parts w1 (chips_got ack) (devices_got ack) m (ap (λ c. c.bus.targets) comes) in
+      record {
+        answer = ap (λ c. c.read) comes;
+        stands = stands_on k m w1 ack (more_edges 9 w.counts) (chips_got ack) (devices_got ack) on (ap (λ c. c.bus) comes)
+            (record {
+              sites = site.kept stands.told.sites;
+              bytes = all_kept (get_site state_table ack)
+                  (λ s old. kept_where (hearing s) s (gets state_table s ack) old (λ is. keeps.after s.state (Get ack) tt is))
+                  (devices_on w) stands.told.bytes;
+            });
+        world = world_on k true w1 (chips_got ack) (devices_got ack) on ∙ site.world;
+      }

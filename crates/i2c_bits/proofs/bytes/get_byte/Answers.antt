@@ -1,0 +1,9 @@
+use Rattle.i2c_bits.proofs.Told.{get_told}
+use Rattle.i2c_bits.proofs.bytes.get_byte.Goals as goal
+
+pub returns-clause-told : goal.returns-clause-told
+returns-clause-told g c tells =
+    let bus = g.L.Lines.bus in
+    get_told c.chips_stand_before_devices.ensures c.devices_hold_bytes.ensures.kept (g.L.Lines.board c.args.lines.now)
+    (bus c.args.lines.now) (bus c.receive.new.lines) c.a_get_on_the_wires_is_one_in_the_world.ensures
+    c.a_get_on_the_sites_is_one_in_the_world.ensures c.args.ack (c.requires.stands tells) c.receive.result (c.receive.ensures.bus tells)

@@ -1,0 +1,23 @@
+//! The controller of a root that drives the two wires, SDA and SCL, bit by bit: a port over any pair of lines.
+//!
+//! Its public contract: a `BitPort` over lines that tell their targets is a `Port` that does in each call what the world of
+//! bytes says, with a clock that is held for more than 64 looks as Slow, and never fails; over any lines a call fails exactly
+//! where SCL, once let go, looked low 65 times in a row, in a stop 255 times, and lets both lines go then. In the acknowledge
+//! clock of a start the answer is Slow instead. Definitions: `specs/Wiring.antt` is what is seen of every pair of lines;
+//! `specs/Stands.antt` how told lines stand between two calls, the world that they are, and what a call on them is in it;
+//! `specs/PortViews.antt` what is seen of the port. What a controller does, pull by pull and look by look, is `Calls` of
+//! `wire_spec`, by UM10204, "I2C-bus specification and user manual", sections 3.1.3 to 3.1.6, 3.1.9 and 3.1.10.
+#![tactic(auto)]
+
+mod bit_port;
+mod bytes;
+mod clocks;
+mod lines;
+mod messages;
+mod phases;
+
+pub use bit_port::BitPort;
+pub use bytes::{get_byte, put_byte, receive, send};
+pub use clocks::{LOOKS, bit, release, shift};
+pub use lines::{Lines, Low};
+pub use messages::{STOP_LOOKS, set_line, start_message, stop_message};
