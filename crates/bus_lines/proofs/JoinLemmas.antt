@@ -1,0 +1,37 @@
+-- A loop that goes from the last target back to the first, and reads anew of each whether it is joined.
+use Rattle.std.proofs.Common.{◌≡◌, ℕ, zero, suc, ◌+◌, ◌<◌, Bool, List, [], ◌∷◌, length, set, get_or, refl, sym, ap, ◌∙◌, arith}
+use Rattle.wire_spec.specs.Wires.{Bit}
+use Rattle.wire_spec.specs.Bus.{rejoin_from}
+use Rattle.wire_spec.specs.Sites.{NodeState}
+use Rattle.bus_lines.specs.Joins.{read_anew, states_on}
+
+abbrev pub joined_by : (ℕ → Bool) → ℕ → Bit NodeState → Bit NodeState
+joined_by f k b = read_anew (f k) b
+
+-- what is left to be done: the first n, by number from k on
+abbrev pub first_from : {A : Type 0} → (ℕ → A → A) → ℕ → ℕ → List A → List A
+first_from f k zero xs = xs
+first_from f k (suc n) [] = []
+first_from f k (suc n) (x ∷ xs) = f k x ∷ first_from f (k + 1) n xs
+
+pub rejoin_all : (f : ℕ → Bool) (k : ℕ) (bs : List (Bit NodeState)) → first_from (joined_by f) k (length bs) bs ≡ rejoin_from f k bs
+rejoin_all f k [] = refl
+rejoin_all f k (b ∷ bs) = ap (λ cs. joined_by f k b ∷ cs) (rejoin_all f (k + 1) bs)
+
+-- one more is done
+next_set : {A : Type 0} (f : ℕ → A → A) (k n i : ℕ) (xs : List A) (d y : A) → i ≡ k + n → n < length xs → y ≡ f i (get_or xs n d)
+    → first_from f k n (set xs n y) ≡ first_from f k (suc n) xs
+next_set f k n i [] d y at lt is = absurd (omega (arith, lt))
+next_set f k zero i (x ∷ xs) d y at lt is = let e : i ≡ k = omega (arith, at) in ap (λ z. z ∷ xs) (is ∙ ap (λ j. f j x) e)
+next_set f k (suc n) i (x ∷ xs) d y at lt is = ap (λ ys. f k x ∷ ys) (next_set f (k + 1) n i xs d y (omega (arith, at)) (omega (arith, lt)) is)
+
+pub next_back : {A : Type 0} (f : ℕ → A → A) (m n : ℕ) (xs : List A) (d y : A) → m ≡ suc n → n < length xs → y ≡ f n (get_or xs n d)
+    → first_from f 0 n (set xs n y) ≡ first_from f 0 m xs
+next_back f m n xs d y next lt is = next_set f 0 n n xs d y (omega arith) lt is ∙ ap (λ k. first_from f 0 k xs) (sym next)
+
+-- the states stay
+pub states_set : (n : ℕ) (bs : List (Bit NodeState)) (d y : Bit NodeState) → y.site.state ≡ (get_or bs n d).site.state
+    → states_on (set bs n y) ≡ states_on bs
+states_set n [] d y is = refl
+states_set zero (b ∷ bs) d y is = ap (λ z. z ∷ states_on bs) is
+states_set (suc n) (b ∷ bs) d y is = ap (λ zs. b.site.state ∷ zs) (states_set n bs d y is)

@@ -1,0 +1,128 @@
+-- The targets of a root as its board is opened.
+use Rattle.std.proofs.Common.{◌≡◌, ℕ, suc, ◌+◌, Bool, true, false, cond, List, [], ◌∷◌, ◌++◌, length, map, refl, sym, ap, ◌∙◌, subst, arith}
+use Rattle.std.specs.Prelude.{◌&&◌, replicate}
+use Rattle.i2c_base.specs.declared.board.MuxSpec.{MuxSpec}
+use Rattle.i2c_base.specs.Board.{BoardView, DeviceView}
+use Rattle.std.specs.List.{All, AllByRecursion}
+use Rattle.i2c_spec.specs.Chips.{ChipView}
+use Rattle.i2c_spec.specs.Plain.{IsPlainBoard, IsPlainDevice}
+use Rattle.i2c_spec.specs.Targets.{TargetState, HoldsBytes}
+use Rattle.i2c_spec.specs.World.{opening_world}
+use Rattle.i2c_spec.proofs.StateLemmas.{opening-bytes}
+use Rattle.wire_spec.specs.declared.mode.Mode.{Mode}
+use Rattle.wire_spec.specs.declared.mode.Mode.TheVariants.{Out}
+use Rattle.wire_spec.specs.Wires.{Site, Bit}
+use Rattle.wire_spec.specs.Roots.{at, hearing}
+use Rattle.wire_spec.specs.Bus.{Counts, Bus, Mask, bus_of, rejoin_from, rejoined}
+use Rattle.wire_spec.specs.Calls.{free, joined_from, rejoin}
+use Rattle.wire_spec.specs.Sites.{NodeState, Device, site_with, both, chip_site, device_site, opened_chips, opened_devices, mask_of}
+use Rattle.wire_spec.specs.WorldLaws.{PartsOfBoth, OpenedSites}
+use Rattle.wire_spec.proofs.SiteLemmas.{rejoin_both}
+use Rattle.i2c_bits.specs.Wiring.{Rooted, Wire}
+use Rattle.bus_lines.specs.LinesViews.{TargetsView, LinesView, lines_of}
+use Rattle.i2c_bits.specs.Stands.{IsFree, chips_on, world_at}
+use Rattle.i2c_bits.proofs.Told.{On, on_lines, world_on, told_on, sites_map}
+use Rattle.bus_lines.specs.Joins.{is_chip, kinds_of, states_on}
+use Rattle.bus_lines.specs.Opens.{chip_bit, device_bit, bits_of, opened_targets}
+
+device_kinds : (ds : List DeviceView) → map is_chip (states_on (map device_bit ds)) ≡ replicate (length ds) false
+device_kinds [] = refl
+device_kinds (d ∷ ds) = ap (λ ks. false ∷ ks) (device_kinds ds)
+
+all_kinds : (ms : List MuxSpec) (ds : List DeviceView)
+    → map is_chip (states_on (map chip_bit ms ++ map device_bit ds)) ≡ replicate (length ms) true ++ replicate (length ds) false
+all_kinds [] ds = device_kinds ds
+all_kinds (m ∷ ms) ds = ap (λ ks. true ∷ ks) (all_kinds ms ds)
+
+pub opened_kinds : (b : BoardView) → map is_chip (states_on (bits_of b)) ≡ kinds_of b
+opened_kinds b = all_kinds b.muxes b.devices
+
+-- ---- the lines are free
+device_bits : (ds : List DeviceView) → map device_bit ds ≡ map (at Out) (map (site_with Device) (map device_site ds))
+device_bits [] = refl
+device_bits (d ∷ ds) = ap (λ bs. device_bit d ∷ bs) (device_bits ds)
+
+all_bits : (ms : List MuxSpec) (ds : List DeviceView)
+    → (map chip_bit ms ++ map device_bit ds) ≡ map (at Out) (both (map chip_site ms) (map device_site ds))
+all_bits [] ds = device_bits ds
+all_bits (m ∷ ms) ds = ap (λ bs. chip_bit m ∷ bs) (all_bits ms ds)
+
+out_either : (a b : Bool) → cond {A = Mode} a Out Out ≡ cond {A = Mode} b Out Out
+out_either true true = refl
+out_either true false = refl
+out_either false true = refl
+out_either false false = refl
+
+rejoin_out : (f : ℕ → Bool) (n : ℕ) (ss : List (Site NodeState)) → rejoin_from f n (map (at Out) ss) ≡ map (at Out) (joined_from f n ss)
+rejoin_out f n [] = refl
+rejoin_out f n (s ∷ ss) =
+    ap (λ (m : Mode). record { site = record s { joined = f n; heard = false }; mode = m; hold = 0 } ∷ rejoin_from f (n + 1) (map (at Out) ss))
+    (out_either (hearing s) (f n && false))
+    ∙ ap (λ bs. at Out (record s { joined = f n; heard = false }) ∷ bs) (rejoin_out f (n + 1) ss)
+
+rejoined_out : (mask : Mask NodeState) (ss : List (Site NodeState)) → rejoined mask (map (at Out) ss) ≡ map (at Out) (rejoin mask ss)
+rejoined_out mask ss =
+    ap (λ xs. rejoin_from (mask xs) 0 (map (at Out) ss)) (sites_map Out ss) ∙ rejoin_out (mask ss) 0 ss
+
+all_joined : (f : ℕ → Bool) (n : ℕ) (ds : List (Site TargetState)) → AllByRecursion (λ (s : Site TargetState). HoldsBytes s.state) ds
+    → AllByRecursion (λ (s : Site TargetState). HoldsBytes s.state) (joined_from f n ds)
+all_joined f n [] all = tt
+all_joined f n (d ∷ ds) all = (all.0, all_joined f (n + 1) ds all.1)
+
+all_opened : (ds : List DeviceView) → All IsPlainDevice ds → AllByRecursion (λ (s : Site TargetState). HoldsBytes s.state) (map device_site ds)
+all_opened [] all = tt
+all_opened (d ∷ ds) all = (opening-bytes d (all 0 d (omega arith)), all_opened ds (λ i x lt. all (suc i) x (omega (arith, lt))))
+
+module _ (b : BoardView) (r : ℕ) (plain : IsPlainBoard b) (parts : (cs : List (Site ChipView)) (ds : List (Site TargetState)) → PartsOfBoth cs ds)
+    (opened : OpenedSites b r) where
+  abbrev k : Rooted
+  k = record { board = b; root = r }
+
+  abbrev chips : List (Site ChipView)
+  chips = opened_chips b r
+
+  abbrev devices : List (Site TargetState)
+  devices = opened_devices b r
+
+  abbrev none : Counts
+  none = record { edges = 0; flips = 0 }
+
+  abbrev w : Bus NodeState
+  w = bus_of false false (rejoined (mask_of b r) (bits_of b)) none
+
+  on_wires : rejoined (mask_of b r) (bits_of b) ≡ map (at Out) (both chips devices)
+  on_wires =
+      ap (rejoined (mask_of b r)) (all_bits b.muxes b.devices)
+      ∙ rejoined_out (mask_of b r) (both (map chip_site b.muxes) (map device_site b.devices))
+      ∙ ap (map (at Out)) (rejoin_both b r (map chip_site b.muxes) (map device_site b.devices))
+
+  on : On w chips devices
+  on = on_lines parts w chips devices Out on_wires
+
+  pub opened_world : world_at k false w ≡ opening_world b r
+  opened_world = world_on k false w chips devices on ∙ opened.world
+
+  pub opened_free : IsFree k w
+  opened_free = record {
+    lines =
+        ap (λ (xs : List (Bit NodeState)). bus_of false false xs none) on_wires
+        ∙ (ap (λ xs. free (both xs devices) none) (sym on.chips)
+        ∙ ap (λ ys. free (both (chips_on w) ys) none) (sym on.devices));
+    told = told_on k w chips devices on
+        (record { sites = opened.are; bytes = all_joined _ 0 (map device_site b.devices) (all_opened b.devices plain.devices) });
+    nobody = ap (λ v. v.hearing) opened_world;
+  }
+
+  module _ (t : TargetsView) (u v : Wire) (targets : t ≡ opened_targets b r) (wire : u ≡ v) (scl : v.scl ≡ false) (sda : v.sda ≡ false) where
+    same : lines_of t u ≡ record { rooted = k; bus = w; wire = v }
+    same =
+        ap (λ (x : TargetsView). lines_of x u) targets
+        ∙ ap (λ (x : Wire). lines_of (opened_targets b r) x) wire
+        ∙ ap (λ (x : Bool). record { rooted = k; bus = bus_of x v.sda (opened_targets b r).bits none; wire = v }) scl
+        ∙ ap (λ (x : Bool). record { rooted = k; bus = bus_of false x (opened_targets b r).bits none; wire = v }) sda
+
+    pub free_lines : IsFree t.rooted (lines_of t u).bus
+    free_lines = subst (λ (l : LinesView). IsFree l.rooted l.bus) (sym same) opened_free
+
+    pub lines_world : world_at t.rooted false (lines_of t u).bus ≡ opening_world b r
+    lines_world = ap (λ (l : LinesView). world_at l.rooted false l.bus) same ∙ opened_world

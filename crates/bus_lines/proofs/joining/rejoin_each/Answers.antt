@@ -1,0 +1,42 @@
+use Rattle.std.proofs.Common.{◌≡◌, ◌-◌, ◌<◌, ◌||◌, suc, length, length-set, get_or, refl, ap, ◌∙◌, arith}
+use Rattle.wire_spec.specs.Roots.{pulls_line}
+use Rattle.wire_spec.specs.Bus.{holds_line}
+use Rattle.wire_spec.specs.Sites.{node_table}
+use Rattle.bus_lines.specs.Joins.{joins_by, read_anew, states_on}
+use Rattle.bus_lines.proofs.BackLemmas.{some_back, some_none}
+use Rattle.bus_lines.proofs.JoinLemmas.{joined_by, rejoin_all, next_back, states_set}
+use Rattle.bus_lines.proofs.joining.rejoin_each.Goals as goal
+
+pub loop-left-init : goal.loop-left-init
+loop-left-init c =
+    record {
+      few = omega arith;
+      states = refl;
+      targets = rejoin_all (joins_by c.args.places.now (states_on c.args.targets.now)) 0 c.args.targets.now;
+      clock = some_none holds_line c.args.targets.now;
+      data_low = some_none (pulls_line node_table) c.args.targets.now;
+    }
+
+pub loop-left-preserved : goal.loop-left-preserved
+loop-left-preserved c =
+    let left = c.loop-left.left in
+    let now = c.loop-left.targets in
+    let places = c.args.places.now in
+    let joins = joins_by places (states_on c.args.targets.now) in
+    let i = c.loop-left.invariant in
+    let next : left ≡ suc (left - 1) = omega arith in
+    let lt : left - 1 < length now = omega arith in
+    let at = c.index-targets-left.result in
+    let new = c.set_joined.new.target in
+    let read : c.joins_by-joined.result ≡ joins (left - 1) =
+    c.joins_by-joined.ensures ∙ ap (λ xs. joins_by places xs (left - 1)) i.states in
+    record {
+      few = omega (arith, i.few, length-set now (left - 1) new);
+      states = states_set (left - 1) now at new (ap (λ b. b.site.state) c.set_joined.ensures) ∙ i.states;
+      targets = next_back (joined_by joins) left (left - 1) now at new next lt
+          (c.set_joined.ensures ∙ ap (λ j. read_anew j (get_or now (left - 1) at)) read)
+          ∙ i.targets;
+      clock = c.pulls_with-pulls.ensures.clock ∙ ap (λ b. holds_line new || b) i.clock ∙ some_back holds_line left (left - 1) now new next lt;
+      data_low = c.pulls_with-pulls.ensures.data ∙ ap (λ b. pulls_line node_table new || b) i.data_low
+          ∙ some_back (pulls_line node_table) left (left - 1) now new next lt;
+    }

@@ -1,0 +1,8 @@
+use Rattle.std.proofs.Common.{◌≡◌, ◌++◌, map, take}
+use Rattle.i2c_board.specs.Layouts.{board_of}
+use Rattle.bus_lines.specs.Opens.{chip_bit}
+use Rattle.bus_lines.proofs.opening.add_chips.Given as goal
+
+-- so many stand there
+abbrev pub invariant-loop-mux : goal.invariant-loop-mux
+invariant-loop-mux l = l.bits.items ≡ l.fn.bits.items ++ map chip_bit (take l.mux-index (board_of l.fn.layout).muxes)

@@ -1,0 +1,141 @@
+//! The two lines of a root with its targets on them.
+ghost use Rattle.std.specs.Prelude.{◌≡◌, false, true, cond, min, IfOk};
+ghost use Rattle.ports.specs.Causes.{MOST};
+ghost use Rattle.i2c_spec.specs.World.{opening_world};
+ghost use Rattle.wire_spec.specs.Bus.{edge, each, rises, scl_level, sda_level};
+ghost use Rattle.wire_spec.specs.Wires.{tick};
+ghost use Rattle.wire_spec.specs.Sites.{node_table, mask_of};
+ghost use Rattle.i2c_bits.specs.Wiring.{AreLetGo};
+ghost use Rattle.i2c_bits.specs.Stands.{IsFree, world_at};
+
+use crate::root_targets::RootTargets;
+use crate::wire_state::WireState;
+use i2c_base::{MuxId, NoMemory, SegId};
+use i2c_bits::Lines;
+use i2c_board::Accepted;
+use std::alloc::Global;
+use std::marker::Model;
+use wire_spec::{chips_stand_before_devices, the_sites_of_a_board_are_its_worlds};
+
+/// The two lines of a root, SCL and SDA, with its targets on them: a line is low exactly where the controller or a target pulls
+/// it (UM10204 section 3.1.1). A contract sees the board and the root, the lines, and what the pulls and looks have come to.
+#[derive(Drop)]
+pub struct BusLines {
+    targets: RootTargets,
+    wire: WireState,
+}
+
+impl Model for BusLines {
+    ghost use Rattle.bus_lines.specs.LinesViews.{LinesView, lines_of};
+
+    ghost Value = { LinesView };
+
+    ghost view = { λ l. lines_of l.targets l.wire };
+}
+
+impl BusLines {
+    /// The lines of this root as the board is opened: both are free, and nobody is in a message.
+    pub fn open(alloc: Global, board: &Accepted, root: SegId) -> Result<Self, NoMemory>
+        ensures rooted { IfOk result (λ lines. lines.rooted ≡ record { board = board.now; root = root }) }
+        ensures let_go { IfOk result (λ lines. AreLetGo lines.wire) }
+        ensures free { IfOk result (λ lines. IsFree lines.rooted lines.bus) }
+        ensures world { IfOk result (λ lines. world_at lines.rooted false lines.bus ≡ opening_world board.now root) }
+    {
+        board.board().roots();
+        chips_stand_before_devices();
+        the_sites_of_a_board_are_its_worlds();
+        Ok(BusLines {
+            targets: RootTargets::open(alloc, board, root)?,
+            wire: WireState::free(),
+        })
+    }
+
+    /// How often SCL rose, up to 2^64 - 1.
+    pub fn edges(&self) -> u64
+        ensures { result ≡ min self.now.bus.counts.edges MOST }
+    {
+        self.targets.edges()
+    }
+
+    /// How often SDA changed while SCL was high, a start or a stop each (UM10204 section 3.1.4), up to 2^64 - 1.
+    pub fn flips(&self) -> u64
+        ensures { result ≡ min self.now.bus.counts.flips MOST }
+    {
+        self.targets.flips()
+    }
+
+    /// The level of SCL: true is high.
+    fn clock_high(&self) -> bool
+        ensures { result ≡ scl_level self.now.bus }
+    {
+        !self.wire.pulls_clock() && !self.targets.holds_clock()
+    }
+
+    /// The level of SDA: true is high.
+    fn data_high(&self) -> bool
+        ensures { result ≡ sda_level node_table self.now.bus }
+    {
+        !self.wire.pulls_data() && !self.targets.pulls_data()
+    }
+
+    /// The levels have changed, from these: the targets see it.
+    fn change(&mut self, clock_was: bool, data_was: bool)
+        ensures { self.new ≡ record self.old { bus = edge node_table (mask_of self.old.rooted.board self.old.rooted.root) clock_was data_was self.old.bus } }
+    {
+        let clock = self.clock_high();
+        let data = self.data_high();
+        if !clock_was {
+            if clock {
+                self.targets.rise(data);
+            }
+        } else if !clock {
+            self.targets.fall();
+        } else if data_was && !data {
+            self.targets.begin();
+        } else if !data_was && data {
+            self.targets.finish();
+        }
+    }
+
+    /// SCL was looked at and was low: who holds it has a look less to go, and SCL rises where that was the last.
+    fn tick(&mut self)
+        ensures { self.new ≡ record self.old { bus = cond (scl_level (each tick self.old.bus)) (rises node_table (each tick self.old.bus)) (each tick self.old.bus) } }
+    {
+        self.targets.tick();
+        if self.clock_high() {
+            let data = self.data_high();
+            self.targets.rise(data);
+        }
+    }
+}
+
+impl Lines for BusLines {
+    ghost tells = { true };
+
+    ghost wire = { λ l. l.wire };
+
+    ghost board = { λ l. l.rooted };
+
+    ghost bus = { λ l. l.bus };
+
+    fn pull(&mut self, scl: bool, sda: bool) {
+        let clock_was = self.clock_high();
+        let data_was = self.data_high();
+        self.wire.pull(scl, sda);
+        self.change(clock_was, data_was);
+    }
+
+    fn look(&mut self) -> (bool, bool) {
+        let clock = self.clock_high();
+        let data = self.data_high();
+        self.wire.look(clock, data);
+        if !clock {
+            self.tick();
+        }
+        (clock, data)
+    }
+
+    fn line(&mut self, mux: MuxId, level: u8) {
+        self.targets.set_line(mux, level);
+    }
+}

@@ -1,0 +1,78 @@
+//! Who is joined to the wires after a stop.
+ghost use Rattle.std.specs.Prelude.{◌≡◌, length};
+ghost use Rattle.wire_spec.specs.Roots.{some_one, pulls_line};
+ghost use Rattle.wire_spec.specs.Bus.{holds_line, rejoin_from};
+ghost use Rattle.wire_spec.specs.Sites.{node_table};
+ghost use Rattle.bus_lines.specs.Joins.{at_node_level, joins_by, read_anew, states_on};
+ghost use Rattle.i2c_bits.specs.Wiring.{levelled_bits};
+
+use crate::Node;
+use crate::edges::{Pulls, pulls_with};
+use crate::place::Place;
+use i2c_base::MuxId;
+use tgt_bits::BitTarget;
+
+/// The target of this number is joined.
+fn joins_by(places: &[Place], targets: &[BitTarget<Node>], number: usize) -> bool
+    ensures { result ≡ joins_by places.now (states_on targets.now) number }
+{
+    match places.get(number) {
+        Some(place) => place.joins(targets),
+        None => false,
+    }
+}
+
+/// The target is joined, or isn't, and isn't in a message.
+fn set_joined(target: &mut BitTarget<Node>, joined: bool)
+    ensures { target.new ≡ read_anew joined target.old }
+{
+    target.joined = joined;
+    target.heard = false;
+}
+
+/// Who is joined is read anew from the states of all targets, and nobody is in a message. Who pulls the lines then.
+pub fn rejoin(targets: &mut Vec<BitTarget<Node>>, places: &[Place]) -> Pulls
+    ensures targets { targets.new.items ≡ rejoin_from (joins_by places.now (states_on targets.old.items)) 0 targets.old.items }
+    ensures clock { result.clock ≡ some_one holds_line targets.new.items }
+    ensures data { result.data ≡ some_one (pulls_line node_table) targets.new.items }
+{
+    rejoin_each(targets, places)
+}
+
+/// The same of a slice. It goes from the last one back.
+fn rejoin_each(targets: &mut [BitTarget<Node>], places: &[Place]) -> Pulls
+    ensures targets { targets.new ≡ rejoin_from (joins_by places.now (states_on targets.old)) 0 targets.old }
+    ensures clock { result.clock ≡ some_one holds_line targets.new }
+    ensures data { result.data ≡ some_one (pulls_line node_table) targets.new }
+{
+    let mut pulls = Pulls {
+        clock: false,
+        data: false,
+    };
+    let mut left = targets.len();
+    while left > 0 {
+        left -= 1;
+        let joined = joins_by(places, targets, left);
+        let target = &mut targets[left];
+        set_joined(target, joined);
+        pulls = pulls_with(target, pulls);
+    }
+    pulls
+}
+
+/// The line of the mux of this number is set to a level, where it is one.
+pub fn set_level(targets: &mut Vec<BitTarget<Node>>, mux: MuxId, level: u8)
+    ensures { targets.new.items ≡ levelled_bits mux level targets.old.items }
+{
+    let number = usize::from(mux.0);
+    if number < targets.len() {
+        set_level_of(&mut targets[number], level);
+    }
+}
+
+/// The level of a mux's line is set.
+fn set_level_of(target: &mut BitTarget<Node>, level: u8)
+    ensures { target.new ≡ at_node_level level target.old }
+{
+    target.target.set_level(level);
+}

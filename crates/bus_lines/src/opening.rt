@@ -1,0 +1,96 @@
+//! The targets of a board and their places, as it is opened.
+ghost use Rattle.std.specs.Prelude.{◌≡◌, ◌++◌, IfOk, OnOk, map};
+ghost use Rattle.i2c_spec.specs.Plain.{IsPlainBoard, IsPlainDevice};
+ghost use Rattle.i2c_board.specs.Layouts.{board_of};
+ghost use Rattle.bus_lines.specs.Joins.{mux_place, device_place};
+ghost use Rattle.bus_lines.specs.Opens.{chip_bit, device_bit};
+
+use crate::Node;
+use crate::place::Place;
+use i2c_base::{DeviceSpec, MuxSpec, NoMemory, SegId};
+use i2c_board::Layout;
+use std::alloc::Global;
+use targets::DeviceState;
+use tgt_bits::BitTarget;
+use tgt_mux::Chip;
+
+/// No address byte names this address: it has more than seven bits.
+const NO_ADDRESS: u8 = 128;
+
+/// The chip of a mux, which isn't joined yet.
+fn open_chip(mux: &MuxSpec) -> BitTarget<Node>
+    ensures { result ≡ chip_bit mux.now }
+{
+    let addr = match mux.addr {
+        Some(addr) => addr.get(),
+        None => NO_ADDRESS,
+    };
+    BitTarget::released(addr, false, Node::of_chip(Chip::open(mux)))
+}
+
+/// A device, which isn't joined yet.
+fn open_device(alloc: Global, device: &DeviceSpec) -> Result<BitTarget<Node>, NoMemory>
+    requires { IsPlainDevice device.now }
+    ensures { IfOk result (λ target. target ≡ device_bit device.now) }
+{
+    let state = DeviceState::open(alloc, device)?;
+    Ok(BitTarget::released(device.addr.get(), false, Node::of_device(state)))
+}
+
+/// The chips of all muxes, behind these targets.
+pub fn add_chips(layout: Layout<'_>, bits: &mut Vec<BitTarget<Node>>) -> Result<(), NoMemory>
+    ensures { OnOk result (bits.new.items ≡ bits.old.items ++ map chip_bit layout.entry.muxes.now) }
+{
+    for mux in layout.muxes {
+        bits.push(open_chip(mux))?;
+    }
+    Ok(())
+}
+
+/// The devices, behind these targets.
+pub fn add_devices(
+    alloc: Global,
+    layout: Layout<'_>,
+    bits: &mut Vec<BitTarget<Node>>,
+) -> Result<(), NoMemory>
+    requires { IsPlainBoard (board_of layout) }
+    ensures { OnOk result (bits.new.items ≡ bits.old.items ++ map device_bit (board_of layout.entry).devices) }
+{
+    for device in layout.devices {
+        bits.push(open_device(alloc, device)?)?;
+    }
+    Ok(())
+}
+
+/// The places of the chips of all muxes, behind these places.
+pub fn add_mux_places(
+    alloc: Global,
+    layout: Layout<'_>,
+    root: SegId,
+    places: &mut Vec<Place>,
+) -> Result<(), NoMemory>
+    requires { IsPlainBoard (board_of layout) }
+    ensures { OnOk result (places.new.items ≡ places.old.items ++ map (mux_place (board_of layout.entry) root) layout.entry.muxes.now) }
+{
+    for mux in layout.muxes {
+        let there = !mux.absent && mux.addr.is_some();
+        places.push(Place::open(alloc, layout, root, mux.bus, there)?)?;
+    }
+    Ok(())
+}
+
+/// The places of the devices, behind these places.
+pub fn add_device_places(
+    alloc: Global,
+    layout: Layout<'_>,
+    root: SegId,
+    places: &mut Vec<Place>,
+) -> Result<(), NoMemory>
+    requires { IsPlainBoard (board_of layout) }
+    ensures { OnOk result (places.new.items ≡ places.old.items ++ map (device_place (board_of layout.entry) root) layout.entry.devices.now) }
+{
+    for device in layout.devices {
+        places.push(Place::open(alloc, layout, root, device.bus, true)?)?;
+    }
+    Ok(())
+}

@@ -1,0 +1,73 @@
+//! Where a target stands, and whether it is joined to the wires.
+ghost use Rattle.std.specs.Prelude.{◌≡◌, IfOk};
+ghost use Rattle.std.specs.List.{list_all};
+ghost use Rattle.i2c_board.specs.Layouts.{board_of};
+ghost use Rattle.i2c_spec.specs.Plain.{IsPlainBoard};
+ghost use Rattle.bus_lines.specs.Joins.{place_on, joins, opens_at, states_on};
+
+use crate::Node;
+use i2c_base::SegId;
+use i2c_board::{Hop, Layout};
+use std::alloc::{AllocError, Global};
+use std::marker::Model;
+use tgt_bits::BitTarget;
+
+/// Where a target stands, as one root has it. A contract sees the record of these parts.
+#[derive(Drop)]
+pub struct Place {
+    /// It is there, on a bus of that root.
+    wired: bool,
+    /// The muxes over its bus, nearest first.
+    above: Vec<Hop>,
+}
+
+impl Model for Place {
+    ghost use Rattle.bus_lines.specs.Joins.{PlaceView};
+
+    ghost Value = { PlaceView };
+
+    ghost view = { λ p. record { wired = p.wired; above = p.above.items } };
+}
+
+impl Place {
+    /// The place on this bus, of a target that is there or isn't.
+    pub fn open(
+        alloc: Global,
+        layout: Layout<'_>,
+        root: SegId,
+        bus: SegId,
+        there: bool,
+    ) -> Result<Self, AllocError>
+        requires { IsPlainBoard (board_of layout) }
+        ensures { IfOk result (λ p. p ≡ place_on (board_of layout.entry) root bus there) }
+    {
+        Ok(Place {
+            wired: there && layout.root(bus) == root,
+            above: layout.hops(bus).as_slice().to_vec(alloc)?,
+        })
+    }
+
+    /// It is joined to the wires: every mux over its bus has the channel open that leads there.
+    pub fn joins(&self, targets: &[BitTarget<Node>]) -> bool
+        ensures { result ≡ joins (states_on targets.now) self.now }
+    {
+        self.wired && opens_all(targets, self.above.as_slice())
+    }
+}
+
+/// Each of these hops is open.
+fn opens_all(targets: &[BitTarget<Node>], hops: &[Hop]) -> bool
+    ensures { result ≡ list_all (opens_at (states_on targets.now)) hops.now }
+{
+    hops.iter().all(|hop| opens(targets, hop))
+}
+
+/// The mux of this hop has the hop's channel open.
+fn opens(targets: &[BitTarget<Node>], hop: &Hop) -> bool
+    ensures { result ≡ opens_at (states_on targets.now) hop.now }
+{
+    match targets.get(usize::from(hop.mux.0)) {
+        Some(target) => target.target.opens(hop.channel),
+        None => false,
+    }
+}

@@ -1,0 +1,159 @@
+//! The targets of a root, on its two lines.
+ghost use Rattle.std.specs.Prelude.{◌≡◌, IfOk, map, min};
+ghost use Rattle.ports.specs.Causes.{MOST};
+ghost use Rattle.wire_spec.specs.Wires.{rise, fall, tick, begin, finish};
+ghost use Rattle.wire_spec.specs.Roots.{some_one, pulls_line, where_joined};
+ghost use Rattle.wire_spec.specs.Bus.{holds_line, one_edge, one_flip, rejoined};
+ghost use Rattle.wire_spec.specs.Sites.{node_table, mask_of};
+ghost use Rattle.i2c_bits.specs.Wiring.{levelled_bits};
+ghost use Rattle.bus_lines.specs.Edges.{seen};
+ghost use Rattle.bus_lines.specs.Opens.{opened_targets};
+
+use crate::Node;
+use crate::counter::Counter;
+use crate::edges::{Edge, Pulls, tell};
+use crate::joining::{rejoin, set_level};
+use crate::opening::{add_chips, add_device_places, add_devices, add_mux_places};
+use crate::place::Place;
+use i2c_base::{MuxId, NoMemory, SegId};
+use i2c_board::Accepted;
+use std::alloc::Global;
+use std::marker::Model;
+use std::snapshot::Snapshot;
+use tgt_bits::BitTarget;
+
+/// The targets of a root: a chip for each mux of the board, and then each of its devices, by number. Those of another root, and
+/// absent chips, are never joined. A contract sees them with the board and the root, and how often SCL rose and SDA changed
+/// while it was high.
+#[derive(Drop)]
+pub struct RootTargets {
+    board: Snapshot<Accepted>,
+    root: SegId,
+    places: Vec<Place>,
+    bits: Vec<BitTarget<Node>>,
+    pulls: Pulls,
+    counter: Counter,
+}
+
+impl Model for RootTargets {
+    ghost use Rattle.bus_lines.specs.LinesViews.{TargetsView, AreTargets};
+
+    ghost Value = { TargetsView };
+
+    ghost view = { λ t. record { rooted = record { board = t.board.value; root = t.root }; bits = t.bits.items; counts = t.counter } };
+
+    ghost invariant = { λ t. AreTargets (record { board = t.board.value; root = t.root }) t.places.items t.pulls.clock t.pulls.data t.bits.items };
+}
+
+impl RootTargets {
+    /// The targets of this root as the board is opened.
+    pub fn open(alloc: Global, board: &Accepted, root: SegId) -> Result<Self, NoMemory>
+        ensures { IfOk result (λ targets. targets ≡ opened_targets board.now root) }
+    {
+        let layout = board.board().layout();
+        let mut places = Vec::new(alloc);
+        add_mux_places(alloc, layout, root, &mut places)?;
+        add_device_places(alloc, layout, root, &mut places)?;
+        let mut bits = Vec::new(alloc);
+        add_chips(layout, &mut bits)?;
+        add_devices(alloc, layout, &mut bits)?;
+        let pulls = rejoin(&mut bits, places.as_slice());
+        Ok(RootTargets {
+            board: Snapshot::of(board),
+            root,
+            places,
+            bits,
+            pulls,
+            counter: Counter::none(),
+        })
+    }
+
+    /// Someone holds SCL low.
+    pub fn holds_clock(&self) -> bool
+        ensures { result ≡ some_one holds_line self.now.bits }
+    {
+        self.pulls.clock
+    }
+
+    /// Someone pulls SDA low.
+    pub fn pulls_data(&self) -> bool
+        ensures { result ≡ some_one (pulls_line node_table) self.now.bits }
+    {
+        self.pulls.data
+    }
+
+    /// How often SCL rose, up to 2^64 - 1.
+    pub fn edges(&self) -> u64
+        ensures { result ≡ min self.now.counts.edges MOST }
+    {
+        self.counter.edges()
+    }
+
+    /// How often there was a start or a stop, up to 2^64 - 1.
+    pub fn flips(&self) -> u64
+        ensures { result ≡ min self.now.counts.flips MOST }
+    {
+        self.counter.flips()
+    }
+
+    /// Each target that is joined sees an edge.
+    fn tell(&mut self, edge: Edge)
+        ensures { self.new ≡ record self.old { bits = map (where_joined (seen edge)) self.old.bits } }
+    {
+        self.pulls = tell(&mut self.bits, edge);
+    }
+
+    /// SCL rises, with SDA at this level.
+    pub fn rise(&mut self, level: bool)
+        ensures { self.new ≡ record self.old { bits = map (where_joined (λ b. rise node_table b level)) self.old.bits; counts = one_edge self.old.counts } }
+    {
+        self.counter.add_edge();
+        self.tell(Edge::Rise(level));
+    }
+
+    /// SCL falls.
+    pub fn fall(&mut self)
+        ensures { self.new ≡ record self.old { bits = map (where_joined fall) self.old.bits } }
+    {
+        self.tell(Edge::Fall);
+    }
+
+    /// SCL was looked at and was low.
+    pub fn tick(&mut self)
+        ensures { self.new ≡ record self.old { bits = map (where_joined tick) self.old.bits } }
+    {
+        self.tell(Edge::Tick);
+    }
+
+    /// A start: SDA falls while SCL is high.
+    pub fn begin(&mut self)
+        ensures { self.new ≡ record self.old { bits = map (where_joined begin) self.old.bits; counts = one_flip self.old.counts } }
+    {
+        self.counter.add_flip();
+        self.tell(Edge::Begin);
+    }
+
+    /// A stop: SDA rises while SCL is high, and who is joined is read anew.
+    pub fn finish(&mut self)
+        ensures { self.new ≡ record self.old { bits = rejoined (mask_of self.old.rooted.board self.old.rooted.root) (map (where_joined (finish node_table)) self.old.bits); counts = one_flip self.old.counts } }
+    {
+        self.counter.add_flip();
+        self.tell(Edge::Finish);
+        self.rejoin();
+    }
+
+    /// Who is joined is read anew from the states of all targets.
+    fn rejoin(&mut self)
+        ensures { self.new ≡ record self.old { bits = rejoined (mask_of self.old.rooted.board self.old.rooted.root) self.old.bits } }
+    {
+        self.pulls = rejoin(&mut self.bits, self.places.as_slice());
+    }
+
+    /// The line of a gpio mux is set, and who is joined is read anew.
+    pub fn set_line(&mut self, mux: MuxId, level: u8)
+        ensures { self.new ≡ record self.old { bits = rejoined (mask_of self.old.rooted.board self.old.rooted.root) (levelled_bits mux level self.old.bits) } }
+    {
+        set_level(&mut self.bits, mux, level);
+        self.pulls = rejoin(&mut self.bits, self.places.as_slice());
+    }
+}
