@@ -1,2 +1,3 @@
 -- The number that has come so far fits the bits that came.
 pub mod BitLemmas
+pub mod SendLemmas

@@ -69,7 +69,7 @@ impl<T: Wired> BitTarget<T> {
     }
 
     /// An address byte has come in: the address above the R/W bit (UM10204 section 3.1.10).
-    fn on_address(&mut self, byte: u8)
+    pub fn on_address(&mut self, byte: u8)
         ensures { self.new ≡ named T.table self.old.site byte }
     {
         if byte / 2 == self.addr {
