@@ -4,3 +4,5 @@ pub mod Shifts
 pub mod Told
 pub mod Starts
 pub mod Stops
+-- That a port may go to another thread.
+pub mod SendLemmas

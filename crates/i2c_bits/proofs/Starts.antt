@@ -1,5 +1,5 @@
 -- A start with its address byte, and what it comes to on told lines.
-use Rattle.std.proofs.Common.{◌≡◌, ℕ, ◌<◌, ◌/◌, Bool, true, false, cond, List, [], ◌∷◌, map, refl, ap, sym, ◌∙◌, arith, subst, inl, inr}
+use Rattle.std.proofs.Common.{◌≡◌, ℕ, ◌+◌, ◌<◌, ◌/◌, Bool, true, false, cond, List, [], ◌∷◌, map, refl, ap, sym, ◌∙◌, arith, subst, inl, inr}
 use Rattle.std.specs.Prelude.{not, ◌&&◌, ◌||◌, Result, Ok, Err}
 use Rattle.std.specs.List.{AllByRecursion}
 use Rattle.i2c_base.specs.Board.{BoardView}
@@ -14,7 +14,7 @@ use Rattle.wire_spec.specs.declared.mode.Mode.{Mode}
 use Rattle.wire_spec.specs.declared.mode.Mode.TheVariants.{Out, In}
 use Rattle.wire_spec.specs.Wires.{Site, Bit, LOOKS, bits, shifted, hears, other, is_named, is_reading}
 use Rattle.wire_spec.specs.Roots.{some_one, hearing}
-use Rattle.wire_spec.specs.Bus.{Counts, Bus, Came, came_up, gave_up, bit_step, bit_steps}
+use Rattle.wire_spec.specs.Bus.{Counts, Bus, Came, one_flip, came_up, gave_up, bit_step, bit_steps}
 use Rattle.wire_spec.specs.Started.{started, answers_so, answer_by, late, late_if, late_bus, rose, stays, entered_by}
 use Rattle.wire_spec.specs.Calls.{more_edges, within, within_address, start_pulls, let_both, repeated_start, sent_byte}
 use Rattle.wire_spec.specs.Sites.{NodeState, node_table, both, chips_in, devices_in, mask_of, AreSites, NO_ADDRESS}
@@ -23,6 +23,7 @@ use Rattle.wire_spec.specs.WorldLaws.{PartsOfBoth, StartOnSites}
 use Rattle.wire_spec.specs.CallLaws.{StartOnWires, SlowOnWires, answer_to}
 use Rattle.wire_spec.proofs.StartClocks.{address_bits}
 use Rattle.i2c_bits.specs.Wiring.{Rooted, the_table, mask_at, CameAnswer, CameStart}
+use Rattle.i2c_bits.specs.Counting.{begun_counts, start_counts}
 use Rattle.i2c_bits.specs.Stands.{AreTold, StandsIn, MayBegin, CalledTold, StartIs, StartTold, sites_of, chips_on, devices_on}
 use Rattle.i2c_bits.specs.declared.lines.Low.{Low}
 use Rattle.i2c_bits.proofs.Told.{On, on_lines, world_on, stands_on, all_kept, kept_where, shifted_same, sent_up}
@@ -39,29 +40,28 @@ pub again_low : (t : Table NodeState) (k : Rooted) (w w1 : Bus NodeState) → ga
     → (repeated_start t (mask_at k) w).0 ≡ false
 again_low t k w w1 e = sym (ap (λ (c : Came NodeState). c.up) e)
 
-with_counts : (w : Bus NodeState) (ss : List (Site NodeState)) (c : Counts) → w ≡ within_address 8 0 true ss c
-    → w ≡ within_address 8 0 true ss w.counts
-with_counts w ss c is = is ∙ ap (within_address 8 0 true ss) (sym (ap (λ x. x.counts) is))
-
 pub called_free : StartCallsAll node_table → (k : Rooted) (w w1 : Bus NodeState) → MayBegin false k w
-    → w1 ≡ start_pulls the_table (mask_at k) w → w1 ≡ within_address 8 0 true (both (chips_on w) (devices_on w)) w1.counts
+    → w1 ≡ start_pulls the_table (mask_at k) w
+    → w1 ≡ within_address 8 0 true (both (chips_on w) (devices_on w)) (one_flip w.counts)
 unfolding the_table
 called_free law k w w1 free is =
-    with_counts w1 (both (chips_on w) (devices_on w)) _
-    (is ∙ (ap (start_pulls node_table (mask_at k)) free.lines ∙ law (mask_at k) (both (chips_on w) (devices_on w)) w.counts))
+    is ∙ (ap (start_pulls node_table (mask_at k)) free.lines ∙ law (mask_at k) (both (chips_on w) (devices_on w)) w.counts)
 
 called_within : (m : Mode) → RepeatedStartCallsAll node_table m → (k : Rooted) (w w1 : Bus NodeState) → StandsIn k m w
-    → (r : Result (Unit {0}) Low) → CameStart r w1 (repeated_start the_table (mask_at k) w) → CalledTold r w w1
+    → (r : Result (Unit {0}) Low) → CameStart r w1 (repeated_start the_table (mask_at k) w) → CalledTold true r w w1
 unfolding the_table
 called_within m law k w w1 stands (Ok u) is =
-    with_counts w1 (both (chips_on w) (devices_on w)) _ (ap (λ (p : Bool × Bus NodeState). p.1)
-    (is ∙ (ap (repeated_start node_table (mask_at k)) stands.lines ∙ law (mask_at k) w.sda (both (chips_on w) (devices_on w)) w.counts)))
+    ap (λ (p : Bool × Bus NodeState). p.1)
+    (is
+    ∙ (ap (repeated_start node_table (mask_at k)) stands.lines
+    ∙ law (mask_at k) w.sda (both (chips_on w) (devices_on w)) w.counts))
 called_within m law k w w1 stands (Err e) is =
     let p : false ≡ true = sym is ∙ ap (λ (p : Bool × Bus NodeState). p.0)
     (ap (repeated_start node_table (mask_at k)) stands.lines ∙ law (mask_at k) w.sda (both (chips_on w) (devices_on w)) w.counts) in cc
 
 pub called_again : RepeatedStartCallsAll node_table (In false 8 0) → RepeatedStartCallsAll node_table Out → (k : Rooted) (w w1 : Bus NodeState)
-    → MayBegin true k w → (r : Result (Unit {0}) Low) → CameStart r w1 (repeated_start the_table (mask_at k) w) → CalledTold r w w1
+    → MayBegin true k w → (r : Result (Unit {0}) Low) → CameStart r w1 (repeated_start the_table (mask_at k) w)
+    → CalledTold true r w w1
 called_again written out k w w1 (inl stands) r is = called_within (In false 8 0) written k w w1 stands r is
 called_again written out k w w1 (inr stands) r is = called_within Out out k w w1 stands r is
 
@@ -190,6 +190,11 @@ slow_is Slow is = refl
 slow_is (Byte byte) is = cc
 slow_is Nothing is = cc
 
+-- ---- the clock pulses of the address byte
+nine_more : (busy : Bool) (c : Counts) → more_edges 9 (begun_counts busy c) ≡ start_counts busy c
+nine_more false c = refl
+nine_more true c = ap (λ n. record { edges = n; flips = c.flips + 1 }) (omega arith)
+
 -- ---- what a start is
 module _ (parts : (cs : List (Site ChipView)) (ds : List (Site TargetState)) → PartsOfBoth cs ds) (keeps : KeepsBytes state_table HoldsBytes)
     (in_time : StartOnWires) (slow : SlowOnWires)
@@ -197,7 +202,10 @@ module _ (parts : (cs : List (Site ChipView)) (ds : List (Site TargetState)) →
     → byte / 2 < NO_ADDRESS → AreSites b r cs ds → StartOnSites b r busy byte cs ds)
     (unheard : UnheardIsOut node_table) (k : Rooted) (busy : Bool) (byte : ℕ) (lt : byte < 256) (w w1 w2 : Bus NodeState)
     (told : AreTold k (chips_on w) (devices_on w))
-    (called : w1 ≡ within_address 8 0 true (both (chips_on w) (devices_on w)) w1.counts) where
+    (called : w1 ≡ within_address 8 0 true (both (chips_on w) (devices_on w)) (begun_counts busy w.counts)) where
+  abbrev counts : Counts
+  counts = begun_counts busy w.counts
+
   abbrev chips : List (Site ChipView)
   chips = map (started chip_table byte) (chips_on w)
 
@@ -217,25 +225,27 @@ module _ (parts : (cs : List (Site ChipView)) (ds : List (Site TargetState)) →
   told_after = record { sites = site.kept; bytes = started_bytes keeps byte (devices_on w) told.bytes }
 
   comes : is_slow given ≡ false
-      → sent ≡ came_up (shifted 0 (not (is_ack given))) (within (entered_by byte) false (both chips devices) (more_edges 9 w1.counts))
+      → sent
+      ≡ came_up (shifted 0 (not (is_ack given))) (within (entered_by byte) false (both chips devices) (more_edges 9 counts))
   unfolding the_table mask_at
   comes none =
       ap (sent_byte node_table (mask_of k.board k.root) byte) called
-      ∙ in_time k.board k.root byte lt busy true (chips_on w) (devices_on w) w1.counts told.sites none
+      ∙ in_time k.board k.root byte lt busy true (chips_on w) (devices_on w) counts told.sites none
 
   stays_low : is_slow given ≡ true
       → sent ≡ gave_up (late_bus node_table byte (both (chips_on w) (devices_on w))
-      (rose (some_one (stays node_table byte LOOKS) (both (chips_on w) (devices_on w))) (more_edges 8 w1.counts)))
+      (rose (some_one (stays node_table byte LOOKS) (both (chips_on w) (devices_on w))) (more_edges 8 counts)))
   unfolding the_table mask_at
   stays_low some =
       ap (sent_byte node_table (mask_of k.board k.root) byte) called
-      ∙ slow k.board k.root byte lt busy true (chips_on w) (devices_on w) w1.counts told.sites some
+      ∙ slow k.board k.root byte lt busy true (chips_on w) (devices_on w) counts told.sites some
 
   eight_up : (bit_steps the_table (mask_at k) 0 (bits 8 byte) w1).up ≡ true
   unfolding the_table
   eight_up =
       ap (λ x. (bit_steps node_table (mask_at k) 0 (bits 8 byte) x).up) called
-      ∙ ap (λ (c : Came NodeState). c.up) (address_bits node_table (mask_at k) byte lt true (both (chips_on w) (devices_on w)) w1.counts)
+      ∙ ap (λ (c : Came NodeState). c.up)
+      (address_bits node_table (mask_at k) byte lt true (both (chips_on w) (devices_on w)) counts)
 
   acked : (is : Bool) → is_slow given ≡ is → came_up (shifted 0 false) w2 ≡ sent → StartIs k busy Ack byte w w2
   acked true s e = let p : true ≡ false = ap (λ (c : Came NodeState). c.up) (e ∙ stays_low s) in cc
@@ -244,8 +254,9 @@ module _ (parts : (cs : List (Site ChipView)) (ds : List (Site TargetState)) →
       let on : On w2 chips devices = on_lines parts w2 chips devices (entered_by byte) (ap (λ c. c.bus.targets) f) in
       record {
         answer = ack_is given (shifted_same true (is_ack given) (ap (λ c. c.read) f));
-        stands = stands_on k (entered_by byte) w2 false (more_edges 9 w1.counts) chips devices on (ap (λ c. c.bus) f) told_after;
+        stands = stands_on k (entered_by byte) w2 false (more_edges 9 counts) chips devices on (ap (λ c. c.bus) f) told_after;
         world = world_on k true w2 chips devices on ∙ site.world;
+        counts = ap (λ c. c.bus.counts) f ∙ nine_more busy w.counts;
       }
 
   refused : (is : Bool) → is_slow given ≡ is → came_up (shifted 0 true) w2 ≡ sent → StartIs k busy Nack byte w w2
@@ -259,13 +270,14 @@ module _ (parts : (cs : List (Site ChipView)) (ds : List (Site TargetState)) →
       let no_ack : took ≡ false = ack_by held took no_hold (sym (ap is_ack site.answered) ∙ none) in
       let nobody : some_one hearing (both chips devices) ≡ false =
       ap (some_one hearing) (sym site.parts) ∙ unheard_all node_table byte (both (chips_on w) (devices_on w)) no_hold no_ack in
-      let bus : w2 ≡ within Out false (both chips devices) (more_edges 9 w1.counts) =
-      ap (λ c. c.bus) f ∙ unheard (entered_by byte) false (both chips devices) (more_edges 9 w1.counts) nobody in
+      let bus : w2 ≡ within Out false (both chips devices) (more_edges 9 counts) =
+      ap (λ c. c.bus) f ∙ unheard (entered_by byte) false (both chips devices) (more_edges 9 counts) nobody in
       let on : On w2 chips devices = on_lines parts w2 chips devices Out (ap (λ x. x.targets) bus) in
       record {
         answer = nack_by held took no_hold no_ack ∙ sym site.answered;
-        stands = stands_on k Out w2 false (more_edges 9 w1.counts) chips devices on bus told_after;
+        stands = stands_on k Out w2 false (more_edges 9 counts) chips devices on bus told_after;
         world = world_on k true w2 chips devices on ∙ site.world;
+        counts = ap (λ x. x.counts) bus ∙ nine_more busy w.counts;
       }
 
   held_long : (is : Bool) → is_slow given ≡ is → gave_up w2 ≡ sent → StartIs k busy Slow byte w w2
@@ -283,6 +295,7 @@ module _ (parts : (cs : List (Site ChipView)) (ds : List (Site TargetState)) →
           told = told;
         };
         world = world_on k true w2 chips devices (on_late parts k busy byte (chips_on w) (devices_on w) site w2 _ f) ∙ site.world;
+        counts = tt;
       }
 
   pub start_told : (r : Result Answer Low) → CameAnswer r w2 (bit_steps the_table (mask_at k) 0 (bits 8 byte) w1) sent → StartTold k busy r byte w w2

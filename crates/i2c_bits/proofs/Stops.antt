@@ -1,5 +1,5 @@
 -- A stop, and the line of a mux, and what they come to on told lines.
-use Rattle.std.proofs.Common.{◌≡◌, ℕ, zero, suc, ◌+◌, ◌<◌, ◌/◌, Bool, true, false, cond, List, [], ◌∷◌, map, refl, ap, sym, ◌∙◌, arith, inl, inr}
+use Rattle.std.proofs.Common.{◌≡◌, ℕ, zero, suc, ◌+◌, ◌<◌, ◌/◌, Bool, true, false, cond, List, [], ◌∷◌, map, refl, ap, sym, ◌∙◌, arith, subst, inl, inr}
 use Rattle.std.specs.Prelude.{◌&&◌, Result, Ok, Err}
 use Rattle.std.specs.List.{AllByRecursion}
 use Rattle.i2c_base.specs.Board.{BoardView}
@@ -21,6 +21,7 @@ use Rattle.wire_spec.specs.WorldLaws.{PartsOfBoth, StartOnSites, StopOnSites, Li
 use Rattle.wire_spec.specs.CallLaws.{StopOnWires, StopAfterSlowOnWires}
 use Rattle.wire_spec.proofs.SiteLemmas.{rejoin_both}
 use Rattle.i2c_bits.specs.Wiring.{Rooted, the_table, mask_at, came_stop, levelled_bits, lined}
+use Rattle.i2c_bits.specs.Counting.{StopCounts}
 use Rattle.i2c_bits.specs.Stands.{AreTold, StandsIn, IsFree, IsLate, MayEnd, StopIs, StopTold, LineIs, chips_on, devices_on, world_at}
 use Rattle.i2c_bits.specs.declared.lines.Low.{Low}
 use Rattle.i2c_bits.proofs.Told.{On, on_lines, world_on, told_on, all_kept, kept_where, sites_map}
@@ -48,7 +49,8 @@ pub pulled_first : (t : Table NodeState) (k k1 : Rooted) (w w1 w2 : Bus NodeStat
 pulled_first t k k1 w w1 w2 r same e f = f ∙ (ap (λ m. slow_stop t (mask_at m) w1) same ∙ ap (slow_stop t (mask_at k)) e)
 
 -- ---- what is read anew keeps its state
-all_joined : (f : ℕ → Bool) (n : ℕ) (ds : List (Site TargetState)) → AllByRecursion (λ (s : Site TargetState). HoldsBytes s.state) ds
+pub all_joined : (f : ℕ → Bool) (n : ℕ) (ds : List (Site TargetState))
+    → AllByRecursion (λ (s : Site TargetState). HoldsBytes s.state) ds
     → AllByRecursion (λ (s : Site TargetState). HoldsBytes s.state) (joined_from f n ds)
 all_joined f n [] all = tt
 all_joined f n (d ∷ ds) all = (all.0, all_joined f (n + 1) ds all.1)
@@ -69,9 +71,10 @@ free_on k w c cs ds on is told nobody = record {
 module _ (parts : (cs : List (Site ChipView)) (ds : List (Site TargetState)) → PartsOfBoth cs ds) (keeps : KeepsBytes state_table HoldsBytes)
     (sites : (b : BoardView) (r : ℕ) (busy : Bool) (cs : List (Site ChipView)) (ds : List (Site TargetState))
     → AreSites b r cs ds → StopOnSites b r busy cs ds) (k : Rooted) (w w1 : Bus NodeState) where
-  frees : (cs : List (Site ChipView)) (ds : List (Site TargetState)) (c : Counts) → On w cs ds → AreTold k cs ds
-      → w1 ≡ free (both (stopped_chips k.board k.root cs ds) (stopped_devices k.board k.root cs ds)) c → StopIs k w w1
-  frees cs ds c on told is =
+  frees : (late : Bool) (cs : List (Site ChipView)) (ds : List (Site TargetState)) (c : Counts) → On w cs ds → AreTold k cs ds
+      → w1 ≡ free (both (stopped_chips k.board k.root cs ds) (stopped_devices k.board k.root cs ds)) c
+      → StopCounts late w.counts c → StopIs k late w w1
+  frees late cs ds c on told is counts =
       let cs1 : List (Site ChipView) = stopped_chips k.board k.root cs ds in
       let ds1 : List (Site TargetState) = stopped_devices k.board k.root cs ds in
       let site : StopOnSites k.board k.root true cs ds = sites k.board k.root true cs ds told.sites in
@@ -87,23 +90,24 @@ module _ (parts : (cs : List (Site ChipView)) (ds : List (Site TargetState)) →
             })
             (ap (λ v. v.hearing) world);
         world = world;
+        counts = subst (StopCounts late w.counts) (sym (ap (λ x. x.counts) is)) counts;
       }
 
   within_told : (m : Mode) → StopOnWires m → StandsIn k m w → (r : Result (Unit {0}) Low) → came_stop r w1 ≡ stop_pulls the_table (mask_at k) w
-      → StopTold k r w w1
+      → StopTold k false r w w1
   unfolding the_table mask_at
   within_told m wires stands (Ok u) is =
       let e = is ∙ (ap (stop_pulls node_table (mask_of k.board k.root)) stands.lines
       ∙ wires k.board k.root w.sda (chips_on w) (devices_on w) w.counts) in
-      frees (chips_on w) (devices_on w) (one_flip (one_edge w.counts)) (record { chips = refl; devices = refl }) stands.told
-      (ap (λ (p : Bool × Bus NodeState). p.1) e)
+      frees false (chips_on w) (devices_on w) (one_flip (one_edge w.counts)) (record { chips = refl; devices = refl }) stands.told
+      (ap (λ (p : Bool × Bus NodeState). p.1) e) refl
   within_told m wires stands (Err l) is =
       let e = is ∙ (ap (stop_pulls node_table (mask_of k.board k.root)) stands.lines
       ∙ wires k.board k.root w.sda (chips_on w) (devices_on w) w.counts) in
       let p : false ≡ true = ap (λ (p : Bool × Bus NodeState). p.0) e in cc
 
   pub stop_told : StopOnWires (In false 8 0) → StopOnWires Out → MayEnd false k w → (r : Result (Unit {0}) Low)
-      → came_stop r w1 ≡ stop_pulls the_table (mask_at k) w → StopTold k r w w1
+      → came_stop r w1 ≡ stop_pulls the_table (mask_at k) w → StopTold k false r w w1
   stop_told written out (inl stands) r is = within_told (In false 8 0) written stands r is
   stop_told written out (inr stands) r is = within_told Out out stands r is
 
@@ -123,16 +127,16 @@ module _ (parts : (cs : List (Site ChipView)) (ds : List (Site TargetState)) →
   pub slow_told : StopAfterSlowOnWires
       → ((b : BoardView) (r : ℕ) (busy : Bool) (byte : ℕ) (cs : List (Site ChipView)) (ds : List (Site TargetState))
       → byte / 2 < NO_ADDRESS → AreSites b r cs ds → StartOnSites b r busy byte cs ds)
-      → IsLate k w → (r : Result (Unit {0}) Low) → came_stop r w1 ≡ slow_stop the_table (mask_at k) w → StopTold k r w w1
+      → IsLate k w → (r : Result (Unit {0}) Low) → came_stop r w1 ≡ slow_stop the_table (mask_at k) w → StopTold k true r w w1
   slow_told wires starts late (Err l) is = let p : false ≡ true = ap (λ (p : Bool × Bus NodeState). p.0) (is ∙ slow_is wires late) in cc
   slow_told wires starts late (Ok u) is =
       let fits : late.byte < 256 = late.fits in
       let site : StartOnSites k.board k.root true late.byte late.chips late.devices =
       starts k.board k.root true late.byte late.chips late.devices (omega (arith, fits)) late.told.sites in
-      frees (map (started chip_table late.byte) late.chips) (map (started state_table late.byte) late.devices) _
+      frees true (map (started chip_table late.byte) late.chips) (map (started state_table late.byte) late.devices) _
       (on_late parts k true late.byte late.chips late.devices site w w.counts late.lines)
       (record { sites = site.kept; bytes = started_bytes keeps late.byte late.devices late.told.bytes })
-      (ap (λ (p : Bool × Bus NodeState). p.1) (is ∙ slow_is wires late))
+      (ap (λ (p : Bool × Bus NodeState). p.1) (is ∙ slow_is wires late)) tt
 
 -- ---- the line of a mux
 level_devices : (m level : ℕ) (ds : List (Site TargetState))
@@ -147,20 +151,22 @@ level_both m level [] ds = level_devices m level ds
 level_both zero level (c ∷ cs) ds = refl
 level_both (suc m) level (c ∷ cs) ds = ap (λ bs. at Out (site_with Chip c) ∷ bs) (level_both m level cs ds)
 
-out_either : (a b : Bool) → cond {A = Mode} a Out Out ≡ cond {A = Mode} b Out Out
+pub out_either : (a b : Bool) → cond {A = Mode} a Out Out ≡ cond {A = Mode} b Out Out
 out_either true true = refl
 out_either true false = refl
 out_either false true = refl
 out_either false false = refl
 
-rejoin_out : (f : ℕ → Bool) (n : ℕ) (ss : List (Site NodeState)) → rejoin_from f n (map (at Out) ss) ≡ map (at Out) (joined_from f n ss)
+pub rejoin_out : (f : ℕ → Bool) (n : ℕ) (ss : List (Site NodeState))
+    → rejoin_from f n (map (at Out) ss) ≡ map (at Out) (joined_from f n ss)
 rejoin_out f n [] = refl
 rejoin_out f n (s ∷ ss) =
     ap (λ (m : Mode). record { site = record s { joined = f n; heard = false }; mode = m; hold = 0 } ∷ rejoin_from f (n + 1) (map (at Out) ss))
     (out_either (hearing s) (f n && false))
     ∙ ap (λ bs. at Out (record s { joined = f n; heard = false }) ∷ bs) (rejoin_out f (n + 1) ss)
 
-rejoined_out : (mask : Mask NodeState) (ss : List (Site NodeState)) → rejoined mask (map (at Out) ss) ≡ map (at Out) (rejoin mask ss)
+pub rejoined_out : (mask : Mask NodeState) (ss : List (Site NodeState))
+    → rejoined mask (map (at Out) ss) ≡ map (at Out) (rejoin mask ss)
 rejoined_out mask ss =
     ap (λ xs. rejoin_from (mask xs) 0 (map (at Out) ss)) (sites_map Out ss) ∙ rejoin_out (mask ss) 0 ss
 
@@ -196,4 +202,5 @@ module _ (parts : (cs : List (Site ChipView)) (ds : List (Site TargetState)) →
             (record { sites = site.kept; bytes = all_joined _ 0 (devices_on w) is_free.told.bytes })
             (ap (λ v. v.hearing) world ∙ is_free.nobody);
         world = world;
+        counts = ap (λ x. x.counts) lined_free;
       }

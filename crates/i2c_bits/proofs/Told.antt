@@ -175,6 +175,7 @@ module _ (parts : (cs : List (Site ChipView)) (ds : List (Site TargetState)) →
                   (devices_on w) stands.told.bytes;
             });
         world = world_on k true w1 (chips_put byte) (devices_put byte) on ∙ site.world;
+        counts = ap (λ c. c.bus.counts) comes;
       }
 
   get_comes : GetOnWires → (ack : Bool) → StandsIn k (Give 8) w
@@ -208,4 +209,5 @@ module _ (parts : (cs : List (Site ChipView)) (ds : List (Site TargetState)) →
                   (devices_on w) stands.told.bytes;
             });
         world = world_on k true w1 (chips_got ack) (devices_got ack) on ∙ site.world;
+        counts = ap (λ c. c.bus.counts) comes;
       }

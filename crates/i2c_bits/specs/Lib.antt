@@ -1,4 +1,5 @@
--- What is seen of lines; how they stand between two calls; what is seen of a port over them.
+-- What is seen of lines; how often they change in a call; how they stand between two calls; what is seen of a port over them.
 pub mod Wiring
+pub mod Counting
 pub mod Stands
 pub mod PortViews

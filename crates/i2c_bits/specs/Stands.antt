@@ -12,9 +12,10 @@ use Rattle.wire_spec.specs.declared.mode.Mode.TheVariants.{Out, In, Give}
 use Rattle.wire_spec.specs.Wires.{Site, Bit, is_reading}
 use Rattle.wire_spec.specs.Bus.{Bus}
 use Rattle.wire_spec.specs.Started.{late_bus, entered_by}
-use Rattle.wire_spec.specs.Calls.{within, within_address, free}
+use Rattle.wire_spec.specs.Calls.{more_edges, within, within_address, free}
 use Rattle.wire_spec.specs.Sites.{NodeState, node_table, both, chips_in, devices_in, world_by, AreSites}
 use Rattle.i2c_bits.specs.Wiring.{Rooted}
+use Rattle.i2c_bits.specs.Counting.{begun_counts, StartCounts, StopCounts}
 use Rattle.i2c_bits.specs.declared.lines.Low.{Low}
 
 -- what the world sees of the targets on the lines: all, the chips, and the devices
@@ -57,22 +58,24 @@ pub record IsLate (k : Rooted) (w : Bus NodeState) : Type 0 where
   pub lines : w ≡ late_bus node_table byte (both chips devices) w.counts
   pub told : AreTold k chips devices
 
--- a put on the lines is one in the world
+-- a put on the lines is one in the world; with its acknowledge it is nine clock pulses (UM10204 sections 3.1.3 and 3.1.5)
 pub record PutIs (k : Rooted) (acked : Bool) (byte : ℕ) (old new : Bus NodeState) : Type 0 where
   pub answer : acked ≡ takes (world_at k true old) byte
   pub stands : StandsIn k (In false 8 0) new
   pub world : world_at k true new ≡ after (world_at k true old) (call.Put byte)
+  pub counts : new.counts ≡ more_edges 9 old.counts
 
 -- SCL comes up in time in a put
 abbrev pub PutTold : Rooted → Result Bool Low → ℕ → Bus NodeState → Bus NodeState → Type 0
 PutTold k (Ok acked) byte old new = PutIs k acked byte old new
 PutTold k (Err e) byte old new = ⊥
 
--- a get on the lines is one in the world
+-- a get on the lines is one in the world, and nine clock pulses likewise
 pub record GetIs (k : Rooted) (byte : ℕ) (ack : Bool) (old new : Bus NodeState) : Type 0 where
   pub answer : byte ≡ gives (world_at k true old)
   pub stands : StandsIn k (cond ack (Give 8) Out) new
   pub world : world_at k true new ≡ after (world_at k true old) (call.Get ack)
+  pub counts : new.counts ≡ more_edges 9 old.counts
 
 -- SCL comes up in time in a get
 abbrev pub GetTold : Rooted → Result ℕ Low → Bool → Bus NodeState → Bus NodeState → Type 0
@@ -84,10 +87,11 @@ abbrev pub MayBegin : Bool → Rooted → Bus NodeState → Type 0
 MayBegin false k w = IsFree k w
 MayBegin true k w = StandsIn k (In false 8 0) w ⊎ StandsIn k Out w
 
--- all that is joined takes in an address
-abbrev pub CalledTold : Result (Unit {0}) Low → Bus NodeState → Bus NodeState → Type 0
-CalledTold (Ok u) old new = new ≡ within_address 8 0 true (both (chips_on old) (devices_on old)) new.counts
-CalledTold (Err e) old new = ⊥
+-- all that is joined takes in an address, behind a start or a repeated one
+abbrev pub CalledTold : (busy : Bool) → Result (Unit {0}) Low → Bus NodeState → Bus NodeState → Type 0
+CalledTold busy (Ok u) old new =
+    new ≡ within_address 8 0 true (both (chips_on old) (devices_on old)) (begun_counts busy old.counts)
+CalledTold busy (Err e) old new = ⊥
 
 -- how the lines stand behind the answer to an address byte
 abbrev pub StandsBy : Answer → ℕ → Rooted → Bus NodeState → Type 0
@@ -102,6 +106,7 @@ pub record StartIs (k : Rooted) (busy : Bool) (a : Answer) (byte : ℕ) (old new
   pub answer : a ≡ answer (world_at k busy old) (byte / 2) (is_reading byte)
   pub stands : StandsBy a byte k new
   pub world : world_at k true new ≡ after (world_at k busy old) (call.Start (byte / 2) (is_reading byte))
+  pub counts : StartCounts busy a old.counts new.counts
 
 -- SCL comes up in time in the eight bits of an address
 abbrev pub StartTold : Rooted → Bool → Result Answer Low → ℕ → Bus NodeState → Bus NodeState → Type 0
@@ -113,17 +118,19 @@ abbrev pub MayEnd : Bool → Rooted → Bus NodeState → Type 0
 MayEnd false k w = StandsIn k (In false 8 0) w ⊎ StandsIn k Out w
 MayEnd true k w = IsLate k w
 
--- a stop on the lines is one in the world
-pub record StopIs (k : Rooted) (old new : Bus NodeState) : Type 0 where
+-- a stop on the lines, behind a start that was too slow or another call, is one in the world
+pub record StopIs (k : Rooted) (late : Bool) (old new : Bus NodeState) : Type 0 where
   pub free : IsFree k new
   pub world : world_at k false new ≡ after (world_at k true old) call.Stop
+  pub counts : StopCounts late old.counts new.counts
 
 -- SCL comes up in time in a stop
-abbrev pub StopTold : Rooted → Result (Unit {0}) Low → Bus NodeState → Bus NodeState → Type 0
-StopTold k (Ok u) old new = StopIs k old new
-StopTold k (Err e) old new = ⊥
+abbrev pub StopTold : Rooted → (late : Bool) → Result (Unit {0}) Low → Bus NodeState → Bus NodeState → Type 0
+StopTold k late (Ok u) old new = StopIs k late old new
+StopTold k late (Err e) old new = ⊥
 
--- the line of a mux that is set is so in the world
+-- the line of a mux that is set is so in the world, and neither wire changes
 pub record LineIs (k : Rooted) (m level : ℕ) (old new : Bus NodeState) : Type 0 where
   pub free : IsFree k new
   pub world : world_at k false new ≡ after (world_at k false old) (call.Line m level)
+  pub counts : new.counts ≡ old.counts

@@ -7,8 +7,11 @@ ghost use Rattle.i2c_base.specs.declared.port.PortCall.TheVariants as call;
 ghost use Rattle.i2c_spec.specs.World.{after, answer, takes, gives};
 ghost use Rattle.ports.specs.Causes.{HasCause, counted};
 ghost use Rattle.ports.specs.LineCalls.{HasLine};
+ghost use Rattle.wire_spec.specs.Calls.{more_edges};
 ghost use Rattle.i2c_bits.specs.Wiring.{AreLetGo, LooksTell, StartLooksTell, StopLooksTell};
-ghost use Rattle.i2c_bits.specs.Stands.{IsFree};
+ghost use Rattle.i2c_bits.specs.Counting.{StartCounts, StopCounts};
+ghost use Rattle.i2c_bits.specs.Stands.{IsFree, world_at};
+ghost use Rattle.i2c_bits.specs.PortViews as view;
 ghost use Rattle.i2c_bits.specs.PortViews.{FaultsTell, port_of};
 
 use crate::bytes::{get_byte, put_byte};
@@ -40,6 +43,16 @@ impl<L: Lines> Model for BitPort<L> {
     ghost invariant = { λ p. IsBitPort L.tells p.phase (L.board p.lines) (L.bus p.lines) (L.wire p.lines) (vec_capacity p.log) };
 }
 
+/// What a port was made of.
+#[derive(Drop)]
+pub struct PortParts<L> {
+    pub lines: L,
+    /// The calls that were made on it.
+    pub log: Vec<PortCall>,
+    /// A message was in progress.
+    pub busy: bool,
+}
+
 // Each call of the log takes at most 8 bytes.
 const _: () = prove!(size_of::<PortCall>() <= 8);
 
@@ -57,6 +70,19 @@ impl<L: Lines> BitPort<L> {
             phase: Phase::Idle,
             faults: 0,
         })
+    }
+
+    /// Its lines and its log.
+    pub fn into_parts(self) -> PortParts<L>
+        ensures world { world_at (L.board result.lines) result.busy (L.bus result.lines) ≡ self.world }
+        ensures log { result.log.items ≡ self.log }
+        ensures counts { (L.bus result.lines).counts ≡ self.counts }
+    {
+        PortParts {
+            busy: is_busy(&self.phase),
+            lines: self.lines,
+            log: self.log,
+        }
     }
 
     /// A call fails: it ends the message, with both lines let go.
@@ -101,6 +127,8 @@ impl<L: Lines + Send> Port for BitPort<L> {
         ensures log_failed { IsTrue L.tells → OnErr result (self.new.log ≡ self.old.log ++ call.Fault ∷ []) }
         ensures faults { FaultsTell L.tells result self.old.faults self.new.faults }
         ensures looks { StartLooksTell result self.old.wire self.new.wire }
+        ensures counts { IsTrue L.tells
+            → IfOk result (λ a. StartCounts (view.is_busy self.old.phase) a self.old.counts self.new.counts) }
     {
         let byte = 2 * addr.get() + u8::from(reading);
         let busy = is_busy(&self.phase);
@@ -129,6 +157,7 @@ impl<L: Lines + Send> Port for BitPort<L> {
         ensures log_failed { IsTrue L.tells → OnErr result (self.new.log ≡ self.old.log ++ call.Fault ∷ []) }
         ensures faults { FaultsTell L.tells result self.old.faults self.new.faults }
         ensures looks { LooksTell result self.old.wire self.new.wire }
+        ensures counts { IsTrue L.tells → OnOk result (self.new.counts ≡ more_edges 9 self.old.counts) }
     {
         match put_byte(&mut self.lines, byte) {
             Ok(acked) => {
@@ -159,6 +188,7 @@ impl<L: Lines + Send> Port for BitPort<L> {
         ensures log_failed { IsTrue L.tells → OnErr result (self.new.log ≡ self.old.log ++ call.Fault ∷ []) }
         ensures faults { FaultsTell L.tells result self.old.faults self.new.faults }
         ensures looks { LooksTell result self.old.wire self.new.wire }
+        ensures counts { IsTrue L.tells → OnOk result (self.new.counts ≡ more_edges 9 self.old.counts) }
     {
         match get_byte(&mut self.lines, ack) {
             Ok(byte) => {
@@ -183,6 +213,7 @@ impl<L: Lines + Send> Port for BitPort<L> {
         ensures log_failed { IsTrue L.tells → OnErr result (self.new.log ≡ self.old.log ++ call.Fault ∷ []) }
         ensures faults { FaultsTell L.tells result self.old.faults self.new.faults }
         ensures looks { StopLooksTell result self.old.wire self.new.wire }
+        ensures counts { IsTrue L.tells → OnOk result (StopCounts (view.is_late self.old.phase) self.old.counts self.new.counts) }
     {
         let late = is_late(&self.phase);
         match stop_message(&mut self.lines, late) {
@@ -210,6 +241,7 @@ impl<L: Lines + Send> Port for BitPort<L> {
         ensures faults { FaultsTell L.tells result self.old.faults self.new.faults }
         ensures ok { IsOk result }
         ensures wire { self.new.wire ≡ self.old.wire }
+        ensures counts { IsTrue L.tells → self.new.counts ≡ self.old.counts }
     {
         set_line(&mut self.lines, mux, level);
         let _ = self.log.push(PortCall::Line(mux, level));

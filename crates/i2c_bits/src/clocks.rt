@@ -11,6 +11,7 @@ use i2c_base::MOST_LOOKS;
 pub const LOOKS: u8 = MOST_LOOKS + 1;
 
 /// Looks until SCL is high, so many times at most, and gives the level of SDA then (UM10204 section 3.1.9).
+#[inline(always)]
 fn wait<L: Lines>(lines: &mut L, looks: u8) -> Result<bool, Low>
     requires { (L.wire lines.old).low ≡ 0 }
     ensures board { L.board lines.new ≡ L.board lines.old }
@@ -31,6 +32,7 @@ fn wait<L: Lines>(lines: &mut L, looks: u8) -> Result<bool, Low>
 }
 
 /// Lets SCL go, with SDA pulled or let go, and looks until SCL is high, so many times at most.
+#[inline(always)]
 pub fn release<L: Lines>(lines: &mut L, data_low: bool, looks: u8) -> Result<bool, Low>
     ensures board { L.board lines.new ≡ L.board lines.old }
     ensures bus { IsTrue L.tells → (v : ℕ)
@@ -46,6 +48,7 @@ pub fn release<L: Lines>(lines: &mut L, data_low: bool, looks: u8) -> Result<boo
 
 /// One bit of a byte: SDA is set while SCL is low, and gives its level while SCL is high (UM10204 section 3.1.3). Where SCL
 /// stays low, both lines are let go.
+#[inline(always)]
 pub fn bit<L: Lines>(lines: &mut L, high: bool) -> Result<bool, Low>
     ensures board { L.board lines.new ≡ L.board lines.old }
     ensures bus { IsTrue L.tells → (v : ℕ)

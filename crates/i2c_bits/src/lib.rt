@@ -3,10 +3,13 @@
 //! Its public contract: a `BitPort` over lines that tell their targets is a `Port` that does in each call what the world of
 //! bytes says, with a clock that is held for more than 64 looks as Slow, and never fails; over any lines a call fails exactly
 //! where SCL, once let go, looked low 65 times in a row, in a stop 255 times, and lets both lines go then. In the acknowledge
-//! clock of a start the answer is Slow instead. Definitions: `specs/Wiring.antt` is what is seen of every pair of lines;
-//! `specs/Stands.antt` how told lines stand between two calls, the world that they are, and what a call on them is in it;
-//! `specs/PortViews.antt` what is seen of the port. What a controller does, pull by pull and look by look, is `Calls` of
-//! `wire_spec`, by UM10204, "I2C-bus specification and user manual", sections 3.1.3 to 3.1.6, 3.1.9 and 3.1.10.
+//! clock of a start the answer is Slow instead. Over lines that tell, SCL rises nine times in a byte with its acknowledge, once
+//! before a repeated start and once in a stop, and SDA changes while SCL is high once in a start, once in a stop, and never else;
+//! but this is not said of a start that is Slow, nor of the stop after it. Definitions: `specs/Wiring.antt` is what is seen of
+//! every pair of lines; `specs/Counting.antt` how often they change in a start and in a stop; `specs/Stands.antt` how told lines
+//! stand between two calls, the world that they are, and what a call on them is in it; `specs/PortViews.antt` what is seen of the
+//! port. What a controller does, pull by pull and look by look, is `Calls` of `wire_spec`, by UM10204, "I2C-bus specification and
+//! user manual", sections 3.1.3 to 3.1.6, 3.1.9 and 3.1.10.
 #![tactic(auto)]
 
 mod bit_port;
@@ -16,7 +19,7 @@ mod lines;
 mod messages;
 mod phases;
 
-pub use bit_port::BitPort;
+pub use bit_port::{BitPort, PortParts};
 pub use bytes::{get_byte, put_byte, receive, send};
 pub use clocks::{LOOKS, bit, release, shift};
 pub use lines::{Lines, Low};

@@ -64,7 +64,7 @@ fn begin_either<L: Lines>(lines: &mut L, busy: bool) -> Result<(), Low>
     requires stands { IsTrue L.tells → MayBegin busy (L.board lines.old) (L.bus lines.old) }
     ensures board { L.board lines.new ≡ L.board lines.old }
     ensures looks { LooksTell result (L.wire lines.old) (L.wire lines.new) }
-    ensures told { IsTrue L.tells → CalledTold result (L.bus lines.old) (L.bus lines.new) }
+    ensures told { IsTrue L.tells → CalledTold busy result (L.bus lines.old) (L.bus lines.new) }
 {
     a_start_calls_all_that_is_joined();
     a_repeated_start_calls_all_that_is_joined();
@@ -148,7 +148,7 @@ pub fn stop_message<L: Lines>(lines: &mut L, late: bool) -> Result<(), Low>
     requires stands { IsTrue L.tells → MayEnd late (L.board lines.old) (L.bus lines.old) }
     ensures board { L.board lines.new ≡ L.board lines.old }
     ensures looks { StopLooksTell result (L.wire lines.old) (L.wire lines.new) }
-    ensures told { IsTrue L.tells → StopTold (L.board lines.old) result (L.bus lines.old) (L.bus lines.new) }
+    ensures told { IsTrue L.tells → StopTold (L.board lines.old) late result (L.bus lines.old) (L.bus lines.new) }
 {
     a_start_on_the_sites_is_one_in_the_world();
     a_stop_on_the_wires_is_one_in_the_world();

@@ -1,0 +1,9 @@
+-- A port on two wires may go to another thread where its lines may.
+use denote.RattleType.{RattleType}
+use denote.Param.Send.{IsSend, sendable}
+use Rattle.std.proofs.Crossing.{crosses}
+use Rattle.i2c_bits.specs.declared.lines.Lines as Lines
+use Rattle.i2c_bits.specs.contracts.bit_port.BitPort as BitPort
+
+pub port-send : (L : RattleType) (ghosts : Lines.Ghosts L.Denot) → IsSend L → IsSend (BitPort.the_field L ghosts).row
+port-send L ghosts sends = search (crosses, sendable) depth 40 fits 100000
